@@ -1,6 +1,6 @@
 -- What a load answers of any text.
-use Rattle.std.proofs.Common.{◌≡◌, ℕ, Bool, false, List, [], ◌∷◌, ◌++◌, true, false, refl, sym, ap, ◌∙◌, subst, inl, inr}
-use Rattle.std.specs.Prelude.{Some, None, Result, Ok, Err, String, string_bytes}
+use Rattle.std.proofs.Common.{◌≡◌, ℕ, Bool, List, [], ◌∷◌, ◌++◌, true, refl, sym, ap, ◌∙◌, subst, inl, inr}
+use Rattle.std.specs.Prelude.{Some, None, Result, Ok, Err, Vec}
 use Rattle.std.specs.declared.alloc.Global.{Global}
 use Rattle.defs_text.specs.Position.{Position}
 use Rattle.defs_token.specs.Token.{Token}
@@ -18,21 +18,19 @@ use Rattle.yaml_tokens.specs.ErrorReport.{ErrorReport}
 use Rattle.yaml_scanner.specs.Scanned.{Scans}
 use Rattle.yaml_parser.specs.Blames.{WantsMemory}
 use Rattle.yaml_parser.specs.Parsed.{Parsed}
-use Rattle.yaml_parser.specs.Loads.{Loads}
-use Rattle.proof_loads.specs.TextReadAs.{IsReadAs}
+use Rattle.yaml_parser.specs.Loads.{Loads, Receives}
+use Rattle.yaml_tree.specs.View.{items_view}
+use Rattle.yaml_tree.specs.declared.yaml.Yaml.{Yaml}
 use Rattle.proof_loads.specs.TextEvents.{HasEvents, BeginsEvents, IsFaultOf, wants_memory, AnswersText, whole, faulted, refused}
 use Rattle.proof_loads.proofs.Answers.{placed_stream, nested_is_stream, texts_are_answered}
-use Rattle.yaml_loader.specs.declared.loader.Course.{Course}
-use Rattle.yaml_loader.specs.declared.loader.Course.TheVariants as course
 use Rattle.yaml_loader.specs.declared.loader.YamlLoader.{YamlLoader}
-use Rattle.yaml_loader.specs.Alike.{StandAlike}
-use Rattle.yaml_loader.specs.View.{unfinished_of, repeated_key}
-use Rattle.yaml_loader.specs.Loading.{loader_of, loader_by, kept_fault, IsNewFault, Takes}
-use Rattle.yaml_loader.specs.Loads.{HasNoted}
-use Rattle.yaml_loader.specs.Unread.{IsUnread}
+use Rattle.yaml_loader.specs.Gives as given
+use Rattle.yaml_loader.specs.Gives.{Gives}
+use Rattle.yaml_loader.specs.Loading.{loader_of, kept_fault, IsNewFault, Takes}
+use Rattle.yaml_loader.specs.Loads.{HasDocuments, HasNoted}
 use Rattle.yaml_loader.specs.Unread as unread
-use Rattle.yaml_loader.specs.TextLoads.{OfTexts}
-use Rattle.yaml_loader.proofs.LoadLemmas.{with_last, StandsAfter, stands, new_fault, key_noted, kept_text}
+use Rattle.yaml_loader.specs.TextLoads.{OfTexts, LoadsText}
+use Rattle.yaml_loader.proofs.LoadLemmas.{with_last, StandsAfter, stands, new_fault, has_documents, has_noted}
 
 -- ---- events with which a stream's begin are not refused
 
@@ -88,19 +86,24 @@ pub any_text_leaves : {old new : Parsed} {l n : YamlLoader} {result : Result (Un
     → OfTexts old new (λ text. LeftBy old.keep_tags text result n)
 any_text_leaves {old} {new} {l} {n} {result} empty clear scans loads start text may = left_by empty clear (texts_are_answered Takes old new l n result text start (scans.scans text may) loads)
 
--- ---- by the course that is left
+-- ---- what the loader gives then
 
-with_course : (n : YamlLoader) (d : Course) (x : Loader) → n.course ≡ d → StandAlike x (loader_of n) → StandAlike x (loader_by d (unfinished_of n.reading))
-with_course n d x e alike = subst (λ d. StandAlike x (loader_by d (unfinished_of n.reading))) e alike
+was_read : (r : Result (List Tree) Tree) (x : Loader) (documents : List Tree) → HasRead r x → HasDocuments x documents → r ≡ Ok documents
+was_read (Ok trees) (at_work u) documents h has = ap Ok (sym h.0 ∙ has)
+was_read (Err key) (at_work u) documents h has = absurd h
+was_read r (noted d k p) documents h has = absurd has
+was_read r (unfinished.refused d p) documents h has = absurd has
 
-was_read : (r : Result (List Tree) Tree) (x : Loader) (n : YamlLoader) → HasRead r x → StandAlike x (at_work (unfinished_of n.reading)) → r ≡ Ok (unfinished_of n.reading).documents
-was_read (Ok trees) (at_work u) n h alike = ap Ok (sym h.0 ∙ alike.documents)
-was_read (Err key) (at_work u) n h alike = absurd h
-was_read r (noted documents key p) n h alike = cc
-was_read r (unfinished.refused documents p) n h alike = cc
+noted_key : (r : Result (List Tree) Tree) (x : Loader) (key : Tree) (p : Position) → HasRead r x → HasNoted x key p → r ≡ Err key
+noted_key r (at_work u) key p h has = absurd has
+noted_key (Ok trees) (noted d k q) key p h has = absurd h
+noted_key (Err other) (noted d k q) key p h has = ap Err (sym h ∙ has.0)
+noted_key r (unfinished.refused d q) key p h has = absurd has
 
-pub documents_are_read : {keep_tags : Bool} {text : List ℕ} (n : YamlLoader) → LeftBy keep_tags text (Ok tt) n → n.course ≡ course.Reading → IsReadAs keep_tags text (unfinished_of n.reading).documents
-documents_are_read n (es, h, r) e =
+-- of a loader that stands after all events of a text
+text_given : {keep_tags : Bool} {text : List ℕ} (es : List (Ev × Position)) (l : YamlLoader) (result : Result (Vec Yaml Global) ErrorReport) → HasEvents keep_tags text es → StandsAfter es l → Gives l result
+    → LoadsText keep_tags text result
+text_given es l (Ok documents) h after has =
     let x = with_events new_loader es in
     record {
       tokens = toks h.tokens;
@@ -108,25 +111,28 @@ documents_are_read n (es, h, r) e =
       read = record {
         documents = h.documents;
         stream = nested_is_stream h;
-        trees_are = was_read (reading h.documents) x n (one_by_one h.documents es h.events_are) (with_course n course.Reading x e r.alike);
+        trees_are = was_read (reading h.documents) x (items_view documents.items) (one_by_one h.documents es h.events_are) (has_documents x (loader_of l) (items_view documents.items) after.alike has);
       };
     }
-
--- a reading that notes a key
-noted_key : (r : Result (List Tree) Tree) (x : Loader) (documents : List Tree) (k : Tree) (p : Position) → HasRead r x → StandAlike x (noted documents k p) → r ≡ Err k
-noted_key (Ok trees) (at_work u) documents k p h alike = absurd alike
-noted_key (Ok trees) (noted d key q) documents k p h alike = absurd h
-noted_key (Ok trees) (unfinished.refused d q) documents k p h alike = absurd h
-noted_key (Err key) (at_work u) documents k p h alike = absurd h
-noted_key (Err key) (noted d k' q) documents k p h alike = cc
-noted_key (Err key) (unfinished.refused d q) documents k p h alike = absurd h
-
-pub key_came_twice : {keep_tags : Bool} {text : List ℕ} (n : YamlLoader) (p : Position) (message : String Global) (f : ErrorReport) → LeftBy keep_tags text (Ok tt) n → n.course ≡ course.RepeatedKey p message
-    → f ≡ record { position = p; text = string_bytes message; memory = false } → IsUnread keep_tags text f
-key_came_twice n p message f (es, h, r) e is =
-    let u = unfinished_of n.reading in
+text_given es l (Err f) h after (given.kept is) = let both = sym after.clear ∙ is in cc
+text_given es l (Err f) h after (given.repeated_key key has tells owned) =
     let x = with_events new_loader es in
-    let alike : StandAlike x (noted u.documents (repeated_key u.opened) p) = with_course n (course.RepeatedKey p message) x e r.alike in
-    let key = repeated_key u.opened in
-    let twice = noted_key (reading h.documents) x u.documents key p (one_by_one h.documents es h.events_are) alike in
-    unread.repeated_key es h key twice (subst (HasNoted x key) (sym (ap (λ g. g.position) is)) (key_noted u.documents key p x alike)) (kept_text n p message f r.tells e is) (ap (λ g. g.memory) is)
+    let had = has_noted x (loader_of l) key f.position after.alike has in
+    unread.repeated_key es h key (noted_key (reading h.documents) x key f.position (one_by_one h.documents es h.events_are) had) had (tells after.tells) owned
+
+pub left_gives : {keep_tags : Bool} {text : List ℕ} (l : YamlLoader) (result : Result (Vec Yaml Global) ErrorReport) → LeftBy keep_tags text (Ok tt) l → Gives l result → LoadsText keep_tags text result
+left_gives l result (es, h, after) gives = text_given es l result h after gives
+
+-- ---- a loader that another receiver hands the events of a text
+
+pub taken_texts_are_loaded : (keep_tags : Bool) (text : List ℕ) (es : List (Ev × Position)) (empty l : YamlLoader) (result : Result (Vec Yaml Global) ErrorReport)
+    → loader_of empty ≡ new_loader → kept_fault empty ≡ None → HasEvents keep_tags text es → Receives Takes empty es l → Gives l result → LoadsText keep_tags text result
+taken_texts_are_loaded keep_tags text es empty l result new clear h took gives = text_given es l result h (stands empty new clear took) gives
+
+pub taken_events_are_read : (es : List (Ev × Position)) (empty l : YamlLoader) (documents : List Tree)
+    → loader_of empty ≡ new_loader → kept_fault empty ≡ None → Receives Takes empty es l → HasDocuments (loader_of l) documents → HasDocuments (with_events new_loader es) documents
+taken_events_are_read es empty l documents new clear took has = has_documents (with_events new_loader es) (loader_of l) documents (stands empty new clear took).alike has
+
+pub refused_texts_want_memory : (keep_tags : Bool) (text : List ℕ) (es : List (Ev × Position)) (e : Ev) (p : Position) (empty l n : YamlLoader) (f : ErrorReport)
+    → loader_of empty ≡ new_loader → kept_fault empty ≡ None → BeginsEvents keep_tags text (es ++ (e, p) ∷ []) → Receives Takes empty es l → Takes l e p (Err f) n → WantsMemory f
+refused_texts_want_memory keep_tags text es e p empty l n f new clear begins took takes = refuses_for_memory es e p f (new_fault empty new clear e p took takes) begins

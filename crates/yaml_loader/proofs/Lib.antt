@@ -7,5 +7,5 @@ pub mod OpenedLemmas
 pub mod Reals
 pub mod Tags
 pub mod Words
-mod AnyText
+pub mod AnyText
 mod TextLemmas

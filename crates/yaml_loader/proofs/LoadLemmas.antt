@@ -1,6 +1,6 @@
 -- What a load answers, from what its parser did with the loader.
 use Rattle.std.proofs.Common.{◌≡◌, List, [], ◌∷◌, ◌++◌, length, true, refl, sym, ap, ◌∙◌, subst, inl, inr}
-use Rattle.std.specs.Prelude.{None, Result, Ok, Err, All, String, false, string_bytes}
+use Rattle.std.specs.Prelude.{None, Result, Ok, Err, IfOk, IfErr, OnOk, All, Vec, String, false, string_bytes}
 use Rattle.std.specs.declared.alloc.Global.{Global}
 use Rattle.defs_text.specs.Position.{Position}
 use Rattle.defs_tree.specs.Tree.{Tree}
@@ -15,12 +15,16 @@ use Rattle.yaml_tokens.specs.ErrorReport.{ErrorReport}
 use Rattle.yaml_parser.specs.Parsed.{Parsed}
 use Rattle.yaml_parser.specs.Loads as loads
 use Rattle.yaml_parser.specs.Loads.{PullsAll, Receives, no_event, one_event, EndsSo, Loads}
+use Rattle.yaml_tree.specs.View.{items_view}
+use Rattle.yaml_tree.specs.declared.yaml.Yaml.{Yaml}
 use Rattle.yaml_loader.specs.declared.loader.Course.{Course}
 use Rattle.yaml_loader.specs.declared.loader.Course.TheVariants as course
 use Rattle.yaml_loader.specs.declared.loader.YamlLoader.{YamlLoader}
 use Rattle.yaml_loader.specs.Alike.{StandAlike}
 use Rattle.yaml_loader.specs.View.{unfinished_of, repeated_key}
-use Rattle.yaml_loader.specs.Loading.{loader_of, loader_by, kept_fault, kept_by, IsNewFault, Takes, TellsBy, TellsNotedKey}
+use Rattle.yaml_loader.specs.Gives as given
+use Rattle.yaml_loader.specs.Gives.{Gives, IsGivenFault}
+use Rattle.yaml_loader.specs.Loading.{loader_of, loader_by, kept_fault, IsNewFault, Takes, TellsBy, TellsNotedKey}
 use Rattle.yaml_loader.specs.RepeatedKey.{TellsKey}
 use Rattle.yaml_loader.specs.Loads as ends
 use Rattle.yaml_loader.specs.Loads.{HasDocuments, HasNoted, Notes, Pushes, AreLoaded, IsLoadFault}
@@ -98,49 +102,63 @@ module _ (l : YamlLoader) (empty : loader_of l ≡ new_loader) (clear : kept_fau
   pub load_fault : {old new : Parsed} {n : YamlLoader} {f : ErrorReport} → Loads Takes true old l (Err f) new n → IsLoadFault old f new
   load_fault h = ended_ill h.answers h.pulled h.taken h.ends
 
--- ---- by the course that is left
+-- ---- what the loader gives then
 
-pub documents_loaded : (u : Unfinished) (x : Loader) → StandAlike x (at_work u) → HasDocuments x u.documents
-documents_loaded u (at_work v) h = h.documents
-documents_loaded u (noted documents key position) h = cc
-documents_loaded u (unfinished.refused documents position) h = cc
-
-pub key_noted : (documents : List Tree) (key : Tree) (p : Position) (x : Loader) → StandAlike x (noted documents key p) → HasNoted x key p
-key_noted documents key p (at_work v) h = absurd h
-key_noted documents key p (noted d k q) h = (cc, cc)
-key_noted documents key p (unfinished.refused d q) h = cc
-
-with_course : (l : YamlLoader) (d : Course) → l.course ≡ d → loader_of l ≡ loader_by d (unfinished_of l.reading)
-with_course l d e = ap (λ d. loader_by d (unfinished_of l.reading)) e
-
-pub was_reading : {old new : Parsed} (l : YamlLoader) → Went old new l → l.course ≡ course.Reading → AreLoaded old (unfinished_of l.reading).documents new
-was_reading l (es, all, clear, after) e =
+-- the fault of a loader that has noted a key that came twice
+pub note_given : (l : YamlLoader) (p : Position) (text : String Global) (f : ErrorReport) → l.course ≡ course.RepeatedKey p text → f ≡ record { position = p; text = string_bytes text; memory = false } → IsGivenFault l f
+note_given l p text f e is =
     let u = unfinished_of l.reading in
-    (es, all, documents_loaded u (with_events new_loader es) (subst (λ x. StandAlike (with_events new_loader es) x) (with_course l course.Reading e) after.alike))
+    let key = repeated_key u.opened in
+    given.repeated_key key
+    (subst (HasNoted (loader_of l) key) (sym (ap (λ x. x.position) is)) (subst (λ d. HasNoted (loader_by d u) key p) (sym e) (refl, refl)))
+    (λ tells. subst (TellsKey key) (sym (ap (λ x. x.text) is)) (subst (λ d. TellsBy d u.opened) e tells))
+    (ap (λ x. x.memory) is)
 
--- the text that is kept tells the key
-pub kept_text : (l : YamlLoader) (p : Position) (text : String Global) (f : ErrorReport) → TellsNotedKey l → l.course ≡ course.RepeatedKey p text → f ≡ record { position = p; text = string_bytes text; memory = false }
-    → TellsKey (repeated_key (unfinished_of l.reading).opened) f.text
-kept_text l p text f tells e is =
-    subst (TellsKey (repeated_key (unfinished_of l.reading).opened)) (sym (ap (λ x. x.text) is)) (subst (λ d. TellsBy d (unfinished_of l.reading).opened) e tells)
+-- loaders that stand alike have the same documents, or have noted the same key
+pub has_documents : (x y : Loader) (documents : List Tree) → StandAlike x y → HasDocuments y documents → HasDocuments x documents
+has_documents (at_work u) (at_work v) documents alike has = alike.documents ∙ has
+has_documents (at_work u) (noted d k p) documents alike has = absurd alike
+has_documents (at_work u) (unfinished.refused d p) documents alike has = absurd alike
+has_documents (noted d k p) y documents alike has = absurd (subst (λ y. HasDocuments y documents) (sym alike) has)
+has_documents (unfinished.refused d p) y documents alike has = absurd (subst (λ y. HasDocuments y documents) (sym alike) has)
 
-pub had_noted : {old new : Parsed} (l : YamlLoader) (p : Position) (text : String Global) (f : ErrorReport) → Went old new l → l.course ≡ course.RepeatedKey p text → f ≡ record { position = p; text = string_bytes text; memory = false } → IsLoadFault old f new
-had_noted l p text f (es, all, clear, after) e is =
-    let u = unfinished_of l.reading in
-    let d = course.RepeatedKey p text in
-    let n = key_noted u.documents (repeated_key u.opened) p (with_events new_loader es) (subst (λ x. StandAlike (with_events new_loader es) x) (with_course l d e) after.alike) in
-    ends.repeated_key es (repeated_key u.opened) all clear (subst (HasNoted (with_events new_loader es) (repeated_key u.opened)) (sym (ap (λ x. x.position) is)) n) (kept_text l p text f after.tells e is) (ap (λ x. x.memory) is)
+pub has_noted : (x y : Loader) (key : Tree) (p : Position) → StandAlike x y → HasNoted y key p → HasNoted x key p
+has_noted (at_work u) (at_work v) key p alike has = absurd has
+has_noted (at_work u) (noted d k q) key p alike has = absurd alike
+has_noted (at_work u) (unfinished.refused d q) key p alike has = absurd alike
+has_noted (noted d k q) y key p alike has = subst (λ y. HasNoted y key p) (sym alike) has
+has_noted (unfinished.refused d q) y key p alike has = absurd (subst (λ y. HasNoted y key p) (sym alike) has)
 
-pub not_out_of_nesting : {old new : Parsed} (l : YamlLoader) (p : Position) → Went old new l → l.course ≡ course.OutOfNesting p → ⊥
-not_out_of_nesting l p w e = let f = sym (ap kept_by e) ∙ w.3.clear in cc
+were_loaded : {old new : Parsed} (l : YamlLoader) (documents : List Tree) → Went old new l → HasDocuments (loader_of l) documents → AreLoaded old documents new
+were_loaded l documents (es, all, clear, after) has = (es, all, has_documents (with_events new_loader es) (loader_of l) documents after.alike has)
 
-pub not_out_of_memory : {old new : Parsed} (l : YamlLoader) (p : Position) → Went old new l → l.course ≡ course.OutOfMemory p → ⊥
-not_out_of_memory l p w e = let f = sym (ap kept_by e) ∙ w.3.clear in cc
+had_noted : {old new : Parsed} {f : ErrorReport} (l : YamlLoader) → Went old new l → IsGivenFault l f → IsLoadFault old f new
+had_noted l (es, all, clear, after) (given.kept is) = let both = sym after.clear ∙ is in cc
+had_noted {f = f} l (es, all, clear, after) (given.repeated_key key has tells owned) =
+    ends.repeated_key es key all clear (has_noted (with_events new_loader es) (loader_of l) key f.position after.alike has) (tells after.tells) owned
 
-pub no_alias : {old new : Parsed} (documents : List Tree) → LoadedTreesHaveNoAlias → AreLoaded old documents new → All HasNoAlias documents
+pub documents_given : {old new : Parsed} (l : YamlLoader) (result : Result (Vec Yaml Global) ErrorReport) → Went old new l → Gives l result
+    → IfOk result (λ documents. AreLoaded old (items_view documents.items) new)
+documents_given l (Ok documents) went gives = were_loaded l (items_view documents.items) went gives
+documents_given l (Err f) went gives = tt
+
+pub fault_given : {old new : Parsed} (l : YamlLoader) (result : Result (Vec Yaml Global) ErrorReport) → Went old new l → Gives l result → IfErr result (λ f. IsLoadFault old f new)
+fault_given l (Ok documents) went gives = tt
+fault_given l (Err f) went gives = had_noted l went gives
+
+pub no_fault : {old new : Parsed} (l : YamlLoader) (result : Result (Vec Yaml Global) ErrorReport) → Went old new l → OnOk result (new.fault ≡ None)
+no_fault l (Ok documents) (es, all, clear, after) = clear
+no_fault l (Err f) went = tt
+
+no_alias : {old new : Parsed} (documents : List Tree) → LoadedTreesHaveNoAlias → AreLoaded old documents new → All HasNoAlias documents
 no_alias documents law (es, all, read) = by (with_events new_loader es) (law es) read
   where
     by : (x : Loader) → All HasNoAlias (documents_of x) → HasDocuments x documents → All HasNoAlias documents
     by (at_work u) h e = subst (λ ts. All HasNoAlias ts) e h
     by (noted d k p) h e = absurd e
     by (unfinished.refused d p) h e = absurd e
+
+pub no_alias_given : {old new : Parsed} (l : YamlLoader) (result : Result (Vec Yaml Global) ErrorReport) → LoadedTreesHaveNoAlias → Went old new l → Gives l result
+    → IfOk result (λ documents. All HasNoAlias (items_view documents.items))
+no_alias_given l (Ok documents) law went gives = no_alias (items_view documents.items) law (were_loaded l (items_view documents.items) went gives)
+no_alias_given l (Err f) law went gives = tt

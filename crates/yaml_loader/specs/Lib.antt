@@ -1,4 +1,5 @@
 pub mod Alike
+pub mod Gives
 pub mod Laws
 pub mod Loading
 pub mod Loads

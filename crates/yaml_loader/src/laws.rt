@@ -1,6 +1,6 @@
 //! Laws of the definitions, each the contract of an empty function.
 
-ghost use Rattle.yaml_loader.specs.Laws.{AlikeLoadersShowTheSame, AlikeLoadersGoOnAlike, EventsAreReadAsDefined};
+ghost use Rattle.yaml_loader.specs.Laws.{AlikeLoadersShowTheSame, AlikeLoadersGoOnAlike, EventsAreReadAsDefined, TakenTextsAreLoaded, TakenEventsAreRead, RefusedTextsWantMemory};
 
 /// Loaders that are alike have the same documents, and return the same fault.
 #[tactic(auto, using(crate::proofs::GoOnAlike::show_the_same))]
@@ -18,4 +18,20 @@ pub fn alike_loaders_go_on_alike()
 #[tactic(auto, using(crate::proofs::GoOnAlike::read_as_defined))]
 pub fn events_are_read_as_defined()
     ensures { EventsAreReadAsDefined }
+{}
+
+/// An empty loader that took all events of a text, each with `Ok`, gives at the end what a load of the text gives.
+pub fn taken_texts_are_loaded()
+    ensures { TakenTextsAreLoaded }
+{}
+
+/// The documents of a loader that was empty are those of the events that it took, each with `Ok`.
+#[tactic(auto, using(crate::proofs::AnyText::taken_events_are_read))]
+pub fn taken_events_are_read()
+    ensures { TakenEventsAreRead }
+{}
+
+/// An empty loader that is handed the events of a text refuses one only if memory was refused.
+pub fn refused_texts_want_memory()
+    ensures { RefusedTextsWantMemory }
 {}

@@ -10,7 +10,7 @@ ghost use Rattle.proof_loads.specs.Cuts.{IsReadOfCut};
 ghost use Rattle.yaml_loader.specs.Loads.{AreLoaded, IsLoadFault};
 ghost use Rattle.yaml_loader.specs.TextLoads.{LoadsText, LoadsOnly, OfTexts, OfText, OfGiven, OfJson, OfBasic, OfLayout, OfQuoted, Answers};
 
-use crate::loader::{Course, YamlLoader, out_of_nesting};
+use crate::loader::YamlLoader;
 use defs_event::laws::loaded_trees_have_no_alias;
 use std::alloc::Global;
 use yaml_parser::Parser;
@@ -117,12 +117,6 @@ impl YamlLoader {
         parser.note();
         outcome?;
         loaded_trees_have_no_alias();
-        let YamlLoader { reading, course } = loader;
-        match course {
-            Course::RepeatedKey(mark, text) => Err(ScanError::new_string(mark, text)),
-            Course::OutOfNesting(mark) => Err(out_of_nesting(mark)),
-            Course::OutOfMemory(mark) => Err(ScanError::memory(mark)),
-            Course::Reading => Ok(reading.documents),
-        }
+        loader.into_documents()
     }
 }

@@ -3,6 +3,7 @@ ghost use Rattle.std.specs.Prelude.{◌≡◌, None, Err};
 ghost use Rattle.defs_event.specs.Unfinished.{new_loader, documents_of};
 ghost use Rattle.yaml_tree.specs.View.{items_view};
 ghost use Rattle.yaml_parser.specs.Shown.{ev_of};
+ghost use Rattle.yaml_loader.specs.Gives.{Gives};
 ghost use Rattle.yaml_loader.specs.Loading.{loader_of, kept_fault, want_of_memory, event_out_of_nesting, Takes, Stops};
 
 use crate::reading::{Reading, Refusal};
@@ -53,6 +54,26 @@ impl YamlLoader {
         ensures { items_view result.now ≡ documents_of (loader_of self.now) }
     {
         self.reading.documents.as_slice()
+    }
+
+    /// The finished documents, for the end of the events. A receiver of your own can wrap a loader and ends with this call.
+    /// Documents that are not finished are dropped.
+    ///
+    /// # Errors
+    ///
+    /// The fault that is kept. A key that came twice in its mapping is returned here too, as
+    /// `String("a"): duplicated key in mapping`, at the position of the key's second value, for a collection that of its
+    /// end. The documents are dropped then.
+    pub fn into_documents(self) -> Result<Vec<Yaml>, ScanError>
+        ensures { Gives self result }
+    {
+        let YamlLoader { reading, course } = self;
+        match course {
+            Course::Reading => Ok(reading.documents),
+            Course::RepeatedKey(mark, text) => Err(ScanError::new_string(mark, text)),
+            Course::OutOfNesting(mark) => Err(out_of_nesting(mark)),
+            Course::OutOfMemory(mark) => Err(ScanError::memory(mark)),
+        }
     }
 
     // Stops at the event at this position, which was refused.

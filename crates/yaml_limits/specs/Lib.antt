@@ -1,0 +1,4 @@
+pub mod Counting
+pub mod Extents
+pub mod Limited
+pub mod Made

@@ -1,0 +1,27 @@
+//! How much a load may make.
+ghost use Rattle.std.specs.Prelude.{◌≡◌, ◌≤◌, ◌*◌, length};
+
+/// How much a load may make.
+#[derive(Clone, Copy, Debug, PartialEq, Eq)]
+pub struct Limits {
+    /// How deep nodes may stand one in another. A scalar and an empty collection have one level, any other collection has
+    /// one more than its deepest node.
+    pub levels: usize,
+    /// How many nodes there may be, and how many bytes their content may have in UTF-8, together. An alias counts as a
+    /// copy of its node, with all nodes in it. A node with an anchor counts twice, since a copy is kept for its aliases.
+    pub size: usize,
+}
+
+impl Limits {
+    /// Limits for a text that a stranger wrote: 1000 levels, and a size of 20 times the text's bytes. A text without
+    /// anchors that has fewer levels is within them.
+    pub fn for_text(text: &str) -> Limits
+        ensures levels { result.levels ≡ 1000 }
+        ensures size { result.size ≤ 20 * length text.now }
+    {
+        Limits {
+            levels: 1000,
+            size: text.len().saturating_mul(20),
+        }
+    }
+}

@@ -1,0 +1,36 @@
+//! Texts, read as trees within limits.
+ghost use Rattle.std.specs.Prelude.{◌≡◌, false, List, IfOk, IfErr, chars};
+ghost use Rattle.yaml_chars.specs.Reading.{up_to_nul};
+ghost use Rattle.yaml_tree.specs.View.{items_view};
+ghost use Rattle.proof_loads.specs.TextReadAs.{IsReadAs};
+ghost use Rattle.yaml_limits.specs.Limited.{IsMadeWithin, IsNotLoaded};
+
+use crate::error::LimitsError;
+use crate::guard::Guard;
+use crate::limits::Limits;
+use proof_loads::laws::{strings_are_the_text, texts_are_answered};
+use std::alloc::Global;
+use yaml_loader::laws::{refused_texts_want_memory, taken_texts_are_loaded};
+use yaml_parser::Parser;
+use yaml_tree::Yaml;
+
+/// Loads all documents of a text, as `YamlLoader::load_from_str` does, if they are within limits.
+pub fn load_with_limits(
+    alloc: Global,
+    text: &str,
+    limits: Limits,
+) -> Result<Vec<Yaml>, LimitsError>
+    ensures reads { IfOk result (λ documents. IsReadAs false (up_to_nul (chars text.now)) (items_view documents.items)) }
+    ensures within { IfOk result (λ _. IsMadeWithin limits (up_to_nul (chars text.now))) }
+    ensures fault { IfErr result (λ e. IsNotLoaded limits (up_to_nul (chars text.now)) e) }
+{
+    let mut guard = Guard::new(alloc, limits);
+    let mut parser = Parser::new_from_str(alloc, text);
+    texts_are_answered::<Guard>();
+    strings_are_the_text();
+    taken_texts_are_loaded();
+    refused_texts_want_memory();
+    let outcome = parser.load(&mut guard, true);
+    parser.note();
+    guard.finish(outcome)
+}
