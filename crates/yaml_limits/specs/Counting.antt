@@ -1,5 +1,5 @@
 -- What the count of a load stands for, and how it goes on with an event.
-use Rattle.std.specs.Prelude.{◌≡◌, ◌⊎◌, ℕ, ◌+◌, ◌≤◌, ◌<◌, List, [], ◌∷◌, length, Option, Some, Result, Ok, Err, OnOk, IfErr}
+use Rattle.std.specs.Prelude.{◌≡◌, ◌⊎◌, ℕ, ◌+◌, ◌^◌, ◌≤◌, ◌<◌, List, [], ◌∷◌, length, Option, Some, Result, Ok, Err, OnOk, IfErr}
 use Rattle.defs_text.specs.Position.{Position}
 use Rattle.defs_event.specs.Event.{Ev}
 use Rattle.yaml_tokens.specs.ErrorReport.{ErrorReport}
@@ -10,6 +10,7 @@ use Rattle.yaml_limits.specs.declared.count.Count.{Count}
 use Rattle.yaml_limits.specs.declared.count.Excess.{Excess}
 use Rattle.yaml_limits.specs.declared.count.Excess.TheVariants as excess
 use Rattle.yaml_limits.specs.declared.count.Opened.{Opened}
+use Rattle.yaml_limits.specs.declared.extent.Extent.{Extent}
 use Rattle.yaml_limits.specs.declared.guard.Guard.{Guard}
 use Rattle.yaml_limits.specs.declared.limits.Limits.{Limits}
 
@@ -23,6 +24,11 @@ abbrev pub AreAbove : ℕ → List Opened → Type 0
 AreAbove levels [] = Unit {0}
 AreAbove levels (c ∷ outer) = (c.extent.levels + length outer ≤ levels) × AreAbove levels outer
 
+-- A node may be put into the innermost collection, and its numbers fit.
+abbrev pub FitsIn : Extent → List Opened → Type 0
+FitsIn x [] = Unit {0}
+FitsIn x (c ∷ outer) = (c.extent.size + x.size < 2 ^ 64) × (x.levels + 1 < 2 ^ 64)
+
 -- The count is that of what was made so far, which is within its limits.
 pub record Counts (c : Count) (m : Made) : Type 0 where
   pub size : c.size ≡ m.size
@@ -31,6 +37,8 @@ pub record Counts (c : Count) (m : Made) : Type 0 where
   pub within : IsWithin c.limits m
   pub fits : opened_size m.opened ≤ m.size
   pub above : AreAbove m.levels m.opened
+  pub size_fits : c.limits.size < 2 ^ 64
+  pub levels_fit : c.limits.levels < 2 ^ 64
 
 -- What would be made exceeds the limits so. Of refused memory nothing is known.
 abbrev pub IsExcess : Excess → Limits → Made → Type 0

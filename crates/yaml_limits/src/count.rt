@@ -145,9 +145,15 @@ impl Count {
         ensures fits { OnOk result (length self.now.opened + levels < 2 ^ 64) }
         ensures err { IfErr result (λ x. (x ≡ Excess.Levels) × (self.now.limits.levels < length self.now.opened + levels)) }
     {
+        let most = self.limits.levels;
         match self.opened.len().checked_add(levels) {
-            Some(deepest) if deepest <= self.limits.levels => Ok(()),
-            _ => Err(Excess::Levels),
+            Some(deepest) => {
+                if deepest <= most {
+                    return Ok(());
+                }
+                Err(Excess::Levels)
+            }
+            None => Err(Excess::Levels),
         }
     }
 
@@ -159,12 +165,16 @@ impl Count {
         ensures err { IfErr result (λ x. (x ≡ Excess.Size) × (self.old.limits.size < self.old.size + size)) }
         ensures limits { self.new.limits ≡ self.old.limits }
     {
+        let most = self.limits.size;
         match self.size.checked_add(size) {
-            Some(sum) if sum <= self.limits.size => {
-                self.size = sum;
-                Ok(())
+            Some(sum) => {
+                if sum <= most {
+                    self.size = sum;
+                    return Ok(());
+                }
+                Err(Excess::Size)
             }
-            _ => Err(Excess::Size),
+            None => Err(Excess::Size),
         }
     }
 
@@ -173,7 +183,13 @@ impl Count {
         ensures opened { FitsIn extent self.old.opened → self.new.opened ≡ with_part extent self.old.opened }
         ensures others { self.new ≡ record self.old { opened = self.new.opened } }
     {
-        if let Some(Opened { anchor, extent: outer }) = self.opened.top() {
+        if let Some(
+            Opened {
+                anchor,
+                extent: outer,
+            },
+        ) = self.opened.top()
+        {
             self.opened.set_top(Opened {
                 anchor,
                 extent: outer.extended(extent),
@@ -203,7 +219,7 @@ fn scalar_extent(content: &String) -> Extent
     ensures { result ≡ scalar_extent (string_chars content.now) }
 {
     Extent {
-        size: content.len() + 1,
+        size: content.as_str().len() + 1,
         levels: 1,
     }
 }

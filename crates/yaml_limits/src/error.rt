@@ -54,7 +54,11 @@ impl fmt::Display for LimitsError {
     }
 }
 
-fn write_excess<W: fmt::Write>(f: &mut fmt::Formatter<W>, what: &str, mark: &Marker) -> fmt::Result {
+fn write_excess<W: fmt::Write>(
+    f: &mut fmt::Formatter<W>,
+    what: &str,
+    mark: &Marker,
+) -> fmt::Result {
     let line = mark.line();
     let column = mark.col() + 1;
     write!(f, "{what} at line {line} column {column}")

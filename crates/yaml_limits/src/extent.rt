@@ -12,10 +12,7 @@ pub struct Extent {
 }
 
 /// A collection without nodes, or a scalar without content.
-pub const SINGLE_NODE: Extent = Extent {
-    size: 1,
-    levels: 1,
-};
+pub const SINGLE_NODE: Extent = Extent { size: 1, levels: 1 };
 
 impl Extent {
     /// A collection of this extent with one node more. A number that does not fit is the largest one that does.

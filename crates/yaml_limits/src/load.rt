@@ -1,9 +1,7 @@
 //! Texts, read as trees within limits.
-ghost use Rattle.std.specs.Prelude.{◌≡◌, false, List, IfOk, IfErr, chars};
+ghost use Rattle.std.specs.Prelude.{chars};
 ghost use Rattle.yaml_chars.specs.Reading.{up_to_nul};
-ghost use Rattle.yaml_tree.specs.View.{items_view};
-ghost use Rattle.proof_loads.specs.TextReadAs.{IsReadAs};
-ghost use Rattle.yaml_limits.specs.Limited.{IsMadeWithin, IsNotLoaded};
+ghost use Rattle.yaml_limits.specs.Limited.{Answers};
 
 use crate::error::LimitsError;
 use crate::guard::Guard;
@@ -15,14 +13,8 @@ use yaml_parser::Parser;
 use yaml_tree::Yaml;
 
 /// Loads all documents of a text, as `YamlLoader::load_from_str` does, if they are within limits.
-pub fn load_with_limits(
-    alloc: Global,
-    text: &str,
-    limits: Limits,
-) -> Result<Vec<Yaml>, LimitsError>
-    ensures reads { IfOk result (λ documents. IsReadAs false (up_to_nul (chars text.now)) (items_view documents.items)) }
-    ensures within { IfOk result (λ _. IsMadeWithin limits (up_to_nul (chars text.now))) }
-    ensures fault { IfErr result (λ e. IsNotLoaded limits (up_to_nul (chars text.now)) e) }
+pub fn load_with_limits(alloc: Global, text: &str, limits: Limits) -> Result<Vec<Yaml>, LimitsError>
+    ensures { Answers limits (up_to_nul (chars text.now)) result }
 {
     let mut guard = Guard::new(alloc, limits);
     let mut parser = Parser::new_from_str(alloc, text);

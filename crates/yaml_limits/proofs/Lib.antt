@@ -1,0 +1,3 @@
+pub mod Anchors
+pub mod CountLemmas
+pub mod LoadLemmas
