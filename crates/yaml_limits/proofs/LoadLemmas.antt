@@ -83,5 +83,5 @@ module _ (taken : TakenTextsAreLoaded) (want : RefusedTextsWantMemory) (text : L
             (unread f (of_parser (wants_memory (want false text es e p g.loader s.loader n.loader f empty clear begins t.loader h.1))))
         | inr h ↦ of_fault g.count.limits text result (error_of h.0 p) (subst (λ x. FinishesBy n x (Err f) result) h.1 finishes)
             (by_excess g.count.limits text es e p h.0 begins (subst (λ l. IsWithin l (made es)) t.limits t.counts.within)
-            (subst (λ m. IsExcess h.0 g.count.limits m) (sym (made_last nothing_made es e p)) (subst (λ l. IsExcess h.0 l (made_by (made es) e)) t.limits (h.2 (made es) t.counts))))
+            (subst (λ m. IsExcess h.0 g.count.limits m) (sym (made_last nothing_made es e p)) (subst (λ l. IsExcess h.0 l (made_by (made es) e)) t.limits (h.3 (made es) t.counts))))
       ]

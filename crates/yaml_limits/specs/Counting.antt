@@ -59,5 +59,5 @@ pub record Guards (before : Guard) (e : Ev) (p : Position) (result : Result (Uni
   pub loads : OnOk result (Takes before.loader e p result after.loader)
   pub goes_on : OnOk result (after.stopped ≡ before.stopped)
   pub refuses : IfErr result (λ f. ((after.stopped ≡ before.stopped) × Takes before.loader e p result after.loader)
-      ⊎ ((x : Excess) × (after.stopped ≡ Some (x, p)) × ((m : Made) → Counts before.count m → IsExcess x before.count.limits (made_by m e))))
+      ⊎ ((x : Excess) × (after.stopped ≡ Some (x, p)) × (after.loader ≡ before.loader) × ((m : Made) → Counts before.count m → IsExcess x before.count.limits (made_by m e))))
   pub limits : after.count.limits ≡ before.count.limits

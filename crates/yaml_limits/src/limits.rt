@@ -13,14 +13,14 @@ pub struct Limits {
 }
 
 impl Limits {
-    /// Limits for a text that a stranger wrote: 1000 levels, and a size of 20 times the text's bytes. A text without
-    /// anchors that has fewer levels is within them.
+    /// Limits for a text that a stranger wrote: 256 levels, which no flow collection exceeds, and a size of 20 times the
+    /// text's bytes.
     pub fn for_text(text: &str) -> Limits
-        ensures levels { result.levels ≡ 1000 }
+        ensures levels { result.levels ≡ 256 }
         ensures size { result.size ≤ 20 * length text.now }
     {
         Limits {
-            levels: 1000,
+            levels: 256,
             size: text.len().saturating_mul(20),
         }
     }

@@ -5,9 +5,10 @@ mod calls;
 
 use crate::calls::{End, call_all};
 use overlay::overlay;
-use std::alloc::Global;
+use std::alloc::{AllocError, Global};
 use std::hash::{DefaultHasher, Hash as _, Hasher};
-use std::{fmt, str};
+use std::{fmt, slice, str};
+use yaml_limits::{Limits, LimitsError, load_with_limits};
 use yaml_rust2::emitter::FmtWriter;
 use yaml_rust2::{Yaml, YamlEmitter, YamlLoader};
 
@@ -25,6 +26,64 @@ fn load(alloc: Global, text: &str) -> i64 {
         Ok(documents) => i64::try_from(documents.len()).unwrap_or(i64::MAX),
         Err(_) => -1,
     }
+}
+
+/// How many documents a text has, or -1 where it is refused, or -2 where it exceeds the limits for a text of its length.
+#[unsafe(no_mangle)]
+pub extern "C" fn yamlbench_load_with_limits(alloc: Global, text: &[u8]) -> i64 {
+    match str::from_utf8(text) {
+        Ok(text) => limited_load(alloc, text),
+        Err(_) => -1,
+    }
+}
+
+fn limited_load(alloc: Global, text: &str) -> i64 {
+    match load_with_limits(alloc, text, Limits::for_text(text)) {
+        Ok(documents) => i64::try_from(documents.len()).unwrap_or(i64::MAX),
+        Err(LimitsError::Scan(_)) => -1,
+        Err(_) => -2,
+    }
+}
+
+/// Loads a text within limits, and calls what recurses on its documents: comparison, hashing, `Debug`, dump, overlay and
+/// copy. It gives 1, or -1 or -2 as [`yamlbench_load_with_limits`].
+#[unsafe(no_mangle)]
+pub extern "C" fn yamlbench_use_within_limits(alloc: Global, text: &[u8]) -> i64 {
+    let Ok(text) = str::from_utf8(text) else {
+        return -1;
+    };
+    match load_with_limits(alloc, text, Limits::for_text(text)) {
+        Ok(documents) => {
+            call_on_each(alloc, documents.as_slice());
+            1
+        }
+        Err(LimitsError::Scan(_)) => -1,
+        Err(_) => -2,
+    }
+}
+
+// What these calls give does not matter here: only that they return.
+fn call_on_each(alloc: Global, documents: &[Yaml]) {
+    for document in documents {
+        call_on(alloc, document);
+    }
+}
+
+fn call_on(alloc: Global, document: &Yaml) {
+    let Ok(copy) = document.clone(alloc) else {
+        return;
+    };
+    let _equal = *document == copy;
+    let mut hasher = DefaultHasher::new();
+    document.hash(&mut hasher);
+    let _hash = hasher.finish();
+    let _laid = overlay(alloc, document, &copy).is_ok();
+    let _dumped = dump(alloc, slice::from_ref(document), true, false).is_some();
+    let _shown = shown(alloc, document).is_ok();
+}
+
+fn shown(alloc: Global, document: &Yaml) -> Result<String, AllocError> {
+    format!(in alloc; "{document:?}")
 }
 
 /// Loads a text, and dumps its documents so many times: the bytes of a dump, or -1 where a text or memory is refused.
