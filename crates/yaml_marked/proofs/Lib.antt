@@ -1,0 +1,5 @@
+mod Growing
+pub mod Open
+pub mod Seen
+pub mod Steps
+pub mod Texts

@@ -1,0 +1,12 @@
+use Rattle.std.proofs.Common.{sym, ap, ◌∙◌}
+use Rattle.std.specs.Prelude.{bytes_eq, chars}
+use Rattle.defs_tree.specs.Order.{tree_eq}
+use Rattle.defs_tree.specs.Tree.{string}
+use Rattle.yaml_tree.specs.View.{view}
+use Rattle.yaml_marked.proofs.Seen.{text_is}
+use Rattle.yaml_marked.proofs.node.Marked.is_text.Goals as goal
+
+pub returns-in-String : goal.returns-in-String
+returns-in-String c =
+    let text = c.args.text.now in
+    c.eq.ensures ∙ ap (λ b. bytes_eq b text) c.as_str.ensures.value ∙ text_is c.in-String.own text c.utf8.text ∙ ap (λ y. tree_eq (string (chars text)) (view y)) (sym c.in-String.is)

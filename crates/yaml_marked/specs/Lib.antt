@@ -1,0 +1,11 @@
+pub mod Documents
+pub mod Leaf
+pub mod Loading
+pub mod Node
+pub mod Parts
+pub mod Receiving
+pub mod Standing
+pub mod Table
+pub use Rattle.defs_marked.specs.Fits
+pub use Rattle.defs_marked.specs.Marking
+pub use Rattle.defs_marked.specs.Marks

@@ -1,0 +1,43 @@
+//! Trees with positions: each node of a document, with the line and the column where it begins in the text.
+//!
+//! [`load_marked`] loads what `YamlLoader::load_from_str` loads, and refuses what it refuses. A [`Marked`] is a node: it is
+//! looked up as a `Yaml` is, and its `marker` is its position.
+//!
+//! ```
+//! let documents = load_marked(alloc, "host: a\nport: none\n")?;
+//! let port = documents.first()?.get_key("port")?;
+//! let number = port.as_i64(); // None
+//! let line = port.marker().line(); // 2
+//! let column = port.marker().col(); // 6
+//! ```
+//!
+//! A node begins where the event does that starts it:
+//!
+//! | Node | Position |
+//! |---|---|
+//! | a scalar, an alias, a flow collection | its first character, after its anchor and its tag |
+//! | a block sequence | its first `-`; at the column of its key, what follows that `-` |
+//! | a block mapping | its first `?`, or the `:` of its first pair: its first key has the column where it begins |
+//! | a node that is not written | the next token after its place |
+//!
+//! An alias is a copy of a tree. It has the alias's own position (`marker`), beside that of the tree (`tree_marker`); its
+//! parts have the positions of the tree's parts.
+//!
+//! Lines count from 1 and columns from 0, in characters. Positions take memory of their own, about as much as the trees.
+//! The depth of a tree needs no more stack.
+#![tactic(auto)]
+
+mod documents;
+pub mod laws;
+mod load;
+mod lookup;
+mod mark;
+mod marking;
+mod node;
+mod parts;
+mod receiver;
+
+pub use documents::MarkedDocuments;
+pub use load::load_marked;
+pub use node::Marked;
+pub use parts::{Items, Pairs};

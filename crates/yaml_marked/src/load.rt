@@ -1,0 +1,42 @@
+//! Texts, read as trees with positions.
+ghost use Rattle.std.specs.Prelude.{◌≡◌, false, IfOk, chars};
+ghost use Rattle.yaml_chars.specs.Reading.{up_to_nul};
+ghost use Rattle.yaml_loader.specs.TextLoads.{LoadsText};
+ghost use Rattle.yaml_marked.specs.Documents.{marks_of_all};
+ghost use Rattle.yaml_marked.specs.Loading.{plain, AreMarksOf};
+
+use crate::documents::MarkedDocuments;
+use crate::receiver::MarkedLoader;
+use defs_marked::laws::marks_fit_their_trees;
+use std::alloc::Global;
+use yaml_loader::laws::{events_are_read_as_defined, taken_texts_are_loaded};
+use yaml_tokens::ScanError;
+
+/// Loads all documents of a text, each node with the position where it begins.
+///
+/// # Example
+///
+/// ```
+/// let documents = load_marked(alloc, "host: a\nport: 80\n")?;
+/// let port = documents.first()?.get_key("port")?;
+/// let line = port.marker().line(); // 2
+/// ```
+///
+/// # Errors
+///
+/// Those of `YamlLoader::load_from_str`, with the same positions.
+pub fn load_marked(alloc: Global, text: &str) -> Result<MarkedDocuments, ScanError>
+    ensures reads { LoadsText false (up_to_nul (chars text.now)) (plain result) }
+    ensures marks { IfOk result (λ d. AreMarksOf false (up_to_nul (chars text.now)) (marks_of_all d)) }
+{
+    taken_texts_are_loaded();
+    events_are_read_as_defined();
+    marks_fit_their_trees();
+    let MarkedLoader { loader, marking } = MarkedLoader::of_text(alloc, text)?;
+    let documents = loader.into_documents()?;
+    Ok(MarkedDocuments {
+        documents,
+        table: marking.table,
+        roots: marking.documents,
+    })
+}

@@ -1,0 +1,54 @@
+//! A loader that also takes the positions of nodes.
+ghost use Rattle.std.specs.Prelude.{chars};
+ghost use Rattle.yaml_chars.specs.Reading.{up_to_nul};
+
+use crate::marking::Marking;
+use proof_loads::laws::{strings_are_the_text, texts_are_answered};
+use std::alloc::Global;
+use yaml_chars::Marker;
+use yaml_loader::YamlLoader;
+use yaml_loader::laws::refused_texts_want_memory;
+use yaml_parser::{Event, MarkedEventReceiver, Parser};
+use yaml_tokens::ScanError;
+
+/// Hands each event to a loader, which makes the trees, and takes its position.
+#[derive(Drop)]
+pub(crate) struct MarkedLoader {
+    pub(crate) loader: YamlLoader,
+    pub(crate) marking: Marking,
+}
+
+impl MarkedEventReceiver for MarkedLoader {
+    ghost use Rattle.yaml_marked.specs.Receiving.{TakesMarked};
+
+    ghost takes = { TakesMarked };
+
+    #[inline(always)]
+    fn on_event(&mut self, ev: Event, mark: Marker) -> Result<(), ScanError> {
+        if self.marking.take(&ev, mark).is_err() {
+            return Err(ScanError::memory(mark));
+        }
+        self.loader.on_event(ev, mark)
+    }
+}
+
+impl MarkedLoader {
+    ghost use Rattle.yaml_marked.specs.Receiving.{Receives};
+
+    /// A loader that took all events of a text.
+    pub(crate) fn of_text(alloc: Global, text: &str) -> Result<MarkedLoader, ScanError>
+        ensures { Receives (up_to_nul (chars text.now)) result }
+    {
+        let loader = YamlLoader::default(alloc);
+        let marking = Marking::new(alloc);
+        let mut receiver = MarkedLoader { loader, marking };
+        let mut parser = Parser::new_from_str(alloc, text);
+        texts_are_answered::<MarkedLoader>();
+        strings_are_the_text();
+        refused_texts_want_memory();
+        let outcome = parser.load(&mut receiver, true);
+        parser.note();
+        outcome?;
+        Ok(receiver)
+    }
+}
