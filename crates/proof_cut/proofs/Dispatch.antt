@@ -36,13 +36,13 @@ unfolding is_blank is_break
 gap_here [] = refl
 gap_here (c ∷ r) = sym (same_gap c)
 
-flow_here : (m : List ℕ) → is_flow (slice_index m 0) ≡ begins_flow m
+pub flow_here : (m : List ℕ) → is_flow (slice_index m 0) ≡ begins_flow m
 unfolding is_flow
 flow_here [] = refl
 flow_here (c ∷ r) = sym (same_flow c)
 
 -- every other character begins a plain scalar
-other_begins : (fl adjacent : Bool) (c : ℕ) (more : List ℕ) → Ordinary c → (if c == 45 then not (is_at_gap more) else may_begin fl adjacent c more) ≡ true
+pub other_begins : (fl adjacent : Bool) (c : ℕ) (more : List ℕ) → Ordinary c → (if c == 45 then not (is_at_gap more) else may_begin fl adjacent c more) ≡ true
 unfolding classes.is_blank_or_end classes.is_blank classes.is_break classes.is_nul classes.is_flow
 other_begins fl adjacent c more o =
     rw (o.e45, o.e63, o.e58, o.e124, o.e62, o.e32, o.e9, o.e10, o.e13, o.e0, o.e44, o.e91, o.e93, o.e123, o.e125, o.e35, o.e38, o.e42, o.e33, o.e37, o.e64, o.e96, o.e39, o.e34) refl

@@ -185,7 +185,7 @@ directive_fetched text more t e col s =
 
 -- ---- document markers
 
-three_past : (p : Position) (c : ℕ) (next : List ℕ) → is_break c ≡ false → past (past (past p)) ≡ position_after p (c ∷ c ∷ c ∷ []) next
+pub three_past : (p : Position) (c : ℕ) (next : List ℕ) → is_break c ≡ false → past (past (past p)) ≡ position_after p (c ∷ c ∷ c ∷ []) next
 three_past p c next e =
     let first : position_past p c (c ∷ c ∷ next) ≡ past p = past_indicator p c (c ∷ c ∷ next) e in
     let second : position_past (past p) c (c ∷ next) ≡ past (past p) = past_indicator (past p) c (c ∷ next) e in

@@ -132,12 +132,12 @@ is_gap_after [] = refl
 is_gap_after (c ∷ r) = same_gap c
 
 -- the text after a document marker of a character
-record Marked (c : ℕ) (a : List ℕ) : Type 0 where
+pub record Marked (c : ℕ) (a : List ℕ) : Type 0 where
   pub more : List ℕ
   pub is_text : a ≡ c ∷ c ∷ c ∷ more
   pub gap : is_at_gap more ≡ true
 
-marked : (c : ℕ) (a : List ℕ) → (0 == c) ≡ false → comes_marker c a ≡ true → Marked c a
+pub marked : (c : ℕ) (a : List ℕ) → (0 == c) ≡ false → comes_marker c a ≡ true → Marked c a
 unfolding comes_marker
 marked c [] z h = absurd (no_first (0 == c) z h)
   where
@@ -167,7 +167,7 @@ marked c (x ∷ y ∷ z ∷ more) n h =
       gap = is_gap_after more ∙ a.1;
     }
 
-no_marker : (a : List ℕ) → comes_marker 45 a ≡ false → comes_marker 46 a ≡ false → is_document_marker a ≡ false
+pub no_marker : (a : List ℕ) → comes_marker 45 a ≡ false → comes_marker 46 a ≡ false → is_document_marker a ≡ false
 unfolding comes_marker are_marks
 no_marker [] h k = refl
 no_marker (x ∷ []) h k = refl
@@ -216,7 +216,7 @@ content_fetched text t some h = either (t.held.position.col == 0) (λ e. first_f
 fared : (text : List ℕ) (r : Result ScannerState Fault) → Holds (FaresAt text) r → Holds (walk.StandsAt started) r → Holds (Fared text) r
 fared text r a b = weakened (λ u s. goes s.0 s.1) (both_hold a b)
 
-no_end : (r : List ℕ) → has_no_nul r ≡ true → (peek r == 0) ≡ true → r ≡ []
+pub no_end : (r : List ℕ) → has_no_nul r ≡ true → (peek r == 0) ≡ true → r ≡ []
 unfolding is_nul
 no_end [] n h = refl
 no_end (c ∷ r) n h = absurd (cc (h, (and_parts (not (c == 0)) (has_no_nul r) n).0))

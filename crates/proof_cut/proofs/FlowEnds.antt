@@ -317,7 +317,7 @@ no_blank c h = by (c == 32) (c == 9) h
     by false false h = refl
 
 -- after a flow collection and blanks
-adjacent_collection : (p : Position) (f rest : List ℕ) → is_separation false f rest ≡ true → has_break f ≡ false → ends_spaces Yes rest ≡ true → has_no_nul rest ≡ true → IsAdjacent (before_past collection f) p p.index rest
+pub adjacent_collection : (p : Position) (f rest : List ℕ) → is_separation false f rest ≡ true → has_break f ≡ false → ends_spaces Yes rest ≡ true → has_no_nul rest ≡ true → IsAdjacent (before_past collection f) p p.index rest
 adjacent_collection p f rest fills line ends clean = λ separation r e k t. by separation r e k t
   where
     blanks_first : (b : Bool) (c : ℕ) (g : List ℕ) → is_blank c ≡ false → is_adjacent (before_past (if b then collection else other) (c ∷ g)) ≡ false

@@ -163,7 +163,8 @@ tag_fetched text t more e s deep = read (node_start t.held) (tags.tag (in_flow t
 
 -- ---- plain scalars
 
-less_or : (b : Bool) (x y : ℕ) → x ≤ suc y → (b || nat_le x (suc y)) ≡ true
+-- a column that is deep enough, or no matter
+pub less_or : (b : Bool) (x y : ℕ) → x ≤ suc y → (b || nat_le x (suc y)) ≡ true
 less_or true x y h = refl
 less_or false x y h = grind (arith, nat_tests)
 

@@ -47,7 +47,7 @@ fewer m n (Some k ∷ ks) h a = (omega (arith, h, a.0), fewer m n ks h a.1)
 pub among : (many : ℕ) (ks : List (Option Key)) → AreNumbered many ks → AreAmong many ks
 among many [] a = tt
 among many (None ∷ ks) a = among many ks a.1
-among many (Some k ∷ ks) a = (omega (arith, a.0.1), fewer k.number many ks (omega (arith, a.0.1)) (among k.number ks a.1))
+among many (Some k ∷ ks) a = (omega (arith, a.0), fewer k.number many ks (omega (arith, a.0)) (among k.number ks a.1))
 
 pub line_first : (c : Colon) (bs : List ℕ) (l : Line) (k : Option Key) (ts us : List Token) → AreAmong (length ts) (k ∷ []) → with_line c bs l k (ts ++ us) ≡ with_line c bs l k ts ++ us
 line_first c bs l None ts us h = refl

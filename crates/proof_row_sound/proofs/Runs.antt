@@ -6,6 +6,9 @@ use Rattle.model_scanner.specs.Document.{fetch_stream_start}
 use Rattle.model_scanner.specs.Fetch.{fetch}
 use Rattle.model_scanner.specs.Run.{start, Reaches, here, there}
 use Rattle.proof_lexers.specs.PlainEnds.{has_no_nul}
+use Rattle.proof_cut.specs.Stands.{FaresAt}
+use Rattle.proof_cut.proofs.Fetched as cut
+use Rattle.proof_cut.proofs.Fetched.{Came, starts, fares, came}
 use Rattle.proof_row_sound.specs.Stands.{Stands, Fares, begins, goes, over, FetchKeeps, TokensAreOfARow}
 use Rattle.proof_row_sound.proofs.Starts.{stream_started}
 
@@ -13,20 +16,26 @@ first_fetch : (text : List ℕ) → fetch (start text) ≡ Ok (fetch_stream_star
 unfolding fetch
 first_fetch text = refl
 
-fared : FetchKeeps → (text : List ℕ) → has_no_nul text ≡ true → (t u : ScannerState) → t.held.ended ≡ false → fetch t ≡ Ok u → Fares text t → Fares text u
-fared kept text nul t u going e (begins b) =
+-- within a stream the tokens so far are a cut of the text
+cut_there : (text : List ℕ) (t : ScannerState) → Stands text t → Came text t → FaresAt text t
+cut_there text t s (starts e) = absurd (cc (s.started, ap (λ y. y.held.started) e))
+cut_there text t s (fares (cut.goes f g)) = f
+cut_there text t s (fares (cut.over c e n)) = absurd (cc (s.going, e))
+
+fared : FetchKeeps → (text : List ℕ) → has_no_nul text ≡ true → (t u : ScannerState) → Came text t → t.held.ended ≡ false → fetch t ≡ Ok u → Fares text t → Fares text u
+fared kept text nul t u c going e (begins b) =
     let same : Ok (fetch_stream_start (start text)) ≡ Ok u = sym (first_fetch text) ∙ (ap fetch (sym b) ∙ e) in
     goes (subst (λ x. Stands text x) (cc same) (stream_started text nul))
-fared kept text nul t u going e (goes s) = kept text t u nul s e
-fared kept text nul t u going e (over f r) = absurd (cc (going, f))
+fared kept text nul t u c going e (goes s) = kept text t u nul (cut_there text t s c) s e
+fared kept text nul t u c going e (over f r) = absurd (cc (going, f))
 
-reached : FetchKeeps → (text : List ℕ) → has_no_nul text ≡ true → (t u : ScannerState) → Reaches t u → Fares text t → Fares text u
-reached kept text nul t u here s = s
-reached kept text nul t u (there {u = v} going e run) s = reached kept text nul v u run (fared kept text nul t v going e s)
+reached : FetchKeeps → (text : List ℕ) → has_no_nul text ≡ true → (t u : ScannerState) → Reaches t u → Came text t → Fares text t → Fares text u
+reached kept text nul t u here c s = s
+reached kept text nul t u (there {u = v} going e run) c s = reached kept text nul v u run (came text nul t v (there going e here) c) (fared kept text nul t v c going e s)
 
 -- If each fetch keeps it, the tokens that the model gives a text are those of a row of it, positions included.
 pub read_as_a_row : FetchKeeps → TokensAreOfARow
-read_as_a_row kept text tokens nul h = by (reached kept text nul (start text) h.end h.run (begins refl))
+read_as_a_row kept text tokens nul h = by (reached kept text nul (start text) h.end h.run (starts refl) (begins refl))
   where
     by : Fares text h.end → IsRead text tokens
     by (begins b) = absurd (cc (h.ended, ap (λ t. t.held.ended) b))

@@ -103,7 +103,7 @@ ends_of n p = replicate n (put p block_end)
 more_ends : (n : ℕ) (p : Position) (ts : List Token) → (ts ++ put p block_end ∷ []) ++ ends_of n p ≡ ts ++ ends_of (suc n) p
 more_ends n p ts = append_assoc ts (put p block_end ∷ []) (ends_of n p)
 
-positive : (n i : ℕ) → n < i → nat_lt 0 i ≡ true
+pub positive : (n i : ℕ) → n < i → nat_lt 0 i ≡ true
 positive n i h = grind (arith, nat_tests)
 
 all_collections : (p : Position) (i : ℕ) (ds : List Indent) (ts : List Token) → AreCollections i ds → (unrolled 0 p i ds ts).tokens ≡ ts ++ ends_of (length (columns i ds)) p
@@ -172,7 +172,7 @@ levels_below col i (d ∷ ds) a f = by d.needs_block_end a.0 f
     by true h g = (g, below col d.indent ds a.1 (omega (arith, h, g)))
     by false h g = collections_below col d.indent ds a.1 g
 
-shorter : (col : ℕ) (bs : List ℕ) → length (not_ended col bs) ≤ length bs
+pub shorter : (col : ℕ) (bs : List ℕ) → length (not_ended col bs) ≤ length bs
 shorter col [] = omega arith
 shorter col (n ∷ ns) = by (nat_lt col n) (shorter col ns)
   where
@@ -252,7 +252,7 @@ unrolled_inside s e = rw e refl
 abbrev at_stream_end : Held → Held
 at_stream_end h = record h { position = next_line h.position; keys = cleared h.keys }
 
-same_flow : (allowed again : Bool) (fs : List FlowLevel) (ks : List (Option Key)) (es : List Entry) → AreEntries allowed again fs ks es → is_empty fs ≡ is_empty es
+pub same_flow : (allowed again : Bool) (fs : List FlowLevel) (ks : List (Option Key)) (es : List Entry) → AreEntries allowed again fs ks es → is_empty fs ≡ is_empty es
 same_flow allowed again [] ks [] a = refl
 same_flow allowed again (f ∷ fs) (k ∷ ks) (e ∷ es) a = refl
 same_flow allowed again [] ks (e ∷ es) a = absurd a

@@ -34,10 +34,10 @@ IsLineHere true allowed rest k l = l ≡ taken
 IsLineHere false allowed rest None l = ((l ≡ free) ⊎ (l ≡ taken)) × (allowed ≡ is_free l)
 IsLineHere false allowed rest (Some k) l = is_empty rest ≡ false → (l ≡ taken) × (allowed ≡ false)
 
--- outside flow an open key is at most 1024 characters before
+-- outside flow an open key is on this line, at most 1024 characters before
 abbrev pub IsNear : Option Key → Position → Type 0
 IsNear None p = Unit {0}
-IsNear (Some k) p = p.index ≤ k.position.index + 1024
+IsNear (Some k) p = (p.line ≤ k.position.line) × (p.index ≤ k.position.index + 1024)
 
 -- The state where a piece begins, with the account after the last piece in which no open key is one, and the separation between them.
 pub record Arrives (text : List ℕ) (t : ScannerState) : Type 0 where

@@ -1,6 +1,7 @@
 -- What holds of the scanner's model between two fetches: what it holds is what a row up to there says, for each choice of the open keys.
 use Rattle.std.specs.Prelude.{◌≡◌, ℕ, suc, ◌+◌, ◌-◌, ◌<◌, ◌≤◌, List, [], ◌∷◌, ◌++◌, Bool, true, false, ◌||◌, ◌⊎◌, not, length, if◌then◌else◌, Option, Some, None, Ok}
 use Rattle.defs_text.specs.Classes.{is_break}
+use Rattle.defs_text.specs.Breaks.{is_before_line_feed}
 use Rattle.defs_text.specs.Position.{Position, position_after}
 use Rattle.defs_text.specs.Text.{is_empty}
 use Rattle.defs_token.specs.Account.{FlowKind, sequence, mapping, before_past}
@@ -9,6 +10,7 @@ use Rattle.defs_row.specs.Column.{is_in_column}
 use Rattle.defs_row.specs.Indentation.{last_line, begins_line, is_indented_by_spaces}
 use Rattle.defs_row.specs.Key.{Line, free, taken, is_waiting, begins_free_line}
 use Rattle.defs_row.specs.FlowEntry.{Had, fresh, filled, settled, Pair, no_pair, single_pair, asked_pair, Entry, is_renewed}
+use Rattle.defs_row.specs.Step.{Previous, plain_scalar, block_scalar, directive}
 use Rattle.defs_row.specs.Account.{Site, Account, before_by}
 use Rattle.defs_text.specs.Classes.{is_one_of}
 use Rattle.model_scanner.specs.declared.level.Indent.{Indent}
@@ -19,9 +21,10 @@ use Rattle.defs_token.specs.Token.{Token}
 use Rattle.defs_row.specs.Row.{IsRead}
 use Rattle.model_scanner.specs.Fetch.{fetch}
 use Rattle.model_scanner.specs.Run.{start, HasTokens}
-use Rattle.proof_lexers.specs.PlainEnds.{has_no_nul}
+use Rattle.proof_lexers.specs.PlainEnds.{has_no_nul, begins_white}
 use Rattle.proof_cut.specs.Here.{IsLive, IsNotRight}
-use Rattle.proof_cut.specs.Stands.{IsAdjacent}
+use Rattle.proof_cut.specs.Order.{NotBefore}
+use Rattle.proof_cut.specs.Stands.{IsAdjacent, FaresAt}
 use Rattle.defs_row.specs.Column.{innermost}
 use Rattle.proof_row_sound.specs.Choices.{outside_key, chosen, MayChoose}
 use Rattle.proof_row_sound.specs.Completes.{tokens_up_to, Completes}
@@ -60,9 +63,14 @@ kind_of level.Entry = sequence
 kind_of level.Keyed = sequence
 kind_of level.Pair = sequence
 
--- the pair of an entry as the scanner holds it; in a mapping it does not matter
+-- no pair has a start of its own
+abbrev pub IsNotSingle : Pair → Type 0
+IsNotSingle single_pair = ⊥
+IsNotSingle _ = Unit {0}
+
+-- the pair of an entry as the scanner holds it; whether an entry of a mapping has had a `?` does not matter
 abbrev pub IsPairOf : FlowLevel → Pair → Type 0
-IsPairOf level.Mapping p = Unit {0}
+IsPairOf level.Mapping p = IsNotSingle p
 IsPairOf level.Entry p = p ≡ no_pair
 IsPairOf level.Keyed p = p ≡ asked_pair
 IsPairOf level.Pair p = p ≡ single_pair
@@ -110,28 +118,32 @@ abbrev pub is_free : Line → Bool
 is_free free = true
 is_free _ = false
 
--- What may begin outside flow where no open key is one. A key that is open, and where the text goes on, has taken the line; none is open elsewhere.
-abbrev pub IsLine : (in_flow allowed broken : Bool) → (rest : List ℕ) → Option Key → Line → Type 0
-IsLine true allowed broken rest k l = l ≡ taken
-IsLine false allowed broken rest None l = ((l ≡ free) ⊎ (l ≡ taken)) × (allowed ≡ (is_free l || broken))
-IsLine false allowed broken rest (Some k) l = is_empty rest ≡ false → (l ≡ taken) × (allowed ≡ false)
+-- a key that is open, while it may be one, has taken the line
+abbrev pub IsTakenBy : (allowed : Bool) → (here : Position) → (rest : List ℕ) → Option Key → Line → Type 0
+IsTakenBy allowed p rest None l = Unit {0}
+IsTakenBy allowed p rest (Some k) l = IsLive k p rest → (l ≡ taken) × (allowed ≡ false)
+
+-- What may begin outside flow where no open key is one.
+abbrev pub IsLine : (in_flow allowed broken : Bool) → (here : Position) → (rest : List ℕ) → Option Key → Line → Type 0
+IsLine true allowed broken p rest k l = l ≡ taken
+IsLine false allowed broken p rest k l = ((l ≡ free) ⊎ (l ≡ taken)) × (allowed ≡ (is_free l || broken)) × IsTakenBy allowed p rest k l
 
 -- The open key outside flow, while it may be one: the innermost block collection is not right of it; and it must be one just where it is in that collection's column.
 pub record IsOpenHere (k : Key) (p : Position) (collection : List ℕ) : Type 0 where
   pub column_is : IsNotRight (innermost collection) k.position.col
   pub must_be : k.required ≡ is_in_column k.position.col collection
 
--- The same; and it began on the line where the last piece ends, or before that line.
+-- The same; and it began before the position after the last piece, or there.
 abbrev pub IsOpenOutside : Option Key → (past_piece here : Position) → (rest collection : List ℕ) → Type 0
 IsOpenOutside None q p rest bs = Unit {0}
-IsOpenOutside (Some k) q p rest bs = (k.position.line ≤ q.line) × (IsLive k p rest → IsOpenHere k p bs)
+IsOpenOutside (Some k) q p rest bs = NotBefore k.position q × (IsLive k p rest → IsOpenHere k p bs)
 
 -- ---- open keys
 
--- an open key's number is one of the tokens so far, after the stream's start
+-- an open key's number is one of the tokens so far
 abbrev pub IsNumber : (many : ℕ) → Option Key → Type 0
 IsNumber many None = Unit {0}
-IsNumber many (Some k) = (0 < k.number) × (k.number < many)
+IsNumber many (Some k) = k.number < many
 
 -- the tokens before an open key, or all of them
 abbrev pub before_key : (many : ℕ) → Option Key → ℕ
@@ -159,6 +171,20 @@ abbrev pub IsLeading : (leading : Bool) → Site → (separation rest : List ℕ
 IsLeading leading s separation rest =
     is_empty s.blocks ≡ false → is_empty rest ≡ false → is_one_of (last_line separation) 35 ≡ false → leading ≡ begins_line s.before separation
 
+-- ---- what the last piece's function has read on over
+
+-- whether the first character of a separation is not parted from the line feed that belongs to it
+abbrev pub HasFirst : (separation rest : List ℕ) → Type 0
+HasFirst [] rest = ⊥
+HasFirst (c ∷ r) rest = is_before_line_feed c (r ++ rest) ≡ is_before_line_feed c r
+
+-- After a plain scalar all blanks and breaks were read; a block scalar ends where a line does; after a directive the break of its line was read.
+abbrev pub IsReadOn : Previous → (past_piece : Position) → (separation rest : List ℕ) → Type 0
+IsReadOn plain_scalar q separation rest = begins_white rest ≡ false
+IsReadOn block_scalar q separation rest = is_empty rest ≡ false → q.col ≡ 0
+IsReadOn directive q separation rest = is_empty rest ≡ false → HasFirst separation rest
+IsReadOn _ q separation rest = Unit {0}
+
 -- ---- all
 
 -- A state between two fetches, after the stream's start: the account after the last piece in which no open key is one, and the separation that was read after the piece.
@@ -173,9 +199,10 @@ pub record Stands (text : List ℕ) (t : ScannerState) : Type 0 where
   pub are_levels : AreLevels t.held.indent t.held.indents
   pub has_no_tabs : HasNoTabs base.site separation t.rest
   pub is_leading : IsLeading t.held.leading base.site separation t.rest
+  pub read_on : IsReadOn base.site.before base.site.position separation t.rest
   pub one_each : length t.held.keys ≡ suc (length t.held.flow)
   pub are_entries : AreEntries t.held.key_allowed (is_renewed base.site.before separation) t.held.flow t.held.keys base.entries
-  pub line_is : IsLine (not (is_empty t.held.flow)) t.held.key_allowed (begins_free_line base.site.before separation) t.rest (outside_key base.entries t.held.keys) base.line
+  pub line_is : IsLine (not (is_empty t.held.flow)) t.held.key_allowed (begins_free_line base.site.before separation) t.held.position t.rest (outside_key base.entries t.held.keys) base.line
   pub is_open : IsOpenOutside (outside_key base.entries t.held.keys) base.site.position t.held.position t.rest base.site.blocks
   pub no_key : is_waiting base.line ≡ false
   pub are_numbered : AreNumbered (length t.held.tokens) t.held.keys
@@ -192,9 +219,9 @@ pub data Fares (text : List ℕ) (t : ScannerState) : Type 0 where
   goes : Stands text t → Fares text t
   over : t.held.ended ≡ true → IsRead text t.held.tokens → Fares text t
 
--- what remains to be shown of a fetch: it keeps this
+-- what is to be shown of a fetch: it keeps this, where the tokens so far are a cut of the text
 abbrev pub FetchKeeps : Type 0
-FetchKeeps = (text : List ℕ) (t u : ScannerState) → has_no_nul text ≡ true → Stands text t → fetch t ≡ Ok u → Fares text u
+FetchKeeps = (text : List ℕ) (t u : ScannerState) → has_no_nul text ≡ true → FaresAt text t → Stands text t → fetch t ≡ Ok u → Fares text u
 
 -- what follows: the tokens that the model gives a text are those of its row
 abbrev pub TokensAreOfARow : Type 0

@@ -28,12 +28,12 @@ use Rattle.proof_cut.proofs.Pieces.Quoted.{some_chars}
 
 -- ---- the spaces after a piece
 
-spaces_of : List ℕ → List ℕ
+-- the spaces that a text begins with
+abbrev pub spaces_of : List ℕ → List ℕ
 spaces_of [] = []
 spaces_of (c ∷ r) = (if c == space then c ∷ spaces_of r else [])
 
-spaces_cut : (t : List ℕ) → t ≡ spaces_of t ++ without_spaces t
-unfolding spaces_of
+pub spaces_cut : (t : List ℕ) → t ≡ spaces_of t ++ without_spaces t
 spaces_cut [] = refl
 spaces_cut (c ∷ r) = by (c == space) (spaces_cut r)
   where
@@ -41,8 +41,8 @@ spaces_cut (c ∷ r) = by (c == space) (spaces_cut r)
     by true e = ap (λ l. c ∷ l) e
     by false e = refl
 
-spaces_fill : (t rest : List ℕ) → is_separation false (spaces_of t) rest ≡ true
-unfolding spaces_of is_blank
+pub spaces_fill : (t rest : List ℕ) → is_separation false (spaces_of t) rest ≡ true
+unfolding is_blank
 spaces_fill [] rest = refl
 spaces_fill (c ∷ r) rest = by (c == space) refl (spaces_fill r rest)
   where
@@ -50,8 +50,7 @@ spaces_fill (c ∷ r) rest = by (c == space) refl (spaces_fill r rest)
     by true e h = let same : c ≡ 32 = eqb-true c 32 e in rw same h
     by false e h = refl
 
-spaces_position : (p : Position) (t : List ℕ) → past_spaces p t ≡ position_after p (spaces_of t) (without_spaces t)
-unfolding spaces_of
+pub spaces_position : (p : Position) (t : List ℕ) → past_spaces p t ≡ position_after p (spaces_of t) (without_spaces t)
 spaces_position p [] = refl
 spaces_position p (c ∷ r) = by (c == space) (spaces_position (position_past p c r) r)
   where
@@ -112,7 +111,7 @@ lines_up p (c ∷ t) next h f = by (is_break c) (is_before_line_feed c t) refl r
 
 -- ---- what a piece shows
 
-some_piece : (collection : Option ℕ) (piece next : List ℕ) (b : BlockRead) → block_read collection piece next ≡ Some b → is_empty piece ≡ false
+pub some_piece : (collection : Option ℕ) (piece next : List ℕ) (b : BlockRead) → block_read collection piece next ≡ Some b → is_empty piece ≡ false
 some_piece collection [] next b h = by (is_at_end next) h
   where
     by : (e : Bool) → read_lines collection [] [] next e ≡ Some b → is_empty {A = ℕ} [] ≡ false
@@ -164,7 +163,7 @@ whole_line collection [] last next b e h = cc
 whole_line collection (l ∷ ls) [] next b e h = (refl, body_past collection (header_of l) ls next b e h)
 whole_line collection (l ∷ ls) (c ∷ last) next b e h = cc
 
-piece_has_line : (collection : Option ℕ) (piece next : List ℕ) (b : BlockRead) → is_at_end next ≡ false → block_read collection piece next ≡ Some b → (is_empty (split piece).complete ≡ false) × (begins_with 10 next ≡ false)
+pub piece_has_line : (collection : Option ℕ) (piece next : List ℕ) (b : BlockRead) → is_at_end next ≡ false → block_read collection piece next ≡ Some b → (is_empty (split piece).complete ≡ false) × (begins_with 10 next ≡ false)
 piece_has_line collection piece next b e h = whole_line collection (split piece).complete (split piece).last next b e (rw e at h)
 
 -- ---- the piece
@@ -174,16 +173,16 @@ same_collection zero = refl
 same_collection (suc n) = refl
 
 -- a block scalar's token
-abbrev token_of : BlockStyle → List ℕ → Tok
+abbrev pub token_of : BlockStyle → List ℕ → Tok
 token_of literal text = scalar Style.literal text
 token_of folded text = scalar Style.folded text
 
-piece_of : (a : Account) (style : BlockStyle) (piece next text : List ℕ) (p : Position) (following : Option Tok) → IsBlockScalar a piece next style text p → IsPiece a piece next following p (token_of style text)
+pub piece_of : (a : Account) (style : BlockStyle) (piece next text : List ℕ) (p : Position) (following : Option Tok) → IsBlockScalar a piece next style text p → IsPiece a piece next following p (token_of style text)
 piece_of a literal piece next text p following h = h
 piece_of a folded piece next text p following h = h
 
 -- the scan ended on a later line, or at the text's end
-abbrev IsBelow : (start end : Position) → (rest : List ℕ) → Type 0
+abbrev pub IsBelow : (start end : Position) → (rest : List ℕ) → Type 0
 IsBelow start end rest = (rest ≡ []) ⊎ (nat_lt start.line end.line ≡ true)
 
 end_no_text : (t : List ℕ) → has_no_nul t ≡ true → is_at_end t ≡ true → t ≡ []
@@ -194,7 +193,7 @@ module _ (a : Account) (indent : ℕ) (outside : is_in_flow a ≡ false) (column
   same_column : collection_column a ≡ collection_of indent
   same_column = column ∙ same_collection indent
 
-  below : (c : ℕ) (piece next : List ℕ) (b : BlockRead) → has_no_nul next ≡ true → block_read (collection_of indent) (c ∷ piece) next ≡ Some b → IsBelow a.position (further_position a.position (c ∷ piece) next) (without_spaces next)
+  pub below : (c : ℕ) (piece next : List ℕ) (b : BlockRead) → has_no_nul next ≡ true → block_read (collection_of indent) (c ∷ piece) next ≡ Some b → IsBelow a.position (further_position a.position (c ∷ piece) next) (without_spaces next)
   below c piece next b nul is = by (is_at_end next) refl
     where
       by : (e : Bool) → is_at_end next ≡ e → IsBelow a.position (further_position a.position (c ∷ piece) next) (without_spaces next)

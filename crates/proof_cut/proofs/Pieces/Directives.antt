@@ -18,7 +18,7 @@ use Rattle.proof_cut.specs.PiecesRead.{ReadAs, is_directive_token, DirectiveIsRe
 
 -- ---- the break after a directive
 
-break_cut : (next : List ℕ) → next ≡ first_break next ++ next_line next
+pub break_cut : (next : List ℕ) → next ≡ first_break next ++ next_line next
 break_cut [] = refl
 break_cut (c ∷ r) = by (is_before_line_feed c r) r
   where
@@ -41,7 +41,7 @@ unfolding is_break
 feed_fills c [] rest h = cc
 feed_fills c (d ∷ r) rest h = let q = and_parts (c == 13) (d == 10) h in let same : d ≡ 10 = eqb-true d 10 q.1 in rw same (break_fills 10 [] rest refl refl)
 
-break_is_separation : (next : List ℕ) → ends_line next ≡ true → is_separation false (first_break next) (next_line next) ≡ true
+pub break_is_separation : (next : List ℕ) → ends_line next ≡ true → is_separation false (first_break next) (next_line next) ≡ true
 break_is_separation [] h = refl
 break_is_separation (c ∷ r) h = by (is_before_line_feed c r) refl
   where
@@ -49,23 +49,23 @@ break_is_separation (c ∷ r) h = by (is_before_line_feed c r) refl
     by true e = break_fills c (take 1 r) (drop 1 r) h (feed_fills c r (drop 1 r) e)
     by false e = break_fills c [] r h refl
 
-line_end_there : (next : List ℕ) → ends_line next ≡ true → is_at_line_end next ≡ true
+pub line_end_there : (next : List ℕ) → ends_line next ≡ true → is_at_line_end next ≡ true
 line_end_there [] h = refl
 line_end_there (c ∷ r) h = rw h refl
 
 -- ---- the piece
 
-piece_of : (a : Account) (piece next : List ℕ) (d : Directive) (following : Option Tok) → IsDirective a piece next d → IsPiece a piece next following a.position (token_of d)
+pub piece_of : (a : Account) (piece next : List ℕ) (d : Directive) (following : Option Tok) → IsDirective a piece next d → IsPiece a piece next following a.position (token_of d)
 piece_of a piece next (version major minor) following h = (h, refl)
 piece_of a piece next (tag_declaration handle prefix) following h = (inl h, refl)
 piece_of a piece next reserved following h = (inr (refl, refl, h), refl)
 
-token_is : (d : Directive) → is_directive_token (token_of d) ≡ true
+pub token_is : (d : Directive) → is_directive_token (token_of d) ≡ true
 token_is (version major minor) = refl
 token_is (tag_declaration handle prefix) = refl
 token_is reserved = refl
 
-percent_in_line : (l : List ℕ) → has_no_break l ≡ true → has_no_break (37 ∷ l) ≡ true
+pub percent_in_line : (l : List ℕ) → has_no_break l ≡ true → has_no_break (37 ∷ l) ≡ true
 unfolding is_break
 percent_in_line l h = h
 

@@ -32,7 +32,7 @@ name_has_none c h = by (is_blank c) (is_break c) (is_nul c) (c == 0xFEFF) (is_fl
     by true true z m f h = cc
     by false true z m f h = cc
 
-name_in_line : (name : List ℕ) → is_name name ≡ true → has_no_break name ≡ true
+pub name_in_line : (name : List ℕ) → is_name name ≡ true → has_no_break name ≡ true
 name_in_line [] h = cc
 name_in_line (c ∷ name) h = all_in_line is_anchor_name name_has_none (c ∷ name) h
 

@@ -39,7 +39,7 @@ separation_append false (c ∷ f) g n h k =
     let q = and_parts (is_blank c || is_break c || (c == 35)) (is_separation (c == 35) f (g ++ n)) h in
     rw q.0 (separation_append (c == 35) f g n q.1 k)
 
-white_is_no_hash : (c : ℕ) → is_white c ≡ true → (c == 35) ≡ false
+pub white_is_no_hash : (c : ℕ) → is_white c ≡ true → (c == 35) ≡ false
 unfolding is_blank
 white_is_no_hash c h = by (c == 32) (c == 9) (is_break c) refl refl refl h
   where

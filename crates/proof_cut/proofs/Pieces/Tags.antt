@@ -81,7 +81,7 @@ shorthand_in_line (c ∷ t) g h = by (begins_with_mark (after is_alpha (c ∷ t)
     by true e h = spanned is_alpha alpha_has_none (c ∷ t) (named_in_line (leading is_alpha (c ∷ t)) (after is_alpha (c ∷ t)) g e h)
     by false e h = of_class is_tag tag_has_none (codes "!") (c ∷ t) g h
 
-written_in_line : (t : List ℕ) (g : Tag) → written_tag (33 ∷ t) ≡ Some g → has_no_break (33 ∷ t) ≡ true
+pub written_in_line : (t : List ℕ) (g : Tag) → written_tag (33 ∷ t) ≡ Some g → has_no_break (33 ∷ t) ≡ true
 unfolding is_break
 written_in_line [] g h = refl
 written_in_line (c ∷ t) g h = by (c == 60) refl h
