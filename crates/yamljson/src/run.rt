@@ -1,16 +1,19 @@
 //! The program over any files and writers.
 use crate::command::command_of;
-use crate::failure::{Failure, arguments_failure, read_failure};
+use crate::failure::{Failure, Trouble};
 use std::alloc::Global;
-use std::fs::OpenOptions;
 use std::io;
-use std::io::{Read, Write};
+use std::io::Write;
 use std::rt::Files;
 use yaml_json::{JsonError, write_json, write_json_indented};
 use yaml_loader::YamlLoader;
+use yaml_programs::{Program, begin, read, without_byte_order_mark};
 use yaml_tree::Yaml;
 
-const USAGE: &str = "usage: yamljson [--indent] FILE...";
+const PROGRAM: Program = Program {
+    name: "yamljson",
+    usage: "usage: yamljson [--indent] FILE...",
+};
 
 /// The spaces of a level.
 const WIDTH: usize = 2;
@@ -24,15 +27,10 @@ pub fn start<R: Files, O: Write + Drop, E: Write>(
     out: io::Result<O>,
     err: &mut E,
 ) -> u8 {
-    let failure = match (args, out) {
-        (Ok(args), Ok(out)) => {
-            let mut out = out;
-            return run(rt, alloc, args.as_slice(), &mut out, err);
-        }
-        (Err(error), _) => arguments_failure(error),
-        (_, Err(_)) => Failure::OutOfMemory,
-    };
-    fail(err, &failure)
+    match begin(args, out) {
+        Ok((args, mut out)) => run(rt, alloc, args.as_slice(), &mut out, err),
+        Err(failure) => PROGRAM.end(err, Err::<(), Failure>(failure)),
+    }
 }
 
 /// Runs the program on its arguments (its own name left out), and gives its exit status: 0, or 1
@@ -44,19 +42,8 @@ pub fn run<R: Files, O: Write, E: Write>(
     out: &mut O,
     err: &mut E,
 ) -> u8 {
-    match print(rt, alloc, args, out) {
-        Ok(()) => 0,
-        Err(failure) => fail(err, &failure),
-    }
-}
-
-// Says what failed, and gives the status. If the error stream takes nothing, only the status says it.
-fn fail<E: Write>(err: &mut E, failure: &Failure) -> u8 {
-    let _ = report(err, failure);
-    match failure {
-        Failure::Usage => 2,
-        _ => 1,
-    }
+    let outcome = print(rt, alloc, args, out);
+    PROGRAM.end(err, outcome)
 }
 
 fn print<'a, R: Files, O: Write>(
@@ -102,13 +89,16 @@ fn print_file<'a, R: Files, O: Write>(
     let documents = match YamlLoader::load_from_str(alloc, text) {
         Ok(documents) => documents,
         Err(fault) if fault.is_out_of_memory() => return Err(Failure::OutOfMemory),
-        Err(fault) => return Err(Failure::Fault(path, fault)),
+        Err(fault) => return Err(Failure::Other(path, Trouble::Fault(fault))),
     };
     let mut lines = String::new(alloc);
     for (index, document) in documents.iter().enumerate() {
         match write_line(alloc, document, is_indented, &mut lines) {
             Ok(()) => {}
-            Err(JsonError::NoJson(node)) => return Err(Failure::NoJson(path, index + 1, node)),
+            Err(JsonError::NoJson(node)) => return Err(Failure::Other(
+                path,
+                Trouble::NoJson(index + 1, node),
+            )),
             Err(_) => return Err(Failure::OutOfMemory),
         }
         lines.push_str("\n")?;
@@ -129,42 +119,5 @@ fn write_line(
         write_json_indented(alloc, document, WIDTH, lines)
     } else {
         write_json(alloc, document, lines)
-    }
-}
-
-// The text of a file.
-fn read<'a, R: Files>(rt: &R, alloc: Global, path: &'a str) -> Result<String, Failure<'a>> {
-    let mut bytes = Vec::new(alloc);
-    if let Err(error) = read_into(rt, path, &mut bytes) {
-        return Err(read_failure(error, path));
-    }
-    match String::from_utf8(bytes) {
-        Ok(text) => Ok(text),
-        Err(_) => Err(Failure::NotUtf8(path)),
-    }
-}
-
-fn read_into<R: Files>(rt: &R, path: &str, bytes: &mut Vec<u8>) -> io::Result<()> {
-    let mut file = OpenOptions::new().read(true).open(rt, path)?;
-    file.read_to_end(bytes)?;
-    Ok(())
-}
-
-fn without_byte_order_mark(text: &str) -> &str {
-    text.strip_prefix('\u{FEFF}').unwrap_or(text)
-}
-
-/// Says what failed, in one line.
-fn report<E: Write>(err: &mut E, failure: &Failure) -> io::Result<()> {
-    match failure {
-        Failure::Usage => writeln!(err, "{USAGE}"),
-        Failure::CannotRead(path) => writeln!(err, "yamljson: cannot read {path}"),
-        Failure::NotUtf8(path) => writeln!(err, "yamljson: {path} is not UTF-8"),
-        Failure::CannotWrite => writeln!(err, "yamljson: cannot write"),
-        Failure::OutOfMemory => writeln!(err, "yamljson: out of memory"),
-        Failure::Fault(path, fault) => writeln!(err, "yamljson: {path}: {fault}"),
-        Failure::NoJson(path, number, node) => {
-            writeln!(err, "yamljson: {path}: document {number}: {node}")
-        }
     }
 }

@@ -1,44 +1,25 @@
-use std::alloc::AllocError;
 use std::io;
+use std::io::Write;
+use yaml_programs::Tell;
 use yaml_tokens::ScanError;
 
-/// Why the program ends with a status other than 0, with the path of the file that it is about.
+/// What only this program meets.
 #[derive(Drop)]
-pub enum Failure<'a> {
-    Usage,
-    CannotRead(&'a str),
-    NotUtf8(&'a str),
+pub enum Trouble {
     /// The file holds this number of documents, and one is needed.
-    Documents(&'a str, usize),
-    CannotWrite,
-    OutOfMemory,
+    Documents(usize),
     Fault(ScanError),
 }
 
-impl<'a> From<AllocError> for Failure<'a> {
-    fn from(_: AllocError) -> Failure<'a> {
-        Failure::OutOfMemory
-    }
-}
+pub type Failure<'a> = yaml_programs::Failure<'a, Trouble>;
 
-impl<'a> From<ScanError> for Failure<'a> {
-    fn from(fault: ScanError) -> Failure<'a> {
-        Failure::Fault(fault)
-    }
-}
-
-/// What a failed read is: out of memory, or another failure.
-pub fn read_failure(error: io::Error, path: &str) -> Failure<'_> {
-    match error.kind() {
-        io::ErrorKind::OutOfMemory => Failure::OutOfMemory,
-        _ => Failure::CannotRead(path),
-    }
-}
-
-/// The failure if the arguments cannot be read: out of memory, or arguments that the program does not take.
-pub fn arguments_failure<'a>(error: io::Error) -> Failure<'a> {
-    match error.kind() {
-        io::ErrorKind::InvalidData => Failure::Usage,
-        _ => Failure::OutOfMemory,
+impl Tell for Trouble {
+    fn tell<W: Write>(&self, path: &str, err: &mut W) -> io::Result<()> {
+        match self {
+            Trouble::Documents(count) => {
+                writeln!(err, "yamltool: {path} holds {count} documents")
+            }
+            Trouble::Fault(fault) => writeln!(err, "{fault}"),
+        }
     }
 }

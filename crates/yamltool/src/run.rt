@@ -1,20 +1,22 @@
 //! The program over any files and writers.
 use crate::command::{Command, Settings, command_of};
-use crate::failure::{Failure, arguments_failure, read_failure};
+use crate::failure::{Failure, Trouble};
 use overlay::overlay;
 use std::alloc::Global;
-use std::fs::OpenOptions;
 use std::io;
-use std::io::{Read, Write};
+use std::io::Write;
 use std::rt::Files;
 use yaml_emitter::YamlEmitter;
 use yaml_event_lines::write_event;
 use yaml_loader::YamlLoader;
 use yaml_parser::{Event, Parser};
+use yaml_programs::{Program, begin, read, without_byte_order_mark};
 use yaml_tree::Yaml;
 
-const USAGE: &str =
-    "usage: yamltool events FILE | dump [--spread] [--multiline] FILE | overlay A B";
+const PROGRAM: Program = Program {
+    name: "yamltool",
+    usage: "usage: yamltool events FILE | dump [--spread] [--multiline] FILE | overlay A B",
+};
 
 /// Runs the program on its arguments and its output, if these could be had, and gives its exit status. An argument
 /// that is not UTF-8 gives the usage; any other failure to get them is refused memory.
@@ -25,15 +27,10 @@ pub fn start<R: Files, O: Write + Drop, E: Write>(
     out: io::Result<O>,
     err: &mut E,
 ) -> u8 {
-    let failure = match (args, out) {
-        (Ok(args), Ok(out)) => {
-            let mut out = out;
-            return run(rt, alloc, args.as_slice(), &mut out, err);
-        }
-        (Err(error), _) => arguments_failure(error),
-        (_, Err(_)) => Failure::OutOfMemory,
-    };
-    fail(err, &failure)
+    match begin(args, out) {
+        Ok((args, mut out)) => run(rt, alloc, args.as_slice(), &mut out, err),
+        Err(failure) => PROGRAM.end(err, Err::<(), Failure>(failure)),
+    }
 }
 
 /// Runs the program on its arguments (its own name left out), and gives its exit status: 0, or 1
@@ -45,19 +42,8 @@ pub fn run<R: Files, O: Write, E: Write>(
     out: &mut O,
     err: &mut E,
 ) -> u8 {
-    match print(rt, alloc, args, out) {
-        Ok(()) => 0,
-        Err(failure) => fail(err, &failure),
-    }
-}
-
-// Says what failed, and gives the status. If the error stream takes nothing, only the status says it.
-fn fail<E: Write>(err: &mut E, failure: &Failure) -> u8 {
-    let _ = report(err, failure);
-    match failure {
-        Failure::Usage => 2,
-        _ => 1,
-    }
+    let outcome = print(rt, alloc, args, out);
+    PROGRAM.end(err, outcome)
 }
 
 fn print<'a, R: Files, O: Write>(
@@ -81,28 +67,6 @@ fn print<'a, R: Files, O: Write>(
     printed
 }
 
-// The text of a file, without a byte order mark.
-fn read<'a, R: Files>(rt: &R, alloc: Global, path: &'a str) -> Result<String, Failure<'a>> {
-    let mut bytes = Vec::new(alloc);
-    if let Err(error) = read_into(rt, path, &mut bytes) {
-        return Err(read_failure(error, path));
-    }
-    match String::from_utf8(bytes) {
-        Ok(text) => Ok(text),
-        Err(_) => Err(Failure::NotUtf8(path)),
-    }
-}
-
-fn read_into<R: Files>(rt: &R, path: &str, bytes: &mut Vec<u8>) -> io::Result<()> {
-    let mut file = OpenOptions::new().read(true).open(rt, path)?;
-    file.read_to_end(bytes)?;
-    Ok(())
-}
-
-fn without_byte_order_mark(text: &str) -> &str {
-    text.strip_prefix('\u{FEFF}').unwrap_or(text)
-}
-
 fn print_events<'a, R: Files, O: Write>(
     rt: &R,
     alloc: Global,
@@ -112,7 +76,10 @@ fn print_events<'a, R: Files, O: Write>(
     let text = read(rt, alloc, path)?;
     let mut parser = Parser::new_from_str(alloc, without_byte_order_mark(text.as_str()));
     'events: loop {
-        let (event, mark) = parser.next_token()?;
+        let (event, mark) = match parser.next_token() {
+            Ok(next) => next,
+            Err(fault) => return Err(Failure::Other(path, Trouble::Fault(fault))),
+        };
         if write_event(out, &event, mark).is_err() {
             return Err(Failure::CannotWrite);
         }
@@ -124,7 +91,10 @@ fn print_events<'a, R: Files, O: Write>(
 
 fn load<'a, R: Files>(rt: &R, alloc: Global, path: &'a str) -> Result<Vec<Yaml>, Failure<'a>> {
     let text = read(rt, alloc, path)?;
-    Ok(YamlLoader::load_from_str(alloc, without_byte_order_mark(text.as_str()))?)
+    match YamlLoader::load_from_str(alloc, without_byte_order_mark(text.as_str())) {
+        Ok(documents) => Ok(documents),
+        Err(fault) => Err(Failure::Other(path, Trouble::Fault(fault))),
+    }
 }
 
 // Every document's dump and a line feed. They are all made before the first is printed.
@@ -164,7 +134,7 @@ fn one_document<'a, R: Files>(rt: &R, alloc: Global, path: &'a str) -> Result<Ya
     let count = documents.len();
     match documents.pop() {
         Some(document) if count == 1 => Ok(document),
-        _ => Err(Failure::Documents(path, count)),
+        _ => Err(Failure::Other(path, Trouble::Documents(count))),
     }
 }
 
@@ -185,19 +155,4 @@ fn dump<'a>(out: &mut String, document: &Yaml, settings: Settings) -> Result<(),
     }
     out.push_str("\n")?;
     Ok(())
-}
-
-/// Says what failed, in one line.
-fn report<E: Write>(err: &mut E, failure: &Failure) -> io::Result<()> {
-    match failure {
-        Failure::Usage => writeln!(err, "{USAGE}"),
-        Failure::CannotRead(path) => writeln!(err, "yamltool: cannot read {path}"),
-        Failure::NotUtf8(path) => writeln!(err, "yamltool: {path} is not UTF-8"),
-        Failure::Documents(path, count) => {
-            writeln!(err, "yamltool: {path} holds {count} documents")
-        }
-        Failure::CannotWrite => writeln!(err, "yamltool: cannot write"),
-        Failure::OutOfMemory => writeln!(err, "yamltool: out of memory"),
-        Failure::Fault(fault) => writeln!(err, "{fault}"),
-    }
 }

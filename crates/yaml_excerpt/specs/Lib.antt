@@ -1,0 +1,2 @@
+pub mod Excerpt
+pub mod Shown

@@ -1,0 +1,10 @@
+//! What the command line programs share: their arguments, the texts of their files, and how they end.
+#![tactic(auto)]
+
+mod failure;
+mod files;
+mod program;
+
+pub use failure::{Failure, Tell};
+pub use files::{read, without_byte_order_mark};
+pub use program::{Program, arguments, begin};
