@@ -5,6 +5,7 @@ ghost use Rattle.yaml_excerpt.specs.Shown.{mark_of, shown_by, WritesText};
 
 use crate::line::{after, ends_line, first, line_of};
 use std::fmt;
+use yaml_chars::Marker;
 use yaml_tokens::ScanError;
 
 // As many characters of a line as are shown.
@@ -28,12 +29,19 @@ pub struct Excerpt<'a> {
 }
 
 impl<'a> Excerpt<'a> {
-    /// The line of this text that holds the character with the fault's index. It must be the text that was read; of
-    /// another text it is some line, or an empty one.
+    /// The line of this text that the fault is about. It must be the text that was read; of another text it is some line,
+    /// or an empty one.
     pub fn new(text: &'a str, fault: &ScanError) -> Excerpt<'a>
         ensures { shown_by result ≡ excerpt (chars text.now) fault.now.position.index }
     {
-        let (line, column) = line_of(text, fault.marker().index());
+        Excerpt::at(text, *fault.marker())
+    }
+
+    /// The line of this text in which a position lies: a node's or an event's, for a message of one's own.
+    pub fn at(text: &'a str, position: Marker) -> Excerpt<'a>
+        ensures { shown_by result ≡ excerpt (chars text.now) position.index }
+    {
+        let (line, column) = line_of(text, position.index());
         if column <= MOST_BEFORE {
             Excerpt {
                 line,

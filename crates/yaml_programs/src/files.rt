@@ -11,23 +11,44 @@ pub fn read<'a, R: Files, T>(
     alloc: Global,
     path: &'a str,
 ) -> Result<String, Failure<'a, T>> {
-    let mut bytes = Vec::new(alloc);
-    if let Err(error) = read_into(rt, path, &mut bytes) {
-        return Err(match error.kind() {
-            io::ErrorKind::OutOfMemory => Failure::OutOfMemory,
-            _ => Failure::CannotRead(path),
-        });
-    }
+    let bytes = read_bytes(rt, alloc, path)?;
     match String::from_utf8(bytes) {
         Ok(text) => Ok(text),
         Err(_) => Err(Failure::NotUtf8(path)),
     }
 }
 
-fn read_into<R: Files>(rt: &R, path: &str, bytes: &mut Vec<u8>) -> io::Result<()> {
-    let mut file = OpenOptions::new().read(true).open(rt, path)?;
-    file.read_to_end(bytes)?;
-    Ok(())
+/// The bytes of a file.
+pub fn read_bytes<'a, R: Files, T>(
+    rt: &R,
+    alloc: Global,
+    path: &'a str,
+) -> Result<Vec<u8>, Failure<'a, T>> {
+    match OpenOptions::new().read(true).open(rt, path) {
+        Ok(mut file) => read_input(alloc, &mut file, path),
+        Err(error) => Err(read_failure(error, path)),
+    }
+}
+
+/// The bytes of an input that a program calls so.
+pub fn read_input<'a, I: Read, T>(
+    alloc: Global,
+    input: &mut I,
+    name: &'a str,
+) -> Result<Vec<u8>, Failure<'a, T>> {
+    let mut bytes = Vec::new(alloc);
+    match input.read_to_end(&mut bytes) {
+        Ok(_) => Ok(bytes),
+        Err(error) => Err(read_failure(error, name)),
+    }
+}
+
+// Out of memory, or another failure.
+fn read_failure<'a, T>(error: io::Error, path: &'a str) -> Failure<'a, T> {
+    match error.kind() {
+        io::ErrorKind::OutOfMemory => Failure::OutOfMemory,
+        _ => Failure::CannotRead(path),
+    }
 }
 
 /// A text without a byte order mark at its start.

@@ -6,5 +6,5 @@ mod files;
 mod program;
 
 pub use failure::{Failure, Tell};
-pub use files::{read, without_byte_order_mark};
+pub use files::{read, read_bytes, read_input, without_byte_order_mark};
 pub use program::{Program, arguments, begin};
