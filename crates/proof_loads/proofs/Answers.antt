@@ -25,6 +25,7 @@ use Rattle.proof_loads.specs.Laws.{TextsAreAnswered}
 use Rattle.proof_loads.proofs.Pulled.{Noted, noted, read_given, explained, settings_stay, events_are_clear, has_end_append}
 use Rattle.proof_loads.proofs.Texts.{first_tokens, foretells_beginning}
 use Rattle.proof_loads.proofs.Runs.{IsOver, pushes, misplaced_events, PushesAll, ended_within, ended_after, given_append}
+use Rattle.proof_loads.proofs.Steady.{blames_steady}
 use Rattle.proof_loads.proofs.StreamEnds.{all_tokens}
 
 -- what a call does with these answers
@@ -156,7 +157,7 @@ ends_whole {takes = takes} {r = r} {s = s} {text = text} answers p b clear h rec
 fault_of : (text : List ℕ) (answers : List (Answer ErrorReport)) (p : Parsed) (f : ErrorReport) → After text answers p → Explains f p → IsFaultOf p.keep_tags text f
 fault_of text answers p f b why = elim why [
   | inl kept ↦ by_scanner f.memory refl kept
-  | inr other ↦ elim other [ inl wants ↦ wants_memory wants | inr cut ↦ by_grammar cut.blames (cut.refused b.steady) ]
+  | inr other ↦ elim other [ inl wants ↦ wants_memory wants | inr cut ↦ by_grammar (blames_steady (cut.steady b.steady) cut.blames) (cut.refused b.steady) ]
 ]
   where
     refusal : (o : Option ErrorReport) → o ≡ Some f → IfSome o (λ g. g.memory ≡ false → IsRefusal text g) → f.memory ≡ false → IsRefusal text f
@@ -171,9 +172,9 @@ fault_of text answers p f b why = elim why [
     by_scanner true m kept = wants_memory (record { memory = m; text = says p.scanner.fault kept b.scans.wants m })
     by_scanner false m kept = no_token (refusal p.scanner.fault kept b.scans.refused m)
 
-    by_grammar : Blames f p.scanner.given → Refused p → IsFaultOf p.keep_tags text f
+    by_grammar : Blames f [] p.keep_tags p.scanner.given (read p) → Refused p → IsFaultOf p.keep_tags text f
     by_grammar blames r =
-        no_stream r.before r.last (read p) (subst (AreFirst text) r.tokens (first_tokens text p.scanner b.scans)) (subst (Blames f) r.tokens blames) r.begins
+        no_stream r.before r.last (read p) (subst (AreFirst text) r.tokens (first_tokens text p.scanner b.scans)) (subst (λ ts. Blames f [] p.keep_tags ts (read p)) r.tokens blames) r.begins
         (subst (λ ts. NoneBegins p.keep_tags (toks ts)) r.tokens r.none)
 
 -- An event that is no document's start never stands between documents.

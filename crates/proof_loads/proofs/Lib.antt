@@ -15,5 +15,6 @@ pub mod Pulled
 pub mod QuotedTexts
 pub mod Runs
 pub mod Spelled
+pub mod Steady
 pub mod StreamEnds
 pub mod Texts

@@ -43,7 +43,7 @@ pub record BeginsEvents (keep_tags : Bool) (text : List ℕ) (events : List (Ev 
 pub data IsFaultOf (keep_tags : Bool) (text : List ℕ) (f : ErrorReport) : Type 0 where
   wants_memory : WantsMemory f → IsFaultOf keep_tags text f
   no_token : IsRefusal text f → IsFaultOf keep_tags text f
-  no_stream : (before : List Token) (last : Token) (events : List (Ev × Position)) → AreFirst text (before ++ last ∷ []) → Blames f (before ++ last ∷ [])
+  no_stream : (before : List Token) (last : Token) (events : List (Ev × Position)) → AreFirst text (before ++ last ∷ []) → Blames f [] keep_tags (before ++ last ∷ []) events
       → BeginsPlaced keep_tags before events → NoneBegins keep_tags (toks (before ++ last ∷ [])) → IsFaultOf keep_tags text f
 
 -- How a load of the text ends: the receiver took all its events; or the parser has a fault; or the receiver refused an event

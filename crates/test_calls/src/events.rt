@@ -107,3 +107,46 @@ fn events_are_copied(rt: HostRuntime) -> Result<(), Fail> {
     }
     Err(Fail::from("no end"))
 }
+
+// Each document uses the handle that the first one declares, and an anchor of its own.
+const TWO_DOCUMENTS: &str = "%TAG !t! x:\n--- [&a !t!p 1, *a]\n--- [&a !t!p 2, *a]\n";
+
+// The events after the third, with which the setting is made another one; or the fault.
+fn with_late_setting(alloc: Global, keep_tags: bool) -> Result<String, Fail> {
+    let mut parser = Parser::new_from_str(alloc, TWO_DOCUMENTS).keep_tags(!keep_tags);
+    for _ in 0..3 {
+        parser.next_token()?;
+    }
+    let mut parser = parser.keep_tags(keep_tags);
+    let mut lines = String::new(alloc);
+    for _ in 0..20 {
+        match parser.next_token() {
+            Ok((Event::StreamEnd, _)) => break,
+            Ok((event, _)) => lines.push_str(format!(in alloc; "{event:?}\n")?.as_str())?,
+            Err(fault) => {
+                lines.push_str(format!(in alloc; "{fault}\n")?.as_str())?;
+                break;
+            }
+        }
+    }
+    Ok(lines)
+}
+
+#[test]
+fn late_settings_count_from_the_next_document(rt: HostRuntime) -> Result<(), Fail> {
+    let first =
+        "Scalar(\"1\", Plain, 1, Some(Tag { handle: \"x:\", suffix: \"p\" }))\nAlias(1)\nSequenceEnd\nDocumentEnd\nDocumentStart\nSequenceStart(0, None)\n";
+    let kept =
+        "Scalar(\"2\", Plain, 2, Some(Tag { handle: \"x:\", suffix: \"p\" }))\nAlias(2)\nSequenceEnd\nDocumentEnd\n";
+    let forgotten = "the handle wasn't declared at byte 37 line 3 column 6\n";
+    let alloc = rt.alloc();
+    assert_eq!(rt;
+        with_late_setting(alloc, true)?.as_str(),
+        format!(in alloc; "{first}{kept}")?.as_str()
+    );
+    assert_eq!(rt;
+        with_late_setting(alloc, false)?.as_str(),
+        format!(in alloc; "{first}{forgotten}")?.as_str()
+    );
+    Ok(())
+}

@@ -1,5 +1,5 @@
 -- The arms of the productions of documents.
-use Rattle.std.proofs.Common.{◌≡◌, ◌≢◌, ℕ, ◌+◌, ◌<◌, List, [], ◌∷◌, ◌++◌, Some, None, option_map, Bool, true, false, nat_le, Result, Ok, Err, refl, sym, ap, ◌∙◌, subst, if◌then◌else◌, arith, inl}
+use Rattle.std.proofs.Common.{◌≡◌, ◌≢◌, ℕ, ◌+◌, ◌<◌, List, [], ◌∷◌, ◌++◌, Some, None, option_map, Bool, true, false, nat_le, Result, Ok, Err, refl, sym, ap, ◌∙◌, subst, if◌then◌else◌, append-nil, append_assoc, arith, inl}
 use Rattle.std.proofs.lemmas.Bool.{and_parts, and_from, and_left, and_right, lt-leb}
 use Rattle.std.specs.Option.{IfSome}
 use Rattle.std.specs.Result.{IsErrAnd}
@@ -10,15 +10,16 @@ use Rattle.yaml_tokens.specs.declared.problem.Fault.TheVariants.{OutOfMemory}
 use Rattle.yaml_tokens.specs.declared.problem.Fault.TheVariants as fault
 use Rattle.yaml_tokens.specs.declared.problem.Problem.{Problem}
 use Rattle.yaml_tokens.specs.declared.problem.Problem.TheVariants.{SecondVersion, RepeatedHandle, UndeclaredHandle}
-use Rattle.yaml_tokens.specs.Shown.{tok_of}
+use Rattle.yaml_tokens.specs.Shown.{all_shown, tok_of}
 use Rattle.yaml_scanner_state.specs.Tokens.{is_end}
 use Rattle.defs_event.specs.Event.{Ev}
 use Rattle.defs_event.specs.Raw as raw
 use Rattle.defs_event.specs.Raw.{Raw, Directive}
-use Rattle.defs_event.specs.Grammar.{directive_token, perhaps_events, after_events}
+use Rattle.defs_event.specs.Grammar.{directive_token, directives_tokens, perhaps_events, after_events}
 use Rattle.defs_event.specs.Names as defs
 use Rattle.defs_event.specs.Names.{declared, versions, is_each_once, are_allowed, at_document, under_name}
-use Rattle.defs_event.specs.Stream.{gives_position}
+use Rattle.defs_token.specs.Toks.{toks}
+use Rattle.defs_event.specs.Stream.{events_of, gives_position}
 use Rattle.model_parser.specs.declared.kind.Kind.{Kind}
 use Rattle.model_parser.specs.declared.kind.Kind.TheVariants as kind
 use Rattle.model_parser.specs.declared.context.NodeContext.TheVariants as context
@@ -33,14 +34,16 @@ use Rattle.yaml_parser.specs.declared.tokens.Stop.{Stop}
 use Rattle.yaml_parser.specs.declared.tokens.Stop.TheVariants as stop
 use Rattle.yaml_parser.specs.declared.names.Names.{Names}
 use Rattle.yaml_parser.specs.declared.reader.Reader.{Reader}
+use Rattle.yaml_parser.specs.declared.tokens.Tokens.{Tokens}
 use Rattle.yaml_parser.specs.Ahead.{Skips}
+use Rattle.yaml_parser.specs.Handed.{taken_toks}
 use Rattle.yaml_parser.specs.Kinds.{IsOfKind}
 use Rattle.yaml_parser.specs.Named.{IsNamed, IsOwn}
 use Rattle.yaml_parser.specs.Declares.{HasRead, Declares}
-use Rattle.yaml_parser.specs.Directing.{Directing, DirectsTo}
-use Rattle.yaml_parser.specs.Blames.{fits, is_of_names}
+use Rattle.yaml_parser.specs.Directing.{Directing, DirectsTo, IsAfter}
+use Rattle.yaml_parser.specs.Blames.{fits, is_of_names, IsCause, SpoilsDirectives}
 use Rattle.yaml_parser.specs.At.{At, Stayed, Faulted, Carries, is_over}
-use Rattle.yaml_parser.proofs.Steps.{looked, took, took_on, left, left_as, if_some_at}
+use Rattle.yaml_parser.proofs.Steps.{looked, taken_snoc, took, took_on, left, left_as, if_some_at}
 use Rattle.yaml_parser.proofs.Arms.{Skipped, no_positions, faulted_as}
 use Rattle.yaml_parser.proofs.NodeArms.{unnamed_at, unnameable_first}
 use Rattle.yaml_parser.proofs.DirectiveLemmas.{named_alike, own_alike, version_ignored, version_snoc, tag_snoc, versions_append}
@@ -139,6 +142,7 @@ directives_begin {T} {p} {q} k {names} {given} here h tokens stack keep starts o
           (subst (λ b. IsNamed q.names (at_document b.tags names [])) (sym keep) (starts names a.code)) refl refl a;
       own = own names a.code;
       version = refl;
+      taken = (taken_toks q.tokens, sym (append-nil (taken_toks q.tokens)));
     }
 
 version_text : (t : Tok) → kind_of t ≡ kind.VersionDirective → (m : ℕ) × (n : ℕ) × (t ≡ Tok.version_directive m n)
@@ -161,6 +165,22 @@ allowed_tag read h p a e =
     let parts = and_parts (nat_le (versions read) 1) (is_each_once (declared read)) a in
     and_from (nat_le (versions (read ++ raw.tag h p ∷ [])) 1) (is_each_once (declared (read ++ raw.tag h p ∷ []))) (ap (λ x. nat_le x 1) (tag_snoc read h p) ∙ parts.0) (e ∙ parts.1)
 
+directives_snoc : (ds : List Directive) (d : Directive) (r : List Tok) → directives_tokens (ds ++ d ∷ []) r ≡ directives_tokens ds (directive_token d ∷ r)
+directives_snoc [] d r = refl
+directives_snoc (x ∷ ds) d r = ap (λ ts. directive_token x ∷ ts) (directives_snoc ds d r)
+
+directives_append : (ds : List Directive) (ts : List Tok) → directives_tokens ds ts ≡ directives_tokens ds [] ++ ts
+directives_append [] ts = refl
+directives_append (d ∷ ds) ts = ap (λ us. directive_token d ∷ us) (directives_append ds ts)
+
+-- One more directive is taken.
+read_more : {T : Type 0} {p r : Tokens T} {t : Token} (read : List Directive) (d : Directive) → Skips p t r → tok_of t.1 ≡ directive_token d → IsAfter read (taken_toks p) → IsAfter (read ++ d ∷ []) (taken_toks r)
+read_more {T} {p} {r} {t} read d skips tok a = (
+  a.0,
+  ap (λ ts. toks (all_shown ts)) skips.taken ∙ taken_snoc p.taken.items t ∙ ap (λ us. us ++ tok_of t.1 ∷ []) a.1 ∙ append_assoc a.0 (directives_tokens read []) (tok_of t.1 ∷ [])
+      ∙ ap (λ us. a.0 ++ us) (ap (λ u. directives_tokens read [] ++ u ∷ []) tok ∙ sym (directives_append read (directive_token d ∷ [])) ∙ sym (directives_snoc read d [])),
+)
+
 -- A version is taken, the first one.
 pub version_taken : {T : Type 0} {p r : Reader T} {names : defs.Names} {given : List (Ev × Position)}
     → IsOfKind kind.VersionDirective p.tokens.peeked → Skipped p r p.stack → Directing p names given false → Directing r names given true
@@ -177,6 +197,7 @@ version_taken {T} {p} {r} {names} {given} here skip d =
           (allowed_version d.read v.0 v.1 d.here.pending d.version) (λ b. (refl, ap is_end v.2)) (ap gives_position v.2) d.here;
       own = subst (λ n. IsOwn n read) (sym x.names) (own_alike d.read read same d.own);
       version = version_snoc d.read v.0 v.1 ∙ ap (λ n. n + 1) d.version;
+      taken = read_more d.read (raw.version v.0 v.1) x.tokens v.2 d.taken;
     }
 
 version_is_other : SecondVersion ≡ UndeclaredHandle → ⊥
@@ -188,10 +209,12 @@ handle_is_other e = cc
 -- Directives that are not allowed are refused with the last one.
 refused_directive : {T : Type 0} {p r : Reader T} {t : Token} {m : Position} (q : Problem) (read : List Directive) (d : Directive) {names : defs.Names} {given : List (Ev × Position)}
     → fits q (kind_of (directive_token d)) ≡ true → is_of_names q ≡ true → (q ≡ UndeclaredHandle → ⊥) → t.0 ≡ m → p.tokens.peeked ≡ Some t → Skips p.tokens t r.tokens → r.names.keeping ≡ p.names.keeping → tok_of t.1 ≡ directive_token d → ((more : List Directive) → are_allowed ((read ++ d ∷ []) ++ more) ≡ false)
+    → IsAfter read (taken_toks p.tokens) → ((before : List Tok) (last : Tok) → SpoilsDirectives before last → IsCause q names (events_of given) before last)
     → At (at.directed read) p names given → Faulted r given (stop.Own (fault.At q m))
-refused_directive {T} {p} {r} {t} {m} q read d {names} {given} fit of_names other mark here skips keep tok bad a =
+refused_directive {T} {p} {r} {t} {m} q read d {names} {given} fit of_names other mark here skips keep tok bad taken cause a =
     unnamed_at q (ap (λ u. fits q (kind_of u)) tok ∙ fit) of_names (inl (sym mark, λ e. absurd (other e))) here skips keep (subst (λ u. Takes (at.directed read) p.stack u None (at.directed (read ++ d ∷ [])) p.stack) (sym tok) (turn.directed_more p.stack read d))
-    (λ x y. unnameable_first p.names.keeping.tags names (Raw.document_start ((read ++ d ∷ []) ++ x.0)) (perhaps_events x.1 (after_events x.2 (rest_events p.stack y))) (ap (λ b. if b then Some Ev.document_start else None) (bad x.0))) a
+    (λ x y. unnameable_first p.names.keeping.tags names (Raw.document_start ((read ++ d ∷ []) ++ x.0)) (perhaps_events x.1 (after_events x.2 (rest_events p.stack y))) (ap (λ b. if b then Some Ev.document_start else None) (bad x.0)))
+    (cause _ _ (record { earlier = taken.0; read = read; directive = d; before_are = taken.1; last_is = tok; allowed = a.pending; spoilt = ap are_allowed (sym (append-nil (read ++ d ∷ []))) ∙ bad [] })) a
 
 -- A second version is refused.
 pub version_refused : {T : Type 0} {p r : Reader T} {m : Position} {names : defs.Names} {given : List (Ev × Position)}
@@ -201,7 +224,7 @@ version_refused {T} {p} {r} {m} {names} {given} here mark skip d =
     let l = looked kind.VersionDirective p.tokens.peeked here in
     let v = version_text (tok_of l.0.1) l.2 in
     let x = skip l.0 l.1 in
-    refused_directive SecondVersion d.read (raw.version v.0 v.1) refl refl version_is_other (if_some_at (λ (t : Token). t.0 ≡ m) mark l.1) l.1 x.tokens (ap (λ n. n.keeping) x.names) v.2 (λ more. second_version d.read v.0 v.1 more d.version) d.here
+    refused_directive SecondVersion d.read (raw.version v.0 v.1) refl refl version_is_other (if_some_at (λ (t : Token). t.0 ≡ m) mark l.1) l.1 x.tokens (ap (λ n. n.keeping) x.names) v.2 (λ more. second_version d.read v.0 v.1 more d.version) d.taken (λ before last x. x) d.here
 
 -- What declares a handle is taken.
 pub tag_directive_taken : {T : Type 0} {p : Reader T} (r : Reader T) {t : Token} (m : Position) {h x : List ℕ} {versioned : Bool} {names : defs.Names} {given : List (Ev × Position)} (res : Result (Unit {0}) Stop)
@@ -217,12 +240,13 @@ tag_directive_taken {T} {p} r {t} m {h} {x} {versioned} {names} {given} (Ok u) m
           keep (subst (λ b. IsNamed r.names (at_document b.tags names read)) (sym keep) k.0.named) (allowed_tag d.read h x d.here.pending k.1) (λ b. (refl, ap is_end tok)) (ap gives_position tok) d.here;
       own = k.0.own;
       version = tag_snoc d.read h x ∙ d.version;
+      taken = read_more d.read (raw.tag h x) skips tok d.taken;
     }
 tag_directive_taken {T} {p} r {t} m {h} {x} {versioned} {names} {given} (Err (stop.Own OutOfMemory)) mark here skips stack keep tok declares d = tt
 tag_directive_taken {T} {p} r {t} m {h} {x} {versioned} {names} {given} (Err (stop.Own (fault.At q n))) mark here skips stack keep tok declares d =
     let k = declares p.names.keeping.tags names d.read (record { named = d.here.code; own = d.own }) in
     faulted_as r given (ap (λ y. stop.Own (fault.At y n)) k.1 ∙ ap (λ y. stop.Own (fault.At RepeatedHandle y)) k.2)
-    (refused_directive RepeatedHandle d.read (raw.tag h x) refl refl handle_is_other mark here skips keep tok (λ more. and_right (nat_le (versions ((d.read ++ raw.tag h x ∷ []) ++ more)) 1) (is_each_once (declared ((d.read ++ raw.tag h x ∷ []) ++ more))) (k.0 more)) d.here)
+    (refused_directive RepeatedHandle d.read (raw.tag h x) refl refl handle_is_other mark here skips keep tok (λ more. and_right (nat_le (versions ((d.read ++ raw.tag h x ∷ []) ++ more)) 1) (is_each_once (declared ((d.read ++ raw.tag h x ∷ []) ++ more))) (k.0 more)) d.taken (λ before last x. x) d.here)
 tag_directive_taken {T} {p} r {t} m {h} {x} {versioned} {names} {given} (Err stop.Scan) mark here skips stack keep tok declares d = absurd (declares p.names.keeping.tags names d.read (record { named = d.here.code; own = d.own }))
 tag_directive_taken {T} {p} r {t} m {h} {x} {versioned} {names} {given} (Err stop.Ended) mark here skips stack keep tok declares d = absurd (declares p.names.keeping.tags names d.read (record { named = d.here.code; own = d.own }))
 
@@ -231,10 +255,11 @@ directs_err {T} r names given versioned (Ok u) x h f = absurd h
 directs_err {T} r names given versioned (Err s) x h f = subst (Faulted r given) (sym h) f
 
 -- a look at the next token
-pub directing_on : {T : Type 0} {p r : Reader T} {versioned : Bool} {names : defs.Names} {given : List (Ev × Position)} → ((g : at.Goal) → is_over g ≡ false → Carries g p r) → r.names ≡ p.names → Directing p names given versioned → Directing r names given versioned
-directing_on {T} {p} {r} {versioned} {names} {given} carries same d = record {
+pub directing_on : {T : Type 0} {p r : Reader T} {versioned : Bool} {names : defs.Names} {given : List (Ev × Position)} → ((g : at.Goal) → is_over g ≡ false → Carries g p r) → r.names ≡ p.names → r.tokens.taken ≡ p.tokens.taken → Directing p names given versioned → Directing r names given versioned
+directing_on {T} {p} {r} {versioned} {names} {given} carries same taken d = record {
   read = d.read;
   here = carries (at.directed d.read) refl names given d.here;
   own = subst (λ n. IsOwn n d.read) (sym same) d.own;
   version = d.version;
+  taken = subst (IsAfter d.read) (ap (λ y. toks (all_shown y.items)) (sym taken)) d.taken;
 }

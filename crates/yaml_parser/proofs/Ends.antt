@@ -8,8 +8,9 @@ use Rattle.defs_token.specs.Token.{Style, Tok}
 use Rattle.defs_event.specs.Event.{Ev}
 use Rattle.defs_event.specs.Raw.{Raw}
 use Rattle.defs_event.specs.Grammar.{scalar, flow_content, no_flow, end_items, no_items, single, no_flow_value, no_flow_pairs, end_flow_pairs, flow_keyless, block_content, flow, no_node, end_entries, plain, end_dashes, keyed, end_pairs, no_value, others, end_stream, unmarked, anchor_of, tag_of, Documents, stream_tokens}
-use Rattle.defs_event.specs.Names.{Names, number, named, both, names_after, names_after_all, resolved_event, resolved, perhaps_resolved, are_allowed, no_names}
-use Rattle.defs_event.specs.Stream.{BeginsPlaced, events_of, positions_of, taken_positions, given_positions}
+use Rattle.defs_event.specs.Names.{Names, number, named, both, names_after, resolved_event, resolved, perhaps_resolved, are_allowed, no_names}
+use Rattle.defs_event.proofs.NameLemmas.{both_some}
+use Rattle.defs_event.specs.Stream.{events_of, positions_of, taken_positions, given_positions}
 use Rattle.model_parser.specs.declared.context.NodeContext.TheVariants as context
 use Rattle.model_parser.specs.declared.state.State.{State}
 use Rattle.model_parser.specs.declared.state.State.TheVariants as state
@@ -30,8 +31,9 @@ use Rattle.yaml_parser.specs.Kinds.{IsOfKind}
 use Rattle.yaml_parser.proofs.Steps.{map_snoc, looked, if_some_at}
 use Rattle.yaml_parser.proofs.Positions.{taken_positions_append, given_positions_append, positions_length}
 use Rattle.yaml_parser.specs.Handed.{taken_toks, peeked_tok, shown_list}
-use Rattle.yaml_parser.specs.At.{At, Faulted, IsPending, IsStuck}
-use Rattle.yaml_parser.specs.Blames.{fits, is_of_names}
+use Rattle.yaml_parser.specs.At.{At, Faulted, IsPending, names_by}
+use Rattle.yaml_parser.specs.Blames.{fits, is_of_names, IsCause}
+use Rattle.yaml_parser.proofs.Since.{since_append}
 use Rattle.yaml_parser.specs.Derived.{IsDerived}
 use Rattle.yaml_parser.specs.declared.tokens.Stop.TheVariants as stop
 use Rattle.yaml_tokens.specs.declared.problem.Problem.{Problem}
@@ -199,18 +201,6 @@ pub rest_nameable : (keep : Bool) (ss : List State) → AnyNameable keep (rest_e
 rest_nameable keep [] s = ([], refl)
 rest_nameable keep (x ∷ ss) s = completes (goal_of x) keep s _ (state_pending x s) (rest_nameable keep ss)
 
-both_parts : (o : Option Ev) (p : Option (List Ev)) (vs : List Ev) → both o p ≡ Some vs → (v : Ev) × (ws : List Ev) × (o ≡ Some v) × (p ≡ Some ws) × (vs ≡ v ∷ ws)
-both_parts None p vs h = cc
-both_parts (Some v) None vs h = cc
-both_parts (Some v) (Some ws) vs h = (v, ws, refl, refl, cc)
-
-named_append : (keep : Bool) (s : Names) (es fs : List Raw) (vs ws : List Ev) → named keep s es ≡ Some vs → named keep (names_after_all keep s es) fs ≡ Some ws → named keep s (es ++ fs) ≡ Some (vs ++ ws)
-named_append keep s [] fs vs ws h k = let x : vs ≡ [] = cc in k ∙ ap (λ xs. Some (xs ++ ws)) (sym x)
-named_append keep s (e ∷ es) fs vs ws h k =
-    let b = both_parts (resolved_event s e) (named keep (names_after keep s e) es) vs h in
-    let i = named_append keep (names_after keep s e) es fs b.1 ws b.3 k in
-    ap (λ o. both o (named keep (names_after keep s e) (es ++ fs))) b.2 ∙ ap (λ o. both (Some b.0) o) i ∙ ap (λ xs. Some (xs ++ ws)) (sym b.4)
-
 -- ---- and placed
 
 -- where no position is known
@@ -280,8 +270,8 @@ rest_even (s ∷ ss) = even (goal_of s) (rest_events ss (ending ss)) (rest_token
 named_length : (keep : Bool) (s : Names) (es : List Raw) (vs : List Ev) → named keep s es ≡ Some vs → positions_of (map event_nowhere vs) ≡ map position_nowhere es
 named_length keep s [] vs h = let x : vs ≡ [] = cc in ap (λ ws. positions_of (map event_nowhere ws)) x
 named_length keep s (e ∷ es) vs h =
-    let b = both_parts (resolved_event s e) (named keep (names_after keep s e) es) vs h in
-    ap (λ ws. positions_of (map event_nowhere ws)) b.4 ∙ ap (λ ps. position_nowhere e ∷ ps) (named_length keep (names_after keep s e) es b.1 b.3)
+    let f = both_some (resolved_event s e) (named keep (names_after keep s e) es) vs h in
+    ap (λ ws. positions_of (map event_nowhere ws)) f.whole ∙ ap (λ ps. position_nowhere e ∷ ps) (named_length keep (names_after keep s e) es f.more f.are_more)
 
 events_nowhere : (vs : List Ev) → events_of (map event_nowhere vs) ≡ vs
 events_nowhere [] = refl
@@ -291,48 +281,34 @@ toks_nowhere : (ts : List Tok) → toks (map token_nowhere ts) ≡ ts
 toks_nowhere [] = refl
 toks_nowhere (t ∷ ts) = ap (λ us. t ∷ us) (toks_nowhere ts)
 
--- A stream begins with what was taken, and with the events that were given.
-pub at_begins : {T : Type 0} (g : Goal) (p : Reader T) (names : Names) (given : List (Ev × Position)) → At g p names given → p.names.keeping.steady ≡ true → BeginsPlaced p.names.keeping.tags (all_shown p.tokens.taken.items) given
-at_begins {T} g p names given a steady =
+-- What was given comes of what was taken.
+pub at_derived : {T : Type 0} (g : Goal) (p : Reader T) (names : Names) (given : List (Ev × Position)) → (a : At g p names given)
+    → IsDerived p.names.keeping.settings.items p.names.keeping.tags (all_shown p.tokens.taken.items) a.raw given
+at_derived {T} g p names given a =
+    let ks = p.names.keeping.settings.items in
     let keep = p.names.keeping.tags in
     let es = still_events g p.stack (shortest g) (ending p.stack) in
     let ts = still_tokens g p.stack (shortest g) (ending p.stack) in
     let d = a.stands.sound (shortest g) (ending p.stack) in
     let n = completes g keep names (rest_events p.stack (ending p.stack)) a.pending (rest_nameable keep p.stack) in
-    let all = named_append keep no_names a.raw es (events_of given) n.0 (a.events steady) (ap (λ s. named keep s es) (a.names_are steady) ∙ n.1) in
+    let all = since_append ks keep no_names a.raw es (events_of given) n.0 a.few a.events (ap (λ s. named keep s es) a.names_are ∙ n.1) in
     record {
       more_tokens = map token_nowhere ts;
+      more_raw = es;
       more_events = map event_nowhere n.0;
       stream = record {
         documents = d.0;
         has_tokens = d.1 ∙ ap (λ us. taken_toks p.tokens ++ us) (sym (toks_nowhere ts)) ∙ sym (map-append (λ (t : defs.Token). t.tok) (all_shown p.tokens.taken.items) (map token_nowhere ts));
-        has_events = ap (named keep no_names) d.2 ∙ all
-            ∙ ap (λ vs. Some (events_of given ++ vs)) (sym (events_nowhere n.0)) ∙ ap Some (sym (map-append (λ (e : Ev × Position). e.0) given (map event_nowhere n.0)));
-        has_positions = ap (λ xs. taken_positions xs (positions_of (given ++ map event_nowhere n.0))) d.2
-            ∙ ap (taken_positions (a.raw ++ es)) (map-append (λ (e : Ev × Position). e.1) given (map event_nowhere n.0))
+        has_raw = d.2;
+        has_events = all ∙ ap (λ vs. Some (events_of given ++ vs)) (sym (events_nowhere n.0)) ∙ ap Some (sym (map-append (λ (e : Ev × Position). e.0) given (map event_nowhere n.0)));
+        has_positions = ap (taken_positions (a.raw ++ es)) (map-append (λ (e : Ev × Position). e.1) given (map event_nowhere n.0))
             ∙ taken_positions_append a.raw es (positions_of given) (positions_of (map event_nowhere n.0)) (a.count ∙ sym (positions_length given))
             ∙ ap (λ ps. ps ++ taken_positions es (positions_of (map event_nowhere n.0))) a.positions
             ∙ ap (λ ps. given_positions (all_shown p.tokens.taken.items) ++ ps) (ap (taken_positions es) (named_length keep names es n.0 n.1) ∙ even g (rest_events p.stack (ending p.stack)) (rest_tokens p.stack (ending p.stack)) (rest_even p.stack))
             ∙ sym (given_positions_append (all_shown p.tokens.taken.items) (map token_nowhere ts));
       };
-    }
-
--- What was given comes of what was taken.
-pub at_derived : {T : Type 0} {g : Goal} {p : Reader T} {names : Names} {given : List (Ev × Position)} → (a : At g p names given)
-    → IsDerived p.names.keeping.steady p.names.keeping.tags (all_shown p.tokens.taken.items) a.raw given
-at_derived {T} {g} {p} a =
-    let d = a.stands.sound (shortest g) (ending p.stack) in
-    record {
-      begins = record {
-        documents = d.0;
-        more_tokens = still_tokens g p.stack (shortest g) (ending p.stack);
-        more_events = still_events g p.stack (shortest g) (ending p.stack);
-        has_tokens = d.1;
-        has_events = d.2;
-      };
-      resolved = a.resolved;
-      positions = a.positions;
       named = a.events;
+      positions = a.positions;
     }
 
 -- ---- a refused token
@@ -352,36 +328,38 @@ cut {T} {g} {p} {t} {names} {given} here turn a d ts has =
     let o = a.stands.exact d (tok_of t.1 ∷ ts) h b in
     turn a.stands.nested a.stands.fits o.0 o.1 (subst (Begins1 (Some (tok_of t.1))) (sym o.2) refl)
 
-refused : {T : Type 0} {g : Goal} {p : Reader T} {t : Token} {names : Names} {given : List (Ev × Position)}
-    → p.tokens.peeked ≡ Some t → Refuses g p.stack (tok_of t.1) → At g p names given → IsStuck p given
-refused {T} {g} {p} {t} {names} {given} here turn a =
-    record {
-      before = all_shown p.tokens.taken.items;
-      last = shown t;
-      handed = handed_with here a;
-      raw = a.raw;
-      derived = at_derived a;
-      begins = at_begins g p names given a;
-      none = λ steady ts es s. cut here turn a s.documents ts s.has_tokens;
-    }
+-- the problem has no cause but that the grammar goes on with no such token
+abbrev pub HasNoCause : Problem → Type 0
+HasNoCause q = (names : Names) (events : List Ev) (before : List Tok) (last : Tok) → IsCause q names events before last
 
 -- A token of this kind is refused, for a problem that fits it and is not of names, at its position.
-pub refuses : {T : Type 0} {g : Goal} {p : Reader T} {k : Kind} {m : Position} {names : Names} {given : List (Ev × Position)} (q : Problem)
-    → is_of_names q ≡ false → fits q k ≡ true → IfSome p.tokens.peeked (λ t. t.0 ≡ m) → IsOfKind k p.tokens.peeked → ((t : Tok) → kind_of t ≡ k → Refuses g p.stack t) → At g p names given
+pub refuses_for : {T : Type 0} {g : Goal} {p : Reader T} {k : Kind} {m : Position} {names : Names} {given : List (Ev × Position)} (q : Problem)
+    → is_of_names q ≡ false → fits q k ≡ true → IfSome p.tokens.peeked (λ t. t.0 ≡ m) → IsOfKind k p.tokens.peeked → ((t : Tok) → kind_of t ≡ k → Refuses g p.stack t)
+    → ((a : At g p names given) (t : Tok) → kind_of t ≡ k → IsCause q (names_by p.names.keeping a.raw) (events_of given) (taken_toks p.tokens) t) → At g p names given
     → Faulted p given (stop.Own (fault.At q m))
-refuses {T} {g} {p} {k} {m} {names} {given} q free fit mark o turn a =
+refuses_for {T} {g} {p} {k} {m} {names} {given} q free fit mark o turn cause a =
     let l = looked k p.tokens.peeked o in
     let t = l.0 in
-    let no = turn (tok_of t.1) l.2 in (
-      refused l.1 no a,
-      record {
+    let no = turn (tok_of t.1) l.2 in
+    record {
+      blames = record {
         before = all_shown p.tokens.taken.items;
         last = shown t;
         whole = handed_with l.1 a;
+        raw = a.raw;
+        derived = at_derived g p names given a;
+        unnamed = λ d ts es has named. cut l.1 no a d ts has;
         problem = q;
         shown = refl;
         fits_it = ap (fits q) l.2 ∙ fit;
+        cause = cause a (tok_of t.1) l.2;
         stands = inl (sym (if_some_at (λ (x : Token). x.0 ≡ m) mark l.1), λ e. absurd (both_ways (is_of_names q) free (ap is_of_names e)));
         none = λ e. cut l.1 no a;
-      },
-    )
+      };
+    }
+
+-- the same where the grammar is the only cause
+pub refuses : {T : Type 0} {g : Goal} {p : Reader T} {k : Kind} {m : Position} {names : Names} {given : List (Ev × Position)} (q : Problem)
+    → is_of_names q ≡ false → fits q k ≡ true → IfSome p.tokens.peeked (λ t. t.0 ≡ m) → IsOfKind k p.tokens.peeked → ((t : Tok) → kind_of t ≡ k → Refuses g p.stack t) → HasNoCause q → At g p names given
+    → Faulted p given (stop.Own (fault.At q m))
+refuses q free fit mark o turn none a = refuses_for q free fit mark o turn (λ b t h. none _ _ _ t) a

@@ -1,8 +1,8 @@
 -- What holds between two calls, and what it says of the events.
-use Rattle.std.proofs.Common.{◌≡◌, inl, inr, ◌+◌, ◌<◌, List, [], ◌∷◌, ◌++◌, Option, Some, None, option_map, Bool, true, false, ◌||◌, Ok, Err, refl, sym, ap, ◌∙◌, subst, append_assoc, append-nil, unwrap_or, arith}
+use Rattle.std.proofs.Common.{◌≡◌, inl, inr, ◌+◌, ◌<◌, ◌≤◌, length, List, [], ◌∷◌, ◌++◌, Option, Some, None, option_map, Bool, true, false, ◌||◌, Ok, Err, refl, sym, ap, ◌∙◌, subst, append_assoc, append-nil, unwrap_or, arith}
 use Rattle.std.specs.Option.{IsSome, IfSome}
 use Rattle.std.proofs.lemmas.Bool.{both_ways}
-use Rattle.std.proofs.lemmas.List.{map-append}
+use Rattle.std.proofs.lemmas.List.{map-append, length-append}
 use Rattle.defs_text.specs.Position.{Position}
 use Rattle.defs_token.specs.Token as defs
 use Rattle.defs_token.specs.Token.{Tok}
@@ -40,13 +40,16 @@ use Rattle.yaml_parser.specs.Seen.{fault_seen}
 use Rattle.yaml_parser.specs.Parsed.{Parsed, is_stream_end, has_end, read}
 use Rattle.yaml_parser.specs.Blames.{Blames}
 use Rattle.yaml_parser.specs.Derived.{IsDerived}
-use Rattle.yaml_parser.specs.Follows.{Follows, Derives, Refused, IsWhole, Explains, listed}
+use Rattle.yaml_parser.specs.Follows.{Follows, Derives, IsComplete, Refused, IsWhole, Explains, listed}
 use Rattle.yaml_parser.specs.Pulls.{IsSound}
 use Rattle.yaml_parser.specs.View.{fault_kept}
-use Rattle.yaml_parser.specs.At.{At, Answers, Reads, Faulted, IsStuck, is_over, names_at, goal_after_event}
-use Rattle.yaml_parser.specs.Held.{IsHeld, goal_after}
-use Rattle.yaml_parser.specs.Nests.{BeginsNested, AreResolved}
-use Rattle.yaml_parser.proofs.Ends.{state_pending, at_begins, at_derived}
+use Rattle.yaml_parser.specs.At.{At, Answers, Reads, Faulted, is_over, names_at, named_by, names_by, goal_after_event}
+use Rattle.yaml_parser.specs.declared.names.Keeping.{Keeping}
+use Rattle.yaml_parser.specs.Settings.{named_since, names_since, AreAll}
+use Rattle.yaml_parser.specs.Held.{IsHeld, IsMet, Stands, Notes, goal_after}
+use Rattle.yaml_parser.proofs.Since.{since_noted, names_noted, since_other, names_other, since_same}
+use Rattle.yaml_parser.specs.Nests.{BeginsNested}
+use Rattle.yaml_parser.proofs.Ends.{state_pending, at_derived}
 use Rattle.yaml_parser.proofs.Nesting.{at_begins_nested}
 
 -- ---- the stack
@@ -117,7 +120,7 @@ popped {T} p s ss {names} {given} h a = record {
   awake = λ o. a.awake refl;
   over = λ o. absurd (both_ways (is_over (goal_of s)) (state_going s) o);
   count = a.count;
-  resolved = a.resolved;
+  few = a.few;
   positions = a.positions;
   events = a.events;
   names_are = a.names_are;
@@ -155,11 +158,70 @@ pub has_end_snoc : (es : List (Ev × Position)) (e : Ev × Position) → has_end
 has_end_snoc [] e = or_none (is_stream_end e.0)
 has_end_snoc (x ∷ es) e = ap (λ b. is_stream_end x.0 || b) (has_end_snoc es e) ∙ or_assoc (is_stream_end x.0) (has_end es) (is_stream_end e.0)
 
-answered_held : {T : Type 0} (r : Reader T) (es : List (Ev × Position)) (e : Event × Position) → has_end es ≡ false → Answers r es (Ok e) → IsHeld r (es ++ placed e ∷ []) None
-answered_held {T} r es e h a = (
+answered_at : {T : Type 0} (r : Reader T) (es : List (Ev × Position)) (e : Event × Position) → has_end es ≡ false → Answers r es (Ok e) → (names : Names) × At (goal_after (has_end (es ++ placed e ∷ []))) r names (es ++ placed e ∷ [])
+answered_at {T} r es e h a = (
   a.0,
   subst (λ g. At g r a.0 (es ++ placed e ∷ [])) (after_event (ev_of e.0) ∙ ap goal_after (sym (has_end_snoc es (placed e) ∙ ap (λ b. b || is_stream_end (ev_of e.0)) h))) a.1,
 )
+
+-- ---- settings
+
+-- The same reader, with other settings by which the events are named alike.
+pub at_settings : {T : Type 0} {g : Goal} {p : Reader T} {names : Names} {es : List (Ev × Position)} (k : Keeping) → names_at k.tags g names ≡ names_at p.names.keeping.tags g names
+    → (a : At g p names es) → length k.settings.items ≤ length a.raw → named_by k a.raw ≡ named_by p.names.keeping a.raw → names_by k a.raw ≡ names_by p.names.keeping a.raw
+    → At g (record p { names = record (p.names) { keeping = k } }) names es
+at_settings {T} {g} {p} {names} {es} k seen a few named names_same = record {
+  raw = a.raw;
+  stands = a.stands;
+  handed = a.handed;
+  awake = a.awake;
+  over = a.over;
+  count = a.count;
+  few = few;
+  positions = a.positions;
+  events = named ∙ a.events;
+  names_are = names_same ∙ a.names_are;
+  code = subst (IsNamed (record (p.names) { keeping = k })) (sym seen) (record { count = a.code.count; anchors = a.code.anchors; handles = a.code.handles; numbers = a.code.numbers });
+  pending = a.pending;
+}
+
+goal_seen : (b : Bool) (keep : Bool) (names : Names) → names_at keep (goal_after b) names ≡ names
+goal_seen true keep names = refl
+goal_seen false keep names = refl
+
+-- The setting with which the last event was read is noted.
+pub noted_stands : {T : Type 0} (p : Reader T) (k : Keeping) (es : List (Ev × Position)) (names : Names) → Notes p.names.keeping k → At (goal_after (has_end es)) p names es → length p.names.keeping.settings.items + 1 ≡ length es
+    → Stands (record p { names = record (p.names) { keeping = k } }) es
+noted_stands {T} p k es names n a each =
+    let ks = p.names.keeping.settings.items in
+    let keep = p.names.keeping.tags in
+    let more : length (ks ++ keep ∷ []) ≡ length ks + 1 = length-append ks (keep ∷ []) in
+    let all : length k.settings.items ≡ length es = ap length n.settings ∙ more ∙ each in
+    let no_more : length a.raw ≤ length ks + 1 = omega (arith, a.count, each) in
+    record {
+      names = names;
+      here = at_settings k (ap (λ b. names_at b (goal_after (has_end es)) names) n.tags) a (omega (arith, all, a.count))
+          (ap (λ xs. named_since xs k.tags no_names a.raw) n.settings ∙ ap (λ b. named_since (ks ++ keep ∷ []) b no_names a.raw) n.tags ∙ since_noted ks keep no_names a.raw no_more)
+          (ap (λ xs. names_since xs k.tags no_names a.raw) n.settings ∙ ap (λ b. names_since (ks ++ keep ∷ []) b no_names a.raw) n.tags ∙ names_noted ks keep no_names a.raw no_more);
+      each = all;
+    }
+
+-- Another setting counts from now on.
+pub set_stands : {T : Type 0} (p : Reader T) (k : Keeping) (es : List (Ev × Position)) → k.settings ≡ p.names.keeping.settings → Stands p es → Stands (record p { names = record (p.names) { keeping = k } }) es
+set_stands {T} p k es same x =
+    let ks = p.names.keeping.settings.items in
+    let items : k.settings.items ≡ ks = ap (λ h. h.items) same in
+    let a = x.here in
+    let no_more : length a.raw ≤ length ks = omega (arith, a.count, x.each) in
+    record {
+      names = x.names;
+      here = at_settings k (goal_seen (has_end es) k.tags x.names ∙ sym (goal_seen (has_end es) p.names.keeping.tags x.names)) a (subst (λ xs. length xs ≤ length a.raw) (sym items) a.few)
+          (ap (λ xs. named_since xs k.tags no_names a.raw) items ∙ since_other ks k.tags p.names.keeping.tags no_names a.raw no_more)
+          (ap (λ xs. names_since xs k.tags no_names a.raw) items ∙ names_other ks k.tags p.names.keeping.tags no_names a.raw no_more);
+      each = ap length items ∙ x.each;
+    }
+
+-- ---- what the stack says
 
 open_at : {T : Type 0} (b : Bool) (p : Reader T) (s : State) (ss : List State) {names : Names} {es : List (Ev × Position)} → p.stack ≡ s ∷ ss → At (goal_after b) p names es → (b ≡ false) × At at.done p names es
 open_at {T} true p s ss h a = absurd (subst IsBottom h a.stands.fits)
@@ -173,25 +235,27 @@ closed_at {T} false p h a = absurd (subst IsUnder h a.stands.fits)
 
 -- where nothing is awaited, the stream's end was read
 pub closed : {T : Type 0} (p : Reader T) (es : List (Ev × Position)) → p.stack ≡ [] → IsHeld p es None → has_end es ≡ true
-closed {T} p es h x = closed_at (has_end es) p h x.1
+closed {T} p es h x = closed_at (has_end es) p h x.here
 
-pub pulled : {T : Type 0} (p r : Reader T) (s : State) (ss : List State) (es : List (Ev × Position)) (e : Event × Position)
-    → p.stack ≡ s ∷ ss → IsHeld p es None → Reads (goal_of s) (record p { stack = ss }) r (Ok e) → work r < work (record p { stack = ss }) + weight s
-    → (has_end es ≡ false) × (work r < work p) × IsHeld r (es ++ placed e ∷ []) None
-pulled {T} p r s ss es e h x reads less =
-    let o = open_at (has_end es) p s ss h x.1 in
-    (o.0, subst (λ n. work r < n) (popped_work p s ss h) less, answered_held r es e o.0 (reads x.0 es (popped p s ss h o.1)))
+pub pulled : {T : Type 0} (p r : Reader T) (s : State) (ss : List State) (es : List (Ev × Position)) (e : Event × Position) (k : Keeping)
+    → p.stack ≡ s ∷ ss → IsHeld p es None → Reads (goal_of s) (record p { stack = ss }) r (Ok e) → work r < work (record p { stack = ss }) + weight s → r.names.keeping ≡ p.names.keeping → Notes r.names.keeping k
+    → (has_end es ≡ false) × (work r < work p) × Notes p.names.keeping k × IsHeld (record r { names = record (r.names) { keeping = k } }) (es ++ placed e ∷ []) None
+pulled {T} p r s ss es e k h x reads less keep notes =
+    let o = open_at (has_end es) p s ss h x.here in
+    let a = answered_at r es e o.0 (reads x.names es (popped p s ss h o.1)) in
+    let each : length r.names.keeping.settings.items + 1 ≡ length (es ++ placed e ∷ []) = ap (λ q. length q.settings.items + 1) keep ∙ ap (λ n. n + 1) x.each ∙ sym (length-append es (placed e ∷ [])) in
+    (o.0, subst (λ n. work r < n) (popped_work p s ss h) less, subst (λ q. Notes q k) keep notes, noted_stands r k (es ++ placed e ∷ []) a.0 notes a.1 each)
 
 pub failed : {T : Type 0} (p r : Reader T) (s : State) (ss : List State) (es : List (Ev × Position)) (u : Stop)
     → p.stack ≡ s ∷ ss → IsHeld p es None → Reads (goal_of s) (record p { stack = ss }) r (Err u) → (has_end es ≡ false) × Faulted r es u
 failed {T} p r s ss es u h x reads =
-    let o = open_at (has_end es) p s ss h x.1 in
-    (o.0, reads x.0 es (popped p s ss h o.1))
+    let o = open_at (has_end es) p s ss h x.here in
+    (o.0, reads x.names es (popped p s ss h o.1))
 
-pub keeps : {T : Type 0} (p : Pull T) (es : List (Ev × Position)) (u : Stop) {f : ErrorReport} → fault_kept p ≡ Some f → IfSome p.kept (λ k. k.stop ≡ u) → (has_end es ≡ false) × Faulted p.reader es u → IsHeld p.reader es p.kept
+pub keeps : {T : Type 0} (p : Pull T) (es : List (Ev × Position)) (u : Stop) {f : ErrorReport} → fault_kept p ≡ Some f → IfSome p.kept (λ k. k.stop ≡ u) → (has_end es ≡ false) × Faulted p.reader es u → IsHeld p.reader es p.kept × IsMet p.reader es p.kept
 keeps {T} p es u {f} h k x = kept_at p.reader es u p.kept is_kept k x
   where
-    kept_at : (r : Reader T) (es : List (Ev × Position)) (u : Stop) (o : Option KeptStop) → IsSome o → IfSome o (λ k. k.stop ≡ u) → (has_end es ≡ false) × Faulted r es u → IsHeld r es o
+    kept_at : (r : Reader T) (es : List (Ev × Position)) (u : Stop) (o : Option KeptStop) → IsSome o → IfSome o (λ k. k.stop ≡ u) → (has_end es ≡ false) × Faulted r es u → IsHeld r es o × IsMet r es o
     kept_at r es u None i k x = cc
     kept_at r es u (Some z) i k x = (x.0, subst (Faulted r es) (sym k) x.1)
 
@@ -202,16 +266,20 @@ keeps {T} p es u {f} h k x = kept_at p.reader es u p.kept is_kept k x
     is_kept : IsSome p.kept
     is_kept = some_map (λ z. fault_seen z.stop z.mark (scanned p.reader.tokens.scanner).fault) p.kept h
 
+-- A fault that was kept is not met again.
+pub kept_again : {T : Type 0} (r : Reader T) (es : List (Ev × Position)) {o : Option KeptStop} {k : KeptStop} → o ≡ Some k → o ≡ None → IsMet r es o
+kept_again {T} r es {o} {k} h none = let no : None ≡ Some k = sym none ∙ h in cc
+
 pub failed_as : {T : Type 0} {p q : Reader T} (es : List (Ev × Position)) (u : Stop) → p ≡ q → (has_end es ≡ false) × Faulted q es u → (has_end es ≡ false) × Faulted p es u
 failed_as {T} {p} {q} es u h x = (x.0, subst (λ r. Faulted r es u) (sym h) x.1)
 
 -- ---- at the beginning
 
 pub begun : {T : Type 0} (p : Reader T) → p.stack ≡ state.StreamStart ∷ [] → p.tokens.peeked ≡ None → p.tokens.taken.items ≡ [] → (scanned p.tokens.scanner).given ≡ [] → (scanned p.tokens.scanner).ended ≡ false → IsNamed p.names no_names
-    → IsHeld p [] None
-begun {T} p stack peeked taken given ended code = (
-  no_names,
-  record {
+    → p.names.keeping.settings.items ≡ [] → IsHeld p [] None
+begun {T} p stack peeked taken given ended code none = record {
+  names = no_names;
+  here = record {
     raw = [];
     stands = subst (λ ss. IsOnTrack at.done ss (taken_toks p.tokens) (peeked_tok p.tokens) []) (sym stack) (subst (λ ts. IsOnTrack at.done (state.StreamStart ∷ []) (toks (all_shown ts)) (peeked_tok p.tokens) []) (sym taken) (record {
       nested = (tt, tt);
@@ -223,14 +291,15 @@ begun {T} p stack peeked taken given ended code = (
     awake = λ o. ended ∙ sym (ap ends peeked);
     over = λ o. peeked;
     count = refl;
-    resolved = tt;
+    few = subst (λ xs. length xs ≤ 0) (sym none) (omega arith);
     positions = sym (ap (λ ts. given_positions (all_shown ts)) taken);
-    events = λ b. refl;
-    names_are = λ b. refl;
+    events = ap (λ xs. named_since xs p.names.keeping.tags no_names []) none;
+    names_are = ap (λ xs. names_since xs p.names.keeping.tags no_names []) none;
     code = code;
     pending = tt;
-  },
-)
+  };
+  each = ap length none;
+}
 
 -- ---- what is said of the events
 
@@ -239,6 +308,7 @@ pub record Shows {T : Type 0} (p : Reader T) (es : List (Ev × Position)) (v : P
   pub scanner : v.scanner ≡ scanned p.tokens.scanner
   pub keep_tags : v.keep_tags ≡ p.names.keeping.tags
   pub steady : v.steady ≡ p.names.keeping.steady
+  pub settings : v.settings ≡ p.names.keeping.settings.items
   pub events : read v ≡ es
 
 listed_shown : (o : Option Token) → listed (option_map shown o) ≡ shown_list o
@@ -258,19 +328,40 @@ handed_on {T} p {g} {names} {es} ts us a h =
 same_before : (o : Option (List Ev)) {es fs : List Ev} → o ≡ Some es → o ≡ Some fs → fs ≡ es
 same_before o h k = cc
 
-at_follows : {T : Type 0} {g : Goal} (p : Reader T) (names : Names) (es : List (Ev × Position)) → At g p names es → p.names.keeping.steady ≡ true → (v : Parsed) → Shows p es v → Follows v
+-- all settings were the one that there is
+abbrev pub IsSteady : {T : Type 0} → Reader T → Type 0
+IsSteady p = AreAll p.names.keeping.tags p.names.keeping.settings.items
+
+named_steady : {T : Type 0} (p : Reader T) (v : Parsed) (es : List (Ev × Position)) (raw : List Raw) (vs : List Ev) → IsSteady p → Shows p es v → named_by p.names.keeping raw ≡ Some vs → named v.keep_tags no_names raw ≡ Some vs
+named_steady {T} p v es raw vs steady s h =
+    ap (λ k. named k no_names raw) s.keep_tags ∙ sym (since_same p.names.keeping.settings.items p.names.keeping.tags no_names raw steady) ∙ h
+
+-- Events that come of tokens, where all settings were the same.
+derived_begins : {T : Type 0} (p : Reader T) (v : Parsed) (es : List (Ev × Position)) (before : List defs.Token) (raw : List Raw) → IsSteady p → Shows p es v
+    → IsDerived p.names.keeping.settings.items p.names.keeping.tags before raw es → BeginsPlaced v.keep_tags before (read v)
+derived_begins {T} p v es before raw steady s d = subst (BeginsPlaced v.keep_tags before) (sym s.events) (record {
+  more_tokens = d.more_tokens;
+  more_events = d.more_events;
+  stream = record {
+    documents = d.stream.documents;
+    has_tokens = d.stream.has_tokens;
+    has_events = ap (named v.keep_tags no_names) d.stream.has_raw ∙ named_steady p v es (raw ++ d.more_raw) _ steady s d.stream.has_events;
+    has_positions = ap (λ xs. taken_positions xs (positions_of (es ++ d.more_events))) d.stream.has_raw ∙ d.stream.has_positions;
+  };
+})
+
+at_follows : {T : Type 0} {g : Goal} (p : Reader T) (names : Names) (es : List (Ev × Position)) → At g p names es → IsSteady p → (v : Parsed) → Shows p es v → Follows v
 at_follows {T} {g} p names es a steady v s =
-    let keep = p.names.keeping.tags in
     record {
       before = all_shown p.tokens.taken.items;
       last = option_map shown p.tokens.peeked;
       tokens = ap (λ x. x.given) s.scanner ∙ a.handed ∙ ap (λ xs. all_shown p.tokens.taken.items ++ xs) (sym (listed_shown p.tokens.peeked));
-      begins = subst (λ k. BeginsPlaced k (all_shown p.tokens.taken.items) (read v)) (sym s.keep_tags) (subst (BeginsPlaced keep (all_shown p.tokens.taken.items)) (sym s.events) (at_begins g p names es a steady));
+      begins = derived_begins p v es (all_shown p.tokens.taken.items) a.raw steady s (at_derived g p names es a);
       only = λ ts fs x.
           let h = handed_on p ts (stream_tokens x.documents) a (x.has_tokens ∙ ap (λ z. toks z.given ++ ts) s.scanner) in
           let o = a.stands.exact x.documents (toks (shown_list p.tokens.peeked) ++ ts) h (begins_peeked p.tokens.peeked ts) in
-          let n = named_append keep no_names a.raw (still_events g p.stack o.0 o.1) fs (ap (named keep no_names) (sym o.3) ∙ ap (λ k. named k no_names (stream_events x.documents)) (sym s.keep_tags) ∙ x.has_events) in
-          (n.after, n.whole ∙ ap (λ vs. vs ++ n.after) (same_before (named keep no_names a.raw) (a.events steady) n.of_before ∙ ap events_of (sym s.events)));
+          let n = named_append v.keep_tags no_names a.raw (still_events g p.stack o.0 o.1) fs (ap (named v.keep_tags no_names) (sym o.3) ∙ x.has_events) in
+          (n.after, n.whole ∙ ap (λ vs. vs ++ n.after) (same_before (named v.keep_tags no_names a.raw) (named_steady p v es a.raw (events_of es) steady s a.events) n.of_before ∙ ap events_of (sym s.events)));
     }
 
 -- ---- at the end
@@ -282,12 +373,30 @@ ended_stands [] taken raw s =
     ((d.0, d.1 ∙ append-nil taken, d.2 ∙ append-nil raw), λ e ts h. let o = s.exact e ts h tt in (sym o.2, o.3 ∙ append-nil raw))
 ended_stands (x ∷ ss) taken raw s = absurd s.fits
 
-at_whole : {T : Type 0} (p : Reader T) (names : Names) (es : List (Ev × Position)) → At at.ended p names es → p.names.keeping.steady ≡ true → (v : Parsed) → Shows p es v → IsWhole v
-at_whole {T} p names es a steady v s =
-    let keep = p.names.keeping.tags in
+shown_named : {T : Type 0} (p : Reader T) (v : Parsed) (es : List (Ev × Position)) (raw : List Raw) (vs : List Ev) → Shows p es v → named_by p.names.keeping raw ≡ Some vs → named_since v.settings v.keep_tags no_names raw ≡ Some vs
+shown_named {T} p v es raw vs s h = ap (λ ks. named_since ks v.keep_tags no_names raw) s.settings ∙ ap (λ k. named_since p.names.keeping.settings.items k no_names raw) s.keep_tags ∙ h
+
+at_complete : {T : Type 0} (p : Reader T) (names : Names) (es : List (Ev × Position)) → At at.ended p names es → (v : Parsed) → Shows p es v → IsComplete v
+at_complete {T} p names es a v s =
     let taken : v.scanner.given ≡ all_shown p.tokens.taken.items = ap (λ x. x.given) s.scanner ∙ a.handed ∙ ap (λ o. all_shown p.tokens.taken.items ++ shown_list o) (a.over refl) ∙ append-nil (all_shown p.tokens.taken.items) in
     let o = ended_stands p.stack (taken_toks p.tokens) a.raw (subst (λ x. IsOnTrack at.ended p.stack (taken_toks p.tokens) (option_map (λ (t : Token). tok_of t.1) x) a.raw) (a.over refl) a.stands) in
-    let events : named v.keep_tags no_names a.raw ≡ Some (events_of (read v)) = ap (λ k. named k no_names a.raw) s.keep_tags ∙ a.events steady ∙ ap (λ x. Some (events_of x)) (sym s.events) in
+    record {
+      raw = a.raw;
+      stream = record {
+        documents = o.0.0;
+        has_tokens = o.0.1 ∙ ap toks (sym taken);
+        has_raw = o.0.2;
+        has_events = shown_named p v es a.raw (events_of es) s a.events ∙ ap (λ x. Some (events_of x)) (sym s.events);
+        has_positions = ap (λ x. taken_positions a.raw (positions_of x)) s.events ∙ a.positions ∙ ap given_positions (sym taken);
+      };
+      only = λ d ts h. (o.1 d ts (h ∙ ap (λ z. toks z ++ ts) taken)).0;
+    }
+
+at_whole : {T : Type 0} (p : Reader T) (names : Names) (es : List (Ev × Position)) → At at.ended p names es → IsSteady p → (v : Parsed) → Shows p es v → IsWhole v
+at_whole {T} p names es a steady v s =
+    let taken : v.scanner.given ≡ all_shown p.tokens.taken.items = ap (λ x. x.given) s.scanner ∙ a.handed ∙ ap (λ o. all_shown p.tokens.taken.items ++ shown_list o) (a.over refl) ∙ append-nil (all_shown p.tokens.taken.items) in
+    let o = ended_stands p.stack (taken_toks p.tokens) a.raw (subst (λ x. IsOnTrack at.ended p.stack (taken_toks p.tokens) (option_map (λ (t : Token). tok_of t.1) x) a.raw) (a.over refl) a.stands) in
+    let events : named v.keep_tags no_names a.raw ≡ Some (events_of (read v)) = named_steady p v es a.raw (events_of es) steady s a.events ∙ ap (λ x. Some (events_of x)) (sym s.events) in
     record {
       stream = record {
         documents = o.0.0;
@@ -302,22 +411,16 @@ at_whole {T} p names es a steady v s =
 
 -- ---- between two calls
 
-held_follows_at : {T : Type 0} (b : Bool) (p : Reader T) (names : Names) (es : List (Ev × Position)) → At (goal_after b) p names es → p.names.keeping.steady ≡ true → (v : Parsed) → Shows p es v → Follows v
-held_follows_at {T} b p names es a steady v s = at_follows p names es a steady v s
-
-held_whole_at : {T : Type 0} (b : Bool) (p : Reader T) (names : Names) (es : List (Ev × Position)) → b ≡ true → At (goal_after b) p names es → p.names.keeping.steady ≡ true → (v : Parsed) → Shows p es v → IsWhole v
-held_whole_at {T} true p names es h a steady v s = at_whole p names es a steady v s
-held_whole_at {T} false p names es h a steady v s = cc
+held_whole_at : {T : Type 0} (b : Bool) (p : Reader T) (names : Names) (es : List (Ev × Position)) → b ≡ true → At (goal_after b) p names es → (v : Parsed) → Shows p es v → IsComplete v × (IsSteady p → IsWhole v)
+held_whole_at {T} true p names es h a v s = (at_complete p names es a v s, λ steady. at_whole p names es a steady v s)
+held_whole_at {T} false p names es h a v s = cc
 
 -- the same of what the reader shows
 shown_derived : {T : Type 0} (p : Reader T) (es : List (Ev × Position)) (before : List defs.Token) (raw : List Raw) (v : Parsed) → Shows p es v
-    → IsDerived p.names.keeping.steady p.names.keeping.tags before raw es → IsDerived v.steady v.keep_tags before raw (read v)
-shown_derived {T} p es before raw v s d = record {
-  begins = d.begins;
-  resolved = subst (λ xs. AreResolved raw (events_of xs)) (sym s.events) d.resolved;
-  positions = ap (λ xs. taken_positions raw (positions_of xs)) s.events ∙ d.positions;
-  named = λ b. ap (λ k. named k no_names raw) s.keep_tags ∙ d.named (sym s.steady ∙ b) ∙ ap (λ xs. Some (events_of xs)) (sym s.events);
-}
+    → IsDerived p.names.keeping.settings.items p.names.keeping.tags before raw es → IsDerived v.settings v.keep_tags before raw (read v)
+shown_derived {T} p es before raw v s d =
+    subst (λ ks. IsDerived ks v.keep_tags before raw (read v)) (sym s.settings)
+    (subst (λ k. IsDerived p.names.keeping.settings.items k before raw (read v)) (sym s.keep_tags) (subst (IsDerived p.names.keeping.settings.items p.names.keeping.tags before raw) (sym s.events) d))
 
 at_derives : {T : Type 0} {g : Goal} (p : Reader T) (names : Names) (es : List (Ev × Position)) → At g p names es → (v : Parsed) → Shows p es v → Derives v
 at_derives {T} {g} p names es a v s = record {
@@ -325,52 +428,66 @@ at_derives {T} {g} p names es a v s = record {
   last = option_map shown p.tokens.peeked;
   tokens = ap (λ x. x.given) s.scanner ∙ a.handed ∙ ap (λ xs. all_shown p.tokens.taken.items ++ xs) (sym (listed_shown p.tokens.peeked));
   raw = a.raw;
-  derived = shown_derived p es (all_shown p.tokens.taken.items) a.raw v s (at_derived a);
+  derived = shown_derived p es (all_shown p.tokens.taken.items) a.raw v s (at_derived g p names es a);
   only = λ d ts h.
       let k = handed_on p ts (stream_tokens d) a (h ∙ ap (λ z. toks z.given ++ ts) s.scanner) in
       let o = a.stands.exact d (toks (shown_list p.tokens.peeked) ++ ts) k (begins_peeked p.tokens.peeked ts) in
       (still_events g p.stack o.0 o.1, o.3);
 }
 
-pub held_sound : {T : Type 0} (p : Reader T) (es : List (Ev × Position)) → IsHeld p es None → (v : Parsed) → v.fault ≡ None → Shows p es v → IsSound v
-held_sound {T} p es x v none s = record {
+-- whether all settings were the one that there is, as the code knows it
+abbrev pub KnowsSteady : {T : Type 0} → Reader T → Type 0
+KnowsSteady p = p.names.keeping.steady ≡ true → IsSteady p
+
+shown_steady : {T : Type 0} (p : Reader T) (es : List (Ev × Position)) (v : Parsed) → Shows p es v → KnowsSteady p → v.steady ≡ true → AreAll v.keep_tags v.settings
+shown_steady {T} p es v s known steady =
+    subst (λ ks. AreAll v.keep_tags ks) (sym s.settings) (subst (λ k. AreAll k p.names.keeping.settings.items) (sym s.keep_tags) (known (sym s.steady ∙ steady)))
+
+pub held_sound : {T : Type 0} (p : Reader T) (es : List (Ev × Position)) → IsHeld p es None → KnowsSteady p → (v : Parsed) → v.fault ≡ None → Shows p es v → IsSound v
+held_sound {T} p es x known v none s = record {
   fault = none;
-  nested = subst (λ xs. BeginsNested (events_of xs)) (sym s.events) (at_begins_nested (goal_after (has_end es)) p x.0 es x.1);
-  derives = at_derives p x.0 es x.1 v s;
-  follows = λ steady. at_follows p x.0 es x.1 (sym s.steady ∙ steady) v s;
-  whole = λ steady end. held_whole_at (has_end es) p x.0 es (ap has_end (sym s.events) ∙ end) x.1 (sym s.steady ∙ steady) v s;
+  nested = subst (λ xs. BeginsNested (events_of xs)) (sym s.events) (at_begins_nested (goal_after (has_end es)) p x.names es x.here);
+  derives = at_derives p x.names es x.here v s;
+  complete = λ end. (held_whole_at (has_end es) p x.names es (ap has_end (sym s.events) ∙ end) x.here v s).0;
+  steady = shown_steady p es v s known;
+  follows = λ steady. at_follows p x.names es x.here (known (sym s.steady ∙ steady)) v s;
+  whole = λ steady end. (held_whole_at (has_end es) p x.names es (ap has_end (sym s.events) ∙ end) x.here v s).1 (known (sym s.steady ∙ steady));
 }
 
-stuck_refused : {T : Type 0} (p : Reader T) (es : List (Ev × Position)) → IsStuck p es → p.names.keeping.steady ≡ true → (v : Parsed) → Shows p es v → Refused v
-stuck_refused {T} p es x steady v s = record {
+blames_refused : {T : Type 0} (p : Reader T) (es : List (Ev × Position)) {f : ErrorReport} → Blames f p.names.keeping.settings.items p.names.keeping.tags (scanned p.tokens.scanner).given es → IsSteady p → (v : Parsed) → Shows p es v → Refused v
+blames_refused {T} p es x steady v s = record {
   before = x.before;
   last = x.last;
-  tokens = ap (λ z. z.given) s.scanner ∙ x.handed;
-  begins = subst (λ k. BeginsPlaced k x.before (read v)) (sym s.keep_tags) (subst (BeginsPlaced p.names.keeping.tags x.before) (sym s.events) (x.begins steady));
-  none = λ ts fs y. x.none steady ts fs (subst (λ k. IsStream k (toks (scanned p.tokens.scanner).given ++ ts) fs) s.keep_tags (subst (λ z. IsStream v.keep_tags (toks z.given ++ ts) fs) s.scanner y));
+  tokens = ap (λ z. z.given) s.scanner ∙ x.whole;
+  begins = derived_begins p v es x.before x.raw steady s x.derived;
+  none = λ ts fs y.
+      let h : stream_tokens y.documents ≡ toks (scanned p.tokens.scanner).given ++ ts = y.has_tokens ∙ ap (λ z. toks z.given ++ ts) s.scanner in
+      x.unnamed y.documents ts fs h (since_same p.names.keeping.settings.items p.names.keeping.tags no_names (stream_events y.documents) steady ∙ ap (λ k. named k no_names (stream_events y.documents)) (sym s.keep_tags) ∙ y.has_events);
 }
 
-explained : {T : Type 0} (p : Reader T) (es : List (Ev × Position)) (u : Stop) (m : Position) (f : ErrorReport) → fault_seen u m (scanned p.tokens.scanner).fault ≡ f → Faulted p es u → (v : Parsed) → Shows p es v → Explains f v
-explained {T} p es (stop.Own OutOfMemory) m f h x v s = inr (inl (record { memory = ap (λ z. z.memory) (sym h); text = ap (λ z. z.text) (sym h) }))
-explained {T} p es (stop.Own (fault.At q n)) m f h x v s =
+shown_blames : {T : Type 0} (p : Reader T) (es : List (Ev × Position)) {f : ErrorReport} (v : Parsed) → Shows p es v → Blames f p.names.keeping.settings.items p.names.keeping.tags (scanned p.tokens.scanner).given es
+    → Blames f v.settings v.keep_tags v.scanner.given (read v)
+shown_blames {T} p es {f} v s x =
+    subst (λ ks. Blames f ks v.keep_tags v.scanner.given (read v)) (sym s.settings)
+    (subst (λ k. Blames f p.names.keeping.settings.items k v.scanner.given (read v)) (sym s.keep_tags)
+    (subst (λ ts. Blames f p.names.keeping.settings.items p.names.keeping.tags ts (read v)) (ap (λ z. z.given) (sym s.scanner))
+    (subst (Blames f p.names.keeping.settings.items p.names.keeping.tags (scanned p.tokens.scanner).given) (sym s.events) x)))
+
+explained : {T : Type 0} (p : Reader T) (es : List (Ev × Position)) (u : Stop) (m : Position) (f : ErrorReport) → fault_seen u m (scanned p.tokens.scanner).fault ≡ f → Faulted p es u → KnowsSteady p → (v : Parsed) → Shows p es v → Explains f v
+explained {T} p es (stop.Own OutOfMemory) m f h x known v s = inr (inl (record { memory = ap (λ z. z.memory) (sym h); text = ap (λ z. z.text) (sym h) }))
+explained {T} p es (stop.Own (fault.At q n)) m f h x known v s =
     inr (inr (record {
-      blames = subst (λ g. Blames g v.scanner.given) h (subst (Blames (fault_of (fault.At q n) n)) (ap (λ z. z.given) (sym s.scanner)) x.1);
-      stopped = record {
-        before = x.0.before;
-        last = x.0.last;
-        tokens = ap (λ z. z.given) s.scanner ∙ x.0.handed;
-        raw = x.0.raw;
-        derived = shown_derived p es x.0.before x.0.raw v s x.0.derived;
-      };
-      refused = λ steady. stuck_refused p es x.0 (sym s.steady ∙ steady) v s;
+      blames = subst (λ g. Blames g v.settings v.keep_tags v.scanner.given (read v)) h (shown_blames p es v s x.blames);
+      steady = shown_steady p es v s known;
+      refused = λ steady. blames_refused p es x.blames (known (sym s.steady ∙ steady)) v s;
     }))
-explained {T} p es stop.Scan m f h x v s = inl (ap (λ z. z.fault) s.scanner ∙ kept_some (scanned p.tokens.scanner).fault _ x h)
+explained {T} p es stop.Scan m f h x known v s = inl (ap (λ z. z.fault) s.scanner ∙ kept_some (scanned p.tokens.scanner).fault _ x h)
   where
     kept_some : (o : Option ErrorReport) (d : ErrorReport) {g : ErrorReport} → IsSome o → unwrap_or o d ≡ g → o ≡ Some g
     kept_some None d i e = cc
     kept_some (Some y) d i e = ap Some e
-explained {T} p es stop.Ended m f h x v s = absurd x
+explained {T} p es stop.Ended m f h x known v s = absurd x
 
-pub held_explained : {T : Type 0} (p : Reader T) (es : List (Ev × Position)) (o : Option KeptStop) (f : ErrorReport) → option_map (λ k. fault_seen k.stop k.mark (scanned p.tokens.scanner).fault) o ≡ Some f → IsHeld p es o → (v : Parsed) → Shows p es v → Explains f v
-held_explained {T} p es None f h x v s = cc
-held_explained {T} p es (Some k) f h x v s = let e : fault_seen k.stop k.mark (scanned p.tokens.scanner).fault ≡ f = cc in explained p es k.stop k.mark f e x.1 v s
+pub held_explained : {T : Type 0} (p : Reader T) (es : List (Ev × Position)) (o : Option KeptStop) (f : ErrorReport) → option_map (λ k. fault_seen k.stop k.mark (scanned p.tokens.scanner).fault) o ≡ Some f → IsMet p es o → KnowsSteady p → (v : Parsed) → Shows p es v → Explains f v
+held_explained {T} p es None f h x known v s = cc
+held_explained {T} p es (Some k) f h x known v s = let e : fault_seen k.stop k.mark (scanned p.tokens.scanner).fault ≡ f = cc in explained p es k.stop k.mark f e x known v s

@@ -12,4 +12,5 @@ pub mod Parsing
 pub mod Peeking
 pub mod Positions
 pub mod Resolved
+pub mod Since
 pub mod Steps

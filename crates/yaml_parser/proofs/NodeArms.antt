@@ -19,9 +19,9 @@ use Rattle.defs_event.specs.Event.{Ev}
 use Rattle.defs_event.specs.Raw.{Raw}
 use Rattle.defs_event.specs.Grammar as written
 use Rattle.defs_event.specs.Grammar.{perhaps_anchor_of, perhaps_tag_of, stream_tokens, stream_events, items_events, flow_pairs_events, entries_events, pairs_events, perhaps_events, dashes_events, scalar, flow_sequence, flow_mapping, flow, block_sequence, block_mapping, flow_properties, block_properties}
-use Rattle.defs_event.specs.Names.{Names, number, with_anchor, names_after, names_after_all, both, named, no_names, resolved_event, perhaps_resolved, resolved, under_name}
+use Rattle.defs_event.specs.Names.{Names, number, with_anchor, names_after, both, named, no_names, resolved_event, perhaps_resolved, resolved, under_name, prefix_of}
 use Rattle.defs_token.specs.Toks.{toks}
-use Rattle.defs_event.specs.Stream.{has_position, gives_position, BeginsPlaced as Opens}
+use Rattle.defs_event.specs.Stream.{events_of, has_position, gives_position}
 use Rattle.model_parser.specs.declared.kind.Kind.{Kind}
 use Rattle.model_parser.specs.declared.context.NodeContext as positions
 use Rattle.model_parser.specs.declared.context.NodeContext.TheVariants as context
@@ -44,17 +44,18 @@ use Rattle.yaml_parser.specs.declared.tokens.Stop.TheVariants as stop
 use Rattle.yaml_parser.specs.declared.reader.Reader.{Reader}
 use Rattle.yaml_parser.specs.declared.tokens.Tokens.{Tokens}
 use Rattle.yaml_parser.specs.Ahead.{Skips, SkipsOne}
-use Rattle.yaml_parser.specs.Blames.{fits, is_of_names, StandsAt, EndsInAnchor}
+use Rattle.yaml_parser.specs.Blames.{fits, is_of_names, IsCause, HasUnknownAnchor, HasUndeclaredHandle, StandsAt, EndsInAnchor}
 use Rattle.yaml_parser.specs.Derived.{IsDerived}
 use Rattle.yaml_parser.specs.Handed.{taken_toks, peeked_tok, shown_list}
 use Rattle.yaml_parser.specs.Kinds.{IsOfKind}
 use Rattle.yaml_parser.specs.Named.{IsNamed}
 use Rattle.yaml_parser.specs.Properties.{Has, Registers, name_of, kept_tag}
 use Rattle.yaml_parser.specs.Shown.{placed}
-use Rattle.yaml_parser.specs.At.{At, Answers, Faulted, IsStuck, goal_after_event, IsPending}
+use Rattle.yaml_parser.specs.At.{At, Answers, Faulted, named_by, names_by, goal_after_event, IsPending}
 use Rattle.yaml_parser.proofs.Steps.{looked, took, took_on, left, Named, map_snoc, if_some_at}
 use Rattle.yaml_parser.proofs.Arms.{Skipped, stays, stay, not_as, faulted_as}
-use Rattle.yaml_parser.proofs.Ends.{at_begins, at_derived, ending}
+use Rattle.yaml_parser.proofs.Ends.{at_derived, ending}
+use Rattle.yaml_parser.proofs.Since.{since_stops}
 
 -- ---- an event with properties
 
@@ -146,64 +147,43 @@ Unnameable keep s es = named keep s es ≡ None
 pub unnameable_first : (keep : Bool) (s : Names) (e : Raw) (es : List Raw) → resolved_event s e ≡ None → Unnameable keep s (e ∷ es)
 unnameable_first keep s e es h = ap (λ o. both o (named keep (names_after keep s e) es)) h
 
-both_none : (o : Option Ev) → both o None ≡ None
-both_none None = refl
-both_none (Some v) = refl
-
-named_stops : (keep : Bool) (s : Names) (es fs : List Raw) → named keep (names_after_all keep s es) fs ≡ None → named keep s (es ++ fs) ≡ None
-named_stops keep s [] fs h = h
-named_stops keep s (e ∷ es) fs h = ap (both (resolved_event s e)) (named_stops keep (names_after keep s e) es fs h) ∙ both_none (resolved_event s e)
-
--- The token was taken, and nothing that goes on after it can be named.
-unnamed : {T : Type 0} {g g' : Goal} {p r : Reader T} {t : Token} {ss : List State} {e : Option Raw} {names : Names} {given : List (Ev × Position)}
-    → p.tokens.peeked ≡ Some t → Skips p.tokens t r.tokens → r.names.keeping ≡ p.names.keeping → Takes g p.stack (tok_of t.1) e g' ss
-    → ((x : Awaits g') (y : Rest ss) → Unnameable p.names.keeping.tags names (event_then e (still_events g' ss x y)))
-    → At g p names given → IsStuck r given
-unnamed {T} {g} {g'} {p} {r} {t} {ss} {e} {names} {given} here skips keep turn bad a =
-    let kept = p.names.keeping.tags in
-    let handed : (scanned r.tokens.scanner).given ≡ all_shown p.tokens.taken.items ++ shown t ∷ [] =
-    ap (λ x. (scanned x).given) skips.scanner ∙ a.handed ∙ ap (λ o. all_shown p.tokens.taken.items ++ shown_list o) here in
-    record {
-      before = all_shown p.tokens.taken.items;
-      last = shown t;
-      handed = handed;
-      raw = a.raw;
-      derived = subst (λ k. IsDerived k.steady k.tags (all_shown p.tokens.taken.items) a.raw given) (sym keep) (at_derived a);
-      begins = λ steady. subst (λ k. Opens k.tags (all_shown p.tokens.taken.items) given) (sym keep) (at_begins g p names given a (ap (λ k. k.steady) (sym keep) ∙ steady));
-      none = λ steady ts es s.
-          let before : p.names.keeping.steady ≡ true = ap (λ k. k.steady) (sym keep) ∙ steady in
-          let h : stream_tokens s.documents ≡ taken_toks p.tokens ++ (tok_of t.1 ∷ ts) =
-          s.has_tokens ∙ ap (λ xs. toks xs ++ ts) handed ∙ ap (λ xs. xs ++ ts) (map_snoc (λ (x : defs.Token). x.tok) (all_shown p.tokens.taken.items) (shown t)) ∙ append_assoc (taken_toks p.tokens) (tok_of t.1 ∷ []) ts in
-          let b : Starts (peeked_tok p.tokens) (tok_of t.1 ∷ ts) = subst (λ o. Starts (option_map (λ (x : Token). tok_of x.1) o) (tok_of t.1 ∷ ts)) (sym here) refl in
-          let o = a.stands.exact s.documents (tok_of t.1 ∷ ts) h b in
-          let n = turn.goes a.stands.nested a.stands.fits o.0 o.1 ts o.2 in
-          let no : named kept no_names (stream_events s.documents) ≡ None =
-          ap (named kept no_names) (o.3 ∙ ap (λ xs. a.raw ++ xs) n.3)
-          ∙ named_stops kept no_names a.raw _ (ap (λ z. named kept z (event_then e (still_events g' ss n.0 n.1))) (a.names_are before) ∙ bad n.0 n.1) in
-          let yes : named kept no_names (stream_events s.documents) ≡ Some es = ap (λ k. named k.tags no_names (stream_events s.documents)) (sym keep) ∙ s.has_events in
-          let clash : None ≡ Some es = sym no ∙ yes in
-          cc;
-    }
-
--- So it is refused, for a problem of names that fits it.
+-- The token was taken, and nothing that goes on after it can be named: so it is refused, for a problem of names that fits it.
 pub unnamed_at : {T : Type 0} {g g' : Goal} {p r : Reader T} {t : Token} {m : Position} {ss : List State} {e : Option Raw} {names : Names} {given : List (Ev × Position)} (q : Problem)
     → fits q (kind_of (tok_of t.1)) ≡ true → is_of_names q ≡ true → StandsAt q m (all_shown p.tokens.taken.items) (shown t)
     → p.tokens.peeked ≡ Some t → Skips p.tokens t r.tokens → r.names.keeping ≡ p.names.keeping → Takes g p.stack (tok_of t.1) e g' ss
     → ((x : Awaits g') (y : Rest ss) → Unnameable p.names.keeping.tags names (event_then e (still_events g' ss x y)))
+    → IsCause q names (events_of given) (taken_toks p.tokens) (tok_of t.1)
     → At g p names given → Faulted r given (stop.Own (fault.At q m))
-unnamed_at {T} {p = p} {r = r} {t = t} q fit of_names stands here skips keep turn bad a = (
-  unnamed here skips keep turn bad a,
-  record {
-    before = all_shown p.tokens.taken.items;
-    last = shown t;
-    whole = ap (λ x. (scanned x).given) skips.scanner ∙ a.handed ∙ ap (λ o. all_shown p.tokens.taken.items ++ shown_list o) here;
-    problem = q;
-    shown = refl;
-    fits_it = fit;
-    stands = stands;
-    none = λ e. absurd (both_ways (is_of_names q) e of_names);
-  },
-)
+unnamed_at {T} {g} {g'} {p} {r} {t} {m} {ss} {e} {names} {given} q fit of_names stands here skips keep turn bad cause a =
+    let handed : (scanned r.tokens.scanner).given ≡ all_shown p.tokens.taken.items ++ shown t ∷ [] =
+    ap (λ x. (scanned x).given) skips.scanner ∙ a.handed ∙ ap (λ o. all_shown p.tokens.taken.items ++ shown_list o) here in
+    record {
+      blames = record {
+        before = all_shown p.tokens.taken.items;
+        last = shown t;
+        whole = handed;
+        raw = a.raw;
+        derived = subst (λ k. IsDerived k.settings.items k.tags (all_shown p.tokens.taken.items) a.raw given) (sym keep) (at_derived g p names given a);
+        unnamed = λ d ts es has resolved.
+            let h : stream_tokens d ≡ taken_toks p.tokens ++ (tok_of t.1 ∷ ts) =
+            has ∙ ap (λ xs. toks xs ++ ts) handed ∙ ap (λ xs. xs ++ ts) (map_snoc (λ (x : defs.Token). x.tok) (all_shown p.tokens.taken.items) (shown t)) ∙ append_assoc (taken_toks p.tokens) (tok_of t.1 ∷ []) ts in
+            let b : Starts (peeked_tok p.tokens) (tok_of t.1 ∷ ts) = subst (λ o. Starts (option_map (λ (x : Token). tok_of x.1) o) (tok_of t.1 ∷ ts)) (sym here) refl in
+            let o = a.stands.exact d (tok_of t.1 ∷ ts) h b in
+            let n = turn.goes a.stands.nested a.stands.fits o.0 o.1 ts o.2 in
+            let no : named_by p.names.keeping (stream_events d) ≡ None =
+            ap (named_by p.names.keeping) (o.3 ∙ ap (λ xs. a.raw ++ xs) n.3)
+            ∙ since_stops p.names.keeping.settings.items p.names.keeping.tags no_names a.raw _ a.few (ap (λ z. named p.names.keeping.tags z (event_then e (still_events g' ss n.0 n.1))) a.names_are ∙ bad n.0 n.1) in
+            let yes : named_by p.names.keeping (stream_events d) ≡ Some es = ap (λ k. named_by k (stream_events d)) (sym keep) ∙ resolved in
+            let clash : None ≡ Some es = sym no ∙ yes in
+            cc;
+        problem = q;
+        shown = refl;
+        fits_it = fit;
+        cause = subst (λ z. IsCause q z (events_of given) (taken_toks p.tokens) (tok_of t.1)) (sym (ap (λ k. names_by k a.raw) keep ∙ a.names_are)) cause;
+        stands = stands;
+        none = λ e. absurd (both_ways (is_of_names q) e of_names);
+      };
+    }
 
 -- ---- small steps
 
@@ -286,7 +266,7 @@ pub alias_unknown : {T : Type 0} {p r : Reader T} {t : Token} {m : Position} {w 
     → p.tokens.peeked ≡ Some t → t.0 ≡ m → Skips p.tokens t r.tokens → r.names ≡ p.names → tok_of t.1 ≡ Tok.alias x → under_name x names.anchors ≡ None → At (at.node w) p names given → Faulted r given (stop.Own (fault.At UnknownAnchor m))
 alias_unknown {T} {p} {r} {t} {m} {w} {x} {names} {given} here mark skips same tok missing a =
     unnamed_at UnknownAnchor (ap (λ u. fits UnknownAnchor (kind_of u)) tok) refl (inl (sym mark, λ e. absurd (unknown_is_other e))) here skips (ap (λ z. z.keeping) same) (subst (λ u. Takes (at.node w) p.stack u (Some (Raw.alias x)) at.done p.stack) (sym tok) (turn.node_alias w p.stack x))
-    (λ y z. unnameable_first p.names.keeping.tags names (Raw.alias x) (still_events at.done p.stack y z) (ap (option_map Ev.alias) missing)) a
+    (λ y z. unnameable_first p.names.keeping.tags names (Raw.alias x) (still_events at.done p.stack y z) (ap (option_map Ev.alias) missing)) (subst (HasUnknownAnchor names) (sym tok) missing) a
 
 pub anchor_taken : {T : Type 0} {p r : Reader T} {t : Token} {w : positions.NodeContext} {x : List ℕ} {names : Names} {given : List (Ev × Position)}
     → p.tokens.peeked ≡ Some t → Skips p.tokens t r.tokens → r.stack ≡ p.stack → r.names ≡ p.names → tok_of t.1 ≡ Tok.anchor x → At (at.node w) p names given → At (at.after_anchor w x) r names given
@@ -359,17 +339,23 @@ no_anchor_before {T} {p} {m} w a e =
     no_two_anchors d.0 (toks e.before) n.0 [] rest
     (d.1 ∙ ap (λ xs. taken_toks p.tokens ++ xs) (begins_with_anchor w rest) ∙ ap (λ xs. xs ++ Tok.anchor [] ∷ rest) taken ∙ append_assoc (toks e.before) (Tok.anchor n.0 ∷ []) (Tok.anchor [] ∷ rest))
 
+no_prefix : (x : event.Tag) (o : Option (List ℕ)) → option_map {U = event.Tag} (λ prefix. record { handle = prefix; suffix = x.suffix }) o ≡ None → o ≡ None
+no_prefix x None h = refl
+no_prefix x (Some p) h = cc
+
 pub tag_unknown : {T : Type 0} {p r : Reader T} {t : Token} {m : Position} {w : positions.NodeContext} {x : event.Tag} {names : Names} {given : List (Ev × Position)}
     → p.tokens.peeked ≡ Some t → t.0 ≡ m → Skips p.tokens t r.tokens → r.names ≡ p.names → tok_of t.1 ≡ written.tag_token x → resolved names.handles x ≡ None → At (at.node w) p names given → Faulted r given (stop.Own (fault.At UndeclaredHandle m))
 tag_unknown {T} {p} {r} {t} {m} {w} {x} {names} {given} here mark skips same tok missing a =
     unnamed_at UndeclaredHandle (ap (λ u. fits UndeclaredHandle (kind_of u)) tok) refl (inl (sym mark, λ e q before. no_anchor_before w a before)) here skips (ap (λ z. z.keeping) same) (subst (λ z. Takes (at.node w) p.stack z None (at.after_tag w x) p.stack) (sym tok) (turn.node_tag w p.stack x))
-    (λ y z. content_unnameable p.names.keeping.tags names w (Some (tag_and x y.0)) y.1 (rest_events p.stack z) (ap (perhaps_resolved names.handles) (tag_and_tag x y.0) ∙ ap (option_map Some) missing)) a
+    (λ y z. content_unnameable p.names.keeping.tags names w (Some (tag_and x y.0)) y.1 (rest_events p.stack z) (ap (perhaps_resolved names.handles) (tag_and_tag x y.0) ∙ ap (option_map Some) missing))
+    (subst (HasUndeclaredHandle names) (sym tok) (no_prefix x (prefix_of names.handles x.handle) missing)) a
 
 pub tag_unknown_after : {T : Type 0} {p r : Reader T} {t : Token} {m : Position} {w : positions.NodeContext} {v : List ℕ} {x : event.Tag} {names : Names} {given : List (Ev × Position)}
     → p.tokens.peeked ≡ Some t → EndsInAnchor (all_shown p.tokens.taken.items) m → Skips p.tokens t r.tokens → r.names ≡ p.names → tok_of t.1 ≡ written.tag_token x → resolved names.handles x ≡ None → At (at.after_anchor w v) p names given → Faulted r given (stop.Own (fault.At UndeclaredHandle m))
 tag_unknown_after {T} {p} {r} {t} {m} {w} {v} {x} {names} {given} here anchored skips same tok missing a =
     unnamed_at UndeclaredHandle (ap (λ u. fits UndeclaredHandle (kind_of u)) tok) refl (inr (refl, anchored)) here skips (ap (λ z. z.keeping) same) (subst (λ z. Takes (at.after_anchor w v) p.stack z None (at.after_properties w (Some (written.anchored_tagged v x))) p.stack) (sym tok) (turn.anchor_tag w p.stack v x))
-    (λ y z. content_unnameable p.names.keeping.tags names w (Some (written.anchored_tagged v x)) y.0 (rest_events p.stack z) (ap (option_map Some) missing)) a
+    (λ y z. content_unnameable p.names.keeping.tags names w (Some (written.anchored_tagged v x)) y.0 (rest_events p.stack z) (ap (option_map Some) missing))
+    (subst (HasUndeclaredHandle names) (sym tok) (no_prefix x (prefix_of names.handles x.handle) missing)) a
 
 -- An anchor was taken, and then a token was looked at.
 pub anchor_before : {T : Type 0} {p q : Tokens T} (r : Tokens T) {t : Token} {m : Position} → Skips p t q → r.taken ≡ q.taken → kind_of (tok_of t.1) ≡ kind.Anchor → t.0 ≡ m → EndsInAnchor (all_shown r.taken.items) m

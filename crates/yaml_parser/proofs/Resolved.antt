@@ -1,19 +1,14 @@
 -- Events and the raw ones that they come of, side by side.
-use Rattle.std.proofs.Common.{◌≡◌, List, [], ◌∷◌, ◌++◌, Some, true, ap}
-use Rattle.defs_text.specs.Position.{Position}
+use Rattle.std.proofs.Common.{◌≡◌, Bool, Option, List, [], ◌∷◌, ◌++◌, Some, sym, ap, subst}
 use Rattle.defs_event.specs.Event.{Ev}
 use Rattle.defs_event.specs.Raw.{Raw}
-use Rattle.defs_event.specs.Names.{Names, both, resolved_event}
-use Rattle.defs_event.specs.Stream.{events_of}
+use Rattle.defs_event.specs.Names.{Names, named, both, names_after, resolved_event}
+use Rattle.defs_event.proofs.NameLemmas.{NamedFirst, both_some}
 use Rattle.defs_event.proofs.Shaped.{Shaped, named_shaped}
-use Rattle.yaml_parser.specs.Nests.{AreResolved}
+use Rattle.yaml_parser.specs.Settings.{named_since}
 
--- One more is resolved.
-pub resolved_more : (m : Position) (rs : List Raw) (given : List (Ev × Position)) → AreResolved rs (events_of given) → (names : Names) (r : Raw) (v : Ev) → resolved_event names r ≡ Some v → AreResolved (rs ++ r ∷ []) (events_of (given ++ (v, m) ∷ []))
-resolved_more m [] [] a names r v h = ((names, h), tt)
-resolved_more m [] (e ∷ es) a names r v h = absurd a
-resolved_more m (x ∷ rs) [] a names r v h = absurd a
-resolved_more m (x ∷ rs) (e ∷ es) a names r v h = (a.0, resolved_more m rs es a.1 names r v h)
+alone : (k : Bool) (s : Names) (r : Raw) (v : Ev) → resolved_event s r ≡ Some v → Shaped (r ∷ []) (v ∷ [])
+alone k s r v h = named_shaped k s (r ∷ []) (v ∷ []) (ap (λ o. both o (Some [])) h)
 
 -- A resolved event has its raw one's shape.
 one_more : (r : Raw) (v : Ev) (rs : List Raw) (vs : List Ev) → Shaped (r ∷ []) (v ∷ []) → Shaped rs vs → Shaped (r ∷ rs) (v ∷ vs)
@@ -31,11 +26,17 @@ one_more (Raw.flow_mapping_start a t) v rs vs h k = (h.0, h.1, vs, cc, k)
 one_more (Raw.mapping_start a t) v rs vs h k = (h.0, h.1, vs, cc, k)
 one_more Raw.mapping_end v rs vs h k = (vs, cc, k)
 
--- Resolved events, and others of this shape after them, have the shape of all.
-pub resolved_shaped : (rs more : List Raw) (vs ws : List Ev) → AreResolved rs vs → Shaped more ws → Shaped (rs ++ more) (vs ++ ws)
-resolved_shaped [] more [] ws a h = h
-resolved_shaped [] more (v ∷ vs) ws a h = absurd a
-resolved_shaped (r ∷ rs) more [] ws a h = absurd a
-resolved_shaped (r ∷ rs) more (v ∷ vs) ws a h =
-    let one = named_shaped true a.0.0 (r ∷ []) (v ∷ []) (ap (λ o. both o (Some [])) a.0.1) in
-    one_more r v (rs ++ more) (vs ++ ws) one (resolved_shaped rs more vs ws a.1 h)
+-- the first event, and the shape of the others
+first_shaped : (k : Bool) (s : Names) (r : Raw) (rs : List Raw) (os : Option (List Ev)) (vs ws : List Ev) → (f : NamedFirst (resolved_event s r) os vs) → Shaped rs (f.more ++ ws) → Shaped (r ∷ rs) (vs ++ ws)
+first_shaped k s r rs os vs ws f x = subst (λ us. Shaped (r ∷ rs) (us ++ ws)) (sym f.whole) (one_more r f.event rs (f.more ++ ws) (alone k s r f.event f.is_first) x)
+
+-- Events, and others of this shape after them, have the shape of all.
+pub since_shaped : (ks : List Bool) (k : Bool) (s : Names) (rs more : List Raw) (vs ws : List Ev) → named_since ks k s rs ≡ Some vs → Shaped more ws → Shaped (rs ++ more) (vs ++ ws)
+since_shaped [] k s [] more vs ws h x = let none : [] ≡ vs = cc in subst (λ us. Shaped more (us ++ ws)) none x
+since_shaped [] k s (r ∷ rs) more vs ws h x =
+    let f = both_some (resolved_event s r) (named k (names_after k s r) rs) vs h in
+    first_shaped k s r (rs ++ more) (named k (names_after k s r) rs) vs ws f (since_shaped [] k (names_after k s r) rs more f.more ws f.are_more x)
+since_shaped (j ∷ ks) k s [] more vs ws h x = let none : [] ≡ vs = cc in subst (λ us. Shaped more (us ++ ws)) none x
+since_shaped (j ∷ ks) k s (r ∷ rs) more vs ws h x =
+    let f = both_some (resolved_event s r) (named_since ks k (names_after j s r) rs) vs h in
+    first_shaped k s r (rs ++ more) (named_since ks k (names_after j s r) rs) vs ws f (since_shaped ks k (names_after j s r) rs more f.more ws f.are_more x)

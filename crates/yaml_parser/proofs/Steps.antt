@@ -1,5 +1,6 @@
 -- The turns over the code's state.
-use Rattle.std.proofs.Common.{◌≡◌, List, [], ◌∷◌, ◌++◌, Option, Some, None, option_map, Bool, true, false, ◌||◌, Result, Ok, Err, refl, sym, ap, ◌∙◌, subst, append-nil, map}
+use Rattle.std.proofs.Common.{◌≡◌, ℕ, ◌≤◌, length, List, [], ◌∷◌, ◌++◌, Option, Some, None, option_map, Bool, true, false, ◌||◌, Result, Ok, Err, refl, sym, ap, ◌∙◌, subst, append-nil, map, arith}
+use Rattle.std.proofs.lemmas.List.{length-append}
 use Rattle.std.proofs.lemmas.Bool.{or_parts, both_ways}
 use Rattle.defs_text.specs.Position.{Position}
 use Rattle.defs_token.specs.Token as defs
@@ -10,7 +11,7 @@ use Rattle.yaml_scanner.specs.Scanned.{scanned}
 use Rattle.yaml_scanner_state.specs.Tokens.{is_end}
 use Rattle.defs_event.specs.Event.{Ev}
 use Rattle.defs_event.specs.Raw.{Raw}
-use Rattle.defs_event.specs.Names.{Names, no_names, named, both, names_after, names_after_all, resolved_event}
+use Rattle.defs_event.specs.Names.{Names, no_names, named, both, names_after, resolved_event}
 use Rattle.defs_token.specs.Toks.{toks}
 use Rattle.defs_event.specs.Stream.{events_of, given_positions, has_position, gives_position}
 use Rattle.model_parser.specs.declared.kind.Kind.{Kind}
@@ -20,6 +21,7 @@ use Rattle.model_parser.specs.Goal.{Goal}
 use Rattle.model_parser.specs.Stands.{IsOnTrack}
 use Rattle.model_parser.specs.Turn.{Takes, Leaves}
 use Rattle.model_parser.proofs.Carry.{stands_take, stands_leave}
+use Rattle.yaml_parser.specs.declared.names.Keeping.{Keeping}
 use Rattle.yaml_parser.specs.declared.tokens.Tokens.{Tokens}
 use Rattle.yaml_parser.specs.declared.reader.Reader.{Reader}
 use Rattle.yaml_parser.specs.Ahead.{Skips}
@@ -32,8 +34,8 @@ use Rattle.yaml_parser.specs.declared.tokens.Missing.{Missing}
 use Rattle.yaml_parser.specs.declared.tokens.Missing.TheVariants as missing
 use Rattle.yaml_parser.specs.declared.tokens.Stop.{Stop}
 use Rattle.yaml_parser.proofs.Positions.{IsPlaced, count_more, positions_took, positions_took_on, positions_left}
-use Rattle.yaml_parser.proofs.Resolved.{resolved_more}
-use Rattle.yaml_parser.specs.At.{At, is_over, names_at, IsPending, Faulted, Fails}
+use Rattle.yaml_parser.proofs.Since.{since_append, since_after}
+use Rattle.yaml_parser.specs.At.{At, is_over, names_at, named_by, names_by, IsPending, Faulted, Fails}
 
 -- ---- lists
 
@@ -41,26 +43,8 @@ pub map_snoc : {A B : Type 0} (f : A → B) (xs : List A) (x : A) → map f (xs 
 map_snoc f [] x = refl
 map_snoc f (y ∷ xs) x = ap (λ zs. f y ∷ zs) (map_snoc f xs x)
 
-taken_snoc : (ts : List Token) (t : Token) → toks (all_shown (ts ++ t ∷ [])) ≡ toks (all_shown ts) ++ tok_of t.1 ∷ []
+pub taken_snoc : (ts : List Token) (t : Token) → toks (all_shown (ts ++ t ∷ [])) ≡ toks (all_shown ts) ++ tok_of t.1 ∷ []
 taken_snoc ts t = ap toks (map_snoc shown ts t) ∙ map_snoc (λ (x : defs.Token). x.tok) (all_shown ts) (shown t)
-
-pub after_snoc : (keep : Bool) (s : Names) (es : List Raw) (e : Raw) → names_after_all keep s (es ++ e ∷ []) ≡ names_after keep (names_after_all keep s es) e
-after_snoc keep s [] e = refl
-after_snoc keep s (x ∷ es) e = after_snoc keep (names_after keep s x) es e
-
-both_some : (o : Option Ev) (p : Option (List Ev)) (vs : List Ev) → both o p ≡ Some vs → (v : Ev) × (ws : List Ev) × (o ≡ Some v) × (p ≡ Some ws) × (vs ≡ v ∷ ws)
-both_some None p vs h = cc
-both_some (Some v) None vs h = cc
-both_some (Some v) (Some ws) vs h = (v, ws, refl, refl, cc)
-
-pub named_snoc : (keep : Bool) (s : Names) (es : List Raw) (e : Raw) (vs : List Ev) (v : Ev) → named keep s es ≡ Some vs → resolved_event (names_after_all keep s es) e ≡ Some v → named keep s (es ++ e ∷ []) ≡ Some (vs ++ v ∷ [])
-named_snoc keep s [] e vs v h r =
-    let x : vs ≡ [] = cc in
-    ap (λ o. both o (Some [])) r ∙ ap (λ ws. Some (ws ++ v ∷ [])) (sym x)
-named_snoc keep s (x ∷ es) e vs v h r =
-    let b = both_some (resolved_event s x) (named keep (names_after keep s x) es) vs h in
-    let i = named_snoc keep (names_after keep s x) es e b.1 v b.3 r in
-    ap (λ o. both o (named keep (names_after keep s x) (es ++ e ∷ []))) b.2 ∙ ap (λ p. both (Some b.0) p) i ∙ ap (λ ws. Some (ws ++ v ∷ [])) (sym b.4)
 
 -- ---- tokens
 
@@ -99,17 +83,26 @@ pub record Named {T : Type 0} (p r : Reader T) (g' : Goal) (names : Names) (e : 
   pub code : IsNamed r.names (names_at r.names.keeping.tags g' names')
   pub pending : IsPending names' g'
 
+-- the settings are no more than the events, also after one more
+few_more : (n : ℕ) (raw : List Raw) (e : Raw) → n ≤ length raw → n ≤ length (raw ++ e ∷ [])
+few_more n raw e h = omega (arith, h, length-append raw (e ∷ []))
+
 events_more : {T : Type 0} (m : Position) {p r : Reader T} {g g' : Goal} {names names' : Names} {e : Raw} {v : Ev} {given : List (Ev × Position)}
-    → Named p r g' names e v names' → (a : At g p names given) → r.names.keeping.steady ≡ true
-    → (named r.names.keeping.tags no_names (a.raw ++ e ∷ []) ≡ Some (events_of (given ++ (v, m) ∷ []))) × (names_after_all r.names.keeping.tags no_names (a.raw ++ e ∷ []) ≡ names')
-events_more {T} m {p} {r} {g} {g'} {names} {names'} {e} {v} {given} n a steady =
-    let keep = p.names.keeping.tags in
-    let before : p.names.keeping.steady ≡ true = ap (λ k. k.steady) (sym n.keep) ∙ steady in
-    let one : named keep no_names (a.raw ++ e ∷ []) ≡ Some (events_of given ++ v ∷ []) = named_snoc keep no_names a.raw e (events_of given) v (a.events before) (ap (λ s. resolved_event s e) (a.names_are before) ∙ n.resolves) in
-    let two : names_after_all keep no_names (a.raw ++ e ∷ []) ≡ names' = after_snoc keep no_names a.raw e ∙ ap (λ s. names_after keep s e) (a.names_are before) ∙ n.after_it in (
-      ap (λ k. named k.tags no_names (a.raw ++ e ∷ [])) n.keep ∙ one ∙ ap Some (sym (map_snoc (λ (x : Ev × Position). x.0) given (v, m))),
-      ap (λ k. names_after_all k.tags no_names (a.raw ++ e ∷ [])) n.keep ∙ two,
-    )
+    → Named p r g' names e v names' → (a : At g p names given) → named_by r.names.keeping (a.raw ++ e ∷ []) ≡ Some (events_of (given ++ (v, m) ∷ []))
+events_more {T} m {p} {r} {g} {g'} {names} {names'} {e} {v} {given} n a =
+    let k = p.names.keeping in
+    let last : named k.tags (names_by k a.raw) (e ∷ []) ≡ Some (v ∷ []) = ap (λ o. both o (Some [])) (ap (λ s. resolved_event s e) a.names_are ∙ n.resolves) in
+    ap (λ k. named_by k (a.raw ++ e ∷ [])) n.keep ∙ since_append k.settings.items k.tags no_names a.raw (e ∷ []) (events_of given) (v ∷ []) a.few a.events last
+    ∙ ap Some (sym (map_snoc (λ (x : Ev × Position). x.0) given (v, m)))
+
+names_more : {T : Type 0} {p r : Reader T} {g g' : Goal} {names names' : Names} {e : Raw} {v : Ev} {given : List (Ev × Position)}
+    → Named p r g' names e v names' → (a : At g p names given) → names_by r.names.keeping (a.raw ++ e ∷ []) ≡ names'
+names_more {T} {p} {r} {g} {g'} {names} {names'} {e} {v} {given} n a =
+    let k = p.names.keeping in
+    ap (λ k. names_by k (a.raw ++ e ∷ [])) n.keep ∙ since_after k.settings.items k.tags no_names a.raw e a.few ∙ ap (λ s. names_after k.tags s e) a.names_are ∙ n.after_it
+
+few_kept : {j k : Keeping} (raw : List Raw) → k ≡ j → length j.settings.items ≤ length raw → length k.settings.items ≤ length raw
+few_kept {j} {k} raw keep h = subst (λ k. length k.settings.items ≤ length raw) (sym keep) h
 
 -- The token is taken, and an event is given.
 pub took : {T : Type 0} (m : Position) {g g' : Goal} {p r : Reader T} {t : Token} {ss' : List State} {e : Raw} {v : Ev} {names names' : Names} {given : List (Ev × Position)}
@@ -125,10 +118,10 @@ took {T} m {g} {g'} {p} {r} {t} {ss'} {e} {v} {names} {names'} {given} here s to
       awake = λ o. skipped_awake here s (wakes o).1 (a.awake (wakes o).0);
       over = λ o. s.peeked;
       count = count_more m a.raw e v given a.count;
-      resolved = resolved_more m a.raw given a.resolved names e v n.resolves;
+      few = few_kept (a.raw ++ e ∷ []) n.keep (few_more (length p.names.keeping.settings.items) a.raw e a.few);
       positions = positions_took m a.raw e v given p.tokens.taken.items t r.tokens.taken.items s.taken a.count spot a.positions;
-      events = λ b. (events_more m n a b).0;
-      names_are = λ b. (events_more m n a b).1;
+      events = events_more m n a;
+      names_are = names_more n a;
       code = n.code;
       pending = n.pending;
     }
@@ -147,10 +140,10 @@ took_on {T} {g} {g'} {p} {r} {t} {ss'} {names} {given} here s to turn keep code 
       awake = λ o. skipped_awake here s (wakes o).1 (a.awake (wakes o).0);
       over = λ o. s.peeked;
       count = a.count;
-      resolved = a.resolved;
+      few = few_kept a.raw keep a.few;
       positions = positions_took_on a.raw given p.tokens.taken.items t r.tokens.taken.items s.taken spot a.positions;
-      events = λ b. ap (λ k. named k.tags no_names a.raw) keep ∙ a.events (ap (λ k. k.steady) (sym keep) ∙ b);
-      names_are = λ b. ap (λ k. names_after_all k.tags no_names a.raw) keep ∙ a.names_are (ap (λ k. k.steady) (sym keep) ∙ b);
+      events = ap (λ k. named_by k a.raw) keep ∙ a.events;
+      names_are = ap (λ k. names_by k a.raw) keep ∙ a.names_are;
       code = code;
       pending = pending;
     }
@@ -171,10 +164,10 @@ left {T} m {g} {g'} {p} {r} {o} {ss'} {e} {v} {names} {names'} {given} here same
       awake = λ w. subst IsAwake (sym same) (a.awake (or_parts (is_over g) (is_over g') wakes).0);
       over = λ w. absurd (both_ways (is_over g') (or_parts (is_over g) (is_over g') wakes).1 w);
       count = count_more m a.raw e v given a.count;
-      resolved = resolved_more m a.raw given a.resolved names e v n.resolves;
+      few = few_kept (a.raw ++ e ∷ []) n.keep (few_more (length p.names.keeping.settings.items) a.raw e a.few);
       positions = positions_left m a.raw e v given (all_shown p.tokens.taken.items) (all_shown r.tokens.taken.items) (ap (λ x. all_shown x.taken.items) same) a.count spot a.positions;
-      events = λ b. (events_more m n a b).0;
-      names_are = λ b. (events_more m n a b).1;
+      events = events_more m n a;
+      names_are = names_more n a;
       code = n.code;
       pending = n.pending;
     }
@@ -195,10 +188,10 @@ left_as {T} {g} {g'} {p} {r} {o} {ss'} {names} {given} here same to turn keep co
       awake = λ w. subst IsAwake (sym same) (a.awake (or_parts (is_over g) (is_over g') wakes).0);
       over = λ w. absurd (both_ways (is_over g') (or_parts (is_over g) (is_over g') wakes).1 w);
       count = a.count;
-      resolved = a.resolved;
+      few = few_kept a.raw keep a.few;
       positions = a.positions ∙ sym (ap (λ x. given_positions (all_shown x.taken.items)) same);
-      events = λ b. ap (λ k. named k.tags no_names a.raw) keep ∙ a.events (ap (λ k. k.steady) (sym keep) ∙ b);
-      names_are = λ b. ap (λ k. names_after_all k.tags no_names a.raw) keep ∙ a.names_are (ap (λ k. k.steady) (sym keep) ∙ b);
+      events = ap (λ k. named_by k a.raw) keep ∙ a.events;
+      names_are = ap (λ k. names_by k a.raw) keep ∙ a.names_are;
       code = code;
       pending = pending;
     }
@@ -230,10 +223,10 @@ looks_on {T} {p} {r} taken same handed awake stack names_same {g} {names} {given
       awake = λ o. awake (a.awake o);
       over = λ o. absurd (both_ways (is_over g) going o);
       count = a.count;
-      resolved = a.resolved;
+      few = few_kept a.raw (ap (λ n. n.keeping) names_same) a.few;
       positions = a.positions ∙ sym (ap (λ x. given_positions (all_shown x.items)) taken);
-      events = λ b. ap (λ n. named n.keeping.tags no_names a.raw) names_same ∙ a.events (ap (λ n. n.keeping.steady) (sym names_same) ∙ b);
-      names_are = λ b. ap (λ n. names_after_all n.keeping.tags no_names a.raw) names_same ∙ a.names_are (ap (λ n. n.keeping.steady) (sym names_same) ∙ b);
+      events = ap (λ n. named_by n.keeping a.raw) names_same ∙ a.events;
+      names_are = ap (λ n. names_by n.keeping a.raw) names_same ∙ a.names_are;
       code = subst (λ n. IsNamed n (names_at n.keeping.tags g names)) (sym names_same) a.code;
       pending = a.pending;
     }

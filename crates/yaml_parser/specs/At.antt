@@ -1,34 +1,32 @@
 -- Where the productions stand.
-use Rattle.std.specs.Prelude.{◌≡◌, length, List, [], ◌∷◌, ◌++◌, Bool, true, false, Some, None, IsSome, Result, Ok, Err}
+use Rattle.std.specs.Prelude.{◌≡◌, ◌≤◌, length, List, Option, [], ◌∷◌, ◌++◌, Bool, true, false, Some, None, IsSome, Result, Ok, Err}
 use Rattle.defs_text.specs.Position.{Position}
-use Rattle.defs_token.specs.Token as defs
-use Rattle.defs_token.specs.Token.{Tok}
 use Rattle.yaml_tokens.specs.declared.token.Token.{Token}
 use Rattle.yaml_tokens.specs.declared.problem.Fault.TheVariants.{OutOfMemory}
 use Rattle.yaml_tokens.specs.declared.problem.Fault.TheVariants as fault
+use Rattle.yaml_tokens.specs.declared.problem.Problem.{Problem}
 use Rattle.yaml_tokens.specs.Problem.{fault_of}
 use Rattle.yaml_tokens.specs.Shown.{all_shown}
 use Rattle.yaml_scanner.specs.Scanned.{scanned}
 use Rattle.defs_event.specs.Event.{Ev}
 use Rattle.defs_event.specs.Raw.{Raw}
 use Rattle.defs_event.specs.Grammar.{tag_of}
-use Rattle.defs_event.specs.Names.{Names, no_names, named, names_after_all, at_document, are_allowed, resolved, perhaps_resolved}
-use Rattle.defs_token.specs.Toks.{toks}
-use Rattle.defs_event.specs.Stream.{BeginsPlaced, NoneBegins, events_of, positions_of, taken_positions, given_positions}
+use Rattle.defs_event.specs.Names.{Names, no_names, at_document, are_allowed, resolved, perhaps_resolved}
+use Rattle.defs_event.specs.Stream.{events_of, positions_of, taken_positions, given_positions}
 use Rattle.model_parser.specs.Goal as at
 use Rattle.model_parser.specs.Goal.{Goal}
 use Rattle.model_parser.specs.Stands.{IsOnTrack}
 use Rattle.model_parser.specs.declared.state.State.{State}
 use Rattle.yaml_parser.specs.declared.event.Event.{Event}
+use Rattle.yaml_parser.specs.declared.names.Keeping.{Keeping}
 use Rattle.yaml_parser.specs.declared.tokens.Stop.{Stop}
 use Rattle.yaml_parser.specs.declared.tokens.Stop.TheVariants as stop
 use Rattle.yaml_parser.specs.declared.reader.Reader.{Reader}
 use Rattle.yaml_parser.specs.Ahead.{Skips}
 use Rattle.yaml_parser.specs.Blames.{Blames}
-use Rattle.yaml_parser.specs.Derived.{IsDerived}
 use Rattle.yaml_parser.specs.Handed.{taken_toks, peeked_tok, IsHanded, IsAwake}
 use Rattle.yaml_parser.specs.Named.{IsNamed}
-use Rattle.yaml_parser.specs.Nests.{AreResolved}
+use Rattle.yaml_parser.specs.Settings.{named_since, names_since}
 use Rattle.yaml_parser.specs.Shown.{placed, ev_of}
 
 abbrev pub is_over : Goal → Bool
@@ -36,6 +34,14 @@ is_over at.ended = true
 is_over _ = false
 
 -- ---- names
+
+-- all events with their names resolved, by the settings with which they are read
+abbrev pub named_by : Keeping → List Raw → Option (List Ev)
+named_by k raw = named_since k.settings.items k.tags no_names raw
+
+-- the names after them
+abbrev pub names_by : Keeping → List Raw → Names
+names_by k raw = names_since k.settings.items k.tags no_names raw
 
 -- the names that are kept where this is read: directives count as soon as they are read
 abbrev pub names_at : Bool → Goal → Names → Names
@@ -59,26 +65,20 @@ pub record At {T : Type 0} (g : Goal) (p : Reader T) (names : Names) (given : Li
   pub awake : is_over g ≡ false → IsAwake p.tokens
   pub over : is_over g ≡ true → p.tokens.peeked ≡ None
   pub count : length raw ≡ length given
-  pub resolved : AreResolved raw (events_of given)
+  pub few : length p.names.keeping.settings.items ≤ length raw
   pub positions : taken_positions raw (positions_of given) ≡ given_positions (all_shown p.tokens.taken.items)
-  pub events : p.names.keeping.steady ≡ true → named p.names.keeping.tags no_names raw ≡ Some (events_of given)
-  pub names_are : p.names.keeping.steady ≡ true → names_after_all p.names.keeping.tags no_names raw ≡ names
+  pub events : named_by p.names.keeping raw ≡ Some (events_of given)
+  pub names_are : names_by p.names.keeping raw ≡ names
   pub code : IsNamed p.names (names_at p.names.keeping.tags g names)
   pub pending : IsPending names g
 
 -- The last token was refused.
-pub record IsStuck {T : Type 0} (p : Reader T) (given : List (Ev × Position)) : Type 0 where
-  pub before : List defs.Token
-  pub last : defs.Token
-  pub handed : (scanned p.tokens.scanner).given ≡ before ++ last ∷ []
-  pub raw : List Raw
-  pub derived : IsDerived p.names.keeping.steady p.names.keeping.tags before raw given
-  pub begins : p.names.keeping.steady ≡ true → BeginsPlaced p.names.keeping.tags before given
-  pub none : p.names.keeping.steady ≡ true → NoneBegins p.names.keeping.tags (toks (scanned p.tokens.scanner).given)
+pub record IsStuck {T : Type 0} (p : Reader T) (given : List (Ev × Position)) (problem : Problem) (mark : Position) : Type 0 where
+  pub blames : Blames (fault_of (fault.At problem mark) mark) p.names.keeping.settings.items p.names.keeping.tags (scanned p.tokens.scanner).given given
 
 abbrev pub Faulted : {T : Type 0} → Reader T → List (Ev × Position) → Stop → Type 0
 Faulted p given (stop.Own OutOfMemory) = Unit {0}
-Faulted p given (stop.Own (fault.At problem mark)) = IsStuck p given × Blames (fault_of (fault.At problem mark) mark) (scanned p.tokens.scanner).given
+Faulted p given (stop.Own (fault.At problem mark)) = IsStuck p given problem mark
 Faulted p given stop.Scan = IsSome (scanned p.tokens.scanner).fault
 Faulted p given stop.Ended = ⊥
 

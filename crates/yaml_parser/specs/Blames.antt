@@ -1,5 +1,5 @@
 -- The parser's own fault: what it says of the token that is refused.
-use Rattle.std.specs.Prelude.{◌≡◌, ◌⊎◌, List, [], ◌∷◌, ◌++◌, Bool, true, false, not, codes}
+use Rattle.std.specs.Prelude.{◌≡◌, ◌⊎◌, List, [], ◌∷◌, ◌++◌, Bool, true, false, not, codes, None}
 use Rattle.defs_text.specs.Position.{Position}
 use Rattle.defs_token.specs.Token.{Tok, Token}
 use Rattle.yaml_tokens.specs.ErrorReport.{ErrorReport}
@@ -7,12 +7,19 @@ use Rattle.yaml_tokens.specs.Problem.{fault_of}
 use Rattle.yaml_tokens.specs.declared.problem.Fault.TheVariants as fault
 use Rattle.yaml_tokens.specs.declared.problem.Problem.{Problem}
 use Rattle.yaml_tokens.specs.declared.problem.Problem.TheVariants as problem
-use Rattle.defs_event.specs.Grammar.{Documents, stream_tokens}
+use Rattle.defs_event.specs.Event.{Ev}
+use Rattle.defs_event.specs.Raw.{Raw, Directive}
+use Rattle.defs_event.specs.Grammar.{Documents, stream_tokens, directive_token, directives_tokens}
+use Rattle.defs_event.specs.Names.{Names, no_names, under_name, prefix_of, are_allowed}
+use Rattle.defs_event.specs.Stream.{events_of}
 use Rattle.defs_token.specs.Toks.{toks}
 use Rattle.model_parser.specs.declared.kind.Kind.{Kind}
 use Rattle.model_parser.specs.declared.kind.Kind.TheVariants as kind
 use Rattle.model_parser.specs.declared.context.NodeContext.TheVariants as context
 use Rattle.model_parser.specs.Kinds.{kind_of, is_directive, begins_content, ends_item, ends_flow_pair}
+use Rattle.yaml_parser.specs.Derived.{IsDerived, NoneIsNamed}
+use Rattle.yaml_parser.specs.Nests.{is_open}
+use Rattle.yaml_parser.specs.Settings.{names_since}
 
 -- what goes on in a block sequence
 abbrev pub is_entry_or_end : Kind → Bool
@@ -64,14 +71,51 @@ StandsAt p position before last =
     ((position ≡ last.position) × (p ≡ problem.UndeclaredHandle → (q : Position) → EndsInAnchor before q → ⊥))
     ⊎ ((p ≡ problem.UndeclaredHandle) × EndsInAnchor before position)
 
--- The fault refuses the last of these tokens: it has a text of the parser's that fits the token, and stands at it.
-pub record Blames (f : ErrorReport) (tokens : List Token) : Type 0 where
+-- ---- why a problem is named
+
+-- No anchor so far in the document has the alias's name.
+abbrev pub HasUnknownAnchor : Names → Tok → Type 0
+HasUnknownAnchor names (Tok.alias name) = under_name name names.anchors ≡ None
+HasUnknownAnchor names t = ⊥
+
+-- The tag's handle stands for nothing.
+abbrev pub HasUndeclaredHandle : Names → Tok → Type 0
+HasUndeclaredHandle names (Tok.tag handle suffix) = prefix_of names.handles handle ≡ None
+HasUndeclaredHandle names t = ⊥
+
+-- The document's directives so far, which stand right before the token, are allowed; with this one they are not.
+pub record SpoilsDirectives (before : List Tok) (last : Tok) : Type 0 where
+  pub earlier : List Tok
+  pub read : List Directive
+  pub directive : Directive
+  pub before_are : before ≡ earlier ++ directives_tokens read []
+  pub last_is : last ≡ directive_token directive
+  pub allowed : are_allowed read ≡ true
+  pub spoilt : are_allowed (read ++ directive ∷ []) ≡ false
+
+-- What must be so where this problem is named: after events that leave these names, and after these tokens.
+abbrev pub IsCause : Problem → Names → List Ev → List Tok → Tok → Type 0
+-- no document is open; and after the stream's start, the token begins none
+IsCause problem.DocumentStartToken names events before last = (is_open false events ≡ false) × (last ≡ Tok.document_start → events ≡ [])
+IsCause problem.SecondVersion names events before last = SpoilsDirectives before last
+IsCause problem.RepeatedHandle names events before last = SpoilsDirectives before last
+IsCause problem.UnknownAnchor names events before last = HasUnknownAnchor names last
+IsCause problem.UndeclaredHandle names events before last = HasUndeclaredHandle names last
+IsCause p names events before last = Unit {0}
+
+-- The fault refuses the last of these tokens: it has a text of the parser's that fits the token, and stands at it. The events come of
+-- the tokens before it.
+pub record Blames (f : ErrorReport) (settings : List Bool) (keep_tags : Bool) (tokens : List Token) (events : List (Ev × Position)) : Type 0 where
   pub before : List Token
   pub last : Token
   pub whole : tokens ≡ before ++ last ∷ []
+  pub raw : List Raw
+  pub derived : IsDerived settings keep_tags before raw events
+  pub unnamed : NoneIsNamed settings keep_tags (toks tokens)
   pub problem : Problem
   pub shown : f ≡ fault_of (fault.At problem f.position) f.position
   pub fits_it : fits problem (kind_of last.tok) ≡ true
+  pub cause : IsCause problem (names_since settings keep_tags no_names raw) (events_of events) (toks before) last.tok
   pub stands : StandsAt problem f.position before last
   -- But for a problem of names, the token grammar has no stream that begins so, whatever names mean.
   pub none : is_of_names problem ≡ false → (d : Documents) (ts : List Tok) → stream_tokens d ≡ toks tokens ++ ts → ⊥

@@ -1,14 +1,21 @@
 -- Where directives are read.
-use Rattle.std.specs.Prelude.{◌≡◌, List, Bool, false, if◌then◌else◌, Result, Ok, Err}
+use Rattle.std.specs.Prelude.{◌≡◌, List, [], ◌++◌, Bool, false, if◌then◌else◌, Result, Ok, Err}
 use Rattle.defs_text.specs.Position.{Position}
 use Rattle.defs_event.specs.Event.{Ev}
 use Rattle.defs_event.specs.Raw.{Directive}
+use Rattle.defs_event.specs.Grammar.{directives_tokens}
+use Rattle.defs_token.specs.Token.{Tok}
 use Rattle.defs_event.specs.Names.{Names, versions}
 use Rattle.model_parser.specs.Goal as at
 use Rattle.yaml_parser.specs.declared.tokens.Stop.{Stop}
 use Rattle.yaml_parser.specs.declared.reader.Reader.{Reader}
+use Rattle.yaml_parser.specs.Handed.{taken_toks}
 use Rattle.yaml_parser.specs.Named.{IsOwn}
 use Rattle.yaml_parser.specs.At.{At, Faulted}
+
+-- These tokens end with these directives.
+abbrev pub IsAfter : List Directive → List Tok → Type 0
+IsAfter read tokens = (earlier : List Tok) × (tokens ≡ earlier ++ directives_tokens read [])
 
 -- Some directives were read, a version among them or none.
 pub record Directing {T : Type 0} (p : Reader T) (names : Names) (given : List (Ev × Position)) (versioned : Bool) : Type 0 where
@@ -16,6 +23,7 @@ pub record Directing {T : Type 0} (p : Reader T) (names : Names) (given : List (
   pub here : At (at.directed read) p names given
   pub own : IsOwn p.names read
   pub version : versions read ≡ (if versioned then 1 else 0)
+  pub taken : IsAfter read (taken_toks p.tokens)
 
 -- The directives go on, or one is refused.
 abbrev pub DirectsTo : {T : Type 0} → Reader T → Names → List (Ev × Position) → Bool → Result (Unit {0}) Stop → Type 0

@@ -4,11 +4,13 @@ use Rattle.defs_token.specs.Token.{Tok, Token}
 use Rattle.yaml_tokens.specs.ErrorReport.{ErrorReport}
 use Rattle.defs_event.specs.Event.{Ev}
 use Rattle.defs_event.specs.Raw.{Raw}
+use Rattle.defs_event.specs.Grammar.{Documents, stream_tokens}
 use Rattle.defs_token.specs.Toks.{toks}
 use Rattle.defs_event.specs.Stream.{IsStream, IsPlacedStream, BeginsPlaced, Foretells, NoneBegins, events_of}
 use Rattle.yaml_parser.specs.Blames.{Blames, WantsMemory}
-use Rattle.yaml_parser.specs.Derived.{IsDerived, ForetellsRaw}
+use Rattle.yaml_parser.specs.Derived.{IsDerived, IsStreamSince, ForetellsRaw}
 use Rattle.yaml_parser.specs.Parsed.{Parsed, read}
+use Rattle.yaml_parser.specs.Settings.{AreAll}
 
 abbrev pub listed : Option Token → List Token
 listed None = []
@@ -36,28 +38,26 @@ pub record IsWhole (p : Parsed) : Type 0 where
   pub stream : IsPlacedStream p.keep_tags p.scanner.given (read p)
   pub only : (ts : List Tok) (es : List Ev) → IsStream p.keep_tags (toks p.scanner.given ++ ts) es → (ts ≡ []) × (es ≡ events_of (read p))
 
--- Whatever the setting was: the tokens taken are some before and at most one more. The events read come of those before, and each
+-- Whatever the settings were: the tokens taken are some before and at most one more. The events read come of those before, and each
 -- stream that begins with the tokens taken begins with them.
 pub record Derives (p : Parsed) : Type 0 where
   pub before : List Token
   pub last : Option Token
   pub tokens : p.scanner.given ≡ before ++ listed last
   pub raw : List Raw
-  pub derived : IsDerived p.steady p.keep_tags before raw (read p)
+  pub derived : IsDerived p.settings p.keep_tags before raw (read p)
   pub only : ForetellsRaw (toks p.scanner.given) raw
 
--- Whatever the setting was: where the last token is refused, the events read come of those before.
-pub record Stopped (p : Parsed) : Type 0 where
-  pub before : List Token
-  pub last : Token
-  pub tokens : p.scanner.given ≡ before ++ last ∷ []
+-- Whatever the settings were: the tokens taken are a whole stream, whose events were read. No stream goes on after it.
+pub record IsComplete (p : Parsed) : Type 0 where
   pub raw : List Raw
-  pub derived : IsDerived p.steady p.keep_tags before raw (read p)
+  pub stream : IsStreamSince p.settings p.keep_tags p.scanner.given raw (read p)
+  pub only : (d : Documents) (ts : List Tok) → stream_tokens d ≡ toks p.scanner.given ++ ts → ts ≡ []
 
 -- The last token is refused: by its text and position, and by the grammar.
 pub record IsRefusedAtLast (f : ErrorReport) (p : Parsed) : Type 0 where
-  pub blames : Blames f p.scanner.given
-  pub stopped : Stopped p
+  pub blames : Blames f p.settings p.keep_tags p.scanner.given (read p)
+  pub steady : p.steady ≡ true → AreAll p.keep_tags p.settings
   pub refused : p.steady ≡ true → Refused p
 
 -- Why a fault comes: it is the scanner's, or memory was refused, or the last token is refused.

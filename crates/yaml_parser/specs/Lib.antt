@@ -16,6 +16,7 @@ pub mod Properties
 pub mod Pulls
 pub mod Resolves
 pub mod Seen
+pub mod Settings
 pub mod Shown
 pub mod Stacked
 pub mod View

@@ -1,8 +1,6 @@
 -- Events that are nested, as far as they were read.
-use Rattle.std.specs.Prelude.{◌≡◌, ◌||◌, ◌&&◌, not, List, [], ◌∷◌, ◌++◌, Bool, true, false, Some}
+use Rattle.std.specs.Prelude.{◌≡◌, ◌||◌, ◌&&◌, not, List, [], ◌∷◌, ◌++◌, Bool, true, false}
 use Rattle.defs_event.specs.Event.{Ev}
-use Rattle.defs_event.specs.Raw.{Raw}
-use Rattle.defs_event.specs.Names.{Names, resolved_event}
 use Rattle.defs_event.specs.Nested.{IsNested}
 use Rattle.defs_event.specs.Stream.{events_of}
 use Rattle.yaml_parser.specs.Parsed.{Parsed, is_document_start, is_document_end}
@@ -10,12 +8,6 @@ use Rattle.yaml_parser.specs.Parsed.{Parsed, is_document_start, is_document_end}
 -- These events are a beginning of nested events.
 abbrev pub BeginsNested : List Ev → Type 0
 BeginsNested es = (more : List Ev) × IsNested (es ++ more)
-
--- Each event is the raw one in its place, resolved by some names.
-abbrev pub AreResolved : List Raw → List Ev → Type 0
-AreResolved [] [] = Unit {0}
-AreResolved (r ∷ rs) (e ∷ es) = ((names : Names) × (resolved_event names r ≡ Some e)) × AreResolved rs es
-AreResolved _ _ = ⊥
 
 -- whether a document is open after an event, where one was open before it or was not
 abbrev pub opened : Ev → Bool → Bool

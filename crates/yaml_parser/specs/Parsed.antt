@@ -1,5 +1,5 @@
 -- What clauses see of a parser.
-use Rattle.std.specs.Prelude.{◌||◌, ◌&&◌, not, is_some, ℕ, List, [], ◌∷◌, ◌++◌, Bool, true, false, Option, Some, None}
+use Rattle.std.specs.Prelude.{◌||◌, ◌&&◌, if◌then◌else◌, not, is_some, ℕ, List, [], ◌∷◌, ◌++◌, Bool, true, false, Option, Some, None}
 use Rattle.std.specs.Bool.{beq}
 use Rattle.defs_text.specs.Position.{Position}
 use Rattle.yaml_tokens.specs.ErrorReport.{ErrorReport}
@@ -22,6 +22,8 @@ pub record Parsed : Type 0 where
   pub keep_tags : Bool
   -- whether `keep_tags` was so from the stream's start on
   pub steady : Bool
+  -- the settings of `keep_tags` with which the events were read, one for each
+  pub settings : List Bool
   -- a bound on the events to come before the stream's end: it falls with each
   pub left : ℕ
 
@@ -59,6 +61,10 @@ read_so given false (Some e) = given ++ e ∷ []
 
 abbrev pub read : Parsed → List (Ev × Position)
 read p = read_so p.given p.ended p.ahead
+
+-- the settings after one more event is asked for: one that is read now is read with the setting that there is
+abbrev pub settings_after : Parsed → List Bool
+settings_after p = if is_some p.ahead || p.ended then p.settings else p.settings ++ p.keep_tags ∷ []
 
 -- Nothing was asked for.
 abbrev pub is_fresh : Parsed → Bool

@@ -9,11 +9,12 @@ use Rattle.defs_event.specs.PulledList as answer
 use Rattle.defs_event.specs.Stream.{events_of}
 use Rattle.yaml_parser.specs.declared.event.Event.{Event}
 use Rattle.yaml_parser.specs.Shown.{ev_of, placed}
-use Rattle.yaml_parser.specs.Parsed.{Parse, Parsed, parsed, is_stream_end, has_end, read}
-use Rattle.yaml_parser.specs.Follows.{Follows, Derives, IsWhole, Explains}
+use Rattle.yaml_parser.specs.Parsed.{Parse, Parsed, parsed, is_stream_end, has_end, read, settings_after}
+use Rattle.yaml_parser.specs.Settings.{AreAll}
+use Rattle.yaml_parser.specs.Follows.{Follows, Derives, IsComplete, IsWhole, Explains}
 use Rattle.yaml_parser.specs.Nests.{BeginsNested}
 
--- The settings stay.
+-- The setting stays.
 pub record KeepsSettings (old new : Parsed) : Type 0 where
   pub keep_tags : new.keep_tags ≡ old.keep_tags
   pub steady : new.steady ≡ old.steady
@@ -23,6 +24,8 @@ pub record IsSound (p : Parsed) : Type 0 where
   pub fault : p.fault ≡ None
   pub nested : BeginsNested (events_of (read p))
   pub derives : Derives p
+  pub complete : has_end (read p) ≡ true → IsComplete p
+  pub steady : p.steady ≡ true → AreAll p.keep_tags p.settings
   pub follows : p.steady ≡ true → Follows p
   pub whole : p.steady ≡ true → has_end (read p) ≡ true → IsWhole p
 
@@ -36,6 +39,7 @@ pub record GivesEvent (old : Parsed) (e : Ev × Position) (new : Parsed) : Type 
   pub over : old.ended ≡ true → e.0 ≡ Ev.stream_end
   pub left : e.0 ≢ Ev.stream_end → new.left < old.left
   pub settings : KeepsSettings old new
+  pub noted : new.settings ≡ settings_after old
   pub clear : old.fault ≡ None
   pub sound : IsSound new
 
@@ -47,6 +51,7 @@ pub record GivesFault (old : Parsed) (f : ErrorReport) (new : Parsed) : Type 0 w
   pub ended : (old.ended ≡ false) × (new.ended ≡ false)
   pub ahead : (old.ahead ≡ None) × (new.ahead ≡ None)
   pub settings : KeepsSettings old new
+  pub noted : new.settings ≡ old.settings
   pub again : IfSome old.fault (λ g. (f ≡ g) × (new ≡ old))
   pub why : old.fault ≡ None → Explains f new
 
@@ -69,6 +74,7 @@ pub record Waits (old new : Parsed) : Type 0 where
   pub over : old.ended ≡ true → IfSome new.ahead (λ e. e.0 ≡ Ev.stream_end)
   pub left : IfSome new.ahead (λ e. e.0 ≢ Ev.stream_end → new.left ≤ old.left)
   pub settings : KeepsSettings old new
+  pub noted : new.settings ≡ settings_after old
   pub clear : old.fault ≡ None
   pub sound : IsSound new
 

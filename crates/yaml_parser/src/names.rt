@@ -11,6 +11,7 @@ ghost use Rattle.yaml_parser.specs.declared.tokens.Stop.TheVariants.{Own};
 ghost use Rattle.defs_event.specs.Raw.{Directive};
 ghost use Rattle.yaml_parser.specs.Named.{IsNamed, IsOwn, is_own, prefix_of};
 ghost use Rattle.yaml_parser.specs.Declares.{HasRead, Declares};
+ghost use Rattle.yaml_parser.specs.Held.{Notes};
 ghost use Rattle.yaml_parser.specs.Resolves.{Resolves, IsUndeclared};
 
 use crate::event::{Tag, copied};
@@ -18,6 +19,7 @@ use crate::tokens::Stop;
 use std::alloc::{AllocError, Global};
 use std::collections::BTreeMap;
 use yaml_chars::Marker;
+use yaml_chars::history::History;
 use yaml_tokens::{Fault, Problem};
 
 // What `!!` stands for where it is not declared (YAML 1.2, section 6.8.2.1).
@@ -47,11 +49,33 @@ fn declares_nothing(handle: &String, prefix: &String) -> bool
 }
 
 /// Whether declared handles count in later documents too.
-#[derive(Clone, Copy)]
+#[derive(Drop)]
 pub struct Keeping {
     pub tags: bool,
     /// Whether this was so from the stream's start on.
     pub steady: bool,
+    /// With what the events were read, one by one.
+    pub settings: History<bool>,
+}
+
+impl Keeping {
+    /// Makes the setting, which is the first or is not.
+    pub fn set(&mut self, tags: bool, steady: bool)
+        ensures tags { self.new.tags ≡ tags }
+        ensures steady { self.new.steady ≡ steady }
+        ensures settings { self.new.settings ≡ self.old.settings }
+    {
+        self.tags = tags;
+        self.steady = steady;
+    }
+
+    /// Notes that one more event was read.
+    pub fn note(&mut self)
+        ensures { Notes self.old self.new }
+    {
+        let tags = self.tags;
+        self.settings.push(&tags);
+    }
 }
 
 /// What a handle was declared to stand for.
@@ -81,6 +105,7 @@ impl Names {
     pub fn new(alloc: Global) -> Self
         ensures tags { result.keeping.tags ≡ false }
         ensures steady { result.keeping.steady ≡ true }
+        ensures settings { result.keeping.settings.items ≡ [] }
         ensures named { IsNamed result no_names }
     {
         Names {
@@ -93,6 +118,7 @@ impl Names {
             keeping: Keeping {
                 tags: false,
                 steady: true,
+                settings: History::new(),
             },
         }
     }

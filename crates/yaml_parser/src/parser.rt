@@ -12,7 +12,6 @@ ghost use Rattle.yaml_parser.specs.Shown.{placed, ev_of};
 ghost use Rattle.yaml_parser.specs.View.{no_document};
 
 use crate::event::{Event, ParseResult};
-use crate::names::Keeping;
 use crate::pull::Pull;
 use std::alloc::Global;
 use std::marker::Model;
@@ -69,7 +68,7 @@ impl<T: Iterator<Item = char>> Model for Parser<T> {
 
     ghost Value = { Parse T };
 
-    ghost view = { λ p. record { start = p.pull.reader.tokens.scanner.start; so_far = record { scanner = scanned p.pull.reader.tokens.scanner; given = all_placed p.given.items; ahead = option_map placed p.current; fault = fault_of_all p.misplaced p.pull; started = p.started; ended = p.ended; keep_tags = p.pull.reader.names.keeping.tags; steady = p.pull.reader.names.keeping.steady; left = events_left p.pull.reader p.current } } };
+    ghost view = { λ p. record { start = p.pull.reader.tokens.scanner.start; so_far = record { scanner = scanned p.pull.reader.tokens.scanner; given = all_placed p.given.items; ahead = option_map placed p.current; fault = fault_of_all p.misplaced p.pull; started = p.started; ended = p.ended; keep_tags = p.pull.reader.names.keeping.tags; steady = p.pull.reader.names.keeping.steady; settings = p.pull.reader.names.keeping.settings.items; left = events_left p.pull.reader p.current } } };
 
     ghost invariant = { λ p. Holds p.pull (all_placed p.given.items) (option_map placed p.current) p.started p.ended p.misplaced };
 }
@@ -84,6 +83,7 @@ impl<'a> Parser<Chars<'a>> {
         ensures ended { (parsed result).ended ≡ false }
         ensures keep_tags { (parsed result).keep_tags ≡ false }
         ensures steady { (parsed result).steady ≡ true }
+        ensures settings { (parsed result).settings ≡ [] }
         ensures source { chars_rest result.start ≡ value.now }
     {
         Parser::new(alloc, value.chars())
@@ -107,6 +107,7 @@ impl<T: Iterator<Item = char>> Parser<T> {
         ensures ended { (parsed result).ended ≡ false }
         ensures keep_tags { (parsed result).keep_tags ≡ false }
         ensures steady { (parsed result).steady ≡ true }
+        ensures settings { (parsed result).settings ≡ [] }
         ensures start { result.start ≡ src }
     {
         Parser {
@@ -120,16 +121,13 @@ impl<T: Iterator<Item = char>> Parser<T> {
     }
 
     /// Sets whether a declared tag handle counts in later documents too. By default it is forgotten at the end of its
-    /// document (YAML 1.2, section 6.8.2). Call it before the first event: after a later change, no clause says what
-    /// handles mean.
+    /// document (YAML 1.2, section 6.8.2). A later change counts from the next document's start on: whether the handles
+    /// of earlier documents count there. It changes no number of an anchor or an alias.
     pub fn keep_tags(mut self, value: bool) -> Self
         ensures { result ≡ record self { so_far = record (parsed self) { keep_tags = value; steady = stays_steady (parsed self) value } } }
     {
         let steady = self.stays_steady(value);
-        self.pull.reader.names.keeping = Keeping {
-            tags: value,
-            steady,
-        };
+        self.pull.reader.names.keeping.set(value, steady);
         self
     }
 
@@ -137,7 +135,7 @@ impl<T: Iterator<Item = char>> Parser<T> {
     fn stays_steady(&self, value: bool) -> bool
         ensures { result ≡ stays_steady (parsed self.now) value }
     {
-        let keeping = self.pull.reader.names.keeping;
+        let keeping = &self.pull.reader.names.keeping;
         keeping.steady && (self.is_fresh() || value == keeping.tags)
     }
 

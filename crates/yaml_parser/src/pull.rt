@@ -34,6 +34,7 @@ impl<T: Iterator<Item = char>> Pull<T> {
         ensures held { IsHeld result.reader [] None }
         ensures steady { result.reader.names.keeping.steady ≡ true }
         ensures keep_tags { result.reader.names.keeping.tags ≡ false }
+        ensures settings { result.reader.names.keeping.settings.items ≡ [] }
         ensures stack { result.reader.stack ≡ StreamStart ∷ [] }
         ensures start { result.reader.tokens.scanner.start ≡ src }
     {
@@ -52,7 +53,6 @@ impl<T: Iterator<Item = char>> Pull<T> {
     #[inline(always)]
     pub fn next(&mut self) -> ParseResult
         ensures continues { (read : List (Ev × Position)) → IsHeld self.old.reader read self.old.kept → Continues self.old read result self.new }
-        ensures keeping { self.new.reader.names.keeping ≡ self.old.reader.names.keeping }
         ensures start { self.new.reader.tokens.scanner.start ≡ self.old.reader.tokens.scanner.start }
         ensures err { IfErr result (λ f. fault_kept self.new ≡ Some f) }
         ensures again { IfSome (fault_kept self.old) (λ f. (result ≡ Err f) × (self.new ≡ self.old)) }
@@ -64,7 +64,10 @@ impl<T: Iterator<Item = char>> Pull<T> {
             return Ok((Event::StreamEnd, self.reader.tokens.scanner.mark()));
         };
         match self.reader.next(state) {
-            Ok(next) => Ok(next),
+            Ok(next) => {
+                self.reader.names.keeping.note();
+                Ok(next)
+            }
             Err(stop) => Err(self.keep(stop)),
         }
     }

@@ -21,14 +21,14 @@ returns-in_err-next-clause-looks g c =
     let v = seen c.next.new.self (all_placed c.self.inside.given.items) c.self.inside.current c.self.inside.started c.self.inside.ended c.self.inside.misplaced in
     looks_err (parsed c.args.self.now) v c.from_residual.result _ c.from_residual.ensures.1
     (subst (λ u. GivesFault (parsed u) c.in_err-next.field-0.0 v) c.self.view_is
-    (fault_given c.self.inside.pull c.next.new.self (all_placed c.self.inside.given.items) c.self.inside.current c.self.inside.started c.self.inside.ended c.self.inside.misplaced c.in_err-next.field-0.0 c.self.invariant none c.in_default.is x c.in_err-next.ensures.err c.in_err-next.ensures.again c.in_err-next.ensures.keeping))
+    (fault_given c.self.inside.pull c.next.new.self (all_placed c.self.inside.given.items) c.self.inside.current c.self.inside.started c.self.inside.ended c.self.inside.misplaced c.in_err-next.field-0.0 c.self.invariant none c.in_default.is x c.in_err-next.ensures.err c.in_err-next.ensures.again))
 
 pub returns-clause-looks : goal.returns-clause-looks
 returns-clause-looks g c =
     let none = sym c.is_some.ensures ∙ c.if-is_some.false in
     let x = c.in_ok-next.ensures.continues (read_so (all_placed c.self.inside.given.items) c.self.inside.ended (option_map placed c.self.inside.current)) c.self.invariant.held in
     subst (λ u. Waits (parsed u) (seen c.next.new.self (all_placed c.self.inside.given.items) (Some c.in_ok-next.next) c.self.inside.started c.self.inside.ended c.self.inside.misplaced)) c.self.view_is
-    (next_waits c.self.inside.pull c.next.new.self (all_placed c.self.inside.given.items) c.self.inside.current c.self.inside.started c.self.inside.ended c.self.inside.misplaced c.in_ok-next.next c.self.invariant none c.in_default.is x c.in_ok-next.ensures.keeping)
+    (next_waits c.self.inside.pull c.next.new.self (all_placed c.self.inside.given.items) c.self.inside.current c.self.inside.started c.self.inside.ended c.self.inside.misplaced c.in_ok-next.next c.self.invariant none c.in_default.is x)
 
 pub invariant_of-self : goal.invariant_of-self
 invariant_of-self g c =

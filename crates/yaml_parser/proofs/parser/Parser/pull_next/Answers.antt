@@ -25,7 +25,7 @@ returns-in-Ok-clause-pulls g c =
     let x = subst (λ r. Continues i.pull es r c.next-next.new.self) c.in-Ok.is (c.next-next.ensures.continues es c.self.invariant.held) in
     let noted = all_noted i.given.items c.note.new.given.items c.in-Ok.event i.ended c.note.ensures in
     let v = seen c.next-next.new.self (all_placed c.note.new.given.items) i.current true c.ends-self-inside.result i.misplaced in
-    let gives = given_at_once i.pull c.next-next.new.self (all_placed i.given.items) (all_placed c.note.new.given.items) i.current i.started i.ended c.ends-self-inside.result i.misplaced c.in-Ok.event c.self.invariant none c.in_default.is x c.next-next.ensures.keeping noted c.ends-self-inside.ensures in
+    let gives = given_at_once i.pull c.next-next.new.self (all_placed i.given.items) (all_placed c.note.new.given.items) i.current i.started i.ended c.ends-self-inside.result i.misplaced c.in-Ok.event c.self.invariant none c.in_default.is x noted c.ends-self-inside.ensures in
     subst (λ r. Pulls (parsed c.args.self.now) (answer_of r) v) (sym c.in-Ok.is) (subst (λ u. GivesEvent (parsed u) (placed c.in-Ok.event) v) c.self.view_is gives.1)
 
 pub returns-in_default-next-clause-pulls : goal.returns-in_default-next-clause-pulls
@@ -39,7 +39,7 @@ returns-in_default-next-clause-pulls g c =
     let again = subst (λ r. IfSome (fault_kept i.pull) (λ f. (r ≡ Err f) × (new ≡ i.pull))) c.in_default-next.is c.next-next.ensures.again in
     let v = seen new (all_placed i.given.items) i.current i.started i.ended i.misplaced in
     subst (λ r. Pulls (parsed c.args.self.now) (answer_of r) v) (sym c.in_default-next.is)
-    (subst (λ u. GivesFault (parsed u) c.in_default-next.field-0 v) c.self.view_is (fault_given i.pull new (all_placed i.given.items) i.current i.started i.ended i.misplaced c.in_default-next.field-0 c.self.invariant none c.in_default.is x kept again c.next-next.ensures.keeping))
+    (subst (λ u. GivesFault (parsed u) c.in_default-next.field-0 v) c.self.view_is (fault_given i.pull new (all_placed i.given.items) i.current i.started i.ended i.misplaced c.in_default-next.field-0 c.self.invariant none c.in_default.is x kept again))
 
 pub invariant_of-self : goal.invariant_of-self
 invariant_of-self g c =
@@ -48,7 +48,7 @@ invariant_of-self g c =
     let es = read_so (all_placed i.given.items) i.ended (option_map placed i.current) in
     let x = subst (λ r. Continues i.pull es r c.next-next.new.self) c.in-Ok.is (c.next-next.ensures.continues es c.self.invariant.held) in
     let noted = all_noted i.given.items c.note.new.given.items c.in-Ok.event i.ended c.note.ensures in
-    (given_at_once i.pull c.next-next.new.self (all_placed i.given.items) (all_placed c.note.new.given.items) i.current i.started i.ended c.ends-self-inside.result i.misplaced c.in-Ok.event c.self.invariant none c.in_default.is x c.next-next.ensures.keeping noted c.ends-self-inside.ensures).0
+    (given_at_once i.pull c.next-next.new.self (all_placed i.given.items) (all_placed c.note.new.given.items) i.current i.started i.ended c.ends-self-inside.result i.misplaced c.in-Ok.event c.self.invariant none c.in_default.is x noted c.ends-self-inside.ensures).0
 
 pub invariant_of-self-in_default-next : goal.invariant_of-self-in_default-next
 invariant_of-self-in_default-next g c =

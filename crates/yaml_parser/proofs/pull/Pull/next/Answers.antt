@@ -1,16 +1,21 @@
-use Rattle.std.proofs.Common.{inr, subst}
+use Rattle.std.proofs.Common.{inr, subst, refl, ap, ◌∙◌}
 use Rattle.yaml_parser.specs.Held.{IsHeld}
-use Rattle.yaml_parser.proofs.Holding.{pulled, failed, failed_as, keeps}
+use Rattle.yaml_parser.proofs.Holding.{pulled, failed, failed_as, keeps, kept_again}
 use Rattle.yaml_parser.proofs.pull.Pull.next.Goals as goal
 
 pub returns-in-Some-clause-continues : goal.returns-in-Some-clause-continues
-returns-in-Some-clause-continues g c = λ es h. h
+returns-in-Some-clause-continues g c = λ es h. (refl, h, kept_again c.args.self.now.reader es c.in-Some.is)
 
 pub returns-in-Ok-clause-continues : goal.returns-in-Ok-clause-continues
-returns-in-Ok-clause-continues g c = λ es h.
-    (c.in_default.is, c.in_default.is, inr (pulled c.args.self.now.reader c.next.new.self c.in-Some-pop.state c.pop.new.self es c.in-Ok.next c.in-Some-pop.ensures.some (subst (IsHeld c.args.self.now.reader es) c.in_default.is h) c.in-Ok.ensures.answers c.in-Ok.ensures.work))
+returns-in-Ok-clause-continues g c = λ es h. (
+  c.in_default.is,
+  c.in_default.is,
+  inr (pulled c.args.self.now.reader c.next.new.self c.in-Some-pop.state c.pop.new.self es c.in-Ok.next c.note.new.self c.in-Some-pop.ensures.some (subst (IsHeld c.args.self.now.reader es) c.in_default.is h) c.in-Ok.ensures.answers c.in-Ok.ensures.work
+      c.next.ensures.keeping c.note.ensures),
+)
 
 pub returns-in-Err-clause-continues : goal.returns-in-Err-clause-continues
 returns-in-Err-clause-continues g c = λ es h.
-    keeps c.keep.new.self es c.in-Err.stop c.keep.ensures.kept c.keep.ensures.stop
-    (failed_as es c.in-Err.stop c.keep.ensures.reader (failed c.args.self.now.reader c.next.new.self c.in-Some-pop.state c.pop.new.self es c.in-Err.stop c.in-Some-pop.ensures.some (subst (IsHeld c.args.self.now.reader es) c.in_default.is h) c.in-Err.ensures.answers))
+    let x = keeps c.keep.new.self es c.in-Err.stop c.keep.ensures.kept c.keep.ensures.stop
+    (failed_as es c.in-Err.stop c.keep.ensures.reader (failed c.args.self.now.reader c.next.new.self c.in-Some-pop.state c.pop.new.self es c.in-Err.stop c.in-Some-pop.ensures.some (subst (IsHeld c.args.self.now.reader es) c.in_default.is h) c.in-Err.ensures.answers)) in
+    (ap (λ r. r.names.keeping) c.keep.ensures.reader ∙ c.next.ensures.keeping, x.0, λ none. x.1)

@@ -1,7 +1,9 @@
-use Rattle.std.proofs.Common.{refl}
+use Rattle.std.proofs.Common.{refl, ap}
+use Rattle.model_parser.specs.Kinds.{kind_of}
 use Rattle.model_parser.proofs.Document as turn
 use Rattle.yaml_parser.proofs.Arms.{push_after, answers_err, not_as}
-use Rattle.yaml_parser.proofs.Ends.{refuses}
+use Rattle.yaml_parser.proofs.Ends.{refuses_for}
+use Rattle.yaml_parser.proofs.Nesting.{directed_outside}
 use Rattle.yaml_tokens.specs.declared.problem.Problem.TheVariants.{DocumentStartToken}
 use Rattle.yaml_parser.proofs.DocumentArms.{directed_begins, directives_begin}
 use Rattle.yaml_parser.proofs.reader.Reader.directed_document.Goals as goal
@@ -17,4 +19,5 @@ returns-in_ok-push-in-DocumentStart-clause-answers g c = λ names given h.
 pub returns-in_default-clause-answers : goal.returns-in_default-clause-answers
 returns-in_default-clause-answers g c = λ names given h.
     let d = c.in_ok-next.ensures.at names given (directives_begin c.args.kind c.requires.looks c.requires.directive refl refl c.start_document.ensures.keep c.start_document.ensures.named c.start_document.ensures.own h) in
-    refuses DocumentStartToken refl refl c.mark.ensures c.in_ok-next.ensures.peeked.0 (λ t e. turn.directed_refuses _ d.0 t (not_as c.in_ok-next.ensures.peeked.1 e) (not_as c.in_ok-next.ensures.peeked.2 e) (not_as c.in_default.not-DocumentStart e)) d.1
+    refuses_for DocumentStartToken refl refl c.mark.ensures c.in_ok-next.ensures.peeked.0 (λ t e. turn.directed_refuses _ d.0 t (not_as c.in_ok-next.ensures.peeked.1 e) (not_as c.in_ok-next.ensures.peeked.2 e) (not_as c.in_default.not-DocumentStart e))
+    (λ a t e. (directed_outside a, λ same. absurd (not_as c.in_default.not-DocumentStart e (ap kind_of same)))) d.1

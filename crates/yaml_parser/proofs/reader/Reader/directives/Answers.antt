@@ -11,14 +11,14 @@ returns-in_err-next-clause-err g c = if_err_as (DirectivesFail c.args.self.now c
 
 pub returns-in_err-version-in-VersionDirective-clause-err : goal.returns-in_err-version-in-VersionDirective-clause-err
 returns-in_err-version-in-VersionDirective-clause-err g c = if_err_as (DirectivesFail c.args.self.now c.version.new.self) c.from_residual-in_err-version-in-VersionDirective.result c.from_residual-in_err-version-in-VersionDirective.ensures.1
-    (λ names given h. c.in_err-version-in-VersionDirective.ensures.directs names given (directing_on c.in_ok-next.ensures.at c.in_ok-next.ensures.names (c.directives.invariant.at names given h)))
+    (λ names given h. c.in_err-version-in-VersionDirective.ensures.directs names given (directing_on c.in_ok-next.ensures.at c.in_ok-next.ensures.names c.in_ok-next.ensures.taken (c.directives.invariant.at names given h)))
 
 pub directives-preserved-in-VersionDirective : goal.directives-preserved-in-VersionDirective
 directives-preserved-in-VersionDirective g c = record {
   work = omega (arith, c.in_ok-version-in-VersionDirective.ensures.work, c.in_ok-next.ensures.work, c.directives.invariant.work);
   keeping = cc;
   start = cc;
-  at = λ names given h. c.in_ok-version-in-VersionDirective.ensures.directs names given (directing_on c.in_ok-next.ensures.at c.in_ok-next.ensures.names (c.directives.invariant.at names given h));
+  at = λ names given h. c.in_ok-version-in-VersionDirective.ensures.directs names given (directing_on c.in_ok-next.ensures.at c.in_ok-next.ensures.names c.in_ok-next.ensures.taken (c.directives.invariant.at names given h));
 }
 
 pub directives-preserved : goal.directives-preserved
@@ -26,12 +26,12 @@ directives-preserved g c = record {
   work = omega (arith, c.in_ok-tag_directive-in-TagDirective.ensures.work, c.in_ok-next.ensures.work, c.directives.invariant.work);
   keeping = cc;
   start = cc;
-  at = λ names given h. c.in_ok-tag_directive-in-TagDirective.ensures.directs c.directives.versioned names given (directing_on c.in_ok-next.ensures.at c.in_ok-next.ensures.names (c.directives.invariant.at names given h));
+  at = λ names given h. c.in_ok-tag_directive-in-TagDirective.ensures.directs c.directives.versioned names given (directing_on c.in_ok-next.ensures.at c.in_ok-next.ensures.names c.in_ok-next.ensures.taken (c.directives.invariant.at names given h));
 }
 
 pub returns-in_err-tag_directive-in-TagDirective-clause-err : goal.returns-in_err-tag_directive-in-TagDirective-clause-err
 returns-in_err-tag_directive-in-TagDirective-clause-err g c = if_err_as (DirectivesFail c.args.self.now c.tag_directive.new.self) c.from_residual-in_err-tag_directive-in-TagDirective.result c.from_residual-in_err-tag_directive-in-TagDirective.ensures.1
-    (λ names given h. c.in_err-tag_directive-in-TagDirective.ensures.directs c.directives.versioned names given (directing_on c.in_ok-next.ensures.at c.in_ok-next.ensures.names (c.directives.invariant.at names given h)))
+    (λ names given h. c.in_err-tag_directive-in-TagDirective.ensures.directs c.directives.versioned names given (directing_on c.in_ok-next.ensures.at c.in_ok-next.ensures.names c.in_ok-next.ensures.taken (c.directives.invariant.at names given h)))
 
 pub returns-in_default : goal.returns-in_default
 returns-in_default g c = record {

@@ -1,8 +1,10 @@
-use Rattle.std.proofs.Common.{refl}
+use Rattle.std.proofs.Common.{refl, ap, false}
 use Rattle.model_parser.specs.Goal as at
 use Rattle.model_parser.proofs.Document as turn
 use Rattle.yaml_parser.proofs.Arms.{gives, plain, push_after, answers_err, not_as}
-use Rattle.yaml_parser.proofs.Ends.{refuses}
+use Rattle.yaml_parser.proofs.Ends.{refuses_for}
+use Rattle.yaml_parser.proofs.Nesting.{nothing_given}
+use Rattle.yaml_parser.specs.Nests.{is_open}
 use Rattle.yaml_tokens.specs.declared.problem.Problem.TheVariants.{DocumentStartToken}
 use Rattle.yaml_parser.proofs.reader.Reader.stream_start.Goals as goal
 
@@ -13,4 +15,6 @@ pub returns-in_ok-push-in-StreamStart-clause-answers : goal.returns-in_ok-push-i
 returns-in_ok-push-in-StreamStart-clause-answers g c = λ names given h. gives _ c.in_ok-next.ensures.peeked c.in-StreamStart.is refl (push_after c.skip-mark.ensures.took c.in_ok-push-in-StreamStart.ensures.stayed) (turn.start_takes _) (plain refl refl refl refl) refl refl (c.in_ok-next.ensures.at at.start refl names given h)
 
 pub returns-in_default-clause-answers : goal.returns-in_default-clause-answers
-returns-in_default-clause-answers g c = λ names given h. refuses DocumentStartToken refl refl c.mark.ensures c.in_ok-next.ensures.peeked (λ t e. turn.start_refuses _ t (not_as c.in_default.not-StreamStart e)) (c.in_ok-next.ensures.at at.start refl names given h)
+returns-in_default-clause-answers g c = λ names given h.
+    refuses_for DocumentStartToken refl refl c.mark.ensures c.in_ok-next.ensures.peeked (λ t e. turn.start_refuses _ t (not_as c.in_default.not-StreamStart e)) (λ a t e. (ap (is_open false) (nothing_given a), λ same. nothing_given a))
+    (c.in_ok-next.ensures.at at.start refl names given h)

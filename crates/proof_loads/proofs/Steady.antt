@@ -1,0 +1,47 @@
+-- A setting of `keep_tags` that counted from the start on: it names all events.
+use Rattle.std.proofs.Common.{◌≡◌, Bool, List, [], ◌++◌, sym, ◌∙◌, subst}
+use Rattle.defs_text.specs.Position.{Position}
+use Rattle.defs_token.specs.Token.{Token}
+use Rattle.yaml_tokens.specs.ErrorReport.{ErrorReport}
+use Rattle.defs_event.specs.Event.{Ev}
+use Rattle.defs_event.specs.Raw.{Raw}
+use Rattle.defs_event.specs.Grammar.{stream_events}
+use Rattle.defs_event.specs.Names.{no_names}
+use Rattle.defs_token.specs.Toks.{toks}
+use Rattle.defs_event.specs.Stream.{events_of}
+use Rattle.yaml_parser.specs.Settings.{AreAll}
+use Rattle.yaml_parser.specs.Derived.{IsDerived}
+use Rattle.yaml_parser.specs.Blames.{Blames, IsCause}
+use Rattle.yaml_parser.proofs.Since.{since_same, names_same}
+
+derived_steady : {settings : List Bool} {keep_tags : Bool} {tokens : List Token} {raw : List Raw} {events : List (Ev × Position)} → AreAll keep_tags settings → IsDerived settings keep_tags tokens raw events → IsDerived [] keep_tags tokens raw events
+derived_steady {settings} {keep_tags} {tokens} {raw} {events} all d = record {
+  more_tokens = d.more_tokens;
+  more_raw = d.more_raw;
+  more_events = d.more_events;
+  stream = record {
+    documents = d.stream.documents;
+    has_tokens = d.stream.has_tokens;
+    has_raw = d.stream.has_raw;
+    has_events = sym (since_same settings keep_tags no_names (raw ++ d.more_raw) all) ∙ d.stream.has_events;
+    has_positions = d.stream.has_positions;
+  };
+  named = sym (since_same settings keep_tags no_names raw all) ∙ d.named;
+  positions = d.positions;
+}
+
+pub blames_steady : {f : ErrorReport} {settings : List Bool} {keep_tags : Bool} {tokens : List Token} {events : List (Ev × Position)} → AreAll keep_tags settings → Blames f settings keep_tags tokens events → Blames f [] keep_tags tokens events
+blames_steady {f} {settings} {keep_tags} {tokens} {events} all b = record {
+  before = b.before;
+  last = b.last;
+  whole = b.whole;
+  raw = b.raw;
+  derived = derived_steady all b.derived;
+  unnamed = λ d ts es has named. b.unnamed d ts es has (since_same settings keep_tags no_names (stream_events d) all ∙ named);
+  problem = b.problem;
+  shown = b.shown;
+  fits_it = b.fits_it;
+  cause = subst (λ names. IsCause b.problem names (events_of events) (toks b.before) b.last.tok) (names_same settings keep_tags no_names b.raw all) b.cause;
+  stands = b.stands;
+  none = b.none;
+}
