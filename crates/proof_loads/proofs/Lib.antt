@@ -9,11 +9,13 @@ pub mod LayoutNul
 pub mod LayoutTexts
 pub mod Loads
 mod Nul
+pub mod OneList
 pub mod OneReading
 mod PartsNul
 pub mod Pulled
 pub mod QuotedTexts
 pub mod Runs
+pub mod Settled
 pub mod Spelled
 pub mod Steady
 pub mod StreamEnds

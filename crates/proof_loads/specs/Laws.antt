@@ -1,5 +1,5 @@
 -- Laws of texts that are read as trees: each is the contract of the function of `src/laws.rt` that its comment names.
-use Rattle.std.specs.Prelude.{◌≡◌, ℕ, Bool, true, Option, List, [], ◌∷◌, ◌++◌, Result, Ok}
+use Rattle.std.specs.Prelude.{◌≡◌, ℕ, Bool, true, Option, List, length, [], ◌∷◌, ◌++◌, Result, Ok}
 use Rattle.std.specs.Iterator.{AlwaysYields}
 use Rattle.std.specs.Str.{chars, IsUtf8}
 use Rattle.std.specs.Str.Iter.{chars_steps, chars_rest}
@@ -13,12 +13,14 @@ use Rattle.defs_layout.specs.Json.{JsonText, IsWellFormed, spell_text, tree_of}
 use Rattle.defs_layout.specs.DumpIsInjective.{CanBeWritten}
 use Rattle.yaml_tokens.specs.ErrorReport.{ErrorReport}
 use Rattle.defs_event.specs.Event.{Ev}
+use Rattle.defs_event.specs.PulledList.{Answer, IsSettled}
+use Rattle.defs_event.specs.Stream.{events_of}
 use Rattle.defs_event.specs.Unfinished.{new_loader, with_events}
 use Rattle.defs_event.specs.Laws.{HasRead}
 use Rattle.yaml_scanner.specs.Scanned.{Scanned, MayBe, ScansIn, Scans}
 use Rattle.yaml_parser.specs.Parsed.{Parsed, read}
 use Rattle.yaml_parser.specs.Follows.{Follows, Refused, IsWhole, Explains}
-use Rattle.yaml_parser.specs.Loads.{Loads}
+use Rattle.yaml_parser.specs.Loads.{Loads, PullsAll}
 use Rattle.defs_event.specs.ReadAs.{IsAtWork}
 use Rattle.proof_loads.specs.TextReadAs.{IsReadAs, IsAtStart}
 use Rattle.proof_loads.specs.TextEvents.{AnswersText}
@@ -56,6 +58,16 @@ ReadTextsHaveTheirTrees =
     → HasRead (Ok trees) (with_events new_loader (read p))
 
 -- ---- a load
+
+-- `read_texts_have_one_list_of_events`; two parsers that have read as many events of the text
+abbrev pub ReadTextsHaveOneListOfEvents : Type 0
+ReadTextsHaveOneListOfEvents =
+    (p q : Parsed) (text : List ℕ) (trees : List Tree) → IsReadAs p.keep_tags text trees → q.keep_tags ≡ p.keep_tags → ScansIn text p.scanner → ScansIn text q.scanner → Follows p → Follows q
+    → length (read p) ≡ length (read q) → events_of (read p) ≡ events_of (read q)
+
+-- `answers_are_settled`; the answers of calls of `next_token`, one after the other
+abbrev pub AnswersAreSettled : Type 0
+AnswersAreSettled = (p q : Parsed) (answers : List (Answer ErrorReport)) → PullsAll p answers q → IsSettled answers
 
 -- `texts_are_answered`, for each kind of receiver
 abbrev pub TextsAreAnswered : {R : Type 0} → (R → Ev → Position → Result (Unit {0}) ErrorReport → R → Type 0) → Type 0

@@ -1,6 +1,6 @@
 //! Laws of texts that are read as trees, each the contract of an empty function.
 
-ghost use Rattle.proof_loads.specs.Laws.{ReadTextsAreNotRefused, ReadTextsHaveNoFaultButMemory, EventsOfReadTextsAreRead, ReadTextsHaveTheirTrees, JsonTextsAreReadAsTheirTree, JsonTextsAreWithoutNul, ReadTextsAreLoaded, JsonTextsAreLoaded, TextsAreReadInOneWay, DumpsAreReadAsTheirTree, TextsAreAnswered, CharactersAreTheText, StringsAreTheText};
+ghost use Rattle.proof_loads.specs.Laws.{ReadTextsAreNotRefused, ReadTextsHaveNoFaultButMemory, EventsOfReadTextsAreRead, ReadTextsHaveTheirTrees, JsonTextsAreReadAsTheirTree, JsonTextsAreWithoutNul, ReadTextsAreLoaded, JsonTextsAreLoaded, TextsAreReadInOneWay, DumpsAreReadAsTheirTree, TextsAreAnswered, ReadTextsHaveOneListOfEvents, AnswersAreSettled, CharactersAreTheText, StringsAreTheText};
 ghost use Rattle.defs_layout.specs.DumpIsInjective.{DumpIsInjective};
 
 use yaml_parser::MarkedEventReceiver;
@@ -53,6 +53,17 @@ pub fn dumps_are_read_as_their_tree()
 #[tactic(auto, using(crate::proofs::Dumps::dump_is_injective))]
 pub fn dumps_are_injective()
     ensures { DumpIsInjective }
+{}
+
+/// If a text is read as trees, two parsers that have read as many of its events have read the same events.
+pub fn read_texts_have_one_list_of_events()
+    ensures { ReadTextsHaveOneListOfEvents }
+{}
+
+/// After the stream's end or a fault, each call of `next_token` answers the same again.
+#[tactic(auto, using(crate::proofs::Settled::answers_settled))]
+pub fn answers_are_settled()
+    ensures { AnswersAreSettled }
 {}
 
 /// A load by a parser at its start has one of three results. It pushes all events of its text; or it has a fault

@@ -1,0 +1,43 @@
+-- Two parsers of a text that is read as trees.
+use Rattle.std.proofs.Common.{◌≡◌, ◌+◌, ℕ, Bool, List, [], ◌∷◌, ◌++◌, length, refl, sym, ap, ◌∙◌, subst, arith}
+use Rattle.std.proofs.lemmas.List.{map-append}
+use Rattle.defs_text.specs.Position.{Position}
+use Rattle.defs_token.specs.Token.{Tok, Token}
+use Rattle.defs_tree.specs.Tree.{Tree}
+use Rattle.defs_event.specs.Event.{Ev}
+use Rattle.defs_event.specs.Nested.{nested_stream}
+use Rattle.defs_token.specs.Toks.{toks}
+use Rattle.defs_event.specs.Stream.{IsStream, events_of}
+use Rattle.yaml_scanner.specs.Scanned.{ScansIn}
+use Rattle.yaml_parser.specs.Parsed.{Parsed, read}
+use Rattle.yaml_parser.specs.Follows.{Follows}
+use Rattle.proof_loads.specs.TextReadAs.{IsReadAs}
+use Rattle.proof_loads.specs.Laws.{ReadTextsHaveOneListOfEvents}
+use Rattle.proof_loads.proofs.Texts.{first_tokens}
+
+-- The text's events begin with those that were read.
+begins_all : (p : Parsed) (keep_tags : Bool) (text : List ℕ) (trees : List Tree) → (x : IsReadAs keep_tags text trees) → p.keep_tags ≡ keep_tags → ScansIn text p.scanner → Follows p → (more : List Ev) × (nested_stream x.read.documents ≡ events_of (read p) ++ more)
+begins_all p keep_tags text trees x same_setting scans follows =
+    let b = (first_tokens text p.scanner scans).begins x.has.0 x.has.1 in
+    let same : x.tokens ≡ toks p.scanner.given ++ toks b.more = sym x.has.2 ∙ ap toks b.whole ∙ map-append (λ (t : Token). t.tok) p.scanner.given b.more in
+    let all = nested_stream x.read.documents in
+    follows.only (toks b.more) all (subst (λ k. IsStream k (toks p.scanner.given ++ toks b.more) all) (sym same_setting) (subst (λ ts. IsStream keep_tags ts all) same x.read.stream))
+
+same_beginning : (xs ys us vs : List Ev) → length xs ≡ length ys → xs ++ us ≡ ys ++ vs → xs ≡ ys
+same_beginning [] [] us vs l h = refl
+same_beginning [] (y ∷ ys) us vs l h = absurd (omega (arith, l))
+same_beginning (x ∷ xs) [] us vs l h = absurd (omega (arith, l))
+same_beginning (x ∷ xs) (y ∷ ys) us vs l h =
+    let first : x ≡ y = cc in
+    let rest : xs ++ us ≡ ys ++ vs = cc in
+    ap (λ z. z ∷ xs) first ∙ ap (λ zs. y ∷ zs) (same_beginning xs ys us vs (omega (arith, l)) rest)
+
+as_many : (es : List (Ev × Position)) → length (events_of es) ≡ length es
+as_many [] = refl
+as_many (e ∷ es) = omega (arith, as_many es)
+
+pub same_events : ReadTextsHaveOneListOfEvents
+same_events p q text trees x same_setting scans others follows other_follows l =
+    let b = begins_all p p.keep_tags text trees x refl scans follows in
+    let c = begins_all q p.keep_tags text trees x same_setting others other_follows in
+    same_beginning (events_of (read p)) (events_of (read q)) b.0 c.0 (as_many (read p) ∙ l ∙ sym (as_many (read q))) (sym b.1 ∙ c.1)
