@@ -51,17 +51,17 @@ entered (Pair ∷ fs) = Entry ∷ fs
 entered (Keyed ∷ fs) = Entry ∷ fs
 entered fs = fs
 
-abbrev higher_keys : List FlowLevel → List (Option Key) → List (Option Key)
+abbrev pub higher_keys : List FlowLevel → List (Option Key) → List (Option Key)
 higher_keys [] ks = with_top None ks
 higher_keys (f ∷ fs) ks = pop (with_top None ks)
 
-abbrev ended_now : List FlowLevel → Held → Held
+abbrev pub ended_now : List FlowLevel → Held → Held
 ended_now fs s = record s { tokens = closed_tokens fs s.position s.tokens; keys = higher_keys fs s.keys; flow = pop fs; key_allowed = false }
 
-abbrev entry_now : List FlowLevel → Held → Held
+abbrev pub entry_now : List FlowLevel → Held → Held
 entry_now fs s = record s { tokens = closed_tokens fs s.position s.tokens; keys = with_top None s.keys; flow = entered fs; key_allowed = true }
 
-ended_is : (s : Held) (fs : List FlowLevel) → allow_key false (decrease_flow_level (end_flow_pair (record s { keys = with_top None s.keys; flow = fs }))) ≡ ended_now fs s
+pub ended_is : (s : Held) (fs : List FlowLevel) → allow_key false (decrease_flow_level (end_flow_pair (record s { keys = with_top None s.keys; flow = fs }))) ≡ ended_now fs s
 unfolding decrease_flow_level end_flow_pair
 ended_is s [] = refl
 ended_is s (Pair ∷ fs) = refl
@@ -69,7 +69,7 @@ ended_is s (Keyed ∷ fs) = refl
 ended_is s (Mapping ∷ fs) = refl
 ended_is s (Entry ∷ fs) = refl
 
-entry_is : (s : Held) (fs : List FlowLevel) → end_flow_pair (allow_key true (record s { keys = with_top None s.keys; flow = fs })) ≡ entry_now fs s
+pub entry_is : (s : Held) (fs : List FlowLevel) → end_flow_pair (allow_key true (record s { keys = with_top None s.keys; flow = fs })) ≡ entry_now fs s
 unfolding end_flow_pair
 entry_is s [] = refl
 entry_is s (Pair ∷ fs) = refl

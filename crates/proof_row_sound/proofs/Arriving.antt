@@ -25,7 +25,7 @@ use Rattle.proof_row_sound.specs.Choices.{outside_key}
 use Rattle.proof_row_sound.specs.Stands.{columns, has_open_level, AreLevels, is_free, IsLine, is_at_comment_or_end, HasNoTabs, Stands}
 use Rattle.proof_row_sound.specs.Arrives.{site_here, ends_here, IsLineHere, IsNear, Arrives}
 use Rattle.proof_row_sound.proofs.Ended.{Ended, levels_end}
-use Rattle.proof_row_sound.proofs.Stales.{IsClose, Nearer, no_entries, stale_stands}
+use Rattle.proof_row_sound.proofs.Stales.{Nearer, no_entries, stale_stands}
 use Rattle.proof_row_sound.proofs.ToToken.{passed_stands}
 
 -- ---- what may begin here
@@ -46,7 +46,7 @@ past_line false true allowed p rest k l h = by h.0
     by (inl e) = ap (λ x. line_past_separation false true x) e
     by (inr e) = ap (λ x. line_past_separation false true x) e
 
-line_here : (fl broken allowed : Bool) (p : Position) (rest : List ℕ) (k : Option Key) (l : Line) → (fl ≡ false → IsClose k p) → IsLine fl allowed broken p rest k l → IsLineHere fl allowed rest k (here_by fl broken l)
+line_here : (fl broken allowed : Bool) (p : Position) (rest : List ℕ) (k : Option Key) (l : Line) → (fl ≡ false → IsNear k p) → IsLine fl allowed broken p rest k l → IsLineHere fl allowed rest k (here_by fl broken l)
 line_here true broken allowed p rest k l close h = refl
 line_here false broken allowed p rest None l close h = (by broken h.0, h.1 ∙ same broken l)
   where
@@ -93,18 +93,15 @@ adjacent text v s solid fl some =
 
 -- ---- the open key outside flow
 
-abbrev Close : (v : ScannerState) → Type 0
-Close v = is_empty v.held.flow ≡ true → (k : Option Key) × (v.held.keys ≡ k ∷ []) × IsClose k v.held.position
+-- outside flow there is one key or none, and it is near
+abbrev HasNearKey : (v : ScannerState) → Type 0
+HasNearKey v = is_empty v.held.flow ≡ true → (k : Option Key) × (v.held.keys ≡ k ∷ []) × IsNear k v.held.position
 
-close_outside : (text : List ℕ) (v : ScannerState) (s : Stands text v) → Close v → is_empty v.held.flow ≡ true → IsClose (outside_key s.base.entries v.held.keys) v.held.position
-close_outside text v s near out =
+near_outside : (text : List ℕ) (v : ScannerState) (s : Stands text v) → HasNearKey v → is_empty v.held.flow ≡ true → IsNear (outside_key s.base.entries v.held.keys) v.held.position
+near_outside text v s near out =
     let k = near out in
     let none : s.base.entries ≡ [] = no_entries v.held.key_allowed (is_renewed s.base.site.before s.separation) v.held.flow v.held.keys s.base.entries out s.are_entries in
-    subst (λ es. IsClose (outside_key es v.held.keys) v.held.position) (sym none) (subst (λ ks. IsClose (outside_key [] ks) v.held.position) (sym k.1) k.2)
-
-near_by : (k : Option Key) (p : Position) → IsClose k p → IsNear k p
-near_by None p c = tt
-near_by (Some k) p c = c
+    subst (λ es. IsNear (outside_key es v.held.keys) v.held.position) (sym none) (subst (λ ks. IsNear (outside_key [] ks) v.held.position) (sym k.1) k.2)
 
 -- ---- all
 
@@ -112,7 +109,7 @@ near_by (Some k) p c = c
 abbrev with_ends : ScannerState → Levels → ScannerState
 with_ends v u = record v { held = with_levels v.held u }
 
-arrives_with : (text : List ℕ) (v : ScannerState) (s : Stands text v) → begins_separation v.rest ≡ false → Close v → (u : Levels) →
+arrives_with : (text : List ℕ) (v : ScannerState) (s : Stands text v) → begins_separation v.rest ≡ false → HasNearKey v → (u : Levels) →
     (site_here (not (is_empty v.held.flow)) v.held.position s.base.site).blocks ≡ columns u.indent u.indents →
     (site_here (not (is_empty v.held.flow)) v.held.position s.base.site).awaits ≡ has_open_level u.indents → AreLevels u.indent u.indents →
     u.tokens ≡ v.held.tokens ++ ends_here (not (is_empty v.held.flow)) v.held.position s.base.site.blocks → Arrives text (with_ends v u)
@@ -133,9 +130,9 @@ arrives_with text v s solid near u blocks awaits levels tokens = record {
   are_entries = s.are_entries;
   is_line = past_line fl (begins_free_line s.base.site.before s.separation) v.held.key_allowed v.held.position v.rest (outside_key s.base.entries v.held.keys) s.base.line s.line_is;
   line_is = line_here fl (begins_free_line s.base.site.before s.separation) v.held.key_allowed v.held.position v.rest (outside_key s.base.entries v.held.keys) s.base.line
-      (λ e. close_outside text v s near (outside (is_empty v.held.flow) e)) s.line_is;
+      (λ e. near_outside text v s near (outside (is_empty v.held.flow) e)) s.line_is;
   is_open = s.is_open;
-  is_near = λ out. near_by (outside_key s.base.entries v.held.keys) v.held.position (close_outside text v s near out);
+  is_near = λ out. near_outside text v s near out;
   no_key = s.no_key;
   are_numbered = s.are_numbered;
   tokens_are = tokens;
@@ -154,7 +151,7 @@ arrives_with text v s solid near u blocks awaits levels tokens = record {
     outside false e = absurd (cc e)
 
 -- Where the next piece begins the block collections that are deeper end.
-pub arrives_now : (text : List ℕ) (v : ScannerState) → Stands text v → begins_separation v.rest ≡ false → Close v → Arrives text (on_held (λ s. unroll_indent (s.position.col + 1) s) v)
+pub arrives_now : (text : List ℕ) (v : ScannerState) → Stands text v → begins_separation v.rest ≡ false → HasNearKey v → Arrives text (on_held (λ s. unroll_indent (s.position.col + 1) s) v)
 arrives_now text v s solid near = by (is_empty v.held.flow) refl
   where
     p : Position
@@ -179,7 +176,7 @@ nearer_now : (text : List ℕ) (u : ScannerState) (h : Held) → Nearer text u h
 nearer_now text u h n solid =
     arrives_now text (record u { held = h }) n.stands solid (λ out.
     let k = n.near (ap (λ y. is_empty y.flow) (sym n.same) ∙ out) in
-    (k.0, k.1, subst (λ q. IsClose k.0 q) (ap (λ y. y.position) (sym n.same)) k.2))
+    (k.0, k.1, subst (λ q. IsNear k.0 q) (ap (λ y. y.position) (sym n.same)) k.2))
 
 -- From one fetch to where the next piece begins, or to the text's end: the way to the next token, stale keys, and the ends of block collections. What is a cut of the text before is one there.
 pub arrived : (text : List ℕ) (t : ScannerState) (f : ScannerState → Result ScannerState Fault) (P : ScannerState → Type 0) → FaresAt text t → Stands text t → ((v : ScannerState) → FaresAt text v → Arrives text v → Holds P (f v)) →

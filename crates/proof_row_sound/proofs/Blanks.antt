@@ -21,7 +21,7 @@ use Rattle.model_scanner.specs.State.{ScannerState, lexed}
 use Rattle.model_scanner.specs.Space.{skip_spaces}
 use Rattle.model_scanner.proofs.Holds.{Holds, went, refused}
 use Rattle.proof_lexers.proofs.Bridges.{same_break}
-use Rattle.proof_lexers.proofs.Plain.Turns.{in_line_position}
+use Rattle.proof_lexers.proofs.Plain.Turns.{or_true, or_false, in_line_position}
 use Rattle.proof_lexers.proofs.Separation.Positions.{position_append, position_in_line}
 use Rattle.proof_lexers.proofs.Properties.Tags.{span_cut}
 
@@ -47,14 +47,6 @@ no_break_in_blanks (c ∷ a) = by (c == 32) (c == 9) refl refl (no_break_in_blan
     by false true e f h = let same : c ≡ 9 = eqb-true c 9 f in rw same h
     by false false e f h = refl
 
-or_true_too : (a b : Bool) → (a || (true || b)) ≡ true
-or_true_too true b = refl
-or_true_too false b = refl
-
-or_false : (a : Bool) → (a || false) ≡ a
-or_false true = refl
-or_false false = refl
-
 same_spaces : (p q : Position) (w v : Whitespace) (a : List ℕ) → p ≡ q → w.found_tabs ≡ v.found_tabs → w.has_valid_yaml_ws ≡ v.has_valid_yaml_ws →
     ◌≡◌ {A = Stop Spaces} (record { rest = a; state = record { position = p; found = w } }) (record { rest = a; state = record { position = q; found = v } })
 same_spaces p q w v a e f g = ap (λ (x : Position). record { rest = a; state = record { position = x; found = w } }) e ∙ ap (λ (x : Whitespace). record { rest = a; state = record { position = q; found = x } }) (ap (λ b. record { found_tabs = b; has_valid_yaml_ws = w.has_valid_yaml_ws }) f ∙ ap (λ b. record { found_tabs = v.found_tabs; has_valid_yaml_ws = b }) g)
@@ -74,10 +66,10 @@ blanks_walked (c ∷ a) p w = by (c == 32) (c == 9) refl refl (λ q v. blanks_wa
         record { rest = (if (x || y) then after is_blank a else c ∷ a); state = record { position = position_after p (if (x || y) then c ∷ leading is_blank a else []) []; found = with_blanks w (if (x || y) then c ∷ leading is_blank a else []) } }
     by true y e f h =
         let same : c ≡ 32 = eqb-true c 32 e in
-        rw same (h (past p) (record w { has_valid_yaml_ws = true }) ∙ same_spaces _ _ _ _ (after is_blank a) (position 32 refl) refl (sym (or_true_too w.has_valid_yaml_ws (is_one_of (leading is_blank a) 32))))
+        rw same (h (past p) (record w { has_valid_yaml_ws = true }) ∙ same_spaces _ _ _ _ (after is_blank a) (position 32 refl) refl (sym (or_true w.has_valid_yaml_ws)))
     by false true e f h =
         let same : c ≡ 9 = eqb-true c 9 f in
-        rw same (h (past p) (record w { found_tabs = true }) ∙ same_spaces _ _ _ _ (after is_blank a) (position 9 refl) (sym (or_true_too w.found_tabs (is_one_of (leading is_blank a) 9))) refl)
+        rw same (h (past p) (record w { found_tabs = true }) ∙ same_spaces _ _ _ _ (after is_blank a) (position 9 refl) (sym (or_true w.found_tabs)) refl)
     by false false e f h = rw (e, f) (same_spaces p p w (with_blanks w []) (c ∷ a) refl (sym (or_false w.found_tabs)) (sym (or_false w.has_valid_yaml_ws)))
 
 -- ---- a comment

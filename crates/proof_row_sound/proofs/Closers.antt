@@ -118,26 +118,28 @@ stray_stands text more closes tok c k t a keys e hash =
       stands = all_true (is_indented_by_spaces a.site.before a.site.blocks a.site.awaits a.separation) true (further_lines_stand (least_for tok at) tok (c ∷ [])) (may_precede false at.blocks tok (c ∷ []) more)
           (a.is_indented (ap is_empty e)) refl (k.lines (least_for tok at) (c ∷ [])) (k.precedes false at.blocks (c ∷ []) more ∙ ap not hash);
       after_is = ap (λ x. line_past (is_in_column at.position.col at.blocks) at.position at.blocks x false a.line_here) k.act ∙ stray_line closes (is_in_column at.position.col at.blocks) at.position at.blocks a.line_here a.line_is.0;
-      no_key = known closes;
       begun = k.begun;
-      cut = e;
-      separation = blanks_and_comment more;
-      is_rest = line_rest_cut more;
-      is_filled = line_rest_fills more;
-      position_is = indicator_end t.held.position c more k.is_end.in_line;
-      blocks_are = a.blocks_are;
-      awaits_is = k.awaits false at.blocks at.awaits more ∙ a.awaits_is;
-      are_levels = a.are_levels;
-      read_on = subst (λ b. IsReadOn b (position_after at.position (c ∷ []) more) (blanks_and_comment more) (past_blanks_and_comment more)) (sym k.previous) (reads_on closes (position_after at.position (c ∷ []) more) (blanks_and_comment more) (past_blanks_and_comment more));
-      has_no_tabs = inr (none_indents (previous_by tok) at.blocks (awaits_past false tok at.blocks at.awaits more) (blanks_and_comment more) (ap (λ b. begins_line b (blanks_and_comment more)) k.previous ∙ quiet.0));
-      is_leading = λ b r h. sym (ap (λ b. begins_line b (blanks_and_comment more)) k.previous ∙ quiet.0);
-      line_is = allowed_by closes (begins_free_line (previous_by tok) (blanks_and_comment more)) (ap (λ b. begins_free_line b (blanks_and_comment more)) k.previous ∙ quiet.1);
       tokens_are = tokens;
-      flow_is = refl;
-      keys_are = keys;
-      adjacent_is = refl;
-      started = a.started;
-      going = a.going;
+      ends = record {
+        no_key = known closes;
+        cut = e;
+        separation = blanks_and_comment more;
+        is_rest = line_rest_cut more;
+        is_filled = line_rest_fills more;
+        position_is = indicator_end t.held.position c more k.is_end.in_line;
+        blocks_are = a.blocks_are;
+        awaits_is = k.awaits false at.blocks at.awaits more ∙ a.awaits_is;
+        are_levels = a.are_levels;
+        read_on = subst (λ b. IsReadOn b (position_after at.position (c ∷ []) more) (blanks_and_comment more) (past_blanks_and_comment more)) (sym k.previous) (reads_on closes (position_after at.position (c ∷ []) more) (blanks_and_comment more) (past_blanks_and_comment more));
+        has_no_tabs = inr (none_indents (previous_by tok) at.blocks (awaits_past false tok at.blocks at.awaits more) (blanks_and_comment more) (ap (λ b. begins_line b (blanks_and_comment more)) k.previous ∙ quiet.0));
+        is_leading = λ b r h. sym (ap (λ b. begins_line b (blanks_and_comment more)) k.previous ∙ quiet.0);
+        line_is = allowed_by closes (begins_free_line (previous_by tok) (blanks_and_comment more)) (ap (λ b. begins_free_line b (blanks_and_comment more)) k.previous ∙ quiet.1);
+        flow_is = refl;
+        keys_are = keys;
+        adjacent_is = refl;
+        started = a.started;
+        going = a.going;
+      };
     }))
   where
     at : Site

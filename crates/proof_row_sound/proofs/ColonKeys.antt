@@ -35,9 +35,9 @@ use Rattle.proof_row_sound.specs.Completes.{put_key, tokens_up_to, Completes}
 use Rattle.proof_row_sound.specs.Stands.{columns, IsOpenHere, Stands}
 use Rattle.proof_row_sound.proofs.Arrivals.{unbroken, not_free, all_go_on, numbered_more, numbered_around, completes_at}
 use Rattle.proof_row_sound.proofs.ColonSpaces.{colon_gap, past_gap, gap_cut, gap_fills, gap_in_line, gap_end}
-use Rattle.proof_row_sound.proofs.Colons.{at_value, value_by, colon_end, paired_level, valued_entry, single_is, valued_is, one_line_colon, low_enough}
+use Rattle.proof_row_sound.proofs.Colons.{at_value, value_by, colon_end, paired_level, valued_entry, single_is, one_line_colon, ends_inside}
 use Rattle.proof_row_sound.proofs.Around.{tokens_before, unbroken_around, one_around, may_around}
-use Rattle.proof_row_sound.proofs.EntryPieces.{site_inside, later_after, read_inside}
+use Rattle.proof_row_sound.proofs.EntryPieces.{low_enough, site_inside, later_after, read_inside}
 use Rattle.proof_row_sound.proofs.Inserts.{among, first_among, key_longer}
 use Rattle.proof_row_sound.proofs.Indicated.{past_one}
 use Rattle.proof_row_sound.proofs.KeyedColons.{Colon, IsColon, at, before, tokens_past, colon_completes}
@@ -277,29 +277,9 @@ module _ (text more : List ℕ) (t : ScannerState) (f : FlowLevel) (fs : List Fl
 
   inner_stands : (not (opens_pair (f ∷ fs)) || (k.position.line == t.held.position.line)) ≡ true → Stands text inner_after
   inner_stands on =
-      read_inside text t inner_after f (paired_level f) fs (Some k) ks x (valued_entry x) es a (58 ∷ []) more Tok.value (record {
-        is_solid = refl;
-        cut = e;
-        separation = colon_gap more;
-        is_rest = gap_cut more;
-        is_filled = gap_fills more;
-        position_is = gap_end t.held.position more;
-        columns_are = refl;
-        awaits_is = a.awaits_is;
-        are_levels = a.are_levels;
-        read_on = tt;
-        has_no_tabs = inr (spaces_in_line a.site.blocks a.site.awaits (colon_gap more) (gap_in_line more));
-        is_leading = λ b r h. sym (ap not (gap_in_line more));
-        entry_is = valued_is f (Some k) x a.are_entries.0;
-        has_had = (inr refl, refl);
-        flow_is = refl;
-        keys_are = refl;
-        are_numbered = (tt, numbered_more (length a.tokens) (length inner_after.held.tokens) ks inner_many (numbered_around (length a.tokens) (Some k) ks a.are_numbered));
-        before_is = refl;
-        adjacent_is = refl;
-        started = a.started;
-        going = a.going;
-      }) (λ c cs may.
+      read_inside text t inner_after f (paired_level f) fs (Some k) ks x (valued_entry x) es a (58 ∷ []) more Tok.value
+      (ends_inside text more t f fs (Some k) ks x es a e (in_pair (opens_pair (f ∷ fs))) (tt, numbered_more (length a.tokens) (length inner_after.held.tokens) ks inner_many (numbered_around (length a.tokens) (Some k) ks a.are_numbered)))
+      (λ c cs may.
       subst (λ q. let b : Account = with_entries (site_inside (site_in true gives_colon q a.site) (58 ∷ []) Tok.value more) a.line (valued_entry x ∷ es) in Completes text more (chosen c cs (None ∷ ks) b) (tokens_up_to (chosen c cs (None ∷ ks) b) (None ∷ ks) inner_after.held.tokens))
       (sym inner_place)
       (subst (λ ts. Completes text more (keyed.inner_past n c cs) (tokens_up_to (keyed.inner_past n c cs) (None ∷ ks) ts)) (sym (inner_alike ∙ ap inner_row inner_place))

@@ -1,5 +1,5 @@
 -- A colon that ends no key: what holds where it begins holds between two fetches after it.
-use Rattle.std.proofs.Common.{◌≡◌, ℕ, ◌+◌, List, [], ◌∷◌, ◌++◌, Bool, true, false, not, ◌&&◌, ◌||◌, ◌==◌, ◌⊎◌, inl, inr, if◌then◌else◌, nat_le, length, slice_index, Option, Some, None, Result, Ok, refl, ap, sym, ◌∙◌, subst, arith, length-append, append_assoc}
+use Rattle.std.proofs.Common.{◌≡◌, ℕ, ◌+◌, List, [], ◌∷◌, ◌++◌, Bool, true, false, not, ◌&&◌, ◌||◌, ◌==◌, ◌⊎◌, inl, inr, if◌then◌else◌, length, slice_index, Option, Some, None, Result, Ok, refl, ap, sym, ◌∙◌, subst, arith, length-append, append_assoc}
 use Rattle.yaml_chars.specs.Class.{is_blank_or_breakz, is_flow}
 use Rattle.defs_text.specs.Position.{Position, position_after}
 use Rattle.defs_text.specs.Classes.{is_break, is_at_gap}
@@ -12,7 +12,7 @@ use Rattle.yaml_tokens.specs.declared.problem.Fault.TheVariants.{At}
 use Rattle.yaml_tokens.specs.declared.problem.Problem.TheVariants as problem
 use Rattle.defs_row.specs.Step.{gives_colon, has_break}
 use Rattle.defs_row.specs.Column.{is_deeper, is_in_column, opened, not_ended}
-use Rattle.defs_row.specs.Indentation.{least_column, colon_may_precede}
+use Rattle.defs_row.specs.Indentation.{colon_may_precede}
 use Rattle.defs_row.specs.Key.{free, line_past}
 use Rattle.defs_row.specs.FlowEntry.{Had, fresh, settled, Pair, Entry, takes_pair, is_renewed, renewed, had_after, pair_past, with_had, entries_past}
 use Rattle.defs_row.specs.Tokens.{put, pair_position, ends_at, start_if, begun_outside, begun_inside}
@@ -30,11 +30,11 @@ use Rattle.model_scanner.specs.Fetch.{is_value}
 use Rattle.model_scanner.proofs.Holds.{Holds, went, chained, checked, tried}
 use Rattle.proof_cut.proofs.Dispatch.{gap_here, flow_here}
 use Rattle.proof_cut.proofs.Nodes.{IsDeep}
-use Rattle.proof_row_sound.specs.Stands.{columns, has_open_level, AreLevels, kind_of, IsPairOf, IsEntryOf, Stands}
-use Rattle.proof_row_sound.proofs.Arrivals.{first_not_right, deep_enough, numbered_more, numbered_around}
+use Rattle.proof_row_sound.specs.Stands.{columns, has_open_level, AreLevels, kind_of, IsPairOf, IsEntryOf, AreNumbered, Stands}
+use Rattle.proof_row_sound.proofs.Arrivals.{first_not_right, numbered_more, numbered_around}
 use Rattle.proof_row_sound.proofs.Around.{tokens_before}
 use Rattle.proof_row_sound.proofs.ColonSpaces.{colon_gap, past_gap, gap_cut, gap_fills, gap_in_line, gap_end}
-use Rattle.proof_row_sound.proofs.EntryPieces.{goes_inside}
+use Rattle.proof_row_sound.proofs.EntryPieces.{low_enough, ReadInside, goes_inside}
 use Rattle.proof_row_sound.proofs.Indicated.{past_one}
 use Rattle.proof_row_sound.proofs.OutsidePieces.{read_outside, line_free, spaces_in_line, started_tokens}
 use Rattle.proof_row_sound.proofs.Questions.{with_mapping}
@@ -89,28 +89,30 @@ keyless_stands text more t a e allowed apart ind i ds columns_are levels awaits 
       is_piece = (refl, ind);
       stands = rw (a.is_indented (ap is_empty e), apart) refl;
       after_is = ap (λ l. line_past (is_in_column t.held.position.col bs) t.held.position bs gives_colon false l) here_free;
-      no_key = refl;
       begun = refl;
-      cut = e;
-      separation = colon_gap more;
-      is_rest = gap_cut more;
-      is_filled = gap_fills more;
-      position_is = gap_end t.held.position more;
-      blocks_are = ap (opened t.held.position.col) a.blocks_are ∙ sym columns_are;
-      awaits_is = sym awaits;
-      are_levels = levels;
-      read_on = tt;
-      has_no_tabs = inr (spaces_in_line (opened t.held.position.col bs) true (colon_gap more) (gap_in_line more));
-      is_leading = λ b r h. sym (ap not (gap_in_line more));
-      line_is = (inl refl, refl, tt);
       tokens_are = ap (λ cs. (if is_deeper t.held.position.col cs then placed None (token t.held.position Tok.block_mapping_start) t.held.tokens else t.held.tokens) ++ put t.held.position Tok.value ∷ []) (sym a.blocks_are) ∙
           (started_tokens (is_deeper t.held.position.col bs) t.held.tokens a.tokens (ends_at t.held.position a.site.blocks bs) t.held.position Tok.block_mapping_start (put t.held.position Tok.value) a.tokens_are ∙
           ap (λ l. a.tokens ++ ((ends_at t.held.position a.site.blocks bs ++ begun_outside (is_deeper t.held.position.col bs) t.held.position t.held.position gives_colon false (Some l)) ++ (put t.held.position Tok.value ∷ []))) (sym here_free));
-      flow_is = refl;
-      keys_are = refl;
-      adjacent_is = refl;
-      started = a.started;
-      going = a.going;
+      ends = record {
+        no_key = refl;
+        cut = e;
+        separation = colon_gap more;
+        is_rest = gap_cut more;
+        is_filled = gap_fills more;
+        position_is = gap_end t.held.position more;
+        blocks_are = ap (opened t.held.position.col) a.blocks_are ∙ sym columns_are;
+        awaits_is = sym awaits;
+        are_levels = levels;
+        read_on = tt;
+        has_no_tabs = inr (spaces_in_line (opened t.held.position.col bs) true (colon_gap more) (gap_in_line more));
+        is_leading = λ b r h. sym (ap not (gap_in_line more));
+        line_is = (inl refl, refl, tt);
+        flow_is = refl;
+        keys_are = refl;
+        adjacent_is = refl;
+        started = a.started;
+        going = a.going;
+      };
     })
   where
     bs : List ℕ
@@ -213,11 +215,33 @@ pub one_line_colon : has_break (58 ∷ []) ≡ false
 unfolding is_break
 one_line_colon = refl
 
--- the least column where a piece begins
-pub low_enough : (text : List ℕ) (t : ScannerState) (f : FlowLevel) (fs : List FlowLevel) (ks : List (Option Key)) (es : List Entry) (a : ArrivesBy text t (f ∷ fs) ks es) → IsDeep t.held → nat_le (least_column a.site.blocks a.site.awaits) t.held.position.col ≡ true
-low_enough text t f fs ks es a deep =
-    ap (λ bs. nat_le (least_column bs a.site.awaits) t.held.position.col) a.blocks_are ∙
-    (ap (λ b. nat_le (least_column (columns t.held.indent t.held.indents) b) t.held.position.col) a.awaits_is ∙ deep_enough t.held.position.col t.held.indent t.held.indents a.are_levels deep)
+-- What the scanner holds after it, with tokens up to it.
+pub ends_inside : (text more : List ℕ) (t : ScannerState) (f : FlowLevel) (fs : List FlowLevel) (k : Option Key) (ks : List (Option Key)) (e : Entry) (es : List Entry) (a : ArrivesBy text t (f ∷ fs) (k ∷ ks) (e ∷ es)) → t.rest ≡ 58 ∷ more → (ts : List Token) →
+    AreNumbered (length (ts ++ token t.held.position Tok.value ∷ [])) (None ∷ ks) →
+    ReadInside text t (colon_end t more t.held.indents t.held.indent ts false (paired_level f ∷ fs) (None ∷ ks)) f (paired_level f) fs k ks e (valued_entry e) es a (58 ∷ []) more Tok.value
+ends_inside text more t f fs k ks e es a cut ts numbered = record {
+  is_solid = refl;
+  cut = cut;
+  separation = colon_gap more;
+  is_rest = gap_cut more;
+  is_filled = gap_fills more;
+  position_is = gap_end t.held.position more;
+  columns_are = refl;
+  awaits_is = a.awaits_is;
+  are_levels = a.are_levels;
+  read_on = tt;
+  has_no_tabs = inr (spaces_in_line a.site.blocks a.site.awaits (colon_gap more) (gap_in_line more));
+  is_leading = λ b r h. sym (ap not (gap_in_line more));
+  entry_is = valued_is f k e a.are_entries.0;
+  has_had = (inr refl, refl);
+  flow_is = refl;
+  keys_are = refl;
+  are_numbered = numbered;
+  before_is = refl;
+  adjacent_is = refl;
+  started = a.started;
+  going = a.going;
+}
 
 -- the tokens with the start of a single pair, if one begins
 abbrev with_pair : (single : Bool) → (more : List ℕ) → ScannerState → List Token
@@ -268,34 +292,13 @@ keyless_inside text more t f fs ks e es a cut apart ind deep =
     many = ap length tokens ∙ length-append a.tokens own
 
     stands : Stands text (colon_end t more t.held.indents t.held.indent (with_pair single more t) false (paired_level f ∷ fs) (None ∷ ks))
-    stands = goes_inside text t (colon_end t more t.held.indents t.held.indent (with_pair single more t) false (paired_level f ∷ fs) (None ∷ ks)) f (paired_level f) fs None ks e (valued_entry e) es a (58 ∷ []) more Tok.value (record {
-      is_solid = refl;
-      cut = cut;
-      separation = colon_gap more;
-      is_rest = gap_cut more;
-      is_filled = gap_fills more;
-      position_is = gap_end t.held.position more;
-      columns_are = refl;
-      awaits_is = a.awaits_is;
-      are_levels = a.are_levels;
-      read_on = tt;
-      has_no_tabs = inr (spaces_in_line a.site.blocks a.site.awaits (colon_gap more) (gap_in_line more));
-      is_leading = λ b r h. sym (ap not (gap_in_line more));
-      entry_is = valued_is f None e a.are_entries.0;
-      has_had = (inr refl, refl);
-      flow_is = refl;
-      keys_are = refl;
-      are_numbered = (tt, numbered_more (length a.tokens) (length (with_pair single more t ++ token t.held.position Tok.value ∷ [])) ks (omega (arith, many)) (numbered_around (length a.tokens) None ks a.are_numbered));
-      before_is = refl;
-      adjacent_is = refl;
-      started = a.started;
-      going = a.going;
-    }) (record {
-      in_line = one_line_colon;
-      begun = refl;
-      is_piece = (refl, ind);
-      stands = rw (a.is_indented (ap is_empty cut), low_enough text t f fs (None ∷ ks) (e ∷ es) a deep, apart) refl;
-      entry_past = λ xs. values t.held.position (is_renewed a.site.before a.separation) e xs had;
-      colons = λ n p ws last. refl;
-      tokens_are = tokens;
-    })
+    stands = goes_inside text t (colon_end t more t.held.indents t.held.indent (with_pair single more t) false (paired_level f ∷ fs) (None ∷ ks)) f (paired_level f) fs None ks e (valued_entry e) es a (58 ∷ []) more Tok.value (ends_inside text more t f fs None ks e es a cut (with_pair single more t) (tt, numbered_more (length a.tokens) (length (with_pair single more t ++ token t.held.position Tok.value ∷ [])) ks (omega (arith, many)) (numbered_around (length a.tokens) None ks a.are_numbered)))
+        (record {
+          in_line = one_line_colon;
+          begun = refl;
+          is_piece = (refl, ind);
+          stands = rw (a.is_indented (ap is_empty cut), low_enough text t f fs (None ∷ ks) (e ∷ es) a deep, apart) refl;
+          entry_past = λ xs. values t.held.position (is_renewed a.site.before a.separation) e xs had;
+          colons = λ n p ws last. refl;
+          tokens_are = tokens;
+        })

@@ -28,13 +28,13 @@ use Rattle.model_scanner.specs.Block.{last_property, at_margin, check_block_entr
 use Rattle.model_scanner.proofs.Holds.{Holds, went, chained, checked, passes, tried}
 use Rattle.proof_lexers.proofs.Bridges.{same_break, same_flow}
 use Rattle.proof_cut.proofs.Dispatch.{gap_here}
-use Rattle.proof_cut.proofs.Indicators.{past_indicator}
 use Rattle.proof_cut.proofs.Nodes.{IsDeep}
 use Rattle.proof_cut.proofs.Blocks.{entry_from, key_removed}
 use Rattle.proof_row_sound.specs.Arrives.{Arrives}
 use Rattle.proof_row_sound.specs.Stands.{columns, has_open_level, AreLevels, Stands}
 use Rattle.proof_row_sound.proofs.Arrivals.{first_not_right}
-use Rattle.proof_row_sound.proofs.Blanks.{same_in_line, line_rest_cut, line_rest_fills, line_rest_in_line, past_rest_is_clear, found_in, past_rest, rest_read, none_skipped}
+use Rattle.proof_row_sound.proofs.Blanks.{line_rest_cut, line_rest_fills, line_rest_in_line, past_rest_is_clear, found_in, past_rest, rest_read, none_skipped}
+use Rattle.proof_row_sound.proofs.Indicated.{past_one, indicator_end}
 use Rattle.proof_row_sound.proofs.OutsidePieces.{read_outside, line_free, none_open, spaces_in_line, started_tokens}
 use Rattle.proof_row_sound.proofs.Rolled.{RollsTo, rolls_to, OpensOne, opens_one, top_closed}
 use Rattle.proof_row_sound.proofs.Sides.{ArrivesBy, ArrivesOutside, ArrivesInside, arrives_side}
@@ -127,7 +127,11 @@ with_sequence t = (if is_deeper t.held.position.col (columns t.held.indent t.hel
 
 past_dash : (p : Position) (next : List ℕ) → position_after p (45 ∷ []) next ≡ past p
 unfolding is_break
-past_dash p next = past_indicator p 45 next refl
+past_dash p next = past_one p 45 next refl
+
+dash_ends : (p : Position) (more : List ℕ) → past_line_rest (past p) more ≡ position_after (position_after p (45 ∷ []) more) (blanks_and_comment more) (past_blanks_and_comment more)
+unfolding is_break
+dash_ends p more = indicator_end p 45 more refl
 
 dash_stands : (text more : List ℕ) (t : ScannerState) (a : ArrivesBy text t [] (None ∷ []) []) → t.held.flow ≡ [] → t.held.keys ≡ None ∷ [] → t.rest ≡ 45 ∷ more → is_at_gap more ≡ true → t.held.key_allowed ≡ true → dash_may_precede more ≡ true →
     (i : ℕ) (ds : List Indent) → columns i ds ≡ opened t.held.position.col (columns t.held.indent t.held.indents) → AreLevels i ds → has_open_level ds ≡ is_at_break_or_flow (past_blanks_and_comment more) →
@@ -138,27 +142,28 @@ dash_stands text more t a flow keys e gap allowed apart i ds columns_are levels 
       is_piece = (refl, gap, refl);
       stands = rw (a.is_indented (ap is_empty e), apart) refl;
       after_is = ap (λ l. line_past (is_in_column t.held.position.col bs) t.held.position bs gives_dash false l) (line_free t.held.key_allowed t.rest a.line_here allowed a.line_is);
-      no_key = refl;
       begun = refl;
-      cut = e;
-      separation = blanks_and_comment more;
-      is_rest = line_rest_cut more;
-      is_filled = line_rest_fills more;
-      position_is = ap (λ q. position_after q (blanks_and_comment more) []) (sym (past_dash t.held.position more)) ∙
-          same_in_line (position_after t.held.position (45 ∷ []) more) (blanks_and_comment more) [] (past_blanks_and_comment more) (line_rest_in_line more);
-      blocks_are = ap (opened t.held.position.col) a.blocks_are ∙ sym columns_are;
-      awaits_is = sym awaits;
-      are_levels = levels;
-      read_on = tt;
-      has_no_tabs = inr (spaces_in_line (opened t.held.position.col bs) (is_at_break_or_flow (past_blanks_and_comment more)) (blanks_and_comment more) (line_rest_in_line more));
-      is_leading = λ b r h. sym (ap not (line_rest_in_line more));
-      line_is = (inl refl, refl, tt);
       tokens_are = tokens;
-      flow_is = flow;
-      keys_are = ap (with_top None) keys;
-      adjacent_is = refl;
-      started = a.started;
-      going = a.going;
+      ends = record {
+        no_key = refl;
+        cut = e;
+        separation = blanks_and_comment more;
+        is_rest = line_rest_cut more;
+        is_filled = line_rest_fills more;
+        position_is = dash_ends t.held.position more;
+        blocks_are = ap (opened t.held.position.col) a.blocks_are ∙ sym columns_are;
+        awaits_is = sym awaits;
+        are_levels = levels;
+        read_on = tt;
+        has_no_tabs = inr (spaces_in_line (opened t.held.position.col bs) (is_at_break_or_flow (past_blanks_and_comment more)) (blanks_and_comment more) (line_rest_in_line more));
+        is_leading = λ b r h. sym (ap not (line_rest_in_line more));
+        line_is = (inl refl, refl, tt);
+        flow_is = flow;
+        keys_are = ap (with_top None) keys;
+        adjacent_is = refl;
+        started = a.started;
+        going = a.going;
+      };
     })
   where
     bs : List ℕ

@@ -153,26 +153,28 @@ line_stands text t d a r flow keys =
       stands = all_true (is_indented_by_spaces a.site.before a.site.blocks a.site.awaits a.separation) true (further_lines_stand (least_for d.tok x) d.tok d.piece) (may_precede false x.blocks d.tok d.piece (next_of d))
           (a.is_indented (some_rest t.rest d.piece (next_of d) r.cut r.is_solid)) refl (r.token.lines (least_for d.tok x) d.piece) (r.precedes false x.blocks);
       after_is = ap (λ k. line_of_piece (is_in_column x.position.col x.blocks) x.position x.blocks k false a.line_here) r.token.act ∙ marker_line (is_in_column x.position.col x.blocks) x.position x.blocks a.line_here a.line_is.0;
-      no_key = refl;
       begun = r.token.begun;
-      cut = r.cut;
-      separation = d.gap;
-      is_rest = refl;
-      is_filled = r.is_filled;
-      position_is = r.end_is;
-      blocks_are = refl;
-      awaits_is = r.token.awaits_outside x.blocks x.awaits (next_of d);
-      are_levels = refl;
-      read_on = r.read_on (position_after x.position d.piece (next_of d));
-      has_no_tabs = inr (r.no_tabs [] (awaits_past false d.tok x.blocks x.awaits (next_of d)));
-      is_leading = λ some more hash. absurd (cc some);
-      line_is = (inr refl, sym r.not_free, tt);
       tokens_are = tokens;
-      flow_is = flow;
-      keys_are = keys;
-      adjacent_is = refl;
-      started = a.started;
-      going = a.going;
+      ends = record {
+        no_key = refl;
+        cut = r.cut;
+        separation = d.gap;
+        is_rest = refl;
+        is_filled = r.is_filled;
+        position_is = r.end_is;
+        blocks_are = refl;
+        awaits_is = r.token.awaits_outside x.blocks x.awaits (next_of d);
+        are_levels = refl;
+        read_on = r.read_on (position_after x.position d.piece (next_of d));
+        has_no_tabs = inr (r.no_tabs [] (awaits_past false d.tok x.blocks x.awaits (next_of d)));
+        is_leading = λ some more hash. absurd (cc some);
+        line_is = (inr refl, sym r.not_free, tt);
+        flow_is = flow;
+        keys_are = keys;
+        adjacent_is = refl;
+        started = a.started;
+        going = a.going;
+      };
     }))
   where
     x : Site

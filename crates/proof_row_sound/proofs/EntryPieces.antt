@@ -1,5 +1,5 @@
 -- A piece in flow with which its entry goes on, and after which no key of the entry is open: what holds where it begins holds between two fetches after it.
-use Rattle.std.proofs.Common.{◌≡◌, ℕ, suc, ◌≤◌, List, [], ◌∷◌, ◌++◌, Bool, true, false, length, Option, Some, None, ap, sym, ◌∙◌, subst, arith}
+use Rattle.std.proofs.Common.{◌≡◌, ℕ, suc, ◌≤◌, List, [], ◌∷◌, ◌++◌, Bool, true, false, nat_le, length, Option, Some, None, ap, sym, ◌∙◌, subst, arith}
 use Rattle.defs_text.specs.Position.{Position, position_after}
 use Rattle.defs_text.specs.Text.{is_empty}
 use Rattle.defs_token.specs.Account.{other, before_past}
@@ -7,7 +7,7 @@ use Rattle.defs_token.specs.Token.{Tok, Token}
 use Rattle.defs_token.specs.Separation.{is_separation}
 use Rattle.defs_token.specs.Piece.{IsPiece}
 use Rattle.defs_row.specs.Step.{Step, act_of, previous_by, has_break}
-use Rattle.defs_row.specs.Indentation.{awaits_past}
+use Rattle.defs_row.specs.Indentation.{least_column, awaits_past}
 use Rattle.defs_row.specs.FlowEntry.{Entry, takes_pair, begun_by, is_renewed, entries_past}
 use Rattle.defs_row.specs.Account.{Site, Account, before_by, site_in, site_past, may_stand, seen}
 use Rattle.defs_row.specs.Tokens.{put, shown_position, pair_position, colon_of, begun_inside}
@@ -17,17 +17,23 @@ use Rattle.proof_lexers.specs.PlainEnds.{has_no_nul}
 use Rattle.proof_cut.specs.Order.{NotBefore}
 use Rattle.proof_cut.specs.Stands.{IsAdjacent}
 use Rattle.proof_cut.proofs.Positions.{index_after, not_before_after, not_before_then}
-use Rattle.proof_cut.proofs.Nodes.{adjacent_other}
+use Rattle.proof_cut.proofs.Nodes.{IsDeep, adjacent_other}
 use Rattle.proof_row_sound.specs.Choices.{outside_key, chosen, MayChoose}
 use Rattle.proof_row_sound.specs.Completes.{tokens_up_to, Completes}
 use Rattle.proof_row_sound.specs.Stands.{columns, has_open_level, AreLevels, HasNoTabs, IsLeading, IsReadOn, HasHadHere, IsEntryOf, AreNumbered, Stands}
-use Rattle.proof_row_sound.proofs.Arrivals.{clean_after, some_rest, completes_at}
+use Rattle.proof_row_sound.proofs.Arrivals.{clean_after, some_rest, deep_enough, completes_at}
 use Rattle.proof_row_sound.proofs.Around.{line_taken, unbroken_around, one_around, may_around, open_around}
 use Rattle.proof_row_sound.proofs.Inserts.{among}
 use Rattle.proof_row_sound.proofs.NodeTokens.{past_step}
 use Rattle.proof_row_sound.proofs.NodesInside.{not_keyed}
 use Rattle.proof_row_sound.proofs.StepsInside.{Piece, IsHere, at, past, piece_completes}
 use Rattle.proof_row_sound.proofs.Sides.{with_entries, ArrivesBy, stands_by}
+
+-- where a piece begins deep enough, the least column is not right of it
+pub low_enough : (text : List ℕ) (t : ScannerState) (f : FlowLevel) (fs : List FlowLevel) (ks : List (Option Key)) (es : List Entry) (a : ArrivesBy text t (f ∷ fs) ks es) → IsDeep t.held → nat_le (least_column a.site.blocks a.site.awaits) t.held.position.col ≡ true
+low_enough text t f fs ks es a deep =
+    ap (λ bs. nat_le (least_column bs a.site.awaits) t.held.position.col) a.blocks_are ∙
+    (ap (λ b. nat_le (least_column (columns t.held.indent t.held.indents) b) t.held.position.col) a.awaits_is ∙ deep_enough t.held.position.col t.held.indent t.held.indents a.are_levels deep)
 
 -- the site after a piece at a site
 abbrev pub site_inside : Site → (piece : List ℕ) → Tok → (next : List ℕ) → Site

@@ -7,12 +7,11 @@ use Rattle.yaml_tokens.specs.declared.problem.Problem.TheVariants as problem
 use Rattle.defs_token.specs.Token.{Tok}
 use Rattle.defs_scalar.specs.FlowScalar.{begins_with}
 use Rattle.model_scanner.specs.declared.level.FlowLevel.{FlowLevel}
-use Rattle.model_scanner.specs.declared.level.FlowLevel.TheVariants.{Mapping, Entry, Keyed, Pair}
 use Rattle.model_scanner.specs.State.{Key, Held, ScannerState, push, pop, with_top, after, on_held}
 use Rattle.model_scanner.specs.Keys.{is_required, top_key, remove_implicit_key}
-use Rattle.model_scanner.specs.Flow.{allow_key, end_flow_pair, decrease_flow_level, adjacent_in_flow, ended_flow, end_flow, next_entry, end_entry, fetch_flow_collection_end, fetch_flow_entry}
+use Rattle.model_scanner.specs.Flow.{adjacent_in_flow, ended_flow, end_flow, next_entry, end_entry, fetch_flow_collection_end, fetch_flow_entry}
 use Rattle.model_scanner.proofs.Holds.{Holds, went, refused, chained, tried}
-use Rattle.proof_cut.proofs.FlowEnds.{closed_tokens, entered}
+use Rattle.proof_cut.proofs.FlowEnds.{higher_keys, ended_now, entry_now, ended_is, entry_is}
 use Rattle.proof_cut.proofs.Nodes.{IsDeep}
 use Rattle.proof_row_sound.specs.Arrives.{Arrives}
 use Rattle.proof_row_sound.specs.Choices.{MayChoose}
@@ -26,41 +25,14 @@ use Rattle.proof_row_sound.proofs.Sides.{ArrivesOutside, ArrivesInside, arrives_
 
 -- ---- what the model leaves
 
-abbrev higher_keys : List FlowLevel → List (Option Key) → List (Option Key)
-higher_keys [] ks = with_top None ks
-higher_keys (f ∷ fs) ks = pop (with_top None ks)
-
--- after a closing bracket, and after a comma
-abbrev closed_now : List FlowLevel → Held → Held
-closed_now fs s = record s { tokens = closed_tokens fs s.position s.tokens; keys = higher_keys fs s.keys; flow = pop fs; key_allowed = false }
-
-abbrev entry_now : List FlowLevel → Held → Held
-entry_now fs s = record s { tokens = closed_tokens fs s.position s.tokens; keys = with_top None s.keys; flow = entered fs; key_allowed = true }
-
-closed_is : (s : Held) (fs : List FlowLevel) → allow_key false (decrease_flow_level (end_flow_pair (record s { keys = with_top None s.keys; flow = fs }))) ≡ closed_now fs s
-unfolding decrease_flow_level end_flow_pair
-closed_is s [] = refl
-closed_is s (Pair ∷ fs) = refl
-closed_is s (Keyed ∷ fs) = refl
-closed_is s (Mapping ∷ fs) = refl
-closed_is s (Entry ∷ fs) = refl
-
-entry_is : (s : Held) (fs : List FlowLevel) → end_flow_pair (allow_key true (record s { keys = with_top None s.keys; flow = fs })) ≡ entry_now fs s
-unfolding end_flow_pair
-entry_is s [] = refl
-entry_is s (Pair ∷ fs) = refl
-entry_is s (Keyed ∷ fs) = refl
-entry_is s (Mapping ∷ fs) = refl
-entry_is s (Entry ∷ fs) = refl
-
 -- the innermost key need not be one
-flow_over : (s : Held) → Holds (λ u. (is_required (top_key s.keys) ≡ false) × (u ≡ closed_now s.flow s)) (end_flow s)
+flow_over : (s : Held) → Holds (λ u. (is_required (top_key s.keys) ≡ false) × (u ≡ ended_now s.flow s)) (end_flow s)
 unfolding end_flow remove_implicit_key
 flow_over s = by (is_required (top_key s.keys)) refl
   where
-    by : (b : Bool) → is_required (top_key s.keys) ≡ b → Holds (λ u. (is_required (top_key s.keys) ≡ false) × (u ≡ closed_now s.flow s)) (ended_flow (if b then Err (At problem.KeyExpected s.position) else Ok (record s { keys = with_top None s.keys })))
+    by : (b : Bool) → is_required (top_key s.keys) ≡ b → Holds (λ u. (is_required (top_key s.keys) ≡ false) × (u ≡ ended_now s.flow s)) (ended_flow (if b then Err (At problem.KeyExpected s.position) else Ok (record s { keys = with_top None s.keys })))
     by true e = refused
-    by false e = went (e, closed_is s s.flow)
+    by false e = went (e, ended_is s s.flow)
 
 entry_over : (s : Held) → Holds (λ u. (is_required (top_key s.keys) ≡ false) × (u ≡ entry_now s.flow s)) (end_entry s)
 unfolding end_entry remove_implicit_key
@@ -109,7 +81,7 @@ adjacent_is s [] = refl
 adjacent_is s (f ∷ fs) = refl
 
 abbrev after_closing : Tok → List FlowLevel → List (Option Key) → ScannerState → (more : List ℕ) → ScannerState
-after_closing tok fs ks t more = on_held (λ s. push t.held.position tok (adjacent_in_flow s)) (past_it (record t { held = record (closed_now fs t.held) { keys = ks } }) more)
+after_closing tok fs ks t more = on_held (λ s. push t.held.position tok (adjacent_in_flow s)) (past_it (record t { held = record (ended_now fs t.held) { keys = ks } }) more)
 
 closing_stands : (text more : List ℕ) (tok : Tok) (c : ℕ) → IsCloser true tok c → (t : ScannerState) → t.rest ≡ c ∷ more → begins_with 35 more ≡ false → IsDeep t.held → Arrives text t → is_required (top_key t.held.keys) ≡ false →
     Stands text (after_closing tok t.held.flow (higher_keys t.held.flow t.held.keys) t more)
@@ -121,7 +93,7 @@ closing_stands text more tok c k t e hash deep a free = by (arrives_side text t 
         subst (λ fs. Stands text (after_closing tok fs (higher_keys fs t.held.keys) t more)) (sym o.flow_is)
         (stray_stands text more true tok c k t (key_gone text t o.key o.here (ap is_empty e) (may_be_none o.key [] t.held.keys t.held.position t.rest o.keys_are free)) (ap (with_top None) o.keys_are) e hash)
     by (inr i) =
-        let now : ScannerState = past_it (record t { held = record (closed_now (i.level ∷ i.levels) t.held) { keys = i.keys } }) more in
+        let now : ScannerState = past_it (record t { held = record (ended_now (i.level ∷ i.levels) t.held) { keys = i.keys } }) more in
         subst (λ fs. Stands text (after_closing tok fs (higher_keys fs t.held.keys) t more)) (sym i.flow_is)
         (subst (λ ks. Stands text (after_closing tok (i.level ∷ i.levels) (pop (with_top None ks)) t more)) (sym i.keys_are)
         (subst (λ h. Stands text (record now { held = push t.held.position tok h })) (sym (adjacent_is now.held i.levels))
@@ -132,6 +104,6 @@ closing_stands text more tok c k t e hash deep a free = by (arrives_side text t 
 pub closing_keeps : (text more : List ℕ) (tok : Tok) (c : ℕ) → IsCloser true tok c → (t : ScannerState) → t.rest ≡ c ∷ more → IsDeep t.held → Arrives text t → Holds (Stands text) (fetch_flow_collection_end tok t)
 unfolding fetch_flow_collection_end
 closing_keeps text more tok c k t e deep a =
-    chained {P = λ u. (is_required (top_key t.held.keys) ≡ false) × (u ≡ record t { held = closed_now t.held.flow t.held })} (tried t (end_flow t.held) (flow_over t.held) (λ h d. (d.0, ap (λ y. record t { held = y }) d.1))) (λ u d.
+    chained {P = λ u. (is_required (top_key t.held.keys) ≡ false) × (u ≡ record t { held = ended_now t.held.flow t.held })} (tried t (end_flow t.held) (flow_over t.held) (λ h d. (d.0, ap (λ y. record t { held = y }) d.1))) (λ u d.
     chained (indicator_passed u more (ap (λ y. after y.rest) d.1 ∙ ap after e)) (λ v w.
     went (subst (λ y. Stands text (on_held (λ s. push t.held.position tok (adjacent_in_flow s)) y)) (sym (w.0 ∙ ap (λ y. past_it y more) d.1)) (closing_stands text more tok c k t e w.1 deep a d.0))))

@@ -1,5 +1,6 @@
 -- The last line of a text as the text grows, and the column after it.
 use Rattle.std.proofs.Common.{◌≡◌, ℕ, zero, suc, ◌+◌, ◌≤◌, List, [], ◌∷◌, ◌++◌, Bool, true, false, not, ◌&&◌, ◌||◌, ◌==◌, ◌⊎◌, inl, inr, if◌then◌else◌, length, take, refl, ap, sym, ◌∙◌, arith}
+use Rattle.std.proofs.Math.Bool.{or-true}
 use Rattle.std.proofs.lemmas.Bool.{and_parts, eqb-true}
 use Rattle.std.proofs.lemmas.List.{take-append-le}
 use Rattle.defs_text.specs.Classes.{is_break, is_blank, is_one_of}
@@ -16,10 +17,6 @@ feed_breaks : (c : ℕ) (r : List ℕ) → is_before_line_feed c r ≡ true → 
 unfolding is_break
 feed_breaks c [] h = absurd (cc h)
 feed_breaks c (d ∷ r) h = rw (eqb-true d 10 (and_parts (c == 13) (d == 10) h).1) refl
-
-or_true : (b : Bool) → (b || true) ≡ true
-or_true true = refl
-or_true false = refl
 
 -- a break anywhere is one of either part
 pub break_append : (a b : List ℕ) → has_break (a ++ b) ≡ (has_break a || has_break b)
@@ -149,7 +146,7 @@ no_comment_in_last g rest h ends = outside g h
 
         first : (x y : Bool) → (c == 35) ≡ y → (x && is_separation y g rest) ≡ true → Both g → is_one_of (last_line (c ∷ g)) 35 ≡ false
         first false y e h b = absurd (cc h)
-        first true true e h b = rw (last_first c g, (b.1 h).0, or_true (is_break c)) (b.1 h).1
+        first true true e h b = rw (last_first c g, (b.1 h).0, or-true (is_break c)) (b.1 h).1
         first true false e h b = ap (λ l. is_one_of l 35) (last_first c g) ∙ by (is_break c || has_break g)
           where
             by : (z : Bool) → is_one_of (if z then last_line g else c ∷ last_line g) 35 ≡ false

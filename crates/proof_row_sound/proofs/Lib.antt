@@ -22,7 +22,6 @@ pub mod FlowStarts
 pub mod Gone
 pub mod Indicated
 pub mod Inserts
-pub mod InsidePieces
 pub mod KeyStarts
 pub mod KeyedColons
 pub mod KeysBefore

@@ -1,5 +1,5 @@
 -- A piece outside flow before and after which no key waits: what holds where it begins holds between two fetches after it.
-use Rattle.std.proofs.Common.{◌≡◌, ℕ, ◌≤◌, List, [], ◌∷◌, ◌++◌, Bool, true, false, not, ◌||◌, ◌⊎◌, inl, inr, if◌then◌else◌, Option, Some, None, refl, ap, sym, ◌∙◌, subst, arith, append_assoc}
+use Rattle.std.proofs.Common.{◌≡◌, ℕ, ◌≤◌, List, [], ◌∷◌, ◌++◌, Bool, true, false, not, ◌⊎◌, inl, inr, if◌then◌else◌, Option, Some, None, refl, ap, sym, ◌∙◌, subst, arith, append_assoc}
 use Rattle.std.proofs.lemmas.List.{append-nil}
 use Rattle.defs_text.specs.Position.{Position, position_after}
 use Rattle.defs_text.specs.Breaks.{has_no_break}
@@ -9,7 +9,7 @@ use Rattle.defs_token.specs.Separation.{is_separation}
 use Rattle.defs_token.specs.Piece.{IsPiece}
 use Rattle.defs_row.specs.Step.{act_of, another, previous_by}
 use Rattle.defs_row.specs.Column.{is_in_column, is_deeper}
-use Rattle.defs_row.specs.Indentation.{least_column, awaits_past, has_tab_within, last_line, follows_plain, is_indented_by_spaces}
+use Rattle.defs_row.specs.Indentation.{awaits_past, is_indented_by_spaces}
 use Rattle.defs_row.specs.Key.{Line, free, taken, is_waiting, begins_free_line, Outside, line_past}
 use Rattle.defs_row.specs.FlowEntry.{begun_by}
 use Rattle.defs_row.specs.Account.{Site, site_in, site_past, may_stand, seen}
@@ -22,6 +22,7 @@ use Rattle.proof_row_sound.specs.Completes.{Completes}
 use Rattle.proof_row_sound.specs.Stands.{columns, has_open_level, AreLevels, IsReadOn, HasNoTabs, IsLeading, is_free, IsLine, Stands}
 use Rattle.proof_row_sound.specs.Arrives.{IsLineHere}
 use Rattle.proof_row_sound.proofs.Arrivals.{clean_after}
+use Rattle.proof_row_sound.proofs.Indicated.{none_indents}
 use Rattle.proof_row_sound.proofs.Sides.{with_entries, ArrivesBy, stands_by}
 use Rattle.proof_row_sound.proofs.StepsOutside.{Piece, IsHere, at, before, past, own_tokens, piece_completes}
 
@@ -89,32 +90,15 @@ ends_outside text t u k a piece next tok after x place r rows =
       completes = λ c cs may. subst (λ y. Completes text y (with_entries (site_then x piece tok next after) after.line []) (λ ws last. u.held.tokens)) r.is_rest rows;
     })
 
--- What was read from one state to another where no key is open: a piece at a site, and a separation after it; and what the scanner holds then.
+-- What was read where no key is open: a piece at a site, and what the scanner holds after it.
 pub record ReadOutside (text : List ℕ) (t u : ScannerState) (a : ArrivesBy text t [] (None ∷ []) []) (piece next : List ℕ) (tok : Tok) (after : Outside) (x : Site) : Type 0 where
   pub is_solid : is_empty piece ≡ false
   pub is_piece : IsPiece (seen (with_entries a.site a.line []) x a.separation) piece next None (shown_position x piece tok next) tok
   pub stands : may_stand false a.site x a.separation piece tok next ≡ true
   pub after_is : line_past (is_in_column x.position.col x.blocks) x.position x.blocks (act_of tok) false a.line_here ≡ Some after
-  pub no_key : is_waiting after.line ≡ false
   pub begun : begun_by tok ≡ []
-  pub cut : t.rest ≡ piece ++ next
-  pub separation : List ℕ
-  pub is_rest : next ≡ separation ++ u.rest
-  pub is_filled : is_separation false separation u.rest ≡ true
-  pub position_is : u.held.position ≡ position_after (position_after x.position piece next) separation u.rest
-  pub blocks_are : after.blocks ≡ columns u.held.indent u.held.indents
-  pub awaits_is : awaits_past false tok x.blocks x.awaits next ≡ has_open_level u.held.indents
-  pub are_levels : AreLevels u.held.indent u.held.indents
-  pub read_on : IsReadOn (previous_by tok) (position_after x.position piece next) separation u.rest
-  pub has_no_tabs : HasNoTabs (site_then x piece tok next after) separation u.rest
-  pub is_leading : IsLeading u.held.leading (site_then x piece tok next after) separation u.rest
-  pub line_is : IsLine false u.held.key_allowed (begins_free_line (previous_by tok) separation) u.held.position u.rest None after.line
   pub tokens_are : u.held.tokens ≡ a.tokens ++ tokens_then a.site x piece tok next a.line_here
-  pub flow_is : u.held.flow ≡ []
-  pub keys_are : u.held.keys ≡ None ∷ []
-  pub adjacent_is : u.held.adjacent_value_at ≡ t.held.adjacent_value_at
-  pub started : u.held.started ≡ true
-  pub going : u.held.ended ≡ false
+  pub ends : EndsOutside t u piece next tok after x
 
 -- What holds between two fetches holds after it.
 pub read_outside : (text : List ℕ) (t u : ScannerState) (a : ArrivesBy text t [] (None ∷ []) []) (piece next : List ℕ) (tok : Tok) (after : Outside) → ReadOutside text t u a piece next tok after (site_in false (act_of tok) t.held.position a.site) → Stands text u
@@ -125,41 +109,22 @@ read_outside text t u a piece next tok after r =
     d = record { site = a.site; line = a.line; line_here = a.line_here; separation = a.separation; piece = piece; next = next; tok = tok; after = after; tokens = a.tokens }
 
     place : t.held.position ≡ (at d).position
-    place = a.position_is ∙ ap (λ x. position_after a.site.position a.separation x) r.cut
+    place = a.position_is ∙ ap (λ x. position_after a.site.position a.separation x) r.ends.cut
 
     by : ReadOutside text t u a piece next tok after (at d) → Stands text u
     by r =
         let here : IsHere d = record {
-          is_filled = ap (λ x. is_separation false a.separation x) (sym r.cut) ∙ a.is_filled;
+          is_filled = ap (λ x. is_separation false a.separation x) (sym r.ends.cut) ∙ a.is_filled;
           is_solid = r.is_solid;
           is_piece = r.is_piece;
           stands = r.stands;
           line_is = a.is_line;
           after_is = r.after_is;
-          no_key = r.no_key;
+          no_key = r.ends.no_key;
         } in
-        let rows : Completes text (a.separation ++ (piece ++ next)) (before d) (λ ws last. a.tokens) = subst (λ x. Completes text (a.separation ++ x) (before d) (λ ws last. a.tokens)) r.cut (a.completes false [] tt) in
+        let rows : Completes text (a.separation ++ (piece ++ next)) (before d) (λ ws last. a.tokens) = subst (λ x. Completes text (a.separation ++ x) (before d) (λ ws last. a.tokens)) r.ends.cut (a.completes false [] tt) in
         let later : Completes text next (past d) (λ ws last. a.tokens ++ own_tokens d) = piece_completes text d here rows in
-        ends_outside text t u None a piece next tok after (at d) place (record {
-          cut = r.cut;
-          separation = r.separation;
-          is_rest = r.is_rest;
-          is_filled = r.is_filled;
-          position_is = r.position_is;
-          blocks_are = r.blocks_are;
-          awaits_is = r.awaits_is;
-          are_levels = r.are_levels;
-          read_on = r.read_on;
-          has_no_tabs = r.has_no_tabs;
-          is_leading = r.is_leading;
-          line_is = r.line_is;
-          no_key = r.no_key;
-          flow_is = r.flow_is;
-          keys_are = r.keys_are;
-          adjacent_is = r.adjacent_is;
-          started = r.started;
-          going = r.going;
-        })
+        ends_outside text t u None a piece next tok after (at d) place r.ends
         (subst (λ ts. Completes text next (with_entries (past d).site after.line []) (λ ws last. ts)) (sym r.tokens_are)
         (subst (λ es. Completes text next (with_entries (past d).site after.line es) (λ ws last. a.tokens ++ own_tokens d)) r.begun later))
 
@@ -180,7 +145,7 @@ none_open allowed rest (Some k) l e some h = absurd (cc (e, sym (h some).1))
 
 -- no TAB indents a line, where no line begins
 pub spaces_in_line : (bs : List ℕ) (awaits : Bool) (separation : List ℕ) → has_no_break separation ≡ true → is_indented_by_spaces another bs awaits separation ≡ true
-spaces_in_line bs awaits f h = ap (λ b. not (not b) || not (has_tab_within (least_column bs (awaits || follows_plain another f)) (last_line f))) h
+spaces_in_line bs awaits f h = none_indents another bs awaits f (ap not h)
 
 -- the tokens of a piece with which a block collection may begin
 pub started_tokens : (begins : Bool) (ts before ends : List Token) (p : Position) (start : Tok) (own : Token) → ts ≡ before ++ ends →

@@ -1,6 +1,7 @@
 -- What holds between two fetches still holds at the next token, or at the text's end, with the separation up to there.
-use Rattle.std.proofs.Common.{◌≡◌, ℕ, suc, ◌+◌, ◌-◌, ◌≤◌, List, [], ◌∷◌, ◌++◌, Bool, true, false, not, ◌&&◌, ◌||◌, ◌==◌, if◌then◌else◌, drop, Option, Some, None, Result, Ok, refl, ap, sym, ◌∙◌, append-nil, arith}
+use Rattle.std.proofs.Common.{◌≡◌, ℕ, suc, ◌+◌, ◌-◌, List, [], ◌∷◌, ◌++◌, Bool, true, false, not, ◌&&◌, ◌||◌, ◌==◌, if◌then◌else◌, drop, Option, Some, None, Result, Ok, refl, ap, sym, ◌∙◌, append-nil, arith}
 use Rattle.std.proofs.lemmas.Bool.{eqb-true}
+use Rattle.std.proofs.Math.Bool.{or-false}
 use Rattle.defs_text.specs.Classes.{is_break, is_blank}
 use Rattle.defs_text.specs.Breaks.{is_before_line_feed, has_no_break}
 use Rattle.defs_text.specs.Position.{Position, position_after}
@@ -23,9 +24,9 @@ use Rattle.proof_lexers.proofs.Separation.Separations.{separations_are_passed}
 use Rattle.proof_lexers.proofs.Bridges.{same_break, same_blank}
 use Rattle.proof_cut.specs.Here.{IsLive}
 use Rattle.proof_cut.proofs.Positions.{not_before_after}
-use Rattle.proof_cut.proofs.Pieces.Inserted.{no_break_on_line}
 use Rattle.proof_row_sound.specs.Choices.{MayChoose}
 use Rattle.proof_row_sound.specs.Stands.{columns, has_open_level, AreCollections, AreLevels, IsTopLevel, HasFirst, IsReadOn}
+use Rattle.proof_row_sound.proofs.Arrivals.{live_before}
 use Rattle.proof_row_sound.proofs.LastLines.{break_append}
 use Rattle.proof_row_sound.proofs.Skips.{IsLeast}
 
@@ -73,37 +74,15 @@ goes_on [] rest rest2 e h = ap is_empty e ∙ h
 goes_on (c ∷ g) rest rest2 e h = ap is_empty e
 
 -- a key that may be one after a separation may be one before it
-pub live_before : (k : Key) (p : Position) (g rest rest2 : List ℕ) → rest ≡ g ++ rest2 → IsLive k (position_after p g rest2) rest2 → IsLive k p rest
-live_before k p g rest rest2 e l = let n = not_before_after p g rest2 in (omega (arith, l.0, n.0), goes_on g rest rest2 e l.1)
+pub live_before_it : (k : Key) (p : Position) (g rest rest2 : List ℕ) → rest ≡ g ++ rest2 → IsLive k (position_after p g rest2) rest2 → IsLive k p rest
+live_before_it k p g rest rest2 e l = live_before k p (position_after p g rest2) rest rest2 (not_before_after p g rest2) (goes_on g rest rest2 e l.1) l
 
 pub may_before : (c : Bool) (k : Option Key) (p : Position) (g rest rest2 : List ℕ) → rest ≡ g ++ rest2 → MayChoose c k (position_after p g rest2) rest2 → MayChoose c k p rest
 may_before c None p g rest rest2 e m = tt
-may_before true (Some k) p g rest rest2 e m = live_before k p g rest rest2 e m
+may_before true (Some k) p g rest rest2 e m = live_before_it k p g rest rest2 e m
 may_before false (Some k) p g rest rest2 e m = m
 
-feed_breaks : (c : ℕ) → c ≡ 10 → is_break c ≡ true
-unfolding is_break
-feed_breaks c e = rw e refl
-
--- no break was passed on a key's line
-pub no_break_live : (p : Position) (g rest : List ℕ) (line : ℕ) → line ≤ p.line → (position_after p g rest).line ≤ line → is_empty rest ≡ false → begins_separation rest ≡ false → has_break g ≡ false
-no_break_live p g [] line h k some solid = absurd (cc some)
-no_break_live p g (c ∷ r) line h k some solid = ap not (no_break_on_line p g c r (no_feed (c == 10) refl) (omega (arith, h, k)))
-  where
-    breaks : (x y z : Bool) → y ≡ true → ((x || y) || z) ≡ false → ⊥
-    breaks true y z e h = cc h
-    breaks false true z e h = cc h
-    breaks false false z e h = cc e
-
-    no_feed : (x : Bool) → (c == 10) ≡ x → x ≡ false
-    no_feed false e = refl
-    no_feed true e = absurd (breaks (is_blank c) (is_break c) (c == 35) (feed_breaks c (eqb-true c 10 e)) solid)
-
 -- ---- what the last piece asks of the separation
-
-or_false : (b : Bool) → (b || false) ≡ b
-or_false true = refl
-or_false false = refl
 
 pub same_has_break : (g : List ℕ) → plain_ends.has_break g ≡ has_break g
 same_has_break [] = refl
@@ -150,7 +129,7 @@ free_line_append quoted_scalar q f g rest rest2 cut r = break_append f g
 free_line_append block_scalar q f g rest rest2 cut r = break_append f g
 free_line_append flow_collection q f g rest rest2 cut r = break_append f g
 free_line_append another q f g rest rest2 cut r = break_append f g
-free_line_append directive q f [] rest rest2 cut r = ap (λ x. has_break (without_break x)) (append-nil f) ∙ sym (or_false (has_break (without_break f)))
+free_line_append directive q f [] rest rest2 cut r = ap (λ x. has_break (without_break x)) (append-nil f) ∙ sym (or-false (has_break (without_break f)))
 free_line_append directive q f (c ∷ p) rest rest2 cut r = by f (r (ap is_empty cut))
   where
     by : (f : List ℕ) → HasFirst f rest → has_break (without_break (f ++ c ∷ p)) ≡ (has_break (without_break f) || has_break (c ∷ p))
@@ -192,6 +171,19 @@ read_on_append directive q f g rest rest2 cut solid r = λ some. by f (r (goes_o
 
 -- ---- the least column
 
+-- each level of a collection has a column
+some_collections : (i : ℕ) (ds : List Indent) → AreCollections i ds → is_empty ds ≡ false → is_empty (columns i ds) ≡ false
+some_collections i [] a e = absurd (cc e)
+some_collections i (d ∷ ds) a e = rw a.0 refl
+
+pub some_columns : (i : ℕ) (ds : List Indent) → AreLevels i ds → is_empty ds ≡ false → is_empty (columns i ds) ≡ false
+some_columns i [] a e = absurd (cc e)
+some_columns i (d ∷ ds) a e = by d.needs_block_end a.0
+  where
+    by : (b : Bool) → IsTopLevel b i d.indent ds → is_empty (if b then (i - 1) ∷ columns d.indent ds else columns d.indent ds) ≡ false
+    by true h = refl
+    by false h = some_collections d.indent ds a.1 h.1
+
 -- the least column is that of the innermost level
 least_of_collections : (i : ℕ) (ds : List Indent) → AreCollections i ds → is_empty ds ≡ false → i ≡ suc (least_column (columns i ds) false)
 least_of_collections i [] a e = absurd (cc e)
@@ -205,25 +197,9 @@ least_of_levels i (d ∷ ds) a e = by d.needs_block_end a.0
     open_level [] o h s k = absurd (cc s)
     open_level (n ∷ ns) o h s k = omega (arith, h, k)
 
-    some : (o : ℕ) (es : List Indent) → AreCollections o es → is_empty es ≡ false → is_empty (columns o es) ≡ false
-    some o [] a e = absurd (cc e)
-    some o (x ∷ es) a e = rw a.0 refl
-
     by : (b : Bool) → IsTopLevel b i d.indent ds → i ≡ suc (least_column (if b then (i - 1) ∷ columns d.indent ds else columns d.indent ds) (not b))
     by true h = omega (arith, h)
-    by false h = open_level (columns d.indent ds) d.indent (least_of_collections d.indent ds a.1 h.1) (some d.indent ds a.1 h.1) h.0
-
-pub some_columns : (i : ℕ) (ds : List Indent) → AreLevels i ds → is_empty ds ≡ false → is_empty (columns i ds) ≡ false
-some_columns i [] a e = absurd (cc e)
-some_columns i (d ∷ ds) a e = by d.needs_block_end a.0
-  where
-    some : (o : ℕ) (es : List Indent) → AreCollections o es → is_empty es ≡ false → is_empty (columns o es) ≡ false
-    some o [] a e = absurd (cc e)
-    some o (x ∷ es) a e = rw a.0 refl
-
-    by : (b : Bool) → IsTopLevel b i d.indent ds → is_empty (if b then (i - 1) ∷ columns d.indent ds else columns d.indent ds) ≡ false
-    by true h = refl
-    by false h = some d.indent ds a.1 h.1
+    by false h = open_level (columns d.indent ds) d.indent (least_of_collections d.indent ds a.1 h.1) (some_collections d.indent ds a.1 h.1) h.0
 
 pub least_is : (bs : List ℕ) (aw : Bool) (s : Held) → bs ≡ columns s.indent s.indents → aw ≡ has_open_level s.indents → AreLevels s.indent s.indents → IsLeast another (least_column bs aw) s
 least_is bs aw s b w a = (λ e. rw (b, w) (none s.indents e), λ e. rw (b, w) (least_of_levels s.indent s.indents a e))

@@ -1,7 +1,6 @@
 -- Anchors, aliases and tags: what holds between two fetches holds after them.
 use Rattle.std.proofs.Common.{◌≡◌, ℕ, suc, ◌+◌, ◌<◌, List, [], ◌∷◌, ◌++◌, Bool, true, false, not, nat_le, length, map, if◌then◌else◌, Option, None, Result, Ok, refl, ap, sym, ◌∙◌, subst, arith, inr}
-use Rattle.std.proofs.lemmas.Bool.{and_parts}
-use Rattle.defs_text.specs.Classes.{is_nul, is_break}
+use Rattle.defs_text.specs.Classes.{is_break}
 use Rattle.defs_text.specs.Breaks.{has_no_break}
 use Rattle.defs_text.specs.Position.{Position, position_after}
 use Rattle.defs_text.specs.Text.{is_empty}
@@ -25,7 +24,6 @@ use Rattle.model_scanner.specs.State.{Key, ScannerState, in_flow, on_held, push}
 use Rattle.model_scanner.specs.Flow.{allow_key}
 use Rattle.model_scanner.specs.Document.{anchor_token, unled, node_start, fetch_anchor, fetch_tag}
 use Rattle.model_scanner.proofs.Holds.{Holds, went, read}
-use Rattle.proof_lexers.specs.PlainEnds.{has_no_nul}
 use Rattle.proof_lexers.specs.NameEnds.{further, after_name, NameEndsAs, named, nameless}
 use Rattle.proof_lexers.specs.TagEnds.{may_follow, after_tag, TagEndsAs, reads, refuses}
 use Rattle.proof_lexers.proofs.Properties.Names.{names_end}
@@ -146,9 +144,6 @@ property_stands text t tok rest end r k deep a =
     (node_read text t (property_read t tok rest end r) deep a (property_is_read text t tok rest end r k deep))
 
 -- ---- anchors, aliases and tags
-
-clean_more : (text : List ℕ) (t : ScannerState) (c : ℕ) (more : List ℕ) → t.rest ≡ c ∷ more → Arrives text t → has_no_nul more ≡ true
-clean_more text t c more e a = (and_parts (not (is_nul c)) (has_no_nul more) (rw e at a.is_clean)).1
 
 mark_in_line : (b : Bool) → is_break (if b then 42 else 38) ≡ false
 unfolding is_break

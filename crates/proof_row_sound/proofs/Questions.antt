@@ -1,5 +1,5 @@
 -- The function of the model that reads a `?`: what holds where it begins holds between two fetches after it.
-use Rattle.std.proofs.Common.{◌≡◌, ℕ, zero, suc, List, [], ◌∷◌, ◌++◌, Bool, true, false, not, ◌&&◌, ◌||◌, ◌==◌, ◌⊎◌, inl, inr, if◌then◌else◌, nat_le, take, length, ◌+◌, Option, Some, None, Result, Ok, refl, ap, sym, ◌∙◌, subst, arith, length-append}
+use Rattle.std.proofs.Common.{◌≡◌, ℕ, zero, suc, List, [], ◌∷◌, ◌++◌, Bool, true, false, not, ◌&&◌, ◌||◌, ◌==◌, ◌⊎◌, inl, inr, if◌then◌else◌, take, length, ◌+◌, Option, Some, None, Result, Ok, refl, ap, sym, ◌∙◌, subst, arith, length-append}
 use Rattle.std.proofs.lemmas.Bool.{or_parts}
 use Rattle.defs_text.specs.Position.{Position, position_after}
 use Rattle.defs_text.specs.Classes.{is_one_of, is_break, is_at_gap}
@@ -13,7 +13,7 @@ use Rattle.yaml_tokens.specs.declared.problem.Fault.TheVariants.{At}
 use Rattle.yaml_tokens.specs.declared.problem.Problem.TheVariants as problem
 use Rattle.defs_row.specs.Step.{gives_question, has_break, another}
 use Rattle.defs_row.specs.Column.{is_deeper, is_in_column, opened, not_ended}
-use Rattle.defs_row.specs.Indentation.{least_column, has_tab_within, last_line, has_tab_before_piece}
+use Rattle.defs_row.specs.Indentation.{has_tab_within, last_line, has_tab_before_piece}
 use Rattle.defs_row.specs.Key.{free, line_past}
 use Rattle.defs_row.specs.FlowEntry.{Had, fresh, filled, waits, settled, Pair, no_pair, single_pair, asked_pair, Entry, is_keyed, takes_pair, is_renewed, renewed, had_after, pair_past, with_had, entries_past}
 use Rattle.model_scanner.specs.declared.level.FlowLevel.{FlowLevel}
@@ -30,14 +30,15 @@ use Rattle.model_scanner.specs.Flow.{allow_key}
 use Rattle.model_scanner.specs.Block.{keyed, begin_key, check_key_space, fetch_key}
 use Rattle.model_scanner.proofs.Holds.{Holds, went, chained, checked, either, tried, both_hold}
 use Rattle.proof_lexers.specs.PlainEnds as ends
-use Rattle.proof_cut.proofs.Indicators.{past_indicator}
+use Rattle.proof_lexers.proofs.Plain.Turns.{or_true}
 use Rattle.proof_cut.proofs.Nodes.{IsDeep}
 use Rattle.proof_cut.proofs.Blocks.{key_removed}
 use Rattle.proof_row_sound.specs.Arrives.{Arrives}
 use Rattle.proof_row_sound.specs.Stands.{columns, kind_of, IsPairOf, IsEntryOf, has_open_level, AreLevels, is_at_comment_or_end, HasNoTabs, Stands}
-use Rattle.proof_row_sound.proofs.Arrivals.{first_not_right, deep_enough, numbered_more, numbered_around}
+use Rattle.proof_row_sound.proofs.Arrivals.{first_not_right, numbered_more, numbered_around}
 use Rattle.proof_row_sound.proofs.Around.{tokens_before}
-use Rattle.proof_row_sound.proofs.EntryPieces.{site_inside, goes_inside}
+use Rattle.proof_row_sound.proofs.EntryPieces.{low_enough, site_inside, goes_inside}
+use Rattle.proof_row_sound.proofs.Indicated.{past_one}
 use Rattle.proof_row_sound.proofs.NodesInside.{not_keyed}
 use Rattle.proof_row_sound.proofs.OutsidePieces.{site_then, read_outside, line_free, none_open, started_tokens}
 use Rattle.proof_row_sound.proofs.Rolled.{RollsTo, rolls_to, top_closed}
@@ -74,7 +75,7 @@ space_checked more t e = checked (peek t.rest == 9) (At problem.TabAfterKey t.he
 
 past_question : (p : Position) (next : List ℕ) → position_after p (63 ∷ []) next ≡ past p
 unfolding is_break
-past_question p next = past_indicator p 63 next refl
+past_question p next = past_one p 63 next refl
 
 -- ---- outside flow
 
@@ -97,10 +98,6 @@ question_end t more ds i ts = record {
 abbrev pub with_mapping : ScannerState → List Token
 with_mapping t = (if is_deeper t.held.position.col (columns t.held.indent t.held.indents) then placed None (token t.held.position Tok.block_mapping_start) t.held.tokens else t.held.tokens)
 
-or_true : (b : Bool) → (b || true) ≡ true
-or_true true = refl
-or_true false = refl
-
 question_stands : (text more : List ℕ) (t : ScannerState) (a : ArrivesBy text t [] (None ∷ []) []) → t.held.flow ≡ [] → t.held.keys ≡ None ∷ [] → t.rest ≡ 63 ∷ more → t.held.key_allowed ≡ true →
     begins_with_space_or_break more ≡ true → has_tab_before_piece false more ≡ false → is_separation false (white_of false more) (past_white false more) ≡ true →
     (i : ℕ) (ds : List Indent) → columns i ds ≡ opened t.held.position.col (columns t.held.indent t.held.indents) → AreLevels i ds → has_open_level ds ≡ false → Stands text (question_end t more ds i (with_mapping t))
@@ -110,27 +107,29 @@ question_stands text more t a flow keys e allowed begins apart fills i ds column
       is_piece = inl (refl, begins);
       stands = rw (a.is_indented (ap is_empty e), apart) refl;
       after_is = ap (λ l. line_past (is_in_column t.held.position.col bs) t.held.position bs gives_question false l) (line_free t.held.key_allowed t.rest a.line_here allowed a.line_is);
-      no_key = refl;
       begun = refl;
-      cut = e;
-      separation = white_of false more;
-      is_rest = white_cut false more;
-      is_filled = fills;
-      position_is = ap (λ q. position_after q (white_of false more) (past_white false more)) (sym (past_question t.held.position more));
-      blocks_are = ap (opened t.held.position.col) a.blocks_are ∙ sym columns_are;
-      awaits_is = sym awaits;
-      are_levels = levels;
-      read_on = tt;
-      has_no_tabs = white_indents (site_then x (63 ∷ []) Tok.key more (record { line = free; blocks = opened t.held.position.col bs })) more refl;
-      is_leading = λ b r h. refl;
-      line_is = (inl refl, ap (λ fs. (not (not (is_empty fs)) && ends.has_break (white_of false more)) || not (not (is_empty fs))) flow ∙ or_true (ends.has_break (white_of false more)), tt);
       tokens_are = ap (λ cs. (if is_deeper t.held.position.col cs then placed None (token t.held.position Tok.block_mapping_start) t.held.tokens else t.held.tokens) ++ put t.held.position Tok.key ∷ []) (sym a.blocks_are) ∙
           started_tokens (is_deeper t.held.position.col bs) t.held.tokens a.tokens (ends_at t.held.position a.site.blocks bs) t.held.position Tok.block_mapping_start (put t.held.position Tok.key) a.tokens_are;
-      flow_is = flow;
-      keys_are = ap (with_top None) keys;
-      adjacent_is = refl;
-      started = a.started;
-      going = a.going;
+      ends = record {
+        no_key = refl;
+        cut = e;
+        separation = white_of false more;
+        is_rest = white_cut false more;
+        is_filled = fills;
+        position_is = ap (λ q. position_after q (white_of false more) (past_white false more)) (sym (past_question t.held.position more));
+        blocks_are = ap (opened t.held.position.col) a.blocks_are ∙ sym columns_are;
+        awaits_is = sym awaits;
+        are_levels = levels;
+        read_on = tt;
+        has_no_tabs = white_indents (site_then x (63 ∷ []) Tok.key more (record { line = free; blocks = opened t.held.position.col bs })) more refl;
+        is_leading = λ b r h. refl;
+        line_is = (inl refl, ap (λ fs. (not (not (is_empty fs)) && ends.has_break (white_of false more)) || not (not (is_empty fs))) flow ∙ or_true (ends.has_break (white_of false more)), tt);
+        flow_is = flow;
+        keys_are = ap (with_top None) keys;
+        adjacent_is = refl;
+        started = a.started;
+        going = a.going;
+      };
     })
   where
     bs : List ℕ
@@ -290,7 +289,7 @@ question_inside text more t f fs k ks e es a flow keys cut deep begins apart fil
       in_line = one_line 63 refl;
       begun = refl;
       is_piece = inl (refl, begins);
-      stands = rw (a.is_indented (ap is_empty cut), low, apart) refl;
+      stands = rw (a.is_indented (ap is_empty cut), low_enough text t f fs (k ∷ ks) (e ∷ es) a deep, apart) refl;
       entry_past = λ xs. settles t.held.position (is_renewed a.site.before a.separation) e xs (not_keyed t.held.key_allowed (is_renewed a.site.before a.separation) k e.had a.are_entries.1);
       colons = λ n p ws last. refl;
       tokens_are = ap (λ ts. ts ++ token t.held.position Tok.key ∷ []) (tokens_before text t f fs k ks e es a);
@@ -307,9 +306,6 @@ question_inside text more t f fs k ks e es a flow keys cut deep begins apart fil
 
     more_tokens : length (t.held.tokens ++ token t.held.position Tok.key ∷ []) ≡ length t.held.tokens + 1
     more_tokens = length-append t.held.tokens (token t.held.position Tok.key ∷ [])
-
-    low : nat_le (least_column a.site.blocks a.site.awaits) t.held.position.col ≡ true
-    low = ap (λ bs. nat_le (least_column bs a.site.awaits) t.held.position.col) a.blocks_are ∙ (ap (λ b. nat_le (least_column (columns t.held.indent t.held.indents) b) t.held.position.col) a.awaits_is ∙ deep_enough t.held.position.col t.held.indent t.held.indents a.are_levels deep)
 
 -- ---- both
 

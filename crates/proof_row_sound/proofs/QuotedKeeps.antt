@@ -18,7 +18,7 @@ use Rattle.defs_row.specs.Lines.{quoted_lines_fit, further_lines_stand}
 use Rattle.defs_row.specs.Following.{quoted_may_end, may_precede}
 use Rattle.defs_row.specs.Key.{begins_free_line}
 use Rattle.defs_row.specs.FlowEntry.{Entry, begun_by}
-use Rattle.defs_row.specs.Account.{Site, before_by, least_for, is_deep_enough, seen}
+use Rattle.defs_row.specs.Account.{Site, before_by, least_for, seen}
 use Rattle.defs_row.specs.Tokens.{shown_position}
 use Rattle.model_scanner.specs.declared.level.Indent.{Indent}
 use Rattle.model_scanner.specs.declared.level.FlowLevel.{FlowLevel}
@@ -47,6 +47,8 @@ use Rattle.proof_cut.proofs.Scalars.{adjacent_quoted}
 use Rattle.proof_cut.proofs.Nodes.{IsDeep}
 use Rattle.proof_row_sound.specs.Stands.{columns, has_open_level, AreLevels, is_at_comment_or_end, HasNoTabs, IsReadOn, Stands}
 use Rattle.proof_row_sound.specs.Arrives.{Arrives}
+use Rattle.proof_lexers.proofs.Bridges.{or_false}
+use Rattle.proof_row_sound.proofs.Standing.{and_yes, deep_for}
 use Rattle.proof_row_sound.proofs.Sides.{with_entries, ArrivesBy}
 use Rattle.proof_row_sound.proofs.Arrivals.{clean_after, unbroken, deep_enough}
 use Rattle.proof_row_sound.proofs.LastLines.{break_append}
@@ -127,10 +129,6 @@ record IsQuotedToken (single : Bool) (tok : Tok) : Type 0 where
   precedes : (fl : Bool) (bs piece next : List ℕ) → may_precede fl bs tok piece next ≡ quoted_may_end fl piece next
   awaits : (fl : Bool) (bs : List ℕ) (b : Bool) (next : List ℕ) → awaits_past fl tok bs b next ≡ b
 
-and_yes : (b : Bool) → (b && true) ≡ b
-and_yes true = refl
-and_yes false = refl
-
 quoted_token : (single : Bool) (text : List ℕ) → IsQuotedToken single (Tok.scalar (quoted_style single) text)
 quoted_token true text = record { act = refl; begun = refl; shown = λ s p n. refl; before = refl; least = λ s. refl; lines = λ c p. refl; precedes = λ f bs p n. refl; awaits = awaits_alike }
   where
@@ -171,16 +169,9 @@ empty_end (c ∷ r) h = absurd (cc h)
 spaced_by : (least : ℕ) (bs : List ℕ) (aw : Bool) (gap : List ℕ) → least_column bs aw ≡ least → (begins_line quoted_scalar gap ≡ true → has_tab_within least (last_line gap) ≡ false) → is_indented_by_spaces quoted_scalar bs aw gap ≡ true
 spaced_by least bs aw gap e h = by (begins_line quoted_scalar gap) refl
   where
-    plain : (aw || false) ≡ aw
-    plain = or_false aw
-      where
-        or_false : (b : Bool) → (b || false) ≡ b
-        or_false true = refl
-        or_false false = refl
-
     by : (b : Bool) → begins_line quoted_scalar gap ≡ b → (not b || not (has_tab_within (least_column bs (aw || false)) (last_line gap))) ≡ true
     by false f = refl
-    by true f = rw (plain, e, h f) refl
+    by true f = rw (or_false aw, e, h f) refl
 
 -- ---- the step
 
@@ -273,17 +264,9 @@ module _ (text : List ℕ) (single : Bool) (t : ScannerState) (a : Arrives text 
         adjacent = end.index;
       }
 
-      deep_by : (fl : Bool) (s : Site) → nat_le (least_column s.blocks s.awaits) s.position.col ≡ true → is_deep_enough fl tok s ≡ true
-      deep_by false s h = refl
-      deep_by true s h = rw (k.act, k.least s, h) refl
-
       allowed_by : (fl : Bool) → ((not fl && plains.has_break b.separation) || false) ≡ allowed_past fl quoted_scalar gap
       allowed_by true = refl
       allowed_by false = or_false (plains.has_break b.separation) ∙ sym broken
-        where
-          or_false : (b : Bool) → (b || false) ≡ b
-          or_false true = refl
-          or_false false = refl
 
       some_levels : (i : ℕ) (ds : List Indent) → is_empty (columns i ds) ≡ false → is_empty ds ≡ false
       some_levels i [] h = absurd (cc h)
@@ -335,7 +318,7 @@ module _ (text : List ℕ) (single : Bool) (t : ScannerState) (a : Arrives text 
           end_is = end_is;
           shown = λ s. k.shown s piece (next_of d);
           is_piece = piece_is (seen (with_entries r.site r.line es) at r.separation) single q.body (next_of d) x.value q.value_is (subst (λ y. ends_before single y ≡ true) cut q.ends);
-          is_deep = deep_by fl at (ap (λ y. nat_le y t.held.position.col) least_here ∙ deep_enough t.held.position.col t.held.indent t.held.indents a.are_levels deep);
+          is_deep = deep_for fl tok at (k.least at) (ap (λ y. nat_le y t.held.position.col) least_here ∙ deep_enough t.held.position.col t.held.indent t.held.indents a.are_levels deep);
           lines_stand = k.lines (least_for tok at) piece ∙ (ap (λ y. quoted_lines_fit y (element_of single) piece) (k.least at ∙ (least_here ∙ least_is_less t.held.indent t.held.indents a.are_levels)) ∙ q.fits);
           precedes = k.precedes fl at.blocks piece (next_of d) ∙ (ap (λ y. quoted_may_end y piece (next_of d)) (sym flow_is) ∙ (ap (λ y. quoted_may_end (in_flow t.held) piece y) (sym cut) ∙ c.may_end));
           columns_are = refl;

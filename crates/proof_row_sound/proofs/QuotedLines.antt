@@ -16,13 +16,12 @@ use Rattle.model_lexers.specs.declared.context.Context.{Context}
 use Rattle.model_lexers.specs.Machine.{Read, past, past_break}
 use Rattle.model_lexers.specs.Folding.{Folded, nothing, with_break, with_escaped_break, joined}
 use Rattle.model_lexers.specs.Quoted.{Mode, gap, inside, after, quote_of, quoted}
-use Rattle.model_lexers.proofs.QuotedLemmas.{after_gap}
 use Rattle.proof_lexers.specs.Buffers.{after_element}
 use Rattle.proof_lexers.specs.QuotedScan.{element_of, value_of, by_line, by_tab}
 use Rattle.proof_lexers.proofs.Bridges.{same_break, same_blank, and_false}
 use Rattle.proof_lexers.proofs.Quoted.Turns.{off_margin, Ready, in_gap, after_escaped, scan, Begun, begun, marked, shallow, begins, Step, steps, is_marked, is_shallow, StepOf, spelled}
 use Rattle.proof_lexers.proofs.Quoted.Elements.{step}
-use Rattle.proof_lexers.proofs.Quoted.Bodies.{quote_feed, Opened, opened, not_opened, opens}
+use Rattle.proof_lexers.proofs.Quoted.Bodies.{from_gap, quote_feed, Opened, opened, not_opened, opens}
 use Rattle.proof_row_sound.proofs.TabsWithin.{take_none, none_before, blank_more}
 
 -- ---- elements by their characters
@@ -312,11 +311,6 @@ module _ (single : Bool) (ctx : Context) (start : Position) (column : ℕ) (limi
       let q = and_parts (fits_from (suc k) column (has_more l || escaped) (blanks_before l)) (lines_fit column escaped ls) f in
       rw (one_more_blank k column c (has_more l || escaped) (blanks_before l) tab q.0, q.1) refl
 
-  -- an element may begin after an escaped break as in a gap
-  from_gap : (c : ℕ) (a : List ℕ) (m : Mode) (p : Position) (t : Folded) → (single ≡ false → (c == quote_of single) ≡ false) → Ready single t m → Ends (c ∷ a) m p t → Ends (c ∷ a) gap p t
-  from_gap c a m p t none in_gap h = h
-  from_gap c a m p t none (after_escaped double e f) h = sym (after_gap single ctx start c (c ∷ a) p t refl (none double)) ∙ h
-
   -- an element, and those after it
   record Others (c : ℕ) (b : List ℕ) (s : Spelled) (fs : List Element) : Type 0 where
     is : element_of single c b ≡ Some s
@@ -363,19 +357,6 @@ module _ (single : Bool) (ctx : Context) (start : Position) (column : ℕ) (limi
       let solid : is_white c ≡ false = rw same_c slash_white in
       rw (deep_here p.col column true (begins_deep c (to_close b) p t solid h)) (escaped_line c b s fs o d a double same_c same_b f refl p t h)
 
-  -- in double quotes no element begins with the quote
-  no_quote : (c : ℕ) (b : List ℕ) (s : Spelled) → double_quoted_element c b ≡ Some s → (c == 34) ≡ false
-  unfolding double_quoted_element
-  no_quote c b s h = by (classes.is_nul c) (c == 34) refl refl
-    where
-      by : (nul quote : Bool) → classes.is_nul c ≡ nul → (c == 34) ≡ quote → (c == 34) ≡ false
-      by true quote e f = let z : None ≡ Some s = rw e at h in cc
-      by false true e f = let z : None ≡ Some s = rw (e, f) at h in cc
-      by false false e f = f
-
-  starts_none : (c : ℕ) (b : List ℕ) (s : Spelled) → element_of single c b ≡ Some s → single ≡ false → (c == quote_of single) ≡ false
-  starts_none c b s h e = rw e (no_quote c b s (rw e at h))
-
   by_elements : (c : ℕ) (b : List ℕ) (s : Spelled) (o : Option (List Element)) (es : List Element) → element_of single c b ≡ Some s → InLine s.further b × AtStart s.further b → elements (element_of single) s.further b ≡ o → put_before s.element o ≡ Some es →
       ((m : Mode) (p : Position) (t : Folded) → Ready single t m → Ends (to_close (c ∷ b)) m p t → further_lines_fit column (lines_of es) ≡ true) ×
       ((m : Mode) (p : Position) (t : Folded) → Ready single t m → t.leading ≡ true → Ends (to_close (c ∷ b)) m p t → lines_from p.col column (is_after m) (lines_of es) ≡ true)
@@ -384,7 +365,7 @@ module _ (single : Bool) (ctx : Context) (start : Position) (column : ℕ) (limi
       let same : s.element ∷ fs ≡ es = cc in
       let k : Kind single c b s = subst (λ o. KindOf single c b o) is (kind single c b) in
       let o : Others c b s fs = record { is = is; within = others.0; at_line = others.1; others = rest } in
-      rw (← same) ((λ m p t ready e. in_line c b s fs o k p t (from_gap c (to_close b) m p t (starts_none c b s is) ready e)), (λ m p t ready leading e. at_start c b s fs o k (is_after m) p t leading (from_gap c (to_close b) m p t (starts_none c b s is) ready e)))
+      rw (← same) ((λ m p t ready e. in_line c b s fs o k p t (sym (from_gap single ctx start c b (to_close b) s m p t is ready) ∙ e)), (λ m p t ready leading e. at_start c b s fs o k (is_after m) p t leading (sym (from_gap single ctx start c b (to_close b) s m p t is ready) ∙ e)))
 
   by_element : (c : ℕ) (b : List ℕ) (o : Option Spelled) (es : List Element) → element_of single c b ≡ o → ((n : ℕ) → InLine n b × AtStart n b) → followed o (λ n. elements (element_of single) n b) ≡ Some es →
       ((m : Mode) (p : Position) (t : Folded) → Ready single t m → Ends (to_close (c ∷ b)) m p t → further_lines_fit column (lines_of es) ≡ true) ×

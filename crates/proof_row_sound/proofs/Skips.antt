@@ -1,5 +1,6 @@
 -- What the model skips between tokens leaves no TAB in the indentation of the next one.
 use Rattle.std.proofs.Common.{◌≡◌, ℕ, zero, suc, ◌+◌, ◌≤◌, List, [], ◌∷◌, ◌++◌, Bool, true, false, not, ◌&&◌, ◌||◌, ◌==◌, ◌⊎◌, inl, inr, nat_lt, if◌then◌else◌, length, Result, Ok, refl, ap, sym, ◌∙◌, subst, append_assoc, append-nil, arith}
+use Rattle.std.proofs.Math.Bool.{or-false, or-true}
 use Rattle.std.proofs.lemmas.Bool.{and_parts, eqb-true}
 use Rattle.std.proofs.lemmas.Bool.Decides.{nat_tests}
 use Rattle.std.proofs.lemmas.List.{length-append}
@@ -77,17 +78,13 @@ module _ (before : Previous) (least : ℕ) where
   at_line g c s e =
       let breaks : classes.is_break c ≡ true = same_break c ∙ e in
       let last : last_line (g ++ c ∷ []) ≡ [] = last_more g c ∙ ap (λ b. if b then [] else last_line g ++ c ∷ []) breaks in
-      let begins : begins_line before (g ++ c ∷ []) ≡ true = line_more before g c ∙ (ap (λ b. begins_line before g || b) breaks ∙ or_true (begins_line before g)) in
+      let begins : begins_line before (g ++ c ∷ []) ≡ true = line_more before g c ∙ (ap (λ b. begins_line before g || b) breaks ∙ or-true (begins_line before g)) in
       record {
         leading_is = λ _. sym begins;
         col_is = λ _. ap length (sym last);
         spaced = λ _. ap (λ l. has_tab_within least l) last ∙ none least;
       }
     where
-      or_true : (b : Bool) → (b || true) ≡ true
-      or_true true = refl
-      or_true false = refl
-
       none : (n : ℕ) → has_tab_within n [] ≡ false
       none zero = refl
       none (suc n) = refl
@@ -111,7 +108,7 @@ module _ (before : Previous) (least : ℕ) where
   at_blank : (g : List ℕ) (c : ℕ) (s : Held) → classes.is_break c ≡ false → ((c == 9) && is_before_indent s) ≡ false → IsLeast s → IsAt g s → IsAt (g ++ c ∷ []) (moved s)
   unfolding is_before_indent
   at_blank g c s e f l h =
-      let same : begins_line before (g ++ c ∷ []) ≡ begins_line before g = line_more before g c ∙ (ap (λ b. begins_line before g || b) e ∙ or_false (begins_line before g)) in
+      let same : begins_line before (g ++ c ∷ []) ≡ begins_line before g = line_more before g c ∙ (ap (λ b. begins_line before g || b) e ∙ or-false (begins_line before g)) in
       let last : last_line (g ++ c ∷ []) ≡ last_line g ++ c ∷ [] = last_more g c ∙ ap (λ b. if b then [] else last_line g ++ c ∷ []) e in
       record {
         leading_is = λ i. h.leading_is i ∙ sym same;
@@ -121,10 +118,6 @@ module _ (before : Previous) (least : ℕ) where
             ap (λ x. has_tab_within least x) last ∙ tab_within_more least (last_line g) c (kind now) (h.spaced now);
       }
     where
-      or_false : (b : Bool) → (b || false) ≡ b
-      or_false true = refl
-      or_false false = refl
-
       other : (c == 9) ≡ false → (9 == c) ≡ false
       other k = grind (arith, k)
 

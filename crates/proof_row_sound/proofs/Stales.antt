@@ -21,6 +21,7 @@ use Rattle.model_scanner.proofs.Holds.{Holds, went, refused, either, tried}
 use Rattle.proof_row_sound.specs.Choices.{MayChoose, outside_key, chosen}
 use Rattle.proof_row_sound.specs.Completes.{tokens_up_to, Completes}
 use Rattle.proof_row_sound.specs.Stands.{AreEntries, IsLine, IsOpenOutside, Stands, Fares, goes, over}
+use Rattle.proof_row_sound.specs.Arrives.{IsNear}
 use Rattle.proof_row_sound.proofs.StreamEnds.{entries_no_key, none_chosen, none_put}
 
 -- rows are completed alike by tokens that are alike
@@ -107,16 +108,11 @@ key_dropped text u s out k only free = record {
 
 -- ---- the step
 
--- whether an open key is on the line of a position, and at most 1024 characters before it
-abbrev pub IsClose : Option Key → Position → Type 0
-IsClose None p = Unit {0}
-IsClose (Some k) p = (p.line ≤ k.position.line) × (p.index ≤ k.position.index + 1024)
-
--- Outside flow the open key is close.
+-- Outside flow the open key is near.
 pub record Nearer (text : List ℕ) (u : ScannerState) (h : Held) : Type 0 where
   pub stands : Stands text (record u { held = h })
   pub same : h ≡ record u.held { keys = h.keys }
-  pub near : is_empty u.held.flow ≡ true → (k : Option Key) × (h.keys ≡ k ∷ []) × IsClose k u.held.position
+  pub near : is_empty u.held.flow ≡ true → (k : Option Key) × (h.keys ≡ k ∷ []) × IsNear k u.held.position
 
 not_far : (k p : Position) → is_far k p ≡ false → (p.line ≤ k.line) × (p.index ≤ k.index + 1024)
 unfolding is_far

@@ -1,5 +1,6 @@
 -- The way to the next token, or to the text's end, keeps what holds between two fetches, with the separation up to there.
 use Rattle.std.proofs.Common.{◌≡◌, ℕ, ◌+◌, ◌≤◌, List, [], ◌∷◌, ◌++◌, Bool, true, false, not, ◌&&◌, ◌||◌, ◌==◌, inl, inr, if◌then◌else◌, length, Option, Some, None, Ok, refl, ap, sym, ◌∙◌, subst, append_assoc, arith}
+use Rattle.std.proofs.Math.Bool.{or-false, or-true}
 use Rattle.std.proofs.lemmas.List.{append_cancel_right}
 use Rattle.defs_text.specs.Classes.{is_break, is_blank, is_nul, is_one_of}
 use Rattle.defs_text.specs.Breaks.{is_at_line_end}
@@ -32,9 +33,10 @@ use Rattle.proof_cut.proofs.Stoods.{adjacent_filled}
 use Rattle.proof_row_sound.specs.Choices.{outside_key, chosen}
 use Rattle.proof_row_sound.specs.Completes.{tokens_up_to, Completes}
 use Rattle.proof_row_sound.specs.Stands.{columns, AreEntries, is_free, IsTakenBy, IsLine, IsOpenHere, IsOpenOutside, is_at_comment_or_end, HasNoTabs, IsReadOn, Stands}
+use Rattle.proof_row_sound.proofs.Arrivals.{unbroken}
 use Rattle.proof_row_sound.proofs.LastLines.{last_whole, at_break, column_after, no_comment_in_last}
 use Rattle.proof_row_sound.proofs.Skips.{Spaced, IsAt, IsIn, Cleared, skip_clears}
-use Rattle.proof_row_sound.proofs.Passed.{skip_stays, Exact, exact, live_before, may_before, no_break_live, same_has_break, first_comment, renewed_alike, free_line_append, read_on_append, some_columns, least_is}
+use Rattle.proof_row_sound.proofs.Passed.{skip_stays, Exact, exact, live_before_it, may_before, same_has_break, first_comment, renewed_alike, free_line_append, read_on_append, some_columns, least_is}
 
 -- ---- where the way begins
 
@@ -62,10 +64,6 @@ spaced_by b f n m l e h k = by (has_tab_within m l) (subst (λ x. (not b || not 
         both true e h = cc h
         both false e h = cc e
 
-or_false : (b : Bool) → (b || false) ≡ b
-or_false true = refl
-or_false false = refl
-
 -- a plain scalar's gap is followed by a comment, or by no separation
 after_plain : (a : List ℕ) → begins_white a ≡ false → begins_separation a ≡ true → is_at_comment_or_end a ≡ true
 after_plain [] w h = refl
@@ -79,11 +77,11 @@ after_plain (c ∷ a) w h = by (is_blank c) (is_break c) (c == 35) w h
 
 spaced_here : (b : Previous) (bs : List ℕ) (aw : Bool) (q : Position) (g a : List ℕ) → is_indented_by_spaces b bs aw g ≡ true → begins_separation a ≡ true → is_at_comment_or_end a ≡ false → IsReadOn b q g a → Spaced b (least_column bs aw) g
 spaced_here plain_scalar bs aw q g a h s n r = λ e. absurd (cc (n, after_plain a r s))
-spaced_here quoted_scalar bs aw q g a h s n r = λ e. spaced_by (begins_line quoted_scalar g) false (least_column bs (aw || false)) (least_column bs aw) (last_line g) e h (ap (least_column bs) (or_false aw))
-spaced_here block_scalar bs aw q g a h s n r = λ e. spaced_by (begins_line block_scalar g) false (least_column bs (aw || false)) (least_column bs aw) (last_line g) e h (ap (least_column bs) (or_false aw))
-spaced_here flow_collection bs aw q g a h s n r = λ e. spaced_by (begins_line flow_collection g) false (least_column bs (aw || false)) (least_column bs aw) (last_line g) e h (ap (least_column bs) (or_false aw))
-spaced_here directive bs aw q g a h s n r = λ e. spaced_by (begins_line directive g) false (least_column bs (aw || false)) (least_column bs aw) (last_line g) e h (ap (least_column bs) (or_false aw))
-spaced_here another bs aw q g a h s n r = λ e. spaced_by (begins_line another g) false (least_column bs (aw || false)) (least_column bs aw) (last_line g) e h (ap (least_column bs) (or_false aw))
+spaced_here quoted_scalar bs aw q g a h s n r = λ e. spaced_by (begins_line quoted_scalar g) false (least_column bs (aw || false)) (least_column bs aw) (last_line g) e h (ap (least_column bs) (or-false aw))
+spaced_here block_scalar bs aw q g a h s n r = λ e. spaced_by (begins_line block_scalar g) false (least_column bs (aw || false)) (least_column bs aw) (last_line g) e h (ap (least_column bs) (or-false aw))
+spaced_here flow_collection bs aw q g a h s n r = λ e. spaced_by (begins_line flow_collection g) false (least_column bs (aw || false)) (least_column bs aw) (last_line g) e h (ap (least_column bs) (or-false aw))
+spaced_here directive bs aw q g a h s n r = λ e. spaced_by (begins_line directive g) false (least_column bs (aw || false)) (least_column bs aw) (last_line g) e h (ap (least_column bs) (or-false aw))
+spaced_here another bs aw q g a h s n r = λ e. spaced_by (begins_line another g) false (least_column bs (aw || false)) (least_column bs aw) (last_line g) e h (ap (least_column bs) (or-false aw))
 
 -- in the midst of a line
 in_midst : (a : List ℕ) → has_no_nul a ≡ true → is_at_comment_or_end a ≡ false → (at_break a ≡ false) × (is_empty a ≡ false) × (is_at_line_end a ≡ false)
@@ -121,11 +119,7 @@ among [] p c h = rw (same (c == 35) refl) refl
   where
     same : (x : Bool) → (c == 35) ≡ x → (35 == c) ≡ true
     same x e = grind (arith, h)
-among (d ∷ f) p c h = rw (among f p c h) (or_true (35 == d))
-  where
-    or_true : (b : Bool) → (b || true) ≡ true
-    or_true true = refl
-    or_true false = refl
+among (d ∷ f) p c h = rw (among f p c h) (or-true (35 == d))
 
 -- where a separation was passed, it is none that follows a plain scalar without a comment
 no_plain : (b : Previous) (q : Position) (f g rest rest2 : List ℕ) → rest ≡ g ++ rest2 → IsReadOn b q f rest → begins_separation rest ≡ true → begins_separation rest2 ≡ false → is_separation false g rest2 ≡ true → follows_plain b (f ++ g) ≡ false
@@ -140,7 +134,7 @@ no_plain directive q f g rest rest2 cut r begins solid fills = refl
 no_plain another q f g rest rest2 cut r begins solid fills = refl
 
 indented_after : (b : Previous) (bs : List ℕ) (aw : Bool) (g : List ℕ) → follows_plain b g ≡ false → Spaced b (least_column bs aw) g → is_indented_by_spaces b bs aw g ≡ true
-indented_after b bs aw g f h = rw (f, or_false aw) (by (begins_line b g) h)
+indented_after b bs aw g f h = rw (f, or-false aw) (by (begins_line b g) h)
   where
     by : (x : Bool) → (x ≡ true → has_tab_within (least_column bs aw) (last_line g) ≡ false) → (not x || not (has_tab_within (least_column bs aw) (last_line g))) ≡ true
     by true h = ap not (h refl)
@@ -206,14 +200,14 @@ module _ (text : List ℕ) (t u : ScannerState) (s : Stands text t) (begins : be
 
   -- a key that may be one now might be one before
   live : (x : Key) → IsLive x (position_after t.held.position e.separation u.rest) u.rest → IsLive x t.held.position t.rest
-  live x l = live_before x t.held.position e.separation t.rest u.rest e.cut l
+  live x l = live_before_it x t.held.position e.separation t.rest u.rest e.cut l
 
   -- and then no break was passed
-  unbroken : (x : Key) → outside_key s.base.entries t.held.keys ≡ Some x → IsLive x (position_after t.held.position e.separation u.rest) u.rest → plain_ends.has_break e.separation ≡ false
-  unbroken x k l =
+  none_broken : (x : Key) → outside_key s.base.entries t.held.keys ≡ Some x → IsLive x (position_after t.held.position e.separation u.rest) u.rest → plain_ends.has_break e.separation ≡ false
+  none_broken x k l =
       let first : x.position.line ≤ s.base.site.position.line = key_line (outside_key s.base.entries t.held.keys) s.base.site.position t.held.position t.rest s.base.site.blocks x s.is_open k in
       let later : s.base.site.position.line ≤ t.held.position.line = subst (λ p. s.base.site.position.line ≤ p.line) (sym s.position_is) (not_before_after s.base.site.position s.separation t.rest).0 in
-      same_has_break e.separation ∙ no_break_live t.held.position e.separation u.rest x.position.line (omega (arith, first, later)) l.0 l.1 e.solid
+      same_has_break e.separation ∙ unbroken t.held.position e.separation u.rest l.1 e.solid (omega (arith, first, later, l.0))
 
   levels : is_empty s.base.site.blocks ≡ false → is_empty u.held.indents ≡ false
   levels h = ap (λ y. is_empty y.held.indents) e.is_state ∙ by t.held.indents (ap is_empty (sym s.blocks_are) ∙ h)
@@ -241,7 +235,7 @@ module _ (text : List ℕ) (t u : ScannerState) (s : Stands text t) (begins : be
         (entries_after t.held.key_allowed (is_renewed s.base.site.before s.separation) (plain_ends.has_break e.separation) t.held.flow t.held.keys s.base.entries s.are_entries);
     line_is = subst (λ b. IsLine (in_flow t.held) ((not (in_flow t.held) && plain_ends.has_break e.separation) || t.held.key_allowed) b (position_after t.held.position e.separation u.rest) u.rest (outside_key s.base.entries t.held.keys) s.base.line)
         (ap (λ b. begins_free_line s.base.site.before s.separation || b) (same_has_break e.separation) ∙ sym (free_line_append s.base.site.before s.base.site.position s.separation e.separation t.rest u.rest e.cut s.read_on))
-        (line_after (in_flow t.held) t.held.key_allowed (begins_free_line s.base.site.before s.separation) (plain_ends.has_break e.separation) (outside_key s.base.entries t.held.keys) t.held.position (position_after t.held.position e.separation u.rest) t.rest u.rest s.base.line live unbroken s.line_is);
+        (line_after (in_flow t.held) t.held.key_allowed (begins_free_line s.base.site.before s.separation) (plain_ends.has_break e.separation) (outside_key s.base.entries t.held.keys) t.held.position (position_after t.held.position e.separation u.rest) t.rest u.rest s.base.line live none_broken s.line_is);
     is_open = open_after (outside_key s.base.entries t.held.keys) s.base.site.position t.held.position (position_after t.held.position e.separation u.rest) t.rest u.rest s.base.site.blocks live s.is_open;
     no_key = s.no_key;
     are_numbered = s.are_numbered;

@@ -18,6 +18,7 @@ use Rattle.model_scanner.proofs.Holds.{Holds, went, refused, held_of, weakened}
 use Rattle.proof_lexers.specs.Separations.{after_separation, GoesOverAs, goes, misses}
 use Rattle.proof_lexers.proofs.Bridges.{same_break}
 use Rattle.proof_lexers.proofs.Separation.Separations.{no_break_hash}
+use Rattle.proof_lexers.proofs.Plain.Turns.{or_true, or_false}
 use Rattle.proof_lexers.proofs.Separation.WhiteSpace.{white_space_is_passed}
 use Rattle.proof_row_sound.proofs.LastLines.{last_first}
 
@@ -118,10 +119,6 @@ no_tab_in_last false (c ∷ r) = by (goes_over c) refl (no_tab_in_last (c == 35)
 abbrev IsPastWhite : (in_comment leading : Bool) → List ℕ → ScannerState → Type 0
 IsPastWhite b leading a u = (u.rest ≡ past_white b a) × (u.held.leading ≡ (leading || has_break (white_of b a)))
 
-or_true : (b : Bool) → (b || true) ≡ true
-or_true true = refl
-or_true false = refl
-
 -- a line begins after a break, and after the line feed of CR LF
 feed_after : (c : ℕ) (a : List ℕ) (s : Held) → is_break c ≡ true → ((at_break c a s).leading || has_break (white_of false a)) ≡ true
 unfolding is_break
@@ -143,23 +140,15 @@ unfolding white is_break
 white_read b found [] s = ended found []
   where
     ended : (f : Bool) (r : List ℕ) → Holds (λ u. (u.rest ≡ r) × (u.held.leading ≡ (s.leading || false))) (white_end f r s)
-    ended true r = went (refl, none s.leading)
-      where
-        none : (b : Bool) → b ≡ (b || false)
-        none true = refl
-        none false = refl
+    ended true r = went (refl, sym (or_false s.leading))
     ended false r = refused
 white_read i found (c ∷ a) s = of i (class.is_break c) (c == 32) (c == 35) refl refl refl (λ i f u. white_read i f a u)
   where
     Reads : Bool → Type 0
     Reads i = (f : Bool) (u : Held) → Holds (IsPastWhite i u.leading a) (white i f a u)
 
-    kept : (b : Bool) → b ≡ (b || false)
-    kept true = refl
-    kept false = refl
-
     ended : (f : Bool) → Holds (λ u. (u.rest ≡ c ∷ a) × (u.held.leading ≡ (s.leading || false))) (white_end f (c ∷ a) s)
-    ended true = went (refl, kept s.leading)
+    ended true = went (refl, sym (or_false s.leading))
     ended false = refused
 
     more : (i : Bool) (u : ScannerState) → is_break c ≡ false → IsPastWhite i s.leading a u → (u.rest ≡ past_white i a) × (u.held.leading ≡ (s.leading || has_break (c ∷ white_of i a)))

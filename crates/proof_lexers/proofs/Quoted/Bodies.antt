@@ -67,7 +67,7 @@ no_quote c b s h = by (classes.is_nul c) (c == 34) refl refl
 
 module _ (single : Bool) (ctx : Context) (start : Position) where
   -- an element may begin after an escaped break as in a gap
-  from_gap : (c : ℕ) (b a : List ℕ) (s : Spelled) (m : Mode) (p : Position) (t : Folded) → element_of single c b ≡ Some s → Ready single t m → scan single ctx start (c ∷ a) m p t ≡ scan single ctx start (c ∷ a) gap p t
+  pub from_gap : (c : ℕ) (b a : List ℕ) (s : Spelled) (m : Mode) (p : Position) (t : Folded) → element_of single c b ≡ Some s → Ready single t m → scan single ctx start (c ∷ a) m p t ≡ scan single ctx start (c ∷ a) gap p t
   from_gap c b a s m p t h in_gap = refl
   from_gap c b a s m p t h (after_escaped double e f) = after_gap single ctx start c (c ∷ a) p t refl (rw double (let g : double_quoted_element c b ≡ Some s = rw double at h in no_quote c b s g))
 
