@@ -11,7 +11,9 @@ use Rattle.model_scanner.specs.declared.level.FlowLevel.TheVariants.{Mapping, En
 use Rattle.model_scanner.specs.State.{ScannerState, peek, in_flow}
 use Rattle.model_scanner.specs.Class.{class_of}
 use Rattle.model_scanner.specs.Block.{fetch_block_entry, fetch_key, fetch_value}
-use Rattle.model_scanner.specs.Document.{fetch_block_scalar, fetch_plain_scalar}
+use Rattle.model_lexers.specs.Quoted.{quote_of}
+use Rattle.model_scanner.specs.Flow.{fetch_flow_collection_start, fetch_flow_collection_end, fetch_flow_entry}
+use Rattle.model_scanner.specs.Document.{fetch_anchor, fetch_tag, fetch_flow_scalar, fetch_block_scalar, fetch_plain_scalar}
 use Rattle.model_scanner.specs.Fetch.{is_value, token_by, fetch_token}
 use Rattle.model_scanner.proofs.Holds.{Holds, refused}
 use Rattle.proof_lexers.proofs.Bridges.{same_gap, same_flow}
@@ -36,99 +38,109 @@ unfolding is_blank is_break
 gap_here [] = refl
 gap_here (c ∷ r) = sym (same_gap c)
 
-pub flow_here : (m : List ℕ) → is_flow (slice_index m 0) ≡ begins_flow m
+flow_here : (m : List ℕ) → is_flow (slice_index m 0) ≡ begins_flow m
 unfolding is_flow
 flow_here [] = refl
 flow_here (c ∷ r) = sym (same_flow c)
 
 -- every other character begins a plain scalar
-pub other_begins : (fl adjacent : Bool) (c : ℕ) (more : List ℕ) → Ordinary c → (if c == 45 then not (is_at_gap more) else may_begin fl adjacent c more) ≡ true
+other_begins : (fl adjacent : Bool) (c : ℕ) (more : List ℕ) → Ordinary c → (if c == 45 then not (is_at_gap more) else may_begin fl adjacent c more) ≡ true
 unfolding classes.is_blank_or_end classes.is_blank classes.is_break classes.is_nul classes.is_flow
 other_begins fl adjacent c more o =
     rw (o.e45, o.e63, o.e58, o.e124, o.e62, o.e32, o.e9, o.e10, o.e13, o.e0, o.e44, o.e91, o.e93, o.e123, o.e125, o.e35, o.e38, o.e42, o.e33, o.e37, o.e64, o.e96, o.e39, o.e34) refl
 
-module _ (text : List ℕ) (t : ScannerState) (r : Ready text t) (deep : IsDeep t.held) (marker : ((t.held.position.col == 0) && is_document_marker t.rest) ≡ false) where
+-- What the function of each token leaves, where it is called; whether a colon may stand next to what stands before is known.
+pub record TokensHold (P : ScannerState → Type 0) (t : ScannerState) (adjacent : Bool) : Type 0 where
+  pub anchor : (alias : Bool) (more : List ℕ) → t.rest ≡ (if alias then 42 else 38) ∷ more → Holds P (fetch_anchor alias t)
+  pub tag : (more : List ℕ) → t.rest ≡ 33 ∷ more → Holds P (fetch_tag t)
+  pub plain : comes_plain (in_flow t.held) adjacent t.held.position.col t.rest ≡ true → Holds P (fetch_plain_scalar t)
+  pub quoted : (single : Bool) (more : List ℕ) → t.rest ≡ quote_of single ∷ more → Holds P (fetch_flow_scalar single t)
+  pub block : (literal : Bool) (more : List ℕ) → t.rest ≡ (if literal then 124 else 62) ∷ more → is_empty t.held.flow ≡ true → Holds P (fetch_block_scalar literal t)
+  pub dash : (more : List ℕ) → t.rest ≡ 45 ∷ more → is_at_gap more ≡ true → Holds P (fetch_block_entry t)
+  pub question : (more : List ℕ) → t.rest ≡ 63 ∷ more → is_at_gap more ≡ true → Holds P (fetch_key t)
+  pub colon : (more : List ℕ) → t.rest ≡ 58 ∷ more → is_value t ≡ true → Holds P (fetch_value t)
+  pub open_bracket : (more : List ℕ) → t.rest ≡ 91 ∷ more → Holds P (fetch_flow_collection_start Entry Tok.flow_sequence_start t)
+  pub open_brace : (more : List ℕ) → t.rest ≡ 123 ∷ more → Holds P (fetch_flow_collection_start Mapping Tok.flow_mapping_start t)
+  pub close_bracket : (more : List ℕ) → t.rest ≡ 93 ∷ more → Holds P (fetch_flow_collection_end Tok.flow_sequence_end t)
+  pub close_brace : (more : List ℕ) → t.rest ≡ 125 ∷ more → Holds P (fetch_flow_collection_end Tok.flow_mapping_end t)
+  pub comma : (more : List ℕ) → t.rest ≡ 44 ∷ more → Holds P (fetch_flow_entry t)
+
+gap_after : (t : ScannerState) (c : ℕ) (more : List ℕ) (gap : Bool) → t.rest ≡ c ∷ more → is_at_gap more ≡ gap → is_blank_or_breakz (slice_index t.rest 1) ≡ gap
+gap_after t c more gap e g = ap (λ l. is_blank_or_breakz (slice_index l 1)) e ∙ gap_here more ∙ g
+
+-- whether a colon is the indicator of a value, the model and the definition say alike
+pub value_is : (t : ScannerState) (adjacent : Bool) (more : List ℕ) → t.rest ≡ 58 ∷ more → (is_empty t.held.flow ≡ false → (t.held.position.index == t.held.adjacent_value_at) ≡ adjacent) → is_value t ≡ is_value_indicator (not (is_empty t.held.flow)) adjacent more
+unfolding is_value
+value_is t adjacent more e now = by (is_empty t.held.flow) refl
+  where
+    gap : is_blank_or_breakz (slice_index t.rest 1) ≡ is_at_gap more
+    gap = gap_after t 58 more (is_at_gap more) e refl
+
+    flows : is_flow (slice_index t.rest 1) ≡ begins_flow more
+    flows = ap (λ l. is_flow (slice_index l 1)) e ∙ flow_here more
+
+    by : (out : Bool) → is_empty t.held.flow ≡ out →
+        (is_blank_or_breakz (slice_index t.rest 1) || (not out && (is_flow (slice_index t.rest 1) || (t.held.position.index == t.held.adjacent_value_at)))) ≡ (is_at_gap more || (not out && (begins_flow more || adjacent)))
+    by true o = ap (λ b. b || false) gap
+    by false o = ap (λ b. b || (is_flow (slice_index t.rest 1) || (t.held.position.index == t.held.adjacent_value_at))) gap ∙ ap (λ b. is_at_gap more || (b || (t.held.position.index == t.held.adjacent_value_at))) flows ∙
+        ap (λ b. is_at_gap more || (begins_flow more || b)) (now o)
+
+-- ---- the token by its first character
+
+module _ (P : ScannerState → Type 0) (t : ScannerState) (adjacent : Bool) (clean : has_no_nul t.rest ≡ true) (solid : begins_separation t.rest ≡ false) (now : is_empty t.held.flow ≡ false → (t.held.position.index == t.held.adjacent_value_at) ≡ adjacent)
+    (marker : ((t.held.position.col == 0) && is_document_marker t.rest) ≡ false) (h : TokensHold P t adjacent) where
   -- a token that begins with a character
   abbrev Reads : ℕ → Type 0
-  Reads c = (more : List ℕ) → t.rest ≡ c ∷ more → Holds (FaresAt text) (token_by (class_of c) t)
+  Reads c = (more : List ℕ) → t.rest ≡ c ∷ more → Holds P (token_by (class_of c) t)
 
-  plain_here : (c : ℕ) (more : List ℕ) → t.rest ≡ c ∷ more → (if c == 45 then not (is_at_gap more) else may_begin (in_flow t.held) (is_adjacent r.stands.before) c more) ≡ true → Holds (FaresAt text) (fetch_plain_scalar t)
-  plain_here c more e h =
+  plain_here : (c : ℕ) (more : List ℕ) → t.rest ≡ c ∷ more → (if c == 45 then not (is_at_gap more) else may_begin (in_flow t.held) adjacent c more) ≡ true → Holds P (fetch_plain_scalar t)
+  plain_here c more e g =
       let none : ((t.held.position.col == 0) && is_document_marker (c ∷ more)) ≡ false = ap (λ l. (t.held.position.col == 0) && is_document_marker l) (sym e) ∙ marker in
-      plain_fetched text t r.stands deep (ap (comes_plain (in_flow t.held) (is_adjacent r.stands.before) t.held.position.col) e ∙ rw (h, none) refl)
-
-  solid_at : (c : ℕ) (more : List ℕ) → t.rest ≡ c ∷ more → (is_white c || (c == 35)) ≡ false
-  solid_at c more e = ap begins_separation (sym e) ∙ r.solid
+      h.plain (ap (comes_plain (in_flow t.held) adjacent t.held.position.col) e ∙ rw (g, none) refl)
 
   -- ---- characters that begin no token
 
   no_separation : (c : ℕ) → (is_white c || (c == 35)) ≡ true → Reads c
-  no_separation c h more e = absurd (cc (h, solid_at c more e))
+  no_separation c h more e = absurd (cc (h, ap begins_separation (sym e) ∙ solid))
 
   no_nul : Reads 0
   unfolding classes.is_nul
-  no_nul more e = let clean : has_no_nul (0 ∷ more) ≡ true = ap has_no_nul (sym e) ∙ r.stands.stood.here.is_clean in absurd (cc clean)
+  no_nul more e = let none : has_no_nul (0 ∷ more) ≡ true = ap has_no_nul (sym e) ∙ clean in absurd (cc none)
 
   -- ---- indicators
-
-  gap_after : (c : ℕ) (more : List ℕ) (gap : Bool) → t.rest ≡ c ∷ more → is_at_gap more ≡ gap → is_blank_or_breakz (slice_index t.rest 1) ≡ gap
-  gap_after c more gap e g = ap (λ l. is_blank_or_breakz (slice_index l 1)) e ∙ gap_here more ∙ g
 
   dash : Reads 45
   unfolding class_of
   dash more e = by (is_at_gap more) refl
     where
-      by : (gap : Bool) → is_at_gap more ≡ gap → Holds (FaresAt text) (if is_blank_or_breakz (slice_index t.rest 1) then fetch_block_entry t else fetch_plain_scalar t)
-      by true g = rw (gap_after 45 more true e g) (block_entry text more t e g r.stands)
-      by false g = rw (gap_after 45 more false e g) (plain_here 45 more e (rw g refl))
+      by : (gap : Bool) → is_at_gap more ≡ gap → Holds P (if is_blank_or_breakz (slice_index t.rest 1) then fetch_block_entry t else fetch_plain_scalar t)
+      by true g = rw (gap_after t 45 more true e g) (h.dash more e g)
+      by false g = rw (gap_after t 45 more false e g) (plain_here 45 more e (rw g refl))
 
   question : Reads 63
   unfolding class_of
   question more e = by (is_at_gap more) refl
     where
-      by : (gap : Bool) → is_at_gap more ≡ gap → Holds (FaresAt text) (if is_blank_or_breakz (slice_index t.rest 1) then fetch_key t else fetch_plain_scalar t)
-      by true g = rw (gap_after 63 more true e g) (key_fetched text more t e g r.stands)
-      by false g = rw (gap_after 63 more false e g) (plain_here 63 more e (rw g refl))
-
-  -- in flow, whether a colon may stand here is what the account says
-  adjacent_now : (c : ℕ) (more : List ℕ) → t.rest ≡ c ∷ more → is_empty t.held.flow ≡ false → (t.held.position.index == t.held.adjacent_value_at) ≡ is_adjacent r.stands.before
-  adjacent_now c more e inside =
-      let begins : begins_token t.rest ≡ true = ap begins_token e ∙ ap not (solid_at c more e) in
-      let no_more : t.held.position.index + 0 ≡ t.held.position.index = omega arith in
-      sym (ap is_adjacent (sym (before_again r.stands.before)) ∙ r.stands.is_adjacent_here inside [] t.rest refl refl begins ∙ ap (λ n. n == t.held.adjacent_value_at) no_more)
-
-  value_is : (more : List ℕ) → t.rest ≡ 58 ∷ more → is_value t ≡ is_value_indicator (not (is_empty t.held.flow)) (is_adjacent r.stands.before) more
-  unfolding is_value
-  value_is more e = by (is_empty t.held.flow) refl
-    where
-      gap : is_blank_or_breakz (slice_index t.rest 1) ≡ is_at_gap more
-      gap = gap_after 58 more (is_at_gap more) e refl
-
-      flows : is_flow (slice_index t.rest 1) ≡ begins_flow more
-      flows = ap (λ l. is_flow (slice_index l 1)) e ∙ flow_here more
-
-      by : (out : Bool) → is_empty t.held.flow ≡ out
-          → (is_blank_or_breakz (slice_index t.rest 1) || (not out && (is_flow (slice_index t.rest 1) || (t.held.position.index == t.held.adjacent_value_at)))) ≡ (is_at_gap more || (not out && (begins_flow more || is_adjacent r.stands.before)))
-      by true o = ap (λ b. b || false) gap
-      by false o = ap (λ b. b || (is_flow (slice_index t.rest 1) || (t.held.position.index == t.held.adjacent_value_at))) gap ∙ ap (λ b. is_at_gap more || (b || (t.held.position.index == t.held.adjacent_value_at))) flows
-          ∙ ap (λ b. is_at_gap more || (begins_flow more || b)) (adjacent_now 58 more e o)
+      by : (gap : Bool) → is_at_gap more ≡ gap → Holds P (if is_blank_or_breakz (slice_index t.rest 1) then fetch_key t else fetch_plain_scalar t)
+      by true g = rw (gap_after t 63 more true e g) (h.question more e g)
+      by false g = rw (gap_after t 63 more false e g) (plain_here 63 more e (rw g refl))
 
   colon : Reads 58
   unfolding class_of
-  colon more e = by (is_value_indicator (not (is_empty t.held.flow)) (is_adjacent r.stands.before) more) refl
+  colon more e = by (is_value t) refl
     where
-      by : (b : Bool) → is_value_indicator (not (is_empty t.held.flow)) (is_adjacent r.stands.before) more ≡ b → Holds (FaresAt text) (if is_value t then fetch_value t else fetch_plain_scalar t)
-      by true i = rw (value_is more e ∙ i) (value_fetched text more t e r.stands i r.near)
-      by false i = rw (value_is more e ∙ i) (plain_here 58 more e (rw i refl))
+      by : (b : Bool) → is_value t ≡ b → Holds P (if b then fetch_value t else fetch_plain_scalar t)
+      by true i = h.colon more e i
+      by false i = plain_here 58 more e (rw (sym (value_is t adjacent more e now) ∙ i) refl)
 
   -- an indicator outside flow, which in flow begins a plain scalar
   block_or_plain : (literal : Bool) (c : ℕ) (more : List ℕ) → t.rest ≡ c ∷ more → c ≡ (if literal then 124 else 62)
-      → (in_flow t.held ≡ true → (if c == 45 then not (is_at_gap more) else may_begin (in_flow t.held) (is_adjacent r.stands.before) c more) ≡ true)
-      → Holds (FaresAt text) (if in_flow t.held then fetch_plain_scalar t else fetch_block_scalar literal t)
+      → (in_flow t.held ≡ true → (if c == 45 then not (is_at_gap more) else may_begin (in_flow t.held) adjacent c more) ≡ true)
+      → Holds P (if in_flow t.held then fetch_plain_scalar t else fetch_block_scalar literal t)
   block_or_plain literal c more e is may = by (is_empty t.held.flow) refl
     where
-      by : (out : Bool) → is_empty t.held.flow ≡ out → Holds (FaresAt text) (if not out then fetch_plain_scalar t else fetch_block_scalar literal t)
-      by true o = block_fetched text literal t more (e ∙ ap (λ k. k ∷ more) is) o r.stands deep
+      by : (out : Bool) → is_empty t.held.flow ≡ out → Holds P (if not out then fetch_plain_scalar t else fetch_block_scalar literal t)
+      by true o = h.block literal more (e ∙ ap (λ k. k ∷ more) is) o
       by false o = plain_here c more e (may (ap not o))
 
   bar : Reads 124
@@ -141,43 +153,43 @@ module _ (text : List ℕ) (t : ScannerState) (r : Ready text t) (deep : IsDeep 
 
   open_bracket : Reads 91
   unfolding class_of
-  open_bracket more e = flow_started text Entry Tok.flow_sequence_start 91 more opening_sequence t e r.stands deep
+  open_bracket more e = h.open_bracket more e
 
   open_brace : Reads 123
   unfolding class_of
-  open_brace more e = flow_started text Mapping Tok.flow_mapping_start 123 more opening_mapping t e r.stands deep
+  open_brace more e = h.open_brace more e
 
   close_bracket : Reads 93
   unfolding class_of
-  close_bracket more e = flow_ended text Tok.flow_sequence_end 93 more closing_sequence t e r.stands
+  close_bracket more e = h.close_bracket more e
 
   close_brace : Reads 125
   unfolding class_of
-  close_brace more e = flow_ended text Tok.flow_mapping_end 125 more closing_mapping t e r.stands
+  close_brace more e = h.close_brace more e
 
   comma : Reads 44
   unfolding class_of
-  comma more e = entry_passed text more t e r.stands
+  comma more e = h.comma more e
 
   asterisk : Reads 42
   unfolding class_of
-  asterisk more e = anchor_fetched text true t more e r.stands deep
+  asterisk more e = h.anchor true more e
 
   ampersand : Reads 38
   unfolding class_of
-  ampersand more e = anchor_fetched text false t more e r.stands deep
+  ampersand more e = h.anchor false more e
 
   exclamation : Reads 33
   unfolding class_of
-  exclamation more e = tag_fetched text t more e r.stands deep
+  exclamation more e = h.tag more e
 
   single_quote : Reads 39
   unfolding class_of
-  single_quote more e = flow_scalar_fetched text true t more e r.stands deep
+  single_quote more e = h.quoted true more e
 
   double_quote : Reads 34
   unfolding class_of
-  double_quote more e = flow_scalar_fetched text false t more e r.stands deep
+  double_quote more e = h.quoted false more e
 
   percent : Reads 37
   unfolding class_of
@@ -220,7 +232,7 @@ module _ (text : List ℕ) (t : ScannerState) (r : Ready text t) (deep : IsDeep 
   unfolding class_of
   other c o more e =
       rw (o.e0, o.e32, o.e9, o.e10, o.e13, o.e35, o.e45, o.e63, o.e58, o.e44, o.e91, o.e93, o.e123, o.e125, o.e42, o.e38, o.e33, o.e124, o.e62, o.e39, o.e34, o.e37, o.e64, o.e96)
-      (plain_here c more e (other_begins (in_flow t.held) (is_adjacent r.stands.before) c more o))
+      (plain_here c more e (other_begins (in_flow t.held) adjacent c more o))
 
   each : (c : ℕ) → Reads c
   each c = of_all Reads (record {
@@ -251,10 +263,40 @@ module _ (text : List ℕ) (t : ScannerState) (r : Ready text t) (deep : IsDeep 
     other = other;
   }) c
 
+  pub token_holds : is_empty t.rest ≡ false → Holds P (fetch_token t)
+  unfolding fetch_token
+  token_holds some = by t.rest refl some
+    where
+      by : (l : List ℕ) → t.rest ≡ l → is_empty l ≡ false → Holds P (token_by (class_of (peek t.rest)) t)
+      by [] e n = absurd (cc n)
+      by (c ∷ more) e n = rw (ap peek e) (each c more e)
+
+-- ---- what holds between fetches
+
 pub token_fetched : (text : List ℕ) (t : ScannerState) → Ready text t → IsDeep t.held → ((t.held.position.col == 0) && is_document_marker t.rest) ≡ false → Holds (FaresAt text) (fetch_token t)
-unfolding fetch_token
-token_fetched text t r deep marker = by t.rest refl r.some
+token_fetched text t r deep marker =
+    token_holds (FaresAt text) t (is_adjacent r.stands.before) r.stands.stood.here.is_clean r.solid now marker (record {
+      anchor = λ alias more e. anchor_fetched text alias t more e r.stands deep;
+      tag = λ more e. tag_fetched text t more e r.stands deep;
+      plain = plain_fetched text t r.stands deep;
+      quoted = λ single more e. flow_scalar_fetched text single t more e r.stands deep;
+      block = λ literal more e o. block_fetched text literal t more e o r.stands deep;
+      dash = λ more e g. block_entry text more t e g r.stands;
+      question = λ more e g. key_fetched text more t e g r.stands;
+      colon = λ more e i. value_fetched text more t e r.stands (sym (value_is t (is_adjacent r.stands.before) more e now) ∙ i) r.near;
+      open_bracket = λ more e. flow_started text Entry Tok.flow_sequence_start 91 more opening_sequence t e r.stands deep;
+      open_brace = λ more e. flow_started text Mapping Tok.flow_mapping_start 123 more opening_mapping t e r.stands deep;
+      close_bracket = λ more e. flow_ended text Tok.flow_sequence_end 93 more closing_sequence t e r.stands;
+      close_brace = λ more e. flow_ended text Tok.flow_mapping_end 125 more closing_mapping t e r.stands;
+      comma = λ more e. entry_passed text more t e r.stands;
+    }) r.some
   where
-    by : (l : List ℕ) → t.rest ≡ l → is_empty l ≡ false → Holds (FaresAt text) (token_by (class_of (peek t.rest)) t)
-    by [] e n = absurd (cc n)
-    by (c ∷ more) e n = rw (ap peek e) (each text t r deep marker c more e)
+    begins : (l : List ℕ) → is_empty l ≡ false → begins_separation l ≡ false → begins_token l ≡ true
+    begins [] n s = absurd (cc n)
+    begins (c ∷ l) n s = ap not s
+
+    -- in flow, whether a colon may stand here is what the account says
+    now : is_empty t.held.flow ≡ false → (t.held.position.index == t.held.adjacent_value_at) ≡ is_adjacent r.stands.before
+    now inside =
+        let no_more : t.held.position.index + 0 ≡ t.held.position.index = omega arith in
+        sym (ap is_adjacent (sym (before_again r.stands.before)) ∙ r.stands.is_adjacent_here inside [] t.rest refl refl (begins t.rest r.some r.solid) ∙ ap (λ n. n == t.held.adjacent_value_at) no_more)

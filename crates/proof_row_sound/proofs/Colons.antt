@@ -1,12 +1,11 @@
 -- A colon that ends no key: what holds where it begins holds between two fetches after it.
-use Rattle.std.proofs.Common.{◌≡◌, ℕ, ◌+◌, List, [], ◌∷◌, ◌++◌, Bool, true, false, not, ◌&&◌, ◌||◌, ◌==◌, ◌⊎◌, inl, inr, if◌then◌else◌, length, slice_index, Option, Some, None, Result, Ok, refl, ap, sym, ◌∙◌, subst, arith, length-append, append_assoc}
-use Rattle.yaml_chars.specs.Class.{is_blank_or_breakz, is_flow}
+use Rattle.std.proofs.Common.{◌≡◌, ℕ, ◌+◌, List, [], ◌∷◌, ◌++◌, Bool, true, false, not, ◌⊎◌, inl, inr, if◌then◌else◌, length, Option, Some, None, Result, Ok, refl, ap, sym, ◌∙◌, subst, arith, length-append, append_assoc}
 use Rattle.defs_text.specs.Position.{Position, position_after}
-use Rattle.defs_text.specs.Classes.{is_break, is_at_gap}
+use Rattle.defs_text.specs.Classes.{is_break}
 use Rattle.defs_text.specs.Text.{is_empty}
 use Rattle.defs_token.specs.Token.{Tok, Token}
 use Rattle.defs_token.specs.Account.{is_adjacent, before_past}
-use Rattle.defs_token.specs.Plain.{begins_flow, is_value_indicator}
+use Rattle.defs_token.specs.Plain.{is_value_indicator}
 use Rattle.yaml_tokens.specs.declared.problem.Fault.{Fault}
 use Rattle.yaml_tokens.specs.declared.problem.Fault.TheVariants.{At}
 use Rattle.yaml_tokens.specs.declared.problem.Problem.TheVariants as problem
@@ -28,7 +27,7 @@ use Rattle.model_scanner.specs.Flow.{allow_key}
 use Rattle.model_scanner.specs.Block.{opens_pair, paired, begin_keyless_mapping, begin_keyless_value, value_of}
 use Rattle.model_scanner.specs.Fetch.{is_value}
 use Rattle.model_scanner.proofs.Holds.{Holds, went, chained, checked, tried}
-use Rattle.proof_cut.proofs.Dispatch.{gap_here, flow_here}
+use Rattle.proof_cut.proofs.Dispatch.{value_is}
 use Rattle.proof_cut.proofs.Nodes.{IsDeep}
 use Rattle.proof_row_sound.specs.Stands.{columns, has_open_level, AreLevels, kind_of, IsPairOf, IsEntryOf, AreNumbered, Stands}
 use Rattle.proof_row_sound.proofs.Arrivals.{first_not_right, numbered_more, numbered_around}
@@ -46,21 +45,10 @@ use Rattle.proof_row_sound.proofs.Sides.{ArrivesBy}
 -- the model and the definition say alike
 pub value_here : (text more : List ℕ) (t : ScannerState) (fs : List FlowLevel) (ks : List (Option Key)) (es : List Entry) (a : ArrivesBy text t fs ks es) → t.held.flow ≡ fs → t.rest ≡ 58 ∷ more → is_value t ≡ true →
     is_value_indicator (not (is_empty fs)) (is_adjacent (before_past (before_by a.site.before) a.separation)) more ≡ true
-unfolding is_value
-value_here text more t fs ks es a flow e h = by (is_empty fs) refl (subst (λ x. (is_blank_or_breakz (slice_index t.rest 1) || (not (is_empty x) && (is_flow (slice_index t.rest 1) || (t.held.position.index == t.held.adjacent_value_at)))) ≡ true) flow h)
-  where
-    gap : is_blank_or_breakz (slice_index t.rest 1) ≡ is_at_gap more
-    gap = ap (λ l. is_blank_or_breakz (slice_index l 1)) e ∙ gap_here more
-
-    flows : is_flow (slice_index t.rest 1) ≡ begins_flow more
-    flows = ap (λ l. is_flow (slice_index l 1)) e ∙ flow_here more
-
-    by : (out : Bool) → is_empty fs ≡ out → (is_blank_or_breakz (slice_index t.rest 1) || (not out && (is_flow (slice_index t.rest 1) || (t.held.position.index == t.held.adjacent_value_at)))) ≡ true →
-        is_value_indicator (not out) (is_adjacent (before_past (before_by a.site.before) a.separation)) more ≡ true
-    by true o k = ap (λ b. b || false) (sym gap) ∙ k
-    by false o k =
-        ap (λ b. is_at_gap more || (begins_flow more || b)) (a.is_adjacent_here o (ap is_empty e)) ∙ ap (λ b. is_at_gap more || (b || (t.held.position.index == t.held.adjacent_value_at))) (sym flows) ∙
-        ap (λ b. b || (is_flow (slice_index t.rest 1) || (t.held.position.index == t.held.adjacent_value_at))) (sym gap) ∙ k
+value_here text more t fs ks es a flow e h =
+    let adjacent : Bool = is_adjacent (before_past (before_by a.site.before) a.separation) in
+    subst (λ x. is_value_indicator (not (is_empty x)) adjacent more ≡ true) flow
+    (sym (value_is t adjacent more e (λ o. sym (a.is_adjacent_here (subst (λ x. is_empty x ≡ false) flow o) (ap is_empty e)))) ∙ h)
 
 -- ---- what the model does after the colon and what is read there
 
