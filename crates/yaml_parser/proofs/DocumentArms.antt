@@ -46,6 +46,7 @@ use Rattle.yaml_parser.specs.At.{At, Stayed, Faulted, Carries, is_over}
 use Rattle.yaml_parser.proofs.Steps.{looked, taken_snoc, took, took_on, left, left_as, if_some_at}
 use Rattle.yaml_parser.proofs.Arms.{Skipped, no_positions, faulted_as}
 use Rattle.yaml_parser.proofs.NodeArms.{unnamed_at, unnameable_first}
+use Rattle.yaml_parser.proofs.Ways.{goes_apart, directed_ways}
 use Rattle.yaml_parser.proofs.DirectiveLemmas.{named_alike, own_alike, version_ignored, version_snoc, tag_snoc, versions_append}
 
 -- ---- a document's start
@@ -214,7 +215,7 @@ refused_directive : {T : Type 0} {p r : Reader T} {t : Token} {m : Position} (q 
 refused_directive {T} {p} {r} {t} {m} q read d {names} {given} fit of_names other mark here skips keep tok bad taken cause a =
     unnamed_at q (ap (λ u. fits q (kind_of u)) tok ∙ fit) of_names (inl (sym mark, λ e. absurd (other e))) here skips keep (subst (λ u. Takes (at.directed read) p.stack u None (at.directed (read ++ d ∷ [])) p.stack) (sym tok) (turn.directed_more p.stack read d))
     (λ x y. unnameable_first p.names.keeping.tags names (Raw.document_start ((read ++ d ∷ []) ++ x.0)) (perhaps_events x.1 (after_events x.2 (rest_events p.stack y))) (ap (λ b. if b then Some Ev.document_start else None) (bad x.0)))
-    (cause _ _ (record { earlier = taken.0; read = read; directive = d; before_are = taken.1; last_is = tok; allowed = a.pending; spoilt = ap are_allowed (sym (append-nil (read ++ d ∷ []))) ∙ bad [] })) a
+    (cause _ _ (record { earlier = taken.0; read = read; directive = d; before_are = taken.1; last_is = tok; allowed = a.pending; spoilt = ap are_allowed (sym (append-nil (read ++ d ∷ []))) ∙ bad [] })) (goes_apart q (directed_ways read)) a
 
 -- A second version is refused.
 pub version_refused : {T : Type 0} {p r : Reader T} {m : Position} {names : defs.Names} {given : List (Ev × Position)}

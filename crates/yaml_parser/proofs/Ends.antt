@@ -34,6 +34,7 @@ use Rattle.yaml_parser.specs.Handed.{taken_toks, peeked_tok, shown_list}
 use Rattle.yaml_parser.specs.At.{At, Faulted, IsPending, names_by}
 use Rattle.yaml_parser.specs.Blames.{fits, is_of_names, IsCause}
 use Rattle.yaml_parser.proofs.Since.{since_append}
+use Rattle.yaml_parser.specs.Apart.{GoesApart}
 use Rattle.yaml_parser.specs.Derived.{IsDerived}
 use Rattle.yaml_parser.specs.declared.tokens.Stop.TheVariants as stop
 use Rattle.yaml_tokens.specs.declared.problem.Problem.{Problem}
@@ -335,9 +336,10 @@ HasNoCause q = (names : Names) (events : List Ev) (before : List Tok) (last : To
 -- A token of this kind is refused, for a problem that fits it and is not of names, at its position.
 pub refuses_for : {T : Type 0} {g : Goal} {p : Reader T} {k : Kind} {m : Position} {names : Names} {given : List (Ev × Position)} (q : Problem)
     → is_of_names q ≡ false → fits q k ≡ true → IfSome p.tokens.peeked (λ t. t.0 ≡ m) → IsOfKind k p.tokens.peeked → ((t : Tok) → kind_of t ≡ k → Refuses g p.stack t)
-    → ((a : At g p names given) (t : Tok) → kind_of t ≡ k → IsCause q (names_by p.names.keeping a.raw) (events_of given) (taken_toks p.tokens) t) → At g p names given
+    → ((a : At g p names given) (t : Tok) → kind_of t ≡ k → IsCause q (names_by p.names.keeping a.raw) (events_of given) (taken_toks p.tokens) t)
+    → ((a : At g p names given) → (a.raw ≡ [] → ⊥) → GoesApart q (taken_toks p.tokens) a.raw) → At g p names given
     → Faulted p given (stop.Own (fault.At q m))
-refuses_for {T} {g} {p} {k} {m} {names} {given} q free fit mark o turn cause a =
+refuses_for {T} {g} {p} {k} {m} {names} {given} q free fit mark o turn cause apart a =
     let l = looked k p.tokens.peeked o in
     let t = l.0 in
     let no = turn (tok_of t.1) l.2 in
@@ -352,6 +354,7 @@ refuses_for {T} {g} {p} {k} {m} {names} {given} q free fit mark o turn cause a =
         problem = q;
         shown = refl;
         fits_it = ap (fits q) l.2 ∙ fit;
+        apart = apart a;
         cause = cause a (tok_of t.1) l.2;
         stands = inl (sym (if_some_at (λ (x : Token). x.0 ≡ m) mark l.1), λ e. absurd (both_ways (is_of_names q) free (ap is_of_names e)));
         none = λ e. cut l.1 no a;
@@ -360,6 +363,6 @@ refuses_for {T} {g} {p} {k} {m} {names} {given} q free fit mark o turn cause a =
 
 -- the same where the grammar is the only cause
 pub refuses : {T : Type 0} {g : Goal} {p : Reader T} {k : Kind} {m : Position} {names : Names} {given : List (Ev × Position)} (q : Problem)
-    → is_of_names q ≡ false → fits q k ≡ true → IfSome p.tokens.peeked (λ t. t.0 ≡ m) → IsOfKind k p.tokens.peeked → ((t : Tok) → kind_of t ≡ k → Refuses g p.stack t) → HasNoCause q → At g p names given
+    → is_of_names q ≡ false → fits q k ≡ true → IfSome p.tokens.peeked (λ t. t.0 ≡ m) → IsOfKind k p.tokens.peeked → ((t : Tok) → kind_of t ≡ k → Refuses g p.stack t) → HasNoCause q → ((a : At g p names given) → GoesApart q (taken_toks p.tokens) a.raw) → At g p names given
     → Faulted p given (stop.Own (fault.At q m))
-refuses q free fit mark o turn none a = refuses_for q free fit mark o turn (λ b t h. none _ _ _ t) a
+refuses q free fit mark o turn none apart a = refuses_for q free fit mark o turn (λ b t h. none _ _ _ t) (λ b h. apart b) a

@@ -14,3 +14,4 @@ pub mod Positions
 pub mod Resolved
 pub mod Since
 pub mod Steps
+pub mod Ways

@@ -1,5 +1,5 @@
 -- The events that a parser gives are a beginning of nested events, so the stream's end comes in no document.
-use Rattle.std.proofs.Common.{◌≡◌, List, [], ◌∷◌, ◌++◌, Option, Some, None, Bool, true, false, if◌then◌else◌, refl, sym, ap, ◌∙◌, subst}
+use Rattle.std.proofs.Common.{◌≡◌, length, arith, List, [], ◌∷◌, ◌++◌, Option, Some, None, Bool, true, false, if◌then◌else◌, refl, sym, ap, ◌∙◌, subst}
 use Rattle.defs_text.specs.Position.{Position}
 use Rattle.defs_event.specs.Event.{Ev}
 use Rattle.defs_event.specs.Nested.{Open, in_stream, before_node, after_node, in_sequence, at_key, at_value, open_after, there_and, closes, is_nested, IsNested}
@@ -163,3 +163,11 @@ nothing_given {T} {p} {names} {given} a =
     by : (es ws : List Ev) → is_nested (es ++ Ev.stream_start ∷ ws) ≡ true → es ≡ []
     by [] ws h = refl
     by (e ∷ es) ws h = absurd (never_starts es ws (in_stream ∷ []) (from_start e (es ++ Ev.stream_start ∷ ws) h).1)
+
+pub nothing_read : {T : Type 0} {p : Reader T} {names : Names} {given : List (Ev × Position)} → (a : At at.start p names given) → a.raw ≡ []
+nothing_read {T} {p} {names} {given} a = empty a.raw given a.count (nothing_given a)
+  where
+    empty : (rs : List Raw) (es : List (Ev × Position)) → length rs ≡ length es → events_of es ≡ [] → rs ≡ []
+    empty [] es l h = refl
+    empty (r ∷ rs) [] l h = absurd (omega (arith, l))
+    empty (r ∷ rs) (e ∷ es) l h = cc

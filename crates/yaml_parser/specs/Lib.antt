@@ -1,4 +1,5 @@
 pub mod Ahead
+pub mod Apart
 pub mod At
 pub mod Blames
 pub mod Declares
