@@ -1,4 +1,22 @@
 //! Loads of texts that a stranger wrote, within limits.
+//!
+//! Two kinds of text can end a program that loads them. A text can hold two keys of one mapping that nest so deep that their
+//! comparison, which recurses, runs out of stack. And 60 aliases of aliases can make 3^20 nodes, since each alias is loaded
+//! as a copy of its node. [`load_with_limits`] refuses both:
+//!
+//! ```
+//! let documents = load_with_limits(alloc, text, Limits::for_text(text))?;
+//! ```
+//!
+//! - `levels` limits how deep nodes stand one in another, and so the stack of each call that recurses on the trees:
+//!   comparison, hashing, `Debug`, dump and overlay.
+//! - `size` limits how many nodes are made and how many bytes their content has, and so the memory of the load.
+//!
+//! What an event would make is counted before the loader has the event: an alias as the whole tree that it is a copy of, a
+//! node with an anchor once where it stands and once as the copy that is kept for its aliases (`specs/Made`). The numbers
+//! are exact: a count that does not fit in 64 bits is over every limit.
+//!
+//! `Ok` is what `YamlLoader::load_from_str` gives for the text. [`LimitsError`] tells the text's fault from a limit.
 #![tactic(auto)]
 
 mod count;
