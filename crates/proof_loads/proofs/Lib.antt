@@ -14,6 +14,7 @@ pub mod OneReading
 mod PartsNul
 pub mod Pulled
 pub mod QuotedTexts
+pub mod RowTexts
 pub mod Runs
 pub mod Settled
 pub mod Spelled

@@ -5,6 +5,7 @@ pub mod Laws
 pub mod LayoutTexts
 pub mod LoadsAs
 pub mod QuotedTexts
+pub mod Rows
 pub mod Spelled
 pub mod TextEvents
 pub mod TextReadAs

@@ -7,3 +7,4 @@ pub mod in_turn;
 pub mod laws;
 pub mod layouts;
 pub mod quoted;
+pub mod rows;

@@ -1,0 +1,20 @@
+-- What a text is read as comes from its row: each law is the contract of the function of `src/rows.rt` that its comment names.
+use Rattle.std.specs.Prelude.{ℕ, Bool, List}
+use Rattle.defs_text.specs.Position.{Position}
+use Rattle.defs_tree.specs.Tree.{Tree}
+use Rattle.defs_event.specs.Event.{Ev}
+use Rattle.defs_event.specs.Stream.{events_of}
+use Rattle.proof_row.specs.Meaning as meaning
+use Rattle.proof_row.specs.Meaning.{Means}
+use Rattle.proof_loads.specs.TextReadAs.{IsReadAs}
+use Rattle.proof_loads.specs.TextEvents.{HasEvents}
+use Rattle.proof_loads.specs.Spelled.{IsWithoutNul}
+
+-- `read_texts_mean_their_trees`
+abbrev pub ReadTextsMeanTheirTrees : Type 0
+ReadTextsMeanTheirTrees = (keep_tags : Bool) (text : List ℕ) (trees : List Tree) → IsWithoutNul text → IsReadAs keep_tags text trees → Means keep_tags text trees
+
+-- `events_are_of_the_row`
+abbrev pub EventsAreOfTheRow : Type 0
+EventsAreOfTheRow =
+    (keep_tags : Bool) (text : List ℕ) (events : List (Ev × Position)) → IsWithoutNul text → HasEvents keep_tags text events → meaning.HasEvents keep_tags text (events_of events)

@@ -1,0 +1,16 @@
+//! What a text is read as comes from its one row of tokens. Each law is the contract of an empty function.
+
+ghost use Rattle.proof_loads.specs.Rows.{EventsAreOfTheRow, ReadTextsMeanTheirTrees};
+
+/// A text without NUL that is read as trees means these trees: its row of tokens, by the strict definition, is read
+/// as them. A text has one row at most.
+#[tactic(auto, using(crate::proofs::RowTexts::means_its_trees))]
+pub fn read_texts_mean_their_trees()
+    ensures { ReadTextsMeanTheirTrees }
+{}
+
+/// The events of a text without NUL are those of its row of tokens, by the strict definition and the token grammar.
+#[tactic(auto, using(crate::proofs::RowTexts::of_the_row))]
+pub fn events_are_of_the_row()
+    ensures { EventsAreOfTheRow }
+{}
