@@ -20,7 +20,9 @@ use Rattle.yaml_parser.specs.Parsed.{Parsed}
 use Rattle.proof_loads.specs.TextReadAs.{IsReadAs, IsAtStart}
 use Rattle.proof_loads.specs.Spelled.{IsWithoutNul}
 use Rattle.proof_loads.specs.Cuts.{IsReadOfCut}
+use Rattle.proof_row.specs.Meaning.{Means}
 use Rattle.proof_loads.proofs.CutTexts.{of_a_cut, none_before}
+use Rattle.proof_loads.proofs.RowTexts.{means, means_its_trees}
 use Rattle.proof_loads.proofs.Loads.{memory_is_wanted}
 use Rattle.proof_loads.proofs.Answers.{nested_is_stream}
 use Rattle.proof_loads.proofs.OneReading.{one_reading}
@@ -104,11 +106,21 @@ of_first_basic text P h tree (w, is, basic, e, same) = of_first_layout text P h 
 pub of_first_quoted : (text : List ℕ) (P : List Tree → Type 0) → OfText text P → OfQuoted text P
 of_first_quoted text P h value is = h (Tree.string value ∷ []) (quoted_texts_are_read false text value is)
 
+-- the documents are what the text means
+of_row_without : (text : List ℕ) (result : Result (Vec Yaml Global) ErrorReport) → LoadsText false text result → IsWithoutNul text → IfOk result (λ documents. Means false text (items_view documents.items))
+of_row_without text (Ok documents) h without = means_its_trees false text (items_view documents.items) without h
+of_row_without text (Err f) h without = tt
+
+pub of_row : (text : List ℕ) (result : Result (Vec Yaml Global) ErrorReport) → LoadsText false (up_to_nul text) result
+    → IfOk result (λ documents. Means false (up_to_nul text) (items_view documents.items))
+of_row text (Ok documents) h = means false (up_to_nul text) (items_view documents.items) (none_before text) h
+of_row text (Err f) h = tt
+
 -- all that a load answers of a text
 pub answers : (text : List ℕ) (result : Result (Vec Yaml Global) ErrorReport) → LoadsText false text result → Answers text result
 answers text result h =
     let texts = of_text text result h in
-    record { reads = h; texts = texts; json = of_first_json text (LoadsOnly result) texts; basic = of_first_basic text (LoadsOnly result) texts; laid_out = of_first_layout text (LoadsOnly result) texts; quoted = of_first_quoted text (LoadsOnly result) texts }
+    record { reads = h; of_row = of_row_without text result h; texts = texts; json = of_first_json text (LoadsOnly result) texts; basic = of_first_basic text (LoadsOnly result) texts; laid_out = of_first_layout text (LoadsOnly result) texts; quoted = of_first_quoted text (LoadsOnly result) texts }
 
 -- the documents are what a cut of the text is read as
 pub of_cut : (text : List ℕ) (result : Result (Vec Yaml Global) ErrorReport) → LoadsText false (up_to_nul text) result

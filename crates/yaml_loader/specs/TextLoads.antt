@@ -1,5 +1,5 @@
 -- What a load promises of every text that its parser may have.
-use Rattle.std.specs.Prelude.{◌≡◌, List, [], ◌∷◌, ℕ, Bool, true, false, Option, Result, Ok, Err, Vec}
+use Rattle.std.specs.Prelude.{◌≡◌, List, [], ◌∷◌, ℕ, Bool, true, false, Option, Result, Ok, Err, IfOk, Vec}
 use Rattle.std.specs.Iterator.{AlwaysYields}
 use Rattle.std.specs.declared.alloc.Global.{Global}
 use Rattle.defs_tree.specs.Tree.{Tree}
@@ -12,6 +12,8 @@ use Rattle.yaml_tree.specs.View.{items_view}
 use Rattle.yaml_tree.specs.declared.yaml.Yaml.{Yaml}
 use Rattle.yaml_scanner.specs.Scanned.{MayBe}
 use Rattle.yaml_parser.specs.Parsed.{Parsed}
+use Rattle.proof_row.specs.Meaning.{Means}
+use Rattle.proof_loads.specs.Spelled.{IsWithoutNul}
 use Rattle.proof_loads.specs.TextReadAs.{IsReadAs, IsAtStart}
 use Rattle.yaml_loader.specs.Unread.{IsUnread}
 
@@ -53,10 +55,11 @@ OfQuoted text P = (value : List ℕ) → IsQuoted value text → P (Tree.string 
 abbrev pub OfGiven : {S : Type 0} → (S → Option ℕ → S → Type 0) → S → (List ℕ → Type 0) → Type 0
 OfGiven steps source Q = (text : List ℕ) → AlwaysYields steps (λ c. c) source text → Q text
 
--- What a load of a text gives: the documents that it is read as, or a fault whose reason is in it. So for a text that is read as trees, for a
+-- What a load of a text gives: the documents that it is read as, which it means by the definitions alone, or a fault whose reason is in it. So for a text that is read as trees, for a
 -- JSON text, for a layout of one or several documents and for a text of one quoted scalar it gives exactly their trees, or out of memory.
 pub record Answers (text : List ℕ) (result : Result (Vec Yaml Global) ErrorReport) : Type 0 where
   pub reads : LoadsText false text result
+  pub of_row : IsWithoutNul text → IfOk result (λ documents. Means false text (items_view documents.items))
   pub texts : OfText text (LoadsOnly result)
   pub json : OfJson text (LoadsOnly result)
   pub basic : OfBasic text (LoadsOnly result)

@@ -6,6 +6,7 @@ ghost use Rattle.yaml_tree.specs.View.{items_view};
 ghost use Rattle.yaml_chars.specs.Reading.{HasNoNul, up_to_nul, BeginsText};
 ghost use Rattle.yaml_chars.specs.Source.{CameFrom};
 ghost use Rattle.yaml_parser.specs.Parsed.{parsed};
+ghost use Rattle.proof_row.specs.Meaning.{Means};
 ghost use Rattle.proof_loads.specs.Cuts.{IsReadOfCut};
 ghost use Rattle.yaml_loader.specs.Loads.{AreLoaded, IsLoadFault};
 ghost use Rattle.yaml_loader.specs.TextLoads.{LoadsText, LoadsOnly, OfTexts, OfText, OfGiven, OfJson, OfBasic, OfLayout, OfQuoted, Answers};
@@ -27,6 +28,9 @@ impl YamlLoader {
     /// let documents = YamlLoader::load_from_str(alloc, "a: [1, two]")?;
     /// let first = documents.first()?.get_key("a")?.get_index(0)?.as_i64(); // Some(1)
     /// ```
+    ///
+    /// The documents are what the text means by the definitions alone: a text has at most one row of tokens, and means at
+    /// most one list of trees. So whoever keeps the clause `of_row` gives the same documents.
     ///
     /// # Errors
     ///
@@ -50,6 +54,7 @@ impl YamlLoader {
     ///   by nothing but line feeds: it loads as a string, also if its text without quotes would be another scalar.
     pub fn load_from_str(alloc: Global, source: &str) -> Result<Vec<Yaml>, ScanError>
         ensures reads { LoadsText false (up_to_nul (chars source.now)) result }
+        ensures of_row { IfOk result (λ documents. Means false (up_to_nul (chars source.now)) (items_view documents.items)) }
         ensures of_cut { IfOk result (λ documents. IsReadOfCut false (up_to_nul (chars source.now)) (items_view documents.items)) }
         ensures no_alias { IfOk result (λ documents. All HasNoAlias (items_view documents.items)) }
         ensures texts { OfText (up_to_nul (chars source.now)) (LoadsOnly result) }
@@ -81,6 +86,7 @@ impl YamlLoader {
         // just these if they end with the iterator or a NUL.
         ensures given { BeginsText I.next_gives source (λ text. Answers text result) }
         ensures reads { OfGiven I.next_gives source (λ text. LoadsText false (up_to_nul text) result) }
+        ensures of_row { OfGiven I.next_gives source (λ text. IfOk result (λ documents. Means false (up_to_nul text) (items_view documents.items))) }
         ensures of_cut { OfGiven I.next_gives source (λ text. IfOk result (λ documents. IsReadOfCut false (up_to_nul text) (items_view documents.items))) }
         ensures no_alias { IfOk result (λ documents. All HasNoAlias (items_view documents.items)) }
         ensures texts { OfGiven I.next_gives source (λ text. OfText (up_to_nul text) (LoadsOnly result)) }

@@ -2,7 +2,7 @@ use Rattle.std.proofs.Common.{◌∙◌}
 use Rattle.yaml_chars.specs.Reading.{up_to_nul}
 use Rattle.yaml_parser.specs.Parsed.{parsed}
 use Rattle.yaml_loader.specs.TextLoads.{LoadsText, LoadsOnly}
-use Rattle.yaml_loader.proofs.TextLemmas.{given_may_be, begins_given, answers, of_texts, of_text, of_cut, of_json, of_basic, of_layout, of_quoted}
+use Rattle.yaml_loader.proofs.TextLemmas.{given_may_be, begins_given, answers, of_texts, of_text, of_cut, of_row, of_json, of_basic, of_layout, of_quoted}
 use Rattle.yaml_loader.proofs.loader.YamlLoader.load_from_iter.Goals as goal
 
 pub returns-clause-reads : goal.returns-clause-reads
@@ -17,6 +17,9 @@ returns-clause-reads g c =
 
 pub returns-clause-of_cut : goal.returns-clause-of_cut
 returns-clause-of_cut g c = λ text always. of_cut text c.load_from_parser.result (returns-clause-reads g c text always)
+
+pub returns-clause-of_row : goal.returns-clause-of_row
+returns-clause-of_row g c = λ text always. of_row text c.load_from_parser.result (returns-clause-reads g c text always)
 
 pub returns-clause-texts : goal.returns-clause-texts
 returns-clause-texts g c = λ text always. of_text (up_to_nul text) c.load_from_parser.result (returns-clause-reads g c text always)
