@@ -1,6 +1,5 @@
 pub mod Collected
 pub mod Converted
-pub mod Counted
 pub mod First
 mod InTurn
 pub mod Split

@@ -25,6 +25,3 @@ pub where_ok : {A E : Type 0} {P : Type 0} (result : Result A E) → P → IfOk 
 where_ok (Ok x) p = p
 where_ok (Err e) p = tt
 
-pub read_where_ok : (text : List ℕ) (result : Result (Vec Yaml Global) ErrorReport) → LoadsText false text result → IfOk result (λ documents. IsReadAs false text (items_view documents.items))
-read_where_ok text (Ok documents) read = read
-read_where_ok text (Err f) why = tt

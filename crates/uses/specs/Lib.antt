@@ -1,4 +1,3 @@
-pub mod Aliases
 pub mod Anchors
 pub mod FrontMatter
 pub mod Settings

@@ -1,7 +1,6 @@
 //! Small programs that call the library, each proved from public contracts alone: a place to start from.
 #![tactic(auto)]
 
-pub mod aliases;
 pub mod anchors;
 pub mod calls;
 pub mod front_matter;
@@ -13,3 +12,4 @@ pub mod many_documents;
 mod receiver_tests;
 pub mod round_trip;
 pub mod settings;
+pub mod strangers;
