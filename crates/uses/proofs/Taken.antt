@@ -24,4 +24,3 @@ all_taken (refused es last p begins received takes) ok keep = absurd (not_ok _ _
 pub where_ok : {A E : Type 0} {P : Type 0} (result : Result A E) → P → IfOk result (λ x. P)
 where_ok (Ok x) p = p
 where_ok (Err e) p = tt
-
