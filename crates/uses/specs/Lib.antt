@@ -1,3 +1,4 @@
 pub mod Anchors
+pub mod CheckedSettings
 pub mod FrontMatter
 pub mod Settings

@@ -3,11 +3,14 @@
 
 pub mod anchors;
 pub mod calls;
+pub mod checked_settings;
 pub mod front_matter;
 pub mod json_and_back;
 pub mod json_to_yaml;
 pub mod layered_settings;
 pub mod many_documents;
+#[cfg(test)]
+mod marked_tests;
 #[cfg(test)]
 mod receiver_tests;
 pub mod round_trip;

@@ -1,0 +1,132 @@
+use std::alloc::Global;
+use std::test::Fail;
+use yaml_marked::{Marked, MarkedDocuments, load_marked};
+use yaml_rust2::scanner::Marker;
+
+// A step to a part of a node.
+enum Step {
+    Item(usize),
+    Value(&'static str),
+    Key(&'static str),
+}
+
+use Step::{Item, Key, Value};
+
+// A text, the number of a document, the steps to a node in it, where the node begins, and where its tree begins.
+type Row = (
+    &'static str,
+    usize,
+    &'static [Step],
+    &'static str,
+    &'static str,
+);
+
+const ROWS: [Row; 37] = [
+    ("- a\n", 0, &[], "1:0", "1:0"),
+    ("- a\n", 0, &[Item(0)], "1:2", "1:2"),
+    ("- - a\n  - b\n", 0, &[Item(0)], "1:2", "1:2"),
+    ("- - a\n  - b\n", 0, &[Item(0), Item(1)], "2:4", "2:4"),
+    ("? a\n: b\n", 0, &[], "1:0", "1:0"),
+    ("? a\n: b\n", 0, &[Key("a")], "1:2", "1:2"),
+    ("? a\n: b\n", 0, &[Value("a")], "2:2", "2:2"),
+    ("a: b\n", 0, &[], "1:1", "1:1"),
+    ("a: b\n", 0, &[Key("a")], "1:0", "1:0"),
+    ("a: b\n", 0, &[Value("a")], "1:3", "1:3"),
+    ("\n\n  key  : v\n", 0, &[], "3:7", "3:7"),
+    ("\n\n  key  : v\n", 0, &[Key("key")], "3:2", "3:2"),
+    ("k:\n- x\n", 0, &[Value("k")], "2:2", "2:2"),
+    ("k:\n  - x\n", 0, &[Value("k")], "2:2", "2:2"),
+    ("k:\n  - x\n", 0, &[Value("k"), Item(0)], "2:4", "2:4"),
+    ("&a !t x\n", 0, &[], "1:6", "1:6"),
+    ("&m {a: 1}\n", 0, &[], "1:3", "1:3"),
+    ("&m {a: 1}\n", 0, &[Value("a")], "1:7", "1:7"),
+    ("&a\n- x\n", 0, &[], "2:0", "2:0"),
+    ("k: &a\n  b: c\n", 0, &[Value("k")], "2:3", "2:3"),
+    ("&a k: v\n", 0, &[Key("k")], "1:3", "1:3"),
+    ("{a: , b}\n", 0, &[Value("a")], "1:2", "1:2"),
+    ("{a: , b}\n", 0, &[Key("b")], "1:6", "1:6"),
+    ("{a: , b}\n", 0, &[Value("b")], "1:7", "1:7"),
+    ("a:\nb: &c\n", 0, &[Value("a")], "2:0", "2:0"),
+    ("--- # c\n", 0, &[], "2:0", "2:0"),
+    ("- |\n  x\n- \"y\n  z\"\n", 0, &[Item(0)], "2:2", "2:2"),
+    ("- |\n  x\n- \"y\n  z\"\n", 0, &[Item(1)], "3:2", "3:2"),
+    (
+        "é: {\"ü\": x}\n",
+        0,
+        &[Value("é"), Value("ü")],
+        "1:9",
+        "1:9",
+    ),
+    ("[a]\n---\n[b]\n", 1, &[], "3:0", "3:0"),
+    ("[a]\n---\n[b]\n", 1, &[Item(0)], "3:1", "3:1"),
+    ("a: &s b\nc: *s\n", 0, &[Value("c")], "2:3", "1:6"),
+    ("- &a [x]\n- *a\n", 0, &[Item(0)], "1:5", "1:5"),
+    ("- &a [x]\n- *a\n", 0, &[Item(1)], "2:2", "1:5"),
+    ("- &a [x]\n- *a\n", 0, &[Item(1), Item(0)], "1:6", "1:6"),
+    (
+        "- &a {b: &c [1]}\n- *a\n- *c\n",
+        0,
+        &[Item(1), Value("b")],
+        "1:12",
+        "1:12",
+    ),
+    (
+        "- &a {b: &c [1]}\n- *a\n- *c\n",
+        0,
+        &[Item(2)],
+        "3:2",
+        "1:12",
+    ),
+];
+
+fn shown(alloc: Global, position: Marker) -> Result<String, Fail> {
+    Ok(format!(in alloc; "{}:{}", position.line(), position.col())?)
+}
+
+fn part<'a>(node: Marked<'a>, step: &Step) -> Option<Marked<'a>> {
+    match step {
+        Item(place) => node.get_index(*place),
+        Value(key) => node.get_key(key),
+        Key(key) => Some(node.get_pair(key)?.0),
+    }
+}
+
+fn node<'a>(documents: &'a MarkedDocuments, document: usize, steps: &[Step]) -> Option<Marked<'a>> {
+    let mut node = documents.get(document)?;
+    for step in steps {
+        node = part(node, step)?;
+    }
+    Some(node)
+}
+
+#[test]
+fn nodes_have_the_positions_of_their_events(rt: HostRuntime) -> Result<(), Fail> {
+    let alloc = rt.alloc();
+    for (text, document, steps, own, tree) in ROWS {
+        let documents = load_marked(alloc, text)?;
+        let node = node(&documents, document, steps).ok_or(text)?;
+        assert_eq!(rt; shown(alloc, node.marker())?.as_str(), own);
+        assert_eq!(rt; shown(alloc, node.tree_marker())?.as_str(), tree);
+    }
+    Ok(())
+}
+
+#[test]
+fn parts_come_in_order(rt: HostRuntime) -> Result<(), Fail> {
+    let alloc = rt.alloc();
+    let documents = load_marked(alloc, "{a: [x, y], b: [z]}\n")?;
+    let root = documents.first().ok_or("no document")?;
+    let mut line = String::new(alloc);
+    for (key, items) in root.pairs().ok_or("no pairs")? {
+        line.push_str(key.as_str().ok_or("no text")?)?;
+        for item in items.items().ok_or("no items")? {
+            line.push_str(item.as_str().ok_or("no text")?)?;
+            line.push_str(shown(alloc, item.marker())?.as_str())?;
+        }
+    }
+    assert_eq!(rt; line.as_str(), "ax1:5y1:8bz1:16");
+    assert_eq!(rt; documents.len(), 1);
+    let plain = documents.into_documents();
+    assert_eq!(rt; plain.len(), 1);
+    Ok(())
+}
