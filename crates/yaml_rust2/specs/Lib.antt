@@ -18,6 +18,9 @@ pub use Rattle.defs_layout.specs.DumpsInTurn
 pub use Rattle.defs_layout.specs.QuotedText
 pub use Rattle.defs_token.specs.Token
 pub use Rattle.defs_token.specs.Cut
+pub use Rattle.defs_row.specs.Step
+pub use Rattle.defs_row.specs.Tokens
+pub use Rattle.defs_row.specs.Row
 pub use Rattle.defs_event.specs.Event
 pub use Rattle.defs_event.specs.Nested
 pub use Rattle.defs_event.specs.Stream
@@ -47,6 +50,7 @@ pub use Rattle.yaml_parser.specs.Loads
 pub use Rattle.yaml_parser.specs.Nests
 pub use Rattle.yaml_parser.specs.Pulls
 pub use Rattle.yaml_parser.specs.Shown
+pub use Rattle.proof_row.specs.Meaning
 pub use Rattle.proof_loads.specs.Cuts
 pub use Rattle.proof_loads.specs.Spelled
 pub use Rattle.proof_loads.specs.TextReadAs

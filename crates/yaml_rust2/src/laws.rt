@@ -56,6 +56,9 @@ pub use proof_loads::layouts::{layouts_are_read_as_their_trees, layouts_are_with
 pub use proof_loads::quoted::{
     quoted_texts_are_read_as_their_string, quoted_texts_are_without_nul,
 };
+pub use proof_loads::rows::{events_are_of_the_row, read_texts_mean_their_trees};
+pub use proof_row::laws::{one_list_of_events, one_meaning, one_reading, one_row};
+pub use proof_row_sound::laws::tokens_are_of_a_row;
 pub use yaml_emitter::laws::laid_out;
 pub use yaml_loader::laws::{
     alike_loaders_go_on_alike, alike_loaders_show_the_same, events_are_read_as_defined,
