@@ -13,70 +13,51 @@ enum Step {
 use Step::{Item, Key, Value};
 
 // A text, the number of a document, the steps to a node in it, where the node begins, and where its tree begins.
-type Row = (
-    &'static str,
-    usize,
-    &'static [Step],
-    &'static str,
-    &'static str,
-);
+type Row = (&'static str, usize, &'static [Step], &'static str);
 
 const ROWS: [Row; 37] = [
-    ("- a\n", 0, &[], "1:0", "1:0"),
-    ("- a\n", 0, &[Item(0)], "1:2", "1:2"),
-    ("- - a\n  - b\n", 0, &[Item(0)], "1:2", "1:2"),
-    ("- - a\n  - b\n", 0, &[Item(0), Item(1)], "2:4", "2:4"),
-    ("? a\n: b\n", 0, &[], "1:0", "1:0"),
-    ("? a\n: b\n", 0, &[Key("a")], "1:2", "1:2"),
-    ("? a\n: b\n", 0, &[Value("a")], "2:2", "2:2"),
-    ("a: b\n", 0, &[], "1:1", "1:1"),
-    ("a: b\n", 0, &[Key("a")], "1:0", "1:0"),
-    ("a: b\n", 0, &[Value("a")], "1:3", "1:3"),
-    ("\n\n  key  : v\n", 0, &[], "3:7", "3:7"),
-    ("\n\n  key  : v\n", 0, &[Key("key")], "3:2", "3:2"),
-    ("k:\n- x\n", 0, &[Value("k")], "2:2", "2:2"),
-    ("k:\n  - x\n", 0, &[Value("k")], "2:2", "2:2"),
-    ("k:\n  - x\n", 0, &[Value("k"), Item(0)], "2:4", "2:4"),
-    ("&a !t x\n", 0, &[], "1:6", "1:6"),
-    ("&m {a: 1}\n", 0, &[], "1:3", "1:3"),
-    ("&m {a: 1}\n", 0, &[Value("a")], "1:7", "1:7"),
-    ("&a\n- x\n", 0, &[], "2:0", "2:0"),
-    ("k: &a\n  b: c\n", 0, &[Value("k")], "2:3", "2:3"),
-    ("&a k: v\n", 0, &[Key("k")], "1:3", "1:3"),
-    ("{a: , b}\n", 0, &[Value("a")], "1:2", "1:2"),
-    ("{a: , b}\n", 0, &[Key("b")], "1:6", "1:6"),
-    ("{a: , b}\n", 0, &[Value("b")], "1:7", "1:7"),
-    ("a:\nb: &c\n", 0, &[Value("a")], "2:0", "2:0"),
-    ("--- # c\n", 0, &[], "2:0", "2:0"),
-    ("- |\n  x\n- \"y\n  z\"\n", 0, &[Item(0)], "2:2", "2:2"),
-    ("- |\n  x\n- \"y\n  z\"\n", 0, &[Item(1)], "3:2", "3:2"),
-    (
-        "é: {\"ü\": x}\n",
-        0,
-        &[Value("é"), Value("ü")],
-        "1:9",
-        "1:9",
-    ),
-    ("[a]\n---\n[b]\n", 1, &[], "3:0", "3:0"),
-    ("[a]\n---\n[b]\n", 1, &[Item(0)], "3:1", "3:1"),
-    ("a: &s b\nc: *s\n", 0, &[Value("c")], "2:3", "1:6"),
-    ("- &a [x]\n- *a\n", 0, &[Item(0)], "1:5", "1:5"),
-    ("- &a [x]\n- *a\n", 0, &[Item(1)], "2:2", "1:5"),
-    ("- &a [x]\n- *a\n", 0, &[Item(1), Item(0)], "1:6", "1:6"),
+    ("- a\n", 0, &[], "1:0 1:0"),
+    ("- a\n", 0, &[Item(0)], "1:2 1:2"),
+    ("- - a\n  - b\n", 0, &[Item(0)], "1:2 1:2"),
+    ("- - a\n  - b\n", 0, &[Item(0), Item(1)], "2:4 2:4"),
+    ("? a\n: b\n", 0, &[], "1:0 1:0"),
+    ("? a\n: b\n", 0, &[Key("a")], "1:2 1:2"),
+    ("? a\n: b\n", 0, &[Value("a")], "2:2 2:2"),
+    ("a: b\n", 0, &[], "1:1 1:1"),
+    ("a: b\n", 0, &[Key("a")], "1:0 1:0"),
+    ("a: b\n", 0, &[Value("a")], "1:3 1:3"),
+    ("\n\n  key  : v\n", 0, &[], "3:7 3:7"),
+    ("\n\n  key  : v\n", 0, &[Key("key")], "3:2 3:2"),
+    ("k:\n- x\n", 0, &[Value("k")], "2:2 2:2"),
+    ("k:\n  - x\n", 0, &[Value("k")], "2:2 2:2"),
+    ("k:\n  - x\n", 0, &[Value("k"), Item(0)], "2:4 2:4"),
+    ("&a !t x\n", 0, &[], "1:6 1:6"),
+    ("&m {a: 1}\n", 0, &[], "1:3 1:3"),
+    ("&m {a: 1}\n", 0, &[Value("a")], "1:7 1:7"),
+    ("&a\n- x\n", 0, &[], "2:0 2:0"),
+    ("k: &a\n  b: c\n", 0, &[Value("k")], "2:3 2:3"),
+    ("&a k: v\n", 0, &[Key("k")], "1:3 1:3"),
+    ("{a: , b}\n", 0, &[Value("a")], "1:2 1:2"),
+    ("{a: , b}\n", 0, &[Key("b")], "1:6 1:6"),
+    ("{a: , b}\n", 0, &[Value("b")], "1:7 1:7"),
+    ("a:\nb: &c\n", 0, &[Value("a")], "2:0 2:0"),
+    ("--- # c\n", 0, &[], "2:0 2:0"),
+    ("- |\n  x\n- \"y\n  z\"\n", 0, &[Item(0)], "2:2 2:2"),
+    ("- |\n  x\n- \"y\n  z\"\n", 0, &[Item(1)], "3:2 3:2"),
+    ("é: {\"ü\": x}\n", 0, &[Value("é"), Value("ü")], "1:9 1:9"),
+    ("[a]\n---\n[b]\n", 1, &[], "3:0 3:0"),
+    ("[a]\n---\n[b]\n", 1, &[Item(0)], "3:1 3:1"),
+    ("a: &s b\nc: *s\n", 0, &[Value("c")], "2:3 1:6"),
+    ("- &a [x]\n- *a\n", 0, &[Item(0)], "1:5 1:5"),
+    ("- &a [x]\n- *a\n", 0, &[Item(1)], "2:2 1:5"),
+    ("- &a [x]\n- *a\n", 0, &[Item(1), Item(0)], "1:6 1:6"),
     (
         "- &a {b: &c [1]}\n- *a\n- *c\n",
         0,
         &[Item(1), Value("b")],
-        "1:12",
-        "1:12",
+        "1:12 1:12",
     ),
-    (
-        "- &a {b: &c [1]}\n- *a\n- *c\n",
-        0,
-        &[Item(2)],
-        "3:2",
-        "1:12",
-    ),
+    ("- &a {b: &c [1]}\n- *a\n- *c\n", 0, &[Item(2)], "3:2 1:12"),
 ];
 
 fn shown(alloc: Global, position: Marker) -> Result<String, Fail> {
@@ -99,14 +80,23 @@ fn node<'a>(documents: &'a MarkedDocuments, document: usize, steps: &[Step]) -> 
     Some(node)
 }
 
+// Where a node and its tree begin.
+fn told(alloc: Global, text: &str, document: usize, steps: &[Step]) -> Result<String, Fail> {
+    let documents = load_marked(alloc, text)?;
+    let node = node(&documents, document, steps).ok_or("no such node")?;
+    let own = shown(alloc, node.marker())?;
+    let tree = shown(alloc, node.tree_marker())?;
+    Ok(format!(in alloc; "{own} {tree}")?)
+}
+
 #[test]
 fn nodes_have_the_positions_of_their_events(rt: HostRuntime) -> Result<(), Fail> {
-    let alloc = rt.alloc();
-    for (text, document, steps, own, tree) in ROWS {
-        let documents = load_marked(alloc, text)?;
-        let node = node(&documents, document, steps).ok_or(text)?;
-        assert_eq!(rt; shown(alloc, node.marker())?.as_str(), own);
-        assert_eq!(rt; shown(alloc, node.tree_marker())?.as_str(), tree);
+    for (text, document, steps, want) in ROWS {
+        assert_eq!(rt;
+            told(rt.alloc(), text, document, steps)?.as_str(),
+            want,
+            "{text}"
+        );
     }
     Ok(())
 }

@@ -82,14 +82,27 @@ fn check<'a, R: Files, I: Read, O: Write>(
         Err(Stop::OutOfMemory) => return Err(Failure::OutOfMemory),
     };
     let text = text.as_str();
-    let told = match load_with_limits(alloc, text, limits(command, text)) {
-        Ok(_) => return Ok(true),
-        Err(LimitsError::Scan(fault)) if fault.is_out_of_memory() => return Err(
-            Failure::OutOfMemory,
-        ),
-        Err(LimitsError::Scan(fault)) => tell(out, path, text, *fault.marker(), fault.info()),
-        Err(LimitsError::Levels(mark)) => tell(out, path, text, mark, "too many levels"),
-        Err(LimitsError::Size(mark)) => tell(out, path, text, mark, "too large"),
+    match load_with_limits(alloc, text, limits(command, text)) {
+        Ok(_) => Ok(true),
+        Err(error) => tell_error(out, path, text, &error),
+    }
+}
+
+fn tell_error<'a, O: Write>(
+    out: &mut O,
+    path: &'a str,
+    text: &str,
+    error: &LimitsError,
+) -> Result<bool, Failure<'a>> {
+    let told = match error {
+        LimitsError::Scan(fault) => {
+            if fault.is_out_of_memory() {
+                return Err(Failure::OutOfMemory);
+            }
+            tell(out, path, text, *fault.marker(), fault.info())
+        }
+        LimitsError::Levels(mark) => tell(out, path, text, *mark, "too many levels"),
+        LimitsError::Size(mark) => tell(out, path, text, *mark, "too large"),
     };
     match told {
         Ok(()) => Ok(false),
