@@ -1,0 +1,2 @@
+pub mod EachReads
+pub mod Goes
