@@ -1,4 +1,3 @@
 pub mod Anchors
-pub mod CheckedSettings
 pub mod FrontMatter
 pub mod Settings

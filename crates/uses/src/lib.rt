@@ -3,7 +3,6 @@
 
 pub mod anchors;
 pub mod calls;
-pub mod checked_settings;
 pub mod front_matter;
 pub mod json_and_back;
 pub mod json_to_yaml;
