@@ -36,7 +36,7 @@ fn told(rt: &HostRuntime, options: &[&str], bytes: &[u8]) -> Result<String, Fail
 }
 
 // The rule, the options, what the file holds, and all that is printed.
-const ROWS: [(&str, &[&str], &[u8], &str); 11] = [
+const ROWS: [(&str, &[&str], &[u8], &str); 12] = [
     ("a text that loads", &[], b"a: [1, 2]\n", "0"),
     ("an empty file", &[], b"", "0"),
     (
@@ -86,6 +86,12 @@ const ROWS: [(&str, &[&str], &[u8], &str); 11] = [
         &["--max-size", "3"],
         b"[a, b]",
         "FILE:1:5: too large\n[a, b]\n    ^\n1",
+    ),
+    (
+        "an alias counts as a copy of its node",
+        &["--max-size", "20"],
+        b"- &a [x, y]\n- *a\n- *a\n",
+        "FILE:3:3: too large\n- *a\n  ^\n1",
     ),
     (
         "an unknown option",
