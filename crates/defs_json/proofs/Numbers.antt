@@ -1,9 +1,8 @@
 -- The reals that JSON can write are the texts of its numbers whose value is a real.
-use Rattle.std.proofs.Common.{◌≡◌, ◌⊎◌, inl, inr, ℕ, List, [], ◌∷◌, ◌++◌, Bool, true, false, not, ◌&&◌, Option, Some, None, refl, sym, ap, ◌∙◌, subst, append_assoc, append-nil, true≢false, arith}
-use Rattle.std.specs.Prelude.{ℤ, pos, neg_ℤ, ◌==◌, is_none, option_map, option_and_then, if◌then◌else◌}
+use Rattle.std.proofs.Common.{◌≡◌, ◌⊎◌, inl, inr, ℕ, List, [], ◌∷◌, ◌++◌, Bool, true, false, not, ◌&&◌, Some, None, refl, sym, ap, ◌∙◌, subst, append_assoc, append-nil, true≢false, arith}
+use Rattle.std.specs.Prelude.{◌==◌, is_none, if◌then◌else◌}
 use Rattle.std.specs.Char.{is_ascii_digit}
 use Rattle.std.specs.List.{list_all}
-use Rattle.std.specs.Str.Parse.{digits_value}
 use Rattle.std.proofs.lemmas.Bool.{and_parts, and_from, or_cases, eqb-true}
 use Rattle.std.proofs.lemmas.Bool.Decides.{nat_tests}
 use Rattle.defs_tree.specs.Tree.{integer, real}
@@ -11,8 +10,10 @@ use Rattle.defs_text.specs.Text.{is_empty}
 use Rattle.defs_tree.specs.Grammar.{one, at_least_one, optional, followed_by, in_order}
 use Rattle.defs_tree.specs.Typing.{is_minus, is_sign, is_exponent, is_exponent_mark, is_digit, signed_decimal, fits_i64}
 use Rattle.defs_tree.proofs.GrammarLaws.{cut_from, cut_to, followed_by-empty}
+use Rattle.defs_tree.proofs.DecimalReading.{begins_in}
 use Rattle.defs_layout.specs.JsonNumber as json
 use Rattle.defs_layout.specs.JsonNumber.{Number, Fraction, no_fraction, fraction, Sign, no_sign, plus, minus, Exponent, no_exponent, exponent, spell_number, spell_minus, spell_fraction, spell_sign, spell_exponent, are_digits, is_whole, is_fraction, is_number, integer_value, number_tree}
+use Rattle.defs_layout.proofs.WholeNumbers.{fitted, signed_text, IsOther, no_digits}
 use Rattle.defs_json.specs.JsonReal.{is_frac, is_json_number, is_json_real}
 
 -- ---- parts of a number, by their texts
@@ -121,33 +122,8 @@ number_text s h =
 
 -- ---- as integers
 
--- the integer of a text, from whether it is all digits, and its value
-abbrev fitted : Bool → ℤ → Option ℤ
-fitted are z = option_and_then (λ y. if fits_i64 y then Some y else None) (if are then Some z else None)
-
-mapped : {A B : Type 0} (f : A → B) (b : Bool) (x : A) → option_map f (if b then Some x else None) ≡ (if b then Some (f x) else None)
-mapped f true x = refl
-mapped f false x = refl
-
-no_plus : (c : ℕ) → is_ascii_digit c ≡ true → (c == 43) ≡ false
-no_plus c h = grind (arith, nat_tests)
-
-no_minus : (c : ℕ) → is_ascii_digit c ≡ true → (c == 45) ≡ false
-no_minus c h = grind (arith, nat_tests)
-
 digit_test : (c : ℕ) → is_ascii_digit c ≡ true → is_digit 10 c ≡ true
 digit_test c h = grind (arith, nat_tests)
-
--- a text that begins with a digit
-abbrev begins : List ℕ → Bool
-begins [] = false
-begins (c ∷ t) = is_ascii_digit c
-
-signed_text : (m : Bool) (t : List ℕ) → begins t ≡ true → signed_decimal (spell_minus m t) ≡ fitted (at_least_one (is_digit 10) t) (integer_value m t)
-signed_text true t h = ap (λ o. option_and_then (λ y. if fits_i64 y then Some y else None) o) (mapped (λ n. neg_ℤ (pos n)) (at_least_one (is_digit 10) t) (digits_value 10 t))
-signed_text false [] h = cc
-signed_text false (c ∷ t) h =
-    rw (no_plus c h, no_minus c h) (ap (λ o. option_and_then (λ y. if fits_i64 y then Some y else None) o) (mapped pos (at_least_one (is_digit 10) (c ∷ t)) (digits_value 10 (c ∷ t))))
 
 all_digits : (w : List ℕ) → list_all is_ascii_digit w ≡ true → list_all (is_digit 10) w ≡ true
 all_digits [] h = refl
@@ -162,7 +138,7 @@ some_digits : (w : List ℕ) → are_digits w ≡ true → at_least_one (is_digi
 some_digits [] h = cc
 some_digits (c ∷ w) h = all_digits (c ∷ w) h
 
-whole_begins : (w r : List ℕ) → are_digits w ≡ true → begins (w ++ r) ≡ true
+whole_begins : (w r : List ℕ) → are_digits w ≡ true → begins_in is_ascii_digit (w ++ r) ≡ true
 whole_begins [] r h = cc
 whole_begins (c ∷ w) r h = (and_parts (is_ascii_digit c) (list_all is_ascii_digit w) h).0
 
@@ -171,27 +147,8 @@ plain_text : (m : Bool) (w : List ℕ) → is_whole w ≡ true → signed_decima
 plain_text m w h =
     let d = whole_digits w h in
     ap (λ t. signed_decimal (spell_minus m t)) (append-nil w)
-    ∙ signed_text m w (subst (λ t. begins t ≡ true) (append-nil w) (whole_begins w [] d))
+    ∙ signed_text m w (subst (λ t. begins_in is_ascii_digit t ≡ true) (append-nil w) (whole_begins w [] d))
     ∙ ap (λ b. fitted b (integer_value m w)) (some_digits w d)
-
--- another character after the digits
-abbrev IsOther : List ℕ → Type 0
-IsOther [] = ⊥
-IsOther (c ∷ r) = is_digit 10 c ≡ false
-
-some_other : (w r : List ℕ) → IsOther r → list_all (is_digit 10) (w ++ r) ≡ false
-some_other [] [] h = absurd h
-some_other [] (c ∷ r) h = rw h refl
-some_other (c ∷ w) r h = rw (some_other w r h) (by (is_digit 10 c))
-  where
-    by : (b : Bool) → (b && false) ≡ false
-    by true = refl
-    by false = refl
-
-no_digits : (w r : List ℕ) → IsOther r → at_least_one (is_digit 10) (w ++ r) ≡ false
-no_digits [] [] h = refl
-no_digits [] (c ∷ r) h = some_other [] (c ∷ r) h
-no_digits (c ∷ w) r h = some_other (c ∷ w) r h
 
 other_text : (m : Bool) (w r : List ℕ) → is_whole w ≡ true → IsOther r → signed_decimal (spell_minus m (w ++ r)) ≡ None
 other_text m w r h o = signed_text m (w ++ r) (whole_begins w r (whole_digits w h)) ∙ ap (λ b. fitted b (integer_value m (w ++ r))) (no_digits w r o)

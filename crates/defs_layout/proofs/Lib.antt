@@ -6,3 +6,4 @@ mod JsonRows
 mod LayoutRows
 mod Soundness
 pub mod TokenRows
+pub mod WholeNumbers

@@ -1,6 +1,6 @@
 -- What the texts of numbers stand for.
-use Rattle.std.proofs.Common.{◌≡◌, ℕ, zero, suc, ◌<◌, ◌^◌, List, [], ◌∷◌, ◌++◌, Bool, true, false, not, ◌&&◌, Option, Some, None, refl, sym, ap, ◌∙◌, length, get_or, append-nil, true≢false, arith}
-use Rattle.std.specs.Prelude.{ℤ, pos, negsuc, neg_ℤ, ◌==◌, option_map, option_and_then, unwrap_or, if◌then◌else◌, codes}
+use Rattle.std.proofs.Common.{◌≡◌, ℕ, zero, suc, ◌<◌, ◌^◌, List, [], ◌∷◌, ◌++◌, Bool, true, false, not, ◌&&◌, Option, None, refl, sym, ap, ◌∙◌, length, get_or, append-nil, true≢false, arith}
+use Rattle.std.specs.Prelude.{ℤ, pos, negsuc, neg_ℤ, ◌==◌, unwrap_or, if◌then◌else◌, codes}
 use Rattle.std.specs.Char.{is_ascii_digit, digit_value}
 use Rattle.std.specs.List.{list_all}
 use Rattle.std.specs.Str.Parse.{AllDigits, digits_value}
@@ -17,7 +17,8 @@ use Rattle.defs_tree.proofs.DecimalReading.{begins_in, reads_exponent, reads_on,
 use Rattle.defs_tree.proofs.ReadBack.{integer_back}
 use Rattle.defs_tree.proofs.RealTexts.{is_real_character, decimal-characters}
 use Rattle.defs_layout.specs.JsonNumber as json
-use Rattle.defs_layout.specs.JsonNumber.{Number, Fraction, no_fraction, fraction, Sign, no_sign, plus, minus, Exponent, no_exponent, exponent, spell_number, spell_minus, spell_fraction, spell_sign, spell_exponent, are_digits, is_whole, is_fraction, is_number, integer_value, number_tree}
+use Rattle.defs_layout.specs.JsonNumber.{Fraction, no_fraction, fraction, Sign, no_sign, plus, minus, Exponent, no_exponent, exponent, spell_number, spell_minus, spell_fraction, spell_sign, spell_exponent, are_digits, is_whole, is_fraction, is_number, integer_value}
+use Rattle.defs_layout.proofs.WholeNumbers.{fitted, signed_text, IsOther, no_digits}
 use Rattle.proof_layout_trees.specs.Laws.{JsonNumbersStandForTheirTrees}
 
 -- ---- digits
@@ -140,51 +141,9 @@ integer_number false w h fits = ap typing (append-nil w) ∙ (ap typing (sym (wh
 
 -- ---- as no integers
 
--- the number of a text, from whether it is all digits, and its value
-abbrev fitted : Bool → ℤ → Option ℤ
-fitted are z = option_and_then (λ y. if fits_i64 y then Some y else None) (if are then Some z else None)
-
 unfit : (are : Bool) (z : ℤ) → fits_i64 z ≡ false → fitted are z ≡ None
 unfit true z h = rw h refl
 unfit false z h = refl
-
-mapped : {A B : Type 0} (f : A → B) (b : Bool) (x : A) → option_map f (if b then Some x else None) ≡ (if b then Some (f x) else None)
-mapped f true x = refl
-mapped f false x = refl
-
--- what a digit is not
-record Digit (c : ℕ) : Type 0 where
-  plus : (c == 43) ≡ false
-  minus : (c == 45) ≡ false
-
-digit : (c : ℕ) → is_ascii_digit c ≡ true → Digit c
-digit c h = record { plus = grind (arith, nat_tests); minus = grind (arith, nat_tests) }
-
-signed_text : (m : Bool) (t : List ℕ) → begins_in is_ascii_digit t ≡ true → signed_decimal (spell_minus m t) ≡ fitted (at_least_one (is_digit 10) t) (integer_value m t)
-signed_text true t h = ap (λ o. option_and_then (λ y. if fits_i64 y then Some y else None) o) (mapped (λ n. neg_ℤ (pos n)) (at_least_one (is_digit 10) t) (digits_value 10 t))
-signed_text false [] h = cc
-signed_text false (c ∷ t) h =
-    let d = digit c h in
-    rw (d.plus, d.minus) (ap (λ o. option_and_then (λ y. if fits_i64 y then Some y else None) o) (mapped pos (at_least_one (is_digit 10) (c ∷ t)) (digits_value 10 (c ∷ t))))
-
--- a text with another character after its digits
-abbrev IsOther : List ℕ → Type 0
-IsOther [] = ⊥
-IsOther (c ∷ r) = is_digit 10 c ≡ false
-
-some_other : (w r : List ℕ) → IsOther r → list_all (is_digit 10) (w ++ r) ≡ false
-some_other [] [] h = absurd h
-some_other [] (c ∷ r) h = rw h refl
-some_other (c ∷ w) r h = rw (some_other w r h) (by (is_digit 10 c))
-  where
-    by : (b : Bool) → (b && false) ≡ false
-    by true = refl
-    by false = refl
-
-no_digits : (w r : List ℕ) → IsOther r → at_least_one (is_digit 10) (w ++ r) ≡ false
-no_digits [] [] h = refl
-no_digits [] (c ∷ r) h = some_other [] (c ∷ r) h
-no_digits (c ∷ w) r h = some_other (c ∷ w) r h
 
 -- ---- as reals
 

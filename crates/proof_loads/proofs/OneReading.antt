@@ -1,41 +1,21 @@
 -- A text is read in one way.
-use Rattle.std.proofs.Common.{◌≡◌, ℕ, Bool, List, [], ◌∷◌, refl, sym, ap, ◌∙◌, subst}
-use Rattle.std.specs.Prelude.{Result, Ok, Err, map, ◌++◌}
-use Rattle.defs_text.specs.Position.{Position}
+use Rattle.std.proofs.Common.{◌≡◌, ℕ, Bool, List, [], sym, ap, ◌∙◌, subst}
+use Rattle.std.specs.Prelude.{Result, Ok, Err, map}
 use Rattle.defs_token.specs.Token.{Tok}
 use Rattle.defs_tree.specs.Tree.{Tree}
-use Rattle.defs_event.specs.Event.{Ev}
 use Rattle.defs_token.specs.Toks.{toks}
-use Rattle.defs_event.specs.Stream.{IsStream, events_of}
+use Rattle.defs_event.specs.Stream.{IsStream}
 use Rattle.defs_event.specs.Nested.{NestedDocument, nested_stream}
 use Rattle.defs_event.specs.Reading.{reading}
-use Rattle.defs_event.specs.Unfinished.{Loader, at_work, noted, new_loader, with_events}
+use Rattle.defs_event.specs.Unfinished.{new_loader, with_events}
 use Rattle.defs_event.specs.Unfinished as unfinished
-use Rattle.defs_event.specs.Laws.{HasRead}
 use Rattle.defs_event.proofs.OneByOne.{one_by_one}
 use Rattle.defs_event.proofs.OneReading as grammar
 use Rattle.model_scanner.proofs.Runs.{one_list}
 use Rattle.model_scanner.specs.TextTokens.{HasToks}
+use Rattle.proof_row.proofs.Meanings.{somewhere, with_somewhere, read_again}
 use Rattle.proof_loads.specs.TextReadAs.{IsReadAs}
 use Rattle.proof_loads.specs.Laws.{TextsAreReadInOneWay}
-
--- an event at a position that does not count
-abbrev pub somewhere : Ev → Ev × Position
-somewhere e = (e, record { index = 0; line = 1; col = 0 })
-
-pub with_somewhere : (es : List (Ev × Position)) (fs : List Ev) → events_of (es ++ map somewhere fs) ≡ events_of es ++ fs
-with_somewhere [] [] = refl
-with_somewhere [] (f ∷ fs) = ap (λ vs. f ∷ vs) (with_somewhere [] fs)
-with_somewhere (e ∷ es) fs = ap (λ vs. e.0 ∷ vs) (with_somewhere es fs)
-
-read_again : (r q : Result (List Tree) Tree) (x : Loader) → HasRead r x → HasRead q x → {trees : List Tree} → q ≡ Ok trees → r ≡ Ok trees
-read_again (Ok ts) (Ok us) (at_work u) h k e = ap Ok (sym h.0 ∙ k.0) ∙ e
-read_again (Ok ts) (Ok us) (noted documents key p) h k e = absurd h
-read_again (Ok ts) (Ok us) (unfinished.refused documents p) h k e = absurd h
-read_again (Err key) (Ok us) (at_work u) h k e = absurd h
-read_again (Err key) (Ok us) (noted documents k' p) h k e = absurd k
-read_again (Err key) (Ok us) (unfinished.refused documents p) h k e = absurd k
-read_again r (Err key) x h k e = cc
 
 -- Documents whose events the text has are read as the trees that it is read as.
 pub one_reading : {keep_tags : Bool} {text : List ℕ} {trees : List Tree} (tokens : List Tok) (documents : List NestedDocument) → HasToks text tokens → IsStream keep_tags tokens (nested_stream documents)

@@ -24,15 +24,15 @@ one_list_of_events keep_tags text es fs x y =
 -- ---- trees
 
 -- an event at a position that does not count
-abbrev somewhere : Ev → Ev × Position
+abbrev pub somewhere : Ev → Ev × Position
 somewhere e = (e, record { index = 0; line = 1; col = 0 })
 
-with_somewhere : (es : List (Ev × Position)) (fs : List Ev) → events_of (es ++ map somewhere fs) ≡ events_of es ++ fs
+pub with_somewhere : (es : List (Ev × Position)) (fs : List Ev) → events_of (es ++ map somewhere fs) ≡ events_of es ++ fs
 with_somewhere [] [] = refl
 with_somewhere [] (f ∷ fs) = ap (λ vs. f ∷ vs) (with_somewhere [] fs)
 with_somewhere (e ∷ es) fs = ap (λ vs. e.0 ∷ vs) (with_somewhere es fs)
 
-read_again : (r q : Result (List Tree) Tree) (x : Loader) → HasRead r x → HasRead q x → {trees : List Tree} → q ≡ Ok trees → r ≡ Ok trees
+pub read_again : (r q : Result (List Tree) Tree) (x : Loader) → HasRead r x → HasRead q x → {trees : List Tree} → q ≡ Ok trees → r ≡ Ok trees
 read_again (Ok ts) (Ok us) (at_work u) h k e = ap Ok (sym h.0 ∙ k.0) ∙ e
 read_again (Ok ts) (Ok us) (noted documents key p) h k e = absurd h
 read_again (Ok ts) (Ok us) (unfinished.refused documents p) h k e = absurd h

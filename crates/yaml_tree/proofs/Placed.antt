@@ -3,7 +3,7 @@ use Rattle.std.proofs.Common.{◌≡◌, IsSome, ℕ, zero, suc, ◌<◌, List, 
 use Rattle.std.specs.List.{remove}
 use Rattle.defs_tree.specs.Tree.{Tree}
 use Rattle.defs_tree.specs.Order.{tree_eq}
-use Rattle.defs_tree.specs.Pairs.{Lacks, AreDistinct, last_of, lookup, without, place_of, value_at, with_value_at, with_value}
+use Rattle.defs_tree.specs.Pairs.{last_of, lookup, without, place_of, value_at, with_value_at, with_value}
 use Rattle.yaml_tree.specs.Ranked.{key_at}
 
 shift_place : (b : Bool) (o : Option ℕ) (i : ℕ) → Some i ≡ cond b (Some 0) (option_map suc o) → ((b ≡ true) × (i ≡ 0)) ⊎ ((b ≡ false) × ((j : ℕ) × (i ≡ suc j) × (Some j ≡ o)))
@@ -29,18 +29,6 @@ absent k (p ∷ ps) e =
       unfound = ap (λ b. cond b (Some p.1) (lookup k ps)) f.0 ∙ r.unfound;
       same = ap (λ b. cond b ps (p ∷ without k ps)) f.0 ∙ ap (λ qs. p ∷ qs) r.same;
     }
-
--- ---- another value at a place
-
-Lacks-with_value_at : (l : Tree) (i : ℕ) (t : Tree) (us : List (Tree × Tree)) → Lacks l us → Lacks l (with_value_at i t us)
-Lacks-with_value_at l i t [] h = tt
-Lacks-with_value_at l zero t (u ∷ us) h = h
-Lacks-with_value_at l (suc i) t (u ∷ us) h = (h.0, Lacks-with_value_at l i t us h.1)
-
-pub AreDistinct-with_value_at : (i : ℕ) (t : Tree) (us : List (Tree × Tree)) → AreDistinct us → AreDistinct (with_value_at i t us)
-AreDistinct-with_value_at i t [] h = tt
-AreDistinct-with_value_at zero t (u ∷ us) h = h
-AreDistinct-with_value_at (suc i) t (u ∷ us) h = (Lacks-with_value_at u.0 i t us h.0, AreDistinct-with_value_at i t us h.1)
 
 pub record IsPlaceOf (k : Tree) (us : List (Tree × Tree)) (i : ℕ) : Type 0 where
   pub within : i < length us

@@ -10,7 +10,8 @@ use Rattle.yaml_hash_index.specs.Moves.{closed_up, moved_up}
 use Rattle.yaml_tree.specs.View.{view, items_view, pairs_view}
 use Rattle.yaml_tree.specs.declared.yaml.Yaml.{Yaml}
 use Rattle.yaml_tree.proofs.Flattened.{pairs_from, even_from, row_length, key_seen, value_seen, taken, added, value_set}
-use Rattle.yaml_tree.proofs.Placed.{place_in, absent, AreDistinct-with_value_at}
+use Rattle.defs_tree.proofs.Places.{AreDistinct-with_value_at}
+use Rattle.yaml_tree.proofs.Placed.{place_in, absent}
 use Rattle.yaml_tree.proofs.Ranking.{place_some, gap_none, ranked_moved, ranked_removed, ranked_value}
 
 -- ---- a row that was looked into

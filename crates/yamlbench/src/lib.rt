@@ -8,7 +8,9 @@ use overlay::overlay;
 use std::alloc::{AllocError, Global};
 use std::hash::{DefaultHasher, Hash as _, Hasher};
 use std::{fmt, slice, str};
+use yaml_json::write_json;
 use yaml_limits::{Limits, LimitsError, load_with_limits};
+use yaml_marked::load_marked;
 use yaml_rust2::emitter::FmtWriter;
 use yaml_rust2::{Yaml, YamlEmitter, YamlLoader};
 
@@ -23,6 +25,23 @@ pub extern "C" fn yamlbench_load(alloc: Global, text: &[u8]) -> i64 {
 
 fn load(alloc: Global, text: &str) -> i64 {
     match YamlLoader::load_from_str(alloc, text) {
+        Ok(documents) => i64::try_from(documents.len()).unwrap_or(i64::MAX),
+        Err(_) => -1,
+    }
+}
+
+/// How many documents a text has, or -1 where it is refused. The trees are made with the positions of their nodes, and
+/// dropped.
+#[unsafe(no_mangle)]
+pub extern "C" fn yamlbench_load_marked(alloc: Global, text: &[u8]) -> i64 {
+    match str::from_utf8(text) {
+        Ok(text) => marked_load(alloc, text),
+        Err(_) => -1,
+    }
+}
+
+fn marked_load(alloc: Global, text: &str) -> i64 {
+    match load_marked(alloc, text) {
         Ok(documents) => i64::try_from(documents.len()).unwrap_or(i64::MAX),
         Err(_) => -1,
     }
@@ -125,6 +144,33 @@ fn dump(alloc: Global, documents: &[Yaml], compact: bool, multiline: bool) -> Op
         emitter.dump(document).ok()?;
     }
     Some(dumps)
+}
+
+/// Loads a text, and writes its documents as JSON so many times: the bytes written, or -1 where a text or memory is
+/// refused, or a document has no JSON text.
+#[unsafe(no_mangle)]
+pub extern "C" fn yamlbench_write_json(alloc: Global, text: &[u8], rounds: u32) -> i64 {
+    write_json_all(alloc, text, rounds)
+        .and_then(|bytes| i64::try_from(bytes).ok())
+        .unwrap_or(-1)
+}
+
+fn write_json_all(alloc: Global, text: &[u8], rounds: u32) -> Option<usize> {
+    let text = str::from_utf8(text).ok()?;
+    let documents = YamlLoader::load_from_str(alloc, text).ok()?;
+    let mut bytes = 0;
+    for _ in 0..rounds {
+        bytes = as_json(alloc, documents.as_slice())?.len();
+    }
+    Some(bytes)
+}
+
+fn as_json(alloc: Global, documents: &[Yaml]) -> Option<String> {
+    let mut texts = String::new(alloc);
+    for document in documents {
+        write_json(alloc, document, &mut texts).ok()?;
+    }
+    Some(texts)
 }
 
 /// Lays the last document of one text over that of another: 1, or -1 where a text or memory is refused.
