@@ -2,7 +2,7 @@
 -- YAML 1.2, chapters 6 to 9.
 use Rattle.std.specs.Prelude.{◌≡◌, ℕ, List, [], ◌∷◌, ◌++◌, false, not, Option, Some, None}
 use Rattle.defs_token.specs.Token.{Token}
-use Rattle.defs_text.specs.Text.{up_to_end, is_empty}
+use Rattle.defs_text.specs.Text.{up_to_nul, is_empty}
 use Rattle.defs_token.specs.Separation.{is_separation}
 use Rattle.defs_token.specs.Piece.{Holds, IsPiece}
 use Rattle.defs_row.specs.Step.{Step, Row, spelled}
@@ -25,7 +25,7 @@ IsRowFrom (Some a) (w ∷ ws) last = IsWritten a w (spelled ws last) × IsRowFro
 
 -- Whether a row is one of a text: it spells the text up to its end, and is a row.
 abbrev pub HasRow : (text : List ℕ) → Row → Type 0
-HasRow text r = (spelled r.steps r.last ≡ up_to_end text) × IsRowFrom (Some first_account) r.steps r.last
+HasRow text r = (spelled r.steps r.last ≡ up_to_nul text) × IsRowFrom (Some first_account) r.steps r.last
 
 -- Whether a text is read as tokens, positions included: they are those of a row of it.
 abbrev pub IsRead : (text : List ℕ) → List Token → Type 0

@@ -6,7 +6,7 @@ use Rattle.defs_text.specs.Classes.{is_blank, is_break, is_nul, is_blank_or_end,
 use Rattle.defs_scalar.specs.FlowScalar.{plain_element, begins_with_marker, plain_value}
 use Rattle.defs_text.specs.Position.{Position}
 use Rattle.defs_token.specs.Token.{Tok, Token, stream_end, scalar, plain}
-use Rattle.defs_text.specs.Text.{up_to_end}
+use Rattle.defs_text.specs.Text.{up_to_nul}
 use Rattle.defs_token.specs.Separation.{is_separation}
 use Rattle.defs_token.specs.Plain.{is_whole_plain}
 use Rattle.defs_token.specs.Account.{Account, first_account, blocks_at, innermost_column}
@@ -30,7 +30,7 @@ abbrev first_line : Position → Token
 first_line p = record { position = p; tok = scalar plain (codes "a") }
 
 -- the text has no end before its last character
-whole_text : up_to_end text ≡ text
+whole_text : up_to_nul text ≡ text
 unfolding is_nul
 whole_text = refl
 

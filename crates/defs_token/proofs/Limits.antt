@@ -3,7 +3,7 @@ use Rattle.std.proofs.Common.{◌≡◌, [], ◌∷◌, ◌++◌, true, false, S
 use Rattle.std.specs.Prelude.{codes}
 use Rattle.defs_scalar.specs.BlockScalar.{BlockStyle}
 use Rattle.defs_token.specs.Token.{flow_entry, flow_sequence_end, stream_end, value, anchor}
-use Rattle.defs_text.specs.Text.{up_to_end}
+use Rattle.defs_text.specs.Text.{up_to_nul}
 use Rattle.defs_text.specs.Position.{position_after}
 use Rattle.defs_token.specs.Separation.{is_separation}
 use Rattle.defs_token.specs.Plain.{is_value_indicator, begins_plain, is_whole_plain}
@@ -14,7 +14,7 @@ use Rattle.defs_token.proofs.OnLiterals.{cut_on_literals}
 use Rattle.defs_token.proofs.Shown.{position, first}
 
 -- a text ends at its first NUL
-ends_at_nul : up_to_end (codes "ab" ++ 0 ∷ codes "c") ≡ codes "ab"
+ends_at_nul : up_to_nul (codes "ab" ++ 0 ∷ codes "c") ≡ codes "ab"
 unfolding cut_on_literals
 ends_at_nul = refl
 

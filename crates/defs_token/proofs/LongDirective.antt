@@ -5,7 +5,7 @@ use Rattle.std.proofs.Math.Seq.{take-append_seam, drop-append_seam}
 use Rattle.defs_text.specs.Classes.{is_blank, is_break, is_nul}
 use Rattle.defs_text.specs.Position.{Position}
 use Rattle.defs_token.specs.Token.{Tok, Token, stream_end, tag_directive}
-use Rattle.defs_text.specs.Text.{up_to_end}
+use Rattle.defs_text.specs.Text.{up_to_nul}
 use Rattle.defs_text.specs.Breaks.{is_at_line_end, has_no_break}
 use Rattle.defs_token.specs.Separation.{is_separation}
 use Rattle.defs_token.specs.Account.{Account, first_account}
@@ -65,7 +65,7 @@ module _ (r : List ℕ) (more : is_separation false r [] ≡ false) where
   no_rows (w ∷ []) f end p last e t l r = no_row w.separation w.piece f w.token (Some stream_end) (ap first_tok e) t l r.0
   no_rows (w ∷ (v ∷ vs)) f end p last e t l r = not_alone (tokens_of vs) v.token end last (ap rest_of e)
 
-  taken : (begin p end : Position) → up_to_end text ≡ text → IsCut (start_token begin ∷ (both_lines p ∷ (end_token end ∷ []))) text → ⊥
+  taken : (begin p end : Position) → up_to_nul text ≡ text → IsCut (start_token begin ∷ (both_lines p ∷ (end_token end ∷ []))) text → ⊥
   taken begin p end whole c = no_rows c.row c.separation (end_token c.end) p (end_token end) (ap rest_of (sym c.are_tokens)) (c.is_text ∙ whole) c.is_filled c.is_row
 
 -- a directive that takes the next line is no cut

@@ -3,7 +3,7 @@ use Rattle.std.proofs.Common.{◌≡◌, ℕ, pred, List, [], ◌∷◌, ◌++�
 use Rattle.std.specs.Prelude.{⊤}
 use Rattle.defs_text.specs.Classes.{single_quote, double_quote, is_blank, is_break, is_nul, is_blank_or_end, is_flow, is_decimal_digit, is_letter, is_alpha, is_uri, is_tag, is_anchor_name, are_marks}
 use Rattle.defs_text.specs.Position.{Position}
-use Rattle.defs_text.specs.Text.{up_to_end}
+use Rattle.defs_text.specs.Text.{up_to_nul}
 use Rattle.defs_scalar.specs.FlowScalar.{begins_with, plain_element, single_quoted_element, double_quoted_element, is_character_code, numeric_escape, escape, begins_with_marker, plain_value, single_quoted_value, double_quoted_value}
 use Rattle.defs_scalar.specs.BlockScalar.{BlockStyle, sign_of, digit_of, is_empty_line, is_content_line, row_of}
 use Rattle.defs_scalar.specs.Tags.{octet_at, lead_of, is_trail, escaped_character, uri_character}
@@ -23,7 +23,7 @@ cut_on_literals = tt
 
 -- A row is a cut of a text, with the separation after it.
 pub cut_by : (row : List Written) (end : Position) (separation : List ℕ) {text : List ℕ} →
-    spelled row separation ≡ up_to_end text → Holds (is_separation false separation []) → IsRow first_account row separation (Some stream_end) →
+    spelled row separation ≡ up_to_nul text → Holds (is_separation false separation []) → IsRow first_account row separation (Some stream_end) →
     Holds (is_closed (account_past_row first_account row separation)) → IsCut (tokens_between row end) text
 cut_by row end separation s f r c = record {
   begin = first;
@@ -38,7 +38,7 @@ cut_by row end separation s f r c = record {
 }
 
 -- A row begins a text, with the text after it.
-pub begun_by : (row : List Written) (after : List ℕ) {text : List ℕ} → spelled row after ≡ up_to_end text → IsRow first_account row after None →
+pub begun_by : (row : List Written) (after : List ℕ) {text : List ℕ} → spelled row after ≡ up_to_nul text → IsRow first_account row after None →
     IsBegun (start_token first ∷ tokens_of row) text
 begun_by row after s r = record {
   begin = first;

@@ -5,7 +5,7 @@ use Rattle.defs_text.specs.Classes.{is_nul}
 use Rattle.defs_scalar.specs.Tags.{all_of}
 use Rattle.defs_text.specs.Position.{Position}
 use Rattle.defs_token.specs.Token.{Tok, Token, stream_end, flow_sequence_start, flow_sequence_end, flow_mapping_start, flow_mapping_end, flow_entry, key, value, scalar, plain}
-use Rattle.defs_text.specs.Text.{up_to_end}
+use Rattle.defs_text.specs.Text.{up_to_nul}
 use Rattle.defs_token.specs.Account.{first_account}
 use Rattle.defs_token.specs.Cut.{Written, IsCut, IsRow, tokens_of, spelled, start_token, end_token}
 use Rattle.defs_token.proofs.Shown.{position, first}
@@ -118,6 +118,6 @@ unfolding is_nul
 one_flag end c =
     let e : tokens_of c.row ≡ but_last (rest_of (wrong end)) = sym (but_last_append (tokens_of c.row) (end_token c.end)) ∙ ap (λ l. but_last (rest_of l)) (sym c.are_tokens) in
     let same : with_tokens c.row (but_last (rest_of (wrong end))) ≡ c.row = ap (λ ts. with_tokens c.row ts) (sym e) ∙ own_tokens c.row in
-    let whole : up_to_end text ≡ text = refl in
+    let whole : up_to_nul text ≡ text = refl in
     let none : all_of is_no_brace (spelled c.row c.separation) ≡ true = ap (all_of is_no_brace) (c.is_text ∙ whole) in
     no_row c.row c.separation end (no_brace_in 7 c.row c.separation none) (subst (λ ws. IsRow first_account ws c.separation (Some stream_end)) (sym same) c.is_row)

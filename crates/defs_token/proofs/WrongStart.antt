@@ -4,7 +4,7 @@ use Rattle.std.specs.Prelude.{codes}
 use Rattle.defs_text.specs.Classes.{is_blank, is_break, is_nul}
 use Rattle.defs_text.specs.Position.{Position}
 use Rattle.defs_token.specs.Token.{Tok, Token, stream_end, flow_sequence_start, flow_sequence_end, flow_mapping_start, flow_mapping_end, key, scalar, plain}
-use Rattle.defs_text.specs.Text.{up_to_end}
+use Rattle.defs_text.specs.Text.{up_to_nul}
 use Rattle.defs_token.specs.Separation.{is_separation, past_separation}
 use Rattle.defs_token.specs.Account.{Account, first_account}
 use Rattle.defs_token.specs.Piece.{Holds, IsPiece, begins_pair, begins_with_key_indicator}
@@ -61,7 +61,7 @@ abbrev tokens : List Token → (end : Position) → List Token
 tokens after end = start_token first ∷ token_at 0 flow_sequence_start ∷ token_at 1 flow_mapping_start ∷ (after ++ (end_token end ∷ []))
 
 -- A row of these tokens in a text that begins with a bracket, and then with neither separation nor brace: what is known of the pair's start.
-what_start_says : (k : Token) (ks : List Token) (text : List ℕ) (c : ℕ) (t : List ℕ) (end : Position) → (is_blank c || is_break c || (c == 35)) ≡ false → (c == 123) ≡ false → up_to_end text ≡ 91 ∷ (c ∷ t) →
+what_start_says : (k : Token) (ks : List Token) (text : List ℕ) (c : ℕ) (t : List ℕ) (end : Position) → (is_blank c || is_break c || (c == 35)) ≡ false → (c == 123) ≡ false → up_to_nul text ≡ 91 ∷ (c ∷ t) →
     IsCut (tokens (k ∷ ks) end) text → Holds (begins_pair (Some (k.tok))) × (begins_with_key_indicator (past_separation false (c ∷ t)) ≡ false)
 what_start_says k ks text c t end s brace whole cut =
     let mine : List Token = token_at 0 flow_sequence_start ∷ token_at 1 flow_mapping_start ∷ k ∷ ks in

@@ -3,7 +3,7 @@
 use Rattle.std.specs.Prelude.{◌≡◌, ℕ, ◌⊎◌, List, [], ◌∷◌, ◌++◌, false, Option, Some, None}
 use Rattle.defs_text.specs.Position.{Position}
 use Rattle.defs_token.specs.Token.{Tok, Token, stream_start, stream_end}
-use Rattle.defs_text.specs.Text.{up_to_end}
+use Rattle.defs_text.specs.Text.{up_to_nul}
 use Rattle.defs_token.specs.Separation.{is_separation}
 use Rattle.defs_token.specs.Account.{Account, first_account, is_closed, account_past_separation, account_at_piece, account_past_token}
 use Rattle.defs_token.specs.Piece.{Holds, IsPiece}
@@ -68,7 +68,7 @@ pub record IsCut (tokens : List Token) (text : List ℕ) : Type 0 where
   pub row : List Written
   pub separation : List ℕ
   pub are_tokens : tokens ≡ start_token begin ∷ (tokens_of row ++ (end_token end ∷ []))
-  pub is_text : spelled row separation ≡ up_to_end text
+  pub is_text : spelled row separation ≡ up_to_nul text
   pub is_filled : Holds (is_separation false separation [])
   pub is_row : IsRow first_account row separation (Some stream_end)
   pub closes : Holds (is_closed (account_past_row first_account row separation))
@@ -79,7 +79,7 @@ pub record IsBegun (tokens : List Token) (text : List ℕ) : Type 0 where
   pub row : List Written
   pub after : List ℕ
   pub are_tokens : tokens ≡ start_token begin ∷ tokens_of row
-  pub is_text : spelled row after ≡ up_to_end text
+  pub is_text : spelled row after ≡ up_to_nul text
   pub is_row : IsRow first_account row after None
 
 -- Whether tokens are a cut of a beginning of a text, without the stream's end.

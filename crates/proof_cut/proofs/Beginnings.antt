@@ -2,14 +2,13 @@
 use Rattle.std.proofs.Common.{◌≡◌, ℕ, List, [], ◌∷◌, ◌++◌, true, Option, Some, None, refl, ap, sym, ◌∙◌, subst, inl, inr, ◌⊎◌}
 use Rattle.defs_text.specs.Position.{Position}
 use Rattle.defs_token.specs.Token.{Tok, Token, stream_start, stream_end, version_directive, tag_directive, document_start, document_end, block_sequence_start, block_mapping_start, block_end, flow_sequence_start, flow_sequence_end, flow_mapping_start, flow_mapping_end, block_entry, flow_entry, key, value, alias, anchor, tag, scalar, plain, single_quoted, double_quoted, literal, folded}
-use Rattle.defs_text.specs.Text.{up_to_end}
+use Rattle.defs_text.specs.Text.{up_to_nul, has_no_nul}
 use Rattle.defs_token.specs.Account.{Account, first_account}
 use Rattle.defs_token.specs.Piece.{IsPiece}
 use Rattle.defs_token.specs.Cut.{Written, IsWritten, IsRow, IsCut, IsCutOfBeginning, spelled, tokens_of, first_token, start_token, end_token, account_past}
 use Rattle.defs_token.proofs.Append.{spelled_append}
 use Rattle.model_scanner.specs.State.{ScannerState}
 use Rattle.model_scanner.specs.Run.{start, Reaches}
-use Rattle.proof_lexers.specs.PlainEnds.{has_no_nul}
 use Rattle.proof_cut.proofs.Documents.{whole_text}
 use Rattle.proof_cut.proofs.Fetched.{goes, over, Came, starts, fares, came}
 
@@ -79,7 +78,7 @@ parted (w ∷ ws) (t ∷ given) more e =
     record { first = w ∷ p.first; second = p.second; are_both = ap (λ vs. w ∷ vs) p.are_both; are_given = ap (λ x. x ∷ tokens_of p.first) i.0 ∙ ap (λ ts. t ∷ ts) p.are_given; are_more = p.are_more }
 
 -- the tokens of a row's beginning after the stream's start
-begun_by : (text : List ℕ) (begin : Position) (ws : List Written) (after : List ℕ) (last : Option Tok) (given more : List Token) → spelled ws after ≡ up_to_end text → IsRow first_account ws after last → start_token begin ∷ tokens_of ws ≡ given ++ more → IsCutOfBeginning given text
+begun_by : (text : List ℕ) (begin : Position) (ws : List Written) (after : List ℕ) (last : Option Tok) (given more : List Token) → spelled ws after ≡ up_to_nul text → IsRow first_account ws after last → start_token begin ∷ tokens_of ws ≡ given ++ more → IsCutOfBeginning given text
 begun_by text begin ws after last [] more is_text row e = inl refl
 begun_by text begin ws after last (t ∷ given) more is_text row e =
     let p : Parted ws given more = parted ws given more (ap rest_of e) in

@@ -1,7 +1,7 @@
 -- The next token by its first characters: what holds between fetches holds after it.
 use Rattle.std.proofs.Common.{◌≡◌, ℕ, ◌+◌, List, [], ◌∷◌, Bool, true, false, not, ◌==◌, ◌&&◌, ◌||◌, if◌then◌else◌, slice_index, refl, ap, sym, ◌∙◌, arith}
 use Rattle.yaml_chars.specs.Class.{is_blank, is_break, is_blank_or_breakz, is_flow}
-use Rattle.defs_text.specs.Text.{is_empty}
+use Rattle.defs_text.specs.Text.{is_empty, has_no_nul}
 use Rattle.defs_token.specs.Token.{Tok}
 use Rattle.defs_text.specs.Classes as classes
 use Rattle.defs_text.specs.Classes.{is_one_of, is_at_gap, is_document_marker}
@@ -17,7 +17,7 @@ use Rattle.model_scanner.specs.Document.{fetch_anchor, fetch_tag, fetch_flow_sca
 use Rattle.model_scanner.specs.Fetch.{is_value, token_by, fetch_token}
 use Rattle.model_scanner.proofs.Holds.{Holds, refused}
 use Rattle.proof_lexers.proofs.Bridges.{same_gap, same_flow}
-use Rattle.proof_lexers.specs.PlainEnds.{has_no_nul, is_white}
+use Rattle.proof_lexers.specs.PlainEnds.{is_white}
 use Rattle.proof_lexers.specs.Separations.{begins_separation, begins_token}
 use Rattle.proof_cut.specs.PiecesRead.{comes_plain}
 use Rattle.proof_cut.specs.Stands.{FaresAt}

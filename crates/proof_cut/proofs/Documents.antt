@@ -2,7 +2,7 @@
 use Rattle.std.proofs.Common.{◌≡◌, ℕ, suc, ◌+◌, ◌<◌, ◌≤◌, List, [], ◌∷◌, ◌++◌, Bool, true, false, not, length, if◌then◌else◌, Option, Some, None, Result, Ok, Err, refl, ap, sym, ◌∙◌, subst, arith, append-nil}
 use Rattle.std.proofs.lemmas.Bool.{and_parts}
 use Rattle.defs_text.specs.Position.{Position, position_past, position_after}
-use Rattle.defs_text.specs.Text.{is_empty, up_to_end}
+use Rattle.defs_text.specs.Text.{is_empty, up_to_nul, has_no_nul}
 use Rattle.yaml_tokens.specs.declared.problem.Fault.{Fault}
 use Rattle.yaml_tokens.specs.declared.problem.Fault.TheVariants.{At}
 use Rattle.yaml_tokens.specs.declared.problem.Problem.TheVariants as problem
@@ -23,7 +23,6 @@ use Rattle.model_scanner.specs.Indents.{Levels, unrolled, unroll_indent}
 use Rattle.model_scanner.specs.Run.{start}
 use Rattle.model_scanner.specs.Document.{closed_key, begin_line, fetch_directive, fetch_document_marker, check_document_end, fetch_document_end, fetch_stream_start, next_line, ended_at, fetch_stream_end}
 use Rattle.model_scanner.proofs.Holds.{Holds, went, refused, chained, tried, choice, read}
-use Rattle.proof_lexers.specs.PlainEnds.{has_no_nul}
 use Rattle.proof_cut.specs.PiecesRead.{ReadAs, is_directive_token}
 use Rattle.proof_cut.specs.Order.{After}
 use Rattle.proof_cut.specs.Positions.{IsAtEnd}
@@ -275,13 +274,13 @@ stream_begun text nul = record {
   is_adjacent_here = λ h. absurd (cc h);
 }
 
-pub whole_text : (text : List ℕ) → has_no_nul text ≡ true → up_to_end text ≡ text
+pub whole_text : (text : List ℕ) → has_no_nul text ≡ true → up_to_nul text ≡ text
 whole_text [] h = refl
 whole_text (c ∷ r) h =
     let q = and_parts (not (is_nul c)) (has_no_nul r) h in
     by (is_nul c) q.0 (whole_text r q.1)
   where
-    by : (b : Bool) → not b ≡ true → up_to_end r ≡ r → (if b then [] else c ∷ up_to_end r) ≡ c ∷ r
+    by : (b : Bool) → not b ≡ true → up_to_nul r ≡ r → (if b then [] else c ∷ up_to_nul r) ≡ c ∷ r
     by true n e = cc
     by false n e = ap (λ l. c ∷ l) e
 

@@ -4,7 +4,7 @@ use Rattle.std.proofs.lemmas.Bool.{and_parts, eqb-true}
 use Rattle.std.proofs.lemmas.Bool.Decides.{nat_tests}
 use Rattle.std.specs.List.{list_any}
 use Rattle.defs_text.specs.Position.{Position}
-use Rattle.defs_text.specs.Text.{is_empty}
+use Rattle.defs_text.specs.Text.{is_empty, has_no_nul}
 use Rattle.yaml_chars.specs.Class.{is_blank, is_break, is_blank_or_breakz}
 use Rattle.yaml_tokens.specs.declared.problem.Fault.{Fault}
 use Rattle.yaml_tokens.specs.declared.problem.Fault.TheVariants.{At}
@@ -22,7 +22,6 @@ use Rattle.model_scanner.specs.Run.{start, Reaches, here, there, HasTokens}
 use Rattle.model_scanner.proofs.Holds.{Holds, went, refused, held_of, chained, tried, checked, either, weakened, both_hold}
 use Rattle.model_scanner.proofs.Walk as walk
 use Rattle.proof_lexers.proofs.Bridges.{same_gap}
-use Rattle.proof_lexers.specs.PlainEnds.{has_no_nul}
 use Rattle.proof_lexers.specs.Separations.{begins_separation}
 use Rattle.proof_cut.specs.Here.{AreOpen}
 use Rattle.proof_cut.specs.Positions.{IsAtEnd}

@@ -2,14 +2,14 @@
 use Rattle.std.proofs.Common.{◌≡◌, ℕ, suc, drop, ◌+◌, ◌≤◌, ◌<◌, List, [], ◌∷◌, ◌++◌, Bool, true, false, not, ◌==◌, ◌&&◌, ◌||◌, length, if◌then◌else◌, Option, Some, None, Ok, Err, refl, ap, sym, ◌∙◌, subst, arith, inl, inr, ◌⊎◌}
 use Rattle.std.proofs.lemmas.Bool.{and_parts}
 use Rattle.defs_text.specs.Position.{Position}
-use Rattle.defs_text.specs.Text.{is_empty}
+use Rattle.defs_text.specs.Text.{is_empty, has_no_nul}
 use Rattle.yaml_tokens.specs.declared.problem.Fault.{Fault}
 use Rattle.defs_token.specs.Token.{Tok, Token}
 use Rattle.defs_text.specs.Classes.{is_break, is_blank, is_nul}
 use Rattle.defs_text.specs.Breaks.{is_at_line_end}
 use Rattle.defs_token.specs.Separation.{is_separation, is_blanks}
 use Rattle.proof_lexers.proofs.Bridges.{same_blank}
-use Rattle.proof_lexers.specs.PlainEnds.{has_break, has_no_nul}
+use Rattle.proof_lexers.specs.PlainEnds.{has_break}
 use Rattle.proof_lexers.specs.Separations.{ends_spaces, begins_token}
 use Rattle.proof_lexers.proofs.Separation.Separations.{no_hash}
 use Rattle.defs_token.specs.Account.{Level, Account, Before, collection, other, before_past, before_by, is_adjacent, blocks_past, levels_past, is_pair_at, innermost_column}

@@ -8,7 +8,7 @@ use Rattle.defs_token.specs.Account.{Account, Before, quoted, collection, other,
 use Rattle.defs_token.specs.Piece.{IsPiece}
 use Rattle.defs_token.specs.Cut.{Written, IsRow, spelled, first_token, account_at, account_past_row}
 use Rattle.defs_token.proofs.Append.{spelled_append, account_append, row_append}
-use Rattle.proof_lexers.specs.PlainEnds.{has_no_nul}
+use Rattle.defs_text.specs.Text.{has_no_nul}
 use Rattle.proof_lexers.proofs.Separation.Positions.{position_append}
 use Rattle.proof_lexers.proofs.Separation.EachSeparation.{no_nul_after}
 use Rattle.proof_cut.specs.Here.{Here}

@@ -18,7 +18,7 @@ use Rattle.model_scanner.specs.Flow.{allow_key}
 use Rattle.model_scanner.specs.Block.{keyed, begin_key, check_key_space, fetch_key}
 use Rattle.model_scanner.proofs.Holds.{Holds, went, refused, chained, either, passes, tried, both_hold}
 use Rattle.proof_lexers.proofs.Bridges.{same_break}
-use Rattle.proof_lexers.specs.PlainEnds.{has_no_nul}
+use Rattle.defs_text.specs.Text.{has_no_nul}
 use Rattle.proof_lexers.proofs.Plain.Turns.{or_true}
 use Rattle.proof_cut.specs.PiecesRead.{ReadAs}
 use Rattle.proof_cut.specs.Stands.{columns, levels_of, account_of, Stood, Fares, FaresAt}

@@ -4,7 +4,7 @@ use Rattle.std.proofs.lemmas.Bool.{and_parts}
 use Rattle.std.proofs.lemmas.Bool.Decides.{nat_tests}
 use Rattle.defs_text.specs.Classes.{is_nul}
 use Rattle.defs_text.specs.Position.{Position, position_after}
-use Rattle.defs_text.specs.Text.{is_empty}
+use Rattle.defs_text.specs.Text.{is_empty, has_no_nul}
 use Rattle.defs_token.specs.Token.{Style, Tok, Token}
 use Rattle.defs_token.specs.Account.{Level, Account, Before, other, before_past, before_by, is_adjacent, blocks_past, levels_past}
 use Rattle.defs_token.specs.Piece.{begins_node}
@@ -22,7 +22,6 @@ use Rattle.model_scanner.specs.Flow.{allow_key}
 use Rattle.model_scanner.specs.Document.{anchor_token, unled, node_start, fetch_anchor, fetch_tag, context, after_plain, fetch_plain_scalar}
 use Rattle.model_scanner.proofs.Holds.{Holds, went, read}
 use Rattle.proof_lexers.specs.Separations.{begins_separation}
-use Rattle.proof_lexers.specs.PlainEnds.{has_no_nul}
 use Rattle.proof_cut.specs.PiecesRead.{ReadAs, comes_plain}
 use Rattle.proof_cut.specs.Inside.{step_inside, levels_then}
 use Rattle.proof_cut.specs.Stands.{columns, levels_of, account_of, IsAdjacent, Stood, Fares, FaresAt}

@@ -1,10 +1,9 @@
 -- Where a run has come to in a text, and whether it met the stream's start.
 use Rattle.std.proofs.Common.{◌≡◌, ℕ, List, [], ◌∷◌, true, false, refl, ap, sym, subst}
-use Rattle.defs_text.specs.Text.{is_empty}
+use Rattle.defs_text.specs.Text.{is_empty, has_no_nul}
 use Rattle.defs_token.specs.Token.{Token}
 use Rattle.model_scanner.specs.State.{ScannerState}
 use Rattle.model_scanner.specs.Run.{start, Reaches}
-use Rattle.proof_lexers.specs.PlainEnds.{has_no_nul}
 use Rattle.proof_cut.specs.Positions.{IsWhere}
 use Rattle.proof_cut.proofs.RowPositions.{stands_position}
 use Rattle.proof_cut.proofs.Fetched.{goes, over, Came, starts, fares, came}

@@ -5,7 +5,7 @@ use Rattle.yaml_tokens.specs.declared.problem.Fault.TheVariants.{At}
 use Rattle.yaml_tokens.specs.declared.problem.Problem.{Problem}
 use Rattle.yaml_tokens.specs.declared.problem.Problem.TheVariants as problem
 use Rattle.defs_text.specs.Classes.{is_at_gap}
-use Rattle.defs_text.specs.Text.{up_to_end}
+use Rattle.defs_text.specs.Text.{up_to_nul}
 use Rattle.defs_text.specs.Position.{position_after}
 use Rattle.defs_token.specs.Separation.{is_separation}
 use Rattle.defs_token.specs.Plain.{begins_flow, after_blank}
@@ -21,7 +21,7 @@ use Rattle.proof_lexers.specs.PlainEnds.{stand_after, is_apart}
 pub record IsSpot (text rest : List ℕ) (account : Account) : Type 0 where
   pub row : List Written
   pub separation : List ℕ
-  pub is_text : spelled row (separation ++ rest) ≡ up_to_end text
+  pub is_text : spelled row (separation ++ rest) ≡ up_to_nul text
   pub is_row : IsRow first_account row (separation ++ rest) None
   pub is_filled : Holds (is_separation false separation rest)
   pub is_account : account_past_separation (account_past_row first_account row (separation ++ rest)) separation rest ≡ account

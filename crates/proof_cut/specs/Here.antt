@@ -1,14 +1,13 @@
 -- Where a row of pieces has come to in a text, and what is open there.
 use Rattle.std.specs.Prelude.{◌≡◌, ℕ, suc, ◌≤◌, List, [], ◌∷◌, ◌++◌, true, false, length, Option, Some, None}
 use Rattle.defs_text.specs.Position.{Position}
-use Rattle.defs_text.specs.Text.{is_empty}
+use Rattle.defs_text.specs.Text.{is_empty, has_no_nul}
 use Rattle.defs_token.specs.Token.{Tok}
 use Rattle.defs_token.specs.Separation.{is_separation}
 use Rattle.defs_token.specs.Account.{Level, Account, first_account, settled, account_past_separation}
 use Rattle.defs_token.specs.Piece.{begins_node}
 use Rattle.defs_token.specs.Cut.{Written, IsRow, spelled, account_at, account_past_row}
 use Rattle.model_scanner.specs.State.{Key}
-use Rattle.proof_lexers.specs.PlainEnds.{has_no_nul}
 use Rattle.proof_cut.specs.Order.{After}
 use Rattle.proof_cut.specs.Inside.{inside}
 

@@ -5,7 +5,7 @@ use Rattle.defs_token.specs.Cut.{IsCut, IsCutOfBeginning}
 use Rattle.model_scanner.specs.State.{ScannerState}
 use Rattle.yaml_tokens.specs.declared.problem.Fault.{Fault}
 use Rattle.model_scanner.specs.Run.{start, Reaches, HasTokens, IsRefused}
-use Rattle.proof_lexers.specs.PlainEnds.{has_no_nul}
+use Rattle.defs_text.specs.Text.{has_no_nul}
 use Rattle.proof_cut.specs.Faults.{IsThere, is_shown}
 use Rattle.proof_cut.specs.Positions.{IsWhere}
 

@@ -16,7 +16,8 @@ use Rattle.model_lexers.specs.Block.{Block, block}
 use Rattle.model_lexers.specs.Directive.{directive}
 use Rattle.model_lexers.specs.Tag as tags
 use Rattle.model_scanner.specs.Document.{anchor_token, block_style, quoted_style}
-use Rattle.proof_lexers.specs.PlainEnds.{has_no_nul, collection_of, is_indented}
+use Rattle.defs_text.specs.Text.{has_no_nul}
+use Rattle.proof_lexers.specs.PlainEnds.{collection_of, is_indented}
 
 -- What was read of a text at an account: a piece, which belongs to a token, and a separation after it; the text that is left, and the position there.
 pub record ReadAs (a : Account) (text : List ℕ) (tok : Tok) (position : Position) (rest : List ℕ) (end : Position) : Type 0 where

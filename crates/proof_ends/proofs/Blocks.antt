@@ -6,7 +6,8 @@ use Rattle.defs_text.specs.Breaks.{Split, split}
 use Rattle.defs_scalar.specs.FlowScalar.{begins_with}
 use Rattle.defs_scalar.specs.BlockScalar.{literal, folded, Header, header_of, after_style, Body, body, input_ends, Ending, further_text, unbroken, column_by, all_lines, content_column, Row, row_of, rows_of, value_at_end, value_at_text, value_by, starts_with_tab, block_value, is_further_text}
 use Rattle.defs_token.specs.BlockPiece.{BlockRead, with_value, is_past, read_body, read_lines, read_split, block_read}
-use Rattle.proof_ends.specs.Ends.{has_no_nul, BlockScalarsHaveOneEnd}
+use Rattle.defs_text.specs.Text.{has_no_nul}
+use Rattle.proof_ends.specs.Ends.{BlockScalarsHaveOneEnd}
 use Rattle.proof_ends.proofs.Runs.{both, untrue, contrary}
 use Rattle.proof_ends.proofs.Splits.{More, splits}
 use Rattle.proof_ends.proofs.Texts.{no_nul_after}

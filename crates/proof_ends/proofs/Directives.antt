@@ -3,7 +3,8 @@ use Rattle.std.proofs.Common.{◌≡◌, ℕ, List, [], ◌∷◌, Bool, true, f
 use Rattle.defs_text.specs.Classes.{is_break, is_nul}
 use Rattle.defs_scalar.specs.Tags.{all_of}
 use Rattle.defs_text.specs.Breaks.{has_no_break, is_at_line_end}
-use Rattle.proof_ends.specs.Ends.{has_no_nul, DirectivesHaveOneEnd}
+use Rattle.defs_text.specs.Text.{has_no_nul}
+use Rattle.proof_ends.specs.Ends.{DirectivesHaveOneEnd}
 use Rattle.proof_ends.proofs.Runs.{both, joined, untrue, ends_run, runs}
 use Rattle.proof_ends.proofs.Texts.{no_nul_after}
 

@@ -5,10 +5,10 @@ use Rattle.defs_scalar.specs.FlowScalar.{plain_value, single_quoted_value, doubl
 use Rattle.defs_scalar.specs.Tags.{Tag, written_tag}
 use Rattle.defs_scalar.specs.Directives.{directive_of}
 use Rattle.defs_token.specs.Token.{Tok, tag}
-use Rattle.defs_text.specs.Text.{up_to_end}
+use Rattle.defs_text.specs.Text.{up_to_nul, has_no_nul}
 use Rattle.defs_token.specs.BlockPiece.{BlockRead, block_read}
 use Rattle.defs_token.specs.Account.{Account, is_in_flow, is_adjacent}
-use Rattle.proof_ends.specs.Ends.{Kind, nothing, plain_scalar, sequence_opening, sequence_closing, mapping_opening, mapping_closing, comma, question, colon, dash, dashes, dots, directive_line, alias_name, anchor_name, tag_text, in_single_quotes, in_double_quotes, block_scalar, kind_at, kind_of, has_no_nul, IsSeenAlike, PiecesHaveOneEnd, PiecesSeenAlikeHaveOneEnd, SeparationsBeforePiecesAreOne, NoPieceIsInASeparation, TextsUpToTheirEndHaveNoNul}
+use Rattle.proof_ends.specs.Ends.{Kind, nothing, plain_scalar, sequence_opening, sequence_closing, mapping_opening, mapping_closing, comma, question, colon, dash, dashes, dots, directive_line, alias_name, anchor_name, tag_text, in_single_quotes, in_double_quotes, block_scalar, kind_at, kind_of, IsSeenAlike, PiecesHaveOneEnd, PiecesSeenAlikeHaveOneEnd, SeparationsBeforePiecesAreOne, NoPieceIsInASeparation, TextsUpToTheirEndHaveNoNul}
 use Rattle.proof_ends.proofs.Runs.{joined, same_head}
 use Rattle.proof_ends.proofs.Separations.{separations}
 use Rattle.proof_ends.proofs.Names.{names}
@@ -163,6 +163,6 @@ pub clean_up_to_end : TextsUpToTheirEndHaveNoNul
 clean_up_to_end [] = refl
 clean_up_to_end (c ∷ r) = by (is_nul c) refl (clean_up_to_end r)
   where
-    by : (nul : Bool) → is_nul c ≡ nul → has_no_nul (up_to_end r) ≡ true → has_no_nul (if nul then [] else c ∷ up_to_end r) ≡ true
+    by : (nul : Bool) → is_nul c ≡ nul → has_no_nul (up_to_nul r) ≡ true → has_no_nul (if nul then [] else c ∷ up_to_nul r) ≡ true
     by true e h = refl
     by false e h = joined _ _ (ap not e) h

@@ -1,12 +1,12 @@
 -- Each piece of text has one end: of two pieces of one kind with which one text begins, each whole before the text after it, neither goes on past the other.
 -- YAML 1.2, sections 6.1 to 6.7 (separations), 6.8 (directives), 6.9 (properties), 7.3 (flow scalars), 8.1 (block scalars) and 9.1 (documents).
 use Rattle.std.specs.Prelude.{◌≡◌, ◌≢◌, ℕ, List, [], ◌∷◌, ◌++◌, Bool, true, false, ◌&&◌, ◌||◌, ◌==◌, not, if◌then◌else◌, Option, Some, codes}
-use Rattle.defs_text.specs.Classes.{is_nul, is_blank_or_end, is_at_gap, is_one_of}
+use Rattle.defs_text.specs.Classes.{is_blank_or_end, is_at_gap, is_one_of}
 use Rattle.defs_scalar.specs.Tags.{Tag, written_tag}
 use Rattle.defs_scalar.specs.Directives.{Directive, directive_of}
 use Rattle.defs_text.specs.Position.{Position}
 use Rattle.defs_token.specs.Token.{Tok, version_directive, tag_directive, document_start, document_end, flow_sequence_start, flow_sequence_end, flow_mapping_start, flow_mapping_end, block_entry, flow_entry, key, value, alias, anchor, tag, scalar, plain, single_quoted, double_quoted, literal, folded}
-use Rattle.defs_text.specs.Text.{up_to_end}
+use Rattle.defs_text.specs.Text.{up_to_nul, has_no_nul}
 use Rattle.defs_text.specs.Breaks.{is_at_line_end, has_no_break}
 use Rattle.defs_token.specs.Separation.{is_separation}
 use Rattle.defs_token.specs.Plain.{begins_flow, begins_plain, is_whole_plain}
@@ -15,11 +15,6 @@ use Rattle.defs_token.specs.Account.{Account, is_in_flow, is_adjacent, collectio
 use Rattle.defs_token.specs.Piece.{Holds, IsNamed, IsSingleQuoted, IsDoubleQuoted, IsPiece}
 
 -- ---- what is stated
-
--- whether a text has no NUL, with which it would end
-abbrev pub has_no_nul : List ℕ → Bool
-has_no_nul [] = true
-has_no_nul (c ∷ r) = not (is_nul c) && has_no_nul r
 
 -- Pieces of a kind have one end: two of them at the start of one text are equal, and so are the texts after them.
 abbrev pub HaveOneEnd : ((piece next : List ℕ) → Type 0) → Type 0
@@ -213,4 +208,4 @@ NoPieceIsInASeparation = (a : Account) (v w p x : List ℕ) (f : Option Tok) (m 
 
 -- `texts_up_to_their_end_have_no_nul`: what the laws above ask of a text
 abbrev pub TextsUpToTheirEndHaveNoNul : Type 0
-TextsUpToTheirEndHaveNoNul = (text : List ℕ) → Holds (has_no_nul (up_to_end text))
+TextsUpToTheirEndHaveNoNul = (text : List ℕ) → Holds (has_no_nul (up_to_nul text))

@@ -1,7 +1,7 @@
 -- How the scan of a plain scalar ends, told by its text and by what stands around it. YAML 1.2, section 7.3.3.
 use Rattle.std.specs.Prelude.{◌≡◌, ℕ, zero, suc, List, [], ◌∷◌, ◌++◌, Bool, true, false, ◌&&◌, ◌||◌, not, nat_lt, nat_le, Option, Some, None, Result, Ok, Err}
 use Rattle.defs_text.specs.Position.{Position, position_after}
-use Rattle.defs_text.specs.Classes.{is_blank, is_break, is_nul}
+use Rattle.defs_text.specs.Classes.{is_blank, is_break}
 use Rattle.defs_scalar.specs.FlowScalar.{plain_value}
 use Rattle.defs_token.specs.Separation.{is_blanks}
 use Rattle.defs_token.specs.Plain.{Stand, inside, after_blank, on_line, past, begins_flow, goes_on, is_whole_plain}
@@ -11,11 +11,6 @@ use Rattle.yaml_tokens.specs.declared.problem.Problem.TheVariants as problem
 use Rattle.model_lexers.specs.declared.context.Context.{Context}
 use Rattle.model_lexers.specs.Machine.{Read}
 use Rattle.model_lexers.specs.Plain.{Plain}
-
--- whether a text has no NUL, with which it would end
-abbrev pub has_no_nul : List ℕ → Bool
-has_no_nul [] = true
-has_no_nul (c ∷ r) = not (is_nul c) && has_no_nul r
 
 -- the column of the innermost block collection, from one that is counted from 1
 abbrev pub collection_of : ℕ → Option ℕ

@@ -25,7 +25,8 @@ use Rattle.defs_scalar.specs.Directives.{Directive, directive_of}
 use Rattle.defs_text.specs.Breaks.{has_no_break}
 use Rattle.model_lexers.specs.Directive.{directive}
 use Rattle.proof_lexers.specs.DirectiveEnds as directives
-use Rattle.proof_lexers.specs.PlainEnds.{has_no_nul, collection_of, begins_solid, is_indented, IsRead}
+use Rattle.defs_text.specs.Text.{has_no_nul}
+use Rattle.proof_lexers.specs.PlainEnds.{collection_of, begins_solid, is_indented, IsRead}
 use Rattle.proof_lexers.specs.PlainEnds as plains
 
 -- `names_are_read`; `c` is the indicator

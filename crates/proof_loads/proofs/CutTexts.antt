@@ -1,9 +1,8 @@
 -- A text that is read as trees is so of a cut.
 use Rattle.std.proofs.Common.{◌≡◌, ℕ, Bool, true, false, List, [], ◌∷◌, ◌==◌, if◌then◌else◌, refl, sym, subst}
-use Rattle.yaml_chars.specs.Reading.{up_to_nul}
+use Rattle.defs_text.specs.Text.{up_to_nul, has_no_nul}
 use Rattle.defs_tree.specs.Tree.{Tree}
 use Rattle.defs_text.specs.Classes.{is_nul}
-use Rattle.proof_lexers.specs.PlainEnds.{has_no_nul}
 use Rattle.proof_cut.proofs.Fetched.{tokens_are_cut}
 use Rattle.defs_event.specs.ReadAs.{ReadAs}
 use Rattle.proof_loads.specs.TextReadAs.{IsReadAs}

@@ -2,7 +2,7 @@
 use Rattle.std.proofs.Common.{◌≡◌, ℕ, Bool, true, List, sym, subst}
 use Rattle.defs_tree.specs.Tree.{Tree}
 use Rattle.defs_event.specs.ReadAs.{ReadAs}
-use Rattle.proof_lexers.specs.PlainEnds.{has_no_nul}
+use Rattle.defs_text.specs.Text.{has_no_nul}
 use Rattle.proof_row.specs.Meaning.{Means}
 use Rattle.proof_row_sound.proofs.Sound.{tokens_are_of_a_row}
 use Rattle.proof_loads.specs.TextReadAs.{IsReadAs}

@@ -6,7 +6,8 @@ use Rattle.std.specs.Str.Iter.{chars_steps, chars_rest}
 use Rattle.std.specs.declared.str.Chars.{Chars}
 use Rattle.defs_text.specs.Position.{Position}
 use Rattle.yaml_chars.specs.Source.{CameFrom}
-use Rattle.yaml_chars.specs.Reading.{HasNoNul, up_to_nul}
+use Rattle.defs_text.specs.Text.{up_to_nul}
+use Rattle.yaml_chars.specs.Reading.{HasNoNul}
 use Rattle.defs_tree.specs.Tree.{Tree}
 use Rattle.defs_tree.specs.DumpText.{dump_text}
 use Rattle.defs_layout.specs.Json.{JsonText, IsWellFormed, spell_text, tree_of}

@@ -1,6 +1,6 @@
 -- A text without NUL.
 use Rattle.std.specs.Prelude.{◌≡◌, ℕ, List}
-use Rattle.yaml_chars.specs.Reading.{up_to_nul}
+use Rattle.defs_text.specs.Text.{up_to_nul}
 
 -- It goes on to its end.
 abbrev pub IsWithoutNul : List ℕ → Type 0

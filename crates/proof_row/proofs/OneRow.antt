@@ -1,7 +1,7 @@
 -- A text has one row. The choice of keys goes forwards, the proof backwards: at the text's end no key waits, so like accounts are equal there, and that is carried back to the start.
 use Rattle.std.proofs.Common.{◌≡◌, ℕ, List, [], ◌∷◌, ◌++◌, false, Option, Some, None, sym, ap, subst, ◌∙◌, refl}
 use Rattle.defs_token.specs.Piece.{Holds}
-use Rattle.proof_ends.specs.Ends.{has_no_nul}
+use Rattle.defs_text.specs.Text.{has_no_nul}
 use Rattle.proof_ends.proofs.Texts.{no_nul_after}
 use Rattle.proof_ends.proofs.Pieces.{no_piece_at_end, clean_up_to_end}
 use Rattle.defs_row.specs.Step.{Step, Row, spelled}

@@ -3,9 +3,9 @@ use Rattle.std.proofs.Common.{◌≡◌, ◌≢◌, ℕ, List, [], ◌∷◌, �
 use Rattle.defs_token.specs.Token.{Tok, stream_start, stream_end, version_directive, tag_directive, document_start, document_end, block_sequence_start, block_mapping_start, block_end, flow_sequence_start, flow_sequence_end, flow_mapping_start, flow_mapping_end, block_entry, flow_entry, key, value, alias, anchor, tag, scalar, plain, single_quoted, double_quoted, literal, folded}
 use Rattle.defs_text.specs.Position.{position_after}
 use Rattle.defs_token.specs.Account.{innermost_column, is_adjacent, before_past}
-use Rattle.defs_text.specs.Text.{is_empty}
+use Rattle.defs_text.specs.Text.{is_empty, has_no_nul}
 use Rattle.defs_token.specs.Piece.{Holds}
-use Rattle.proof_ends.specs.Ends.{has_no_nul, Kind, directive_line, dashes, dots, kind_of, IsSeenAlike}
+use Rattle.proof_ends.specs.Ends.{Kind, directive_line, dashes, dots, kind_of, IsSeenAlike}
 use Rattle.proof_ends.proofs.Texts.{no_nul_after}
 use Rattle.proof_ends.proofs.Pieces.{pieces_seen_alike, separations_before}
 use Rattle.defs_row.specs.Step.{Step, Act, act_of, is_marker}

@@ -5,7 +5,7 @@ use Rattle.std.proofs.lemmas.Bool.Decides.{nat_tests}
 use Rattle.defs_text.specs.Classes.{is_break, is_blank, is_nul}
 use Rattle.defs_text.specs.Breaks.{has_no_break, is_before_line_feed}
 use Rattle.defs_text.specs.Position.{Position, position_after}
-use Rattle.defs_text.specs.Text.{is_empty}
+use Rattle.defs_text.specs.Text.{is_empty, has_no_nul}
 use Rattle.defs_row.specs.Step.{Previous, plain_scalar, quoted_scalar, block_scalar, flow_collection, directive, another, has_break}
 use Rattle.defs_row.specs.Column.{not_ended, is_in_column, innermost}
 use Rattle.defs_row.specs.Indentation.{least_column}
@@ -15,7 +15,6 @@ use Rattle.model_scanner.specs.declared.level.Indent.{Indent}
 use Rattle.model_scanner.specs.declared.level.FlowLevel.{FlowLevel}
 use Rattle.model_scanner.specs.State.{Key, Held, ScannerState, in_flow}
 use Rattle.model_scanner.specs.Keys.{top_needs_block_end, must_be_key}
-use Rattle.proof_lexers.specs.PlainEnds.{has_no_nul}
 use Rattle.proof_lexers.specs.Separations.{begins_separation}
 use Rattle.proof_cut.specs.Order.{NotBefore}
 use Rattle.proof_cut.specs.Here.{IsLive, IsNotRight}

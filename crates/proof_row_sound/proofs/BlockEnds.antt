@@ -3,7 +3,7 @@ use Rattle.std.proofs.Common.{◌≡◌, ℕ, suc, ◌+◌, ◌≤◌, List, [],
 use Rattle.std.proofs.lemmas.Bool.{and_parts, eqb-true}
 use Rattle.std.proofs.lemmas.Bool.Decides.{nat_tests}
 use Rattle.defs_text.specs.Position.{Position, position_past, position_after}
-use Rattle.defs_text.specs.Text.{is_empty}
+use Rattle.defs_text.specs.Text.{is_empty, has_no_nul}
 use Rattle.defs_text.specs.Classes.{space, tab, is_at_end}
 use Rattle.defs_text.specs.Breaks.{split}
 use Rattle.defs_scalar.specs.FlowScalar.{begins_with}
@@ -22,7 +22,7 @@ use Rattle.proof_lexers.specs.BlockEnds as ends
 use Rattle.proof_lexers.proofs.Blocks.Ends.{scans_end}
 use Rattle.proof_cut.proofs.Pieces.Blocks.{piece_has_line}
 use Rattle.proof_cut.proofs.Pieces.Quoted.{some_chars}
-use Rattle.proof_lexers.specs.PlainEnds.{collection_of, has_no_nul}
+use Rattle.proof_lexers.specs.PlainEnds.{collection_of}
 use Rattle.proof_lexers.proofs.Blocks.Margins.{after_break, after_line, after_lines}
 use Rattle.proof_lexers.proofs.Blocks.Positions.{space_past, after_spell, first_empty, first_header}
 use Rattle.proof_lexers.proofs.Blocks.Written.{Break, feed, carriage, both, Line, put, spell, texts, Fits, AreLines, Lined, lined, split_spell}

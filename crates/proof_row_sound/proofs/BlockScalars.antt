@@ -4,7 +4,7 @@ use Rattle.std.proofs.lemmas.Bool.{eqb-true}
 use Rattle.std.proofs.lemmas.Bool.Decides.{nat_tests}
 use Rattle.defs_text.specs.Classes.{space, is_break, is_nul, is_at_end, is_one_of}
 use Rattle.defs_text.specs.Position.{Position, position_after}
-use Rattle.defs_text.specs.Text.{is_empty}
+use Rattle.defs_text.specs.Text.{is_empty, has_no_nul}
 use Rattle.defs_scalar.specs.BlockScalar.{BlockStyle, literal, folded}
 use Rattle.defs_token.specs.Account as pieces
 use Rattle.defs_token.specs.Account.{innermost_column}
@@ -30,7 +30,7 @@ use Rattle.model_scanner.specs.Document.{block_style, fetch_block_scalar}
 use Rattle.model_scanner.proofs.Holds.{Holds, went, read}
 use Rattle.proof_lexers.specs.HeaderEnds.{indicator_of}
 use Rattle.proof_lexers.specs.BlockScan.{without_spaces, is_literal_style, further_position, read_block}
-use Rattle.proof_lexers.specs.PlainEnds.{has_no_nul, collection_of}
+use Rattle.proof_lexers.specs.PlainEnds.{collection_of}
 use Rattle.proof_cut.specs.Order.{NotBefore}
 use Rattle.proof_cut.specs.Here.{IsLive}
 use Rattle.proof_cut.proofs.Nodes.{IsDeep}

@@ -1,6 +1,6 @@
 -- Rows that are completed: where a text begins, over a step, and where it ends.
 use Rattle.std.proofs.Common.{◌≡◌, ℕ, List, [], ◌∷◌, ◌++◌, true, false, Some, refl, ap, sym, ◌∙◌, subst, append_assoc}
-use Rattle.defs_text.specs.Text.{up_to_end}
+use Rattle.defs_text.specs.Text.{up_to_nul}
 use Rattle.defs_text.specs.Position.{first_position, position_after}
 use Rattle.defs_token.specs.Token.{Token, stream_start}
 use Rattle.defs_token.specs.Separation.{is_separation}
@@ -11,7 +11,7 @@ use Rattle.defs_row.specs.Row.{IsWritten, IsRowFrom, IsRead}
 use Rattle.proof_row_sound.specs.Completes.{Completes}
 
 -- where a text begins, after the stream's start
-pub completed_at_start : (text : List ℕ) → Completes text (up_to_end text) first_account (λ ws last. put first_position stream_start ∷ [])
+pub completed_at_start : (text : List ℕ) → Completes text (up_to_nul text) first_account (λ ws last. put first_position stream_start ∷ [])
 completed_at_start text ws last e r = (record { steps = ws; last = last }, (e, r), refl)
 
 -- A step that may stand, after which the tokens of the row up to there are these.

@@ -4,7 +4,7 @@ use Rattle.std.proofs.lemmas.Bool.{and_parts, eqb-true}
 use Rattle.defs_text.specs.Classes.{is_break, is_at_gap}
 use Rattle.defs_text.specs.Breaks.{split, split_by, is_before_line_feed, has_no_break}
 use Rattle.defs_text.specs.Position.{Position, position_after}
-use Rattle.defs_text.specs.Text.{is_empty}
+use Rattle.defs_text.specs.Text.{is_empty, has_no_nul}
 use Rattle.defs_scalar.specs.FlowScalar.{begins_with}
 use Rattle.defs_scalar.specs.Directives.{Directive, version, tag_declaration, reserved, directive_of}
 use Rattle.yaml_chars.specs.Class.{is_breakz}
@@ -24,7 +24,6 @@ use Rattle.model_scanner.specs.State.{Held, ScannerState, peek, push, on_held, s
 use Rattle.model_scanner.specs.Keys.{is_required, top_key}
 use Rattle.model_scanner.specs.Document.{begin_line, fetch_directive, fetch_document_marker, check_document_end, fetch_document_end}
 use Rattle.model_scanner.proofs.Holds.{Holds, went, refused, chained, tried, either, read}
-use Rattle.proof_lexers.specs.PlainEnds.{has_no_nul}
 use Rattle.proof_lexers.specs.DirectiveEnds.{token_of, ends_line, first_break, next_line, after_line, DirectiveEndsAs, reads, refuses}
 use Rattle.proof_lexers.proofs.Directives.Lines.{directives_end}
 use Rattle.proof_lexers.proofs.Separation.Positions.{position_append}

@@ -2,7 +2,7 @@
 use Rattle.std.proofs.Common.{◌≡◌, ℕ, suc, ◌<◌, List, [], ◌∷◌, ◌++◌, Bool, true, false, not, ◌&&◌, ◌||◌, nat_le, nat_lt, map, ◌⊎◌, inl, inr, length, if◌then◌else◌, Option, Some, None, refl, ap, sym, ◌∙◌, subst, arith}
 use Rattle.std.proofs.lemmas.Bool.Decides.{nat_tests}
 use Rattle.defs_text.specs.Position.{Position, position_after}
-use Rattle.defs_text.specs.Text.{is_empty}
+use Rattle.defs_text.specs.Text.{is_empty, has_no_nul}
 use Rattle.defs_token.specs.Token.{Tok, Token}
 use Rattle.defs_token.specs.Account.{before_past, has_room}
 use Rattle.defs_token.specs.Separation.{is_separation}
@@ -24,7 +24,6 @@ use Rattle.model_scanner.specs.declared.level.FlowLevel.TheVariants.{Mapping, En
 use Rattle.model_scanner.specs.State.{Key, Held, ScannerState, in_flow}
 use Rattle.model_scanner.specs.Keys.{must_be_key}
 use Rattle.model_scanner.specs.Indents.{roll_one_col_indent, in_block}
-use Rattle.proof_lexers.specs.PlainEnds.{has_no_nul}
 use Rattle.proof_cut.specs.Order.{NotBefore}
 use Rattle.proof_cut.specs.Stands.{IsAdjacent}
 use Rattle.proof_cut.proofs.Flows.{IsOpeningOf, opening_sequence, opening_mapping}

@@ -3,7 +3,7 @@ use Rattle.std.proofs.Common.{◌≡◌, ℕ, ◌≤◌, List, [], ◌∷◌, �
 use Rattle.std.proofs.lemmas.List.{append-nil}
 use Rattle.defs_text.specs.Position.{Position, position_after}
 use Rattle.defs_text.specs.Breaks.{has_no_break}
-use Rattle.defs_text.specs.Text.{is_empty}
+use Rattle.defs_text.specs.Text.{is_empty, has_no_nul}
 use Rattle.defs_token.specs.Token.{Tok, Token}
 use Rattle.defs_token.specs.Separation.{is_separation}
 use Rattle.defs_token.specs.Piece.{IsPiece}
@@ -16,7 +16,6 @@ use Rattle.defs_row.specs.Account.{Site, site_in, site_past, may_stand, seen}
 use Rattle.defs_row.specs.Tokens.{put, shown_position, ends_at, start_if, begun_outside}
 use Rattle.model_scanner.specs.State.{Key, ScannerState, token}
 use Rattle.model_scanner.specs.Indents.{placed}
-use Rattle.proof_lexers.specs.PlainEnds.{has_no_nul}
 use Rattle.proof_cut.proofs.Positions.{index_after}
 use Rattle.proof_row_sound.specs.Completes.{Completes}
 use Rattle.proof_row_sound.specs.Stands.{columns, has_open_level, AreLevels, IsReadOn, HasNoTabs, IsLeading, is_free, IsLine, Stands}

@@ -5,7 +5,7 @@ use Rattle.std.proofs.Math.Bool.{or-false}
 use Rattle.defs_text.specs.Classes.{is_break, is_blank}
 use Rattle.defs_text.specs.Breaks.{is_before_line_feed, has_no_break}
 use Rattle.defs_text.specs.Position.{Position, position_after}
-use Rattle.defs_text.specs.Text.{is_empty}
+use Rattle.defs_text.specs.Text.{is_empty, has_no_nul}
 use Rattle.defs_scalar.specs.Tags.{leading}
 use Rattle.defs_token.specs.Separation.{is_separation}
 use Rattle.defs_row.specs.Step.{Previous, plain_scalar, quoted_scalar, block_scalar, flow_collection, directive, another, has_break}
@@ -17,7 +17,7 @@ use Rattle.model_scanner.specs.declared.level.Indent.{Indent}
 use Rattle.model_scanner.specs.State.{Key, Held, ScannerState}
 use Rattle.model_scanner.specs.Space.{between, skip, skip_to_next_token}
 use Rattle.model_scanner.proofs.Holds.{Holds, went, refused}
-use Rattle.proof_lexers.specs.PlainEnds.{is_white, has_no_nul, begins_white}
+use Rattle.proof_lexers.specs.PlainEnds.{is_white, begins_white}
 use Rattle.proof_lexers.specs.PlainEnds as plain_ends
 use Rattle.proof_lexers.specs.Separations.{begins_separation, after_separation, PassesAs, passes, refuses}
 use Rattle.proof_lexers.proofs.Separation.Separations.{separations_are_passed}

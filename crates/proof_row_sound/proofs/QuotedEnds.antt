@@ -20,7 +20,7 @@ use Rattle.model_scanner.specs.Space.{skip_spaces}
 use Rattle.model_scanner.specs.Document.{may_follow_quoted, check_after_quoted}
 use Rattle.model_scanner.proofs.Holds.{Holds, went, refused, chained, either, both_hold}
 use Rattle.proof_lexers.specs.PlainEnds as plains
-use Rattle.proof_lexers.specs.PlainEnds.{has_no_nul}
+use Rattle.defs_text.specs.Text.{has_no_nul}
 use Rattle.proof_cut.proofs.Passes.{Spaced, spaces_skipped}
 use Rattle.proof_cut.proofs.Positions.{not_before_after}
 use Rattle.proof_row_sound.proofs.Arrivals.{clean_after}

@@ -3,7 +3,7 @@ use Rattle.std.proofs.Common.{◌≡◌, ℕ, suc, ◌-◌, ◌≤◌, List, [],
 use Rattle.std.proofs.lemmas.Bool.{and_parts}
 use Rattle.std.proofs.lemmas.List.{append_cancel_right}
 use Rattle.defs_text.specs.Position.{Position, position_after}
-use Rattle.defs_text.specs.Text.{is_empty}
+use Rattle.defs_text.specs.Text.{is_empty, has_no_nul}
 use Rattle.defs_text.specs.Classes.{is_break, is_nul}
 use Rattle.yaml_tokens.specs.declared.problem.Fault.{Fault}
 use Rattle.defs_scalar.specs.FlowScalar.{begins_with}
@@ -31,7 +31,6 @@ use Rattle.model_scanner.specs.Flow.{allow_key}
 use Rattle.model_scanner.specs.Document.{context, unled, quoted_style, check_after_quoted, adjacent_here, fetch_flow_scalar}
 use Rattle.model_scanner.proofs.Holds.{Holds, went, read, chained, both_hold}
 use Rattle.proof_lexers.specs.PlainEnds as plains
-use Rattle.proof_lexers.specs.PlainEnds.{has_no_nul}
 use Rattle.proof_lexers.specs.QuotedScan.{value_of, element_of, ends_before}
 use Rattle.proof_lexers.specs.QuotedEnds.{QuotedEndsAs, reads, refuses}
 use Rattle.proof_lexers.specs.Separations.{after_separation}

@@ -1,7 +1,7 @@
 -- A part of a node that is no collection was read where a piece begins: what holds between two fetches holds after it.
 use Rattle.std.proofs.Common.{◌≡◌, ℕ, ◌≤◌, List, [], ◌∷◌, ◌++◌, Bool, true, false, not, ◌||◌, length, Option, Some, None, refl, ap, sym, ◌∙◌, subst, ◌⊎◌, inl, inr}
 use Rattle.defs_text.specs.Position.{Position, position_after}
-use Rattle.defs_text.specs.Text.{is_empty}
+use Rattle.defs_text.specs.Text.{is_empty, has_no_nul}
 use Rattle.defs_token.specs.Token.{Tok, Token}
 use Rattle.defs_token.specs.Account.{before_past}
 use Rattle.defs_token.specs.Separation.{is_separation}
@@ -19,7 +19,6 @@ use Rattle.model_scanner.specs.declared.level.Indent.{Indent}
 use Rattle.model_scanner.specs.declared.level.FlowLevel.{FlowLevel}
 use Rattle.model_scanner.specs.State.{Key, ScannerState}
 use Rattle.model_scanner.specs.Keys.{must_be_key}
-use Rattle.proof_lexers.specs.PlainEnds.{has_no_nul}
 use Rattle.proof_cut.specs.Order.{NotBefore}
 use Rattle.proof_cut.specs.Stands.{IsAdjacent}
 use Rattle.proof_cut.proofs.Positions.{not_before_after, not_before_then}

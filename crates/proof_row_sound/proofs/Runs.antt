@@ -5,7 +5,7 @@ use Rattle.model_scanner.specs.State.{ScannerState}
 use Rattle.model_scanner.specs.Document.{fetch_stream_start}
 use Rattle.model_scanner.specs.Fetch.{fetch}
 use Rattle.model_scanner.specs.Run.{start, Reaches, here, there}
-use Rattle.proof_lexers.specs.PlainEnds.{has_no_nul}
+use Rattle.defs_text.specs.Text.{has_no_nul}
 use Rattle.proof_cut.specs.Stands.{FaresAt}
 use Rattle.proof_cut.proofs.Fetched as cut
 use Rattle.proof_cut.proofs.Fetched.{Came, starts, fares, came}

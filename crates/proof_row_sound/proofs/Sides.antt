@@ -1,7 +1,7 @@
 -- Where a piece begins, and between two fetches: what holds with the flow levels, the open keys and the entries taken apart, outside flow and in flow.
 use Rattle.std.proofs.Common.{◌≡◌, ℕ, suc, ◌≤◌, List, [], ◌∷◌, ◌++◌, Bool, true, false, not, ◌==◌, length, Option, Some, refl, sym, subst, arith, ◌⊎◌, inl, inr}
 use Rattle.defs_text.specs.Position.{position_after}
-use Rattle.defs_text.specs.Text.{is_empty}
+use Rattle.defs_text.specs.Text.{is_empty, has_no_nul}
 use Rattle.defs_token.specs.Token.{Token}
 use Rattle.defs_token.specs.Account.{is_adjacent, before_past}
 use Rattle.defs_token.specs.Separation.{is_separation}
@@ -11,7 +11,6 @@ use Rattle.defs_row.specs.FlowEntry.{Entry, is_renewed}
 use Rattle.defs_row.specs.Account.{Site, Account, before_by}
 use Rattle.model_scanner.specs.declared.level.FlowLevel.{FlowLevel}
 use Rattle.model_scanner.specs.State.{Key, ScannerState}
-use Rattle.proof_lexers.specs.PlainEnds.{has_no_nul}
 use Rattle.proof_lexers.specs.Separations.{begins_separation}
 use Rattle.proof_cut.specs.Stands.{IsAdjacent}
 use Rattle.proof_row_sound.specs.Choices.{outside_key, chosen, MayChoose}

@@ -6,7 +6,7 @@ use Rattle.defs_row.specs.Account.{first_account}
 use Rattle.defs_row.specs.Tokens.{put}
 use Rattle.model_scanner.specs.Document.{fetch_stream_start}
 use Rattle.model_scanner.specs.Run.{start}
-use Rattle.proof_lexers.specs.PlainEnds.{has_no_nul}
+use Rattle.defs_text.specs.Text.{has_no_nul}
 use Rattle.proof_cut.proofs.Documents.{whole_text}
 use Rattle.proof_row_sound.specs.Completes.{Completes}
 use Rattle.proof_row_sound.specs.Stands.{Stands}

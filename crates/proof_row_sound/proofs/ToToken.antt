@@ -5,7 +5,7 @@ use Rattle.std.proofs.lemmas.List.{append_cancel_right}
 use Rattle.defs_text.specs.Classes.{is_break, is_blank, is_nul, is_one_of}
 use Rattle.defs_text.specs.Breaks.{is_at_line_end}
 use Rattle.defs_text.specs.Position.{Position, position_after}
-use Rattle.defs_text.specs.Text.{is_empty}
+use Rattle.defs_text.specs.Text.{is_empty, has_no_nul}
 use Rattle.defs_token.specs.Account.{before_past}
 use Rattle.defs_token.specs.Separation.{is_separation}
 use Rattle.defs_row.specs.Step.{Previous, plain_scalar, quoted_scalar, block_scalar, flow_collection, directive, another, has_break}
@@ -18,7 +18,7 @@ use Rattle.model_scanner.specs.declared.level.Indent.{Indent}
 use Rattle.model_scanner.specs.State.{Key, ScannerState, in_flow}
 use Rattle.model_scanner.specs.Space.{between, skip_to_next_token}
 use Rattle.model_scanner.proofs.Holds.{Holds, went, weakened, both_hold}
-use Rattle.proof_lexers.specs.PlainEnds.{is_white, has_no_nul, begins_white}
+use Rattle.proof_lexers.specs.PlainEnds.{is_white, begins_white}
 use Rattle.proof_lexers.specs.PlainEnds as plain_ends
 use Rattle.proof_lexers.specs.Separations.{begins_separation, after_separation}
 use Rattle.proof_lexers.proofs.Separation.EachSeparation.{no_nul_after}

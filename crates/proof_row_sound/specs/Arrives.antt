@@ -1,7 +1,7 @@
 -- What holds of the scanner's model where a piece begins, or at the text's end: a separation was passed, and block collections that end here have their ends.
 use Rattle.std.specs.Prelude.{◌≡◌, ℕ, suc, ◌+◌, ◌≤◌, List, [], ◌++◌, Bool, true, false, ◌⊎◌, not, ◌==◌, length, Option, Some, None}
 use Rattle.defs_text.specs.Position.{Position, position_after}
-use Rattle.defs_text.specs.Text.{is_empty}
+use Rattle.defs_text.specs.Text.{is_empty, has_no_nul}
 use Rattle.defs_token.specs.Token.{Token}
 use Rattle.defs_token.specs.Account.{is_adjacent, before_past}
 use Rattle.defs_token.specs.Separation.{is_separation}
@@ -13,7 +13,6 @@ use Rattle.defs_row.specs.FlowEntry.{is_renewed}
 use Rattle.defs_row.specs.Account.{Site, Account, before_by, site_in}
 use Rattle.defs_row.specs.Tokens.{ends_at}
 use Rattle.model_scanner.specs.State.{Key, ScannerState}
-use Rattle.proof_lexers.specs.PlainEnds.{has_no_nul}
 use Rattle.proof_lexers.specs.Separations.{begins_separation}
 use Rattle.proof_row_sound.specs.Choices.{outside_key, chosen, MayChoose}
 use Rattle.proof_row_sound.specs.Completes.{tokens_up_to, Completes}

@@ -3,7 +3,7 @@ use Rattle.std.specs.Prelude.{◌≡◌, ℕ, suc, ◌+◌, ◌-◌, ◌<◌, �
 use Rattle.defs_text.specs.Classes.{is_break}
 use Rattle.defs_text.specs.Breaks.{is_before_line_feed}
 use Rattle.defs_text.specs.Position.{Position, position_after}
-use Rattle.defs_text.specs.Text.{is_empty}
+use Rattle.defs_text.specs.Text.{is_empty, has_no_nul}
 use Rattle.defs_token.specs.Account.{FlowKind, sequence, mapping, before_past}
 use Rattle.defs_token.specs.Separation.{is_separation}
 use Rattle.defs_row.specs.Column.{is_in_column}
@@ -21,7 +21,7 @@ use Rattle.defs_token.specs.Token.{Token}
 use Rattle.defs_row.specs.Row.{IsRead}
 use Rattle.model_scanner.specs.Fetch.{fetch}
 use Rattle.model_scanner.specs.Run.{start, HasTokens}
-use Rattle.proof_lexers.specs.PlainEnds.{has_no_nul, begins_white}
+use Rattle.proof_lexers.specs.PlainEnds.{begins_white}
 use Rattle.proof_cut.specs.Here.{IsLive, IsNotRight}
 use Rattle.proof_cut.specs.Order.{NotBefore}
 use Rattle.proof_cut.specs.Stands.{IsAdjacent, FaresAt}

@@ -1,6 +1,6 @@
 -- A page that begins with settings: front matter, a line `---`, and the rest.
 use Rattle.std.specs.Prelude.{ℕ, ◌≡◌, ◌≤◌, false, List, ◌++◌, length, codes}
-use Rattle.yaml_rust2.specs.CharactersRead.{up_to_nul}
+use Rattle.yaml_rust2.specs.Text.{up_to_nul}
 use Rattle.yaml_rust2.specs.TextReadAs.{IsReadAs}
 use Rattle.yaml_rust2.specs.Tree.{Tree}
 

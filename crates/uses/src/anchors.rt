@@ -1,6 +1,6 @@
 //! The anchors of a text.
 ghost use Rattle.std.specs.Prelude.{◌≡◌, ◌++◌, false, List, IfOk, OnOk, chars};
-ghost use Rattle.yaml_rust2.specs.CharactersRead.{up_to_nul};
+ghost use Rattle.yaml_rust2.specs.Text.{up_to_nul};
 ghost use Rattle.yaml_rust2.specs.Event.{Ev};
 ghost use Rattle.yaml_rust2.specs.Position.{Position};
 ghost use Rattle.yaml_rust2.specs.Shown.{ev_of};

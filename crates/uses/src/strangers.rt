@@ -1,7 +1,7 @@
 //! A text that a stranger wrote. Each alias is a copy of a node, so a short text can ask for much memory; and a text may nest
 //! so deep that a comparison of its trees runs out of stack.
 ghost use Rattle.std.specs.Prelude.{false, IfOk, chars};
-ghost use Rattle.yaml_rust2.specs.CharactersRead.{up_to_nul};
+ghost use Rattle.yaml_rust2.specs.Text.{up_to_nul};
 ghost use Rattle.yaml_rust2.specs.TextReadAs.{IsReadAs};
 ghost use Rattle.yaml_rust2.specs.View.{items_view};
 

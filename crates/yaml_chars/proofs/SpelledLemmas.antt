@@ -8,12 +8,16 @@ use Rattle.std.specs.Str.Iter.{chars_steps, chars_rest}
 use Rattle.std.specs.declared.str.Chars.{Chars}
 use Rattle.std.specs.Iterator.{AlwaysYields, Yields, YieldsThen}
 use Rattle.yaml_chars.specs.Source.{IsEnd, CameFrom}
-use Rattle.yaml_chars.specs.Reading.{HasNoNul, up_to_nul, IsText, BeginsText}
+use Rattle.defs_text.specs.Classes.{is_nul}
+use Rattle.defs_text.specs.Text.{up_to_nul}
+use Rattle.yaml_chars.specs.Reading.{HasNoNul, IsText, BeginsText}
 
 up_to_nul-stop : (c : ℕ) (cs : List ℕ) → c ≡ 0 → up_to_nul (c ∷ cs) ≡ []
+unfolding is_nul
 up_to_nul-stop c cs e = rw e refl
 
 up_to_nul-next : (c : ℕ) (cs : List ℕ) → c ≢ 0 → up_to_nul (c ∷ cs) ≡ c ∷ up_to_nul cs
+unfolding is_nul
 up_to_nul-next c cs n = grind arith
 
 first-no_nul : (c : ℕ) (cs : List ℕ) → HasNoNul (c ∷ cs) → c ≢ 0

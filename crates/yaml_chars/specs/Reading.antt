@@ -93,8 +93,3 @@ pub record BeginsText {T : Type 0} (steps : T → Option ℕ → T → Type 0) (
   pub came : CameFrom steps it taken done
   pub no_nul : HasNoNul taken
   pub holds : (w : List ℕ) → take (length taken) w ≡ taken → (done ≡ true → w ≡ taken) → P w
-
--- the characters before the first NUL
-abbrev pub up_to_nul : List ℕ → List ℕ
-up_to_nul [] = []
-up_to_nul (c ∷ cs) = (if c == 0 then [] else c ∷ up_to_nul cs)

@@ -5,8 +5,7 @@ use Rattle.std.specs.Io.KnownBytes.{Consumes}
 use Rattle.std.specs.IoError.{error_kind}
 use Rattle.std.specs.declared.io.ErrorKind.{ErrorKind}
 use Rattle.std.specs.declared.io.ErrorKind.TheVariants.{OutOfMemory, Interrupted}
-use Rattle.defs_text.specs.Text.{string_chars}
-use Rattle.yaml_chars.specs.Reading.{up_to_nul}
+use Rattle.defs_text.specs.Text.{string_chars, up_to_nul}
 use Rattle.yaml_tree.specs.declared.yaml.Yaml.{Yaml}
 use Rattle.yaml_tree.specs.View.{items_view}
 use Rattle.proof_row.specs.Meaning.{Means}

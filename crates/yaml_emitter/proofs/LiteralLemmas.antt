@@ -1,5 +1,5 @@
 -- The tests of literal blocks.
-use Rattle.std.proofs.Common.{◌≡◌, ◌≢◌, ℕ, suc, ne_eqb, eq-eqb, eqb-true, length, take, drop, ◌<◌, ◌+◌, subst, append_assoc, append-nil, append_assoc, ◌+◌, List, [], ◌∷◌, ◌++◌, Bool, true, false, not, ◌&&◌, ◌||◌, refl, sym, ap, ◌∙◌, arith}
+use Rattle.std.proofs.Common.{◌≡◌, ◌≢◌, ℕ, suc, ne_eqb, eq-eqb, eqb-true, length, take, drop, ◌<◌, ◌+◌, subst, append_assoc, append-nil, List, [], ◌∷◌, ◌++◌, Bool, true, false, not, ◌&&◌, ◌||◌, refl, sym, ap, ◌∙◌, arith}
 use Rattle.std.specs.Prelude.{◌==◌, nat_eq, bytes_eq, encode_utf8, Option, Some, None, MatchOption, if◌then◌else◌, codes}
 use Rattle.std.specs.Char.{len_utf8}
 use Rattle.std.specs.Borrow.{Bor}

@@ -1,6 +1,6 @@
 //! Texts, read as trees within limits.
 ghost use Rattle.std.specs.Prelude.{chars};
-ghost use Rattle.yaml_chars.specs.Reading.{up_to_nul};
+ghost use Rattle.defs_text.specs.Text.{up_to_nul};
 ghost use Rattle.yaml_limits.specs.Limited.{Answers};
 
 use crate::error::LimitsError;

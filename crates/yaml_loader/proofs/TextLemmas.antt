@@ -6,7 +6,8 @@ use Rattle.std.specs.Str.{chars, IsUtf8}
 use Rattle.std.specs.Str.Iter.{chars_steps, chars_rest}
 use Rattle.std.specs.declared.str.Chars.{Chars}
 use Rattle.yaml_chars.specs.Source.{CameFrom}
-use Rattle.yaml_chars.specs.Reading.{HasNoNul, up_to_nul, BeginsText}
+use Rattle.defs_text.specs.Text.{up_to_nul}
+use Rattle.yaml_chars.specs.Reading.{HasNoNul, BeginsText}
 use Rattle.yaml_chars.proofs.SpelledLemmas.{Chars-spelled}
 use Rattle.defs_tree.specs.Tree.{Tree}
 use Rattle.defs_layout.specs.Json.{spell_text, tree_of}

@@ -3,7 +3,8 @@ ghost use Rattle.std.specs.Prelude.{◌≡◌, ◌^◌, ◌<◌, false, None, If
 ghost use Rattle.std.specs.Iterator.{IsFinite, size};
 ghost use Rattle.defs_event.specs.NoAlias.{HasNoAlias};
 ghost use Rattle.yaml_tree.specs.View.{items_view};
-ghost use Rattle.yaml_chars.specs.Reading.{HasNoNul, up_to_nul, BeginsText};
+ghost use Rattle.defs_text.specs.Text.{up_to_nul};
+ghost use Rattle.yaml_chars.specs.Reading.{HasNoNul, BeginsText};
 ghost use Rattle.yaml_chars.specs.Source.{CameFrom};
 ghost use Rattle.yaml_parser.specs.Parsed.{parsed};
 ghost use Rattle.proof_row.specs.Meaning.{Means};

@@ -1,6 +1,6 @@
 //! Texts, read as trees with positions.
 ghost use Rattle.std.specs.Prelude.{◌≡◌, false, IfOk, chars};
-ghost use Rattle.yaml_chars.specs.Reading.{up_to_nul};
+ghost use Rattle.defs_text.specs.Text.{up_to_nul};
 ghost use Rattle.yaml_loader.specs.TextLoads.{LoadsText};
 ghost use Rattle.yaml_marked.specs.Documents.{marks_of_all};
 ghost use Rattle.yaml_marked.specs.Loading.{plain, AreMarksOf};

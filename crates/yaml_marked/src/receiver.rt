@@ -1,6 +1,6 @@
 //! A loader that also takes the positions of nodes.
 ghost use Rattle.std.specs.Prelude.{chars};
-ghost use Rattle.yaml_chars.specs.Reading.{up_to_nul};
+ghost use Rattle.defs_text.specs.Text.{up_to_nul};
 
 use crate::marking::Marking;
 use proof_loads::laws::{strings_are_the_text, texts_are_answered};

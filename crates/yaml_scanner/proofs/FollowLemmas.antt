@@ -30,7 +30,7 @@ use Rattle.yaml_scanner_state.proofs.QueueLemmas.{has_end_append}
 use Rattle.yaml_chars.specs.Reading.{HasNoNul}
 use Rattle.defs_text.specs.Classes.{is_nul}
 use Rattle.defs_token.specs.Cut.{IsCut, IsCutOfBeginning, tokens_of, end_token}
-use Rattle.proof_lexers.specs.PlainEnds.{has_no_nul}
+use Rattle.defs_text.specs.Text.{has_no_nul}
 use Rattle.proof_cut.proofs.Fetched.{tokens_are_cut}
 use Rattle.proof_cut.proofs.Faults.Fetches.{faults_stand}
 use Rattle.proof_cut.proofs.Beginnings.{first_tokens_are_cut}

@@ -3,10 +3,9 @@ use Rattle.std.proofs.Common.{◌≡◌, ℕ, zero, suc, ◌+◌, ◌-◌, ◌<�
 use Rattle.std.proofs.lemmas.List.{length-take}
 use Rattle.defs_token.specs.Token.{Token}
 use Rattle.yaml_chars.specs.Reading.{position_of}
-use Rattle.defs_text.specs.Text.{is_empty}
+use Rattle.defs_text.specs.Text.{is_empty, has_no_nul}
 use Rattle.defs_text.specs.Position.{first_position, position_after}
 use Rattle.model_scanner.specs.Document.{next_line}
-use Rattle.proof_lexers.specs.PlainEnds.{has_no_nul}
 use Rattle.proof_cut.specs.Positions.{IsPositionIn}
 use Rattle.proof_cut.proofs.Reached.{run_is_where}
 use Rattle.yaml_scanner.specs.declared.fetcher.Fetcher.{Fetcher}

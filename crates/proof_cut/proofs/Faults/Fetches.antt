@@ -1,7 +1,7 @@
 -- A refusal for a fault that stands in a text by itself comes only where that fault stands.
 use Rattle.std.proofs.Common.{◌≡◌, ℕ, ◌+◌, List, [], ◌∷◌, Bool, true, false, ◌==◌, nat_lt, if◌then◌else◌, slice_index, Result, Err, refl, ap, sym, ◌∙◌, subst}
 use Rattle.defs_text.specs.Position.{Position}
-use Rattle.defs_text.specs.Text.{is_empty}
+use Rattle.defs_text.specs.Text.{is_empty, has_no_nul}
 use Rattle.yaml_chars.specs.Class.{is_blank_or_breakz}
 use Rattle.defs_token.specs.Token.{Tok}
 use Rattle.yaml_tokens.specs.declared.problem.Fault.{Fault}
@@ -26,7 +26,6 @@ use Rattle.proof_lexers.specs.BlockEnds as block_ends
 use Rattle.proof_lexers.specs.HeaderEnds as headers
 use Rattle.proof_lexers.specs.HeaderEnds.{indicator_of}
 use Rattle.proof_lexers.proofs.Blocks.Ends as block_laws
-use Rattle.proof_lexers.specs.PlainEnds.{has_no_nul}
 use Rattle.proof_lexers.specs.Separations.{begins_separation}
 use Rattle.proof_cut.specs.Faults.{IsThere, is_shown}
 use Rattle.proof_cut.specs.Stands.{FaresAt}

@@ -1,7 +1,7 @@
 -- A token's refusal: what stands in the text.
 use Rattle.std.proofs.Common.{◌≡◌, ℕ, suc, ◌≤◌, List, [], ◌∷◌, ◌++◌, Bool, true, false, ◌||◌, ◌==◌, not, nat_le, nat_lt, length, if◌then◌else◌, None, Result, Ok, Err, refl, ap, sym, ◌∙◌, subst, arith}
 use Rattle.std.proofs.lemmas.Bool.Decides.{nat_tests}
-use Rattle.defs_text.specs.Text.{is_empty}
+use Rattle.defs_text.specs.Text.{is_empty, has_no_nul}
 use Rattle.defs_token.specs.Token.{Style, Tok}
 use Rattle.yaml_tokens.specs.declared.problem.Fault.{Fault}
 use Rattle.yaml_tokens.specs.declared.problem.Fault.TheVariants.{At}
@@ -25,7 +25,6 @@ use Rattle.model_scanner.specs.Document.{after_plain, context, node_start, may_f
 use Rattle.proof_lexers.specs.QuotedEnds as quoted_ends
 use Rattle.proof_lexers.specs.QuotedEnds.{IsBadEscape}
 use Rattle.proof_lexers.proofs.Quoted.ScanEnds.{scans_end}
-use Rattle.proof_lexers.specs.PlainEnds.{has_no_nul}
 use Rattle.proof_lexers.specs.PlainEnds as plain_ends
 use Rattle.proof_lexers.specs.Separations.{begins_separation}
 use Rattle.proof_lexers.proofs.Plain.Scalars as plain_laws

@@ -3,7 +3,7 @@ use Rattle.std.proofs.Common.{◌≡◌, ℕ, zero, suc, ◌<◌, ◌≤◌, Lis
 use Rattle.std.proofs.lemmas.Bool.{and_parts, eqb-true}
 use Rattle.std.proofs.lemmas.Bool.Decides.{nat_tests}
 use Rattle.defs_text.specs.Position.{Position, position_past, position_after}
-use Rattle.defs_text.specs.Text.{is_empty}
+use Rattle.defs_text.specs.Text.{is_empty, has_no_nul}
 use Rattle.defs_token.specs.Token.{Tok, Style, scalar}
 use Rattle.yaml_tokens.specs.declared.problem.Fault.{Fault}
 use Rattle.defs_text.specs.Classes.{space, is_blank, is_break, is_nul, is_at_end, are_marks, is_document_marker}
@@ -17,7 +17,7 @@ use Rattle.defs_token.specs.Piece.{IsPiece, IsBlockScalar}
 use Rattle.model_lexers.specs.Machine.{Read}
 use Rattle.model_lexers.specs.Block.{Block, block}
 use Rattle.proof_lexers.specs.BlockScan.{is_literal_style, without_spaces, further_position, read_block, read, shallow, tabbed}
-use Rattle.proof_lexers.specs.PlainEnds.{collection_of, has_no_nul}
+use Rattle.proof_lexers.specs.PlainEnds.{collection_of}
 use Rattle.proof_lexers.specs.BlockEnds.{BlockEndsAs, bad_header}
 use Rattle.proof_lexers.specs.BlockEnds as ends
 use Rattle.proof_lexers.specs.HeaderEnds.{indicator_of}

@@ -24,7 +24,7 @@ use Rattle.proof_lexers.proofs.Bridges.{same_break}
 use Rattle.proof_lexers.specs.QuotedScan.{value_of, ends_before, is_some}
 use Rattle.proof_lexers.specs.QuotedEnds.{QuotedEndsAs, reads, refuses}
 use Rattle.proof_lexers.proofs.Quoted.ScanEnds.{scans_end}
-use Rattle.proof_lexers.specs.PlainEnds.{has_no_nul}
+use Rattle.defs_text.specs.Text.{has_no_nul}
 use Rattle.proof_lexers.proofs.Plain.Turns.{same_feed, in_line_position, line_position}
 use Rattle.proof_cut.specs.PiecesRead.{ReadAs, QuotedIsRead}
 

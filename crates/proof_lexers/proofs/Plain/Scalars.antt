@@ -15,7 +15,8 @@ use Rattle.model_lexers.specs.Machine as machine
 use Rattle.model_lexers.specs.Machine.{Read}
 use Rattle.model_lexers.specs.Folding.{Folded, nothing, with_char, joined}
 use Rattle.model_lexers.specs.Plain.{inside, first, is_shallow, at_dash, plain_from, plain, starts, Plain}
-use Rattle.proof_lexers.specs.PlainEnds.{has_no_nul, collection_of, is_white, begins_solid, is_indented, IsPlainRefusal, by_column, by_dash, by_tab, PlainEndsAs, reads, refuses, IsRead, read, refused}
+use Rattle.defs_text.specs.Text.{has_no_nul}
+use Rattle.proof_lexers.specs.PlainEnds.{collection_of, is_white, begins_solid, is_indented, IsPlainRefusal, by_column, by_dash, by_tab, PlainEndsAs, reads, refuses, IsRead, read, refused}
 use Rattle.proof_lexers.specs.ScalarLaws.{PlainScalarsAreRead, PlainScansEndAsTheirTextSays}
 use Rattle.proof_lexers.proofs.Plain.Found.{after_text, after_more, Fails, dash, tab, after_tab, Found, found, fails, same_left, no_lead, content_char, solid_first, past_content}
 use Rattle.proof_lexers.proofs.Plain.Turns.{off_margin, in_line_position, in_line, dash_parts}

@@ -15,7 +15,8 @@ use Rattle.model_lexers.specs.Machine.{Read, at_marker}
 use Rattle.model_lexers.specs.Folding.{Folded}
 use Rattle.model_lexers.specs.Plain.{inside, between, tabs, can_be_plain, is_shallow, Plain}
 use Rattle.proof_lexers.proofs.Bridges.{same_break, same_blank}
-use Rattle.proof_lexers.specs.PlainEnds.{collection_of, is_white, has_no_nul, is_apart}
+use Rattle.defs_text.specs.Text.{has_no_nul}
+use Rattle.proof_lexers.specs.PlainEnds.{collection_of, is_white, is_apart}
 use Rattle.proof_lexers.proofs.Plain.Found.{dash, tab, after_tab, Found, fails}
 use Rattle.proof_lexers.proofs.Plain.Turns.{off_margin, as_deep, can_be, line_is, no_line, in_text, scan, in_line, after_blanks, at_line, at_tabs, at_feed, Scans, found_here, break_step, blank_step, no_tabs, still_inside, content_step, Outcome, stopped, went, dashed, outcome, ends_over, ends_comment}
 

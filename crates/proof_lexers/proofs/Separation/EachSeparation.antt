@@ -7,7 +7,7 @@ use Rattle.defs_text.specs.Classes.{is_blank, is_break, is_nul}
 use Rattle.defs_token.specs.Separation.{is_separation, past_separation}
 use Rattle.model_scanner.specs.State.{ScannerState}
 use Rattle.model_scanner.specs.Space.{between, skip}
-use Rattle.proof_lexers.specs.PlainEnds.{has_no_nul}
+use Rattle.defs_text.specs.Text.{has_no_nul}
 use Rattle.proof_lexers.specs.Separations.{begins_separation, after_separation, PassesAs, passes, refuses, IsPassed, passed, refused}
 use Rattle.proof_lexers.specs.ScalarLaws.{EachSeparationIsPassed}
 use Rattle.proof_lexers.proofs.Separation.Separations.{separations_are_passed}

@@ -1,7 +1,7 @@
 use Rattle.std.proofs.Common.{ap, ◌∙◌, ◌++◌}
 use Rattle.std.specs.Str.Iter.{chars_rest}
 use Rattle.std.specs.Str.{chars}
-use Rattle.yaml_rust2.specs.CharactersRead.{up_to_nul}
+use Rattle.yaml_rust2.specs.Text.{up_to_nul}
 use Rattle.yaml_rust2.specs.Parsed.{parsed}
 use Rattle.yaml_rust2.specs.TextReadAs.{IsAtStart}
 use Rattle.uses.specs.Anchors.{anchors_in}

@@ -1,5 +1,5 @@
 use Rattle.std.proofs.Common.{◌∙◌}
-use Rattle.yaml_chars.specs.Reading.{up_to_nul}
+use Rattle.defs_text.specs.Text.{up_to_nul}
 use Rattle.yaml_parser.specs.Parsed.{parsed}
 use Rattle.yaml_loader.specs.TextLoads.{LoadsText, LoadsOnly}
 use Rattle.yaml_loader.proofs.TextLemmas.{given_may_be, begins_given, answers, of_texts, of_text, of_cut, of_row, of_json, of_basic, of_layout, of_quoted}

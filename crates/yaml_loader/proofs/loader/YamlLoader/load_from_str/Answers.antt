@@ -1,7 +1,7 @@
 use Rattle.std.proofs.Common.{◌∙◌, ap}
 use Rattle.std.specs.Str.{chars}
 use Rattle.std.specs.Str.Iter.{chars_rest}
-use Rattle.yaml_chars.specs.Reading.{up_to_nul}
+use Rattle.defs_text.specs.Text.{up_to_nul}
 use Rattle.yaml_parser.specs.Parsed.{parsed}
 use Rattle.yaml_loader.specs.TextLoads.{LoadsText, LoadsOnly}
 use Rattle.yaml_loader.proofs.TextLemmas.{string_may_be, of_texts, of_text, of_cut, of_row, of_json, of_basic, of_layout, of_first_json, of_first_basic, of_first_layout, of_quoted, of_first_quoted}
