@@ -6,7 +6,7 @@ usage: json_out.py YAMLJSON [--seed N] [--count N] [--faults N] [--show N]
 Made values are written as YAML documents in many forms: block and flow collections, plain scalars, quoted ones and literal blocks. Of
 each document it is checked that
 
-- the line that `yamljson` prints is the text that `json.dumps` gives for the value, reals as they are written;
+- the line that `yamljson` prints is the text that `json.dumps` gives for the value, reals as they are written, and U+007F by an escape;
 - `json.loads` reads that line as the value, and the text of `yamljson --indent` too;
 - a document with a node that JSON cannot write gives the path of the first such node, its reason, and status 1, and prints nothing.
 
@@ -87,11 +87,16 @@ def first_fault(v):
     for step, child in enumerate(v) if isinstance(v, list) else v.items() if isinstance(v, dict) else []:
         found = first_fault(child)
         if found:
-            return "[" + json.dumps(step, ensure_ascii=False) + "]" + found[0], found[1]
+            return "[" + string(step) + "]" + found[0], found[1]
     return None
 
 
 # ---- values as JSON
+
+def string(v):
+    """A string or a number; U+007F has an escape in ours, and not in Python's."""
+    return json.dumps(v, ensure_ascii=False).replace("\x7f", "\\u007f")
+
 
 def compact(v):
     if isinstance(v, Real):
@@ -100,7 +105,7 @@ def compact(v):
         return "[" + ",".join(map(compact, v)) + "]"
     if isinstance(v, dict):
         return "{" + ",".join(compact(k) + ":" + compact(w) for k, w in v.items()) + "}"
-    return json.dumps(v, ensure_ascii=False)
+    return string(v)
 
 
 def indented(v, margin=0):

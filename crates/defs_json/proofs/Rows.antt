@@ -4,7 +4,8 @@ use Rattle.std.specs.Prelude.{codes, pos}
 use Rattle.std.specs.Fmt.{digits}
 use Rattle.defs_tree.specs.Tree.{Tree, items_of, pairs_of}
 use Rattle.defs_json.specs.JsonReal.{is_json_number, is_json_real}
-use Rattle.defs_json.specs.JsonText.{json_text, json_string, json_character}
+use Rattle.defs_tree.specs.Escapes.{written_character, double_quoted}
+use Rattle.defs_json.specs.JsonText.{json_text}
 use Rattle.defs_json.specs.Fault.{first_fault, index, key, is_no_number, has_other_key}
 
 -- ---- reals
@@ -51,8 +52,8 @@ minus_alone = refl
 
 -- ---- texts
 
-escapes : json_string (34 ∷ 92 ∷ 47 ∷ 8 ∷ 12 ∷ 10 ∷ 13 ∷ 9 ∷ 0 ∷ 31 ∷ 127 ∷ 0x2028 ∷ []) ≡ codes "\"\\\"\\\\/\\b\\f\\n\\r\\t\\u0000\\u001f\u{7f}\u{2028}\""
-unfolding json_character
+escapes : double_quoted (34 ∷ 92 ∷ 47 ∷ 8 ∷ 12 ∷ 10 ∷ 13 ∷ 9 ∷ 0 ∷ 31 ∷ 127 ∷ 0x2028 ∷ []) ≡ codes "\"\\\"\\\\/\\b\\f\\n\\r\\t\\u0000\\u001f\\u007f\u{2028}\""
+unfolding written_character
 escapes = refl
 
 -- `{a: [1, -2.50, null, true, []], b: {}}`
@@ -62,11 +63,11 @@ a_tree = Tree.hash (pairs_of (
     ∷ (Tree.string (codes "b"), Tree.hash (pairs_of [])) ∷ []))
 
 compact : json_text None 0 a_tree ≡ codes "{\"a\":[1,-2.50,null,true,[]],\"b\":{}}"
-unfolding a_tree json_character digits
+unfolding a_tree written_character digits
 compact = refl
 
 indented : json_text (Some 2) 0 a_tree ≡ codes "{\n  \"a\": [\n    1,\n    -2.50,\n    null,\n    true,\n    []\n  ],\n  \"b\": {}\n}"
-unfolding a_tree json_character digits
+unfolding a_tree written_character digits
 indented = refl
 
 -- ---- faults

@@ -1,14 +1,12 @@
 -- The text of a string is a string of JSON, and its value is the string.
 use Rattle.std.proofs.Common.{◌≡◌, ◌<◌, ℕ, List, [], ◌∷◌, ◌++◌, Bool, true, false, not, refl, sym, ap, ◌∙◌, arith, append_assoc, subst}
-use Rattle.std.specs.Prelude.{◌+◌, ◌/◌, ◌%◌, ◌==◌, nat_lt, if◌then◌else◌}
+use Rattle.std.specs.Prelude.{◌+◌, ◌/◌, ◌%◌, ◌==◌, ◌||◌, nat_lt, if◌then◌else◌}
 use Rattle.std.specs.Char.{digit_value}
-use Rattle.std.proofs.lemmas.Bool.{eqb-true, lt-ltb, ltb-true}
-use Rattle.std.proofs.lemmas.Bool.{and_parts, and_from}
+use Rattle.std.proofs.lemmas.Bool.{eqb-true, lt-ltb, and_parts, and_from, or_parts}
 use Rattle.std.proofs.lemmas.Bool.Decides.{nat_tests}
-use Rattle.defs_tree.specs.Escapes.{escaped_code, hexadecimal_digit}
+use Rattle.defs_tree.specs.Escapes.{escaped_code, hexadecimal_digit, written_character, written_escapes, double_quoted}
 use Rattle.defs_layout.specs.JsonString.{is_surrogate, four_digits, is_hex_digit, Piece, itself, short, unicode, Short, quotation_mark, reverse_solidus, backspace, form_feed, new_line, return, tabulator, spell_piece, spell_pieces, spell_string, letter_of, character_of, value_of, unescaped, is_unescaped, is_piece, are_pieces}
 use Rattle.defs_layout.specs.Marks.{backslash}
-use Rattle.defs_json.specs.JsonText.{json_character, json_characters, json_string}
 use Rattle.defs_json.specs.HasJson.{is_character, are_characters}
 
 -- how a character is written
@@ -21,7 +19,7 @@ piece_of c =
     else (if c == 10 then short new_line
     else (if c == 12 then short form_feed
     else (if c == 13 then short return
-    else (if nat_lt c 32 then unicode 48 48 (hexadecimal_digit (c / 16)) (hexadecimal_digit (c % 16))
+    else (if nat_lt c 32 || (c == 127) then unicode 48 48 (hexadecimal_digit (c / 16)) (hexadecimal_digit (c % 16))
     else itself c)))))))
 
 -- its text, its value, and that it is one
@@ -30,7 +28,7 @@ record IsWritten (p : Piece) (text : List ℕ) (c : ℕ) : Type 0 where
   value : value_of p ≡ c
   fits : is_piece p ≡ true
 
--- ---- the digits of a control character
+-- ---- the digits of a code
 
 low_digit : (n : ℕ) → n < 16 → nat_lt n 10 ≡ true → digit_value (48 + n) ≡ n
 low_digit n h e = grind (arith, nat_tests)
@@ -48,19 +46,18 @@ digit_back n h = by (nat_lt n 10) refl
 digit_fits : (n : ℕ) → n < 16 → is_hex_digit (hexadecimal_digit n) ≡ true
 digit_fits n h = ap (λ d. nat_lt d 16) (digit_back n h) ∙ lt-ltb n 16 h
 
-low_no_surrogate : (c : ℕ) → c < 32 → not (is_surrogate c) ≡ true
+low_no_surrogate : (c : ℕ) → c < 256 → not (is_surrogate c) ≡ true
 low_no_surrogate c h = grind (arith, nat_tests)
 
-control : (c : ℕ) → nat_lt c 32 ≡ true → IsWritten (unicode 48 48 (hexadecimal_digit (c / 16)) (hexadecimal_digit (c % 16))) (escaped_code c) c
+control : (c : ℕ) → c < 256 → IsWritten (unicode 48 48 (hexadecimal_digit (c / 16)) (hexadecimal_digit (c % 16))) (escaped_code c) c
 control c h =
-    let small : c < 32 = ltb-true c 32 h in
     let high : c / 16 < 16 = omega arith in
     let low : c % 16 < 16 = omega arith in
     let value : four_digits 48 48 (hexadecimal_digit (c / 16)) (hexadecimal_digit (c % 16)) ≡ c = rw (digit_back (c / 16) high, digit_back (c % 16) low) (omega arith) in
     record {
       spelt = λ r. refl;
       value = value;
-      fits = and_from _ _ (and_from _ _ (digit_fits (c / 16) high) (digit_fits (c % 16) low)) (ap (λ n. not (is_surrogate n)) value ∙ low_no_surrogate c small);
+      fits = and_from _ _ (and_from _ _ (digit_fits (c / 16) high) (digit_fits (c % 16) low)) (ap (λ n. not (is_surrogate n)) value ∙ low_no_surrogate c h);
     }
 
 itself_written : (c : ℕ) → (c == 34) ≡ false → (c == 92) ≡ false → nat_lt c 32 ≡ false → is_character c ≡ true → IsWritten (itself c) (c ∷ []) c
@@ -80,8 +77,8 @@ chosen c d p q text other is later = by (c == d) refl
 short_written : (s : Short) → IsWritten (short s) (backslash ∷ letter_of s ∷ []) (character_of s)
 short_written s = record { spelt = λ r. refl; value = refl; fits = refl }
 
-written : (c : ℕ) → is_character c ≡ true → IsWritten (piece_of c) (json_character c) c
-unfolding piece_of json_character
+written : (c : ℕ) → is_character c ≡ true → IsWritten (piece_of c) (written_character c) c
+unfolding piece_of written_character
 written c h =
     chosen c 34 _ _ _ _ (short_written quotation_mark)
     λ a. chosen c 92 _ _ _ _ (short_written reverse_solidus)
@@ -90,12 +87,15 @@ written c h =
     λ _. chosen c 10 _ _ _ _ (short_written new_line)
     λ _. chosen c 12 _ _ _ _ (short_written form_feed)
     λ _. chosen c 13 _ _ _ _ (short_written return)
-    λ _. by a b (nat_lt c 32) refl
+    λ _. by a b (nat_lt c 32 || (c == 127)) refl
   where
-    by : (c == 34) ≡ false → (c == 92) ≡ false → (t : Bool) → nat_lt c 32 ≡ t
+    small : (nat_lt c 32 || (c == 127)) ≡ true → c < 256
+    small e = grind (arith, nat_tests)
+
+    by : (c == 34) ≡ false → (c == 92) ≡ false → (t : Bool) → (nat_lt c 32 || (c == 127)) ≡ t
         → IsWritten (if t then unicode 48 48 (hexadecimal_digit (c / 16)) (hexadecimal_digit (c % 16)) else itself c) (if t then escaped_code c else c ∷ []) c
-    by a b true e = control c e
-    by a b false e = itself_written c a b e h
+    by a b true e = control c (small e)
+    by a b false e = itself_written c a b (or_parts (nat_lt c 32) (c == 127) e).0 h
 
 -- ---- a text
 
@@ -104,7 +104,7 @@ pieces_of [] = []
 pieces_of (c ∷ s) = piece_of c ∷ pieces_of s
 
 pub record AreWritten (s : List ℕ) : Type 0 where
-  pub spelt : (r : List ℕ) → spell_pieces (pieces_of s) r ≡ json_characters s ++ r
+  pub spelt : (r : List ℕ) → spell_pieces (pieces_of s) r ≡ written_escapes s ++ r
   pub value : unescaped (pieces_of s) ≡ s
   pub fit : are_pieces (pieces_of s) ≡ true
 
@@ -116,12 +116,12 @@ all_written (c ∷ s) h =
     let one = written c parts.0 in
     let rest = all_written s parts.1 in
     record {
-      spelt = λ r. one.spelt (spell_pieces (pieces_of s) r) ∙ ap (λ t. json_character c ++ t) (rest.spelt r) ∙ sym (append_assoc (json_character c) (json_characters s) r);
+      spelt = λ r. one.spelt (spell_pieces (pieces_of s) r) ∙ ap (λ t. written_character c ++ t) (rest.spelt r) ∙ sym (append_assoc (written_character c) (written_escapes s) r);
       value = (λ i. one.value i ∷ rest.value i);
       fit = and_from _ _ one.fits rest.fit;
     }
 
 -- between quotation marks
-pub string_spelt : (s r : List ℕ) → are_characters s ≡ true → spell_string (pieces_of s) r ≡ json_string s ++ r
+pub string_spelt : (s r : List ℕ) → are_characters s ≡ true → spell_string (pieces_of s) r ≡ double_quoted s ++ r
 string_spelt s r h =
-    ap (λ t. 34 ∷ t) ((all_written s h).spelt (34 ∷ r) ∙ sym (append_assoc (json_characters s) (34 ∷ []) r))
+    ap (λ t. 34 ∷ t) ((all_written s h).spelt (34 ∷ r) ∙ sym (append_assoc (written_escapes s) (34 ∷ []) r))

@@ -1,33 +1,10 @@
 -- The JSON text of a tree: without white space, or indented. RFC 8259, sections 2 to 7.
-use Rattle.std.specs.Prelude.{ℕ, ◌+◌, ◌==◌, nat_lt, if◌then◌else◌, Option, Some, None, unwrap_or, List, [], ◌∷◌, ◌++◌, replicate, flat_map, codes}
+use Rattle.std.specs.Prelude.{ℕ, ◌+◌, Option, Some, None, unwrap_or, List, [], ◌∷◌, ◌++◌, replicate, codes}
 use Rattle.std.specs.Fmt.{signed_decimal}
 use Rattle.defs_tree.specs.Tree.{Tree, real, integer, string, boolean, array, hash, alias, null, bad_value, Items, no_items, item, Pairs, no_pairs, pair}
-use Rattle.defs_tree.specs.Escapes.{escaped_code}
+use Rattle.defs_tree.specs.Escapes.{double_quoted}
 use Rattle.defs_tree.specs.Spelling.{boolean_spelling}
-use Rattle.defs_layout.specs.Marks.{line_feed, space, double_quote}
-
--- ---- strings
-
--- a character in a string: a quotation mark, a reverse solidus and the control characters by an escape, all else as it stands
-unfoldable pub json_character : ℕ → List ℕ
-json_character c =
-    if c == 34 then codes "\\\""
-    else (if c == 92 then codes "\\\\"
-    else (if c == 8 then codes "\\b"
-    else (if c == 9 then codes "\\t"
-    else (if c == 10 then codes "\\n"
-    else (if c == 12 then codes "\\f"
-    else (if c == 13 then codes "\\r"
-    else (if nat_lt c 32 then escaped_code c
-    else c ∷ [])))))))
-
--- the characters of a text, one after the other
-abbrev pub json_characters : List ℕ → List ℕ
-json_characters text = flat_map json_character text
-
--- the text between quotation marks
-abbrev pub json_string : List ℕ → List ℕ
-json_string text = double_quote ∷ json_characters text ++ double_quote ∷ []
+use Rattle.defs_layout.specs.Marks.{line_feed, space}
 
 -- ---- white space
 
@@ -48,9 +25,9 @@ key_end (Some width) = codes ": "
 
 -- ---- trees
 
--- a key: a string
+-- a key: a string. It is written as a dump writes a text in double quotes: each of its escapes is one of JSON.
 abbrev pub key_text : Tree → List ℕ
-key_text (string s) = json_string s
+key_text (string s) = double_quoted s
 key_text _ = []
 
 abbrev mutual
@@ -58,7 +35,7 @@ abbrev mutual
   pub json_text : (indentation : Option ℕ) → (margin : ℕ) → Tree → List ℕ
   json_text indentation margin (real s) = s
   json_text indentation margin (integer z) = signed_decimal z
-  json_text indentation margin (string s) = json_string s
+  json_text indentation margin (string s) = double_quoted s
   json_text indentation margin (boolean b) = boolean_spelling b
   json_text indentation margin (array no_items) = codes "[]"
   json_text indentation margin (array (item t ts)) =

@@ -3,7 +3,7 @@ use Rattle.std.proofs.Common.{◌≡◌, ℕ, ◌<◌, ◌≤◌, List, [], ◌�
 use Rattle.std.proofs.lemmas.Bool.{and_parts, eqb-true}
 use Rattle.std.proofs.lemmas.Bool.Decides.{nat_tests}
 use Rattle.defs_text.specs.Position.{Position, position_after}
-use Rattle.defs_text.specs.Text.{is_empty}
+use Rattle.defs_text.specs.Text.{is_empty, has_no_nul}
 use Rattle.defs_text.specs.Classes.{is_break, is_blank, is_one_of}
 use Rattle.yaml_tokens.specs.declared.problem.Fault.{Fault}
 use Rattle.defs_scalar.specs.FlowScalar.{plain_value}
@@ -64,7 +64,7 @@ record PlainAs (ctx : Context) (p : Position) (text : List ℕ) (x : machine.Rea
   end_is : x.position ≡ position_after (position_after p piece (gap ++ x.rest)) gap x.rest
   fits : PlainFits ctx p piece gap x.rest
 
-plain_as : (ctx : Context) (p : Position) (text : List ℕ) (x : machine.Read Plain) → plains.has_no_nul text ≡ true → begins_solid text ≡ true → is_indented ctx p ≡ true → plain ctx text p ≡ Ok x → PlainAs ctx p text x
+plain_as : (ctx : Context) (p : Position) (text : List ℕ) (x : machine.Read Plain) → has_no_nul text ≡ true → begins_solid text ≡ true → is_indented ctx p ≡ true → plain ctx text p ≡ Ok x → PlainAs ctx p text x
 plain_as ctx p text x none begins indented e = by (plain ctx text p) refl (scans_end ctx text p none begins indented)
   where
     by : (y : Result (machine.Read Plain) Fault) → plain ctx text p ≡ y → PlainEndsAs ctx p text y → PlainAs ctx p text x

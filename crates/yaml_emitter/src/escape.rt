@@ -22,8 +22,8 @@ impl fmt::Display for DoubleQuoted<'_> {
     }
 }
 
-/// Writes a text in double quotes.
-pub(crate) fn write_double_quoted<W: Writer>(out: &mut W, text: &str) -> fmt::Result
+/// Writes a text in double quotes. A quote, a backslash and the control characters are escaped.
+pub fn write_double_quoted<W: Writer>(out: &mut W, text: &str) -> fmt::Result
     ensures { Writes W.put_gives W.put_leaves out.old result (double_quoted (chars text.now)) out.new }
 {
     put_ascii(out, "\"")?;

@@ -17,6 +17,6 @@ mod walk;
 mod writer;
 
 pub use emitter::{EmitError, EmitResult, YamlEmitter};
-pub use escape::DoubleQuoted;
+pub use escape::{DoubleQuoted, write_double_quoted};
 pub use fmt_writer::FmtWriter;
-pub use writer::Writer;
+pub use writer::{Writer, put_ascii};

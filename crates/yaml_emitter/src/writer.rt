@@ -65,7 +65,7 @@ pub(crate) fn put_char<W: Writer>(out: &mut W, c: char) -> fmt::Result
 }
 
 /// Appends a text of ASCII characters alone.
-pub(crate) fn put_ascii<W: Writer>(out: &mut W, text: &str) -> fmt::Result
+pub fn put_ascii<W: Writer>(out: &mut W, text: &str) -> fmt::Result
     requires { IsTrue (is_low text.now) }
     ensures { Writes W.put_gives W.put_leaves out.old result text.now out.new }
 {

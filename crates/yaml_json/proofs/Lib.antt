@@ -2,6 +2,5 @@ pub mod FindLemmas
 pub mod GivenLemmas
 pub mod LeftLemmas
 pub mod NumberLemmas
-pub mod RunLemmas
 pub mod WhiteLemmas
 pub mod ValueLemmas

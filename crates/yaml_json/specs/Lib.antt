@@ -2,7 +2,6 @@ pub mod Found
 pub mod Given
 pub mod Left
 pub mod Outcome
-pub mod Runs
 pub use Rattle.defs_json.specs.Fault
 pub use Rattle.defs_json.specs.HasJson
 pub use Rattle.defs_json.specs.JsonReal

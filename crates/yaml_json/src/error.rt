@@ -1,7 +1,7 @@
 //! Why a tree was not written.
-use crate::string::write_string;
 use std::fmt;
 use thiserror::Error;
+use yaml_emitter::write_double_quoted;
 
 /// Why a tree was not written to its end.
 #[derive(Debug, Drop, Error)]
@@ -67,7 +67,7 @@ fn write_step<W: fmt::Write>(f: &mut fmt::Formatter<W>, step: &Step) -> fmt::Res
     f.write_str("[")?;
     match step {
         Step::Index(index) => write!(f, "{index}")?,
-        Step::Key(key) => write_string(f, key.as_str())?,
+        Step::Key(key) => write_double_quoted(f, key.as_str())?,
     }
     f.write_str("]")
 }

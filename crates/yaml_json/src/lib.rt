@@ -15,10 +15,8 @@ mod error;
 mod find;
 pub mod laws;
 mod number;
-mod string;
 mod value;
 mod white;
-mod writer;
 
 ghost use Rattle.std.specs.Prelude.{◌≡◌, ◌*◌, ◌≤◌, ◌^◌, None, Some, OnOk, IfErr};
 ghost use Rattle.defs_json.specs.HasJson.{HasJson, nesting};

@@ -10,11 +10,9 @@ ghost use Rattle.yaml_json.specs.Left.{IsTooWide, items_left, members_left, scal
 ghost use Rattle.yaml_json.specs.Given.{IsGiven, IsScalarGiven, IsKeyGiven};
 ghost use Rattle.yaml_tree.specs.View.{view, array_tree, hash_tree};
 
-use crate::string::write_string;
 use crate::white::{begin_entry, deeper, end_key, new_line};
-use crate::writer::put_ascii;
 use std::fmt;
-use yaml_emitter::Writer;
+use yaml_emitter::{Writer, put_ascii, write_double_quoted};
 use yaml_tree::{Array, Hash, Yaml};
 
 /// Writes a value. An alias and a bad value have no text, nor has a key that is no string.
@@ -44,7 +42,7 @@ fn write_scalar<W: Writer>(out: &mut W, node: &Yaml) -> fmt::Result
     match node {
         Yaml::Real(text) => out.put(text.as_str()),
         Yaml::Integer(number) => write_integer(out, *number),
-        Yaml::String(text) => write_string(out, text.as_str()),
+        Yaml::String(text) => write_double_quoted(out, text.as_str()),
         Yaml::Boolean(true) => put_ascii(out, "true"),
         Yaml::Boolean(false) => put_ascii(out, "false"),
         Yaml::Null => put_ascii(out, "null"),
@@ -149,7 +147,7 @@ fn write_key<W: Writer>(out: &mut W, key: &Yaml) -> fmt::Result
     ensures text { Writes W.put_gives W.put_leaves out.old result (key_text (view key.now)) out.new }
 {
     match key {
-        Yaml::String(text) => write_string(out, text.as_str()),
+        Yaml::String(text) => write_double_quoted(out, text.as_str()),
         _ => Ok(()),
     }
 }

@@ -4,9 +4,8 @@ ghost use Rattle.defs_json.specs.JsonText.{deeper, new_line, key_end};
 ghost use Rattle.yaml_emitter.specs.Writing.{Writes};
 ghost use Rattle.yaml_json.specs.Left.{before_entry};
 
-use crate::writer::put_ascii;
 use std::fmt;
-use yaml_emitter::Writer;
+use yaml_emitter::{Writer, put_ascii};
 
 /// The spaces that one call writes.
 const MOST: usize = 64;

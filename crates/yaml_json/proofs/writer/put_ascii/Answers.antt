@@ -1,6 +1,0 @@
-use Rattle.yaml_emitter.proofs.TextLemmas.{low_chars}
-use Rattle.yaml_emitter.proofs.WritingLemmas.{writes_as}
-use Rattle.yaml_json.proofs.writer.put_ascii.Goals as goal
-
-pub returns : goal.returns
-returns g c = writes_as (low_chars c.args.text.now c.requires) c.put.ensures
