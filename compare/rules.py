@@ -66,22 +66,25 @@ def without_pairs(tokens):
     return out
 
 
-def key_before(out):
-    """Where the key of a `:` that comes next begins, or the end."""
-    depth = 0
-    for j in range(len(out) - 1, -1, -1):
-        what = out[j].what
-        if what in ("FlowMappingEnd", "FlowSequenceEnd"):
-            depth += 1
-        elif what in ("FlowMappingStart", "FlowSequenceStart"):
-            if depth == 0:
-                return None
-            depth -= 1
-        elif depth == 0 and what in ("Value", "FlowEntry"):
-            return None
-        elif depth == 0 and what == "Key":
-            return j
-    return None
+def keys_of(tokens):
+    """The key of each `:`, by the place of the `:` in these tokens."""
+    keys, waiting = {}, [None]
+    for i, t in enumerate(tokens):
+        if t.what in ("FlowMappingStart", "FlowSequenceStart"):
+            waiting.append(None)
+        elif t.what in ("FlowMappingEnd", "FlowSequenceEnd") and len(waiting) > 1:
+            waiting.pop()
+        elif t.what == "Key":
+            waiting[-1] = t
+        elif t.what == "Value":
+            keys[i], waiting[-1] = waiting[-1], None
+        elif t.what == "FlowEntry":
+            waiting[-1] = None
+    return keys
+
+
+def is_explicit(text, key):
+    return text[key.index:key.index + 1] == "?" and (text[key.index + 1:key.index + 2] or "\0") in BLANKS
 
 
 def after_colon(text, t):
@@ -94,8 +97,10 @@ def after_colon(text, t):
 
 def with_one_flag(text, tokens):
     """The tokens as they are with one flag for all levels; and the places of the `:`s, each with whether it opens a pair."""
+    tokens = without_pairs(tokens)
+    keys = keys_of(tokens)
     out, level, started, implicit, colons = [], 0, False, False, {}
-    for t in without_pairs(tokens):
+    for i, t in enumerate(tokens):
         if t.what in ("FlowSequenceEnd", "FlowMappingEnd", "FlowEntry"):
             if t.what != "FlowEntry" and level:
                 level -= 1
@@ -106,7 +111,7 @@ def with_one_flag(text, tokens):
         if t.what in ("FlowSequenceStart", "FlowMappingStart"):
             level += 1
             started = started or t.what == "FlowMappingStart"
-        if t.what == "Key" and level and text[t.index:t.index + 1] == "?" and (text[t.index + 1:t.index + 2] or "\0") in BLANKS:
+        if t.what == "Key" and level and is_explicit(text, t):
             started = True
         if t.what == "Value":
             implicit = level > 0 and not started
@@ -114,9 +119,8 @@ def with_one_flag(text, tokens):
             if implicit:
                 step = after_colon(text, t)
                 start = Token(t.text()); start.what = "FlowMappingStart"; start.index += step; start.col += step
-                j = key_before(out)
-                if j is not None and not (text[out[j].index:out[j].index + 1] == "?" and (text[out[j].index + 1:out[j].index + 2] or "\0") in BLANKS):
-                    out.insert(j, start)
+                if keys[i] and not is_explicit(text, keys[i]):
+                    out.insert(next(j for j, other in enumerate(out) if other is keys[i]), start)
                 else:
                     out.append(start)
         out.append(t)
