@@ -57,6 +57,7 @@ impl<T: Iterator<Item = char>> Model for Source<T> {
 }
 
 impl<T: Iterator<Item = char>> Source<T> {
+    /// The characters of an iterator that was not asked yet.
     pub fn new(iter: T) -> Self
         requires can { T.can_next iter }
         requires finite { IsFinite (T.remaining iter) }

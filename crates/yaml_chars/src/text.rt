@@ -21,6 +21,7 @@ impl Model for Text {
 }
 
 impl Text {
+    /// The empty text. It takes no memory.
     #[tactic(auto, using(crate::proofs::TextLemmas::chars_nil_of))]
     pub fn new(alloc: Global) -> Self
         ensures { result ≡ [] }
@@ -50,6 +51,7 @@ impl Text {
         Ok(())
     }
 
+    /// Makes the text empty, and keeps its memory.
     #[tactic(auto, using(crate::proofs::TextLemmas::chars_nil_of))]
     pub fn clear(&mut self)
         ensures { self.new ≡ [] }
@@ -66,6 +68,7 @@ impl Text {
         mem::replace(self, Text::new(alloc))
     }
 
+    /// Whether the text has no character.
     #[tactic(auto, using(crate::proofs::TextLemmas::is_nil_chars))]
     pub fn is_empty(&self) -> bool
         ensures { result ≡ is_empty self.now }
@@ -73,6 +76,7 @@ impl Text {
         self.inner.is_empty()
     }
 
+    /// The text as a `String`.
     #[tactic(auto, unfolding(defs_text::specs::Text::string_chars))]
     pub fn into_string(self) -> String
         ensures { string_chars result ≡ self }

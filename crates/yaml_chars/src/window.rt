@@ -45,6 +45,7 @@ impl<T: Iterator<Item = char>> Model for Window<T> {
 }
 
 impl<T: Iterator<Item = char>> Window<T> {
+    /// A window at the start of a text. Nothing is read yet.
     pub fn new(iter: T) -> Self
         requires can { T.can_next iter }
         requires finite { IsFinite (T.remaining iter) }
@@ -101,6 +102,7 @@ impl<T: Iterator<Item = char>> Window<T> {
         self.ring.get(i)
     }
 
+    /// The next character, or NUL after the end.
     pub fn ch(&self) -> char
         requires { 0 < self.now.ahead }
         ensures sees { Sees self.now (λ a. result ≡ slice_index a 0) }

@@ -54,9 +54,15 @@ impl From<io::Error> for LoadError {
 /// # Example
 ///
 /// ```
-/// let mut decoder = YamlDecoder::read(alloc, bytes);
+/// let bytes = b"\xFF\xFEa\0:\0 \01\0"; // UTF-16, little-endian: `a: 1`
+/// let mut decoder = YamlDecoder::read(alloc, bytes.as_slice());
 /// decoder.encoding_trap(YAMLDecodingTrap::Replace);
-/// let documents = decoder.decode()?;
+/// match decoder.decode() {
+///     Ok(documents) => assert_eq!(rt; documents.len(), 1),
+///     Err(LoadError::IO(error)) => println!(rt; "cannot be read: {error}")?,
+///     Err(LoadError::Scan(fault)) => println!(rt; "no YAML: {fault}")?,
+///     Err(LoadError::Decode(message)) => println!(rt; "no text: {message}")?,
+/// }
 /// ```
 #[derive(Drop)]
 pub struct YamlDecoder<T: Read> {
@@ -101,8 +107,8 @@ impl<T: Read> YamlDecoder<T> {
     }
 
     /// Reads the source to its end, and loads the text of its bytes. Encoding, characters and malformations are as
-    /// [`text_of`] says, documents as [`YamlLoader::load_from_str`] says. If the contract of the source says nothing
-    /// of its bytes, the text is that of some bytes. A second call reads on from where the source stands.
+    /// [`text_of`] says, documents as [`YamlLoader::load_from_str`] says. A second call reads on from where the source
+    /// stands. A proof learns which bytes these were only if the contract of the source says so.
     ///
     /// # Errors
     ///

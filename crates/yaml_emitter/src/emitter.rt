@@ -37,6 +37,20 @@ pub type EmitResult = Result<(), EmitError>;
 
 /// Writes trees as YAML to a writer. Two settings, [`compact`](YamlEmitter::compact) and
 /// [`multiline_strings`](YamlEmitter::multiline_strings), choose one of four forms.
+///
+/// # Example
+///
+/// ```
+/// let documents = YamlLoader::load_from_str(alloc, "- [a]\n- \"b\\nc\"")?;
+/// let document = documents.first().ok_or("no document")?;
+/// let mut text = String::new(alloc);
+/// let mut emitter = YamlEmitter::new(&mut text);
+/// emitter.compact(false);
+/// emitter.multiline_strings(true);
+/// assert!(rt; !emitter.is_compact() && emitter.is_multiline_strings());
+/// emitter.dump(document)?;
+/// assert_eq!(rt; text.as_str(), "---\n-\n  - a\n- |-\n  b\n  c");
+/// ```
 #[derive(Drop)]
 pub struct YamlEmitter<'a, W: Writer> {
     writer: &'a mut W,

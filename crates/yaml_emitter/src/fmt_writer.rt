@@ -7,6 +7,17 @@ use std::fmt;
 
 /// A writer over any `fmt::Write`: each part of the text is one call of its `write_str`. After a refused part nothing
 /// is known of what was written.
+///
+/// # Example
+///
+/// ```
+/// let documents = YamlLoader::load_from_str(alloc, "[a, b]")?;
+/// let document = documents.first().ok_or("no document")?;
+/// let mut writer = FmtWriter::new(String::new(alloc)); // any `fmt::Write`
+/// YamlEmitter::new(&mut writer).dump(document)?;
+/// let text = writer.into_inner();
+/// assert_eq!(rt; text.as_str(), "---\n- a\n- b");
+/// ```
 #[derive(Drop)]
 pub struct FmtWriter<W> {
     inner: W,

@@ -6,9 +6,12 @@ ghost use Rattle.yaml_emitter.specs.Writing.{Wrote, Stopped, Writes};
 
 use std::fmt;
 
-/// Takes the text of a dump, part by part. `String` is a writer. For another type implement `put`, with two relations
-/// that say what a call does to the writer and what a refused call leaves. Two more relations say the same of several
-/// calls, and two laws connect them.
+/// Takes the text of a dump, part by part. `String` and `fmt::Formatter` are writers, and [`FmtWriter`](crate::FmtWriter)
+/// makes one of any `fmt::Write`.
+///
+/// For another type implement `put`. Its contract is made of ghost items: `put_gives` says what a call that takes the part
+/// does to the writer, and `put_leaves` what a refused call leaves. `calls_give` and `calls_leave` say the same of several
+/// calls, and the laws `wrote` and `stopped` show that they follow from the first two.
 pub trait Writer {
     // Relates the writer before a call of `put` that returns `Ok`, the characters, and the writer after it.
     ghost put_gives: { Self → List ℕ → Self → Type 0 };

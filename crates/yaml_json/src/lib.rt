@@ -6,8 +6,13 @@
 //!
 //! ```
 //! let documents = YamlLoader::load_from_str(alloc, "{name: x, ports: [80, 443], ratio: 2.50}")?;
+//! let document = documents.first().ok_or("no document")?;
 //! let mut text = String::new(alloc);
-//! write_json(alloc, documents.first()?, &mut text)?; // {"name":"x","ports":[80,443],"ratio":2.50}
+//! write_json(alloc, document, &mut text)?;
+//! assert_eq!(rt;
+//!     text.as_str(),
+//!     r#"{"name":"x","ports":[80,443],"ratio":2.50}"#
+//! );
 //! ```
 #![tactic(auto)]
 

@@ -18,7 +18,9 @@ use yaml_tokens::{Fault, Problem};
 /// A plain scalar's text, and whether it ended after a break, where a key may follow.
 #[derive(Drop)]
 pub struct Plain {
+    /// Its text, with its lines folded.
     pub text: String,
+    /// Whether it ended after a break.
     pub leading: bool,
 }
 

@@ -16,15 +16,20 @@ use yaml_scanner_state::Stack;
 /// An open collection: its anchor's number, and how large it is so far.
 #[derive(Clone, Copy, Debug)]
 pub struct Opened {
+    /// The number of its anchor, or 0.
     pub anchor: usize,
+    /// How large it is so far.
     pub extent: Extent,
 }
 
 /// Why an event is not taken.
 #[derive(Clone, Copy, Debug)]
 pub enum Excess {
+    /// There would be too many levels.
     Levels,
+    /// The size would be too large.
     Size,
+    /// Memory for the count was refused.
     OutOfMemory,
 }
 

@@ -42,6 +42,7 @@ impl MarkedEventReceiver for Guard {
 }
 
 impl Guard {
+    /// Nothing was counted yet. It takes no memory.
     pub fn new(alloc: Global, limits: Limits) -> Guard
         ensures loader { loader_of result.loader ≡ new_loader }
         ensures no_fault { kept_fault result.loader ≡ None }

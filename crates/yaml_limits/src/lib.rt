@@ -5,7 +5,13 @@
 //! as a copy of its node. [`load_with_limits`] refuses both:
 //!
 //! ```
-//! let documents = load_with_limits(alloc, text, Limits::for_text(text))?;
+//! let text = "- &a [x, y]\n- *a\n";
+//! match load_with_limits(alloc, text, Limits::for_text(text)) {
+//!     Ok(documents) => assert_eq!(rt; documents.len(), 1), // what `load_from_str` gives
+//!     Err(LimitsError::Scan(fault)) => println!(rt; "no YAML: {fault}")?,
+//!     Err(LimitsError::Levels(position)) => println!(rt; "too deep in line {}", position.line())?,
+//!     Err(LimitsError::Size(position)) => println!(rt; "too large in line {}", position.line())?,
+//! }
 //! ```
 //!
 //! - `levels` limits how deep nodes stand one in another, and so the stack of each call that recurses on the trees:

@@ -27,7 +27,9 @@ impl YamlLoader {
     ///
     /// ```
     /// let documents = YamlLoader::load_from_str(alloc, "a: [1, two]")?;
-    /// let first = documents.first()?.get_key("a")?.get_index(0)?.as_i64(); // Some(1)
+    /// let list = documents.first().and_then(|document| document.get_key("a"));
+    /// let item = list.and_then(|list| list.get_index(0));
+    /// assert_eq!(rt; item, Some(&Yaml::Integer(1)));
     /// ```
     ///
     /// The documents are what the text means by the definitions alone: a text has at most one row of tokens, and means at
@@ -75,7 +77,15 @@ impl YamlLoader {
     /// Loads all documents of the characters that an iterator gives, up to its first `None` or NUL. After that the
     /// iterator is not asked again. Errors and promises are those of [`YamlLoader::load_from_str`].
     ///
-    /// Conditions: the iterator may be asked, ends, and gives fewer than 2^63 characters.
+    /// Conditions, which a proof must show: the iterator can be asked, comes to an end, and gives fewer than 2^63 characters.
+    /// An iterator over a text in memory, such as `text.chars()`, meets them.
+    ///
+    /// # Example
+    ///
+    /// ```
+    /// let documents = YamlLoader::load_from_iter(alloc, "- a\n---\n- b\n".chars())?;
+    /// assert_eq!(rt; documents.len(), 2);
+    /// ```
     pub fn load_from_iter<I: Iterator<Item = char> + Drop>(
         alloc: Global,
         source: I,
@@ -101,6 +111,15 @@ impl YamlLoader {
     }
 
     /// Loads all documents from where a parser stands to the end of the stream. An event that was peeked comes first.
+    ///
+    /// # Example
+    ///
+    /// ```
+    /// let text = "%TAG !e! tag:e.org,2000:\n---\n!e!a b\n---\n!e!a c\n";
+    /// let mut parser = Parser::new_from_str(alloc, text).keep_tags(true);
+    /// let documents = YamlLoader::load_from_parser(alloc, &mut parser)?;
+    /// assert_eq!(rt; documents.len(), 2);
+    /// ```
     ///
     /// # Errors
     ///

@@ -31,6 +31,21 @@ pub(crate) enum Course {
 /// A loader that events are pushed into has one tree for each finished document. A fault is kept: each later event
 /// gets the same fault, and the documents stay. A key that comes twice in its mapping is noted; later events are
 /// ignored, and only the loads return it as a fault.
+///
+/// # Example
+///
+/// ```
+/// // `Counted` hands each event to its loader.
+/// let mut counted = Counted {
+///     loader: YamlLoader::default(alloc),
+///     events: 0,
+/// };
+/// Parser::new_from_str(alloc, "[a, b]").load(&mut counted, true)?;
+/// assert_eq!(rt; counted.events, 8);
+/// assert_eq!(rt; counted.loader.documents().len(), 1);
+/// let documents = counted.loader.into_documents()?;
+/// assert_eq!(rt; documents.len(), 1);
+/// ```
 #[derive(Drop)]
 pub struct YamlLoader {
     pub(crate) reading: Reading,

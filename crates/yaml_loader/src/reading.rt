@@ -32,7 +32,9 @@ pub struct Reading {
 /// Why an event is not read.
 #[derive(Clone, Copy, Debug)]
 pub enum Refusal {
+    /// Memory was refused.
     OutOfMemory,
+    /// The event cannot come after those before it.
     OutOfNesting,
     /// A mapping has the key already. The mapping stays open, and the key is its last.
     RepeatedKey,

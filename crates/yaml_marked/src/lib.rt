@@ -5,10 +5,10 @@
 //!
 //! ```
 //! let documents = load_marked(alloc, "host: a\nport: none\n")?;
-//! let port = documents.first()?.get_key("port")?;
-//! let number = port.as_i64(); // None
-//! let line = port.marker().line(); // 2
-//! let column = port.marker().col(); // 6
+//! let document = documents.first().ok_or("no document")?;
+//! let port = document.get_key("port").ok_or("no port")?;
+//! assert_eq!(rt; port.as_i64(), None);
+//! assert_eq!(rt; (port.marker().line(), port.marker().col()), (2, 6));
 //! ```
 //!
 //! A node begins where the event does that starts it:

@@ -17,9 +17,11 @@ use yaml_tokens::ScanError;
 /// # Example
 ///
 /// ```
-/// let documents = load_marked(alloc, "host: a\nport: 80\n")?;
-/// let port = documents.first()?.get_key("port")?;
-/// let line = port.marker().line(); // 2
+/// let documents = load_marked(alloc, "host: a\nport: none\n")?;
+/// let document = documents.first().ok_or("no document")?;
+/// let port = document.get_key("port").ok_or("no port")?;
+/// assert_eq!(rt; port.as_i64(), None);
+/// assert_eq!(rt; (port.marker().line(), port.marker().col()), (2, 6));
 /// ```
 ///
 /// # Errors

@@ -11,6 +11,10 @@ use yaml_tokens::{ScanError, TScalarStyle};
 /// events between them. A mapping has the events of a key and then of its value, in turn.
 ///
 /// An anchor is its number, counted from 1 over the stream, or 0 if there is none.
+///
+/// An event has the position where its token begins. For a node that is its content, after its anchor and its tag. The
+/// start of a mapping without braces stands at its first `?`. If its first key has none, it stands at the first `:` in a
+/// block mapping, and after the `:` in a flow sequence.
 #[derive(Debug, PartialEq, Eq, Drop)]
 pub enum Event {
     /// Never given.
@@ -25,20 +29,25 @@ pub enum Event {
     DocumentEnd,
     /// The number of the anchor that the alias means.
     Alias(usize),
-    /// Text, style, anchor and tag.
+    /// A scalar: its text, its style, its anchor and its tag.
     Scalar(String, TScalarStyle, usize, Option<Tag>),
-    /// Anchor and tag.
+    /// Before a sequence's items: its anchor and its tag.
     SequenceStart(usize, Option<Tag>),
+    /// After a sequence's items.
     SequenceEnd,
-    /// Anchor and tag.
+    /// Before a mapping's pairs: its anchor and its tag.
     MappingStart(usize, Option<Tag>),
+    /// After a mapping's pairs.
     MappingEnd,
 }
 
 /// A tag: the prefix that its handle stands for, and its suffix.
 #[derive(Debug, PartialEq, Eq, Drop)]
 pub struct Tag {
+    /// The prefix that the tag's handle was declared to stand for, as `tag:yaml.org,2002:` for `!!`; `!` for `!x`; empty
+    /// for a verbatim tag.
     pub handle: String,
+    /// What stands after the handle.
     pub suffix: String,
 }
 

@@ -38,6 +38,7 @@ impl<T: Iterator<Item = char>> Parser<T> {
     /// ```
     /// let mut scalars = Scalars { count: 0 }; // an `EventReceiver`
     /// Parser::new_from_str(alloc, "a: [1, two]").load(&mut scalars, true)?;
+    /// assert_eq!(rt; scalars.count, 3);
     /// ```
     ///
     /// # Errors

@@ -51,6 +51,7 @@ fn declares_nothing(handle: &String, prefix: &String) -> bool
 /// Whether declared handles count in later documents too.
 #[derive(Drop)]
 pub struct Keeping {
+    /// Whether they do now.
     pub tags: bool,
     /// Whether this was so from the stream's start on.
     pub steady: bool,
@@ -98,10 +99,12 @@ pub struct Names {
     // How many of them came before this document.
     earlier: usize,
     handles: BTreeMap<String, Declaration>,
+    /// Whether handles are kept.
     pub keeping: Keeping,
 }
 
 impl Names {
+    /// The names before a stream: there are none. It takes no memory.
     pub fn new(alloc: Global) -> Self
         ensures tags { result.keeping.tags ≡ false }
         ensures steady { result.keeping.steady ≡ true }

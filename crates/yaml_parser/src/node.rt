@@ -25,7 +25,9 @@ use yaml_tokens::{Fault, Problem};
 /// What stands before a node's content.
 #[derive(Drop)]
 pub struct Properties {
+    /// The anchor's name, if there is an anchor.
     pub anchor: Option<String>,
+    /// The tag, if there is one.
     pub tag: Option<Tag>,
 }
 

@@ -47,6 +47,21 @@ fn ends(ended: bool, event: &Event) -> bool
 /// and reads no further than it must.
 ///
 /// A fault is kept: each later call returns it again.
+///
+/// # Example
+///
+/// ```
+/// let mut parser = Parser::new_from_str(alloc, "a: [1, two]");
+/// let mut scalars: u64 = 0;
+/// for _ in 0..u64::MAX {
+///     match parser.next_token()? {
+///         (Event::Scalar(_, _, _, _), _) => scalars = scalars.saturating_add(1),
+///         (Event::StreamEnd, _) => break,
+///         _ => {}
+///     }
+/// }
+/// assert_eq!(rt; scalars, 3);
+/// ```
 #[derive(Drop)]
 pub struct Parser<T: Iterator<Item = char>> {
     pull: Pull<T>,
@@ -95,7 +110,8 @@ impl<T: Iterator<Item = char>> Parser<T> {
 
     /// A parser of the characters that an iterator gives, up to its first `None` or NUL. It takes no memory.
     ///
-    /// Conditions: the iterator may be asked, ends, and gives fewer than 2^63 characters.
+    /// Conditions, which a proof must show: the iterator can be asked, comes to an end, and gives fewer than 2^63 characters.
+    /// An iterator over a text in memory, such as `text.chars()`, meets them.
     pub fn new(alloc: Global, src: T) -> Parser<T>
         requires can { T.can_next src }
         requires finite { IsFinite (T.remaining src) }
@@ -150,6 +166,18 @@ impl<T: Iterator<Item = char>> Parser<T> {
     }
 
     /// Shows the next event and its position. The event stays: the next call of `next_token` gives it.
+    ///
+    /// # Example
+    ///
+    /// ```
+    /// let mut parser = Parser::new(alloc, "a".chars());
+    /// assert_eq!(rt; parser.peek()?.0, Event::StreamStart);
+    /// parser.look()?; // the same in two calls
+    /// assert!(rt; parser.waiting().is_some());
+    /// let (event, position) = parser.next_token()?;
+    /// assert_eq!(rt; event, Event::StreamStart);
+    /// assert_eq!(rt; (position.line(), position.col()), (1, 0));
+    /// ```
     ///
     /// # Errors
     ///

@@ -20,11 +20,14 @@ use yaml_tokens::ScanError;
 /// Reads events one by one, and keeps a fault.
 #[derive(Drop)]
 pub struct Pull<T: Iterator<Item = char>> {
+    /// What reads the events.
     pub reader: Reader<T>,
+    /// The fault that is kept, if there is one.
     pub kept: Option<KeptStop>,
 }
 
 impl<T: Iterator<Item = char>> Pull<T> {
+    /// Nothing was read yet. It takes no memory.
     pub fn new(alloc: Global, src: T) -> Pull<T>
         requires can { T.can_next src }
         requires finite { IsFinite (T.remaining src) }

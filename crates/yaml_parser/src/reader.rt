@@ -28,9 +28,13 @@ pub type Answer = Result<(Event, Marker), Stop>;
 /// The productions of the token grammar, one function each.
 #[derive(Drop)]
 pub struct Reader<T: Iterator<Item = char>> {
+    /// The allocator for texts.
     pub alloc: Global,
+    /// The tokens to come.
     pub tokens: Tokens<T>,
+    /// The states that are awaited.
     pub stack: Stack,
+    /// The names of the stream so far.
     pub names: Names,
 }
 

@@ -43,6 +43,7 @@ impl Stack {
         self.states.push(state).map_err(|_| AllocError)
     }
 
+    /// Takes the state on top, or `None` if there is none.
     pub fn pop(&mut self) -> Option<State>
         ensures some { IfSome result (λ s. self.old ≡ s ∷ self.new) }
         ensures none { IfNone result ((self.old ≡ []) × (self.new ≡ [])) }

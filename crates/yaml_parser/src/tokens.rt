@@ -77,19 +77,25 @@ impl From<Missing> for Stop {
 /// Why no event comes, and where the scanner stood.
 #[derive(Clone, Copy)]
 pub struct KeptStop {
+    /// Why no event comes.
     pub stop: Stop,
+    /// Where the scanner stood.
     pub mark: Marker,
 }
 
 /// A scanner's tokens. The next one may have been looked at.
 #[derive(Drop)]
 pub struct Tokens<T: Iterator<Item = char>> {
+    /// What gives the tokens.
     pub scanner: Scanner<T>,
+    /// The token that was looked at, if there is one.
     pub peeked: Option<Token>,
+    /// The tokens that were taken, for clauses alone.
     pub taken: History<Token>,
 }
 
 impl<T: Iterator<Item = char>> Tokens<T> {
+    /// The tokens of a scanner.
     pub fn new(scanner: Scanner<T>) -> Self
         ensures scanner { result.scanner ≡ scanner }
         ensures peeked { result.peeked ≡ None }

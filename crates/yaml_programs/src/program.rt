@@ -7,7 +7,9 @@ use std::{env, io};
 /// A program's name, and how it is called.
 #[derive(Clone, Copy)]
 pub struct Program {
+    /// Its name, before each line that it prints on the standard error.
     pub name: &'static str,
+    /// The text of its usage.
     pub usage: &'static str,
 }
 

@@ -2,4 +2,4 @@
 pub use yaml_decoder::{LoadError, YamlDecoder};
 pub use yaml_encoding::{YAMLDecodingTrap, YAMLDecodingTrapFn};
 pub use yaml_loader::YamlLoader;
-pub use yaml_tree::{Array, Hash, Steps, Yaml, YamlIter};
+pub use yaml_tree::{Array, Hash, Steps, Yaml, YamlIter, entries, items};

@@ -10,7 +10,9 @@ use yaml_tokens::Fault;
 /// A fault that is kept, and the position where the scanner stood.
 #[derive(Clone, Copy)]
 pub struct KeptFault {
+    /// The fault.
     pub fault: Fault,
+    /// Where the scanner stood.
     pub mark: Marker,
 }
 

@@ -13,6 +13,7 @@ use crate::fetcher::{Fetcher, KeptFault};
 use yaml_tokens::{Fault, ScanError, Token};
 
 impl KeptFault {
+    /// The fault as callers see it.
     pub fn error(&self) -> ScanError
         ensures { result ≡ kept_fault self.now }
     {

@@ -16,7 +16,8 @@ use yaml_tokens::{ScanError, ScanResult, Token};
 impl<T: Iterator<Item = char>> Scanner<T> {
     /// A scanner of the characters that an iterator gives, up to its first `None` or NUL. It takes no memory.
     ///
-    /// Conditions: the iterator may be asked, ends, and gives fewer than 2^63 characters.
+    /// Conditions, which a proof must show: the iterator can be asked, comes to an end, and gives fewer than 2^63 characters.
+    /// An iterator over a text in memory, such as `text.chars()`, meets them.
     pub fn new(alloc: Global, iter: T) -> Scanner<T>
         requires can { T.can_next iter }
         requires finite { IsFinite (T.remaining iter) }
@@ -100,6 +101,15 @@ impl<T: Iterator<Item = char>> Scanner<T> {
 
     /// Fetches tokens until the next one can be handed out, because no `Key` may come before it any more. Once the
     /// stream's end was fetched, it does nothing.
+    ///
+    /// # Example
+    ///
+    /// ```
+    /// let mut scanner = Scanner::new(alloc, "[a]".chars());
+    /// scanner.fetch_next_token()?; // at least one
+    /// scanner.fetch_more_tokens()?; // until the next one can be handed out
+    /// assert_eq!(rt; scanner.mark().line(), 1);
+    /// ```
     ///
     /// # Errors
     ///

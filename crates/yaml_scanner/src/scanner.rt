@@ -5,6 +5,32 @@ use std::marker::Model;
 /// fault. [`next_token`](Scanner::next_token) and [`get_error`](Scanner::get_error) give the fault.
 ///
 /// A fault is kept: each later call that scans returns it again.
+///
+/// # Examples
+///
+/// ```
+/// let mut plain: u64 = 0;
+/// let mut scanner = Scanner::new(alloc, "[a, 'b']".chars());
+/// while let Some(Token(_, token)) = scanner.next_token()? {
+///     if let TokenType::Scalar(TScalarStyle::Plain, _) = token {
+///         plain = plain.saturating_add(1);
+///     }
+/// }
+/// assert_eq!(rt; plain, 1);
+/// assert!(rt; scanner.stream_started() && scanner.stream_ended());
+/// ```
+///
+/// As an iterator:
+///
+/// ```
+/// let mut scanner = Scanner::new(alloc, "- 'a".chars());
+/// let mut count: u64 = 0;
+/// for _ in &mut scanner {
+///     count = count.saturating_add(1);
+/// }
+/// let fault = scanner.get_error(); // the iterator has ended, for one of two reasons
+/// assert!(rt; fault.is_some() && count > 0);
+/// ```
 #[derive(Drop)]
 pub struct Scanner<T: Iterator<Item = char>> {
     pub(crate) fetcher: Fetcher<T>,

@@ -9,7 +9,9 @@ use yaml_tokens::TokenType;
 /// A kind of collection.
 #[derive(Clone, Copy, PartialEq, Eq)]
 pub enum Collection {
+    /// A sequence.
     Sequence,
+    /// A mapping.
     Mapping,
 }
 

@@ -15,8 +15,11 @@ const LONGEST_KEY: usize = 1024;
 /// A token that may turn out to be a key. Its position counts from the first token that waits.
 #[derive(Clone, Copy)]
 pub struct ImplicitKey {
+    /// Whether its `:` must come, since it stands where a block mapping's key must.
     pub required: bool,
+    /// Its place, counted from the first token that waits.
     pub position: usize,
+    /// Where it begins.
     pub mark: Marker,
 }
 
@@ -126,6 +129,7 @@ fn close_all(keys: &mut [Option<ImplicitKey>])
 }
 
 impl ImplicitKeys {
+    /// No key may begin yet. It takes no memory.
     pub fn new(alloc: Global) -> Self
         ensures { result ≡ [] }
     {

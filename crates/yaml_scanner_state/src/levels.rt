@@ -28,6 +28,7 @@ impl Model for Levels {
 }
 
 impl Levels {
+    /// No block collection is open. It takes no memory.
     pub fn new(alloc: Global) -> Self
         ensures { result ≡ record { indent = 0; indents = [] } }
     {
@@ -47,6 +48,7 @@ impl Levels {
         self.indent
     }
 
+    /// Whether no block collection is open.
     pub fn is_empty(&self) -> bool
         ensures { result ≡ is_empty self.now.indents }
     {

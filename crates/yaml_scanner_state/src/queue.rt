@@ -38,6 +38,7 @@ impl Model for Queue {
 }
 
 impl Queue {
+    /// No token waits. It takes no memory.
     pub fn new(alloc: Global) -> Self
         ensures { result ≡ record { all = []; given = 0; ended = false; over = false } }
     {

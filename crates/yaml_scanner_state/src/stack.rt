@@ -20,6 +20,7 @@ impl<X: Copy> Model for Stack<X> {
 }
 
 impl<X: Copy> Stack<X> {
+    /// The empty stack. It takes no memory.
     pub fn new(alloc: Global) -> Self
         ensures { result ≡ [] }
     {
@@ -37,6 +38,7 @@ impl<X: Copy> Stack<X> {
         self.items.push(item).map_err(|_| AllocError)
     }
 
+    /// Takes the value on top, or `None` if there is none.
     #[tactic(auto, using(crate::proofs::StackLemmas::popped, crate::proofs::StackLemmas::none_popped))]
     pub fn pop(&mut self) -> Option<X>
         ensures { MatchOption result ((self.old ≡ []) × (self.new ≡ [])) (λ x. self.old ≡ x ∷ self.new) }
@@ -44,6 +46,7 @@ impl<X: Copy> Stack<X> {
         self.items.pop()
     }
 
+    /// The value on top, which stays, or `None` if there is none.
     #[tactic(auto, using(crate::proofs::StackLemmas::topped))]
     pub fn top(&self) -> Option<X>
         ensures { result ≡ top self.now }
@@ -62,6 +65,7 @@ impl<X: Copy> Stack<X> {
         }
     }
 
+    /// How many values there are.
     #[tactic(auto, using(crate::proofs::StackLemmas::reversed_len))]
     pub fn len(&self) -> usize
         ensures { result ≡ length self.now }
@@ -69,6 +73,7 @@ impl<X: Copy> Stack<X> {
         self.items.len()
     }
 
+    /// Whether there is no value.
     #[tactic(auto, using(crate::proofs::StackLemmas::reversed_nil))]
     pub fn is_empty(&self) -> bool
         ensures { result ≡ is_empty self.now }

@@ -10,7 +10,9 @@ use yaml_tokens::{TScalarStyle, TokenType};
 /// The kind of a name.
 #[derive(Clone, Copy)]
 pub enum NameKind {
+    /// After `*`.
     Alias,
+    /// After `&`.
     Anchor,
 }
 
@@ -29,11 +31,14 @@ impl NameKind {
 /// The quotes of a scalar.
 #[derive(Clone, Copy)]
 pub enum Quotes {
+    /// `'`
     Single,
+    /// `"`
     Double,
 }
 
 impl Quotes {
+    /// Whether they are single quotes.
     pub fn are_single(self) -> bool
         ensures { result ≡ are_single self }
     {
@@ -53,11 +58,14 @@ impl Quotes {
 /// The style of a block scalar.
 #[derive(Clone, Copy)]
 pub enum BlockStyle {
+    /// After `|`.
     Literal,
+    /// After `>`.
     Folded,
 }
 
 impl BlockStyle {
+    /// Whether it is a literal one.
     pub fn is_literal(self) -> bool
         ensures { result ≡ is_literal_style self }
     {

@@ -9,71 +9,137 @@ use yaml_chars::Marker;
 /// the loader.
 #[derive(Clone, Copy, Debug, PartialEq, Eq)]
 pub enum Problem {
+    /// `%` where a node or an indicator must begin.
     UnexpectedPercent,
+    /// The reserved indicator `@` there (YAML 1.2, section 5.3).
     UnexpectedAt,
+    /// The reserved indicator `` ` `` there (section 5.3).
     UnexpectedBacktick,
+    /// Something after `...` on its line that is no comment.
     ContentAfterDocumentEnd,
+    /// In a flow collection, a token further left than the block collection around it allows.
     InvalidIndentation,
+    /// What stands where a block mapping's key must has no `:` on its line, or none within 1024 characters.
     KeyWithoutColon,
+    /// The same, where another token or the end of the text comes first.
     KeyExpected,
+    /// A TAB in the indentation of block content.
     TabInBlockIndentation,
+    /// A TAB after `?` and spaces.
     TabAfterKey,
+    /// Neither a space nor a line break after `?`.
     WhitespaceExpected,
+    /// `#` right after a token, without a blank between.
     CommentNotSeparated,
+    /// More than 255 levels of flow collections.
     FlowTooDeep,
+    /// The indicator `-` in a flow collection.
     BlockEntryInFlow,
+    /// The indicator `-` where no item of a block sequence can begin, as in `a: - b`.
     BlockEntryNotAllowed,
+    /// Inside a block collection, an anchor or a tag at column 0 before a `-` at column 0.
     AnchorIndentation,
+    /// Only TABs between `-` and what could be a further block collection.
     TabAfterDash,
+    /// Only TABs between `:` and what could be a further block collection.
     TabAfterColon,
+    /// The indicator `?` where no key can begin.
     KeyNotAllowed,
+    /// `:` where no value can begin, as the second one of `a: b: c`.
     ValueNotAllowed,
+    /// In a flow sequence, the `:` of a pair on a later line than its key.
     ColonMisplaced,
+    /// In a flow collection, a plain scalar further left than the block collection around it allows.
     FlowIndentation,
+    /// In a flow collection, a plain scalar that begins with `-` and one of `,[]{}`.
     PlainDashInFlow,
+    /// A line of a quoted scalar further left than the block collection around it allows.
     QuotedIndentation,
+    /// A TAB in the indentation of a line of a quoted scalar.
     TabAsIndentation,
+    /// Something on the line of a quoted scalar that cannot follow it.
     ContentAfterQuoted,
+    /// The first line of a block scalar begins with a TAB.
     BlockScalarTab,
+    /// A line indented less than the block scalar before it, and more than what is around that.
     BlockScalarIndentation,
+    /// The prefix of `%TAG` begins with a character that no tag has.
     GlobalTagCharacter,
+    /// Something after a directive on its line that is no comment.
     DirectiveEnd,
+    /// `%` without a name.
     DirectiveName,
+    /// The name of a directive goes on with a character that no name has.
     DirectiveNameEnd,
+    /// In `%YAML`, no `.` after the major version.
     VersionDot,
+    /// In `%YAML`, a number with too many digits.
     VersionTooLong,
+    /// In `%YAML`, no digit where a number must stand.
     VersionNumber,
+    /// In `%TAG`, neither a blank nor a break after the prefix.
     TagDirectiveEnd,
+    /// Something right after a tag that does not end it.
     TagEnd,
+    /// A handle that does not begin with `!`.
     TagStart,
+    /// In `%TAG`, a handle that does not end with `!`.
     TagDirectiveHandle,
+    /// A verbatim tag without its `>`.
     VerbatimTagEnd,
+    /// A tag without a suffix.
     TagUri,
+    /// In a tag, `%` without two hexadecimal digits after it.
     TagOctet,
+    /// In a tag, an escaped octet that begins no character of UTF-8.
     TagLeadingOctet,
+    /// In a tag, an escaped octet that does not go on with the character before it.
     TagTrailingOctet,
+    /// In a tag, escaped octets that are no character: overlong, a surrogate, or above U+10FFFF.
     TagCodepoint,
+    /// `&` or `*` without a name.
     AnchorName,
+    /// The indentation indicator 0 of a block scalar.
     BlockScalarZero,
+    /// Something after the header of a block scalar that is no comment.
     BlockScalarHeader,
+    /// `---` or `...` at the start of a line of a quoted scalar.
     QuotedDocumentMarker,
+    /// A quoted scalar without its closing quote.
     QuotedEnd,
+    /// In double quotes, `\` before a character that is no escape (section 5.7).
     UnknownEscape,
+    /// In double quotes, an escape with too few hexadecimal digits.
     HexadecimalDigit,
+    /// In double quotes, an escape whose code is no character.
     EscapedCode,
+    /// A TAB in the indentation of a line of a plain scalar.
     PlainTab,
+    /// `load` was called where the parser stands inside a document.
     DocumentStartEvent,
+    /// Something where a document must begin with `---`.
     DocumentStartToken,
+    /// Two `%YAML` directives of one document.
     SecondVersion,
+    /// Two `%TAG` directives of one document with the same handle.
     RepeatedHandle,
+    /// A directive after a document that has no `...`.
     DirectiveWithoutDocumentEnd,
+    /// An alias whose anchor does not stand before it in its document.
     UnknownAnchor,
+    /// Something where a node must stand.
     NodeContent,
+    /// Something in a block mapping where its next key or its end must stand.
     BlockMappingKey,
+    /// Neither `,` nor `}` after a pair of a flow mapping.
     FlowMappingEntry,
+    /// Neither `,` nor `]` after an item of a flow sequence.
     FlowSequenceEntry,
+    /// Something in a block sequence where its next `-` or its end must stand.
     BlockSequenceEntry,
+    /// A tag whose handle no `%TAG` of its document declares.
     UndeclaredHandle,
+    /// An event that cannot come after those that a loader got.
     EventOutOfNesting,
 }
 
@@ -160,7 +226,9 @@ impl Problem {
 /// Why scanner or parser stop: memory was refused, or a problem and its position.
 #[derive(Clone, Copy, Debug, PartialEq, Eq)]
 pub enum Fault {
+    /// Memory was refused.
     OutOfMemory,
+    /// The problem, and where it is.
     At(Problem, Marker),
 }
 

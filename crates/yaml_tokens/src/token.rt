@@ -8,16 +8,22 @@ use yaml_chars::Marker;
 /// The encoding of a stream. There is one value, since the scanner gets decoded characters.
 #[derive(Clone, Copy, Debug, PartialEq, Eq)]
 pub enum TEncoding {
+    /// Decoded characters.
     Utf8,
 }
 
 /// How a scalar is written (YAML 1.2, sections 7.3 and 8.1).
 #[derive(Clone, Copy, Debug, PartialEq, Eq)]
 pub enum TScalarStyle {
+    /// Without quotes.
     Plain,
+    /// In `'`.
     SingleQuoted,
+    /// In `"`, with escapes.
     DoubleQuoted,
+    /// A block scalar after `|`, which keeps its line breaks.
     Literal,
+    /// A block scalar after `>`, whose line breaks are folded.
     Folded,
 }
 
@@ -51,7 +57,9 @@ pub enum TokenType {
     DocumentStart,
     /// `...`
     DocumentEnd,
+    /// Before the first `-` of a block sequence.
     BlockSequenceStart,
+    /// Before the first key of a block mapping, with the position of its `?`, or of its `:` if it has none.
     BlockMappingStart,
     /// The end of the innermost block collection.
     BlockEnd,

@@ -9,6 +9,22 @@ use std::marker::Model;
 use std::ops::{Deref, DerefMut};
 
 /// A list of nodes. It derefs to its `Vec<Yaml>`.
+///
+/// # Example
+///
+/// ```
+/// let mut ports = Array::new(alloc);
+/// ports.push(Yaml::Integer(80)).map_err(|_| AllocError)?;
+/// ports.push(Yaml::Integer(443)).map_err(|_| AllocError)?;
+/// assert_eq!(rt; ports.len(), 2);
+/// assert_eq!(rt; ports.get(0), Some(&Yaml::Integer(80)));
+/// let nodes: Vec<Yaml> = ports.into_vec();
+/// assert_eq!(rt; nodes.len(), 2);
+/// let ports = Yaml::Array(Array::from_vec(nodes));
+/// for port in ports {
+///     assert!(rt; port.as_i64().is_some());
+/// }
+/// ```
 #[cycle(yaml)]
 pub struct Array {
     pub(crate) items: Vec<Yaml>,

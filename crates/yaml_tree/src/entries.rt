@@ -8,6 +8,26 @@ use std::marker::Model;
 use std::vec;
 
 /// The pairs of a hash, in their order.
+///
+/// # Example
+///
+/// ```
+/// let mut settings = Hash::new(alloc);
+/// settings
+///     .insert(Yaml::from_str(alloc, "b")?, Yaml::Integer(1))
+///     .map_err(|_| AllocError)?;
+/// settings
+///     .insert(Yaml::from_str(alloc, "a")?, Yaml::Integer(2))
+///     .map_err(|_| AllocError)?;
+/// let mut names = String::new(alloc);
+/// for (key, _) in settings.iter() {
+///     names.push_str(key.as_str().unwrap_or("?"))?;
+/// }
+/// assert_eq!(rt; names.as_str(), "ba");
+/// for (_, value) in settings {
+///     assert!(rt; value.into_i64().is_some());
+/// }
+/// ```
 #[derive(Drop)]
 pub struct Iter<'a> {
     rest: &'a [Yaml],

@@ -17,6 +17,34 @@ use std::alloc::Global;
 use std::marker::Model;
 
 /// Pairs of a key and a value, in the order of insertion. No two keys are equal.
+///
+/// # Example
+///
+/// ```
+/// let host = Yaml::from_str(alloc, "host")?;
+/// let port = Yaml::from_str(alloc, "port")?;
+/// let mut settings = Hash::new(alloc);
+/// settings
+///     .insert(port.clone(alloc)?, Yaml::Integer(80))
+///     .map_err(|_| AllocError)?;
+/// settings
+///     .insert(host.clone(alloc)?, Yaml::Null)
+///     .map_err(|_| AllocError)?;
+/// assert_eq!(rt; settings.get(&port), Some(&Yaml::Integer(80)));
+/// assert_eq!(rt; settings.place(&host, &mut Steps::new()), Some(1));
+/// if let Some(value) = settings.get_mut(&port) {
+///     *value = Yaml::Integer(8080); // in its place: `port` stays the first pair
+/// }
+/// assert_eq!(rt; settings.back(), Some((&host, &Yaml::Null)));
+/// let old = settings
+///     .insert(port.clone(alloc)?, Yaml::Integer(81))
+///     .map_err(|_| AllocError)?;
+/// assert_eq!(rt; old, Some(Yaml::Integer(8080)));
+/// assert_eq!(rt; settings.back(), Some((&port, &Yaml::Integer(81)))); // `insert` puts the pair last
+/// assert_eq!(rt; settings.remove(&host), Some(Yaml::Null));
+/// assert!(rt; settings.len() == 1 && !settings.is_empty());
+/// assert!(rt; settings.clone(alloc)? == settings);
+/// ```
 #[cycle(yaml)]
 pub struct Hash {
     // The key and the value of each pair.

@@ -16,8 +16,11 @@ const SPECIAL: [&str; 12] = [
 /// What a plain text stands for, but for the text itself.
 #[derive(Clone, Copy)]
 pub enum Meaning {
+    /// An integer of 64 bits.
     Integer(i64),
+    /// `true` or `false`.
     Boolean(bool),
+    /// The null value.
     Null,
     /// The number that the text writes.
     Real,
