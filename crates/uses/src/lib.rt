@@ -3,6 +3,8 @@
 
 pub mod anchors;
 pub mod calls;
+#[cfg(test)]
+mod examples;
 pub mod front_matter;
 pub mod json_and_back;
 pub mod json_to_yaml;

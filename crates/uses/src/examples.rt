@@ -1,0 +1,11 @@
+//! The examples of the library's doc comments, line for line: docs/examples.py finds each of them here.
+
+mod dumps;
+mod events;
+mod hashes;
+mod json;
+mod limits;
+mod loads;
+mod marked;
+mod tokens;
+mod trees;

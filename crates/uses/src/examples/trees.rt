@@ -1,0 +1,91 @@
+use std::alloc::AllocError;
+use std::test::Fail;
+use yaml_rust2::yaml::{Array, Hash};
+use yaml_rust2::{Yaml, YamlLoader};
+
+#[test]
+fn a_node_is_made_and_asked(rt: HostRuntime) -> Result<(), Fail> {
+    let alloc = rt.alloc();
+    let port = Yaml::from_str(alloc, "80")?;
+    let name = Yaml::from_string(String::from_str(alloc, "web")?);
+    assert_eq!(rt; port.as_i64(), Some(80));
+    assert_eq!(rt; port.as_str(), None);
+    assert_eq!(rt; name.as_str(), Some("web"));
+    assert_eq!(rt; Yaml::Boolean(true).as_bool(), Some(true));
+    assert!(rt; Yaml::Null.is_null() && Yaml::BadValue.is_badvalue());
+    assert!(rt; name.clone(alloc)? == name);
+    assert!(rt; *name.borrowed_or(&port) == name);
+    assert!(rt; Yaml::Null.or(port) == Yaml::Integer(80));
+    Ok(())
+}
+
+#[test]
+fn a_node_is_taken_apart(rt: HostRuntime) -> Result<(), Fail> {
+    let alloc = rt.alloc();
+    let name = Yaml::from_str(alloc, "web")?;
+    let text: Option<String> = name.into_string();
+    assert!(rt; text.is_some());
+    assert_eq!(rt; Yaml::Integer(80).into_i64(), Some(80));
+    assert_eq!(rt; Yaml::Boolean(true).into_bool(), Some(true));
+    assert!(rt; Yaml::Null.into_hash().is_none() && Yaml::Null.into_vec().is_none());
+    Ok(())
+}
+
+#[test]
+fn nodes_are_looked_up(rt: HostRuntime) -> Result<(), Fail> {
+    let alloc = rt.alloc();
+    let documents = YamlLoader::load_from_str(alloc, "web: [80, 443]")?;
+    let root = documents.first().ok_or("no document")?;
+    let ports = root.get_key("web").ok_or("no service of this name")?;
+    assert!(rt; root.is_hash() && ports.is_array());
+    assert_eq!(rt; root.as_hash().map(Hash::len), Some(1));
+    assert_eq!(rt; ports.get_index(1), Some(&Yaml::Integer(443)));
+    assert_eq!(rt; ports.get_index(2), None);
+    assert!(rt; root.has_key("web") && !ports.has_index(2));
+    for port in ports.as_vec().ok_or("no list")?.iter() {
+        assert!(rt; port.as_i64().is_some());
+    }
+    Ok(())
+}
+
+#[test]
+fn nodes_are_changed_in_place(rt: HostRuntime) -> Result<(), Fail> {
+    let alloc = rt.alloc();
+    let mut documents = YamlLoader::load_from_str(alloc, "web: [80, 443]")?;
+    let mut root = documents.pop().ok_or("no document")?;
+    let web = Yaml::String(String::from_str(alloc, "web")?);
+    if let Some(ports) = root.as_mut_hash().and_then(|pairs| pairs.get_mut(&web)) {
+        if let Some(items) = ports.as_mut_vec() {
+            items.push(Yaml::Integer(8080)).map_err(|_| AllocError)?;
+        }
+    }
+    if root.has_key("web") {
+        let ports = root.key_mut("web");
+        if ports.has_index(0) {
+            *ports.place_mut(0) = Yaml::Integer(81);
+        }
+    }
+    let text = format!(in alloc; "{root:?}")?;
+    assert_eq!(rt;
+        text.as_str(),
+        r#"Hash({String("web"): Array([Integer(81), Integer(443), Integer(8080)])})"#
+    );
+    Ok(())
+}
+
+#[test]
+fn an_array_is_built(rt: HostRuntime) -> Result<(), Fail> {
+    let alloc = rt.alloc();
+    let mut ports = Array::new(alloc);
+    ports.push(Yaml::Integer(80)).map_err(|_| AllocError)?;
+    ports.push(Yaml::Integer(443)).map_err(|_| AllocError)?;
+    assert_eq!(rt; ports.len(), 2);
+    assert_eq!(rt; ports.get(0), Some(&Yaml::Integer(80)));
+    let nodes: Vec<Yaml> = ports.into_vec();
+    assert_eq!(rt; nodes.len(), 2);
+    let ports = Yaml::Array(Array::from_vec(nodes));
+    for port in ports {
+        assert!(rt; port.as_i64().is_some());
+    }
+    Ok(())
+}
