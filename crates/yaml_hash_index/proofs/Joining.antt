@@ -175,6 +175,15 @@ start_rises (b ∷ bs) zero j h = omega arith
 start_rises (b ∷ bs) (suc i) zero h = absurd (omega arith)
 start_rises (b ∷ bs) (suc i) (suc j) h = omega (arith, start_rises bs i j (omega arith))
 
+-- ---- how many blocks there are, and how long each is
+
+pub filled_counted : (bs : List (List Entry)) → AreFilled bs → length bs ≤ length (joined bs)
+filled_counted [] a = omega arith
+filled_counted (b ∷ bs) a = omega (arith, a 0 (omega arith), filled_counted bs (λ i h. a (suc i) (omega arith)), length-append b (joined bs))
+
+pub block_within : (bs : List (List Entry)) (i : ℕ) → length (get_or bs i []) ≤ length (joined bs)
+block_within bs i = omega (arith, start_next bs i (suc i) refl, start_within bs (suc i))
+
 -- ---- where digests reach a number
 
 pub edge_first : (bs : List (List Entry)) (m k : ℕ) → AreFilled bs → IsEdge (head_at bs) (length bs) m k → k ≡ 0 → IsEdge (digest_at (joined bs)) (length (joined bs)) m (start bs 0 + 0)

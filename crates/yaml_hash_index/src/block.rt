@@ -1,9 +1,12 @@
 //! A block of entries.
 ghost use Rattle.std.specs.Prelude.{◌≡◌, ◌<◌, ◌≤◌, ◌∷◌, [], length, map, take, drop, IfOk, OnOk, OnErr};
 ghost use Rattle.std.specs.List.{insert, remove};
+ghost use Rattle.defs_tree.specs.Digits.{binary_digits};
+ghost use Rattle.yaml_hash_index.specs.Counts.{RisesWithin};
 ghost use Rattle.yaml_hash_index.specs.Edges.{digest_at, place_at, IsEdge};
 ghost use Rattle.yaml_hash_index.specs.Moves.{entry_closed_up, entry_moved_up};
 
+use crate::count::Count;
 use crate::entry::Entry;
 use crate::moves::{closed_up, moved_up};
 use std::alloc::{AllocError, Global};
@@ -55,15 +58,16 @@ impl Block {
     }
 
     /// Where the digests reach this one.
-    pub(crate) fn edge(&self, digest: u64) -> usize
-        ensures { IsEdge (digest_at self.now) (length self.now) digest result }
+    pub(crate) fn edge(&self, digest: u64, compared: &mut Count) -> usize
+        ensures edge { IsEdge (digest_at self.now) (length self.now) digest result }
+        ensures compared { RisesWithin compared.old (binary_digits (length self.now)) compared.new }
     {
         let entries = self.entries.as_slice();
         let mut low = 0;
         let mut high = entries.len();
         while low < high {
             let middle = low + (high - low) / 2;
-            if entries[middle].digest < digest {
+            if compared.is_below(entries[middle].digest, digest) {
                 low = middle + 1;
             } else {
                 high = middle;

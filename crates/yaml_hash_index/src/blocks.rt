@@ -1,11 +1,14 @@
 //! Entries in blocks.
-ghost use Rattle.std.specs.Prelude.{◌≡◌, ◌<◌, ◌≤◌, ◌+◌, ◌^◌, ◌∷◌, [], length, map, take, drop, get_or, set, IsTrue, IsFalse, IfOk, OnOk, OnErr};
+ghost use Rattle.std.specs.Prelude.{◌≡◌, ◌<◌, ◌≤◌, ◌+◌, ◌*◌, ◌^◌, ◌∷◌, [], length, map, take, drop, get_or, set, IsTrue, IsFalse, IfOk, OnOk, OnErr};
 ghost use Rattle.std.specs.List.{insert, remove};
+ghost use Rattle.defs_tree.specs.Digits.{binary_digits};
 ghost use Rattle.yaml_hash_index.specs.Blocks.{joined, start, rank_of, head_at, halved, IsSpot, IsTaken, AreFilled, IsNarrowed};
+ghost use Rattle.yaml_hash_index.specs.Counts.{RisesWithin};
 ghost use Rattle.yaml_hash_index.specs.Edges.{digest_at, place_at, IsEdge, AreRising};
 ghost use Rattle.yaml_hash_index.specs.Moves.{entry_closed_up, entry_moved_up};
 
 use crate::block::Block;
+use crate::count::Count;
 use crate::entry::{Entry, Spot};
 use crate::starts::{STRIDE, add_blocks, group_of, grow, lower, raise, subtract_blocks};
 use std::alloc::{AllocError, Global};
@@ -35,15 +38,16 @@ impl Model for Blocks {
 }
 
 // Where the first digests of the blocks reach this one.
-fn edge_of_heads(blocks: &[Block], digest: u64) -> usize
+fn edge_of_heads(blocks: &[Block], digest: u64, compared: &mut Count) -> usize
     requires { AreFilled blocks.now }
-    ensures { IsEdge (head_at blocks.now) (length blocks.now) digest result }
+    ensures edge { IsEdge (head_at blocks.now) (length blocks.now) digest result }
+    ensures compared { RisesWithin compared.old (binary_digits (length blocks.now)) compared.new }
 {
     let mut low = 0;
     let mut high = blocks.len();
     while low < high {
         let middle = low + (high - low) / 2;
-        if blocks[middle].digest(0) < digest {
+        if compared.is_below(blocks[middle].digest(0), digest) {
             low = middle + 1;
         } else {
             high = middle;
@@ -74,15 +78,16 @@ impl Blocks {
     }
 
     // The first spot whose digest is at least this one.
-    fn edge(&self, digest: u64) -> Spot
+    fn edge(&self, digest: u64, compared: &mut Count) -> Spot
         ensures spot { IsSpot self.now result }
         ensures edge { IsEdge (digest_at (joined self.now)) (length (joined self.now)) digest (rank_of self.now result) }
+        ensures compared { RisesWithin compared.old (2 * binary_digits (length (joined self.now))) compared.new }
     {
-        let before = edge_of_heads(self.blocks.as_slice(), digest);
+        let before = edge_of_heads(self.blocks.as_slice(), digest, compared);
         match before.checked_sub(1) {
             Some(block) => Spot {
                 block,
-                offset: self.blocks[block].edge(digest),
+                offset: self.blocks[block].edge(digest, compared),
             },
             None => Spot {
                 block: 0,
@@ -92,21 +97,22 @@ impl Blocks {
     }
 
     // Whether the next entry from the spot on, if there is one, has a higher digest.
-    fn is_past(&self, spot: Spot, digest: u64) -> bool
+    fn is_past(&self, spot: Spot, digest: u64, compared: &mut Count) -> bool
         requires { IsSpot self.now spot }
-        ensures { IsTrue result → rank_of self.now spot < length (joined self.now) → digest < digest_at (joined self.now) (rank_of self.now spot) }
+        ensures past { IsTrue result → rank_of self.now spot < length (joined self.now) → digest < digest_at (joined self.now) (rank_of self.now spot) }
+        ensures compared { RisesWithin compared.old 1 compared.new }
     {
         if self.blocks.len() <= spot.block {
             return true;
         }
         let block = &self.blocks[spot.block];
         if spot.offset < block.len() {
-            return digest < block.digest(spot.offset);
+            return compared.is_below(digest, block.digest(spot.offset));
         }
         if self.blocks.len() <= spot.block + 1 {
             return true;
         }
-        digest < self.blocks[spot.block + 1].digest(0)
+        compared.is_below(digest, self.blocks[spot.block + 1].digest(0))
     }
 
     // How many entries stand between two spots.
@@ -138,19 +144,21 @@ impl Blocks {
         count
     }
 
-    /// The first spot whose digest is at least this one, and how many entries from there on have this digest.
-    pub fn narrowed(&self, digest: u64) -> (Spot, usize)
+    /// The first spot whose digest is at least this one, and how many entries from there on have this digest. Digests
+    /// are compared only by `Count::is_below`.
+    pub fn narrowed(&self, digest: u64, compared: &mut Count) -> (Spot, usize)
         requires rising { AreRising (joined self.now) }
         requires fits { length (joined self.now) < 2 ^ 63 }
         requires next { digest + 1 < 2 ^ 64 }
         ensures spot { IsSpot self.now result.0 }
         ensures narrowed { IsNarrowed (joined self.now) digest (rank_of self.now result.0) result.1 }
+        ensures compared { RisesWithin compared.old (4 * binary_digits (length (joined self.now)) + 1) compared.new }
     {
-        let low = self.edge(digest);
-        if self.is_past(low, digest) {
+        let low = self.edge(digest, compared);
+        if self.is_past(low, digest, compared) {
             return (low, 0);
         }
-        let high = self.edge(digest + 1);
+        let high = self.edge(digest + 1, compared);
         (low, self.between(low, high))
     }
 

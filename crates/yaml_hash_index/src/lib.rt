@@ -3,9 +3,11 @@
 
 mod block;
 pub mod blocks;
+pub mod count;
 pub mod entry;
 pub mod moves;
 mod starts;
 
 pub use blocks::Blocks;
+pub use count::Count;
 pub use entry::{Entry, Spot};

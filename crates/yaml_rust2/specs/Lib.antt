@@ -1,5 +1,6 @@
 pub use Rattle.defs_tree.specs.Tree
 pub use Rattle.defs_tree.specs.Pairs
+pub use Rattle.defs_tree.specs.Digits
 pub use Rattle.defs_tree.specs.Typing
 pub use Rattle.defs_tree.specs.Spelling
 pub use Rattle.defs_tree.specs.Order
@@ -34,6 +35,7 @@ pub use Rattle.yaml_chars.specs.Reading as CharactersRead
 pub use Rattle.yaml_chars.specs.Source
 pub use Rattle.defs_text.specs.Text
 pub use Rattle.yaml_tokens.specs.ErrorReport
+pub use Rattle.yaml_hash_index.specs.Counts
 pub use Rattle.yaml_tree.specs.Feed
 pub use Rattle.yaml_tree.specs.Items
 pub use Rattle.yaml_tree.specs.Node

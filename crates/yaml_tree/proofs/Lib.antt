@@ -4,7 +4,6 @@ pub mod Copied
 pub mod Discarding
 pub mod Fed
 pub mod Flattened
-pub mod Halving
 pub mod Indexed
 pub mod ItemsLemmas
 pub mod Keeping

@@ -1,8 +1,9 @@
 //! A hash: pairs of a key and a value, in the order of insertion.
-ghost use Rattle.std.specs.Prelude.{◌≡◌, ◌+◌, ◌<◌, ◌≤◌, ◌↔◌, [], Some, None, length, option_map, IsTrue, IsSome, IfOk, IfErr, OnOk, OnErr};
+ghost use Rattle.std.specs.Prelude.{◌≡◌, ◌+◌, ◌*◌, ◌<◌, ◌↔◌, [], Some, None, length, option_map, IsTrue, IsSome, IfOk, IfErr, OnOk, OnErr};
 ghost use Rattle.defs_tree.specs.Digits.{binary_digits};
 ghost use Rattle.defs_tree.specs.Tree.{string};
 ghost use Rattle.defs_tree.specs.Pairs.{insert, last_of, lookup, without, place_of, value_at, with_value_at, with_value, AreDistinct};
+ghost use Rattle.yaml_hash_index.specs.Counts.{RisesWithin};
 ghost use Rattle.yaml_tree.specs.Probes.{probed};
 ghost use Rattle.yaml_tree.specs.View.{view, items_view};
 ghost use Rattle.yaml_tree.specs.Flat.{flat};
@@ -116,21 +117,21 @@ impl Hash {
         self.row.is_empty()
     }
 
-    /// The place of the key's pair, counted from 0, or `None` if no pair has the key. Keys are compared only by
-    /// `Steps::compare`, at most as often as the number of pairs has binary digits. Most pairs are ruled out without
-    /// it, by numbers that are kept beside the places. It takes no memory.
+    /// The place of the key's pair, counted from 0, or `None` if no pair has the key. `steps` counts the comparisons:
+    /// of keys, at most as many as the number of pairs has binary digits; of digests, numbers that are kept beside the
+    /// places and rule out most pairs, at most four times as many and one. It takes no memory.
     pub fn place(&self, key: &Yaml, steps: &mut Steps) -> Option<usize>
         ensures place { result ≡ place_of (view key.now) self.now }
-        ensures steps { steps.new ≤ steps.old + binary_digits (length self.now) }
-        ensures counted { steps.old ≤ steps.new }
+        ensures keys { RisesWithin steps.old.keys (binary_digits (length self.now)) steps.new.keys }
+        ensures digests { RisesWithin steps.old.digests (4 * binary_digits (length self.now) + 1) steps.new.digests }
     {
         self.place_of_probe(Probe::Node(key), steps)
     }
 
     pub(crate) fn place_of_probe(&self, probe: Probe<'_>, steps: &mut Steps) -> Option<usize>
         ensures place { result ≡ place_of (probed probe.entry) self.now }
-        ensures steps { steps.new ≤ steps.old + binary_digits (length self.now) }
-        ensures counted { steps.old ≤ steps.new }
+        ensures keys { RisesWithin steps.old.keys (binary_digits (length self.now)) steps.new.keys }
+        ensures digests { RisesWithin steps.old.digests (4 * binary_digits (length self.now) + 1) steps.new.digests }
         ensures distinct { AreDistinct self.now }
     {
         match search(self.row.as_slice(), &self.ranks, probe, steps) {

@@ -1,9 +1,11 @@
 //! The places of a hash's pairs, in the order of their keys: a short hash's by the order of trees, a long one's by
 //! digests first.
-ghost use Rattle.std.specs.Prelude.{◌≡◌, ◌<◌, ◌≤◌, ◌+◌, ◌^◌, ◌++◌, ◌∷◌, [], ℕ, List, None, length, map, get_or, IfOk, OnOk, OnErr};
+ghost use Rattle.std.specs.Prelude.{◌≡◌, ◌<◌, ◌≤◌, ◌+◌, ◌*◌, ◌^◌, ◌++◌, ◌∷◌, [], ℕ, List, None, length, map, get_or, IfOk, OnOk, OnErr};
 ghost use Rattle.std.specs.List.{remove};
 ghost use Rattle.yaml_hash_index.specs.Blocks.{joined, rank_of, IsSpot};
+ghost use Rattle.yaml_hash_index.specs.Counts.{RisesWithin};
 ghost use Rattle.yaml_hash_index.specs.Moves.{closed_up, moved_up};
+ghost use Rattle.defs_tree.specs.Digits.{binary_digits};
 ghost use Rattle.defs_tree.specs.Pairs.{place_of, AreDistinct};
 ghost use Rattle.defs_tree.specs.Tree.{Tree};
 ghost use Rattle.yaml_tree.specs.Flat.{flat};
@@ -19,7 +21,7 @@ use crate::search::{Probe, search};
 use crate::steps::Steps;
 use crate::yaml::Yaml;
 use std::alloc::{AllocError, Global};
-use yaml_hash_index::{Blocks, Entry, Spot};
+use yaml_hash_index::{Blocks, Count, Entry, Spot};
 
 // Those of a short hash take no memory of their own.
 #[derive(Drop)]
@@ -83,11 +85,12 @@ impl Ranks {
 
     /// The first spot at which the key's place may be, and how many spots to search from there.
     #[inline(always)]
-    pub(crate) fn window(&self, probe: Probe<'_>) -> (Spot, usize)
+    pub(crate) fn window(&self, probe: Probe<'_>, compared: &mut Count) -> (Spot, usize)
         requires rising { HaveRising self.now.kept }
         requires fits { length (places self.now.kept) < 2 ^ 63 }
         ensures spot { HasSpot self.now.kept result.0 }
         ensures window { IsWindow self.now.kept (probed probe.entry) (rank_at self.now.kept result.0) result.1 }
+        ensures compared { RisesWithin compared.old (4 * binary_digits (length (places self.now.kept)) + 1) compared.new }
     {
         match &self.kept {
             Kept::Few(few) => {
@@ -97,7 +100,7 @@ impl Ranks {
                 };
                 (first, few.len())
             }
-            Kept::Many(blocks) => blocks.narrowed(probe.digest()),
+            Kept::Many(blocks) => blocks.narrowed(probe.digest(), compared),
         }
     }
 

@@ -1,7 +1,8 @@
 //! Where a key's place stands, found by halving.
-ghost use Rattle.std.specs.Prelude.{◌≡◌, ◌+◌, ◌^◌, ◌<◌, ◌≤◌, length, IfOk, IfErr};
+ghost use Rattle.std.specs.Prelude.{◌≡◌, ◌+◌, ◌*◌, ◌^◌, ◌<◌, ◌≤◌, length, IfOk, IfErr};
 ghost use Rattle.defs_tree.specs.Digits.{binary_digits};
 ghost use Rattle.defs_tree.specs.Order.{tree_cmp};
+ghost use Rattle.yaml_hash_index.specs.Counts.{RisesWithin};
 ghost use Rattle.yaml_tree.specs.Probes.{probed};
 ghost use Rattle.yaml_tree.specs.Digests.{digest, first_by};
 ghost use Rattle.yaml_tree.specs.Places.{places, rank_at, HasSpot, HasPlace, IsIndexed};
@@ -36,7 +37,8 @@ impl<'a> Probe<'a> {
 
     fn compare(self, key: &Yaml, steps: &mut Steps) -> Ordering
         ensures order { result ≡ tree_cmp (probed self.entry) (view key.now) }
-        ensures steps { steps.new ≡ steps.old + 1 }
+        ensures keys { steps.new.keys ≡ steps.old.keys + 1 }
+        ensures digests { steps.new.digests ≡ steps.old.digests }
     {
         match self {
             Probe::Node(node) => steps.compare(node, key),
@@ -57,10 +59,10 @@ pub(crate) fn search(
     ensures found { IfOk result (λ s. IsRank (probed probe.entry) (places ranks.now.kept) (pairs_view row.now) (rank_at ranks.now.kept s)) }
     ensures spot { IfErr result (λ s. HasSpot ranks.now.kept s) }
     ensures missing { IfErr result (λ s. IsRankGap (first_by ranks.now.kept) (probed probe.entry) (places ranks.now.kept) (pairs_view row.now) (rank_at ranks.now.kept s)) }
-    ensures steps { steps.new ≤ steps.old + binary_digits (length (places ranks.now.kept)) }
-    ensures counted { steps.old ≤ steps.new }
+    ensures keys { RisesWithin steps.old.keys (binary_digits (length (places ranks.now.kept))) steps.new.keys }
+    ensures digests { RisesWithin steps.old.digests (4 * binary_digits (length (places ranks.now.kept)) + 1) steps.new.digests }
 {
-    let (mut low, mut count) = ranks.window(probe);
+    let (mut low, mut count) = ranks.window(probe, &mut steps.digests);
     while 0 < count {
         let half = count / 2;
         let middle = ranks.advanced(low, half);

@@ -1,4 +1,4 @@
-//! A count of comparisons.
+//! Counts of comparisons.
 ghost use Rattle.std.specs.Prelude.{◌≡◌, ◌+◌, chars};
 ghost use Rattle.defs_tree.specs.Order.{tree_cmp};
 ghost use Rattle.defs_tree.specs.Tree.{string};
@@ -7,48 +7,44 @@ ghost use Rattle.yaml_tree.specs.View.{view};
 use crate::compare::{compare, compare_text};
 use crate::yaml::Yaml;
 use std::cmp::Ordering;
-use std::marker::Model;
-use yaml_chars::history::History;
+use yaml_hash_index::Count;
 
-/// A count of comparisons, which only contracts see. It takes no bytes.
+/// How many keys, and how many digests of keys, were compared. Only contracts see the counts, and they take no bytes.
 #[derive(Drop)]
 pub struct Steps {
-    compared: History<()>,
-}
-
-impl Model for Steps {
-    ghost use Rattle.std.specs.Prelude.{ℕ, length};
-
-    ghost Value = { ℕ };
-
-    ghost view = { λ s. length s.compared.items };
+    pub keys: Count,
+    pub digests: Count,
 }
 
 impl Steps {
     /// No comparison yet.
     pub fn new() -> Steps
-        ensures { result ≡ 0 }
+        ensures keys { result.keys ≡ 0 }
+        ensures digests { result.digests ≡ 0 }
     {
         Steps {
-            compared: History::new(),
+            keys: Count::new(),
+            digests: Count::new(),
         }
     }
 
-    /// Compares two nodes, and counts one comparison.
+    /// Compares two nodes, and counts one comparison of keys.
     pub fn compare(&mut self, a: &Yaml, b: &Yaml) -> Ordering
         ensures order { result ≡ tree_cmp (view a.now) (view b.now) }
-        ensures steps { self.new ≡ self.old + 1 }
+        ensures keys { self.new.keys ≡ self.old.keys + 1 }
+        ensures digests { self.new.digests ≡ self.old.digests }
     {
-        self.compared.push(&());
+        self.keys.add();
         compare(a, b)
     }
 
     // The same of a `String` of that text.
     pub(crate) fn compare_text(&mut self, text: &str, b: &Yaml) -> Ordering
         ensures order { result ≡ tree_cmp (string (chars text.now)) (view b.now) }
-        ensures steps { self.new ≡ self.old + 1 }
+        ensures keys { self.new.keys ≡ self.old.keys + 1 }
+        ensures digests { self.new.digests ≡ self.old.digests }
     {
-        self.compared.push(&());
+        self.keys.add();
         compare_text(text, b)
     }
 }

@@ -1,4 +1,4 @@
-use Rattle.std.proofs.Common.{◌≡◌, ◌+◌, ◌-◌, ◌*◌, ◌/◌, ◌^◌, ◌<◌, length, sym, ap, ◌∙◌, arith, rules}
+use Rattle.std.proofs.Common.{◌≡◌, ◌+◌, ◌-◌, ◌*◌, ◌/◌, ◌^◌, ◌<◌, length, refl, sym, ap, ◌∙◌, arith, rules}
 use Rattle.defs_tree.specs.Order.{tree_cmp}
 use Rattle.defs_tree.proofs.OrderLaws.{tree_tied}
 use Rattle.yaml_tree.specs.Digests.{first_by}
@@ -7,7 +7,7 @@ use Rattle.yaml_tree.specs.Ranked.{key_of_rank}
 use Rattle.yaml_tree.specs.Probes.{probed}
 use Rattle.yaml_tree.specs.View.{pairs_view}
 use Rattle.yaml_tree.proofs.Flattened.{row_length}
-use Rattle.yaml_tree.proofs.Halving.{halved, digits_rise}
+use Rattle.yaml_hash_index.proofs.Halving.{halved, digits_rise}
 use Rattle.yaml_tree.proofs.Indexed.{next_spot, next_rank, offset_inside, place_inside}
 use Rattle.yaml_tree.proofs.Digesting.{kept_digests_rise, window_leaves, same_digest}
 use Rattle.yaml_tree.proofs.Ranking.{above_up_to, below_from_on}
@@ -33,8 +33,9 @@ loop-count-init c =
       above = left.above;
       below = left.below;
       same = left.same;
-      steps = omega (arith, digits_rise count (length (places c.args.ranks.now.kept)) (omega (arith, left.within)));
+      keys = omega (arith, digits_rise count (length (places c.args.ranks.now.kept)) (omega (arith, left.within)));
       counted = omega arith;
+      digests = refl;
     }
 
 pub advanced-middle-requires-clause-fits : goal.advanced-middle-requires-clause-fits
@@ -72,8 +73,9 @@ loop-count-preserved-in-Less c =
       above = i.above;
       below = λ r h g. below_from_on (places c.args.ranks.now.kept) (pairs_view c.args.row.now) c.requires.hash.ranked (probed c.args.probe) (rank_at c.args.ranks.now.kept c.advanced-middle.result) (by_key ∙ sym (sym c.in-Less.is ∙ compared)) r (omega (arith, h, c.advanced-middle.ensures.rank)) g;
       same = λ r h g. i.same r h (omega (arith, g));
-      steps = omega (arith, half, i.steps, c.compare.ensures.steps);
-      counted = omega (arith, i.counted, c.compare.ensures.steps);
+      keys = omega (arith, half, i.keys, c.compare.ensures.keys);
+      counted = omega (arith, i.counted, c.compare.ensures.keys);
+      digests = c.compare.ensures.digests ∙ i.digests;
     }
 
 pub overflow_add-low : goal.overflow_add-low
@@ -100,8 +102,9 @@ loop-count-preserved c =
       above = λ r h. above_up_to (places c.args.ranks.now.kept) (pairs_view c.args.row.now) c.requires.hash.ranked (probed c.args.probe) (rank_at c.args.ranks.now.kept c.advanced-middle.result) within (by_key ∙ sym (sym c.in-Greater.is ∙ compared)) r (omega (arith, h, next));
       below = λ r h g. i.below r (omega (arith, h, next, c.advanced-middle.ensures.rank)) g;
       same = λ r h g. i.same r (omega (arith, h, next, c.advanced-middle.ensures.rank)) (omega (arith, g, next, c.advanced-middle.ensures.rank));
-      steps = omega (arith, half, i.steps, c.compare.ensures.steps);
-      counted = omega (arith, i.counted, c.compare.ensures.steps);
+      keys = omega (arith, half, i.keys, c.compare.ensures.keys);
+      counted = omega (arith, i.counted, c.compare.ensures.keys);
+      digests = c.compare.ensures.digests ∙ i.digests;
     }
 
 pub returns-in-Equal-clause-found : goal.returns-in-Equal-clause-found
@@ -110,7 +113,18 @@ returns-in-Equal-clause-found c =
     let compared = c.compare.ensures.order ∙ ap (tree_cmp (probed c.args.probe)) (ranked_key c.args.row.now (places c.args.ranks.now.kept) c.requires.hash (rank_at c.args.ranks.now.kept c.advanced-middle.result) c.at-place.result c.index-row-place.result within c.at-place.ensures c.index-row-place.is) in
     (within, sym (tree_tied _ _ (sym compared ∙ c.in-Equal.is)))
 
-pub returns-in-Equal-clause-steps : goal.returns-in-Equal-clause-steps
-returns-in-Equal-clause-steps c =
+pub returns-in-Equal-clause-keys : goal.returns-in-Equal-clause-keys
+returns-in-Equal-clause-keys c =
+    let i = c.loop-count.invariant in
     let half = halved 0 c.loop-count.count c.loop-count-test.true (omega arith) in
-    omega (arith, half, c.loop-count.invariant.steps, c.compare.ensures.steps)
+    (omega (arith, i.counted, c.compare.ensures.keys), omega (arith, half, i.keys, c.compare.ensures.keys))
+
+pub returns-in-Equal-clause-digests : goal.returns-in-Equal-clause-digests
+returns-in-Equal-clause-digests c =
+    let risen = c.window-count.ensures.compared in
+    (omega (arith, risen.0, c.loop-count.invariant.digests, c.compare.ensures.digests), omega (arith, risen.1, c.loop-count.invariant.digests, c.compare.ensures.digests))
+
+pub returns-clause-digests : goal.returns-clause-digests
+returns-clause-digests c =
+    let risen = c.window-count.ensures.compared in
+    (omega (arith, risen.0, c.loop-count.invariant.digests), omega (arith, risen.1, c.loop-count.invariant.digests))

@@ -15,8 +15,9 @@ invariant-loop-count l = record {
   above : (r : ℕ) → r < rank_at l.ranks.kept l.low → key_cmp (first_by l.ranks.kept) (probed l.probe) (key_of_rank (places l.ranks.kept) (pairs_view l.row) r) ≡ Greater;
   below : (r : ℕ) → rank_at l.ranks.kept l.low + l.count ≤ r → r < length (places l.ranks.kept) → key_cmp (first_by l.ranks.kept) (probed l.probe) (key_of_rank (places l.ranks.kept) (pairs_view l.row) r) ≡ Less;
   same : (r : ℕ) → rank_at l.ranks.kept l.low ≤ r → r < rank_at l.ranks.kept l.low + l.count → first_by l.ranks.kept (key_of_rank (places l.ranks.kept) (pairs_view l.row) r) ≡ first_by l.ranks.kept (probed l.probe);
-  steps : l.steps + binary_digits l.count ≤ l.initial.steps + binary_digits (length (places l.ranks.kept));
-  counted : l.initial.steps ≤ l.steps;
+  keys : l.steps.keys + binary_digits l.count ≤ l.initial.steps.keys + binary_digits (length (places l.ranks.kept));
+  counted : l.initial.steps.keys ≤ l.steps.keys;
+  digests : l.steps.digests ≡ l.initial.steps.digests;
 }
 
 abbrev pub decreases-loop-count : goal.decreases-loop-count

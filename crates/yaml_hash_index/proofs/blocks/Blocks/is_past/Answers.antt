@@ -1,17 +1,17 @@
-use Rattle.std.proofs.Common.{◌≡◌, ◌<◌, ◌+◌, suc, [], get_or, ap, length, subst, ◌∙◌, arith}
-use Rattle.std.proofs.lemmas.Bool.Decides.{nat_tests}
+use Rattle.std.proofs.Common.{◌≡◌, ◌<◌, ◌+◌, suc, [], get_or, sym, ap, length, subst, ◌∙◌, arith}
+use Rattle.std.proofs.lemmas.Bool.{ltb-true}
 use Rattle.yaml_hash_index.specs.Edges.{digest_at}
 use Rattle.yaml_hash_index.specs.Blocks.{joined, start, rank_of, AreFilled}
 use Rattle.yaml_hash_index.proofs.Joining.{block_read, digest_in, start_all, start_next}
 use Rattle.yaml_hash_index.proofs.blocks.Blocks.is_past.Goals as goal
 
-pub returns-then-len-spot : goal.returns-then-len-spot
-returns-then-len-spot c =
+pub returns-then-len-spot-clause-past : goal.returns-then-len-spot-clause-past
+returns-then-len-spot-clause-past c =
     let all = start_all c.args.self.now c.args.spot.block (omega (arith, c.if-len-spot.true, c.len.ensures, ap length c.self.view_is, c.self.inside.blocks.ok.0)) in
     λ t h. absurd (omega (arith, all, h))
 
-pub returns-then-spot-len : goal.returns-then-spot-len
-returns-then-spot-len c =
+pub returns-then-spot-len-clause-past : goal.returns-then-spot-len-clause-past
+returns-then-spot-len-clause-past c =
     let bs = c.args.self.now in
     let s = c.args.spot in
     let inside : s.block < length bs = omega (arith, c.if-len-spot.false, c.len.ensures, ap length c.self.view_is, c.self.inside.blocks.ok.0) in
@@ -19,10 +19,10 @@ returns-then-spot-len c =
     let within : s.offset < length (get_or bs s.block []) = omega (arith, ap length read, c.len-2.ensures, c.if-spot-len.true) in
     let digest = c.digest.ensures ∙ ap (λ b. digest_at b s.offset) read in
     let there = digest_in bs s.block s.offset inside within in
-    λ t h. let less : c.args.digest < c.digest.result = grind (arith, nat_tests, t) in omega (arith, less, digest, there)
+    λ t h. let less : c.args.digest < c.digest.result = ltb-true _ _ (sym c.is_below.ensures.order ∙ t) in omega (arith, less, digest, there)
 
-pub returns-then-len-spot-2 : goal.returns-then-len-spot-2
-returns-then-len-spot-2 c =
+pub returns-then-len-spot-2-clause-past : goal.returns-then-len-spot-2-clause-past
+returns-then-len-spot-2-clause-past c =
     let bs = c.args.self.now in
     let s = c.args.spot in
     let inside : s.block < length bs = omega (arith, c.if-len-spot.false, c.len.ensures, ap length c.self.view_is, c.self.inside.blocks.ok.0) in
@@ -32,8 +32,8 @@ returns-then-len-spot-2 c =
     let next = start_next bs s.block (suc s.block) (omega arith) in
     λ t h. absurd (omega (arith, all, next, h, ap length read, c.len-2.ensures, c.if-spot-len.false))
 
-pub returns : goal.returns
-returns c =
+pub returns-clause-past : goal.returns-clause-past
+returns-clause-past c =
     let bs = c.args.self.now in
     let s = c.args.spot in
     let inside : s.block < length bs = omega (arith, c.if-len-spot.false, c.len.ensures, ap length c.self.view_is, c.self.inside.blocks.ok.0) in
@@ -45,4 +45,4 @@ returns c =
     let first = digest_in bs (s.block + 1) 0 after (filled (s.block + 1) after) in
     let next = start_next bs s.block (s.block + 1) (omega arith) in
     let at : rank_of bs s ≡ start bs (s.block + 1) + 0 = omega (arith, next, ap length read, c.len-2.ensures, c.if-spot-len.false, c.requires.1) in
-    λ t h. let less : c.args.digest < c.digest-2.result = grind (arith, nat_tests, t) in omega (arith, less, digest, first, ap (digest_at (joined bs)) at)
+    λ t h. let less : c.args.digest < c.digest-2.result = ltb-true _ _ (sym c.is_below-2.ensures.order ∙ t) in omega (arith, less, digest, first, ap (digest_at (joined bs)) at)

@@ -4,7 +4,7 @@ use Rattle.yaml_hash_index.proofs.Joining.{edges_rise, edges_narrow, edge_past}
 use Rattle.yaml_hash_index.proofs.blocks.Blocks.narrowed.Goals as goal
 
 pub returns-then-is_past-clause-narrowed : goal.returns-then-is_past-clause-narrowed
-returns-then-is_past-clause-narrowed c = edge_past (joined c.args.self.now) c.args.digest (rank_of c.args.self.now c.edge-low.result) c.edge-low.ensures.edge (c.is_past.ensures c.if-is_past.true)
+returns-then-is_past-clause-narrowed c = edge_past (joined c.args.self.now) c.args.digest (rank_of c.args.self.now c.edge-low.result) c.edge-low.ensures.edge (c.is_past.ensures.past c.if-is_past.true)
 
 pub between-requires-clause-ordered : goal.between-requires-clause-ordered
 between-requires-clause-ordered c =
