@@ -36,7 +36,7 @@ use Rattle.proof_row_sound.proofs.Around.{line_taken, tokens_before, unbroken_ar
 use Rattle.proof_row_sound.proofs.KeyStarts.{new_key, keys_saved, numbered_inside, entry_kept}
 use Rattle.proof_row_sound.proofs.Outsides.{must_be_here, numbered_past, unbroken_node, one_node, taken_node, may_node, line_node, same_node, open_node}
 use Rattle.proof_row_sound.proofs.Standing.{all_true}
-use Rattle.proof_row_sound.proofs.Sides.{with_entries, ArrivesBy, ArrivesOutside, ArrivesInside, arrives_side, StandsBy, stands_by}
+use Rattle.proof_row_sound.proofs.Sides.{with_entries, ArrivesBy, ArrivesOutside, ArrivesInside, arrives_side, StandsBy, StandsAt, stands_at}
 use Rattle.proof_row_sound.proofs.Arrivals.{clean_after, some_rest, completes_at}
 
 -- What was read of a node: its token and piece, the separation after it, the text and the position after both, and what the scanner holds then: levels of indentation, its two flags, and where a colon may stand next.
@@ -338,15 +338,31 @@ module _ (text : List ℕ) (t : ScannerState) (f : FlowLevel) (fs : List FlowLev
 
 -- ---- both
 
+-- outside flow, where a piece begins: the account after a node that is no key
+abbrev pub base_outside : (text : List ℕ) (t : ScannerState) → ArrivesOutside text t → Read → Account
+base_outside text t o d = outside.Outer (site_then t [] o.here.site d) taken
+
+-- in flow
+abbrev pub base_inside : (text : List ℕ) (t : ScannerState) → ArrivesInside text t → Read → Account
+base_inside text t i d = with_entries (site_then t (i.level ∷ i.levels) i.here.site d) i.here.line (entry_past_node t.held.key_allowed i.entry ∷ i.entries)
+
+-- what stands then, with its account and its separation
+pub node_outside : (text : List ℕ) (t : ScannerState) (d : Read) → IsDeep t.held → (o : ArrivesOutside text t) → IsRead t [] o.here.site o.here.line [] o.here.separation d → StandsAt text (base_outside text t o d) d.gap (state_after t d)
+unfolding stands_outside
+node_outside text t d deep o r =
+    stands_at text (state_after t d) [] (saved t.held.key_allowed (new_key t) o.key ∷ []) [] o.flow_is (keys_saved t o.key [] o.keys_are) (stands_outside text t o.key o.here d o.flow_is deep r)
+
+pub node_inside : (text : List ℕ) (t : ScannerState) (d : Read) (i : ArrivesInside text t) → IsRead t (i.level ∷ i.levels) i.here.site i.here.line (i.entry ∷ i.entries) i.here.separation d → StandsAt text (base_inside text t i d) d.gap (state_after t d)
+unfolding stands_inside
+node_inside text t d i r =
+    stands_at text (state_after t d) (i.level ∷ i.levels) (saved t.held.key_allowed (new_key t) i.key ∷ i.keys) (entry_past_node t.held.key_allowed i.entry ∷ i.entries) i.flow_is (keys_saved t i.key i.keys i.keys_are)
+    (stands_inside text t i.level i.levels i.key i.keys i.entry i.entries i.here d i.flow_is r)
+
 -- Where a piece begins, a part of a node that is no collection was read: what holds between two fetches holds after it.
 pub node_read : (text : List ℕ) (t : ScannerState) (d : Read) → IsDeep t.held → Arrives text t →
     ((fs : List FlowLevel) (ks : List (Option Key)) (es : List Entry) → t.held.flow ≡ fs → (a : ArrivesBy text t fs ks es) → IsRead t fs a.site a.line es a.separation d) → Stands text (state_after t d)
 node_read text t d deep arrives known = by (arrives_side text t arrives)
   where
     by : ArrivesOutside text t ⊎ ArrivesInside text t → Stands text (state_after t d)
-    by (inl o) =
-        stands_by text (state_after t d) [] (saved t.held.key_allowed (new_key t) o.key ∷ []) [] o.flow_is (keys_saved t o.key [] o.keys_are)
-        (stands_outside text t o.key o.here d o.flow_is deep (known [] (o.key ∷ []) [] o.flow_is o.here))
-    by (inr i) =
-        stands_by text (state_after t d) (i.level ∷ i.levels) (saved t.held.key_allowed (new_key t) i.key ∷ i.keys) (entry_past_node t.held.key_allowed i.entry ∷ i.entries) i.flow_is (keys_saved t i.key i.keys i.keys_are)
-        (stands_inside text t i.level i.levels i.key i.keys i.entry i.entries i.here d i.flow_is (known (i.level ∷ i.levels) (i.key ∷ i.keys) (i.entry ∷ i.entries) i.flow_is i.here))
+    by (inl o) = (node_outside text t d deep o (known [] (o.key ∷ []) [] o.flow_is o.here)).stands
+    by (inr i) = (node_inside text t d i (known (i.level ∷ i.levels) (i.key ∷ i.keys) (i.entry ∷ i.entries) i.flow_is i.here)).stands

@@ -1,5 +1,5 @@
 -- Where a piece begins, and between two fetches: what holds with the flow levels, the open keys and the entries taken apart, outside flow and in flow.
-use Rattle.std.proofs.Common.{◌≡◌, ℕ, suc, ◌≤◌, List, [], ◌∷◌, ◌++◌, Bool, true, false, not, ◌==◌, length, Option, Some, refl, sym, subst, arith, ◌⊎◌, inl, inr}
+use Rattle.std.proofs.Common.{◌≡◌, ℕ, suc, ◌≤◌, List, [], ◌∷◌, ◌++◌, Bool, true, false, not, ◌==◌, length, Option, Some, refl, sym, ◌∙◌, subst, arith, ◌⊎◌, inl, inr}
 use Rattle.defs_text.specs.Position.{position_after}
 use Rattle.defs_text.specs.Text.{is_empty, has_no_nul}
 use Rattle.defs_token.specs.Token.{Token}
@@ -176,3 +176,24 @@ by_held text t es s = record {
 -- A state stands if it does so with the flow levels and keys that it holds, under other names.
 pub stands_by : (text : List ℕ) (t : ScannerState) (fs : List FlowLevel) (ks : List (Option Key)) (es : List Entry) → t.held.flow ≡ fs → t.held.keys ≡ ks → StandsBy text t fs ks es → Stands text t
 stands_by text t fs ks es f k s = by_held text t es (subst (λ x. StandsBy text t t.held.flow x es) (sym k) (subst (λ x. StandsBy text t x ks es) (sym f) s))
+
+-- A state that stands, with its account after the last piece and its separation in sight.
+pub record StandsAt (text : List ℕ) (base : Account) (separation : List ℕ) (t : ScannerState) : Type 0 where
+  pub stands : Stands text t
+  pub base_is : stands.base ≡ base
+  pub separation_is : stands.separation ≡ separation
+
+-- The same, with the account and the separation that it stands with.
+pub stands_at : (text : List ℕ) (t : ScannerState) (fs : List FlowLevel) (ks : List (Option Key)) (es : List Entry) → t.held.flow ≡ fs → t.held.keys ≡ ks → (s : StandsBy text t fs ks es) → StandsAt text (with_entries s.site s.line es) s.separation t
+unfolding by_held
+stands_at text t fs ks es f k =
+    let At : List FlowLevel → List (Option Key) → Type 0 = λ x y. (s : StandsBy text t x y es) → StandsAt text (with_entries s.site s.line es) s.separation t in
+    let own : At t.held.flow t.held.keys = λ s. record { stands = by_held text t es s; base_is = refl; separation_is = refl } in
+    subst (λ y. At fs y) k (subst (λ x. At x t.held.keys) f own)
+
+-- and under other equations of both
+pub stands_as : (text : List ℕ) (t : ScannerState) (fs : List FlowLevel) (ks : List (Option Key)) (es : List Entry) (base : Account) (separation : List ℕ) → t.held.flow ≡ fs → t.held.keys ≡ ks → (s : StandsBy text t fs ks es) →
+    with_entries s.site s.line es ≡ base → s.separation ≡ separation → StandsAt text base separation t
+stands_as text t fs ks es base separation f k s b g =
+    let at : StandsAt text (with_entries s.site s.line es) s.separation t = stands_at text t fs ks es f k s in
+    record { stands = at.stands; base_is = at.base_is ∙ b; separation_is = at.separation_is ∙ g }
