@@ -100,19 +100,24 @@ pub not_empty : (p : List ℕ) → not (is_empty p) ≡ true → p ≢ []
 not_empty [] h e = cc h
 not_empty (c ∷ p) h e = cc e
 
--- At like accounts the text says which step comes, but for whether a key begins with it.
+-- At like accounts the text says which piece comes after a separation.
+pub same_piece : (a b : Account) (w v : Step) (x y : List ℕ) → IsLike a b → IsWritten a w x → IsWritten b v y → w.separation ≡ v.separation → w.piece ++ x ≡ v.piece ++ y → Holds (has_no_nul (w.piece ++ x)) →
+    (w.piece ≡ v.piece) × (w.shown ≡ v.shown) × (x ≡ y)
+same_piece a b w v x y i h k f e clean =
+    let alike : IsSeenAlike (seen a (At a w x) w.separation) (seen b (At b v y) v.separation) = seen_alike a b w v x y i f e in
+    let pieces : (w.piece ≡ v.piece) × (x ≡ y) × (w.shown ≡ v.shown) =
+    pieces_seen_alike (seen a (At a w x) w.separation) (seen b (At b v y) v.separation) w.piece v.piece x y None None
+    (shown_position (At a w x) w.piece w.shown x) (shown_position (At b v y) v.piece v.shown y) w.shown v.shown alike (same_column a b w v x y i alike.2)
+    (not_empty w.piece h.1.0) (not_empty v.piece k.1.0) h.1.1 k.1.1 e clean in
+    (pieces.0, pieces.2, pieces.1)
+
+-- And which step, but for whether a key begins with it.
 pub same_written : (a b : Account) (w v : Step) (x y : List ℕ) → IsLike a b → IsWritten a w x → IsWritten b v y →
     w.separation ++ (w.piece ++ x) ≡ v.separation ++ (v.piece ++ y) → Holds (has_no_nul (w.separation ++ (w.piece ++ x))) →
     (w.separation ≡ v.separation) × (w.piece ≡ v.piece) × (w.shown ≡ v.shown) × (x ≡ y)
 same_written a b w v x y i h k e clean =
-    let some : w.piece ≢ [] = not_empty w.piece h.1.0 in
-    let other : v.piece ≢ [] = not_empty v.piece k.1.0 in
     let separations : (w.separation ≡ v.separation) × (w.piece ++ x ≡ v.piece ++ y) =
     separations_before (seen a (At a w x) w.separation) (seen b (At b v y) v.separation) w.separation v.separation w.piece v.piece x y None None
-    (shown_position (At a w x) w.piece w.shown x) (shown_position (At b v y) v.piece v.shown y) w.shown v.shown h.0 k.0 some other h.1.1 k.1.1 e in
-    let alike : IsSeenAlike (seen a (At a w x) w.separation) (seen b (At b v y) v.separation) = seen_alike a b w v x y i separations.0 separations.1 in
-    let pieces : (w.piece ≡ v.piece) × (x ≡ y) × (w.shown ≡ v.shown) =
-    pieces_seen_alike (seen a (At a w x) w.separation) (seen b (At b v y) v.separation) w.piece v.piece x y None None
-    (shown_position (At a w x) w.piece w.shown x) (shown_position (At b v y) v.piece v.shown y) w.shown v.shown alike (same_column a b w v x y i alike.2)
-    some other h.1.1 k.1.1 separations.1 (no_nul_after w.separation (w.piece ++ x) clean) in
-    (separations.0, pieces.0, pieces.2, pieces.1)
+    (shown_position (At a w x) w.piece w.shown x) (shown_position (At b v y) v.piece v.shown y) w.shown v.shown h.0 k.0 (not_empty w.piece h.1.0) (not_empty v.piece k.1.0) h.1.1 k.1.1 e in
+    let pieces : (w.piece ≡ v.piece) × (w.shown ≡ v.shown) × (x ≡ y) = same_piece a b w v x y i h k separations.0 separations.1 (no_nul_after w.separation (w.piece ++ x) clean) in
+    (separations.0, pieces.0, pieces.1, pieces.2)

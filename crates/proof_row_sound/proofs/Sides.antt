@@ -55,7 +55,7 @@ pub record ArrivesBy (text : List ℕ) (t : ScannerState) (fs : List FlowLevel) 
   pub completes : (c : Bool) (cs : List Bool) → MayChoose c (outside_key es ks) t.held.position t.rest →
       Completes text (separation ++ t.rest) (chosen c cs ks (with_entries site line es)) (tokens_up_to (chosen c cs ks (with_entries site line es)) ks tokens)
 
-arrives_by : (text : List ℕ) (t : ScannerState) (a : Arrives text t) → ArrivesBy text t t.held.flow t.held.keys a.base.entries
+unfoldable pub arrives_by : (text : List ℕ) (t : ScannerState) (a : Arrives text t) → ArrivesBy text t t.held.flow t.held.keys a.base.entries
 arrives_by text t a = record {
   site = a.base.site;
   line = a.base.line;
