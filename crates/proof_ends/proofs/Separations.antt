@@ -26,7 +26,7 @@ inside_line c r h = by (is_blank c) (is_break c) (is_nul c) (untrue _ (both _ _ 
     by true break nul f = absurd (cc f)
 
 -- a separation that goes on over a text at which another ends
-over : (in_comment : Bool) (c : ℕ) (r next rest : List ℕ) → is_separation in_comment (c ∷ r) next ≡ true → (not in_comment || is_at_line_end (c ∷ rest)) ≡ true → ends_separation (c ∷ rest) ≡ true → ⊥
+pub over : (in_comment : Bool) (c : ℕ) (r next rest : List ℕ) → is_separation in_comment (c ∷ r) next ≡ true → (not in_comment || is_at_line_end (c ∷ rest)) ≡ true → ends_separation (c ∷ rest) ≡ true → ⊥
 over false c r next rest h k f = contrary _ (both _ _ h).0 (unfilled c rest f)
 over true c r next rest h k f = contrary _ k (inside_line c rest f)
 

@@ -1,3 +1,4 @@
 pub mod Runs
 pub mod Sides
+pub mod Steps
 pub mod WaitingKeys

@@ -7,7 +7,6 @@ use Rattle.defs_row.specs.Row.{IsRowFrom}
 use Rattle.model_scanner.specs.declared.level.FlowLevel.{FlowLevel}
 use Rattle.model_scanner.specs.State.{Key, ScannerState}
 use Rattle.proof_row_sound.specs.Choices.{line_by, outside_key, chosen, MayChoose}
-use Rattle.proof_row_sound.specs.Arrives.{Arrives}
 use Rattle.proof_row_sound.proofs.NodesOutside.{Outer}
 use Rattle.proof_row_sound.proofs.Sides.{with_entries, ArrivesBy, ArrivesOutside, ArrivesInside, arrives_by, StandsAt}
 use Rattle.proof_row_complete.specs.Goes.{Goes, GoesHere}
