@@ -201,7 +201,7 @@ abbrev SeenWith : Node → Site → List Level → Type 0
 SeenWith d x levels =
     IsPiece (let a = seen (base d) x d.separation in record a { levels = levels }) d.piece d.next None (shown_position x d.piece d.tok d.next) d.tok
 
-seen_written : (d : Node) → IsNode d → (c : Bool) (cs : List Bool) (b : Bool) → IsWritten (before d c cs) (step_of d b) d.next
+pub seen_written : (d : Node) → IsNode d → (c : Bool) (cs : List Bool) (b : Bool) → IsWritten (before d c cs) (step_of d b) d.next
 seen_written d n c cs b =
     let levels : List Level = map level_of (entries_by (choices d cs) (keys d) (d.entry ∷ d.around)) in
     let site : Site = site_in true (act_of d.tok) (at d).position d.site in

@@ -171,7 +171,7 @@ node_tokens d n c may ws last e = subst (λ x. Whole (record d { next = x })) e 
 -- ---- rows
 
 -- a piece at an account is seen alike, whatever waits
-seen_written : (d : Node) → IsNode d → (c bit : Bool) → IsWritten (before d c) (step_of d bit) d.next
+pub seen_written : (d : Node) → IsNode d → (c bit : Bool) → IsWritten (before d c) (step_of d bit) d.next
 seen_written d n c bit = (n.is_filled, (ap not n.is_solid, subst (λ x. IsPiece (seen (before d c) x d.separation) d.piece d.next None (shown_position x d.piece d.tok d.next) d.tok) (sym (ap (λ x. site_in false x (at d).position d.site) n.act)) n.is_piece))
 
 -- If each choice before the piece is one of a row, then each choice after it is, and the tokens are those before, with the ends that stand here and the piece's own.

@@ -127,8 +127,9 @@ module _ (text : List ℕ) (t : ScannerState) (fs : List FlowLevel) (ks : List (
 -- ---- outside flow
 
 module _ (text : List ℕ) (t : ScannerState) (k : Option Key) (a : ArrivesBy text t [] (k ∷ []) []) (d : Read) (out : t.held.flow ≡ []) (deep : IsDeep t.held) (r : IsRead t [] a.site a.line [] a.separation d) where
-  abbrev n : outside.Node
-  n = record {
+  -- the step, as the lemmas on rows see it
+  abbrev pub outer_node : outside.Node
+  outer_node = record {
     site = a.site;
     line = a.line;
     line_here = a.line_here;
@@ -150,7 +151,7 @@ module _ (text : List ℕ) (t : ScannerState) (k : Option Key) (a : ArrivesBy te
   abbrev key_then : Option Key
   key_then = saved t.held.key_allowed (new_key t) k
 
-  abbrev same_place : t.held.position ≡ (outside.at n).position
+  abbrev same_place : t.held.position ≡ (outside.at outer_node).position
   same_place = here_is text t [] (k ∷ []) [] a d r
 
   abbrev some : is_empty t.rest ≡ false
@@ -159,16 +160,16 @@ module _ (text : List ℕ) (t : ScannerState) (k : Option Key) (a : ArrivesBy te
   abbrev later : NotBefore t.held.position d.end
   later = before_end text t [] (k ∷ []) [] a d r
 
-  tokens_same : t.held.tokens ≡ outside.tokens_here n
+  tokens_same : t.held.tokens ≡ outside.tokens_here outer_node
   tokens_same = subst (λ x. t.held.tokens ≡ a.tokens ++ ends_at x a.site.blocks (site_here false x a.site).blocks) same_place a.tokens_are
 
-  is_node : outside.IsNode n
-  is_node = record {
+  pub is_outer_node : outside.IsNode outer_node
+  is_outer_node = record {
     act = r.act;
     begun = r.begun;
     is_filled = subst (λ x. is_separation false a.separation x ≡ true) r.cut a.is_filled;
     is_solid = r.is_solid;
-    is_piece = subst (λ x. IsPiece (seen (outside.Outer a.site a.line) (outside.at n) a.separation) d.piece (next_of d) None x d.tok) (sym (r.shown (outside.at n)))
+    is_piece = subst (λ x. IsPiece (seen (outside.Outer a.site a.line) (outside.at outer_node) a.separation) d.piece (next_of d) None x d.tok) (sym (r.shown (outside.at outer_node)))
         (subst (λ x. IsPiece (seen (outside.Outer a.site a.line) (site_here false x a.site) a.separation) d.piece (next_of d) None x d.tok) same_place r.is_piece);
     stands = subst (λ x. may_stand false a.site (site_here false x a.site) a.separation d.piece d.tok (next_of d) ≡ true) same_place
         (all_true (is_indented_by_spaces a.site.before a.site.blocks a.site.awaits a.separation) (is_deep_enough false d.tok (site_of t [] a.site)) (further_lines_stand (least_for d.tok (site_of t [] a.site)) d.tok d.piece)
@@ -186,18 +187,18 @@ module _ (text : List ℕ) (t : ScannerState) (k : Option Key) (a : ArrivesBy te
         (subst (λ x. MayChoose (choice_before t.held.key_allowed c) k t.held.position x) r.cut (may_node text t k a out deep some d.end d.rest later c may));
   }
 
-  own_is : outside.own_token n ≡ own
-  own_is = ap (λ p. put p d.tok) (r.shown (outside.at n) ∙ sym same_place)
+  own_is : outside.own_token outer_node ≡ own
+  own_is = ap (λ p. put p d.tok) (r.shown (outside.at outer_node) ∙ sym same_place)
 
   rows_past : (c : Bool) → MayChoose c (key_then) d.end d.rest →
       Completes text (next_of d) (outside.Outer (site_then t [] a.site d) (line_by c (key_then) taken)) (tokens_up_to (outside.Outer (site_then t [] a.site d) (line_by c (key_then) taken)) (key_then ∷ []) (t.held.tokens ++ (own ∷ [])))
   rows_past c may =
       let past : Position → Account = λ p. outside.Outer (site_past false (site_here false p a.site) d.piece d.tok (next_of d) (site_here false p a.site).blocks) (line_by c key_then taken) in
-      let rows : Completes text (next_of d) (outside.past n c) (tokens_up_to (outside.past n c) (key_then ∷ []) (outside.tokens_here n ++ (outside.own_token n ∷ []))) =
-      outside.node_completes text n is_node (λ e m. completes_at text t [] (k ∷ []) [] a (d.piece ++ next_of d) (outside.at n).position r.cut same_place e [] m) c may in
-      let tokens : outside.tokens_here n ++ (outside.own_token n ∷ []) ≡ t.held.tokens ++ (own ∷ []) = ap (λ ts. ts ++ (outside.own_token n ∷ [])) (sym tokens_same) ∙ ap (λ x. t.held.tokens ++ (x ∷ [])) own_is in
+      let rows : Completes text (next_of d) (outside.past outer_node c) (tokens_up_to (outside.past outer_node c) (key_then ∷ []) (outside.tokens_here outer_node ++ (outside.own_token outer_node ∷ []))) =
+      outside.node_completes text outer_node is_outer_node (λ e m. completes_at text t [] (k ∷ []) [] a (d.piece ++ next_of d) (outside.at outer_node).position r.cut same_place e [] m) c may in
+      let tokens : outside.tokens_here outer_node ++ (outside.own_token outer_node ∷ []) ≡ t.held.tokens ++ (own ∷ []) = ap (λ ts. ts ++ (outside.own_token outer_node ∷ [])) (sym tokens_same) ∙ ap (λ x. t.held.tokens ++ (x ∷ [])) own_is in
       subst (λ p. Completes text (next_of d) (past p) (tokens_up_to (past p) (key_then ∷ []) (t.held.tokens ++ (own ∷ [])))) (sym same_place)
-      (subst (λ ts. Completes text (next_of d) (outside.past n c) (tokens_up_to (outside.past n c) (key_then ∷ []) ts)) tokens rows)
+      (subst (λ ts. Completes text (next_of d) (outside.past outer_node c) (tokens_up_to (outside.past outer_node c) (key_then ∷ []) ts)) tokens rows)
 
   stands_outside : StandsBy text (state_after t d) [] (key_then ∷ []) []
   stands_outside = record {
@@ -230,8 +231,9 @@ module _ (text : List ℕ) (t : ScannerState) (k : Option Key) (a : ArrivesBy te
 
 module _ (text : List ℕ) (t : ScannerState) (f : FlowLevel) (fs : List FlowLevel) (k : Option Key) (ks : List (Option Key)) (e : Entry) (es : List Entry) (a : ArrivesBy text t (f ∷ fs) (k ∷ ks) (e ∷ es)) (d : Read) (within : t.held.flow ≡ f ∷ fs)
     (r : IsRead t (f ∷ fs) a.site a.line (e ∷ es) a.separation d) where
-  abbrev m : inside.Node
-  m = record {
+  -- the step, as the lemmas on rows see it
+  abbrev pub inner_node : inside.Node
+  inner_node = record {
     site = a.site;
     line = a.line;
     entry = e;
@@ -252,7 +254,7 @@ module _ (text : List ℕ) (t : ScannerState) (f : FlowLevel) (fs : List FlowLev
   abbrev shown_token : Token
   shown_token = put t.held.position d.tok
 
-  place : t.held.position ≡ (inside.at m).position
+  place : t.held.position ≡ (inside.at inner_node).position
   place = here_is text t (f ∷ fs) (k ∷ ks) (e ∷ es) a d r
 
   abbrev goes : is_empty t.rest ≡ false
@@ -264,14 +266,14 @@ module _ (text : List ℕ) (t : ScannerState) (f : FlowLevel) (fs : List FlowLev
   tokens_alike : t.held.tokens ≡ a.tokens
   tokens_alike = tokens_before text t f fs k ks e es a
 
-  is_inner : inside.IsNode m
-  is_inner = record {
+  pub is_inner_node : inside.IsNode inner_node
+  is_inner_node = record {
     act = r.act;
     begun = r.begun;
     is_filled = subst (λ x. is_separation false a.separation x ≡ true) r.cut a.is_filled;
     is_solid = r.is_solid;
-    is_piece = subst (λ x. IsPiece (seen (inside.base m) (inside.at m) a.separation) d.piece (next_of d) None x d.tok) (sym (r.shown (inside.at m)))
-        (subst (λ x. IsPiece (seen (inside.base m) (site_here true x a.site) a.separation) d.piece (next_of d) None x d.tok) place r.is_piece);
+    is_piece = subst (λ x. IsPiece (seen (inside.base inner_node) (inside.at inner_node) a.separation) d.piece (next_of d) None x d.tok) (sym (r.shown (inside.at inner_node)))
+        (subst (λ x. IsPiece (seen (inside.base inner_node) (site_here true x a.site) a.separation) d.piece (next_of d) None x d.tok) place r.is_piece);
     stands = subst (λ x. may_stand true a.site (site_here true x a.site) a.separation d.piece d.tok (next_of d) ≡ true) place
         (all_true (is_indented_by_spaces a.site.before a.site.blocks a.site.awaits a.separation) (is_deep_enough true d.tok (site_of t (f ∷ fs) a.site)) (further_lines_stand (least_for d.tok (site_of t (f ∷ fs) a.site)) d.tok d.piece)
         (may_precede true (site_of t (f ∷ fs) a.site).blocks d.tok d.piece (next_of d)) (a.is_indented goes) r.is_deep r.lines_stand r.precedes);
@@ -302,12 +304,12 @@ module _ (text : List ℕ) (t : ScannerState) (f : FlowLevel) (fs : List FlowLev
   rows_inside c cs may =
       let ys : List (Option Key) = saved t.held.key_allowed (new_key t) k ∷ ks in
       let past : Position → Account = λ p. chosen c cs ys (with_entries (site_past true (site_here true p a.site) d.piece d.tok (next_of d) (site_here true p a.site).blocks) a.line (entry_past_node t.held.key_allowed e ∷ es)) in
-      let rows : Completes text (next_of d) (inside.past m c cs) (tokens_up_to (inside.past m c cs) ys (a.tokens ++ (inside.own_token m ∷ []))) =
-      inside.node_completes text m is_inner (λ b bs q. completes_at text t (f ∷ fs) (k ∷ ks) (e ∷ es) a (d.piece ++ next_of d) (inside.at m).position r.cut place b bs q) c cs may in
-      let tokens : a.tokens ++ (inside.own_token m ∷ []) ≡ t.held.tokens ++ (shown_token ∷ []) =
-      ap (λ ts. ts ++ (inside.own_token m ∷ [])) (sym tokens_alike) ∙ ap (λ p. t.held.tokens ++ (put p d.tok ∷ [])) (r.shown (inside.at m) ∙ sym place) in
+      let rows : Completes text (next_of d) (inside.past inner_node c cs) (tokens_up_to (inside.past inner_node c cs) ys (a.tokens ++ (inside.own_token inner_node ∷ []))) =
+      inside.node_completes text inner_node is_inner_node (λ b bs q. completes_at text t (f ∷ fs) (k ∷ ks) (e ∷ es) a (d.piece ++ next_of d) (inside.at inner_node).position r.cut place b bs q) c cs may in
+      let tokens : a.tokens ++ (inside.own_token inner_node ∷ []) ≡ t.held.tokens ++ (shown_token ∷ []) =
+      ap (λ ts. ts ++ (inside.own_token inner_node ∷ [])) (sym tokens_alike) ∙ ap (λ p. t.held.tokens ++ (put p d.tok ∷ [])) (r.shown (inside.at inner_node) ∙ sym place) in
       subst (λ p. Completes text (next_of d) (past p) (tokens_up_to (past p) ys (t.held.tokens ++ (shown_token ∷ [])))) (sym place)
-      (subst (λ ts. Completes text (next_of d) (inside.past m c cs) (tokens_up_to (inside.past m c cs) ys ts)) tokens rows)
+      (subst (λ ts. Completes text (next_of d) (inside.past inner_node c cs) (tokens_up_to (inside.past inner_node c cs) ys ts)) tokens rows)
 
   stands_inside : StandsBy text (state_after t d) (f ∷ fs) (saved t.held.key_allowed (new_key t) k ∷ ks) (entry_past_node t.held.key_allowed e ∷ es)
   stands_inside = record {
