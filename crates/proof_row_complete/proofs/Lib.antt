@@ -1,4 +1,6 @@
+pub mod Nodes
 pub mod Runs
 pub mod Sides
 pub mod Steps
 pub mod WaitingKeys
+pub mod Waits

@@ -89,7 +89,7 @@ step_by begin a w next e =
 
 -- ---- a row
 
-not_both : (l : Line) (b : Bool) (begin : Position) → l ≡ waits begin → (not (is_waiting l) && b) ≡ true → ⊥
+pub not_both : (l : Line) (b : Bool) (begin : Position) → l ≡ waits begin → (not (is_waiting l) && b) ≡ true → ⊥
 not_both (waits p) b begin e h = absurd (cc h)
 not_both free b begin e h = absurd (cc e)
 not_both taken b begin e h = absurd (cc e)
