@@ -1,5 +1,5 @@
 -- The next token by its first characters: what holds between fetches holds after it.
-use Rattle.std.proofs.Common.{◌≡◌, ℕ, ◌+◌, List, [], ◌∷◌, Bool, true, false, not, ◌==◌, ◌&&◌, ◌||◌, if◌then◌else◌, slice_index, refl, ap, sym, ◌∙◌, arith}
+use Rattle.std.proofs.Common.{◌≡◌, ℕ, ◌+◌, List, [], ◌∷◌, Bool, true, false, not, ◌==◌, ◌&&◌, ◌||◌, if◌then◌else◌, slice_index, Result, Err, refl, ap, sym, ◌∙◌, arith}
 use Rattle.yaml_chars.specs.Class.{is_blank, is_break, is_blank_or_breakz, is_flow}
 use Rattle.defs_text.specs.Text.{is_empty, has_no_nul}
 use Rattle.defs_token.specs.Token.{Tok}
@@ -7,6 +7,9 @@ use Rattle.defs_text.specs.Classes as classes
 use Rattle.defs_text.specs.Classes.{is_one_of, is_at_gap, is_document_marker}
 use Rattle.defs_token.specs.Plain.{begins_flow, is_value_indicator, may_begin}
 use Rattle.defs_token.specs.Account.{is_adjacent}
+use Rattle.yaml_tokens.specs.declared.problem.Fault.{Fault}
+use Rattle.yaml_tokens.specs.declared.problem.Fault.TheVariants.{At}
+use Rattle.yaml_tokens.specs.declared.problem.Problem.TheVariants as problem
 use Rattle.model_scanner.specs.declared.level.FlowLevel.TheVariants.{Mapping, Entry}
 use Rattle.model_scanner.specs.State.{ScannerState, peek, in_flow}
 use Rattle.model_scanner.specs.Class.{class_of}
@@ -49,21 +52,24 @@ unfolding classes.is_blank_or_end classes.is_blank classes.is_break classes.is_n
 other_begins fl adjacent c more o =
     rw (o.e45, o.e63, o.e58, o.e124, o.e62, o.e32, o.e9, o.e10, o.e13, o.e0, o.e44, o.e91, o.e93, o.e123, o.e125, o.e35, o.e38, o.e42, o.e33, o.e37, o.e64, o.e96, o.e39, o.e34) refl
 
--- What the function of each token leaves, where it is called; whether a colon may stand next to what stands before is known.
-pub record TokensHold (P : ScannerState → Type 0) (t : ScannerState) (adjacent : Bool) : Type 0 where
-  pub anchor : (alias : Bool) (more : List ℕ) → t.rest ≡ (if alias then 42 else 38) ∷ more → Holds P (fetch_anchor alias t)
-  pub tag : (more : List ℕ) → t.rest ≡ 33 ∷ more → Holds P (fetch_tag t)
-  pub plain : comes_plain (in_flow t.held) adjacent t.held.position.col t.rest ≡ true → Holds P (fetch_plain_scalar t)
-  pub quoted : (single : Bool) (more : List ℕ) → t.rest ≡ quote_of single ∷ more → Holds P (fetch_flow_scalar single t)
-  pub block : (literal : Bool) (more : List ℕ) → t.rest ≡ (if literal then 124 else 62) ∷ more → is_empty t.held.flow ≡ true → Holds P (fetch_block_scalar literal t)
-  pub dash : (more : List ℕ) → t.rest ≡ 45 ∷ more → is_at_gap more ≡ true → Holds P (fetch_block_entry t)
-  pub question : (more : List ℕ) → t.rest ≡ 63 ∷ more → is_at_gap more ≡ true → Holds P (fetch_key t)
-  pub colon : (more : List ℕ) → t.rest ≡ 58 ∷ more → is_value t ≡ true → Holds P (fetch_value t)
-  pub open_bracket : (more : List ℕ) → t.rest ≡ 91 ∷ more → Holds P (fetch_flow_collection_start Entry Tok.flow_sequence_start t)
-  pub open_brace : (more : List ℕ) → t.rest ≡ 123 ∷ more → Holds P (fetch_flow_collection_start Mapping Tok.flow_mapping_start t)
-  pub close_bracket : (more : List ℕ) → t.rest ≡ 93 ∷ more → Holds P (fetch_flow_collection_end Tok.flow_sequence_end t)
-  pub close_brace : (more : List ℕ) → t.rest ≡ 125 ∷ more → Holds P (fetch_flow_collection_end Tok.flow_mapping_end t)
-  pub comma : (more : List ℕ) → t.rest ≡ 44 ∷ more → Holds P (fetch_flow_entry t)
+-- What is so of what the function of each token gives, where it is called, and of the three refusals; whether a colon may stand next to what stands before is known.
+pub record TokensHold (Q : Result ScannerState Fault → Type 0) (t : ScannerState) (adjacent : Bool) : Type 0 where
+  pub anchor : (alias : Bool) (more : List ℕ) → t.rest ≡ (if alias then 42 else 38) ∷ more → Q (fetch_anchor alias t)
+  pub tag : (more : List ℕ) → t.rest ≡ 33 ∷ more → Q (fetch_tag t)
+  pub plain : comes_plain (in_flow t.held) adjacent t.held.position.col t.rest ≡ true → Q (fetch_plain_scalar t)
+  pub quoted : (single : Bool) (more : List ℕ) → t.rest ≡ quote_of single ∷ more → Q (fetch_flow_scalar single t)
+  pub block : (literal : Bool) (more : List ℕ) → t.rest ≡ (if literal then 124 else 62) ∷ more → is_empty t.held.flow ≡ true → Q (fetch_block_scalar literal t)
+  pub dash : (more : List ℕ) → t.rest ≡ 45 ∷ more → is_at_gap more ≡ true → Q (fetch_block_entry t)
+  pub question : (more : List ℕ) → t.rest ≡ 63 ∷ more → is_at_gap more ≡ true → Q (fetch_key t)
+  pub colon : (more : List ℕ) → t.rest ≡ 58 ∷ more → is_value t ≡ true → Q (fetch_value t)
+  pub open_bracket : (more : List ℕ) → t.rest ≡ 91 ∷ more → Q (fetch_flow_collection_start Entry Tok.flow_sequence_start t)
+  pub open_brace : (more : List ℕ) → t.rest ≡ 123 ∷ more → Q (fetch_flow_collection_start Mapping Tok.flow_mapping_start t)
+  pub close_bracket : (more : List ℕ) → t.rest ≡ 93 ∷ more → Q (fetch_flow_collection_end Tok.flow_sequence_end t)
+  pub close_brace : (more : List ℕ) → t.rest ≡ 125 ∷ more → Q (fetch_flow_collection_end Tok.flow_mapping_end t)
+  pub comma : (more : List ℕ) → t.rest ≡ 44 ∷ more → Q (fetch_flow_entry t)
+  pub percent : (more : List ℕ) → t.rest ≡ 37 ∷ more → Q (Err (At problem.UnexpectedPercent t.held.position))
+  pub at_sign : (more : List ℕ) → t.rest ≡ 64 ∷ more → Q (Err (At problem.UnexpectedAt t.held.position))
+  pub backtick : (more : List ℕ) → t.rest ≡ 96 ∷ more → Q (Err (At problem.UnexpectedBacktick t.held.position))
 
 gap_after : (t : ScannerState) (c : ℕ) (more : List ℕ) (gap : Bool) → t.rest ≡ c ∷ more → is_at_gap more ≡ gap → is_blank_or_breakz (slice_index t.rest 1) ≡ gap
 gap_after t c more gap e g = ap (λ l. is_blank_or_breakz (slice_index l 1)) e ∙ gap_here more ∙ g
@@ -87,13 +93,13 @@ value_is t adjacent more e now = by (is_empty t.held.flow) refl
 
 -- ---- the token by its first character
 
-module _ (P : ScannerState → Type 0) (t : ScannerState) (adjacent : Bool) (clean : has_no_nul t.rest ≡ true) (solid : begins_separation t.rest ≡ false) (now : is_empty t.held.flow ≡ false → (t.held.position.index == t.held.adjacent_value_at) ≡ adjacent)
-    (marker : ((t.held.position.col == 0) && is_document_marker t.rest) ≡ false) (h : TokensHold P t adjacent) where
+module _ (Q : Result ScannerState Fault → Type 0) (t : ScannerState) (adjacent : Bool) (clean : has_no_nul t.rest ≡ true) (solid : begins_separation t.rest ≡ false) (now : is_empty t.held.flow ≡ false → (t.held.position.index == t.held.adjacent_value_at) ≡ adjacent)
+    (marker : ((t.held.position.col == 0) && is_document_marker t.rest) ≡ false) (h : TokensHold Q t adjacent) where
   -- a token that begins with a character
   abbrev Reads : ℕ → Type 0
-  Reads c = (more : List ℕ) → t.rest ≡ c ∷ more → Holds P (token_by (class_of c) t)
+  Reads c = (more : List ℕ) → t.rest ≡ c ∷ more → Q (token_by (class_of c) t)
 
-  plain_here : (c : ℕ) (more : List ℕ) → t.rest ≡ c ∷ more → (if c == 45 then not (is_at_gap more) else may_begin (in_flow t.held) adjacent c more) ≡ true → Holds P (fetch_plain_scalar t)
+  plain_here : (c : ℕ) (more : List ℕ) → t.rest ≡ c ∷ more → (if c == 45 then not (is_at_gap more) else may_begin (in_flow t.held) adjacent c more) ≡ true → Q (fetch_plain_scalar t)
   plain_here c more e g =
       let none : ((t.held.position.col == 0) && is_document_marker (c ∷ more)) ≡ false = ap (λ l. (t.held.position.col == 0) && is_document_marker l) (sym e) ∙ marker in
       h.plain (ap (comes_plain (in_flow t.held) adjacent t.held.position.col) e ∙ rw (g, none) refl)
@@ -113,7 +119,7 @@ module _ (P : ScannerState → Type 0) (t : ScannerState) (adjacent : Bool) (cle
   unfolding class_of
   dash more e = by (is_at_gap more) refl
     where
-      by : (gap : Bool) → is_at_gap more ≡ gap → Holds P (if is_blank_or_breakz (slice_index t.rest 1) then fetch_block_entry t else fetch_plain_scalar t)
+      by : (gap : Bool) → is_at_gap more ≡ gap → Q (if is_blank_or_breakz (slice_index t.rest 1) then fetch_block_entry t else fetch_plain_scalar t)
       by true g = rw (gap_after t 45 more true e g) (h.dash more e g)
       by false g = rw (gap_after t 45 more false e g) (plain_here 45 more e (rw g refl))
 
@@ -121,7 +127,7 @@ module _ (P : ScannerState → Type 0) (t : ScannerState) (adjacent : Bool) (cle
   unfolding class_of
   question more e = by (is_at_gap more) refl
     where
-      by : (gap : Bool) → is_at_gap more ≡ gap → Holds P (if is_blank_or_breakz (slice_index t.rest 1) then fetch_key t else fetch_plain_scalar t)
+      by : (gap : Bool) → is_at_gap more ≡ gap → Q (if is_blank_or_breakz (slice_index t.rest 1) then fetch_key t else fetch_plain_scalar t)
       by true g = rw (gap_after t 63 more true e g) (h.question more e g)
       by false g = rw (gap_after t 63 more false e g) (plain_here 63 more e (rw g refl))
 
@@ -129,17 +135,17 @@ module _ (P : ScannerState → Type 0) (t : ScannerState) (adjacent : Bool) (cle
   unfolding class_of
   colon more e = by (is_value t) refl
     where
-      by : (b : Bool) → is_value t ≡ b → Holds P (if b then fetch_value t else fetch_plain_scalar t)
+      by : (b : Bool) → is_value t ≡ b → Q (if b then fetch_value t else fetch_plain_scalar t)
       by true i = h.colon more e i
       by false i = plain_here 58 more e (rw (sym (value_is t adjacent more e now) ∙ i) refl)
 
   -- an indicator outside flow, which in flow begins a plain scalar
   block_or_plain : (literal : Bool) (c : ℕ) (more : List ℕ) → t.rest ≡ c ∷ more → c ≡ (if literal then 124 else 62)
       → (in_flow t.held ≡ true → (if c == 45 then not (is_at_gap more) else may_begin (in_flow t.held) adjacent c more) ≡ true)
-      → Holds P (if in_flow t.held then fetch_plain_scalar t else fetch_block_scalar literal t)
+      → Q (if in_flow t.held then fetch_plain_scalar t else fetch_block_scalar literal t)
   block_or_plain literal c more e is may = by (is_empty t.held.flow) refl
     where
-      by : (out : Bool) → is_empty t.held.flow ≡ out → Holds P (if not out then fetch_plain_scalar t else fetch_block_scalar literal t)
+      by : (out : Bool) → is_empty t.held.flow ≡ out → Q (if not out then fetch_plain_scalar t else fetch_block_scalar literal t)
       by true o = h.block literal more (e ∙ ap (λ k. k ∷ more) is) o
       by false o = plain_here c more e (may (ap not o))
 
@@ -193,15 +199,15 @@ module _ (P : ScannerState → Type 0) (t : ScannerState) (adjacent : Bool) (cle
 
   percent : Reads 37
   unfolding class_of
-  percent more e = refused
+  percent more e = h.percent more e
 
   at_sign : Reads 64
   unfolding class_of
-  at_sign more e = refused
+  at_sign more e = h.at_sign more e
 
   backtick : Reads 96
   unfolding class_of
-  backtick more e = refused
+  backtick more e = h.backtick more e
 
   -- ---- all characters
 
@@ -263,11 +269,11 @@ module _ (P : ScannerState → Type 0) (t : ScannerState) (adjacent : Bool) (cle
     other = other;
   }) c
 
-  pub token_holds : is_empty t.rest ≡ false → Holds P (fetch_token t)
+  pub token_holds : is_empty t.rest ≡ false → Q (fetch_token t)
   unfolding fetch_token
   token_holds some = by t.rest refl some
     where
-      by : (l : List ℕ) → t.rest ≡ l → is_empty l ≡ false → Holds P (token_by (class_of (peek t.rest)) t)
+      by : (l : List ℕ) → t.rest ≡ l → is_empty l ≡ false → Q (token_by (class_of (peek t.rest)) t)
       by [] e n = absurd (cc n)
       by (c ∷ more) e n = rw (ap peek e) (each c more e)
 
@@ -275,7 +281,7 @@ module _ (P : ScannerState → Type 0) (t : ScannerState) (adjacent : Bool) (cle
 
 pub token_fetched : (text : List ℕ) (t : ScannerState) → Ready text t → IsDeep t.held → ((t.held.position.col == 0) && is_document_marker t.rest) ≡ false → Holds (FaresAt text) (fetch_token t)
 token_fetched text t r deep marker =
-    token_holds (FaresAt text) t (is_adjacent r.stands.before) r.stands.stood.here.is_clean r.solid now marker (record {
+    token_holds (Holds (FaresAt text)) t (is_adjacent r.stands.before) r.stands.stood.here.is_clean r.solid now marker (record {
       anchor = λ alias more e. anchor_fetched text alias t more e r.stands deep;
       tag = λ more e. tag_fetched text t more e r.stands deep;
       plain = plain_fetched text t r.stands deep;
@@ -289,6 +295,9 @@ token_fetched text t r deep marker =
       close_bracket = λ more e. flow_ended text Tok.flow_sequence_end 93 more closing_sequence t e r.stands;
       close_brace = λ more e. flow_ended text Tok.flow_mapping_end 125 more closing_mapping t e r.stands;
       comma = λ more e. entry_passed text more t e r.stands;
+      percent = λ more e. refused;
+      at_sign = λ more e. refused;
+      backtick = λ more e. refused;
     }) r.some
   where
     begins : (l : List ℕ) → is_empty l ≡ false → begins_separation l ≡ false → begins_token l ≡ true

@@ -130,7 +130,7 @@ space_is_gap (c ∷ x) h = by (c == 32) (c == 9) (is_break c) (is_nul c) h
 dash_kind : (x : List ℕ) → is_at_gap x ≡ true → kind_by 45 x ≡ dash
 dash_kind x h = rw h refl
 
-directive_begins : (p : List ℕ) (d : Directive) → directive_of p ≡ Some d → (r : List ℕ) × (p ≡ 37 ∷ r)
+pub directive_begins : (p : List ℕ) (d : Directive) → directive_of p ≡ Some d → (r : List ℕ) × (p ≡ 37 ∷ r)
 unfolding directive_of
 directive_begins [] d e = absurd (cc e)
 directive_begins (c ∷ r) d e = by (c == 37) refl e

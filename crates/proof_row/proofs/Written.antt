@@ -20,14 +20,13 @@ use Rattle.proof_row.proofs.Accounts.{same_flow}
 -- ---- what a piece is seen with
 
 -- a kind of piece says whether it stands for the document
-is_marker_kind : Kind → Bool
+abbrev pub is_marker_kind : Kind → Bool
 is_marker_kind directive_line = true
 is_marker_kind dashes = true
 is_marker_kind dots = true
 is_marker_kind _ = false
 
-marker_by_kind : (t : Tok) → is_marker (act_of t) ≡ is_marker_kind (kind_of t)
-unfolding is_marker_kind
+pub marker_by_kind : (t : Tok) → is_marker (act_of t) ≡ is_marker_kind (kind_of t)
 marker_by_kind stream_start = refl
 marker_by_kind stream_end = refl
 marker_by_kind (version_directive major minor) = refl

@@ -32,7 +32,7 @@ pub clean_after : (a b : List ℕ) → has_no_nul (a ++ b) ≡ true → has_no_n
 clean_after [] b h = h
 clean_after (c ∷ a) b h = clean_after a b (and_parts (not (is_nul c)) (has_no_nul (a ++ b)) h).1
 
-some_text : (a b : List ℕ) → is_empty a ≡ false → is_empty (a ++ b) ≡ false
+pub some_text : (a b : List ℕ) → is_empty a ≡ false → is_empty (a ++ b) ≡ false
 some_text [] b h = absurd (cc h)
 some_text (c ∷ a) b h = refl
 

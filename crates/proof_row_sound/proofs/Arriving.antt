@@ -7,7 +7,7 @@ use Rattle.defs_token.specs.Account.{is_adjacent, before_past}
 use Rattle.defs_row.specs.Indentation.{is_indented_by_spaces}
 use Rattle.defs_row.specs.Key.{Line, free, taken, waits, begins_free_line, line_past_separation}
 use Rattle.defs_row.specs.FlowEntry.{is_renewed}
-use Rattle.defs_row.specs.Account.{before_by}
+use Rattle.defs_row.specs.Account.{Account, before_by}
 use Rattle.yaml_tokens.specs.declared.problem.Fault.{Fault}
 use Rattle.model_scanner.specs.State.{Key, Held, ScannerState, ◌>>=◌, on_held, try_held}
 use Rattle.model_scanner.specs.Keys.{stale}
@@ -94,7 +94,7 @@ adjacent text v s solid fl some =
 -- ---- the open key outside flow
 
 -- outside flow there is one key or none, and it is near
-abbrev HasNearKey : (v : ScannerState) → Type 0
+abbrev pub HasNearKey : (v : ScannerState) → Type 0
 HasNearKey v = is_empty v.held.flow ≡ true → (k : Option Key) × (v.held.keys ≡ k ∷ []) × IsNear k v.held.position
 
 near_outside : (text : List ℕ) (v : ScannerState) (s : Stands text v) → HasNearKey v → is_empty v.held.flow ≡ true → IsNear (outside_key s.base.entries v.held.keys) v.held.position
@@ -106,42 +106,20 @@ near_outside text v s near out =
 -- ---- all
 
 -- the state with other levels and tokens
-abbrev with_ends : ScannerState → Levels → ScannerState
+abbrev pub with_ends : ScannerState → Levels → ScannerState
 with_ends v u = record v { held = with_levels v.held u }
+
+-- What holds there, with the account after the last piece and the separation in sight.
+pub record ArrivesAt (text : List ℕ) (base : Account) (separation : List ℕ) (t : ScannerState) : Type 0 where
+  pub arrives : Arrives text t
+  pub base_is : arrives.base ≡ base
+  pub separation_is : arrives.separation ≡ separation
 
 arrives_with : (text : List ℕ) (v : ScannerState) (s : Stands text v) → begins_separation v.rest ≡ false → HasNearKey v → (u : Levels) →
     (site_here (not (is_empty v.held.flow)) v.held.position s.base.site).blocks ≡ columns u.indent u.indents →
     (site_here (not (is_empty v.held.flow)) v.held.position s.base.site).awaits ≡ has_open_level u.indents → AreLevels u.indent u.indents →
-    u.tokens ≡ v.held.tokens ++ ends_here (not (is_empty v.held.flow)) v.held.position s.base.site.blocks → Arrives text (with_ends v u)
-arrives_with text v s solid near u blocks awaits levels tokens = record {
-  base = s.base;
-  separation = s.separation;
-  tokens = v.held.tokens;
-  line = here_by fl (begins_free_line s.base.site.before s.separation) s.base.line;
-  is_clean = s.is_clean;
-  is_filled = s.is_filled;
-  is_solid = solid;
-  position_is = s.position_is;
-  blocks_are = blocks;
-  awaits_is = awaits;
-  are_levels = levels;
-  is_indented = indented text v s solid;
-  one_each = s.one_each;
-  are_entries = s.are_entries;
-  is_line = past_line fl (begins_free_line s.base.site.before s.separation) v.held.key_allowed v.held.position v.rest (outside_key s.base.entries v.held.keys) s.base.line s.line_is;
-  line_is = line_here fl (begins_free_line s.base.site.before s.separation) v.held.key_allowed v.held.position v.rest (outside_key s.base.entries v.held.keys) s.base.line
-      (λ e. near_outside text v s near (outside (is_empty v.held.flow) e)) s.line_is;
-  is_open = s.is_open;
-  is_near = λ out. near_outside text v s near out;
-  no_key = s.no_key;
-  are_numbered = s.are_numbered;
-  tokens_are = tokens;
-  is_adjacent_here = adjacent text v s solid;
-  was_adjacent = s.adjacent_before;
-  started = s.started;
-  going = s.going;
-  completes = s.completes;
-}
+    u.tokens ≡ v.held.tokens ++ ends_here (not (is_empty v.held.flow)) v.held.position s.base.site.blocks → ArrivesAt text s.base s.separation (with_ends v u)
+arrives_with text v s solid near u blocks awaits levels tokens = record { arrives = ended; base_is = refl; separation_is = refl }
   where
     fl : Bool
     fl = not (is_empty v.held.flow)
@@ -150,33 +128,81 @@ arrives_with text v s solid near u blocks awaits levels tokens = record {
     outside true e = refl
     outside false e = absurd (cc e)
 
+    ended : Arrives text (with_ends v u)
+    ended = record {
+      base = s.base;
+      separation = s.separation;
+      tokens = v.held.tokens;
+      line = here_by fl (begins_free_line s.base.site.before s.separation) s.base.line;
+      is_clean = s.is_clean;
+      is_filled = s.is_filled;
+      is_solid = solid;
+      position_is = s.position_is;
+      blocks_are = blocks;
+      awaits_is = awaits;
+      are_levels = levels;
+      is_indented = indented text v s solid;
+      one_each = s.one_each;
+      are_entries = s.are_entries;
+      is_line = past_line fl (begins_free_line s.base.site.before s.separation) v.held.key_allowed v.held.position v.rest (outside_key s.base.entries v.held.keys) s.base.line s.line_is;
+      line_is = line_here fl (begins_free_line s.base.site.before s.separation) v.held.key_allowed v.held.position v.rest (outside_key s.base.entries v.held.keys) s.base.line
+          (λ e. near_outside text v s near (outside (is_empty v.held.flow) e)) s.line_is;
+      is_open = s.is_open;
+      is_near = λ out. near_outside text v s near out;
+      no_key = s.no_key;
+      are_numbered = s.are_numbered;
+      tokens_are = tokens;
+      is_adjacent_here = adjacent text v s solid;
+      was_adjacent = s.adjacent_before;
+      started = s.started;
+      going = s.going;
+      completes = s.completes;
+    }
+
+-- The levels and tokens after the ends of block collections, and what holds then.
+pub record EndedAt (text : List ℕ) (v : ScannerState) (base : Account) (separation : List ℕ) : Type 0 where
+  pub levels : Levels
+  pub is_state : on_held (λ s. unroll_indent (s.position.col + 1) s) v ≡ with_ends v levels
+  pub at : ArrivesAt text base separation (with_ends v levels)
+
 -- Where the next piece begins the block collections that are deeper end.
-pub arrives_now : (text : List ℕ) (v : ScannerState) → Stands text v → begins_separation v.rest ≡ false → HasNearKey v → Arrives text (on_held (λ s. unroll_indent (s.position.col + 1) s) v)
-arrives_now text v s solid near = by (is_empty v.held.flow) refl
+pub ended_at : (text : List ℕ) (v : ScannerState) → (s : Stands text v) → begins_separation v.rest ≡ false → HasNearKey v → EndedAt text v s.base s.separation
+ended_at text v s solid near = by (is_empty v.held.flow) refl
   where
     p : Position
     p = v.held.position
 
-    by : (out : Bool) → is_empty v.held.flow ≡ out → Arrives text (on_held (λ s. unroll_indent (s.position.col + 1) s) v)
-    by false e =
-        subst (λ h. Arrives text (record v { held = h })) (sym (unrolled_in_flow (p.col + 1) v.held e))
-        (arrives_with text v s solid near (record { indent = v.held.indent; indents = v.held.indents; tokens = v.held.tokens })
-        (ap (λ b. (site_here (not b) p s.base.site).blocks) e ∙ s.blocks_are) (ap (λ b. (site_here (not b) p s.base.site).awaits) e ∙ s.awaits_is) s.are_levels
-        (sym (append-nil v.held.tokens) ∙ ap (λ b. v.held.tokens ++ ends_here (not b) p s.base.site.blocks) (sym e)))
+    by : (out : Bool) → is_empty v.held.flow ≡ out → EndedAt text v s.base s.separation
+    by false e = record {
+      levels = record { indent = v.held.indent; indents = v.held.indents; tokens = v.held.tokens };
+      is_state = ap (λ h. record v { held = h }) (unrolled_in_flow (p.col + 1) v.held e);
+      at = arrives_with text v s solid near (record { indent = v.held.indent; indents = v.held.indents; tokens = v.held.tokens })
+          (ap (λ b. (site_here (not b) p s.base.site).blocks) e ∙ s.blocks_are) (ap (λ b. (site_here (not b) p s.base.site).awaits) e ∙ s.awaits_is) s.are_levels
+          (sym (append-nil v.held.tokens) ∙ ap (λ b. v.held.tokens ++ ends_here (not b) p s.base.site.blocks) (sym e));
+    }
     by true e =
         let u : Levels = unrolled (p.col + 1) p v.held.indent v.held.indents v.held.tokens in
         let z : Ended p s.base.site.blocks s.base.site.awaits v.held.tokens u = subst (λ bs. Ended p bs s.base.site.awaits v.held.tokens u) (sym s.blocks_are)
         (subst (λ a. Ended p (columns v.held.indent v.held.indents) a v.held.tokens u) (sym s.awaits_is) (levels_end p v.held.indent v.held.indents v.held.tokens s.are_levels)) in
-        subst (λ h. Arrives text (record v { held = h })) (sym (unrolled_outside (p.col + 1) v.held e))
-        (arrives_with text v s solid near u (ap (λ b. (site_here (not b) p s.base.site).blocks) e ∙ z.columns_are) (ap (λ b. (site_here (not b) p s.base.site).awaits) e ∙ z.open_is) z.are_levels
-        (z.tokens_are ∙ ap (λ b. v.held.tokens ++ ends_here (not b) p s.base.site.blocks) (sym e)))
+        record {
+          levels = u;
+          is_state = ap (λ h. record v { held = h }) (unrolled_outside (p.col + 1) v.held e);
+          at = arrives_with text v s solid near u (ap (λ b. (site_here (not b) p s.base.site).blocks) e ∙ z.columns_are) (ap (λ b. (site_here (not b) p s.base.site).awaits) e ∙ z.open_is) z.are_levels
+              (z.tokens_are ∙ ap (λ b. v.held.tokens ++ ends_here (not b) p s.base.site.blocks) (sym e));
+        }
+
+pub arrives_now : (text : List ℕ) (v : ScannerState) → Stands text v → begins_separation v.rest ≡ false → HasNearKey v → Arrives text (on_held (λ s. unroll_indent (s.position.col + 1) s) v)
+arrives_now text v s solid near = let e : EndedAt text v s.base s.separation = ended_at text v s solid near in subst (λ u. Arrives text u) (sym e.is_state) e.at.arrives
+
+-- with stale keys dropped the open key outside flow is near
+pub near_key : (text : List ℕ) (u : ScannerState) (h : Held) → Nearer text u h → HasNearKey (record u { held = h })
+near_key text u h n out =
+    let k = n.near (ap (λ y. is_empty y.flow) (sym n.same) ∙ out) in
+    (k.0, k.1, subst (λ q. IsNear k.0 q) (ap (λ y. y.position) (sym n.same)) k.2)
 
 -- the state after the way to the next token, with stale keys dropped
 nearer_now : (text : List ℕ) (u : ScannerState) (h : Held) → Nearer text u h → begins_separation u.rest ≡ false → Arrives text (on_held (λ s. unroll_indent (s.position.col + 1) s) (record u { held = h }))
-nearer_now text u h n solid =
-    arrives_now text (record u { held = h }) n.stands solid (λ out.
-    let k = n.near (ap (λ y. is_empty y.flow) (sym n.same) ∙ out) in
-    (k.0, k.1, subst (λ q. IsNear k.0 q) (ap (λ y. y.position) (sym n.same)) k.2))
+nearer_now text u h n solid = arrives_now text (record u { held = h }) n.stands solid (near_key text u h n)
 
 -- From one fetch to where the next piece begins, or to the text's end: the way to the next token, stale keys, and the ends of block collections. What is a cut of the text before is one there.
 pub arrived : (text : List ℕ) (t : ScannerState) (f : ScannerState → Result ScannerState Fault) (P : ScannerState → Type 0) → FaresAt text t → Stands text t → ((v : ScannerState) → FaresAt text v → Arrives text v → Holds P (f v)) →

@@ -17,7 +17,7 @@ use Rattle.model_scanner.specs.Flow.{fetch_flow_collection_start, fetch_flow_col
 use Rattle.model_scanner.specs.Block.{fetch_block_entry, fetch_key, fetch_value}
 use Rattle.model_scanner.specs.Document.{fetch_directive, fetch_document_marker, fetch_document_end, fetch_anchor, fetch_tag, fetch_block_scalar, fetch_flow_scalar, fetch_plain_scalar}
 use Rattle.model_scanner.specs.Fetch.{is_value, fetch_token, comes_marker, fetch_indented, fetch_first_column, fetch_content, fetch_here, fetch_next, fetch}
-use Rattle.model_scanner.proofs.Holds.{Holds, held_of, chained, checked, either, weakened}
+use Rattle.model_scanner.proofs.Holds.{Holds, refused, held_of, chained, checked, either, weakened}
 use Rattle.proof_cut.specs.PiecesRead.{comes_plain}
 use Rattle.proof_cut.proofs.Nodes.{IsDeep}
 use Rattle.proof_cut.proofs.Dispatch.{token_holds}
@@ -57,7 +57,7 @@ pub record EachKeeps : Type 0 where
 
 token_kept : EachKeeps → (text : List ℕ) (t : ScannerState) → FaresAt text t → Arrives text t → is_empty t.rest ≡ false → IsDeep t.held → ((t.held.position.col == 0) && is_document_marker t.rest) ≡ false → Holds (Stands text) (fetch_token t)
 token_kept keeps text t k a some deep marker =
-    token_holds (Stands text) t (is_adjacent (before_here text t a)) a.is_clean a.is_solid (λ inside. sym (a.is_adjacent_here inside some)) marker (record {
+    token_holds (Holds (Stands text)) t (is_adjacent (before_here text t a)) a.is_clean a.is_solid (λ inside. sym (a.is_adjacent_here inside some)) marker (record {
       anchor = λ alias more e. keeps.anchor text alias t more e deep a;
       tag = λ more e. keeps.tag text t more e deep a;
       plain = keeps.plain text t a deep;
@@ -71,6 +71,9 @@ token_kept keeps text t k a some deep marker =
       close_bracket = λ more e. keeps.close_bracket text more t a e deep;
       close_brace = λ more e. keeps.close_brace text more t a e deep;
       comma = λ more e. keeps.comma text more t a e deep;
+      percent = λ more e. refused;
+      at_sign = λ more e. refused;
+      backtick = λ more e. refused;
     }) some
 
 -- ---- markers, and the text's end

@@ -162,7 +162,7 @@ no_comment_in_last g rest h ends = outside g h
 
 -- ---- TABs in its first columns
 
-one_append : (l : List ℕ) (c d : ℕ) → is_one_of (l ++ c ∷ []) d ≡ (is_one_of l d || (d == c))
+pub one_append : (l : List ℕ) (c d : ℕ) → is_one_of (l ++ c ∷ []) d ≡ (is_one_of l d || (d == c))
 one_append [] c d = by (d == c)
   where
     by : (b : Bool) → (b || false) ≡ b

@@ -20,7 +20,7 @@ use Rattle.proof_row_sound.specs.Stands.{is_at_comment_or_end}
 use Rattle.proof_row_sound.proofs.LastLines.{break_append, last_more, tab_within_more}
 
 -- a break more begins a line, and nothing else does
-line_more : (before : Previous) (g : List ℕ) (c : ℕ) → begins_line before (g ++ c ∷ []) ≡ (begins_line before g || classes.is_break c)
+pub line_more : (before : Previous) (g : List ℕ) (c : ℕ) → begins_line before (g ++ c ∷ []) ≡ (begins_line before g || classes.is_break c)
 line_more before g c = by before
   where
     same : (x y : Bool) → (x || not (not y && true)) ≡ (x || y)
@@ -74,7 +74,7 @@ module _ (before : Previous) (least : ℕ) where
 
   -- ---- a break
 
-  at_line : (g : List ℕ) (c : ℕ) (s : Held) → is_break c ≡ true → IsAt (g ++ c ∷ []) (past_line s)
+  pub at_line : (g : List ℕ) (c : ℕ) (s : Held) → is_break c ≡ true → IsAt (g ++ c ∷ []) (past_line s)
   at_line g c s e =
       let breaks : classes.is_break c ≡ true = same_break c ∙ e in
       let last : last_line (g ++ c ∷ []) ≡ [] = last_more g c ∙ ap (λ b. if b then [] else last_line g ++ c ∷ []) breaks in
@@ -89,7 +89,7 @@ module _ (before : Previous) (least : ℕ) where
       none zero = refl
       none (suc n) = refl
 
-  feed_next : (c : ℕ) (a : List ℕ) → is_cr_lf c a ≡ true → is_at_comment_or_end a ≡ true
+  pub feed_next : (c : ℕ) (a : List ℕ) → is_cr_lf c a ≡ true → is_at_comment_or_end a ≡ true
   unfolding classes.is_break
   feed_next c [] h = refl
   feed_next c (d ∷ a) h = rw (eqb-true d 10 (and_parts (c == 13) (d == 10) h).1) refl
@@ -105,7 +105,7 @@ module _ (before : Previous) (least : ℕ) where
   -- ---- a blank
 
   -- a blank that is no TAB in the indentation
-  at_blank : (g : List ℕ) (c : ℕ) (s : Held) → classes.is_break c ≡ false → ((c == 9) && is_before_indent s) ≡ false → IsLeast s → IsAt g s → IsAt (g ++ c ∷ []) (moved s)
+  pub at_blank : (g : List ℕ) (c : ℕ) (s : Held) → classes.is_break c ≡ false → ((c == 9) && is_before_indent s) ≡ false → IsLeast s → IsAt g s → IsAt (g ++ c ∷ []) (moved s)
   unfolding is_before_indent
   at_blank g c s e f l h =
       let same : begins_line before (g ++ c ∷ []) ≡ begins_line before g = line_more before g c ∙ (ap (λ b. begins_line before g || b) e ∙ or-false (begins_line before g)) in
@@ -145,7 +145,7 @@ module _ (before : Previous) (least : ℕ) where
 
   -- ---- each character
 
-  no_end : (c : ℕ) (a : List ℕ) → is_break c ≡ false → (c == 35) ≡ false → is_at_comment_or_end (c ∷ a) ≡ false
+  pub no_end : (c : ℕ) (a : List ℕ) → is_break c ≡ false → (c == 35) ≡ false → is_at_comment_or_end (c ∷ a) ≡ false
   no_end c a e f = rw (same_break c, e, f) refl
 
   between_by : (g a : List ℕ) (c : ℕ) (s : Held) → is_break c ≡ false → IsLeast s → IsIn between g s (c ∷ a) → Clears a → Holds (Cleared g (c ∷ a)) (skip between (c ∷ a) s)

@@ -22,6 +22,7 @@ use Rattle.proof_row_sound.specs.Choices.{MayChoose, outside_key, chosen}
 use Rattle.proof_row_sound.specs.Completes.{tokens_up_to, Completes}
 use Rattle.proof_row_sound.specs.Stands.{AreEntries, IsLine, IsOpenOutside, Stands, Fares, goes, over}
 use Rattle.proof_row_sound.specs.Arrives.{IsNear}
+use Rattle.proof_row_sound.proofs.Sides.{StandsAt}
 use Rattle.proof_row_sound.proofs.StreamEnds.{entries_no_key, none_chosen, none_put}
 
 -- rows are completed alike by tokens that are alike
@@ -57,31 +58,8 @@ none_completes text after a ks ts no_key none h =
     (subst (λ x. Completes text after x (tokens_up_to x ks ts)) (none_chosen ks a) h)
 
 -- The open key outside flow is dropped, if it need not be one.
-pub key_dropped : (text : List ℕ) (u : ScannerState) → (s : Stands text u) → is_empty u.held.flow ≡ true → (k : Key) → u.held.keys ≡ Some k ∷ [] → k.required ≡ false → Stands text (record u { held = record u.held { keys = None ∷ [] } })
-key_dropped text u s out k only free = record {
-  base = s.base;
-  separation = s.separation;
-  is_clean = s.is_clean;
-  is_filled = s.is_filled;
-  position_is = s.position_is;
-  blocks_are = s.blocks_are;
-  awaits_is = s.awaits_is;
-  are_levels = s.are_levels;
-  has_no_tabs = s.has_no_tabs;
-  is_leading = s.is_leading;
-  read_on = s.read_on;
-  one_each = sym (ap length only) ∙ s.one_each;
-  are_entries = entries_outside u.held.key_allowed (is_renewed s.base.site.before s.separation) u.held.flow (None ∷ []) s.base.entries out none;
-  line_is = subst (λ es. IsLine (not (is_empty u.held.flow)) u.held.key_allowed (begins_free_line s.base.site.before s.separation) u.held.position u.rest (outside_key es (None ∷ [])) s.base.line) (sym none) (line (not (is_empty u.held.flow)) (outside_key s.base.entries u.held.keys) s.line_is);
-  is_open = subst (λ es. IsOpenOutside (outside_key es (None ∷ [])) s.base.site.position u.held.position u.rest s.base.site.blocks) (sym none) tt;
-  no_key = s.no_key;
-  are_numbered = (tt, tt);
-  was_adjacent = s.was_adjacent;
-  adjacent_before = s.adjacent_before;
-  started = s.started;
-  going = s.going;
-  completes = λ c cs may. subst (λ es. Of c cs (record s.base { entries = es })) (sym none) (own c cs);
-}
+pub key_dropped : (text : List ℕ) (u : ScannerState) → (s : Stands text u) → is_empty u.held.flow ≡ true → (k : Key) → u.held.keys ≡ Some k ∷ [] → k.required ≡ false → StandsAt text s.base s.separation (record u { held = record u.held { keys = None ∷ [] } })
+key_dropped text u s out k only free = record { stands = dropped; base_is = refl; separation_is = refl }
   where
     After : List ℕ
     After = s.separation ++ u.rest
@@ -105,6 +83,32 @@ key_dropped text u s out k only free = record {
 
     own : (c : Bool) (cs : List Bool) → Of c cs (record s.base { entries = [] })
     own c cs = base
+
+    dropped : Stands text (record u { held = record u.held { keys = None ∷ [] } })
+    dropped = record {
+      base = s.base;
+      separation = s.separation;
+      is_clean = s.is_clean;
+      is_filled = s.is_filled;
+      position_is = s.position_is;
+      blocks_are = s.blocks_are;
+      awaits_is = s.awaits_is;
+      are_levels = s.are_levels;
+      has_no_tabs = s.has_no_tabs;
+      is_leading = s.is_leading;
+      read_on = s.read_on;
+      one_each = sym (ap length only) ∙ s.one_each;
+      are_entries = entries_outside u.held.key_allowed (is_renewed s.base.site.before s.separation) u.held.flow (None ∷ []) s.base.entries out none;
+      line_is = subst (λ es. IsLine (not (is_empty u.held.flow)) u.held.key_allowed (begins_free_line s.base.site.before s.separation) u.held.position u.rest (outside_key es (None ∷ [])) s.base.line) (sym none) (line (not (is_empty u.held.flow)) (outside_key s.base.entries u.held.keys) s.line_is);
+      is_open = subst (λ es. IsOpenOutside (outside_key es (None ∷ [])) s.base.site.position u.held.position u.rest s.base.site.blocks) (sym none) tt;
+      no_key = s.no_key;
+      are_numbered = (tt, tt);
+      was_adjacent = s.was_adjacent;
+      adjacent_before = s.adjacent_before;
+      started = s.started;
+      going = s.going;
+      completes = λ c cs may. subst (λ es. Of c cs (record s.base { entries = es })) (sym none) (own c cs);
+    }
 
 -- ---- the step
 
@@ -138,7 +142,7 @@ outside_now text u s out (Some k) only h = by (is_far k.position u.held.position
 
     by : (b : Bool) → is_far k.position u.held.position ≡ b → (b && k.required) ≡ false → Nearer text u (record u.held { keys = (if b then None else Some k) ∷ [] })
     by true e f = record {
-      stands = key_dropped text u s out k only f;
+      stands = (key_dropped text u s out k only f).stands;
       same = refl;
       near = λ _. (None, refl, tt);
     }

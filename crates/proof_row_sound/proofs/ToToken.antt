@@ -1,5 +1,5 @@
 -- The way to the next token, or to the text's end, keeps what holds between two fetches, with the separation up to there.
-use Rattle.std.proofs.Common.{◌≡◌, ℕ, ◌+◌, ◌≤◌, List, [], ◌∷◌, ◌++◌, Bool, true, false, not, ◌&&◌, ◌||◌, ◌==◌, inl, inr, if◌then◌else◌, length, Option, Some, None, Ok, refl, ap, sym, ◌∙◌, subst, append_assoc, arith}
+use Rattle.std.proofs.Common.{◌≡◌, ℕ, ◌+◌, ◌≤◌, List, [], ◌∷◌, ◌++◌, Bool, true, false, not, ◌&&◌, ◌||◌, ◌==◌, inl, inr, if◌then◌else◌, length, Option, Some, None, Ok, refl, ap, sym, ◌∙◌, subst, append_assoc, append-nil, arith}
 use Rattle.std.proofs.Math.Bool.{or-false, or-true}
 use Rattle.std.proofs.lemmas.List.{append_cancel_right}
 use Rattle.defs_text.specs.Classes.{is_break, is_blank, is_nul, is_one_of}
@@ -12,7 +12,7 @@ use Rattle.defs_row.specs.Step.{Previous, plain_scalar, quoted_scalar, block_sca
 use Rattle.defs_row.specs.Indentation.{least_column, has_tab_within, last_line, follows_plain, begins_line, is_indented_by_spaces}
 use Rattle.defs_row.specs.Key.{Line, begins_free_line}
 use Rattle.defs_row.specs.FlowEntry.{Entry, is_renewed}
-use Rattle.defs_row.specs.Account.{before_by}
+use Rattle.defs_row.specs.Account.{Account, before_by}
 use Rattle.model_scanner.specs.declared.level.FlowLevel.{FlowLevel}
 use Rattle.model_scanner.specs.declared.level.Indent.{Indent}
 use Rattle.model_scanner.specs.State.{Key, ScannerState, in_flow}
@@ -33,6 +33,7 @@ use Rattle.proof_cut.proofs.Stoods.{adjacent_filled}
 use Rattle.proof_row_sound.specs.Choices.{outside_key, chosen}
 use Rattle.proof_row_sound.specs.Completes.{tokens_up_to, Completes}
 use Rattle.proof_row_sound.specs.Stands.{columns, AreEntries, is_free, IsTakenBy, IsLine, IsOpenHere, IsOpenOutside, is_at_comment_or_end, HasNoTabs, IsReadOn, Stands}
+use Rattle.proof_row_sound.proofs.Sides.{StandsAt}
 use Rattle.proof_row_sound.proofs.Arrivals.{unbroken}
 use Rattle.proof_row_sound.proofs.LastLines.{last_whole, at_break, column_after, no_comment_in_last}
 use Rattle.proof_row_sound.proofs.Skips.{Spaced, IsAt, IsIn, Cleared, skip_clears}
@@ -104,7 +105,7 @@ at_start text t s begins midst indented =
       spaced = spaced_here s.base.site.before s.base.site.blocks s.base.site.awaits s.base.site.position s.separation t.rest indented begins midst s.read_on;
     }
 
-is_in : (text : List ℕ) (t : ScannerState) (s : Stands text t) → begins_separation t.rest ≡ true → IsIn s.base.site.before (least_column s.base.site.blocks s.base.site.awaits) between s.separation t.held t.rest
+pub is_in : (text : List ℕ) (t : ScannerState) (s : Stands text t) → begins_separation t.rest ≡ true → IsIn s.base.site.before (least_column s.base.site.blocks s.base.site.awaits) between s.separation t.held t.rest
 is_in text t s begins = by (is_at_comment_or_end t.rest) refl s.has_no_tabs
   where
     by : (x : Bool) → is_at_comment_or_end t.rest ≡ x → HasNoTabs s.base.site s.separation t.rest → IsIn s.base.site.before (least_column s.base.site.blocks s.base.site.awaits) between s.separation t.held t.rest
@@ -175,6 +176,15 @@ key_line (Some k) q p rest bs x h e = let n : NotBefore k.position q = h.0 in su
     line_of : Option Key → ℕ
     line_of None = 0
     line_of (Some y) = y.position.line
+
+-- What was passed of a separation, up to a token or the text's end, and what holds there.
+pub record PassedAt (text : List ℕ) (t : ScannerState) (base : Account) (separation : List ℕ) (u : ScannerState) : Type 0 where
+  pub part : List ℕ
+  pub cut : t.rest ≡ part ++ u.rest
+  pub solid : begins_separation u.rest ≡ false
+  pub position_is : u.held.position ≡ position_after t.held.position part u.rest
+  pub keys_are : u.held.keys ≡ t.held.keys
+  pub at : StandsAt text base (separation ++ part) u
 
 module _ (text : List ℕ) (t u : ScannerState) (s : Stands text t) (begins : begins_separation t.rest ≡ true) (e : Exact t u) (c : Cleared s.base.site.before (least_column s.base.site.blocks s.base.site.awaits) s.separation t.rest u) where
   same_passed : c.passed ≡ e.separation
@@ -249,8 +259,19 @@ module _ (text : List ℕ) (t u : ScannerState) (s : Stands text t) (begins : be
         (s.completes x cs (may_before x (outside_key s.base.entries t.held.keys) t.held.position e.separation t.rest u.rest e.cut may));
   }
 
-  pub stands_now : Stands text u
-  stands_now = subst (λ v. Stands text v) (sym e.is_state) now
+  now_at : StandsAt text s.base (s.separation ++ e.separation) Now
+  unfolding now
+  now_at = record { stands = now; base_is = refl; separation_is = refl }
+
+  passed_now : PassedAt text t s.base s.separation u
+  passed_now = record {
+    part = e.separation;
+    cut = e.cut;
+    solid = e.solid;
+    position_is = ap (λ v. v.held.position) e.is_state;
+    keys_are = ap (λ v. v.held.keys) e.is_state;
+    at = subst (λ v. StandsAt text s.base (s.separation ++ e.separation) v) (sym e.is_state) now_at;
+  }
 
 stayed : (t : ScannerState) → begins_separation t.rest ≡ false → skip_to_next_token t ≡ Ok t
 unfolding skip_to_next_token
@@ -261,10 +282,16 @@ unfolding skip_to_next_token
 cleared text t s begins =
     skip_clears s.base.site.before (least_column s.base.site.blocks s.base.site.awaits) t.rest between s.separation t.held (least_is s.base.site.blocks s.base.site.awaits t.held s.blocks_are s.awaits_is s.are_levels) (is_in text t s begins)
 
--- At the next token, or at the text's end, what holds between two fetches holds.
-pub passed_stands : (text : List ℕ) (t : ScannerState) → Stands text t → Holds (λ u. Stands text u × (begins_separation u.rest ≡ false)) (skip_to_next_token t)
-passed_stands text t s = by (begins_separation t.rest) refl
+-- At the next token, or at the text's end, what holds between two fetches holds, with the account from before and the separation up to there.
+pub passed_at : (text : List ℕ) (t : ScannerState) → (s : Stands text t) → Holds (PassedAt text t s.base s.separation) (skip_to_next_token t)
+passed_at text t s = by (begins_separation t.rest) refl
   where
-    by : (x : Bool) → begins_separation t.rest ≡ x → Holds (λ u. Stands text u × (begins_separation u.rest ≡ false)) (skip_to_next_token t)
-    by false h = subst (λ r. Holds (λ u. Stands text u × (begins_separation u.rest ≡ false)) r) (sym (stayed t h)) (went (s, h))
-    by true h = weakened (λ u x. (stands_now text t u s h x.0 x.1, x.0.solid)) (both_hold (exact t) (cleared text t s h))
+    at : StandsAt text s.base (s.separation ++ []) t
+    at = record { stands = s; base_is = refl; separation_is = sym (append-nil s.separation) }
+
+    by : (x : Bool) → begins_separation t.rest ≡ x → Holds (PassedAt text t s.base s.separation) (skip_to_next_token t)
+    by false h = subst (λ r. Holds (PassedAt text t s.base s.separation) r) (sym (stayed t h)) (went (record { part = []; cut = refl; solid = h; position_is = refl; keys_are = refl; at = at }))
+    by true h = weakened (λ u x. passed_now text t u s h x.0 x.1) (both_hold (exact t) (cleared text t s h))
+
+pub passed_stands : (text : List ℕ) (t : ScannerState) → Stands text t → Holds (λ u. Stands text u × (begins_separation u.rest ≡ false)) (skip_to_next_token t)
+passed_stands text t s = weakened (λ u p. (p.at.stands, p.solid)) (passed_at text t s)
