@@ -1,3 +1,4 @@
+pub mod Around
 pub mod Nodes
 pub mod Runs
 pub mod Sides

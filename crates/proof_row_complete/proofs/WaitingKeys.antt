@@ -100,9 +100,13 @@ near_by ws last begin here None further none row = absurd row
 near_by ws last begin here (Some b) further (still on after) row = omega (arith, after, further b on row)
 near_by ws last begin here (Some b) further (ended near) row = near
 
+-- no row ends while a key waits
+pub none_at_end : (a : Account) (last : List ℕ) (begin : Position) → a.line ≡ waits begin → IsRowFrom (Some a) [] last → ⊥
+none_at_end a last begin e r = not_both a.line (have_no_key a.entries) begin e r.1
+
 -- While a key waits the last piece ends at most 1024 characters after the key's start.
 pub waiting_near : (ws : List Step) (last : List ℕ) (a : Account) (begin : Position) → a.line ≡ waits begin → IsRowFrom (Some a) ws last → a.site.position.index ≤ begin.index + 1024
-waiting_near [] last a begin e r = absurd (not_both a.line (have_no_key a.entries) begin e r.1)
+waiting_near [] last a begin e r = absurd (none_at_end a last begin e r)
 waiting_near (w ∷ ws) last a begin e r =
     omega (
       arith,
