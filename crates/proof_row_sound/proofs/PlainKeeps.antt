@@ -52,7 +52,7 @@ use Rattle.proof_row_sound.proofs.ReadNodes.{Read, next_of, site_of, site_then, 
 -- ---- what was read
 
 -- What the scan of a plain scalar read at a position: its piece, and the gap after it.
-record PlainAs (ctx : Context) (p : Position) (text : List ℕ) (x : machine.Read Plain) : Type 0 where
+pub record PlainAs (ctx : Context) (p : Position) (text : List ℕ) (x : machine.Read Plain) : Type 0 where
   piece : List ℕ
   gap : List ℕ
   cut : text ≡ piece ++ (gap ++ x.rest)
@@ -162,29 +162,29 @@ some_length (c ∷ l) h = omega arith
 
 module _ (text : List ℕ) (t : ScannerState) (a : Arrives text t) (deep : IsDeep t.held) (comes : comes_plain (in_flow t.held) (t.held.position.index == t.held.adjacent_value_at) t.held.position.col t.rest ≡ true) where
   -- the levels without those that open no collection
-  abbrev gone : Levels
+  abbrev pub gone : Levels
   gone = without_open t.held.indent t.held.indents t.held.tokens
 
-  closed : AreClosed t.held.indent t.held.indents t.held.tokens gone
+  pub closed : AreClosed t.held.indent t.held.indents t.held.tokens gone
   closed = without_is t.held.indent t.held.indents t.held.tokens a.are_levels
 
-  abbrev ctx : Context
+  abbrev pub ctx : Context
   ctx = record { flow = in_flow t.held; indent = gone.indent }
 
   indented : is_indented ctx t.held.position ≡ true
   indented = less_or (in_flow t.held) gone.indent t.held.position.col (omega (arith, deep, closed.not_deeper))
 
-  some_here : is_empty t.rest ≡ false
+  pub some_here : is_empty t.rest ≡ false
   some_here = some_plain (in_flow t.held) (t.held.position.index == t.held.adjacent_value_at) t.held.position.col t.rest comes
 
   module _ (x : machine.Read Plain) (scanned : plain ctx t.rest t.held.position ≡ Ok x) where
-    q : PlainAs ctx t.held.position t.rest x
+    pub q : PlainAs ctx t.held.position t.rest x
     q = plain_as ctx t.held.position t.rest x a.is_clean (solid_text t.rest some_here a.is_solid) indented scanned
 
     abbrev tok : Tok
     tok = Tok.scalar Style.plain x.value.text
 
-    abbrev d : Read
+    abbrev pub d : Read
     d = record {
       tok = tok;
       piece = q.piece;
@@ -309,7 +309,7 @@ module _ (text : List ℕ) (t : ScannerState) (a : Arrives text t) (deep : IsDee
           by true e = of e (q.fits.clear q.white e)
           by false e = inr (spaced (λ h. absurd (cc (e, h))) (awaits_past fl tok at.blocks at.awaits (next_of d)) awaits_then)
 
-      is_read : IsRead t fs r.site r.line es r.separation d
+      pub is_read : IsRead t fs r.site r.line es r.separation d
       is_read = record {
         act = refl;
         begun = refl;
@@ -334,7 +334,7 @@ module _ (text : List ℕ) (t : ScannerState) (a : Arrives text t) (deep : IsDee
         adjacent_before = omega (arith, a.was_adjacent, later);
       }
 
-    abbrev scalar_held : Held
+    abbrev pub scalar_held : Held
     scalar_held = record t.held {
       position = x.position;
       keys = saved_keys t.held;
@@ -344,7 +344,7 @@ module _ (text : List ℕ) (t : ScannerState) (a : Arrives text t) (deep : IsDee
       key_allowed = false;
     }
 
-    stands : Stands text (record { rest = x.rest; held = push t.held.position tok (after_plain x.value.leading scalar_held) })
+    pub stands : Stands text (record { rest = x.rest; held = push t.held.position tok (after_plain x.value.leading scalar_held) })
     stands =
         subst (λ ts. Stands text (record { rest = x.rest; held = push t.held.position tok (after_plain x.value.leading (record scalar_held { tokens = ts })) })) (sym closed.same_tokens)
         (node_read text t d deep a (λ fs ks es f r. is_read fs ks es f r))

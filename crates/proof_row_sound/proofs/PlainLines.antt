@@ -31,66 +31,66 @@ use Rattle.proof_row_sound.proofs.TabsWithin.{take_none, none_before, blank_more
 -- ---- what a text says of TABs, character by character
 
 -- Where a position stands on its line: after content; after so many blanks alone, on a further line; or after a TAB among those that indents it.
-data Spot : Type 0 where
+pub data Spot : Type 0 where
   in_text : Spot
   at : (column : ℕ) → Spot
   tabbed : Spot
 
 -- after a character that is no break
-abbrev spot_past : (column : ℕ) → Spot → ℕ → Spot
+abbrev pub spot_past : (column : ℕ) → Spot → ℕ → Spot
 spot_past column in_text c = in_text
 spot_past column (at k) c = (if (c == 9) && nat_lt k column then tabbed else (if is_blank c then at (suc k) else in_text))
 spot_past column tabbed c = tabbed
 
 -- after a character
-abbrev past_spot : (column : ℕ) → Spot → ℕ → Spot
+abbrev pub past_spot : (column : ℕ) → Spot → ℕ → Spot
 past_spot column x c = (if is_break c then at 0 else spot_past column x c)
 
 -- after a TAB that indents stand only blanks and a break
-abbrev may_go : Spot → ℕ → Bool
+abbrev pub may_go : Spot → ℕ → Bool
 may_go tabbed c = is_break c || is_blank c
 may_go _ c = true
 
 -- or a comment, or the text's end
-abbrev may_stop : Spot → (rest : List ℕ) → Bool
+abbrev pub may_stop : Spot → (rest : List ℕ) → Bool
 may_stop tabbed rest = is_at_comment_or_end rest
 may_stop _ rest = true
 
-abbrev tabs_fit : (column : ℕ) → Spot → (text rest : List ℕ) → Bool
+abbrev pub tabs_fit : (column : ℕ) → Spot → (text rest : List ℕ) → Bool
 tabs_fit column x [] rest = may_stop x rest
 tabs_fit column x (c ∷ r) rest = may_go x c && tabs_fit column (past_spot column x c) r rest
 
 -- in flow no dash stands after a blank or a break and before a flow indicator
-abbrev dashes_fit : (flow apart : Bool) → (text rest : List ℕ) → Bool
+abbrev pub dashes_fit : (flow apart : Bool) → (text rest : List ℕ) → Bool
 dashes_fit flow apart [] rest = true
 dashes_fit flow apart (c ∷ r) rest = not (flow && apart && (c == 45) && begins_flow (r ++ rest)) && dashes_fit flow (is_break c || is_blank c) r rest
 
 -- ---- the scan
 
-abbrev spot_of : Mode → (leading : Bool) → (column : ℕ) → Spot
+abbrev pub spot_of : Mode → (leading : Bool) → (column : ℕ) → Spot
 spot_of between true k = at k
 spot_of tabs l k = tabbed
 spot_of _ l k = in_text
 
-abbrev is_apart : Mode → Bool
+abbrev pub is_apart : Mode → Bool
 is_apart inside = false
 is_apart first = false
 is_apart _ = true
 
 -- whether a text begins with a break
-abbrev begins_break : List ℕ → Bool
+abbrev pub begins_break : List ℕ → Bool
 begins_break [] = false
 begins_break (c ∷ r) = is_break c
 
 -- where content stands directly before, no break was folded since
-abbrev IsCalm : Mode → (leading : Bool) → Type 0
+abbrev pub IsCalm : Mode → (leading : Bool) → Type 0
 IsCalm first l = ⊥
 IsCalm inside l = l ≡ false
 IsCalm between l = Unit {0}
 IsCalm tabs l = Unit {0}
 
 -- a state is at a spot, or in the middle of CR LF
-abbrev IsAt : PlainState → Spot → (rest : List ℕ) → Type 0
+abbrev pub IsAt : PlainState → Spot → (rest : List ℕ) → Type 0
 IsAt t x a = (spot_of t.mode t.folded.leading t.position.col ≡ x) ⊎ ((x ≡ at 0) × (begins_break a ≡ true))
 
 leads : (t : Folded) → (with_break t).leading ≡ true
@@ -135,10 +135,10 @@ feed_breaks c [] h = absurd (cc (and_parts (c == 13) (0 == 10) h).1)
 feed_breaks c (d ∷ a) h = let same : d ≡ 10 = eqb-true d 10 (and_parts (c == 13) (d == 10) h).1 in rw same refl
 
 module _ (ctx : Context) (start : Position) (c : ℕ) (a : List ℕ) where
-  -- What a turn does at a character: it stays before it, fails, or is after it.
-  data Goes (m : Mode) (s : PlainState) : Turn PlainState Fault → Type 0 where
+  -- What a turn does at a character: it stays before it; fails, because of a TAB or a dash; or is after it.
+  pub data Goes (m : Mode) (s : PlainState) : Turn PlainState Fault → Type 0 where
     stays : may_stop (spot_of m s.folded.leading s.position.col) (c ∷ a) ≡ true → (t : PlainState) → Goes m s (stop t)
-    fails : (f : Fault) → Goes m s (fail f)
+    fails : (f : Fault) → (may_go (spot_of m s.folded.leading s.position.col) c ≡ false) ⊎ ((ctx.flow && is_apart m && (c == 45) && begins_flow a) ≡ true) → Goes m s (fail f)
     goes : (t : PlainState) → IsCalm t.mode t.folded.leading → may_go (spot_of m s.folded.leading s.position.col) c ≡ true → IsAt t (past_spot ctx.indent (spot_of m s.folded.leading s.position.col) c) a →
         (ctx.flow && is_apart m && (c == 45) && begins_flow a) ≡ false → is_apart t.mode ≡ (is_break c || is_blank c) → Goes m s (on t)
 
@@ -249,10 +249,10 @@ module _ (ctx : Context) (start : Position) (c : ℕ) (a : List ℕ) where
       by true = refl
       by false = refl
 
-  -- a scalar that goes on has no dash before a flow indicator
-  no_dash : (p : Position) → goes_on ctx (c ∷ a) p ≡ Ok true → (ctx.flow && true && (c == 45) && begins_flow a) ≡ false
-  unfolding goes_on at_dash model_classes.is_flow
-  no_dash p h = by (is_shallow ctx p.col) ((c == 35) || at_marker p.col (c ∷ a)) (at_dash ctx.flow (c ∷ a)) refl refl refl
+  -- the dash that is looked for before a scalar goes on
+  dash_is : (ctx.flow && true && (c == 45) && begins_flow a) ≡ at_dash ctx.flow (c ∷ a)
+  unfolding at_dash model_classes.is_flow
+  dash_is = ap (λ b. b && (c == 45) && begins_flow a) (left ctx.flow) ∙ ap (λ b. ctx.flow && (c == 45) && b) (sym (flow_next a))
     where
       left : (b : Bool) → (b && true) ≡ b
       left true = refl
@@ -262,16 +262,32 @@ module _ (ctx : Context) (start : Position) (c : ℕ) (a : List ℕ) where
       flow_next [] = refl
       flow_next (d ∷ r) = sym (same_flow d)
 
+  -- a scalar that goes on has no dash before a flow indicator
+  no_dash : (p : Position) → goes_on ctx (c ∷ a) p ≡ Ok true → (ctx.flow && true && (c == 45) && begins_flow a) ≡ false
+  unfolding goes_on
+  no_dash p h = by (is_shallow ctx p.col) ((c == 35) || at_marker p.col (c ∷ a)) (at_dash ctx.flow (c ∷ a)) refl refl refl
+    where
       by : (x y z : Bool) → is_shallow ctx p.col ≡ x → ((c == 35) || at_marker p.col (c ∷ a)) ≡ y → at_dash ctx.flow (c ∷ a) ≡ z → (ctx.flow && true && (c == 45) && begins_flow a) ≡ false
       by true y z e f g = absurd (cc (rw e at h))
       by false true z e f g = absurd (cc (rw (e, f) at h))
       by false false true e f g = absurd (cc (rw (e, f, g) at h))
-      by false false false e f g = ap (λ b. b && (c == 45) && begins_flow a) (left ctx.flow) ∙ (ap (λ b. ctx.flow && (c == 45) && b) (sym (flow_next a)) ∙ g)
+      by false false false e f g = dash_is ∙ g
+
+  -- and one that is refused there has
+  has_dash : (p : Position) (f : Fault) → goes_on ctx (c ∷ a) p ≡ Err f → (ctx.flow && true && (c == 45) && begins_flow a) ≡ true
+  unfolding goes_on
+  has_dash p f h = by (is_shallow ctx p.col) ((c == 35) || at_marker p.col (c ∷ a)) (at_dash ctx.flow (c ∷ a)) refl refl refl
+    where
+      by : (x y z : Bool) → is_shallow ctx p.col ≡ x → ((c == 35) || at_marker p.col (c ∷ a)) ≡ y → at_dash ctx.flow (c ∷ a) ≡ z → (ctx.flow && true && (c == 45) && begins_flow a) ≡ true
+      by true y z e i g = absurd (cc (rw e at h))
+      by false true z e i g = absurd (cc (rw (e, i) at h))
+      by false false true e i g = dash_is ∙ g
+      by false false false e i g = absurd (cc (rw (e, i, g) at h))
 
   begun_goes : (s : PlainState) (x : Result Bool Fault) → goes_on ctx (c ∷ a) s.position ≡ x → is_break c ≡ false → is_blank c ≡ false → Goes between s (begun x c s)
   begun_goes s (Ok true) h e f = char_between e f s (no_dash s.position h)
   begun_goes s (Ok false) h e f = stays_between s
-  begun_goes s (Err g) h e f = fails g
+  begun_goes s (Err g) h e f = fails g (inr (has_dash s.position g h))
 
   -- after a TAB in the indentation
   tabs_goes : (s : PlainState) → Goes tabs s (turn_in ctx start tabs s c a)
@@ -287,9 +303,9 @@ module _ (ctx : Context) (start : Position) (c : ℕ) (a : List ℕ) where
       by false false true e f g =
           let white : (is_break c || is_blank c) ≡ true = rw (e, g) refl in
           goes (record { mode = tabs; position = past s.position; folded = s.folded }) tt white (inl (rw e refl)) (white_is_no_dash ctx.flow true (begins_flow a) c white) (sym white)
-      by false false false e f g = fails _
+      by false false false e f g = fails _ (inl (rw (e, g) refl))
 
-  turn_goes : (m : Mode) (s : PlainState) → IsCalm m s.folded.leading → Goes m s (turn_in ctx start m s c a)
+  pub turn_goes : (m : Mode) (s : PlainState) → IsCalm m s.folded.leading → Goes m s (turn_in ctx start m s c a)
   turn_goes first s l = absurd l
   turn_goes inside s l = white_turn inside s (if can_be_plain ctx.flow c (slice_index a 0) then on (at_char c s.position s.folded) else stop s) (λ e f. blank_inside e s f l) (λ e f. by (can_be_plain ctx.flow c (slice_index a 0)) e f)
     where
@@ -352,7 +368,7 @@ module _ (ctx : Context) (start : Position) where
       by : ((u : PlainState) → IsCalm u.mode u.folded.leading → run (turn ctx start) a u ≡ Ok t → PassedFrom u a t.rest) → (u : Turn PlainState Fault) → Goes ctx start c a s.mode s u →
           turned u (c ∷ a) (λ v. run (turn ctx start) a v) ≡ Ok t → PassedFrom s (c ∷ a) t.rest
       by others (stop u) (stays h v) e = let is : record { rest = c ∷ a; state = u } ≡ t = cc in rw (← is) (record { passed = []; cut = refl; tabs_are = h; dashes_are = refl })
-      by others (fail f) (fails g) e = absurd (cc e)
+      by others (fail f) (fails g why) e = absurd (cc e)
       by others (on u) (goes v m go here dash after) e = one_more c a t.rest (spot s) (is_apart s.mode) u go here dash after (others u m e)
 
 -- ---- lines

@@ -46,7 +46,7 @@ use Rattle.proof_row_sound.proofs.ReadNodes.{Read, site_of, allowed_past, IsRead
 -- ---- properties
 
 -- A property or an alias that was read: its piece, which has no break, and nothing after it.
-record IsProperty (fl : Bool) (tok : Tok) (p : Position) (text rest : List ℕ) (end : Position) : Type 0 where
+pub record IsProperty (fl : Bool) (tok : Tok) (p : Position) (text rest : List ℕ) (end : Position) : Type 0 where
   pub first : ℕ
   pub more : List ℕ
   pub cut : text ≡ (first ∷ more) ++ rest
@@ -79,20 +79,24 @@ anchor_is_token name = record { act = refl; begun = refl; shown = λ s piece nex
     awaits_alike true bs b next = refl
     awaits_alike false bs b next = and_yes b
 
-tag_token : (handle suffix : List ℕ) → IsPropertyToken (Tok.tag handle suffix)
+pub tag_token : (handle suffix : List ℕ) → IsPropertyToken (Tok.tag handle suffix)
 tag_token handle suffix = record { act = refl; begun = refl; shown = λ s piece next. refl; before = refl; least = λ s. refl; lines = λ c p. refl; precedes = λ f bs p n. refl; awaits = awaits_alike }
   where
     awaits_alike : (fl : Bool) (bs : List ℕ) (b : Bool) (next : List ℕ) → awaits_past fl (Tok.tag handle suffix) bs b next ≡ b
     awaits_alike true bs b next = refl
     awaits_alike false bs b next = and_yes b
 
+pub name_token : (alias : Bool) (name : List ℕ) → IsPropertyToken (anchor_token alias name)
+name_token true name = alias_token name
+name_token false name = anchor_is_token name
+
 -- ---- the step
 
 -- what was read, for the general step
-abbrev property_read : (t : ScannerState) (tok : Tok) (rest : List ℕ) (end : Position) → IsProperty (in_flow t.held) tok t.held.position t.rest rest end → Read
+abbrev pub property_read : (t : ScannerState) (tok : Tok) (rest : List ℕ) (end : Position) → IsProperty (in_flow t.held) tok t.held.position t.rest rest end → Read
 property_read t tok rest end r = record { tok = tok; piece = r.first ∷ r.more; gap = []; rest = rest; end = end; indents = t.held.indents; indent = t.held.indent; leading = false; allowed = false; adjacent = t.held.adjacent_value_at }
 
-property_is_read : (text : List ℕ) (t : ScannerState) (tok : Tok) (rest : List ℕ) (end : Position) (r : IsProperty (in_flow t.held) tok t.held.position t.rest rest end) → IsPropertyToken tok → IsDeep t.held →
+pub property_is_read : (text : List ℕ) (t : ScannerState) (tok : Tok) (rest : List ℕ) (end : Position) (r : IsProperty (in_flow t.held) tok t.held.position t.rest rest end) → IsPropertyToken tok → IsDeep t.held →
     (fs : List FlowLevel) (ks : List (Option Key)) (es : List Entry) → t.held.flow ≡ fs → (a : ArrivesBy text t fs ks es) → IsRead t fs a.site a.line es a.separation (property_read t tok rest end r)
 property_is_read text t tok rest end r k deep fs ks es flow a = record {
   act = k.act;
@@ -153,7 +157,7 @@ mark_in_line false = refl
 one_first : (name : List ℕ) → 1 + length name ≡ suc (length name)
 one_first name = omega arith
 
-name_property : (fl alias : Bool) (p : Position) (text more : List ℕ) → text ≡ (if alias then 42 else 38) ∷ more → (x : machine.Read (List ℕ)) → anchor_name text p ≡ Ok x → IsProperty fl (anchor_token alias x.value) p text x.rest x.position
+pub name_property : (fl alias : Bool) (p : Position) (text more : List ℕ) → text ≡ (if alias then 42 else 38) ∷ more → (x : machine.Read (List ℕ)) → anchor_name text p ≡ Ok x → IsProperty fl (anchor_token alias x.value) p text x.rest x.position
 name_property fl alias p text more e x k = by (anchor_name ((if alias then 42 else 38) ∷ more) p) (ap (λ r. anchor_name r p) (sym e) ∙ k) (names_end (if alias then 42 else 38) more p)
   where
     piece_of : (b : Bool) (name rest : List ℕ) → is_name name ≡ true → goes_on_with_name rest ≡ false → (a : PieceAccount) → a.position ≡ p → IsPiece a ((if b then 42 else 38) ∷ name) rest None p (anchor_token b name)
@@ -177,13 +181,9 @@ name_property fl alias p text more e x k = by (anchor_name ((if alias then 42 el
 -- `*name` or `&name`
 pub anchor_keeps : (text : List ℕ) (alias : Bool) (t : ScannerState) (more : List ℕ) → t.rest ≡ (if alias then 42 else 38) ∷ more → IsDeep t.held → Arrives text t → Holds (Stands text) (fetch_anchor alias t)
 unfolding fetch_anchor
-anchor_keeps text alias t more e deep a = read (node_start t.held) (anchor_name t.rest t.held.position) _ (λ x k. went (property_stands text t (anchor_token alias x.value) x.rest x.position (name_property (in_flow t.held) alias t.held.position t.rest more e x k) (token_of alias x.value) deep a))
-  where
-    token_of : (b : Bool) (name : List ℕ) → IsPropertyToken (anchor_token b name)
-    token_of true name = alias_token name
-    token_of false name = anchor_is_token name
+anchor_keeps text alias t more e deep a = read (node_start t.held) (anchor_name t.rest t.held.position) _ (λ x k. went (property_stands text t (anchor_token alias x.value) x.rest x.position (name_property (in_flow t.held) alias t.held.position t.rest more e x k) (name_token alias x.value) deep a))
 
-tag_property : (fl : Bool) (p : Position) (text more : List ℕ) → text ≡ 33 ∷ more → (x : machine.Read tags.Tag) → tags.tag fl text p ≡ Ok x → IsProperty fl (Tok.tag x.value.handle x.value.suffix) p text x.rest x.position
+pub tag_property : (fl : Bool) (p : Position) (text more : List ℕ) → text ≡ 33 ∷ more → (x : machine.Read tags.Tag) → tags.tag fl text p ≡ Ok x → IsProperty fl (Tok.tag x.value.handle x.value.suffix) p text x.rest x.position
 tag_property fl p text more e x k = by (tags.tag fl (33 ∷ more) p) (ap (λ r. tags.tag fl r p) (sym e) ∙ k) (tags_end fl more p)
   where
     by : (y : Result (machine.Read tags.Tag) Fault) → y ≡ Ok x → TagEndsAs fl p more y → IsProperty fl (Tok.tag x.value.handle x.value.suffix) p text x.rest x.position
