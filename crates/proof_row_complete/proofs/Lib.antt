@@ -1,5 +1,6 @@
 pub mod Around
 pub mod Nodes
+pub mod Pieces
 pub mod Runs
 pub mod Sides
 pub mod Steps

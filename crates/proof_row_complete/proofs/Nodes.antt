@@ -1,2 +1,3 @@
 pub mod Choices
+pub mod Properties
 pub mod Read

@@ -89,19 +89,19 @@ step_read a w ws last v next row e h n =
 
 module _ (s : Site) (l : Line) (w : Step) (next : List ℕ) (ws : List Step) (last : List ℕ) where
   -- outside flow the site at the piece
-  abbrev out : Site
+  abbrev pub out : Site
   out = site_at false s w.separation w.piece w.shown next
 
   -- A step outside flow that the row goes on after: what it asks for, and what may begin then and which block collections are open.
   pub record WentOutside : Type 0 where
     pub line_here : Line
     pub after : Outside
-    pub stands : may_stand false s (site_at false s w.separation w.piece w.shown next) w.separation w.piece w.shown next ≡ true
+    pub stands : may_stand false s out w.separation w.piece w.shown next ≡ true
     pub line_is : line_past_separation false (begins_free_line s.before w.separation) l ≡ Some line_here
-    pub after_is : line_past (is_in_column (site_at false s w.separation w.piece w.shown next).position.col (site_at false s w.separation w.piece w.shown next).blocks) (site_at false s w.separation w.piece w.shown next).position
-        (site_at false s w.separation w.piece w.shown next).blocks (act_of w.shown) w.key line_here ≡ Some after
+    pub after_is : line_past (is_in_column out.position.col out.blocks) out.position
+        out.blocks (act_of w.shown) w.key line_here ≡ Some after
     pub one_line : (has_break w.piece && is_waiting after.line) ≡ false
-    pub is_row : IsRowFrom (Some (record { site = site_past false (site_at false s w.separation w.piece w.shown next) w.piece w.shown next after.blocks; line = after.line; entries = begun_by w.shown })) ws last
+    pub is_row : IsRowFrom (Some (record { site = site_past false out w.piece w.shown next after.blocks; line = after.line; entries = begun_by w.shown })) ws last
 
   abbrev past_out : Option Line → Option Account
   past_out o = past_piece out w.piece w.shown next (is_renewed s.before w.separation) w.key o []
@@ -127,18 +127,18 @@ module _ (s : Site) (l : Line) (w : Step) (next : List ℕ) (ws : List Step) (la
 
 module _ (s : Site) (l : Line) (e : Entry) (es : List Entry) (w : Step) (next : List ℕ) (ws : List Step) (last : List ℕ) where
   -- in flow the site at the piece
-  abbrev at : Site
+  abbrev pub at : Site
   at = site_at true s w.separation w.piece w.shown next
 
   -- A step in flow that the row goes on after: what it asks for, and the entries then.
   pub record WentInside : Type 0 where
     pub line_here : Line
     pub after : List Entry
-    pub stands : may_stand true s (site_at true s w.separation w.piece w.shown next) w.separation w.piece w.shown next ≡ true
+    pub stands : may_stand true s at w.separation w.piece w.shown next ≡ true
     pub line_is : line_past_separation true (begins_free_line s.before w.separation) l ≡ Some line_here
-    pub after_is : entries_past (site_at true s w.separation w.piece w.shown next).position (is_renewed s.before w.separation) (act_of w.shown) (begun_by w.shown) w.key e es ≡ Some after
+    pub after_is : entries_past at.position (is_renewed s.before w.separation) (act_of w.shown) (begun_by w.shown) w.key e es ≡ Some after
     pub one_line : (has_break w.piece && is_waiting line_here) ≡ false
-    pub is_row : IsRowFrom (Some (record { site = site_past true (site_at true s w.separation w.piece w.shown next) w.piece w.shown next (site_at true s w.separation w.piece w.shown next).blocks; line = line_here; entries = after })) ws last
+    pub is_row : IsRowFrom (Some (record { site = site_past true at w.piece w.shown next at.blocks; line = line_here; entries = after })) ws last
 
   abbrev past_in : Option Line → Option Account
   past_in o = past_piece at w.piece w.shown next (is_renewed s.before w.separation) w.key o (e ∷ es)

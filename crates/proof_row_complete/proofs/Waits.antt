@@ -1,5 +1,5 @@
 -- What is read on over after a piece begins the separation after it. While a key waits it has no break, and the text goes on after it.
-use Rattle.std.proofs.Common.{◌≡◌, ℕ, List, [], ◌∷◌, ◌++◌, Bool, true, false, not, ◌&&◌, ◌||◌, ◌==◌, Some, refl, ap, sym, ◌∙◌, subst}
+use Rattle.std.proofs.Common.{◌≡◌, ℕ, List, [], ◌∷◌, ◌++◌, Bool, true, false, not, ◌||◌, ◌==◌, Some, refl, ap, sym, ◌∙◌, subst}
 use Rattle.std.proofs.lemmas.Bool.{and_parts}
 use Rattle.defs_text.specs.Classes.{is_blank, is_break}
 use Rattle.defs_text.specs.Breaks.{is_at_line_end, has_no_break}

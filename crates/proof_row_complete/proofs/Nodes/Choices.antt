@@ -1,8 +1,8 @@
 -- A part of a node that is no collection, as a row says it: the account after it fits what the scanner holds, by one choice of the open key.
-use Rattle.std.proofs.Common.{◌≡◌, ℕ, ◌≤◌, List, [], ◌∷◌, Bool, true, false, Option, Some, None, refl, ap, sym, ◌∙◌, subst, arith, inl, inr, ◌⊎◌}
+use Rattle.std.proofs.Common.{◌≡◌, ℕ, ◌≤◌, List, [], ◌∷◌, Bool, true, false, Option, Some, None, refl, sym, ◌∙◌, subst, arith, inl, inr, ◌⊎◌}
 use Rattle.defs_text.specs.Position.{Position}
 use Rattle.defs_row.specs.Step.{gives_node}
-use Rattle.defs_row.specs.Key.{Line, free, taken, waits as waits_on_line, is_waiting, line_past_separation, Outside, line_past}
+use Rattle.defs_row.specs.Key.{Line, free, taken, waits as waits_on_line, line_past_separation, Outside, line_past}
 use Rattle.defs_row.specs.FlowEntry.{Had, fresh, filled, waits, settled, Entry, entries_past}
 use Rattle.model_scanner.specs.State.{Key}
 use Rattle.proof_cut.specs.Here.{IsLive}

@@ -1,12 +1,12 @@
 -- A part of a node that is no collection was read where a piece begins, and the row goes on there: then it goes on after it.
-use Rattle.std.proofs.Common.{◌≡◌, ℕ, ◌≤◌, List, [], ◌∷◌, ◌++◌, Bool, true, false, not, ◌&&◌, Option, Some, None, refl, ap, sym, ◌∙◌, subst, arith, ◌⊎◌, inl, inr}
+use Rattle.std.proofs.Common.{◌≡◌, ℕ, ◌≤◌, List, [], ◌∷◌, ◌++◌, Bool, true, false, ◌&&◌, Option, Some, None, refl, ap, sym, ◌∙◌, subst, arith, ◌⊎◌, inl, inr}
 use Rattle.defs_text.specs.Position.{Position, position_after}
 use Rattle.defs_text.specs.Text.{is_empty}
 use Rattle.defs_row.specs.Step.{Step, spelled, Act, act_of, gives_node, has_break}
 use Rattle.defs_row.specs.Column.{is_in_column}
-use Rattle.defs_row.specs.Key.{Line, taken, is_waiting, begins_free_line, line_past_separation, Outside, line_past}
+use Rattle.defs_row.specs.Key.{Line, taken, is_waiting, begins_free_line, Outside, line_past}
 use Rattle.defs_row.specs.FlowEntry.{Entry, begun_by, is_renewed, entries_past}
-use Rattle.defs_row.specs.Account.{Site, Account, site_in, site_at, site_past}
+use Rattle.defs_row.specs.Account.{Site, Account, site_in, site_past}
 use Rattle.defs_row.specs.Row.{IsRowFrom}
 use Rattle.model_scanner.specs.declared.level.FlowLevel.{FlowLevel}
 use Rattle.model_scanner.specs.State.{Key, ScannerState, pop}
@@ -14,19 +14,19 @@ use Rattle.proof_lexers.specs.PlainEnds.{has_no_nul}
 use Rattle.proof_cut.specs.Here.{IsLive}
 use Rattle.proof_cut.proofs.Nodes.{IsDeep}
 use Rattle.proof_row_sound.specs.Choices.{line_by, entry_by, entries_by, first_choice, outside_key, chosen, MayChoose}
-use Rattle.proof_row_sound.proofs.Around.{line_through, line_taken}
+use Rattle.proof_row_sound.proofs.Around.{line_through}
 use Rattle.proof_row_sound.proofs.KeyStarts.{new_key, keys_saved}
 use Rattle.proof_row_sound.proofs.NodeSteps.{saved, entry_past_node}
 use Rattle.proof_row_sound.proofs.NodesInside as inside
 use Rattle.proof_row_sound.proofs.NodesOutside as outside
 use Rattle.proof_row_sound.proofs.NodesOutside.{Outer}
 use Rattle.proof_row_sound.proofs.Outsides.{must_be_here}
-use Rattle.proof_row_sound.proofs.ReadNodes.{Read, next_of, state_after, site_of, site_then, IsRead, here_is, outer_node, is_outer_node, inner_node, is_inner_node, base_outside, base_inside, node_outside, node_inside}
+use Rattle.proof_row_sound.proofs.ReadNodes.{Read, next_of, state_after, site_then, IsRead, here_is, outer_node, is_outer_node, inner_node, is_inner_node, base_outside, base_inside, node_outside, node_inside}
 use Rattle.proof_row_sound.proofs.Sides.{with_entries, ArrivesBy}
 use Rattle.proof_row_complete.specs.Goes.{Goes, GoesHere}
 use Rattle.proof_row_complete.proofs.Nodes.Choices.{separated_by, ChosenOutside, chosen_outside, ChosenInside, chosen_inside}
 use Rattle.proof_row_complete.proofs.Sides.{GoesOutside, GoesInside, goes_side, goes_on}
-use Rattle.proof_row_complete.proofs.Steps.{with_key, GoesPast, step_read, WentOutside, went_outside, WentInside, went_inside}
+use Rattle.proof_row_complete.proofs.Steps.{GoesPast, step_read, WentOutside, went_outside, WentInside, went_inside}
 use Rattle.proof_row_complete.proofs.Waits.{waits_on, on_its_line, node_before}
 
 -- ---- where a key waits

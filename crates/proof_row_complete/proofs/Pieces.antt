@@ -1,0 +1,87 @@
+-- Where a piece begins and the row goes on: the piece of its first step stands in the text here, whole, and is of the kind that the text says.
+use Rattle.std.proofs.Common.{◌≡◌, ℕ, List, [], ◌∷◌, ◌++◌, Bool, true, not, map, Option, None, refl, ap, sym, ◌∙◌, subst}
+use Rattle.defs_text.specs.Position.{position_after}
+use Rattle.defs_text.specs.Text.{is_empty}
+use Rattle.defs_token.specs.Account.{is_adjacent, before_past}
+use Rattle.defs_row.specs.Step.{Step, spelled}
+use Rattle.defs_row.specs.FlowEntry.{Entry, is_renewed}
+use Rattle.defs_row.specs.Account.{Account, is_in_flow, may_stand, level_of, seen, before_by}
+use Rattle.defs_row.specs.Tokens.{shown_position}
+use Rattle.model_scanner.specs.State.{Key, ScannerState, in_flow}
+use Rattle.proof_ends.specs.Ends.{kind_at, kind_of}
+use Rattle.proof_ends.proofs.Begins.{Context, context_of, Whole, piece_of, kind_there}
+use Rattle.proof_row.proofs.Written.{At, not_empty}
+use Rattle.proof_row_sound.specs.Choices.{entries_by, chosen}
+use Rattle.proof_row_sound.proofs.StreamEnds.{same_flow}
+use Rattle.proof_row_complete.specs.Goes.{GoesHere}
+use Rattle.proof_row_complete.specs.EachReads.{before_here}
+use Rattle.proof_row_complete.proofs.Steps.{step_here}
+use Rattle.proof_row_complete.proofs.Around.Asks.{asks}
+
+same_entries : (cs : List Bool) (ks : List (Option Key)) (es : List Entry) → is_empty (entries_by cs ks es) ≡ is_empty es
+same_entries cs ks [] = refl
+same_entries cs ks (e ∷ es) = refl
+
+same_levels : (es : List Entry) → is_empty (map level_of es) ≡ is_empty es
+same_levels [] = refl
+same_levels (e ∷ es) = refl
+
+module _ (text : List ℕ) (w : Step) (ws : List Step) (last : List ℕ) (t : ScannerState) (g : GoesHere text (w ∷ ws) last t) where
+  -- the account after the last piece, as the row has it
+  abbrev pub account_here : Account
+  account_here = chosen g.outside g.inside t.held.keys g.arrives.base
+
+  -- what of it the step's piece is looked at with
+  abbrev pub context_here : Context
+  context_here = context_of (seen account_here (At account_here w (spelled ws last)) w.separation)
+
+  -- The step here: its separation was passed, its piece stands here and is whole, and it may stand here.
+  pub record PieceHere : Type 0 where
+    pub separation_is : w.separation ≡ g.arrives.separation
+    pub text_is : w.piece ++ spelled ws last ≡ t.rest
+    pub in_flow_is : is_in_flow account_here.entries ≡ in_flow t.held
+    pub flow_is : context_here.in_flow ≡ in_flow t.held
+    pub position_is : (At account_here w (spelled ws last)).position ≡ t.held.position
+    pub whole : Whole (kind_at (in_flow t.held) (is_adjacent (before_here text (w ∷ ws) last t g)) t.held.position.col t.rest) context_here w.piece (spelled ws last) w.shown
+    pub stands : may_stand (is_in_flow account_here.entries) g.arrives.base.site (At account_here w (spelled ws last)) w.separation w.piece w.shown (spelled ws last) ≡ true
+
+  pub piece_here : PieceHere
+  piece_here = record {
+    separation_is = here.0;
+    text_is = here.1;
+    in_flow_is = in_flow_by;
+    flow_is = flow_by;
+    position_is = position_by;
+    whole = subst (λ k. Whole k context_here w.piece next w.shown) kind_by own;
+    stands = (asks account_here w ws last g.is_row).stands;
+  }
+    where
+      next : List ℕ
+      next = spelled ws last
+
+      here : (w.separation ≡ g.arrives.separation) × (w.piece ++ next ≡ t.rest)
+      here = step_here account_here w ws last g.arrives.separation t.rest g.is_row g.is_spelled g.arrives.is_filled g.arrives.is_solid g.arrives.is_clean
+
+      entries_are : is_empty (entries_by g.inside t.held.keys g.arrives.base.entries) ≡ is_empty t.held.flow
+      entries_are = same_entries g.inside t.held.keys g.arrives.base.entries ∙
+          sym (same_flow t.held.key_allowed (is_renewed g.arrives.base.site.before g.arrives.separation) t.held.flow t.held.keys g.arrives.base.entries g.arrives.are_entries)
+
+      in_flow_by : is_in_flow account_here.entries ≡ in_flow t.held
+      in_flow_by = ap not entries_are
+
+      flow_by : context_here.in_flow ≡ in_flow t.held
+      flow_by = ap not (same_levels account_here.entries ∙ entries_are)
+
+      position_by : (At account_here w next).position ≡ t.held.position
+      position_by = ap (λ f. position_after g.arrives.base.site.position f (w.piece ++ next)) here.0 ∙ (ap (λ r. position_after g.arrives.base.site.position g.arrives.separation r) here.1 ∙ sym g.arrives.position_is)
+
+      adjacent_by : context_here.adjacent ≡ is_adjacent (before_here text (w ∷ ws) last t g)
+      adjacent_by = ap (λ f. is_adjacent (before_past (before_by g.arrives.base.site.before) f)) here.0
+
+      own : Whole (kind_of w.shown) context_here w.piece next w.shown
+      own = piece_of (seen account_here (At account_here w next) w.separation) w.piece next None (shown_position (At account_here w next) w.piece w.shown next) w.shown (not_empty w.piece g.is_row.0.1.0) g.is_row.0.1.1
+
+      kind_by : kind_of w.shown ≡ kind_at (in_flow t.held) (is_adjacent (before_here text (w ∷ ws) last t g)) t.held.position.col t.rest
+      kind_by = sym (kind_there (kind_of w.shown) context_here w.piece next w.shown own) ∙ (ap (λ x. kind_at x context_here.adjacent context_here.column (w.piece ++ next)) flow_by ∙
+          (ap (λ x. kind_at (in_flow t.held) x context_here.column (w.piece ++ next)) adjacent_by ∙
+          (ap (λ p. kind_at (in_flow t.held) (is_adjacent (before_here text (w ∷ ws) last t g)) p.col (w.piece ++ next)) position_by ∙ ap (λ r. kind_at (in_flow t.held) (is_adjacent (before_here text (w ∷ ws) last t g)) t.held.position.col r) here.1)))
