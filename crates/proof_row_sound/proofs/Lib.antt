@@ -40,6 +40,7 @@ pub mod PlainKeeps
 pub mod PlainLines
 pub mod Properties
 pub mod Questions
+pub mod QuotedBreaks
 pub mod QuotedEnds
 pub mod QuotedKeeps
 pub mod QuotedLines
