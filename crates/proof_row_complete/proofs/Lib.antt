@@ -2,6 +2,7 @@ pub mod Around
 pub mod Nodes
 pub mod Pieces
 pub mod Runs
+pub mod Scalars
 pub mod Sides
 pub mod Steps
 pub mod WaitingKeys
