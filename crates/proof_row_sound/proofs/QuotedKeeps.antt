@@ -29,7 +29,7 @@ use Rattle.model_scanner.specs.State.{Key, Held, ScannerState, ◌>>=◌, in_flo
 use Rattle.model_scanner.specs.Space.{between, skip_to_next_token}
 use Rattle.model_scanner.specs.Flow.{allow_key}
 use Rattle.model_scanner.specs.Document.{context, unled, quoted_style, check_after_quoted, adjacent_here, fetch_flow_scalar}
-use Rattle.model_scanner.proofs.Holds.{Holds, went, read, chained, both_hold}
+use Rattle.model_scanner.proofs.Holds.{Holds, went, read, chained, weakened, both_hold}
 use Rattle.proof_lexers.specs.PlainEnds as plains
 use Rattle.proof_lexers.specs.QuotedScan.{value_of, element_of, ends_before}
 use Rattle.proof_lexers.specs.QuotedEnds.{QuotedEndsAs, reads, refuses}
@@ -55,7 +55,13 @@ use Rattle.proof_row_sound.proofs.Skips.{IsAt, IsLeast, Cleared, skip_clears}
 use Rattle.proof_row_sound.proofs.Passed.{Exact, exact, same_has_break, least_of_levels, least_is}
 use Rattle.proof_row_sound.proofs.QuotedEnds.{ends_in_line, on_one_line, Checked, quoted_checked}
 use Rattle.proof_row_sound.proofs.QuotedLines.{quoted_fits}
-use Rattle.proof_row_sound.proofs.ReadNodes.{Read, next_of, site_of, site_then, allowed_past, IsRead, node_read}
+use Rattle.proof_row_sound.proofs.ReadNodes.{Read, next_of, state_after, site_of, site_then, allowed_past, IsRead, node_read}
+
+-- What a function has read of a node where a piece begins, and what it leaves.
+pub record ReadNode (text : List ℕ) (t u : ScannerState) : Type 0 where
+  pub read : Read
+  pub known : (fs : List FlowLevel) (ks : List (Option Key)) (es : List Entry) → t.held.flow ≡ fs → (a : ArrivesBy text t fs ks es) → IsRead t fs a.site a.line es a.separation read
+  pub is : u ≡ state_after t read
 
 -- ---- what was read
 
@@ -332,8 +338,12 @@ module _ (text : List ℕ) (single : Bool) (t : ScannerState) (a : Arrives text 
           adjacent_before = omega arith;
         }
 
-      stands : Stands text (on_held (λ s. push t.held.position tok (adjacent_here s)) w)
-      stands = subst (λ h. Stands text (on_held (λ s. push t.held.position tok (adjacent_here s)) (record { rest = w.rest; held = h }))) (sym held_is) (node_read text t d deep a (λ fs ks es f r. is_read fs ks es f r))
+      node : ReadNode text t (on_held (λ s. push t.held.position tok (adjacent_here s)) w)
+      node = record {
+        read = d;
+        known = λ fs ks es f r. is_read fs ks es f r;
+        is = ap (λ h. on_held (λ s. push t.held.position tok (adjacent_here s)) (record { rest = w.rest; held = h })) held_is;
+      }
 
 -- what the model does after the closing quote
 abbrev after_body : Bool → ScannerState → List ℕ → ScannerState → Result ScannerState Fault
@@ -342,11 +352,11 @@ after_body single t x u =
     skip_to_next_token v >>= λ w.
     Ok (on_held (λ s. push t.held.position (Tok.scalar (quoted_style single) x) (adjacent_here s)) w)
 
--- `'` or `"`
-pub quoted_keeps : (text : List ℕ) (single : Bool) (t : ScannerState) (more : List ℕ) → t.rest ≡ quote_of single ∷ more → IsDeep t.held → Arrives text t → Holds (Stands text) (fetch_flow_scalar single t)
+-- `'` or `"`: what is read of the node
+pub quoted_node : (text : List ℕ) (single : Bool) (t : ScannerState) (more : List ℕ) → t.rest ≡ quote_of single ∷ more → IsDeep t.held → Arrives text t → Holds (ReadNode text t) (fetch_flow_scalar single t)
 unfolding fetch_flow_scalar
-quoted_keeps text single t more e deep a =
-    subst (λ h. Holds (Stands text) (lexed (quoted single (context (allow_key false h)) t.rest t.held.position) (allow_key false h) (after_body single t))) (sym (saved_is t.held))
+quoted_node text single t more e deep a =
+    subst (λ h. Holds (ReadNode text t) (lexed (quoted single (context (allow_key false h)) t.rest t.held.position) (allow_key false h) (after_body single t))) (sym (saved_is t.held))
     (read (allow_key false (record t.held { keys = saved_keys t.held })) (quoted single (context t.held) t.rest t.held.position) (after_body single t) (λ x i. by x (read_as x i)))
   where
     more_clean : has_no_nul more ≡ true
@@ -355,8 +365,11 @@ quoted_keeps text single t more e deep a =
     read_as : (x : machine.Read (List ℕ)) → quoted single (context t.held) t.rest t.held.position ≡ Ok x → QuotedAs single (context t.held) t.held.position t.rest x
     read_as x i = subst (λ r. QuotedAs single (context t.held) t.held.position r x) (sym e) (quoted_as single (context t.held) t.held.position more x more_clean (subst (λ r. quoted single (context t.held) r t.held.position ≡ Ok x) e i))
 
-    by : (x : machine.Read (List ℕ)) → QuotedAs single (context t.held) t.held.position t.rest x → Holds (Stands text) (after_body single t x.value (go_on x (allow_key false (record t.held { keys = saved_keys t.held }))))
+    by : (x : machine.Read (List ℕ)) → QuotedAs single (context t.held) t.held.position t.rest x → Holds (ReadNode text t) (after_body single t x.value (go_on x (allow_key false (record t.held { keys = saved_keys t.held }))))
     by x q =
         chained (quoted_checked t.held.position (piece_of single q.body) (closed text single t a deep x q) (in_line single q.body) (rest_is_clean text single t a deep x q) q.end_is) (λ v c.
         chained (both_hold (exact v) (skipped text single t a deep x q v c)) (λ w z.
-        went (stands text single t a deep x q v c w z.0 z.1)))
+        went (node text single t a deep x q v c w z.0 z.1)))
+
+pub quoted_keeps : (text : List ℕ) (single : Bool) (t : ScannerState) (more : List ℕ) → t.rest ≡ quote_of single ∷ more → IsDeep t.held → Arrives text t → Holds (Stands text) (fetch_flow_scalar single t)
+quoted_keeps text single t more e deep a = weakened (λ u n. subst (λ y. Stands text y) (sym n.is) (node_read text t n.read deep a n.known)) (quoted_node text single t more e deep a)
