@@ -19,7 +19,7 @@ use Rattle.defs_row.specs.Lines.{further_lines_stand}
 use Rattle.defs_row.specs.Following.{may_precede, block_may_end}
 use Rattle.defs_row.specs.Key.{Line, free, taken, line_past}
 use Rattle.defs_row.specs.FlowEntry.{begun_by}
-use Rattle.defs_row.specs.Account.{Site, site_in, site_past, least_for, may_stand, seen}
+use Rattle.defs_row.specs.Account.{Site, Account, site_in, site_past, least_for, may_stand, seen}
 use Rattle.defs_row.specs.Tokens.{put, content_position, shown_position, ends_at, begun_outside}
 use Rattle.model_lexers.specs.Machine.{Read}
 use Rattle.model_lexers.specs.Block.{Block, block}
@@ -48,7 +48,7 @@ use Rattle.proof_row_sound.proofs.NodeSteps.{saved}
 use Rattle.proof_row_sound.proofs.Outsides.{must_be_here, numbered_past, open_node}
 use Rattle.proof_row_sound.proofs.OutsidePieces.{line_free, none_open}
 use Rattle.proof_row_sound.proofs.KeyStarts.{new_key, keys_saved}
-use Rattle.proof_row_sound.proofs.Sides.{with_entries, ArrivesBy, ArrivesOutside, ArrivesInside, arrives_side, stands_by}
+use Rattle.proof_row_sound.proofs.Sides.{with_entries, ArrivesBy, ArrivesOutside, ArrivesInside, arrives_side, StandsBy, StandsAt, stands_at}
 use Rattle.proof_row_sound.proofs.Stales.{none_completes}
 use Rattle.proof_row_sound.proofs.StepsOutside.{Piece, at, piece_completes}
 use Rattle.proof_row_sound.proofs.WithoutOpen.{AreClosed, without_is}
@@ -311,8 +311,8 @@ module _ (text : List ℕ) (t : ScannerState) (k : Option Key) (a : ArrivesBy te
           by true m = absurd (cc m)
           by false m = refl
 
-  pub scalar_stands : Stands text after_it
-  scalar_stands = stands_by text after_it [] (key_now ∷ []) [] out (keys_saved t k [] keys) (record {
+  scalar_by : StandsBy text after_it [] (key_now ∷ []) []
+  scalar_by = record {
     site = site_then;
     line = free;
     separation = gap;
@@ -341,12 +341,16 @@ module _ (text : List ℕ) (t : ScannerState) (k : Option Key) (a : ArrivesBy te
     started = a.started;
     going = a.going;
     completes = λ c cs may. then_rows c cs key_now refl may;
-  })
+  }
+
+  pub scalar_stands : StandsAt text (with_entries site_then free []) gap after_it
+  unfolding scalar_by
+  scalar_stands = stands_at text after_it [] (key_now ∷ []) [] out (keys_saved t k [] keys) scalar_by
 
 -- ---- the function
 
 -- what the scanner holds after a block scalar, as the model has it
-abbrev read_state : ScannerState → Levels → BlockStyle → Read Block → ScannerState
+abbrev pub read_state : ScannerState → Levels → BlockStyle → Read Block → ScannerState
 read_state t w style x = record {
   rest = x.rest;
   held = record t.held {
@@ -360,17 +364,35 @@ read_state t w style x = record {
   };
 }
 
-read_stands : (text : List ℕ) (style : BlockStyle) (t : ScannerState) (more : List ℕ) → t.rest ≡ indicator_of style ∷ more → IsDeep t.held → ArrivesOutside text t → (w : Levels) → AreClosed t.held.indent t.held.indents t.held.tokens w →
-    (x : Read Block) → block (is_literal_style style) w.indent t.rest t.held.position ≡ Ok x → Stands text (read_state t w style x)
-read_stands text style t more e deep o w closed x i =
-    let clean : has_no_nul more ≡ true = clean_after (indicator_of style ∷ []) more (subst (λ l. has_no_nul l ≡ true) e o.here.is_clean) in
-    let r : BlockAs style w.indent t.held.position t.rest x = subst (λ l. BlockAs style w.indent t.held.position l x) (sym e) (block_as style w.indent more t.held.position x clean (ap (λ l. block (is_literal_style style) w.indent l t.held.position) (sym e) ∙ i)) in
+-- the levels of indentation then
+abbrev pub levels_then : ScannerState → Levels
+levels_then t = without_open t.held.indent t.held.indents t.held.tokens
+
+pub closed_then : (text : List ℕ) (t : ScannerState) → Arrives text t → AreClosed t.held.indent t.held.indents t.held.tokens (levels_then t)
+closed_then text t a = without_is t.held.indent t.held.indents t.held.tokens a.are_levels
+
+-- the account after it
+abbrev pub block_base : (text : List ℕ) (style : BlockStyle) (t : ScannerState) → ArrivesOutside text t → (piece next value : List ℕ) → Account
+block_base text style t o piece next value =
+    let here : Site = site_here false t.held.position o.here.site in
+    with_entries (site_past false here piece (Tok.scalar (block_style (is_literal_style style)) value) next here.blocks) free []
+
+-- What stands after a block scalar that was read, with its account; the spaces after it are the separation.
+pub block_stands : (text : List ℕ) (style : BlockStyle) (t : ScannerState) → IsDeep t.held → (o : ArrivesOutside text t) → (w : Levels) → AreClosed t.held.indent t.held.indents t.held.tokens w → (x : Read Block) → (r : BlockAs style w.indent t.held.position t.rest x) →
+    StandsAt text (block_base text style t o r.piece r.next r.scalar.text) (spaces_of r.next) (read_state t w style x)
+block_stands text style t deep o w closed x r =
     let tok : Tok = Tok.scalar (block_style (is_literal_style style)) r.scalar.text in
     let y : Read Block = read_block t.held.position r.scalar r.piece r.next in
-    let stands : Stands text (record { rest = y.rest; held = record t.held { position = y.position; tokens = t.held.tokens ++ token y.value.position tok ∷ []; keys = saved_keys t.held; indents = w.indents; indent = w.indent; key_allowed = true; leading = true } }) =
+    let At : ScannerState → Type 0 = λ u. StandsAt text (block_base text style t o r.piece r.next r.scalar.text) (spaces_of r.next) u in
+    let stands : At (record { rest = y.rest; held = record t.held { position = y.position; tokens = t.held.tokens ++ token y.value.position tok ∷ []; keys = saved_keys t.held; indents = w.indents; indent = w.indent; key_allowed = true; leading = true } }) =
     scalar_stands text t o.key o.here o.flow_is o.keys_are deep w closed style x r tok (block_token style r.scalar.text) in
-    subst (λ z. Stands text (read_state t w style z)) (sym r.is)
-    (subst (λ ts. Stands text (record { rest = y.rest; held = record t.held { position = y.position; tokens = ts ++ token y.value.position tok ∷ []; keys = saved_keys t.held; indents = w.indents; indent = w.indent; key_allowed = true; leading = true } })) (sym closed.same_tokens) stands)
+    subst (λ z. At (read_state t w style z)) (sym r.is)
+    (subst (λ ts. At (record { rest = y.rest; held = record t.held { position = y.position; tokens = ts ++ token y.value.position tok ∷ []; keys = saved_keys t.held; indents = w.indents; indent = w.indent; key_allowed = true; leading = true } })) (sym closed.same_tokens) stands)
+
+read_as : (text : List ℕ) (style : BlockStyle) (t : ScannerState) (more : List ℕ) → t.rest ≡ indicator_of style ∷ more → ArrivesOutside text t → (indent : ℕ) (x : Read Block) → block (is_literal_style style) indent t.rest t.held.position ≡ Ok x → BlockAs style indent t.held.position t.rest x
+read_as text style t more e o indent x i =
+    let clean : has_no_nul more ≡ true = clean_after (indicator_of style ∷ []) more (subst (λ l. has_no_nul l ≡ true) e o.here.is_clean) in
+    subst (λ l. BlockAs style indent t.held.position l x) (sym e) (block_as style indent more t.held.position x clean (ap (λ l. block (is_literal_style style) indent l t.held.position) (sym e) ∙ i))
 
 -- A block scalar is read as in the row.
 pub block_keeps : (text : List ℕ) (lit : Bool) (t : ScannerState) (more : List ℕ) → t.rest ≡ (if lit then 124 else 62) ∷ more → is_empty t.held.flow ≡ true → IsDeep t.held → Arrives text t → Holds (Stands text) (fetch_block_scalar lit t)
@@ -381,13 +403,10 @@ block_keeps text lit t more e out deep arrives =
     (read (unroll_non_block_indents (allow_key true (record t.held { keys = saved_keys t.held }))) (block lit w.indent t.rest t.held.position) _ (λ x i. went (by lit e x i (arrives_side text t arrives))))
   where
     w : Levels
-    w = without_open t.held.indent t.held.indents t.held.tokens
-
-    closed : AreClosed t.held.indent t.held.indents t.held.tokens w
-    closed = without_is t.held.indent t.held.indents t.held.tokens arrives.are_levels
+    w = levels_then t
 
     by : (lit : Bool) → t.rest ≡ (if lit then 124 else 62) ∷ more → (x : Read Block) → block lit w.indent t.rest t.held.position ≡ Ok x → ArrivesOutside text t ⊎ ArrivesInside text t →
         Stands text (record { rest = x.rest; held = record t.held { position = x.position; tokens = w.tokens ++ token x.value.position (Tok.scalar (block_style lit) x.value.text) ∷ []; keys = saved_keys t.held; indents = w.indents; indent = w.indent; key_allowed = true; leading = true } })
     by lit e x i (inr inside) = absurd (cc (out, ap is_empty inside.flow_is))
-    by true e x i (inl o) = read_stands text literal t more e deep o w closed x i
-    by false e x i (inl o) = read_stands text folded t more e deep o w closed x i
+    by true e x i (inl o) = (block_stands text literal t deep o w (closed_then text t arrives) x (read_as text literal t more e o w.indent x i)).stands
+    by false e x i (inl o) = (block_stands text folded t deep o w (closed_then text t arrives) x (read_as text folded t more e o w.indent x i)).stands

@@ -69,13 +69,13 @@ abbrev pub piece_of : (single : Bool) → (body : List ℕ) → List ℕ
 piece_of single body = quote_of single ∷ (body ++ quote_of single ∷ [])
 
 -- What the scan of a quoted scalar read at a position: the text between its quotes; its further lines are indented.
-record QuotedAs (single : Bool) (ctx : Context) (p : Position) (text : List ℕ) (x : machine.Read (List ℕ)) : Type 0 where
-  body : List ℕ
-  value_is : value_of single body ≡ Some x.value
-  ends : ends_before single x.rest ≡ true
-  cut : text ≡ piece_of single body ++ x.rest
-  end_is : x.position ≡ position_after p (piece_of single body) x.rest
-  fits : quoted_lines_fit (ctx.indent - 1) (element_of single) (piece_of single body) ≡ true
+pub record QuotedAs (single : Bool) (ctx : Context) (p : Position) (text : List ℕ) (x : machine.Read (List ℕ)) : Type 0 where
+  pub body : List ℕ
+  pub value_is : value_of single body ≡ Some x.value
+  pub ends : ends_before single x.rest ≡ true
+  pub cut : text ≡ piece_of single body ++ x.rest
+  pub end_is : x.position ≡ position_after p (piece_of single body) x.rest
+  pub fits : quoted_lines_fit (ctx.indent - 1) (element_of single) (piece_of single body) ≡ true
 
 whole : (q : ℕ) (body rest : List ℕ) → q ∷ (body ++ q ∷ rest) ≡ (q ∷ (body ++ q ∷ [])) ++ rest
 whole q body rest = ap (λ l. q ∷ l) (sym (append_assoc body (q ∷ []) rest))
@@ -89,7 +89,7 @@ end_of single ctx p more piece x none e cut =
     let same : own ++ r.separation ≡ piece = append_cancel_right (own ++ r.separation) piece x.rest (append_assoc own r.separation x.rest ∙ (sym r.is_text ∙ cut)) in
     r.is_end ∙ (sym (position_append p own r.separation x.rest) ∙ ap (λ l. position_after p l x.rest) same)
 
-quoted_as : (single : Bool) (ctx : Context) (p : Position) (more : List ℕ) (x : machine.Read (List ℕ)) → has_no_nul more ≡ true → quoted single ctx (quote_of single ∷ more) p ≡ Ok x → QuotedAs single ctx p (quote_of single ∷ more) x
+pub quoted_as : (single : Bool) (ctx : Context) (p : Position) (more : List ℕ) (x : machine.Read (List ℕ)) → has_no_nul more ≡ true → quoted single ctx (quote_of single ∷ more) p ≡ Ok x → QuotedAs single ctx p (quote_of single ∷ more) x
 quoted_as single ctx p more x none e = by (quoted single ctx (quote_of single ∷ more) p) refl (scans_end single ctx more p (some_chars more none))
   where
     by : (y : Result (machine.Read (List ℕ)) Fault) → quoted single ctx (quote_of single ∷ more) p ≡ y → QuotedEndsAs single ctx p more y → QuotedAs single ctx p (quote_of single ∷ more) x
@@ -109,7 +109,7 @@ quoted_as single ctx p more x none e = by (quoted single ctx (quote_of single �
         }
 
 -- a quote is no break
-in_line : (single : Bool) (body : List ℕ) → ends_in_line (piece_of single body) ≡ true
+pub in_line : (single : Bool) (body : List ℕ) → ends_in_line (piece_of single body) ≡ true
 unfolding is_break
 in_line single body = last (quote_of single) (quote_of single) body (no_break single)
   where
@@ -181,30 +181,30 @@ spaced_by least bs aw gap e h = by (begins_line quoted_scalar gap) refl
 -- ---- the step
 
 module _ (text : List ℕ) (single : Bool) (t : ScannerState) (a : Arrives text t) (deep : IsDeep t.held) (x : machine.Read (List ℕ)) (q : QuotedAs single (context t.held) t.held.position t.rest x) where
-  abbrev now : Held
+  abbrev pub now : Held
   now = record t.held { keys = saved_keys t.held }
 
   -- after the closing quote
-  abbrev closed : ScannerState
+  abbrev pub closed : ScannerState
   closed = on_held unled (go_on x (allow_key false now))
 
-  abbrev piece : List ℕ
+  abbrev pub piece : List ℕ
   piece = piece_of single q.body
 
   abbrev tok : Tok
   tok = Tok.scalar (quoted_style single) x.value
 
-  abbrev least : ℕ
+  abbrev pub least : ℕ
   least = least_column (columns t.held.indent t.held.indents) (has_open_level t.held.indents)
 
   k : IsQuotedToken single tok
   k = quoted_token single x.value
 
-  rest_is_clean : has_no_nul x.rest ≡ true
+  pub rest_is_clean : has_no_nul x.rest ≡ true
   rest_is_clean = clean_after piece x.rest (subst (λ r. has_no_nul r ≡ true) q.cut a.is_clean)
 
   module _ (v : ScannerState) (c : Checked piece closed v) where
-    abbrev spaces : List ℕ
+    abbrev pub spaces : List ℕ
     spaces = c.spaces.blanks ++ c.spaces.comment
 
     no_break : has_break spaces ≡ false
@@ -213,10 +213,10 @@ module _ (text : List ℕ) (single : Bool) (t : ScannerState) (a : Arrives text 
     none : has_break spaces ≡ true → ⊥
     none h = cc (h, no_break)
 
-    start_at : IsAt quoted_scalar least spaces v.held
+    pub start_at : IsAt quoted_scalar least spaces v.held
     start_at = record { leading_is = λ i. ap (λ h. h.leading) c.spaces.is_held ∙ sym no_break; col_is = λ b. absurd (none b); spaced = λ b. absurd (none b) }
 
-    start_least : IsLeast quoted_scalar least v.held
+    pub start_least : IsLeast quoted_scalar least v.held
     start_least = subst (λ h. IsLeast quoted_scalar least h) (sym c.spaces.is_held) (least_is (columns t.held.indent t.held.indents) (has_open_level t.held.indents) now refl refl a.are_levels)
 
     skipped : Holds (Cleared quoted_scalar least spaces v.rest) (skip_to_next_token v)
@@ -346,7 +346,7 @@ module _ (text : List ℕ) (single : Bool) (t : ScannerState) (a : Arrives text 
       }
 
 -- what the model does after the closing quote
-abbrev after_body : Bool → ScannerState → List ℕ → ScannerState → Result ScannerState Fault
+abbrev pub after_body : Bool → ScannerState → List ℕ → ScannerState → Result ScannerState Fault
 after_body single t x u =
     check_after_quoted t.held.position.line (on_held unled u) >>= λ v.
     skip_to_next_token v >>= λ w.
