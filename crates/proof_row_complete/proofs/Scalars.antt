@@ -1,2 +1,3 @@
+pub mod AfterQuoted
 pub mod Bodies
 pub mod Contents

@@ -174,7 +174,7 @@ unfolding model_classes.is_break is_break is_nul
 at_end_of [] h = refl
 at_end_of (c ∷ r) h = h
 
-not_at_end : (r : List ℕ) → is_breakz (peek r) ≡ false → is_at_line_end r ≡ false
+pub not_at_end : (r : List ℕ) → is_breakz (peek r) ≡ false → is_at_line_end r ≡ false
 unfolding model_classes.is_break is_break is_nul
 not_at_end [] h = absurd (cc h)
 not_at_end (c ∷ r) h = h
