@@ -26,7 +26,7 @@ use Rattle.proof_row_sound.proofs.Inserts.{among}
 use Rattle.proof_row_sound.proofs.NodeTokens.{past_step}
 use Rattle.proof_row_sound.proofs.NodesInside.{not_keyed}
 use Rattle.proof_row_sound.proofs.StepsInside.{Piece, IsHere, at, past, piece_completes}
-use Rattle.proof_row_sound.proofs.Sides.{with_entries, ArrivesBy, stands_by}
+use Rattle.proof_row_sound.proofs.Sides.{with_entries, ArrivesBy, StandsAt, stands_at}
 
 -- where a piece begins deep enough, the least column is not right of it
 pub low_enough : (text : List ℕ) (t : ScannerState) (f : FlowLevel) (fs : List FlowLevel) (ks : List (Option Key)) (es : List Entry) (a : ArrivesBy text t (f ∷ fs) ks es) → IsDeep t.held → nat_le (least_column a.site.blocks a.site.awaits) t.held.position.col ≡ true
@@ -66,12 +66,13 @@ pub record ReadInside (text : List ℕ) (t u : ScannerState) (f g : FlowLevel) (
 pub later_after : (p : Position) (piece next separation rest : List ℕ) → NotBefore p (position_after (position_after p piece next) separation rest)
 later_after p piece next separation rest = not_before_then p (position_after p piece next) (position_after (position_after p piece next) separation rest) (not_before_after p piece next) (not_before_after (position_after p piece next) separation rest)
 
--- If each choice after it is one of a row, what holds between two fetches holds after it.
-pub read_inside : (text : List ℕ) (t u : ScannerState) (f g : FlowLevel) (fs : List FlowLevel) (k : Option Key) (ks : List (Option Key)) (e e2 : Entry) (es : List Entry) (a : ArrivesBy text t (f ∷ fs) (k ∷ ks) (e ∷ es)) (piece next : List ℕ) (tok : Tok) →
-    ReadInside text t u f g fs k ks e e2 es a piece next tok →
+-- If each choice after it is one of a row, what holds between two fetches holds after it, with this account.
+pub read_inside_at : (text : List ℕ) (t u : ScannerState) (f g : FlowLevel) (fs : List FlowLevel) (k : Option Key) (ks : List (Option Key)) (e e2 : Entry) (es : List Entry) (a : ArrivesBy text t (f ∷ fs) (k ∷ ks) (e ∷ es)) (piece next : List ℕ) (tok : Tok) →
+    (r : ReadInside text t u f g fs k ks e e2 es a piece next tok) →
     ((c : Bool) (cs : List Bool) → MayChoose c (outside_key es ks) u.held.position u.rest →
-    let b : Account = with_entries (site_inside (site_in true (act_of tok) t.held.position a.site) piece tok next) a.line (e2 ∷ es) in Completes text next (chosen c cs (None ∷ ks) b) (tokens_up_to (chosen c cs (None ∷ ks) b) (None ∷ ks) u.held.tokens)) → Stands text u
-read_inside text t u f g fs k ks e e2 es a piece next tok r rows =
+    let b : Account = with_entries (site_inside (site_in true (act_of tok) t.held.position a.site) piece tok next) a.line (e2 ∷ es) in Completes text next (chosen c cs (None ∷ ks) b) (tokens_up_to (chosen c cs (None ∷ ks) b) (None ∷ ks) u.held.tokens)) →
+    StandsAt text (with_entries (site_inside (site_in true (act_of tok) t.held.position a.site) piece tok next) a.line (e2 ∷ es)) r.separation u
+read_inside_at text t u f g fs k ks e e2 es a piece next tok r rows =
     let x : Site = site_in true (act_of tok) t.held.position a.site in
     let after : Site = site_inside x piece tok next in
     let i = index_after (position_after t.held.position piece next) r.separation u.rest in
@@ -82,7 +83,7 @@ read_inside text t u f g fs k ks e e2 es a piece next tok r rows =
     let long : 1 ≤ length piece = not_none piece r.is_solid in
     let was = a.was_adjacent in
     let same = r.adjacent_is in
-    stands_by text u (g ∷ fs) (None ∷ ks) (e2 ∷ es) r.flow_is r.keys_are (record {
+    stands_at text u (g ∷ fs) (None ∷ ks) (e2 ∷ es) r.flow_is r.keys_are (record {
       site = after;
       line = a.line;
       separation = r.separation;
@@ -112,6 +113,12 @@ read_inside text t u f g fs k ks e e2 es a piece next tok r rows =
     not_none [] h = absurd (cc h)
     not_none (c ∷ l) h = omega arith
 
+pub read_inside : (text : List ℕ) (t u : ScannerState) (f g : FlowLevel) (fs : List FlowLevel) (k : Option Key) (ks : List (Option Key)) (e e2 : Entry) (es : List Entry) (a : ArrivesBy text t (f ∷ fs) (k ∷ ks) (e ∷ es)) (piece next : List ℕ) (tok : Tok) →
+    ReadInside text t u f g fs k ks e e2 es a piece next tok →
+    ((c : Bool) (cs : List Bool) → MayChoose c (outside_key es ks) u.held.position u.rest →
+    let b : Account = with_entries (site_inside (site_in true (act_of tok) t.held.position a.site) piece tok next) a.line (e2 ∷ es) in Completes text next (chosen c cs (None ∷ ks) b) (tokens_up_to (chosen c cs (None ∷ ks) b) (None ∷ ks) u.held.tokens)) → Stands text u
+read_inside text t u f g fs k ks e e2 es a piece next tok r rows = (read_inside_at text t u f g fs k ks e e2 es a piece next tok r rows).stands
+
 -- ---- the rows: a piece before which no key of the entry waits
 
 -- the tokens of the step: the start of a single pair, and the token that the piece shows
@@ -131,9 +138,10 @@ pub record GoesInside (text : List ℕ) (t u : ScannerState) (f : FlowLevel) (fs
       let w : Step = record { separation = a.separation; piece = piece; shown = tok; key = false } in colon_of (suc n) p (w ∷ ws) last ≡ colon_of (suc n) (past_step p w ws last) ws last
   pub tokens_are : u.held.tokens ≡ a.tokens ++ tokens_inside x piece tok next e
 
-pub goes_inside : (text : List ℕ) (t u : ScannerState) (f g : FlowLevel) (fs : List FlowLevel) (k : Option Key) (ks : List (Option Key)) (e e2 : Entry) (es : List Entry) (a : ArrivesBy text t (f ∷ fs) (k ∷ ks) (e ∷ es)) (piece next : List ℕ) (tok : Tok) →
-    ReadInside text t u f g fs k ks e e2 es a piece next tok → GoesInside text t u f fs k ks e e2 es a piece next tok (site_in true (act_of tok) t.held.position a.site) → Stands text u
-goes_inside text t u f g fs k ks e e2 es a piece next tok r n = read_inside text t u f g fs k ks e e2 es a piece next tok r (λ c cs may.
+pub goes_inside_at : (text : List ℕ) (t u : ScannerState) (f g : FlowLevel) (fs : List FlowLevel) (k : Option Key) (ks : List (Option Key)) (e e2 : Entry) (es : List Entry) (a : ArrivesBy text t (f ∷ fs) (k ∷ ks) (e ∷ es)) (piece next : List ℕ) (tok : Tok) →
+    (r : ReadInside text t u f g fs k ks e e2 es a piece next tok) → GoesInside text t u f fs k ks e e2 es a piece next tok (site_in true (act_of tok) t.held.position a.site) →
+    StandsAt text (with_entries (site_inside (site_in true (act_of tok) t.held.position a.site) piece tok next) a.line (e2 ∷ es)) r.separation u
+goes_inside_at text t u f g fs k ks e e2 es a piece next tok r n = read_inside_at text t u f g fs k ks e e2 es a piece next tok r (λ c cs may.
     subst (λ p. let b : Account = with_entries (site_inside (site_in true (act_of tok) p a.site) piece tok next) a.line (e2 ∷ es) in Completes text next (chosen c cs (None ∷ ks) b) (tokens_up_to (chosen c cs (None ∷ ks) b) (None ∷ ks) u.held.tokens)) (sym place)
     (rows (subst (λ p. GoesInside text t u f fs k ks e e2 es a piece next tok (site_in true (act_of tok) p a.site)) place n) c cs may))
   where
@@ -186,3 +194,7 @@ goes_inside text t u f g fs k ks e e2 es a piece next tok r n = read_inside text
     rows m c cs may =
         subst (λ ts. Completes text next (past d c cs) (tokens_up_to (past d c cs) (None ∷ ks) ts)) (sym m.tokens_are)
         (piece_completes text d (here m) (λ b bs q. completes_at text t (f ∷ fs) (k ∷ ks) (e ∷ es) a (piece ++ next) (at d).position r.cut place b bs q) c cs may)
+
+pub goes_inside : (text : List ℕ) (t u : ScannerState) (f g : FlowLevel) (fs : List FlowLevel) (k : Option Key) (ks : List (Option Key)) (e e2 : Entry) (es : List Entry) (a : ArrivesBy text t (f ∷ fs) (k ∷ ks) (e ∷ es)) (piece next : List ℕ) (tok : Tok) →
+    ReadInside text t u f g fs k ks e e2 es a piece next tok → GoesInside text t u f fs k ks e e2 es a piece next tok (site_in true (act_of tok) t.held.position a.site) → Stands text u
+goes_inside text t u f g fs k ks e e2 es a piece next tok r n = (goes_inside_at text t u f g fs k ks e e2 es a piece next tok r n).stands

@@ -22,7 +22,7 @@ use Rattle.proof_row_sound.specs.Stands.{columns, has_open_level, AreLevels, IsR
 use Rattle.proof_row_sound.specs.Arrives.{IsLineHere}
 use Rattle.proof_row_sound.proofs.Arrivals.{clean_after}
 use Rattle.proof_row_sound.proofs.Indicated.{none_indents}
-use Rattle.proof_row_sound.proofs.Sides.{with_entries, ArrivesBy, stands_by}
+use Rattle.proof_row_sound.proofs.Sides.{with_entries, ArrivesBy, StandsAt, stands_at}
 use Rattle.proof_row_sound.proofs.StepsOutside.{Piece, IsHere, at, before, past, own_tokens, piece_completes}
 
 -- the site after a piece at a site
@@ -55,15 +55,15 @@ pub record EndsOutside (t u : ScannerState) (piece next : List ℕ) (tok : Tok) 
   pub started : u.held.started ≡ true
   pub going : u.held.ended ≡ false
 
--- If the account after it is one of a row, what holds between two fetches holds after it.
-pub ends_outside : (text : List ℕ) (t u : ScannerState) (k : Option Key) (a : ArrivesBy text t [] (k ∷ []) []) (piece next : List ℕ) (tok : Tok) (after : Outside) (x : Site) → t.held.position ≡ x.position → EndsOutside t u piece next tok after x →
-    Completes text next (with_entries (site_then x piece tok next after) after.line []) (λ ws last. u.held.tokens) → Stands text u
-ends_outside text t u k a piece next tok after x place r rows =
+-- If the account after it is one of a row, what holds between two fetches holds after it, with this account.
+pub ends_outside_at : (text : List ℕ) (t u : ScannerState) (k : Option Key) (a : ArrivesBy text t [] (k ∷ []) []) (piece next : List ℕ) (tok : Tok) (after : Outside) (x : Site) → t.held.position ≡ x.position → (r : EndsOutside t u piece next tok after x) →
+    Completes text next (with_entries (site_then x piece tok next after) after.line []) (λ ws last. u.held.tokens) → StandsAt text (with_entries (site_then x piece tok next after) after.line []) r.separation u
+ends_outside_at text t u k a piece next tok after x place r rows =
     let i = index_after (position_after x.position piece next) r.separation u.rest in
     let j = index_after x.position piece next in
     let was : t.held.adjacent_value_at ≤ x.position.index = subst (λ p. t.held.adjacent_value_at ≤ p.index) place a.was_adjacent in
     let there : u.held.position.index ≡ (position_after (position_after x.position piece next) r.separation u.rest).index = ap (λ p. p.index) r.position_is in
-    stands_by text u [] (None ∷ []) [] r.flow_is r.keys_are (record {
+    stands_at text u [] (None ∷ []) [] r.flow_is r.keys_are (record {
       site = site_then x piece tok next after;
       line = after.line;
       separation = r.separation;
@@ -89,6 +89,10 @@ ends_outside text t u k a piece next tok after x place r rows =
       completes = λ c cs may. subst (λ y. Completes text y (with_entries (site_then x piece tok next after) after.line []) (λ ws last. u.held.tokens)) r.is_rest rows;
     })
 
+pub ends_outside : (text : List ℕ) (t u : ScannerState) (k : Option Key) (a : ArrivesBy text t [] (k ∷ []) []) (piece next : List ℕ) (tok : Tok) (after : Outside) (x : Site) → t.held.position ≡ x.position → EndsOutside t u piece next tok after x →
+    Completes text next (with_entries (site_then x piece tok next after) after.line []) (λ ws last. u.held.tokens) → Stands text u
+ends_outside text t u k a piece next tok after x place r rows = (ends_outside_at text t u k a piece next tok after x place r rows).stands
+
 -- What was read where no key is open: a piece at a site, and what the scanner holds after it.
 pub record ReadOutside (text : List ℕ) (t u : ScannerState) (a : ArrivesBy text t [] (None ∷ []) []) (piece next : List ℕ) (tok : Tok) (after : Outside) (x : Site) : Type 0 where
   pub is_solid : is_empty piece ≡ false
@@ -99,10 +103,13 @@ pub record ReadOutside (text : List ℕ) (t u : ScannerState) (a : ArrivesBy tex
   pub tokens_are : u.held.tokens ≡ a.tokens ++ tokens_then a.site x piece tok next a.line_here
   pub ends : EndsOutside t u piece next tok after x
 
--- What holds between two fetches holds after it.
-pub read_outside : (text : List ℕ) (t u : ScannerState) (a : ArrivesBy text t [] (None ∷ []) []) (piece next : List ℕ) (tok : Tok) (after : Outside) → ReadOutside text t u a piece next tok after (site_in false (act_of tok) t.held.position a.site) → Stands text u
-read_outside text t u a piece next tok after r =
-    by (subst (λ p. ReadOutside text t u a piece next tok after (site_in false (act_of tok) p a.site)) place r)
+-- What holds between two fetches holds after it, with the account after the piece.
+pub read_outside_at : (text : List ℕ) (t u : ScannerState) (a : ArrivesBy text t [] (None ∷ []) []) (piece next : List ℕ) (tok : Tok) (after : Outside) →
+    (r : ReadOutside text t u a piece next tok after (site_in false (act_of tok) t.held.position a.site)) → StandsAt text (with_entries (site_then (site_in false (act_of tok) t.held.position a.site) piece tok next after) after.line []) r.ends.separation u
+read_outside_at text t u a piece next tok after r =
+    ends_outside_at text t u None a piece next tok after (site_in false (act_of tok) t.held.position a.site) refl r.ends
+    (subst (λ p. Completes text next (with_entries (site_then (site_in false (act_of tok) p a.site) piece tok next after) after.line []) (λ ws last. u.held.tokens)) (sym place)
+    (rows (subst (λ p. ReadOutside text t u a piece next tok after (site_in false (act_of tok) p a.site)) place r)))
   where
     d : Piece
     d = record { site = a.site; line = a.line; line_here = a.line_here; separation = a.separation; piece = piece; next = next; tok = tok; after = after; tokens = a.tokens }
@@ -110,8 +117,8 @@ read_outside text t u a piece next tok after r =
     place : t.held.position ≡ (at d).position
     place = a.position_is ∙ ap (λ x. position_after a.site.position a.separation x) r.ends.cut
 
-    by : ReadOutside text t u a piece next tok after (at d) → Stands text u
-    by r =
+    rows : ReadOutside text t u a piece next tok after (at d) → Completes text next (with_entries (past d).site after.line []) (λ ws last. u.held.tokens)
+    rows r =
         let here : IsHere d = record {
           is_filled = ap (λ x. is_separation false a.separation x) (sym r.ends.cut) ∙ a.is_filled;
           is_solid = r.is_solid;
@@ -121,11 +128,13 @@ read_outside text t u a piece next tok after r =
           after_is = r.after_is;
           no_key = r.ends.no_key;
         } in
-        let rows : Completes text (a.separation ++ (piece ++ next)) (before d) (λ ws last. a.tokens) = subst (λ x. Completes text (a.separation ++ x) (before d) (λ ws last. a.tokens)) r.ends.cut (a.completes false [] tt) in
-        let later : Completes text next (past d) (λ ws last. a.tokens ++ own_tokens d) = piece_completes text d here rows in
-        ends_outside text t u None a piece next tok after (at d) place r.ends
-        (subst (λ ts. Completes text next (with_entries (past d).site after.line []) (λ ws last. ts)) (sym r.tokens_are)
-        (subst (λ es. Completes text next (with_entries (past d).site after.line es) (λ ws last. a.tokens ++ own_tokens d)) r.begun later))
+        let before_it : Completes text (a.separation ++ (piece ++ next)) (before d) (λ ws last. a.tokens) = subst (λ x. Completes text (a.separation ++ x) (before d) (λ ws last. a.tokens)) r.ends.cut (a.completes false [] tt) in
+        let later : Completes text next (past d) (λ ws last. a.tokens ++ own_tokens d) = piece_completes text d here before_it in
+        subst (λ ts. Completes text next (with_entries (past d).site after.line []) (λ ws last. ts)) (sym r.tokens_are)
+        (subst (λ es. Completes text next (with_entries (past d).site after.line es) (λ ws last. a.tokens ++ own_tokens d)) r.begun later)
+
+pub read_outside : (text : List ℕ) (t u : ScannerState) (a : ArrivesBy text t [] (None ∷ []) []) (piece next : List ℕ) (tok : Tok) (after : Outside) → ReadOutside text t u a piece next tok after (site_in false (act_of tok) t.held.position a.site) → Stands text u
+read_outside text t u a piece next tok after r = (read_outside_at text t u a piece next tok after r).stands
 
 -- ---- parts of it
 
