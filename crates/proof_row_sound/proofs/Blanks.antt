@@ -185,7 +185,7 @@ found_in l = record { found_tabs = is_one_of l 9; has_valid_yaml_ws = is_one_of 
 -- blanks and a comment are read to their end; or a comment stands after no blank
 pub data IsSpaced (a : List ℕ) (p : Position) (x : Result (Read Whitespace) Fault) : Type 0 where
   parted : begins_with 35 a ≡ false → x ≡ Ok (record { rest = past_blanks_and_comment a; position = past_line_rest p a; value = found_in (leading is_blank a) }) → IsSpaced a p x
-  glued : (f : Fault) → x ≡ Err f → IsSpaced a p x
+  glued : (f : Fault) → begins_with 35 a ≡ true → x ≡ Err f → IsSpaced a p x
 
 -- where blanks stand, a text begins with no comment
 blank_first : (a : List ℕ) → (is_one_of (leading is_blank a) 9 || is_one_of (leading is_blank a) 32) ≡ true → begins_with 35 a ≡ false
@@ -196,6 +196,17 @@ blank_first (c ∷ a) h = by (c == 35) refl h
     by : (x : Bool) → (c == 35) ≡ x → (is_one_of (leading is_blank (c ∷ a)) 9 || is_one_of (leading is_blank (c ∷ a)) 32) ≡ true → x ≡ false
     by true e h = let same : c ≡ 35 = eqb-true c 35 e in absurd (cc (rw same at h))
     by false e h = refl
+
+-- where none stands, it begins after them
+no_blank_first : (a : List ℕ) → (is_one_of (leading is_blank a) 9 || is_one_of (leading is_blank a) 32) ≡ false → after is_blank a ≡ a
+unfolding is_blank
+no_blank_first [] h = refl
+no_blank_first (c ∷ a) h = by (c == 32) (c == 9) refl refl h
+  where
+    by : (x y : Bool) → (c == 32) ≡ x → (c == 9) ≡ y → (is_one_of (if (x || y) then c ∷ leading is_blank a else []) 9 || is_one_of (if (x || y) then c ∷ leading is_blank a else []) 32) ≡ false → (if (x || y) then after is_blank a else c ∷ a) ≡ c ∷ a
+    by true y e f h = let same : c ≡ 32 = eqb-true c 32 e in absurd (cc (or_true (is_one_of (leading is_blank a) 9), rw same at h))
+    by false true e f h = let same : c ≡ 9 = eqb-true c 9 f in absurd (cc (rw same at h))
+    by false false e f h = refl
 
 clear_first : (a : List ℕ) → begins_with 35 (after is_blank a) ≡ false → begins_with 35 a ≡ false
 unfolding is_blank
@@ -250,7 +261,15 @@ spaced_exactly a p = subst (λ x. IsSpaced a p (spaces_end x)) (sym (blanks_walk
 
             found : (x : Bool) → (is_one_of l 9 || is_one_of l 32) ≡ x → IsSpaced a p (if x then Ok (with_found (found_in l) (skip_while is_line (c ∷ b) q)) else Err (At problem.CommentNotSeparated q))
             found true g = parted (blank_first a g) (ap (λ r. Ok (with_found (found_in l) r)) (comment_passed (c ∷ b) q) ∙ (ap (λ x. at (after is_on_line (c ∷ b)) x) position ∙ ap (λ r. at r (past_line_rest p a)) (sym is_rest)))
-            found false g = glued (At problem.CommentNotSeparated q) refl
+            found false g = glued (At problem.CommentNotSeparated q) (ap (begins_with 35) (sym (no_blank_first a g) ∙ e) ∙ f) refl
+
+-- where no comment stands directly, they are read
+pub spaced_parted : (a : List ℕ) (p : Position) → begins_with 35 a ≡ false → space Yes a p ≡ Ok (record { rest = past_blanks_and_comment a; position = past_line_rest p a; value = found_in (leading is_blank a) })
+spaced_parted a p none = by (space Yes a p) (spaced_exactly a p)
+  where
+    by : (x : Result (Read Whitespace) Fault) → IsSpaced a p x → x ≡ Ok (record { rest = past_blanks_and_comment a; position = past_line_rest p a; value = found_in (leading is_blank a) })
+    by x (parted h e) = e
+    by x (glued f h e) = absurd (cc (h, none))
 
 -- the state after blanks and a comment
 abbrev pub past_rest : ScannerState → ScannerState
@@ -262,7 +281,7 @@ rest_read t go P f = by (space Yes t.rest t.held.position) (spaced_exactly t.res
   where
     by : (x : Result (Read Whitespace) Fault) → IsSpaced t.rest t.held.position x → Holds P (lexed x t.held go)
     by x (parted h e) = rw e (f h)
-    by x (glued y e) = rw e refused
+    by x (glued y h e) = rw e refused
 
 -- TABs and spaces, and a comment, are skipped, and that is all of them.
 pub rest_skipped : (t : ScannerState) → Holds (λ u. (u ≡ past_rest t) × (begins_with 35 t.rest ≡ false)) (skip_spaces Yes t)

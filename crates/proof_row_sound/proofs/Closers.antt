@@ -12,19 +12,19 @@ use Rattle.defs_row.specs.Lines.{further_lines_stand}
 use Rattle.defs_row.specs.Following.{may_precede}
 use Rattle.defs_row.specs.Key.{Line, free, taken, is_waiting, begins_free_line, Outside, line_past}
 use Rattle.defs_row.specs.FlowEntry.{begun_by, is_renewed}
-use Rattle.defs_row.specs.Account.{Site, site_in, least_for, seen}
+use Rattle.defs_row.specs.Account.{Site, Account, site_in, least_for, seen}
 use Rattle.defs_row.specs.Tokens.{put, shown_position, ends_at, begun_outside, past_line_rest}
 use Rattle.model_lexers.specs.Machine.{past}
 use Rattle.model_scanner.specs.State.{ScannerState, with_top}
 use Rattle.proof_cut.proofs.FlowEnds.{IsEndOf, ends_sequence, ends_mapping, ends_by_comma}
 use Rattle.proof_row_sound.specs.Arrives.{site_here}
-use Rattle.proof_row_sound.specs.Stands.{Stands, IsReadOn, IsLine}
+use Rattle.proof_row_sound.specs.Stands.{IsReadOn, IsLine}
 use Rattle.proof_row_sound.proofs.Blanks.{line_rest_in_line, line_rest_cut, line_rest_fills}
 use Rattle.proof_row_sound.proofs.EntryEnds.{act_by}
 use Rattle.proof_row_sound.proofs.Indicated.{indicator_end, none_indents}
-use Rattle.proof_row_sound.proofs.OutsidePieces.{tokens_then, ReadOutside, read_outside, started_tokens}
+use Rattle.proof_row_sound.proofs.OutsidePieces.{site_then, tokens_then, ReadOutside, read_outside_at, started_tokens}
 use Rattle.proof_row_sound.proofs.Standing.{and_yes, all_true}
-use Rattle.proof_row_sound.proofs.Sides.{with_entries, ArrivesBy}
+use Rattle.proof_row_sound.proofs.Sides.{with_entries, ArrivesBy, StandsAt}
 
 -- what the last piece was, after one
 abbrev pub previous_of : (closes : Bool) → Previous
@@ -87,7 +87,7 @@ site_alike false false p s = refl
 -- ---- outside flow
 
 -- what may begin after it
-abbrev line_then : (closes : Bool) → Line
+abbrev pub line_then : (closes : Bool) → Line
 line_then true = taken
 line_then false = free
 
@@ -108,11 +108,15 @@ none_begun : (closes deeper : Bool) (here colon : Position) (l : Line) → begun
 none_begun true deeper here colon l = refl
 none_begun false deeper here colon l = refl
 
-pub stray_stands : (text more : List ℕ) (closes : Bool) (tok : Tok) (c : ℕ) → IsCloser closes tok c → (t : ScannerState) (a : ArrivesBy text t [] (None ∷ []) []) → with_top None t.held.keys ≡ None ∷ [] → t.rest ≡ c ∷ more → begins_with 35 more ≡ false →
-    Stands text (stray_past closes t tok more)
-stray_stands text more closes tok c k t a keys e hash =
-    read_outside text t (stray_past closes t tok more) a (c ∷ []) more tok after
-    (subst (λ x. ReadOutside text t (stray_past closes t tok more) a (c ∷ []) more tok after x) (sym (ap (λ x. site_in false x t.held.position a.site) k.act ∙ site_alike closes false t.held.position a.site)) (record {
+-- the account after it
+abbrev pub stray_base : (closes : Bool) → Tok → (c : ℕ) → (here : Position) → Site → (more : List ℕ) → Account
+stray_base closes tok c here s more = let x : Site = site_here false here s in with_entries (site_then x (c ∷ []) tok more (record { line = line_then closes; blocks = x.blocks })) (line_then closes) []
+
+pub stray_at : (text more : List ℕ) (closes : Bool) (tok : Tok) (c : ℕ) → IsCloser closes tok c → (t : ScannerState) (a : ArrivesBy text t [] (None ∷ []) []) → with_top None t.held.keys ≡ None ∷ [] → t.rest ≡ c ∷ more → begins_with 35 more ≡ false →
+    StandsAt text (stray_base closes tok c t.held.position a.site more) (blanks_and_comment more) (stray_past closes t tok more)
+stray_at text more closes tok c k t a keys e hash =
+    subst (λ x. (r : ReadOutside text t (stray_past closes t tok more) a (c ∷ []) more tok after x) → StandsAt text (with_entries (site_then x (c ∷ []) tok more after) (line_then closes) []) r.ends.separation (stray_past closes t tok more))
+    (ap (λ x. site_in false x t.held.position a.site) k.act ∙ site_alike closes false t.held.position a.site) (read_outside_at text t (stray_past closes t tok more) a (c ∷ []) more tok after) (record {
       is_solid = refl;
       is_piece = subst (λ p. IsPiece (seen (with_entries a.site a.line []) at a.separation) (c ∷ []) more None p tok) (sym (k.shown at (c ∷ []) more)) (k.is_end.piece (seen (with_entries a.site a.line []) at a.separation) more None refl);
       stands = all_true (is_indented_by_spaces a.site.before a.site.blocks a.site.awaits a.separation) true (further_lines_stand (least_for tok at) tok (c ∷ [])) (may_precede false at.blocks tok (c ∷ []) more)
@@ -140,7 +144,7 @@ stray_stands text more closes tok c k t a keys e hash =
         started = a.started;
         going = a.going;
       };
-    }))
+    })
   where
     at : Site
     at = site_here false t.held.position a.site

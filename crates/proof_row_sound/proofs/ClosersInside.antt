@@ -42,7 +42,7 @@ use Rattle.proof_row_sound.proofs.Indicated.{indicator_end, none_indents, no_bre
 use Rattle.proof_row_sound.proofs.Inserts.{among}
 use Rattle.proof_row_sound.proofs.NodesInside.{not_keyed}
 use Rattle.proof_row_sound.proofs.Standing.{all_true, deep_for}
-use Rattle.proof_row_sound.proofs.Sides.{with_entries, ArrivesBy, StandsBy}
+use Rattle.proof_row_sound.proofs.Sides.{with_entries, ArrivesBy, ArrivesInside, StandsBy, StandsAt, stands_at}
 
 -- ---- what the model leaves
 
@@ -266,7 +266,7 @@ module _ (text more : List ℕ) (closes : Bool) (tok : Tok) (c : ℕ) (i : IsClo
       by false = (tt, around)
 
   -- What holds between two fetches holds after it.
-  pub closer_stands : StandsBy text (closed_past closes t tok more f fs ks) (levels_then closes f fs) (keys_by closes ks) (entries_after closes e es)
+  closer_stands : StandsBy text (closed_past closes t tok more f fs ks) (levels_then closes f fs) (keys_by closes ks) (entries_after closes e es)
   closer_stands = record {
     site = site_after t.held.position;
     line = a.line;
@@ -297,3 +297,14 @@ module _ (text more : List ℕ) (closes : Bool) (tok : Tok) (c : ℕ) (i : IsClo
       open_by : (b : Bool) → IsOpenOutside (outside_key (entries_after b e es) (keys_by b ks)) (position_after t.held.position (c ∷ []) more) end left a.site.blocks
       open_by true = open_around text t f fs k ks e es a some_here end left before_end (position_after t.held.position (c ∷ []) more) (not_before_after t.held.position (c ∷ []) more)
       open_by false = open_around text t f fs k ks e es a some_here end left before_end (position_after t.held.position (c ∷ []) more) (not_before_after t.held.position (c ∷ []) more)
+
+-- the account after it
+abbrev pub closed_base : (closes : Bool) → Tok → (c : ℕ) → (here : Position) → Site → Line → Entry → List Entry → (more : List ℕ) → Account
+closed_base closes tok c here s l e es more = let x : Site = site_here true here s in with_entries (site_past true x (c ∷ []) tok more x.blocks) l (entries_after closes e es)
+
+pub closed_inside : (text more : List ℕ) (closes : Bool) (tok : Tok) (c : ℕ) → IsCloser closes tok c → (t : ScannerState) (i : ArrivesInside text t) → t.rest ≡ c ∷ more → begins_with 35 more ≡ false → IsDeep t.held →
+    StandsAt text (closed_base closes tok c t.held.position i.here.site i.here.line i.entry i.entries more) (blanks_and_comment more) (closed_past closes t tok more i.level i.levels i.keys)
+unfolding closer_stands
+closed_inside text more closes tok c k t i e hash deep =
+    stands_at text (closed_past closes t tok more i.level i.levels i.keys) (levels_then closes i.level i.levels) (keys_by closes i.keys) (entries_after closes i.entry i.entries) refl refl
+    (closer_stands text more closes tok c k t i.level i.levels i.key i.keys i.entry i.entries i.here deep e hash)

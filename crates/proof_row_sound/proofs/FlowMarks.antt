@@ -6,6 +6,7 @@ use Rattle.yaml_tokens.specs.declared.problem.Fault.TheVariants.{At}
 use Rattle.yaml_tokens.specs.declared.problem.Problem.TheVariants as problem
 use Rattle.defs_token.specs.Token.{Tok}
 use Rattle.defs_scalar.specs.FlowScalar.{begins_with}
+use Rattle.defs_row.specs.Step.{blanks_and_comment}
 use Rattle.model_scanner.specs.declared.level.FlowLevel.{FlowLevel}
 use Rattle.model_scanner.specs.State.{Key, Held, ScannerState, push, pop, with_top, after, on_held}
 use Rattle.model_scanner.specs.Keys.{is_required, top_key, remove_implicit_key}
@@ -16,12 +17,12 @@ use Rattle.proof_cut.proofs.Nodes.{IsDeep}
 use Rattle.proof_row_sound.specs.Arrives.{Arrives}
 use Rattle.proof_row_sound.specs.Choices.{MayChoose}
 use Rattle.proof_row_sound.specs.Stands.{Stands}
-use Rattle.proof_row_sound.proofs.Closers.{IsCloser, comma, stray_stands}
-use Rattle.proof_row_sound.proofs.ClosersInside.{adjacent_then, levels_then, closed_past, closer_stands}
+use Rattle.proof_row_sound.proofs.Closers.{IsCloser, comma, stray_past, stray_base, stray_at}
+use Rattle.proof_row_sound.proofs.ClosersInside.{adjacent_then, levels_then, closed_past, closed_inside}
 use Rattle.proof_row_sound.proofs.EntryEnds.{keys_by, entries_after}
 use Rattle.proof_row_sound.proofs.Gone.{key_gone}
 use Rattle.proof_row_sound.proofs.Indicated.{past_it, indicator_passed}
-use Rattle.proof_row_sound.proofs.Sides.{ArrivesOutside, ArrivesInside, arrives_side, stands_by}
+use Rattle.proof_row_sound.proofs.Sides.{with_entries, ArrivesOutside, ArrivesInside, arrives_side, StandsAt, stands_at}
 
 -- ---- what the model leaves
 
@@ -47,23 +48,28 @@ pub may_be_none : (k : Option Key) (ks : List (Option Key)) (keys : List (Option
 may_be_none None ks keys p rest e h = tt
 may_be_none (Some x) ks keys p rest e h = sym (ap (λ l. is_required (top_key l)) e) ∙ h
 
+-- ---- what stands after either, with its account
+
+-- outside flow
+pub stray_outside : (text more : List ℕ) (closes : Bool) (tok : Tok) (c : ℕ) → IsCloser closes tok c → (t : ScannerState) (o : ArrivesOutside text t) → t.rest ≡ c ∷ more → begins_with 35 more ≡ false → is_required (top_key t.held.keys) ≡ false →
+    StandsAt text (stray_base closes tok c t.held.position o.here.site more) (blanks_and_comment more) (stray_past closes t tok more)
+unfolding key_gone
+stray_outside text more closes tok c k t o e hash free =
+    stray_at text more closes tok c k t (key_gone text t o.key o.here (ap is_empty e) (may_be_none o.key [] t.held.keys t.held.position t.rest o.keys_are free)) (ap (with_top None) o.keys_are) e hash
+
 -- ---- a comma
 
-abbrev after_comma : List FlowLevel → List (Option Key) → ScannerState → (more : List ℕ) → ScannerState
+abbrev pub after_comma : List FlowLevel → List (Option Key) → ScannerState → (more : List ℕ) → ScannerState
 after_comma fs ks t more = on_held (push t.held.position Tok.flow_entry) (past_it (record t { held = record (entry_now fs t.held) { keys = ks } }) more)
 
 comma_stands : (text more : List ℕ) (t : ScannerState) → t.rest ≡ 44 ∷ more → begins_with 35 more ≡ false → IsDeep t.held → Arrives text t → is_required (top_key t.held.keys) ≡ false → Stands text (after_comma t.held.flow (with_top None t.held.keys) t more)
 comma_stands text more t e hash deep a free = by (arrives_side text t a)
   where
     by : ArrivesOutside text t ⊎ ArrivesInside text t → Stands text (after_comma t.held.flow (with_top None t.held.keys) t more)
-    by (inl o) =
-        subst (λ fs. Stands text (after_comma fs (with_top None t.held.keys) t more)) (sym o.flow_is)
-        (stray_stands text more false Tok.flow_entry 44 comma t (key_gone text t o.key o.here (ap is_empty e) (may_be_none o.key [] t.held.keys t.held.position t.rest o.keys_are free)) (ap (with_top None) o.keys_are) e hash)
+    by (inl o) = subst (λ fs. Stands text (after_comma fs (with_top None t.held.keys) t more)) (sym o.flow_is) (stray_outside text more false Tok.flow_entry 44 comma t o e hash free).stands
     by (inr i) =
         subst (λ fs. Stands text (after_comma fs (with_top None t.held.keys) t more)) (sym i.flow_is)
-        (subst (λ ks. Stands text (after_comma (i.level ∷ i.levels) ks t more)) (sym (ap (with_top None) i.keys_are))
-        (stands_by text (closed_past false t Tok.flow_entry more i.level i.levels i.keys) (levels_then false i.level i.levels) (keys_by false i.keys) (entries_after false i.entry i.entries) refl refl
-        (closer_stands text more false Tok.flow_entry 44 comma t i.level i.levels i.key i.keys i.entry i.entries i.here deep e hash)))
+        (subst (λ ks. Stands text (after_comma (i.level ∷ i.levels) ks t more)) (sym (ap (with_top None) i.keys_are)) (closed_inside text more false Tok.flow_entry 44 comma t i e hash deep).stands)
 
 -- `,`
 pub comma_keeps : (text more : List ℕ) (t : ScannerState) → t.rest ≡ 44 ∷ more → IsDeep t.held → Arrives text t → Holds (Stands text) (fetch_flow_entry t)
@@ -75,12 +81,12 @@ comma_keeps text more t e deep a =
 
 -- ---- a closing bracket
 
-adjacent_is : (s : Held) (fs : List FlowLevel) → adjacent_in_flow (record s { flow = fs }) ≡ record s { flow = fs; adjacent_value_at = adjacent_then true fs s.adjacent_value_at s.position.index }
+pub adjacent_is : (s : Held) (fs : List FlowLevel) → adjacent_in_flow (record s { flow = fs }) ≡ record s { flow = fs; adjacent_value_at = adjacent_then true fs s.adjacent_value_at s.position.index }
 unfolding adjacent_in_flow
 adjacent_is s [] = refl
 adjacent_is s (f ∷ fs) = refl
 
-abbrev after_closing : Tok → List FlowLevel → List (Option Key) → ScannerState → (more : List ℕ) → ScannerState
+abbrev pub after_closing : Tok → List FlowLevel → List (Option Key) → ScannerState → (more : List ℕ) → ScannerState
 after_closing tok fs ks t more = on_held (λ s. push t.held.position tok (adjacent_in_flow s)) (past_it (record t { held = record (ended_now fs t.held) { keys = ks } }) more)
 
 closing_stands : (text more : List ℕ) (tok : Tok) (c : ℕ) → IsCloser true tok c → (t : ScannerState) → t.rest ≡ c ∷ more → begins_with 35 more ≡ false → IsDeep t.held → Arrives text t → is_required (top_key t.held.keys) ≡ false →
@@ -89,16 +95,12 @@ unfolding adjacent_in_flow
 closing_stands text more tok c k t e hash deep a free = by (arrives_side text t a)
   where
     by : ArrivesOutside text t ⊎ ArrivesInside text t → Stands text (after_closing tok t.held.flow (higher_keys t.held.flow t.held.keys) t more)
-    by (inl o) =
-        subst (λ fs. Stands text (after_closing tok fs (higher_keys fs t.held.keys) t more)) (sym o.flow_is)
-        (stray_stands text more true tok c k t (key_gone text t o.key o.here (ap is_empty e) (may_be_none o.key [] t.held.keys t.held.position t.rest o.keys_are free)) (ap (with_top None) o.keys_are) e hash)
+    by (inl o) = subst (λ fs. Stands text (after_closing tok fs (higher_keys fs t.held.keys) t more)) (sym o.flow_is) (stray_outside text more true tok c k t o e hash free).stands
     by (inr i) =
         let now : ScannerState = past_it (record t { held = record (ended_now (i.level ∷ i.levels) t.held) { keys = i.keys } }) more in
         subst (λ fs. Stands text (after_closing tok fs (higher_keys fs t.held.keys) t more)) (sym i.flow_is)
         (subst (λ ks. Stands text (after_closing tok (i.level ∷ i.levels) (pop (with_top None ks)) t more)) (sym i.keys_are)
-        (subst (λ h. Stands text (record now { held = push t.held.position tok h })) (sym (adjacent_is now.held i.levels))
-        (stands_by text (closed_past true t tok more i.level i.levels i.keys) (levels_then true i.level i.levels) (keys_by true i.keys) (entries_after true i.entry i.entries) refl refl
-        (closer_stands text more true tok c k t i.level i.levels i.key i.keys i.entry i.entries i.here deep e hash))))
+        (subst (λ h. Stands text (record now { held = push t.held.position tok h })) (sym (adjacent_is now.held i.levels)) (closed_inside text more true tok c k t i e hash deep).stands))
 
 -- `]` or `}`
 pub closing_keeps : (text more : List ℕ) (tok : Tok) (c : ℕ) → IsCloser true tok c → (t : ScannerState) → t.rest ≡ c ∷ more → IsDeep t.held → Arrives text t → Holds (Stands text) (fetch_flow_collection_end tok t)

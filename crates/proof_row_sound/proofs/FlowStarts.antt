@@ -5,7 +5,7 @@ use Rattle.yaml_tokens.specs.declared.problem.Fault.TheVariants.{At}
 use Rattle.yaml_tokens.specs.declared.problem.Problem.TheVariants as problem
 use Rattle.defs_token.specs.Token.{Tok}
 use Rattle.defs_scalar.specs.FlowScalar.{begins_with}
-use Rattle.defs_row.specs.FlowEntry.{first_entry}
+use Rattle.defs_row.specs.Step.{blanks_and_comment}
 use Rattle.model_scanner.specs.declared.level.Indent.{Indent}
 use Rattle.model_scanner.specs.declared.level.FlowLevel.{FlowLevel}
 use Rattle.model_scanner.specs.State.{Held, ScannerState, in_flow, push, after, on_held}
@@ -15,20 +15,20 @@ use Rattle.model_scanner.proofs.Holds.{Holds, went, refused, chained, tried}
 use Rattle.proof_cut.proofs.Nodes.{IsDeep}
 use Rattle.proof_cut.proofs.Saved.{saved_keys, saved_is}
 use Rattle.proof_row_sound.specs.Arrives.{Arrives}
-use Rattle.proof_row_sound.specs.Stands.{kind_of, columns, has_open_level, Stands}
+use Rattle.proof_row_sound.specs.Stands.{columns, has_open_level, Stands}
 use Rattle.proof_row_sound.proofs.Indicated.{past_it, indicator_passed}
-use Rattle.proof_row_sound.proofs.NodeSteps.{saved, entry_past_node}
-use Rattle.proof_row_sound.proofs.Openers.{IsOpener, OpensLevel, opens_level, opened_past, opener_stands_outside, opener_stands_inside}
+use Rattle.proof_row_sound.proofs.NodeSteps.{saved}
+use Rattle.proof_row_sound.proofs.Openers.{IsOpener, OpensLevel, opens_level, opened_past, opened_base, opened_outside as outside_from, opened_inside}
 use Rattle.proof_row_sound.proofs.KeyStarts.{new_key, keys_saved}
 use Rattle.proof_row_sound.proofs.Rolled.{opens_none}
-use Rattle.proof_row_sound.proofs.Sides.{ArrivesOutside, ArrivesInside, arrives_side, stands_by}
+use Rattle.proof_row_sound.proofs.Sides.{ArrivesOutside, ArrivesInside, arrives_side, StandsAt}
 
 -- with the key that may begin here
-abbrev with_key : Held → Held
+abbrev pub with_key : Held → Held
 with_key s = record s { keys = saved_keys s }
 
 -- in a flow level more, with these levels of indentation
-abbrev begun_now : FlowLevel → Held → List Indent → ℕ → Held
+abbrev pub begun_now : FlowLevel → Held → List Indent → ℕ → Held
 begun_now lv s ds i = record s { keys = None ∷ saved_keys s; flow = lv ∷ s.flow; key_allowed = true; indents = ds; indent = i }
 
 flow_begun : (lv : FlowLevel) (s : Held) (ds : List Indent) (i : ℕ) → roll_one_col_indent (with_key s) ≡ record (with_key s) { indents = ds; indent = i } → Holds (λ u. (nat_le 255 (length s.flow) ≡ false) × (u ≡ begun_now lv s ds i)) (begin_flow lv s)
@@ -42,7 +42,19 @@ flow_begun lv s ds i rolled =
     by true e = refused
     by false e = went (e, refl)
 
--- the levels of indentation after it, and what holds with them
+-- the levels of indentation after it, outside flow
+pub levels_outside : (text : List ℕ) (t : ScannerState) → ArrivesOutside text t → OpensLevel (with_key t.held) (roll_one_col_indent (with_key t.held))
+levels_outside text t x = opens_level (with_key t.held) x.here.are_levels
+
+-- what holds with them, with its account
+pub opened_outside : (text more : List ℕ) (lv : FlowLevel) (tok : Tok) (c : ℕ) → IsOpener lv tok c → (t : ScannerState) (x : ArrivesOutside text t) → t.rest ≡ c ∷ more → IsDeep t.held → begins_with 35 more ≡ false →
+    StandsAt text (opened_base lv tok c t.held.position x.here.site more) (blanks_and_comment more) (opened_past lv t tok more (saved t.held.key_allowed (new_key t) x.key ∷ []) (levels_outside text t x).indents (levels_outside text t x).indent)
+opened_outside text more lv tok c o t x e deep hash =
+    let out : in_flow t.held ≡ false = ap (λ fs. not (is_empty fs)) x.flow_is in
+    let r : OpensLevel (with_key t.held) (roll_one_col_indent (with_key t.held)) = levels_outside text t x in
+    outside_from text more lv tok c o t x deep e hash r.indents r.indent r.columns_are r.are_levels (r.awaits ∙ ap (λ b. if b then has_open_level t.held.indents else not (is_empty (columns t.held.indent t.held.indents))) out)
+
+-- the levels on either side, and what holds with them
 record Opened (text more : List ℕ) (lv : FlowLevel) (tok : Tok) (t : ScannerState) : Type 0 where
   indents : List Indent
   indent : ℕ
@@ -54,29 +66,19 @@ opened text more lv tok c o t e deep a = by (arrives_side text t a)
   where
     by : ArrivesOutside text t ⊎ ArrivesInside text t → Opened text more lv tok t
     by (inl x) =
-        let out : in_flow t.held ≡ false = ap (λ fs. not (is_empty fs)) x.flow_is in
-        let r : OpensLevel (with_key t.held) (roll_one_col_indent (with_key t.held)) = opens_level (with_key t.held) x.here.are_levels in
-        let keys = saved t.held.key_allowed (new_key t) x.key ∷ [] in
+        let r : OpensLevel (with_key t.held) (roll_one_col_indent (with_key t.held)) = levels_outside text t x in
         record {
           indents = r.indents;
           indent = r.indent;
           rolled = r.is_held;
-          stands = λ hash few. subst (λ ks. Stands text (opened_past lv t tok more ks r.indents r.indent)) (sym (keys_saved t x.key [] x.keys_are))
-              (stands_by text (opened_past lv t tok more keys r.indents r.indent) (lv ∷ []) (None ∷ keys) (first_entry (kind_of lv) ∷ []) (ap (λ fs. lv ∷ fs) x.flow_is) refl
-              (opener_stands_outside text more lv tok c o t x.key x.here x.flow_is deep e hash r.indents r.indent r.columns_are r.are_levels
-              (r.awaits ∙ ap (λ b. if b then has_open_level t.held.indents else not (is_empty (columns t.held.indent t.held.indents))) out)));
+          stands = λ hash few. subst (λ ks. Stands text (opened_past lv t tok more ks r.indents r.indent)) (sym (keys_saved t x.key [] x.keys_are)) (opened_outside text more lv tok c o t x e deep hash).stands;
         }
-    by (inr x) =
-        let within : in_flow t.held ≡ true = ap (λ fs. not (is_empty fs)) x.flow_is in
-        let keys = saved t.held.key_allowed (new_key t) x.key ∷ x.keys in
-        record {
-          indents = t.held.indents;
-          indent = t.held.indent;
-          rolled = opens_none (with_key t.held) within;
-          stands = λ hash few. subst (λ ks. Stands text (opened_past lv t tok more ks t.held.indents t.held.indent)) (sym (keys_saved t x.key x.keys x.keys_are))
-              (stands_by text (opened_past lv t tok more keys t.held.indents t.held.indent) (lv ∷ x.level ∷ x.levels) (None ∷ keys) (first_entry (kind_of lv) ∷ (entry_past_node t.held.key_allowed x.entry ∷ x.entries)) (ap (λ fs. lv ∷ fs) x.flow_is) refl
-              (opener_stands_inside text more lv tok c o t x.level x.levels x.key x.keys x.entry x.entries x.here x.flow_is deep e hash few));
-        }
+    by (inr x) = record {
+      indents = t.held.indents;
+      indent = t.held.indent;
+      rolled = opens_none (with_key t.held) (ap (λ fs. not (is_empty fs)) x.flow_is);
+      stands = λ hash few. subst (λ ks. Stands text (opened_past lv t tok more ks t.held.indents t.held.indent)) (sym (keys_saved t x.key x.keys x.keys_are)) (opened_inside text more lv tok c o t x deep e hash few).stands;
+    }
 
 -- `[` or `{`
 pub opening_keeps : (text more : List ℕ) (lv : FlowLevel) (tok : Tok) (c : ℕ) → IsOpener lv tok c → (t : ScannerState) → t.rest ≡ c ∷ more → IsDeep t.held → Arrives text t → Holds (Stands text) (fetch_flow_collection_start lv tok t)

@@ -9,7 +9,7 @@ use Rattle.proof_row_sound.specs.Stands.{is_free}
 use Rattle.proof_row_sound.proofs.Sides.{with_entries, ArrivesBy}
 use Rattle.proof_row_sound.proofs.Stales.{none_completes}
 
-line_without : (allowed : Bool) (rest : List ℕ) (k : Option Key) (l : Line) → is_empty rest ≡ false → IsLineHere false allowed rest k l → IsLineHere false allowed rest None l
+pub line_without : (allowed : Bool) (rest : List ℕ) (k : Option Key) (l : Line) → is_empty rest ≡ false → IsLineHere false allowed rest k l → IsLineHere false allowed rest None l
 line_without allowed rest None l some h = h
 line_without allowed rest (Some k) l some h = (inr (h some).0, (h some).1 ∙ sym (taken_is l (h some).0))
   where
@@ -17,7 +17,7 @@ line_without allowed rest (Some k) l some h = (inr (h some).0, (h some).1 ∙ sy
     taken_is l e = ap is_free e
 
 -- Outside flow what holds where a piece begins holds without the open key, unless that must be one.
-pub key_gone : (text : List ℕ) (t : ScannerState) (k : Option Key) → ArrivesBy text t [] (k ∷ []) [] → is_empty t.rest ≡ false → MayChoose false k t.held.position t.rest → ArrivesBy text t [] (None ∷ []) []
+unfoldable pub key_gone : (text : List ℕ) (t : ScannerState) (k : Option Key) → ArrivesBy text t [] (k ∷ []) [] → is_empty t.rest ≡ false → MayChoose false k t.held.position t.rest → ArrivesBy text t [] (None ∷ []) []
 key_gone text t k a some may = record {
   site = a.site;
   line = a.line;

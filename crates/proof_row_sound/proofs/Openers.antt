@@ -13,7 +13,7 @@ use Rattle.defs_row.specs.Column.{is_in_column}
 use Rattle.defs_row.specs.Indentation.{least_column, awaits_past, begins_line, is_indented_by_spaces}
 use Rattle.defs_row.specs.Lines.{further_lines_stand}
 use Rattle.defs_row.specs.Following.{may_precede}
-use Rattle.defs_row.specs.Key.{taken, begins_free_line}
+use Rattle.defs_row.specs.Key.{Line, taken, begins_free_line}
 use Rattle.defs_row.specs.FlowEntry.{Had, fresh, settled, no_pair, Entry, first_entry, begun_by, is_renewed}
 use Rattle.defs_row.specs.Account.{Site, Account, before_by, site_past, least_for, is_deep_enough, may_stand, level_of, seen}
 use Rattle.defs_row.specs.Tokens.{put, shown_position, ends_at, past_line_rest}
@@ -48,7 +48,7 @@ use Rattle.proof_row_sound.proofs.KeyStarts.{new_key, numbered_inside, entry_kep
 use Rattle.proof_row_sound.proofs.Passed.{some_columns}
 use Rattle.proof_row_sound.proofs.Rolled.{OpensOne, opens_one, opens_none}
 use Rattle.proof_row_sound.proofs.Standing.{all_true, deep_for}
-use Rattle.proof_row_sound.proofs.Sides.{with_entries, ArrivesBy, StandsBy}
+use Rattle.proof_row_sound.proofs.Sides.{with_entries, ArrivesBy, ArrivesOutside, ArrivesInside, StandsBy, StandsAt, stands_at}
 
 -- What is said of an opening bracket.
 pub record IsOpener (lv : FlowLevel) (tok : Tok) (c : ℕ) : Type 0 where
@@ -276,7 +276,7 @@ module _ (text more : List ℕ) (lv : FlowLevel) (tok : Tok) (c : ℕ) (o : IsOp
       (subst (λ ts. Completes text more (outside.past n b) (tokens_up_to (outside.past n b) (None ∷ y ∷ []) ts)) tokens all))
 
   -- What holds between two fetches holds after it.
-  pub opener_stands_outside : columns i ds ≡ columns t.held.indent t.held.indents → AreLevels i ds → has_open_level ds ≡ not (is_empty (columns t.held.indent t.held.indents)) →
+  opener_stands_outside : columns i ds ≡ columns t.held.indent t.held.indents → AreLevels i ds → has_open_level ds ≡ not (is_empty (columns t.held.indent t.held.indents)) →
       StandsBy text (opened_past lv t tok more (y ∷ []) ds i) (lv ∷ []) (None ∷ y ∷ []) (first_entry (kind_of lv) ∷ [])
   opener_stands_outside same levels awaits =
       let q = quiet text more lv tok c o t [] (k ∷ []) [] a deep cut in
@@ -418,7 +418,7 @@ module _ (text more : List ℕ) (lv : FlowLevel) (tok : Tok) (c : ℕ) (o : IsOp
       by (inr i) = i
 
   -- What holds between two fetches holds after it.
-  pub opener_stands_inside : StandsBy text (opened_past lv t tok more (z ∷ ks) t.held.indents t.held.indent) (lv ∷ f ∷ fs) (None ∷ z ∷ ks) entries_then
+  opener_stands_inside : StandsBy text (opened_past lv t tok more (z ∷ ks) t.held.indents t.held.indent) (lv ∷ f ∷ fs) (None ∷ z ∷ ks) entries_then
   opener_stands_inside =
       let q = quiet text more lv tok c o t (f ∷ fs) (k ∷ ks) (e ∷ es) a deep cut in
       let x : Site = site_here true t.held.position a.site in
@@ -449,3 +449,32 @@ module _ (text more : List ℕ) (lv : FlowLevel) (tok : Tok) (c : ℕ) (o : IsOp
         going = a.going;
         completes = rows_inside;
       }
+
+-- ---- with the account after it
+
+-- outside flow
+abbrev pub opened_base : FlowLevel → Tok → (c : ℕ) → (here : Position) → Site → (more : List ℕ) → Account
+opened_base lv tok c here s more = let x : Site = site_here false here s in with_entries (site_past false x (c ∷ []) tok more x.blocks) taken (first_entry (kind_of lv) ∷ [])
+
+pub opened_outside : (text more : List ℕ) (lv : FlowLevel) (tok : Tok) (c : ℕ) → IsOpener lv tok c → (t : ScannerState) (x : ArrivesOutside text t) → IsDeep t.held → t.rest ≡ c ∷ more → begins_with 35 more ≡ false →
+    (ds : List Indent) (i : ℕ) → columns i ds ≡ columns t.held.indent t.held.indents → AreLevels i ds → has_open_level ds ≡ not (is_empty (columns t.held.indent t.held.indents)) →
+    StandsAt text (opened_base lv tok c t.held.position x.here.site more) (blanks_and_comment more) (opened_past lv t tok more (saved t.held.key_allowed (new_key t) x.key ∷ []) ds i)
+unfolding opener_stands_outside
+opened_outside text more lv tok c o t x deep e hash ds i same levels awaits =
+    let keys = saved t.held.key_allowed (new_key t) x.key ∷ [] in
+    stands_at text (opened_past lv t tok more keys ds i) (lv ∷ []) (None ∷ keys) (first_entry (kind_of lv) ∷ []) (ap (λ fs. lv ∷ fs) x.flow_is) refl
+    (opener_stands_outside text more lv tok c o t x.key x.here x.flow_is deep e hash ds i same levels awaits)
+
+-- in flow
+abbrev pub opened_base_inside : FlowLevel → Tok → (c : ℕ) → (here : Position) → (allowed : Bool) → Site → Line → Entry → List Entry → (more : List ℕ) → Account
+opened_base_inside lv tok c here allowed s l e es more =
+    let x : Site = site_here true here s in with_entries (site_past true x (c ∷ []) tok more x.blocks) l (first_entry (kind_of lv) ∷ (entry_past_node allowed e ∷ es))
+
+pub opened_inside : (text more : List ℕ) (lv : FlowLevel) (tok : Tok) (c : ℕ) → IsOpener lv tok c → (t : ScannerState) (x : ArrivesInside text t) → IsDeep t.held → t.rest ≡ c ∷ more → begins_with 35 more ≡ false → nat_le 255 (length t.held.flow) ≡ false →
+    StandsAt text (opened_base_inside lv tok c t.held.position t.held.key_allowed x.here.site x.here.line x.entry x.entries more) (blanks_and_comment more)
+    (opened_past lv t tok more (saved t.held.key_allowed (new_key t) x.key ∷ x.keys) t.held.indents t.held.indent)
+unfolding opener_stands_inside
+opened_inside text more lv tok c o t x deep e hash few =
+    let keys = saved t.held.key_allowed (new_key t) x.key ∷ x.keys in
+    stands_at text (opened_past lv t tok more keys t.held.indents t.held.indent) (lv ∷ x.level ∷ x.levels) (None ∷ keys) (first_entry (kind_of lv) ∷ (entry_past_node t.held.key_allowed x.entry ∷ x.entries)) (ap (λ fs. lv ∷ fs) x.flow_is) refl
+    (opener_stands_inside text more lv tok c o t x.level x.levels x.key x.keys x.entry x.entries x.here x.flow_is deep e hash few)
