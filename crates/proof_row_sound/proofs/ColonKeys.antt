@@ -37,14 +37,14 @@ use Rattle.proof_row_sound.proofs.Arrivals.{unbroken, not_free, all_go_on, numbe
 use Rattle.proof_row_sound.proofs.ColonSpaces.{colon_gap, past_gap, gap_cut, gap_fills, gap_in_line, gap_end}
 use Rattle.proof_row_sound.proofs.Colons.{at_value, value_by, colon_end, paired_level, valued_entry, single_is, one_line_colon, ends_inside}
 use Rattle.proof_row_sound.proofs.Around.{tokens_before, unbroken_around, one_around, may_around}
-use Rattle.proof_row_sound.proofs.EntryPieces.{low_enough, site_inside, later_after, read_inside}
+use Rattle.proof_row_sound.proofs.EntryPieces.{low_enough, site_inside, base_inside, later_after, read_inside_at}
 use Rattle.proof_row_sound.proofs.Inserts.{among, first_among, key_longer}
 use Rattle.proof_row_sound.proofs.Indicated.{past_one}
 use Rattle.proof_row_sound.proofs.KeyedColons.{Colon, IsColon, at, before, tokens_past, colon_completes}
 use Rattle.proof_row_sound.proofs.KeyedColons as keyed
-use Rattle.proof_row_sound.proofs.OutsidePieces.{EndsOutside, ends_outside, spaces_in_line}
+use Rattle.proof_row_sound.proofs.OutsidePieces.{EndsOutside, site_then, ends_outside_at, spaces_in_line}
 use Rattle.proof_row_sound.proofs.Rolled.{RollsTo, rolls_to, OpensOne, opens_one, opens_none, opened_some, some_levels}
-use Rattle.proof_row_sound.proofs.Sides.{with_entries, ArrivesBy}
+use Rattle.proof_row_sound.proofs.Sides.{with_entries, ArrivesBy, StandsAt}
 
 -- ---- outside flow
 
@@ -56,7 +56,7 @@ none_ends p bs = ap (λ n. replicate n (put p Tok.block_end)) less
     less = omega arith
 
 -- the key, and the start of its mapping where that begins, before the tokens of its number
-abbrev with_key : (begins : Bool) → (start : Token) → Key → List Token → List Token
+abbrev pub with_key : (begins : Bool) → (start : Token) → Key → List Token → List Token
 with_key begins start k ts = (if begins then placed (Some k.number) start (insert ts k.number (token k.position Tok.key)) else insert ts k.number (token k.position Tok.key))
 
 key_put : (begins : Bool) (start : Token) (k : Key) (ts : List Token) → with_key begins start k ts ≡ put_key begins start k.number k.position ts
@@ -109,22 +109,22 @@ module _ (text more : List ℕ) (t : ScannerState) (k : Key) (a : ArrivesBy text
       within m n h = grind (arith, nat_tests)
 
   -- what the scanner holds with the key, and with its mapping
-  abbrev held_key : Held
+  abbrev pub held_key : Held
   held_key = record (at_value more t [] (Some k ∷ [])) { tokens = insert t.held.tokens k.number (token k.position Tok.key) }
 
-  abbrev now : List Token
+  abbrev pub now : List Token
   now = with_key (is_deeper k.position.col (columns t.held.indent t.held.indents)) (token t.held.position Tok.block_mapping_start) k t.held.tokens
 
-  rolled : RollsTo k.position.col (Some k.number) (token t.held.position Tok.block_mapping_start) held_key (roll_indent k.position.col (Some k.number) Tok.block_mapping_start t.held.position held_key)
+  pub rolled : RollsTo k.position.col (Some k.number) (token t.held.position Tok.block_mapping_start) held_key (roll_indent k.position.col (Some k.number) Tok.block_mapping_start t.held.position held_key)
   rolled = rolls_to k.position.col (Some k.number) Tok.block_mapping_start t.held.position held_key refl a.are_levels (subst (λ bs. IsNotRight (innermost bs) k.position.col) same_columns open_here.column_is)
 
-  abbrev held_rolled : Held
+  abbrev pub held_rolled : Held
   held_rolled = record held_key { indents = rolled.indents; indent = rolled.indent; tokens = now }
 
-  awaiting : OpensOne held_rolled (roll_one_col_indent held_rolled)
+  pub awaiting : OpensOne held_rolled (roll_one_col_indent held_rolled)
   awaiting = opens_one held_rolled refl rolled.are_levels (some_levels rolled.indent rolled.indents (ap is_empty rolled.columns_are ∙ opened_some k.position.col (columns t.held.indent t.held.indents)))
 
-  abbrev after : ScannerState
+  abbrev pub after : ScannerState
   after = colon_end t more awaiting.indents awaiting.indent now false [] (None ∷ [])
 
   -- the tokens of the row
@@ -139,7 +139,7 @@ module _ (text more : List ℕ) (t : ScannerState) (k : Key) (a : ArrivesBy text
       (ap (λ bs. put_key (is_deeper k.position.col bs) start k.number k.position t.held.tokens) (sym same_columns) ∙ ap (λ ts. put_key (is_deeper k.position.col a.site.blocks) start k.number k.position ts) same_tokens)) ∙
       ap (λ x. put_key (is_deeper k.position.col a.site.blocks) start k.number k.position a.tokens ++ ((x ++ []) ++ (value ∷ []))) (sym (ap (λ bs. ends_at t.held.position a.site.blocks bs) same_blocks ∙ none_ends t.held.position a.site.blocks))
 
-  abbrev outside_after : Position → Outside
+  abbrev pub outside_after : Position → Outside
   outside_after q = record { line = taken; blocks = opened k.position.col (not_ended q.col a.site.blocks) }
 
   ends : EndsOutside t after (58 ∷ []) more Tok.value (outside_after t.held.position) (site_here false t.held.position a.site)
@@ -164,29 +164,37 @@ module _ (text more : List ℕ) (t : ScannerState) (k : Key) (a : ArrivesBy text
     going = a.going;
   }
 
-  keyed_stands : Stands text after
+  -- the account after it
+  abbrev pub keyed_base : Account
+  keyed_base = with_entries (site_then (site_here false t.held.position a.site) (58 ∷ []) Tok.value more (outside_after t.held.position)) taken []
+
+  pub keyed_stands : StandsAt text keyed_base (colon_gap more) after
+  unfolding ends
   keyed_stands =
       let rows : Completes text (a.separation ++ (58 ∷ more)) (before d) (tokens_up_to (before d) (Some k ∷ []) a.tokens) =
       subst (λ x. Completes text (a.separation ++ x) (before d) (tokens_up_to (before d) (Some k ∷ []) a.tokens)) e (a.completes true [] live) in
-      ends_outside text t after (Some k) a (58 ∷ []) more Tok.value (outside_after (at d).position) (at d) place
-      (subst (λ q. EndsOutside t after (58 ∷ []) more Tok.value (outside_after q) (site_here false q a.site)) place ends)
-      (subst (λ ts. Completes text more (keyed.past d) (λ ws last. ts)) (sym (tokens_alike ∙ ap row_tokens place)) (colon_completes text d is_colon rows))
+      ends_outside_at text t after (Some k) a (58 ∷ []) more Tok.value (outside_after t.held.position) (site_here false t.held.position a.site) refl ends
+      (subst (λ q. Completes text more (with_entries (site_then (site_here false q a.site) (58 ∷ []) Tok.value more (outside_after q)) taken []) (λ ws last. after.held.tokens)) (sym place)
+      (subst (λ ts. Completes text more (keyed.past d) (λ ws last. ts)) (sym (tokens_alike ∙ ap row_tokens place)) (colon_completes text d is_colon rows)))
+
+  pub keyed_is : value_by more t [] (Some k ∷ []) ≡ Ok after
+  unfolding insert_key begin_pair
+  keyed_is =
+      ap (λ v. with_held (record { rest = past_gap more; held = at_value more t [] (Some k ∷ []) }) (Ok (record v { keys = with_top None v.keys; key_allowed = false })) >>= λ w. Ok (on_held (push t.held.position Tok.value) w))
+      (ap roll_one_col_indent rolled.is_held ∙ awaiting.is_held)
 
   pub keyed_outside : Holds (Stands text) (value_by more t [] (Some k ∷ []))
-  unfolding insert_key begin_pair
-  keyed_outside =
-      subst (λ v. Holds (Stands text) (with_held (record { rest = past_gap more; held = at_value more t [] (Some k ∷ []) }) (Ok (record v { keys = with_top None v.keys; key_allowed = false })) >>= λ w. Ok (on_held (push t.held.position Tok.value) w)))
-      (sym (ap roll_one_col_indent rolled.is_held ∙ awaiting.is_held)) (went keyed_stands)
+  keyed_outside = subst (λ r. Holds (Stands text) r) (sym keyed_is) (went keyed_stands.stands)
 
 -- ---- in flow
 
 module _ (text more : List ℕ) (t : ScannerState) (f : FlowLevel) (fs : List FlowLevel) (k : Key) (ks : List (Option Key)) (x : Entry) (es : List Entry) (a : ArrivesBy text t (f ∷ fs) (Some k ∷ ks) (x ∷ es)) (e : t.rest ≡ 58 ∷ more) (apart : colon_may_precede more ≡ true)
     (ind : is_value_indicator true (is_adjacent (before_past (before_by a.site.before) a.separation)) more ≡ true) (deep : IsDeep t.held) where
   -- the tokens with the key, and the start of a single pair, if that begins
-  abbrev in_pair : (single : Bool) → List Token
+  abbrev pub in_pair : (single : Bool) → List Token
   in_pair single = put_key single (put (pair_position (past t.held.position) more) Tok.flow_mapping_start) k.number k.position t.held.tokens
 
-  abbrev held_pair : FlowLevel → Held
+  abbrev pub held_pair : FlowLevel → Held
   held_pair g = record t.held { flow = paired_level g ∷ fs; keys = None ∷ ks; position = pair_position (past t.held.position) more; leading = false; key_allowed = false; tokens = in_pair (opens_pair (g ∷ fs)) }
 
   same_line : (m n : ℕ) → m ≤ n → nat_lt m n ≡ false → (m == n) ≡ true
@@ -210,7 +218,7 @@ module _ (text more : List ℕ) (t : ScannerState) (f : FlowLevel) (fs : List Fl
   pair_begun Keyed h = went (closed (record (at_value more t (Keyed ∷ fs) (Some k ∷ ks)) { tokens = in_pair false }) refl, refl)
   pair_begun InPair h = went (closed (record (at_value more t (InPair ∷ fs) (Some k ∷ ks)) { tokens = in_pair false }) refl, refl)
 
-  abbrev inner_after : ScannerState
+  abbrev pub inner_after : ScannerState
   inner_after = colon_end t more t.held.indents t.held.indent (in_pair (opens_pair (f ∷ fs))) false (paired_level f ∷ fs) (None ∷ ks)
 
   abbrev n : keyed.Inner
@@ -275,9 +283,10 @@ module _ (text more : List ℕ) (t : ScannerState) (f : FlowLevel) (fs : List Fl
       let all = length-append (in_pair begins) (put t.held.position Tok.value ∷ []) in
       omega (arith, l, same, all)
 
-  inner_stands : (not (opens_pair (f ∷ fs)) || (k.position.line == t.held.position.line)) ≡ true → Stands text inner_after
+  pub inner_stands : (not (opens_pair (f ∷ fs)) || (k.position.line == t.held.position.line)) ≡ true → StandsAt text (base_inside Tok.value (58 ∷ []) t.held.position a.site more a.line (valued_entry x ∷ es)) (colon_gap more) inner_after
+  unfolding ends_inside
   inner_stands on =
-      read_inside text t inner_after f (paired_level f) fs (Some k) ks x (valued_entry x) es a (58 ∷ []) more Tok.value
+      read_inside_at text t inner_after f (paired_level f) fs (Some k) ks x (valued_entry x) es a (58 ∷ []) more Tok.value
       (ends_inside text more t f fs (Some k) ks x es a e (in_pair (opens_pair (f ∷ fs))) (tt, numbered_more (length a.tokens) (length inner_after.held.tokens) ks inner_many (numbered_around (length a.tokens) (Some k) ks a.are_numbered)))
       (λ c cs may.
       subst (λ q. let b : Account = with_entries (site_inside (site_in true gives_colon q a.site) (58 ∷ []) Tok.value more) a.line (valued_entry x ∷ es) in Completes text more (chosen c cs (None ∷ ks) b) (tokens_up_to (chosen c cs (None ∷ ks) b) (None ∷ ks) inner_after.held.tokens))
@@ -289,4 +298,4 @@ module _ (text more : List ℕ) (t : ScannerState) (f : FlowLevel) (fs : List Fl
   keyed_inside early =
       chained {P = λ w. (w ≡ record { rest = past_gap more; held = held_pair f }) × ((not (opens_pair (f ∷ fs)) || (k.position.line == t.held.position.line)) ≡ true)}
       (tried (record { rest = past_gap more; held = at_value more t (f ∷ fs) (Some k ∷ ks) }) (insert_key k t.held.position (opens_pair (f ∷ fs)) (at_value more t (f ∷ fs) (Some k ∷ ks))) (pair_begun f early) (λ s i. (ap (λ y. record { rest = past_gap more; held = y }) i.0, i.1))) (λ w i.
-      went (subst (λ z. Stands text (on_held (push t.held.position Tok.value) z)) (sym i.0) (inner_stands i.1)))
+      went (subst (λ z. Stands text (on_held (push t.held.position Tok.value) z)) (sym i.0) (inner_stands i.1).stands))

@@ -12,7 +12,7 @@ use Rattle.yaml_tokens.specs.declared.problem.Problem.TheVariants as problem
 use Rattle.defs_row.specs.Step.{gives_colon, has_break}
 use Rattle.defs_row.specs.Column.{is_deeper, is_in_column, opened, not_ended}
 use Rattle.defs_row.specs.Indentation.{colon_may_precede}
-use Rattle.defs_row.specs.Key.{free, line_past}
+use Rattle.defs_row.specs.Key.{free, Outside, line_past}
 use Rattle.defs_row.specs.FlowEntry.{Had, fresh, settled, Pair, Entry, takes_pair, is_renewed, renewed, had_after, pair_past, with_had, entries_past}
 use Rattle.defs_row.specs.Tokens.{put, pair_position, ends_at, start_if, begun_outside, begun_inside}
 use Rattle.defs_row.specs.Account.{before_by}
@@ -33,12 +33,12 @@ use Rattle.proof_row_sound.specs.Stands.{columns, has_open_level, AreLevels, kin
 use Rattle.proof_row_sound.proofs.Arrivals.{first_not_right, numbered_more, numbered_around}
 use Rattle.proof_row_sound.proofs.Around.{tokens_before}
 use Rattle.proof_row_sound.proofs.ColonSpaces.{colon_gap, past_gap, gap_cut, gap_fills, gap_in_line, gap_end}
-use Rattle.proof_row_sound.proofs.EntryPieces.{low_enough, ReadInside, goes_inside}
+use Rattle.proof_row_sound.proofs.EntryPieces.{low_enough, base_inside, ReadInside, goes_inside_at}
 use Rattle.proof_row_sound.proofs.Indicated.{past_one}
-use Rattle.proof_row_sound.proofs.OutsidePieces.{read_outside, line_free, spaces_in_line, started_tokens}
+use Rattle.proof_row_sound.proofs.OutsidePieces.{base_past, read_outside_at, line_free, spaces_in_line, started_tokens}
 use Rattle.proof_row_sound.proofs.Questions.{with_mapping}
 use Rattle.proof_row_sound.proofs.Rolled.{RollsTo, rolls_to, OpensOne, opens_one, opens_none, opened_some, some_levels}
-use Rattle.proof_row_sound.proofs.Sides.{ArrivesBy}
+use Rattle.proof_row_sound.proofs.Sides.{ArrivesBy, StandsAt}
 
 -- ---- where a colon is an indicator
 
@@ -68,11 +68,15 @@ colon_end t more ds i ts allowed fs ks = record {
 
 -- ---- outside flow
 
-keyless_stands : (text more : List ℕ) (t : ScannerState) (a : ArrivesBy text t [] (None ∷ []) []) → t.rest ≡ 58 ∷ more → t.held.key_allowed ≡ true → colon_may_precede more ≡ true →
+-- what may begin after it
+abbrev pub after_colon : (here : Position) → List ℕ → Outside
+after_colon here bs = record { line = free; blocks = opened here.col (not_ended here.col bs) }
+
+pub keyless_stands : (text more : List ℕ) (t : ScannerState) (a : ArrivesBy text t [] (None ∷ []) []) → t.rest ≡ 58 ∷ more → t.held.key_allowed ≡ true → colon_may_precede more ≡ true →
     is_value_indicator false (is_adjacent (before_past (before_by a.site.before) a.separation)) more ≡ true → (i : ℕ) (ds : List Indent) → columns i ds ≡ opened t.held.position.col (columns t.held.indent t.held.indents) → AreLevels i ds → has_open_level ds ≡ true →
-    Stands text (colon_end t more ds i (with_mapping t) true [] (None ∷ []))
+    StandsAt text (base_past Tok.value (58 ∷ []) t.held.position a.site more (after_colon t.held.position a.site.blocks)) (colon_gap more) (colon_end t more ds i (with_mapping t) true [] (None ∷ []))
 keyless_stands text more t a e allowed apart ind i ds columns_are levels awaits =
-    read_outside text t (colon_end t more ds i (with_mapping t) true [] (None ∷ [])) a (58 ∷ []) more Tok.value (record { line = free; blocks = opened t.held.position.col bs }) (record {
+    read_outside_at text t (colon_end t more ds i (with_mapping t) true [] (None ∷ [])) a (58 ∷ []) more Tok.value (after_colon t.held.position a.site.blocks) (record {
       is_solid = refl;
       is_piece = (refl, ind);
       stands = rw (a.is_indented (ap is_empty e), apart) refl;
@@ -114,7 +118,7 @@ pub keyless_outside : (text more : List ℕ) (t : ScannerState) (a : ArrivesBy t
 unfolding begin_keyless_value begin_keyless_mapping
 keyless_outside text more t a e apart ind deep =
     chained {P = λ w. (w ≡ record { rest = past_gap more; held = last }) × (t.held.key_allowed ≡ true)} (tried (record { rest = past_gap more; held = h }) _ begun (λ s d. (ap (λ y. record { rest = past_gap more; held = y }) d.0, d.1))) (λ w d.
-    went (subst (λ z. Stands text (on_held (push t.held.position Tok.value) z)) (sym d.0) (keyless_stands text more t a e d.1 apart ind o.indent o.indents (o.columns_are ∙ r.columns_are) o.are_levels o.awaits)))
+    went (subst (λ z. Stands text (on_held (push t.held.position Tok.value) z)) (sym d.0) (keyless_stands text more t a e d.1 apart ind o.indent o.indents (o.columns_are ∙ r.columns_are) o.are_levels o.awaits).stands))
   where
     h : Held
     h = at_value more t [] (None ∷ [])
@@ -204,7 +208,7 @@ unfolding is_break
 one_line_colon = refl
 
 -- What the scanner holds after it, with tokens up to it.
-pub ends_inside : (text more : List ℕ) (t : ScannerState) (f : FlowLevel) (fs : List FlowLevel) (k : Option Key) (ks : List (Option Key)) (e : Entry) (es : List Entry) (a : ArrivesBy text t (f ∷ fs) (k ∷ ks) (e ∷ es)) → t.rest ≡ 58 ∷ more → (ts : List Token) →
+unfoldable pub ends_inside : (text more : List ℕ) (t : ScannerState) (f : FlowLevel) (fs : List FlowLevel) (k : Option Key) (ks : List (Option Key)) (e : Entry) (es : List Entry) (a : ArrivesBy text t (f ∷ fs) (k ∷ ks) (e ∷ es)) → t.rest ≡ 58 ∷ more → (ts : List Token) →
     AreNumbered (length (ts ++ token t.held.position Tok.value ∷ [])) (None ∷ ks) →
     ReadInside text t (colon_end t more t.held.indents t.held.indent ts false (paired_level f ∷ fs) (None ∷ ks)) f (paired_level f) fs k ks e (valued_entry e) es a (58 ∷ []) more Tok.value
 ends_inside text more t f fs k ks e es a cut ts numbered = record {
@@ -232,7 +236,7 @@ ends_inside text more t f fs k ks e es a cut ts numbered = record {
 }
 
 -- the tokens with the start of a single pair, if one begins
-abbrev with_pair : (single : Bool) → (more : List ℕ) → ScannerState → List Token
+abbrev pub with_pair : (single : Bool) → (more : List ℕ) → ScannerState → List Token
 with_pair single more t = (if single then t.held.tokens ++ token (pair_position (past t.held.position) more) Tok.flow_mapping_start ∷ [] else t.held.tokens)
 
 pair_tokens : (single : Bool) (ts before : List Token) (q : Position) (own : Token) → ts ≡ before →
@@ -240,25 +244,25 @@ pair_tokens : (single : Bool) (ts before : List Token) (q : Position) (own : Tok
 pair_tokens true ts before q own e = append_assoc ts (token q Tok.flow_mapping_start ∷ []) (own ∷ []) ∙ ap (λ x. x ++ (token q Tok.flow_mapping_start ∷ (own ∷ []))) e
 pair_tokens false ts before q own e = ap (λ x. x ++ own ∷ []) e
 
-pub keyless_inside : (text more : List ℕ) (t : ScannerState) (f : FlowLevel) (fs : List FlowLevel) (ks : List (Option Key)) (e : Entry) (es : List Entry) (a : ArrivesBy text t (f ∷ fs) (None ∷ ks) (e ∷ es)) → t.rest ≡ 58 ∷ more → colon_may_precede more ≡ true →
-    is_value_indicator true (is_adjacent (before_past (before_by a.site.before) a.separation)) more ≡ true → IsDeep t.held → Holds (Stands text) (value_by more t (f ∷ fs) (None ∷ ks))
-unfolding is_break begin_keyless_value begin_keyless_mapping
-keyless_inside text more t f fs ks e es a cut apart ind deep =
-    chained {P = λ w. w ≡ record { rest = past_gap more; held = last }} (tried (record { rest = past_gap more; held = at_value more t (f ∷ fs) (None ∷ ks) }) _ (begun f) (λ s d. ap (λ y. record { rest = past_gap more; held = y }) d)) (λ w d.
-    went (subst (λ z. Stands text (on_held (push t.held.position Tok.value) z)) (sym d) stands))
+-- what stands after it, with its account
+pub keyless_within : (text more : List ℕ) (t : ScannerState) (f : FlowLevel) (fs : List FlowLevel) (ks : List (Option Key)) (e : Entry) (es : List Entry) (a : ArrivesBy text t (f ∷ fs) (None ∷ ks) (e ∷ es)) → t.rest ≡ 58 ∷ more → colon_may_precede more ≡ true →
+    is_value_indicator true (is_adjacent (before_past (before_by a.site.before) a.separation)) more ≡ true → IsDeep t.held →
+    StandsAt text (base_inside Tok.value (58 ∷ []) t.held.position a.site more a.line (valued_entry e ∷ es)) (colon_gap more) (colon_end t more t.held.indents t.held.indent (with_pair (opens_pair (f ∷ fs)) more t) false (paired_level f ∷ fs) (None ∷ ks))
+unfolding is_break ends_inside
+keyless_within text more t f fs ks e es a cut apart ind deep =
+    goes_inside_at text t (colon_end t more t.held.indents t.held.indent (with_pair single more t) false (paired_level f ∷ fs) (None ∷ ks)) f (paired_level f) fs None ks e (valued_entry e) es a (58 ∷ []) more Tok.value (ends_inside text more t f fs None ks e es a cut (with_pair single more t) (tt, numbered_more (length a.tokens) (length (with_pair single more t ++ token t.held.position Tok.value ∷ [])) ks (omega (arith, many)) (numbered_around (length a.tokens) None ks a.are_numbered)))
+    (record {
+      in_line = one_line_colon;
+      begun = refl;
+      is_piece = (refl, ind);
+      stands = rw (a.is_indented (ap is_empty cut), low_enough text t f fs (None ∷ ks) (e ∷ es) a deep, apart) refl;
+      entry_past = λ xs. values t.held.position (is_renewed a.site.before a.separation) e xs had;
+      colons = λ n p ws last. refl;
+      tokens_are = tokens;
+    })
   where
     single : Bool
     single = opens_pair (f ∷ fs)
-
-    last : Held
-    last = record t.held { flow = paired_level f ∷ fs; keys = None ∷ ks; position = pair_position (past t.held.position) more; leading = false; key_allowed = false; tokens = with_pair single more t }
-
-    begun : (f : FlowLevel) → Holds (λ y. y ≡ record t.held { flow = paired_level f ∷ fs; keys = None ∷ ks; position = pair_position (past t.held.position) more; leading = false; key_allowed = false; tokens = with_pair (opens_pair (f ∷ fs)) more t })
-        (begin_keyless_value t.held.position (opens_pair (f ∷ fs)) (at_value more t (f ∷ fs) (None ∷ ks)))
-    begun Mapping = went (ap (λ v. allow_key (not (in_flow v)) v) (opens_none _ refl))
-    begun InEntry = went (ap (λ v. allow_key (not (in_flow v)) v) (opens_none _ refl))
-    begun Keyed = went (ap (λ v. allow_key (not (in_flow v)) v) (opens_none _ refl))
-    begun InPair = went (ap (λ v. allow_key (not (in_flow v)) v) (opens_none _ refl))
 
     had : (e.had ≡ fresh) ⊎ (e.had ≡ settled)
     had = a.are_entries.1.0
@@ -279,14 +283,22 @@ keyless_inside text more t f fs ks e es a cut apart ind deep =
     many : length (with_pair single more t ++ token t.held.position Tok.value ∷ []) ≡ length a.tokens + length own
     many = ap length tokens ∙ length-append a.tokens own
 
-    stands : Stands text (colon_end t more t.held.indents t.held.indent (with_pair single more t) false (paired_level f ∷ fs) (None ∷ ks))
-    stands = goes_inside text t (colon_end t more t.held.indents t.held.indent (with_pair single more t) false (paired_level f ∷ fs) (None ∷ ks)) f (paired_level f) fs None ks e (valued_entry e) es a (58 ∷ []) more Tok.value (ends_inside text more t f fs None ks e es a cut (with_pair single more t) (tt, numbered_more (length a.tokens) (length (with_pair single more t ++ token t.held.position Tok.value ∷ [])) ks (omega (arith, many)) (numbered_around (length a.tokens) None ks a.are_numbered)))
-        (record {
-          in_line = one_line_colon;
-          begun = refl;
-          is_piece = (refl, ind);
-          stands = rw (a.is_indented (ap is_empty cut), low_enough text t f fs (None ∷ ks) (e ∷ es) a deep, apart) refl;
-          entry_past = λ xs. values t.held.position (is_renewed a.site.before a.separation) e xs had;
-          colons = λ n p ws last. refl;
-          tokens_are = tokens;
-        })
+pub keyless_inside : (text more : List ℕ) (t : ScannerState) (f : FlowLevel) (fs : List FlowLevel) (ks : List (Option Key)) (e : Entry) (es : List Entry) (a : ArrivesBy text t (f ∷ fs) (None ∷ ks) (e ∷ es)) → t.rest ≡ 58 ∷ more → colon_may_precede more ≡ true →
+    is_value_indicator true (is_adjacent (before_past (before_by a.site.before) a.separation)) more ≡ true → IsDeep t.held → Holds (Stands text) (value_by more t (f ∷ fs) (None ∷ ks))
+unfolding begin_keyless_value begin_keyless_mapping
+keyless_inside text more t f fs ks e es a cut apart ind deep =
+    chained {P = λ w. w ≡ record { rest = past_gap more; held = last }} (tried (record { rest = past_gap more; held = at_value more t (f ∷ fs) (None ∷ ks) }) _ (begun f) (λ s d. ap (λ y. record { rest = past_gap more; held = y }) d)) (λ w d.
+    went (subst (λ z. Stands text (on_held (push t.held.position Tok.value) z)) (sym d) (keyless_within text more t f fs ks e es a cut apart ind deep).stands))
+  where
+    single : Bool
+    single = opens_pair (f ∷ fs)
+
+    last : Held
+    last = record t.held { flow = paired_level f ∷ fs; keys = None ∷ ks; position = pair_position (past t.held.position) more; leading = false; key_allowed = false; tokens = with_pair single more t }
+
+    begun : (f : FlowLevel) → Holds (λ y. y ≡ record t.held { flow = paired_level f ∷ fs; keys = None ∷ ks; position = pair_position (past t.held.position) more; leading = false; key_allowed = false; tokens = with_pair (opens_pair (f ∷ fs)) more t })
+        (begin_keyless_value t.held.position (opens_pair (f ∷ fs)) (at_value more t (f ∷ fs) (None ∷ ks)))
+    begun Mapping = went (ap (λ v. allow_key (not (in_flow v)) v) (opens_none _ refl))
+    begun InEntry = went (ap (λ v. allow_key (not (in_flow v)) v) (opens_none _ refl))
+    begun Keyed = went (ap (λ v. allow_key (not (in_flow v)) v) (opens_none _ refl))
+    begun InPair = went (ap (λ v. allow_key (not (in_flow v)) v) (opens_none _ refl))

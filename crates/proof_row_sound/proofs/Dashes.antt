@@ -12,7 +12,7 @@ use Rattle.yaml_tokens.specs.declared.problem.Fault.TheVariants.{At}
 use Rattle.yaml_tokens.specs.declared.problem.Problem.TheVariants as problem
 use Rattle.defs_row.specs.Step.{past_comment, blanks_and_comment, past_blanks_and_comment, is_on_line, gives_dash}
 use Rattle.defs_row.specs.Column.{is_deeper, is_in_column, opened, not_ended}
-use Rattle.defs_row.specs.Key.{free, line_past}
+use Rattle.defs_row.specs.Key.{free, Outside, line_past}
 use Rattle.defs_row.specs.Indentation.{is_at_break_or_flow, begins_entry, dash_may_precede}
 use Rattle.defs_row.specs.Tokens.{put, past_line_rest, ends_at, start_if}
 use Rattle.model_lexers.specs.declared.context.SkipTabs.TheVariants.{Yes, No}
@@ -35,9 +35,9 @@ use Rattle.proof_row_sound.specs.Stands.{columns, has_open_level, AreLevels, Sta
 use Rattle.proof_row_sound.proofs.Arrivals.{first_not_right}
 use Rattle.proof_row_sound.proofs.Blanks.{line_rest_cut, line_rest_fills, line_rest_in_line, past_rest_is_clear, found_in, past_rest, rest_read, none_skipped}
 use Rattle.proof_row_sound.proofs.Indicated.{past_one, indicator_end}
-use Rattle.proof_row_sound.proofs.OutsidePieces.{read_outside, line_free, none_open, spaces_in_line, started_tokens}
+use Rattle.proof_row_sound.proofs.OutsidePieces.{base_past, read_outside_at, line_free, none_open, spaces_in_line, started_tokens}
 use Rattle.proof_row_sound.proofs.Rolled.{RollsTo, rolls_to, OpensOne, opens_one, top_closed}
-use Rattle.proof_row_sound.proofs.Sides.{ArrivesBy, ArrivesOutside, ArrivesInside, arrives_side}
+use Rattle.proof_row_sound.proofs.Sides.{ArrivesBy, ArrivesOutside, ArrivesInside, arrives_side, StandsAt}
 
 -- ---- what the model checks
 
@@ -75,7 +75,7 @@ dash_checked more t e =
         on false true e f h = let none : is_at_gap r ≡ false = sym (gap_here r) ∙ (rw f at h) in rw (f, none) refl
 
 -- a flow indicator or a break after the blanks and the comment
-flow_or_break : (r : List ℕ) → (is_break_here (peek r) || is_flow_here (peek r)) ≡ is_at_break_or_flow r
+pub flow_or_break : (r : List ℕ) → (is_break_here (peek r) || is_flow_here (peek r)) ≡ is_at_break_or_flow r
 unfolding is_break_here is_flow_here
 flow_or_break [] = refl
 flow_or_break (c ∷ r) = ap (λ b. b || is_flow_here c) (sym (same_break c)) ∙ ap (λ b. is_break c || b) (sym (same_flow c))
@@ -83,15 +83,15 @@ flow_or_break (c ∷ r) = ap (λ b. b || is_flow_here c) (sym (same_break c)) �
 -- ---- the levels of indentation after it
 
 -- Where the line ends, or a flow indicator stands, a level that opens no collection stands for the entry's value.
-record Entered (w u : ScannerState) : Type 0 where
-  indents : List Indent
-  indent : ℕ
-  is : u ≡ record w { held = record w.held { indents = indents; indent = indent } }
-  columns_are : columns indent indents ≡ columns w.held.indent w.held.indents
-  are_levels : AreLevels indent indents
-  awaits : has_open_level indents ≡ is_at_break_or_flow w.rest
+pub record Entered (w u : ScannerState) : Type 0 where
+  pub indents : List Indent
+  pub indent : ℕ
+  pub is : u ≡ record w { held = record w.held { indents = indents; indent = indent } }
+  pub columns_are : columns indent indents ≡ columns w.held.indent w.held.indents
+  pub are_levels : AreLevels indent indents
+  pub awaits : has_open_level indents ≡ is_at_break_or_flow w.rest
 
-entered : (w : ScannerState) → in_flow w.held ≡ false → AreLevels w.held.indent w.held.indents → top_needs_block_end w.held.indents ≡ true → Entered w (roll_entry w)
+pub entered : (w : ScannerState) → in_flow w.held ≡ false → AreLevels w.held.indent w.held.indents → top_needs_block_end w.held.indents ≡ true → Entered w (roll_entry w)
 unfolding roll_entry
 entered w out levels top = by (is_break_here (peek w.rest) || is_flow_here (peek w.rest)) (sym (flow_or_break w.rest))
   where
@@ -107,7 +107,7 @@ entered w out levels top = by (is_break_here (peek w.rest) || is_flow_here (peek
 -- ---- the step
 
 -- what the scanner holds after the dash, the blanks and a comment
-abbrev dash_end : ScannerState → (more : List ℕ) → List Indent → ℕ → List Token → ScannerState
+abbrev pub dash_end : ScannerState → (more : List ℕ) → List Indent → ℕ → List Token → ScannerState
 dash_end t more ds i ts = record {
   rest = past_blanks_and_comment more;
   held = record t.held {
@@ -122,10 +122,10 @@ dash_end t more ds i ts = record {
 }
 
 -- the tokens with the start of a sequence, if one begins
-abbrev with_sequence : ScannerState → List Token
+abbrev pub with_sequence : ScannerState → List Token
 with_sequence t = (if is_deeper t.held.position.col (columns t.held.indent t.held.indents) then placed None (token t.held.position Tok.block_sequence_start) t.held.tokens else t.held.tokens)
 
-past_dash : (p : Position) (next : List ℕ) → position_after p (45 ∷ []) next ≡ past p
+pub past_dash : (p : Position) (next : List ℕ) → position_after p (45 ∷ []) next ≡ past p
 unfolding is_break
 past_dash p next = past_one p 45 next refl
 
@@ -133,11 +133,15 @@ dash_ends : (p : Position) (more : List ℕ) → past_line_rest (past p) more �
 unfolding is_break
 dash_ends p more = indicator_end p 45 more refl
 
-dash_stands : (text more : List ℕ) (t : ScannerState) (a : ArrivesBy text t [] (None ∷ []) []) → t.held.flow ≡ [] → t.held.keys ≡ None ∷ [] → t.rest ≡ 45 ∷ more → is_at_gap more ≡ true → t.held.key_allowed ≡ true → dash_may_precede more ≡ true →
+-- what may begin after it
+abbrev pub after_dash : (here : Position) → List ℕ → Outside
+after_dash here bs = record { line = free; blocks = opened here.col (not_ended here.col bs) }
+
+pub dash_stands : (text more : List ℕ) (t : ScannerState) (a : ArrivesBy text t [] (None ∷ []) []) → t.held.flow ≡ [] → t.held.keys ≡ None ∷ [] → t.rest ≡ 45 ∷ more → is_at_gap more ≡ true → t.held.key_allowed ≡ true → dash_may_precede more ≡ true →
     (i : ℕ) (ds : List Indent) → columns i ds ≡ opened t.held.position.col (columns t.held.indent t.held.indents) → AreLevels i ds → has_open_level ds ≡ is_at_break_or_flow (past_blanks_and_comment more) →
-    Stands text (dash_end t more ds i (with_sequence t))
+    StandsAt text (base_past Tok.block_entry (45 ∷ []) t.held.position a.site more (after_dash t.held.position a.site.blocks)) (blanks_and_comment more) (dash_end t more ds i (with_sequence t))
 dash_stands text more t a flow keys e gap allowed apart i ds columns_are levels awaits =
-    read_outside text t (dash_end t more ds i (with_sequence t)) a (45 ∷ []) more Tok.block_entry (record { line = free; blocks = opened t.held.position.col bs }) (record {
+    read_outside_at text t (dash_end t more ds i (with_sequence t)) a (45 ∷ []) more Tok.block_entry (after_dash t.held.position a.site.blocks) (record {
       is_solid = refl;
       is_piece = (refl, gap, refl);
       stands = rw (a.is_indented (ap is_empty e), apart) refl;
@@ -181,7 +185,7 @@ dash_stands text more t a flow keys e gap allowed apart i ds columns_are levels 
 -- ---- the function
 
 -- what the model does after the dash and the start of a sequence
-abbrev entry_on : ScannerState → Result ScannerState Fault
+abbrev pub entry_on : ScannerState → Result ScannerState Fault
 entry_on v =
     lexed (space Yes v.rest v.held.position) v.held check_dash >>= λ w.
     skip_spaces No w >>= λ x.
@@ -189,7 +193,7 @@ entry_on v =
     Ok (on_held (λ s. push s.position Tok.block_entry (allow_key true s)) y)
 
 -- the same after blanks and a comment
-abbrev entry_then : ScannerState → Result ScannerState Fault
+abbrev pub entry_then : ScannerState → Result ScannerState Fault
 entry_then x = try_held remove_implicit_key (roll_entry x) >>= λ y. Ok (on_held (λ s. push s.position Tok.block_entry (allow_key true s)) y)
 
 dash_outside : (text more : List ℕ) (t : ScannerState) (a : ArrivesBy text t [] (None ∷ []) []) → t.held.flow ≡ [] → t.held.keys ≡ None ∷ [] → t.rest ≡ 45 ∷ more → is_at_gap more ≡ true → t.held.key_allowed ≡ true → IsDeep t.held →
@@ -223,7 +227,7 @@ dash_outside text more t a flow keys e gap allowed deep =
         (tried (roll_entry w) (remove_implicit_key (roll_entry w).held) (key_removed (roll_entry w).held) (λ s d. ap (λ z. record (roll_entry w) { held = z }) d)) (λ y d.
         went (subst (λ z. Stands text (on_held (λ s. push s.position Tok.block_entry (allow_key true s)) z)) (sym d)
         (subst (λ z. Stands text (on_held (λ s. push s.position Tok.block_entry (allow_key true s)) (record z { held = record z.held { keys = with_top None z.held.keys } }))) (sym n.is)
-        (dash_stands text more t a flow keys e gap allowed apart n.indent n.indents (n.columns_are ∙ r.columns_are) n.are_levels n.awaits))))
+        (dash_stands text more t a flow keys e gap allowed apart n.indent n.indents (n.columns_are ∙ r.columns_are) n.are_levels n.awaits).stands)))
 
 -- A dash that begins an entry is read as in the row.
 pub dash_keeps : (text more : List ℕ) (t : ScannerState) → Arrives text t → t.rest ≡ 45 ∷ more → is_at_gap more ≡ true → IsDeep t.held → Holds (Stands text) (fetch_block_entry t)

@@ -8,6 +8,7 @@ use Rattle.defs_token.specs.Separation.{is_separation}
 use Rattle.defs_token.specs.Piece.{IsPiece}
 use Rattle.defs_row.specs.Step.{Step, act_of, previous_by, has_break}
 use Rattle.defs_row.specs.Indentation.{least_column, awaits_past}
+use Rattle.defs_row.specs.Key.{Line}
 use Rattle.defs_row.specs.FlowEntry.{Entry, takes_pair, begun_by, is_renewed, entries_past}
 use Rattle.defs_row.specs.Account.{Site, Account, before_by, site_in, site_past, may_stand, seen}
 use Rattle.defs_row.specs.Tokens.{put, shown_position, pair_position, colon_of, begun_inside}
@@ -37,6 +38,10 @@ low_enough text t f fs ks es a deep =
 -- the site after a piece at a site
 abbrev pub site_inside : Site → (piece : List ℕ) → Tok → (next : List ℕ) → Site
 site_inside x piece tok next = site_past true x piece tok next x.blocks
+
+-- the account after a piece that stands here, from the line and the entries after it
+abbrev pub base_inside : Tok → (piece : List ℕ) → (here : Position) → Site → (next : List ℕ) → Line → List Entry → Account
+base_inside tok piece here s next l es = with_entries (site_inside (site_in true (act_of tok) here s) piece tok next) l es
 
 -- What was read from one state to another: a piece at a site, and a separation after it; and what the scanner holds then, with the innermost flow level and entry.
 pub record ReadInside (text : List ℕ) (t u : ScannerState) (f g : FlowLevel) (fs : List FlowLevel) (k : Option Key) (ks : List (Option Key)) (e e2 : Entry) (es : List Entry) (a : ArrivesBy text t (f ∷ fs) (k ∷ ks) (e ∷ es)) (piece next : List ℕ) (tok : Tok) : Type 0 where
@@ -71,7 +76,7 @@ pub read_inside_at : (text : List ℕ) (t u : ScannerState) (f g : FlowLevel) (f
     (r : ReadInside text t u f g fs k ks e e2 es a piece next tok) →
     ((c : Bool) (cs : List Bool) → MayChoose c (outside_key es ks) u.held.position u.rest →
     let b : Account = with_entries (site_inside (site_in true (act_of tok) t.held.position a.site) piece tok next) a.line (e2 ∷ es) in Completes text next (chosen c cs (None ∷ ks) b) (tokens_up_to (chosen c cs (None ∷ ks) b) (None ∷ ks) u.held.tokens)) →
-    StandsAt text (with_entries (site_inside (site_in true (act_of tok) t.held.position a.site) piece tok next) a.line (e2 ∷ es)) r.separation u
+    StandsAt text (base_inside tok piece t.held.position a.site next a.line (e2 ∷ es)) r.separation u
 read_inside_at text t u f g fs k ks e e2 es a piece next tok r rows =
     let x : Site = site_in true (act_of tok) t.held.position a.site in
     let after : Site = site_inside x piece tok next in
@@ -140,7 +145,7 @@ pub record GoesInside (text : List ℕ) (t u : ScannerState) (f : FlowLevel) (fs
 
 pub goes_inside_at : (text : List ℕ) (t u : ScannerState) (f g : FlowLevel) (fs : List FlowLevel) (k : Option Key) (ks : List (Option Key)) (e e2 : Entry) (es : List Entry) (a : ArrivesBy text t (f ∷ fs) (k ∷ ks) (e ∷ es)) (piece next : List ℕ) (tok : Tok) →
     (r : ReadInside text t u f g fs k ks e e2 es a piece next tok) → GoesInside text t u f fs k ks e e2 es a piece next tok (site_in true (act_of tok) t.held.position a.site) →
-    StandsAt text (with_entries (site_inside (site_in true (act_of tok) t.held.position a.site) piece tok next) a.line (e2 ∷ es)) r.separation u
+    StandsAt text (base_inside tok piece t.held.position a.site next a.line (e2 ∷ es)) r.separation u
 goes_inside_at text t u f g fs k ks e e2 es a piece next tok r n = read_inside_at text t u f g fs k ks e e2 es a piece next tok r (λ c cs may.
     subst (λ p. let b : Account = with_entries (site_inside (site_in true (act_of tok) p a.site) piece tok next) a.line (e2 ∷ es) in Completes text next (chosen c cs (None ∷ ks) b) (tokens_up_to (chosen c cs (None ∷ ks) b) (None ∷ ks) u.held.tokens)) (sym place)
     (rows (subst (λ p. GoesInside text t u f fs k ks e e2 es a piece next tok (site_in true (act_of tok) p a.site)) place n) c cs may))

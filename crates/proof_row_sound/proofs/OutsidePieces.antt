@@ -12,7 +12,7 @@ use Rattle.defs_row.specs.Column.{is_in_column, is_deeper}
 use Rattle.defs_row.specs.Indentation.{awaits_past, is_indented_by_spaces}
 use Rattle.defs_row.specs.Key.{Line, free, taken, is_waiting, begins_free_line, Outside, line_past}
 use Rattle.defs_row.specs.FlowEntry.{begun_by}
-use Rattle.defs_row.specs.Account.{Site, site_in, site_past, may_stand, seen}
+use Rattle.defs_row.specs.Account.{Site, Account, site_in, site_past, may_stand, seen}
 use Rattle.defs_row.specs.Tokens.{put, shown_position, ends_at, start_if, begun_outside}
 use Rattle.model_scanner.specs.State.{Key, ScannerState, token}
 use Rattle.model_scanner.specs.Indents.{placed}
@@ -28,6 +28,10 @@ use Rattle.proof_row_sound.proofs.StepsOutside.{Piece, IsHere, at, before, past,
 -- the site after a piece at a site
 abbrev pub site_then : Site → (piece : List ℕ) → Tok → (next : List ℕ) → Outside → Site
 site_then x piece tok next after = site_past false x piece tok next after.blocks
+
+-- the account after a piece that stands here, in which no key waits
+abbrev pub base_past : Tok → (piece : List ℕ) → (here : Position) → Site → (next : List ℕ) → Outside → Account
+base_past tok piece here s next after = with_entries (site_then (site_in false (act_of tok) here s) piece tok next after) after.line []
 
 -- the tokens of the step: ends of block collections, the start of one, and the token that the piece shows
 abbrev pub tokens_then : Site → Site → (piece : List ℕ) → Tok → (next : List ℕ) → Line → List Token
@@ -105,7 +109,7 @@ pub record ReadOutside (text : List ℕ) (t u : ScannerState) (a : ArrivesBy tex
 
 -- What holds between two fetches holds after it, with the account after the piece.
 pub read_outside_at : (text : List ℕ) (t u : ScannerState) (a : ArrivesBy text t [] (None ∷ []) []) (piece next : List ℕ) (tok : Tok) (after : Outside) →
-    (r : ReadOutside text t u a piece next tok after (site_in false (act_of tok) t.held.position a.site)) → StandsAt text (with_entries (site_then (site_in false (act_of tok) t.held.position a.site) piece tok next after) after.line []) r.ends.separation u
+    (r : ReadOutside text t u a piece next tok after (site_in false (act_of tok) t.held.position a.site)) → StandsAt text (base_past tok piece t.held.position a.site next after) r.ends.separation u
 read_outside_at text t u a piece next tok after r =
     ends_outside_at text t u None a piece next tok after (site_in false (act_of tok) t.held.position a.site) refl r.ends
     (subst (λ p. Completes text next (with_entries (site_then (site_in false (act_of tok) p a.site) piece tok next after) after.line []) (λ ws last. u.held.tokens)) (sym place)

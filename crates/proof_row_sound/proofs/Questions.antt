@@ -14,7 +14,7 @@ use Rattle.yaml_tokens.specs.declared.problem.Problem.TheVariants as problem
 use Rattle.defs_row.specs.Step.{gives_question, has_break, another}
 use Rattle.defs_row.specs.Column.{is_deeper, is_in_column, opened, not_ended}
 use Rattle.defs_row.specs.Indentation.{has_tab_within, last_line, has_tab_before_piece}
-use Rattle.defs_row.specs.Key.{free, line_past}
+use Rattle.defs_row.specs.Key.{free, Outside, line_past}
 use Rattle.defs_row.specs.FlowEntry.{Had, fresh, filled, waits, settled, Pair, no_pair, single_pair, asked_pair, Entry, is_keyed, takes_pair, is_renewed, renewed, had_after, pair_past, with_had, entries_past}
 use Rattle.model_scanner.specs.declared.level.FlowLevel.{FlowLevel}
 use Rattle.model_scanner.specs.declared.level.FlowLevel.TheVariants.{Mapping, Entry as InEntry, Keyed, Pair as InPair}
@@ -37,12 +37,12 @@ use Rattle.proof_row_sound.specs.Arrives.{Arrives}
 use Rattle.proof_row_sound.specs.Stands.{columns, kind_of, IsPairOf, IsEntryOf, has_open_level, AreLevels, is_at_comment_or_end, HasNoTabs, Stands}
 use Rattle.proof_row_sound.proofs.Arrivals.{first_not_right, numbered_more, numbered_around}
 use Rattle.proof_row_sound.proofs.Around.{tokens_before}
-use Rattle.proof_row_sound.proofs.EntryPieces.{low_enough, site_inside, goes_inside}
+use Rattle.proof_row_sound.proofs.EntryPieces.{low_enough, site_inside, base_inside, goes_inside_at}
 use Rattle.proof_row_sound.proofs.Indicated.{past_one}
 use Rattle.proof_row_sound.proofs.NodesInside.{not_keyed}
-use Rattle.proof_row_sound.proofs.OutsidePieces.{site_then, read_outside, line_free, none_open, started_tokens}
+use Rattle.proof_row_sound.proofs.OutsidePieces.{site_then, base_past, read_outside_at, line_free, none_open, started_tokens}
 use Rattle.proof_row_sound.proofs.Rolled.{RollsTo, rolls_to, top_closed}
-use Rattle.proof_row_sound.proofs.Sides.{ArrivesBy, ArrivesOutside, ArrivesInside, arrives_side}
+use Rattle.proof_row_sound.proofs.Sides.{ArrivesBy, ArrivesOutside, ArrivesInside, arrives_side, StandsAt}
 use Rattle.proof_row_sound.proofs.WhiteSpaces.{white_of, past_white, white_cut, no_tab_before, no_tab_in_last, past_white_space, white_exactly, white_first}
 
 -- ---- what is read after it
@@ -73,14 +73,14 @@ space_checked more t e = checked (peek t.rest == 9) (At problem.TabAfterKey t.he
     first [] h = refl
     first (c ∷ r) h = h
 
-past_question : (p : Position) (next : List ℕ) → position_after p (63 ∷ []) next ≡ past p
+pub past_question : (p : Position) (next : List ℕ) → position_after p (63 ∷ []) next ≡ past p
 unfolding is_break
 past_question p next = past_one p 63 next refl
 
 -- ---- outside flow
 
 -- what the scanner holds after the `?` and the separation
-abbrev question_end : ScannerState → (more : List ℕ) → List Indent → ℕ → List Token → ScannerState
+abbrev pub question_end : ScannerState → (more : List ℕ) → List Indent → ℕ → List Token → ScannerState
 question_end t more ds i ts = record {
   rest = past_white false more;
   held = record t.held {
@@ -98,11 +98,16 @@ question_end t more ds i ts = record {
 abbrev pub with_mapping : ScannerState → List Token
 with_mapping t = (if is_deeper t.held.position.col (columns t.held.indent t.held.indents) then placed None (token t.held.position Tok.block_mapping_start) t.held.tokens else t.held.tokens)
 
-question_stands : (text more : List ℕ) (t : ScannerState) (a : ArrivesBy text t [] (None ∷ []) []) → t.held.flow ≡ [] → t.held.keys ≡ None ∷ [] → t.rest ≡ 63 ∷ more → t.held.key_allowed ≡ true →
+-- what may begin after it
+abbrev pub after_question : (here : Position) → List ℕ → Outside
+after_question here bs = record { line = free; blocks = opened here.col (not_ended here.col bs) }
+
+pub question_stands : (text more : List ℕ) (t : ScannerState) (a : ArrivesBy text t [] (None ∷ []) []) → t.held.flow ≡ [] → t.held.keys ≡ None ∷ [] → t.rest ≡ 63 ∷ more → t.held.key_allowed ≡ true →
     begins_with_space_or_break more ≡ true → has_tab_before_piece false more ≡ false → is_separation false (white_of false more) (past_white false more) ≡ true →
-    (i : ℕ) (ds : List Indent) → columns i ds ≡ opened t.held.position.col (columns t.held.indent t.held.indents) → AreLevels i ds → has_open_level ds ≡ false → Stands text (question_end t more ds i (with_mapping t))
+    (i : ℕ) (ds : List Indent) → columns i ds ≡ opened t.held.position.col (columns t.held.indent t.held.indents) → AreLevels i ds → has_open_level ds ≡ false →
+    StandsAt text (base_past Tok.key (63 ∷ []) t.held.position a.site more (after_question t.held.position a.site.blocks)) (white_of false more) (question_end t more ds i (with_mapping t))
 question_stands text more t a flow keys e allowed begins apart fills i ds columns_are levels awaits =
-    read_outside text t (question_end t more ds i (with_mapping t)) a (63 ∷ []) more Tok.key (record { line = free; blocks = opened t.held.position.col bs }) (record {
+    read_outside_at text t (question_end t more ds i (with_mapping t)) a (63 ∷ []) more Tok.key (after_question t.held.position a.site.blocks) (record {
       is_solid = refl;
       is_piece = inl (refl, begins);
       stands = rw (a.is_indented (ap is_empty e), apart) refl;
@@ -154,7 +159,7 @@ key_begun s = either (in_flow s) (λ e. went (inside e refl)) (λ e. checked (no
     allowed false f = absurd (cc f)
 
 -- what the model does after the `?` and its mapping
-abbrev key_from : ScannerState → ScannerState → Result ScannerState Fault
+abbrev pub key_from : ScannerState → ScannerState → Result ScannerState Fault
 key_from t v =
     skip_yaml_whitespace (skip_indicator (on_held (λ s. allow_key (not (in_flow s)) s) v)) >>= λ w.
     check_key_space w >>= λ x.
@@ -179,7 +184,7 @@ question_outside text more t a flow keys e gap allowed deep =
     subst (λ r. Holds (Stands text) (from r (roll_indent t.held.position.col None Tok.block_mapping_start t.held.position t.held))) (sym e)
     (subst (λ h. Holds (Stands text) (from (63 ∷ more) h)) (sym r.is_held)
     (question_read text more t.held.position (now (record t.held { indents = r.indents; indent = r.indent; tokens = with_mapping t })) gap (λ begins apart fills.
-    question_stands text more t a flow keys e allowed begins apart fills r.indent r.indents r.columns_are r.are_levels (top_closed r.indents (r.is_top deep)).1)))
+    (question_stands text more t a flow keys e allowed begins apart fills r.indent r.indents r.columns_are r.are_levels (top_closed r.indents (r.is_top deep)).1).stands)))
   where
     out : in_flow t.held ≡ false
     out = ap (λ fs. not (is_empty fs)) flow
@@ -196,18 +201,18 @@ question_outside text more t a flow keys e gap allowed deep =
 -- ---- in flow
 
 -- the flow level after it
-abbrev asked_level : FlowLevel → FlowLevel
+abbrev pub asked_level : FlowLevel → FlowLevel
 asked_level InEntry = Keyed
 asked_level f = f
 
-asked_levels : (f : FlowLevel) (fs : List FlowLevel) → keyed (f ∷ fs) ≡ asked_level f ∷ fs
+pub asked_levels : (f : FlowLevel) (fs : List FlowLevel) → keyed (f ∷ fs) ≡ asked_level f ∷ fs
 asked_levels InEntry fs = refl
 asked_levels Mapping fs = refl
 asked_levels Keyed fs = refl
 asked_levels InPair fs = refl
 
 -- the entry after it
-abbrev asked_entry : Entry → Entry
+abbrev pub asked_entry : Entry → Entry
 asked_entry e = record { kind = e.kind; pair = pair_past (takes_pair e.kind e.pair) gives_question e.pair; had = settled }
 
 asked_is : (f : FlowLevel) (k : Option Key) (e : Entry) → IsEntryOf f k e → IsEntryOf (asked_level f) None (asked_entry e)
@@ -242,7 +247,7 @@ settles here again e xs h = ap (λ o. with_had e.kind (pair_past (takes_pair e.k
     by false settled i = refl
 
 -- what the scanner holds after it
-abbrev question_within : ScannerState → (more : List ℕ) → ScannerState
+abbrev pub question_within : ScannerState → (more : List ℕ) → ScannerState
 question_within t more = record {
   rest = past_white false more;
   held = record t.held {
@@ -258,12 +263,12 @@ question_within t more = record {
 one_line : (c : ℕ) → is_break c ≡ false → has_break (c ∷ []) ≡ false
 one_line c h = ap (λ b. not (not b && true)) h
 
-question_inside : (text more : List ℕ) (t : ScannerState) (f : FlowLevel) (fs : List FlowLevel) (k : Option Key) (ks : List (Option Key)) (e : Entry) (es : List Entry) (a : ArrivesBy text t (f ∷ fs) (k ∷ ks) (e ∷ es)) →
+pub question_inside : (text more : List ℕ) (t : ScannerState) (f : FlowLevel) (fs : List FlowLevel) (k : Option Key) (ks : List (Option Key)) (e : Entry) (es : List Entry) (a : ArrivesBy text t (f ∷ fs) (k ∷ ks) (e ∷ es)) →
     t.held.flow ≡ f ∷ fs → t.held.keys ≡ k ∷ ks → t.rest ≡ 63 ∷ more → IsDeep t.held → begins_with_space_or_break more ≡ true → has_tab_before_piece false more ≡ false → is_separation false (white_of false more) (past_white false more) ≡ true →
-    Stands text (question_within t more)
+    StandsAt text (base_inside Tok.key (63 ∷ []) t.held.position a.site more a.line (asked_entry e ∷ es)) (white_of false more) (question_within t more)
 unfolding is_break
 question_inside text more t f fs k ks e es a flow keys cut deep begins apart fills =
-    goes_inside text t (question_within t more) f (asked_level f) fs k ks e (asked_entry e) es a (63 ∷ []) more Tok.key (record {
+    goes_inside_at text t (question_within t more) f (asked_level f) fs k ks e (asked_entry e) es a (63 ∷ []) more Tok.key (record {
       is_solid = refl;
       cut = cut;
       separation = white_of false more;
@@ -327,7 +332,7 @@ key_keeps text more t a e gap deep =
     by (inr i) u (inside in_it d) =
         subst (λ h. Holds (Stands text) (key_from t (record t { held = record h { keys = with_top None h.keys } }))) (sym d)
         (subst (λ l. Holds (Stands text) (from l)) (sym e)
-        (question_read text more t.held.position now gap (λ begins apart fills. question_inside text more t i.level i.levels i.key i.keys i.entry i.entries i.here i.flow_is i.keys_are e deep begins apart fills)))
+        (question_read text more t.held.position now gap (λ begins apart fills. (question_inside text more t i.level i.levels i.key i.keys i.entry i.entries i.here i.flow_is i.keys_are e deep begins apart fills).stands)))
       where
         now : Held
         now = record t.held { flow = keyed t.held.flow; keys = with_top None t.held.keys; key_allowed = not (not (is_empty (keyed t.held.flow))); position = past t.held.position; leading = false }
