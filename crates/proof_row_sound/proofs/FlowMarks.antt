@@ -18,11 +18,10 @@ use Rattle.proof_row_sound.specs.Arrives.{Arrives}
 use Rattle.proof_row_sound.specs.Choices.{MayChoose}
 use Rattle.proof_row_sound.specs.Stands.{Stands}
 use Rattle.proof_row_sound.proofs.Closers.{IsCloser, comma, stray_past, stray_base, stray_at}
-use Rattle.proof_row_sound.proofs.ClosersInside.{adjacent_then, levels_then, closed_past, closed_inside}
-use Rattle.proof_row_sound.proofs.EntryEnds.{keys_by, entries_after}
+use Rattle.proof_row_sound.proofs.ClosersInside.{adjacent_then, closed_inside}
 use Rattle.proof_row_sound.proofs.Gone.{key_gone}
 use Rattle.proof_row_sound.proofs.Indicated.{past_it, indicator_passed}
-use Rattle.proof_row_sound.proofs.Sides.{with_entries, ArrivesOutside, ArrivesInside, arrives_side, StandsAt, stands_at}
+use Rattle.proof_row_sound.proofs.Sides.{ArrivesOutside, ArrivesInside, arrives_side, StandsAt}
 
 -- ---- what the model leaves
 
