@@ -1,4 +1,5 @@
 pub mod Around
+pub mod Indicators
 pub mod Nodes
 pub mod Pieces
 pub mod Runs

@@ -1,0 +1,2 @@
+pub mod FlowMarks
+pub mod Passed

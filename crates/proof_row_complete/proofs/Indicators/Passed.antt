@@ -1,0 +1,68 @@
+-- How the scanner's model passes an indicator that a row reads, and what stays of the open key outside flow.
+use Rattle.std.proofs.Common.{◌≡◌, ℕ, ◌≤◌, List, ◌++◌, Bool, true, false, ◌&&◌, Option, Some, None, Ok, refl, ap, sym, ◌∙◌, subst}
+use Rattle.defs_text.specs.Position.{Position}
+use Rattle.defs_text.specs.Text.{is_empty}
+use Rattle.defs_scalar.specs.FlowScalar.{begins_with}
+use Rattle.defs_token.specs.Separation.{is_separation}
+use Rattle.defs_row.specs.Step.{Step, spelled, has_break}
+use Rattle.defs_row.specs.Key.{Line, free, taken, waits, is_waiting, begins_free_line, line_past_separation}
+use Rattle.defs_row.specs.Account.{Account}
+use Rattle.defs_row.specs.Row.{IsRowFrom}
+use Rattle.model_lexers.specs.Machine.{past}
+use Rattle.model_lexers.specs.Space.{space}
+use Rattle.model_lexers.specs.declared.context.SkipTabs.TheVariants.{Yes}
+use Rattle.model_scanner.specs.State.{Key, ScannerState, after, lexed, skip_indicator}
+use Rattle.model_scanner.specs.Keys.{is_required}
+use Rattle.model_scanner.specs.Space.{skip_spaces}
+use Rattle.model_scanner.specs.Flow.{pass_indicator}
+use Rattle.proof_row_sound.specs.Choices.{line_by, MayChoose}
+use Rattle.proof_row_sound.proofs.Blanks.{spaced_parted}
+use Rattle.proof_row_sound.proofs.Indicated.{past_it}
+use Rattle.proof_row_complete.proofs.Waits.{waits_on}
+
+-- ---- what the model reads
+
+-- An indicator, blanks and a comment are passed, unless the comment stands directly there.
+pub passed : (u : ScannerState) (more : List ℕ) → after u.rest ≡ more → begins_with 35 more ≡ false → pass_indicator u ≡ Ok (past_it u more)
+unfolding pass_indicator skip_spaces
+passed u more e none =
+    ap (λ r. lexed (space Yes r (past u.held.position)) (skip_indicator u).held (λ w v. Ok v)) e ∙
+    ap (λ x. lexed x (skip_indicator u).held (λ w v. Ok v)) (spaced_parted more (past u.held.position) none)
+
+-- ---- what the row says
+
+-- of four tests that hold, the last one
+pub last_of : (w x y z : Bool) → (w && x && y && z) ≡ true → z ≡ true
+last_of true true true z h = h
+last_of false x y z h = absurd (cc h)
+last_of true false y z h = absurd (cc h)
+last_of true true false z h = absurd (cc h)
+
+-- two values that are there
+pub same_value : {A : Type 0} → (a b : A) → Some a ≡ Some b → a ≡ b
+same_value a b e = cc
+
+-- ---- the open key outside flow
+
+-- in flow no separation changes what may begin outside flow
+pub line_inside : (broken : Bool) (l m : Line) → line_past_separation true broken l ≡ Some m → m ≡ l
+line_inside false l m e = same_value m l (sym e)
+line_inside true free m e = same_value m free (sym e)
+line_inside true taken m e = same_value m taken (sym e)
+line_inside true (waits b) m e = absurd (cc e)
+
+-- where no key waits after a separation, none is chosen; so none must be one
+pub not_required : (c : Bool) (k : Option Key) (broken : Bool) (l m : Line) (p : Position) (rest : List ℕ) → line_past_separation false broken (line_by c k l) ≡ Some m → is_waiting m ≡ false → MayChoose c k p rest → is_required k ≡ false
+not_required c None broken l m p rest e w may = refl
+not_required false (Some k) broken l m p rest e w may = may
+not_required true (Some k) false l m p rest e w may = absurd (cc (subst (λ x. is_waiting x ≡ false) (same_value m (waits k.position) (sym e)) w))
+not_required true (Some k) true l m p rest e w may = absurd (cc e)
+
+-- Where the row goes on after a piece, the choice may stay as it was: a key that waits is on this line, and the text goes on.
+pub may_on : (ws : List Step) (last : List ℕ) (b : Account) (c : Bool) (k : Option Key) (l : Line) (p q : Position) (rest gap rest2 : List ℕ) → IsRowFrom (Some b) ws last → b.line ≡ line_by c k l →
+    ((f : List ℕ) → begins_free_line b.site.before f ≡ has_break f) → spelled ws last ≡ gap ++ rest2 → is_separation false gap rest2 ≡ true → (has_break gap ≡ false → q.line ≡ p.line) → MayChoose c k p rest → MayChoose c k q rest2
+may_on ws last b c None l p q rest gap rest2 row e plain text g same may = tt
+may_on ws last b false (Some k) l p q rest gap rest2 row e plain text g same may = may
+may_on ws last b true (Some k) l p q rest gap rest2 row e plain text g same may =
+    let on : (has_break gap ≡ false) × (is_empty rest2 ≡ false) = waits_on ws last b k.position gap rest2 row e plain text g in
+    (subst (λ n. n ≤ k.position.line) (sym (same on.0)) may.0, on.1)
