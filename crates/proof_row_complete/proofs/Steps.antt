@@ -10,7 +10,7 @@ use Rattle.defs_row.specs.FlowEntry.{Entry, begun_by, is_renewed, entries_past}
 use Rattle.defs_row.specs.Account.{Site, Account, site_at, site_past, may_stand, on_one_line, past_outside, past_inside, past_piece, account_past, seen}
 use Rattle.defs_row.specs.Tokens.{shown_position}
 use Rattle.defs_row.specs.Row.{IsWritten, IsRowFrom}
-use Rattle.proof_lexers.specs.PlainEnds.{has_no_nul}
+use Rattle.defs_text.specs.Text.{has_no_nul}
 use Rattle.proof_lexers.specs.Separations.{begins_separation}
 use Rattle.proof_ends.specs.Ends as ends
 use Rattle.proof_ends.specs.Ends.{ends_separation}
@@ -24,7 +24,7 @@ use Rattle.proof_row_sound.proofs.Sides.{with_entries}
 -- ---- texts
 
 -- a text without NUL, as the laws on ends see it
-pub clean_alike : (r : List ℕ) → has_no_nul r ≡ true → ends.has_no_nul r ≡ true
+pub clean_alike : (r : List ℕ) → has_no_nul r ≡ true → has_no_nul r ≡ true
 clean_alike [] h = refl
 clean_alike (c ∷ r) h = let p = and_parts (not (is_nul c)) (has_no_nul r) h in rw (p.0, clean_alike r p.1) refl
 
@@ -79,7 +79,7 @@ pub step_read : (a : Account) (w : Step) (ws : List Step) (last : List ℕ) (v :
 step_read a w ws last v next row e h n =
     let x : List ℕ = spelled ws last in
     let first : (w.separation ≡ v.separation) × (w.piece ++ x ≡ v.piece ++ next) = separations w.separation v.separation (w.piece ++ x) (v.piece ++ next) (row.0.0, piece_ends a w x row.0) (h.0, piece_ends a v next h) e in
-    let clean : ends.has_no_nul (w.piece ++ x) ≡ true = subst (λ r. ends.has_no_nul r ≡ true) (sym first.1) (clean_alike (v.piece ++ next) n) in
+    let clean : has_no_nul (w.piece ++ x) ≡ true = subst (λ r. has_no_nul r ≡ true) (sym first.1) (clean_alike (v.piece ++ next) n) in
     let piece : (w.piece ≡ v.piece) × (w.shown ≡ v.shown) × (x ≡ next) = same_piece a a w v x next (account_itself a) row.0 h first.0 first.1 clean in
     let step : w ≡ with_key v w.key = ap (λ z. record { separation = z; piece = w.piece; shown = w.shown; key = w.key }) first.0 ∙
     (ap (λ z. record { separation = v.separation; piece = z; shown = w.shown; key = w.key }) piece.0 ∙ ap (λ z. record { separation = v.separation; piece = v.piece; shown = z; key = w.key }) piece.1) in

@@ -2,7 +2,7 @@
 use Rattle.std.proofs.Common.{◌≡◌, ℕ, zero, suc, ◌≤◌, List, [], ◌∷◌, ◌++◌, Bool, true, false, not, ◌&&◌, ◌||◌, ◌==◌, Option, Some, None, refl, ap, sym, ◌∙◌, subst, append_assoc, arith}
 use Rattle.std.proofs.lemmas.Bool.{and_parts}
 use Rattle.defs_text.specs.Classes.{is_blank, is_break, is_nul, is_blank_or_end}
-use Rattle.defs_text.specs.Text.{is_empty}
+use Rattle.defs_text.specs.Text.{is_empty, has_no_nul}
 use Rattle.defs_token.specs.Separation.{is_separation}
 use Rattle.defs_row.specs.Step.{Step, Previous, spelled, has_break}
 use Rattle.defs_row.specs.Indentation.{least_column, has_tab_within, last_line, follows_plain, begins_line, is_indented_by_spaces}
@@ -13,7 +13,6 @@ use Rattle.defs_row.specs.Following.{may_precede}
 use Rattle.defs_row.specs.Row.{IsRowFrom}
 use Rattle.model_scanner.specs.State.{Key, ScannerState}
 use Rattle.model_scanner.specs.Space.{between, skip, skip_to_next_token}
-use Rattle.proof_lexers.specs.PlainEnds.{has_no_nul}
 use Rattle.proof_lexers.specs.Separations.{begins_separation}
 use Rattle.proof_ends.specs.Ends.{ends_separation}
 use Rattle.proof_ends.proofs.Separations.{separations}

@@ -7,7 +7,7 @@ use Rattle.defs_token.specs.Separation.{is_separation}
 use Rattle.defs_row.specs.Step.{Step, spelled}
 use Rattle.defs_row.specs.Account.{Account}
 use Rattle.defs_row.specs.Row.{IsRowFrom}
-use Rattle.proof_lexers.specs.PlainEnds.{has_no_nul}
+use Rattle.defs_text.specs.Text.{has_no_nul}
 use Rattle.proof_ends.specs.Ends.{ends_separation}
 use Rattle.proof_ends.proofs.Runs.{same_head, longer}
 use Rattle.proof_ends.proofs.Separations.{over}

@@ -8,14 +8,13 @@ use Rattle.yaml_tokens.specs.declared.problem.Fault.TheVariants.{At}
 use Rattle.yaml_tokens.specs.declared.problem.Problem.TheVariants as problem
 use Rattle.defs_text.specs.Breaks.{is_at_line_end}
 use Rattle.defs_text.specs.Classes as classes
-use Rattle.defs_text.specs.Text.{is_empty}
+use Rattle.defs_text.specs.Text.{is_empty, has_no_nul}
 use Rattle.defs_token.specs.Separation.{is_separation}
 use Rattle.defs_row.specs.Step.{Previous}
 use Rattle.defs_row.specs.Indentation.{has_tab_within, last_line, begins_line}
 use Rattle.model_lexers.specs.Machine.{is_cr_lf}
 use Rattle.model_scanner.specs.State.{Held, moved}
 use Rattle.model_scanner.specs.Space.{Gap, between, comment, tab_line, past_line, is_before_indent, skip}
-use Rattle.proof_lexers.specs.PlainEnds.{has_no_nul}
 use Rattle.proof_lexers.specs.Separations.{begins_separation}
 use Rattle.proof_lexers.proofs.Separation.Separations.{no_hash}
 use Rattle.proof_lexers.proofs.Bridges.{same_break, same_blank}

@@ -21,7 +21,7 @@ use Rattle.model_lexers.specs.Machine.{past}
 use Rattle.model_scanner.specs.State.{Key, Held, ScannerState, ◌>>=◌, push, pop, with_top, after, on_held, with_held}
 use Rattle.model_scanner.specs.Keys.{is_required, top_key, remove_implicit_key}
 use Rattle.model_scanner.specs.Flow.{adjacent_in_flow, ended_flow, end_flow, next_entry, end_entry, pass_indicator, fetch_flow_collection_end, fetch_flow_entry}
-use Rattle.proof_lexers.specs.PlainEnds.{has_no_nul}
+use Rattle.defs_text.specs.Text.{has_no_nul}
 use Rattle.proof_cut.proofs.FlowEnds.{higher_keys, ended_now, entry_now, ended_is, entry_is}
 use Rattle.proof_cut.proofs.Nodes.{IsDeep}
 use Rattle.proof_row_sound.specs.Arrives.{site_here}

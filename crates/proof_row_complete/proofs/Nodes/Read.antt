@@ -1,7 +1,7 @@
 -- A part of a node that is no collection was read where a piece begins, and the row goes on there: then it goes on after it.
 use Rattle.std.proofs.Common.{◌≡◌, ℕ, ◌≤◌, List, [], ◌∷◌, ◌++◌, Bool, true, false, ◌&&◌, Option, Some, None, refl, ap, sym, ◌∙◌, subst, arith, ◌⊎◌, inl, inr}
 use Rattle.defs_text.specs.Position.{Position, position_after}
-use Rattle.defs_text.specs.Text.{is_empty}
+use Rattle.defs_text.specs.Text.{is_empty, has_no_nul}
 use Rattle.defs_row.specs.Step.{Step, spelled, Act, act_of, gives_node, has_break}
 use Rattle.defs_row.specs.Column.{is_in_column}
 use Rattle.defs_row.specs.Key.{Line, taken, is_waiting, begins_free_line, Outside, line_past}
@@ -10,7 +10,6 @@ use Rattle.defs_row.specs.Account.{Site, Account, site_in, site_past}
 use Rattle.defs_row.specs.Row.{IsRowFrom}
 use Rattle.model_scanner.specs.declared.level.FlowLevel.{FlowLevel}
 use Rattle.model_scanner.specs.State.{Key, ScannerState, pop}
-use Rattle.proof_lexers.specs.PlainEnds.{has_no_nul}
 use Rattle.proof_cut.specs.Here.{IsLive}
 use Rattle.proof_cut.proofs.Nodes.{IsDeep}
 use Rattle.proof_row_sound.specs.Choices.{line_by, entry_by, entries_by, first_choice, outside_key, chosen, MayChoose}
