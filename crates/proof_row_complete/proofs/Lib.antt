@@ -1,5 +1,6 @@
 pub mod Around
 pub mod Indicators
+pub mod KindsOfPieces
 pub mod Nodes
 pub mod Pieces
 pub mod Runs

@@ -1,3 +1,4 @@
 pub mod AfterQuoted
 pub mod Bodies
 pub mod Contents
+pub mod Quoted

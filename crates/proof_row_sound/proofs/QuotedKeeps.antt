@@ -124,17 +124,17 @@ in_line single body = last (quote_of single) (quote_of single) body (no_break si
 -- ---- its token
 
 -- the token of a quoted scalar
-record IsQuotedToken (single : Bool) (tok : Tok) : Type 0 where
-  act : act_of tok ≡ gives_node
-  begun : begun_by tok ≡ []
-  shown : (s : Site) (piece next : List ℕ) → shown_position s piece tok next ≡ s.position
-  before : previous_by tok ≡ quoted_scalar
-  least : (s : Site) → least_for tok s ≡ least_column s.blocks s.awaits
-  lines : (column : ℕ) (piece : List ℕ) → further_lines_stand column tok piece ≡ quoted_lines_fit column (element_of single) piece
-  precedes : (fl : Bool) (bs piece next : List ℕ) → may_precede fl bs tok piece next ≡ quoted_may_end fl piece next
-  awaits : (fl : Bool) (bs : List ℕ) (b : Bool) (next : List ℕ) → awaits_past fl tok bs b next ≡ b
+pub record IsQuotedToken (single : Bool) (tok : Tok) : Type 0 where
+  pub act : act_of tok ≡ gives_node
+  pub begun : begun_by tok ≡ []
+  pub shown : (s : Site) (piece next : List ℕ) → shown_position s piece tok next ≡ s.position
+  pub before : previous_by tok ≡ quoted_scalar
+  pub least : (s : Site) → least_for tok s ≡ least_column s.blocks s.awaits
+  pub lines : (column : ℕ) (piece : List ℕ) → further_lines_stand column tok piece ≡ quoted_lines_fit column (element_of single) piece
+  pub precedes : (fl : Bool) (bs piece next : List ℕ) → may_precede fl bs tok piece next ≡ quoted_may_end fl piece next
+  pub awaits : (fl : Bool) (bs : List ℕ) (b : Bool) (next : List ℕ) → awaits_past fl tok bs b next ≡ b
 
-quoted_token : (single : Bool) (text : List ℕ) → IsQuotedToken single (Tok.scalar (quoted_style single) text)
+pub quoted_token : (single : Bool) (text : List ℕ) → IsQuotedToken single (Tok.scalar (quoted_style single) text)
 quoted_token true text = record { act = refl; begun = refl; shown = λ s p n. refl; before = refl; least = λ s. refl; lines = λ c p. refl; precedes = λ f bs p n. refl; awaits = awaits_alike }
   where
     awaits_alike : (fl : Bool) (bs : List ℕ) (b : Bool) (next : List ℕ) → awaits_past fl (Tok.scalar (quoted_style true) text) bs b next ≡ b

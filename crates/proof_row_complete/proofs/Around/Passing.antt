@@ -51,7 +51,7 @@ least_awaited (n ∷ ns) true f = omega arith
 least_awaited (n ∷ ns) false true = omega arith
 least_awaited (n ∷ ns) false false = omega arith
 
-is_spaced : (b : Previous) (bs : List ℕ) (aw : Bool) (g : List ℕ) → is_indented_by_spaces b bs aw g ≡ true → Spaced b (least_column bs aw) g
+pub is_spaced : (b : Previous) (bs : List ℕ) (aw : Bool) (g : List ℕ) → is_indented_by_spaces b bs aw g ≡ true → Spaced b (least_column bs aw) g
 is_spaced b bs aw g h begins = by (has_tab_within (least_column bs aw) (last_line g)) refl
   where
     not_both : (x y : Bool) → x ≡ true → y ≡ true → (not x || not y) ≡ true → ⊥
@@ -67,7 +67,7 @@ is_spaced b bs aw g h begins = by (has_tab_within (least_column bs aw) (last_lin
         absurd (not_both (begins_line b g) (has_tab_within (least_column bs (aw || follows_plain b g)) (last_line g)) begins wider h)
 
 -- what ends a separation begins none
-begins_none : (r : List ℕ) → ends_separation r ≡ true → begins_separation r ≡ false
+pub begins_none : (r : List ℕ) → ends_separation r ≡ true → begins_separation r ≡ false
 unfolding is_blank_or_end
 begins_none [] h = refl
 begins_none (c ∷ r) h = by (is_blank c) (is_break c) (is_nul c) (c == 35) h

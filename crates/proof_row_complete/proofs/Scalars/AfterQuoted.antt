@@ -1,5 +1,5 @@
 -- What may follow a quoted scalar is not refused after it.
-use Rattle.std.proofs.Common.{◌≡◌, ℕ, List, [], ◌∷◌, ◌++◌, Bool, true, false, not, ◌&&◌, ◌||◌, ◌==◌, if◌then◌else◌, codes, Result, Ok, Err, refl, ap, sym, ◌∙◌, subst, append_assoc, arith}
+use Rattle.std.proofs.Common.{◌≡◌, ℕ, List, [], ◌∷◌, ◌++◌, Bool, true, false, not, ◌&&◌, ◌||◌, ◌==◌, if◌then◌else◌, Result, Ok, Err, refl, ap, sym, ◌∙◌, subst, append_assoc, arith}
 use Rattle.std.proofs.lemmas.Bool.{and_parts, eqb-true}
 use Rattle.std.proofs.lemmas.Bool.Decides.{nat_tests}
 use Rattle.defs_text.specs.Position.{Position, position_after}
@@ -30,7 +30,7 @@ use Rattle.proof_cut.proofs.Passes.{Spaced, spaces_skipped}
 use Rattle.proof_row_sound.proofs.Passed.{same_has_break}
 use Rattle.proof_row_sound.proofs.QuotedEnds.{same_line, blanks_alone, after_blanks, not_at_end}
 use Rattle.proof_row_complete.specs.Goes.{Succeeds, went}
-use Rattle.proof_row_complete.proofs.Runs.{Left, left}
+use Rattle.proof_row_complete.proofs.Runs.{Left}
 
 -- ---- the blanks after it
 
