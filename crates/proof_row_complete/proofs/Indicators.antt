@@ -1,2 +1,3 @@
 pub mod FlowMarks
+pub mod Openings
 pub mod Passed
