@@ -1,5 +1,9 @@
 pub mod Arriving
 pub mod Asks
+pub mod Choosing
+pub mod Ending
+pub mod Levels
+pub mod Markers
 pub mod Passing
 pub mod Separations
 pub mod Skips

@@ -1,6 +1,7 @@
 pub mod Around
 pub mod Indicators
 pub mod KindsOfPieces
+pub mod Complete
 pub mod Nodes
 pub mod Pieces
 pub mod Runs

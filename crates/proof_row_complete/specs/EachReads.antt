@@ -1,5 +1,5 @@
 -- What is to be shown of each function of the scanner's model, so that each fetch reads a step of the row.
-use Rattle.std.specs.Prelude.{◌≡◌, ℕ, List, [], ◌∷◌, Bool, true, ◌+◌, if◌then◌else◌, Result, Ok}
+use Rattle.std.specs.Prelude.{◌≡◌, ℕ, List, ◌∷◌, Bool, true, if◌then◌else◌, Result}
 use Rattle.defs_text.specs.Classes.{is_at_gap}
 use Rattle.defs_text.specs.Text.{is_empty}
 use Rattle.defs_token.specs.Token.{Tok}
@@ -9,16 +9,12 @@ use Rattle.defs_row.specs.Step.{Step}
 use Rattle.yaml_tokens.specs.declared.problem.Fault.{Fault}
 use Rattle.model_lexers.specs.Quoted.{quote_of}
 use Rattle.model_scanner.specs.declared.level.FlowLevel.TheVariants.{Mapping, Entry}
-use Rattle.model_scanner.specs.State.{ScannerState, ◌>>=◌, in_flow, on_held, try_held}
-use Rattle.model_scanner.specs.Keys.{stale}
-use Rattle.model_scanner.specs.Indents.{unroll_indent}
-use Rattle.model_scanner.specs.Space.{skip_to_next_token}
+use Rattle.model_scanner.specs.State.{ScannerState, in_flow}
 use Rattle.model_scanner.specs.Flow.{fetch_flow_collection_start, fetch_flow_collection_end, fetch_flow_entry}
 use Rattle.model_scanner.specs.Block.{fetch_block_entry, fetch_key, fetch_value}
 use Rattle.model_scanner.specs.Document.{fetch_directive, fetch_document_marker, fetch_document_end, fetch_anchor, fetch_tag, fetch_block_scalar, fetch_flow_scalar, fetch_plain_scalar}
-use Rattle.model_scanner.specs.Fetch.{is_value, fetch_here}
+use Rattle.model_scanner.specs.Fetch.{is_value}
 use Rattle.proof_cut.specs.PiecesRead.{comes_plain}
-use Rattle.proof_cut.specs.Stands.{FaresAt}
 use Rattle.proof_cut.proofs.Nodes.{IsDeep}
 use Rattle.proof_row_sound.proofs.KeysBefore.{KeysBefore}
 use Rattle.proof_row_complete.specs.Goes.{Succeeds, Goes, GoesHere}
@@ -49,11 +45,3 @@ pub record EachReads : Type 0 where
   pub document_start : (text : List ℕ) (w : Step) (ws : List Step) (last : List ℕ) (t : ScannerState) (more : List ℕ) → t.rest ≡ 45 ∷ 45 ∷ 45 ∷ more → is_at_gap more ≡ true → t.held.position.col ≡ 0 → Reads text w ws last t (fetch_document_marker Tok.document_start)
   pub document_end : (text : List ℕ) (w : Step) (ws : List Step) (last : List ℕ) (t : ScannerState) (more : List ℕ) → t.rest ≡ 46 ∷ 46 ∷ 46 ∷ more → is_at_gap more ≡ true → t.held.position.col ≡ 0 → Reads text w ws last t fetch_document_end
   pub plain : (text : List ℕ) (w : Step) (ws : List Step) (last : List ℕ) (t : ScannerState) (g : GoesHere text (w ∷ ws) last t) → IsDeep t.held → comes_plain (in_flow t.held) (is_adjacent (before_here text (w ∷ ws) last t g)) t.held.position.col t.rest ≡ true → Succeeds (Goes text ws last) (fetch_plain_scalar t)
-
--- What is to be shown of the steps around these functions: to the next piece, by its first characters, after it, and at the text's end.
-pub record AroundReads : Type 0 where
-  pub arrives : (text : List ℕ) (ws : List Step) (last : List ℕ) (t : ScannerState) → FaresAt text t → Goes text ws last t →
-      Succeeds (λ v. FaresAt text v × GoesHere text ws last v) (skip_to_next_token t >>= λ u. try_held stale u >>= λ v. Ok (on_held (λ s. unroll_indent (s.position.col + 1) s) v))
-  pub chooses : EachReads → (text : List ℕ) (w : Step) (ws : List Step) (last : List ℕ) (t : ScannerState) → FaresAt text t → GoesHere text (w ∷ ws) last t → Succeeds (Goes text ws last) (fetch_here t)
-  pub leaves : (text : List ℕ) (ws : List Step) (last : List ℕ) (t : ScannerState) → Goes text ws last t → Succeeds (Goes text ws last) (try_held stale t)
-  pub ends : (text last : List ℕ) (t : ScannerState) → FaresAt text t → GoesHere text [] last t → Succeeds (λ u. u.held.ended ≡ true) (fetch_here t)

@@ -1,0 +1,47 @@
+-- If the function of each token reads a step of the row, a text that has a row is not refused.
+use Rattle.std.proofs.Common.{◌≡◌, ℕ, ◌+◌, List, [], ◌∷◌, true, if◌then◌else◌, Result, Ok, Err, refl, sym, subst}
+use Rattle.yaml_tokens.specs.declared.problem.Fault.{Fault}
+use Rattle.defs_row.specs.Step.{Step}
+use Rattle.model_scanner.specs.State.{ScannerState, ◌>>=◌, on_held, try_held}
+use Rattle.model_scanner.specs.Keys.{stale}
+use Rattle.model_scanner.specs.Indents.{unroll_indent}
+use Rattle.model_scanner.specs.Space.{skip_to_next_token}
+use Rattle.model_scanner.specs.Document.{fetch_stream_start}
+use Rattle.model_scanner.specs.Fetch.{fetch_here, fetch_next, fetch}
+use Rattle.proof_cut.specs.Stands.{FaresAt}
+use Rattle.proof_row_complete.specs.Goes.{Succeeds, Goes, GoesHere, FetchReads, IsComplete}
+use Rattle.proof_row_complete.specs.EachReads.{EachReads}
+use Rattle.proof_row_complete.proofs.Runs.{read_by_row}
+use Rattle.proof_row_complete.proofs.Around.Succeeds.{and_then}
+use Rattle.proof_row_complete.proofs.Around.Arriving.{arrives}
+use Rattle.proof_row_complete.proofs.Around.Stales.{leaves}
+use Rattle.proof_row_complete.proofs.Around.Choosing.{chooses}
+use Rattle.proof_row_complete.proofs.Around.Ending.{ends, stays_over}
+
+-- what comes after two steps
+then_on : {A B C D : Type 0} (r : Result A Fault) (s : A → Result B Fault) (f : B → C) (k : C → Result D Fault) → (r >>= λ u. s u >>= λ v. k (f v)) ≡ ((r >>= λ u. s u >>= λ v. Ok (f v)) >>= k)
+then_on (Err e) s f k = refl
+then_on {B = B} (Ok u) s f k = by (s u)
+  where
+    by : (x : Result B Fault) → (x >>= λ v. k (f v)) ≡ ((x >>= λ v. Ok (f v)) >>= k)
+    by (Ok v) = refl
+    by (Err e) = refl
+
+-- a fetch, if what it does at the next piece goes on so
+fetched : (text : List ℕ) (ws : List Step) (last : List ℕ) (t : ScannerState) (P : ScannerState → Type 0) → FaresAt text t → Goes text ws last t → ((v : ScannerState) → FaresAt text v → GoesHere text ws last v → Succeeds P (fetch_here v >>= λ w. try_held stale w)) → Succeeds P (fetch t)
+unfolding fetch fetch_next
+fetched text ws last t P k g go =
+    subst (λ b. Succeeds P (if b then fetch_next t else Ok (fetch_stream_start t))) (sym g.stands.started)
+    (subst (λ r. Succeeds P r) (sym (then_on (skip_to_next_token t) (λ u. try_held stale u) (λ v. on_held (λ s. unroll_indent (s.position.col + 1) s) v) (λ v. fetch_here v >>= λ w. try_held stale w)))
+    (and_then (arrives text ws last t k g) (λ v a. go v a.0 a.1)))
+
+-- Each fetch reads a step of the row, if the function of each token does.
+pub fetch_reads : EachReads → FetchReads
+fetch_reads each = record {
+  reads = λ text w ws last t nul k g. fetched text (w ∷ ws) last t (Goes text ws last) k g (λ v c h. and_then (chooses each text w ws last v c h) (λ u x. leaves text ws last u x));
+  ends = λ text last t nul k g. fetched text [] last t (λ u. u.held.ended ≡ true) k g (λ v c h. and_then (ends text last v h) (λ u x. stays_over u x));
+}
+
+-- So a text without NUL that has a row has the row's tokens by the model.
+pub read_by_tokens : EachReads → IsComplete
+read_by_tokens each = read_by_row (fetch_reads each)
