@@ -100,7 +100,7 @@ whole_solid fl collection [] next h = absurd (cc h)
 whole_solid fl collection (c ∷ r) next h = refl
 
 -- a gap has no comment
-no_comment : (g : List ℕ) → is_gap g ≡ true → (is_one_of g 35 ≡ false) × (leading is_no_comment g ≡ g)
+pub no_comment : (g : List ℕ) → is_gap g ≡ true → (is_one_of g 35 ≡ false) × (leading is_no_comment g ≡ g)
 no_comment [] h = (refl, refl)
 no_comment (c ∷ g) h =
     let q = and_parts (is_white c) (is_gap g) h in
@@ -150,7 +150,7 @@ some_plain : (fl x : Bool) (column : ℕ) (text : List ℕ) → comes_plain fl x
 some_plain fl x column [] h = absurd (cc h)
 some_plain fl x column (c ∷ r) h = refl
 
-same_innermost : (bs : List ℕ) → innermost_column (map (λ n. Some n) bs) ≡ innermost bs
+pub same_innermost : (bs : List ℕ) → innermost_column (map (λ n. Some n) bs) ≡ innermost bs
 same_innermost [] = refl
 same_innermost (n ∷ ns) = refl
 
@@ -357,9 +357,10 @@ plain_keeps_by text t deep comes a =
     (λ r u. Ok (on_held (λ v. push t.held.position (Tok.scalar Style.plain r.text) (after_plain r.leading v)) u)))) (sym (saved_is t.held))
     (read (unroll_non_block_indents (allow_key false (record t.held { keys = saved_keys t.held }))) (plain (ctx text t a deep comes) t.rest t.held.position) _ (λ x k. went (stands text t a deep comes x k)))
 
--- the same, as the dispatch knows it
-pub plain_keeps : (text : List ℕ) (t : ScannerState) (a : Arrives text t) → IsDeep t.held → comes_plain (in_flow t.held) (is_adjacent (before_past (before_by a.base.site.before) a.separation)) t.held.position.col t.rest ≡ true → Holds (Stands text) (fetch_plain_scalar t)
-plain_keeps text t a deep comes = plain_keeps_by text t deep (by (is_empty t.held.flow) refl) a
+-- where a plain scalar is looked for by the account, the scanner looks for it too
+pub comes_as_held : (text : List ℕ) (t : ScannerState) (a : Arrives text t) → comes_plain (in_flow t.held) (is_adjacent (before_past (before_by a.base.site.before) a.separation)) t.held.position.col t.rest ≡ true →
+    comes_plain (in_flow t.held) (t.held.position.index == t.held.adjacent_value_at) t.held.position.col t.rest ≡ true
+comes_as_held text t a comes = by (is_empty t.held.flow) refl
   where
     here : Bool
     here = is_adjacent (before_past (before_by a.base.site.before) a.separation)
@@ -373,3 +374,7 @@ plain_keeps text t a deep comes = plain_keeps_by text t deep (by (is_empty t.hel
         let out : in_flow t.held ≡ false = ap not e in
         ap (λ z. comes_plain z (t.held.position.index == t.held.adjacent_value_at) t.held.position.col t.rest) out ∙
         (comes_alike (t.held.position.index == t.held.adjacent_value_at) here t.held.position.col t.rest ∙ (ap (λ z. comes_plain z here t.held.position.col t.rest) (sym out) ∙ comes))
+
+-- the same, as the dispatch knows it
+pub plain_keeps : (text : List ℕ) (t : ScannerState) (a : Arrives text t) → IsDeep t.held → comes_plain (in_flow t.held) (is_adjacent (before_past (before_by a.base.site.before) a.separation)) t.held.position.col t.rest ≡ true → Holds (Stands text) (fetch_plain_scalar t)
+plain_keeps text t a deep comes = plain_keeps_by text t deep (comes_as_held text t a comes) a

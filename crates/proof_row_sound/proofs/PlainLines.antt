@@ -107,7 +107,7 @@ same_leading c t = by t.leading refl
     by true e = rw e refl
     by false e = rw e refl
 
-white_is_no_dash : (flow apart next : Bool) (c : ℕ) → (is_break c || is_blank c) ≡ true → (flow && apart && (c == 45) && next) ≡ false
+pub white_is_no_dash : (flow apart next : Bool) (c : ℕ) → (is_break c || is_blank c) ≡ true → (flow && apart && (c == 45) && next) ≡ false
 unfolding is_break is_blank
 white_is_no_dash flow apart next c h = by flow apart (c == 45) refl
   where
@@ -117,7 +117,7 @@ white_is_no_dash flow apart next c h = by flow apart (c == 45) refl
     by true false false e = refl
     by false y false e = refl
 
-not_apart : (flow dash next : Bool) → (flow && false && dash && next) ≡ false
+pub not_apart : (flow dash next : Bool) → (flow && false && dash && next) ≡ false
 not_apart true dash next = refl
 not_apart false dash next = refl
 
@@ -373,24 +373,24 @@ module _ (ctx : Context) (start : Position) where
 
 -- ---- lines
 
-abbrev first_of : List (List ℕ) → (last : List ℕ) → List ℕ
+abbrev pub first_of : List (List ℕ) → (last : List ℕ) → List ℕ
 first_of [] last = last
 first_of (l ∷ ls) last = l
 
-abbrev first_line : List ℕ → List ℕ
+abbrev pub first_line : List ℕ → List ℕ
 first_line text = first_of (split text).complete (split text).last
 
 -- a line from a column on, with blanks alone before it
-abbrev line_is : (at column : ℕ) → List ℕ → Bool
+abbrev pub line_is : (at column : ℕ) → List ℕ → Bool
 line_is k column l = is_blanks l || not (has_tab_within (column - k) (leading classes.is_blank l))
 
-abbrev lines_are : (column : ℕ) → Spot → List ℕ → Bool
+abbrev pub lines_are : (column : ℕ) → Spot → List ℕ → Bool
 lines_are column in_text t = plain_lines_fit column t
 lines_are column (at k) t = line_is k column (first_line t) && plain_lines_fit column t
 lines_are column tabbed t = is_blanks (first_line t) && plain_lines_fit column t
 
 -- all lines: the first, and the others
-all_lines : (column : ℕ) (ls : List (List ℕ)) (last : List ℕ) → lines_have_no_tab column (ls ++ (last ∷ [])) ≡ (line_is 0 column (first_of ls last) && lines_have_no_tab column (after_first ls last))
+pub all_lines : (column : ℕ) (ls : List (List ℕ)) (last : List ℕ) → lines_have_no_tab column (ls ++ (last ∷ [])) ≡ (line_is 0 column (first_of ls last) && lines_have_no_tab column (after_first ls last))
 all_lines column [] last = rw (none_before column) refl
 all_lines column (l ∷ ls) last = rw (none_before column) refl
 
@@ -408,7 +408,7 @@ unfolding classes.is_break
 feed_line [] = refl
 feed_line (d ∷ r) = refl
 
-feed_first : (c : ℕ) (r : List ℕ) → is_before_line_feed c r ≡ true → first_line r ≡ []
+pub feed_first : (c : ℕ) (r : List ℕ) → is_before_line_feed c r ≡ true → first_line r ≡ []
 feed_first c [] h = absurd (cc h)
 feed_first c (d ∷ r) h =
     let same : d ≡ 10 = eqb-true d 10 (and_parts (c == 13) (d == 10) h).1 in
@@ -439,10 +439,10 @@ module _ (column : ℕ) (c : ℕ) (r : List ℕ) where
     split_is : split (c ∷ r) ≡ put_first c (split r).complete (split r).last
     split_is = rw no_break refl
 
-    first_is : first_line (c ∷ r) ≡ c ∷ first_line r
+    pub first_is : first_line (c ∷ r) ≡ c ∷ first_line r
     first_is = ap (λ s. first_of s.complete s.last) split_is ∙ put_first_line c (split r).complete (split r).last
 
-    others_are : plain_lines_fit column (c ∷ r) ≡ plain_lines_fit column r
+    pub others_are : plain_lines_fit column (c ∷ r) ≡ plain_lines_fit column r
     others_are = ap (λ s. lines_have_no_tab column (after_first s.complete s.last)) split_is ∙ ap (λ ls. lines_have_no_tab column ls) (put_first_others c (split r).complete (split r).last)
 
     -- a blank more, which is no TAB left of the column
