@@ -30,12 +30,12 @@ use Rattle.proof_lexers.proofs.Blocks.Written.{Break, feed, carriage, both, Line
 -- ---- the lines of a piece before further text
 
 -- a piece is its header's line and others, each with its break
-record Written (piece next : List ℕ) : Type 0 where
-  header : Line
-  lines : List Line
-  is : piece ≡ spell (header ∷ lines) []
-  are : AreLines (header ∷ lines) []
-  no_feed : (slice_index next 0 == 10) ≡ false
+pub record Written (piece next : List ℕ) : Type 0 where
+  pub header : Line
+  pub lines : List Line
+  pub is : piece ≡ spell (header ∷ lines) []
+  pub are : AreLines (header ∷ lines) []
+  pub no_feed : (slice_index next 0 == 10) ≡ false
 
 written_by : (collection : Option ℕ) (piece next : List ℕ) (b : BlockRead) (z : Lined piece) → read_lines collection (texts z.lines) z.last next false ≡ Some b → (slice_index next 0 == 10) ≡ false → Written piece next
 written_by collection piece next b z h none = by z.lines z.last z.is z.are h
@@ -48,7 +48,7 @@ written_by collection piece next b z h none = by z.lines z.last z.is z.are h
 split_is : (piece : List ℕ) (z : Lined piece) → split piece ≡ record { complete = texts z.lines; last = z.last }
 split_is piece z = ap split z.is ∙ split_spell z.lines z.last z.are z.inner
 
-written : (collection : Option ℕ) (piece next : List ℕ) (b : BlockRead) → block_read collection piece next ≡ Some b → is_at_end next ≡ false → Written piece next
+pub written : (collection : Option ℕ) (piece next : List ℕ) (b : BlockRead) → block_read collection piece next ≡ Some b → is_at_end next ≡ false → Written piece next
 written collection piece next b h e =
     let z : Lined piece = lined piece in
     let none : (slice_index next 0 == 10) ≡ false = first_is next ∙ (piece_has_line collection piece next b e h).1 in
@@ -91,7 +91,7 @@ ends_at_margin collection piece next b p h e =
     let ls : List Line = w.header ∷ w.lines in
     ap (λ x. (position_after p x next).col) w.is ∙ (ap (λ (q : Position). q.col) (after_spell ls [] next p (before_text ls next w.are w.no_feed)) ∙ margin_col w.lines (after_line w.header p) refl)
 
-spaces_col : (p : Position) (a : List ℕ) → (past_spaces p a).col ≡ p.col + leading_spaces a
+pub spaces_col : (p : Position) (a : List ℕ) → (past_spaces p a).col ≡ p.col + leading_spaces a
 spaces_col p [] = omega arith
 spaces_col p (c ∷ a) = by (c == space) refl (spaces_col (position_past p c a) a)
   where

@@ -93,13 +93,13 @@ pub record IsBlockToken (style : BlockStyle) (text : List ℕ) (tok : Tok) : Typ
   pub shown : (s : Site) (piece next : List ℕ) → shown_position s piece tok next ≡ content_position (block_read (innermost s.blocks) piece next) s.position piece next
   pub is_same : tok ≡ token_of style text
 
-block_token : (style : BlockStyle) (text : List ℕ) → IsBlockToken style text (Tok.scalar (block_style (is_literal_style style)) text)
+pub block_token : (style : BlockStyle) (text : List ℕ) → IsBlockToken style text (Tok.scalar (block_style (is_literal_style style)) text)
 block_token literal text = record { act = refl; begun = refl; before = refl; lines = λ c p. refl; precedes = λ bs p n. refl; awaits = λ bs b n. refl; shown = λ s p n. refl; is_same = refl }
 block_token folded text = record { act = refl; begun = refl; before = refl; lines = λ c p. refl; precedes = λ bs p n. refl; awaits = λ bs b n. refl; shown = λ s p n. refl; is_same = refl }
 
 -- ---- the step
 
-same_column : (bs : List ℕ) → innermost_column (map (λ n. Some n) bs) ≡ innermost bs
+pub same_column : (bs : List ℕ) → innermost_column (map (λ n. Some n) bs) ≡ innermost bs
 same_column [] = refl
 same_column (n ∷ bs) = refl
 
