@@ -11,9 +11,13 @@ use std::marker::Model;
 /// ```
 /// let mut plain: u64 = 0;
 /// let mut scanner = Scanner::new(alloc, "[a, 'b']".chars());
-/// while let Some(Token(_, token)) = scanner.next_token()? {
-///     if let TokenType::Scalar(TScalarStyle::Plain, _) = token {
-///         plain = plain.saturating_add(1);
+/// for _ in 0..u64::MAX {
+///     match scanner.next_token()? {
+///         Some(Token(_, TokenType::Scalar(TScalarStyle::Plain, _))) => {
+///             plain = plain.saturating_add(1);
+///         }
+///         Some(_) => {}
+///         None => break,
 ///     }
 /// }
 /// assert_eq!(rt; plain, 1);
