@@ -1,0 +1,3 @@
+pub mod Merging
+mod Rows
+mod Unmergeable
