@@ -3,7 +3,7 @@ use Rattle.std.proofs.Common.{◌≡◌, ◌≢◌, List, [], ◌∷◌, ◌++�
 use Rattle.std.specs.Prelude.{is_some}
 use Rattle.std.specs.Option.{option_or}
 use Rattle.std.proofs.lemmas.Bool.{true≢false}
-use Rattle.defs_tree.specs.Tree.{Tree, array, hash, Items, no_items, item, Pairs, no_pairs, pair, pairs_of, pair_list_of}
+use Rattle.defs_tree.specs.Tree.{Tree, array, hash, Items, no_items, item, Pairs, no_pairs, pair, items_of, list_of, pairs_of, pair_list_of}
 use Rattle.defs_tree.specs.Order.{tree_eq}
 use Rattle.defs_tree.specs.Pairs.{lookup, has_key, without, Lacks, AreDistinct}
 use Rattle.defs_tree.specs.Valid.{IsDistinct, AllDistinct, AllPairsDistinct}
@@ -112,11 +112,11 @@ new_pairs_distinct ps (q ∷ qs) h = new_pairs_distinct (with_new_pair ps q) qs 
 pub merged_pairs_distinct : (ps : List (Tree × Tree)) → AreDistinct ps → AreDistinct (merged_pairs ps)
 merged_pairs_distinct ps h = new_pairs_distinct (without merge_key ps) (brought (lookup merge_key ps)) (AreDistinct-without merge_key ps h)
 
-lacks_values : (k : Tree) (ps : Pairs) → Lacks k (pair_list_of ps) → Lacks k (pair_list_of (merged_values ps))
+lacks_values : (k : Tree) (ps : Pairs) → Lacks k (pair_list_of ps) → Lacks k (merged_values ps)
 lacks_values k no_pairs h = tt
 lacks_values k (pair l v ps) h = (h.0, lacks_values k ps h.1)
 
-values_distinct : (ps : Pairs) → AreDistinct (pair_list_of ps) → AreDistinct (pair_list_of (merged_values ps))
+pub values_distinct : (ps : Pairs) → AreDistinct (pair_list_of ps) → AreDistinct (merged_values ps)
 values_distinct no_pairs h = tt
 values_distinct (pair k v ps) h = (lacks_values k ps h.0, values_distinct ps h.1)
 
@@ -188,14 +188,14 @@ whole_distinct ps h g = (subst AreDistinct (sym (list_of_pairs (merged_pairs ps)
 mutual
   pub merged_distinct : (t : Tree) → IsDistinct t → IsDistinct (merged t)
   merged_distinct (array ts) h = items_distinct ts h
-  merged_distinct (hash ps) h = whole_distinct (pair_list_of (merged_values ps)) (values_distinct ps h.0) (pairs_distinct ps h.1)
+  merged_distinct (hash ps) h = whole_distinct (merged_values ps) (values_distinct ps h.0) (pairs_distinct ps h.1)
   merged_distinct t h = h
 
-  items_distinct : (ts : Items) → AllDistinct ts → AllDistinct (merged_items ts)
+  items_distinct : (ts : Items) → AllDistinct ts → AllDistinct (items_of (merged_items ts))
   items_distinct no_items h = tt
   items_distinct (item t ts) h = (merged_distinct t h.0, items_distinct ts h.1)
 
-  pairs_distinct : (ps : Pairs) → AllPairsDistinct ps → Each IsDistinct IsDistinct (pair_list_of (merged_values ps))
+  pairs_distinct : (ps : Pairs) → AllPairsDistinct ps → Each IsDistinct IsDistinct (merged_values ps)
   pairs_distinct no_pairs h = tt
   pairs_distinct (pair k v ps) h = ((h.0, merged_distinct v h.1), pairs_distinct ps h.2)
 
@@ -244,14 +244,14 @@ whole_lacks ps h g =
 mutual
   pub none_is_left : (t : Tree) → IsDistinct t → LacksMergeKeys (merged t)
   none_is_left (array ts) h = no_item_left ts h
-  none_is_left (hash ps) h = whole_lacks (pair_list_of (merged_values ps)) (values_distinct ps h.0) (no_value_left ps h.1)
+  none_is_left (hash ps) h = whole_lacks (merged_values ps) (values_distinct ps h.0) (no_value_left ps h.1)
   none_is_left t h = tt
 
-  no_item_left : (ts : Items) → AllDistinct ts → AllLackMergeKeys (merged_items ts)
+  no_item_left : (ts : Items) → AllDistinct ts → AllLackMergeKeys (items_of (merged_items ts))
   no_item_left no_items h = tt
   no_item_left (item t ts) h = (none_is_left t h.0, no_item_left ts h.1)
 
-  no_value_left : (ps : Pairs) → AllPairsDistinct ps → Each IsAny LacksMergeKeys (pair_list_of (merged_values ps))
+  no_value_left : (ps : Pairs) → AllPairsDistinct ps → Each IsAny LacksMergeKeys (merged_values ps)
   no_value_left no_pairs h = tt
   no_value_left (pair k v ps) h = ((tt, none_is_left v h.1), no_value_left ps h.2)
 
@@ -268,21 +268,25 @@ lacks_without k (p ∷ ps) h = ap (λ b. cond b ps (p ∷ without k ps)) (tree_e
 same_pairs : (ps : List (Tree × Tree)) → Lacks merge_key ps → merged_pairs ps ≡ ps
 same_pairs ps h = ap (λ o. with_new_pairs (without merge_key ps) (brought o)) (lacks_none merge_key ps h) ∙ lacks_without merge_key ps h
 
+items_of_list : (ts : Items) → items_of (list_of ts) ≡ ts
+items_of_list no_items = refl
+items_of_list (item t ts) = ap (item t) (items_of_list ts)
+
 pairs_of_list : (ps : Pairs) → pairs_of (pair_list_of ps) ≡ ps
 pairs_of_list no_pairs = refl
 pairs_of_list (pair k v ps) = ap (pair k v) (pairs_of_list ps)
 
 mutual
   pub merged_same : (t : Tree) → LacksMergeKeys t → merged t ≡ t
-  merged_same (array ts) h = ap array (items_same ts h)
+  merged_same (array ts) h = ap (λ us. array (items_of us)) (items_same ts h) ∙ ap array (items_of_list ts)
   merged_same (hash ps) h =
-      ap (λ qs. hash (pairs_of (merged_pairs (pair_list_of qs)))) (values_same ps h.1) ∙ ap (λ qs. hash (pairs_of qs)) (same_pairs (pair_list_of ps) h.0) ∙ ap hash (pairs_of_list ps)
+      ap (λ qs. hash (pairs_of (merged_pairs qs))) (values_same ps h.1) ∙ ap (λ qs. hash (pairs_of qs)) (same_pairs (pair_list_of ps) h.0) ∙ ap hash (pairs_of_list ps)
   merged_same t h = refl
 
-  items_same : (ts : Items) → AllLackMergeKeys ts → merged_items ts ≡ ts
+  items_same : (ts : Items) → AllLackMergeKeys ts → merged_items ts ≡ list_of ts
   items_same no_items h = refl
-  items_same (item t ts) h = ap (λ u. item u (merged_items ts)) (merged_same t h.0) ∙ ap (item t) (items_same ts h.1)
+  items_same (item t ts) h = ap (λ u. u ∷ merged_items ts) (merged_same t h.0) ∙ ap (λ us. t ∷ us) (items_same ts h.1)
 
-  values_same : (ps : Pairs) → ValuesLackMergeKeys ps → merged_values ps ≡ ps
+  values_same : (ps : Pairs) → ValuesLackMergeKeys ps → merged_values ps ≡ pair_list_of ps
   values_same no_pairs h = refl
-  values_same (pair k v ps) h = ap (λ u. pair k u (merged_values ps)) (merged_same v h.0) ∙ ap (pair k v) (values_same ps h.1)
+  values_same (pair k v ps) h = ap (λ u. (k, u) ∷ merged_values ps) (merged_same v h.0) ∙ ap (λ qs. (k, v) ∷ qs) (values_same ps h.1)

@@ -1,5 +1,5 @@
 -- Without merge keys there is nothing that cannot be merged.
-use Rattle.std.proofs.Common.{◌≡◌, ◌≢◌, ℕ, ◌+◌, None, refl, sym, ap, ◌∙◌}
+use Rattle.std.proofs.Common.{◌≡◌, ◌≢◌, ℕ, ◌+◌, None, refl, ap, ◌∙◌}
 use Rattle.std.specs.Prelude.{if◌then◌else◌}
 use Rattle.std.specs.Option.{option_or}
 use Rattle.defs_tree.specs.Tree.{Tree, array, hash, Items, no_items, item, Pairs, no_pairs, pair, pair_list_of}
@@ -10,7 +10,7 @@ use Rattle.defs_merge.specs.Merge.{merge_key, LacksMergeKeys, AllLackMergeKeys, 
 use Rattle.defs_merge.specs.Fault.{any_node, mappings, wanted_at, step_to, below, first_fault, first_item_fault, first_pair_fault}
 
 any_is_wanted : (k : Tree) → merge_key ≢ k → wanted_at k ≡ any_node
-any_is_wanted k n = ap (λ b. if b then mappings else any_node) (tree_eq-other k merge_key (λ e. n (sym e)))
+any_is_wanted k n = ap (λ b. if b then mappings else any_node) (tree_eq-other merge_key k n)
 
 mutual
   pub no_fault : (t : Tree) → LacksMergeKeys t → first_fault any_node t ≡ None

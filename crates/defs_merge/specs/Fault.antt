@@ -14,7 +14,7 @@ pub data Wanted : Type 0 where
 
 -- as the value of this key
 abbrev pub wanted_at : Tree → Wanted
-wanted_at k = if tree_eq k merge_key then mappings else any_node
+wanted_at k = if tree_eq merge_key k then mappings else any_node
 
 -- The step to the value of a pair: by its key if that is a string, or else by the pair's place, counted from 0.
 abbrev pub step_to : ℕ → Tree → Step

@@ -1,7 +1,7 @@
 -- Merge keys: the value of a key `<<` is a mapping, or a sequence of mappings, whose pairs are put into the mapping that has the key.
 -- The merge key of YAML 1.1 (yaml.org/type/merge.html). YAML 1.2 leaves it out. Aliases are read before, so the mappings stand there in full.
 use Rattle.std.specs.Prelude.{if◌then◌else◌, List, [], ◌∷◌, ◌++◌, Option, Some, codes}
-use Rattle.defs_tree.specs.Tree.{Tree, string, array, hash, Items, no_items, item, Pairs, no_pairs, pair, pairs_of, pair_list_of}
+use Rattle.defs_tree.specs.Tree.{Tree, string, array, hash, Items, no_items, item, Pairs, no_pairs, pair, items_of, pairs_of, pair_list_of}
 use Rattle.defs_tree.specs.Pairs.{lookup, has_key, without, Lacks}
 
 abbrev pub merge_key : Tree
@@ -36,17 +36,17 @@ merged_pairs ps = with_new_pairs (without merge_key ps) (brought (lookup merge_k
 abbrev mutual
   -- A tree in which all merge keys were carried out, those of inner mappings before those of outer ones. Keys stay as they are.
   pub merged : Tree → Tree
-  merged (array ts) = array (merged_items ts)
-  merged (hash ps) = hash (pairs_of (merged_pairs (pair_list_of (merged_values ps))))
+  merged (array ts) = array (items_of (merged_items ts))
+  merged (hash ps) = hash (pairs_of (merged_pairs (merged_values ps)))
   merged t = t
 
-  pub merged_items : Items → Items
-  merged_items no_items = no_items
-  merged_items (item t ts) = item (merged t) (merged_items ts)
+  pub merged_items : Items → List Tree
+  merged_items no_items = []
+  merged_items (item t ts) = merged t ∷ merged_items ts
 
-  pub merged_values : Pairs → Pairs
-  merged_values no_pairs = no_pairs
-  merged_values (pair k v ps) = pair k (merged v) (merged_values ps)
+  pub merged_values : Pairs → List (Tree × Tree)
+  merged_values no_pairs = []
+  merged_values (pair k v ps) = (k, merged v) ∷ merged_values ps
 
 abbrev mutual
   -- no mapping in the tree has a merge key; keys are not looked into

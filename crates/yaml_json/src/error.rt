@@ -57,17 +57,20 @@ impl fmt::Display for NoJson {
     fn fmt<W: fmt::Write>(&self, f: &mut fmt::Formatter<W>) -> fmt::Result {
         f.write_str("$")?;
         for step in &self.path {
-            write_step(f, step)?;
+            write!(f, "{step}")?;
         }
         write!(f, ": {}", self.reason)
     }
 }
 
-fn write_step<W: fmt::Write>(f: &mut fmt::Formatter<W>, step: &Step) -> fmt::Result {
-    f.write_str("[")?;
-    match step {
-        Step::Index(index) => write!(f, "{index}")?,
-        Step::Key(key) => write_double_quoted(f, key.as_str())?,
+// A place as `[1]`, and a key as the JSON string of its text: `["port"]`.
+impl fmt::Display for Step {
+    fn fmt<W: fmt::Write>(&self, f: &mut fmt::Formatter<W>) -> fmt::Result {
+        f.write_str("[")?;
+        match self {
+            Step::Index(index) => write!(f, "{index}")?,
+            Step::Key(key) => write_double_quoted(f, key.as_str())?,
+        }
+        f.write_str("]")
     }
-    f.write_str("]")
 }

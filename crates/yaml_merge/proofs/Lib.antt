@@ -1,0 +1,3 @@
+pub mod MergeKey
+pub mod PutLemmas
+pub mod WritableLemmas

@@ -1,0 +1,5 @@
+pub mod Found
+pub mod Outcome
+pub use Rattle.defs_merge.specs.Fault
+pub use Rattle.defs_merge.specs.Laws
+pub use Rattle.defs_merge.specs.Merge
