@@ -6,7 +6,7 @@ use Rattle.yaml_tokens.specs.declared.problem.Fault.TheVariants.{At}
 use Rattle.yaml_tokens.specs.declared.problem.Problem.TheVariants as problem
 use Rattle.defs_text.specs.Classes.{is_blank, is_break, is_nul, is_blank_or_end, is_flow, is_document_marker}
 use Rattle.defs_text.specs.Position.{position_after}
-use Rattle.defs_text.specs.Text.{is_empty}
+use Rattle.defs_text.specs.Text.{is_empty, has_no_nul}
 use Rattle.defs_token.specs.Account.{is_adjacent}
 use Rattle.defs_token.specs.Account as piece_account
 use Rattle.defs_token.specs.Piece.{IsPiece}
@@ -21,7 +21,6 @@ use Rattle.model_scanner.specs.State.{Key, ScannerState, peek, after, in_flow}
 use Rattle.model_scanner.specs.Fetch.{fetch_token, comes_marker, fetch_indented, fetch_first_column, fetch_content, fetch_here}
 use Rattle.proof_ends.specs.Ends.{nothing, directive_line, kind_at, kind_of}
 use Rattle.proof_ends.proofs.Begins.{Whole, context_of, piece_of, texts_begin}
-use Rattle.proof_lexers.specs.PlainEnds.{has_no_nul}
 use Rattle.proof_row.proofs.Written.{At as SiteAt, not_empty, is_marker_kind, marker_by_kind}
 use Rattle.proof_cut.specs.Stands.{FaresAt}
 use Rattle.proof_cut.proofs.Nodes.{IsDeep}
