@@ -34,7 +34,6 @@ use crate::find::first_fault;
 use crate::value::write_value;
 pub use error::{JsonError, NoJson, Reason, Step};
 use std::alloc::Global;
-pub use string::write_string;
 use yaml_emitter::Writer;
 use yaml_tree::Yaml;
 
