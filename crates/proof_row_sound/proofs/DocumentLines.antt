@@ -16,7 +16,7 @@ use Rattle.defs_row.specs.Lines.{further_lines_stand}
 use Rattle.defs_row.specs.Following.{may_precede}
 use Rattle.defs_row.specs.Key.{Line, free, taken, begins_free_line, line_past as line_of_piece}
 use Rattle.defs_row.specs.FlowEntry.{Had, fresh, filled, waits, settled, Pair, Entry, is_keyed, takes_pair, pair_past, with_had, had_after, renewed, begun_by, is_renewed, entries_past}
-use Rattle.defs_row.specs.Account.{Site, before_by, site_in, is_deep_enough, least_for, seen}
+use Rattle.defs_row.specs.Account.{Site, Account, before_by, site_in, is_deep_enough, least_for, seen}
 use Rattle.defs_row.specs.Tokens.{put, shown_position, ends_at, begun_outside, pair_position, begun_inside, colon_of}
 use Rattle.model_scanner.specs.declared.level.Indent.{Indent}
 use Rattle.model_scanner.specs.declared.level.FlowLevel.{FlowLevel}
@@ -29,15 +29,15 @@ use Rattle.proof_row_sound.specs.Arrives.{Arrives}
 use Rattle.proof_row_sound.specs.Stands.{columns, AreCollections, AreLevels, IsTopLevel, IsReadOn, AreNumbered, Stands}
 use Rattle.proof_row_sound.proofs.Around.{tokens_before}
 use Rattle.proof_row_sound.proofs.Arrivals.{some_rest, numbered_more, numbered_around}
-use Rattle.proof_row_sound.proofs.EntryPieces.{tokens_inside, GoesInside, goes_inside}
+use Rattle.proof_row_sound.proofs.EntryPieces.{site_inside, tokens_inside, GoesInside, goes_inside_at}
 use Rattle.proof_row_sound.proofs.FlowMarks.{may_be_none}
 use Rattle.proof_row_sound.proofs.Gone.{key_gone}
 use Rattle.proof_row_sound.proofs.NodeTokens.{past_step}
 use Rattle.proof_row_sound.proofs.NodesInside.{not_keyed}
-use Rattle.proof_row_sound.proofs.OutsidePieces.{tokens_then, ReadOutside, read_outside}
+use Rattle.proof_row_sound.proofs.OutsidePieces.{site_then, tokens_then, ReadOutside, read_outside_at}
 use Rattle.proof_row_sound.proofs.KeyStarts.{one_more}
 use Rattle.proof_row_sound.proofs.Standing.{all_true}
-use Rattle.proof_row_sound.proofs.Sides.{with_entries, ArrivesBy, ArrivesOutside, ArrivesInside, arrives_side}
+use Rattle.proof_row_sound.proofs.Sides.{with_entries, ArrivesBy, ArrivesOutside, ArrivesInside, arrives_side, StandsAt}
 use Rattle.proof_row_sound.proofs.StreamEnds.{ends_of, positive, all_levels, shorter}
 
 -- What is said of the token of a document marker or a directive.
@@ -97,6 +97,11 @@ line_begun s u e = subst (λ (h : Held). Holds (λ v. (is_required (top_key u.ke
     by true i = refused
     by false i = went (i, refl)
 
+-- and it is not refused, if the innermost key need not be one
+pub line_begins : (s u : Held) → unroll_indent 0 s ≡ u → is_required (top_key u.keys) ≡ false → begin_line s ≡ Ok (begun_from u)
+unfolding begin_line remove_implicit_key
+line_begins s u e none = ap (λ (h : Held). closed_key (remove_implicit_key h)) e ∙ ap (λ b. closed_key (if b then Err (At problem.KeyExpected u.position) else Ok (record u { keys = with_top None u.keys }))) none
+
 -- all levels have ended
 abbrev pub all_ended : Held → Held
 all_ended s = record s { indent = 0; indents = []; tokens = s.tokens ++ ends_of (length (columns s.indent s.indents)) s.position }
@@ -144,10 +149,16 @@ marker_line : (must : Bool) (here : Position) (bs : List ℕ) (l : Line) → (l 
 marker_line must here bs l (inl e) = rw e refl
 marker_line must here bs l (inr e) = rw e refl
 
-line_stands : (text : List ℕ) (t : ScannerState) (d : Read) (a : ArrivesBy text t [] (None ∷ []) []) → IsRead t d → t.held.flow ≡ [] → with_top None t.held.keys ≡ None ∷ [] → Stands text (line_past t (begun_from (all_ended t.held)) d)
+-- the account after it, where no key is open
+abbrev pub line_base : Read → (here : Position) → Site → Account
+line_base d here s = with_entries (site_then (site_in false gives_marker here s) d.piece d.tok (next_of d) (record { line = taken; blocks = [] })) taken []
+
+line_stands : (text : List ℕ) (t : ScannerState) (d : Read) (a : ArrivesBy text t [] (None ∷ []) []) → IsRead t d → t.held.flow ≡ [] → with_top None t.held.keys ≡ None ∷ [] → StandsAt text (line_base d t.held.position a.site) d.gap (line_past t (begun_from (all_ended t.held)) d)
 line_stands text t d a r flow keys =
-    read_outside text t (line_past t (begun_from (all_ended t.held)) d) a d.piece (next_of d) d.tok (record { line = taken; blocks = [] })
-    (subst (λ y. ReadOutside text t (line_past t (begun_from (all_ended t.held)) d) a d.piece (next_of d) d.tok (record { line = taken; blocks = [] }) y) (sym (ap (λ k. site_in false k t.held.position a.site) r.token.act)) (record {
+    subst (λ y. (z : ReadOutside text t (line_past t (begun_from (all_ended t.held)) d) a d.piece (next_of d) d.tok (record { line = taken; blocks = [] }) y) →
+    StandsAt text (with_entries (site_then y d.piece d.tok (next_of d) (record { line = taken; blocks = [] })) taken []) z.ends.separation (line_past t (begun_from (all_ended t.held)) d))
+    (ap (λ k. site_in false k t.held.position a.site) r.token.act) (read_outside_at text t (line_past t (begun_from (all_ended t.held)) d) a d.piece (next_of d) d.tok (record { line = taken; blocks = [] }))
+    (record {
       is_solid = r.is_solid;
       is_piece = subst (λ p. IsPiece (seen (with_entries a.site a.line []) x a.separation) d.piece (next_of d) None p d.tok) (sym (r.token.shown x d.piece (next_of d))) (r.is_piece (seen (with_entries a.site a.line []) x a.separation) r.at_margin refl);
       stands = all_true (is_indented_by_spaces a.site.before a.site.blocks a.site.awaits a.separation) true (further_lines_stand (least_for d.tok x) d.tok d.piece) (may_precede false x.blocks d.tok d.piece (next_of d))
@@ -175,7 +186,7 @@ line_stands text t d a r flow keys =
         started = a.started;
         going = a.going;
       };
-    }))
+    })
   where
     x : Site
     x = site_in false gives_marker t.held.position a.site
@@ -227,10 +238,18 @@ had_settled again h k kind pair here xs = by again (takes_pair kind pair) h k
 marker_past : (n : ℕ) (p : Position) (w : Step) (ws : List Step) (last : List ℕ) → act_of w.shown ≡ gives_marker → begun_by w.shown ≡ [] → colon_of n p (w ∷ ws) last ≡ colon_of n (past_step p w ws last) ws last
 marker_past n p w ws last e f = rw (e, f) refl
 
+-- no key of the entry waits after it, and none may begin
+abbrev pub entry_settled : Entry → Entry
+entry_settled e = record { kind = e.kind; pair = e.pair; had = settled }
+
+-- the account after it in flow
+abbrev pub line_base_inside : Read → (here : Position) → Site → Line → Entry → (around : List Entry) → Account
+line_base_inside d here s l e es = with_entries (site_inside (site_in true gives_marker here s) d.piece d.tok (next_of d)) l (entry_settled e ∷ es)
+
 line_goes : (text : List ℕ) (t : ScannerState) (d : Read) (f : FlowLevel) (fs : List FlowLevel) (k : Option Key) (ks : List (Option Key)) (e : Entry) (es : List Entry) (a : ArrivesBy text t (f ∷ fs) (k ∷ ks) (e ∷ es)) → IsRead t d → t.held.flow ≡ f ∷ fs → with_top None t.held.keys ≡ None ∷ ks →
-    Stands text (line_past t (begun_from t.held) d)
+    StandsAt text (line_base_inside d t.held.position a.site a.line e es) d.gap (line_past t (begun_from t.held) d)
 line_goes text t d f fs k ks e es a r flow keys =
-    goes_inside text t (line_past t (begun_from t.held) d) f f fs k ks e (record { kind = e.kind; pair = e.pair; had = settled }) es a d.piece (next_of d) d.tok (record {
+    goes_inside_at text t (line_past t (begun_from t.held) d) f f fs k ks e (entry_settled e) es a d.piece (next_of d) d.tok (record {
       is_solid = r.is_solid;
       cut = r.cut;
       separation = d.gap;
@@ -252,7 +271,7 @@ line_goes text t d f fs k ks e es a r flow keys =
       adjacent_is = refl;
       started = a.started;
       going = a.going;
-    }) (subst (λ y. GoesInside text t (line_past t (begun_from t.held) d) f fs k ks e (record { kind = e.kind; pair = e.pair; had = settled }) es a d.piece (next_of d) d.tok y) (sym (ap (λ x. site_in true x t.held.position a.site) r.token.act)) (record {
+    }) (subst (λ y. GoesInside text t (line_past t (begun_from t.held) d) f fs k ks e (entry_settled e) es a d.piece (next_of d) d.tok y) (sym (ap (λ x. site_in true x t.held.position a.site) r.token.act)) (record {
       in_line = r.in_line;
       begun = r.token.begun;
       is_piece = subst (λ p. IsPiece (seen (with_entries a.site a.line (e ∷ es)) x a.separation) d.piece (next_of d) None p d.tok) (sym (r.token.shown x d.piece (next_of d))) (r.is_piece (seen (with_entries a.site a.line (e ∷ es)) x a.separation) r.at_margin refl);
@@ -285,6 +304,16 @@ line_goes text t d f fs k ks e es a r flow keys =
 
 -- ---- both
 
+-- outside flow, if no key must be one
+pub outside_at : (text : List ℕ) (t : ScannerState) (o : ArrivesOutside text t) → is_empty t.rest ≡ false → is_required (top_key t.held.keys) ≡ false → (d : Read) → IsRead t d →
+    StandsAt text (line_base d t.held.position o.here.site) d.gap (line_past t (begun_from (all_ended t.held)) d)
+unfolding key_gone
+outside_at text t o some none d r = line_stands text t d (key_gone text t o.key o.here some (may_be_none o.key [] t.held.keys t.held.position t.rest o.keys_are none)) r o.flow_is (ap (with_top None) o.keys_are)
+
+-- in flow
+pub inside_at : (text : List ℕ) (t : ScannerState) (i : ArrivesInside text t) (d : Read) → IsRead t d → StandsAt text (line_base_inside d t.held.position i.here.site i.here.line i.entry i.entries) d.gap (line_past t (begun_from t.held) d)
+inside_at text t i d r = line_goes text t d i.level i.levels i.key i.keys i.entry i.entries i.here r i.flow_is (ap (with_top None) i.keys_are)
+
 -- What begins such a line, and what holds after it.
 pub record Begins (text : List ℕ) (t : ScannerState) : Type 0 where
   pub held : Held
@@ -300,11 +329,11 @@ begins text t some a = by (arrives_side text t a)
       held = all_ended t.held;
       rolled = unrolled_outside t.held (ap (λ fs. not (is_empty fs)) o.flow_is) o.here.are_levels;
       same_position = refl;
-      stands = λ d r none. line_stands text t d (key_gone text t o.key o.here some (may_be_none o.key [] t.held.keys t.held.position t.rest o.keys_are none)) r o.flow_is (ap (with_top None) o.keys_are);
+      stands = λ d r none. (outside_at text t o some none d r).stands;
     }
     by (inr i) = record {
       held = t.held;
       rolled = unrolled_inside t.held (ap (λ fs. not (is_empty fs)) i.flow_is);
       same_position = refl;
-      stands = λ d r none. line_goes text t d i.level i.levels i.key i.keys i.entry i.entries i.here r i.flow_is (ap (with_top None) i.keys_are);
+      stands = λ d r none. (inside_at text t i d r).stands;
     }

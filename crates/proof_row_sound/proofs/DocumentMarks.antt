@@ -47,10 +47,10 @@ and_no false = refl
 start_token : IsDocumentToken Tok.document_start
 start_token = record { act = refl; begun = refl; shown = λ s p n. refl; lines = λ c p. refl; awaits_inside = λ bs b n. refl; awaits_outside = λ bs b n. and_no b; before = refl }
 
-abbrev start_read : (more : List ℕ) → Position → lines.Read
+abbrev pub start_read : (more : List ℕ) → Position → lines.Read
 start_read more p = record { tok = Tok.document_start; piece = 45 ∷ 45 ∷ 45 ∷ []; gap = []; rest = more; end = past (past (past p)); leading = false }
 
-start_is_read : (t : ScannerState) (more : List ℕ) (p : Position) → p ≡ t.held.position → t.rest ≡ 45 ∷ 45 ∷ 45 ∷ more → is_at_gap more ≡ true → t.held.position.col ≡ 0 → IsRead t (start_read more p)
+pub start_is_read : (t : ScannerState) (more : List ℕ) (p : Position) → p ≡ t.held.position → t.rest ≡ 45 ∷ 45 ∷ 45 ∷ more → is_at_gap more ≡ true → t.held.position.col ≡ 0 → IsRead t (start_read more p)
 unfolding is_break
 start_is_read t more p same e gap col = record {
   token = start_token;
@@ -84,10 +84,10 @@ document_start_keeps text more t a e gap col =
 end_token : IsDocumentToken Tok.document_end
 end_token = record { act = refl; begun = refl; shown = λ s p n. refl; lines = λ c p. refl; awaits_inside = λ bs b n. refl; awaits_outside = λ bs b n. and_no b; before = refl }
 
-abbrev end_read : (more : List ℕ) → Position → lines.Read
+abbrev pub end_read : (more : List ℕ) → Position → lines.Read
 end_read more p = record { tok = Tok.document_end; piece = 46 ∷ 46 ∷ 46 ∷ []; gap = blanks_and_comment more; rest = past_blanks_and_comment more; end = past_line_rest (past (past (past p))) more; leading = false }
 
-end_is_read : (t : ScannerState) (more : List ℕ) (p : Position) → p ≡ t.held.position → t.rest ≡ 46 ∷ 46 ∷ 46 ∷ more → is_at_gap more ≡ true → t.held.position.col ≡ 0 → line_is_done (blanks_and_comment more ++ past_blanks_and_comment more) ≡ true → IsRead t (end_read more p)
+pub end_is_read : (t : ScannerState) (more : List ℕ) (p : Position) → p ≡ t.held.position → t.rest ≡ 46 ∷ 46 ∷ 46 ∷ more → is_at_gap more ≡ true → t.held.position.col ≡ 0 → line_is_done (blanks_and_comment more ++ past_blanks_and_comment more) ≡ true → IsRead t (end_read more p)
 unfolding is_break
 end_is_read t more p same e gap col done =
     let g : List ℕ = blanks_and_comment more in
@@ -117,7 +117,7 @@ done_there more clean hash ends =
     is_done g r (line_rest_fills more) (no_break_alike g (line_rest_in_line more)) (at_end_of r ends) (clean_after g r (subst (λ l. has_no_nul l ≡ true) (line_rest_cut more) clean)) (subst (λ l. begins_with 35 l ≡ false) (line_rest_cut more) hash)
 
 -- the state after the marker
-abbrev marked : ScannerState → Held → (rest : List ℕ) → ScannerState
+abbrev pub marked : ScannerState → Held → (rest : List ℕ) → ScannerState
 marked t h r = on_held (push t.held.position Tok.document_end) (skip_indicator (skip_indicator (skip_indicator (record { rest = r; held = begun_from h }))))
 
 -- `...`, after which the line holds no more
@@ -206,10 +206,10 @@ directive_precedes (version major minor) fl bs piece next = refl
 directive_precedes (tag_declaration handle prefix) fl bs piece next = refl
 directive_precedes reserved fl bs piece next = refl
 
-abbrev directive_read : (line next : List ℕ) → Directive → Position → lines.Read
+abbrev pub directive_read : (line next : List ℕ) → Directive → Position → lines.Read
 directive_read line next d p = record { tok = token_of d; piece = 37 ∷ line; gap = first_break next; rest = next_line next; end = position_after p ((37 ∷ line) ++ first_break next) (next_line next); leading = true }
 
-directive_is_read : (t : ScannerState) (line next : List ℕ) (d : Directive) → t.rest ≡ 37 ∷ (line ++ next) → has_no_break line ≡ true → ends_line next ≡ true → directive_of (37 ∷ line) ≡ Some d → t.held.position.col ≡ 0 → IsRead t (directive_read line next d t.held.position)
+pub directive_is_read : (t : ScannerState) (line next : List ℕ) (d : Directive) → t.rest ≡ 37 ∷ (line ++ next) → has_no_break line ≡ true → ends_line next ≡ true → directive_of (37 ∷ line) ≡ Some d → t.held.position.col ≡ 0 → IsRead t (directive_read line next d t.held.position)
 directive_is_read t line next d e no_break ends is col = record {
   token = directive_token d;
   at_margin = col;
@@ -233,7 +233,7 @@ directive_is_read t line next d e no_break ends is col = record {
     or_yes false = refl
 
 -- the scanner after a directive
-abbrev after_it : ScannerState → machine.Read Tok → Held → ScannerState
+abbrev pub after_it : ScannerState → machine.Read Tok → Held → ScannerState
 after_it t x h = record { rest = x.rest; held = record h { position = x.position; leading = true; tokens = (push t.held.position x.value h).tokens } }
 
 -- `%`
