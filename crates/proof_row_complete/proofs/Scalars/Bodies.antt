@@ -227,15 +227,15 @@ module _ (single : Bool) (ctx : Context) (start : Position) (column : ℕ) (limi
 -- ---- the whole scalar
 
 -- the scan succeeds with this value and this rest
-pub record QuotedReads (single : Bool) (ctx : Context) (body next value : List ℕ) (p : Position) : Type 0 where
+pub record Scanned (single : Bool) (ctx : Context) (body next value : List ℕ) (p : Position) : Type 0 where
   pub position : Position
   pub is : quoted single ctx (quote_of single ∷ (body ++ quote_of single ∷ next)) p ≡ Ok (record { rest = next; position = position; value = value })
 
 -- A body with a value, whose further lines are indented, is read where it may begin.
-pub quoted_reads : (single : Bool) (ctx : Context) (body next value : List ℕ) (p : Position) → value_of single body ≡ Some value → ends_before single next ≡ true → ctx.indent ≤ p.col + 1 →
-    quoted_lines_fit (ctx.indent - 1) (element_of single) (quote_of single ∷ (body ++ quote_of single ∷ [])) ≡ true → QuotedReads single ctx body next value p
+pub quoted_scanned : (single : Bool) (ctx : Context) (body next value : List ℕ) (p : Position) → value_of single body ≡ Some value → ends_before single next ≡ true → ctx.indent ≤ p.col + 1 →
+    quoted_lines_fit (ctx.indent - 1) (element_of single) (quote_of single ∷ (body ++ quote_of single ∷ [])) ≡ true → Scanned single ctx body next value p
 unfolding quoted
-quoted_reads single ctx body next value p is ends deep fit = by (bodies_are_read single ctx body next value p is ends)
+quoted_scanned single ctx body next value p is ends deep fit = by (bodies_are_read single ctx body next value p is ends)
   where
     es : List Element
     es = (has_elements single body value is).0
@@ -263,6 +263,6 @@ quoted_reads single ctx body next value p is ends deep fit = by (bodies_are_read
         clear_on single ctx p (ctx.indent - 1) limit some next ends _ _ opened
         (at_line single ctx p (ctx.indent - 1) limit some next ends 0 body es gap (past p) nothing has in_gap (deep_lines (p.col + 1) (ctx.indent - 1) false (lines_of es) here lines)) s
 
-    by : IsRead ctx p value next (quoted single ctx (quote_of single ∷ (body ++ quote_of single ∷ next)) p) → QuotedReads single ctx body next value p
+    by : IsRead ctx p value next (quoted single ctx (quote_of single ∷ (body ++ quote_of single ∷ next)) p) → Scanned single ctx body next value p
     by (read position e) = record { position = position; is = e }
     by (shallow s) = absurd (never s)

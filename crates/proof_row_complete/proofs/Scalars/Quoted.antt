@@ -49,7 +49,7 @@ use Rattle.proof_row_complete.proofs.Around.Separations.{separation_of, text_aft
 use Rattle.proof_row_complete.proofs.Around.Asks.{asks}
 use Rattle.proof_row_complete.proofs.Around.Passing.{is_spaced, begins_none}
 use Rattle.proof_row_complete.proofs.Around.Skips.{separation_skipped}
-use Rattle.proof_row_complete.proofs.Scalars.Bodies.{QuotedReads, quoted_reads}
+use Rattle.proof_row_complete.proofs.Scalars.Bodies.{Scanned, quoted_scanned}
 use Rattle.proof_row_complete.proofs.Scalars.AfterQuoted.{check_passes}
 
 -- ---- the row's piece
@@ -220,8 +220,8 @@ module _ (text : List ℕ) (w : Step) (ws : List Step) (last : List ℕ) (t : Sc
   cut : t.rest ≡ piece_of single own.body ++ after_it
   cut = sym first.1 ∙ ap (λ p. p ++ after_it) own.piece_is
 
-  scanned : QuotedReads single (context t.held) own.body after_it own.value t.held.position
-  scanned = quoted_reads single (context t.held) own.body after_it own.value t.held.position own.value_is own.ends deep fits
+  scanned : Scanned single (context t.held) own.body after_it own.value t.held.position
+  scanned = quoted_scanned single (context t.held) own.body after_it own.value t.held.position own.value_is own.ends deep fits
 
   abbrev x : machine.Read (List ℕ)
   x = record { rest = after_it; position = scanned.position; value = own.value }
@@ -315,8 +315,8 @@ module _ (text : List ℕ) (w : Step) (ws : List Step) (last : List ℕ) (t : Sc
           subst (λ y. IsFine (y >>= λ z. skip_to_next_token z >>= λ u. Ok (on_held (λ s. push t.held.position (Tok.scalar (quoted_style single) own.value) (adjacent_here s)) u))) (sym v.is) (and_then (skips v.value c) (λ u _. went tt))
 
 -- The function of quoted scalars reads the step, if the row goes on here.
-pub quoted_reads_step : (text : List ℕ) (w : Step) (ws : List Step) (last : List ℕ) (t : ScannerState) (single : Bool) (more : List ℕ) → t.rest ≡ quote_of single ∷ more → IsDeep t.held → Reads text w ws last t (fetch_flow_scalar single)
-quoted_reads_step text w ws last t single more e deep g =
+pub quoted_reads : (text : List ℕ) (w : Step) (ws : List Step) (last : List ℕ) (t : ScannerState) (single : Bool) (more : List ℕ) → t.rest ≡ quote_of single ∷ more → IsDeep t.held → Reads text w ws last t (fetch_flow_scalar single)
+quoted_reads text w ws last t single more e deep g =
     by (left (fine_holds (fine text w ws last t single more e deep g) (quoted_node text single t more e deep g.arrives)))
   where
     by : Left (ReadNode text t) (fetch_flow_scalar single t) → Succeeds (Goes text ws last) (fetch_flow_scalar single t)
