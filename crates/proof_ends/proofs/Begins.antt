@@ -140,16 +140,16 @@ directive_begins (c ∷ r) d e = by (c == 37) refl e
     by false f g = absurd (cc g)
 
 -- at a document marker
-marked : (a : Context) (c : ℕ) (x : List ℕ) → are_marks c c c ≡ true → a.column ≡ 0 → is_at_gap x ≡ true → begins_plain a.in_flow a.adjacent a.column (c ∷ c ∷ c ∷ x) ≡ false
+pub marked : (a : Context) (c : ℕ) (x : List ℕ) → are_marks c c c ≡ true → a.column ≡ 0 → is_at_gap x ≡ true → begins_plain a.in_flow a.adjacent a.column (c ∷ c ∷ c ∷ x) ≡ false
 marked a c x m f g =
     let marker : is_document_marker (c ∷ c ∷ c ∷ x) ≡ true = joined _ _ m g in
     neither_plain (may_begin a.in_flow a.adjacent c (c ∷ c ∷ x)) ((a.column == 0) && is_document_marker (c ∷ c ∷ c ∷ x)) (joined (a.column == 0) _ (ap (λ z. z == 0) f) marker)
 
-dash_marks : are_marks 45 45 45 ≡ true
+pub dash_marks : are_marks 45 45 45 ≡ true
 unfolding are_marks
 dash_marks = refl
 
-dot_marks : are_marks 46 46 46 ≡ true
+pub dot_marks : are_marks 46 46 46 ≡ true
 unfolding are_marks
 dot_marks = refl
 

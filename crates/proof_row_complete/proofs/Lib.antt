@@ -1,7 +1,8 @@
 pub mod Around
+pub mod Complete
+pub mod Documents
 pub mod Indicators
 pub mod KindsOfPieces
-pub mod Complete
 pub mod Nodes
 pub mod Pieces
 pub mod Runs

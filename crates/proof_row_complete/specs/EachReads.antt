@@ -15,6 +15,7 @@ use Rattle.model_scanner.specs.Block.{fetch_block_entry, fetch_key, fetch_value}
 use Rattle.model_scanner.specs.Document.{fetch_directive, fetch_document_marker, fetch_document_end, fetch_anchor, fetch_tag, fetch_block_scalar, fetch_flow_scalar, fetch_plain_scalar}
 use Rattle.model_scanner.specs.Fetch.{is_value}
 use Rattle.proof_cut.specs.PiecesRead.{comes_plain}
+use Rattle.proof_cut.specs.Stands.{FaresAt}
 use Rattle.proof_cut.proofs.Nodes.{IsDeep}
 use Rattle.proof_row_sound.proofs.KeysBefore.{KeysBefore}
 use Rattle.proof_row_complete.specs.Goes.{Succeeds, Goes, GoesHere}
@@ -41,7 +42,7 @@ pub record EachReads : Type 0 where
   pub close_bracket : (text : List ℕ) (w : Step) (ws : List Step) (last : List ℕ) (t : ScannerState) (more : List ℕ) → t.rest ≡ 93 ∷ more → IsDeep t.held → Reads text w ws last t (fetch_flow_collection_end Tok.flow_sequence_end)
   pub close_brace : (text : List ℕ) (w : Step) (ws : List Step) (last : List ℕ) (t : ScannerState) (more : List ℕ) → t.rest ≡ 125 ∷ more → IsDeep t.held → Reads text w ws last t (fetch_flow_collection_end Tok.flow_mapping_end)
   pub comma : (text : List ℕ) (w : Step) (ws : List Step) (last : List ℕ) (t : ScannerState) (more : List ℕ) → t.rest ≡ 44 ∷ more → IsDeep t.held → Reads text w ws last t fetch_flow_entry
-  pub directive : (text : List ℕ) (w : Step) (ws : List Step) (last : List ℕ) (t : ScannerState) (more : List ℕ) → t.rest ≡ 37 ∷ more → t.held.position.col ≡ 0 → Reads text w ws last t fetch_directive
+  pub directive : (text : List ℕ) (w : Step) (ws : List Step) (last : List ℕ) (t : ScannerState) (more : List ℕ) → FaresAt text t → t.rest ≡ 37 ∷ more → t.held.position.col ≡ 0 → Reads text w ws last t fetch_directive
   pub document_start : (text : List ℕ) (w : Step) (ws : List Step) (last : List ℕ) (t : ScannerState) (more : List ℕ) → t.rest ≡ 45 ∷ 45 ∷ 45 ∷ more → is_at_gap more ≡ true → t.held.position.col ≡ 0 → Reads text w ws last t (fetch_document_marker Tok.document_start)
   pub document_end : (text : List ℕ) (w : Step) (ws : List Step) (last : List ℕ) (t : ScannerState) (more : List ℕ) → t.rest ≡ 46 ∷ 46 ∷ 46 ∷ more → is_at_gap more ≡ true → t.held.position.col ≡ 0 → Reads text w ws last t fetch_document_end
   pub plain : (text : List ℕ) (w : Step) (ws : List Step) (last : List ℕ) (t : ScannerState) (g : GoesHere text (w ∷ ws) last t) → IsDeep t.held → comes_plain (in_flow t.held) (is_adjacent (before_here text (w ∷ ws) last t g)) t.held.position.col t.rest ≡ true → Succeeds (Goes text ws last) (fetch_plain_scalar t)

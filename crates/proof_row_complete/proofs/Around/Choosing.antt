@@ -204,7 +204,7 @@ module _ (each : EachReads) (text : List ℕ) (w : Step) (ws : List Step) (last 
   first_goes : t.held.position.col ≡ 0 → Succeeds (Goes text ws last) (fetch_first_column t)
   unfolding fetch_first_column
   first_goes col =
-      either (peek t.rest == 37) (λ e. each.directive text w ws last t (after t.rest) (begins_with_this t.rest 37 some e) col g) (λ n.
+      either (peek t.rest == 37) (λ e. each.directive text w ws last t (after t.rest) k (begins_with_this t.rest 37 some e) col g) (λ n.
       either (comes_marker 45 t.rest) (λ e. let m : Marked 45 t.rest = marked 45 t.rest refl e in each.document_start text w ws last t m.more m.is_text m.gap col g) (λ x.
       either (comes_marker 46 t.rest) (λ e. let m : Marked 46 t.rest = marked 46 t.rest refl e in each.document_end text w ws last t m.more m.is_text m.gap col g) (λ y.
       indented_goes (by (t.held.position.col == 0) (peek t.rest == 37) (is_document_marker t.rest) n (no_marker t.rest x y)))))

@@ -8,7 +8,7 @@ use Rattle.defs_token.specs.Account.{Account}
 use Rattle.defs_token.specs.Piece.{IsPiece, IsTagLine}
 use Rattle.defs_row.specs.Step.{act_of, is_marker}
 use Rattle.model_scanner.specs.State.{peek}
-use Rattle.proof_ends.proofs.Begins.{directive_begins}
+use Rattle.proof_ends.proofs.Begins.{directive_begins, dash_marks, dot_marks}
 
 -- a text begins with `%`, or with a document marker
 abbrev pub begins_document : List ℕ → Bool
@@ -27,14 +27,6 @@ or_yes false = refl
 
 marker_line : (c : ℕ) (x : List ℕ) → are_marks c c c ≡ true → is_at_gap x ≡ true → begins_document (c ∷ c ∷ c ∷ x) ≡ true
 marker_line c x m g = rw (m, g) (or_yes (c == 37))
-
-dash_marks : are_marks 45 45 45 ≡ true
-unfolding are_marks
-dash_marks = refl
-
-dot_marks : are_marks 46 46 46 ≡ true
-unfolding are_marks
-dot_marks = refl
 
 pub marker_begins : (a : Account) (p x : List ℕ) (f : Option Tok) (m : Position) (t : Tok) → IsPiece a p x f m t → is_marker (act_of t) ≡ true → BeginsLine a.position.col (p ++ x)
 marker_begins a p x f m (version_directive major minor) h k = record { column = h.0.2; text_is = directive_line p x _ h.0.0 }
