@@ -1,3 +1,4 @@
 pub mod Choices
+pub mod PlainTexts
 pub mod Properties
 pub mod Read
