@@ -1,4 +1,5 @@
 pub mod Choices
+pub mod PlainScans
 pub mod PlainTexts
 pub mod Properties
 pub mod Read

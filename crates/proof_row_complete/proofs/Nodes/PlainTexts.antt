@@ -48,7 +48,7 @@ tab_within k column c bs h = by (column - k) refl
     by zero e = let more : k < column = grind (arith, nat_tests, parts.1) in absurd (omega (arith, e, more))
     by (suc n) e = rw (eqb-true c 9 parts.0) refl
 
-tab_is_blank : (c column k : ℕ) → ((c == 9) && nat_lt k column) ≡ true → is_blank c ≡ true
+pub tab_is_blank : (c column k : ℕ) → ((c == 9) && nat_lt k column) ≡ true → is_blank c ≡ true
 unfolding is_blank
 tab_is_blank c column k h = rw (eqb-true c 9 (and_parts (c == 9) (nat_lt k column) h).0) refl
 
@@ -126,7 +126,7 @@ module _ (column : ℕ) (c : ℕ) (r : List ℕ) where
               or_right false y h = h
       by false false f g = others
 
-white_may_go : (x : Spot) (c : ℕ) → (is_break c || is_blank c) ≡ true → may_go x c ≡ true
+pub white_may_go : (x : Spot) (c : ℕ) → (is_break c || is_blank c) ≡ true → may_go x c ≡ true
 white_may_go in_text c h = refl
 white_may_go (at k) c h = refl
 white_may_go tabbed c h = h
