@@ -43,6 +43,7 @@ use Rattle.proof_row_complete.specs.EachReads.{Reads}
 use Rattle.proof_row_complete.proofs.Runs.{Left, left}
 use Rattle.proof_row_complete.proofs.Steps.{step_here}
 use Rattle.proof_row_complete.proofs.KindsOfPieces.{kind_is}
+use Rattle.proof_row_complete.proofs.Nodes.Past.{NodePast, node_past}
 use Rattle.proof_row_complete.proofs.Nodes.Read.{node_goes}
 use Rattle.proof_row_complete.proofs.Around.Succeeds.{IsFine, fine_holds, and_then}
 use Rattle.proof_row_complete.proofs.Around.Separations.{separation_of, text_after, is_whole, RestOf, rest_of}
@@ -77,72 +78,6 @@ row_quoted true a w next more h e =
 row_quoted false a w next more h e =
     let seen_here : pieces.Account = seen a (At a w next) w.separation in
     in_double w.piece next w.shown (kind_is in_double_quotes seen_here w.piece next (34 ∷ more) (shown_position (At a w next) w.piece w.shown next) w.shown (not_empty w.piece h.1.0) h.1.1 e refl)
-
--- ---- the account after a node
-
--- an account from which the row goes on, after a node
-record NodePast (a : Account) (w : Step) (next : List ℕ) (ws : List Step) (last : List ℕ) : Type 0 where
-  after : Account
-  site_is : after.site ≡ site_past (is_in_flow a.entries) (At a w next) w.piece w.shown next (At a w next).blocks
-  is_row : IsRowFrom (Some after) ws last
-
-node_blocks : (must : Bool) (here : Position) (bs : List ℕ) (key : Bool) (l : Line) (x : Outside) → line_past must here bs gives_node key l ≡ Some x → x.blocks ≡ bs
-node_blocks must here bs true free x h = let same : record { line = waits here; blocks = bs } ≡ x = cc in ap (λ y. y.blocks) (sym same)
-node_blocks true here bs false free x h = absurd (cc h)
-node_blocks false here bs false free x h = let same : record { line = taken; blocks = bs } ≡ x = cc in ap (λ y. y.blocks) (sym same)
-node_blocks must here bs true taken x h = absurd (cc h)
-node_blocks must here bs false taken x h = let same : record { line = taken; blocks = bs } ≡ x = cc in ap (λ y. y.blocks) (sym same)
-node_blocks must here bs true (waits p) x h = absurd (cc h)
-node_blocks must here bs false (waits p) x h = let same : record { line = waits p; blocks = bs } ≡ x = cc in ap (λ y. y.blocks) (sym same)
-
-module _ (a : Account) (w : Step) (ws : List Step) (last : List ℕ) (act : act_of w.shown ≡ gives_node) where
-  abbrev next : List ℕ
-  next = spelled ws last
-
-  abbrev at : Site
-  at = At a w next
-
-  lined : (o : Option Account) → ((b : Account) → o ≡ Some b → b.site ≡ site_past (is_in_flow a.entries) at w.piece w.shown next at.blocks) → IsRowFrom (on_one_line w.piece o) ws last → NodePast a w next ws last
-  lined None f row = absurd row
-  lined (Some b) f row = by _ row
-    where
-      by : (c : Bool) → IsRowFrom (if c then None else Some b) ws last → NodePast a w next ws last
-      by true row = absurd row
-      by false row = record { after = b; site_is = f b refl; is_row = row }
-
-  outside : (o : Option Outside) → ((x : Outside) → o ≡ Some x → x.blocks ≡ at.blocks) → is_in_flow a.entries ≡ false → (b : Account) → past_outside at w.piece w.shown next o ≡ Some b → b.site ≡ site_past (is_in_flow a.entries) at w.piece w.shown next at.blocks
-  outside None f out b h = absurd (cc h)
-  outside (Some x) f out b h =
-      let own : Account = record { site = site_past false at w.piece w.shown next x.blocks; line = x.line; entries = begun_by w.shown } in
-      let same : own ≡ b = cc in
-      ap (λ y. y.site) (sym same) ∙ (ap (λ bs. site_past false at w.piece w.shown next bs) (f x refl) ∙ ap (λ fl. site_past fl at w.piece w.shown next at.blocks) (sym out))
-
-  inside : (l : Line) (o : Option (List Entry)) → is_in_flow a.entries ≡ true → (b : Account) → past_inside at w.piece w.shown next l o ≡ Some b → b.site ≡ site_past (is_in_flow a.entries) at w.piece w.shown next at.blocks
-  inside l None within b h = absurd (cc h)
-  inside l (Some es) within b h =
-      let own : Account = record { site = site_past true at w.piece w.shown next at.blocks; line = l; entries = es } in
-      let same : own ≡ b = cc in
-      ap (λ y. y.site) (sym same) ∙ ap (λ fl. site_past fl at w.piece w.shown next at.blocks) (sym within)
-
-  abbrev must : Bool
-  must = is_in_column at.position.col at.blocks
-
-  piece_site : (again : Bool) (l : Option Line) (es : List Entry) → a.entries ≡ es → (b : Account) → past_piece at w.piece w.shown next again w.key l es ≡ Some b → b.site ≡ site_past (is_in_flow a.entries) at w.piece w.shown next at.blocks
-  piece_site again None [] e b h = absurd (cc h)
-  piece_site again None (x ∷ es) e b h = absurd (cc h)
-  piece_site again (Some l) [] e b h = outside _ (λ x i. node_blocks must at.position at.blocks w.key l x (ap (λ k. line_past must at.position at.blocks k w.key l) (sym act) ∙ i)) (ap is_in_flow e) b h
-  piece_site again (Some l) (x ∷ es) e b h = inside l _ (ap is_in_flow e) b h
-
-  -- After a part of a node the row goes on with the site after it.
-  node_past : IsRowFrom (account_past a w next) ws last → NodePast a w next ws last
-  node_past row = by (may_stand (is_in_flow a.entries) a.site at w.separation w.piece w.shown next) row
-    where
-      past : Option Account
-      past = past_piece at w.piece w.shown next (is_renewed a.site.before w.separation) w.key (line_past_separation (is_in_flow a.entries) (begins_free_line a.site.before w.separation) a.line) a.entries
-
-      by : (c : Bool) → IsRowFrom (if c then on_one_line w.piece past else None) ws last → NodePast a w next ws last
-      by true row = lined past (λ b e. piece_site (is_renewed a.site.before w.separation) (line_past_separation (is_in_flow a.entries) (begins_free_line a.site.before w.separation) a.line) a.entries refl b e) row
-      by false row = absurd row
 
 -- ---- the step
 
