@@ -14,7 +14,7 @@ use Rattle.defs_row.specs.Column.{not_ended, innermost, is_in_column}
 use Rattle.defs_row.specs.Following.{may_precede, block_may_end}
 use Rattle.defs_row.specs.FlowEntry.{begun_by}
 use Rattle.defs_row.specs.Indentation.{is_indented_by_spaces}
-use Rattle.defs_row.specs.Key.{Line, free, taken, waits, begins_free_line, line_past_separation, Outside, line_past}
+use Rattle.defs_row.specs.Key.{Line, free, taken, waits, is_waiting, begins_free_line, line_past_separation, Outside, line_past}
 use Rattle.defs_row.specs.Lines.{further_lines_stand}
 use Rattle.defs_row.specs.Step.{Step, spelled, gives_block_scalar}
 use Rattle.defs_row.specs.Account.{Site, Account, site_in, site_at, site_past, least_for, is_deep_enough, seen}
@@ -23,6 +23,7 @@ use Rattle.defs_row.specs.Row.{IsWritten, IsRowFrom}
 use Rattle.model_lexers.specs.Machine.{Read}
 use Rattle.model_lexers.specs.Block.{Block, block}
 use Rattle.model_scanner.specs.State.{Key, ScannerState, on_held, push, lexed}
+use Rattle.model_scanner.specs.Keys.{is_required}
 use Rattle.model_scanner.specs.Flow.{allow_key}
 use Rattle.model_scanner.specs.Indents.{Levels, unroll_non_block_indents}
 use Rattle.model_scanner.specs.Document.{block_style, fetch_block_scalar}
@@ -55,6 +56,7 @@ use Rattle.proof_row_complete.specs.EachReads.{Reads}
 use Rattle.proof_row_complete.proofs.KindsOfPieces.{kind_of_token}
 use Rattle.proof_row_complete.proofs.Sides.{GoesOutside, GoesInside, goes_side, goes_on}
 use Rattle.proof_row_complete.proofs.Steps.{step_here, with_key, GoesPast, step_read, WentOutside, went_outside}
+use Rattle.proof_row_complete.proofs.Indicators.Passed.{last_of, same_value, not_required}
 use Rattle.proof_row_complete.proofs.Scalars.AfterBlocks.{IsClear, block_is_clear}
 
 -- ---- the style of a piece
@@ -120,20 +122,9 @@ block_line false here bs false free x h = record { after_is = cc; line_is = inl 
 block_line must here bs false taken x h = record { after_is = cc; line_is = inr refl }
 block_line must here bs false (waits p) x h = absurd (cc h)
 
--- a key that waits has the line
-waits_past : (broken : Bool) (p : Position) (l : Line) → line_past_separation false broken (waits p) ≡ Some l → l ≡ waits p
-waits_past true p l h = absurd (cc h)
-waits_past false p l h = cc
-
 none_chosen : (k : Option Key) (l : Line) → line_by false k l ≡ l
 none_chosen None l = refl
 none_chosen (Some k) l = refl
-
-last_of : (w x y z : Bool) → (w && x && y && z) ≡ true → z ≡ true
-last_of true true true z h = h
-last_of true true false z h = absurd (cc h)
-last_of true false y z h = absurd (cc h)
-last_of false x y z h = absurd (cc h)
 
 -- ---- the step
 
@@ -340,21 +331,17 @@ module _ (text : List ℕ) (w : Step) (ws : List Step) (last : List ℕ) (t : Sc
 
       line_here_is : o.key ≡ None → went_past.line_here ≡ a.line_here
       line_here_is n =
-          let same : Some went_past.line_here ≡ Some a.line_here = sym went_past.line_is ∙ (ap (λ k. line_past_separation false (begins_free_line a.site.before a.separation) (line_by g.outside k a.line)) n ∙ a.is_line) in
-          cc same
+          same_value went_past.line_here a.line_here (sym went_past.line_is ∙ (ap (λ k. line_past_separation false (begins_free_line a.site.before a.separation) (line_by g.outside k a.line)) n ∙ a.is_line))
 
-      not_waiting : (k : Key) → went_past.line_here ≡ waits k.position → ⊥
-      not_waiting k h = of after_it.line_is
+      no_key : is_waiting went_past.line_here ≡ false
+      no_key = of after_it.line_is
         where
-          of : ((went_past.line_here ≡ free) × (is_in_column p.col here.blocks ≡ false)) ⊎ (went_past.line_here ≡ taken) → ⊥
-          of (inl i) = cc (h, i.0)
-          of (inr i) = cc (h, i)
+          of : ((went_past.line_here ≡ free) × (is_in_column p.col here.blocks ≡ false)) ⊎ (went_past.line_here ≡ taken) → is_waiting went_past.line_here ≡ false
+          of (inl h) = ap is_waiting h.0
+          of (inr h) = ap is_waiting h
 
-      own : (k : Key) (c : Bool) → o.key ≡ Some k → g.outside ≡ c → MayChoose c (Some k) p t.rest → k.required ≡ false
-      own k true i j m =
-          absurd (not_waiting k (waits_past (begins_free_line a.site.before a.separation) k.position went_past.line_here
-          (ap (λ l. line_past_separation false (begins_free_line a.site.before a.separation) l) (sym (ap (λ c. line_by c o.key a.line) j ∙ ap (λ k. line_by true k a.line) i)) ∙ went_past.line_is)))
-      own k false i j m = m
+      none_required : is_required o.key ≡ false
+      none_required = not_required g.outside o.key (begins_free_line a.site.before a.separation) a.line went_past.line_here p t.rest went_past.line_is no_key g.may
 
       by : (b : Bool) → t.held.key_allowed ≡ b → (k : Option Key) → o.key ≡ k → MayChoose false (saved b (new_key t) k) end rest
       by true f k i =
@@ -362,7 +349,7 @@ module _ (text : List ℕ) (w : Step) (ws : List Step) (last : List ℕ) (t : Sc
           let is_free : a.line_here ≡ free = line_free t.held.key_allowed t.rest a.line_here f (subst (λ k. IsLineHere false t.held.key_allowed t.rest k a.line_here) none a.line_is) in
           must_be_here text t o.key a o.flow_is deep ∙ not_taken (line_here_is none ∙ is_free)
       by false f None i = tt
-      by false f (Some k) i = own k g.outside i refl (subst (λ k. MayChoose g.outside k p t.rest) i g.may)
+      by false f (Some k) i = ap is_required (sym i) ∙ none_required
 
   goes : Goes text ws last (read_state t levels style x)
   goes = goes_on text ws last (read_state t levels style x) base (key_then ∷ []) (spaces_of next) stands (keys_saved t o.key [] o.keys_are) false [] (may_then x.position x.rest) (spaces_cut next) (row_then key_then)
