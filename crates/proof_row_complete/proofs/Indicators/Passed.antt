@@ -1,5 +1,7 @@
 -- How the scanner's model passes an indicator that a row reads, and what stays of the open key outside flow.
-use Rattle.std.proofs.Common.{◌≡◌, ℕ, ◌≤◌, List, ◌++◌, Bool, true, false, ◌&&◌, Option, Some, None, Ok, refl, ap, sym, ◌∙◌, subst}
+use Rattle.std.proofs.Common.{◌≡◌, ℕ, ◌≤◌, List, ◌++◌, Bool, true, false, ◌&&◌, if◌then◌else◌, Option, Some, None, Ok, Err, refl, ap, sym, ◌∙◌, subst}
+use Rattle.yaml_tokens.specs.declared.problem.Fault.TheVariants.{At}
+use Rattle.yaml_tokens.specs.declared.problem.Problem.TheVariants as problem
 use Rattle.defs_text.specs.Position.{Position}
 use Rattle.defs_text.specs.Text.{is_empty}
 use Rattle.defs_scalar.specs.FlowScalar.{begins_with}
@@ -11,8 +13,8 @@ use Rattle.defs_row.specs.Row.{IsRowFrom}
 use Rattle.model_lexers.specs.Machine.{past}
 use Rattle.model_lexers.specs.Space.{space}
 use Rattle.model_lexers.specs.declared.context.SkipTabs.TheVariants.{Yes}
-use Rattle.model_scanner.specs.State.{Key, ScannerState, after, lexed, skip_indicator}
-use Rattle.model_scanner.specs.Keys.{is_required}
+use Rattle.model_scanner.specs.State.{Key, Held, ScannerState, after, with_top, lexed, skip_indicator}
+use Rattle.model_scanner.specs.Keys.{is_required, top_key, remove_implicit_key}
 use Rattle.model_scanner.specs.Space.{skip_spaces}
 use Rattle.model_scanner.specs.Flow.{pass_indicator}
 use Rattle.proof_row_sound.specs.Choices.{line_by, MayChoose}
@@ -28,6 +30,11 @@ unfolding pass_indicator skip_spaces
 passed u more e none =
     ap (λ r. lexed (space Yes r (past u.held.position)) (skip_indicator u).held (λ w v. Ok v)) e ∙
     ap (λ x. lexed x (skip_indicator u).held (λ w v. Ok v)) (spaced_parted more (past u.held.position) none)
+
+-- the open key is none after it, unless it must be one
+pub removed : (s : Held) → is_required (top_key s.keys) ≡ false → remove_implicit_key s ≡ Ok (record s { keys = with_top None s.keys })
+unfolding remove_implicit_key
+removed s h = ap (λ b. if b then Err (At problem.KeyExpected s.position) else Ok (record s { keys = with_top None s.keys })) h
 
 -- ---- what the row says
 
