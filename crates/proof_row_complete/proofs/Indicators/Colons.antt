@@ -22,7 +22,7 @@ use Rattle.defs_row.specs.Indentation.{is_indented_by_spaces, begins_with_alpha,
 use Rattle.defs_row.specs.Following.{may_precede}
 use Rattle.defs_row.specs.Key.{Line, free, taken, waits as waits_on_line, is_near, begins_free_line, Outside, line_past}
 use Rattle.defs_row.specs.FlowEntry.{Had, fresh, filled, waits, settled, Entry, takes_pair, is_renewed, renewed, had_after, pair_past, with_had, entries_past}
-use Rattle.defs_row.specs.Account.{Site, Account, site_at, site_in, may_stand, is_deep_enough, least_for, before_by}
+use Rattle.defs_row.specs.Account.{Site, site_at, site_in, may_stand, is_deep_enough, before_by}
 use Rattle.defs_row.specs.Tokens.{put, pair_position, past_line_rest}
 use Rattle.defs_row.specs.Row.{IsRowFrom}
 use Rattle.model_lexers.specs.Machine.{past}
@@ -39,14 +39,14 @@ use Rattle.model_scanner.specs.Fetch.{is_value}
 use Rattle.proof_lexers.specs.PlainEnds.{has_no_nul}
 use Rattle.proof_lexers.proofs.Bridges.{same_alpha}
 use Rattle.proof_cut.proofs.Nodes.{IsDeep}
-use Rattle.proof_row_sound.specs.Choices.{line_by, entry_by, entries_by, first_choice, outside_key, chosen, MayChoose}
+use Rattle.proof_row_sound.specs.Choices.{line_by, entry_by, entries_by, first_choice, outside_key, MayChoose}
 use Rattle.proof_row_sound.specs.Completes.{put_key}
 use Rattle.proof_row_sound.specs.Stands.{columns, is_free, HasHadHere}
 use Rattle.proof_row_sound.proofs.Arrivals.{first_not_right}
-use Rattle.proof_row_sound.proofs.Blanks.{spaced_parted, found_in, past_rest}
+use Rattle.proof_row_sound.proofs.Blanks.{spaced_parted, past_rest}
 use Rattle.proof_row_sound.proofs.ColonKeys.{keyed_base, keyed_stands, keyed_is, inner_stands, outside_after}
 use Rattle.proof_row_sound.proofs.ColonKeys as keyed
-use Rattle.proof_row_sound.proofs.ColonSpaces.{colon_gap, past_gap, gap_cut, gap_fills, gap_in_line, gap_end, past_colon}
+use Rattle.proof_row_sound.proofs.ColonSpaces.{colon_gap, past_gap, gap_cut, gap_fills, gap_end, past_colon}
 use Rattle.proof_row_sound.proofs.Colons.{value_here, at_value, value_by, colon_end, after_colon, keyless_stands, paired_level, valued_entry, single_is, one_line_colon, with_pair, keyless_within}
 use Rattle.proof_row_sound.proofs.EntryPieces.{site_inside, base_inside}
 use Rattle.proof_row_sound.proofs.KeysBefore.{KeysBefore}

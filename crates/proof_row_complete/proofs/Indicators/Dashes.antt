@@ -1,7 +1,6 @@
 -- A dash that a row reads is read by the scanner's model, and the row goes on after it.
-use Rattle.std.proofs.Common.{◌≡◌, ℕ, List, [], ◌∷◌, ◌++◌, Bool, true, false, not, ◌&&◌, ◌||◌, ◌==◌, ◌⊎◌, inl, inr, if◌then◌else◌, slice_index, Option, Some, None, Result, Ok, Err, refl, ap, sym, ◌∙◌, subst}
+use Rattle.std.proofs.Common.{◌≡◌, ℕ, List, [], ◌∷◌, Bool, true, false, not, ◌&&◌, ◌||◌, ◌==◌, ◌⊎◌, inl, inr, if◌then◌else◌, slice_index, Some, None, Ok, Err, refl, ap, sym, ◌∙◌, subst}
 use Rattle.std.proofs.lemmas.Bool.{eqb-true}
-use Rattle.yaml_tokens.specs.declared.problem.Fault.{Fault}
 use Rattle.yaml_tokens.specs.declared.problem.Fault.TheVariants.{At}
 use Rattle.yaml_tokens.specs.declared.problem.Problem.TheVariants as problem
 use Rattle.yaml_chars.specs.Class.{is_blank_or_breakz}
@@ -18,12 +17,10 @@ use Rattle.defs_row.specs.Column.{is_in_column, opened}
 use Rattle.defs_row.specs.Indentation.{is_indented_by_spaces, begins_entry, dash_may_precede}
 use Rattle.defs_row.specs.Following.{may_precede}
 use Rattle.defs_row.specs.Key.{Line, free, taken, waits, begins_free_line, Outside, line_past}
-use Rattle.defs_row.specs.Account.{Site, site_in, may_stand, is_deep_enough, seen}
+use Rattle.defs_row.specs.Account.{Site, site_in, is_deep_enough, seen}
 use Rattle.defs_row.specs.Tokens.{shown_position}
 use Rattle.defs_row.specs.Row.{IsRowFrom}
-use Rattle.model_lexers.specs.Machine.{past}
-use Rattle.model_lexers.specs.Space.{space}
-use Rattle.model_lexers.specs.declared.context.SkipTabs.TheVariants.{Yes, No}
+use Rattle.model_lexers.specs.declared.context.SkipTabs.TheVariants.{No}
 use Rattle.model_scanner.specs.State.{Held, ScannerState, ◌>>=◌, in_flow, push, after as after_first, with_top, token, on_held, with_held, try_held, lexed, skip_indicator}
 use Rattle.model_scanner.specs.Keys.{is_required, top_key, remove_implicit_key}
 use Rattle.model_scanner.specs.Indents.{roll_indent}

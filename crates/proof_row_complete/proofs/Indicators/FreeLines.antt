@@ -1,15 +1,15 @@
 -- Indicators outside flow that stand where a key may begin: a dash, a `?`, a colon without a key. No key is open there.
-use Rattle.std.proofs.Common.{◌≡◌, ℕ, List, [], ◌∷◌, ◌++◌, Bool, true, false, not, ◌&&◌, Option, Some, None, refl, ap, sym, ◌∙◌, subst}
-use Rattle.defs_text.specs.Position.{Position, position_after}
+use Rattle.std.proofs.Common.{◌≡◌, ℕ, List, [], ◌∷◌, ◌++◌, Bool, true, false, Option, Some, None, refl, ap, sym, ◌∙◌, subst}
+use Rattle.defs_text.specs.Position.{position_after}
 use Rattle.defs_text.specs.Text.{is_empty}
 use Rattle.defs_token.specs.Piece.{IsPiece}
 use Rattle.defs_token.specs.Separation.{is_separation}
 use Rattle.defs_token.specs.Token.{Tok}
 use Rattle.defs_row.specs.Step.{Step, spelled, act_of}
 use Rattle.defs_row.specs.Column.{is_in_column}
-use Rattle.defs_row.specs.Key.{Line, free, taken, Outside, line_past}
+use Rattle.defs_row.specs.Key.{Line, free, Outside, line_past}
 use Rattle.defs_row.specs.FlowEntry.{begun_by}
-use Rattle.defs_row.specs.Account.{Site, site_at, site_in, site_past, seen}
+use Rattle.defs_row.specs.Account.{Site, site_at, site_in, seen}
 use Rattle.defs_row.specs.Tokens.{shown_position}
 use Rattle.defs_row.specs.Row.{IsRowFrom}
 use Rattle.model_scanner.specs.State.{Key, ScannerState}
@@ -20,7 +20,6 @@ use Rattle.proof_row_sound.specs.Stands.{is_free}
 use Rattle.proof_row_sound.proofs.NodesOutside.{Outer}
 use Rattle.proof_row_sound.proofs.OutsidePieces.{site_then}
 use Rattle.proof_row_sound.proofs.Sides.{ArrivesBy}
-use Rattle.proof_row_complete.proofs.Nodes.Choices.{separated_by}
 use Rattle.proof_row_complete.proofs.Sides.{GoesOutside}
 use Rattle.proof_row_complete.proofs.Steps.{with_key, GoesPast, step_read, WentOutside, went_outside}
 

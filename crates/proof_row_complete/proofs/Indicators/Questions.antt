@@ -12,14 +12,13 @@ use Rattle.defs_token.specs.Account.{is_adjacent}
 use Rattle.defs_token.specs.Token.{Tok}
 use Rattle.defs_token.specs.Piece.{begins_with_space_or_break}
 use Rattle.defs_token.specs.Separation.{is_separation}
-use Rattle.defs_row.specs.Step.{Step, spelled, gives_question, has_break}
+use Rattle.defs_row.specs.Step.{Step, spelled, gives_question}
 use Rattle.defs_row.specs.Column.{is_in_column, opened}
 use Rattle.defs_row.specs.Indentation.{is_indented_by_spaces, has_tab_before_piece}
-use Rattle.defs_row.specs.Lines.{further_lines_stand}
 use Rattle.defs_row.specs.Following.{may_precede}
 use Rattle.defs_row.specs.Key.{Line, free, taken, waits as waits_on_line, begins_free_line, Outside, line_past}
 use Rattle.defs_row.specs.FlowEntry.{Had, fresh, filled, waits, settled, Entry, takes_pair, is_renewed, renewed, had_after, pair_past, with_had, entries_past}
-use Rattle.defs_row.specs.Account.{Site, Account, site_at, site_in, site_past, may_stand, is_deep_enough, least_for, seen}
+use Rattle.defs_row.specs.Account.{Site, site_at, site_in, may_stand, is_deep_enough}
 use Rattle.defs_row.specs.Row.{IsRowFrom}
 use Rattle.model_lexers.specs.Machine.{past}
 use Rattle.model_scanner.specs.State.{Key, Held, ScannerState, ◌>>=◌, peek, in_flow, push, pop, after, with_top, token, on_held, with_held, try_held}
@@ -35,7 +34,7 @@ use Rattle.proof_lexers.specs.PlainEnds.{has_no_nul}
 use Rattle.proof_lexers.specs.Separations.{begins_white_space, GoesOverAs, goes, misses}
 use Rattle.proof_lexers.proofs.Separation.WhiteSpace.{white_space_is_passed}
 use Rattle.proof_cut.proofs.Nodes.{IsDeep}
-use Rattle.proof_row_sound.specs.Choices.{line_by, entry_by, entries_by, first_choice, outside_key, chosen, MayChoose}
+use Rattle.proof_row_sound.specs.Choices.{line_by, entry_by, entries_by, first_choice, outside_key, MayChoose}
 use Rattle.proof_row_sound.specs.Stands.{IsFreeKey}
 use Rattle.proof_row_sound.proofs.Arrivals.{first_not_right}
 use Rattle.proof_row_sound.proofs.EntryPieces.{site_inside, base_inside}
@@ -47,7 +46,7 @@ use Rattle.proof_row_sound.proofs.Sides.{with_entries, ArrivesBy}
 use Rattle.proof_row_sound.proofs.WhiteSpaces.{white_of, past_white, white_cut, goes_over, past_white_space, white_exactly}
 use Rattle.proof_row_complete.specs.Goes.{Succeeds, went, Goes, GoesHere}
 use Rattle.proof_row_complete.specs.EachReads.{Reads, before_here}
-use Rattle.proof_row_complete.proofs.Indicators.FreeLines.{free_here, NoneOpen, none_open, step as mark_step, at as mark_at, IsMark, mark_read, mark_asks, mark_row, mark_line}
+use Rattle.proof_row_complete.proofs.Indicators.FreeLines.{free_here, NoneOpen, none_open, step as mark_step, at as mark_at, mark_read, mark_asks, mark_row, mark_line}
 use Rattle.proof_row_complete.proofs.Indicators.Passed.{removed, last_of, same_value, line_inside, may_on}
 use Rattle.proof_row_complete.proofs.Nodes.Choices.{separated_by}
 use Rattle.proof_row_complete.proofs.Pieces.{context_here, PieceHere, piece_here}
