@@ -1,0 +1,13 @@
+use Rattle.std.proofs.Common.{◌≡◌}
+use Rattle.yaml_parser.specs.Parsed.{parsed}
+use Rattle.yaml_documents.specs.Reading.{IsGoing, Goes}
+use Rattle.yaml_documents.proofs.read.take_document.Given as goal
+
+abbrev pub invariant-events : goal.invariant-events
+invariant-events g l = record {
+  goes : IsGoing (parsed l.fn.parser) → Goes (parsed l.fn.parser) l.fn.loader (parsed l.parser) l.loader;
+  start : l.parser.start ≡ l.fn.parser.start;
+}
+
+abbrev pub decreases-events : goal.decreases-events
+decreases-events g l = (parsed l.parser).left

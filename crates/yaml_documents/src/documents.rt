@@ -1,0 +1,102 @@
+//! An iterator over the documents of a text.
+ghost use Rattle.std.specs.Prelude.{◌≡◌, ◌^◌, ◌<◌, [], false, chars};
+ghost use Rattle.std.specs.Iterator.{IsFinite, size, AlwaysYields};
+ghost use Rattle.std.specs.Str.Iter.{chars_steps};
+
+use crate::read::read_document;
+use std::alloc::Global;
+use std::marker::Model;
+use std::str::Chars;
+use yaml_parser::Parser;
+use yaml_tokens::ScanError;
+use yaml_tree::Yaml;
+
+/// The documents of a text, one by one.
+///
+/// As an iterator it gives `Ok` with each document, in order. Then it gives `None`, or first the text's fault as an
+/// `Err`; after that it gives `None` forever. `YamlLoader::load_from_str` gives all of these documents, or that fault.
+#[derive(Drop)]
+pub struct Documents<T: Iterator<Item = char>> {
+    alloc: Global,
+    parser: Parser<T>,
+    // No document comes any more: the stream has ended, or a fault was given.
+    over: bool,
+}
+
+impl<T: Iterator<Item = char>> Model for Documents<T> {
+    ghost use Rattle.yaml_parser.specs.Parsed.{parsed};
+    ghost use Rattle.yaml_documents.specs.Stream.{Stream, stream_of};
+    ghost use Rattle.yaml_documents.specs.Reading.{IsReady};
+
+    ghost Value = { Stream T };
+
+    ghost view = { λ d. stream_of d.parser d.over };
+
+    ghost invariant = { λ d. IsReady (parsed d.parser) d.over };
+}
+
+impl<'a> Documents<Chars<'a>> {
+    /// The documents of a text, up to its end or its first NUL. It takes no memory.
+    pub fn new(alloc: Global, text: &'a str) -> Self
+        ensures nothing { result.events ≡ [] }
+        ensures going { result.over ≡ false }
+        ensures text { AlwaysYields chars_steps (λ c. c) result.start (chars text.now) }
+    {
+        Documents {
+            alloc,
+            parser: Parser::new_from_str(alloc, text),
+            over: false,
+        }
+    }
+}
+
+impl<T: Iterator<Item = char>> Documents<T> {
+    /// The documents of the characters that an iterator gives, up to its first `None` or NUL. It takes no memory.
+    ///
+    /// Conditions: the iterator may be asked, ends, and gives fewer than 2^63 characters.
+    pub fn from_iter(alloc: Global, source: T) -> Documents<T>
+        requires can { T.can_next source }
+        requires finite { IsFinite (T.remaining source) }
+        requires few { size (T.remaining source) < 2 ^ 63 }
+        ensures nothing { result.events ≡ [] }
+        ensures going { result.over ≡ false }
+        ensures start { result.start ≡ source }
+    {
+        Documents {
+            alloc,
+            parser: Parser::new(alloc, source),
+            over: false,
+        }
+    }
+}
+
+impl<T: Iterator<Item = char>> Iterator for Documents<T> {
+    ghost use Rattle.std.specs.Iterator.{at_most};
+    ghost use Rattle.yaml_documents.specs.Stream.{Gives};
+
+    type Item = Result<Yaml, ScanError>;
+
+    ghost remaining = { λ d. at_most d.left };
+
+    ghost next_gives = { λ a r b. Gives T.next_gives a r b };
+
+    /// The next document, or the text's fault. `None` comes after the last document, and after a fault.
+    fn next(&mut self) -> Option<Result<Yaml, ScanError>> {
+        if self.over {
+            return None;
+        }
+        let read = read_document(self.alloc, &mut self.parser);
+        self.parser.note();
+        match read {
+            Ok(Some(document)) => Some(Ok(document)),
+            Ok(None) => {
+                self.over = true;
+                None
+            }
+            Err(fault) => {
+                self.over = true;
+                Some(Err(fault))
+            }
+        }
+    }
+}
