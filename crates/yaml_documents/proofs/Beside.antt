@@ -1,5 +1,5 @@
 -- A loader that stands at a document's start, beside a new one: over the document's events both come to the same.
-use Rattle.std.proofs.Common.{◌≡◌, ℕ, zero, suc, ◌<◌, ◌≤◌, List, [], ◌∷◌, ◌++◌, Bool, true, false, refl, sym, ap, ◌∙◌, subst, append_assoc, append-nil, nat_eq, arith}
+use Rattle.std.proofs.Common.{◌≡◌, ℕ, zero, suc, ◌<◌, ◌≤◌, List, [], ◌∷◌, ◌++◌, Bool, true, false, refl, sym, ap, subst, append_assoc, append-nil, nat_eq, arith}
 use Rattle.std.specs.Prelude.{Option, Some, None, unwrap_or, if◌then◌else◌, max}
 use Rattle.std.proofs.Math.Nat.{le-max_left, le-max_right}
 use Rattle.defs_text.specs.Position.{Position}
@@ -10,7 +10,7 @@ use Rattle.defs_event.specs.Scalar.{scalar_tree}
 use Rattle.defs_event.specs.Stream.{events_of}
 use Rattle.defs_event.specs.Anchors.{Anchors, aliased, finished}
 use Rattle.defs_event.specs.Unfinished.{Opened, opened_sequence, opened_mapping, Unfinished, Step, reads, repeats, out_of_nesting, with_root, with_tree, with_node, with_start, with_sequence_end, with_mapping_end, with_document_end, with_event, Loader, at_work, noted, refused, loader_after, with_event_at, with_events}
-use Rattle.yaml_documents.proofs.Numbers.{anchor_of, highest, low_after, IsOver, AreOwn}
+use Rattle.yaml_documents.proofs.Numbers.{anchor_of, highest, IsOver}
 
 -- ---- the numbers of the anchors that are finished or open
 

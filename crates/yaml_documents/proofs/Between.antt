@@ -1,10 +1,10 @@
 -- Where documents begin and end among nested events.
-use Rattle.std.proofs.Common.{◌≡◌, ℕ, ◌≤◌, List, [], ◌∷◌, ◌++◌, Option, Some, None, Bool, true, false, refl, sym, ap, ◌∙◌, subst, append_assoc, arith}
-use Rattle.std.specs.Prelude.{IsTrue, max}
+use Rattle.std.proofs.Common.{◌≡◌, ℕ, ◌≤◌, List, [], ◌∷◌, ◌++◌, Option, Some, None, true, refl, sym, ap, ◌∙◌, subst, arith}
+use Rattle.std.specs.Prelude.{max}
 use Rattle.std.proofs.Math.Nat.{le-max_left}
 use Rattle.defs_text.specs.Position.{Position}
 use Rattle.defs_event.specs.Event.{Ev}
-use Rattle.defs_event.specs.Nested.{Open, in_stream, before_node, after_node, in_sequence, at_key, at_value, open_after, there_and, closes, is_nested, IsNested, nested_stream}
+use Rattle.defs_event.specs.Nested.{Open, in_stream, before_node, after_node, in_sequence, at_key, at_value, open_after, there_and, closes, is_nested, IsNested}
 use Rattle.defs_event.specs.Stream.{events_of}
 use Rattle.defs_event.proofs.NestedTest.{test_is_exact}
 use Rattle.yaml_documents.proofs.Numbers.{anchor_of, low_after, IsOver, AreOwn}

@@ -1,10 +1,9 @@
 -- In the events of a stream, each alias has a higher number than all anchors of earlier documents.
 use Rattle.std.proofs.Common.{◌≡◌, ℕ, ◌+◌, ◌<◌, ◌≤◌, Bool, true, false, if◌then◌else◌, List, [], ◌∷◌, ◌++◌, Option, Some, None, option_map, refl, sym, ap, ◌∙◌, subst, arith}
 use Rattle.std.specs.Prelude.{max, bytes_eq}
-use Rattle.std.proofs.Math.Nat.{le-max_left, le-max_right, max-le, max-zero}
-use Rattle.defs_token.specs.Token.{Style}
-use Rattle.defs_event.specs.Event.{Tag, Ev}
-use Rattle.defs_event.specs.Raw.{Raw, Directive}
+use Rattle.std.proofs.Math.Nat.{le-max_right, max-le, max-zero}
+use Rattle.defs_event.specs.Event.{Ev}
+use Rattle.defs_event.specs.Raw.{Raw}
 use Rattle.defs_event.specs.Names.{Names, under_name, are_allowed, perhaps_resolved, number, with_anchor, named, names_after, resolved_event}
 use Rattle.defs_event.proofs.NameLemmas.{both_some}
 

@@ -1,9 +1,8 @@
 -- What the reading of one document does, from what its loader took.
 use Rattle.std.proofs.Common.{◌≡◌, ℕ, ◌<◌, Bool, true, false, List, [], ◌∷◌, ◌++◌, length, Option, Some, None, Ok, Err, refl, sym, ap, ◌∙◌, subst, append_assoc, append-nil, inl, inr, arith}
-use Rattle.std.specs.Prelude.{◌||◌, ◌&&◌, not, ◌⊎◌, Result, Vec, IsSome, option_to_list, map}
+use Rattle.std.specs.Prelude.{◌||◌, ◌⊎◌, Result, IsSome, option_to_list}
 use Rattle.std.proofs.lemmas.List.{map-append}
 use Rattle.std.specs.Result.{IsErrAnd}
-use Rattle.std.specs.declared.alloc.Global.{Global}
 use Rattle.defs_text.specs.Position.{Position}
 use Rattle.defs_token.specs.Token.{Token}
 use Rattle.defs_token.specs.Toks.{toks}
@@ -20,22 +19,21 @@ use Rattle.defs_event.proofs.OneByOne.{one_by_one}
 use Rattle.defs_event.proofs.StreamNests.{stream_nests}
 use Rattle.yaml_tree.specs.View.{view, items_view}
 use Rattle.yaml_tree.specs.declared.yaml.Yaml.{Yaml}
-use Rattle.yaml_parser.specs.Loads.{Receives}
 use Rattle.yaml_parser.specs.Nests.{BeginsNested, opened, is_open}
-use Rattle.yaml_parser.specs.Parsed.{Parsed, is_stream_end, is_document_start, is_document_end, has_end, read}
+use Rattle.yaml_parser.specs.Parsed.{Parsed, is_stream_end, has_end, read}
 use Rattle.yaml_parser.proofs.Nesting.{no_end_inside}
 use Rattle.proof_loads.proofs.Answers.{placed_stream}
 use Rattle.proof_loads.proofs.Pulled.{read_given, has_end_append}
 use Rattle.yaml_loader.specs.Gives.{IsGivenFault}
 use Rattle.yaml_loader.specs.Gives as given
-use Rattle.yaml_loader.specs.Loading.{loader_of, kept_fault, Takes}
+use Rattle.yaml_loader.specs.Loading.{loader_of, kept_fault}
 use Rattle.yaml_loader.specs.Loads.{HasDocuments, HasNoted}
-use Rattle.yaml_loader.proofs.LoadLemmas.{with_last, StandsAfter, stands, new_fault, has_documents, has_noted}
+use Rattle.yaml_loader.proofs.LoadLemmas.{with_last, stands, new_fault, has_documents, has_noted}
 use Rattle.yaml_loader.specs.declared.loader.YamlLoader.{YamlLoader}
 use Rattle.yaml_documents.specs.Reading.{is_end, HasNoEnd, Ended, TakesAll, StopsAt, finished, EndsDocument, IsPlain, IsBetween, IsRead, ReadsOne, ReadsAll, Stops, by_parser, by_memory, by_key, Reads}
 use Rattle.yaml_documents.specs.Reading as reads
 use Rattle.yaml_documents.proofs.Numbers.{highest, low_at, AreOwn, stream_own, own_first, own_rest}
-use Rattle.yaml_documents.proofs.Beside.{LoaderUpTo, StandBeside, AllOver, events_up_to, events_beside, begins_beside}
+use Rattle.yaml_documents.proofs.Beside.{LoaderUpTo, StandBeside, events_up_to, events_beside, begins_beside}
 use Rattle.yaml_documents.proofs.Between.{BeginDocument, BeginSo, begin_at_start, begin_after, over_so_far}
 use Rattle.yaml_documents.proofs.Finishing.{events_append, no_more_documents, end_stays, refused_stays, read_documents, has_are, never_refused, one_read, none_finished, beside_read, beside_has, beside_noted, beside_documents, beside_refused}
 

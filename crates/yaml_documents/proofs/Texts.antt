@@ -1,9 +1,8 @@
 -- What the readings of one document say of a text.
-use Rattle.std.proofs.Common.{◌≡◌, ℕ, Bool, true, false, List, [], ◌∷◌, ◌++◌, Option, Some, None, Ok, Err, refl, sym, ap, ◌∙◌, subst, append_assoc, inl, inr}
-use Rattle.std.specs.Prelude.{IfSome, Result, codes, map}
+use Rattle.std.proofs.Common.{◌≡◌, ℕ, Bool, true, false, List, [], ◌∷◌, ◌++◌, Option, Some, None, Ok, refl, sym, ap, ◌∙◌, subst, inl, inr}
+use Rattle.std.specs.Prelude.{IfSome, codes, map}
 use Rattle.std.proofs.lemmas.List.{map-append}
 use Rattle.defs_text.specs.Position.{Position}
-use Rattle.defs_token.specs.Token.{Token}
 use Rattle.defs_token.specs.Toks.{toks}
 use Rattle.defs_tree.specs.Tree.{Tree}
 use Rattle.yaml_tokens.specs.ErrorReport.{ErrorReport}
@@ -11,8 +10,8 @@ use Rattle.defs_event.specs.Event.{Ev}
 use Rattle.defs_event.specs.Laws.{HasRead}
 use Rattle.defs_event.specs.Nested.{NestedDocument, IsNested, nested_stream}
 use Rattle.defs_event.specs.Reading.{reading}
-use Rattle.defs_event.specs.Stream.{IsStream, BeginsPlaced, Foretells, NoneBegins, events_of}
-use Rattle.defs_event.specs.Unfinished.{Loader, at_work, noted, refused, new_loader, with_event_at, with_events, documents_of}
+use Rattle.defs_event.specs.Stream.{IsStream, Foretells, NoneBegins, events_of}
+use Rattle.defs_event.specs.Unfinished.{Loader, at_work, noted, refused, new_loader, with_events, documents_of}
 use Rattle.defs_event.proofs.OneByOne.{one_by_one}
 use Rattle.defs_event.proofs.StreamNests.{stream_nests}
 use Rattle.yaml_scanner.specs.Scanned.{ScansIn, IsRefusal}
@@ -26,8 +25,7 @@ use Rattle.proof_loads.proofs.Loads.{memory_is_wanted}
 use Rattle.proof_loads.proofs.Steady.{blames_steady}
 use Rattle.proof_loads.proofs.StreamEnds.{all_tokens}
 use Rattle.proof_loads.proofs.Texts.{goes_on, first_tokens}
-use Rattle.yaml_loader.specs.Loads.{HasDocuments, HasNoted}
-use Rattle.yaml_loader.specs.RepeatedKey.{TellsKey}
+use Rattle.yaml_loader.specs.Loads.{HasNoted}
 use Rattle.yaml_loader.proofs.LoadLemmas.{with_last}
 use Rattle.yaml_documents.specs.First.{BeginsDocuments, BeginsAs, IsStopped}
 use Rattle.yaml_documents.specs.First as first
