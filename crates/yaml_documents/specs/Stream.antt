@@ -3,7 +3,7 @@ use Rattle.std.specs.Prelude.{◌≡◌, ℕ, ◌+◌, ◌++◌, if◌then◌els
 use Rattle.defs_text.specs.Position.{Position}
 use Rattle.defs_tree.specs.Tree.{Tree}
 use Rattle.yaml_tokens.specs.ErrorReport.{ErrorReport}
-use Rattle.yaml_chars.specs.Reading.{up_to_nul}
+use Rattle.defs_text.specs.Text.{up_to_nul}
 use Rattle.defs_event.specs.Event.{Ev}
 use Rattle.defs_event.specs.Unfinished.{new_loader, with_events, documents_of}
 use Rattle.yaml_tree.specs.View.{view}

@@ -1,7 +1,7 @@
 -- A document marker or a directive that a row reads: what begins its line is not refused, and the row goes on after it.
 use Rattle.std.proofs.Common.{◌≡◌, ℕ, List, [], ◌∷◌, ◌++◌, Bool, true, false, not, ◌≤◌, ◌⊎◌, inl, inr, Option, Some, None, Ok, refl, ap, sym, ◌∙◌, subst}
 use Rattle.defs_text.specs.Position.{Position, position_after}
-use Rattle.defs_text.specs.Text.{is_empty}
+use Rattle.defs_text.specs.Text.{is_empty, has_no_nul}
 use Rattle.defs_token.specs.Piece.{IsPiece}
 use Rattle.defs_token.specs.Separation.{is_separation}
 use Rattle.defs_row.specs.Step.{Step, Act, spelled, gives_marker, previous_by, has_break}
@@ -14,7 +14,6 @@ use Rattle.defs_row.specs.Row.{IsRowFrom}
 use Rattle.model_scanner.specs.State.{Key, Held, ScannerState, pop, with_top}
 use Rattle.model_scanner.specs.Keys.{is_required, top_key}
 use Rattle.model_scanner.specs.Document.{begin_line}
-use Rattle.proof_lexers.specs.PlainEnds.{has_no_nul}
 use Rattle.proof_cut.specs.Here.{IsLive}
 use Rattle.proof_row_sound.specs.Choices.{line_by, entry_by, entries_by, first_choice, outside_key, MayChoose}
 use Rattle.proof_row_sound.specs.Stands.{IsFreeKey}

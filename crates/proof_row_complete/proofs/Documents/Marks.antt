@@ -28,7 +28,7 @@ use Rattle.model_scanner.specs.State as state
 use Rattle.model_scanner.specs.State.{Key, Held, ScannerState, ◌>>=◌, peek, in_flow, push, token, on_held, with_held, lexed, skip_indicator}
 use Rattle.model_scanner.specs.Space.{skip_spaces}
 use Rattle.model_scanner.specs.Document.{begin_line, fetch_directive, fetch_document_marker, check_document_end, fetch_document_end}
-use Rattle.proof_lexers.specs.PlainEnds.{has_no_nul}
+use Rattle.defs_text.specs.Text.{has_no_nul}
 use Rattle.proof_lexers.specs.DirectiveEnds.{ends_line}
 use Rattle.proof_lexers.proofs.Directives.Lines.{directives_are_read}
 use Rattle.proof_ends.specs.Ends.{dots, directive_line, kind_at}

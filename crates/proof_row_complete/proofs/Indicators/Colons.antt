@@ -8,7 +8,7 @@ use Rattle.yaml_tokens.specs.declared.problem.Problem.TheVariants as problem
 use Rattle.yaml_chars.specs.Class.{is_alpha, is_alphanumeric}
 use Rattle.defs_text.specs.Classes as classes
 use Rattle.defs_text.specs.Classes.{tab, is_one_of, is_blank, is_break}
-use Rattle.defs_text.specs.Text.{is_empty}
+use Rattle.defs_text.specs.Text.{is_empty, has_no_nul}
 use Rattle.defs_text.specs.Position.{Position, position_after}
 use Rattle.defs_scalar.specs.FlowScalar.{begins_with}
 use Rattle.defs_scalar.specs.Tags.{leading, after}
@@ -36,7 +36,6 @@ use Rattle.model_scanner.specs.Indents.{roll_indent, roll_one_col_indent}
 use Rattle.model_scanner.specs.Flow.{allow_key}
 use Rattle.model_scanner.specs.Block.{check_after_tab, check_value_space, opens_pair, paired, begin_pair, insert_key, begin_keyless_mapping, begin_keyless_value, value_of, fetch_value}
 use Rattle.model_scanner.specs.Fetch.{is_value}
-use Rattle.proof_lexers.specs.PlainEnds.{has_no_nul}
 use Rattle.proof_lexers.proofs.Bridges.{same_alpha}
 use Rattle.proof_cut.proofs.Nodes.{IsDeep}
 use Rattle.proof_row_sound.specs.Choices.{line_by, entry_by, entries_by, first_choice, outside_key, MayChoose}

@@ -1,7 +1,7 @@
 -- Indicators outside flow that stand where a key may begin: a dash, a `?`, a colon without a key. No key is open there.
 use Rattle.std.proofs.Common.{◌≡◌, ℕ, List, [], ◌∷◌, ◌++◌, Bool, true, false, Option, Some, None, refl, ap, sym, ◌∙◌, subst}
 use Rattle.defs_text.specs.Position.{position_after}
-use Rattle.defs_text.specs.Text.{is_empty}
+use Rattle.defs_text.specs.Text.{is_empty, has_no_nul}
 use Rattle.defs_token.specs.Piece.{IsPiece}
 use Rattle.defs_token.specs.Separation.{is_separation}
 use Rattle.defs_token.specs.Token.{Tok}
@@ -13,7 +13,6 @@ use Rattle.defs_row.specs.Account.{Site, site_at, site_in, seen}
 use Rattle.defs_row.specs.Tokens.{shown_position}
 use Rattle.defs_row.specs.Row.{IsRowFrom}
 use Rattle.model_scanner.specs.State.{Key, ScannerState}
-use Rattle.proof_lexers.specs.PlainEnds.{has_no_nul}
 use Rattle.proof_row_sound.specs.Arrives.{IsLineHere}
 use Rattle.proof_row_sound.specs.Choices.{line_by}
 use Rattle.proof_row_sound.specs.Stands.{is_free}

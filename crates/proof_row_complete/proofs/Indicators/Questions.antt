@@ -5,7 +5,7 @@ use Rattle.yaml_tokens.specs.declared.problem.Fault.{Fault}
 use Rattle.yaml_tokens.specs.declared.problem.Fault.TheVariants.{At}
 use Rattle.yaml_tokens.specs.declared.problem.Problem.TheVariants as problem
 use Rattle.defs_text.specs.Classes.{is_break, is_at_gap}
-use Rattle.defs_text.specs.Text.{is_empty}
+use Rattle.defs_text.specs.Text.{is_empty, has_no_nul}
 use Rattle.defs_text.specs.Position.{Position, position_after}
 use Rattle.defs_scalar.specs.FlowScalar.{begins_with}
 use Rattle.defs_token.specs.Account.{is_adjacent}
@@ -30,7 +30,6 @@ use Rattle.model_scanner.proofs.Holds.{Holds, held_of}
 use Rattle.proof_ends.specs.Ends.{question, kind_at}
 use Rattle.proof_ends.proofs.Begins.{Whole}
 use Rattle.proof_lexers.specs.PlainEnds as ends
-use Rattle.proof_lexers.specs.PlainEnds.{has_no_nul}
 use Rattle.proof_lexers.specs.Separations.{begins_white_space, GoesOverAs, goes, misses}
 use Rattle.proof_lexers.proofs.Separation.WhiteSpace.{white_space_is_passed}
 use Rattle.proof_cut.proofs.Nodes.{IsDeep}

@@ -16,7 +16,8 @@ use Rattle.model_lexers.specs.Folding.{nothing, joined}
 use Rattle.model_lexers.specs.Plain.{Mode, first, inside, between, tabs, PlainState, can_be_plain, at_char, is_shallow, at_dash, at_plain, goes_on, begun, turn_in, turn, Plain, starts, plain}
 use Rattle.proof_lexers.proofs.Bridges.{same_break, same_blank, and_false}
 use Rattle.proof_lexers.proofs.Plain.Turns.{can_be, line_is}
-use Rattle.proof_lexers.specs.PlainEnds.{collection_of, is_white, is_gap, begins_white, stand_after, has_no_nul}
+use Rattle.defs_text.specs.Text.{has_no_nul}
+use Rattle.proof_lexers.specs.PlainEnds.{collection_of, is_white, is_gap, begins_white, stand_after}
 use Rattle.proof_row_sound.proofs.PlainLines.{Spot, in_text, at, tabbed, spot_past, past_spot, may_go, may_stop, tabs_fit, dashes_fit, spot_of, is_apart, begins_break, IsCalm, IsAt, Goes, stays, fails, goes, turn_goes}
 use Rattle.proof_row_complete.proofs.Nodes.PlainTexts.{white_may_go, tab_is_blank, IsClearGap, plain_tabs, plain_dashes}
 

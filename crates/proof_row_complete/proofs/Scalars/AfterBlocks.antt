@@ -3,7 +3,7 @@ use Rattle.std.proofs.Common.{◌≡◌, ℕ, ◌+◌, ◌≤◌, List, [], ◌�
 use Rattle.std.proofs.lemmas.Bool.{and_parts}
 use Rattle.std.proofs.lemmas.Bool.Decides.{nat_tests}
 use Rattle.defs_text.specs.Position.{Position, position_past, position_after}
-use Rattle.defs_text.specs.Text.{is_empty}
+use Rattle.defs_text.specs.Text.{is_empty, has_no_nul}
 use Rattle.defs_text.specs.Classes.{space, tab, is_break, is_nul, is_at_end}
 use Rattle.defs_text.specs.Breaks.{split}
 use Rattle.defs_scalar.specs.FlowScalar.{begins_with}
@@ -15,7 +15,7 @@ use Rattle.defs_row.specs.Following.{are_empty, lines_may_end, read_may_end, blo
 use Rattle.model_lexers.specs.Machine.{past}
 use Rattle.proof_lexers.specs.HeaderEnds.{along, is_in_line}
 use Rattle.proof_lexers.specs.BlockScan.{is_none, is_single, is_tabbed, is_shallow, further_position}
-use Rattle.proof_lexers.specs.PlainEnds.{collection_of, has_no_nul}
+use Rattle.proof_lexers.specs.PlainEnds.{collection_of}
 use Rattle.proof_lexers.proofs.Bridges.{same_break}
 use Rattle.proof_lexers.proofs.Blocks.Margins.{after_break, after_line}
 use Rattle.proof_lexers.proofs.Blocks.Positions.{past_is, first_empty, first_header}

@@ -3,7 +3,7 @@ use Rattle.std.proofs.Common.{◌≡◌, ℕ, List, [], ◌∷◌, ◌++◌, Boo
 use Rattle.defs_text.specs.Classes.{is_blank_or_end, is_blank, is_break, is_nul, is_flow, is_at_end}
 use Rattle.defs_text.specs.Breaks.{put_first, split}
 use Rattle.defs_text.specs.Position.{Position, position_after}
-use Rattle.defs_text.specs.Text.{is_empty}
+use Rattle.defs_text.specs.Text.{is_empty, has_no_nul}
 use Rattle.defs_scalar.specs.BlockScalar.{BlockStyle, literal, folded, Header, Body, header_of, block_value}
 use Rattle.defs_token.specs.Account as pieces
 use Rattle.defs_token.specs.BlockPiece.{BlockRead, is_past, column_of, with_value, read_body, read_lines, block_read, block_position}
@@ -29,7 +29,7 @@ use Rattle.model_scanner.specs.Indents.{Levels, unroll_non_block_indents}
 use Rattle.model_scanner.specs.Document.{block_style, fetch_block_scalar}
 use Rattle.proof_lexers.specs.HeaderEnds.{indicator_of}
 use Rattle.proof_lexers.specs.BlockScan.{is_literal_style, read_block, IsRead, read, shallow, tabbed}
-use Rattle.proof_lexers.specs.PlainEnds.{collection_of, has_no_nul}
+use Rattle.proof_lexers.specs.PlainEnds.{collection_of}
 use Rattle.proof_lexers.proofs.Blocks.HeaderFacts.{said}
 use Rattle.proof_lexers.proofs.Blocks.Pieces.{pieces_are_read}
 use Rattle.proof_ends.specs.Ends.{block_scalar, kind_of}
