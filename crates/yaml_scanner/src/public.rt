@@ -83,7 +83,7 @@ impl<T: Iterator<Item = char>> Scanner<T> {
         ensures less { OnOk result ((scanned self.old).stopped ≡ false → (scanned self.new).left < (scanned self.old).left) }
         ensures err { IfErr result (λ e. (scanned self.new).fault ≡ Some e) }
         ensures after { (scanned self.old).fault ≡ None → (scanned self.old).stopped ≡ true → (result ≡ Ok tt) × (self.new ≡ self.old) }
-        ensures again { IfSome (scanned self.old).fault (λ f. result ≡ Err f) }
+        ensures again { IfSome (scanned self.old).fault (λ f. (result ≡ Err f) × (self.new ≡ self.old)) }
         ensures scans { Scans (scanned self.new) }
         ensures start { self.new.start ≡ self.old.start }
     {
@@ -122,7 +122,7 @@ impl<T: Iterator<Item = char>> Scanner<T> {
         ensures ok { OnOk result (((scanned self.old).fault ≡ None) × ((scanned self.new).fault ≡ None)) }
         ensures err { IfErr result (λ e. (scanned self.new).fault ≡ Some e) }
         ensures after { (scanned self.old).fault ≡ None → (scanned self.old).stopped ≡ true → (result ≡ Ok tt) × (self.new ≡ self.old) }
-        ensures again { IfSome (scanned self.old).fault (λ f. result ≡ Err f) }
+        ensures again { IfSome (scanned self.old).fault (λ f. (result ≡ Err f) × (self.new ≡ self.old)) }
         ensures scans { Scans (scanned self.new) }
         ensures start { self.new.start ≡ self.old.start }
     {
@@ -148,7 +148,7 @@ impl<T: Iterator<Item = char>> Scanner<T> {
         ensures err { IfErr result (λ e. Refuses (scanned self.old) e (scanned self.new)) }
         ensures over { (scanned self.old).fault ≡ None → (scanned self.old).ended ≡ true → (result ≡ Ok None) × (self.new ≡ self.old) }
         ensures ready { (scanned self.old).fault ≡ None → (scanned self.old).stopped ≡ true → IsOk result }
-        ensures again { IfSome (scanned self.old).fault (λ f. result ≡ Err f) }
+        ensures again { IfSome (scanned self.old).fault (λ f. (result ≡ Err f) × (self.new ≡ self.old)) }
         ensures came { CameFrom T.next_gives self.new.start (scanned self.new).taken (scanned self.new).done }
         ensures no_nul { HasNoNul (scanned self.new).taken }
         ensures scans { Scans (scanned self.new) }
@@ -175,9 +175,10 @@ impl<T: Iterator<Item = char>> Iterator for Scanner<T> {
 
     ghost remaining = { λ s. at_most (scanned s).left };
 
-    ghost next_gives = { λ a r b. GivesNext (scanned a) r (scanned b) };
+    ghost next_gives = { λ a r b. GivesNext a r b };
 
-    /// The next token. `None` comes after a fault, and after the end of the stream.
+    /// The next token. `None` comes at a fault, which is kept, and after the end of the stream. Where a fault was kept, and
+    /// after the end, nothing changes.
     fn next(&mut self) -> Option<Token> {
         match self.next_token() {
             Ok(token) => token,
