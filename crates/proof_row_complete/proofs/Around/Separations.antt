@@ -34,17 +34,31 @@ pub is_whole : (a : Account) (ws : List Step) (last : List ℕ) → IsRowFrom (S
 is_whole a [] last r = (r.0, refl)
 is_whole a (w ∷ ws) last r = (r.0.0, piece_ends a w (spelled ws last) r.0)
 
--- ---- a part of a separation
+-- ---- separations
 
--- A separation, of which a part was passed: what is left of it, up to the text after it.
-pub record RestOf (part rest whole next : List ℕ) : Type 0 where
+-- a separation that begins with a part, and what is left of it
+pub record BeginsWith (whole part next rest : List ℕ) : Type 0 where
   pub more : List ℕ
-  pub is_whole : whole ≡ part ++ more
-  pub is_rest : rest ≡ more ++ next
-  pub is_filled : is_separation false more next ≡ true
+  pub whole_is : whole ≡ part ++ more
+  pub rest_is : rest ≡ more ++ next
 
-longer_by : (d x : ℕ) (f rest g r : List ℕ) → d ≡ x → RestOf f rest g r → RestOf (d ∷ f) rest (x ∷ g) r
-longer_by d x f rest g r e h = record { more = h.more; is_whole = longer x d g (f ++ h.more) (sym e) h.is_whole; is_rest = h.is_rest; is_filled = h.is_filled }
+-- A separation before a piece begins with each separation of the same text.
+pub begins_with_part : (in_comment : Bool) (whole part next rest : List ℕ) → is_separation in_comment whole next ≡ true → is_separation in_comment part rest ≡ true → ends_separation next ≡ true → whole ++ next ≡ part ++ rest → BeginsWith whole part next rest
+begins_with_part b whole [] next rest h k f e = record { more = whole; whole_is = refl; rest_is = sym e }
+begins_with_part b [] (d ∷ part) next rest h k f e =
+    absurd (over b d part rest (part ++ rest) k (subst (λ z. (not b || is_at_line_end z) ≡ true) e h) (subst (λ z. ends_separation z ≡ true) e f))
+begins_with_part false (c ∷ whole) (d ∷ part) next rest h k f e =
+    let heads : (c ≡ d) × (whole ++ next ≡ part ++ rest) = same_head c d (whole ++ next) (part ++ rest) e in
+    let first : is_separation (c == 35) whole next ≡ true = (and_parts (is_blank c || is_break c || (c == 35)) (is_separation (c == 35) whole next) h).1 in
+    let second : is_separation (d == 35) part rest ≡ true = (and_parts (is_blank d || is_break d || (d == 35)) (is_separation (d == 35) part rest) k).1 in
+    let r : BeginsWith whole part next rest = begins_with_part (c == 35) whole part next rest first (subst (λ z. is_separation (z == 35) part rest ≡ true) (sym heads.0) second) f heads.1 in
+    record { more = r.more; whole_is = longer c d whole (part ++ r.more) heads.0 r.whole_is; rest_is = r.rest_is }
+begins_with_part true (c ∷ whole) (d ∷ part) next rest h k f e =
+    let heads : (c ≡ d) × (whole ++ next ≡ part ++ rest) = same_head c d (whole ++ next) (part ++ rest) e in
+    let r : BeginsWith whole part next rest = begins_with_part (not (is_break c)) whole part next rest h (subst (λ z. is_separation (not (is_break z)) part rest ≡ true) (sym heads.0) k) f heads.1 in
+    record { more = r.more; whole_is = longer c d whole (part ++ r.more) heads.0 r.whole_is; rest_is = r.rest_is }
+
+-- ---- what is left of one
 
 -- a break begins no comment
 pub no_mark : (x : ℕ) → is_break x ≡ true → (x == 35) ≡ false
@@ -69,22 +83,32 @@ resumed true rest (x ∷ g) r e n h k = by (is_blank x) (is_break x) (is_nul x) 
     by true true false false b m n h k = k
     by false true false false b m n h k = k
 
-left_of : (c : Bool) (f rest g r : List ℕ) → f ++ rest ≡ g ++ r → has_no_nul rest ≡ true → is_separation c f rest ≡ true → is_separation c g r ≡ true → ends_separation r ≡ true → RestOf f rest g r
-left_of c [] rest g r e n h k s = record { more = g; is_whole = refl; is_rest = e; is_filled = resumed c rest g r e n h k }
-left_of c (d ∷ f) rest [] r e n h k s =
-    let after : r ≡ d ∷ (f ++ rest) = sym e in
-    absurd (over c d f rest (f ++ rest) h (subst (λ x. is_separation c [] x ≡ true) after k) (subst (λ x. ends_separation x ≡ true) after s))
-left_of false (d ∷ f) rest (x ∷ g) r e n h k s =
-    let heads : (d ≡ x) × (f ++ rest ≡ g ++ r) = same_head d x (f ++ rest) (g ++ r) e in
-    let own = and_parts (is_blank d || is_break d || (d == 35)) (is_separation (d == 35) f rest) h in
-    let other = and_parts (is_blank x || is_break x || (x == 35)) (is_separation (x == 35) g r) k in
-    longer_by d x f rest g r heads.0 (left_of (d == 35) f rest g r heads.1 n own.1 (subst (λ z. is_separation (z == 35) g r ≡ true) (sym heads.0) other.1) s)
-left_of true (d ∷ f) rest (x ∷ g) r e n h k s =
-    let heads : (d ≡ x) × (f ++ rest ≡ g ++ r) = same_head d x (f ++ rest) (g ++ r) e in
-    longer_by d x f rest g r heads.0 (left_of (not (is_break d)) f rest g r heads.1 n h (subst (λ z. is_separation (not (is_break z)) g r ≡ true) (sym heads.0) k) s)
+-- What is left of a separation is one.
+pub filled_on : (c : Bool) (part more next : List ℕ) → has_no_nul (more ++ next) ≡ true → is_separation c (part ++ more) next ≡ true → is_separation c part (more ++ next) ≡ true → is_separation false more next ≡ true
+filled_on c [] more next n h k = resumed c (more ++ next) more next refl n k h
+filled_on true (d ∷ part) more next n h k = filled_on (not (is_break d)) part more next n h k
+filled_on false (d ∷ part) more next n h k =
+    filled_on (d == 35) part more next n (and_parts (is_blank d || is_break d || (d == 35)) (is_separation (d == 35) (part ++ more) next) h).1 (and_parts (is_blank d || is_break d || (d == 35)) (is_separation (d == 35) part (more ++ next)) k).1
+
+-- A separation, of which a part was passed: what is left of it, up to the text after it.
+pub record RestOf (part rest whole next : List ℕ) : Type 0 where
+  pub more : List ℕ
+  pub is_whole : whole ≡ part ++ more
+  pub is_rest : rest ≡ more ++ next
+  pub is_filled : is_separation false more next ≡ true
+
+-- the separation with which the rest of the row begins goes on from a part that was passed
+pub row_begins : (a : Account) (ws : List Step) (last f rest : List ℕ) → IsRowFrom (Some a) ws last → spelled ws last ≡ f ++ rest → is_separation false f rest ≡ true → BeginsWith (separation_of ws last) f (text_after ws last) rest
+row_begins a ws last f rest row spells fills = let whole = is_whole a ws last row in begins_with_part false (separation_of ws last) f (text_after ws last) rest whole.0 fills whole.1 (sym (spelled_apart ws last) ∙ spells)
 
 -- A separation that was passed is a part of the one with which the rest of the row begins.
 pub rest_of : (a : Account) (ws : List Step) (last f rest : List ℕ) → IsRowFrom (Some a) ws last → spelled ws last ≡ f ++ rest → has_no_nul rest ≡ true → is_separation false f rest ≡ true → RestOf f rest (separation_of ws last) (text_after ws last)
-rest_of a ws last f rest row spells nul fills =
-    let whole = is_whole a ws last row in
-    left_of false f rest (separation_of ws last) (text_after ws last) (sym spells ∙ spelled_apart ws last) nul fills whole.0 whole.1
+rest_of a ws last f rest row spells clean fills =
+    let next : List ℕ = text_after ws last in
+    let b : BeginsWith (separation_of ws last) f next rest = row_begins a ws last f rest row spells fills in
+    record {
+      more = b.more;
+      is_whole = b.whole_is;
+      is_rest = b.rest_is;
+      is_filled = filled_on false f b.more next (subst (λ x. has_no_nul x ≡ true) b.rest_is clean) (subst (λ x. is_separation false x next ≡ true) b.whole_is (is_whole a ws last row).0) (subst (λ x. is_separation false f x ≡ true) b.rest_is fills);
+    }
