@@ -162,6 +162,11 @@ two_broken ctx start a p u = refl
 
 -- ---- breaks
 
+-- whether an escaped break stands directly before
+abbrev pub is_after : Mode → Bool
+is_after after = true
+is_after _ = false
+
 module _ (single : Bool) (ctx : Context) (start : Position) (r : List ℕ) where
   -- what is left of a body, its closing quote and the text after that
   abbrev pub to_quote : List ℕ → List ℕ

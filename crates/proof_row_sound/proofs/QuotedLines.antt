@@ -19,12 +19,7 @@ use Rattle.proof_lexers.proofs.Quoted.Turns.{off_margin, Ready, in_gap, after_es
 use Rattle.proof_lexers.proofs.Quoted.Elements.{step}
 use Rattle.proof_lexers.proofs.Quoted.Bodies.{from_gap, quote_feed, Opened, opened, not_opened, opens}
 use Rattle.yaml_tokens.specs.declared.problem.Fault.{Fault}
-use Rattle.proof_row_sound.proofs.QuotedBreaks.{Kind, has_content, has_blank, has_line, has_escaped, KindOf, is_white, quote_white, slash_white, kind, fits_from, lines_from, lines_here, deep_here, empty_here, one_more_blank, Breaks, break_goes, escaped_goes, body_between, has_elements, same_limit}
-
--- whether an escaped break stands directly before
-abbrev is_after : Mode → Bool
-is_after after = true
-is_after _ = false
+use Rattle.proof_row_sound.proofs.QuotedBreaks.{is_after, Kind, has_content, has_blank, has_line, has_escaped, KindOf, is_white, quote_white, slash_white, kind, fits_from, lines_from, lines_here, deep_here, empty_here, one_more_blank, Breaks, break_goes, escaped_goes, body_between, has_elements, same_limit}
 
 module _ (single : Bool) (ctx : Context) (start : Position) (column : ℕ) (limit : (k : ℕ) → nat_lt (k + 1) ctx.indent ≡ nat_lt k column) (r : List ℕ) (x : Read (List ℕ)) where
   -- the scan goes on to this end

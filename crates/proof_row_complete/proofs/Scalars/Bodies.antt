@@ -25,7 +25,7 @@ use Rattle.proof_lexers.proofs.Quoted.Turns as turns
 use Rattle.proof_lexers.proofs.Quoted.Turns.{off_margin, Ready, in_gap, after_escaped, scan, Begun, begun, marked, begins}
 use Rattle.proof_lexers.proofs.Quoted.Bodies.{from_gap, first_is_gap}
 use Rattle.proof_lexers.proofs.Quoted.Values.{bodies_are_read}
-use Rattle.proof_row_sound.proofs.QuotedBreaks.{Kind, has_content, has_blank, has_line, has_escaped, KindOf, is_white, quote_white, slash_white, kind, fits_from, lines_from, lines_here, to_quote, Breaks, break_goes, escaped_goes, body_between, has_elements, same_limit}
+use Rattle.proof_row_sound.proofs.QuotedBreaks.{is_after, Kind, has_content, has_blank, has_line, has_escaped, KindOf, is_white, quote_white, slash_white, kind, fits_from, lines_from, lines_here, to_quote, Breaks, break_goes, escaped_goes, body_between, has_elements, same_limit}
 use Rattle.proof_row_complete.proofs.Scalars.Contents.{OnTo, content_goes}
 
 -- ---- a line from a column on
@@ -86,11 +86,6 @@ blank_lines k column c e (line l escaped ls) h =
     (f.0, rw (f.1, q.1) refl)
 
 -- ---- the scan along the lines
-
--- whether an escaped break stands directly before
-abbrev is_after : Mode → Bool
-is_after after = true
-is_after _ = false
 
 module _ (single : Bool) (ctx : Context) (start : Position) (column : ℕ) (limit : (k : ℕ) → nat_lt (k + 1) ctx.indent ≡ nat_lt k column) (some : 2 ≤ ctx.indent) (r : List ℕ) (ends : ends_before single r ≡ true) where
   -- not refused for its indentation
