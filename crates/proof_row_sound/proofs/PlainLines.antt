@@ -250,7 +250,7 @@ module _ (ctx : Context) (start : Position) (c : ℕ) (a : List ℕ) where
       by false = refl
 
   -- the dash that is looked for before a scalar goes on
-  dash_is : (ctx.flow && true && (c == 45) && begins_flow a) ≡ at_dash ctx.flow (c ∷ a)
+  pub dash_is : (ctx.flow && true && (c == 45) && begins_flow a) ≡ at_dash ctx.flow (c ∷ a)
   unfolding at_dash model_classes.is_flow
   dash_is = ap (λ b. b && (c == 45) && begins_flow a) (left ctx.flow) ∙ ap (λ b. ctx.flow && (c == 45) && b) (sym (flow_next a))
     where

@@ -1,5 +1,5 @@
 -- The scan of a plain scalar is not refused, where its further lines fit, in flow no dash stands before a flow indicator, and no TAB indents what comes after its gap.
-use Rattle.std.proofs.Common.{◌≡◌, ℕ, zero, suc, ◌≤◌, List, [], ◌∷◌, ◌++◌, Bool, true, false, not, ◌&&◌, ◌||◌, ◌==◌, nat_lt, slice_index, if◌then◌else◌, Option, Result, Ok, Err, refl, ap, sym, ◌∙◌, subst, append_assoc, arith, ◌⊎◌, inl, inr}
+use Rattle.std.proofs.Common.{◌≡◌, ℕ, suc, ◌≤◌, List, [], ◌∷◌, ◌++◌, Bool, true, false, not, ◌&&◌, ◌||◌, ◌==◌, nat_lt, slice_index, if◌then◌else◌, Option, Ok, refl, ap, sym, ◌∙◌, subst, append_assoc, arith, ◌⊎◌, inl, inr}
 use Rattle.std.proofs.lemmas.Bool.{and_parts, eqb-true}
 use Rattle.std.proofs.lemmas.Bool.Decides.{nat_tests}
 use Rattle.defs_text.specs.Position.{Position}
@@ -11,7 +11,7 @@ use Rattle.defs_row.specs.Lines.{plain_lines_fit, has_dash_before_flow}
 use Rattle.yaml_chars.specs.Class.{is_break, is_blank}
 use Rattle.yaml_tokens.specs.declared.problem.Fault.{Fault}
 use Rattle.model_lexers.specs.declared.context.Context.{Context}
-use Rattle.model_lexers.specs.Machine.{Turn, stop, fail, on, turned, Stop, run, Read, and_then, at_marker}
+use Rattle.model_lexers.specs.Machine.{Turn, stop, fail, on, turned, Stop, run, Read, at_marker}
 use Rattle.model_lexers.specs.Folding.{nothing, joined}
 use Rattle.model_lexers.specs.Plain.{Mode, first, inside, between, tabs, PlainState, can_be_plain, at_char, is_shallow, at_dash, at_plain, goes_on, begun, turn_in, turn, Plain, starts, plain}
 use Rattle.proof_lexers.proofs.Bridges.{same_break, same_blank, and_false}

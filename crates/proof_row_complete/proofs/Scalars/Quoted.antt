@@ -1,21 +1,19 @@
 -- A quoted scalar of the row is read, and the row goes on after it.
-use Rattle.std.proofs.Common.{◌≡◌, ℕ, ◌-◌, List, [], ◌∷◌, ◌++◌, Bool, true, false, not, ◌&&◌, if◌then◌else◌, Option, Some, None, Ok, refl, ap, sym, ◌∙◌, subst, append_assoc, inr}
+use Rattle.std.proofs.Common.{◌≡◌, ℕ, ◌-◌, List, [], ◌∷◌, ◌++◌, Bool, true, false, not, ◌&&◌, Option, Some, Ok, refl, ap, sym, ◌∙◌, subst, append_assoc, inr}
 use Rattle.std.proofs.lemmas.Bool.{and_parts}
 use Rattle.std.proofs.lemmas.List.{append_cancel_right}
 use Rattle.defs_text.specs.Classes.{is_blank_or_end, is_blank, is_break, is_nul, is_flow}
-use Rattle.defs_text.specs.Position.{Position, position_after}
-use Rattle.defs_text.specs.Text.{is_empty, has_no_nul}
+use Rattle.defs_text.specs.Position.{position_after}
+use Rattle.defs_text.specs.Text.{is_empty}
 use Rattle.defs_token.specs.Token.{Tok}
 use Rattle.defs_token.specs.Account as pieces
 use Rattle.defs_token.specs.Piece.{IsSingleQuoted, IsDoubleQuoted}
 use Rattle.defs_row.specs.Step.{Step, spelled, act_of, gives_node, quoted_scalar}
-use Rattle.defs_row.specs.Column.{is_in_column}
 use Rattle.defs_row.specs.Indentation.{least_column, is_indented_by_spaces}
 use Rattle.defs_row.specs.Lines.{quoted_lines_fit, further_lines_stand}
 use Rattle.defs_row.specs.Following.{quoted_may_end, may_precede}
-use Rattle.defs_row.specs.Key.{Line, free, taken, waits, begins_free_line, line_past_separation, Outside, line_past}
-use Rattle.defs_row.specs.FlowEntry.{Entry, begun_by, is_renewed}
-use Rattle.defs_row.specs.Account.{Site, Account, is_in_flow, site_in, site_past, least_for, is_deep_enough, may_stand, on_one_line, past_outside, past_inside, past_piece, account_past, seen}
+use Rattle.defs_row.specs.FlowEntry.{Entry}
+use Rattle.defs_row.specs.Account.{Site, Account, is_in_flow, site_in, least_for, is_deep_enough, seen}
 use Rattle.defs_row.specs.Tokens.{shown_position}
 use Rattle.defs_row.specs.Row.{IsWritten, IsRowFrom}
 use Rattle.model_lexers.specs.Machine as machine
@@ -26,6 +24,7 @@ use Rattle.model_scanner.specs.Space.{between, skip, skip_to_next_token}
 use Rattle.model_scanner.specs.Flow.{allow_key}
 use Rattle.model_scanner.specs.Document.{context, quoted_style, check_after_quoted, adjacent_here, fetch_flow_scalar}
 use Rattle.model_scanner.proofs.Holds.{held_of}
+use Rattle.proof_lexers.specs.PlainEnds.{has_no_nul}
 use Rattle.proof_lexers.specs.QuotedScan.{element_of, value_of, ends_before}
 use Rattle.proof_ends.specs.Ends.{in_single_quotes, in_double_quotes}
 use Rattle.proof_row.proofs.Written.{At, not_empty}
