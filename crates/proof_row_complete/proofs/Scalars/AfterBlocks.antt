@@ -24,7 +24,7 @@ use Rattle.proof_row_sound.proofs.BlockEnds.{IsLeast, Written, written, spaces_c
 
 -- ---- a scalar without content
 
--- Spaces alone, up to a column at most, stand before the first content of later lines.
+-- A line in which no content begins is of spaces alone, and ends at the column or left of it.
 record Passed (column : ℕ) (w y : List ℕ) (p : Position) : Type 0 where
   are_spaces : is_spaces w ≡ true
   is_short : p.col + length w ≤ column
@@ -61,7 +61,7 @@ no_content column piece next p w h =
 
 -- ---- what stands after it
 
--- what stands after a piece is neither a TAB in the line after a header nor shallow text
+-- No TAB begins the line after a header, and what stands after a scalar without content is not both deeper than the block collection and left of the content column.
 pub record IsClear (indent : ℕ) (p : Position) (b : BlockRead) (piece next : List ℕ) : Type 0 where
   pub untabbed : is_tabbed piece next ≡ false
   pub deep : is_shallow indent p b piece next ≡ false

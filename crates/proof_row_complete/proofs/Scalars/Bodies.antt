@@ -30,7 +30,7 @@ use Rattle.proof_row_complete.proofs.Scalars.Contents.{OnTo, content_goes}
 
 -- ---- a line from a column on
 
--- what holds something in a column, or stands right of it, is deep enough
+-- a line that holds something, and has no more blanks before it, has come to the column
 deep_of : (k column : ℕ) → fits_from k column true [] ≡ true → nat_le column k ≡ true
 deep_of k column h = let q = and_parts (not (has_tab_within (column - k) [])) (nat_le column (k + 0)) h in let up = q.1 in grind (arith, nat_tests, up)
 
@@ -104,7 +104,7 @@ module _ (single : Bool) (ctx : Context) (start : Position) (column : ℕ) (limi
   clear_read x y e (by_line p h f) = cc (e, f)
   clear_read x y e (by_tab p h f) = cc (e, f)
 
-  -- Where a line may be indented the scan goes on to the closing quote.
+  -- If what is left of the lines is indented, the scan is not refused for its indentation.
   abbrev AtLine : ℕ → List ℕ → Type 0
   AtLine n a = (es : List Element) (m : Mode) (p : Position) (t : Folded) → elements (element_of single) n a ≡ Some es → Ready single t m → lines_from p.col column (is_after m) (lines_of es) ≡ true → Clear (scan single ctx start (to_quote single ctx start r (drop n a)) m p t)
 
@@ -121,7 +121,7 @@ module _ (single : Bool) (ctx : Context) (start : Position) (column : ℕ) (limi
       let low2 : nat_lt p.col column ≡ false = sym (limit p.col) ∙ low in
       grind (arith, nat_tests, low2)
 
-  -- what begins where it may
+  -- what begins in a line that is deep enough
   begun_clear : (a : List ℕ) (p : Position) (t : Folded) → nat_le column p.col ≡ true → Begun single ctx start a p t → Clear (scan single ctx start a inside p (joined t)) → Clear (scan single ctx start a gap p t)
   begun_clear a p t h (begun none low is) c = clear_on _ _ is c
   begun_clear a p t h (marked g is) c = clear_marked _ is
@@ -135,25 +135,25 @@ module _ (single : Bool) (ctx : Context) (start : Position) (column : ℕ) (limi
     later : AtLine s.further b
     others : elements (element_of single) s.further b ≡ Some fs
 
-  abbrev rest_of : ℕ → List ℕ → List ℕ
-  rest_of c b = to_quote single ctx start r (c ∷ b)
+  abbrev text_from : ℕ → List ℕ → List ℕ
+  text_from c b = to_quote single ctx start r (c ∷ b)
 
   -- a line begins
   line_start : (x : Result (Read (List ℕ)) Fault) (c : ℕ) (b : List ℕ) (s : Spelled) (fs : List Element) → Others c b s fs → (m : Mode) (t : Folded) → Ready single t m → Breaks single ctx start r x (drop s.further b) m t → lines_fit column (is_after m) (lines_of fs) ≡ true → Clear x
   line_start x c b s fs o m t ready z fit =
       clear_on _ _ z.is (o.later fs m z.past_it t o.others ready (subst (λ k. lines_from k column (is_after m) (lines_of fs) ≡ true) (sym z.at_margin) (lines_here column (is_after m) (lines_of fs) ∙ fit)))
 
-  content_clear : (c : ℕ) (b : List ℕ) (code k : ℕ) (fs : List Element) → Others c b (turns.spelled (content code) k) fs → is_white c ≡ false → (p : Position) (t : Folded) → nat_le column p.col ≡ true → further_lines_fit column (lines_of fs) ≡ true → Clear (scan single ctx start (rest_of c b) gap p t)
+  content_clear : (c : ℕ) (b : List ℕ) (code k : ℕ) (fs : List Element) → Others c b (turns.spelled (content code) k) fs → is_white c ≡ false → (p : Position) (t : Folded) → nat_le column p.col ≡ true → further_lines_fit column (lines_of fs) ≡ true → Clear (scan single ctx start (text_from c b) gap p t)
   content_clear c b code k fs o solid p t deep fit =
       let i : IsIn ctx p = is_in p deep in
       let q : Position = along (c ∷ take k b) p in
-      let g : OnTo single ctx start (scan single ctx start (rest_of c b) gap p t) (drop k b ++ quote_of single ∷ r) q = content_goes single ctx start c b (quote_of single ∷ r) code k p t o.is solid i in
+      let g : OnTo single ctx start (scan single ctx start (text_from c b) gap p t) (drop k b ++ quote_of single ∷ r) q = content_goes single ctx start c b (quote_of single ∷ r) code k p t o.is solid i in
       clear_on _ _ g.is (o.later fs gap q g.now o.others in_gap (deep_lines q.col column false (lines_of fs) (deep_in q (moves ctx (c ∷ take k b) p i)) fit))
 
-  blank_clear : (c : ℕ) (b : List ℕ) (fs : List Element) → Others c b (turns.spelled (blank c) 0) fs → is_break c ≡ false → is_blank c ≡ true → (p : Position) (t : Folded) → ((c == 9) && nat_lt p.col column) ≡ false → lines_from (suc p.col) column false (lines_of fs) ≡ true → Clear (scan single ctx start (rest_of c b) gap p t)
+  blank_clear : (c : ℕ) (b : List ℕ) (fs : List Element) → Others c b (turns.spelled (blank c) 0) fs → is_break c ≡ false → is_blank c ≡ true → (p : Position) (t : Folded) → ((c == 9) && nat_lt p.col column) ≡ false → lines_from (suc p.col) column false (lines_of fs) ≡ true → Clear (scan single ctx start (text_from c b) gap p t)
   blank_clear c b fs o f g p t tab fit =
       let none : (t.leading && (c == 9) && nat_lt (p.col + 1) ctx.indent) ≡ false = ap (λ y. t.leading && (c == 9) && y) (limit p.col) ∙ last t.leading tab in
-      let on : scan single ctx start (rest_of c b) gap p t ≡ scan single ctx start (to_quote single ctx start r b) gap (past p) (after_element (blank c) t) = rw (f, g, none) refl in
+      let on : scan single ctx start (text_from c b) gap p t ≡ scan single ctx start (to_quote single ctx start r b) gap (past p) (after_element (blank c) t) = rw (f, g, none) refl in
       let more : suc p.col ≡ p.col + 1 = omega arith in
       clear_on _ _ on (o.later fs gap (past p) (after_element (blank c) t) o.others in_gap (subst (λ k. lines_from k column false (lines_of fs) ≡ true) more fit))
     where
@@ -162,16 +162,16 @@ module _ (single : Bool) (ctx : Context) (start : Position) (column : ℕ) (limi
       last false h = refl
 
   escaped_clear : (c : ℕ) (b : List ℕ) (s : Spelled) (fs : List Element) → Others c b s fs → (d : ℕ) (a : List ℕ) → single ≡ false → c ≡ 92 → b ≡ d ∷ a → is_break d ≡ true → s.further ≡ suc (break_further d a) → (p : Position) (t : Folded) → nat_le column p.col ≡ true →
-      lines_fit column true (lines_of fs) ≡ true → Clear (scan single ctx start (rest_of c b) gap p t)
+      lines_fit column true (lines_of fs) ≡ true → Clear (scan single ctx start (text_from c b) gap p t)
   escaped_clear c b s fs o d a double same_c same_b f k p t deep fit =
-      subst (λ y. Clear (scan single ctx start (rest_of c y) gap p t)) (sym same_b)
-      (subst (λ y. Clear (scan single ctx start (rest_of y (d ∷ a)) gap p t)) (sym same_c)
-      (begun_clear (rest_of 92 (d ∷ a)) p t deep (begins single ctx start 92 (to_quote single ctx start r (d ∷ a)) p t slash_white)
+      subst (λ y. Clear (scan single ctx start (text_from c y) gap p t)) (sym same_b)
+      (subst (λ y. Clear (scan single ctx start (text_from y (d ∷ a)) gap p t)) (sym same_c)
+      (begun_clear (text_from 92 (d ∷ a)) p t deep (begins single ctx start 92 (to_quote single ctx start r (d ∷ a)) p t slash_white)
       (line_start _ c b s fs o after (with_escaped_break (joined t)) (after_escaped double refl refl)
-      (subst (λ y. Breaks single ctx start r (scan single ctx start (rest_of 92 (d ∷ a)) inside p (joined t)) y after (with_escaped_break (joined t))) (ap (λ n. drop n (d ∷ a)) (sym k) ∙ ap (λ y. drop s.further y) (sym same_b))
+      (subst (λ y. Breaks single ctx start r (scan single ctx start (text_from 92 (d ∷ a)) inside p (joined t)) y after (with_escaped_break (joined t))) (ap (λ n. drop n (d ∷ a)) (sym k) ∙ ap (λ y. drop s.further y) (sym same_b))
       (escaped_goes single ctx start r double d a p (joined t) f)) fit)))
 
-  by_kind : (c : ℕ) (b : List ℕ) (s : Spelled) (fs : List Element) → Others c b s fs → Kind single c b s → (e : Bool) (p : Position) (t : Folded) → lines_from p.col column e (lines_of (s.element ∷ fs)) ≡ true → Clear (scan single ctx start (rest_of c b) gap p t)
+  by_kind : (c : ℕ) (b : List ℕ) (s : Spelled) (fs : List Element) → Others c b s fs → Kind single c b s → (e : Bool) (p : Position) (t : Folded) → lines_from p.col column e (lines_of (s.element ∷ fs)) ≡ true → Clear (scan single ctx start (text_from c b) gap p t)
   by_kind c b s fs o (has_content code k solid) e p t h = let q = content_deep p.col column code e (lines_of fs) h in content_clear c b code k fs o solid p t q.0 q.1
   by_kind c b s fs o (has_blank f g) e p t h = let q = blank_lines p.col column c e (lines_of fs) h in blank_clear c b fs o f g p t q.0 q.1
   by_kind c b s fs o (has_line f) e p t h =
@@ -182,7 +182,7 @@ module _ (single : Bool) (ctx : Context) (start : Position) (column : ℕ) (limi
       escaped_clear c b s fs o d a double same_c same_b f refl p t (deep_of p.col column q.0) q.1
 
   by_elements : (c : ℕ) (b : List ℕ) (s : Spelled) (o : Option (List Element)) (es : List Element) (m : Mode) (p : Position) (t : Folded) → element_of single c b ≡ Some s → AtLine s.further b → elements (element_of single) s.further b ≡ o → put_before s.element o ≡ Some es → Ready single t m →
-      lines_from p.col column (is_after m) (lines_of es) ≡ true → Clear (scan single ctx start (rest_of c b) m p t)
+      lines_from p.col column (is_after m) (lines_of es) ≡ true → Clear (scan single ctx start (text_from c b) m p t)
   by_elements c b s None es m p t is later rest h ready fit = absurd (cc h)
   by_elements c b s (Some fs) es m p t is later rest h ready fit =
       let same : es ≡ s.element ∷ fs = cc in
@@ -191,7 +191,7 @@ module _ (single : Bool) (ctx : Context) (start : Position) (column : ℕ) (limi
       (by_kind c b s fs (record { is = is; later = later; others = rest }) k (is_after m) p t (subst (λ z. lines_from p.col column (is_after m) (lines_of z) ≡ true) same fit))
 
   by_element : (c : ℕ) (b : List ℕ) (o : Option Spelled) (es : List Element) (m : Mode) (p : Position) (t : Folded) → element_of single c b ≡ o → ((n : ℕ) → AtLine n b) → followed o (λ n. elements (element_of single) n b) ≡ Some es → Ready single t m →
-      lines_from p.col column (is_after m) (lines_of es) ≡ true → Clear (scan single ctx start (rest_of c b) m p t)
+      lines_from p.col column (is_after m) (lines_of es) ≡ true → Clear (scan single ctx start (text_from c b) m p t)
   by_element c b None es m p t is later h ready fit = absurd (cc h)
   by_element c b (Some s) es m p t is later h ready fit = by_elements c b s (elements (element_of single) s.further b) es m p t is (later s.further) refl h ready fit
 

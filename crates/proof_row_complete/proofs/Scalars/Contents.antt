@@ -60,7 +60,7 @@ module _ (single : Bool) (ctx : Context) (start : Position) where
       by false true e f = rw (same_break c, same_blank c, e, f) tt
       by false false e f = rw (same_break c, same_blank c, e, f) (by_written (c ∷ []) c (char_goes single ctx start c (rw (e, f) refl) slash quote))
 
-  -- content is read from where a line begins, or goes on
+  -- it is read too where blanks or breaks stand before it
   from_gap_by : (c : ℕ) (w a : List ℕ) (p : Position) (t : Folded) → IsIn ctx p → Goes (c ∷ w) → Begun single ctx start (c ∷ (w ++ a)) p t → OnTo (scan single ctx start (c ∷ (w ++ a)) gap p t) a (along (c ∷ w) p)
   from_gap_by c w a p t i g (begun none low is) = let went = g a (joined t).text p i in record { now = went.now; is = is ∙ went.is }
   from_gap_by c w a p t i g (marked h is) = absurd (cc ((and_parts (p.col == 0) _ h).0, off ctx p i))
