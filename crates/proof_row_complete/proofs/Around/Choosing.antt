@@ -5,7 +5,7 @@ use Rattle.std.proofs.lemmas.Bool.Decides.{nat_tests}
 use Rattle.yaml_tokens.specs.declared.problem.Fault.TheVariants.{At}
 use Rattle.yaml_tokens.specs.declared.problem.Problem.TheVariants as problem
 use Rattle.defs_text.specs.Classes.{is_blank, is_break, is_nul, is_blank_or_end, is_flow, is_document_marker}
-use Rattle.defs_text.specs.Text.{is_empty}
+use Rattle.defs_text.specs.Text.{is_empty, has_no_nul}
 use Rattle.defs_scalar.specs.Directives.{Directive, version, tag_declaration, reserved}
 use Rattle.defs_token.specs.Account.{is_adjacent}
 use Rattle.defs_row.specs.Step.{Step, spelled, act_of, is_marker}
@@ -18,7 +18,6 @@ use Rattle.model_scanner.specs.State.{ScannerState, peek, after, in_flow}
 use Rattle.model_scanner.specs.Fetch.{fetch_token, comes_marker, fetch_indented, fetch_first_column, fetch_content, fetch_here}
 use Rattle.proof_ends.specs.Ends.{directive_line, kind_at}
 use Rattle.proof_ends.proofs.Begins.{directive_token, Whole}
-use Rattle.proof_lexers.specs.PlainEnds.{has_no_nul}
 use Rattle.proof_row.proofs.Written.{At as SiteAt, not_empty}
 use Rattle.proof_cut.specs.Stands.{FaresAt}
 use Rattle.proof_cut.proofs.Nodes.{IsDeep}

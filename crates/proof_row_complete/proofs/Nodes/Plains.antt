@@ -5,7 +5,7 @@ use Rattle.std.proofs.lemmas.Bool.Decides.{nat_tests}
 use Rattle.defs_text.specs.Classes as classes
 use Rattle.defs_text.specs.Classes.{is_one_of, is_blank_or_end, is_nul, is_at_gap, are_marks, is_document_marker}
 use Rattle.defs_text.specs.Position.{Position}
-use Rattle.defs_text.specs.Text.{is_empty}
+use Rattle.defs_text.specs.Text.{is_empty, has_no_nul}
 use Rattle.defs_token.specs.Token.{Style, Tok}
 use Rattle.defs_token.specs.Account.{is_adjacent}
 use Rattle.defs_token.specs.Plain as defs
@@ -25,7 +25,7 @@ use Rattle.model_scanner.specs.Indents.{Levels, unroll_non_block_indents}
 use Rattle.model_scanner.specs.State.{ScannerState, in_flow, on_held, push, lexed}
 use Rattle.model_scanner.specs.Flow.{allow_key}
 use Rattle.model_scanner.specs.Document.{context, after_plain, fetch_plain_scalar}
-use Rattle.proof_lexers.specs.PlainEnds.{collection_of, is_white, is_gap, begins_white, has_no_nul}
+use Rattle.proof_lexers.specs.PlainEnds.{collection_of, is_white, is_gap, begins_white}
 use Rattle.proof_lexers.specs.Separations.{begins_separation}
 use Rattle.proof_cut.specs.PiecesRead.{comes_plain}
 use Rattle.proof_cut.proofs.Nodes.{IsDeep}

@@ -4,7 +4,7 @@ use Rattle.std.proofs.lemmas.Bool.{and_parts}
 use Rattle.std.proofs.lemmas.List.{append_cancel_right}
 use Rattle.defs_text.specs.Classes.{is_blank_or_end, is_blank, is_break, is_nul, is_flow}
 use Rattle.defs_text.specs.Position.{position_after}
-use Rattle.defs_text.specs.Text.{is_empty}
+use Rattle.defs_text.specs.Text.{is_empty, has_no_nul}
 use Rattle.defs_token.specs.Token.{Tok}
 use Rattle.defs_token.specs.Account as pieces
 use Rattle.defs_token.specs.Piece.{IsSingleQuoted, IsDoubleQuoted}
@@ -24,7 +24,6 @@ use Rattle.model_scanner.specs.Space.{between, skip, skip_to_next_token}
 use Rattle.model_scanner.specs.Flow.{allow_key}
 use Rattle.model_scanner.specs.Document.{context, quoted_style, check_after_quoted, adjacent_here, fetch_flow_scalar}
 use Rattle.model_scanner.proofs.Holds.{held_of}
-use Rattle.proof_lexers.specs.PlainEnds.{has_no_nul}
 use Rattle.proof_lexers.specs.QuotedScan.{element_of, value_of, ends_before}
 use Rattle.proof_ends.specs.Ends.{in_single_quotes, in_double_quotes}
 use Rattle.proof_row.proofs.Written.{At, not_empty}
