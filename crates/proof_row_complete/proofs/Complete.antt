@@ -1,6 +1,7 @@
--- If the function of each token reads a step of the row, a text that has a row is not refused.
+-- The function of each token reads a step of the row, and so does each fetch; so a text that has a row is not refused.
 use Rattle.std.proofs.Common.{◌≡◌, ℕ, ◌+◌, List, [], ◌∷◌, true, if◌then◌else◌, Result, Ok, Err, refl, sym, subst}
 use Rattle.yaml_tokens.specs.declared.problem.Fault.{Fault}
+use Rattle.defs_text.specs.Classes.{is_at_gap}
 use Rattle.defs_row.specs.Step.{Step}
 use Rattle.model_scanner.specs.State.{ScannerState, ◌>>=◌, on_held, try_held}
 use Rattle.model_scanner.specs.Keys.{stale}
@@ -9,6 +10,7 @@ use Rattle.model_scanner.specs.Space.{skip_to_next_token}
 use Rattle.model_scanner.specs.Document.{fetch_stream_start}
 use Rattle.model_scanner.specs.Fetch.{fetch_here, fetch_next, fetch}
 use Rattle.proof_cut.specs.Stands.{FaresAt}
+use Rattle.proof_cut.proofs.Nodes.{IsDeep}
 use Rattle.proof_row_complete.specs.Goes.{Succeeds, Goes, GoesHere, FetchReads, IsComplete}
 use Rattle.proof_row_complete.specs.EachReads.{EachReads}
 use Rattle.proof_row_complete.proofs.Runs.{read_by_row}
@@ -17,6 +19,16 @@ use Rattle.proof_row_complete.proofs.Around.Arriving.{arrives}
 use Rattle.proof_row_complete.proofs.Around.Stales.{leaves}
 use Rattle.proof_row_complete.proofs.Around.Choosing.{chooses}
 use Rattle.proof_row_complete.proofs.Around.Ending.{ends, stays_over}
+use Rattle.proof_row_complete.proofs.Documents.Marks.{document_start_reads, document_end_reads, directive_reads}
+use Rattle.proof_row_complete.proofs.Indicators.Colons.{colon_reads}
+use Rattle.proof_row_complete.proofs.Indicators.Dashes.{IsClearOfMargin, dash_reads_if}
+use Rattle.proof_row_complete.proofs.Indicators.FlowMarks.{comma_reads, close_bracket_reads, close_brace_reads}
+use Rattle.proof_row_complete.proofs.Indicators.Openings.{open_bracket_reads, open_brace_reads}
+use Rattle.proof_row_complete.proofs.Indicators.Questions.{question_reads}
+use Rattle.proof_row_complete.proofs.Nodes.Plains.{plain_reads}
+use Rattle.proof_row_complete.proofs.Nodes.Properties.{anchor_reads, tag_reads}
+use Rattle.proof_row_complete.proofs.Scalars.Blocks.{block_reads}
+use Rattle.proof_row_complete.proofs.Scalars.Quoted.{quoted_reads}
 
 -- what comes after two steps
 then_on : {A B C D : Type 0} (r : Result A Fault) (s : A → Result B Fault) (f : B → C) (k : C → Result D Fault) → (r >>= λ u. s u >>= λ v. k (f v)) ≡ ((r >>= λ u. s u >>= λ v. Ok (f v)) >>= k)
@@ -36,12 +48,38 @@ fetched text ws last t P k g go =
     (and_then (arrives text ws last t k g) (λ v a. go v a.0 a.1)))
 
 -- Each fetch reads a step of the row, if the function of each token does.
-pub fetch_reads : EachReads → FetchReads
+fetch_reads : EachReads → FetchReads
 fetch_reads each = record {
   reads = λ text w ws last t nul k g. fetched text (w ∷ ws) last t (Goes text ws last) k g (λ v c h. and_then (chooses each text w ws last v c h) (λ u x. leaves text ws last u x));
   ends = λ text last t nul k g. fetched text [] last t (λ u. u.held.ended ≡ true) k g (λ v c h. and_then (ends text last v h) (λ u x. stays_over u x));
 }
 
+-- ---- the functions of the tokens
+
+-- what is left: where a dash of the row stands in column 0, the last token is no property there
+abbrev pub DashesAreClear : Type 0
+DashesAreClear = (text : List ℕ) (w : Step) (ws : List Step) (last : List ℕ) (t : ScannerState) (more : List ℕ) → t.rest ≡ 45 ∷ more → is_at_gap more ≡ true → IsDeep t.held → GoesHere text (w ∷ ws) last t → IsClearOfMargin t
+
+each_reads : DashesAreClear → EachReads
+each_reads clear = record {
+  anchor = anchor_reads;
+  tag = tag_reads;
+  quoted = quoted_reads;
+  block = block_reads;
+  dash = λ text w ws last t more e gap deep g. dash_reads_if text w ws last t more e gap deep (clear text w ws last t more e gap deep g) g;
+  question = question_reads;
+  colon = colon_reads;
+  open_bracket = open_bracket_reads;
+  open_brace = open_brace_reads;
+  close_bracket = close_bracket_reads;
+  close_brace = close_brace_reads;
+  comma = comma_reads;
+  directive = directive_reads;
+  document_start = document_start_reads;
+  document_end = document_end_reads;
+  plain = plain_reads;
+}
+
 -- So a text without NUL that has a row has the row's tokens by the model.
-pub read_by_tokens : EachReads → IsComplete
-read_by_tokens each = read_by_row (fetch_reads each)
+pub read_if_clear : DashesAreClear → IsComplete
+read_if_clear clear = read_by_row (fetch_reads (each_reads clear))
