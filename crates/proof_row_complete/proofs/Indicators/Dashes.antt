@@ -204,10 +204,14 @@ no_dash_inside text more w ws last t g e gap within =
     there : (fl adjacent : Bool) (column : ℕ) → kind_at fl adjacent column (45 ∷ more) ≡ dash
     there fl adjacent column = rw gap refl
 
--- `-`
-pub dash_reads_if : (text : List ℕ) (w : Step) (ws : List Step) (last : List ℕ) (t : ScannerState) (more : List ℕ) → t.rest ≡ 45 ∷ more → is_at_gap more ≡ true → IsDeep t.held → IsClearOfMargin t → Reads text w ws last t fetch_block_entry
-dash_reads_if text w ws last t more e gap deep margin g = by (goes_side text (w ∷ ws) last t g)
+-- `-`, where the model's tokens so far are clear of the margin
+pub dash_reads_if : (text : List ℕ) (w : Step) (ws : List Step) (last : List ℕ) (t : ScannerState) (more : List ℕ) → t.rest ≡ 45 ∷ more → is_at_gap more ≡ true → IsDeep t.held → (NoneOpen text (w ∷ ws) last t → IsClearOfMargin t) →
+    Reads text w ws last t fetch_block_entry
+dash_reads_if text w ws last t more e gap deep clear g = by (goes_side text (w ∷ ws) last t g)
   where
     by : GoesOutside text (w ∷ ws) last t ⊎ GoesInside text (w ∷ ws) last t → Succeeds (Goes text ws last) (fetch_block_entry t)
-    by (inl o) = let n = none_here text more w ws last t e gap o in reads_outside text more w ws last t e gap deep (none_open text (w ∷ ws) last t o n.0) n.1 margin
+    by (inl o) =
+        let free = none_here text more w ws last t e gap o in
+        let none : NoneOpen text (w ∷ ws) last t = none_open text (w ∷ ws) last t o free.0 in
+        reads_outside text more w ws last t e gap deep none free.1 (clear none)
     by (inr i) = absurd (no_dash_inside text more w ws last t g e gap (ap (λ fs. not (is_empty fs)) i.side.flow_is))
