@@ -1,4 +1,4 @@
--- What a text is read as comes from its row: each law is the contract of the function of `src/rows.rt` that its comment names.
+-- What a text is read as comes from its row, and a text whose row is read as trees is read so: each law is the contract of the function of `src/rows.rt` that its comment names.
 use Rattle.std.specs.Prelude.{ℕ, Bool, List}
 use Rattle.defs_text.specs.Position.{Position}
 use Rattle.defs_tree.specs.Tree.{Tree}
@@ -13,6 +13,10 @@ use Rattle.proof_loads.specs.Spelled.{IsWithoutNul}
 -- `read_texts_mean_their_trees`
 abbrev pub ReadTextsMeanTheirTrees : Type 0
 ReadTextsMeanTheirTrees = (keep_tags : Bool) (text : List ℕ) (trees : List Tree) → IsWithoutNul text → IsReadAs keep_tags text trees → Means keep_tags text trees
+
+-- `meant_trees_are_read`
+abbrev pub MeantTreesAreRead : Type 0
+MeantTreesAreRead = (keep_tags : Bool) (text : List ℕ) (trees : List Tree) → IsWithoutNul text → Means keep_tags text trees → IsReadAs keep_tags text trees
 
 -- `events_are_of_the_row`
 abbrev pub EventsAreOfTheRow : Type 0

@@ -1,12 +1,19 @@
 //! What a text is read as comes from its one row of tokens. Each law is the contract of an empty function.
 
-ghost use Rattle.proof_loads.specs.Rows.{EventsAreOfTheRow, ReadTextsMeanTheirTrees};
+ghost use Rattle.proof_loads.specs.Rows.{EventsAreOfTheRow, MeantTreesAreRead, ReadTextsMeanTheirTrees};
 
 /// A text without NUL that is read as trees means these trees: its row of tokens, by the strict definition, is read
 /// as them. A text has one row at most.
 #[tactic(auto, using(crate::proofs::RowTexts::means_its_trees))]
 pub fn read_texts_mean_their_trees()
     ensures { ReadTextsMeanTheirTrees }
+{}
+
+/// A text without NUL that means trees is read as them: it is not refused. So by the definitions alone it is known
+/// which texts load, and as what.
+#[tactic(auto, using(crate::proofs::RowTexts::meant_are_read))]
+pub fn meant_trees_are_read()
+    ensures { MeantTreesAreRead }
 {}
 
 /// The events of a text without NUL are those of its row of tokens, by the strict definition and the token grammar.

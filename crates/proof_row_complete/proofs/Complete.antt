@@ -1,7 +1,6 @@
 -- The function of each token reads a step of the row, and so does each fetch; so a text that has a row is not refused.
 use Rattle.std.proofs.Common.{◌≡◌, ℕ, ◌+◌, List, [], ◌∷◌, true, if◌then◌else◌, Result, Ok, Err, refl, sym, subst}
 use Rattle.yaml_tokens.specs.declared.problem.Fault.{Fault}
-use Rattle.defs_text.specs.Classes.{is_at_gap}
 use Rattle.defs_row.specs.Step.{Step}
 use Rattle.model_scanner.specs.State.{ScannerState, ◌>>=◌, on_held, try_held}
 use Rattle.model_scanner.specs.Keys.{stale}
@@ -10,7 +9,6 @@ use Rattle.model_scanner.specs.Space.{skip_to_next_token}
 use Rattle.model_scanner.specs.Document.{fetch_stream_start}
 use Rattle.model_scanner.specs.Fetch.{fetch_here, fetch_next, fetch}
 use Rattle.proof_cut.specs.Stands.{FaresAt}
-use Rattle.proof_cut.proofs.Nodes.{IsDeep}
 use Rattle.proof_row_complete.specs.Goes.{Succeeds, Goes, GoesHere, FetchReads, IsComplete}
 use Rattle.proof_row_complete.specs.EachReads.{EachReads}
 use Rattle.proof_row_complete.proofs.Runs.{read_by_row}
@@ -21,7 +19,7 @@ use Rattle.proof_row_complete.proofs.Around.Choosing.{chooses}
 use Rattle.proof_row_complete.proofs.Around.Ending.{ends, stays_over}
 use Rattle.proof_row_complete.proofs.Documents.Marks.{document_start_reads, document_end_reads, directive_reads}
 use Rattle.proof_row_complete.proofs.Indicators.Colons.{colon_reads}
-use Rattle.proof_row_complete.proofs.Indicators.Dashes.{IsClearOfMargin, dash_reads_if}
+use Rattle.proof_row_complete.proofs.Indicators.Margins.{dash_reads}
 use Rattle.proof_row_complete.proofs.Indicators.FlowMarks.{comma_reads, close_bracket_reads, close_brace_reads}
 use Rattle.proof_row_complete.proofs.Indicators.Openings.{open_bracket_reads, open_brace_reads}
 use Rattle.proof_row_complete.proofs.Indicators.Questions.{question_reads}
@@ -56,17 +54,13 @@ fetch_reads each = record {
 
 -- ---- the functions of the tokens
 
--- what is left: where a dash of the row stands in column 0, the last token is no property there
-abbrev pub DashesAreClear : Type 0
-DashesAreClear = (text : List ℕ) (w : Step) (ws : List Step) (last : List ℕ) (t : ScannerState) (more : List ℕ) → t.rest ≡ 45 ∷ more → is_at_gap more ≡ true → IsDeep t.held → GoesHere text (w ∷ ws) last t → IsClearOfMargin t
-
-each_reads : DashesAreClear → EachReads
-each_reads clear = record {
+each_reads : EachReads
+each_reads = record {
   anchor = anchor_reads;
   tag = tag_reads;
   quoted = quoted_reads;
   block = block_reads;
-  dash = λ text w ws last t more e gap deep g. dash_reads_if text w ws last t more e gap deep (clear text w ws last t more e gap deep g) g;
+  dash = dash_reads;
   question = question_reads;
   colon = colon_reads;
   open_bracket = open_bracket_reads;
@@ -81,5 +75,5 @@ each_reads clear = record {
 }
 
 -- So a text without NUL that has a row has the row's tokens by the model.
-pub read_if_clear : DashesAreClear → IsComplete
-read_if_clear clear = read_by_row (fetch_reads (each_reads clear))
+pub texts_with_a_row_are_read : IsComplete
+texts_with_a_row_are_read = read_by_row (fetch_reads each_reads)

@@ -1,2 +1,4 @@
-//! A text that has a row is not refused by the scanner's exact model: the form of the proof, and what is left of it.
+//! A text that has a row is not refused by the scanner's exact model, which gives it the row's tokens: a theorem about the model.
 #![tactic(auto)]
+
+pub mod laws;

@@ -23,7 +23,7 @@ use Rattle.proof_loads.specs.Spelled.{IsWithoutNul}
 use Rattle.proof_loads.specs.Cuts.{IsReadOfCut}
 use Rattle.proof_row.specs.Meaning.{Means}
 use Rattle.proof_loads.proofs.CutTexts.{of_a_cut, none_before}
-use Rattle.proof_loads.proofs.RowTexts.{means, means_its_trees}
+use Rattle.proof_loads.proofs.RowTexts.{means, means_its_trees, is_read, meant_are_read, without_nul}
 use Rattle.proof_loads.proofs.Loads.{memory_is_wanted}
 use Rattle.proof_loads.proofs.Answers.{nested_is_stream}
 use Rattle.proof_loads.proofs.OneReading.{one_reading}
@@ -32,7 +32,7 @@ use Rattle.proof_loads.proofs.JsonNul.{json_texts_have_no_nul}
 use Rattle.proof_loads.proofs.LayoutNul.{layouts_have_no_nul}
 use Rattle.proof_loads.proofs.LayoutTexts.{layouts_are_read}
 use Rattle.proof_loads.proofs.QuotedTexts.{quoted_texts_are_read, quoted_texts_have_no_nul}
-use Rattle.yaml_loader.specs.TextLoads.{LoadsText, LoadsOnly, OfTexts, OfText, OfGiven, OfJson, OfBasic, OfLayout, OfQuoted, Answers}
+use Rattle.yaml_loader.specs.TextLoads.{LoadsText, LoadsOnly, OfTexts, OfText, OfMeaning, OfGiven, OfJson, OfBasic, OfLayout, OfQuoted, Answers}
 use Rattle.yaml_loader.specs.Unread.{of_parser}
 use Rattle.yaml_loader.specs.Unread as unread
 
@@ -117,14 +117,26 @@ pub of_row : (text : List ℕ) (result : Result (Vec Yaml Global) ErrorReport) �
 of_row text (Ok documents) h = means false (up_to_nul text) (items_view documents.items) (none_before text) h
 of_row text (Err f) h = tt
 
--- all that a load answers of a text
-pub answers : (text : List ℕ) (result : Result (Vec Yaml Global) ErrorReport) → LoadsText false text result → Answers text result
-answers text result h =
-    let texts = of_text text result h in
-    record { reads = h; of_row = of_row_without text result h; texts = texts; json = of_first_json text (LoadsOnly result) texts; basic = of_first_basic text (LoadsOnly result) texts; laid_out = of_first_layout text (LoadsOnly result) texts; quoted = of_first_quoted text (LoadsOnly result) texts }
-
 -- the documents are what a cut of the text is read as
 pub of_cut : (text : List ℕ) (result : Result (Vec Yaml Global) ErrorReport) → LoadsText false (up_to_nul text) result
     → IfOk result (λ documents. IsReadOfCut false (up_to_nul text) (items_view documents.items))
 of_cut text (Ok documents) h = of_a_cut false (up_to_nul text) (items_view documents.items) (none_before text) h
 of_cut text (Err f) h = tt
+
+of_cut_without : (text : List ℕ) (result : Result (Vec Yaml Global) ErrorReport) → LoadsText false text result → IsWithoutNul text
+    → IfOk result (λ documents. IsReadOfCut false text (items_view documents.items))
+of_cut_without text (Ok documents) h without = of_a_cut false text (items_view documents.items) (without_nul text without) h
+of_cut_without text (Err f) h without = tt
+
+-- what a text means is what it is read as
+pub of_meaning : (text : List ℕ) (P : List Tree → Type 0) → OfText (up_to_nul text) P → OfMeaning (up_to_nul text) P
+of_meaning text P h trees m = h trees (is_read false (up_to_nul text) trees (none_before text) m)
+
+of_meaning_without : (text : List ℕ) (P : List Tree → Type 0) → OfText text P → IsWithoutNul text → OfMeaning text P
+of_meaning_without text P h without trees m = h trees (meant_are_read false text trees without m)
+
+-- all that a load answers of a text
+pub answers : (text : List ℕ) (result : Result (Vec Yaml Global) ErrorReport) → LoadsText false text result → Answers text result
+answers text result h =
+    let texts = of_text text result h in
+    record { reads = h; of_row = of_row_without text result h; of_cut = of_cut_without text result h; texts = texts; meant = of_meaning_without text (LoadsOnly result) texts; json = of_first_json text (LoadsOnly result) texts; basic = of_first_basic text (LoadsOnly result) texts; laid_out = of_first_layout text (LoadsOnly result) texts; quoted = of_first_quoted text (LoadsOnly result) texts }

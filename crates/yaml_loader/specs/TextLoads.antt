@@ -14,6 +14,7 @@ use Rattle.yaml_scanner.specs.Scanned.{MayBe}
 use Rattle.yaml_parser.specs.Parsed.{Parsed}
 use Rattle.proof_row.specs.Meaning.{Means}
 use Rattle.proof_loads.specs.Spelled.{IsWithoutNul}
+use Rattle.proof_loads.specs.Cuts.{IsReadOfCut}
 use Rattle.proof_loads.specs.TextReadAs.{IsReadAs, IsAtStart}
 use Rattle.yaml_loader.specs.Unread.{IsUnread}
 
@@ -35,6 +36,10 @@ OfTexts old new P = IsAtStart old → (text : List ℕ) → MayBe new.scanner te
 abbrev pub OfText : List ℕ → (List Tree → Type 0) → Type 0
 OfText text P = (trees : List Tree) → IsReadAs false text trees → P trees
 
+-- P of the trees that a text means by the definitions alone.
+abbrev pub OfMeaning : List ℕ → (List Tree → Type 0) → Type 0
+OfMeaning text P = (trees : List Tree) → Means false text trees → P trees
+
 -- P of the one value of a JSON text.
 abbrev pub OfJson : List ℕ → (List Tree → Type 0) → Type 0
 OfJson text P = (tree : Tree) → IsJsonText tree text → P (tree ∷ [])
@@ -55,12 +60,14 @@ OfQuoted text P = (value : List ℕ) → IsQuoted value text → P (Tree.string 
 abbrev pub OfGiven : {S : Type 0} → (S → Option ℕ → S → Type 0) → S → (List ℕ → Type 0) → Type 0
 OfGiven steps source Q = (text : List ℕ) → AlwaysYields steps (λ c. c) source text → Q text
 
--- What a load of a text gives: the documents that it is read as, which it means by the definitions alone, or a fault whose reason is in it. So for a text that is read as trees, for a
+-- What a load of a text gives: the documents that it is read as, which it means by the definitions alone, or a fault whose reason is in it. So for a text that is read as trees, for one that means trees, for a
 -- JSON text, for a layout of one or several documents and for a text of one quoted scalar it gives exactly their trees, or out of memory.
 pub record Answers (text : List ℕ) (result : Result (Vec Yaml Global) ErrorReport) : Type 0 where
   pub reads : LoadsText false text result
   pub of_row : IsWithoutNul text → IfOk result (λ documents. Means false text (items_view documents.items))
+  pub of_cut : IsWithoutNul text → IfOk result (λ documents. IsReadOfCut false text (items_view documents.items))
   pub texts : OfText text (LoadsOnly result)
+  pub meant : IsWithoutNul text → OfMeaning text (LoadsOnly result)
   pub json : OfJson text (LoadsOnly result)
   pub basic : OfBasic text (LoadsOnly result)
   pub laid_out : OfLayout text (LoadsOnly result)

@@ -10,7 +10,7 @@ ghost use Rattle.yaml_parser.specs.Parsed.{parsed};
 ghost use Rattle.proof_row.specs.Meaning.{Means};
 ghost use Rattle.proof_loads.specs.Cuts.{IsReadOfCut};
 ghost use Rattle.yaml_loader.specs.Loads.{AreLoaded, IsLoadFault};
-ghost use Rattle.yaml_loader.specs.TextLoads.{LoadsText, LoadsOnly, OfTexts, OfText, OfGiven, OfJson, OfBasic, OfLayout, OfQuoted, Answers};
+ghost use Rattle.yaml_loader.specs.TextLoads.{LoadsText, LoadsOnly, OfTexts, OfText, OfMeaning, OfGiven, OfJson, OfBasic, OfLayout, OfQuoted, Answers};
 
 use crate::loader::YamlLoader;
 use defs_event::laws::loaded_trees_have_no_alias;
@@ -33,7 +33,8 @@ impl YamlLoader {
     /// ```
     ///
     /// The documents are what the text means by the definitions alone: a text has at most one row of tokens, and means at
-    /// most one list of trees. So whoever keeps the clause `of_row` gives the same documents.
+    /// most one list of trees (clause `of_row`). A text that means trees loads as them, unless memory is refused (clause
+    /// `meant`). So the definitions say of each text whether it loads, and as what.
     ///
     /// # Errors
     ///
@@ -61,6 +62,7 @@ impl YamlLoader {
         ensures of_cut { IfOk result (λ documents. IsReadOfCut false (up_to_nul (chars source.now)) (items_view documents.items)) }
         ensures no_alias { IfOk result (λ documents. All HasNoAlias (items_view documents.items)) }
         ensures texts { OfText (up_to_nul (chars source.now)) (LoadsOnly result) }
+        ensures meant { OfMeaning (up_to_nul (chars source.now)) (LoadsOnly result) }
         ensures json { OfJson (chars source.now) (LoadsOnly result) }
         ensures basic { OfBasic (chars source.now) (LoadsOnly result) }
         ensures laid_out { OfLayout (chars source.now) (LoadsOnly result) }
@@ -101,6 +103,7 @@ impl YamlLoader {
         ensures of_cut { OfGiven I.next_gives source (λ text. IfOk result (λ documents. IsReadOfCut false (up_to_nul text) (items_view documents.items))) }
         ensures no_alias { IfOk result (λ documents. All HasNoAlias (items_view documents.items)) }
         ensures texts { OfGiven I.next_gives source (λ text. OfText (up_to_nul text) (LoadsOnly result)) }
+        ensures meant { OfGiven I.next_gives source (λ text. OfMeaning (up_to_nul text) (LoadsOnly result)) }
         ensures json { OfGiven I.next_gives source (λ text. OfJson text (LoadsOnly result)) }
         ensures basic { OfGiven I.next_gives source (λ text. OfBasic text (LoadsOnly result)) }
         ensures laid_out { OfGiven I.next_gives source (λ text. OfLayout text (LoadsOnly result)) }

@@ -125,7 +125,6 @@ found_after b (t ∷ []) q x us h m e = let o = is_one t.tok h in ends (is_entry
     is_one (scalar double_quoted s) h = absurd (cc h)
     is_one (scalar literal s) h = absurd (cc h)
     is_one (scalar folded s) h = absurd (cc h)
-
 found_after b (t ∷ u ∷ ts) q x us h m e = ap (λ k. (b && is_entry t.tok) || k) (found_after (stands_out t) (u ∷ ts) q x us h m e) ∙ or_true (b && is_entry t.tok)
 
 -- ---- the tokens before the one that a piece shows

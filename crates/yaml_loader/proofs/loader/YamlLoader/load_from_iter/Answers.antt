@@ -2,7 +2,7 @@ use Rattle.std.proofs.Common.{◌∙◌}
 use Rattle.defs_text.specs.Text.{up_to_nul}
 use Rattle.yaml_parser.specs.Parsed.{parsed}
 use Rattle.yaml_loader.specs.TextLoads.{LoadsText, LoadsOnly}
-use Rattle.yaml_loader.proofs.TextLemmas.{given_may_be, begins_given, answers, of_texts, of_text, of_cut, of_row, of_json, of_basic, of_layout, of_quoted}
+use Rattle.yaml_loader.proofs.TextLemmas.{given_may_be, begins_given, answers, of_texts, of_text, of_cut, of_row, of_meaning, of_json, of_basic, of_layout, of_quoted}
 use Rattle.yaml_loader.proofs.loader.YamlLoader.load_from_iter.Goals as goal
 
 pub returns-clause-reads : goal.returns-clause-reads
@@ -23,6 +23,9 @@ returns-clause-of_row g c = λ text always. of_row text c.load_from_parser.resul
 
 pub returns-clause-texts : goal.returns-clause-texts
 returns-clause-texts g c = λ text always. of_text (up_to_nul text) c.load_from_parser.result (returns-clause-reads g c text always)
+
+pub returns-clause-meant : goal.returns-clause-meant
+returns-clause-meant g c = λ text always. of_meaning text (LoadsOnly c.load_from_parser.result) (returns-clause-texts g c text always)
 
 pub returns-clause-json : goal.returns-clause-json
 returns-clause-json g c = λ text always. of_json text (LoadsOnly c.load_from_parser.result) (returns-clause-texts g c text always)

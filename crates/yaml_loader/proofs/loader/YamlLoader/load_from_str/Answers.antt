@@ -4,7 +4,7 @@ use Rattle.std.specs.Str.Iter.{chars_rest}
 use Rattle.defs_text.specs.Text.{up_to_nul}
 use Rattle.yaml_parser.specs.Parsed.{parsed}
 use Rattle.yaml_loader.specs.TextLoads.{LoadsText, LoadsOnly}
-use Rattle.yaml_loader.proofs.TextLemmas.{string_may_be, of_texts, of_text, of_cut, of_row, of_json, of_basic, of_layout, of_first_json, of_first_basic, of_first_layout, of_quoted, of_first_quoted}
+use Rattle.yaml_loader.proofs.TextLemmas.{string_may_be, of_texts, of_text, of_cut, of_row, of_meaning, of_json, of_basic, of_layout, of_first_json, of_first_basic, of_first_layout, of_quoted, of_first_quoted}
 use Rattle.yaml_loader.proofs.loader.YamlLoader.load_from_str.Goals as goal
 
 pub returns-clause-reads : goal.returns-clause-reads
@@ -23,6 +23,9 @@ returns-clause-of_row c = of_row (chars c.args.source.now) c.load_from_parser.re
 
 pub returns-clause-texts : goal.returns-clause-texts
 returns-clause-texts c = of_text (up_to_nul (chars c.args.source.now)) c.load_from_parser.result (returns-clause-reads c)
+
+pub returns-clause-meant : goal.returns-clause-meant
+returns-clause-meant c = of_meaning (chars c.args.source.now) (LoadsOnly c.load_from_parser.result) (returns-clause-texts c)
 
 pub returns-clause-json : goal.returns-clause-json
 returns-clause-json c = of_json (chars c.args.source.now) (LoadsOnly c.load_from_parser.result) (returns-clause-texts c)
