@@ -8,8 +8,15 @@ pub use Rattle.defs_tree.specs.Valid
 pub use Rattle.defs_tree.specs.Writable
 pub use Rattle.defs_tree.specs.Box
 pub use Rattle.defs_tree.specs.DumpText
+pub use Rattle.defs_tree.specs.Escapes
 pub use Rattle.defs_layout.specs.Json
+pub use Rattle.defs_layout.specs.JsonGap
+pub use Rattle.defs_layout.specs.JsonNumber
+pub use Rattle.defs_layout.specs.JsonString
 pub use Rattle.defs_layout.specs.Basic
+pub use Rattle.defs_layout.specs.Anchored
+pub use Rattle.defs_layout.specs.BlockLines
+pub use Rattle.defs_layout.specs.Gap
 pub use Rattle.defs_layout.specs.InTurn
 pub use Rattle.defs_layout.specs.Layout
 pub use Rattle.defs_layout.specs.Sound
@@ -18,6 +25,7 @@ pub use Rattle.defs_layout.specs.DumpIsInjective
 pub use Rattle.defs_layout.specs.DumpsInTurn
 pub use Rattle.defs_layout.specs.QuotedText
 pub use Rattle.defs_token.specs.Token
+pub use Rattle.defs_token.specs.Toks
 pub use Rattle.defs_token.specs.Cut
 pub use Rattle.defs_row.specs.Step
 pub use Rattle.defs_row.specs.Tokens
@@ -28,6 +36,7 @@ pub use Rattle.defs_event.specs.Stream
 pub use Rattle.defs_event.specs.PulledList
 pub use Rattle.defs_event.specs.Push
 pub use Rattle.defs_event.specs.Reading
+pub use Rattle.defs_event.specs.ReadAs
 pub use Rattle.defs_event.specs.Unfinished
 pub use Rattle.defs_event.specs.NoAlias
 pub use Rattle.defs_text.specs.Position
@@ -35,6 +44,9 @@ pub use Rattle.yaml_chars.specs.Reading as CharactersRead
 pub use Rattle.yaml_chars.specs.Source
 pub use Rattle.defs_text.specs.Text
 pub use Rattle.yaml_tokens.specs.ErrorReport
+pub use Rattle.yaml_tokens.specs.FaultLaws
+pub use Rattle.yaml_tokens.specs.Problem
+pub use Rattle.yaml_tokens.specs.Shown as TokensShown
 pub use Rattle.yaml_hash_index.specs.Counts
 pub use Rattle.yaml_tree.specs.Feed
 pub use Rattle.yaml_tree.specs.Items
@@ -46,18 +58,23 @@ pub use Rattle.yaml_emitter.specs.Strings
 pub use Rattle.yaml_emitter.specs.ValidTree
 pub use Rattle.yaml_emitter.specs.Writing
 pub use Rattle.yaml_scanner.specs.Scanned
+pub use Rattle.yaml_scanner.specs.Next
 pub use Rattle.yaml_parser.specs.Parsed
 pub use Rattle.yaml_parser.specs.Follows
 pub use Rattle.yaml_parser.specs.Loads
 pub use Rattle.yaml_parser.specs.Nests
 pub use Rattle.yaml_parser.specs.Pulls
 pub use Rattle.yaml_parser.specs.Shown
+pub use Rattle.proof_cut.specs.Faults
+pub use Rattle.proof_cut.specs.Positions
 pub use Rattle.proof_row.specs.Meaning
 pub use Rattle.proof_loads.specs.Cuts
 pub use Rattle.proof_loads.specs.Spelled
 pub use Rattle.proof_loads.specs.TextReadAs
 pub use Rattle.proof_loads.specs.TextEvents
 pub use Rattle.yaml_loader.specs.Loading
+pub use Rattle.yaml_loader.specs.Gives
+pub use Rattle.yaml_loader.specs.Loads as DocumentsLoaded
 pub use Rattle.yaml_loader.specs.RepeatedKey
 pub use Rattle.yaml_loader.specs.TextLoads
 pub use Rattle.yaml_loader.specs.Unread
