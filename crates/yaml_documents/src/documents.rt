@@ -14,7 +14,12 @@ use yaml_tree::Yaml;
 /// The documents of a text, one by one.
 ///
 /// As an iterator it gives `Ok` with each document, in order. Then it gives `None`, or first the text's fault as an
-/// `Err`; after that it gives `None` forever. `YamlLoader::load_from_str` gives all of these documents, or that fault.
+/// `Err`; after that it gives `None` forever. The documents are those of `YamlLoader::load_from_str`.
+///
+/// # Errors
+///
+/// The text's fault before the next document ends, with its position: the scanner's, the parser's, or
+/// `duplicated key in mapping` at the end of the document. Or memory was refused ([`ScanError::is_out_of_memory`]).
 #[derive(Drop)]
 pub struct Documents<T: Iterator<Item = char>> {
     alloc: Global,
