@@ -1,0 +1,8 @@
+use Rattle.std.proofs.Common.{◌≡◌, drop}
+use Rattle.yaml_marked.specs.Node.{node_of}
+use Rattle.yaml_paths.specs.Marked.{marked_at}
+use Rattle.yaml_paths.specs.Path.{steps_of}
+use Rattle.yaml_paths.proofs.marked.at.Given as goal
+
+abbrev pub invariant-steps : goal.invariant-steps
+invariant-steps l = marked_at (steps_of (drop l.step-index l.path)) (node_of l.node) ≡ marked_at (steps_of l.path) (node_of l.initial.node)

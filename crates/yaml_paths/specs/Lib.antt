@@ -1,0 +1,4 @@
+pub mod Explained
+pub mod Kinds
+pub mod Marked
+pub mod Path

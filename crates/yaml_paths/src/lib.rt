@@ -1,0 +1,32 @@
+//! Nodes by their paths, and typed reads: a text, a number, a truth value, or a list of these, with an error that says where and
+//! what stood there instead.
+//!
+//! A path is a row of steps: [`Step::Key`] into a hash, [`Step::Index`] into an array. [`at`] gives the node at its end, and
+//! [`read`] and [`read_list`] its value. The module [`marked`] has the same for nodes with positions; there an error has its
+//! position in the text too.
+//!
+//! ```
+//! const PORT: [Step<'static>; 2] = [Step::Key("server"), Step::Key("port")];
+//!
+//! let documents = load_marked(alloc, "server:\n  port: none\n")?;
+//! let error = marked::read::<i64>(documents.first()?, &PORT).err()?;
+//! let text = format!(in alloc; "{error}")?; // line 2, column 9: $["server"]["port"]: a string, where an integer is wanted
+//! ```
+//!
+//! - A value is read only from a node of its kind: `80` is no text, and `"80"` no number.
+//! - A key is the text of a `String`. A place counts from 0, and names an item of an array alone.
+//! - An error borrows the path that was asked for, so `at` and `read` take no memory.
+#![tactic(auto)]
+
+mod error;
+mod from_yaml;
+mod kind;
+pub mod marked;
+mod plain;
+mod step;
+
+pub use error::{ReadError, Reason};
+pub use from_yaml::FromYaml;
+pub use kind::Kind;
+pub use plain::{at, read, read_list};
+pub use step::Step;
