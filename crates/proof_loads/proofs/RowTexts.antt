@@ -4,12 +4,13 @@ use Rattle.defs_tree.specs.Tree.{Tree}
 use Rattle.defs_token.specs.Toks.{toks}
 use Rattle.defs_event.specs.ReadAs.{ReadAs}
 use Rattle.defs_text.specs.Text.{has_no_nul}
+use Rattle.model_scanner.proofs.Runs.{not_refused}
 use Rattle.proof_row.specs.Meaning.{Means}
 use Rattle.proof_row_sound.proofs.Sound.{tokens_are_of_a_row}
 use Rattle.proof_row_complete.proofs.Complete.{texts_with_a_row_are_read}
 use Rattle.proof_loads.specs.TextReadAs.{IsReadAs}
 use Rattle.proof_loads.specs.Spelled.{IsWithoutNul}
-use Rattle.proof_loads.specs.Rows.{ReadTextsMeanTheirTrees, MeantTreesAreRead, EventsAreOfTheRow}
+use Rattle.proof_loads.specs.Rows.{ReadTextsMeanTheirTrees, MeantTreesAreRead, RefusedTextsHaveNoRow, EventsAreOfTheRow}
 use Rattle.proof_loads.proofs.CutTexts.{none_before}
 
 pub without_nul : (text : List ℕ) → IsWithoutNul text → has_no_nul text ≡ true
@@ -28,6 +29,9 @@ is_read keep_tags text trees nul m = record { tokens = toks m.tokens; has = (m.t
 
 pub meant_are_read : MeantTreesAreRead
 meant_are_read keep_tags text trees without m = is_read keep_tags text trees (without_nul text without) m
+
+pub no_row : RefusedTextsHaveNoRow
+no_row text f tokens without refused row = not_refused text tokens f (texts_with_a_row_are_read text tokens (without_nul text without) row) refused
 
 pub of_the_row : EventsAreOfTheRow
 of_the_row keep_tags text events without h =

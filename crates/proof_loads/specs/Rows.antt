@@ -2,8 +2,12 @@
 use Rattle.std.specs.Prelude.{ℕ, Bool, List}
 use Rattle.defs_text.specs.Position.{Position}
 use Rattle.defs_tree.specs.Tree.{Tree}
+use Rattle.defs_token.specs.Token.{Token}
+use Rattle.defs_row.specs.Row.{IsRead}
 use Rattle.defs_event.specs.Event.{Ev}
 use Rattle.defs_event.specs.Stream.{events_of}
+use Rattle.yaml_tokens.specs.declared.problem.Fault.{Fault}
+use Rattle.model_scanner.specs.Run.{IsRefused}
 use Rattle.proof_row.specs.Meaning as meaning
 use Rattle.proof_row.specs.Meaning.{Means}
 use Rattle.proof_loads.specs.TextReadAs.{IsReadAs}
@@ -17,6 +21,10 @@ ReadTextsMeanTheirTrees = (keep_tags : Bool) (text : List ℕ) (trees : List Tre
 -- `meant_trees_are_read`
 abbrev pub MeantTreesAreRead : Type 0
 MeantTreesAreRead = (keep_tags : Bool) (text : List ℕ) (trees : List Tree) → IsWithoutNul text → Means keep_tags text trees → IsReadAs keep_tags text trees
+
+-- `refused_texts_have_no_row`
+abbrev pub RefusedTextsHaveNoRow : Type 0
+RefusedTextsHaveNoRow = (text : List ℕ) (f : Fault) (tokens : List Token) → IsWithoutNul text → IsRefused text f → IsRead text tokens → ⊥
 
 -- `events_are_of_the_row`
 abbrev pub EventsAreOfTheRow : Type 0

@@ -1,6 +1,6 @@
 //! What a text is read as comes from its one row of tokens. Each law is the contract of an empty function.
 
-ghost use Rattle.proof_loads.specs.Rows.{EventsAreOfTheRow, MeantTreesAreRead, ReadTextsMeanTheirTrees};
+ghost use Rattle.proof_loads.specs.Rows.{EventsAreOfTheRow, MeantTreesAreRead, ReadTextsMeanTheirTrees, RefusedTextsHaveNoRow};
 
 /// A text without NUL that is read as trees means these trees: its row of tokens, by the strict definition, is read
 /// as them. A text has one row at most.
@@ -14,6 +14,12 @@ pub fn read_texts_mean_their_trees()
 #[tactic(auto, using(crate::proofs::RowTexts::meant_are_read))]
 pub fn meant_trees_are_read()
     ensures { MeantTreesAreRead }
+{}
+
+/// A text without NUL that the scanner refuses has no row of tokens.
+#[tactic(auto, using(crate::proofs::RowTexts::no_row))]
+pub fn refused_texts_have_no_row()
+    ensures { RefusedTextsHaveNoRow }
 {}
 
 /// The events of a text without NUL are those of its row of tokens, by the strict definition and the token grammar.

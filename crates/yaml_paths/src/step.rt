@@ -4,7 +4,7 @@ ghost use Rattle.yaml_paths.specs.Path.{step_from, step_view};
 ghost use Rattle.yaml_tree.specs.View.{view};
 
 use std::fmt;
-use yaml_json::write_string;
+use yaml_emitter::write_double_quoted;
 use yaml_tree::Yaml;
 
 /// A step from a node down to a node in it. It is shown as `["port"]` or `[1]`.
@@ -20,7 +20,7 @@ impl<'a> fmt::Display for Step<'a> {
     fn fmt<W: fmt::Write>(&self, f: &mut fmt::Formatter<W>) -> fmt::Result {
         f.write_str("[")?;
         match self {
-            Step::Key(key) => write_string(f, key)?,
+            Step::Key(key) => write_double_quoted(f, key)?,
             Step::Index(index) => write!(f, "{index}")?,
         }
         f.write_str("]")
