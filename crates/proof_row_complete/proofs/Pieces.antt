@@ -1,5 +1,5 @@
 -- Where a piece begins and the row goes on: the piece of its first step stands in the text here, whole, and is of the kind that the text says.
-use Rattle.std.proofs.Common.{◌≡◌, ℕ, List, [], ◌∷◌, ◌++◌, Bool, true, not, map, Option, None, refl, ap, sym, ◌∙◌, subst}
+use Rattle.std.proofs.Common.{◌≡◌, ℕ, List, [], ◌∷◌, ◌++◌, Bool, true, not, map, Option, refl, ap, sym, ◌∙◌}
 use Rattle.defs_text.specs.Position.{position_after}
 use Rattle.defs_text.specs.Text.{is_empty}
 use Rattle.defs_token.specs.Account.{is_adjacent, before_past}
@@ -8,13 +8,14 @@ use Rattle.defs_row.specs.FlowEntry.{Entry, is_renewed}
 use Rattle.defs_row.specs.Account.{Account, is_in_flow, may_stand, level_of, seen, before_by}
 use Rattle.defs_row.specs.Tokens.{shown_position}
 use Rattle.model_scanner.specs.State.{Key, ScannerState, in_flow}
-use Rattle.proof_ends.specs.Ends.{kind_at, kind_of}
-use Rattle.proof_ends.proofs.Begins.{Context, context_of, Whole, piece_of, kind_there}
+use Rattle.proof_ends.specs.Ends.{kind_at}
+use Rattle.proof_ends.proofs.Begins.{Context, context_of, Whole}
 use Rattle.proof_row.proofs.Written.{At, not_empty}
 use Rattle.proof_row_sound.specs.Choices.{entries_by, chosen}
 use Rattle.proof_row_sound.proofs.StreamEnds.{same_flow}
 use Rattle.proof_row_complete.specs.Goes.{GoesHere}
 use Rattle.proof_row_complete.specs.EachReads.{before_here}
+use Rattle.proof_row_complete.proofs.KindsOfPieces.{kind_is}
 use Rattle.proof_row_complete.proofs.Steps.{step_here}
 use Rattle.proof_row_complete.proofs.Around.Asks.{asks}
 
@@ -52,7 +53,8 @@ module _ (text : List ℕ) (w : Step) (ws : List Step) (last : List ℕ) (t : Sc
     in_flow_is = in_flow_by;
     flow_is = flow_by;
     position_is = position_by;
-    whole = subst (λ k. Whole k context_here w.piece next w.shown) kind_by own;
+    whole = kind_is (kind_at (in_flow t.held) (is_adjacent (before_here text (w ∷ ws) last t g)) t.held.position.col t.rest) (seen account_here (At account_here w next) w.separation) w.piece next t.rest (shown_position (At account_here w next) w.piece w.shown next) w.shown
+        (not_empty w.piece g.is_row.0.1.0) g.is_row.0.1.1 here.1 kind_by;
     stands = (asks account_here w ws last g.is_row).stands;
   }
     where
@@ -78,10 +80,6 @@ module _ (text : List ℕ) (w : Step) (ws : List Step) (last : List ℕ) (t : Sc
       adjacent_by : context_here.adjacent ≡ is_adjacent (before_here text (w ∷ ws) last t g)
       adjacent_by = ap (λ f. is_adjacent (before_past (before_by g.arrives.base.site.before) f)) here.0
 
-      own : Whole (kind_of w.shown) context_here w.piece next w.shown
-      own = piece_of (seen account_here (At account_here w next) w.separation) w.piece next None (shown_position (At account_here w next) w.piece w.shown next) w.shown (not_empty w.piece g.is_row.0.1.0) g.is_row.0.1.1
-
-      kind_by : kind_of w.shown ≡ kind_at (in_flow t.held) (is_adjacent (before_here text (w ∷ ws) last t g)) t.held.position.col t.rest
-      kind_by = sym (kind_there (kind_of w.shown) context_here w.piece next w.shown own) ∙ (ap (λ x. kind_at x context_here.adjacent context_here.column (w.piece ++ next)) flow_by ∙
-          (ap (λ x. kind_at (in_flow t.held) x context_here.column (w.piece ++ next)) adjacent_by ∙
-          (ap (λ p. kind_at (in_flow t.held) (is_adjacent (before_here text (w ∷ ws) last t g)) p.col (w.piece ++ next)) position_by ∙ ap (λ r. kind_at (in_flow t.held) (is_adjacent (before_here text (w ∷ ws) last t g)) t.held.position.col r) here.1)))
+      kind_by : kind_at context_here.in_flow context_here.adjacent context_here.column t.rest ≡ kind_at (in_flow t.held) (is_adjacent (before_here text (w ∷ ws) last t g)) t.held.position.col t.rest
+      kind_by = ap (λ x. kind_at x context_here.adjacent context_here.column t.rest) flow_by ∙ (ap (λ x. kind_at (in_flow t.held) x context_here.column t.rest) adjacent_by ∙
+          ap (λ p. kind_at (in_flow t.held) (is_adjacent (before_here text (w ∷ ws) last t g)) p.col t.rest) position_by)

@@ -11,16 +11,16 @@ use Rattle.proof_row_sound.specs.Arrives.{IsLineHere}
 use Rattle.proof_row_sound.specs.Stands.{HasHadHere}
 use Rattle.proof_row_sound.proofs.NodeSteps.{saved, had_past_node, entry_past_node}
 
-some : {A : Type 0} → (a b : A) → Some a ≡ Some b → a ≡ b
-some a b e = cc
+pub same_of : {A : Type 0} → (a b : A) → Some a ≡ Some b → a ≡ b
+same_of a b e = cc
 
 -- ---- a separation
 
 -- What may begin after a separation, by a choice before it: the same choice.
 pub separated_by : (fl broken c : Bool) (k : Option Key) (l here m : Line) → line_past_separation fl broken l ≡ Some here → line_past_separation fl broken (line_by c k l) ≡ Some m → m ≡ line_by c k here
-separated_by fl broken c None l here m h e = some m here (sym e ∙ h)
-separated_by fl broken false (Some k) l here m h e = some m here (sym e ∙ h)
-separated_by fl false true (Some k) l here m h e = some m (waits_on_line k.position) (sym e)
+separated_by fl broken c None l here m h e = same_of m here (sym e ∙ h)
+separated_by fl broken false (Some k) l here m h e = same_of m here (sym e ∙ h)
+separated_by fl false true (Some k) l here m h e = same_of m (waits_on_line k.position) (sym e)
 separated_by fl true true (Some k) l here m h e = absurd (cc e)
 
 -- ---- outside flow
@@ -39,11 +39,11 @@ Then c k bs = record { line = line_by c k taken; blocks = bs }
 new_outside : (bit : Bool) (new : Key) (must : Bool) (here : Position) (bs : List ℕ) (x : Outside) → new.position ≡ here → new.required ≡ must → line_past must here bs gives_node bit free ≡ Some x → ChosenOutside (Some new) here bs x
 new_outside true new must here bs x p r e = record {
   choice = true;
-  is = subst (λ q. x ≡ record { line = waits_on_line q; blocks = bs }) (sym p) (some x (record { line = waits_on_line here; blocks = bs }) (sym e));
+  is = subst (λ q. x ≡ record { line = waits_on_line q; blocks = bs }) (sym p) (same_of x (record { line = waits_on_line here; blocks = bs }) (sym e));
   may = λ q rest live. live new refl refl (subst (λ y. here.line ≤ y.line) (sym p) (omega arith));
 }
 new_outside false new true here bs x p r e = absurd (cc e)
-new_outside false new false here bs x p r e = record { choice = false; is = some x (Then false (Some new) bs) (sym e); may = λ q rest live. r }
+new_outside false new false here bs x p r e = record { choice = false; is = same_of x (Then false (Some new) bs) (sym e); may = λ q rest live. r }
 
 -- By the key that was open: one that begins here is chosen if the row says so, and one that waits still waits.
 pub chosen_outside : (allowed c bit : Bool) (k : Option Key) (new : Key) (l : Line) (must : Bool) (here : Position) (bs rest : List ℕ) (x : Outside) → IsLineHere false allowed (0 ∷ []) k l → new.position ≡ here → new.required ≡ must →
@@ -54,17 +54,17 @@ chosen_outside true c bit None new taken must here bs rest x h p r may e = absur
 chosen_outside true c bit None new (waits_on_line b) must here bs rest x h p r may e = absurd (cc h.1)
 chosen_outside false c bit None new free must here bs rest x h p r may e = absurd (cc h.1)
 chosen_outside false c true None new taken must here bs rest x h p r may e = absurd (cc e)
-chosen_outside false c false None new taken must here bs rest x h p r may e = record { choice = false; is = some x (Then false None bs) (sym e); may = λ q rest live. tt }
+chosen_outside false c false None new taken must here bs rest x h p r may e = record { choice = false; is = same_of x (Then false None bs) (sym e); may = λ q rest live. tt }
 chosen_outside false c bit None new (waits_on_line b) must here bs rest x h p r may e = absurd (by h.0)
   where
     by : (waits_on_line b ≡ free) ⊎ (waits_on_line b ≡ taken) → ⊥
     by (inl i) = cc i
     by (inr i) = cc i
 chosen_outside false true true (Some k) new l must here bs rest x h p r may e = absurd (cc e)
-chosen_outside false true false (Some k) new l must here bs rest x h p r may e = record { choice = true; is = some x (Then true (Some k) bs) (sym e); may = λ q rest live. live k refl refl may.0 }
+chosen_outside false true false (Some k) new l must here bs rest x h p r may e = record { choice = true; is = same_of x (Then true (Some k) bs) (sym e); may = λ q rest live. live k refl refl may.0 }
 chosen_outside false false bit (Some k) new free must here bs rest x h p r may e = absurd (cc ((h refl).0))
 chosen_outside false false true (Some k) new taken must here bs rest x h p r may e = absurd (cc e)
-chosen_outside false false false (Some k) new taken must here bs rest x h p r may e = record { choice = false; is = some x (Then false (Some k) bs) (sym e); may = λ q rest live. may }
+chosen_outside false false false (Some k) new taken must here bs rest x h p r may e = record { choice = false; is = same_of x (Then false (Some k) bs) (sym e); may = λ q rest live. may }
 chosen_outside false false bit (Some k) new (waits_on_line b) must here bs rest x h p r may e = absurd (cc ((h refl).0))
 
 -- ---- in flow
@@ -98,10 +98,10 @@ chosen_inside again allowed c bit k new e here es after h q x = by again allowed
 
     -- a key begins here, or none does
     begun : (k : Option Key) (d : Had) → Some (Own e (waits here) ∷ es) ≡ Some after → Becomes new true e k d es after
-    begun k d i = record { choice = true; is = subst (λ y. after ≡ Own e (waits y) ∷ es) (sym q) (some after (Own e (waits here) ∷ es) (sym i)) }
+    begun k d i = record { choice = true; is = subst (λ y. after ≡ Own e (waits y) ∷ es) (sym q) (same_of after (Own e (waits here) ∷ es) (sym i)) }
 
     none : (k : Option Key) (d : Had) → Some (Own e filled ∷ es) ≡ Some after → Becomes new true e k d es after
-    none k d i = record { choice = false; is = some after (Own e filled ∷ es) (sym i) }
+    none k d i = record { choice = false; is = same_of after (Own e filled ∷ es) (sym i) }
 
     by : (again allowed c bit : Bool) (k : Option Key) (d : Had) → HasHadHere allowed again k d → Steps here again bit c e k d es after → Becomes new allowed e k d es after
     by again allowed c bit (Some k) fresh h x = absurd (cc h.0)
@@ -125,8 +125,8 @@ chosen_inside again allowed c bit k new e here es after h q x = by again allowed
     by true false c bit None settled h x = absurd (cc h.1)
     by false false c bit None fresh h x = absurd (cc h.1)
     by false false c true None settled h x = absurd (cc x)
-    by false false c false None settled h x = record { choice = false; is = some after (Own e settled ∷ es) (sym x) }
+    by false false c false None settled h x = record { choice = false; is = same_of after (Own e settled ∷ es) (sym x) }
     by false false true true (Some k) filled h x = absurd (cc x)
-    by false false true false (Some k) filled h x = record { choice = true; is = some after (Own e (waits k.position) ∷ es) (sym x) }
+    by false false true false (Some k) filled h x = record { choice = true; is = same_of after (Own e (waits k.position) ∷ es) (sym x) }
     by false false false true (Some k) filled h x = absurd (cc x)
-    by false false false false (Some k) filled h x = record { choice = false; is = some after (Own e filled ∷ es) (sym x) }
+    by false false false false (Some k) filled h x = record { choice = false; is = same_of after (Own e filled ∷ es) (sym x) }

@@ -9,6 +9,7 @@ use Rattle.defs_row.specs.Account.{Site, Account, is_in_flow, site_past, account
 use Rattle.defs_row.specs.Row.{IsRowFrom}
 use Rattle.proof_row.proofs.Written.{At}
 use Rattle.proof_row_sound.proofs.Sides.{with_entries}
+use Rattle.proof_row_complete.proofs.Nodes.Choices.{same_of}
 use Rattle.proof_row_complete.proofs.Steps.{out, WentOutside, went_outside, WentInside, went_inside}
 
 -- an account from which the row goes on, after a part of a node
@@ -17,18 +18,15 @@ pub record NodePast (a : Account) (w : Step) (next : List ℕ) (ws : List Step) 
   pub site_is : after.site ≡ site_past (is_in_flow a.entries) (At a w next) w.piece w.shown next (At a w next).blocks
   pub is_row : IsRowFrom (Some after) ws last
 
-some : (x y : Outside) → Some x ≡ Some y → x ≡ y
-some x y e = cc
-
 -- it ends no block collection and begins none
 node_blocks : (must : Bool) (here : Position) (bs : List ℕ) (key : Bool) (l : Line) (x : Outside) → line_past must here bs gives_node key l ≡ Some x → x.blocks ≡ bs
-node_blocks must here bs true free x h = ap (λ y. y.blocks) (sym (some _ x h))
+node_blocks must here bs true free x h = ap (λ y. y.blocks) (sym (same_of _ x h))
 node_blocks true here bs false free x h = absurd (cc h)
-node_blocks false here bs false free x h = ap (λ y. y.blocks) (sym (some _ x h))
+node_blocks false here bs false free x h = ap (λ y. y.blocks) (sym (same_of _ x h))
 node_blocks must here bs true taken x h = absurd (cc h)
-node_blocks must here bs false taken x h = ap (λ y. y.blocks) (sym (some _ x h))
+node_blocks must here bs false taken x h = ap (λ y. y.blocks) (sym (same_of _ x h))
 node_blocks must here bs true (waits p) x h = absurd (cc h)
-node_blocks must here bs false (waits p) x h = ap (λ y. y.blocks) (sym (some _ x h))
+node_blocks must here bs false (waits p) x h = ap (λ y. y.blocks) (sym (same_of _ x h))
 
 past_by : (s : Site) (l : Line) (es : List Entry) (w : Step) (ws : List Step) (last : List ℕ) → act_of w.shown ≡ gives_node → IsRowFrom (account_past (with_entries s l es) w (spelled ws last)) ws last → NodePast (with_entries s l es) w (spelled ws last) ws last
 past_by s l [] w ws last act row =

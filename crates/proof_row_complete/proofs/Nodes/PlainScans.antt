@@ -1,6 +1,6 @@
 -- The scan of a plain scalar is not refused, where its further lines fit, in flow no dash stands before a flow indicator, and no TAB indents what comes after its gap.
 use Rattle.std.proofs.Common.{◌≡◌, ℕ, suc, ◌≤◌, List, [], ◌∷◌, ◌++◌, Bool, true, false, not, ◌&&◌, ◌||◌, ◌==◌, nat_lt, slice_index, if◌then◌else◌, Option, Ok, refl, ap, sym, ◌∙◌, subst, append_assoc, arith, ◌⊎◌, inl, inr}
-use Rattle.std.proofs.lemmas.Bool.{and_parts, eqb-true}
+use Rattle.std.proofs.lemmas.Bool.{and_parts, eqb-true, not-true}
 use Rattle.std.proofs.lemmas.Bool.Decides.{nat_tests}
 use Rattle.defs_text.specs.Position.{Position}
 use Rattle.defs_text.specs.Classes as classes
@@ -95,17 +95,21 @@ no_more ctx c a p ends = by (is_shallow ctx p.col) (c == 35) (at_marker p.col (c
 five : (nul colon hash line flow : Bool) → nul ≡ false → ((((nul || colon) || hash) || line) || flow) ≡ true → (((colon || hash) || line) || flow) ≡ true
 five nul colon hash line flow e h = rw e at h
 
+-- what is no blank and no break, for the scan
+solid_of : (c : ℕ) → is_white c ≡ false → (is_break c ≡ false) × (is_blank c ≡ false)
+solid_of c h = by (is_blank c) (is_break c) (ap (λ b. b || is_break c) (sym (same_blank c)) ∙ (ap (λ b. classes.is_blank c || b) (sym (same_break c)) ∙ h))
+  where
+    by : (x y : Bool) → (x || y) ≡ false → (y ≡ false) × (x ≡ false)
+    by false false h = (refl, refl)
+    by true y h = absurd (cc h)
+    by false true h = absurd (cc h)
+
 module _ (ctx : Context) (start : Position) (c : ℕ) (a : List ℕ) (white : is_white c ≡ false) (clean : is_nul c ≡ false) where
   abbrev collection : Option ℕ
   collection = collection_of ctx.indent
 
   solid : (is_break c ≡ false) × (is_blank c ≡ false)
-  solid = by (is_blank c) (is_break c) (ap (λ b. b || is_break c) (sym (same_blank c)) ∙ (ap (λ b. classes.is_blank c || b) (sym (same_break c)) ∙ white))
-    where
-      by : (x y : Bool) → (x || y) ≡ false → (y ≡ false) × (x ≡ false)
-      by false false h = (refl, refl)
-      by true y h = absurd (cc h)
-      by false true h = absurd (cc h)
+  solid = solid_of c white
 
   ended : (s : Stand) → stops ctx.flow collection s (c ∷ a) ≡ true → ends_plain ctx.flow collection s (c ∷ a) ≡ true
   ended s h = rw white at h
@@ -188,12 +192,8 @@ module _ (ctx : Context) (start : Position) where
       stops ctx.flow (collection_of ctx.indent) (stand_after st q) rest ≡ true → begins_white rest ≡ false → has_no_nul rest ≡ true → Ran (q ++ rest) s
   ran [] [] s x apart st calm here e stand fits dashes ends white nul = (record { rest = []; state = s }, refl)
   ran [] (c ∷ a) s x apart st calm here e stand fits dashes ends white nul =
-      let stopped : turn ctx start s c a ≡ stop s = turn_ends ctx start c a white (none (is_nul c) (and_parts (not (is_nul c)) (has_no_nul a) nul).0) s.mode s x apart st calm here e stand fits ends in
+      let stopped : turn ctx start s c a ≡ stop s = turn_ends ctx start c a white (not-true (is_nul c) (and_parts (not (is_nul c)) (has_no_nul a) nul).0) s.mode s x apart st calm here e stand fits ends in
       (record { rest = c ∷ a; state = s }, ap (λ u. turned u (c ∷ a) (λ v. run (turn ctx start) a v)) stopped)
-    where
-      none : (b : Bool) → not b ≡ true → b ≡ false
-      none true h = absurd (cc h)
-      none false h = refl
   ran (c ∷ q) rest s x apart st calm here e stand fits dashes ends white nul =
       by (λ u y. ran q rest u y (is_break c || is_blank c) (past st c)) (turn ctx start s c (q ++ rest)) (turn_goes ctx start c (q ++ rest) s.mode s calm)
     where
@@ -203,10 +203,6 @@ module _ (ctx : Context) (start : Position) where
       dash : (not (ctx.flow && apart && (c == 45) && begins_flow (q ++ rest)) ≡ true) × (dashes_fit ctx.flow (is_break c || is_blank c) q rest ≡ true)
       dash = and_parts (not (ctx.flow && apart && (c == 45) && begins_flow (q ++ rest))) (dashes_fit ctx.flow (is_break c || is_blank c) q rest) dashes
 
-      none : (b : Bool) → not b ≡ true → b ≡ false
-      none true h = absurd (cc h)
-      none false h = refl
-
       moved : IsAt s x (c ∷ (q ++ rest)) → past_spot ctx.indent (spot_of s.mode s.folded.leading s.position.col) c ≡ past_spot ctx.indent x c
       moved (inl i) = ap (λ y. past_spot ctx.indent y c) i
       moved (inr i) = at_margin (spot_of s.mode s.folded.leading s.position.col) x c i.1
@@ -215,7 +211,7 @@ module _ (ctx : Context) (start : Position) where
           dashes_fit ctx.flow (is_break c || is_blank c) q rest ≡ true → stops ctx.flow (collection_of ctx.indent) (stand_after (past st c) q) rest ≡ true → begins_white rest ≡ false → has_no_nul rest ≡ true → Ran (q ++ rest) u) →
           (u : Turn PlainState Fault) → Goes ctx start c (q ++ rest) s.mode s u → (t : Stop PlainState) × (turned u (c ∷ (q ++ rest)) (λ v. run (turn ctx start) (q ++ rest) v) ≡ Ok t)
       by others (stop u) (stays h v) = (record { rest = c ∷ (q ++ rest); state = u }, refl)
-      by others (fail f) (fails g why) = absurd (not_bad s x apart c (q ++ rest) here e tab.0 (none (ctx.flow && apart && (c == 45) && begins_flow (q ++ rest)) dash.0) why)
+      by others (fail f) (fails g why) = absurd (not_bad s x apart c (q ++ rest) here e tab.0 (not-true (ctx.flow && apart && (c == 45) && begins_flow (q ++ rest)) dash.0) why)
       by others (on u) (goes v m go there after_dash after) =
           others u (past_spot ctx.indent x c) m (subst (λ y. IsAt u y (q ++ rest)) (moved here) there) after (stand_past ctx.indent x apart st c stand tab.0) tab.1 dash.1 ends white nul
 
@@ -276,12 +272,7 @@ plain_succeeds ctx p c r g rest h =
     (record { rest = x.0.rest; position = x.0.state.position; value = record { text = x.0.state.folded.text; leading = x.0.state.folded.leading } }, rw (begun, x.1) refl)
   where
     solid : (is_break c ≡ false) × (is_blank c ≡ false)
-    solid = by (is_blank c) (is_break c) (ap (λ b. b || is_break c) (sym (same_blank c)) ∙ (ap (λ b. classes.is_blank c || b) (sym (same_break c)) ∙ h.solid))
-      where
-        by : (x y : Bool) → (x || y) ≡ false → (y ≡ false) × (x ≡ false)
-        by false false h = (refl, refl)
-        by true y h = absurd (cc h)
-        by false true h = absurd (cc h)
+    solid = solid_of c h.solid
 
     tabs_are : tabs_fit ctx.indent in_text (r ++ g) rest ≡ true
     tabs_are = subst (λ y. tabs_fit ctx.indent y (r ++ g) rest ≡ true) (rw solid.0 refl) (plain_tabs ctx.indent c r g rest h.lines h.content h.is_gap h.is_clear)

@@ -1,6 +1,7 @@
 -- A plain scalar whose further lines fit, and what stands after it up to the next piece: no TAB indents a line there, and in flow no dash stands before a flow indicator.
 use Rattle.std.proofs.Common.{◌≡◌, ℕ, zero, suc, ◌-◌, ◌<◌, List, [], ◌∷◌, ◌++◌, Bool, true, false, not, ◌&&◌, ◌||◌, ◌==◌, nat_lt, if◌then◌else◌, take, Option, refl, ap, sym, ◌∙◌, subst, arith, ◌⊎◌, inl, inr}
-use Rattle.std.proofs.lemmas.Bool.{and_parts, eqb-true}
+use Rattle.std.proofs.Math.Bool.{or-true}
+use Rattle.std.proofs.lemmas.Bool.{and_parts, eqb-true, not-true}
 use Rattle.std.proofs.lemmas.Bool.Decides.{nat_tests}
 use Rattle.defs_text.specs.Classes as classes
 use Rattle.defs_text.specs.Classes.{is_one_of, is_flow}
@@ -14,6 +15,7 @@ use Rattle.defs_row.specs.Lines.{after_first, lines_have_no_tab, plain_lines_fit
 use Rattle.yaml_chars.specs.Class.{is_break, is_blank}
 use Rattle.proof_lexers.proofs.Bridges.{same_break, same_blank}
 use Rattle.proof_lexers.specs.PlainEnds.{is_white, is_gap}
+use Rattle.proof_ends.proofs.Runs.{joined}
 use Rattle.proof_ends.proofs.Texts.{flows}
 use Rattle.proof_row_sound.specs.Stands.{is_at_comment_or_end}
 use Rattle.proof_row_sound.proofs.LastLines.{last_first, last_whole}
@@ -54,11 +56,6 @@ tab_is_blank c column k h = rw (eqb-true c 9 (and_parts (c == 9) (nat_lt k colum
 
 -- ---- the further lines, character by character
 
-both_hold : (x y : Bool) → x ≡ true → y ≡ true → (x && y) ≡ true
-both_hold true true h k = refl
-both_hold true false h k = absurd (cc k)
-both_hold false y h k = absurd (cc h)
-
 -- the lines after the first fit in each spot
 others_fit : (column : ℕ) (x : Spot) (t : List ℕ) → lines_are column x t ≡ true → plain_lines_fit column t ≡ true
 others_fit column in_text t h = h
@@ -85,7 +82,7 @@ module _ (column : ℕ) (c : ℕ) (r : List ℕ) where
       let no_break : classes.is_break c ≡ false = same_break c ∙ e in
       let q = and_parts (is_blanks (first_line (c ∷ r))) (plain_lines_fit column (c ∷ r)) h in
       let line = and_parts (classes.is_blank c) (is_blanks (first_line r)) (ap is_blanks (sym (first_is column c r no_break)) ∙ q.0) in
-      (rw e (sym (same_blank c) ∙ line.0), both_hold (is_blanks (first_line r)) (plain_lines_fit column r) line.1 (sym (others_are column c r no_break) ∙ q.1))
+      (rw e (sym (same_blank c) ∙ line.0), joined (is_blanks (first_line r)) (plain_lines_fit column r) line.1 (sym (others_are column c r no_break) ∙ q.1))
   line_goes e (at k) h = (refl, by ((c == 9) && nat_lt k column) (is_blank c) refl refl)
     where
       no_break : classes.is_break c ≡ false
@@ -103,19 +100,15 @@ module _ (column : ℕ) (c : ℕ) (r : List ℕ) where
       -- a line of blanks, or no TAB left of the column
       parted : (b : Bool) → is_blanks (first_line r) ≡ b → is_blank c ≡ true → (b ≡ true) ⊎ (has_tab_within (column - k) (c ∷ leading classes.is_blank (first_line r)) ≡ false)
       parted true f g = inl refl
-      parted false f g = inr (by_not (has_tab_within (column - k) (c ∷ leading classes.is_blank (first_line r))) (rw (same_blank c, g, f) at line))
-        where
-          by_not : (x : Bool) → not x ≡ true → x ≡ false
-          by_not true h = absurd (cc h)
-          by_not false h = refl
+      parted false f g = inr (not-true (has_tab_within (column - k) (c ∷ leading classes.is_blank (first_line r))) (rw (same_blank c, g, f) at line))
 
       by : (tab blank : Bool) → ((c == 9) && nat_lt k column) ≡ tab → is_blank c ≡ blank → lines_are column (if tab then tabbed else (if blank then at (suc k) else in_text)) r ≡ true
-      by true blank f g = both_hold (is_blanks (first_line r)) (plain_lines_fit column r) (of (parted (is_blanks (first_line r)) refl (tab_is_blank c column k f))) others
+      by true blank f g = joined (is_blanks (first_line r)) (plain_lines_fit column r) (of (parted (is_blanks (first_line r)) refl (tab_is_blank c column k f))) others
         where
           of : (is_blanks (first_line r) ≡ true) ⊎ (has_tab_within (column - k) (c ∷ leading classes.is_blank (first_line r)) ≡ false) → is_blanks (first_line r) ≡ true
           of (inl i) = i
           of (inr i) = absurd (cc (i, tab_within k column c (leading classes.is_blank (first_line r)) f))
-      by false true f g = both_hold (line_is (suc k) column (first_line r)) (plain_lines_fit column r) (of (parted (is_blanks (first_line r)) refl g)) others
+      by false true f g = joined (line_is (suc k) column (first_line r)) (plain_lines_fit column r) (of (parted (is_blanks (first_line r)) refl g)) others
         where
           of : (is_blanks (first_line r) ≡ true) ⊎ (has_tab_within (column - k) (c ∷ leading classes.is_blank (first_line r)) ≡ false) → line_is (suc k) column (first_line r) ≡ true
           of (inl i) = rw i refl
@@ -176,7 +169,7 @@ piece_tabs : (column : ℕ) (x : Spot) (r g rest : List ℕ) → lines_are colum
 piece_tabs column x [] g rest h e k = subst (λ y. tabs_fit column y g rest ≡ true) (sym e) k
 piece_tabs column x (c ∷ r) g rest h e k =
     let q = char_goes column c r x h in
-    both_hold (may_go x c) (tabs_fit column (past_spot column x c) (r ++ g) rest) q.0 (piece_tabs column (past_spot column x c) r g rest q.1 (ends_past column x c r q.0 e) k)
+    joined (may_go x c) (tabs_fit column (past_spot column x c) (r ++ g) rest) q.0 (piece_tabs column (past_spot column x c) r g rest q.1 (ends_past column x c r q.0 e) k)
 
 -- ---- the gap
 
@@ -195,7 +188,7 @@ ended_gap column (at k) [] rest w h = refl
 ended_gap column tabbed [] rest w h = h
 ended_gap column x (c ∷ g) rest w h =
     let q = and_parts (is_white c) (is_gap g) w in
-    both_hold (may_go x c) (tabs_fit column (past_spot column x c) g rest) (white_may_go x c (white_of c q.0)) (ended_gap column (past_spot column x c) g rest q.1 h)
+    joined (may_go x c) (tabs_fit column (past_spot column x c) g rest) (white_may_go x c (white_of c q.0)) (ended_gap column (past_spot column x c) g rest q.1 h)
 
 -- where a gap that goes on from a spot has no TAB that indents what comes after it
 abbrev HasNone : (column : ℕ) → List ℕ → Type 0
@@ -211,14 +204,10 @@ broken_when column in_text g h b = h b
 broken_when column (at k) g h b = h.0 b
 broken_when column tabbed g h b = h.1
 
-or_true : (b : Bool) → (b || true) ≡ true
-or_true true = refl
-or_true false = refl
-
 module _ (column : ℕ) (c : ℕ) (g : List ℕ) where
   -- the last line of a gap with a break further on
   further_last : has_break g ≡ true → last_line (c ∷ g) ≡ last_line g
-  further_last e = last_first c g ∙ rw (e, or_true (classes.is_break c)) refl
+  further_last e = last_first c g ∙ rw (e, or-true (classes.is_break c)) refl
 
   breaks_first : is_break c ≡ true → has_break (c ∷ g) ≡ true
   breaks_first e = rw (same_break c, e) refl
@@ -261,7 +250,7 @@ spaced_gap column (at k) [] rest w h = refl
 spaced_gap column tabbed [] rest w h = absurd (cc h.0)
 spaced_gap column x (c ∷ g) rest w h =
     let q = and_parts (is_white c) (is_gap g) w in
-    both_hold (may_go x c) (tabs_fit column (past_spot column x c) g rest) (white_may_go x c (white_of c q.0)) (by (is_break c) refl (spaced_gap column (at 0) g rest q.1) (spaced_gap column (spot_past column x c) g rest q.1) (white_of c q.0))
+    joined (may_go x c) (tabs_fit column (past_spot column x c) g rest) (white_may_go x c (white_of c q.0)) (by (is_break c) refl (spaced_gap column (at 0) g rest q.1) (spaced_gap column (spot_past column x c) g rest q.1) (white_of c q.0))
   where
     by : (b : Bool) → is_break c ≡ b → (IsSpaced column (at 0) g → tabs_fit column (at 0) g rest ≡ true) → (IsSpaced column (spot_past column x c) g → tabs_fit column (spot_past column x c) g rest ≡ true) → (b || is_blank c) ≡ true →
         tabs_fit column (if b then at 0 else spot_past column x c) g rest ≡ true
@@ -286,7 +275,7 @@ gap_dashes : (flow apart : Bool) (g rest : List ℕ) → is_gap g ≡ true → d
 gap_dashes flow apart [] rest w = refl
 gap_dashes flow apart (c ∷ g) rest w =
     let q = and_parts (is_white c) (is_gap g) w in
-    both_hold (not (flow && apart && (c == 45) && begins_flow (g ++ rest))) (dashes_fit flow (is_break c || is_blank c) g rest)
+    joined (not (flow && apart && (c == 45) && begins_flow (g ++ rest))) (dashes_fit flow (is_break c || is_blank c) g rest)
     (ap not (white_is_no_dash flow apart (begins_flow (g ++ rest)) c (white_of c q.0))) (gap_dashes flow (is_break c || is_blank c) g rest q.1)
 
 flow_is_solid : (c : ℕ) → is_flow c ≡ true → (classes.is_blank c || classes.is_break c) ≡ false
@@ -298,7 +287,7 @@ no_flow_in : (flow : Bool) (collection : Option ℕ) (s : Stand) (c : ℕ) (r ne
 no_flow_in flow collection s c r next h = by flow (is_flow c) refl (and_parts (classes.is_blank c || classes.is_break c || not (ends_plain flow collection s (c ∷ (r ++ next)))) (goes_on flow collection (past s c) r next) h).0
   where
     ended : (f : Bool) → f ≡ true → is_flow c ≡ true → ends_plain f collection s (c ∷ (r ++ next)) ≡ true
-    ended f e i = rw (e, i) (or_true _)
+    ended f e i = rw (e, i) (or-true _)
 
     solid : (x z : Bool) → x ≡ false → (x || z) ≡ true → z ≡ true
     solid false z h k = k
@@ -314,7 +303,7 @@ rest_dashes : (flow : Bool) (collection : Option ℕ) (s : Stand) (c : ℕ) (r g
     dashes_fit flow (is_break c || is_blank c) (r ++ g) rest ≡ true
 rest_dashes flow collection s c [] g rest go none w = gap_dashes flow (is_break c || is_blank c) g rest w
 rest_dashes flow collection s c (d ∷ []) g rest go none w =
-    both_hold (not (flow && (is_break c || is_blank c) && (d == 45) && begins_flow (g ++ rest))) (dashes_fit flow (is_break d || is_blank d) g rest)
+    joined (not (flow && (is_break c || is_blank c) && (d == 45) && begins_flow (g ++ rest))) (dashes_fit flow (is_break d || is_blank d) g rest)
     (ap not (by flow (is_break c) (is_blank c) (d == 45) (begins_flow (g ++ rest)) (ap (λ b. flow && (((b || is_break c) && (d == 45)) && begins_flow (g ++ rest))) (sym (same_blank c)) ∙
     (ap (λ b. flow && (((classes.is_blank c || b) && (d == 45)) && begins_flow (g ++ rest))) (sym (same_break c)) ∙ none)))) (gap_dashes flow (is_break d || is_blank d) g rest w)
   where
@@ -326,7 +315,7 @@ rest_dashes flow collection s c (d ∷ []) g rest go none w =
     by true false false n v h = refl
 rest_dashes flow collection s c (d ∷ e ∷ r) g rest go none w =
     let later : goes_on flow collection (past s d) (e ∷ r) (g ++ rest) ≡ true = (and_parts (classes.is_blank d || classes.is_break d || not (ends_plain flow collection s (d ∷ ((e ∷ r) ++ (g ++ rest))))) (goes_on flow collection (past s d) (e ∷ r) (g ++ rest)) go).1 in
-    both_hold (not (flow && (is_break c || is_blank c) && (d == 45) && is_flow e)) (dashes_fit flow (is_break d || is_blank d) ((e ∷ r) ++ g) rest)
+    joined (not (flow && (is_break c || is_blank c) && (d == 45) && is_flow e)) (dashes_fit flow (is_break d || is_blank d) ((e ∷ r) ++ g) rest)
     (ap not (by flow (is_break c || is_blank c) (d == 45) (is_flow e) (no_flow_in flow collection (past s d) e r (g ++ rest) later))) (rest_dashes flow collection (past s d) d (e ∷ r) g rest later none w)
   where
     by : (f a n v : Bool) → (f && v) ≡ false → (f && a && n && v) ≡ false
@@ -338,4 +327,4 @@ rest_dashes flow collection s c (d ∷ e ∷ r) g rest go none w =
 -- A plain scalar and its gap have none.
 pub plain_dashes : (flow : Bool) (collection : Option ℕ) (s : Stand) (c : ℕ) (r g rest : List ℕ) → goes_on flow collection s r (g ++ rest) ≡ true → (flow && has_dash_before_flow (c ∷ r) (g ++ rest)) ≡ false → is_gap g ≡ true → dashes_fit flow false (c ∷ (r ++ g)) rest ≡ true
 plain_dashes flow collection s c r g rest go none w =
-    both_hold (not (flow && false && (c == 45) && begins_flow ((r ++ g) ++ rest))) (dashes_fit flow (is_break c || is_blank c) (r ++ g) rest) (ap not (not_apart flow (c == 45) (begins_flow ((r ++ g) ++ rest)))) (rest_dashes flow collection s c r g rest go none w)
+    joined (not (flow && false && (c == 45) && begins_flow ((r ++ g) ++ rest))) (dashes_fit flow (is_break c || is_blank c) (r ++ g) rest) (ap not (not_apart flow (c == 45) (begins_flow ((r ++ g) ++ rest)))) (rest_dashes flow collection s c r g rest go none w)

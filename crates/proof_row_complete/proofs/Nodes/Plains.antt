@@ -1,6 +1,7 @@
 -- Plain scalars: where the row goes on with one the scanner reads it, and the row goes on after it.
 use Rattle.std.proofs.Common.{◌≡◌, ℕ, ◌≤◌, List, [], ◌∷◌, ◌++◌, Bool, true, false, not, ◌&&◌, ◌||◌, ◌==◌, nat_le, if◌then◌else◌, Some, Ok, append-nil, refl, ap, sym, ◌∙◌, subst, arith, inl, inr}
-use Rattle.std.proofs.lemmas.Bool.{and_parts, eqb-true}
+use Rattle.std.proofs.Math.Bool.{or-true}
+use Rattle.std.proofs.lemmas.Bool.{and_parts, eqb-true, not-true}
 use Rattle.std.proofs.lemmas.Bool.Decides.{nat_tests}
 use Rattle.defs_text.specs.Classes as classes
 use Rattle.defs_text.specs.Classes.{is_one_of, is_blank_or_end, is_nul, is_at_gap, are_marks, is_document_marker}
@@ -86,21 +87,13 @@ after_gap (c ∷ r) h = by (c == 35) refl
     by true e = ended (rw e (hash (classes.is_break c)))
     by false e = solid refl (rw (h, e) refl)
 
-or_true : (b : Bool) → (b || true) ≡ true
-or_true true = refl
-or_true false = refl
-
-is_not : (b : Bool) → not b ≡ true → b ≡ false
-is_not true h = absurd (cc h)
-is_not false h = refl
-
 -- No TAB indents what comes after the gap, if a piece does: the next step of the row asks for that.
 next_clear : (w : Step) (indent : ℕ) (bs gap : List ℕ) (aw : Bool) → is_gap gap ≡ true → least_column bs true ≡ indent → is_indented_by_spaces plain_scalar bs aw gap ≡ true → has_break gap ≡ true → has_tab_within indent (last_line gap) ≡ false
 next_clear w indent bs gap aw white least h broken =
-    let value : (aw || not (is_one_of gap 35)) ≡ true = ap (λ b. aw || not b) (no_comment gap white).0 ∙ or_true aw in
+    let value : (aw || not (is_one_of gap 35)) ≡ true = ap (λ b. aw || not b) (no_comment gap white).0 ∙ or-true aw in
     let column : least_column bs (aw || not (is_one_of gap 35)) ≡ indent = ap (λ b. least_column bs b) value ∙ least in
     let tab : not (has_tab_within (least_column bs (aw || not (is_one_of gap 35))) (last_line gap)) ≡ true = rw broken at h in
-    is_not (has_tab_within indent (last_line gap)) (subst (λ n. not (has_tab_within n (last_line gap)) ≡ true) column tab)
+    not-true (has_tab_within indent (last_line gap)) (subst (λ n. not (has_tab_within n (last_line gap)) ≡ true) column tab)
 
 -- a separation before content is empty
 no_separation : (more next rest : List ℕ) → rest ≡ more ++ next → is_separation false more next ≡ true → begins_separation rest ≡ false → more ≡ []
@@ -180,7 +173,7 @@ comes_by fl adjacent column (c ∷ r) h = by (c == 45) refl
         may = ap (λ x. may_begin fl adjacent x r) same ∙ rw gap refl
 
         kind : kind_by c r ≡ dashes
-        kind = ap (λ x. kind_by x r) same ∙ rw (is_not (is_at_gap r) gap) refl
+        kind = ap (λ x. kind_by x r) same ∙ rw (not-true (is_at_gap r) gap) refl
 
         at_dash_by : (b : Bool) → (fl && begins_flow r) ≡ b → Comes fl adjacent column (c ∷ r)
         at_dash_by false i = let begins : may_begin fl adjacent c r ≡ true = may ∙ ap not i in comes (rw (begins, q.1) refl)
@@ -211,7 +204,7 @@ no_first_dash fl adjacent column c a indent p h = sym (dash_is (record { flow = 
     by : (b : Bool) → (c == 45) ≡ b → (fl && true && (c == 45) && begins_flow a) ≡ false
     by true e =
         let both : (not (is_at_gap a) ≡ true) × (not (fl && begins_flow a) ≡ true) = and_parts (not (is_at_gap a)) (not (fl && begins_flow a)) (ap (λ x. may_begin fl adjacent x a) (sym (eqb-true c 45 e)) ∙ may) in
-        rw e (none fl (begins_flow a) (is_not (fl && begins_flow a) both.1))
+        rw e (none fl (begins_flow a) (not-true (fl && begins_flow a) both.1))
     by false e = rw e (false_by fl (begins_flow a))
 
 -- ---- the step
@@ -336,7 +329,7 @@ module _ (text : List ℕ) (w : Step) (ws : List Step) (last : List ℕ) (t : Sc
             is_clean = clean;
             deep = deep_here;
             first_dash = no_first_dash (in_flow t.held) (context_here text w ws last t g).adjacent site.position.col c (r ++ (gap ++ rest)) levels.indent t.held.position (begins (c ∷ r) e);
-            dash = is_not (in_flow t.held && has_dash_before_flow (c ∷ r) (gap ++ rest)) (subst (λ n. not (in_flow t.held && has_dash_before_flow (c ∷ r) n) ≡ true) gap_here.cut (subst (λ y. not (in_flow t.held && has_dash_before_flow y next) ≡ true) e parts.2));
+            dash = not-true (in_flow t.held && has_dash_before_flow (c ∷ r) (gap ++ rest)) (subst (λ n. not (in_flow t.held && has_dash_before_flow (c ∷ r) n) ≡ true) gap_here.cut (subst (λ y. not (in_flow t.held && has_dash_before_flow y next) ≡ true) e parts.2));
             lines = subst (λ y. plain_lines_fit levels.indent y ≡ true) e (subst (λ n. plain_lines_fit n w.piece ≡ true) least_is parts.1);
             is_clear = gap_clear (account_here text w ws last t g) w ws last whole.0 shown_is g.is_row.1 levels.indent gap rest gap_here.cut gap_here.is_white clean least_is (after_gap rest gap_here.no_more);
           }) in

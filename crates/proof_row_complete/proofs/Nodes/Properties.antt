@@ -98,15 +98,18 @@ tag_is_read fl p text (c ∷ piece) next more g e i h f =
     let first : c ≡ 33 = cc whole in
     (after_tag p (33 ∷ piece) next g.handle g.suffix, ap (λ r. tags.tag fl r p) (sym i ∙ ap (λ d. d ∷ (piece ++ next)) first) ∙ tags_are_read fl piece next g.handle g.suffix p (ap (λ d. written_tag (d ∷ piece)) (sym first) ∙ h) f)
 
--- `!`
-pub tag_reads : (text : List ℕ) (w : Step) (ws : List Step) (last : List ℕ) (t : ScannerState) (more : List ℕ) → t.rest ≡ 33 ∷ more → IsDeep t.held → Reads text w ws last t fetch_tag
-unfolding fetch_tag
-tag_reads text w ws last t more e deep g =
+tag_scanned : (text : List ℕ) (w : Step) (ws : List Step) (last : List ℕ) (t : ScannerState) (more : List ℕ) → t.rest ≡ 33 ∷ more → GoesHere text (w ∷ ws) last t → (x : machine.Read tags.Tag) × (tags.tag (in_flow t.held) t.rest t.held.position ≡ Ok x)
+tag_scanned text w ws last t more e g =
     let h : PieceHere text w ws last t g = piece_here text w ws last t g in
     let kind : kind_at (in_flow t.held) (is_adjacent (before_here text (w ∷ ws) last t g)) t.held.position.col t.rest ≡ tag_text =
     ap (λ r. kind_at (in_flow t.held) (is_adjacent (before_here text (w ∷ ws) last t g)) t.held.position.col r) e ∙ tag_here (in_flow t.held) (is_adjacent (before_here text (w ∷ ws) last t g)) t.held.position.col more in
     let whole : Whole tag_text (context_here text w ws last t g) w.piece (spelled ws last) w.shown = subst (λ k. Whole k (context_here text w ws last t g) w.piece (spelled ws last) w.shown) kind h.whole in
-    let x : (x : machine.Read tags.Tag) × (tags.tag (in_flow t.held) t.rest t.held.position ≡ Ok x) =
-    tag_is_read (in_flow t.held) t.held.position t.rest w.piece (spelled ws last) more whole.0 e h.text_is whole.1 (subst (λ b. may_follow b (spelled ws last) ≡ true) h.flow_is whole.2) in
+    tag_is_read (in_flow t.held) t.held.position t.rest w.piece (spelled ws last) more whole.0 e h.text_is whole.1 (subst (λ b. may_follow b (spelled ws last) ≡ true) h.flow_is whole.2)
+
+-- `!`
+pub tag_reads : (text : List ℕ) (w : Step) (ws : List Step) (last : List ℕ) (t : ScannerState) (more : List ℕ) → t.rest ≡ 33 ∷ more → IsDeep t.held → Reads text w ws last t fetch_tag
+unfolding fetch_tag
+tag_reads text w ws last t more e deep g =
+    let x : (x : machine.Read tags.Tag) × (tags.tag (in_flow t.held) t.rest t.held.position ≡ Ok x) = tag_scanned text w ws last t more e g in
     read_on (node_start t.held) (tags.tag (in_flow t.held) t.rest t.held.position) _ x.0 x.1
     (went (property_goes text w ws last t (Tok.tag x.0.value.handle x.0.value.suffix) x.0.rest x.0.position (tag_property (in_flow t.held) t.held.position t.rest more e x.0 x.1) (tag_token x.0.value.handle x.0.value.suffix) deep g))
