@@ -6,10 +6,10 @@
 //! position in the text too.
 //!
 //! ```
-//! const PORT: [Step<'static>; 2] = [Step::Key("server"), Step::Key("port")];
+//! const PORT: &[Step<'static>] = &[Step::Key("server"), Step::Key("port")];
 //!
 //! let documents = load_marked(alloc, "server:\n  port: none\n")?;
-//! let error = marked::read::<i64>(documents.first()?, &PORT).err()?;
+//! let error = marked::read::<i64>(documents.first()?, PORT).err()?;
 //! let text = format!(in alloc; "{error}")?; // line 2, column 9: $["server"]["port"]: a string, where an integer is wanted
 //! ```
 //!
