@@ -74,6 +74,6 @@ each_reads = record {
   plain = plain_reads;
 }
 
--- So a text without NUL that has a row has the row's tokens by the model.
+-- So a text without NUL that has a row has the row's tokens by the model: it is not refused.
 pub texts_with_a_row_are_read : IsComplete
 texts_with_a_row_are_read = read_by_row (fetch_reads each_reads)

@@ -1,5 +1,5 @@
 -- A comma or a closing bracket that a row reads is read by the scanner's model, and the row goes on after it.
-use Rattle.std.proofs.Common.{◌≡◌, ℕ, List, [], ◌∷◌, ◌++◌, Bool, true, false, not, ◌⊎◌, inl, inr, if◌then◌else◌, Option, Some, None, Ok, Err, refl, ap, sym, ◌∙◌, subst}
+use Rattle.std.proofs.Common.{◌≡◌, ℕ, List, [], ◌∷◌, ◌++◌, Bool, true, false, not, ◌⊎◌, inl, inr, if◌then◌else◌, Some, None, Ok, Err, refl, ap, sym, ◌∙◌, subst}
 use Rattle.yaml_tokens.specs.declared.problem.Fault.TheVariants.{At}
 use Rattle.yaml_tokens.specs.declared.problem.Problem.TheVariants as problem
 use Rattle.defs_text.specs.Position.{Position, position_after}
@@ -18,7 +18,7 @@ use Rattle.defs_row.specs.Account.{Site, Account, site_at, site_in, site_past, m
 use Rattle.defs_row.specs.Tokens.{shown_position, past_line_rest}
 use Rattle.defs_row.specs.Row.{IsRowFrom}
 use Rattle.model_lexers.specs.Machine.{past}
-use Rattle.model_scanner.specs.State.{Key, Held, ScannerState, ◌>>=◌, push, pop, with_top, after, on_held, with_held}
+use Rattle.model_scanner.specs.State.{Held, ScannerState, ◌>>=◌, push, pop, with_top, after, on_held, with_held}
 use Rattle.model_scanner.specs.Keys.{is_required, top_key, remove_implicit_key}
 use Rattle.model_scanner.specs.Flow.{adjacent_in_flow, ended_flow, end_flow, next_entry, end_entry, pass_indicator, fetch_flow_collection_end, fetch_flow_entry}
 use Rattle.defs_text.specs.Text.{has_no_nul}
@@ -26,7 +26,6 @@ use Rattle.proof_cut.proofs.FlowEnds.{higher_keys, ended_now, entry_now, ended_i
 use Rattle.proof_cut.proofs.Nodes.{IsDeep}
 use Rattle.proof_row_sound.specs.Arrives.{site_here}
 use Rattle.proof_row_sound.specs.Choices.{line_by, entry_by, entries_by, first_choice, outside_key, chosen, MayChoose}
-use Rattle.proof_row_sound.specs.Stands.{IsFreeKey}
 use Rattle.proof_row_sound.proofs.Blanks.{line_rest_cut, line_rest_fills}
 use Rattle.proof_row_sound.proofs.Closers.{previous_of, IsCloser, comma, closing_bracket, closing_brace, site_alike, line_then, stray_past, stray_base}
 use Rattle.proof_row_sound.proofs.ClosersInside.{closed_past, closed_base, closed_inside}
@@ -37,7 +36,7 @@ use Rattle.proof_row_sound.proofs.NodesOutside.{Outer}
 use Rattle.proof_row_sound.proofs.Sides.{with_entries, ArrivesInside}
 use Rattle.proof_row_complete.specs.Goes.{Succeeds, went, Goes}
 use Rattle.proof_row_complete.specs.EachReads.{Reads}
-use Rattle.proof_row_complete.proofs.Indicators.Passed.{passed, last_of, same_value, line_inside, not_required, may_on}
+use Rattle.proof_row_complete.proofs.Indicators.Passed.{passed, last_of, free_key, same_value, line_inside, not_required, may_on}
 use Rattle.proof_row_complete.proofs.Sides.{GoesOutside, GoesInside, goes_side, goes_on}
 use Rattle.proof_row_complete.proofs.Steps.{with_key, GoesPast, step_read, WentOutside, went_outside, WentInside, went_inside}
 use Rattle.proof_row_complete.proofs.Waits.{on_its_line}
@@ -189,10 +188,6 @@ module _ (text more : List ℕ) (w : Step) (ws : List Step) (last : List ℕ) (c
         (closed_inside text more closes tok c k t g.side cut hash deep) refl g.outside (choices_then closes g.inside) (may closes) (r.is_spelled ∙ line_rest_cut more) (row closes rows);
   }
     where
-      free_key : (x : Option Key) → IsFreeKey x → is_required x ≡ false
-      free_key None h = refl
-      free_key (Some x) h = h
-
       s : Site
       s = g.side.here.site
 

@@ -1,50 +1,36 @@
 -- In no row a property in the first column comes directly before an entry of a block sequence that is open already: the property must be a key, and a key that waits has no break before its colon.
 -- So the scanner's model does not refuse a dash for it.
-use Rattle.std.proofs.Common.{◌≡◌, ◌≢◌, ℕ, zero, suc, ◌+◌, ◌-◌, List, [], ◌∷◌, ◌++◌, Bool, true, false, not, ◌&&◌, ◌||◌, ◌==◌, nat_lt, ◌⊎◌, inl, inr, length, replicate, if◌then◌else◌, Option, Some, None, Ok, Err, refl, ap, sym, ◌∙◌, subst, arith, append-nil, append_assoc}
-use Rattle.std.proofs.lemmas.Bool.{and_parts}
+use Rattle.std.proofs.Common.{◌≡◌, ℕ, List, [], ◌∷◌, ◌++◌, Bool, true, false, ◌&&◌, ◌||◌, ◌==◌, nat_lt, if◌then◌else◌, Option, Some, None, Ok, Err, refl, ap, sym, ◌∙◌, subst, arith, append-nil, append_assoc}
 use Rattle.std.proofs.lemmas.Bool.Decides.{nat_tests}
 use Rattle.yaml_tokens.specs.declared.problem.Fault.TheVariants.{At}
 use Rattle.yaml_tokens.specs.declared.problem.Problem.TheVariants as problem
-use Rattle.defs_text.specs.Breaks.{is_before_line_feed, has_no_break}
-use Rattle.defs_text.specs.Classes.{is_blank, is_break, is_at_gap}
-use Rattle.defs_text.specs.Position.{Position, position_past, position_after}
+use Rattle.defs_text.specs.Classes.{is_at_gap}
+use Rattle.defs_text.specs.Position.{Position, position_after}
 use Rattle.defs_text.specs.Text.{is_empty}
-use Rattle.defs_scalar.specs.Tags.{Tag, after_mark, written_tag}
-use Rattle.defs_token.specs.Account.{FlowKind}
-use Rattle.defs_token.specs.Plain.{goes_on, stops, ends_with_content, is_whole_plain}
 use Rattle.defs_token.specs.Separation.{is_separation}
-use Rattle.defs_token.specs.Token.{Tok, Token, stream_start, stream_end, version_directive, tag_directive, document_start, document_end, block_sequence_start, block_mapping_start, block_end, flow_sequence_start, flow_sequence_end, flow_mapping_start, flow_mapping_end, block_entry, flow_entry, key, value, alias, anchor, tag, scalar, plain, single_quoted, double_quoted, literal, folded}
-use Rattle.defs_row.specs.Step.{Step, Row, spelled, Act, gives_node, gives_block_scalar, gives_dash, gives_question, gives_colon, gives_comma, gives_closing, gives_marker, gives_nothing, act_of, Previous, plain_scalar as before_plain, quoted_scalar, flow_collection, directive, another, previous_by, has_break}
-use Rattle.defs_row.specs.Column.{not_ended, blocks_at, is_deeper, is_in_column}
-use Rattle.defs_row.specs.Key.{Line, free, taken, waits, is_waiting, begins_free_line, line_past_separation, Outside, line_past}
-use Rattle.defs_row.specs.FlowEntry.{Had, fresh, filled, waits as had_waits, settled, Pair, no_pair, single_pair, asked_pair, Entry, takes_pair, begun_by, is_renewed, renewed, had_after, pair_past, with_had, entries_past}
-use Rattle.defs_row.specs.Account.{Site, Account, first_account, is_in_flow, site_in, site_at, site_past, on_one_line, past_outside, past_inside, past_piece, account_past, seen}
-use Rattle.defs_row.specs.Tokens.{put, past_line_rest, pair_position, shown_position, Colon, key_end, ends_at, start_if, key_tokens, begun_outside, pair_end, begun_inside, tokens_before, stream_position, ends_with_stream, tokens_at_end, tokens_from, tokens_of_row}
+use Rattle.defs_token.specs.Token.{Tok, Token, stream_end}
+use Rattle.defs_row.specs.Step.{Step, Row, spelled, gives_dash}
+use Rattle.defs_row.specs.Column.{not_ended, is_deeper, is_in_column}
+use Rattle.defs_row.specs.Key.{begins_free_line, line_past_separation}
+use Rattle.defs_row.specs.FlowEntry.{Entry}
+use Rattle.defs_row.specs.Account.{Site, Account, first_account, site_in, account_past}
+use Rattle.defs_row.specs.Tokens.{put, past_line_rest, key_end, ends_at, start_if, begun_outside, stream_position, ends_with_stream, tokens_at_end, tokens_from, tokens_of_row}
 use Rattle.defs_row.specs.Row.{IsWritten, IsRowFrom, HasRow, IsRead}
 use Rattle.model_scanner.specs.declared.level.Indent.{Indent}
 use Rattle.model_scanner.specs.State.{ScannerState}
-use Rattle.model_scanner.specs.Block.{property_position, last_property, at_margin, fetch_block_entry}
-use Rattle.proof_ends.proofs.Begins.{Context, context_of, Whole, piece_of}
-use Rattle.proof_ends.proofs.TagEnds.{mark_is_first}
-use Rattle.proof_lexers.proofs.Plain.Turns.{or_true, in_line_position}
-use Rattle.proof_lexers.proofs.Separation.Positions.{position_in_line}
+use Rattle.model_scanner.specs.Block.{last_property, at_margin, fetch_block_entry}
 use Rattle.proof_cut.proofs.Nodes.{IsDeep}
-use Rattle.proof_cut.proofs.Pieces.Names.{name_in_line}
-use Rattle.proof_cut.proofs.Pieces.Tags.{written_in_line}
-use Rattle.proof_row.proofs.Written.{At as site_of, not_empty}
+use Rattle.proof_row.proofs.Written.{At as site_of}
 use Rattle.proof_row_sound.specs.Stands.{columns, AreLevels}
 use Rattle.proof_row_sound.proofs.NodesOutside.{Outer}
 use Rattle.proof_row_sound.proofs.Passed.{some_columns}
-use Rattle.proof_row_sound.proofs.QuotedEnds.{ends_in_line}
-use Rattle.proof_row_sound.proofs.Sides.{with_entries, ArrivesBy}
-use Rattle.proof_row_complete.specs.Goes.{Succeeds, Goes}
+use Rattle.proof_row_sound.proofs.Sides.{ArrivesBy}
 use Rattle.proof_row_complete.specs.EachReads.{Reads}
 use Rattle.proof_row_complete.proofs.Indicators.Dashes.{IsClearOfMargin, dash_reads_if}
 use Rattle.proof_row_complete.proofs.Indicators.FreeLines.{NoneOpen, step as mark_step, mark_read, mark_asks, mark_line}
 use Rattle.proof_row_complete.proofs.Indicators.MarginSteps.{dash_asks, Inv, Link, shown_token, first_tokens, Steps, step_by}
-use Rattle.proof_row_complete.proofs.Indicators.MarginTokens.{is_entry, is_property, stands_out, has_entry_after, are_others, and_none, after_others, found_after, before_others, entry_is, property_is, property_position_is, directive_is, block_or_line}
-use Rattle.proof_row_complete.proofs.Indicators.Passed.{same_value}
-use Rattle.proof_row_complete.proofs.Steps.{with_key, GoesPast, WentOutside, went_outside, WentInside, went_inside}
+use Rattle.proof_row_complete.proofs.Indicators.MarginTokens.{stands_out, has_entry_after, are_others, and_none, after_others, found_after, before_others}
+use Rattle.proof_row_complete.proofs.Steps.{with_key, GoesPast, WentOutside}
 
 -- ---- a row
 

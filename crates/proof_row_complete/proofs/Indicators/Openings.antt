@@ -4,10 +4,10 @@ use Rattle.std.proofs.lemmas.Bool.Decides.{nat_tests}
 use Rattle.yaml_tokens.specs.declared.problem.Fault.TheVariants.{At}
 use Rattle.yaml_tokens.specs.declared.problem.Problem.TheVariants as problem
 use Rattle.defs_text.specs.Classes.{is_blank, is_break, is_nul, is_blank_or_end, is_flow}
-use Rattle.defs_text.specs.Text.{is_empty, has_no_nul}
+use Rattle.defs_text.specs.Text.{is_empty}
 use Rattle.defs_text.specs.Position.{Position, position_after}
 use Rattle.defs_scalar.specs.FlowScalar.{begins_with}
-use Rattle.defs_token.specs.Account.{Account as PieceAccount, FlowKind, is_in_flow, is_adjacent, has_room}
+use Rattle.defs_token.specs.Account.{Account as PieceAccount, FlowKind, has_room}
 use Rattle.defs_token.specs.Token.{Tok}
 use Rattle.defs_token.specs.Piece.{IsPiece}
 use Rattle.defs_token.specs.Separation.{is_separation}
@@ -28,8 +28,8 @@ use Rattle.model_scanner.specs.declared.level.FlowLevel.TheVariants.{Mapping, En
 use Rattle.model_scanner.specs.State.{Key, Held, ScannerState, ◌>>=◌, push, pop, after, on_held, with_held}
 use Rattle.model_scanner.specs.Indents.{roll_one_col_indent}
 use Rattle.model_scanner.specs.Flow.{increase_flow_level, deepened_flow, begin_flow, pass_indicator, fetch_flow_collection_start}
-use Rattle.proof_ends.specs.Ends.{Kind, sequence_opening, mapping_opening, kind_at}
-use Rattle.proof_ends.proofs.Begins.{Whole, context_of, piece_of, texts_begin}
+use Rattle.proof_ends.specs.Ends.{sequence_opening, mapping_opening}
+use Rattle.proof_lexers.specs.PlainEnds.{has_no_nul}
 use Rattle.proof_cut.specs.Here.{IsLive}
 use Rattle.proof_cut.proofs.Nodes.{IsDeep}
 use Rattle.proof_cut.proofs.Saved.{saved_keys, saved_is}
@@ -49,6 +49,7 @@ use Rattle.proof_row_sound.proofs.Sides.{with_entries}
 use Rattle.proof_row_complete.specs.Goes.{Succeeds, went, Goes}
 use Rattle.proof_row_complete.specs.EachReads.{Reads}
 use Rattle.proof_row_complete.proofs.Indicators.Passed.{passed, last_of, same_value, line_inside, may_on}
+use Rattle.proof_row_complete.proofs.KindsOfPieces.{kind_is}
 use Rattle.proof_row_complete.proofs.Nodes.Choices.{separated_by, ChosenOutside, chosen_outside, ChosenInside, chosen_inside}
 use Rattle.proof_row_complete.proofs.Sides.{GoesOutside, GoesInside, goes_side, goes_on}
 use Rattle.proof_row_complete.proofs.Steps.{with_key, GoesPast, step_here, step_read, WentOutside, went_outside, WentInside, went_inside}
@@ -74,11 +75,6 @@ opening_is lv tok c t more ds i e hash rolled few =
 -- A piece that begins with the bracket is one of it, so there is room for one more collection.
 abbrev HasRoom : ℕ → Type 0
 HasRoom c = (a : PieceAccount) (piece next more : List ℕ) (p : Position) (t : Tok) → piece ≢ [] → IsPiece a piece next None p t → piece ++ next ≡ c ∷ more → has_room a ≡ true
-
--- the kind of a piece is that of the text there
-kind_is : (k : Kind) (a : PieceAccount) (piece next text : List ℕ) (p : Position) (t : Tok) → piece ≢ [] → IsPiece a piece next None p t → piece ++ next ≡ text → kind_at (is_in_flow a) (is_adjacent a.before) a.position.col text ≡ k → Whole k (context_of a) piece next t
-kind_is k a piece next text p t some h e there =
-    subst (λ y. Whole y (context_of a) piece next t) (sym (texts_begin a piece next None p t some h) ∙ (ap (λ r. kind_at (is_in_flow a) (is_adjacent a.before) a.position.col r) e ∙ there)) (piece_of a piece next None p t some h)
 
 bracket_room : HasRoom 91
 unfolding is_blank_or_end is_blank is_break is_nul is_flow

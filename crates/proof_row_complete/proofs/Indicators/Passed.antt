@@ -18,6 +18,7 @@ use Rattle.model_scanner.specs.Keys.{is_required, top_key, remove_implicit_key}
 use Rattle.model_scanner.specs.Space.{skip_spaces}
 use Rattle.model_scanner.specs.Flow.{pass_indicator}
 use Rattle.proof_row_sound.specs.Choices.{line_by, MayChoose}
+use Rattle.proof_row_sound.specs.Stands.{IsFreeKey}
 use Rattle.proof_row_sound.proofs.Blanks.{spaced_parted}
 use Rattle.proof_row_sound.proofs.Indicated.{past_it}
 use Rattle.proof_row_complete.proofs.Waits.{waits_on}
@@ -64,6 +65,11 @@ not_required c None broken l m p rest e w may = refl
 not_required false (Some k) broken l m p rest e w may = may
 not_required true (Some k) false l m p rest e w may = absurd (cc (subst (λ x. is_waiting x ≡ false) (same_value m (waits k.position) (sym e)) w))
 not_required true (Some k) true l m p rest e w may = absurd (cc e)
+
+-- an open key of an entry need not be one
+pub free_key : (k : Option Key) → IsFreeKey k → is_required k ≡ false
+free_key None h = refl
+free_key (Some k) h = h
 
 -- Where the row goes on after a piece, the choice may stay as it was: a key that waits is on this line, and the text goes on.
 pub may_on : (ws : List Step) (last : List ℕ) (b : Account) (c : Bool) (k : Option Key) (l : Line) (p q : Position) (rest gap rest2 : List ℕ) → IsRowFrom (Some b) ws last → b.line ≡ line_by c k l →

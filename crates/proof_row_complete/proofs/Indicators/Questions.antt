@@ -1,5 +1,5 @@
 -- A `?` that a row reads is read by the scanner's model, and the row goes on after it.
-use Rattle.std.proofs.Common.{◌≡◌, ℕ, List, [], ◌∷◌, ◌++◌, Bool, true, false, not, ◌&&◌, ◌||◌, ◌==◌, ◌⊎◌, inl, inr, if◌then◌else◌, Option, Some, None, Result, Ok, Err, refl, ap, sym, ◌∙◌, subst}
+use Rattle.std.proofs.Common.{◌≡◌, ℕ, List, [], ◌∷◌, ◌++◌, Bool, true, false, not, ◌&&◌, ◌||◌, ◌==◌, ◌⊎◌, inl, inr, if◌then◌else◌, Some, None, Result, Ok, Err, refl, ap, sym, ◌∙◌, subst}
 use Rattle.std.proofs.lemmas.Bool.{or_parts}
 use Rattle.yaml_tokens.specs.declared.problem.Fault.{Fault}
 use Rattle.yaml_tokens.specs.declared.problem.Fault.TheVariants.{At}
@@ -21,7 +21,7 @@ use Rattle.defs_row.specs.FlowEntry.{Had, fresh, filled, waits, settled, Entry, 
 use Rattle.defs_row.specs.Account.{Site, site_at, site_in, may_stand, is_deep_enough}
 use Rattle.defs_row.specs.Row.{IsRowFrom}
 use Rattle.model_lexers.specs.Machine.{past}
-use Rattle.model_scanner.specs.State.{Key, Held, ScannerState, ◌>>=◌, peek, in_flow, push, pop, after, with_top, token, on_held, with_held, try_held}
+use Rattle.model_scanner.specs.State.{Held, ScannerState, ◌>>=◌, peek, in_flow, push, pop, after, with_top, token, on_held, with_held, try_held}
 use Rattle.model_scanner.specs.Keys.{is_required, top_key, remove_implicit_key}
 use Rattle.model_scanner.specs.Indents.{roll_indent}
 use Rattle.model_scanner.specs.Space.{skip_yaml_whitespace}
@@ -34,7 +34,6 @@ use Rattle.proof_lexers.specs.Separations.{begins_white_space, GoesOverAs, goes,
 use Rattle.proof_lexers.proofs.Separation.WhiteSpace.{white_space_is_passed}
 use Rattle.proof_cut.proofs.Nodes.{IsDeep}
 use Rattle.proof_row_sound.specs.Choices.{line_by, entry_by, entries_by, first_choice, outside_key, MayChoose}
-use Rattle.proof_row_sound.specs.Stands.{IsFreeKey}
 use Rattle.proof_row_sound.proofs.Arrivals.{first_not_right}
 use Rattle.proof_row_sound.proofs.EntryPieces.{site_inside, base_inside}
 use Rattle.proof_row_sound.proofs.NodesOutside.{Outer}
@@ -46,7 +45,7 @@ use Rattle.proof_row_sound.proofs.WhiteSpaces.{white_of, past_white, white_cut, 
 use Rattle.proof_row_complete.specs.Goes.{Succeeds, went, Goes, GoesHere}
 use Rattle.proof_row_complete.specs.EachReads.{Reads, before_here}
 use Rattle.proof_row_complete.proofs.Indicators.FreeLines.{free_here, NoneOpen, none_open, step as mark_step, at as mark_at, mark_read, mark_asks, mark_row, mark_line}
-use Rattle.proof_row_complete.proofs.Indicators.Passed.{removed, last_of, same_value, line_inside, may_on}
+use Rattle.proof_row_complete.proofs.Indicators.Passed.{removed, last_of, free_key, same_value, line_inside, may_on}
 use Rattle.proof_row_complete.proofs.Nodes.Choices.{separated_by}
 use Rattle.proof_row_complete.proofs.Pieces.{context_here, PieceHere, piece_here}
 use Rattle.proof_row_complete.proofs.Sides.{GoesOutside, GoesInside, goes_side, goes_on}
@@ -303,15 +302,11 @@ module _ (text more : List ℕ) (w : Step) (ws : List Step) (last : List ℕ) (t
       kept = may_on ws last (with_entries (site_inside z (63 ∷ []) Tok.key more) l (asked_entry g.side.entry ∷ ys)) g.outside (outside_key g.side.entries g.side.keys) g.side.here.line t.held.position end t.rest (white_of false more) (past_white false more) row refl
           (λ q. refl) (p.is_spelled ∙ white_cut false more) fills (λ h. on_its_line (past t.held.position) (white_of false more) (past_white false more) h) g.may
 
-      free_key : is_required (top_key t.held.keys) ≡ false
-      free_key = ap (λ ks. is_required (top_key ks)) g.side.keys_are ∙ of g.side.key g.side.here.are_entries.0.key_is
-        where
-          of : (k : Option Key) → IsFreeKey k → is_required k ≡ false
-          of None h = refl
-          of (Some k) h = h
+      need : is_required (top_key t.held.keys) ≡ false
+      need = ap (λ ks. is_required (top_key ks)) g.side.keys_are ∙ free_key g.side.key g.side.here.are_entries.0.key_is
 
       is : fetch_key t ≡ Ok (question_within t more)
-      is = key_is t more (record t.held { flow = keyed t.held.flow }) e (begin_inside t.held (ap (λ fs. not (is_empty fs)) g.side.flow_is)) free_key begins apart
+      is = key_is t more (record t.held { flow = keyed t.held.flow }) e (begin_inside t.held (ap (λ fs. not (is_empty fs)) g.side.flow_is)) need begins apart
 
 -- `?`
 pub question_reads : (text : List ℕ) (w : Step) (ws : List Step) (last : List ℕ) (t : ScannerState) (more : List ℕ) → t.rest ≡ 63 ∷ more → is_at_gap more ≡ true → IsDeep t.held → Reads text w ws last t fetch_key
