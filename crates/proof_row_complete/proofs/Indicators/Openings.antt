@@ -4,7 +4,7 @@ use Rattle.std.proofs.lemmas.Bool.Decides.{nat_tests}
 use Rattle.yaml_tokens.specs.declared.problem.Fault.TheVariants.{At}
 use Rattle.yaml_tokens.specs.declared.problem.Problem.TheVariants as problem
 use Rattle.defs_text.specs.Classes.{is_blank, is_break, is_nul, is_blank_or_end, is_flow}
-use Rattle.defs_text.specs.Text.{is_empty}
+use Rattle.defs_text.specs.Text.{is_empty, has_no_nul}
 use Rattle.defs_text.specs.Position.{Position, position_after}
 use Rattle.defs_scalar.specs.FlowScalar.{begins_with}
 use Rattle.defs_token.specs.Account.{Account as PieceAccount, FlowKind, has_room}
@@ -29,7 +29,6 @@ use Rattle.model_scanner.specs.State.{Key, Held, ScannerState, ◌>>=◌, push, 
 use Rattle.model_scanner.specs.Indents.{roll_one_col_indent}
 use Rattle.model_scanner.specs.Flow.{increase_flow_level, deepened_flow, begin_flow, pass_indicator, fetch_flow_collection_start}
 use Rattle.proof_ends.specs.Ends.{sequence_opening, mapping_opening}
-use Rattle.proof_lexers.specs.PlainEnds.{has_no_nul}
 use Rattle.proof_cut.specs.Here.{IsLive}
 use Rattle.proof_cut.proofs.Nodes.{IsDeep}
 use Rattle.proof_cut.proofs.Saved.{saved_keys, saved_is}
