@@ -1,5 +1,6 @@
 pub mod Collected
 pub mod Converted
+pub mod Fences
 pub mod First
 mod InTurn
 pub mod Split

@@ -24,7 +24,7 @@ cut_at text front rest more c u mark same low e =
     ∙ ap (λ t. chars front ++ t) (chars-append (c ∷ more) rest mark ∙ ap (λ t. t ++ chars rest) (sym (chars_from_encodes (c ∷ more) (c ∷ more) mark same)))
 
 -- where the mark stands among a text's characters, it stands among its bytes
-in_bytes : (text front rest mark : List ℕ) → IsUtf8 text → encode_utf8_all mark ≡ mark → chars text ≡ front ++ (mark ++ rest)
+pub in_bytes : (text front rest mark : List ℕ) → IsUtf8 text → encode_utf8_all mark ≡ mark → chars text ≡ front ++ (mark ++ rest)
     → text ≡ encode_utf8_all front ++ (mark ++ encode_utf8_all rest)
 in_bytes text front rest mark u same e =
     sym (encodes-chars text u) ∙ ap encode_utf8_all e ∙ encodes-append front (mark ++ rest)
@@ -42,7 +42,7 @@ tail_is : {c d : ℕ} {xs ys : List ℕ} → c ∷ xs ≡ d ∷ ys → xs ≡ ys
 tail_is e = cc
 
 -- of two beginnings of a text, the one with fewer bytes has no more characters
-no_longer : (front before rest more : List ℕ) → front ++ rest ≡ before ++ more → length (encode_utf8_all front) ≤ length (encode_utf8_all before) → length front ≤ length before
+pub no_longer : (front before rest more : List ℕ) → front ++ rest ≡ before ++ more → length (encode_utf8_all front) ≤ length (encode_utf8_all before) → length front ≤ length before
 no_longer [] before rest more e le = omega arith
 no_longer (c ∷ front) [] rest more e le = omega (arith, length-le-encodes (c ∷ front), le)
 no_longer (c ∷ front) (d ∷ before) rest more e le =

@@ -1,15 +1,83 @@
 use super::split_page;
+use std::alloc::Global;
 use std::test::Fail;
 
+// What it shows, a page, the title in its front matter, and the rest; no title, where there is no front matter.
+const ROWS: [(&str, &str, Option<&str>, &str); 9] = [
+    (
+        "a page with front matter",
+        "---\ntitle: Tea\n---\nPour.\n---\n",
+        Some("Tea"),
+        "Pour.\n---\n",
+    ),
+    (
+        "its lines end in CR LF",
+        "---\r\ntitle: Tea\r\n---\r\nPour.\r\n",
+        Some("Tea"),
+        "Pour.\r\n",
+    ),
+    (
+        "the second line `---` ends in CR LF alone",
+        "---\ntitle: Tea\n---\r\nPour.\n---\n",
+        Some("Tea"),
+        "Pour.\n---\n",
+    ),
+    (
+        "a line that begins with `---` and goes on",
+        "---\ntitle: Tea\nb: |\n  x\n ---- y\n---\n",
+        Some("Tea"),
+        "",
+    ),
+    ("no settings", "---\n---\nPour.\n", Some("-"), "Pour.\n"),
+    ("no first line `---`", "title: Tea\n---\nPour.\n", None, ""),
+    ("no line `---` at all", "Pour.\n", None, ""),
+    ("no second line `---`", "---\ntitle: Tea\n", None, ""),
+    ("an empty page", "", None, ""),
+];
+
+// The title in a page's front matter, and the rest; `-` stands for a title that is missing.
+fn told(alloc: Global, text: &str) -> Result<Option<(String, String)>, Fail> {
+    let Some(page) = split_page(alloc, text)? else {
+        return Ok(None);
+    };
+    let settings = page.front.first().ok_or("no document")?;
+    let title = match settings.get_key("title") {
+        Some(title) => title.as_str().ok_or("no text")?,
+        None => "-",
+    };
+    let title = String::from_str(alloc, title)?;
+    Ok(Some((title, String::from_str(alloc, page.rest)?)))
+}
+
 #[test]
-fn a_page_is_split(rt: HostRuntime) -> Result<(), Fail> {
+fn pages_are_split(rt: HostRuntime) -> Result<(), Fail> {
+    for (name, text, want, rest) in ROWS {
+        match (told(rt.alloc(), text)?, want) {
+            (Some(found), Some(title)) => {
+                assert_eq!(rt; found.0.as_str(), title, "{name}");
+                assert_eq!(rt; found.1.as_str(), rest, "{name}");
+            }
+            (found, want) => assert_eq!(rt; found.is_some(), want.is_some(), "{name}"),
+        }
+    }
+    Ok(())
+}
+
+#[test]
+fn faults_have_the_lines_of_the_page(rt: HostRuntime) -> Result<(), Fail> {
+    let Err(fault) = split_page(rt.alloc(), "---\ntitle: Tea\nsteps: [\n---\nPour.\n") else {
+        return Err(Fail::from("no fault"));
+    };
+    assert_eq!(rt; fault.marker().line(), 4);
+    Ok(())
+}
+
+#[test]
+fn a_page_comes_from_bytes(rt: HostRuntime) -> Result<(), Fail> {
     let alloc = rt.alloc();
-    let split = split_page(alloc, "---\ntitle: Tea\n---\nPour.\n---\n")?.ok_or("no front matter")?;
-    let settings = split.front.first().ok_or("no document")?;
-    let title = settings.get_key("title").ok_or("no title")?;
-    assert!(rt; title.as_str() == Some("Tea"));
-    assert_eq!(rt; split.front.len(), 1);
-    assert_eq!(rt; split.rest, "Pour.\n---\n");
-    assert!(rt; split_page(alloc, "Pour.\n")?.is_none());
+    let bytes = Vec::from_array(alloc, *b"---\ntitle: Tea\n---\nPour.\n")?;
+    let text = String::from_utf8(bytes).map_err(|_| "no UTF-8")?;
+    let page = split_page(alloc, text.as_str())?.ok_or("no front matter")?;
+    assert_eq!(rt; page.rest, "Pour.\n");
     Ok(())
 }
