@@ -9,6 +9,7 @@ pub mod front_matter;
 pub mod json_and_back;
 pub mod json_to_yaml;
 pub mod layered_settings;
+pub mod lint;
 pub mod many_documents;
 #[cfg(test)]
 mod marked_tests;
