@@ -8,11 +8,13 @@ use Rattle.defs_layout.specs.JsonNumber.{Number, number, Fraction, no_fraction, 
 use Rattle.defs_layout.specs.JsonString.{Piece, itself, short, unicode, Short, letter_of, spell_piece, spell_pieces, spell_string, is_unescaped, is_hex_digit, is_surrogate, four_digits, is_piece, are_pieces}
 use Rattle.defs_layout.specs.JsonString as escape
 use Rattle.defs_layout.specs.Json.{Json, Elements, Members, IsJson, AreElements, AreMembers, spell, spell_elements, spell_members}
+use Rattle.defs_text.specs.Classes.{is_nul}
 use Rattle.proof_loads.specs.Spelled.{IsWithoutNul}
 use Rattle.proof_loads.specs.Laws.{JsonTextsAreWithoutNul}
 use Rattle.proof_loads.proofs.Nul.{character, not_nul, characters}
 
 gap : (g : List Blank) (r : List ℕ) → IsWithoutNul r → IsWithoutNul (spell_gap g r)
+unfolding is_nul
 gap [] r h = h
 gap (space ∷ g) r h = ap (λ l. 32 ∷ l) (gap g r h)
 gap (tab ∷ g) r h = ap (λ l. 9 ∷ l) (gap g r h)
@@ -22,6 +24,7 @@ gap (carriage_return ∷ g) r h = ap (λ l. 13 ∷ l) (gap g r h)
 -- ---- strings
 
 letter : (s : Short) (r : List ℕ) → IsWithoutNul r → IsWithoutNul (letter_of s ∷ r)
+unfolding is_nul
 letter escape.quotation_mark r h = ap (λ l. 34 ∷ l) h
 letter escape.reverse_solidus r h = ap (λ l. 92 ∷ l) h
 letter escape.solidus r h = ap (λ l. 47 ∷ l) h
@@ -39,6 +42,7 @@ hex_digit_is_some : (c : ℕ) → is_hex_digit c ≡ true → c ≢ 0
 hex_digit_is_some = not_nul is_hex_digit refl
 
 digits_of : (a b c d : ℕ) (r : List ℕ) → is_piece (unicode a b c d) ≡ true → IsWithoutNul r → IsWithoutNul (a ∷ b ∷ c ∷ d ∷ r)
+unfolding is_nul
 digits_of a b c d r h n =
     let all = and_parts (is_hex_digit a && is_hex_digit b && is_hex_digit c && is_hex_digit d) (not (is_surrogate (four_digits a b c d))) h in
     let t = and_parts (is_hex_digit a && is_hex_digit b && is_hex_digit c) (is_hex_digit d) all.0 in
@@ -48,56 +52,68 @@ digits_of a b c d r h n =
     (character b (c ∷ d ∷ r) (hex_digit_is_some b p.1) (character c (d ∷ r) (hex_digit_is_some c s.1) (character d r (hex_digit_is_some d t.1) n)))
 
 piece : (x : Piece) (r : List ℕ) → is_piece x ≡ true → IsWithoutNul r → IsWithoutNul (spell_piece x r)
+unfolding is_nul
 piece (itself c) r h n = character c r (unescaped_is_some c h) n
 piece (short s) r h n = ap (λ l. 92 ∷ l) (letter s r n)
 piece (unicode a b c d) r h n = ap (λ l. 92 ∷ 117 ∷ l) (digits_of a b c d r h n)
 
 pieces : (ps : List Piece) (r : List ℕ) → are_pieces ps ≡ true → IsWithoutNul r → IsWithoutNul (spell_pieces ps r)
+unfolding is_nul
 pieces [] r h n = n
 pieces (p ∷ ps) r h n = let q = and_parts (is_piece p) (are_pieces ps) h in piece p (spell_pieces ps r) q.0 (pieces ps r q.1 n)
 
 string : (ps : List Piece) (r : List ℕ) → are_pieces ps ≡ true → IsWithoutNul r → IsWithoutNul (spell_string ps r)
+unfolding is_nul
 string ps r h n = ap (λ l. 34 ∷ l) (pieces ps (34 ∷ r) h (ap (λ l. 34 ∷ l) n))
 
 -- ---- numbers
 
 digits : (w r : List ℕ) → are_digits w ≡ true → IsWithoutNul r → IsWithoutNul (w ++ r)
+unfolding is_nul
 digits [] r h n = n
 digits (c ∷ w) r h n = characters is_ascii_digit refl (c ∷ w) r h n
 
 whole : (w r : List ℕ) → is_whole w ≡ true → IsWithoutNul r → IsWithoutNul (w ++ r)
+unfolding is_nul
 whole [] r h n = n
 whole (c ∷ []) r h n = character c r (not_nul is_ascii_digit refl c h) n
 whole (c ∷ d ∷ w) r h n = let q = and_parts _ (are_digits (c ∷ d ∷ w)) h in digits (c ∷ d ∷ w) r q.1 n
 
 after_point : (f : Fraction) (r : List ℕ) → is_fraction f ≡ true → IsWithoutNul r → IsWithoutNul (spell_fraction f r)
+unfolding is_nul
 after_point no_fraction r h n = n
 after_point (fraction w) r h n = ap (λ l. 46 ∷ l) (digits w r h n)
 
 after_letter : (s : Sign) (w r : List ℕ) → are_digits w ≡ true → IsWithoutNul r → IsWithoutNul (spell_sign s (w ++ r))
+unfolding is_nul
 after_letter no_sign w r h n = digits w r h n
 after_letter plus w r h n = ap (λ l. 43 ∷ l) (digits w r h n)
 after_letter minus w r h n = ap (λ l. 45 ∷ l) (digits w r h n)
 
 power : (e : Exponent) (r : List ℕ) → is_exponent e ≡ true → IsWithoutNul r → IsWithoutNul (spell_exponent e r)
+unfolding is_nul
 power no_exponent r h n = n
 power (exponent true s w) r h n = ap (λ l. 69 ∷ l) (after_letter s w r h n)
 power (exponent false s w) r h n = ap (λ l. 101 ∷ l) (after_letter s w r h n)
 
 positive : (w : List ℕ) (f : Fraction) (e : Exponent) (r : List ℕ) → (is_whole w && is_fraction f && is_exponent e) ≡ true → IsWithoutNul r
     → IsWithoutNul (w ++ spell_fraction f (spell_exponent e r))
+unfolding is_nul
 positive w f e r h n =
     let p = and_parts (is_whole w && is_fraction f) (is_exponent e) h in
     let q = and_parts (is_whole w) (is_fraction f) p.0 in
     whole w (spell_fraction f (spell_exponent e r)) q.0 (after_point f (spell_exponent e r) q.1 (power e r p.1 n))
 
 of_number : (x : Number) (r : List ℕ) → is_number x ≡ true → IsWithoutNul r → IsWithoutNul (spell_number x r)
+unfolding is_nul
 of_number (number true w f e) r h n = ap (λ l. 45 ∷ l) (positive w f e r h n)
 of_number (number false w f e) r h n = positive w f e r h n
 
 -- ---- values
 
 mutual
+  unfolding is_nul
+
   pub value : (v : Json) (r : List ℕ) → IsJson v → IsWithoutNul r → IsWithoutNul (spell v r)
   value Json.false_word r is n = ap (λ l. codes "false" ++ l) n
   value Json.null_word r is n = ap (λ l. codes "null" ++ l) n
@@ -127,4 +143,5 @@ mutual
       (value v (spell_gap a more) are.3 (gap a more (ap (λ l. 44 ∷ l) (gap b (spell_members ms r) (members ms r are.6 n))))))))
 
 pub json_texts_have_no_nul : JsonTextsAreWithoutNul
+unfolding is_nul
 json_texts_have_no_nul w is = gap w.before (spell w.value (spell_gap w.after [])) (value w.value (spell_gap w.after []) is.value (gap w.after [] refl))

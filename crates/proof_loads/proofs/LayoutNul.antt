@@ -9,6 +9,7 @@ use Rattle.defs_layout.specs.Gap.{GapLine, spaces, next_line, spell_gap, spell_e
 use Rattle.defs_layout.specs.BlockLines.{Line, full, blank, spell_lines}
 use Rattle.defs_layout.specs.Json
 use Rattle.defs_layout.specs.Layout.{Scalar, plain, quoted, single_quoted, Inline, scalar, empty_array, empty_hash, Comment, no_comment, comment, Block, Value, Entries, Field, Fields, Root, Document, Documents, last_document, document, doubled, spell_scalar, spell_inline, spell_comment, spell_literal, folded_header, spell_block, spell_value, spell_entries, spell_field, spell_fields, spell_root, spell_document, spell_documents, spell_mark, anchors_after, anchors_after_field, IsScalar, IsInline, IsComment, AreLineTexts, IsBlock, IsValue, AreEntries, IsField, AreFields, IsRoot, IsAfterRoot, AreDocuments}
+use Rattle.defs_text.specs.Classes.{is_nul}
 use Rattle.proof_loads.specs.Spelled.{IsWithoutNul}
 use Rattle.proof_loads.specs.LayoutTexts.{LayoutsAreWithoutNul}
 use Rattle.proof_loads.proofs.Nul.{character, not_nul, characters}
@@ -18,55 +19,65 @@ use Rattle.proof_loads.proofs.PartsNul as part
 -- ---- what stands on one line
 
 line_text : (w r : List ℕ) → IsLineText w → IsWithoutNul r → IsWithoutNul (w ++ r)
-unfolding is_line_character
+unfolding is_line_character is_nul
 line_text w r h n = characters is_line_character refl w r h n
 
 one_doubled : (c : ℕ) (r : List ℕ) → is_line_character c ≡ true → IsWithoutNul r → IsWithoutNul (doubled c ++ r)
-unfolding is_line_character
+unfolding is_line_character is_nul
 one_doubled c r h n = part.either (c == 39) (39 ∷ 39 ∷ []) (c ∷ []) r (λ e. ap (λ l. 39 ∷ 39 ∷ l) n) (λ e. character c r (not_nul is_line_character refl c h) n)
 
 all_doubled : (w r : List ℕ) → IsLineText w → IsWithoutNul r → IsWithoutNul (flat_map doubled w ++ r)
+unfolding is_nul
 all_doubled [] r h n = n
 all_doubled (c ∷ w) r h n =
     let q = and_parts (is_line_character c) (list_all is_line_character w) h in
     rw (append_assoc (doubled c) (flat_map doubled w) r) (one_doubled c (flat_map doubled w ++ r) q.0 (all_doubled w r q.1 n))
 
 one_scalar : (s : Scalar) (r : List ℕ) → IsScalar s → IsWithoutNul r → IsWithoutNul (spell_scalar s r)
+unfolding is_nul
 one_scalar (plain t) r is n = part.unquoted_scalar t r is n
 one_scalar (quoted w) r is n = part.in_quotes w r n
 one_scalar (single_quoted w) r is n = ap (λ l. 39 ∷ l) (all_doubled w (39 ∷ r) is (ap (λ l. 39 ∷ l) n))
 
 inline : (i : Inline) (r : List ℕ) → IsInline i → IsWithoutNul r → IsWithoutNul (spell_inline i r)
+unfolding is_nul
 inline (scalar s) r is n = one_scalar s r is n
 inline empty_array r is n = ap (λ l. codes "[]" ++ l) n
 inline empty_hash r is n = ap (λ l. codes "{}" ++ l) n
 
 after_it : (k : Comment) (r : List ℕ) → IsComment k → IsWithoutNul r → IsWithoutNul (spell_comment k r)
+unfolding is_nul
 after_it no_comment r is n = n
 after_it (comment more w) r is n = ap (λ l. 32 ∷ l) (part.indentation more (35 ∷ (w ++ r)) (ap (λ l. 35 ∷ l) (line_text w r is n)))
 
 name_text : (w r : List ℕ) → is_name w ≡ true → IsWithoutNul r → IsWithoutNul (w ++ r)
+unfolding is_nul
 name_text [] r h n = n
 name_text (c ∷ w) r h n = characters is_ascii_alphanumeric refl (c ∷ w) r h n
 
 -- a space and more of them
 spaced : (more : ℕ) (r : List ℕ) → IsWithoutNul r → IsWithoutNul (32 ∷ spaces more r)
+unfolding is_nul
 spaced more r n = ap (λ l. 32 ∷ l) (part.indentation more r n)
 
 -- ---- folded blocks
 
 lines : (column : ℕ) (ls : List Line) (r : List ℕ) → AreLineTexts ls → IsWithoutNul r → IsWithoutNul (spell_lines column ls r)
+unfolding is_nul
 lines column [] r are n = n
 lines column (full w ∷ ls) r are n = ap (λ l. 10 ∷ l) (part.indentation column (w ++ spell_lines column ls r) (line_text w (spell_lines column ls r) are.0 (lines column ls r are.1 n)))
 lines column (blank k ∷ ls) r are n = ap (λ l. 10 ∷ l) (part.indentation k (spell_lines column ls r) (lines column ls r are n))
 
 header : (strips : Bool) (r : List ℕ) → IsWithoutNul r → IsWithoutNul (folded_header strips ++ r)
+unfolding is_nul
 header true r n = ap (λ l. 62 ∷ 45 ∷ l) n
 header false r n = ap (λ l. 62 ∷ l) n
 
 -- ---- blocks
 
 mutual
+  unfolding is_nul
+
   block : (c : ℕ) (a : List Anchor) (b : Block) (r : List ℕ) → IsBlock c a b → IsWithoutNul r → IsWithoutNul (spell_block c b r)
   block c a (Block.array es) r is n = entries c a es r is n
   block c a (Block.hash fs) r is n = fields c a fs r is.0 n
@@ -101,6 +112,7 @@ mutual
 -- ---- documents
 
 root : (x : Root) (r : List ℕ) → IsRoot x → IsWithoutNul r → IsWithoutNul (spell_root x r)
+unfolding is_nul
 root (Root.block column b) r is n = part.indentation column (spell_block column b r) (block column [] b r is n)
 root (Root.inline i) r is n = inline i r is n
 root (Root.literal w ls) r is n = part.literal 0 w ls r (part.root_literal w is.0) is.1 n
@@ -111,17 +123,21 @@ after_gap (Root.inline i) g is = is
 after_gap (Root.literal w ls) g is = part.empty_gap g is
 
 one_document : (d : Document) (r : List ℕ) → IsGap d.gap → IsRoot d.root → IsWithoutNul r → IsWithoutNul (spell_document d r)
+unfolding is_nul
 one_document d r gap is n = part.gap d.gap (spell_root d.root r) gap (root d.root r is n)
 
 documents : (ds : Documents) → AreDocuments ds → IsWithoutNul (spell_documents ds [])
+unfolding is_nul
 documents (last_document d g) are = one_document d (spell_ending g []) are.0 are.1 (part.ending g (after_gap d.root g are.2))
 documents (document d g ds) are =
     let more = codes "---\n" ++ spell_documents ds [] in
     one_document d (10 ∷ spell_gap g more) are.0 are.1 (ap (λ l. 10 ∷ l) (part.gap g more (after_gap d.root g are.2) (ap (λ l. codes "---\n" ++ l) (documents ds are.3))))
 
 marked : (b : Bool) (r : List ℕ) → IsWithoutNul r → IsWithoutNul (spell_mark b r)
+unfolding is_nul
 marked true r n = ap (λ l. codes "---\n" ++ l) n
 marked false r n = n
 
 pub layouts_have_no_nul : LayoutsAreWithoutNul
+unfolding is_nul
 layouts_have_no_nul w is = marked w.is_marked (spell_documents w.documents []) (documents w.documents is)

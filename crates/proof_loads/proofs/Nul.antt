@@ -2,9 +2,11 @@
 use Rattle.std.proofs.Common.{◌≡◌, ◌≢◌, ℕ, Bool, List, [], ◌∷◌, ◌++◌, true, false, ap, sym, ◌∙◌, arith}
 use Rattle.std.specs.List.{list_all}
 use Rattle.std.proofs.lemmas.Bool.{and_parts}
+use Rattle.defs_text.specs.Classes.{is_nul}
 use Rattle.proof_loads.specs.Spelled.{IsWithoutNul}
 
 pub character : (c : ℕ) (r : List ℕ) → c ≢ 0 → IsWithoutNul r → IsWithoutNul (c ∷ r)
+unfolding is_nul
 character c r n h = grind (arith, h)
 
 -- a character of a class without NUL
@@ -13,6 +15,7 @@ not_nul is_one none c h e = let x : false ≡ true = sym none ∙ ap is_one (sym
 
 -- characters of such a class
 pub characters : (is_one : ℕ → Bool) → is_one 0 ≡ false → (w r : List ℕ) → list_all is_one w ≡ true → IsWithoutNul r → IsWithoutNul (w ++ r)
+unfolding is_nul
 characters is_one none [] r h n = n
 characters is_one none (c ∷ w) r h n =
     let q = and_parts (is_one c) (list_all is_one w) h in

@@ -9,6 +9,7 @@ use Rattle.proof_lexers.specs.QuotedScan.{is_some}
 use Rattle.proof_lexers.proofs.Quoted.NoNul.{has_none}
 use Rattle.proof_lexers.proofs.Quoted.Values.{parts}
 use Rattle.proof_layout_tokens.proofs.Quoted.Tokens.{quoted_texts_have_their_tokens}
+use Rattle.defs_text.specs.Classes.{is_nul}
 use Rattle.proof_loads.specs.Spelled.{IsWithoutNul}
 use Rattle.proof_loads.specs.QuotedTexts.{QuotedTextsAreReadAsTheirString, QuotedTextsAreWithoutNul}
 use Rattle.proof_loads.proofs.Nul.{character, characters}
@@ -24,6 +25,7 @@ quoted_texts_are_read keep_tags text value (w, spelt, is) =
 -- ---- no NUL
 
 no_feed_nul : (n : ℕ) → IsWithoutNul (replicate n 10)
+unfolding is_nul
 no_feed_nul zero = refl
 no_feed_nul (suc n) = character 10 (replicate n 10) (λ e. omega arith) (no_feed_nul n)
 
@@ -36,6 +38,7 @@ no_body_nul laid.single body value h = let z = parts true body value h in has_no
 no_body_nul laid.double body value h = let z = parts false body value h in has_none false 0 body z.all z.are
 
 pub quoted_texts_have_no_nul : QuotedTextsAreWithoutNul
+unfolding is_nul
 quoted_texts_have_no_nul text value (w, spelt, is) =
     let q = no_quote_nul w.quotes in
     let after = character (quote_of w.quotes) (replicate w.breaks 10) q (no_feed_nul w.breaks) in

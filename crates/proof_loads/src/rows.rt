@@ -17,7 +17,6 @@ pub fn meant_trees_are_read()
 {}
 
 /// A text without NUL that the scanner refuses has no row of tokens.
-#[tactic(auto, using(crate::proofs::RowTexts::no_row))]
 pub fn refused_texts_have_no_row()
     ensures { RefusedTextsHaveNoRow }
 {}
