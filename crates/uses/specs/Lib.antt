@@ -1,3 +1,4 @@
 pub mod Anchors
 pub mod FrontMatter
+pub mod Servers
 pub mod Settings

@@ -13,6 +13,9 @@ pub mod lint;
 pub mod many_documents;
 #[cfg(test)]
 mod marked_tests;
+pub mod merged_settings;
+#[cfg(test)]
+mod paths_tests;
 #[cfg(test)]
 mod receiver_tests;
 pub mod round_trip;

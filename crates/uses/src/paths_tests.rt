@@ -1,0 +1,102 @@
+use Step::{Index, Key};
+use std::alloc::Global;
+use std::test::Fail;
+use yaml_marked::load_marked;
+use yaml_paths::{Step, at, marked, read, read_list};
+use yaml_rust2::{Yaml, YamlLoader};
+
+const TEXT: &str =
+    "server:\n  port: 80\n  host: é\n  tls: true\n  ports: [80, 443]\n  names:\n  - a\n  - b\n  flags: [true, no]\n";
+
+fn document(alloc: Global) -> Result<Yaml, Fail> {
+    let mut documents = YamlLoader::load_from_str(alloc, TEXT)?;
+    Ok(documents.pop().unwrap_or(Yaml::BadValue))
+}
+
+const PORT: &[Step<'static>] = &[Key("server"), Key("port")];
+
+const HOST: &[Step<'static>] = &[Key("server"), Key("host")];
+
+const TLS: &[Step<'static>] = &[Key("server"), Key("tls")];
+
+const PORTS: &[Step<'static>] = &[Key("server"), Key("ports")];
+
+const SECOND: &[Step<'static>] = &[Key("server"), Key("ports"), Index(1)];
+
+const NAMES: &[Step<'static>] = &[Key("server"), Key("names")];
+
+const FLAGS: &[Step<'static>] = &[Key("server"), Key("flags")];
+
+const THIRD: &[Step<'static>] = &[Key("server"), Key("ports"), Index(2), Key("x")];
+
+#[test]
+fn values_are_read_with_their_types(rt: HostRuntime) -> Result<(), Fail> {
+    let alloc = rt.alloc();
+    let tree = document(alloc)?;
+    assert!(rt; read::<i64>(&tree, PORT).ok() == Some(80));
+    assert!(rt; read::<i64>(&tree, SECOND).ok() == Some(443));
+    assert!(rt; read::<bool>(&tree, TLS).ok() == Some(true));
+    assert!(rt; read::<&str>(&tree, HOST).ok() == Some("é"));
+    assert!(rt; at(&tree, THIRD).is_none());
+    let ports = read_list::<i64>(alloc, &tree, PORTS)
+        .ok()
+        .ok_or("no ports")?;
+    assert_eq!(rt; format!(in alloc; "{ports:?}")?.as_str(), "[80, 443]");
+    let names = read_list::<&str>(alloc, &tree, NAMES)
+        .ok()
+        .ok_or("no names")?;
+    assert_eq!(rt; format!(in alloc; "{names:?}")?.as_str(), "[\"a\", \"b\"]");
+    Ok(())
+}
+
+// A path, and what is said of a number there.
+const NUMBERS: [(&[Step<'static>], &str); 3] = [
+    (
+        HOST,
+        "line 3, column 9: $[\"server\"][\"host\"]: a string, where an integer is wanted",
+    ),
+    (
+        THIRD,
+        "line 5, column 10: $[\"server\"][\"ports\"][2]: missing",
+    ),
+    (
+        PORTS,
+        "line 5, column 10: $[\"server\"][\"ports\"]: an array, where an integer is wanted",
+    ),
+];
+
+#[test]
+fn errors_point_into_the_text(rt: HostRuntime) -> Result<(), Fail> {
+    let alloc = rt.alloc();
+    let documents = load_marked(alloc, TEXT)?;
+    let root = documents.first().ok_or("no document")?;
+    for (path, want) in NUMBERS {
+        let Err(error) = marked::read::<i64>(root, path) else {
+            return Err(Fail::from("a number"));
+        };
+        assert_eq!(rt; format!(in alloc; "{error}")?.as_str(), want);
+    }
+    let Err(error) = marked::read_list::<bool>(alloc, root, FLAGS) else {
+        return Err(Fail::from("flags"));
+    };
+    let want =
+        "line 9, column 17: $[\"server\"][\"flags\"][1]: a string, where a boolean is wanted";
+    assert_eq!(rt; format!(in alloc; "{error}")?.as_str(), want);
+    let port = marked::at(root, PORT).ok_or("no port")?;
+    assert_eq!(rt; port.marker().line(), 2);
+    assert!(rt; marked::read::<i64>(root, PORT).ok() == Some(80));
+    Ok(())
+}
+
+#[test]
+fn a_value_of_another_kind_is_told(rt: HostRuntime) -> Result<(), Fail> {
+    let alloc = rt.alloc();
+    let documents = load_marked(alloc, "server:\n  port: none\n")?;
+    let root = documents.first().ok_or("no document")?;
+    let Err(error) = marked::read::<i64>(root, PORT) else {
+        return Err(Fail::from("a number"));
+    };
+    let want = "line 2, column 9: $[\"server\"][\"port\"]: a string, where an integer is wanted";
+    assert_eq!(rt; format!(in alloc; "{error}")?.as_str(), want);
+    Ok(())
+}
