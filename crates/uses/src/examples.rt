@@ -1,5 +1,6 @@
 //! The examples of the library's doc comments, line for line: docs/examples.py finds each of them here.
 
+mod documents;
 mod dumps;
 mod events;
 mod hashes;
@@ -7,5 +8,7 @@ mod json;
 mod limits;
 mod loads;
 mod marked;
+mod merges;
+mod paths;
 mod tokens;
 mod trees;

@@ -3,10 +3,15 @@
 //! [`Documents`] is an iterator. It reads to the end of a document, gives the document, and keeps nothing of it.
 //!
 //! ```
-//! for document in Documents::new(alloc, log) {
+//! let mut errors = 0_u64;
+//! for document in Documents::new(alloc, "level: info\n---\nlevel: error\n") {
 //!     let document = document?;
-//!     let level = document.get_key("level")?.as_str(); // Some("error")
+//!     let level = document.get_key("level").and_then(|level| level.as_str());
+//!     if level == Some("error") {
+//!         errors = errors.saturating_add(1);
+//!     }
 //! }
+//! assert_eq!(rt; errors, 1);
 //! ```
 //!
 //! | What comes | When |

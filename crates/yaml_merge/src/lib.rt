@@ -7,8 +7,9 @@
 //! ```
 //! let text = "defaults: &d {host: a, port: 80}\nserver: {<<: *d, port: 8080}\n";
 //! let documents = YamlLoader::load_from_str(alloc, text)?;
-//! let settings = merge(alloc, documents.first()?)?;
-//! let server = settings.get_key("server")?; // {port: 8080, host: a}
+//! let settings = merge(alloc, documents.first().ok_or("no document")?)?;
+//! let server = settings.get_key("server").ok_or("no server")?; // {port: 8080, host: a}
+//! assert_eq!(rt; server.get_key("port"), Some(&Yaml::Integer(8080)));
 //! ```
 //!
 //! The mapping's own pairs keep their order, and the merged ones stand after them. A value replaces or stays as a whole: to lay

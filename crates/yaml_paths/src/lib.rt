@@ -3,14 +3,15 @@
 //!
 //! A path is a row of steps: [`Step::Key`] into a hash, [`Step::Index`] into an array. [`at`] gives the node at its end, and
 //! [`read`] and [`read_list`] its value. The module [`marked`] has the same for nodes with positions; there an error has its
-//! position in the text too.
+//! position in the text too. Here `PORT` is `&[Step::Key("server"), Step::Key("port")]`:
 //!
 //! ```
-//! const PORT: &[Step<'static>] = &[Step::Key("server"), Step::Key("port")];
-//!
 //! let documents = load_marked(alloc, "server:\n  port: none\n")?;
-//! let error = marked::read::<i64>(documents.first()?, PORT).err()?;
-//! let text = format!(in alloc; "{error}")?; // line 2, column 9: $["server"]["port"]: a string, where an integer is wanted
+//! let document = documents.first().ok_or("no document")?;
+//! let error = marked::read::<i64>(document, PORT).err().ok_or("a number")?;
+//! let text = format!(in alloc; "{error}")?;
+//! let wanted = r#"line 2, column 9: $["server"]["port"]: a string, where an integer is wanted"#;
+//! assert_eq!(rt; text.as_str(), wanted);
 //! ```
 //!
 //! - A value is read only from a node of its kind: `80` is no text, and `"80"` no number.

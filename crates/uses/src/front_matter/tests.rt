@@ -24,7 +24,7 @@ const ROWS: [(&str, &str, Option<&str>, &str); 9] = [
     ),
     (
         "a line that begins with `---` and goes on",
-        "---\ntitle: Tea\nb: |\n  x\n ---- y\n---\n",
+        "---\ntitle: Tea\n---- : y\n---\n",
         Some("Tea"),
         "",
     ),
