@@ -1,7 +1,7 @@
 use std::alloc::AllocError;
 use std::test::Fail;
 use yaml_rust2::Yaml;
-use yaml_rust2::yaml::{Array, Hash, Steps, entries, items};
+use yaml_rust2::yaml::{Hash, Steps, entries};
 
 #[test]
 fn a_hash_is_built_and_changed(rt: HostRuntime) -> Result<(), Fail> {
@@ -53,24 +53,18 @@ fn pairs_come_in_order(rt: HostRuntime) -> Result<(), Fail> {
     Ok(())
 }
 
-// The iterators have names, so a struct can keep them.
+// An iterator has a name, so a struct can keep it.
 #[derive(Drop)]
 struct Rest<'a> {
     pairs: entries::Iter<'a>,
-    items: items::Iter<'a>,
 }
 
 #[test]
-fn iterators_are_kept(rt: HostRuntime) -> Result<(), Fail> {
-    let alloc = rt.alloc();
-    let settings = Hash::new(alloc);
-    let mut ports = Array::new(alloc);
-    ports.push(Yaml::Integer(80)).map_err(|_| AllocError)?;
+fn an_iterator_is_kept(rt: HostRuntime) -> Result<(), Fail> {
+    let settings = Hash::new(rt.alloc());
     let mut rest = Rest {
         pairs: settings.iter(),
-        items: (&ports).into_iter(),
     };
     assert!(rt; rest.pairs.next().is_none());
-    assert_eq!(rt; rest.items.next(), Some(&Yaml::Integer(80)));
     Ok(())
 }
