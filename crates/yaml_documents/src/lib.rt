@@ -1,6 +1,6 @@
-//! The documents of a text one by one: a log of a million documents takes the memory of one.
+//! The documents of a text one by one, each loaded when it is asked for.
 //!
-//! [`Documents`] is an iterator. It reads to the end of a document, gives the document, and keeps nothing of it.
+//! [`Documents`] is an iterator. It reads to the end of a document, and gives the document.
 //!
 //! ```
 //! let mut errors = 0_u64;
@@ -27,8 +27,7 @@
 //! - A document's node has the copies of its aliases. An alias means a node of its own document (YAML 1.2, section 3.2.2.2),
 //!   so the anchors of earlier documents are not kept.
 //! - A tag handle counts in its document alone (section 6.8.2).
-//! - `Documents::new` borrows a text. `Documents::from_iter` takes characters from any iterator, so the text need not be
-//!   in memory either.
+//! - `Documents::new` borrows a text. `Documents::from_iter` takes characters from any iterator.
 //! - After `None` and after a fault no character is asked for.
 #![tactic(auto)]
 
