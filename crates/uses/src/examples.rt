@@ -5,7 +5,6 @@ mod dumps;
 mod events;
 mod hashes;
 mod json;
-mod limits;
 mod loads;
 mod marked;
 mod merges;
