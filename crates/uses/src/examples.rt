@@ -8,6 +8,5 @@ mod json;
 mod loads;
 mod marked;
 mod merges;
-mod paths;
 mod tokens;
 mod trees;

@@ -33,18 +33,37 @@ const THIRD: &[Step<'static>] = &[Key("server"), Key("ports"), Index(2), Key("x"
 fn values_are_read_with_their_types(rt: HostRuntime) -> Result<(), Fail> {
     let alloc = rt.alloc();
     let tree = document(alloc)?;
-    assert!(rt; read::<i64>(&tree, PORT).ok() == Some(80));
-    assert!(rt; read::<i64>(&tree, SECOND).ok() == Some(443));
-    assert!(rt; read::<bool>(&tree, TLS).ok() == Some(true));
-    assert!(rt; read::<&str>(&tree, HOST).ok() == Some("é"));
+    let Ok(port) = read::<i64>(&tree, PORT) else {
+        return Err(Fail::from("no port"));
+    };
+    assert_eq!(rt; port, 80);
+    let Ok(second) = read::<i64>(&tree, SECOND) else {
+        return Err(Fail::from("no second port"));
+    };
+    assert_eq!(rt; second, 443);
+    let Ok(tls) = read::<bool>(&tree, TLS) else {
+        return Err(Fail::from("no tls"));
+    };
+    assert!(rt; tls);
+    let Ok(host) = read::<&str>(&tree, HOST) else {
+        return Err(Fail::from("no host"));
+    };
+    assert_eq!(rt; host, "é");
     assert!(rt; at(&tree, THIRD).is_none());
-    let ports = read_list::<i64>(alloc, &tree, PORTS)
-        .ok()
-        .ok_or("no ports")?;
+    Ok(())
+}
+
+#[test]
+fn lists_are_read_with_their_types(rt: HostRuntime) -> Result<(), Fail> {
+    let alloc = rt.alloc();
+    let tree = document(alloc)?;
+    let Ok(ports) = read_list::<i64>(alloc, &tree, PORTS) else {
+        return Err(Fail::from("no ports"));
+    };
     assert_eq!(rt; format!(in alloc; "{ports:?}")?.as_str(), "[80, 443]");
-    let names = read_list::<&str>(alloc, &tree, NAMES)
-        .ok()
-        .ok_or("no names")?;
+    let Ok(names) = read_list::<&str>(alloc, &tree, NAMES) else {
+        return Err(Fail::from("no names"));
+    };
     assert_eq!(rt; format!(in alloc; "{names:?}")?.as_str(), "[\"a\", \"b\"]");
     Ok(())
 }
@@ -84,7 +103,10 @@ fn errors_point_into_the_text(rt: HostRuntime) -> Result<(), Fail> {
     assert_eq!(rt; format!(in alloc; "{error}")?.as_str(), want);
     let port = marked::at(root, PORT).ok_or("no port")?;
     assert_eq!(rt; port.marker().line(), 2);
-    assert!(rt; marked::read::<i64>(root, PORT).ok() == Some(80));
+    let Ok(number) = marked::read::<i64>(root, PORT) else {
+        return Err(Fail::from("no number"));
+    };
+    assert_eq!(rt; number, 80);
     Ok(())
 }
 
