@@ -1,4 +1,4 @@
-//! The examples of the library's doc comments, line for line: docs/examples.py finds each of them here.
+//! The examples of the doc comments, line for line; docs/examples.py says which have no test here: those of yaml_limits and yaml_paths.
 
 mod documents;
 mod dumps;
