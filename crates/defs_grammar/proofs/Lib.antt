@@ -1,0 +1,2 @@
+mod RefusedRows
+mod Rows

@@ -1,0 +1,5 @@
+pub mod Grammar
+pub mod Kinds
+pub mod Machine
+pub mod Stream
+pub mod Table

@@ -1,0 +1,2 @@
+//! The token grammar as one table: what each goal makes of the next token.
+#![tactic(auto)]
