@@ -1,4 +1,5 @@
 pub mod Account
+pub mod Beginning
 pub mod Column
 pub mod FlowEntry
 pub mod Following

@@ -17,7 +17,7 @@ unfolding fetch
 first_fetch text = refl
 
 -- within a stream the tokens so far are a cut of the text
-cut_there : (text : List ℕ) (t : ScannerState) → Stands text t → Came text t → FaresAt text t
+pub cut_there : (text : List ℕ) (t : ScannerState) → Stands text t → Came text t → FaresAt text t
 cut_there text t s (starts e) = absurd (cc (s.started, ap (λ y. y.held.started) e))
 cut_there text t s (fares (cut.goes f g)) = f
 cut_there text t s (fares (cut.over c e n)) = absurd (cc (s.going, e))
@@ -29,7 +29,8 @@ fared kept text nul t u c going e (begins b) =
 fared kept text nul t u c going e (goes s) = kept text t u nul (cut_there text t s c) s e
 fared kept text nul t u c going e (over f r) = absurd (cc (going, f))
 
-reached : FetchKeeps → (text : List ℕ) → has_no_nul text ≡ true → (t u : ScannerState) → Reaches t u → Came text t → Fares text t → Fares text u
+-- What holds at one state of a run holds at the later ones.
+pub reached : FetchKeeps → (text : List ℕ) → has_no_nul text ≡ true → (t u : ScannerState) → Reaches t u → Came text t → Fares text t → Fares text u
 reached kept text nul t u here c s = s
 reached kept text nul t u (there {u = v} going e run) c s = reached kept text nul v u run (came text nul t v (there going e here) c) (fared kept text nul t v c going e s)
 

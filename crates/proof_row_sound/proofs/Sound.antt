@@ -17,7 +17,7 @@ use Rattle.proof_row_sound.proofs.QuotedKeeps.{quoted_keeps}
 use Rattle.proof_row_sound.proofs.Runs.{read_as_a_row}
 use Rattle.proof_row_sound.proofs.Values.{value_keeps}
 
-each_keeps : EachKeeps
+pub each_keeps : EachKeeps
 each_keeps = record {
   anchor = anchor_keeps;
   tag = tag_keeps;

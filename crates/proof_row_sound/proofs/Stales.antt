@@ -27,7 +27,7 @@ use Rattle.proof_row_sound.proofs.StreamEnds.{entries_no_key, none_chosen, none_
 
 -- rows are completed alike by tokens that are alike
 pub completes_alike : (text after : List ℕ) (a : Account) (T U : List Step → List ℕ → List Token) → ((ws : List Step) (last : List ℕ) → T ws last ≡ U ws last) → Completes text after a T → Completes text after a U
-completes_alike text after a T U same h ws last e r = subst (λ x. IsRead text (x ++ tokens_from (Some a) ws last)) (same ws last) (h ws last e r)
+completes_alike text after a T U same h = (h.0, λ ws last e r. subst (λ x. IsRead text (x ++ tokens_from (Some a) ws last)) (same ws last) (h.1 ws last e r))
 
 -- outside flow there is one open key or none, and no entry
 pub no_entries : (allowed again : Bool) (fs : List FlowLevel) (ks : List (Option Key)) (es : List Entry) → is_empty fs ≡ true → AreEntries allowed again fs ks es → es ≡ []

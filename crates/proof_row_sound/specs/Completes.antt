@@ -10,6 +10,7 @@ use Rattle.defs_row.specs.FlowEntry.{Had, waits, Entry, takes_pair}
 use Rattle.defs_row.specs.Account.{Account}
 use Rattle.defs_row.specs.Tokens.{put, pair_position, Colon, colon_of, tokens_from}
 use Rattle.defs_row.specs.Row.{IsRowFrom, IsRead}
+use Rattle.defs_row.specs.Beginning.{Begins}
 use Rattle.model_scanner.specs.State.{Key}
 
 -- ---- the tokens of a key that waits
@@ -47,6 +48,6 @@ tokens_up_to a ks ts ws last = with_keys 0 a.site.position ws last a.site.blocks
 
 -- ---- rows
 
--- Whatever completes a row from an account on, with this text, completes one of the whole text, and its tokens are those up to the account and those from there on.
+-- A row of the whole text may begin so that it leads to an account. Whatever completes it from there on, with this text, makes a row of the whole text, and its tokens are those up to the account and those from there on.
 abbrev pub Completes : (text after : List ℕ) → Account → (tokens : List Step → List ℕ → List Token) → Type 0
-Completes text after a tokens = (ws : List Step) (last : List ℕ) → spelled ws last ≡ after → IsRowFrom (Some a) ws last → IsRead text (tokens ws last ++ tokens_from (Some a) ws last)
+Completes text after a tokens = Begins text after a × ((ws : List Step) (last : List ℕ) → spelled ws last ≡ after → IsRowFrom (Some a) ws last → IsRead text (tokens ws last ++ tokens_from (Some a) ws last))
