@@ -103,7 +103,7 @@ margin_clear text more w ws last t e gap n = by (last_property t.held.tokens) re
     rest = tokens_from (account_past A d (spelled ws last)) ws last
 
     read : IsRead text (a.tokens ++ tokens_from (Some A) (d ∷ ws) last)
-    read = a.completes false [] tt (d ∷ ws) last (ap (λ z. a.separation ++ (45 ∷ z)) p.is_spelled ∙ ap (λ r. a.separation ++ r) (sym e)) (written, subst (λ z. IsRowFrom (account_past A d z) ws last) (sym p.is_spelled) p.is_row)
+    read = (a.completes false [] tt).1 (d ∷ ws) last (ap (λ z. a.separation ++ (45 ∷ z)) p.is_spelled ∙ ap (λ r. a.separation ++ r) (sym e)) (written, subst (λ z. IsRowFrom (account_past A d z) ws last) (sym p.is_spelled) p.is_row)
 
     place : t.held.position ≡ position_after a.site.position a.separation (45 ∷ more)
     place = a.position_is ∙ ap (λ r. position_after a.site.position a.separation r) e
