@@ -15,7 +15,7 @@ use Rattle.defs_row.specs.Tokens.{put, pair_position, pair_end, shown_position, 
 use Rattle.defs_row.specs.Row.{IsWritten}
 use Rattle.model_scanner.specs.State.{Key, pop}
 use Rattle.proof_row_sound.specs.Choices.{line_by, had_by, entries_by, outside_key, chosen, MayChoose}
-use Rattle.proof_row_sound.specs.Completes.{with_had, with_line, with_keys, tokens_up_to, Completes}
+use Rattle.proof_row_sound.specs.Completes.{with_had, with_keys, tokens_up_to, Completes}
 use Rattle.proof_row_sound.specs.Arrives.{site_here}
 use Rattle.proof_row_sound.proofs.Completed.{completed_past}
 use Rattle.proof_row_sound.proofs.Inserts.{AreAmong, first_among, keys_first}
@@ -174,20 +174,13 @@ comma_past d p w ws last e f = rw (e, f) refl
 closing_past : (d : ℕ) (p : Position) (w : Step) (ws : List Step) (last : List ℕ) → act_of w.shown ≡ gives_closing → colon_of (suc d) p (w ∷ ws) last ≡ colon_of d (past_step p w ws last) ws last
 closing_past d p w ws last e = rw e refl
 
-keys_closed : (d : ℕ) (p : Position) (w : Step) (ws : List Step) (last : List ℕ) → act_of w.shown ≡ gives_closing → (bs : List ℕ) (l : Line) (es : List Entry) (ks : List (Option Key)) (ts : List Token) →
-    with_keys (suc d) p (w ∷ ws) last bs l es ks ts ≡ with_keys d (past_step p w ws last) ws last bs l es ks ts
-keys_closed d p w ws last h bs l es [] ts = refl
-keys_closed d p w ws last h bs l [] (k ∷ ks) ts = ap (λ c. with_line c bs l k ts) (closing_past d p w ws last h)
-keys_closed d p w ws last h bs l (x ∷ es) (k ∷ ks) ts =
-    keys_closed (suc d) p w ws last h bs l es ks (with_had (colon_of (suc d) p (w ∷ ws) last) (takes_pair x.kind x.pair) x.had k ts) ∙
-    ap (λ c. with_keys (suc d) (past_step p w ws last) ws last bs l es ks (with_had c (takes_pair x.kind x.pair) x.had k ts)) (closing_past d p w ws last h)
-
 keys_around : (closes : Bool) (p : Position) (w : Step) (ws : List Step) (last : List ℕ) → act_of w.shown ≡ act_by closes → begun_by w.shown ≡ [] → (bs : List ℕ) (c : Bool) (line : Line) (cs : List Bool) (e : Entry) (es : List Entry) (ks : List (Option Key)) (ts : List Token) →
     with_keys 1 p (w ∷ ws) last bs (line_by c (outside_key es ks) line) (entries_by (choices_by closes cs) ks es) ks ts ≡
     with_keys 0 (past_step p w ws last) ws last bs (line_by c (outside_key (entries_after closes e es) (keys_by closes ks)) line) (entries_by cs (keys_by closes ks) (entries_after closes e es)) (keys_by closes ks) ts
-keys_around true p w ws last h f bs c line cs e es ks ts = keys_closed 0 p w ws last h bs (line_by c (outside_key es ks) line) (entries_by cs ks es) ks ts
+keys_around true p w ws last h f bs c line cs e es ks ts =
+    keys_along (λ n. suc n) (λ n. n) (λ n. refl) (λ n. refl) 0 p (past_step p w ws last) w ws last (λ n. closing_past n p w ws last h) bs (line_by c (outside_key es ks) line) (entries_by cs ks es) ks ts
 keys_around false p w ws last h f bs c line cs e es ks ts =
-    keys_along 1 p (past_step p w ws last) w ws last (λ n. comma_past n p w ws last h f) bs (line_by c (outside_key es ks) line) (entries_by (pop cs) ks es) ks ts
+    keys_along (λ n. n) (λ n. n) (λ n. refl) (λ n. refl) 1 p (past_step p w ws last) w ws last (λ n. comma_past n p w ws last h f) bs (line_by c (outside_key es ks) line) (entries_by (pop cs) ks es) ks ts
 
 begun_end : (closes single : Bool) (pair : Pair) (here colon own : Position) (h : Had) → begun_inside single pair here colon own (act_by closes) false h ≡ pair_end here pair
 begun_end true single pair here colon own h = refl

@@ -1,6 +1,7 @@
 pub mod Around
 pub mod Arrivals
 pub mod Arriving
+pub mod Begun
 pub mod Blanks
 pub mod BlockEnds
 pub mod BlockScalars
@@ -31,8 +32,6 @@ pub mod NodeTokens
 pub mod NodesInside
 pub mod NodesOutside
 pub mod Openers
-pub mod OpeningsInside
-pub mod OpeningsOutside
 pub mod OutsidePieces
 pub mod Outsides
 pub mod Passed

@@ -1,8 +1,9 @@
--- The tokens of a part of a node that is no collection: with its key put in, or without.
-use Rattle.std.proofs.Common.{◌≡◌, ℕ, suc, List, [], ◌∷◌, ◌++◌, Bool, true, false, length, Option, refl, ap, ◌∙◌, append_assoc}
+-- The tokens of a part of a node: with its key put in, or without.
+use Rattle.std.proofs.Common.{◌≡◌, ℕ, suc, List, [], ◌∷◌, ◌++◌, Bool, true, false, length, Option, refl, ap, sym, ◌∙◌, append_assoc}
 use Rattle.std.specs.List.{insert}
 use Rattle.defs_text.specs.Position.{Position, position_after}
 use Rattle.defs_token.specs.Token.{Tok, Token, key, block_mapping_start, flow_mapping_start}
+use Rattle.defs_token.specs.Account.{FlowKind}
 use Rattle.defs_row.specs.Step.{Step, spelled, act_of, gives_node}
 use Rattle.defs_row.specs.Column.{is_deeper}
 use Rattle.defs_row.specs.Key.{Line, begins_free_line, line_past_separation}
@@ -11,6 +12,7 @@ use Rattle.defs_row.specs.Account.{Site}
 use Rattle.defs_row.specs.Tokens.{put, pair_position, shown_position, Colon, depth_past, colon_of, ends_at, key_tokens, begun_outside, begun_inside, tokens_at}
 use Rattle.model_scanner.specs.State.{Key}
 use Rattle.proof_row_sound.specs.Completes.{put_key, with_had, with_line, with_keys}
+use Rattle.proof_row_sound.proofs.Begun.{with_begun, depth_begun, depth_rises}
 
 -- ---- colons after a step
 
@@ -18,35 +20,28 @@ use Rattle.proof_row_sound.specs.Completes.{put_key, with_had, with_line, with_k
 abbrev pub past_step : Position → Step → List Step → (last : List ℕ) → Position
 past_step p w ws last = position_after (position_after p w.separation (w.piece ++ spelled ws last)) w.piece (spelled ws last)
 
--- a node that is no collection is no colon of a key, and opens none inside
-pub colon_past : (d : ℕ) (p : Position) (w : Step) (ws : List Step) (last : List ℕ) → act_of w.shown ≡ gives_node → begun_by w.shown ≡ [] → colon_of d p (w ∷ ws) last ≡ colon_of d (past_step p w ws last) ws last
-colon_past d p w ws last e f = rw (e, f) refl
+-- a part of a node is no colon of a key; a collection that it begins is open inside the key
+pub colon_past : (kind : Option FlowKind) (d : ℕ) (p : Position) (w : Step) (ws : List Step) (last : List ℕ) → act_of w.shown ≡ gives_node → begun_by w.shown ≡ with_begun kind [] →
+    colon_of d p (w ∷ ws) last ≡ colon_of (depth_begun kind d) (past_step p w ws last) ws last
+colon_past kind d p w ws last e f = rw (e, f) refl
 
--- after a bracket that opens one collection more is open in a key
-pub colon_opened : (d : ℕ) (p : Position) (w : Step) (ws : List Step) (last : List ℕ) (f : Entry) → act_of w.shown ≡ gives_node → begun_by w.shown ≡ f ∷ [] → colon_of d p (w ∷ ws) last ≡ colon_of (suc d) (past_step p w ws last) ws last
-colon_opened d p w ws last f e b = rw (e, b) refl
+-- Keys that wait have the colons that they have after a step, if each colon is the same from there on. Before it and after it so many more flow collections may be open inside each key.
+pub keys_along : (from to : ℕ → ℕ) → ((n : ℕ) → from (suc n) ≡ suc (from n)) → ((n : ℕ) → to (suc n) ≡ suc (to n)) → (d : ℕ) (p q : Position) (w : Step) (ws : List Step) (last : List ℕ) →
+    ((n : ℕ) → colon_of (from n) p (w ∷ ws) last ≡ colon_of (to n) q ws last) → (bs : List ℕ) (l : Line) (es : List Entry) (ks : List (Option Key)) (ts : List Token) →
+    with_keys (from d) p (w ∷ ws) last bs l es ks ts ≡ with_keys (to d) q ws last bs l es ks ts
+keys_along from to up rise d p q w ws last h bs l es [] ts = refl
+keys_along from to up rise d p q w ws last h bs l [] (k ∷ ks) ts = ap (λ c. with_line c bs l k ts) (h d)
+keys_along from to up rise d p q w ws last h bs l (x ∷ es) (k ∷ ks) ts =
+    let before : List Token = with_had (colon_of (from d) p (w ∷ ws) last) (takes_pair x.kind x.pair) x.had k ts in
+    ap (λ n. with_keys n p (w ∷ ws) last bs l es ks before) (sym (up d)) ∙
+    (keys_along from to up rise (suc d) p q w ws last h bs l es ks before ∙
+    (ap (λ n. with_keys n q ws last bs l es ks before) (rise d) ∙
+    ap (λ c. with_keys (suc (to d)) q ws last bs l es ks (with_had c (takes_pair x.kind x.pair) x.had k ts)) (h d)))
 
-pub keys_opened : (d : ℕ) (p : Position) (w : Step) (ws : List Step) (last : List ℕ) (f : Entry) → act_of w.shown ≡ gives_node → begun_by w.shown ≡ f ∷ [] → (bs : List ℕ) (l : Line) (es : List Entry) (ks : List (Option Key)) (ts : List Token) →
-    with_keys d p (w ∷ ws) last bs l es ks ts ≡ with_keys (suc d) (past_step p w ws last) ws last bs l es ks ts
-keys_opened d p w ws last f e b bs l es [] ts = refl
-keys_opened d p w ws last f e b bs l [] (k ∷ ks) ts = ap (λ c. with_line c bs l k ts) (colon_opened d p w ws last f e b)
-keys_opened d p w ws last f e b bs l (x ∷ es) (k ∷ ks) ts =
-    keys_opened (suc d) p w ws last f e b bs l es ks (with_had (colon_of d p (w ∷ ws) last) (takes_pair x.kind x.pair) x.had k ts) ∙
-    ap (λ c. with_keys (suc (suc d)) (past_step p w ws last) ws last bs l es ks (with_had c (takes_pair x.kind x.pair) x.had k ts)) (colon_opened d p w ws last f e b)
-
--- keys that wait have the colons that they have after a step, if each colon is the same from there on
-pub keys_along : (d : ℕ) (p q : Position) (w : Step) (ws : List Step) (last : List ℕ) → ((n : ℕ) → colon_of n p (w ∷ ws) last ≡ colon_of n q ws last) → (bs : List ℕ) (l : Line) (es : List Entry) (ks : List (Option Key)) (ts : List Token) →
-    with_keys d p (w ∷ ws) last bs l es ks ts ≡ with_keys d q ws last bs l es ks ts
-keys_along d p q w ws last h bs l es [] ts = refl
-keys_along d p q w ws last h bs l [] (k ∷ ks) ts = ap (λ c. with_line c bs l k ts) (h d)
-keys_along d p q w ws last h bs l (x ∷ es) (k ∷ ks) ts =
-    keys_along (suc d) p q w ws last h bs l es ks (with_had (colon_of d p (w ∷ ws) last) (takes_pair x.kind x.pair) x.had k ts) ∙
-    ap (λ c. with_keys (suc d) q ws last bs l es ks (with_had c (takes_pair x.kind x.pair) x.had k ts)) (h d)
-
--- so it is after a node
-pub keys_past : (d : ℕ) (p : Position) (w : Step) (ws : List Step) (last : List ℕ) → act_of w.shown ≡ gives_node → begun_by w.shown ≡ [] → (bs : List ℕ) (l : Line) (es : List Entry) (ks : List (Option Key)) (ts : List Token) →
-    with_keys d p (w ∷ ws) last bs l es ks ts ≡ with_keys d (past_step p w ws last) ws last bs l es ks ts
-keys_past d p w ws last e f bs l es ks ts = keys_along d p (past_step p w ws last) w ws last (λ n. colon_past n p w ws last e f) bs l es ks ts
+-- so it is after a part of a node
+pub keys_past : (kind : Option FlowKind) (d : ℕ) (p : Position) (w : Step) (ws : List Step) (last : List ℕ) → act_of w.shown ≡ gives_node → begun_by w.shown ≡ with_begun kind [] →
+    (bs : List ℕ) (l : Line) (es : List Entry) (ks : List (Option Key)) (ts : List Token) → with_keys d p (w ∷ ws) last bs l es ks ts ≡ with_keys (depth_begun kind d) (past_step p w ws last) ws last bs l es ks ts
+keys_past kind d p w ws last e f bs l es ks ts = keys_along (λ n. n) (depth_begun kind) (λ n. refl) (depth_rises kind) d p (past_step p w ws last) w ws last (λ n. colon_past kind n p w ws last e f) bs l es ks ts
 
 -- ---- a key that begins with the last token
 

@@ -1,5 +1,5 @@
--- A part of a node in flow that is no collection: whatever completes the row after it completes it from before.
-use Rattle.std.proofs.Common.{◌≡◌, ℕ, List, [], ◌∷◌, ◌++◌, Bool, true, false, not, ◌&&◌, if◌then◌else◌, length, Option, Some, None, refl, ap, sym, ◌∙◌, subst, ◌⊎◌, inl, inr}
+-- A part of a node in flow, be it an opening bracket or no collection: whatever completes the row after it completes it from before.
+use Rattle.std.proofs.Common.{◌≡◌, ℕ, suc, List, [], ◌∷◌, ◌++◌, Bool, true, false, not, ◌&&◌, if◌then◌else◌, length, Option, Some, None, refl, ap, sym, ◌∙◌, subst, ◌⊎◌, inl, inr}
 use Rattle.defs_text.specs.Position.{Position, position_after}
 use Rattle.defs_text.specs.Text.{is_empty}
 use Rattle.defs_token.specs.Token.{Tok, Token, flow_mapping_start}
@@ -11,20 +11,21 @@ use Rattle.defs_row.specs.FlowEntry.{Had, fresh, filled, waits, settled, Entry, 
 use Rattle.defs_row.specs.Account.{Site, Account, site_in, site_past, may_stand, on_one_line, past_inside, past_piece, past_site, account_past, level_of, seen}
 use Rattle.defs_row.specs.Tokens.{put, pair_position, shown_position, Colon, colon_of, key_tokens, tokens_of_step, tokens_at}
 use Rattle.defs_row.specs.Row.{IsWritten}
-use Rattle.defs_token.specs.Account.{Level}
+use Rattle.defs_token.specs.Account.{FlowKind, Level}
 use Rattle.std.specs.Prelude.{map}
 use Rattle.model_scanner.specs.State.{Key, pop}
 use Rattle.proof_row_sound.specs.Choices.{line_by, had_by, entry_by, entries_by, first_choice, outside_key, chosen, MayChoose}
 use Rattle.proof_row_sound.specs.Completes.{put_key, with_had, with_keys, tokens_up_to, Completes}
 use Rattle.proof_row_sound.specs.Arrives.{site_here}
 use Rattle.proof_row_sound.specs.Stands.{HasHadHere}
+use Rattle.proof_row_sound.proofs.Begun.{with_begun, with_no_key, choices_around, depth_begun, begun_before, keys_around_begun}
 use Rattle.proof_row_sound.proofs.Completed.{completed_past}
 use Rattle.proof_row_sound.proofs.Inserts.{AreAmong, fewer, had_first, had_longer, keys_first, first_among}
 use Rattle.proof_row_sound.proofs.NodeSteps.{saved, choice_before, bit_of, had_past_node, entry_past_node, node_in_entry}
 use Rattle.proof_row_sound.proofs.NodeTokens.{past_step, keys_past, key_between, key_inside, tokens_inside}
 
 -- A part of a node in flow: the account after the last piece in which no open key is one, without its entries; the innermost entry and those around it; the separation, the piece and the text after it;
--- the token; the open keys of the entry and around it; the one that may begin here; the tokens before; the position and the text after what is read.
+-- the token, and the kind of the collection that it begins, if any; the open keys of the entry and around it; the one that may begin here; the tokens before; the position and the text after what is read.
 pub record Node : Type 0 where
   pub site : Site
   pub line : Line
@@ -34,6 +35,7 @@ pub record Node : Type 0 where
   pub piece : List ℕ
   pub next : List ℕ
   pub tok : Tok
+  pub kind : Option FlowKind
   pub open_key : Option Key
   pub outer_keys : List (Option Key)
   pub new : Key
@@ -50,19 +52,16 @@ at d = site_here true (position_after d.site.position d.separation (d.piece ++ d
 abbrev pub step_of : Node → Bool → Step
 step_of d bit = record { separation = d.separation; piece = d.piece; shown = d.tok; key = bit }
 
--- the accounts before and after it in which no open key is one
+-- the account before it in which no open key is one
 abbrev pub base : Node → Account
 base d = record { site = d.site; line = d.line; entries = d.entry ∷ d.around }
-
-abbrev pub base_past : Node → Account
-base_past d = record { site = site_past true (at d) d.piece d.tok d.next (at d).blocks; line = d.line; entries = entry_past_node d.allowed d.entry ∷ d.around }
 
 -- the open keys before and after it
 abbrev pub keys : Node → List (Option Key)
 keys d = d.open_key ∷ d.outer_keys
 
 abbrev pub keys_after : Node → List (Option Key)
-keys_after d = saved d.allowed d.new d.open_key ∷ d.outer_keys
+keys_after d = with_no_key d.kind (saved d.allowed d.new d.open_key ∷ d.outer_keys)
 
 -- the open key outside flow
 abbrev pub outside : Node → Option Key
@@ -70,17 +69,21 @@ outside d = outside_key d.around d.outer_keys
 
 -- the choices before it, from those after it
 abbrev pub choices : Node → List Bool → List Bool
-choices d cs = choice_before d.allowed (first_choice cs) ∷ pop cs
+choices d cs = let own : List Bool = choices_around d.kind cs in choice_before d.allowed (first_choice own) ∷ pop own
 
 abbrev pub bit : Node → List Bool → Bool
-bit d cs = bit_of d.allowed (first_choice cs)
+bit d cs = bit_of d.allowed (first_choice (choices_around d.kind cs))
+
+-- the entries after it, by choices after it
+abbrev pub entries_after : Node → List Bool → List Entry
+entries_after d cs = entries_by (choices_around d.kind cs) (saved d.allowed d.new d.open_key ∷ d.outer_keys) (entry_past_node d.allowed d.entry ∷ d.around)
 
 -- the accounts before and after it, by choices after it
 abbrev pub before : Node → Bool → List Bool → Account
 before d c cs = chosen c (choices d cs) (keys d) (base d)
 
 abbrev pub past : Node → Bool → List Bool → Account
-past d c cs = chosen c cs (keys_after d) (base_past d)
+past d c cs = record { site = site_past true (at d) d.piece d.tok d.next (at d).blocks; line = line_by c (outside d) d.line; entries = with_begun d.kind (entries_after d cs) }
 
 -- the token that the piece shows
 abbrev pub own_token : Node → Token
@@ -89,7 +92,7 @@ own_token d = put (shown_position (at d) d.piece d.tok d.next) d.tok
 -- What is known of it.
 pub record IsNode (d : Node) : Type 0 where
   pub act : act_of d.tok ≡ gives_node
-  pub begun : begun_by d.tok ≡ []
+  pub begun : begun_by d.tok ≡ with_begun d.kind []
   pub is_filled : is_separation false d.separation (d.piece ++ d.next) ≡ true
   pub is_solid : is_empty d.piece ≡ false
   pub is_piece : IsPiece (seen (base d) (at d) d.separation) d.piece d.next None (shown_position (at d) d.piece d.tok d.next) d.tok
@@ -113,8 +116,9 @@ node_account d n c cs may =
     let l : Line = line_by c (outside d) d.line in
     let here : Position = (at d).position in
     let again : Bool = is_renewed d.site.before d.separation in
-    let e : Entry = entry_by (choice_before d.allowed (first_choice cs)) d.open_key d.entry in
-    let es : List Entry = entries_by (pop cs) d.outer_keys d.around in
+    let own : List Bool = choices_around d.kind cs in
+    let e : Entry = entry_by (choice_before d.allowed (first_choice own)) d.open_key d.entry in
+    let es : List Entry = entries_by (pop own) d.outer_keys d.around in
     let first : account_past (before d c cs) w d.next ≡ past_site true d.site (at d) w d.next l (e ∷ es) = ap (λ x. past_site true d.site (site_in true x here d.site) w d.next l (e ∷ es)) n.act in
     let may_be : past_site true d.site (at d) w d.next l (e ∷ es) ≡ on_one_line d.piece (past_piece (at d) d.piece d.tok d.next again w.key (line_past_separation true (begins_free_line d.site.before d.separation) l) (e ∷ es)) =
     ap (λ b. if b then on_one_line d.piece (past_piece (at d) d.piece d.tok d.next again w.key (line_past_separation true (begins_free_line d.site.before d.separation) l) (e ∷ es)) else None) n.stands in
@@ -123,7 +127,7 @@ node_account d n c cs may =
     ap (λ o. on_one_line d.piece (past_piece (at d) d.piece d.tok d.next again w.key o (e ∷ es))) (n.unbroken c may) in
     let entries : entries_past here again (act_of d.tok) (begun_by d.tok) w.key e es ≡ Some (past d c cs).entries =
     ap (λ x. entries_past here again x (begun_by d.tok) w.key e es) n.act ∙ (ap (λ x. entries_past here again gives_node x w.key e es) n.begun ∙
-    node_in_entry again d.allowed (first_choice cs) d.open_key d.new d.entry here [] es n.has_had n.position_is) in
+    (node_in_entry again d.allowed (first_choice own) d.open_key d.new d.entry here (with_begun d.kind []) es n.has_had n.position_is ∙ ap (λ x. Some x) (begun_before d.kind (entries_after d cs)))) in
     first ∙ (may_be ∙ (lines ∙ (ap (λ o. on_one_line d.piece (past_inside (at d) d.piece d.tok d.next l o)) entries ∙ on_line d.piece (past d c cs) (n.one_line c may))))
 
 -- ---- the tokens after it
@@ -172,23 +176,26 @@ node_tokens d n c cs ws last e = subst (λ x. Whole (record d { next = x })) e (
         let b : Node = record d { next = spelled ws last } in
         let w : Step = step_of b (bit b cs) in
         let l : Line = line_by c (outside b) b.line in
-        let x : Entry = entry_by (choice_before b.allowed (first_choice cs)) b.open_key b.entry in
-        let es : List Entry = entries_by (pop cs) b.outer_keys b.around in
+        let chose : List Bool = choices_around b.kind cs in
+        let x : Entry = entry_by (choice_before b.allowed (first_choice chose)) b.open_key b.entry in
+        let es : List Entry = entries_by (pop chose) b.outer_keys b.around in
         let p : Position = past_step b.site.position w ws last in
-        let colon : Colon = colon_of 0 p ws last in
+        let depth : ℕ = depth_begun b.kind 0 in
+        let colon : Colon = colon_of depth p ws last in
         let single : Bool = takes_pair b.entry.kind b.entry.pair in
         let inner : List Token = with_had colon single x.had b.open_key b.tokens in
         let step : List Token = key_inside w.key single (at b) colon ++ (own_token b ∷ []) in
-        let first : tokens_up_to (before b c cs) (keys b) b.tokens (w ∷ ws) last ≡ with_keys 1 p ws last b.site.blocks l es b.outer_keys inner = keys_past 0 b.site.position w ws last m.act m.begun b.site.blocks l (x ∷ es) (keys b) b.tokens in
+        let first : tokens_up_to (before b c cs) (keys b) b.tokens (w ∷ ws) last ≡ with_keys (suc depth) p ws last b.site.blocks l es b.outer_keys inner = keys_past b.kind 0 b.site.position w ws last m.act m.begun b.site.blocks l (x ∷ es) (keys b) b.tokens in
         let second : tokens_of_step (before b c cs) w ws last ≡ step =
-        ap (λ y. tokens_at b.site (site_in true y (at b).position b.site) w ws last l (x ∷ es)) m.act ∙ tokens_inside b.site (at b) w ws last l x es [] m.act m.begun in
+        ap (λ y. tokens_at b.site (site_in true y (at b).position b.site) w ws last l (x ∷ es)) m.act ∙ tokens_inside b.site (at b) w ws last l x es (with_begun b.kind []) m.act m.begun in
         let among : AreAmong (length b.tokens) (b.open_key ∷ []) × AreAmong (length b.tokens) b.outer_keys = first_among (length b.tokens) b.open_key b.outer_keys m.are_among in
         let many : AreAmong (length inner) b.outer_keys = fewer (length b.tokens) (length inner) b.outer_keys (had_longer colon single x.had b.open_key b.tokens) among.1 in
         ap (λ y. y ++ tokens_of_step (before b c cs) w ws last) first ∙
-        (ap (λ y. with_keys 1 p ws last b.site.blocks l es b.outer_keys inner ++ y) second ∙
-        (sym (keys_first 1 p ws last b.site.blocks l es b.outer_keys inner step many) ∙
-        ap (λ y. with_keys 1 p ws last b.site.blocks l es b.outer_keys y)
-        (by_choice b.allowed (first_choice cs) b.open_key b.new b.entry.had colon single (at b) b.tokens (own_token b) (not_keyed b.allowed (is_renewed b.site.before b.separation) b.open_key b.entry.had m.has_had) m.position_is m.number_is among.0)))
+        (ap (λ y. with_keys (suc depth) p ws last b.site.blocks l es b.outer_keys inner ++ y) second ∙
+        (sym (keys_first (suc depth) p ws last b.site.blocks l es b.outer_keys inner step many) ∙
+        (ap (λ y. with_keys (suc depth) p ws last b.site.blocks l es b.outer_keys y)
+        (by_choice b.allowed (first_choice chose) b.open_key b.new b.entry.had colon single (at b) b.tokens (own_token b) (not_keyed b.allowed (is_renewed b.site.before b.separation) b.open_key b.entry.had m.has_had) m.position_is m.number_is among.0) ∙
+        sym (keys_around_begun b.kind p ws last b.site.blocks l (entries_after b cs) (saved b.allowed b.new b.open_key ∷ b.outer_keys) (b.tokens ++ (own_token b ∷ []))))))
 
 -- ---- rows
 

@@ -1,8 +1,9 @@
--- A part of a node outside flow that is no collection: whatever completes the row after it completes it from before.
+-- A part of a node outside flow, be it an opening bracket or no collection: whatever completes the row after it completes it from before.
 use Rattle.std.proofs.Common.{◌≡◌, ℕ, List, [], ◌∷◌, ◌++◌, Bool, true, false, not, ◌&&◌, if◌then◌else◌, length, Option, Some, None, refl, ap, sym, ◌∙◌, subst, append_assoc}
 use Rattle.defs_text.specs.Position.{Position, position_after}
 use Rattle.defs_text.specs.Text.{is_empty}
 use Rattle.defs_token.specs.Token.{Tok, Token, block_mapping_start}
+use Rattle.defs_token.specs.Account.{FlowKind}
 use Rattle.defs_token.specs.Separation.{is_separation}
 use Rattle.defs_token.specs.Piece.{IsPiece}
 use Rattle.defs_row.specs.Step.{Step, spelled, act_of, gives_node, has_break}
@@ -17,6 +18,7 @@ use Rattle.proof_cut.specs.Here.{IsLive}
 use Rattle.proof_row_sound.specs.Choices.{line_by, MayChoose}
 use Rattle.proof_row_sound.specs.Completes.{put_key, with_line, tokens_up_to, Completes}
 use Rattle.proof_row_sound.specs.Arrives.{site_here, IsLineHere}
+use Rattle.proof_row_sound.proofs.Begun.{with_begun, with_no_key, depth_begun, keys_around_begun}
 use Rattle.proof_row_sound.proofs.Completed.{completed_past}
 use Rattle.proof_row_sound.proofs.Inserts.{AreAmong, line_first}
 use Rattle.proof_row_sound.proofs.NodeSteps.{saved, choice_before, bit_of, node_on_line}
@@ -29,8 +31,8 @@ Outer s l = record { site = s; line = l; entries = [] }
 pub on_line : (piece : List ℕ) (a : Account) → (has_break piece && is_waiting a.line) ≡ false → on_one_line piece (Some a) ≡ Some a
 on_line piece a e = ap (λ b. if b then None else Some a) e
 
--- A part of a node outside flow: the site after the last piece; what may begin there and at the piece, where no open key is one; the separation, the piece and the text after it; the token; the open key
--- and the one that may begin here; the tokens before the ends that stand here; the position and the text after what is read.
+-- A part of a node outside flow: the site after the last piece; what may begin there and at the piece, where no open key is one; the separation, the piece and the text after it; the token, and the kind of the collection that it
+-- begins, if any; the open key and the one that may begin here; the tokens before the ends that stand here; the position and the text after what is read.
 pub record Node : Type 0 where
   pub site : Site
   pub line : Line
@@ -39,6 +41,7 @@ pub record Node : Type 0 where
   pub piece : List ℕ
   pub next : List ℕ
   pub tok : Tok
+  pub kind : Option FlowKind
   pub open_key : Option Key
   pub new : Key
   pub allowed : Bool
@@ -58,12 +61,16 @@ step_of d bit = record { separation = d.separation; piece = d.piece; shown = d.t
 abbrev pub key_past : Node → Option Key
 key_past d = saved d.allowed d.new d.open_key
 
+-- the open keys after it, that of what it begins among them
+abbrev pub keys_after : Node → List (Option Key)
+keys_after d = with_no_key d.kind (key_past d ∷ [])
+
 -- the accounts before and after the step, by a choice after it
 abbrev pub before : Node → Bool → Account
 before d c = Outer d.site (line_by (choice_before d.allowed c) d.open_key d.line)
 
 abbrev pub past : Node → Bool → Account
-past d c = Outer (site_past false (at d) d.piece d.tok d.next (at d).blocks) (line_by c (key_past d) taken)
+past d c = record { site = site_past false (at d) d.piece d.tok d.next (at d).blocks; line = line_by c (key_past d) taken; entries = with_begun d.kind [] }
 
 -- the tokens with the ends that stand at the piece
 abbrev pub tokens_here : Node → List Token
@@ -81,7 +88,7 @@ AreSame (Some k) p rest bs cs = IsLive k p rest → bs ≡ cs
 -- What is known of it.
 pub record IsNode (d : Node) : Type 0 where
   pub act : act_of d.tok ≡ gives_node
-  pub begun : begun_by d.tok ≡ []
+  pub begun : begun_by d.tok ≡ with_begun d.kind []
   pub is_filled : is_separation false d.separation (d.piece ++ d.next) ≡ true
   pub is_solid : is_empty d.piece ≡ false
   pub is_piece : IsPiece (seen (Outer d.site d.line) (at d) d.separation) d.piece d.next None (shown_position (at d) d.piece d.tok d.next) d.tok
@@ -148,25 +155,27 @@ by_choice false true (Some k) new l m c s bs p rest ts ends own h may idle q i a
 
 -- With the text after the piece known as that of further steps.
 node_tokens : (d : Node) → IsNode d → (c : Bool) → MayChoose c (key_past d) d.past d.rest → (ws : List Step) (last : List ℕ) → spelled ws last ≡ d.next →
-    tokens_up_to (before d c) (d.open_key ∷ []) d.tokens (step_of d (bit_of d.allowed c) ∷ ws) last ++ tokens_of_step (before d c) (step_of d (bit_of d.allowed c)) ws last ≡ tokens_up_to (past d c) (key_past d ∷ []) (tokens_here d ++ (own_token d ∷ [])) ws last
+    tokens_up_to (before d c) (d.open_key ∷ []) d.tokens (step_of d (bit_of d.allowed c) ∷ ws) last ++ tokens_of_step (before d c) (step_of d (bit_of d.allowed c)) ws last ≡ tokens_up_to (past d c) (keys_after d) (tokens_here d ++ (own_token d ∷ [])) ws last
 node_tokens d n c may ws last e = subst (λ x. Whole (record d { next = x })) e (own (subst (λ x. IsNode (record d { next = x })) (sym e) n))
   where
     Whole : Node → Type 0
-    Whole b = tokens_up_to (before b c) (b.open_key ∷ []) b.tokens (step_of b (bit_of b.allowed c) ∷ ws) last ++ tokens_of_step (before b c) (step_of b (bit_of b.allowed c)) ws last ≡ tokens_up_to (past b c) (key_past b ∷ []) (tokens_here b ++ (own_token b ∷ [])) ws last
+    Whole b = tokens_up_to (before b c) (b.open_key ∷ []) b.tokens (step_of b (bit_of b.allowed c) ∷ ws) last ++ tokens_of_step (before b c) (step_of b (bit_of b.allowed c)) ws last ≡ tokens_up_to (past b c) (keys_after b) (tokens_here b ++ (own_token b ∷ [])) ws last
 
     own : IsNode (record d { next = spelled ws last }) → Whole (record d { next = spelled ws last })
     own m =
         let b : Node = record d { next = spelled ws last } in
         let w : Step = step_of b (bit_of b.allowed c) in
         let l : Line = line_by (choice_before b.allowed c) b.open_key b.line in
-        let colon : Colon = colon_of 0 (past_step b.site.position w ws last) ws last in
+        let p : Position = past_step b.site.position w ws last in
+        let colon : Colon = colon_of (depth_begun b.kind 0) p ws last in
         let ends : List Token = ends_at (at b).position b.site.blocks (at b).blocks in
-        let first : tokens_up_to (before b c) (b.open_key ∷ []) b.tokens (w ∷ ws) last ≡ with_line colon b.site.blocks l b.open_key b.tokens = keys_past 0 b.site.position w ws last m.act m.begun b.site.blocks l [] (b.open_key ∷ []) b.tokens in
+        let first : tokens_up_to (before b c) (b.open_key ∷ []) b.tokens (w ∷ ws) last ≡ with_line colon b.site.blocks l b.open_key b.tokens = keys_past b.kind 0 b.site.position w ws last m.act m.begun b.site.blocks l [] (b.open_key ∷ []) b.tokens in
         let second : tokens_of_step (before b c) w ws last ≡ ends ++ (key_outside w.key (at b) colon ++ (own_token b ∷ [])) =
-        ap (λ x. tokens_at b.site (site_in false x (at b).position b.site) w ws last l []) m.act ∙ tokens_outside b.site (at b) w ws last l [] m.act m.begun in
+        ap (λ x. tokens_at b.site (site_in false x (at b).position b.site) w ws last l []) m.act ∙ tokens_outside b.site (at b) w ws last l (with_begun b.kind []) m.act m.begun in
         ap (λ x. x ++ tokens_of_step (before b c) w ws last) first ∙
         (ap (λ x. with_line colon b.site.blocks l b.open_key b.tokens ++ x) second ∙
-        by_choice b.allowed c b.open_key b.new b.line b.line_here colon (at b) b.site.blocks b.past b.rest b.tokens ends (own_token b) m.line_is may m.no_key m.position_is m.number_is m.are_among m.same_blocks)
+        (by_choice b.allowed c b.open_key b.new b.line b.line_here colon (at b) b.site.blocks b.past b.rest b.tokens ends (own_token b) m.line_is may m.no_key m.position_is m.number_is m.are_among m.same_blocks ∙
+        sym (keys_around_begun b.kind p ws last (at b).blocks (line_by c (key_past b) taken) [] (key_past b ∷ []) (tokens_here b ++ (own_token b ∷ [])))))
 
 -- ---- rows
 
@@ -177,7 +186,7 @@ seen_written d n c bit = (n.is_filled, (ap not n.is_solid, subst (λ x. IsPiece 
 -- If each choice before the piece is one of a row, then each choice after it is, and the tokens are those before, with the ends that stand here and the piece's own.
 pub node_completes : (text : List ℕ) (d : Node) → IsNode d →
     ((c : Bool) → MayChoose c d.open_key (at d).position (d.piece ++ d.next) → Completes text (d.separation ++ (d.piece ++ d.next)) (Outer d.site (line_by c d.open_key d.line)) (tokens_up_to (Outer d.site (line_by c d.open_key d.line)) (d.open_key ∷ []) d.tokens)) →
-    (c : Bool) → MayChoose c (key_past d) d.past d.rest → Completes text d.next (past d c) (tokens_up_to (past d c) (key_past d ∷ []) (tokens_here d ++ (own_token d ∷ [])))
+    (c : Bool) → MayChoose c (key_past d) d.past d.rest → Completes text d.next (past d c) (tokens_up_to (past d c) (keys_after d) (tokens_here d ++ (own_token d ∷ [])))
 node_completes text d n h c may =
-    completed_past text (d.separation ++ (d.piece ++ d.next)) (before d c) (past d c) (tokens_up_to (before d c) (d.open_key ∷ []) d.tokens) (tokens_up_to (past d c) (key_past d ∷ []) (tokens_here d ++ (own_token d ∷ [])))
+    completed_past text (d.separation ++ (d.piece ++ d.next)) (before d c) (past d c) (tokens_up_to (before d c) (d.open_key ∷ []) d.tokens) (tokens_up_to (past d c) (keys_after d) (tokens_here d ++ (own_token d ∷ [])))
     (step_of d (bit_of d.allowed c)) d.next refl (seen_written d n c (bit_of d.allowed c)) (node_account d n c may) (node_tokens d n c may) (h (choice_before d.allowed c) (n.may_before c may))

@@ -40,8 +40,8 @@ use Rattle.proof_row_sound.proofs.Closers.{no_break_there}
 use Rattle.proof_row_sound.proofs.Indicated.{indicator_end, none_indents}
 use Rattle.proof_row_sound.proofs.Inserts.{among}
 use Rattle.proof_row_sound.proofs.NodeSteps.{saved, had_past_node, entry_past_node, choice_before}
-use Rattle.proof_row_sound.proofs.OpeningsInside as inside
-use Rattle.proof_row_sound.proofs.OpeningsOutside as outside
+use Rattle.proof_row_sound.proofs.NodesInside as inside
+use Rattle.proof_row_sound.proofs.NodesOutside as outside
 use Rattle.proof_row_sound.proofs.NodesOutside.{AreSame}
 use Rattle.proof_row_sound.proofs.Outsides.{must_be_here, numbered_past, unbroken_node, one_node, may_node, line_node, same_node, open_node}
 use Rattle.proof_row_sound.proofs.KeyStarts.{new_key, numbered_inside, entry_kept}
@@ -211,7 +211,7 @@ module _ (text more : List ℕ) (lv : FlowLevel) (tok : Tok) (c : ℕ) (o : IsOp
     piece = c ∷ [];
     next = more;
     tok = tok;
-    kind = kind_of lv;
+    kind = Some (kind_of lv);
     open_key = k;
     new = new_key t;
     allowed = t.held.key_allowed;
@@ -330,7 +330,7 @@ module _ (text more : List ℕ) (lv : FlowLevel) (tok : Tok) (c : ℕ) (o : IsOp
     piece = c ∷ [];
     next = more;
     tok = tok;
-    kind = kind_of lv;
+    kind = Some (kind_of lv);
     open_key = k;
     outer_keys = ks;
     new = new_key t;

@@ -137,6 +137,7 @@ module _ (text : List ℕ) (t : ScannerState) (k : Option Key) (a : ArrivesBy te
     piece = d.piece;
     next = next_of d;
     tok = d.tok;
+    kind = None;
     open_key = k;
     new = new_key t;
     allowed = t.held.key_allowed;
@@ -242,6 +243,7 @@ module _ (text : List ℕ) (t : ScannerState) (f : FlowLevel) (fs : List FlowLev
     piece = d.piece;
     next = next_of d;
     tok = d.tok;
+    kind = None;
     open_key = k;
     outer_keys = ks;
     new = new_key t;

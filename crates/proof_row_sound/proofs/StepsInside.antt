@@ -13,10 +13,10 @@ use Rattle.defs_row.specs.Account.{Site, Account, site_at, site_past, may_stand,
 use Rattle.defs_row.specs.Tokens.{put, pair_position, shown_position, Colon, colon_of, key_end, begun_inside, tokens_of_step}
 use Rattle.model_scanner.specs.State.{Key, pop}
 use Rattle.proof_row_sound.specs.Choices.{line_by, had_by, entries_by, outside_key, chosen, MayChoose}
-use Rattle.proof_row_sound.specs.Completes.{with_line, with_had, with_keys, tokens_up_to, Completes}
+use Rattle.proof_row_sound.specs.Completes.{with_had, with_keys, tokens_up_to, Completes}
 use Rattle.proof_row_sound.proofs.Completed.{completed_past}
 use Rattle.proof_row_sound.proofs.Inserts.{AreAmong, first_among, keys_first}
-use Rattle.proof_row_sound.proofs.NodeTokens.{past_step}
+use Rattle.proof_row_sound.proofs.NodeTokens.{past_step, keys_along}
 use Rattle.proof_row_sound.proofs.NodesInside.{no_had, had_as_it_was, same_levels}
 
 -- A piece in flow: the account after the last piece in which no open key is one, without its entries; the innermost entry, that after the piece and those around it; the separation, the piece and the text
@@ -103,15 +103,6 @@ piece_account d n c cs may =
     (ap (λ o. on_one_line d.piece (past_inside (at d) d.piece d.tok d.next l o)) entries ∙
     ap (λ b. if b then None else Some (past d c cs)) (n.one_line c may)))
 
--- keys around the entry have the colons that they have after the step
-keys_around : (d : Piece) → IsHere d → (n : ℕ) (p : Position) (ws : List Step) (last bs : List ℕ) (l : Line) (es : List Entry) (ks : List (Option Key)) (ts : List Token) →
-    with_keys (suc n) p (step_of d ∷ ws) last bs l es ks ts ≡ with_keys (suc n) (past_step p (step_of d) ws last) ws last bs l es ks ts
-keys_around d h n p ws last bs l es [] ts = refl
-keys_around d h n p ws last bs l [] (k ∷ ks) ts = ap (λ c. with_line c bs l k ts) (h.colons n p ws last)
-keys_around d h n p ws last bs l (x ∷ es) (k ∷ ks) ts =
-    keys_around d h (suc n) p ws last bs l es ks (with_had (colon_of (suc n) p (step_of d ∷ ws) last) (takes_pair x.kind x.pair) x.had k ts) ∙
-    ap (λ c. with_keys (suc (suc n)) (past_step p (step_of d) ws last) ws last bs l es ks (with_had c (takes_pair x.kind x.pair) x.had k ts)) (h.colons n p ws last)
-
 -- where no key begins, it does not matter where a colon stands
 begun_alike : (single : Bool) (pair : Pair) (here p q own : Position) (k : Act) (h : Had) → begun_inside single pair here p own k false h ≡ begun_inside single pair here q own k false h
 begun_alike single pair here p q own gives_node h = refl
@@ -166,7 +157,7 @@ piece_completes text d n h c cs may =
         ap (λ y. y ++ tokens_of_step (before d c cs) w ws last) first ∙
         (ap (λ y. with_keys 1 d.site.position (w ∷ ws) last d.site.blocks l es d.outer_keys d.tokens ++ y) second ∙
         (sym (keys_first 1 d.site.position (w ∷ ws) last d.site.blocks l es d.outer_keys d.tokens (own_tokens b) among.1) ∙
-        keys_around d n 0 d.site.position ws last d.site.blocks l es d.outer_keys (d.tokens ++ own_tokens b)))
+        keys_along (λ m. suc m) (λ m. suc m) (λ m. refl) (λ m. refl) 0 d.site.position p w ws last (λ m. n.colons m d.site.position ws last) d.site.blocks l es d.outer_keys (d.tokens ++ own_tokens b)))
 
     tokens : (ws : List Step) (last : List ℕ) → spelled ws last ≡ d.next →
         tokens_up_to (before d c cs) (keys d) d.tokens (step_of d ∷ ws) last ++ tokens_of_step (before d c cs) (step_of d) ws last ≡ tokens_up_to (past d c cs) (None ∷ d.outer_keys) (d.tokens ++ own_tokens d) ws last
