@@ -3,5 +3,6 @@ pub mod Converted
 pub mod Fences
 pub mod First
 mod InTurn
+pub mod Ports
 pub mod Split
 pub mod Taken

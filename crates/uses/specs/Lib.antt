@@ -1,4 +1,5 @@
 pub mod Anchors
 pub mod FrontMatter
+pub mod Ports
 pub mod Servers
 pub mod Settings

@@ -21,3 +21,4 @@ mod receiver_tests;
 pub mod round_trip;
 pub mod settings;
 pub mod strangers;
+pub mod validator;
