@@ -1,4 +1,4 @@
-// Does something N times with a text and this library, and prints what it gave last: beside load|marked|dump|json FILE N
+// Does something N times with a text and this library, and prints what it gave last: beside load|in_turn|marked|dump|json FILE N
 #include <stdbool.h>
 #include <stdint.h>
 #include <stdio.h>
@@ -8,13 +8,22 @@
 #include "read.h"
 
 int64_t yamlbench_load(const unsigned char *text, size_t length);
+int64_t yamlbench_load_in_turn(const unsigned char *text, size_t length);
 int64_t yamlbench_load_marked(const unsigned char *text, size_t length);
 int64_t yamlbench_dump(const unsigned char *text, size_t length, bool compact, bool multiline, uint32_t rounds);
 int64_t yamlbench_write_json(const unsigned char *text, size_t length, uint32_t rounds);
 
+static int64_t loaded(const char *deed, const unsigned char *text, size_t length) {
+    if (strcmp(deed, "in_turn") == 0)
+        return yamlbench_load_in_turn(text, length);
+    if (strcmp(deed, "marked") == 0)
+        return yamlbench_load_marked(text, length);
+    return yamlbench_load(text, length);
+}
+
 int main(int argc, char **argv) {
     if (argc != 4) {
-        fprintf(stderr, "usage: beside load|marked|dump|json FILE N\n");
+        fprintf(stderr, "usage: beside load|in_turn|marked|dump|json FILE N\n");
         return 2;
     }
     size_t length;
@@ -27,7 +36,7 @@ int main(int argc, char **argv) {
         result = yamlbench_write_json(text, length, rounds);
     else
         for (uint32_t i = 0; i < rounds; i++)
-            result = strcmp(argv[1], "marked") == 0 ? yamlbench_load_marked(text, length) : yamlbench_load(text, length);
+            result = loaded(argv[1], text, length);
     printf("%lld\n", (long long)result);
     return 0;
 }

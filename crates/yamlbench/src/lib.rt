@@ -8,6 +8,7 @@ use overlay::overlay;
 use std::alloc::{AllocError, Global};
 use std::hash::{DefaultHasher, Hash as _, Hasher};
 use std::{fmt, slice, str};
+use yaml_documents::Documents;
 use yaml_json::write_json;
 use yaml_limits::{Limits, LimitsError, load_with_limits};
 use yaml_marked::load_marked;
@@ -28,6 +29,26 @@ fn load(alloc: Global, text: &str) -> i64 {
         Ok(documents) => i64::try_from(documents.len()).unwrap_or(i64::MAX),
         Err(_) => -1,
     }
+}
+
+/// How many documents a text has, or -1 where it is refused. Each tree is made after the one before was dropped.
+#[unsafe(no_mangle)]
+pub extern "C" fn yamlbench_load_in_turn(alloc: Global, text: &[u8]) -> i64 {
+    match str::from_utf8(text) {
+        Ok(text) => load_in_turn(alloc, text),
+        Err(_) => -1,
+    }
+}
+
+fn load_in_turn(alloc: Global, text: &str) -> i64 {
+    let mut count = 0_i64;
+    for document in Documents::new(alloc, text) {
+        if document.is_err() {
+            return -1;
+        }
+        count = count.saturating_add(1);
+    }
+    count
 }
 
 /// How many documents a text has, or -1 where it is refused. The trees are made with the positions of their nodes, and
