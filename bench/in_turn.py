@@ -11,10 +11,13 @@ import argparse, os, subprocess, sys, tempfile
 import bench
 
 
-def log(documents):
-    """So many documents, one for each event of a service."""
+def write_log(path, documents):
+    """So many documents, one for each event of a service. They are not held: the peak of a child is at least this process's memory."""
     levels = ("info", "warning", "error")
-    return "".join("---\nnumber: %d\nlevel: %s\ntags: [web, %d]\nmessage: request served\n" % (i, levels[i % 3], i % 7) for i in range(documents))
+    with open(path, "w") as f:
+        for i in range(documents):
+            f.write("---\nnumber: %d\nlevel: %s\ntags: [web, %d]\nmessage: request served\n" % (i, levels[i % 3], i % 7))
+    return os.path.getsize(path)
 
 
 def memory(program, deed, path, size):
@@ -34,17 +37,13 @@ def main():
     with tempfile.TemporaryDirectory() as directory:
         program = bench.built(directory, "beside")
         path = os.path.join(directory, "text")
-        documents = 1000
-        while documents <= a.most:
-            text = log(documents).encode()
-            with open(path, "wb") as f:
-                f.write(text)
+        for documents in (a.most // 4, a.most // 2, a.most):
+            size = write_log(path, documents)
             given = subprocess.run([program, "in_turn", path, "1"], capture_output=True, check=True).stdout
             if int(given) != documents:
                 sys.exit("in_turn.py: %d documents of %d came" % (int(given), documents))
-            whole, turn = (memory(program, deed, path, len(text)) for deed in ("load", "in_turn"))
-            print("| %d | %.1f | %.1f | %.1f |" % (documents, len(text) / 2**20, whole, turn), flush=True)
-            documents *= 10
+            whole, turn = (memory(program, deed, path, size) for deed in ("load", "in_turn"))
+            print("| %d | %.1f | %.1f | %.1f |" % (documents, size / 2**20, whole, turn), flush=True)
 
 
 if __name__ == "__main__":
