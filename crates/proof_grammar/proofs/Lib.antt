@@ -1,0 +1,12 @@
+pub mod Completions
+pub mod Derived
+pub mod Falls
+pub mod Included
+pub mod Meanings
+pub mod Nests
+pub mod Next
+pub mod OneReading
+pub mod Runs
+pub mod Steps
+pub mod Streams
+pub mod Tests

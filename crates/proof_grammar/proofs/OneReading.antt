@@ -1,0 +1,21 @@
+-- By any table, tokens are read in one way only.
+use Rattle.std.proofs.Common.{◌≡◌, List, [], ◌∷◌, Some, refl, sym, ap, subst, ◌∙◌}
+use Rattle.defs_grammar.specs.Table.{Part, takes, leaves, Table, Work, reading, saying, before, Derives, nothing_left, says, by_taking, by_leaving}
+
+takes_back : {G E : Type 0} (ps qs : List (Part G E)) → Some (takes ps) ≡ Some (takes qs) → ps ≡ qs
+takes_back ps qs h = cc
+
+leaves_back : {G E : Type 0} (ps qs : List (Part G E)) → Some (leaves ps) ≡ Some (leaves qs) → ps ≡ qs
+leaves_back ps qs h = cc
+
+pub one_reading : {G T E H : Type 0} (a : Table G T E H) (w : List (Work G E H)) (ts : List T) (es fs : List E) → Derives a w ts es → Derives a w ts fs → es ≡ fs
+one_reading a [] [] _ _ nothing_left nothing_left = refl
+one_reading a [] (t ∷ ts) es fs d c = elim d [ ]
+one_reading a (reading g h ∷ w) [] es fs d c = elim d [ ]
+one_reading a (saying e ∷ w) ts _ _ (says {es = es} d) (says {es = fs} c) = ap (λ l. e ∷ l) (one_reading a w ts es fs d c)
+one_reading a (reading g h ∷ w) (t ∷ ts) es fs (by_taking ps p d) (by_taking qs q c) =
+    one_reading a (before a h t ps w) ts es fs d (subst (λ l. Derives a (before a h t l w) ts fs) (takes_back qs ps (sym q ∙ p)) c)
+one_reading a (reading g h ∷ w) (t ∷ ts) es fs (by_taking ps p d) (by_leaving qs q c) = cc
+one_reading a (reading g h ∷ w) (t ∷ ts) es fs (by_leaving ps p d) (by_taking qs q c) = cc
+one_reading a (reading g h ∷ w) (t ∷ ts) es fs (by_leaving ps p d) (by_leaving qs q c) =
+    one_reading a (before a h t ps w) (t ∷ ts) es fs d (subst (λ l. Derives a (before a h t l w) (t ∷ ts) fs) (leaves_back qs ps (sym q ∙ p)) c)
