@@ -58,3 +58,7 @@ key_in_a_sequence_stream = refl
 -- `x: x` LF `- ..`: a `-` after a pair
 entry_after_a_pair_stream : StopsAtLast (Tok.stream_start ∷ Tok.block_mapping_start ∷ Tok.key ∷ x ∷ Tok.value ∷ x ∷ Tok.block_entry ∷ [])
 entry_after_a_pair_stream = refl
+
+-- a block sequence in a flow sequence
+block_in_flow : StopsAtLast (Tok.stream_start ∷ Tok.flow_sequence_start ∷ Tok.block_sequence_start ∷ [])
+block_in_flow = refl

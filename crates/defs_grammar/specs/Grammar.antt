@@ -5,7 +5,7 @@ use Rattle.defs_token.specs.Token.{Tok}
 use Rattle.defs_event.specs.Event.{Tag}
 use Rattle.defs_event.specs.Raw.{Raw, Directive, nothing_written}
 use Rattle.defs_grammar.specs.Table.{Part, read, keep, hold, say, show, empty, takes, leaves, Case, on, otherwise, Table}
-use Rattle.defs_grammar.specs.Kinds.{is_stream_start, is_stream_end, is_directive, is_document_start, is_document_end, is_block_sequence_start, is_block_mapping_start, is_block_end, is_flow_sequence_start, is_flow_sequence_end, is_flow_mapping_start, is_flow_mapping_end, is_block_entry, is_flow_entry, is_key, is_value, is_alias, is_anchor, is_tag, is_scalar, begins_node}
+use Rattle.defs_grammar.specs.Kinds.{is_stream_start, is_stream_end, is_directive, is_document_start, is_document_end, is_block_sequence_start, is_block_mapping_start, is_block_end, is_flow_sequence_start, is_flow_sequence_end, is_flow_mapping_start, is_flow_mapping_end, is_block_entry, is_flow_entry, is_key, is_value, is_alias, is_anchor, is_tag, is_scalar, begins_flow_node, begins_node}
 
 -- ---- what is held: properties before their node, directives before their document
 
@@ -185,7 +185,7 @@ cases block_mapping_value =
     ∷ []
 -- flow collections (chapter 7); a pair in a flow sequence is a mapping of its own
 cases flow_sequence_entries =
-    on begins_node (leaves (read (node in_flow) ∷ read flow_sequence_comma ∷ []))
+    on begins_flow_node (leaves (read (node in_flow) ∷ read flow_sequence_comma ∷ []))
     ∷ on is_key (takes (say (Raw.mapping_start None None) ∷ read (node in_flow) ∷ read flow_value ∷ say Raw.mapping_end ∷ read flow_sequence_comma ∷ []))
     ∷ on is_flow_sequence_end (takes (show ∷ []))
     ∷ []
@@ -194,7 +194,7 @@ cases flow_sequence_comma =
     ∷ on is_flow_sequence_end (takes (show ∷ []))
     ∷ []
 cases flow_mapping_entries =
-    on begins_node (leaves (read (node in_flow) ∷ say nothing_written ∷ read flow_mapping_comma ∷ []))
+    on begins_flow_node (leaves (read (node in_flow) ∷ say nothing_written ∷ read flow_mapping_comma ∷ []))
     ∷ on is_key (takes (read (node in_flow) ∷ read flow_value ∷ read flow_mapping_comma ∷ []))
     ∷ on is_value (takes (say nothing_written ∷ read (node in_flow) ∷ read flow_mapping_comma ∷ []))
     ∷ on is_flow_mapping_end (takes (show ∷ []))

@@ -83,14 +83,18 @@ abbrev pub is_scalar : Tok → Bool
 is_scalar (Tok.scalar style text) = true
 is_scalar _ = false
 
--- what a node begins with
+-- what a node in a flow collection begins with
+abbrev pub begins_flow_node : Tok → Bool
+begins_flow_node (Tok.alias name) = true
+begins_flow_node (Tok.anchor name) = true
+begins_flow_node (Tok.tag handle suffix) = true
+begins_flow_node (Tok.scalar style text) = true
+begins_flow_node Tok.flow_sequence_start = true
+begins_flow_node Tok.flow_mapping_start = true
+begins_flow_node _ = false
+
+-- what a node outside flow begins with
 abbrev pub begins_node : Tok → Bool
-begins_node (Tok.alias name) = true
-begins_node (Tok.anchor name) = true
-begins_node (Tok.tag handle suffix) = true
-begins_node (Tok.scalar style text) = true
-begins_node Tok.flow_sequence_start = true
-begins_node Tok.flow_mapping_start = true
 begins_node Tok.block_sequence_start = true
 begins_node Tok.block_mapping_start = true
-begins_node _ = false
+begins_node t = begins_flow_node t

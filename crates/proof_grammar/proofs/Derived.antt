@@ -12,7 +12,7 @@ use Rattle.defs_grammar.specs.Grammar.{Held, nothing_held, holding, Side, Place,
 use Rattle.defs_grammar.specs.Stream.{StreamSays, whole_stream}
 use Rattle.proof_grammar.proofs.Meanings.{Means, IsAllowed, AllAllowed, derived_means}
 use Rattle.proof_grammar.proofs.Next.{Next, more_items_next, more_flow_pairs_next, after_next}
-use Rattle.proof_grammar.proofs.Tests.{on_stream_start, on_stream_end, on_directive, on_document_start, on_document_end, on_block_sequence_start, on_block_mapping_start, on_block_end, on_flow_sequence_start, on_flow_sequence_end, on_flow_mapping_start, on_flow_mapping_end, on_block_entry, on_flow_entry, on_key, on_value, on_alias, on_anchor, on_tag, on_scalar, on_node}
+use Rattle.proof_grammar.proofs.Tests.{on_stream_start, on_stream_end, on_directive, on_document_start, on_document_end, on_block_sequence_start, on_block_mapping_start, on_block_end, on_flow_sequence_start, on_flow_sequence_end, on_flow_mapping_start, on_flow_mapping_end, on_block_entry, on_flow_entry, on_key, on_value, on_alias, on_anchor, on_tag, on_scalar, on_flow_node, on_node}
 use Rattle.proof_grammar.proofs.Included.{held_of, with_directives, IsOutside}
 
 -- ---- what each goal means
@@ -403,7 +403,7 @@ allowed block_mapping_value = (
   λ t i. key_row t i,
 )
 allowed flow_sequence_entries = (
-  λ t i. item_row t (on_node t i),
+  λ t i. item_row t (let l = on_flow_node t i in omega (arith, l)),
   (
     on_key _ (λ h ts es us fs m. let k = m.2.2 refl in let v = m.2.3.2 in let e = m.2.3.3 in let a = e.2.2 in let q = e.2.3 in
         (items (single_pair k.0 v.0) a.0, cc (k.1, v.1, a.1, q.0), cc (m.1, k.2, v.2, e.1, a.2, q.1))),
@@ -412,7 +412,7 @@ allowed flow_sequence_entries = (
 )
 allowed flow_sequence_comma = (on_flow_entry _ comma_row, (on_flow_sequence_end _ (λ h ts es us fs m. (end_items, cc m.2.0, cc (m.1, m.2.1))), tt))
 allowed flow_mapping_entries = (
-  λ t i. flow_pair_row t (on_node t i),
+  λ t i. flow_pair_row t (let l = on_flow_node t i in omega (arith, l)),
   (
     on_key _ (λ h ts es us fs m. let k = m.2 refl in let v = m.3.2 in let a = m.3.3.2 in let q = m.3.3.3 in
         (flow_pairs (flow_keyed k.0 v.0) a.0, cc (k.1, v.1, a.1, q.0), cc (k.2, v.2, a.2, q.1))),

@@ -62,11 +62,11 @@ no_content p o w (t ∷ ts) es n d =
 -- ---- flow
 
 -- Rows that leave the first token of a node.
-item_left : (w : Works) (ts : List Tok) (es : List Raw) → first ts ≤ 7 → Reads (goal_and (node in_flow) (goal_and at.flow_sequence_comma w)) ts es → Reads (goal_and at.flow_sequence_entries w) ts es
+item_left : (w : Works) (ts : List Tok) (es : List Raw) → first ts ≤ 5 → Reads (goal_and (node in_flow) (goal_and at.flow_sequence_comma w)) ts es → Reads (goal_and at.flow_sequence_entries w) ts es
 item_left w [] es f d = elim d [ ]
 item_left w (t ∷ ts) es f d = by_leaving _ (items_leave t f) d
 
-flow_pair_left : (w : Works) (ts : List Tok) (es : List Raw) → first ts ≤ 7 → Reads (goal_and (node in_flow) (saying nothing_written ∷ goal_and at.flow_mapping_comma w)) ts es → Reads (goal_and at.flow_mapping_entries w) ts es
+flow_pair_left : (w : Works) (ts : List Tok) (es : List Raw) → first ts ≤ 5 → Reads (goal_and (node in_flow) (saying nothing_written ∷ goal_and at.flow_mapping_comma w)) ts es → Reads (goal_and at.flow_mapping_entries w) ts es
 flow_pair_left w [] es f d = elim d [ ]
 flow_pair_left w (t ∷ ts) es f d = by_leaving _ (flow_pairs_leave t f) d
 

@@ -109,26 +109,22 @@ dashes_leave s _ h = refl
 
 -- ---- rows that leave the first token of a node
 
-pub items_leave : (t : Tok) → rank t ≤ 7 → row_of (cases at.flow_sequence_entries) t ≡ Some (leaves (read (node in_flow) ∷ read at.flow_sequence_comma ∷ []))
+pub items_leave : (t : Tok) → rank t ≤ 5 → row_of (cases at.flow_sequence_entries) t ≡ Some (leaves (read (node in_flow) ∷ read at.flow_sequence_comma ∷ []))
 items_leave (Tok.alias n) h = refl
 items_leave (Tok.anchor n) h = refl
 items_leave (Tok.tag x y) h = refl
 items_leave (Tok.scalar s x) h = refl
 items_leave Tok.flow_sequence_start h = refl
 items_leave Tok.flow_mapping_start h = refl
-items_leave Tok.block_sequence_start h = refl
-items_leave Tok.block_mapping_start h = refl
 items_leave _ h = absurd (omega (arith, h))
 
-pub flow_pairs_leave : (t : Tok) → rank t ≤ 7 → row_of (cases at.flow_mapping_entries) t ≡ Some (leaves (read (node in_flow) ∷ say nothing_written ∷ read at.flow_mapping_comma ∷ []))
+pub flow_pairs_leave : (t : Tok) → rank t ≤ 5 → row_of (cases at.flow_mapping_entries) t ≡ Some (leaves (read (node in_flow) ∷ say nothing_written ∷ read at.flow_mapping_comma ∷ []))
 flow_pairs_leave (Tok.alias n) h = refl
 flow_pairs_leave (Tok.anchor n) h = refl
 flow_pairs_leave (Tok.tag x y) h = refl
 flow_pairs_leave (Tok.scalar s x) h = refl
 flow_pairs_leave Tok.flow_sequence_start h = refl
 flow_pairs_leave Tok.flow_mapping_start h = refl
-flow_pairs_leave Tok.block_sequence_start h = refl
-flow_pairs_leave Tok.block_mapping_start h = refl
 flow_pairs_leave _ h = absurd (omega (arith, h))
 
 pub documents_leave : (t : Tok) → rank t ≤ 7 → row_of (cases at.documents) t ≡ Some (leaves (say (Raw.document_start []) ∷ read (node in_block) ∷ read at.document_end ∷ []))
