@@ -1,5 +1,5 @@
 -- Lemmas about the queue of tokens.
-use Rattle.std.proofs.Common.{◌≡◌, ℕ, ◌+◌, ◌-◌, min, Bool, true, false, ◌||◌, inl, inr, List, [], ◌∷◌, ◌++◌, map, length, take, drop, refl, ap, sym, ◌∙◌, append_assoc, arith, length-append, length-drop, ◌<◌, suc, Option, None}
+use Rattle.std.proofs.Common.{◌≡◌, ℕ, ◌+◌, ◌-◌, min, Bool, true, false, ◌||◌, inl, inr, List, [], ◌∷◌, ◌++◌, map, length, take, drop, refl, ap, sym, ◌∙◌, append_assoc, arith, length-append, length-drop, ◌<◌, ◌≤◌, suc, Option, None}
 use Rattle.std.proofs.lemmas.List.{map-append, take-map, drop-map, take_min, take_all, drop_all, take-append-drop}
 use Rattle.std.proofs.lemmas.List.Edits.{insert-append_right}
 use Rattle.std.specs.List.{insert}
@@ -118,3 +118,11 @@ end_last g w v t p end e = ap (λ (s : seen.Token). property_position s.tok s.po
 -- a position after all is the end
 pub insert_end : (w v : List Token) (i : ℕ) (t : Token) → i ≡ length w → v ≡ insert w i t → v ≡ w ++ t ∷ []
 insert_end w v i t e f = f ∙ rw (take_all i w (omega arith), drop_all i w (omega arith)) refl
+
+-- nor does a position past that
+insert_past : (w : List Token) (i : ℕ) (t : Token) → length w ≤ i → insert w i t ≡ w ++ t ∷ []
+insert_past w i t h = rw (take_all i w h, drop_all i w h) refl
+
+-- a token after all, at a position after all
+pub past_shown : (g w v : List Token) (i : ℕ) (t : Token) → v ≡ w ++ t ∷ [] → length w ≤ i → map shown g ++ map shown v ≡ insert (map shown g ++ map shown w) (length g + i) (shown t)
+past_shown g w v i t e h = insert_shown g w v i t (e ∙ sym (insert_past w i t h))

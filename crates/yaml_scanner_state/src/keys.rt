@@ -144,6 +144,7 @@ impl ImplicitKeys {
         ensures ok { OnOk result (self.new ≡ None ∷ self.old) }
         ensures err { OnErr result (self.new ≡ self.old) }
     {
+        self.levels.try_reserve(1)?;
         self.levels.push(None).map_err(|_| AllocError)
     }
 

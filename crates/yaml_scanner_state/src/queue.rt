@@ -76,31 +76,29 @@ impl Queue {
         ensures handed { handed self.new ≡ handed self.old }
         ensures more { waiting self.new ≤ waiting self.old + 1 }
     {
-        let property = property_of(&token);
-        self.waiting.push_back(token).map_err(|_| AllocError)?;
-        self.property = property;
+        self.waiting.try_reserve(1)?;
+        self.property = property_of(&token);
+        self.waiting.push_back_reserved(token);
         Ok(())
     }
 
     /// Inserts a token before that many that wait. An `Err` changes nothing.
     #[inline(always)]
-    #[tactic(auto, using(crate::proofs::QueueLemmas::insert_min_shown, crate::proofs::QueueLemmas::insert_keeps))]
+    #[tactic(auto, using(crate::proofs::QueueLemmas::insert_shown, crate::proofs::QueueLemmas::past_shown, crate::proofs::QueueLemmas::insert_keeps))]
     pub fn insert(&mut self, position: usize, token: Token) -> Result<(), AllocError>
         ensures ok { OnOk result (self.new ≡ record self.old { all = insert self.old.all (self.old.given + position) (shown token) }) }
         ensures err { OnErr result (self.new ≡ self.old) }
         ensures handed { handed self.new ≡ handed self.old }
         ensures more { waiting self.new ≤ waiting self.old + 1 }
     {
+        self.waiting.try_reserve(1)?;
         let last = self.waiting.len();
-        let position = position.min(last);
-        let property = property_of(&token);
-        if self.waiting.insert(position, token).is_err() {
-            return Err(AllocError);
+        if position >= last {
+            self.property = property_of(&token);
+            self.waiting.push_back_reserved(token);
+            return Ok(());
         }
-        if position == last {
-            self.property = property;
-        }
-        Ok(())
+        self.waiting.insert(position, token).map_err(|_| AllocError)
     }
 
     /// Ends the stream. An `Err` changes nothing.
@@ -111,9 +109,8 @@ impl Queue {
         ensures handed { handed self.new ≡ handed self.old }
         ensures more { waiting self.new ≤ waiting self.old + 1 }
     {
-        self.waiting
-            .push_back(stream_end(mark))
-            .map_err(|_| AllocError)?;
+        self.waiting.try_reserve(1)?;
+        self.waiting.push_back_reserved(stream_end(mark));
         self.property = None;
         self.ended = true;
         Ok(())
