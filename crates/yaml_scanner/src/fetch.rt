@@ -84,7 +84,9 @@ impl<T: Iterator<Item = char>> Fetcher<T> {
         ensures less { OnOk result (work self.new < work self.old) }
         ensures run { Fetches self.old self.new }
     {
-        self.window.lookahead(4);
+        // A document marker has three characters and an end, and stands only at a line's first column.
+        let n = if self.window.mark().col() == 0 { 4 } else { 2 };
+        self.window.lookahead(n);
         if self.window.ch() == '\0' {
             return self.fetch_stream_end();
         }
@@ -129,7 +131,8 @@ impl<T: Iterator<Item = char>> Fetcher<T> {
 
     /// What begins at a line's first column, or else a token of a document.
     fn fetch_content(&mut self) -> Result<(), Fault>
-        requires ahead { 4 ≤ self.old.window.ahead }
+        requires ahead { 2 ≤ self.old.window.ahead }
+        requires marker { self.old.window.col ≡ 0 → 4 ≤ self.old.window.ahead }
         requires has { HasChar self.old.window }
         ensures does { OnOk result (Does fetch_content self.old self.new) }
         ensures fails { IfErr result (λ e. Fails fetch_content self.old self.new e) }
@@ -178,7 +181,7 @@ impl<T: Iterator<Item = char>> Fetcher<T> {
     /// What does not begin at a line's first column must not stand left of the innermost block
     /// collection.
     fn fetch_indented(&mut self) -> Result<(), Fault>
-        requires ahead { 4 ≤ self.old.window.ahead }
+        requires ahead { 2 ≤ self.old.window.ahead }
         requires has { HasChar self.old.window }
         ensures does { OnOk result (Does fetch_indented self.old self.new) }
         ensures fails { IfErr result (λ e. Fails fetch_indented self.old self.new e) }
@@ -193,7 +196,7 @@ impl<T: Iterator<Item = char>> Fetcher<T> {
     }
 
     fn fetch_token(&mut self) -> Result<(), Fault>
-        requires ahead { 4 ≤ self.old.window.ahead }
+        requires ahead { 2 ≤ self.old.window.ahead }
         requires has { HasChar self.old.window }
         ensures does { OnOk result (Does fetch_token self.old self.new) }
         ensures fails { IfErr result (λ e. Fails fetch_token self.old self.new e) }
@@ -218,7 +221,7 @@ impl<T: Iterator<Item = char>> Fetcher<T> {
 
     /// `-`, or a plain scalar that begins with it.
     fn fetch_dash(&mut self) -> Result<(), Fault>
-        requires ahead { 4 ≤ self.old.window.ahead }
+        requires ahead { 2 ≤ self.old.window.ahead }
         requires has { HasChar self.old.window }
         ensures does { OnOk result (Does (token_by Class.Dash) self.old self.new) }
         ensures fails { IfErr result (λ e. Fails (token_by Class.Dash) self.old self.new e) }
@@ -233,7 +236,7 @@ impl<T: Iterator<Item = char>> Fetcher<T> {
 
     /// `?`, or a plain scalar that begins with it.
     fn fetch_question(&mut self) -> Result<(), Fault>
-        requires ahead { 4 ≤ self.old.window.ahead }
+        requires ahead { 2 ≤ self.old.window.ahead }
         requires has { HasChar self.old.window }
         ensures does { OnOk result (Does (token_by Class.Question) self.old self.new) }
         ensures fails { IfErr result (λ e. Fails (token_by Class.Question) self.old self.new e) }
@@ -248,7 +251,7 @@ impl<T: Iterator<Item = char>> Fetcher<T> {
 
     /// `:`, or a plain scalar that begins with it.
     fn fetch_colon(&mut self) -> Result<(), Fault>
-        requires ahead { 4 ≤ self.old.window.ahead }
+        requires ahead { 2 ≤ self.old.window.ahead }
         requires has { HasChar self.old.window }
         ensures does { OnOk result (Does (token_by Class.Colon) self.old self.new) }
         ensures fails { IfErr result (λ e. Fails (token_by Class.Colon) self.old self.new e) }
@@ -273,7 +276,7 @@ impl<T: Iterator<Item = char>> Fetcher<T> {
 
     /// A scalar, by the class of its first character, or one that begins no token.
     fn fetch_scalar(&mut self, class: Class) -> Result<(), Fault>
-        requires ahead { 4 ≤ self.old.window.ahead }
+        requires ahead { 2 ≤ self.old.window.ahead }
         requires has { HasChar self.old.window }
         ensures does { OnOk result (Does (scalar_by class) self.old self.new) }
         ensures fails { IfErr result (λ e. Fails (scalar_by class) self.old self.new e) }
@@ -294,7 +297,7 @@ impl<T: Iterator<Item = char>> Fetcher<T> {
 
     /// `|` or `>`, which in flow begins a plain scalar.
     fn fetch_bar(&mut self, style: BlockStyle) -> Result<(), Fault>
-        requires ahead { 4 ≤ self.old.window.ahead }
+        requires ahead { 2 ≤ self.old.window.ahead }
         requires has { HasChar self.old.window }
         ensures does { OnOk result (Does (fetch_bar (is_literal_style style)) self.old self.new) }
         ensures fails { IfErr result (λ e. Fails (fetch_bar (is_literal_style style)) self.old self.new e) }
