@@ -8,7 +8,7 @@ use Rattle.yaml_tokens.specs.declared.problem.Problem.TheVariants as problem
 use Rattle.model_scanner.specs.State.{pop, with_top}
 use Rattle.model_scanner.specs.Keys.{is_far, is_overdue, still, drop_stale, is_required, has_required, cleared, top_key}
 use Rattle.yaml_scanner_state.specs.declared.keys.ImplicitKey.{ImplicitKey}
-use Rattle.yaml_scanner_state.specs.ImplicitKeys.{key_of, seen, still_implicit, no_implicit, top_implicit}
+use Rattle.yaml_scanner_state.specs.ImplicitKeys.{key_of, seen, still_implicit, is_stale, no_implicit, top_implicit}
 use Rattle.yaml_scanner_state.proofs.StackLemmas as stack
 
 pub popped : {A : Type 0} (xs ys : List A) (x : A) → xs ≡ ys ++ x ∷ [] → reverse ys ≡ pop (reverse xs)
@@ -71,6 +71,26 @@ unfolding drop_stale
 still_seen p g ks ls h f =
     let e : list_any (is_overdue p) (map (key_of g) (reverse ks)) ≡ false = overdue_all p g (reverse ks) ∙ any_reversed (λ k. is_overdue p (key_of 0 k)) ks ∙ h in
     rw (e, f, ← map_reversed (still_implicit p) ks, still_all p g (reverse ks)) refl
+
+or_none : (a b : Bool) → a || b ≡ false → (a ≡ false) × (b ≡ false)
+or_none true b h = absurd cc
+or_none false b h = (refl, h)
+
+fresh_of : (p : Position) (k : Option ImplicitKey) → is_stale p k ≡ false → (is_overdue p (key_of 0 k) ≡ false) × (still_implicit p k ≡ k)
+fresh_of p None h = (refl, refl)
+fresh_of p (Some k) h = (rw h refl, rw h refl)
+
+fresh_all : (p : Position) (ks : List (Option ImplicitKey)) → list_any (is_stale p) ks ≡ false → (list_any (λ k. is_overdue p (key_of 0 k)) ks ≡ false) × (map (still_implicit p) ks ≡ ks)
+fresh_all p [] h = (refl, refl)
+fresh_all p (k ∷ ks) h =
+    let both = or_none (is_stale p k) (list_any (is_stale p) ks) h in
+    let one = fresh_of p k both.0 in
+    let rest = fresh_all p ks both.1 in
+    (rw (one.0, rest.0) refl, rw (one.1, rest.1) refl)
+
+-- where no key is too far back, all stay
+pub fresh_seen : (p : Position) (g : ℕ) (ks : List (Option ImplicitKey)) → list_any (is_stale p) ks ≡ false → drop_stale p (seen g (reverse ks)) ≡ Ok (seen g (reverse ks))
+fresh_seen p g ks h = let all = fresh_all p ks h in still_seen p g ks ks all.0 (sym all.1)
 
 required_of : (g : ℕ) (k : Option ImplicitKey) → is_required (key_of g k) ≡ is_required (key_of 0 k)
 required_of g None = refl

@@ -35,6 +35,11 @@ abbrev pub still_implicit : Position → Option ImplicitKey → Option ImplicitK
 still_implicit p None = None
 still_implicit p (Some k) = (if is_far k.mark p then None else Some k)
 
+-- whether a key began on an earlier line or too far back
+abbrev pub is_stale : Position → Option ImplicitKey → Bool
+is_stale p None = false
+is_stale p (Some k) = is_far k.mark p
+
 abbrev pub no_implicit : Option ImplicitKey → Option ImplicitKey
 no_implicit k = None
 

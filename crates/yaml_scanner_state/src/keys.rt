@@ -2,7 +2,7 @@ ghost use Rattle.std.specs.Prelude.{◌≡◌, ℕ, ◌+◌, ◌-◌, ◌∷◌,
 ghost use Rattle.std.specs.List.{list_any};
 ghost use Rattle.model_scanner.specs.State.{Key, with_top, pop};
 ghost use Rattle.model_scanner.specs.Keys.{is_far, is_overdue, drop_stale, is_required, has_required, cleared, top_key};
-ghost use Rattle.yaml_scanner_state.specs.ImplicitKeys.{key_of, seen, is_front, lowered, still_implicit, no_implicit, top_implicit};
+ghost use Rattle.yaml_scanner_state.specs.ImplicitKeys.{key_of, seen, is_front, is_stale, lowered, still_implicit, no_implicit, top_implicit};
 
 use std::alloc::{AllocError, Global};
 use std::marker::Model;
@@ -62,6 +62,18 @@ fn is_front(key: Option<ImplicitKey>) -> bool
     ensures { result ≡ is_front key }
 {
     key.is_some_and(|key| key.position == 0)
+}
+
+fn is_stale(key: Option<ImplicitKey>, mark: Marker) -> bool
+    ensures { result ≡ is_stale mark key }
+{
+    key.is_some_and(|key| is_far(key.mark, mark))
+}
+
+fn any_stale(keys: &[Option<ImplicitKey>], mark: Marker) -> bool
+    ensures { result ≡ list_any (is_stale mark) keys.now }
+{
+    keys.iter().any(|key| is_stale(*key, mark))
 }
 
 fn any_overdue(keys: &[Option<ImplicitKey>], mark: Marker) -> bool
@@ -187,6 +199,9 @@ impl ImplicitKeys {
         ensures ok { OnOk result ((g : ℕ) → drop_stale mark (seen g self.old) ≡ Ok (seen g self.new)) }
         ensures err { IfErr result (λ e. (g : ℕ) → drop_stale mark (seen g self.old) ≡ Err e) }
     {
+        if !any_stale(&self.levels, mark) {
+            return Ok(());
+        }
         if any_overdue(&self.levels, mark) {
             return Err(Fault::At(Problem::KeyWithoutColon, mark));
         }
