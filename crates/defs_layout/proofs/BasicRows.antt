@@ -1,5 +1,5 @@
 -- Texts that are in the layout relation, and written things that are not, each shown by computing.
-use Rattle.std.proofs.Common.{◌≡◌, refl, sym, ap, ◌∙◌, ℕ, ◌<◌, ◌≤◌, List, [], ◌∷◌, true, arith, true≢false}
+use Rattle.std.proofs.Common.{◌≡◌, refl, sym, ap, ◌∙◌, ℕ, ◌<◌, ◌≤◌, List, [], ◌∷◌, true, false, arith, true≢false}
 use Rattle.std.specs.Prelude.{codes, replicate, pos, negsuc, slice_index, ◌==◌}
 use Rattle.std.specs.Fmt.{digits}
 use Rattle.defs_tree.specs.Tree.{Tree, Items, Pairs, items_of, pairs_of}
@@ -11,7 +11,8 @@ use Rattle.defs_layout.specs.Gap.{GapLine, empty_line, comment_line, IsGap, is_l
 use Rattle.defs_layout.specs.BlockLines.{full, blank}
 use Rattle.defs_layout.specs.Layout.{Scalar, plain, quoted, scalar, empty_array, empty_hash, Block, array, hash, Value, no_comment, below, last_entry, entry, implicit, explicit, last_field, field, Root, Document, last_document, Layout, AreDocuments, IsImplicitKey, IsValue, IsBlock, IsRoot, IsField, IsPlain}
 use Rattle.defs_layout.specs.Layout as layout
-use Rattle.defs_layout.specs.Basic.{IsBasicLayout}
+use Rattle.defs_layout.specs.Json.{Json}
+use Rattle.defs_layout.specs.Basic.{IsBasic, IsBasicLayout}
 use Rattle.defs_layout.proofs.Differ.{differ}
 
 -- ---- words for the examples
@@ -310,6 +311,63 @@ no_alias h = h
 
 no_bad_value : ¬ IsPlain Tree.bad_value
 no_bad_value h = h
+
+-- ---- written things with a form that no basic layout has
+
+-- the entry of an array alone, and the value of a key alone
+abbrev entry_alone : Value → Layout
+entry_alone v = plainly (array (last_entry v))
+
+abbrev value_alone : Value → Layout
+value_alone v = plainly (hash (last_field (implicit (word (codes "k")) v)))
+
+-- an array of one integer
+abbrev one_integer : layout.Entries
+one_integer = last_entry (one (integer 1))
+
+-- single quotes: at the root, of a value, of a key
+single_quoted_root : ¬ IsBasic (marked (record { gap = []; root = Root.inline (scalar (layout.single_quoted (codes "a"))) }) [])
+single_quoted_root h = h.1
+
+single_quoted_value : ¬ IsBasic (entry_alone (one (layout.single_quoted (codes "a"))))
+single_quoted_value h = h.1.0
+
+single_quoted_key : ¬ IsBasic (plainly (hash (last_field (implicit (layout.single_quoted (codes "a")) (one (integer 1))))))
+single_quoted_key h = h.1.0
+
+-- a comment on the line of a scalar, and one on the line of a key
+comment_beside_scalar : ¬ IsBasic (entry_alone (Value.beside 0 (scalar (integer 1)) (layout.comment 0 (codes " a"))))
+comment_beside_scalar h = h.1.1
+
+comment_beside_key : ¬ IsBasic (value_alone (below (layout.comment 0 (codes " a")) [] 2 (array one_integer)))
+comment_beside_key h = h.1.1.0
+
+-- a folded block, a JSON array, an array at the column of its key
+folded_block : ¬ IsBasic (entry_alone (Value.folded 0 2 true (codes "a") (full (codes "a") ∷ [])))
+folded_block h = h.1
+
+json_array : ¬ IsBasic (entry_alone (Value.json 0 (Json.empty_array [])))
+json_array h = h.1
+
+array_at_key : ¬ IsBasic (value_alone (Value.at_key no_comment [] one_integer))
+array_at_key h = h.1.1
+
+-- an anchor, and an alias
+anchored_value : ¬ IsBasic (entry_alone (Value.anchored 0 (codes "a") (one (integer 1))))
+anchored_value h = h.1
+
+alias_as_value : (t : Tree) → ¬ IsBasic (plainly (array (entry (one (integer 1)) [] (last_entry (Value.alias 0 (codes "a") t)))))
+alias_as_value t h = h.1.1
+
+-- a second document, and no `---`
+second_document : ¬ IsBasic (record {
+  is_marked = true;
+  documents = layout.document (record { gap = []; root = Root.block 0 (array one_integer) }) [] (last_document (record { gap = []; root = Root.block 0 (array one_integer) }) []);
+})
+second_document h = h.1
+
+unmarked : ¬ IsBasic (record { is_marked = false; documents = last_document (record { gap = []; root = Root.block 0 (array one_integer) }) [] })
+unmarked h = true≢false (sym h.0)
 
 -- ---- texts that no written thing has
 

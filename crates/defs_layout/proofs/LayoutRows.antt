@@ -14,7 +14,7 @@ use Rattle.defs_layout.specs.JsonNumber.{number, no_fraction, no_exponent}
 use Rattle.defs_layout.specs.JsonString.{itself, is_unescaped}
 use Rattle.defs_layout.specs.JsonGap.{space, tab, line_feed}
 use Rattle.defs_layout.specs.Json.{Json, last_element, element, last_member}
-use Rattle.defs_layout.specs.Anchored.{last_tree}
+use Rattle.defs_layout.specs.Anchored.{Anchor, last_tree}
 use Rattle.defs_layout.specs.Layout.{Scalar, plain, single_quoted, scalar, empty_array, no_comment, comment, Block, array, hash, Value, beside, folded, compact, below, at_key, anchored, last_entry, entry, implicit, explicit, last_field, field, Root, block, inline, Document, last_document, document, Layout, IsImplicitKey, IsValue, IsField, AreEntries, AreDocuments, AreLaidOut, anchors_after, is_on_one_line}
 use Rattle.defs_tree.specs.Order.{tree_eq}
 use Rattle.defs_layout.proofs.Differ.{differ}
@@ -272,6 +272,23 @@ at_dash h = h.0
 
 at_complex_key : ¬ IsField 0 [] (explicit (beside 0 empty_array no_comment) [] (at_key no_comment [] (last_entry (beside 0 empty_array no_comment))))
 at_complex_key h = h.3
+
+-- an anchor before an array at the column of its key
+anchored_at_key : ¬ IsValue 0 [] (anchored 0 (codes "a") (at_key no_comment [] (last_entry (beside 0 empty_array no_comment))))
+anchored_at_key h = h.1
+
+-- behind `?` an anchor, an alias, whatever the anchors before, a folded block, and an array at the column of the `?`
+anchor_in_complex_key : ¬ IsField 0 [] (explicit (anchored 0 (codes "a") (below no_comment [] 2 (array (last_entry (beside 0 empty_array no_comment))))) [] (beside 0 empty_array no_comment))
+anchor_in_complex_key h = h.0
+
+alias_in_complex_key : (t : Tree) (a : List Anchor) → ¬ IsField 0 a (explicit (Value.alias 0 (codes "a") t) [] (beside 0 empty_array no_comment))
+alias_in_complex_key t a h = h.0
+
+folded_in_complex_key : ¬ IsField 0 [] (explicit (folded 0 2 true (codes "a") (full (codes "a") ∷ [])) [] (beside 0 empty_array no_comment))
+folded_in_complex_key h = h.0
+
+array_at_question_mark : ¬ IsField 0 [] (explicit (at_key no_comment [] (last_entry (beside 0 empty_array no_comment))) [] (beside 0 empty_array no_comment))
+array_at_question_mark h = h.0
 
 -- a comment that holds a CR, an LF, a NUL
 comment_with_return : ¬ IsValue 0 [] (beside 0 empty_array (comment 0 (codes "a\r")))
