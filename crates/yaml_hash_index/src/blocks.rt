@@ -204,7 +204,8 @@ impl Blocks {
     }
 
     /// Puts an entry at a spot. An `Err` comes only where memory was refused, or there are as many entries as can be
-    /// counted, and then all is as it was.
+    /// counted, and then all is as it was. Memory is asked for before anything changes: where a block is made two,
+    /// both have room for the entry.
     pub fn insert(&mut self, spot: Spot, entry: Entry) -> Result<(), AllocError>
         requires { IsSpot self.old spot }
         ensures ok { OnOk result (joined self.new ≡ insert (joined self.old) (rank_of self.old spot) entry) }
@@ -231,7 +232,7 @@ impl Blocks {
         self.starts[self.starts.len() - 1] == usize::MAX
     }
 
-    // Puts an entry after all, in a block of its own.
+    // Puts an entry after all, in a block of its own. All memory is asked for first.
     fn push(&mut self, entry: Entry) -> Result<(), AllocError>
         requires { length (joined self.old) + 1 < 2 ^ 64 }
         ensures ok { OnOk result (joined self.new ≡ insert (joined self.old) (length (joined self.old)) entry) }
@@ -239,8 +240,9 @@ impl Blocks {
     {
         let count = self.blocks.len();
         let block = Block::of(*self.blocks.allocator(), entry)?;
+        self.blocks.reserve(1)?;
         grow(&mut self.starts, self.blocks.as_slice())?;
-        self.blocks.push(block)?;
+        self.blocks.push_reserved(block);
         raise(self.starts.as_mut_slice(), count / STRIDE + 1);
         Ok(())
     }
@@ -290,7 +292,7 @@ impl Blocks {
         }
     }
 
-    // Makes a block two.
+    // Makes a block two. All memory is asked for first.
     fn split(&mut self, block: usize, half: usize) -> Result<(), AllocError>
         requires block { block < length self.old }
         requires first { 0 < half }
@@ -300,8 +302,11 @@ impl Blocks {
         ensures err { OnErr result (self.new ≡ self.old) }
     {
         let upper = self.blocks[block].from(*self.blocks.allocator(), half, ROOM)?;
+        self.blocks.reserve(1)?;
         grow(&mut self.starts, self.blocks.as_slice())?;
-        self.blocks.insert(block + 1, upper)?;
+        let Ok(()) = self.blocks.insert(block + 1, upper) else {
+            unreachable!()
+        };
         self.blocks[block].truncate(half);
         subtract_blocks(
             self.starts.as_mut_slice(),
