@@ -11,7 +11,7 @@ use Rattle.defs_event.specs.Unfinished.{Loader, at_work, noted, Unfinished, new_
 use Rattle.defs_event.specs.NoAlias.{HasNoAlias}
 use Rattle.defs_event.specs.Laws.{LoadedTreesHaveNoAlias}
 use Rattle.defs_event.specs.Unfinished as unfinished
-use Rattle.yaml_tokens.specs.ErrorReport.{ErrorReport}
+use Rattle.yaml_tokens.specs.ErrorReport.{ErrorReport, owned_at}
 use Rattle.yaml_parser.specs.Parsed.{Parsed}
 use Rattle.yaml_parser.specs.Loads as loads
 use Rattle.yaml_parser.specs.Loads.{PullsAll, Receives, no_event, one_event, EndsSo, Loads}
@@ -105,7 +105,7 @@ module _ (l : YamlLoader) (empty : loader_of l ≡ new_loader) (clear : kept_fau
 -- ---- what the loader gives then
 
 -- the fault of a loader that has noted a key that came twice
-pub note_given : (l : YamlLoader) (p : Position) (text : String Global) (f : ErrorReport) → l.course ≡ course.RepeatedKey p text → f ≡ record { position = p; text = string_bytes text; memory = false } → IsGivenFault l f
+pub note_given : (l : YamlLoader) (p : Position) (text : String Global) (f : ErrorReport) → l.course ≡ course.RepeatedKey p text → f ≡ owned_at p (string_bytes text) → IsGivenFault l f
 note_given l p text f e is =
     let u = unfinished_of l.reading in
     let key = repeated_key u.opened in

@@ -1,10 +1,10 @@
 -- The state of a loader, as clauses see it, and what it makes of one more event.
 -- YAML 1.2, section 3.1 (construction); the faults and what is kept of them are this project's.
-use Rattle.std.specs.Prelude.{◌≡◌, ◌⊎◌, true, Option, Some, None, IfSome, Result, Err, OnOk, OnErr, IfErr, IsOk, codes, string_bytes, List}
+use Rattle.std.specs.Prelude.{◌≡◌, ◌⊎◌, Option, Some, None, IfSome, Result, Err, OnOk, OnErr, IfErr, IsOk, codes, string_bytes, List}
 use Rattle.defs_text.specs.Position.{Position}
 use Rattle.defs_event.specs.Event.{Ev}
 use Rattle.defs_event.specs.Unfinished.{Opened, Unfinished, with_event, Loader, at_work, noted, refused, with_event_at, documents_of, refused_at}
-use Rattle.yaml_tokens.specs.ErrorReport.{ErrorReport, report_at}
+use Rattle.yaml_tokens.specs.ErrorReport.{ErrorReport, fixed_at, memory_at}
 use Rattle.yaml_loader.specs.declared.loader.Course.{Course}
 use Rattle.yaml_loader.specs.declared.loader.Course.TheVariants as course
 use Rattle.yaml_loader.specs.declared.loader.YamlLoader.{YamlLoader}
@@ -26,11 +26,11 @@ loader_of l = loader_by l.course (unfinished_of l.reading)
 
 -- out of memory at a position
 abbrev pub want_of_memory : Position → ErrorReport
-want_of_memory position = record { position = position; text = codes "out of memory"; memory = true }
+want_of_memory position = memory_at position
 
 -- an event out of nesting at a position
 abbrev pub event_out_of_nesting : Position → ErrorReport
-event_out_of_nesting position = report_at position (codes "event out of nesting")
+event_out_of_nesting position = fixed_at position (codes "event out of nesting")
 
 abbrev pub kept_by : Course → Option ErrorReport
 kept_by course.Reading = None

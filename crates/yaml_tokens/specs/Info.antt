@@ -12,3 +12,8 @@ abbrev pub is_memory : Info → Bool
 is_memory (Fixed s) = false
 is_memory (Owned s) = false
 is_memory Memory = true
+
+abbrev pub is_fixed : Info → Bool
+is_fixed (Fixed s) = true
+is_fixed (Owned s) = false
+is_fixed Memory = true

@@ -1,11 +1,11 @@
 -- The texts of the problems, and what a fault shows.
-use Rattle.std.specs.Prelude.{ℕ, List, true, false, codes}
+use Rattle.std.specs.Prelude.{ℕ, List, codes}
 use Rattle.defs_text.specs.Position.{Position}
 use Rattle.yaml_tokens.specs.declared.problem.Problem.{Problem}
 use Rattle.yaml_tokens.specs.declared.problem.Problem.TheVariants as problem
 use Rattle.yaml_tokens.specs.declared.problem.Fault as code
 use Rattle.yaml_tokens.specs.declared.problem.Fault.TheVariants.{OutOfMemory, At}
-use Rattle.yaml_tokens.specs.ErrorReport.{ErrorReport}
+use Rattle.yaml_tokens.specs.ErrorReport.{ErrorReport, fixed_at, memory_at}
 
 unfoldable pub text_of_problem : Problem → List ℕ
 text_of_problem problem.UnexpectedPercent = codes "unexpected character: `%'"
@@ -77,5 +77,5 @@ text_of_problem problem.EventOutOfNesting = codes "event out of nesting"
 
 -- what callers see of a fault that came while the text was read up to a position
 abbrev pub fault_of : code.Fault → Position → ErrorReport
-fault_of OutOfMemory here = record { position = here; text = codes "out of memory"; memory = true }
-fault_of (At p position) here = record { position = position; text = text_of_problem p; memory = false }
+fault_of OutOfMemory here = memory_at here
+fault_of (At p position) here = fixed_at position (text_of_problem p)

@@ -1,4 +1,5 @@
-ghost use Rattle.std.specs.Prelude.{◌≡◌, true, false, codes, string_bytes, IfOk, IsOk};
+ghost use Rattle.std.specs.Prelude.{◌≡◌, true, string_bytes, IfOk, IsOk};
+ghost use Rattle.yaml_tokens.specs.ErrorReport.{fixed_at, memory_at, owned_at};
 
 use std::alloc::{AllocError, Global};
 use std::error::Error;
@@ -33,22 +34,22 @@ impl Model for ScanError {
 
     ghost Value = { ErrorReport };
 
-    ghost use Rattle.yaml_tokens.specs.Info.{text_of, is_memory};
+    ghost use Rattle.yaml_tokens.specs.Info.{text_of, is_memory, is_fixed};
 
-    ghost view = { λ e. record { position = e.mark; text = text_of e.info; memory = is_memory e.info } };
+    ghost view = { λ e. record { position = e.mark; text = text_of e.info; memory = is_memory e.info; fixed = is_fixed e.info } };
 }
 
 impl ScanError {
     /// A fault with a copy of this text. An `Err` comes only if memory was refused.
     pub fn new(alloc: Global, loc: Marker, info: &str) -> Result<ScanError, AllocError>
-        ensures { IfOk result (λ e. e ≡ record { position = loc; text = info.now; memory = false }) }
+        ensures { IfOk result (λ e. e ≡ owned_at loc info.now) }
     {
         Ok(ScanError::new_string(loc, String::from_str(alloc, info)?))
     }
 
     /// A fault with this text. It takes no memory.
     pub fn new_string(loc: Marker, info: String) -> ScanError
-        ensures { result ≡ record { position = loc; text = string_bytes info; memory = false } }
+        ensures { result ≡ owned_at loc (string_bytes info) }
     {
         ScanError {
             mark: loc,
@@ -58,7 +59,7 @@ impl ScanError {
 
     /// A fault with a fixed text. It takes no memory.
     pub fn fixed(loc: Marker, info: &'static str) -> ScanError
-        ensures { result ≡ record { position = loc; text = info.now; memory = false } }
+        ensures { result ≡ fixed_at loc info.now }
     {
         ScanError {
             mark: loc,
@@ -68,7 +69,7 @@ impl ScanError {
 
     /// The fault that memory was refused, at a position. It takes no memory.
     pub fn memory(loc: Marker) -> ScanError
-        ensures { result ≡ record { position = loc; text = codes "out of memory"; memory = true } }
+        ensures { result ≡ memory_at loc }
     {
         ScanError {
             mark: loc,
@@ -105,6 +106,7 @@ impl ScanError {
     /// nor does one of refused memory.
     pub fn clone(&self, alloc: Global) -> Result<ScanError, AllocError>
         ensures copy { IfOk result (λ e. e ≡ self.now) }
+        ensures fixed { self.now.fixed ≡ true → IsOk result }
         ensures memory { self.now.memory ≡ true → IsOk result }
     {
         let info = match &self.info {
