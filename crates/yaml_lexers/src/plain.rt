@@ -81,19 +81,34 @@ fn is_marker(c: char, d: char, e: char, f: char) -> bool
     (c == '-' && d == '-' && e == '-' || c == '.' && d == '.' && e == '.') && is_blank_or_breakz(f)
 }
 
+/// Sees to it that the next two characters are in the window, and four where a document marker may stand: at a line's
+/// first column.
+#[inline(always)]
+pub(crate) fn look_ahead<T: Iterator<Item = char>>(window: &mut Window<T>)
+    ensures reads { Reads window.old window.new (λ a b. b ≡ a) }
+    ensures position { SamePosition window.old window.new }
+    ensures ahead { 2 ≤ window.new.ahead }
+    ensures marker { window.new.col ≡ 0 → 4 ≤ window.new.ahead }
+{
+    let n = if window.mark().col() == 0 { 4 } else { 2 };
+    window.lookahead(n);
+}
+
 /// Whether a document marker stands here.
 #[tactic(auto, unfolding(model_lexers::specs::Machine::at_marker))]
 pub(crate) fn at_marker<T: Iterator<Item = char>>(window: &Window<T>) -> bool
-    requires { 4 ≤ window.now.ahead }
+    requires { window.now.col ≡ 0 → 4 ≤ window.now.ahead }
     ensures { Sees window.now (λ a. result ≡ at_marker window.now.col a) }
 {
-    let is_marker = is_marker(
+    if window.mark().col() != 0 {
+        return false;
+    }
+    is_marker(
         window.peek(0),
         window.peek(1),
         window.peek(2),
         window.peek(3),
-    );
-    window.mark().col() == 0 && is_marker
+    )
 }
 
 /// Whether a dash stands here that no plain scalar may begin with.
@@ -134,7 +149,7 @@ fn goes_on<T: Iterator<Item = char>>(
     ensures ahead { 0 < window.new.ahead }
     ensures has { result ≡ Ok true → HasChar window.new }
 {
-    window.lookahead(4);
+    look_ahead(window);
     let mark = window.mark();
     if is_shallow(context, mark.col()) {
         return Ok(false);

@@ -9,7 +9,7 @@ ghost use Rattle.yaml_lexers.specs.ShownQuoted.{mode_of, GoesOn, AllGoOn, IsRefu
 
 use crate::escape::read_escapes;
 use crate::folding::Folding;
-use crate::plain::at_marker;
+use crate::plain::{at_marker, look_ahead};
 use model_lexers::Context;
 use std::alloc::{AllocError, Global};
 use yaml_chars::class::{is_blank, is_break};
@@ -48,7 +48,7 @@ fn quote_of(single: bool) -> char
 /// Refuses a document marker and a line that stands too far left.
 #[tactic(auto, unfolding(model_lexers::specs::Quoted::refused))]
 fn check_line<T: Iterator<Item = char>>(window: &Window<T>, quote: &Quote) -> Result<(), Fault>
-    requires { 4 ≤ window.now.ahead }
+    requires { window.now.col ≡ 0 → 4 ≤ window.now.ahead }
     ensures { Sees window.now (λ a. result ≡ refused quote.now.context quote.now.start a (position_of window.now)) }
 {
     if at_marker(window) {
@@ -142,7 +142,8 @@ fn read_line<T: Iterator<Item = char>>(
     scalar: &mut Folding,
 ) -> Result<Part, Fault>
     requires some { c ≢ 0 }
-    requires here { Shows window.old 4 c }
+    requires here { Shows window.old 2 c }
+    requires marker { window.old.col ≡ 0 → 4 ≤ window.old.ahead }
     ensures { ReadsOn quote.now first window.old scalar.old result mode_of window.new scalar.new }
 {
     check_line(window, quote)?;
@@ -159,7 +160,8 @@ fn read_in_gap<T: Iterator<Item = char>>(
     scalar: &mut Folding,
 ) -> Result<Part, Fault>
     requires some { c ≢ 0 }
-    requires here { Shows window.old 4 c }
+    requires here { Shows window.old 2 c }
+    requires marker { window.old.col ≡ 0 → 4 ≤ window.old.ahead }
     ensures { ReadsOn quote.now gap window.old scalar.old result mode_of window.new scalar.new }
 {
     if is_break(c) || is_blank(c) {
@@ -178,7 +180,8 @@ fn read_after<T: Iterator<Item = char>>(
     scalar: &mut Folding,
 ) -> Result<Part, Fault>
     requires some { c ≢ 0 }
-    requires here { Shows window.old 4 c }
+    requires here { Shows window.old 2 c }
+    requires marker { window.old.col ≡ 0 → 4 ≤ window.old.ahead }
     ensures { ReadsOn quote.now after window.old scalar.old result mode_of window.new scalar.new }
 {
     if c == quote_of(quote.single) {
@@ -232,7 +235,7 @@ fn read_part<T: Iterator<Item = char>>(
     requires { part ≢ Part.Closed }
     ensures { ReadsOn quote.now (mode_of part) window.old scalar.old result mode_of window.new scalar.new }
 {
-    window.lookahead(4);
+    look_ahead(window);
     let c = window.ch();
     if c == '\0' {
         return Err(Fault::At(Problem::QuotedEnd, quote.start));
