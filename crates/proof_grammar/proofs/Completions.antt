@@ -1,9 +1,9 @@
 -- Where each goal of a table can be read to an end, all work can.
 use Rattle.std.proofs.Common.{◌≡◌, List, [], ◌∷◌, ◌++◌, refl, ap, subst}
 use Rattle.defs_grammar.specs.Table.{Part, Table, Work, reading, saying, part_work, before, Derives, nothing_left, says, by_taking, by_leaving}
-use Rattle.proof_grammar.specs.Outcome.{GoesOn}
+use Rattle.proof_grammar.specs.Outcome.{Begins}
 
-before_along : {G T E H : Type 0} (a : Table G T E H) (h : H) (t : T) (ps : List (Part G E)) (w v : List (Work G E H)) → before a h t ps w ++ v ≡ before a h t ps (w ++ v)
+pub before_along : {G T E H : Type 0} (a : Table G T E H) (h : H) (t : T) (ps : List (Part G E)) (w v : List (Work G E H)) → before a h t ps w ++ v ≡ before a h t ps (w ++ v)
 before_along a h t [] w v = refl
 before_along a h t (p ∷ ps) w v = ap (λ l. part_work a h t p ∷ l) (before_along a h t ps w v)
 
@@ -22,7 +22,7 @@ along a (reading g h ∷ w) v (t ∷ ts) us es fs (by_leaving ps p d) c =
 abbrev pub Completes : {G T E H : Type 0} → Table G T E H → Type 0
 Completes {G = G} {T = T} {E = E} {H = H} a = (g : G) (h : H) → (ts : List T) × (es : List E) × Derives a (reading g h ∷ []) ts es
 
-pub all_complete : {G T E H : Type 0} (a : Table G T E H) → Completes a → (w : List (Work G E H)) → GoesOn a w []
+pub all_complete : {G T E H : Type 0} (a : Table G T E H) → Completes a → (w : List (Work G E H)) → Begins a w [] []
 all_complete a c [] = ([], [], nothing_left)
 all_complete a c (saying e ∷ w) = let r = all_complete a c w in (r.0, e ∷ r.1, says r.2)
 all_complete a c (reading g h ∷ w) =

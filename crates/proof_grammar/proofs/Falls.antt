@@ -68,15 +68,15 @@ grammar_falls g t ps h = falls_here weight (weight g) (cases g) t ps (goal_falls
 
 -- ---- goals complete: each is read to its end by these tokens
 
-abbrev text : Tok
+abbrev pub text : Tok
 text = Tok.scalar Style.plain []
 
 -- a scalar, and in a block mapping what ends it
-abbrev after_text : Place → List Tok
+abbrev pub after_text : Place → List Tok
 after_text (in_pair s) = Tok.block_end ∷ []
 after_text _ = []
 
-abbrev shortest : Goal → List Tok
+abbrev pub shortest : Goal → List Tok
 shortest stream = Tok.stream_start ∷ Tok.stream_end ∷ []
 shortest directives = Tok.document_start ∷ text ∷ Tok.stream_end ∷ []
 shortest (node p) = text ∷ after_text p
@@ -94,7 +94,7 @@ shortest block_mapping_entries = Tok.block_end ∷ []
 shortest block_mapping_value = Tok.block_end ∷ []
 shortest _ = Tok.stream_end ∷ []
 
-abbrev Ends : Goal → Held → Type 0
+abbrev pub Ends : Goal → Held → Type 0
 Ends g h = (es : List Raw) × Derives grammar (reading g h ∷ []) (shortest g) es
 
 content_ends : (p : Place) (h : Held) → Ends (content p) h
@@ -103,7 +103,7 @@ content_ends in_block h = (_, by_taking _ refl (says nothing_left))
 content_ends (in_pair key) h = (_, by_taking _ refl (says (by_leaving _ refl (says (by_taking _ refl (says nothing_left))))))
 content_ends (in_pair value) h = (_, by_taking _ refl (says (by_taking _ refl (says nothing_left))))
 
-ends : (g : Goal) (h : Held) → Ends g h
+pub ends : (g : Goal) (h : Held) → Ends g h
 ends stream h = (_, by_taking _ refl (says (by_leaving _ refl (by_taking _ refl (says nothing_left)))))
 ends documents h = (_, by_leaving _ refl (by_taking _ refl (says nothing_left)))
 ends directives h = (_, by_taking _ refl (says (by_leaving _ refl (by_taking _ refl (says (by_leaving _ refl (says (by_taking _ refl (says nothing_left)))))))))

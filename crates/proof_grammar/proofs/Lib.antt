@@ -3,9 +3,11 @@ pub mod Derived
 pub mod Falls
 pub mod Included
 pub mod Meanings
+pub mod Mended
 pub mod Nests
 pub mod Next
 pub mod OneReading
+pub mod Refused
 pub mod Runs
 pub mod Steps
 pub mod Streams

@@ -45,7 +45,7 @@ part_weighs a m h t (say e) w = omega arith
 part_weighs a m h t show w = omega arith
 part_weighs a m h t empty w = omega arith
 
-parts_weigh : {G T E H : Type 0} (a : Table G T E H) (m : G → ℕ) (h : H) (t : T) (ps : List (Part G E)) (w : List (Work G E H)) → work_weight m (before a h t ps w) ≡ parts_weight m ps + work_weight m w
+pub parts_weigh : {G T E H : Type 0} (a : Table G T E H) (m : G → ℕ) (h : H) (t : T) (ps : List (Part G E)) (w : List (Work G E H)) → work_weight m (before a h t ps w) ≡ parts_weight m ps + work_weight m w
 parts_weigh a m h t [] w = omega arith
 parts_weigh a m h t (p ∷ ps) w = let i = parts_weigh a m h t ps w in let j = part_weighs a m h t p (before a h t ps w) in omega (arith, i, j)
 

@@ -9,11 +9,13 @@ use Rattle.defs_event.specs.Stream.{IsStream}
 use Rattle.defs_grammar.specs.Machine.{Outcome, reads, unfinished, stops}
 use Rattle.defs_grammar.specs.Grammar.{grammar}
 use Rattle.defs_grammar.specs.Stream.{whole_stream, StreamSays, HasEvents, weight, read_stream}
-use Rattle.proof_grammar.specs.Outcome.{GoesOn, IsRight}
+use Rattle.proof_grammar.specs.Outcome.{Begins, IsRight}
 use Rattle.proof_grammar.specs.Laws.{IsDerived, IsBegun, IsDerivations}
 use Rattle.proof_grammar.proofs.Runs.{run_is_right}
 use Rattle.proof_grammar.proofs.OneReading.{one_reading}
+use Rattle.proof_grammar.proofs.Refused.{IsInStep}
 use Rattle.proof_grammar.proofs.Falls.{grammar_falls, grammar_completes}
+use Rattle.proof_grammar.proofs.Mended.{is_bottom, grammar_keeps, starts_in_step}
 use Rattle.proof_grammar.proofs.Included.{derived_says}
 use Rattle.proof_grammar.proofs.Derived.{says_derived}
 
@@ -39,10 +41,10 @@ pub table_reading : (tokens : List Tok) (raws others : List Raw) → StreamSays 
 table_reading tokens raws others x y = one_reading grammar whole_stream tokens raws others x y
 
 pub stream_outcome : (tokens : List Tok) → IsRight grammar whole_stream tokens (read_stream tokens)
-stream_outcome tokens = run_is_right grammar weight grammar_falls grammar_completes whole_stream tokens
+stream_outcome tokens = run_is_right grammar weight (IsInStep is_bottom) grammar_falls grammar_completes grammar_keeps whole_stream tokens starts_in_step
 
-begun : (tokens : List Tok) → GoesOn grammar whole_stream tokens → IsBegun tokens
-begun tokens x = let d = says_derived (tokens ++ x.0) x.1 x.2 in (d.0, x.0, d.1)
+begun : (tokens : List Tok) (raws : List Raw) → Begins grammar whole_stream tokens raws → IsBegun tokens raws
+begun tokens raws x = let d = says_derived (tokens ++ x.0) (raws ++ x.1) x.2 in (d.0, x.0, x.1, d.1, d.2)
 
 -- tokens of a derivation are read
 read_back : (d : Documents) (tokens : List Tok) → stream_tokens d ≡ tokens → StreamSays tokens (stream_events d)
@@ -50,14 +52,14 @@ read_back d tokens p = of_derived tokens (stream_events d) (d, p, refl)
 
 as_derivations : (tokens : List Tok) (o : Outcome Tok Raw) → IsRight grammar whole_stream tokens o → IsDerivations tokens o
 as_derivations tokens (reads raws) x = says_derived tokens raws x
-as_derivations tokens (unfinished raws) x = (begun tokens x.0, λ d p. x.1 (stream_events d) (read_back d tokens p))
+as_derivations tokens (unfinished raws) x = (begun tokens raws x.0, λ d p. x.1 (stream_events d) (read_back d tokens p))
 as_derivations tokens (stops raws unread) x = record {
   seen = x.seen;
   bad = x.bad;
   after = x.after;
   is_unread = x.is_unread;
   are_all = x.are_all;
-  begun = begun x.seen x.goes_on;
+  begun = begun x.seen raws x.begins;
   none = λ d more p. x.never more (stream_events d) (read_back d (x.seen ++ (x.bad ∷ more)) p);
 }
 

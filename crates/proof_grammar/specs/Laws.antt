@@ -31,25 +31,26 @@ TableHasOneReading = (tokens : List Tok) (raws others : List Raw) → StreamSays
 abbrev pub OutcomesAreRight : Type 0
 OutcomesAreRight = (tokens : List Tok) → IsRight grammar whole_stream tokens (read_stream tokens)
 
--- a derivation begins with these tokens
-abbrev pub IsBegun : List Tok → Type 0
-IsBegun tokens = (d : Documents) × (more : List Tok) × (stream_tokens d ≡ tokens ++ more)
+-- A derivation begins with these tokens, and what it says with these events.
+abbrev pub IsBegun : List Tok → List Raw → Type 0
+IsBegun tokens raws = (d : Documents) × (more : List Tok) × (others : List Raw) × (stream_tokens d ≡ tokens ++ more) × (stream_events d ≡ raws ++ others)
 
--- The unread tokens begin with the first token with which no derivation goes on.
-pub record IsRefused (tokens unread : List Tok) : Type 0 where
+-- The unread tokens begin with the first token with which no derivation goes on. Before it, a derivation begins with the tokens and
+-- with the events that were said.
+pub record IsRefused (tokens : List Tok) (raws : List Raw) (unread : List Tok) : Type 0 where
   pub seen : List Tok
   pub bad : Tok
   pub after : List Tok
   pub is_unread : unread ≡ bad ∷ after
   pub are_all : tokens ≡ seen ++ unread
-  pub begun : IsBegun seen
+  pub begun : IsBegun seen raws
   pub none : (d : Documents) (more : List Tok) → stream_tokens d ≡ seen ++ (bad ∷ more) → ⊥
 
 -- what an outcome says of derivations
 abbrev pub IsDerivations : List Tok → Outcome Tok Raw → Type 0
 IsDerivations tokens (reads raws) = IsDerived tokens raws
-IsDerivations tokens (unfinished raws) = IsBegun tokens × ((d : Documents) → stream_tokens d ≡ tokens → ⊥)
-IsDerivations tokens (stops raws unread) = IsRefused tokens unread
+IsDerivations tokens (unfinished raws) = IsBegun tokens raws × ((d : Documents) → stream_tokens d ≡ tokens → ⊥)
+IsDerivations tokens (stops raws unread) = IsRefused tokens raws unread
 
 -- `outcomes_are_the_derivations`
 abbrev pub OutcomesAreTheDerivations : Type 0

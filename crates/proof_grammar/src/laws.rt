@@ -21,14 +21,15 @@ pub fn table_has_one_reading()
 {}
 
 /// What the table's machine says of a list of tokens is so: they are a stream with these events; or they are none, but a stream
-/// begins with them; or the machine stopped at the first token with which no stream goes on.
+/// begins with them and with these events; or the machine stopped at the first token with which no stream goes on, and a stream
+/// begins with the tokens before it and with these events.
 #[tactic(auto, using(crate::proofs::Streams::stream_outcome))]
 pub fn outcomes_are_right()
     ensures { OutcomesAreRight }
 {}
 
-/// The same of derivations: a derivation has these tokens; or none has, but one begins with them; or the machine stopped at the
-/// first token with which none goes on.
+/// The same of derivations: one has these tokens and says these events; or none has, but one begins with them; or the machine
+/// stopped at the first token with which none goes on.
 #[tactic(auto, using(crate::proofs::Streams::derivations_outcome))]
 pub fn outcomes_are_the_derivations()
     ensures { OutcomesAreTheDerivations }
