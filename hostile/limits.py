@@ -3,8 +3,9 @@
 
 usage: limits.py [--bytes N] [--only SHAPE]
 
-Each shape of bench/hostile.py, of hostile/deep.py and of this file is loaded, and then used: compared, hashed, shown, dumped, laid over
-itself and copied. A line tells the result, the time and the memory. The last line says whether any of them ended the program by a signal.
+Each shape of bench/hostile.py, of hostile/deep.py and of this file is made as long as fits. It is loaded, and then used: compared, hashed,
+shown, dumped, laid over itself and copied. A line tells the result, the time and the memory. The last line says whether any of them
+ended the program by a signal.
 Build the static library first: `cd crates/yamlbench && rt lib`.
 """
 import argparse, os, resource, subprocess, sys, tempfile, time
@@ -27,7 +28,15 @@ def doubled(width, levels, opening, closing):
     return "\n".join(lines) + "\n"
 
 
-# Texts of about n bytes.
+def aliased(n, item, size, levels):
+    """An array of such items, below so many levels as many aliases of it as the limits allow, and a comment."""
+    count = n // 2 // (len(item) + 2)
+    aliases = 20 * n // (1 + count * size) - 3
+    text = "- &a [" + (item + ", ") * count + "]\n" + levels + "- [" + "*a, " * aliases + "]\n"
+    return text + "#" * (n - len(text))
+
+
+# Texts of about n bytes. Those that are called 'within' are built to load, and to come near the limits.
 OURS = {
     "two deep keys": lambda n: "? " + "- " * (n // 4) + "x\n: 1\n? " + "- " * (n // 4) + "y\n: 2\n",
     "a deep key twice": lambda n: "? " + "- " * (n // 4) + "x\n: 1\n? " + "- " * (n // 4) + "x\n: 2\n",
@@ -46,19 +55,45 @@ OURS = {
     "many tags of a long prefix": lambda n: "%TAG !e! tag:" + "x" * (n // 2) + "\n---\n" + "- !e!a b\n" * (n // 18),
     "keys with one digest": lambda n: "".join("? [%d]\n: v\n" % i for i in range(n // 13)),
     "single pairs": lambda n: "[" + ":," * (n // 2) + "]\n",
+    "aliases of nulls, within": lambda n: aliased(n, "~", 2, ""),
+    "aliases of empty hashes, within": lambda n: aliased(n, "{}", 1, ""),
+    "aliases of pairs, within": lambda n: aliased(n, "{:}", 3, ""),
+    "aliases of arrays in arrays, within": lambda n: aliased(n, "[[[[[]]]]]", 5, ""),
+    "the same under 200 levels, within": lambda n: aliased(n, "[[[[[]]]]]", 5, "- " * 200),
+    "aliases of nulls under 200 levels, within": lambda n: aliased(n, "~", 2, "- " * 200),
+    "deep keys, within": lambda n: "".join("? " + "[" * 250 + "%d" % i + "]" * 250 + "\n: v\n" for i in range(n // 510)),
     "escapes in a key twice": lambda n: '? "' + "\\0" * (n // 5) + '"\n: 1\n? "' + "\\0" * (n // 5) + '"\n: 2\n',
 }
 
 
-def shapes(most):
-    for name, make in OURS.items():
-        yield name, make(most)
-    for name, make in hostile.SHAPES.items():
-        n = 50
-        while len(make(n * 2)) <= most:
-            n *= 2
-        yield name, make(n)
-    yield "29 lines of `[*a, *a]`", deep.DOUBLED
+def longest(make, most):
+    """The longest text of a shape that has at most so many bytes."""
+    low, high = 0, 1
+    while len(make(high)) <= most and high < 64 * most:
+        low, high = high, 2 * high
+    while high - low > 1:
+        middle = (low + high) // 2
+        low, high = (middle, high) if len(make(middle)) <= most else (low, middle)
+    return make(low)
+
+
+def all_shapes():
+    yield from OURS.items()
+    yield from hostile.SHAPES.items()
+    for deed, (_, make) in deep.DEEDS.items():
+        for kind, level in deep.LEVELS.items():
+            yield "to %s: %s" % (deed, kind), lambda n, make=make, level=level: make(level * n)
+    yield "29 lines of `[*a, *a]`", lambda n: deep.DOUBLED
+
+
+def texts(most):
+    """Each shape with its longest text, without a text that was there already."""
+    seen = set()
+    for name, make in all_shapes():
+        text = longest(make, most)
+        if text not in seen:
+            seen.add(text)
+            yield name, text
 
 
 def limited():
@@ -84,23 +119,23 @@ def main():
     a = p.parse_args()
     if not os.path.exists(bench.LIBRARY):
         sys.exit("limits.py: no static library: cd crates/yamlbench && rt lib")
-    ended = texts = 0
+    ended = count = 0
     with tempfile.TemporaryDirectory() as directory:
         kit = os.path.dirname(subprocess.run(["rt", "doc"], capture_output=True, text=True, check=True).stdout.split()[0])
         program = os.path.join(directory, "limits")
         subprocess.run(["gcc", "-O2", "-o", program, os.path.join(HERE, "limits.c"), bench.LIBRARY, os.path.join(kit, "c", "liblibc_c.a")], check=True)
         path = os.path.join(directory, "text")
-        for name, text in shapes(a.bytes):
+        for name, text in texts(a.bytes):
             if a.only and a.only != name:
                 continue
-            texts += 1
+            count += 1
             with open(path, "w") as f:
                 f.write(text)
             for deed in ("load", "use"):
                 result, seconds, megabytes = run(program, path, deed)
                 ended += result.startswith("ENDED")
                 print("%-36s %6d bytes  %-4s %6.2f s %4d MB  %s" % (name, len(text), deed, seconds, megabytes, result), flush=True)
-    print("%d texts; %s" % (texts, "none ended the program" if not ended else "%d runs ENDED the program" % ended))
+    print("%d texts; %s" % (count, "none ended the program" if not ended else "%d runs ENDED the program" % ended))
     return bool(ended)
 
 
