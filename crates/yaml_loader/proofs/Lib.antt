@@ -1,3 +1,4 @@
+pub mod Agreement
 pub mod AliasLemmas
 pub mod GoOnAlike
 pub mod KeyText

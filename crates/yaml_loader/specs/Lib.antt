@@ -1,3 +1,4 @@
+pub mod Agreement
 pub mod Alike
 pub mod Gives
 pub mod Laws

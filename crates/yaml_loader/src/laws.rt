@@ -1,6 +1,9 @@
 //! Laws of the definitions, each the contract of an empty function.
 
+ghost use Rattle.yaml_loader.specs.Agreement.{OneAnswer, OneListOfPulledEvents, OneListOfPushedEvents};
 ghost use Rattle.yaml_loader.specs.Laws.{AlikeLoadersShowTheSame, AlikeLoadersGoOnAlike, EventsAreReadAsDefined, TakenTextsAreLoaded, TakenEventsAreRead, RefusedTextsWantMemory};
+
+use yaml_parser::MarkedEventReceiver;
 
 /// Loaders that are alike have the same documents, and return the same fault.
 #[tactic(auto, using(crate::proofs::GoOnAlike::show_the_same))]
@@ -34,4 +37,22 @@ pub fn taken_events_are_read()
 /// An empty loader that is handed the events of a text refuses one only if memory was refused.
 pub fn refused_texts_want_memory()
     ensures { RefusedTextsWantMemory }
+{}
+
+/// For one text, two answers that keep the clause `of_row` of a load have the same documents if both are `Ok`, whoever
+/// gave them.
+#[tactic(auto, using(crate::proofs::Agreement::one_answer))]
+pub fn one_answer()
+    ensures { OneAnswer }
+{}
+
+/// Two parsers that have read the same text to its end, with the same setting, have read the same events.
+pub fn one_list_of_pulled_events()
+    ensures { OneListOfPulledEvents }
+{}
+
+/// Two loads of the same text by parsers at their start, with the same setting, have pushed the same events if both are
+/// `Ok`, whatever their receivers are.
+pub fn one_list_of_pushed_events<R: MarkedEventReceiver, S: MarkedEventReceiver>()
+    ensures { OneListOfPushedEvents R.takes S.takes }
 {}

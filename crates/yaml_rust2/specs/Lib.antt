@@ -72,6 +72,7 @@ pub use Rattle.proof_loads.specs.Cuts
 pub use Rattle.proof_loads.specs.Spelled
 pub use Rattle.proof_loads.specs.TextReadAs
 pub use Rattle.proof_loads.specs.TextEvents
+pub use Rattle.yaml_loader.specs.Agreement
 pub use Rattle.yaml_loader.specs.Loading
 pub use Rattle.yaml_loader.specs.Gives
 pub use Rattle.yaml_loader.specs.Loads as DocumentsLoaded

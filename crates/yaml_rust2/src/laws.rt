@@ -104,4 +104,7 @@ pub use yaml_emitter::laws::laid_out;
 pub use yaml_loader::laws::alike_loaders_go_on_alike;
 pub use yaml_loader::laws::alike_loaders_show_the_same;
 pub use yaml_loader::laws::events_are_read_as_defined;
+pub use yaml_loader::laws::one_answer;
+pub use yaml_loader::laws::one_list_of_pulled_events;
+pub use yaml_loader::laws::one_list_of_pushed_events;
 pub use yaml_tree::laws::equal_trees_hash_alike;

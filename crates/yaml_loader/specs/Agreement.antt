@@ -1,0 +1,46 @@
+-- Laws of two loads of one text, and of two parsers of one text: each is the contract of the function of `src/laws.rt` that its comment names.
+use Rattle.std.specs.Prelude.{◌≡◌, ℕ, Bool, true, List, Result, Ok, IfOk, Vec}
+use Rattle.std.specs.declared.alloc.Global.{Global}
+use Rattle.defs_text.specs.Position.{Position}
+use Rattle.defs_event.specs.Event.{Ev}
+use Rattle.defs_event.specs.Stream.{events_of}
+use Rattle.yaml_tokens.specs.ErrorReport.{ErrorReport}
+use Rattle.yaml_tree.specs.View.{items_view}
+use Rattle.yaml_tree.specs.declared.yaml.Yaml.{Yaml}
+use Rattle.yaml_scanner.specs.Scanned.{ScansIn}
+use Rattle.yaml_parser.specs.Parsed.{Parsed, read}
+use Rattle.yaml_parser.specs.Follows.{IsWhole}
+use Rattle.yaml_parser.specs.Loads.{Loads, Receives}
+use Rattle.proof_row.specs.Meaning.{Means}
+use Rattle.proof_loads.specs.TextReadAs.{IsAtStart}
+
+-- An answer is of the text's row: if it is `Ok`, its documents are what the text means by the definitions alone. It is the clause `of_row` of a load.
+abbrev pub IsOfRow : (keep_tags : Bool) → (text : List ℕ) → Result (Vec Yaml Global) ErrorReport → Type 0
+IsOfRow keep_tags text answer = IfOk answer (λ documents. Means keep_tags text (items_view documents.items))
+
+-- If both answers are `Ok`, their documents are the same trees.
+abbrev pub Agree : (one other : Result (Vec Yaml Global) ErrorReport) → Type 0
+Agree (Ok ones) (Ok others) = items_view ones.items ≡ items_view others.items
+Agree one other = Unit {0}
+
+-- `one_answer`: whoever gave them
+abbrev pub OneAnswer : Type 0
+OneAnswer = (keep_tags : Bool) (text : List ℕ) (one other : Result (Vec Yaml Global) ErrorReport) → IsOfRow keep_tags text one → IsOfRow keep_tags text other → Agree one other
+
+-- `one_list_of_pulled_events`; two parsers that have read a text to its end
+abbrev pub OneListOfPulledEvents : Type 0
+OneListOfPulledEvents = (p q : Parsed) (text : List ℕ) → p.keep_tags ≡ q.keep_tags → ScansIn text p.scanner → ScansIn text q.scanner → IsWhole p → IsWhole q → events_of (read p) ≡ events_of (read q)
+
+-- Two receivers took events, and these are the same.
+pub record TookTheSame {R S : Type 0} (takes : R → Ev → Position → Result (Unit {0}) ErrorReport → R → Type 0) (r r' : R) (others : S → Ev → Position → Result (Unit {0}) ErrorReport → S → Type 0) (s s' : S) : Type 0 where
+  pub events : List (Ev × Position)
+  pub other_events : List (Ev × Position)
+  pub took : Receives takes r events r'
+  pub other_took : Receives others s other_events s'
+  pub same : events_of events ≡ events_of other_events
+
+-- `one_list_of_pushed_events`, for each two kinds of receivers: two loads of a text by parsers at their start, both `Ok`
+abbrev pub OneListOfPushedEvents : {R S : Type 0} → (R → Ev → Position → Result (Unit {0}) ErrorReport → R → Type 0) → (S → Ev → Position → Result (Unit {0}) ErrorReport → S → Type 0) → Type 0
+OneListOfPushedEvents {R} {S} takes others =
+    (p p' q q' : Parsed) (r r' : R) (s s' : S) (text : List ℕ) → IsAtStart p → IsAtStart q → p.keep_tags ≡ q.keep_tags → ScansIn text p'.scanner → ScansIn text q'.scanner
+    → Loads takes true p r (Ok tt) p' r' → Loads others true q s (Ok tt) q' s' → TookTheSame takes r r' others s s'
