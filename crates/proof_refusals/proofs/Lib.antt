@@ -1,0 +1,11 @@
+pub mod Carried
+pub mod Faults
+pub mod Fetches
+pub mod Indicators
+pub mod KeptKeys
+pub mod Nodes
+pub mod Places
+pub mod Plains
+pub mod Refusals
+pub mod Spaces
+pub mod TokensKeep

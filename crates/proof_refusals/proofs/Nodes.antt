@@ -1,0 +1,136 @@
+-- Faults of names, tags and scalars: no such piece begins with the text.
+use Rattle.std.proofs.Common.{◌≡◌, ℕ, ◌≤◌, List, [], ◌∷◌, ◌++◌, Bool, true, false, not, ◌==◌, if◌then◌else◌, Result, Ok, Err, ap, sym, ◌∙◌, subst, arith}
+use Rattle.std.proofs.lemmas.Bool.{and_parts}
+use Rattle.defs_text.specs.Classes.{is_nul}
+use Rattle.defs_text.specs.Position.{Position}
+use Rattle.defs_text.specs.Text.{is_empty, has_no_nul}
+use Rattle.defs_scalar.specs.BlockScalar.{BlockStyle, literal, folded}
+use Rattle.yaml_tokens.specs.declared.problem.Fault.{Fault}
+use Rattle.yaml_tokens.specs.declared.problem.Fault.TheVariants.{At}
+use Rattle.yaml_tokens.specs.declared.problem.Problem.{Problem}
+use Rattle.yaml_tokens.specs.declared.problem.Problem.TheVariants as problem
+use Rattle.model_lexers.specs.declared.context.SkipTabs.TheVariants.{Yes}
+use Rattle.model_lexers.specs.Machine.{Read, past}
+use Rattle.model_lexers.specs.Block.{Block, block}
+use Rattle.model_lexers.specs.Anchor.{anchor_name}
+use Rattle.model_lexers.specs.Tag as tags
+use Rattle.model_lexers.specs.Quoted.{quoted}
+use Rattle.model_scanner.specs.State.{ScannerState, peek, in_flow}
+use Rattle.model_scanner.specs.Document.{node_start, context, fetch_anchor, fetch_tag, fetch_flow_scalar, fetch_block_scalar, may_follow_quoted, check_after_quoted}
+use Rattle.proof_lexers.specs.NameEnds.{NameEndsAs, named, nameless}
+use Rattle.proof_lexers.specs.TagEnds as tag_ends
+use Rattle.proof_lexers.specs.TagEnds.{TagEndsAs, IsTagRefusal}
+use Rattle.proof_lexers.specs.QuotedEnds as quoted_ends
+use Rattle.proof_lexers.specs.QuotedEnds.{QuotedEndsAs, IsQuotedRefusal}
+use Rattle.proof_lexers.specs.HeaderEnds as headers
+use Rattle.proof_lexers.specs.HeaderEnds.{HeaderEndsAs, indicator_of, is_in_line}
+use Rattle.proof_lexers.specs.BlockEnds as block_ends
+use Rattle.proof_lexers.specs.BlockEnds.{BlockEndsAs}
+use Rattle.proof_lexers.specs.BlockScan as scan
+use Rattle.proof_lexers.specs.BlockScan.{is_literal_style}
+use Rattle.proof_lexers.proofs.Properties.Names.{names_end}
+use Rattle.proof_lexers.proofs.Properties.Tags.{tags_end}
+use Rattle.proof_lexers.proofs.Quoted.ScanEnds.{scans_end}
+use Rattle.proof_lexers.proofs.Blocks.Ends as blocks
+use Rattle.proof_cut.proofs.Pieces.Quoted.{some_chars}
+use Rattle.proof_row_sound.specs.Choices.{outside_key}
+use Rattle.proof_row_sound.specs.Arrives.{Arrives}
+use Rattle.proof_refusals.specs.NoPiece as none
+use Rattle.proof_refusals.specs.NoPiece.{NoPiece}
+use Rattle.proof_refusals.specs.Stuck.{IsStuck, no_piece}
+use Rattle.proof_refusals.proofs.Faults.{Faults, fault, goes, read, in_turn}
+use Rattle.proof_refusals.proofs.Spaces.{spaces_told, passing_told}
+use Rattle.proof_refusals.proofs.Places.{IsCarried, Told, stuck, in_flow_is}
+
+-- what may stand after a quoted scalar
+after_quoted_told : (text : List ℕ) (line : ℕ) (t : ScannerState) → Faults (Told text) (check_after_quoted line t)
+unfolding check_after_quoted
+after_quoted_told text line t = in_turn (spaces_told text Yes t) (λ u e. by u (may_follow_quoted (in_flow u.held) (line == u.held.position.line) (peek u.rest)))
+  where
+    by : (u : ScannerState) (b : Bool) → Faults (Told text) (if b then Ok u else Err (At problem.ContentAfterQuoted u.held.position))
+    by u true = goes
+    by u false = fault {f = At problem.ContentAfterQuoted u.held.position} (λ h. absurd (cc h))
+
+module _ (text : List ℕ) (t : ScannerState) (a : Arrives text t) (some : is_empty t.rest ≡ false) (carried : is_empty t.held.flow ≡ false → IsCarried text (outside_key a.base.entries t.held.keys)) where
+  -- where no piece begins the text is stuck
+  pub none_begins : (why : Problem) (at : Position) → t.held.position.line ≤ at.line → NoPiece (in_flow t.held) t.held.position t.rest why at → IsStuck text why at
+  none_begins why at later n = stuck text t a some carried [] why at later (λ c may. no_piece (subst (λ b. NoPiece b t.held.position t.rest why at) (sym (in_flow_is text t a some carried c [])) n))
+
+  pub none_here : (why : Problem) → NoPiece (in_flow t.held) t.held.position t.rest why t.held.position → IsStuck text why t.held.position
+  none_here why n = none_begins why t.held.position (omega arith) n
+
+  -- `*` or `&`
+  pub name_told : (alias : Bool) (more : List ℕ) → t.rest ≡ (if alias then 42 else 38) ∷ more → Faults (Told text) (fetch_anchor alias t)
+  unfolding fetch_anchor
+  name_told alias more e = read (node_start t.held) (anchor_name t.rest t.held.position) _ (λ f k. by f (anchor_name ((if alias then 42 else 38) ∷ more) t.held.position) (ap (λ r. anchor_name r t.held.position) (sym e) ∙ k) (names_end (if alias then 42 else 38) more t.held.position)) (λ x k. goes)
+    where
+      by : (f : Fault) (x : Result (Read (List ℕ)) Fault) → x ≡ Err f → NameEndsAs t.held.position more x → Told text f
+      by f x i (named name rest cut is ends j) = absurd (cc (i, j))
+      by f x i (nameless lacks j) = let same : At problem.AnchorName t.held.position ≡ f = cc (i, j) in subst (λ g. Told text g) same (λ _. none_here problem.AnchorName (none.nameless alias more e lacks))
+
+  -- `!`
+  pub tag_told : (more : List ℕ) → t.rest ≡ 33 ∷ more → Faults (Told text) (fetch_tag t)
+  unfolding fetch_tag
+  tag_told more e =
+      read (node_start t.held) (tags.tag (in_flow t.held) t.rest t.held.position) _
+      (λ f k. by f (tags.tag (in_flow t.held) (33 ∷ more) t.held.position) (ap (λ r. tags.tag (in_flow t.held) r t.held.position) (sym e) ∙ k) (tags_end (in_flow t.held) more t.held.position)) (λ x k. goes)
+    where
+      by : (f : Fault) (x : Result (Read tags.Tag) Fault) → x ≡ Err f → TagEndsAs (in_flow t.held) t.held.position more x → Told text f
+      by f x i (tag_ends.reads piece rest handle suffix cut is follows j) = absurd (cc (i, j))
+      by f x i (tag_ends.refuses why reason j) = let same : At why t.held.position ≡ f = cc (i, j) in subst (λ g. Told text g) same (λ _. none_here why (none.tagless more why e reason))
+
+  -- `'` or `"`
+  quoted_refused : (single : Bool) (more : List ℕ) → t.rest ≡ none.quote_of single ∷ more → (f : Fault) → IsQuotedRefusal single (context (node_start t.held)) t.held.position more f → Told text f
+  quoted_refused single more e f (quoted_ends.by_marker body rest cut has marks) = λ _. none_here problem.QuotedDocumentMarker (none.unquoted single more problem.QuotedDocumentMarker e (none.by_marker body rest cut has marks))
+  quoted_refused single more e f (quoted_ends.by_end has) = λ _. none_here problem.QuotedEnd (none.unquoted single more problem.QuotedEnd e (none.by_end has))
+  quoted_refused single more e f (quoted_ends.by_escape body rest why double cut has bad) = λ _. none_here why (none.unquoted single more why e (none.by_escape body rest why double cut has bad))
+  quoted_refused single more e f (quoted_ends.by_column p left) = λ h. absurd (cc h)
+  quoted_refused single more e f (quoted_ends.by_tab p left) = λ h. absurd (cc h)
+
+  pub quoted_told : (single : Bool) (more : List ℕ) → t.rest ≡ none.quote_of single ∷ more → Faults (Told text) (fetch_flow_scalar single t)
+  unfolding fetch_flow_scalar
+  quoted_told single more e =
+      read (node_start t.held) (quoted single (context (node_start t.held)) t.rest t.held.position) _
+      (λ f k. by f (quoted single (context (node_start t.held)) (none.quote_of single ∷ more) t.held.position) (ap (λ r. quoted single (context (node_start t.held)) r t.held.position) (sym e) ∙ k)
+      (scans_end single (context (node_start t.held)) more t.held.position (some_chars more clean)))
+      (λ x k. in_turn (after_quoted_told text t.held.position.line _) (λ v i. in_turn (passing_told text v) (λ w j. goes)))
+    where
+      clean : has_no_nul more ≡ true
+      clean = (and_parts (not (is_nul (none.quote_of single))) (has_no_nul more) (subst (λ r. has_no_nul r ≡ true) e a.is_clean)).1
+
+      by : (f : Fault) (x : Result (Read (List ℕ)) Fault) → x ≡ Err f → QuotedEndsAs single (context (node_start t.held)) t.held.position more x → Told text f
+      by f x i (quoted_ends.reads body rest value position cut is ends j) = absurd (cc (i, j))
+      by f x i (quoted_ends.refuses g why j) = let same : g ≡ f = cc (i, j) in subst (λ g. Told text g) same (quoted_refused single more e g why)
+
+  -- `|` or `>`
+  header_told : (style : BlockStyle) (line after : List ℕ) → t.rest ≡ indicator_of style ∷ (line ++ after) → is_in_line line ≡ true → headers.ends_line after ≡ true → is_empty t.held.flow ≡ true → (g : Fault) → HeaderEndsAs t.held.position style line after (Err g) → Told text g
+  header_told style line after e inline ends out g (headers.reads h is free j) = absurd (cc j)
+  header_told style line after e inline ends out g (headers.tabbed h is begins j) = let same : At problem.BlockScalarTab t.held.position ≡ g = cc j in subst (λ f. Told text f) same (λ h. absurd (cc h))
+  header_told style line after e inline ends out g (headers.zero_digit lacks zero j) =
+      let same : At problem.BlockScalarZero t.held.position ≡ g = cc j in
+      subst (λ f. Told text f) same (λ _. none_here problem.BlockScalarZero (none.headless style line after problem.BlockScalarZero t.held.position (ap not out) e inline ends lacks (none.by_zero zero)))
+  header_told style line after e inline ends out g (headers.comment h before more lacks is cut j) =
+      let same : At problem.CommentNotSeparated (headers.along before (past t.held.position)) ≡ g = cc j in subst (λ f. Told text f) same (λ h. absurd (cc h))
+  header_told style line after e inline ends out g (headers.no_header lacks j) =
+      let same : At problem.BlockScalarHeader t.held.position ≡ g = cc j in
+      subst (λ f. Told text f) same (λ _. none_here problem.BlockScalarHeader (none.headless style line after problem.BlockScalarHeader t.held.position (ap not out) e inline ends lacks none.by_text))
+
+  block_refused : (style : BlockStyle) (indent : ℕ) (more : List ℕ) → t.rest ≡ indicator_of style ∷ more → is_empty t.held.flow ≡ true → (f : Fault) → block (is_literal_style style) indent t.rest t.held.position ≡ Err f → Told text f
+  block_refused style indent more e out f k =
+      by (block (is_literal_style style) indent (indicator_of style ∷ more) t.held.position) (ap (λ r. block (is_literal_style style) indent r t.held.position) (sym e) ∙ k) (blocks.scans_end style indent more t.held.position (some_chars more clean))
+    where
+      clean : has_no_nul more ≡ true
+      clean = (and_parts (not (is_nul (indicator_of style))) (has_no_nul more) (subst (λ r. has_no_nul r ≡ true) e a.is_clean)).1
+
+      by : (x : Result (Read Block) Fault) → x ≡ Err f → BlockEndsAs style indent t.held.position more x → Told text f
+      by x i (block_ends.bad_header line after g cut inline ends why j) =
+          let same : g ≡ f = cc (i, j) in
+          subst (λ h. Told text h) same (header_told style line after (e ∙ ap (λ r. indicator_of style ∷ r) cut) inline ends out g why)
+      by x i (block_ends.scalar piece next b cut is looks (scan.read free deep j)) = absurd (cc (i, j))
+      by x i (block_ends.scalar piece next b cut is looks (scan.shallow free low j)) = let same : At problem.BlockScalarIndentation (scan.further_position t.held.position piece next) ≡ f = cc (i, j) in subst (λ g. Told text g) same (λ h. absurd (cc h))
+      by x i (block_ends.scalar piece next b cut is looks (scan.tabbed tab j)) = let same : At problem.BlockScalarTab t.held.position ≡ f = cc (i, j) in subst (λ g. Told text g) same (λ h. absurd (cc h))
+
+  pub block_told : (literal : Bool) (more : List ℕ) → t.rest ≡ (if literal then 124 else 62) ∷ more → is_empty t.held.flow ≡ true → Faults (Told text) (fetch_block_scalar literal t)
+  unfolding fetch_block_scalar
+  block_told true more e out = read _ (block true _ t.rest t.held.position) _ (λ f k. block_refused literal _ more e out f k) (λ x k. goes)
+  block_told false more e out = read _ (block false _ t.rest t.held.position) _ (λ f k. block_refused folded _ more e out f k) (λ x k. goes)

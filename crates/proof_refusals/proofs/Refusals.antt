@@ -1,0 +1,116 @@
+-- Where the scanner's model refuses a text with a fault of a kind that is told, the text is stuck.
+use Rattle.std.proofs.Common.{◌≡◌, ℕ, ◌+◌, List, Bool, true, false, Option, Result, Ok, refl, ap, sym, ◌∙◌, subst}
+use Rattle.std.specs.Prelude.{map}
+use Rattle.std.specs.List.{list_any}
+use Rattle.defs_text.specs.Text.{is_empty, has_no_nul}
+use Rattle.yaml_tokens.specs.declared.problem.Fault.{Fault}
+use Rattle.yaml_tokens.specs.declared.problem.Fault.TheVariants.{At}
+use Rattle.yaml_tokens.specs.declared.problem.Problem.TheVariants as problem
+use Rattle.model_scanner.specs.State.{Key, Held, ScannerState, in_flow, on_held}
+use Rattle.model_scanner.specs.Keys.{is_overdue, still, drop_stale, with_keys, stale}
+use Rattle.model_scanner.specs.Indents.{unroll_indent}
+use Rattle.model_scanner.specs.Document.{fetch_stream_start}
+use Rattle.model_scanner.specs.Fetch.{fetch_next, fetch}
+use Rattle.model_scanner.specs.Run.{start, Reaches, here, there}
+use Rattle.model_scanner.proofs.Holds.{held_of, both_hold}
+use Rattle.proof_cut.proofs.Fetched.{Came, starts, came}
+use Rattle.proof_cut.proofs.Passes.{to_token}
+use Rattle.proof_row_sound.specs.Stands.{Stands, Fares, begins, goes, over, FetchKeeps}
+use Rattle.proof_row_sound.proofs.Fetches.{fetch_keeps}
+use Rattle.proof_row_sound.proofs.Runs.{reached}
+use Rattle.proof_row_sound.proofs.Sound.{each_keeps}
+use Rattle.proof_row_sound.proofs.ToToken.{passed_stands}
+use Rattle.proof_row_sound.specs.Choices.{outside_key}
+use Rattle.proof_refusals.specs.Stuck.{IsStuck}
+use Rattle.proof_refusals.specs.Told.{RefusedTextsAreStuck}
+use Rattle.proof_refusals.proofs.Carried.{Arrived, outside_of, stale_arrives, Carries, carries_on}
+use Rattle.proof_refusals.proofs.Faults as faults
+use Rattle.proof_refusals.proofs.Faults.{Faults, fault_is, in_turn, tried, either}
+use Rattle.proof_refusals.proofs.Fetches.{here_told}
+use Rattle.proof_refusals.proofs.KeptKeys.{last_key}
+use Rattle.proof_refusals.proofs.Places.{IsCarried, Told, not_told}
+use Rattle.proof_refusals.proofs.Spaces.{passing_told}
+
+-- ---- a fetch
+
+keys_told : {text : List ℕ} (s : Held) {r : Result (List (Option Key)) Fault} → Faults (Told text) r → Faults (Told text) (with_keys s r)
+keys_told s (faults.fault p) = faults.fault p
+keys_told s faults.goes = faults.goes
+
+stale_told : (text : List ℕ) (s : Held) → Faults (Told text) (stale s)
+unfolding stale drop_stale
+stale_told text s = either (in_flow s) (λ _. faults.goes) (λ _. keys_told s (not_told text (list_any (is_overdue s.position) s.keys) problem.KeyWithoutColon s.position (map (still s.position) s.keys) refl))
+
+next_told : (text : List ℕ) (t : ScannerState) → Stands text t → Carries text t → Faults (Told text) (fetch_next t)
+unfolding fetch_next
+next_told text t s carries =
+    in_turn (passing_told text t) (λ u e.
+    let a = held_of u (both_hold (passed_stands text t s) (to_token t)) e in
+    in_turn (tried u (stale_told text u.held)) (λ v f.
+    let b : Arrived text t (on_held (λ h. unroll_indent (h.position.col + 1) h) v) = held_of v (stale_arrives text t u a.0.0 a.0.1 a.1.passed) f in
+    in_turn (here_told text (on_held (λ h. unroll_indent (h.position.col + 1) h) v) b.arrives (λ left some. carried (on_held (λ h. unroll_indent (h.position.col + 1) h) v) b left some)) (λ w g.
+    tried w (stale_told text w.held))))
+  where
+    carried : (v : ScannerState) (b : Arrived text t v) → is_empty v.rest ≡ false → is_empty v.held.flow ≡ false → IsCarried text (outside_key b.arrives.base.entries v.held.keys)
+    carried v b left some = by (is_empty t.held.flow) refl
+      where
+        last_is : outside_key b.arrives.base.entries v.held.keys ≡ last_key v.held.keys
+        last_is = outside_of v.held.key_allowed _ v.held.flow v.held.keys b.arrives.base.entries b.arrives.are_entries b.arrives.one_each
+
+        by : (f : Bool) → is_empty t.held.flow ≡ f → IsCarried text (outside_key b.arrives.base.entries v.held.keys)
+        by true f = absurd (cc (b.keeps.outside f, some))
+        by false f = subst (λ o. IsCarried text o) (sym (last_is ∙ b.keeps.inside f some)) (carries s.going f (b.cut left))
+
+fetch_told : (text : List ℕ) (t : ScannerState) → Stands text t → Carries text t → Faults (Told text) (fetch t)
+unfolding fetch
+fetch_told text t s carries = either t.held.started (λ _. next_told text t s carries) (λ n. absurd (cc (n, s.started)))
+
+-- ---- a run
+
+kept : FetchKeeps
+kept = fetch_keeps each_keeps
+
+first_fetch : (text : List ℕ) → fetch (start text) ≡ Ok (fetch_stream_start (start text))
+unfolding fetch
+first_fetch text = refl
+
+begins_outside : (text : List ℕ) → is_empty (fetch_stream_start (start text)).held.flow ≡ true
+unfolding fetch_stream_start
+begins_outside text = refl
+
+-- What is known of a state of a run.
+record Known (text : List ℕ) (t : ScannerState) : Type 0 where
+  comes : Came text t
+  fares : Fares text t
+  carries : Carries text t
+
+known_next : (text : List ℕ) → has_no_nul text ≡ true → (t u : ScannerState) → t.held.ended ≡ false → fetch t ≡ Ok u → Known text t → Known text u
+known_next text nul t u going e k = record { comes = came text nul t u (there going e here) k.comes; fares = next; carries = λ on some left. by k.fares next on some left }
+  where
+    next : Fares text u
+    next = reached kept text nul t u (there going e here) k.comes k.fares
+
+    by : Fares text t → Fares text u → Carries text u
+    by (begins b) f on some left =
+        let same : Ok (fetch_stream_start (start text)) ≡ Ok u = sym (first_fetch text) ∙ (ap fetch (sym b) ∙ e) in
+        let state : fetch_stream_start (start text) ≡ u = cc same in
+        absurd (cc (some, ap (λ x. is_empty x.held.flow) state, begins_outside text))
+    by (goes s) (goes r) on some left = carries_on text t u s e r k.carries on some left
+    by (goes s) (begins b) on some left = absurd (cc (some, ap (λ x. is_empty x.held.flow) b))
+    by (goes s) (over f r) on some left = absurd (cc (on, f))
+    by (over f r) n on some left = absurd (cc (going, f))
+
+known_on : (text : List ℕ) → has_no_nul text ≡ true → (t u : ScannerState) → Reaches t u → Known text t → Known text u
+known_on text nul t u here k = k
+known_on text nul t u (there {u = v} going e run) k = known_on text nul v u run (known_next text nul t v going e k)
+
+pub refused_texts_are_stuck : RefusedTextsAreStuck
+refused_texts_are_stuck text why at nul r told = by k.fares
+  where
+    k : Known text r.last
+    k = known_on text nul (start text) r.last r.run (record { comes = starts refl; fares = begins refl; carries = λ on some left. absurd (cc some) })
+
+    by : Fares text r.last → IsStuck text why at
+    by (begins b) = absurd (cc (sym (first_fetch text) ∙ (ap fetch (sym b) ∙ r.refused)))
+    by (goes s) = (fault_is (At why at) (fetch_told text r.last s k.carries) r.refused) told
+    by (over f n) = absurd (cc (f, r.going))

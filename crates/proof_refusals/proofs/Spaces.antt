@@ -1,0 +1,38 @@
+-- Faults of what is passed between pieces.
+use Rattle.std.proofs.Common.{◌≡◌, ℕ, List, Result, Err, sym, subst}
+use Rattle.defs_text.specs.Position.{Position}
+use Rattle.yaml_tokens.specs.declared.problem.Fault.{Fault}
+use Rattle.yaml_tokens.specs.declared.problem.Fault.TheVariants.{At}
+use Rattle.yaml_tokens.specs.declared.problem.Problem.TheVariants as problem
+use Rattle.model_lexers.specs.declared.context.SkipTabs.{SkipTabs}
+use Rattle.model_lexers.specs.declared.context.Whitespace.{Whitespace}
+use Rattle.model_lexers.specs.Machine.{Read}
+use Rattle.model_lexers.specs.Space.{space}
+use Rattle.model_scanner.specs.State.{ScannerState}
+use Rattle.model_scanner.specs.Space.{between, skip, skip_to_next_token, skip_spaces}
+use Rattle.proof_lexers.specs.Separations.{PassesAs, passes, refuses, SpacesAs, spaces, glued}
+use Rattle.proof_lexers.proofs.Separation.Separations.{separations_are_passed}
+use Rattle.proof_lexers.proofs.Separation.Spaces.{spaces_are_passed}
+use Rattle.proof_refusals.proofs.Faults.{Faults, fault, goes, read}
+use Rattle.proof_refusals.proofs.Places.{Told}
+
+-- on the way to the next token
+pub passing_told : (text : List ℕ) (t : ScannerState) → Faults (Told text) (skip_to_next_token t)
+unfolding skip_to_next_token
+passing_told text t = by (skip between t.rest t.held) (separations_are_passed t.held t.rest)
+  where
+    by : (x : Result ScannerState Fault) → PassesAs t.held t.rest x → Faults (Told text) x
+    by x (passes leading separation rest cut fills solid e) = subst (λ y. Faults (Told text) y) (sym e) goes
+    by x (refuses before blanks rest cut fills left are begins e) = subst (λ y. Faults (Told text) y) (sym e) (fault (λ h. absurd (cc h)))
+
+-- over blanks and a comment in a line
+pub space_told : (text : List ℕ) (tabs : SkipTabs) (more : List ℕ) (p : Position) (f : Fault) → space tabs more p ≡ Err f → Told text f
+space_told text tabs more p f k = by (space tabs more p) k (spaces_are_passed tabs more p)
+  where
+    by : (x : Result (Read Whitespace) Fault) → x ≡ Err f → SpacesAs tabs p more x → Told text f
+    by x i (spaces blanks comment rest cut are fills line ends e) = absurd (cc (i, e))
+    by x i (glued begins e) = let same : At problem.CommentNotSeparated p ≡ f = cc (i, e) in subst (λ g. Told text g) same (λ h. absurd (cc h))
+
+pub spaces_told : (text : List ℕ) (tabs : SkipTabs) (t : ScannerState) → Faults (Told text) (skip_spaces tabs t)
+unfolding skip_spaces
+spaces_told text tabs t = read t.held (space tabs t.rest t.held.position) _ (λ f k. space_told text tabs t.rest t.held.position f k) (λ x k. goes)

@@ -1,0 +1,3 @@
+pub mod NoPiece
+pub mod Stuck
+pub mod Told

@@ -1,0 +1,79 @@
+-- Texts with which no piece begins, and what is wrong with each. YAML 1.2, sections 5.3 (indicators), 5.6, 5.7 (escapes), 6.8 (directives), 6.9 (properties), 7.3 (flow scalars), 8.1 (block scalars).
+use Rattle.std.specs.Prelude.{◌≡◌, ℕ, List, [], ◌∷◌, ◌++◌, Bool, true, false, ◌==◌, nat_le, nat_lt, if◌then◌else◌, Option, Some, None}
+use Rattle.defs_text.specs.Breaks.{has_no_break}
+use Rattle.defs_text.specs.Position.{Position, position_after}
+use Rattle.defs_scalar.specs.BlockScalar.{BlockStyle, header_of}
+use Rattle.defs_scalar.specs.BlockScalar as block
+use Rattle.defs_scalar.specs.Directives.{directive_of}
+use Rattle.defs_token.specs.Piece.{goes_on_with_name}
+use Rattle.defs_token.specs.Plain.{inside, after_blank, on_line, begins_flow, goes_on}
+use Rattle.defs_token.specs.Separation.{is_blanks}
+use Rattle.defs_row.specs.Column.{innermost}
+use Rattle.defs_row.specs.Indentation.{least_column}
+use Rattle.yaml_tokens.specs.declared.problem.Fault.TheVariants.{At}
+use Rattle.yaml_tokens.specs.declared.problem.Problem.{Problem}
+use Rattle.yaml_tokens.specs.declared.problem.Problem.TheVariants as problem
+use Rattle.model_lexers.specs.Machine.{past}
+use Rattle.proof_lexers.specs.DirectiveEnds.{IsDirectiveRefusal}
+use Rattle.proof_lexers.specs.DirectiveEnds as directives
+use Rattle.proof_lexers.specs.HeaderEnds.{indicator_of, is_in_line, has_zero}
+use Rattle.proof_lexers.specs.HeaderEnds as headers
+use Rattle.proof_lexers.specs.PlainEnds.{begins_solid, stand_after, is_apart}
+use Rattle.proof_lexers.specs.QuotedEnds.{HasElements, IsBadEscape}
+use Rattle.proof_lexers.specs.QuotedScan.{has_marker}
+use Rattle.proof_lexers.specs.TagEnds.{IsTagRefusal}
+
+-- the quote of a style
+abbrev pub quote_of : (single : Bool) → ℕ
+quote_of single = if single then 39 else 34
+
+-- the indicator of a name
+abbrev pub name_mark : (alias : Bool) → ℕ
+name_mark alias = if alias then 42 else 38
+
+-- Why no quoted scalar begins with a quote and this text: a document marker begins a line inside; no closing quote follows; or an escape is none.
+pub data IsNotQuoted (single : Bool) (text : List ℕ) : Problem → Type 0 where
+  by_marker : (body rest : List ℕ) → text ≡ body ++ rest → HasElements single body → has_marker body rest ≡ true → IsNotQuoted single text problem.QuotedDocumentMarker
+  by_end : HasElements single text → IsNotQuoted single text problem.QuotedEnd
+  by_escape : (body rest : List ℕ) (why : Problem) → single ≡ false → text ≡ body ++ 92 ∷ rest → HasElements single body → IsBadEscape rest why → IsNotQuoted single text why
+
+-- Why no block scalar begins with an indicator in this column and this line: its digit is 0; a comment comes right after a header; or other text stands there.
+pub data IsNoHeader (style : BlockStyle) (here : Position) (line : List ℕ) : Problem → Position → Type 0 where
+  by_zero : has_zero line ≡ true → IsNoHeader style here line problem.BlockScalarZero here
+  by_comment : (h : block.Header) (before text : List ℕ) → header_of (indicator_of style ∷ before) ≡ Some h → line ≡ before ++ 35 ∷ text → IsNoHeader style here line problem.CommentNotSeparated (headers.along before (past here))
+  by_text : IsNoHeader style here line problem.BlockScalarHeader here
+
+-- What is wrong with a text at a position, in flow or outside, with which no piece begins; and where the fault is.
+pub data NoPiece (in_flow : Bool) (here : Position) (rest : List ℕ) : Problem → Position → Type 0 where
+  -- `%` anywhere but in column 0, and the reserved indicators
+  percent : (more : List ℕ) → rest ≡ 37 ∷ more → (here.col == 0) ≡ false → NoPiece in_flow here rest problem.UnexpectedPercent here
+  at_sign : (more : List ℕ) → rest ≡ 64 ∷ more → NoPiece in_flow here rest problem.UnexpectedAt here
+  backtick : (more : List ℕ) → rest ≡ 96 ∷ more → NoPiece in_flow here rest problem.UnexpectedBacktick here
+  -- `&` or `*` without a name
+  nameless : (alias : Bool) (more : List ℕ) → rest ≡ name_mark alias ∷ more → goes_on_with_name more ≡ false → NoPiece in_flow here rest problem.AnchorName here
+  -- `!` and no tag
+  tagless : (more : List ℕ) (why : Problem) → rest ≡ 33 ∷ more → IsTagRefusal in_flow more why → NoPiece in_flow here rest why here
+  -- a quote and no quoted scalar
+  unquoted : (single : Bool) (more : List ℕ) (why : Problem) → rest ≡ quote_of single ∷ more → IsNotQuoted single more why → NoPiece in_flow here rest why here
+  -- outside flow `|` or `>` and a line that is no header
+  headless : (style : BlockStyle) (line after : List ℕ) (why : Problem) (at : Position) → in_flow ≡ false → rest ≡ indicator_of style ∷ (line ++ after) → is_in_line line ≡ true → headers.ends_line after ≡ true
+      → header_of (indicator_of style ∷ line) ≡ None → IsNoHeader style here line why at → NoPiece in_flow here rest why at
+  -- `%` in column 0 and a line that is no directive
+  undirected : (line next : List ℕ) (why : Problem) (at : Position) → here.col ≡ 0 → rest ≡ 37 ∷ (line ++ next) → has_no_break line ≡ true → directives.ends_line next ≡ true
+      → directive_of (37 ∷ line) ≡ None → IsDirectiveRefusal here line (At why at) → NoPiece in_flow here rest why at
+
+-- ---- plain scalars
+
+-- whether a plain scalar that begins with a text's first character goes on over all of the text
+abbrev pub goes_over : (in_flow : Bool) → (collection : Option ℕ) → (text next : List ℕ) → Bool
+goes_over in_flow collection [] next = true
+goes_over in_flow collection (c ∷ r) next = goes_on in_flow collection inside r next
+
+-- What is wrong with a plain scalar that begins with a text at a position, in a block collection or none: in flow it begins left of the column of a value; in flow a dash stands before a flow indicator, at the start or after a blank or a break;
+-- or a later line of it begins with a TAB before the column of a value, and holds more than blanks.
+pub data IsPlainFault (in_flow : Bool) (collection : List ℕ) (here : Position) (text : List ℕ) : Problem → Position → Type 0 where
+  by_column : in_flow ≡ true → nat_le (least_column collection true) here.col ≡ false → IsPlainFault in_flow collection here text problem.FlowIndentation here
+  by_dash : (before rest : List ℕ) → in_flow ≡ true → text ≡ before ++ 45 ∷ rest → begins_flow rest ≡ true → goes_over in_flow (innermost collection) before (45 ∷ rest) ≡ true → is_apart (stand_after after_blank before) ≡ true
+      → IsPlainFault in_flow collection here text problem.PlainDashInFlow (position_after here before (45 ∷ rest))
+  by_tab : (before blanks rest : List ℕ) (column : ℕ) → text ≡ before ++ 9 ∷ (blanks ++ rest) → goes_over in_flow (innermost collection) before (9 ∷ (blanks ++ rest)) ≡ true → stand_after after_blank before ≡ on_line column
+      → nat_lt column (least_column collection true) ≡ true → is_blanks blanks ≡ true → begins_solid rest ≡ true → IsPlainFault in_flow collection here text problem.PlainTab here

@@ -1,0 +1,63 @@
+-- Where a text is refused, and why, by the definitions alone: a row may begin with all pieces up to a place, and there no step goes on.
+use Rattle.std.specs.Prelude.{◌≡◌, ℕ, ◌<◌, ◌≤◌, List, ◌∷◌, Bool, true, false, ◌==◌, ◌&&◌, ◌⊎◌, nat_le, length, Option, Some}
+use Rattle.defs_text.specs.Classes.{is_at_gap, is_document_marker}
+use Rattle.defs_text.specs.Position.{Position}
+use Rattle.defs_token.specs.Account.{is_adjacent, before_past}
+use Rattle.defs_row.specs.Step.{gives_node}
+use Rattle.defs_row.specs.Column.{is_in_column}
+use Rattle.defs_row.specs.Indentation.{least_column}
+use Rattle.defs_row.specs.Key.{Line, free, waits, begins_free_line, line_past_separation}
+use Rattle.defs_row.specs.Account.{Site, Account, before_by, is_in_flow, site_in}
+use Rattle.defs_row.specs.Beginning.{Begins, IsPlace}
+use Rattle.yaml_tokens.specs.declared.problem.Problem.{Problem}
+use Rattle.yaml_tokens.specs.declared.problem.Problem.TheVariants as problem
+use Rattle.proof_lexers.specs.Separations.{begins_separation}
+use Rattle.proof_cut.specs.PiecesRead.{comes_plain}
+use Rattle.proof_refusals.specs.NoPiece.{NoPiece, IsPlainFault}
+
+-- ---- a place
+
+-- the site where a piece stands that is not for the document
+abbrev pub site_at_place : Account → (here : Position) → Site
+site_at_place a here = site_in (is_in_flow a.entries) gives_node here a.site
+
+-- whether an entry, a `?` or an empty key may begin outside flow after a separation
+abbrev pub is_free_line : Option Line → Bool
+is_free_line (Some free) = true
+is_free_line _ = false
+
+-- the same at a place
+abbrev pub may_begin : Account → (separation : List ℕ) → Bool
+may_begin a separation = is_free_line (line_past_separation false (begins_free_line a.site.before separation) a.line)
+
+-- whether a text is a line for the document: a marker or a directive, in column 0
+abbrev pub begins_document_at : Position → List ℕ → Bool
+begins_document_at here rest = (here.col == 0) && is_document_marker rest
+
+-- ---- pieces that may not stand at a place
+
+pub data MayNotStand (a : Account) (separation : List ℕ) (here : Position) (rest : List ℕ) : Problem → Position → Type 0 where
+  -- in flow a piece lies in the least column or deeper
+  shallow : is_in_flow a.entries ≡ true → begins_document_at here rest ≡ false → nat_le (least_column (site_at_place a here).blocks (site_at_place a here).awaits) here.col ≡ false
+      → MayNotStand a separation here rest problem.InvalidIndentation here
+  -- at most 255 flow collections are open
+  too_deep : (bracket : ℕ) (more : List ℕ) → rest ≡ bracket ∷ more → ((bracket ≡ 91) ⊎ (bracket ≡ 123)) → 255 ≤ length a.entries → MayNotStand a separation here rest problem.FlowTooDeep here
+  -- no entry of a block sequence begins in flow
+  dash_in_flow : (more : List ℕ) → rest ≡ 45 ∷ more → is_at_gap more ≡ true → is_in_flow a.entries ≡ true → MayNotStand a separation here rest problem.BlockEntryInFlow here
+  -- outside flow entries and explicit keys begin where a key may
+  dash_not_free : (more : List ℕ) → rest ≡ 45 ∷ more → is_at_gap more ≡ true → is_in_flow a.entries ≡ false → may_begin a separation ≡ false → MayNotStand a separation here rest problem.BlockEntryNotAllowed here
+  question_not_free : (more : List ℕ) → rest ≡ 63 ∷ more → is_at_gap more ≡ true → is_in_flow a.entries ≡ false → may_begin a separation ≡ false → MayNotStand a separation here rest problem.KeyNotAllowed here
+
+-- ---- all
+
+-- What is wrong at a place: no piece begins with the text there, or the plain scalar that begins there is none, or the piece that begins may not stand there.
+pub data Fails (a : Account) (separation : List ℕ) (here : Position) (rest : List ℕ) (why : Problem) (at : Position) : Type 0 where
+  no_piece : NoPiece (is_in_flow a.entries) here rest why at → Fails a separation here rest why at
+  no_plain : comes_plain (is_in_flow a.entries) (is_adjacent (before_past (before_by a.site.before) separation)) here.col rest ≡ true
+      → IsPlainFault (is_in_flow a.entries) (site_at_place a here).blocks here rest why at → Fails a separation here rest why at
+  may_not_stand : MayNotStand a separation here rest why at → Fails a separation here rest why at
+
+-- A text is stuck: a row may begin with all pieces up to a place, and what stands there fails. Or a row may begin so that a node which must be an implicit key waits for its colon, and the line has ended before the fault.
+pub data IsStuck (text : List ℕ) (why : Problem) (at : Position) : Type 0 where
+  fails : (a : Account) (separation rest : List ℕ) (here : Position) → IsPlace text a separation rest here → begins_separation rest ≡ false → Fails a separation here rest why at → IsStuck text why at
+  key_waits : (a : Account) (after : List ℕ) (begin : Position) → Begins text after a → a.line ≡ waits begin → is_in_column begin.col a.site.blocks ≡ true → begin.line < at.line → IsStuck text why at

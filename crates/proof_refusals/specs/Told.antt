@@ -1,0 +1,34 @@
+-- Which kinds of fault are told by the definitions, and what is stated of them.
+use Rattle.std.specs.Prelude.{◌≡◌, ℕ, List, Bool, true, false}
+use Rattle.defs_text.specs.Position.{Position}
+use Rattle.defs_text.specs.Text.{has_no_nul}
+use Rattle.yaml_tokens.specs.declared.problem.Fault.TheVariants.{At}
+use Rattle.yaml_tokens.specs.declared.problem.Problem.{Problem}
+use Rattle.yaml_tokens.specs.declared.problem.Problem.TheVariants as problem
+use Rattle.model_scanner.specs.Run.{IsRefused}
+use Rattle.proof_refusals.specs.Stuck.{IsStuck}
+
+-- whether a kind of fault is told: these are not
+abbrev pub is_told : Problem → Bool
+is_told problem.KeyWithoutColon = false
+is_told problem.KeyExpected = false
+is_told problem.TabInBlockIndentation = false
+is_told problem.TabAfterKey = false
+is_told problem.WhitespaceExpected = false
+is_told problem.CommentNotSeparated = false
+is_told problem.ContentAfterDocumentEnd = false
+is_told problem.AnchorIndentation = false
+is_told problem.TabAfterDash = false
+is_told problem.TabAfterColon = false
+is_told problem.ValueNotAllowed = false
+is_told problem.ColonMisplaced = false
+is_told problem.QuotedIndentation = false
+is_told problem.TabAsIndentation = false
+is_told problem.ContentAfterQuoted = false
+is_told problem.BlockScalarTab = false
+is_told problem.BlockScalarIndentation = false
+is_told _ = true
+
+-- `refused_texts_are_stuck`
+abbrev pub RefusedTextsAreStuck : Type 0
+RefusedTextsAreStuck = (text : List ℕ) (why : Problem) (at : Position) → has_no_nul text ≡ true → IsRefused text (At why at) → is_told why ≡ true → IsStuck text why at

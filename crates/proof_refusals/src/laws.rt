@@ -1,0 +1,9 @@
+//! Laws of refused texts, each the contract of an empty function.
+
+ghost use Rattle.proof_refusals.specs.Told.{RefusedTextsAreStuck};
+
+/// Where the scanner's model refuses a text without NUL with a fault of one of the kinds that are told, the text is stuck by
+/// the definitions alone: a row may begin with all pieces up to there, and the condition of this fault fails.
+pub fn refused_texts_are_stuck()
+    ensures { RefusedTextsAreStuck }
+{}
