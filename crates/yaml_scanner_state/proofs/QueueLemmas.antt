@@ -1,9 +1,8 @@
 -- Lemmas about the queue of tokens.
-use Rattle.std.proofs.Common.{◌≡◌, ℕ, ◌+◌, ◌-◌, min, Bool, true, false, ◌||◌, inl, inr, List, [], ◌∷◌, ◌++◌, map, length, take, drop, refl, ap, sym, ◌∙◌, append_assoc, arith, length-append, length-drop, ◌<◌, ◌≤◌, suc, Option, None}
-use Rattle.std.proofs.lemmas.List.{map-append, take-map, drop-map, take_min, take_all, drop_all, take-append-drop}
+use Rattle.std.proofs.Common.{◌≡◌, ℕ, ◌+◌, ◌-◌, Bool, true, false, ◌||◌, List, [], ◌∷◌, ◌++◌, map, length, take, drop, refl, ap, sym, ◌∙◌, append_assoc, arith, length-append, length-drop, ◌<◌, ◌≤◌, suc, Option, None}
+use Rattle.std.proofs.lemmas.List.{map-append, take-map, drop-map, take_all, drop_all, take-append-drop}
 use Rattle.std.proofs.lemmas.List.Edits.{insert-append_right}
 use Rattle.std.specs.List.{insert}
-use Rattle.std.proofs.lemmas.Bool.{cases_lt}
 use Rattle.yaml_tokens.specs.declared.token.Token.{Token}
 use Rattle.yaml_tokens.specs.Shown.{shown, tok_of}
 use Rattle.yaml_scanner_state.specs.Tokens.{is_end, has_end, end_at}
@@ -35,19 +34,6 @@ give_shown g h w v t e f = rw (e, f, map-append shown g (t ∷ [])) (append_asso
 
 pub give_len : (g h : List Token) (t : Token) → h ≡ g ++ t ∷ [] → length h ≡ length g + 1
 give_len g h t e = rw e (simp length-append refl)
-
-drop_min : {X : Type 0} (i : ℕ) (xs : List X) → drop (min i (length xs)) xs ≡ drop i xs
-drop_min i xs = elim (cases_lt i (length xs)) [
-  | inl within ↦ ap (λ n. drop n xs) (omega arith)
-  | inr past ↦ drop_all (min i (length xs)) xs (omega arith) ∙ sym (drop_all i xs (omega arith))
-]
-
-insert_min : {X : Type 0} (xs : List X) (i : ℕ) (x : X) → insert xs (min i (length xs)) x ≡ insert xs i x
-insert_min xs i x = rw (take_min i xs, drop_min i xs) refl
-
--- a position past the end is the end
-pub insert_min_shown : (g w v : List Token) (i : ℕ) (t : Token) → v ≡ insert w (min i (length w)) t → map shown g ++ map shown v ≡ insert (map shown g ++ map shown w) (length g + i) (shown t)
-insert_min_shown g w v i t e = insert_shown g w v i t (e ∙ insert_min w i t)
 
 or_true : (b : Bool) → b || true ≡ true
 or_true true = refl
@@ -116,10 +102,6 @@ pub end_last : (g w v : List Token) (t : Token) (p : Position) → shown t ≡ e
 end_last g w v t p end e = ap (λ (s : seen.Token). property_position s.tok s.position) (sym end) ∙ push_last g w v t e
 
 -- a position after all is the end
-pub insert_end : (w v : List Token) (i : ℕ) (t : Token) → i ≡ length w → v ≡ insert w i t → v ≡ w ++ t ∷ []
-insert_end w v i t e f = f ∙ rw (take_all i w (omega arith), drop_all i w (omega arith)) refl
-
--- nor does a position past that
 insert_past : (w : List Token) (i : ℕ) (t : Token) → length w ≤ i → insert w i t ≡ w ++ t ∷ []
 insert_past w i t h = rw (take_all i w h, drop_all i w h) refl
 

@@ -156,7 +156,6 @@ impl ImplicitKeys {
         ensures ok { OnOk result (self.new ≡ None ∷ self.old) }
         ensures err { OnErr result (self.new ≡ self.old) }
     {
-        self.levels.try_reserve(1)?;
         self.levels.push(None).map_err(|_| AllocError)
     }
 
@@ -195,6 +194,7 @@ impl ImplicitKeys {
     }
 
     /// Gives up all possible keys that began on an earlier line or too far back. An `Err` changes nothing.
+    #[inline(always)]
     pub fn drop_stale(&mut self, mark: Marker) -> Result<(), Fault>
         ensures ok { OnOk result ((g : ℕ) → drop_stale mark (seen g self.old) ≡ Ok (seen g self.new)) }
         ensures err { IfErr result (λ e. (g : ℕ) → drop_stale mark (seen g self.old) ≡ Err e) }
@@ -202,6 +202,15 @@ impl ImplicitKeys {
         if !any_stale(&self.levels, mark) {
             return Ok(());
         }
+        self.end_stale(mark)
+    }
+
+    // The same, where some key is stale.
+    #[inline(never)]
+    fn end_stale(&mut self, mark: Marker) -> Result<(), Fault>
+        ensures ok { OnOk result ((g : ℕ) → drop_stale mark (seen g self.old) ≡ Ok (seen g self.new)) }
+        ensures err { IfErr result (λ e. (g : ℕ) → drop_stale mark (seen g self.old) ≡ Err e) }
+    {
         if any_overdue(&self.levels, mark) {
             return Err(Fault::At(Problem::KeyWithoutColon, mark));
         }

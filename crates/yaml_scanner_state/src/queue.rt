@@ -98,7 +98,10 @@ impl Queue {
             self.waiting.push_back_reserved(token);
             return Ok(());
         }
-        self.waiting.insert(position, token).map_err(|_| AllocError)
+        if self.waiting.insert(position, token).is_err() {
+            return Err(AllocError);
+        }
+        Ok(())
     }
 
     /// Ends the stream. An `Err` changes nothing.

@@ -35,7 +35,6 @@ impl<X: Copy> Stack<X> {
         ensures ok { OnOk result (self.new ≡ item ∷ self.old) }
         ensures err { OnErr result (self.new ≡ self.old) }
     {
-        self.items.try_reserve(1)?;
         self.items.push(item).map_err(|_| AllocError)
     }
 
