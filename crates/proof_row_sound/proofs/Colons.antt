@@ -113,32 +113,44 @@ keyless_stands text more t a e allowed apart ind i ds columns_are levels awaits 
     here_free : a.line_here ≡ free
     here_free = line_free t.held.key_allowed t.rest a.line_here allowed a.line_is
 
+-- The levels after it: that of a mapping, if one begins, and one that no collection opens.
+pub record KeylessLevels (more : List ℕ) (t : ScannerState) : Type 0 where
+  pub mapping : RollsTo t.held.position.col None (token t.held.position Tok.block_mapping_start) (at_value more t [] (None ∷ [])) (roll_indent t.held.position.col None Tok.block_mapping_start t.held.position (at_value more t [] (None ∷ [])))
+  pub level : (let rolled = record (at_value more t [] (None ∷ [])) { indents = mapping.indents; indent = mapping.indent; tokens = with_mapping t } in OpensOne rolled (roll_one_col_indent rolled))
+
+pub keyless_levels : (more : List ℕ) (t : ScannerState) → AreLevels t.held.indent t.held.indents → IsDeep t.held → KeylessLevels more t
+keyless_levels more t levels deep =
+    let h : Held = at_value more t [] (None ∷ []) in
+    let r : RollsTo t.held.position.col None (token t.held.position Tok.block_mapping_start) h (roll_indent t.held.position.col None Tok.block_mapping_start t.held.position h) =
+    rolls_to t.held.position.col None Tok.block_mapping_start t.held.position h refl levels (first_not_right t.held.position.col t.held.indent t.held.indents levels deep) in
+    record {
+      mapping = r;
+      level = opens_one (record h { indents = r.indents; indent = r.indent; tokens = with_mapping t }) refl r.are_levels (some_levels r.indent r.indents (ap is_empty r.columns_are ∙ opened_some t.held.position.col (columns t.held.indent t.held.indents)));
+    }
+
 pub keyless_outside : (text more : List ℕ) (t : ScannerState) (a : ArrivesBy text t [] (None ∷ []) []) → t.rest ≡ 58 ∷ more → colon_may_precede more ≡ true → is_value_indicator false (is_adjacent (before_past (before_by a.site.before) a.separation)) more ≡ true → IsDeep t.held →
     Holds (Stands text) (value_by more t [] (None ∷ []))
 unfolding begin_keyless_value begin_keyless_mapping
 keyless_outside text more t a e apart ind deep =
     chained {P = λ w. (w ≡ record { rest = past_gap more; held = last }) × (t.held.key_allowed ≡ true)} (tried (record { rest = past_gap more; held = h }) _ begun (λ s d. (ap (λ y. record { rest = past_gap more; held = y }) d.0, d.1))) (λ w d.
-    went (subst (λ z. Stands text (on_held (push t.held.position Tok.value) z)) (sym d.0) (keyless_stands text more t a e d.1 apart ind o.indent o.indents (o.columns_are ∙ r.columns_are) o.are_levels o.awaits).stands))
+    went (subst (λ z. Stands text (on_held (push t.held.position Tok.value) z)) (sym d.0) (keyless_stands text more t a e d.1 apart ind k.level.indent k.level.indents (k.level.columns_are ∙ k.mapping.columns_are) k.level.are_levels k.level.awaits).stands))
   where
     h : Held
     h = at_value more t [] (None ∷ [])
 
-    r : RollsTo t.held.position.col None (token t.held.position Tok.block_mapping_start) h (roll_indent t.held.position.col None Tok.block_mapping_start t.held.position h)
-    r = rolls_to t.held.position.col None Tok.block_mapping_start t.held.position h refl a.are_levels (first_not_right t.held.position.col t.held.indent t.held.indents a.are_levels deep)
+    k : KeylessLevels more t
+    k = keyless_levels more t a.are_levels deep
 
     rolled : Held
-    rolled = record h { indents = r.indents; indent = r.indent; tokens = with_mapping t }
-
-    o : OpensOne rolled (roll_one_col_indent rolled)
-    o = opens_one rolled refl r.are_levels (some_levels r.indent r.indents (ap is_empty r.columns_are ∙ opened_some t.held.position.col (columns t.held.indent t.held.indents)))
+    rolled = record h { indents = k.mapping.indents; indent = k.mapping.indent; tokens = with_mapping t }
 
     last : Held
-    last = record rolled { indents = o.indents; indent = o.indent; key_allowed = true }
+    last = record rolled { indents = k.level.indents; indent = k.level.indent; key_allowed = true }
 
     begun : Holds (λ y. (y ≡ last) × (t.held.key_allowed ≡ true)) (begin_keyless_value t.held.position false h)
     begun =
-        chained {P = λ u. (u ≡ rolled) × (t.held.key_allowed ≡ true)} (checked (not t.held.key_allowed) (At problem.ValueNotAllowed t.held.position) (λ f. went (r.is_held, allowed t.held.key_allowed f))) (λ u d.
-        subst (λ y. Holds (λ z. (z ≡ last) × (t.held.key_allowed ≡ true)) (let v = roll_one_col_indent y in Ok (allow_key (not (in_flow v)) v))) (sym d.0) (went (ap (λ v. allow_key (not (in_flow v)) v) o.is_held, d.1)))
+        chained {P = λ u. (u ≡ rolled) × (t.held.key_allowed ≡ true)} (checked (not t.held.key_allowed) (At problem.ValueNotAllowed t.held.position) (λ f. went (k.mapping.is_held, allowed t.held.key_allowed f))) (λ u d.
+        subst (λ y. Holds (λ z. (z ≡ last) × (t.held.key_allowed ≡ true)) (let v = roll_one_col_indent y in Ok (allow_key (not (in_flow v)) v))) (sym d.0) (went (ap (λ v. allow_key (not (in_flow v)) v) k.level.is_held, d.1)))
       where
         allowed : (b : Bool) → not b ≡ false → b ≡ true
         allowed true f = refl
@@ -153,9 +165,7 @@ paired_level f = f
 
 pub paired_levels : (f : FlowLevel) (fs : List FlowLevel) → paired (f ∷ fs) ≡ paired_level f ∷ fs
 paired_levels InEntry fs = refl
-paired_levels Mapping fs = refl
-paired_levels Keyed fs = refl
-paired_levels InPair fs = refl
+paired_levels _ fs = refl
 
 -- the entry after it
 abbrev pub valued_entry : Entry → Entry
@@ -167,22 +177,18 @@ single_is f fs k e h = ap (λ x. takes_pair x e.pair) h.kind_is ∙ by f e.pair 
   where
     by : (f : FlowLevel) (p : Pair) → IsPairOf f p → takes_pair (kind_of f) p ≡ opens_pair (f ∷ fs)
     by Mapping p i = refl
-    by InEntry p i = rw i refl
-    by Keyed p i = rw i refl
-    by InPair p i = rw i refl
+    by _ p i = rw i refl
 
 pub valued_is : (f : FlowLevel) (k : Option Key) (e : Entry) → IsEntryOf f k e → IsEntryOf (paired_level f) None (valued_entry e)
 valued_is f k e h = record { kind_is = h.kind_is ∙ kind f; pair_is = subst (λ b. IsPairOf (paired_level f) (pair_past b gives_colon e.pair)) (sym (single_is f [] k e h)) (pair f e.pair h.pair_is); key_is = tt }
   where
     kind : (f : FlowLevel) → kind_of f ≡ kind_of (paired_level f)
     kind InEntry = refl
-    kind Mapping = refl
-    kind Keyed = refl
-    kind InPair = refl
+    kind _ = refl
 
     pair : (f : FlowLevel) (p : Pair) → IsPairOf f p → IsPairOf (paired_level f) (pair_past (opens_pair (f ∷ [])) gives_colon p)
-    pair Mapping p i = i
     pair InEntry p i = refl
+    pair Mapping p i = i
     pair Keyed p i = i
     pair InPair p i = i
 

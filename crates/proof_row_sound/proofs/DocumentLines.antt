@@ -217,22 +217,11 @@ had_settled : (again : Bool) (h : Had) → is_keyed h ≡ false → (kind : Flow
 had_settled again h k kind pair here xs = by again (takes_pair kind pair) h k
   where
     by : (again single : Bool) (h : Had) → is_keyed h ≡ false → with_had kind (pair_past single gives_marker pair) [] xs (had_after here single gives_marker false (renewed again gives_marker h)) ≡ Some (record { kind = kind; pair = pair; had = settled } ∷ xs)
-    by true true fresh k = refl
-    by true true filled k = refl
-    by true true settled k = refl
-    by true true (waits b) k = absurd (cc k)
-    by true false fresh k = refl
-    by true false filled k = refl
-    by true false settled k = refl
-    by true false (waits b) k = absurd (cc k)
-    by false true fresh k = refl
-    by false true filled k = refl
-    by false true settled k = refl
-    by false true (waits b) k = absurd (cc k)
-    by false false fresh k = refl
-    by false false filled k = refl
-    by false false settled k = refl
-    by false false (waits b) k = absurd (cc k)
+    by again single (waits b) k = absurd (cc k)
+    by true true _ k = refl
+    by true false _ k = refl
+    by false true _ k = refl
+    by false false _ k = refl
 
 -- no key's colon
 marker_past : (n : ℕ) (p : Position) (w : Step) (ws : List Step) (last : List ℕ) → act_of w.shown ≡ gives_marker → begun_by w.shown ≡ [] → colon_of n p (w ∷ ws) last ≡ colon_of n (past_step p w ws last) ws last

@@ -207,9 +207,7 @@ asked_level f = f
 
 pub asked_levels : (f : FlowLevel) (fs : List FlowLevel) → keyed (f ∷ fs) ≡ asked_level f ∷ fs
 asked_levels InEntry fs = refl
-asked_levels Mapping fs = refl
-asked_levels Keyed fs = refl
-asked_levels InPair fs = refl
+asked_levels _ fs = refl
 
 -- the entry after it
 abbrev pub asked_entry : Entry → Entry
@@ -220,31 +218,22 @@ asked_is f k e h = record { kind_is = h.kind_is ∙ kind f; pair_is = pair f e.p
   where
     kind : (f : FlowLevel) → kind_of f ≡ kind_of (asked_level f)
     kind InEntry = refl
-    kind Mapping = refl
-    kind Keyed = refl
-    kind InPair = refl
+    kind _ = refl
 
     pair : (f : FlowLevel) (p : Pair) → IsPairOf f p → IsPairOf (asked_level f) (pair_past (takes_pair e.kind e.pair) gives_question p)
     pair Mapping no_pair i = tt
     pair Mapping asked_pair i = tt
     pair Mapping single_pair i = absurd i
-    pair InEntry p i = rw i refl
-    pair Keyed p i = rw i refl
-    pair InPair p i = rw i refl
+    pair _ p i = rw i refl
 
 -- the entry is settled, whatever it has had
 pub settles : (here : Position) (again : Bool) (e : Entry) (xs : List Entry) → is_keyed e.had ≡ false → entries_past here again gives_question [] false e xs ≡ Some (asked_entry e ∷ xs)
 settles here again e xs h = ap (λ o. with_had e.kind (pair_past (takes_pair e.kind e.pair) gives_question e.pair) [] xs o) (by again e.had h)
   where
     by : (b : Bool) (x : Had) → is_keyed x ≡ false → had_after here (takes_pair e.kind e.pair) gives_question false (renewed b gives_question x) ≡ Some settled
-    by true fresh i = refl
-    by true filled i = refl
-    by true (waits p) i = absurd (cc i)
-    by true settled i = refl
-    by false fresh i = refl
-    by false filled i = refl
-    by false (waits p) i = absurd (cc i)
-    by false settled i = refl
+    by b (waits p) i = absurd (cc i)
+    by true _ i = refl
+    by false _ i = refl
 
 -- what the scanner holds after it
 abbrev pub question_within : ScannerState → (more : List ℕ) → ScannerState

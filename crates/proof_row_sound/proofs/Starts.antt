@@ -12,7 +12,7 @@ use Rattle.proof_row_sound.specs.Completes.{Completes}
 use Rattle.proof_row_sound.specs.Stands.{Stands}
 use Rattle.proof_row_sound.proofs.Completed.{completed_at_start}
 
-pub stream_started : (text : List ℕ) → has_no_nul text ≡ true → Stands text (fetch_stream_start (start text))
+unfoldable pub stream_started : (text : List ℕ) → has_no_nul text ≡ true → Stands text (fetch_stream_start (start text))
 unfolding fetch_stream_start
 stream_started text nul = record {
   base = first_account;

@@ -105,18 +105,9 @@ piece_account d n c cs may =
 
 -- where no key begins, it does not matter where a colon stands
 begun_alike : (single : Bool) (pair : Pair) (here p q own : Position) (k : Act) (h : Had) → begun_inside single pair here p own k false h ≡ begun_inside single pair here q own k false h
-begun_alike single pair here p q own gives_node h = refl
-begun_alike single pair here p q own gives_block_scalar h = refl
-begun_alike single pair here p q own gives_dash h = refl
-begun_alike single pair here p q own gives_question h = refl
-begun_alike single pair here p q own gives_colon fresh = refl
-begun_alike single pair here p q own gives_colon filled = refl
 begun_alike single pair here p q own gives_colon (waits b) = refl
-begun_alike single pair here p q own gives_colon settled = refl
-begun_alike single pair here p q own gives_comma h = refl
-begun_alike single pair here p q own gives_closing h = refl
-begun_alike single pair here p q own gives_marker h = refl
-begun_alike single pair here p q own gives_nothing h = refl
+begun_alike single pair here p q own gives_colon _ = refl
+begun_alike single pair here p q own _ h = refl
 
 abbrev SeenWith : Piece → List Level → Type 0
 SeenWith d levels = IsPiece (let a = seen (base d) (at d) d.separation in record a { levels = levels }) d.piece d.next None (shown_position (at d) d.piece d.tok d.next) d.tok

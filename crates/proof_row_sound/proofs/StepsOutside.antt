@@ -73,17 +73,9 @@ begun_alike : (deeper : Bool) (here p q : Position) (d : Piece) (x : Option Line
 begun_alike deeper here p q d x e = ap (λ y. begun_outside deeper here p (act_of d.tok) false y) e ∙ by (act_of d.tok) d.line_here
   where
     by : (k : Act) (l : Line) → begun_outside deeper here p k false (Some l) ≡ begun_outside deeper here q k false (Some l)
-    by gives_node l = refl
-    by gives_block_scalar l = refl
-    by gives_dash l = refl
-    by gives_question l = refl
-    by gives_colon free = refl
-    by gives_colon taken = refl
     by gives_colon (waits b) = refl
-    by gives_comma l = refl
-    by gives_closing l = refl
-    by gives_marker l = refl
-    by gives_nothing l = refl
+    by gives_colon _ = refl
+    by _ l = refl
 
 -- If the account before the piece is one of a row, with these tokens, then that after it is, with the tokens of the step after them.
 pub piece_completes : (text : List ℕ) (d : Piece) → IsHere d → Completes text (d.separation ++ (d.piece ++ d.next)) (before d) (λ ws last. d.tokens) → Completes text d.next (past d) (λ ws last. d.tokens ++ own_tokens d)
