@@ -1,10 +1,6 @@
 -- If each fetch reads a step of the row, the model gives a text that has a row the row's tokens.
-use Rattle.std.proofs.Common.{◌≡◌, ℕ, List, [], ◌∷◌, true, false, Result, Ok, inl, inr, refl, ap, ◌∙◌, subst, arith}
-use Rattle.defs_text.specs.Position.{first_position}
-use Rattle.defs_token.specs.Token.{stream_start}
+use Rattle.std.proofs.Common.{◌≡◌, ℕ, List, [], ◌∷◌, true, false, Result, Ok, refl, ap, ◌∙◌}
 use Rattle.defs_row.specs.Step.{Step, Row}
-use Rattle.defs_row.specs.Account.{first_account}
-use Rattle.defs_row.specs.Tokens.{put}
 use Rattle.defs_row.specs.Row.{HasRow, IsRead}
 use Rattle.yaml_tokens.specs.declared.problem.Fault.{Fault}
 use Rattle.model_scanner.specs.State.{ScannerState}
@@ -18,8 +14,7 @@ use Rattle.proof_cut.proofs.Fetched as cut
 use Rattle.proof_cut.proofs.Fetched.{Came, starts, fares, came}
 use Rattle.proof_row.proofs.OneRow.{one_reading}
 use Rattle.proof_row_sound.specs.Stands.{Stands}
-use Rattle.proof_row_sound.specs.Completes.{Completes}
-use Rattle.proof_row_sound.proofs.Completed.{completed_at_start}
+use Rattle.proof_row_sound.proofs.Starts.{stream_started}
 use Rattle.proof_row_sound.proofs.Sound.{tokens_are_of_a_row}
 use Rattle.proof_row_complete.specs.Goes.{Succeeds, went, Goes, FetchReads, IsComplete}
 
@@ -60,34 +55,11 @@ read_on each text nul (w ∷ ws) last t c g =
 
 -- ---- from the start
 
--- What holds after the stream's start (`Starts.stream_started`), with its base and separation in sight.
+-- after the stream's start
 row_begins : (text : List ℕ) → has_no_nul text ≡ true → (r : Row) → HasRow text r → Goes text r.steps r.last (fetch_stream_start (start text))
-unfolding fetch_stream_start
+unfolding fetch_stream_start stream_started
 row_begins text nul r h = record {
-  stands = record {
-    base = first_account;
-    separation = [];
-    is_clean = nul;
-    is_filled = refl;
-    position_is = refl;
-    blocks_are = refl;
-    awaits_is = refl;
-    are_levels = refl;
-    has_no_tabs = inr refl;
-    is_leading = λ e. absurd (cc e);
-    read_on = tt;
-    one_each = refl;
-    are_entries = tt;
-    line_is = (inl refl, refl, tt);
-    is_open = tt;
-    no_key = refl;
-    are_numbered = (tt, tt);
-    was_adjacent = λ e. absurd (cc e);
-    adjacent_before = omega arith;
-    started = refl;
-    going = refl;
-    completes = λ c cs may. subst (λ x. Completes text x first_account (λ ws last. put first_position stream_start ∷ [])) (whole_text text nul) (completed_at_start text);
-  };
+  stands = stream_started text nul;
   outside = false;
   inside = [];
   may = tt;

@@ -2,11 +2,12 @@
 use Rattle.std.proofs.Common.{◌≡◌, ℕ, List, [], ◌∷◌, ◌++◌, Bool, Option, Some, refl, ap, sym, ◌∙◌, subst, arith, ◌⊎◌, inl, inr}
 use Rattle.defs_row.specs.FlowEntry.{Entry}
 use Rattle.defs_row.specs.Step.{Step, spelled}
+use Rattle.defs_row.specs.Key.{Line}
 use Rattle.defs_row.specs.Account.{Account}
 use Rattle.defs_row.specs.Row.{IsRowFrom}
 use Rattle.model_scanner.specs.declared.level.FlowLevel.{FlowLevel}
-use Rattle.model_scanner.specs.State.{Key, ScannerState}
-use Rattle.proof_row_sound.specs.Choices.{line_by, outside_key, chosen, MayChoose}
+use Rattle.model_scanner.specs.State.{Key, ScannerState, pop}
+use Rattle.proof_row_sound.specs.Choices.{line_by, entry_by, entries_by, first_choice, outside_key, chosen, MayChoose}
 use Rattle.proof_row_sound.proofs.NodesOutside.{Outer}
 use Rattle.proof_row_sound.proofs.Sides.{with_entries, ArrivesBy, ArrivesOutside, ArrivesInside, arrives_by, StandsAt}
 use Rattle.proof_row_complete.specs.Goes.{Goes, GoesHere}
@@ -38,6 +39,20 @@ pub record GoesInside (text : List ℕ) (ws : List Step) (last : List ℕ) (t : 
   pub may : MayChoose outside (outside_key side.entries side.keys) t.held.position t.rest
   pub is_spelled : spelled ws last ≡ side.here.separation ++ t.rest
   pub is_row : IsRowFrom (Some (chosen outside inside (side.key ∷ side.keys) (with_entries side.here.site side.here.line (side.entry ∷ side.entries)))) ws last
+
+-- what may begin outside flow, the innermost entry and those around it, as the row has them
+abbrev pub line_in : {text : List ℕ} {ws : List Step} {last : List ℕ} {t : ScannerState} → GoesInside text ws last t → Line
+line_in g = line_by g.outside (outside_key g.side.entries g.side.keys) g.side.here.line
+
+abbrev pub entry_in : {text : List ℕ} {ws : List Step} {last : List ℕ} {t : ScannerState} → GoesInside text ws last t → Entry
+entry_in g = entry_by (first_choice g.inside) g.side.key g.side.entry
+
+abbrev pub around_in : {text : List ℕ} {ws : List Step} {last : List ℕ} {t : ScannerState} → GoesInside text ws last t → List Entry
+around_in g = entries_by (pop g.inside) g.side.keys g.side.entries
+
+-- their account
+abbrev pub account_in : {text : List ℕ} {ws : List Step} {last : List ℕ} {t : ScannerState} → GoesInside text ws last t → Account
+account_in g = with_entries g.side.here.site (line_in g) (entry_in g ∷ around_in g)
 
 -- One of these holds.
 pub goes_side : (text : List ℕ) (ws : List Step) (last : List ℕ) (t : ScannerState) → GoesHere text ws last t → GoesOutside text ws last t ⊎ GoesInside text ws last t

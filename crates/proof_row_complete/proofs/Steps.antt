@@ -12,7 +12,6 @@ use Rattle.defs_row.specs.Tokens.{shown_position}
 use Rattle.defs_row.specs.Row.{IsWritten, IsRowFrom}
 use Rattle.defs_text.specs.Text.{has_no_nul}
 use Rattle.proof_lexers.specs.Separations.{begins_separation}
-use Rattle.proof_ends.specs.Ends as ends
 use Rattle.proof_ends.specs.Ends.{ends_separation}
 use Rattle.proof_ends.proofs.Begins.{separations_end_before}
 use Rattle.proof_ends.proofs.Separations.{separations}

@@ -3,7 +3,7 @@ use Rattle.std.proofs.Common.{◌≡◌, ℕ, ◌+◌, ◌≤◌, List, [], ◌�
 use Rattle.std.proofs.lemmas.Bool.Decides.{nat_tests}
 use Rattle.defs_text.specs.Position.{Position}
 use Rattle.defs_token.specs.Token.{Tok}
-use Rattle.defs_row.specs.Step.{Step, spelled, Act, gives_node, gives_block_scalar, gives_dash, gives_question, gives_colon, gives_comma, gives_closing, gives_marker, gives_nothing, act_of, has_break}
+use Rattle.defs_row.specs.Step.{Step, spelled, Act, gives_node, gives_colon, act_of, has_break}
 use Rattle.defs_row.specs.Column.{is_in_column, opened}
 use Rattle.defs_row.specs.Key.{Line, free, taken, waits, is_waiting, is_near, begins_free_line, line_past_separation, line_past}
 use Rattle.defs_row.specs.FlowEntry.{Entry, begun_by, is_renewed, entries_past}
@@ -22,26 +22,13 @@ pub data Waited (begin here : Position) : Option Account → Type 0 where
 outside_by : (begin : Position) (s : Site) (piece : List ℕ) (t : Tok) (next : List ℕ) (must : Bool) (act : Act) (key : Bool) → Waited begin s.position (past_outside s piece t next (line_past must s.position s.blocks act key (waits begin)))
 outside_by begin s piece t next must gives_node true = none
 outside_by begin s piece t next must gives_node false = still refl (omega (arith, index_after s.position piece next))
-outside_by begin s piece t next must gives_block_scalar true = none
-outside_by begin s piece t next must gives_block_scalar false = none
-outside_by begin s piece t next must gives_dash true = none
-outside_by begin s piece t next must gives_dash false = none
-outside_by begin s piece t next must gives_question true = none
-outside_by begin s piece t next must gives_question false = none
-outside_by begin s piece t next must gives_colon true = none
 outside_by begin s piece t next must gives_colon false = by (is_near begin s.position) refl
   where
     by : (b : Bool) → is_near begin s.position ≡ b → Waited begin s.position (past_outside s piece t next (if b then Some (record { line = taken; blocks = opened begin.col s.blocks }) else None))
     by true e = ended (grind (arith, nat_tests, e))
     by false e = none
-outside_by begin s piece t next must gives_comma true = none
-outside_by begin s piece t next must gives_comma false = none
-outside_by begin s piece t next must gives_closing true = none
-outside_by begin s piece t next must gives_closing false = none
-outside_by begin s piece t next must gives_marker true = none
-outside_by begin s piece t next must gives_marker false = none
-outside_by begin s piece t next must gives_nothing true = none
-outside_by begin s piece t next must gives_nothing false = none
+outside_by begin s piece t next must _ true = none
+outside_by begin s piece t next must _ false = none
 
 -- ---- a step
 

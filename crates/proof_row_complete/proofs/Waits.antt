@@ -6,7 +6,7 @@ use Rattle.defs_text.specs.Breaks.{has_no_break}
 use Rattle.defs_text.specs.Position.{Position, position_after}
 use Rattle.defs_text.specs.Text.{is_empty}
 use Rattle.defs_token.specs.Separation.{is_separation}
-use Rattle.defs_token.specs.Token.{Tok, stream_start, stream_end, version_directive, tag_directive, document_start, document_end, block_sequence_start, block_mapping_start, block_end, flow_sequence_start, flow_sequence_end, flow_mapping_start, flow_mapping_end, block_entry, flow_entry, key, value, alias, anchor, tag, scalar, plain, single_quoted, double_quoted, literal, folded}
+use Rattle.defs_token.specs.Token.{Tok, version_directive, tag_directive, scalar, plain}
 use Rattle.defs_row.specs.Step.{Step, spelled, act_of, gives_node, previous_by, has_break}
 use Rattle.defs_row.specs.Key.{waits, begins_free_line}
 use Rattle.defs_row.specs.Account.{Account}
@@ -49,28 +49,7 @@ waits_on ws last b begin gap rest row e unmarked text g =
 
 -- a part of a node is no directive
 pub node_before : (t : Tok) → act_of t ≡ gives_node → (f : List ℕ) → begins_free_line (previous_by t) f ≡ has_break f
-node_before stream_start h f = refl
-node_before stream_end h f = refl
 node_before (version_directive major minor) h f = absurd (cc h)
 node_before (tag_directive handle prefix) h f = absurd (cc h)
-node_before document_start h f = refl
-node_before document_end h f = refl
-node_before block_sequence_start h f = refl
-node_before block_mapping_start h f = refl
-node_before block_end h f = refl
-node_before flow_sequence_start h f = refl
-node_before flow_sequence_end h f = refl
-node_before flow_mapping_start h f = refl
-node_before flow_mapping_end h f = refl
-node_before block_entry h f = refl
-node_before flow_entry h f = refl
-node_before key h f = refl
-node_before value h f = refl
-node_before (alias name) h f = refl
-node_before (anchor name) h f = refl
-node_before (tag handle suffix) h f = refl
 node_before (scalar plain text) h f = refl
-node_before (scalar single_quoted text) h f = refl
-node_before (scalar double_quoted text) h f = refl
-node_before (scalar literal text) h f = refl
-node_before (scalar folded text) h f = refl
+node_before _ h f = refl

@@ -15,7 +15,7 @@ use Rattle.model_scanner.specs.State.{Key, Held, ScannerState, pop, with_top}
 use Rattle.model_scanner.specs.Keys.{is_required, top_key}
 use Rattle.model_scanner.specs.Document.{begin_line}
 use Rattle.proof_cut.specs.Here.{IsLive}
-use Rattle.proof_row_sound.specs.Choices.{line_by, entry_by, entries_by, first_choice, outside_key, MayChoose}
+use Rattle.proof_row_sound.specs.Choices.{line_by, outside_key, MayChoose}
 use Rattle.proof_row_sound.specs.Stands.{IsFreeKey}
 use Rattle.proof_row_sound.proofs.Arrivals.{some_rest}
 use Rattle.proof_row_sound.proofs.DocumentLines.{Read, next_of, IsRead, line_past, begun_from, line_begins, all_ended, unrolled_outside, unrolled_inside, line_base, entry_settled, line_base_inside, outside_at, inside_at}
@@ -23,7 +23,7 @@ use Rattle.proof_row_sound.proofs.NodesOutside.{Outer}
 use Rattle.proof_row_sound.proofs.Sides.{with_entries}
 use Rattle.proof_row_complete.specs.Goes.{Goes, GoesHere}
 use Rattle.proof_row_complete.proofs.Indicators.Passed.{same_value, line_inside, not_required}
-use Rattle.proof_row_complete.proofs.Sides.{GoesOutside, GoesInside, goes_side, goes_on}
+use Rattle.proof_row_complete.proofs.Sides.{GoesOutside, GoesInside, goes_side, goes_on, line_in, entry_in, around_in, account_in}
 use Rattle.proof_row_complete.proofs.Steps.{with_key, GoesPast, step_read, WentOutside, went_outside, WentInside, went_inside}
 use Rattle.proof_row_complete.proofs.Waits.{on_its_line, waits_on}
 
@@ -165,44 +165,35 @@ module _ (text : List ℕ) (w : Step) (ws : List Step) (last : List ℕ) (t : Sc
       f : List ℕ
       f = g.side.here.separation
 
-      l : Line
-      l = line_by g.outside (outside_key g.side.entries g.side.keys) g.side.here.line
-
-      e : Entry
-      e = entry_by (first_choice g.inside) g.side.key g.side.entry
-
-      es : List Entry
-      es = entries_by (pop g.inside) g.side.keys g.side.entries
-
       x : Site
       x = site_at true s f d.piece d.tok (next_of d)
 
-      n : GoesPast (with_entries s l (e ∷ es)) (step f) (next_of d) ws last
-      n = step_read (with_entries s l (e ∷ es)) w ws last (step f) (next_of d) g.is_row (g.is_spelled ∙ ap (λ y. f ++ y) r.cut) (
+      n : GoesPast (account_in g) (step f) (next_of d) ws last
+      n = step_read (account_in g) w ws last (step f) (next_of d) g.is_row (g.is_spelled ∙ ap (λ y. f ++ y) r.cut) (
         subst (λ y. is_separation false f y ≡ true) r.cut g.side.here.is_filled,
-        (solid, written (with_entries s l (e ∷ es)) x (site_in true gives_marker t.held.position s) f (place true s f g.side.here.position_is) (r.is_piece (seen (with_entries s l (e ∷ es)) (site_in true gives_marker t.held.position s) f) r.at_margin refl)),
+        (solid, written (account_in g) x (site_in true gives_marker t.held.position s) f (place true s f g.side.here.position_is) (r.is_piece (seen (account_in g) (site_in true gives_marker t.held.position s) f) r.at_margin refl)),
       ) (clean g.side.here.is_clean)
 
-      y : WentInside s l e es (with_key (step f) n.key) (next_of d) ws last
-      y = went_inside s l e es (with_key (step f) n.key) (next_of d) ws last n.is_row
+      y : WentInside s (line_in g) (entry_in g) (around_in g) (with_key (step f) n.key) (next_of d) ws last
+      y = went_inside s (line_in g) (entry_in g) (around_in g) (with_key (step f) n.key) (next_of d) ws last n.is_row
 
       At : Site → Line → List Entry → Type 0
       At z m xs = IsRowFrom (Some (with_entries (site_past true z d.piece d.tok (next_of d) z.blocks) m xs)) ws last
 
       past : List Entry → Act → List Entry → Type 0
-      past begun a xs = entries_past x.position (is_renewed s.before f) a begun n.key e es ≡ Some xs
+      past begun a xs = entries_past x.position (is_renewed s.before f) a begun n.key (entry_in g) (around_in g) ≡ Some xs
 
-      entries : y.after ≡ entry_settled e ∷ es
-      entries = marker_entries x.position (is_renewed s.before f) n.key e es y.after (subst (λ b. past b gives_marker y.after) r.token.begun (subst (λ a. past (begun_by d.tok) a y.after) r.token.act y.after_is))
+      entries : y.after ≡ entry_settled (entry_in g) ∷ around_in g
+      entries = marker_entries x.position (is_renewed s.before f) n.key (entry_in g) (around_in g) y.after (subst (λ b. past b gives_marker y.after) r.token.begun (subst (λ a. past (begun_by d.tok) a y.after) r.token.act y.after_is))
 
-      row : At (site_in true gives_marker t.held.position s) l (entry_settled e ∷ es)
-      row = subst (λ z. At z l (entry_settled e ∷ es)) (place true s f g.side.here.position_is) (subst (λ m. At x m (entry_settled e ∷ es)) (line_inside (begins_free_line s.before f) l y.line_here y.line_is) (subst (λ xs. At x y.line_here xs) entries y.is_row))
+      row : At (site_in true gives_marker t.held.position s) (line_in g) (entry_settled (entry_in g) ∷ around_in g)
+      row = subst (λ z. At z (line_in g) (entry_settled (entry_in g) ∷ around_in g)) (place true s f g.side.here.position_is) (subst (λ m. At x m (entry_settled (entry_in g) ∷ around_in g)) (line_inside (begins_free_line s.before f) (line_in g) y.line_here y.line_is) (subst (λ xs. At x y.line_here xs) entries y.is_row))
 
       kept : (c : Bool) (k : Option Key) → g.outside ≡ c → outside_key g.side.entries g.side.keys ≡ k → MayChoose c k t.held.position t.rest → MayChoose c k d.end d.rest
       kept c None i j m = tt
       kept false (Some k) i j m = m
       kept true (Some k) i j m =
-          live k (with_entries (site_past true (site_in true gives_marker t.held.position s) d.piece d.tok (next_of d) s.blocks) l (entry_settled e ∷ es)) (g.side.entry ∷ g.side.entries, ap (λ ks. outside_key (g.side.entry ∷ g.side.entries) ks) g.side.keys_are ∙ j) m n.is_spelled row
+          live k (with_entries (site_past true (site_in true gives_marker t.held.position s) d.piece d.tok (next_of d) s.blocks) (line_in g) (entry_settled (entry_in g) ∷ around_in g)) (g.side.entry ∷ g.side.entries, ap (λ ks. outside_key (g.side.entry ∷ g.side.entries) ks) g.side.keys_are ∙ j) m n.is_spelled row
           (ap (λ c. line_by c (outside_key g.side.entries g.side.keys) g.side.here.line) i ∙ ap (λ o. line_by true o g.side.here.line) j) refl
 
   -- It does, if that is so of its token: where its line has no break, the key's line goes on after it.

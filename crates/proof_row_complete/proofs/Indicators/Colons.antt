@@ -21,7 +21,7 @@ use Rattle.defs_row.specs.Column.{is_in_column, opened}
 use Rattle.defs_row.specs.Indentation.{is_indented_by_spaces, begins_with_alpha, colon_may_precede}
 use Rattle.defs_row.specs.Following.{may_precede}
 use Rattle.defs_row.specs.Key.{Line, free, taken, waits as waits_on_line, is_near, begins_free_line, Outside, line_past}
-use Rattle.defs_row.specs.FlowEntry.{Had, fresh, filled, waits, settled, Entry, takes_pair, is_renewed, renewed, had_after, pair_past, with_had, entries_past}
+use Rattle.defs_row.specs.FlowEntry.{Had, filled, waits, settled, Entry, takes_pair, is_renewed, renewed, had_after, pair_past, with_had, entries_past}
 use Rattle.defs_row.specs.Account.{Site, site_at, site_in, may_stand, is_deep_enough, before_by}
 use Rattle.defs_row.specs.Tokens.{put, pair_position, past_line_rest}
 use Rattle.defs_row.specs.Row.{IsRowFrom}
@@ -30,7 +30,7 @@ use Rattle.model_lexers.specs.Space.{space}
 use Rattle.model_lexers.specs.declared.context.SkipTabs.TheVariants.{Yes}
 use Rattle.model_scanner.specs.declared.level.FlowLevel.{FlowLevel}
 use Rattle.model_scanner.specs.declared.level.FlowLevel.TheVariants.{Mapping, Entry as InEntry, Keyed, Pair as InPair}
-use Rattle.model_scanner.specs.State.{Key, Held, ScannerState, ◌>>=◌, peek, in_flow, push, pop, after as after_first, with_top, token, on_held, with_held, try_held, lexed}
+use Rattle.model_scanner.specs.State.{Key, Held, ScannerState, ◌>>=◌, peek, in_flow, push, pop, after as after_first, with_top, on_held, with_held, try_held, lexed}
 use Rattle.model_scanner.specs.Keys.{top_key}
 use Rattle.model_scanner.specs.Indents.{roll_indent, roll_one_col_indent}
 use Rattle.model_scanner.specs.Flow.{allow_key}
@@ -40,19 +40,18 @@ use Rattle.proof_lexers.proofs.Bridges.{same_alpha}
 use Rattle.proof_cut.proofs.Nodes.{IsDeep}
 use Rattle.proof_row_sound.specs.Choices.{line_by, entry_by, entries_by, first_choice, outside_key, MayChoose}
 use Rattle.proof_row_sound.specs.Completes.{put_key}
-use Rattle.proof_row_sound.specs.Stands.{columns, is_free, HasHadHere}
-use Rattle.proof_row_sound.proofs.Arrivals.{first_not_right}
+use Rattle.proof_row_sound.specs.Stands.{is_free, HasHadHere}
 use Rattle.proof_row_sound.proofs.Blanks.{spaced_parted, past_rest}
 use Rattle.proof_row_sound.proofs.ColonKeys.{keyed_base, keyed_stands, keyed_is, inner_stands, outside_after}
 use Rattle.proof_row_sound.proofs.ColonKeys as keyed
 use Rattle.proof_row_sound.proofs.ColonSpaces.{colon_gap, past_gap, gap_cut, gap_fills, gap_end, past_colon}
-use Rattle.proof_row_sound.proofs.Colons.{value_here, at_value, value_by, colon_end, after_colon, keyless_stands, paired_level, valued_entry, single_is, one_line_colon, with_pair, keyless_within}
+use Rattle.proof_row_sound.proofs.Colons.{value_here, at_value, value_by, colon_end, after_colon, keyless_stands, KeylessLevels, keyless_levels, paired_level, valued_entry, single_is, one_line_colon, with_pair, keyless_within}
 use Rattle.proof_row_sound.proofs.EntryPieces.{site_inside, base_inside}
 use Rattle.proof_row_sound.proofs.KeysBefore.{KeysBefore}
 use Rattle.proof_row_sound.proofs.NodesOutside.{Outer}
 use Rattle.proof_row_sound.proofs.OutsidePieces.{base_past}
 use Rattle.proof_row_sound.proofs.Questions.{with_mapping}
-use Rattle.proof_row_sound.proofs.Rolled.{RollsTo, rolls_to, OpensOne, opens_one, opens_none, opened_some, some_levels}
+use Rattle.proof_row_sound.proofs.Rolled.{opens_none}
 use Rattle.proof_row_sound.proofs.Sides.{with_entries, ArrivesBy, StandsAt}
 use Rattle.proof_row_complete.specs.Goes.{Succeeds, went, Goes}
 use Rattle.proof_row_complete.specs.EachReads.{Reads}
@@ -178,9 +177,9 @@ module _ (text more : List ℕ) (w : Step) (ws : List Step) (last : List ℕ) (t
   keyless : (a : ArrivesBy text t [] (None ∷ []) []) → t.held.flow ≡ [] → t.held.keys ≡ None ∷ [] → spelled (w ∷ ws) last ≡ a.separation ++ t.rest → IsRowFrom (Some (Outer a.site a.line)) (w ∷ ws) last → is_value t ≡ true → Succeeds (Goes text ws last) (fetch_value t)
   unfolding begin_keyless_value begin_keyless_mapping
   keyless a flow keys spells row indicates =
-      subst (λ q. Succeeds (Goes text ws last) q) (sym (value_is more t [] (None ∷ []) e flow keys apart ∙ is)) (went (goes_on text ws last (colon_end t more o.indents o.indent (with_mapping t) true [] (None ∷ []))
+      subst (λ q. Succeeds (Goes text ws last) q) (sym (value_is more t [] (None ∷ []) e flow keys apart ∙ is)) (went (goes_on text ws last (colon_end t more k.level.indents k.level.indent (with_mapping t) true [] (None ∷ []))
       (base_past Tok.value (58 ∷ []) t.held.position a.site more (after_colon t.held.position a.site.blocks)) (None ∷ []) (colon_gap more)
-      (keyless_stands text more t a e allowed apart ind o.indent o.indents (o.columns_are ∙ r.columns_are) o.are_levels o.awaits) refl false [] tt (p.is_spelled ∙ gap_cut more) row_after))
+      (keyless_stands text more t a e allowed apart ind k.level.indent k.level.indents (k.level.columns_are ∙ k.mapping.columns_are) k.level.are_levels k.level.awaits) refl false [] tt (p.is_spelled ∙ gap_cut more) row_after))
     where
       ind : is_value_indicator false (is_adjacent (before_past (before_by a.site.before) a.separation)) more ≡ true
       ind = value_here text more t [] (None ∷ []) [] a flow e indicates
@@ -212,23 +211,17 @@ module _ (text more : List ℕ) (w : Step) (ws : List Step) (last : List ℕ) (t
       h : Held
       h = at_value more t [] (None ∷ [])
 
-      r : RollsTo t.held.position.col None (token t.held.position Tok.block_mapping_start) h (roll_indent t.held.position.col None Tok.block_mapping_start t.held.position h)
-      r = rolls_to t.held.position.col None Tok.block_mapping_start t.held.position h refl a.are_levels (first_not_right t.held.position.col t.held.indent t.held.indents a.are_levels deep)
-
-      rolled : Held
-      rolled = record h { indents = r.indents; indent = r.indent; tokens = with_mapping t }
-
-      o : OpensOne rolled (roll_one_col_indent rolled)
-      o = opens_one rolled refl r.are_levels (some_levels r.indent r.indents (ap is_empty r.columns_are ∙ opened_some t.held.position.col (columns t.held.indent t.held.indents)))
+      k : KeylessLevels more t
+      k = keyless_levels more t a.are_levels deep
 
       Left : Result Held Fault → Result ScannerState Fault
       Left q = with_held (record { rest = past_gap more; held = h }) (q >>= λ u. let z = roll_one_col_indent u in Ok (allow_key (not (in_flow z)) z)) >>= λ z. Ok (on_held (push t.held.position Tok.value) z)
 
-      is : value_by more t [] (None ∷ []) ≡ Ok (colon_end t more o.indents o.indent (with_mapping t) true [] (None ∷ []))
+      is : value_by more t [] (None ∷ []) ≡ Ok (colon_end t more k.level.indents k.level.indent (with_mapping t) true [] (None ∷ []))
       is =
           ap (λ b. Left (if not b then Err (At problem.ValueNotAllowed t.held.position) else Ok (roll_indent t.held.position.col None Tok.block_mapping_start t.held.position h))) allowed ∙
-          (ap (λ y. Left (Ok y)) r.is_held ∙
-          ap (λ z. with_held (record { rest = past_gap more; held = h }) (Ok (allow_key (not (in_flow z)) z)) >>= λ y. Ok (on_held (push t.held.position Tok.value) y)) o.is_held)
+          (ap (λ y. Left (Ok y)) k.mapping.is_held ∙
+          ap (λ z. with_held (record { rest = past_gap more; held = h }) (Ok (allow_key (not (in_flow z)) z)) >>= λ y. Ok (on_held (push t.held.position Tok.value) y)) k.level.is_held)
 
   -- a key is open, which the row has waiting
   keyed_by : (k : Key) (a : ArrivesBy text t [] (Some k ∷ []) []) → t.held.flow ≡ [] → t.held.keys ≡ Some k ∷ [] → (c : Bool) → spelled (w ∷ ws) last ≡ a.separation ++ t.rest → IsRowFrom (Some (Outer a.site (line_by c (Some k) a.line))) (w ∷ ws) last → is_value t ≡ true →
@@ -282,7 +275,7 @@ OnLine here single d = Unit {0}
 
 -- its entry is settled, unless a node that is no key fills it
 valued_after : (here : Position) (again key : Bool) (e : Entry) (es xs : List Entry) → entries_past here again gives_colon [] key e es ≡ Some xs → (xs ≡ valued_entry e ∷ es) × (e.had ≡ filled → ⊥) × OnLine here (takes_pair e.kind e.pair) e.had
-valued_after here again key e es xs h = by again key e.had h
+valued_after here again key e es xs h = by key e.had (as_it_was again h)
   where
     single : Bool
     single = takes_pair e.kind e.pair
@@ -300,23 +293,15 @@ valued_after here again key e es xs h = by again key e.had h
     waited b true i h = (settles h, (λ q. cc q), i)
     waited b false i h = absurd (cc h)
 
-    by : (again key : Bool) (d : Had) → Past again key d → Result d
-    by true true fresh h = absurd (cc h)
-    by true true filled h = absurd (cc h)
-    by true true (waits b) h = absurd (cc h)
-    by true true settled h = absurd (cc h)
-    by false true fresh h = absurd (cc h)
-    by false true filled h = absurd (cc h)
-    by false true (waits b) h = absurd (cc h)
-    by false true settled h = absurd (cc h)
-    by true false fresh h = (settles h, (λ q. cc q), tt)
-    by true false filled h = absurd (cc h)
-    by true false (waits b) h = waited b (not single || (b.line == here.line)) refl h
-    by true false settled h = (settles h, (λ q. cc q), tt)
-    by false false fresh h = (settles h, (λ q. cc q), tt)
-    by false false filled h = absurd (cc h)
-    by false false (waits b) h = waited b (not single || (b.line == here.line)) refl h
-    by false false settled h = (settles h, (λ q. cc q), tt)
+    as_it_was : (again : Bool) → Past again key e.had → Past false key e.had
+    as_it_was true h = h
+    as_it_was false h = h
+
+    by : (key : Bool) (d : Had) → Past false key d → Result d
+    by true d h = absurd (cc h)
+    by false filled h = absurd (cc h)
+    by false (waits b) h = waited b (not single || (b.line == here.line)) refl h
+    by false d h = (settles h, (λ q. cc q), tt)
 
 -- an open key of an entry is one
 is_chosen : (c : Bool) (k : Key) (e : Entry) (again allowed : Bool) (here : Position) (single : Bool) → HasHadHere allowed again (Some k) e.had → ((entry_by c (Some k) e).had ≡ filled → ⊥) → OnLine here single (entry_by c (Some k) e).had → (not single || (k.position.line == here.line)) ≡ true

@@ -25,7 +25,7 @@ use Rattle.defs_text.specs.Text.{has_no_nul}
 use Rattle.proof_cut.proofs.FlowEnds.{higher_keys, ended_now, entry_now, ended_is, entry_is}
 use Rattle.proof_cut.proofs.Nodes.{IsDeep}
 use Rattle.proof_row_sound.specs.Arrives.{site_here}
-use Rattle.proof_row_sound.specs.Choices.{line_by, entry_by, entries_by, first_choice, outside_key, chosen, MayChoose}
+use Rattle.proof_row_sound.specs.Choices.{line_by, outside_key, chosen, MayChoose}
 use Rattle.proof_row_sound.proofs.Blanks.{line_rest_cut, line_rest_fills}
 use Rattle.proof_row_sound.proofs.Closers.{previous_of, IsCloser, comma, closing_bracket, closing_brace, site_alike, line_then, stray_past, stray_base}
 use Rattle.proof_row_sound.proofs.ClosersInside.{closed_past, closed_base, closed_inside}
@@ -37,7 +37,7 @@ use Rattle.proof_row_sound.proofs.Sides.{with_entries, ArrivesInside}
 use Rattle.proof_row_complete.specs.Goes.{Succeeds, went, Goes}
 use Rattle.proof_row_complete.specs.EachReads.{Reads}
 use Rattle.proof_row_complete.proofs.Indicators.Passed.{passed, last_of, free_key, same_value, line_inside, not_required, may_on}
-use Rattle.proof_row_complete.proofs.Sides.{GoesOutside, GoesInside, goes_side, goes_on}
+use Rattle.proof_row_complete.proofs.Sides.{GoesOutside, GoesInside, goes_side, goes_on, line_in, entry_in, around_in, account_in}
 use Rattle.proof_row_complete.proofs.Steps.{with_key, GoesPast, step_read, WentOutside, went_outside, WentInside, went_inside}
 use Rattle.proof_row_complete.proofs.Waits.{on_its_line}
 
@@ -194,24 +194,15 @@ module _ (text more : List ℕ) (w : Step) (ws : List Step) (last : List ℕ) (c
       f : List ℕ
       f = g.side.here.separation
 
-      l : Line
-      l = line_by g.outside (outside_key g.side.entries g.side.keys) g.side.here.line
-
-      e : Entry
-      e = entry_by (first_choice g.inside) g.side.key g.side.entry
-
-      es : List Entry
-      es = entries_by (pop g.inside) g.side.keys g.side.entries
-
       x : Site
       x = site_at true s f (c ∷ []) tok more
 
-      r : GoesPast (with_entries s l (e ∷ es)) (step f) more ws last
-      r = step_read (with_entries s l (e ∷ es)) w ws last (step f) more g.is_row (g.is_spelled ∙ ap (λ y. f ++ y) cut)
-          (subst (λ y. is_separation false f y ≡ true) cut g.side.here.is_filled, (refl, written (with_entries s l (e ∷ es)) x f (k.is_end.piece (seen (with_entries s l (e ∷ es)) x f) more None refl))) (clean g.side.here.is_clean)
+      r : GoesPast (account_in g) (step f) more ws last
+      r = step_read (account_in g) w ws last (step f) more g.is_row (g.is_spelled ∙ ap (λ y. f ++ y) cut)
+          (subst (λ y. is_separation false f y ≡ true) cut g.side.here.is_filled, (refl, written (account_in g) x f (k.is_end.piece (seen (account_in g) x f) more None refl))) (clean g.side.here.is_clean)
 
-      y : WentInside s l e es (with_key (step f) r.key) more ws last
-      y = went_inside s l e es (with_key (step f) r.key) more ws last r.is_row
+      y : WentInside s (line_in g) (entry_in g) (around_in g) (with_key (step f) r.key) more ws last
+      y = went_inside s (line_in g) (entry_in g) (around_in g) (with_key (step f) r.key) more ws last r.is_row
 
       hash : begins_with 35 more ≡ false
       hash = no_hash true s x f y.stands
@@ -219,12 +210,12 @@ module _ (text more : List ℕ) (w : Step) (ws : List Step) (last : List ℕ) (c
       At : Site → Line → List Entry → Type 0
       At z m xs = IsRowFrom (Some (with_entries (site_past true z (c ∷ []) tok more z.blocks) m xs)) ws last
 
-      rows : At (site_here true t.held.position s) l (entries_after closes e es)
-      rows = subst (λ z. At z l (entries_after closes e es)) (place true s f g.side.here.position_is)
-          (subst (λ m. At x m (entries_after closes e es)) (line_inside (begins_free_line s.before f) l y.line_here y.line_is)
-          (subst (λ xs. At x y.line_here xs) (closed_after closes x.position (is_renewed s.before f) (begun_by tok) r.key e es y.after (ap (λ z. entries_past x.position (is_renewed s.before f) z (begun_by tok) r.key e es) (sym k.act) ∙ y.after_is)) y.is_row))
+      rows : At (site_here true t.held.position s) (line_in g) (entries_after closes (entry_in g) (around_in g))
+      rows = subst (λ z. At z (line_in g) (entries_after closes (entry_in g) (around_in g))) (place true s f g.side.here.position_is)
+          (subst (λ m. At x m (entries_after closes (entry_in g) (around_in g))) (line_inside (begins_free_line s.before f) (line_in g) y.line_here y.line_is)
+          (subst (λ xs. At x y.line_here xs) (closed_after closes x.position (is_renewed s.before f) (begun_by tok) r.key (entry_in g) (around_in g) y.after (ap (λ z. entries_past x.position (is_renewed s.before f) z (begun_by tok) r.key (entry_in g) (around_in g)) (sym k.act) ∙ y.after_is)) y.is_row))
 
-      row : (b : Bool) → At (site_here true t.held.position s) l (entries_after b e es) → IsRowFrom (Some (chosen g.outside (choices_then b g.inside) (keys_by b g.side.keys) (with_entries (site_past true (site_here true t.held.position s) (c ∷ []) tok more s.blocks) g.side.here.line (entries_after b g.side.entry g.side.entries)))) ws last
+      row : (b : Bool) → At (site_here true t.held.position s) (line_in g) (entries_after b (entry_in g) (around_in g)) → IsRowFrom (Some (chosen g.outside (choices_then b g.inside) (keys_by b g.side.keys) (with_entries (site_past true (site_here true t.held.position s) (c ∷ []) tok more s.blocks) g.side.here.line (entries_after b g.side.entry g.side.entries)))) ws last
       row true h = h
       row false h = h
 
@@ -232,7 +223,7 @@ module _ (text more : List ℕ) (w : Step) (ws : List Step) (last : List ℕ) (c
       end = past_line_rest (past t.held.position) more
 
       kept : MayChoose g.outside (outside_key g.side.entries g.side.keys) end (past_blanks_and_comment more)
-      kept = may_on ws last (with_entries (site_past true (site_here true t.held.position s) (c ∷ []) tok more s.blocks) l (entries_after closes e es)) g.outside (outside_key g.side.entries g.side.keys) g.side.here.line t.held.position end t.rest (blanks_and_comment more) (past_blanks_and_comment more)
+      kept = may_on ws last (with_entries (site_past true (site_here true t.held.position s) (c ∷ []) tok more s.blocks) (line_in g) (entries_after closes (entry_in g) (around_in g))) g.outside (outside_key g.side.entries g.side.keys) g.side.here.line t.held.position end t.rest (blanks_and_comment more) (past_blanks_and_comment more)
           rows refl (λ z. ap (λ b. begins_free_line b z) k.previous ∙ no_directive closes z) (r.is_spelled ∙ line_rest_cut more) (line_rest_fills more) (λ z. on_its_line (past t.held.position) (blanks_and_comment more) [] z) g.may
 
       may : (b : Bool) → MayChoose g.outside (outside_key (entries_after b g.side.entry g.side.entries) (keys_by b g.side.keys)) end (past_blanks_and_comment more)

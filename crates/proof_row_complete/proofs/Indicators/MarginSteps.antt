@@ -13,7 +13,7 @@ use Rattle.defs_token.specs.Token.{Tok, Token, block_sequence_start}
 use Rattle.defs_row.specs.Step.{Step, spelled, Act, gives_node, gives_block_scalar, gives_dash, gives_marker, act_of, Previous, plain_scalar as before_plain, quoted_scalar, flow_collection, directive, another, previous_by, has_break}
 use Rattle.defs_row.specs.Column.{not_ended, blocks_at, is_deeper, is_in_column}
 use Rattle.defs_row.specs.Key.{Line, free, taken, waits, is_waiting, begins_free_line, line_past_separation, Outside, line_past}
-use Rattle.defs_row.specs.FlowEntry.{Had, fresh, filled, waits as had_waits, settled, Pair, Entry, takes_pair, begun_by, is_renewed, renewed, had_after, pair_past, with_had, entries_past}
+use Rattle.defs_row.specs.FlowEntry.{Had, Pair, Entry, takes_pair, begun_by, is_renewed, renewed, had_after, pair_past, with_had, entries_past}
 use Rattle.defs_row.specs.Account.{Site, Account, site_in, site_at, site_past, on_one_line, past_outside, past_inside, past_piece, account_past, seen}
 use Rattle.defs_row.specs.Tokens.{put, shown_position, key_end, ends_at, start_if, begun_outside, tokens_before}
 use Rattle.defs_row.specs.Row.{IsWritten, IsRowFrom}
@@ -204,47 +204,19 @@ entry_stays kind pair begun es (Some d) xs h = ap is_empty (same_value xs (begun
 
 -- no dash stands in flow
 no_dash : (here : Position) (again : Bool) (begun : List Entry) (bit : Bool) (e : Entry) (es xs : List Entry) → entries_past here again gives_dash begun bit e es ≡ Some xs → ⊥
-no_dash here again begun bit e es xs h = by again bit e.had h
+no_dash here again begun bit e es xs h = by again h
   where
-    by : (again bit : Bool) (d : Had) → with_had e.kind (pair_past (takes_pair e.kind e.pair) gives_dash e.pair) begun es (had_after here (takes_pair e.kind e.pair) gives_dash bit (renewed again gives_dash d)) ≡ Some xs → ⊥
-    by true true fresh h = cc h
-    by true true filled h = cc h
-    by true true (had_waits b) h = cc h
-    by true true settled h = cc h
-    by true false fresh h = cc h
-    by true false filled h = cc h
-    by true false (had_waits b) h = cc h
-    by true false settled h = cc h
-    by false true fresh h = cc h
-    by false true filled h = cc h
-    by false true (had_waits b) h = cc h
-    by false true settled h = cc h
-    by false false fresh h = cc h
-    by false false filled h = cc h
-    by false false (had_waits b) h = cc h
-    by false false settled h = cc h
+    by : (again : Bool) → entries_past here again gives_dash begun bit e es ≡ Some xs → ⊥
+    by true h = cc h
+    by false h = cc h
 
 -- and no block scalar
 no_block : (here : Position) (again : Bool) (begun : List Entry) (bit : Bool) (e : Entry) (es xs : List Entry) → entries_past here again gives_block_scalar begun bit e es ≡ Some xs → ⊥
-no_block here again begun bit e es xs h = by again bit e.had h
+no_block here again begun bit e es xs h = by again h
   where
-    by : (again bit : Bool) (d : Had) → with_had e.kind (pair_past (takes_pair e.kind e.pair) gives_block_scalar e.pair) begun es (had_after here (takes_pair e.kind e.pair) gives_block_scalar bit (renewed again gives_block_scalar d)) ≡ Some xs → ⊥
-    by true true fresh h = cc h
-    by true true filled h = cc h
-    by true true (had_waits b) h = cc h
-    by true true settled h = cc h
-    by true false fresh h = cc h
-    by true false filled h = cc h
-    by true false (had_waits b) h = cc h
-    by true false settled h = cc h
-    by false true fresh h = cc h
-    by false true filled h = cc h
-    by false true (had_waits b) h = cc h
-    by false true settled h = cc h
-    by false false fresh h = cc h
-    by false false filled h = cc h
-    by false false (had_waits b) h = cc h
-    by false false settled h = cc h
+    by : (again : Bool) → entries_past here again gives_block_scalar begun bit e es ≡ Some xs → ⊥
+    by true h = cc h
+    by false h = cc h
 
 -- ---- a step
 

@@ -50,7 +50,7 @@ use Rattle.proof_row_complete.specs.EachReads.{Reads}
 use Rattle.proof_row_complete.proofs.Indicators.Passed.{passed, last_of, same_value, line_inside, may_on}
 use Rattle.proof_row_complete.proofs.KindsOfPieces.{kind_is}
 use Rattle.proof_row_complete.proofs.Nodes.Choices.{separated_by, ChosenOutside, chosen_outside, ChosenInside, chosen_inside}
-use Rattle.proof_row_complete.proofs.Sides.{GoesOutside, GoesInside, goes_side, goes_on}
+use Rattle.proof_row_complete.proofs.Sides.{GoesOutside, GoesInside, goes_side, goes_on, line_in, entry_in, around_in, account_in}
 use Rattle.proof_row_complete.proofs.Steps.{with_key, GoesPast, step_here, step_read, WentOutside, went_outside, WentInside, went_inside}
 use Rattle.proof_row_complete.proofs.Waits.{waits_on, on_its_line}
 
@@ -236,17 +236,8 @@ module _ (text more : List ℕ) (w : Step) (ws : List Step) (last : List ℕ) (l
       f : List ℕ
       f = g.side.here.separation
 
-      l : Line
-      l = line_by g.outside (outside_key g.side.entries g.side.keys) g.side.here.line
-
-      e : Entry
-      e = entry_by (first_choice g.inside) g.side.key g.side.entry
-
-      es : List Entry
-      es = entries_by (pop g.inside) g.side.keys g.side.entries
-
       a : Account
-      a = with_entries s l (e ∷ es)
+      a = account_in g
 
       x : Site
       x = site_at true s f (c ∷ []) tok more
@@ -265,43 +256,43 @@ module _ (text more : List ℕ) (w : Step) (ws : List Step) (last : List ℕ) (l
           (not_empty w.piece g.is_row.0.1.0) g.is_row.0.1.1 (here.1 ∙ cut)
 
       few : nat_le 255 (length t.held.flow) ≡ false
-      few = few_of (length t.held.flow) (length (map level_of (e ∷ es))) (ap length g.side.flow_is ∙ ap suc (flow_many (pop g.inside) g.side.levels g.side.keys g.side.entries g.side.here.are_entries.2)) room
+      few = few_of (length t.held.flow) (length (map level_of (entry_in g ∷ around_in g))) (ap length g.side.flow_is ∙ ap suc (flow_many (pop g.inside) g.side.levels g.side.keys g.side.entries g.side.here.are_entries.2)) room
 
       r : GoesPast a (step f) more ws last
       r = step_read a w ws last (step f) more g.is_row (g.is_spelled ∙ ap (λ y. f ++ y) cut)
           (subst (λ y. is_separation false f y ≡ true) cut g.side.here.is_filled, (refl, written a x f (o.is_opening.piece (seen a x f) more None room))) (clean g.side.here.is_clean)
 
-      v : WentInside s l e es (with_key (step f) r.key) more ws last
-      v = went_inside s l e es (with_key (step f) r.key) more ws last r.is_row
+      v : WentInside s (line_in g) (entry_in g) (around_in g) (with_key (step f) r.key) more ws last
+      v = went_inside s (line_in g) (entry_in g) (around_in g) (with_key (step f) r.key) more ws last r.is_row
 
       hash : begins_with 35 more ≡ false
       hash = no_hash true s x f v.stands
 
       Past : Site → Act → List Entry → List Entry → Type 0
-      Past q act begun xs = entries_past q.position (is_renewed s.before f) act begun r.key e es ≡ Some xs
+      Past q act begun xs = entries_past q.position (is_renewed s.before f) act begun r.key (entry_in g) (around_in g) ≡ Some xs
 
       past_here : Past z gives_node (first_entry (kind_by lv) ∷ []) v.after
       past_here = subst (λ q. Past q gives_node (first_entry (kind_by lv) ∷ []) v.after) (place true s f g.side.here.position_is)
           (subst (λ b. Past x gives_node b v.after) o.begun (subst (λ act. Past x act (begun_by tok) v.after) o.act v.after_is))
 
-      inner : Begun e.kind (pair_past (takes_pair e.kind e.pair) gives_node e.pair) (first_entry (kind_by lv)) es (had_after t.held.position (takes_pair e.kind e.pair) gives_node r.key (renewed (is_renewed s.before f) gives_node e.had)) v.after
-      inner = begun_in e.kind (pair_past (takes_pair e.kind e.pair) gives_node e.pair) (first_entry (kind_by lv)) es (had_after t.held.position (takes_pair e.kind e.pair) gives_node r.key (renewed (is_renewed s.before f) gives_node e.had)) v.after past_here
+      inner : Begun (entry_in g).kind (pair_past (takes_pair (entry_in g).kind (entry_in g).pair) gives_node (entry_in g).pair) (first_entry (kind_by lv)) (around_in g) (had_after t.held.position (takes_pair (entry_in g).kind (entry_in g).pair) gives_node r.key (renewed (is_renewed s.before f) gives_node (entry_in g).had)) v.after
+      inner = begun_in (entry_in g).kind (pair_past (takes_pair (entry_in g).kind (entry_in g).pair) gives_node (entry_in g).pair) (first_entry (kind_by lv)) (around_in g) (had_after t.held.position (takes_pair (entry_in g).kind (entry_in g).pair) gives_node r.key (renewed (is_renewed s.before f) gives_node (entry_in g).had)) v.after past_here
 
-      chose : ChosenInside y (entry_past_node t.held.key_allowed g.side.entry) es inner.inner
-      chose = chosen_inside (is_renewed s.before f) t.held.key_allowed (first_choice g.inside) r.key g.side.key own g.side.entry t.held.position es inner.inner g.side.here.are_entries.1 refl inner.is_inner
+      chose : ChosenInside y (entry_past_node t.held.key_allowed g.side.entry) (around_in g) inner.inner
+      chose = chosen_inside (is_renewed s.before f) t.held.key_allowed (first_choice g.inside) r.key g.side.key own g.side.entry t.held.position (around_in g) inner.inner g.side.here.are_entries.1 refl inner.is_inner
 
       At : Site → Line → List Entry → Type 0
       At q m xs = IsRowFrom (Some (with_entries (site_past true q (c ∷ []) tok more q.blocks) m xs)) ws last
 
       entries : List Entry
-      entries = first_entry (kind_by lv) ∷ (entry_by chose.choice y (entry_past_node t.held.key_allowed g.side.entry) ∷ es)
+      entries = first_entry (kind_by lv) ∷ (entry_by chose.choice y (entry_past_node t.held.key_allowed g.side.entry) ∷ around_in g)
 
-      row : At z l entries
-      row = subst (λ q. At q l entries) (place true s f g.side.here.position_is) (subst (λ m. At x m entries) (line_inside (begins_free_line s.before f) l v.line_here v.line_is)
+      row : At z (line_in g) entries
+      row = subst (λ q. At q (line_in g) entries) (place true s f g.side.here.position_is) (subst (λ m. At x m entries) (line_inside (begins_free_line s.before f) (line_in g) v.line_here v.line_is)
           (subst (λ xs. At x v.line_here xs) (inner.is ∙ ap (λ xs. first_entry (kind_by lv) ∷ xs) chose.is) v.is_row))
 
       kept : MayChoose g.outside (outside_key g.side.entries g.side.keys) end (past_blanks_and_comment more)
-      kept = may_on ws last (with_entries (site_past true z (c ∷ []) tok more z.blocks) l entries) g.outside (outside_key g.side.entries g.side.keys) g.side.here.line t.held.position end t.rest (blanks_and_comment more) (past_blanks_and_comment more) row refl unmarked
+      kept = may_on ws last (with_entries (site_past true z (c ∷ []) tok more z.blocks) (line_in g) entries) g.outside (outside_key g.side.entries g.side.keys) g.side.here.line t.held.position end t.rest (blanks_and_comment more) (past_blanks_and_comment more) row refl unmarked
           (r.is_spelled ∙ line_rest_cut more) (line_rest_fills more) end_line g.may
 
   opening_reads : Reads text w ws last t (fetch_flow_collection_start lv tok)

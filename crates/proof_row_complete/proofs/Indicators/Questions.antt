@@ -17,7 +17,7 @@ use Rattle.defs_row.specs.Column.{is_in_column, opened}
 use Rattle.defs_row.specs.Indentation.{is_indented_by_spaces, has_tab_before_piece}
 use Rattle.defs_row.specs.Following.{may_precede}
 use Rattle.defs_row.specs.Key.{Line, free, taken, waits as waits_on_line, begins_free_line, Outside, line_past}
-use Rattle.defs_row.specs.FlowEntry.{Had, fresh, filled, waits, settled, Entry, takes_pair, is_renewed, renewed, had_after, pair_past, with_had, entries_past}
+use Rattle.defs_row.specs.FlowEntry.{Had, waits, Entry, takes_pair, is_renewed, renewed, had_after, pair_past, with_had, entries_past}
 use Rattle.defs_row.specs.Account.{Site, site_at, site_in, may_stand, is_deep_enough}
 use Rattle.defs_row.specs.Row.{IsRowFrom}
 use Rattle.model_lexers.specs.Machine.{past}
@@ -157,31 +157,19 @@ asked_past must here bs false (waits_on_line b) x e = absurd (cc e)
 
 -- in flow its entry is settled
 asked_after : (here : Position) (again key : Bool) (e : Entry) (es xs : List Entry) → entries_past here again gives_question [] key e es ≡ Some xs → xs ≡ asked_entry e ∷ es
-asked_after here again key e es xs h = by again key e.had h
+asked_after here again key e es xs h = by key e.had (as_it_was again h)
   where
     Past : Bool → Bool → Had → Type 0
     Past again key d = with_had e.kind (pair_past (takes_pair e.kind e.pair) gives_question e.pair) [] es (had_after here (takes_pair e.kind e.pair) gives_question key (renewed again gives_question d)) ≡ Some xs
 
-    settles : Some (asked_entry e ∷ es) ≡ Some xs → xs ≡ asked_entry e ∷ es
-    settles h = same_value xs (asked_entry e ∷ es) (sym h)
+    as_it_was : (again : Bool) → Past again key e.had → Past false key e.had
+    as_it_was true h = h
+    as_it_was false h = h
 
-    by : (again key : Bool) (d : Had) → Past again key d → xs ≡ asked_entry e ∷ es
-    by true true fresh h = absurd (cc h)
-    by true true filled h = absurd (cc h)
-    by true true (waits b) h = absurd (cc h)
-    by true true settled h = absurd (cc h)
-    by false true fresh h = absurd (cc h)
-    by false true filled h = absurd (cc h)
-    by false true (waits b) h = absurd (cc h)
-    by false true settled h = absurd (cc h)
-    by true false fresh h = settles h
-    by true false filled h = settles h
-    by true false (waits b) h = absurd (cc h)
-    by true false settled h = settles h
-    by false false fresh h = settles h
-    by false false filled h = settles h
-    by false false (waits b) h = absurd (cc h)
-    by false false settled h = settles h
+    by : (key : Bool) (d : Had) → Past false key d → xs ≡ asked_entry e ∷ es
+    by true d h = absurd (cc h)
+    by false (waits b) h = absurd (cc h)
+    by false d h = same_value xs (asked_entry e ∷ es) (sym h)
 
 -- ---- outside flow
 
