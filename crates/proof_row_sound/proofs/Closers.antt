@@ -140,9 +140,7 @@ stray_at text more closes tok c k t a keys e hash =
         line_is = allowed_by closes (begins_free_line (previous_by tok) (blanks_and_comment more)) (ap (λ b. begins_free_line b (blanks_and_comment more)) k.previous ∙ quiet.1);
         flow_is = refl;
         keys_are = keys;
-        adjacent_is = refl;
-        started = a.started;
-        going = a.going;
+        unchanged = (refl, refl, refl);
       };
     })
   where

@@ -35,13 +35,14 @@ use Rattle.proof_row_sound.specs.Completes.{put_key, tokens_up_to, Completes}
 use Rattle.proof_row_sound.specs.Stands.{columns, IsOpenHere, Stands}
 use Rattle.proof_row_sound.proofs.Arrivals.{unbroken, not_free, all_go_on, numbered_more, numbered_around, completes_at}
 use Rattle.proof_row_sound.proofs.ColonSpaces.{colon_gap, past_gap, gap_cut, gap_fills, gap_in_line, gap_end}
-use Rattle.proof_row_sound.proofs.Colons.{at_value, value_by, colon_end, paired_level, valued_entry, single_is, one_line_colon, ends_inside}
+use Rattle.proof_row_sound.proofs.Colons.{at_value, value_by, colon_end, valued_entry, single_is, one_line_colon, ends_inside}
 use Rattle.proof_row_sound.proofs.Around.{tokens_before, unbroken_around, one_around, may_around}
 use Rattle.proof_row_sound.proofs.EntryPieces.{low_enough, site_inside, base_inside, later_after, read_inside_at}
 use Rattle.proof_row_sound.proofs.Inserts.{among, first_among, key_longer}
 use Rattle.proof_row_sound.proofs.Indicated.{past_one}
 use Rattle.proof_row_sound.proofs.KeyedColons.{Colon, IsColon, at, before, tokens_past, colon_completes}
 use Rattle.proof_row_sound.proofs.KeyedColons as keyed
+use Rattle.proof_row_sound.proofs.Questions.{pair_level}
 use Rattle.proof_row_sound.proofs.OutsidePieces.{EndsOutside, site_then, ends_outside_at, spaces_in_line}
 use Rattle.proof_row_sound.proofs.Rolled.{RollsTo, rolls_to, OpensOne, opens_one, opens_none, opened_some, some_levels}
 use Rattle.proof_row_sound.proofs.Sides.{with_entries, ArrivesBy, StandsAt}
@@ -159,9 +160,7 @@ module _ (text more : List ℕ) (t : ScannerState) (k : Key) (a : ArrivesBy text
     no_key = refl;
     flow_is = refl;
     keys_are = refl;
-    adjacent_is = refl;
-    started = a.started;
-    going = a.going;
+    unchanged = (refl, refl, refl);
   }
 
   -- the account after it
@@ -195,7 +194,7 @@ module _ (text more : List ℕ) (t : ScannerState) (f : FlowLevel) (fs : List Fl
   in_pair single = put_key single (put (pair_position (past t.held.position) more) Tok.flow_mapping_start) k.number k.position t.held.tokens
 
   abbrev pub held_pair : FlowLevel → Held
-  held_pair g = record t.held { flow = paired_level g ∷ fs; keys = None ∷ ks; position = pair_position (past t.held.position) more; leading = false; key_allowed = false; tokens = in_pair (opens_pair (g ∷ fs)) }
+  held_pair g = record t.held { flow = pair_level InPair g ∷ fs; keys = None ∷ ks; position = pair_position (past t.held.position) more; leading = false; key_allowed = false; tokens = in_pair (opens_pair (g ∷ fs)) }
 
   same_line : (m n : ℕ) → m ≤ n → nat_lt m n ≡ false → (m == n) ≡ true
   same_line m n h g = grind (arith, nat_tests)
@@ -219,7 +218,7 @@ module _ (text more : List ℕ) (t : ScannerState) (f : FlowLevel) (fs : List Fl
   pair_begun InPair h = went (closed (record (at_value more t (InPair ∷ fs) (Some k ∷ ks)) { tokens = in_pair false }) refl, refl)
 
   abbrev pub inner_after : ScannerState
-  inner_after = colon_end t more t.held.indents t.held.indent (in_pair (opens_pair (f ∷ fs))) false (paired_level f ∷ fs) (None ∷ ks)
+  inner_after = colon_end t more t.held.indents t.held.indent (in_pair (opens_pair (f ∷ fs))) false (pair_level InPair f ∷ fs) (None ∷ ks)
 
   abbrev n : keyed.Inner
   n = record {
@@ -286,7 +285,7 @@ module _ (text more : List ℕ) (t : ScannerState) (f : FlowLevel) (fs : List Fl
   pub inner_stands : (not (opens_pair (f ∷ fs)) || (k.position.line == t.held.position.line)) ≡ true → StandsAt text (base_inside Tok.value (58 ∷ []) t.held.position a.site more a.line (valued_entry x ∷ es)) (colon_gap more) inner_after
   unfolding ends_inside
   inner_stands on =
-      read_inside_at text t inner_after f (paired_level f) fs (Some k) ks x (valued_entry x) es a (58 ∷ []) more Tok.value
+      read_inside_at text t inner_after f (pair_level InPair f) fs (Some k) ks x (valued_entry x) es a (58 ∷ []) more Tok.value
       (ends_inside text more t f fs (Some k) ks x es a e (in_pair (opens_pair (f ∷ fs))) (tt, numbered_more (length a.tokens) (length inner_after.held.tokens) ks inner_many (numbered_around (length a.tokens) (Some k) ks a.are_numbered)))
       (λ c cs may.
       subst (λ q. let b : Account = with_entries (site_inside (site_in true gives_colon q a.site) (58 ∷ []) Tok.value more) a.line (valued_entry x ∷ es) in Completes text more (chosen c cs (None ∷ ks) b) (tokens_up_to (chosen c cs (None ∷ ks) b) (None ∷ ks) inner_after.held.tokens))

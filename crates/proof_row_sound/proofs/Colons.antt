@@ -36,7 +36,7 @@ use Rattle.proof_row_sound.proofs.ColonSpaces.{colon_gap, past_gap, gap_cut, gap
 use Rattle.proof_row_sound.proofs.EntryPieces.{low_enough, base_inside, ReadInside, goes_inside_at}
 use Rattle.proof_row_sound.proofs.Indicated.{past_one}
 use Rattle.proof_row_sound.proofs.OutsidePieces.{base_past, read_outside_at, line_free, spaces_in_line, started_tokens}
-use Rattle.proof_row_sound.proofs.Questions.{with_mapping}
+use Rattle.proof_row_sound.proofs.Questions.{with_mapping, pair_level, same_kind}
 use Rattle.proof_row_sound.proofs.Rolled.{RollsTo, rolls_to, OpensOne, opens_one, opens_none, opened_some, some_levels}
 use Rattle.proof_row_sound.proofs.Sides.{ArrivesBy, StandsAt}
 
@@ -101,9 +101,7 @@ keyless_stands text more t a e allowed apart ind i ds columns_are levels awaits 
         line_is = (inl refl, refl, tt);
         flow_is = refl;
         keys_are = refl;
-        adjacent_is = refl;
-        started = a.started;
-        going = a.going;
+        unchanged = (refl, refl, refl);
       };
     })
   where
@@ -158,12 +156,7 @@ keyless_outside text more t a e apart ind deep =
 
 -- ---- in flow
 
--- the flow level after it
-abbrev pub paired_level : FlowLevel → FlowLevel
-paired_level InEntry = InPair
-paired_level f = f
-
-pub paired_levels : (f : FlowLevel) (fs : List FlowLevel) → paired (f ∷ fs) ≡ paired_level f ∷ fs
+pub paired_levels : (f : FlowLevel) (fs : List FlowLevel) → paired (f ∷ fs) ≡ pair_level InPair f ∷ fs
 paired_levels InEntry fs = refl
 paired_levels _ fs = refl
 
@@ -179,14 +172,10 @@ single_is f fs k e h = ap (λ x. takes_pair x e.pair) h.kind_is ∙ by f e.pair 
     by Mapping p i = refl
     by _ p i = rw i refl
 
-pub valued_is : (f : FlowLevel) (k : Option Key) (e : Entry) → IsEntryOf f k e → IsEntryOf (paired_level f) None (valued_entry e)
-valued_is f k e h = record { kind_is = h.kind_is ∙ kind f; pair_is = subst (λ b. IsPairOf (paired_level f) (pair_past b gives_colon e.pair)) (sym (single_is f [] k e h)) (pair f e.pair h.pair_is); key_is = tt }
+pub valued_is : (f : FlowLevel) (k : Option Key) (e : Entry) → IsEntryOf f k e → IsEntryOf (pair_level InPair f) None (valued_entry e)
+valued_is f k e h = record { kind_is = h.kind_is ∙ same_kind InPair f refl; pair_is = subst (λ b. IsPairOf (pair_level InPair f) (pair_past b gives_colon e.pair)) (sym (single_is f [] k e h)) (pair f e.pair h.pair_is); key_is = tt }
   where
-    kind : (f : FlowLevel) → kind_of f ≡ kind_of (paired_level f)
-    kind InEntry = refl
-    kind _ = refl
-
-    pair : (f : FlowLevel) (p : Pair) → IsPairOf f p → IsPairOf (paired_level f) (pair_past (opens_pair (f ∷ [])) gives_colon p)
+    pair : (f : FlowLevel) (p : Pair) → IsPairOf f p → IsPairOf (pair_level InPair f) (pair_past (opens_pair (f ∷ [])) gives_colon p)
     pair InEntry p i = refl
     pair Mapping p i = i
     pair Keyed p i = i
@@ -216,7 +205,7 @@ one_line_colon = refl
 -- What the scanner holds after it, with tokens up to it.
 unfoldable pub ends_inside : (text more : List ℕ) (t : ScannerState) (f : FlowLevel) (fs : List FlowLevel) (k : Option Key) (ks : List (Option Key)) (e : Entry) (es : List Entry) (a : ArrivesBy text t (f ∷ fs) (k ∷ ks) (e ∷ es)) → t.rest ≡ 58 ∷ more → (ts : List Token) →
     AreNumbered (length (ts ++ token t.held.position Tok.value ∷ [])) (None ∷ ks) →
-    ReadInside text t (colon_end t more t.held.indents t.held.indent ts false (paired_level f ∷ fs) (None ∷ ks)) f (paired_level f) fs k ks e (valued_entry e) es a (58 ∷ []) more Tok.value
+    ReadInside text t (colon_end t more t.held.indents t.held.indent ts false (pair_level InPair f ∷ fs) (None ∷ ks)) f (pair_level InPair f) fs k ks e (valued_entry e) es a (58 ∷ []) more Tok.value
 ends_inside text more t f fs k ks e es a cut ts numbered = record {
   is_solid = refl;
   cut = cut;
@@ -236,9 +225,7 @@ ends_inside text more t f fs k ks e es a cut ts numbered = record {
   keys_are = refl;
   are_numbered = numbered;
   before_is = refl;
-  adjacent_is = refl;
-  started = a.started;
-  going = a.going;
+  unchanged = (refl, refl, refl);
 }
 
 -- the tokens with the start of a single pair, if one begins
@@ -253,10 +240,10 @@ pair_tokens false ts before q own e = ap (λ x. x ++ own ∷ []) e
 -- what stands after it, with its account
 pub keyless_within : (text more : List ℕ) (t : ScannerState) (f : FlowLevel) (fs : List FlowLevel) (ks : List (Option Key)) (e : Entry) (es : List Entry) (a : ArrivesBy text t (f ∷ fs) (None ∷ ks) (e ∷ es)) → t.rest ≡ 58 ∷ more → colon_may_precede more ≡ true →
     is_value_indicator true (is_adjacent (before_past (before_by a.site.before) a.separation)) more ≡ true → IsDeep t.held →
-    StandsAt text (base_inside Tok.value (58 ∷ []) t.held.position a.site more a.line (valued_entry e ∷ es)) (colon_gap more) (colon_end t more t.held.indents t.held.indent (with_pair (opens_pair (f ∷ fs)) more t) false (paired_level f ∷ fs) (None ∷ ks))
+    StandsAt text (base_inside Tok.value (58 ∷ []) t.held.position a.site more a.line (valued_entry e ∷ es)) (colon_gap more) (colon_end t more t.held.indents t.held.indent (with_pair (opens_pair (f ∷ fs)) more t) false (pair_level InPair f ∷ fs) (None ∷ ks))
 unfolding is_break ends_inside
 keyless_within text more t f fs ks e es a cut apart ind deep =
-    goes_inside_at text t (colon_end t more t.held.indents t.held.indent (with_pair single more t) false (paired_level f ∷ fs) (None ∷ ks)) f (paired_level f) fs None ks e (valued_entry e) es a (58 ∷ []) more Tok.value (ends_inside text more t f fs None ks e es a cut (with_pair single more t) (tt, numbered_more (length a.tokens) (length (with_pair single more t ++ token t.held.position Tok.value ∷ [])) ks (omega (arith, many)) (numbered_around (length a.tokens) None ks a.are_numbered)))
+    goes_inside_at text t (colon_end t more t.held.indents t.held.indent (with_pair single more t) false (pair_level InPair f ∷ fs) (None ∷ ks)) f (pair_level InPair f) fs None ks e (valued_entry e) es a (58 ∷ []) more Tok.value (ends_inside text more t f fs None ks e es a cut (with_pair single more t) (tt, numbered_more (length a.tokens) (length (with_pair single more t ++ token t.held.position Tok.value ∷ [])) ks (omega (arith, many)) (numbered_around (length a.tokens) None ks a.are_numbered)))
     (record {
       in_line = one_line_colon;
       begun = refl;
@@ -300,9 +287,9 @@ keyless_inside text more t f fs ks e es a cut apart ind deep =
     single = opens_pair (f ∷ fs)
 
     last : Held
-    last = record t.held { flow = paired_level f ∷ fs; keys = None ∷ ks; position = pair_position (past t.held.position) more; leading = false; key_allowed = false; tokens = with_pair single more t }
+    last = record t.held { flow = pair_level InPair f ∷ fs; keys = None ∷ ks; position = pair_position (past t.held.position) more; leading = false; key_allowed = false; tokens = with_pair single more t }
 
-    begun : (f : FlowLevel) → Holds (λ y. y ≡ record t.held { flow = paired_level f ∷ fs; keys = None ∷ ks; position = pair_position (past t.held.position) more; leading = false; key_allowed = false; tokens = with_pair (opens_pair (f ∷ fs)) more t })
+    begun : (f : FlowLevel) → Holds (λ y. y ≡ record t.held { flow = pair_level InPair f ∷ fs; keys = None ∷ ks; position = pair_position (past t.held.position) more; leading = false; key_allowed = false; tokens = with_pair (opens_pair (f ∷ fs)) more t })
         (begin_keyless_value t.held.position (opens_pair (f ∷ fs)) (at_value more t (f ∷ fs) (None ∷ ks)))
     begun Mapping = went (ap (λ v. allow_key (not (in_flow v)) v) (opens_none _ refl))
     begun InEntry = went (ap (λ v. allow_key (not (in_flow v)) v) (opens_none _ refl))

@@ -164,9 +164,7 @@ dash_stands text more t a flow keys e gap allowed apart i ds columns_are levels 
         line_is = (inl refl, refl, tt);
         flow_is = flow;
         keys_are = ap (with_top None) keys;
-        adjacent_is = refl;
-        started = a.started;
-        going = a.going;
+        unchanged = (refl, refl, refl);
       };
     })
   where

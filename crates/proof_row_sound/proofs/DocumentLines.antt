@@ -182,9 +182,7 @@ line_stands text t d a r flow keys =
         line_is = (inr refl, sym r.not_free, tt);
         flow_is = flow;
         keys_are = keys;
-        adjacent_is = refl;
-        started = a.started;
-        going = a.going;
+        unchanged = (refl, refl, refl);
       };
     })
   where
@@ -257,9 +255,7 @@ line_goes text t d f fs k ks e es a r flow keys =
       keys_are = keys;
       are_numbered = (tt, numbered);
       before_is = r.token.before;
-      adjacent_is = refl;
-      started = a.started;
-      going = a.going;
+      unchanged = (refl, refl, refl);
     }) (subst (λ y. GoesInside text t (line_past t (begun_from t.held) d) f fs k ks e (entry_settled e) es a d.piece (next_of d) d.tok y) (sym (ap (λ x. site_in true x t.held.position a.site) r.token.act)) (record {
       in_line = r.in_line;
       begun = r.token.begun;

@@ -63,9 +63,7 @@ pub record ReadInside (text : List ℕ) (t u : ScannerState) (f g : FlowLevel) (
   pub keys_are : u.held.keys ≡ None ∷ ks
   pub are_numbered : AreNumbered (length u.held.tokens) (None ∷ ks)
   pub before_is : before_by (previous_by tok) ≡ other
-  pub adjacent_is : u.held.adjacent_value_at ≡ t.held.adjacent_value_at
-  pub started : u.held.started ≡ true
-  pub going : u.held.ended ≡ false
+  pub unchanged : (u.held.adjacent_value_at ≡ t.held.adjacent_value_at) × (u.held.started ≡ t.held.started) × (u.held.ended ≡ t.held.ended)
 
 -- later in the text
 pub later_after : (p : Position) (piece next separation rest : List ℕ) → NotBefore p (position_after (position_after p piece next) separation rest)
@@ -87,7 +85,7 @@ read_inside_at text t u f g fs k ks e e2 es a piece next tok r rows =
     let some : is_empty t.rest ≡ false = some_rest t.rest piece next r.cut r.is_solid in
     let long : 1 ≤ length piece = not_none piece r.is_solid in
     let was = a.was_adjacent in
-    let same = r.adjacent_is in
+    let same = r.unchanged.0 in
     stands_at text u (g ∷ fs) (None ∷ ks) (e2 ∷ es) r.flow_is r.keys_are (record {
       site = after;
       line = a.line;
@@ -109,8 +107,8 @@ read_inside_at text t u f g fs k ks e e2 es a piece next tok r rows =
       are_numbered = r.are_numbered;
       was_adjacent = λ _. subst (λ b. IsAdjacent (before_past b r.separation) u.held.position u.held.adjacent_value_at u.rest) (sym r.before_is) (adjacent_other u.held.position u.held.adjacent_value_at u.rest (omega (arith, i, j, there, long, was, same)));
       adjacent_before = omega (arith, i, j, there, was, same);
-      started = r.started;
-      going = r.going;
+      started = r.unchanged.1 ∙ a.started;
+      going = r.unchanged.2 ∙ a.going;
       completes = λ c cs may. subst (λ l. let b : Account = with_entries after a.line (e2 ∷ es) in Completes text l (chosen c cs (None ∷ ks) b) (tokens_up_to (chosen c cs (None ∷ ks) b) (None ∷ ks) u.held.tokens)) r.is_rest (rows c cs may);
     })
   where

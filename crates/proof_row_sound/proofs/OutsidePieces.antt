@@ -55,9 +55,7 @@ pub record EndsOutside (t u : ScannerState) (piece next : List ℕ) (tok : Tok) 
   pub no_key : is_waiting after.line ≡ false
   pub flow_is : u.held.flow ≡ []
   pub keys_are : u.held.keys ≡ None ∷ []
-  pub adjacent_is : u.held.adjacent_value_at ≡ t.held.adjacent_value_at
-  pub started : u.held.started ≡ true
-  pub going : u.held.ended ≡ false
+  pub unchanged : (u.held.adjacent_value_at ≡ t.held.adjacent_value_at) × (u.held.started ≡ t.held.started) × (u.held.ended ≡ t.held.ended)
 
 -- If the account after it is one of a row, what holds between two fetches holds after it, with this account.
 pub ends_outside_at : (text : List ℕ) (t u : ScannerState) (k : Option Key) (a : ArrivesBy text t [] (k ∷ []) []) (piece next : List ℕ) (tok : Tok) (after : Outside) (x : Site) → t.held.position ≡ x.position → (r : EndsOutside t u piece next tok after x) →
@@ -87,9 +85,9 @@ ends_outside_at text t u k a piece next tok after x place r rows =
       no_key = r.no_key;
       are_numbered = (tt, tt);
       was_adjacent = λ e. absurd (cc e);
-      adjacent_before = let e = r.adjacent_is in omega (arith, i, j, was, there, e);
-      started = r.started;
-      going = r.going;
+      adjacent_before = let e = r.unchanged.0 in omega (arith, i, j, was, there, e);
+      started = r.unchanged.1 ∙ a.started;
+      going = r.unchanged.2 ∙ a.going;
       completes = λ c cs may. subst (λ y. Completes text y (with_entries (site_then x piece tok next after) after.line []) (λ ws last. u.held.tokens)) r.is_rest rows;
     })
 

@@ -131,9 +131,7 @@ question_stands text more t a flow keys e allowed begins apart fills i ds column
         line_is = (inl refl, ap (λ fs. (not (not (is_empty fs)) && ends.has_break (white_of false more)) || not (not (is_empty fs))) flow ∙ or_true (ends.has_break (white_of false more)), tt);
         flow_is = flow;
         keys_are = ap (with_top None) keys;
-        adjacent_is = refl;
-        started = a.started;
-        going = a.going;
+        unchanged = (refl, refl, refl);
       };
     })
   where
@@ -200,12 +198,16 @@ question_outside text more t a flow keys e gap allowed deep =
 
 -- ---- in flow
 
--- the flow level after it
-abbrev pub asked_level : FlowLevel → FlowLevel
-asked_level InEntry = Keyed
-asked_level f = f
+-- the flow level after a piece that begins a pair, by the level of such a pair in a sequence
+abbrev pub pair_level : (pair : FlowLevel) → FlowLevel → FlowLevel
+pair_level p InEntry = p
+pair_level p f = f
 
-pub asked_levels : (f : FlowLevel) (fs : List FlowLevel) → keyed (f ∷ fs) ≡ asked_level f ∷ fs
+pub same_kind : (p f : FlowLevel) → kind_of InEntry ≡ kind_of p → kind_of f ≡ kind_of (pair_level p f)
+same_kind p InEntry e = e
+same_kind p _ e = refl
+
+pub asked_levels : (f : FlowLevel) (fs : List FlowLevel) → keyed (f ∷ fs) ≡ pair_level Keyed f ∷ fs
 asked_levels InEntry fs = refl
 asked_levels _ fs = refl
 
@@ -213,14 +215,10 @@ asked_levels _ fs = refl
 abbrev pub asked_entry : Entry → Entry
 asked_entry e = record { kind = e.kind; pair = pair_past (takes_pair e.kind e.pair) gives_question e.pair; had = settled }
 
-asked_is : (f : FlowLevel) (k : Option Key) (e : Entry) → IsEntryOf f k e → IsEntryOf (asked_level f) None (asked_entry e)
-asked_is f k e h = record { kind_is = h.kind_is ∙ kind f; pair_is = pair f e.pair h.pair_is; key_is = tt }
+asked_is : (f : FlowLevel) (k : Option Key) (e : Entry) → IsEntryOf f k e → IsEntryOf (pair_level Keyed f) None (asked_entry e)
+asked_is f k e h = record { kind_is = h.kind_is ∙ same_kind Keyed f refl; pair_is = pair f e.pair h.pair_is; key_is = tt }
   where
-    kind : (f : FlowLevel) → kind_of f ≡ kind_of (asked_level f)
-    kind InEntry = refl
-    kind _ = refl
-
-    pair : (f : FlowLevel) (p : Pair) → IsPairOf f p → IsPairOf (asked_level f) (pair_past (takes_pair e.kind e.pair) gives_question p)
+    pair : (f : FlowLevel) (p : Pair) → IsPairOf f p → IsPairOf (pair_level Keyed f) (pair_past (takes_pair e.kind e.pair) gives_question p)
     pair Mapping no_pair i = tt
     pair Mapping asked_pair i = tt
     pair Mapping single_pair i = absurd i
@@ -257,7 +255,7 @@ pub question_inside : (text more : List ℕ) (t : ScannerState) (f : FlowLevel) 
     StandsAt text (base_inside Tok.key (63 ∷ []) t.held.position a.site more a.line (asked_entry e ∷ es)) (white_of false more) (question_within t more)
 unfolding is_break
 question_inside text more t f fs k ks e es a flow keys cut deep begins apart fills =
-    goes_inside_at text t (question_within t more) f (asked_level f) fs k ks e (asked_entry e) es a (63 ∷ []) more Tok.key (record {
+    goes_inside_at text t (question_within t more) f (pair_level Keyed f) fs k ks e (asked_entry e) es a (63 ∷ []) more Tok.key (record {
       is_solid = refl;
       cut = cut;
       separation = white_of false more;
@@ -276,9 +274,7 @@ question_inside text more t f fs k ks e es a flow keys cut deep begins apart fil
       keys_are = ap (with_top None) keys;
       are_numbered = (tt, numbered_more (length a.tokens) (length (t.held.tokens ++ token t.held.position Tok.key ∷ [])) ks (omega (arith, more_tokens, same)) (numbered_around (length a.tokens) k ks a.are_numbered));
       before_is = refl;
-      adjacent_is = refl;
-      started = a.started;
-      going = a.going;
+      unchanged = (refl, refl, refl);
     }) (record {
       in_line = one_line 63 refl;
       begun = refl;
@@ -292,7 +288,7 @@ question_inside text more t f fs k ks e es a flow keys cut deep begins apart fil
     x : Site
     x = site_in true gives_question t.held.position a.site
 
-    levels : keyed t.held.flow ≡ asked_level f ∷ fs
+    levels : keyed t.held.flow ≡ pair_level Keyed f ∷ fs
     levels = ap keyed flow ∙ asked_levels f fs
 
     same : length t.held.tokens ≡ length a.tokens
