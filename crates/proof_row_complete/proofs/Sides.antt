@@ -31,6 +31,13 @@ pub record GoesOutside (text : List ℕ) (ws : List Step) (last : List ℕ) (t :
   pub is_spelled : spelled ws last ≡ side.here.separation ++ t.rest
   pub is_row : IsRowFrom (Some (Outer side.here.site (line_by outside side.key side.here.line))) ws last
 
+-- what may begin, as the row has it, and the account
+abbrev pub line_out : {text : List ℕ} {ws : List Step} {last : List ℕ} {t : ScannerState} → GoesOutside text ws last t → Line
+line_out g = line_by g.outside g.side.key g.side.here.line
+
+abbrev pub account_out : {text : List ℕ} {ws : List Step} {last : List ℕ} {t : ScannerState} → GoesOutside text ws last t → Account
+account_out g = Outer g.side.here.site (line_out g)
+
 -- In flow the innermost entry has its flow level and its key.
 pub record GoesInside (text : List ℕ) (ws : List Step) (last : List ℕ) (t : ScannerState) : Type 0 where
   pub side : ArrivesInside text t

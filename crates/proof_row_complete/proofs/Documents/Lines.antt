@@ -19,11 +19,10 @@ use Rattle.proof_row_sound.specs.Choices.{line_by, outside_key, MayChoose}
 use Rattle.proof_row_sound.specs.Stands.{IsFreeKey}
 use Rattle.proof_row_sound.proofs.Arrivals.{some_rest}
 use Rattle.proof_row_sound.proofs.DocumentLines.{Read, next_of, IsRead, line_past, begun_from, line_begins, all_ended, unrolled_outside, unrolled_inside, line_base, entry_settled, line_base_inside, outside_at, inside_at}
-use Rattle.proof_row_sound.proofs.NodesOutside.{Outer}
 use Rattle.proof_row_sound.proofs.Sides.{with_entries}
 use Rattle.proof_row_complete.specs.Goes.{Goes, GoesHere}
 use Rattle.proof_row_complete.proofs.Indicators.Passed.{same_value, line_inside, not_required}
-use Rattle.proof_row_complete.proofs.Sides.{GoesOutside, GoesInside, goes_side, goes_on, line_in, entry_in, around_in, account_in}
+use Rattle.proof_row_complete.proofs.Sides.{GoesOutside, GoesInside, goes_side, goes_on, line_out, account_out, line_in, entry_in, around_in, account_in}
 use Rattle.proof_row_complete.proofs.Steps.{with_key, GoesPast, step_read, WentOutside, went_outside, WentInside, went_inside}
 use Rattle.proof_row_complete.proofs.Waits.{on_its_line, waits_on}
 
@@ -112,20 +111,17 @@ module _ (text : List ℕ) (w : Step) (ws : List Step) (last : List ℕ) (t : Sc
       f : List ℕ
       f = g.side.here.separation
 
-      l : Line
-      l = line_by g.outside g.side.key g.side.here.line
-
       x : Site
       x = site_at false s f d.piece d.tok (next_of d)
 
-      n : GoesPast (Outer s l) (step f) (next_of d) ws last
-      n = step_read (Outer s l) w ws last (step f) (next_of d) g.is_row (g.is_spelled ∙ ap (λ y. f ++ y) r.cut) (
+      n : GoesPast (account_out g) (step f) (next_of d) ws last
+      n = step_read (account_out g) w ws last (step f) (next_of d) g.is_row (g.is_spelled ∙ ap (λ y. f ++ y) r.cut) (
         subst (λ y. is_separation false f y ≡ true) r.cut g.side.here.is_filled,
-        (solid, written (Outer s l) x (site_in false gives_marker t.held.position s) f (place false s f g.side.here.position_is) (r.is_piece (seen (Outer s l) (site_in false gives_marker t.held.position s) f) r.at_margin refl)),
+        (solid, written (account_out g) x (site_in false gives_marker t.held.position s) f (place false s f g.side.here.position_is) (r.is_piece (seen (account_out g) (site_in false gives_marker t.held.position s) f) r.at_margin refl)),
       ) (clean g.side.here.is_clean)
 
-      y : WentOutside s l (with_key (step f) n.key) (next_of d) ws last
-      y = went_outside s l (with_key (step f) n.key) (next_of d) ws last n.is_row
+      y : WentOutside s (line_out g) (with_key (step f) n.key) (next_of d) ws last
+      y = went_outside s (line_out g) (with_key (step f) n.key) (next_of d) ws last n.is_row
 
       then : (y.after ≡ record { line = taken; blocks = x.blocks }) × (is_waiting y.line_here ≡ false)
       then = marker_after (is_in_column x.position.col x.blocks) x.position x.blocks n.key y.line_here y.after (ap (λ a. line_of_piece (is_in_column x.position.col x.blocks) x.position x.blocks a n.key y.line_here) (sym r.token.act) ∙ y.after_is)

@@ -45,12 +45,12 @@ use Rattle.proof_row_sound.proofs.Blanks.{spaced_parted, past_rest}
 use Rattle.proof_row_sound.proofs.ColonKeys.{keyed_base, keyed_stands, keyed_is, inner_stands, outside_after}
 use Rattle.proof_row_sound.proofs.ColonKeys as keyed
 use Rattle.proof_row_sound.proofs.ColonSpaces.{colon_gap, past_gap, gap_cut, gap_fills, gap_end, past_colon}
-use Rattle.proof_row_sound.proofs.Colons.{value_here, at_value, value_by, colon_end, after_colon, keyless_stands, KeylessLevels, keyless_levels, paired_level, valued_entry, single_is, one_line_colon, with_pair, keyless_within}
+use Rattle.proof_row_sound.proofs.Colons.{value_here, at_value, value_by, colon_end, after_colon, keyless_stands, KeylessLevels, keyless_levels, valued_entry, single_is, one_line_colon, with_pair, keyless_within}
 use Rattle.proof_row_sound.proofs.EntryPieces.{site_inside, base_inside}
 use Rattle.proof_row_sound.proofs.KeysBefore.{KeysBefore}
 use Rattle.proof_row_sound.proofs.NodesOutside.{Outer}
 use Rattle.proof_row_sound.proofs.OutsidePieces.{base_past}
-use Rattle.proof_row_sound.proofs.Questions.{with_mapping}
+use Rattle.proof_row_sound.proofs.Questions.{with_mapping, pair_level}
 use Rattle.proof_row_sound.proofs.Rolled.{opens_none}
 use Rattle.proof_row_sound.proofs.Sides.{with_entries, ArrivesBy, StandsAt}
 use Rattle.proof_row_complete.specs.Goes.{Succeeds, went, Goes}
@@ -310,14 +310,14 @@ is_chosen false k e again allowed here single h unfilled on = absurd (unfilled h
 
 -- ---- what the model does in flow
 
-keyless_goes : (more : List ℕ) (t : ScannerState) (fs : List FlowLevel) (ks : List (Option Key)) (f : FlowLevel) → value_by more t (f ∷ fs) (None ∷ ks) ≡ Ok (colon_end t more t.held.indents t.held.indent (with_pair (opens_pair (f ∷ fs)) more t) false (paired_level f ∷ fs) (None ∷ ks))
+keyless_goes : (more : List ℕ) (t : ScannerState) (fs : List FlowLevel) (ks : List (Option Key)) (f : FlowLevel) → value_by more t (f ∷ fs) (None ∷ ks) ≡ Ok (colon_end t more t.held.indents t.held.indent (with_pair (opens_pair (f ∷ fs)) more t) false (pair_level InPair f ∷ fs) (None ∷ ks))
 unfolding begin_keyless_value begin_keyless_mapping
 keyless_goes more t fs ks f = by f
   where
     Left : Held → Result ScannerState Fault
     Left z = with_held (record { rest = past_gap more; held = at_value more t (f ∷ fs) (None ∷ ks) }) (Ok (allow_key (not (in_flow z)) z)) >>= λ y. Ok (on_held (push t.held.position Tok.value) y)
 
-    by : (f : FlowLevel) → value_by more t (f ∷ fs) (None ∷ ks) ≡ Ok (colon_end t more t.held.indents t.held.indent (with_pair (opens_pair (f ∷ fs)) more t) false (paired_level f ∷ fs) (None ∷ ks))
+    by : (f : FlowLevel) → value_by more t (f ∷ fs) (None ∷ ks) ≡ Ok (colon_end t more t.held.indents t.held.indent (with_pair (opens_pair (f ∷ fs)) more t) false (pair_level InPair f ∷ fs) (None ∷ ks))
     by Mapping = ap Left (opens_none _ refl)
     by InEntry = ap Left (opens_none _ refl)
     by Keyed = ap Left (opens_none _ refl)
@@ -328,7 +328,7 @@ abbrev in_pair : ScannerState → (more : List ℕ) → Key → (single : Bool) 
 in_pair t more k single = put_key single (put (pair_position (past t.held.position) more) Tok.flow_mapping_start) k.number k.position t.held.tokens
 
 keyed_goes : (more : List ℕ) (t : ScannerState) (fs : List FlowLevel) (k : Key) (ks : List (Option Key)) (f : FlowLevel) → (not (opens_pair (f ∷ fs)) || (k.position.line == t.held.position.line)) ≡ true →
-    value_by more t (f ∷ fs) (Some k ∷ ks) ≡ Ok (colon_end t more t.held.indents t.held.indent (in_pair t more k (opens_pair (f ∷ fs))) false (paired_level f ∷ fs) (None ∷ ks))
+    value_by more t (f ∷ fs) (Some k ∷ ks) ≡ Ok (colon_end t more t.held.indents t.held.indent (in_pair t more k (opens_pair (f ∷ fs))) false (pair_level InPair f ∷ fs) (None ∷ ks))
 unfolding insert_key begin_pair roll_indent
 keyed_goes more t fs k ks f on = by f on
   where
@@ -343,7 +343,7 @@ keyed_goes more t fs k ks f on = by f on
     later m n h = grind (arith, nat_tests)
 
     by : (f : FlowLevel) → (not (opens_pair (f ∷ fs)) || (k.position.line == t.held.position.line)) ≡ true →
-        value_by more t (f ∷ fs) (Some k ∷ ks) ≡ Ok (colon_end t more t.held.indents t.held.indent (in_pair t more k (opens_pair (f ∷ fs))) false (paired_level f ∷ fs) (None ∷ ks))
+        value_by more t (f ∷ fs) (Some k ∷ ks) ≡ Ok (colon_end t more t.held.indents t.held.indent (in_pair t more k (opens_pair (f ∷ fs))) false (pair_level InPair f ∷ fs) (None ∷ ks))
     by Mapping on = ap Ends (opens_none (held Mapping) refl)
     by Keyed on = ap Ends (opens_none (held Keyed) refl)
     by InPair on = ap Ends (opens_none (held InPair) refl)
@@ -433,14 +433,14 @@ module _ (text more : List ℕ) (w : Step) (ws : List Step) (last : List ℕ) (t
           ((u : ScannerState) → StandsAt text (base_inside Tok.value (58 ∷ []) t.held.position a.site more a.line (valued_entry g.side.entry ∷ g.side.entries)) (colon_gap more) u → u.held.keys ≡ None ∷ g.side.keys → u.held.position ≡ end → u.rest ≡ past_gap more → Goes text ws last u) → Goal k
       by None keys a h ind goes =
           subst (λ q. Succeeds (Goes text ws last) q) (sym (value_is more t (g.side.level ∷ g.side.levels) (None ∷ g.side.keys) e g.side.flow_is keys apart ∙ keyless_goes more t g.side.levels g.side.keys g.side.level))
-          (went (goes (colon_end t more t.held.indents t.held.indent (with_pair (opens_pair (g.side.level ∷ g.side.levels)) more t) false (paired_level g.side.level ∷ g.side.levels) (None ∷ g.side.keys))
+          (went (goes (colon_end t more t.held.indents t.held.indent (with_pair (opens_pair (g.side.level ∷ g.side.levels)) more t) false (pair_level InPair g.side.level ∷ g.side.levels) (None ∷ g.side.keys))
           (keyless_within text more t g.side.level g.side.levels g.side.keys g.side.entry g.side.entries a e apart ind deep) refl refl refl))
       by (Some k) keys a h ind goes =
           let on : (not (opens_pair (g.side.level ∷ g.side.levels)) || (k.position.line == t.held.position.line)) ≡ true =
           ap (λ b. not b || (k.position.line == t.held.position.line)) (sym (single_is g.side.level g.side.levels (Some k) g.side.entry a.are_entries.0)) ∙
           is_chosen (first_choice g.inside) k g.side.entry (is_renewed a.site.before a.separation) t.held.key_allowed z.position (takes_pair g.side.entry.kind g.side.entry.pair) a.are_entries.1 h.0 h.1 in
           subst (λ q. Succeeds (Goes text ws last) q) (sym (value_is more t (g.side.level ∷ g.side.levels) (Some k ∷ g.side.keys) e g.side.flow_is keys apart ∙ keyed_goes more t g.side.levels k g.side.keys g.side.level on))
-          (went (goes (colon_end t more t.held.indents t.held.indent (in_pair t more k (opens_pair (g.side.level ∷ g.side.levels))) false (paired_level g.side.level ∷ g.side.levels) (None ∷ g.side.keys))
+          (went (goes (colon_end t more t.held.indents t.held.indent (in_pair t more k (opens_pair (g.side.level ∷ g.side.levels))) false (pair_level InPair g.side.level ∷ g.side.levels) (None ∷ g.side.keys))
           (inner_stands text more t g.side.level g.side.levels k g.side.keys g.side.entry g.side.entries a e apart ind deep on) refl refl refl))
 
 -- `:`

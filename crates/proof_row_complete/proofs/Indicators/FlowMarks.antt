@@ -1,5 +1,5 @@
 -- A comma or a closing bracket that a row reads is read by the scanner's model, and the row goes on after it.
-use Rattle.std.proofs.Common.{◌≡◌, ℕ, List, [], ◌∷◌, ◌++◌, Bool, true, false, not, ◌⊎◌, inl, inr, if◌then◌else◌, Some, None, Ok, Err, refl, ap, sym, ◌∙◌, subst}
+use Rattle.std.proofs.Common.{◌≡◌, ℕ, List, [], ◌∷◌, ◌++◌, Bool, true, false, ◌⊎◌, inl, inr, if◌then◌else◌, Some, None, Ok, Err, refl, ap, sym, ◌∙◌, subst}
 use Rattle.yaml_tokens.specs.declared.problem.Fault.TheVariants.{At}
 use Rattle.yaml_tokens.specs.declared.problem.Problem.TheVariants as problem
 use Rattle.defs_text.specs.Position.{Position, position_after}
@@ -9,12 +9,9 @@ use Rattle.defs_token.specs.Piece.{IsPiece}
 use Rattle.defs_token.specs.Separation.{is_separation}
 use Rattle.defs_row.specs.Step.{Step, has_break, blanks_and_comment, past_blanks_and_comment}
 use Rattle.defs_row.specs.Column.{is_in_column}
-use Rattle.defs_row.specs.Indentation.{is_indented_by_spaces}
-use Rattle.defs_row.specs.Lines.{further_lines_stand}
-use Rattle.defs_row.specs.Following.{may_precede}
 use Rattle.defs_row.specs.Key.{Line, free, taken, waits, is_waiting, begins_free_line, Outside, line_past}
 use Rattle.defs_row.specs.FlowEntry.{Had, fresh, filled, waits as had_waits, settled, Entry, is_renewed, begun_by, entries_past, past_end, first_entry}
-use Rattle.defs_row.specs.Account.{Site, Account, site_at, site_in, site_past, may_stand, is_deep_enough, least_for, seen}
+use Rattle.defs_row.specs.Account.{Site, Account, site_at, site_in, site_past, seen}
 use Rattle.defs_row.specs.Tokens.{shown_position, past_line_rest}
 use Rattle.defs_row.specs.Row.{IsRowFrom}
 use Rattle.model_lexers.specs.Machine.{past}
@@ -25,19 +22,18 @@ use Rattle.defs_text.specs.Text.{has_no_nul}
 use Rattle.proof_cut.proofs.FlowEnds.{higher_keys, ended_now, entry_now, ended_is, entry_is}
 use Rattle.proof_cut.proofs.Nodes.{IsDeep}
 use Rattle.proof_row_sound.specs.Arrives.{site_here}
-use Rattle.proof_row_sound.specs.Choices.{line_by, outside_key, chosen, MayChoose}
+use Rattle.proof_row_sound.specs.Choices.{outside_key, chosen, MayChoose}
 use Rattle.proof_row_sound.proofs.Blanks.{line_rest_cut, line_rest_fills}
 use Rattle.proof_row_sound.proofs.Closers.{previous_of, IsCloser, comma, closing_bracket, closing_brace, site_alike, line_then, stray_past, stray_base}
 use Rattle.proof_row_sound.proofs.ClosersInside.{closed_past, closed_base, closed_inside}
 use Rattle.proof_row_sound.proofs.EntryEnds.{act_by, entries_after, keys_by}
 use Rattle.proof_row_sound.proofs.FlowMarks.{stray_outside, after_comma, adjacent_is, after_closing}
 use Rattle.proof_row_sound.proofs.Indicated.{past_it}
-use Rattle.proof_row_sound.proofs.NodesOutside.{Outer}
 use Rattle.proof_row_sound.proofs.Sides.{with_entries, ArrivesInside}
 use Rattle.proof_row_complete.specs.Goes.{Succeeds, went, Goes}
 use Rattle.proof_row_complete.specs.EachReads.{Reads}
-use Rattle.proof_row_complete.proofs.Indicators.Passed.{passed, last_of, free_key, same_value, line_inside, not_required, may_on}
-use Rattle.proof_row_complete.proofs.Sides.{GoesOutside, GoesInside, goes_side, goes_on, line_in, entry_in, around_in, account_in}
+use Rattle.proof_row_complete.proofs.Indicators.Passed.{passed, no_comment, free_key, same_value, line_inside, not_required, may_on}
+use Rattle.proof_row_complete.proofs.Sides.{GoesOutside, GoesInside, goes_side, goes_on, line_out, account_out, line_in, entry_in, around_in, account_in}
 use Rattle.proof_row_complete.proofs.Steps.{with_key, GoesPast, step_read, WentOutside, went_outside, WentInside, went_inside}
 use Rattle.proof_row_complete.proofs.Waits.{on_its_line}
 
@@ -112,13 +108,6 @@ module _ (text more : List ℕ) (w : Step) (ws : List Step) (last : List ℕ) (c
   clean : has_no_nul t.rest ≡ true → has_no_nul ((c ∷ []) ++ more) ≡ true
   clean h = subst (λ r. has_no_nul r ≡ true) cut h
 
-  no_hash : (fl : Bool) (s x : Site) (f : List ℕ) → may_stand fl s x f (c ∷ []) tok more ≡ true → begins_with 35 more ≡ false
-  no_hash fl s x f h = none (begins_with 35 more) (sym (k.precedes fl x.blocks (c ∷ []) more) ∙ last_of (is_indented_by_spaces s.before s.blocks s.awaits f) (is_deep_enough fl tok x) (further_lines_stand (least_for tok x) tok (c ∷ [])) (may_precede fl x.blocks tok (c ∷ []) more) h)
-    where
-      none : (b : Bool) → not b ≡ true → b ≡ false
-      none true h = absurd (cc h)
-      none false h = refl
-
   -- the site where it stands
   place : (fl : Bool) (s : Site) (f : List ℕ) → t.held.position ≡ position_after s.position f t.rest → site_at fl s f (c ∷ []) tok more ≡ site_here fl t.held.position s
   place fl s f p = ap (λ x. site_in fl x (position_after s.position f (c ∷ more)) s) k.act ∙ (site_alike closes fl (position_after s.position f (c ∷ more)) s ∙ ap (λ q. site_here fl q s) (sym (p ∙ ap (λ r. position_after s.position f r) cut)))
@@ -146,18 +135,15 @@ module _ (text more : List ℕ) (w : Step) (ws : List Step) (last : List ℕ) (c
       f : List ℕ
       f = g.side.here.separation
 
-      l : Line
-      l = line_by g.outside g.side.key g.side.here.line
-
       x : Site
       x = site_at false s f (c ∷ []) tok more
 
-      r : GoesPast (Outer s l) (step f) more ws last
-      r = step_read (Outer s l) w ws last (step f) more g.is_row (g.is_spelled ∙ ap (λ y. f ++ y) cut)
-          (subst (λ y. is_separation false f y ≡ true) cut g.side.here.is_filled, (refl, written (Outer s l) x f (k.is_end.piece (seen (Outer s l) x f) more None refl))) (clean g.side.here.is_clean)
+      r : GoesPast (account_out g) (step f) more ws last
+      r = step_read (account_out g) w ws last (step f) more g.is_row (g.is_spelled ∙ ap (λ y. f ++ y) cut)
+          (subst (λ y. is_separation false f y ≡ true) cut g.side.here.is_filled, (refl, written (account_out g) x f (k.is_end.piece (seen (account_out g) x f) more None refl))) (clean g.side.here.is_clean)
 
-      y : WentOutside s l (with_key (step f) r.key) more ws last
-      y = went_outside s l (with_key (step f) r.key) more ws last r.is_row
+      y : WentOutside s (line_out g) (with_key (step f) r.key) more ws last
+      y = went_outside s (line_out g) (with_key (step f) r.key) more ws last r.is_row
 
       then : (y.after ≡ record { line = line_then closes; blocks = x.blocks }) × (is_waiting y.line_here ≡ false)
       then = stray_after closes (is_in_column x.position.col x.blocks) x.position x.blocks r.key y.line_here y.after (ap (λ z. line_past (is_in_column x.position.col x.blocks) x.position x.blocks z r.key y.line_here) (sym k.act) ∙ y.after_is)
@@ -166,7 +152,7 @@ module _ (text more : List ℕ) (w : Step) (ws : List Step) (last : List ℕ) (c
       need = ap (λ ks. is_required (top_key ks)) g.side.keys_are ∙ not_required g.outside g.side.key (begins_free_line s.before f) g.side.here.line y.line_here t.held.position t.rest y.line_is then.1 g.may
 
       hash : begins_with 35 more ≡ false
-      hash = no_hash false s x f y.stands
+      hash = no_comment false s x f (c ∷ []) tok more (k.precedes false x.blocks (c ∷ []) more) y.stands
 
       At : Site → Outside → List Entry → Type 0
       At z o es = IsRowFrom (Some (record { site = site_past false z (c ∷ []) tok more o.blocks; line = o.line; entries = es })) ws last
@@ -205,7 +191,7 @@ module _ (text more : List ℕ) (w : Step) (ws : List Step) (last : List ℕ) (c
       y = went_inside s (line_in g) (entry_in g) (around_in g) (with_key (step f) r.key) more ws last r.is_row
 
       hash : begins_with 35 more ≡ false
-      hash = no_hash true s x f y.stands
+      hash = no_comment true s x f (c ∷ []) tok more (k.precedes true x.blocks (c ∷ []) more) y.stands
 
       At : Site → Line → List Entry → Type 0
       At z m xs = IsRowFrom (Some (with_entries (site_past true z (c ∷ []) tok more z.blocks) m xs)) ws last

@@ -13,12 +13,9 @@ use Rattle.defs_token.specs.Piece.{IsPiece}
 use Rattle.defs_token.specs.Separation.{is_separation}
 use Rattle.defs_row.specs.Step.{Step, spelled, Act, act_of, gives_node, previous_by, has_break, blanks_and_comment, past_blanks_and_comment}
 use Rattle.defs_row.specs.Column.{is_in_column}
-use Rattle.defs_row.specs.Indentation.{is_indented_by_spaces}
-use Rattle.defs_row.specs.Lines.{further_lines_stand}
-use Rattle.defs_row.specs.Following.{may_precede}
 use Rattle.defs_row.specs.Key.{Line, taken, waits, begins_free_line, Outside, line_past}
 use Rattle.defs_row.specs.FlowEntry.{Pair, Had, Entry, takes_pair, is_renewed, renewed, had_after, pair_past, begun_by, with_had, entries_past, first_entry}
-use Rattle.defs_row.specs.Account.{Site, Account, site_at, site_in, site_past, may_stand, is_deep_enough, least_for, level_of, seen}
+use Rattle.defs_row.specs.Account.{Site, Account, site_at, site_in, site_past, level_of, seen}
 use Rattle.defs_row.specs.Tokens.{shown_position, past_line_rest}
 use Rattle.defs_row.specs.Row.{IsRowFrom}
 use Rattle.model_lexers.specs.Machine.{past}
@@ -40,17 +37,16 @@ use Rattle.proof_row_sound.proofs.Blanks.{line_rest_cut, line_rest_fills}
 use Rattle.proof_row_sound.proofs.FlowStarts.{with_key as key_saved, begun_now, levels_outside, opened_outside}
 use Rattle.proof_row_sound.proofs.KeyStarts.{new_key, keys_saved}
 use Rattle.proof_row_sound.proofs.NodeSteps.{saved, entry_past_node}
-use Rattle.proof_row_sound.proofs.NodesOutside.{Outer}
 use Rattle.proof_row_sound.proofs.Openers.{IsOpener, opening_bracket, opening_brace, opened_past, opened_base, opened_base_inside, opened_inside}
 use Rattle.proof_row_sound.proofs.Outsides.{must_be_here}
 use Rattle.proof_row_sound.proofs.Rolled.{opens_none}
 use Rattle.proof_row_sound.proofs.Sides.{with_entries}
 use Rattle.proof_row_complete.specs.Goes.{Succeeds, went, Goes}
 use Rattle.proof_row_complete.specs.EachReads.{Reads}
-use Rattle.proof_row_complete.proofs.Indicators.Passed.{passed, last_of, same_value, line_inside, may_on}
+use Rattle.proof_row_complete.proofs.Indicators.Passed.{passed, no_comment, same_value, line_inside, may_on}
 use Rattle.proof_row_complete.proofs.KindsOfPieces.{kind_is}
 use Rattle.proof_row_complete.proofs.Nodes.Choices.{separated_by, ChosenOutside, chosen_outside, ChosenInside, chosen_inside}
-use Rattle.proof_row_complete.proofs.Sides.{GoesOutside, GoesInside, goes_side, goes_on, line_in, entry_in, around_in, account_in}
+use Rattle.proof_row_complete.proofs.Sides.{GoesOutside, GoesInside, goes_side, goes_on, line_out, account_out, line_in, entry_in, around_in, account_in}
 use Rattle.proof_row_complete.proofs.Steps.{with_key, GoesPast, step_here, step_read, WentOutside, went_outside, WentInside, went_inside}
 use Rattle.proof_row_complete.proofs.Waits.{waits_on, on_its_line}
 
@@ -125,13 +121,6 @@ module _ (text more : List ℕ) (w : Step) (ws : List Step) (last : List ℕ) (l
   clean : has_no_nul t.rest ≡ true → has_no_nul ((c ∷ []) ++ more) ≡ true
   clean h = subst (λ r. has_no_nul r ≡ true) cut h
 
-  no_hash : (fl : Bool) (s x : Site) (f : List ℕ) → may_stand fl s x f (c ∷ []) tok more ≡ true → begins_with 35 more ≡ false
-  no_hash fl s x f h = none (begins_with 35 more) (sym (o.precedes fl x.blocks (c ∷ []) more) ∙ last_of (is_indented_by_spaces s.before s.blocks s.awaits f) (is_deep_enough fl tok x) (further_lines_stand (least_for tok x) tok (c ∷ [])) (may_precede fl x.blocks tok (c ∷ []) more) h)
-    where
-      none : (b : Bool) → not b ≡ true → b ≡ false
-      none true h = absurd (cc h)
-      none false h = refl
-
   -- the site where it stands
   place : (fl : Bool) (s : Site) (f : List ℕ) → t.held.position ≡ position_after s.position f t.rest → site_at fl s f (c ∷ []) tok more ≡ site_here fl t.held.position s
   place fl s f p = ap (λ x. site_in fl x (position_after s.position f (c ∷ more)) s) o.act ∙ ap (λ q. site_here fl q s) (sym (p ∙ ap (λ r. position_after s.position f r) cut))
@@ -163,9 +152,6 @@ module _ (text more : List ℕ) (w : Step) (ws : List Step) (last : List ℕ) (l
       f : List ℕ
       f = g.side.here.separation
 
-      l : Line
-      l = line_by g.outside g.side.key g.side.here.line
-
       x : Site
       x = site_at false s f (c ∷ []) tok more
 
@@ -175,15 +161,15 @@ module _ (text more : List ℕ) (w : Step) (ws : List Step) (last : List ℕ) (l
       y : Option Key
       y = saved t.held.key_allowed own g.side.key
 
-      r : GoesPast (Outer s l) (step f) more ws last
-      r = step_read (Outer s l) w ws last (step f) more g.is_row (g.is_spelled ∙ ap (λ y. f ++ y) cut)
-          (subst (λ y. is_separation false f y ≡ true) cut g.side.here.is_filled, (refl, written (Outer s l) x f (o.is_opening.piece (seen (Outer s l) x f) more None refl))) (clean g.side.here.is_clean)
+      r : GoesPast (account_out g) (step f) more ws last
+      r = step_read (account_out g) w ws last (step f) more g.is_row (g.is_spelled ∙ ap (λ y. f ++ y) cut)
+          (subst (λ y. is_separation false f y ≡ true) cut g.side.here.is_filled, (refl, written (account_out g) x f (o.is_opening.piece (seen (account_out g) x f) more None refl))) (clean g.side.here.is_clean)
 
-      v : WentOutside s l (with_key (step f) r.key) more ws last
-      v = went_outside s l (with_key (step f) r.key) more ws last r.is_row
+      v : WentOutside s (line_out g) (with_key (step f) r.key) more ws last
+      v = went_outside s (line_out g) (with_key (step f) r.key) more ws last r.is_row
 
       hash : begins_with 35 more ≡ false
-      hash = no_hash false s x f v.stands
+      hash = no_comment false s x f (c ∷ []) tok more (o.precedes false x.blocks (c ∷ []) more) v.stands
 
       line_here : v.line_here ≡ line_by g.outside g.side.key g.side.here.line_here
       line_here = separated_by false (begins_free_line s.before f) g.outside g.side.key g.side.here.line g.side.here.line_here v.line_here g.side.here.is_line v.line_is
@@ -266,7 +252,7 @@ module _ (text more : List ℕ) (w : Step) (ws : List Step) (last : List ℕ) (l
       v = went_inside s (line_in g) (entry_in g) (around_in g) (with_key (step f) r.key) more ws last r.is_row
 
       hash : begins_with 35 more ≡ false
-      hash = no_hash true s x f v.stands
+      hash = no_comment true s x f (c ∷ []) tok more (o.precedes true x.blocks (c ∷ []) more) v.stands
 
       Past : Site → Act → List Entry → List Entry → Type 0
       Past q act begun xs = entries_past q.position (is_renewed s.before f) act begun r.key (entry_in g) (around_in g) ≡ Some xs

@@ -1,14 +1,18 @@
 -- How the scanner's model passes an indicator that a row reads, and what stays of the open key outside flow.
-use Rattle.std.proofs.Common.{◌≡◌, ℕ, ◌≤◌, List, ◌++◌, Bool, true, false, ◌&&◌, if◌then◌else◌, Option, Some, None, Ok, Err, refl, ap, sym, ◌∙◌, subst}
+use Rattle.std.proofs.Common.{◌≡◌, ℕ, ◌≤◌, List, ◌++◌, Bool, true, false, not, ◌&&◌, if◌then◌else◌, Option, Some, None, Ok, Err, refl, ap, sym, ◌∙◌, subst}
 use Rattle.yaml_tokens.specs.declared.problem.Fault.TheVariants.{At}
 use Rattle.yaml_tokens.specs.declared.problem.Problem.TheVariants as problem
 use Rattle.defs_text.specs.Position.{Position}
 use Rattle.defs_text.specs.Text.{is_empty}
 use Rattle.defs_scalar.specs.FlowScalar.{begins_with}
 use Rattle.defs_token.specs.Separation.{is_separation}
+use Rattle.defs_token.specs.Token.{Tok}
 use Rattle.defs_row.specs.Step.{Step, spelled, has_break}
+use Rattle.defs_row.specs.Indentation.{is_indented_by_spaces}
+use Rattle.defs_row.specs.Lines.{further_lines_stand}
+use Rattle.defs_row.specs.Following.{may_precede}
 use Rattle.defs_row.specs.Key.{Line, free, taken, waits, is_waiting, begins_free_line, line_past_separation}
-use Rattle.defs_row.specs.Account.{Account}
+use Rattle.defs_row.specs.Account.{Site, Account, least_for, is_deep_enough, may_stand}
 use Rattle.defs_row.specs.Row.{IsRowFrom}
 use Rattle.model_lexers.specs.Machine.{past}
 use Rattle.model_lexers.specs.Space.{space}
@@ -45,6 +49,15 @@ last_of true true true z h = h
 last_of false x y z h = absurd (cc h)
 last_of true false y z h = absurd (cc h)
 last_of true true false z h = absurd (cc h)
+
+-- where no comment may follow a piece directly, none does
+pub no_comment : (fl : Bool) (s x : Site) (f piece : List ℕ) (tok : Tok) (next : List ℕ) → may_precede fl x.blocks tok piece next ≡ not (begins_with 35 next) → may_stand fl s x f piece tok next ≡ true → begins_with 35 next ≡ false
+no_comment fl s x f piece tok next p h =
+    none (begins_with 35 next) (sym p ∙ last_of (is_indented_by_spaces s.before s.blocks s.awaits f) (is_deep_enough fl tok x) (further_lines_stand (least_for tok x) tok piece) (may_precede fl x.blocks tok piece next) h)
+  where
+    none : (b : Bool) → not b ≡ true → b ≡ false
+    none true h = absurd (cc h)
+    none false h = refl
 
 -- two values that are there
 pub same_value : {A : Type 0} → (a b : A) → Some a ≡ Some b → a ≡ b
