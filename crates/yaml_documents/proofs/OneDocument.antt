@@ -113,15 +113,7 @@ module _ {old now : Parsed} (b : IsBetween old) (c : Ended old now) where
 end_cases : (e : Ev) → is_end e ≡ true → (e ≡ Ev.document_end) ⊎ (e ≡ Ev.stream_end)
 end_cases Ev.document_end h = inl refl
 end_cases Ev.stream_end h = inr refl
-end_cases Ev.nothing h = cc
-end_cases Ev.stream_start h = cc
-end_cases Ev.document_start h = cc
-end_cases (Ev.alias n) h = cc
-end_cases (Ev.scalar x s a t) h = cc
-end_cases (Ev.sequence_start a t) h = cc
-end_cases Ev.sequence_end h = cc
-end_cases (Ev.mapping_start a t) h = cc
-end_cases Ev.mapping_end h = cc
+end_cases _ h = cc
 
 -- the last event ended a document
 ends_document : {old now : Parsed} (c : Ended old now) → c.last ≡ Ev.document_end → EndsDocument now
@@ -215,17 +207,8 @@ inside_open [] h = refl
 inside_open (e ∷ es) h = ap (λ b. is_open b (events_of es)) (stays e.0 h.0) ∙ inside_open es h.1
   where
     stays : (v : Ev) → is_end v ≡ false → opened v true ≡ true
-    stays Ev.nothing k = refl
-    stays Ev.stream_start k = refl
-    stays Ev.stream_end k = refl
-    stays Ev.document_start k = refl
     stays Ev.document_end k = cc
-    stays (Ev.alias n) k = refl
-    stays (Ev.scalar x s a t) k = refl
-    stays (Ev.sequence_start a t) k = refl
-    stays Ev.sequence_end k = refl
-    stays (Ev.mapping_start a t) k = refl
-    stays Ev.mapping_end k = refl
+    stays _ k = refl
 
 -- before the stream's end no document began, or one is open
 abbrev NoneOrOpen : Bool → List (Ev × Position) → Type 0
@@ -235,29 +218,14 @@ none_or_open : (b : Bool) (es : List (Ev × Position)) (q : Position) → HasNoE
 none_or_open b [] q h d = inl refl
 none_or_open b ((Ev.document_start, p) ∷ es) q h d = inr (inside_open es h.1)
 none_or_open b ((Ev.stream_end, p) ∷ es) q h d = let no : true ≡ false = h.0 in cc
-none_or_open b ((Ev.nothing, p) ∷ es) q h d = absurd d
-none_or_open b ((Ev.stream_start, p) ∷ es) q h d = absurd d
-none_or_open b ((Ev.document_end, p) ∷ es) q h d = absurd d
-none_or_open b ((Ev.alias n, p) ∷ es) q h d = absurd d
-none_or_open b ((Ev.scalar x s a t, p) ∷ es) q h d = absurd d
-none_or_open b ((Ev.sequence_start a t, p) ∷ es) q h d = absurd d
-none_or_open b ((Ev.sequence_end, p) ∷ es) q h d = absurd d
-none_or_open b ((Ev.mapping_start a t, p) ∷ es) q h d = absurd d
-none_or_open b ((Ev.mapping_end, p) ∷ es) q h d = absurd d
+none_or_open b ((_, p) ∷ es) q h d = absurd d
 
 so_none_or_open : (b : Bool) (es : List (Ev × Position)) (q : Position) → HasNoEnd es → BeginSo (events_of (es ++ (Ev.stream_end, q) ∷ [])) → NoneOrOpen b es
 so_none_or_open b [] q h d = inl refl
 so_none_or_open b ((Ev.stream_start, p) ∷ es) q h d = none_or_open (opened Ev.stream_start b) es q h.1 d
 so_none_or_open b ((Ev.document_start, p) ∷ es) q h d = inr (inside_open es h.1)
 so_none_or_open b ((Ev.stream_end, p) ∷ es) q h d = let no : true ≡ false = h.0 in cc
-so_none_or_open b ((Ev.nothing, p) ∷ es) q h d = absurd d
-so_none_or_open b ((Ev.document_end, p) ∷ es) q h d = absurd d
-so_none_or_open b ((Ev.alias n, p) ∷ es) q h d = absurd d
-so_none_or_open b ((Ev.scalar x s a t, p) ∷ es) q h d = absurd d
-so_none_or_open b ((Ev.sequence_start a t, p) ∷ es) q h d = absurd d
-so_none_or_open b ((Ev.sequence_end, p) ∷ es) q h d = absurd d
-so_none_or_open b ((Ev.mapping_start a t, p) ∷ es) q h d = absurd d
-so_none_or_open b ((Ev.mapping_end, p) ∷ es) q h d = absurd d
+so_none_or_open b ((_, p) ∷ es) q h d = absurd d
 
 open_append : (b : Bool) (es fs : List Ev) → is_open b (es ++ fs) ≡ is_open (is_open b es) fs
 open_append b [] fs = refl

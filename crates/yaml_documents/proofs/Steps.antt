@@ -16,17 +16,8 @@ pub is_not_end : (e : Ev) → is_end e ≡ false → e ≢ Ev.stream_end
 is_not_end e h k = let no : true ≡ false = sym (ap is_end k) ∙ h in cc
 
 no_stream_end : (e : Ev) → is_end e ≡ false → is_stream_end e ≡ false
-no_stream_end Ev.nothing h = refl
-no_stream_end Ev.stream_start h = refl
 no_stream_end Ev.stream_end h = cc
-no_stream_end Ev.document_start h = refl
-no_stream_end Ev.document_end h = refl
-no_stream_end (Ev.alias n) h = refl
-no_stream_end (Ev.scalar x s a t) h = refl
-no_stream_end (Ev.sequence_start a t) h = refl
-no_stream_end Ev.sequence_end h = refl
-no_stream_end (Ev.mapping_start a t) h = refl
-no_stream_end Ev.mapping_end h = refl
+no_stream_end _ h = refl
 
 no_end_more : (es : List (Ev × Position)) (e : Ev) (p : Position) → HasNoEnd es → is_end e ≡ false → HasNoEnd (es ++ (e, p) ∷ [])
 no_end_more [] e p h other = (other, tt)
