@@ -175,7 +175,10 @@ module _ (text more : List ℕ) (closes : Bool) (tok : Tok) (c : ℕ) (i : IsClo
   x = site_here true t.held.position a.site
 
   abbrev d : ends.End
-  d = record { closes = closes; site = a.site; line = a.line; entry = e; around = es; separation = a.separation; piece = c ∷ []; next = more; tok = tok; open_key = k; outer_keys = ks; tokens = a.tokens; past = end; rest = left }
+  d = record {
+    closes = closes;
+    step = record { site = a.site; line = a.line; entry = e; around = es; separation = a.separation; piece = c ∷ []; next = more; tok = tok; open_key = k; outer_keys = ks; tokens = a.tokens; past = end; rest = left };
+  }
 
   some_here : is_empty t.rest ≡ false
   some_here = ap is_empty cut
@@ -204,7 +207,7 @@ module _ (text more : List ℕ) (closes : Bool) (tok : Tok) (c : ℕ) (i : IsClo
     begun = i.begun;
     is_filled = subst (λ r. is_separation false a.separation r ≡ true) cut a.is_filled;
     is_solid = refl;
-    is_piece = subst (λ p. IsPiece (seen (ends.base d) (ends.at d) a.separation) (c ∷ []) more None p tok) (sym (i.shown (ends.at d) (c ∷ []) more)) (i.is_end.piece (seen (ends.base d) (ends.at d) a.separation) more None refl);
+    is_piece = subst (λ p. IsPiece (seen (with_entries a.site a.line (e ∷ es)) (ends.at d) a.separation) (c ∷ []) more None p tok) (sym (i.shown (ends.at d) (c ∷ []) more)) (i.is_end.piece (seen (with_entries a.site a.line (e ∷ es)) (ends.at d) a.separation) more None refl);
     stands = subst (λ p. may_stand true a.site (site_here true p a.site) a.separation (c ∷ []) tok more ≡ true) place
         (all_true (is_indented_by_spaces a.site.before a.site.blocks a.site.awaits a.separation) (is_deep_enough true tok x) (further_lines_stand (least_for tok x) tok (c ∷ [])) (may_precede true x.blocks tok (c ∷ []) more)
         (a.is_indented some_here) deep_here (i.lines (least_for tok x) (c ∷ [])) (i.precedes true x.blocks (c ∷ []) more ∙ ap not hash));

@@ -18,6 +18,7 @@ use Rattle.proof_row_sound.specs.Choices.{line_by, had_by, entries_by, outside_k
 use Rattle.proof_row_sound.specs.Completes.{with_had, with_keys, tokens_up_to, Completes}
 use Rattle.proof_row_sound.specs.Arrives.{site_here}
 use Rattle.proof_row_sound.proofs.Completed.{completed_past}
+use Rattle.proof_row_sound.proofs.FlowSteps.{FlowStep, step_of, base, keys, outside}
 use Rattle.proof_row_sound.proofs.Inserts.{AreAmong, first_among, keys_first}
 use Rattle.proof_row_sound.proofs.NodeTokens.{past_step, past_piece as past_piece_at, keys_along}
 use Rattle.proof_row_sound.proofs.NodesInside.{no_had, had_as_it_was, same_levels}
@@ -27,37 +28,22 @@ abbrev pub act_by : (closes : Bool) → Act
 act_by true = gives_closing
 act_by false = gives_comma
 
--- A comma or closing bracket: the account after the last piece in which no open key is one, without its entries; the innermost entry and those around it; the separation, the piece and the text after it;
--- the token; the open keys; the tokens before; the position and the text after what is read.
+-- A comma or closing bracket in flow, and which of the two.
 pub record End : Type 0 where
+  pub step : FlowStep
+  pub open step use *
   pub closes : Bool
-  pub site : Site
-  pub line : Line
-  pub entry : Entry
-  pub around : List Entry
-  pub separation : List ℕ
-  pub piece : List ℕ
-  pub next : List ℕ
-  pub tok : Tok
-  pub open_key : Option Key
-  pub outer_keys : List (Option Key)
-  pub tokens : List Token
-  pub past : Position
-  pub rest : List ℕ
 
 -- the site at the piece
 abbrev pub at : End → Site
 at d = site_here true (position_after d.site.position d.separation (d.piece ++ d.next)) d.site
-
-abbrev pub step_of : End → Step
-step_of d = record { separation = d.separation; piece = d.piece; shown = d.tok; key = false }
 
 -- the entries after it: those around, and after a comma the next one
 abbrev pub entries_after : (closes : Bool) → Entry → List Entry → List Entry
 entries_after true e es = es
 entries_after false e es = first_entry e.kind ∷ es
 
--- the open keys after it
+-- the open keys after it, from those around
 abbrev pub keys_by : (closes : Bool) → List (Option Key) → List (Option Key)
 keys_by true ks = ks
 keys_by false ks = None ∷ ks
@@ -67,26 +53,17 @@ abbrev pub choices_by : (closes : Bool) → List Bool → List Bool
 choices_by true cs = cs
 choices_by false cs = pop cs
 
--- the accounts before and after it in which no open key is one
-abbrev pub base : End → Account
-base d = record { site = d.site; line = d.line; entries = d.entry ∷ d.around }
-
+-- the account after it in which no open key is one
 abbrev pub base_past : End → Account
 base_past d = record { site = site_past true (at d) d.piece d.tok d.next (at d).blocks; line = d.line; entries = entries_after d.closes d.entry d.around }
 
-abbrev pub keys : End → List (Option Key)
-keys d = d.open_key ∷ d.outer_keys
-
+-- the open keys after it
 abbrev pub keys_after : End → List (Option Key)
 keys_after d = keys_by d.closes d.outer_keys
 
--- the open key outside flow
-abbrev pub outside : End → Option Key
-outside d = outside_key d.around d.outer_keys
-
 -- the accounts before and after it, by choices after it
 abbrev pub before : End → Bool → List Bool → Account
-before d c cs = chosen c (false ∷ choices_by d.closes cs) (keys d) (base d)
+before d c cs = chosen c (false ∷ choices_by d.closes cs) (keys d.step) (base d.step)
 
 abbrev pub past : End → Bool → List Bool → Account
 past d c cs = chosen c cs (keys_after d) (base_past d)
@@ -101,13 +78,13 @@ pub record IsEnd (d : End) : Type 0 where
   pub begun : begun_by d.tok ≡ []
   pub is_filled : is_separation false d.separation (d.piece ++ d.next) ≡ true
   pub is_solid : is_empty d.piece ≡ false
-  pub is_piece : IsPiece (seen (base d) (at d) d.separation) d.piece d.next None (shown_position (at d) d.piece d.tok d.next) d.tok
+  pub is_piece : IsPiece (seen (base d.step) (at d) d.separation) d.piece d.next None (shown_position (at d) d.piece d.tok d.next) d.tok
   pub stands : may_stand true d.site (at d) d.separation d.piece d.tok d.next ≡ true
   pub no_key : is_keyed d.entry.had ≡ false
-  pub are_among : AreAmong (length d.tokens) (keys d)
-  pub unbroken : (c : Bool) → MayChoose c (outside d) d.past d.rest → line_past_separation true (begins_free_line d.site.before d.separation) (line_by c (outside d) d.line) ≡ Some (line_by c (outside d) d.line)
-  pub one_line : (c : Bool) → MayChoose c (outside d) d.past d.rest → (has_break d.piece && is_waiting (line_by c (outside d) d.line)) ≡ false
-  pub may_before : (c : Bool) → MayChoose c (outside d) d.past d.rest → MayChoose c (outside d) (at d).position (d.piece ++ d.next)
+  pub are_among : AreAmong (length d.tokens) (keys d.step)
+  pub unbroken : (c : Bool) → MayChoose c (outside d.step) d.past d.rest → line_past_separation true (begins_free_line d.site.before d.separation) (line_by c (outside d.step) d.line) ≡ Some (line_by c (outside d.step) d.line)
+  pub one_line : (c : Bool) → MayChoose c (outside d.step) d.past d.rest → (has_break d.piece && is_waiting (line_by c (outside d.step) d.line)) ≡ false
+  pub may_before : (c : Bool) → MayChoose c (outside d.step) d.past d.rest → MayChoose c (outside d.step) (at d).position (d.piece ++ d.next)
 
 -- ---- the account after it
 
@@ -139,10 +116,10 @@ same_outside false ks e es = refl
 on_line : (piece : List ℕ) (a : Account) → (has_break piece && is_waiting a.line) ≡ false → on_one_line piece (Some a) ≡ Some a
 on_line piece a e = ap (λ b. if b then None else Some a) e
 
-pub end_account : (d : End) → IsEnd d → (c : Bool) (cs : List Bool) → MayChoose c (outside d) d.past d.rest → account_past (before d c cs) (step_of d) d.next ≡ Some (past d c cs)
+pub end_account : (d : End) → IsEnd d → (c : Bool) (cs : List Bool) → MayChoose c (outside d.step) d.past d.rest → account_past (before d c cs) (step_of d.step) d.next ≡ Some (past d c cs)
 end_account d n c cs may =
-    let w : Step = step_of d in
-    let l : Line = line_by c (outside d) d.line in
+    let w : Step = step_of d.step in
+    let l : Line = line_by c (outside d.step) d.line in
     let here : Position = (at d).position in
     let again : Bool = is_renewed d.site.before d.separation in
     let h : Had = had_by false d.open_key d.entry.had in
@@ -188,17 +165,17 @@ begun_end false single pair here colon own h = refl
 
 -- With the text after the piece known as that of further steps.
 end_tokens : (d : End) → IsEnd d → (c : Bool) (cs : List Bool) (ws : List Step) (last : List ℕ) → spelled ws last ≡ d.next →
-    tokens_up_to (before d c cs) (keys d) d.tokens (step_of d ∷ ws) last ++ tokens_of_step (before d c cs) (step_of d) ws last ≡ tokens_up_to (past d c cs) (keys_after d) (d.tokens ++ own_tokens d) ws last
-end_tokens d n c cs ws last e = subst (λ x. Whole (record d { next = x })) e (own (subst (λ x. IsEnd (record d { next = x })) (sym e) n))
+    tokens_up_to (before d c cs) (keys d.step) d.tokens (step_of d.step ∷ ws) last ++ tokens_of_step (before d c cs) (step_of d.step) ws last ≡ tokens_up_to (past d c cs) (keys_after d) (d.tokens ++ own_tokens d) ws last
+end_tokens d n c cs ws last e = subst (λ x. Whole (record d { step = record d.step { next = x } })) e (own (subst (λ x. IsEnd (record d { step = record d.step { next = x } })) (sym e) n))
   where
     Whole : End → Type 0
-    Whole b = tokens_up_to (before b c cs) (keys b) b.tokens (step_of b ∷ ws) last ++ tokens_of_step (before b c cs) (step_of b) ws last ≡ tokens_up_to (past b c cs) (keys_after b) (b.tokens ++ own_tokens b) ws last
+    Whole b = tokens_up_to (before b c cs) (keys b.step) b.tokens (step_of b.step ∷ ws) last ++ tokens_of_step (before b c cs) (step_of b.step) ws last ≡ tokens_up_to (past b c cs) (keys_after b) (b.tokens ++ own_tokens b) ws last
 
-    own : IsEnd (record d { next = spelled ws last }) → Whole (record d { next = spelled ws last })
+    own : IsEnd (record d { step = record d.step { next = spelled ws last } }) → Whole (record d { step = record d.step { next = spelled ws last } })
     own m =
-        let b : End = record d { next = spelled ws last } in
-        let w : Step = step_of b in
-        let l : Line = line_by c (outside b) b.line in
+        let b : End = record d { step = record d.step { next = spelled ws last } } in
+        let w : Step = step_of b.step in
+        let l : Line = line_by c (outside b.step) b.line in
         let h : Had = had_by false b.open_key b.entry.had in
         let x : Entry = record { kind = b.entry.kind; pair = b.entry.pair; had = h } in
         let es : List Entry = entries_by (choices_by b.closes cs) b.outer_keys b.around in
@@ -207,7 +184,7 @@ end_tokens d n c cs ws last e = subst (λ x. Whole (record d { next = x })) e (o
         let here : Position = (at b).position in
         let shown : List Token = put (shown_position (at b) b.piece b.tok b.next) b.tok ∷ [] in
         let site : site_in true (act_of b.tok) here b.site ≡ at b = ap (λ y. site_in true y here b.site) m.act ∙ same_site b.closes here b.site in
-        let first : tokens_up_to (before b c cs) (keys b) b.tokens (w ∷ ws) last ≡ with_keys 1 b.site.position (w ∷ ws) last b.site.blocks l es b.outer_keys b.tokens =
+        let first : tokens_up_to (before b c cs) (keys b.step) b.tokens (w ∷ ws) last ≡ with_keys 1 b.site.position (w ∷ ws) last b.site.blocks l es b.outer_keys b.tokens =
         ap (λ y. with_keys 1 b.site.position (w ∷ ws) last b.site.blocks l es b.outer_keys y)
         (ap (λ y. with_had (colon_of 0 b.site.position (w ∷ ws) last) single y b.open_key b.tokens) (had_as_it_was b.open_key b.entry.had) ∙ no_had (colon_of 0 b.site.position (w ∷ ws) last) single b.entry.had b.open_key b.tokens m.no_key) in
         let second : tokens_of_step (before b c cs) w ws last ≡ own_tokens b =
@@ -221,26 +198,26 @@ end_tokens d n c cs ws last e = subst (λ x. Whole (record d { next = x })) e (o
         keys_around b.closes b.site.position w ws last m.act m.begun b.site.blocks c b.line cs b.entry b.around b.outer_keys (b.tokens ++ own_tokens b)))
       where
         key_colon : (b : End) → IsEnd b → Colon
-        key_colon b m = key_end b.tok (past_piece_at (at b) (step_of b) ws last) ws last
+        key_colon b m = key_end b.tok (past_piece_at (at b) (step_of b.step) ws last) ws last
 
 -- ---- rows
 
 abbrev SeenWith : End → Site → List Level → Type 0
 SeenWith d x levels =
-    IsPiece (let a = seen (base d) x d.separation in record a { levels = levels }) d.piece d.next None (shown_position x d.piece d.tok d.next) d.tok
+    IsPiece (let a = seen (base d.step) x d.separation in record a { levels = levels }) d.piece d.next None (shown_position x d.piece d.tok d.next) d.tok
 
-seen_written : (d : End) → IsEnd d → (c : Bool) (cs : List Bool) → IsWritten (before d c cs) (step_of d) d.next
+seen_written : (d : End) → IsEnd d → (c : Bool) (cs : List Bool) → IsWritten (before d c cs) (step_of d.step) d.next
 seen_written d n c cs =
     let levels : List Level = map level_of (d.entry ∷ d.around) in
     let site : Site = site_in true (act_of d.tok) (at d).position d.site in
     let same : site ≡ at d = ap (λ x. site_in true x (at d).position d.site) n.act ∙ same_site d.closes (at d).position d.site in
     let alike : SeenWith d site levels = subst (λ x. SeenWith d x levels) (sym same) n.is_piece in
-    (n.is_filled, (ap not n.is_solid, subst (λ x. SeenWith d site x) (sym (same_levels (false ∷ choices_by d.closes cs) (keys d) (d.entry ∷ d.around))) alike))
+    (n.is_filled, (ap not n.is_solid, subst (λ x. SeenWith d site x) (sym (same_levels (false ∷ choices_by d.closes cs) (keys d.step) (d.entry ∷ d.around))) alike))
 
 -- If each choice before the piece is one of a row, then each choice after it is, and the tokens are those before, the end of a single pair, and the piece's own.
 pub end_completes : (text : List ℕ) (d : End) → IsEnd d →
-    ((c : Bool) (cs : List Bool) → MayChoose c (outside d) (at d).position (d.piece ++ d.next) → Completes text (d.separation ++ (d.piece ++ d.next)) (chosen c cs (keys d) (base d)) (tokens_up_to (chosen c cs (keys d) (base d)) (keys d) d.tokens)) →
-    (c : Bool) (cs : List Bool) → MayChoose c (outside d) d.past d.rest → Completes text d.next (past d c cs) (tokens_up_to (past d c cs) (keys_after d) (d.tokens ++ own_tokens d))
+    ((c : Bool) (cs : List Bool) → MayChoose c (outside d.step) (at d).position (d.piece ++ d.next) → Completes text (d.separation ++ (d.piece ++ d.next)) (chosen c cs (keys d.step) (base d.step)) (tokens_up_to (chosen c cs (keys d.step) (base d.step)) (keys d.step) d.tokens)) →
+    (c : Bool) (cs : List Bool) → MayChoose c (outside d.step) d.past d.rest → Completes text d.next (past d c cs) (tokens_up_to (past d c cs) (keys_after d) (d.tokens ++ own_tokens d))
 end_completes text d n h c cs may =
-    completed_past text (d.separation ++ (d.piece ++ d.next)) (before d c cs) (past d c cs) (tokens_up_to (before d c cs) (keys d) d.tokens) (tokens_up_to (past d c cs) (keys_after d) (d.tokens ++ own_tokens d))
-    (step_of d) d.next refl (seen_written d n c cs) (end_account d n c cs may) (end_tokens d n c cs) (h c (false ∷ choices_by d.closes cs) (n.may_before c may))
+    completed_past text (d.separation ++ (d.piece ++ d.next)) (before d c cs) (past d c cs) (tokens_up_to (before d c cs) (keys d.step) d.tokens) (tokens_up_to (past d c cs) (keys_after d) (d.tokens ++ own_tokens d))
+    (step_of d.step) d.next refl (seen_written d n c cs) (end_account d n c cs may) (end_tokens d n c cs) (h c (false ∷ choices_by d.closes cs) (n.may_before c may))

@@ -159,20 +159,8 @@ goes_inside_at text t u f g fs k ks e e2 es a piece next tok r n = read_inside_a
 
     d : Piece
     d = record {
-      site = a.site;
-      line = a.line;
-      entry = e;
+      step = record { site = a.site; line = a.line; entry = e; around = es; separation = a.separation; piece = piece; next = next; tok = tok; open_key = k; outer_keys = ks; tokens = a.tokens; past = u.held.position; rest = u.rest };
       entry_after = e2;
-      around = es;
-      separation = a.separation;
-      piece = piece;
-      next = next;
-      tok = tok;
-      open_key = k;
-      outer_keys = ks;
-      tokens = a.tokens;
-      past = u.held.position;
-      rest = u.rest;
     }
 
     here : GoesInside text t u f fs k ks e e2 es a piece next tok (at d) → IsHere d

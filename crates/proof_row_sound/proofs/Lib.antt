@@ -20,6 +20,7 @@ pub mod EntryPieces
 pub mod Fetches
 pub mod FlowMarks
 pub mod FlowStarts
+pub mod FlowSteps
 pub mod Gone
 pub mod Indicated
 pub mod Inserts
@@ -34,6 +35,7 @@ pub mod NodesOutside
 pub mod Openers
 pub mod OutsidePieces
 pub mod Outsides
+pub mod Parts
 pub mod Passed
 pub mod PlainKeeps
 pub mod PlainLines

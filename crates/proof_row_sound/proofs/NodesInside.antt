@@ -22,31 +22,20 @@ use Rattle.proof_row_sound.proofs.Begun.{with_begun, with_no_key, choices_around
 use Rattle.proof_row_sound.proofs.Completed.{completed_past}
 use Rattle.proof_row_sound.proofs.Inserts.{AreAmong, fewer, had_first, had_longer, keys_first, first_among}
 use Rattle.proof_row_sound.proofs.NodeSteps.{saved, choice_before, bit_of, had_past_node, entry_past_node, node_in_entry}
+use Rattle.proof_row_sound.proofs.Parts.{Part, part_site, IsPart}
 use Rattle.proof_row_sound.proofs.NodeTokens.{past_step, keys_past, key_between, key_inside, tokens_inside}
 
--- A part of a node in flow: the account after the last piece in which no open key is one, without its entries; the innermost entry and those around it; the separation, the piece and the text after it;
--- the token, and the kind of the collection that it begins, if any; the open keys of the entry and around it; the one that may begin here; the tokens before; the position and the text after what is read.
+-- A part of a node in flow; the innermost entry and those around it, where no open key is one; the open keys around the entry.
 pub record Node : Type 0 where
-  pub site : Site
-  pub line : Line
+  pub part : Part
+  pub open part use *
   pub entry : Entry
   pub around : List Entry
-  pub separation : List ℕ
-  pub piece : List ℕ
-  pub next : List ℕ
-  pub tok : Tok
-  pub kind : Option FlowKind
-  pub open_key : Option Key
   pub outer_keys : List (Option Key)
-  pub new : Key
-  pub allowed : Bool
-  pub tokens : List Token
-  pub past : Position
-  pub rest : List ℕ
 
 -- the site at the piece
 abbrev pub at : Node → Site
-at d = site_here true (position_after d.site.position d.separation (d.piece ++ d.next)) d.site
+at d = part_site true d.part
 
 -- the step, with or without a key
 abbrev pub step_of : Node → Bool → Step
@@ -91,14 +80,9 @@ own_token d = put (shown_position (at d) d.piece d.tok d.next) d.tok
 
 -- What is known of it.
 pub record IsNode (d : Node) : Type 0 where
-  pub act : act_of d.tok ≡ gives_node
-  pub begun : begun_by d.tok ≡ with_begun d.kind []
-  pub is_filled : is_separation false d.separation (d.piece ++ d.next) ≡ true
-  pub is_solid : is_empty d.piece ≡ false
-  pub is_piece : IsPiece (seen (base d) (at d) d.separation) d.piece d.next None (shown_position (at d) d.piece d.tok d.next) d.tok
-  pub stands : may_stand true d.site (at d) d.separation d.piece d.tok d.next ≡ true
+  pub is_part : IsPart true (d.entry ∷ d.around) d.part
+  pub open is_part use *
   pub has_had : HasHadHere d.allowed (is_renewed d.site.before d.separation) d.open_key d.entry.had
-  pub position_is : d.new.position ≡ (at d).position
   pub number_is : d.new.number ≡ length d.tokens
   pub are_among : AreAmong (length d.tokens) (keys d)
   pub unbroken : (c : Bool) → MayChoose c (outside d) d.past d.rest → line_past_separation true (begins_free_line d.site.before d.separation) (line_by c (outside d) d.line) ≡ Some (line_by c (outside d) d.line)
@@ -166,14 +150,14 @@ by_choice false ch k new h c single s ts own idle q i a = sym (had_first c singl
 -- With the text after the piece known as that of further steps.
 node_tokens : (d : Node) → IsNode d → (c : Bool) (cs : List Bool) (ws : List Step) (last : List ℕ) → spelled ws last ≡ d.next →
     tokens_up_to (before d c cs) (keys d) d.tokens (step_of d (bit d cs) ∷ ws) last ++ tokens_of_step (before d c cs) (step_of d (bit d cs)) ws last ≡ tokens_up_to (past d c cs) (keys_after d) (d.tokens ++ (own_token d ∷ [])) ws last
-node_tokens d n c cs ws last e = subst (λ x. Whole (record d { next = x })) e (own (subst (λ x. IsNode (record d { next = x })) (sym e) n))
+node_tokens d n c cs ws last e = subst (λ x. Whole (record d { part = record d.part { next = x } })) e (own (subst (λ x. IsNode (record d { part = record d.part { next = x } })) (sym e) n))
   where
     Whole : Node → Type 0
     Whole b = tokens_up_to (before b c cs) (keys b) b.tokens (step_of b (bit b cs) ∷ ws) last ++ tokens_of_step (before b c cs) (step_of b (bit b cs)) ws last ≡ tokens_up_to (past b c cs) (keys_after b) (b.tokens ++ (own_token b ∷ [])) ws last
 
-    own : IsNode (record d { next = spelled ws last }) → Whole (record d { next = spelled ws last })
+    own : IsNode (record d { part = record d.part { next = spelled ws last } }) → Whole (record d { part = record d.part { next = spelled ws last } })
     own m =
-        let b : Node = record d { next = spelled ws last } in
+        let b : Node = record d { part = record d.part { next = spelled ws last } } in
         let w : Step = step_of b (bit b cs) in
         let l : Line = line_by c (outside b) b.line in
         let chose : List Bool = choices_around b.kind cs in

@@ -22,6 +22,7 @@ use Rattle.proof_row_sound.proofs.Begun.{with_begun, with_no_key, depth_begun, k
 use Rattle.proof_row_sound.proofs.Completed.{completed_past}
 use Rattle.proof_row_sound.proofs.Inserts.{AreAmong, line_first}
 use Rattle.proof_row_sound.proofs.NodeSteps.{saved, choice_before, bit_of, node_on_line}
+use Rattle.proof_row_sound.proofs.Parts.{Part, part_site, IsPart}
 use Rattle.proof_row_sound.proofs.NodeTokens.{past_step, keys_past, key_between, key_outside, tokens_outside}
 
 -- an account outside flow
@@ -31,27 +32,15 @@ Outer s l = record { site = s; line = l; entries = [] }
 pub on_line : (piece : List ℕ) (a : Account) → (has_break piece && is_waiting a.line) ≡ false → on_one_line piece (Some a) ≡ Some a
 on_line piece a e = ap (λ b. if b then None else Some a) e
 
--- A part of a node outside flow: the site after the last piece; what may begin there and at the piece, where no open key is one; the separation, the piece and the text after it; the token, and the kind of the collection that it
--- begins, if any; the open key and the one that may begin here; the tokens before the ends that stand here; the position and the text after what is read.
+-- A part of a node outside flow, and what may begin at its piece. Its tokens are those before the ends that stand here.
 pub record Node : Type 0 where
-  pub site : Site
-  pub line : Line
+  pub part : Part
+  pub open part use *
   pub line_here : Line
-  pub separation : List ℕ
-  pub piece : List ℕ
-  pub next : List ℕ
-  pub tok : Tok
-  pub kind : Option FlowKind
-  pub open_key : Option Key
-  pub new : Key
-  pub allowed : Bool
-  pub tokens : List Token
-  pub past : Position
-  pub rest : List ℕ
 
 -- the site at the piece
 abbrev pub at : Node → Site
-at d = site_here false (position_after d.site.position d.separation (d.piece ++ d.next)) d.site
+at d = part_site false d.part
 
 -- the step, with or without a key
 abbrev pub step_of : Node → Bool → Step
@@ -87,14 +76,9 @@ AreSame (Some k) p rest bs cs = IsLive k p rest → bs ≡ cs
 
 -- What is known of it.
 pub record IsNode (d : Node) : Type 0 where
-  pub act : act_of d.tok ≡ gives_node
-  pub begun : begun_by d.tok ≡ with_begun d.kind []
-  pub is_filled : is_separation false d.separation (d.piece ++ d.next) ≡ true
-  pub is_solid : is_empty d.piece ≡ false
-  pub is_piece : IsPiece (seen (Outer d.site d.line) (at d) d.separation) d.piece d.next None (shown_position (at d) d.piece d.tok d.next) d.tok
-  pub stands : may_stand false d.site (at d) d.separation d.piece d.tok d.next ≡ true
+  pub is_part : IsPart false [] d.part
+  pub open is_part use *
   pub line_is : IsLineHere false d.allowed (0 ∷ []) d.open_key d.line_here
-  pub position_is : d.new.position ≡ (at d).position
   pub required_is : d.new.required ≡ is_in_column (at d).position.col (at d).blocks
   pub number_is : d.new.number ≡ length (tokens_here d)
   pub are_among : AreAmong (length d.tokens) (d.open_key ∷ [])
@@ -156,14 +140,14 @@ by_choice false true (Some k) new l m c s bs p rest ts ends own h may idle q i a
 -- With the text after the piece known as that of further steps.
 node_tokens : (d : Node) → IsNode d → (c : Bool) → MayChoose c (key_past d) d.past d.rest → (ws : List Step) (last : List ℕ) → spelled ws last ≡ d.next →
     tokens_up_to (before d c) (d.open_key ∷ []) d.tokens (step_of d (bit_of d.allowed c) ∷ ws) last ++ tokens_of_step (before d c) (step_of d (bit_of d.allowed c)) ws last ≡ tokens_up_to (past d c) (keys_after d) (tokens_here d ++ (own_token d ∷ [])) ws last
-node_tokens d n c may ws last e = subst (λ x. Whole (record d { next = x })) e (own (subst (λ x. IsNode (record d { next = x })) (sym e) n))
+node_tokens d n c may ws last e = subst (λ x. Whole (record d { part = record d.part { next = x } })) e (own (subst (λ x. IsNode (record d { part = record d.part { next = x } })) (sym e) n))
   where
     Whole : Node → Type 0
     Whole b = tokens_up_to (before b c) (b.open_key ∷ []) b.tokens (step_of b (bit_of b.allowed c) ∷ ws) last ++ tokens_of_step (before b c) (step_of b (bit_of b.allowed c)) ws last ≡ tokens_up_to (past b c) (keys_after b) (tokens_here b ++ (own_token b ∷ [])) ws last
 
-    own : IsNode (record d { next = spelled ws last }) → Whole (record d { next = spelled ws last })
+    own : IsNode (record d { part = record d.part { next = spelled ws last } }) → Whole (record d { part = record d.part { next = spelled ws last } })
     own m =
-        let b : Node = record d { next = spelled ws last } in
+        let b : Node = record d { part = record d.part { next = spelled ws last } } in
         let w : Step = step_of b (bit_of b.allowed c) in
         let l : Line = line_by (choice_before b.allowed c) b.open_key b.line in
         let p : Position = past_step b.site.position w ws last in

@@ -22,7 +22,7 @@ use Rattle.model_scanner.specs.declared.level.Indent.{Indent}
 use Rattle.model_scanner.specs.declared.level.FlowLevel.{FlowLevel}
 use Rattle.model_scanner.specs.declared.level.FlowLevel.TheVariants.{Mapping, Entry as InEntry}
 use Rattle.model_scanner.specs.State.{Key, Held, ScannerState, in_flow}
-use Rattle.model_scanner.specs.Keys.{must_be_key}
+use Rattle.model_scanner.specs.Keys.{must_be_key, top_key}
 use Rattle.model_scanner.specs.Indents.{roll_one_col_indent, in_block}
 use Rattle.proof_cut.specs.Order.{NotBefore}
 use Rattle.proof_cut.specs.Stands.{IsAdjacent}
@@ -40,6 +40,7 @@ use Rattle.proof_row_sound.proofs.Closers.{no_break_there}
 use Rattle.proof_row_sound.proofs.Indicated.{indicator_end, none_indents}
 use Rattle.proof_row_sound.proofs.Inserts.{among}
 use Rattle.proof_row_sound.proofs.NodeSteps.{saved, had_past_node, entry_past_node, choice_before}
+use Rattle.proof_row_sound.proofs.Parts.{Part, part_site, IsPart}
 use Rattle.proof_row_sound.proofs.NodesInside as inside
 use Rattle.proof_row_sound.proofs.NodesOutside as outside
 use Rattle.proof_row_sound.proofs.NodesOutside.{AreSame}
@@ -172,6 +173,35 @@ module _ (text more : List ℕ) (lv : FlowLevel) (tok : Tok) (c : ℕ) (o : IsOp
   piece_here : (x : Site) → has_room (seen (with_entries a.site a.line es) x a.separation) ≡ true → IsPiece (seen (with_entries a.site a.line es) x a.separation) (c ∷ []) more None (shown_position x (c ∷ []) tok more) tok
   piece_here x room = subst (λ p. IsPiece (seen (with_entries a.site a.line es) x a.separation) (c ∷ []) more None p tok) (sym (o.shown x (c ∷ []) more)) (o.is_opening.piece (seen (with_entries a.site a.line es) x a.separation) more None room)
 
+  -- the step, as the lemmas on rows see it
+  abbrev pub part : Part
+  part = record {
+    site = a.site;
+    line = a.line;
+    separation = a.separation;
+    piece = c ∷ [];
+    next = more;
+    tok = tok;
+    kind = Some (kind_of lv);
+    open_key = top_key ks;
+    new = new_key t;
+    allowed = t.held.key_allowed;
+    tokens = a.tokens;
+    past = end;
+    rest = left;
+  }
+
+  is_part : begins_with 35 more ≡ false → has_room (seen (with_entries a.site a.line es) (part_site (not (is_empty fs)) part) a.separation) ≡ true → IsPart (not (is_empty fs)) es part
+  is_part hash room = record {
+    act = o.act;
+    begun = o.begun;
+    is_filled = subst (λ x. is_separation false a.separation x ≡ true) cut a.is_filled;
+    is_solid = refl;
+    is_piece = piece_here (part_site (not (is_empty fs)) part) room;
+    stands = stands_here hash;
+    position_is = place;
+  }
+
   quiet : (begins_line (previous_by tok) gap ≡ false) × (begins_free_line (previous_by tok) gap ≡ false)
   quiet = subst (λ b. (begins_line b gap ≡ false) × (begins_free_line b gap ≡ false)) (sym o.previous) (no_break_there more, no_break_there more)
 
@@ -203,22 +233,7 @@ module _ (text more : List ℕ) (lv : FlowLevel) (tok : Tok) (c : ℕ) (o : IsOp
   remains = past_blanks_and_comment more
 
   abbrev n : outside.Node
-  n = record {
-    site = a.site;
-    line = a.line;
-    line_here = a.line_here;
-    separation = a.separation;
-    piece = c ∷ [];
-    next = more;
-    tok = tok;
-    kind = Some (kind_of lv);
-    open_key = k;
-    new = new_key t;
-    allowed = t.held.key_allowed;
-    tokens = a.tokens;
-    past = stop;
-    rest = remains;
-  }
+  n = record { part = part text more lv tok c o t [] (k ∷ []) [] a deep cut; line_here = a.line_here }
 
   abbrev y : Option Key
   y = saved t.held.key_allowed (new_key t) k
@@ -237,14 +252,8 @@ module _ (text more : List ℕ) (lv : FlowLevel) (tok : Tok) (c : ℕ) (o : IsOp
 
   is_node : outside.IsNode n
   is_node = record {
-    act = o.act;
-    begun = o.begun;
-    is_filled = subst (λ x. is_separation false a.separation x ≡ true) cut a.is_filled;
-    is_solid = refl;
-    is_piece = piece_here text more lv tok c o t [] (k ∷ []) [] a deep cut (outside.at n) refl;
-    stands = stands_here text more lv tok c o t [] (k ∷ []) [] a deep cut hash;
+    is_part = is_part text more lv tok c o t [] (k ∷ []) [] a deep cut hash refl;
     line_is = line_node text t k a out deep some stop remains to_end;
-    position_is = at_place;
     required_is = subst (λ x. must_be_key t.held ≡ is_in_column x.col (site_here false x a.site).blocks) at_place (must_be_here text t k a out deep);
     number_is = ap length tokens_same;
     are_among = among (length a.tokens) (k ∷ []) a.are_numbered;
@@ -321,24 +330,7 @@ module _ (text more : List ℕ) (lv : FlowLevel) (tok : Tok) (c : ℕ) (o : IsOp
   z = saved t.held.key_allowed (new_key t) k
 
   abbrev m : inside.Node
-  m = record {
-    site = a.site;
-    line = a.line;
-    entry = e;
-    around = es;
-    separation = a.separation;
-    piece = c ∷ [];
-    next = more;
-    tok = tok;
-    kind = Some (kind_of lv);
-    open_key = k;
-    outer_keys = ks;
-    new = new_key t;
-    allowed = t.held.key_allowed;
-    tokens = a.tokens;
-    past = halt;
-    rest = rest_of;
-  }
+  m = record { part = part text more lv tok c o t (f ∷ fs) (k ∷ ks) (e ∷ es) a deep cut; entry = e; around = es; outer_keys = ks }
 
   abbrev there : t.held.position ≡ (inside.at m).position
   there = place text more lv tok c o t (f ∷ fs) (k ∷ ks) (e ∷ es) a deep cut
@@ -371,14 +363,8 @@ module _ (text more : List ℕ) (lv : FlowLevel) (tok : Tok) (c : ℕ) (o : IsOp
 
   is_inner : inside.IsNode m
   is_inner = record {
-    act = o.act;
-    begun = o.begun;
-    is_filled = subst (λ x. is_separation false a.separation x ≡ true) cut a.is_filled;
-    is_solid = refl;
-    is_piece = piece_here text more lv tok c o t (f ∷ fs) (k ∷ ks) (e ∷ es) a deep cut (inside.at m) room;
-    stands = stands_here text more lv tok c o t (f ∷ fs) (k ∷ ks) (e ∷ es) a deep cut hash;
+    is_part = is_part text more lv tok c o t (f ∷ fs) (k ∷ ks) (e ∷ es) a deep cut hash room;
     has_had = a.are_entries.1;
-    position_is = there;
     number_is = ap length (tokens_before text t f fs k ks e es a);
     are_among = among (length a.tokens) (k ∷ ks) a.are_numbered;
     unbroken = unbroken_around text t f fs k ks e es a goes halt rest_of to_halt;

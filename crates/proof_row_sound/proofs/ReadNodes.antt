@@ -18,7 +18,7 @@ use Rattle.defs_row.specs.Tokens.{put, shown_position, ends_at}
 use Rattle.model_scanner.specs.declared.level.Indent.{Indent}
 use Rattle.model_scanner.specs.declared.level.FlowLevel.{FlowLevel}
 use Rattle.model_scanner.specs.State.{Key, ScannerState}
-use Rattle.model_scanner.specs.Keys.{must_be_key}
+use Rattle.model_scanner.specs.Keys.{must_be_key, top_key}
 use Rattle.proof_cut.specs.Order.{NotBefore}
 use Rattle.proof_cut.specs.Stands.{IsAdjacent}
 use Rattle.proof_cut.proofs.Positions.{not_before_after, not_before_then}
@@ -30,6 +30,7 @@ use Rattle.proof_row_sound.specs.Stands.{columns, has_open_level, AreLevels, Has
 use Rattle.proof_row_sound.specs.Arrives.{site_here, Arrives}
 use Rattle.proof_row_sound.proofs.Inserts.{among}
 use Rattle.proof_row_sound.proofs.NodeSteps.{saved, choice_before, had_past_node, entry_past_node}
+use Rattle.proof_row_sound.proofs.Parts.{Part, part_site, IsPart}
 use Rattle.proof_row_sound.proofs.NodesOutside as outside
 use Rattle.proof_row_sound.proofs.NodesInside as inside
 use Rattle.proof_row_sound.proofs.Around.{line_taken, tokens_before, unbroken_around, one_around, may_around, open_around}
@@ -124,27 +125,45 @@ module _ (text : List ℕ) (t : ScannerState) (fs : List FlowLevel) (ks : List (
       (not_before_then t.held.position (position_after t.held.position d.piece (next_of d)) (position_after (position_after t.held.position d.piece (next_of d)) d.gap d.rest)
       (not_before_after t.held.position d.piece (next_of d)) (not_before_after (position_after t.held.position d.piece (next_of d)) d.gap d.rest))
 
--- ---- outside flow
-
-module _ (text : List ℕ) (t : ScannerState) (k : Option Key) (a : ArrivesBy text t [] (k ∷ []) []) (d : Read) (out : t.held.flow ≡ []) (deep : IsDeep t.held) (r : IsRead t [] a.site a.line [] a.separation d) where
   -- the step, as the lemmas on rows see it
-  abbrev pub outer_node : outside.Node
-  outer_node = record {
+  abbrev pub part : Part
+  part = record {
     site = a.site;
     line = a.line;
-    line_here = a.line_here;
     separation = a.separation;
     piece = d.piece;
     next = next_of d;
     tok = d.tok;
     kind = None;
-    open_key = k;
+    open_key = top_key ks;
     new = new_key t;
     allowed = t.held.key_allowed;
     tokens = a.tokens;
     past = d.end;
     rest = d.rest;
   }
+
+  pub is_part : IsPart (not (is_empty fs)) es part
+  is_part =
+      let x : Site = part_site (not (is_empty fs)) part in
+      let Here : Position → Site → Type 0 = λ p y. IsPiece (seen (with_entries a.site a.line es) y a.separation) d.piece (next_of d) None p d.tok in
+      record {
+        act = r.act;
+        begun = r.begun;
+        is_filled = subst (λ y. is_separation false a.separation y ≡ true) r.cut a.is_filled;
+        is_solid = r.is_solid;
+        is_piece = subst (λ p. Here p x) (sym (r.shown x)) (subst (λ p. Here p (site_here (not (is_empty fs)) p a.site)) here_is r.is_piece);
+        stands = subst (λ p. may_stand (not (is_empty fs)) a.site (site_here (not (is_empty fs)) p a.site) a.separation d.piece d.tok (next_of d) ≡ true) here_is
+            (all_true (is_indented_by_spaces a.site.before a.site.blocks a.site.awaits a.separation) (is_deep_enough (not (is_empty fs)) d.tok (site_of t fs a.site)) (further_lines_stand (least_for d.tok (site_of t fs a.site)) d.tok d.piece)
+            (may_precede (not (is_empty fs)) (site_of t fs a.site).blocks d.tok d.piece (next_of d)) (a.is_indented some_here) r.is_deep r.lines_stand r.precedes);
+        position_is = here_is;
+      }
+
+-- ---- outside flow
+
+module _ (text : List ℕ) (t : ScannerState) (k : Option Key) (a : ArrivesBy text t [] (k ∷ []) []) (d : Read) (out : t.held.flow ≡ []) (deep : IsDeep t.held) (r : IsRead t [] a.site a.line [] a.separation d) where
+  abbrev pub outer_node : outside.Node
+  outer_node = record { part = part text t [] (k ∷ []) [] a d r; line_here = a.line_here }
 
   abbrev own : Token
   own = put t.held.position d.tok
@@ -166,17 +185,8 @@ module _ (text : List ℕ) (t : ScannerState) (k : Option Key) (a : ArrivesBy te
 
   pub is_outer_node : outside.IsNode outer_node
   is_outer_node = record {
-    act = r.act;
-    begun = r.begun;
-    is_filled = subst (λ x. is_separation false a.separation x ≡ true) r.cut a.is_filled;
-    is_solid = r.is_solid;
-    is_piece = subst (λ x. IsPiece (seen (outside.Outer a.site a.line) (outside.at outer_node) a.separation) d.piece (next_of d) None x d.tok) (sym (r.shown (outside.at outer_node)))
-        (subst (λ x. IsPiece (seen (outside.Outer a.site a.line) (site_here false x a.site) a.separation) d.piece (next_of d) None x d.tok) same_place r.is_piece);
-    stands = subst (λ x. may_stand false a.site (site_here false x a.site) a.separation d.piece d.tok (next_of d) ≡ true) same_place
-        (all_true (is_indented_by_spaces a.site.before a.site.blocks a.site.awaits a.separation) (is_deep_enough false d.tok (site_of t [] a.site)) (further_lines_stand (least_for d.tok (site_of t [] a.site)) d.tok d.piece)
-        (may_precede false (site_of t [] a.site).blocks d.tok d.piece (next_of d)) (a.is_indented some) r.is_deep r.lines_stand r.precedes);
+    is_part = is_part text t [] (k ∷ []) [] a d r;
     line_is = line_node text t k a out deep some d.end d.rest later;
-    position_is = same_place;
     required_is = subst (λ x. must_be_key t.held ≡ is_in_column x.col (site_here false x a.site).blocks) same_place (must_be_here text t k a out deep);
     number_is = ap length tokens_same;
     are_among = among (length a.tokens) (k ∷ []) a.are_numbered;
@@ -232,26 +242,8 @@ module _ (text : List ℕ) (t : ScannerState) (k : Option Key) (a : ArrivesBy te
 
 module _ (text : List ℕ) (t : ScannerState) (f : FlowLevel) (fs : List FlowLevel) (k : Option Key) (ks : List (Option Key)) (e : Entry) (es : List Entry) (a : ArrivesBy text t (f ∷ fs) (k ∷ ks) (e ∷ es)) (d : Read) (within : t.held.flow ≡ f ∷ fs)
     (r : IsRead t (f ∷ fs) a.site a.line (e ∷ es) a.separation d) where
-  -- the step, as the lemmas on rows see it
   abbrev pub inner_node : inside.Node
-  inner_node = record {
-    site = a.site;
-    line = a.line;
-    entry = e;
-    around = es;
-    separation = a.separation;
-    piece = d.piece;
-    next = next_of d;
-    tok = d.tok;
-    kind = None;
-    open_key = k;
-    outer_keys = ks;
-    new = new_key t;
-    allowed = t.held.key_allowed;
-    tokens = a.tokens;
-    past = d.end;
-    rest = d.rest;
-  }
+  inner_node = record { part = part text t (f ∷ fs) (k ∷ ks) (e ∷ es) a d r; entry = e; around = es; outer_keys = ks }
 
   abbrev shown_token : Token
   shown_token = put t.held.position d.tok
@@ -270,17 +262,8 @@ module _ (text : List ℕ) (t : ScannerState) (f : FlowLevel) (fs : List FlowLev
 
   pub is_inner_node : inside.IsNode inner_node
   is_inner_node = record {
-    act = r.act;
-    begun = r.begun;
-    is_filled = subst (λ x. is_separation false a.separation x ≡ true) r.cut a.is_filled;
-    is_solid = r.is_solid;
-    is_piece = subst (λ x. IsPiece (seen (inside.base inner_node) (inside.at inner_node) a.separation) d.piece (next_of d) None x d.tok) (sym (r.shown (inside.at inner_node)))
-        (subst (λ x. IsPiece (seen (inside.base inner_node) (site_here true x a.site) a.separation) d.piece (next_of d) None x d.tok) place r.is_piece);
-    stands = subst (λ x. may_stand true a.site (site_here true x a.site) a.separation d.piece d.tok (next_of d) ≡ true) place
-        (all_true (is_indented_by_spaces a.site.before a.site.blocks a.site.awaits a.separation) (is_deep_enough true d.tok (site_of t (f ∷ fs) a.site)) (further_lines_stand (least_for d.tok (site_of t (f ∷ fs) a.site)) d.tok d.piece)
-        (may_precede true (site_of t (f ∷ fs) a.site).blocks d.tok d.piece (next_of d)) (a.is_indented goes) r.is_deep r.lines_stand r.precedes);
+    is_part = is_part text t (f ∷ fs) (k ∷ ks) (e ∷ es) a d r;
     has_had = a.are_entries.1;
-    position_is = place;
     number_is = ap length tokens_alike;
     are_among = among (length a.tokens) (k ∷ ks) a.are_numbered;
     unbroken = unbroken_around text t f fs k ks e es a goes d.end d.rest further;

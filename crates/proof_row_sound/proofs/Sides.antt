@@ -24,8 +24,8 @@ with_entries s l es = record { site = s; line = l; entries = es }
 
 -- ---- where a piece begins
 
--- What holds where a piece begins, if these are the flow levels and open keys that the scanner holds, and these the entries.
-pub record ArrivesBy (text : List ℕ) (t : ScannerState) (fs : List FlowLevel) (ks : List (Option Key)) (es : List Entry) : Type 0 where
+-- What holds where a piece begins, if these are the flow levels, whatever the open keys and the entries are.
+pub record ArrivesAmong (t : ScannerState) (fs : List FlowLevel) : Type 0 where
   pub site : Site
   pub line : Line
   pub separation : List ℕ
@@ -39,50 +39,57 @@ pub record ArrivesBy (text : List ℕ) (t : ScannerState) (fs : List FlowLevel) 
   pub awaits_is : (site_here (not (is_empty fs)) t.held.position site).awaits ≡ has_open_level t.held.indents
   pub are_levels : AreLevels t.held.indent t.held.indents
   pub is_indented : is_empty t.rest ≡ false → is_indented_by_spaces site.before site.blocks site.awaits separation ≡ true
-  pub one_each : length ks ≡ suc (length fs)
-  pub are_entries : AreEntries t.held.key_allowed (is_renewed site.before separation) fs ks es
   pub is_line : line_past_separation (not (is_empty fs)) (begins_free_line site.before separation) line ≡ Some line_here
-  pub line_is : IsLineHere (not (is_empty fs)) t.held.key_allowed t.rest (outside_key es ks) line_here
-  pub is_open : IsOpenOutside (outside_key es ks) site.position t.held.position t.rest site.blocks
-  pub is_near : is_empty fs ≡ true → IsNear (outside_key es ks) t.held.position
   pub no_key : is_waiting line ≡ false
-  pub are_numbered : AreNumbered (length tokens) ks
   pub tokens_are : t.held.tokens ≡ tokens ++ ends_here (not (is_empty fs)) t.held.position site.blocks
   pub is_adjacent_here : is_empty fs ≡ false → is_empty t.rest ≡ false → is_adjacent (before_past (before_by site.before) separation) ≡ (t.held.position.index == t.held.adjacent_value_at)
   pub was_adjacent : t.held.adjacent_value_at ≤ t.held.position.index
   pub started : t.held.started ≡ true
   pub going : t.held.ended ≡ false
+
+-- What holds there, if these are the flow levels and open keys that the scanner holds, and these the entries.
+pub record ArrivesBy (text : List ℕ) (t : ScannerState) (fs : List FlowLevel) (ks : List (Option Key)) (es : List Entry) : Type 0 where
+  pub among : ArrivesAmong t fs
+  pub open among use *
+  pub one_each : length ks ≡ suc (length fs)
+  pub are_entries : AreEntries t.held.key_allowed (is_renewed site.before separation) fs ks es
+  pub line_is : IsLineHere (not (is_empty fs)) t.held.key_allowed t.rest (outside_key es ks) line_here
+  pub is_open : IsOpenOutside (outside_key es ks) site.position t.held.position t.rest site.blocks
+  pub is_near : is_empty fs ≡ true → IsNear (outside_key es ks) t.held.position
+  pub are_numbered : AreNumbered (length tokens) ks
   pub completes : (c : Bool) (cs : List Bool) → MayChoose c (outside_key es ks) t.held.position t.rest →
       Completes text (separation ++ t.rest) (chosen c cs ks (with_entries site line es)) (tokens_up_to (chosen c cs ks (with_entries site line es)) ks tokens)
 
 unfoldable pub arrives_by : (text : List ℕ) (t : ScannerState) (a : Arrives text t) → ArrivesBy text t t.held.flow t.held.keys a.base.entries
 arrives_by text t a = record {
-  site = a.base.site;
-  line = a.base.line;
-  separation = a.separation;
-  tokens = a.tokens;
-  line_here = a.line;
-  is_clean = a.is_clean;
-  is_filled = a.is_filled;
-  is_solid = a.is_solid;
-  position_is = a.position_is;
-  blocks_are = a.blocks_are;
-  awaits_is = a.awaits_is;
-  are_levels = a.are_levels;
-  is_indented = a.is_indented;
+  among = record {
+    site = a.base.site;
+    line = a.base.line;
+    separation = a.separation;
+    tokens = a.tokens;
+    line_here = a.line;
+    is_clean = a.is_clean;
+    is_filled = a.is_filled;
+    is_solid = a.is_solid;
+    position_is = a.position_is;
+    blocks_are = a.blocks_are;
+    awaits_is = a.awaits_is;
+    are_levels = a.are_levels;
+    is_indented = a.is_indented;
+    is_line = a.is_line;
+    no_key = a.no_key;
+    tokens_are = a.tokens_are;
+    is_adjacent_here = a.is_adjacent_here;
+    was_adjacent = a.was_adjacent;
+    started = a.started;
+    going = a.going;
+  };
   one_each = a.one_each;
   are_entries = a.are_entries;
-  is_line = a.is_line;
   line_is = a.line_is;
   is_open = a.is_open;
   is_near = a.is_near;
-  no_key = a.no_key;
   are_numbered = a.are_numbered;
-  tokens_are = a.tokens_are;
-  is_adjacent_here = a.is_adjacent_here;
-  was_adjacent = a.was_adjacent;
-  started = a.started;
-  going = a.going;
   completes = a.completes;
 }
 

@@ -15,52 +15,28 @@ use Rattle.model_scanner.specs.State.{Key, pop}
 use Rattle.proof_row_sound.specs.Choices.{line_by, had_by, entries_by, outside_key, chosen, MayChoose}
 use Rattle.proof_row_sound.specs.Completes.{with_had, with_keys, tokens_up_to, Completes}
 use Rattle.proof_row_sound.proofs.Completed.{completed_past}
+use Rattle.proof_row_sound.proofs.FlowSteps.{FlowStep, step_of, base, keys, outside}
 use Rattle.proof_row_sound.proofs.Inserts.{AreAmong, first_among, keys_first}
 use Rattle.proof_row_sound.proofs.NodeTokens.{past_step, keys_along}
 use Rattle.proof_row_sound.proofs.NodesInside.{no_had, had_as_it_was, same_levels}
 
--- A piece in flow: the account after the last piece in which no open key is one, without its entries; the innermost entry, that after the piece and those around it; the separation, the piece and the text
--- after it; the token; the open keys; the tokens before; the position and the text after what is read.
+-- A piece in flow, and the entry after it.
 pub record Piece : Type 0 where
-  pub site : Site
-  pub line : Line
-  pub entry : Entry
+  pub step : FlowStep
+  pub open step use *
   pub entry_after : Entry
-  pub around : List Entry
-  pub separation : List ℕ
-  pub piece : List ℕ
-  pub next : List ℕ
-  pub tok : Tok
-  pub open_key : Option Key
-  pub outer_keys : List (Option Key)
-  pub tokens : List Token
-  pub past : Position
-  pub rest : List ℕ
 
 -- the site at the piece
 abbrev pub at : Piece → Site
 at d = site_at true d.site d.separation d.piece d.tok d.next
 
-abbrev pub step_of : Piece → Step
-step_of d = record { separation = d.separation; piece = d.piece; shown = d.tok; key = false }
-
--- the accounts before and after it in which no open key is one
-abbrev pub base : Piece → Account
-base d = record { site = d.site; line = d.line; entries = d.entry ∷ d.around }
-
+-- the account after it in which no open key is one
 abbrev pub base_past : Piece → Account
 base_past d = record { site = site_past true (at d) d.piece d.tok d.next (at d).blocks; line = d.line; entries = d.entry_after ∷ d.around }
 
-abbrev pub keys : Piece → List (Option Key)
-keys d = d.open_key ∷ d.outer_keys
-
--- the open key outside flow
-abbrev pub outside : Piece → Option Key
-outside d = outside_key d.around d.outer_keys
-
 -- the accounts before and after it, by choices after it
 abbrev pub before : Piece → Bool → List Bool → Account
-before d c cs = chosen c (false ∷ pop cs) (keys d) (base d)
+before d c cs = chosen c (false ∷ pop cs) (keys d.step) (base d.step)
 
 abbrev pub past : Piece → Bool → List Bool → Account
 past d c cs = chosen c cs (None ∷ d.outer_keys) (base_past d)
@@ -76,22 +52,22 @@ pub record IsHere (d : Piece) : Type 0 where
   pub begun : begun_by d.tok ≡ []
   pub is_filled : is_separation false d.separation (d.piece ++ d.next) ≡ true
   pub is_solid : is_empty d.piece ≡ false
-  pub is_piece : IsPiece (seen (base d) (at d) d.separation) d.piece d.next None (shown_position (at d) d.piece d.tok d.next) d.tok
+  pub is_piece : IsPiece (seen (base d.step) (at d) d.separation) d.piece d.next None (shown_position (at d) d.piece d.tok d.next) d.tok
   pub stands : may_stand true d.site (at d) d.separation d.piece d.tok d.next ≡ true
   pub no_key : is_keyed d.entry.had ≡ false
   pub entry_is : (es : List Entry) → entries_past (at d).position (is_renewed d.site.before d.separation) (act_of d.tok) [] false d.entry es ≡ Some (d.entry_after ∷ es)
-  pub colons : (n : ℕ) (p : Position) (ws : List Step) (last : List ℕ) → colon_of (suc n) p (step_of d ∷ ws) last ≡ colon_of (suc n) (past_step p (step_of d) ws last) ws last
-  pub are_among : AreAmong (length d.tokens) (keys d)
-  pub unbroken : (c : Bool) → MayChoose c (outside d) d.past d.rest → line_past_separation true (begins_free_line d.site.before d.separation) (line_by c (outside d) d.line) ≡ Some (line_by c (outside d) d.line)
-  pub one_line : (c : Bool) → MayChoose c (outside d) d.past d.rest → (has_break d.piece && is_waiting (line_by c (outside d) d.line)) ≡ false
-  pub may_before : (c : Bool) → MayChoose c (outside d) d.past d.rest → MayChoose c (outside d) (at d).position (d.piece ++ d.next)
+  pub colons : (n : ℕ) (p : Position) (ws : List Step) (last : List ℕ) → colon_of (suc n) p (step_of d.step ∷ ws) last ≡ colon_of (suc n) (past_step p (step_of d.step) ws last) ws last
+  pub are_among : AreAmong (length d.tokens) (keys d.step)
+  pub unbroken : (c : Bool) → MayChoose c (outside d.step) d.past d.rest → line_past_separation true (begins_free_line d.site.before d.separation) (line_by c (outside d.step) d.line) ≡ Some (line_by c (outside d.step) d.line)
+  pub one_line : (c : Bool) → MayChoose c (outside d.step) d.past d.rest → (has_break d.piece && is_waiting (line_by c (outside d.step) d.line)) ≡ false
+  pub may_before : (c : Bool) → MayChoose c (outside d.step) d.past d.rest → MayChoose c (outside d.step) (at d).position (d.piece ++ d.next)
 
 abbrev With : Entry → Had → Entry
 With e h = record { kind = e.kind; pair = e.pair; had = h }
 
-pub piece_account : (d : Piece) → IsHere d → (c : Bool) (cs : List Bool) → MayChoose c (outside d) d.past d.rest → account_past (before d c cs) (step_of d) d.next ≡ Some (past d c cs)
+pub piece_account : (d : Piece) → IsHere d → (c : Bool) (cs : List Bool) → MayChoose c (outside d.step) d.past d.rest → account_past (before d c cs) (step_of d.step) d.next ≡ Some (past d c cs)
 piece_account d n c cs may =
-    let l : Line = line_by c (outside d) d.line in
+    let l : Line = line_by c (outside d.step) d.line in
     let here : Position = (at d).position in
     let again : Bool = is_renewed d.site.before d.separation in
     let e : Entry = With d.entry (had_by false d.open_key d.entry.had) in
@@ -110,26 +86,26 @@ begun_alike single pair here p q own gives_colon _ = refl
 begun_alike single pair here p q own _ h = refl
 
 abbrev SeenWith : Piece → List Level → Type 0
-SeenWith d levels = IsPiece (let a = seen (base d) (at d) d.separation in record a { levels = levels }) d.piece d.next None (shown_position (at d) d.piece d.tok d.next) d.tok
+SeenWith d levels = IsPiece (let a = seen (base d.step) (at d) d.separation in record a { levels = levels }) d.piece d.next None (shown_position (at d) d.piece d.tok d.next) d.tok
 
 -- If each choice before the piece is one of a row, then each choice after it is, with the tokens of the step.
 pub piece_completes : (text : List ℕ) (d : Piece) → IsHere d →
-    ((c : Bool) (cs : List Bool) → MayChoose c (outside d) (at d).position (d.piece ++ d.next) → Completes text (d.separation ++ (d.piece ++ d.next)) (chosen c cs (keys d) (base d)) (tokens_up_to (chosen c cs (keys d) (base d)) (keys d) d.tokens)) →
-    (c : Bool) (cs : List Bool) → MayChoose c (outside d) d.past d.rest → Completes text d.next (past d c cs) (tokens_up_to (past d c cs) (None ∷ d.outer_keys) (d.tokens ++ own_tokens d))
+    ((c : Bool) (cs : List Bool) → MayChoose c (outside d.step) (at d).position (d.piece ++ d.next) → Completes text (d.separation ++ (d.piece ++ d.next)) (chosen c cs (keys d.step) (base d.step)) (tokens_up_to (chosen c cs (keys d.step) (base d.step)) (keys d.step) d.tokens)) →
+    (c : Bool) (cs : List Bool) → MayChoose c (outside d.step) d.past d.rest → Completes text d.next (past d c cs) (tokens_up_to (past d c cs) (None ∷ d.outer_keys) (d.tokens ++ own_tokens d))
 piece_completes text d n h c cs may =
-    completed_past text (d.separation ++ (d.piece ++ d.next)) (before d c cs) (past d c cs) (tokens_up_to (before d c cs) (keys d) d.tokens) (tokens_up_to (past d c cs) (None ∷ d.outer_keys) (d.tokens ++ own_tokens d)) (step_of d) d.next refl
-    (n.is_filled, (ap not n.is_solid, subst (λ x. SeenWith d x) (sym (same_levels (false ∷ pop cs) (keys d) (d.entry ∷ d.around))) n.is_piece)) (piece_account d n c cs may) tokens (h c (false ∷ pop cs) (n.may_before c may))
+    completed_past text (d.separation ++ (d.piece ++ d.next)) (before d c cs) (past d c cs) (tokens_up_to (before d c cs) (keys d.step) d.tokens) (tokens_up_to (past d c cs) (None ∷ d.outer_keys) (d.tokens ++ own_tokens d)) (step_of d.step) d.next refl
+    (n.is_filled, (ap not n.is_solid, subst (λ x. SeenWith d x) (sym (same_levels (false ∷ pop cs) (keys d.step) (d.entry ∷ d.around))) n.is_piece)) (piece_account d n c cs may) tokens (h c (false ∷ pop cs) (n.may_before c may))
   where
     Own : List ℕ → List Step → List ℕ → Type 0
     Own x ws last =
-        tokens_up_to (before d c cs) (keys d) d.tokens (step_of d ∷ ws) last ++ tokens_of_step (before d c cs) (step_of d) ws last ≡
-        tokens_up_to (past (record d { next = x }) c cs) (None ∷ d.outer_keys) (d.tokens ++ own_tokens (record d { next = x })) ws last
+        tokens_up_to (before d c cs) (keys d.step) d.tokens (step_of d.step ∷ ws) last ++ tokens_of_step (before d c cs) (step_of d.step) ws last ≡
+        tokens_up_to (past (record d { step = record d.step { next = x } }) c cs) (None ∷ d.outer_keys) (d.tokens ++ own_tokens (record d { step = record d.step { next = x } })) ws last
 
     own : (ws : List Step) (last : List ℕ) → Own (spelled ws last) ws last
     own ws last =
-        let b : Piece = record d { next = spelled ws last } in
-        let w : Step = step_of d in
-        let l : Line = line_by c (outside d) d.line in
+        let b : Piece = record d { step = record d.step { next = spelled ws last } } in
+        let w : Step = step_of d.step in
+        let l : Line = line_by c (outside d.step) d.line in
         let hd : Had = had_by false d.open_key d.entry.had in
         let es : List Entry = entries_by (pop cs) d.outer_keys d.around in
         let p : Position = past_step d.site.position w ws last in
@@ -138,7 +114,7 @@ piece_completes text d n h c cs may =
         let pair_here : Position = pair_position past_it b.next in
         let colon : Colon = key_end d.tok past_it ws last in
         let shown : List Token = put (shown_position (at b) b.piece b.tok b.next) b.tok ∷ [] in
-        let first : tokens_up_to (before d c cs) (keys d) d.tokens (w ∷ ws) last ≡ with_keys 1 d.site.position (w ∷ ws) last d.site.blocks l es d.outer_keys d.tokens =
+        let first : tokens_up_to (before d c cs) (keys d.step) d.tokens (w ∷ ws) last ≡ with_keys 1 d.site.position (w ∷ ws) last d.site.blocks l es d.outer_keys d.tokens =
         ap (λ y. with_keys 1 d.site.position (w ∷ ws) last d.site.blocks l es d.outer_keys y)
         (ap (λ y. with_had (colon_of 0 d.site.position (w ∷ ws) last) single y d.open_key d.tokens) (had_as_it_was d.open_key d.entry.had) ∙ no_had (colon_of 0 d.site.position (w ∷ ws) last) single d.entry.had d.open_key d.tokens n.no_key) in
         let second : tokens_of_step (before d c cs) w ws last ≡ own_tokens b =
@@ -151,5 +127,5 @@ piece_completes text d n h c cs may =
         keys_along (λ m. suc m) (λ m. suc m) (λ m. refl) (λ m. refl) 0 d.site.position p w ws last (λ m. n.colons m d.site.position ws last) d.site.blocks l es d.outer_keys (d.tokens ++ own_tokens b)))
 
     tokens : (ws : List Step) (last : List ℕ) → spelled ws last ≡ d.next →
-        tokens_up_to (before d c cs) (keys d) d.tokens (step_of d ∷ ws) last ++ tokens_of_step (before d c cs) (step_of d) ws last ≡ tokens_up_to (past d c cs) (None ∷ d.outer_keys) (d.tokens ++ own_tokens d) ws last
-    tokens ws last e = own ws last ∙ ap (λ x. tokens_up_to (past (record d { next = x }) c cs) (None ∷ d.outer_keys) (d.tokens ++ own_tokens (record d { next = x })) ws last) e
+        tokens_up_to (before d c cs) (keys d.step) d.tokens (step_of d.step ∷ ws) last ++ tokens_of_step (before d c cs) (step_of d.step) ws last ≡ tokens_up_to (past d c cs) (None ∷ d.outer_keys) (d.tokens ++ own_tokens d) ws last
+    tokens ws last e = own ws last ∙ ap (λ x. tokens_up_to (past (record d { step = record d.step { next = x } }) c cs) (None ∷ d.outer_keys) (d.tokens ++ own_tokens (record d { step = record d.step { next = x } })) ws last) e
