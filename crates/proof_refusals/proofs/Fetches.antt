@@ -19,7 +19,7 @@ use Rattle.model_scanner.specs.Document.{next_line, end_stream, fetch_stream_end
 use Rattle.model_scanner.specs.Fetch.{fetch_token, comes_marker, fetch_indented, fetch_first_column, fetch_content, fetch_here}
 use Rattle.proof_cut.proofs.Nodes.{IsDeep}
 use Rattle.proof_cut.proofs.Dispatch.{token_holds}
-use Rattle.proof_cut.proofs.Fetched.{begins_with_this, no_marker, is_deep, goes_on_here}
+use Rattle.proof_cut.proofs.Fetched.{begins_with_this, no_marker, is_deep, goes_on_here, Marked, marked}
 use Rattle.proof_row_sound.specs.Choices.{outside_key}
 use Rattle.proof_row_sound.specs.Stands.{AreLevels, columns, has_open_level}
 use Rattle.proof_row_sound.specs.Arrives.{Arrives, site_here}
@@ -47,7 +47,7 @@ module _ (text : List ℕ) (t : ScannerState) (a : Arrives text t) (some : is_em
         block = λ literal more e o. block_told text t a some carried literal more e o;
         dash = λ more e gap. dash_told text t a some carried more e gap;
         question = λ more e gap. question_told text t a some carried more e gap;
-        colon = λ more e i. colon_told text t a some carried;
+        colon = λ more e i. colon_told text t a some carried more e;
         open_bracket = λ more e. opening_told text t a some carried Entry Tok.flow_sequence_start 91 more e (inl refl);
         open_brace = λ more e. opening_told text t a some carried Mapping Tok.flow_mapping_start 123 more e (inr refl);
         close_bracket = λ more e. closing_told text t a some carried Tok.flow_sequence_end;
@@ -101,7 +101,7 @@ module _ (text : List ℕ) (t : ScannerState) (a : Arrives text t) (some : is_em
   first_told col =
       either (peek t.rest == 37) (λ e. directive_told text t a some carried (after t.rest) (begins_with_this t.rest 37 some e) col) (λ n.
       either (comes_marker 45 t.rest) (λ e. marker_told text t a some carried Tok.document_start) (λ x.
-      either (comes_marker 46 t.rest) (λ e. document_end_told text t a some carried) (λ y.
+      either (comes_marker 46 t.rest) (λ e. let m : Marked 46 t.rest = marked 46 t.rest refl e in document_end_told text t a some carried m.more m.is_text m.gap col) (λ y.
       indented_told (by (t.held.position.col == 0) (no_marker t.rest x y)) (λ _. n))))
     where
       by : (b : Bool) → is_document_marker t.rest ≡ false → (b && is_document_marker t.rest) ≡ false

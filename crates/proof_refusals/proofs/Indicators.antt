@@ -1,49 +1,67 @@
 -- Faults of indicators, markers and directives.
-use Rattle.std.proofs.Common.{◌≡◌, ℕ, suc, ◌≤◌, List, [], ◌∷◌, ◌++◌, Bool, true, false, not, ◌==◌, ◌&&◌, ◌||◌, nat_le, nat_lt, slice_index, length, if◌then◌else◌, Option, Some, None, Result, Ok, Err, refl, ap, sym, ◌∙◌, subst, arith}
+use Rattle.std.proofs.Common.{◌≡◌, ℕ, suc, ◌≤◌, List, [], ◌∷◌, ◌++◌, Bool, true, false, not, ◌==◌, ◌&&◌, ◌||◌, nat_le, nat_lt, slice_index, append_assoc, length, if◌then◌else◌, Option, Some, None, Result, Ok, Err, refl, ap, sym, ◌∙◌, subst, arith, ◌+◌}
 use Rattle.std.specs.Prelude.{◌⊎◌}
+use Rattle.std.proofs.lemmas.Bool.{and_parts, eqb-true}
 use Rattle.std.proofs.lemmas.Bool.Decides.{nat_tests}
 use Rattle.defs_text.specs.Breaks.{has_no_break}
 use Rattle.defs_text.specs.Classes.{is_at_gap}
-use Rattle.defs_text.specs.Position.{Position}
+use Rattle.defs_text.specs.Position.{Position, position_after}
 use Rattle.defs_text.specs.Text.{is_empty}
 use Rattle.defs_scalar.specs.Directives.{directive_of}
+use Rattle.defs_token.specs.Separation.{is_separation}
 use Rattle.defs_token.specs.Token.{Tok}
-use Rattle.defs_row.specs.Key.{Line, free, taken, waits, begins_free_line, line_past_separation}
-use Rattle.defs_row.specs.FlowEntry.{Entry}
+use Rattle.defs_scalar.specs.FlowScalar.{begins_with}
+use Rattle.defs_row.specs.Indentation.{begins_entry, begins_with_alpha}
+use Rattle.defs_row.specs.Key.{Line, free, taken, waits, is_waiting, begins_free_line, line_past_separation}
+use Rattle.defs_row.specs.FlowEntry as entry
+use Rattle.defs_row.specs.FlowEntry.{Entry, has_no_pair, takes_pair}
 use Rattle.yaml_tokens.specs.declared.problem.Fault.{Fault}
 use Rattle.yaml_tokens.specs.declared.problem.Fault.TheVariants.{OutOfMemory, At}
 use Rattle.yaml_tokens.specs.declared.problem.Problem.TheVariants as problem
 use Rattle.model_lexers.specs.declared.context.SkipTabs.TheVariants.{Yes, No}
-use Rattle.yaml_chars.specs.Class.{is_alpha, is_blank_or_breakz, is_breakz}
+use Rattle.yaml_chars.specs.Class.{is_alpha, is_alphanumeric, is_blank_or_breakz, is_breakz}
 use Rattle.model_lexers.specs.declared.context.Whitespace.{Whitespace}
-use Rattle.model_lexers.specs.Machine.{Read}
+use Rattle.model_lexers.specs.Machine.{Read, past}
 use Rattle.model_lexers.specs.Space.{space}
 use Rattle.model_lexers.specs.Directive.{directive}
 use Rattle.model_scanner.specs.declared.level.FlowLevel.{FlowLevel}
-use Rattle.model_scanner.specs.State.{Key, Held, ScannerState, peek, put, in_flow, try_held}
+use Rattle.model_scanner.specs.declared.level.FlowLevel.TheVariants as level
+use Rattle.model_scanner.specs.State.{Key, Held, ScannerState, peek, after, go_on, skip_indicator, in_flow, try_held, on_held}
 use Rattle.model_scanner.specs.Keys.{is_required, top_key, remove_implicit_key}
 use Rattle.model_scanner.specs.Indents.{unroll_indent, roll_indent, roll_one_col_indent, with_levels, Levels}
 use Rattle.model_scanner.specs.Space.{skip_yaml_whitespace, white}
-use Rattle.model_scanner.specs.Flow.{increase_flow_level, deepened_flow, begin_flow, pass_indicator, fetch_flow_collection_start, ended_flow, end_flow, fetch_flow_collection_end, next_entry, end_entry, fetch_flow_entry}
-use Rattle.model_scanner.specs.Block.{last_property, at_margin, check_block_entry, check_dash, roll_entry, fetch_block_entry, begin_key, check_key_space, fetch_key, check_after_tab, check_value_space, begin_pair, insert_key, begin_keyless_mapping, begin_keyless_value, value_of, fetch_value}
+use Rattle.model_scanner.specs.Flow.{allow_key, increase_flow_level, deepened_flow, begin_flow, pass_indicator, fetch_flow_collection_start, ended_flow, end_flow, fetch_flow_collection_end, next_entry, end_entry, fetch_flow_entry}
+use Rattle.model_scanner.specs.Block.{last_property, at_margin, check_block_entry, check_dash, roll_entry, fetch_block_entry, begin_key, check_key_space, fetch_key, check_after_tab, check_value_space, opens_pair, paired, begin_pair, insert_key, begin_keyless_pair, begin_keyless_mapping, begin_keyless_value, value_of, fetch_value}
 use Rattle.model_scanner.specs.Document.{closed_key, begin_line, fetch_directive, fetch_document_marker, check_document_end, fetch_document_end}
 use Rattle.model_scanner.proofs.Holds as holds
 use Rattle.model_scanner.proofs.Holds.{Holds, held_of}
 use Rattle.proof_lexers.specs.DirectiveEnds as directives
 use Rattle.proof_lexers.specs.DirectiveEnds.{DirectiveEndsAs, IsDirectiveRefusal}
-use Rattle.proof_lexers.specs.Separations.{GoesOverAs, misses}
+use Rattle.proof_lexers.specs.NameEnds.{further}
+use Rattle.proof_lexers.specs.PlainEnds as plain_ends
+use Rattle.proof_lexers.specs.Separations.{GoesOverAs, misses, SpacesAs, after_separation, after_space, has}
 use Rattle.proof_lexers.specs.Separations as separations
 use Rattle.proof_lexers.proofs.Directives.Lines.{directives_end}
 use Rattle.proof_lexers.proofs.Separation.WhiteSpace.{white_space_is_passed}
-use Rattle.proof_row_sound.specs.Choices.{outside_key, line_by, entries_by, chosen}
+use Rattle.proof_row_sound.specs.Choices.{outside_key, line_by, entries_by, chosen, entry_by, had_by}
 use Rattle.proof_row_sound.specs.Arrives.{Arrives, IsLineHere}
-use Rattle.proof_row_sound.specs.Stands.{is_free}
+use Rattle.proof_row_sound.specs.Stands.{is_free, AreEntries}
+use Rattle.proof_row_sound.proofs.Stales.{no_entries}
 use Rattle.proof_row_sound.proofs.DocumentLines.{line_begun}
+use Rattle.proof_lexers.proofs.Bridges.{same_alpha}
+use Rattle.proof_lexers.proofs.Separation.Spaces.{spaces_are_passed}
+use Rattle.proof_cut.proofs.Dispatch.{gap_here}
 use Rattle.proof_cut.proofs.Levels.{rolled_one_is}
+use Rattle.proof_cut.proofs.Passes.{Spaced, spaces_skipped}
+use Rattle.proof_cut.proofs.Positions.{not_before_after}
+use Rattle.proof_row_sound.proofs.QuotedEnds.{not_at_end}
+use Rattle.yaml_tokens.specs.declared.problem.Problem.{Problem}
+use Rattle.proof_refusals.proofs.KeptKeys.{rolled_place, removed_is}
 use Rattle.proof_cut.proofs.Saved.{saved_keys, saved_is}
 use Rattle.proof_refusals.specs.NoPiece as none
+use Rattle.proof_refusals.specs.NoPiece.{IsFollowed}
 use Rattle.proof_refusals.specs.Stuck as defs
-use Rattle.proof_refusals.specs.Stuck.{IsStuck, Fails, may_not_stand, MayNotStand, may_begin, is_free_line}
+use Rattle.proof_refusals.specs.Stuck.{IsStuck, Fails, followed, may_not_stand, MayNotStand, may_begin, is_free_line}
 use Rattle.proof_refusals.proofs.Faults.{Faults, fault, goes, read, in_turn, tried, checked, either}
 use Rattle.proof_refusals.proofs.Spaces.{space_told, spaces_told}
 use Rattle.proof_refusals.proofs.Places.{IsCarried, Told, not_told, many_levels, stuck, in_flow_is}
@@ -113,17 +131,46 @@ module _ (text : List ℕ) (t : ScannerState) (a : Arrives text t) (some : is_em
   unfolding fetch_document_marker
   marker_told tok = in_turn (tried t (line_told text t.held)) (λ u e. goes)
 
-  end_checked : (u : ScannerState) → Faults (Told text) (check_document_end u)
-  unfolding check_document_end
-  end_checked u = by (is_breakz (peek u.rest))
-    where
-      by : (b : Bool) → Faults (Told text) (if b then Ok u else Err (At problem.ContentAfterDocumentEnd u.held.position))
-      by true = goes
-      by false = fault {f = At problem.ContentAfterDocumentEnd u.held.position} (λ h. absurd (cc h))
+  -- ---- what follows
 
-  pub document_end_told : Faults (Told text) (fetch_document_end t)
+  -- the text after a piece is what the text is stuck by
+  followed_stuck : (why : Problem) (at : Position) → t.held.position.line ≤ at.line → IsFollowed (in_flow t.held) t.held.position t.rest why at → IsStuck text why at
+  followed_stuck why at later x = stuck text t a some carried [] why at later (λ c may. followed (subst (λ b. IsFollowed b t.held.position t.rest why at) (sym (in_flow_is text t a some carried c [])) x))
+
+  -- a fault at the end of what was passed on the line
+  followed_at : (why : Problem) (q : Position) (p : Position) (passed content : List ℕ) → t.held.position.line ≤ p.line → q ≡ position_after p passed content
+      → IsFollowed (in_flow t.held) t.held.position t.rest why (position_after p passed content) → Told text (At why q)
+  followed_at why q p passed content later e x = λ _. subst (λ z. IsStuck text why z) (sym e) (followed_stuck why (position_after p passed content) (let m = not_before_after p passed content in omega (arith, later, m.0)) x)
+
+  three_past : (p : Position) → past (past (past p)) ≡ further 3 p
+  three_past p =
+      let i : ((p.index + 1) + 1) + 1 ≡ p.index + 3 = omega arith in
+      let c : ((p.col + 1) + 1) + 1 ≡ p.col + 3 = omega arith in
+      ap (λ x. let q : Position = record { index = x; line = p.line; col = ((p.col + 1) + 1) + 1 } in q) i ∙ ap (λ y. let q : Position = record { index = p.index + 3; line = p.line; col = y } in q) c
+
+  marked_state : (tok : Tok) (c : ℕ) (more : List ℕ) → t.rest ≡ c ∷ c ∷ c ∷ more → Holds (λ u. (u.rest ≡ more) × (u.held.position ≡ further 3 t.held.position)) (fetch_document_marker tok t)
+  unfolding fetch_document_marker
+  marked_state tok c more e = holds.chained (line_stays t) (λ u s. holds.went (ap (λ r. after (after (after r))) (s.0 ∙ e), ap (λ p. past (past (past p))) s.1 ∙ three_past t.held.position))
+
+  end_checked : (u v : ScannerState) (more : List ℕ) → t.rest ≡ 46 ∷ 46 ∷ 46 ∷ more → is_at_gap more ≡ true → t.held.position.col ≡ 0 → (u.rest ≡ more) × (u.held.position ≡ further 3 t.held.position) → Spaced Yes u v → Faults (Told text) (check_document_end v)
+  unfolding check_document_end
+  end_checked u v more e gap col m s = by (is_breakz (peek v.rest)) refl
+    where
+      passed : List ℕ
+      passed = s.blanks ++ s.comment
+
+      by : (b : Bool) → is_breakz (peek v.rest) ≡ b → Faults (Told text) (if b then Ok v else Err (At problem.ContentAfterDocumentEnd v.held.position))
+      by true i = goes
+      by false i =
+          fault {f = At problem.ContentAfterDocumentEnd v.held.position} (followed_at problem.ContentAfterDocumentEnd v.held.position (further 3 t.held.position) (s.blanks ++ s.comment) v.rest (omega arith)
+          (ap (λ h. h.position) s.is_held ∙ ap (λ q. position_after q (s.blanks ++ s.comment) v.rest) m.1)
+          (none.after_end more (s.blanks ++ s.comment) v.rest col e gap (record { is_text = sym m.0 ∙ (s.is_rest ∙ sym (append_assoc s.blanks s.comment v.rest)); is_filled = s.is_filled; is_on_line = s.no_break }) (not_at_end v.rest i)))
+
+  pub document_end_told : (more : List ℕ) → t.rest ≡ 46 ∷ 46 ∷ 46 ∷ more → is_at_gap more ≡ true → t.held.position.col ≡ 0 → Faults (Told text) (fetch_document_end t)
   unfolding fetch_document_end
-  document_end_told = in_turn (marker_told Tok.document_end) (λ u e. in_turn (spaces_told text Yes u) (λ v i. end_checked v))
+  document_end_told more e gap col =
+      in_turn (marker_told Tok.document_end) (λ u k. in_turn (spaces_told text Yes u) (λ v i.
+      end_checked u v more e gap col (held_of u (marked_state Tok.document_end 46 more e) k) (held_of v (spaces_skipped Yes u) i)))
 
   -- ---- what may begin
 
@@ -177,15 +224,65 @@ module _ (text : List ℕ) (t : ScannerState) (a : Arrives text t) (some : is_em
       may_not_stand (defs.dash_not_free more e gap (in_flow_is text t a some carried c [] ∙ o) (not_free c [] (is_outside o) (is_not t.held.key_allowed n))))) (λ _.
       margin_told (last_property t.held.tokens) t.held.position t.held))
 
-  dash_checked : (w : Whitespace) (u : ScannerState) → Faults (Told text) (check_dash w u)
+  -- a character of a text stands in it with more after it
+  has_more : (b c : List ℕ) → has 9 b ≡ true → has 9 (b ++ c) ≡ true
+  has_more [] c h = absurd (cc h)
+  has_more (d ∷ b) c h = by (d == 9) h (has_more b c)
+    where
+      by : (y : Bool) → (y || has 9 b) ≡ true → (has 9 b ≡ true → has 9 (b ++ c) ≡ true) → (y || has 9 (b ++ c)) ≡ true
+      by true h more = refl
+      by false h more = more h
+
+  -- what a check of the line after an indicator sees
+  first_after : (r : List ℕ) (c : ℕ) → (slice_index r 0 == c) ≡ true → (0 == c) ≡ false → (m : List ℕ) × (r ≡ c ∷ m)
+  first_after [] c h n = absurd (cc (h, n))
+  first_after (d ∷ m) c h n = (m, ap (λ x. x ∷ m) (eqb-true d c h))
+
+  dash_checked : (more : List ℕ) → t.rest ≡ 45 ∷ more → is_at_gap more ≡ true → in_flow t.held ≡ false → (h : Held) → h.position ≡ past t.held.position → (x : Read Whitespace) → space Yes more h.position ≡ Ok x → Faults (Told text) (check_dash x.value (go_on x h))
   unfolding check_dash
-  dash_checked w u = not_told text (w.found_tabs && (slice_index u.rest 0 == 45) && is_blank_or_breakz (slice_index u.rest 1)) problem.TabAfterDash u.held.position u refl
+  dash_checked more e gap outside h place x k = by (space Yes more h.position) k (spaces_are_passed Yes more h.position)
+    where
+      reason : (blanks comment rest : List ℕ) → more ≡ blanks ++ (comment ++ rest) → is_separation false (blanks ++ comment) rest ≡ true → plain_ends.has_break (blanks ++ comment) ≡ false
+          → (has 9 blanks && (slice_index rest 0 == 45) && is_blank_or_breakz (slice_index rest 1)) ≡ true → Told text (At problem.TabAfterDash (position_after h.position (blanks ++ comment) rest))
+      reason blanks comment rest cut fills line all =
+          let second = and_parts (has 9 blanks && (slice_index rest 0 == 45)) (is_blank_or_breakz (slice_index rest 1)) all in
+          let first = and_parts (has 9 blanks) (slice_index rest 0 == 45) second.0 in
+          let d = first_after rest 45 first.1 refl in
+          let gap2 : is_at_gap d.0 ≡ true = sym (gap_here d.0) ∙ (ap (λ l. is_blank_or_breakz (slice_index l 1)) (sym d.1) ∙ second.1) in
+          followed_at problem.TabAfterDash _ (further 1 t.held.position) (blanks ++ comment) rest (omega arith) (ap (λ q. position_after q (blanks ++ comment) rest) place)
+          (none.tab_after_dash more (blanks ++ comment) rest outside e gap (record { is_text = cut ∙ sym (append_assoc blanks comment rest); is_filled = fills; is_on_line = line })
+          (has_more blanks comment first.0) (ap begins_entry d.1 ∙ gap2))
+
+      checked_by : (b : Bool) (q : Position) (u : ScannerState) → (b ≡ true → Told text (At problem.TabAfterDash q)) → Faults (Told text) (if b then Err (At problem.TabAfterDash q) else Ok u)
+      checked_by true q u why = fault {f = At problem.TabAfterDash q} (why refl)
+      checked_by false q u why = goes
+
+      by : (y : Result (Read Whitespace) Fault) → y ≡ Ok x → SpacesAs Yes h.position more y
+          → Faults (Told text) (if x.value.found_tabs && (slice_index x.rest 0 == 45) && is_blank_or_breakz (slice_index x.rest 1) then Err (At problem.TabAfterDash x.position) else Ok (go_on x h))
+      by y i (separations.glued begins j) = absurd (cc (i, j))
+      by y i (separations.spaces blanks comment rest cut are fills line ends j) =
+          let same : after_space h.position (blanks ++ comment) rest (record { found_tabs = has 9 blanks; has_valid_yaml_ws = has 32 blanks }) ≡ x = cc (i, j) in
+          subst (λ (z : Read Whitespace). Faults (Told text) (if z.value.found_tabs && (slice_index z.rest 0 == 45) && is_blank_or_breakz (slice_index z.rest 1) then Err (At problem.TabAfterDash z.position) else Ok (go_on z h))) same
+          (checked_by (has 9 blanks && (slice_index rest 0 == 45) && is_blank_or_breakz (slice_index rest 1)) (position_after h.position (blanks ++ comment) rest) _ (reason blanks comment rest cut fills line))
+
+  entry_outside : Holds (λ s. (in_flow t.held ≡ false) × (s ≡ t.held)) (check_block_entry t.held)
+  unfolding check_block_entry
+  entry_outside = holds.checked (in_flow t.held) (At problem.BlockEntryInFlow t.held.position) (λ o. holds.checked (not t.held.key_allowed) (At problem.BlockEntryNotAllowed t.held.position) (λ _. margin o (last_property t.held.tokens)))
+    where
+      margin : in_flow t.held ≡ false → (o : Option Position) → Holds (λ s. (in_flow t.held ≡ false) × (s ≡ t.held)) (at_margin o t.held.position t.held)
+      margin f None = holds.went (f, refl)
+      margin f (Some q) = holds.checked ((t.held.position.col == 0) && (q.col == 0) && nat_lt 0 t.held.indent) (At problem.AnchorIndentation q) (λ _. holds.went (f, refl))
 
   pub dash_told : (more : List ℕ) → t.rest ≡ 45 ∷ more → is_at_gap more ≡ true → Faults (Told text) (fetch_block_entry t)
   unfolding fetch_block_entry
   dash_told more e gap =
       in_turn (tried t (entry_checked more e gap)) (λ u i.
-      in_turn (read _ (space Yes _ _) check_dash (λ f k. space_told text Yes _ _ f k) (λ w k. dash_checked w.value _)) (λ v j.
+      let was : (u.rest ≡ t.rest) × (in_flow t.held ≡ false) × (u.held ≡ t.held) = held_of {P = λ v. (v.rest ≡ t.rest) × (in_flow t.held ≡ false) × (v.held ≡ t.held)} u (holds.tried t (check_block_entry t.held) entry_outside (λ s k. (refl, k.0, k.1))) i in
+      let rolled : ScannerState = on_held (roll_indent t.held.position.col None Tok.block_sequence_start t.held.position) (skip_indicator u) in
+      let place : rolled.held.position ≡ past t.held.position = rolled_place t.held.position.col None Tok.block_sequence_start t.held.position (skip_indicator u).held ∙ ap (λ h. past h.position) was.2 in
+      let left : rolled.rest ≡ more = ap after (was.0 ∙ e) in
+      in_turn (read rolled.held (space Yes rolled.rest rolled.held.position) check_dash (λ f k. space_told text Yes rolled.rest rolled.held.position f k)
+      (λ x k. dash_checked more e gap was.1 rolled.held place x (ap (λ r. space Yes r rolled.held.position) (sym left) ∙ k))) (λ v j.
       in_turn (spaces_told text No v) (λ w k.
       in_turn (tried (roll_entry w) (remove_told text (roll_entry w).held)) (λ x l. goes))))
 
@@ -197,51 +294,184 @@ module _ (text : List ℕ) (t : ScannerState) (a : Arrives text t) (some : is_em
       (λ n _. stuck text t a some carried [] problem.KeyNotAllowed t.held.position (omega arith) (λ c may.
       may_not_stand (defs.question_not_free more e gap (in_flow_is text t a some carried c [] ∙ o) (not_free c [] (is_outside o) (is_not t.held.key_allowed n))))) (λ _. goes))
 
-  white_told : (u : ScannerState) → Faults (Told text) (skip_yaml_whitespace u)
+  key_place : Holds (λ s. s.position ≡ t.held.position) (begin_key t.held)
+  unfolding begin_key
+  key_place = holds.either (in_flow t.held) (λ _. holds.went refl) (λ _. holds.checked (not t.held.key_allowed) (At problem.KeyNotAllowed t.held.position) (λ _. holds.went (rolled_place t.held.position.col None Tok.block_mapping_start t.held.position t.held)))
+
+  white_told : (more : List ℕ) → t.rest ≡ 63 ∷ more → is_at_gap more ≡ true → (u : ScannerState) → u.rest ≡ more → u.held.position ≡ past t.held.position → Faults (Told text) (skip_yaml_whitespace u)
   unfolding skip_yaml_whitespace
-  white_told u = by (white false false u.rest u.held) (white_space_is_passed u.held u.rest)
+  white_told more e gap u left place = by (white false false u.rest u.held) (white_space_is_passed u.held u.rest)
     where
       by : (x : Result ScannerState Fault) → GoesOverAs u.held u.rest x → Faults (Told text) x
-      by x (separations.goes leading separation rest cut fills ends e) = subst (λ y. Faults (Told text) y) (sym e) goes
-      by x (misses separation rest cut fills begins broken ends e) = subst (λ y. Faults (Told text) y) (sym e) (fault (λ h. absurd (cc h)))
+      by x (separations.goes leading separation rest cut fills ends j) = subst (λ y. Faults (Told text) y) (sym j) goes
+      by x (misses separation rest cut fills begins broken ends j) =
+          subst (λ y. Faults (Told text) y) (sym j) (fault {f = At problem.WhitespaceExpected (position_after u.held.position separation rest)}
+          (followed_at problem.WhitespaceExpected (position_after u.held.position separation rest) (further 1 t.held.position) separation rest (omega arith) (ap (λ q. position_after q separation rest) place)
+          (none.no_space more separation rest e gap (record { is_text = sym left ∙ cut; is_filled = fills; is_on_line = broken }) (ap (λ r. begins_with 32 r) (sym left) ∙ begins) ends)))
 
-  space_checked : (u : ScannerState) → Faults (Told text) (check_key_space u)
-  unfolding check_key_space
-  space_checked u = not_told text (peek u.rest == 9) problem.TabAfterKey u.held.position u refl
+  space_checked : (more : List ℕ) → t.rest ≡ 63 ∷ more → is_at_gap more ≡ true → (u w : ScannerState) → u.rest ≡ more → u.held.position ≡ past t.held.position → skip_yaml_whitespace u ≡ Ok w → Faults (Told text) (check_key_space w)
+  unfolding skip_yaml_whitespace check_key_space
+  space_checked more e gap u w left place k = by (white false false u.rest u.held) k (white_space_is_passed u.held u.rest)
+    where
+      tab_first : (r : List ℕ) → (peek r == 9) ≡ true → r ≡ 9 ∷ after r
+      tab_first [] h = absurd (cc h)
+      tab_first (c ∷ r) h = ap (λ x. x ∷ r) (eqb-true c 9 h)
+
+      checked_by : (b : Bool) (q : Position) (v : ScannerState) → (b ≡ true → Told text (At problem.TabAfterKey q)) → Faults (Told text) (if b then Err (At problem.TabAfterKey q) else Ok v)
+      checked_by true q v why = fault {f = At problem.TabAfterKey q} (why refl)
+      checked_by false q v why = goes
+
+      reason : (separation rest : List ℕ) → u.rest ≡ separation ++ rest → is_separation false separation rest ≡ true → (peek rest == 9) ≡ true → Told text (At problem.TabAfterKey (position_after u.held.position separation rest))
+      reason separation rest cut fills tab =
+          let first = tab_first rest tab in
+          followed_at problem.TabAfterKey (position_after u.held.position separation rest) (further 1 t.held.position) separation (9 ∷ after rest) (omega arith)
+          (ap (λ q. position_after q separation rest) place ∙ ap (λ r. position_after (further 1 t.held.position) separation r) first)
+          (none.tab_after_question more separation (after rest) e gap (sym left ∙ (cut ∙ ap (λ r. separation ++ r) first)) (subst (λ r. is_separation false separation r ≡ true) first fills))
+
+      by : (y : Result ScannerState Fault) → y ≡ Ok w → GoesOverAs u.held u.rest y → Faults (Told text) (if peek w.rest == 9 then Err (At problem.TabAfterKey w.held.position) else Ok w)
+      by y i (misses separation rest cut fills begins broken ends j) = absurd (cc (i, j))
+      by y i (separations.goes leading separation rest cut fills ends j) =
+          let same : after_separation u.held leading separation rest ≡ w = cc (i, j) in
+          subst (λ (z : ScannerState). Faults (Told text) (if peek z.rest == 9 then Err (At problem.TabAfterKey z.held.position) else Ok z)) same
+          (checked_by (peek rest == 9) (position_after u.held.position separation rest) _ (reason separation rest cut fills))
 
   pub question_told : (more : List ℕ) → t.rest ≡ 63 ∷ more → is_at_gap more ≡ true → Faults (Told text) (fetch_key t)
   unfolding fetch_key
   question_told more e gap =
       in_turn (tried t (key_begun more e gap)) (λ u i.
+      let first : (u.rest ≡ t.rest) × (u.held.position ≡ t.held.position) = held_of {P = λ v. (v.rest ≡ t.rest) × (v.held.position ≡ t.held.position)} u (holds.tried t (begin_key t.held) key_place (λ s k. (refl, k))) i in
       in_turn (tried u (remove_told text u.held)) (λ v j.
-      in_turn (white_told _) (λ w k.
-      in_turn (space_checked w) (λ x l. goes))))
+      let second : (v.rest ≡ u.rest) × (v.held.position ≡ u.held.position) = held_of {P = λ x. (x.rest ≡ u.rest) × (x.held.position ≡ u.held.position)} v (holds.tried u (remove_implicit_key u.held) (removed_is u.held) (λ s k. (refl, ap (λ h. h.position) k))) j in
+      let here : ScannerState = skip_indicator (on_held (λ s. allow_key (not (in_flow s)) s) v) in
+      let left : here.rest ≡ more = ap after (second.0 ∙ (first.0 ∙ e)) in
+      let place : here.held.position ≡ past t.held.position = ap past (second.1 ∙ first.1) in
+      in_turn (white_told more e gap here left place) (λ w k.
+      in_turn (space_checked more e gap here w left place k) (λ x l. goes))))
 
-  pair_told : (k : Key) (p : Position) (pair : Bool) (s : Held) → Faults (Told text) (begin_pair k p pair s)
+  -- ---- `:`
+
+  -- the key of an entry of a sequence that may be a single pair, if it is chosen to be one
+  record SingleKey (k : Key) (es : List Entry) : Type 0 where
+    first : Entry
+    around : List Entry
+    are : es ≡ first ∷ around
+    takes : takes_pair first.kind first.pair ≡ true
+    had_is : first.had ≡ entry.waits k.position
+
+  single_key : (allowed again : Bool) (fs : List FlowLevel) (ks : List (Option Key)) (es : List Entry) (k : Key) → AreEntries allowed again fs ks es → opens_pair fs ≡ true → top_key ks ≡ Some k → SingleKey k (entries_by (true ∷ []) ks es)
+  single_key allowed again [] ks es k h o e = absurd (cc o)
+  single_key allowed again (level.Mapping ∷ fs) ks es k h o e = absurd (cc o)
+  single_key allowed again (level.Keyed ∷ fs) ks es k h o e = absurd (cc o)
+  single_key allowed again (level.Pair ∷ fs) ks es k h o e = absurd (cc o)
+  single_key allowed again (level.Entry ∷ fs) [] es k h o e = absurd h
+  single_key allowed again (level.Entry ∷ fs) (x ∷ ks) [] k h o e = absurd h
+  single_key allowed again (level.Entry ∷ fs) (x ∷ ks) (y ∷ es) k h o e = record {
+    first = entry_by true x y;
+    around = _;
+    are = refl;
+    takes = ap (λ z. takes_pair z y.pair) h.0.kind_is ∙ ap (λ z. has_no_pair z) h.0.pair_is;
+    had_is = ap (λ z. had_by true z y.had) e;
+  }
+
+  misplaced : (more : List ℕ) → t.rest ≡ 58 ∷ more → (k : Key) → top_key t.held.keys ≡ Some k → opens_pair t.held.flow ≡ true → nat_lt k.position.line t.held.position.line ≡ true → Told text (At problem.ColonMisplaced t.held.position)
+  misplaced more e k top opens late = λ _.
+      let s : SingleKey k (entries_by (true ∷ []) t.held.keys a.base.entries) = single_key t.held.key_allowed _ t.held.flow t.held.keys a.base.entries k a.are_entries opens top in
+      stuck text t a some carried (true ∷ []) problem.ColonMisplaced t.held.position (omega arith) (λ c may. may_not_stand (defs.key_on_earlier_line more k.position s.first s.around e s.are s.takes s.had_is (grind (arith, nat_tests, late))))
+
+  not_allowed : (more : List ℕ) → t.rest ≡ 58 ∷ more → top_key t.held.keys ≡ None → in_flow t.held ≡ false → t.held.key_allowed ≡ false → Told text (At problem.ValueNotAllowed t.held.position)
+  not_allowed more e top o allowed = λ _.
+      let out : is_empty t.held.flow ≡ true = is_outside o in
+      let none_in : a.base.entries ≡ [] = no_entries t.held.key_allowed _ t.held.flow t.held.keys a.base.entries out a.are_entries in
+      let key_is : outside_key a.base.entries t.held.keys ≡ None = ap (λ es. outside_key es t.held.keys) none_in ∙ top in
+      stuck text t a some carried [] problem.ValueNotAllowed t.held.position (omega arith) (λ c may.
+      may_not_stand (defs.colon_not_free more e (in_flow_is text t a some carried c [] ∙ o) (not_free c [] out allowed) (ap (λ z. is_waiting (line_by c z a.base.line)) key_is ∙ a.no_key)))
+
+  pair_told : (more : List ℕ) → t.rest ≡ 58 ∷ more → (k : Key) → top_key t.held.keys ≡ Some k → (pair : Bool) → opens_pair t.held.flow ≡ pair → (s : Held) → Faults (Told text) (begin_pair k t.held.position pair s)
   unfolding begin_pair
-  pair_told k p true s = not_told text (nat_lt k.position.line p.line) problem.ColonMisplaced p (put k.number s.position Tok.flow_mapping_start s) refl
-  pair_told k p false s = goes
+  pair_told more e k top true opens s = checked (nat_lt k.position.line t.held.position.line) (At problem.ColonMisplaced t.held.position) (λ late. misplaced more e k top opens late) (λ _. goes)
+  pair_told more e k top false opens s = goes
 
-  mapping_told : (p : Position) (s : Held) → Faults (Told text) (begin_keyless_mapping p s)
+  mapping_told : (more : List ℕ) → t.rest ≡ 58 ∷ more → top_key t.held.keys ≡ None → (s : Held) → in_flow s ≡ in_flow t.held → s.key_allowed ≡ t.held.key_allowed → Faults (Told text) (begin_keyless_mapping t.held.position s)
   unfolding begin_keyless_mapping
-  mapping_told p s = either (in_flow s) (λ _. goes) (λ _. not_told text (not s.key_allowed) problem.ValueNotAllowed p (roll_indent p.col None Tok.block_mapping_start p s) refl)
+  mapping_told more e top s flow allowed =
+      either (in_flow s) (λ _. goes) (λ o. checked (not s.key_allowed) (At problem.ValueNotAllowed t.held.position) (λ n. not_allowed more e top (sym flow ∙ o) (sym allowed ∙ is_not s.key_allowed n)) (λ _. goes))
 
-  value_told : (o : Option Key) (p : Position) (pair : Bool) (s : Held) → Faults (Told text) (value_of o p pair s)
+  keyless_alike : (pair : Bool) (s : Held) → (in_flow (begin_keyless_pair pair s) ≡ in_flow s) × ((begin_keyless_pair pair s).key_allowed ≡ s.key_allowed)
+  keyless_alike true s = (refl, refl)
+  keyless_alike false s = (refl, refl)
+
+  value_told : (more : List ℕ) → t.rest ≡ 58 ∷ more → (o : Option Key) → top_key t.held.keys ≡ o → (s : Held) → in_flow s ≡ in_flow t.held → s.key_allowed ≡ t.held.key_allowed → Faults (Told text) (value_of o t.held.position (opens_pair t.held.flow) s)
   unfolding insert_key begin_keyless_value
-  value_told None p pair s = in_turn (mapping_told p _) (λ u e. goes)
-  value_told (Some k) p pair s = in_turn (pair_told k p pair _) (λ u e. goes)
+  value_told more e None top s flow allowed =
+      let k = keyless_alike (opens_pair t.held.flow) s in
+      in_turn (mapping_told more e top (begin_keyless_pair (opens_pair t.held.flow) s) (k.0 ∙ flow) (k.1 ∙ allowed)) (λ u i. goes)
+  value_told more e (Some k) top s flow allowed = in_turn (pair_told more e k top (opens_pair t.held.flow) refl _) (λ u i. goes)
 
-  tab_checked : (w : Whitespace) (u : ScannerState) → Faults (Told text) (check_after_tab w u)
-  unfolding check_after_tab
-  tab_checked w u = not_told text (not w.has_valid_yaml_ws && ((peek u.rest == 45) || is_alpha (peek u.rest))) problem.TabAfterColon u.held.position u refl
+  paired_flow : (fs : List FlowLevel) → is_empty (paired fs) ≡ is_empty fs
+  paired_flow [] = refl
+  paired_flow (level.Mapping ∷ fs) = refl
+  paired_flow (level.Entry ∷ fs) = refl
+  paired_flow (level.Keyed ∷ fs) = refl
+  paired_flow (level.Pair ∷ fs) = refl
 
-  value_checked : (u : ScannerState) → Faults (Told text) (check_value_space u)
+  tab_checked : (more : List ℕ) → t.rest ≡ 58 ∷ more → begins_with 9 more ≡ true → (h : Held) → h.position ≡ past t.held.position → (x : Read Whitespace) → space Yes more h.position ≡ Ok x → Faults (Told text) (check_after_tab x.value (go_on x h))
+  unfolding check_after_tab is_alpha is_alphanumeric
+  tab_checked more e tab h place x k = by (space Yes more h.position) k (spaces_are_passed Yes more h.position)
+    where
+      letter : (r : List ℕ) → ((peek r == 45) || is_alpha (peek r)) ≡ true → begins_with_alpha r ≡ true
+      letter [] h = absurd (cc h)
+      letter (c ∷ r) h = same_alpha c ∙ on (c == 45) refl h
+        where
+          on : (y : Bool) → (c == 45) ≡ y → (y || is_alpha c) ≡ true → is_alpha c ≡ true
+          on true i h = ap is_alpha (eqb-true c 45 i)
+          on false i h = h
+
+      reason : (blanks comment rest : List ℕ) → more ≡ blanks ++ (comment ++ rest) → is_separation false (blanks ++ comment) rest ≡ true → plain_ends.has_break (blanks ++ comment) ≡ false
+          → (not (has 32 blanks) && ((peek rest == 45) || is_alpha (peek rest))) ≡ true → Told text (At problem.TabAfterColon (position_after h.position (blanks ++ comment) rest))
+      reason blanks comment rest cut fills line all =
+          let first = and_parts (not (has 32 blanks)) ((peek rest == 45) || is_alpha (peek rest)) all in
+          followed_at problem.TabAfterColon _ (further 1 t.held.position) (blanks ++ comment) rest (omega arith) (ap (λ q. position_after q (blanks ++ comment) rest) place)
+          (none.tab_after_colon more blanks comment rest e tab (record { is_text = cut ∙ sym (append_assoc blanks comment rest); is_filled = fills; is_on_line = line }) (is_not (has 32 blanks) first.0) (letter rest first.1))
+
+      checked_by : (b : Bool) (q : Position) (u : ScannerState) → (b ≡ true → Told text (At problem.TabAfterColon q)) → Faults (Told text) (if b then Err (At problem.TabAfterColon q) else Ok u)
+      checked_by true q u why = fault {f = At problem.TabAfterColon q} (why refl)
+      checked_by false q u why = goes
+
+      by : (y : Result (Read Whitespace) Fault) → y ≡ Ok x → SpacesAs Yes h.position more y
+          → Faults (Told text) (if not x.value.has_valid_yaml_ws && ((peek x.rest == 45) || is_alpha (peek x.rest)) then Err (At problem.TabAfterColon x.position) else Ok (go_on x h))
+      by y i (separations.glued begins j) = absurd (cc (i, j))
+      by y i (separations.spaces blanks comment rest cut are fills line ends j) =
+          let same : after_space h.position (blanks ++ comment) rest (record { found_tabs = has 9 blanks; has_valid_yaml_ws = has 32 blanks }) ≡ x = cc (i, j) in
+          subst (λ (z : Read Whitespace). Faults (Told text) (if not z.value.has_valid_yaml_ws && ((peek z.rest == 45) || is_alpha (peek z.rest)) then Err (At problem.TabAfterColon z.position) else Ok (go_on z h))) same
+          (checked_by (not (has 32 blanks) && ((peek rest == 45) || is_alpha (peek rest))) (position_after h.position (blanks ++ comment) rest) _ (reason blanks comment rest cut fills line))
+
+  value_checked : (more : List ℕ) → t.rest ≡ 58 ∷ more → (u : ScannerState) → u.rest ≡ more → u.held.position ≡ past t.held.position → Faults (Told text) (check_value_space u)
   unfolding check_value_space
-  value_checked u = either (peek u.rest == 9) (λ _. read u.held (space Yes u.rest u.held.position) check_after_tab (λ f k. space_told text Yes u.rest u.held.position f k) (λ w k. tab_checked w.value _)) (λ _. goes)
+  value_checked more e u left place =
+      either (peek u.rest == 9) (λ tab. read u.held (space Yes u.rest u.held.position) check_after_tab (λ f k. space_told text Yes u.rest u.held.position f k)
+      (λ x k. tab_checked more e (tab_first more (ap (λ r. peek r == 9) (sym left) ∙ tab)) u.held place x (ap (λ r. space Yes r u.held.position) (sym left) ∙ k))) (λ _. goes)
+    where
+      tab_first : (r : List ℕ) → (peek r == 9) ≡ true → begins_with 9 r ≡ true
+      tab_first [] h = absurd (cc h)
+      tab_first (c ∷ r) h = h
 
-  pub colon_told : Faults (Told text) (fetch_value t)
+  -- only the position is another
+  value_held : (u : ScannerState) → Holds (λ w. w.held ≡ record u.held { position = w.held.position }) (check_value_space u)
+  unfolding check_value_space check_after_tab
+  value_held u =
+      holds.either (peek u.rest == 9) (λ _. holds.read u.held (space Yes u.rest u.held.position) check_after_tab (λ x k.
+      holds.checked (not x.value.has_valid_yaml_ws && ((peek x.rest == 45) || is_alpha (peek x.rest))) (At problem.TabAfterColon x.position) (λ _. holds.went refl))) (λ _. holds.went refl)
+
+  pub colon_told : (more : List ℕ) → t.rest ≡ 58 ∷ more → Faults (Told text) (fetch_value t)
   unfolding fetch_value
-  colon_told = in_turn (value_checked _) (λ u e. in_turn (tried u (value_told (top_key u.held.keys) t.held.position _ u.held)) (λ v i. goes))
+  colon_told more e =
+      let first : ScannerState = skip_indicator (on_held (λ s. record s { flow = paired s.flow }) t) in
+      in_turn (value_checked more e first (ap after e) refl) (λ u k.
+      let h = held_of u (value_held first) k in
+      in_turn (tried u (value_told_by more e u (ap (λ s. s.keys) h) (ap (λ s. not (is_empty s.flow)) h ∙ ap not (paired_flow t.held.flow)) (ap (λ s. s.key_allowed) h))) (λ v i. goes))
+    where
+      value_told_by : (more : List ℕ) → t.rest ≡ 58 ∷ more → (u : ScannerState) → u.held.keys ≡ t.held.keys → in_flow u.held ≡ in_flow t.held → u.held.key_allowed ≡ t.held.key_allowed → Faults (Told text) (value_of (top_key u.held.keys) t.held.position (opens_pair t.held.flow) u.held)
+      value_told_by more e u keys flow allowed = value_told more e (top_key u.held.keys) (sym (ap top_key keys)) u.held flow allowed
 
   -- ---- brackets and commas
 

@@ -128,6 +128,34 @@ unrolled_same limit s = by (in_flow s) _
     by true u = (refl, refl)
     by false u = (refl, refl)
 
+-- the position stays
+dropped_place : (s : Held) (ds : List Indent) → (drop_open s ds).position ≡ s.position
+dropped_place s [] = refl
+dropped_place s (d ∷ ds) = by d.needs_block_end
+  where
+    by : (b : Bool) → (if b then s else record s { indent = d.indent; indents = ds }).position ≡ s.position
+    by true = refl
+    by false = refl
+
+pub rolled_place : (col : ℕ) (number : Option ℕ) (tok : Tok) (p : Position) (s : Held) → (roll_indent col number tok p s).position ≡ s.position
+unfolding roll_indent drop_open_level deepen
+rolled_place col number tok p s = by (in_flow s)
+  where
+    u : Held
+    u = drop_open_level col s
+
+    opened : (b : Bool) → (if b then drop_open s s.indents else s).position ≡ s.position
+    opened true = dropped_place s s.indents
+    opened false = refl
+
+    on : (b : Bool) → (if b then record u { indents = level u.indent true ∷ u.indents; indent = col + 1; tokens = placed number (record { position = p; tok = tok }) u.tokens } else u).position ≡ u.position
+    on true = refl
+    on false = refl
+
+    by : (b : Bool) → (if b then s else deepen col number (record { position = p; tok = tok }) (drop_open_level col s)).position ≡ s.position
+    by true = refl
+    by false = on (nat_lt u.indent (col + 1)) ∙ opened (nat_le s.indent (col + 1))
+
 -- ---- keys
 
 pub saved_keeps : (s : Held) → IsMany s → Keeps s (save_implicit_key s)

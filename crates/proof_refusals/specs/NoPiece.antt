@@ -1,15 +1,17 @@
 -- Texts with which no piece begins, and what is wrong with each. YAML 1.2, sections 5.3 (indicators), 5.6, 5.7 (escapes), 6.8 (directives), 6.9 (properties), 7.3 (flow scalars), 8.1 (block scalars).
-use Rattle.std.specs.Prelude.{◌≡◌, ℕ, List, [], ◌∷◌, ◌++◌, Bool, true, false, ◌==◌, nat_le, nat_lt, if◌then◌else◌, Option, Some, None}
-use Rattle.defs_text.specs.Breaks.{has_no_break}
+use Rattle.std.specs.Prelude.{◌≡◌, ℕ, List, [], ◌∷◌, ◌++◌, Bool, true, false, ◌==◌, nat_le, nat_lt, if◌then◌else◌, Option, Some, None, codes}
+use Rattle.defs_text.specs.Breaks.{is_at_line_end, has_no_break}
+use Rattle.defs_text.specs.Classes.{is_one_of, is_at_gap}
 use Rattle.defs_text.specs.Position.{Position, position_after}
 use Rattle.defs_scalar.specs.BlockScalar.{BlockStyle, header_of}
 use Rattle.defs_scalar.specs.BlockScalar as block
 use Rattle.defs_scalar.specs.Directives.{directive_of}
 use Rattle.defs_token.specs.Piece.{goes_on_with_name}
 use Rattle.defs_token.specs.Plain.{inside, after_blank, on_line, begins_flow, goes_on}
-use Rattle.defs_token.specs.Separation.{is_blanks}
+use Rattle.defs_scalar.specs.FlowScalar.{begins_with}
+use Rattle.defs_token.specs.Separation.{is_blanks, is_separation}
 use Rattle.defs_row.specs.Column.{innermost}
-use Rattle.defs_row.specs.Indentation.{least_column}
+use Rattle.defs_row.specs.Indentation.{least_column, begins_entry, begins_with_alpha}
 use Rattle.yaml_tokens.specs.declared.problem.Fault.TheVariants.{At}
 use Rattle.yaml_tokens.specs.declared.problem.Problem.{Problem}
 use Rattle.yaml_tokens.specs.declared.problem.Problem.TheVariants as problem
@@ -18,9 +20,11 @@ use Rattle.proof_lexers.specs.DirectiveEnds.{IsDirectiveRefusal}
 use Rattle.proof_lexers.specs.DirectiveEnds as directives
 use Rattle.proof_lexers.specs.HeaderEnds.{indicator_of, is_in_line, has_zero}
 use Rattle.proof_lexers.specs.HeaderEnds as headers
-use Rattle.proof_lexers.specs.PlainEnds.{begins_solid, stand_after, is_apart}
+use Rattle.proof_lexers.specs.NameEnds.{further}
+use Rattle.proof_lexers.specs.PlainEnds.{begins_solid, has_break, stand_after, is_apart}
 use Rattle.proof_lexers.specs.QuotedEnds.{HasElements, IsBadEscape}
 use Rattle.proof_lexers.specs.QuotedScan.{has_marker}
+use Rattle.proof_lexers.specs.Separations.{begins_white_space, has}
 use Rattle.proof_lexers.specs.TagEnds.{IsTagRefusal}
 
 -- the quote of a style
@@ -77,3 +81,29 @@ pub data IsPlainFault (in_flow : Bool) (collection : List ℕ) (here : Position)
       → IsPlainFault in_flow collection here text problem.PlainDashInFlow (position_after here before (45 ∷ rest))
   by_tab : (before blanks rest : List ℕ) (column : ℕ) → text ≡ before ++ 9 ∷ (blanks ++ rest) → goes_over in_flow (innermost collection) before (9 ∷ (blanks ++ rest)) ≡ true → stand_after after_blank before ≡ on_line column
       → nat_lt column (least_column collection true) ≡ true → is_blanks blanks ≡ true → begins_solid rest ≡ true → IsPlainFault in_flow collection here text problem.PlainTab here
+
+-- ---- what follows a piece
+
+-- Blanks and maybe a comment, which stand on one line, and the text after them.
+pub record GoesOn (more passed content : List ℕ) : Type 0 where
+  pub is_text : more ≡ passed ++ content
+  pub is_filled : is_separation false passed content ≡ true
+  pub is_on_line : has_break passed ≡ false
+
+-- whether a character is a bracket or a comma
+abbrev pub is_flow_indicator : ℕ → Bool
+is_flow_indicator c = is_one_of (codes "[]{},") c
+
+-- What is wrong with the text after a piece that begins at a position: a comment right after a bracket or a comma; text after `...` on its line; TABs after `-`, `?` or `:`; no space and no break after `?`.
+pub data IsFollowed (in_flow : Bool) (here : Position) (rest : List ℕ) : Problem → Position → Type 0 where
+  glued : (c : ℕ) (more : List ℕ) → rest ≡ c ∷ more → is_flow_indicator c ≡ true → begins_with 35 more ≡ true → IsFollowed in_flow here rest problem.CommentNotSeparated (further 1 here)
+  after_end : (more passed content : List ℕ) → here.col ≡ 0 → rest ≡ 46 ∷ 46 ∷ 46 ∷ more → is_at_gap more ≡ true → GoesOn more passed content → is_at_line_end content ≡ false
+      → IsFollowed in_flow here rest problem.ContentAfterDocumentEnd (position_after (further 3 here) passed content)
+  tab_after_dash : (more passed content : List ℕ) → in_flow ≡ false → rest ≡ 45 ∷ more → is_at_gap more ≡ true → GoesOn more passed content → has 9 passed ≡ true → begins_entry content ≡ true
+      → IsFollowed in_flow here rest problem.TabAfterDash (position_after (further 1 here) passed content)
+  no_space : (more passed content : List ℕ) → rest ≡ 63 ∷ more → is_at_gap more ≡ true → GoesOn more passed content → begins_with 32 more ≡ false → begins_white_space content ≡ false
+      → IsFollowed in_flow here rest problem.WhitespaceExpected (position_after (further 1 here) passed content)
+  tab_after_question : (more passed content : List ℕ) → rest ≡ 63 ∷ more → is_at_gap more ≡ true → more ≡ passed ++ 9 ∷ content → is_separation false passed (9 ∷ content) ≡ true
+      → IsFollowed in_flow here rest problem.TabAfterKey (position_after (further 1 here) passed (9 ∷ content))
+  tab_after_colon : (more blanks comment content : List ℕ) → rest ≡ 58 ∷ more → begins_with 9 more ≡ true → GoesOn more (blanks ++ comment) content → has 32 blanks ≡ false → begins_with_alpha content ≡ true
+      → IsFollowed in_flow here rest problem.TabAfterColon (position_after (further 1 here) (blanks ++ comment) content)

@@ -6,14 +6,16 @@ use Rattle.defs_token.specs.Account.{is_adjacent, before_past}
 use Rattle.defs_row.specs.Step.{gives_node}
 use Rattle.defs_row.specs.Column.{is_in_column}
 use Rattle.defs_row.specs.Indentation.{least_column}
-use Rattle.defs_row.specs.Key.{Line, free, waits, begins_free_line, line_past_separation}
+use Rattle.defs_row.specs.Key.{Line, free, waits, is_waiting, begins_free_line, line_past_separation}
+use Rattle.defs_row.specs.FlowEntry.{Entry}
+use Rattle.defs_row.specs.FlowEntry as entry
 use Rattle.defs_row.specs.Account.{Site, Account, before_by, is_in_flow, site_in}
 use Rattle.defs_row.specs.Beginning.{Begins, IsPlace}
 use Rattle.yaml_tokens.specs.declared.problem.Problem.{Problem}
 use Rattle.yaml_tokens.specs.declared.problem.Problem.TheVariants as problem
 use Rattle.proof_lexers.specs.Separations.{begins_separation}
 use Rattle.proof_cut.specs.PiecesRead.{comes_plain}
-use Rattle.proof_refusals.specs.NoPiece.{NoPiece, IsPlainFault}
+use Rattle.proof_refusals.specs.NoPiece.{NoPiece, IsPlainFault, IsFollowed}
 
 -- ---- a place
 
@@ -46,15 +48,21 @@ pub data MayNotStand (a : Account) (separation : List ℕ) (here : Position) (re
   dash_in_flow : (more : List ℕ) → rest ≡ 45 ∷ more → is_at_gap more ≡ true → is_in_flow a.entries ≡ true → MayNotStand a separation here rest problem.BlockEntryInFlow here
   -- outside flow entries and explicit keys begin where a key may
   dash_not_free : (more : List ℕ) → rest ≡ 45 ∷ more → is_at_gap more ≡ true → is_in_flow a.entries ≡ false → may_begin a separation ≡ false → MayNotStand a separation here rest problem.BlockEntryNotAllowed here
+  -- so does an empty key, where no key waits for the colon
+  colon_not_free : (more : List ℕ) → rest ≡ 58 ∷ more → is_in_flow a.entries ≡ false → may_begin a separation ≡ false → is_waiting a.line ≡ false → MayNotStand a separation here rest problem.ValueNotAllowed here
+  -- the key of a single pair begins on the line of its colon
+  key_on_earlier_line : (more : List ℕ) (begin : Position) (e : Entry) (es : List Entry) → rest ≡ 58 ∷ more → a.entries ≡ e ∷ es → entry.takes_pair e.kind e.pair ≡ true → e.had ≡ entry.waits begin → begin.line < here.line
+      → MayNotStand a separation here rest problem.ColonMisplaced here
   question_not_free : (more : List ℕ) → rest ≡ 63 ∷ more → is_at_gap more ≡ true → is_in_flow a.entries ≡ false → may_begin a separation ≡ false → MayNotStand a separation here rest problem.KeyNotAllowed here
 
 -- ---- all
 
--- What is wrong at a place: no piece begins with the text there, or the plain scalar that begins there is none, or the piece that begins may not stand there.
+-- What is wrong at a place: no piece begins with the text there; the plain scalar that begins there is none; or the piece that begins may not stand there, or not before what follows it.
 pub data Fails (a : Account) (separation : List ℕ) (here : Position) (rest : List ℕ) (why : Problem) (at : Position) : Type 0 where
   no_piece : NoPiece (is_in_flow a.entries) here rest why at → Fails a separation here rest why at
   no_plain : comes_plain (is_in_flow a.entries) (is_adjacent (before_past (before_by a.site.before) separation)) here.col rest ≡ true
       → IsPlainFault (is_in_flow a.entries) (site_at_place a here).blocks here rest why at → Fails a separation here rest why at
+  followed : IsFollowed (is_in_flow a.entries) here rest why at → Fails a separation here rest why at
   may_not_stand : MayNotStand a separation here rest why at → Fails a separation here rest why at
 
 -- A text is stuck: a row may begin with all pieces up to a place, and what stands there fails. Or a row may begin so that a node which must be an implicit key waits for its colon, and the line has ended before the fault.

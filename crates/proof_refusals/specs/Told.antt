@@ -8,20 +8,13 @@ use Rattle.yaml_tokens.specs.declared.problem.Problem.TheVariants as problem
 use Rattle.model_scanner.specs.Run.{IsRefused}
 use Rattle.proof_refusals.specs.Stuck.{IsStuck}
 
--- whether a kind of fault is told: these are not
+-- whether a kind of fault of the scanner is told: all are but these
 abbrev pub is_told : Problem → Bool
 is_told problem.KeyWithoutColon = false
 is_told problem.KeyExpected = false
 is_told problem.TabInBlockIndentation = false
-is_told problem.TabAfterKey = false
-is_told problem.WhitespaceExpected = false
 is_told problem.CommentNotSeparated = false
-is_told problem.ContentAfterDocumentEnd = false
 is_told problem.AnchorIndentation = false
-is_told problem.TabAfterDash = false
-is_told problem.TabAfterColon = false
-is_told problem.ValueNotAllowed = false
-is_told problem.ColonMisplaced = false
 is_told problem.QuotedIndentation = false
 is_told problem.TabAsIndentation = false
 is_told problem.ContentAfterQuoted = false
