@@ -3,7 +3,9 @@ pub mod Faults
 pub mod Fetches
 pub mod Indicators
 pub mod KeptKeys
+pub mod NoRows
 pub mod Nodes
+pub mod OtherRows
 pub mod Places
 pub mod Plains
 pub mod Refusals

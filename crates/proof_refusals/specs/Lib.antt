@@ -1,3 +1,4 @@
+pub mod Certain
 pub mod NoPiece
 pub mod Stuck
 pub mod Told

@@ -1,9 +1,15 @@
 //! Laws of refused texts, each the contract of an empty function.
 
+ghost use Rattle.proof_refusals.specs.Certain.{FailingPlacesHaveNoRow};
 ghost use Rattle.proof_refusals.specs.Told.{RefusedTextsAreStuck};
 
 /// Where the scanner's model refuses a text without NUL with a fault of one of the kinds that are told, the text is stuck by
 /// the definitions alone: a row may begin with all pieces up to there, and the condition of this fault fails.
 pub fn refused_texts_are_stuck()
     ensures { RefusedTextsAreStuck }
+{}
+
+/// Where a condition of one of six kinds fails, after whatever beginning of a row, the text has no row.
+pub fn failing_places_have_no_row()
+    ensures { FailingPlacesHaveNoRow }
 {}
