@@ -39,10 +39,10 @@ fn with_port(alloc: Global, settings: &str, port: i64) -> Result<String, Failure
     let Some(mut settings) = document.into_hash() else {
         return Err(Failure::NoSettings);
     };
-    let key = Yaml::from_str(alloc, "port")?;
-    if settings.insert(key, Yaml::Integer(port)).is_err() {
-        return Err(Failure::Memory(AllocError));
-    }
+    let key = Yaml::String(String::from_str(alloc, "port")?);
+    settings
+        .insert(key, Yaml::Integer(port))
+        .map_err(|_| AllocError)?;
     let mut text = String::new(alloc);
     YamlEmitter::new(&mut text).dump(&Yaml::Hash(settings))?;
     Ok(text)
