@@ -4,7 +4,8 @@
 usage: examples.py
 
 - An example of a doc comment stands, line for line, in a module of crates/uses, which the gate proves and runs.
-- README's program is that of crates/example. CALLING's caller is a module of crates/uses.
+- README's program is that of crates/example. CALLING's caller is a module of crates/uses. Any other code in CALLING stands in a module of
+  crates/uses too; a line `..` stands for what is left out.
 - Each clause that CALLING quotes stands in the function that it names. Each word in its table of words is defined in its module.
 """
 import glob
@@ -42,8 +43,12 @@ def comment_blocks(text):
             block = []
 
 
+def texts_of_uses():
+    return [read(path) for path in glob.glob("crates/uses/src/**/*.rt", recursive=True)]
+
+
 def doc_examples():
-    uses = [read(path) for path in glob.glob("crates/uses/src/**/*.rt", recursive=True)]
+    uses = texts_of_uses()
     for path in sorted(glob.glob("crates/*/src/**/*.rt", recursive=True)):
         for block in comment_blocks(read(path)):
             for example in re.findall(r"^```\n(.*?)^```", block, re.S | re.M):
@@ -61,6 +66,17 @@ def programs():
     for text in fenced("CALLING.md"):
         if text.startswith("//! ") and not any(text == read(path) for path in glob.glob("crates/uses/src/*.rt")):
             yield "CALLING.md: no module of crates/uses is the program that begins with\n" + text.split("\n")[0]
+
+
+def calls():
+    """Code of CALLING that is neither a program nor a list of clauses."""
+    uses = texts_of_uses()
+    for text in fenced("CALLING.md"):
+        if text.startswith("//! ") or "    ensures " in text:
+            continue
+        for part in re.split(r"^ *\.\.\n", text, flags=re.M):
+            if not any(stands_in(lines_of(part), module) for module in uses):
+                yield "CALLING.md: no module of crates/uses has\n%s" % part
 
 
 def spaced(text):
@@ -99,7 +115,7 @@ def words():
 
 
 def main():
-    found = [line for kind in (doc_examples, programs, clauses, words) for line in kind()]
+    found = [line for kind in (doc_examples, programs, calls, clauses, words) for line in kind()]
     for line in found:
         print("examples.py: " + line)
     return 1 if found else 0
