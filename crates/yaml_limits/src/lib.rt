@@ -8,9 +8,11 @@
 //! let text = "- &a [x, y]\n- *a\n";
 //! match load_with_limits(alloc, text, Limits::for_text(text)) {
 //!     Ok(documents) => assert_eq!(rt; documents.len(), 1), // what `load_from_str` gives
-//!     Err(LimitsError::Scan(fault)) => println!(rt; "no YAML: {fault}")?,
-//!     Err(LimitsError::Levels(position)) => println!(rt; "too deep in line {}", position.line())?,
-//!     Err(LimitsError::Size(position)) => println!(rt; "too large in line {}", position.line())?,
+//!     Err(error) => match &error {
+//!         LimitsError::Scan(fault) => println!(rt; "no YAML: {fault}")?,
+//!         LimitsError::Levels(position) => println!(rt; "too deep in line {}", position.line())?,
+//!         LimitsError::Size(position) => println!(rt; "too large in line {}", position.line())?,
+//!     },
 //! }
 //! ```
 //!

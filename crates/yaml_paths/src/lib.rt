@@ -8,7 +8,9 @@
 //! ```
 //! let documents = load_marked(alloc, "server:\n  port: none\n")?;
 //! let document = documents.first().ok_or("no document")?;
-//! let error = marked::read::<i64>(document, PORT).err().ok_or("a number")?;
+//! let Err(error) = marked::read::<i64>(document, PORT) else {
+//!     return Err(Fail::from("a number"));
+//! };
 //! let text = format!(in alloc; "{error}")?;
 //! let wanted = r#"line 2, column 9: $["server"]["port"]: a string, where an integer is wanted"#;
 //! assert_eq!(rt; text.as_str(), wanted);

@@ -2,6 +2,7 @@ use crate::run::run;
 use std::alloc::Global;
 use std::test::Fail;
 use std::{env, fs};
+use test_rows::Report;
 
 fn words(alloc: Global, list: &[&str]) -> Result<Vec<String>, Fail> {
     let mut all = Vec::new(alloc);
@@ -35,7 +36,7 @@ fn told(rt: &HostRuntime, options: &[&str], bytes: &[u8]) -> Result<String, Fail
     Ok(text.replace(alloc, name, "FILE")?)
 }
 
-// The rule, the options, what the file holds, and all that is printed.
+// What it shows, the options, what the file holds, and all that is printed.
 const ROWS: [(&str, &[&str], &[u8], &str); 12] = [
     ("a text that loads", &[], b"a: [1, 2]\n", "0"),
     ("an empty file", &[], b"", "0"),
@@ -103,9 +104,12 @@ const ROWS: [(&str, &[&str], &[u8], &str); 12] = [
 
 #[test]
 fn faults_are_told_with_their_lines(rt: HostRuntime) -> Result<(), Fail> {
-    for (rule, options, bytes, want) in ROWS {
-        assert_eq!(rt; told(&rt, options, bytes)?.as_str(), want, "{rule}");
+    let mut report = Report::new(rt.alloc());
+    for (name, options, bytes, want) in ROWS {
+        let found = told(&rt, options, bytes)?;
+        report.compare(name, "printed", found.as_str(), want)?;
     }
+    assert!(rt; report.is_empty(), "{report}");
     Ok(())
 }
 

@@ -2,6 +2,7 @@ use crate::run::run;
 use std::alloc::Global;
 use std::test::Fail;
 use std::{env, fs};
+use test_rows::Report;
 
 // All that is printed for a file that holds these bytes, and the status. `options` come before the file's path.
 fn told(rt: &HostRuntime, options: &[&str], bytes: &[u8]) -> Result<String, Fail> {
@@ -33,48 +34,67 @@ fn ran(rt: &HostRuntime, args: &[String]) -> Result<String, Fail> {
     Ok(format!(in alloc; "{printed}{said}{status}")?)
 }
 
-// What the file holds, and all that is printed.
-const ROWS: [(&[&str], &[u8], &str); 9] = [
+// What it shows, the options, what the file holds, and all that is printed.
+const ROWS: [(&str, &[&str], &[u8], &str); 9] = [
     (
+        "scalars and a block scalar",
         &[],
         b"a: [1, 2.50, ~, yes]\nb: |\n  x\n",
         "{\"a\":[1,2.50,null,\"yes\"],\"b\":\"x\\n\"}\n0",
     ),
     (
+        "a line for each document",
         &[],
         b"--- 1\n--- {}\n--- \"\\x01\"",
         "1\n{}\n\"\\u0001\"\n0",
     ),
     (
+        "indented",
         &["--indent"],
         b"a: [1]\nb: {}",
         "{\n  \"a\": [\n    1\n  ],\n  \"b\": {}\n}\n0",
     ),
-    (&[], b"", "0"),
+    ("an empty file", &[], b"", "0"),
     (
+        "a real that JSON lacks",
         &[],
         b"--- 1\n--- [a, .inf]",
         "yamljson: FILE: document 2: $[1]: the number cannot be written in JSON\n1",
     ),
     (
+        "a key that is no string",
         &[],
         b"a: {1: x}",
         "yamljson: FILE: document 1: $[\"a\"]: a key is no string\n1",
     ),
     (
+        "a text with a fault",
         &[],
         b"[",
         "yamljson: FILE: while parsing a node, did not find expected node content at byte 1 line 2 column 1\n1",
     ),
-    (&[], b"a\xFF", "yamljson: FILE is not UTF-8\n1"),
-    (&["--wide"], b"1", "usage: yamljson [--indent] FILE...\n2"),
+    (
+        "bytes that are no UTF-8",
+        &[],
+        b"a\xFF",
+        "yamljson: FILE is not UTF-8\n1",
+    ),
+    (
+        "an unknown option",
+        &["--wide"],
+        b"1",
+        "usage: yamljson [--indent] FILE...\n2",
+    ),
 ];
 
 #[test]
 fn files_are_printed(rt: HostRuntime) -> Result<(), Fail> {
-    for (options, bytes, want) in ROWS {
-        assert_eq!(rt; told(&rt, options, bytes)?.as_str(), want);
+    let mut report = Report::new(rt.alloc());
+    for (name, options, bytes, want) in ROWS {
+        let found = told(&rt, options, bytes)?;
+        report.compare(name, "printed", found.as_str(), want)?;
     }
+    assert!(rt; report.is_empty(), "{report}");
     Ok(())
 }
 

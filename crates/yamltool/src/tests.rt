@@ -6,6 +6,7 @@ use std::process::Abort;
 use std::rt::{Env, Files};
 use std::test::Fail;
 use std::{env, fs, io};
+use test_rows::Report;
 
 const USAGE: &str =
     "usage: yamltool events FILE | dump [--spread] [--multiline] FILE | overlay A B\n";
@@ -130,42 +131,64 @@ const DUMP: &[&str] = &["dump"];
 
 const OVERLAY: &[&str] = &["overlay"];
 
-// A command with its options, what the file holds, and all that is printed.
-const ROWS: [(&[&str], &[u8], &str); 10] = [
+// What it shows, a command with its options, what the file holds, and all that is printed.
+const ROWS: [(&str, &[&str], &[u8], &str); 10] = [
     (
+        "events with lines and columns",
         EVENTS,
         b"[1, 2]",
         "StreamStart 1:0\nDocumentStart 1:0\nSequenceStart 1:0\nScalar 1:1 plain \"1\"\nScalar 1:4 plain \"2\"\nSequenceEnd 1:5\nDocumentEnd 2:0\nStreamEnd 2:0\n0",
     ),
     (
+        "a byte order mark is no character of the text",
         EVENTS,
         b"\xEF\xBB\xBF[1, 2]",
         "StreamStart 1:0\nDocumentStart 1:0\nSequenceStart 1:0\nScalar 1:1 plain \"1\"\nScalar 1:4 plain \"2\"\nSequenceEnd 1:5\nDocumentEnd 2:0\nStreamEnd 2:0\n0",
     ),
     (
+        "a tag and an anchor",
         EVENTS,
         b"!!int &x 5",
         "StreamStart 1:0\nDocumentStart 1:0\nScalar 1:9 &1 tag \"tag:yaml.org,2002:\" \"int\" plain \"5\"\nDocumentEnd 2:0\nStreamEnd 2:0\n0",
     ),
     (
+        "events before a fault",
         EVENTS,
         b"[1",
         "StreamStart 1:0\nDocumentStart 1:0\nSequenceStart 1:0\nScalar 1:1 plain \"1\"\nwhile parsing a flow sequence, expected ',' or ']' at byte 2 line 2 column 1\n1",
     ),
-    (EVENTS, b"a\xFF", "yamltool: FILE is not UTF-8\n1"),
-    (DUMP, b"--- 1\n--- 2", "---\n1\n---\n2\n0"),
     (
+        "bytes that are no UTF-8",
+        EVENTS,
+        b"a\xFF",
+        "yamltool: FILE is not UTF-8\n1",
+    ),
+    (
+        "a dump of each document",
+        DUMP,
+        b"--- 1\n--- 2",
+        "---\n1\n---\n2\n0",
+    ),
+    (
+        "a literal block",
         &["dump", "--multiline"],
         b"{foo: \"bar!\\nbar!\", baz: 42}",
         "---\nfoo: |-\n  bar!\n  bar!\nbaz: 42\n0",
     ),
-    (DUMP, b"[[1, 2], []]", "---\n- - 1\n  - 2\n- []\n0"),
     (
+        "a compact dump",
+        DUMP,
+        b"[[1, 2], []]",
+        "---\n- - 1\n  - 2\n- []\n0",
+    ),
+    (
+        "a dump that is not compact",
         &["dump", "--multiline", "--spread"],
         b"[[1, 2], []]",
         "---\n-\n  - 1\n  - 2\n- []\n0",
     ),
     (
+        "a fault, and so no dump",
         DUMP,
         b"1\n---\n[",
         "while parsing a node, did not find expected node content at byte 7 line 4 column 1\n1",
@@ -174,28 +197,53 @@ const ROWS: [(&[&str], &[u8], &str); 10] = [
 
 #[test]
 fn files_are_printed(rt: HostRuntime) -> Result<(), Fail> {
-    for (command, bytes, want) in ROWS {
-        assert_eq!(rt; told(&rt, command, bytes)?.as_str(), want);
+    let mut report = Report::new(rt.alloc());
+    for (name, command, bytes, want) in ROWS {
+        let found = told(&rt, command, bytes)?;
+        report.compare(name, "printed", found.as_str(), want)?;
     }
+    assert!(rt; report.is_empty(), "{report}");
     Ok(())
 }
 
-// What the two files, `A` and `B`, hold, and all that is printed. `A` is read, loaded and counted first.
-const OVERLAYS: [(&[u8], &[u8], &str); 6] = [
+// What it shows, what the two files, `A` and `B`, hold, and all that is printed. `A` is read, loaded and counted first.
+const OVERLAYS: [(&str, &[u8], &[u8], &str); 6] = [
     (
+        "mappings are laid over each other, pair by pair",
         b"a: 1\nb: {c: 2}",
         b"b: {d: 3}\ne: 4",
         "---\na: 1\nb:\n  c: 2\n  d: 3\ne: 4\n0",
     ),
-    (b"", b"a: 1", "yamltool: A holds 0 documents\n1"),
-    (b"1\n---\n2", b"\xFF", "yamltool: A holds 2 documents\n1"),
     (
+        "no document in A",
+        b"",
+        b"a: 1",
+        "yamltool: A holds 0 documents\n1",
+    ),
+    (
+        "two documents in A",
+        b"1\n---\n2",
+        b"\xFF",
+        "yamltool: A holds 2 documents\n1",
+    ),
+    (
+        "a fault in A",
         b"*a",
         b"\xFF",
         "while parsing node, found unknown anchor at byte 0 line 1 column 1\n1",
     ),
-    (b"1", b"\xFF", "yamltool: B is not UTF-8\n1"),
-    (b"1", b"", "yamltool: B holds 0 documents\n1"),
+    (
+        "bytes that are no UTF-8 in B",
+        b"1",
+        b"\xFF",
+        "yamltool: B is not UTF-8\n1",
+    ),
+    (
+        "no document in B",
+        b"1",
+        b"",
+        "yamltool: B holds 0 documents\n1",
+    ),
 ];
 
 // Both for two files that hold these bytes.
@@ -218,9 +266,12 @@ fn told_of_two(rt: &HostRuntime, below: &[u8], above: &[u8]) -> Result<String, F
 
 #[test]
 fn files_are_laid_over_each_other(rt: HostRuntime) -> Result<(), Fail> {
-    for (below, above, want) in OVERLAYS {
-        assert_eq!(rt; told_of_two(&rt, below, above)?.as_str(), want);
+    let mut report = Report::new(rt.alloc());
+    for (name, below, above, want) in OVERLAYS {
+        let found = told_of_two(&rt, below, above)?;
+        report.compare(name, "printed", found.as_str(), want)?;
     }
+    assert!(rt; report.is_empty(), "{report}");
     Ok(())
 }
 
@@ -260,13 +311,25 @@ fn told_of_output(
 const UNWRITTEN: &str = "yamltool: cannot write\n1";
 
 // A full disk, one that fills up, and a pipe that is closed when the output is flushed. A dump is one write.
-const OUTPUTS: [(&str, usize, bool, &str); 6] = [
-    ("events", 0, true, UNWRITTEN),
-    ("events", 2, true, UNWRITTEN),
-    ("events", 1000, false, UNWRITTEN),
-    ("dump", 0, true, UNWRITTEN),
-    ("dump", 2, true, "0"),
-    ("dump", 1000, false, UNWRITTEN),
+const OUTPUTS: [(&str, &str, usize, bool, &str); 6] = [
+    ("events on a full disk", "events", 0, true, UNWRITTEN),
+    (
+        "events on a disk that fills up",
+        "events",
+        2,
+        true,
+        UNWRITTEN,
+    ),
+    (
+        "events into a closed pipe",
+        "events",
+        1000,
+        false,
+        UNWRITTEN,
+    ),
+    ("a dump on a full disk", "dump", 0, true, UNWRITTEN),
+    ("a dump that takes one write", "dump", 2, true, "0"),
+    ("a dump into a closed pipe", "dump", 1000, false, UNWRITTEN),
 ];
 
 #[test]
@@ -274,32 +337,37 @@ fn outputs_that_fail_are_told(rt: HostRuntime) -> Result<(), Fail> {
     let path = env::temp_dir(&rt)?.join(rt.alloc(), "yamltool-failing.yaml")?;
     fs::write(&rt, path.as_path(), b"a")?;
     let name = path.as_path().to_str().unwrap_or("");
-    for (command, writes, flushes, want) in OUTPUTS {
+    let mut report = Report::new(rt.alloc());
+    for (row, command, writes, flushes, want) in OUTPUTS {
         let told = told_of_output(&rt, command, name, writes, flushes)?;
-        assert_eq!(rt; told.as_str(), want, "{command} with {writes} writes");
+        report.compare(row, "told", told.as_str(), want)?;
     }
+    assert!(rt; report.is_empty(), "{report}");
     Ok(())
 }
 
-const UNKNOWN: [&[&str]; 7] = [
-    &[],
-    &["events"],
-    &["events", "--spread", "x"],
-    &["dump"],
-    &["dump", "--wide", "x"],
-    &["overlay", "a"],
-    &["overlay", "a", "b", "c"],
+// What it shows, and the arguments.
+const UNKNOWN: [(&str, &[&str]); 7] = [
+    ("no command", &[]),
+    ("events without a file", &["events"]),
+    ("events with an option", &["events", "--spread", "x"]),
+    ("a dump without a file", &["dump"]),
+    ("an unknown option", &["dump", "--wide", "x"]),
+    ("an overlay of one file", &["overlay", "a"]),
+    ("an overlay of three files", &["overlay", "a", "b", "c"]),
 ];
 
 #[test]
 fn other_arguments_give_the_usage(rt: HostRuntime) -> Result<(), Fail> {
     let want = format!(in rt.alloc(); "{USAGE}2")?;
-    for list in UNKNOWN {
+    let mut report = Report::new(rt.alloc());
+    for (name, list) in UNKNOWN {
         let args = words(rt.alloc(), list)?;
         let (printed, said) = ran(&rt, args.as_slice())?;
-        assert_eq!(rt; said.as_str(), want.as_str());
-        assert!(rt; printed.is_empty());
+        report.compare(name, "said", said.as_str(), want.as_str())?;
+        report.compare(name, "printed", printed.as_str(), "")?;
     }
+    assert!(rt; report.is_empty(), "{report}");
     Ok(())
 }
 

@@ -44,7 +44,7 @@ pub fn services(alloc: Global, document: &Yaml) -> Result<Vec<String>, Failure> 
 
 /// Sets the value of a key to `true`, in a document that is a hash with that key.
 pub fn change(alloc: Global, document: &mut Yaml, key: &str) -> Result<(), Failure> {
-    let key = Yaml::from_str(alloc, key)?;
+    let key = Yaml::String(String::from_str(alloc, key)?);
     match document.as_mut_hash().and_then(|hash| hash.get_mut(&key)) {
         Some(value) => {
             *value = Yaml::Boolean(true);
@@ -60,9 +60,10 @@ pub fn service(alloc: Global, name: &str, ports: &[i64]) -> Result<Yaml, Failure
     for port in ports {
         list.push(Yaml::Integer(*port)).map_err(|_| AllocError)?;
     }
+    let name = Yaml::String(String::from_str(alloc, name)?);
     let mut service = Hash::new(alloc);
     service
-        .insert(Yaml::from_str(alloc, name)?, Yaml::Array(list))
+        .insert(name, Yaml::Array(list))
         .map_err(|_| AllocError)?;
     Ok(Yaml::Hash(service))
 }
