@@ -1,27 +1,30 @@
-use super::{Invalid, port_of_text};
+use super::port_of_text;
 use std::alloc::Global;
 use std::test::Fail;
+use test_rows::Report;
 
-// A text, and what is said of it.
-type Row = (&'static str, &'static str);
-
-const ROWS: [Row; 7] = [
-    ("host: example.org\nport: 8080\n", "8080"),
+// What it shows, a text, and what is said of it.
+const ROWS: [(&str, &str, &str); 7] = [
+    ("a port", "host: example.org\nport: 8080\n", "8080"),
     (
+        "too large a number",
         "# settings\nhost: example.org\n\nport: 70000 # too large\n",
         "line 4, column 7: port must be from 1 to 65535",
     ),
     (
+        "a string",
         "port: \"80\"\n",
         "line 1, column 7: port must be from 1 to 65535",
     ),
     (
+        "an alias stands where it is written",
         "a: &web [80]\nport: *web\n",
         "line 2, column 7: port must be from 1 to 65535",
     ),
-    ("host: example.org\n", "there is no port"),
-    ("", "there is no port"),
+    ("no port", "host: example.org\n", "there is no port"),
+    ("no document", "", "there is no port"),
     (
+        "a text with a fault",
         "port: [1\n",
         "while parsing a flow sequence, expected ',' or ']' at byte 9 line 2 column 1",
     ),
@@ -36,9 +39,12 @@ fn said(alloc: Global, text: &str) -> Result<String, Fail> {
 
 #[test]
 fn ports_are_judged(rt: HostRuntime) -> Result<(), Fail> {
-    for (text, wanted) in &ROWS {
-        let said = said(rt.alloc(), text)?;
-        assert!(rt; said.as_str() == *wanted, "{text}: {said}");
+    let alloc = rt.alloc();
+    let mut report = Report::new(alloc);
+    for (name, text, want) in ROWS {
+        let said = said(alloc, text)?;
+        report.compare(name, "said", said.as_str(), want)?;
     }
+    assert!(rt; report.is_empty(), "{report}");
     Ok(())
 }
