@@ -4,3 +4,4 @@ pub mod LeftLemmas
 pub mod NumberLemmas
 pub mod WhiteLemmas
 pub mod ValueLemmas
+pub mod WholeLemmas

@@ -2,6 +2,7 @@ pub mod Found
 pub mod Given
 pub mod Left
 pub mod Outcome
+pub mod Whole
 pub use Rattle.defs_json.specs.Fault
 pub use Rattle.defs_json.specs.HasJson
 pub use Rattle.defs_json.specs.JsonReal

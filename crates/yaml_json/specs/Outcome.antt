@@ -7,6 +7,12 @@ use Rattle.yaml_json.specs.Found.{fault_of}
 use Rattle.yaml_json.specs.declared.error.JsonError.{JsonError}
 use Rattle.yaml_json.specs.declared.error.JsonError.TheVariants.{NoJson, OutOfMemory, Refused}
 
+-- The error names the first node that has no JSON text, or says that memory was refused for its path.
+abbrev pub Names : Tree → JsonError → Type 0
+Names t (NoJson n) = first_fault t ≡ Some (fault_of n)
+Names t OutOfMemory = first_fault t ≢ None
+Names t (Refused e) = ⊥
+
 -- Where a node has no JSON text, it is named, or memory was refused for its path, and the writer is as it was. Else a beginning of the
 -- text was written, and the writer refused more of it, or the reason holds.
 abbrev pub Leaves : {W : Type 0} → (gives leaves calls_leave : W → List ℕ → W → Type 0) → (reason : Type 0) → Tree → (text : List ℕ) → W → W → JsonError → Type 0

@@ -110,7 +110,7 @@ fn has_string_keys(pairs: &Hash) -> bool
     true
 }
 
-fn is_string(node: &Yaml) -> bool
+pub(crate) fn is_string(node: &Yaml) -> bool
     ensures { result ≡ is_string (view node.now) }
 {
     matches!(node, Yaml::String(_))

@@ -22,16 +22,19 @@ pub mod laws;
 mod number;
 mod value;
 mod white;
+mod whole;
 
-ghost use Rattle.std.specs.Prelude.{◌≡◌, ◌*◌, ◌≤◌, ◌^◌, None, Some, OnOk, IfErr};
+ghost use Rattle.std.specs.Prelude.{◌≡◌, ◌≢◌, ◌*◌, ◌≤◌, ◌^◌, None, Some, OnOk, IfErr};
+ghost use Rattle.defs_json.specs.Fault.{first_fault};
 ghost use Rattle.defs_json.specs.HasJson.{HasJson, nesting};
 ghost use Rattle.defs_json.specs.JsonText.{json_text};
 ghost use Rattle.yaml_tree.specs.View.{view};
-ghost use Rattle.yaml_json.specs.Outcome.{Leaves};
+ghost use Rattle.yaml_json.specs.Outcome.{Leaves, Names};
 ghost use Rattle.yaml_json.specs.Left.{IsTooWide};
 
 use crate::find::first_fault;
 use crate::value::write_value;
+use crate::whole::is_whole;
 pub use error::{JsonError, NoJson, Reason, Step};
 use std::alloc::Global;
 use yaml_emitter::Writer;
@@ -63,6 +66,18 @@ pub fn write_json_indented<W: Writer>(
     write_laid_out(alloc, tree, Some(width), out)
 }
 
+// The error that names the first node without a JSON text.
+fn no_json(alloc: Global, tree: &Yaml) -> JsonError
+    requires { first_fault (view tree.now) ≢ None }
+    ensures { Names (view tree.now) result }
+{
+    match first_fault(alloc, tree) {
+        Ok(Some(fault)) => JsonError::NoJson(fault),
+        Ok(None) => unreachable!(),
+        Err(_) => JsonError::OutOfMemory,
+    }
+}
+
 fn write_laid_out<W: Writer>(
     alloc: Global,
     tree: &Yaml,
@@ -74,10 +89,8 @@ fn write_laid_out<W: Writer>(
     ensures err { IfErr result (Leaves W.put_gives W.put_leaves W.calls_leave (IsTooWide indentation 0 (nesting (view tree.now))) (view tree.now)
         (json_text indentation 0 (view tree.now)) out.old out.new) }
 {
-    match first_fault(alloc, tree) {
-        Ok(None) => {}
-        Ok(Some(fault)) => return Err(JsonError::NoJson(fault)),
-        Err(_) => return Err(JsonError::OutOfMemory),
+    if !is_whole(tree) {
+        return Err(no_json(alloc, tree));
     }
     match write_value(out, indentation, 0, tree) {
         Ok(()) => Ok(()),
