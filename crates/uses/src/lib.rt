@@ -1,6 +1,7 @@
 //! Small programs that call the library, each proved from public contracts alone: a place to start from.
 #![tactic(auto)]
 
+pub mod agreement;
 pub mod anchors;
 pub mod calls;
 #[cfg(test)]
