@@ -12,3 +12,4 @@ pub mod Runs
 pub mod Steps
 pub mod Streams
 pub mod Tests
+pub mod Track

@@ -7,6 +7,7 @@ use Rattle.defs_grammar.specs.Kinds.{begins_flow_node, begins_node}
 use Rattle.defs_grammar.specs.Machine.{work_weight, Turned, goes, refused, and_before, step}
 use Rattle.defs_grammar.specs.Grammar.{Held, nothing_held, Side, key, value, Place, in_flow, in_block, in_pair, Goal, stream, documents, directives, explicit_document, document_end, node, after_anchor, after_tag, content, block_sequence_entries, indentless_sequence_entries, block_mapping_entries, block_mapping_value, flow_sequence_entries, flow_sequence_comma, flow_mapping_entries, flow_mapping_comma, flow_value, cases, then_in, then_in_pair, grammar}
 use Rattle.defs_grammar.specs.Stream.{weight, whole_stream}
+use Rattle.proof_grammar.specs.Track.{ends_goal}
 use Rattle.proof_grammar.proofs.Meanings.{EachRow, row_holds}
 use Rattle.proof_grammar.proofs.Runs.{AllKeep}
 use Rattle.proof_grammar.proofs.Falls.{grammar_falls, grammar_completes, ends}
@@ -53,15 +54,6 @@ bottoms : (g : Goal) (t : Tok) (r : Row Goal Raw) → is_bottom g ≡ true → r
 bottoms g t r b p = row_holds (λ t r. BottomRow grammar is_bottom t r) (λ t. false) (cases g) (bottom_rows g b) t refl r p
 
 -- ---- tokens that end a goal
-
-abbrev ends_goal : Tok → Bool
-ends_goal Tok.stream_start = true
-ends_goal Tok.stream_end = true
-ends_goal Tok.document_start = true
-ends_goal Tok.block_end = true
-ends_goal Tok.flow_sequence_end = true
-ends_goal Tok.flow_mapping_end = true
-ends_goal _ = false
 
 -- the row is that of each token which ends a goal
 abbrev IsEnders : Goal → List (Part Goal Raw) → Type 0
@@ -200,7 +192,7 @@ leaving_rows flow_mapping_entries = (λ t i. inr (λ n h w es l e. goes_from in_
 leaving_rows flow_mapping_comma = (λ t i. tt, (λ t i. tt, tt))
 leaving_rows flow_value = (λ t i. tt, λ t i. inl (λ u e. (flow_value_enders u e, λ h w. refl)))
 
-leaving : (g : Goal) (t : Tok) (r : Row Goal Raw) → row_of (cases g) t ≡ Some r → LeavingRow grammar weight ends_goal g t r
+pub leaving : (g : Goal) (t : Tok) (r : Row Goal Raw) → row_of (cases g) t ≡ Some r → LeavingRow grammar weight ends_goal g t r
 leaving g t r p = row_holds (λ t r. LeavingRow grammar weight ends_goal g t r) (λ t. false) (cases g) (leaving_rows g) t refl r p
 
 -- ---- goals that refuse tokens
@@ -244,7 +236,7 @@ refusing flow_mapping_entries = inr (λ h. let e = ends flow_mapping_entries h i
 refusing flow_mapping_comma = inr (λ h. let e = ends flow_mapping_comma h in (_, _, e.0, refl, e.1))
 refusing flow_value = inl refl
 
-ended : (g : Goal) (h : Held) (t : Tok) → row_of (cases g) t ≡ None → EndsGoal grammar ends_goal g h
+pub ended : (g : Goal) (h : Held) (t : Tok) → row_of (cases g) t ≡ None → EndsGoal grammar ends_goal g h
 ended g h t p = by (refusing g)
   where
     by : Refusing g → EndsGoal grammar ends_goal g h

@@ -1,5 +1,5 @@
 -- Statements about the table of the token grammar, each the contract of the function with its name in `laws`.
-use Rattle.std.specs.Prelude.{◌≡◌, ◌↔◌, Bool, List, ◌∷◌, ◌++◌}
+use Rattle.std.specs.Prelude.{◌≡◌, ◌↔◌, Bool, List, [], ◌∷◌, ◌++◌, Option, Some, None}
 use Rattle.defs_token.specs.Token.{Tok}
 use Rattle.defs_event.specs.Event.{Ev}
 use Rattle.defs_event.specs.Raw.{Raw}
@@ -7,9 +7,11 @@ use Rattle.defs_event.specs.Grammar.{Documents, stream_tokens, stream_events}
 use Rattle.defs_event.specs.Stream.{IsStream}
 use Rattle.defs_event.specs.Nested.{IsNested}
 use Rattle.defs_grammar.specs.Machine.{Outcome, reads, unfinished, stops}
-use Rattle.defs_grammar.specs.Grammar.{grammar}
+use Rattle.defs_grammar.specs.Table.{Part, takes, leaves, row_of, Work, reading, saying, before}
+use Rattle.defs_grammar.specs.Grammar.{Held, Goal, cases, grammar}
 use Rattle.defs_grammar.specs.Stream.{whole_stream, StreamSays, HasEvents, read_stream}
-use Rattle.proof_grammar.specs.Outcome.{IsRight}
+use Rattle.proof_grammar.specs.Outcome.{Begins, NeverGoesOn, IsRight}
+use Rattle.proof_grammar.specs.Track.{OnTrack}
 
 -- A derivation has these tokens, and says these events.
 abbrev pub IsDerived : List Tok → List Raw → Type 0
@@ -59,3 +61,18 @@ OutcomesAreTheDerivations = (tokens : List Tok) → IsDerivations tokens (read_s
 -- `table_events_are_nested`
 abbrev pub TableEventsAreNested : Type 0
 TableEventsAreNested = (keep_tags : Bool) (tokens : List Tok) (events : List Ev) → HasEvents keep_tags tokens events → IsNested events
+
+-- `parsers_stay_on_track`: at the start; where the next token is looked at; where an event is given; where a row takes the token, and
+-- where a row leaves it. A token that no row is for is refused by right: with it no stream goes on, and some stream begins with the
+-- tokens before and with the events that were given.
+abbrev pub ParsersStayOnTrack : Type 0
+ParsersStayOnTrack =
+    OnTrack whole_stream [] None []
+    × ((w : List (Work Goal Raw Held)) (taken : List Tok) (t : Tok) (given : List Raw) → OnTrack w taken None given → OnTrack w taken (Some t) given)
+    × ((e : Raw) (w : List (Work Goal Raw Held)) (taken : List Tok) (next : Option Tok) (given : List Raw) → OnTrack (saying e ∷ w) taken next given → OnTrack w taken next (given ++ e ∷ []))
+    × ((g : Goal) (h : Held) (w : List (Work Goal Raw Held)) (taken : List Tok) (t : Tok) (given : List Raw) (ps : List (Part Goal Raw))
+    → row_of (cases g) t ≡ Some (takes ps) → OnTrack (reading g h ∷ w) taken (Some t) given → OnTrack (before grammar h t ps w) (taken ++ t ∷ []) None given)
+    × ((g : Goal) (h : Held) (w : List (Work Goal Raw Held)) (taken : List Tok) (t : Tok) (given : List Raw) (ps : List (Part Goal Raw))
+    → row_of (cases g) t ≡ Some (leaves ps) → OnTrack (reading g h ∷ w) taken (Some t) given → OnTrack (before grammar h t ps w) taken (Some t) given)
+    × ((g : Goal) (h : Held) (w : List (Work Goal Raw Held)) (taken : List Tok) (t : Tok) (given : List Raw)
+    → row_of (cases g) t ≡ None → OnTrack (reading g h ∷ w) taken (Some t) given → Begins grammar whole_stream taken given × NeverGoesOn grammar whole_stream taken t)

@@ -1,6 +1,6 @@
 //! Laws of the table of the token grammar, each the contract of an empty function.
 
-ghost use Rattle.proof_grammar.specs.Laws.{TableSaysWhatDerivationsSay, TableHasTheSameStreams, TableHasOneReading, OutcomesAreRight, OutcomesAreTheDerivations, TableEventsAreNested};
+ghost use Rattle.proof_grammar.specs.Laws.{TableSaysWhatDerivationsSay, TableHasTheSameStreams, TableHasOneReading, OutcomesAreRight, OutcomesAreTheDerivations, TableEventsAreNested, ParsersStayOnTrack};
 
 /// A token list is a stream of the table, which says these events, exactly if a derivation of the token grammar has these
 /// tokens and says these events.
@@ -38,4 +38,11 @@ pub fn outcomes_are_the_derivations()
 /// The events of a stream of the table are nested: documents, in them nodes, in mappings a key and its value each.
 pub fn table_events_are_nested()
     ensures { TableEventsAreNested }
+{}
+
+/// A parser by the table takes rows one after the other, and stays on track: what it still has to read completes the tokens that
+/// it took, with the events that it gave, and all that completes them is read so. What it refuses is refused by right.
+#[tactic(auto, using(crate::proofs::Track::all_stay))]
+pub fn parsers_stay_on_track()
+    ensures { ParsersStayOnTrack }
 {}
