@@ -3,7 +3,6 @@ use std::alloc::Global;
 use std::fmt::Write;
 use std::ops::ControlFlow;
 use std::test::Fail;
-use test_rows::Report;
 use yaml_rust2::yaml::{LoadError, YAMLDecodingTrap, YAMLDecodingTrapFn, YamlDecoder};
 
 /// A trap by its name.
@@ -80,168 +79,101 @@ const LEAD_BEFORE_A: &[u8] = &[0xFF, 0xFE, 0x00, 0xD8, 0x61, 0x00];
 const TREE: &str =
     "[Hash({String(\"a\"): Integer(1), String(\"b\"): Real(\"2.2\"), String(\"c\"): Array([Integer(1), Integer(2)])})]";
 
-// What it shows, bytes, a trap, and the trees, the message of a stop, or a fault.
-const DECODING: [(&str, &[u8], Trap, &str); 29] = [
+// Bytes, a trap, and the trees, the message of a stop, or a fault.
+const DECODING: [(&[u8], Trap, &str); 29] = [
+    (A_LETTER_TOO_MUCH, Trap::Ignore, TREE),
     (
-        "a byte order mark and a letter too much, ignored",
-        A_LETTER_TOO_MUCH,
-        Trap::Ignore,
-        TREE,
-    ),
-    (
-        "a byte order mark and a letter too much, strict",
         A_LETTER_TOO_MUCH,
         Trap::Strict,
         "stopped: Invalid character sequence at 5: [169]",
     ),
+    (LEAD_BEFORE_A, Trap::Replace, "[String(\"\u{FFFD}a\")]"),
     (
-        "a lead surrogate before a letter, replaced",
-        LEAD_BEFORE_A,
-        Trap::Replace,
-        "[String(\"\u{FFFD}a\")]",
-    ),
-    (
-        "a lead surrogate before a letter, strict",
         LEAD_BEFORE_A,
         Trap::Strict,
         "stopped: Invalid character sequence at 2: [0, 216]",
     ),
+    (LEAD_BEFORE_A, Trap::Ignore, "[String(\"a\")]"),
     (
-        "a lead surrogate before a letter, ignored",
-        LEAD_BEFORE_A,
-        Trap::Ignore,
-        "[String(\"a\")]",
-    ),
-    (
-        "a lead surrogate before a letter, by a function that notes what it gets",
         LEAD_BEFORE_A,
         Trap::Notes,
         "[String(\"<2 2 [0, 216, 97, 0] 0>a\")]",
     ),
+    (&[0x00, 0x61], Trap::Strict, "[String(\"a\")]"),
+    (&[0x61, 0xFF], Trap::Asks, "[String(\"a?\")]"),
+    (&[0x61, 0xFF], Trap::Notes, "[String(\"a<1 0 [255] 1>\")]"),
+    (&[0x61, 0xFF], Trap::Bad, "stopped: bad"),
     (
-        "UTF-16 by the place of its NUL",
-        &[0x00, 0x61],
-        Trap::Strict,
-        "[String(\"a\")]",
-    ),
-    (
-        "a byte that begins no character, by a function that goes on",
-        &[0x61, 0xFF],
-        Trap::Asks,
-        "[String(\"a?\")]",
-    ),
-    (
-        "the same, by a function that notes what it gets",
-        &[0x61, 0xFF],
-        Trap::Notes,
-        "[String(\"a<1 0 [255] 1>\")]",
-    ),
-    (
-        "the same, by a function that stops with a message",
-        &[0x61, 0xFF],
-        Trap::Bad,
-        "stopped: bad",
-    ),
-    (
-        "the same, by a function that stops without one",
         &[0x61, 0xFF],
         Trap::Silent,
         "stopped: Invalid character sequence at 1: [255]",
     ),
+    (&[0x61], Trap::Bad, "[String(\"a\")]"),
     (
-        "no malformation, so the function is not called",
-        &[0x61],
-        Trap::Bad,
-        "[String(\"a\")]",
-    ),
-    (
-        "a character that is cut off is replaced once",
         &[0xE2, 0x82, 0x41],
         Trap::Replace,
         "[String(\"\u{FFFD}A\")]",
     ),
     (
-        "a character that is cut off, strict",
         &[0xE2, 0x82, 0x41],
         Trap::Strict,
         "stopped: Invalid character sequence at 0: [226, 130]",
     ),
     (
-        "an overlong character is replaced twice",
         &[0xE0, 0x80, 0x41],
         Trap::Replace,
         "[String(\"\u{FFFD}\u{FFFD}A\")]",
     ),
     (
-        "the position counts the byte order mark",
         &[0xEF, 0xBB, 0xBF, 0x61, 0xFF],
         Trap::Strict,
         "stopped: Invalid character sequence at 4: [255]",
     ),
     (
-        "UTF-16 that ends in half a unit",
         &[0xFF, 0xFE, 0x61, 0x00, 0x62],
         Trap::Strict,
         "stopped: Invalid character sequence at 4: [98]",
     ),
     (
-        "half a unit after a lead surrogate",
         &[0xFF, 0xFE, 0x00, 0xD8, 0x61],
         Trap::Strict,
         "stopped: Invalid character sequence at 2: [0, 216, 97]",
     ),
     (
-        "a lead surrogate before a pair of surrogates",
         &[0xFF, 0xFE, 0x00, 0xD8, 0x01, 0xD8, 0x00, 0xDC],
         Trap::Replace,
         "[String(\"\u{FFFD}\u{10400}\")]",
     ),
     (
-        "a trail surrogate at the end, big-endian",
         &[0xFE, 0xFF, 0x00, 0x61, 0xDC, 0x00],
         Trap::Ignore,
         "[String(\"a\")]",
     ),
+    (&[0xF0, 0x9F, 0x98], Trap::Replace, "[String(\"\u{FFFD}\")]"),
     (
-        "four bytes that lack the last",
-        &[0xF0, 0x9F, 0x98],
-        Trap::Replace,
-        "[String(\"\u{FFFD}\")]",
-    ),
-    (
-        "four bytes",
         &[0xF0, 0x9F, 0x98, 0x80],
         Trap::Replace,
         "[String(\"\u{1F600}\")]",
     ),
     (
-        "two bytes and three bytes",
         &[0xC3, 0xA9, 0xE2, 0x82, 0xAC],
         Trap::Replace,
         "[String(\"\u{e9}\u{20AC}\")]",
     ),
     (
-        "bytes that look like a byte order mark, not at the start",
         &[0x61, 0xFF, 0xFE],
         Trap::Strict,
         "stopped: Invalid character sequence at 1: [255]",
     ),
     (
-        "two malformations, by a function that goes on",
         &[0x61, 0xFF, 0x61, 0xE2, 0x82],
         Trap::Asks,
         "[String(\"a?a?\")]",
     ),
+    (&[0x61, 0xFF, 0xFF], Trap::Ignore, "[String(\"a\")]"),
+    (&[], Trap::Strict, "[]"),
+    (&[0x00], Trap::Strict, "[]"),
     (
-        "two malformations, ignored",
-        &[0x61, 0xFF, 0xFF],
-        Trap::Ignore,
-        "[String(\"a\")]",
-    ),
-    ("no bytes", &[], Trap::Strict, "[]"),
-    ("NUL alone", &[0x00], Trap::Strict, "[]"),
-    (
-        "a fault of the text",
         b"[",
         Trap::Strict,
         "fault: while parsing a node, did not find expected node content at byte 1 line 2 column 1",
@@ -250,12 +182,13 @@ const DECODING: [(&str, &[u8], Trap, &str); 29] = [
 
 #[test]
 fn bytes_are_decoded(rt: HostRuntime) -> Result<(), Fail> {
-    let mut report = Report::new(rt.alloc());
-    for (name, bytes, trap, want) in DECODING {
-        let found = decoded(rt.alloc(), bytes, trap)?;
-        report.compare(name, "decoded", found.as_str(), want)?;
+    for (bytes, trap, want) in DECODING {
+        assert_eq!(rt;
+            decoded(rt.alloc(), bytes, trap)?.as_str(),
+            want,
+            "row {bytes:?}, {want}"
+        );
     }
-    assert!(rt; report.is_empty(), "{report}");
     Ok(())
 }
 
@@ -285,17 +218,19 @@ fn are_beginnings_answered(alloc: Global, bytes: &[u8]) -> Result<bool, Fail> {
 
 #[test]
 fn beginnings_of_bytes_are_answered(rt: HostRuntime) -> Result<(), Fail> {
-    let mut report = Report::new(rt.alloc());
-    for (name, bytes, _, _) in DECODING {
-        let holds = are_beginnings_answered(rt.alloc(), bytes)?;
-        report.check(name, "its beginnings", holds)?;
+    for (bytes, _, _) in DECODING {
+        assert!(rt;
+            are_beginnings_answered(rt.alloc(), bytes)?,
+            "row {bytes:?}"
+        );
     }
-    for (name, mark, is_little) in ENCODINGS {
+    for (mark, is_little) in ENCODINGS {
         let bytes = utf_16(rt.alloc(), mark, is_little)?;
-        let holds = are_beginnings_answered(rt.alloc(), bytes.as_slice())?;
-        report.check(name, "its beginnings", holds)?;
+        assert!(rt;
+            are_beginnings_answered(rt.alloc(), bytes.as_slice())?,
+            "mark {mark:?}"
+        );
     }
-    assert!(rt; report.is_empty(), "{report}");
     Ok(())
 }
 
@@ -312,12 +247,12 @@ fn utf_16(alloc: Global, mark: &[u8], is_little: bool) -> Result<Vec<u8>, Fail> 
     Ok(bytes)
 }
 
-// What it is called, its mark, and whether the least byte of a unit comes first.
-const ENCODINGS: [(&str, &[u8], bool); 4] = [
-    ("UTF-16, little-endian, with a mark", &[0xFF, 0xFE], true),
-    ("UTF-16, little-endian, without a mark", &[], true),
-    ("UTF-16, big-endian, with a mark", &[0xFE, 0xFF], false),
-    ("UTF-16, big-endian, without a mark", &[], false),
+// A mark, and whether the least byte of a unit comes first.
+const ENCODINGS: [(&[u8], bool); 4] = [
+    (&[0xFF, 0xFE], true),
+    (&[], true),
+    (&[0xFE, 0xFF], false),
+    (&[], false),
 ];
 
 #[test]
@@ -332,12 +267,13 @@ fn encodings_are_told(rt: HostRuntime) -> Result<(), Fail> {
         decoded(alloc, TEXT.as_bytes(), Trap::Strict)?.as_str(),
         TREE
     );
-    let mut report = Report::new(alloc);
-    for (name, mark, is_little) in ENCODINGS {
+    for (mark, is_little) in ENCODINGS {
         let bytes = utf_16(alloc, mark, is_little)?;
-        let found = decoded(alloc, bytes.as_slice(), Trap::Strict)?;
-        report.compare(name, "decoded", found.as_str(), TREE)?;
+        assert_eq!(rt;
+            decoded(alloc, bytes.as_slice(), Trap::Strict)?.as_str(),
+            TREE,
+            "mark {mark:?}"
+        );
     }
-    assert!(rt; report.is_empty(), "{report}");
     Ok(())
 }

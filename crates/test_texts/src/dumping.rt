@@ -1,7 +1,6 @@
 //! Trees and their dumps, which load as the same trees.
 use std::alloc::Global;
 use std::test::Fail;
-use test_rows::Report;
 use yaml_rust2::{Yaml, YamlEmitter, YamlLoader};
 
 /// The only document of a text.
@@ -64,130 +63,60 @@ const SPREAD_MULTILINE: Layout = Layout {
 
 pub(crate) const LAYOUTS: [Layout; 4] = [COMPACT, SPREAD, MULTILINE, SPREAD_MULTILINE];
 
-// What it shows, a text of a tree, the settings, and the tree's dump.
-const DUMPING: [(&str, &str, Layout, &str); 19] = [
+// A text of a tree, the settings, and the tree's dump.
+const DUMPING: [(&str, Layout, &str); 19] = [
     (
-        "a string of two lines becomes a literal block",
         "{foo: \"bar!\\nbar!\", baz: 42}",
         MULTILINE,
         "---\nfoo: |-\n  bar!\n  bar!\nbaz: 42",
     ),
+    ("\"a\\n---\\nb\"", MULTILINE, "---\n\"a\\n---\\nb\""),
+    ("\"0o52\"", COMPACT, "---\n\"0o52\""),
+    ("42", COMPACT, "---\n42"),
+    ("[[1, 2], []]", COMPACT, "---\n- - 1\n  - 2\n- []"),
+    ("[[1, 2], []]", SPREAD, "---\n-\n  - 1\n  - 2\n- []"),
     (
-        "a line like a document marker stays in quotes",
-        "\"a\\n---\\nb\"",
-        MULTILINE,
-        "---\n\"a\\n---\\nb\"",
-    ),
-    (
-        "a string that looks like an octal number",
-        "\"0o52\"",
-        COMPACT,
-        "---\n\"0o52\"",
-    ),
-    ("an integer", "42", COMPACT, "---\n42"),
-    (
-        "a sequence in a sequence, compact",
-        "[[1, 2], []]",
-        COMPACT,
-        "---\n- - 1\n  - 2\n- []",
-    ),
-    (
-        "a sequence in a sequence, on a line of its own",
-        "[[1, 2], []]",
-        SPREAD,
-        "---\n-\n  - 1\n  - 2\n- []",
-    ),
-    (
-        "a key that is a mapping, compact",
         "{? {key: [1, 2, 3]} : [4, 5, 6]}",
         COMPACT,
         "---\n? key:\n    - 1\n    - 2\n    - 3\n: - 4\n  - 5\n  - 6",
     ),
     (
-        "a key that is a mapping, on a line of its own",
         "{? {key: [1, 2, 3]} : [4, 5, 6]}",
         SPREAD,
         "---\n?\n  key:\n    - 1\n    - 2\n    - 3\n:\n  - 4\n  - 5\n  - 6",
     ),
+    ("{? [] : 1}", COMPACT, "---\n? []\n: 1"),
+    ("[\"a\\n\\nb\"]", MULTILINE, "---\n- |-\n  a\n  \n  b"),
+    ("[\"a\\n\\n\"]", MULTILINE, "---\n- \"a\\n\\n\""),
+    ("\"a\\n\\uFEFF\"", MULTILINE, "---\n\"a\\n\u{FEFF}\""),
+    ("{\"a\\nb\": 1}", MULTILINE, "---\n\"a\\nb\": 1"),
+    ("inf", COMPACT, "---\n\"inf\""),
+    ("\"x: %\"", COMPACT, "---\n\"x: %\""),
+    ("~", SPREAD_MULTILINE, "---\n~"),
+    ("{}", SPREAD, "---\n{}"),
     (
-        "a key that is an empty sequence",
-        "{? [] : 1}",
-        COMPACT,
-        "---\n? []\n: 1",
-    ),
-    (
-        "an empty line in a literal block",
-        "[\"a\\n\\nb\"]",
-        MULTILINE,
-        "---\n- |-\n  a\n  \n  b",
-    ),
-    (
-        "a string that ends in two breaks stays in quotes",
-        "[\"a\\n\\n\"]",
-        MULTILINE,
-        "---\n- \"a\\n\\n\"",
-    ),
-    (
-        "U+FEFF stays in quotes",
-        "\"a\\n\\uFEFF\"",
-        MULTILINE,
-        "---\n\"a\\n\u{FEFF}\"",
-    ),
-    (
-        "a key of two lines stays in quotes",
-        "{\"a\\nb\": 1}",
-        MULTILINE,
-        "---\n\"a\\nb\": 1",
-    ),
-    (
-        "a string that looks like infinity",
-        "inf",
-        COMPACT,
-        "---\n\"inf\"",
-    ),
-    (
-        "a colon and an indicator in a string",
-        "\"x: %\"",
-        COMPACT,
-        "---\n\"x: %\"",
-    ),
-    ("null", "~", SPREAD_MULTILINE, "---\n~"),
-    ("an empty mapping", "{}", SPREAD, "---\n{}"),
-    (
-        "strings that look like other scalars, and strings that do not",
         "[\"yes\", \"true\", \"~\", \"2.6\", \"can't\", \".milk\", a b, 2014-12-31, \u{4f60}\u{597d}, ~]",
         COMPACT,
         "---\n- \"yes\"\n- \"true\"\n- \"~\"\n- \"2.6\"\n- \"can't\"\n- \".milk\"\n- a b\n- 2014-12-31\n- \u{4f60}\u{597d}\n- ~",
     ),
     (
-        "collections in collections, and empty ones",
         "---\na:\n  b:\n    c: hello\n  d: {}\ne:\n  - f\n  - - g\n    - - h\n  - i: []",
         COMPACT,
         "---\na:\n  b:\n    c: hello\n  d: {}\ne:\n  - f\n  - - g\n    - - h\n  - i: []",
     ),
 ];
 
-// The dump of a text's first tree, and whether it loads as that tree; or the text's fault.
-fn dumped_text(alloc: Global, text: &str, layout: Layout) -> Result<(String, bool), Fail> {
-    match YamlLoader::load_from_str(alloc, text) {
-        Ok(documents) => {
-            let tree = documents.first().ok_or("no document")?;
-            let dump = dumped(alloc, tree, layout)?;
-            Ok((dump, loads_back(alloc, tree, layout)?))
-        }
-        Err(fault) => Ok((format!(in alloc; "{fault}")?, false)),
-    }
-}
-
 #[test]
 fn trees_are_dumped(rt: HostRuntime) -> Result<(), Fail> {
-    let mut report = Report::new(rt.alloc());
-    for (name, text, layout, want) in DUMPING {
-        let (found, holds) = dumped_text(rt.alloc(), text, layout)?;
-        report.compare(name, "dumped", found.as_str(), want)?;
-        report.check(name, "loaded back", holds)?;
+    for (text, layout, want) in DUMPING {
+        let tree = tree(rt.alloc(), text)?;
+        assert_eq!(rt;
+            dumped(rt.alloc(), &tree, layout)?.as_str(),
+            want,
+            "row {text:?}"
+        );
+        assert!(rt; loads_back(rt.alloc(), &tree, layout)?, "row {text:?}");
     }
-    assert!(rt; report.is_empty(), "{report}");
     Ok(())
 }
 

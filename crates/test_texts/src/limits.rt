@@ -3,7 +3,6 @@ use crate::dumping::{COMPACT, LAYOUTS, dumped, loads_back, tree};
 use crate::reading::loaded;
 use std::alloc::Global;
 use std::test::Fail;
-use test_rows::Report;
 use yaml_rust2::YamlLoader;
 use yaml_rust2::yaml::{Array, Yaml};
 
@@ -44,10 +43,9 @@ fn arrays(alloc: Global, levels: usize) -> Result<Yaml, Fail> {
     Ok(Yaml::Array(node))
 }
 
-// What it shows, levels, a beginning, a middle, an end, and the fault.
-const TOO_DEEP: [(&str, usize, &str, &str, &str, &str); 4] = [
+// Levels, a beginning, a middle, an end, and the fault.
+const TOO_DEEP: [(usize, &str, &str, &str, &str); 4] = [
     (
-        "one level too many",
         256,
         "[",
         "",
@@ -55,7 +53,6 @@ const TOO_DEEP: [(&str, usize, &str, &str, &str, &str); 4] = [
         "recursion limit exceeded at byte 255 line 1 column 256",
     ),
     (
-        "one level too many, of both kinds",
         254,
         "[",
         "{\"a\":[]}",
@@ -63,7 +60,6 @@ const TOO_DEEP: [(&str, usize, &str, &str, &str, &str); 4] = [
         "recursion limit exceeded at byte 259 line 1 column 260",
     ),
     (
-        "very many sequences",
         10000,
         "[",
         "",
@@ -71,7 +67,6 @@ const TOO_DEEP: [(&str, usize, &str, &str, &str, &str); 4] = [
         "recursion limit exceeded at byte 255 line 1 column 256",
     ),
     (
-        "very many mappings",
         10000,
         "{a:",
         "",
@@ -87,13 +82,14 @@ fn flow_collections_have_255_levels(rt: HostRuntime) -> Result<(), Fail> {
     assert!(rt; tree(alloc, deepest.as_str())? == arrays(alloc, 255)?);
     let deep = nested(alloc, 254, "[", "{\"a\":1}", "]")?;
     assert!(rt; is_loaded(alloc, deep.as_str()));
-    let mut report = Report::new(alloc);
-    for (name, levels, begin, middle, end, want) in TOO_DEEP {
+    for (levels, begin, middle, end, want) in TOO_DEEP {
         let text = nested(alloc, levels, begin, middle, end)?;
-        let found = loaded(alloc, text.as_str())?;
-        report.compare(name, "loaded", found.as_str(), want)?;
+        assert_eq!(rt;
+            loaded(alloc, text.as_str())?.as_str(),
+            want,
+            "{levels} {begin}"
+        );
     }
-    assert!(rt; report.is_empty(), "{report}");
     Ok(())
 }
 
@@ -114,44 +110,35 @@ fn with_letters(alloc: Global, begin: &str, letters: usize, end: &str) -> Result
     Ok(text)
 }
 
-// What it shows, a beginning, how many letters, and an end.
-const LONG_KEYS: [(&str, &str, usize, &str); 4] = [
-    ("a plain key", "", 1024, ": 1"),
-    ("a key in double quotes, which count", "\"", 1022, "\": 1"),
-    (
-        "a key in single quotes, on the second line",
-        "---\n'",
-        1022,
-        "': 1",
-    ),
-    ("a key in flow", "{", 5000, ": 1}"),
+// A beginning, how many letters, and an end.
+const LONG_KEYS: [(&str, usize, &str); 4] = [
+    ("", 1024, ": 1"),
+    ("\"", 1022, "\": 1"),
+    ("---\n'", 1022, "': 1"),
+    ("{", 5000, ": 1}"),
 ];
 
 // The same, and the fault.
-const LONGER_KEYS: [(&str, &str, usize, &str, &str); 4] = [
+const LONGER_KEYS: [(&str, usize, &str, &str); 4] = [
     (
-        "a plain key",
         "",
         1025,
         ": 1",
         "mapping values are not allowed in this context at byte 1025 line 1 column 1026",
     ),
     (
-        "a key in double quotes",
         "\"",
         1023,
         "\": 1",
         "mapping values are not allowed in this context at byte 1025 line 1 column 1026",
     ),
     (
-        "a key in single quotes, on the second line",
         "---\n'",
         1023,
         "': 1",
         "mapping values are not allowed in this context at byte 1029 line 2 column 1026",
     ),
     (
-        "a plain key of a mapping that has one",
         "a: 1\n",
         1025,
         ": 2",
@@ -162,17 +149,21 @@ const LONGER_KEYS: [(&str, &str, usize, &str, &str); 4] = [
 #[test]
 fn keys_have_1024_characters(rt: HostRuntime) -> Result<(), Fail> {
     let alloc = rt.alloc();
-    let mut report = Report::new(alloc);
-    for (name, begin, letters, end) in LONG_KEYS {
+    for (begin, letters, end) in LONG_KEYS {
         let text = with_letters(alloc, begin, letters, end)?;
-        report.check(name, "loaded", is_loaded(alloc, text.as_str()))?;
+        assert!(rt;
+            is_loaded(alloc, text.as_str()),
+            "{letters} letters after {begin:?}"
+        );
     }
-    for (name, begin, letters, end, want) in LONGER_KEYS {
+    for (begin, letters, end, want) in LONGER_KEYS {
         let text = with_letters(alloc, begin, letters, end)?;
-        let found = loaded(alloc, text.as_str())?;
-        report.compare(name, "one letter more", found.as_str(), want)?;
+        assert_eq!(rt;
+            loaded(alloc, text.as_str())?.as_str(),
+            want,
+            "{letters} letters after {begin:?}"
+        );
     }
-    assert!(rt; report.is_empty(), "{report}");
     Ok(())
 }
 

@@ -3,13 +3,12 @@ use std::alloc::{AllocError, Global};
 use std::process::Abort;
 use std::str::Chars;
 use std::test::Fail;
-use test_rows::Report;
 use yaml_rust2::parser::{Event, MarkedEventReceiver, Parser};
 use yaml_rust2::scanner::Marker;
 use yaml_rust2::{ScanError, Yaml, YamlLoader};
 
-/// What a row shows, a text, and the trees that it loads as, or its fault.
-pub(crate) type Row = (&'static str, &'static str, &'static str);
+/// A text, and the trees that it loads as, or its fault.
+pub(crate) type Row = (&'static str, &'static str);
 
 fn shown(alloc: Global, answer: Result<Vec<Yaml>, ScanError>) -> Result<String, Fail> {
     match answer {
@@ -122,21 +121,28 @@ fn are_beginnings_answered(alloc: Global, text: &str) -> bool {
 }
 
 /// Every row's text loads as it says, from a `&str` and from an iterator; its events are the same pushed, pulled, and
-/// pulled after a look each; and every beginning of it is answered. All rows that fail are told by their names.
+/// pulled after a look each; and every beginning of it is answered.
 pub(crate) fn rows_hold(rt: &(impl Abort + AllocGlobal), rows: &[Row]) -> Result<(), Fail> {
     let alloc = rt.alloc();
-    let mut report = Report::new(alloc);
-    for (name, text, want) in rows {
-        report.compare(name, "loaded", loaded(alloc, text)?.as_str(), want)?;
-        let from_iter = loaded_from_iter(alloc, text)?;
-        report.compare(name, "by an iterator", from_iter.as_str(), want)?;
+    for (text, want) in rows {
+        assert_eq!(rt; loaded(alloc, text)?.as_str(), *want, "row {text:?}");
+        assert_eq!(rt;
+            loaded_from_iter(alloc, text)?.as_str(),
+            *want,
+            "row {text:?}, by an iterator"
+        );
         let events = pulled(alloc, text, false)?;
-        let peeked = pulled(alloc, text, true)?;
-        report.compare(name, "after looks", peeked.as_str(), events.as_str())?;
-        let pushed = pushed(alloc, text)?;
-        report.compare(name, "pushed", pushed.as_str(), events.as_str())?;
-        report.check(name, "its beginnings", are_beginnings_answered(alloc, text))?;
+        assert_eq!(rt;
+            pulled(alloc, text, true)?.as_str(),
+            events.as_str(),
+            "row {text:?}, after looks"
+        );
+        assert_eq!(rt;
+            pushed(alloc, text)?.as_str(),
+            events.as_str(),
+            "row {text:?}, pushed"
+        );
+        assert!(rt; are_beginnings_answered(alloc, text), "row {text:?}");
     }
-    assert!(rt; report.is_empty(), "{report}");
     Ok(())
 }
