@@ -88,10 +88,10 @@ def lines_of(names, low):
 
 def rows_of(names, low):
     """The rows of one band, lowest first."""
-    height = {}
-    for name in names:
-        height[name] = 1 + max((height[it] for it in low[name] if it in height), default=-1)
-    rows = [[name for name in names if height[name] == i] for i in range(max(height.values()) + 1)]
+    def height(name):
+        return 1 + max((height(it) for it in low[name] if it in names), default=-1)
+
+    rows = [[name for name in names if height(name) == i] for i in range(max(map(height, names)) + 1)]
     return [row[i:i + PER_ROW] for row in rows for i in range(0, len(row), PER_ROW)]
 
 
