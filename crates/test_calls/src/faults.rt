@@ -1,7 +1,6 @@
 //! Faults that are made, copied and compared.
 use std::alloc::Global;
 use std::test::Fail;
-use test_rows::Report;
 use yaml_chars::Marker;
 use yaml_scanner::Scanner;
 use yaml_tokens::ScanError;
@@ -41,40 +40,34 @@ fn compared(alloc: Global, mark: Marker, kind: Kind, other: Kind) -> Result<Stri
     Ok(format!(in alloc; "{words}, {is_equal}")?)
 }
 
-// What it shows, two faults, the words of the first, and whether they are equal.
-const FAULTS: [(&str, Kind, Kind, &str); 6] = [
+// Two faults, the words of the first, and whether they are equal.
+const FAULTS: [(Kind, Kind, &str); 6] = [
     (
-        "a copied text and an owned text",
         Kind::New("stop"),
         Kind::NewString("stop"),
         "stop: stop at byte 0 line 1 column 1 false true, true",
     ),
     (
-        "an owned text and a fixed text",
         Kind::NewString("stop"),
         Kind::Fixed("stop"),
         "stop: stop at byte 0 line 1 column 1 false true, true",
     ),
     (
-        "other texts",
         Kind::Fixed("stop"),
         Kind::New("go"),
         "stop: stop at byte 0 line 1 column 1 false true, false",
     ),
     (
-        "a copied text that says what refused memory says",
         Kind::New("out of memory"),
         Kind::Memory,
         "out of memory: out of memory at byte 0 line 1 column 1 false true, false",
     ),
     (
-        "an owned text that says what refused memory says",
         Kind::NewString("out of memory"),
         Kind::Memory,
         "out of memory: out of memory at byte 0 line 1 column 1 false true, false",
     ),
     (
-        "refused memory",
         Kind::Memory,
         Kind::Memory,
         "out of memory: out of memory at byte 0 line 1 column 1 true true, true",
@@ -84,12 +77,13 @@ const FAULTS: [(&str, Kind, Kind, &str); 6] = [
 #[test]
 fn faults_are_made_and_copied(rt: HostRuntime) -> Result<(), Fail> {
     let mark = Scanner::new(rt.alloc(), "".chars()).mark();
-    let mut report = Report::new(rt.alloc());
-    for (name, kind, other, want) in FAULTS {
-        let found = compared(rt.alloc(), mark, kind, other)?;
-        report.compare(name, "compared", found.as_str(), want)?;
+    for (kind, other, want) in FAULTS {
+        assert_eq!(rt;
+            compared(rt.alloc(), mark, kind, other)?.as_str(),
+            want,
+            "row {want}"
+        );
     }
-    assert!(rt; report.is_empty(), "{report}");
     Ok(())
 }
 

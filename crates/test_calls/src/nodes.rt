@@ -2,7 +2,6 @@
 use crate::made::tree;
 use std::alloc::Global;
 use std::test::Fail;
-use test_rows::Report;
 use yaml_tree::{Array, Yaml};
 
 // The functions below have no contract, so that many questions make no long proof.
@@ -148,13 +147,14 @@ const ANSWERS: [(&str, &str, &str); 32] = [
 
 #[test]
 fn nodes_are_asked(rt: HostRuntime) -> Result<(), Fail> {
-    let mut report = Report::new(rt.alloc());
     for (name, question, want) in ANSWERS {
         let node = tree(rt.alloc(), name)?;
-        let found = answer(rt.alloc(), node, question)?;
-        report.compare(name, question, found.as_str(), want)?;
+        assert_eq!(rt;
+            answer(rt.alloc(), node, question)?.as_str(),
+            want,
+            "row {name}, {question}"
+        );
     }
-    assert!(rt; report.is_empty(), "{report}");
     Ok(())
 }
 
@@ -170,14 +170,12 @@ const CHOICES: [(&str, &str, &str); 5] = [
 #[test]
 fn the_first_that_is_a_value_is_chosen(rt: HostRuntime) -> Result<(), Fail> {
     let alloc = rt.alloc();
-    let mut report = Report::new(alloc);
     for (name, other, want) in CHOICES {
         let borrowed = borrowed_or_words(alloc, &tree(alloc, name)?, &tree(alloc, other)?)?;
-        report.compare(name, other, borrowed.as_str(), want)?;
+        assert_eq!(rt; borrowed.as_str(), want, "row {name}, {other}");
         let owned = or_words(alloc, tree(alloc, name)?, tree(alloc, other)?)?;
-        report.compare(name, other, owned.as_str(), want)?;
+        assert_eq!(rt; owned.as_str(), want, "row {name}, {other}");
     }
-    assert!(rt; report.is_empty(), "{report}");
     Ok(())
 }
 
@@ -207,19 +205,22 @@ const INDICES: [(&str, usize, &str); 7] = [
 
 #[test]
 fn nodes_are_looked_up(rt: HostRuntime) -> Result<(), Fail> {
-    let mut report = Report::new(rt.alloc());
     for (name, key, want) in KEYS {
         let node = tree(rt.alloc(), name)?;
-        let found = key_words(rt.alloc(), &node, key)?;
-        report.compare(name, key, found.as_str(), want)?;
+        assert_eq!(rt;
+            key_words(rt.alloc(), &node, key)?.as_str(),
+            want,
+            "row {name}, {key}"
+        );
     }
     for (name, index, want) in INDICES {
         let node = tree(rt.alloc(), name)?;
-        let found = index_words(rt.alloc(), &node, index)?;
-        let index = format!(in rt.alloc(); "{index}")?;
-        report.compare(name, index.as_str(), found.as_str(), want)?;
+        assert_eq!(rt;
+            index_words(rt.alloc(), &node, index)?.as_str(),
+            want,
+            "row {name}, {index}"
+        );
     }
-    assert!(rt; report.is_empty(), "{report}");
     Ok(())
 }
 

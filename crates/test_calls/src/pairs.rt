@@ -3,7 +3,6 @@ use crate::made::{put, word};
 use std::alloc::{AllocGlobal, Global};
 use std::process::Abort;
 use std::test::Fail;
-use test_rows::Report;
 use yaml_tree::{Hash, Steps, Yaml};
 
 // The functions below have no contract, so that many calls make no long proof.
@@ -110,12 +109,13 @@ const CALLS: [(&str, &str, &str); 21] = [
 #[test]
 fn pairs_keep_the_order_of_insertion(rt: HostRuntime) -> Result<(), Fail> {
     let mut pairs = Hash::new(rt.alloc());
-    let mut report = Report::new(rt.alloc());
     for (call, key, want) in CALLS {
-        let found = answer(rt.alloc(), &mut pairs, call, key)?;
-        report.compare(call, key, found.as_str(), want)?;
+        assert_eq!(rt;
+            answer(rt.alloc(), &mut pairs, call, key)?.as_str(),
+            want,
+            "row {call} {key}"
+        );
     }
-    assert!(rt; report.is_empty(), "{report}");
     Ok(())
 }
 

@@ -2,7 +2,6 @@
 use std::alloc::{AllocError, Global};
 use std::str::Chars;
 use std::test::Fail;
-use test_rows::Report;
 use yaml_chars::Marker;
 use yaml_parser::{Event, EventReceiver, MarkedEventReceiver, Parser};
 use yaml_tokens::ScanError;
@@ -141,34 +140,30 @@ fn answers(alloc: Global, text: &str, calls: &[Call]) -> Result<String, Fail> {
     Ok(out)
 }
 
-// What it shows, a text, calls of its parser, and what each shows.
-const CALLS: [(&str, &str, &[Call], &str); 6] = [
+// A text, calls of its parser, and what each shows.
+const CALLS: [(&str, &[Call], &str); 6] = [
     (
-        "a document for each call",
         "--- 1\n--- 2",
         &[Call::Load, Call::Load, Call::Load, Call::Load],
         "StreamStart DocumentStart 1 DocumentEnd / DocumentStart 2 DocumentEnd / StreamEnd / StreamEnd / ",
     ),
     (
-        "all documents by one call",
         "--- 1\n--- [a]",
         &[Call::LoadAll],
         "StreamStart DocumentStart 1 DocumentEnd DocumentStart SequenceStart(0, None) a SequenceEnd DocumentEnd StreamEnd / ",
     ),
     (
-        "a peeked event comes first",
         "a",
         &[Call::Peek, Call::Load],
         "StreamStart / StreamStart DocumentStart a DocumentEnd / ",
     ),
     (
-        "a peeked event stays",
         "a",
         &[Call::Peek, Call::Peek, Call::Pull, Call::Pull],
         "StreamStart / StreamStart / StreamStart / DocumentStart / ",
     ),
+    // Pushing inside a document is refused for good.
     (
-        "a call inside a document is refused for good",
         "[1, 2]",
         &[
             Call::Pull,
@@ -180,8 +175,8 @@ const CALLS: [(&str, &str, &[Call], &str); 6] = [
         ],
         "StreamStart / DocumentStart / did not find expected <document-start> 0 / did not find expected <document-start> 0 / did not find expected <document-start> 0 / did not find expected <document-start> 0 / ",
     ),
+    // What a receiver returns is not kept.
     (
-        "what a receiver returns is not kept",
         "[1, 2]",
         &[Call::Refuse(3), Call::Pull],
         "stop 0 / Scalar(\"1\", Plain, 0, None) / ",
@@ -190,12 +185,13 @@ const CALLS: [(&str, &str, &[Call], &str); 6] = [
 
 #[test]
 fn events_are_pushed_and_pulled(rt: HostRuntime) -> Result<(), Fail> {
-    let mut report = Report::new(rt.alloc());
-    for (name, text, calls, want) in CALLS {
-        let found = answers(rt.alloc(), text, calls)?;
-        report.compare(name, "called", found.as_str(), want)?;
+    for (text, calls, want) in CALLS {
+        assert_eq!(rt;
+            answers(rt.alloc(), text, calls)?.as_str(),
+            want,
+            "row {want}"
+        );
     }
-    assert!(rt; report.is_empty(), "{report}");
     Ok(())
 }
 

@@ -2,7 +2,6 @@
 use std::alloc::Global;
 use std::str::Chars;
 use std::test::Fail;
-use test_rows::Report;
 use yaml_scanner::Scanner;
 use yaml_tokens::ScanError;
 
@@ -95,11 +94,10 @@ fn answers(alloc: Global, text: &str, calls: &[Call]) -> Result<String, Fail> {
     Ok(out)
 }
 
-// What it shows, a text, calls of its scanner, and what they answer.
-const CALLS: [(&str, &str, &[Call], &str); 3] = [
-    // No memory is refused here, so no call returns that fault.
+// A text, calls of its scanner, and what they answer.
+const CALLS: [(&str, &[Call], &str); 3] = [
+    // No memory is refused here, so no call returns that fault; after the end nothing changes.
     (
-        "after the end nothing changes",
         "[a]",
         &[
             Call::State,
@@ -121,8 +119,8 @@ const CALLS: [(&str, &str, &[Call], &str); 3] = [
         ],
         "false false / ok / true false / ok / StreamStart(Utf8) / FlowSequenceStart / Scalar(Plain, \"a\") / FlowSequenceEnd / true false / StreamEnd / true true / ok / ok / none / none / none / ",
     ),
+    // A fault is kept.
     (
-        "a fault is kept",
         "@",
         &[
             Call::Next,
@@ -136,8 +134,8 @@ const CALLS: [(&str, &str, &[Call], &str); 3] = [
         ],
         "StreamStart(Utf8) / none / unexpected character: `@' at byte 0 line 1 column 1 false / unexpected character: `@' at byte 0 line 1 column 1 false / unexpected character: `@' at byte 0 line 1 column 1 false / unexpected character: `@' at byte 0 line 1 column 1 false / none / true false / ",
     ),
+    // Tokens that stood ready when it was met are not handed out.
     (
-        "tokens that stood ready when a fault was met are not handed out",
         "a @",
         &[
             Call::Token,
@@ -152,11 +150,12 @@ const CALLS: [(&str, &str, &[Call], &str); 3] = [
 
 #[test]
 fn a_scanner_goes_step_by_step(rt: HostRuntime) -> Result<(), Fail> {
-    let mut report = Report::new(rt.alloc());
-    for (name, text, calls, want) in CALLS {
-        let found = answers(rt.alloc(), text, calls)?;
-        report.compare(name, "called", found.as_str(), want)?;
+    for (text, calls, want) in CALLS {
+        assert_eq!(rt;
+            answers(rt.alloc(), text, calls)?.as_str(),
+            want,
+            "row {text:?}"
+        );
     }
-    assert!(rt; report.is_empty(), "{report}");
     Ok(())
 }

@@ -1,7 +1,6 @@
 //! Texts and their tokens.
 use std::alloc::Global;
 use std::test::Fail;
-use test_rows::Report;
 use yaml_scanner::Scanner;
 use yaml_tokens::Token;
 
@@ -13,20 +12,17 @@ fn tokens(alloc: Global, text: &str) -> Result<String, Fail> {
     Ok(names)
 }
 
-// What it shows, a text, and its tokens.
-const TOKENS: [(&str, &str, &str); 3] = [
+// A text and its tokens.
+const TOKENS: [(&str, &str); 3] = [
     (
-        "a plain scalar that begins with a colon",
         "{a: :b}",
         "StreamStart(Utf8) FlowMappingStart Key Scalar(Plain, \"a\") Value Scalar(Plain, \":b\") FlowMappingEnd StreamEnd ",
     ),
     (
-        "a key without value, and a value without key",
         "{\n  ? foo :,\n  : bar,\n}",
         "StreamStart(Utf8) FlowMappingStart Key Scalar(Plain, \"foo\") Value FlowEntry Value Scalar(Plain, \"bar\") FlowEntry FlowMappingEnd StreamEnd ",
     ),
     (
-        "each style of scalar",
         "- 'a'\n- \"b\"\n- |-\n c\n- >-\n d\n",
         "StreamStart(Utf8) BlockSequenceStart BlockEntry Scalar(SingleQuoted, \"a\") BlockEntry Scalar(DoubleQuoted, \"b\") BlockEntry Scalar(Literal, \"c\") BlockEntry Scalar(Folded, \"d\") BlockEnd StreamEnd ",
     ),
@@ -34,11 +30,9 @@ const TOKENS: [(&str, &str, &str); 3] = [
 
 #[test]
 fn tokens_come_in_order(rt: HostRuntime) -> Result<(), Fail> {
-    let mut report = Report::new(rt.alloc());
-    for (name, text, want) in TOKENS {
-        report.compare(name, "scanned", tokens(rt.alloc(), text)?.as_str(), want)?;
+    for (text, want) in TOKENS {
+        assert_eq!(rt; tokens(rt.alloc(), text)?.as_str(), want, "row {text:?}");
     }
-    assert!(rt; report.is_empty(), "{report}");
     Ok(())
 }
 
