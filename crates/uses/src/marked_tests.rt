@@ -1,5 +1,6 @@
 use std::alloc::Global;
 use std::test::Fail;
+use test_rows::Report;
 use yaml_marked::{Marked, MarkedDocuments, load_marked};
 use yaml_rust2::scanner::Marker;
 
@@ -12,52 +13,233 @@ enum Step {
 
 use Step::{Item, Key, Value};
 
-// A text, the number of a document, the steps to a node in it, where the node begins, and where its tree begins.
-type Row = (&'static str, usize, &'static [Step], &'static str);
+// What it shows, a text, the number of a document, the steps to a node in it, where the node begins, and where its tree begins.
+type Row = (
+    &'static str,
+    &'static str,
+    usize,
+    &'static [Step],
+    &'static str,
+);
 
 const ROWS: [Row; 37] = [
-    ("- a\n", 0, &[], "1:0 1:0"),
-    ("- a\n", 0, &[Item(0)], "1:2 1:2"),
-    ("- - a\n  - b\n", 0, &[Item(0)], "1:2 1:2"),
-    ("- - a\n  - b\n", 0, &[Item(0), Item(1)], "2:4 2:4"),
-    ("? a\n: b\n", 0, &[], "1:0 1:0"),
-    ("? a\n: b\n", 0, &[Key("a")], "1:2 1:2"),
-    ("? a\n: b\n", 0, &[Value("a")], "2:2 2:2"),
-    ("a: b\n", 0, &[], "1:1 1:1"),
-    ("a: b\n", 0, &[Key("a")], "1:0 1:0"),
-    ("a: b\n", 0, &[Value("a")], "1:3 1:3"),
-    ("\n\n  key  : v\n", 0, &[], "3:7 3:7"),
-    ("\n\n  key  : v\n", 0, &[Key("key")], "3:2 3:2"),
-    ("k:\n- x\n", 0, &[Value("k")], "2:2 2:2"),
-    ("k:\n  - x\n", 0, &[Value("k")], "2:2 2:2"),
-    ("k:\n  - x\n", 0, &[Value("k"), Item(0)], "2:4 2:4"),
-    ("&a !t x\n", 0, &[], "1:6 1:6"),
-    ("&m {a: 1}\n", 0, &[], "1:3 1:3"),
-    ("&m {a: 1}\n", 0, &[Value("a")], "1:7 1:7"),
-    ("&a\n- x\n", 0, &[], "2:0 2:0"),
-    ("k: &a\n  b: c\n", 0, &[Value("k")], "2:3 2:3"),
-    ("&a k: v\n", 0, &[Key("k")], "1:3 1:3"),
-    ("{a: , b}\n", 0, &[Value("a")], "1:2 1:2"),
-    ("{a: , b}\n", 0, &[Key("b")], "1:6 1:6"),
-    ("{a: , b}\n", 0, &[Value("b")], "1:7 1:7"),
-    ("a:\nb: &c\n", 0, &[Value("a")], "2:0 2:0"),
-    ("--- # c\n", 0, &[], "2:0 2:0"),
-    ("- |\n  x\n- \"y\n  z\"\n", 0, &[Item(0)], "2:2 2:2"),
-    ("- |\n  x\n- \"y\n  z\"\n", 0, &[Item(1)], "3:2 3:2"),
-    ("é: {\"ü\": x}\n", 0, &[Value("é"), Value("ü")], "1:9 1:9"),
-    ("[a]\n---\n[b]\n", 1, &[], "3:0 3:0"),
-    ("[a]\n---\n[b]\n", 1, &[Item(0)], "3:1 3:1"),
-    ("a: &s b\nc: *s\n", 0, &[Value("c")], "2:3 1:6"),
-    ("- &a [x]\n- *a\n", 0, &[Item(0)], "1:5 1:5"),
-    ("- &a [x]\n- *a\n", 0, &[Item(1)], "2:2 1:5"),
-    ("- &a [x]\n- *a\n", 0, &[Item(1), Item(0)], "1:6 1:6"),
     (
+        "a block sequence begins at its first dash",
+        "- a\n",
+        0,
+        &[],
+        "1:0 1:0",
+    ),
+    ("an item", "- a\n", 0, &[Item(0)], "1:2 1:2"),
+    (
+        "a sequence in an item",
+        "- - a\n  - b\n",
+        0,
+        &[Item(0)],
+        "1:2 1:2",
+    ),
+    (
+        "an item of a sequence in an item",
+        "- - a\n  - b\n",
+        0,
+        &[Item(0), Item(1)],
+        "2:4 2:4",
+    ),
+    (
+        "a block mapping begins at its first `?`",
+        "? a\n: b\n",
+        0,
+        &[],
+        "1:0 1:0",
+    ),
+    ("a key after `?`", "? a\n: b\n", 0, &[Key("a")], "1:2 1:2"),
+    (
+        "a value on a line of its own",
+        "? a\n: b\n",
+        0,
+        &[Value("a")],
+        "2:2 2:2",
+    ),
+    (
+        "a block mapping begins at its first `:`",
+        "a: b\n",
+        0,
+        &[],
+        "1:1 1:1",
+    ),
+    ("a key", "a: b\n", 0, &[Key("a")], "1:0 1:0"),
+    ("a value", "a: b\n", 0, &[Value("a")], "1:3 1:3"),
+    (
+        "empty lines, and blanks before `:`",
+        "\n\n  key  : v\n",
+        0,
+        &[],
+        "3:7 3:7",
+    ),
+    (
+        "a key after empty lines",
+        "\n\n  key  : v\n",
+        0,
+        &[Key("key")],
+        "3:2 3:2",
+    ),
+    (
+        "a sequence at the column of its key begins at its first item",
+        "k:\n- x\n",
+        0,
+        &[Value("k")],
+        "2:2 2:2",
+    ),
+    (
+        "a sequence further in begins at its dash",
+        "k:\n  - x\n",
+        0,
+        &[Value("k")],
+        "2:2 2:2",
+    ),
+    (
+        "an item of a value",
+        "k:\n  - x\n",
+        0,
+        &[Value("k"), Item(0)],
+        "2:4 2:4",
+    ),
+    (
+        "a scalar begins after its anchor and tag",
+        "&a !t x\n",
+        0,
+        &[],
+        "1:6 1:6",
+    ),
+    (
+        "a flow mapping begins after its anchor",
+        "&m {a: 1}\n",
+        0,
+        &[],
+        "1:3 1:3",
+    ),
+    (
+        "a value in flow",
+        "&m {a: 1}\n",
+        0,
+        &[Value("a")],
+        "1:7 1:7",
+    ),
+    (
+        "a sequence below its anchor",
+        "&a\n- x\n",
+        0,
+        &[],
+        "2:0 2:0",
+    ),
+    (
+        "a mapping below its anchor",
+        "k: &a\n  b: c\n",
+        0,
+        &[Value("k")],
+        "2:3 2:3",
+    ),
+    (
+        "a key begins after its anchor",
+        "&a k: v\n",
+        0,
+        &[Key("k")],
+        "1:3 1:3",
+    ),
+    (
+        "a value that is missing in flow",
+        "{a: , b}\n",
+        0,
+        &[Value("a")],
+        "1:2 1:2",
+    ),
+    (
+        "a key without value",
+        "{a: , b}\n",
+        0,
+        &[Key("b")],
+        "1:6 1:6",
+    ),
+    ("its value", "{a: , b}\n", 0, &[Value("b")], "1:7 1:7"),
+    (
+        "a value that is missing in a block",
+        "a:\nb: &c\n",
+        0,
+        &[Value("a")],
+        "2:0 2:0",
+    ),
+    ("a document without content", "--- # c\n", 0, &[], "2:0 2:0"),
+    (
+        "a literal block",
+        "- |\n  x\n- \"y\n  z\"\n",
+        0,
+        &[Item(0)],
+        "2:2 2:2",
+    ),
+    (
+        "a quoted scalar after it",
+        "- |\n  x\n- \"y\n  z\"\n",
+        0,
+        &[Item(1)],
+        "3:2 3:2",
+    ),
+    (
+        "characters that are not ASCII count once",
+        "é: {\"ü\": x}\n",
+        0,
+        &[Value("é"), Value("ü")],
+        "1:9 1:9",
+    ),
+    ("the second document", "[a]\n---\n[b]\n", 1, &[], "3:0 3:0"),
+    (
+        "an item of the second document",
+        "[a]\n---\n[b]\n",
+        1,
+        &[Item(0)],
+        "3:1 3:1",
+    ),
+    (
+        "an alias for a scalar",
+        "a: &s b\nc: *s\n",
+        0,
+        &[Value("c")],
+        "2:3 1:6",
+    ),
+    (
+        "an array with an anchor",
+        "- &a [x]\n- *a\n",
+        0,
+        &[Item(0)],
+        "1:5 1:5",
+    ),
+    (
+        "an alias for the array",
+        "- &a [x]\n- *a\n",
+        0,
+        &[Item(1)],
+        "2:2 1:5",
+    ),
+    (
+        "an item of the alias",
+        "- &a [x]\n- *a\n",
+        0,
+        &[Item(1), Item(0)],
+        "1:6 1:6",
+    ),
+    (
+        "a part of an alias that has an anchor",
         "- &a {b: &c [1]}\n- *a\n- *c\n",
         0,
         &[Item(1), Value("b")],
         "1:12 1:12",
     ),
-    ("- &a {b: &c [1]}\n- *a\n- *c\n", 0, &[Item(2)], "3:2 1:12"),
+    (
+        "an alias for that part",
+        "- &a {b: &c [1]}\n- *a\n- *c\n",
+        0,
+        &[Item(2)],
+        "3:2 1:12",
+    ),
 ];
 
 fn shown(alloc: Global, position: Marker) -> Result<String, Fail> {
@@ -91,13 +273,12 @@ fn told(alloc: Global, text: &str, document: usize, steps: &[Step]) -> Result<St
 
 #[test]
 fn nodes_have_the_positions_of_their_events(rt: HostRuntime) -> Result<(), Fail> {
-    for (text, document, steps, want) in ROWS {
-        assert_eq!(rt;
-            told(rt.alloc(), text, document, steps)?.as_str(),
-            want,
-            "{text}"
-        );
+    let mut report = Report::new(rt.alloc());
+    for (name, text, document, steps, want) in ROWS {
+        let found = told(rt.alloc(), text, document, steps)?;
+        report.compare(name, "begins", found.as_str(), want)?;
     }
+    assert!(rt; report.is_empty(), "{report}");
     Ok(())
 }
 

@@ -1,6 +1,7 @@
 use Step::{Index, Key};
 use std::alloc::Global;
 use std::test::Fail;
+use test_rows::Report;
 use yaml_marked::load_marked;
 use yaml_paths::{Step, at, marked, read, read_list};
 use yaml_rust2::{Yaml, YamlLoader};
@@ -68,17 +69,20 @@ fn lists_are_read_with_their_types(rt: HostRuntime) -> Result<(), Fail> {
     Ok(())
 }
 
-// A path, and what is said of a number there.
-const NUMBERS: [(&[Step<'static>], &str); 3] = [
+// What stands there, its path, and what is said of a number there.
+const NUMBERS: [(&str, &[Step<'static>], &str); 3] = [
     (
+        "a string",
         HOST,
         "line 3, column 9: $[\"server\"][\"host\"]: a string, where an integer is wanted",
     ),
     (
+        "no such item",
         THIRD,
         "line 5, column 10: $[\"server\"][\"ports\"][2]: missing",
     ),
     (
+        "an array",
         PORTS,
         "line 5, column 10: $[\"server\"][\"ports\"]: an array, where an integer is wanted",
     ),
@@ -89,12 +93,14 @@ fn errors_point_into_the_text(rt: HostRuntime) -> Result<(), Fail> {
     let alloc = rt.alloc();
     let documents = load_marked(alloc, TEXT)?;
     let root = documents.first().ok_or("no document")?;
-    for (path, want) in NUMBERS {
+    let mut report = Report::new(alloc);
+    for (name, path, want) in NUMBERS {
         let Err(error) = marked::read::<i64>(root, path) else {
             return Err(Fail::from("a number"));
         };
-        assert_eq!(rt; format!(in alloc; "{error}")?.as_str(), want);
+        report.compare(name, "read", format!(in alloc; "{error}")?.as_str(), want)?;
     }
+    assert!(rt; report.is_empty(), "{report}");
     let Err(error) = marked::read_list::<bool>(alloc, root, FLAGS) else {
         return Err(Fail::from("flags"));
     };

@@ -1,6 +1,7 @@
 use super::split_page;
 use std::alloc::Global;
 use std::test::Fail;
+use test_rows::Report;
 
 // What it shows, a page, the title in its front matter, and the rest; no title, where there is no front matter.
 const ROWS: [(&str, &str, Option<&str>, &str); 9] = [
@@ -36,30 +37,39 @@ const ROWS: [(&str, &str, Option<&str>, &str); 9] = [
 ];
 
 // The title in a page's front matter, and the rest; `-` stands for a title that is missing.
-fn told(alloc: Global, text: &str) -> Result<Option<(String, String)>, Fail> {
+fn told(alloc: Global, text: &str) -> Result<String, Fail> {
     let Some(page) = split_page(alloc, text)? else {
-        return Ok(None);
+        return Ok(String::from_str(alloc, "no front matter")?);
     };
     let settings = page.front.first().ok_or("no document")?;
     let title = match settings.get_key("title") {
         Some(title) => title.as_str().ok_or("no text")?,
         None => "-",
     };
-    let title = String::from_str(alloc, title)?;
-    Ok(Some((title, String::from_str(alloc, page.rest)?)))
+    shown(alloc, title, page.rest)
+}
+
+fn shown(alloc: Global, title: &str, rest: &str) -> Result<String, Fail> {
+    Ok(format!(in alloc; "title {title}, rest {rest}")?)
+}
+
+// What is wanted of a page.
+fn wanted(alloc: Global, title: Option<&str>, rest: &str) -> Result<String, Fail> {
+    match title {
+        Some(title) => shown(alloc, title, rest),
+        None => Ok(String::from_str(alloc, "no front matter")?),
+    }
 }
 
 #[test]
 fn pages_are_split(rt: HostRuntime) -> Result<(), Fail> {
-    for (name, text, want, rest) in ROWS {
-        match (told(rt.alloc(), text)?, want) {
-            (Some(found), Some(title)) => {
-                assert_eq!(rt; found.0.as_str(), title, "{name}");
-                assert_eq!(rt; found.1.as_str(), rest, "{name}");
-            }
-            (found, want) => assert_eq!(rt; found.is_some(), want.is_some(), "{name}"),
-        }
+    let mut report = Report::new(rt.alloc());
+    for (name, text, title, rest) in ROWS {
+        let found = told(rt.alloc(), text)?;
+        let want = wanted(rt.alloc(), title, rest)?;
+        report.compare(name, "split", found.as_str(), want.as_str())?;
     }
+    assert!(rt; report.is_empty(), "{report}");
     Ok(())
 }
 

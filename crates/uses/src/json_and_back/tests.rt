@@ -1,6 +1,7 @@
 use super::{Lost, json_and_back, json_of};
 use std::alloc::Global;
 use std::test::Fail;
+use test_rows::Report;
 use yaml_json::{write_json, write_json_indented};
 use yaml_rust2::yaml::Array;
 use yaml_rust2::{Yaml, YamlLoader};
@@ -11,32 +12,37 @@ fn tree(alloc: Global, text: &str) -> Result<Yaml, Fail> {
     Ok(documents.pop().unwrap_or(Yaml::BadValue))
 }
 
-// A document, its JSON text, and that text indented by two spaces.
-const ROWS: [(&str, &str, &str); 8] = [
-    ("~", "null", "null"),
+// What it shows, a document, its JSON text, and that text indented by two spaces.
+const ROWS: [(&str, &str, &str, &str); 8] = [
+    ("null", "~", "null", "null"),
     (
+        "numbers keep their spelling, integers but for base and sign of zero",
         "[0x1F, -0, -5, 1.50, 1e5]",
         "[31,0,-5,1.50,1e5]",
         "[\n  31,\n  0,\n  -5,\n  1.50,\n  1e5\n]",
     ),
     (
+        "an integer that is too large",
         "9223372036854775808",
         "9223372036854775808",
         "9223372036854775808",
     ),
-    ("[]", "[]", "[]"),
-    ("{}", "{}", "{}"),
+    ("an empty array", "[]", "[]", "[]"),
+    ("an empty hash", "{}", "{}", "{}"),
     (
+        "collections in collections, and an empty key",
         "a: {b: [x], c: []}\n'': true",
         "{\"a\":{\"b\":[\"x\"],\"c\":[]},\"\":true}",
         "{\n  \"a\": {\n    \"b\": [\n      \"x\"\n    ],\n    \"c\": []\n  },\n  \"\": true\n}",
     ),
     (
+        "escapes",
         "\"\\\"\\\\/\\b\\f\\n\\r\\t\\0\\x1f\\x7f\"",
         "\"\\\"\\\\/\\b\\f\\n\\r\\t\\u0000\\u001f\\u007f\"",
         "\"\\\"\\\\/\\b\\f\\n\\r\\t\\u0000\\u001f\\u007f\"",
     ),
     (
+        "characters that are not ASCII",
         "é\u{2028}\u{1F600}",
         "\"é\u{2028}\u{1F600}\"",
         "\"é\u{2028}\u{1F600}\"",
@@ -46,45 +52,74 @@ const ROWS: [(&str, &str, &str); 8] = [
 #[test]
 fn trees_come_back(rt: HostRuntime) -> Result<(), Fail> {
     let alloc = rt.alloc();
-    for (text, compact, indented) in ROWS {
+    let mut report = Report::new(alloc);
+    for (name, text, compact, indented) in ROWS {
         let tree = tree(alloc, text)?;
-        assert_eq!(rt; json_of(alloc, &tree)?.as_str(), compact);
+        report.compare(name, "compact", json_of(alloc, &tree)?.as_str(), compact)?;
         let mut lines = String::new(alloc);
         write_json_indented(alloc, &tree, 2, &mut lines)?;
-        assert_eq!(rt; lines.as_str(), indented);
-        let back = json_and_back(alloc, &tree)?;
-        assert_eq!(rt; back.len(), 1);
-        assert!(rt; back[0] == tree);
+        report.compare(name, "indented", lines.as_str(), indented)?;
+        let holds = match json_and_back(alloc, &tree)?.as_slice() {
+            [document] => *document == tree,
+            _ => false,
+        };
+        report.check(name, "another tree came back", holds)?;
     }
+    assert!(rt; report.is_empty(), "{report}");
     Ok(())
 }
 
-// A document, and what is said of the first node that has no JSON text.
-const FAULTS: [(&str, &str); 6] = [
-    ("[1, .inf]", "$[1]: the number cannot be written in JSON"),
+// What it shows, a document, and what is said of the first node that has no JSON text.
+const FAULTS: [(&str, &str, &str); 6] = [
     (
+        "infinity in an array",
+        "[1, .inf]",
+        "$[1]: the number cannot be written in JSON",
+    ),
+    (
+        "a number that begins with its point",
         "a: {\"b\\n\": [.5, ~]}",
         "$[\"a\"][\"b\\n\"][0]: the number cannot be written in JSON",
     ),
-    ("+1.5", "$: the number cannot be written in JSON"),
-    ("[{a: .5, ~: x}]", "$[0]: a key is no string"),
-    ("{[a]: x}", "$: a key is no string"),
-    ("!!int x", "$: a bad value has no JSON text"),
+    (
+        "a number with a plus sign",
+        "+1.5",
+        "$: the number cannot be written in JSON",
+    ),
+    (
+        "a key that is null",
+        "[{a: .5, ~: x}]",
+        "$[0]: a key is no string",
+    ),
+    (
+        "a key that is an array",
+        "{[a]: x}",
+        "$: a key is no string",
+    ),
+    ("a bad value", "!!int x", "$: a bad value has no JSON text"),
 ];
+
+// What is said of a tree without a JSON text.
+fn refusal(alloc: Global, tree: &Yaml) -> Result<String, Fail> {
+    match json_of(alloc, tree) {
+        Err(Lost::NoJson(node)) => Ok(format!(in alloc; "{node}")?),
+        _ => Ok(String::from_str(alloc, "written")?),
+    }
+}
 
 #[test]
 fn nodes_without_json_are_named(rt: HostRuntime) -> Result<(), Fail> {
     let alloc = rt.alloc();
-    for (text, want) in FAULTS {
+    let mut report = Report::new(alloc);
+    for (name, text, want) in FAULTS {
         let tree = tree(alloc, text)?;
-        let Err(Lost::NoJson(node)) = json_of(alloc, &tree) else {
-            return Err(Fail::from("written"));
-        };
-        assert_eq!(rt; format!(in alloc; "{node}")?.as_str(), want);
+        report.compare(name, "written", refusal(alloc, &tree)?.as_str(), want)?;
         let mut out = String::from_str(alloc, "before")?;
-        assert!(rt; write_json(alloc, &tree, &mut out).is_err());
-        assert_eq!(rt; out.as_str(), "before");
+        let is_refused = write_json(alloc, &tree, &mut out).is_err();
+        report.check(name, "not refused", is_refused)?;
+        report.compare(name, "the writer", out.as_str(), "before")?;
     }
+    assert!(rt; report.is_empty(), "{report}");
     let mut items = Array::new(alloc);
     items.push(Yaml::Alias(1))?;
     let mut out = String::new(alloc);

@@ -2,6 +2,7 @@ use super::settle_and_load;
 use overlay::overlay;
 use std::alloc::Global;
 use std::test::Fail;
+use test_rows::Report;
 use yaml_rust2::{Yaml, YamlLoader};
 
 // The one document of a text.
@@ -10,29 +11,42 @@ fn tree(alloc: Global, text: &str) -> Result<Yaml, Fail> {
     Ok(documents.pop().unwrap_or(Yaml::BadValue))
 }
 
-// Left, right, and the right laid over the left.
-const ROWS: [(&str, &str, &str); 6] = [
+// What it shows, left, right, and the right laid over the left.
+const ROWS: [(&str, &str, &str, &str); 6] = [
     (
+        "hashes are laid over each other, pair by pair",
         "{a: 1, b: {c: 2}}",
         "{b: {d: 3}, e: 4}",
         "{a: 1, b: {c: 2, d: 3}, e: 4}",
     ),
-    ("{a: 1}", "~", "~"),
-    ("[1]", "[2]", "[2]"),
-    ("{a: 1, b: 2}", "{b: 3, a: ~}", "{a: ~, b: 3}"),
-    ("{[1]: x}", "{[1]: y, 2: z}", "{[1]: y, 2: z}"),
-    ("1", "{a: {b: 2}}", "{a: {b: 2}}"),
+    ("null over a hash", "{a: 1}", "~", "~"),
+    ("an array over an array", "[1]", "[2]", "[2]"),
+    (
+        "the left's order stays",
+        "{a: 1, b: 2}",
+        "{b: 3, a: ~}",
+        "{a: ~, b: 3}",
+    ),
+    (
+        "a key that is an array",
+        "{[1]: x}",
+        "{[1]: y, 2: z}",
+        "{[1]: y, 2: z}",
+    ),
+    ("a hash over an integer", "1", "{a: {b: 2}}", "{a: {b: 2}}"),
 ];
 
 #[test]
 fn the_right_is_laid_over_the_left(rt: HostRuntime) -> Result<(), Fail> {
     let alloc = rt.alloc();
-    for (left, right, want) in ROWS {
+    let mut report = Report::new(alloc);
+    for (name, left, right, want) in ROWS {
         let left = tree(alloc, left)?;
         let right = tree(alloc, right)?;
         let laid = overlay(alloc, &left, &right)?;
-        assert!(rt; laid == tree(alloc, want)?, "{want}");
+        report.check(name, "another tree", laid == tree(alloc, want)?)?;
     }
+    assert!(rt; report.is_empty(), "{report}");
     Ok(())
 }
 

@@ -1,6 +1,7 @@
 use super::{NoSettings, load_settings, port};
 use std::alloc::Global;
 use std::test::Fail;
+use test_rows::Report;
 use yaml_merge::merge;
 use yaml_rust2::{Yaml, YamlLoader};
 
@@ -10,60 +11,98 @@ fn tree(alloc: Global, text: &str) -> Result<Yaml, Fail> {
     Ok(documents.pop().unwrap_or(Yaml::BadValue))
 }
 
-// A document, and what it is after its merges.
-const ROWS: [(&str, &str); 7] = [
+// What it shows, a document, and what it is after its merges.
+const ROWS: [(&str, &str, &str); 7] = [
     (
+        "a pair of its own comes before a merged one",
         "defaults: &d {host: a, port: 80}\nserver: {<<: *d, port: 8080}\n",
         "{defaults: {host: a, port: 80}, server: {port: 8080, host: a}}",
     ),
     (
+        "the first of two merged mappings counts",
         "- &a {x: 1, y: 2}\n- &b {x: 0, z: 3}\n- {<<: [*a, *b], y: 9}\n",
         "[{x: 1, y: 2}, {x: 0, z: 3}, {y: 9, x: 1, z: 3}]",
     ),
-    ("{<<: {<<: {a: 1}, b: 2}, c: 3}", "{c: 3, b: 2, a: 1}"),
-    ("{<<: {a: {b: 1}}, a: {c: 2}}", "{a: {c: 2}}"),
-    ("[{<<: {a: 1}}, [{<<: []}]]", "[{a: 1}, [{}]]"),
-    ("{{<<: {a: 1}}: 2}", "{{<<: {a: 1}}: 2}"),
-    ("[1, ~, x, {a: [b]}]", "[1, ~, x, {a: [b]}]"),
+    (
+        "a merged mapping is merged first",
+        "{<<: {<<: {a: 1}, b: 2}, c: 3}",
+        "{c: 3, b: 2, a: 1}",
+    ),
+    (
+        "values are not merged",
+        "{<<: {a: {b: 1}}, a: {c: 2}}",
+        "{a: {c: 2}}",
+    ),
+    (
+        "a merge key in arrays, and an empty list",
+        "[{<<: {a: 1}}, [{<<: []}]]",
+        "[{a: 1}, [{}]]",
+    ),
+    (
+        "a merge key in a key stays",
+        "{{<<: {a: 1}}: 2}",
+        "{{<<: {a: 1}}: 2}",
+    ),
+    ("no merge key", "[1, ~, x, {a: [b]}]", "[1, ~, x, {a: [b]}]"),
 ];
 
 #[test]
 fn merge_keys_are_carried_out(rt: HostRuntime) -> Result<(), Fail> {
     let alloc = rt.alloc();
-    for (text, want) in ROWS {
+    let mut report = Report::new(alloc);
+    for (name, text, want) in ROWS {
         let merged = merge(alloc, &tree(alloc, text)?)?;
-        assert!(rt; merged == tree(alloc, want)?, "{text}");
+        report.check(name, "another tree", merged == tree(alloc, want)?)?;
     }
+    assert!(rt; report.is_empty(), "{report}");
     Ok(())
 }
 
-// A document, and what is said of the first node that cannot be merged.
-const FAULTS: [(&str, &str); 5] = [
-    ("{<<: 5}", "$[\"<<\"]: only a mapping can be merged"),
+// What it shows, a document, and what is said of the first node that cannot be merged.
+const FAULTS: [(&str, &str, &str); 5] = [
     (
+        "an integer",
+        "{<<: 5}",
+        "$[\"<<\"]: only a mapping can be merged",
+    ),
+    (
+        "a string in a list",
         "a: [b, {<<: [{}, x]}]",
         "$[\"a\"][1][\"<<\"][1]: only a mapping can be merged",
     ),
     (
+        "null in a merged mapping, before an integer",
         "{<<: [{<<: ~}, 1]}",
         "$[\"<<\"][0][\"<<\"]: only a mapping can be merged",
     ),
     (
+        "a string below a key that is an integer",
         "{a: 1, 7: {<<: b}}",
         "$[1][\"<<\"]: only a mapping can be merged",
     ),
-    ("{<<: [[{}]]}", "$[\"<<\"][0]: only a mapping can be merged"),
+    (
+        "a list in a list",
+        "{<<: [[{}]]}",
+        "$[\"<<\"][0]: only a mapping can be merged",
+    ),
 ];
+
+// What is said of a document that cannot be merged.
+fn refusal(alloc: Global, text: &str) -> Result<String, Fail> {
+    match merge(alloc, &tree(alloc, text)?) {
+        Ok(_) => Ok(String::from_str(alloc, "merged")?),
+        Err(error) => Ok(format!(in alloc; "{error}")?),
+    }
+}
 
 #[test]
 fn nodes_that_cannot_be_merged_are_named(rt: HostRuntime) -> Result<(), Fail> {
-    let alloc = rt.alloc();
-    for (text, want) in FAULTS {
-        let Err(error) = merge(alloc, &tree(alloc, text)?) else {
-            return Err(Fail::from("merged"));
-        };
-        assert_eq!(rt; format!(in alloc; "{error}")?.as_str(), want);
+    let mut report = Report::new(rt.alloc());
+    for (name, text, want) in FAULTS {
+        let found = refusal(rt.alloc(), text)?;
+        report.compare(name, "merged", found.as_str(), want)?;
     }
+    assert!(rt; report.is_empty(), "{report}");
     Ok(())
 }
 
