@@ -157,58 +157,6 @@ module _ (Q : Result ScannerState Fault → Type 0) (t : ScannerState) (adjacent
   unfolding class_of
   greater more e = block_or_plain false 62 more e refl (λ f. f)
 
-  open_bracket : Reads 91
-  unfolding class_of
-  open_bracket more e = h.open_bracket more e
-
-  open_brace : Reads 123
-  unfolding class_of
-  open_brace more e = h.open_brace more e
-
-  close_bracket : Reads 93
-  unfolding class_of
-  close_bracket more e = h.close_bracket more e
-
-  close_brace : Reads 125
-  unfolding class_of
-  close_brace more e = h.close_brace more e
-
-  comma : Reads 44
-  unfolding class_of
-  comma more e = h.comma more e
-
-  asterisk : Reads 42
-  unfolding class_of
-  asterisk more e = h.anchor true more e
-
-  ampersand : Reads 38
-  unfolding class_of
-  ampersand more e = h.anchor false more e
-
-  exclamation : Reads 33
-  unfolding class_of
-  exclamation more e = h.tag more e
-
-  single_quote : Reads 39
-  unfolding class_of
-  single_quote more e = h.quoted true more e
-
-  double_quote : Reads 34
-  unfolding class_of
-  double_quote more e = h.quoted false more e
-
-  percent : Reads 37
-  unfolding class_of
-  percent more e = h.percent more e
-
-  at_sign : Reads 64
-  unfolding class_of
-  at_sign more e = h.at_sign more e
-
-  backtick : Reads 96
-  unfolding class_of
-  backtick more e = h.backtick more e
-
   -- ---- all characters
 
   white : (c : ℕ) → is_white c ≡ true → Reads c
@@ -241,6 +189,7 @@ module _ (Q : Result ScannerState Fault → Type 0) (t : ScannerState) (adjacent
       (plain_here c more e (other_begins (in_flow t.held) adjacent c more o))
 
   each : (c : ℕ) → Reads c
+  unfolding class_of
   each c = of_all Reads (record {
     nul = no_nul;
     space = space;
@@ -251,21 +200,21 @@ module _ (Q : Result ScannerState Fault → Type 0) (t : ScannerState) (adjacent
     dash = dash;
     question = question;
     colon = colon;
-    comma = comma;
-    open_bracket = open_bracket;
-    close_bracket = close_bracket;
-    open_brace = open_brace;
-    close_brace = close_brace;
-    asterisk = asterisk;
-    ampersand = ampersand;
-    exclamation = exclamation;
+    comma = h.comma;
+    open_bracket = h.open_bracket;
+    close_bracket = h.close_bracket;
+    open_brace = h.open_brace;
+    close_brace = h.close_brace;
+    asterisk = h.anchor true;
+    ampersand = h.anchor false;
+    exclamation = h.tag;
     bar = bar;
     greater = greater;
-    single_quote = single_quote;
-    double_quote = double_quote;
-    percent = percent;
-    at_sign = at_sign;
-    backtick = backtick;
+    single_quote = h.quoted true;
+    double_quote = h.quoted false;
+    percent = h.percent;
+    at_sign = h.at_sign;
+    backtick = h.backtick;
     other = other;
   }) c
 

@@ -332,34 +332,18 @@ adjacent_collection p f rest fills line ends clean = λ separation r e k t. by s
     by (c ∷ g) r e k t = blanks_first (is_blanks f) c g (no_blank c (rw e at ends)) ∙ sym (not_same (p.index + suc (length g)) p.index (omega arith))
 
 -- what is said of a closing bracket
-pub record IsClosing (tok : Tok) (c : ℕ) : Type 0 where
-  pub ends : Ends tok c 0 pop collection
+abbrev pub IsClosing : Tok → ℕ → Type 0
+IsClosing tok c = Ends tok c 0 pop collection
 
 levels_popped : (fs : List FlowLevel) → drop 1 (levels_of fs) ≡ levels_of (pop fs)
 levels_popped [] = refl
 levels_popped (f ∷ fs) = refl
 
 pub closing_sequence : IsClosing Tok.flow_sequence_end 93
-closing_sequence = record {
-  ends = record {
-    is_end = ends_sequence;
-    step = λ m ns. (ns, refl, omega arith);
-    before = refl;
-    levels = λ fs h. levels_popped fs;
-    paired = λ fs. refl;
-  };
-}
+closing_sequence = record { is_end = ends_sequence; step = λ m ns. (ns, refl, omega arith); before = refl; levels = λ fs h. levels_popped fs; paired = λ fs. refl }
 
 pub closing_mapping : IsClosing Tok.flow_mapping_end 125
-closing_mapping = record {
-  ends = record {
-    is_end = ends_mapping;
-    step = λ m ns. (ns, refl, omega arith);
-    before = refl;
-    levels = λ fs h. levels_popped fs;
-    paired = λ fs. refl;
-  };
-}
+closing_mapping = record { is_end = ends_mapping; step = λ m ns. (ns, refl, omega arith); before = refl; levels = λ fs h. levels_popped fs; paired = λ fs. refl }
 
 -- where a colon may stand next
 abbrev adjacent_at : List FlowLevel → (old new : ℕ) → ℕ
@@ -379,10 +363,10 @@ close_fares text tok c more o t v e s sp =
     let x : Stood text (c ∷ more) t.held.position t.held.tokens t.held.keys t.held.indents t.held.indent t.held.flow s.before =
     subst (λ y. Stood text y t.held.position t.held.tokens t.held.keys t.held.indents t.held.indent t.held.flow s.before) e s.stood in
     let z : Stood text v.rest v.held.position (closed_tokens t.held.flow t.held.position t.held.tokens ++ token t.held.position tok ∷ []) (higher_keys t.held.flow t.held.keys) t.held.indents t.held.indent (pop t.held.flow) (before_past collection g.separation) =
-    end_stood text t.held.position t.held.tokens t.held.keys t.held.indents t.held.indent t.held.flow s.before tok c more 0 pop collection o.ends higher_keys close_open (higher_many t.held.flow t.held.keys s.stood.one_each) u v e refl g x in
+    end_stood text t.held.position t.held.tokens t.held.keys t.held.indents t.held.indent t.held.flow s.before tok c more 0 pop collection o higher_keys close_open (higher_many t.held.flow t.held.keys s.stood.one_each) u v e refl g x in
     let a : Account = account_of t.held.position t.held.indent t.held.indents [] s.before in
     let further : t.held.position.index < v.held.position.index =
-    further_read a (c ∷ more) tok t.held.position v.rest v.held.position (indicated a c more tok t.held.position u v e refl o.ends.is_end.in_line g (λ next last _. o.ends.is_end.piece a next last refl)) in
+    further_read a (c ∷ more) tok t.held.position v.rest v.held.position (indicated a c more tok t.held.position u v e refl o.is_end.in_line g (λ next last _. o.is_end.piece a next last refl)) in
     record {
       before = before_past collection g.separation;
       stood = z;

@@ -1,6 +1,6 @@
 -- The text says which piece comes: at like accounts, two steps with which one text begins have the same separation, piece and token.
 use Rattle.std.proofs.Common.{◌≡◌, ◌≢◌, ℕ, List, [], ◌∷◌, ◌++◌, Bool, true, false, not, if◌then◌else◌, Option, Some, None, map, sym, ap, ◌∙◌, refl}
-use Rattle.defs_token.specs.Token.{Tok, stream_start, stream_end, version_directive, tag_directive, document_start, document_end, block_sequence_start, block_mapping_start, block_end, flow_sequence_start, flow_sequence_end, flow_mapping_start, flow_mapping_end, block_entry, flow_entry, key, value, alias, anchor, tag, scalar, plain, single_quoted, double_quoted, literal, folded}
+use Rattle.defs_token.specs.Token.{Tok, scalar, literal}
 use Rattle.defs_text.specs.Position.{position_after}
 use Rattle.defs_token.specs.Account.{innermost_column, is_adjacent, before_past}
 use Rattle.defs_text.specs.Text.{is_empty, has_no_nul}
@@ -27,31 +27,8 @@ is_marker_kind dots = true
 is_marker_kind _ = false
 
 pub marker_by_kind : (t : Tok) → is_marker (act_of t) ≡ is_marker_kind (kind_of t)
-marker_by_kind stream_start = refl
-marker_by_kind stream_end = refl
-marker_by_kind (version_directive major minor) = refl
-marker_by_kind (tag_directive handle prefix) = refl
-marker_by_kind document_start = refl
-marker_by_kind document_end = refl
-marker_by_kind block_sequence_start = refl
-marker_by_kind block_mapping_start = refl
-marker_by_kind block_end = refl
-marker_by_kind flow_sequence_start = refl
-marker_by_kind flow_sequence_end = refl
-marker_by_kind flow_mapping_start = refl
-marker_by_kind flow_mapping_end = refl
-marker_by_kind block_entry = refl
-marker_by_kind flow_entry = refl
-marker_by_kind key = refl
-marker_by_kind value = refl
-marker_by_kind (alias name) = refl
-marker_by_kind (anchor name) = refl
-marker_by_kind (tag handle suffix) = refl
-marker_by_kind (scalar plain text) = refl
-marker_by_kind (scalar single_quoted text) = refl
-marker_by_kind (scalar double_quoted text) = refl
 marker_by_kind (scalar literal text) = refl
-marker_by_kind (scalar folded text) = refl
+marker_by_kind _ = refl
 
 same_marker : (t u : Tok) → kind_of t ≡ kind_of u → is_marker (act_of t) ≡ is_marker (act_of u)
 same_marker t u k = marker_by_kind t ∙ (ap is_marker_kind k ∙ sym (marker_by_kind u))

@@ -15,7 +15,7 @@ use Rattle.defs_row.specs.Indentation.{awaits_past, begins_line, is_indented_by_
 use Rattle.defs_row.specs.Lines.{further_lines_stand}
 use Rattle.defs_row.specs.Following.{may_precede}
 use Rattle.defs_row.specs.Key.{Line, free, taken, begins_free_line, line_past as line_of_piece}
-use Rattle.defs_row.specs.FlowEntry.{Had, fresh, filled, waits, settled, Pair, Entry, is_keyed, takes_pair, pair_past, with_had, had_after, renewed, begun_by, is_renewed, entries_past}
+use Rattle.defs_row.specs.FlowEntry.{Had, waits, settled, Pair, Entry, is_keyed, takes_pair, pair_past, with_had, had_after, renewed, begun_by, is_renewed, entries_past}
 use Rattle.defs_row.specs.Account.{Site, Account, before_by, site_in, is_deep_enough, least_for, seen}
 use Rattle.defs_row.specs.Tokens.{put, shown_position, ends_at, begun_outside, pair_position, begun_inside, colon_of}
 use Rattle.model_scanner.specs.declared.level.Indent.{Indent}

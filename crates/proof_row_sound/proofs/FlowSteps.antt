@@ -1,5 +1,5 @@
 -- A step in flow before and after which no key of its entry waits: what is read, and what the scanner holds there.
-use Rattle.std.proofs.Common.{ℕ, List, ◌∷◌, Bool, false, Option}
+use Rattle.std.proofs.Common.{ℕ, List, ◌∷◌, false, Option}
 use Rattle.defs_text.specs.Position.{Position}
 use Rattle.defs_token.specs.Token.{Tok, Token}
 use Rattle.defs_row.specs.Step.{Step}

@@ -1,22 +1,19 @@
 -- A part of a node in flow, be it an opening bracket or no collection: whatever completes the row after it completes it from before.
 use Rattle.std.proofs.Common.{◌≡◌, ℕ, suc, List, [], ◌∷◌, ◌++◌, Bool, true, false, not, ◌&&◌, if◌then◌else◌, length, Option, Some, None, refl, ap, sym, ◌∙◌, subst, ◌⊎◌, inl, inr}
-use Rattle.defs_text.specs.Position.{Position, position_after}
-use Rattle.defs_text.specs.Text.{is_empty}
-use Rattle.defs_token.specs.Token.{Tok, Token, flow_mapping_start}
-use Rattle.defs_token.specs.Separation.{is_separation}
+use Rattle.defs_text.specs.Position.{Position}
+use Rattle.defs_token.specs.Token.{Token, flow_mapping_start}
 use Rattle.defs_token.specs.Piece.{IsPiece}
 use Rattle.defs_row.specs.Step.{Step, spelled, act_of, gives_node, has_break}
 use Rattle.defs_row.specs.Key.{Line, is_waiting, begins_free_line, line_past_separation}
 use Rattle.defs_row.specs.FlowEntry.{Had, fresh, filled, waits, settled, Entry, is_keyed, takes_pair, begun_by, is_renewed, entries_past}
-use Rattle.defs_row.specs.Account.{Site, Account, site_in, site_past, may_stand, on_one_line, past_inside, past_piece, past_site, account_past, level_of, seen}
+use Rattle.defs_row.specs.Account.{Site, Account, site_in, site_past, on_one_line, past_inside, past_piece, past_site, account_past, level_of, seen}
 use Rattle.defs_row.specs.Tokens.{put, pair_position, shown_position, Colon, colon_of, key_tokens, tokens_of_step, tokens_at}
 use Rattle.defs_row.specs.Row.{IsWritten}
-use Rattle.defs_token.specs.Account.{FlowKind, Level}
+use Rattle.defs_token.specs.Account.{Level}
 use Rattle.std.specs.Prelude.{map}
 use Rattle.model_scanner.specs.State.{Key, pop}
 use Rattle.proof_row_sound.specs.Choices.{line_by, had_by, entry_by, entries_by, first_choice, outside_key, chosen, MayChoose}
 use Rattle.proof_row_sound.specs.Completes.{put_key, with_had, with_keys, tokens_up_to, Completes}
-use Rattle.proof_row_sound.specs.Arrives.{site_here}
 use Rattle.proof_row_sound.specs.Stands.{HasHadHere}
 use Rattle.proof_row_sound.proofs.Begun.{with_begun, with_no_key, choices_around, depth_begun, begun_before, keys_around_begun}
 use Rattle.proof_row_sound.proofs.Completed.{completed_past}

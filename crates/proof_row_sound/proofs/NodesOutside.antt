@@ -1,23 +1,20 @@
 -- A part of a node outside flow, be it an opening bracket or no collection: whatever completes the row after it completes it from before.
 use Rattle.std.proofs.Common.{◌≡◌, ℕ, List, [], ◌∷◌, ◌++◌, Bool, true, false, not, ◌&&◌, if◌then◌else◌, length, Option, Some, None, refl, ap, sym, ◌∙◌, subst, append_assoc}
-use Rattle.defs_text.specs.Position.{Position, position_after}
-use Rattle.defs_text.specs.Text.{is_empty}
-use Rattle.defs_token.specs.Token.{Tok, Token, block_mapping_start}
-use Rattle.defs_token.specs.Account.{FlowKind}
-use Rattle.defs_token.specs.Separation.{is_separation}
+use Rattle.defs_text.specs.Position.{Position}
+use Rattle.defs_token.specs.Token.{Token, block_mapping_start}
 use Rattle.defs_token.specs.Piece.{IsPiece}
-use Rattle.defs_row.specs.Step.{Step, spelled, act_of, gives_node, has_break}
+use Rattle.defs_row.specs.Step.{Step, spelled, act_of, has_break}
 use Rattle.defs_row.specs.Column.{is_deeper, is_in_column}
 use Rattle.defs_row.specs.Key.{Line, free, taken, waits, is_waiting, begins_free_line, line_past_separation, line_past}
-use Rattle.defs_row.specs.FlowEntry.{begun_by, is_renewed}
-use Rattle.defs_row.specs.Account.{Site, Account, site_in, site_past, may_stand, on_one_line, past_outside, past_piece, past_site, account_past, seen}
+use Rattle.defs_row.specs.FlowEntry.{is_renewed}
+use Rattle.defs_row.specs.Account.{Site, Account, site_in, site_past, on_one_line, past_outside, past_piece, past_site, account_past, seen}
 use Rattle.defs_row.specs.Tokens.{put, shown_position, ends_at, colon_of, key_tokens, Colon, tokens_of_step, tokens_at}
 use Rattle.model_scanner.specs.State.{Key}
 use Rattle.defs_row.specs.Row.{IsWritten}
 use Rattle.proof_cut.specs.Here.{IsLive}
 use Rattle.proof_row_sound.specs.Choices.{line_by, MayChoose}
 use Rattle.proof_row_sound.specs.Completes.{put_key, with_line, tokens_up_to, Completes}
-use Rattle.proof_row_sound.specs.Arrives.{site_here, IsLineHere}
+use Rattle.proof_row_sound.specs.Arrives.{IsLineHere}
 use Rattle.proof_row_sound.proofs.Begun.{with_begun, with_no_key, depth_begun, keys_around_begun}
 use Rattle.proof_row_sound.proofs.Completed.{completed_past}
 use Rattle.proof_row_sound.proofs.Inserts.{AreAmong, line_first}

@@ -15,9 +15,9 @@ use Rattle.defs_row.specs.Step.{gives_question, has_break, another}
 use Rattle.defs_row.specs.Column.{is_deeper, is_in_column, opened, not_ended}
 use Rattle.defs_row.specs.Indentation.{has_tab_within, last_line, has_tab_before_piece}
 use Rattle.defs_row.specs.Key.{free, Outside, line_past}
-use Rattle.defs_row.specs.FlowEntry.{Had, fresh, filled, waits, settled, Pair, no_pair, single_pair, asked_pair, Entry, is_keyed, takes_pair, is_renewed, renewed, had_after, pair_past, with_had, entries_past}
+use Rattle.defs_row.specs.FlowEntry.{Had, waits, settled, Pair, no_pair, single_pair, asked_pair, Entry, is_keyed, takes_pair, is_renewed, renewed, had_after, pair_past, with_had, entries_past}
 use Rattle.model_scanner.specs.declared.level.FlowLevel.{FlowLevel}
-use Rattle.model_scanner.specs.declared.level.FlowLevel.TheVariants.{Mapping, Entry as InEntry, Keyed, Pair as InPair}
+use Rattle.model_scanner.specs.declared.level.FlowLevel.TheVariants.{Mapping, Entry as InEntry, Keyed}
 use Rattle.defs_row.specs.Tokens.{put, ends_at}
 use Rattle.defs_row.specs.Account.{Site, site_in}
 use Rattle.model_lexers.specs.Machine.{past}

@@ -1,18 +1,18 @@
 -- A piece in flow with which its entry goes on, and before and after which no key of the entry waits: `?`, a colon without a key, and a line for the document.
-use Rattle.std.proofs.Common.{◌≡◌, ℕ, suc, List, [], ◌∷◌, ◌++◌, Bool, true, false, not, ◌&&◌, if◌then◌else◌, length, Option, Some, None, refl, ap, sym, ◌∙◌, subst}
+use Rattle.std.proofs.Common.{◌≡◌, ℕ, suc, List, [], ◌∷◌, ◌++◌, Bool, true, false, not, ◌&&◌, if◌then◌else◌, length, Some, None, refl, ap, sym, ◌∙◌, subst}
 use Rattle.defs_text.specs.Position.{Position, position_after}
 use Rattle.defs_text.specs.Text.{is_empty}
-use Rattle.defs_token.specs.Token.{Tok, Token}
+use Rattle.defs_token.specs.Token.{Token}
 use Rattle.defs_token.specs.Account.{Level}
 use Rattle.defs_token.specs.Separation.{is_separation}
 use Rattle.defs_token.specs.Piece.{IsPiece}
-use Rattle.defs_row.specs.Step.{Step, spelled, Act, act_of, gives_node, gives_block_scalar, gives_dash, gives_question, gives_colon, gives_comma, gives_closing, gives_marker, gives_nothing, has_break}
+use Rattle.defs_row.specs.Step.{Step, spelled, Act, act_of, gives_colon, has_break}
 use Rattle.defs_row.specs.Key.{Line, is_waiting, begins_free_line, line_past_separation}
-use Rattle.defs_row.specs.FlowEntry.{Had, fresh, filled, waits, settled, Pair, Entry, is_keyed, takes_pair, begun_by, is_renewed, entries_past}
+use Rattle.defs_row.specs.FlowEntry.{Had, waits, Pair, Entry, is_keyed, takes_pair, begun_by, is_renewed, entries_past}
 use Rattle.defs_row.specs.Account.{Site, Account, site_at, site_past, may_stand, on_one_line, past_inside, past_piece, account_past, seen}
 use Rattle.defs_row.specs.Tokens.{put, pair_position, shown_position, Colon, colon_of, key_end, begun_inside, tokens_of_step}
-use Rattle.model_scanner.specs.State.{Key, pop}
-use Rattle.proof_row_sound.specs.Choices.{line_by, had_by, entries_by, outside_key, chosen, MayChoose}
+use Rattle.model_scanner.specs.State.{pop}
+use Rattle.proof_row_sound.specs.Choices.{line_by, had_by, entries_by, chosen, MayChoose}
 use Rattle.proof_row_sound.specs.Completes.{with_had, with_keys, tokens_up_to, Completes}
 use Rattle.proof_row_sound.proofs.Completed.{completed_past}
 use Rattle.proof_row_sound.proofs.FlowSteps.{FlowStep, step_of, base, keys, outside}

@@ -5,9 +5,9 @@ use Rattle.defs_text.specs.Text.{is_empty}
 use Rattle.defs_token.specs.Token.{Tok, Token}
 use Rattle.defs_token.specs.Separation.{is_separation}
 use Rattle.defs_token.specs.Piece.{IsPiece}
-use Rattle.defs_row.specs.Step.{Step, spelled, Act, act_of, gives_node, gives_block_scalar, gives_dash, gives_question, gives_colon, gives_comma, gives_closing, gives_marker, gives_nothing, has_break}
+use Rattle.defs_row.specs.Step.{Step, spelled, Act, act_of, gives_colon, has_break}
 use Rattle.defs_row.specs.Column.{is_in_column, is_deeper}
-use Rattle.defs_row.specs.Key.{Line, free, taken, waits, is_waiting, begins_free_line, line_past_separation, Outside, line_past}
+use Rattle.defs_row.specs.Key.{Line, waits, is_waiting, begins_free_line, line_past_separation, Outside, line_past}
 use Rattle.defs_row.specs.FlowEntry.{begun_by, is_renewed}
 use Rattle.defs_row.specs.Account.{Site, Account, site_at, site_past, may_stand, on_one_line, past_outside, past_piece, account_past, seen}
 use Rattle.defs_row.specs.Tokens.{put, shown_position, ends_at, begun_outside, key_end, tokens_of_step}

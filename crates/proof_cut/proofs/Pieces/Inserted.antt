@@ -4,7 +4,7 @@ use Rattle.std.specs.List.{insert}
 use Rattle.std.proofs.lemmas.Bool.{and_parts, eqb-true}
 use Rattle.defs_text.specs.Position.{Position, position_past, position_after}
 use Rattle.defs_text.specs.Text.{is_empty}
-use Rattle.defs_token.specs.Token.{Tok, Token, stream_start, stream_end, version_directive, tag_directive, document_start, document_end, block_sequence_start, block_mapping_start, block_end, flow_sequence_start, flow_sequence_end, flow_mapping_start, flow_mapping_end, block_entry, flow_entry, key, value, alias, anchor, tag, scalar}
+use Rattle.defs_token.specs.Token.{Tok, Token, block_sequence_start, block_mapping_start, block_end, flow_mapping_start}
 use Rattle.defs_text.specs.Classes.{is_blank, is_break}
 use Rattle.defs_text.specs.Breaks.{is_before_line_feed, ends_line, has_no_break}
 use Rattle.defs_token.specs.Account.{sequence, Level, Account, before_past, settled, blocks_at, blocks_past, levels_past, account_past_separation, account_past_token}
@@ -35,27 +35,10 @@ key_after a w ws f p = bare_after a w ws f
 -- ---- other block collections
 
 key_keeps : (bs : List (Option ℕ)) (t : Tok) → is_of_key t ≡ true → blocks_past bs t ≡ bs
-key_keeps bs (alias x) k = refl
-key_keeps bs (anchor x) k = refl
-key_keeps bs (tag x s) k = refl
-key_keeps bs (scalar s x) k = refl
-key_keeps bs flow_sequence_start k = refl
-key_keeps bs flow_sequence_end k = refl
-key_keeps bs flow_mapping_start k = refl
-key_keeps bs flow_mapping_end k = refl
-key_keeps bs flow_entry k = refl
-key_keeps bs key k = refl
-key_keeps bs value k = refl
-key_keeps bs stream_start k = refl
-key_keeps bs stream_end k = refl
-key_keeps bs (version_directive x y) k = refl
-key_keeps bs (tag_directive x y) k = refl
-key_keeps bs document_start k = refl
-key_keeps bs document_end k = refl
-key_keeps bs block_entry k = refl
 key_keeps bs block_sequence_start k = absurd (cc k)
 key_keeps bs block_mapping_start k = absurd (cc k)
 key_keeps bs block_end k = absurd (cc k)
+key_keeps bs _ k = refl
 
 -- whether each block collection has its column
 abbrev AreSettled : List (Option ℕ) → Type 0

@@ -18,14 +18,7 @@ use Rattle.proof_layout_trees.proofs.Layouts.Derived.{scalar, inline, whole, blo
 -- a value after a key: it is no array at the key's column
 whole_part : (v : Value) → IsBasicValue v → part v ≡ whole (node None v)
 whole_part (Value.at_key after g es) h = absurd h
-whole_part (Value.beside more i after) h = refl
-whole_part (Value.literal more column text ls) h = refl
-whole_part (Value.folded more column strips text ls) h = refl
-whole_part (Value.json more v) h = refl
-whole_part (Value.compact more b) h = refl
-whole_part (Value.below after g column b) h = refl
-whole_part (Value.anchored more name v) h = refl
-whole_part (Value.alias more name t) h = refl
+whole_part _ h = refl
 
 -- ---- its tokens
 

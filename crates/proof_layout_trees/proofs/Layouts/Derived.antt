@@ -132,25 +132,11 @@ inline_told Inline.empty_hash r = refl
 
 explicit_follows : (k : Value) → IsExplicitKey k → MayFollowMark k
 explicit_follows (Value.at_key after g es) h = h
-explicit_follows (Value.beside more i after) h = tt
-explicit_follows (Value.literal more column text ls) h = tt
-explicit_follows (Value.folded more column strips text ls) h = tt
-explicit_follows (Value.json more v) h = tt
-explicit_follows (Value.compact more b) h = tt
-explicit_follows (Value.below after g column b) h = tt
-explicit_follows (Value.anchored more name v) h = tt
-explicit_follows (Value.alias more name t) h = tt
+explicit_follows _ h = tt
 
 anchorable_follows : (v : Value) → MayBeAnchored v → MayFollowMark v
 anchorable_follows (Value.at_key after g es) h = h
-anchorable_follows (Value.beside more i after) h = tt
-anchorable_follows (Value.literal more column text ls) h = tt
-anchorable_follows (Value.folded more column strips text ls) h = tt
-anchorable_follows (Value.json more v) h = tt
-anchorable_follows (Value.compact more b) h = tt
-anchorable_follows (Value.below after g column b) h = tt
-anchorable_follows (Value.anchored more name v) h = tt
-anchorable_follows (Value.alias more name t) h = tt
+anchorable_follows _ h = tt
 
 mutual
   block_told : (c : ℕ) (a : List Anchor) (b : Block) (r : List Tok) → IsBlock c a b → content_tokens (block b) r ≡ block_tokens b r

@@ -102,14 +102,7 @@ dashes_same (Entries.entry v g es) r = ap (node_events (node None v)) (dashes_sa
 
 part_same : (v : Value) (r : List Raw) → part_events (part v) r ≡ node_events (node None v) r
 part_same (Value.at_key after g es) r = ap (λ es. Raw.sequence_start None None ∷ es) (dashes_same es r)
-part_same (Value.beside more i after) r = refl
-part_same (Value.literal more column text ls) r = refl
-part_same (Value.folded more column strips text ls) r = refl
-part_same (Value.json more v) r = refl
-part_same (Value.compact more b) r = refl
-part_same (Value.below after g column b) r = refl
-part_same (Value.anchored more name v) r = refl
-part_same (Value.alias more name t) r = refl
+part_same _ r = refl
 
 -- the same events
 part_reads : (keep : Bool) (s : Names) (a b : List Anchor) (read : Anchors) (v : Value) → ReadsNode keep s a b read (λ r. node_events (node None v) r) (value_tree v)
