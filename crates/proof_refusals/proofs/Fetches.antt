@@ -50,9 +50,9 @@ module _ (text : List ℕ) (t : ScannerState) (a : Arrives text t) (some : is_em
         colon = λ more e i. colon_told text t a some carried more e;
         open_bracket = λ more e. opening_told text t a some carried Entry Tok.flow_sequence_start 91 more e (inl refl);
         open_brace = λ more e. opening_told text t a some carried Mapping Tok.flow_mapping_start 123 more e (inr refl);
-        close_bracket = λ more e. closing_told text t a some carried Tok.flow_sequence_end;
-        close_brace = λ more e. closing_told text t a some carried Tok.flow_mapping_end;
-        comma = λ more e. comma_told text t a some carried;
+        close_bracket = λ more e. closing_told text t a some carried Tok.flow_sequence_end 93 more e refl;
+        close_brace = λ more e. closing_told text t a some carried Tok.flow_mapping_end 125 more e refl;
+        comma = λ more e. comma_told text t a some carried more e;
         percent = λ more e. fault {f = At problem.UnexpectedPercent t.held.position} (λ _. none_here text t a some carried problem.UnexpectedPercent (none.percent more e (no_column more e)));
         at_sign = λ more e. fault {f = At problem.UnexpectedAt t.held.position} (λ _. none_here text t a some carried problem.UnexpectedAt (none.at_sign more e));
         backtick = λ more e. fault {f = At problem.UnexpectedBacktick t.held.position} (λ _. none_here text t a some carried problem.UnexpectedBacktick (none.backtick more e));

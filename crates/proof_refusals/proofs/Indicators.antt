@@ -1,6 +1,7 @@
 -- Faults of indicators, markers and directives.
 use Rattle.std.proofs.Common.{◌≡◌, ℕ, suc, ◌≤◌, List, [], ◌∷◌, ◌++◌, Bool, true, false, not, ◌==◌, ◌&&◌, ◌||◌, nat_le, nat_lt, slice_index, append_assoc, length, if◌then◌else◌, Option, Some, None, Result, Ok, Err, refl, ap, sym, ◌∙◌, subst, arith, ◌+◌}
 use Rattle.std.specs.Prelude.{◌⊎◌}
+use Rattle.std.proofs.Common.{inl, inr}
 use Rattle.std.proofs.lemmas.Bool.{and_parts, eqb-true}
 use Rattle.std.proofs.lemmas.Bool.Decides.{nat_tests}
 use Rattle.defs_text.specs.Breaks.{has_no_break}
@@ -26,11 +27,11 @@ use Rattle.model_lexers.specs.Space.{space}
 use Rattle.model_lexers.specs.Directive.{directive}
 use Rattle.model_scanner.specs.declared.level.FlowLevel.{FlowLevel}
 use Rattle.model_scanner.specs.declared.level.FlowLevel.TheVariants as level
-use Rattle.model_scanner.specs.State.{Key, Held, ScannerState, peek, after, go_on, skip_indicator, in_flow, try_held, on_held}
+use Rattle.model_scanner.specs.State.{Key, Held, ScannerState, peek, after, pop, with_top, go_on, lexed, skip_indicator, in_flow, try_held, on_held}
 use Rattle.model_scanner.specs.Keys.{is_required, top_key, remove_implicit_key}
 use Rattle.model_scanner.specs.Indents.{unroll_indent, roll_indent, roll_one_col_indent, with_levels, Levels}
 use Rattle.model_scanner.specs.Space.{skip_yaml_whitespace, white}
-use Rattle.model_scanner.specs.Flow.{allow_key, increase_flow_level, deepened_flow, begin_flow, pass_indicator, fetch_flow_collection_start, ended_flow, end_flow, fetch_flow_collection_end, next_entry, end_entry, fetch_flow_entry}
+use Rattle.model_scanner.specs.Flow.{allow_key, increase_flow_level, deepened_flow, begin_flow, pass_indicator, fetch_flow_collection_start, end_pair, end_flow_pair, decrease_flow_level, ended_flow, end_flow, fetch_flow_collection_end, next_entry, end_entry, fetch_flow_entry}
 use Rattle.model_scanner.specs.Block.{last_property, at_margin, check_block_entry, check_dash, roll_entry, fetch_block_entry, begin_key, check_key_space, fetch_key, check_after_tab, check_value_space, opens_pair, paired, begin_pair, insert_key, begin_keyless_pair, begin_keyless_mapping, begin_keyless_value, value_of, fetch_value}
 use Rattle.model_scanner.specs.Document.{closed_key, begin_line, fetch_directive, fetch_document_marker, check_document_end, fetch_document_end}
 use Rattle.model_scanner.proofs.Holds as holds
@@ -51,8 +52,8 @@ use Rattle.proof_row_sound.proofs.DocumentLines.{line_begun}
 use Rattle.proof_lexers.proofs.Bridges.{same_alpha}
 use Rattle.proof_lexers.proofs.Separation.Spaces.{spaces_are_passed}
 use Rattle.proof_cut.proofs.Dispatch.{gap_here}
-use Rattle.proof_cut.proofs.Levels.{rolled_one_is}
-use Rattle.proof_cut.proofs.Passes.{Spaced, spaces_skipped}
+use Rattle.proof_cut.proofs.Levels.{one_indents, one_indent, rolled_one_is}
+use Rattle.proof_cut.proofs.Passes.{Spaced, spaced, spaces_skipped}
 use Rattle.proof_cut.proofs.Positions.{not_before_after}
 use Rattle.proof_row_sound.proofs.QuotedEnds.{not_at_end}
 use Rattle.yaml_tokens.specs.declared.problem.Problem.{Problem}
@@ -61,10 +62,10 @@ use Rattle.proof_cut.proofs.Saved.{saved_keys, saved_is}
 use Rattle.proof_refusals.specs.NoPiece as none
 use Rattle.proof_refusals.specs.NoPiece.{IsFollowed}
 use Rattle.proof_refusals.specs.Stuck as defs
-use Rattle.proof_refusals.specs.Stuck.{IsStuck, Fails, followed, may_not_stand, MayNotStand, may_begin, is_free_line}
+use Rattle.proof_refusals.specs.Stuck.{IsStuck, Fails, may_not_stand, MayNotStand, may_begin, is_free_line}
 use Rattle.proof_refusals.proofs.Faults.{Faults, fault, goes, read, in_turn, tried, checked, either}
-use Rattle.proof_refusals.proofs.Spaces.{space_told, spaces_told}
-use Rattle.proof_refusals.proofs.Places.{IsCarried, Told, not_told, many_levels, stuck, in_flow_is}
+use Rattle.proof_refusals.proofs.Spaces.{space_told, spaces_told, no_comment, no_comment_left}
+use Rattle.proof_refusals.proofs.Places.{IsCarried, Told, not_told, many_levels, stuck, in_flow_is, followed_stuck}
 use Rattle.proof_refusals.proofs.Nodes.{none_begins}
 
 -- ---- keys that must be one
@@ -133,14 +134,10 @@ module _ (text : List ℕ) (t : ScannerState) (a : Arrives text t) (some : is_em
 
   -- ---- what follows
 
-  -- the text after a piece is what the text is stuck by
-  followed_stuck : (why : Problem) (at : Position) → t.held.position.line ≤ at.line → IsFollowed (in_flow t.held) t.held.position t.rest why at → IsStuck text why at
-  followed_stuck why at later x = stuck text t a some carried [] why at later (λ c may. followed (subst (λ b. IsFollowed b t.held.position t.rest why at) (sym (in_flow_is text t a some carried c [])) x))
-
   -- a fault at the end of what was passed on the line
   followed_at : (why : Problem) (q : Position) (p : Position) (passed content : List ℕ) → t.held.position.line ≤ p.line → q ≡ position_after p passed content
       → IsFollowed (in_flow t.held) t.held.position t.rest why (position_after p passed content) → Told text (At why q)
-  followed_at why q p passed content later e x = λ _. subst (λ z. IsStuck text why z) (sym e) (followed_stuck why (position_after p passed content) (let m = not_before_after p passed content in omega (arith, later, m.0)) x)
+  followed_at why q p passed content later e x = λ _. subst (λ z. IsStuck text why z) (sym e) (followed_stuck text t a some carried why (position_after p passed content) (let m = not_before_after p passed content in omega (arith, later, m.0)) x)
 
   three_past : (p : Position) → past (past (past p)) ≡ further 3 p
   three_past p =
@@ -169,7 +166,7 @@ module _ (text : List ℕ) (t : ScannerState) (a : Arrives text t) (some : is_em
   pub document_end_told : (more : List ℕ) → t.rest ≡ 46 ∷ 46 ∷ 46 ∷ more → is_at_gap more ≡ true → t.held.position.col ≡ 0 → Faults (Told text) (fetch_document_end t)
   unfolding fetch_document_end
   document_end_told more e gap col =
-      in_turn (marker_told Tok.document_end) (λ u k. in_turn (spaces_told text Yes u) (λ v i.
+      in_turn (marker_told Tok.document_end) (λ u k. in_turn (spaces_told text Yes u (λ h. absurd (cc (h, ap (λ r. begins_with 35 r) (held_of u (marked_state Tok.document_end 46 more e) k).0, no_comment more gap)))) (λ v i.
       end_checked u v more e gap col (held_of u (marked_state Tok.document_end 46 more e) k) (held_of v (spaces_skipped Yes u) i)))
 
   -- ---- what may begin
@@ -273,6 +270,13 @@ module _ (text : List ℕ) (t : ScannerState) (a : Arrives text t) (some : is_em
       margin f None = holds.went (f, refl)
       margin f (Some q) = holds.checked ((t.held.position.col == 0) && (q.col == 0) && nat_lt 0 t.held.indent) (At problem.AnchorIndentation q) (λ _. holds.went (f, refl))
 
+  -- no comment stands after what was passed behind a dash
+  dash_spaced : (u : ScannerState) → Holds (λ v. begins_with 35 v.rest ≡ false) (lexed (space Yes u.rest u.held.position) u.held check_dash)
+  unfolding check_dash
+  dash_spaced u =
+      spaced Yes u check_dash (λ v. begins_with 35 v.rest ≡ false) (λ w v s.
+      holds.checked (w.found_tabs && (slice_index v.rest 0 == 45) && is_blank_or_breakz (slice_index v.rest 1)) (At problem.TabAfterDash v.held.position) (λ _. holds.went (no_comment_left Yes v.rest s.ends)))
+
   pub dash_told : (more : List ℕ) → t.rest ≡ 45 ∷ more → is_at_gap more ≡ true → Faults (Told text) (fetch_block_entry t)
   unfolding fetch_block_entry
   dash_told more e gap =
@@ -281,9 +285,9 @@ module _ (text : List ℕ) (t : ScannerState) (a : Arrives text t) (some : is_em
       let rolled : ScannerState = on_held (roll_indent t.held.position.col None Tok.block_sequence_start t.held.position) (skip_indicator u) in
       let place : rolled.held.position ≡ past t.held.position = rolled_place t.held.position.col None Tok.block_sequence_start t.held.position (skip_indicator u).held ∙ ap (λ h. past h.position) was.2 in
       let left : rolled.rest ≡ more = ap after (was.0 ∙ e) in
-      in_turn (read rolled.held (space Yes rolled.rest rolled.held.position) check_dash (λ f k. space_told text Yes rolled.rest rolled.held.position f k)
+      in_turn (read rolled.held (space Yes rolled.rest rolled.held.position) check_dash (λ f k. space_told text Yes rolled.rest rolled.held.position (λ h. absurd (cc (h, ap (λ r. begins_with 35 r) left, no_comment more gap))) f k)
       (λ x k. dash_checked more e gap was.1 rolled.held place x (ap (λ r. space Yes r rolled.held.position) (sym left) ∙ k))) (λ v j.
-      in_turn (spaces_told text No v) (λ w k.
+      in_turn (spaces_told text No v (λ h. absurd (cc (h, held_of v (dash_spaced rolled) j)))) (λ w k.
       in_turn (tried (roll_entry w) (remove_told text (roll_entry w).held)) (λ x l. goes))))
 
   key_begun : (more : List ℕ) → t.rest ≡ 63 ∷ more → is_at_gap more ≡ true → Faults (Told text) (begin_key t.held)
@@ -448,12 +452,16 @@ module _ (text : List ℕ) (t : ScannerState) (a : Arrives text t) (some : is_em
   value_checked : (more : List ℕ) → t.rest ≡ 58 ∷ more → (u : ScannerState) → u.rest ≡ more → u.held.position ≡ past t.held.position → Faults (Told text) (check_value_space u)
   unfolding check_value_space
   value_checked more e u left place =
-      either (peek u.rest == 9) (λ tab. read u.held (space Yes u.rest u.held.position) check_after_tab (λ f k. space_told text Yes u.rest u.held.position f k)
+      either (peek u.rest == 9) (λ tab. read u.held (space Yes u.rest u.held.position) check_after_tab (λ f k. space_told text Yes u.rest u.held.position (λ h. absurd (not_both u.rest tab h)) f k)
       (λ x k. tab_checked more e (tab_first more (ap (λ r. peek r == 9) (sym left) ∙ tab)) u.held place x (ap (λ r. space Yes r u.held.position) (sym left) ∙ k))) (λ _. goes)
     where
       tab_first : (r : List ℕ) → (peek r == 9) ≡ true → begins_with 9 r ≡ true
       tab_first [] h = absurd (cc h)
       tab_first (c ∷ r) h = h
+
+      not_both : (r : List ℕ) → (peek r == 9) ≡ true → begins_with 35 r ≡ true → ⊥
+      not_both [] h i = cc h
+      not_both (c ∷ r) h i = let first : c ≡ 9 = eqb-true c 9 h in let second : c ≡ 35 = eqb-true c 35 i in omega (arith, first, second)
 
   -- only the position is another
   value_held : (u : ScannerState) → Holds (λ w. w.held ≡ record u.held { position = w.held.position }) (check_value_space u)
@@ -475,9 +483,33 @@ module _ (text : List ℕ) (t : ScannerState) (a : Arrives text t) (some : is_em
 
   -- ---- brackets and commas
 
-  indicator_passed : (u : ScannerState) → Faults (Told text) (pass_indicator u)
+  -- a state where nothing was passed yet
+  abbrev IsHere : ScannerState → Type 0
+  IsHere u = (u.rest ≡ t.rest) × (u.held.position ≡ t.held.position)
+
+  indicator_passed : (c : ℕ) (more : List ℕ) → t.rest ≡ c ∷ more → none.is_flow_indicator c ≡ true → (u : ScannerState) → IsHere u → Faults (Told text) (pass_indicator u)
   unfolding pass_indicator
-  indicator_passed u = spaces_told text Yes _
+  indicator_passed c more e is u h =
+      spaces_told text Yes (skip_indicator u) (λ k.
+      followed_at problem.CommentNotSeparated (past u.held.position) (further 1 t.held.position) [] (after u.rest) (omega arith) (ap past h.1)
+      (none.glued c more e is (ap (λ r. begins_with 35 (after r)) (sym e) ∙ (ap (λ r. begins_with 35 (after r)) (sym h.0) ∙ k))))
+
+  begun_here : (kind : FlowLevel) → Holds (λ s. s.position ≡ t.held.position) (begin_flow kind t.held)
+  unfolding begin_flow increase_flow_level
+  begun_here kind =
+      subst (λ s. Holds (λ v. v.position ≡ t.held.position) (deepened_flow (if nat_le 255 (length s.flow) then Err (At problem.FlowTooDeep s.position) else Ok (record s { keys = None ∷ s.keys; flow = kind ∷ s.flow }))))
+      (sym (ap roll_one_col_indent (saved_is t.held) ∙ rolled_one_is (record t.held { keys = saved_keys t.held })))
+      (by (nat_le 255 (length t.held.flow)) rolled refl)
+    where
+      rolled : Held
+      rolled = record t.held { keys = saved_keys t.held; indents = one_indents (record t.held { keys = saved_keys t.held }); indent = one_indent (record t.held { keys = saved_keys t.held }) }
+
+      by : (b : Bool) (s : Held) → s.position ≡ t.held.position → Holds (λ v. v.position ≡ t.held.position) (deepened_flow (if b then Err (At problem.FlowTooDeep s.position) else Ok (record s { keys = None ∷ s.keys; flow = kind ∷ s.flow })))
+      by true s e = holds.refused
+      by false s e = holds.went e
+
+  is_here : (f : Held → Result Held Fault) (u : ScannerState) → Holds (λ s. s.position ≡ t.held.position) (f t.held) → try_held f t ≡ Ok u → IsHere u
+  is_here f u h i = held_of {P = IsHere} u (holds.tried t (f t.held) h (λ s k. (refl, k))) i
 
   many_entries : (cs : List Bool) (ks : List (Option Key)) (es : List Entry) → length (entries_by cs ks es) ≡ length es
   many_entries cs ks [] = refl
@@ -501,20 +533,57 @@ module _ (text : List ℕ) (t : ScannerState) (a : Arrives text t) (some : is_em
 
   pub opening_told : (kind : FlowLevel) (tok : Tok) (bracket : ℕ) (more : List ℕ) → t.rest ≡ bracket ∷ more → (bracket ≡ 91) ⊎ (bracket ≡ 123) → Faults (Told text) (fetch_flow_collection_start kind tok t)
   unfolding fetch_flow_collection_start
-  opening_told kind tok bracket more e is = in_turn (tried t (flow_begun kind bracket more e is)) (λ u i. in_turn (indicator_passed u) (λ v j. goes))
+  opening_told kind tok bracket more e is = in_turn (tried t (flow_begun kind bracket more e is)) (λ u i. in_turn (indicator_passed bracket more e (by bracket is) u (is_here (begin_flow kind) u (begun_here kind) i)) (λ v j. goes))
+    where
+      by : (c : ℕ) → (c ≡ 91) ⊎ (c ≡ 123) → none.is_flow_indicator c ≡ true
+      by c (inl h) = rw h refl
+      by c (inr h) = rw h refl
 
   ended_told : {r : Result Held Fault} → Faults (Told text) r → Faults (Told text) (ended_flow r)
   ended_told (fault p) = fault p
   ended_told goes = goes
 
-  pub closing_told : (tok : Tok) → Faults (Told text) (fetch_flow_collection_end tok t)
+  pair_ended : (fs : List FlowLevel) (s : Held) → (end_pair fs s).position ≡ s.position
+  pair_ended [] s = refl
+  pair_ended (level.Mapping ∷ fs) s = refl
+  pair_ended (level.Entry ∷ fs) s = refl
+  pair_ended (level.Keyed ∷ fs) s = refl
+  pair_ended (level.Pair ∷ fs) s = refl
+
+  ended_here : Holds (λ s. s.position ≡ t.held.position) (end_flow t.held)
+  unfolding end_flow end_flow_pair decrease_flow_level remove_implicit_key
+  ended_here = by (is_required (top_key t.held.keys))
+    where
+      decreased : (b : Bool) (s : Held) → (if b then s else record s { flow = pop s.flow; keys = pop s.keys }).position ≡ s.position
+      decreased true s = refl
+      decreased false s = refl
+
+      left : Held
+      left = record t.held { keys = with_top None t.held.keys }
+
+      by : (b : Bool) → Holds (λ s. s.position ≡ t.held.position) (ended_flow (if b then Err (At problem.KeyExpected t.held.position) else Ok left))
+      by true = holds.refused
+      by false = holds.went (decreased (is_empty (end_pair left.flow left).flow) (end_pair left.flow left) ∙ pair_ended left.flow left)
+
+  pub closing_told : (tok : Tok) (c : ℕ) (more : List ℕ) → t.rest ≡ c ∷ more → none.is_flow_indicator c ≡ true → Faults (Told text) (fetch_flow_collection_end tok t)
   unfolding fetch_flow_collection_end end_flow
-  closing_told tok = in_turn (tried t (ended_told (remove_told text t.held))) (λ u i. in_turn (indicator_passed u) (λ v j. goes))
+  closing_told tok c more e is = in_turn (tried t (ended_told (remove_told text t.held))) (λ u i. in_turn (indicator_passed c more e is u (is_here end_flow u ended_here i)) (λ v j. goes))
 
   next_told : {r : Result Held Fault} → Faults (Told text) r → Faults (Told text) (next_entry r)
   next_told (fault p) = fault p
   next_told goes = goes
 
-  pub comma_told : Faults (Told text) (fetch_flow_entry t)
+  next_here : Holds (λ s. s.position ≡ t.held.position) (end_entry t.held)
+  unfolding end_entry end_flow_pair remove_implicit_key
+  next_here = by (is_required (top_key t.held.keys))
+    where
+      left : Held
+      left = record t.held { keys = with_top None t.held.keys; key_allowed = true }
+
+      by : (b : Bool) → Holds (λ s. s.position ≡ t.held.position) (next_entry (if b then Err (At problem.KeyExpected t.held.position) else Ok (record t.held { keys = with_top None t.held.keys })))
+      by true = holds.refused
+      by false = holds.went (pair_ended left.flow left)
+
+  pub comma_told : (more : List ℕ) → t.rest ≡ 44 ∷ more → Faults (Told text) (fetch_flow_entry t)
   unfolding fetch_flow_entry end_entry
-  comma_told = in_turn (tried t (next_told (remove_told text t.held))) (λ u i. in_turn (indicator_passed u) (λ v j. goes))
+  comma_told more e = in_turn (tried t (next_told (remove_told text t.held))) (λ u i. in_turn (indicator_passed 44 more e refl u (is_here end_entry u next_here i)) (λ v j. goes))

@@ -8,6 +8,7 @@ pub mod Nodes
 pub mod OtherRows
 pub mod Places
 pub mod Plains
+pub mod Quotes
 pub mod Refusals
 pub mod Spaces
 pub mod TokensKeep

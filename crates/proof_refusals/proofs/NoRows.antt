@@ -210,6 +210,8 @@ plain_other in_flow collection here text why at (none.by_tab before blanks rest 
 
 followed_other : (in_flow : Bool) (here : Position) (rest : List ℕ) (why : Problem) (at : Position) → IsFollowed in_flow here rest why at → is_certain why ≡ true → ⊥
 followed_other in_flow here rest why at (none.glued c more e is begins) h = cc h
+followed_other in_flow here rest why at (none.glued_to_quoted single piece more e is begins) h = cc h
+followed_other in_flow here rest why at (none.after_quoted single piece more passed content e is ends on solid) h = cc h
 followed_other in_flow here rest why at (none.after_end more passed content col e gap on ends) h = cc h
 followed_other in_flow here rest why at (none.tab_after_dash more passed content out e gap on tab begins) h = cc h
 followed_other in_flow here rest why at (none.no_space more passed content e gap on begins ends) h = cc h

@@ -1,5 +1,5 @@
 -- Faults of names, tags and scalars: no such piece begins with the text.
-use Rattle.std.proofs.Common.{◌≡◌, ℕ, ◌≤◌, List, [], ◌∷◌, ◌++◌, Bool, true, false, not, ◌==◌, if◌then◌else◌, Result, Ok, Err, ap, sym, ◌∙◌, subst, arith}
+use Rattle.std.proofs.Common.{◌≡◌, ℕ, ◌≤◌, List, [], ◌∷◌, ◌++◌, Bool, true, false, not, if◌then◌else◌, Result, Ok, Err, refl, ap, sym, ◌∙◌, subst, arith}
 use Rattle.std.proofs.lemmas.Bool.{and_parts}
 use Rattle.defs_text.specs.Classes.{is_nul}
 use Rattle.defs_text.specs.Position.{Position}
@@ -9,14 +9,13 @@ use Rattle.yaml_tokens.specs.declared.problem.Fault.{Fault}
 use Rattle.yaml_tokens.specs.declared.problem.Fault.TheVariants.{At}
 use Rattle.yaml_tokens.specs.declared.problem.Problem.{Problem}
 use Rattle.yaml_tokens.specs.declared.problem.Problem.TheVariants as problem
-use Rattle.model_lexers.specs.declared.context.SkipTabs.TheVariants.{Yes}
 use Rattle.model_lexers.specs.Machine.{Read, past}
 use Rattle.model_lexers.specs.Block.{Block, block}
 use Rattle.model_lexers.specs.Anchor.{anchor_name}
 use Rattle.model_lexers.specs.Tag as tags
 use Rattle.model_lexers.specs.Quoted.{quoted}
-use Rattle.model_scanner.specs.State.{ScannerState, peek, in_flow}
-use Rattle.model_scanner.specs.Document.{node_start, context, fetch_anchor, fetch_tag, fetch_flow_scalar, fetch_block_scalar, may_follow_quoted, check_after_quoted}
+use Rattle.model_scanner.specs.State.{ScannerState, in_flow}
+use Rattle.model_scanner.specs.Document.{node_start, context, fetch_anchor, fetch_tag, fetch_flow_scalar, fetch_block_scalar}
 use Rattle.proof_lexers.specs.NameEnds.{NameEndsAs, named, nameless}
 use Rattle.proof_lexers.specs.TagEnds as tag_ends
 use Rattle.proof_lexers.specs.TagEnds.{TagEndsAs, IsTagRefusal}
@@ -35,21 +34,19 @@ use Rattle.proof_lexers.proofs.Blocks.Ends as blocks
 use Rattle.proof_cut.proofs.Pieces.Quoted.{some_chars}
 use Rattle.proof_row_sound.specs.Choices.{outside_key}
 use Rattle.proof_row_sound.specs.Arrives.{Arrives}
+use Rattle.proof_row_sound.proofs.QuotedKeeps.{QuotedAs, quoted_as}
 use Rattle.proof_refusals.specs.NoPiece as none
 use Rattle.proof_refusals.specs.NoPiece.{NoPiece}
 use Rattle.proof_refusals.specs.Stuck.{IsStuck, no_piece}
-use Rattle.proof_refusals.proofs.Faults.{Faults, fault, goes, read, in_turn}
-use Rattle.proof_refusals.proofs.Spaces.{spaces_told, passing_told}
+use Rattle.proof_refusals.proofs.Faults.{Faults, goes, read, in_turn}
+use Rattle.proof_refusals.proofs.Spaces.{passing_told}
+use Rattle.proof_refusals.proofs.Quotes.{after_told}
 use Rattle.proof_refusals.proofs.Places.{IsCarried, Told, stuck, in_flow_is}
 
--- what may stand after a quoted scalar
-after_quoted_told : (text : List ℕ) (line : ℕ) (t : ScannerState) → Faults (Told text) (check_after_quoted line t)
-unfolding check_after_quoted
-after_quoted_told text line t = in_turn (spaces_told text Yes t) (λ u e. by u (may_follow_quoted (in_flow u.held) (line == u.held.position.line) (peek u.rest)))
-  where
-    by : (u : ScannerState) (b : Bool) → Faults (Told text) (if b then Ok u else Err (At problem.ContentAfterQuoted u.held.position))
-    by u true = goes
-    by u false = fault {f = At problem.ContentAfterQuoted u.held.position} (λ h. absurd (cc h))
+-- characters of a line stay on it
+along_line : (w : List ℕ) (p : Position) → (headers.along w p).line ≡ p.line
+along_line [] p = refl
+along_line (c ∷ w) p = along_line w (past p)
 
 module _ (text : List ℕ) (t : ScannerState) (a : Arrives text t) (some : is_empty t.rest ≡ false) (carried : is_empty t.held.flow ≡ false → IsCarried text (outside_key a.base.entries t.held.keys)) where
   -- where no piece begins the text is stuck
@@ -93,10 +90,15 @@ module _ (text : List ℕ) (t : ScannerState) (a : Arrives text t) (some : is_em
       read (node_start t.held) (quoted single (context (node_start t.held)) t.rest t.held.position) _
       (λ f k. by f (quoted single (context (node_start t.held)) (none.quote_of single ∷ more) t.held.position) (ap (λ r. quoted single (context (node_start t.held)) r t.held.position) (sym e) ∙ k)
       (scans_end single (context (node_start t.held)) more t.held.position (some_chars more clean)))
-      (λ x k. in_turn (after_quoted_told text t.held.position.line _) (λ v i. in_turn (passing_told text v) (λ w j. goes)))
+      (λ x k. in_turn (after_told text t a some carried single (context (node_start t.held)) x (read_as x k)) (λ v i. in_turn (passing_told text v) (λ w j. goes)))
     where
       clean : has_no_nul more ≡ true
       clean = (and_parts (not (is_nul (none.quote_of single))) (has_no_nul more) (subst (λ r. has_no_nul r ≡ true) e a.is_clean)).1
+
+      read_as : (x : Read (List ℕ)) → quoted single (context (node_start t.held)) t.rest t.held.position ≡ Ok x → QuotedAs single (context (node_start t.held)) t.held.position t.rest x
+      read_as x k =
+          subst (λ r. QuotedAs single (context (node_start t.held)) t.held.position r x) (sym e)
+          (quoted_as single (context (node_start t.held)) t.held.position more x clean (subst (λ r. quoted single (context (node_start t.held)) r t.held.position ≡ Ok x) e k))
 
       by : (f : Fault) (x : Result (Read (List ℕ)) Fault) → x ≡ Err f → QuotedEndsAs single (context (node_start t.held)) t.held.position more x → Told text f
       by f x i (quoted_ends.reads body rest value position cut is ends j) = absurd (cc (i, j))
@@ -110,7 +112,9 @@ module _ (text : List ℕ) (t : ScannerState) (a : Arrives text t) (some : is_em
       let same : At problem.BlockScalarZero t.held.position ≡ g = cc j in
       subst (λ f. Told text f) same (λ _. none_here problem.BlockScalarZero (none.headless style line after problem.BlockScalarZero t.held.position (ap not out) e inline ends lacks (none.by_zero zero)))
   header_told style line after e inline ends out g (headers.comment h before more lacks is cut j) =
-      let same : At problem.CommentNotSeparated (headers.along before (past t.held.position)) ≡ g = cc j in subst (λ f. Told text f) same (λ h. absurd (cc h))
+      let same : At problem.CommentNotSeparated (headers.along before (past t.held.position)) ≡ g = cc j in subst (λ f. Told text f) same
+      (λ _. none_begins problem.CommentNotSeparated (headers.along before (past t.held.position)) (let stays = along_line before (past t.held.position) in omega (arith, stays))
+      (none.headless style line after problem.CommentNotSeparated (headers.along before (past t.held.position)) (ap not out) e inline ends lacks (none.by_comment h before more is cut)))
   header_told style line after e inline ends out g (headers.no_header lacks j) =
       let same : At problem.BlockScalarHeader t.held.position ≡ g = cc j in
       subst (λ f. Told text f) same (λ _. none_here problem.BlockScalarHeader (none.headless style line after problem.BlockScalarHeader t.held.position (ap not out) e inline ends lacks none.by_text))

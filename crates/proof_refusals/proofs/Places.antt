@@ -19,7 +19,8 @@ use Rattle.proof_row_sound.specs.Arrives.{Arrives, IsNear}
 use Rattle.proof_row_sound.specs.Stands.{AreAround, AreEntries}
 use Rattle.proof_row_sound.proofs.StreamEnds.{same_flow}
 use Rattle.proof_refusals.proofs.Faults.{Faults, fault, goes}
-use Rattle.proof_refusals.specs.Stuck.{Fails, IsStuck, fails, key_waits}
+use Rattle.proof_refusals.specs.NoPiece.{IsFollowed}
+use Rattle.proof_refusals.specs.Stuck.{Fails, IsStuck, fails, followed, key_waits}
 use Rattle.proof_refusals.specs.Told.{is_told}
 
 -- A row of the text may begin so that a key waits which must be one.
@@ -104,3 +105,7 @@ module _ (text : List ℕ) (t : ScannerState) (a : Arrives text t) (some : is_em
           on false i =
               let w : Waits text x = (subst (λ k. IsCarried text k) e (carried i)) must in
               key_waits w.account w.after x.position w.begins w.line_is w.must_be (omega (arith, later, late))
+
+  -- what follows the piece that begins here is what the text is stuck by
+  pub followed_stuck : (why : Problem) (at : Position) → t.held.position.line ≤ at.line → IsFollowed (in_flow t.held) t.held.position t.rest why at → IsStuck text why at
+  followed_stuck why at later x = stuck [] why at later (λ c may. followed (subst (λ b. IsFollowed b t.held.position t.rest why at) (sym (in_flow_is c [])) x))

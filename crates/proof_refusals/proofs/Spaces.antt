@@ -1,5 +1,8 @@
 -- Faults of what is passed between pieces.
-use Rattle.std.proofs.Common.{◌≡◌, ℕ, List, Result, Err, sym, subst}
+use Rattle.std.proofs.Common.{◌≡◌, ℕ, List, [], ◌∷◌, Bool, true, false, not, ◌==◌, ◌&&◌, ◌||◌, Result, Err, refl, sym, subst, arith}
+use Rattle.std.proofs.lemmas.Bool.Decides.{nat_tests}
+use Rattle.defs_text.specs.Classes.{is_at_gap, is_blank_or_end, is_blank, is_break, is_nul}
+use Rattle.defs_scalar.specs.FlowScalar.{begins_with}
 use Rattle.defs_text.specs.Position.{Position}
 use Rattle.yaml_tokens.specs.declared.problem.Fault.{Fault}
 use Rattle.yaml_tokens.specs.declared.problem.Fault.TheVariants.{At}
@@ -7,10 +10,10 @@ use Rattle.yaml_tokens.specs.declared.problem.Problem.TheVariants as problem
 use Rattle.model_lexers.specs.declared.context.SkipTabs.{SkipTabs}
 use Rattle.model_lexers.specs.declared.context.Whitespace.{Whitespace}
 use Rattle.model_lexers.specs.Machine.{Read}
-use Rattle.model_lexers.specs.Space.{space}
+use Rattle.model_lexers.specs.Space.{space, are_skipped}
 use Rattle.model_scanner.specs.State.{ScannerState}
 use Rattle.model_scanner.specs.Space.{between, skip, skip_to_next_token, skip_spaces}
-use Rattle.proof_lexers.specs.Separations.{PassesAs, passes, refuses, SpacesAs, spaces, glued}
+use Rattle.proof_lexers.specs.Separations.{PassesAs, passes, refuses, ends_spaces, SpacesAs, spaces, glued}
 use Rattle.proof_lexers.proofs.Separation.Separations.{separations_are_passed}
 use Rattle.proof_lexers.proofs.Separation.Spaces.{spaces_are_passed}
 use Rattle.proof_refusals.proofs.Faults.{Faults, fault, goes, read}
@@ -25,14 +28,31 @@ passing_told text t = by (skip between t.rest t.held) (separations_are_passed t.
     by x (passes leading separation rest cut fills solid e) = subst (λ y. Faults (Told text) y) (sym e) goes
     by x (refuses before blanks rest cut fills left are begins e) = subst (λ y. Faults (Told text) y) (sym e) (fault (λ h. absurd (cc h)))
 
--- over blanks and a comment in a line
-pub space_told : (text : List ℕ) (tabs : SkipTabs) (more : List ℕ) (p : Position) (f : Fault) → space tabs more p ≡ Err f → Told text f
-space_told text tabs more p f k = by (space tabs more p) k (spaces_are_passed tabs more p)
+-- over blanks and a comment in a line; what is to be said of a comment that no blank parts from what stands before it
+pub space_told : (text : List ℕ) (tabs : SkipTabs) (more : List ℕ) (p : Position) → (begins_with 35 more ≡ true → Told text (At problem.CommentNotSeparated p)) → (f : Fault) → space tabs more p ≡ Err f → Told text f
+space_told text tabs more p why f k = by (space tabs more p) k (spaces_are_passed tabs more p)
   where
     by : (x : Result (Read Whitespace) Fault) → x ≡ Err f → SpacesAs tabs p more x → Told text f
     by x i (spaces blanks comment rest cut are fills line ends e) = absurd (cc (i, e))
-    by x i (glued begins e) = let same : At problem.CommentNotSeparated p ≡ f = cc (i, e) in subst (λ g. Told text g) same (λ h. absurd (cc h))
+    by x i (glued begins e) = let same : At problem.CommentNotSeparated p ≡ f = cc (i, e) in subst (λ g. Told text g) same (why begins)
 
-pub spaces_told : (text : List ℕ) (tabs : SkipTabs) (t : ScannerState) → Faults (Told text) (skip_spaces tabs t)
+pub spaces_told : (text : List ℕ) (tabs : SkipTabs) (t : ScannerState) → (begins_with 35 t.rest ≡ true → Told text (At problem.CommentNotSeparated t.held.position)) → Faults (Told text) (skip_spaces tabs t)
 unfolding skip_spaces
-spaces_told text tabs t = read t.held (space tabs t.rest t.held.position) _ (λ f k. space_told text tabs t.rest t.held.position f k) (λ x k. goes)
+spaces_told text tabs t why = read t.held (space tabs t.rest t.held.position) _ (λ f k. space_told text tabs t.rest t.held.position why f k) (λ x k. goes)
+
+-- no comment stands at a gap
+pub no_comment : (r : List ℕ) → is_at_gap r ≡ true → begins_with 35 r ≡ false
+unfolding is_blank_or_end is_blank is_break is_nul
+no_comment [] h = refl
+no_comment (c ∷ r) h = grind (arith, nat_tests, h)
+
+-- none stands where blanks were passed
+pub no_comment_left : (tabs : SkipTabs) (r : List ℕ) → ends_spaces tabs r ≡ true → begins_with 35 r ≡ false
+no_comment_left tabs [] h = refl
+no_comment_left tabs (c ∷ r) h = by (c == 32) ((c == 9) && are_skipped tabs) (c == 35) h
+  where
+    by : (x y z : Bool) → not (x || y || z) ≡ true → z ≡ false
+    by true y z h = absurd (cc h)
+    by false true z h = absurd (cc h)
+    by false false true h = absurd (cc h)
+    by false false false h = refl

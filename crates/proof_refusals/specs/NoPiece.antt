@@ -6,11 +6,12 @@ use Rattle.defs_text.specs.Position.{Position, position_after}
 use Rattle.defs_scalar.specs.BlockScalar.{BlockStyle, header_of}
 use Rattle.defs_scalar.specs.BlockScalar as block
 use Rattle.defs_scalar.specs.Directives.{directive_of}
-use Rattle.defs_token.specs.Piece.{goes_on_with_name}
+use Rattle.defs_token.specs.Piece.{goes_on_with_name, IsSingleQuoted, IsDoubleQuoted}
 use Rattle.defs_token.specs.Plain.{inside, after_blank, on_line, begins_flow, goes_on}
 use Rattle.defs_scalar.specs.FlowScalar.{begins_with}
 use Rattle.defs_token.specs.Separation.{is_blanks, is_separation}
 use Rattle.defs_row.specs.Column.{innermost}
+use Rattle.defs_row.specs.Following.{quoted_may_end}
 use Rattle.defs_row.specs.Indentation.{least_column, begins_entry, begins_with_alpha}
 use Rattle.yaml_tokens.specs.declared.problem.Fault.TheVariants.{At}
 use Rattle.yaml_tokens.specs.declared.problem.Problem.{Problem}
@@ -24,7 +25,7 @@ use Rattle.proof_lexers.specs.NameEnds.{further}
 use Rattle.proof_lexers.specs.PlainEnds.{begins_solid, has_break, stand_after, is_apart}
 use Rattle.proof_lexers.specs.QuotedEnds.{HasElements, IsBadEscape}
 use Rattle.proof_lexers.specs.QuotedScan.{has_marker}
-use Rattle.proof_lexers.specs.Separations.{begins_white_space, has}
+use Rattle.proof_lexers.specs.Separations.{begins_separation, begins_white_space, has}
 use Rattle.proof_lexers.specs.TagEnds.{IsTagRefusal}
 
 -- the quote of a style
@@ -94,9 +95,17 @@ pub record GoesOn (more passed content : List ℕ) : Type 0 where
 abbrev pub is_flow_indicator : ℕ → Bool
 is_flow_indicator c = is_one_of (codes "[]{},") c
 
--- What is wrong with the text after a piece that begins at a position: a comment right after a bracket or a comma; text after `...` on its line; TABs after `-`, `?` or `:`; no space and no break after `?`.
+-- whether a piece is a quoted scalar before the text after it
+abbrev pub IsQuoted : (single : Bool) → (piece next : List ℕ) → Type 0
+IsQuoted true piece next = (value : List ℕ) × IsSingleQuoted piece next value
+IsQuoted false piece next = (value : List ℕ) × IsDoubleQuoted piece next value
+
+-- What is wrong with the text after a piece that begins at a position: a comment right after a bracket, a comma or a quoted scalar; text after `...` on its line, or after a quoted scalar what may not follow it; TABs after `-`, `?` or `:`; no space and no break after `?`.
 pub data IsFollowed (in_flow : Bool) (here : Position) (rest : List ℕ) : Problem → Position → Type 0 where
   glued : (c : ℕ) (more : List ℕ) → rest ≡ c ∷ more → is_flow_indicator c ≡ true → begins_with 35 more ≡ true → IsFollowed in_flow here rest problem.CommentNotSeparated (further 1 here)
+  glued_to_quoted : (single : Bool) (piece more : List ℕ) → rest ≡ piece ++ more → IsQuoted single piece more → begins_with 35 more ≡ true → IsFollowed in_flow here rest problem.CommentNotSeparated (position_after here piece more)
+  after_quoted : (single : Bool) (piece more passed content : List ℕ) → rest ≡ piece ++ more → IsQuoted single piece more → quoted_may_end in_flow piece more ≡ false → GoesOn more passed content → begins_separation content ≡ false
+      → IsFollowed in_flow here rest problem.ContentAfterQuoted (position_after (position_after here piece more) passed content)
   after_end : (more passed content : List ℕ) → here.col ≡ 0 → rest ≡ 46 ∷ 46 ∷ 46 ∷ more → is_at_gap more ≡ true → GoesOn more passed content → is_at_line_end content ≡ false
       → IsFollowed in_flow here rest problem.ContentAfterDocumentEnd (position_after (further 3 here) passed content)
   tab_after_dash : (more passed content : List ℕ) → in_flow ≡ false → rest ≡ 45 ∷ more → is_at_gap more ≡ true → GoesOn more passed content → has 9 passed ≡ true → begins_entry content ≡ true

@@ -13,11 +13,9 @@ abbrev pub is_told : Problem → Bool
 is_told problem.KeyWithoutColon = false
 is_told problem.KeyExpected = false
 is_told problem.TabInBlockIndentation = false
-is_told problem.CommentNotSeparated = false
 is_told problem.AnchorIndentation = false
 is_told problem.QuotedIndentation = false
 is_told problem.TabAsIndentation = false
-is_told problem.ContentAfterQuoted = false
 is_told problem.BlockScalarTab = false
 is_told problem.BlockScalarIndentation = false
 is_told _ = true
