@@ -71,11 +71,11 @@ impl Folding {
     pub(crate) fn join(&mut self) -> Result<(), AllocError>
         ensures { OnOk result (folded self.new ≡ joined (folded self.old)) }
     {
-        if self.leading && !self.escaped && self.gap.is_empty() {
-            self.text.push(' ')?;
-        } else {
+        if !self.gap.is_empty() {
             self.text.append(&self.gap)?;
             self.gap.clear();
+        } else if self.leading && !self.escaped {
+            self.text.push(' ')?;
         }
         self.leading = false;
         self.escaped = false;
