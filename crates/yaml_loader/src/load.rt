@@ -51,9 +51,10 @@ impl YamlLoader {
     ///   twice in an object, and at most 255 levels;
     /// - `---` and, below it, a tree laid out in lines: block arrays and hashes at any columns, scalars on one line
     ///   or as literal blocks, empty lines and comment lines between the entries, and no key twice in a hash;
-    /// - the same with single quotes, folded blocks, JSON arrays and objects on one line, arrays at the column of
-    ///   their key, comments at the end of a line, anchors and aliases, and also without the first `---`; several of
-    ///   these, each further one after its `---`, load as their trees in order;
+    /// - the same with single quotes, folded blocks, JSON arrays and objects on one line, and arrays at the column of
+    ///   their key; with a comment after a scalar on its line, or before a break that a block follows; with an anchor
+    ///   before a scalar on its line, a literal block, or a block on the next line, and with aliases as values; and
+    ///   also without the first `---`. Several of these, each further one after its `---`, load as their trees in order;
     /// - one scalar in single or double quotes, on any number of lines (YAML 1.2, sections 7.3.1 and 7.3.2), followed
     ///   by nothing but line feeds: it loads as a string, also if its text without quotes would be another scalar.
     pub fn load_from_str(alloc: Global, source: &str) -> Result<Vec<Yaml>, ScanError>

@@ -166,7 +166,7 @@ module _ (table : List Mark) (ys : List Yaml) (ms : List Mark) (i : ℕ) where
   pub no_document : length ys ≤ i → None ≡ slice_get (all_shown table (items_view ys) ms) i
   no_document h = sym (no_root table (items_view ys) ms i (no_tree ys i h))
 
-  pub document_has_mark : (y : Yaml) → slice_get ys i ≡ Some y → length ms ≤ i → AllHaveMarks table (items_view ys) ms → ⊥
+  document_has_mark : (y : Yaml) → slice_get ys i ≡ Some y → length ms ≤ i → AllHaveMarks table (items_view ys) ms → ⊥
   document_has_mark y e h f = root_has_mark table (items_view ys) ms i (view y) (tree_at ys i y e) (slice_get_past ms i h) f
 
 -- ---- an array and a hash, by their nodes
@@ -198,6 +198,11 @@ no_pairs_left table (p ∷ ps) [] e = refl
 no_pairs_left table (p ∷ ps) (m ∷ ms) e = absurd (omega arith)
 
 -- ---- what a lookup finds
+
+-- a document that has a tree has a mark
+pub unmarked_document : {ys zs : List Yaml} {ms ns : List Mark} (table : List Mark) (i : ℕ) (y : Yaml) → zs ≡ ys → ns ≡ ms → i < length zs → y ≡ get_or zs i y → length ns ≤ i → AllHaveMarks table (items_view ys) ms → ⊥
+unmarked_document {ys} {zs} {ms} {ns} table i y b c d e f h =
+    document_has_mark table ys ms i y (subst (λ l. slice_get l i ≡ Some y) b (element_at zs i y d e)) (subst (λ l. length l ≤ i) c f) h
 
 pub found_document : {table t : List Mark} {ys zs : List Yaml} {ms ns : List Mark} (i : ℕ) (y : Yaml) (m : Mark) → t ≡ table → zs ≡ ys → ns ≡ ms → i < length zs → y ≡ get_or zs i y → i < length ns → m ≡ get_or ns i m
     → AllHaveMarks table (items_view ys) ms → HasMarks t (view y) m × (Some (shown_marks t (view y) m) ≡ slice_get (all_shown table (items_view ys) ms) i) × (Some (view y) ≡ slice_get (items_view ys) i)

@@ -1,7 +1,7 @@
-use Rattle.std.proofs.Common.{◌≡◌, ◌≤◌, length, ap, ◌∙◌, subst}
-use Rattle.std.specs.Prelude.{slice_get, option_map, Some}
+use Rattle.std.proofs.Common.{◌≤◌, length, ap, ◌∙◌, subst}
+use Rattle.std.specs.Prelude.{option_map}
 use Rattle.yaml_marked.specs.Node.{marks_of}
-use Rattle.yaml_marked.proofs.Seen.{element_at, no_document, document_has_mark, found_document}
+use Rattle.yaml_marked.proofs.Seen.{no_document, unmarked_document, found_document}
 use Rattle.yaml_marked.proofs.documents.MarkedDocuments.get.Goals as goal
 
 pub returns-in_err-tree-clause-marks : goal.returns-in_err-tree-clause-marks
@@ -12,23 +12,15 @@ returns-in_err-tree-clause-marks c =
 
 pub returns-in_err-mark-clause-trees : goal.returns-in_err-mark-clause-trees
 returns-in_err-mark-clause-trees c =
-    let d = c.args.self.now in
-    let i = c.args.document in
     let a = (c.in_err-mark.ensures {u = tt}).lookup in
     let b = (c.in_ok-tree.ensures {u = tt}).lookup in
-    let y = c.in_ok-tree.tree.now in
-    absurd (document_has_mark d.table.items d.documents.items d.roots.items i y (subst (λ ys. slice_get ys i ≡ Some y) c.deref.ensures.value (element_at c.deref.result.now i y b.3.0 b.1))
-    (subst (λ ms. length ms ≤ i) c.deref-2.ensures.value a.3) d.fits)
+    absurd (unmarked_document c.args.self.now.table.items c.args.document c.in_ok-tree.tree.now c.deref.ensures.value c.deref-2.ensures.value b.3.0 b.1 a.3 c.args.self.now.fits)
 
 pub returns-in_err-mark-clause-marks : goal.returns-in_err-mark-clause-marks
 returns-in_err-mark-clause-marks c =
-    let d = c.args.self.now in
-    let i = c.args.document in
     let a = (c.in_err-mark.ensures {u = tt}).lookup in
     let b = (c.in_ok-tree.ensures {u = tt}).lookup in
-    let y = c.in_ok-tree.tree.now in
-    absurd (document_has_mark d.table.items d.documents.items d.roots.items i y (subst (λ ys. slice_get ys i ≡ Some y) c.deref.ensures.value (element_at c.deref.result.now i y b.3.0 b.1))
-    (subst (λ ms. length ms ≤ i) c.deref-2.ensures.value a.3) d.fits)
+    absurd (unmarked_document c.args.self.now.table.items c.args.document c.in_ok-tree.tree.now c.deref.ensures.value c.deref-2.ensures.value b.3.0 b.1 a.3 c.args.self.now.fits)
 
 pub invariant_of-result : goal.invariant_of-result
 invariant_of-result c =
