@@ -29,7 +29,8 @@ use Rattle.proof_refusals.specs.Stuck as defs
 use Rattle.proof_refusals.specs.Stuck.{IsStuck, may_not_stand, site_at_place}
 use Rattle.proof_refusals.proofs.Faults.{Faults, fault, tried, checked, either}
 use Rattle.proof_refusals.proofs.Places.{IsCarried, Told, account_by, not_told, stuck, in_flow_is}
-use Rattle.proof_refusals.proofs.Nodes.{none_here, name_told, tag_told, quoted_told, block_told}
+use Rattle.proof_refusals.proofs.Nodes.{none_here, name_told, tag_told, quoted_told}
+use Rattle.proof_refusals.proofs.Blocks.{block_told}
 use Rattle.proof_refusals.proofs.Plains.{plain_told}
 use Rattle.proof_refusals.proofs.Indicators.{directive_told, marker_told, document_end_told, dash_told, question_told, colon_told, opening_told, closing_told, comma_told}
 use Rattle.proof_refusals.specs.NoPiece as none
@@ -44,7 +45,7 @@ module _ (text : List ℕ) (t : ScannerState) (a : Arrives text t) (some : is_em
         tag = λ more e. tag_told text t a some carried more e;
         plain = λ comes. plain_told text t a some carried deep comes;
         quoted = λ single more e. quoted_told text t a some carried single more e;
-        block = λ literal more e o. block_told text t a some carried literal more e o;
+        block = λ literal more e o. block_told text t a some carried o literal more e;
         dash = λ more e gap. dash_told text t a some carried more e gap;
         question = λ more e gap. question_told text t a some carried more e gap;
         colon = λ more e i. colon_told text t a some carried more e;

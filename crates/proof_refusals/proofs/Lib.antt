@@ -1,3 +1,4 @@
+pub mod Blocks
 pub mod Carried
 pub mod Faults
 pub mod Fetches

@@ -36,7 +36,7 @@ use Rattle.proof_row_complete.proofs.Around.Markers.{marker_begins}
 use Rattle.proof_row_complete.proofs.KindsOfPieces.{kind_is}
 use Rattle.proof_refusals.specs.Certain.{is_certain, FailingPlacesHaveNoRow}
 use Rattle.proof_refusals.specs.NoPiece as none
-use Rattle.proof_refusals.specs.NoPiece.{NoPiece, IsNotQuoted, IsNoHeader, IsPlainFault, IsFollowed}
+use Rattle.proof_refusals.specs.NoPiece.{NoPiece, IsNotQuoted, IsNoHeader, IsPlainFault, IsBlockFault, IsFollowed}
 use Rattle.proof_refusals.specs.Stuck as defs
 use Rattle.proof_refusals.specs.Stuck.{MayNotStand, Fails}
 use Rattle.proof_refusals.proofs.OtherRows.{StepAt, step_at}
@@ -208,6 +208,10 @@ plain_other in_flow collection here text why at (none.by_column flow left) h = c
 plain_other in_flow collection here text why at (none.by_dash before rest flow cut begins over apart) h = cc h
 plain_other in_flow collection here text why at (none.by_tab before blanks rest column cut over stands left are solid) h = cc h
 
+block_other : (collection : List ℕ) (here : Position) (text : List ℕ) (why : Problem) (at : Position) → IsBlockFault collection here text why at → is_certain why ≡ true → ⊥
+block_other collection here text why at (none.by_tab piece header more h2 cut one is) h = cc h
+block_other collection here text why at (none.by_column piece header rest lines b cut is further lines_are empty deep left) h = cc h
+
 followed_other : (in_flow : Bool) (here : Position) (rest : List ℕ) (why : Problem) (at : Position) → IsFollowed in_flow here rest why at → is_certain why ≡ true → ⊥
 followed_other in_flow here rest why at (none.glued c more e is begins) h = cc h
 followed_other in_flow here rest why at (none.glued_to_quoted single piece more e is begins) h = cc h
@@ -246,5 +250,6 @@ failing_places_have_no_row text separation rest a here at why r p solid some f c
     by : Fails a separation here rest why at → ⊥
     by (defs.no_piece n) = none_other a separation rest here s (is_in_flow a.entries) why at n certain
     by (defs.no_plain comes n) = plain_other _ _ here rest why at n certain
+    by (defs.no_block out n) = block_other _ here rest why at n certain
     by (defs.followed n) = followed_other _ here rest why at n certain
     by (defs.may_not_stand n) = stands_other a separation rest here s why at n certain

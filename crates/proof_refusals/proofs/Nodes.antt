@@ -1,36 +1,27 @@
 -- Faults of names, tags and scalars: no such piece begins with the text.
-use Rattle.std.proofs.Common.{◌≡◌, ℕ, ◌≤◌, List, [], ◌∷◌, ◌++◌, Bool, true, false, not, if◌then◌else◌, Result, Ok, Err, refl, ap, sym, ◌∙◌, subst, arith}
+use Rattle.std.proofs.Common.{◌≡◌, ℕ, ◌≤◌, List, [], ◌∷◌, Bool, true, false, not, if◌then◌else◌, Result, Ok, Err, ap, sym, ◌∙◌, subst, arith}
 use Rattle.std.proofs.lemmas.Bool.{and_parts}
 use Rattle.defs_text.specs.Classes.{is_nul}
 use Rattle.defs_text.specs.Position.{Position}
 use Rattle.defs_text.specs.Text.{is_empty, has_no_nul}
-use Rattle.defs_scalar.specs.BlockScalar.{BlockStyle, literal, folded}
 use Rattle.yaml_tokens.specs.declared.problem.Fault.{Fault}
 use Rattle.yaml_tokens.specs.declared.problem.Fault.TheVariants.{At}
 use Rattle.yaml_tokens.specs.declared.problem.Problem.{Problem}
 use Rattle.yaml_tokens.specs.declared.problem.Problem.TheVariants as problem
-use Rattle.model_lexers.specs.Machine.{Read, past}
-use Rattle.model_lexers.specs.Block.{Block, block}
+use Rattle.model_lexers.specs.Machine.{Read}
 use Rattle.model_lexers.specs.Anchor.{anchor_name}
 use Rattle.model_lexers.specs.Tag as tags
 use Rattle.model_lexers.specs.Quoted.{quoted}
 use Rattle.model_scanner.specs.State.{ScannerState, in_flow}
-use Rattle.model_scanner.specs.Document.{node_start, context, fetch_anchor, fetch_tag, fetch_flow_scalar, fetch_block_scalar}
+use Rattle.model_scanner.specs.Document.{node_start, context, fetch_anchor, fetch_tag, fetch_flow_scalar}
 use Rattle.proof_lexers.specs.NameEnds.{NameEndsAs, named, nameless}
 use Rattle.proof_lexers.specs.TagEnds as tag_ends
 use Rattle.proof_lexers.specs.TagEnds.{TagEndsAs, IsTagRefusal}
 use Rattle.proof_lexers.specs.QuotedEnds as quoted_ends
 use Rattle.proof_lexers.specs.QuotedEnds.{QuotedEndsAs, IsQuotedRefusal}
-use Rattle.proof_lexers.specs.HeaderEnds as headers
-use Rattle.proof_lexers.specs.HeaderEnds.{HeaderEndsAs, indicator_of, is_in_line}
-use Rattle.proof_lexers.specs.BlockEnds as block_ends
-use Rattle.proof_lexers.specs.BlockEnds.{BlockEndsAs}
-use Rattle.proof_lexers.specs.BlockScan as scan
-use Rattle.proof_lexers.specs.BlockScan.{is_literal_style}
 use Rattle.proof_lexers.proofs.Properties.Names.{names_end}
 use Rattle.proof_lexers.proofs.Properties.Tags.{tags_end}
 use Rattle.proof_lexers.proofs.Quoted.ScanEnds.{scans_end}
-use Rattle.proof_lexers.proofs.Blocks.Ends as blocks
 use Rattle.proof_cut.proofs.Pieces.Quoted.{some_chars}
 use Rattle.proof_row_sound.specs.Choices.{outside_key}
 use Rattle.proof_row_sound.specs.Arrives.{Arrives}
@@ -42,11 +33,6 @@ use Rattle.proof_refusals.proofs.Faults.{Faults, goes, read, in_turn}
 use Rattle.proof_refusals.proofs.Spaces.{passing_told}
 use Rattle.proof_refusals.proofs.Quotes.{after_told}
 use Rattle.proof_refusals.proofs.Places.{IsCarried, Told, stuck, in_flow_is}
-
--- characters of a line stay on it
-along_line : (w : List ℕ) (p : Position) → (headers.along w p).line ≡ p.line
-along_line [] p = refl
-along_line (c ∷ w) p = along_line w (past p)
 
 module _ (text : List ℕ) (t : ScannerState) (a : Arrives text t) (some : is_empty t.rest ≡ false) (carried : is_empty t.held.flow ≡ false → IsCarried text (outside_key a.base.entries t.held.keys)) where
   -- where no piece begins the text is stuck
@@ -103,38 +89,3 @@ module _ (text : List ℕ) (t : ScannerState) (a : Arrives text t) (some : is_em
       by : (f : Fault) (x : Result (Read (List ℕ)) Fault) → x ≡ Err f → QuotedEndsAs single (context (node_start t.held)) t.held.position more x → Told text f
       by f x i (quoted_ends.reads body rest value position cut is ends j) = absurd (cc (i, j))
       by f x i (quoted_ends.refuses g why j) = let same : g ≡ f = cc (i, j) in subst (λ g. Told text g) same (quoted_refused single more e g why)
-
-  -- `|` or `>`
-  header_told : (style : BlockStyle) (line after : List ℕ) → t.rest ≡ indicator_of style ∷ (line ++ after) → is_in_line line ≡ true → headers.ends_line after ≡ true → is_empty t.held.flow ≡ true → (g : Fault) → HeaderEndsAs t.held.position style line after (Err g) → Told text g
-  header_told style line after e inline ends out g (headers.reads h is free j) = absurd (cc j)
-  header_told style line after e inline ends out g (headers.tabbed h is begins j) = let same : At problem.BlockScalarTab t.held.position ≡ g = cc j in subst (λ f. Told text f) same (λ h. absurd (cc h))
-  header_told style line after e inline ends out g (headers.zero_digit lacks zero j) =
-      let same : At problem.BlockScalarZero t.held.position ≡ g = cc j in
-      subst (λ f. Told text f) same (λ _. none_here problem.BlockScalarZero (none.headless style line after problem.BlockScalarZero t.held.position (ap not out) e inline ends lacks (none.by_zero zero)))
-  header_told style line after e inline ends out g (headers.comment h before more lacks is cut j) =
-      let same : At problem.CommentNotSeparated (headers.along before (past t.held.position)) ≡ g = cc j in subst (λ f. Told text f) same
-      (λ _. none_begins problem.CommentNotSeparated (headers.along before (past t.held.position)) (let stays = along_line before (past t.held.position) in omega (arith, stays))
-      (none.headless style line after problem.CommentNotSeparated (headers.along before (past t.held.position)) (ap not out) e inline ends lacks (none.by_comment h before more is cut)))
-  header_told style line after e inline ends out g (headers.no_header lacks j) =
-      let same : At problem.BlockScalarHeader t.held.position ≡ g = cc j in
-      subst (λ f. Told text f) same (λ _. none_here problem.BlockScalarHeader (none.headless style line after problem.BlockScalarHeader t.held.position (ap not out) e inline ends lacks none.by_text))
-
-  block_refused : (style : BlockStyle) (indent : ℕ) (more : List ℕ) → t.rest ≡ indicator_of style ∷ more → is_empty t.held.flow ≡ true → (f : Fault) → block (is_literal_style style) indent t.rest t.held.position ≡ Err f → Told text f
-  block_refused style indent more e out f k =
-      by (block (is_literal_style style) indent (indicator_of style ∷ more) t.held.position) (ap (λ r. block (is_literal_style style) indent r t.held.position) (sym e) ∙ k) (blocks.scans_end style indent more t.held.position (some_chars more clean))
-    where
-      clean : has_no_nul more ≡ true
-      clean = (and_parts (not (is_nul (indicator_of style))) (has_no_nul more) (subst (λ r. has_no_nul r ≡ true) e a.is_clean)).1
-
-      by : (x : Result (Read Block) Fault) → x ≡ Err f → BlockEndsAs style indent t.held.position more x → Told text f
-      by x i (block_ends.bad_header line after g cut inline ends why j) =
-          let same : g ≡ f = cc (i, j) in
-          subst (λ h. Told text h) same (header_told style line after (e ∙ ap (λ r. indicator_of style ∷ r) cut) inline ends out g why)
-      by x i (block_ends.scalar piece next b cut is looks (scan.read free deep j)) = absurd (cc (i, j))
-      by x i (block_ends.scalar piece next b cut is looks (scan.shallow free low j)) = let same : At problem.BlockScalarIndentation (scan.further_position t.held.position piece next) ≡ f = cc (i, j) in subst (λ g. Told text g) same (λ h. absurd (cc h))
-      by x i (block_ends.scalar piece next b cut is looks (scan.tabbed tab j)) = let same : At problem.BlockScalarTab t.held.position ≡ f = cc (i, j) in subst (λ g. Told text g) same (λ h. absurd (cc h))
-
-  pub block_told : (literal : Bool) (more : List ℕ) → t.rest ≡ (if literal then 124 else 62) ∷ more → is_empty t.held.flow ≡ true → Faults (Told text) (fetch_block_scalar literal t)
-  unfolding fetch_block_scalar
-  block_told true more e out = read _ (block true _ t.rest t.held.position) _ (λ f k. block_refused literal _ more e out f k) (λ x k. goes)
-  block_told false more e out = read _ (block false _ t.rest t.held.position) _ (λ f k. block_refused folded _ more e out f k) (λ x k. goes)

@@ -1,17 +1,18 @@
 -- Texts with which no piece begins, and what is wrong with each. YAML 1.2, sections 5.3 (indicators), 5.6, 5.7 (escapes), 6.8 (directives), 6.9 (properties), 7.3 (flow scalars), 8.1 (block scalars).
 use Rattle.std.specs.Prelude.{◌≡◌, ℕ, List, [], ◌∷◌, ◌++◌, Bool, true, false, ◌==◌, nat_le, nat_lt, if◌then◌else◌, Option, Some, None, codes}
-use Rattle.defs_text.specs.Breaks.{is_at_line_end, has_no_break}
-use Rattle.defs_text.specs.Classes.{is_one_of, is_at_gap}
+use Rattle.defs_text.specs.Breaks.{split, is_at_line_end, has_no_break}
+use Rattle.defs_text.specs.Classes.{tab, is_one_of, is_at_gap, is_at_end}
 use Rattle.defs_text.specs.Position.{Position, position_after}
-use Rattle.defs_scalar.specs.BlockScalar.{BlockStyle, header_of}
+use Rattle.defs_scalar.specs.BlockScalar.{BlockStyle, header_of, leading_spaces}
 use Rattle.defs_scalar.specs.BlockScalar as block
 use Rattle.defs_scalar.specs.Directives.{directive_of}
+use Rattle.defs_token.specs.BlockPiece.{BlockRead, block_read, past_spaces}
 use Rattle.defs_token.specs.Piece.{goes_on_with_name, IsSingleQuoted, IsDoubleQuoted}
 use Rattle.defs_token.specs.Plain.{inside, after_blank, on_line, begins_flow, goes_on}
 use Rattle.defs_scalar.specs.FlowScalar.{begins_with}
 use Rattle.defs_token.specs.Separation.{is_blanks, is_separation}
 use Rattle.defs_row.specs.Column.{innermost}
-use Rattle.defs_row.specs.Following.{quoted_may_end}
+use Rattle.defs_row.specs.Following.{quoted_may_end, are_empty}
 use Rattle.defs_row.specs.Indentation.{least_column, begins_entry, begins_with_alpha}
 use Rattle.yaml_tokens.specs.declared.problem.Fault.TheVariants.{At}
 use Rattle.yaml_tokens.specs.declared.problem.Problem.{Problem}
@@ -82,6 +83,15 @@ pub data IsPlainFault (in_flow : Bool) (collection : List ℕ) (here : Position)
       → IsPlainFault in_flow collection here text problem.PlainDashInFlow (position_after here before (45 ∷ rest))
   by_tab : (before blanks rest : List ℕ) (column : ℕ) → text ≡ before ++ 9 ∷ (blanks ++ rest) → goes_over in_flow (innermost collection) before (9 ∷ (blanks ++ rest)) ≡ true → stand_after after_blank before ≡ on_line column
       → nat_lt column (least_column collection true) ≡ true → is_blanks blanks ≡ true → begins_solid rest ≡ true → IsPlainFault in_flow collection here text problem.PlainTab here
+
+-- ---- block scalars
+
+-- What is wrong after a block scalar that begins with a text at a position outside flow, in a block collection or none: a TAB begins the line after the header;
+-- or the scalar is without content, and the text after it is as deep as content of the block collection, but less deep than the scalar's empty lines.
+pub data IsBlockFault (collection : List ℕ) (here : Position) (text : List ℕ) : Problem → Position → Type 0 where
+  by_tab : (piece header more : List ℕ) (h : block.Header) → text ≡ piece ++ tab ∷ more → split piece ≡ record { complete = header ∷ []; last = [] } → header_of header ≡ Some h → IsBlockFault collection here text problem.BlockScalarTab here
+  by_column : (piece header next : List ℕ) (lines : List (List ℕ)) (b : BlockRead) → text ≡ piece ++ next → block_read (innermost collection) piece next ≡ Some b → is_at_end next ≡ false → (split piece).complete ≡ header ∷ lines → are_empty b.column lines ≡ true
+      → nat_le (least_column collection true) (leading_spaces next) ≡ true → nat_lt (leading_spaces next) b.column ≡ true → IsBlockFault collection here text problem.BlockScalarIndentation (past_spaces (position_after here piece next) next)
 
 -- ---- what follows a piece
 

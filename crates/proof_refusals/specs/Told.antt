@@ -16,8 +16,6 @@ is_told problem.TabInBlockIndentation = false
 is_told problem.AnchorIndentation = false
 is_told problem.QuotedIndentation = false
 is_told problem.TabAsIndentation = false
-is_told problem.BlockScalarTab = false
-is_told problem.BlockScalarIndentation = false
 is_told _ = true
 
 -- `refused_texts_are_stuck`
