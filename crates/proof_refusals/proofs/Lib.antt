@@ -7,9 +7,12 @@ pub mod KeptKeys
 pub mod NoRows
 pub mod Nodes
 pub mod OtherRows
+pub mod Passing
 pub mod Places
 pub mod Plains
 pub mod Quotes
 pub mod Refusals
 pub mod Spaces
+pub mod Tabs
+pub mod TabsAfterQuoted
 pub mod TokensKeep

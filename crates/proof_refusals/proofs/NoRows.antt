@@ -239,6 +239,8 @@ stands_other a separation rest here s why at (defs.dash_in_flow more e gap insid
 stands_other a separation rest here s why at (defs.dash_not_free more e gap out free) h = cc h
 stands_other a separation rest here s why at (defs.colon_not_free more e out free waits) h = cc h
 stands_other a separation rest here s why at (defs.key_on_earlier_line more begin x xs e are takes had late) h = cc h
+stands_other a separation rest here s why at (defs.tab_indents tab) h = cc h
+stands_other a separation rest here s why at (defs.tab_after_quoted single piece gap content e is fills solid tab) h = cc h
 stands_other a separation rest here s why at (defs.question_not_free more e gap out free) h = cc h
 
 pub failing_places_have_no_row : FailingPlacesHaveNoRow

@@ -30,8 +30,8 @@ use Rattle.proof_refusals.specs.NoPiece as none
 use Rattle.proof_refusals.specs.NoPiece.{NoPiece}
 use Rattle.proof_refusals.specs.Stuck.{IsStuck, no_piece}
 use Rattle.proof_refusals.proofs.Faults.{Faults, goes, read, in_turn}
-use Rattle.proof_refusals.proofs.Spaces.{passing_told}
 use Rattle.proof_refusals.proofs.Quotes.{after_told}
+use Rattle.proof_refusals.proofs.TabsAfterQuoted.{tab_told}
 use Rattle.proof_refusals.proofs.Places.{IsCarried, Told, stuck, in_flow_is}
 
 module _ (text : List ℕ) (t : ScannerState) (a : Arrives text t) (some : is_empty t.rest ≡ false) (carried : is_empty t.held.flow ≡ false → IsCarried text (outside_key a.base.entries t.held.keys)) where
@@ -76,7 +76,7 @@ module _ (text : List ℕ) (t : ScannerState) (a : Arrives text t) (some : is_em
       read (node_start t.held) (quoted single (context (node_start t.held)) t.rest t.held.position) _
       (λ f k. by f (quoted single (context (node_start t.held)) (none.quote_of single ∷ more) t.held.position) (ap (λ r. quoted single (context (node_start t.held)) r t.held.position) (sym e) ∙ k)
       (scans_end single (context (node_start t.held)) more t.held.position (some_chars more clean)))
-      (λ x k. in_turn (after_told text t a some carried single (context (node_start t.held)) x (read_as x k)) (λ v i. in_turn (passing_told text v) (λ w j. goes)))
+      (λ x k. in_turn (after_told text t a some carried single (context (node_start t.held)) x (read_as x k)) (λ v i. in_turn (tab_told text t a some carried single (context (node_start t.held)) x (read_as x k) v i) (λ w j. goes)))
     where
       clean : has_no_nul more ≡ true
       clean = (and_parts (not (is_nul (none.quote_of single))) (has_no_nul more) (subst (λ r. has_no_nul r ≡ true) e a.is_clean)).1

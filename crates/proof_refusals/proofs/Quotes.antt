@@ -38,7 +38,7 @@ use Rattle.proof_refusals.proofs.Places.{IsCarried, Told, followed_stuck}
 -- ---- texts
 
 -- what was read between quotes is a quoted scalar
-is_quoted : (single : Bool) (body next value : List ℕ) → value_of single body ≡ Some value → ends_before single next ≡ true → IsQuoted single (piece_of single body) next
+pub is_quoted : (single : Bool) (body next value : List ℕ) → value_of single body ≡ Some value → ends_before single next ≡ true → IsQuoted single (piece_of single body) next
 is_quoted true body next value is ends = (value, (body, refl, is, no_quote (begins_with 39 next) ends))
   where
     no_quote : (b : Bool) → not (true && b) ≡ true → b ≡ false
@@ -63,16 +63,16 @@ not_both f (went p) e = cc e
 
 module _ (text : List ℕ) (t : ScannerState) (a : Arrives text t) (some : is_empty t.rest ≡ false) (carried : is_empty t.held.flow ≡ false → IsCarried text (outside_key a.base.entries t.held.keys)) (single : Bool) (ctx : Context) (x : Read (List ℕ)) (q : QuotedAs single ctx t.held.position t.rest x) where
   -- after the closing quote
-  abbrev closed : ScannerState
+  abbrev pub closed : ScannerState
   closed = on_held unled (go_on x (node_start t.held))
 
-  abbrev piece : List ℕ
+  abbrev pub piece : List ℕ
   piece = piece_of single q.body
 
   flow_is : in_flow closed.held ≡ in_flow t.held
   flow_is = ap in_flow (saved_is t.held)
 
-  is : IsQuoted single piece x.rest
+  pub is : IsQuoted single piece x.rest
   is = is_quoted single q.body x.rest x.value q.value_is q.ends
 
   -- a comment right after the quote

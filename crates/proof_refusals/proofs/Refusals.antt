@@ -28,8 +28,8 @@ use Rattle.proof_refusals.proofs.Faults as faults
 use Rattle.proof_refusals.proofs.Faults.{Faults, fault_is, in_turn, tried, either}
 use Rattle.proof_refusals.proofs.Fetches.{here_told}
 use Rattle.proof_refusals.proofs.KeptKeys.{last_key}
+use Rattle.proof_refusals.proofs.Passing.{HasNear, fetch_near, passing_told}
 use Rattle.proof_refusals.proofs.Places.{IsCarried, Told, not_told}
-use Rattle.proof_refusals.proofs.Spaces.{passing_told}
 
 -- ---- a fetch
 
@@ -41,10 +41,10 @@ stale_told : (text : List ℕ) (s : Held) → Faults (Told text) (stale s)
 unfolding stale drop_stale
 stale_told text s = either (in_flow s) (λ _. faults.goes) (λ _. keys_told s (not_told text (list_any (is_overdue s.position) s.keys) problem.KeyWithoutColon s.position (map (still s.position) s.keys) refl))
 
-next_told : (text : List ℕ) (t : ScannerState) → Stands text t → Carries text t → Faults (Told text) (fetch_next t)
+next_told : (text : List ℕ) (t : ScannerState) → Stands text t → HasNear t.held → Carries text t → Faults (Told text) (fetch_next t)
 unfolding fetch_next
-next_told text t s carries =
-    in_turn (passing_told text t) (λ u e.
+next_told text t s near carries =
+    in_turn (passing_told text t s near carries) (λ u e.
     let a = held_of u (both_hold (passed_stands text t s) (to_token t)) e in
     in_turn (tried u (stale_told text u.held)) (λ v f.
     let b : Arrived text t (on_held (λ h. unroll_indent (h.position.col + 1) h) v) = held_of v (stale_arrives text t u a.0.0 a.0.1 a.1.passed) f in
@@ -61,9 +61,9 @@ next_told text t s carries =
         by true f = absurd (cc (b.keeps.outside f, some))
         by false f = subst (λ o. IsCarried text o) (sym (last_is ∙ b.keeps.inside f some)) (carries s.going f (b.cut left))
 
-fetch_told : (text : List ℕ) (t : ScannerState) → Stands text t → Carries text t → Faults (Told text) (fetch t)
+fetch_told : (text : List ℕ) (t : ScannerState) → Stands text t → HasNear t.held → Carries text t → Faults (Told text) (fetch t)
 unfolding fetch
-fetch_told text t s carries = either t.held.started (λ _. next_told text t s carries) (λ n. absurd (cc (n, s.started)))
+fetch_told text t s near carries = either t.held.started (λ _. next_told text t s near carries) (λ n. absurd (cc (n, s.started)))
 
 -- ---- a run
 
@@ -78,17 +78,30 @@ begins_outside : (text : List ℕ) → is_empty (fetch_stream_start (start text)
 unfolding fetch_stream_start
 begins_outside text = refl
 
+near_first : (text : List ℕ) → HasNear (fetch_stream_start (start text)).held
+unfolding fetch_stream_start
+near_first text = λ o k e. absurd (cc e)
+
 -- What is known of a state of a run.
 record Known (text : List ℕ) (t : ScannerState) : Type 0 where
   comes : Came text t
   fares : Fares text t
+  near : HasNear t.held
   carries : Carries text t
 
 known_next : (text : List ℕ) → has_no_nul text ≡ true → (t u : ScannerState) → t.held.ended ≡ false → fetch t ≡ Ok u → Known text t → Known text u
-known_next text nul t u going e k = record { comes = came text nul t u (there going e here) k.comes; fares = next; carries = λ on some left. by k.fares next on some left }
+known_next text nul t u going e k = record { comes = came text nul t u (there going e here) k.comes; fares = next; near = near_by k.fares; carries = λ on some left. by k.fares next on some left }
   where
     next : Fares text u
     next = reached kept text nul t u (there going e here) k.comes k.fares
+
+    near_by : Fares text t → HasNear u.held
+    near_by (begins b) =
+        let same : Ok (fetch_stream_start (start text)) ≡ Ok u = sym (first_fetch text) ∙ (ap fetch (sym b) ∙ e) in
+        let state : fetch_stream_start (start text) ≡ u = cc same in
+        subst (λ x. HasNear x.held) state (near_first text)
+    near_by (goes s) = held_of u (fetch_near t s.started) e
+    near_by (over f r) = absurd (cc (going, f))
 
     by : Fares text t → Fares text u → Carries text u
     by (begins b) f on some left =
@@ -108,9 +121,9 @@ pub refused_texts_are_stuck : RefusedTextsAreStuck
 refused_texts_are_stuck text why at nul r told = by k.fares
   where
     k : Known text r.last
-    k = known_on text nul (start text) r.last r.run (record { comes = starts refl; fares = begins refl; carries = λ on some left. absurd (cc some) })
+    k = known_on text nul (start text) r.last r.run (record { comes = starts refl; fares = begins refl; near = λ o k e. absurd (cc e); carries = λ on some left. absurd (cc some) })
 
     by : Fares text r.last → IsStuck text why at
     by (begins b) = absurd (cc (sym (first_fetch text) ∙ (ap fetch (sym b) ∙ r.refused)))
-    by (goes s) = (fault_is (At why at) (fetch_told text r.last s k.carries) r.refused) told
+    by (goes s) = (fault_is (At why at) (fetch_told text r.last s k.near k.carries) r.refused) told
     by (over f n) = absurd (cc (f, r.going))

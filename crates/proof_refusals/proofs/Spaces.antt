@@ -1,5 +1,5 @@
 -- Faults of what is passed between pieces.
-use Rattle.std.proofs.Common.{◌≡◌, ℕ, List, [], ◌∷◌, Bool, true, false, not, ◌==◌, ◌&&◌, ◌||◌, Result, Err, refl, sym, subst, arith}
+use Rattle.std.proofs.Common.{◌≡◌, ℕ, List, [], ◌∷◌, Bool, true, false, not, ◌==◌, ◌&&◌, ◌||◌, Result, Err, refl, subst, arith}
 use Rattle.std.proofs.lemmas.Bool.Decides.{nat_tests}
 use Rattle.defs_text.specs.Classes.{is_at_gap, is_blank_or_end, is_blank, is_break, is_nul}
 use Rattle.defs_scalar.specs.FlowScalar.{begins_with}
@@ -12,21 +12,11 @@ use Rattle.model_lexers.specs.declared.context.Whitespace.{Whitespace}
 use Rattle.model_lexers.specs.Machine.{Read}
 use Rattle.model_lexers.specs.Space.{space, are_skipped}
 use Rattle.model_scanner.specs.State.{ScannerState}
-use Rattle.model_scanner.specs.Space.{between, skip, skip_to_next_token, skip_spaces}
-use Rattle.proof_lexers.specs.Separations.{PassesAs, passes, refuses, ends_spaces, SpacesAs, spaces, glued}
-use Rattle.proof_lexers.proofs.Separation.Separations.{separations_are_passed}
+use Rattle.model_scanner.specs.Space.{skip_spaces}
+use Rattle.proof_lexers.specs.Separations.{ends_spaces, SpacesAs, spaces, glued}
 use Rattle.proof_lexers.proofs.Separation.Spaces.{spaces_are_passed}
-use Rattle.proof_refusals.proofs.Faults.{Faults, fault, goes, read}
+use Rattle.proof_refusals.proofs.Faults.{Faults, goes, read}
 use Rattle.proof_refusals.proofs.Places.{Told}
-
--- on the way to the next token
-pub passing_told : (text : List ℕ) (t : ScannerState) → Faults (Told text) (skip_to_next_token t)
-unfolding skip_to_next_token
-passing_told text t = by (skip between t.rest t.held) (separations_are_passed t.held t.rest)
-  where
-    by : (x : Result ScannerState Fault) → PassesAs t.held t.rest x → Faults (Told text) x
-    by x (passes leading separation rest cut fills solid e) = subst (λ y. Faults (Told text) y) (sym e) goes
-    by x (refuses before blanks rest cut fills left are begins e) = subst (λ y. Faults (Told text) y) (sym e) (fault (λ h. absurd (cc h)))
 
 -- over blanks and a comment in a line; what is to be said of a comment that no blank parts from what stands before it
 pub space_told : (text : List ℕ) (tabs : SkipTabs) (more : List ℕ) (p : Position) → (begins_with 35 more ≡ true → Told text (At problem.CommentNotSeparated p)) → (f : Fault) → space tabs more p ≡ Err f → Told text f

@@ -1,11 +1,12 @@
 -- Where a text is refused, and why, by the definitions alone: a row may begin with all pieces up to a place, and there no step goes on.
-use Rattle.std.specs.Prelude.{◌≡◌, ℕ, ◌<◌, ◌≤◌, List, ◌∷◌, Bool, true, false, ◌==◌, ◌&&◌, ◌⊎◌, nat_le, length, Option, Some}
+use Rattle.std.specs.Prelude.{◌≡◌, ℕ, ◌<◌, ◌≤◌, List, ◌∷◌, ◌++◌, Bool, true, false, ◌==◌, ◌&&◌, ◌⊎◌, nat_le, length, Option, Some}
 use Rattle.defs_text.specs.Classes.{is_at_gap, is_document_marker}
-use Rattle.defs_text.specs.Position.{Position}
+use Rattle.defs_text.specs.Position.{Position, position_after}
+use Rattle.defs_token.specs.Separation.{is_separation}
 use Rattle.defs_token.specs.Account.{is_adjacent, before_past}
-use Rattle.defs_row.specs.Step.{gives_node}
+use Rattle.defs_row.specs.Step.{gives_node, quoted_scalar}
 use Rattle.defs_row.specs.Column.{is_in_column}
-use Rattle.defs_row.specs.Indentation.{least_column}
+use Rattle.defs_row.specs.Indentation.{least_column, is_indented_by_spaces}
 use Rattle.defs_row.specs.Key.{Line, free, waits, is_waiting, begins_free_line, line_past_separation}
 use Rattle.defs_row.specs.FlowEntry.{Entry}
 use Rattle.defs_row.specs.FlowEntry as entry
@@ -15,7 +16,7 @@ use Rattle.yaml_tokens.specs.declared.problem.Problem.{Problem}
 use Rattle.yaml_tokens.specs.declared.problem.Problem.TheVariants as problem
 use Rattle.proof_lexers.specs.Separations.{begins_separation}
 use Rattle.proof_cut.specs.PiecesRead.{comes_plain}
-use Rattle.proof_refusals.specs.NoPiece.{NoPiece, IsPlainFault, IsBlockFault, IsFollowed}
+use Rattle.proof_refusals.specs.NoPiece.{NoPiece, IsPlainFault, IsQuoted, IsBlockFault, IsFollowed}
 
 -- ---- a place
 
@@ -54,6 +55,10 @@ pub data MayNotStand (a : Account) (separation : List ℕ) (here : Position) (re
   key_on_earlier_line : (more : List ℕ) (begin : Position) (e : Entry) (es : List Entry) → rest ≡ 58 ∷ more → a.entries ≡ e ∷ es → entry.takes_pair e.kind e.pair ≡ true → e.had ≡ entry.waits begin → begin.line < here.line
       → MayNotStand a separation here rest problem.ColonMisplaced here
   question_not_free : (more : List ℕ) → rest ≡ 63 ∷ more → is_at_gap more ≡ true → is_in_flow a.entries ≡ false → may_begin a separation ≡ false → MayNotStand a separation here rest problem.KeyNotAllowed here
+  -- no TAB indents the line of a piece; that of the piece after a quoted scalar, which begins here, neither
+  tab_indents : is_indented_by_spaces a.site.before a.site.blocks a.site.awaits separation ≡ false → MayNotStand a separation here rest problem.TabInBlockIndentation here
+  tab_after_quoted : (single : Bool) (piece gap content : List ℕ) → rest ≡ piece ++ (gap ++ content) → IsQuoted single piece (gap ++ content) → is_separation false gap content ≡ true → begins_separation content ≡ false
+      → is_indented_by_spaces quoted_scalar (site_at_place a here).blocks (site_at_place a here).awaits gap ≡ false → MayNotStand a separation here rest problem.TabInBlockIndentation (position_after (position_after here piece (gap ++ content)) gap content)
 
 -- ---- all
 

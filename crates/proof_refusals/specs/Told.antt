@@ -12,7 +12,6 @@ use Rattle.proof_refusals.specs.Stuck.{IsStuck}
 abbrev pub is_told : Problem → Bool
 is_told problem.KeyWithoutColon = false
 is_told problem.KeyExpected = false
-is_told problem.TabInBlockIndentation = false
 is_told problem.AnchorIndentation = false
 is_told problem.QuotedIndentation = false
 is_told problem.TabAsIndentation = false
