@@ -28,11 +28,11 @@ max_plus a b n l p q =
     let both : max a b ≤ l - n = max-le left right in
     omega arith
 
-above_more : (os : List Opened) (k l : ℕ) → k ≤ l → AreAbove k os → AreAbove l os
+pub above_more : (os : List Opened) (k l : ℕ) → k ≤ l → AreAbove k os → AreAbove l os
 above_more [] k l h a = tt
 above_more (c ∷ outer) k l h a = let here = a.0 in (omega arith, above_more outer k l h a.1)
 
-part_above : (x : Extent) (os : List Opened) (l : ℕ) → AreAbove l os → length os + x.levels ≤ l → AreAbove l (with_part x os)
+pub part_above : (x : Extent) (os : List Opened) (l : ℕ) → AreAbove l os → length os + x.levels ≤ l → AreAbove l (with_part x os)
 part_above x [] l a h = tt
 part_above x (c ∷ outer) l a h = (max_plus c.extent.levels (x.levels + 1) (length outer) l a.0 (omega arith), a.1)
 

@@ -1,3 +1,5 @@
 pub mod Anchors
 pub mod CountLemmas
 pub mod LoadLemmas
+pub mod Parts
+pub mod Trees

@@ -2,3 +2,4 @@ pub mod Counting
 pub mod Extents
 pub mod Limited
 pub mod Made
+pub mod Sizes

@@ -12,6 +12,7 @@ use Rattle.yaml_loader.specs.Gives.{Gives}
 use Rattle.yaml_loader.specs.Loading.{want_of_memory}
 use Rattle.yaml_loader.specs.Unread.{IsUnread}
 use Rattle.yaml_limits.specs.Made.{made, IsWithin}
+use Rattle.yaml_limits.specs.Sizes.{AreWithin}
 use Rattle.yaml_limits.specs.declared.count.Excess.{Excess}
 use Rattle.yaml_limits.specs.declared.count.Excess.TheVariants as excess
 use Rattle.yaml_limits.specs.declared.error.LimitsError.{LimitsError}
@@ -32,10 +33,12 @@ pub data IsNotLoaded (limits : Limits) (text : List ℕ) : LimitsError → Type 
   too_large : (es : List (Ev × Position)) (e : Ev) (p : Position) → BeginsEvents false text (es ++ (e, p) ∷ []) → IsWithin limits (made es)
       → limits.size < (made (es ++ (e, p) ∷ [])).size → IsNotLoaded limits text (error.Size p)
 
--- What a load of the text gives: the documents that a load without limits gives, if what it makes is within the limits; or why not.
+-- What a load of the text gives: the documents that a load without limits gives, if what it makes is within the limits, and then they are
+-- within them too; or why not.
 pub record Answers (limits : Limits) (text : List ℕ) (result : Result (Vec Yaml Global) LimitsError) : Type 0 where
   pub reads : IfOk result (λ documents. IsReadAs false text (items_view documents.items))
   pub within : IfOk result (λ documents. IsMadeWithin limits text)
+  pub documents : IfOk result (λ documents. AreWithin limits (items_view documents.items))
   pub fault : IfErr result (λ e. IsNotLoaded limits text e)
 
 -- ---- on the way

@@ -8,7 +8,7 @@ use crate::guard::Guard;
 use crate::limits::Limits;
 use proof_loads::laws::{strings_are_the_text, texts_are_answered};
 use std::alloc::Global;
-use yaml_loader::laws::{refused_texts_want_memory, taken_texts_are_loaded};
+use yaml_loader::laws::{refused_texts_want_memory, taken_events_are_read, taken_texts_are_loaded};
 use yaml_parser::Parser;
 use yaml_tree::Yaml;
 
@@ -21,6 +21,7 @@ pub fn load_with_limits(alloc: Global, text: &str, limits: Limits) -> Result<Vec
     texts_are_answered::<Guard>();
     strings_are_the_text();
     taken_texts_are_loaded();
+    taken_events_are_read();
     refused_texts_want_memory();
     let outcome = parser.load(&mut guard, true);
     parser.note();

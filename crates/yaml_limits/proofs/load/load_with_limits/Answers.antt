@@ -21,4 +21,4 @@ returns c =
     let all = c.texts_are_answered.ensures _ _ _ _ _ text at_start scans l.loads in
     let answers = subst (λ k. AnswersText Guards k text c.new-guard.result c.load-outcome.result c.load-outcome.new.recv) e.keep_tags all in
     subst (λ l. Answers l text c.finish.result) g.limits
-    (answered c.taken_texts_are_loaded.ensures c.refused_texts_want_memory.ensures text c.new-guard.result g.loader g.no_fault g.counts g.goes_on c.finish.result answers c.finish.ensures)
+    (answered c.taken_texts_are_loaded.ensures c.refused_texts_want_memory.ensures c.taken_events_are_read.ensures text c.new-guard.result g.loader g.no_fault g.counts g.goes_on c.finish.result answers c.finish.ensures)
