@@ -44,7 +44,7 @@ module _ (text : List ℕ) (t : ScannerState) (a : Arrives text t) (some : is_em
         anchor = λ alias more e. name_told text t a some carried alias more e;
         tag = λ more e. tag_told text t a some carried more e;
         plain = λ comes. plain_told text t a some carried deep comes;
-        quoted = λ single more e. quoted_told text t a some carried single more e;
+        quoted = λ single more e. quoted_told text t a some carried deep single more e;
         block = λ literal more e o. block_told text t a some carried o literal more e;
         dash = λ more e gap. dash_told text t a some carried more e gap;
         question = λ more e gap. question_told text t a some carried more e gap;

@@ -10,6 +10,7 @@ pub mod OtherRows
 pub mod Passing
 pub mod Places
 pub mod Plains
+pub mod QuotedLines
 pub mod Quotes
 pub mod Refusals
 pub mod Spaces

@@ -36,6 +36,8 @@ use Rattle.proof_row_complete.proofs.Around.Markers.{marker_begins}
 use Rattle.proof_row_complete.proofs.KindsOfPieces.{kind_is}
 use Rattle.proof_refusals.specs.Certain.{is_certain, FailingPlacesHaveNoRow}
 use Rattle.proof_refusals.specs.NoPiece as none
+use Rattle.proof_refusals.specs.QuotedLines as quoted_lines
+use Rattle.proof_refusals.specs.QuotedLines.{IsQuotedFault}
 use Rattle.proof_refusals.specs.NoPiece.{NoPiece, IsNotQuoted, IsNoHeader, IsPlainFault, IsBlockFault, IsFollowed}
 use Rattle.proof_refusals.specs.Stuck as defs
 use Rattle.proof_refusals.specs.Stuck.{MayNotStand, Fails}
@@ -208,6 +210,10 @@ plain_other in_flow collection here text why at (none.by_column flow left) h = c
 plain_other in_flow collection here text why at (none.by_dash before rest flow cut begins over apart) h = cc h
 plain_other in_flow collection here text why at (none.by_tab before blanks rest column cut over stands left are solid) h = cc h
 
+lines_other : (single : Bool) (least : ℕ) (here : Position) (text : List ℕ) (why : Problem) (at : Position) → IsQuotedFault single least here text why at → is_certain why ≡ true → ⊥
+lines_other single least here text why at (quoted_lines.by_column body rest es cut has solid further low) h = cc h
+lines_other single least here text why at (quoted_lines.by_tab body rest es cut has further low) h = cc h
+
 block_other : (collection : List ℕ) (here : Position) (text : List ℕ) (why : Problem) (at : Position) → IsBlockFault collection here text why at → is_certain why ≡ true → ⊥
 block_other collection here text why at (none.by_tab piece header more h2 cut one is) h = cc h
 block_other collection here text why at (none.by_column piece header rest lines b cut is further lines_are empty deep left) h = cc h
@@ -252,6 +258,7 @@ failing_places_have_no_row text separation rest a here at why r p solid some f c
     by : Fails a separation here rest why at → ⊥
     by (defs.no_piece n) = none_other a separation rest here s (is_in_flow a.entries) why at n certain
     by (defs.no_plain comes n) = plain_other _ _ here rest why at n certain
+    by (defs.no_quoted single n) = lines_other single _ here rest why at n certain
     by (defs.no_block out n) = block_other _ here rest why at n certain
     by (defs.followed n) = followed_other _ here rest why at n certain
     by (defs.may_not_stand n) = stands_other a separation rest here s why at n certain

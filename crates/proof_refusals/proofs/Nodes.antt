@@ -1,6 +1,7 @@
 -- Faults of names, tags and scalars: no such piece begins with the text.
-use Rattle.std.proofs.Common.{◌≡◌, ℕ, ◌≤◌, List, [], ◌∷◌, Bool, true, false, not, if◌then◌else◌, Result, Ok, Err, ap, sym, ◌∙◌, subst, arith}
+use Rattle.std.proofs.Common.{◌≡◌, ℕ, ◌+◌, ◌≤◌, nat_lt, List, [], ◌∷◌, Bool, true, false, not, if◌then◌else◌, Result, Ok, Err, refl, ap, sym, ◌∙◌, subst, arith}
 use Rattle.std.proofs.lemmas.Bool.{and_parts}
+use Rattle.std.proofs.lemmas.Bool.Decides.{nat_tests}
 use Rattle.defs_text.specs.Classes.{is_nul}
 use Rattle.defs_text.specs.Position.{Position}
 use Rattle.defs_text.specs.Text.{is_empty, has_no_nul}
@@ -22,6 +23,8 @@ use Rattle.proof_lexers.specs.QuotedEnds.{QuotedEndsAs, IsQuotedRefusal}
 use Rattle.proof_lexers.proofs.Properties.Names.{names_end}
 use Rattle.proof_lexers.proofs.Properties.Tags.{tags_end}
 use Rattle.proof_lexers.proofs.Quoted.ScanEnds.{scans_end}
+use Rattle.proof_cut.proofs.Nodes.{IsDeep}
+use Rattle.proof_cut.proofs.Saved.{saved_is}
 use Rattle.proof_cut.proofs.Pieces.Quoted.{some_chars}
 use Rattle.proof_row_sound.specs.Choices.{outside_key}
 use Rattle.proof_row_sound.specs.Arrives.{Arrives}
@@ -30,7 +33,8 @@ use Rattle.proof_refusals.specs.NoPiece as none
 use Rattle.proof_refusals.specs.NoPiece.{NoPiece}
 use Rattle.proof_refusals.specs.Stuck.{IsStuck, no_piece}
 use Rattle.proof_refusals.proofs.Faults.{Faults, goes, read, in_turn}
-use Rattle.proof_refusals.proofs.Quotes.{after_told}
+use Rattle.proof_refusals.proofs.QuotedLines.{is_of_lines}
+use Rattle.proof_refusals.proofs.Quotes.{after_told, lines_told}
 use Rattle.proof_refusals.proofs.TabsAfterQuoted.{tab_told}
 use Rattle.proof_refusals.proofs.Places.{IsCarried, Told, stuck, in_flow_is}
 
@@ -63,19 +67,23 @@ module _ (text : List ℕ) (t : ScannerState) (a : Arrives text t) (some : is_em
       by f x i (tag_ends.refuses why reason j) = let same : At why t.held.position ≡ f = cc (i, j) in subst (λ g. Told text g) same (λ _. none_here why (none.tagless more why e reason))
 
   -- `'` or `"`
-  quoted_refused : (single : Bool) (more : List ℕ) → t.rest ≡ none.quote_of single ∷ more → (f : Fault) → IsQuotedRefusal single (context (node_start t.held)) t.held.position more f → Told text f
-  quoted_refused single more e f (quoted_ends.by_marker body rest cut has marks) = λ _. none_here problem.QuotedDocumentMarker (none.unquoted single more problem.QuotedDocumentMarker e (none.by_marker body rest cut has marks))
-  quoted_refused single more e f (quoted_ends.by_end has) = λ _. none_here problem.QuotedEnd (none.unquoted single more problem.QuotedEnd e (none.by_end has))
-  quoted_refused single more e f (quoted_ends.by_escape body rest why double cut has bad) = λ _. none_here why (none.unquoted single more why e (none.by_escape body rest why double cut has bad))
-  quoted_refused single more e f (quoted_ends.by_column p left) = λ h. absurd (cc h)
-  quoted_refused single more e f (quoted_ends.by_tab p left) = λ h. absurd (cc h)
+  low_indent : (p : Position) (i : ℕ) → nat_lt (p.col + 1) i ≡ true → 2 ≤ i
+  low_indent p i h = grind (arith, nat_tests, h)
 
-  pub quoted_told : (single : Bool) (more : List ℕ) → t.rest ≡ none.quote_of single ∷ more → Faults (Told text) (fetch_flow_scalar single t)
+  quoted_refused : (single : Bool) (more : List ℕ) → t.rest ≡ none.quote_of single ∷ more → (f : Fault) → IsQuotedRefusal single (context (node_start t.held)) t.held.position more f → (2 ≤ (node_start t.held).indent → is_of_lines f ≡ true → Told text f) → Told text f
+  quoted_refused single more e f (quoted_ends.by_marker body rest cut has marks) low = λ _. none_here problem.QuotedDocumentMarker (none.unquoted single more problem.QuotedDocumentMarker e (none.by_marker body rest cut has marks))
+  quoted_refused single more e f (quoted_ends.by_end has) low = λ _. none_here problem.QuotedEnd (none.unquoted single more problem.QuotedEnd e (none.by_end has))
+  quoted_refused single more e f (quoted_ends.by_escape body rest why double cut has bad) low = λ _. none_here why (none.unquoted single more why e (none.by_escape body rest why double cut has bad))
+  quoted_refused single more e f (quoted_ends.by_column p left) low = low (low_indent p (node_start t.held).indent left) refl
+  quoted_refused single more e f (quoted_ends.by_tab p left) low = low (low_indent p (node_start t.held).indent left) refl
+
+  pub quoted_told : IsDeep t.held → (single : Bool) (more : List ℕ) → t.rest ≡ none.quote_of single ∷ more → Faults (Told text) (fetch_flow_scalar single t)
   unfolding fetch_flow_scalar
-  quoted_told single more e =
+  quoted_told deep single more e =
       read (node_start t.held) (quoted single (context (node_start t.held)) t.rest t.held.position) _
-      (λ f k. by f (quoted single (context (node_start t.held)) (none.quote_of single ∷ more) t.held.position) (ap (λ r. quoted single (context (node_start t.held)) r t.held.position) (sym e) ∙ k)
-      (scans_end single (context (node_start t.held)) more t.held.position (some_chars more clean)))
+      (λ f k.
+      let fails : quoted single (context (node_start t.held)) (none.quote_of single ∷ more) t.held.position ≡ Err f = ap (λ r. quoted single (context (node_start t.held)) r t.held.position) (sym e) ∙ k in
+      by f (quoted single (context (node_start t.held)) (none.quote_of single ∷ more) t.held.position) fails fails (scans_end single (context (node_start t.held)) more t.held.position (some_chars more clean)))
       (λ x k. in_turn (after_told text t a some carried single (context (node_start t.held)) x (read_as x k)) (λ v i. in_turn (tab_told text t a some carried single (context (node_start t.held)) x (read_as x k) v i) (λ w j. goes)))
     where
       clean : has_no_nul more ≡ true
@@ -86,6 +94,10 @@ module _ (text : List ℕ) (t : ScannerState) (a : Arrives text t) (some : is_em
           subst (λ r. QuotedAs single (context (node_start t.held)) t.held.position r x) (sym e)
           (quoted_as single (context (node_start t.held)) t.held.position more x clean (subst (λ r. quoted single (context (node_start t.held)) r t.held.position ≡ Ok x) e k))
 
-      by : (f : Fault) (x : Result (Read (List ℕ)) Fault) → x ≡ Err f → QuotedEndsAs single (context (node_start t.held)) t.held.position more x → Told text f
-      by f x i (quoted_ends.reads body rest value position cut is ends j) = absurd (cc (i, j))
-      by f x i (quoted_ends.refuses g why j) = let same : g ≡ f = cc (i, j) in subst (λ g. Told text g) same (quoted_refused single more e g why)
+      by : (f : Fault) (x : Result (Read (List ℕ)) Fault) → x ≡ Err f → quoted single (context (node_start t.held)) (none.quote_of single ∷ more) t.held.position ≡ Err f → QuotedEndsAs single (context (node_start t.held)) t.held.position more x → Told text f
+      by f x i fails (quoted_ends.reads body rest value position cut is ends j) = absurd (cc (i, j))
+      by f x i fails (quoted_ends.refuses g why j) =
+          let same : g ≡ f = cc (i, j) in
+          subst (λ h. Told text h) same
+          (quoted_refused single more e g why (λ two told.
+          lines_told text t a some carried deep single (context (node_start t.held)) more (ap (λ h. h.indent) (saved_is t.held)) two e clean g (fails ∙ ap (λ h. Err h) (sym same)) told))

@@ -1,39 +1,51 @@
--- Faults after quoted scalars: what stands there may not follow.
-use Rattle.std.proofs.Common.{◌≡◌, ℕ, List, [], ◌∷◌, ◌++◌, Bool, true, false, not, ◌==◌, ◌&&◌, ◌||◌, if◌then◌else◌, append_assoc, Some, Result, Ok, Err, refl, ap, sym, ◌∙◌, subst, arith}
+-- Faults of quoted scalars: a further line is not indented, or what stands after the scalar may not follow it.
+use Rattle.std.proofs.Common.{◌≡◌, ℕ, ◌+◌, ◌-◌, ◌≤◌, nat_lt, List, [], ◌∷◌, ◌++◌, Bool, true, false, not, ◌==◌, ◌&&◌, ◌||◌, if◌then◌else◌, append_assoc, Some, Result, Ok, Err, refl, ap, sym, ◌∙◌, subst, arith}
 use Rattle.std.proofs.lemmas.Bool.Decides.{nat_tests}
-use Rattle.defs_text.specs.Classes.{is_blank, is_break}
+use Rattle.defs_text.specs.Classes.{tab, is_blank, is_break}
 use Rattle.defs_text.specs.Position.{Position, position_after}
-use Rattle.defs_text.specs.Text.{is_empty}
+use Rattle.defs_text.specs.Text.{is_empty, has_no_nul}
 use Rattle.defs_scalar.specs.FlowScalar.{begins_with}
+use Rattle.defs_row.specs.Step.{gives_node}
+use Rattle.defs_row.specs.Indentation.{least_column}
+use Rattle.defs_row.specs.Account.{Site, site_in}
 use Rattle.defs_row.specs.Following.{quoted_may_end}
 use Rattle.yaml_chars.specs.Class.{is_breakz}
 use Rattle.yaml_chars.specs.Class as model_classes
 use Rattle.yaml_tokens.specs.declared.problem.Fault.{Fault}
 use Rattle.yaml_tokens.specs.declared.problem.Fault.TheVariants.{At}
+use Rattle.yaml_tokens.specs.declared.problem.Problem.{Problem}
 use Rattle.yaml_tokens.specs.declared.problem.Problem.TheVariants as problem
 use Rattle.model_lexers.specs.declared.context.Context.{Context}
 use Rattle.model_lexers.specs.declared.context.SkipTabs.TheVariants.{Yes}
-use Rattle.model_lexers.specs.Machine.{Read}
+use Rattle.model_lexers.specs.Machine.{Read, past}
+use Rattle.model_lexers.specs.Quoted.{quoted}
 use Rattle.model_scanner.specs.State.{ScannerState, peek, in_flow, go_on, on_held}
 use Rattle.model_scanner.specs.Space.{skip_spaces}
 use Rattle.model_scanner.specs.Document.{node_start, unled, may_follow_quoted, check_after_quoted}
 use Rattle.model_scanner.proofs.Holds.{held_of}
 use Rattle.proof_lexers.specs.QuotedScan.{value_of, ends_before}
 use Rattle.proof_lexers.specs.Separations.{begins_separation, ends_spaces}
+use Rattle.proof_cut.proofs.Nodes.{IsDeep}
+use Rattle.proof_cut.proofs.Pieces.Quoted.{some_chars}
 use Rattle.proof_cut.proofs.Passes.{Spaced, spaces_skipped}
 use Rattle.proof_cut.proofs.Positions.{not_before_after}
 use Rattle.proof_cut.proofs.Saved.{saved_is}
 use Rattle.proof_row_sound.specs.Choices.{outside_key}
-use Rattle.proof_row_sound.specs.Arrives.{Arrives}
-use Rattle.proof_row_sound.proofs.QuotedKeeps.{QuotedAs, piece_of}
+use Rattle.proof_row_sound.specs.Stands.{columns}
+use Rattle.proof_row_sound.specs.Arrives.{Arrives, site_here}
+use Rattle.proof_row_sound.proofs.QuotedBreaks.{same_limit}
+use Rattle.proof_row_sound.proofs.QuotedKeeps.{QuotedAs, piece_of, least_is_less}
 use Rattle.proof_row_complete.specs.Goes.{Succeeds, went}
 use Rattle.proof_row_complete.proofs.Scalars.AfterQuoted.{check_passes}
 use Rattle.proof_refusals.specs.NoPiece as none
 use Rattle.proof_refusals.specs.NoPiece.{IsQuoted}
-use Rattle.proof_refusals.specs.Stuck.{IsStuck}
+use Rattle.proof_refusals.specs.Stuck.{IsStuck, no_quoted, site_at_place}
+use Rattle.proof_refusals.specs.QuotedLines as lines
+use Rattle.proof_refusals.specs.QuotedLines.{IsQuotedFault}
+use Rattle.proof_refusals.proofs.QuotedLines.{past_char, is_of_lines, Refuses, for_column, for_tab, quoted_refuses}
 use Rattle.proof_refusals.proofs.Faults.{Faults, fault, goes, in_turn}
 use Rattle.proof_refusals.proofs.Spaces.{spaces_told}
-use Rattle.proof_refusals.proofs.Places.{IsCarried, Told, followed_stuck}
+use Rattle.proof_refusals.proofs.Places.{IsCarried, Told, account_by, stuck, in_flow_is, followed_stuck}
 
 -- ---- texts
 
@@ -112,3 +124,45 @@ module _ (text : List ℕ) (t : ScannerState) (a : Arrives text t) (some : is_em
           → Faults (Told text) (if b then Ok v else Err (At problem.ContentAfterQuoted v.held.position))
       by v e s true n = goes
       by v e s false n = fault {f = At problem.ContentAfterQuoted v.held.position} (followed_by v e s n)
+
+-- ---- further lines
+
+unbroken : (b : Bool) → model_classes.is_break (none.quote_of b) ≡ false
+unfolding model_classes.is_break
+unbroken true = refl
+unbroken false = refl
+
+module _ (text : List ℕ) (t : ScannerState) (a : Arrives text t) (some : is_empty t.rest ≡ false) (carried : is_empty t.held.flow ≡ false → IsCarried text (outside_key a.base.entries t.held.keys)) where
+  abbrev here : Position
+  here = t.held.position
+
+  -- the least column at a place
+  least_is : (c : Bool) → least_column (site_at_place (account_by text t a some carried c []) here).blocks (site_at_place (account_by text t a some carried c []) here).awaits ≡ t.held.indent - 1
+  least_is c =
+      let s : Site = site_here (in_flow t.held) here a.base.site in
+      ap (λ b. least_column (site_in b gives_node here a.base.site).blocks (site_in b gives_node here a.base.site).awaits) (in_flow_is text t a some carried c []) ∙
+      (ap (λ bs. least_column bs s.awaits) a.blocks_are ∙ (ap (λ w. least_column (columns t.held.indent t.held.indents) w) a.awaits_is ∙ least_is_less t.held.indent t.held.indents a.are_levels))
+
+  -- the quoted scalar that begins here is none
+  lines_stuck : (single : Bool) (why : Problem) (at : Position) → here.line ≤ at.line → IsQuotedFault single (t.held.indent - 1) here t.rest why at → IsStuck text why at
+  lines_stuck single why at later x = stuck text t a some carried [] why at later (λ c may. no_quoted single (subst (λ n. IsQuotedFault single n here t.rest why at) (sym (least_is c)) x))
+
+  pub lines_told : IsDeep t.held → (single : Bool) (ctx : Context) (more : List ℕ) → ctx.indent ≡ t.held.indent → 2 ≤ ctx.indent → t.rest ≡ none.quote_of single ∷ more → has_no_nul more ≡ true → (f : Fault) → quoted single ctx (none.quote_of single ∷ more) here ≡ Err f → is_of_lines f ≡ true → Told text f
+  lines_told deep single ctx more same two e clean f k told = by f (quoted_refuses single ctx here two more (omega (arith, deep, same)) (some_chars more clean) f k told)
+    where
+      place : (body rest : List ℕ) → position_after here (none.quote_of single ∷ body) rest ≡ position_after (past here) body rest
+      place body rest = ap (λ q. position_after q body rest) (past_char here (none.quote_of single) (body ++ rest) (unbroken single))
+
+      low_by : (q : Position) → nat_lt (q.col + 1) ctx.indent ≡ true → nat_lt q.col (t.held.indent - 1) ≡ true
+      low_by q h = sym (same_limit q.col t.held.indent) ∙ (ap (λ n. nat_lt (q.col + 1) n) (sym same) ∙ h)
+
+      by : (f : Fault) → Refuses single ctx here more f → Told text f
+      by f (for_column body rest es cut has solid further low) =
+          λ _. lines_stuck single problem.QuotedIndentation here (omega arith)
+          (lines.by_column body rest es (e ∙ ap (λ r. none.quote_of single ∷ r) cut) has solid further
+          (ap (λ (q : Position). nat_lt q.col (t.held.indent - 1)) (place body rest) ∙ low_by (position_after (past here) body rest) low))
+      by f (for_tab body rest es q cut has further at low) =
+          let at_text : q ≡ position_after here (none.quote_of single ∷ body) (tab ∷ rest) = at ∙ sym (place body (tab ∷ rest)) in
+          λ _. subst (λ z. IsStuck text problem.TabAsIndentation z) (sym at_text)
+          (lines_stuck single problem.TabAsIndentation (position_after here (none.quote_of single ∷ body) (tab ∷ rest)) (not_before_after here (none.quote_of single ∷ body) (tab ∷ rest)).0
+          (lines.by_tab body rest es (e ∙ ap (λ r. none.quote_of single ∷ r) cut) has further (ap (λ (z : Position). nat_lt z.col (t.held.indent - 1)) (sym at_text) ∙ low_by q low)))

@@ -1,4 +1,5 @@
 pub mod Certain
 pub mod NoPiece
+pub mod QuotedLines
 pub mod Stuck
 pub mod Told

@@ -16,6 +16,7 @@ use Rattle.yaml_tokens.specs.declared.problem.Problem.{Problem}
 use Rattle.yaml_tokens.specs.declared.problem.Problem.TheVariants as problem
 use Rattle.proof_lexers.specs.Separations.{begins_separation}
 use Rattle.proof_cut.specs.PiecesRead.{comes_plain}
+use Rattle.proof_refusals.specs.QuotedLines.{IsQuotedFault}
 use Rattle.proof_refusals.specs.NoPiece.{NoPiece, IsPlainFault, IsQuoted, IsBlockFault, IsFollowed}
 
 -- ---- a place
@@ -62,11 +63,12 @@ pub data MayNotStand (a : Account) (separation : List ℕ) (here : Position) (re
 
 -- ---- all
 
--- What is wrong at a place: no piece begins with the text there; the plain scalar that begins there is none; the block scalar that begins there may not stand before what follows it; or the piece that begins may not stand there, or not before what follows it.
+-- What is wrong at a place: no piece begins with the text there; the plain or quoted scalar that begins there is none; the block scalar that begins there may not stand before what follows it; or the piece that begins may not stand there, or not before what follows it.
 pub data Fails (a : Account) (separation : List ℕ) (here : Position) (rest : List ℕ) (why : Problem) (at : Position) : Type 0 where
   no_piece : NoPiece (is_in_flow a.entries) here rest why at → Fails a separation here rest why at
   no_plain : comes_plain (is_in_flow a.entries) (is_adjacent (before_past (before_by a.site.before) separation)) here.col rest ≡ true
       → IsPlainFault (is_in_flow a.entries) (site_at_place a here).blocks here rest why at → Fails a separation here rest why at
+  no_quoted : (single : Bool) → IsQuotedFault single (least_column (site_at_place a here).blocks (site_at_place a here).awaits) here rest why at → Fails a separation here rest why at
   no_block : is_in_flow a.entries ≡ false → IsBlockFault (site_at_place a here).blocks here rest why at → Fails a separation here rest why at
   followed : IsFollowed (is_in_flow a.entries) here rest why at → Fails a separation here rest why at
   may_not_stand : MayNotStand a separation here rest why at → Fails a separation here rest why at

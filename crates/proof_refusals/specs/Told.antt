@@ -13,8 +13,6 @@ abbrev pub is_told : Problem → Bool
 is_told problem.KeyWithoutColon = false
 is_told problem.KeyExpected = false
 is_told problem.AnchorIndentation = false
-is_told problem.QuotedIndentation = false
-is_told problem.TabAsIndentation = false
 is_told _ = true
 
 -- `refused_texts_are_stuck`
