@@ -123,13 +123,14 @@ impl<T: Iterator<Item = char>> Tokens<T> {
         if let Some(token) = &self.peeked {
             return Ok(kind_of_token(&token.1));
         }
-        let Ok(next) = self.scanner.next_token() else {
-            return Err(Missing::Scan);
-        };
-        self.peeked = next;
-        match &self.peeked {
-            Some(token) => Ok(kind_of_token(&token.1)),
-            None => Err(Missing::Ended),
+        match self.scanner.next_token() {
+            Ok(Some(token)) => {
+                let kind = kind_of_token(&token.1);
+                self.peeked = Some(token);
+                Ok(kind)
+            }
+            Ok(None) => Err(Missing::Ended),
+            Err(_) => Err(Missing::Scan),
         }
     }
 

@@ -53,6 +53,7 @@ impl<T: Iterator<Item = char>> Fetcher<T> {
     }
 
     /// Fetches tokens until the next one can be handed out: until no key may come before it.
+    #[inline(always)]
     pub(crate) fn fill(&mut self) -> Result<(), Fault>
         requires kept { self.old.kept ≡ None }
         requires follows { Follows self.old }
@@ -65,10 +66,39 @@ impl<T: Iterator<Item = char>> Fetcher<T> {
         ensures ok { OnOk result (Follows self.new) }
         ensures err { IfErr result (λ e. (mark : Position) → Follows (record self.new { kept = Some (record { fault = e; mark = mark }) })) }
     {
-        'tokens: while !self.tokens.has_ended() && self.needs_more() {
+        if self.is_ready() {
+            return Ok(());
+        }
+        self.fill_more()
+    }
+
+    // The same, where no token is ready.
+    #[inline(never)]
+    fn fill_more(&mut self) -> Result<(), Fault>
+        requires kept { self.old.kept ≡ None }
+        requires follows { Follows self.old }
+        ensures run { Fetches self.old self.new }
+        ensures start { self.new.window.start ≡ self.old.window.start }
+        ensures left { OnOk result (work self.new ≤ work self.old) }
+        ensures some { OnOk result (self.new.tokens.ended ≡ false → 0 < waiting self.new.tokens) }
+        ensures front { OnOk result (self.new.tokens.ended ≡ false → list_any is_front self.new.keys ≡ false) }
+        ensures after { self.old.tokens.ended ≡ true → (result ≡ Ok tt) × (self.new ≡ self.old) }
+        ensures ok { OnOk result (Follows self.new) }
+        ensures err { IfErr result (λ e. (mark : Position) → Follows (record self.new { kept = Some (record { fault = e; mark = mark }) })) }
+    {
+        'tokens: while !self.is_ready() {
             self.fetch_one()?;
         }
         Ok(())
+    }
+
+    /// Whether the next token can be handed out, or the stream's end was fetched.
+    fn is_ready(&self) -> bool
+        ensures ended { result ≡ false → self.now.tokens.ended ≡ false }
+        ensures some { result ≡ true → self.now.tokens.ended ≡ false → 0 < waiting self.now.tokens }
+        ensures front { result ≡ true → self.now.tokens.ended ≡ false → list_any is_front self.now.keys ≡ false }
+    {
+        self.tokens.has_ended() || !self.needs_more()
     }
 
     /// Whether the next token may still get a key before it.
@@ -92,8 +122,8 @@ impl<T: Iterator<Item = char>> Fetcher<T> {
         ensures follows { Follows self.new }
         ensures window { self.new.window ≡ self.old.window }
     {
-        let token = self.tokens.pop()?;
         self.keys.lower();
+        let token = self.tokens.pop()?;
         Some(token)
     }
 }

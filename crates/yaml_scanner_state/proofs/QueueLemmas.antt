@@ -108,3 +108,14 @@ insert_past w i t h = rw (take_all i w h, drop_all i w h) refl
 -- a token after all, at a position after all
 pub past_shown : (g w v : List Token) (i : ℕ) (t : Token) → v ≡ w ++ t ∷ [] → length w ≤ i → map shown g ++ map shown v ≡ insert (map shown g ++ map shown w) (length g + i) (shown t)
 past_shown g w v i t e h = insert_shown g w v i t (e ∙ sym (insert_past w i t h))
+
+-- a token before all, and how many wait before it
+pub front_shown : (g w v : List Token) (i : ℕ) (t : Token) → v ≡ t ∷ w → i ≡ 0 → map shown g ++ map shown v ≡ insert (map shown g ++ map shown w) (length g + i) (shown t)
+front_shown g w v i t e z = rw z (insert_shown g w v 0 t e)
+
+pub front_keeps : (w v : List Token) (t : Token) → v ≡ t ∷ w → has_end (map shown w) ≡ true → has_end (map shown v) ≡ true
+front_keeps w v t e h = insert_keeps w v 0 t e h
+
+-- and it leaves the last one
+pub front_last : (g w v : List Token) (t : Token) → v ≡ t ∷ w → 0 < length w → last_property (map shown g ++ map shown v) ≡ last_property (map shown g ++ map shown w)
+front_last g w v t e h = insert_last g w v 0 t e h

@@ -84,7 +84,7 @@ impl Queue {
 
     /// Inserts a token before that many that wait. An `Err` changes nothing.
     #[inline(always)]
-    #[tactic(auto, using(crate::proofs::QueueLemmas::insert_shown, crate::proofs::QueueLemmas::past_shown, crate::proofs::QueueLemmas::insert_keeps))]
+    #[tactic(auto, using(crate::proofs::QueueLemmas::insert_shown, crate::proofs::QueueLemmas::past_shown, crate::proofs::QueueLemmas::front_shown, crate::proofs::QueueLemmas::insert_keeps, crate::proofs::QueueLemmas::front_keeps))]
     pub fn insert(&mut self, position: usize, token: Token) -> Result<(), AllocError>
         ensures ok { OnOk result (self.new ≡ record self.old { all = insert self.old.all (self.old.given + position) (shown token) }) }
         ensures err { OnErr result (self.new ≡ self.old) }
@@ -96,6 +96,10 @@ impl Queue {
         if position >= last {
             self.property = property_of(&token);
             self.waiting.push_back_reserved(token);
+            return Ok(());
+        }
+        if position == 0 {
+            self.waiting.push_front_reserved(token);
             return Ok(());
         }
         if self.waiting.insert(position, token).is_err() {
@@ -142,12 +146,12 @@ impl Queue {
         ensures handed { IfSome result (λ t. handed self.new ≡ handed self.old ++ shown t ∷ []) }
         ensures less { IfSome result (λ _. waiting self.new + 1 ≡ waiting self.old) }
     {
-        let token = self.waiting.pop_front()?;
-        self.given.push(&token);
+        let token = self.waiting.front()?;
+        self.given.push(token);
         if let TokenType::StreamEnd = token.1 {
             self.over = true;
         }
-        Some(token)
+        self.waiting.pop_front()
     }
 }
 

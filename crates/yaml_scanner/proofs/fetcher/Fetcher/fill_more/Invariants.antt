@@ -1,7 +1,7 @@
 use Rattle.std.proofs.Common.{◌≡◌, ◌≤◌, None, true}
 use Rattle.yaml_scanner.specs.Follows.{Follows}
 use Rattle.yaml_scanner.specs.Work.{Fetches, work}
-use Rattle.yaml_scanner.proofs.fetcher.Fetcher.fill.Given as goal
+use Rattle.yaml_scanner.proofs.fetcher.Fetcher.fill_more.Given as goal
 
 abbrev pub invariant-tokens : goal.invariant-tokens
 invariant-tokens g l = record {
