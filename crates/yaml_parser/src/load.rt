@@ -94,9 +94,14 @@ impl<T: Iterator<Item = char>> Parser<T> {
         ensures left { OnOk result ((parsed self.new).left ≤ (parsed self.old).left) }
     {
         'events: loop {
-            let (event, mark) = self.next_token()?;
+            let (event, mark) = match self.next_token() {
+                Ok(next) => next,
+                Err(error) => return Err(error),
+            };
             let last = is_document_end(&event);
-            recv.on_event(event, mark)?;
+            if let Err(error) = recv.on_event(event, mark) {
+                return Err(error);
+            }
             if last {
                 return Ok(());
             }

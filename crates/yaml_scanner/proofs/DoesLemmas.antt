@@ -1,6 +1,6 @@
 -- How the steps of the code compose.
 use Rattle.std.proofs.Common.{◌≡◌, ◌≢◌, ℕ, List, refl, sym, arith, Result, Ok, Err}
-use Rattle.std.specs.Prelude.{IfErr, IsErrAnd}
+use Rattle.std.specs.Prelude.{IfErr, IsErrAnd, OnOk}
 use Rattle.yaml_chars.specs.Reading.{Reading, Reads, SamePosition, position_of}
 use Rattle.yaml_chars.proofs.ReadingLemmas.{Reads-then}
 use Rattle.yaml_tokens.specs.declared.problem.Fault.{Fault}
@@ -56,3 +56,12 @@ okay a h = Ok (record { rest = a; held = h })
 pub exits : {X E : Type 0} (P : E → Type 0) (r : Result X E) (e : E) → IsErrAnd r (λ y. y ≡ e) → P e → IfErr r P
 exits P (Ok x) e h p = absurd h
 exits P (Err y) e h p = rw h p
+
+-- what a call gives, which is handed on
+pub ok_then : {X E : Type 0} {P Q : Type 0} (r : Result X E) → (P → Q) → OnOk r P → OnOk r Q
+ok_then (Ok x) f h = f h
+ok_then (Err y) f h = cc
+
+pub err_then : {X E : Type 0} {P Q : E → Type 0} (r : Result X E) → ((e : E) → P e → Q e) → IfErr r P → IfErr r Q
+err_then (Ok x) f h = cc
+err_then (Err y) f h = f y h

@@ -66,13 +66,20 @@ impl<T: Iterator<Item = char>> Fetcher<T> {
         ensures less { OnOk result (work self.new < work self.old) }
         ensures run { Fetches self.old self.new }
     {
-        self.skip_to_next_token()?;
-        self.drop_stale()?;
+        if let Err(fault) = self.skip_to_next_token() {
+            return Err(fault);
+        }
+        if let Err(fault) = self.drop_stale() {
+            return Err(fault);
+        }
         let limit = self.window.mark().col() + 1;
-        self.unroll_indent(limit)?;
-        self.fetch_here()?;
-        self.drop_stale()?;
-        Ok(())
+        if let Err(fault) = self.unroll_indent(limit) {
+            return Err(fault);
+        }
+        if let Err(fault) = self.fetch_here() {
+            return Err(fault);
+        }
+        self.drop_stale()
     }
 
     /// Fetches a token if the text goes on, else the stream's end.

@@ -87,7 +87,9 @@ impl<T: Iterator<Item = char>> Fetcher<T> {
         ensures err { IfErr result (λ e. (mark : Position) → Follows (record self.new { kept = Some (record { fault = e; mark = mark }) })) }
     {
         'tokens: while !self.is_ready() {
-            self.fetch_one()?;
+            if let Err(fault) = self.fetch_one() {
+                return Err(fault);
+            }
         }
         Ok(())
     }

@@ -74,8 +74,7 @@ impl<T: Iterator<Item = char>> Fetcher<T> {
             return Ok(());
         }
         let mark = self.window.mark();
-        self.keys.drop_stale(mark)?;
-        Ok(())
+        self.keys.drop_stale(mark)
     }
 
     /// Begins a collection at a column, unless one is open there or the position is inside flow. Its start goes in
