@@ -8,6 +8,7 @@ pub mod NoRows
 pub mod Nodes
 pub mod OtherRows
 pub mod Passing
+pub mod PiecesRefused
 pub mod Places
 pub mod Plains
 pub mod QuotedLines

@@ -40,8 +40,9 @@ use Rattle.proof_refusals.specs.QuotedLines as quoted_lines
 use Rattle.proof_refusals.specs.QuotedLines.{IsQuotedFault}
 use Rattle.proof_refusals.specs.NoPiece.{NoPiece, IsNotQuoted, IsNoHeader, IsPlainFault, IsBlockFault, IsFollowed}
 use Rattle.proof_refusals.specs.Stuck as defs
-use Rattle.proof_refusals.specs.Stuck.{MayNotStand, Fails}
+use Rattle.proof_refusals.specs.Stuck.{MayNotStand, Fails, site_at_place}
 use Rattle.proof_refusals.proofs.OtherRows.{StepAt, step_at}
+use Rattle.proof_refusals.proofs.PiecesRefused.{no_quoted_end, no_block_end}
 
 -- entries that are alike are as many
 many_alike : (ds es : List Entry) → LikeEntries ds es → length ds ≡ length es
@@ -214,19 +215,19 @@ lines_other : (single : Bool) (least : ℕ) (here : Position) (text : List ℕ) 
 lines_other single least here text why at (quoted_lines.by_column body rest es cut has solid further low) h = cc h
 lines_other single least here text why at (quoted_lines.by_tab body rest es cut has further low) h = cc h
 
-block_other : (collection : List ℕ) (here : Position) (text : List ℕ) (why : Problem) (at : Position) → IsBlockFault collection here text why at → is_certain why ≡ true → ⊥
-block_other collection here text why at (none.by_tab piece header more h2 cut one is) h = cc h
-block_other collection here text why at (none.by_column piece header rest lines b cut is further lines_are empty deep left) h = cc h
+block_other : (a : Account) (separation rest : List ℕ) (here : Position) (s : StepAt a separation rest here) (why : Problem) (at : Position) → is_in_flow a.entries ≡ false → IsBlockFault (site_at_place a here).blocks here rest why at → is_certain why ≡ true → ⊥
+block_other a separation rest here s why at out (none.by_tab piece header more h2 cut one is) h = cc h
+block_other a separation rest here s why at out (none.by_column piece header more lines b cut is further lines_are empty deep left) h = no_block_end a separation rest here s piece header more lines b out cut is further lines_are empty deep left
 
-followed_other : (in_flow : Bool) (here : Position) (rest : List ℕ) (why : Problem) (at : Position) → IsFollowed in_flow here rest why at → is_certain why ≡ true → ⊥
-followed_other in_flow here rest why at (none.glued c more e is begins) h = cc h
-followed_other in_flow here rest why at (none.glued_to_quoted single piece more e is begins) h = cc h
-followed_other in_flow here rest why at (none.after_quoted single piece more passed content e is ends on solid) h = cc h
-followed_other in_flow here rest why at (none.after_end more passed content col e gap on ends) h = cc h
-followed_other in_flow here rest why at (none.tab_after_dash more passed content out e gap on tab begins) h = cc h
-followed_other in_flow here rest why at (none.no_space more passed content e gap on begins ends) h = cc h
-followed_other in_flow here rest why at (none.tab_after_question more passed content e gap cut fills) h = cc h
-followed_other in_flow here rest why at (none.tab_after_colon more blanks comment content e tab on lacks letter) h = cc h
+followed_other : (a : Account) (separation rest : List ℕ) (here : Position) (s : StepAt a separation rest here) (why : Problem) (at : Position) → IsFollowed (is_in_flow a.entries) here rest why at → is_certain why ≡ true → ⊥
+followed_other a separation rest here s why at (none.glued c more e is begins) h = cc h
+followed_other a separation rest here s why at (none.glued_to_quoted single piece more e is begins) h = cc h
+followed_other a separation rest here s why at (none.after_quoted single piece more passed content e is ends on solid) h = no_quoted_end a separation rest here s single piece more e is ends
+followed_other a separation rest here s why at (none.after_end more passed content col e gap on ends) h = cc h
+followed_other a separation rest here s why at (none.tab_after_dash more passed content out e gap on tab begins) h = cc h
+followed_other a separation rest here s why at (none.no_space more passed content e gap on begins ends) h = cc h
+followed_other a separation rest here s why at (none.tab_after_question more passed content e gap cut fills) h = cc h
+followed_other a separation rest here s why at (none.tab_after_colon more blanks comment content e tab on lacks letter) h = cc h
 
 none_other : (a : Account) (separation rest : List ℕ) (here : Position) (s : StepAt a separation rest here) (in_flow : Bool) (why : Problem) (at : Position) → NoPiece in_flow here rest why at → is_certain why ≡ true → ⊥
 none_other a separation rest here s in_flow why at (none.percent more e col) h = no_percent a separation rest here s more e col
@@ -259,6 +260,6 @@ failing_places_have_no_row text separation rest a here at why r p solid some f c
     by (defs.no_piece n) = none_other a separation rest here s (is_in_flow a.entries) why at n certain
     by (defs.no_plain comes n) = plain_other _ _ here rest why at n certain
     by (defs.no_quoted single n) = lines_other single _ here rest why at n certain
-    by (defs.no_block out n) = block_other _ here rest why at n certain
-    by (defs.followed n) = followed_other _ here rest why at n certain
+    by (defs.no_block out n) = block_other a separation rest here s why at out n certain
+    by (defs.followed n) = followed_other a separation rest here s why at n certain
     by (defs.may_not_stand n) = stands_other a separation rest here s why at n certain

@@ -60,6 +60,8 @@ pub record StepAt (a : Account) (separation rest : List ℕ) (here : Position) :
   pub is_row : IsRowFrom (Some account) (step ∷ steps) last
   pub separation_is : step.separation ≡ separation
   pub text_is : step.piece ++ spelled steps last ≡ rest
+  pub is_clean : has_no_nul rest ≡ true
+  pub here_is : here ≡ position_after a.site.position separation rest
   pub position_is : (At account step (spelled steps last)).position ≡ here
 
 pub step_at : (text separation rest : List ℕ) (a : Account) (here : Position) (r : Row) → IsPlace text a separation rest here → begins_separation rest ≡ false → is_empty rest ≡ false → HasRow text r → StepAt a separation rest here
@@ -90,5 +92,7 @@ step_at text separation rest a here r p solid some h = by g.steps g.is_row g.spe
           is_row = row;
           separation_is = at.0;
           text_is = at.1;
+          is_clean = clean;
+          here_is = p.is_here;
           position_is = ap (λ s. position_after s.position w.separation (w.piece ++ spelled ws g.last)) (sym g.is_like.0) ∙ (ap (λ f. position_after a.site.position f (w.piece ++ spelled ws g.last)) at.0 ∙ (ap (λ z. position_after a.site.position separation z) at.1 ∙ sym p.is_here));
         }

@@ -19,6 +19,8 @@ is_certain problem.UnexpectedBacktick = true
 is_certain problem.AnchorName = true
 is_certain problem.BlockEntryInFlow = true
 is_certain problem.FlowTooDeep = true
+is_certain problem.ContentAfterQuoted = true
+is_certain problem.BlockScalarIndentation = true
 is_certain _ = false
 
 -- `failing_places_have_no_row`: whatever beginning of a row led to the place

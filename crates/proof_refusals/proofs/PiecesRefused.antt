@@ -1,0 +1,131 @@
+-- Where a piece may not stand before what follows it, no row of the text goes on.
+use Rattle.std.proofs.Common.{◌≡◌, List, [], ◌∷◌, ◌++◌, ℕ, Bool, true, false, not, ◌&&◌, ◌||◌, nat_le, nat_lt, if◌then◌else◌, map, Option, Some, None, refl, ap, sym, ◌∙◌, arith}
+use Rattle.std.proofs.lemmas.Bool.Decides.{nat_tests}
+use Rattle.defs_text.specs.Breaks.{split}
+use Rattle.defs_text.specs.Classes.{tab, is_at_end}
+use Rattle.defs_text.specs.Position.{Position, position_after}
+use Rattle.defs_text.specs.Text.{is_empty, has_no_nul}
+use Rattle.defs_scalar.specs.BlockScalar.{BlockStyle, literal, folded, leading_spaces}
+use Rattle.defs_scalar.specs.FlowScalar.{begins_with}
+use Rattle.defs_token.specs.Account.{innermost_column}
+use Rattle.defs_token.specs.BlockPiece.{BlockRead, block_read, block_position}
+use Rattle.defs_token.specs.Piece.{IsPiece}
+use Rattle.defs_token.specs.Separation.{is_separation}
+use Rattle.defs_token.specs.Token.{Tok, scalar, single_quoted, double_quoted}
+use Rattle.defs_token.specs.Token as tokens
+use Rattle.defs_row.specs.Step.{Step, spelled, gives_node, gives_block_scalar}
+use Rattle.defs_row.specs.Column.{innermost, blocks_at}
+use Rattle.defs_row.specs.FlowEntry.{Entry}
+use Rattle.defs_row.specs.Indentation.{least_column}
+use Rattle.defs_row.specs.Following.{are_empty, quoted_may_end, block_may_end, read_may_end, lines_may_end, may_precede}
+use Rattle.defs_row.specs.Account.{Account, is_in_flow, site_at, level_of, seen, may_stand}
+use Rattle.defs_row.specs.Row.{IsWritten, IsRowFrom}
+use Rattle.defs_row.specs.Tokens.{content_position, shown_position}
+use Rattle.proof_row.proofs.Accounts.{same_flow}
+use Rattle.proof_row.proofs.Written.{At, same_piece}
+use Rattle.proof_refusals.specs.NoPiece.{IsQuoted}
+use Rattle.proof_refusals.specs.Stuck.{site_at_place}
+use Rattle.proof_refusals.proofs.OtherRows.{StepAt}
+
+refused : (x : Option Account) (b : Bool) (ws : List Step) (last : List ℕ) → b ≡ false → IsRowFrom (if b then x else None) ws last → ⊥
+refused x true ws last e k = absurd (cc e)
+refused x false ws last e k = k
+
+and_last : (x y : Bool) → y ≡ false → (x && y) ≡ false
+and_last true y e = e
+and_last false y e = refl
+
+-- what may follow a piece at an account
+abbrev may_go : Account → (separation piece : List ℕ) → Tok → (next : List ℕ) → Bool
+may_go a separation piece t next = may_precede (is_in_flow a.entries) (site_at (is_in_flow a.entries) a.site separation piece t next).blocks t piece next
+
+module _ (a : Account) (separation rest : List ℕ) (here : Position) (s : StepAt a separation rest here) where
+  abbrev next : List ℕ
+  next = spelled s.steps s.last
+
+  -- a step of a piece
+  abbrev own : (piece : List ℕ) → Tok → Step
+  own piece t = record { separation = separation; piece = piece; shown = t; key = false }
+
+  is_filled : is_separation false separation rest ≡ true
+  is_filled = ap (λ f. is_separation false f rest) (sym s.separation_is) ∙ (ap (λ r. is_separation false s.step.separation r) (sym s.text_is) ∙ s.is_row.0.0)
+
+  same_go : (piece more : List ℕ) (t : Tok) → (piece ≡ s.step.piece) × (t ≡ s.step.shown) × (more ≡ next) → may_go a separation piece t more ≡ may_go s.account s.step.separation s.step.piece s.step.shown next
+  same_go piece more t is =
+      ap (λ fl. may_precede fl (site_at fl a.site separation piece t more).blocks t piece more) (same_flow a.entries s.account.entries s.is_like.2) ∙
+      (ap (λ x. may_precede (is_in_flow s.account.entries) (site_at (is_in_flow s.account.entries) x separation piece t more).blocks t piece more) s.is_like.0 ∙
+      (ap (λ f. may_go s.account f piece t more) (sym s.separation_is) ∙
+      (ap (λ p. may_go s.account s.step.separation p t more) is.0 ∙
+      (ap (λ t. may_go s.account s.step.separation s.step.piece t more) is.1 ∙ ap (λ n. may_go s.account s.step.separation s.step.piece s.step.shown n) is.2))))
+
+  -- The piece that begins here, of this token, may not stand before what follows it.
+  pub no_step : (piece more : List ℕ) (t : Tok) → rest ≡ piece ++ more → not (is_empty piece) ≡ true → IsPiece (seen a (At a (own piece t) more) separation) piece more None (shown_position (At a (own piece t) more) piece t more) t → may_go a separation piece t more ≡ false → ⊥
+  no_step piece more t e some is no_more =
+      let written : IsWritten a (own piece t) more = (ap (λ r. is_separation false separation r) (sym e) ∙ is_filled, (some, is)) in
+      let same = same_piece a s.account (own piece t) s.step more next s.is_like written s.is_row.0 (sym s.separation_is) (sym e ∙ sym s.text_is) (ap has_no_nul (sym e) ∙ s.is_clean) in
+      let stays : may_go s.account s.step.separation s.step.piece s.step.shown next ≡ false = sym (same_go piece more t same) ∙ no_more in
+      refused _ (may_stand (is_in_flow s.account.entries) s.account.site (At s.account s.step next) s.step.separation s.step.piece s.step.shown next) s.steps s.last (and_last _ _ stays) s.is_row.1
+
+  -- ---- quoted scalars
+
+  not_nothing : (c : ℕ) (x y : List ℕ) → x ≡ c ∷ y → not (is_empty x) ≡ true
+  not_nothing c x y e = ap (λ z. not (is_empty z)) e
+
+  pub no_quoted_end : (single : Bool) (piece more : List ℕ) → rest ≡ piece ++ more → IsQuoted single piece more → quoted_may_end (is_in_flow a.entries) piece more ≡ false → ⊥
+  no_quoted_end true piece more e is ends = no_step piece more (scalar single_quoted is.0) e (not_nothing _ piece _ is.1.1) (is.1, refl) ends
+  no_quoted_end false piece more e is ends = no_step piece more (scalar double_quoted is.0) e (not_nothing _ piece _ is.1.1) (is.1, refl) ends
+
+  -- ---- block scalars
+
+  flow_seen : (es : List Entry) → is_in_flow es ≡ false → not (is_empty (map level_of es)) ≡ false
+  flow_seen [] h = refl
+  flow_seen (e ∷ es) h = h
+
+  innermost_seen : (bs : List ℕ) → innermost_column (map (λ n. Some n) bs) ≡ innermost bs
+  innermost_seen [] = refl
+  innermost_seen (n ∷ bs) = refl
+
+  some_piece : (piece header : List ℕ) (lines : List (List ℕ)) → (split piece).complete ≡ header ∷ lines → not (is_empty piece) ≡ true
+  some_piece [] header lines e = absurd (cc e)
+  some_piece (c ∷ r) header lines e = refl
+
+  module _ (piece header more : List ℕ) (lines : List (List ℕ)) (b : BlockRead) (out : is_in_flow a.entries ≡ false) (cut : rest ≡ piece ++ more) (is : block_read (innermost (site_at_place a here).blocks) piece more ≡ Some b) (further : is_at_end more ≡ false)
+      (lines_are : (split piece).complete ≡ header ∷ lines) (empty : are_empty b.column lines ≡ true) (deep : nat_le (least_column (site_at_place a here).blocks true) (leading_spaces more) ≡ true) (left : nat_lt (leading_spaces more) b.column ≡ true) where
+    abbrev place : Position
+    place = position_after a.site.position separation (piece ++ more)
+
+    -- the block collections that go on at the piece
+    abbrev going : List ℕ
+    going = blocks_at (is_in_flow a.entries) gives_block_scalar place.col a.site.blocks
+
+    going_are : going ≡ (site_at_place a here).blocks
+    going_are =
+        ap (λ fl. blocks_at fl gives_block_scalar place.col a.site.blocks) out ∙
+        (ap (λ (q : Position). blocks_at false gives_node q.col a.site.blocks) (ap (λ r. position_after a.site.position separation r) (sym cut) ∙ sym s.here_is) ∙ ap (λ fl. blocks_at fl gives_node here.col a.site.blocks) (sym out))
+
+    read_going : block_read (innermost going) piece more ≡ Some b
+    read_going = ap (λ bs. block_read (innermost bs) piece more) going_are ∙ is
+
+    may_not : block_may_end going piece more ≡ false
+    may_not =
+        ap (λ x. x || read_may_end going (block_read (innermost going) piece more) piece more) further ∙
+        (ap (λ o. read_may_end going o piece more) read_going ∙
+        (ap (λ ls. lines_may_end going b.column ls more) lines_are ∙ and_last (not (is_empty lines && begins_with tab more)) _
+        (by (are_empty b.column lines) (nat_lt (leading_spaces more) (least_column going true)) (nat_le b.column (leading_spaces more)) empty
+        (ap (λ bs. nat_lt (leading_spaces more) (least_column bs true)) going_are ∙ grind (arith, nat_tests, deep)) (grind (arith, nat_tests, left)))))
+      where
+        by : (x y z : Bool) → x ≡ true → y ≡ false → z ≡ false → (not x || y || z) ≡ false
+        by x y z e f g = rw (e, f, g) refl
+
+    in_style : (style : BlockStyle) → b.style ≡ style → block_read (innermost_column (map (λ n. Some n) going)) piece more ≡ Some (record { style = style; column = b.column; text = b.text })
+    in_style style e = ap (λ o. block_read o piece more) (innermost_seen going) ∙ (read_going ∙ ap (λ st. Some (record { style = st; column = b.column; text = b.text })) e)
+
+    shown_at : content_position (block_read (innermost going) piece more) place piece more ≡ block_position b.column place piece more
+    shown_at = ap (λ o. content_position o place piece more) read_going
+
+    by_style : (style : BlockStyle) → b.style ≡ style → ⊥
+    by_style literal e = no_step piece more (scalar tokens.literal b.text) cut (some_piece piece header lines lines_are) (flow_seen a.entries out, (b.column, in_style literal e, shown_at)) may_not
+    by_style folded e = no_step piece more (scalar tokens.folded b.text) cut (some_piece piece header lines lines_are) (flow_seen a.entries out, (b.column, in_style folded e, shown_at)) may_not
+
+    pub no_block_end : ⊥
+    no_block_end = by_style b.style refl
