@@ -64,7 +64,7 @@ use Rattle.proof_refusals.specs.NoPiece.{IsFollowed}
 use Rattle.proof_refusals.specs.Stuck as defs
 use Rattle.proof_refusals.specs.Stuck.{IsStuck, Fails, may_not_stand, MayNotStand, may_begin, is_free_line}
 use Rattle.proof_refusals.proofs.Faults.{Faults, fault, goes, read, in_turn, tried, checked, either}
-use Rattle.proof_refusals.proofs.Spaces.{space_told, spaces_told, no_comment, no_comment_left}
+use Rattle.proof_refusals.proofs.Spaces.{space_told, spaces_told, no_comment, no_comment_left, solid_past}
 use Rattle.proof_refusals.proofs.Places.{IsCarried, Told, not_told, many_levels, stuck, in_flow_is, followed_stuck}
 use Rattle.proof_refusals.proofs.Nodes.{none_begins}
 
@@ -161,7 +161,7 @@ module _ (text : List ℕ) (t : ScannerState) (a : Arrives text t) (some : is_em
       by false i =
           fault {f = At problem.ContentAfterDocumentEnd v.held.position} (followed_at problem.ContentAfterDocumentEnd v.held.position (further 3 t.held.position) (s.blanks ++ s.comment) v.rest (omega arith)
           (ap (λ h. h.position) s.is_held ∙ ap (λ q. position_after q (s.blanks ++ s.comment) v.rest) m.1)
-          (none.after_end more (s.blanks ++ s.comment) v.rest col e gap (record { is_text = sym m.0 ∙ (s.is_rest ∙ sym (append_assoc s.blanks s.comment v.rest)); is_filled = s.is_filled; is_on_line = s.no_break }) (not_at_end v.rest i)))
+          (none.after_end more (s.blanks ++ s.comment) v.rest col e gap (record { is_text = sym m.0 ∙ (s.is_rest ∙ sym (append_assoc s.blanks s.comment v.rest)); is_filled = s.is_filled; is_on_line = s.no_break }) (not_at_end v.rest i) (solid_past v.rest s.ends i)))
 
   pub document_end_told : (more : List ℕ) → t.rest ≡ 46 ∷ 46 ∷ 46 ∷ more → is_at_gap more ≡ true → t.held.position.col ≡ 0 → Faults (Told text) (fetch_document_end t)
   unfolding fetch_document_end

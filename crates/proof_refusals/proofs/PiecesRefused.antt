@@ -1,8 +1,9 @@
 -- Where a piece may not stand before what follows it, no row of the text goes on.
-use Rattle.std.proofs.Common.{◌≡◌, List, [], ◌∷◌, ◌++◌, ℕ, Bool, true, false, not, ◌&&◌, ◌||◌, nat_le, nat_lt, if◌then◌else◌, map, Option, Some, None, refl, ap, sym, ◌∙◌, arith}
+use Rattle.std.proofs.Common.{◌≡◌, List, [], ◌∷◌, ◌++◌, ℕ, Bool, true, false, not, ◌==◌, ◌&&◌, ◌||◌, nat_le, nat_lt, if◌then◌else◌, map, Option, Some, None, refl, ap, sym, ◌∙◌, arith}
+use Rattle.std.proofs.lemmas.Bool.{and_parts}
 use Rattle.std.proofs.lemmas.Bool.Decides.{nat_tests}
-use Rattle.defs_text.specs.Breaks.{split}
-use Rattle.defs_text.specs.Classes.{tab, is_at_end}
+use Rattle.defs_text.specs.Breaks.{split, is_at_line_end, is_blanks_and_comment, is_rest_of_line}
+use Rattle.defs_text.specs.Classes.{tab, is_blank, is_break, is_at_end, is_at_gap}
 use Rattle.defs_text.specs.Position.{Position, position_after}
 use Rattle.defs_text.specs.Text.{is_empty, has_no_nul}
 use Rattle.defs_scalar.specs.BlockScalar.{BlockStyle, literal, folded, leading_spaces}
@@ -10,20 +11,24 @@ use Rattle.defs_scalar.specs.FlowScalar.{begins_with}
 use Rattle.defs_token.specs.Account.{innermost_column}
 use Rattle.defs_token.specs.BlockPiece.{BlockRead, block_read, block_position}
 use Rattle.defs_token.specs.Piece.{IsPiece}
-use Rattle.defs_token.specs.Separation.{is_separation}
-use Rattle.defs_token.specs.Token.{Tok, scalar, single_quoted, double_quoted}
+use Rattle.defs_scalar.specs.Tags.{leading}
+use Rattle.defs_token.specs.Separation.{is_separation, is_blanks}
+use Rattle.defs_token.specs.Token.{Tok, document_end, scalar, single_quoted, double_quoted}
 use Rattle.defs_token.specs.Token as tokens
-use Rattle.defs_row.specs.Step.{Step, spelled, gives_node, gives_block_scalar}
+use Rattle.defs_row.specs.Step.{Step, spelled, is_on_line, gives_node, gives_block_scalar, gives_marker}
 use Rattle.defs_row.specs.Column.{innermost, blocks_at}
 use Rattle.defs_row.specs.FlowEntry.{Entry}
 use Rattle.defs_row.specs.Indentation.{least_column}
-use Rattle.defs_row.specs.Following.{are_empty, quoted_may_end, block_may_end, read_may_end, lines_may_end, may_precede}
+use Rattle.defs_row.specs.Following.{line_is_done, are_empty, quoted_may_end, block_may_end, read_may_end, lines_may_end, may_precede}
 use Rattle.defs_row.specs.Account.{Account, is_in_flow, site_at, level_of, seen, may_stand}
 use Rattle.defs_row.specs.Row.{IsWritten, IsRowFrom}
 use Rattle.defs_row.specs.Tokens.{content_position, shown_position}
+use Rattle.proof_lexers.specs.PlainEnds.{is_white}
+use Rattle.proof_lexers.specs.Separations.{begins_separation}
+use Rattle.proof_row_sound.proofs.QuotedEnds.{blanks_alone}
 use Rattle.proof_row.proofs.Accounts.{same_flow}
 use Rattle.proof_row.proofs.Written.{At, same_piece}
-use Rattle.proof_refusals.specs.NoPiece.{IsQuoted}
+use Rattle.proof_refusals.specs.NoPiece.{GoesOn, IsQuoted}
 use Rattle.proof_refusals.specs.Stuck.{site_at_place}
 use Rattle.proof_refusals.proofs.OtherRows.{StepAt}
 
@@ -34,6 +39,39 @@ refused x false ws last e k = k
 and_last : (x y : Bool) → y ≡ false → (x && y) ≡ false
 and_last true y e = e
 and_last false y e = refl
+
+both_false : (x y : Bool) → (x || y) ≡ false → (x ≡ false) × (y ≡ false)
+both_false true y e = absurd (cc e)
+both_false false y e = (refl, e)
+
+-- a line on which something other than a comment stands after blanks holds more
+not_done : (s : List ℕ) (d : ℕ) (r : List ℕ) → is_blanks s ≡ true → is_break d ≡ false → is_blank d ≡ false → (d == 35) ≡ false → line_is_done (s ++ d ∷ r) ≡ false
+unfolding is_blank is_break
+not_done s d r b e f g = ap is_rest_of_line (on_line s b) ∙ done s b
+  where
+    tail : List ℕ
+    tail = d ∷ leading is_on_line r
+
+    unbroken : (c : ℕ) → is_blank c ≡ true → is_break c ≡ false
+    unbroken c h = grind (arith, nat_tests, h)
+
+    on_line : (s : List ℕ) → is_blanks s ≡ true → leading is_on_line (s ++ d ∷ r) ≡ s ++ tail
+    on_line [] b = rw e refl
+    on_line (c ∷ s) b =
+        let p = and_parts (is_blank c) (is_blanks s) b in
+        let u : is_break c ≡ false = unbroken c p.0 in
+        rw u (ap (λ l. c ∷ l) (on_line s p.1))
+
+    comment : (s : List ℕ) → is_blanks s ≡ true → is_blanks_and_comment (s ++ tail) ≡ false
+    comment [] b = rw (g, f) refl
+    comment (c ∷ s) b =
+        let p = and_parts (is_blank c) (is_blanks s) b in
+        let u : (c == 35) ≡ false = grind (arith, nat_tests, p.0) in
+        rw (u, p.0) (comment s p.1)
+
+    done : (s : List ℕ) → is_blanks s ≡ true → is_rest_of_line (s ++ tail) ≡ false
+    done [] b = rw f refl
+    done (c ∷ s) b = let p = and_parts (is_blank c) (is_blanks s) b in rw p.0 (comment s p.1)
 
 -- what may follow a piece at an account
 abbrev may_go : Account → (separation piece : List ℕ) → Tok → (next : List ℕ) → Bool
@@ -65,6 +103,24 @@ module _ (a : Account) (separation rest : List ℕ) (here : Position) (s : StepA
       let same = same_piece a s.account (own piece t) s.step more next s.is_like written s.is_row.0 (sym s.separation_is) (sym e ∙ sym s.text_is) (ap has_no_nul (sym e) ∙ s.is_clean) in
       let stays : may_go s.account s.step.separation s.step.piece s.step.shown next ≡ false = sym (same_go piece more t same) ∙ no_more in
       refused _ (may_stand (is_in_flow s.account.entries) s.account.site (At s.account s.step next) s.step.separation s.step.piece s.step.shown next) s.steps s.last (and_last _ _ stays) s.is_row.1
+
+  -- ---- the end of a document
+
+  closed : (es : List Entry) (column : ℕ) (bs : List ℕ) → (if not (is_empty (map level_of es)) then true else not (not (is_empty (map (λ n. Some n) (blocks_at (is_in_flow es) gives_marker column bs))))) ≡ true
+  closed [] column bs = refl
+  closed (e ∷ es) column bs = refl
+
+  holds_more : (more passed content : List ℕ) → GoesOn more passed content → is_at_line_end content ≡ false → begins_separation content ≡ false → line_is_done more ≡ false
+  holds_more more passed [] on ends solid = absurd (cc ends)
+  holds_more more passed (d ∷ r) on ends solid =
+      let white = both_false (is_white d) (d == 35) solid in
+      let blank = both_false (is_blank d) (is_break d) white.0 in
+      ap line_is_done on.is_text ∙ not_done passed d r (blanks_alone false passed (d ∷ r) on.is_filled on.is_on_line ends).1 blank.1 blank.0 white.1
+
+  pub no_document_end : (more passed content : List ℕ) → here.col ≡ 0 → rest ≡ 46 ∷ 46 ∷ 46 ∷ more → is_at_gap more ≡ true → GoesOn more passed content → is_at_line_end content ≡ false → begins_separation content ≡ false → ⊥
+  no_document_end more passed content col e gap on ends solid =
+      let place : position_after a.site.position separation (46 ∷ 46 ∷ 46 ∷ more) ≡ here = ap (λ r. position_after a.site.position separation r) (sym e) ∙ sym s.here_is in
+      no_step (46 ∷ 46 ∷ 46 ∷ []) more document_end e refl ((refl, ap (λ (p : Position). p.col) place ∙ col, gap, closed a.entries (position_after a.site.position separation (46 ∷ 46 ∷ 46 ∷ more)).col a.site.blocks), refl) (holds_more more passed content on ends solid)
 
   -- ---- quoted scalars
 

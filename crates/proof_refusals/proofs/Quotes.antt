@@ -1,7 +1,6 @@
 -- Faults of quoted scalars: a further line is not indented, or what stands after the scalar may not follow it.
 use Rattle.std.proofs.Common.{◌≡◌, ℕ, ◌+◌, ◌-◌, ◌≤◌, nat_lt, List, [], ◌∷◌, ◌++◌, Bool, true, false, not, ◌==◌, ◌&&◌, ◌||◌, if◌then◌else◌, append_assoc, Some, Result, Ok, Err, refl, ap, sym, ◌∙◌, subst, arith}
-use Rattle.std.proofs.lemmas.Bool.Decides.{nat_tests}
-use Rattle.defs_text.specs.Classes.{tab, is_blank, is_break}
+use Rattle.defs_text.specs.Classes.{tab}
 use Rattle.defs_text.specs.Position.{Position, position_after}
 use Rattle.defs_text.specs.Text.{is_empty, has_no_nul}
 use Rattle.defs_scalar.specs.FlowScalar.{begins_with}
@@ -44,7 +43,7 @@ use Rattle.proof_refusals.specs.QuotedLines as lines
 use Rattle.proof_refusals.specs.QuotedLines.{IsQuotedFault}
 use Rattle.proof_refusals.proofs.QuotedLines.{past_char, is_of_lines, Refuses, for_column, for_tab, quoted_refuses}
 use Rattle.proof_refusals.proofs.Faults.{Faults, fault, goes, in_turn}
-use Rattle.proof_refusals.proofs.Spaces.{spaces_told}
+use Rattle.proof_refusals.proofs.Spaces.{spaces_told, solid_past}
 use Rattle.proof_refusals.proofs.Places.{IsCarried, Told, account_by, stuck, in_flow_is, followed_stuck}
 
 -- ---- texts
@@ -60,9 +59,8 @@ is_quoted false body next value is ends = (value, (body, refl, is))
 
 -- what stands after blanks and may not follow, is no separation
 solid_left : (flow same : Bool) (r : List ℕ) → ends_spaces Yes r ≡ true → may_follow_quoted flow same (peek r) ≡ false → begins_separation r ≡ false
-unfolding may_follow_quoted is_blank is_break model_classes.is_break
-solid_left flow same [] h n = refl
-solid_left flow same (c ∷ r) h n = grind (arith, nat_tests, h, first (is_breakz c) _ n)
+unfolding may_follow_quoted
+solid_left flow same r h n = solid_past r h (first (is_breakz (peek r)) _ n)
   where
     first : (x y : Bool) → (x || y) ≡ false → x ≡ false
     first true y h = absurd (cc h)

@@ -7,13 +7,16 @@ use Rattle.defs_text.specs.Position.{Position}
 use Rattle.yaml_tokens.specs.declared.problem.Fault.{Fault}
 use Rattle.yaml_tokens.specs.declared.problem.Fault.TheVariants.{At}
 use Rattle.yaml_tokens.specs.declared.problem.Problem.TheVariants as problem
+use Rattle.yaml_chars.specs.Class.{is_breakz}
+use Rattle.yaml_chars.specs.Class as model_classes
 use Rattle.model_lexers.specs.declared.context.SkipTabs.{SkipTabs}
+use Rattle.model_lexers.specs.declared.context.SkipTabs.TheVariants.{Yes}
 use Rattle.model_lexers.specs.declared.context.Whitespace.{Whitespace}
 use Rattle.model_lexers.specs.Machine.{Read}
 use Rattle.model_lexers.specs.Space.{space, are_skipped}
-use Rattle.model_scanner.specs.State.{ScannerState}
+use Rattle.model_scanner.specs.State.{ScannerState, peek}
 use Rattle.model_scanner.specs.Space.{skip_spaces}
-use Rattle.proof_lexers.specs.Separations.{ends_spaces, SpacesAs, spaces, glued}
+use Rattle.proof_lexers.specs.Separations.{begins_separation, ends_spaces, SpacesAs, spaces, glued}
 use Rattle.proof_lexers.proofs.Separation.Spaces.{spaces_are_passed}
 use Rattle.proof_refusals.proofs.Faults.{Faults, goes, read}
 use Rattle.proof_refusals.proofs.Places.{Told}
@@ -46,3 +49,9 @@ no_comment_left tabs (c ∷ r) h = by (c == 32) ((c == 9) && are_skipped tabs) (
     by false true z h = absurd (cc h)
     by false false true h = absurd (cc h)
     by false false false h = refl
+
+-- and no separation, where the line goes on
+pub solid_past : (r : List ℕ) → ends_spaces Yes r ≡ true → is_breakz (peek r) ≡ false → begins_separation r ≡ false
+unfolding is_blank is_break model_classes.is_break
+solid_past [] h n = refl
+solid_past (c ∷ r) h n = grind (arith, nat_tests, h, n)

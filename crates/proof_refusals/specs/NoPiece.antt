@@ -116,7 +116,7 @@ pub data IsFollowed (in_flow : Bool) (here : Position) (rest : List ℕ) : Probl
   glued_to_quoted : (single : Bool) (piece more : List ℕ) → rest ≡ piece ++ more → IsQuoted single piece more → begins_with 35 more ≡ true → IsFollowed in_flow here rest problem.CommentNotSeparated (position_after here piece more)
   after_quoted : (single : Bool) (piece more passed content : List ℕ) → rest ≡ piece ++ more → IsQuoted single piece more → quoted_may_end in_flow piece more ≡ false → GoesOn more passed content → begins_separation content ≡ false
       → IsFollowed in_flow here rest problem.ContentAfterQuoted (position_after (position_after here piece more) passed content)
-  after_end : (more passed content : List ℕ) → here.col ≡ 0 → rest ≡ 46 ∷ 46 ∷ 46 ∷ more → is_at_gap more ≡ true → GoesOn more passed content → is_at_line_end content ≡ false
+  after_end : (more passed content : List ℕ) → here.col ≡ 0 → rest ≡ 46 ∷ 46 ∷ 46 ∷ more → is_at_gap more ≡ true → GoesOn more passed content → is_at_line_end content ≡ false → begins_separation content ≡ false
       → IsFollowed in_flow here rest problem.ContentAfterDocumentEnd (position_after (further 3 here) passed content)
   tab_after_dash : (more passed content : List ℕ) → in_flow ≡ false → rest ≡ 45 ∷ more → is_at_gap more ≡ true → GoesOn more passed content → has 9 passed ≡ true → begins_entry content ≡ true
       → IsFollowed in_flow here rest problem.TabAfterDash (position_after (further 1 here) passed content)
