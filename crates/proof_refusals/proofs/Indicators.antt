@@ -65,7 +65,8 @@ use Rattle.proof_refusals.specs.Stuck as defs
 use Rattle.proof_refusals.specs.Stuck.{IsStuck, Fails, may_not_stand, MayNotStand, may_begin, is_free_line}
 use Rattle.proof_refusals.proofs.Faults.{Faults, fault, goes, read, in_turn, tried, checked, either}
 use Rattle.proof_refusals.proofs.Spaces.{space_told, spaces_told, no_comment, no_comment_left, solid_past}
-use Rattle.proof_refusals.proofs.Places.{IsCarried, Told, not_told, many_levels, stuck, in_flow_is, followed_stuck}
+use Rattle.proof_refusals.proofs.Places.{IsCarried, Told, many_levels, stuck, in_flow_is, followed_stuck}
+use Rattle.proof_refusals.proofs.MarginKeys.{IsMargin, no_dash_after}
 use Rattle.proof_refusals.proofs.Nodes.{none_begins}
 
 -- ---- keys that must be one
@@ -207,19 +208,28 @@ module _ (text : List ℕ) (t : ScannerState) (a : Arrives text t) (some : is_em
 
   -- ---- `-`, `?` and `:`
 
-  margin_told : (o : Option Position) (p : Position) (s : Held) → Faults (Told text) (at_margin o p s)
-  margin_told None p s = goes
-  margin_told (Some q) p s = not_told text ((p.col == 0) && (q.col == 0) && nat_lt 0 s.indent) problem.AnchorIndentation q s refl
+  -- no property in the first column stands before a dash there
+  margin_told : IsMargin t.held → is_empty t.held.flow ≡ true → t.held.key_allowed ≡ true → (o : Option Position) → last_property t.held.tokens ≡ o → Faults (Told text) (at_margin o t.held.position t.held)
+  margin_told margin out allowed None e = goes
+  margin_told margin out allowed (Some q) e =
+      checked ((t.held.position.col == 0) && (q.col == 0) && nat_lt 0 t.held.indent) (At problem.AnchorIndentation q) (λ all.
+      let parts = and_parts ((t.held.position.col == 0) && (q.col == 0)) (nat_lt 0 t.held.indent) all in
+      let columns = and_parts (t.held.position.col == 0) (q.col == 0) parts.0 in
+      absurd (no_dash_after text t a some out columns.0 parts.1 (margin out q e columns.1 parts.1) allowed)) (λ _. goes)
 
-  entry_checked : (more : List ℕ) → t.rest ≡ 45 ∷ more → is_at_gap more ≡ true → Faults (Told text) (check_block_entry t.held)
+  entry_checked : IsMargin t.held → (more : List ℕ) → t.rest ≡ 45 ∷ more → is_at_gap more ≡ true → Faults (Told text) (check_block_entry t.held)
   unfolding check_block_entry
-  entry_checked more e gap =
+  entry_checked margin more e gap =
       checked (in_flow t.held) (At problem.BlockEntryInFlow t.held.position)
       (λ i _. stuck text t a some carried [] problem.BlockEntryInFlow t.held.position (omega arith) (λ c may. may_not_stand (defs.dash_in_flow more e gap (in_flow_is text t a some carried c [] ∙ i)))) (λ o.
       checked (not t.held.key_allowed) (At problem.BlockEntryNotAllowed t.held.position)
       (λ n _. stuck text t a some carried [] problem.BlockEntryNotAllowed t.held.position (omega arith) (λ c may.
-      may_not_stand (defs.dash_not_free more e gap (in_flow_is text t a some carried c [] ∙ o) (not_free c [] (is_outside o) (is_not t.held.key_allowed n))))) (λ _.
-      margin_told (last_property t.held.tokens) t.held.position t.held))
+      may_not_stand (defs.dash_not_free more e gap (in_flow_is text t a some carried c [] ∙ o) (not_free c [] (is_outside o) (is_not t.held.key_allowed n))))) (λ allowed.
+      margin_told margin (is_outside o) (is_allowed t.held.key_allowed allowed) (last_property t.held.tokens) refl))
+    where
+      is_allowed : (b : Bool) → not b ≡ false → b ≡ true
+      is_allowed true e = refl
+      is_allowed false e = absurd (cc e)
 
   -- a character of a text stands in it with more after it
   has_more : (b c : List ℕ) → has 9 b ≡ true → has 9 (b ++ c) ≡ true
@@ -277,10 +287,10 @@ module _ (text : List ℕ) (t : ScannerState) (a : Arrives text t) (some : is_em
       spaced Yes u check_dash (λ v. begins_with 35 v.rest ≡ false) (λ w v s.
       holds.checked (w.found_tabs && (slice_index v.rest 0 == 45) && is_blank_or_breakz (slice_index v.rest 1)) (At problem.TabAfterDash v.held.position) (λ _. holds.went (no_comment_left Yes v.rest s.ends)))
 
-  pub dash_told : (more : List ℕ) → t.rest ≡ 45 ∷ more → is_at_gap more ≡ true → Faults (Told text) (fetch_block_entry t)
+  pub dash_told : IsMargin t.held → (more : List ℕ) → t.rest ≡ 45 ∷ more → is_at_gap more ≡ true → Faults (Told text) (fetch_block_entry t)
   unfolding fetch_block_entry
-  dash_told more e gap =
-      in_turn (tried t (entry_checked more e gap)) (λ u i.
+  dash_told margin more e gap =
+      in_turn (tried t (entry_checked margin more e gap)) (λ u i.
       let was : (u.rest ≡ t.rest) × (in_flow t.held ≡ false) × (u.held ≡ t.held) = held_of {P = λ v. (v.rest ≡ t.rest) × (in_flow t.held ≡ false) × (v.held ≡ t.held)} u (holds.tried t (check_block_entry t.held) entry_outside (λ s k. (refl, k.0, k.1))) i in
       let rolled : ScannerState = on_held (roll_indent t.held.position.col None Tok.block_sequence_start t.held.position) (skip_indicator u) in
       let place : rolled.held.position ≡ past t.held.position = rolled_place t.held.position.col None Tok.block_sequence_start t.held.position (skip_indicator u).held ∙ ap (λ h. past h.position) was.2 in

@@ -4,6 +4,9 @@ pub mod Faults
 pub mod Fetches
 pub mod Indicators
 pub mod KeptKeys
+pub mod LastTokens
+pub mod MarginKeys
+pub mod Margins
 pub mod NoRows
 pub mod Nodes
 pub mod OtherRows

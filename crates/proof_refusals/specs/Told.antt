@@ -12,7 +12,6 @@ use Rattle.proof_refusals.specs.Stuck.{IsStuck}
 abbrev pub is_told : Problem → Bool
 is_told problem.KeyWithoutColon = false
 is_told problem.KeyExpected = false
-is_told problem.AnchorIndentation = false
 is_told _ = true
 
 -- `refused_texts_are_stuck`
