@@ -42,7 +42,7 @@ use Rattle.proof_refusals.specs.NoPiece.{NoPiece, IsNotQuoted, IsNoHeader, IsPla
 use Rattle.proof_refusals.specs.Stuck as defs
 use Rattle.proof_refusals.specs.Stuck.{MayNotStand, Fails, site_at_place}
 use Rattle.proof_refusals.proofs.OtherRows.{StepAt, step_at}
-use Rattle.proof_refusals.proofs.PiecesRefused.{no_document_end, no_quoted_end, no_block_end}
+use Rattle.proof_refusals.proofs.PiecesRefused.{no_tabbed_dash, no_document_end, no_quoted_end, no_block_end}
 
 -- entries that are alike are as many
 many_alike : (ds es : List Entry) → LikeEntries ds es → length ds ≡ length es
@@ -224,7 +224,7 @@ followed_other a separation rest here s why at (none.glued c more e is begins) h
 followed_other a separation rest here s why at (none.glued_to_quoted single piece more e is begins) h = cc h
 followed_other a separation rest here s why at (none.after_quoted single piece more passed content e is ends on solid) h = no_quoted_end a separation rest here s single piece more e is ends
 followed_other a separation rest here s why at (none.after_end more passed content col e gap on ends solid) h = no_document_end a separation rest here s more passed content col e gap on ends solid
-followed_other a separation rest here s why at (none.tab_after_dash more passed content out e gap on tab begins) h = cc h
+followed_other a separation rest here s why at (none.tab_after_dash more passed content out e gap on tab begins) h = no_tabbed_dash a separation rest here s more passed content out e gap on tab begins
 followed_other a separation rest here s why at (none.no_space more passed content e gap on begins ends) h = cc h
 followed_other a separation rest here s why at (none.tab_after_question more passed content e gap cut fills) h = cc h
 followed_other a separation rest here s why at (none.tab_after_colon more blanks comment content e tab on lacks letter) h = cc h

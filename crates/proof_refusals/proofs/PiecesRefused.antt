@@ -1,9 +1,9 @@
 -- Where a piece may not stand before what follows it, no row of the text goes on.
 use Rattle.std.proofs.Common.{◌≡◌, List, [], ◌∷◌, ◌++◌, ℕ, Bool, true, false, not, ◌==◌, ◌&&◌, ◌||◌, nat_le, nat_lt, if◌then◌else◌, map, Option, Some, None, refl, ap, sym, ◌∙◌, arith}
-use Rattle.std.proofs.lemmas.Bool.{and_parts}
+use Rattle.std.proofs.lemmas.Bool.{and_parts, eqb-true}
 use Rattle.std.proofs.lemmas.Bool.Decides.{nat_tests}
 use Rattle.defs_text.specs.Breaks.{split, is_at_line_end, is_blanks_and_comment, is_rest_of_line}
-use Rattle.defs_text.specs.Classes.{tab, is_blank, is_break, is_at_end, is_at_gap}
+use Rattle.defs_text.specs.Classes.{tab, is_one_of, is_blank, is_break, is_nul, is_at_end, is_at_gap}
 use Rattle.defs_text.specs.Position.{Position, position_after}
 use Rattle.defs_text.specs.Text.{is_empty, has_no_nul}
 use Rattle.defs_scalar.specs.BlockScalar.{BlockStyle, literal, folded, leading_spaces}
@@ -11,21 +11,21 @@ use Rattle.defs_scalar.specs.FlowScalar.{begins_with}
 use Rattle.defs_token.specs.Account.{innermost_column}
 use Rattle.defs_token.specs.BlockPiece.{BlockRead, block_read, block_position}
 use Rattle.defs_token.specs.Piece.{IsPiece}
-use Rattle.defs_scalar.specs.Tags.{leading}
+use Rattle.defs_scalar.specs.Tags.{leading, after}
 use Rattle.defs_token.specs.Separation.{is_separation, is_blanks}
-use Rattle.defs_token.specs.Token.{Tok, document_end, scalar, single_quoted, double_quoted}
+use Rattle.defs_token.specs.Token.{Tok, document_end, block_entry, scalar, single_quoted, double_quoted}
 use Rattle.defs_token.specs.Token as tokens
 use Rattle.defs_row.specs.Step.{Step, spelled, is_on_line, gives_node, gives_block_scalar, gives_marker}
 use Rattle.defs_row.specs.Column.{innermost, blocks_at}
 use Rattle.defs_row.specs.FlowEntry.{Entry}
-use Rattle.defs_row.specs.Indentation.{least_column}
+use Rattle.defs_row.specs.Indentation.{least_column, begins_entry, dash_may_precede}
 use Rattle.defs_row.specs.Following.{line_is_done, are_empty, quoted_may_end, block_may_end, read_may_end, lines_may_end, may_precede}
 use Rattle.defs_row.specs.Account.{Account, is_in_flow, site_at, level_of, seen, may_stand}
 use Rattle.defs_row.specs.Row.{IsWritten, IsRowFrom}
 use Rattle.defs_row.specs.Tokens.{content_position, shown_position}
 use Rattle.proof_lexers.specs.PlainEnds.{is_white}
-use Rattle.proof_lexers.specs.Separations.{begins_separation}
-use Rattle.proof_row_sound.proofs.QuotedEnds.{blanks_alone}
+use Rattle.proof_lexers.specs.Separations.{begins_separation, has}
+use Rattle.proof_row_sound.proofs.QuotedEnds.{blanks_alone, after_blanks}
 use Rattle.proof_row.proofs.Accounts.{same_flow}
 use Rattle.proof_row.proofs.Written.{At, same_piece}
 use Rattle.proof_refusals.specs.NoPiece.{GoesOn, IsQuoted}
@@ -73,6 +73,22 @@ not_done s d r b e f g = ap is_rest_of_line (on_line s b) ∙ done s b
     done [] b = rw f refl
     done (c ∷ s) b = let p = and_parts (is_blank c) (is_blanks s) b in rw p.0 (comment s p.1)
 
+leading_blanks : (s : List ℕ) (d : ℕ) (r : List ℕ) → is_blanks s ≡ true → is_blank d ≡ false → leading is_blank (s ++ d ∷ r) ≡ s
+leading_blanks [] d r b f = rw f refl
+leading_blanks (c ∷ s) d r b f = let p = and_parts (is_blank c) (is_blanks s) b in rw p.0 (ap (λ l. c ∷ l) (leading_blanks s d r p.1 f))
+
+tab_among : (l : List ℕ) → has 9 l ≡ true → is_one_of l tab ≡ true
+tab_among [] h = absurd (cc h)
+tab_among (c ∷ l) h = by (c == 9) refl h (λ k. tab_among l k)
+  where
+    other : (x : Bool) → (x || true) ≡ true
+    other true = refl
+    other false = refl
+
+    by : (b : Bool) → (c == 9) ≡ b → (b || has 9 l) ≡ true → (has 9 l ≡ true → is_one_of l tab ≡ true) → ((tab == c) || is_one_of l tab) ≡ true
+    by true e h later = let same : c ≡ 9 = eqb-true c 9 e in rw same refl
+    by false e h later = ap (λ x. (tab == c) || x) (later h) ∙ other (tab == c)
+
 -- what may follow a piece at an account
 abbrev may_go : Account → (separation piece : List ℕ) → Tok → (next : List ℕ) → Bool
 may_go a separation piece t next = may_precede (is_in_flow a.entries) (site_at (is_in_flow a.entries) a.site separation piece t next).blocks t piece next
@@ -104,6 +120,28 @@ module _ (a : Account) (separation rest : List ℕ) (here : Position) (s : StepA
       let stays : may_go s.account s.step.separation s.step.piece s.step.shown next ≡ false = sym (same_go piece more t same) ∙ no_more in
       refused _ (may_stand (is_in_flow s.account.entries) s.account.site (At s.account s.step next) s.step.separation s.step.piece s.step.shown next) s.steps s.last (and_last _ _ stays) s.is_row.1
 
+  flow_seen : (es : List Entry) → is_in_flow es ≡ false → not (is_empty (map level_of es)) ≡ false
+  flow_seen [] h = refl
+  flow_seen (e ∷ es) h = h
+
+  -- ---- a dash
+
+  no_tab_before : (more passed content : List ℕ) → GoesOn more passed content → has 9 passed ≡ true → begins_entry content ≡ true → dash_may_precede more ≡ false
+  unfolding is_blank is_break is_nul
+  no_tab_before more passed [] on tab_there begins = absurd (cc begins)
+  no_tab_before more passed (d ∷ r) on tab_there begins =
+      let first : d ≡ 45 = eqb-true d 45 (and_parts (d == 45) (is_at_gap r) begins).0 in
+      let goes_on : is_at_line_end (d ∷ r) ≡ false = rw first refl in
+      let none : is_blank d ≡ false = rw first refl in
+      let blanks = (blanks_alone false passed (d ∷ r) on.is_filled on.is_on_line goes_on).1 in
+      let left : after is_blank (passed ++ d ∷ r) ≡ d ∷ r = after_blanks passed (d ∷ r) blanks ∙ rw none refl in
+      ap dash_may_precede on.is_text ∙
+      (ap (λ l. not (is_one_of l tab && begins_entry (after is_blank (passed ++ d ∷ r)))) (leading_blanks passed d r blanks none) ∙
+      (ap (λ x. not (is_one_of passed tab && begins_entry x)) left ∙ rw (tab_among passed tab_there, begins) refl))
+
+  pub no_tabbed_dash : (more passed content : List ℕ) → is_in_flow a.entries ≡ false → rest ≡ 45 ∷ more → is_at_gap more ≡ true → GoesOn more passed content → has 9 passed ≡ true → begins_entry content ≡ true → ⊥
+  no_tabbed_dash more passed content out e gap on tab_there begins = no_step (45 ∷ []) more block_entry e refl (refl, gap, flow_seen a.entries out) (no_tab_before more passed content on tab_there begins)
+
   -- ---- the end of a document
 
   closed : (es : List Entry) (column : ℕ) (bs : List ℕ) → (if not (is_empty (map level_of es)) then true else not (not (is_empty (map (λ n. Some n) (blocks_at (is_in_flow es) gives_marker column bs))))) ≡ true
@@ -132,10 +170,6 @@ module _ (a : Account) (separation rest : List ℕ) (here : Position) (s : StepA
   no_quoted_end false piece more e is ends = no_step piece more (scalar double_quoted is.0) e (not_nothing _ piece _ is.1.1) (is.1, refl) ends
 
   -- ---- block scalars
-
-  flow_seen : (es : List Entry) → is_in_flow es ≡ false → not (is_empty (map level_of es)) ≡ false
-  flow_seen [] h = refl
-  flow_seen (e ∷ es) h = h
 
   innermost_seen : (bs : List ℕ) → innermost_column (map (λ n. Some n) bs) ≡ innermost bs
   innermost_seen [] = refl

@@ -20,6 +20,7 @@ is_certain problem.AnchorName = true
 is_certain problem.BlockEntryInFlow = true
 is_certain problem.FlowTooDeep = true
 is_certain problem.ContentAfterDocumentEnd = true
+is_certain problem.TabAfterDash = true
 is_certain problem.ContentAfterQuoted = true
 is_certain problem.BlockScalarIndentation = true
 is_certain _ = false
