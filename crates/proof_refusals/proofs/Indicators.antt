@@ -5,13 +5,17 @@ use Rattle.std.proofs.Common.{inl, inr}
 use Rattle.std.proofs.lemmas.Bool.{and_parts, eqb-true}
 use Rattle.std.proofs.lemmas.Bool.Decides.{nat_tests}
 use Rattle.defs_text.specs.Breaks.{has_no_break}
-use Rattle.defs_text.specs.Classes.{is_at_gap}
+use Rattle.defs_text.specs.Classes.{is_one_of, is_blank, is_at_gap}
 use Rattle.defs_text.specs.Position.{Position, position_after}
 use Rattle.defs_text.specs.Text.{is_empty}
 use Rattle.defs_scalar.specs.Directives.{directive_of}
 use Rattle.defs_token.specs.Separation.{is_separation}
 use Rattle.defs_token.specs.Token.{Tok}
 use Rattle.defs_scalar.specs.FlowScalar.{begins_with}
+use Rattle.defs_scalar.specs.Tags as tags
+use Rattle.defs_scalar.specs.Tags.{leading}
+use Rattle.defs_row.specs.Step.{blanks_and_comment, past_blanks_and_comment}
+use Rattle.defs_row.specs.Tokens.{past_line_rest}
 use Rattle.defs_row.specs.Indentation.{begins_entry, begins_with_alpha}
 use Rattle.defs_row.specs.Key.{Line, free, taken, waits, is_waiting, begins_free_line, line_past_separation}
 use Rattle.defs_row.specs.FlowEntry as entry
@@ -56,6 +60,9 @@ use Rattle.proof_cut.proofs.Levels.{one_indents, one_indent, rolled_one_is}
 use Rattle.proof_cut.proofs.Passes.{Spaced, spaced, spaces_skipped}
 use Rattle.proof_cut.proofs.Positions.{not_before_after}
 use Rattle.proof_row_sound.proofs.QuotedEnds.{not_at_end}
+use Rattle.proof_row_sound.proofs.Blanks.{same_in_line, line_rest_in_line, line_rest_cut, line_rest_fills, found_in, spaced_parted}
+use Rattle.proof_row_sound.proofs.Passed.{same_has_break}
+use Rattle.proof_refusals.proofs.TabsAfterColon.{no_space}
 use Rattle.yaml_tokens.specs.declared.problem.Problem.{Problem}
 use Rattle.proof_refusals.proofs.KeptKeys.{rolled_place, removed_is}
 use Rattle.proof_cut.proofs.Saved.{saved_keys, saved_is}
@@ -430,8 +437,12 @@ module _ (text : List ℕ) (t : ScannerState) (a : Arrives text t) (some : is_em
 
   tab_checked : (more : List ℕ) → t.rest ≡ 58 ∷ more → begins_with 9 more ≡ true → (h : Held) → h.position ≡ past t.held.position → (x : Read Whitespace) → space Yes more h.position ≡ Ok x → Faults (Told text) (check_after_tab x.value (go_on x h))
   unfolding check_after_tab is_alpha is_alphanumeric
-  tab_checked more e tab h place x k = by (space Yes more h.position) k (spaces_are_passed Yes more h.position)
+  tab_checked more e tab h place x k = by (let exact = spaced_parted more h.position (no_hash more tab) in cc (exact, k))
     where
+      no_hash : (l : List ℕ) → begins_with 9 l ≡ true → begins_with 35 l ≡ false
+      no_hash [] h = refl
+      no_hash (c ∷ r) h = let same : c ≡ 9 = eqb-true c 9 h in rw same refl
+
       letter : (r : List ℕ) → ((peek r == 45) || is_alpha (peek r)) ≡ true → begins_with_alpha r ≡ true
       letter [] h = absurd (cc h)
       letter (c ∷ r) h = same_alpha c ∙ on (c == 45) refl h
@@ -440,24 +451,27 @@ module _ (text : List ℕ) (t : ScannerState) (a : Arrives text t) (some : is_em
           on true i h = ap is_alpha (eqb-true c 45 i)
           on false i h = h
 
-      reason : (blanks comment rest : List ℕ) → more ≡ blanks ++ (comment ++ rest) → is_separation false (blanks ++ comment) rest ≡ true → plain_ends.has_break (blanks ++ comment) ≡ false
-          → (not (has 32 blanks) && ((peek rest == 45) || is_alpha (peek rest))) ≡ true → Told text (At problem.TabAfterColon (position_after h.position (blanks ++ comment) rest))
-      reason blanks comment rest cut fills line all =
-          let first = and_parts (not (has 32 blanks)) ((peek rest == 45) || is_alpha (peek rest)) all in
-          followed_at problem.TabAfterColon _ (further 1 t.held.position) (blanks ++ comment) rest (omega arith) (ap (λ q. position_after q (blanks ++ comment) rest) place)
-          (none.tab_after_colon more blanks comment rest e tab (record { is_text = cut ∙ sym (append_assoc blanks comment rest); is_filled = fills; is_on_line = line }) (is_not (has 32 blanks) first.0) (letter rest first.1))
+      found : (is_one_of (leading is_blank more) 32) ≡ false → begins_with_alpha (past_blanks_and_comment more) ≡ true → Told text (At problem.TabAfterColon (past_line_rest h.position more))
+      found lacks alpha =
+          followed_at problem.TabAfterColon _ (further 1 t.held.position) (blanks_and_comment more) (past_blanks_and_comment more) (omega arith)
+          (same_in_line h.position (blanks_and_comment more) [] (past_blanks_and_comment more) (line_rest_in_line more) ∙ ap (λ q. position_after q (blanks_and_comment more) (past_blanks_and_comment more)) place)
+          (none.tab_after_colon more (blanks_and_comment more) (past_blanks_and_comment more) e tab
+          (record { is_text = line_rest_cut more; is_filled = line_rest_fills more; is_on_line = same_has_break (blanks_and_comment more) ∙ ap not (line_rest_in_line more) })
+          (no_space (leading is_blank more) (tags.after is_blank more) lacks alpha) alpha)
 
       checked_by : (b : Bool) (q : Position) (u : ScannerState) → (b ≡ true → Told text (At problem.TabAfterColon q)) → Faults (Told text) (if b then Err (At problem.TabAfterColon q) else Ok u)
       checked_by true q u why = fault {f = At problem.TabAfterColon q} (why refl)
       checked_by false q u why = goes
 
-      by : (y : Result (Read Whitespace) Fault) → y ≡ Ok x → SpacesAs Yes h.position more y
-          → Faults (Told text) (if not x.value.has_valid_yaml_ws && ((peek x.rest == 45) || is_alpha (peek x.rest)) then Err (At problem.TabAfterColon x.position) else Ok (go_on x h))
-      by y i (separations.glued begins j) = absurd (cc (i, j))
-      by y i (separations.spaces blanks comment rest cut are fills line ends j) =
-          let same : after_space h.position (blanks ++ comment) rest (record { found_tabs = has 9 blanks; has_valid_yaml_ws = has 32 blanks }) ≡ x = cc (i, j) in
+      exactly : Read Whitespace
+      exactly = record { rest = past_blanks_and_comment more; position = past_line_rest h.position more; value = found_in (leading is_blank more) }
+
+      by : exactly ≡ x → Faults (Told text) (if not x.value.has_valid_yaml_ws && ((peek x.rest == 45) || is_alpha (peek x.rest)) then Err (At problem.TabAfterColon x.position) else Ok (go_on x h))
+      by same =
           subst (λ (z : Read Whitespace). Faults (Told text) (if not z.value.has_valid_yaml_ws && ((peek z.rest == 45) || is_alpha (peek z.rest)) then Err (At problem.TabAfterColon z.position) else Ok (go_on z h))) same
-          (checked_by (not (has 32 blanks) && ((peek rest == 45) || is_alpha (peek rest))) (position_after h.position (blanks ++ comment) rest) _ (reason blanks comment rest cut fills line))
+          (checked_by (not (is_one_of (leading is_blank more) 32) && ((peek (past_blanks_and_comment more) == 45) || is_alpha (peek (past_blanks_and_comment more)))) (past_line_rest h.position more) _ (λ all.
+          let first = and_parts (not (is_one_of (leading is_blank more) 32)) ((peek (past_blanks_and_comment more) == 45) || is_alpha (peek (past_blanks_and_comment more))) all in
+          found (is_not (is_one_of (leading is_blank more) 32) first.0) (letter (past_blanks_and_comment more) first.1)))
 
   value_checked : (more : List ℕ) → t.rest ≡ 58 ∷ more → (u : ScannerState) → u.rest ≡ more → u.held.position ≡ past t.held.position → Faults (Told text) (check_value_space u)
   unfolding check_value_space

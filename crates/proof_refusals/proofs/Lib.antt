@@ -20,4 +20,5 @@ pub mod Refusals
 pub mod Spaces
 pub mod Tabs
 pub mod TabsAfterQuoted
+pub mod TabsAfterColon
 pub mod TokensKeep

@@ -42,7 +42,7 @@ use Rattle.proof_refusals.specs.NoPiece.{NoPiece, IsNotQuoted, IsNoHeader, IsPla
 use Rattle.proof_refusals.specs.Stuck as defs
 use Rattle.proof_refusals.specs.Stuck.{MayNotStand, Fails, site_at_place}
 use Rattle.proof_refusals.proofs.OtherRows.{StepAt, step_at}
-use Rattle.proof_refusals.proofs.PiecesRefused.{no_tabbed_dash, no_document_end, no_quoted_end, no_block_end}
+use Rattle.proof_refusals.proofs.PiecesRefused.{no_tabbed_dash, no_tabbed_colon, no_document_end, no_quoted_end, no_block_end}
 
 -- entries that are alike are as many
 many_alike : (ds es : List Entry) → LikeEntries ds es → length ds ≡ length es
@@ -227,7 +227,7 @@ followed_other a separation rest here s why at (none.after_end more passed conte
 followed_other a separation rest here s why at (none.tab_after_dash more passed content out e gap on tab begins) h = no_tabbed_dash a separation rest here s more passed content out e gap on tab begins
 followed_other a separation rest here s why at (none.no_space more passed content e gap on begins ends) h = cc h
 followed_other a separation rest here s why at (none.tab_after_question more passed content e gap cut fills) h = cc h
-followed_other a separation rest here s why at (none.tab_after_colon more blanks comment content e tab on lacks letter) h = cc h
+followed_other a separation rest here s why at (none.tab_after_colon more passed content e tab on lacks letter) h = no_tabbed_colon a separation rest here s more passed content e tab on lacks letter
 
 none_other : (a : Account) (separation rest : List ℕ) (here : Position) (s : StepAt a separation rest here) (in_flow : Bool) (why : Problem) (at : Position) → NoPiece in_flow here rest why at → is_certain why ≡ true → ⊥
 none_other a separation rest here s in_flow why at (none.percent more e col) h = no_percent a separation rest here s more e col

@@ -3,7 +3,7 @@ use Rattle.std.proofs.Common.{◌≡◌, List, [], ◌∷◌, ◌++◌, ℕ, Boo
 use Rattle.std.proofs.lemmas.Bool.{and_parts, eqb-true}
 use Rattle.std.proofs.lemmas.Bool.Decides.{nat_tests}
 use Rattle.defs_text.specs.Breaks.{split, is_at_line_end, is_blanks_and_comment, is_rest_of_line}
-use Rattle.defs_text.specs.Classes.{tab, is_one_of, is_blank, is_break, is_nul, is_at_end, is_at_gap}
+use Rattle.defs_text.specs.Classes.{tab, is_one_of, is_blank, is_break, is_nul, is_blank_or_end, is_alpha, is_decimal_digit, is_letter, is_at_end, is_at_gap}
 use Rattle.defs_text.specs.Position.{Position, position_after}
 use Rattle.defs_text.specs.Text.{is_empty, has_no_nul}
 use Rattle.defs_scalar.specs.BlockScalar.{BlockStyle, literal, folded, leading_spaces}
@@ -13,12 +13,12 @@ use Rattle.defs_token.specs.BlockPiece.{BlockRead, block_read, block_position}
 use Rattle.defs_token.specs.Piece.{IsPiece}
 use Rattle.defs_scalar.specs.Tags.{leading, after}
 use Rattle.defs_token.specs.Separation.{is_separation, is_blanks}
-use Rattle.defs_token.specs.Token.{Tok, document_end, block_entry, scalar, single_quoted, double_quoted}
+use Rattle.defs_token.specs.Token.{Tok, document_end, block_entry, value, scalar, single_quoted, double_quoted}
 use Rattle.defs_token.specs.Token as tokens
 use Rattle.defs_row.specs.Step.{Step, spelled, is_on_line, gives_node, gives_block_scalar, gives_marker}
 use Rattle.defs_row.specs.Column.{innermost, blocks_at}
 use Rattle.defs_row.specs.FlowEntry.{Entry}
-use Rattle.defs_row.specs.Indentation.{least_column, begins_entry, dash_may_precede}
+use Rattle.defs_row.specs.Indentation.{least_column, begins_entry, dash_may_precede, begins_with_alpha, colon_may_precede}
 use Rattle.defs_row.specs.Following.{line_is_done, are_empty, quoted_may_end, block_may_end, read_may_end, lines_may_end, may_precede}
 use Rattle.defs_row.specs.Account.{Account, is_in_flow, site_at, level_of, seen, may_stand}
 use Rattle.defs_row.specs.Row.{IsWritten, IsRowFrom}
@@ -35,6 +35,10 @@ use Rattle.proof_refusals.proofs.OtherRows.{StepAt}
 refused : (x : Option Account) (b : Bool) (ws : List Step) (last : List ℕ) → b ≡ false → IsRowFrom (if b then x else None) ws last → ⊥
 refused x true ws last e k = absurd (cc e)
 refused x false ws last e k = k
+
+or_first : (x y : Bool) → x ≡ true → (x || y) ≡ true
+or_first true y e = refl
+or_first false y e = absurd (cc e)
 
 and_last : (x y : Bool) → y ≡ false → (x && y) ≡ false
 and_last true y e = e
@@ -89,6 +93,15 @@ tab_among (c ∷ l) h = by (c == 9) refl h (λ k. tab_among l k)
     by true e h later = let same : c ≡ 9 = eqb-true c 9 e in rw same refl
     by false e h later = ap (λ x. (tab == c) || x) (later h) ∙ other (tab == c)
 
+space_among : (l : List ℕ) → has 32 l ≡ false → is_one_of l 32 ≡ false
+space_among [] h = refl
+space_among (c ∷ l) h = by (32 == c) (c == 32) refl refl h (λ k. space_among l k)
+  where
+    by : (x y : Bool) → (32 == c) ≡ x → (c == 32) ≡ y → (y || has 32 l) ≡ false → (has 32 l ≡ false → is_one_of l 32 ≡ false) → (x || is_one_of l 32) ≡ false
+    by x true e f g later = absurd (cc g)
+    by true false e f g later = absurd (grind (arith, nat_tests, e, f))
+    by false false e f g later = later g
+
 -- what may follow a piece at an account
 abbrev may_go : Account → (separation piece : List ℕ) → Tok → (next : List ℕ) → Bool
 may_go a separation piece t next = may_precede (is_in_flow a.entries) (site_at (is_in_flow a.entries) a.site separation piece t next).blocks t piece next
@@ -141,6 +154,30 @@ module _ (a : Account) (separation rest : List ℕ) (here : Position) (s : StepA
 
   pub no_tabbed_dash : (more passed content : List ℕ) → is_in_flow a.entries ≡ false → rest ≡ 45 ∷ more → is_at_gap more ≡ true → GoesOn more passed content → has 9 passed ≡ true → begins_entry content ≡ true → ⊥
   no_tabbed_dash more passed content out e gap on tab_there begins = no_step (45 ∷ []) more block_entry e refl (refl, gap, flow_seen a.entries out) (no_tab_before more passed content on tab_there begins)
+
+  -- ---- a colon
+
+  no_colon_before : (more passed content : List ℕ) → begins_with 9 more ≡ true → GoesOn more passed content → has 32 passed ≡ false → begins_with_alpha content ≡ true → colon_may_precede more ≡ false
+  unfolding is_blank is_break is_nul is_alpha is_decimal_digit is_letter
+  no_colon_before more passed [] tab_there on lacks letter = absurd (cc letter)
+  no_colon_before more passed (d ∷ r) tab_there on lacks letter =
+      let goes_on : is_at_line_end (d ∷ r) ≡ false = grind (arith, nat_tests, letter) in
+      let none : is_blank d ≡ false = grind (arith, nat_tests, letter) in
+      let blanks = (blanks_alone false passed (d ∷ r) on.is_filled on.is_on_line goes_on).1 in
+      let left : after is_blank (passed ++ d ∷ r) ≡ d ∷ r = after_blanks passed (d ∷ r) blanks ∙ rw none refl in
+      ap (λ y. not (y && not (is_one_of (leading is_blank more) 32) && begins_with_alpha (after is_blank more))) tab_there ∙
+      (ap (λ m. not (not (is_one_of (leading is_blank m) 32) && begins_with_alpha (after is_blank m))) on.is_text ∙
+      (ap (λ l. not (not (is_one_of l 32) && begins_with_alpha (after is_blank (passed ++ d ∷ r)))) (leading_blanks passed d r blanks none) ∙
+      (ap (λ x. not (not (is_one_of passed 32) && begins_with_alpha x)) left ∙ ap (λ y. not (not y && begins_with_alpha (d ∷ r))) (space_among passed lacks) ∙ ap not letter)))
+
+  tab_gap : (more : List ℕ) → begins_with 9 more ≡ true → is_at_gap more ≡ true
+  unfolding is_blank_or_end is_blank is_break is_nul
+  tab_gap [] h = refl
+  tab_gap (c ∷ r) h = let same : c ≡ 9 = eqb-true c 9 h in rw same refl
+
+  pub no_tabbed_colon : (more passed content : List ℕ) → rest ≡ 58 ∷ more → begins_with 9 more ≡ true → GoesOn more passed content → has 32 passed ≡ false → begins_with_alpha content ≡ true → ⊥
+  no_tabbed_colon more passed content e tab_there on lacks letter =
+      no_step (58 ∷ []) more value e refl (refl, or_first (is_at_gap more) _ (tab_gap more tab_there)) (no_colon_before more passed content tab_there on lacks letter)
 
   -- ---- the end of a document
 

@@ -21,6 +21,7 @@ is_certain problem.BlockEntryInFlow = true
 is_certain problem.FlowTooDeep = true
 is_certain problem.ContentAfterDocumentEnd = true
 is_certain problem.TabAfterDash = true
+is_certain problem.TabAfterColon = true
 is_certain problem.ContentAfterQuoted = true
 is_certain problem.BlockScalarIndentation = true
 is_certain _ = false

@@ -124,5 +124,5 @@ pub data IsFollowed (in_flow : Bool) (here : Position) (rest : List ℕ) : Probl
       → IsFollowed in_flow here rest problem.WhitespaceExpected (position_after (further 1 here) passed content)
   tab_after_question : (more passed content : List ℕ) → rest ≡ 63 ∷ more → is_at_gap more ≡ true → more ≡ passed ++ 9 ∷ content → is_separation false passed (9 ∷ content) ≡ true
       → IsFollowed in_flow here rest problem.TabAfterKey (position_after (further 1 here) passed (9 ∷ content))
-  tab_after_colon : (more blanks comment content : List ℕ) → rest ≡ 58 ∷ more → begins_with 9 more ≡ true → GoesOn more (blanks ++ comment) content → has 32 blanks ≡ false → begins_with_alpha content ≡ true
-      → IsFollowed in_flow here rest problem.TabAfterColon (position_after (further 1 here) (blanks ++ comment) content)
+  tab_after_colon : (more passed content : List ℕ) → rest ≡ 58 ∷ more → begins_with 9 more ≡ true → GoesOn more passed content → has 32 passed ≡ false → begins_with_alpha content ≡ true
+      → IsFollowed in_flow here rest problem.TabAfterColon (position_after (further 1 here) passed content)
