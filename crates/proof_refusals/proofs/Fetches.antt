@@ -1,9 +1,10 @@
 -- The faults of a fetch: each of a kind that is told is one by which the text is stuck.
-use Rattle.std.proofs.Common.{◌≡◌, ℕ, ◌+◌, ◌≤◌, List, [], ◌∷◌, Bool, true, false, not, ◌==◌, ◌&&◌, nat_le, nat_lt, refl, ap, sym, ◌∙◌, subst, arith, inl, inr}
+use Rattle.std.proofs.Common.{◌≡◌, ℕ, ◌+◌, ◌≤◌, List, [], ◌∷◌, Bool, true, false, not, ◌==◌, ◌&&◌, ◌||◌, nat_le, nat_lt, refl, ap, sym, ◌∙◌, subst, arith, inl, inr}
 use Rattle.std.proofs.lemmas.Bool.{eqb-true}
 use Rattle.std.proofs.lemmas.Bool.Decides.{nat_tests}
 use Rattle.defs_text.specs.Classes.{is_document_marker}
 use Rattle.defs_text.specs.Text.{is_empty}
+use Rattle.defs_scalar.specs.FlowScalar.{begins_with}
 use Rattle.defs_token.specs.Account.{is_adjacent, before_past}
 use Rattle.defs_token.specs.Token.{Tok}
 use Rattle.defs_row.specs.Step.{gives_node}
@@ -26,7 +27,7 @@ use Rattle.proof_row_sound.specs.Arrives.{Arrives, site_here}
 use Rattle.proof_row_sound.proofs.Passed.{least_of_levels}
 use Rattle.proof_row_complete.proofs.Around.Levels.{levels_end}
 use Rattle.proof_refusals.specs.Stuck as defs
-use Rattle.proof_refusals.specs.Stuck.{IsStuck, may_not_stand, site_at_place}
+use Rattle.proof_refusals.specs.Stuck.{IsStuck, may_not_stand, site_at_place, begins_document_at}
 use Rattle.proof_refusals.proofs.Faults.{Faults, fault, tried, checked, either}
 use Rattle.proof_refusals.proofs.Places.{IsCarried, Told, account_by, not_told, stuck, in_flow_is}
 use Rattle.proof_refusals.proofs.Nodes.{none_here, name_told, tag_told, quoted_told}
@@ -73,7 +74,18 @@ module _ (text : List ℕ) (t : ScannerState) (a : Arrives text t) (some : is_em
   least_here i [] l low = grind (arith, nat_tests, l, low)
   least_here i (d ∷ ds) l low = grind (arith, nat_tests, low, least_of_levels i (d ∷ ds) l refl)
 
-  shallow : ((t.held.position.col == 0) && is_document_marker t.rest) ≡ false → nat_lt (t.held.position.col + 1) t.held.indent ≡ true → IsStuck text problem.InvalidIndentation t.held.position
+  no_line : ((t.held.position.col == 0) && is_document_marker t.rest) ≡ false → (t.held.position.col ≡ 0 → (peek t.rest == 37) ≡ false) → begins_document_at t.held.position t.rest ≡ false
+  no_line none percent = by (t.held.position.col == 0) refl none
+    where
+      other : (r : List ℕ) → (peek r == 37) ≡ false → begins_with 37 r ≡ false
+      other [] h = refl
+      other (c ∷ r) h = h
+
+      by : (b : Bool) → (t.held.position.col == 0) ≡ b → (b && is_document_marker t.rest) ≡ false → (b && (begins_with 37 t.rest || is_document_marker t.rest)) ≡ false
+      by false e m = refl
+      by true e m = ap (λ x. x || is_document_marker t.rest) (other t.rest (percent (eqb-true t.held.position.col 0 e))) ∙ m
+
+  shallow : begins_document_at t.held.position t.rest ≡ false → nat_lt (t.held.position.col + 1) t.held.indent ≡ true → IsStuck text problem.InvalidIndentation t.held.position
   shallow none low = by (is_empty t.held.flow) refl
     where
       by : (out : Bool) → is_empty t.held.flow ≡ out → IsStuck text problem.InvalidIndentation t.held.position
@@ -94,7 +106,7 @@ module _ (text : List ℕ) (t : ScannerState) (a : Arrives text t) (some : is_em
   indented_told : ((t.held.position.col == 0) && is_document_marker t.rest) ≡ false → (t.held.position.col ≡ 0 → (peek t.rest == 37) ≡ false) → Faults (Told text) (fetch_indented t)
   unfolding fetch_indented
   indented_told none percent =
-      checked (nat_lt (t.held.position.col + 1) t.held.indent) (At problem.InvalidIndentation t.held.position) (λ low _. shallow none low) (λ e. token_told (is_deep t.held.position.col t.held.indent e) none percent)
+      checked (nat_lt (t.held.position.col + 1) t.held.indent) (At problem.InvalidIndentation t.held.position) (λ low _. shallow (no_line none percent) low) (λ e. token_told (is_deep t.held.position.col t.held.indent e) none percent)
 
   -- ---- markers
 

@@ -42,7 +42,7 @@ use Rattle.proof_refusals.specs.NoPiece.{NoPiece, IsNotQuoted, IsNoHeader, IsPla
 use Rattle.proof_refusals.specs.Stuck as defs
 use Rattle.proof_refusals.specs.Stuck.{MayNotStand, Fails, site_at_place}
 use Rattle.proof_refusals.proofs.OtherRows.{StepAt, step_at}
-use Rattle.proof_refusals.proofs.PiecesRefused.{no_tabbed_dash, no_tabbed_colon, no_document_end, no_quoted_end, no_block_end}
+use Rattle.proof_refusals.proofs.PiecesRefused.{no_shallow, no_tabbed_dash, no_tabbed_colon, no_document_end, no_quoted_end, no_block_end}
 
 -- entries that are alike are as many
 many_alike : (ds es : List Entry) → LikeEntries ds es → length ds ≡ length es
@@ -240,7 +240,7 @@ none_other a separation rest here s in_flow why at (none.headless style line aft
 none_other a separation rest here s in_flow why at (none.undirected line next why2 at2 col e one ends lacks r) h = directive_other here line (At why at) r h
 
 stands_other : (a : Account) (separation rest : List ℕ) (here : Position) (s : StepAt a separation rest here) (why : Problem) (at : Position) → MayNotStand a separation here rest why at → is_certain why ≡ true → ⊥
-stands_other a separation rest here s why at (defs.shallow inside marker left) h = cc h
+stands_other a separation rest here s why at (defs.shallow inside line left) h = no_shallow a separation rest here s inside line left
 stands_other a separation rest here s why at (defs.too_deep bracket more e is many) h = no_bracket a separation rest here s bracket more e is many
 stands_other a separation rest here s why at (defs.dash_in_flow more e gap inside) h = no_dash a separation rest here s more e gap inside
 stands_other a separation rest here s why at (defs.dash_not_free more e gap out free) h = cc h

@@ -1,9 +1,9 @@
--- Where a piece may not stand before what follows it, no row of the text goes on.
-use Rattle.std.proofs.Common.{◌≡◌, List, [], ◌∷◌, ◌++◌, ℕ, Bool, true, false, not, ◌==◌, ◌&&◌, ◌||◌, nat_le, nat_lt, if◌then◌else◌, map, Option, Some, None, refl, ap, sym, ◌∙◌, arith}
+-- Where a piece may not stand at its column, or before what follows it, no row of the text goes on.
+use Rattle.std.proofs.Common.{◌≡◌, ◌≤◌, List, [], ◌∷◌, ◌++◌, ℕ, Bool, true, false, not, ◌==◌, ◌&&◌, ◌||◌, nat_le, nat_lt, if◌then◌else◌, map, Option, Some, None, refl, ap, sym, ◌∙◌, arith}
 use Rattle.std.proofs.lemmas.Bool.{and_parts, eqb-true}
 use Rattle.std.proofs.lemmas.Bool.Decides.{nat_tests}
 use Rattle.defs_text.specs.Breaks.{split, is_at_line_end, is_blanks_and_comment, is_rest_of_line}
-use Rattle.defs_text.specs.Classes.{tab, is_one_of, is_blank, is_break, is_nul, is_blank_or_end, is_alpha, is_decimal_digit, is_letter, is_at_end, is_at_gap}
+use Rattle.defs_text.specs.Classes.{tab, is_one_of, is_blank, is_break, is_nul, is_blank_or_end, is_alpha, is_decimal_digit, is_letter, is_at_end, is_at_gap, is_document_marker}
 use Rattle.defs_text.specs.Position.{Position, position_after}
 use Rattle.defs_text.specs.Text.{is_empty, has_no_nul}
 use Rattle.defs_scalar.specs.BlockScalar.{BlockStyle, literal, folded, leading_spaces}
@@ -15,21 +15,22 @@ use Rattle.defs_scalar.specs.Tags.{leading, after}
 use Rattle.defs_token.specs.Separation.{is_separation, is_blanks}
 use Rattle.defs_token.specs.Token.{Tok, document_end, block_entry, value, scalar, single_quoted, double_quoted}
 use Rattle.defs_token.specs.Token as tokens
-use Rattle.defs_row.specs.Step.{Step, spelled, is_on_line, gives_node, gives_block_scalar, gives_marker}
+use Rattle.defs_row.specs.Step.{Step, act_of, is_marker, spelled, is_on_line, gives_node, gives_block_scalar, gives_marker}
 use Rattle.defs_row.specs.Column.{innermost, blocks_at}
 use Rattle.defs_row.specs.FlowEntry.{Entry}
 use Rattle.defs_row.specs.Indentation.{least_column, begins_entry, dash_may_precede, begins_with_alpha, colon_may_precede}
 use Rattle.defs_row.specs.Following.{line_is_done, are_empty, quoted_may_end, block_may_end, read_may_end, lines_may_end, may_precede}
-use Rattle.defs_row.specs.Account.{Account, is_in_flow, site_at, level_of, seen, may_stand}
+use Rattle.defs_row.specs.Account.{Site, Account, is_in_flow, site_in, site_at, level_of, seen, least_for, is_deep_enough, may_stand}
 use Rattle.defs_row.specs.Row.{IsWritten, IsRowFrom}
 use Rattle.defs_row.specs.Tokens.{content_position, shown_position}
 use Rattle.proof_lexers.specs.PlainEnds.{is_white}
 use Rattle.proof_lexers.specs.Separations.{begins_separation, has}
+use Rattle.proof_row_complete.proofs.Around.Markers.{begins_document, BeginsLine, marker_begins}
 use Rattle.proof_row_sound.proofs.QuotedEnds.{blanks_alone, after_blanks}
 use Rattle.proof_row.proofs.Accounts.{same_flow}
 use Rattle.proof_row.proofs.Written.{At, same_piece}
 use Rattle.proof_refusals.specs.NoPiece.{GoesOn, IsQuoted}
-use Rattle.proof_refusals.specs.Stuck.{site_at_place}
+use Rattle.proof_refusals.specs.Stuck.{site_at_place, begins_document_at}
 use Rattle.proof_refusals.proofs.OtherRows.{StepAt}
 
 refused : (x : Option Account) (b : Bool) (ws : List Step) (last : List ℕ) → b ≡ false → IsRowFrom (if b then x else None) ws last → ⊥
@@ -136,6 +137,70 @@ module _ (a : Account) (separation rest : List ℕ) (here : Position) (s : StepA
   flow_seen : (es : List Entry) → is_in_flow es ≡ false → not (is_empty (map level_of es)) ≡ false
   flow_seen [] h = refl
   flow_seen (e ∷ es) h = h
+
+  -- ---- columns
+
+  -- the site of the row's piece
+  abbrev there : Site
+  there = At s.account s.step next
+
+  both_true : (x y : Bool) → x ≡ true → y ≡ true → (x && y) ≡ false → ⊥
+  both_true true true e f h = cc h
+  both_true true false e f h = cc f
+  both_true false y e f h = cc e
+
+  no_line : begins_document_at here rest ≡ false → is_marker (act_of s.step.shown) ≡ false
+  no_line none = by (is_marker (act_of s.step.shown)) refl
+    where
+      alike : (r : List ℕ) → begins_document r ≡ (begins_with 37 r || is_document_marker r)
+      alike [] = refl
+      alike (c ∷ r) = refl
+
+      by : (b : Bool) → is_marker (act_of s.step.shown) ≡ b → b ≡ false
+      by false e = refl
+      by true e =
+          let line : BeginsLine there.position.col (s.step.piece ++ next) = marker_begins (seen s.account there s.step.separation) s.step.piece next None (shown_position there s.step.piece s.step.shown next) s.step.shown s.is_row.0.1.1 e in
+          let zero : (here.col == 0) ≡ true = ap (λ p. p.col == 0) (sym s.position_is) ∙ ap (λ n. n == 0) line.column in
+          let begins : (begins_with 37 rest || is_document_marker rest) ≡ true = sym (alike rest) ∙ (ap begins_document (sym s.text_is) ∙ line.text_is) in
+          absurd (both_true (here.col == 0) (begins_with 37 rest || is_document_marker rest) zero begins none)
+
+  least_more : (bs : List ℕ) (awaits : Bool) → least_column bs awaits ≤ least_column bs true
+  least_more [] awaits = omega arith
+  least_more (n ∷ bs) true = omega arith
+  least_more (n ∷ bs) false = omega arith
+
+  least_at_most : (t : Tok) (x : Site) → least_column x.blocks x.awaits ≤ least_for t x
+  least_at_most (scalar tokens.plain text) x = least_more x.blocks x.awaits
+  least_at_most t x = omega arith
+
+  too_shallow : (t : Tok) (x : Site) → is_marker (act_of t) ≡ false → nat_le (least_column x.blocks x.awaits) x.position.col ≡ false → (is_marker (act_of t) || nat_le (least_for t x) x.position.col) ≡ false
+  too_shallow t x e f = ap (λ b. b || nat_le (least_for t x) x.position.col) e ∙ (let up = least_at_most t x in grind (arith, nat_tests, up, f))
+
+  pub no_shallow : is_in_flow a.entries ≡ true → begins_document_at here rest ≡ false → nat_le (least_column (site_at_place a here).blocks (site_at_place a here).awaits) here.col ≡ false → ⊥
+  no_shallow inside none left = refused _ (may_stand (is_in_flow s.account.entries) s.account.site there s.step.separation s.step.piece s.step.shown next) s.steps s.last (stands_not _ _ _ _ deep) s.is_row.1
+    where
+      inside_there : is_in_flow s.account.entries ≡ true
+      inside_there = sym (same_flow a.entries s.account.entries s.is_like.2) ∙ inside
+
+      in_flow : Site
+      in_flow = site_at true s.account.site s.step.separation s.step.piece s.step.shown next
+
+      place : in_flow.position ≡ here
+      place = s.position_is
+
+      same_site : least_column (site_at_place a here).blocks (site_at_place a here).awaits ≡ least_column s.account.site.blocks s.account.site.awaits
+      same_site =
+          ap (λ fl. least_column (site_in fl gives_node here a.site).blocks (site_in fl gives_node here a.site).awaits) inside ∙ ap (λ x. least_column x.blocks x.awaits) s.is_like.0
+
+      low : nat_le (least_column s.account.site.blocks s.account.site.awaits) in_flow.position.col ≡ false
+      low = ap (λ (q : Position). nat_le (least_column s.account.site.blocks s.account.site.awaits) q.col) place ∙ (ap (λ n. nat_le n here.col) (sym same_site) ∙ left)
+
+      deep : is_deep_enough (is_in_flow s.account.entries) s.step.shown there ≡ false
+      deep = ap (λ fl. is_deep_enough fl s.step.shown (site_at fl s.account.site s.step.separation s.step.piece s.step.shown next)) inside_there ∙ too_shallow s.step.shown in_flow (no_line none) low
+
+      stands_not : (x y z w : Bool) → y ≡ false → (x && y && z && w) ≡ false
+      stands_not true y z w e = ap (λ b. b && z && w) e
+      stands_not false y z w e = refl
 
   -- ---- a dash
 

@@ -18,6 +18,7 @@ is_certain problem.UnexpectedAt = true
 is_certain problem.UnexpectedBacktick = true
 is_certain problem.AnchorName = true
 is_certain problem.BlockEntryInFlow = true
+is_certain problem.InvalidIndentation = true
 is_certain problem.FlowTooDeep = true
 is_certain problem.ContentAfterDocumentEnd = true
 is_certain problem.TabAfterDash = true

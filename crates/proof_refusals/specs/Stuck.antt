@@ -1,8 +1,9 @@
 -- Where a text is refused, and why, by the definitions alone: a row may begin with all pieces up to a place, and there no step goes on.
-use Rattle.std.specs.Prelude.{◌≡◌, ℕ, ◌<◌, ◌≤◌, List, ◌∷◌, ◌++◌, Bool, true, false, ◌==◌, ◌&&◌, ◌⊎◌, nat_le, length, Option, Some}
+use Rattle.std.specs.Prelude.{◌≡◌, ℕ, ◌<◌, ◌≤◌, List, ◌∷◌, ◌++◌, Bool, true, false, ◌==◌, ◌&&◌, ◌||◌, ◌⊎◌, nat_le, length, Option, Some}
 use Rattle.defs_text.specs.Classes.{is_at_gap, is_document_marker}
 use Rattle.defs_text.specs.Position.{Position, position_after}
 use Rattle.defs_token.specs.Separation.{is_separation}
+use Rattle.defs_scalar.specs.FlowScalar.{begins_with}
 use Rattle.defs_token.specs.Account.{is_adjacent, before_past}
 use Rattle.defs_row.specs.Step.{gives_node, quoted_scalar}
 use Rattle.defs_row.specs.Column.{is_in_column}
@@ -36,7 +37,7 @@ may_begin a separation = is_free_line (line_past_separation false (begins_free_l
 
 -- whether a text is a line for the document: a marker or a directive, in column 0
 abbrev pub begins_document_at : Position → List ℕ → Bool
-begins_document_at here rest = (here.col == 0) && is_document_marker rest
+begins_document_at here rest = (here.col == 0) && (begins_with 37 rest || is_document_marker rest)
 
 -- ---- pieces that may not stand at a place
 

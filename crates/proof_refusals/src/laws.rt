@@ -9,7 +9,7 @@ pub fn refused_texts_are_stuck()
     ensures { RefusedTextsAreStuck }
 {}
 
-/// Where a condition of one of eleven kinds fails, after whatever beginning of a row, the text has no row.
+/// Where a condition of one of twelve kinds fails, after whatever beginning of a row, the text has no row.
 pub fn failing_places_have_no_row()
     ensures { FailingPlacesHaveNoRow }
 {}
