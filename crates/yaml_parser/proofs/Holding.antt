@@ -10,7 +10,6 @@ use Rattle.yaml_tokens.specs.declared.token.Token.{Token}
 use Rattle.yaml_tokens.specs.declared.problem.Fault.TheVariants.{OutOfMemory}
 use Rattle.yaml_tokens.specs.declared.problem.Fault.TheVariants as fault
 use Rattle.yaml_tokens.specs.ErrorReport.{ErrorReport}
-use Rattle.yaml_tokens.specs.Problem.{fault_of}
 use Rattle.yaml_tokens.specs.Shown.{shown, all_shown, tok_of}
 use Rattle.yaml_scanner.specs.Scanned.{scanned}
 use Rattle.defs_event.specs.Event.{Ev}
@@ -18,14 +17,14 @@ use Rattle.defs_event.specs.Raw.{Raw}
 use Rattle.defs_event.specs.Grammar.{Documents, stream_tokens, stream_events}
 use Rattle.defs_event.specs.Names.{Names, named, no_names}
 use Rattle.defs_token.specs.Toks.{toks}
-use Rattle.defs_event.specs.Stream.{IsStream, BeginsPlaced, events_of, positions_of, taken_positions, given_positions}
+use Rattle.defs_event.specs.Stream.{BeginsPlaced, events_of, positions_of, taken_positions, given_positions}
 use Rattle.defs_event.proofs.NameLemmas.{named_append}
 use Rattle.model_parser.specs.declared.state.State.{State}
 use Rattle.model_parser.specs.declared.state.State.TheVariants as state
 use Rattle.model_parser.specs.Goal as at
 use Rattle.model_parser.specs.Goal.{Goal}
 use Rattle.model_parser.specs.Rest.{goal_of, still_events, IsBottom, IsUnder}
-use Rattle.model_parser.specs.Stands.{IsOnTrack, IsNext}
+use Rattle.model_parser.specs.Stands.{IsOnTrack}
 use Rattle.yaml_parser.specs.declared.event.Event.{Event}
 use Rattle.yaml_parser.specs.declared.tokens.KeptStop.{KeptStop}
 use Rattle.yaml_parser.specs.declared.tokens.Stop.{Stop}
@@ -40,7 +39,8 @@ use Rattle.yaml_parser.specs.Seen.{fault_seen}
 use Rattle.yaml_parser.specs.Parsed.{Parsed, is_stream_end, has_end, read}
 use Rattle.yaml_parser.specs.Blames.{Blames}
 use Rattle.yaml_parser.specs.Derived.{IsDerived}
-use Rattle.yaml_parser.specs.Follows.{Follows, Derives, IsComplete, Refused, IsWhole, Explains, listed}
+use Rattle.yaml_parser.specs.Follows.{Follows, Derives, IsComplete, Refused, IsWhole, Explains, StandsBeside, listed}
+use Rattle.yaml_parser.specs.Halts.{IsHalted}
 use Rattle.yaml_parser.specs.Pulls.{IsSound}
 use Rattle.yaml_parser.specs.View.{fault_kept}
 use Rattle.yaml_parser.specs.At.{At, Answers, Reads, Faulted, is_over, names_at, named_by, names_by, goal_after_event}
@@ -50,6 +50,7 @@ use Rattle.yaml_parser.specs.Held.{IsHeld, IsMet, Stands, Notes, goal_after}
 use Rattle.yaml_parser.proofs.Since.{since_noted, names_noted, since_other, names_other, since_same}
 use Rattle.yaml_parser.specs.Nests.{BeginsNested}
 use Rattle.yaml_parser.proofs.Ends.{state_pending, at_derived}
+use Rattle.yaml_parser.proofs.Steps.{begins_peeked}
 use Rattle.yaml_parser.proofs.Nesting.{at_begins_nested}
 
 -- ---- the stack
@@ -315,10 +316,6 @@ listed_shown : (o : Option Token) → listed (option_map shown o) ≡ shown_list
 listed_shown None = refl
 listed_shown (Some t) = refl
 
-begins_peeked : (o : Option Token) (ts : List Tok) → IsNext (option_map (λ (t : Token). tok_of t.1) o) (toks (shown_list o) ++ ts)
-begins_peeked None ts = tt
-begins_peeked (Some t) ts = refl
-
 -- a stream that begins with the tokens handed out, from after those that were taken
 handed_on : {T : Type 0} (p : Reader T) {g : Goal} {names : Names} {es : List (Ev × Position)} (ts us : List Tok) → At g p names es → us ≡ toks (scanned p.tokens.scanner).given ++ ts → us ≡ taken_toks p.tokens ++ (toks (shown_list p.tokens.peeked) ++ ts)
 handed_on {T} p {g} {names} {es} ts us a h =
@@ -473,7 +470,18 @@ shown_blames {T} p es {f} v s x =
     (subst (λ ts. Blames f p.names.keeping.settings.items p.names.keeping.tags ts (read v)) (ap (λ z. z.given) (sym s.scanner))
     (subst (Blames f p.names.keeping.settings.items p.names.keeping.tags (scanned p.tokens.scanner).given) (sym s.events) x)))
 
-explained : {T : Type 0} (p : Reader T) (es : List (Ev × Position)) (u : Stop) (m : Position) (f : ErrorReport) → fault_seen u m (scanned p.tokens.scanner).fault ≡ f → Faulted p es u → KnowsSteady p → (v : Parsed) → Shows p es v → Explains f v
+shown_halted : {T : Type 0} (p : Reader T) (es : List (Ev × Position)) (v : Parsed) → Shows p es v → IsHalted p.names.keeping.settings.items p.names.keeping.tags (scanned p.tokens.scanner).given es → IsHalted v.settings v.keep_tags v.scanner.given (read v)
+shown_halted {T} p es v s x =
+    subst (λ ks. IsHalted ks v.keep_tags v.scanner.given (read v)) (sym s.settings)
+    (subst (λ k. IsHalted p.names.keeping.settings.items k v.scanner.given (read v)) (sym s.keep_tags)
+    (subst (λ ts. IsHalted p.names.keeping.settings.items p.names.keeping.tags ts (read v)) (ap (λ z. z.given) (sym s.scanner))
+    (subst (IsHalted p.names.keeping.settings.items p.names.keeping.tags (scanned p.tokens.scanner).given) (sym s.events) x)))
+
+pub explains : (f : ErrorReport) (v : Parsed) → StandsBeside f v → Explains f v
+explains f v (inl x) = inl x.0
+explains f v (inr x) = inr x
+
+explained : {T : Type 0} (p : Reader T) (es : List (Ev × Position)) (u : Stop) (m : Position) (f : ErrorReport) → fault_seen u m (scanned p.tokens.scanner).fault ≡ f → Faulted p es u → KnowsSteady p → (v : Parsed) → Shows p es v → StandsBeside f v
 explained {T} p es (stop.Own OutOfMemory) m f h x known v s = inr (inl (record { memory = ap (λ z. z.memory) (sym h); text = ap (λ z. z.text) (sym h) }))
 explained {T} p es (stop.Own (fault.At q n)) m f h x known v s =
     inr (inr (record {
@@ -481,13 +489,13 @@ explained {T} p es (stop.Own (fault.At q n)) m f h x known v s =
       steady = shown_steady p es v s known;
       refused = λ steady. blames_refused p es x.blames (known (sym s.steady ∙ steady)) v s;
     }))
-explained {T} p es stop.Scan m f h x known v s = inl (ap (λ z. z.fault) s.scanner ∙ kept_some (scanned p.tokens.scanner).fault _ x h)
+explained {T} p es stop.Scan m f h x known v s = inl (ap (λ z. z.fault) s.scanner ∙ kept_some (scanned p.tokens.scanner).fault _ x.0 h, shown_halted p es v s x.1)
   where
     kept_some : (o : Option ErrorReport) (d : ErrorReport) {g : ErrorReport} → IsSome o → unwrap_or o d ≡ g → o ≡ Some g
     kept_some None d i e = cc
     kept_some (Some y) d i e = ap Some e
 explained {T} p es stop.Ended m f h x known v s = absurd x
 
-pub held_explained : {T : Type 0} (p : Reader T) (es : List (Ev × Position)) (o : Option KeptStop) (f : ErrorReport) → option_map (λ k. fault_seen k.stop k.mark (scanned p.tokens.scanner).fault) o ≡ Some f → IsMet p es o → KnowsSteady p → (v : Parsed) → Shows p es v → Explains f v
+pub held_explained : {T : Type 0} (p : Reader T) (es : List (Ev × Position)) (o : Option KeptStop) (f : ErrorReport) → option_map (λ k. fault_seen k.stop k.mark (scanned p.tokens.scanner).fault) o ≡ Some f → IsMet p es o → KnowsSteady p → (v : Parsed) → Shows p es v → StandsBeside f v
 held_explained {T} p es None f h x known v s = cc
 held_explained {T} p es (Some k) f h x known v s = let e : fault_seen k.stop k.mark (scanned p.tokens.scanner).fault ≡ f = cc in explained p es k.stop k.mark f e x known v s

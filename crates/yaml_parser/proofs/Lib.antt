@@ -8,6 +8,7 @@ pub mod LoadSteps
 pub mod NameLemmas
 pub mod Nesting
 pub mod NodeArms
+pub mod Openings
 pub mod Parsing
 pub mod Peeking
 pub mod Positions

@@ -1,5 +1,5 @@
 -- The turns over the code's state.
-use Rattle.std.proofs.Common.{◌≡◌, ℕ, ◌≤◌, length, List, [], ◌∷◌, ◌++◌, Option, Some, None, option_map, Bool, true, false, ◌||◌, Result, Ok, Err, refl, sym, ap, ◌∙◌, subst, append-nil, map, arith}
+use Rattle.std.proofs.Common.{◌≡◌, ℕ, ◌≤◌, length, List, [], ◌∷◌, ◌++◌, Option, Some, None, option_map, false, ◌||◌, refl, sym, ap, ◌∙◌, subst, append-nil, map, arith}
 use Rattle.std.proofs.lemmas.List.{length-append}
 use Rattle.std.proofs.lemmas.Bool.{or_parts, both_ways}
 use Rattle.defs_text.specs.Position.{Position}
@@ -18,7 +18,7 @@ use Rattle.model_parser.specs.declared.kind.Kind.{Kind}
 use Rattle.model_parser.specs.declared.state.State.{State}
 use Rattle.model_parser.specs.Kinds.{kind_of}
 use Rattle.model_parser.specs.Goal.{Goal}
-use Rattle.model_parser.specs.Stands.{IsOnTrack}
+use Rattle.model_parser.specs.Stands.{IsOnTrack, IsNext}
 use Rattle.model_parser.specs.Turn.{Takes, Leaves}
 use Rattle.model_parser.proofs.Carry.{stands_take, stands_leave}
 use Rattle.yaml_parser.specs.declared.names.Keeping.{Keeping}
@@ -26,16 +26,12 @@ use Rattle.yaml_parser.specs.declared.tokens.Tokens.{Tokens}
 use Rattle.yaml_parser.specs.declared.reader.Reader.{Reader}
 use Rattle.yaml_parser.specs.Ahead.{Skips}
 use Rattle.yaml_parser.specs.Handed.{taken_toks, peeked_tok, IsHanded, IsAwake, shown_list, ends}
-use Rattle.yaml_parser.specs.Kinds.{IsOfKind, stop_of}
+use Rattle.yaml_parser.specs.Kinds.{IsOfKind}
 use Rattle.yaml_parser.specs.Named.{IsNamed}
-use Rattle.std.specs.Result.{IfErr, IsErrAnd}
-use Rattle.std.specs.Option.{IsSome, IfSome}
-use Rattle.yaml_parser.specs.declared.tokens.Missing.{Missing}
-use Rattle.yaml_parser.specs.declared.tokens.Missing.TheVariants as missing
-use Rattle.yaml_parser.specs.declared.tokens.Stop.{Stop}
+use Rattle.std.specs.Option.{IfSome}
 use Rattle.yaml_parser.proofs.Positions.{IsPlaced, count_more, positions_took, positions_took_on, positions_left}
 use Rattle.yaml_parser.proofs.Since.{since_append, since_after}
-use Rattle.yaml_parser.specs.At.{At, is_over, names_at, named_by, names_by, IsPending, Faulted, Fails}
+use Rattle.yaml_parser.specs.At.{At, is_over, names_at, named_by, names_by, IsPending}
 
 -- ---- lists
 
@@ -207,10 +203,15 @@ left_on {T} {g} {g'} {p} {r} {o} {ss'} {names} {given} here same to turn names_s
 
 -- ---- a look
 
-look_peeked : (g : Goal) (ss : List State) (taken : List Tok) (o q : Option Token) (raw : List Raw) → ((t : Token) → o ≡ Some t → q ≡ Some t)
+pub look_peeked : (g : Goal) (ss : List State) (taken : List Tok) (o q : Option Token) (raw : List Raw) → ((t : Token) → o ≡ Some t → q ≡ Some t)
     → IsOnTrack g ss taken (option_map (λ (x : Token). tok_of x.1) o) raw → IsOnTrack g ss taken (option_map (λ (x : Token). tok_of x.1) q) raw
 look_peeked g ss taken None q raw f s = stands_look g ss taken _ raw s
 look_peeked g ss taken (Some t) q raw f s = subst (λ x. IsOnTrack g ss taken (option_map (λ (y : Token). tok_of y.1) x) raw) (sym (f t refl)) s
+
+-- the next token is the one that was looked at, where one was
+pub begins_peeked : (o : Option Token) (ts : List Tok) → IsNext (option_map (λ (t : Token). tok_of t.1) o) (toks (shown_list o) ++ ts)
+begins_peeked None ts = tt
+begins_peeked (Some t) ts = refl
 
 pub looks_on : {T : Type 0} {p r : Reader T} → r.tokens.taken ≡ p.tokens.taken → ((t : Token) → p.tokens.peeked ≡ Some t → r.tokens.peeked ≡ Some t) → (IsHanded p.tokens → IsHanded r.tokens) → (IsAwake p.tokens → IsAwake r.tokens)
     → r.stack ≡ p.stack → r.names ≡ p.names → {g : Goal} {names : Names} {given : List (Ev × Position)} → is_over g ≡ false → At g p names given → At g r names given
@@ -230,11 +231,6 @@ looks_on {T} {p} {r} taken same handed awake stack names_same {g} {names} {given
       code = subst (λ n. IsNamed n (names_at n.keeping.tags g names)) (sym names_same) a.code;
       pending = a.pending;
     }
-
-pub look_fails : {T A : Type 0} (p r : Reader T) (x : Result A Stop) {m : Missing} → IsErrAnd x (λ s. s ≡ stop_of m) → (IsAwake p.tokens → (m ≡ missing.Scan) × IsSome (scanned r.tokens.scanner).fault)
-    → IfErr x (λ s. (g : Goal) → is_over g ≡ false → Fails g p r s)
-look_fails {T} {A} p r (Ok n) e h = tt
-look_fails {T} {A} p r (Err s) {m} e h = λ g o names given a. let k = h (a.awake o) in subst (Faulted r given) (sym (e ∙ ap stop_of k.0)) k.1
 
 pub if_some_at : {A : Type 0} (P : A → Type 0) {o : Option A} → IfSome o P → {x : A} → o ≡ Some x → P x
 if_some_at {A} P {o} h {x} e = subst (λ y. IfSome y P) e h

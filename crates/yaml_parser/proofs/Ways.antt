@@ -49,7 +49,7 @@ explicit_ways = record {
   two_events = λ e. cc;
 }
 
-longer : (ds : List Directive) (d : Directive) → Raw.document_start (ds ++ []) ≢ Raw.document_start (ds ++ d ∷ [])
+pub longer : (ds : List Directive) (d : Directive) → Raw.document_start (ds ++ []) ≢ Raw.document_start (ds ++ d ∷ [])
 longer ds d e = by ds (let same : ds ++ [] ≡ ds ++ d ∷ [] = cc in same)
   where
     by : (xs : List Directive) → xs ++ [] ≡ xs ++ d ∷ [] → ⊥

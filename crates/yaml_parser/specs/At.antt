@@ -1,5 +1,5 @@
 -- Where the productions stand.
-use Rattle.std.specs.Prelude.{◌≡◌, ◌≤◌, length, List, Option, [], ◌∷◌, ◌++◌, Bool, true, false, Some, None, IsSome, Result, Ok, Err}
+use Rattle.std.specs.Prelude.{◌≡◌, ◌≤◌, ◌||◌, length, List, Option, [], ◌∷◌, ◌++◌, Bool, true, false, Some, None, IsSome, Result, Ok, Err}
 use Rattle.defs_text.specs.Position.{Position}
 use Rattle.yaml_tokens.specs.declared.token.Token.{Token}
 use Rattle.yaml_tokens.specs.declared.problem.Fault.TheVariants.{OutOfMemory}
@@ -24,6 +24,7 @@ use Rattle.yaml_parser.specs.declared.tokens.Stop.TheVariants as stop
 use Rattle.yaml_parser.specs.declared.reader.Reader.{Reader}
 use Rattle.yaml_parser.specs.Ahead.{Skips}
 use Rattle.yaml_parser.specs.Blames.{Blames}
+use Rattle.yaml_parser.specs.Halts.{IsHalted}
 use Rattle.yaml_parser.specs.Handed.{taken_toks, peeked_tok, IsHanded, IsAwake}
 use Rattle.yaml_parser.specs.Named.{IsNamed}
 use Rattle.yaml_parser.specs.Settings.{named_since, names_since}
@@ -32,6 +33,14 @@ use Rattle.yaml_parser.specs.Shown.{placed, ev_of}
 abbrev pub is_over : Goal → Bool
 is_over at.ended = true
 is_over _ = false
+
+abbrev pub is_done : Goal → Bool
+is_done at.done = true
+is_done _ = false
+
+-- whether it reads nothing here
+abbrev pub is_idle : Goal → Bool
+is_idle g = is_over g || is_done g
 
 -- ---- names
 
@@ -79,7 +88,7 @@ pub record IsStuck {T : Type 0} (p : Reader T) (given : List (Ev × Position)) (
 abbrev pub Faulted : {T : Type 0} → Reader T → List (Ev × Position) → Stop → Type 0
 Faulted p given (stop.Own OutOfMemory) = Unit {0}
 Faulted p given (stop.Own (fault.At problem mark)) = IsStuck p given problem mark
-Faulted p given stop.Scan = IsSome (scanned p.tokens.scanner).fault
+Faulted p given stop.Scan = IsSome (scanned p.tokens.scanner).fault × IsHalted p.names.keeping.settings.items p.names.keeping.tags (scanned p.tokens.scanner).given given
 Faulted p given stop.Ended = ⊥
 
 abbrev pub goal_after_event : Ev → Goal

@@ -9,6 +9,7 @@ use Rattle.defs_token.specs.Toks.{toks}
 use Rattle.defs_event.specs.Stream.{IsStream, IsPlacedStream, BeginsPlaced, Foretells, NoneBegins, events_of}
 use Rattle.yaml_parser.specs.Blames.{Blames, WantsMemory}
 use Rattle.yaml_parser.specs.Derived.{IsDerived, IsStreamSince, ForetellsRaw}
+use Rattle.yaml_parser.specs.Halts.{IsHalted}
 use Rattle.yaml_parser.specs.Parsed.{Parsed, read}
 use Rattle.yaml_parser.specs.Settings.{AreAll}
 
@@ -63,3 +64,7 @@ pub record IsRefusedAtLast (f : ErrorReport) (p : Parsed) : Type 0 where
 -- Why a fault comes: it is the scanner's, or memory was refused, or the last token is refused.
 abbrev pub Explains : ErrorReport → Parsed → Type 0
 Explains f p = (p.scanner.fault ≡ Some f) ⊎ (WantsMemory f ⊎ IsRefusedAtLast f p)
+
+-- What the events beside a fault are: before one of the scanner's, those of the tokens taken; before a refused token, those of the tokens before it.
+abbrev pub StandsBeside : ErrorReport → Parsed → Type 0
+StandsBeside f p = ((p.scanner.fault ≡ Some f) × IsHalted p.settings p.keep_tags p.scanner.given (read p)) ⊎ (WantsMemory f ⊎ IsRefusedAtLast f p)

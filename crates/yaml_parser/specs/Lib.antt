@@ -7,6 +7,7 @@ pub mod Derived
 pub mod Directing
 pub mod Follows
 pub mod Handed
+pub mod Halts
 pub mod Held
 pub mod Kinds
 pub mod Loads

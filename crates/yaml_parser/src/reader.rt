@@ -7,7 +7,7 @@ ghost use Rattle.model_parser.specs.Goal.{Goal};
 ghost use Rattle.yaml_parser.specs.declared.tokens.Stop.TheVariants.{Own};
 ghost use Rattle.yaml_parser.specs.Shown.{placed};
 ghost use Rattle.model_parser.specs.Rest.{goal_of};
-ghost use Rattle.yaml_parser.specs.At.{Reads, Carries, Fails, Took, Stayed, is_over};
+ghost use Rattle.yaml_parser.specs.At.{Reads, Carries, Fails, Took, Stayed, is_over, is_idle};
 ghost use Rattle.yaml_parser.specs.Work.{work, weight};
 ghost use Rattle.yaml_parser.specs.Kinds.{IsOfKind};
 ghost use Rattle.yaml_scanner.specs.Scanned.{scanned};
@@ -48,7 +48,7 @@ impl<T: Iterator<Item = char>> Reader<T> {
         ensures start { self.new.tokens.scanner.start ≡ self.old.tokens.scanner.start }
         ensures work { OnOk result (work self.new ≤ work self.old) }
         ensures at { OnOk result ((g : Goal) → is_over g ≡ false → Carries g self.old self.new) }
-        ensures err { IfErr result (λ s. (g : Goal) → is_over g ≡ false → Fails g self.old self.new s) }
+        ensures err { IfErr result (λ s. (g : Goal) → is_idle g ≡ false → Fails g self.old self.new s) }
     {
         let kind = self.tokens.peek()?;
         Ok(kind)

@@ -1,0 +1,37 @@
+-- What the events are where no further token comes: before a fault of the scanner.
+use Rattle.std.specs.Prelude.{◌≡◌, ◌≤◌, length, List, [], ◌∷◌, ◌++◌, Bool, true, false, Option, None, Some, IfSome}
+use Rattle.defs_text.specs.Position.{Position}
+use Rattle.defs_token.specs.Token.{Token}
+use Rattle.defs_token.specs.Toks.{toks}
+use Rattle.defs_event.specs.Event.{Ev}
+use Rattle.defs_event.specs.Raw.{Raw}
+use Rattle.yaml_parser.specs.Apart.{IsOpen}
+use Rattle.yaml_parser.specs.Derived.{IsDerived, ForetellsRaw}
+
+-- whether an event may wait for the token after it, whose position it has: the start of the stream, the end of a document or of a pair
+-- in a flow sequence, and a scalar that is not written
+abbrev pub may_wait : Raw → Bool
+may_wait Raw.stream_start = true
+may_wait Raw.document_end = true
+may_wait Raw.mapping_end = true
+may_wait (Raw.empty_scalar None None) = true
+may_wait _ = false
+
+abbrev pub perhaps : Option Raw → List Raw
+perhaps None = []
+perhaps (Some e) = e ∷ []
+
+-- These are some tokens before and at most one that was looked at. The events come of those before. Each stream that begins with the
+-- tokens begins with these events and with the missing one, if one is missing; and after these, two different events may come. So of the
+-- events that the tokens before make certain only one may be missing, which waits for the position of the next token.
+pub record IsHalted (settings : List Bool) (keep_tags : Bool) (tokens : List Token) (events : List (Ev × Position)) : Type 0 where
+  pub before : List Token
+  pub looked_at : List Token
+  pub at_most_one : length looked_at ≤ 1
+  pub whole : tokens ≡ before ++ looked_at
+  pub raw : List Raw
+  pub derived : IsDerived settings keep_tags before raw events
+  pub missing : Option Raw
+  pub waits : IfSome missing (λ e. may_wait e ≡ true)
+  pub certain : ForetellsRaw (toks tokens) (raw ++ perhaps missing)
+  pub goes_on : IsOpen (toks before) (raw ++ perhaps missing)
