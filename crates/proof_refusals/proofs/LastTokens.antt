@@ -63,7 +63,7 @@ Marks v w = (q : Position) → last_property w.held.tokens ≡ Some q → Marked
 some_is : (p q : Position) → Some p ≡ Some q → p ≡ q
 some_is p q e = cc
 
-anything : {A : Type 0} (r : Result A Fault) → Holds (λ x. Unit {0}) r
+pub anything : {A : Type 0} (r : Result A Fault) → Holds (λ x. Unit {0}) r
 anything (Ok x) = went tt
 anything (Err f) = refused
 

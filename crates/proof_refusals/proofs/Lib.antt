@@ -9,6 +9,7 @@ pub mod MarginKeys
 pub mod Margins
 pub mod NoRows
 pub mod Nodes
+pub mod OtherFaults
 pub mod OtherRows
 pub mod Passing
 pub mod PiecesRefused

@@ -24,6 +24,7 @@ use Rattle.proof_row_sound.proofs.ToToken.{passed_stands}
 use Rattle.proof_row_sound.specs.Arrives.{Arrives}
 use Rattle.proof_row_sound.specs.Choices.{outside_key}
 use Rattle.proof_refusals.specs.Stuck.{IsStuck}
+use Rattle.proof_refusals.specs.Never.{AnchorIndentationNeverComes}
 use Rattle.proof_refusals.specs.Told.{RefusedTextsAreStuck}
 use Rattle.proof_refusals.proofs.Carried.{Arrived, outside_of, stale_arrives, Carries, carries_on}
 use Rattle.proof_refusals.proofs.Faults as faults
@@ -32,6 +33,7 @@ use Rattle.proof_refusals.proofs.Fetches.{here_told}
 use Rattle.proof_refusals.proofs.KeptKeys.{last_key}
 use Rattle.proof_refusals.proofs.LastTokens.{HereMarks, here_marks}
 use Rattle.proof_refusals.proofs.MarginKeys.{IsMargin, marks_margin, stale_margin, unrolled_margin}
+use Rattle.proof_refusals.proofs.OtherFaults.{Other, here_other, way_other, stale_other, not_other}
 use Rattle.proof_refusals.proofs.Passing.{HasNear, fetch_near, passing_told}
 use Rattle.proof_refusals.proofs.Places.{IsCarried, Told, not_told}
 
@@ -92,6 +94,21 @@ next_told text t s near margin carries =
         by : (f : Bool) → is_empty t.held.flow ≡ f → IsCarried text (outside_key b.arrives.base.entries v.held.keys)
         by true f = absurd (cc (b.keeps.outside f, some))
         by false f = subst (λ o. IsCarried text o) (sym (last_is ∙ b.keeps.inside f some)) (carries s.going f (b.cut left))
+
+next_other : (text : List ℕ) (t : ScannerState) → Stands text t → IsMargin t.held → Faults Other (fetch_next t)
+unfolding fetch_next
+next_other text t s margin =
+    in_turn (way_other t) (λ u e.
+    let a = held_of u (both_hold (passed_stands text t s) (to_token t)) e in
+    in_turn (tried u (stale_other u.held)) (λ v f.
+    let b : Arrived text t (on_held (λ h. unroll_indent (h.position.col + 1) h) v) = held_of v (stale_arrives text t u a.0.0 a.0.1 a.1.passed) f in
+    in_turn (here_other text (on_held (λ h. unroll_indent (h.position.col + 1) h) v) b.arrives
+    (held_of {P = λ z. IsMargin (on_held (λ h. unroll_indent (h.position.col + 1) h) z).held} v (margin_here t u margin a.1.passed) f)) (λ w g.
+    tried w (stale_other w.held))))
+
+fetch_other : (text : List ℕ) (t : ScannerState) → Stands text t → IsMargin t.held → Faults Other (fetch t)
+unfolding fetch
+fetch_other text t s margin = either t.held.started (λ _. next_other text t s margin) (λ n. absurd (cc (n, s.started)))
 
 fetch_told : (text : List ℕ) (t : ScannerState) → Stands text t → HasNear t.held → IsMargin t.held → Carries text t → Faults (Told text) (fetch t)
 unfolding fetch
@@ -166,13 +183,27 @@ known_on : (text : List ℕ) → has_no_nul text ≡ true → (t u : ScannerStat
 known_on text nul t u here k = k
 known_on text nul t u (there {u = v} going e run) k = known_on text nul v u run (known_next text nul t v going e k)
 
+first_known : (text : List ℕ) → Known text (start text)
+first_known text = record { comes = starts refl; fares = begins refl; near = λ o k e. absurd (cc e); margin = λ on o q e. absurd (cc e); carries = λ on some left. absurd (cc some) }
+
 pub refused_texts_are_stuck : RefusedTextsAreStuck
 refused_texts_are_stuck text why at nul r told = by k.fares
   where
     k : Known text r.last
-    k = known_on text nul (start text) r.last r.run (record { comes = starts refl; fares = begins refl; near = λ o k e. absurd (cc e); margin = λ on o q e. absurd (cc e); carries = λ on some left. absurd (cc some) })
+    k = known_on text nul (start text) r.last r.run (first_known text)
 
     by : Fares text r.last → IsStuck text why at
     by (begins b) = absurd (cc (sym (first_fetch text) ∙ (ap fetch (sym b) ∙ r.refused)))
     by (goes s) = (fault_is (At why at) (fetch_told text r.last s k.near (k.margin s.going) k.carries) r.refused) told
     by (over f n) = absurd (cc (f, r.going))
+
+pub anchor_indentation_never_comes : AnchorIndentationNeverComes
+anchor_indentation_never_comes text at nul r = by k.fares
+  where
+    k : Known text r.last
+    k = known_on text nul (start text) r.last r.run (first_known text)
+
+    by : Fares text r.last → ⊥
+    by (begins b) = cc (sym (first_fetch text) ∙ (ap fetch (sym b) ∙ r.refused))
+    by (goes s) = not_other at (fault_is (At problem.AnchorIndentation at) (fetch_other text r.last s (k.margin s.going)) r.refused)
+    by (over f n) = cc (f, r.going)

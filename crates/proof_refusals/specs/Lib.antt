@@ -1,4 +1,5 @@
 pub mod Certain
+pub mod Never
 pub mod NoPiece
 pub mod QuotedLines
 pub mod Stuck

@@ -1,6 +1,7 @@
 //! Laws of refused texts, each the contract of an empty function.
 
 ghost use Rattle.proof_refusals.specs.Certain.{FailingPlacesHaveNoRow};
+ghost use Rattle.proof_refusals.specs.Never.{AnchorIndentationNeverComes};
 ghost use Rattle.proof_refusals.specs.Told.{RefusedTextsAreStuck};
 
 /// Where the scanner's model refuses a text without NUL with a fault of one of the kinds that are told, the text is stuck by
@@ -12,4 +13,9 @@ pub fn refused_texts_are_stuck()
 /// Where a condition of one of twelve kinds fails, after whatever beginning of a row, the text has no row.
 pub fn failing_places_have_no_row()
     ensures { FailingPlacesHaveNoRow }
+{}
+
+/// The scanner's model refuses no text without NUL for an anchor or a tag in the first column before an entry there.
+pub fn anchor_indentation_never_comes()
+    ensures { AnchorIndentationNeverComes }
 {}
