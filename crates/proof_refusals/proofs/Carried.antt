@@ -29,9 +29,10 @@ use Rattle.proof_row_sound.specs.Stands.{AreEntries, IsOpenOutside, Stands}
 use Rattle.proof_row_sound.specs.Arrives.{Arrives, IsNear}
 use Rattle.proof_row_sound.proofs.Arriving.{arrives_now, near_key}
 use Rattle.proof_row_sound.proofs.Stales.{stale_stands}
+use Rattle.proof_row_sound.proofs.StreamEnds.{same_flow}
 use Rattle.proof_row_sound.proofs.ToToken.{passed_stands}
 use Rattle.proof_refusals.proofs.KeptKeys.{last_key, Keeps, same_keeps, then_keeps, IsMany, many_of, unrolled_same, passed_same, stale_keeps}
-use Rattle.proof_refusals.proofs.Places.{Waits, IsCarried, many_levels}
+use Rattle.proof_refusals.proofs.Places.{Waits, IsCarried, entries_alike, many_levels}
 use Rattle.proof_refusals.proofs.TokensKeep.{Opened, name_keeps, tag_keeps, plain_keeps, block_keeps, quoted_keeps, dash_keeps, question_keeps, colon_keeps, closing_keeps, comma_keeps, directive_keeps, marker_keeps, document_end_keeps, opening_keeps}
 
 -- the key outside flow is the last one
@@ -201,8 +202,8 @@ abbrev pub Carries : (text : List ℕ) → ScannerState → Type 0
 Carries text t = t.held.ended ≡ false → is_empty t.held.flow ≡ false → is_empty t.rest ≡ false → IsCarried text (last_key t.held.keys)
 
 -- a key on this line waits
-live_waits : (text : List ℕ) (u : ScannerState) → Stands text u → (k : Key) → last_key u.held.keys ≡ Some k → k.required ≡ true → IsLive k u.held.position u.rest → Waits text k
-live_waits text u s k e must live =
+live_waits : (text : List ℕ) (u : ScannerState) → Stands text u → is_empty u.held.flow ≡ false → (k : Key) → last_key u.held.keys ≡ Some k → k.required ≡ true → IsLive k u.held.position u.rest → Waits text k
+live_waits text u s inside k e must live =
     let o : outside_key s.base.entries u.held.keys ≡ Some k = outside_of u.held.key_allowed _ u.held.flow u.held.keys s.base.entries s.are_entries s.one_each ∙ e in
     let may : MayChoose true (outside_key s.base.entries u.held.keys) u.held.position u.rest = subst (λ x. MayChoose true x u.held.position u.rest) (sym o) live in
     let open_here = (subst (λ x. IsOpenOutside x s.base.site.position u.held.position u.rest s.base.site.blocks) o s.is_open).1 live in
@@ -210,6 +211,7 @@ live_waits text u s k e must live =
       account = chosen true [] u.held.keys s.base;
       after = s.separation ++ u.rest;
       begins = (s.completes true [] may).0;
+      is_inside = ap not (entries_alike [] u.held.keys s.base.entries ∙ sym (same_flow u.held.key_allowed _ u.held.flow u.held.keys s.base.entries s.are_entries) ∙ inside);
       line_is = ap (λ x. line_by true x s.base.line) o;
       must_be = sym open_here.must_be ∙ must;
     }
@@ -231,4 +233,4 @@ carries_on text t u s e next carries going some left = by (last_key u.held.keys)
 
         on : k.required ≡ true → (b : Bool) → nat_lt k.position.line u.held.position.line ≡ b → Waits text k
         on must true late = old must late (fact going k i some)
-        on must false near = live_waits text u next k i must (grind (arith, nat_tests, near), left)
+        on must false near = live_waits text u next some k i must (grind (arith, nat_tests, near), left)

@@ -113,7 +113,7 @@ module _ (text : List ℕ) (t : ScannerState) (s : Stands text t) (near : HasNea
       by (behind x e must late) =
           let w : Waits text x = waits_behind d.is_some x e must late in
           let later = (not_before_after t.held.position d.passed d.rest).0 in
-          key_waits w.account w.after x.position w.begins w.line_is w.must_be (omega (arith, later, late))
+          key_waits w.account w.after x.position w.begins w.is_inside w.line_is w.must_be (omega (arith, later, late))
 
   pub passing_told : Faults (Told text) (skip_to_next_token t)
   passing_told =

@@ -28,6 +28,7 @@ pub record Waits (text : List ℕ) (k : Key) : Type 0 where
   pub account : Account
   pub after : List ℕ
   pub begins : Begins text after account
+  pub is_inside : is_in_flow account.entries ≡ true
   pub line_is : account.line ≡ waits k.position
   pub must_be : is_in_column k.position.col account.site.blocks ≡ true
 
@@ -75,7 +76,7 @@ many_levels allowed again (f ∷ fs) [] es h = absurd h
 many_levels allowed again (f ∷ fs) (k ∷ ks) [] h = absurd h
 many_levels allowed again (f ∷ fs) (k ∷ ks) (e ∷ es) h = ap suc (many_around fs ks es h.2)
 
-entries_alike : (cs : List Bool) (ks : List (Option Key)) (es : List Entry) → is_empty (entries_by cs ks es) ≡ is_empty es
+pub entries_alike : (cs : List Bool) (ks : List (Option Key)) (es : List Entry) → is_empty (entries_by cs ks es) ≡ is_empty es
 entries_alike cs ks [] = refl
 entries_alike cs ks (e ∷ es) = refl
 
@@ -104,7 +105,7 @@ module _ (text : List ℕ) (t : ScannerState) (a : Arrives text t) (some : is_em
           on true o = let near : IsNear (Some x) t.held.position = subst (λ k. IsNear k t.held.position) e (a.is_near o) in absurd (omega (arith, near.0, late))
           on false i =
               let w : Waits text x = (subst (λ k. IsCarried text k) e (carried i)) must in
-              key_waits w.account w.after x.position w.begins w.line_is w.must_be (omega (arith, later, late))
+              key_waits w.account w.after x.position w.begins w.is_inside w.line_is w.must_be (omega (arith, later, late))
 
   -- what follows the piece that begins here is what the text is stuck by
   pub followed_stuck : (why : Problem) (at : Position) → t.held.position.line ≤ at.line → IsFollowed (in_flow t.held) t.held.position t.rest why at → IsStuck text why at

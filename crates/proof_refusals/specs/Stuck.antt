@@ -74,7 +74,7 @@ pub data Fails (a : Account) (separation : List ℕ) (here : Position) (rest : L
   followed : IsFollowed (is_in_flow a.entries) here rest why at → Fails a separation here rest why at
   may_not_stand : MayNotStand a separation here rest why at → Fails a separation here rest why at
 
--- A text is stuck: a row may begin with all pieces up to a place, and what stands there fails. Or a row may begin so that a node which must be an implicit key waits for its colon, and the line has ended before the fault.
+-- A text is stuck: a row may begin with all pieces up to a place, and what stands there fails. Or a row may begin so that in a flow collection a node outside it, which must be an implicit key, waits for its colon, and the line has ended before the fault.
 pub data IsStuck (text : List ℕ) (why : Problem) (at : Position) : Type 0 where
   fails : (a : Account) (separation rest : List ℕ) (here : Position) → IsPlace text a separation rest here → begins_separation rest ≡ false → Fails a separation here rest why at → IsStuck text why at
-  key_waits : (a : Account) (after : List ℕ) (begin : Position) → Begins text after a → a.line ≡ waits begin → is_in_column begin.col a.site.blocks ≡ true → begin.line < at.line → IsStuck text why at
+  key_waits : (a : Account) (after : List ℕ) (begin : Position) → Begins text after a → is_in_flow a.entries ≡ true → a.line ≡ waits begin → is_in_column begin.col a.site.blocks ≡ true → begin.line < at.line → IsStuck text why at
