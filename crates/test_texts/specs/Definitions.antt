@@ -1,7 +1,9 @@
 -- What a reader must believe: layouts, JSON texts, quoted texts, rows and meanings.
 pub use Rattle.yaml_rust2.specs.Anchored.{Anchor, last_tree, with_end}
 pub use Rattle.yaml_rust2.specs.Basic.{IsBasic, IsBasicLayout}
+pub use Rattle.yaml_rust2.specs.Beginning.{Begins, IsPlace}
 pub use Rattle.yaml_rust2.specs.BlockLines.{AreLines, contents}
+pub use Rattle.yaml_rust2.specs.Certain.{is_certain}
 pub use Rattle.yaml_rust2.specs.Cut.{IsCut, IsCutOfBeginning}
 pub use Rattle.yaml_rust2.specs.Cuts.{IsReadOfCut}
 pub use Rattle.yaml_rust2.specs.DumpIsLaidOut.{IsDumpLaidOut}
@@ -16,12 +18,16 @@ pub use Rattle.yaml_rust2.specs.JsonString.{Piece, unescaped}
 pub use Rattle.yaml_rust2.specs.Layout.{AreLaidOut}
 pub use Rattle.yaml_rust2.specs.Meaning.{Means}
 pub use Rattle.yaml_rust2.specs.NoAlias.{HasNoAlias}
+pub use Rattle.yaml_rust2.specs.NoPiece.{IsBlockFault, IsFollowed, IsPlainFault, NoPiece}
 pub use Rattle.yaml_rust2.specs.Position.{Position}
 pub use Rattle.yaml_rust2.specs.Positions.{IsPositionIn}
 pub use Rattle.yaml_rust2.specs.QuotedText.{IsQuoted}
 pub use Rattle.yaml_rust2.specs.ReadAs.{ReadAs}
 pub use Rattle.yaml_rust2.specs.Row.{HasRow, IsRead}
+pub use Rattle.yaml_rust2.specs.Rowless.{HasNoRow}
+pub use Rattle.yaml_rust2.specs.Stuck.{Fails, IsStuck, MayNotStand}
 pub use Rattle.yaml_rust2.specs.TextReadAs.{IsReadAs}
+pub use Rattle.yaml_rust2.specs.Told.{is_told}
 pub use Rattle.yaml_rust2.specs.Toks.{toks}
 pub use Rattle.yaml_rust2.specs.ValidTree.{IsValid}
 pub use Rattle.yaml_rust2.specs.Writable.{IsWritable, levels}

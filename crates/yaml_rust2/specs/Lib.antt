@@ -27,6 +27,7 @@ pub use Rattle.defs_layout.specs.QuotedText
 pub use Rattle.defs_token.specs.Token
 pub use Rattle.defs_token.specs.Toks
 pub use Rattle.defs_token.specs.Cut
+pub use Rattle.defs_row.specs.Beginning
 pub use Rattle.defs_row.specs.Step
 pub use Rattle.defs_row.specs.Tokens
 pub use Rattle.defs_row.specs.Row
@@ -57,6 +58,7 @@ pub use Rattle.yaml_emitter.specs.FmtText
 pub use Rattle.yaml_emitter.specs.Strings
 pub use Rattle.yaml_emitter.specs.ValidTree
 pub use Rattle.yaml_emitter.specs.Writing
+pub use Rattle.yaml_scanner.specs.Rowless
 pub use Rattle.yaml_scanner.specs.Scanned
 pub use Rattle.yaml_scanner.specs.Next
 pub use Rattle.yaml_parser.specs.Parsed
@@ -67,6 +69,10 @@ pub use Rattle.yaml_parser.specs.Pulls
 pub use Rattle.yaml_parser.specs.Shown
 pub use Rattle.proof_cut.specs.Faults
 pub use Rattle.proof_cut.specs.Positions
+pub use Rattle.proof_refusals.specs.Certain
+pub use Rattle.proof_refusals.specs.NoPiece
+pub use Rattle.proof_refusals.specs.Stuck
+pub use Rattle.proof_refusals.specs.Told
 pub use Rattle.proof_row.specs.Meaning
 pub use Rattle.proof_loads.specs.Cuts
 pub use Rattle.proof_loads.specs.Spelled

@@ -9,7 +9,9 @@ use Rattle.defs_token.specs.Token.{Tok, Token}
 use Rattle.defs_text.specs.Position.{Position}
 use Rattle.yaml_tokens.specs.Problem.{fault_of}
 use Rattle.yaml_tokens.specs.declared.problem.Fault.{Fault}
+use Rattle.yaml_tokens.specs.ErrorReport.{ErrorReport}
 use Rattle.yaml_tokens.specs.declared.problem.Fault.TheVariants.{At, OutOfMemory}
+use Rattle.yaml_tokens.specs.declared.problem.Problem.{Problem}
 use Rattle.model_scanner.specs.Fetch.{fetch}
 use Rattle.model_scanner.specs.Run.{Reaches, here, HasTokens, IsRefused, start, nothing_held}
 use Rattle.model_scanner.proofs.Runs.{one_more, run_to_end, one_list, one_fault, not_refused}
@@ -23,7 +25,8 @@ use Rattle.yaml_scanner.specs.Shape.{held, state, Does, Fails}
 use Rattle.yaml_scanner_state.specs.Tokens.{Tokens, handed, is_end, has_end}
 use Rattle.yaml_scanner.specs.Work.{Fetches}
 use Rattle.yaml_scanner.specs.Follows.{BeginsWith, IsReached, FollowsIn, Follows}
-use Rattle.yaml_scanner.specs.Scanned.{inside, kept_fault, IsRefusal, Scans}
+use Rattle.yaml_scanner.specs.Rowless.{HasNoRow}
+use Rattle.yaml_scanner.specs.Scanned.{Scanned, inside, kept_fault, IsRefusal, Scans, LeavesNoRow}
 use Rattle.yaml_scanner_state.proofs.GivenLemmas.{lowered_seen}
 use Rattle.yaml_scanner.proofs.WhereLemmas.{in_text, at_end, not_started, has_started}
 use Rattle.yaml_scanner_state.proofs.QueueLemmas.{has_end_append}
@@ -34,6 +37,8 @@ use Rattle.defs_text.specs.Text.{has_no_nul}
 use Rattle.proof_cut.proofs.Fetched.{tokens_are_cut}
 use Rattle.proof_cut.proofs.Faults.Fetches.{faults_stand}
 use Rattle.proof_cut.proofs.Beginnings.{first_tokens_are_cut}
+use Rattle.proof_row_complete.proofs.Complete.{texts_with_a_row_are_read}
+use Rattle.proof_refusals.proofs.Refusals.{refused_texts_are_stuck}
 
 -- before a text
 pub starts : {T : Type 0} (x : Fetcher T) → held x ≡ nothing_held → x.window.at ≡ 0 → x.kept ≡ None → handed x.tokens ≡ [] → x.tokens.over ≡ false → Follows x
@@ -247,13 +252,23 @@ memory_says (Some k) = by k.fault k.mark
     by OutOfMemory m h = refl
     by (At q p) m h = absurd cc
 
+-- a refused text has no row
+has_no_row : (a : List ℕ) (why : Problem) (at m : Position) → has_no_nul a ≡ true → IsRefused a (At why at) → HasNoRow a (fault_of (At why at) m)
+has_no_row a why at m n r = record {
+  why = why;
+  at = at;
+  shown = refl;
+  rowless = λ ts row. not_refused a ts (At why at) (texts_with_a_row_are_read a ts n row) r;
+  stuck = refused_texts_are_stuck a why at n r;
+}
+
 is_refusal : (f : Option KeptFault) (a : List ℕ) → IfSome f (λ k. k.fault ≢ OutOfMemory → IsRefused a k.fault) → IfSome (option_map kept_fault f) (λ x. x.memory ≡ false → IsRefusal a x)
 is_refusal None a r = tt
 is_refusal (Some k) a r = by k.fault k.mark r
   where
     by : (e : Fault) (m : Position) → (e ≢ OutOfMemory → IsRefused a e) → (fault_of e m).memory ≡ false → IsRefusal a (fault_of e m)
     by OutOfMemory m r n = absurd cc
-    by (At q p) m r n = record { fault = At q p; position = m; refused = r (λ e. absurd cc); shown = refl; stands = λ n s. faults_stand a (At q p) (no_nul a n) (r (λ e. absurd cc)) s }
+    by (At q p) m r n = record { fault = At q p; position = m; refused = r (λ e. absurd cc); shown = refl; stands = λ n s. faults_stand a (At q p) (no_nul a n) (r (λ e. absurd cc)) s; rowless = λ n. has_no_row a q p m n (r (λ e. absurd cc)) }
 
 one_refusal : (f : Option KeptFault) (a : List ℕ) → IfSome f (λ k. k.fault ≢ OutOfMemory → IsRefused a k.fault) → (e : Fault) → IsRefused a e → IfSome (option_map kept_fault f) (λ x. x.memory ≡ false → (p : Position) × (x ≡ fault_of e p))
 one_refusal None a r e i = tt
@@ -288,3 +303,11 @@ scans_from x f = record {
         same = one_refusal x.kept a s.refused;
       };
 }
+
+-- what a scanner has of a fault that it keeps
+pub leaves_no_row : (s : Scanned) (f : ErrorReport) → Scans s → s.fault ≡ Some f → LeavesNoRow s f
+leaves_no_row s f scans kept m a may n = by s.fault kept (scans.scans a may).refused
+  where
+    by : (o : Option ErrorReport) → o ≡ Some f → IfSome o (λ g. g.memory ≡ false → IsRefusal a g) → HasNoRow a f
+    by None e h = absurd cc
+    by (Some g) e h = let same : g ≡ f = cc in subst (HasNoRow a) same ((h (ap (λ x. x.memory) same ∙ m)).rowless n)

@@ -1,6 +1,7 @@
 pub mod Blocks
 pub mod Follows
 pub mod Next
+pub mod Rowless
 pub mod Scanned
 pub mod Shape
 pub mod Steps

@@ -1,6 +1,7 @@
 -- What clauses see of a scanner.
 use Rattle.std.specs.Prelude.{◌≡◌, ℕ, ◌+◌, ◌<◌, List, [], ◌∷◌, ◌++◌, length, take, drop, Bool, true, false, Option, Some, None, IfSome, option_map, codes}
 use Rattle.defs_text.specs.Position.{Position, first_position, position_after}
+use Rattle.defs_text.specs.Text.{has_no_nul}
 use Rattle.yaml_chars.specs.Reading.{position_of, HasNoNul}
 use Rattle.defs_token.specs.Token.{Token}
 use Rattle.yaml_tokens.specs.ErrorReport.{ErrorReport}
@@ -14,6 +15,7 @@ use Rattle.proof_cut.specs.Positions.{IsPositionIn}
 use Rattle.yaml_scanner.specs.declared.fetcher.Fetcher.{Fetcher}
 use Rattle.yaml_scanner.specs.declared.fetcher.KeptFault.{KeptFault}
 use Rattle.yaml_scanner.specs.Follows.{BeginsWith, IsReached}
+use Rattle.yaml_scanner.specs.Rowless.{HasNoRow}
 use Rattle.yaml_scanner_state.specs.Tokens.{handed, waiting, is_end}
 use Rattle.yaml_scanner.specs.Work.{work}
 
@@ -76,6 +78,8 @@ pub record IsRefusal (a : List ℕ) (f : ErrorReport) : Type 0 where
   pub shown : f ≡ fault_of fault position
   -- a fault that stands in a text by itself stands in this one: a bad escape, the end or a document marker inside a quoted scalar, a flow collection too deep, a dash in flow
   pub stands : HasNoNul a → is_shown fault ≡ true → IsThere a fault
+  -- the definitions of rows alone say that the text has none, and where it is stuck
+  pub rowless : has_no_nul a ≡ true → HasNoRow a f
 
 -- What was handed out, and the fault, where a is the text.
 pub record ScansIn (a : List ℕ) (s : Scanned) : Type 0 where
@@ -107,6 +111,10 @@ pub record Scans (s : Scanned) : Type 0 where
   pub scans : (a : List ℕ) → MayBe s a → ScansIn a s
   -- once the stream's end was fetched, the characters taken are the whole text
   pub done : s.fault ≡ None → s.stopped ≡ true → s.done ≡ true
+
+-- The same of a fault, whatever the text is: unless memory was refused, it has no row.
+abbrev pub LeavesNoRow : Scanned → ErrorReport → Type 0
+LeavesNoRow s f = f.memory ≡ false → (a : List ℕ) → MayBe s a → has_no_nul a ≡ true → HasNoRow a f
 
 -- a token more is handed out
 pub record HandsOut (old : Scanned) (t : Token) (new : Scanned) : Type 0 where

@@ -4,7 +4,7 @@ ghost use Rattle.std.specs.Iterator.{at_most, IsFinite, size};
 ghost use Rattle.yaml_chars.specs.Source.{CameFrom};
 ghost use Rattle.yaml_chars.specs.Reading.{HasNoNul};
 ghost use Rattle.yaml_tokens.specs.Shown.{shown};
-ghost use Rattle.yaml_scanner.specs.Scanned.{scanned, HandsOut, HandsNothing, Refuses, Scans};
+ghost use Rattle.yaml_scanner.specs.Scanned.{scanned, HandsOut, HandsNothing, LeavesNoRow, Refuses, Scans};
 ghost use Rattle.yaml_scanner.specs.Next.{GivesNext};
 
 use crate::fetcher::Fetcher;
@@ -142,10 +142,15 @@ impl<T: Iterator<Item = char>> Scanner<T> {
     /// The text's fault, or memory was refused. Either fault is kept: each later call returns it again, and tokens
     /// that were ready are not handed out any more. Once the stream's end was fetched, no fault comes, and no memory
     /// is taken.
+    ///
+    /// A text with a fault has no row of tokens, by the definitions alone (clause `rowless`). For most kinds of fault they also say
+    /// where and why: a row may begin with all pieces up to a place, and there no piece begins, or the one that begins may not
+    /// stand, as the fault says.
     pub fn next_token(&mut self) -> Result<Option<Token>, ScanError>
         ensures token { IfOk result (λ o. IfSome o (λ t. HandsOut (scanned self.old) (shown t) (scanned self.new))) }
         ensures none { IfOk result (λ o. IsNone o → HandsNothing (scanned self.old) (scanned self.new)) }
         ensures err { IfErr result (λ e. Refuses (scanned self.old) e (scanned self.new)) }
+        ensures rowless { IfErr result (λ e. LeavesNoRow (scanned self.new) e) }
         ensures over { (scanned self.old).fault ≡ None → (scanned self.old).ended ≡ true → (result ≡ Ok None) × (self.new ≡ self.old) }
         ensures ready { (scanned self.old).fault ≡ None → (scanned self.old).stopped ≡ true → IsOk result }
         ensures again { IfSome (scanned self.old).fault (λ f. (result ≡ Err f) × (self.new ≡ self.old)) }

@@ -1,4 +1,5 @@
-use Rattle.yaml_scanner.proofs.FollowLemmas.{scans_from}
+use Rattle.std.proofs.Common.{◌∙◌, sym}
+use Rattle.yaml_scanner.proofs.FollowLemmas.{scans_from, leaves_no_row}
 use Rattle.yaml_scanner.proofs.scanner.Scanner.next_token.Goals as goal
 
 -- the fault that was kept before
@@ -13,3 +14,9 @@ returns-then-is_over-clause-scans g c = rw (← c.self.view_is) (scans_from c.se
 
 pub returns-in-Ok-clause-scans : goal.returns-in-Ok-clause-scans
 returns-in-Ok-clause-scans g c = scans_from c.hand.new.self c.hand.ensures.follows
+
+pub returns-in-Some-clause-rowless : goal.returns-in-Some-clause-rowless
+returns-in-Some-clause-rowless g c = leaves_no_row _ _ (rw (← c.self.view_is) (scans_from c.self.inside.fetcher c.self.invariant)) (sym c.get_error.ensures ∙ c.in-Some.is)
+
+pub returns-in-Err-clause-rowless : goal.returns-in-Err-clause-rowless
+returns-in-Err-clause-rowless g c = leaves_no_row _ _ (scans_from c.keep.new.self c.keep.ensures.follows) c.keep.ensures.kept
