@@ -30,9 +30,10 @@ def doubled(width, levels, opening, closing):
 
 def aliased(n, item, size, levels):
     """An array of such items, below so many levels as many aliases of it as the limits allow, and a comment."""
-    count = n // 2 // (len(item) + 2)
-    aliases = 20 * n // (1 + count * size) - 3
-    text = "- &a [" + (item + ", ") * count + "]\n" + levels + "- [" + "*a, " * aliases + "]\n"
+    count = n // 10 // (len(item) + 2)
+    text = "- &a [" + (item + ", ") * count + "]\n" + levels + "- ["
+    aliases = min((2 * n + 100000) // (1 + count * size) - 3, (n - len(text)) // 4)
+    text += "*a, " * aliases + "]\n"
     return text + "#" * (n - len(text))
 
 

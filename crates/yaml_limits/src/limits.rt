@@ -1,5 +1,5 @@
 //! How much a load may make.
-ghost use Rattle.std.specs.Prelude.{◌≡◌, ◌≤◌, ◌*◌, length};
+ghost use Rattle.std.specs.Prelude.{◌≡◌, ◌≤◌, ◌+◌, ◌*◌, length};
 
 /// How much a load may make.
 #[derive(Clone, Copy, Debug, PartialEq, Eq)]
@@ -13,15 +13,15 @@ pub struct Limits {
 }
 
 impl Limits {
-    /// Limits for a text that a stranger wrote: 256 levels, which no flow collection exceeds, and a size of 20 times the
-    /// text's bytes.
+    /// Limits for a text that a stranger wrote: 256 levels, which no flow collection exceeds, and a size of twice the
+    /// text's bytes and 100,000 more, for anchors and aliases.
     pub fn for_text(text: &str) -> Limits
         ensures levels { result.levels ≡ 256 }
-        ensures size { result.size ≤ 20 * length text.now }
+        ensures size { result.size ≤ 2 * length text.now + 100000 }
     {
         Limits {
             levels: 256,
-            size: text.len().saturating_mul(20),
+            size: text.len().saturating_mul(2).saturating_add(100_000),
         }
     }
 }
