@@ -136,15 +136,17 @@ const CALLS: [(&str, &[Call], &str); 3] = [
     ),
     // Tokens that stood ready when it was met are not handed out.
     (
-        "a @",
+        "[a]\n@",
         &[
             Call::Token,
+            Call::Step,
+            Call::Step,
             Call::Step,
             Call::Step,
             Call::Token,
             Call::Error,
         ],
-        "StreamStart(Utf8) / ok / ok / Scalar(Plain, \"a @\") / none / ",
+        "StreamStart(Utf8) / ok / ok / ok / unexpected character: `@' at byte 4 line 2 column 1 false / unexpected character: `@' at byte 4 line 2 column 1 false / unexpected character: `@' at byte 4 line 2 column 1 false / ",
     ),
 ];
 
