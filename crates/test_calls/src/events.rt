@@ -111,25 +111,35 @@ fn events_are_copied(rt: HostRuntime) -> Result<(), Fail> {
 // Each document uses the handle that the first one declares, and an anchor of its own.
 const TWO_DOCUMENTS: &str = "%TAG !t! x:\n--- [&a !t!p 1, *a]\n--- [&a !t!p 2, *a]\n";
 
+// The line of the next event or fault, and whether it is the last; the stream's end has no line.
+fn line_words(alloc: Global, parser: &mut Parser<Chars<'_>>) -> Result<(bool, String), Fail> {
+    match parser.next_token() {
+        Ok((Event::StreamEnd, _)) => Ok((true, String::new(alloc))),
+        Ok((event, _)) => Ok((false, format!(in alloc; "{event:?}\n")?)),
+        Err(fault) => Ok((true, format!(in alloc; "{fault}\n")?)),
+    }
+}
+
+// The lines of the events that are left, or the fault.
+fn rest_words(alloc: Global, parser: &mut Parser<Chars<'_>>) -> Result<String, Fail> {
+    let mut lines = String::new(alloc);
+    for _ in 0..20 {
+        let (ends, words) = line_words(alloc, parser)?;
+        lines.push_str(words.as_str())?;
+        if ends {
+            break;
+        }
+    }
+    Ok(lines)
+}
+
 // The events after the third, with which the setting is made another one; or the fault.
 fn with_late_setting(alloc: Global, keep_tags: bool) -> Result<String, Fail> {
     let mut parser = Parser::new_from_str(alloc, TWO_DOCUMENTS).keep_tags(!keep_tags);
     for _ in 0..3 {
         parser.next_token()?;
     }
-    let mut parser = parser.keep_tags(keep_tags);
-    let mut lines = String::new(alloc);
-    for _ in 0..20 {
-        match parser.next_token() {
-            Ok((Event::StreamEnd, _)) => break,
-            Ok((event, _)) => lines.push_str(format!(in alloc; "{event:?}\n")?.as_str())?,
-            Err(fault) => {
-                lines.push_str(format!(in alloc; "{fault}\n")?.as_str())?;
-                break;
-            }
-        }
-    }
-    Ok(lines)
+    rest_words(alloc, &mut parser.keep_tags(keep_tags))
 }
 
 #[test]

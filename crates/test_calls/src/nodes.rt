@@ -167,13 +167,20 @@ const CHOICES: [(&str, &str, &str); 5] = [
     ("null", "bad", "BadValue"),
 ];
 
+fn borrowed_choice(alloc: Global, name: &str, other: &str) -> Result<String, Fail> {
+    borrowed_or_words(alloc, &tree(alloc, name)?, &tree(alloc, other)?)
+}
+
+fn owned_choice(alloc: Global, name: &str, other: &str) -> Result<String, Fail> {
+    or_words(alloc, tree(alloc, name)?, tree(alloc, other)?)
+}
+
 #[test]
 fn the_first_that_is_a_value_is_chosen(rt: HostRuntime) -> Result<(), Fail> {
-    let alloc = rt.alloc();
     for (name, other, want) in CHOICES {
-        let borrowed = borrowed_or_words(alloc, &tree(alloc, name)?, &tree(alloc, other)?)?;
+        let borrowed = borrowed_choice(rt.alloc(), name, other)?;
         assert_eq!(rt; borrowed.as_str(), want, "row {name}, {other}");
-        let owned = or_words(alloc, tree(alloc, name)?, tree(alloc, other)?)?;
+        let owned = owned_choice(rt.alloc(), name, other)?;
         assert_eq!(rt; owned.as_str(), want, "row {name}, {other}");
     }
     Ok(())
@@ -204,7 +211,7 @@ const INDICES: [(&str, usize, &str); 7] = [
 ];
 
 #[test]
-fn nodes_are_looked_up(rt: HostRuntime) -> Result<(), Fail> {
+fn nodes_are_looked_up_by_keys(rt: HostRuntime) -> Result<(), Fail> {
     for (name, key, want) in KEYS {
         let node = tree(rt.alloc(), name)?;
         assert_eq!(rt;
@@ -213,6 +220,11 @@ fn nodes_are_looked_up(rt: HostRuntime) -> Result<(), Fail> {
             "row {name}, {key}"
         );
     }
+    Ok(())
+}
+
+#[test]
+fn nodes_are_looked_up_by_indices(rt: HostRuntime) -> Result<(), Fail> {
     for (name, index, want) in INDICES {
         let node = tree(rt.alloc(), name)?;
         assert_eq!(rt;

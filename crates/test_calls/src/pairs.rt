@@ -1,7 +1,6 @@
 //! Pairs, which keep the order of insertion.
 use crate::made::{put, word};
-use std::alloc::{AllocGlobal, Global};
-use std::process::Abort;
+use std::alloc::Global;
 use std::test::Fail;
 use yaml_tree::{Hash, Steps, Yaml};
 
@@ -46,15 +45,26 @@ fn place_words(alloc: Global, pairs: &Hash, key: &str) -> Result<String, Fail> {
     Ok(format!(in alloc; "{:?}", pairs.place(&key, &mut steps))?)
 }
 
-// The pairs, lent and then by value.
-fn all_words(alloc: Global, pairs: &Hash) -> Result<String, Fail> {
+fn lent_words(alloc: Global, pairs: &Hash) -> Result<String, Fail> {
     let mut words = String::new(alloc);
     for pair in pairs {
         words.push_str(format!(in alloc; "{pair:?} ")?.as_str())?;
     }
-    for pair in pairs.clone(alloc)? {
+    Ok(words)
+}
+
+fn owned_words(alloc: Global, pairs: Hash) -> Result<String, Fail> {
+    let mut words = String::new(alloc);
+    for pair in pairs {
         words.push_str(format!(in alloc; "{pair:?} ")?.as_str())?;
     }
+    Ok(words)
+}
+
+// The pairs, lent and then by value.
+fn all_words(alloc: Global, pairs: &Hash) -> Result<String, Fail> {
+    let mut words = lent_words(alloc, pairs)?;
+    words.push_str(owned_words(alloc, pairs.clone(alloc)?)?.as_str())?;
     Ok(words)
 }
 
@@ -145,20 +155,22 @@ fn is_alike(hash: &Hash, list: &[(i64, i64)]) -> bool {
     hash.len() == list.len()
 }
 
+// Few keys in the first turns, and then so many that places stand in several blocks.
+fn turns(alloc: Global, hash: &mut Hash) -> Result<Vec<(i64, i64)>, Fail> {
+    let mut list = Vec::new(alloc);
+    for i in 0..4000_i64 {
+        let count = if i < 300 { 101 } else { 1999 };
+        turn(hash, &mut list, i.wrapping_mul(37) % count, i)?;
+    }
+    Ok(list)
+}
+
 #[test]
 fn a_hash_does_as_a_plain_list(rt: HostRuntime) -> Result<(), Fail> {
-    let alloc = rt.alloc();
-    let mut hash = Hash::new(alloc);
-    let mut list = Vec::new(alloc);
-    for i in 0..300_i64 {
-        turn(&mut hash, &mut list, i.wrapping_mul(37) % 101, i)?;
-    }
-    // Long enough that places stand in several blocks.
-    for i in 300..4000_i64 {
-        turn(&mut hash, &mut list, i.wrapping_mul(37) % 1999, i)?;
-    }
+    let mut hash = Hash::new(rt.alloc());
+    let list = turns(rt.alloc(), &mut hash)?;
     assert!(rt; is_alike(&hash, list.as_slice()));
-    assert!(rt; hash.clone(alloc)? == hash);
+    assert!(rt; hash.clone(rt.alloc())? == hash);
     Ok(())
 }
 
@@ -181,31 +193,55 @@ fn numbered(alloc: Global, alike: Alike, number: i64) -> Result<Yaml, Fail> {
     }
 }
 
-fn are_found(rt: &(impl Abort + AllocGlobal), alike: Alike) -> Result<(), Fail> {
-    let alloc = rt.alloc();
+// The key that was put in at this turn.
+fn turned(alloc: Global, alike: Alike, turn: i64) -> Result<Yaml, Fail> {
+    numbered(alloc, alike, turn.wrapping_mul(37) % 1999)
+}
+
+// A hash of 1999 keys, each with the turn at which it was put in.
+fn filled(alloc: Global, alike: Alike) -> Result<Hash, Fail> {
     let mut hash = Hash::new(alloc);
     for i in 0..1999_i64 {
-        let key = numbered(alloc, alike, i.wrapping_mul(37) % 1999)?;
-        let _ = put(&mut hash, key, Yaml::Integer(i))?;
+        let _ = put(&mut hash, turned(alloc, alike, i)?, Yaml::Integer(i))?;
     }
+    Ok(hash)
+}
+
+// The turn that a hash has for a key, or -1.
+fn turn_of(hash: &Hash, key: &Yaml) -> i64 {
+    match hash.get(key) {
+        Some(Yaml::Integer(turn)) => *turn,
+        _ => -1,
+    }
+}
+
+// Whether each key is found with its turn.
+fn are_found(alloc: Global, hash: &Hash, alike: Alike) -> Result<bool, Fail> {
     for i in 0..1999_i64 {
-        let key = numbered(alloc, alike, i.wrapping_mul(37) % 1999)?;
-        assert!(rt; hash.get(&key) == Some(&Yaml::Integer(i)));
+        if turn_of(hash, &turned(alloc, alike, i)?) != i {
+            return Ok(false);
+        }
     }
-    let gone = hash.remove(&numbered(alloc, alike, 37)?);
-    assert!(rt; gone == Some(Yaml::Integer(1)));
-    assert!(rt; hash.get(&numbered(alloc, alike, 37)?).is_none());
-    assert!(rt; hash.len() == 1998);
+    Ok(true)
+}
+
+// What taking out a key gives, the turn that is found for it then, and the length.
+fn removed_words(alloc: Global, hash: &mut Hash, key: &Yaml) -> Result<String, Fail> {
+    let gone = hash.remove(key);
+    let found = turn_of(hash, key);
+    Ok(format!(in alloc; "{gone:?} {found} {}", hash.len())?)
+}
+
+const KINDS: [Alike; 3] = [Alike::Beginning, Alike::Absolute, Alike::All];
+
+#[test]
+fn keys_that_are_alike_are_found(rt: HostRuntime) -> Result<(), Fail> {
+    for alike in KINDS {
+        let mut hash = filled(rt.alloc(), alike)?;
+        assert!(rt; are_found(rt.alloc(), &hash, alike)?);
+        let key = numbered(rt.alloc(), alike, 37)?;
+        let words = removed_words(rt.alloc(), &mut hash, &key)?;
+        assert_eq!(rt; words.as_str(), "Some(Integer(1)) -1 1998");
+    }
     Ok(())
-}
-
-#[test]
-fn keys_that_begin_alike_are_found(rt: HostRuntime) -> Result<(), Fail> {
-    are_found(&rt, Alike::Beginning)
-}
-
-#[test]
-fn keys_with_one_mark_are_found(rt: HostRuntime) -> Result<(), Fail> {
-    are_found(&rt, Alike::Absolute)?;
-    are_found(&rt, Alike::All)
 }

@@ -5,7 +5,7 @@ use yaml_chars::Marker;
 use yaml_loader::YamlLoader;
 use yaml_parser::{Event, MarkedEventReceiver};
 use yaml_scanner::Scanner;
-use yaml_tokens::TScalarStyle;
+use yaml_tokens::{ScanError, TScalarStyle};
 
 const NESTING: &str = "event out of nesting";
 
@@ -93,21 +93,25 @@ fn place_after(alloc: Global, text: &str, count: usize) -> Result<Marker, Fail> 
     Ok(scanner.mark())
 }
 
+// The fault that a loader returns for an event.
+fn fault_of(loader: &mut YamlLoader, event: Event, mark: Marker) -> Result<ScanError, Fail> {
+    match loader.on_event(event, mark) {
+        Ok(()) => Err(Fail::from("no fault")),
+        Err(fault) => Ok(fault),
+    }
+}
+
 #[test]
 fn a_fault_names_its_place_for_good(rt: HostRuntime) -> Result<(), Fail> {
     let mark = place_after(rt.alloc(), "\n a", 2)?;
     let mut loader = YamlLoader::default(rt.alloc());
-    let fault = loader
-        .on_event(Event::SequenceEnd, mark)
-        .err()
-        .ok_or("no fault")?;
+    let fault = fault_of(&mut loader, Event::SequenceEnd, mark)?;
     assert_eq!(rt; fault.info(), NESTING);
     assert!(rt; *fault.marker() == mark);
     let later = Scanner::new(rt.alloc(), "".chars()).mark();
     assert!(rt; later != mark);
-    for event in [Event::DocumentEnd, Event::StreamEnd, Event::Alias(1)] {
-        let again = loader.on_event(event, later).err().ok_or("no fault")?;
-        assert!(rt; again == fault);
-    }
+    assert!(rt; fault_of(&mut loader, Event::DocumentEnd, later)? == fault);
+    assert!(rt; fault_of(&mut loader, Event::StreamEnd, later)? == fault);
+    assert!(rt; fault_of(&mut loader, Event::Alias(1), later)? == fault);
     Ok(())
 }

@@ -81,6 +81,11 @@ fn want_of_memory_is_told_from_other_faults(rt: HostRuntime) -> Result<(), Fail>
         let broken = Broken { bytes: b"a", kind };
         assert_eq!(rt; is_want(rt.alloc(), broken)?, want);
     }
+    Ok(())
+}
+
+#[test]
+fn malformed_bytes_are_no_want_of_memory(rt: HostRuntime) -> Result<(), Fail> {
     for bytes in MALFORMED {
         assert!(rt; !is_want(rt.alloc(), bytes)?);
     }

@@ -134,19 +134,28 @@ const TEXTS: [(&str, u32); 5] = [
     ),
 ];
 
+// The fewest calls that a tree's dumps make.
+fn fewest(alloc: Global, tree: &Yaml) -> Result<u32, Fail> {
+    let mut fewest = u32::MAX;
+    for settings in SETTINGS {
+        fewest = fewest.min(refused(alloc, tree, settings)?);
+    }
+    Ok(fewest)
+}
+
+// The same of the only document of a text.
+fn fewest_of_text(alloc: Global, text: &str) -> Result<u32, Fail> {
+    let documents = YamlLoader::load_from_str(alloc, text)?;
+    match documents.as_slice() {
+        [tree] => fewest(alloc, tree),
+        _ => Err(Fail::from("no document")),
+    }
+}
+
 #[test]
 fn a_writer_that_refuses_is_answered(rt: HostRuntime) -> Result<(), Fail> {
     for (text, least) in TEXTS {
-        let documents = YamlLoader::load_from_str(rt.alloc(), text).map_err(|_| "a fault")?;
-        let [tree] = documents.as_slice() else {
-            return Err(Fail::from("no document"));
-        };
-        for settings in SETTINGS {
-            assert!(rt;
-                refused(rt.alloc(), tree, settings)? >= least,
-                "row {text:?}"
-            );
-        }
+        assert!(rt; fewest_of_text(rt.alloc(), text)? >= least, "row {text:?}");
     }
     Ok(())
 }
