@@ -173,9 +173,9 @@ const DUMPS: [(Tree, Layout, &str); 31] = [
 
 #[test]
 fn trees_are_dumped(rt: HostRuntime) -> Result<(), Fail> {
-    for (tree, layout, want) in DUMPS {
-        let text = dumped(rt.alloc(), tree, layout)?;
-        assert_eq!(rt; text.as_str(), want, "row {want:?}");
+    for (tree, layout, want) in &DUMPS {
+        let text = dumped(rt.alloc(), *tree, *layout)?;
+        assert_eq!(rt; text.as_str(), *want, "row {want:?}");
     }
     Ok(())
 }

@@ -147,11 +147,11 @@ const ANSWERS: [(&str, &str, &str); 32] = [
 
 #[test]
 fn nodes_are_asked(rt: HostRuntime) -> Result<(), Fail> {
-    for (name, question, want) in ANSWERS {
+    for (name, question, want) in &ANSWERS {
         let node = tree(rt.alloc(), name)?;
         assert_eq!(rt;
             answer(rt.alloc(), node, question)?.as_str(),
-            want,
+            *want,
             "row {name}, {question}"
         );
     }

@@ -71,8 +71,8 @@ const TYPED: [(&str, &str); 51] = [
 
 #[test]
 fn texts_are_typed(rt: HostRuntime) -> Result<(), Fail> {
-    for (text, want) in TYPED {
-        assert_eq!(rt; typed(rt.alloc(), text)?.as_str(), want, "row {text:?}");
+    for (text, want) in &TYPED {
+        assert_eq!(rt; typed(rt.alloc(), text)?.as_str(), *want, "row {text:?}");
     }
     Ok(())
 }
