@@ -1,29 +1,39 @@
 /// How a tree is written.
 #[derive(Clone, Copy)]
 pub struct Settings {
+    /// A collection in a sequence begins on the line of its dash.
     pub compact: bool,
+    /// Strings of several lines are literal blocks.
     pub multiline: bool,
 }
 
 /// What becomes of a malformation.
 #[derive(Clone, Copy)]
 pub enum Trap {
+    /// It is left out.
     Ignore,
+    /// Decoding stops.
     Strict,
+    /// U+FFFD stands in its place.
     Replace,
-    // Calls `notes`.
+    /// Calls `notes`.
     Call,
-    // Calls `stops`.
+    /// Calls `stops`.
     Stop,
 }
 
 /// What is printed of a file.
 #[derive(Clone, Copy)]
 pub enum Job {
+    /// The tokens.
     Tokens,
+    /// The events.
     Events,
+    /// The trees.
     Trees,
+    /// The dumps, with these settings.
     Dump(Settings),
+    /// What its bytes load as, with this trap.
     Decode(Trap),
 }
 

@@ -4,8 +4,11 @@
 /// stranger.
 #[derive(Clone, Copy)]
 pub struct Command<'a> {
+    /// The limit on levels.
     pub levels: Option<usize>,
+    /// The limit on size.
     pub size: Option<usize>,
+    /// The paths.
     pub paths: &'a [String],
 }
 

@@ -3,7 +3,9 @@
 /// How the documents are printed, and the paths of the files, at least one.
 #[derive(Clone, Copy)]
 pub struct Command<'a> {
+    /// Each document stands on several lines.
     pub is_indented: bool,
+    /// The paths.
     pub paths: &'a [String],
 }
 

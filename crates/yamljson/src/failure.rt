@@ -7,6 +7,7 @@ use yaml_tokens::ScanError;
 /// What only this program meets.
 #[derive(Drop)]
 pub enum Trouble {
+    /// The fault of the file's text.
     Fault(ScanError),
     /// A node of the document with this number, counted from 1.
     NoJson(usize, NoJson),

@@ -12,8 +12,11 @@ pub struct Settings {
 /// What to print, and the paths of the files.
 #[derive(Clone, Copy)]
 pub enum Command<'a> {
+    /// The events of this file.
     Events(&'a str),
+    /// The documents of this file, written anew.
     Dump(Settings, &'a str),
+    /// The document of the second file, laid over that of the first.
     Overlay(&'a str, &'a str),
 }
 

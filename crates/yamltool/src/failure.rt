@@ -8,6 +8,7 @@ use yaml_tokens::ScanError;
 pub enum Trouble {
     /// The file holds this number of documents, and one is needed.
     Documents(usize),
+    /// The fault of a file's text.
     Fault(ScanError),
 }
 
