@@ -8,6 +8,8 @@ use Rattle.proof_layout_tokens.proofs.Json.Texts.{json_text_has_its_tokens}
 use Rattle.defs_layout.specs.JsonTokens.{json_text_tokens}
 use Rattle.proof_layout_trees.proofs.Json.Reading as json
 use Rattle.proof_loads.specs.Laws.{JsonTextsAreReadAsTheirTree, CharactersAreTheText, StringsAreTheText}
+use Rattle.proof_loads.specs.Rows.{TextsWithAFaultHaveNoRow}
+use Rattle.proof_loads.proofs.CutTexts.{none_before}
 
 pub characters_are_the_text : {S : Type 0} (steps : S → Option ℕ → S → Type 0) → CharactersAreTheText steps
 characters_are_the_text steps start all s always came no_nul =
@@ -20,3 +22,7 @@ json_texts_are_read keep_tags w is = record { tokens = json_text_tokens w; has =
 pub strings_are_the_text : StringsAreTheText
 strings_are_the_text start bytes s utf8 rest came no_nul scans =
     scans.scans _ (characters_are_the_text chars_steps start (chars bytes) s (Chars-spelled start bytes utf8 rest) came no_nul)
+
+pub faults_leave_no_row : TextsWithAFaultHaveNoRow
+faults_leave_no_row start bytes s f utf8 rest came no_nul leaves memory =
+    leaves memory _ (characters_are_the_text chars_steps start (chars bytes) s (Chars-spelled start bytes utf8 rest) came no_nul) (none_before (chars bytes))

@@ -1,13 +1,22 @@
 -- What a text is read as comes from its row, and a text whose row is read as trees is read so: each law is the contract of the function of `src/rows.rt` that its comment names.
-use Rattle.std.specs.Prelude.{ℕ, Bool, List}
+use Rattle.std.specs.Prelude.{◌≡◌, ℕ, Bool, false, List}
+use Rattle.std.specs.Str.{chars, IsUtf8}
+use Rattle.std.specs.Str.Iter.{chars_steps, chars_rest}
+use Rattle.std.specs.declared.str.Chars.{Chars}
 use Rattle.defs_text.specs.Position.{Position}
+use Rattle.defs_text.specs.Text.{up_to_nul}
+use Rattle.yaml_chars.specs.Reading.{HasNoNul}
+use Rattle.yaml_chars.specs.Source.{CameFrom}
 use Rattle.defs_tree.specs.Tree.{Tree}
 use Rattle.defs_token.specs.Token.{Token}
 use Rattle.defs_row.specs.Row.{IsRead}
 use Rattle.defs_event.specs.Event.{Ev}
 use Rattle.defs_event.specs.Stream.{events_of}
+use Rattle.yaml_tokens.specs.ErrorReport.{ErrorReport}
 use Rattle.yaml_tokens.specs.declared.problem.Fault.{Fault}
 use Rattle.model_scanner.specs.Run.{IsRefused}
+use Rattle.yaml_scanner.specs.Rowless.{HasNoRow}
+use Rattle.yaml_scanner.specs.Scanned.{Scanned, LeavesNoRow}
 use Rattle.proof_row.specs.Meaning as meaning
 use Rattle.proof_row.specs.Meaning.{Means}
 use Rattle.proof_loads.specs.TextReadAs.{IsReadAs}
@@ -25,6 +34,12 @@ MeantTreesAreRead = (keep_tags : Bool) (text : List ℕ) (trees : List Tree) →
 -- `refused_texts_have_no_row`
 abbrev pub RefusedTextsHaveNoRow : Type 0
 RefusedTextsHaveNoRow = (text : List ℕ) (f : Fault) (tokens : List Token) → IsWithoutNul text → IsRefused text f → IsRead text tokens → ⊥
+
+-- `texts_with_a_fault_have_no_row`; `bytes` are those of the string that a scanner reads
+abbrev pub TextsWithAFaultHaveNoRow : Type 0
+TextsWithAFaultHaveNoRow =
+    (start : Chars) (bytes : List ℕ) (s : Scanned) (f : ErrorReport) → IsUtf8 bytes → chars_rest start ≡ bytes → CameFrom chars_steps start s.taken s.done → HasNoNul s.taken → LeavesNoRow s f → f.memory ≡ false
+    → HasNoRow (up_to_nul (chars bytes)) f
 
 -- `events_are_of_the_row`
 abbrev pub EventsAreOfTheRow : Type 0

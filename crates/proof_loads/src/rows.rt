@@ -1,6 +1,6 @@
 //! What a text is read as comes from its one row of tokens. Each law is the contract of an empty function.
 
-ghost use Rattle.proof_loads.specs.Rows.{EventsAreOfTheRow, MeantTreesAreRead, ReadTextsMeanTheirTrees, RefusedTextsHaveNoRow};
+ghost use Rattle.proof_loads.specs.Rows.{EventsAreOfTheRow, MeantTreesAreRead, ReadTextsMeanTheirTrees, RefusedTextsHaveNoRow, TextsWithAFaultHaveNoRow};
 
 /// A text without NUL that is read as trees means these trees: its row of tokens, by the strict definition, is read
 /// as them. A text has one row at most.
@@ -19,6 +19,13 @@ pub fn meant_trees_are_read()
 /// A text without NUL that the scanner refuses has no row of tokens.
 pub fn refused_texts_have_no_row()
     ensures { RefusedTextsHaveNoRow }
+{}
+
+/// A `&str` of which a scanner has a fault, other than refused memory, has no row of tokens up to its first NUL: by the
+/// clauses of the scanner's `next_token`.
+#[tactic(auto, using(crate::proofs::Spelled::faults_leave_no_row))]
+pub fn texts_with_a_fault_have_no_row()
+    ensures { TextsWithAFaultHaveNoRow }
 {}
 
 /// The events of a text without NUL are those of its row of tokens, by the strict definition and the token grammar.

@@ -95,6 +95,7 @@ pub use proof_loads::rows::events_are_of_the_row;
 pub use proof_loads::rows::meant_trees_are_read;
 pub use proof_loads::rows::read_texts_mean_their_trees;
 pub use proof_loads::rows::refused_texts_have_no_row;
+pub use proof_loads::rows::texts_with_a_fault_have_no_row;
 pub use proof_refusals::laws::anchor_indentation_never_comes;
 pub use proof_refusals::laws::failing_places_have_no_row;
 pub use proof_refusals::laws::refused_texts_are_stuck;
