@@ -4,7 +4,7 @@ use std::alloc::Global;
 use std::test::Fail;
 
 // A text, and its fault's printed line.
-const FAULTS: [Row; 72] = [
+const FAULTS: [Row; 74] = [
     (
         "[a",
         "while parsing a flow sequence, expected ',' or ']' at byte 2 line 2 column 1",
@@ -57,6 +57,14 @@ const FAULTS: [Row; 72] = [
     (
         "{-",
         "\"-\" is only valid inside a block at byte 1 line 1 column 2",
+    ),
+    (
+        "[a -]",
+        "plain scalar cannot start with '-' followed by ,[]{} at byte 3 line 1 column 4",
+    ),
+    (
+        "[a\n-]",
+        "plain scalar cannot start with '-' followed by ,[]{} at byte 3 line 2 column 1",
     ),
     (
         "--- a\n... b",
