@@ -6,29 +6,53 @@ ghost use Rattle.model_scanner.specs.Class.{class_of};
 pub enum Class {
     /// NUL, which stands for the end of the text.
     Nul,
+    /// U+0020.
     Space,
+    /// U+0009.
     Tab,
+    /// U+000A.
     LineFeed,
+    /// U+000D.
     CarriageReturn,
+    /// `#`.
     Hash,
+    /// `-`.
     Dash,
+    /// `?`.
     Question,
+    /// `:`.
     Colon,
+    /// `,`.
     Comma,
+    /// `[`.
     OpenBracket,
+    /// `]`.
     CloseBracket,
+    /// `{`.
     OpenBrace,
+    /// `}`.
     CloseBrace,
+    /// `*`.
     Asterisk,
+    /// `&`.
     Ampersand,
+    /// `!`.
     Exclamation,
+    /// `|`.
     Bar,
+    /// `>`.
     Greater,
+    /// `'`.
     SingleQuote,
+    /// `"`.
     DoubleQuote,
+    /// `%`.
     Percent,
+    /// `@`.
     AtSign,
+    /// A grave accent.
     Backtick,
+    /// Any other character.
     Other,
 }
 

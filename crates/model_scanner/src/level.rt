@@ -15,6 +15,8 @@ pub enum FlowLevel {
 /// from 1 here, and 0 is outside all collections.
 #[derive(Clone, Copy)]
 pub struct Indent {
+    /// The column of the level before it.
     pub indent: usize,
+    /// Whether the end of this level is a token.
     pub needs_block_end: bool,
 }

@@ -45,6 +45,7 @@ impl Quotes {
         matches!(self, Quotes::Single)
     }
 
+    /// The style of a scalar between them.
     pub fn style(self) -> TScalarStyle
         ensures { style_of result ≡ quoted_style (are_single self) }
     {
@@ -72,6 +73,7 @@ impl BlockStyle {
         matches!(self, BlockStyle::Literal)
     }
 
+    /// The style of such a scalar.
     pub fn style(self) -> TScalarStyle
         ensures { style_of result ≡ block_style (is_literal_style self) }
     {

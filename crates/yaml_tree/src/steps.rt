@@ -12,7 +12,9 @@ use yaml_hash_index::Count;
 /// How many keys, and how many digests of keys, were compared. Only contracts see the counts, and they take no bytes.
 #[derive(Drop)]
 pub struct Steps {
+    /// How many keys were compared.
     pub keys: Count,
+    /// How many digests were compared.
     pub digests: Count,
 }
 

@@ -9,7 +9,9 @@ use yaml_rust2::{Yaml, YamlEmitter, YamlLoader};
 /// Why calls end early: memory was refused, or an answer is wrong.
 #[derive(Clone, Copy, Drop)]
 pub enum End {
+    /// Memory was refused.
     Refused,
+    /// An answer is wrong.
     Wrong,
 }
 
