@@ -13,7 +13,7 @@ use Rattle.defs_event.proofs.OneByOne.{one_by_one}
 use Rattle.defs_event.proofs.OneReading as grammar
 use Rattle.model_scanner.proofs.Runs.{one_list}
 use Rattle.model_scanner.specs.TextTokens.{HasToks}
-use Rattle.proof_row.proofs.Meanings.{somewhere, with_somewhere, read_again}
+use Rattle.proof_meaning.proofs.Meanings.{somewhere, with_somewhere, read_again}
 use Rattle.proof_loads.specs.TextReadAs.{IsReadAs}
 use Rattle.proof_loads.specs.Laws.{TextsAreReadInOneWay}
 

@@ -5,7 +5,7 @@ use Rattle.defs_token.specs.Toks.{toks}
 use Rattle.defs_event.specs.ReadAs.{ReadAs}
 use Rattle.defs_text.specs.Text.{has_no_nul}
 use Rattle.model_scanner.proofs.Runs.{not_refused}
-use Rattle.proof_row.specs.Meaning.{Means}
+use Rattle.defs_meaning.specs.Meaning.{Means}
 use Rattle.proof_row_sound.proofs.Sound.{tokens_are_of_a_row}
 use Rattle.proof_row_complete.proofs.Complete.{texts_with_a_row_are_read}
 use Rattle.proof_loads.specs.TextReadAs.{IsReadAs}

@@ -17,8 +17,8 @@ use Rattle.yaml_tokens.specs.declared.problem.Fault.{Fault}
 use Rattle.model_scanner.specs.Run.{IsRefused}
 use Rattle.yaml_scanner.specs.Rowless.{HasNoRow}
 use Rattle.yaml_scanner.specs.Scanned.{Scanned, LeavesNoRow}
-use Rattle.proof_row.specs.Meaning as meaning
-use Rattle.proof_row.specs.Meaning.{Means}
+use Rattle.defs_meaning.specs.Meaning as meaning
+use Rattle.defs_meaning.specs.Meaning.{Means}
 use Rattle.proof_loads.specs.TextReadAs.{IsReadAs}
 use Rattle.proof_loads.specs.TextEvents.{HasEvents}
 use Rattle.proof_loads.specs.Spelled.{IsWithoutNul}

@@ -8,7 +8,7 @@ use Rattle.std.specs.declared.io.ErrorKind.TheVariants.{OutOfMemory, Interrupted
 use Rattle.defs_text.specs.Text.{string_chars, up_to_nul}
 use Rattle.yaml_tree.specs.declared.yaml.Yaml.{Yaml}
 use Rattle.yaml_tree.specs.View.{items_view}
-use Rattle.proof_row.specs.Meaning.{Means}
+use Rattle.defs_meaning.specs.Meaning.{Means}
 use Rattle.yaml_loader.specs.TextLoads.{LoadsText}
 use Rattle.yaml_encoding.specs.Decoding.{Outcome, text, stopped}
 use Rattle.yaml_decoder.specs.declared.decoder.LoadError.{LoadError}

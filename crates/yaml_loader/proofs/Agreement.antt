@@ -13,7 +13,7 @@ use Rattle.model_scanner.specs.Run.{HasTokens}
 use Rattle.model_scanner.proofs.Runs.{one_list}
 use Rattle.yaml_parser.specs.Parsed.{read}
 use Rattle.yaml_parser.specs.Loads.{Receives}
-use Rattle.proof_row.proofs.Meanings.{one_meaning}
+use Rattle.proof_meaning.proofs.Meanings.{one_meaning}
 use Rattle.proof_loads.specs.TextEvents.{HasEvents, AnswersText, whole, faulted, refused}
 use Rattle.proof_loads.proofs.Answers.{placed_stream, texts_are_answered}
 use Rattle.proof_loads.proofs.StreamEnds.{all_tokens}

@@ -21,7 +21,7 @@ use Rattle.yaml_parser.specs.Parsed.{Parsed}
 use Rattle.proof_loads.specs.TextReadAs.{IsReadAs, IsAtStart}
 use Rattle.proof_loads.specs.Spelled.{IsWithoutNul}
 use Rattle.proof_loads.specs.Cuts.{IsReadOfCut}
-use Rattle.proof_row.specs.Meaning.{Means}
+use Rattle.defs_meaning.specs.Meaning.{Means}
 use Rattle.proof_loads.proofs.CutTexts.{of_a_cut, none_before}
 use Rattle.proof_loads.proofs.RowTexts.{means, means_its_trees, is_read, meant_are_read, without_nul}
 use Rattle.proof_loads.proofs.Loads.{memory_is_wanted}

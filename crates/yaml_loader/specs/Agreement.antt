@@ -11,7 +11,7 @@ use Rattle.yaml_scanner.specs.Scanned.{ScansIn}
 use Rattle.yaml_parser.specs.Parsed.{Parsed, read}
 use Rattle.yaml_parser.specs.Follows.{IsWhole}
 use Rattle.yaml_parser.specs.Loads.{Loads, Receives}
-use Rattle.proof_row.specs.Meaning.{Means}
+use Rattle.defs_meaning.specs.Meaning.{Means}
 use Rattle.proof_loads.specs.TextReadAs.{IsAtStart}
 
 -- An answer is of the text's row: if it is `Ok`, its documents are what the text means by the definitions alone. It is the clause `of_row` of a load.

@@ -12,7 +12,7 @@ use Rattle.yaml_tree.specs.View.{items_view}
 use Rattle.yaml_tree.specs.declared.yaml.Yaml.{Yaml}
 use Rattle.yaml_scanner.specs.Scanned.{MayBe}
 use Rattle.yaml_parser.specs.Parsed.{Parsed}
-use Rattle.proof_row.specs.Meaning.{Means}
+use Rattle.defs_meaning.specs.Meaning.{Means}
 use Rattle.proof_loads.specs.Spelled.{IsWithoutNul}
 use Rattle.proof_loads.specs.Cuts.{IsReadOfCut}
 use Rattle.proof_loads.specs.TextReadAs.{IsReadAs, IsAtStart}

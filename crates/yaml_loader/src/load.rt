@@ -7,7 +7,7 @@ ghost use Rattle.defs_text.specs.Text.{up_to_nul};
 ghost use Rattle.yaml_chars.specs.Reading.{HasNoNul, BeginsText};
 ghost use Rattle.yaml_chars.specs.Source.{CameFrom};
 ghost use Rattle.yaml_parser.specs.Parsed.{parsed};
-ghost use Rattle.proof_row.specs.Meaning.{Means};
+ghost use Rattle.defs_meaning.specs.Meaning.{Means};
 ghost use Rattle.proof_loads.specs.Cuts.{IsReadOfCut};
 ghost use Rattle.yaml_loader.specs.Loads.{AreLoaded, IsLoadFault};
 ghost use Rattle.yaml_loader.specs.TextLoads.{LoadsText, LoadsOnly, OfTexts, OfText, OfMeaning, OfGiven, OfJson, OfBasic, OfLayout, OfQuoted, Answers};

@@ -73,7 +73,7 @@ pub use Rattle.proof_refusals.specs.Certain
 pub use Rattle.proof_refusals.specs.NoPiece
 pub use Rattle.proof_refusals.specs.Stuck
 pub use Rattle.proof_refusals.specs.Told
-pub use Rattle.proof_row.specs.Meaning
+pub use Rattle.defs_meaning.specs.Meaning
 pub use Rattle.proof_loads.specs.Cuts
 pub use Rattle.proof_loads.specs.Spelled
 pub use Rattle.proof_loads.specs.TextReadAs

@@ -13,7 +13,7 @@ use Rattle.defs_event.specs.Unfinished as unfinished
 use Rattle.defs_event.specs.Laws.{HasRead}
 use Rattle.defs_event.proofs.OneByOne.{one_by_one}
 use Rattle.defs_event.proofs.OneReading as grammar
-use Rattle.proof_row.specs.Meaning.{OneListOfEvents, OneMeaning}
+use Rattle.defs_meaning.specs.Meaning.{OneListOfEvents, OneMeaning}
 use Rattle.proof_row.proofs.OneRow.{one_reading}
 
 pub one_list_of_events : OneListOfEvents

@@ -6,7 +6,7 @@ use Rattle.defs_tree.specs.Typing.{typing, is_decimal}
 use Rattle.defs_token.specs.Token.{Style}
 use Rattle.defs_event.specs.Grammar.{Perhaps, scalar, block_content, flow, block_mapping, some_node, plain, indentless, end_dashes, keyed, end_pairs, key, value, bare, end_stream, unmarked}
 use Rattle.defs_event.specs.Nested.{Nest, nested_scalar, nested_sequence, nested_mapping, no_nests, nest, no_nest_pairs, nest_pair, with_node}
-use Rattle.proof_row.specs.Meaning.{Means}
+use Rattle.defs_meaning.specs.Meaning.{Means}
 use Rattle.defs_row.proofs.Rows.{one_pair, at_key_column}
 
 abbrev leaf : List ℕ → Nest

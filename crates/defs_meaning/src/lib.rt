@@ -1,0 +1,2 @@
+//! What a text means: the trees as which the tokens of its row are read, and its events.
+#![tactic(auto)]
