@@ -15,3 +15,5 @@ pub mod Shifting
 pub mod TextLemmas
 pub mod TextOrder
 pub mod WeightLemmas
+pub mod Lending
+pub mod Walking

@@ -13,3 +13,4 @@ pub mod Ranked
 pub mod Rows
 pub mod View
 pub mod Weight
+pub mod Writes

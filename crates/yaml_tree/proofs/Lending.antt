@@ -1,0 +1,86 @@
+-- A value within a node, and the array or hash that holds it.
+use Rattle.std.proofs.Common.{◌≡◌, IsSome, ℕ, zero, suc, ◌<◌, ◌^◌, Bool, true, false, not, T, arith, List, [], ◌∷◌, Option, Some, None, get_or, refl, sym, ap, subst, ◌∙◌}
+use Rattle.std.proofs.lemmas.List.{map-set}
+use Rattle.std.proofs.lemmas.Bool.Decides.{nat_tests}
+use Rattle.std.specs.Prelude.{slice_get, slice_set, pos, nat_lt, if◌then◌else◌}
+use Rattle.defs_tree.specs.Tree.{Tree, string, integer}
+use Rattle.defs_tree.specs.Pairs.{lookup}
+use Rattle.yaml_tree.specs.Node.{value_at_text, value_at_index, is_array, is_hash}
+use Rattle.yaml_tree.specs.View.{view, items_view}
+use Rattle.yaml_tree.specs.declared.yaml.Yaml.{Yaml}
+use Rattle.yaml_tree.specs.declared.yaml.Yaml.TheVariants.{Real, Integer, String, Boolean, Array, Hash, Alias, Null, BadValue}
+use Rattle.yaml_tree.proofs.ItemsLemmas.{list_of_items, pair_list_of_pairs, at_number}
+
+-- the items, one of which was written over
+pub set_items_view : (ys : List Yaml) (i : ℕ) (y : Yaml) → items_view (slice_set ys i y) ≡ slice_set (items_view ys) i (view y)
+set_items_view ys i y = map-set view ys i y
+
+-- the item that was found at a place
+pub item_there : (ys : List Yaml) (ts : List Tree) (i : ℕ) (y : Yaml) → items_view ys ≡ ts → y ≡ get_or ys i y → IsSome (slice_get ts i) → Some (view y) ≡ slice_get ts i
+item_there ys ts i y is e h = there ys i y e (subst (λ us. IsSome (slice_get us i)) (sym is) h) ∙ ap (λ us. slice_get us i) is
+  where
+    there : (ys : List Yaml) (i : ℕ) (y : Yaml) → y ≡ get_or ys i y → IsSome (slice_get (items_view ys) i) → Some (view y) ≡ slice_get (items_view ys) i
+    there [] i y e h = cc
+    there (x ∷ xs) zero y e h = ap (λ n. Some (view n)) e
+    there (x ∷ xs) (suc i) y e h = there xs i y e h
+
+-- ---- a value at a text: the node is a hash
+
+pub text_in_hash : (text : List ℕ) (y : Yaml) → IsSome (value_at_text text (view y)) → is_hash (view y) ≡ true
+text_in_hash text (Hash ps) h = refl
+text_in_hash text (Real s) h = cc
+text_in_hash text (Integer z) h = cc
+text_in_hash text (String s) h = cc
+text_in_hash text (Boolean b) h = cc
+text_in_hash text (Array ts) h = cc
+text_in_hash text (Alias n) h = cc
+text_in_hash text Null h = cc
+text_in_hash text BadValue h = cc
+
+pub text_value : (text : List ℕ) (y : Yaml) (ps : List (Tree × Tree)) → y ≡ Hash ps → value_at_text text (view y) ≡ lookup (string text) ps
+text_value text y ps e = ap (λ n. value_at_text text (view n)) e ∙ ap (lookup (string text)) (pair_list_of_pairs ps)
+
+pub text_found : (text : List ℕ) (y : Yaml) (ps : List (Tree × Tree)) → y ≡ Hash ps → IsSome (value_at_text text (view y)) → IsSome (lookup (string text) ps)
+text_found text y ps e = subst IsSome (text_value text y ps e)
+
+-- ---- a value at an index: the node is an array or a hash
+
+pub index_in_array : (i : ℕ) (y : Yaml) → IsSome (value_at_index i (view y)) → is_hash (view y) ≡ false → is_array (view y) ≡ true
+index_in_array i (Array ts) h e = refl
+index_in_array i (Hash ps) h e = cc
+index_in_array i (Real s) h e = cc
+index_in_array i (Integer z) h e = cc
+index_in_array i (String s) h e = cc
+index_in_array i (Boolean b) h e = cc
+index_in_array i (Alias n) h e = cc
+index_in_array i Null h e = cc
+index_in_array i BadValue h e = cc
+
+pub item_value : (i : ℕ) (y : Yaml) (ts : List Tree) → y ≡ Array ts → value_at_index i (view y) ≡ slice_get ts i
+item_value i y ts e = ap (λ n. value_at_index i (view n)) e ∙ ap (λ us. slice_get us i) (list_of_items ts)
+
+pub item_found : (i : ℕ) (y : Yaml) (ts : List Tree) → y ≡ Array ts → IsSome (value_at_index i (view y)) → IsSome (slice_get ts i)
+item_found i y ts e = subst IsSome (item_value i y ts e)
+
+pub number_fits : (i : ℕ) (y : Yaml) (ps : List (Tree × Tree)) → y ≡ Hash ps → IsSome (value_at_index i (view y)) → i < 2 ^ 63
+number_fits i y ps e h = grind (arith, nat_tests, chosen (nat_lt i (2 ^ 63)) _ (subst (λ n. IsSome (value_at_index i (view n))) e h))
+  where
+    chosen : (b : Bool) (o : Option Tree) → IsSome (if b then o else None) → b ≡ true
+    chosen true o s = refl
+    chosen false o s = cc
+
+pub number_value : (i : ℕ) (y : Yaml) (ps : List (Tree × Tree)) → y ≡ Hash ps → i < 2 ^ 63 → value_at_index i (view y) ≡ lookup (integer (pos i)) ps
+number_value i y ps e fits = ap (λ n. value_at_index i (view n)) e ∙ at_number i ps fits
+
+pub number_found : (i : ℕ) (y : Yaml) (ps : List (Tree × Tree)) → y ≡ Hash ps → IsSome (value_at_index i (view y)) → IsSome (lookup (integer (pos i)) ps)
+number_found i y ps e h = subst IsSome (number_value i y ps e (number_fits i y ps e h)) h
+
+-- ---- a test that was made
+
+pub held : (b c : Bool) → b ≡ c → T b → c ≡ true
+held true c e h = sym e
+held false c e h = absurd h
+
+pub failed : (b c : Bool) → b ≡ c → T (not b) → c ≡ false
+failed true c e h = absurd h
+failed false c e h = sym e
