@@ -1,6 +1,7 @@
 pub mod FindLemmas
 pub mod GivenLemmas
 pub mod LeftLemmas
+pub mod NestLemmas
 pub mod NumberLemmas
 pub mod WhiteLemmas
 pub mod ValueLemmas

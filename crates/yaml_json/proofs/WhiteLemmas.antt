@@ -1,11 +1,10 @@
 -- New lines and spaces.
 use Rattle.std.proofs.Common.{◌≡◌, ◌≤◌, ◌<◌, ◌+◌, ◌-◌, zero, suc, ℕ, List, [], ◌∷◌, ◌++◌, length, take, drop, Bool, true, refl, sym, ap, subst, ◌∙◌, arith, replicate}
-use Rattle.std.specs.Prelude.{nat_lt, IsAscii, Option, Some}
+use Rattle.std.specs.Prelude.{nat_lt, IsAscii}
 use Rattle.std.specs.List.{list_all}
 use Rattle.std.specs.Str.{IsCharBoundary}
 use Rattle.std.proofs.lemmas.Str.{IsCharBoundary-from_ascii}
 use Rattle.std.proofs.lemmas.Bool.{ltb-true, lt-ltb, and_parts, and_from}
-use Rattle.defs_json.specs.JsonText.{new_line}
 use Rattle.std.specs.Prelude.{slice_index}
 
 abbrev pub is_low : List ℕ → Bool
@@ -61,10 +60,6 @@ low_line text n e = ap is_low e ∙ low_spaces n
 
 pub low_text : (text : List ℕ) (n : ℕ) → text ≡ spaces n → is_low text ≡ true
 low_text text n e = ap is_low e ∙ low_spaces n
-
--- where there is an indentation
-pub line_is : (i : Option ℕ) (w n : ℕ) → i ≡ Some w → 10 ∷ spaces n ≡ new_line i n
-line_is i w n e = ap (λ o. new_line o n) (sym e)
 
 pub ascii_low : (t : List ℕ) → IsAscii t → is_low t ≡ true
 ascii_low [] h = refl

@@ -1,6 +1,7 @@
 pub mod Found
 pub mod Given
 pub mod Left
+pub mod Nest
 pub mod Outcome
 pub mod Whole
 pub use Rattle.defs_json.specs.Fault

@@ -19,6 +19,7 @@
 mod error;
 mod find;
 pub mod laws;
+mod nest;
 mod number;
 mod value;
 mod white;
@@ -34,6 +35,7 @@ ghost use Rattle.yaml_json.specs.Left.{IsTooWide};
 
 use crate::find::first_fault;
 use crate::value::write_value;
+use crate::white::{Compact, Indented, Spacing};
 use crate::whole::is_whole;
 pub use error::{JsonError, NoJson, Reason, Step};
 use std::alloc::Global;
@@ -47,7 +49,7 @@ pub fn write_json<W: Writer>(alloc: Global, tree: &Yaml, out: &mut W) -> Result<
     ensures written { OnOk result (W.calls_give out.old (json_text None 0 (view tree.now)) out.new) }
     ensures err { IfErr result (Leaves W.put_gives W.put_leaves W.calls_leave ⊥ (view tree.now) (json_text None 0 (view tree.now)) out.old out.new) }
 {
-    write_laid_out(alloc, tree, None, out)
+    write_laid_out(alloc, tree, Compact, out)
 }
 
 /// The same with each item and each member on a line of its own, indented by so many spaces a level, and a space after
@@ -63,7 +65,7 @@ pub fn write_json_indented<W: Writer>(
     ensures err { IfErr result (Leaves W.put_gives W.put_leaves W.calls_leave (2 ^ 64 ≤ width * nesting (view tree.now)) (view tree.now)
         (json_text (Some width) 0 (view tree.now)) out.old out.new) }
 {
-    write_laid_out(alloc, tree, Some(width), out)
+    write_laid_out(alloc, tree, Indented { width }, out)
 }
 
 // The error that names the first node without a JSON text.
@@ -78,21 +80,21 @@ fn no_json(alloc: Global, tree: &Yaml) -> JsonError
     }
 }
 
-fn write_laid_out<W: Writer>(
+fn write_laid_out<W: Writer, S: Spacing>(
     alloc: Global,
     tree: &Yaml,
-    indentation: Option<usize>,
+    spacing: S,
     out: &mut W,
 ) -> Result<(), JsonError>
     ensures has_json { OnOk result (HasJson (view tree.now)) }
-    ensures written { OnOk result (W.calls_give out.old (json_text indentation 0 (view tree.now)) out.new) }
-    ensures err { IfErr result (Leaves W.put_gives W.put_leaves W.calls_leave (IsTooWide indentation 0 (nesting (view tree.now))) (view tree.now)
-        (json_text indentation 0 (view tree.now)) out.old out.new) }
+    ensures written { OnOk result (W.calls_give out.old (json_text (S.indentation spacing) 0 (view tree.now)) out.new) }
+    ensures err { IfErr result (Leaves W.put_gives W.put_leaves W.calls_leave (IsTooWide (S.indentation spacing) 0 (nesting (view tree.now))) (view tree.now)
+        (json_text (S.indentation spacing) 0 (view tree.now)) out.old out.new) }
 {
     if !is_whole(tree) {
         return Err(no_json(alloc, tree));
     }
-    match write_value(out, indentation, 0, tree) {
+    match write_value(out, spacing, 0, tree) {
         Ok(()) => Ok(()),
         Err(error) => Err(JsonError::Refused(error)),
     }

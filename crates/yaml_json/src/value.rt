@@ -10,26 +10,61 @@ ghost use Rattle.yaml_json.specs.Left.{IsTooWide, items_left, members_left, scal
 ghost use Rattle.yaml_json.specs.Given.{IsGiven, IsScalarGiven, IsKeyGiven};
 ghost use Rattle.yaml_tree.specs.View.{view, array_tree, hash_tree};
 
-use crate::white::{begin_entry, deeper, end_key, new_line};
+use crate::nest::{close_nest, only_item, open_nest};
+use crate::white::{Spacing, begin_entry};
 use std::fmt;
 use yaml_emitter::{Writer, put_ascii, write_double_quoted};
 use yaml_tree::{Array, Hash, Yaml};
 
 /// Writes a value. An alias and a bad value have no text, nor has a key that is no string.
 #[cycle(write)]
-pub(crate) fn write_value<W: Writer>(
+pub(crate) fn write_value<W: Writer, S: Spacing>(
     out: &mut W,
-    indentation: Option<usize>,
+    spacing: S,
     margin: usize,
     node: &Yaml,
 ) -> fmt::Result
-    ensures text { WritesUnless (IsTooWide indentation margin (nesting (view node.now))) W.put_gives W.put_leaves out.old result
-        (json_text indentation margin (view node.now)) out.new }
+    ensures text { WritesUnless (IsTooWide (S.indentation spacing) margin (nesting (view node.now))) W.put_gives W.put_leaves out.old result
+        (json_text (S.indentation spacing) margin (view node.now)) out.new }
+    ensures given { OnOk result (IsGiven (view node.now)) }
+{
+    match only_item(node) {
+        Some(_) => write_nest(out, spacing, margin, node),
+        None => write_node(out, spacing, margin, node),
+    }
+}
+
+// A nest is written without a recursion for each of its arrays.
+#[cycle(write)]
+fn write_nest<W: Writer, S: Spacing>(
+    out: &mut W,
+    spacing: S,
+    margin: usize,
+    node: &Yaml,
+) -> fmt::Result
+    ensures text { WritesUnless (IsTooWide (S.indentation spacing) margin (nesting (view node.now))) W.put_gives W.put_leaves out.old result
+        (json_text (S.indentation spacing) margin (view node.now)) out.new }
+    ensures given { OnOk result (IsGiven (view node.now)) }
+{
+    let nest = open_nest(out, spacing, margin, node)?;
+    write_node(out, spacing, nest.margin, nest.inner)?;
+    close_nest(out, spacing, nest.margin, nest.levels)
+}
+
+#[cycle(write)]
+fn write_node<W: Writer, S: Spacing>(
+    out: &mut W,
+    spacing: S,
+    margin: usize,
+    node: &Yaml,
+) -> fmt::Result
+    ensures text { WritesUnless (IsTooWide (S.indentation spacing) margin (nesting (view node.now))) W.put_gives W.put_leaves out.old result
+        (json_text (S.indentation spacing) margin (view node.now)) out.new }
     ensures given { OnOk result (IsGiven (view node.now)) }
 {
     match node {
-        Yaml::Array(items) => write_array(out, indentation, margin, items),
-        Yaml::Hash(pairs) => write_object(out, indentation, margin, pairs),
+        Yaml::Array(items) => write_array(out, spacing, margin, items),
+        Yaml::Hash(pairs) => write_object(out, spacing, margin, pairs),
         _ => write_scalar(out, node),
     }
 }
@@ -58,85 +93,85 @@ fn write_integer<W: Writer>(out: &mut W, number: i64) -> fmt::Result
 }
 
 #[cycle(write)]
-fn write_array<W: Writer>(
+fn write_array<W: Writer, S: Spacing>(
     out: &mut W,
-    indentation: Option<usize>,
+    spacing: S,
     margin: usize,
     items: &Array,
 ) -> fmt::Result
-    ensures text { WritesUnless (IsTooWide indentation margin (nesting (array_tree items.now))) W.put_gives W.put_leaves out.old result
-        (json_text indentation margin (array_tree items.now)) out.new }
+    ensures text { WritesUnless (IsTooWide (S.indentation spacing) margin (nesting (array_tree items.now))) W.put_gives W.put_leaves out.old result
+        (json_text (S.indentation spacing) margin (array_tree items.now)) out.new }
     ensures given { OnOk result (IsGiven (array_tree items.now)) }
 {
     if items.is_empty() {
         return put_ascii(out, "[]");
     }
-    let inner = deeper(indentation, margin)?;
+    let inner = spacing.deeper(margin)?;
     put_ascii(out, "[")?;
-    write_items(out, indentation, inner, items)?;
-    new_line(out, indentation, margin)?;
+    write_items(out, spacing, inner, items)?;
+    spacing.new_line(out, margin)?;
     put_ascii(out, "]")
 }
 
 #[cycle(write)]
-fn write_items<W: Writer>(
+fn write_items<W: Writer, S: Spacing>(
     out: &mut W,
-    indentation: Option<usize>,
+    spacing: S,
     margin: usize,
     items: &Array,
 ) -> fmt::Result
-    ensures text { WritesUnless (IsTooWide indentation margin (item_nesting (items_of items.now))) W.put_gives W.put_leaves out.old result
-        (items_left true indentation margin (items_of items.now)) out.new }
+    ensures text { WritesUnless (IsTooWide (S.indentation spacing) margin (item_nesting (items_of items.now))) W.put_gives W.put_leaves out.old result
+        (items_left true (S.indentation spacing) margin (items_of items.now)) out.new }
     ensures given { OnOk result (IsGiven (array_tree items.now)) }
 {
     let mut is_first = true;
     'items: for item in items {
-        begin_entry(out, indentation, margin, is_first)?;
+        begin_entry(out, spacing, margin, is_first)?;
         is_first = false;
-        write_value(out, indentation, margin, item)?;
+        write_value(out, spacing, margin, item)?;
     }
     Ok(())
 }
 
 #[cycle(write)]
-fn write_object<W: Writer>(
+fn write_object<W: Writer, S: Spacing>(
     out: &mut W,
-    indentation: Option<usize>,
+    spacing: S,
     margin: usize,
     pairs: &Hash,
 ) -> fmt::Result
-    ensures text { WritesUnless (IsTooWide indentation margin (nesting (hash_tree pairs.now))) W.put_gives W.put_leaves out.old result
-        (json_text indentation margin (hash_tree pairs.now)) out.new }
+    ensures text { WritesUnless (IsTooWide (S.indentation spacing) margin (nesting (hash_tree pairs.now))) W.put_gives W.put_leaves out.old result
+        (json_text (S.indentation spacing) margin (hash_tree pairs.now)) out.new }
     ensures given { OnOk result (IsGiven (hash_tree pairs.now)) }
 {
     if pairs.is_empty() {
         return put_ascii(out, "{}");
     }
-    let inner = deeper(indentation, margin)?;
+    let inner = spacing.deeper(margin)?;
     put_ascii(out, "{")?;
-    write_members(out, indentation, inner, pairs)?;
-    new_line(out, indentation, margin)?;
+    write_members(out, spacing, inner, pairs)?;
+    spacing.new_line(out, margin)?;
     put_ascii(out, "}")
 }
 
 #[cycle(write)]
-fn write_members<W: Writer>(
+fn write_members<W: Writer, S: Spacing>(
     out: &mut W,
-    indentation: Option<usize>,
+    spacing: S,
     margin: usize,
     pairs: &Hash,
 ) -> fmt::Result
-    ensures text { WritesUnless (IsTooWide indentation margin (member_nesting (pairs_of pairs.now))) W.put_gives W.put_leaves out.old result
-        (members_left true indentation margin (pairs_of pairs.now)) out.new }
+    ensures text { WritesUnless (IsTooWide (S.indentation spacing) margin (member_nesting (pairs_of pairs.now))) W.put_gives W.put_leaves out.old result
+        (members_left true (S.indentation spacing) margin (pairs_of pairs.now)) out.new }
     ensures given { OnOk result (IsGiven (hash_tree pairs.now)) }
 {
     let mut is_first = true;
     'pairs: for (key, value) in pairs.iter() {
-        begin_entry(out, indentation, margin, is_first)?;
+        begin_entry(out, spacing, margin, is_first)?;
         is_first = false;
         write_key(out, key)?;
-        end_key(out, indentation)?;
-        write_value(out, indentation, margin, value)?;
+        spacing.end_key(out)?;
+        write_value(out, spacing, margin, value)?;
     }
     Ok(())
 }

@@ -5,14 +5,20 @@ ghost use Rattle.yaml_json.specs.Whole.{is_whole, are_items_whole, are_pairs_who
 ghost use Rattle.yaml_tree.specs.View.{view};
 
 use crate::find::is_string;
+use crate::nest::only_item;
 use crate::number::is_json_real;
 use yaml_tree::{Array, Hash, Yaml};
 
 /// Whether each node of a tree has a JSON text. It takes no memory.
 #[cycle(whole)]
-pub(crate) fn is_whole(node: &Yaml) -> bool
-    ensures { result ≡ is_whole (view node.now) }
+pub(crate) fn is_whole(root: &Yaml) -> bool
+    ensures { result ≡ is_whole (view root.now) }
 {
+    // An array of one item has a text just where the item has one. So a nest of such arrays takes no frames.
+    let mut node = root;
+    'node: while let Some(only) = only_item(node) {
+        node = only;
+    }
     match node {
         Yaml::Real(text) => is_json_real(text.as_str()),
         Yaml::Array(items) => are_items_whole(items),

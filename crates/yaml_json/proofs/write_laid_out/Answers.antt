@@ -14,7 +14,7 @@ no_json-requires g c = not_whole (view c.args.tree.now) (sym c.is_whole.ensures 
 pub returns-then-not-is_whole-clause-err : goal.returns-then-not-is_whole-clause-err
 returns-then-not-is_whole-clause-err g c =
     let t = view c.args.tree.now in
-    named g.W.Writer.put_gives g.W.Writer.put_leaves g.W.Writer.calls_leave (IsTooWide c.args.indentation 0 (nesting t)) t (json_text c.args.indentation 0 t) c.args.out.now c.no_json.result c.no_json.ensures
+    named g.W.Writer.put_gives g.W.Writer.put_leaves g.W.Writer.calls_leave (IsTooWide (g.S.Spacing.indentation c.args.spacing) 0 (nesting t)) t (json_text (g.S.Spacing.indentation c.args.spacing) 0 t) c.args.out.now c.no_json.result c.no_json.ensures
 
 pub returns-in-Ok-clause-has_json : goal.returns-in-Ok-clause-has_json
 returns-in-Ok-clause-has_json g c = has_json _ (whole (view c.args.tree.now) (sym c.is_whole.ensures ∙ c.if-not-is_whole.false)) c.in-Ok.ensures.given

@@ -3,7 +3,7 @@ use Rattle.std.specs.Prelude.{true}
 use Rattle.defs_json.specs.HasJson.{item_nesting, member_nesting}
 use Rattle.defs_tree.specs.Tree.{items_of, pairs_of}
 use Rattle.yaml_emitter.proofs.ValidLemmas.{unless_ok, in_any}
-use Rattle.yaml_emitter.proofs.WritingLemmas.{writes_late, writes_err, writes_for, writes_as, writes_ok, stopped_early, stopped_late, stopped_for, stopped_here, left_all, left_as, left_after, left_none, left_stopped}
+use Rattle.yaml_emitter.proofs.WritingLemmas.{writes_late, writes_err, writes_for, writes_as, writes_ok, stopped_early, stopped_late, stopped_for, stopped_here, left_all, left_as, left_after, left_none, left_stopped, left_writes}
 use Rattle.yaml_json.specs.Given.{AreGiven, ArePairsGiven}
 use Rattle.yaml_json.specs.Left.{items_left, members_left}
 use Rattle.yaml_json.proofs.GivenLemmas.{scalar_given, scalar_text_is, given_as, items_given, pairs_given, no_items_left, no_pairs_left, given_hash, empty_array_given, empty_hash_given}
@@ -15,29 +15,52 @@ use Rattle.yaml_json.proofs.value.+write.Goals as goal
 
 -- ---- values
 
-pub write_value-returns-in-Array-clause-text : goal.write_value-returns-in-Array-clause-text
-write_value-returns-in-Array-clause-text g t c = value_as _ _ _ _ (ap view c.in-Array.is) c.write_array.ensures.text
+pub write_node-returns-in-Array-clause-text : goal.write_node-returns-in-Array-clause-text
+write_node-returns-in-Array-clause-text g t c = value_as _ _ _ _ (ap view c.in-Array.is) c.write_array.ensures.text
 
-pub write_value-returns-in-Hash-clause-text : goal.write_value-returns-in-Hash-clause-text
-write_value-returns-in-Hash-clause-text g t c = value_as _ _ _ _ (ap view c.in-Hash.is) c.write_object.ensures.text
+pub write_node-returns-in-Hash-clause-text : goal.write_node-returns-in-Hash-clause-text
+write_node-returns-in-Hash-clause-text g t c = value_as _ _ _ _ (ap view c.in-Hash.is) c.write_object.ensures.text
 
-pub write_value-returns-in_default-clause-text : goal.write_value-returns-in_default-clause-text
-write_value-returns-in_default-clause-text g t c =
+pub write_node-returns-in_default-clause-text : goal.write_node-returns-in_default-clause-text
+write_node-returns-in_default-clause-text g t c =
     writes_as (scalar_text_is c.args.node.now _ _ c.in_default.not-Array c.in_default.not-Hash) (writes_for (λ b. absurd b) c.write_scalar.ensures.text)
 
-pub write_value-returns-in-Array-clause-given : goal.write_value-returns-in-Array-clause-given
-write_value-returns-in-Array-clause-given g t c = given_as _ _ _ (ap view c.in-Array.is) c.write_array.ensures.given
+pub write_node-returns-in-Array-clause-given : goal.write_node-returns-in-Array-clause-given
+write_node-returns-in-Array-clause-given g t c = given_as _ _ _ (ap view c.in-Array.is) c.write_array.ensures.given
 
-pub write_value-returns-in-Hash-clause-given : goal.write_value-returns-in-Hash-clause-given
-write_value-returns-in-Hash-clause-given g t c = given_as _ _ _ (ap view c.in-Hash.is) c.write_object.ensures.given
+pub write_node-returns-in-Hash-clause-given : goal.write_node-returns-in-Hash-clause-given
+write_node-returns-in-Hash-clause-given g t c = given_as _ _ _ (ap view c.in-Hash.is) c.write_object.ensures.given
 
-pub write_value-returns-in_default-clause-given : goal.write_value-returns-in_default-clause-given
-write_value-returns-in_default-clause-given g t c = in_any _ (scalar_given c.args.node.now c.in_default.not-Array c.in_default.not-Hash c.write_scalar.ensures.given)
+pub write_node-returns-in_default-clause-given : goal.write_node-returns-in_default-clause-given
+write_node-returns-in_default-clause-given g t c = in_any _ (scalar_given c.args.node.now c.in_default.not-Array c.in_default.not-Hash c.write_scalar.ensures.given)
+
+-- ---- nests
+
+pub write_nest-returns-in_err-nest-clause-text : goal.write_nest-returns-in_err-nest-clause-text
+write_nest-returns-in_err-nest-clause-text g t c = writes_err c.from_residual.ensures.0 c.in_err-nest.ensures.stopped
+
+pub write_nest-returns-in_err-write_node-clause-text : goal.write_nest-returns-in_err-write_node-clause-text
+write_nest-returns-in_err-write_node-clause-text g t c =
+    let o = c.in_ok-nest.ensures.opened in
+    writes_err c.from_residual-in_err-write_node.ensures.0 (left_stopped o.left (stopped_early _ (stopped_for o.no_wider (c.in_err-write_node.ensures.text.err refl))))
+
+pub write_nest-returns-clause-text : goal.write_nest-returns-clause-text
+write_nest-returns-clause-text g t c =
+    left_writes (left_after c.in_ok-nest.ensures.opened.left (c.in_ok-write_node.ensures.text.ok refl)) (writes_for (λ b. absurd b) c.close_nest.ensures)
+
+pub write_nest-returns-in_err-nest-clause-given : goal.write_nest-returns-in_err-nest-clause-given
+write_nest-returns-in_err-nest-clause-given g t c = unless_ok _ _ c.from_residual.ensures.0
+
+pub write_nest-returns-in_err-write_node-clause-given : goal.write_nest-returns-in_err-write_node-clause-given
+write_nest-returns-in_err-write_node-clause-given g t c = unless_ok _ _ c.from_residual-in_err-write_node.ensures.0
+
+pub write_nest-returns-clause-given : goal.write_nest-returns-clause-given
+write_nest-returns-clause-given g t c = in_any _ (c.in_ok-nest.ensures.opened.given c.in_ok-write_node.ensures.given)
 
 -- ---- arrays
 
 pub write_array-returns-in_err-inner-clause-text : goal.write_array-returns-in_err-inner-clause-text
-write_array-returns-in_err-inner-clause-text g t c = writes_err c.from_residual.ensures.0 (stopped_here _ _ _ _ _ (wide_margin c.args.indentation c.args.margin _ c.in_err-inner.ensures) refl)
+write_array-returns-in_err-inner-clause-text g t c = writes_err c.from_residual.ensures.0 (stopped_here _ _ _ _ _ (wide_margin (g.S.Spacing.indentation c.args.spacing) c.args.margin _ c.in_err-inner.ensures) refl)
 
 pub write_array-returns-in_err-put_ascii-clause-text : goal.write_array-returns-in_err-put_ascii-clause-text
 write_array-returns-in_err-put_ascii-clause-text g t c =
@@ -48,7 +71,7 @@ pub write_array-returns-in_err-write_items-clause-text : goal.write_array-return
 write_array-returns-in_err-write_items-clause-text g t c =
     writes_as (full_array _ c.args.margin _ _ c.in_ok-inner.ensures (not_empty _ _ c.is_empty.ensures c.if-is_empty.false))
     (writes_err c.from_residual-in_err-write_items.ensures.0
-    (stopped_late (c.in_ok-put_ascii.ensures.ok refl) (stopped_early _ (stopped_for (wide_inside c.args.indentation c.args.margin c.in_ok-inner.inner (item_nesting (items_of c.args.items.now)) c.in_ok-inner.ensures) (c.in_err-write_items.ensures.text.err refl)))))
+    (stopped_late (c.in_ok-put_ascii.ensures.ok refl) (stopped_early _ (stopped_for (wide_inside (g.S.Spacing.indentation c.args.spacing) c.args.margin c.in_ok-inner.inner (item_nesting (items_of c.args.items.now)) c.in_ok-inner.ensures) (c.in_err-write_items.ensures.text.err refl)))))
 
 pub write_array-returns-in_err-new_line-clause-text : goal.write_array-returns-in_err-new_line-clause-text
 write_array-returns-in_err-new_line-clause-text g t c =
@@ -85,7 +108,7 @@ pub write_items-items-init : goal.write_items-items-init
 write_items-items-init g t c =
     let e = sym c.into_iter-item-iterator.ensures.into_iter_gives in
     record {
-      left = left_as (ap (λ ts. items_left true c.args.indentation c.args.margin (items_of ts)) e) left_all;
+      left = left_as (ap (λ ts. items_left true (g.S.Spacing.indentation c.args.spacing) c.args.margin (items_of ts)) e) left_all;
       no_wider = omega (arith, ap (λ ts. item_nesting (items_of ts)) e);
       no_deeper = omega (arith, ap (λ ts. items_depth (items_of ts)) e);
       given = subst (λ ts. AreGiven (items_of ts) → AreGiven (items_of c.args.items.now)) e (λ v. v);
@@ -112,7 +135,7 @@ write_items-returns-in_err-write_value-clause-text g t c =
     writes_err c.from_residual-in_err-write_value.ensures.0
     (left_stopped (item_left c.items.is_first _ c.args.margin _ _ _ c.in-Some.ensures.steps c.items.invariant.left)
     (stopped_late (c.in_ok-begin_entry.ensures.ok refl)
-    (stopped_early _ (stopped_for (wide_within c.args.indentation c.args.margin _ _ (omega (arith, n.own_nesting, c.items.invariant.no_wider))) (c.in_err-write_value.ensures.text.err refl)))))
+    (stopped_early _ (stopped_for (wide_within (g.S.Spacing.indentation c.args.spacing) c.args.margin _ _ (omega (arith, n.own_nesting, c.items.invariant.no_wider))) (c.in_err-write_value.ensures.text.err refl)))))
 
 pub write_items-returns-clause-text : goal.write_items-returns-clause-text
 write_items-returns-clause-text g t c = writes_ok refl (left_none (left_as (none_left c.items.is_first _ c.args.margin _ c.in-None.ensures.steps.0) c.items.invariant.left))
@@ -129,7 +152,7 @@ write_items-returns-clause-given g t c = no_items_left _ _ c.in-None.ensures.ste
 -- ---- objects
 
 pub write_object-returns-in_err-inner-clause-text : goal.write_object-returns-in_err-inner-clause-text
-write_object-returns-in_err-inner-clause-text g t c = writes_err c.from_residual.ensures.0 (stopped_here _ _ _ _ _ (wide_margin c.args.indentation c.args.margin _ c.in_err-inner.ensures) refl)
+write_object-returns-in_err-inner-clause-text g t c = writes_err c.from_residual.ensures.0 (stopped_here _ _ _ _ _ (wide_margin (g.S.Spacing.indentation c.args.spacing) c.args.margin _ c.in_err-inner.ensures) refl)
 
 pub write_object-returns-in_err-put_ascii-clause-text : goal.write_object-returns-in_err-put_ascii-clause-text
 write_object-returns-in_err-put_ascii-clause-text g t c =
@@ -140,7 +163,7 @@ pub write_object-returns-in_err-write_members-clause-text : goal.write_object-re
 write_object-returns-in_err-write_members-clause-text g t c =
     writes_as (full_object _ c.args.margin _ _ c.in_ok-inner.ensures (not_empty _ _ c.is_empty.ensures c.if-is_empty.false))
     (writes_err c.from_residual-in_err-write_members.ensures.0
-    (stopped_late (c.in_ok-put_ascii.ensures.ok refl) (stopped_early _ (stopped_for (wide_inside c.args.indentation c.args.margin c.in_ok-inner.inner (member_nesting (pairs_of c.args.pairs.now)) c.in_ok-inner.ensures) (c.in_err-write_members.ensures.text.err refl)))))
+    (stopped_late (c.in_ok-put_ascii.ensures.ok refl) (stopped_early _ (stopped_for (wide_inside (g.S.Spacing.indentation c.args.spacing) c.args.margin c.in_ok-inner.inner (member_nesting (pairs_of c.args.pairs.now)) c.in_ok-inner.ensures) (c.in_err-write_members.ensures.text.err refl)))))
 
 pub write_object-returns-in_err-new_line-clause-text : goal.write_object-returns-in_err-new_line-clause-text
 write_object-returns-in_err-new_line-clause-text g t c =
@@ -177,7 +200,7 @@ pub write_members-pairs-init : goal.write_members-pairs-init
 write_members-pairs-init g t c =
     let e = sym (c.into_iter-key-iterator.ensures.into_iter_gives ∙ c.iter-key-items.ensures.pairs) in
     record {
-      left = left_as (ap (λ ps. members_left true c.args.indentation c.args.margin (pairs_of ps)) e) left_all;
+      left = left_as (ap (λ ps. members_left true (g.S.Spacing.indentation c.args.spacing) c.args.margin (pairs_of ps)) e) left_all;
       no_wider = omega (arith, ap (λ ps. member_nesting (pairs_of ps)) e);
       no_deeper = omega (arith, ap (λ ps. pairs_depth (pairs_of ps)) e);
       given = subst (λ ps. ArePairsGiven (pairs_of ps) → ArePairsGiven (pairs_of c.args.pairs.now)) e (λ v. v);
@@ -217,7 +240,7 @@ write_members-returns-in_err-write_value-clause-text g t c =
     writes_err c.from_residual-in_err-write_value.ensures.0
     (left_stopped (member_left c.pairs.is_first _ c.args.margin _ _ _ c.in-Some.ensures.steps c.pairs.invariant.left)
     (stopped_late (c.in_ok-begin_entry.ensures.ok refl) (stopped_late (c.in_ok-write_key.ensures.text.ok refl) (stopped_late (c.in_ok-end_key.ensures.ok refl)
-    (stopped_early _ (stopped_for (wide_within c.args.indentation c.args.margin _ _ (omega (arith, n.own_nesting, c.pairs.invariant.no_wider))) (c.in_err-write_value.ensures.text.err refl)))))))
+    (stopped_early _ (stopped_for (wide_within (g.S.Spacing.indentation c.args.spacing) c.args.margin _ _ (omega (arith, n.own_nesting, c.pairs.invariant.no_wider))) (c.in_err-write_value.ensures.text.err refl)))))))
 
 pub write_members-returns-clause-text : goal.write_members-returns-clause-text
 write_members-returns-clause-text g t c = writes_ok refl (left_none (left_as (no_pair_left c.pairs.is_first _ c.args.margin _ c.in-None.ensures.steps.0) c.pairs.invariant.left))

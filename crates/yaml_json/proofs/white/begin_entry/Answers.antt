@@ -5,9 +5,9 @@ use Rattle.yaml_json.proofs.white.begin_entry.Goals as goal
 
 pub returns-in_err-put_ascii : goal.returns-in_err-put_ascii
 returns-in_err-put_ascii g c =
-    writes_as (ap (λ b. before_entry b c.args.indentation c.args.margin) (sym c.if-is_first.false))
+    writes_as (ap (λ b. before_entry b (g.S.Spacing.indentation c.args.spacing) c.args.margin) (sym c.if-is_first.false))
     (writes_err c.from_residual.ensures.0 (stopped_early _ (c.in_err-put_ascii.ensures.err refl)))
 
 pub returns : goal.returns
 returns g c =
-    writes_as (ap (λ b. before_entry b c.args.indentation c.args.margin) (sym c.if-is_first.false)) (writes_late (c.in_ok-put_ascii.ensures.ok refl) c.new_line-2.ensures)
+    writes_as (ap (λ b. before_entry b (g.S.Spacing.indentation c.args.spacing) c.args.margin) (sym c.if-is_first.false)) (writes_late (c.in_ok-put_ascii.ensures.ok refl) c.new_line-2.ensures)

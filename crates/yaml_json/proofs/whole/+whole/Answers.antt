@@ -8,4 +8,4 @@ use Rattle.yaml_json.proofs.whole.+whole.Goals as goal
 
 pub is_whole-returns-in-Real : goal.is_whole-returns-in-Real
 unfolding string_chars
-is_whole-returns-in-Real t c = c.is_json_real.ensures ∙ ap (λ bs. is_json_real (chars bs)) c.as_str.ensures.value ∙ ap (λ y. is_whole (view y)) (sym c.in-Real.is)
+is_whole-returns-in-Real t c = c.is_json_real.ensures ∙ ap (λ bs. is_json_real (chars bs)) c.as_str.ensures.value ∙ ap (λ y. is_whole (view y)) (sym c.in-Real.is) ∙ sym c.node.invariant.same

@@ -2,11 +2,20 @@ use Rattle.std.proofs.Common.{◌≡◌, ◌+◌, ◌*◌, ◌≤◌}
 use Rattle.defs_tree.specs.Tree.{items_of, pairs_of}
 use Rattle.yaml_tree.specs.Depth.{depth, items_depth, pairs_depth}
 use Rattle.yaml_tree.specs.View.{view}
-use Rattle.yaml_json.specs.Whole.{are_items_whole, are_pairs_whole}
+use Rattle.yaml_json.specs.Whole.{is_whole, are_items_whole, are_pairs_whole}
 use Rattle.yaml_json.proofs.whole.+whole.Given as goal
 
 abbrev pub decreases-is_whole : goal.decreases-is_whole
-decreases-is_whole l = 2 * depth (view l.node.now)
+decreases-is_whole l = 2 * depth (view l.root.now)
+
+abbrev pub invariant-is_whole-node : goal.invariant-is_whole-node
+invariant-is_whole-node l = record {
+  same : is_whole (view l.fn.root) ≡ is_whole (view l.node);
+  no_deeper : depth (view l.node) ≤ depth (view l.fn.root);
+}
+
+abbrev pub decreases-is_whole-node : goal.decreases-is_whole-node
+decreases-is_whole-node l = depth (view l.node)
 
 abbrev pub decreases-are_items_whole : goal.decreases-are_items_whole
 decreases-are_items_whole l = 2 * items_depth (items_of l.items.now) + 1

@@ -1,0 +1,25 @@
+use Rattle.std.proofs.Common.{refl, arith}
+use Rattle.yaml_emitter.proofs.WritingLemmas.{writes_err, writes_ok, stopped_early, left_all, left_as, left_after, left_none, left_stopped}
+use Rattle.yaml_json.proofs.NestLemmas.{next_end, no_end}
+use Rattle.yaml_json.proofs.nest.close_nest.Goals as goal
+
+pub left-init : goal.left-init
+left-init g c = left_all
+
+pub left-preserved : goal.left-preserved
+left-preserved g c =
+    left_after (left_after (left_as (next_end _ _ c.left.left _ (omega arith) c.shallower-outer.ensures) c.left.invariant) (c.in_ok-new_line.ensures.ok refl)) (c.in_ok-put_ascii.ensures.ok refl)
+
+pub returns-in_err-new_line : goal.returns-in_err-new_line
+returns-in_err-new_line g c =
+    writes_err c.from_residual.ensures.0
+    (left_stopped (left_as (next_end _ _ c.left.left _ (omega arith) c.shallower-outer.ensures) c.left.invariant) (stopped_early _ (c.in_err-new_line.ensures.err refl)))
+
+pub returns-in_err-put_ascii : goal.returns-in_err-put_ascii
+returns-in_err-put_ascii g c =
+    writes_err c.from_residual-in_err-put_ascii.ensures.0
+    (left_stopped (left_after (left_as (next_end _ _ c.left.left _ (omega arith) c.shallower-outer.ensures) c.left.invariant) (c.in_ok-new_line.ensures.ok refl))
+    (stopped_early _ (c.in_err-put_ascii.ensures.err refl)))
+
+pub returns : goal.returns
+returns g c = writes_ok refl (left_none (left_as (no_end _ _ c.left.left (omega arith)) c.left.invariant))

@@ -1,0 +1,22 @@
+use Rattle.std.proofs.Common.{refl}
+use Rattle.yaml_json.proofs.FindLemmas.{when_err}
+use Rattle.yaml_json.proofs.NestLemmas.{opens_none, opens_more, margin_stops, bracket_stops, line_stops}
+use Rattle.yaml_json.proofs.nest.open_nest.Goals as goal
+
+pub levels-init : goal.levels-init
+levels-init g c = opens_none _ _ _ _ _
+
+pub levels-preserved : goal.levels-preserved
+levels-preserved g c =
+    opens_more _ _ _ c.in_ok-deeper.ensures refl c.in-Some.ensures c.levels.invariant (c.in_ok-put_ascii.ensures.ok refl) (c.in_ok-new_line.ensures.ok refl)
+
+pub returns-in_err-deeper-clause-stopped : goal.returns-in_err-deeper-clause-stopped
+returns-in_err-deeper-clause-stopped g c = when_err _ (margin_stops _ c.in_err-deeper.ensures c.in-Some.ensures c.levels.invariant)
+
+pub returns-in_err-put_ascii-clause-stopped : goal.returns-in_err-put_ascii-clause-stopped
+returns-in_err-put_ascii-clause-stopped g c =
+    when_err _ (bracket_stops _ _ c.in_ok-deeper.ensures c.in-Some.ensures c.levels.invariant (c.in_err-put_ascii.ensures.err refl))
+
+pub returns-in_err-new_line-clause-stopped : goal.returns-in_err-new_line-clause-stopped
+returns-in_err-new_line-clause-stopped g c =
+    when_err _ (line_stops _ _ c.in_ok-deeper.ensures c.in-Some.ensures c.levels.invariant (c.in_ok-put_ascii.ensures.ok refl) (c.in_err-new_line.ensures.err refl))
