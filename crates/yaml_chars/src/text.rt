@@ -6,6 +6,9 @@ use std::alloc::{AllocError, Global};
 use std::marker::Model;
 use std::mem;
 
+// The least piece of memory that malloc hands out has this many bytes.
+const ROOM: usize = 24;
+
 /// A text that grows by characters.
 #[derive(Debug, Drop)]
 pub struct Text {
@@ -29,6 +32,14 @@ impl Text {
         Text {
             inner: String::new(alloc),
         }
+    }
+
+    /// Makes room for a short text, which then takes memory once. An `Err` changes nothing.
+    #[tactic(auto, using(crate::proofs::TextLemmas::chars_same))]
+    pub fn make_room(&mut self) -> Result<(), AllocError>
+        ensures { self.new ≡ self.old }
+    {
+        self.inner.reserve(ROOM)
     }
 
     /// An `Err` changes nothing.

@@ -62,7 +62,21 @@ impl<T: Iterator<Item = char>> Window<T> {
     }
 
     /// Sees to it that the next `n` characters are in the window.
+    #[inline(always)]
     pub fn lookahead(&mut self, n: usize)
+        requires { n ≤ 16 }
+        ensures reads { Reads self.old self.new (λ a b. b ≡ a) }
+        ensures position { SamePosition self.old self.new }
+        ensures ahead { n ≤ self.new.ahead }
+    {
+        if self.len() < n {
+            self.fill_to(n);
+        }
+    }
+
+    // The same, where some are not in the window yet.
+    #[inline(never)]
+    fn fill_to(&mut self, n: usize)
         requires { n ≤ 16 }
         ensures reads { Reads self.old self.new (λ a b. b ≡ a) }
         ensures position { SamePosition self.old self.new }
@@ -73,6 +87,7 @@ impl<T: Iterator<Item = char>> Window<T> {
         }
     }
 
+    #[inline(always)]
     fn fill_one(&mut self)
         requires { self.old.ahead < 16 }
         ensures reads { Reads self.old self.new (λ a b. b ≡ a) }
@@ -123,6 +138,7 @@ impl<T: Iterator<Item = char>> Window<T> {
     }
 
     /// The next character, which is then in the window.
+    #[inline(always)]
     pub fn look_ch(&mut self) -> char
         ensures reads { Reads self.old self.new (λ a b. (b ≡ a) × (result ≡ slice_index b 0) × (result ≡ 0 → b ≡ [])) }
         ensures position { SamePosition self.old self.new }
@@ -130,7 +146,9 @@ impl<T: Iterator<Item = char>> Window<T> {
         ensures has { result ≢ 0 → HasChar self.new }
         ensures done { result ≡ 0 → self.new.done ≡ true }
     {
-        self.lookahead(1);
+        if self.len() < 1 {
+            self.fill_one();
+        }
         self.ch()
     }
 

@@ -1,3 +1,4 @@
 pub mod WindowLemmas
 mod EscapeLemmas
+mod SpaceLemmas
 mod UriLemmas

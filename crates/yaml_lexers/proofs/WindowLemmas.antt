@@ -1,5 +1,6 @@
 -- Lemmas about a window.
-use Rattle.std.proofs.Common.{◌≡◌, ℕ, List, length, length-take, arith, ap}
+use Rattle.std.proofs.Common.{◌≡◌, ◌≢◌, ℕ, Bool, false, List, length, length-take, arith, ap}
+use Rattle.yaml_chars.specs.Class.{is_blank, is_break, is_blank_or_breakz}
 use Rattle.yaml_chars.specs.Reading.{Reading, Reads, HasChar, SamePosition, position_of}
 use Rattle.yaml_chars.proofs.ReadingLemmas.{Possible-taken}
 
@@ -12,3 +13,8 @@ has_kept old new reads same has =
 
 pub position_kept : {T : Type 0} (old new : Reading T) → SamePosition old new → position_of old ≡ position_of new
 position_kept old new same = let i : new.at ≡ old.at = same.at in let l : new.line ≡ old.line = same.line in let c : new.col ≡ old.col = same.col in cc
+
+-- what is no blank and no break, and does not stand for the end, is a character
+pub is_some : (c : ℕ) (ends : Bool) → ends ≡ is_blank_or_breakz c → ends ≡ false → c ≢ 0
+unfolding is_blank is_break
+is_some c ends e h z = let i = rw (e, z) at h in cc

@@ -1,5 +1,5 @@
 //! Lines of a flow scalar, folded.
-ghost use Rattle.std.specs.Prelude.{◌≡◌, OnOk};
+ghost use Rattle.std.specs.Prelude.{◌≡◌, OnOk, IfOk};
 ghost use Rattle.model_lexers.specs.Folding.{nothing, with_char, with_blank, with_break, with_escaped_break, joined};
 ghost use Rattle.yaml_lexers.specs.Shown.{folded};
 
@@ -18,6 +18,7 @@ pub(crate) struct Folding {
 }
 
 impl Folding {
+    /// Nothing yet. It takes no memory.
     pub(crate) fn new(alloc: Global) -> Self
         ensures { folded result ≡ nothing }
     {
@@ -27,6 +28,15 @@ impl Folding {
             leading: false,
             escaped: false,
         }
+    }
+
+    /// Nothing yet, with room for a short text.
+    pub(crate) fn with_room(alloc: Global) -> Result<Self, AllocError>
+        ensures { IfOk result (λ s. folded s ≡ nothing) }
+    {
+        let mut scalar = Folding::new(alloc);
+        scalar.text.make_room()?;
+        Ok(scalar)
     }
 
     #[inline(always)]

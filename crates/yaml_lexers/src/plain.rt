@@ -64,9 +64,12 @@ fn read_run<T: Iterator<Item = char>>(
 {
     'run: loop {
         read_word(window, context, scalar)?;
+        let c = window.look_ch();
+        if is_blank_or_breakz(c) {
+            return Ok(());
+        }
         window.lookahead(2);
-        let c = window.ch();
-        if is_blank_or_breakz(c) || !can_be_plain(context.flow, c, window.peek(1)) {
+        if !can_be_plain(context.flow, c, window.peek(1)) {
             return Ok(());
         }
         scalar.push(c)?;
@@ -202,9 +205,9 @@ fn read_gap<T: Iterator<Item = char>>(
         plain_from context start a (at between window.old scalar.old) ≡ Err e)) }
 {
     'gap: loop {
-        window.lookahead(2);
-        let c = window.ch();
+        let c = window.look_ch();
         if is_break(c) {
+            window.lookahead(2);
             if window.at_cr_lf() {
                 window.skip();
             } else {
@@ -276,7 +279,7 @@ pub fn read_plain<T: Iterator<Item = char>>(
     window.lookahead(2);
     let start = window.mark();
     check_start(window, context)?;
-    let mut scalar = Folding::new(alloc);
+    let mut scalar = Folding::with_room(alloc)?;
     'lines: loop {
         read_line(window, context, start, &mut scalar)?;
         if !goes_on(window, context)? {

@@ -40,8 +40,30 @@ pub fn skip_comment<T: Iterator<Item = char>>(window: &mut Window<T>)
 
 /// Steps over spaces, TABs where these are to be skipped, and a comment, up to the end of the
 /// line. What stands after them is then in the window.
-#[tactic(auto, using(model_lexers::proofs::SpaceLemmas::spaces_stop, model_lexers::proofs::SpaceLemmas::at_comment), unfolding(model_lexers::specs::Space::space))]
+#[inline(always)]
+#[tactic(auto, using(crate::proofs::SpaceLemmas::no_space), unfolding(model_lexers::specs::Space::space))]
 pub fn skip_ws_to_eol<T: Iterator<Item = char>>(
+    window: &mut Window<T>,
+    tabs: SkipTabs,
+) -> Result<Whitespace, Fault>
+    ensures ok { IfOk result (λ w. Reads window.old window.new (λ a b. space tabs a (position_of window.old) ≡ Ok (read b window.new w))) }
+    ensures err { IfErr result (λ e. Reads window.old window.new (λ a b. space tabs a (position_of window.old) ≡ Err e)) }
+    ensures ahead { 0 < window.new.ahead }
+{
+    let c = window.look_ch();
+    if is_blank(c) || c == '#' {
+        return skip_spaces(window, tabs);
+    }
+    Ok(Whitespace {
+        found_tabs: false,
+        has_valid_yaml_ws: false,
+    })
+}
+
+// The same, where a blank or a comment stands here.
+#[inline(never)]
+#[tactic(auto, using(model_lexers::proofs::SpaceLemmas::spaces_stop, model_lexers::proofs::SpaceLemmas::at_comment), unfolding(model_lexers::specs::Space::space))]
+fn skip_spaces<T: Iterator<Item = char>>(
     window: &mut Window<T>,
     tabs: SkipTabs,
 ) -> Result<Whitespace, Fault>

@@ -150,6 +150,18 @@ gap_end (d ∷ a) c h e i t k j =
     let j' : (d == 35) ≡ false = rw (← e) j in
     rw (i', t', k', j') refl
 
+or_second : (b d : Bool) → b || d ≡ false → d ≡ false
+or_second true d h = cc
+or_second false d h = h
+
+no_tab : (c : ℕ) (h : Held) → is_blank c ≡ false → (c == 9) && is_before_indent h ≡ false
+unfolding is_blank
+no_tab c h k = rw (or_second (c == 32) (c == 9) k) refl
+
+-- where no blank, no break and no comment stands
+pub no_gap : (a : List ℕ) (c : ℕ) (h : Held) → c ≡ slice_index a 0 → is_break c ≡ false → is_blank c ≡ false → (c == 35) ≡ false → skip between a h ≡ Ok (record { rest = a; held = h })
+no_gap a c h e i k j = gap_end a c h e i (no_tab c h k) k j
+
 -- ---- after a `?`
 
 pub white_cr : (f : Bool) (a b : List ℕ) (c d : ℕ) (h : Held) (p : Position) → (c == 13) && (d == 10) ≡ true → read_to a (past_break (past h.position)) ≡ read_to b p

@@ -36,9 +36,27 @@ impl<T: Iterator<Item = char>> Fetcher<T> {
         !self.in_flow() || self.key_allowed
     }
 
-    /// Steps to the next token.
-    #[tactic(auto, using(crate::proofs::SpaceLemmas::gap_blank, crate::proofs::SpaceLemmas::gap_end), unfolding(model_scanner::specs::Space::skip_to_next_token))]
+    /// Steps to the next token. Most tokens stand right after the one before or after one step over a gap, so the test
+    /// for a gap is apart from the loop.
+    #[inline(always)]
+    #[tactic(auto, using(crate::proofs::SpaceLemmas::no_gap), unfolding(model_scanner::specs::Space::skip_to_next_token))]
     pub(crate) fn skip_to_next_token(&mut self) -> Result<(), Fault>
+        ensures does { OnOk result (Does skip_to_next_token self.old self.new) }
+        ensures fails { IfErr result (λ e. Fails skip_to_next_token self.old self.new e) }
+        ensures moves { Moves self.old self.new 0 0 }
+        ensures ahead { OnOk result (0 < self.new.window.ahead) }
+    {
+        let c = self.window.look_ch();
+        if is_break(c) || is_blank(c) || c == '#' {
+            return self.skip_gap();
+        }
+        Ok(())
+    }
+
+    // The same, where a blank, a break or a comment stands here.
+    #[inline(never)]
+    #[tactic(auto, using(crate::proofs::SpaceLemmas::gap_blank, crate::proofs::SpaceLemmas::gap_end), unfolding(model_scanner::specs::Space::skip_to_next_token))]
+    fn skip_gap(&mut self) -> Result<(), Fault>
         ensures does { OnOk result (Does skip_to_next_token self.old self.new) }
         ensures fails { IfErr result (λ e. Fails skip_to_next_token self.old self.new e) }
         ensures moves { Moves self.old self.new 0 0 }

@@ -3,7 +3,7 @@ use Rattle.yaml_chars.specs.Reading.{Reads}
 use Rattle.model_scanner.specs.Space.{skip, between}
 use Rattle.yaml_scanner.specs.Shape.{held}
 use Rattle.yaml_scanner.specs.Work.{Moves}
-use Rattle.yaml_scanner.proofs.fetcher.Fetcher.skip_to_next_token.Given as goal
+use Rattle.yaml_scanner.proofs.fetcher.Fetcher.skip_gap.Given as goal
 
 abbrev pub invariant-space : goal.invariant-space
 invariant-space g l = record {

@@ -1,6 +1,6 @@
 use Rattle.std.proofs.Common.{◌≡◌, ◌-◌}
 use Rattle.yaml_chars.specs.Reading.{Reads, SamePosition}
-use Rattle.yaml_chars.proofs.window.Window.lookahead.Given as goal
+use Rattle.yaml_chars.proofs.window.Window.fill_to.Given as goal
 
 abbrev pub invariant-loop-self : goal.invariant-loop-self
 invariant-loop-self g l = Reads l.fn.self l.self (λ a b. b ≡ a) × SamePosition l.fn.self l.self

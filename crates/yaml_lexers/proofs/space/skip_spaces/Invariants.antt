@@ -1,7 +1,7 @@
 use Rattle.std.proofs.Common.{◌≡◌}
 use Rattle.yaml_chars.specs.Reading.{Reads, position_of}
 use Rattle.model_lexers.specs.Space.{space, space_from}
-use Rattle.yaml_lexers.proofs.space.skip_ws_to_eol.Given as goal
+use Rattle.yaml_lexers.proofs.space.skip_spaces.Given as goal
 
 abbrev pub invariant-space : goal.invariant-space
 invariant-space g l = Reads l.fn.window l.window (λ a b. space l.fn.tabs a (position_of l.fn.window) ≡ space_from l.fn.tabs b (record { position = position_of l.window; found = l.found }))
