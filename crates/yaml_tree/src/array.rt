@@ -110,13 +110,18 @@ impl Array {
 
     /// Adds an item at the end. An `Err` comes only if memory was refused; then the array is as it was, and the item
     /// is handed back.
+    #[inline(always)]
     #[tactic(auto, using(crate::proofs::ItemsLemmas::items_view_push))]
     pub fn push(&mut self, item: Yaml) -> Result<(), AllocFailed<Yaml>>
         ensures ok { OnOk result (self.new ≡ self.old ++ view item ∷ []) }
         ensures err { OnErr result (self.new ≡ self.old) }
         ensures handed_back { IfErr result (λ e. e.value ≡ item) }
     {
-        self.items.push(item)
+        if self.items.reserve(1).is_err() {
+            return Err(AllocFailed { value: item });
+        }
+        self.items.push_reserved(item);
+        Ok(())
     }
 }
 
