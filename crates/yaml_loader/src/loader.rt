@@ -158,13 +158,14 @@ impl MarkedEventReceiver for YamlLoader {
         ensures { Takes self.old (ev_of ev) mark result self.new }
     {
         match &self.course {
-            Course::Reading => match self.reading.take(ev) {
-                Ok(()) => Ok(()),
-                Err(refusal) => self.stop(refusal, mark),
-            },
-            Course::RepeatedKey(_, _) => Ok(()),
-            Course::OutOfNesting(position) => refuse_nesting(*position),
-            Course::OutOfMemory(position) => refuse_memory(*position),
+            Course::Reading => {}
+            Course::RepeatedKey(_, _) => return Ok(()),
+            Course::OutOfNesting(position) => return refuse_nesting(*position),
+            Course::OutOfMemory(position) => return refuse_memory(*position),
         }
+        if let Err(refusal) = self.reading.take(ev) {
+            return self.stop(refusal, mark);
+        }
+        Ok(())
     }
 }
