@@ -1,5 +1,5 @@
 -- The steps of `load`.
-use Rattle.std.proofs.Common.{◌≡◌, ◌≢◌, ◌+◌, ◌||◌, ◌&&◌, not, List, [], ◌∷◌, ◌++◌, length, Bool, true, false, if◌then◌else◌, Option, Some, None, Result, Ok, Err, refl, sym, ap, ◌∙◌, subst, append_assoc, append-nil, arith}
+use Rattle.std.proofs.Common.{◌≡◌, ◌≢◌, ◌+◌, ◌||◌, ◌&&◌, not, List, [], ◌∷◌, ◌++◌, length, Bool, true, false, if◌then◌else◌, Option, Some, None, Result, Ok, Err, inl, inr, refl, sym, ap, ◌∙◌, subst, append_assoc, append-nil, arith}
 use Rattle.std.specs.Result.{IsErrAnd}
 use Rattle.std.proofs.lemmas.Bool.{or_from}
 use Rattle.std.proofs.lemmas.List.{length-append}
@@ -15,7 +15,7 @@ use Rattle.yaml_parser.specs.Parsed.{Parsed, is_stream_end, is_document_start, i
 use Rattle.yaml_parser.specs.Pulls.{Pulls, GivesEvent}
 use Rattle.yaml_parser.specs.View.{no_document}
 use Rattle.yaml_parser.specs.Loads as loads
-use Rattle.yaml_parser.specs.Loads.{PullsAll, no_call, one_call, Receives, no_event, one_event, EndsSo, Loads, pushing, Going, RunsOn, StartsSo, after_document, IsAfter}
+use Rattle.yaml_parser.specs.Loads.{PullsAll, no_call, one_call, Receives, no_event, one_event, EndsSo, Loads, pushing, Going, RunsOn, PushesNext, StartsSo, after_document, IsAfter}
 use Rattle.yaml_parser.proofs.Nesting.{no_end_inside, open_more}
 
 -- ---- the run
@@ -255,6 +255,11 @@ module _ {R : Type 0} (takes : R → Ev → Position → Result (Unit {0}) Error
         taken = whole_taken g.events (event e p) (push e p l) _ w (ap (λ n. n + 1) nil);
         ends = loads.refused e p (ap (λ x. x.pushed) w ∙ pushed_all g.events (push e p l) ∙ ap (λ xs. g.events ++ (e, p) ∷ xs) none) pulls.sound.fault g.received took;
       }
+
+  -- A fault is pulled inside a document, or the receiver refuses an event there.
+  pub push_stops : {now now' : Parsed} {s s' : R} (f : ErrorReport) → RunsOn takes multi old r run.inside now s → PushesNext takes now s (Err f) now' s' → Loads takes multi old r (Err f) now' s'
+  push_stops {now} {now'} {s} {s'} f g (inl x) = subst (λ z. Loads takes multi old r (Err f) now' z) (sym x.1) (faults f g refl x.0)
+  push_stops {now} {now'} {s} {s'} f g (inr x) = let l = inside_stops x.0 x.1 multi in refuses x.0 x.1 f l.0 g l.1 l.2 l.3 x.2 x.3
 
   -- An event is taken, and the call ends well.
   pub ends_well : {on : List (Answer ErrorReport) → Loaded ErrorReport} {now now' : Parsed} {s s' : R} (e : Ev) (p : Position) → Going takes multi old r on now s → on (event e p ∷ []) ≡ push e p (ends run.well 0)

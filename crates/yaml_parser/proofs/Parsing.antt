@@ -12,6 +12,7 @@ use Rattle.defs_event.specs.Event.{Ev}
 use Rattle.yaml_parser.specs.declared.event.Event.{Event}
 use Rattle.yaml_parser.specs.declared.names.Keeping.{Keeping}
 use Rattle.yaml_parser.specs.declared.tokens.KeptStop.{KeptStop}
+use Rattle.yaml_parser.specs.declared.tokens.Stop.{Stop}
 use Rattle.yaml_parser.specs.declared.pull.Pull.{Pull}
 use Rattle.yaml_parser.specs.declared.reader.Reader.{Reader}
 use Rattle.yaml_parser.specs.Follows.{StandsBeside}
@@ -22,8 +23,8 @@ use Rattle.yaml_parser.specs.Seen.{fault_seen}
 use Rattle.yaml_parser.specs.Parsed.{Parsed, is_stream_end, is_fresh, stays_steady, has_end, read_so}
 use Rattle.yaml_parser.specs.Pulls.{Waits, Looks, GivesEvent, GivesFault, IsSound}
 use Rattle.yaml_parser.specs.View.{fault_kept, fault_of_all, no_document, events_left}
-use Rattle.yaml_parser.specs.Held.{IsHeld, Notes, Continues, Holds}
-use Rattle.yaml_parser.proofs.Holding.{Shows, KnowsSteady, set_stands, held_sound, explains, held_explained, has_end_snoc}
+use Rattle.yaml_parser.specs.Held.{IsHeld, Notes, Continues, Advances, Holds}
+use Rattle.yaml_parser.proofs.Holding.{Shows, KnowsSteady, closed, keeps, failed_as, set_stands, held_sound, explains, held_explained, has_end_snoc}
 use Rattle.yaml_parser.proofs.Since.{all_more}
 
 -- ---- what clauses see
@@ -378,6 +379,53 @@ given_at_once {T} pull new given more current started ended ended' misplaced e h
 pub all_noted : (xs ys : List (Event × Position)) (x : Event × Position) (b : Bool) → ys ≡ xs ++ (if b then [] else x ∷ []) → all_placed ys ≡ all_placed xs ++ (if b then [] else placed x ∷ [])
 all_noted xs ys x true h = ap all_placed h ∙ map-append placed xs []
 all_noted xs ys x false h = ap all_placed h ∙ map-append placed xs (x ∷ [])
+
+-- ---- inside a document
+
+clear_parts : {T : Type 0} (pull : Pull T) (misplaced : Option Position) → fault_of_all misplaced pull ≡ None → (pull.kept ≡ None) × (misplaced ≡ None)
+clear_parts {T} pull None h = (none_before (λ k. fault_seen k.stop k.mark (scanned pull.reader.tokens.scanner).fault) pull.kept h, refl)
+clear_parts {T} pull (Some p) h = cc
+
+-- Before the stream's end something is awaited.
+pub not_closed : {T : Type 0} (pull : Pull T) (given : List (Ev × Position)) (current : Option (Event × Position)) (started ended : Bool) (misplaced : Option Position)
+    → Holds pull given (option_map placed current) started ended misplaced → option_map placed current ≡ None → fault_of_all misplaced pull ≡ None → ended ≡ false → pull.reader.stack ≢ []
+not_closed {T} pull given current started ended misplaced h ahead fault going =
+    λ s.
+    let es = read_so given ended (option_map placed current) in
+    let none = none_waits current (ap is_some ahead) in
+    let c = clear_parts pull misplaced fault in
+    let end = closed pull.reader es s (subst (IsHeld pull.reader es) c.0 h.held) in
+    let no : true ≡ false = sym end ∙ end_known given current ended h.end none ∙ going in
+    cc
+
+-- An event is read, and given at once.
+pub advanced : {T : Type 0} (pull new : Pull T) (given more : List (Ev × Position)) (current : Option (Event × Position)) (started ended ended' : Bool) (misplaced : Option Position) (e : Event × Position)
+    → Holds pull given (option_map placed current) started ended misplaced → option_map placed current ≡ None → fault_of_all misplaced pull ≡ None
+    → ((es : List (Ev × Position)) → IsHeld pull.reader es None → Advances pull es (Ok e) new) → new.kept ≡ pull.kept
+    → more ≡ given ++ (if ended then [] else placed e ∷ []) → ended' ≡ ended || is_stream_end (ev_of e.0)
+    → Holds new more (option_map placed current) true ended' misplaced × GivesEvent (seen pull given current started ended misplaced) (placed e) (seen new more current true ended' misplaced)
+advanced {T} pull new given more current started ended ended' misplaced e h ahead fault reads same noted end =
+    let es = read_so given ended (option_map placed current) in
+    let c = clear_parts pull misplaced fault in
+    let x = reads es (subst (IsHeld pull.reader es) c.0 h.held) in
+    given_at_once pull new given more current started ended ended' misplaced e h (none_waits current (ap is_some ahead)) c.1 (c.0, same ∙ c.0, inr x) noted end
+
+-- A fault is met, and kept at once.
+pub stopped : {T : Type 0} (pull mid new : Pull T) (given : List (Ev × Position)) (current : Option (Event × Position)) (started ended : Bool) (misplaced : Option Position) (s : Stop) (f : ErrorReport)
+    → Holds pull given (option_map placed current) started ended misplaced → option_map placed current ≡ None → fault_of_all misplaced pull ≡ None
+    → ((es : List (Ev × Position)) → IsHeld pull.reader es None → Advances pull es (Err s) mid)
+    → fault_kept new ≡ Some f → IfSome new.kept (λ k. k.stop ≡ s) → new.reader ≡ mid.reader
+    → Holds new given (option_map placed current) started ended misplaced × GivesFault (seen pull given current started ended misplaced) f (seen new given current started ended misplaced)
+stopped {T} pull mid new given current started ended misplaced s f h ahead fault reads kept stop reader =
+    let es = read_so given ended (option_map placed current) in
+    let none = none_waits current (ap is_some ahead) in
+    let c = clear_parts pull misplaced fault in
+    let a = reads es (subst (IsHeld pull.reader es) c.0 h.held) in
+    let y = keeps new es s kept stop (failed_as es s reader (a.1, a.2)) in
+    let before : fault_kept pull ≡ None = ap (option_map (λ x. fault_seen x.stop x.mark (scanned pull.reader.tokens.scanner).fault)) c.0 in
+    let x : Continues pull es (Err f) new = (ap (λ r. r.names.keeping) reader ∙ a.0, y.0, λ b. y.1) in
+    let again = subst (λ o. IfSome o (λ g. (◌≡◌ {A = Result (Event × Position) ErrorReport} (Err f) (Err g)) × (new ≡ pull))) (sym before) tt in
+    (fault_holds pull new given current started ended misplaced h none x kept, fault_given pull new given current started ended misplaced f h none c.1 x kept again)
 
 -- ---- a setting
 

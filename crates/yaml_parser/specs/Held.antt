@@ -9,6 +9,7 @@ use Rattle.model_parser.specs.Goal.{Goal}
 use Rattle.yaml_parser.specs.declared.event.Event.{Event}
 use Rattle.yaml_parser.specs.declared.names.Keeping.{Keeping}
 use Rattle.yaml_parser.specs.declared.tokens.KeptStop.{KeptStop}
+use Rattle.yaml_parser.specs.declared.tokens.Stop.{Stop}
 use Rattle.yaml_parser.specs.declared.pull.Pull.{Pull}
 use Rattle.yaml_parser.specs.declared.reader.Reader.{Reader}
 use Rattle.yaml_parser.specs.Parsed.{has_end, read_so}
@@ -49,6 +50,11 @@ Continues old read (Ok e) new =
     × (((has_end read ≡ true) × (new ≡ old) × (ev_of e.0 ≡ Ev.stream_end))
     ⊎ ((has_end read ≡ false) × (work new.reader < work old.reader) × Notes old.reader.names.keeping new.reader.names.keeping × IsHeld new.reader (read ++ placed e ∷ []) None))
 Continues old read (Err f) new = (new.reader.names.keeping ≡ old.reader.names.keeping) × IsHeld new.reader read new.kept × (old.kept ≡ None → IsMet new.reader read new.kept)
+
+-- The same before the stream's end, where no fault is kept.
+abbrev pub Advances : {T : Type 0} → Pull T → List (Ev × Position) → Result (Event × Position) Stop → Pull T → Type 0
+Advances old read (Ok e) new = (has_end read ≡ false) × (work new.reader < work old.reader) × Notes old.reader.names.keeping new.reader.names.keeping × IsHeld new.reader (read ++ placed e ∷ []) None
+Advances old read (Err s) new = (new.reader.names.keeping ≡ old.reader.names.keeping) × (has_end read ≡ false) × Faulted new.reader read s
 
 -- What is known of a parser.
 pub record Holds {T : Type 0} (pull : Pull T) (given : List (Ev × Position)) (ahead : Option (Ev × Position)) (started ended : Bool) (misplaced : Option Position) : Type 0 where

@@ -1,13 +1,13 @@
 -- What `load` does with a parser and a receiver. `takes` is what one call of the receiver does.
-use Rattle.std.specs.Prelude.{◌≡◌, List, [], ◌∷◌, ◌++◌, length, Bool, if◌then◌else◌, Some, None, Result, Ok, Err}
+use Rattle.std.specs.Prelude.{◌≡◌, ◌⊎◌, List, [], ◌∷◌, ◌++◌, length, Bool, if◌then◌else◌, Some, None, Result, Ok, Err}
 use Rattle.defs_text.specs.Position.{Position}
 use Rattle.yaml_tokens.specs.ErrorReport.{ErrorReport}
 use Rattle.defs_event.specs.Event.{Ev}
 use Rattle.defs_event.specs.PulledList.{Answer, given}
 use Rattle.defs_event.specs.Push as run
 use Rattle.defs_event.specs.Push.{Loaded, load, load_from, push, ends}
-use Rattle.yaml_parser.specs.Parsed.{Parsed}
-use Rattle.yaml_parser.specs.Pulls.{Pulls}
+use Rattle.yaml_parser.specs.Parsed.{Parsed, is_document_end}
+use Rattle.yaml_parser.specs.Pulls.{Pulls, GivesEvent, GivesFault}
 use Rattle.yaml_parser.specs.View.{no_document}
 
 -- A parser answers these calls of `next_token`, one after the other.
@@ -19,6 +19,11 @@ pub data PullsAll : Parsed → List (Answer ErrorReport) → Parsed → Type 0 w
 pub data Receives {R : Type 0} (takes : R → Ev → Position → Result (Unit {0}) ErrorReport → R → Type 0) : R → List (Ev × Position) → R → Type 0 where
   no_event : {r : R} → Receives takes r [] r
   one_event : {r s t : R} {es : List (Ev × Position)} (e : Ev) (p : Position) → Receives takes r es s → takes s e p (Ok tt) t → Receives takes r (es ++ (e, p) ∷ []) t
+
+-- An event is pulled and taken, and is a document's end or not; or a fault is pulled; or the receiver refuses the event.
+abbrev pub PushesNext : {R : Type 0} → (R → Ev → Position → Result (Unit {0}) ErrorReport → R → Type 0) → Parsed → R → Result Bool ErrorReport → Parsed → R → Type 0
+PushesNext takes now s (Ok last) now' s' = (e : Ev) × (p : Position) × GivesEvent now (e, p) now' × takes s e p (Ok tt) s' × (last ≡ is_document_end e)
+PushesNext takes now s (Err f) now' s' = (GivesFault now f now' × (s' ≡ s)) ⊎ ((e : Ev) × (p : Position) × GivesEvent now (e, p) now' × takes s e p (Err f) s')
 
 -- How a call ends whose run is this, after the parser that gave its answers; and whether that one keeps a fault.
 pub data EndsSo {R : Type 0} (takes : R → Ev → Position → Result (Unit {0}) ErrorReport → R → Type 0) (r : R) (l : Loaded ErrorReport) (after : Parsed) : Result (Unit {0}) ErrorReport → Parsed → R → Type 0 where

@@ -1,7 +1,7 @@
 //! Pushing: a parser's events, into a receiver.
 ghost use Rattle.std.specs.Prelude.{◌≡◌, ◌≤◌, Bool, OnOk, Some};
 ghost use Rattle.yaml_parser.specs.Nests.{IsInside};
-ghost use Rattle.yaml_parser.specs.Parsed.{Parsed, parsed, is_stream_end, is_document_start, is_document_end};
+ghost use Rattle.yaml_parser.specs.Parsed.{Parsed, parsed, is_stream_end, is_document_start};
 ghost use Rattle.yaml_parser.specs.Shown.{ev_of};
 ghost use Rattle.yaml_parser.specs.View.{no_document};
 ghost use Rattle.yaml_parser.specs.Loads.{Loads, StartsSo, ReadsOn};
@@ -21,12 +21,6 @@ fn is_document_start(event: &Event) -> bool
     ensures { result ≡ is_document_start (ev_of event.now) }
 {
     matches!(event, Event::DocumentStart)
-}
-
-fn is_document_end(event: &Event) -> bool
-    ensures { result ≡ is_document_end (ev_of event.now) }
-{
-    matches!(event, Event::DocumentEnd)
 }
 
 impl<T: Iterator<Item = char>> Parser<T> {
@@ -88,20 +82,18 @@ impl<T: Iterator<Item = char>> Parser<T> {
     /// Pushes the events of a document whose start was given, up to its end. The stream does not end inside a
     /// document.
     fn load_document<R: MarkedEventReceiver>(&mut self, recv: &mut R) -> Result<(), ScanError>
-        requires { IsInside (parsed self.old) }
+        requires inside { IsInside (parsed self.old) }
+        requires none { (parsed self.old).ahead ≡ None }
+        requires clear { (parsed self.old).fault ≡ None }
         ensures reads { (multi : Bool) (parser : Parsed) (receiver : R) → ReadsOn R.takes multi parser receiver (parsed self.old) recv.old result (parsed self.new) recv.new }
         ensures start { self.new.start ≡ self.old.start }
         ensures left { OnOk result ((parsed self.new).left ≤ (parsed self.old).left) }
     {
         'events: loop {
-            let (event, mark) = match self.next_token() {
-                Ok(next) => next,
+            let last = match self.push_next(recv) {
+                Ok(last) => last,
                 Err(error) => return Err(error),
             };
-            let last = is_document_end(&event);
-            if let Err(error) = recv.on_event(event, mark) {
-                return Err(error);
-            }
             if last {
                 return Ok(());
             }

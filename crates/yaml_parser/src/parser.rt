@@ -6,13 +6,16 @@ ghost use Rattle.std.specs.Str.Iter.{chars_rest};
 ghost use Rattle.yaml_chars.specs.Reading.{HasNoNul};
 ghost use Rattle.yaml_chars.specs.Source.{CameFrom};
 ghost use Rattle.yaml_scanner.specs.Scanned.{Scans};
-ghost use Rattle.yaml_parser.specs.Parsed.{parsed, is_fresh, stays_steady, is_stream_end};
+ghost use Rattle.yaml_parser.specs.Loads.{PushesNext};
+ghost use Rattle.yaml_parser.specs.Nests.{IsInside};
+ghost use Rattle.yaml_parser.specs.Parsed.{parsed, is_fresh, stays_steady, is_stream_end, is_document_end};
 ghost use Rattle.yaml_parser.specs.Pulls.{GivesEvent, Pulls, Looks, ShowsNext, MeetsFault, PeekLeaves, ShowsLooked, answer_of};
 ghost use Rattle.yaml_parser.specs.Shown.{placed, ev_of};
 ghost use Rattle.yaml_parser.specs.View.{no_document};
 
 use crate::event::{Event, ParseResult};
 use crate::pull::Pull;
+use crate::receiver::MarkedEventReceiver;
 use std::alloc::Global;
 use std::marker::Model;
 use std::str::Chars;
@@ -40,6 +43,12 @@ fn ends(ended: bool, event: &Event) -> bool
         Event::StreamEnd => true,
         _ => false,
     }
+}
+
+fn is_document_end(event: &Event) -> bool
+    ensures { result ≡ is_document_end (ev_of event.now) }
+{
+    matches!(event, Event::DocumentEnd)
 }
 
 /// Reads characters as events (YAML 1.2, chapters 6 to 9). [`next_token`](Parser::next_token) gives the next event,
@@ -261,6 +270,35 @@ impl<T: Iterator<Item = char>> Parser<T> {
             self.ended = ends(self.ended, &event.0);
         }
         next
+    }
+
+    /// Pushes the next event of a document, where none waits and no fault is kept. The result says whether it is the
+    /// document's end.
+    #[inline(always)]
+    pub(crate) fn push_next<R: MarkedEventReceiver>(
+        &mut self,
+        recv: &mut R,
+    ) -> Result<bool, ScanError>
+        requires inside { IsInside (parsed self.old) }
+        requires none { (parsed self.old).ahead ≡ None }
+        requires clear { (parsed self.old).fault ≡ None }
+        ensures pushes { PushesNext R.takes (parsed self.old) recv.old result (parsed self.new) recv.new }
+        ensures start { self.new.start ≡ self.old.start }
+    {
+        match self.pull.advance() {
+            Ok(next) => {
+                note(&mut self.given, &next, self.ended);
+                self.started = true;
+                self.ended = ends(self.ended, &next.0);
+                let (event, mark) = next;
+                let last = is_document_end(&event);
+                if let Err(error) = recv.on_event(event, mark) {
+                    return Err(error);
+                }
+                Ok(last)
+            }
+            Err(stop) => Err(self.pull.keep(stop)),
+        }
     }
 
     /// Whether an event waits.

@@ -1,16 +1,16 @@
-ghost use Rattle.std.specs.Prelude.{◌≡◌, ◌⊎◌, ◌^◌, ◌<◌, ◌≤◌, List, [], ◌∷◌, true, false, Some, None, Ok, Err, IfOk, IfErr, IfSome, OnOk};
+ghost use Rattle.std.specs.Prelude.{◌≡◌, ◌≢◌, ◌⊎◌, ◌^◌, ◌<◌, ◌≤◌, List, [], ◌∷◌, true, false, Some, None, Ok, Err, IfOk, IfErr, IfSome, OnOk};
 ghost use Rattle.std.specs.Iterator.{IsFinite, size};
 ghost use Rattle.yaml_scanner.specs.Scanned.{scanned};
 ghost use Rattle.model_parser.specs.declared.state.State.TheVariants.{StreamStart};
 ghost use Rattle.yaml_parser.specs.Shown.{placed, ev_of};
 ghost use Rattle.defs_text.specs.Position.{Position};
 ghost use Rattle.defs_event.specs.Event.{Ev};
-ghost use Rattle.yaml_parser.specs.Held.{IsHeld, Continues};
+ghost use Rattle.yaml_parser.specs.Held.{IsHeld, Continues, Advances};
 ghost use Rattle.yaml_parser.specs.View.{fault_kept};
 
 use crate::event::{Event, ParseResult};
 use crate::names::Names;
-use crate::reader::Reader;
+use crate::reader::{Answer, Reader};
 use crate::stack::Stack;
 use crate::tokens::{KeptStop, Stop, Tokens};
 use std::alloc::Global;
@@ -75,9 +75,27 @@ impl<T: Iterator<Item = char>> Pull<T> {
         }
     }
 
+    /// The next event, before the stream's end. A fault is not kept yet: see [`keep`](Pull::keep).
+    #[inline(always)]
+    pub fn advance(&mut self) -> Answer
+        requires { self.old.reader.stack ≢ [] }
+        ensures advances { (read : List (Ev × Position)) → IsHeld self.old.reader read None → Advances self.old read result self.new }
+        ensures kept { self.new.kept ≡ self.old.kept }
+        ensures start { self.new.reader.tokens.scanner.start ≡ self.old.reader.tokens.scanner.start }
+    {
+        let Some(state) = self.reader.stack.pop() else {
+            unreachable!()
+        };
+        let next = self.reader.next(state);
+        if let Ok(_) = &next {
+            self.reader.names.keeping.note();
+        }
+        next
+    }
+
     /// Keeps a fault, and gives it as callers see it.
     #[inline(never)]
-    fn keep(&mut self, stop: Stop) -> ScanError
+    pub fn keep(&mut self, stop: Stop) -> ScanError
         ensures kept { fault_kept self.new ≡ Some result }
         ensures stop { IfSome self.new.kept (λ k. k.stop ≡ stop) }
         ensures reader { self.new.reader ≡ self.old.reader }

@@ -72,4 +72,8 @@ load_document-requires g c =
     let e : Ev = ev_of c.in_ok-event.event in
     let end : is_stream_end e ≡ false = sym c.is_stream_end.ensures ∙ c.if-is_stream_end.false in
     let start : is_document_start e ≡ true = sym c.is_document_start.ensures ∙ c.if-not-is_document_start.false in
-    starts_inside c.in_ok-event.ensures.pulls end start
+    record {
+      inside = starts_inside c.in_ok-event.ensures.pulls end start;
+      none = c.in_ok-event.ensures.pulls.ahead;
+      clear = c.in_ok-event.ensures.pulls.sound.fault;
+    }

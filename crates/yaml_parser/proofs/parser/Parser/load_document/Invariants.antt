@@ -1,4 +1,4 @@
-use Rattle.std.proofs.Common.{◌≡◌, ◌≤◌, Bool}
+use Rattle.std.proofs.Common.{◌≡◌, ◌≤◌, Bool, None}
 use Rattle.defs_event.specs.Push.{inside}
 use Rattle.yaml_parser.specs.Nests.{IsInside}
 use Rattle.yaml_parser.specs.Parsed.{Parsed, parsed}
@@ -11,6 +11,8 @@ invariant-events g l = record {
   start : l.self.start ≡ l.fn.self.start;
   left : (parsed l.self).left ≤ (parsed l.fn.self).left;
   stays : IsInside (parsed l.self);
+  none : (parsed l.self).ahead ≡ None;
+  clear : (parsed l.self).fault ≡ None;
 }
 
 abbrev pub decreases-events : goal.decreases-events
