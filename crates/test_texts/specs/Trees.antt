@@ -9,3 +9,4 @@ pub use Rattle.yaml_rust2.specs.Pairs.{AreDistinct, insert, last_of, lookup, pla
 pub use Rattle.yaml_rust2.specs.Tree.{Tree, items_of, pairs_of}
 pub use Rattle.yaml_rust2.specs.Typing.{typing}
 pub use Rattle.yaml_rust2.specs.View.{array_tree, hash_tree, items_view, pair_view, pairs_view, view}
+pub use Rattle.yaml_rust2.specs.Writes.{with_index_value, with_text_value}

@@ -53,6 +53,7 @@ pub use Rattle.yaml_tree.specs.Feed
 pub use Rattle.yaml_tree.specs.Items
 pub use Rattle.yaml_tree.specs.Node
 pub use Rattle.yaml_tree.specs.View
+pub use Rattle.yaml_tree.specs.Writes
 pub use Rattle.yaml_emitter.specs.Emitter
 pub use Rattle.yaml_emitter.specs.FmtText
 pub use Rattle.yaml_emitter.specs.Strings
