@@ -1,5 +1,6 @@
 pub mod Anchors
 pub mod FrontMatter
 pub mod Ports
+pub mod Rows
 pub mod Servers
 pub mod Settings

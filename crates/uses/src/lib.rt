@@ -23,3 +23,4 @@ pub mod round_trip;
 pub mod settings;
 pub mod strangers;
 pub mod validator;
+pub mod rows;
