@@ -38,7 +38,7 @@ alias_where_tags_are_kept = refl
 -- `[*a, &a 1]`: the anchor stands after
 alias_before_its_anchor :
     named false no_names (raw_stream (raw_document []
-    (Raw.flow_sequence_start None None ∷ Raw.alias (codes "a") ∷ anchored_raw (codes "a") (codes "1") ∷ Raw.sequence_end ∷ []) [])) ≡ None
+    (Raw.flow_sequence_start None None ∷ Raw.alias (codes "a") ∷ anchored_raw (codes "a") (codes "1") ∷ Raw.flow_sequence_end ∷ []) [])) ≡ None
 alias_before_its_anchor = refl
 
 -- An anchor counts over the stream, and is 1 more than those before.

@@ -17,9 +17,12 @@ Shaped (Raw.scalar x s a t ∷ r) es = (n : ℕ) × (u : Option Tag) × (vs : Li
 Shaped (Raw.empty_scalar a t ∷ r) es = (n : ℕ) × (u : Option Tag) × (vs : List Ev) × (es ≡ Ev.scalar [] Style.plain n u ∷ vs) × Shaped r vs
 Shaped (Raw.flow_sequence_start a t ∷ r) es = (n : ℕ) × (u : Option Tag) × (vs : List Ev) × (es ≡ Ev.sequence_start n u ∷ vs) × Shaped r vs
 Shaped (Raw.sequence_start a t ∷ r) es = (n : ℕ) × (u : Option Tag) × (vs : List Ev) × (es ≡ Ev.sequence_start n u ∷ vs) × Shaped r vs
+Shaped (Raw.flow_sequence_end ∷ r) es = (vs : List Ev) × (es ≡ Ev.sequence_end ∷ vs) × Shaped r vs
 Shaped (Raw.sequence_end ∷ r) es = (vs : List Ev) × (es ≡ Ev.sequence_end ∷ vs) × Shaped r vs
 Shaped (Raw.flow_mapping_start a t ∷ r) es = (n : ℕ) × (u : Option Tag) × (vs : List Ev) × (es ≡ Ev.mapping_start n u ∷ vs) × Shaped r vs
 Shaped (Raw.mapping_start a t ∷ r) es = (n : ℕ) × (u : Option Tag) × (vs : List Ev) × (es ≡ Ev.mapping_start n u ∷ vs) × Shaped r vs
+Shaped (Raw.pair_start ∷ r) es = (vs : List Ev) × (es ≡ Ev.mapping_start 0 None ∷ vs) × Shaped r vs
+Shaped (Raw.flow_mapping_end ∷ r) es = (vs : List Ev) × (es ≡ Ev.mapping_end ∷ vs) × Shaped r vs
 Shaped (Raw.mapping_end ∷ r) es = (vs : List Ev) × (es ≡ Ev.mapping_end ∷ vs) × Shaped r vs
 
 -- the first event and those after it
@@ -87,6 +90,7 @@ named_shaped k s (Raw.flow_sequence_start a t ∷ r) es h =
 named_shaped k s (Raw.sequence_start a t ∷ r) es h =
     let s' = names_after k s (Raw.sequence_start a t) in
     valued (number s a) (λ n u. Ev.sequence_start n u) (perhaps_resolved s.handles t) k s' r es h (named_shaped k s' r)
+named_shaped k s (Raw.flow_sequence_end ∷ r) es h = fixed Ev.sequence_end k s r es h (named_shaped k s r)
 named_shaped k s (Raw.sequence_end ∷ r) es h = fixed Ev.sequence_end k s r es h (named_shaped k s r)
 named_shaped k s (Raw.flow_mapping_start a t ∷ r) es h =
     let s' = names_after k s (Raw.flow_mapping_start a t) in
@@ -94,4 +98,6 @@ named_shaped k s (Raw.flow_mapping_start a t ∷ r) es h =
 named_shaped k s (Raw.mapping_start a t ∷ r) es h =
     let s' = names_after k s (Raw.mapping_start a t) in
     valued (number s a) (λ n u. Ev.mapping_start n u) (perhaps_resolved s.handles t) k s' r es h (named_shaped k s' r)
+named_shaped k s (Raw.pair_start ∷ r) es h = fixed (Ev.mapping_start 0 None) k s r es h (named_shaped k s r)
+named_shaped k s (Raw.flow_mapping_end ∷ r) es h = fixed Ev.mapping_end k s r es h (named_shaped k s r)
 named_shaped k s (Raw.mapping_end ∷ r) es h = fixed Ev.mapping_end k s r es h (named_shaped k s r)

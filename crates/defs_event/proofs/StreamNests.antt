@@ -67,12 +67,12 @@ mutual
   item_nests : (x : Item) (r : List Raw) (es : List Ev) → Shaped (item_events x r) es → Yields nest_events r es
   item_nests (single n) r es h = flow_node_nests n r es h
   item_nests (single_pair k v) r es h =
-      let y = perhaps_flow_nests k (flow_value_events v (Raw.mapping_end ∷ r)) h.2 h.4 in
+      let y = perhaps_flow_nests k (flow_value_events v (Raw.mapping_end ∷ r)) h.0 h.2 in
       let z = flow_value_nests v (Raw.mapping_end ∷ r) y.more y.rest in
       record {
-        it = nested_mapping h.0 h.1 (nest_pair y.it z.it no_nest_pairs);
+        it = nested_mapping 0 None (nest_pair y.it z.it no_nest_pairs);
         more = z.rest.0;
-        whole = h.3 ∙ ap (λ vs. Ev.mapping_start h.0 h.1 ∷ vs) (y.whole ∙ ap (nest_events y.it) (z.whole ∙ ap (nest_events z.it) z.rest.1));
+        whole = h.1 ∙ ap (λ vs. Ev.mapping_start 0 None ∷ vs) (y.whole ∙ ap (nest_events y.it) (z.whole ∙ ap (nest_events z.it) z.rest.1));
         rest = z.rest.2;
       }
 

@@ -310,30 +310,30 @@ abbrev mutual
   perhaps_flow_events (some_flow n) r = flow_node_events n r
 
   pub items_events : Items → List Raw → List Raw
-  items_events no_items r = Raw.sequence_end ∷ r
+  items_events no_items r = Raw.flow_sequence_end ∷ r
   items_events (items i m) r = item_events i (more_items_events m r)
 
   pub more_items_events : MoreItems → List Raw → List Raw
-  more_items_events end_items r = Raw.sequence_end ∷ r
-  more_items_events comma_end_items r = Raw.sequence_end ∷ r
+  more_items_events end_items r = Raw.flow_sequence_end ∷ r
+  more_items_events comma_end_items r = Raw.flow_sequence_end ∷ r
   more_items_events (comma_item i m) r = item_events i (more_items_events m r)
 
   pub item_events : Item → List Raw → List Raw
   item_events (single n) r = flow_node_events n r
   item_events (single_pair k v) r =
-      Raw.mapping_start None None ∷ perhaps_flow_events k (flow_value_events v (Raw.mapping_end ∷ r))
+      Raw.pair_start ∷ perhaps_flow_events k (flow_value_events v (Raw.mapping_end ∷ r))
 
   pub flow_value_events : FlowValue → List Raw → List Raw
   flow_value_events no_flow_value r = nothing_written ∷ r
   flow_value_events (flow_value v) r = perhaps_flow_events v r
 
   pub flow_pairs_events : FlowPairs → List Raw → List Raw
-  flow_pairs_events no_flow_pairs r = Raw.mapping_end ∷ r
+  flow_pairs_events no_flow_pairs r = Raw.flow_mapping_end ∷ r
   flow_pairs_events (flow_pairs p m) r = flow_pair_events p (more_flow_pairs_events m r)
 
   pub more_flow_pairs_events : MoreFlowPairs → List Raw → List Raw
-  more_flow_pairs_events end_flow_pairs r = Raw.mapping_end ∷ r
-  more_flow_pairs_events comma_end_flow_pairs r = Raw.mapping_end ∷ r
+  more_flow_pairs_events end_flow_pairs r = Raw.flow_mapping_end ∷ r
+  more_flow_pairs_events comma_end_flow_pairs r = Raw.flow_mapping_end ∷ r
   more_flow_pairs_events (comma_flow_pair p m) r = flow_pair_events p (more_flow_pairs_events m r)
 
   pub flow_pair_events : FlowPair → List Raw → List Raw

@@ -118,9 +118,12 @@ resolved_event s (Raw.scalar text style a t) = option_map (λ u. Ev.scalar text 
 resolved_event s (Raw.empty_scalar a t) = option_map (λ u. Ev.scalar [] Style.plain (number s a) u) (perhaps_resolved s.handles t)
 resolved_event s (Raw.flow_sequence_start a t) = option_map (λ u. Ev.sequence_start (number s a) u) (perhaps_resolved s.handles t)
 resolved_event s (Raw.sequence_start a t) = option_map (λ u. Ev.sequence_start (number s a) u) (perhaps_resolved s.handles t)
+resolved_event s Raw.flow_sequence_end = Some Ev.sequence_end
 resolved_event s Raw.sequence_end = Some Ev.sequence_end
 resolved_event s (Raw.flow_mapping_start a t) = option_map (λ u. Ev.mapping_start (number s a) u) (perhaps_resolved s.handles t)
 resolved_event s (Raw.mapping_start a t) = option_map (λ u. Ev.mapping_start (number s a) u) (perhaps_resolved s.handles t)
+resolved_event s Raw.pair_start = Some (Ev.mapping_start 0 None)
+resolved_event s Raw.flow_mapping_end = Some Ev.mapping_end
 resolved_event s Raw.mapping_end = Some Ev.mapping_end
 
 abbrev pub both : Option Ev → Option (List Ev) → Option (List Ev)

@@ -10,7 +10,7 @@ pub data Directive : Type 0 where
   tag : (handle prefix : List ℕ) → Directive
 
 -- An event that has a token of its own is distinguished from one of its kind that has none: a scalar from an empty one, a flow
--- collection's start from that of a block collection or of a single pair.
+-- collection's start and end from those of a block collection, and the start of a single pair in a flow sequence from both.
 pub data Raw : Type 0 where
   stream_start : Raw
   stream_end : Raw
@@ -21,9 +21,13 @@ pub data Raw : Type 0 where
   empty_scalar : (anchor : Option (List ℕ)) → Option Tag → Raw
   flow_sequence_start : (anchor : Option (List ℕ)) → Option Tag → Raw
   sequence_start : (anchor : Option (List ℕ)) → Option Tag → Raw
+  flow_sequence_end : Raw
   sequence_end : Raw
   flow_mapping_start : (anchor : Option (List ℕ)) → Option Tag → Raw
   mapping_start : (anchor : Option (List ℕ)) → Option Tag → Raw
+  -- of a pair in a flow sequence that begins with `?`; it has no properties, and its end is a `mapping_end`
+  pair_start : Raw
+  flow_mapping_end : Raw
   mapping_end : Raw
 
 -- a scalar that is not written: plain and empty, without anchor and tag

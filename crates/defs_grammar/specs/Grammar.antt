@@ -34,9 +34,9 @@ event_of h Tok.document_end = Raw.document_end
 event_of h (Tok.alias name) = Raw.alias name
 event_of h (Tok.scalar style text) = Raw.scalar text style h.anchor h.tag
 event_of h Tok.flow_sequence_start = Raw.flow_sequence_start h.anchor h.tag
-event_of h Tok.flow_sequence_end = Raw.sequence_end
+event_of h Tok.flow_sequence_end = Raw.flow_sequence_end
 event_of h Tok.flow_mapping_start = Raw.flow_mapping_start h.anchor h.tag
-event_of h Tok.flow_mapping_end = Raw.mapping_end
+event_of h Tok.flow_mapping_end = Raw.flow_mapping_end
 event_of h Tok.block_sequence_start = Raw.sequence_start h.anchor h.tag
 event_of h Tok.block_mapping_start = Raw.mapping_start h.anchor h.tag
 -- a sequence without indentation has no token for its start: its first entry has the event
@@ -186,7 +186,7 @@ cases block_mapping_value =
 -- flow collections (chapter 7); a pair in a flow sequence is a mapping of its own
 cases flow_sequence_entries =
     on begins_flow_node (leaves (read (node in_flow) ∷ read flow_sequence_comma ∷ []))
-    ∷ on is_key (takes (say (Raw.mapping_start None None) ∷ read (node in_flow) ∷ read flow_value ∷ say Raw.mapping_end ∷ read flow_sequence_comma ∷ []))
+    ∷ on is_key (takes (say Raw.pair_start ∷ read (node in_flow) ∷ read flow_value ∷ say Raw.mapping_end ∷ read flow_sequence_comma ∷ []))
     ∷ on is_flow_sequence_end (takes (show ∷ []))
     ∷ []
 cases flow_sequence_comma =

@@ -18,12 +18,12 @@ use Rattle.model_parser.proofs.Nodes.{tail_eq}
 
 -- ---- a flow sequence
 
-items_end_goes : (ss : List State) (x : Items) → Goes at.items ss Tok.flow_sequence_end (Some Raw.sequence_end) at.done ss x
+items_end_goes : (ss : List State) (x : Items) → Goes at.items ss Tok.flow_sequence_end (Some Raw.flow_sequence_end) at.done ss x
 items_end_goes ss no_items r ts h = (tt, r, tail_eq h, refl)
 items_end_goes ss (items (single n) m) r ts h = absurd (clash_cons (begins_node context.Flow) _ Tok.flow_sequence_end ts (flow_node_first n _) refl h)
 items_end_goes ss (items (single_pair k v) m) r ts h = cc
 
-pub items_end : (ss : List State) → Takes at.items ss Tok.flow_sequence_end (Some Raw.sequence_end) at.done ss
+pub items_end : (ss : List State) → Takes at.items ss Tok.flow_sequence_end (Some Raw.flow_sequence_end) at.done ss
 items_end ss = record { nested = λ n f. (n, f); comes = λ x' r'. (no_items, r', refl, refl); goes = λ n f. items_end_goes ss }
 
 items_item_goes : (ss : List State) (t : Tok) → kind_of t ≢ kind.FlowSequenceEnd → (x : Items) → Stays at.items ss (Some t) None at.item ss x
@@ -33,12 +33,12 @@ items_item_goes ss t a (items i m) r h = ((i, m), r, refl, refl)
 pub items_item : (ss : List State) (t : Tok) → kind_of t ≢ kind.FlowSequenceEnd → Leaves at.items ss (Some t) None at.item ss
 items_item ss t a = record { nested = λ n f. (n, f); comes = λ x' r'. (items x'.0 x'.1, r', refl, refl); goes = λ n f. items_item_goes ss t a }
 
-more_items_end_goes : (ss : List State) (x : MoreItems) → Goes at.more_items ss Tok.flow_sequence_end (Some Raw.sequence_end) at.done ss x
+more_items_end_goes : (ss : List State) (x : MoreItems) → Goes at.more_items ss Tok.flow_sequence_end (Some Raw.flow_sequence_end) at.done ss x
 more_items_end_goes ss end_items r ts h = (tt, r, tail_eq h, refl)
 more_items_end_goes ss comma_end_items r ts h = cc
 more_items_end_goes ss (comma_item i m) r ts h = cc
 
-pub more_items_end : (ss : List State) → Takes at.more_items ss Tok.flow_sequence_end (Some Raw.sequence_end) at.done ss
+pub more_items_end : (ss : List State) → Takes at.more_items ss Tok.flow_sequence_end (Some Raw.flow_sequence_end) at.done ss
 more_items_end ss = record { nested = λ n f. (n, f); comes = λ x' r'. (end_items, r', refl, refl); goes = λ n f. more_items_end_goes ss }
 
 more_items_comma_goes : (ss : List State) (x : MoreItems) → Goes at.more_items ss Tok.flow_entry None at.comma_items ss x
@@ -58,12 +58,12 @@ more_items_refuses ss t a b n f end_items r h = a (ap kind_of (sym h))
 more_items_refuses ss t a b n f comma_end_items r h = b (ap kind_of (sym h))
 more_items_refuses ss t a b n f (comma_item i m) r h = b (ap kind_of (sym h))
 
-comma_items_end_goes : (ss : List State) (x : Comma) → Goes at.comma_items ss Tok.flow_sequence_end (Some Raw.sequence_end) at.done ss x
+comma_items_end_goes : (ss : List State) (x : Comma) → Goes at.comma_items ss Tok.flow_sequence_end (Some Raw.flow_sequence_end) at.done ss x
 comma_items_end_goes ss last r ts h = (tt, r, tail_eq h, refl)
 comma_items_end_goes ss (another (single n) m) r ts h = absurd (clash_cons (begins_node context.Flow) _ Tok.flow_sequence_end ts (flow_node_first n _) refl h)
 comma_items_end_goes ss (another (single_pair k v) m) r ts h = cc
 
-pub comma_items_end : (ss : List State) → Takes at.comma_items ss Tok.flow_sequence_end (Some Raw.sequence_end) at.done ss
+pub comma_items_end : (ss : List State) → Takes at.comma_items ss Tok.flow_sequence_end (Some Raw.flow_sequence_end) at.done ss
 comma_items_end ss = record { nested = λ n f. (n, f); comes = λ x' r'. (last, r', refl, refl); goes = λ n f. comma_items_end_goes ss }
 
 comma_items_item_goes : (ss : List State) (t : Tok) → kind_of t ≢ kind.FlowSequenceEnd → (x : Comma) → Stays at.comma_items ss (Some t) None at.item ss x
@@ -73,11 +73,11 @@ comma_items_item_goes ss t a (another i m) r h = ((i, m), r, refl, refl)
 pub comma_items_item : (ss : List State) (t : Tok) → kind_of t ≢ kind.FlowSequenceEnd → Leaves at.comma_items ss (Some t) None at.item ss
 comma_items_item ss t a = record { nested = λ n f. (n, f); comes = λ x' r'. (another x'.0 x'.1, r', refl, refl); goes = λ n f. comma_items_item_goes ss t a }
 
-item_key_goes : (ss : List State) (x : Item × MoreItems) → Goes at.item ss Tok.key (Some (Raw.mapping_start None None)) at.done (state.FlowSequenceEntryMappingKey ∷ ss) x
+item_key_goes : (ss : List State) (x : Item × MoreItems) → Goes at.item ss Tok.key (Some Raw.pair_start) at.done (state.FlowSequenceEntryMappingKey ∷ ss) x
 item_key_goes ss (single n, m) r ts h = absurd (clash_cons (begins_node context.Flow) _ Tok.key ts (flow_node_first n _) refl h)
 item_key_goes ss (single_pair k v, m) r ts h = (tt, ((k, v, m), r), tail_eq h, refl)
 
-pub item_key : (ss : List State) → Takes at.item ss Tok.key (Some (Raw.mapping_start None None)) at.done (state.FlowSequenceEntryMappingKey ∷ ss)
+pub item_key : (ss : List State) → Takes at.item ss Tok.key (Some Raw.pair_start) at.done (state.FlowSequenceEntryMappingKey ∷ ss)
 item_key ss = record { nested = λ n f. ((f, n), tt); comes = λ x' r'. ((single_pair r'.0.0 r'.0.1, r'.0.2), r'.1, refl, refl); goes = λ n f. item_key_goes ss }
 
 item_node_goes : (ss : List State) (t : Tok) → kind_of t ≢ kind.Key → (x : Item × MoreItems) → Stays at.item ss (Some t) None (at.node context.Flow) (state.FlowSequenceEntry ∷ ss) x
@@ -116,13 +116,13 @@ pair_ends ss p = record { nested = λ n f. ((f, n), tt); comes = λ x' r'. (r'.0
 
 -- ---- a flow mapping
 
-flow_pairs_end_goes : (ss : List State) (x : FlowPairs) → Goes at.flow_pairs ss Tok.flow_mapping_end (Some Raw.mapping_end) at.done ss x
+flow_pairs_end_goes : (ss : List State) (x : FlowPairs) → Goes at.flow_pairs ss Tok.flow_mapping_end (Some Raw.flow_mapping_end) at.done ss x
 flow_pairs_end_goes ss no_flow_pairs r ts h = (tt, r, tail_eq h, refl)
 flow_pairs_end_goes ss (flow_pairs (flow_keyed k v) m) r ts h = cc
 flow_pairs_end_goes ss (flow_pairs (flow_keyless v) m) r ts h = cc
 flow_pairs_end_goes ss (flow_pairs (flow_single n) m) r ts h = absurd (clash_cons (begins_node context.Flow) _ Tok.flow_mapping_end ts (flow_node_first n _) refl h)
 
-pub flow_pairs_end : (ss : List State) → Takes at.flow_pairs ss Tok.flow_mapping_end (Some Raw.mapping_end) at.done ss
+pub flow_pairs_end : (ss : List State) → Takes at.flow_pairs ss Tok.flow_mapping_end (Some Raw.flow_mapping_end) at.done ss
 flow_pairs_end ss = record { nested = λ n f. (n, f); comes = λ x' r'. (no_flow_pairs, r', refl, refl); goes = λ n f. flow_pairs_end_goes ss }
 
 flow_pairs_pair_goes : (ss : List State) (t : Tok) → kind_of t ≢ kind.FlowMappingEnd → (x : FlowPairs) → Stays at.flow_pairs ss (Some t) None at.flow_pair ss x
@@ -132,12 +132,12 @@ flow_pairs_pair_goes ss t a (flow_pairs p m) r h = ((p, m), r, refl, refl)
 pub flow_pairs_pair : (ss : List State) (t : Tok) → kind_of t ≢ kind.FlowMappingEnd → Leaves at.flow_pairs ss (Some t) None at.flow_pair ss
 flow_pairs_pair ss t a = record { nested = λ n f. (n, f); comes = λ x' r'. (flow_pairs x'.0 x'.1, r', refl, refl); goes = λ n f. flow_pairs_pair_goes ss t a }
 
-more_flow_end_goes : (ss : List State) (x : MoreFlowPairs) → Goes at.more_flow_pairs ss Tok.flow_mapping_end (Some Raw.mapping_end) at.done ss x
+more_flow_end_goes : (ss : List State) (x : MoreFlowPairs) → Goes at.more_flow_pairs ss Tok.flow_mapping_end (Some Raw.flow_mapping_end) at.done ss x
 more_flow_end_goes ss end_flow_pairs r ts h = (tt, r, tail_eq h, refl)
 more_flow_end_goes ss comma_end_flow_pairs r ts h = cc
 more_flow_end_goes ss (comma_flow_pair p m) r ts h = cc
 
-pub more_flow_end : (ss : List State) → Takes at.more_flow_pairs ss Tok.flow_mapping_end (Some Raw.mapping_end) at.done ss
+pub more_flow_end : (ss : List State) → Takes at.more_flow_pairs ss Tok.flow_mapping_end (Some Raw.flow_mapping_end) at.done ss
 more_flow_end ss = record { nested = λ n f. (n, f); comes = λ x' r'. (end_flow_pairs, r', refl, refl); goes = λ n f. more_flow_end_goes ss }
 
 more_flow_comma_goes : (ss : List State) (x : MoreFlowPairs) → Goes at.more_flow_pairs ss Tok.flow_entry None at.comma_flow_pairs ss x
@@ -157,13 +157,13 @@ more_flow_refuses ss t a b n f end_flow_pairs r h = a (ap kind_of (sym h))
 more_flow_refuses ss t a b n f comma_end_flow_pairs r h = b (ap kind_of (sym h))
 more_flow_refuses ss t a b n f (comma_flow_pair i m) r h = b (ap kind_of (sym h))
 
-comma_flow_end_goes : (ss : List State) (x : FlowComma) → Goes at.comma_flow_pairs ss Tok.flow_mapping_end (Some Raw.mapping_end) at.done ss x
+comma_flow_end_goes : (ss : List State) (x : FlowComma) → Goes at.comma_flow_pairs ss Tok.flow_mapping_end (Some Raw.flow_mapping_end) at.done ss x
 comma_flow_end_goes ss last_pair r ts h = (tt, r, tail_eq h, refl)
 comma_flow_end_goes ss (another_pair (flow_keyed k v) m) r ts h = cc
 comma_flow_end_goes ss (another_pair (flow_keyless v) m) r ts h = cc
 comma_flow_end_goes ss (another_pair (flow_single n) m) r ts h = absurd (clash_cons (begins_node context.Flow) _ Tok.flow_mapping_end ts (flow_node_first n _) refl h)
 
-pub comma_flow_end : (ss : List State) → Takes at.comma_flow_pairs ss Tok.flow_mapping_end (Some Raw.mapping_end) at.done ss
+pub comma_flow_end : (ss : List State) → Takes at.comma_flow_pairs ss Tok.flow_mapping_end (Some Raw.flow_mapping_end) at.done ss
 comma_flow_end ss = record { nested = λ n f. (n, f); comes = λ x' r'. (last_pair, r', refl, refl); goes = λ n f. comma_flow_end_goes ss }
 
 comma_flow_pair_goes : (ss : List State) (t : Tok) → kind_of t ≢ kind.FlowMappingEnd → (x : FlowComma) → Stays at.comma_flow_pairs ss (Some t) None at.flow_pair ss x

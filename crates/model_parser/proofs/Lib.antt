@@ -1,5 +1,6 @@
 pub mod First
 pub mod Apart
+pub mod Around
 pub mod Carry
 pub mod Document
 pub mod Nodes

@@ -27,9 +27,12 @@ shape_of (Raw.scalar x s a t) = Ev.scalar x s 0 None
 shape_of (Raw.empty_scalar a t) = Ev.scalar [] Style.plain 0 None
 shape_of (Raw.flow_sequence_start a t) = Ev.sequence_start 0 None
 shape_of (Raw.sequence_start a t) = Ev.sequence_start 0 None
+shape_of Raw.flow_sequence_end = Ev.sequence_end
 shape_of Raw.sequence_end = Ev.sequence_end
 shape_of (Raw.flow_mapping_start a t) = Ev.mapping_start 0 None
 shape_of (Raw.mapping_start a t) = Ev.mapping_start 0 None
+shape_of Raw.pair_start = Ev.mapping_start 0 None
+shape_of Raw.flow_mapping_end = Ev.mapping_end
 shape_of Raw.mapping_end = Ev.mapping_end
 
 abbrev shut : List Raw → List Open → Bool
@@ -282,9 +285,12 @@ same_shape (Raw.empty_scalar a t ∷ r) es x os =
     same_after (Ev.scalar [] Style.plain x.0 x.1) (Ev.scalar [] Style.plain 0 None) r es x.2 x.3 (same_scalar [] Style.plain x.0 x.1) (same_shape r x.2 x.4) os
 same_shape (Raw.flow_sequence_start a t ∷ r) es x os = same_after (Ev.sequence_start x.0 x.1) (Ev.sequence_start 0 None) r es x.2 x.3 (same_sequence x.0 x.1) (same_shape r x.2 x.4) os
 same_shape (Raw.sequence_start a t ∷ r) es x os = same_after (Ev.sequence_start x.0 x.1) (Ev.sequence_start 0 None) r es x.2 x.3 (same_sequence x.0 x.1) (same_shape r x.2 x.4) os
+same_shape (Raw.flow_sequence_end ∷ r) es x os = same_after Ev.sequence_end Ev.sequence_end r es x.0 x.1 (λ os. refl) (same_shape r x.0 x.2) os
 same_shape (Raw.sequence_end ∷ r) es x os = same_after Ev.sequence_end Ev.sequence_end r es x.0 x.1 (λ os. refl) (same_shape r x.0 x.2) os
 same_shape (Raw.flow_mapping_start a t ∷ r) es x os = same_after (Ev.mapping_start x.0 x.1) (Ev.mapping_start 0 None) r es x.2 x.3 (same_mapping x.0 x.1) (same_shape r x.2 x.4) os
 same_shape (Raw.mapping_start a t ∷ r) es x os = same_after (Ev.mapping_start x.0 x.1) (Ev.mapping_start 0 None) r es x.2 x.3 (same_mapping x.0 x.1) (same_shape r x.2 x.4) os
+same_shape (Raw.pair_start ∷ r) es x os = same_after (Ev.mapping_start 0 None) (Ev.mapping_start 0 None) r es x.0 x.1 (λ os. refl) (same_shape r x.0 x.2) os
+same_shape (Raw.flow_mapping_end ∷ r) es x os = same_after Ev.mapping_end Ev.mapping_end r es x.0 x.1 (λ os. refl) (same_shape r x.0 x.2) os
 same_shape (Raw.mapping_end ∷ r) es x os = same_after Ev.mapping_end Ev.mapping_end r es x.0 x.1 (λ os. refl) (same_shape r x.0 x.2) os
 
 -- events of a stream's shape pass the test

@@ -15,8 +15,8 @@ use Rattle.yaml_parser.specs.Blames.{Blames, WantsMemory}
 use Rattle.yaml_parser.specs.Follows.{listed}
 use Rattle.yaml_parser.specs.Loads.{Receives}
 
--- The text has tokens, these are a stream's, and these are its events: scalars, aliases and flow starts stand at their tokens'
--- positions, the other positions are the parser's own. The events are nested.
+-- The text has tokens, these are a stream's, and these are its events: those with a token of their own stand at its position, the
+-- other positions are the parser's own. The events are nested.
 pub record HasEvents (keep_tags : Bool) (text : List ℕ) (events : List (Ev × Position)) : Type 0 where
   pub tokens : List Token
   pub has : HasTokens text tokens

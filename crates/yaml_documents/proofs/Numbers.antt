@@ -95,7 +95,10 @@ module _ (keep_tags : Bool) (s : Names) (low : ℕ) (h : low ≤ s.count) (o : A
   leaves Raw.stream_start v r = subst (Leaves keep_tags s low Raw.stream_start) (some_is r) (same_names Raw.stream_start Ev.stream_start refl tt refl refl)
   leaves Raw.stream_end v r = subst (Leaves keep_tags s low Raw.stream_end) (some_is r) (same_names Raw.stream_end Ev.stream_end refl tt refl refl)
   leaves Raw.document_end v r = subst (Leaves keep_tags s low Raw.document_end) (some_is r) (same_names Raw.document_end Ev.document_end refl tt refl refl)
+  leaves Raw.flow_sequence_end v r = subst (Leaves keep_tags s low Raw.flow_sequence_end) (some_is r) (same_names Raw.flow_sequence_end Ev.sequence_end refl tt refl refl)
   leaves Raw.sequence_end v r = subst (Leaves keep_tags s low Raw.sequence_end) (some_is r) (same_names Raw.sequence_end Ev.sequence_end refl tt refl refl)
+  leaves Raw.pair_start v r = subst (Leaves keep_tags s low Raw.pair_start) (some_is r) (same_names Raw.pair_start (Ev.mapping_start 0 None) refl tt refl refl)
+  leaves Raw.flow_mapping_end v r = subst (Leaves keep_tags s low Raw.flow_mapping_end) (some_is r) (same_names Raw.flow_mapping_end Ev.mapping_end refl tt refl refl)
   leaves Raw.mapping_end v r = subst (Leaves keep_tags s low Raw.mapping_end) (some_is r) (same_names Raw.mapping_end Ev.mapping_end refl tt refl refl)
   leaves (Raw.document_start ds) v r = by (are_allowed ds) r
     where

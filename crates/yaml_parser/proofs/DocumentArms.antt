@@ -19,7 +19,7 @@ use Rattle.defs_event.specs.Grammar.{directive_token, directives_tokens, perhaps
 use Rattle.defs_event.specs.Names as defs
 use Rattle.defs_event.specs.Names.{declared, versions, is_each_once, are_allowed, at_document, under_name}
 use Rattle.defs_token.specs.Toks.{toks}
-use Rattle.defs_event.specs.Stream.{events_of, gives_position}
+use Rattle.defs_event.specs.Stream.{events_of, gives_position, is_comma}
 use Rattle.model_parser.specs.declared.kind.Kind.{Kind}
 use Rattle.model_parser.specs.declared.kind.Kind.TheVariants as kind
 use Rattle.model_parser.specs.declared.context.NodeContext.TheVariants as context
@@ -44,7 +44,7 @@ use Rattle.yaml_parser.specs.Directing.{Directing, DirectsTo, IsAfter}
 use Rattle.yaml_parser.specs.Blames.{fits, is_of_names, IsCause, SpoilsDirectives}
 use Rattle.yaml_parser.specs.At.{At, Stayed, Faulted, Carries, is_over}
 use Rattle.yaml_parser.proofs.Steps.{looked, taken_snoc, took, took_on, left, left_as, if_some_at}
-use Rattle.yaml_parser.proofs.Arms.{Skipped, no_positions, faulted_as}
+use Rattle.yaml_parser.proofs.Arms.{Skipped, no_positions, counts, faulted_as}
 use Rattle.yaml_parser.proofs.NodeArms.{unnamed_at, unnameable_first}
 use Rattle.yaml_parser.proofs.Ways.{goes_apart, directed_ways}
 use Rattle.yaml_parser.proofs.DirectiveLemmas.{named_alike, own_alike, version_ignored, version_snoc, tag_snoc, versions_append}
@@ -81,7 +81,7 @@ explicit_begins {T} m {p} {q} {r} {k} {names} {given} here h tokens stack keep s
       took m l.1 (subst (λ y. Skips y t r.tokens) tokens x.tokens) (x.stack ∙ ap (λ ss. state.DocumentContent ∷ ss) stack)
           (subst (λ u. Takes at.explicit p.stack u (Some (Raw.document_start [])) at.done (state.DocumentContent ∷ p.stack)) (sym same) (turn.explicit_start p.stack))
           (record { resolves = refl; after_it = refl; keep = ap (λ n. n.keeping) x.names ∙ keep; code = subst (λ n. IsNamed n (at_document p.names.keeping.tags names [])) (sym x.names) (starts names a.code); pending = tt })
-          (λ b. (refl, ap is_end same)) (no_positions m refl (ap gives_position same)) a,
+          (λ b. (refl, ap is_end same)) (no_positions m refl (ap counts same)) a,
     )
 
 -- The stream ends.
@@ -95,7 +95,7 @@ stream_ends {T} m {p} {r} {k} {names} {given} here h skip a =
       names,
       took m l.1 x.tokens x.stack (subst (λ u. Takes at.explicit p.stack u (Some Raw.stream_end) at.ended p.stack) (sym same) (turn.explicit_end p.stack))
           (record { resolves = refl; after_it = refl; keep = ap (λ n. n.keeping) x.names; code = subst (λ n. IsNamed n names) (sym x.names) a.code; pending = tt })
-          (λ b. let no : true ≡ false = b in cc) (no_positions m refl (ap gives_position same)) a,
+          (λ b. let no : true ≡ false = b in cc) (no_positions m refl (ap counts same)) a,
     )
 
 -- The start of a document stands after its directives.
@@ -116,7 +116,7 @@ directed_begins {T} m {p} {r} {k} {read} {names} {given} here h skip a =
             code = subst (λ n. IsNamed n (at_document p.names.keeping.tags names read)) (sym x.names) a.code;
             pending = tt;
           })
-          (λ b. (refl, ap is_end same)) (no_positions m refl (ap gives_position same)) a,
+          (λ b. (refl, ap is_end same)) (no_positions m refl (ap counts same)) a,
     )
 
 -- ---- directives
@@ -195,7 +195,7 @@ version_taken {T} {p} {r} {names} {given} here skip d =
       read = read;
       here = took_on l.1 x.tokens x.stack (subst (λ u. Takes (at.directed d.read) p.stack u None (at.directed read) p.stack) (sym v.2) (turn.directed_more p.stack d.read (raw.version v.0 v.1)))
           (ap (λ n. n.keeping) x.names) (subst (λ n. IsNamed n (at_document n.keeping.tags names read)) (sym x.names) (named_alike p.names.keeping.tags names d.read read same d.here.code))
-          (allowed_version d.read v.0 v.1 d.here.pending d.version) (λ b. (refl, ap is_end v.2)) (ap gives_position v.2) d.here;
+          (allowed_version d.read v.0 v.1 d.here.pending d.version) (λ b. (refl, ap is_end v.2)) (ap (gives_position _) v.2) (λ f. ap is_comma v.2) d.here;
       own = subst (λ n. IsOwn n read) (sym x.names) (own_alike d.read read same d.own);
       version = version_snoc d.read v.0 v.1 ∙ ap (λ n. n + 1) d.version;
       taken = read_more d.read (raw.version v.0 v.1) x.tokens v.2 d.taken;
@@ -238,7 +238,7 @@ tag_directive_taken {T} {p} r {t} m {h} {x} {versioned} {names} {given} (Ok u) m
     record {
       read = read;
       here = took_on here skips stack (subst (λ u. Takes (at.directed d.read) p.stack u None (at.directed read) p.stack) (sym tok) (turn.directed_more p.stack d.read (raw.tag h x)))
-          keep (subst (λ b. IsNamed r.names (at_document b.tags names read)) (sym keep) k.0.named) (allowed_tag d.read h x d.here.pending k.1) (λ b. (refl, ap is_end tok)) (ap gives_position tok) d.here;
+          keep (subst (λ b. IsNamed r.names (at_document b.tags names read)) (sym keep) k.0.named) (allowed_tag d.read h x d.here.pending k.1) (λ b. (refl, ap is_end tok)) (ap (gives_position _) tok) (λ f. ap is_comma tok) d.here;
       own = k.0.own;
       version = tag_snoc d.read h x ∙ d.version;
       taken = read_more d.read (raw.tag h x) skips tok d.taken;

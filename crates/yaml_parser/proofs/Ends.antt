@@ -10,12 +10,12 @@ use Rattle.defs_event.specs.Raw.{Raw}
 use Rattle.defs_event.specs.Grammar.{scalar, flow_content, no_flow, end_items, no_items, single, no_flow_value, no_flow_pairs, end_flow_pairs, flow_keyless, block_content, flow, no_node, end_entries, plain, end_dashes, keyed, end_pairs, no_value, others, end_stream, unmarked, anchor_of, tag_of, Documents, stream_tokens}
 use Rattle.defs_event.specs.Names.{Names, number, named, both, names_after, resolved_event, resolved, perhaps_resolved, are_allowed, no_names}
 use Rattle.defs_event.proofs.NameLemmas.{both_some}
-use Rattle.defs_event.specs.Stream.{events_of, positions_of, taken_positions, given_positions}
+use Rattle.defs_event.specs.Stream.{Before, nothing_before, place_of, events_of, positions_of, taken_positions, given_after, given_positions}
 use Rattle.model_parser.specs.declared.context.NodeContext.TheVariants as context
 use Rattle.model_parser.specs.declared.state.State.{State}
 use Rattle.model_parser.specs.declared.state.State.TheVariants as state
 use Rattle.model_parser.specs.Goal as at
-use Rattle.model_parser.specs.Goal.{Goal, Awaits, goal_events, goal_tokens, part_content, part_node, last, last_pair}
+use Rattle.model_parser.specs.Goal.{Goal, Awaits, goal_events, goal_tokens, part_content, part_node, last, another_pair}
 use Rattle.model_parser.specs.Rest.{Rest, rest_events, rest_tokens, goal_of, still_tokens, still_events}
 use Rattle.yaml_parser.specs.declared.reader.Reader.{Reader}
 use Rattle.defs_token.specs.Token as defs
@@ -29,9 +29,9 @@ use Rattle.model_parser.specs.Stands.{IsNext as Begins1}
 use Rattle.model_parser.specs.Turn.{Refuses}
 use Rattle.yaml_parser.specs.Kinds.{IsOfKind}
 use Rattle.yaml_parser.proofs.Steps.{map_snoc, looked, if_some_at}
-use Rattle.yaml_parser.proofs.Positions.{taken_positions_append, given_positions_append, positions_length}
-use Rattle.yaml_parser.specs.Handed.{taken_toks, peeked_tok, shown_list}
-use Rattle.yaml_parser.specs.At.{At, Faulted, IsPending, names_by}
+use Rattle.yaml_parser.proofs.Positions.{taken_positions_append, given_after_append, positions_length}
+use Rattle.yaml_parser.specs.Handed.{taken_toks, peeked_tok, before_next, shown_list}
+use Rattle.yaml_parser.specs.At.{At, Faulted, IsPending, may_follow_comma, names_by}
 use Rattle.yaml_parser.specs.Blames.{fits, is_of_names, IsCause}
 use Rattle.yaml_parser.proofs.Since.{since_append}
 use Rattle.yaml_parser.specs.Apart.{GoesApart}
@@ -76,7 +76,7 @@ shortest at.pair_valued = (no_flow, end_items)
 shortest at.pair_end = end_items
 shortest at.flow_pairs = no_flow_pairs
 shortest at.more_flow_pairs = end_flow_pairs
-shortest at.comma_flow_pairs = last_pair
+shortest at.comma_flow_pairs = another_pair (flow_keyless no_flow) end_flow_pairs
 shortest at.flow_pair = (flow_keyless no_flow, end_flow_pairs)
 shortest at.flow_key = (no_flow, no_flow_value, end_flow_pairs)
 shortest at.flow_after_key = (no_flow_value, end_flow_pairs)
@@ -104,8 +104,14 @@ nothing keep s es f = name_one keep s (Raw.empty_scalar None None) es refl f
 sequence_end : (keep : Bool) (s : Names) (es : List Raw) → AnyNameable keep es → Nameable keep s (Raw.sequence_end ∷ es)
 sequence_end keep s es f = name_one keep s Raw.sequence_end es refl f
 
+brackets_end : (keep : Bool) (s : Names) (es : List Raw) → AnyNameable keep es → Nameable keep s (Raw.flow_sequence_end ∷ es)
+brackets_end keep s es f = name_one keep s Raw.flow_sequence_end es refl f
+
 mapping_end : (keep : Bool) (s : Names) (es : List Raw) → AnyNameable keep es → Nameable keep s (Raw.mapping_end ∷ es)
 mapping_end keep s es f = name_one keep s Raw.mapping_end es refl f
+
+braces_end : (keep : Bool) (s : Names) (es : List Raw) → AnyNameable keep es → Nameable keep s (Raw.flow_mapping_end ∷ es)
+braces_end keep s es f = name_one keep s Raw.flow_mapping_end es refl f
 
 word : (keep : Bool) (s : Names) (es : List Raw) → AnyNameable keep es → Nameable keep s (Raw.scalar [] Style.plain None None ∷ es)
 word keep s es f = name_one keep s (Raw.scalar [] Style.plain None None) es refl f
@@ -156,22 +162,22 @@ completes at.part keep s r p f = nothing keep s r f
 completes at.pairs keep s r p f = mapping_end keep s r f
 completes at.key_pairs keep s r p f = mapping_end keep s r f
 completes at.after_key keep s r p f = nothing keep s (Raw.mapping_end ∷ r) (λ s1. mapping_end keep s1 r f)
-completes at.items keep s r p f = sequence_end keep s r f
-completes at.more_items keep s r p f = sequence_end keep s r f
-completes at.comma_items keep s r p f = sequence_end keep s r f
-completes at.item keep s r p f = word keep s (Raw.sequence_end ∷ r) (λ s1. sequence_end keep s1 r f)
-completes at.pair_key keep s r p f = nothing keep s (Raw.empty_scalar None None ∷ Raw.mapping_end ∷ Raw.sequence_end ∷ r) (λ s1. nothing keep s1 (Raw.mapping_end ∷ Raw.sequence_end ∷ r) (λ s2. mapping_end keep s2 (Raw.sequence_end ∷ r) (λ s3. sequence_end keep s3 r f)))
-completes at.pair_value keep s r p f = nothing keep s (Raw.mapping_end ∷ Raw.sequence_end ∷ r) (λ s1. mapping_end keep s1 (Raw.sequence_end ∷ r) (λ s2. sequence_end keep s2 r f))
-completes at.pair_valued keep s r p f = nothing keep s (Raw.mapping_end ∷ Raw.sequence_end ∷ r) (λ s1. mapping_end keep s1 (Raw.sequence_end ∷ r) (λ s2. sequence_end keep s2 r f))
-completes at.pair_end keep s r p f = mapping_end keep s (Raw.sequence_end ∷ r) (λ s1. sequence_end keep s1 r f)
-completes at.flow_pairs keep s r p f = mapping_end keep s r f
-completes at.more_flow_pairs keep s r p f = mapping_end keep s r f
-completes at.comma_flow_pairs keep s r p f = mapping_end keep s r f
-completes at.flow_pair keep s r p f = nothing keep s (Raw.empty_scalar None None ∷ Raw.mapping_end ∷ r) (λ s1. nothing keep s1 (Raw.mapping_end ∷ r) (λ s2. mapping_end keep s2 r f))
-completes at.flow_key keep s r p f = nothing keep s (Raw.empty_scalar None None ∷ Raw.mapping_end ∷ r) (λ s1. nothing keep s1 (Raw.mapping_end ∷ r) (λ s2. mapping_end keep s2 r f))
-completes at.flow_after_key keep s r p f = nothing keep s (Raw.mapping_end ∷ r) (λ s1. mapping_end keep s1 r f)
-completes at.flow_valued keep s r p f = nothing keep s (Raw.mapping_end ∷ r) (λ s1. mapping_end keep s1 r f)
-completes at.flow_empty keep s r p f = nothing keep s (Raw.mapping_end ∷ r) (λ s1. mapping_end keep s1 r f)
+completes at.items keep s r p f = brackets_end keep s r f
+completes at.more_items keep s r p f = brackets_end keep s r f
+completes at.comma_items keep s r p f = brackets_end keep s r f
+completes at.item keep s r p f = word keep s (Raw.flow_sequence_end ∷ r) (λ s1. brackets_end keep s1 r f)
+completes at.pair_key keep s r p f = nothing keep s (Raw.empty_scalar None None ∷ Raw.mapping_end ∷ Raw.flow_sequence_end ∷ r) (λ s1. nothing keep s1 (Raw.mapping_end ∷ Raw.flow_sequence_end ∷ r) (λ s2. mapping_end keep s2 (Raw.flow_sequence_end ∷ r) (λ s3. brackets_end keep s3 r f)))
+completes at.pair_value keep s r p f = nothing keep s (Raw.mapping_end ∷ Raw.flow_sequence_end ∷ r) (λ s1. mapping_end keep s1 (Raw.flow_sequence_end ∷ r) (λ s2. brackets_end keep s2 r f))
+completes at.pair_valued keep s r p f = nothing keep s (Raw.mapping_end ∷ Raw.flow_sequence_end ∷ r) (λ s1. mapping_end keep s1 (Raw.flow_sequence_end ∷ r) (λ s2. brackets_end keep s2 r f))
+completes at.pair_end keep s r p f = mapping_end keep s (Raw.flow_sequence_end ∷ r) (λ s1. brackets_end keep s1 r f)
+completes at.flow_pairs keep s r p f = braces_end keep s r f
+completes at.more_flow_pairs keep s r p f = braces_end keep s r f
+completes at.comma_flow_pairs keep s r p f = nothing keep s (Raw.empty_scalar None None ∷ Raw.flow_mapping_end ∷ r) (λ s1. nothing keep s1 (Raw.flow_mapping_end ∷ r) (λ s2. braces_end keep s2 r f))
+completes at.flow_pair keep s r p f = nothing keep s (Raw.empty_scalar None None ∷ Raw.flow_mapping_end ∷ r) (λ s1. nothing keep s1 (Raw.flow_mapping_end ∷ r) (λ s2. braces_end keep s2 r f))
+completes at.flow_key keep s r p f = nothing keep s (Raw.empty_scalar None None ∷ Raw.flow_mapping_end ∷ r) (λ s1. nothing keep s1 (Raw.flow_mapping_end ∷ r) (λ s2. braces_end keep s2 r f))
+completes at.flow_after_key keep s r p f = nothing keep s (Raw.flow_mapping_end ∷ r) (λ s1. braces_end keep s1 r f)
+completes at.flow_valued keep s r p f = nothing keep s (Raw.flow_mapping_end ∷ r) (λ s1. braces_end keep s1 r f)
+completes at.flow_empty keep s r p f = nothing keep s (Raw.flow_mapping_end ∷ r) (λ s1. braces_end keep s1 r f)
 
 pub state_pending : (s : State) (names : Names) → IsPending names (goal_of s)
 state_pending state.StreamStart n = tt
@@ -214,59 +220,66 @@ event_nowhere v = (v, record { index = 0; line = 1; col = 0 })
 abbrev pub position_nowhere : Raw → Position
 position_nowhere e = record { index = 0; line = 1; col = 0 }
 
--- as many events with a position as tokens
+-- as many events with a position as tokens, where no comma stands right before them
 abbrev pub AreEven : List Raw → List Tok → Type 0
-AreEven es ts = taken_positions es (map position_nowhere es) ≡ given_positions (map token_nowhere ts)
+AreEven es ts = (b : Before) → b.comma ≡ None → taken_positions es (map position_nowhere es) ≡ given_after b (map token_nowhere ts)
 
-one_each : (es : List Raw) (ts : List Tok) → AreEven es ts → position_nowhere Raw.stream_start ∷ taken_positions es (map position_nowhere es) ≡ position_nowhere Raw.stream_start ∷ given_positions (map token_nowhere ts)
-one_each es ts h = ap (λ ps. position_nowhere Raw.stream_start ∷ ps) h
+abbrev nowhere : Position
+nowhere = position_nowhere Raw.stream_start
 
-even : (g : Goal) (es : List Raw) (ts : List Tok) → AreEven es ts → AreEven (goal_events g (shortest g) es) (goal_tokens g (shortest g) ts)
-even at.done es ts h = h
-even at.ended es ts h = h
-even at.start es ts h = h
-even at.documents es ts h = h
-even at.explicit es ts h = h
-even (at.directed ds) es ts h = h
-even at.content es ts h = h
-even at.after es ts h = h
-even (at.after_anchor q a) es ts h = h
-even (at.after_tag q t) es ts h = h
-even (at.after_properties q (Some o)) es ts h = h
-even at.entries es ts h = h
-even at.entry es ts h = h
-even at.dashes es ts h = h
-even at.dashed es ts h = h
-even at.part es ts h = h
-even at.pairs es ts h = h
-even at.key_pairs es ts h = h
-even at.after_key es ts h = h
-even at.items es ts h = h
-even at.more_items es ts h = h
-even at.comma_items es ts h = h
-even at.pair_key es ts h = h
-even at.pair_value es ts h = h
-even at.pair_valued es ts h = h
-even at.pair_end es ts h = h
-even at.flow_pairs es ts h = h
-even at.more_flow_pairs es ts h = h
-even at.comma_flow_pairs es ts h = h
-even at.flow_pair es ts h = h
-even at.flow_key es ts h = h
-even at.flow_after_key es ts h = h
-even at.flow_valued es ts h = h
-even at.flow_empty es ts h = h
-even (at.node context.Flow) es ts h = one_each es ts h
-even (at.node context.Block) es ts h = one_each es ts h
-even (at.node context.Part) es ts h = one_each es ts h
-even (at.after_properties context.Flow None) es ts h = one_each es ts h
-even (at.after_properties context.Block None) es ts h = one_each es ts h
-even (at.after_properties context.Part None) es ts h = one_each es ts h
-even at.item es ts h = one_each es ts h
+one_each : {ps qs : List Position} → ps ≡ qs → nowhere ∷ ps ≡ nowhere ∷ qs
+one_each h = ap (λ ps. nowhere ∷ ps) h
+
+at_bracket : (b : Before) {ps qs : List Position} → b.comma ≡ None → ps ≡ qs → nowhere ∷ ps ≡ place_of Tok.flow_mapping_end b.comma nowhere ∷ qs
+at_bracket b {ps} {qs} e h = one_each h ∙ ap (λ c. place_of Tok.flow_mapping_end c nowhere ∷ qs) (sym e)
+
+even : (g : Goal) (es : List Raw) (ts : List Tok) → AreEven es ts → (b : Before) → (may_follow_comma g ≡ false → b.comma ≡ None)
+    → taken_positions (goal_events g (shortest g) es) (map position_nowhere (goal_events g (shortest g) es)) ≡ given_after b (map token_nowhere (goal_tokens g (shortest g) ts))
+even at.done es ts h b c = h b (c refl)
+even at.ended es ts h b c = h b (c refl)
+even (at.after_anchor q a) es ts h b c = h b (c refl)
+even (at.after_tag q t) es ts h b c = h b (c refl)
+even (at.after_properties q (Some o)) es ts h b c = h b (c refl)
+even at.part es ts h b c = h b (c refl)
+even at.dashes es ts h b c = h b (c refl)
+even at.dashed es ts h b c = h b (c refl)
+even at.start es ts h b c = h _ refl
+even at.documents es ts h b c = h _ refl
+even at.explicit es ts h b c = h _ refl
+even (at.directed ds) es ts h b c = h _ refl
+even at.content es ts h b c = h _ refl
+even at.after es ts h b c = h _ refl
+even at.entries es ts h b c = h _ refl
+even at.entry es ts h b c = h _ refl
+even at.pairs es ts h b c = h _ refl
+even at.key_pairs es ts h b c = h _ refl
+even at.after_key es ts h b c = h _ refl
+even at.items es ts h b c = one_each (h _ refl)
+even at.more_items es ts h b c = one_each (h _ refl)
+even at.comma_items es ts h b c = one_each (h _ refl)
+even at.pair_key es ts h b c = one_each (h _ refl)
+even at.pair_value es ts h b c = one_each (h _ refl)
+even at.pair_valued es ts h b c = one_each (h _ refl)
+even at.pair_end es ts h b c = one_each (h _ refl)
+even at.flow_pair es ts h b c = one_each (h _ refl)
+even at.comma_flow_pairs es ts h b c = one_each (h _ refl)
+even at.item es ts h b c = one_each (one_each (h _ refl))
+even at.flow_pairs es ts h b c = at_bracket b (c refl) (h _ refl)
+even at.more_flow_pairs es ts h b c = at_bracket b (c refl) (h _ refl)
+even at.flow_key es ts h b c = at_bracket b (c refl) (h _ refl)
+even at.flow_after_key es ts h b c = at_bracket b (c refl) (h _ refl)
+even at.flow_valued es ts h b c = at_bracket b (c refl) (h _ refl)
+even at.flow_empty es ts h b c = at_bracket b (c refl) (h _ refl)
+even (at.node context.Flow) es ts h b c = one_each (h _ refl)
+even (at.node context.Block) es ts h b c = one_each (h _ refl)
+even (at.node context.Part) es ts h b c = one_each (h _ refl)
+even (at.after_properties context.Flow None) es ts h b c = one_each (h _ refl)
+even (at.after_properties context.Block None) es ts h b c = one_each (h _ refl)
+even (at.after_properties context.Part None) es ts h b c = one_each (h _ refl)
 
 rest_even : (ss : List State) → AreEven (rest_events ss (ending ss)) (rest_tokens ss (ending ss))
-rest_even [] = refl
-rest_even (s ∷ ss) = even (goal_of s) (rest_events ss (ending ss)) (rest_tokens ss (ending ss)) (rest_even ss)
+rest_even [] b e = refl
+rest_even (s ∷ ss) b e = even (goal_of s) (rest_events ss (ending ss)) (rest_tokens ss (ending ss)) (rest_even ss) b (λ f. e)
 
 named_length : (keep : Bool) (s : Names) (es : List Raw) (vs : List Ev) → named keep s es ≡ Some vs → positions_of (map event_nowhere vs) ≡ map position_nowhere es
 named_length keep s [] vs h = let x : vs ≡ [] = cc in ap (λ ws. positions_of (map event_nowhere ws)) x
@@ -305,8 +318,8 @@ at_derived {T} g p names given a =
         has_positions = ap (taken_positions (a.raw ++ es)) (map-append (λ (e : Ev × Position). e.1) given (map event_nowhere n.0))
             ∙ taken_positions_append a.raw es (positions_of given) (positions_of (map event_nowhere n.0)) (a.count ∙ sym (positions_length given))
             ∙ ap (λ ps. ps ++ taken_positions es (positions_of (map event_nowhere n.0))) a.positions
-            ∙ ap (λ ps. given_positions (all_shown p.tokens.taken.items) ++ ps) (ap (taken_positions es) (named_length keep names es n.0 n.1) ∙ even g (rest_events p.stack (ending p.stack)) (rest_tokens p.stack (ending p.stack)) (rest_even p.stack))
-            ∙ sym (given_positions_append (all_shown p.tokens.taken.items) (map token_nowhere ts));
+            ∙ ap (λ ps. given_positions (all_shown p.tokens.taken.items) ++ ps) (ap (taken_positions es) (named_length keep names es n.0 n.1) ∙ even g (rest_events p.stack (ending p.stack)) (rest_tokens p.stack (ending p.stack)) (rest_even p.stack) (before_next p.tokens) a.comma)
+            ∙ sym (given_after_append nothing_before (all_shown p.tokens.taken.items) (map token_nowhere ts));
       };
       named = a.events;
       positions = a.positions;

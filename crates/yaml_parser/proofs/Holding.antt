@@ -17,7 +17,7 @@ use Rattle.defs_event.specs.Raw.{Raw}
 use Rattle.defs_event.specs.Grammar.{Documents, stream_tokens, stream_events}
 use Rattle.defs_event.specs.Names.{Names, named, no_names}
 use Rattle.defs_token.specs.Toks.{toks}
-use Rattle.defs_event.specs.Stream.{BeginsPlaced, events_of, positions_of, taken_positions, given_positions}
+use Rattle.defs_event.specs.Stream.{BeginsPlaced, events_of, positions_of, taken_positions, given_positions, nothing_before, past_all}
 use Rattle.defs_event.proofs.NameLemmas.{named_append}
 use Rattle.model_parser.specs.declared.state.State.{State}
 use Rattle.model_parser.specs.declared.state.State.TheVariants as state
@@ -123,6 +123,7 @@ popped {T} p s ss {names} {given} h a = record {
   count = a.count;
   few = a.few;
   positions = a.positions;
+  comma = λ f. a.comma refl;
   events = a.events;
   names_are = a.names_are;
   code = subst (IsNamed p.names) (sym (state_seen s p.names.keeping.tags names)) a.code;
@@ -180,6 +181,7 @@ at_settings {T} {g} {p} {names} {es} k seen a few named names_same = record {
   count = a.count;
   few = few;
   positions = a.positions;
+  comma = a.comma;
   events = named ∙ a.events;
   names_are = names_same ∙ a.names_are;
   code = subst (IsNamed (record (p.names) { keeping = k })) (sym seen) (record { count = a.code.count; anchors = a.code.anchors; handles = a.code.handles; numbers = a.code.numbers });
@@ -294,6 +296,7 @@ begun {T} p stack peeked taken given ended code none = record {
     count = refl;
     few = subst (λ xs. length xs ≤ 0) (sym none) (omega arith);
     positions = sym (ap (λ ts. given_positions (all_shown ts)) taken);
+    comma = λ f. ap (λ ts. (past_all nothing_before (all_shown ts)).comma) taken;
     events = ap (λ xs. named_since xs p.names.keeping.tags no_names []) none;
     names_are = ap (λ xs. names_since xs p.names.keeping.tags no_names []) none;
     code = code;

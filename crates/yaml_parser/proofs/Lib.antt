@@ -1,4 +1,5 @@
 pub mod Arms
+pub mod InFlow
 pub mod DirectiveLemmas
 pub mod DocumentArms
 pub mod Ends

@@ -1,8 +1,8 @@
 -- The arms of the productions of nodes.
-use Rattle.std.proofs.Common.{◌≡◌, ◌≢◌, ℕ, List, [], ◌∷◌, ◌++◌, Option, Some, None, option_map, is_some, Bool, true, false, Result, Ok, Err, refl, sym, ap, ◌∙◌, subst, append_assoc, ◌⊎◌, inl, inr}
+use Rattle.std.proofs.Common.{◌≡◌, ◌≢◌, ℕ, List, [], ◌∷◌, ◌++◌, Option, Some, None, option_map, is_some, Bool, true, false, ◌||◌, Result, Ok, Err, refl, sym, ap, ◌∙◌, subst, append_assoc, ◌⊎◌, inl, inr}
 use Rattle.std.specs.Result.{IfOk, IfErr}
 use Rattle.std.specs.Option.{IsSome, IfSome}
-use Rattle.std.proofs.lemmas.Bool.{both_ways}
+use Rattle.std.proofs.lemmas.Bool.{or_parts, both_ways}
 use Rattle.defs_text.specs.Position.{Position}
 use Rattle.defs_token.specs.Token as defs
 use Rattle.defs_token.specs.Token.{Tok, Style}
@@ -21,7 +21,7 @@ use Rattle.defs_event.specs.Grammar as written
 use Rattle.defs_event.specs.Grammar.{perhaps_anchor_of, perhaps_tag_of, stream_tokens, stream_events, items_events, flow_pairs_events, entries_events, pairs_events, perhaps_events, dashes_events, scalar, flow_sequence, flow_mapping, flow, block_sequence, block_mapping, flow_properties, block_properties}
 use Rattle.defs_event.specs.Names.{Names, number, with_anchor, names_after, both, named, no_names, resolved_event, perhaps_resolved, resolved, under_name, prefix_of}
 use Rattle.defs_token.specs.Toks.{toks}
-use Rattle.defs_event.specs.Stream.{events_of, has_position, gives_position}
+use Rattle.defs_event.specs.Stream.{events_of, is_comma, place_of, has_position, gives_position}
 use Rattle.model_parser.specs.declared.kind.Kind.{Kind}
 use Rattle.model_parser.specs.declared.context.NodeContext as positions
 use Rattle.model_parser.specs.declared.context.NodeContext.TheVariants as context
@@ -46,13 +46,14 @@ use Rattle.yaml_parser.specs.declared.tokens.Tokens.{Tokens}
 use Rattle.yaml_parser.specs.Ahead.{Skips, SkipsOne}
 use Rattle.yaml_parser.specs.Blames.{fits, is_of_names, IsCause, HasUnknownAnchor, HasUndeclaredHandle, StandsAt, EndsInAnchor}
 use Rattle.yaml_parser.specs.Derived.{IsDerived}
-use Rattle.yaml_parser.specs.Handed.{taken_toks, peeked_tok, shown_list}
+use Rattle.yaml_parser.specs.Handed.{taken_toks, peeked_tok, before_next, shown_list}
 use Rattle.yaml_parser.specs.Kinds.{IsOfKind}
 use Rattle.yaml_parser.specs.Named.{IsNamed}
 use Rattle.yaml_parser.specs.Properties.{Has, Registers, name_of, kept_tag}
 use Rattle.yaml_parser.specs.Shown.{placed}
 use Rattle.yaml_parser.specs.At.{At, Answers, Faulted, named_by, names_by, goal_after_event, IsPending}
-use Rattle.yaml_parser.proofs.Steps.{looked, took, took_on, left, Named, map_snoc, if_some_at}
+use Rattle.yaml_parser.proofs.Positions.{ends_mapping, own_place}
+use Rattle.yaml_parser.proofs.Steps.{looked, took, took_on, left, Named, breaks, map_snoc, if_some_at}
 use Rattle.yaml_parser.proofs.Arms.{Skipped, stays, stay, not_as, faulted_as}
 use Rattle.yaml_parser.proofs.Ends.{at_derived, ending}
 use Rattle.yaml_parser.proofs.Since.{since_stops}
@@ -85,10 +86,14 @@ made_named {T} {p} {r} {mk} {f} {s} {o} {x} k h keep code = record {
   pending = tt;
 }
 
+-- whether a token is the stream's end, a comma, or the end of a flow mapping
+abbrev pub is_startless : Tok → Bool
+is_startless t = is_end t || (is_comma t || ends_mapping t)
+
 -- The start of a collection is taken, and its properties are registered.
 pub starts : {T : Type 0} (m : Position) {p q : Reader T} (r : Reader T) {k k' : Kind} {w : positions.NodeContext} {o : Option written.Properties} {x : Option Properties} {ss : List State} (mk : Option (List ℕ) → Option event.Tag → Raw) (f : ℕ → Option event.Tag → Ev) {s : Names} {given : List (Ev × Position)} (res : Result (Event × Position) Stop)
-    → Makes mk f → IsOfKind k' p.tokens.peeked → k' ≡ k → has_no_text k ≡ true → is_end (tok_of_kind k) ≡ false
-    → ((a : Option (List ℕ)) (t : Option event.Tag) → has_position (mk a t) ≡ gives_position (tok_of_kind k)) → IfSome p.tokens.peeked (λ t. t.0 ≡ m) → Skipped p q ss
+    → Makes mk f → IsOfKind k' p.tokens.peeked → k' ≡ k → has_no_text k ≡ true → is_startless (tok_of_kind k) ≡ false
+    → ((a : Option (List ℕ)) (t : Option event.Tag) → has_position (mk a t) ≡ gives_position (before_next p.tokens).around (tok_of_kind k)) → IfSome p.tokens.peeked (λ t. t.0 ≡ m) → Skipped p q ss
     → Takes (at.after_properties w o) p.stack (tok_of_kind k) (Some (mk (perhaps_anchor_of o) (perhaps_tag_of o))) at.done ss
     → ((names : Names) → IsNamed q.names names → IfOk res (λ e. Registers q x names (λ a t. placed e ≡ (f a t, m)) r)) → IfErr res (λ u. u ≡ stop.Own OutOfMemory)
     → ((a : ℕ) (t : Option event.Tag) → goal_after_event (f a t) ≡ at.done)
@@ -100,11 +105,18 @@ starts {T} m {p} {q} r {k} {k'} {w} {o} {x} {ss} mk f {s} {given} (Ok e) makes h
     let y = skip t l.1 in
     let g = registers s (subst (λ n. IsNamed n s) (sym y.names) a.code) in
     let same : tok_of t.1 ≡ tok_of_kind k = tok_is (l.2 ∙ h) plain in
+    let one_end = or_parts (is_end (tok_of_kind k)) (is_comma (tok_of_kind k) || ends_mapping (tok_of_kind k)) end in
+    let others = or_parts (is_comma (tok_of_kind k)) (ends_mapping (tok_of_kind k)) one_end.1 in
     let v : Ev × Position = (f (number s (name_of x)) (kept_tag x), m) in
     let one : At at.done r (with_anchor s (name_of x)) (given ++ v ∷ []) =
     took m l.1 (subst (λ u. Skips p.tokens t u) (sym g.tokens) y.tokens) (g.stack ∙ y.stack) (subst (λ u. Takes (at.after_properties w o) p.stack u (Some (mk (perhaps_anchor_of o) (perhaps_tag_of o))) at.done ss) (sym same) turn)
-    (made_named makes has (g.keep ∙ ap (λ n. n.keeping) y.names) g.code) (λ b. (refl, ap is_end same ∙ end))
-    (record { alike = alike _ _ ∙ sym (ap gives_position same); here = λ b. sym (if_some_at (λ (z : Token). z.0 ≡ m) mark l.1) }) a in
+    (made_named makes has (g.keep ∙ ap (λ n. n.keeping) y.names) g.code) (λ b. (refl, ap is_end same ∙ one_end.0))
+    (record {
+      alike = alike _ _ ∙ sym (ap (gives_position (before_next p.tokens).around) same);
+      here = λ b. sym (if_some_at (λ (z : Token). z.0 ≡ m) mark l.1) ∙ sym (own_place (tok_of t.1) (before_next p.tokens).comma t.0 (ap ends_mapping same ∙ others.1));
+      other = ap is_comma same ∙ others.0;
+    })
+    a in
     let two : (names : Names) × At (goal_after_event v.0) r names (given ++ v ∷ []) = (with_anchor s (name_of x), subst (λ g. At g r (with_anchor s (name_of x)) (given ++ v ∷ [])) (sym (no_end _ _)) one) in
     subst (λ z. (names : Names) × At (goal_after_event z.0) r names (given ++ z ∷ [])) (sym g.value) two
 
@@ -122,7 +134,7 @@ scalar_taken {T} m {p} {q} {r} {y} {v} {n} {u} {w} {o} {x} {ss} {s} {given} {t} 
       subst (λ z. At at.done r (with_anchor s (name_of x)) (given ++ (z, m) ∷ [])) e
           (took m here (subst (λ z. Skips p.tokens t z) (sym g.tokens) skips) (g.stack ∙ stack) (subst (λ z. Takes (at.after_properties w o) p.stack z (Some (Raw.scalar v y (perhaps_anchor_of o) (perhaps_tag_of o))) at.done ss) (sym tok) turn)
           (made_named makes has (g.keep ∙ ap (λ z. z.keeping) names_same) g.code) (λ b. (refl, ap is_end tok))
-          (record { alike = sym (ap gives_position tok); here = λ b. sym mark }) a),
+          (record { alike = sym (ap (gives_position _) tok); here = λ b. sym mark ∙ sym (ap (λ z. place_of z (before_next p.tokens).comma t.0) tok); other = ap is_comma tok }) a),
     )
 
 -- Properties alone are registered, and the token stays.
@@ -190,6 +202,11 @@ unnamed_at {T} {g} {g'} {p} {r} {t} {m} {ss} {e} {names} {given} q fit of_names 
 
 -- ---- small steps
 
+-- whether a comma may stand before it does not depend on the context
+pub breaks_none : (w u : positions.NodeContext) (o : Option written.Properties) → breaks (at.after_properties w o) (at.after_properties u o) ≡ false
+breaks_none w u None = refl
+breaks_none w u (Some o) = refl
+
 -- what is pending does not depend on the position
 pub pending_same : (w u : positions.NodeContext) (names : Names) (o : Option written.Properties) → IsPending names (at.after_properties w o) → IsPending names (at.after_properties u o)
 pending_same w u names None h = tt
@@ -223,14 +240,14 @@ pub record BeginsNoBlock (k : Kind) : Type 0 where
 
 block_in_flow : {T : Type 0} {p : Reader T} {k : Kind} (o : Option written.Properties) {names : Names} {given : List (Ev × Position)} → IsOfKind k p.tokens.peeked → BeginsNoBlock k
     → At (at.after_properties context.Block o) p names given → At (at.after_properties context.Flow o) p names given
-block_in_flow o {names} here none a = stays here stay (λ t e. turn.block_flow _ o t (not_as none.sequence e) (not_as none.mapping e)) refl (pending_same context.Block context.Flow names o a.pending) refl a
+block_in_flow o {names} here none a = stays here stay (λ t e. turn.block_flow _ o t (not_as none.sequence e) (not_as none.mapping e)) refl (pending_same context.Block context.Flow names o a.pending) (breaks_none context.Block context.Flow o) a
 
 -- What begins no block collection is flow content, wherever it stands.
 pub in_flow : {T : Type 0} {p : Reader T} {k : Kind} (w : positions.NodeContext) (o : Option written.Properties) {names : Names} {given : List (Ev × Position)} → IsOfKind k p.tokens.peeked → BeginsNoBlock k
     → At (at.after_properties w o) p names given → At (at.after_properties context.Flow o) p names given
 in_flow context.Flow o here none a = a
 in_flow context.Block o here none a = block_in_flow o here none a
-in_flow context.Part o {names} here none a = block_in_flow o here none (stays here stay (λ t e. turn.part_block _ o t (not_as none.entry e)) refl (pending_same context.Part context.Block names o a.pending) refl a)
+in_flow context.Part o {names} here none a = block_in_flow o here none (stays here stay (λ t e. turn.part_block _ o t (not_as none.entry e)) refl (pending_same context.Part context.Block names o a.pending) (breaks_none context.Part context.Block o) a)
 
 pub taken_with : {T : Type 0} {p q : Tokens T} {t : Token} → SkipsOne p q → p.peeked ≡ Some t → Skips p t q
 taken_with {T} {p} {q} {t} h e = if_some_at (λ u. Skips p u q) h e
@@ -259,7 +276,7 @@ alias_taken {T} m {p} {r} {t} {w} {x} {n} {names} {given} here mark skips stack 
   names,
   took m here skips stack (subst (λ u. Takes (at.node w) p.stack u (Some (Raw.alias x)) at.done p.stack) (sym tok) (turn.node_alias w p.stack x))
       (record { resolves = ap (option_map Ev.alias) found; after_it = refl; keep = ap (λ z. z.keeping) same; code = subst (λ z. IsNamed z names) (sym same) a.code; pending = tt })
-      (λ b. (refl, ap is_end tok)) (record { alike = sym (ap gives_position tok); here = λ b. sym mark }) a,
+      (λ b. (refl, ap is_end tok)) (record { alike = sym (ap (gives_position _) tok); here = λ b. sym mark ∙ sym (ap (λ z. place_of z (before_next p.tokens).comma t.0) tok); other = ap is_comma tok }) a,
 )
 
 unknown_is_other : UnknownAnchor ≡ UndeclaredHandle → ⊥
@@ -275,25 +292,25 @@ pub anchor_taken : {T : Type 0} {p r : Reader T} {t : Token} {w : positions.Node
     → p.tokens.peeked ≡ Some t → Skips p.tokens t r.tokens → r.stack ≡ p.stack → r.names ≡ p.names → tok_of t.1 ≡ Tok.anchor x → At (at.node w) p names given → At (at.after_anchor w x) r names given
 anchor_taken {T} {p} {r} {t} {w} {x} {names} {given} here skips stack same tok a =
     took_on here skips stack (subst (λ u. Takes (at.node w) p.stack u None (at.after_anchor w x) p.stack) (sym tok) (turn.node_anchor w p.stack x))
-    (ap (λ z. z.keeping) same) (subst (λ z. IsNamed z names) (sym same) a.code) tt (λ b. (refl, ap is_end tok)) (ap gives_position tok) a
+    (ap (λ z. z.keeping) same) (subst (λ z. IsNamed z names) (sym same) a.code) tt (λ b. (refl, ap is_end tok)) (ap (gives_position _) tok) (λ f. ap is_comma tok) a
 
 pub tag_taken : {T : Type 0} {p r : Reader T} {t : Token} {w : positions.NodeContext} {x : event.Tag} {u : event.Tag} {names : Names} {given : List (Ev × Position)}
     → p.tokens.peeked ≡ Some t → Skips p.tokens t r.tokens → r.stack ≡ p.stack → r.names ≡ p.names → tok_of t.1 ≡ written.tag_token x → resolved names.handles x ≡ Some u → At (at.node w) p names given → At (at.after_tag w x) r names given
 tag_taken {T} {p} {r} {t} {w} {x} {u} {names} {given} here skips stack same tok known a =
     took_on here skips stack (subst (λ z. Takes (at.node w) p.stack z None (at.after_tag w x) p.stack) (sym tok) (turn.node_tag w p.stack x))
-    (ap (λ z. z.keeping) same) (subst (λ z. IsNamed z names) (sym same) a.code) (is_some_of known) (λ b. (refl, ap is_end tok)) (ap gives_position tok) a
+    (ap (λ z. z.keeping) same) (subst (λ z. IsNamed z names) (sym same) a.code) (is_some_of known) (λ b. (refl, ap is_end tok)) (ap (gives_position _) tok) (λ f. ap is_comma tok) a
 
 pub tag_after_anchor : {T : Type 0} {p r : Reader T} {t : Token} {w : positions.NodeContext} {y : List ℕ} {x : event.Tag} {u : event.Tag} {names : Names} {given : List (Ev × Position)}
     → p.tokens.peeked ≡ Some t → Skips p.tokens t r.tokens → r.stack ≡ p.stack → r.names ≡ p.names → tok_of t.1 ≡ written.tag_token x → resolved names.handles x ≡ Some u → At (at.after_anchor w y) p names given → At (at.after_properties w (Some (written.anchored_tagged y x))) r names given
 tag_after_anchor {T} {p} {r} {t} {w} {y} {x} {u} {names} {given} here skips stack same tok known a =
     took_on here skips stack (subst (λ z. Takes (at.after_anchor w y) p.stack z None (at.after_properties w (Some (written.anchored_tagged y x))) p.stack) (sym tok) (turn.anchor_tag w p.stack y x))
-    (ap (λ z. z.keeping) same) (subst (λ z. IsNamed z names) (sym same) a.code) (is_some_of (ap (option_map Some) known)) (λ b. (refl, ap is_end tok)) (ap gives_position tok) a
+    (ap (λ z. z.keeping) same) (subst (λ z. IsNamed z names) (sym same) a.code) (is_some_of (ap (option_map Some) known)) (λ b. (refl, ap is_end tok)) (ap (gives_position _) tok) (λ f. ap is_comma tok) a
 
 pub anchor_after_tag : {T : Type 0} {p r : Reader T} {t : Token} {w : positions.NodeContext} {y : List ℕ} {x : event.Tag} {u : event.Tag} {names : Names} {given : List (Ev × Position)}
     → p.tokens.peeked ≡ Some t → Skips p.tokens t r.tokens → r.stack ≡ p.stack → r.names ≡ p.names → tok_of t.1 ≡ Tok.anchor y → resolved names.handles x ≡ Some u → At (at.after_tag w x) p names given → At (at.after_properties w (Some (written.tagged_anchored x y))) r names given
 anchor_after_tag {T} {p} {r} {t} {w} {y} {x} {u} {names} {given} here skips stack same tok known a =
     took_on here skips stack (subst (λ z. Takes (at.after_tag w x) p.stack z None (at.after_properties w (Some (written.tagged_anchored x y))) p.stack) (sym tok) (turn.tag_anchor w p.stack x y))
-    (ap (λ z. z.keeping) same) (subst (λ z. IsNamed z names) (sym same) a.code) (is_some_of (ap (option_map Some) known)) (λ b. (refl, ap is_end tok)) (ap gives_position tok) a
+    (ap (λ z. z.keeping) same) (subst (λ z. IsNamed z names) (sym same) a.code) (is_some_of (ap (option_map Some) known)) (λ b. (refl, ap is_end tok)) (ap (gives_position _) tok) (λ f. ap is_comma tok) a
 
 content_unnameable : (keep : Bool) (s : Names) (w : positions.NodeContext) (o : Option written.Properties) (c : Option (ContentAt w)) (r : List Raw) → perhaps_resolved s.handles (perhaps_tag_of o) ≡ None → Unnameable keep s (perhaps_content_events w o c r)
 content_unnameable keep s w o None r h = unnameable_first keep s (Raw.empty_scalar (perhaps_anchor_of o) (perhaps_tag_of o)) r (ap (option_map (λ u. Ev.scalar [] Style.plain (number s (perhaps_anchor_of o)) u)) h)

@@ -21,9 +21,12 @@ one_more (Raw.scalar x s a t) v rs vs h k = (h.0, h.1, vs, cc, k)
 one_more (Raw.empty_scalar a t) v rs vs h k = (h.0, h.1, vs, cc, k)
 one_more (Raw.flow_sequence_start a t) v rs vs h k = (h.0, h.1, vs, cc, k)
 one_more (Raw.sequence_start a t) v rs vs h k = (h.0, h.1, vs, cc, k)
+one_more Raw.flow_sequence_end v rs vs h k = (vs, cc, k)
 one_more Raw.sequence_end v rs vs h k = (vs, cc, k)
 one_more (Raw.flow_mapping_start a t) v rs vs h k = (h.0, h.1, vs, cc, k)
 one_more (Raw.mapping_start a t) v rs vs h k = (h.0, h.1, vs, cc, k)
+one_more Raw.pair_start v rs vs h k = (vs, cc, k)
+one_more Raw.flow_mapping_end v rs vs h k = (vs, cc, k)
 one_more Raw.mapping_end v rs vs h k = (vs, cc, k)
 
 -- the first event, and the shape of the others

@@ -1,5 +1,5 @@
 -- The turns over the code's state.
-use Rattle.std.proofs.Common.{◌≡◌, ℕ, ◌≤◌, length, List, [], ◌∷◌, ◌++◌, Option, Some, None, option_map, false, ◌||◌, refl, sym, ap, ◌∙◌, subst, append-nil, map, arith}
+use Rattle.std.proofs.Common.{◌≡◌, ℕ, ◌≤◌, length, List, [], ◌∷◌, ◌++◌, Option, Some, None, option_map, Bool, true, false, not, ◌||◌, ◌&&◌, refl, sym, ap, ◌∙◌, subst, append-nil, map, arith}
 use Rattle.std.proofs.lemmas.List.{length-append}
 use Rattle.std.proofs.lemmas.Bool.{or_parts, both_ways}
 use Rattle.defs_text.specs.Position.{Position}
@@ -13,7 +13,7 @@ use Rattle.defs_event.specs.Event.{Ev}
 use Rattle.defs_event.specs.Raw.{Raw}
 use Rattle.defs_event.specs.Names.{Names, no_names, named, both, names_after, resolved_event}
 use Rattle.defs_token.specs.Toks.{toks}
-use Rattle.defs_event.specs.Stream.{events_of, given_positions, has_position, gives_position}
+use Rattle.defs_event.specs.Stream.{events_of, given_positions, has_position, gives_position, nothing_before, past_all, is_comma}
 use Rattle.model_parser.specs.declared.kind.Kind.{Kind}
 use Rattle.model_parser.specs.declared.state.State.{State}
 use Rattle.model_parser.specs.Kinds.{kind_of}
@@ -25,13 +25,13 @@ use Rattle.yaml_parser.specs.declared.names.Keeping.{Keeping}
 use Rattle.yaml_parser.specs.declared.tokens.Tokens.{Tokens}
 use Rattle.yaml_parser.specs.declared.reader.Reader.{Reader}
 use Rattle.yaml_parser.specs.Ahead.{Skips}
-use Rattle.yaml_parser.specs.Handed.{taken_toks, peeked_tok, IsHanded, IsAwake, shown_list, ends}
+use Rattle.yaml_parser.specs.Handed.{taken_toks, peeked_tok, before_next, IsHanded, IsAwake, shown_list, ends}
 use Rattle.yaml_parser.specs.Kinds.{IsOfKind}
 use Rattle.yaml_parser.specs.Named.{IsNamed}
 use Rattle.std.specs.Option.{IfSome}
-use Rattle.yaml_parser.proofs.Positions.{IsPlaced, count_more, positions_took, positions_took_on, positions_left}
+use Rattle.yaml_parser.proofs.Positions.{IsPlaced, count_more, no_comma_more, positions_took, positions_took_on, positions_left}
 use Rattle.yaml_parser.proofs.Since.{since_append, since_after}
-use Rattle.yaml_parser.specs.At.{At, is_over, names_at, named_by, names_by, IsPending}
+use Rattle.yaml_parser.specs.At.{At, is_over, may_follow_comma, names_at, named_by, names_by, IsPending}
 
 -- ---- lists
 
@@ -103,7 +103,7 @@ few_kept {j} {k} raw keep h = subst (λ k. length k.settings.items ≤ length ra
 -- The token is taken, and an event is given.
 pub took : {T : Type 0} (m : Position) {g g' : Goal} {p r : Reader T} {t : Token} {ss' : List State} {e : Raw} {v : Ev} {names names' : Names} {given : List (Ev × Position)}
     → p.tokens.peeked ≡ Some t → Skips p.tokens t r.tokens → r.stack ≡ ss' → Takes g p.stack (tok_of t.1) (Some e) g' ss'
-    → Named p r g' names e v names' → (is_over g' ≡ false → (is_over g ≡ false) × (is_end (tok_of t.1) ≡ false)) → IsPlaced e t m
+    → Named p r g' names e v names' → (is_over g' ≡ false → (is_over g ≡ false) × (is_end (tok_of t.1) ≡ false)) → IsPlaced (before_next p.tokens) e t m
     → At g p names given → At g' r names' (given ++ (v, m) ∷ [])
 took {T} m {g} {g'} {p} {r} {t} {ss'} {e} {v} {names} {names'} {given} here s to turn n wakes spot a =
     record {
@@ -116,6 +116,7 @@ took {T} m {g} {g'} {p} {r} {t} {ss'} {e} {v} {names} {names'} {given} here s to
       count = count_more m a.raw e v given a.count;
       few = few_kept (a.raw ++ e ∷ []) n.keep (few_more (length p.names.keeping.settings.items) a.raw e a.few);
       positions = positions_took m a.raw e v given p.tokens.taken.items t r.tokens.taken.items s.taken a.count spot a.positions;
+      comma = λ f. no_comma_more p.tokens.taken.items t r.tokens.taken.items s.taken spot.other;
       events = events_more m n a;
       names_are = names_more n a;
       code = n.code;
@@ -125,9 +126,9 @@ took {T} m {g} {g'} {p} {r} {t} {ss'} {e} {v} {names} {names'} {given} here s to
 -- The token is taken, and no event is given.
 pub took_on : {T : Type 0} {g g' : Goal} {p r : Reader T} {t : Token} {ss' : List State} {names : Names} {given : List (Ev × Position)}
     → p.tokens.peeked ≡ Some t → Skips p.tokens t r.tokens → r.stack ≡ ss' → Takes g p.stack (tok_of t.1) None g' ss'
-    → r.names.keeping ≡ p.names.keeping → IsNamed r.names (names_at r.names.keeping.tags g' names) → IsPending names g' → (is_over g' ≡ false → (is_over g ≡ false) × (is_end (tok_of t.1) ≡ false)) → gives_position (tok_of t.1) ≡ false
-    → At g p names given → At g' r names given
-took_on {T} {g} {g'} {p} {r} {t} {ss'} {names} {given} here s to turn keep code pending wakes spot a =
+    → r.names.keeping ≡ p.names.keeping → IsNamed r.names (names_at r.names.keeping.tags g' names) → IsPending names g' → (is_over g' ≡ false → (is_over g ≡ false) × (is_end (tok_of t.1) ≡ false)) → gives_position (before_next p.tokens).around (tok_of t.1) ≡ false
+    → (may_follow_comma g' ≡ false → is_comma (tok_of t.1) ≡ false) → At g p names given → At g' r names given
+took_on {T} {g} {g'} {p} {r} {t} {ss'} {names} {given} here s to turn keep code pending wakes spot other a =
     record {
       raw = a.raw;
       stands = subst (λ ss. IsOnTrack g' ss (taken_toks r.tokens) (peeked_tok r.tokens) a.raw) (sym to)
@@ -138,16 +139,32 @@ took_on {T} {g} {g'} {p} {r} {t} {ss'} {names} {given} here s to turn keep code 
       count = a.count;
       few = few_kept a.raw keep a.few;
       positions = positions_took_on a.raw given p.tokens.taken.items t r.tokens.taken.items s.taken spot a.positions;
+      comma = λ f. no_comma_more p.tokens.taken.items t r.tokens.taken.items s.taken (other f);
       events = ap (λ k. named_by k a.raw) keep ∙ a.events;
       names_are = ap (λ k. names_by k a.raw) keep ∙ a.names_are;
       code = code;
       pending = pending;
     }
 
+-- whether a step over no token leads from or to where nothing is read, or from behind a comma to where none stands
+abbrev pub breaks : Goal → Goal → Bool
+breaks g g' = is_over g || (is_over g' || (may_follow_comma g && not (may_follow_comma g')))
+
+pub kept : (a b : Bool) → (a && not b) ≡ false → b ≡ false → a ≡ false
+kept false b h k = refl
+kept true true h k = cc
+kept true false h k = cc
+
+unbroken : (g g' : Goal) → breaks g g' ≡ false → (is_over g ≡ false) × (is_over g' ≡ false) × (may_follow_comma g' ≡ false → may_follow_comma g ≡ false)
+unbroken g g' h =
+    let one = or_parts (is_over g) (is_over g' || (may_follow_comma g && not (may_follow_comma g'))) h in
+    let two = or_parts (is_over g') (may_follow_comma g && not (may_follow_comma g')) one.1 in
+    (one.0, two.0, kept (may_follow_comma g) (may_follow_comma g') two.1)
+
 -- The token stays, and an event is given.
 pub left : {T : Type 0} (m : Position) {g g' : Goal} {p r : Reader T} {o : Option Tok} {ss' : List State} {e : Raw} {v : Ev} {names names' : Names} {given : List (Ev × Position)}
     → peeked_tok p.tokens ≡ o → r.tokens ≡ p.tokens → r.stack ≡ ss' → Leaves g p.stack o (Some e) g' ss'
-    → Named p r g' names e v names' → (is_over g || is_over g') ≡ false → has_position e ≡ false
+    → Named p r g' names e v names' → breaks g g' ≡ false → has_position e ≡ false
     → At g p names given → At g' r names' (given ++ (v, m) ∷ [])
 left {T} m {g} {g'} {p} {r} {o} {ss'} {e} {v} {names} {names'} {given} here same to turn n wakes spot a =
     let one = stands_leave g p.stack o (Some e) g' ss' (taken_toks p.tokens) a.raw turn (subst (λ x. IsOnTrack g p.stack (taken_toks p.tokens) x a.raw) here a.stands) in
@@ -157,8 +174,9 @@ left {T} m {g} {g'} {p} {r} {o} {ss'} {e} {v} {names} {names'} {given} here same
       raw = a.raw ++ e ∷ [];
       stands = subst (λ x. IsOnTrack g' r.stack (taken_toks x) (peeked_tok x) (a.raw ++ e ∷ [])) (sym same) three;
       handed = subst IsHanded (sym same) a.handed;
-      awake = λ w. subst IsAwake (sym same) (a.awake (or_parts (is_over g) (is_over g') wakes).0);
-      over = λ w. absurd (both_ways (is_over g') (or_parts (is_over g) (is_over g') wakes).1 w);
+      awake = λ w. subst IsAwake (sym same) (a.awake (unbroken g g' wakes).0);
+      over = λ w. absurd (both_ways (is_over g') (unbroken g g' wakes).1 w);
+      comma = λ f. ap (λ x. (before_next x).comma) same ∙ a.comma ((unbroken g g' wakes).2 f);
       count = count_more m a.raw e v given a.count;
       few = few_kept (a.raw ++ e ∷ []) n.keep (few_more (length p.names.keeping.settings.items) a.raw e a.few);
       positions = positions_left m a.raw e v given (all_shown p.tokens.taken.items) (all_shown r.tokens.taken.items) (ap (λ x. all_shown x.taken.items) same) a.count spot a.positions;
@@ -171,7 +189,7 @@ left {T} m {g} {g'} {p} {r} {o} {ss'} {e} {v} {names} {names'} {given} here same
 -- The token stays, and no event is given; the code's names may change.
 pub left_as : {T : Type 0} {g g' : Goal} {p r : Reader T} {o : Option Tok} {ss' : List State} {names : Names} {given : List (Ev × Position)}
     → peeked_tok p.tokens ≡ o → r.tokens ≡ p.tokens → r.stack ≡ ss' → Leaves g p.stack o None g' ss'
-    → r.names.keeping ≡ p.names.keeping → IsNamed r.names (names_at r.names.keeping.tags g' names) → IsPending names g' → (is_over g || is_over g') ≡ false
+    → r.names.keeping ≡ p.names.keeping → IsNamed r.names (names_at r.names.keeping.tags g' names) → IsPending names g' → breaks g g' ≡ false
     → At g p names given → At g' r names given
 left_as {T} {g} {g'} {p} {r} {o} {ss'} {names} {given} here same to turn keep code pending wakes a =
     let one = stands_leave g p.stack o None g' ss' (taken_toks p.tokens) a.raw turn (subst (λ x. IsOnTrack g p.stack (taken_toks p.tokens) x a.raw) here a.stands) in
@@ -181,8 +199,9 @@ left_as {T} {g} {g'} {p} {r} {o} {ss'} {names} {given} here same to turn keep co
       raw = a.raw;
       stands = subst (λ x. IsOnTrack g' r.stack (taken_toks x) (peeked_tok x) a.raw) (sym same) three;
       handed = subst IsHanded (sym same) a.handed;
-      awake = λ w. subst IsAwake (sym same) (a.awake (or_parts (is_over g) (is_over g') wakes).0);
-      over = λ w. absurd (both_ways (is_over g') (or_parts (is_over g) (is_over g') wakes).1 w);
+      awake = λ w. subst IsAwake (sym same) (a.awake (unbroken g g' wakes).0);
+      over = λ w. absurd (both_ways (is_over g') (unbroken g g' wakes).1 w);
+      comma = λ f. ap (λ x. (before_next x).comma) same ∙ a.comma ((unbroken g g' wakes).2 f);
       count = a.count;
       few = few_kept a.raw keep a.few;
       positions = a.positions ∙ sym (ap (λ x. given_positions (all_shown x.taken.items)) same);
@@ -195,7 +214,7 @@ left_as {T} {g} {g'} {p} {r} {o} {ss'} {names} {given} here same to turn keep co
 -- The token stays, no event is given, and the code's names stay.
 pub left_on : {T : Type 0} {g g' : Goal} {p r : Reader T} {o : Option Tok} {ss' : List State} {names : Names} {given : List (Ev × Position)}
     → peeked_tok p.tokens ≡ o → r.tokens ≡ p.tokens → r.stack ≡ ss' → Leaves g p.stack o None g' ss'
-    → r.names ≡ p.names → names_at p.names.keeping.tags g' names ≡ names_at p.names.keeping.tags g names → IsPending names g' → (is_over g || is_over g') ≡ false
+    → r.names ≡ p.names → names_at p.names.keeping.tags g' names ≡ names_at p.names.keeping.tags g names → IsPending names g' → breaks g g' ≡ false
     → At g p names given → At g' r names given
 left_on {T} {g} {g'} {p} {r} {o} {ss'} {names} {given} here same to turn names_same seen pending wakes a =
     left_as here same to turn (ap (λ n. n.keeping) names_same)
@@ -226,6 +245,7 @@ looks_on {T} {p} {r} taken same handed awake stack names_same {g} {names} {given
       count = a.count;
       few = few_kept a.raw (ap (λ n. n.keeping) names_same) a.few;
       positions = a.positions ∙ sym (ap (λ x. given_positions (all_shown x.items)) taken);
+      comma = λ f. ap (λ x. (past_all nothing_before (all_shown x.items)).comma) taken ∙ a.comma f;
       events = ap (λ n. named_by n.keeping a.raw) names_same ∙ a.events;
       names_are = ap (λ n. names_by n.keeping a.raw) names_same ∙ a.names_are;
       code = subst (λ n. IsNamed n (names_at n.keeping.tags g names)) (sym names_same) a.code;

@@ -98,10 +98,10 @@ pub more_items_ways : Ways at.more_items
 more_items_ways = record {
   token = Tok.flow_sequence_end;
   other_token = Tok.flow_entry;
-  event = Raw.sequence_end;
+  event = Raw.flow_sequence_end;
   other_event = Raw.scalar [] Style.plain None None;
   one = record { awaited = end_items; tokens = λ r. (r, refl); events = λ r. (r, refl) };
-  other = record { awaited = comma_item (single (flow_content None (scalar Style.plain []))) end_items; tokens = λ r. (Tok.scalar Style.plain [] ∷ Tok.flow_sequence_end ∷ r, refl); events = λ r. (Raw.sequence_end ∷ r, refl) };
+  other = record { awaited = comma_item (single (flow_content None (scalar Style.plain []))) end_items; tokens = λ r. (Tok.scalar Style.plain [] ∷ Tok.flow_sequence_end ∷ r, refl); events = λ r. (Raw.flow_sequence_end ∷ r, refl) };
   two_tokens = λ e. cc;
   two_events = λ e. cc;
 }
@@ -110,10 +110,10 @@ pub more_flow_pairs_ways : Ways at.more_flow_pairs
 more_flow_pairs_ways = record {
   token = Tok.flow_mapping_end;
   other_token = Tok.flow_entry;
-  event = Raw.mapping_end;
+  event = Raw.flow_mapping_end;
   other_event = nothing_written;
   one = record { awaited = end_flow_pairs; tokens = λ r. (r, refl); events = λ r. (r, refl) };
-  other = record { awaited = comma_flow_pair (flow_keyless no_flow) end_flow_pairs; tokens = λ r. (Tok.value ∷ Tok.flow_mapping_end ∷ r, refl); events = λ r. (nothing_written ∷ Raw.mapping_end ∷ r, refl) };
+  other = record { awaited = comma_flow_pair (flow_keyless no_flow) end_flow_pairs; tokens = λ r. (Tok.value ∷ Tok.flow_mapping_end ∷ r, refl); events = λ r. (nothing_written ∷ Raw.flow_mapping_end ∷ r, refl) };
   two_tokens = λ e. cc;
   two_events = λ e. cc;
 }
@@ -126,7 +126,7 @@ content_ways = record {
   event = Raw.scalar [] Style.plain None None;
   other_event = Raw.flow_sequence_start None None;
   one = record { awaited = (Some (scalar Style.plain []), tt); tokens = λ r. (r, refl); events = λ r. (r, refl) };
-  other = record { awaited = (Some (flow_sequence no_items), tt); tokens = λ r. (Tok.flow_sequence_end ∷ r, refl); events = λ r. (Raw.sequence_end ∷ r, refl) };
+  other = record { awaited = (Some (flow_sequence no_items), tt); tokens = λ r. (Tok.flow_sequence_end ∷ r, refl); events = λ r. (Raw.flow_sequence_end ∷ r, refl) };
   two_tokens = λ e. cc;
   two_events = λ e. cc;
 }
@@ -137,9 +137,9 @@ node_scalar context.Block = record { awaited = block_content None (flow (scalar 
 node_scalar context.Part = record { awaited = part_node (block_content None (flow (scalar Style.plain []))); tokens = λ r. (r, refl); events = λ r. (r, refl) }
 
 node_sequence : (w : NodeContext) → Way (at.node w) Tok.flow_sequence_start (Raw.flow_sequence_start None None)
-node_sequence context.Flow = record { awaited = flow_content None (flow_sequence no_items); tokens = λ r. (Tok.flow_sequence_end ∷ r, refl); events = λ r. (Raw.sequence_end ∷ r, refl) }
-node_sequence context.Block = record { awaited = block_content None (flow (flow_sequence no_items)); tokens = λ r. (Tok.flow_sequence_end ∷ r, refl); events = λ r. (Raw.sequence_end ∷ r, refl) }
-node_sequence context.Part = record { awaited = part_node (block_content None (flow (flow_sequence no_items))); tokens = λ r. (Tok.flow_sequence_end ∷ r, refl); events = λ r. (Raw.sequence_end ∷ r, refl) }
+node_sequence context.Flow = record { awaited = flow_content None (flow_sequence no_items); tokens = λ r. (Tok.flow_sequence_end ∷ r, refl); events = λ r. (Raw.flow_sequence_end ∷ r, refl) }
+node_sequence context.Block = record { awaited = block_content None (flow (flow_sequence no_items)); tokens = λ r. (Tok.flow_sequence_end ∷ r, refl); events = λ r. (Raw.flow_sequence_end ∷ r, refl) }
+node_sequence context.Part = record { awaited = part_node (block_content None (flow (flow_sequence no_items))); tokens = λ r. (Tok.flow_sequence_end ∷ r, refl); events = λ r. (Raw.flow_sequence_end ∷ r, refl) }
 
 pub node_ways : (w : NodeContext) → Ways (at.node w)
 node_ways w = record {
@@ -159,9 +159,9 @@ anchored_scalar context.Block a = record { awaited = (None, Some (flow (scalar S
 anchored_scalar context.Part a = record { awaited = (None, Some (part_content (flow (scalar Style.plain [])))); tokens = λ r. (r, refl); events = λ r. (r, refl) }
 
 anchored_sequence : (w : NodeContext) (a : List ℕ) → Way (at.after_anchor w a) Tok.flow_sequence_start (Raw.flow_sequence_start (Some a) None)
-anchored_sequence context.Flow a = record { awaited = (None, Some (flow_sequence no_items)); tokens = λ r. (Tok.flow_sequence_end ∷ r, refl); events = λ r. (Raw.sequence_end ∷ r, refl) }
-anchored_sequence context.Block a = record { awaited = (None, Some (flow (flow_sequence no_items))); tokens = λ r. (Tok.flow_sequence_end ∷ r, refl); events = λ r. (Raw.sequence_end ∷ r, refl) }
-anchored_sequence context.Part a = record { awaited = (None, Some (part_content (flow (flow_sequence no_items)))); tokens = λ r. (Tok.flow_sequence_end ∷ r, refl); events = λ r. (Raw.sequence_end ∷ r, refl) }
+anchored_sequence context.Flow a = record { awaited = (None, Some (flow_sequence no_items)); tokens = λ r. (Tok.flow_sequence_end ∷ r, refl); events = λ r. (Raw.flow_sequence_end ∷ r, refl) }
+anchored_sequence context.Block a = record { awaited = (None, Some (flow (flow_sequence no_items))); tokens = λ r. (Tok.flow_sequence_end ∷ r, refl); events = λ r. (Raw.flow_sequence_end ∷ r, refl) }
+anchored_sequence context.Part a = record { awaited = (None, Some (part_content (flow (flow_sequence no_items)))); tokens = λ r. (Tok.flow_sequence_end ∷ r, refl); events = λ r. (Raw.flow_sequence_end ∷ r, refl) }
 
 pub anchored_ways : (w : NodeContext) (a : List ℕ) → Ways (at.after_anchor w a)
 anchored_ways w a = record {

@@ -25,7 +25,7 @@ use Rattle.yaml_parser.specs.declared.reader.Reader.{Reader}
 use Rattle.yaml_parser.specs.Ahead.{Skips}
 use Rattle.yaml_parser.specs.Blames.{Blames}
 use Rattle.yaml_parser.specs.Halts.{IsHalted}
-use Rattle.yaml_parser.specs.Handed.{taken_toks, peeked_tok, IsHanded, IsAwake}
+use Rattle.yaml_parser.specs.Handed.{taken_toks, peeked_tok, before_next, IsHanded, IsAwake}
 use Rattle.yaml_parser.specs.Named.{IsNamed}
 use Rattle.yaml_parser.specs.Settings.{named_since, names_since}
 use Rattle.yaml_parser.specs.Shown.{placed, ev_of}
@@ -41,6 +41,16 @@ is_done _ = false
 -- whether it reads nothing here
 abbrev pub is_idle : Goal → Bool
 is_idle g = is_over g || is_done g
+
+-- whether a comma may stand right before it
+abbrev pub may_follow_comma : Goal → Bool
+may_follow_comma at.comma_items = true
+may_follow_comma at.item = true
+may_follow_comma at.comma_flow_pairs = true
+may_follow_comma at.flow_pair = true
+may_follow_comma (at.node c) = true
+may_follow_comma (at.after_properties c None) = true
+may_follow_comma _ = false
 
 -- ---- names
 
@@ -76,6 +86,7 @@ pub record At {T : Type 0} (g : Goal) (p : Reader T) (names : Names) (given : Li
   pub count : length raw ≡ length given
   pub few : length p.names.keeping.settings.items ≤ length raw
   pub positions : taken_positions raw (positions_of given) ≡ given_positions (all_shown p.tokens.taken.items)
+  pub comma : may_follow_comma g ≡ false → (before_next p.tokens).comma ≡ None
   pub events : named_by p.names.keeping raw ≡ Some (events_of given)
   pub names_are : names_by p.names.keeping raw ≡ names
   pub code : IsNamed p.names (names_at p.names.keeping.tags g names)

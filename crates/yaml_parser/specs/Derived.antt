@@ -19,8 +19,8 @@ abbrev pub NoneIsNamed : (settings : List Bool) → (keep_tags : Bool) → List 
 NoneIsNamed settings keep_tags tokens =
     (d : Documents) (ts : List Tok) (es : List Ev) → stream_tokens d ≡ tokens ++ ts → named_since settings keep_tags no_names (stream_events d) ≡ Some es → ⊥
 
--- The tokens are a stream, with these events before names are resolved and after. Scalars, aliases and flow starts are those of the
--- tokens, in order, each at its token's position.
+-- The tokens are a stream, with these events before names are resolved and after. Those that have a token of their own are those of
+-- the tokens, in order, each at its token's position.
 pub record IsStreamSince (settings : List Bool) (keep_tags : Bool) (tokens : List Token) (raw : List Raw) (events : List (Ev × Position)) : Type 0 where
   pub documents : Documents
   pub has_tokens : stream_tokens documents ≡ toks tokens
@@ -29,7 +29,7 @@ pub record IsStreamSince (settings : List Bool) (keep_tags : Bool) (tokens : Lis
   pub has_positions : taken_positions raw (positions_of events) ≡ given_positions tokens
 
 -- The events come of the tokens: a stream begins with these tokens, and with these events before names are resolved and after.
--- The scalars, aliases and flow starts among them are those of these tokens, in order, each at its token's position.
+-- Those among them that have a token of their own are those of these tokens, in order, each at its token's position.
 pub record IsDerived (settings : List Bool) (keep_tags : Bool) (tokens : List Token) (raw : List Raw) (events : List (Ev × Position)) : Type 0 where
   pub more_tokens : List Token
   pub more_raw : List Raw

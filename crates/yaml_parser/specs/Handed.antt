@@ -1,5 +1,6 @@
 -- The tokens of a parser, and those that its scanner handed out.
 use Rattle.std.specs.Prelude.{◌≡◌, List, [], ◌∷◌, ◌++◌, Bool, false, Option, Some, None, option_map}
+use Rattle.defs_text.specs.Position.{Position}
 use Rattle.defs_token.specs.Token as defs
 use Rattle.defs_token.specs.Token.{Tok}
 use Rattle.yaml_tokens.specs.declared.token.Token.{Token}
@@ -7,6 +8,7 @@ use Rattle.yaml_tokens.specs.Shown.{shown, all_shown, tok_of}
 use Rattle.yaml_scanner.specs.Scanned.{scanned}
 use Rattle.yaml_scanner_state.specs.Tokens.{is_end}
 use Rattle.defs_token.specs.Toks.{toks}
+use Rattle.defs_event.specs.Stream.{Before, nothing_before, past_all}
 use Rattle.yaml_parser.specs.declared.tokens.Tokens.{Tokens}
 
 abbrev pub shown_list : Option Token → List defs.Token
@@ -18,6 +20,14 @@ taken_toks p = toks (all_shown p.taken.items)
 
 abbrev pub peeked_tok : {T : Type 0} → Tokens T → Option Tok
 peeked_tok p = option_map (λ (t : Token). tok_of t.1) p.peeked
+
+-- what stands before the next token
+abbrev pub before_next : {T : Type 0} → Tokens T → Before
+before_next p = past_all nothing_before (all_shown p.taken.items)
+
+-- A comma was taken last, at this position.
+abbrev pub IsAfterComma : {T : Type 0} → Position → Tokens T → Type 0
+IsAfterComma comma p = (before_next p).comma ≡ Some comma
 
 -- The scanner handed out what was taken, and what was looked at.
 abbrev pub IsHanded : {T : Type 0} → Tokens T → Type 0

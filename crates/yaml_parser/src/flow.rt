@@ -2,6 +2,7 @@
 ghost use Rattle.std.specs.Prelude.{◌≡◌, List, ◌+◌, ◌<◌, ◌≤◌, OnOk};
 ghost use Rattle.model_parser.specs.Goal as at;
 ghost use Rattle.yaml_parser.specs.At.{Reads};
+ghost use Rattle.yaml_parser.specs.Handed.{IsAfterComma};
 ghost use Rattle.yaml_parser.specs.Work.{work};
 ghost use Rattle.yaml_parser.specs.Kinds.{IsOfKind};
 
@@ -37,7 +38,10 @@ impl<T: Iterator<Item = char>> Reader<T> {
     {
         let next = self.peek()?;
         match next {
-            Kind::FlowSequenceEnd => Ok((Event::SequenceEnd, self.skip())),
+            Kind::FlowSequenceEnd => {
+                let bracket = self.skip();
+                Ok((Event::SequenceEnd, bracket))
+            }
             Kind::FlowEntry => {
                 self.skip();
                 self.flow_sequence_next()
@@ -171,7 +175,10 @@ impl<T: Iterator<Item = char>> Reader<T> {
     {
         let next = self.peek()?;
         match next {
-            Kind::FlowMappingEnd => Ok((Event::MappingEnd, self.skip())),
+            Kind::FlowMappingEnd => {
+                let brace = self.skip();
+                Ok((Event::MappingEnd, brace))
+            }
             Kind::FlowEntry => {
                 let comma = self.skip();
                 self.flow_mapping_next(comma)
@@ -183,7 +190,7 @@ impl<T: Iterator<Item = char>> Reader<T> {
     /// After a comma, which stands here.
     #[inline(always)]
     fn flow_mapping_next(&mut self, comma: Marker) -> Answer
-        ensures answers { Reads at.comma_flow_pairs self.old self.new result }
+        ensures answers { IsAfterComma comma self.old.tokens → Reads at.comma_flow_pairs self.old self.new result }
         ensures work { OnOk result (work self.new < work self.old + 2) }
         ensures keeping { self.new.names.keeping ≡ self.old.names.keeping }
         ensures start { self.new.tokens.scanner.start ≡ self.old.tokens.scanner.start }

@@ -92,6 +92,14 @@ no_items keep s a read h = record {
   reads = λ held. ap (λ ts. Ok (ts, read)) (sym (append-nil held));
 }
 
+pub no_flow_items : (keep : Bool) (s : Names) (a : List Anchor) (read : Anchors) → Agrees s a read → ReadsItems keep s a a read (λ r. Raw.flow_sequence_end ∷ r) []
+no_flow_items keep s a read h = record {
+  after = after_nothing s a read h;
+  nodes = no_nests;
+  names = λ r es k. and_then _ _ es k;
+  reads = λ held. ap (λ ts. Ok (ts, read)) (sym (append-nil held));
+}
+
 pub item_reads : (keep : Bool) (s : Names) (a b c : List Anchor) (read : Anchors) (first others : List Raw → List Raw) (t : Tree) (ts : List Tree)
     (x : ReadsNode keep s a b read first t) → ReadsItems keep x.after.names b c x.after.read others ts → ReadsItems keep s a c read (λ r. first (others r)) (t ∷ ts)
 item_reads keep s a b c read first others t ts x y = record {
@@ -103,6 +111,14 @@ item_reads keep s a b c read first others t ts x y = record {
 
 pub no_pairs : (keep : Bool) (s : Names) (a : List Anchor) (read : Anchors) → Agrees s a read → ReadsPairs keep s a a read (λ r. Raw.mapping_end ∷ r) []
 no_pairs keep s a read h = record {
+  after = after_nothing s a read h;
+  nodes = no_nest_pairs;
+  names = λ r es k. and_then _ _ es k;
+  reads = λ held distinct. ap (λ ps. Ok (ps, read)) (sym (append-nil held));
+}
+
+pub no_flow_pairs : (keep : Bool) (s : Names) (a : List Anchor) (read : Anchors) → Agrees s a read → ReadsPairs keep s a a read (λ r. Raw.flow_mapping_end ∷ r) []
+no_flow_pairs keep s a read h = record {
   after = after_nothing s a read h;
   nodes = no_nest_pairs;
   names = λ r es k. and_then _ _ es k;

@@ -20,7 +20,7 @@ use Rattle.proof_layout_trees.proofs.Json.Derived as json
 use Rattle.proof_layout_trees.proofs.Json.Reading as json_reading
 use Rattle.proof_layout_trees.proofs.Layouts.Derived.{properties, scalar, inline, block, node, entries, first_entry, later_entries, part, field, fields, root, IsAnchorable}
 use Rattle.proof_layout_trees.proofs.Numbered.{Agrees, after_nothing, begun_by, ended_by, begun_agrees, found}
-use Rattle.proof_layout_trees.proofs.Layouts.Nodes.{ReadsNode, ReadsItems, ReadsPairs, leaf_reads, Starts, sequence_reads, mapping_reads, no_items, item_reads, no_pairs, pair_reads}
+use Rattle.proof_layout_trees.proofs.Layouts.Nodes.{ReadsNode, ReadsItems, ReadsPairs, leaf_reads, Starts, sequence_reads, mapping_reads, no_items, no_flow_items, item_reads, no_pairs, no_flow_pairs, pair_reads}
 
 -- ---- what starts a collection
 
@@ -66,11 +66,11 @@ inline_reads : (keep : Bool) (s : Names) (a : List Anchor) (read : Anchors) (o :
     → ReadsNode keep s a (ended_by o (inline_tree i) (begun_by o a)) read (λ r. node_events (grammar.block_content (properties o) (inline i)) r) (inline_tree i)
 inline_reads keep s a read o (Inline.scalar x) is h = scalar_reads keep s a read o x is h
 inline_reads keep s a read o Inline.empty_array is h =
-    sequence_reads keep s a (begun_by o a) read o _ (λ r. Raw.sequence_end ∷ r) Items.no_items (flow_sequence_starts keep s o)
-    (no_items keep (with_anchor s o) (begun_by o a) read (begun_agrees o s a read h))
+    sequence_reads keep s a (begun_by o a) read o _ (λ r. Raw.flow_sequence_end ∷ r) Items.no_items (flow_sequence_starts keep s o)
+    (no_flow_items keep (with_anchor s o) (begun_by o a) read (begun_agrees o s a read h))
 inline_reads keep s a read o Inline.empty_hash is h =
-    mapping_reads keep s a (begun_by o a) read o _ (λ r. Raw.mapping_end ∷ r) [] (flow_mapping_starts keep s o) tt
-    (no_pairs keep (with_anchor s o) (begun_by o a) read (begun_agrees o s a read h))
+    mapping_reads keep s a (begun_by o a) read o _ (λ r. Raw.flow_mapping_end ∷ r) [] (flow_mapping_starts keep s o) tt
+    (no_flow_pairs keep (with_anchor s o) (begun_by o a) read (begun_agrees o s a read h))
 
 json_reads : (keep : Bool) (s : Names) (a : List Anchor) (read : Anchors) (v : Json) → IsJson v → Agrees s a read
     → ReadsNode keep s a a read (λ r. node_events (grammar.block_content None (grammar.flow (json.content v))) r) (tree_of v)

@@ -1,10 +1,11 @@
 use Rattle.std.proofs.Common.{refl}
 use Rattle.model_parser.proofs.Flow as turn
-use Rattle.yaml_parser.proofs.Arms.{gives, goes, stays, plain, stay, stay_push, push_after, answers_written, not_as}
+use Rattle.yaml_parser.proofs.Arms.{gives, stays, plain, stay, stay_push, push_after, answers_written, not_as, goes_on}
+use Rattle.yaml_parser.proofs.InFlow.{key_in_mapping}
 use Rattle.yaml_parser.proofs.reader.Reader.flow_mapping_pair.Goals as goal
 
 pub returns-in-Key-clause-answers : goal.returns-in-Key-clause-answers
-returns-in-Key-clause-answers g c = λ names given h. c.flow_mapping_keyed.ensures.answers names given (goes c.requires c.in-Key.is refl c.skip.ensures.took (turn.flow_pair_key _) refl tt refl refl h)
+returns-in-Key-clause-answers g c = λ names given h. c.flow_mapping_keyed.ensures.answers names given (goes_on c.requires c.in-Key.is refl c.skip.ensures.took (turn.flow_pair_key _) refl tt refl refl (key_in_mapping h) (λ f. refl) h)
 
 pub returns-in_ok-push-in-Value-clause-answers : goal.returns-in_ok-push-in-Value-clause-answers
 returns-in_ok-push-in-Value-clause-answers g c = λ names given h. answers_written _ given c.nothing_written.result c.nothing_written.ensures (gives _ c.requires c.in-Value.is refl (push_after c.skip-colon.ensures.took c.in_ok-push-in-Value.ensures.stayed) (turn.flow_pair_value _ _) (plain refl refl refl refl) refl refl h)
