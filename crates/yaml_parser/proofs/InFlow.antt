@@ -1,5 +1,5 @@
 -- The arms of brackets, of commas before them, and of keys: with the collections around them.
-use Rattle.std.proofs.Common.{◌≡◌, List, [], ◌∷◌, ◌++◌, Option, Some, None, true, false, refl, sym, ap, ◌∙◌}
+use Rattle.std.proofs.Common.{◌≡◌, List, [], ◌∷◌, ◌++◌, Some, None, true, false, refl, sym, ap, ◌∙◌}
 use Rattle.std.specs.Option.{IfSome}
 use Rattle.defs_text.specs.Position.{Position}
 use Rattle.defs_token.specs.Token as defs
@@ -26,7 +26,7 @@ use Rattle.yaml_parser.specs.declared.reader.Reader.{Reader}
 use Rattle.yaml_parser.specs.Handed.{taken_toks, before_next, IsAfterComma}
 use Rattle.yaml_parser.specs.Kinds.{IsOfKind}
 use Rattle.yaml_parser.specs.At.{At, is_over, may_follow_comma, names_at}
-use Rattle.yaml_parser.proofs.Positions.{IsPlaced, comma_more}
+use Rattle.yaml_parser.proofs.Positions.{comma_more}
 use Rattle.yaml_parser.proofs.Steps.{looked, if_some_at}
 use Rattle.yaml_parser.proofs.Arms.{Skipped, gives_at}
 use Rattle.yaml_parser.proofs.Ends.{ending}
