@@ -1,5 +1,5 @@
 //! Lines of a flow scalar, folded.
-ghost use Rattle.std.specs.Prelude.{◌≡◌, OnOk, IfOk};
+ghost use Rattle.std.specs.Prelude.{◌≡◌, OnOk};
 ghost use Rattle.model_lexers.specs.Folding.{nothing, with_char, with_blank, with_break, with_escaped_break, joined};
 ghost use Rattle.yaml_lexers.specs.Shown.{folded};
 
@@ -30,13 +30,12 @@ impl Folding {
         }
     }
 
-    /// Nothing yet, with room for a short text.
-    pub(crate) fn with_room(alloc: Global) -> Result<Self, AllocError>
-        ensures { IfOk result (λ s. folded s ≡ nothing) }
+    /// Makes room for a short text.
+    #[inline(always)]
+    pub(crate) fn make_room(&mut self) -> Result<(), AllocError>
+        ensures { folded self.new ≡ folded self.old }
     {
-        let mut scalar = Folding::new(alloc);
-        scalar.text.make_room()?;
-        Ok(scalar)
+        self.text.make_room()
     }
 
     #[inline(always)]

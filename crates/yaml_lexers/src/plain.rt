@@ -279,7 +279,8 @@ pub fn read_plain<T: Iterator<Item = char>>(
     window.lookahead(2);
     let start = window.mark();
     check_start(window, context)?;
-    let mut scalar = Folding::with_room(alloc)?;
+    let mut scalar = Folding::new(alloc);
+    scalar.make_room()?;
     'lines: loop {
         read_line(window, context, start, &mut scalar)?;
         if !goes_on(window, context)? {
