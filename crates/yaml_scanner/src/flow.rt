@@ -21,6 +21,7 @@ const DEEPEST_FLOW: usize = 255;
 
 impl<T: Iterator<Item = char>> Fetcher<T> {
     /// Steps over an indicator.
+    #[inline(always)]
     pub(crate) fn skip_indicator(&mut self)
         requires ahead { 0 < self.old.window.ahead }
         requires has { HasChar self.old.window }
@@ -33,6 +34,7 @@ impl<T: Iterator<Item = char>> Fetcher<T> {
     }
 
     /// Steps over an indicator, spaces and a comment.
+    #[inline(always)]
     pub(crate) fn pass_indicator(&mut self) -> Result<(), Fault>
         requires ahead { 0 < self.old.window.ahead }
         requires has { HasChar self.old.window }
@@ -185,6 +187,7 @@ impl<T: Iterator<Item = char>> Fetcher<T> {
     }
 
     /// Ends an entry of the innermost flow collection, and with it a single-pair mapping.
+    #[inline(always)]
     fn end_flow_pair(&mut self) -> Result<(), Fault>
         ensures held { OnOk result (held self.new ≡ end_flow_pair (held self.old)) }
         ensures err { IfErr result (λ e. e ≡ Fault.OutOfMemory) }
@@ -209,6 +212,7 @@ impl<T: Iterator<Item = char>> Fetcher<T> {
     }
 
     /// The state of the entry that is read at the innermost flow level.
+    #[inline(always)]
     pub(crate) fn flow_entry(&self) -> Option<FlowLevel>
         ensures { result ≡ top self.now.flow }
     {

@@ -16,6 +16,7 @@ use yaml_tokens::{Fault, Problem};
 
 impl<T: Iterator<Item = char>> Fetcher<T> {
     /// Steps over a line break. Outside flow a key may begin after it.
+    #[inline(always)]
     pub(crate) fn pass_break(&mut self)
         requires { HasChar self.old.window }
         ensures gap { Reads self.old.window self.new.window (λ a b. is_break (slice_index a 0) ≡ true → skip between a (held self.old) ≡ skip between b (held self.new)) }
@@ -149,6 +150,7 @@ impl<T: Iterator<Item = char>> Fetcher<T> {
     }
 
     /// Steps over spaces, TABs where these are to be skipped, and a comment.
+    #[inline(always)]
     pub(crate) fn skip_spaces(&mut self, tabs: SkipTabs) -> Result<Whitespace, Fault>
         ensures held { held self.new ≡ record (held self.old) { position = position_of self.new.window } }
         ensures reads { IfOk result (λ w. Reads self.old.window self.new.window (λ a b. space tabs a (position_of self.old.window) ≡ Ok (read b self.new.window w))) }
@@ -161,6 +163,7 @@ impl<T: Iterator<Item = char>> Fetcher<T> {
     }
 
     /// The same, where it does not matter what was found.
+    #[inline(always)]
     pub(crate) fn pass_spaces(&mut self, tabs: SkipTabs) -> Result<(), Fault>
         ensures does { OnOk result (Does (skip_spaces tabs) self.old self.new) }
         ensures fails { IfErr result (λ e. Fails (skip_spaces tabs) self.old self.new e) }
