@@ -69,6 +69,11 @@ impl<T: Iterator<Item = char>> Window<T> {
         ensures position { SamePosition self.old self.new }
         ensures ahead { n ≤ self.new.ahead }
     {
+        if self.len() >= n {
+            return;
+        }
+        // Mostly one is missing, and is filled in without a call.
+        self.fill_one();
         if self.len() < n {
             self.fill_to(n);
         }
