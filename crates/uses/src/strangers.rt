@@ -1,6 +1,7 @@
 //! A text that a stranger wrote. Each alias is a copy of a node, so a short text can ask for much memory; and a text may nest
 //! so deep that a comparison of its trees runs out of stack.
 ghost use Rattle.std.specs.Prelude.{false, IfOk, chars};
+ghost use Rattle.yaml_limits.specs.Sizes.{AreNoDeeper};
 ghost use Rattle.yaml_rust2.specs.Text.{up_to_nul};
 ghost use Rattle.yaml_rust2.specs.TextReadAs.{IsReadAs};
 ghost use Rattle.yaml_rust2.specs.View.{items_view};
@@ -17,6 +18,7 @@ pub fn load_from_stranger(
     levels: usize,
 ) -> Result<Vec<Yaml>, LimitsError>
     ensures reads { IfOk result (λ documents. IsReadAs false (up_to_nul (chars text.now)) (items_view documents.items)) }
+    ensures levels { IfOk result (λ documents. AreNoDeeper levels (items_view documents.items)) }
 {
     let Limits { size, .. } = Limits::for_text(text);
     load_with_limits(alloc, text, Limits { levels, size })
