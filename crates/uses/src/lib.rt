@@ -20,7 +20,7 @@ mod paths_tests;
 #[cfg(test)]
 mod receiver_tests;
 pub mod round_trip;
+pub mod rows;
 pub mod settings;
 pub mod strangers;
 pub mod validator;
-pub mod rows;
