@@ -37,7 +37,14 @@ fn told(rt: &HostRuntime, options: &[&str], bytes: &[u8]) -> Result<String, Fail
 }
 
 // What it shows, the options, what the file holds, and all that is printed.
-const ROWS: [(&str, &[&str], &[u8], &str); 12] = [
+type Row = (
+    &'static str,
+    &'static [&'static str],
+    &'static [u8],
+    &'static str,
+);
+
+const ROWS: [Row; 12] = [
     ("a text that loads", &[], b"a: [1, 2]\n", "0"),
     ("an empty file", &[], b"", "0"),
     (
@@ -102,13 +109,19 @@ const ROWS: [(&str, &[&str], &[u8], &str); 12] = [
     ),
 ];
 
-#[test]
-fn faults_are_told_with_their_lines(rt: HostRuntime) -> Result<(), Fail> {
+// The rows of which something else is printed.
+fn failed(rt: &HostRuntime, rows: &[Row]) -> Result<Report, Fail> {
     let mut report = Report::new(rt.alloc());
-    for (name, options, bytes, want) in ROWS {
-        let found = told(&rt, options, bytes)?;
+    for (name, options, bytes, want) in rows {
+        let found = told(rt, options, bytes)?;
         report.compare(name, "printed", found.as_str(), want)?;
     }
+    Ok(report)
+}
+
+#[test]
+fn faults_are_told_with_their_lines(rt: HostRuntime) -> Result<(), Fail> {
+    let report = failed(&rt, &ROWS)?;
     assert!(rt; report.is_empty(), "{report}");
     Ok(())
 }

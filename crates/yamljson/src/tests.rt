@@ -35,7 +35,14 @@ fn ran(rt: &HostRuntime, args: &[String]) -> Result<String, Fail> {
 }
 
 // What it shows, the options, what the file holds, and all that is printed.
-const ROWS: [(&str, &[&str], &[u8], &str); 9] = [
+type Row = (
+    &'static str,
+    &'static [&'static str],
+    &'static [u8],
+    &'static str,
+);
+
+const ROWS: [Row; 9] = [
     (
         "scalars and a block scalar",
         &[],
@@ -87,13 +94,19 @@ const ROWS: [(&str, &[&str], &[u8], &str); 9] = [
     ),
 ];
 
-#[test]
-fn files_are_printed(rt: HostRuntime) -> Result<(), Fail> {
+// The rows of which something else is printed.
+fn failed(rt: &HostRuntime, rows: &[Row]) -> Result<Report, Fail> {
     let mut report = Report::new(rt.alloc());
-    for (name, options, bytes, want) in ROWS {
-        let found = told(&rt, options, bytes)?;
+    for (name, options, bytes, want) in rows {
+        let found = told(rt, options, bytes)?;
         report.compare(name, "printed", found.as_str(), want)?;
     }
+    Ok(report)
+}
+
+#[test]
+fn files_are_printed(rt: HostRuntime) -> Result<(), Fail> {
+    let report = failed(&rt, &ROWS)?;
     assert!(rt; report.is_empty(), "{report}");
     Ok(())
 }

@@ -132,7 +132,14 @@ const DUMP: &[&str] = &["dump"];
 const OVERLAY: &[&str] = &["overlay"];
 
 // What it shows, a command with its options, what the file holds, and all that is printed.
-const ROWS: [(&str, &[&str], &[u8], &str); 10] = [
+type Row = (
+    &'static str,
+    &'static [&'static str],
+    &'static [u8],
+    &'static str,
+);
+
+const ROWS: [Row; 10] = [
     (
         "events with lines and columns",
         EVENTS,
@@ -195,19 +202,27 @@ const ROWS: [(&str, &[&str], &[u8], &str); 10] = [
     ),
 ];
 
-#[test]
-fn files_are_printed(rt: HostRuntime) -> Result<(), Fail> {
+// The rows of which something else is printed.
+fn failed(rt: &HostRuntime, rows: &[Row]) -> Result<Report, Fail> {
     let mut report = Report::new(rt.alloc());
-    for (name, command, bytes, want) in ROWS {
-        let found = told(&rt, command, bytes)?;
+    for (name, command, bytes, want) in rows {
+        let found = told(rt, command, bytes)?;
         report.compare(name, "printed", found.as_str(), want)?;
     }
+    Ok(report)
+}
+
+#[test]
+fn files_are_printed(rt: HostRuntime) -> Result<(), Fail> {
+    let report = failed(&rt, &ROWS)?;
     assert!(rt; report.is_empty(), "{report}");
     Ok(())
 }
 
 // What it shows, what the two files, `A` and `B`, hold, and all that is printed. `A` is read, loaded and counted first.
-const OVERLAYS: [(&str, &[u8], &[u8], &str); 6] = [
+type Overlay = (&'static str, &'static [u8], &'static [u8], &'static str);
+
+const OVERLAYS: [Overlay; 6] = [
     (
         "mappings are laid over each other, pair by pair",
         b"a: 1\nb: {c: 2}",
@@ -264,13 +279,19 @@ fn told_of_two(rt: &HostRuntime, below: &[u8], above: &[u8]) -> Result<String, F
     Ok(text.replace(alloc, right_name, "B")?)
 }
 
-#[test]
-fn files_are_laid_over_each_other(rt: HostRuntime) -> Result<(), Fail> {
+// The rows of which something else is printed.
+fn failed_overlays(rt: &HostRuntime, rows: &[Overlay]) -> Result<Report, Fail> {
     let mut report = Report::new(rt.alloc());
-    for (name, below, above, want) in OVERLAYS {
-        let found = told_of_two(&rt, below, above)?;
+    for (name, below, above, want) in rows {
+        let found = told_of_two(rt, below, above)?;
         report.compare(name, "printed", found.as_str(), want)?;
     }
+    Ok(report)
+}
+
+#[test]
+fn files_are_laid_over_each_other(rt: HostRuntime) -> Result<(), Fail> {
+    let report = failed_overlays(&rt, &OVERLAYS)?;
     assert!(rt; report.is_empty(), "{report}");
     Ok(())
 }
@@ -311,7 +332,9 @@ fn told_of_output(
 const UNWRITTEN: &str = "yamltool: cannot write\n1";
 
 // A full disk, one that fills up, and a pipe that is closed when the output is flushed. A dump is one write.
-const OUTPUTS: [(&str, &str, usize, bool, &str); 6] = [
+type Output = (&'static str, &'static str, usize, bool, &'static str);
+
+const OUTPUTS: [Output; 6] = [
     ("events on a full disk", "events", 0, true, UNWRITTEN),
     (
         "events on a disk that fills up",
@@ -332,22 +355,30 @@ const OUTPUTS: [(&str, &str, usize, bool, &str); 6] = [
     ("a dump into a closed pipe", "dump", 1000, false, UNWRITTEN),
 ];
 
+// The rows of which something else is told, with the file of this path.
+fn failed_outputs(rt: &HostRuntime, path: &str, rows: &[Output]) -> Result<Report, Fail> {
+    let mut report = Report::new(rt.alloc());
+    for (name, command, writes, flushes, want) in rows {
+        let told = told_of_output(rt, command, path, *writes, *flushes)?;
+        report.compare(name, "told", told.as_str(), want)?;
+    }
+    Ok(report)
+}
+
 #[test]
 fn outputs_that_fail_are_told(rt: HostRuntime) -> Result<(), Fail> {
     let path = env::temp_dir(&rt)?.join(rt.alloc(), "yamltool-failing.yaml")?;
     fs::write(&rt, path.as_path(), b"a")?;
     let name = path.as_path().to_str().unwrap_or("");
-    let mut report = Report::new(rt.alloc());
-    for (row, command, writes, flushes, want) in OUTPUTS {
-        let told = told_of_output(&rt, command, name, writes, flushes)?;
-        report.compare(row, "told", told.as_str(), want)?;
-    }
+    let report = failed_outputs(&rt, name, &OUTPUTS)?;
     assert!(rt; report.is_empty(), "{report}");
     Ok(())
 }
 
 // What it shows, and the arguments.
-const UNKNOWN: [(&str, &[&str]); 7] = [
+type Arguments = (&'static str, &'static [&'static str]);
+
+const UNKNOWN: [Arguments; 7] = [
     ("no command", &[]),
     ("events without a file", &["events"]),
     ("events with an option", &["events", "--spread", "x"]),
@@ -357,35 +388,58 @@ const UNKNOWN: [(&str, &[&str]); 7] = [
     ("an overlay of three files", &["overlay", "a", "b", "c"]),
 ];
 
+// The rows of which something else is said than this, or of which something is printed.
+fn failed_arguments(rt: &HostRuntime, want: &str, rows: &[Arguments]) -> Result<Report, Fail> {
+    let mut report = Report::new(rt.alloc());
+    for (name, list) in rows {
+        let args = words(rt.alloc(), list)?;
+        let (printed, said) = ran(rt, args.as_slice())?;
+        report.compare(name, "said", said.as_str(), want)?;
+        report.compare(name, "printed", printed.as_str(), "")?;
+    }
+    Ok(report)
+}
+
 #[test]
 fn other_arguments_give_the_usage(rt: HostRuntime) -> Result<(), Fail> {
     let want = format!(in rt.alloc(); "{USAGE}2")?;
-    let mut report = Report::new(rt.alloc());
-    for (name, list) in UNKNOWN {
-        let args = words(rt.alloc(), list)?;
-        let (printed, said) = ran(&rt, args.as_slice())?;
-        report.compare(name, "said", said.as_str(), want.as_str())?;
-        report.compare(name, "printed", printed.as_str(), "")?;
-    }
+    let report = failed_arguments(&rt, want.as_str(), &UNKNOWN)?;
     assert!(rt; report.is_empty(), "{report}");
     Ok(())
 }
 
-// Arguments that are not UTF-8 or found no memory, and an output that found none.
+// What is said at the start, and the status.
+fn told_of_start(
+    rt: &HostRuntime,
+    args: io::Result<Vec<String>>,
+    out: io::Result<Vec<u8>>,
+) -> Result<String, Fail> {
+    let alloc = rt.alloc();
+    let mut err = Vec::new(alloc);
+    let status = start(rt, alloc, args, out, &mut err);
+    let said = String::from_utf8_lossy(alloc, err.as_slice())?;
+    Ok(format!(in alloc; "{said}{status}")?)
+}
+
+// Arguments that are not UTF-8 or found no memory.
 #[test]
-fn what_cannot_be_had_at_the_start_is_told(rt: HostRuntime) -> Result<(), Fail> {
+fn arguments_that_cannot_be_had_are_told(rt: HostRuntime) -> Result<(), Fail> {
+    let alloc = rt.alloc();
+    let args = Err(io::Error::from(ErrorKind::InvalidData));
+    let told = told_of_start(&rt, args, Ok(Vec::new(alloc)))?;
+    assert_eq!(rt; told.as_str(), format!(in alloc; "{USAGE}2")?.as_str());
+    let args = Err(io::Error::from(ErrorKind::OutOfMemory));
+    let told = told_of_start(&rt, args, Ok(Vec::new(alloc)))?;
+    assert_eq!(rt; told.as_str(), format!(in alloc; "{WANT}1")?.as_str());
+    Ok(())
+}
+
+#[test]
+fn an_output_that_finds_no_memory_is_told(rt: HostRuntime) -> Result<(), Fail> {
     let alloc = rt.alloc();
     let args = words(alloc, &["events", "x"])?;
-    for (args, out, status, line) in [
-        (Err(ErrorKind::InvalidData), Ok(Vec::new(alloc)), 2, USAGE),
-        (Err(ErrorKind::OutOfMemory), Ok(Vec::new(alloc)), 1, WANT),
-        (Ok(args), Err(ErrorKind::OutOfMemory), 1, WANT),
-    ] {
-        let args = args.map_err(|kind| io::Error::from(kind));
-        let out: io::Result<Vec<u8>> = out.map_err(|kind| io::Error::from(kind));
-        let mut err = Vec::new(alloc);
-        assert_eq!(rt; start(&rt, alloc, args, out, &mut err), status);
-        assert_eq!(rt; err.as_slice(), line.as_bytes());
-    }
+    let out = Err(io::Error::from(ErrorKind::OutOfMemory));
+    let told = told_of_start(&rt, Ok(args), out)?;
+    assert_eq!(rt; told.as_str(), format!(in alloc; "{WANT}1")?.as_str());
     Ok(())
 }
