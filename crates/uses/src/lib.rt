@@ -19,6 +19,8 @@ pub mod merged_settings;
 mod paths_tests;
 #[cfg(test)]
 mod receiver_tests;
+#[cfg(test)]
+mod refused_json_tests;
 pub mod round_trip;
 pub mod rows;
 pub mod settings;
