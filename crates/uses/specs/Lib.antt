@@ -4,3 +4,4 @@ pub mod Ports
 pub mod Rows
 pub mod Servers
 pub mod Settings
+pub mod Tables

@@ -15,6 +15,7 @@ pub mod many_documents;
 #[cfg(test)]
 mod marked_tests;
 pub mod merged_settings;
+pub mod one_by_one;
 #[cfg(test)]
 mod paths_tests;
 #[cfg(test)]

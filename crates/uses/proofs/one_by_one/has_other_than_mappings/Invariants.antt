@@ -1,0 +1,14 @@
+use Rattle.std.proofs.Common.{◌≡◌, false}
+use Rattle.std.specs.Iterator.{AlwaysYields}
+use Rattle.std.specs.Str.{chars}
+use Rattle.std.specs.Str.Iter.{chars_steps}
+use Rattle.uses.specs.Tables.{has_other}
+use Rattle.yaml_documents.specs.Stream.{given}
+use Rattle.uses.proofs.one_by_one.has_other_than_mappings.Given as goal
+
+abbrev pub invariant-documents : goal.invariant-documents
+invariant-documents l = record {
+  text : AlwaysYields chars_steps (λ c. c) l.document-iterator.start (chars l.fn.log);
+  going : l.document-iterator.over ≡ false;
+  found : l.other ≡ has_other (given l.document-iterator);
+}
