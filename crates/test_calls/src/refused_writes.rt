@@ -1,7 +1,9 @@
 //! Writers that refuse.
 use std::alloc::Global;
 use std::fmt;
+use std::process::Abort;
 use std::test::Fail;
+use test_rows::Report;
 use yaml_emitter::{FmtWriter, Writer, YamlEmitter};
 use yaml_loader::YamlLoader;
 use yaml_tree::Yaml;
@@ -79,11 +81,11 @@ fn formatted(alloc: Global, tree: &Yaml, settings: Settings, left: u32) -> (Stri
 }
 
 // How many calls a dump makes: each of them is refused in turn, and what was written then is a beginning of the text, which
-// a `String` takes whole.
-fn refused(alloc: Global, tree: &Yaml, settings: Settings) -> Result<u32, Fail> {
+// a `String` takes whole. Or what is wrong.
+fn refused(alloc: Global, tree: &Yaml, settings: Settings) -> Result<u32, &'static str> {
     let mut whole = String::new(alloc);
     if !is_written(&mut whole, tree, settings) {
-        return Err(Fail::from("no memory"));
+        return Err("no memory");
     }
     for left in 0..u32::MAX {
         let (text, is_whole) = written(alloc, tree, settings, left);
@@ -91,13 +93,13 @@ fn refused(alloc: Global, tree: &Yaml, settings: Settings) -> Result<u32, Fail> 
         let is_same = text == other && is_whole == is_other_whole;
         let is_beginning = whole.as_str().starts_with(text.as_str());
         if !is_same || !is_beginning || is_whole && text != whole {
-            return Err(Fail::from("another text"));
+            return Err("another text");
         }
         if is_whole {
             return Ok(left);
         }
     }
-    Err(Fail::from("no end"))
+    Err("no end")
 }
 
 const SETTINGS: [Settings; 4] = [
@@ -119,43 +121,73 @@ const SETTINGS: [Settings; 4] = [
     },
 ];
 
-// Texts of trees, and how many calls their dumps make at least.
-const TEXTS: [(&str, u32); 5] = [
-    ("? key:\n    - 1\n    - 2\n    - 3\n: - 4\n  - 5\n  - 6", 10),
+// What it shows, the text of a tree, and how many calls its dumps make at least.
+type Row = (&'static str, &'static str, u32);
+
+const TEXTS: [Row; 5] = [
     (
+        "a key that is a mapping",
+        "? key:\n    - 1\n    - 2\n    - 3\n: - 4\n  - 5\n  - 6",
+        10,
+    ),
+    (
+        "every kind of node",
         "- \"a\\nb\\u0001\"\n- {x: [~, true, -5, 1.5], y: {}, z: []}\n",
         10,
     ),
-    (">\n a\n b\n\n c\n  d\n e\n", 2),
-    ("a1: &DEFAULT\n    b1: 4\n    b2: d\na2: *DEFAULT\n", 10),
+    ("a folded scalar", ">\n a\n b\n\n c\n  d\n e\n", 2),
     (
+        "a mapping and its alias",
+        "a1: &DEFAULT\n    b1: 4\n    b2: d\na2: *DEFAULT\n",
+        10,
+    ),
+    (
+        "collections in collections, at any columns",
         "---\n# top\n\n   ? - 1\n     - 2\n# mid\n   :       - x\n           - |\n                 p\n\n                 q\n   k:\n# c\n     z: {}\n",
         10,
     ),
 ];
 
 // The fewest calls that a tree's dumps make.
-fn fewest(alloc: Global, tree: &Yaml) -> Result<u32, Fail> {
+fn fewest(alloc: Global, tree: &Yaml) -> Result<u32, &'static str> {
     let mut fewest = u32::MAX;
-    for settings in SETTINGS {
-        fewest = fewest.min(refused(alloc, tree, settings)?);
+    for settings in &SETTINGS {
+        fewest = fewest.min(refused(alloc, tree, *settings)?);
     }
     Ok(fewest)
 }
 
 // The same of the only document of a text.
-fn fewest_of_text(alloc: Global, text: &str) -> Result<u32, Fail> {
-    let documents = YamlLoader::load_from_str(alloc, text)?;
-    match documents.as_slice() {
-        [tree] => fewest(alloc, tree),
-        _ => Err(Fail::from("no document")),
+fn fewest_of_text(alloc: Global, text: &str) -> Result<u32, &'static str> {
+    match YamlLoader::load_from_str(alloc, text) {
+        Ok(documents) => match documents.as_slice() {
+            [tree] => fewest(alloc, tree),
+            _ => Err("no document"),
+        },
+        Err(_) => Err("a fault"),
     }
+}
+
+// What is wrong with the dumps of a text's document, which make so many calls at least, if anything.
+fn wrong(alloc: Global, text: &str, least: u32) -> &'static str {
+    match fewest_of_text(alloc, text) {
+        Ok(calls) if calls >= least => "nothing",
+        Ok(_) => "too few calls",
+        Err(why) => why,
+    }
+}
+
+// A writer that refuses a call of a row's dumps is answered. All rows that fail are told.
+fn rows_hold(rt: &(impl Abort + AllocGlobal), rows: &[Row]) -> Result<(), Fail> {
+    let mut report = Report::new(rt.alloc());
+    for (name, text, least) in rows {
+        report.compare(name, "wrong", wrong(rt.alloc(), text, *least), "nothing")?;
+    }
+    assert!(rt; report.is_empty(), "{report}");
+    Ok(())
 }
 
 #[test]
 fn a_writer_that_refuses_is_answered(rt: HostRuntime) -> Result<(), Fail> {
-    for (text, least) in TEXTS {
-        assert!(rt; fewest_of_text(rt.alloc(), text)? >= least, "row {text:?}");
-    }
-    Ok(())
+    rows_hold(&rt, &TEXTS)
 }
