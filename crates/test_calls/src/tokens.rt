@@ -1,6 +1,8 @@
 //! Texts and their tokens.
 use std::alloc::Global;
+use std::process::Abort;
 use std::test::Fail;
+use test_rows::Report;
 use yaml_scanner::Scanner;
 use yaml_tokens::Token;
 
@@ -12,28 +14,41 @@ fn tokens(alloc: Global, text: &str) -> Result<String, Fail> {
     Ok(names)
 }
 
-// A text and its tokens.
-const TOKENS: [(&str, &str); 3] = [
+// What it shows, a text, and its tokens.
+type Row = (&'static str, &'static str, &'static str);
+
+const TOKENS: [Row; 3] = [
     (
+        "a plain scalar that begins with a colon",
         "{a: :b}",
         "StreamStart(Utf8) FlowMappingStart Key Scalar(Plain, \"a\") Value Scalar(Plain, \":b\") FlowMappingEnd StreamEnd ",
     ),
     (
+        "a key without value, and a value without key",
         "{\n  ? foo :,\n  : bar,\n}",
         "StreamStart(Utf8) FlowMappingStart Key Scalar(Plain, \"foo\") Value FlowEntry Value Scalar(Plain, \"bar\") FlowEntry FlowMappingEnd StreamEnd ",
     ),
     (
+        "each style of scalar",
         "- 'a'\n- \"b\"\n- |-\n c\n- >-\n d\n",
         "StreamStart(Utf8) BlockSequenceStart BlockEntry Scalar(SingleQuoted, \"a\") BlockEntry Scalar(DoubleQuoted, \"b\") BlockEntry Scalar(Literal, \"c\") BlockEntry Scalar(Folded, \"d\") BlockEnd StreamEnd ",
     ),
 ];
 
+// Each text has the tokens of its row. All rows that fail are told.
+fn rows_hold(rt: &(impl Abort + AllocGlobal), rows: &[Row]) -> Result<(), Fail> {
+    let mut report = Report::new(rt.alloc());
+    for (name, text, want) in rows {
+        let found = tokens(rt.alloc(), text)?;
+        report.compare(name, "scanned", found.as_str(), want)?;
+    }
+    assert!(rt; report.is_empty(), "{report}");
+    Ok(())
+}
+
 #[test]
 fn tokens_come_in_order(rt: HostRuntime) -> Result<(), Fail> {
-    for (text, want) in TOKENS {
-        assert_eq!(rt; tokens(rt.alloc(), text)?.as_str(), want, "row {text:?}");
-    }
-    Ok(())
+    rows_hold(&rt, &TOKENS)
 }
 
 // Every kind of token.
