@@ -1,6 +1,8 @@
 //! Faults that are made, copied and compared.
 use std::alloc::Global;
+use std::process::Abort;
 use std::test::Fail;
+use test_rows::Report;
 use yaml_chars::Marker;
 use yaml_scanner::Scanner;
 use yaml_tokens::ScanError;
@@ -40,51 +42,63 @@ fn compared(alloc: Global, mark: Marker, kind: Kind, other: Kind) -> Result<Stri
     Ok(format!(in alloc; "{words}, {is_equal}")?)
 }
 
-// Two faults, the words of the first, and whether they are equal.
-const FAULTS: [(Kind, Kind, &str); 6] = [
+// What it shows, two faults, the words of the first, and whether they are equal.
+type Row = (&'static str, Kind, Kind, &'static str);
+
+const FAULTS: [Row; 6] = [
     (
+        "a copied text and an owned text",
         Kind::New("stop"),
         Kind::NewString("stop"),
         "stop: stop at byte 0 line 1 column 1 false true, true",
     ),
     (
+        "an owned text and a fixed text",
         Kind::NewString("stop"),
         Kind::Fixed("stop"),
         "stop: stop at byte 0 line 1 column 1 false true, true",
     ),
     (
+        "other texts",
         Kind::Fixed("stop"),
         Kind::New("go"),
         "stop: stop at byte 0 line 1 column 1 false true, false",
     ),
     (
+        "a copied text that says what refused memory says",
         Kind::New("out of memory"),
         Kind::Memory,
         "out of memory: out of memory at byte 0 line 1 column 1 false true, false",
     ),
     (
+        "an owned text that says what refused memory says",
         Kind::NewString("out of memory"),
         Kind::Memory,
         "out of memory: out of memory at byte 0 line 1 column 1 false true, false",
     ),
     (
+        "refused memory",
         Kind::Memory,
         Kind::Memory,
         "out of memory: out of memory at byte 0 line 1 column 1 true true, true",
     ),
 ];
 
+// Each fault has the words of its row. All rows that fail are told.
+fn rows_hold(rt: &(impl Abort + AllocGlobal), rows: &[Row]) -> Result<(), Fail> {
+    let mut report = Report::new(rt.alloc());
+    let mark = Scanner::new(rt.alloc(), "".chars()).mark();
+    for (name, kind, other, want) in rows {
+        let found = compared(rt.alloc(), mark, *kind, *other)?;
+        report.compare(name, "compared", found.as_str(), want)?;
+    }
+    assert!(rt; report.is_empty(), "{report}");
+    Ok(())
+}
+
 #[test]
 fn faults_are_made_and_copied(rt: HostRuntime) -> Result<(), Fail> {
-    let mark = Scanner::new(rt.alloc(), "".chars()).mark();
-    for (kind, other, want) in FAULTS {
-        assert_eq!(rt;
-            compared(rt.alloc(), mark, kind, other)?.as_str(),
-            want,
-            "row {want}"
-        );
-    }
-    Ok(())
+    rows_hold(&rt, &FAULTS)
 }
 
 #[test]
