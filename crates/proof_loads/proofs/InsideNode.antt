@@ -211,7 +211,7 @@ numbered k s Raw.flow_sequence_end = refl
 numbered k s Raw.sequence_end = refl
 numbered k s (Raw.flow_mapping_start a t) = mapped (Follows s.count (with_anchor s a).count) (λ u. Ev.mapping_start (number s a) u) (perhaps_resolved s.handles t) (λ u. is_next s a)
 numbered k s (Raw.mapping_start a t) = mapped (Follows s.count (with_anchor s a).count) (λ u. Ev.mapping_start (number s a) u) (perhaps_resolved s.handles t) (λ u. is_next s a)
-numbered k s Raw.pair_start = refl
+numbered k s Raw.pair_start = is_next s None
 numbered k s Raw.flow_mapping_end = refl
 numbered k s Raw.mapping_end = refl
 
