@@ -32,6 +32,7 @@ impl<T: Iterator<Item = char>> Fetcher<T> {
     }
 
     /// Notes that the next token may be a key, if one is allowed.
+    #[inline(always)]
     pub(crate) fn save_implicit_key(&mut self)
         ensures held { held self.new ≡ save_implicit_key (held self.old) }
         ensures moves { Moves self.old self.new 0 0 }
@@ -48,6 +49,7 @@ impl<T: Iterator<Item = char>> Fetcher<T> {
     }
 
     /// Gives up the possible key of the innermost level.
+    #[inline(always)]
     pub(crate) fn remove_implicit_key(&mut self) -> Result<(), Fault>
         ensures held { OnOk result (remove_implicit_key (held self.old) ≡ Ok (held self.new)) }
         ensures fault { IfErr result (λ e. remove_implicit_key (held self.old) ≡ Err e) }
@@ -79,6 +81,7 @@ impl<T: Iterator<Item = char>> Fetcher<T> {
 
     /// Begins a collection at a column, unless one is open there or the position is inside flow. Its start goes in
     /// before that many waiting tokens, or after all of them.
+    #[inline(always)]
     pub(crate) fn roll_indent(
         &mut self,
         col: usize,
@@ -101,6 +104,7 @@ impl<T: Iterator<Item = char>> Fetcher<T> {
     }
 
     /// Opens a level for a collection at a column, unless one is open there.
+    #[inline(always)]
     fn deepen(
         &mut self,
         col: usize,
@@ -175,6 +179,7 @@ impl<T: Iterator<Item = char>> Fetcher<T> {
     }
 
     /// Opens a level without a collection, one column deeper, inside a block collection.
+    #[inline(always)]
     pub(crate) fn roll_one_col_indent(&mut self) -> Result<(), Fault>
         ensures err { IfErr result (λ e. e ≡ Fault.OutOfMemory) }
         ensures held { OnOk result (held self.new ≡ roll_one_col_indent (held self.old)) }
