@@ -1,7 +1,9 @@
 //! Pairs, which keep the order of insertion.
 use crate::made::{put, word};
 use std::alloc::Global;
+use std::process::Abort;
 use std::test::Fail;
+use test_rows::Report;
 use yaml_tree::{Hash, Steps, Yaml};
 
 // The functions below have no contract, so that many calls make no long proof.
@@ -83,50 +85,79 @@ fn answer(alloc: Global, pairs: &mut Hash, call: &str, key: &str) -> Result<Stri
     }
 }
 
-// Calls of one hash, one after the other, and what each returns; `1` inserts the text.
-const CALLS: [(&str, &str, &str); 21] = [
-    ("show", "", "0 true {}"),
-    ("back", "", "None"),
-    ("place", "a", "None"),
-    ("all", "", ""),
-    ("is none", "", "true"),
-    ("1", "a", "None"),
-    ("2", "b", "None"),
-    ("3", "a", "Some(String(\"1\"))"),
+// What it shows, a call and its key, and what the call returns: all are calls of one hash, one after the other. `1` inserts
+// the text.
+type Call = (&'static str, &'static str, &'static str, &'static str);
+
+const CALLS: [Call; 21] = [
+    ("nothing in a new hash", "show", "", "0 true {}"),
+    ("no last pair", "back", "", "None"),
+    ("no place", "place", "a", "None"),
+    ("nothing to go over", "all", "", ""),
+    ("a new hash is a new hash", "is none", "", "true"),
+    ("a first key", "1", "a", "None"),
+    ("a second key", "2", "b", "None"),
     (
+        "a key again gives its old value",
+        "3",
+        "a",
+        "Some(String(\"1\"))",
+    ),
+    (
+        "a key again stands last",
         "show",
         "",
         "2 false {String(\"b\"): String(\"2\"), String(\"a\"): String(\"3\")}",
     ),
-    ("place", "b", "Some(0)"),
-    ("place", "a", "Some(1)"),
-    ("place", "c", "None"),
+    ("the place of the first", "place", "b", "Some(0)"),
+    ("the place of the last", "place", "a", "Some(1)"),
+    ("no place of another key", "place", "c", "None"),
     (
+        "all pairs, lent and then owned",
         "all",
         "",
         "(String(\"b\"), String(\"2\")) (String(\"a\"), String(\"3\")) (String(\"b\"), String(\"2\")) (String(\"a\"), String(\"3\")) ",
     ),
-    ("clone", "", "true"),
-    ("is none", "", "false"),
-    ("get", "a", "Some(String(\"3\"))"),
-    ("remove", "b", "Some(String(\"2\"))"),
-    ("get", "b", "None"),
-    ("remove", "b", "None"),
-    ("back", "", "Some((String(\"a\"), String(\"3\")))"),
-    ("show", "", "1 false {String(\"a\"): String(\"3\")}"),
+    ("a copy is equal", "clone", "", "true"),
+    ("no longer a new hash", "is none", "", "false"),
+    ("the new value", "get", "a", "Some(String(\"3\"))"),
+    (
+        "a key is taken out with its value",
+        "remove",
+        "b",
+        "Some(String(\"2\"))",
+    ),
+    ("it is gone", "get", "b", "None"),
+    ("it cannot be taken out again", "remove", "b", "None"),
+    (
+        "the last pair",
+        "back",
+        "",
+        "Some((String(\"a\"), String(\"3\")))",
+    ),
+    (
+        "what is left",
+        "show",
+        "",
+        "1 false {String(\"a\"): String(\"3\")}",
+    ),
 ];
+
+// A new hash answers each call as its row says. All rows that fail are told.
+fn calls_hold(rt: &(impl Abort + AllocGlobal), rows: &[Call]) -> Result<(), Fail> {
+    let mut report = Report::new(rt.alloc());
+    let mut pairs = Hash::new(rt.alloc());
+    for (name, call, key, want) in rows {
+        let found = answer(rt.alloc(), &mut pairs, call, key)?;
+        report.compare(name, call, found.as_str(), want)?;
+    }
+    assert!(rt; report.is_empty(), "{report}");
+    Ok(())
+}
 
 #[test]
 fn pairs_keep_the_order_of_insertion(rt: HostRuntime) -> Result<(), Fail> {
-    let mut pairs = Hash::new(rt.alloc());
-    for (call, key, want) in CALLS {
-        assert_eq!(rt;
-            answer(rt.alloc(), &mut pairs, call, key)?.as_str(),
-            want,
-            "row {call} {key}"
-        );
-    }
-    Ok(())
+    calls_hold(&rt, &CALLS)
 }
 
 // Adds, moves to the end and takes out, in a hash and in a plain list.
@@ -232,16 +263,41 @@ fn removed_words(alloc: Global, hash: &mut Hash, key: &Yaml) -> Result<String, F
     Ok(format!(in alloc; "{gone:?} {found} {}", hash.len())?)
 }
 
-const KINDS: [Alike; 3] = [Alike::Beginning, Alike::Absolute, Alike::All];
+// Whether each of 1999 such keys is found, and what taking one out gives.
+fn alike_words(alloc: Global, alike: Alike) -> Result<String, Fail> {
+    let mut hash = filled(alloc, alike)?;
+    let is_whole = are_found(alloc, &hash, alike)?;
+    let key = numbered(alloc, alike, 37)?;
+    let words = removed_words(alloc, &mut hash, &key)?;
+    Ok(format!(in alloc; "{is_whole} {words}")?)
+}
+
+// What keys are called, and what they have in common.
+type Kind = (&'static str, Alike);
+
+const KINDS: [Kind; 3] = [
+    ("texts with the same beginning", Alike::Beginning),
+    ("integers and their negatives", Alike::Absolute),
+    ("aliases", Alike::All),
+];
+
+// The keys of each kind are found, and taken out. All kinds that fail are told.
+fn kinds_hold(rt: &(impl Abort + AllocGlobal), rows: &[Kind]) -> Result<(), Fail> {
+    let mut report = Report::new(rt.alloc());
+    for (name, alike) in rows {
+        let found = alike_words(rt.alloc(), *alike)?;
+        report.compare(
+            name,
+            "put in",
+            found.as_str(),
+            "true Some(Integer(1)) -1 1998",
+        )?;
+    }
+    assert!(rt; report.is_empty(), "{report}");
+    Ok(())
+}
 
 #[test]
 fn keys_that_are_alike_are_found(rt: HostRuntime) -> Result<(), Fail> {
-    for alike in KINDS {
-        let mut hash = filled(rt.alloc(), alike)?;
-        assert!(rt; are_found(rt.alloc(), &hash, alike)?);
-        let key = numbered(rt.alloc(), alike, 37)?;
-        let words = removed_words(rt.alloc(), &mut hash, &key)?;
-        assert_eq!(rt; words.as_str(), "Some(Integer(1)) -1 1998");
-    }
-    Ok(())
+    kinds_hold(&rt, &KINDS)
 }
