@@ -1,25 +1,34 @@
 //! Events and their places.
 use std::alloc::Global;
+use std::process::Abort;
 use std::str::Chars;
 use std::test::Fail;
+use test_rows::Report;
+use yaml_chars::Marker;
 use yaml_parser::{Event, Parser, Tag};
 
-// The next event: whether it is the stream's end, and its words with its place if it is a scalar or an alias.
-fn scalar_words(alloc: Global, parser: &mut Parser<Chars<'_>>) -> Result<(bool, String), Fail> {
-    let (event, mark) = parser.next_token()?;
-    let words = match event {
-        Event::Scalar(_, _, _, _) | Event::Alias(_) => format!(in alloc;
+// A scalar or an alias with its place, a line of it; no words for another event.
+fn words(alloc: Global, event: &Event, mark: Marker) -> Result<String, Fail> {
+    match event {
+        Event::Scalar(_, _, _, _) | Event::Alias(_) => Ok(format!(in alloc;
             "{event:?} {} {} {}\n",
             mark.index(),
             mark.line(),
             mark.col()
-        )?,
-        _ => String::new(alloc),
-    };
-    Ok((event == Event::StreamEnd, words))
+        )?),
+        _ => Ok(String::new(alloc)),
+    }
 }
 
-// The events of scalars and aliases, with their places, a line each.
+// The words of the next event or the fault, and whether it is the last.
+fn scalar_words(alloc: Global, parser: &mut Parser<Chars<'_>>) -> Result<(bool, String), Fail> {
+    match parser.next_token() {
+        Ok((event, mark)) => Ok((event == Event::StreamEnd, words(alloc, &event, mark)?)),
+        Err(fault) => Ok((true, format!(in alloc; "{fault}\n")?)),
+    }
+}
+
+// The events of scalars and aliases, with their places, a line each; and the fault where one comes.
 fn scalars(alloc: Global, text: &str) -> Result<String, Fail> {
     let mut parser = Parser::new_from_str(alloc, text);
     let mut lines = String::new(alloc);
@@ -33,42 +42,66 @@ fn scalars(alloc: Global, text: &str) -> Result<String, Fail> {
     Ok(lines)
 }
 
-// A text and its scalars and aliases, each with index, line and column.
-const PLACES: [(&str, &str); 8] = [
+// What it shows, a text, and its scalars and aliases, each with index, line and column.
+type Row = (&'static str, &'static str, &'static str);
+
+const PLACES: [Row; 8] = [
     (
+        "a character that is not ASCII counts once",
         "[\"\u{e9}\", 1]",
         "Scalar(\"\u{e9}\", DoubleQuoted, 0, None) 1 1 1\nScalar(\"1\", Plain, 0, None) 6 1 6\n",
     ),
     (
+        "characters that are not ASCII, more than the window holds",
         "a: |\n  \u{e9}\u{e9}\u{e9}\u{e9}\u{e9}\u{e9}\u{e9}\u{e9}\u{e9}\u{e9}\u{e9}\u{e9}\u{e9}\u{e9}\u{e9}\u{e9}\u{e9}\u{e9}\u{e9}\u{e9}\nb: 1",
         "Scalar(\"a\", Plain, 0, None) 0 1 0\nScalar(\"\u{e9}\u{e9}\u{e9}\u{e9}\u{e9}\u{e9}\u{e9}\u{e9}\u{e9}\u{e9}\u{e9}\u{e9}\u{e9}\u{e9}\u{e9}\u{e9}\u{e9}\u{e9}\u{e9}\u{e9}\\n\", Literal, 0, None) 7 2 2\nScalar(\"b\", Plain, 0, None) 28 3 0\nScalar(\"1\", Plain, 0, None) 31 3 3\n",
     ),
     (
+        "anchors and an alias",
         "- &a 1\n- &a 2\n- *a",
         "Scalar(\"1\", Plain, 1, None) 5 1 5\nScalar(\"2\", Plain, 2, None) 12 2 5\nAlias(2) 16 3 2\n",
     ),
-    ("---", "Scalar(\"\", Plain, 0, None) 3 2 0\n"),
-    ("&a", "Scalar(\"\", Plain, 1, None) 2 2 0\n"),
     (
+        "a document without content",
+        "---",
+        "Scalar(\"\", Plain, 0, None) 3 2 0\n",
+    ),
+    (
+        "an anchor without content",
+        "&a",
+        "Scalar(\"\", Plain, 1, None) 2 2 0\n",
+    ),
+    (
+        "a verbatim tag",
         "!<tag:x%C3%A9> a",
         "Scalar(\"a\", Plain, 0, Some(Tag { handle: \"\", suffix: \"tag:x\u{e9}\" })) 15 1 15\n",
     ),
     (
+        "a tag before an anchor",
         "!!int &x 5",
         "Scalar(\"5\", Plain, 1, Some(Tag { handle: \"tag:yaml.org,2002:\", suffix: \"int\" })) 9 1 9\n",
     ),
     (
+        "declared handles",
         "%TAG !a! x:\n%TAG !b! y:\n--- [!a!p 1, !b!q 2]",
         "Scalar(\"1\", Plain, 0, Some(Tag { handle: \"x:\", suffix: \"p\" })) 34 3 10\nScalar(\"2\", Plain, 0, Some(Tag { handle: \"y:\", suffix: \"q\" })) 42 3 18\n",
     ),
 ];
 
+// Each text has the scalars and aliases of its row. All rows that fail are told.
+fn rows_hold(rt: &(impl Abort + AllocGlobal), rows: &[Row]) -> Result<(), Fail> {
+    let mut report = Report::new(rt.alloc());
+    for (name, text, want) in rows {
+        let found = scalars(rt.alloc(), text)?;
+        report.compare(name, "pulled", found.as_str(), want)?;
+    }
+    assert!(rt; report.is_empty(), "{report}");
+    Ok(())
+}
+
 #[test]
 fn places_count_characters(rt: HostRuntime) -> Result<(), Fail> {
-    for (text, want) in PLACES {
-        assert_eq!(rt; scalars(rt.alloc(), text)?.as_str(), want, "row {text:?}");
-    }
-    Ok(())
+    rows_hold(&rt, &PLACES)
 }
 
 // Every kind of event.
