@@ -1,6 +1,8 @@
 //! Events out of nesting.
 use std::alloc::Global;
+use std::process::Abort;
 use std::test::Fail;
+use test_rows::Report;
 use yaml_chars::Marker;
 use yaml_loader::YamlLoader;
 use yaml_parser::{Event, MarkedEventReceiver};
@@ -51,37 +53,68 @@ fn answers(alloc: Global, mark: Marker, names: &[&str]) -> Result<String, Fail> 
     Ok(out)
 }
 
-// Events by their names, what a loader returns for each, and then its documents.
-const LISTS: [(&[&str], &str); 9] = [
-    (&["]", "."], "event out of nesting event out of nesting []"),
-    (&["[", "}"], "ok event out of nesting []"),
-    (&["{", "k", "}"], "ok ok event out of nesting []"),
-    (&["a", "b"], "ok event out of nesting []"),
-    (&["[", "."], "ok event out of nesting []"),
-    (&[".", "]"], "ok event out of nesting [BadValue]"),
+// What it shows, events by their names, and what a loader returns for each, and then its documents.
+type Row = (&'static str, &'static [&'static str], &'static str);
+
+const LISTS: [Row; 9] = [
     (
+        "an end without its start, and then a document's end",
+        &["]", "."],
+        "event out of nesting event out of nesting []",
+    ),
+    (
+        "the end of the other kind of collection",
+        &["[", "}"],
+        "ok event out of nesting []",
+    ),
+    (
+        "a mapping ends while a key waits for its value",
+        &["{", "k", "}"],
+        "ok ok event out of nesting []",
+    ),
+    ("a second root", &["a", "b"], "ok event out of nesting []"),
+    (
+        "a document ends while a collection is open",
+        &["[", "."],
+        "ok event out of nesting []",
+    ),
+    (
+        "an end after a document without node",
+        &[".", "]"],
+        "ok event out of nesting [BadValue]",
+    ),
+    (
+        "a mapping as a key",
         &["{", "{", "}", "v", "}", "."],
         "ok ok ok ok ok ok [Hash({Hash({}): String(\"v\")})]",
     ),
     (
+        "an alias without its anchor is a bad value, also as a key",
         &["{", "*7", "1", "}", "."],
         "ok ok ok ok ok [Hash({BadValue: Integer(1)})]",
     ),
-    (&["{", "a", "1", "a", "2", "]"], "ok ok ok ok ok ok []"),
+    (
+        "after a key twice no event is refused",
+        &["{", "a", "1", "a", "2", "]"],
+        "ok ok ok ok ok ok []",
+    ),
 ];
+
+// A loader answers the events of each row as it says. All rows that fail are told.
+fn rows_hold(rt: &(impl Abort + AllocGlobal), rows: &[Row]) -> Result<(), Fail> {
+    let mut report = Report::new(rt.alloc());
+    let mark = Scanner::new(rt.alloc(), "".chars()).mark();
+    for (name, events, want) in rows {
+        let found = answers(rt.alloc(), mark, events)?;
+        report.compare(name, "pushed", found.as_str(), want)?;
+    }
+    assert!(rt; report.is_empty(), "{report}");
+    Ok(())
+}
 
 #[test]
 fn events_out_of_nesting_are_refused(rt: HostRuntime) -> Result<(), Fail> {
-    let alloc = rt.alloc();
-    let mark = Scanner::new(alloc, "".chars()).mark();
-    for (names, want) in LISTS {
-        assert_eq!(rt;
-            answers(alloc, mark, names)?.as_str(),
-            want,
-            "row {names:?}"
-        );
-    }
-    Ok(())
+    rows_hold(&rt, &LISTS)
 }
 
 // The place after a number of tokens.
