@@ -1,7 +1,9 @@
 //! Calls of a scanner, one after the other.
 use std::alloc::Global;
+use std::process::Abort;
 use std::str::Chars;
 use std::test::Fail;
+use test_rows::Report;
 use yaml_scanner::Scanner;
 use yaml_tokens::ScanError;
 
@@ -94,10 +96,13 @@ fn answers(alloc: Global, text: &str, calls: &[Call]) -> Result<String, Fail> {
     Ok(out)
 }
 
-// A text, calls of its scanner, and what they answer.
-const CALLS: [(&str, &[Call], &str); 3] = [
-    // No memory is refused here, so no call returns that fault; after the end nothing changes.
+// What it shows, a text, calls of its scanner, and what they answer.
+type Row = (&'static str, &'static str, &'static [Call], &'static str);
+
+const CALLS: [Row; 3] = [
+    // No memory is refused here, so no call returns that fault.
     (
+        "after the end nothing changes",
         "[a]",
         &[
             Call::State,
@@ -119,8 +124,8 @@ const CALLS: [(&str, &[Call], &str); 3] = [
         ],
         "false false / ok / true false / ok / StreamStart(Utf8) / FlowSequenceStart / Scalar(Plain, \"a\") / FlowSequenceEnd / true false / StreamEnd / true true / ok / ok / none / none / none / ",
     ),
-    // A fault is kept.
     (
+        "a fault is kept",
         "@",
         &[
             Call::Next,
@@ -134,8 +139,8 @@ const CALLS: [(&str, &[Call], &str); 3] = [
         ],
         "StreamStart(Utf8) / none / unexpected character: `@' at byte 0 line 1 column 1 false / unexpected character: `@' at byte 0 line 1 column 1 false / unexpected character: `@' at byte 0 line 1 column 1 false / unexpected character: `@' at byte 0 line 1 column 1 false / none / true false / ",
     ),
-    // Tokens that stood ready when it was met are not handed out.
     (
+        "tokens that stood ready when a fault was met are not handed out",
         "[a]\n@",
         &[
             Call::Token,
@@ -150,14 +155,18 @@ const CALLS: [(&str, &[Call], &str); 3] = [
     ),
 ];
 
+// Each scanner answers as its row says. All rows that fail are told.
+fn rows_hold(rt: &(impl Abort + AllocGlobal), rows: &[Row]) -> Result<(), Fail> {
+    let mut report = Report::new(rt.alloc());
+    for (name, text, calls, want) in rows {
+        let found = answers(rt.alloc(), text, calls)?;
+        report.compare(name, "called", found.as_str(), want)?;
+    }
+    assert!(rt; report.is_empty(), "{report}");
+    Ok(())
+}
+
 #[test]
 fn a_scanner_goes_step_by_step(rt: HostRuntime) -> Result<(), Fail> {
-    for (text, calls, want) in CALLS {
-        assert_eq!(rt;
-            answers(rt.alloc(), text, calls)?.as_str(),
-            want,
-            "row {text:?}"
-        );
-    }
-    Ok(())
+    rows_hold(&rt, &CALLS)
 }
