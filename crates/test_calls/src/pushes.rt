@@ -1,7 +1,9 @@
 //! Calls of a parser, one after the other, and what receivers are pushed.
 use std::alloc::{AllocError, Global};
+use std::process::Abort;
 use std::str::Chars;
 use std::test::Fail;
+use test_rows::Report;
 use yaml_chars::Marker;
 use yaml_parser::{Event, EventReceiver, MarkedEventReceiver, Parser};
 use yaml_tokens::ScanError;
@@ -140,30 +142,36 @@ fn answers(alloc: Global, text: &str, calls: &[Call]) -> Result<String, Fail> {
     Ok(out)
 }
 
-// A text, calls of its parser, and what each shows.
-const CALLS: [(&str, &[Call], &str); 6] = [
+// What it shows, a text, calls of its parser, and what each gives.
+type Row = (&'static str, &'static str, &'static [Call], &'static str);
+
+const CALLS: [Row; 6] = [
     (
+        "a document for each call",
         "--- 1\n--- 2",
         &[Call::Load, Call::Load, Call::Load, Call::Load],
         "StreamStart DocumentStart 1 DocumentEnd / DocumentStart 2 DocumentEnd / StreamEnd / StreamEnd / ",
     ),
     (
+        "all documents by one call",
         "--- 1\n--- [a]",
         &[Call::LoadAll],
         "StreamStart DocumentStart 1 DocumentEnd DocumentStart SequenceStart(0, None) a SequenceEnd DocumentEnd StreamEnd / ",
     ),
     (
+        "an event that was looked at comes first",
         "a",
         &[Call::Peek, Call::Load],
         "StreamStart / StreamStart DocumentStart a DocumentEnd / ",
     ),
     (
+        "an event that was looked at stays",
         "a",
         &[Call::Peek, Call::Peek, Call::Pull, Call::Pull],
         "StreamStart / StreamStart / StreamStart / DocumentStart / ",
     ),
-    // Pushing inside a document is refused for good.
     (
+        "a call inside a document is refused for good",
         "[1, 2]",
         &[
             Call::Pull,
@@ -175,24 +183,28 @@ const CALLS: [(&str, &[Call], &str); 6] = [
         ],
         "StreamStart / DocumentStart / did not find expected <document-start> 0 / did not find expected <document-start> 0 / did not find expected <document-start> 0 / did not find expected <document-start> 0 / ",
     ),
-    // What a receiver returns is not kept.
     (
+        "what a receiver returns is not kept",
         "[1, 2]",
         &[Call::Refuse(3), Call::Pull],
         "stop 0 / Scalar(\"1\", Plain, 0, None) / ",
     ),
 ];
 
+// Each parser answers as its row says. All rows that fail are told.
+fn rows_hold(rt: &(impl Abort + AllocGlobal), rows: &[Row]) -> Result<(), Fail> {
+    let mut report = Report::new(rt.alloc());
+    for (name, text, calls, want) in rows {
+        let found = answers(rt.alloc(), text, calls)?;
+        report.compare(name, "called", found.as_str(), want)?;
+    }
+    assert!(rt; report.is_empty(), "{report}");
+    Ok(())
+}
+
 #[test]
 fn events_are_pushed_and_pulled(rt: HostRuntime) -> Result<(), Fail> {
-    for (text, calls, want) in CALLS {
-        assert_eq!(rt;
-            answers(rt.alloc(), text, calls)?.as_str(),
-            want,
-            "row {want}"
-        );
-    }
-    Ok(())
+    rows_hold(&rt, &CALLS)
 }
 
 #[test]
