@@ -1,7 +1,9 @@
 //! Contents and lookups of nodes.
 use crate::made::tree;
 use std::alloc::Global;
+use std::process::Abort;
 use std::test::Fail;
+use test_rows::Report;
 use yaml_tree::{Array, Yaml};
 
 // The functions below have no contract, so that many questions make no long proof.
@@ -43,7 +45,9 @@ fn items_words(alloc: Global, node: Yaml) -> Result<String, Fail> {
 // An array's length, whether it is empty, its second item and the one after its end; then the array that is made anew of
 // its nodes.
 fn array_words(alloc: Global, node: Yaml) -> Result<String, Fail> {
-    let items = node.into_vec().ok_or("no array")?;
+    let Some(items) = node.into_vec() else {
+        return Ok(String::from_str(alloc, "no array")?);
+    };
     let words = format!(in alloc;
         "{} {} {:?} {:?}",
         items.len(),
@@ -93,8 +97,10 @@ fn into_words(alloc: Global, node: Yaml, question: &str) -> Result<String, Fail>
     }
 }
 
-// A tree, a question, and the answer.
-const ANSWERS: [(&str, &str, &str); 32] = [
+// A tree and a question, which name the row, and the answer.
+type Row = (&'static str, &'static str, &'static str);
+
+const ANSWERS: [Row; 32] = [
     ("flag", "scalar", "Some(false) None None"),
     ("number", "scalar", "None Some(3) None"),
     ("b", "scalar", "None None Some(\"b\")"),
@@ -145,26 +151,41 @@ const ANSWERS: [(&str, &str, &str); 32] = [
     ),
 ];
 
-#[test]
-fn nodes_are_asked(rt: HostRuntime) -> Result<(), Fail> {
-    for (name, question, want) in &ANSWERS {
-        let node = tree(rt.alloc(), name)?;
-        assert_eq!(rt;
-            answer(rt.alloc(), node, question)?.as_str(),
-            *want,
-            "row {name}, {question}"
-        );
+// Each tree answers as its row says. All rows that fail are told.
+fn answers_hold(rt: &(impl Abort + AllocGlobal), rows: &[Row]) -> Result<(), Fail> {
+    let mut report = Report::new(rt.alloc());
+    for (name, question, want) in rows {
+        let found = answer(rt.alloc(), tree(rt.alloc(), name)?, question)?;
+        report.compare(name, question, found.as_str(), want)?;
     }
+    assert!(rt; report.is_empty(), "{report}");
     Ok(())
 }
 
-// A tree, another, and which of them `or` and `borrowed_or` give.
-const CHOICES: [(&str, &str, &str); 5] = [
-    ("bad", "number", "Integer(3)"),
-    ("null", "flag", "Boolean(false)"),
-    ("number", "bad", "Integer(3)"),
-    ("number", "flag", "Integer(3)"),
-    ("null", "bad", "BadValue"),
+#[test]
+fn nodes_are_asked(rt: HostRuntime) -> Result<(), Fail> {
+    answers_hold(&rt, &ANSWERS)
+}
+
+// What it shows, a tree, another, and which of them `or` and `borrowed_or` give.
+type Choice = (&'static str, &'static str, &'static str, &'static str);
+
+const CHOICES: [Choice; 5] = [
+    (
+        "a number in place of a bad value",
+        "bad",
+        "number",
+        "Integer(3)",
+    ),
+    (
+        "a Boolean in place of null",
+        "null",
+        "flag",
+        "Boolean(false)",
+    ),
+    ("a number before a bad value", "number", "bad", "Integer(3)"),
+    ("a number before a Boolean", "number", "flag", "Integer(3)"),
+    ("a bad value in place of null", "null", "bad", "BadValue"),
 ];
 
 fn borrowed_choice(alloc: Global, name: &str, other: &str) -> Result<String, Fail> {
@@ -175,78 +196,126 @@ fn owned_choice(alloc: Global, name: &str, other: &str) -> Result<String, Fail> 
     or_words(alloc, tree(alloc, name)?, tree(alloc, other)?)
 }
 
-#[test]
-fn the_first_that_is_a_value_is_chosen(rt: HostRuntime) -> Result<(), Fail> {
-    for (name, other, want) in CHOICES {
-        let borrowed = borrowed_choice(rt.alloc(), name, other)?;
-        assert_eq!(rt; borrowed.as_str(), want, "row {name}, {other}");
-        let owned = owned_choice(rt.alloc(), name, other)?;
-        assert_eq!(rt; owned.as_str(), want, "row {name}, {other}");
+// Both calls choose as each row says. All rows that fail are told.
+fn choices_hold(rt: &(impl Abort + AllocGlobal), rows: &[Choice]) -> Result<(), Fail> {
+    let mut report = Report::new(rt.alloc());
+    for (name, node, other, want) in rows {
+        let borrowed = borrowed_choice(rt.alloc(), node, other)?;
+        report.compare(name, "borrowed", borrowed.as_str(), want)?;
+        let owned = owned_choice(rt.alloc(), node, other)?;
+        report.compare(name, "owned", owned.as_str(), want)?;
     }
+    assert!(rt; report.is_empty(), "{report}");
     Ok(())
 }
 
-// A tree, a key, and what `get_key` and `has_key` answer.
-const KEYS: [(&str, &str, &str); 5] = [
-    ("pairs", "a", "Some(Array([Integer(1), Integer(2)])) true"),
-    ("pairs", "c", "Some(String(\"d\")) true"),
-    ("pairs", "important", "None false"),
-    ("pairs", "0", "None false"),
-    ("items", "a", "None false"),
+#[test]
+fn the_first_that_is_a_value_is_chosen(rt: HostRuntime) -> Result<(), Fail> {
+    choices_hold(&rt, &CHOICES)
+}
+
+// What it shows, a tree, a key, and what `get_key` and `has_key` answer.
+type Key = (&'static str, &'static str, &'static str, &'static str);
+
+const KEYS: [Key; 5] = [
+    (
+        "a key with an array",
+        "pairs",
+        "a",
+        "Some(Array([Integer(1), Integer(2)])) true",
+    ),
+    (
+        "a key with a string",
+        "pairs",
+        "c",
+        "Some(String(\"d\")) true",
+    ),
+    ("a key of an inner hash", "pairs", "important", "None false"),
+    ("an integer's digits", "pairs", "0", "None false"),
+    ("a key of an array", "items", "a", "None false"),
 ];
 
-// A tree, an index, and what `get_index` and `has_index` answer.
-const INDICES: [(&str, usize, &str); 7] = [
+// Each key is looked up as its row says. All rows that fail are told.
+fn keys_hold(rt: &(impl Abort + AllocGlobal), rows: &[Key]) -> Result<(), Fail> {
+    let mut report = Report::new(rt.alloc());
+    for (name, node, key, want) in rows {
+        let found = key_words(rt.alloc(), &tree(rt.alloc(), node)?, key)?;
+        report.compare(name, "looked up", found.as_str(), want)?;
+    }
+    assert!(rt; report.is_empty(), "{report}");
+    Ok(())
+}
+
+#[test]
+fn nodes_are_looked_up_by_keys(rt: HostRuntime) -> Result<(), Fail> {
+    keys_hold(&rt, &KEYS)
+}
+
+// What it shows, a tree, an index, and what `get_index` and `has_index` answer.
+type Index = (&'static str, &'static str, usize, &'static str);
+
+const INDICES: [Index; 7] = [
     (
+        "an integer that is a key",
         "pairs",
         0,
         "Some(Hash({String(\"important\"): Boolean(true)})) true",
     ),
-    ("pairs", 1, "None false"),
-    ("pairs", 9223372036854775808, "None false"),
-    ("items", 1, "Some(Integer(2)) true"),
-    ("items", 2, "None false"),
-    ("items", 9223372036854775808, "None false"),
-    ("b", 0, "None false"),
+    ("an integer that is no key", "pairs", 1, "None false"),
+    (
+        "an index that is no i64, of a hash",
+        "pairs",
+        9223372036854775808,
+        "None false",
+    ),
+    ("the last item", "items", 1, "Some(Integer(2)) true"),
+    ("an index after the last", "items", 2, "None false"),
+    (
+        "an index that is no i64, of an array",
+        "items",
+        9223372036854775808,
+        "None false",
+    ),
+    ("an index of a string", "b", 0, "None false"),
 ];
 
-#[test]
-fn nodes_are_looked_up_by_keys(rt: HostRuntime) -> Result<(), Fail> {
-    for (name, key, want) in KEYS {
-        let node = tree(rt.alloc(), name)?;
-        assert_eq!(rt;
-            key_words(rt.alloc(), &node, key)?.as_str(),
-            want,
-            "row {name}, {key}"
-        );
+// Each index is looked up as its row says. All rows that fail are told.
+fn indices_hold(rt: &(impl Abort + AllocGlobal), rows: &[Index]) -> Result<(), Fail> {
+    let mut report = Report::new(rt.alloc());
+    for (name, node, index, want) in rows {
+        let found = index_words(rt.alloc(), &tree(rt.alloc(), node)?, *index)?;
+        report.compare(name, "looked up", found.as_str(), want)?;
     }
+    assert!(rt; report.is_empty(), "{report}");
     Ok(())
 }
 
 #[test]
 fn nodes_are_looked_up_by_indices(rt: HostRuntime) -> Result<(), Fail> {
-    for (name, index, want) in INDICES {
-        let node = tree(rt.alloc(), name)?;
-        assert_eq!(rt;
-            index_words(rt.alloc(), &node, index)?.as_str(),
-            want,
-            "row {name}, {index}"
-        );
+    indices_hold(&rt, &INDICES)
+}
+
+// Trees by their names, in the order of trees: variants as they are declared.
+const ASCENDING: [&str; 9] = [
+    "real", "number", "b", "c", "flag", "items", "pairs", "null", "bad",
+];
+
+// Each tree is above the one before. All that are not are told.
+fn is_ascending(rt: &(impl Abort + AllocGlobal), names: &[&str]) -> Result<(), Fail> {
+    let mut report = Report::new(rt.alloc());
+    let mut below: Option<Yaml> = None;
+    for name in names {
+        let above = tree(rt.alloc(), name)?;
+        if let Some(node) = &below {
+            report.check(name, "above the one before", *node < above)?;
+        }
+        below = Some(above);
     }
+    assert!(rt; report.is_empty(), "{report}");
     Ok(())
 }
 
-// In the order of trees: variants as they are declared.
-const ASCENDING: [&str; 8] = ["real", "number", "b", "c", "flag", "items", "pairs", "null"];
-
 #[test]
 fn nodes_are_ordered(rt: HostRuntime) -> Result<(), Fail> {
-    let mut below = tree(rt.alloc(), "real")?;
-    for name in ASCENDING.iter().skip(1) {
-        let above = tree(rt.alloc(), name)?;
-        assert!(rt; below < above, "row {name}");
-        below = above;
-    }
-    assert!(rt; below < Yaml::BadValue);
-    Ok(())
+    is_ascending(&rt, &ASCENDING)
 }
