@@ -2,7 +2,9 @@
 use std::alloc::Global;
 use std::fmt::Write;
 use std::ops::ControlFlow;
+use std::process::Abort;
 use std::test::Fail;
+use test_rows::Report;
 use yaml_rust2::yaml::{LoadError, YAMLDecodingTrap, YAMLDecodingTrapFn, YamlDecoder};
 
 /// A trap by its name.
@@ -79,117 +81,190 @@ const LEAD_BEFORE_A: &[u8] = &[0xFF, 0xFE, 0x00, 0xD8, 0x61, 0x00];
 const TREE: &str =
     "[Hash({String(\"a\"): Integer(1), String(\"b\"): Real(\"2.2\"), String(\"c\"): Array([Integer(1), Integer(2)])})]";
 
-// Bytes, a trap, and the trees, the message of a stop, or a fault.
-const DECODING: [(&[u8], Trap, &str); 29] = [
-    (A_LETTER_TOO_MUCH, Trap::Ignore, TREE),
+// What it shows, bytes, a trap, and the trees, the message of a stop, or a fault.
+type Row = (&'static str, &'static [u8], Trap, &'static str);
+
+const DECODING: [Row; 29] = [
     (
+        "a byte that continues no character, ignored",
+        A_LETTER_TOO_MUCH,
+        Trap::Ignore,
+        TREE,
+    ),
+    (
+        "a byte that continues no character, strict",
         A_LETTER_TOO_MUCH,
         Trap::Strict,
         "stopped: Invalid character sequence at 5: [169]",
     ),
-    (LEAD_BEFORE_A, Trap::Replace, "[String(\"\u{FFFD}a\")]"),
     (
+        "a lead surrogate before a letter, replaced",
+        LEAD_BEFORE_A,
+        Trap::Replace,
+        "[String(\"\u{FFFD}a\")]",
+    ),
+    (
+        "a lead surrogate before a letter, strict",
         LEAD_BEFORE_A,
         Trap::Strict,
         "stopped: Invalid character sequence at 2: [0, 216]",
     ),
-    (LEAD_BEFORE_A, Trap::Ignore, "[String(\"a\")]"),
     (
+        "a lead surrogate before a letter, ignored",
+        LEAD_BEFORE_A,
+        Trap::Ignore,
+        "[String(\"a\")]",
+    ),
+    (
+        "a lead surrogate before a letter, by a function that notes what it gets",
         LEAD_BEFORE_A,
         Trap::Notes,
         "[String(\"<2 2 [0, 216, 97, 0] 0>a\")]",
     ),
-    (&[0x00, 0x61], Trap::Strict, "[String(\"a\")]"),
-    (&[0x61, 0xFF], Trap::Asks, "[String(\"a?\")]"),
-    (&[0x61, 0xFF], Trap::Notes, "[String(\"a<1 0 [255] 1>\")]"),
-    (&[0x61, 0xFF], Trap::Bad, "stopped: bad"),
     (
+        "UTF-16 by the place of its NUL",
+        &[0x00, 0x61],
+        Trap::Strict,
+        "[String(\"a\")]",
+    ),
+    (
+        "a byte that begins no character, by a function that goes on",
+        &[0x61, 0xFF],
+        Trap::Asks,
+        "[String(\"a?\")]",
+    ),
+    (
+        "a byte that begins no character, by a function that notes what it gets",
+        &[0x61, 0xFF],
+        Trap::Notes,
+        "[String(\"a<1 0 [255] 1>\")]",
+    ),
+    (
+        "a byte that begins no character, by a function that stops with a message",
+        &[0x61, 0xFF],
+        Trap::Bad,
+        "stopped: bad",
+    ),
+    (
+        "a byte that begins no character, by a function that stops without a message",
         &[0x61, 0xFF],
         Trap::Silent,
         "stopped: Invalid character sequence at 1: [255]",
     ),
-    (&[0x61], Trap::Bad, "[String(\"a\")]"),
     (
+        "no malformation, so the function is not called",
+        &[0x61],
+        Trap::Bad,
+        "[String(\"a\")]",
+    ),
+    (
+        "a character that is cut off is replaced once",
         &[0xE2, 0x82, 0x41],
         Trap::Replace,
         "[String(\"\u{FFFD}A\")]",
     ),
     (
+        "a character that is cut off, strict",
         &[0xE2, 0x82, 0x41],
         Trap::Strict,
         "stopped: Invalid character sequence at 0: [226, 130]",
     ),
     (
+        "an overlong character is replaced twice",
         &[0xE0, 0x80, 0x41],
         Trap::Replace,
         "[String(\"\u{FFFD}\u{FFFD}A\")]",
     ),
     (
+        "the position counts the byte order mark",
         &[0xEF, 0xBB, 0xBF, 0x61, 0xFF],
         Trap::Strict,
         "stopped: Invalid character sequence at 4: [255]",
     ),
     (
+        "UTF-16 that ends in half a unit",
         &[0xFF, 0xFE, 0x61, 0x00, 0x62],
         Trap::Strict,
         "stopped: Invalid character sequence at 4: [98]",
     ),
     (
+        "half a unit after a lead surrogate",
         &[0xFF, 0xFE, 0x00, 0xD8, 0x61],
         Trap::Strict,
         "stopped: Invalid character sequence at 2: [0, 216, 97]",
     ),
     (
+        "a lead surrogate before a pair of surrogates",
         &[0xFF, 0xFE, 0x00, 0xD8, 0x01, 0xD8, 0x00, 0xDC],
         Trap::Replace,
         "[String(\"\u{FFFD}\u{10400}\")]",
     ),
     (
+        "a trail surrogate at the end, big-endian",
         &[0xFE, 0xFF, 0x00, 0x61, 0xDC, 0x00],
         Trap::Ignore,
         "[String(\"a\")]",
     ),
-    (&[0xF0, 0x9F, 0x98], Trap::Replace, "[String(\"\u{FFFD}\")]"),
     (
+        "four bytes that lack the last",
+        &[0xF0, 0x9F, 0x98],
+        Trap::Replace,
+        "[String(\"\u{FFFD}\")]",
+    ),
+    (
+        "four bytes",
         &[0xF0, 0x9F, 0x98, 0x80],
         Trap::Replace,
         "[String(\"\u{1F600}\")]",
     ),
     (
+        "two bytes and three bytes",
         &[0xC3, 0xA9, 0xE2, 0x82, 0xAC],
         Trap::Replace,
         "[String(\"\u{e9}\u{20AC}\")]",
     ),
     (
+        "bytes that look like a byte order mark, not at the start",
         &[0x61, 0xFF, 0xFE],
         Trap::Strict,
         "stopped: Invalid character sequence at 1: [255]",
     ),
     (
+        "two malformations, by a function that goes on",
         &[0x61, 0xFF, 0x61, 0xE2, 0x82],
         Trap::Asks,
         "[String(\"a?a?\")]",
     ),
-    (&[0x61, 0xFF, 0xFF], Trap::Ignore, "[String(\"a\")]"),
-    (&[], Trap::Strict, "[]"),
-    (&[0x00], Trap::Strict, "[]"),
     (
+        "two malformations, ignored",
+        &[0x61, 0xFF, 0xFF],
+        Trap::Ignore,
+        "[String(\"a\")]",
+    ),
+    ("no bytes", &[], Trap::Strict, "[]"),
+    ("NUL alone", &[0x00], Trap::Strict, "[]"),
+    (
+        "a fault of the text",
         b"[",
         Trap::Strict,
         "fault: while parsing a node, did not find expected node content at byte 1 line 2 column 1",
     ),
 ];
 
+// Bytes load with a trap as each row says. All rows that fail are told.
+fn rows_hold(rt: &(impl Abort + AllocGlobal), rows: &[Row]) -> Result<(), Fail> {
+    let mut report = Report::new(rt.alloc());
+    for (name, bytes, trap, want) in rows {
+        let found = decoded(rt.alloc(), bytes, *trap)?;
+        report.compare(name, "decoded", found.as_str(), want)?;
+    }
+    assert!(rt; report.is_empty(), "{report}");
+    Ok(())
+}
+
 #[test]
 fn bytes_are_decoded(rt: HostRuntime) -> Result<(), Fail> {
-    for (bytes, trap, want) in DECODING {
-        assert_eq!(rt;
-            decoded(rt.alloc(), bytes, trap)?.as_str(),
-            want,
-            "row {bytes:?}, {want}"
-        );
-    }
-    Ok(())
+    rows_hold(&rt, &DECODING)
 }
 
 const TRAPS: [Trap; 7] = [
@@ -202,78 +277,123 @@ const TRAPS: [Trap; 7] = [
     Trap::Silent,
 ];
 
-// Whether every beginning of bytes is answered with each trap, by trees, a message or a fault.
-fn are_beginnings_answered(alloc: Global, bytes: &[u8]) -> Result<bool, Fail> {
-    for length in 0..bytes.len() {
-        let beginning = bytes.get(..length).ok_or("no beginning")?;
-        for trap in TRAPS {
-            let told = decoded(alloc, beginning, trap)?;
-            if told.as_str() == "no bytes" || told.as_str().contains("out of memory") {
-                return Ok(false);
-            }
+// Whether bytes are answered with each trap, by trees, a message or a fault.
+fn are_answered(alloc: Global, bytes: &[u8]) -> Result<bool, Fail> {
+    for trap in &TRAPS {
+        let told = decoded(alloc, bytes, *trap)?;
+        if told.as_str() == "no bytes" || told.as_str().contains("out of memory") {
+            return Ok(false);
         }
     }
     Ok(true)
 }
 
+// Whether that holds of every beginning of bytes.
+fn are_beginnings_answered(alloc: Global, bytes: &[u8]) -> Result<bool, Fail> {
+    for length in 0..bytes.len() {
+        let beginning = bytes.get(..length).ok_or("no beginning")?;
+        if !are_answered(alloc, beginning)? {
+            return Ok(false);
+        }
+    }
+    Ok(true)
+}
+
+// Every beginning of each row's bytes is answered. All rows that fail are told.
+fn beginnings_hold(rt: &(impl Abort + AllocGlobal), rows: &[Row]) -> Result<(), Fail> {
+    let mut report = Report::new(rt.alloc());
+    for (name, bytes, _, _) in rows {
+        let holds = are_beginnings_answered(rt.alloc(), bytes)?;
+        report.check(name, "its beginnings", holds)?;
+    }
+    assert!(rt; report.is_empty(), "{report}");
+    Ok(())
+}
+
 #[test]
 fn beginnings_of_bytes_are_answered(rt: HostRuntime) -> Result<(), Fail> {
-    for (bytes, _, _) in DECODING {
-        assert!(rt;
-            are_beginnings_answered(rt.alloc(), bytes)?,
-            "row {bytes:?}"
-        );
-    }
-    for (mark, is_little) in ENCODINGS {
-        let bytes = utf_16(rt.alloc(), mark, is_little)?;
-        assert!(rt;
-            are_beginnings_answered(rt.alloc(), bytes.as_slice())?,
-            "mark {mark:?}"
-        );
-    }
-    Ok(())
+    beginnings_hold(&rt, &DECODING)
 }
 
 const TEXT: &str = "---\na: 1\nb: 2.2\nc: [1, 2]\n";
 
-// A mark or none, and the text in UTF-16; all its characters are ASCII.
-fn utf_16(alloc: Global, mark: &[u8], is_little: bool) -> Result<Vec<u8>, Fail> {
+/// How a character that is ASCII is encoded.
+#[derive(Clone, Copy)]
+enum Unit {
+    Utf8,
+    Utf16LittleEndian,
+    Utf16BigEndian,
+}
+
+// What it is, its mark, and the encoding of the characters.
+type Encoding = (&'static str, &'static [u8], Unit);
+
+const ENCODINGS: [Encoding; 6] = [
+    ("UTF-8 with a mark", &[0xEF, 0xBB, 0xBF], Unit::Utf8),
+    ("UTF-8 without a mark", &[], Unit::Utf8),
+    (
+        "UTF-16, little-endian, with a mark",
+        &[0xFF, 0xFE],
+        Unit::Utf16LittleEndian,
+    ),
+    (
+        "UTF-16, little-endian, without a mark",
+        &[],
+        Unit::Utf16LittleEndian,
+    ),
+    (
+        "UTF-16, big-endian, with a mark",
+        &[0xFE, 0xFF],
+        Unit::Utf16BigEndian,
+    ),
+    (
+        "UTF-16, big-endian, without a mark",
+        &[],
+        Unit::Utf16BigEndian,
+    ),
+];
+
+fn push(bytes: &mut Vec<u8>, unit: Unit, byte: u8) -> Result<(), Fail> {
+    match unit {
+        Unit::Utf8 => bytes.push(byte)?,
+        Unit::Utf16LittleEndian => bytes.extend_from_slice(&[byte, 0])?,
+        Unit::Utf16BigEndian => bytes.extend_from_slice(&[0, byte])?,
+    }
+    Ok(())
+}
+
+// A mark or none, and the text; all its characters are ASCII.
+fn encoded(alloc: Global, mark: &[u8], unit: Unit) -> Result<Vec<u8>, Fail> {
     let mut bytes = Vec::new(alloc);
     bytes.extend_from_slice(mark)?;
     for byte in TEXT.as_bytes() {
-        let unit = if is_little { [*byte, 0] } else { [0, *byte] };
-        bytes.extend_from_slice(&unit)?;
+        push(&mut bytes, unit, *byte)?;
     }
     Ok(bytes)
 }
 
-// A mark, and whether the least byte of a unit comes first.
-const ENCODINGS: [(&[u8], bool); 4] = [
-    (&[0xFF, 0xFE], true),
-    (&[], true),
-    (&[0xFE, 0xFF], false),
-    (&[], false),
-];
+// Notes where the text in an encoding does not load as its tree, or a beginning of it is not answered.
+fn note(report: &mut Report, alloc: Global, row: &Encoding) -> Result<(), Fail> {
+    let (name, mark, unit) = row;
+    let bytes = encoded(alloc, mark, *unit)?;
+    let found = decoded(alloc, bytes.as_slice(), Trap::Strict)?;
+    report.compare(name, "decoded", found.as_str(), TREE)?;
+    let holds = are_beginnings_answered(alloc, bytes.as_slice())?;
+    report.check(name, "its beginnings", holds)?;
+    Ok(())
+}
+
+// The text loads in each encoding. All encodings that fail are told.
+fn encodings_hold(rt: &(impl Abort + AllocGlobal), rows: &[Encoding]) -> Result<(), Fail> {
+    let mut report = Report::new(rt.alloc());
+    for row in rows {
+        note(&mut report, rt.alloc(), row)?;
+    }
+    assert!(rt; report.is_empty(), "{report}");
+    Ok(())
+}
 
 #[test]
 fn encodings_are_told(rt: HostRuntime) -> Result<(), Fail> {
-    let alloc = rt.alloc();
-    let marked = b"\xEF\xBB\xBF---\na: 1\nb: 2.2\nc: [1, 2]\n";
-    assert_eq!(rt;
-        decoded(alloc, marked.as_slice(), Trap::Strict)?.as_str(),
-        TREE
-    );
-    assert_eq!(rt;
-        decoded(alloc, TEXT.as_bytes(), Trap::Strict)?.as_str(),
-        TREE
-    );
-    for (mark, is_little) in ENCODINGS {
-        let bytes = utf_16(alloc, mark, is_little)?;
-        assert_eq!(rt;
-            decoded(alloc, bytes.as_slice(), Trap::Strict)?.as_str(),
-            TREE,
-            "mark {mark:?}"
-        );
-    }
-    Ok(())
+    encodings_hold(&rt, &ENCODINGS)
 }

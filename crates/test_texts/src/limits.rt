@@ -1,8 +1,10 @@
 //! Texts that are long, deep or both.
-use crate::dumping::{COMPACT, LAYOUTS, dumped, loads_back, tree};
+use crate::dumping::{COMPACT, dumped, loads_back_in_all, tree};
 use crate::reading::loaded;
 use std::alloc::Global;
+use std::process::Abort;
 use std::test::Fail;
+use test_rows::Report;
 use yaml_rust2::YamlLoader;
 use yaml_rust2::yaml::{Array, Yaml};
 
@@ -43,9 +45,19 @@ fn arrays(alloc: Global, levels: usize) -> Result<Yaml, Fail> {
     Ok(Yaml::Array(node))
 }
 
-// Levels, a beginning, a middle, an end, and the fault.
-const TOO_DEEP: [(usize, &str, &str, &str, &str); 4] = [
+// What it shows, levels, a beginning, a middle, an end, and the fault.
+type Levels = (
+    &'static str,
+    usize,
+    &'static str,
+    &'static str,
+    &'static str,
+    &'static str,
+);
+
+const TOO_DEEP: [Levels; 4] = [
     (
+        "one level too many",
         256,
         "[",
         "",
@@ -53,6 +65,7 @@ const TOO_DEEP: [(usize, &str, &str, &str, &str); 4] = [
         "recursion limit exceeded at byte 255 line 1 column 256",
     ),
     (
+        "one level too many, of both kinds",
         254,
         "[",
         "{\"a\":[]}",
@@ -60,6 +73,7 @@ const TOO_DEEP: [(usize, &str, &str, &str, &str); 4] = [
         "recursion limit exceeded at byte 259 line 1 column 260",
     ),
     (
+        "very many sequences",
         10000,
         "[",
         "",
@@ -67,6 +81,7 @@ const TOO_DEEP: [(usize, &str, &str, &str, &str); 4] = [
         "recursion limit exceeded at byte 255 line 1 column 256",
     ),
     (
+        "very many mappings",
         10000,
         "{a:",
         "",
@@ -75,21 +90,29 @@ const TOO_DEEP: [(usize, &str, &str, &str, &str); 4] = [
     ),
 ];
 
+// Each text that is nested so is refused with its row's fault. All rows that fail are told.
+fn levels_hold(rt: &(impl Abort + AllocGlobal), rows: &[Levels]) -> Result<(), Fail> {
+    let mut report = Report::new(rt.alloc());
+    for (name, levels, begin, middle, end, want) in rows {
+        let text = nested(rt.alloc(), *levels, begin, middle, end)?;
+        let found = loaded(rt.alloc(), text.as_str())?;
+        report.compare(name, "loaded", found.as_str(), want)?;
+    }
+    assert!(rt; report.is_empty(), "{report}");
+    Ok(())
+}
+
+#[test]
+fn deeper_flow_collections_are_refused(rt: HostRuntime) -> Result<(), Fail> {
+    levels_hold(&rt, &TOO_DEEP)
+}
+
 #[test]
 fn flow_collections_have_255_levels(rt: HostRuntime) -> Result<(), Fail> {
-    let alloc = rt.alloc();
-    let deepest = nested(alloc, 255, "[", "", "]")?;
-    assert!(rt; tree(alloc, deepest.as_str())? == arrays(alloc, 255)?);
-    let deep = nested(alloc, 254, "[", "{\"a\":1}", "]")?;
-    assert!(rt; is_loaded(alloc, deep.as_str()));
-    for (levels, begin, middle, end, want) in TOO_DEEP {
-        let text = nested(alloc, levels, begin, middle, end)?;
-        assert_eq!(rt;
-            loaded(alloc, text.as_str())?.as_str(),
-            want,
-            "{levels} {begin}"
-        );
-    }
+    let deepest = nested(rt.alloc(), 255, "[", "", "]")?;
+    assert!(rt; tree(rt.alloc(), deepest.as_str())? == arrays(rt.alloc(), 255)?);
+    let deep = nested(rt.alloc(), 254, "[", "{\"a\":1}", "]")?;
+    assert!(rt; is_loaded(rt.alloc(), deep.as_str()));
     Ok(())
 }
 
@@ -110,35 +133,54 @@ fn with_letters(alloc: Global, begin: &str, letters: usize, end: &str) -> Result
     Ok(text)
 }
 
-// A beginning, how many letters, and an end.
-const LONG_KEYS: [(&str, usize, &str); 4] = [
-    ("", 1024, ": 1"),
-    ("\"", 1022, "\": 1"),
-    ("---\n'", 1022, "': 1"),
-    ("{", 5000, ": 1}"),
+// What it shows, a beginning, how many letters, and an end.
+type LongKey = (&'static str, &'static str, usize, &'static str);
+
+const LONG_KEYS: [LongKey; 4] = [
+    ("a plain key", "", 1024, ": 1"),
+    ("a key in double quotes, which count", "\"", 1022, "\": 1"),
+    (
+        "a key in single quotes, on the second line",
+        "---\n'",
+        1022,
+        "': 1",
+    ),
+    ("a key in flow", "{", 5000, ": 1}"),
 ];
 
 // The same, and the fault.
-const LONGER_KEYS: [(&str, usize, &str, &str); 4] = [
+type LongerKey = (
+    &'static str,
+    &'static str,
+    usize,
+    &'static str,
+    &'static str,
+);
+
+const LONGER_KEYS: [LongerKey; 4] = [
     (
+        "a plain key",
         "",
         1025,
         ": 1",
         "mapping values are not allowed in this context at byte 1025 line 1 column 1026",
     ),
     (
+        "a key in double quotes",
         "\"",
         1023,
         "\": 1",
         "mapping values are not allowed in this context at byte 1025 line 1 column 1026",
     ),
     (
+        "a key in single quotes, on the second line",
         "---\n'",
         1023,
         "': 1",
         "mapping values are not allowed in this context at byte 1029 line 2 column 1026",
     ),
     (
+        "a plain key of a mapping that has one",
         "a: 1\n",
         1025,
         ": 2",
@@ -146,38 +188,59 @@ const LONGER_KEYS: [(&str, usize, &str, &str); 4] = [
     ),
 ];
 
-#[test]
-fn keys_have_1024_characters(rt: HostRuntime) -> Result<(), Fail> {
-    let alloc = rt.alloc();
-    for (begin, letters, end) in LONG_KEYS {
-        let text = with_letters(alloc, begin, letters, end)?;
-        assert!(rt;
-            is_loaded(alloc, text.as_str()),
-            "{letters} letters after {begin:?}"
-        );
+// The text with each row's key loads. All rows that fail are told.
+fn long_keys_hold(rt: &(impl Abort + AllocGlobal), rows: &[LongKey]) -> Result<(), Fail> {
+    let mut report = Report::new(rt.alloc());
+    for (name, begin, letters, end) in rows {
+        let text = with_letters(rt.alloc(), begin, *letters, end)?;
+        report.check(name, "loaded", is_loaded(rt.alloc(), text.as_str()))?;
     }
-    for (begin, letters, end, want) in LONGER_KEYS {
-        let text = with_letters(alloc, begin, letters, end)?;
-        assert_eq!(rt;
-            loaded(alloc, text.as_str())?.as_str(),
-            want,
-            "{letters} letters after {begin:?}"
-        );
-    }
+    assert!(rt; report.is_empty(), "{report}");
     Ok(())
 }
 
 #[test]
-fn long_keys_are_dumped(rt: HostRuntime) -> Result<(), Fail> {
-    let alloc = rt.alloc();
-    let long = with_letters(alloc, "{", 1024, ": 1}")?;
-    for layout in LAYOUTS {
-        assert!(rt; loads_back(alloc, &tree(alloc, long.as_str())?, layout)?);
+fn keys_have_1024_characters(rt: HostRuntime) -> Result<(), Fail> {
+    long_keys_hold(&rt, &LONG_KEYS)
+}
+
+// The text with each row's key is refused with the row's fault. All rows that fail are told.
+fn longer_keys_hold(rt: &(impl Abort + AllocGlobal), rows: &[LongerKey]) -> Result<(), Fail> {
+    let mut report = Report::new(rt.alloc());
+    for (name, begin, letters, end, want) in rows {
+        let text = with_letters(rt.alloc(), begin, *letters, end)?;
+        let found = loaded(rt.alloc(), text.as_str())?;
+        report.compare(name, "loaded", found.as_str(), want)?;
     }
-    let longer = with_letters(alloc, "{", 1025, ": 1}")?;
-    let text = dumped(alloc, &tree(alloc, longer.as_str())?, COMPACT)?;
+    assert!(rt; report.is_empty(), "{report}");
+    Ok(())
+}
+
+#[test]
+fn longer_keys_are_refused(rt: HostRuntime) -> Result<(), Fail> {
+    longer_keys_hold(&rt, &LONGER_KEYS)
+}
+
+// The tree of a key with this number of letters.
+fn of_long_key(alloc: Global, letters: usize) -> Result<Yaml, Fail> {
+    let text = with_letters(alloc, "{", letters, ": 1}")?;
+    tree(alloc, text.as_str())
+}
+
+#[test]
+fn long_keys_are_dumped(rt: HostRuntime) -> Result<(), Fail> {
+    let long = of_long_key(rt.alloc(), 1024)?;
+    assert!(rt; long.is_hash());
+    assert!(rt; loads_back_in_all(rt.alloc(), &long)?);
+    Ok(())
+}
+
+#[test]
+fn dumps_of_longer_keys_are_refused(rt: HostRuntime) -> Result<(), Fail> {
+    let longer = of_long_key(rt.alloc(), 1025)?;
+    let text = dumped(rt.alloc(), &longer, COMPACT)?;
     assert_eq!(rt;
-        loaded(alloc, text.as_str())?.as_str(),
+        loaded(rt.alloc(), text.as_str())?.as_str(),
         "mapping values are not allowed in this context at byte 1029 line 2 column 1026"
     );
     Ok(())
@@ -195,20 +258,34 @@ fn doubled(alloc: Global, levels: usize) -> Result<Yaml, Fail> {
     Ok(node)
 }
 
-#[test]
-fn aliases_are_copies(rt: HostRuntime) -> Result<(), Fail> {
-    let alloc = rt.alloc();
+// Ten arrays: the first of two texts, and each further one of two aliases of the one before.
+fn doublings(alloc: Global) -> Result<String, Fail> {
     let mut text = String::from_str(alloc, "- &a1 [x, x]\n")?;
     for i in 2..11u32 {
         let before = i.saturating_sub(1);
         text.push_str(format!(in alloc; "- &a{i} [*a{before}, *a{before}]\n")?.as_str())?;
     }
-    let loaded = tree(alloc, text.as_str())?;
-    assert!(rt; loaded.get_index(10).is_none());
-    for i in 0..10 {
-        let item = loaded.get_index(i).ok_or("no item")?;
-        assert!(rt; *item == doubled(alloc, i.saturating_add(1))?, "item {i}");
+    Ok(text)
+}
+
+// Whether each item is doubled once more than the one before.
+fn are_doubled(alloc: Global, items: &[Yaml]) -> Result<bool, Fail> {
+    let mut levels = 0_usize;
+    for item in items {
+        levels = levels.saturating_add(1);
+        if *item != doubled(alloc, levels)? {
+            return Ok(false);
+        }
     }
+    Ok(true)
+}
+
+#[test]
+fn aliases_are_copies(rt: HostRuntime) -> Result<(), Fail> {
+    let tree = tree(rt.alloc(), doublings(rt.alloc())?.as_str())?;
+    let items = tree.as_vec().ok_or("no array")?;
+    assert_eq!(rt; items.len(), 10);
+    assert!(rt; are_doubled(rt.alloc(), items)?);
     Ok(())
 }
 

@@ -1,30 +1,45 @@
 //! Tags, anchors and aliases (YAML 1.2, sections 6.9 and 7.1).
 use crate::reading::{Row, loaded_with_tags, rows_hold};
+use std::process::Abort;
 use std::test::Fail;
+use test_rows::Report;
 
-// A text, and the trees that it loads as.
+// What it shows, a text, and the trees that it loads as.
 const PROPERTIES: [Row; 9] = [
-    ("&a", "[Null]"),
+    ("an anchor without content", "&a", "[Null]"),
     (
+        "an alias for a mapping",
         "a1: &DEFAULT\n    b1: 4\n    b2: d\na2: *DEFAULT\n",
         "[Hash({String(\"a1\"): Hash({String(\"b1\"): Integer(4), String(\"b2\"): String(\"d\")}), String(\"a2\"): Hash({String(\"b1\"): Integer(4), String(\"b2\"): String(\"d\")})})]",
     ),
-    ("&a [*a]", "[Array([BadValue])]"),
     (
+        "an alias inside its own node is a bad value",
+        "&a [*a]",
+        "[Array([BadValue])]",
+    ),
+    (
+        "an anchor that is given twice means the later node",
         "- &a 1\n- &a 2\n- *a",
         "[Array([Integer(1), Integer(2), Integer(2)])]",
     ),
     (
+        "two declared handles",
         "%TAG !a! x:\n%TAG !b! y:\n--- [!a!p 1, !b!q 2]",
         "[Array([String(\"1\"), String(\"2\")])]",
     ),
-    ("!!int &x 5", "[Integer(5)]"),
-    ("!<tag:x%C3%A9> a", "[String(\"a\")]"),
+    ("a tag before an anchor", "!!int &x 5", "[Integer(5)]"),
     (
+        "a verbatim tag with escaped octets",
+        "!<tag:x%C3%A9> a",
+        "[String(\"a\")]",
+    ),
+    (
+        "tags of the core schema, with texts that fit and one that does not",
         "[!!int 0x2A, !!float 12, !!str 0]",
         "[Array([BadValue, Real(\"12\"), String(\"0\")])]",
     ),
     (
+        "each tag of the core schema, with texts that fit and texts that do not",
         "[!!int 100, !!null ~, !!bool true, !!int string, !!float string, !!bool null, !!null val, !!float .INF]",
         "[Array([Integer(100), Null, Boolean(true), BadValue, BadValue, BadValue, BadValue, Real(\".INF\")])]",
     ),
@@ -38,23 +53,29 @@ fn properties_are_read(rt: HostRuntime) -> Result<(), Fail> {
 // The same where declared handles are kept.
 const KEPT: [Row; 2] = [
     (
+        "a handle that is kept for three documents",
         "%TAG !prefix! tag:example.com,2011:\n--- !prefix!A\na: b\n--- !prefix!B\nc: d\n--- !prefix!C\ne: f",
         "[Hash({String(\"a\"): String(\"b\")}), Hash({String(\"c\"): String(\"d\")}), Hash({String(\"e\"): String(\"f\")})]",
     ),
     (
+        "a handle that is kept beside a version",
         "%YAML 1.1\n%TAG !t! tag:test,2024:\n--- !t!1 &1\nfoo: \"bar\"\n--- !t!2 &2\nbaz: \"qux\"\n",
         "[Hash({String(\"foo\"): String(\"bar\")}), Hash({String(\"baz\"): String(\"qux\")})]",
     ),
 ];
 
+// Each text loads as its row says where declared handles are kept. All rows that fail are told.
+fn kept_hold(rt: &(impl Abort + AllocGlobal), rows: &[Row]) -> Result<(), Fail> {
+    let mut report = Report::new(rt.alloc());
+    for (name, text, want) in rows {
+        let found = loaded_with_tags(rt.alloc(), text)?;
+        report.compare(name, "loaded", found.as_str(), want)?;
+    }
+    assert!(rt; report.is_empty(), "{report}");
+    Ok(())
+}
+
 #[test]
 fn declared_handles_may_be_kept(rt: HostRuntime) -> Result<(), Fail> {
-    for (text, want) in &KEPT {
-        assert_eq!(rt;
-            loaded_with_tags(rt.alloc(), text)?.as_str(),
-            *want,
-            "row {text:?}"
-        );
-    }
-    Ok(())
+    kept_hold(&rt, &KEPT)
 }

@@ -3,12 +3,13 @@ use std::alloc::{AllocError, Global};
 use std::process::Abort;
 use std::str::Chars;
 use std::test::Fail;
+use test_rows::Report;
 use yaml_rust2::parser::{Event, MarkedEventReceiver, Parser};
 use yaml_rust2::scanner::Marker;
 use yaml_rust2::{ScanError, Yaml, YamlLoader};
 
-/// A text, and the trees that it loads as, or its fault.
-pub(crate) type Row = (&'static str, &'static str);
+/// What a row shows, a text, and the trees that it loads as, or its fault.
+pub(crate) type Row = (&'static str, &'static str, &'static str);
 
 fn shown(alloc: Global, answer: Result<Vec<Yaml>, ScanError>) -> Result<String, Fail> {
     match answer {
@@ -120,29 +121,40 @@ fn are_beginnings_answered(alloc: Global, text: &str) -> bool {
     true
 }
 
+// Notes where a row's text does not load as it says, from a `&str` and from an iterator.
+fn note_trees(report: &mut Report, alloc: Global, row: &Row) -> Result<(), Fail> {
+    let (name, text, want) = row;
+    let from_str = loaded(alloc, text)?;
+    report.compare(name, "loaded", from_str.as_str(), want)?;
+    let from_iter = loaded_from_iter(alloc, text)?;
+    report.compare(name, "loaded from an iterator", from_iter.as_str(), want)?;
+    Ok(())
+}
+
+// Notes where a row's events are not the same pushed, pulled, and pulled after a look each.
+fn note_events(report: &mut Report, alloc: Global, row: &Row) -> Result<(), Fail> {
+    let (name, text, _) = row;
+    let events = pulled(alloc, text, false)?;
+    let looked_at = pulled(alloc, text, true)?;
+    report.compare(name, "after looks", looked_at.as_str(), events.as_str())?;
+    let pushed = pushed(alloc, text)?;
+    report.compare(name, "pushed", pushed.as_str(), events.as_str())?;
+    Ok(())
+}
+
 /// Every row's text loads as it says, from a `&str` and from an iterator; its events are the same pushed, pulled, and
-/// pulled after a look each; and every beginning of it is answered.
+/// pulled after a look each; and every beginning of it is answered. All rows that fail are told.
 pub(crate) fn rows_hold(rt: &(impl Abort + AllocGlobal), rows: &[Row]) -> Result<(), Fail> {
-    let alloc = rt.alloc();
-    for (text, want) in rows {
-        assert_eq!(rt; loaded(alloc, text)?.as_str(), *want, "row {text:?}");
-        assert_eq!(rt;
-            loaded_from_iter(alloc, text)?.as_str(),
-            *want,
-            "row {text:?}, by an iterator"
-        );
-        let events = pulled(alloc, text, false)?;
-        assert_eq!(rt;
-            pulled(alloc, text, true)?.as_str(),
-            events.as_str(),
-            "row {text:?}, after looks"
-        );
-        assert_eq!(rt;
-            pushed(alloc, text)?.as_str(),
-            events.as_str(),
-            "row {text:?}, pushed"
-        );
-        assert!(rt; are_beginnings_answered(alloc, text), "row {text:?}");
+    let mut report = Report::new(rt.alloc());
+    for row in rows {
+        note_trees(&mut report, rt.alloc(), row)?;
+        note_events(&mut report, rt.alloc(), row)?;
+        report.check(
+            row.0,
+            "its beginnings",
+            are_beginnings_answered(rt.alloc(), row.1),
+        )?;
     }
+    assert!(rt; report.is_empty(), "{report}");
     Ok(())
 }
