@@ -20,8 +20,6 @@ pub mod one_by_one;
 mod paths_tests;
 #[cfg(test)]
 mod receiver_tests;
-#[cfg(test)]
-mod refused_json_tests;
 pub mod round_trip;
 pub mod rows;
 pub mod settings;

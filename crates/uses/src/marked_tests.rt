@@ -271,19 +271,13 @@ fn told(alloc: Global, text: &str, document: usize, steps: &[Step]) -> Result<St
     Ok(format!(in alloc; "{own} {tree}")?)
 }
 
-// The rows whose nodes begin elsewhere.
-fn failed(alloc: Global, rows: &[Row]) -> Result<Report, Fail> {
-    let mut report = Report::new(alloc);
-    for (name, text, document, steps, want) in rows {
-        let found = told(alloc, text, *document, steps)?;
-        report.compare(name, "begins", found.as_str(), want)?;
-    }
-    Ok(report)
-}
-
 #[test]
 fn nodes_have_the_positions_of_their_events(rt: HostRuntime) -> Result<(), Fail> {
-    let report = failed(rt.alloc(), &ROWS)?;
+    let mut report = Report::new(rt.alloc());
+    for (name, text, document, steps, want) in ROWS {
+        let found = told(rt.alloc(), text, document, steps)?;
+        report.compare(name, "begins", found.as_str(), want)?;
+    }
     assert!(rt; report.is_empty(), "{report}");
     Ok(())
 }

@@ -4,14 +4,7 @@ use std::test::Fail;
 use test_rows::Report;
 
 // What it shows, a page, the title in its front matter, and the rest; no title, where there is no front matter.
-type Row = (
-    &'static str,
-    &'static str,
-    Option<&'static str>,
-    &'static str,
-);
-
-const ROWS: [Row; 9] = [
+const ROWS: [(&str, &str, Option<&str>, &str); 9] = [
     (
         "a page with front matter",
         "---\ntitle: Tea\n---\nPour.\n---\n",
@@ -68,20 +61,14 @@ fn wanted(alloc: Global, title: Option<&str>, rest: &str) -> Result<String, Fail
     }
 }
 
-// The pages that are split in another way.
-fn failed(alloc: Global, rows: &[Row]) -> Result<Report, Fail> {
-    let mut report = Report::new(alloc);
-    for (name, text, title, rest) in rows {
-        let found = told(alloc, text)?;
-        let want = wanted(alloc, *title, rest)?;
-        report.compare(name, "split", found.as_str(), want.as_str())?;
-    }
-    Ok(report)
-}
-
 #[test]
 fn pages_are_split(rt: HostRuntime) -> Result<(), Fail> {
-    let report = failed(rt.alloc(), &ROWS)?;
+    let mut report = Report::new(rt.alloc());
+    for (name, text, title, rest) in ROWS {
+        let found = told(rt.alloc(), text)?;
+        let want = wanted(rt.alloc(), title, rest)?;
+        report.compare(name, "split", found.as_str(), want.as_str())?;
+    }
     assert!(rt; report.is_empty(), "{report}");
     Ok(())
 }

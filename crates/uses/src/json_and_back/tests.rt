@@ -13,9 +13,7 @@ fn tree(alloc: Global, text: &str) -> Result<Yaml, Fail> {
 }
 
 // What it shows, a document, its JSON text, and that text indented by two spaces.
-type Row = (&'static str, &'static str, &'static str, &'static str);
-
-const ROWS: [Row; 8] = [
+const ROWS: [(&str, &str, &str, &str); 8] = [
     ("null", "~", "null", "null"),
     (
         "numbers keep their spelling, integers but for base and sign of zero",
@@ -51,51 +49,28 @@ const ROWS: [Row; 8] = [
     ),
 ];
 
-fn in_lines(alloc: Global, tree: &Yaml) -> Result<String, Fail> {
-    let mut lines = String::new(alloc);
-    write_json_indented(alloc, tree, 2, &mut lines)?;
-    Ok(lines)
-}
-
-fn comes_back(alloc: Global, tree: &Yaml) -> Result<bool, Fail> {
-    Ok(match json_and_back(alloc, tree)?.as_slice() {
-        [document] => document == tree,
-        _ => false,
-    })
-}
-
-fn check(alloc: Global, row: &Row, report: &mut Report) -> Result<(), Fail> {
-    let (name, text, compact, indented) = row;
-    let tree = tree(alloc, text)?;
-    let json = json_of(alloc, &tree)?;
-    report.compare(name, "compact", json.as_str(), compact)?;
-    let lines = in_lines(alloc, &tree)?;
-    report.compare(name, "indented", lines.as_str(), indented)?;
-    let holds = comes_back(alloc, &tree)?;
-    report.check(name, "another tree came back", holds)?;
-    Ok(())
-}
-
-// The rows that have another text, or do not come back.
-fn failed(alloc: Global, rows: &[Row]) -> Result<Report, Fail> {
-    let mut report = Report::new(alloc);
-    for row in rows {
-        check(alloc, row, &mut report)?;
-    }
-    Ok(report)
-}
-
 #[test]
 fn trees_come_back(rt: HostRuntime) -> Result<(), Fail> {
-    let report = failed(rt.alloc(), &ROWS)?;
+    let alloc = rt.alloc();
+    let mut report = Report::new(alloc);
+    for (name, text, compact, indented) in ROWS {
+        let tree = tree(alloc, text)?;
+        report.compare(name, "compact", json_of(alloc, &tree)?.as_str(), compact)?;
+        let mut lines = String::new(alloc);
+        write_json_indented(alloc, &tree, 2, &mut lines)?;
+        report.compare(name, "indented", lines.as_str(), indented)?;
+        let holds = match json_and_back(alloc, &tree)?.as_slice() {
+            [document] => *document == tree,
+            _ => false,
+        };
+        report.check(name, "another tree came back", holds)?;
+    }
     assert!(rt; report.is_empty(), "{report}");
     Ok(())
 }
 
 // What it shows, a document, and what is said of the first node that has no JSON text.
-type Fault = (&'static str, &'static str, &'static str);
-
-const FAULTS: [Fault; 6] = [
+const FAULTS: [(&str, &str, &str); 6] = [
     (
         "infinity in an array",
         "[1, .inf]",
@@ -132,37 +107,19 @@ fn refusal(alloc: Global, tree: &Yaml) -> Result<String, Fail> {
     }
 }
 
-fn check_fault(alloc: Global, fault: &Fault, report: &mut Report) -> Result<(), Fail> {
-    let (name, text, want) = fault;
-    let tree = tree(alloc, text)?;
-    let said = refusal(alloc, &tree)?;
-    report.compare(name, "written", said.as_str(), want)?;
-    let mut out = String::from_str(alloc, "before")?;
-    let is_refused = write_json(alloc, &tree, &mut out).is_err();
-    report.check(name, "not refused", is_refused)?;
-    report.compare(name, "the writer", out.as_str(), "before")?;
-    Ok(())
-}
-
-// The rows of which something else is said, or of which a part was written.
-fn written(alloc: Global, faults: &[Fault]) -> Result<Report, Fail> {
-    let mut report = Report::new(alloc);
-    for fault in faults {
-        check_fault(alloc, fault, &mut report)?;
-    }
-    Ok(report)
-}
-
 #[test]
 fn nodes_without_json_are_named(rt: HostRuntime) -> Result<(), Fail> {
-    let report = written(rt.alloc(), &FAULTS)?;
-    assert!(rt; report.is_empty(), "{report}");
-    Ok(())
-}
-
-#[test]
-fn an_alias_without_json_is_named(rt: HostRuntime) -> Result<(), Fail> {
     let alloc = rt.alloc();
+    let mut report = Report::new(alloc);
+    for (name, text, want) in FAULTS {
+        let tree = tree(alloc, text)?;
+        report.compare(name, "written", refusal(alloc, &tree)?.as_str(), want)?;
+        let mut out = String::from_str(alloc, "before")?;
+        let is_refused = write_json(alloc, &tree, &mut out).is_err();
+        report.check(name, "not refused", is_refused)?;
+        report.compare(name, "the writer", out.as_str(), "before")?;
+    }
+    assert!(rt; report.is_empty(), "{report}");
     let mut items = Array::new(alloc);
     items.push(Yaml::Alias(1))?;
     let mut out = String::new(alloc);

@@ -12,9 +12,7 @@ fn tree(alloc: Global, text: &str) -> Result<Yaml, Fail> {
 }
 
 // What it shows, left, right, and the right laid over the left.
-type Row = (&'static str, &'static str, &'static str, &'static str);
-
-const ROWS: [Row; 6] = [
+const ROWS: [(&str, &str, &str, &str); 6] = [
     (
         "hashes are laid over each other, pair by pair",
         "{a: 1, b: {c: 2}}",
@@ -38,27 +36,16 @@ const ROWS: [Row; 6] = [
     ("a hash over an integer", "1", "{a: {b: 2}}", "{a: {b: 2}}"),
 ];
 
-// Whether the second text's tree, laid over the first one's, is that of the third.
-fn gives(alloc: Global, left: &str, right: &str, want: &str) -> Result<bool, Fail> {
-    let left = tree(alloc, left)?;
-    let right = tree(alloc, right)?;
-    let laid = overlay(alloc, &left, &right)?;
-    Ok(laid == tree(alloc, want)?)
-}
-
-// The rows that give another tree.
-fn failed(alloc: Global, rows: &[Row]) -> Result<Report, Fail> {
-    let mut report = Report::new(alloc);
-    for (name, left, right, want) in rows {
-        let holds = gives(alloc, left, right, want)?;
-        report.check(name, "another tree", holds)?;
-    }
-    Ok(report)
-}
-
 #[test]
 fn the_right_is_laid_over_the_left(rt: HostRuntime) -> Result<(), Fail> {
-    let report = failed(rt.alloc(), &ROWS)?;
+    let alloc = rt.alloc();
+    let mut report = Report::new(alloc);
+    for (name, left, right, want) in ROWS {
+        let left = tree(alloc, left)?;
+        let right = tree(alloc, right)?;
+        let laid = overlay(alloc, &left, &right)?;
+        report.check(name, "another tree", laid == tree(alloc, want)?)?;
+    }
     assert!(rt; report.is_empty(), "{report}");
     Ok(())
 }

@@ -11,10 +11,8 @@ fn tree(alloc: Global, text: &str) -> Result<Yaml, Fail> {
     Ok(documents.pop().unwrap_or(Yaml::BadValue))
 }
 
-// What it shows, a document, and what it is after its merges, or what is said of the first node that cannot be merged.
-type Row = (&'static str, &'static str, &'static str);
-
-const ROWS: [Row; 7] = [
+// What it shows, a document, and what it is after its merges.
+const ROWS: [(&str, &str, &str); 7] = [
     (
         "a pair of its own comes before a merged one",
         "defaults: &d {host: a, port: 80}\nserver: {<<: *d, port: 8080}\n",
@@ -48,30 +46,20 @@ const ROWS: [Row; 7] = [
     ("no merge key", "[1, ~, x, {a: [b]}]", "[1, ~, x, {a: [b]}]"),
 ];
 
-// Whether a document is this one after its merges.
-fn gives(alloc: Global, text: &str, want: &str) -> Result<bool, Fail> {
-    let merged = merge(alloc, &tree(alloc, text)?)?;
-    Ok(merged == tree(alloc, want)?)
-}
-
-// The rows that give another tree.
-fn others(alloc: Global, rows: &[Row]) -> Result<Report, Fail> {
-    let mut report = Report::new(alloc);
-    for (name, text, want) in rows {
-        let holds = gives(alloc, text, want)?;
-        report.check(name, "another tree", holds)?;
-    }
-    Ok(report)
-}
-
 #[test]
 fn merge_keys_are_carried_out(rt: HostRuntime) -> Result<(), Fail> {
-    let report = others(rt.alloc(), &ROWS)?;
+    let alloc = rt.alloc();
+    let mut report = Report::new(alloc);
+    for (name, text, want) in ROWS {
+        let merged = merge(alloc, &tree(alloc, text)?)?;
+        report.check(name, "another tree", merged == tree(alloc, want)?)?;
+    }
     assert!(rt; report.is_empty(), "{report}");
     Ok(())
 }
 
-const FAULTS: [Row; 5] = [
+// What it shows, a document, and what is said of the first node that cannot be merged.
+const FAULTS: [(&str, &str, &str); 5] = [
     (
         "an integer",
         "{<<: 5}",
@@ -107,19 +95,13 @@ fn refusal(alloc: Global, text: &str) -> Result<String, Fail> {
     }
 }
 
-// The rows of which something else is said.
-fn failed(alloc: Global, rows: &[Row]) -> Result<Report, Fail> {
-    let mut report = Report::new(alloc);
-    for (name, text, want) in rows {
-        let found = refusal(alloc, text)?;
-        report.compare(name, "merged", found.as_str(), want)?;
-    }
-    Ok(report)
-}
-
 #[test]
 fn nodes_that_cannot_be_merged_are_named(rt: HostRuntime) -> Result<(), Fail> {
-    let report = failed(rt.alloc(), &FAULTS)?;
+    let mut report = Report::new(rt.alloc());
+    for (name, text, want) in FAULTS {
+        let found = refusal(rt.alloc(), text)?;
+        report.compare(name, "merged", found.as_str(), want)?;
+    }
     assert!(rt; report.is_empty(), "{report}");
     Ok(())
 }

@@ -4,9 +4,7 @@ use std::test::Fail;
 use test_rows::Report;
 
 // What it shows, a text, and what is said of it.
-type Row = (&'static str, &'static str, &'static str);
-
-const ROWS: [Row; 7] = [
+const ROWS: [(&str, &str, &str); 7] = [
     ("a port", "host: example.org\nport: 8080\n", "8080"),
     (
         "too large a number",
@@ -39,19 +37,14 @@ fn said(alloc: Global, text: &str) -> Result<String, Fail> {
     })
 }
 
-// The rows of which something else is said.
-fn failed(alloc: Global, rows: &[Row]) -> Result<Report, Fail> {
+#[test]
+fn ports_are_judged(rt: HostRuntime) -> Result<(), Fail> {
+    let alloc = rt.alloc();
     let mut report = Report::new(alloc);
-    for (name, text, want) in rows {
+    for (name, text, want) in ROWS {
         let said = said(alloc, text)?;
         report.compare(name, "said", said.as_str(), want)?;
     }
-    Ok(report)
-}
-
-#[test]
-fn ports_are_judged(rt: HostRuntime) -> Result<(), Fail> {
-    let report = failed(rt.alloc(), &ROWS)?;
     assert!(rt; report.is_empty(), "{report}");
     Ok(())
 }
