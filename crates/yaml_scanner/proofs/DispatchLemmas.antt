@@ -39,10 +39,10 @@ by_class : {T : Type 0} (x : Fetcher T) (n : ℕ) (k l : Class) → Sees x.windo
 unfolding fetch_token
 by_class x n k l see e f = sees_map x.window see (λ a i. ap (λ m. token_by m (state a x)) (ap class_of (peek_first a ∙ sym i) ∙ sym e ∙ f))
 
-pub arm_does : {T X : Type 0} (x y : Fetcher T) (r : Result X Fault) (n : ℕ) (k l : Class) → Sees x.window (λ a. n ≡ slice_index a 0) → k ≡ class_of n → k ≡ l → OnOk r (Does (token_by l) x y) → OnOk r (Does fetch_token x y)
+pub arm_does : {T X E : Type 0} (x y : Fetcher T) (r : Result X E) (n : ℕ) (k l : Class) → Sees x.window (λ a. n ≡ slice_index a 0) → k ≡ class_of n → k ≡ l → OnOk r (Does (token_by l) x y) → OnOk r (Does fetch_token x y)
 arm_does x y r n k l see e f d = does_as (token_by l) fetch_token x y r (by_class x n k l see e f) d
 
-pub arm_fails : {T X : Type 0} (x y : Fetcher T) (r : Result X Fault) (n : ℕ) (k l : Class) → Sees x.window (λ a. n ≡ slice_index a 0) → k ≡ class_of n → k ≡ l → IfErr r (λ e. Fails (token_by l) x y e) → IfErr r (λ e. Fails fetch_token x y e)
+pub arm_fails : {T X E : Type 0} (x y : Fetcher T) (r : Result X E) (n : ℕ) (k l : Class) → Sees x.window (λ a. n ≡ slice_index a 0) → k ≡ class_of n → k ≡ l → IfErr r (λ _. Fails (token_by l) x y y.fault) → IfErr r (λ _. Fails fetch_token x y y.fault)
 arm_fails x y r n k l see e f d = fails_as (token_by l) fetch_token x y r (by_class x n k l see e f) d
 
 -- what is none of the first classes is a scalar or refused
@@ -77,10 +77,10 @@ token_scalar class.Other t n1 n2 n3 n4 n5 n6 n7 n8 n9 n10 n11 = refl
 see_scalar : {T : Type 0} (x : Fetcher T) (n : ℕ) (k : Class) → Sees x.window (λ a. n ≡ slice_index a 0) → k ≡ class_of n → ((t : ScannerState) → token_by k t ≡ scalar_by k t) → Sees x.window (λ a. fetch_token (state a x) ≡ scalar_by k (state a x))
 see_scalar x n k see e f = sees_map x.window (by_class x n k k see e refl) (λ a i. i ∙ f (state a x))
 
-pub rest_does : {T X : Type 0} (x y : Fetcher T) (r : Result X Fault) (n : ℕ) (k : Class) → Sees x.window (λ a. n ≡ slice_index a 0) → k ≡ class_of n → k ≢ class.OpenBracket → k ≢ class.OpenBrace → k ≢ class.CloseBracket → k ≢ class.CloseBrace → k ≢ class.Comma → k ≢ class.Dash → k ≢ class.Question → k ≢ class.Colon → k ≢ class.Asterisk → k ≢ class.Ampersand → k ≢ class.Exclamation → OnOk r (Does (scalar_by k) x y) → OnOk r (Does fetch_token x y)
+pub rest_does : {T X E : Type 0} (x y : Fetcher T) (r : Result X E) (n : ℕ) (k : Class) → Sees x.window (λ a. n ≡ slice_index a 0) → k ≡ class_of n → k ≢ class.OpenBracket → k ≢ class.OpenBrace → k ≢ class.CloseBracket → k ≢ class.CloseBrace → k ≢ class.Comma → k ≢ class.Dash → k ≢ class.Question → k ≢ class.Colon → k ≢ class.Asterisk → k ≢ class.Ampersand → k ≢ class.Exclamation → OnOk r (Does (scalar_by k) x y) → OnOk r (Does fetch_token x y)
 rest_does x y r n k see e n1 n2 n3 n4 n5 n6 n7 n8 n9 n10 n11 d = does_as (scalar_by k) fetch_token x y r (see_scalar x n k see e (λ t. token_scalar k t n1 n2 n3 n4 n5 n6 n7 n8 n9 n10 n11)) d
 
-pub rest_fails : {T X : Type 0} (x y : Fetcher T) (r : Result X Fault) (n : ℕ) (k : Class) → Sees x.window (λ a. n ≡ slice_index a 0) → k ≡ class_of n → k ≢ class.OpenBracket → k ≢ class.OpenBrace → k ≢ class.CloseBracket → k ≢ class.CloseBrace → k ≢ class.Comma → k ≢ class.Dash → k ≢ class.Question → k ≢ class.Colon → k ≢ class.Asterisk → k ≢ class.Ampersand → k ≢ class.Exclamation → IfErr r (λ e. Fails (scalar_by k) x y e) → IfErr r (λ e. Fails fetch_token x y e)
+pub rest_fails : {T X E : Type 0} (x y : Fetcher T) (r : Result X E) (n : ℕ) (k : Class) → Sees x.window (λ a. n ≡ slice_index a 0) → k ≡ class_of n → k ≢ class.OpenBracket → k ≢ class.OpenBrace → k ≢ class.CloseBracket → k ≢ class.CloseBrace → k ≢ class.Comma → k ≢ class.Dash → k ≢ class.Question → k ≢ class.Colon → k ≢ class.Asterisk → k ≢ class.Ampersand → k ≢ class.Exclamation → IfErr r (λ _. Fails (scalar_by k) x y y.fault) → IfErr r (λ _. Fails fetch_token x y y.fault)
 rest_fails x y r n k see e n1 n2 n3 n4 n5 n6 n7 n8 n9 n10 n11 d = fails_as (scalar_by k) fetch_token x y r (see_scalar x n k see e (λ t. token_scalar k t n1 n2 n3 n4 n5 n6 n7 n8 n9 n10 n11)) d
 
 -- scalars
@@ -88,10 +88,10 @@ rest_fails x y r n k see e n1 n2 n3 n4 n5 n6 n7 n8 n9 n10 n11 d = fails_as (scal
 scalar_is : {T : Type 0} (x : Fetcher T) (k l : Class) → k ≡ l → Sees x.window (λ a. scalar_by k (state a x) ≡ scalar_by l (state a x))
 scalar_is x k l e = rw e (record { sees = λ w p. refl })
 
-pub scalar_does : {T X : Type 0} (x y : Fetcher T) (r : Result X Fault) (k l : Class) → k ≡ l → OnOk r (Does (scalar_by l) x y) → OnOk r (Does (scalar_by k) x y)
+pub scalar_does : {T X E : Type 0} (x y : Fetcher T) (r : Result X E) (k l : Class) → k ≡ l → OnOk r (Does (scalar_by l) x y) → OnOk r (Does (scalar_by k) x y)
 scalar_does x y r k l e d = does_as (scalar_by l) (scalar_by k) x y r (scalar_is x k l e) d
 
-pub scalar_fails : {T X : Type 0} (x y : Fetcher T) (r : Result X Fault) (k l : Class) → k ≡ l → IfErr r (λ e. Fails (scalar_by l) x y e) → IfErr r (λ e. Fails (scalar_by k) x y e)
+pub scalar_fails : {T X E : Type 0} (x y : Fetcher T) (r : Result X E) (k l : Class) → k ≡ l → IfErr r (λ _. Fails (scalar_by l) x y y.fault) → IfErr r (λ _. Fails (scalar_by k) x y y.fault)
 scalar_fails x y r k l e d = fails_as (scalar_by l) (scalar_by k) x y r (scalar_is x k l e) d
 
 pub refused : {T : Type 0} (x : Fetcher T) (k l : Class) (q : Problem) (p : Position) → k ≡ l → p ≡ (held x).position → ((t : ScannerState) → scalar_by l t ≡ Err (At q t.held.position)) → Fails (scalar_by k) x x (At q p)
@@ -125,10 +125,10 @@ scalar_plain class.AtSign t n1 n2 n3 n4 n5 n6 n7 = absurd (n6 refl)
 scalar_plain class.Backtick t n1 n2 n3 n4 n5 n6 n7 = absurd (n7 refl)
 scalar_plain class.Other t n1 n2 n3 n4 n5 n6 n7 = refl
 
-pub plain_does : {T X : Type 0} (x y : Fetcher T) (r : Result X Fault) (k : Class) → k ≢ class.Bar → k ≢ class.Greater → k ≢ class.SingleQuote → k ≢ class.DoubleQuote → k ≢ class.Percent → k ≢ class.AtSign → k ≢ class.Backtick → OnOk r (Does fetch_plain_scalar x y) → OnOk r (Does (scalar_by k) x y)
+pub plain_does : {T X E : Type 0} (x y : Fetcher T) (r : Result X E) (k : Class) → k ≢ class.Bar → k ≢ class.Greater → k ≢ class.SingleQuote → k ≢ class.DoubleQuote → k ≢ class.Percent → k ≢ class.AtSign → k ≢ class.Backtick → OnOk r (Does fetch_plain_scalar x y) → OnOk r (Does (scalar_by k) x y)
 plain_does x y r k n1 n2 n3 n4 n5 n6 n7 d = does_as fetch_plain_scalar (scalar_by k) x y r (record { sees = λ w p. scalar_plain k _ n1 n2 n3 n4 n5 n6 n7 }) d
 
-pub plain_fails : {T X : Type 0} (x y : Fetcher T) (r : Result X Fault) (k : Class) → k ≢ class.Bar → k ≢ class.Greater → k ≢ class.SingleQuote → k ≢ class.DoubleQuote → k ≢ class.Percent → k ≢ class.AtSign → k ≢ class.Backtick → IfErr r (λ e. Fails fetch_plain_scalar x y e) → IfErr r (λ e. Fails (scalar_by k) x y e)
+pub plain_fails : {T X E : Type 0} (x y : Fetcher T) (r : Result X E) (k : Class) → k ≢ class.Bar → k ≢ class.Greater → k ≢ class.SingleQuote → k ≢ class.DoubleQuote → k ≢ class.Percent → k ≢ class.AtSign → k ≢ class.Backtick → IfErr r (λ _. Fails fetch_plain_scalar x y y.fault) → IfErr r (λ _. Fails (scalar_by k) x y y.fault)
 plain_fails x y r k n1 n2 n3 n4 n5 n6 n7 d = fails_as fetch_plain_scalar (scalar_by k) x y r (record { sees = λ w p. scalar_plain k _ n1 n2 n3 n4 n5 n6 n7 }) d
 
 pub bar_plain : {T : Type 0} (x : Fetcher T) (literal b : Bool) → b ≡ in_flow (held x) → b ≡ true → Sees x.window (λ a. fetch_bar literal (state a x) ≡ fetch_plain_scalar (state a x))

@@ -49,6 +49,10 @@ Reads-none s = record { start = refl; at = omega arith; left = omega arith; back
 pub fails_held : {T : Type 0} {h : ScannerState → Result ScannerState Fault} (x0 y0 : Fetcher T) (x : Fault) → y0.window ≡ x0.window → ((a : List ℕ) → x ≢ OutOfMemory → h (state a x0) ≡ Err x) → Fails h x0 y0 x
 fails_held x0 y0 x e f = record { runs = Reads-along _ _ _ _ refl e (Reads-map _ _ (Reads-none x0.window) (λ a b p n. f a n)) }
 
+-- a refusal that is held once it was met
+pub fails_kept : {T : Type 0} {h : ScannerState → Result ScannerState Fault} {w : Reading T} (x z : Fetcher T) (e : Fault) → z.window ≡ w → z.fault ≡ e → Reads x.window w (λ a b. e ≢ OutOfMemory → h (state a x) ≡ Err e) → Fails h x z z.fault
+fails_kept x z e v f run = rw f (record { runs = Reads-along _ _ _ _ refl v run })
+
 abbrev pub okay : List ℕ → Held → Result ScannerState Fault
 okay a h = Ok (record { rest = a; held = h })
 

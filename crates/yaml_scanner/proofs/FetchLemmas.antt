@@ -31,20 +31,20 @@ peek_first [] = refl
 peek_first (c ∷ a) = refl
 
 -- one step does here what another does
-pub does_as : {T X : Type 0} (f h : ScannerState → Result ScannerState Fault) (x y : Fetcher T) (r : Result X Fault) → Sees x.window (λ a. h (state a x) ≡ f (state a x)) → OnOk r (Does f x y) → OnOk r (Does h x y)
+pub does_as : {T X E : Type 0} (f h : ScannerState → Result ScannerState Fault) (x y : Fetcher T) (r : Result X E) → Sees x.window (λ a. h (state a x) ≡ f (state a x)) → OnOk r (Does f x y) → OnOk r (Does h x y)
 does_as f h x y (Ok v) same d = record { runs = Reads-saw _ _ same d.runs (λ a b p q. p ∙ q) }
 does_as f h x y (Err e) same d = tt
 
-pub fails_as : {T X : Type 0} (f h : ScannerState → Result ScannerState Fault) (x y : Fetcher T) (r : Result X Fault) → Sees x.window (λ a. h (state a x) ≡ f (state a x)) → IfErr r (λ e. Fails f x y e) → IfErr r (λ e. Fails h x y e)
+pub fails_as : {T X E : Type 0} (f h : ScannerState → Result ScannerState Fault) (x y : Fetcher T) (r : Result X E) → Sees x.window (λ a. h (state a x) ≡ f (state a x)) → IfErr r (λ _. Fails f x y y.fault) → IfErr r (λ _. Fails h x y y.fault)
 fails_as f h x y (Ok v) same d = tt
 fails_as f h x y (Err e) same d = record { runs = Reads-saw _ _ same d.runs (λ a b p q n. p ∙ q n) }
 
 -- and also after a look at what comes
-pub does_after : {T X : Type 0} (f : ScannerState → Result ScannerState Fault) (x0 x1 y : Fetcher T) (r : Result X Fault) → Reads x0.window x1.window (λ a b. b ≡ a) → held x1 ≡ held x0 → OnOk r (Does f x1 y) → OnOk r (Does f x0 y)
+pub does_after : {T X E : Type 0} (f : ScannerState → Result ScannerState Fault) (x0 x1 y : Fetcher T) (r : Result X E) → Reads x0.window x1.window (λ a b. b ≡ a) → held x1 ≡ held x0 → OnOk r (Does f x1 y) → OnOk r (Does f x0 y)
 does_after f x0 x1 y (Ok v) look e d = record { runs = Reads-then _ _ _ look d.runs (λ a b d p q. rw (← p, ← e) q) }
 does_after f x0 x1 y (Err x) look e d = tt
 
-pub fails_after : {T X : Type 0} (f : ScannerState → Result ScannerState Fault) (x0 x1 y : Fetcher T) (r : Result X Fault) → Reads x0.window x1.window (λ a b. b ≡ a) → held x1 ≡ held x0 → IfErr r (λ e. Fails f x1 y e) → IfErr r (λ e. Fails f x0 y e)
+pub fails_after : {T X E : Type 0} (f : ScannerState → Result ScannerState Fault) (x0 x1 y : Fetcher T) (r : Result X E) → Reads x0.window x1.window (λ a b. b ≡ a) → held x1 ≡ held x0 → IfErr r (λ _. Fails f x1 y y.fault) → IfErr r (λ _. Fails f x0 y y.fault)
 fails_after f x0 x1 y (Ok v) look e d = tt
 fails_after f x0 x1 y (Err x) look e d = record { runs = Reads-then _ _ _ look d.runs (λ a b d p q n. rw (← p, ← e) (q n)) }
 

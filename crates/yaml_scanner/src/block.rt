@@ -12,7 +12,7 @@ ghost use Rattle.yaml_scanner.specs.Shape.{held, Does, Fails};
 ghost use Rattle.yaml_scanner_state.specs.ImplicitKeys.{keyed_by};
 ghost use Rattle.yaml_scanner.specs.Work.{Moves, Fetches};
 
-use crate::fetcher::Fetcher;
+use crate::fetcher::{Failed, Fetcher};
 use model_scanner::FlowLevel;
 use yaml_chars::Marker;
 use yaml_chars::class::{is_alpha, is_blank_or_breakz, is_break, is_flow};
@@ -36,11 +36,11 @@ fn begins_word(c: char) -> bool
 
 impl<T: Iterator<Item = char>> Fetcher<T> {
     /// `-`
-    pub(crate) fn fetch_block_entry(&mut self) -> Result<(), Fault>
+    pub(crate) fn fetch_block_entry(&mut self) -> Result<(), Failed>
         requires ahead { 0 < self.old.window.ahead }
         requires has { HasChar self.old.window }
         ensures does { OnOk result (Does fetch_block_entry self.old self.new) }
-        ensures fails { IfErr result (λ e. Fails fetch_block_entry self.old self.new e) }
+        ensures fails { IfErr result (λ _. Fails fetch_block_entry self.old self.new self.new.fault) }
         ensures run { Fetches self.old self.new }
         ensures moves { OnOk result (Moves self.old self.new 4 8) }
     {
@@ -55,30 +55,34 @@ impl<T: Iterator<Item = char>> Fetcher<T> {
 
     /// Whether an entry of a block sequence may stand here.
     #[tactic(auto, unfolding(model_scanner::specs::Block::check_block_entry))]
-    fn check_block_entry(&self) -> Result<(), Fault>
-        ensures ok { OnOk result (check_block_entry (held self.now) ≡ Ok (held self.now)) }
-        ensures fault { IfErr result (λ e. check_block_entry (held self.now) ≡ Err e) }
+    fn check_block_entry(&mut self) -> Result<(), Failed>
+        ensures ok { OnOk result (check_block_entry (held self.old) ≡ Ok (held self.new)) }
+        ensures fault { IfErr result (λ _. check_block_entry (held self.old) ≡ Err self.new.fault) }
+        ensures moves { Moves self.old self.new 0 0 }
+        ensures window { self.new.window ≡ self.old.window }
     {
         if self.in_flow() {
-            return Err(Fault::At(Problem::BlockEntryInFlow, self.window.mark()));
+            return Err(self.fail_here(Problem::BlockEntryInFlow));
         }
         if !self.key_allowed {
-            return Err(Fault::At(Problem::BlockEntryNotAllowed, self.window.mark()));
+            return Err(self.fail_here(Problem::BlockEntryNotAllowed));
         }
         self.check_margin()?;
         Ok(())
     }
 
     /// Refuses an entry at the first column after an anchor or a tag at the first column.
-    fn check_margin(&self) -> Result<(), Fault>
-        ensures ok { OnOk result (at_margin (last_property (held self.now).tokens) (held self.now).position (held self.now) ≡ Ok (held self.now)) }
-        ensures fault { IfErr result (λ e. at_margin (last_property (held self.now).tokens) (held self.now).position (held self.now) ≡ Err e) }
+    fn check_margin(&mut self) -> Result<(), Failed>
+        ensures ok { OnOk result (at_margin (last_property (held self.old).tokens) (held self.old).position (held self.old) ≡ Ok (held self.new)) }
+        ensures fault { IfErr result (λ _. at_margin (last_property (held self.old).tokens) (held self.old).position (held self.old) ≡ Err self.new.fault) }
+        ensures moves { Moves self.old self.new 0 0 }
+        ensures window { self.new.window ≡ self.old.window }
     {
         let Some(position) = self.tokens.property() else {
             return Ok(());
         };
         if self.is_at_margin(position) {
-            return Err(Fault::At(Problem::AnchorIndentation, position));
+            return Err(self.fail(Fault::At(Problem::AnchorIndentation, position)));
         }
         Ok(())
     }
@@ -91,9 +95,9 @@ impl<T: Iterator<Item = char>> Fetcher<T> {
     }
 
     /// Steps over spaces and TABs after a `-`.
-    fn pass_dash(&mut self) -> Result<(), Fault>
+    fn pass_dash(&mut self) -> Result<(), Failed>
         ensures does { OnOk result (Does pass_dash self.old self.new) }
-        ensures fails { IfErr result (λ e. Fails pass_dash self.old self.new e) }
+        ensures fails { IfErr result (λ _. Fails pass_dash self.old self.new self.new.fault) }
         ensures run { Fetches self.old self.new }
         ensures moves { OnOk result (Moves self.old self.new 0 0) }
     {
@@ -103,14 +107,14 @@ impl<T: Iterator<Item = char>> Fetcher<T> {
     }
 
     /// Refuses a TAB between two dashes that are indicators.
-    fn check_dash(&mut self, found: Whitespace) -> Result<(), Fault>
+    fn check_dash(&mut self, found: Whitespace) -> Result<(), Failed>
         ensures does { OnOk result (Does (check_dash found) self.old self.new) }
-        ensures fails { IfErr result (λ e. Fails (check_dash found) self.old self.new e) }
+        ensures fails { IfErr result (λ _. Fails (check_dash found) self.old self.new self.new.fault) }
         ensures moves { Moves self.old self.new 0 0 }
     {
         self.window.lookahead(2);
         if self.is_tab_before_dash(found) {
-            return Err(Fault::At(Problem::TabAfterDash, self.window.mark()));
+            return Err(self.fail_here(Problem::TabAfterDash));
         }
         Ok(())
     }
@@ -124,9 +128,9 @@ impl<T: Iterator<Item = char>> Fetcher<T> {
     }
 
     /// Steps to the content of an entry.
-    fn begin_entry(&mut self) -> Result<(), Fault>
+    fn begin_entry(&mut self) -> Result<(), Failed>
         ensures does { OnOk result (Does begin_entry self.old self.new) }
-        ensures fails { IfErr result (λ e. Fails begin_entry self.old self.new e) }
+        ensures fails { IfErr result (λ _. Fails begin_entry self.old self.new self.new.fault) }
         ensures run { Fetches self.old self.new }
         ensures moves { OnOk result (Moves self.old self.new 2 0) }
     {
@@ -141,9 +145,9 @@ impl<T: Iterator<Item = char>> Fetcher<T> {
 
     /// Opens a level without a collection, for an entry on a later line, or one that begins with a flow
     /// indicator.
-    fn roll_entry(&mut self) -> Result<(), Fault>
+    fn roll_entry(&mut self) -> Result<(), Failed>
         ensures does { OnOk result (Does entry_level self.old self.new) }
-        ensures fails { IfErr result (λ e. Fails entry_level self.old self.new e) }
+        ensures fails { IfErr result (λ _. Fails entry_level self.old self.new self.new.fault) }
         ensures run { Fetches self.old self.new }
         ensures moves { OnOk result (Moves self.old self.new 1 0) }
     {
@@ -156,11 +160,11 @@ impl<T: Iterator<Item = char>> Fetcher<T> {
     }
 
     /// `?`
-    pub(crate) fn fetch_key(&mut self) -> Result<(), Fault>
+    pub(crate) fn fetch_key(&mut self) -> Result<(), Failed>
         requires ahead { 0 < self.old.window.ahead }
         requires has { HasChar self.old.window }
         ensures does { OnOk result (Does fetch_key self.old self.new) }
-        ensures fails { IfErr result (λ e. Fails fetch_key self.old self.new e) }
+        ensures fails { IfErr result (λ _. Fails fetch_key self.old self.new self.new.fault) }
         ensures run { Fetches self.old self.new }
         ensures moves { OnOk result (Moves self.old self.new 3 8) }
     {
@@ -176,9 +180,9 @@ impl<T: Iterator<Item = char>> Fetcher<T> {
 
     /// Begins a key with `?`, and its mapping if the key is the first.
     #[tactic(auto, unfolding(model_scanner::specs::Block::begin_key))]
-    fn begin_key(&mut self) -> Result<(), Fault>
+    fn begin_key(&mut self) -> Result<(), Failed>
         ensures held { OnOk result (begin_key (held self.old) ≡ Ok (held self.new)) }
-        ensures fault { IfErr result (λ e. e ≢ Fault.OutOfMemory → begin_key (held self.old) ≡ Err e) }
+        ensures fault { IfErr result (λ _. self.new.fault ≢ Fault.OutOfMemory → begin_key (held self.old) ≡ Err self.new.fault) }
         ensures moves { Moves self.old self.new 2 0 }
         ensures window { self.new.window ≡ self.old.window }
     {
@@ -188,7 +192,7 @@ impl<T: Iterator<Item = char>> Fetcher<T> {
         }
         let mark = self.window.mark();
         if !self.key_allowed {
-            return Err(Fault::At(Problem::KeyNotAllowed, mark));
+            return Err(self.fail(Fault::At(Problem::KeyNotAllowed, mark)));
         }
         self.roll_indent(mark.col(), None, Collection::Mapping, mark)?;
         Ok(())
@@ -206,11 +210,11 @@ impl<T: Iterator<Item = char>> Fetcher<T> {
     }
 
     /// Steps over a `?` and what must stand after it.
-    fn pass_key(&mut self) -> Result<(), Fault>
+    fn pass_key(&mut self) -> Result<(), Failed>
         requires ahead { 0 < self.old.window.ahead }
         requires has { HasChar self.old.window }
         ensures does { OnOk result (Does pass_key self.old self.new) }
-        ensures fails { IfErr result (λ e. Fails pass_key self.old self.new e) }
+        ensures fails { IfErr result (λ _. Fails pass_key self.old self.new self.new.fault) }
         ensures run { Fetches self.old self.new }
         ensures moves { OnOk result (Moves self.old self.new 0 8) }
         ensures ahead { OnOk result (0 < self.new.window.ahead) }
@@ -221,23 +225,24 @@ impl<T: Iterator<Item = char>> Fetcher<T> {
     }
 
     /// Refuses a TAB after the space of a `?`.
-    fn check_key_space(&self) -> Result<(), Fault>
-        requires { 0 < self.now.window.ahead }
-        ensures ok { OnOk result (Does check_key_space self.now self.now) }
-        ensures fault { IfErr result (λ e. Fails check_key_space self.now self.now e) }
+    fn check_key_space(&mut self) -> Result<(), Failed>
+        requires { 0 < self.old.window.ahead }
+        ensures does { OnOk result (Does check_key_space self.old self.new) }
+        ensures fails { IfErr result (λ _. Fails check_key_space self.old self.new self.new.fault) }
+        ensures moves { Moves self.old self.new 0 0 }
     {
         if self.window.ch() == '\t' {
-            return Err(Fault::At(Problem::TabAfterKey, self.window.mark()));
+            return Err(self.fail_here(Problem::TabAfterKey));
         }
         Ok(())
     }
 
     /// `:`
-    pub(crate) fn fetch_value(&mut self) -> Result<(), Fault>
+    pub(crate) fn fetch_value(&mut self) -> Result<(), Failed>
         requires ahead { 0 < self.old.window.ahead }
         requires has { HasChar self.old.window }
         ensures does { OnOk result (Does fetch_value self.old self.new) }
-        ensures fails { IfErr result (λ e. Fails fetch_value self.old self.new e) }
+        ensures fails { IfErr result (λ _. Fails fetch_value self.old self.new self.new.fault) }
         ensures run { Fetches self.old self.new }
         ensures moves { OnOk result (Moves self.old self.new 7 8) }
     {
@@ -267,9 +272,9 @@ impl<T: Iterator<Item = char>> Fetcher<T> {
     }
 
     /// Refuses what must not follow a `:` and a TAB.
-    fn check_value_space(&mut self) -> Result<(), Fault>
+    fn check_value_space(&mut self) -> Result<(), Failed>
         ensures does { OnOk result (Does check_value_space self.old self.new) }
-        ensures fails { IfErr result (λ e. Fails check_value_space self.old self.new e) }
+        ensures fails { IfErr result (λ _. Fails check_value_space self.old self.new self.new.fault) }
         ensures run { Fetches self.old self.new }
         ensures moves { OnOk result (Moves self.old self.new 0 0) }
     {
@@ -281,9 +286,9 @@ impl<T: Iterator<Item = char>> Fetcher<T> {
     }
 
     /// Steps over spaces and TABs after a `:`.
-    fn pass_tab(&mut self) -> Result<(), Fault>
+    fn pass_tab(&mut self) -> Result<(), Failed>
         ensures does { OnOk result (Does pass_tab self.old self.new) }
-        ensures fails { IfErr result (λ e. Fails pass_tab self.old self.new e) }
+        ensures fails { IfErr result (λ _. Fails pass_tab self.old self.new self.new.fault) }
         ensures run { Fetches self.old self.new }
         ensures moves { OnOk result (Moves self.old self.new 0 0) }
     {
@@ -293,13 +298,14 @@ impl<T: Iterator<Item = char>> Fetcher<T> {
     }
 
     /// Refuses TABs alone between a `:` and a word or a `-`.
-    fn check_after_tab(&self, found: Whitespace) -> Result<(), Fault>
-        requires { 0 < self.now.window.ahead }
-        ensures ok { OnOk result (Does (check_after_tab found) self.now self.now) }
-        ensures fault { IfErr result (λ e. Fails (check_after_tab found) self.now self.now e) }
+    fn check_after_tab(&mut self, found: Whitespace) -> Result<(), Failed>
+        requires { 0 < self.old.window.ahead }
+        ensures does { OnOk result (Does (check_after_tab found) self.old self.new) }
+        ensures fails { IfErr result (λ _. Fails (check_after_tab found) self.old self.new self.new.fault) }
+        ensures moves { Moves self.old self.new 0 0 }
     {
         if self.is_word_after_tab(found) {
-            return Err(Fault::At(Problem::TabAfterColon, self.window.mark()));
+            return Err(self.fail_here(Problem::TabAfterColon));
         }
         Ok(())
     }
@@ -313,9 +319,9 @@ impl<T: Iterator<Item = char>> Fetcher<T> {
     }
 
     /// Gives the key of a `:`, if it has one, its token, and its mapping a start if the key is the first.
-    fn begin_value(&mut self, mark: Marker, opens_pair: bool) -> Result<(), Fault>
+    fn begin_value(&mut self, mark: Marker, opens_pair: bool) -> Result<(), Failed>
         ensures held { OnOk result (value_of (top_key (held self.old).keys) mark opens_pair (held self.old) ≡ Ok (held self.new)) }
-        ensures fault { IfErr result (λ e. e ≢ Fault.OutOfMemory → value_of (top_key (held self.old).keys) mark opens_pair (held self.old) ≡ Err e) }
+        ensures fault { IfErr result (λ _. self.new.fault ≢ Fault.OutOfMemory → value_of (top_key (held self.old).keys) mark opens_pair (held self.old) ≡ Err self.new.fault) }
         ensures moves { Moves self.old self.new 5 0 }
         ensures window { self.new.window ≡ self.old.window }
     {
@@ -327,9 +333,9 @@ impl<T: Iterator<Item = char>> Fetcher<T> {
     }
 
     /// Gives the key that began without `?` its token, and its mapping a start if the key is the first.
-    fn insert_key(&mut self, key: ImplicitKey, mark: Marker, opens_pair: bool) -> Result<(), Fault>
+    fn insert_key(&mut self, key: ImplicitKey, mark: Marker, opens_pair: bool) -> Result<(), Failed>
         ensures held { OnOk result (insert_key (keyed_by self.old.tokens.given key) mark opens_pair (held self.old) ≡ Ok (held self.new)) }
-        ensures fault { IfErr result (λ e. e ≢ Fault.OutOfMemory → insert_key (keyed_by self.old.tokens.given key) mark opens_pair (held self.old) ≡ Err e) }
+        ensures fault { IfErr result (λ _. self.new.fault ≢ Fault.OutOfMemory → insert_key (keyed_by self.old.tokens.given key) mark opens_pair (held self.old) ≡ Err self.new.fault) }
         ensures moves { Moves self.old self.new 5 0 }
         ensures window { self.new.window ≡ self.old.window }
     {
@@ -345,22 +351,29 @@ impl<T: Iterator<Item = char>> Fetcher<T> {
 
     /// Inserts a token at a position of the queue, counted from its front.
     #[inline(always)]
-    fn put_token(&mut self, position: usize, mark: Marker, kind: TokenType) -> Result<(), Fault>
+    pub(crate) fn put_token(
+        &mut self,
+        position: usize,
+        mark: Marker,
+        kind: TokenType,
+    ) -> Result<(), Failed>
         ensures held { OnOk result (held self.new ≡ put (self.old.tokens.given + position) mark (tok_of kind) (held self.old)) }
         ensures given { OnOk result (self.new.tokens.given ≡ self.old.tokens.given) }
-        ensures err { IfErr result (λ e. e ≡ Fault.OutOfMemory) }
+        ensures err { IfErr result (λ _. self.new.fault ≡ Fault.OutOfMemory) }
         ensures moves { Moves self.old self.new 1 0 }
         ensures window { self.new.window ≡ self.old.window }
     {
-        self.tokens.insert(position, Token(mark, kind))?;
+        if let Err(_) = self.tokens.insert(position, Token(mark, kind)) {
+            return Err(self.fail(Fault::OutOfMemory));
+        }
         Ok(())
     }
 
     /// Begins a pair of a flow sequence, before its key, which stands on the line of its `:`.
     #[tactic(auto, unfolding(model_scanner::specs::Block::begin_pair))]
-    fn begin_pair(&mut self, key: ImplicitKey, mark: Marker, opens_pair: bool) -> Result<(), Fault>
+    fn begin_pair(&mut self, key: ImplicitKey, mark: Marker, opens_pair: bool) -> Result<(), Failed>
         ensures held { OnOk result (begin_pair (keyed_by self.old.tokens.given key) mark opens_pair (held self.old) ≡ Ok (held self.new)) }
-        ensures fault { IfErr result (λ e. e ≢ Fault.OutOfMemory → begin_pair (keyed_by self.old.tokens.given key) mark opens_pair (held self.old) ≡ Err e) }
+        ensures fault { IfErr result (λ _. self.new.fault ≢ Fault.OutOfMemory → begin_pair (keyed_by self.old.tokens.given key) mark opens_pair (held self.old) ≡ Err self.new.fault) }
         ensures given { OnOk result (self.new.tokens.given ≡ self.old.tokens.given) }
         ensures moves { Moves self.old self.new 1 0 }
         ensures window { self.new.window ≡ self.old.window }
@@ -369,7 +382,7 @@ impl<T: Iterator<Item = char>> Fetcher<T> {
             return Ok(());
         }
         if key.mark.line() < mark.line() {
-            return Err(Fault::At(Problem::ColonMisplaced, mark));
+            return Err(self.fail(Fault::At(Problem::ColonMisplaced, mark)));
         }
         let here = self.window.mark();
         self.put_token(key.position, here, TokenType::FlowMappingStart)?;
@@ -377,9 +390,9 @@ impl<T: Iterator<Item = char>> Fetcher<T> {
     }
 
     /// A `:` after a key that began with `?`, or without a key.
-    fn begin_keyless_value(&mut self, mark: Marker, opens_pair: bool) -> Result<(), Fault>
+    fn begin_keyless_value(&mut self, mark: Marker, opens_pair: bool) -> Result<(), Failed>
         ensures held { OnOk result (begin_keyless_value mark opens_pair (held self.old) ≡ Ok (held self.new)) }
-        ensures fault { IfErr result (λ e. e ≢ Fault.OutOfMemory → begin_keyless_value mark opens_pair (held self.old) ≡ Err e) }
+        ensures fault { IfErr result (λ _. self.new.fault ≢ Fault.OutOfMemory → begin_keyless_value mark opens_pair (held self.old) ≡ Err self.new.fault) }
         ensures moves { Moves self.old self.new 4 0 }
         ensures window { self.new.window ≡ self.old.window }
     {
@@ -391,9 +404,9 @@ impl<T: Iterator<Item = char>> Fetcher<T> {
     }
 
     /// Begins a pair of a flow sequence that has a `:` and no key.
-    fn begin_keyless_pair(&mut self, opens_pair: bool) -> Result<(), Fault>
+    fn begin_keyless_pair(&mut self, opens_pair: bool) -> Result<(), Failed>
         ensures held { OnOk result (held self.new ≡ begin_keyless_pair opens_pair (held self.old)) }
-        ensures err { IfErr result (λ e. e ≡ Fault.OutOfMemory) }
+        ensures err { IfErr result (λ _. self.new.fault ≡ Fault.OutOfMemory) }
         ensures moves { Moves self.old self.new 1 0 }
         ensures window { self.new.window ≡ self.old.window }
     {
@@ -407,9 +420,9 @@ impl<T: Iterator<Item = char>> Fetcher<T> {
 
     /// Outside flow, where a key may begin, begins a mapping at a `:`, unless one is open at its column.
     #[tactic(auto, unfolding(model_scanner::specs::Block::begin_keyless_mapping))]
-    fn begin_keyless_mapping(&mut self, mark: Marker) -> Result<(), Fault>
+    fn begin_keyless_mapping(&mut self, mark: Marker) -> Result<(), Failed>
         ensures held { OnOk result (begin_keyless_mapping mark (held self.old) ≡ Ok (held self.new)) }
-        ensures fault { IfErr result (λ e. e ≢ Fault.OutOfMemory → begin_keyless_mapping mark (held self.old) ≡ Err e) }
+        ensures fault { IfErr result (λ _. self.new.fault ≢ Fault.OutOfMemory → begin_keyless_mapping mark (held self.old) ≡ Err self.new.fault) }
         ensures moves { Moves self.old self.new 2 0 }
         ensures window { self.new.window ≡ self.old.window }
     {
@@ -417,7 +430,7 @@ impl<T: Iterator<Item = char>> Fetcher<T> {
             return Ok(());
         }
         if !self.key_allowed {
-            return Err(Fault::At(Problem::ValueNotAllowed, mark));
+            return Err(self.fail(Fault::At(Problem::ValueNotAllowed, mark)));
         }
         self.roll_indent(mark.col(), None, Collection::Mapping, mark)?;
         Ok(())

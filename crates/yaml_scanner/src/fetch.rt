@@ -12,7 +12,7 @@ ghost use Rattle.yaml_scanner.specs.Steps.{end_quoted, fetch_bar, scalar_by};
 ghost use Rattle.yaml_scanner_state.specs.Styles.{is_alias, are_single, is_literal_style};
 ghost use Rattle.yaml_scanner.specs.Work.{Moves, Fetches, HasChars, work};
 
-use crate::fetcher::Fetcher;
+use crate::fetcher::{Failed, Fetcher};
 use model_scanner::{Class, class_of};
 use yaml_chars::class::{is_blank_or_breakz, is_breakz, is_flow};
 use yaml_lexers::{
@@ -43,10 +43,10 @@ fn is_thrice(c: char, first: char, second: char, third: char) -> bool
 
 impl<T: Iterator<Item = char>> Fetcher<T> {
     /// Fetches a token, or several.
-    pub(crate) fn fetch(&mut self) -> Result<(), Fault>
+    pub(crate) fn fetch(&mut self) -> Result<(), Failed>
         requires { self.old.tokens.ended ≡ false }
         ensures does { OnOk result (Does fetch self.old self.new) }
-        ensures fails { IfErr result (λ e. Fails fetch self.old self.new e) }
+        ensures fails { IfErr result (λ _. Fails fetch self.old self.new self.new.fault) }
         ensures done { OnOk result (self.new.tokens.ended ≡ true → self.new.window.done ≡ true) }
         ensures less { OnOk result (work self.new < work self.old) }
         ensures run { Fetches self.old self.new }
@@ -58,10 +58,10 @@ impl<T: Iterator<Item = char>> Fetcher<T> {
     }
 
     /// Skips to the next token, ends the block collections that end there, and fetches the token.
-    fn fetch_next(&mut self) -> Result<(), Fault>
+    fn fetch_next(&mut self) -> Result<(), Failed>
         requires { self.old.tokens.ended ≡ false }
         ensures does { OnOk result (Does fetch_next self.old self.new) }
-        ensures fails { IfErr result (λ e. Fails fetch_next self.old self.new e) }
+        ensures fails { IfErr result (λ _. Fails fetch_next self.old self.new self.new.fault) }
         ensures done { OnOk result (self.new.tokens.ended ≡ true → self.new.window.done ≡ true) }
         ensures less { OnOk result (work self.new < work self.old) }
         ensures run { Fetches self.old self.new }
@@ -83,10 +83,10 @@ impl<T: Iterator<Item = char>> Fetcher<T> {
     }
 
     /// Fetches a token if the text goes on, else the stream's end.
-    fn fetch_here(&mut self) -> Result<(), Fault>
+    fn fetch_here(&mut self) -> Result<(), Failed>
         requires { self.old.tokens.ended ≡ false }
         ensures does { OnOk result (Does fetch_here self.old self.new) }
-        ensures fails { IfErr result (λ e. Fails fetch_here self.old self.new e) }
+        ensures fails { IfErr result (λ _. Fails fetch_here self.old self.new self.new.fault) }
         ensures done { OnOk result (self.new.tokens.ended ≡ true → self.new.window.done ≡ true) }
         ensures less { OnOk result (work self.new < work self.old) }
         ensures run { Fetches self.old self.new }
@@ -100,49 +100,53 @@ impl<T: Iterator<Item = char>> Fetcher<T> {
         self.fetch_content()
     }
 
-    fn fetch_stream_start(&mut self) -> Result<(), Fault>
+    fn fetch_stream_start(&mut self) -> Result<(), Failed>
         requires { self.old.started ≡ false }
         ensures held { OnOk result (held self.new ≡ begin_stream (held self.old)) }
-        ensures err { IfErr result (λ e. e ≡ Fault.OutOfMemory) }
+        ensures err { IfErr result (λ _. self.new.fault ≡ Fault.OutOfMemory) }
         ensures window { self.new.window ≡ self.old.window }
         ensures less { OnOk result (work self.new < work self.old) }
         ensures run { Fetches self.old self.new }
     {
         let mark = self.window.mark();
-        self.keys.open_level()?;
+        if let Err(_) = self.keys.open_level() {
+            return Err(self.fail(Fault::OutOfMemory));
+        }
         self.key_allowed = true;
         self.push_token(mark, TokenType::StreamStart(TEncoding::Utf8))?;
         self.started = true;
         Ok(())
     }
 
-    fn fetch_stream_end(&mut self) -> Result<(), Fault>
+    fn fetch_stream_end(&mut self) -> Result<(), Failed>
         requires { self.old.tokens.ended ≡ false }
         ensures does { OnOk result (Does fetch_stream_end self.old self.new) }
-        ensures fails { IfErr result (λ e. Fails fetch_stream_end self.old self.new e) }
+        ensures fails { IfErr result (λ _. Fails fetch_stream_end self.old self.new self.new.fault) }
         ensures done { OnOk result (self.new.window.done ≡ self.old.window.done) }
         ensures less { OnOk result (work self.new < work self.old) }
         ensures run { Fetches self.old self.new }
     {
         self.window.end_line();
         if self.keys.has_required() {
-            return Err(Fault::At(Problem::KeyExpected, self.window.mark()));
+            return Err(self.fail_here(Problem::KeyExpected));
         }
         self.keys.clear();
         self.unroll_indent(0)?;
         self.key_allowed = false;
         let mark = self.window.mark();
-        self.tokens.push_end(mark)?;
+        if let Err(_) = self.tokens.push_end(mark) {
+            return Err(self.fail(Fault::OutOfMemory));
+        }
         Ok(())
     }
 
     /// What begins at a line's first column, or else a token of a document.
-    fn fetch_content(&mut self) -> Result<(), Fault>
+    fn fetch_content(&mut self) -> Result<(), Failed>
         requires ahead { 2 ≤ self.old.window.ahead }
         requires marker { self.old.window.col ≡ 0 → 4 ≤ self.old.window.ahead }
         requires has { HasChar self.old.window }
         ensures does { OnOk result (Does fetch_content self.old self.new) }
-        ensures fails { IfErr result (λ e. Fails fetch_content self.old self.new e) }
+        ensures fails { IfErr result (λ _. Fails fetch_content self.old self.new self.new.fault) }
         ensures run { Fetches self.old self.new }
         ensures moves { OnOk result (Moves self.old self.new 7 8) }
     {
@@ -152,11 +156,11 @@ impl<T: Iterator<Item = char>> Fetcher<T> {
         self.fetch_indented()
     }
 
-    fn fetch_first_column(&mut self) -> Result<(), Fault>
+    fn fetch_first_column(&mut self) -> Result<(), Failed>
         requires ahead { 4 ≤ self.old.window.ahead }
         requires has { HasChar self.old.window }
         ensures does { OnOk result (Does fetch_first_column self.old self.new) }
-        ensures fails { IfErr result (λ e. Fails fetch_first_column self.old self.new e) }
+        ensures fails { IfErr result (λ _. Fails fetch_first_column self.old self.new self.new.fault) }
         ensures run { Fetches self.old self.new }
         ensures moves { OnOk result (Moves self.old self.new 7 8) }
     {
@@ -187,26 +191,26 @@ impl<T: Iterator<Item = char>> Fetcher<T> {
 
     /// What does not begin at a line's first column must not stand left of the innermost block
     /// collection.
-    fn fetch_indented(&mut self) -> Result<(), Fault>
+    fn fetch_indented(&mut self) -> Result<(), Failed>
         requires ahead { 2 ≤ self.old.window.ahead }
         requires has { HasChar self.old.window }
         ensures does { OnOk result (Does fetch_indented self.old self.new) }
-        ensures fails { IfErr result (λ e. Fails fetch_indented self.old self.new e) }
+        ensures fails { IfErr result (λ _. Fails fetch_indented self.old self.new self.new.fault) }
         ensures run { Fetches self.old self.new }
         ensures moves { OnOk result (Moves self.old self.new 7 8) }
     {
         let mark = self.window.mark();
         if mark.col() + 1 < self.levels.indent() {
-            return Err(Fault::At(Problem::InvalidIndentation, mark));
+            return Err(self.fail(Fault::At(Problem::InvalidIndentation, mark)));
         }
         self.fetch_token()
     }
 
-    fn fetch_token(&mut self) -> Result<(), Fault>
+    fn fetch_token(&mut self) -> Result<(), Failed>
         requires ahead { 2 ≤ self.old.window.ahead }
         requires has { HasChar self.old.window }
         ensures does { OnOk result (Does fetch_token self.old self.new) }
-        ensures fails { IfErr result (λ e. Fails fetch_token self.old self.new e) }
+        ensures fails { IfErr result (λ _. Fails fetch_token self.old self.new self.new.fault) }
         ensures run { Fetches self.old self.new }
         ensures moves { OnOk result (Moves self.old self.new 7 8) }
     {
@@ -227,11 +231,11 @@ impl<T: Iterator<Item = char>> Fetcher<T> {
     }
 
     /// `-`, or a plain scalar that begins with it.
-    fn fetch_dash(&mut self) -> Result<(), Fault>
+    fn fetch_dash(&mut self) -> Result<(), Failed>
         requires ahead { 2 ≤ self.old.window.ahead }
         requires has { HasChar self.old.window }
         ensures does { OnOk result (Does (token_by Class.Dash) self.old self.new) }
-        ensures fails { IfErr result (λ e. Fails (token_by Class.Dash) self.old self.new e) }
+        ensures fails { IfErr result (λ _. Fails (token_by Class.Dash) self.old self.new self.new.fault) }
         ensures run { Fetches self.old self.new }
         ensures moves { OnOk result (Moves self.old self.new 7 8) }
     {
@@ -242,11 +246,11 @@ impl<T: Iterator<Item = char>> Fetcher<T> {
     }
 
     /// `?`, or a plain scalar that begins with it.
-    fn fetch_question(&mut self) -> Result<(), Fault>
+    fn fetch_question(&mut self) -> Result<(), Failed>
         requires ahead { 2 ≤ self.old.window.ahead }
         requires has { HasChar self.old.window }
         ensures does { OnOk result (Does (token_by Class.Question) self.old self.new) }
-        ensures fails { IfErr result (λ e. Fails (token_by Class.Question) self.old self.new e) }
+        ensures fails { IfErr result (λ _. Fails (token_by Class.Question) self.old self.new self.new.fault) }
         ensures run { Fetches self.old self.new }
         ensures moves { OnOk result (Moves self.old self.new 7 8) }
     {
@@ -257,11 +261,11 @@ impl<T: Iterator<Item = char>> Fetcher<T> {
     }
 
     /// `:`, or a plain scalar that begins with it.
-    fn fetch_colon(&mut self) -> Result<(), Fault>
+    fn fetch_colon(&mut self) -> Result<(), Failed>
         requires ahead { 2 ≤ self.old.window.ahead }
         requires has { HasChar self.old.window }
         ensures does { OnOk result (Does (token_by Class.Colon) self.old self.new) }
-        ensures fails { IfErr result (λ e. Fails (token_by Class.Colon) self.old self.new e) }
+        ensures fails { IfErr result (λ _. Fails (token_by Class.Colon) self.old self.new self.new.fault) }
         ensures run { Fetches self.old self.new }
         ensures moves { OnOk result (Moves self.old self.new 7 8) }
     {
@@ -282,11 +286,11 @@ impl<T: Iterator<Item = char>> Fetcher<T> {
     }
 
     /// A scalar, by the class of its first character, or one that begins no token.
-    fn fetch_scalar(&mut self, class: Class) -> Result<(), Fault>
+    fn fetch_scalar(&mut self, class: Class) -> Result<(), Failed>
         requires ahead { 2 ≤ self.old.window.ahead }
         requires has { HasChar self.old.window }
         ensures does { OnOk result (Does (scalar_by class) self.old self.new) }
-        ensures fails { IfErr result (λ e. Fails (scalar_by class) self.old self.new e) }
+        ensures fails { IfErr result (λ _. Fails (scalar_by class) self.old self.new self.new.fault) }
         ensures run { Fetches self.old self.new }
         ensures moves { OnOk result (Moves self.old self.new 7 8) }
     {
@@ -295,19 +299,19 @@ impl<T: Iterator<Item = char>> Fetcher<T> {
             Class::Greater => self.fetch_bar(BlockStyle::Folded),
             Class::SingleQuote => self.fetch_flow_scalar(Quotes::Single),
             Class::DoubleQuote => self.fetch_flow_scalar(Quotes::Double),
-            Class::Percent => Err(Fault::At(Problem::UnexpectedPercent, self.window.mark())),
-            Class::AtSign => Err(Fault::At(Problem::UnexpectedAt, self.window.mark())),
-            Class::Backtick => Err(Fault::At(Problem::UnexpectedBacktick, self.window.mark())),
+            Class::Percent => Err(self.fail_here(Problem::UnexpectedPercent)),
+            Class::AtSign => Err(self.fail_here(Problem::UnexpectedAt)),
+            Class::Backtick => Err(self.fail_here(Problem::UnexpectedBacktick)),
             _ => self.fetch_plain_scalar(),
         }
     }
 
     /// `|` or `>`, which in flow begins a plain scalar.
-    fn fetch_bar(&mut self, style: BlockStyle) -> Result<(), Fault>
+    fn fetch_bar(&mut self, style: BlockStyle) -> Result<(), Failed>
         requires ahead { 2 ≤ self.old.window.ahead }
         requires has { HasChar self.old.window }
         ensures does { OnOk result (Does (fetch_bar (is_literal_style style)) self.old self.new) }
-        ensures fails { IfErr result (λ e. Fails (fetch_bar (is_literal_style style)) self.old self.new e) }
+        ensures fails { IfErr result (λ _. Fails (fetch_bar (is_literal_style style)) self.old self.new self.new.fault) }
         ensures run { Fetches self.old self.new }
         ensures moves { OnOk result (Moves self.old self.new 7 8) }
     {
@@ -318,9 +322,9 @@ impl<T: Iterator<Item = char>> Fetcher<T> {
     }
 
     /// Ends all collections, at a directive or a document marker.
-    fn begin_line(&mut self) -> Result<(), Fault>
+    fn begin_line(&mut self) -> Result<(), Failed>
         ensures held { OnOk result (begin_line (held self.old) ≡ Ok (held self.new)) }
-        ensures fault { IfErr result (λ e. e ≢ Fault.OutOfMemory → begin_line (held self.old) ≡ Err e) }
+        ensures fault { IfErr result (λ _. self.new.fault ≢ Fault.OutOfMemory → begin_line (held self.old) ≡ Err self.new.fault) }
         ensures moves { Moves self.old self.new 0 0 }
         ensures window { self.new.window ≡ self.old.window }
     {
@@ -330,17 +334,20 @@ impl<T: Iterator<Item = char>> Fetcher<T> {
         Ok(())
     }
 
-    fn fetch_directive(&mut self) -> Result<(), Fault>
+    fn fetch_directive(&mut self) -> Result<(), Failed>
         requires ahead { 0 < self.old.window.ahead }
         requires has { HasChar self.old.window }
         ensures does { OnOk result (Does fetch_directive self.old self.new) }
-        ensures fails { IfErr result (λ e. Fails fetch_directive self.old self.new e) }
+        ensures fails { IfErr result (λ _. Fails fetch_directive self.old self.new self.new.fault) }
         ensures run { Fetches self.old self.new }
         ensures moves { OnOk result (Moves self.old self.new 1 8) }
     {
         let mark = self.window.mark();
         self.begin_line()?;
-        let directive = read_directive(self.alloc, &mut self.window)?;
+        let directive = match read_directive(self.alloc, &mut self.window) {
+            Ok(directive) => directive,
+            Err(fault) => return Err(self.fail(fault)),
+        };
         self.leading = true;
         self.push_token(mark, directive)?;
         Ok(())
@@ -361,11 +368,11 @@ impl<T: Iterator<Item = char>> Fetcher<T> {
     }
 
     /// `---` or `...`
-    fn fetch_document_marker(&mut self, marker: TokenType) -> Result<(), Fault>
+    fn fetch_document_marker(&mut self, marker: TokenType) -> Result<(), Failed>
         requires ahead { 3 ≤ self.old.window.ahead }
         requires has { HasChars 3 self.old.window }
         ensures does { OnOk result (Does (fetch_document_marker (tok_of marker)) self.old self.new) }
-        ensures fails { IfErr result (λ e. Fails (fetch_document_marker (tok_of marker)) self.old self.new e) }
+        ensures fails { IfErr result (λ _. Fails (fetch_document_marker (tok_of marker)) self.old self.new self.new.fault) }
         ensures run { Fetches self.old self.new }
         ensures moves { OnOk result (Moves self.old self.new 1 8) }
     {
@@ -377,45 +384,48 @@ impl<T: Iterator<Item = char>> Fetcher<T> {
     }
 
     /// `...`, after which the line has no content.
-    fn fetch_document_end(&mut self) -> Result<(), Fault>
+    fn fetch_document_end(&mut self) -> Result<(), Failed>
         requires ahead { 3 ≤ self.old.window.ahead }
         requires has { HasChars 3 self.old.window }
         ensures does { OnOk result (Does fetch_document_end self.old self.new) }
-        ensures fails { IfErr result (λ e. Fails fetch_document_end self.old self.new e) }
+        ensures fails { IfErr result (λ _. Fails fetch_document_end self.old self.new self.new.fault) }
         ensures run { Fetches self.old self.new }
         ensures moves { OnOk result (Moves self.old self.new 1 8) }
     {
         self.fetch_document_marker(TokenType::DocumentEnd)?;
         self.pass_spaces(SkipTabs::Yes)?;
         if !is_breakz(self.window.ch()) {
-            return Err(Fault::At(Problem::ContentAfterDocumentEnd, self.window.mark()));
+            return Err(self.fail_here(Problem::ContentAfterDocumentEnd));
         }
         Ok(())
     }
 
     /// `*name` or `&name`
-    fn fetch_anchor(&mut self, kind: NameKind) -> Result<(), Fault>
+    fn fetch_anchor(&mut self, kind: NameKind) -> Result<(), Failed>
         requires ahead { 0 < self.old.window.ahead }
         requires has { HasChar self.old.window }
         ensures does { OnOk result (Does (fetch_anchor (is_alias kind)) self.old self.new) }
-        ensures fails { IfErr result (λ e. Fails (fetch_anchor (is_alias kind)) self.old self.new e) }
+        ensures fails { IfErr result (λ _. Fails (fetch_anchor (is_alias kind)) self.old self.new self.new.fault) }
         ensures run { Fetches self.old self.new }
         ensures moves { OnOk result (Moves self.old self.new 1 8) }
     {
         let mark = self.window.mark();
         self.save_implicit_key();
         self.key_allowed = false;
-        let name = read_anchor_name(self.alloc, &mut self.window)?;
+        let name = match read_anchor_name(self.alloc, &mut self.window) {
+            Ok(name) => name,
+            Err(fault) => return Err(self.fail(fault)),
+        };
         self.leading = false;
         self.push_token(mark, kind.token(name))?;
         Ok(())
     }
 
-    fn fetch_tag(&mut self) -> Result<(), Fault>
+    fn fetch_tag(&mut self) -> Result<(), Failed>
         requires ahead { 0 < self.old.window.ahead }
         requires has { HasChar self.old.window }
         ensures does { OnOk result (Does fetch_tag self.old self.new) }
-        ensures fails { IfErr result (λ e. Fails fetch_tag self.old self.new e) }
+        ensures fails { IfErr result (λ _. Fails fetch_tag self.old self.new self.new.fault) }
         ensures run { Fetches self.old self.new }
         ensures moves { OnOk result (Moves self.old self.new 1 8) }
     {
@@ -423,7 +433,10 @@ impl<T: Iterator<Item = char>> Fetcher<T> {
         let in_flow = self.in_flow();
         self.save_implicit_key();
         self.key_allowed = false;
-        let (handle, suffix) = read_tag(self.alloc, &mut self.window, in_flow)?;
+        let (handle, suffix) = match read_tag(self.alloc, &mut self.window, in_flow) {
+            Ok(tag) => tag,
+            Err(fault) => return Err(self.fail(fault)),
+        };
         self.leading = false;
         self.push_token(mark, TokenType::Tag(handle, suffix))?;
         Ok(())
@@ -438,11 +451,11 @@ impl<T: Iterator<Item = char>> Fetcher<T> {
         }
     }
 
-    fn fetch_block_scalar(&mut self, style: BlockStyle) -> Result<(), Fault>
+    fn fetch_block_scalar(&mut self, style: BlockStyle) -> Result<(), Failed>
         requires ahead { 0 < self.old.window.ahead }
         requires has { HasChar self.old.window }
         ensures does { OnOk result (Does (fetch_block_scalar (is_literal_style style)) self.old self.new) }
-        ensures fails { IfErr result (λ e. Fails (fetch_block_scalar (is_literal_style style)) self.old self.new e) }
+        ensures fails { IfErr result (λ _. Fails (fetch_block_scalar (is_literal_style style)) self.old self.new self.new.fault) }
         ensures run { Fetches self.old self.new }
         ensures moves { OnOk result (Moves self.old self.new 1 8) }
     {
@@ -451,18 +464,21 @@ impl<T: Iterator<Item = char>> Fetcher<T> {
         self.unroll_non_block_indents();
         let indent = self.levels.indent();
         let literal = style.is_literal();
-        let (mark, text) = read_block_scalar(self.alloc, &mut self.window, literal, indent)?;
+        let (mark, text) = match read_block_scalar(self.alloc, &mut self.window, literal, indent) {
+            Ok(scalar) => scalar,
+            Err(fault) => return Err(self.fail(fault)),
+        };
         self.leading = true;
         self.push_token(mark, TokenType::Scalar(style.style(), text))?;
         Ok(())
     }
 
     /// `'` or `"`
-    fn fetch_flow_scalar(&mut self, quotes: Quotes) -> Result<(), Fault>
+    fn fetch_flow_scalar(&mut self, quotes: Quotes) -> Result<(), Failed>
         requires ahead { 0 < self.old.window.ahead }
         requires has { HasChar self.old.window }
         ensures does { OnOk result (Does (fetch_flow_scalar (are_single quotes)) self.old self.new) }
-        ensures fails { IfErr result (λ e. Fails (fetch_flow_scalar (are_single quotes)) self.old self.new e) }
+        ensures fails { IfErr result (λ _. Fails (fetch_flow_scalar (are_single quotes)) self.old self.new self.new.fault) }
         ensures run { Fetches self.old self.new }
         ensures moves { OnOk result (Moves self.old self.new 1 8) }
     {
@@ -471,7 +487,10 @@ impl<T: Iterator<Item = char>> Fetcher<T> {
         self.key_allowed = false;
         let context = self.context();
         let single = quotes.are_single();
-        let text = read_quoted(self.alloc, &mut self.window, single, context)?;
+        let text = match read_quoted(self.alloc, &mut self.window, single, context) {
+            Ok(text) => text,
+            Err(fault) => return Err(self.fail(fault)),
+        };
         self.leading = false;
         self.end_quoted(mark.line())?;
         self.push_token(mark, TokenType::Scalar(quotes.style(), text))?;
@@ -480,9 +499,9 @@ impl<T: Iterator<Item = char>> Fetcher<T> {
 
     /// After a quoted scalar that began on a line. To be as JSON is, a key's `:` may stand right
     /// after it, also on a later line.
-    fn end_quoted(&mut self, line: usize) -> Result<(), Fault>
+    fn end_quoted(&mut self, line: usize) -> Result<(), Failed>
         ensures does { OnOk result (Does (end_quoted line) self.old self.new) }
-        ensures fails { IfErr result (λ e. Fails (end_quoted line) self.old self.new e) }
+        ensures fails { IfErr result (λ _. Fails (end_quoted line) self.old self.new self.new.fault) }
         ensures moves { Moves self.old self.new 0 0 }
     {
         self.check_after_quoted(line)?;
@@ -493,25 +512,25 @@ impl<T: Iterator<Item = char>> Fetcher<T> {
     }
 
     /// What may stand after a quoted scalar that began on a line.
-    fn check_after_quoted(&mut self, line: usize) -> Result<(), Fault>
+    fn check_after_quoted(&mut self, line: usize) -> Result<(), Failed>
         ensures does { OnOk result (Does (check_after_quoted line) self.old self.new) }
-        ensures fails { IfErr result (λ e. Fails (check_after_quoted line) self.old self.new e) }
+        ensures fails { IfErr result (λ _. Fails (check_after_quoted line) self.old self.new self.new.fault) }
         ensures moves { Moves self.old self.new 0 0 }
     {
         self.pass_spaces(SkipTabs::Yes)?;
         let mark = self.window.mark();
         let same_line = line == mark.line();
         if !may_follow_quoted(self.in_flow(), same_line, self.window.ch()) {
-            return Err(Fault::At(Problem::ContentAfterQuoted, mark));
+            return Err(self.fail(Fault::At(Problem::ContentAfterQuoted, mark)));
         }
         Ok(())
     }
 
-    fn fetch_plain_scalar(&mut self) -> Result<(), Fault>
+    fn fetch_plain_scalar(&mut self) -> Result<(), Failed>
         requires ahead { 0 < self.old.window.ahead }
         requires has { HasChar self.old.window }
         ensures does { OnOk result (Does fetch_plain_scalar self.old self.new) }
-        ensures fails { IfErr result (λ e. Fails fetch_plain_scalar self.old self.new e) }
+        ensures fails { IfErr result (λ _. Fails fetch_plain_scalar self.old self.new self.new.fault) }
         ensures run { Fetches self.old self.new }
         ensures moves { OnOk result (Moves self.old self.new 1 8) }
     {
@@ -520,7 +539,10 @@ impl<T: Iterator<Item = char>> Fetcher<T> {
         self.key_allowed = false;
         self.unroll_non_block_indents();
         let context = self.context();
-        let plain = read_plain(self.alloc, &mut self.window, context)?;
+        let plain = match read_plain(self.alloc, &mut self.window, context) {
+            Ok(plain) => plain,
+            Err(fault) => return Err(self.fail(fault)),
+        };
         self.leading = plain.leading;
         self.key_allowed = plain.leading;
         self.push_token(mark, TokenType::Scalar(TScalarStyle::Plain, plain.text))?;

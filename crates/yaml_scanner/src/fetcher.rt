@@ -5,7 +5,7 @@ use model_scanner::FlowLevel;
 use std::alloc::Global;
 use yaml_chars::{Marker, Window};
 use yaml_scanner_state::{ImplicitKeys, Levels, Queue, Stack};
-use yaml_tokens::Fault;
+use yaml_tokens::{Fault, Problem};
 
 /// A fault that is kept, and the position where the scanner stood.
 #[derive(Clone, Copy)]
@@ -33,13 +33,22 @@ pub struct Fetcher<T: Iterator<Item = char>> {
     pub(crate) adjacent_value_at: usize,
     pub(crate) started: bool,
     pub(crate) kept: Option<KeptFault>,
+    // The fault that was met last, where a function gave `Failed`.
+    pub(crate) fault: Fault,
 }
+
+/// What a function gives in place of a fault, which the fetcher holds in a field: so it takes one byte where a fault takes 32.
+#[derive(Clone, Copy)]
+pub struct Failed;
 
 impl<T: Iterator<Item = char>> Fetcher<T> {
     ghost use Rattle.model_scanner.specs.Run.{nothing_held};
     ghost use Rattle.yaml_scanner.specs.Shape.{held};
     ghost use Rattle.yaml_scanner_state.specs.Tokens.{handed};
     ghost use Rattle.yaml_scanner.specs.Follows.{Follows};
+    ghost use Rattle.yaml_scanner.specs.Work.{Moves};
+    ghost use Rattle.yaml_chars.specs.Reading.{position_of};
+    ghost use Rattle.yaml_tokens.specs.declared.problem.Fault.TheVariants.{At};
 
     /// A fetcher of the characters of an iterator, up to its end or to a NUL.
     pub fn new(alloc: Global, iter: T) -> Fetcher<T>
@@ -65,6 +74,33 @@ impl<T: Iterator<Item = char>> Fetcher<T> {
             adjacent_value_at: 0,
             started: false,
             kept: None,
+            fault: Fault::OutOfMemory,
         }
+    }
+
+    /// Holds a fault that was met.
+    #[inline(never)]
+    pub(crate) fn fail(&mut self, fault: Fault) -> Failed
+        ensures fault { self.new.fault ≡ fault }
+        ensures held { held self.new ≡ held self.old }
+        ensures tokens { self.new.tokens ≡ self.old.tokens }
+        ensures moves { Moves self.old self.new 0 0 }
+        ensures window { self.new.window ≡ self.old.window }
+    {
+        self.fault = fault;
+        Failed
+    }
+
+    /// Holds the fault that a problem here is.
+    #[inline(never)]
+    pub(crate) fn fail_here(&mut self, problem: Problem) -> Failed
+        ensures fault { self.new.fault ≡ At problem (position_of self.old.window) }
+        ensures held { held self.new ≡ held self.old }
+        ensures tokens { self.new.tokens ≡ self.old.tokens }
+        ensures moves { Moves self.old self.new 0 0 }
+        ensures window { self.new.window ≡ self.old.window }
+    {
+        let mark = self.window.mark();
+        self.fail(Fault::At(problem, mark))
     }
 }

@@ -9,7 +9,7 @@ ghost use Rattle.yaml_scanner_state.specs.Collections.{level_of, flow_start, flo
 ghost use Rattle.yaml_scanner.specs.Shape.{held, Does, Fails};
 ghost use Rattle.yaml_scanner.specs.Work.{Moves, Fetches};
 
-use crate::fetcher::Fetcher;
+use crate::fetcher::{Failed, Fetcher};
 use model_scanner::FlowLevel;
 use yaml_chars::Marker;
 use yaml_lexers::SkipTabs;
@@ -35,11 +35,11 @@ impl<T: Iterator<Item = char>> Fetcher<T> {
 
     /// Steps over an indicator, spaces and a comment.
     #[inline(always)]
-    pub(crate) fn pass_indicator(&mut self) -> Result<(), Fault>
+    pub(crate) fn pass_indicator(&mut self) -> Result<(), Failed>
         requires ahead { 0 < self.old.window.ahead }
         requires has { HasChar self.old.window }
         ensures does { OnOk result (Does pass_indicator self.old self.new) }
-        ensures fails { IfErr result (λ e. Fails pass_indicator self.old self.new e) }
+        ensures fails { IfErr result (λ _. Fails pass_indicator self.old self.new self.new.fault) }
         ensures run { Fetches self.old self.new }
         ensures moves { OnOk result (Moves self.old self.new 0 8) }
     {
@@ -50,22 +50,24 @@ impl<T: Iterator<Item = char>> Fetcher<T> {
 
     /// Adds a token.
     #[inline(always)]
-    pub(crate) fn push_token(&mut self, mark: Marker, kind: TokenType) -> Result<(), Fault>
+    pub(crate) fn push_token(&mut self, mark: Marker, kind: TokenType) -> Result<(), Failed>
         ensures held { OnOk result (held self.new ≡ push mark (tok_of kind) (held self.old)) }
-        ensures err { IfErr result (λ e. e ≡ Fault.OutOfMemory) }
+        ensures err { IfErr result (λ _. self.new.fault ≡ Fault.OutOfMemory) }
         ensures moves { Moves self.old self.new 1 0 }
         ensures window { self.new.window ≡ self.old.window }
     {
-        self.tokens.push(Token(mark, kind))?;
+        if let Err(_) = self.tokens.push(Token(mark, kind)) {
+            return Err(self.fail(Fault::OutOfMemory));
+        }
         Ok(())
     }
 
     /// `[` or `{`
-    pub(crate) fn fetch_flow_collection_start(&mut self, kind: Collection) -> Result<(), Fault>
+    pub(crate) fn fetch_flow_collection_start(&mut self, kind: Collection) -> Result<(), Failed>
         requires ahead { 0 < self.old.window.ahead }
         requires has { HasChar self.old.window }
         ensures does { OnOk result (Does (fetch_flow_collection_start (level_of kind) (flow_start kind)) self.old self.new) }
-        ensures fails { IfErr result (λ e. Fails (fetch_flow_collection_start (level_of kind) (flow_start kind)) self.old self.new e) }
+        ensures fails { IfErr result (λ _. Fails (fetch_flow_collection_start (level_of kind) (flow_start kind)) self.old self.new self.new.fault) }
         ensures run { Fetches self.old self.new }
         ensures moves { OnOk result (Moves self.old self.new 2 8) }
     {
@@ -77,9 +79,9 @@ impl<T: Iterator<Item = char>> Fetcher<T> {
     }
 
     /// Notes the start of a flow collection, which may be a key.
-    fn begin_flow(&mut self, kind: Collection) -> Result<(), Fault>
+    fn begin_flow(&mut self, kind: Collection) -> Result<(), Failed>
         ensures held { OnOk result (begin_flow (level_of kind) (held self.old) ≡ Ok (held self.new)) }
-        ensures fault { IfErr result (λ e. e ≢ Fault.OutOfMemory → begin_flow (level_of kind) (held self.old) ≡ Err e) }
+        ensures fault { IfErr result (λ _. self.new.fault ≢ Fault.OutOfMemory → begin_flow (level_of kind) (held self.old) ≡ Err self.new.fault) }
         ensures moves { Moves self.old self.new 1 0 }
         ensures window { self.new.window ≡ self.old.window }
     {
@@ -90,26 +92,30 @@ impl<T: Iterator<Item = char>> Fetcher<T> {
         Ok(())
     }
 
-    fn increase_flow_level(&mut self, kind: Collection) -> Result<(), Fault>
+    fn increase_flow_level(&mut self, kind: Collection) -> Result<(), Failed>
         ensures held { OnOk result (increase_flow_level (level_of kind) (held self.old) ≡ Ok (held self.new)) }
-        ensures fault { IfErr result (λ e. e ≢ Fault.OutOfMemory → increase_flow_level (level_of kind) (held self.old) ≡ Err e) }
+        ensures fault { IfErr result (λ _. self.new.fault ≢ Fault.OutOfMemory → increase_flow_level (level_of kind) (held self.old) ≡ Err self.new.fault) }
         ensures moves { Moves self.old self.new 0 0 }
         ensures window { self.new.window ≡ self.old.window }
     {
         if self.flow.len() >= DEEPEST_FLOW {
-            return Err(Fault::At(Problem::FlowTooDeep, self.window.mark()));
+            return Err(self.fail_here(Problem::FlowTooDeep));
         }
-        self.keys.open_level()?;
-        self.flow.push(kind.flow_level())?;
+        if let Err(_) = self.keys.open_level() {
+            return Err(self.fail(Fault::OutOfMemory));
+        }
+        if let Err(_) = self.flow.push(kind.flow_level()) {
+            return Err(self.fail(Fault::OutOfMemory));
+        }
         Ok(())
     }
 
     /// `]` or `}`
-    pub(crate) fn fetch_flow_collection_end(&mut self, kind: Collection) -> Result<(), Fault>
+    pub(crate) fn fetch_flow_collection_end(&mut self, kind: Collection) -> Result<(), Failed>
         requires ahead { 0 < self.old.window.ahead }
         requires has { HasChar self.old.window }
         ensures does { OnOk result (Does (fetch_flow_collection_end (flow_end kind)) self.old self.new) }
-        ensures fails { IfErr result (λ e. Fails (fetch_flow_collection_end (flow_end kind)) self.old self.new e) }
+        ensures fails { IfErr result (λ _. Fails (fetch_flow_collection_end (flow_end kind)) self.old self.new self.new.fault) }
         ensures run { Fetches self.old self.new }
         ensures moves { OnOk result (Moves self.old self.new 2 8) }
     {
@@ -122,9 +128,9 @@ impl<T: Iterator<Item = char>> Fetcher<T> {
     }
 
     /// Ends the innermost flow collection.
-    fn end_flow(&mut self) -> Result<(), Fault>
+    fn end_flow(&mut self) -> Result<(), Failed>
         ensures held { OnOk result (end_flow (held self.old) ≡ Ok (held self.new)) }
-        ensures fault { IfErr result (λ e. e ≢ Fault.OutOfMemory → end_flow (held self.old) ≡ Err e) }
+        ensures fault { IfErr result (λ _. self.new.fault ≢ Fault.OutOfMemory → end_flow (held self.old) ≡ Err self.new.fault) }
         ensures moves { Moves self.old self.new 1 0 }
         ensures window { self.new.window ≡ self.old.window }
     {
@@ -158,11 +164,11 @@ impl<T: Iterator<Item = char>> Fetcher<T> {
     }
 
     /// `,`
-    pub(crate) fn fetch_flow_entry(&mut self) -> Result<(), Fault>
+    pub(crate) fn fetch_flow_entry(&mut self) -> Result<(), Failed>
         requires ahead { 0 < self.old.window.ahead }
         requires has { HasChar self.old.window }
         ensures does { OnOk result (Does fetch_flow_entry self.old self.new) }
-        ensures fails { IfErr result (λ e. Fails fetch_flow_entry self.old self.new e) }
+        ensures fails { IfErr result (λ _. Fails fetch_flow_entry self.old self.new self.new.fault) }
         ensures run { Fetches self.old self.new }
         ensures moves { OnOk result (Moves self.old self.new 2 8) }
     {
@@ -174,9 +180,9 @@ impl<T: Iterator<Item = char>> Fetcher<T> {
     }
 
     /// Ends an entry of the innermost flow collection; another may come.
-    fn end_entry(&mut self) -> Result<(), Fault>
+    fn end_entry(&mut self) -> Result<(), Failed>
         ensures held { OnOk result (end_entry (held self.old) ≡ Ok (held self.new)) }
-        ensures fault { IfErr result (λ e. e ≢ Fault.OutOfMemory → end_entry (held self.old) ≡ Err e) }
+        ensures fault { IfErr result (λ _. self.new.fault ≢ Fault.OutOfMemory → end_entry (held self.old) ≡ Err self.new.fault) }
         ensures moves { Moves self.old self.new 1 0 }
         ensures window { self.new.window ≡ self.old.window }
     {
@@ -188,9 +194,9 @@ impl<T: Iterator<Item = char>> Fetcher<T> {
 
     /// Ends an entry of the innermost flow collection, and with it a single-pair mapping.
     #[inline(always)]
-    fn end_flow_pair(&mut self) -> Result<(), Fault>
+    fn end_flow_pair(&mut self) -> Result<(), Failed>
         ensures held { OnOk result (held self.new ≡ end_flow_pair (held self.old)) }
-        ensures err { IfErr result (λ e. e ≡ Fault.OutOfMemory) }
+        ensures err { IfErr result (λ _. self.new.fault ≡ Fault.OutOfMemory) }
         ensures moves { Moves self.old self.new 1 0 }
         ensures window { self.new.window ≡ self.old.window }
     {

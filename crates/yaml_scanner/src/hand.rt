@@ -9,8 +9,8 @@ ghost use Rattle.yaml_scanner.specs.Scanned.{inside, kept_fault, HandsOut};
 ghost use Rattle.yaml_scanner_state.specs.Tokens.{waiting, handed, is_end};
 ghost use Rattle.yaml_scanner.specs.Work.{Fetches, work};
 
-use crate::fetcher::{Fetcher, KeptFault};
-use yaml_tokens::{Fault, ScanError, Token};
+use crate::fetcher::{Failed, Fetcher, KeptFault};
+use yaml_tokens::{ScanError, Token};
 
 impl KeptFault {
     /// The fault as callers see it.
@@ -22,23 +22,26 @@ impl KeptFault {
 }
 
 impl<T: Iterator<Item = char>> Fetcher<T> {
-    /// Keeps a fault.
-    pub(crate) fn keep(&mut self, fault: Fault) -> ScanError
-        requires follows { (mark : Position) → Follows (record self.old { kept = Some (record { fault = fault; mark = mark }) }) }
+    /// Keeps the fault that was met.
+    pub(crate) fn keep(&mut self) -> ScanError
+        requires follows { (mark : Position) → Follows (record self.old { kept = Some (record { fault = self.old.fault; mark = mark }) }) }
         ensures kept { (inside self.new).fault ≡ Some result }
         ensures same { inside self.new ≡ record (inside self.old) { fault = Some result } }
         ensures follows { Follows self.new }
         ensures window { self.new.window ≡ self.old.window }
     {
         let mark = self.window.mark();
-        let kept = KeptFault { fault, mark };
+        let kept = KeptFault {
+            fault: self.fault,
+            mark,
+        };
         let error = kept.error();
         self.kept = Some(kept);
         error
     }
 
     /// Fetches the next token, or several.
-    pub(crate) fn fetch_one(&mut self) -> Result<(), Fault>
+    pub(crate) fn fetch_one(&mut self) -> Result<(), Failed>
         requires kept { self.old.kept ≡ None }
         requires going { self.old.tokens.ended ≡ false }
         requires follows { Follows self.old }
@@ -46,7 +49,7 @@ impl<T: Iterator<Item = char>> Fetcher<T> {
         ensures start { self.new.window.start ≡ self.old.window.start }
         ensures less { OnOk result (work self.new < work self.old) }
         ensures ok { OnOk result (Follows self.new) }
-        ensures err { IfErr result (λ e. (mark : Position) → Follows (record self.new { kept = Some (record { fault = e; mark = mark }) })) }
+        ensures err { IfErr result (λ _. (mark : Position) → Follows (record self.new { kept = Some (record { fault = self.new.fault; mark = mark }) })) }
     {
         self.fetch()?;
         Ok(())
@@ -54,7 +57,7 @@ impl<T: Iterator<Item = char>> Fetcher<T> {
 
     /// Fetches tokens until the next one can be handed out: until no key may come before it.
     #[inline(always)]
-    pub(crate) fn fill(&mut self) -> Result<(), Fault>
+    pub(crate) fn fill(&mut self) -> Result<(), Failed>
         requires kept { self.old.kept ≡ None }
         requires follows { Follows self.old }
         ensures run { Fetches self.old self.new }
@@ -64,7 +67,7 @@ impl<T: Iterator<Item = char>> Fetcher<T> {
         ensures front { OnOk result (self.new.tokens.ended ≡ false → list_any is_front self.new.keys ≡ false) }
         ensures after { self.old.tokens.ended ≡ true → (result ≡ Ok tt) × (self.new ≡ self.old) }
         ensures ok { OnOk result (Follows self.new) }
-        ensures err { IfErr result (λ e. (mark : Position) → Follows (record self.new { kept = Some (record { fault = e; mark = mark }) })) }
+        ensures err { IfErr result (λ _. (mark : Position) → Follows (record self.new { kept = Some (record { fault = self.new.fault; mark = mark }) })) }
     {
         if self.is_ready() {
             return Ok(());
@@ -74,7 +77,7 @@ impl<T: Iterator<Item = char>> Fetcher<T> {
 
     // The same, where no token is ready.
     #[inline(never)]
-    fn fill_more(&mut self) -> Result<(), Fault>
+    fn fill_more(&mut self) -> Result<(), Failed>
         requires kept { self.old.kept ≡ None }
         requires follows { Follows self.old }
         ensures run { Fetches self.old self.new }
@@ -84,11 +87,11 @@ impl<T: Iterator<Item = char>> Fetcher<T> {
         ensures front { OnOk result (self.new.tokens.ended ≡ false → list_any is_front self.new.keys ≡ false) }
         ensures after { self.old.tokens.ended ≡ true → (result ≡ Ok tt) × (self.new ≡ self.old) }
         ensures ok { OnOk result (Follows self.new) }
-        ensures err { IfErr result (λ e. (mark : Position) → Follows (record self.new { kept = Some (record { fault = e; mark = mark }) })) }
+        ensures err { IfErr result (λ _. (mark : Position) → Follows (record self.new { kept = Some (record { fault = self.new.fault; mark = mark }) })) }
     {
         'tokens: while !self.is_ready() {
-            if let Err(fault) = self.fetch_one() {
-                return Err(fault);
+            if let Err(failed) = self.fetch_one() {
+                return Err(failed);
             }
         }
         Ok(())

@@ -9,7 +9,7 @@ ghost use Rattle.yaml_scanner.specs.Shape.{held};
 ghost use Rattle.yaml_scanner_state.specs.ImplicitKeys.{number_of};
 ghost use Rattle.yaml_scanner.specs.Work.{Moves};
 
-use crate::fetcher::Fetcher;
+use crate::fetcher::{Failed, Fetcher};
 use yaml_chars::Marker;
 use yaml_scanner_state::{Collection, ImplicitKey};
 use yaml_tokens::{Fault, Problem, Token, TokenType};
@@ -50,14 +50,14 @@ impl<T: Iterator<Item = char>> Fetcher<T> {
 
     /// Gives up the possible key of the innermost level.
     #[inline(always)]
-    pub(crate) fn remove_implicit_key(&mut self) -> Result<(), Fault>
+    pub(crate) fn remove_implicit_key(&mut self) -> Result<(), Failed>
         ensures held { OnOk result (remove_implicit_key (held self.old) ≡ Ok (held self.new)) }
-        ensures fault { IfErr result (λ e. remove_implicit_key (held self.old) ≡ Err e) }
+        ensures fault { IfErr result (λ _. remove_implicit_key (held self.old) ≡ Err self.new.fault) }
         ensures moves { Moves self.old self.new 0 0 }
         ensures window { self.new.window ≡ self.old.window }
     {
         if self.keys.top_is_required() {
-            return Err(Fault::At(Problem::KeyExpected, self.window.mark()));
+            return Err(self.fail_here(Problem::KeyExpected));
         }
         self.keys.set_top(None);
         Ok(())
@@ -65,9 +65,10 @@ impl<T: Iterator<Item = char>> Fetcher<T> {
 
     /// Outside flow, gives up a possible implicit key that began on an earlier line or more than 1024 characters before
     /// (YAML 1.2, section 8.2.2). One that must be a key is a fault then.
-    pub(crate) fn drop_stale(&mut self) -> Result<(), Fault>
+    #[inline(always)]
+    pub(crate) fn drop_stale(&mut self) -> Result<(), Failed>
         ensures held { OnOk result (stale (held self.old) ≡ Ok (held self.new)) }
-        ensures fault { IfErr result (λ e. stale (held self.old) ≡ Err e) }
+        ensures fault { IfErr result (λ _. stale (held self.old) ≡ Err self.new.fault) }
         ensures tokens { self.new.tokens ≡ self.old.tokens }
         ensures moves { Moves self.old self.new 0 0 }
         ensures window { self.new.window ≡ self.old.window }
@@ -76,7 +77,10 @@ impl<T: Iterator<Item = char>> Fetcher<T> {
             return Ok(());
         }
         let mark = self.window.mark();
-        self.keys.drop_stale(mark)
+        if let Err(fault) = self.keys.drop_stale(mark) {
+            return Err(self.fail(fault));
+        }
+        Ok(())
     }
 
     /// Begins a collection at a column, unless one is open there or the position is inside flow. Its start goes in
@@ -88,10 +92,10 @@ impl<T: Iterator<Item = char>> Fetcher<T> {
         position: Option<usize>,
         kind: Collection,
         mark: Marker,
-    ) -> Result<(), Fault>
+    ) -> Result<(), Failed>
         requires { col < 2 ^ 63 }
         ensures held { OnOk result (held self.new ≡ roll_indent col (number_of self.old.tokens.given position) (block_start kind) mark (held self.old)) }
-        ensures err { IfErr result (λ e. e ≡ Fault.OutOfMemory) }
+        ensures err { IfErr result (λ _. self.new.fault ≡ Fault.OutOfMemory) }
         ensures moves { Moves self.old self.new 2 0 }
         ensures window { self.new.window ≡ self.old.window }
     {
@@ -111,17 +115,19 @@ impl<T: Iterator<Item = char>> Fetcher<T> {
         position: Option<usize>,
         kind: Collection,
         mark: Marker,
-    ) -> Result<(), Fault>
+    ) -> Result<(), Failed>
         requires { col < 2 ^ 63 }
         ensures held { OnOk result (held self.new ≡ deepen col (number_of self.old.tokens.given position) (token mark (block_start kind)) (held self.old)) }
-        ensures err { IfErr result (λ e. e ≡ Fault.OutOfMemory) }
+        ensures err { IfErr result (λ _. self.new.fault ≡ Fault.OutOfMemory) }
         ensures moves { Moves self.old self.new 2 0 }
         ensures window { self.new.window ≡ self.old.window }
     {
         if !self.is_left_of(col) {
             return Ok(());
         }
-        self.levels.push_block(col)?;
+        if let Err(_) = self.levels.push_block(col) {
+            return Err(self.fail(Fault::OutOfMemory));
+        }
         self.position_start(position, kind, mark)?;
         Ok(())
     }
@@ -140,16 +146,15 @@ impl<T: Iterator<Item = char>> Fetcher<T> {
         position: Option<usize>,
         kind: Collection,
         mark: Marker,
-    ) -> Result<(), Fault>
-        ensures err { IfErr result (λ e. e ≡ Fault.OutOfMemory) }
+    ) -> Result<(), Failed>
+        ensures err { IfErr result (λ _. self.new.fault ≡ Fault.OutOfMemory) }
         ensures held { OnOk result (held self.new ≡ record (held self.old) { tokens = placed (number_of self.old.tokens.given position) (token mark (block_start kind)) (held self.old).tokens }) }
         ensures moves { Moves self.old self.new 1 0 }
         ensures window { self.new.window ≡ self.old.window }
     {
-        let token = Token(mark, kind.block_start());
         match position {
-            Some(position) => self.tokens.insert(position, token)?,
-            None => self.tokens.push(token)?,
+            Some(position) => self.put_token(position, mark, kind.block_start())?,
+            None => self.push_token(mark, kind.block_start())?,
         }
         Ok(())
     }
@@ -180,8 +185,8 @@ impl<T: Iterator<Item = char>> Fetcher<T> {
 
     /// Opens a level without a collection, one column deeper, inside a block collection.
     #[inline(always)]
-    pub(crate) fn roll_one_col_indent(&mut self) -> Result<(), Fault>
-        ensures err { IfErr result (λ e. e ≡ Fault.OutOfMemory) }
+    pub(crate) fn roll_one_col_indent(&mut self) -> Result<(), Failed>
+        ensures err { IfErr result (λ _. self.new.fault ≡ Fault.OutOfMemory) }
         ensures held { OnOk result (held self.new ≡ roll_one_col_indent (held self.old)) }
         ensures moves { Moves self.old self.new 1 0 }
         ensures window { self.new.window ≡ self.old.window }
@@ -189,14 +194,16 @@ impl<T: Iterator<Item = char>> Fetcher<T> {
         if !self.in_block() {
             return Ok(());
         }
-        self.levels.push_open()?;
+        if let Err(_) = self.levels.push_open() {
+            return Err(self.fail(Fault::OutOfMemory));
+        }
         Ok(())
     }
 
     /// Outside flow, ends the levels deeper than the limit.
     #[inline(always)]
-    pub(crate) fn unroll_indent(&mut self, limit: usize) -> Result<(), Fault>
-        ensures err { IfErr result (λ e. e ≡ Fault.OutOfMemory) }
+    pub(crate) fn unroll_indent(&mut self, limit: usize) -> Result<(), Failed>
+        ensures err { IfErr result (λ _. self.new.fault ≡ Fault.OutOfMemory) }
         ensures held { OnOk result (held self.new ≡ unroll_indent limit (held self.old)) }
         ensures moves { Moves self.old self.new 0 0 }
         ensures window { self.new.window ≡ self.old.window }
@@ -209,8 +216,8 @@ impl<T: Iterator<Item = char>> Fetcher<T> {
 
     // The same, where some level is deeper.
     #[inline(never)]
-    fn end_levels(&mut self, limit: usize) -> Result<(), Fault>
-        ensures err { IfErr result (λ e. e ≡ Fault.OutOfMemory) }
+    fn end_levels(&mut self, limit: usize) -> Result<(), Failed>
+        ensures err { IfErr result (λ _. self.new.fault ≡ Fault.OutOfMemory) }
         ensures held { OnOk result (held self.new ≡ unroll_indent limit (held self.old)) }
         ensures moves { Moves self.old self.new 0 0 }
         ensures window { self.new.window ≡ self.old.window }
@@ -224,7 +231,9 @@ impl<T: Iterator<Item = char>> Fetcher<T> {
             };
             if needs_block_end {
                 let mark = self.window.mark();
-                self.tokens.push(Token(mark, TokenType::BlockEnd))?;
+                if let Err(_) = self.tokens.push(Token(mark, TokenType::BlockEnd)) {
+                    return Err(self.fail(Fault::OutOfMemory));
+                }
             }
         }
         Ok(())

@@ -95,7 +95,7 @@ impl<T: Iterator<Item = char>> Scanner<T> {
         }
         match self.fetcher.fetch_one() {
             Ok(()) => Ok(()),
-            Err(fault) => Err(self.fetcher.keep(fault)),
+            Err(_) => Err(self.fetcher.keep()),
         }
     }
 
@@ -131,7 +131,7 @@ impl<T: Iterator<Item = char>> Scanner<T> {
         }
         match self.fetcher.fill() {
             Ok(()) => Ok(()),
-            Err(fault) => Err(self.fetcher.keep(fault)),
+            Err(_) => Err(self.fetcher.keep()),
         }
     }
 
@@ -170,7 +170,7 @@ impl<T: Iterator<Item = char>> Scanner<T> {
         self.fetcher.window.note();
         match filled {
             Ok(()) => Ok(self.fetcher.hand()),
-            Err(fault) => Err(self.fetcher.keep(fault)),
+            Err(_) => Err(self.fetcher.keep()),
         }
     }
 }

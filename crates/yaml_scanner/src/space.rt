@@ -9,10 +9,10 @@ ghost use Rattle.yaml_lexers.specs.Shown.{read};
 ghost use Rattle.yaml_scanner.specs.Shape.{held, Does, Fails};
 ghost use Rattle.yaml_scanner.specs.Work.{Moves};
 
-use crate::fetcher::Fetcher;
+use crate::fetcher::{Failed, Fetcher};
 use yaml_chars::class::{is_blank, is_break, is_breakz};
 use yaml_lexers::{SkipTabs, Whitespace, skip_comment, skip_linebreak, skip_ws_to_eol};
-use yaml_tokens::{Fault, Problem};
+use yaml_tokens::Problem;
 
 impl<T: Iterator<Item = char>> Fetcher<T> {
     /// Steps over a line break. Outside flow a key may begin after it.
@@ -41,9 +41,9 @@ impl<T: Iterator<Item = char>> Fetcher<T> {
     /// for a gap is apart from the loop.
     #[inline(always)]
     #[tactic(auto, using(crate::proofs::SpaceLemmas::no_gap), unfolding(model_scanner::specs::Space::skip_to_next_token))]
-    pub(crate) fn skip_to_next_token(&mut self) -> Result<(), Fault>
+    pub(crate) fn skip_to_next_token(&mut self) -> Result<(), Failed>
         ensures does { OnOk result (Does skip_to_next_token self.old self.new) }
-        ensures fails { IfErr result (λ e. Fails skip_to_next_token self.old self.new e) }
+        ensures fails { IfErr result (λ _. Fails skip_to_next_token self.old self.new self.new.fault) }
         ensures moves { Moves self.old self.new 0 0 }
         ensures ahead { OnOk result (0 < self.new.window.ahead) }
     {
@@ -55,11 +55,11 @@ impl<T: Iterator<Item = char>> Fetcher<T> {
     }
 
     // The same, where a blank, a break or a comment stands here.
-    #[inline(never)]
+    #[inline(always)]
     #[tactic(auto, using(crate::proofs::SpaceLemmas::gap_blank, crate::proofs::SpaceLemmas::gap_end), unfolding(model_scanner::specs::Space::skip_to_next_token))]
-    fn skip_gap(&mut self) -> Result<(), Fault>
+    fn skip_gap(&mut self) -> Result<(), Failed>
         ensures does { OnOk result (Does skip_to_next_token self.old self.new) }
-        ensures fails { IfErr result (λ e. Fails skip_to_next_token self.old self.new e) }
+        ensures fails { IfErr result (λ _. Fails skip_to_next_token self.old self.new self.new.fault) }
         ensures moves { Moves self.old self.new 0 0 }
         ensures ahead { OnOk result (0 < self.new.window.ahead) }
     {
@@ -113,11 +113,11 @@ impl<T: Iterator<Item = char>> Fetcher<T> {
 
     /// Steps over a TAB in the indentation, and over the rest of its line, which has no content.
     #[tactic(auto, using(crate::proofs::SpaceLemmas::gap_tab, crate::proofs::SpaceLemmas::tab_blank, crate::proofs::SpaceLemmas::tab_end, crate::proofs::SpaceLemmas::tab_content))]
-    fn skip_tab_line(&mut self) -> Result<(), Fault>
+    fn skip_tab_line(&mut self) -> Result<(), Failed>
         requires ahead { 0 < self.old.window.ahead }
         requires has { HasChar self.old.window }
         ensures gap { OnOk result (Reads self.old.window self.new.window (λ a b. slice_index a 0 ≡ 9 → is_before_indent (held self.old) ≡ true → skip between a (held self.old) ≡ skip between b (held self.new))) }
-        ensures fault { IfErr result (λ e. Reads self.old.window self.new.window (λ a b. slice_index a 0 ≡ 9 → is_before_indent (held self.old) ≡ true → skip between a (held self.old) ≡ Err e)) }
+        ensures fault { IfErr result (λ _. Reads self.old.window self.new.window (λ a b. slice_index a 0 ≡ 9 → is_before_indent (held self.old) ≡ true → skip between a (held self.old) ≡ Err self.new.fault)) }
         ensures moves { Moves self.old self.new 0 8 }
         ensures less { self.new.window.left < self.old.window.left }
     {
@@ -132,7 +132,7 @@ impl<T: Iterator<Item = char>> Fetcher<T> {
             } else if is_breakz(c) {
                 return Ok(());
             } else {
-                return Err(Fault::At(Problem::TabInBlockIndentation, self.window.mark()));
+                return Err(self.fail_here(Problem::TabInBlockIndentation));
             }
         }
     }
@@ -151,22 +151,25 @@ impl<T: Iterator<Item = char>> Fetcher<T> {
 
     /// Steps over spaces, TABs where these are to be skipped, and a comment.
     #[inline(always)]
-    pub(crate) fn skip_spaces(&mut self, tabs: SkipTabs) -> Result<Whitespace, Fault>
+    pub(crate) fn skip_spaces(&mut self, tabs: SkipTabs) -> Result<Whitespace, Failed>
         ensures held { held self.new ≡ record (held self.old) { position = position_of self.new.window } }
         ensures reads { IfOk result (λ w. Reads self.old.window self.new.window (λ a b. space tabs a (position_of self.old.window) ≡ Ok (read b self.new.window w))) }
-        ensures fault { IfErr result (λ e. Reads self.old.window self.new.window (λ a b. space tabs a (position_of self.old.window) ≡ Err e)) }
+        ensures fault { IfErr result (λ _. Reads self.old.window self.new.window (λ a b. space tabs a (position_of self.old.window) ≡ Err self.new.fault)) }
         ensures moves { Moves self.old self.new 0 0 }
         ensures ahead { OnOk result (0 < self.new.window.ahead) }
         ensures less { self.new.window.left ≤ self.old.window.left }
     {
-        skip_ws_to_eol(&mut self.window, tabs)
+        match skip_ws_to_eol(&mut self.window, tabs) {
+            Ok(found) => Ok(found),
+            Err(fault) => Err(self.fail(fault)),
+        }
     }
 
     /// The same, where it does not matter what was found.
     #[inline(always)]
-    pub(crate) fn pass_spaces(&mut self, tabs: SkipTabs) -> Result<(), Fault>
+    pub(crate) fn pass_spaces(&mut self, tabs: SkipTabs) -> Result<(), Failed>
         ensures does { OnOk result (Does (skip_spaces tabs) self.old self.new) }
-        ensures fails { IfErr result (λ e. Fails (skip_spaces tabs) self.old self.new e) }
+        ensures fails { IfErr result (λ _. Fails (skip_spaces tabs) self.old self.new self.new.fault) }
         ensures moves { Moves self.old self.new 0 0 }
         ensures ahead { OnOk result (0 < self.new.window.ahead) }
     {
@@ -188,9 +191,9 @@ impl<T: Iterator<Item = char>> Fetcher<T> {
 
     /// What must stand after a `?`: spaces, breaks and comments.
     #[tactic(auto, using(crate::proofs::SpaceLemmas::white_space, crate::proofs::SpaceLemmas::white_stop, crate::proofs::SpaceLemmas::white_missing), unfolding(model_scanner::specs::Space::skip_yaml_whitespace))]
-    pub(crate) fn skip_yaml_whitespace(&mut self) -> Result<(), Fault>
+    pub(crate) fn skip_yaml_whitespace(&mut self) -> Result<(), Failed>
         ensures does { OnOk result (Does skip_yaml_whitespace self.old self.new) }
-        ensures fails { IfErr result (λ e. Fails skip_yaml_whitespace self.old self.new e) }
+        ensures fails { IfErr result (λ _. Fails skip_yaml_whitespace self.old self.new self.new.fault) }
         ensures moves { Moves self.old self.new 0 0 }
         ensures ahead { OnOk result (0 < self.new.window.ahead) }
     {
@@ -208,7 +211,7 @@ impl<T: Iterator<Item = char>> Fetcher<T> {
             } else if found {
                 return Ok(());
             } else {
-                return Err(Fault::At(Problem::WhitespaceExpected, self.window.mark()));
+                return Err(self.fail_here(Problem::WhitespaceExpected));
             }
         }
     }

@@ -27,11 +27,11 @@ levels-preserved g c =
       window = c.levels.invariant.window;
     }
 
-pub levels-preserved-in-Continue-1 : goal.levels-preserved-in-Continue-1
-levels-preserved-in-Continue-1 g c =
+pub levels-preserved-in_default-push : goal.levels-preserved-in_default-push
+levels-preserved-in_default-push g c =
     let here : c.mark-mark.result ≡ position_of c.args.self.now.window = c.mark-mark.ensures ∙ ap position_of c.levels.invariant.window in
     let u : Levels = record { indent = c.pop.new.self.indent; indents = c.pop.new.self.indents; tokens = c.levels.self.tokens.all ++ token c.mark-mark.result Tok.block_end ∷ [] } in
-    rw c.in_ok-push.ensures.ok record {
+    rw c.in_default-push.ensures.ok record {
       state = ap (λ h. with_levels h u) c.levels.invariant.state;
       levels = c.levels.invariant.levels ∙ unrolled_more _ _ _ _ _ (level c.pop.new.self.indent c.in-Some.needs_block_end) c.pop.new.self.indents c.in-Some.ensures (rw (← c.indent.ensures.value) c.levels-test.true) ∙ rw (c.if-needs_block_end.true, here) refl;
       flow = c.levels.invariant.flow;

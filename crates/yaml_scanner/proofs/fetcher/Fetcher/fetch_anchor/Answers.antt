@@ -2,18 +2,17 @@ use Rattle.std.proofs.Common.{ap, refl, sym}
 use Rattle.yaml_chars.specs.Reading.{position_of}
 use Rattle.yaml_scanner.specs.Shape.{held}
 use Rattle.yaml_scanner_state.specs.Styles.{is_alias}
-use Rattle.yaml_scanner.proofs.DoesLemmas.{exits, Reads-along, Reads-map}
+use Rattle.yaml_scanner.proofs.DoesLemmas.{fails_kept, Reads-along, Reads-map}
 use Rattle.yaml_scanner.proofs.NodeLemmas.{anchored, not_anchored}
 use Rattle.yaml_scanner.proofs.fetcher.Fetcher.fetch_anchor.Goals as goal
 
-pub returns-in_err-name-clause-fails : goal.returns-in_err-name-clause-fails
-returns-in_err-name-clause-fails g c = exits _ c.from_residual.result _ c.from_residual.ensures.1 (record {
-  runs = Reads-along _ _ _ _ (sym c.save_implicit_key.ensures.window) refl (Reads-map _ _ c.in_err-name.ensures.err (λ a b p n.
-      not_anchored (is_alias c.args.kind) a (held c.args.self.now) _ _ (ap position_of c.save_implicit_key.ensures.window) (p n)));
-})
+pub returns-in-Err-clause-fails : goal.returns-in-Err-clause-fails
+returns-in-Err-clause-fails g c = fails_kept _ _ _ c.fail.ensures.window c.fail.ensures.fault
+    (Reads-along _ _ _ _ (sym c.save_implicit_key.ensures.window) refl (Reads-map _ _ c.in-Err.ensures.err (λ a b p n.
+    not_anchored (is_alias c.args.kind) a (held c.args.self.now) _ _ (ap position_of c.save_implicit_key.ensures.window) (p n))))
 
 pub returns-clause-does : goal.returns-clause-does
 returns-clause-does g c = record {
-  runs = Reads-along _ _ _ _ (sym c.save_implicit_key.ensures.window) c.in_ok-push_token.ensures.window (Reads-map _ _ c.in_ok-name.ensures.ok (λ a b p.
+  runs = Reads-along _ _ _ _ (sym c.save_implicit_key.ensures.window) c.in_ok-push_token.ensures.window (Reads-map _ _ c.in-Ok.ensures.ok (λ a b p.
       anchored (is_alias c.args.kind) a b (held c.args.self.now) (held c.save_implicit_key.new.self) (held c.push_token.new.self) _ _ c.mark-mark.result _ _ c.save_implicit_key.ensures.held (ap position_of c.save_implicit_key.ensures.window) p c.mark-mark.ensures c.token.ensures c.in_ok-push_token.ensures.held));
 }

@@ -1,7 +1,7 @@
 use Rattle.std.proofs.Common.{refl}
 use Rattle.yaml_chars.proofs.ReadingLemmas.{Reads-then}
 use Rattle.yaml_scanner.specs.Shape.{held}
-use Rattle.yaml_scanner.proofs.DoesLemmas.{exits, fails_in, fails_then}
+use Rattle.yaml_scanner.proofs.DoesLemmas.{exits, fails_kept, fails_in, fails_then}
 use Rattle.yaml_scanner.proofs.FetchLemmas.{Reads-both, document_ended, content_after, not_marked_end, no_space_after}
 use Rattle.yaml_scanner.proofs.fetcher.Fetcher.fetch_document_end.Goals as goal
 
@@ -15,10 +15,9 @@ returns-in_err-pass_spaces-clause-fails g c = exits _ c.from_residual-in_err-pas
     (λ a b p q. no_space_after a b (held c.args.self.now) (held c.fetch_document_marker.new.self) _ p q))
 
 pub returns-then-not-is_breakz-clause-fails : goal.returns-then-not-is_breakz-clause-fails
-returns-then-not-is_breakz-clause-fails g c = record {
-  runs = Reads-then _ _ _ c.in_ok-fetch_document_marker.ensures.does.runs (Reads-both _ _ c.in_ok-pass_spaces.ensures.does.runs c.ch.ensures.sees) (λ a b d p q n.
-      content_after a b d (held c.args.self.now) (held c.fetch_document_marker.new.self) (held c.pass_spaces.new.self) c.ch.result _ c.mark.result p q.0 q.1 c.is_breakz.ensures c.if-not-is_breakz.true c.mark.ensures);
-}
+returns-then-not-is_breakz-clause-fails g c = fails_kept _ _ _ c.fail_here.ensures.window c.fail_here.ensures.fault
+    (Reads-then _ _ _ c.in_ok-fetch_document_marker.ensures.does.runs (Reads-both _ _ c.in_ok-pass_spaces.ensures.does.runs c.ch.ensures.sees) (λ a b d p q n.
+    content_after a b d (held c.args.self.now) (held c.fetch_document_marker.new.self) (held c.pass_spaces.new.self) c.ch.result _ _ p q.0 q.1 c.is_breakz.ensures c.if-not-is_breakz.true refl))
 
 pub returns-clause-does : goal.returns-clause-does
 returns-clause-does g c = record {

@@ -38,7 +38,7 @@ returns-in_err-check_key_space-clause-fails g c = exits _ c.from_residual-in_err
     (fails_bind _ c.remove_implicit_key.new.self _ _ (does_held remove_implicit_key _ _ c.in_ok-remove_implicit_key.ensures.window c.in_ok-remove_implicit_key.ensures.held)
     (fails_bind _ (record c.remove_implicit_key.new.self { key_allowed = not c.in_flow.result }) _ _ (does_pure (λ s. allow_key (not (in_flow s)) s) _ _ refl (ap (λ b. allow_key (not b) (held c.remove_implicit_key.new.self)) c.in_flow.ensures))
     (fails_bind _ c.pass_key.new.self _ _ c.in_ok-pass_key.ensures.does
-    (fails_now (λ t. Ok (on_held (push (position_of c.args.self.now.window) Tok.key) t)) _ _ _ c.in_err-check_key_space.ensures.fault))))))
+    (fails_now (λ t. Ok (on_held (push (position_of c.args.self.now.window) Tok.key) t)) _ _ _ c.in_err-check_key_space.ensures.fails))))))
 
 pub returns-clause-does : goal.returns-clause-does
 unfolding fetch_key
@@ -47,5 +47,5 @@ returns-clause-does g c = does_as _ _ (λ a. refl)
     (does_bind _ c.remove_implicit_key.new.self _ (does_held remove_implicit_key _ _ c.in_ok-remove_implicit_key.ensures.window c.in_ok-remove_implicit_key.ensures.held)
     (does_bind _ (record c.remove_implicit_key.new.self { key_allowed = not c.in_flow.result }) _ (does_pure (λ s. allow_key (not (in_flow s)) s) _ _ refl (ap (λ b. allow_key (not b) (held c.remove_implicit_key.new.self)) c.in_flow.ensures))
     (does_bind _ c.pass_key.new.self _ c.in_ok-pass_key.ensures.does
-    (does_bind _ c.pass_key.new.self _ c.in_ok-check_key_space.ensures.ok
-    (does_pure (push (position_of c.args.self.now.window) Tok.key) _ c.push_token.new.self c.in_ok-push_token.ensures.window (c.in_ok-push_token.ensures.held ∙ ap (λ p. push p Tok.key (held c.pass_key.new.self)) c.mark-mark.ensures)))))))
+    (does_bind _ c.check_key_space.new.self _ c.in_ok-check_key_space.ensures.does
+    (does_pure (push (position_of c.args.self.now.window) Tok.key) _ c.push_token.new.self c.in_ok-push_token.ensures.window (c.in_ok-push_token.ensures.held ∙ ap (λ p. push p Tok.key (held c.check_key_space.new.self)) c.mark-mark.ensures)))))))

@@ -5,7 +5,7 @@ use Rattle.yaml_scanner.proofs.fetcher.Fetcher.fetch_one.Goals as goal
 
 pub returns-in_err-fetch-clause-err : goal.returns-in_err-fetch-clause-err
 returns-in_err-fetch-clause-err g c = exits _ c.from_residual.result _ c.from_residual.ensures.1
-    (λ mark. stopped c.args.self.now c.fetch.new.self _ (record { fault = c.in_err-fetch.field-0.0; mark = mark }) refl c.requires.kept c.requires.going c.requires.follows c.in_err-fetch.ensures.fails c.in_err-fetch.ensures.run)
+    (λ mark. stopped c.args.self.now c.fetch.new.self _ (record { fault = c.fetch.new.self.fault; mark = mark }) refl c.requires.kept c.requires.going c.requires.follows c.in_err-fetch.ensures.fails c.in_err-fetch.ensures.run)
 
 pub returns-clause-ok : goal.returns-clause-ok
 returns-clause-ok g c = fetched_on c.args.self.now c.fetch.new.self c.requires.kept c.requires.going c.requires.follows c.in_ok-fetch.ensures.does c.in_ok-fetch.ensures.run c.in_ok-fetch.ensures.done

@@ -2,6 +2,7 @@ use Rattle.std.proofs.Common.{refl}
 use Rattle.model_scanner.specs.declared.class.Class.TheVariants as class
 use Rattle.yaml_tokens.specs.declared.problem.Problem.TheVariants as problem
 use Rattle.yaml_scanner.specs.Steps.{scalar_by}
+use Rattle.yaml_scanner.proofs.DoesLemmas.{fails_kept}
 use Rattle.yaml_scanner.proofs.DispatchLemmas.{scalar_does, scalar_fails, refused, plain_does, plain_fails}
 use Rattle.yaml_scanner.proofs.fetcher.Fetcher.fetch_scalar.Goals as goal
 
@@ -39,15 +40,15 @@ returns-in-DoubleQuote-clause-fails g c = scalar_fails c.args.self.now c.fetch_f
 
 pub returns-in-Percent-clause-fails : goal.returns-in-Percent-clause-fails
 unfolding scalar_by
-returns-in-Percent-clause-fails g c = refused c.args.self.now c.args.class class.Percent problem.UnexpectedPercent c.mark.result c.in-Percent.is c.mark.ensures (λ t. refl)
+returns-in-Percent-clause-fails g c = fails_kept _ _ _ c.fail_here.ensures.window c.fail_here.ensures.fault (refused c.args.self.now c.args.class class.Percent problem.UnexpectedPercent _ c.in-Percent.is refl (λ t. refl)).runs
 
 pub returns-in-AtSign-clause-fails : goal.returns-in-AtSign-clause-fails
 unfolding scalar_by
-returns-in-AtSign-clause-fails g c = refused c.args.self.now c.args.class class.AtSign problem.UnexpectedAt c.mark-in-AtSign.result c.in-AtSign.is c.mark-in-AtSign.ensures (λ t. refl)
+returns-in-AtSign-clause-fails g c = fails_kept _ _ _ c.fail_here-in-AtSign.ensures.window c.fail_here-in-AtSign.ensures.fault (refused c.args.self.now c.args.class class.AtSign problem.UnexpectedAt _ c.in-AtSign.is refl (λ t. refl)).runs
 
 pub returns-in-Backtick-clause-fails : goal.returns-in-Backtick-clause-fails
 unfolding scalar_by
-returns-in-Backtick-clause-fails g c = refused c.args.self.now c.args.class class.Backtick problem.UnexpectedBacktick c.mark-in-Backtick.result c.in-Backtick.is c.mark-in-Backtick.ensures (λ t. refl)
+returns-in-Backtick-clause-fails g c = fails_kept _ _ _ c.fail_here-in-Backtick.ensures.window c.fail_here-in-Backtick.ensures.fault (refused c.args.self.now c.args.class class.Backtick problem.UnexpectedBacktick _ c.in-Backtick.is refl (λ t. refl)).runs
 
 pub returns-in_default-clause-does : goal.returns-in_default-clause-does
 returns-in_default-clause-does g c = plain_does c.args.self.now c.fetch_plain_scalar.new.self c.fetch_plain_scalar.result c.args.class c.in_default.not-Bar c.in_default.not-Greater c.in_default.not-SingleQuote c.in_default.not-DoubleQuote c.in_default.not-Percent c.in_default.not-AtSign c.in_default.not-Backtick c.fetch_plain_scalar.ensures.does
