@@ -44,7 +44,7 @@ impl<T: Iterator<Item = char>> Reader<T> {
     }
 
     /// A node that stands here. `next`, its first token, was looked at.
-    #[inline(never)]
+    #[inline(always)]
     pub(crate) fn node(&mut self, context: NodeContext, next: Kind) -> Answer
         requires { IsOfKind next self.old.tokens.peeked }
         ensures answers { Reads (at.node context) self.old self.new result }
@@ -149,7 +149,7 @@ impl<T: Iterator<Item = char>> Reader<T> {
     }
 
     /// What stands after a node's properties. `next` was looked at.
-    #[inline(never)]
+    #[inline(always)]
     fn content(
         &mut self,
         context: NodeContext,

@@ -160,7 +160,7 @@ impl<T: Iterator<Item = char>> Tokens<T> {
     }
 
     /// Takes the token that was looked at, and gives its position.
-    #[inline(never)]
+    #[inline(always)]
     pub fn skip(&mut self) -> Marker
         requires { IsSome self.old.peeked }
         ensures mark { IfSome self.old.peeked (λ t. t.0 ≡ result) }
