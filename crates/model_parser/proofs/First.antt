@@ -1,7 +1,7 @@
 -- What each part of the grammar begins with.
 use Rattle.std.proofs.Common.{◌≡◌, ◌≢◌, List, [], ◌∷◌, Some, None, Bool, true, false, not, refl, sym, ap, ◌∙◌, subst}
 use Rattle.defs_token.specs.Token.{Tok}
-use Rattle.defs_event.specs.Grammar.{anchored, tagged, anchored_tagged, tagged_anchored, Properties, FlowNode, flow_alias, flow_content, flow_properties, FlowContent, scalar, flow_sequence, flow_mapping, MoreItems, end_items, comma_end_items, comma_item, FlowValue, no_flow_value, flow_value, MoreFlowPairs, end_flow_pairs, comma_end_flow_pairs, comma_flow_pair, Node, block_alias, block_content, block_properties, Content, flow, block_sequence, block_mapping, Entries, end_entries, entry, Dashes, end_dashes, dash, Pairs, keyed, keyless, end_pairs, key, AfterKey, value, no_value, end_stream, explicit, After, marked, unmarked, flow_node_tokens, flow_content_tokens, more_items_tokens, flow_value_tokens, more_flow_pairs_tokens, node_tokens, content_tokens, entries_tokens, dashes_tokens, pairs_tokens, after_key_tokens, after_tokens, properties_tokens}
+use Rattle.defs_event.specs.Grammar.{anchored, tagged, anchored_tagged, tagged_anchored, Properties, FlowNode, flow_alias, flow_content, flow_properties, FlowContent, scalar, flow_sequence, flow_mapping, MoreItems, end_items, comma_end_items, comma_item, FlowValue, no_flow_value, flow_value, MoreFlowPairs, end_flow_pairs, comma_end_flow_pairs, comma_flow_pair, Node, block_alias, block_content, block_properties, Content, flow, block_sequence, block_mapping, Entries, end_entries, entry, Dashes, end_dashes, dash, Pairs, keyed, keyless, end_pairs, key, AfterKey, value, no_value, no_node, plain, end_stream, explicit, After, marked, unmarked, flow_node_tokens, flow_content_tokens, more_items_tokens, flow_value_tokens, more_flow_pairs_tokens, node_tokens, content_tokens, entries_tokens, dashes_tokens, pairs_tokens, after_key_tokens, after_tokens, properties_tokens}
 use Rattle.model_parser.specs.declared.kind.Kind.{Kind}
 use Rattle.model_parser.specs.declared.kind.Kind.TheVariants as kind
 use Rattle.model_parser.specs.declared.context.NodeContext.{NodeContext}
@@ -12,6 +12,7 @@ use Rattle.model_parser.specs.Kinds.{kind_of, begins_content, begins_node, ends_
 use Rattle.model_parser.specs.Goal.{NodeAt, ContentAt, part_node, part_sequence, part_content, part_dashes, node_at_tokens, content_at_tokens}
 use Rattle.model_parser.specs.Rest.{Rest, rest_tokens, first_is, BeginsNoNode, EndsPart, EndsNode}
 use Rattle.model_parser.specs.Stands.{IsNext}
+use Rattle.model_parser.proofs.Shortest.{ending}
 
 pub true_is_not_false : {b : Bool} → b ≡ true → b ≡ false → ⊥
 true_is_not_false {b} h e = let f : true ≡ false = sym h ∙ e in cc
@@ -173,28 +174,28 @@ first_more a b f (t ∷ ts) h = f (kind_of t) h
 pub no_node_at : NodeContext → Kind → Bool
 no_node_at p k = not (begins_node p k)
 
-part_ends_no_node : (p : NodeContext) (k : Kind) → ends_part k ≡ true → not (begins_node p k) ≡ true
+pub part_ends_no_node : (p : NodeContext) (k : Kind) → ends_part k ≡ true → not (begins_node p k) ≡ true
 part_ends_no_node p kind.Key h = refl
 part_ends_no_node p kind.Value h = refl
 part_ends_no_node p kind.BlockEnd h = refl
 part_ends_no_node p _ h = cc
 
 pub ends_part_begins_none : (p : NodeContext) (ss : List State) → EndsPart ss → BeginsNoNode p ss
-ends_part_begins_none p ss e r = first_more ends_part (λ k. not (begins_node p k)) (part_ends_no_node p) (rest_tokens ss r) (e r)
+ends_part_begins_none p ss e r = first_more ends_part (λ k. not (begins_node p k)) (part_ends_no_node p) (rest_tokens ss r) (e.0 r)
 
-document_no_node : (p : NodeContext) (k : Kind) → ends_document k ≡ true → not (begins_node p k) ≡ true
+pub document_no_node : (p : NodeContext) (k : Kind) → ends_document k ≡ true → not (begins_node p k) ≡ true
 document_no_node p kind.DocumentStart h = refl
 document_no_node p kind.DocumentEnd h = refl
 document_no_node p kind.StreamEnd h = refl
 document_no_node p _ h = cc
 
-item_no_node : (p : NodeContext) (k : Kind) → ends_item_key k ≡ true → not (begins_node p k) ≡ true
+pub item_no_node : (p : NodeContext) (k : Kind) → ends_item_key k ≡ true → not (begins_node p k) ≡ true
 item_no_node p kind.Value h = refl
 item_no_node p kind.FlowEntry h = refl
 item_no_node p kind.FlowSequenceEnd h = refl
 item_no_node p _ h = cc
 
-flow_pair_no_node : (p : NodeContext) (k : Kind) → ends_flow_key k ≡ true → not (begins_node p k) ≡ true
+pub flow_pair_no_node : (p : NodeContext) (k : Kind) → ends_flow_key k ≡ true → not (begins_node p k) ≡ true
 flow_pair_no_node p kind.Value h = refl
 flow_pair_no_node p kind.FlowEntry h = refl
 flow_pair_no_node p kind.FlowMappingEnd h = refl
@@ -246,11 +247,27 @@ dashes_first (dash p d) ss e r = refl
 pub after_dashes : (ss : List State) → EndsPart ss → BeginsNoNode context.Block (state.IndentlessSequenceEntry ∷ ss)
 after_dashes ss e r = dashes_first r.0 ss e r.1
 
+-- This state may go on with this token.
+abbrev Gives : State → List State → Tok → Type 0
+Gives s ss t = (r : Rest (s ∷ ss)) × (ts : List Tok) × (rest_tokens (s ∷ ss) r ≡ t ∷ ts)
+
+pairs_give : (ss : List State) (t : Tok) (k : Kind) → kind_of t ≡ k → ends_part k ≡ true → Gives state.BlockMappingKey ss t
+pairs_give ss t kind.Key e h = let ts = Tok.block_end ∷ rest_tokens ss (ending ss) in ((keyed (key (plain no_node) (no_value end_pairs)), ending ss), ts, ap (λ u. u ∷ ts) (sym (tok_is e refl)))
+pairs_give ss t kind.Value e h = let ts = Tok.block_end ∷ rest_tokens ss (ending ss) in ((keyless (plain no_node) (keyed end_pairs), ending ss), ts, ap (λ u. u ∷ ts) (sym (tok_is e refl)))
+pairs_give ss t kind.BlockEnd e h = let ts = rest_tokens ss (ending ss) in ((keyed end_pairs, ending ss), ts, ap (λ u. u ∷ ts) (sym (tok_is e refl)))
+pairs_give ss t _ e h = cc
+
 pub after_pairs : (ss : List State) → EndsPart (state.BlockMappingKey ∷ ss)
-after_pairs ss r = pairs_first r.0 _
+after_pairs ss = (λ r. pairs_first r.0 _, λ t h. pairs_give ss t (kind_of t) refl h)
+
+value_gives : (ss : List State) (t : Tok) (k : Kind) → kind_of t ≡ k → ends_part k ≡ true → Gives state.BlockMappingValue ss t
+value_gives ss t kind.Key e h = let ts = Tok.block_end ∷ rest_tokens ss (ending ss) in ((no_value (key (plain no_node) (no_value end_pairs)), ending ss), ts, ap (λ u. u ∷ ts) (sym (tok_is e refl)))
+value_gives ss t kind.Value e h = let ts = Tok.block_end ∷ rest_tokens ss (ending ss) in ((value (plain no_node) (keyed end_pairs), ending ss), ts, ap (λ u. u ∷ ts) (sym (tok_is e refl)))
+value_gives ss t kind.BlockEnd e h = let ts = rest_tokens ss (ending ss) in ((no_value end_pairs, ending ss), ts, ap (λ u. u ∷ ts) (sym (tok_is e refl)))
+value_gives ss t _ e h = cc
 
 pub after_after_key : (ss : List State) → EndsPart (state.BlockMappingValue ∷ ss)
-after_after_key ss r = after_key_first r.0 _
+after_after_key ss = (λ r. after_key_first r.0 _, λ t h. value_gives ss t (kind_of t) refl h)
 
 pub after_more_items : (ss : List State) → BeginsNoNode context.Flow (state.FlowSequenceEntry ∷ ss)
 after_more_items ss r = first_more ends_item (λ k. not (begins_node context.Flow k)) (λ k h. item_no_node context.Flow k (item_is_key k h)) _ (more_items_first r.0 _)

@@ -1,4 +1,6 @@
+pub mod Shortest
 pub mod First
+pub mod Settling
 pub mod Apart
 pub mod Around
 pub mod Carry

@@ -62,6 +62,12 @@ ends_document kind.DocumentEnd = true
 ends_document kind.StreamEnd = true
 ends_document _ = false
 
+-- what stands after an entry of a block sequence
+abbrev pub ends_entry : Kind → Bool
+ends_entry kind.BlockEntry = true
+ends_entry kind.BlockEnd = true
+ends_entry _ = false
+
 -- what stands after an item of a flow sequence
 abbrev pub ends_item : Kind → Bool
 ends_item kind.FlowEntry = true
@@ -94,6 +100,12 @@ abbrev pub is_directive : Kind → Bool
 is_directive kind.VersionDirective = true
 is_directive kind.TagDirective = true
 is_directive _ = false
+
+-- before what a document that begins with `---` has no node: its end, and a directive, which is refused there
+abbrev pub ends_content : Kind → Bool
+ends_content kind.VersionDirective = true
+ends_content kind.TagDirective = true
+ends_content k = ends_document k
 
 -- a token with that kind, where the kind has no texts
 abbrev pub tok_of_kind : Kind → Tok

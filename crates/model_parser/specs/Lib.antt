@@ -1,4 +1,5 @@
 pub mod Kinds
+pub mod Place
 pub mod Goal
 pub mod Rest
 pub mod Stands

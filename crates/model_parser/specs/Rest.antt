@@ -66,9 +66,9 @@ first_is test (t ∷ ts) = test (kind_of t)
 abbrev pub BeginsNoNode : NodeContext → List State → Type 0
 BeginsNoNode p ss = (r : Rest ss) → first_is (λ k. not (begins_node p k)) (rest_tokens ss r) ≡ true
 
--- What comes here ends a part of a block mapping.
+-- What comes here ends a part of a block mapping; and each token that does may come.
 abbrev pub EndsPart : List State → Type 0
-EndsPart ss = (r : Rest ss) → first_is ends_part (rest_tokens ss r) ≡ true
+EndsPart ss = ((r : Rest ss) → first_is ends_part (rest_tokens ss r) ≡ true) × ((t : Tok) → ends_part (kind_of t) ≡ true → (r : Rest ss) × (ts : List Tok) × (rest_tokens ss r ≡ t ∷ ts))
 
 -- what stands under a node of that context
 abbrev pub EndsNode : NodeContext → List State → Type 0
@@ -79,12 +79,28 @@ abbrev pub IsBottom : List State → Type 0
 IsBottom [] = Unit {0}
 IsBottom (s ∷ ss) = ⊥
 
+-- Something is awaited.
+abbrev pub IsGoing : List State → Type 0
+IsGoing [] = ⊥
+IsGoing (s ∷ ss) = Unit {0}
+
+-- Something is awaited, and it is no node.
 abbrev pub IsUnder : List State → Type 0
 IsUnder [] = ⊥
+IsUnder (state.ImplicitDocumentStart ∷ ss) = ⊥
+IsUnder (state.DocumentContent ∷ ss) = ⊥
+IsUnder (state.BlockNode ∷ ss) = ⊥
+IsUnder (state.IndentlessSequenceItem ∷ ss) = ⊥
+IsUnder (state.BlockMappingPart ∷ ss) = ⊥
+IsUnder (state.FlowSequenceFirstEntry ∷ ss) = ⊥
+IsUnder (state.FlowSequenceEntryMappingKey ∷ ss) = ⊥
+IsUnder (state.FlowMappingFirstKey ∷ ss) = ⊥
+IsUnder (state.FlowMappingPart m ∷ ss) = ⊥
 IsUnder (s ∷ ss) = Unit {0}
 
 -- what must stand under what is read
 abbrev pub IsFor : Goal → List State → Type 0
+IsFor at.done ss = IsGoing ss
 IsFor at.ended ss = IsBottom ss
 IsFor at.start ss = IsBottom ss
 IsFor at.documents ss = IsBottom ss

@@ -1,9 +1,10 @@
 -- One turn of the parser: it takes the next token or leaves it, and gives an event or none.
-use Rattle.std.specs.Prelude.{◌≡◌, List, [], ◌∷◌, ◌++◌, Option, Some, None}
+use Rattle.std.specs.Prelude.{◌≡◌, List, [], ◌∷◌, ◌++◌, true, false, Option, Some, None}
 use Rattle.defs_token.specs.Token.{Tok}
 use Rattle.defs_event.specs.Raw.{Raw}
 use Rattle.model_parser.specs.declared.state.State.{State}
 use Rattle.model_parser.specs.Goal.{Goal, Awaits}
+use Rattle.model_parser.specs.Place.{open_past, open_at, next_past, next_at, top, is_node, is_after, is_directive_next}
 use Rattle.model_parser.specs.Rest.{Rest, still_tokens, still_events, IsNested, IsFor}
 use Rattle.model_parser.specs.Stands.{IsNext}
 
@@ -31,17 +32,34 @@ pub record Takes (g : Goal) (ss : List State) (t : Tok) (e : Option Raw) (g' : G
   pub nested : IsNested ss → IsFor g ss → IsNested ss' × IsFor g' ss'
   pub comes : (x' : Awaits g') → Comes g ss (t ∷ []) e g' ss' x'
   pub goes : IsNested ss → IsFor g ss → (x : Awaits g) → Goes g ss t e g' ss' x
+  pub opened : open_past t (open_at g ss) ≡ open_at g' ss'
+  pub next : IsFor g ss → next_past t ≡ next_at g' ss'
 
 -- What is awaited here, where that token comes, goes on there after this event.
 abbrev pub Stays : (g : Goal) (ss : List State) → Option Tok → Option Raw → (g' : Goal) (ss' : List State) → Awaits g → Type 0
 Stays g ss p e g' ss' x = (r : Rest ss) → IsNext p (still_tokens g ss x r)
     → (x' : Awaits g') × (r' : Rest ss') × (still_tokens g' ss' x' r' ≡ still_tokens g ss x r) × (still_events g ss x r ≡ event_then e (still_events g' ss' x' r'))
 
+-- The token may come here.
+abbrev pub MayCome : (g : Goal) (ss : List State) → Option Tok → Type 0
+MayCome g ss None = ⊥
+MayCome g ss (Some t) = (x : Awaits g) × (r : Rest ss) × (ts : List Tok) × (still_tokens g ss x r ≡ t ∷ ts)
+
+-- What is read next there, where the token stays: a node just where one is read here; or none, since the token may come here without one,
+-- or is a directive where a document ends.
+pub data Settles (g : Goal) (ss : List State) (p : Option Tok) (g' : Goal) (ss' : List State) : Type 0 where
+  alike : next_at g ss ≡ next_at g' ss' → is_after (top g ss) ≡ false → Settles g ss p g' ss'
+  alike_after : next_at g ss ≡ next_at g' ss' → is_directive_next p ≡ false → Settles g ss p g' ss'
+  without_node : is_node (next_at g' ss') ≡ false → MayCome g ss p → Settles g ss p g' ss'
+  before_directive : is_after (top g' ss') ≡ true → is_directive_next p ≡ true → Settles g ss p g' ss'
+
 -- The token stays.
 pub record Leaves (g : Goal) (ss : List State) (p : Option Tok) (e : Option Raw) (g' : Goal) (ss' : List State) : Type 0 where
   pub nested : IsNested ss → IsFor g ss → IsNested ss' × IsFor g' ss'
   pub comes : (x' : Awaits g') → Comes g ss [] e g' ss' x'
   pub goes : IsNested ss → IsFor g ss → (x : Awaits g) → Stays g ss p e g' ss' x
+  pub opened : open_at g ss ≡ open_at g' ss'
+  pub settles : IsFor g ss → Settles g ss p g' ss'
 
 -- Nothing that is awaited begins with that token.
 abbrev pub Refuses : (g : Goal) (ss : List State) → Tok → Type 0

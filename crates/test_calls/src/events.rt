@@ -166,6 +166,56 @@ fn rest_words(alloc: Global, parser: &mut Parser<Chars<'_>>) -> Result<String, F
     Ok(lines)
 }
 
+// The events of a text, or those before its fault and the fault.
+fn all_words(alloc: Global, text: &str) -> Result<String, Fail> {
+    rest_words(alloc, &mut Parser::new_from_str(alloc, text))
+}
+
+// What stands before a refused token: nothing for a node that is awaited, and what is missing before the end or the next entry.
+const REFUSED: [Row; 5] = [
+    (
+        "an item of a block sequence is awaited",
+        "- ]",
+        "StreamStart\nDocumentStart\nSequenceStart(0, None)\nwhile parsing a node, did not find expected node content at byte 2 line 1 column 3\n",
+    ),
+    (
+        "a value without key is awaited in a flow mapping",
+        "{:]",
+        "StreamStart\nDocumentStart\nMappingStart(0, None)\nScalar(\"\", Plain, 0, None)\nwhile parsing a node, did not find expected node content at byte 2 line 1 column 3\n",
+    ),
+    (
+        "a value is missing in a flow mapping",
+        "{? a]",
+        "StreamStart\nDocumentStart\nMappingStart(0, None)\nScalar(\"a\", Plain, 0, None)\nScalar(\"\", Plain, 0, None)\nwhile parsing a flow mapping, did not find expected ',' or '}' at byte 4 line 1 column 5\n",
+    ),
+    (
+        "a sequence without indentation ends, and its value is missing",
+        "?\n- a\n]",
+        "StreamStart\nDocumentStart\nMappingStart(0, None)\nSequenceStart(0, None)\nScalar(\"a\", Plain, 0, None)\nSequenceEnd\nScalar(\"\", Plain, 0, None)\nwhile parsing a block mapping, did not find expected key at byte 6 line 3 column 1\n",
+    ),
+    (
+        "properties alone are a node",
+        "[&a }",
+        "StreamStart\nDocumentStart\nSequenceStart(0, None)\nScalar(\"\", Plain, 1, None)\nwhile parsing a flow sequence, expected ',' or ']' at byte 4 line 1 column 5\n",
+    ),
+];
+
+// Each text has the events and the fault of its row. All rows that fail are told.
+fn events_hold(rt: &(impl Abort + AllocGlobal), rows: &[Row]) -> Result<(), Fail> {
+    let mut report = Report::new(rt.alloc());
+    for (name, text, want) in rows {
+        let found = all_words(rt.alloc(), text)?;
+        report.compare(name, "pulled", found.as_str(), want)?;
+    }
+    assert!(rt; report.is_empty(), "{report}");
+    Ok(())
+}
+
+#[test]
+fn events_before_a_refused_token(rt: HostRuntime) -> Result<(), Fail> {
+    events_hold(&rt, &REFUSED)
+}
+
 // The events after the third, with which the setting is made another one; or the fault.
 fn with_late_setting(alloc: Global, keep_tags: bool) -> Result<String, Fail> {
     let mut parser = Parser::new_from_str(alloc, TWO_DOCUMENTS).keep_tags(!keep_tags);

@@ -46,7 +46,8 @@ use Rattle.yaml_parser.specs.At.{At, Stayed, Faulted, Carries, is_over}
 use Rattle.yaml_parser.proofs.Steps.{looked, taken_snoc, took, took_on, left, left_as, if_some_at}
 use Rattle.yaml_parser.proofs.Arms.{Skipped, no_positions, counts, faulted_as}
 use Rattle.yaml_parser.proofs.NodeArms.{unnamed_at, unnameable_first}
-use Rattle.yaml_parser.proofs.Ways.{goes_apart, directed_ways}
+use Rattle.yaml_parser.proofs.Ways.{apart_as, directed_ways}
+use Rattle.yaml_parser.specs.Apart.{StandsApart}
 use Rattle.yaml_parser.proofs.DirectiveLemmas.{named_alike, own_alike, version_ignored, version_snoc, tag_snoc, versions_append}
 
 -- ---- a document's start
@@ -210,12 +211,12 @@ handle_is_other e = cc
 -- Directives that are not allowed are refused with the last one.
 refused_directive : {T : Type 0} {p r : Reader T} {t : Token} {m : Position} (q : Problem) (read : List Directive) (d : Directive) {names : defs.Names} {given : List (Ev × Position)}
     → fits q (kind_of (directive_token d)) ≡ true → is_of_names q ≡ true → (q ≡ UndeclaredHandle → ⊥) → t.0 ≡ m → p.tokens.peeked ≡ Some t → Skips p.tokens t r.tokens → r.names.keeping ≡ p.names.keeping → tok_of t.1 ≡ directive_token d → ((more : List Directive) → are_allowed ((read ++ d ∷ []) ++ more) ≡ false)
-    → IsAfter read (taken_toks p.tokens) → ((before : List Tok) (last : Tok) → SpoilsDirectives before last → IsCause q names (events_of given) before last)
+    → IsAfter read (taken_toks p.tokens) → ((before : List Tok) (last : Tok) → SpoilsDirectives before last → IsCause q names (events_of given) before last) → ((b : At (at.directed read) p names given) → StandsApart q (taken_toks p.tokens) b.raw)
     → At (at.directed read) p names given → Faulted r given (stop.Own (fault.At q m))
-refused_directive {T} {p} {r} {t} {m} q read d {names} {given} fit of_names other mark here skips keep tok bad taken cause a =
+refused_directive {T} {p} {r} {t} {m} q read d {names} {given} fit of_names other mark here skips keep tok bad taken cause apart a =
     unnamed_at q (ap (λ u. fits q (kind_of u)) tok ∙ fit) of_names (inl (sym mark, λ e. absurd (other e))) here skips keep (subst (λ u. Takes (at.directed read) p.stack u None (at.directed (read ++ d ∷ [])) p.stack) (sym tok) (turn.directed_more p.stack read d))
     (λ x y. unnameable_first p.names.keeping.tags names (Raw.document_start ((read ++ d ∷ []) ++ x.0)) (perhaps_events x.1 (after_events x.2 (rest_events p.stack y))) (ap (λ b. if b then Some Ev.document_start else None) (bad x.0)))
-    (cause _ _ (record { earlier = taken.0; read = read; directive = d; before_are = taken.1; last_is = tok; allowed = a.pending; spoilt = ap are_allowed (sym (append-nil (read ++ d ∷ []))) ∙ bad [] })) (goes_apart q (directed_ways read)) a
+    (cause _ _ (record { earlier = taken.0; read = read; directive = d; before_are = taken.1; last_is = tok; allowed = a.pending; spoilt = ap are_allowed (sym (append-nil (read ++ d ∷ []))) ∙ bad [] })) apart a
 
 -- A second version is refused.
 pub version_refused : {T : Type 0} {p r : Reader T} {m : Position} {names : defs.Names} {given : List (Ev × Position)}
@@ -225,7 +226,7 @@ version_refused {T} {p} {r} {m} {names} {given} here mark skip d =
     let l = looked kind.VersionDirective p.tokens.peeked here in
     let v = version_text (tok_of l.0.1) l.2 in
     let x = skip l.0 l.1 in
-    refused_directive SecondVersion d.read (raw.version v.0 v.1) refl refl version_is_other (if_some_at (λ (t : Token). t.0 ≡ m) mark l.1) l.1 x.tokens (ap (λ n. n.keeping) x.names) v.2 (λ more. second_version d.read v.0 v.1 more d.version) d.taken (λ before last x. x) d.here
+    refused_directive SecondVersion d.read (raw.version v.0 v.1) refl refl version_is_other (if_some_at (λ (t : Token). t.0 ≡ m) mark l.1) l.1 x.tokens (ap (λ n. n.keeping) x.names) v.2 (λ more. second_version d.read v.0 v.1 more d.version) d.taken (λ before last x. x) (apart_as refl (directed_ways d.read)) d.here
 
 -- What declares a handle is taken.
 pub tag_directive_taken : {T : Type 0} {p : Reader T} (r : Reader T) {t : Token} (m : Position) {h x : List ℕ} {versioned : Bool} {names : defs.Names} {given : List (Ev × Position)} (res : Result (Unit {0}) Stop)
@@ -247,7 +248,7 @@ tag_directive_taken {T} {p} r {t} m {h} {x} {versioned} {names} {given} (Err (st
 tag_directive_taken {T} {p} r {t} m {h} {x} {versioned} {names} {given} (Err (stop.Own (fault.At q n))) mark here skips stack keep tok declares d =
     let k = declares p.names.keeping.tags names d.read (record { named = d.here.code; own = d.own }) in
     faulted_as r given (ap (λ y. stop.Own (fault.At y n)) k.1 ∙ ap (λ y. stop.Own (fault.At RepeatedHandle y)) k.2)
-    (refused_directive RepeatedHandle d.read (raw.tag h x) refl refl handle_is_other mark here skips keep tok (λ more. and_right (nat_le (versions ((d.read ++ raw.tag h x ∷ []) ++ more)) 1) (is_each_once (declared ((d.read ++ raw.tag h x ∷ []) ++ more))) (k.0 more)) d.taken (λ before last x. x) d.here)
+    (refused_directive RepeatedHandle d.read (raw.tag h x) refl refl handle_is_other mark here skips keep tok (λ more. and_right (nat_le (versions ((d.read ++ raw.tag h x ∷ []) ++ more)) 1) (is_each_once (declared ((d.read ++ raw.tag h x ∷ []) ++ more))) (k.0 more)) d.taken (λ before last x. x) (apart_as refl (directed_ways d.read)) d.here)
 tag_directive_taken {T} {p} r {t} m {h} {x} {versioned} {names} {given} (Err stop.Scan) mark here skips stack keep tok declares d = absurd (declares p.names.keeping.tags names d.read (record { named = d.here.code; own = d.own }))
 tag_directive_taken {T} {p} r {t} m {h} {x} {versioned} {names} {given} (Err stop.Ended) mark here skips stack keep tok declares d = absurd (declares p.names.keeping.tags names d.read (record { named = d.here.code; own = d.own }))
 

@@ -16,6 +16,7 @@ use Rattle.model_parser.specs.declared.state.State.{State}
 use Rattle.model_parser.specs.declared.state.State.TheVariants as state
 use Rattle.model_parser.specs.Goal as at
 use Rattle.model_parser.specs.Goal.{Goal, Awaits, goal_events, goal_tokens, part_content, part_node, last, another_pair}
+use Rattle.model_parser.proofs.Shortest.{shortest, ending}
 use Rattle.model_parser.specs.Rest.{Rest, rest_events, rest_tokens, goal_of, still_tokens, still_events}
 use Rattle.yaml_parser.specs.declared.reader.Reader.{Reader}
 use Rattle.defs_token.specs.Token as defs
@@ -25,7 +26,8 @@ use Rattle.yaml_scanner.specs.Scanned.{scanned}
 use Rattle.defs_token.specs.Toks.{toks}
 use Rattle.model_parser.specs.declared.kind.Kind.{Kind}
 use Rattle.model_parser.specs.Kinds.{kind_of}
-use Rattle.model_parser.specs.Stands.{IsNext as Begins1}
+use Rattle.model_parser.specs.Place.{other_next, next_after, next_at, top, is_after}
+use Rattle.model_parser.specs.Stands.{IsNext as Begins1, GoesOn, IsSettled, as_tokens, goes_on, at_directive}
 use Rattle.model_parser.specs.Turn.{Refuses}
 use Rattle.yaml_parser.specs.Kinds.{IsOfKind}
 use Rattle.yaml_parser.proofs.Steps.{map_snoc, looked, if_some_at}
@@ -34,58 +36,11 @@ use Rattle.yaml_parser.specs.Handed.{taken_toks, peeked_tok, before_next, shown_
 use Rattle.yaml_parser.specs.At.{At, Faulted, IsPending, may_follow_comma, names_by}
 use Rattle.yaml_parser.specs.Blames.{fits, is_of_names, IsCause}
 use Rattle.yaml_parser.proofs.Since.{since_append}
-use Rattle.yaml_parser.specs.Apart.{GoesApart}
+use Rattle.yaml_parser.specs.Apart.{StandsApart}
 use Rattle.yaml_parser.specs.Derived.{IsDerived}
 use Rattle.yaml_parser.specs.declared.tokens.Stop.TheVariants as stop
 use Rattle.yaml_tokens.specs.declared.problem.Problem.{Problem}
 use Rattle.yaml_tokens.specs.declared.problem.Fault.TheVariants as fault
-
-abbrev pub shortest : (g : Goal) → Awaits g
-shortest at.done = tt
-shortest at.ended = tt
-shortest at.start = others end_stream
-shortest at.documents = others end_stream
-shortest at.explicit = end_stream
-shortest (at.directed ds) = ([], no_node, unmarked end_stream)
-shortest at.content = (no_node, unmarked end_stream)
-shortest at.after = unmarked end_stream
-shortest (at.node context.Flow) = flow_content None (scalar Style.plain [])
-shortest (at.node context.Block) = block_content None (flow (scalar Style.plain []))
-shortest (at.node context.Part) = part_node (block_content None (flow (scalar Style.plain [])))
-shortest (at.after_anchor p a) = (None, None)
-shortest (at.after_tag p t) = (None, None)
-shortest (at.after_properties p (Some o)) = (None, tt)
-shortest (at.after_properties context.Flow None) = (Some (scalar Style.plain []), tt)
-shortest (at.after_properties context.Block None) = (Some (flow (scalar Style.plain [])), tt)
-shortest (at.after_properties context.Part None) = (Some (part_content (flow (scalar Style.plain []))), tt)
-shortest at.entries = end_entries
-shortest at.entry = (no_node, end_entries)
-shortest at.dashes = end_dashes
-shortest at.dashed = (no_node, end_dashes)
-shortest at.part = plain no_node
-shortest at.pairs = keyed end_pairs
-shortest at.key_pairs = end_pairs
-shortest at.after_key = no_value end_pairs
-shortest at.items = no_items
-shortest at.more_items = end_items
-shortest at.comma_items = last
-shortest at.item = (single (flow_content None (scalar Style.plain [])), end_items)
-shortest at.pair_key = (no_flow, no_flow_value, end_items)
-shortest at.pair_value = (no_flow_value, end_items)
-shortest at.pair_valued = (no_flow, end_items)
-shortest at.pair_end = end_items
-shortest at.flow_pairs = no_flow_pairs
-shortest at.more_flow_pairs = end_flow_pairs
-shortest at.comma_flow_pairs = another_pair (flow_keyless no_flow) end_flow_pairs
-shortest at.flow_pair = (flow_keyless no_flow, end_flow_pairs)
-shortest at.flow_key = (no_flow, no_flow_value, end_flow_pairs)
-shortest at.flow_after_key = (no_flow_value, end_flow_pairs)
-shortest at.flow_valued = (no_flow, end_flow_pairs)
-shortest at.flow_empty = end_flow_pairs
-
-abbrev pub ending : (ss : List State) → Rest ss
-ending [] = tt
-ending (s ∷ ss) = (shortest (goal_of s), ending ss)
 
 -- ---- it can be named
 
@@ -331,6 +286,31 @@ handed_with : {T : Type 0} {g : Goal} {p : Reader T} {t : Token} {names : Names}
     → p.tokens.peeked ≡ Some t → At g p names given → (scanned p.tokens.scanner).given ≡ all_shown p.tokens.taken.items ++ shown t ∷ []
 handed_with {T} {g} {p} here a = a.handed ∙ ap (λ o. all_shown p.tokens.taken.items ++ shown_list o) here
 
+-- No stream goes on with it.
+never : {T : Type 0} {g : Goal} {p : Reader T} {t : Token} {names : Names} {given : List (Ev × Position)}
+    → p.tokens.peeked ≡ Some t → Refuses g p.stack (tok_of t.1) → At g p names given
+    → (d : Documents) (ts : List Tok) → stream_tokens d ≡ taken_toks p.tokens ++ (tok_of t.1 ∷ ts) → ⊥
+never {T} {g} {p} {t} {names} {given} here turn a d ts h =
+    let b : Begins1 (peeked_tok p.tokens) (tok_of t.1 ∷ ts) = subst (λ o. Begins1 (option_map (λ (x : Token). tok_of x.1) o) (tok_of t.1 ∷ ts)) (sym here) refl in
+    let o = a.stands.exact d (tok_of t.1 ∷ ts) h b in
+    turn a.stands.nested a.stands.fits o.0 o.1 (subst (Begins1 (Some (tok_of t.1))) (sym o.2) refl)
+
+-- The tokens leave to come what is read here, unless it is a document's end.
+abbrev pub IsKnown : {T : Type 0} → Goal → Reader T → Type 0
+IsKnown g p = is_after (top g p.stack) ≡ false → next_after other_next (taken_toks p.tokens) ≡ next_at g p.stack
+
+-- So it is where the next token is refused.
+known : {T : Type 0} {g : Goal} {p : Reader T} {t : Token} {names : Names} {given : List (Ev × Position)}
+    → p.tokens.peeked ≡ Some t → Refuses g p.stack (tok_of t.1) → At g p names given → IsKnown g p
+known {T} {g} {p} {t} {names} {given} here turn a not_after = by a.stands.settled
+  where
+    by : IsSettled g p.stack (taken_toks p.tokens) (peeked_tok p.tokens) → next_after other_next (taken_toks p.tokens) ≡ next_at g p.stack
+    by (as_tokens h) = h
+    by (goes_on h c) =
+        let k : GoesOn (taken_toks p.tokens) (Some (tok_of t.1)) = subst (λ o. GoesOn (taken_toks p.tokens) (option_map (λ (x : Token). tok_of x.1) o)) here c in
+        absurd (never here turn a k.0 k.1 k.2)
+    by (at_directive h d) = absurd (both_ways (is_after (top g p.stack)) not_after h)
+
 -- No stream begins with the tokens up to it.
 cut : {T : Type 0} {g : Goal} {p : Reader T} {t : Token} {names : Names} {given : List (Ev × Position)}
     → p.tokens.peeked ≡ Some t → Refuses g p.stack (tok_of t.1) → At g p names given
@@ -338,9 +318,7 @@ cut : {T : Type 0} {g : Goal} {p : Reader T} {t : Token} {names : Names} {given 
 cut {T} {g} {p} {t} {names} {given} here turn a d ts has =
     let h : stream_tokens d ≡ taken_toks p.tokens ++ (tok_of t.1 ∷ ts) =
     has ∙ ap (λ xs. toks xs ++ ts) (handed_with here a) ∙ ap (λ xs. xs ++ ts) (map_snoc (λ (x : defs.Token). x.tok) (all_shown p.tokens.taken.items) (shown t)) ∙ append_assoc (taken_toks p.tokens) (tok_of t.1 ∷ []) ts in
-    let b : Begins1 (peeked_tok p.tokens) (tok_of t.1 ∷ ts) = subst (λ o. Begins1 (option_map (λ (x : Token). tok_of x.1) o) (tok_of t.1 ∷ ts)) (sym here) refl in
-    let o = a.stands.exact d (tok_of t.1 ∷ ts) h b in
-    turn a.stands.nested a.stands.fits o.0 o.1 (subst (Begins1 (Some (tok_of t.1))) (sym o.2) refl)
+    never here turn a d ts h
 
 -- the problem has no cause but that the grammar goes on with no such token
 abbrev pub HasNoCause : Problem → Type 0
@@ -350,7 +328,7 @@ HasNoCause q = (names : Names) (events : List Ev) (before : List Tok) (last : To
 pub refuses_for : {T : Type 0} {g : Goal} {p : Reader T} {k : Kind} {m : Position} {names : Names} {given : List (Ev × Position)} (q : Problem)
     → is_of_names q ≡ false → fits q k ≡ true → IfSome p.tokens.peeked (λ t. t.0 ≡ m) → IsOfKind k p.tokens.peeked → ((t : Tok) → kind_of t ≡ k → Refuses g p.stack t)
     → ((a : At g p names given) (t : Tok) → kind_of t ≡ k → IsCause q (names_by p.names.keeping a.raw) (events_of given) (taken_toks p.tokens) t)
-    → ((a : At g p names given) → (a.raw ≡ [] → ⊥) → GoesApart q (taken_toks p.tokens) a.raw) → At g p names given
+    → ((a : At g p names given) → (taken_toks p.tokens ≡ [] → ⊥) → IsKnown g p → StandsApart q (taken_toks p.tokens) a.raw) → At g p names given
     → Faulted p given (stop.Own (fault.At q m))
 refuses_for {T} {g} {p} {k} {m} {names} {given} q free fit mark o turn cause apart a =
     let l = looked k p.tokens.peeked o in
@@ -367,15 +345,16 @@ refuses_for {T} {g} {p} {k} {m} {names} {given} q free fit mark o turn cause apa
         problem = q;
         shown = refl;
         fits_it = ap (fits q) l.2 ∙ fit;
-        apart = apart a;
+        apart = λ more. apart a more (known l.1 no a);
         cause = cause a (tok_of t.1) l.2;
         stands = inl (sym (if_some_at (λ (x : Token). x.0 ≡ m) mark l.1), λ e. absurd (both_ways (is_of_names q) free (ap is_of_names e)));
         none = λ e. cut l.1 no a;
+        some = λ e. absurd (both_ways (is_of_names q) free e);
       };
     }
 
 -- the same where the grammar is the only cause
 pub refuses : {T : Type 0} {g : Goal} {p : Reader T} {k : Kind} {m : Position} {names : Names} {given : List (Ev × Position)} (q : Problem)
-    → is_of_names q ≡ false → fits q k ≡ true → IfSome p.tokens.peeked (λ t. t.0 ≡ m) → IsOfKind k p.tokens.peeked → ((t : Tok) → kind_of t ≡ k → Refuses g p.stack t) → HasNoCause q → ((a : At g p names given) → GoesApart q (taken_toks p.tokens) a.raw) → At g p names given
+    → is_of_names q ≡ false → fits q k ≡ true → IfSome p.tokens.peeked (λ t. t.0 ≡ m) → IsOfKind k p.tokens.peeked → ((t : Tok) → kind_of t ≡ k → Refuses g p.stack t) → HasNoCause q → ((a : At g p names given) → IsKnown g p → StandsApart q (taken_toks p.tokens) a.raw) → At g p names given
     → Faulted p given (stop.Own (fault.At q m))
 refuses q free fit mark o turn none apart a = refuses_for q free fit mark o turn (λ b t h. none _ _ _ t) (λ b h. apart b) a

@@ -23,8 +23,9 @@ use Rattle.model_parser.specs.declared.state.State.{State}
 use Rattle.model_parser.specs.declared.state.State.TheVariants as state
 use Rattle.model_parser.specs.Goal as at
 use Rattle.model_parser.specs.Goal.{Goal}
-use Rattle.model_parser.specs.Rest.{goal_of, still_events, IsBottom, IsUnder}
-use Rattle.model_parser.specs.Stands.{IsOnTrack}
+use Rattle.model_parser.specs.Rest.{goal_of, still_events, IsBottom, IsGoing}
+use Rattle.model_parser.specs.Place.{next_in, top, is_node, is_after}
+use Rattle.model_parser.specs.Stands.{IsOnTrack, IsSettled, as_tokens, goes_on, at_directive}
 use Rattle.yaml_parser.specs.declared.event.Event.{Event}
 use Rattle.yaml_parser.specs.declared.tokens.KeptStop.{KeptStop}
 use Rattle.yaml_parser.specs.declared.tokens.Stop.{Stop}
@@ -105,13 +106,46 @@ state_seen state.FlowMappingValue keep names = refl
 state_seen (state.FlowMappingPart m) keep names = refl
 state_seen state.FlowMappingEmptyValue keep names = refl
 
+-- What a state reads is read next.
+top_of : (s : State) (ss : List State) → top (goal_of s) ss ≡ goal_of s
+top_of state.StreamStart ss = refl
+top_of state.ImplicitDocumentStart ss = refl
+top_of state.DocumentStart ss = refl
+top_of state.DocumentContent ss = refl
+top_of state.DocumentEnd ss = refl
+top_of state.BlockNode ss = refl
+top_of state.BlockSequenceEntry ss = refl
+top_of state.IndentlessSequenceEntry ss = refl
+top_of state.IndentlessSequenceItem ss = refl
+top_of state.BlockMappingKey ss = refl
+top_of state.BlockMappingNextKey ss = refl
+top_of state.BlockMappingValue ss = refl
+top_of state.BlockMappingPart ss = refl
+top_of state.FlowSequenceFirstEntry ss = refl
+top_of state.FlowSequenceEntry ss = refl
+top_of state.FlowSequenceEntryMappingKey ss = refl
+top_of state.FlowSequenceEntryMappingValue ss = refl
+top_of state.FlowSequenceEntryMappingEnd ss = refl
+top_of state.FlowMappingFirstKey ss = refl
+top_of state.FlowMappingKey ss = refl
+top_of state.FlowMappingValue ss = refl
+top_of (state.FlowMappingPart m) ss = refl
+top_of state.FlowMappingEmptyValue ss = refl
+
 popped_stands : (s : State) (ss : List State) (taken : List Tok) (p : Option Tok) (given : List Raw) → IsOnTrack at.done (s ∷ ss) taken p given → IsOnTrack (goal_of s) ss taken p given
 popped_stands s ss taken p given h = record {
   nested = h.nested.1;
   fits = h.nested.0;
+  opened = h.opened;
+  settled = by h.settled;
   sound = λ x r. h.sound tt (x, r);
   exact = λ d ts e b. let o = h.exact d ts e b in (o.1.0, o.1.1, o.2, o.3);
 }
+  where
+    by : IsSettled at.done (s ∷ ss) taken p → IsSettled (goal_of s) ss taken p
+    by (as_tokens e) = as_tokens (e ∙ ap next_in (sym (top_of s ss)))
+    by (goes_on e c) = goes_on (ap (λ g. is_node (next_in g)) (top_of s ss) ∙ e) c
+    by (at_directive e d) = at_directive (ap is_after (top_of s ss) ∙ e) d
 
 popped : {T : Type 0} (p : Reader T) (s : State) (ss : List State) {names : Names} {given : List (Ev × Position)} → p.stack ≡ s ∷ ss → At at.done p names given → At (goal_of s) (record p { stack = ss }) names given
 popped {T} p s ss {names} {given} h a = record {
@@ -232,7 +266,7 @@ open_at {T} false p s ss h a = (refl, a)
 
 closed_at : {T : Type 0} (b : Bool) (p : Reader T) {names : Names} {es : List (Ev × Position)} → p.stack ≡ [] → At (goal_after b) p names es → b ≡ true
 closed_at {T} true p h a = refl
-closed_at {T} false p h a = absurd (subst IsUnder h a.stands.fits)
+closed_at {T} false p h a = absurd (subst IsGoing h a.stands.fits)
 
 -- ---- one call
 
@@ -287,6 +321,8 @@ begun {T} p stack peeked taken given ended code none = record {
     stands = subst (λ ss. IsOnTrack at.done ss (taken_toks p.tokens) (peeked_tok p.tokens) []) (sym stack) (subst (λ ts. IsOnTrack at.done (state.StreamStart ∷ []) (toks (all_shown ts)) (peeked_tok p.tokens) []) (sym taken) (record {
       nested = (tt, tt);
       fits = tt;
+      opened = refl;
+      settled = as_tokens refl;
       sound = λ x r. (r.0, refl, refl);
       exact = λ d ts e b. (tt, (d, tt), e, refl);
     }));

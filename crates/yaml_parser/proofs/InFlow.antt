@@ -29,7 +29,7 @@ use Rattle.yaml_parser.specs.At.{At, is_over, may_follow_comma, names_at}
 use Rattle.yaml_parser.proofs.Positions.{comma_more}
 use Rattle.yaml_parser.proofs.Steps.{looked, if_some_at}
 use Rattle.yaml_parser.proofs.Arms.{Skipped, gives_at}
-use Rattle.yaml_parser.proofs.Ends.{ending}
+use Rattle.model_parser.proofs.Shortest.{ending}
 
 -- ---- keys
 

@@ -1,3 +1,4 @@
+mod ApartRows
 pub mod Arms
 pub mod InFlow
 pub mod DirectiveLemmas

@@ -1,22 +1,26 @@
 -- The events that a parser gives are a beginning of nested events, so the stream's end comes in no document.
 use Rattle.std.proofs.Common.{◌≡◌, length, arith, List, [], ◌∷◌, ◌++◌, Option, Some, None, Bool, true, false, if◌then◌else◌, refl, sym, ap, ◌∙◌, subst}
 use Rattle.defs_text.specs.Position.{Position}
+use Rattle.defs_token.specs.Token.{Tok}
 use Rattle.defs_event.specs.Event.{Ev}
+use Rattle.defs_event.specs.Grammar.{Documents, marker, bare, directed, others, end_stream, explicit, documents_tokens, documents_events, stream_tokens, stream_events}
 use Rattle.defs_event.specs.Nested.{Open, in_stream, before_node, after_node, in_sequence, at_key, at_value, open_after, there_and, closes, is_nested, IsNested}
 use Rattle.defs_event.specs.Stream.{events_of}
 use Rattle.defs_event.proofs.NestedTest.{test_is_exact}
 use Rattle.defs_event.proofs.Shaped.{Shaped, named_shaped}
 use Rattle.defs_event.proofs.StreamNests.{shaped_nests}
 use Rattle.model_parser.specs.Goal.{Goal}
-use Rattle.model_parser.specs.Rest.{rest_events, still_events}
+use Rattle.model_parser.specs.Rest.{rest_tokens, rest_events, still_events}
 use Rattle.defs_event.specs.Names.{Names, no_names, named, names_after, resolved_event, are_allowed}
 use Rattle.defs_event.specs.Raw.{Raw, Directive}
 use Rattle.defs_event.proofs.NameLemmas.{both_some}
 use Rattle.model_parser.specs.Goal as at
 use Rattle.yaml_parser.specs.declared.reader.Reader.{Reader}
 use Rattle.yaml_parser.specs.At.{At}
+use Rattle.yaml_parser.specs.Handed.{taken_toks}
 use Rattle.yaml_parser.specs.Nests.{BeginsNested, opened, is_open}
-use Rattle.yaml_parser.proofs.Ends.{shortest, ending, completes, rest_nameable}
+use Rattle.yaml_parser.proofs.Ends.{completes, rest_nameable}
+use Rattle.model_parser.proofs.Shortest.{shortest, ending}
 use Rattle.yaml_parser.proofs.Resolved.{since_shaped}
 
 -- The shortest way to the end completes them.
@@ -153,6 +157,17 @@ never_starts : (es more : List Ev) (os : List Open) → closes (es ++ Ev.stream_
 never_starts [] more os h = cc
 never_starts (e ∷ es) more os h = closes_on (open_after e os) (es ++ Ev.stream_start ∷ more) (λ new i. never_starts es more new) h
 
+-- A stream in which no document begins has its start first and never again.
+starts_once : (d : Documents) (ts us : List Tok) (es : List Raw) → documents_events d [] ≡ Raw.stream_end ∷ es → documents_tokens d [] ≡ ts ++ Tok.stream_start ∷ us → ⊥
+starts_once (marker d) [] us es e h = cc
+starts_once (marker d) (t ∷ ts) us es e h = starts_once d ts us es e (let same : documents_tokens d [] ≡ ts ++ Tok.stream_start ∷ us = cc in same)
+starts_once (bare n a) ts us es e h = cc
+starts_once (directed d ds p a) ts us es e h = cc
+starts_once (others end_stream) [] us es e h = cc
+starts_once (others end_stream) (t ∷ []) us es e h = cc
+starts_once (others end_stream) (t ∷ u ∷ ts) us es e h = cc
+starts_once (others (explicit p a)) ts us es e h = cc
+
 -- Before the stream's start nothing was given.
 pub nothing_given : {T : Type 0} {p : Reader T} {names : Names} {given : List (Ev × Position)} → At at.start p names given → events_of given ≡ []
 nothing_given {T} {p} {names} {given} a =
@@ -171,3 +186,17 @@ nothing_read {T} {p} {names} {given} a = empty a.raw given a.count (nothing_give
     empty [] es l h = refl
     empty (r ∷ rs) [] l h = absurd (omega (arith, l))
     empty (r ∷ rs) (e ∷ es) l h = cc
+
+-- and nothing was taken.
+pub nothing_taken : {T : Type 0} {p : Reader T} {names : Names} {given : List (Ev × Position)} → At at.start p names given → taken_toks p.tokens ≡ []
+nothing_taken {T} {p} a =
+    let d = a.stands.sound (others end_stream) (ending p.stack) in
+    by (taken_toks p.tokens) d.0 (rest_tokens p.stack (ending p.stack)) (rest_events p.stack (ending p.stack)) d.1
+    (d.2 ∙ ap (λ es. es ++ Raw.stream_start ∷ Raw.stream_end ∷ rest_events p.stack (ending p.stack)) (nothing_read a))
+  where
+    by : (taken : List Tok) (d : Documents) (us : List Tok) (es : List Raw) → stream_tokens d ≡ taken ++ Tok.stream_start ∷ Tok.stream_end ∷ us → stream_events d ≡ Raw.stream_start ∷ Raw.stream_end ∷ es → taken ≡ []
+    by [] d us es h e = refl
+    by (t ∷ ts) d us es h e =
+        let tokens : documents_tokens d [] ≡ ts ++ Tok.stream_start ∷ Tok.stream_end ∷ us = cc in
+        let events : documents_events d [] ≡ Raw.stream_end ∷ es = cc in
+        absurd (starts_once d ts (Tok.stream_end ∷ us) es events tokens)

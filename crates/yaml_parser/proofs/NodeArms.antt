@@ -32,7 +32,7 @@ use Rattle.model_parser.specs.Goal.{Goal, Awaits, goal_tokens, ContentAt, part_n
 use Rattle.model_parser.proofs.Nodes as turn
 use Rattle.model_parser.specs.declared.kind.Kind.TheVariants as kind
 use Rattle.yaml_parser.specs.Resolves.{Resolves}
-use Rattle.model_parser.specs.Rest.{Rest, rest_tokens, rest_events, still_events}
+use Rattle.model_parser.specs.Rest.{Rest, rest_tokens, rest_events, still_tokens, still_events}
 use Rattle.model_parser.specs.Stands.{IsNext as Starts}
 use Rattle.model_parser.specs.Turn.{Takes, Leaves, event_then}
 use Rattle.model_parser.proofs.First.{tok_is}
@@ -55,10 +55,11 @@ use Rattle.yaml_parser.specs.At.{At, Answers, Faulted, named_by, names_by, goal_
 use Rattle.yaml_parser.proofs.Positions.{ends_mapping, own_place}
 use Rattle.yaml_parser.proofs.Steps.{looked, took, took_on, left, Named, breaks, map_snoc, if_some_at}
 use Rattle.yaml_parser.proofs.Arms.{Skipped, stays, stay, not_as, faulted_as}
-use Rattle.yaml_parser.proofs.Ends.{at_derived, ending}
+use Rattle.yaml_parser.proofs.Ends.{at_derived}
+use Rattle.model_parser.proofs.Shortest.{shortest, ending}
 use Rattle.yaml_parser.proofs.Since.{since_stops}
-use Rattle.yaml_parser.proofs.Ways.{goes_apart, node_ways, anchored_ways}
-use Rattle.yaml_parser.specs.Apart.{GoesApart}
+use Rattle.yaml_parser.proofs.Ways.{apart_as, node_apart, node_ways, anchored_ways}
+use Rattle.yaml_parser.specs.Apart.{StandsApart}
 
 -- ---- an event with properties
 
@@ -166,7 +167,7 @@ pub unnamed_at : {T : Type 0} {g g' : Goal} {p r : Reader T} {t : Token} {m : Po
     → fits q (kind_of (tok_of t.1)) ≡ true → is_of_names q ≡ true → StandsAt q m (all_shown p.tokens.taken.items) (shown t)
     → p.tokens.peeked ≡ Some t → Skips p.tokens t r.tokens → r.names.keeping ≡ p.names.keeping → Takes g p.stack (tok_of t.1) e g' ss
     → ((x : Awaits g') (y : Rest ss) → Unnameable p.names.keeping.tags names (event_then e (still_events g' ss x y)))
-    → IsCause q names (events_of given) (taken_toks p.tokens) (tok_of t.1) → ((a : At g p names given) → GoesApart q (taken_toks p.tokens) a.raw)
+    → IsCause q names (events_of given) (taken_toks p.tokens) (tok_of t.1) → ((a : At g p names given) → StandsApart q (taken_toks p.tokens) a.raw)
     → At g p names given → Faulted r given (stop.Own (fault.At q m))
 unnamed_at {T} {g} {g'} {p} {r} {t} {m} {ss} {e} {names} {given} q fit of_names stands here skips keep turn bad cause apart a =
     let handed : (scanned r.tokens.scanner).given ≡ all_shown p.tokens.taken.items ++ shown t ∷ [] =
@@ -197,6 +198,15 @@ unnamed_at {T} {g} {g'} {p} {r} {t} {m} {ss} {e} {names} {given} q fit of_names 
         cause = subst (λ z. IsCause q z (events_of given) (taken_toks p.tokens) (tok_of t.1)) (sym (ap (λ k. names_by k a.raw) keep ∙ a.names_are)) cause;
         stands = stands;
         none = λ e. absurd (both_ways (is_of_names q) e of_names);
+        some = λ e.
+            let b = turn.comes (shortest g') (ending ss) in
+            let d = a.stands.sound b.0 b.1 in
+            let rest = still_tokens g' ss (shortest g') (ending ss) in (
+              d.0,
+              rest,
+              d.1 ∙ ap (λ xs. taken_toks p.tokens ++ xs) b.2 ∙ sym (append_assoc (taken_toks p.tokens) (tok_of t.1 ∷ []) rest)
+                  ∙ sym (ap (λ xs. toks xs ++ rest) handed ∙ ap (λ xs. xs ++ rest) (map_snoc (λ (x : defs.Token). x.tok) (all_shown p.tokens.taken.items) (shown t))),
+            );
       };
     }
 
@@ -286,7 +296,7 @@ pub alias_unknown : {T : Type 0} {p r : Reader T} {t : Token} {m : Position} {w 
     → p.tokens.peeked ≡ Some t → t.0 ≡ m → Skips p.tokens t r.tokens → r.names ≡ p.names → tok_of t.1 ≡ Tok.alias x → under_name x names.anchors ≡ None → At (at.node w) p names given → Faulted r given (stop.Own (fault.At UnknownAnchor m))
 alias_unknown {T} {p} {r} {t} {m} {w} {x} {names} {given} here mark skips same tok missing a =
     unnamed_at UnknownAnchor (ap (λ u. fits UnknownAnchor (kind_of u)) tok) refl (inl (sym mark, λ e. absurd (unknown_is_other e))) here skips (ap (λ z. z.keeping) same) (subst (λ u. Takes (at.node w) p.stack u (Some (Raw.alias x)) at.done p.stack) (sym tok) (turn.node_alias w p.stack x))
-    (λ y z. unnameable_first p.names.keeping.tags names (Raw.alias x) (still_events at.done p.stack y z) (ap (option_map Ev.alias) missing)) (subst (HasUnknownAnchor names) (sym tok) missing) (goes_apart UnknownAnchor (node_ways w)) a
+    (λ y z. unnameable_first p.names.keeping.tags names (Raw.alias x) (still_events at.done p.stack y z) (ap (option_map Ev.alias) missing)) (subst (HasUnknownAnchor names) (sym tok) missing) node_apart a
 
 pub anchor_taken : {T : Type 0} {p r : Reader T} {t : Token} {w : positions.NodeContext} {x : List ℕ} {names : Names} {given : List (Ev × Position)}
     → p.tokens.peeked ≡ Some t → Skips p.tokens t r.tokens → r.stack ≡ p.stack → r.names ≡ p.names → tok_of t.1 ≡ Tok.anchor x → At (at.node w) p names given → At (at.after_anchor w x) r names given
@@ -368,14 +378,14 @@ pub tag_unknown : {T : Type 0} {p r : Reader T} {t : Token} {m : Position} {w : 
 tag_unknown {T} {p} {r} {t} {m} {w} {x} {names} {given} here mark skips same tok missing a =
     unnamed_at UndeclaredHandle (ap (λ u. fits UndeclaredHandle (kind_of u)) tok) refl (inl (sym mark, λ e q before. no_anchor_before w a before)) here skips (ap (λ z. z.keeping) same) (subst (λ z. Takes (at.node w) p.stack z None (at.after_tag w x) p.stack) (sym tok) (turn.node_tag w p.stack x))
     (λ y z. content_unnameable p.names.keeping.tags names w (Some (tag_and x y.0)) y.1 (rest_events p.stack z) (ap (perhaps_resolved names.handles) (tag_and_tag x y.0) ∙ ap (option_map Some) missing))
-    (subst (HasUndeclaredHandle names) (sym tok) (no_prefix x (prefix_of names.handles x.handle) missing)) (goes_apart UndeclaredHandle (node_ways w)) a
+    (subst (HasUndeclaredHandle names) (sym tok) (no_prefix x (prefix_of names.handles x.handle) missing)) (apart_as refl (node_ways w)) a
 
 pub tag_unknown_after : {T : Type 0} {p r : Reader T} {t : Token} {m : Position} {w : positions.NodeContext} {v : List ℕ} {x : event.Tag} {names : Names} {given : List (Ev × Position)}
     → p.tokens.peeked ≡ Some t → EndsInAnchor (all_shown p.tokens.taken.items) m → Skips p.tokens t r.tokens → r.names ≡ p.names → tok_of t.1 ≡ written.tag_token x → resolved names.handles x ≡ None → At (at.after_anchor w v) p names given → Faulted r given (stop.Own (fault.At UndeclaredHandle m))
 tag_unknown_after {T} {p} {r} {t} {m} {w} {v} {x} {names} {given} here anchored skips same tok missing a =
     unnamed_at UndeclaredHandle (ap (λ u. fits UndeclaredHandle (kind_of u)) tok) refl (inr (refl, anchored)) here skips (ap (λ z. z.keeping) same) (subst (λ z. Takes (at.after_anchor w v) p.stack z None (at.after_properties w (Some (written.anchored_tagged v x))) p.stack) (sym tok) (turn.anchor_tag w p.stack v x))
     (λ y z. content_unnameable p.names.keeping.tags names w (Some (written.anchored_tagged v x)) y.0 (rest_events p.stack z) (ap (option_map Some) missing))
-    (subst (HasUndeclaredHandle names) (sym tok) (no_prefix x (prefix_of names.handles x.handle) missing)) (goes_apart UndeclaredHandle (anchored_ways w v)) a
+    (subst (HasUndeclaredHandle names) (sym tok) (no_prefix x (prefix_of names.handles x.handle) missing)) (apart_as refl (anchored_ways w v)) a
 
 -- An anchor was taken, and then a token was looked at.
 pub anchor_before : {T : Type 0} {p q : Tokens T} (r : Tokens T) {t : Token} {m : Position} → Skips p t q → r.taken ≡ q.taken → kind_of (tok_of t.1) ≡ kind.Anchor → t.0 ≡ m → EndsInAnchor (all_shown r.taken.items) m

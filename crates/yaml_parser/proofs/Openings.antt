@@ -31,7 +31,8 @@ use Rattle.yaml_parser.specs.Handed.{taken_toks, peeked_tok, shown_list, IsHande
 use Rattle.yaml_parser.specs.Kinds.{stop_of}
 use Rattle.yaml_parser.specs.At.{At, Faulted, Fails, is_over, is_done, is_idle}
 use Rattle.yaml_parser.proofs.Steps.{look_peeked, begins_peeked}
-use Rattle.yaml_parser.proofs.Ends.{ending, at_derived}
+use Rattle.yaml_parser.proofs.Ends.{at_derived}
+use Rattle.model_parser.proofs.Shortest.{ending}
 use Rattle.yaml_parser.proofs.Ways.{longer}
 
 abbrev first : List Raw → Option Raw

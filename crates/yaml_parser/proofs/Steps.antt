@@ -18,7 +18,7 @@ use Rattle.model_parser.specs.declared.kind.Kind.{Kind}
 use Rattle.model_parser.specs.declared.state.State.{State}
 use Rattle.model_parser.specs.Kinds.{kind_of}
 use Rattle.model_parser.specs.Goal.{Goal}
-use Rattle.model_parser.specs.Stands.{IsOnTrack, IsNext}
+use Rattle.model_parser.specs.Stands.{IsOnTrack, IsNext, IsSettled, as_tokens, goes_on, at_directive}
 use Rattle.model_parser.specs.Turn.{Takes, Leaves}
 use Rattle.model_parser.proofs.Carry.{stands_take, stands_leave}
 use Rattle.yaml_parser.specs.declared.names.Keeping.{Keeping}
@@ -49,7 +49,12 @@ looked k None h = absurd h
 looked k (Some t) h = (t, refl, h)
 
 stands_look : (g : Goal) (ss : List State) (taken : List Tok) (o : Option Tok) (given : List Raw) → IsOnTrack g ss taken None given → IsOnTrack g ss taken o given
-stands_look g ss taken o given s = record { nested = s.nested; fits = s.fits; sound = s.sound; exact = λ d ts h u. s.exact d ts h tt }
+stands_look g ss taken o given s = record { nested = s.nested; fits = s.fits; opened = s.opened; settled = by s.settled; sound = s.sound; exact = λ d ts h u. s.exact d ts h tt }
+  where
+    by : IsSettled g ss taken None → IsSettled g ss taken o
+    by (as_tokens h) = as_tokens h
+    by (goes_on h c) = absurd c
+    by (at_directive h d) = cc
 
 skipped_handed : {T : Type 0} {p r : Tokens T} {t : Token} → p.peeked ≡ Some t → Skips p t r → IsHanded p → IsHanded r
 skipped_handed {T} {p} {r} {t} here s h =

@@ -17,7 +17,7 @@ use Rattle.model_parser.specs.declared.kind.Kind.{Kind}
 use Rattle.model_parser.specs.declared.kind.Kind.TheVariants as kind
 use Rattle.model_parser.specs.declared.context.NodeContext.TheVariants as context
 use Rattle.model_parser.specs.Kinds.{kind_of, is_directive, begins_content, ends_item, ends_flow_pair}
-use Rattle.yaml_parser.specs.Apart.{GoesApart}
+use Rattle.yaml_parser.specs.Apart.{StandsApart}
 use Rattle.yaml_parser.specs.Derived.{IsDerived, NoneIsNamed}
 use Rattle.yaml_parser.specs.Nests.{is_open}
 use Rattle.yaml_parser.specs.Settings.{names_since}
@@ -119,9 +119,11 @@ pub record Blames (f : ErrorReport) (settings : List Bool) (keep_tags : Bool) (t
   pub cause : IsCause problem (names_since settings keep_tags no_names raw) (events_of events) (toks before) last.tok
   pub stands : StandsAt problem f.position before last
   -- But at the stream's start, the events are those that the tokens before make certain.
-  pub apart : (raw ≡ [] → ⊥) → GoesApart problem (toks before) raw
+  pub apart : (toks before ≡ [] → ⊥) → StandsApart problem (toks before) raw
   -- But for a problem of names, the token grammar has no stream that begins so, whatever names mean.
   pub none : is_of_names problem ≡ false → (d : Documents) (ts : List Tok) → stream_tokens d ≡ toks tokens ++ ts → ⊥
+  -- For one of names, it has such a stream.
+  pub some : is_of_names problem ≡ true → (d : Documents) × (ts : List Tok) × (stream_tokens d ≡ toks tokens ++ ts)
 
 -- Memory was refused.
 pub record WantsMemory (f : ErrorReport) : Type 0 where

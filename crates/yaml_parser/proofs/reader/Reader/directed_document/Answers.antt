@@ -21,4 +21,4 @@ pub returns-in_default-clause-answers : goal.returns-in_default-clause-answers
 returns-in_default-clause-answers g c = λ names given h.
     let d = c.in_ok-next.ensures.at names given (directives_begin c.args.kind c.requires.looks c.requires.directive refl refl c.start_document.ensures.keep c.start_document.ensures.named c.start_document.ensures.own h) in
     refuses_for DocumentStartToken refl refl c.mark.ensures c.in_ok-next.ensures.peeked.0 (λ t e. turn.directed_refuses _ d.0 t (not_as c.in_ok-next.ensures.peeked.1 e) (not_as c.in_ok-next.ensures.peeked.2 e) (not_as c.in_default.not-DocumentStart e))
-    (λ a t e. (directed_outside a, λ same. absurd (not_as c.in_default.not-DocumentStart e (ap kind_of same)))) (λ a no. goes_apart DocumentStartToken (directed_ways d.0) a) d.1
+    (λ a t e. (directed_outside a, λ same. absurd (not_as c.in_default.not-DocumentStart e (ap kind_of same)))) (λ a no. goes_apart (directed_ways d.0) (λ ss f. (refl, refl)) a) d.1

@@ -1,6 +1,5 @@
-use Rattle.std.proofs.Common.{◌≡◌, refl, false}
-use Rattle.model_parser.specs.declared.context.NodeContext.TheVariants as context
-use Rattle.model_parser.specs.Kinds.{begins_node, ends_document}
+use Rattle.std.proofs.Common.{◌≡◌, refl, true}
+use Rattle.model_parser.specs.Kinds.{ends_document, ends_content}
 use Rattle.model_parser.specs.Goal as at
 use Rattle.model_parser.proofs.First as first
 use Rattle.model_parser.proofs.Document as turn
@@ -11,7 +10,7 @@ pub returns-in_err-next-clause-answers : goal.returns-in_err-next-clause-answers
 returns-in_err-next-clause-answers g c = λ names given h. answers_err c.peek.new.self given c.from_residual.result _ c.from_residual.ensures.1 (c.in_err-next.ensures.err at.content refl names given h)
 
 pub returns-in-VersionDirective-clause-answers : goal.returns-in-VersionDirective-clause-answers
-returns-in-VersionDirective-clause-answers g c = λ names given h. answers_written c.push.new.self given c.nothing_written.result c.nothing_written.ensures (leaves _ c.in_ok-next.ensures.peeked (stay_push stay c.in_ok-push.ensures.stayed) (λ t e. turn.content_empty _ t (as_kind (begins_node context.Block) (one_of_five (λ k. begins_node context.Block k ≡ false) refl refl refl refl refl c.in-VersionDirective.is) e)) (plain refl refl refl refl) refl (c.in_ok-next.ensures.at at.content refl names given h))
+returns-in-VersionDirective-clause-answers g c = λ names given h. answers_written c.push.new.self given c.nothing_written.result c.nothing_written.ensures (leaves _ c.in_ok-next.ensures.peeked (stay_push stay c.in_ok-push.ensures.stayed) (λ t e. turn.content_empty _ t (as_kind ends_content (one_of_five (λ k. ends_content k ≡ true) refl refl refl refl refl c.in-VersionDirective.is) e)) (plain refl refl refl refl) refl (c.in_ok-next.ensures.at at.content refl names given h))
 
 pub returns-in_default-clause-answers : goal.returns-in_default-clause-answers
 returns-in_default-clause-answers g c = λ names given h. c.node.ensures.answers names given (stays c.in_ok-next.ensures.peeked (stay_push stay c.in_ok-push.ensures.stayed) (λ t e. turn.content_node _ t (as_kind ends_document (first.not_document _ c.in_default.not-DocumentStart c.in_default.not-DocumentEnd c.in_default.not-StreamEnd) e)) refl tt refl (c.in_ok-next.ensures.at at.content refl names given h))

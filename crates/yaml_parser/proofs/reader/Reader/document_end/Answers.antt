@@ -1,10 +1,11 @@
 use Rattle.std.proofs.Common.{◌≡◌, refl, false, true}
-use Rattle.model_parser.specs.Kinds.{ends_document}
+use Rattle.model_parser.specs.Kinds.{ends_document, is_directive}
 use Rattle.model_parser.specs.Goal as at
 use Rattle.model_parser.proofs.Document as turn
 use Rattle.yaml_parser.proofs.Arms.{gives, leaves, plain, stay, stay_push, push_after, answers_err, either, as_kind, not_as}
 use Rattle.yaml_parser.proofs.Ends.{refuses}
 use Rattle.yaml_parser.proofs.Ways.{after_goes_apart}
+use Rattle.yaml_parser.proofs.DocumentArms.{not_directive}
 use Rattle.yaml_parser.specs.Blames.{fits}
 use Rattle.yaml_tokens.specs.declared.problem.Problem.TheVariants.{DirectiveWithoutDocumentEnd}
 use Rattle.yaml_parser.proofs.reader.Reader.document_end.Goals as goal
@@ -19,4 +20,4 @@ pub returns-in-VersionDirective-clause-answers : goal.returns-in-VersionDirectiv
 returns-in-VersionDirective-clause-answers g c = λ names given h. refuses DirectiveWithoutDocumentEnd refl (either (λ k. fits DirectiveWithoutDocumentEnd k ≡ true) refl refl c.in-VersionDirective.is) c.mark.ensures c.in_ok-next.ensures.peeked (λ t e. turn.after_refuses _ t (as_kind ends_document (either (λ k. ends_document k ≡ false) refl refl c.in-VersionDirective.is) e)) (λ _ _ _ _. tt) after_goes_apart (c.in_ok-next.ensures.at at.after refl names given h)
 
 pub returns-in_ok-push-in_default-clause-answers : goal.returns-in_ok-push-in_default-clause-answers
-returns-in_ok-push-in_default-clause-answers g c = λ names given h. leaves _ c.in_ok-next.ensures.peeked (stay_push stay c.in_ok-push-in_default.ensures.stayed) (λ t e. turn.after_unmarked _ t (not_as c.in_default.not-DocumentEnd e)) (plain refl refl refl refl) refl (c.in_ok-next.ensures.at at.after refl names given h)
+returns-in_ok-push-in_default-clause-answers g c = λ names given h. leaves _ c.in_ok-next.ensures.peeked (stay_push stay c.in_ok-push-in_default.ensures.stayed) (λ t e. turn.after_unmarked _ t (not_as c.in_default.not-DocumentEnd e) (as_kind is_directive (not_directive _ c.in_default.not-VersionDirective c.in_default.not-TagDirective) e)) (plain refl refl refl refl) refl (c.in_ok-next.ensures.at at.after refl names given h)

@@ -19,4 +19,4 @@ pub returns-in-FlowEntry-clause-answers : goal.returns-in-FlowEntry-clause-answe
 returns-in-FlowEntry-clause-answers g c = λ names given h. c.flow_mapping_next.ensures.answers (comma_skipped c.in_ok-next.ensures.peeked c.in-FlowEntry.is c.skip-comma.ensures.mark c.skip-comma.ensures.took) names given (goes c.in_ok-next.ensures.peeked c.in-FlowEntry.is refl c.skip-comma.ensures.took (turn.more_flow_comma _) refl tt refl refl (c.in_ok-next.ensures.at at.more_flow_pairs refl names given h))
 
 pub returns-in_default-clause-answers : goal.returns-in_default-clause-answers
-returns-in_default-clause-answers g c = λ names given h. refuses FlowMappingEntry refl (no_flow_pair _ c.in_default.not-FlowEntry c.in_default.not-FlowMappingEnd) c.mark.ensures c.in_ok-next.ensures.peeked (λ t e. turn.more_flow_refuses _ t (not_as c.in_default.not-FlowMappingEnd e) (not_as c.in_default.not-FlowEntry e)) (λ _ _ _ _. tt) (goes_apart FlowMappingEntry more_flow_pairs_ways) (c.in_ok-next.ensures.at at.more_flow_pairs refl names given h)
+returns-in_default-clause-answers g c = λ names given h. refuses FlowMappingEntry refl (no_flow_pair _ c.in_default.not-FlowEntry c.in_default.not-FlowMappingEnd) c.mark.ensures c.in_ok-next.ensures.peeked (λ t e. turn.more_flow_refuses _ t (not_as c.in_default.not-FlowMappingEnd e) (not_as c.in_default.not-FlowEntry e)) (λ _ _ _ _. tt) (goes_apart more_flow_pairs_ways (λ ss f. (refl, refl))) (c.in_ok-next.ensures.at at.more_flow_pairs refl names given h)

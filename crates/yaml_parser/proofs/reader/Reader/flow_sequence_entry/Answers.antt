@@ -19,4 +19,4 @@ pub returns-in-FlowEntry-clause-answers : goal.returns-in-FlowEntry-clause-answe
 returns-in-FlowEntry-clause-answers g c = λ names given h. c.flow_sequence_next.ensures.answers names given (goes c.in_ok-next.ensures.peeked c.in-FlowEntry.is refl c.skip.ensures.took (turn.more_items_comma _) refl tt refl refl (c.in_ok-next.ensures.at at.more_items refl names given h))
 
 pub returns-in_default-clause-answers : goal.returns-in_default-clause-answers
-returns-in_default-clause-answers g c = λ names given h. refuses FlowSequenceEntry refl (no_item _ c.in_default.not-FlowEntry c.in_default.not-FlowSequenceEnd) c.mark.ensures c.in_ok-next.ensures.peeked (λ t e. turn.more_items_refuses _ t (not_as c.in_default.not-FlowSequenceEnd e) (not_as c.in_default.not-FlowEntry e)) (λ _ _ _ _. tt) (goes_apart FlowSequenceEntry more_items_ways) (c.in_ok-next.ensures.at at.more_items refl names given h)
+returns-in_default-clause-answers g c = λ names given h. refuses FlowSequenceEntry refl (no_item _ c.in_default.not-FlowEntry c.in_default.not-FlowSequenceEnd) c.mark.ensures c.in_ok-next.ensures.peeked (λ t e. turn.more_items_refuses _ t (not_as c.in_default.not-FlowSequenceEnd e) (not_as c.in_default.not-FlowEntry e)) (λ _ _ _ _. tt) (goes_apart more_items_ways (λ ss f. (refl, refl))) (c.in_ok-next.ensures.at at.more_items refl names given h)

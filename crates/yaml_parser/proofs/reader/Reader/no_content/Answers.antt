@@ -16,4 +16,4 @@ pub returns-in_ok-anchor-in-Some-clause-answers : goal.returns-in_ok-anchor-in-S
 returns-in_ok-anchor-in-Some-clause-answers g c = λ o names given has h. answers_written c.registered.new.self given (c.empty_with.result, c.mark-mark.result) (ap (λ v. (v, c.mark-mark.result)) c.empty_with.ensures) (properties_left _ o c.requires.looks (λ o' t e. turn.properties_only _ o' t (as_kind (begins_content context.Flow) c.requires.none e)) c.in_ok-anchor-in-Some.ensures.registers (subst (Has names o) c.in-Some.is has) h)
 
 pub returns-in-None-clause-answers : goal.returns-in-None-clause-answers
-returns-in-None-clause-answers g c = λ o names given has h. nothing_there o (subst (Has names o) c.in-None.is has) (λ e. refuses NodeContent refl (ap not c.requires.none) c.mark-mark.ensures c.requires.looks (λ t k. turn.nothing_refuses _ t (as_kind (begins_content context.Flow) c.requires.none k)) (λ _ _ _ _. tt) (goes_apart NodeContent content_ways) (subst (λ x. At (at.after_properties context.Flow x) c.args.self.now names given) e h))
+returns-in-None-clause-answers g c = λ o names given has h. nothing_there o (subst (Has names o) c.in-None.is has) (λ e. refuses NodeContent refl (ap not c.requires.none) c.mark-mark.ensures c.requires.looks (λ t k. turn.nothing_refuses _ t (as_kind (begins_content context.Flow) c.requires.none k)) (λ _ _ _ _. tt) (goes_apart content_ways (λ ss f. (refl, refl))) (subst (λ x. At (at.after_properties context.Flow x) c.args.self.now names given) e h))

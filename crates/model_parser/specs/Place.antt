@@ -1,0 +1,142 @@
+-- What stands before a token: the collections that are open, and whether a node may begin next.
+use Rattle.std.specs.Prelude.{List, [], ◌∷◌, Bool, true, false, Option, Some, None}
+use Rattle.defs_token.specs.Token.{Tok}
+use Rattle.model_parser.specs.declared.state.State.{State}
+use Rattle.model_parser.specs.Kinds.{kind_of, is_directive}
+use Rattle.model_parser.specs.Goal as at
+use Rattle.model_parser.specs.Goal.{Goal}
+use Rattle.model_parser.specs.Rest.{goal_of}
+
+-- ---- after tokens
+
+-- a collection that is open, by the token that began it
+pub data Collection : Type 0 where
+  block_sequence : Collection
+  block_mapping : Collection
+  flow_sequence : Collection
+  flow_mapping : Collection
+
+abbrev pub without_innermost : List Collection → List Collection
+without_innermost [] = []
+without_innermost (c ∷ cs) = cs
+
+abbrev pub open_past : Tok → List Collection → List Collection
+open_past Tok.block_sequence_start cs = block_sequence ∷ cs
+open_past Tok.block_mapping_start cs = block_mapping ∷ cs
+open_past Tok.flow_sequence_start cs = flow_sequence ∷ cs
+open_past Tok.flow_mapping_start cs = flow_mapping ∷ cs
+open_past Tok.block_end cs = without_innermost cs
+open_past Tok.flow_sequence_end cs = without_innermost cs
+open_past Tok.flow_mapping_end cs = without_innermost cs
+open_past _ cs = cs
+
+-- the collections that are open after these tokens, the innermost first
+abbrev pub open_after : List Collection → List Tok → List Collection
+open_after cs [] = cs
+open_after cs (t ∷ ts) = open_after (open_past t cs) ts
+
+-- what a token leaves to come
+pub data Next : Type 0 where
+  -- a node may begin: after the stream's start, `...`, `---`, `-`, `?`, `:`, a comma, `[` or `{`
+  node_next : Next
+  -- more directives, or `---`
+  directive_next : Next
+  other_next : Next
+
+abbrev pub next_past : Tok → Next
+next_past Tok.stream_start = node_next
+next_past Tok.document_end = node_next
+next_past Tok.document_start = node_next
+next_past Tok.block_entry = node_next
+next_past Tok.key = node_next
+next_past Tok.value = node_next
+next_past Tok.flow_entry = node_next
+next_past Tok.flow_sequence_start = node_next
+next_past Tok.flow_mapping_start = node_next
+next_past (Tok.version_directive major minor) = directive_next
+next_past (Tok.tag_directive handle prefix) = directive_next
+next_past _ = other_next
+
+-- what the last of these tokens leaves to come
+abbrev pub next_after : Next → List Tok → Next
+next_after n [] = n
+next_after n (t ∷ ts) = next_after (next_past t) ts
+
+-- ---- where a parser stands
+
+-- the collections that are open where this is read, with these under it
+abbrev pub open_in : Goal → List Collection → List Collection
+open_in at.entries cs = block_sequence ∷ cs
+open_in at.entry cs = block_sequence ∷ cs
+open_in at.pairs cs = block_mapping ∷ cs
+open_in at.key_pairs cs = block_mapping ∷ cs
+open_in at.after_key cs = block_mapping ∷ cs
+open_in at.items cs = flow_sequence ∷ cs
+open_in at.more_items cs = flow_sequence ∷ cs
+open_in at.comma_items cs = flow_sequence ∷ cs
+open_in at.item cs = flow_sequence ∷ cs
+open_in at.pair_key cs = flow_sequence ∷ cs
+open_in at.pair_value cs = flow_sequence ∷ cs
+open_in at.pair_valued cs = flow_sequence ∷ cs
+open_in at.pair_end cs = flow_sequence ∷ cs
+open_in at.flow_pairs cs = flow_mapping ∷ cs
+open_in at.more_flow_pairs cs = flow_mapping ∷ cs
+open_in at.comma_flow_pairs cs = flow_mapping ∷ cs
+open_in at.flow_pair cs = flow_mapping ∷ cs
+open_in at.flow_key cs = flow_mapping ∷ cs
+open_in at.flow_after_key cs = flow_mapping ∷ cs
+open_in at.flow_valued cs = flow_mapping ∷ cs
+open_in at.flow_empty cs = flow_mapping ∷ cs
+open_in _ cs = cs
+
+abbrev pub open_under : List State → List Collection
+open_under [] = []
+open_under (s ∷ ss) = open_in (goal_of s) (open_under ss)
+
+abbrev pub open_at : Goal → List State → List Collection
+open_at g ss = open_in g (open_under ss)
+
+-- what comes where this is read
+abbrev pub next_in : Goal → Next
+next_in at.documents = node_next
+next_in (at.directed ds) = directive_next
+next_in at.content = node_next
+next_in (at.node p) = node_next
+next_in (at.after_properties p None) = node_next
+next_in at.entry = node_next
+next_in at.dashed = node_next
+next_in at.part = node_next
+next_in at.items = node_next
+next_in at.comma_items = node_next
+next_in at.item = node_next
+next_in at.pair_key = node_next
+next_in at.pair_valued = node_next
+next_in at.flow_pairs = node_next
+next_in at.comma_flow_pairs = node_next
+next_in at.flow_pair = node_next
+next_in at.flow_key = node_next
+next_in at.flow_valued = node_next
+next_in _ = other_next
+
+-- what is read next: between two events, what the stack has on top
+abbrev pub top : Goal → List State → Goal
+top at.done [] = at.ended
+top at.done (s ∷ ss) = goal_of s
+top g ss = g
+
+abbrev pub next_at : Goal → List State → Next
+next_at g ss = next_in (top g ss)
+
+abbrev pub is_node : Next → Bool
+is_node node_next = true
+is_node _ = false
+
+-- whether a document's end comes
+abbrev pub is_after : Goal → Bool
+is_after at.after = true
+is_after _ = false
+
+-- whether the next token was looked at and is a directive
+abbrev pub is_directive_next : Option Tok → Bool
+is_directive_next None = false
+is_directive_next (Some t) = is_directive (kind_of t)

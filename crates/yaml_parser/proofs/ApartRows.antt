@@ -1,0 +1,87 @@
+-- Which two tokens may come instead of a refused one, and which events they leave certain: examples.
+use Rattle.std.proofs.Common.{◌≡◌, List, [], ◌∷◌, None, refl}
+use Rattle.defs_token.specs.Token.{Style, Tok}
+use Rattle.defs_event.specs.Raw.{Raw, nothing_written}
+use Rattle.defs_event.specs.Grammar.{scalar, flow, flow_sequence, no_items, block_content, block_sequence, flow_content, flow_mapping, flow_pairs, flow_keyed, some_flow, no_flow_value, flow_single, end_flow_pairs, comma_flow_pair, some_node, end_entries, entry, bare, end_stream, unmarked}
+use Rattle.yaml_tokens.specs.declared.problem.Problem.TheVariants.{NodeContent, FlowMappingEntry}
+use Rattle.model_parser.specs.Place.{block_mapping, flow_mapping as in_braces, open_after, node_next, directive_next, other_next, next_after}
+use Rattle.yaml_parser.specs.Apart.{StandsApart}
+
+-- before `]` in `- ]`
+abbrev after_dash : List Tok
+after_dash = Tok.stream_start ∷ Tok.block_sequence_start ∷ Tok.block_entry ∷ []
+
+-- before `]` in `{? a]`
+abbrev after_key : List Tok
+after_key = Tok.stream_start ∷ Tok.flow_mapping_start ∷ Tok.key ∷ Tok.scalar Style.plain [] ∷ []
+
+-- behind the entry of a sequence without indentation, which is a key
+abbrev after_entry : List Tok
+after_entry = Tok.stream_start ∷ Tok.block_mapping_start ∷ Tok.key ∷ Tok.block_entry ∷ Tok.scalar Style.plain [] ∷ []
+
+-- A node may begin after `-`, and not after a scalar or an anchor.
+dash_leaves_a_node : next_after other_next after_dash ≡ node_next
+dash_leaves_a_node = refl
+
+scalar_leaves_none : next_after other_next after_key ≡ other_next
+scalar_leaves_none = refl
+
+anchor_leaves_none : next_after other_next (Tok.stream_start ∷ Tok.anchor [] ∷ []) ≡ other_next
+anchor_leaves_none = refl
+
+directive_leaves_directives : next_after other_next (Tok.stream_start ∷ Tok.version_directive 1 2 ∷ []) ≡ directive_next
+directive_leaves_directives = refl
+
+-- A sequence without indentation is not begun by a token, so its mapping is the innermost collection.
+mapping_is_innermost : open_after [] after_entry ≡ block_mapping ∷ []
+mapping_is_innermost = refl
+
+braces_are_innermost : open_after [] after_key ≡ in_braces ∷ []
+braces_are_innermost = refl
+
+nothing_is_open : open_after [] (Tok.stream_start ∷ Tok.flow_sequence_start ∷ Tok.flow_sequence_end ∷ []) ≡ []
+nothing_is_open = refl
+
+-- In `- ]` the start of the sequence is the last event: next is the scalar of `- a`, or the start of `- []`.
+no_scalar_after_dash : StandsApart NodeContent after_dash (Raw.stream_start ∷ Raw.document_start [] ∷ Raw.sequence_start None None ∷ [])
+no_scalar_after_dash = record {
+  event = Raw.scalar [] Style.plain None None;
+  other_event = Raw.flow_sequence_start None None;
+  one = record {
+    documents = bare (block_content None (block_sequence (entry (some_node (block_content None (flow (scalar Style.plain [])))) end_entries))) (unmarked end_stream);
+    more_tokens = Tok.block_end ∷ Tok.stream_end ∷ [];
+    more_events = Raw.sequence_end ∷ Raw.document_end ∷ Raw.stream_end ∷ [];
+    has_tokens = refl;
+    has_events = refl;
+  };
+  other = record {
+    documents = bare (block_content None (block_sequence (entry (some_node (block_content None (flow (flow_sequence no_items)))) end_entries))) (unmarked end_stream);
+    more_tokens = Tok.flow_sequence_end ∷ Tok.block_end ∷ Tok.stream_end ∷ [];
+    more_events = Raw.flow_sequence_end ∷ Raw.sequence_end ∷ Raw.document_end ∷ Raw.stream_end ∷ [];
+    has_tokens = refl;
+    has_events = refl;
+  };
+  two_events = λ e. cc;
+}
+
+-- In `{? a]` the value that is not written is the last event: next is the end of `{? a}`, or the next key of `{? a, b}`.
+value_after_key : StandsApart FlowMappingEntry after_key (Raw.stream_start ∷ Raw.document_start [] ∷ Raw.flow_mapping_start None None ∷ Raw.scalar [] Style.plain None None ∷ nothing_written ∷ [])
+value_after_key = record {
+  event = Raw.flow_mapping_end;
+  other_event = Raw.scalar [] Style.plain None None;
+  one = record {
+    documents = bare (block_content None (flow (flow_mapping (flow_pairs (flow_keyed (some_flow (flow_content None (scalar Style.plain []))) no_flow_value) end_flow_pairs)))) (unmarked end_stream);
+    more_tokens = Tok.stream_end ∷ [];
+    more_events = Raw.document_end ∷ Raw.stream_end ∷ [];
+    has_tokens = refl;
+    has_events = refl;
+  };
+  other = record {
+    documents = bare (block_content None (flow (flow_mapping (flow_pairs (flow_keyed (some_flow (flow_content None (scalar Style.plain []))) no_flow_value) (comma_flow_pair (flow_single (flow_content None (scalar Style.plain []))) end_flow_pairs))))) (unmarked end_stream);
+    more_tokens = Tok.scalar Style.plain [] ∷ Tok.flow_mapping_end ∷ Tok.stream_end ∷ [];
+    more_events = nothing_written ∷ Raw.flow_mapping_end ∷ Raw.document_end ∷ Raw.stream_end ∷ [];
+    has_tokens = refl;
+    has_events = refl;
+  };
+  two_events = λ e. cc;
+}
