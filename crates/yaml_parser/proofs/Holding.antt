@@ -35,7 +35,7 @@ use Rattle.yaml_parser.specs.declared.reader.Reader.{Reader}
 use Rattle.yaml_parser.specs.Handed.{taken_toks, peeked_tok, shown_list, ends}
 use Rattle.yaml_parser.specs.Named.{IsNamed}
 use Rattle.yaml_parser.specs.Shown.{placed, ev_of}
-use Rattle.yaml_parser.specs.Work.{work, weight, weights}
+use Rattle.yaml_parser.specs.Work.{Moves, work, weight, weights}
 use Rattle.yaml_parser.specs.Seen.{fault_seen}
 use Rattle.yaml_parser.specs.Parsed.{Parsed, is_stream_end, has_end, read}
 use Rattle.yaml_parser.specs.Blames.{Blames}
@@ -275,13 +275,16 @@ pub closed : {T : Type 0} (p : Reader T) (es : List (Ev × Position)) → p.stac
 closed {T} p es h x = closed_at (has_end es) p h x.here
 
 pub pulled : {T : Type 0} (p r : Reader T) (s : State) (ss : List State) (es : List (Ev × Position)) (e : Event × Position) (k : Keeping)
-    → p.stack ≡ s ∷ ss → IsHeld p es None → Reads (goal_of s) (record p { stack = ss }) r (Ok e) → work r < work (record p { stack = ss }) + weight s → r.names.keeping ≡ p.names.keeping → Notes r.names.keeping k
+    → p.stack ≡ s ∷ ss → IsHeld p es None → Reads (goal_of s) (record p { stack = ss }) r (Ok e) → Moves (weight s) 1 (record p { stack = ss }) r (Ok e) → Notes r.names.keeping k
     → (has_end es ≡ false) × (work r < work p) × Notes p.names.keeping k × IsHeld (record r { names = record (r.names) { keeping = k } }) (es ++ placed e ∷ []) None
-pulled {T} p r s ss es e k h x reads less keep notes =
+pulled {T} p r s ss es e k h x reads moves notes =
     let o = open_at (has_end es) p s ss h x.here in
     let a = answered_at r es e o.0 (reads x.names es (popped p s ss h o.1)) in
+    let keep : r.names.keeping ≡ p.names.keeping = moves.input.keeping in
+    let less : work r + 1 ≤ work (record p { stack = ss }) + weight s = moves.bound in
+    let popped_is = popped_work p s ss h in
     let each : length r.names.keeping.settings.items + 1 ≡ length (es ++ placed e ∷ []) = ap (λ q. length q.settings.items + 1) keep ∙ ap (λ n. n + 1) x.each ∙ sym (length-append es (placed e ∷ [])) in
-    (o.0, subst (λ n. work r < n) (popped_work p s ss h) less, subst (λ q. Notes q k) keep notes, noted_stands r k (es ++ placed e ∷ []) a.0 notes a.1 each)
+    (o.0, omega (arith, less, popped_is), subst (λ q. Notes q k) keep notes, noted_stands r k (es ++ placed e ∷ []) a.0 notes a.1 each)
 
 pub failed : {T : Type 0} (p r : Reader T) (s : State) (ss : List State) (es : List (Ev × Position)) (u : Stop)
     → p.stack ≡ s ∷ ss → IsHeld p es None → Reads (goal_of s) (record p { stack = ss }) r (Err u) → (has_end es ≡ false) × Faulted r es u

@@ -260,7 +260,7 @@ in_flow context.Block o here none a = block_in_flow o here none a
 in_flow context.Part o {names} here none a = block_in_flow o here none (stays here stay (λ t e. turn.part_block _ o t (not_as none.entry e)) refl (pending_same context.Part context.Block names o a.pending) (breaks_none context.Part context.Block o) a)
 
 pub taken_with : {T : Type 0} {p q : Tokens T} {t : Token} → SkipsOne p q → p.peeked ≡ Some t → Skips p t q
-taken_with {T} {p} {q} {t} h e = if_some_at (λ u. Skips p u q) h e
+taken_with {T} {p} {q} {t} h e = if_some_at (λ u. Skips p u q) h.token e
 
 pub nothing_there : {A : Type 0} {names : Names} (o : Option written.Properties) → Has names o None → (o ≡ None → A) → A
 nothing_there None has f = f refl

@@ -19,5 +19,8 @@ pub record Skips {T : Type 0} (old : Tokens T) (t : Token) (new : Tokens T) : Ty
   pub taken : new.taken.items ≡ old.taken.items ++ t ∷ []
   pub scanner : new.scanner ≡ old.scanner
 
-abbrev pub SkipsOne : {T : Type 0} → Tokens T → Tokens T → Type 0
-SkipsOne old new = IfSome old.peeked (λ t. Skips old t new)
+-- The token that was looked at is taken, and of the text and its other tokens nothing changes.
+pub record SkipsOne {T : Type 0} (old new : Tokens T) : Type 0 where
+  pub token : IfSome old.peeked (λ t. Skips old t new)
+  pub start : new.scanner.start ≡ old.scanner.start
+  pub left : left new + 1 ≡ left old

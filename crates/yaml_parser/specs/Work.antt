@@ -1,8 +1,9 @@
--- A bound on the events that may still come: it falls with each event.
-use Rattle.std.specs.Prelude.{ℕ, ◌+◌, ◌*◌, List, [], ◌∷◌, Option, Some, None}
+-- A bound on the events that may still come: it falls with each event. And what reading keeps.
+use Rattle.std.specs.Prelude.{◌≡◌, ℕ, ◌+◌, ◌*◌, ◌≤◌, List, [], ◌∷◌, Option, Some, None, Result, OnOk}
 use Rattle.model_parser.specs.declared.state.State.{State}
 use Rattle.model_parser.specs.declared.state.State.TheVariants as state
 use Rattle.yaml_parser.specs.declared.reader.Reader.{Reader}
+use Rattle.yaml_parser.specs.declared.tokens.Stop.{Stop}
 use Rattle.yaml_parser.specs.Ahead.{left}
 
 -- what a state may bring beyond what the tokens to come bring
@@ -31,3 +32,13 @@ work p = 4 * left p.tokens + weights p.stack
 abbrev pub owed : {P : Type 0} → Option P → ℕ
 owed None = 2
 owed (Some p) = 0
+
+-- The text stays, and the setting whether its tag handles are kept.
+pub record KeepsInput {T : Type 0} (old new : Reader T) : Type 0 where
+  pub keeping : new.names.keeping ≡ old.names.keeping
+  pub start : new.tokens.scanner.start ≡ old.tokens.scanner.start
+
+-- The same; and without a fault, the bound grows by at most so much, and falls by at least so much.
+pub record Moves {T A : Type 0} (up down : ℕ) (old new : Reader T) (result : Result A Stop) : Type 0 where
+  pub input : KeepsInput old new
+  pub bound : OnOk result (work new + down ≤ work old + up)

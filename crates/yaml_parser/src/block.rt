@@ -1,8 +1,7 @@
 //! Block collections (YAML 1.2, section 8.2).
-ghost use Rattle.std.specs.Prelude.{◌≡◌, List, ◌+◌, ◌<◌, ◌≤◌, OnOk};
 ghost use Rattle.model_parser.specs.Goal as at;
 ghost use Rattle.yaml_parser.specs.At.{Reads};
-ghost use Rattle.yaml_parser.specs.Work.{work};
+ghost use Rattle.yaml_parser.specs.Work.{Moves};
 ghost use Rattle.yaml_parser.specs.Kinds.{IsOfKind};
 
 use crate::event::Event;
@@ -15,9 +14,7 @@ impl<T: Iterator<Item = char>> Reader<T> {
     #[inline(always)]
     pub(crate) fn block_sequence_entry(&mut self) -> Answer
         ensures answers { Reads at.entries self.old self.new result }
-        ensures work { OnOk result (work self.new < work self.old + 1) }
-        ensures keeping { self.new.names.keeping ≡ self.old.names.keeping }
-        ensures start { self.new.tokens.scanner.start ≡ self.old.tokens.scanner.start }
+        ensures moves { Moves 1 1 self.old self.new result }
     {
         let next = self.peek()?;
         match next {
@@ -34,9 +31,7 @@ impl<T: Iterator<Item = char>> Reader<T> {
     #[inline(always)]
     fn block_sequence_item(&mut self) -> Answer
         ensures answers { Reads at.entry self.old self.new result }
-        ensures work { OnOk result (work self.new < work self.old + 3) }
-        ensures keeping { self.new.names.keeping ≡ self.old.names.keeping }
-        ensures start { self.new.tokens.scanner.start ≡ self.old.tokens.scanner.start }
+        ensures moves { Moves 3 1 self.old self.new result }
     {
         let next = self.peek()?;
         self.push(State::BlockSequenceEntry)?;
@@ -48,9 +43,7 @@ impl<T: Iterator<Item = char>> Reader<T> {
 
     pub(crate) fn indentless_sequence_entry(&mut self) -> Answer
         ensures answers { Reads at.dashes self.old self.new result }
-        ensures work { OnOk result (work self.new < work self.old + 1) }
-        ensures keeping { self.new.names.keeping ≡ self.old.names.keeping }
-        ensures start { self.new.tokens.scanner.start ≡ self.old.tokens.scanner.start }
+        ensures moves { Moves 1 1 self.old self.new result }
     {
         let next = self.peek()?;
         match next {
@@ -66,9 +59,7 @@ impl<T: Iterator<Item = char>> Reader<T> {
     #[inline(always)]
     pub(crate) fn indentless_sequence_item(&mut self) -> Answer
         ensures answers { Reads at.dashed self.old self.new result }
-        ensures work { OnOk result (work self.new < work self.old + 2) }
-        ensures keeping { self.new.names.keeping ≡ self.old.names.keeping }
-        ensures start { self.new.tokens.scanner.start ≡ self.old.tokens.scanner.start }
+        ensures moves { Moves 2 1 self.old self.new result }
     {
         let next = self.peek()?;
         self.push(State::IndentlessSequenceEntry)?;
@@ -83,9 +74,7 @@ impl<T: Iterator<Item = char>> Reader<T> {
     #[inline(always)]
     pub(crate) fn block_mapping_key(&mut self) -> Answer
         ensures answers { Reads at.pairs self.old self.new result }
-        ensures work { OnOk result (work self.new < work self.old + 1) }
-        ensures keeping { self.new.names.keeping ≡ self.old.names.keeping }
-        ensures start { self.new.tokens.scanner.start ≡ self.old.tokens.scanner.start }
+        ensures moves { Moves 1 1 self.old self.new result }
     {
         let next = self.peek()?;
         match next {
@@ -102,9 +91,7 @@ impl<T: Iterator<Item = char>> Reader<T> {
     /// Where a `:` would be a value of the key before.
     pub(crate) fn block_mapping_next_key(&mut self) -> Answer
         ensures answers { Reads at.key_pairs self.old self.new result }
-        ensures work { OnOk result (work self.new < work self.old + 1) }
-        ensures keeping { self.new.names.keeping ≡ self.old.names.keeping }
-        ensures start { self.new.tokens.scanner.start ≡ self.old.tokens.scanner.start }
+        ensures moves { Moves 1 1 self.old self.new result }
     {
         let next = self.peek()?;
         self.block_mapping_pair(next)
@@ -115,9 +102,7 @@ impl<T: Iterator<Item = char>> Reader<T> {
     fn block_mapping_pair(&mut self, next: Kind) -> Answer
         requires { IsOfKind next self.old.tokens.peeked }
         ensures answers { Reads at.key_pairs self.old self.new result }
-        ensures work { OnOk result (work self.new < work self.old + 1) }
-        ensures keeping { self.new.names.keeping ≡ self.old.names.keeping }
-        ensures start { self.new.tokens.scanner.start ≡ self.old.tokens.scanner.start }
+        ensures moves { Moves 1 1 self.old self.new result }
     {
         match next {
             Kind::BlockEnd => Ok((Event::MappingEnd, self.skip())),
@@ -134,9 +119,7 @@ impl<T: Iterator<Item = char>> Reader<T> {
     #[inline(always)]
     pub(crate) fn block_mapping_value(&mut self) -> Answer
         ensures answers { Reads at.after_key self.old self.new result }
-        ensures work { OnOk result (work self.new < work self.old + 2) }
-        ensures keeping { self.new.names.keeping ≡ self.old.names.keeping }
-        ensures start { self.new.tokens.scanner.start ≡ self.old.tokens.scanner.start }
+        ensures moves { Moves 2 1 self.old self.new result }
     {
         let next = self.peek()?;
         match next {
@@ -156,9 +139,7 @@ impl<T: Iterator<Item = char>> Reader<T> {
     #[inline(always)]
     pub(crate) fn block_mapping_part(&mut self) -> Answer
         ensures answers { Reads at.part self.old self.new result }
-        ensures work { OnOk result (work self.new < work self.old + 1) }
-        ensures keeping { self.new.names.keeping ≡ self.old.names.keeping }
-        ensures start { self.new.tokens.scanner.start ≡ self.old.tokens.scanner.start }
+        ensures moves { Moves 1 1 self.old self.new result }
     {
         let next = self.peek()?;
         match next {

@@ -1,11 +1,11 @@
 //! The stream and its documents (YAML 1.2, chapter 9).
-ghost use Rattle.std.specs.Prelude.{◌≡◌, ◌≢◌, Bool, true, List, IfErr, ◌+◌, ◌<◌, ◌≤◌, OnOk, IfOk, IsSome};
+ghost use Rattle.std.specs.Prelude.{◌≡◌, ◌≢◌, Bool, true, IfErr, OnOk, IfOk};
 ghost use Rattle.model_parser.specs.Goal as at;
 ghost use Rattle.model_parser.specs.Kinds.{is_directive};
 ghost use Rattle.yaml_parser.specs.At.{Reads, Carries, Fails};
 ghost use Rattle.yaml_parser.specs.Directing.{Directs, AreRead, DirectivesFail};
 ghost use Rattle.model_parser.specs.declared.kind.Kind.TheVariants as kind;
-ghost use Rattle.yaml_parser.specs.Work.{work};
+ghost use Rattle.yaml_parser.specs.Work.{Moves};
 ghost use Rattle.yaml_parser.specs.Kinds.{IsOfKind};
 
 use crate::event::Event;
@@ -17,9 +17,7 @@ use yaml_tokens::{Fault, Problem};
 impl<T: Iterator<Item = char>> Reader<T> {
     pub(crate) fn stream_start(&mut self) -> Answer
         ensures answers { Reads at.start self.old self.new result }
-        ensures work { OnOk result (work self.new < work self.old + 1) }
-        ensures keeping { self.new.names.keeping ≡ self.old.names.keeping }
-        ensures start { self.new.tokens.scanner.start ≡ self.old.tokens.scanner.start }
+        ensures moves { Moves 1 1 self.old self.new result }
     {
         let next = self.peek()?;
         match next {
@@ -35,9 +33,7 @@ impl<T: Iterator<Item = char>> Reader<T> {
     /// The first token that is no `...`.
     fn skip_document_ends(&mut self) -> Result<Kind, Stop>
         ensures peeked { IfOk result (λ n. IsOfKind n self.new.tokens.peeked × (n ≢ kind.DocumentEnd)) }
-        ensures work { OnOk result (work self.new ≤ work self.old) }
-        ensures keeping { self.new.names.keeping ≡ self.old.names.keeping }
-        ensures start { self.new.tokens.scanner.start ≡ self.old.tokens.scanner.start }
+        ensures moves { Moves 0 0 self.old self.new result }
         ensures at { OnOk result (Carries at.documents self.old self.new) }
         ensures err { IfErr result (λ s. Fails at.documents self.old self.new s) }
     {
@@ -52,9 +48,7 @@ impl<T: Iterator<Item = char>> Reader<T> {
     /// After the stream's start or `...`.
     pub(crate) fn document(&mut self) -> Answer
         ensures answers { Reads at.documents self.old self.new result }
-        ensures work { OnOk result (work self.new < work self.old + 4) }
-        ensures keeping { self.new.names.keeping ≡ self.old.names.keeping }
-        ensures start { self.new.tokens.scanner.start ≡ self.old.tokens.scanner.start }
+        ensures moves { Moves 4 1 self.old self.new result }
     {
         let next = self.skip_document_ends()?;
         match next {
@@ -72,9 +66,7 @@ impl<T: Iterator<Item = char>> Reader<T> {
     /// After a document without `...`.
     pub(crate) fn explicit_document(&mut self) -> Answer
         ensures answers { Reads at.explicit self.old self.new result }
-        ensures work { OnOk result (work self.new < work self.old + 1) }
-        ensures keeping { self.new.names.keeping ≡ self.old.names.keeping }
-        ensures start { self.new.tokens.scanner.start ≡ self.old.tokens.scanner.start }
+        ensures moves { Moves 1 1 self.old self.new result }
     {
         let next = self.peek()?;
         self.end_or_document(next)
@@ -84,9 +76,7 @@ impl<T: Iterator<Item = char>> Reader<T> {
     fn end_or_document(&mut self, next: Kind) -> Answer
         requires { IsOfKind next self.old.tokens.peeked }
         ensures answers { Reads at.explicit self.old self.new result }
-        ensures work { OnOk result (work self.new < work self.old + 1) }
-        ensures keeping { self.new.names.keeping ≡ self.old.names.keeping }
-        ensures start { self.new.tokens.scanner.start ≡ self.old.tokens.scanner.start }
+        ensures moves { Moves 1 1 self.old self.new result }
     {
         match next {
             Kind::StreamEnd => Ok((Event::StreamEnd, self.skip())),
@@ -105,9 +95,7 @@ impl<T: Iterator<Item = char>> Reader<T> {
         requires looks { IsOfKind kind self.old.tokens.peeked }
         requires directive { is_directive kind ≡ true }
         ensures answers { Reads at.documents self.old self.new result }
-        ensures work { OnOk result (work self.new < work self.old + 1) }
-        ensures keeping { self.new.names.keeping ≡ self.old.names.keeping }
-        ensures start { self.new.tokens.scanner.start ≡ self.old.tokens.scanner.start }
+        ensures moves { Moves 1 1 self.old self.new result }
     {
         self.names.start_document();
         let next = self.directives()?;
@@ -124,9 +112,7 @@ impl<T: Iterator<Item = char>> Reader<T> {
     /// Reads directives, and gives the first token that is none.
     fn directives(&mut self) -> Result<Kind, Stop>
         ensures peeked { IfOk result (λ n. IsOfKind n self.new.tokens.peeked × (n ≢ kind.VersionDirective) × (n ≢ kind.TagDirective)) }
-        ensures work { OnOk result (work self.new ≤ work self.old) }
-        ensures keeping { self.new.names.keeping ≡ self.old.names.keeping }
-        ensures start { self.new.tokens.scanner.start ≡ self.old.tokens.scanner.start }
+        ensures moves { Moves 0 0 self.old self.new result }
         ensures at { OnOk result (AreRead self.old self.new) }
         ensures err { IfErr result (λ s. DirectivesFail self.old self.new s) }
     {
@@ -148,9 +134,7 @@ impl<T: Iterator<Item = char>> Reader<T> {
     fn version(&mut self, versioned: bool) -> Result<(), Stop>
         requires { IsOfKind kind.VersionDirective self.old.tokens.peeked }
         ensures directs { Directs versioned true self.old self.new result }
-        ensures work { OnOk result (work self.new < work self.old) }
-        ensures keeping { self.new.names.keeping ≡ self.old.names.keeping }
-        ensures start { self.new.tokens.scanner.start ≡ self.old.tokens.scanner.start }
+        ensures moves { Moves 0 1 self.old self.new result }
     {
         let mark = self.skip();
         if versioned {
@@ -163,9 +147,7 @@ impl<T: Iterator<Item = char>> Reader<T> {
     fn tag_directive(&mut self) -> Result<(), Stop>
         requires { IsOfKind kind.TagDirective self.old.tokens.peeked }
         ensures directs { (versioned : Bool) → Directs versioned versioned self.old self.new result }
-        ensures work { OnOk result (work self.new < work self.old) }
-        ensures keeping { self.new.names.keeping ≡ self.old.names.keeping }
-        ensures start { self.new.tokens.scanner.start ≡ self.old.tokens.scanner.start }
+        ensures moves { Moves 0 1 self.old self.new result }
     {
         let mark = self.mark();
         let (handle, prefix) = self.tokens.take_tag_directive();
@@ -176,9 +158,7 @@ impl<T: Iterator<Item = char>> Reader<T> {
     /// After `---`.
     pub(crate) fn document_content(&mut self) -> Answer
         ensures answers { Reads at.content self.old self.new result }
-        ensures work { OnOk result (work self.new < work self.old + 3) }
-        ensures keeping { self.new.names.keeping ≡ self.old.names.keeping }
-        ensures start { self.new.tokens.scanner.start ≡ self.old.tokens.scanner.start }
+        ensures moves { Moves 3 1 self.old self.new result }
     {
         let next = self.peek()?;
         self.push(State::DocumentEnd)?;
@@ -195,9 +175,7 @@ impl<T: Iterator<Item = char>> Reader<T> {
     /// After a document's node.
     pub(crate) fn document_end(&mut self) -> Answer
         ensures answers { Reads at.after self.old self.new result }
-        ensures work { OnOk result (work self.new < work self.old + 2) }
-        ensures keeping { self.new.names.keeping ≡ self.old.names.keeping }
-        ensures start { self.new.tokens.scanner.start ≡ self.old.tokens.scanner.start }
+        ensures moves { Moves 2 1 self.old self.new result }
     {
         let next = self.peek()?;
         match next {

@@ -1,9 +1,8 @@
 //! Flow collections (YAML 1.2, section 7.4).
-ghost use Rattle.std.specs.Prelude.{◌≡◌, List, ◌+◌, ◌<◌, ◌≤◌, OnOk};
 ghost use Rattle.model_parser.specs.Goal as at;
 ghost use Rattle.yaml_parser.specs.At.{Reads};
 ghost use Rattle.yaml_parser.specs.Handed.{IsAfterComma};
-ghost use Rattle.yaml_parser.specs.Work.{work};
+ghost use Rattle.yaml_parser.specs.Work.{Moves};
 ghost use Rattle.yaml_parser.specs.Kinds.{IsOfKind};
 
 use crate::event::Event;
@@ -17,9 +16,7 @@ impl<T: Iterator<Item = char>> Reader<T> {
     #[inline(always)]
     pub(crate) fn flow_sequence_first_entry(&mut self) -> Answer
         ensures answers { Reads at.items self.old self.new result }
-        ensures work { OnOk result (work self.new < work self.old + 1) }
-        ensures keeping { self.new.names.keeping ≡ self.old.names.keeping }
-        ensures start { self.new.tokens.scanner.start ≡ self.old.tokens.scanner.start }
+        ensures moves { Moves 1 1 self.old self.new result }
     {
         let next = self.peek()?;
         match next {
@@ -32,9 +29,7 @@ impl<T: Iterator<Item = char>> Reader<T> {
     #[inline(always)]
     pub(crate) fn flow_sequence_entry(&mut self) -> Answer
         ensures answers { Reads at.more_items self.old self.new result }
-        ensures work { OnOk result (work self.new < work self.old + 1) }
-        ensures keeping { self.new.names.keeping ≡ self.old.names.keeping }
-        ensures start { self.new.tokens.scanner.start ≡ self.old.tokens.scanner.start }
+        ensures moves { Moves 1 1 self.old self.new result }
     {
         let next = self.peek()?;
         match next {
@@ -54,9 +49,7 @@ impl<T: Iterator<Item = char>> Reader<T> {
     #[inline(always)]
     fn flow_sequence_next(&mut self) -> Answer
         ensures answers { Reads at.comma_items self.old self.new result }
-        ensures work { OnOk result (work self.new < work self.old + 2) }
-        ensures keeping { self.new.names.keeping ≡ self.old.names.keeping }
-        ensures start { self.new.tokens.scanner.start ≡ self.old.tokens.scanner.start }
+        ensures moves { Moves 2 1 self.old self.new result }
     {
         let next = self.peek()?;
         match next {
@@ -70,9 +63,7 @@ impl<T: Iterator<Item = char>> Reader<T> {
     fn flow_sequence_item(&mut self, next: Kind) -> Answer
         requires { IsOfKind next self.old.tokens.peeked }
         ensures answers { Reads at.item self.old self.new result }
-        ensures work { OnOk result (work self.new < work self.old + 1) }
-        ensures keeping { self.new.names.keeping ≡ self.old.names.keeping }
-        ensures start { self.new.tokens.scanner.start ≡ self.old.tokens.scanner.start }
+        ensures moves { Moves 1 1 self.old self.new result }
     {
         match next {
             Kind::Key => {
@@ -90,9 +81,7 @@ impl<T: Iterator<Item = char>> Reader<T> {
     /// The key of a pair that is an item.
     pub(crate) fn flow_pair_key(&mut self) -> Answer
         ensures answers { Reads at.pair_key self.old self.new result }
-        ensures work { OnOk result (work self.new < work self.old + 4) }
-        ensures keeping { self.new.names.keeping ≡ self.old.names.keeping }
-        ensures start { self.new.tokens.scanner.start ≡ self.old.tokens.scanner.start }
+        ensures moves { Moves 4 1 self.old self.new result }
     {
         let next = self.peek()?;
         self.push(State::FlowSequenceEntryMappingValue)?;
@@ -107,9 +96,7 @@ impl<T: Iterator<Item = char>> Reader<T> {
     /// After the key of a pair that is an item.
     pub(crate) fn flow_pair_value(&mut self) -> Answer
         ensures answers { Reads at.pair_value self.old self.new result }
-        ensures work { OnOk result (work self.new < work self.old + 3) }
-        ensures keeping { self.new.names.keeping ≡ self.old.names.keeping }
-        ensures start { self.new.tokens.scanner.start ≡ self.old.tokens.scanner.start }
+        ensures moves { Moves 3 1 self.old self.new result }
     {
         let next = self.peek()?;
         match next {
@@ -128,9 +115,7 @@ impl<T: Iterator<Item = char>> Reader<T> {
     #[inline(always)]
     fn flow_pair_valued(&mut self) -> Answer
         ensures answers { Reads at.pair_valued self.old self.new result }
-        ensures work { OnOk result (work self.new < work self.old + 3) }
-        ensures keeping { self.new.names.keeping ≡ self.old.names.keeping }
-        ensures start { self.new.tokens.scanner.start ≡ self.old.tokens.scanner.start }
+        ensures moves { Moves 3 1 self.old self.new result }
     {
         let next = self.peek()?;
         self.push(State::FlowSequenceEntryMappingEnd)?;
@@ -143,9 +128,7 @@ impl<T: Iterator<Item = char>> Reader<T> {
     /// The end of a pair that is an item.
     pub(crate) fn flow_pair_end(&mut self) -> Answer
         ensures answers { Reads at.pair_end self.old self.new result }
-        ensures work { OnOk result (work self.new < work self.old + 2) }
-        ensures keeping { self.new.names.keeping ≡ self.old.names.keeping }
-        ensures start { self.new.tokens.scanner.start ≡ self.old.tokens.scanner.start }
+        ensures moves { Moves 2 1 self.old self.new result }
     {
         self.push(State::FlowSequenceEntry)?;
         Ok((Event::MappingEnd, self.tokens.scanner.mark()))
@@ -154,9 +137,7 @@ impl<T: Iterator<Item = char>> Reader<T> {
     #[inline(always)]
     pub(crate) fn flow_mapping_first_key(&mut self) -> Answer
         ensures answers { Reads at.flow_pairs self.old self.new result }
-        ensures work { OnOk result (work self.new < work self.old + 1) }
-        ensures keeping { self.new.names.keeping ≡ self.old.names.keeping }
-        ensures start { self.new.tokens.scanner.start ≡ self.old.tokens.scanner.start }
+        ensures moves { Moves 1 1 self.old self.new result }
     {
         let next = self.peek()?;
         match next {
@@ -169,9 +150,7 @@ impl<T: Iterator<Item = char>> Reader<T> {
     #[inline(always)]
     pub(crate) fn flow_mapping_key(&mut self) -> Answer
         ensures answers { Reads at.more_flow_pairs self.old self.new result }
-        ensures work { OnOk result (work self.new < work self.old + 1) }
-        ensures keeping { self.new.names.keeping ≡ self.old.names.keeping }
-        ensures start { self.new.tokens.scanner.start ≡ self.old.tokens.scanner.start }
+        ensures moves { Moves 1 1 self.old self.new result }
     {
         let next = self.peek()?;
         match next {
@@ -191,9 +170,7 @@ impl<T: Iterator<Item = char>> Reader<T> {
     #[inline(always)]
     fn flow_mapping_next(&mut self, comma: Marker) -> Answer
         ensures answers { IsAfterComma comma self.old.tokens → Reads at.comma_flow_pairs self.old self.new result }
-        ensures work { OnOk result (work self.new < work self.old + 2) }
-        ensures keeping { self.new.names.keeping ≡ self.old.names.keeping }
-        ensures start { self.new.tokens.scanner.start ≡ self.old.tokens.scanner.start }
+        ensures moves { Moves 2 1 self.old self.new result }
     {
         let next = self.peek()?;
         match next {
@@ -210,9 +187,7 @@ impl<T: Iterator<Item = char>> Reader<T> {
     fn flow_mapping_pair(&mut self, next: Kind) -> Answer
         requires { IsOfKind next self.old.tokens.peeked }
         ensures answers { Reads at.flow_pair self.old self.new result }
-        ensures work { OnOk result (work self.new < work self.old + 1) }
-        ensures keeping { self.new.names.keeping ≡ self.old.names.keeping }
-        ensures start { self.new.tokens.scanner.start ≡ self.old.tokens.scanner.start }
+        ensures moves { Moves 1 1 self.old self.new result }
     {
         match next {
             Kind::Key => {
@@ -235,9 +210,7 @@ impl<T: Iterator<Item = char>> Reader<T> {
     #[inline(always)]
     fn flow_mapping_keyed(&mut self) -> Answer
         ensures answers { Reads at.flow_key self.old self.new result }
-        ensures work { OnOk result (work self.new < work self.old + 4) }
-        ensures keeping { self.new.names.keeping ≡ self.old.names.keeping }
-        ensures start { self.new.tokens.scanner.start ≡ self.old.tokens.scanner.start }
+        ensures moves { Moves 4 1 self.old self.new result }
     {
         let next = self.peek()?;
         self.push(State::FlowMappingValue)?;
@@ -253,9 +226,7 @@ impl<T: Iterator<Item = char>> Reader<T> {
     #[inline(always)]
     pub(crate) fn flow_mapping_value(&mut self) -> Answer
         ensures answers { Reads at.flow_after_key self.old self.new result }
-        ensures work { OnOk result (work self.new < work self.old + 2) }
-        ensures keeping { self.new.names.keeping ≡ self.old.names.keeping }
-        ensures start { self.new.tokens.scanner.start ≡ self.old.tokens.scanner.start }
+        ensures moves { Moves 2 1 self.old self.new result }
     {
         let next = self.peek()?;
         match next {
@@ -274,9 +245,7 @@ impl<T: Iterator<Item = char>> Reader<T> {
     #[inline(always)]
     pub(crate) fn flow_mapping_valued(&mut self, colon: Marker) -> Answer
         ensures answers { Reads at.flow_valued self.old self.new result }
-        ensures work { OnOk result (work self.new < work self.old + 2) }
-        ensures keeping { self.new.names.keeping ≡ self.old.names.keeping }
-        ensures start { self.new.tokens.scanner.start ≡ self.old.tokens.scanner.start }
+        ensures moves { Moves 2 1 self.old self.new result }
     {
         let next = self.peek()?;
         self.push(State::FlowMappingKey)?;
@@ -289,9 +258,7 @@ impl<T: Iterator<Item = char>> Reader<T> {
     /// After a node that is a key without value.
     pub(crate) fn flow_mapping_empty_value(&mut self) -> Answer
         ensures answers { Reads at.flow_empty self.old self.new result }
-        ensures work { OnOk result (work self.new < work self.old + 2) }
-        ensures keeping { self.new.names.keeping ≡ self.old.names.keeping }
-        ensures start { self.new.tokens.scanner.start ≡ self.old.tokens.scanner.start }
+        ensures moves { Moves 2 1 self.old self.new result }
     {
         self.peek()?;
         self.push(State::FlowMappingKey)?;

@@ -1,5 +1,5 @@
 //! Nodes: their properties, and what may stand after them (YAML 1.2, section 6.9).
-ghost use Rattle.std.specs.Prelude.{◌≡◌, false, Some, None, ◌+◌, ◌<◌, ◌≤◌, OnOk, IfOk, IfErr, IsSome, IfSome};
+ghost use Rattle.std.specs.Prelude.{◌≡◌, false, Some, None, OnOk, IfOk, IfErr};
 ghost use Rattle.model_parser.specs.Goal as at;
 ghost use Rattle.defs_event.specs.Event.{Ev};
 ghost use Rattle.defs_event.specs.Names.{Names};
@@ -11,7 +11,7 @@ ghost use Rattle.yaml_parser.specs.Shown.{placed, perhaps_tag_of};
 ghost use Rattle.yaml_parser.specs.Named.{IsNamed};
 ghost use Rattle.yaml_parser.specs.Properties.{ReadsAfter, Registers};
 ghost use Rattle.yaml_parser.specs.At.{Reads};
-ghost use Rattle.yaml_parser.specs.Work.{work, owed};
+ghost use Rattle.yaml_parser.specs.Work.{Moves, KeepsInput, work, owed};
 ghost use Rattle.yaml_parser.specs.Kinds.{IsOfKind, IsName};
 ghost use Rattle.model_parser.specs.declared.kind.Kind.TheVariants as kind;
 
@@ -35,9 +35,7 @@ impl<T: Iterator<Item = char>> Reader<T> {
     /// The node of a document without `---`.
     pub(crate) fn block_node(&mut self) -> Answer
         ensures answers { Reads (at.node context.Block) self.old self.new result }
-        ensures work { OnOk result (work self.new + 2 ≤ work self.old) }
-        ensures keeping { self.new.names.keeping ≡ self.old.names.keeping }
-        ensures start { self.new.tokens.scanner.start ≡ self.old.tokens.scanner.start }
+        ensures moves { Moves 0 2 self.old self.new result }
     {
         let next = self.peek()?;
         self.node(NodeContext::Block, next)
@@ -48,9 +46,7 @@ impl<T: Iterator<Item = char>> Reader<T> {
     pub(crate) fn node(&mut self, context: NodeContext, next: Kind) -> Answer
         requires { IsOfKind next self.old.tokens.peeked }
         ensures answers { Reads (at.node context) self.old self.new result }
-        ensures work { OnOk result (work self.new + 2 ≤ work self.old) }
-        ensures keeping { self.new.names.keeping ≡ self.old.names.keeping }
-        ensures start { self.new.tokens.scanner.start ≡ self.old.tokens.scanner.start }
+        ensures moves { Moves 0 2 self.old self.new result }
     {
         match next {
             Kind::Alias => self.alias(),
@@ -66,9 +62,7 @@ impl<T: Iterator<Item = char>> Reader<T> {
     fn alias(&mut self) -> Answer
         requires { IsOfKind kind.Alias self.old.tokens.peeked }
         ensures answers { (context : NodeContext) → Reads (at.node context) self.old self.new result }
-        ensures work { OnOk result (work self.new + 2 ≤ work self.old) }
-        ensures keeping { self.new.names.keeping ≡ self.old.names.keeping }
-        ensures start { self.new.tokens.scanner.start ≡ self.old.tokens.scanner.start }
+        ensures moves { Moves 0 2 self.old self.new result }
     {
         let mark = self.mark();
         let name = self.tokens.take_name();
@@ -80,9 +74,7 @@ impl<T: Iterator<Item = char>> Reader<T> {
     fn anchored(&mut self, context: NodeContext) -> Answer
         requires { IsOfKind kind.Anchor self.old.tokens.peeked }
         ensures answers { Reads (at.node context) self.old self.new result }
-        ensures work { OnOk result (work self.new + 2 ≤ work self.old) }
-        ensures keeping { self.new.names.keeping ≡ self.old.names.keeping }
-        ensures start { self.new.tokens.scanner.start ≡ self.old.tokens.scanner.start }
+        ensures moves { Moves 0 2 self.old self.new result }
     {
         let mark = self.mark();
         let name = self.tokens.take_name();
@@ -108,9 +100,7 @@ impl<T: Iterator<Item = char>> Reader<T> {
     fn tagged(&mut self, context: NodeContext) -> Answer
         requires { IsOfKind kind.Tag self.old.tokens.peeked }
         ensures answers { Reads (at.node context) self.old self.new result }
-        ensures work { OnOk result (work self.new + 2 ≤ work self.old) }
-        ensures keeping { self.new.names.keeping ≡ self.old.names.keeping }
-        ensures start { self.new.tokens.scanner.start ≡ self.old.tokens.scanner.start }
+        ensures moves { Moves 0 2 self.old self.new result }
     {
         let mark = self.mark();
         let (handle, suffix) = self.tokens.take_tag();
@@ -136,9 +126,7 @@ impl<T: Iterator<Item = char>> Reader<T> {
     #[inline(never)]
     fn content_after(&mut self, context: NodeContext, anchor: String, tag: Tag) -> Answer
         ensures answers { ReadsAfter context (Some (record { anchor = Some anchor; tag = Some tag })) self.old self.new result }
-        ensures work { OnOk result (work self.new ≤ work self.old) }
-        ensures keeping { self.new.names.keeping ≡ self.old.names.keeping }
-        ensures start { self.new.tokens.scanner.start ≡ self.old.tokens.scanner.start }
+        ensures moves { Moves 0 0 self.old self.new result }
     {
         let next = self.peek()?;
         let properties = Properties {
@@ -158,9 +146,7 @@ impl<T: Iterator<Item = char>> Reader<T> {
     ) -> Answer
         requires { IsOfKind next self.old.tokens.peeked }
         ensures answers { ReadsAfter context properties self.old self.new result }
-        ensures work { OnOk result (work self.new + owed properties ≤ work self.old) }
-        ensures keeping { self.new.names.keeping ≡ self.old.names.keeping }
-        ensures start { self.new.tokens.scanner.start ≡ self.old.tokens.scanner.start }
+        ensures moves { Moves 0 (owed properties) self.old self.new result }
     {
         match context {
             NodeContext::Flow => self.flow_content(properties, next),
@@ -173,9 +159,7 @@ impl<T: Iterator<Item = char>> Reader<T> {
     fn part_content(&mut self, properties: Option<Properties>, next: Kind) -> Answer
         requires { IsOfKind next self.old.tokens.peeked }
         ensures answers { ReadsAfter context.Part properties self.old self.new result }
-        ensures work { OnOk result (work self.new + owed properties ≤ work self.old) }
-        ensures keeping { self.new.names.keeping ≡ self.old.names.keeping }
-        ensures start { self.new.tokens.scanner.start ≡ self.old.tokens.scanner.start }
+        ensures moves { Moves 0 (owed properties) self.old self.new result }
     {
         match next {
             Kind::BlockEntry => {
@@ -191,9 +175,7 @@ impl<T: Iterator<Item = char>> Reader<T> {
     fn block_content(&mut self, properties: Option<Properties>, next: Kind) -> Answer
         requires { IsOfKind next self.old.tokens.peeked }
         ensures answers { ReadsAfter context.Block properties self.old self.new result }
-        ensures work { OnOk result (work self.new + owed properties ≤ work self.old) }
-        ensures keeping { self.new.names.keeping ≡ self.old.names.keeping }
-        ensures start { self.new.tokens.scanner.start ≡ self.old.tokens.scanner.start }
+        ensures moves { Moves 0 (owed properties) self.old self.new result }
     {
         match next {
             Kind::BlockSequenceStart => {
@@ -214,9 +196,7 @@ impl<T: Iterator<Item = char>> Reader<T> {
     fn flow_content(&mut self, properties: Option<Properties>, next: Kind) -> Answer
         requires { IsOfKind next self.old.tokens.peeked }
         ensures answers { ReadsAfter context.Flow properties self.old self.new result }
-        ensures work { OnOk result (work self.new + owed properties ≤ work self.old) }
-        ensures keeping { self.new.names.keeping ≡ self.old.names.keeping }
-        ensures start { self.new.tokens.scanner.start ≡ self.old.tokens.scanner.start }
+        ensures moves { Moves 0 (owed properties) self.old self.new result }
     {
         match next {
             Kind::Scalar => {
@@ -245,9 +225,7 @@ impl<T: Iterator<Item = char>> Reader<T> {
         requires looks { IsOfKind next self.old.tokens.peeked }
         requires none { begins_content context.Flow next ≡ false }
         ensures answers { ReadsAfter context.Flow properties self.old self.new result }
-        ensures work { OnOk result (work self.new + owed properties ≤ work self.old) }
-        ensures keeping { self.new.names.keeping ≡ self.old.names.keeping }
-        ensures start { self.new.tokens.scanner.start ≡ self.old.tokens.scanner.start }
+        ensures moves { Moves 0 (owed properties) self.old self.new result }
     {
         let mark = self.mark();
         match properties {
@@ -263,8 +241,7 @@ impl<T: Iterator<Item = char>> Reader<T> {
     #[inline(always)]
     fn sequence(&mut self, properties: Option<Properties>, mark: Marker) -> Answer
         ensures work { OnOk result (work self.new ≡ work self.old) }
-        ensures keeping { self.new.names.keeping ≡ self.old.names.keeping }
-        ensures start { self.new.tokens.scanner.start ≡ self.old.tokens.scanner.start }
+        ensures input { KeepsInput self.old self.new }
         ensures registers { (names : Names) → IsNamed self.old.names names → IfOk result (λ e. Registers self.old properties names (λ a t. placed e ≡ (Ev.sequence_start a t, mark)) self.new) }
         ensures err { IfErr result (λ s. s ≡ Own OutOfMemory) }
     {
@@ -276,8 +253,7 @@ impl<T: Iterator<Item = char>> Reader<T> {
     #[inline(always)]
     fn mapping(&mut self, properties: Option<Properties>, mark: Marker) -> Answer
         ensures work { OnOk result (work self.new ≡ work self.old) }
-        ensures keeping { self.new.names.keeping ≡ self.old.names.keeping }
-        ensures start { self.new.tokens.scanner.start ≡ self.old.tokens.scanner.start }
+        ensures input { KeepsInput self.old self.new }
         ensures registers { (names : Names) → IsNamed self.old.names names → IfOk result (λ e. Registers self.old properties names (λ a t. placed e ≡ (Ev.mapping_start a t, mark)) self.new) }
         ensures err { IfErr result (λ s. s ≡ Own OutOfMemory) }
     {
@@ -289,8 +265,7 @@ impl<T: Iterator<Item = char>> Reader<T> {
     #[inline(always)]
     fn registered(&mut self, properties: Option<Properties>) -> Result<(usize, Option<Tag>), Stop>
         ensures work { OnOk result (work self.new ≡ work self.old) }
-        ensures keeping { self.new.names.keeping ≡ self.old.names.keeping }
-        ensures start { self.new.tokens.scanner.start ≡ self.old.tokens.scanner.start }
+        ensures input { KeepsInput self.old self.new }
         ensures registers { (names : Names) → IsNamed self.old.names names → IfOk result (λ r. Registers self.old properties names (λ a t. (r.0 ≡ a) × (perhaps_tag_of r.1 ≡ t)) self.new) }
         ensures err { IfErr result (λ s. s ≡ Own OutOfMemory) }
     {

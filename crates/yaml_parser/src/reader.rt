@@ -1,4 +1,4 @@
-ghost use Rattle.std.specs.Prelude.{◌≡◌, List, [], ◌∷◌, false, Some, None, Err, IsOkAnd, IfErr, ◌+◌, ◌<◌, ◌≤◌, OnOk, IfOk, IsSome, IfSome, IsErr};
+ghost use Rattle.std.specs.Prelude.{◌≡◌, ◌+◌, [], ◌∷◌, false, Some, None, IfErr, OnOk, IfOk, IsSome, IfSome};
 ghost use Rattle.defs_token.specs.Token.{Style};
 ghost use Rattle.yaml_tokens.specs.declared.token.Token.{Token};
 ghost use Rattle.yaml_tokens.specs.declared.problem.Fault.TheVariants.{OutOfMemory};
@@ -8,7 +8,7 @@ ghost use Rattle.yaml_parser.specs.declared.tokens.Stop.TheVariants.{Own};
 ghost use Rattle.yaml_parser.specs.Shown.{placed};
 ghost use Rattle.model_parser.specs.Rest.{goal_of};
 ghost use Rattle.yaml_parser.specs.At.{Reads, Carries, Fails, Took, Stayed, is_over, is_idle};
-ghost use Rattle.yaml_parser.specs.Work.{work, weight};
+ghost use Rattle.yaml_parser.specs.Work.{Moves, work, weight};
 ghost use Rattle.yaml_parser.specs.Kinds.{IsOfKind};
 ghost use Rattle.yaml_scanner.specs.Scanned.{scanned};
 ghost use Rattle.yaml_parser.specs.Seen.{fault_seen};
@@ -45,8 +45,7 @@ impl<T: Iterator<Item = char>> Reader<T> {
         ensures peeked { IfOk result (λ k. IsOfKind k self.new.tokens.peeked) }
         ensures names { self.new.names ≡ self.old.names }
         ensures taken { self.new.tokens.taken ≡ self.old.tokens.taken }
-        ensures start { self.new.tokens.scanner.start ≡ self.old.tokens.scanner.start }
-        ensures work { OnOk result (work self.new ≤ work self.old) }
+        ensures moves { Moves 0 0 self.old self.new result }
         ensures at { OnOk result ((g : Goal) → is_over g ≡ false → Carries g self.old self.new) }
         ensures err { IfErr result (λ s. (g : Goal) → is_idle g ≡ false → Fails g self.old self.new s) }
     {
@@ -80,7 +79,6 @@ impl<T: Iterator<Item = char>> Reader<T> {
     pub(crate) fn push(&mut self, state: State) -> Result<(), Stop>
         ensures work { OnOk result (work self.new ≡ work self.old + weight state) }
         ensures names { self.new.names ≡ self.old.names }
-        ensures start { self.new.tokens.scanner.start ≡ self.old.tokens.scanner.start }
         ensures tokens { self.new.tokens ≡ self.old.tokens }
         ensures stayed { OnOk result (Stayed self.old self.new (state ∷ self.old.stack)) }
         ensures err { IfErr result (λ s. s ≡ Own OutOfMemory) }
@@ -116,9 +114,7 @@ impl<T: Iterator<Item = char>> Reader<T> {
     #[inline(never)]
     pub fn next(&mut self, state: State) -> Answer
         ensures answers { Reads (goal_of state) self.old self.new result }
-        ensures keeping { self.new.names.keeping ≡ self.old.names.keeping }
-        ensures start { self.new.tokens.scanner.start ≡ self.old.tokens.scanner.start }
-        ensures work { OnOk result (work self.new < work self.old + weight state) }
+        ensures moves { Moves (weight state) 1 self.old self.new result }
     {
         match state {
             State::StreamStart => self.stream_start(),

@@ -150,9 +150,8 @@ impl<T: Iterator<Item = char>> Tokens<T> {
     #[inline(always)]
     fn take(&mut self) -> Option<Token>
         ensures token { result ≡ self.old.peeked }
-        ensures skips { SkipsOne self.old self.new }
+        ensures skips { IfSome result (λ _. SkipsOne self.old self.new) }
         ensures start { self.new.scanner.start ≡ self.old.scanner.start }
-        ensures left { IfSome result (λ _. left self.new + 1 ≡ left self.old) }
     {
         let token = self.peeked.take()?;
         self.taken.push(&token);
@@ -165,8 +164,6 @@ impl<T: Iterator<Item = char>> Tokens<T> {
         requires { IsSome self.old.peeked }
         ensures mark { IfSome self.old.peeked (λ t. t.0 ≡ result) }
         ensures skips { SkipsOne self.old self.new }
-        ensures start { self.new.scanner.start ≡ self.old.scanner.start }
-        ensures left { left self.new + 1 ≡ left self.old }
     {
         let Some(token) = &self.peeked else {
             unreachable!()
@@ -181,9 +178,7 @@ impl<T: Iterator<Item = char>> Tokens<T> {
     pub fn take_name(&mut self) -> String
         requires { IsName self.old.peeked }
         ensures skips { SkipsOne self.old self.new }
-        ensures start { self.new.scanner.start ≡ self.old.scanner.start }
         ensures name { IfSome self.old.peeked (λ t. (tok_of t.1 ≡ Tok.alias (string_chars result)) ⊎ (tok_of t.1 ≡ Tok.anchor (string_chars result))) }
-        ensures left { left self.new + 1 ≡ left self.old }
     {
         match self.take() {
             Some(Token(_, TokenType::Alias(name) | TokenType::Anchor(name))) => name,
@@ -196,8 +191,6 @@ impl<T: Iterator<Item = char>> Tokens<T> {
         requires { IsOfKind kind.Tag self.old.peeked }
         ensures texts { IfSome self.old.peeked (λ t. tok_of t.1 ≡ Tok.tag (string_chars result.0) (string_chars result.1)) }
         ensures skips { SkipsOne self.old self.new }
-        ensures start { self.new.scanner.start ≡ self.old.scanner.start }
-        ensures left { left self.new + 1 ≡ left self.old }
     {
         match self.take() {
             Some(Token(_, TokenType::Tag(handle, suffix))) => (handle, suffix),
@@ -210,8 +203,6 @@ impl<T: Iterator<Item = char>> Tokens<T> {
         requires { IsOfKind kind.TagDirective self.old.peeked }
         ensures texts { IfSome self.old.peeked (λ t. tok_of t.1 ≡ Tok.tag_directive (string_chars result.0) (string_chars result.1)) }
         ensures skips { SkipsOne self.old self.new }
-        ensures start { self.new.scanner.start ≡ self.old.scanner.start }
-        ensures left { left self.new + 1 ≡ left self.old }
     {
         match self.take() {
             Some(Token(_, TokenType::TagDirective(handle, prefix))) => (handle, prefix),
@@ -225,8 +216,6 @@ impl<T: Iterator<Item = char>> Tokens<T> {
         requires { IsOfKind kind.Scalar self.old.peeked }
         ensures texts { IfSome self.old.peeked (λ t. tok_of t.1 ≡ Tok.scalar (style_of result.0) (string_chars result.1)) }
         ensures skips { SkipsOne self.old self.new }
-        ensures start { self.new.scanner.start ≡ self.old.scanner.start }
-        ensures left { left self.new + 1 ≡ left self.old }
     {
         match self.take() {
             Some(Token(_, TokenType::Scalar(style, text))) => (style, text),

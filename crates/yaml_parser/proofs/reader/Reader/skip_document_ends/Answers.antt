@@ -15,8 +15,7 @@ returns-in_err-next-2-clause-err g c = if_err_as (Fails at.documents c.args.self
 pub ends-preserved : goal.ends-preserved
 ends-preserved g c = record {
   peeked = c.in_ok-next-2.ensures.peeked;
-  work = omega (arith, c.in_ok-next-2.ensures.work, c.skip.ensures.work, c.ends.invariant.work);
-  keeping = cc;
-  start = cc;
+  work = omega (arith, c.in_ok-next-2.ensures.moves.bound, c.skip.ensures.work, c.ends.invariant.work);
+  input = record { keeping = cc; start = cc };
   at = λ names given h. c.in_ok-next-2.ensures.at at.documents refl names given (goes c.ends.invariant.peeked c.in-DocumentEnd.is refl c.skip.ensures.took (turn.documents_marker _) refl tt refl refl (c.ends.invariant.at names given h));
 }

@@ -1,6 +1,6 @@
-use Rattle.std.proofs.Common.{◌≡◌, ◌≤◌}
+use Rattle.std.proofs.Common.{◌≤◌}
 use Rattle.model_parser.specs.Goal as at
-use Rattle.yaml_parser.specs.Work.{work}
+use Rattle.yaml_parser.specs.Work.{KeepsInput, work}
 use Rattle.yaml_parser.specs.Kinds.{IsOfKind}
 use Rattle.yaml_parser.specs.At.{Carries}
 use Rattle.yaml_parser.proofs.reader.Reader.skip_document_ends.Given as goal
@@ -9,8 +9,7 @@ abbrev pub invariant-ends : goal.invariant-ends
 invariant-ends g l = record {
   peeked : IsOfKind l.next l.self.tokens.peeked;
   work : work l.self ≤ work l.fn.self;
-  keeping : l.self.names.keeping ≡ l.fn.self.names.keeping;
-  start : l.self.tokens.scanner.start ≡ l.fn.self.tokens.scanner.start;
+  input : KeepsInput l.fn.self l.self;
   at : Carries at.documents l.fn.self l.self;
 }
 
