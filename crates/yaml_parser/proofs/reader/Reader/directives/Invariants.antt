@@ -1,4 +1,4 @@
-use Rattle.std.proofs.Common.{◌≡◌, ◌≤◌, List, false}
+use Rattle.std.proofs.Common.{◌≤◌, List, false}
 use Rattle.defs_text.specs.Position.{Position}
 use Rattle.defs_event.specs.Event.{Ev}
 use Rattle.defs_event.specs.Names.{Names}
