@@ -1,5 +1,5 @@
 -- The first fault of a tree, step by step.
-use Rattle.std.proofs.Common.{◌≡◌, ◌≢◌, ℕ, ◌+◌, ◌<◌, List, [], ◌∷◌, ◌++◌, length, get_or, drop, true, false, refl, sym, ap, ◌∙◌, Global}
+use Rattle.std.proofs.Common.{◌≡◌, ℕ, ◌+◌, ◌<◌, List, [], ◌∷◌, ◌++◌, length, get_or, drop, true, false, refl, sym, ap, ◌∙◌, subst, Global}
 use Rattle.std.specs.Prelude.{Result, Ok, Err, OnErr, Option, Some, None, String, map, reverse, if◌then◌else◌}
 use Rattle.std.proofs.lemmas.List.{reverse-append, drop_more}
 use Rattle.defs_tree.specs.Tree.{Tree, items_of, pairs_of}
@@ -10,11 +10,20 @@ use Rattle.yaml_tree.specs.declared.yaml.Yaml.{Yaml}
 use Rattle.yaml_tree.specs.declared.yaml.Yaml.TheVariants as yamls
 use Rattle.yaml_json.specs.declared.error.Step.{Step}
 use Rattle.yaml_json.specs.Found.{step_view}
+use Rattle.yaml_json.specs.Outcome.{IsBelowRoot}
 
 -- ---- steps
 
 pub pushed : (xs ys : List Step) (s : Step) → ys ≡ xs ++ s ∷ [] → map step_view (reverse ys) ≡ step_view s ∷ map step_view (reverse xs)
 pushed xs ys s e = ap (λ zs. map step_view (reverse zs)) e ∙ ap (map step_view) (reverse-append xs (s ∷ []))
+
+-- a path with a step
+pub has_step : (s : fault.Step) (f : Fault) (o : Option Fault) → Some (record { path = s ∷ f.path; reason = f.reason }) ≡ o → IsBelowRoot o
+has_step s f o e = subst IsBelowRoot e (λ k. cc)
+
+stays : (s : fault.Step) (o q : Option Fault) → IsBelowRoot o → IsBelowRoot (first_of (below s o) q)
+stays s None q h = absurd h
+stays s (Some f) q h = λ k. cc
 
 -- ---- items
 
@@ -27,13 +36,10 @@ item_fault n ts us t f e h = ap (λ o. first_of (below (fault.index n) o) (first
 pub item_passed : (n : ℕ) (ts us : List Tree) (t : Tree) → ts ≡ t ∷ us → None ≡ first_fault t → first_item_fault n (items_of ts) ≡ first_item_fault (n + 1) (items_of us)
 item_passed n ts us t e h = ap (λ xs. first_item_fault n (items_of xs)) e ∙ ap (λ o. first_of (below (fault.index n) o) (first_item_fault (n + 1) (items_of us))) (sym h)
 
--- where nothing else is known of it
-pub item_fails : (n : ℕ) (ts us : List Tree) (t : Tree) → ts ≡ t ∷ us → first_fault t ≢ None → first_item_fault n (items_of ts) ≢ None
-item_fails n ts us t e h k = h (by (first_fault t) (ap (λ xs. first_item_fault n (items_of xs)) (sym e) ∙ k))
-  where
-    by : (o : Option Fault) → first_of (below (fault.index n) o) (first_item_fault (n + 1) (items_of us)) ≡ None → o ≡ None
-    by None k = refl
-    by (Some f) k = cc
+-- where memory was refused for the path to it
+pub item_fails : (n : ℕ) (ts us : List Tree) (t : Tree) → ts ≡ t ∷ us → IsBelowRoot (first_fault t) → IsBelowRoot (first_item_fault n (items_of ts))
+item_fails n ts us t e h =
+    subst (λ xs. IsBelowRoot (first_item_fault n (items_of xs))) (sym e) (stays (fault.index n) (first_fault t) (first_item_fault (n + 1) (items_of us)) h)
 
 -- ---- values
 
@@ -44,15 +50,8 @@ value_fault ps qs p f e h = ap (λ o. first_of (below (step_of p.0) o) (first_me
 pub value_passed : (ps qs : List (Tree × Tree)) (p : Tree × Tree) → ps ≡ p ∷ qs → None ≡ first_fault p.1 → first_member_fault (pairs_of ps) ≡ first_member_fault (pairs_of qs)
 value_passed ps qs p e h = ap (λ xs. first_member_fault (pairs_of xs)) e ∙ ap (λ o. first_of (below (step_of p.0) o) (first_member_fault (pairs_of qs))) (sym h)
 
-pub value_fails : (ps qs : List (Tree × Tree)) (p : Tree × Tree) → ps ≡ p ∷ qs → first_fault p.1 ≢ None → first_member_fault (pairs_of ps) ≢ None
-value_fails ps qs p e h k = h (by (first_fault p.1) (ap (λ xs. first_member_fault (pairs_of xs)) (sym e) ∙ k))
-  where
-    by : (o : Option Fault) → first_of (below (step_of p.0) o) (first_member_fault (pairs_of qs)) ≡ None → o ≡ None
-    by None k = refl
-    by (Some f) k = cc
-
-some_fault : (f : Fault) (o : Option Fault) → Some f ≡ o → o ≢ None
-some_fault f o e k = cc
+pub value_fails : (ps qs : List (Tree × Tree)) (p : Tree × Tree) → ps ≡ p ∷ qs → IsBelowRoot (first_fault p.1) → IsBelowRoot (first_member_fault (pairs_of ps))
+value_fails ps qs p e h = subst (λ xs. IsBelowRoot (first_member_fault (pairs_of xs))) (sym e) (stays (step_of p.0) (first_fault p.1) (first_member_fault (pairs_of qs)) h)
 
 -- ---- hashes
 

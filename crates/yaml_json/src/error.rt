@@ -9,7 +9,8 @@ pub enum JsonError {
     /// A node has no JSON text. Nothing was written.
     #[error("{0}")]
     NoJson(NoJson),
-    /// A node has no JSON text, and memory was refused for the path to it. Nothing was written.
+    /// A node below the root is the first without a JSON text, and memory was refused for the path to it. Nothing was
+    /// written.
     #[error("out of memory")]
     OutOfMemory,
     /// The writer refused a part of the text, or a line would need 2^64 spaces.

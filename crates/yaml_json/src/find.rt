@@ -1,11 +1,12 @@
 //! The first node that has no JSON text.
-ghost use Rattle.std.specs.Prelude.{◌≡◌, ◌≢◌, None, chars, if◌then◌else◌, IfOk, OnErr, option_map};
+ghost use Rattle.std.specs.Prelude.{◌≡◌, None, chars, if◌then◌else◌, IfOk, OnErr, option_map};
 ghost use Rattle.defs_json.specs.Fault.{here, is_no_number, are_strings, step_of, first_fault};
 ghost use Rattle.defs_json.specs.JsonReal.{is_json_real};
 ghost use Rattle.defs_tree.specs.Tree.{pairs_of};
 ghost use Rattle.defs_tree.specs.Typing.{is_string};
 ghost use Rattle.yaml_tree.specs.View.{view, array_tree, hash_tree};
 ghost use Rattle.yaml_json.specs.Found.{found_fault, fault_of, reason_view, string_step};
+ghost use Rattle.yaml_json.specs.Outcome.{IsBelowRoot};
 
 use crate::error::{NoJson, Reason, Step};
 use crate::number::is_json_real;
@@ -19,10 +20,10 @@ struct Found {
     reason: Reason,
 }
 
-/// The first node that has no JSON text. Memory is taken for its path alone.
+/// The first node that has no JSON text. Memory is taken for its path alone, so none for the root.
 pub(crate) fn first_fault(alloc: Global, tree: &Yaml) -> Result<Option<NoJson>, AllocError>
     ensures found { IfOk result (λ o. option_map fault_of o ≡ first_fault (view tree.now)) }
-    ensures refused { OnErr result (first_fault (view tree.now) ≢ None) }
+    ensures refused { OnErr result (IsBelowRoot (first_fault (view tree.now))) }
 {
     let Some(Found { mut steps, reason }) = find(alloc, tree)? else {
         return Ok(None);
@@ -37,7 +38,7 @@ pub(crate) fn first_fault(alloc: Global, tree: &Yaml) -> Result<Option<NoJson>, 
 #[cycle(find)]
 fn find(alloc: Global, node: &Yaml) -> Result<Option<Found>, AllocError>
     ensures found { IfOk result (λ o. option_map found_fault o ≡ first_fault (view node.now)) }
-    ensures refused { OnErr result (first_fault (view node.now) ≢ None) }
+    ensures refused { OnErr result (IsBelowRoot (first_fault (view node.now))) }
 {
     match node {
         Yaml::Real(text) => Ok(find_in_real(alloc, text.as_str())),
@@ -71,7 +72,7 @@ fn find_in_real(alloc: Global, text: &str) -> Option<Found>
 #[cycle(find)]
 fn find_in_items(alloc: Global, items: &Array) -> Result<Option<Found>, AllocError>
     ensures found { IfOk result (λ o. option_map found_fault o ≡ first_fault (array_tree items.now)) }
-    ensures refused { OnErr result (first_fault (array_tree items.now) ≢ None) }
+    ensures refused { OnErr result (IsBelowRoot (first_fault (array_tree items.now))) }
 {
     'items: for (index, item) in items.iter().enumerate() {
         if let Some(mut found) = find(alloc, item)? {
@@ -85,7 +86,7 @@ fn find_in_items(alloc: Global, items: &Array) -> Result<Option<Found>, AllocErr
 #[cycle(find)]
 fn find_in_pairs(alloc: Global, pairs: &Hash) -> Result<Option<Found>, AllocError>
     ensures found { IfOk result (λ o. option_map found_fault o ≡ first_fault (hash_tree pairs.now)) }
-    ensures refused { OnErr result (first_fault (hash_tree pairs.now) ≢ None) }
+    ensures refused { OnErr result (IsBelowRoot (first_fault (hash_tree pairs.now))) }
 {
     if !has_string_keys(pairs) {
         return Ok(node_itself(alloc, Reason::Key));
