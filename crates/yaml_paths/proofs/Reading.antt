@@ -5,11 +5,11 @@ use Rattle.std.specs.Result.{is_ok, is_err}
 use Rattle.std.proofs.lemmas.Bool.{true≢false}
 use Rattle.std.proofs.lemmas.List.{length-map}
 use Rattle.defs_tree.specs.Tree.{Tree}
-use Rattle.yaml_paths.specs.Explained.{AreOf, IsOtherItem, ExplainsItem}
+use Rattle.yaml_paths.specs.Explained.{AreOf, IsFirstOf, IsOtherItem, ExplainsItem}
 use Rattle.yaml_paths.specs.Kinds.{kind_of}
 use Rattle.yaml_paths.specs.Path.{steps_of}
 use Rattle.yaml_paths.specs.declared.error.ReadError.{ReadError}
-use Rattle.yaml_paths.specs.declared.error.Reason.TheVariants.{Other}
+use Rattle.yaml_paths.specs.declared.error.Reason.TheVariants.{Other, OutOfMemory}
 use Rattle.yaml_paths.specs.declared.kind.Kind.{Kind}
 use Rattle.yaml_paths.specs.declared.step.Step.{Step}
 
@@ -26,6 +26,18 @@ module _ {V : Type 0} (wanted : Kind) (tree : V → Tree) where
       go : (us : List V) → AreOf wanted (map tree us) → AreOf wanted (map tree (us ++ v ∷ []))
       go [] r = (h, tt)
       go (u ∷ us) r = (r.0, go us r.1)
+
+  -- an item of that kind, behind others
+  begins : (ts left rest : List Tree) (u : Tree) (vs : List V) → ts ≡ map tree vs ++ left → AreOf wanted (map tree vs) → left ≡ u ∷ rest → kind_of u ≡ wanted → IsFirstOf wanted ts
+  begins ts left rest u vs a all b h = subst (IsFirstOf wanted) (sym (a ∙ ap (λ l. map tree vs ++ l) b)) (go vs all)
+    where
+      go : (us : List V) → AreOf wanted (map tree us) → IsFirstOf wanted (map tree us ++ u ∷ rest)
+      go [] r = h
+      go (v ∷ us) r = r.0
+
+  pub no_room : (path : Bor (List Step)) (ts left rest : List Tree) (u : Tree) (vs : List V) (e : ReadError) → ts ≡ map tree vs ++ left → AreOf wanted (map tree vs) → left ≡ u ∷ rest
+      → kind_of u ≡ wanted → e ≡ record { path = path; item = None; position = None; reason = OutOfMemory } → ExplainsItem wanted (steps_of path.now) ts e
+  no_room path ts left rest u vs e a all b h g = subst (ExplainsItem wanted (steps_of path.now) ts) (sym g) (refl, begins ts left rest u vs a all b h)
 
   pub other_item : (path : Bor (List Step)) (ts left rest : List Tree) (u : Tree) (vs : List V) (n : ℕ) (k : Kind) (e : ReadError) → ts ≡ map tree vs ++ left → AreOf wanted (map tree vs)
       → left ≡ u ∷ rest → n ≡ length vs → kind_of u ≢ wanted → k ≡ wanted → e ≡ record { path = path; item = Some n; position = None; reason = Other k (kind_of u) }

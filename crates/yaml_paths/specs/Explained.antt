@@ -36,10 +36,15 @@ pub record IsOtherItem (wanted : Kind) (ts : List Tree) (place : ℕ) (found : K
   pub is : found ≡ kind_of item
   pub other : found ≢ wanted
 
--- of items: one of them is of another kind, or memory was refused
+-- The first of them is of this kind. So there is one, and memory is asked for its value.
+abbrev pub IsFirstOf : Kind → List Tree → Type 0
+IsFirstOf k [] = ⊥
+IsFirstOf k (t ∷ ts) = kind_of t ≡ k
+
+-- of items: one of them is of another kind, or memory was refused for their values
 abbrev pub ExplainsItemAs : Kind → List json.Step → List Tree → ReadError → Option ℕ → Reason → Type 0
 ExplainsItemAs wanted path ts e (Some i) (Other w found) = (steps_of e.path.now ≡ path) × (w ≡ wanted) × IsOtherItem wanted ts i found
-ExplainsItemAs wanted path ts e None OutOfMemory = steps_of e.path.now ≡ path
+ExplainsItemAs wanted path ts e None OutOfMemory = (steps_of e.path.now ≡ path) × IsFirstOf wanted ts
 ExplainsItemAs wanted path ts e _ _ = ⊥
 
 abbrev pub ExplainsItem : Kind → List json.Step → List Tree → ReadError → Type 0

@@ -32,7 +32,7 @@ pub enum Reason {
         /// The node's kind.
         found: Kind,
     },
-    /// Memory was refused for a list.
+    /// Memory was refused for a list that is not empty.
     OutOfMemory,
 }
 

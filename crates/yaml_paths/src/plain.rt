@@ -52,7 +52,7 @@ pub fn read<'a, 'p, T: FromYaml<'a>>(
 /// # Errors
 ///
 /// As those of [`read`], where an array is wanted. `Other` with a place in `item` if an item is of another kind: the first
-/// such item. `OutOfMemory` if memory was refused for the list.
+/// such item. `OutOfMemory` if memory was refused for the list; an empty array asks for none.
 pub fn read_list<'a, 'p, T: FromYaml<'a>>(
     alloc: Global,
     node: &'a Yaml,
