@@ -7,7 +7,7 @@ use Rattle.defs_text.specs.Position.{Position}
 use Rattle.defs_token.specs.Token.{Style, Tok}
 use Rattle.defs_event.specs.Event.{Ev}
 use Rattle.defs_event.specs.Raw.{Raw}
-use Rattle.defs_event.specs.Grammar.{scalar, flow_content, no_flow, end_items, no_items, single, no_flow_value, no_flow_pairs, end_flow_pairs, flow_keyless, block_content, flow, no_node, end_entries, plain, end_dashes, keyed, end_pairs, no_value, others, end_stream, unmarked, anchor_of, tag_of, Documents, stream_tokens}
+use Rattle.defs_event.specs.Grammar.{anchor_of, tag_of, Documents, stream_tokens}
 use Rattle.defs_event.specs.Names.{Names, number, named, both, names_after, resolved_event, resolved, perhaps_resolved, are_allowed, no_names}
 use Rattle.defs_event.proofs.NameLemmas.{both_some}
 use Rattle.defs_event.specs.Stream.{Before, nothing_before, place_of, events_of, positions_of, taken_positions, given_after, given_positions}
@@ -15,9 +15,9 @@ use Rattle.model_parser.specs.declared.context.NodeContext.TheVariants as contex
 use Rattle.model_parser.specs.declared.state.State.{State}
 use Rattle.model_parser.specs.declared.state.State.TheVariants as state
 use Rattle.model_parser.specs.Goal as at
-use Rattle.model_parser.specs.Goal.{Goal, Awaits, goal_events, goal_tokens, part_content, part_node, last, another_pair}
+use Rattle.model_parser.specs.Goal.{Goal, goal_events, goal_tokens}
 use Rattle.model_parser.proofs.Shortest.{shortest, ending}
-use Rattle.model_parser.specs.Rest.{Rest, rest_events, rest_tokens, goal_of, still_tokens, still_events}
+use Rattle.model_parser.specs.Rest.{rest_events, rest_tokens, goal_of, still_tokens, still_events}
 use Rattle.yaml_parser.specs.declared.reader.Reader.{Reader}
 use Rattle.defs_token.specs.Token as defs
 use Rattle.yaml_tokens.specs.declared.token.Token.{Token}
