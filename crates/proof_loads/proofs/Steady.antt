@@ -45,4 +45,5 @@ blames_steady {f} {settings} {keep_tags} {tokens} {events} all b = record {
   stands = b.stands;
   apart = b.apart;
   none = b.none;
+  some = b.some;
 }
