@@ -1,12 +1,12 @@
 -- The turns carry where a parser stands.
-use Rattle.std.proofs.Common.{◌≡◌, List, [], ◌∷◌, ◌++◌, Option, Some, None, true, refl, sym, ap, ◌∙◌, append_assoc, subst}
+use Rattle.std.proofs.Common.{◌≡◌, ◌⊎◌, inl, inr, List, [], ◌∷◌, ◌++◌, Option, Some, None, true, refl, sym, ap, ◌∙◌, append_assoc, subst}
 use Rattle.std.proofs.lemmas.Bool.{both_ways}
 use Rattle.defs_token.specs.Token.{Tok}
 use Rattle.defs_event.specs.Raw.{Raw}
 use Rattle.defs_event.specs.Grammar.{stream_tokens}
 use Rattle.model_parser.specs.declared.state.State.{State}
 use Rattle.model_parser.specs.Goal.{Goal}
-use Rattle.model_parser.specs.Place.{Collection, open_past, open_after, Next, next_past, next_after, other_next, next_at, top, is_node, is_after, is_directive_next}
+use Rattle.model_parser.specs.Place.{Collection, open_past, open_after, Next, next_past, next_after, other_next, next_at, top, is_node, is_after, is_directive_next, is_past_directives}
 use Rattle.model_parser.specs.Stands.{IsOnTrack, IsNext, GoesOn, IsSettled, as_tokens, goes_on, at_directive}
 use Rattle.model_parser.specs.Turn.{Takes, Leaves, MayCome, Settles, alike, alike_after, without_node, before_directive, event_then, then_event}
 
@@ -29,6 +29,7 @@ stands_take g ss t e g' ss' taken given k s = record {
   fits = (k.nested s.nested s.fits).1;
   opened = open_more [] taken t ∙ ap (open_past t) s.opened ∙ k.opened;
   settled = as_tokens (next_more other_next taken t ∙ k.next s.fits);
+  past = λ h. absurd (both_ways (is_past_directives g' ss') (k.past s.fits) h);
   sound = λ x' r'.
       let b = k.comes x' r' in
       let d = s.sound b.0 b.1 in
@@ -57,6 +58,10 @@ settled_on g ss p g' ss' taken given (alike_after e n) s = as_before g ss p g' s
 settled_on g ss p g' ss' taken given (without_node h m) s = goes_on h (comes_on g ss p taken given s m)
 settled_on g ss p g' ss' taken given (before_directive a d) s = at_directive a d
 
+past_on : {A B : Type 0} → A ⊎ B → (A → B) → B
+past_on (inl a) f = f a
+past_on (inr b) f = b
+
 pub stands_leave : (g : Goal) (ss : List State) (p : Option Tok) (e : Option Raw) (g' : Goal) (ss' : List State) (taken : List Tok) (given : List Raw)
     → Leaves g ss p e g' ss' → IsOnTrack g ss taken p given → IsOnTrack g' ss' taken p (then_event given e)
 stands_leave g ss p e g' ss' taken given k s = record {
@@ -64,6 +69,7 @@ stands_leave g ss p e g' ss' taken given k s = record {
   fits = (k.nested s.nested s.fits).1;
   opened = s.opened ∙ k.opened;
   settled = settled_on g ss p g' ss' taken given (k.settles s.fits) s;
+  past = λ h. past_on (k.past s.fits h) s.past;
   sound = λ x' r'.
       let b = k.comes x' r' in
       let d = s.sound b.0 b.1 in

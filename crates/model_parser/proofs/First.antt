@@ -258,7 +258,7 @@ pairs_give ss t kind.BlockEnd e h = let ts = rest_tokens ss (ending ss) in ((key
 pairs_give ss t _ e h = cc
 
 pub after_pairs : (ss : List State) → EndsPart (state.BlockMappingKey ∷ ss)
-after_pairs ss = (λ r. pairs_first r.0 _, λ t h. pairs_give ss t (kind_of t) refl h)
+after_pairs ss = (λ r. pairs_first r.0 _, λ t h. pairs_give ss t (kind_of t) refl h, refl)
 
 value_gives : (ss : List State) (t : Tok) (k : Kind) → kind_of t ≡ k → ends_part k ≡ true → Gives state.BlockMappingValue ss t
 value_gives ss t kind.Key e h = let ts = Tok.block_end ∷ rest_tokens ss (ending ss) in ((no_value (key (plain no_node) (no_value end_pairs)), ending ss), ts, ap (λ u. u ∷ ts) (sym (tok_is e refl)))
@@ -267,7 +267,7 @@ value_gives ss t kind.BlockEnd e h = let ts = rest_tokens ss (ending ss) in ((no
 value_gives ss t _ e h = cc
 
 pub after_after_key : (ss : List State) → EndsPart (state.BlockMappingValue ∷ ss)
-after_after_key ss = (λ r. after_key_first r.0 _, λ t h. value_gives ss t (kind_of t) refl h)
+after_after_key ss = (λ r. after_key_first r.0 _, λ t h. value_gives ss t (kind_of t) refl h, refl)
 
 pub after_more_items : (ss : List State) → BeginsNoNode context.Flow (state.FlowSequenceEntry ∷ ss)
 after_more_items ss r = first_more ends_item (λ k. not (begins_node context.Flow k)) (λ k h. item_no_node context.Flow k (item_is_key k h)) _ (more_items_first r.0 _)

@@ -1,5 +1,6 @@
 -- The turns in nodes.
-use Rattle.std.proofs.Common.{ℕ, ◌≡◌, ◌≢◌, List, [], ◌∷◌, Option, Some, None, true, false, not, refl, sym, ap, ◌∙◌, subst}
+use Rattle.std.proofs.Common.{inl, ℕ, ◌≡◌, ◌≢◌, List, [], ◌∷◌, Option, Some, None, true, false, not, refl, sym, ap, ◌∙◌, subst}
+use Rattle.std.proofs.lemmas.Bool.{both_ways}
 use Rattle.defs_token.specs.Token.{Style, Tok}
 use Rattle.defs_event.specs.Event.{Tag}
 use Rattle.defs_event.specs.Raw.{Raw}
@@ -12,12 +13,13 @@ use Rattle.model_parser.specs.declared.state.State.{State}
 use Rattle.model_parser.specs.declared.state.State.TheVariants as state
 use Rattle.model_parser.specs.Kinds.{kind_of, begins_node, begins_content}
 use Rattle.model_parser.specs.Goal as at
+use Rattle.model_parser.specs.Place.{is_past_directives}
 use Rattle.model_parser.specs.Goal.{NodeAt, ContentAt, part_node, part_sequence, part_content, part_dashes, node_at_tokens, node_at_events, content_at_tokens, content_at_events, perhaps_content_tokens, perhaps_content_events, IsThere, anchor_and, tag_and, perhaps_tag_tokens, perhaps_anchor_tokens, Awaits}
 use Rattle.model_parser.specs.Rest.{Rest, rest_tokens, rest_events, EndsNode}
 use Rattle.model_parser.specs.Turn.{Goes, Comes, Stays, Takes, Leaves, Refuses, alike}
 use Rattle.model_parser.specs.Stands.{IsNext}
 use Rattle.model_parser.proofs.First.{clash, clash_cons, begins_some, content_first, flow_content_first, content_at_first, after_begins_none, ends_part_begins_none, block_begins_fewer, first_more, first_token}
-use Rattle.model_parser.proofs.Settling.{under_goes, under_other, next_alike}
+use Rattle.model_parser.proofs.Settling.{under_goes, under_other, under_past, past_alike, next_alike}
 
 -- ---- a node is an alias, or properties and a content of which one at least is there
 
@@ -148,7 +150,7 @@ node_alias_comes : (p : NodeContext) (ss : List State) (name : List ℕ) → (n 
 node_alias_comes p ss name n a r' = (n, r', a.tokens _, a.events _)
 
 pub node_alias : (p : NodeContext) (ss : List State) (name : List ℕ) → Takes (at.node p) ss (Tok.alias name) (Some (Raw.alias name)) at.done ss
-node_alias p ss name = record { nested = λ n f. (n, under_goes ss f.1); comes = λ x' r'. node_alias_comes p ss name (alias_node p name).0 (alias_node p name).1 r'; goes = λ n f x. node_alias_goes p ss name x f.0 (case_of p x); opened = refl; next = λ f. under_other ss f.1 }
+node_alias p ss name = record { nested = λ n f. (n, under_goes ss f.1); comes = λ x' r'. node_alias_comes p ss name (alias_node p name).0 (alias_node p name).1 r'; goes = λ n f x. node_alias_goes p ss name x f.0 (case_of p x); opened = refl; next = λ f. under_other ss f.1; past = λ f. under_past ss f.1 }
 
 -- ---- an anchor
 
@@ -179,7 +181,7 @@ node_anchor_comes : (p : NodeContext) (ss : List State) (a : List ℕ) (x : Opti
 node_anchor_comes p ss a x m r' = (m.made, r', m.tokens _ ∙ node_anchor_tokens a x.0 _, m.events _)
 
 pub node_anchor : (p : NodeContext) (ss : List State) (a : List ℕ) → Takes (at.node p) ss (Tok.anchor a) None (at.after_anchor p a) ss
-node_anchor p ss a = record { nested = λ n f. (n, f); comes = λ x'. node_anchor_comes p ss a x' (make p (Some (anchor_and a x'.0)) x'.1 tt); goes = λ n f x. node_anchor_goes p ss a x f.0 (case_of p x); opened = refl; next = λ f. refl }
+node_anchor p ss a = record { nested = λ n f. (n, f); comes = λ x'. node_anchor_comes p ss a x' (make p (Some (anchor_and a x'.0)) x'.1 tt); goes = λ n f x. node_anchor_goes p ss a x f.0 (case_of p x); opened = refl; next = λ f. refl; past = λ f. refl }
 
 -- ---- a tag
 
@@ -210,7 +212,7 @@ node_tag_comes : (p : NodeContext) (ss : List State) (t : Tag) (x : Option (List
 node_tag_comes p ss t x m r' = (m.made, r', m.tokens _ ∙ node_tag_tokens t x.0 _, m.events _)
 
 pub node_tag : (p : NodeContext) (ss : List State) (t : Tag) → Takes (at.node p) ss (tag_token t) None (at.after_tag p t) ss
-node_tag p ss t = record { nested = λ n f. (n, f); comes = λ x'. node_tag_comes p ss t x' (make p (Some (tag_and t x'.0)) x'.1 tt); goes = λ n f x. node_tag_goes p ss t x f.0 (case_of p x); opened = refl; next = λ f. refl }
+node_tag p ss t = record { nested = λ n f. (n, f); comes = λ x'. node_tag_comes p ss t x' (make p (Some (tag_and t x'.0)) x'.1 tt); goes = λ n f x. node_tag_goes p ss t x f.0 (case_of p x); opened = refl; next = λ f. refl; past = λ f. refl }
 
 -- ---- no properties
 
@@ -231,7 +233,7 @@ node_content_comes : (p : NodeContext) (ss : List State) (x : Awaits (at.after_p
 node_content_comes p ss x m r' = (m.made, r', m.tokens _, m.events _)
 
 pub node_content : (p : NodeContext) (ss : List State) (t : Tok) → kind_of t ≢ kind.Alias → kind_of t ≢ kind.Anchor → kind_of t ≢ kind.Tag → Leaves (at.node p) ss (Some t) None (at.after_properties p None) ss
-node_content p ss t a b d = record { nested = λ n f. (n, f); comes = λ x'. node_content_comes p ss x' (make p None x'.0 x'.1); goes = λ n f x. node_content_goes p ss t a b d x (case_of p x); opened = refl; settles = λ f. alike refl refl }
+node_content p ss t a b d = record { nested = λ n f. (n, f); comes = λ x'. node_content_comes p ss x' (make p None x'.0 x'.1); goes = λ n f x. node_content_goes p ss t a b d x (case_of p x); opened = refl; settles = λ f. alike refl refl; past = λ f h. inl h }
 
 -- ---- after an anchor, or a tag
 
@@ -240,28 +242,28 @@ anchor_tag_goes p ss a t b (None, c) r ts h = absurd (no_property p ss b c r (ta
 anchor_tag_goes p ss a t b (Some t', c) r ts h = ((c, tt), r, tail_eq h, ap (λ x. perhaps_content_events p (Some (anchored_tagged a x)) c (rest_events ss r)) (tag_eq t' t (head_eq h)))
 
 pub anchor_tag : (p : NodeContext) (ss : List State) (a : List ℕ) (t : Tag) → Takes (at.after_anchor p a) ss (tag_token t) None (at.after_properties p (Some (anchored_tagged a t))) ss
-anchor_tag p ss a t = record { nested = λ n f. (n, f); comes = λ x' r'. ((Some t, x'.0), r', refl, refl); goes = λ n f. anchor_tag_goes p ss a t f.0; opened = refl; next = λ f. refl }
+anchor_tag p ss a t = record { nested = λ n f. (n, f); comes = λ x' r'. ((Some t, x'.0), r', refl, refl); goes = λ n f. anchor_tag_goes p ss a t f.0; opened = refl; next = λ f. refl; past = λ f. refl }
 
 anchor_alone_goes : (p : NodeContext) (ss : List State) (a : List ℕ) (t : Tok) → kind_of t ≢ kind.Tag → (x : Option Tag × Option (ContentAt p)) → Stays (at.after_anchor p a) ss (Some t) None (at.after_properties p (Some (anchored a))) ss x
 anchor_alone_goes p ss a t d (None, c) r h = ((c, tt), r, refl, refl)
 anchor_alone_goes p ss a t d (Some t', c) r h = absurd (d (ap kind_of (sym h)))
 
 pub anchor_alone : (p : NodeContext) (ss : List State) (a : List ℕ) (t : Tok) → kind_of t ≢ kind.Tag → Leaves (at.after_anchor p a) ss (Some t) None (at.after_properties p (Some (anchored a))) ss
-anchor_alone p ss a t d = record { nested = λ n f. (n, f); comes = λ x' r'. ((None, x'.0), r', refl, refl); goes = λ n f. anchor_alone_goes p ss a t d; opened = refl; settles = λ f. alike refl refl }
+anchor_alone p ss a t d = record { nested = λ n f. (n, f); comes = λ x' r'. ((None, x'.0), r', refl, refl); goes = λ n f. anchor_alone_goes p ss a t d; opened = refl; settles = λ f. alike refl refl; past = λ f h. inl h }
 
 tag_anchor_goes : (p : NodeContext) (ss : List State) (t : Tag) (a : List ℕ) → EndsNode p ss → (x : Option (List ℕ) × Option (ContentAt p)) → Goes (at.after_tag p t) ss (Tok.anchor a) None (at.after_properties p (Some (tagged_anchored t a))) ss x
 tag_anchor_goes p ss t a b (None, c) r ts h = absurd (no_property p ss b c r (Tok.anchor a) (begins_some (Tok.anchor a) ts _ h) refl (anchor_no_content p))
 tag_anchor_goes p ss t a b (Some a', c) r ts h = let e : a' ≡ a = cc in ((c, tt), r, tail_eq h, ap (λ x. perhaps_content_events p (Some (tagged_anchored t x)) c (rest_events ss r)) e)
 
 pub tag_anchor : (p : NodeContext) (ss : List State) (t : Tag) (a : List ℕ) → Takes (at.after_tag p t) ss (Tok.anchor a) None (at.after_properties p (Some (tagged_anchored t a))) ss
-tag_anchor p ss t a = record { nested = λ n f. (n, f); comes = λ x' r'. ((Some a, x'.0), r', refl, refl); goes = λ n f. tag_anchor_goes p ss t a f.0; opened = refl; next = λ f. refl }
+tag_anchor p ss t a = record { nested = λ n f. (n, f); comes = λ x' r'. ((Some a, x'.0), r', refl, refl); goes = λ n f. tag_anchor_goes p ss t a f.0; opened = refl; next = λ f. refl; past = λ f. refl }
 
 tag_alone_goes : (p : NodeContext) (ss : List State) (t : Tag) (u : Tok) → kind_of u ≢ kind.Anchor → (x : Option (List ℕ) × Option (ContentAt p)) → Stays (at.after_tag p t) ss (Some u) None (at.after_properties p (Some (tagged t))) ss x
 tag_alone_goes p ss t u d (None, c) r h = ((c, tt), r, refl, refl)
 tag_alone_goes p ss t u d (Some a, c) r h = absurd (d (ap kind_of (sym h)))
 
 pub tag_alone : (p : NodeContext) (ss : List State) (t : Tag) (u : Tok) → kind_of u ≢ kind.Anchor → Leaves (at.after_tag p t) ss (Some u) None (at.after_properties p (Some (tagged t))) ss
-tag_alone p ss t u d = record { nested = λ n f. (n, f); comes = λ x' r'. ((None, x'.0), r', refl, refl); goes = λ n f. tag_alone_goes p ss t u d; opened = refl; settles = λ f. alike refl refl }
+tag_alone p ss t u d = record { nested = λ n f. (n, f); comes = λ x' r'. ((None, x'.0), r', refl, refl); goes = λ n f. tag_alone_goes p ss t u d; opened = refl; settles = λ f. alike refl refl; past = λ f h. inl h }
 
 -- ---- a content
 
@@ -271,7 +273,7 @@ after_dash_goes ss o b (Some (part_content c), i) r ts h = absurd (clash_cons (b
 after_dash_goes ss o b (Some (part_dashes q d), i) r ts h = (tt, ((q, d), r), tail_eq h, refl)
 
 pub after_dash : (ss : List State) (o : Option Properties) → Takes (at.after_properties context.Part o) ss Tok.block_entry (Some (Raw.sequence_start (perhaps_anchor_of o) (perhaps_tag_of o))) at.done (state.IndentlessSequenceItem ∷ ss)
-after_dash ss o = record { nested = λ n f. ((f, n), tt); comes = λ x' r'. ((Some (part_dashes r'.0.0 r'.0.1), there_some o _), r'.1, refl, refl); goes = λ n f. after_dash_goes ss o f.0; opened = refl; next = λ f. refl }
+after_dash ss o = record { nested = λ n f. ((f, n), tt); comes = λ x' r'. ((Some (part_dashes r'.0.0 r'.0.1), there_some o _), r'.1, refl, refl); goes = λ n f. after_dash_goes ss o f.0; opened = refl; next = λ f. refl; past = λ f. refl }
 
 part_block_goes : (ss : List State) (o : Option Properties) (t : Tok) → kind_of t ≢ kind.BlockEntry → (x : Awaits (at.after_properties context.Part o)) → Stays (at.after_properties context.Part o) ss (Some t) None (at.after_properties context.Block o) ss x
 part_block_goes ss o t a (None, i) r h = ((None, there_none (ContentAt context.Part) (ContentAt context.Block) o i), r, refl, refl)
@@ -283,7 +285,7 @@ part_block_comes ss o (None, i) r' = ((None, there_none (ContentAt context.Block
 part_block_comes ss o (Some c, i) r' = ((Some (part_content c), there_some o _), r', refl, refl)
 
 pub part_block : (ss : List State) (o : Option Properties) (t : Tok) → kind_of t ≢ kind.BlockEntry → Leaves (at.after_properties context.Part o) ss (Some t) None (at.after_properties context.Block o) ss
-part_block ss o t a = record { nested = λ n f. (n, (ends_part_begins_none context.Block ss f.0, f.1)); comes = part_block_comes ss o; goes = λ n f. part_block_goes ss o t a; opened = refl; settles = λ f. alike (next_alike context.Part context.Block o) refl }
+part_block ss o t a = record { nested = λ n f. (n, (ends_part_begins_none context.Block ss f.0, f.1)); comes = part_block_comes ss o; goes = λ n f. part_block_goes ss o t a; opened = refl; settles = λ f. alike (next_alike context.Part context.Block o) refl; past = λ f h. inl (past_alike context.Part context.Block o ss ∙ h) }
 
 after_sequence_goes : (ss : List State) (o : Option Properties) → EndsNode context.Block ss → (x : Awaits (at.after_properties context.Block o)) → Goes (at.after_properties context.Block o) ss Tok.block_sequence_start (Some (Raw.sequence_start (perhaps_anchor_of o) (perhaps_tag_of o))) at.done (state.BlockSequenceEntry ∷ ss) x
 after_sequence_goes ss o b (None, i) r ts h = absurd (none_begins context.Block ss b r Tok.block_sequence_start (begins_some Tok.block_sequence_start ts _ h) refl)
@@ -294,7 +296,7 @@ after_sequence_goes ss o b (Some (flow (flow_sequence x)), i) r ts h = cc
 after_sequence_goes ss o b (Some (flow (flow_mapping x)), i) r ts h = cc
 
 pub after_sequence : (ss : List State) (o : Option Properties) → Takes (at.after_properties context.Block o) ss Tok.block_sequence_start (Some (Raw.sequence_start (perhaps_anchor_of o) (perhaps_tag_of o))) at.done (state.BlockSequenceEntry ∷ ss)
-after_sequence ss o = record { nested = λ n f. ((f.1, n), tt); comes = λ x' r'. ((Some (block_sequence r'.0), there_some o _), r'.1, refl, refl); goes = λ n f. after_sequence_goes ss o f.0; opened = refl; next = λ f. refl }
+after_sequence ss o = record { nested = λ n f. ((f.1, n), tt); comes = λ x' r'. ((Some (block_sequence r'.0), there_some o _), r'.1, refl, refl); goes = λ n f. after_sequence_goes ss o f.0; opened = refl; next = λ f. refl; past = λ f. refl }
 
 after_mapping_goes : (ss : List State) (o : Option Properties) → EndsNode context.Block ss → (x : Awaits (at.after_properties context.Block o)) → Goes (at.after_properties context.Block o) ss Tok.block_mapping_start (Some (Raw.mapping_start (perhaps_anchor_of o) (perhaps_tag_of o))) at.done (state.BlockMappingKey ∷ ss) x
 after_mapping_goes ss o b (None, i) r ts h = absurd (none_begins context.Block ss b r Tok.block_mapping_start (begins_some Tok.block_mapping_start ts _ h) refl)
@@ -305,7 +307,7 @@ after_mapping_goes ss o b (Some (flow (flow_sequence x)), i) r ts h = cc
 after_mapping_goes ss o b (Some (flow (flow_mapping x)), i) r ts h = cc
 
 pub after_mapping : (ss : List State) (o : Option Properties) → Takes (at.after_properties context.Block o) ss Tok.block_mapping_start (Some (Raw.mapping_start (perhaps_anchor_of o) (perhaps_tag_of o))) at.done (state.BlockMappingKey ∷ ss)
-after_mapping ss o = record { nested = λ n f. ((f.1, n), tt); comes = λ x' r'. ((Some (block_mapping r'.0), there_some o _), r'.1, refl, refl); goes = λ n f. after_mapping_goes ss o f.0; opened = refl; next = λ f. refl }
+after_mapping ss o = record { nested = λ n f. ((f.1, n), tt); comes = λ x' r'. ((Some (block_mapping r'.0), there_some o _), r'.1, refl, refl); goes = λ n f. after_mapping_goes ss o f.0; opened = refl; next = λ f. refl; past = λ f. refl }
 
 block_flow_goes : (ss : List State) (o : Option Properties) (t : Tok) → kind_of t ≢ kind.BlockSequenceStart → kind_of t ≢ kind.BlockMappingStart → (x : Awaits (at.after_properties context.Block o)) → Stays (at.after_properties context.Block o) ss (Some t) None (at.after_properties context.Flow o) ss x
 block_flow_goes ss o t a b (None, i) r h = ((None, there_none (ContentAt context.Block) (ContentAt context.Flow) o i), r, refl, refl)
@@ -321,7 +323,7 @@ block_flow_after : (ss : List State) → EndsNode context.Block ss → EndsNode 
 block_flow_after ss b r = first_more (λ k. not (begins_node context.Block k)) (λ k. not (begins_node context.Flow k)) block_begins_fewer (rest_tokens ss r) (b r)
 
 pub block_flow : (ss : List State) (o : Option Properties) (t : Tok) → kind_of t ≢ kind.BlockSequenceStart → kind_of t ≢ kind.BlockMappingStart → Leaves (at.after_properties context.Block o) ss (Some t) None (at.after_properties context.Flow o) ss
-block_flow ss o t a b = record { nested = λ n f. (n, (block_flow_after ss f.0, f.1)); comes = block_flow_comes ss o; goes = λ n f. block_flow_goes ss o t a b; opened = refl; settles = λ f. alike (next_alike context.Block context.Flow o) refl }
+block_flow ss o t a b = record { nested = λ n f. (n, (block_flow_after ss f.0, f.1)); comes = block_flow_comes ss o; goes = λ n f. block_flow_goes ss o t a b; opened = refl; settles = λ f. alike (next_alike context.Block context.Flow o) refl; past = λ f h. inl (past_alike context.Block context.Flow o ss ∙ h) }
 
 after_scalar_goes : (ss : List State) (o : Option Properties) (y : Style) (v : List ℕ) → EndsNode context.Flow ss → (x : Awaits (at.after_properties context.Flow o)) → Goes (at.after_properties context.Flow o) ss (Tok.scalar y v) (Some (Raw.scalar v y (perhaps_anchor_of o) (perhaps_tag_of o))) at.done ss x
 after_scalar_goes ss o y v b (None, i) r ts h = absurd (none_begins context.Flow ss b r (Tok.scalar y v) (begins_some (Tok.scalar y v) ts _ h) refl)
@@ -330,7 +332,7 @@ after_scalar_goes ss o y v b (Some (flow_sequence x), i) r ts h = cc
 after_scalar_goes ss o y v b (Some (flow_mapping x), i) r ts h = cc
 
 pub after_scalar : (ss : List State) (o : Option Properties) (y : Style) (v : List ℕ) → Takes (at.after_properties context.Flow o) ss (Tok.scalar y v) (Some (Raw.scalar v y (perhaps_anchor_of o) (perhaps_tag_of o))) at.done ss
-after_scalar ss o y v = record { nested = λ n f. (n, under_goes ss f.1); comes = λ x' r'. ((Some (scalar y v), there_some o _), r', refl, refl); goes = λ n f. after_scalar_goes ss o y v f.0; opened = refl; next = λ f. under_other ss f.1 }
+after_scalar ss o y v = record { nested = λ n f. (n, under_goes ss f.1); comes = λ x' r'. ((Some (scalar y v), there_some o _), r', refl, refl); goes = λ n f. after_scalar_goes ss o y v f.0; opened = refl; next = λ f. under_other ss f.1; past = λ f. under_past ss f.1 }
 
 after_brackets_goes : (ss : List State) (o : Option Properties) → EndsNode context.Flow ss → (x : Awaits (at.after_properties context.Flow o)) → Goes (at.after_properties context.Flow o) ss Tok.flow_sequence_start (Some (Raw.flow_sequence_start (perhaps_anchor_of o) (perhaps_tag_of o))) at.done (state.FlowSequenceFirstEntry ∷ ss) x
 after_brackets_goes ss o b (None, i) r ts h = absurd (none_begins context.Flow ss b r Tok.flow_sequence_start (begins_some Tok.flow_sequence_start ts _ h) refl)
@@ -339,7 +341,7 @@ after_brackets_goes ss o b (Some (flow_sequence x), i) r ts h = (tt, (x, r), tai
 after_brackets_goes ss o b (Some (flow_mapping x), i) r ts h = cc
 
 pub after_brackets : (ss : List State) (o : Option Properties) → Takes (at.after_properties context.Flow o) ss Tok.flow_sequence_start (Some (Raw.flow_sequence_start (perhaps_anchor_of o) (perhaps_tag_of o))) at.done (state.FlowSequenceFirstEntry ∷ ss)
-after_brackets ss o = record { nested = λ n f. ((f.1, n), tt); comes = λ x' r'. ((Some (flow_sequence r'.0), there_some o _), r'.1, refl, refl); goes = λ n f. after_brackets_goes ss o f.0; opened = refl; next = λ f. refl }
+after_brackets ss o = record { nested = λ n f. ((f.1, n), tt); comes = λ x' r'. ((Some (flow_sequence r'.0), there_some o _), r'.1, refl, refl); goes = λ n f. after_brackets_goes ss o f.0; opened = refl; next = λ f. refl; past = λ f. refl }
 
 after_braces_goes : (ss : List State) (o : Option Properties) → EndsNode context.Flow ss → (x : Awaits (at.after_properties context.Flow o)) → Goes (at.after_properties context.Flow o) ss Tok.flow_mapping_start (Some (Raw.flow_mapping_start (perhaps_anchor_of o) (perhaps_tag_of o))) at.done (state.FlowMappingFirstKey ∷ ss) x
 after_braces_goes ss o b (None, i) r ts h = absurd (none_begins context.Flow ss b r Tok.flow_mapping_start (begins_some Tok.flow_mapping_start ts _ h) refl)
@@ -348,14 +350,14 @@ after_braces_goes ss o b (Some (flow_sequence x), i) r ts h = cc
 after_braces_goes ss o b (Some (flow_mapping x), i) r ts h = (tt, (x, r), tail_eq h, refl)
 
 pub after_braces : (ss : List State) (o : Option Properties) → Takes (at.after_properties context.Flow o) ss Tok.flow_mapping_start (Some (Raw.flow_mapping_start (perhaps_anchor_of o) (perhaps_tag_of o))) at.done (state.FlowMappingFirstKey ∷ ss)
-after_braces ss o = record { nested = λ n f. ((f.1, n), tt); comes = λ x' r'. ((Some (flow_mapping r'.0), there_some o _), r'.1, refl, refl); goes = λ n f. after_braces_goes ss o f.0; opened = refl; next = λ f. refl }
+after_braces ss o = record { nested = λ n f. ((f.1, n), tt); comes = λ x' r'. ((Some (flow_mapping r'.0), there_some o _), r'.1, refl, refl); goes = λ n f. after_braces_goes ss o f.0; opened = refl; next = λ f. refl; past = λ f. refl }
 
 properties_only_goes : (ss : List State) (o : Properties) (t : Tok) → begins_content context.Flow (kind_of t) ≡ false → (x : Awaits (at.after_properties context.Flow (Some o))) → Stays (at.after_properties context.Flow (Some o)) ss (Some t) (Some (Raw.empty_scalar (anchor_of o) (tag_of o))) at.done ss x
 properties_only_goes ss o t a (None, i) r h = (tt, r, refl, refl)
 properties_only_goes ss o t a (Some c, i) r h = absurd (clash (begins_content context.Flow) _ t (flow_content_first c _) a h)
 
 pub properties_only : (ss : List State) (o : Properties) (t : Tok) → begins_content context.Flow (kind_of t) ≡ false → Leaves (at.after_properties context.Flow (Some o)) ss (Some t) (Some (Raw.empty_scalar (anchor_of o) (tag_of o))) at.done ss
-properties_only ss o t a = record { nested = λ n f. (n, under_goes ss f.1); comes = λ x' r'. ((None, tt), r', refl, refl); goes = λ n f. properties_only_goes ss o t a; opened = refl; settles = λ f. alike (under_other ss f.1) refl }
+properties_only ss o t a = record { nested = λ n f. (n, under_goes ss f.1); comes = λ x' r'. ((None, tt), r', refl, refl); goes = λ n f. properties_only_goes ss o t a; opened = refl; settles = λ f. alike (under_other ss f.1) refl; past = λ f h. absurd (both_ways (is_past_directives at.done ss) (under_past ss f.1) h) }
 
 pub nothing_refuses : (ss : List State) (t : Tok) → begins_content context.Flow (kind_of t) ≡ false → Refuses (at.after_properties context.Flow None) ss t
 nothing_refuses ss t a n f (None, i) r h = i

@@ -12,8 +12,8 @@ use Rattle.model_parser.specs.declared.state.State.TheVariants as state
 use Rattle.model_parser.specs.Kinds.{kind_of, begins_node, ends_entry, ends_dashed, ends_part, ends_item, ends_item_key, ends_flow_pair, ends_flow_key, ends_document, ends_content, is_directive, tok_of_kind, has_no_text}
 use Rattle.model_parser.specs.Goal as at
 use Rattle.model_parser.specs.Goal.{Goal, Awaits}
-use Rattle.model_parser.specs.Place.{Collection, open_past, directive_next, other_next, next_past, next_in, next_at}
-use Rattle.model_parser.specs.Rest.{Rest, rest_tokens, still_tokens, EndsPart, IsGoing, IsUnder}
+use Rattle.model_parser.specs.Place.{Collection, open_past, directive_next, other_next, next_past, next_in, next_at, is_over_document, is_past_directives}
+use Rattle.model_parser.specs.Rest.{Rest, rest_tokens, still_tokens, is_in_mapping, EndsPart, IsGoing, IsUnder}
 use Rattle.model_parser.specs.Turn.{MayCome, Settles, without_node, before_directive}
 use Rattle.model_parser.proofs.Shortest.{ending}
 use Rattle.model_parser.proofs.First.{tok_is, part_ends_no_node, item_no_node, flow_pair_no_node}
@@ -26,9 +26,9 @@ under_goes (s ∷ ss) h = tt
 
 pub under_other : (ss : List State) → IsUnder ss → other_next ≡ next_at at.done ss
 under_other [] h = absurd h
-under_other (state.StreamStart ∷ ss) h = refl
+under_other (state.StreamStart ∷ ss) h = absurd h
 under_other (state.ImplicitDocumentStart ∷ ss) h = absurd h
-under_other (state.DocumentStart ∷ ss) h = refl
+under_other (state.DocumentStart ∷ ss) h = absurd h
 under_other (state.DocumentContent ∷ ss) h = absurd h
 under_other (state.DocumentEnd ∷ ss) h = refl
 under_other (state.BlockNode ∷ ss) h = absurd h
@@ -49,6 +49,48 @@ under_other (state.FlowMappingKey ∷ ss) h = refl
 under_other (state.FlowMappingValue ∷ ss) h = refl
 under_other (state.FlowMappingPart m ∷ ss) h = absurd h
 under_other (state.FlowMappingEmptyValue ∷ ss) h = refl
+
+pub under_past : (ss : List State) → IsUnder ss → is_past_directives at.done ss ≡ false
+under_past [] h = absurd h
+under_past (state.StreamStart ∷ ss) h = absurd h
+under_past (state.ImplicitDocumentStart ∷ ss) h = absurd h
+under_past (state.DocumentStart ∷ ss) h = absurd h
+under_past (state.DocumentContent ∷ ss) h = absurd h
+under_past (state.DocumentEnd ∷ ss) h = refl
+under_past (state.BlockNode ∷ ss) h = absurd h
+under_past (state.BlockSequenceEntry ∷ ss) h = refl
+under_past (state.IndentlessSequenceEntry ∷ ss) h = refl
+under_past (state.IndentlessSequenceItem ∷ ss) h = absurd h
+under_past (state.BlockMappingKey ∷ ss) h = refl
+under_past (state.BlockMappingNextKey ∷ ss) h = refl
+under_past (state.BlockMappingValue ∷ ss) h = refl
+under_past (state.BlockMappingPart ∷ ss) h = absurd h
+under_past (state.FlowSequenceFirstEntry ∷ ss) h = absurd h
+under_past (state.FlowSequenceEntry ∷ ss) h = refl
+under_past (state.FlowSequenceEntryMappingKey ∷ ss) h = absurd h
+under_past (state.FlowSequenceEntryMappingValue ∷ ss) h = refl
+under_past (state.FlowSequenceEntryMappingEnd ∷ ss) h = refl
+under_past (state.FlowMappingFirstKey ∷ ss) h = absurd h
+under_past (state.FlowMappingKey ∷ ss) h = refl
+under_past (state.FlowMappingValue ∷ ss) h = refl
+under_past (state.FlowMappingPart m ∷ ss) h = absurd h
+under_past (state.FlowMappingEmptyValue ∷ ss) h = refl
+
+-- where a mapping goes on, no document's node is read
+pub mapping_no_document : (ss : List State) → is_in_mapping ss ≡ true → is_over_document ss ≡ false
+mapping_no_document (state.BlockMappingKey ∷ ss) h = refl
+mapping_no_document (state.BlockMappingValue ∷ ss) h = refl
+mapping_no_document _ h = cc
+
+pub past_alike : (p q : NodeContext) (o : Option Properties) (ss : List State) → is_past_directives (at.after_properties p o) ss ≡ is_past_directives (at.after_properties q o) ss
+past_alike p q None ss = refl
+past_alike p q (Some o) ss = refl
+
+pub no_directive : (k : Kind) → ends_document k ≡ true → is_directive k ≡ false
+no_directive kind.DocumentStart h = refl
+no_directive kind.DocumentEnd h = refl
+no_directive kind.StreamEnd h = refl
+no_directive _ h = cc
 
 -- what comes does not depend on the context
 pub next_alike : (p q : NodeContext) (o : Option Properties) → next_in (at.after_properties p o) ≡ next_in (at.after_properties q o)

@@ -1,7 +1,8 @@
 -- What stands before a token: the collections that are open, and whether a node may begin next.
-use Rattle.std.specs.Prelude.{List, [], ◌∷◌, Bool, true, false, Option, Some, None}
+use Rattle.std.specs.Prelude.{◌≡◌, List, [], ◌∷◌, Bool, true, false, Option, Some, None}
 use Rattle.defs_token.specs.Token.{Tok}
 use Rattle.model_parser.specs.declared.state.State.{State}
+use Rattle.model_parser.specs.declared.state.State.TheVariants as state
 use Rattle.model_parser.specs.Kinds.{kind_of, is_directive}
 use Rattle.model_parser.specs.Goal as at
 use Rattle.model_parser.specs.Goal.{Goal}
@@ -140,3 +141,25 @@ is_after _ = false
 abbrev pub is_directive_next : Option Tok → Bool
 is_directive_next None = false
 is_directive_next (Some t) = is_directive (kind_of t)
+
+-- whether a document's node is read over these
+abbrev pub is_over_document : List State → Bool
+is_over_document (state.DocumentEnd ∷ ss) = true
+is_over_document _ = false
+
+-- whether no directive may be next where this is read: before the node of a document, or its `---`, once something else was looked at
+abbrev pub is_past_in : Goal → List State → Bool
+is_past_in at.explicit ss = true
+is_past_in (at.node p) ss = is_over_document ss
+is_past_in (at.after_properties p None) ss = is_over_document ss
+is_past_in _ ss = false
+
+abbrev pub is_past_directives : Goal → List State → Bool
+is_past_directives at.done [] = false
+is_past_directives at.done (s ∷ ss) = is_past_in (goal_of s) ss
+is_past_directives g ss = is_past_in g ss
+
+-- The next token was looked at, and is no directive.
+abbrev pub IsNoDirective : Option Tok → Type 0
+IsNoDirective None = ⊥
+IsNoDirective (Some t) = is_directive (kind_of t) ≡ false

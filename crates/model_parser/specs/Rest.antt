@@ -1,5 +1,5 @@
 -- What may still come under a parser's stack.
-use Rattle.std.specs.Prelude.{◌≡◌, List, [], ◌∷◌, Bool, true, not}
+use Rattle.std.specs.Prelude.{◌≡◌, List, [], ◌∷◌, Bool, true, false, not}
 use Rattle.defs_token.specs.Token.{Tok}
 use Rattle.defs_event.specs.Raw.{Raw}
 use Rattle.model_parser.specs.declared.kind.Kind.{Kind}
@@ -66,9 +66,18 @@ first_is test (t ∷ ts) = test (kind_of t)
 abbrev pub BeginsNoNode : NodeContext → List State → Type 0
 BeginsNoNode p ss = (r : Rest ss) → first_is (λ k. not (begins_node p k)) (rest_tokens ss r) ≡ true
 
--- What comes here ends a part of a block mapping; and each token that does may come.
+-- whether a block mapping goes on with these
+abbrev pub is_in_mapping : List State → Bool
+is_in_mapping (state.BlockMappingKey ∷ ss) = true
+is_in_mapping (state.BlockMappingValue ∷ ss) = true
+is_in_mapping _ = false
+
+-- What comes here ends a part of a block mapping; each token that does may come; and the mapping goes on.
 abbrev pub EndsPart : List State → Type 0
-EndsPart ss = ((r : Rest ss) → first_is ends_part (rest_tokens ss r) ≡ true) × ((t : Tok) → ends_part (kind_of t) ≡ true → (r : Rest ss) × (ts : List Tok) × (rest_tokens ss r ≡ t ∷ ts))
+EndsPart ss =
+    ((r : Rest ss) → first_is ends_part (rest_tokens ss r) ≡ true)
+    × ((t : Tok) → ends_part (kind_of t) ≡ true → (r : Rest ss) × (ts : List Tok) × (rest_tokens ss r ≡ t ∷ ts))
+    × (is_in_mapping ss ≡ true)
 
 -- what stands under a node of that context
 abbrev pub EndsNode : NodeContext → List State → Type 0
@@ -84,9 +93,11 @@ abbrev pub IsGoing : List State → Type 0
 IsGoing [] = ⊥
 IsGoing (s ∷ ss) = Unit {0}
 
--- Something is awaited, and it is no node.
+-- Something is awaited, and it is no node, and no document or stream.
 abbrev pub IsUnder : List State → Type 0
 IsUnder [] = ⊥
+IsUnder (state.StreamStart ∷ ss) = ⊥
+IsUnder (state.DocumentStart ∷ ss) = ⊥
 IsUnder (state.ImplicitDocumentStart ∷ ss) = ⊥
 IsUnder (state.DocumentContent ∷ ss) = ⊥
 IsUnder (state.BlockNode ∷ ss) = ⊥

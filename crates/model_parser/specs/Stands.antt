@@ -5,7 +5,7 @@ use Rattle.defs_event.specs.Raw.{Raw}
 use Rattle.defs_event.specs.Grammar.{Documents, stream_tokens, stream_events}
 use Rattle.model_parser.specs.declared.state.State.{State}
 use Rattle.model_parser.specs.Goal.{Goal, Awaits}
-use Rattle.model_parser.specs.Place.{open_after, open_at, other_next, next_after, next_at, top, is_node, is_after, is_directive_next}
+use Rattle.model_parser.specs.Place.{open_after, open_at, other_next, next_after, next_at, top, is_node, is_after, is_directive_next, is_past_directives, IsNoDirective}
 use Rattle.model_parser.specs.Rest.{Rest, still_tokens, still_events, IsNested, IsFor}
 
 -- the next token, where it was looked at
@@ -33,6 +33,7 @@ pub record IsOnTrack (g : Goal) (ss : List State) (taken : List Tok) (peeked : O
   pub fits : IsFor g ss
   pub opened : open_after [] taken ≡ open_at g ss
   pub settled : IsSettled g ss taken peeked
+  pub past : is_past_directives g ss ≡ true → IsNoDirective peeked
   pub sound : (x : Awaits g) (r : Rest ss) → (d : Documents) × (stream_tokens d ≡ taken ++ still_tokens g ss x r) × (stream_events d ≡ given ++ still_events g ss x r)
   pub exact : (d : Documents) (ts : List Tok) → stream_tokens d ≡ taken ++ ts → IsNext peeked ts
       → (x : Awaits g) × (r : Rest ss) × (still_tokens g ss x r ≡ ts) × (stream_events d ≡ given ++ still_events g ss x r)

@@ -1,10 +1,10 @@
 -- One turn of the parser: it takes the next token or leaves it, and gives an event or none.
-use Rattle.std.specs.Prelude.{◌≡◌, List, [], ◌∷◌, ◌++◌, true, false, Option, Some, None}
+use Rattle.std.specs.Prelude.{◌≡◌, ◌⊎◌, List, [], ◌∷◌, ◌++◌, true, false, Option, Some, None}
 use Rattle.defs_token.specs.Token.{Tok}
 use Rattle.defs_event.specs.Raw.{Raw}
 use Rattle.model_parser.specs.declared.state.State.{State}
 use Rattle.model_parser.specs.Goal.{Goal, Awaits}
-use Rattle.model_parser.specs.Place.{open_past, open_at, next_past, next_at, top, is_node, is_after, is_directive_next}
+use Rattle.model_parser.specs.Place.{open_past, open_at, next_past, next_at, top, is_node, is_after, is_directive_next, is_past_directives, IsNoDirective}
 use Rattle.model_parser.specs.Rest.{Rest, still_tokens, still_events, IsNested, IsFor}
 use Rattle.model_parser.specs.Stands.{IsNext}
 
@@ -34,6 +34,7 @@ pub record Takes (g : Goal) (ss : List State) (t : Tok) (e : Option Raw) (g' : G
   pub goes : IsNested ss → IsFor g ss → (x : Awaits g) → Goes g ss t e g' ss' x
   pub opened : open_past t (open_at g ss) ≡ open_at g' ss'
   pub next : IsFor g ss → next_past t ≡ next_at g' ss'
+  pub past : IsFor g ss → is_past_directives g' ss' ≡ false
 
 -- What is awaited here, where that token comes, goes on there after this event.
 abbrev pub Stays : (g : Goal) (ss : List State) → Option Tok → Option Raw → (g' : Goal) (ss' : List State) → Awaits g → Type 0
@@ -60,6 +61,7 @@ pub record Leaves (g : Goal) (ss : List State) (p : Option Tok) (e : Option Raw)
   pub goes : IsNested ss → IsFor g ss → (x : Awaits g) → Stays g ss p e g' ss' x
   pub opened : open_at g ss ≡ open_at g' ss'
   pub settles : IsFor g ss → Settles g ss p g' ss'
+  pub past : IsFor g ss → is_past_directives g' ss' ≡ true → (is_past_directives g ss ≡ true) ⊎ IsNoDirective p
 
 -- Nothing that is awaited begins with that token.
 abbrev pub Refuses : (g : Goal) (ss : List State) → Tok → Type 0
