@@ -24,7 +24,7 @@ use Rattle.model_parser.specs.declared.state.State.TheVariants as state
 use Rattle.model_parser.specs.Goal as at
 use Rattle.model_parser.specs.Goal.{Goal}
 use Rattle.model_parser.specs.Rest.{goal_of, still_events, IsBottom, IsGoing}
-use Rattle.model_parser.specs.Place.{next_in, top, is_node, is_after}
+use Rattle.model_parser.specs.Place.{next_in, top, is_node, is_after, is_past_in, is_past_directives}
 use Rattle.model_parser.specs.Stands.{IsOnTrack, IsSettled, as_tokens, goes_on, at_directive}
 use Rattle.yaml_parser.specs.declared.event.Event.{Event}
 use Rattle.yaml_parser.specs.declared.tokens.KeptStop.{KeptStop}
@@ -132,12 +132,39 @@ top_of state.FlowMappingValue ss = refl
 top_of (state.FlowMappingPart m) ss = refl
 top_of state.FlowMappingEmptyValue ss = refl
 
+-- Whether a directive may be next is the same for what a state reads and for the state on top.
+past_of : (s : State) (ss : List State) → is_past_directives (goal_of s) ss ≡ is_past_in (goal_of s) ss
+past_of state.StreamStart ss = refl
+past_of state.ImplicitDocumentStart ss = refl
+past_of state.DocumentStart ss = refl
+past_of state.DocumentContent ss = refl
+past_of state.DocumentEnd ss = refl
+past_of state.BlockNode ss = refl
+past_of state.BlockSequenceEntry ss = refl
+past_of state.IndentlessSequenceEntry ss = refl
+past_of state.IndentlessSequenceItem ss = refl
+past_of state.BlockMappingKey ss = refl
+past_of state.BlockMappingNextKey ss = refl
+past_of state.BlockMappingValue ss = refl
+past_of state.BlockMappingPart ss = refl
+past_of state.FlowSequenceFirstEntry ss = refl
+past_of state.FlowSequenceEntry ss = refl
+past_of state.FlowSequenceEntryMappingKey ss = refl
+past_of state.FlowSequenceEntryMappingValue ss = refl
+past_of state.FlowSequenceEntryMappingEnd ss = refl
+past_of state.FlowMappingFirstKey ss = refl
+past_of state.FlowMappingKey ss = refl
+past_of state.FlowMappingValue ss = refl
+past_of (state.FlowMappingPart m) ss = refl
+past_of state.FlowMappingEmptyValue ss = refl
+
 popped_stands : (s : State) (ss : List State) (taken : List Tok) (p : Option Tok) (given : List Raw) → IsOnTrack at.done (s ∷ ss) taken p given → IsOnTrack (goal_of s) ss taken p given
 popped_stands s ss taken p given h = record {
   nested = h.nested.1;
   fits = h.nested.0;
   opened = h.opened;
   settled = by h.settled;
+  past = λ e. h.past (sym (past_of s ss) ∙ e);
   sound = λ x r. h.sound tt (x, r);
   exact = λ d ts e b. let o = h.exact d ts e b in (o.1.0, o.1.1, o.2, o.3);
 }
@@ -326,6 +353,7 @@ begun {T} p stack peeked taken given ended code none = record {
       fits = tt;
       opened = refl;
       settled = as_tokens refl;
+      past = λ h. cc;
       sound = λ x r. (r.0, refl, refl);
       exact = λ d ts e b. (tt, (d, tt), e, refl);
     }));

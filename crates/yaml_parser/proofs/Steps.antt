@@ -49,7 +49,7 @@ looked k None h = absurd h
 looked k (Some t) h = (t, refl, h)
 
 stands_look : (g : Goal) (ss : List State) (taken : List Tok) (o : Option Tok) (given : List Raw) → IsOnTrack g ss taken None given → IsOnTrack g ss taken o given
-stands_look g ss taken o given s = record { nested = s.nested; fits = s.fits; opened = s.opened; settled = by s.settled; sound = s.sound; exact = λ d ts h u. s.exact d ts h tt }
+stands_look g ss taken o given s = record { nested = s.nested; fits = s.fits; opened = s.opened; settled = by s.settled; past = λ h. absurd (s.past h); sound = s.sound; exact = λ d ts h u. s.exact d ts h tt }
   where
     by : IsSettled g ss taken None → IsSettled g ss taken o
     by (as_tokens h) = as_tokens h
