@@ -41,6 +41,7 @@ blames_steady {f} {settings} {keep_tags} {tokens} {events} all b = record {
   problem = b.problem;
   shown = b.shown;
   fits_it = b.fits_it;
+  says = b.says;
   cause = subst (λ names. IsCause b.problem names (events_of events) (toks b.before) b.last.tok) (names_same settings keep_tags no_names b.raw all) b.cause;
   stands = b.stands;
   apart = b.apart;

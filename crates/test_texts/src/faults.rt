@@ -6,7 +6,7 @@ use std::test::Fail;
 use test_rows::Report;
 
 // What it shows, a text, and its fault's printed line: tokens that may not stand where they stand.
-const MISPLACED: [Row; 42] = [
+const MISPLACED: [Row; 48] = [
     (
         "a sequence without its bracket",
         "[a",
@@ -51,6 +51,36 @@ const MISPLACED: [Row; 42] = [
         "a directive without `...` before it",
         "--- \"a\"\n%YAML 1.2\n---\n",
         "missing explicit document end marker before directive at byte 8 line 2 column 1",
+    ),
+    (
+        "a directive after a block sequence, without `...` before it",
+        "- a\n%YAML 1.2\n",
+        "missing explicit document end marker before directive at byte 4 line 2 column 1",
+    ),
+    (
+        "a directive right after `---`",
+        "---\n%YAML 1.2\n---\n",
+        "missing explicit document end marker before directive at byte 4 line 2 column 1",
+    ),
+    (
+        "a directive in a flow sequence",
+        "[\n%YAML 1.2\n",
+        "while parsing a node, did not find expected node content at byte 2 line 2 column 1",
+    ),
+    (
+        "a bracket after a document",
+        "[a]]",
+        "did not find expected <document start> at byte 3 line 1 column 4",
+    ),
+    (
+        "a bracket after a sequence without indentation",
+        "a:\n- b\n]",
+        "while parsing a block mapping, did not find expected key at byte 7 line 3 column 1",
+    ),
+    (
+        "a bracket after a key in braces",
+        "{? a]",
+        "while parsing a flow mapping, did not find expected ',' or '}' at byte 4 line 1 column 5",
     ),
     (
         "a key that begins on the line before",

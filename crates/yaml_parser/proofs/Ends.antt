@@ -34,7 +34,7 @@ use Rattle.yaml_parser.proofs.Steps.{map_snoc, looked, if_some_at}
 use Rattle.yaml_parser.proofs.Positions.{taken_positions_append, given_after_append, positions_length}
 use Rattle.yaml_parser.specs.Handed.{taken_toks, peeked_tok, before_next, shown_list}
 use Rattle.yaml_parser.specs.At.{At, Faulted, IsPending, may_follow_comma, names_by}
-use Rattle.yaml_parser.specs.Blames.{fits, is_of_names, IsCause}
+use Rattle.yaml_parser.specs.Blames.{fits, problem_of, is_of_names, IsCause}
 use Rattle.yaml_parser.proofs.Since.{since_append}
 use Rattle.yaml_parser.specs.Apart.{StandsApart}
 use Rattle.yaml_parser.specs.Derived.{IsDerived}
@@ -324,13 +324,17 @@ cut {T} {g} {p} {t} {names} {given} here turn a d ts has =
 abbrev pub HasNoCause : Problem → Type 0
 HasNoCause q = (names : Names) (events : List Ev) (before : List Tok) (last : Tok) → IsCause q names events before last
 
+-- The tokens before it say that this is the problem of a token of that kind.
+abbrev pub Says : {T : Type 0} → Problem → Kind → Goal → Reader T → Names → List (Ev × Position) → Type 0
+Says q k g p names given = At g p names given → IsKnown g p → (t : Tok) → peeked_tok p.tokens ≡ Some t → kind_of t ≡ k → q ≡ problem_of (taken_toks p.tokens) t
+
 -- A token of this kind is refused, for a problem that fits it and is not of names, at its position.
 pub refuses_for : {T : Type 0} {g : Goal} {p : Reader T} {k : Kind} {m : Position} {names : Names} {given : List (Ev × Position)} (q : Problem)
     → is_of_names q ≡ false → fits q k ≡ true → IfSome p.tokens.peeked (λ t. t.0 ≡ m) → IsOfKind k p.tokens.peeked → ((t : Tok) → kind_of t ≡ k → Refuses g p.stack t)
     → ((a : At g p names given) (t : Tok) → kind_of t ≡ k → IsCause q (names_by p.names.keeping a.raw) (events_of given) (taken_toks p.tokens) t)
-    → ((a : At g p names given) → (taken_toks p.tokens ≡ [] → ⊥) → IsKnown g p → StandsApart q (taken_toks p.tokens) a.raw) → At g p names given
+    → ((a : At g p names given) → (taken_toks p.tokens ≡ [] → ⊥) → IsKnown g p → StandsApart q (taken_toks p.tokens) a.raw) → Says q k g p names given → At g p names given
     → Faulted p given (stop.Own (fault.At q m))
-refuses_for {T} {g} {p} {k} {m} {names} {given} q free fit mark o turn cause apart a =
+refuses_for {T} {g} {p} {k} {m} {names} {given} q free fit mark o turn cause apart says a =
     let l = looked k p.tokens.peeked o in
     let t = l.0 in
     let no = turn (tok_of t.1) l.2 in
@@ -345,6 +349,7 @@ refuses_for {T} {g} {p} {k} {m} {names} {given} q free fit mark o turn cause apa
         problem = q;
         shown = refl;
         fits_it = ap (fits q) l.2 ∙ fit;
+        says = λ e. says a (known l.1 no a) (tok_of t.1) (ap (option_map (λ (x : Token). tok_of x.1)) l.1) l.2;
         apart = λ more. apart a more (known l.1 no a);
         cause = cause a (tok_of t.1) l.2;
         stands = inl (sym (if_some_at (λ (x : Token). x.0 ≡ m) mark l.1), λ e. absurd (both_ways (is_of_names q) free (ap is_of_names e)));
@@ -355,6 +360,6 @@ refuses_for {T} {g} {p} {k} {m} {names} {given} q free fit mark o turn cause apa
 
 -- the same where the grammar is the only cause
 pub refuses : {T : Type 0} {g : Goal} {p : Reader T} {k : Kind} {m : Position} {names : Names} {given : List (Ev × Position)} (q : Problem)
-    → is_of_names q ≡ false → fits q k ≡ true → IfSome p.tokens.peeked (λ t. t.0 ≡ m) → IsOfKind k p.tokens.peeked → ((t : Tok) → kind_of t ≡ k → Refuses g p.stack t) → HasNoCause q → ((a : At g p names given) → IsKnown g p → StandsApart q (taken_toks p.tokens) a.raw) → At g p names given
+    → is_of_names q ≡ false → fits q k ≡ true → IfSome p.tokens.peeked (λ t. t.0 ≡ m) → IsOfKind k p.tokens.peeked → ((t : Tok) → kind_of t ≡ k → Refuses g p.stack t) → HasNoCause q → ((a : At g p names given) → IsKnown g p → StandsApart q (taken_toks p.tokens) a.raw) → Says q k g p names given → At g p names given
     → Faulted p given (stop.Own (fault.At q m))
-refuses q free fit mark o turn none apart a = refuses_for q free fit mark o turn (λ b t h. none _ _ _ t) (λ b h. apart b) a
+refuses q free fit mark o turn none apart says a = refuses_for q free fit mark o turn (λ b t h. none _ _ _ t) (λ b h. apart b) says a

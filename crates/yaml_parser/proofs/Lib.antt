@@ -14,7 +14,9 @@ pub mod Openings
 pub mod Parsing
 pub mod Peeking
 pub mod Positions
+mod ProblemRows
 pub mod Resolved
+pub mod Says
 pub mod Since
 pub mod Steps
 pub mod Ways

@@ -194,6 +194,7 @@ unnamed_at {T} {g} {g'} {p} {r} {t} {m} {ss} {e} {names} {given} q fit of_names 
         problem = q;
         shown = refl;
         fits_it = fit;
+        says = λ e. absurd (both_ways (is_of_names q) e of_names);
         apart = λ h. apart a;
         cause = subst (λ z. IsCause q z (events_of given) (taken_toks p.tokens) (tok_of t.1)) (sym (ap (λ k. names_by k a.raw) keep ∙ a.names_are)) cause;
         stands = stands;

@@ -1,5 +1,5 @@
 -- The parser's own fault: what it says of the token that is refused.
-use Rattle.std.specs.Prelude.{◌≡◌, ◌⊎◌, List, [], ◌∷◌, ◌++◌, Bool, true, false, not, codes, None}
+use Rattle.std.specs.Prelude.{◌≡◌, ◌⊎◌, List, [], ◌∷◌, ◌++◌, Bool, true, false, not, if◌then◌else◌, codes, None}
 use Rattle.defs_text.specs.Position.{Position}
 use Rattle.defs_token.specs.Token.{Tok, Token}
 use Rattle.yaml_tokens.specs.ErrorReport.{ErrorReport}
@@ -17,6 +17,7 @@ use Rattle.model_parser.specs.declared.kind.Kind.{Kind}
 use Rattle.model_parser.specs.declared.kind.Kind.TheVariants as kind
 use Rattle.model_parser.specs.declared.context.NodeContext.TheVariants as context
 use Rattle.model_parser.specs.Kinds.{kind_of, is_directive, begins_content, ends_item, ends_flow_pair}
+use Rattle.model_parser.specs.Place.{Collection, block_sequence, block_mapping, flow_sequence, flow_mapping, open_after, Next, node_next, directive_next, other_next, next_after}
 use Rattle.yaml_parser.specs.Apart.{StandsApart}
 use Rattle.yaml_parser.specs.Derived.{IsDerived, NoneIsNamed}
 use Rattle.yaml_parser.specs.Nests.{is_open}
@@ -48,6 +49,31 @@ fits problem.BlockSequenceEntry k = not (is_entry_or_end k)
 fits problem.FlowMappingEntry k = not (ends_flow_pair k)
 fits problem.FlowSequenceEntry k = not (ends_item k)
 fits _ _ = false
+
+-- ---- which problem a refused token has
+
+-- where no node may begin: what the innermost open collection goes on with, or a document's start where none is open
+abbrev pub problem_in : List Collection → Problem
+problem_in [] = problem.DocumentStartToken
+problem_in (block_sequence ∷ cs) = problem.BlockSequenceEntry
+problem_in (block_mapping ∷ cs) = problem.BlockMappingKey
+problem_in (flow_sequence ∷ cs) = problem.FlowSequenceEntry
+problem_in (flow_mapping ∷ cs) = problem.FlowMappingEntry
+
+abbrev pub problem_at : Next → List Collection → Problem
+problem_at node_next cs = problem.NodeContent
+problem_at directive_next cs = problem.DocumentStartToken
+problem_at other_next cs = problem_in cs
+
+-- A directive with nothing open wants `...` before it, also where a node may begin.
+abbrev pub problem_for : Kind → Next → List Collection → Problem
+problem_for k n [] = if is_directive k then problem.DirectiveWithoutDocumentEnd else problem_at n []
+problem_for k n (c ∷ cs) = problem_at n (c ∷ cs)
+
+-- the problem of this token, where the grammar refuses it after those before it
+abbrev pub problem_of : List Tok → Tok → Problem
+problem_of [] t = problem.DocumentStartToken
+problem_of (u ∷ ts) t = problem_for (kind_of t) (next_after other_next (u ∷ ts)) (open_after [] (u ∷ ts))
 
 -- whether the problem is what a name means, or how often it is declared: the tokens alone would go on
 abbrev pub is_of_names : Problem → Bool
@@ -116,6 +142,8 @@ pub record Blames (f : ErrorReport) (settings : List Bool) (keep_tags : Bool) (t
   pub problem : Problem
   pub shown : f ≡ fault_of (fault.At problem f.position) f.position
   pub fits_it : fits problem (kind_of last.tok) ≡ true
+  -- But for a problem of names, the tokens say which it is.
+  pub says : is_of_names problem ≡ false → problem ≡ problem_of (toks before) last.tok
   pub cause : IsCause problem (names_since settings keep_tags no_names raw) (events_of events) (toks before) last.tok
   pub stands : StandsAt problem f.position before last
   -- But at the stream's start, the events are those that the tokens before make certain.

@@ -4,6 +4,8 @@ use Rattle.model_parser.proofs.Block as turn
 use Rattle.yaml_parser.proofs.Arms.{gives, goes, plain, answers_err, not_as}
 use Rattle.yaml_parser.proofs.Ends.{refuses}
 use Rattle.yaml_parser.proofs.Ways.{goes_apart, entries_ways}
+use Rattle.model_parser.specs.Place.{block_sequence}
+use Rattle.yaml_parser.proofs.Says.{says_inside}
 use Rattle.yaml_parser.proofs.Fits.{no_entry}
 use Rattle.yaml_tokens.specs.declared.problem.Problem.TheVariants.{BlockSequenceEntry}
 use Rattle.yaml_parser.proofs.reader.Reader.block_sequence_entry.Goals as goal
@@ -18,4 +20,4 @@ pub returns-in-BlockEntry-clause-answers : goal.returns-in-BlockEntry-clause-ans
 returns-in-BlockEntry-clause-answers g c = λ names given h. c.block_sequence_item.ensures.answers names given (goes c.in_ok-next.ensures.peeked c.in-BlockEntry.is refl c.skip-in-BlockEntry.ensures.took (turn.entries_dash _) refl tt refl refl (c.in_ok-next.ensures.at at.entries refl names given h))
 
 pub returns-in_default-clause-answers : goal.returns-in_default-clause-answers
-returns-in_default-clause-answers g c = λ names given h. refuses BlockSequenceEntry refl (no_entry _ c.in_default.not-BlockEntry c.in_default.not-BlockEnd) c.mark.ensures c.in_ok-next.ensures.peeked (λ t e. turn.entries_refuses _ t (not_as c.in_default.not-BlockEnd e) (not_as c.in_default.not-BlockEntry e)) (λ _ _ _ _. tt) (goes_apart entries_ways (λ ss f. (refl, refl))) (c.in_ok-next.ensures.at at.entries refl names given h)
+returns-in_default-clause-answers g c = λ names given h. refuses BlockSequenceEntry refl (no_entry _ c.in_default.not-BlockEntry c.in_default.not-BlockEnd) c.mark.ensures c.in_ok-next.ensures.peeked (λ t e. turn.entries_refuses _ t (not_as c.in_default.not-BlockEnd e) (not_as c.in_default.not-BlockEntry e)) (λ _ _ _ _. tt) (goes_apart entries_ways (λ ss f. (refl, refl))) (says_inside block_sequence (λ ss. (refl, refl, refl))) (c.in_ok-next.ensures.at at.entries refl names given h)

@@ -5,6 +5,8 @@ use Rattle.yaml_parser.proofs.Arms.{goes, answers_err, not_as}
 use Rattle.yaml_parser.proofs.InFlow.{sequence_ends}
 use Rattle.yaml_parser.proofs.Ends.{refuses}
 use Rattle.yaml_parser.proofs.Ways.{goes_apart, more_items_ways}
+use Rattle.model_parser.specs.Place.{flow_sequence}
+use Rattle.yaml_parser.proofs.Says.{says_inside}
 use Rattle.yaml_parser.proofs.Fits.{no_item}
 use Rattle.yaml_tokens.specs.declared.problem.Problem.TheVariants.{FlowSequenceEntry}
 use Rattle.yaml_parser.proofs.reader.Reader.flow_sequence_entry.Goals as goal
@@ -19,4 +21,4 @@ pub returns-in-FlowEntry-clause-answers : goal.returns-in-FlowEntry-clause-answe
 returns-in-FlowEntry-clause-answers g c = λ names given h. c.flow_sequence_next.ensures.answers names given (goes c.in_ok-next.ensures.peeked c.in-FlowEntry.is refl c.skip.ensures.took (turn.more_items_comma _) refl tt refl refl (c.in_ok-next.ensures.at at.more_items refl names given h))
 
 pub returns-in_default-clause-answers : goal.returns-in_default-clause-answers
-returns-in_default-clause-answers g c = λ names given h. refuses FlowSequenceEntry refl (no_item _ c.in_default.not-FlowEntry c.in_default.not-FlowSequenceEnd) c.mark.ensures c.in_ok-next.ensures.peeked (λ t e. turn.more_items_refuses _ t (not_as c.in_default.not-FlowSequenceEnd e) (not_as c.in_default.not-FlowEntry e)) (λ _ _ _ _. tt) (goes_apart more_items_ways (λ ss f. (refl, refl))) (c.in_ok-next.ensures.at at.more_items refl names given h)
+returns-in_default-clause-answers g c = λ names given h. refuses FlowSequenceEntry refl (no_item _ c.in_default.not-FlowEntry c.in_default.not-FlowSequenceEnd) c.mark.ensures c.in_ok-next.ensures.peeked (λ t e. turn.more_items_refuses _ t (not_as c.in_default.not-FlowSequenceEnd e) (not_as c.in_default.not-FlowEntry e)) (λ _ _ _ _. tt) (goes_apart more_items_ways (λ ss f. (refl, refl))) (says_inside flow_sequence (λ ss. (refl, refl, refl))) (c.in_ok-next.ensures.at at.more_items refl names given h)

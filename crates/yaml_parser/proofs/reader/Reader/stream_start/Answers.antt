@@ -3,6 +3,7 @@ use Rattle.model_parser.specs.Goal as at
 use Rattle.model_parser.proofs.Document as turn
 use Rattle.yaml_parser.proofs.Arms.{gives, plain, push_after, answers_err, not_as}
 use Rattle.yaml_parser.proofs.Ends.{refuses_for}
+use Rattle.yaml_parser.proofs.Says.{says_start}
 use Rattle.yaml_parser.proofs.Nesting.{nothing_given, nothing_taken}
 use Rattle.yaml_parser.specs.Nests.{is_open}
 use Rattle.yaml_tokens.specs.declared.problem.Problem.TheVariants.{DocumentStartToken}
@@ -16,5 +17,5 @@ returns-in_ok-push-in-StreamStart-clause-answers g c = λ names given h. gives _
 
 pub returns-in_default-clause-answers : goal.returns-in_default-clause-answers
 returns-in_default-clause-answers g c = λ names given h.
-    refuses_for DocumentStartToken refl refl c.mark.ensures c.in_ok-next.ensures.peeked (λ t e. turn.start_refuses _ t (not_as c.in_default.not-StreamStart e)) (λ a t e. (ap (is_open false) (nothing_given a), λ same. nothing_given a)) (λ a no known. absurd (no (nothing_taken a)))
+    refuses_for DocumentStartToken refl refl c.mark.ensures c.in_ok-next.ensures.peeked (λ t e. turn.start_refuses _ t (not_as c.in_default.not-StreamStart e)) (λ a t e. (ap (is_open false) (nothing_given a), λ same. nothing_given a)) (λ a no known. absurd (no (nothing_taken a))) says_start
     (c.in_ok-next.ensures.at at.start refl names given h)

@@ -1,0 +1,133 @@
+-- The tokens say which problem a refused token has.
+use Rattle.std.proofs.Common.{◌≡◌, ◌≢◌, List, [], ◌∷◌, ◌++◌, Option, Some, None, true, false, if◌then◌else◌, refl, sym, ap, ◌∙◌, subst}
+use Rattle.defs_text.specs.Position.{Position}
+use Rattle.defs_token.specs.Token.{Tok}
+use Rattle.defs_event.specs.Event.{Ev}
+use Rattle.defs_event.specs.Raw.{Directive}
+use Rattle.defs_event.specs.Grammar.{Documents, stream_tokens, end_stream, unmarked}
+use Rattle.defs_event.specs.Names.{Names}
+use Rattle.yaml_tokens.specs.declared.problem.Problem.{Problem}
+use Rattle.yaml_tokens.specs.declared.problem.Problem.TheVariants as problem
+use Rattle.model_parser.specs.declared.kind.Kind.{Kind}
+use Rattle.model_parser.specs.declared.context.NodeContext.TheVariants as context
+use Rattle.model_parser.specs.declared.state.State.{State}
+use Rattle.model_parser.specs.declared.state.State.TheVariants as state
+use Rattle.model_parser.specs.Kinds.{kind_of, is_directive}
+use Rattle.model_parser.specs.Goal as at
+use Rattle.model_parser.specs.Goal.{Goal}
+use Rattle.model_parser.specs.Place.{Collection, block_sequence, block_mapping, flow_sequence, flow_mapping, open_after, open_under, open_at, Next, node_next, directive_next, other_next, next_after, next_at, top, is_after, is_over_document, IsNoDirective}
+use Rattle.model_parser.specs.Rest.{rest_tokens, is_in_mapping, IsNested, IsUnder, IsBottom}
+use Rattle.model_parser.proofs.Shortest.{ending}
+use Rattle.yaml_parser.specs.declared.reader.Reader.{Reader}
+use Rattle.yaml_parser.specs.Blames.{problem_in, problem_at, problem_for, problem_of}
+use Rattle.yaml_parser.specs.Handed.{taken_toks}
+use Rattle.yaml_parser.proofs.Ends.{Says}
+use Rattle.yaml_parser.proofs.Nesting.{nothing_taken}
+
+-- by what the tokens leave to come and leave open
+by_tokens : (q : Problem) (ts : List Tok) (t : Tok) {n : Next} {cs : List Collection} → next_after other_next ts ≡ n → open_after [] ts ≡ cs → (ts ≡ [] → q ≡ problem.DocumentStartToken) → q ≡ problem_for (kind_of t) n cs → q ≡ problem_of ts t
+by_tokens q [] t next opens none e = none refl
+by_tokens q (u ∷ ts) t {n} {cs} next opens none e = e ∙ ap (λ x. problem_for (kind_of t) x cs) (sym next) ∙ ap (problem_for (kind_of t) (next_after other_next (u ∷ ts))) (sym opens)
+
+next_is_none : {ts : List Tok} {n : Next} → next_after other_next ts ≡ n → ts ≡ [] → other_next ≡ n
+next_is_none {ts} {n} h e = sym (ap (next_after other_next) e) ∙ h
+
+open_is_none : {ts : List Tok} {cs : List Collection} → open_after [] ts ≡ cs → ts ≡ [] → [] ≡ cs
+open_is_none {ts} {cs} h e = sym (ap (open_after []) e) ∙ h
+
+-- An innermost collection is open here, in which no node may begin.
+abbrev pub IsInside : Goal → Collection → Type 0
+IsInside g c = (ss : List State) → (is_after (top g ss) ≡ false) × (next_at g ss ≡ other_next) × (open_at g ss ≡ c ∷ open_under ss)
+
+pub says_inside : {T : Type 0} {k : Kind} {g : Goal} {p : Reader T} {names : Names} {given : List (Ev × Position)} (c : Collection) → IsInside g c → Says (problem_in (c ∷ [])) k g p names given
+says_inside {T} {k} {g} {p} c inside a known t look kind =
+    let i = inside p.stack in
+    let opens : open_after [] (taken_toks p.tokens) ≡ c ∷ open_under p.stack = a.stands.opened ∙ i.2 in
+    by_tokens (problem_in (c ∷ [])) (taken_toks p.tokens) t (known i.0 ∙ i.1) opens (λ e. let no : [] ≡ c ∷ open_under p.stack = open_is_none opens e in cc) (any c (open_under p.stack))
+  where
+    any : (x : Collection) (cs : List Collection) → problem_in (x ∷ []) ≡ problem_in (x ∷ cs)
+    any block_sequence cs = refl
+    any block_mapping cs = refl
+    any flow_sequence cs = refl
+    any flow_mapping cs = refl
+
+-- ---- where nothing is open
+
+bottom_open : (ss : List State) → IsBottom ss → open_under ss ≡ []
+bottom_open [] h = refl
+bottom_open (s ∷ ss) h = absurd h
+
+no_directive_for : (k : Kind) (n : Next) → is_directive k ≡ false → problem_at n [] ≡ problem_for k n []
+no_directive_for k n h = ap (λ b. if b then problem.DirectiveWithoutDocumentEnd else problem_at n []) (sym h)
+
+looked_no_directive : {o : Option Tok} {t : Tok} → o ≡ Some t → IsNoDirective o → is_directive (kind_of t) ≡ false
+looked_no_directive {o} {t} h n = subst IsNoDirective h n
+
+pub says_start : {T : Type 0} {k : Kind} {p : Reader T} {names : Names} {given : List (Ev × Position)} → Says problem.DocumentStartToken k at.start p names given
+says_start a known t look kind = sym (ap (λ ts. problem_of ts t) (nothing_taken a))
+
+pub says_explicit : {T : Type 0} {k : Kind} {p : Reader T} {names : Names} {given : List (Ev × Position)} → Says problem.DocumentStartToken k at.explicit p names given
+says_explicit {T} {k} {p} a known t look kind =
+    by_tokens problem.DocumentStartToken (taken_toks p.tokens) t (known refl) (a.stands.opened ∙ bottom_open p.stack a.stands.fits) (λ e. refl)
+    (no_directive_for (kind_of t) other_next (looked_no_directive look (a.stands.past refl)))
+
+pub says_directed : {T : Type 0} {k : Kind} {p : Reader T} {names : Names} {given : List (Ev × Position)} (read : List Directive) → is_directive k ≡ false → Says problem.DocumentStartToken k (at.directed read) p names given
+says_directed {T} {k} {p} read none a known t look kind =
+    by_tokens problem.DocumentStartToken (taken_toks p.tokens) t (known refl) (a.stands.opened ∙ bottom_open p.stack a.stands.fits) (λ e. refl)
+    (no_directive_for (kind_of t) directive_next (ap is_directive kind ∙ none))
+
+-- Something was taken before a document's end.
+taken_some : (ts us : List Tok) (d : Documents) → stream_tokens d ≡ ts ++ Tok.stream_end ∷ us → ts ≢ []
+taken_some [] us d h e = cc
+taken_some (t ∷ ts) us d h e = cc
+
+pub says_after : {T : Type 0} {k : Kind} {p : Reader T} {names : Names} {given : List (Ev × Position)} → is_directive k ≡ true → Says problem.DirectiveWithoutDocumentEnd k at.after p names given
+says_after {T} {k} {p} is a known t look kind =
+    let d = a.stands.sound (unmarked end_stream) (ending p.stack) in
+    by_tokens problem.DirectiveWithoutDocumentEnd (taken_toks p.tokens) t refl (a.stands.opened ∙ bottom_open p.stack a.stands.fits)
+    (λ e. absurd (taken_some (taken_toks p.tokens) (rest_tokens p.stack (ending p.stack)) d.0 d.1 e))
+    (ap (λ b. if b then problem.DirectiveWithoutDocumentEnd else problem_at (next_after other_next (taken_toks p.tokens)) []) (sym (ap is_directive kind ∙ is)))
+
+-- ---- where a node is read
+
+mapping_opens : (ss : List State) → is_in_mapping ss ≡ true → open_under ss ≢ []
+mapping_opens (state.BlockMappingKey ∷ ss) h e = cc
+mapping_opens (state.BlockMappingValue ∷ ss) h e = cc
+mapping_opens _ h e = cc
+
+-- Where nothing is open, it is a document's.
+over_document : (ss : List State) → IsNested ss → IsUnder ss → open_under ss ≡ [] → is_over_document ss ≡ true
+over_document [] n u e = absurd u
+over_document (state.StreamStart ∷ ss) n u e = absurd u
+over_document (state.ImplicitDocumentStart ∷ ss) n u e = absurd u
+over_document (state.DocumentStart ∷ ss) n u e = absurd u
+over_document (state.DocumentContent ∷ ss) n u e = absurd u
+over_document (state.DocumentEnd ∷ ss) n u e = refl
+over_document (state.BlockNode ∷ ss) n u e = absurd u
+over_document (state.BlockSequenceEntry ∷ ss) n u e = cc
+over_document (state.IndentlessSequenceEntry ∷ ss) n u e = absurd (mapping_opens ss n.0.0.2 e)
+over_document (state.IndentlessSequenceItem ∷ ss) n u e = absurd u
+over_document (state.BlockMappingKey ∷ ss) n u e = cc
+over_document (state.BlockMappingNextKey ∷ ss) n u e = cc
+over_document (state.BlockMappingValue ∷ ss) n u e = cc
+over_document (state.BlockMappingPart ∷ ss) n u e = absurd u
+over_document (state.FlowSequenceFirstEntry ∷ ss) n u e = absurd u
+over_document (state.FlowSequenceEntry ∷ ss) n u e = cc
+over_document (state.FlowSequenceEntryMappingKey ∷ ss) n u e = absurd u
+over_document (state.FlowSequenceEntryMappingValue ∷ ss) n u e = cc
+over_document (state.FlowSequenceEntryMappingEnd ∷ ss) n u e = cc
+over_document (state.FlowMappingFirstKey ∷ ss) n u e = absurd u
+over_document (state.FlowMappingKey ∷ ss) n u e = cc
+over_document (state.FlowMappingValue ∷ ss) n u e = cc
+over_document (state.FlowMappingPart m ∷ ss) n u e = absurd u
+over_document (state.FlowMappingEmptyValue ∷ ss) n u e = cc
+
+node_for : (k : Kind) (cs : List Collection) → (cs ≡ [] → is_directive k ≡ false) → problem.NodeContent ≡ problem_for k node_next cs
+node_for k [] none = no_directive_for k node_next (none refl)
+node_for k (c ∷ cs) none = refl
+
+pub says_node : {T : Type 0} {k : Kind} {p : Reader T} {names : Names} {given : List (Ev × Position)} → Says problem.NodeContent k (at.after_properties context.Flow None) p names given
+says_node {T} {k} {p} a known t look kind =
+    let next : next_after other_next (taken_toks p.tokens) ≡ node_next = known refl in
+    by_tokens problem.NodeContent (taken_toks p.tokens) t next a.stands.opened (λ e. let no : other_next ≡ node_next = next_is_none next e in cc)
+    (node_for (kind_of t) (open_under p.stack) (λ e. looked_no_directive look (a.stands.past (over_document p.stack a.stands.nested a.stands.fits.1 e))))
