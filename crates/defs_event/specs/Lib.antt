@@ -5,6 +5,7 @@ pub mod Laws
 pub mod Names
 pub mod Nested
 pub mod NoAlias
+pub mod Place
 pub mod PulledList
 pub mod Push
 pub mod Raw

@@ -6,7 +6,8 @@ use Rattle.defs_event.specs.Raw.{Raw}
 use Rattle.defs_event.specs.Grammar.{stream_tokens}
 use Rattle.model_parser.specs.declared.state.State.{State}
 use Rattle.model_parser.specs.Goal.{Goal}
-use Rattle.model_parser.specs.Place.{Collection, open_past, open_after, Next, next_past, next_after, other_next, next_at, top, is_node, is_after, is_directive_next, is_past_directives}
+use Rattle.defs_event.specs.Place.{Collection, open_past, open_after, Next, next_past, next_after, other_next}
+use Rattle.model_parser.specs.Place.{next_at, top, is_node, is_after, is_directive_next, is_past_directives}
 use Rattle.model_parser.specs.Stands.{IsOnTrack, IsNext, GoesOn, IsSettled, as_tokens, goes_on, at_directive}
 use Rattle.model_parser.specs.Turn.{Takes, Leaves, MayCome, Settles, alike, alike_after, without_node, before_directive, event_then, then_event}
 

@@ -12,7 +12,8 @@ use Rattle.model_parser.specs.declared.state.State.TheVariants as state
 use Rattle.model_parser.specs.Kinds.{kind_of, begins_node, ends_entry, ends_dashed, ends_part, ends_item, ends_item_key, ends_flow_pair, ends_flow_key, ends_document, ends_content, is_directive, tok_of_kind, has_no_text}
 use Rattle.model_parser.specs.Goal as at
 use Rattle.model_parser.specs.Goal.{Goal, Awaits}
-use Rattle.model_parser.specs.Place.{Collection, open_past, directive_next, other_next, next_past, next_in, next_at, is_over_document, is_past_directives}
+use Rattle.defs_event.specs.Place.{Collection, open_past, directive_next, other_next, next_past}
+use Rattle.model_parser.specs.Place.{next_in, next_at, is_over_document, is_past_directives}
 use Rattle.model_parser.specs.Rest.{Rest, rest_tokens, still_tokens, is_in_mapping, EndsPart, IsGoing, IsUnder}
 use Rattle.model_parser.specs.Turn.{MayCome, Settles, without_node, before_directive}
 use Rattle.model_parser.proofs.Shortest.{ending}

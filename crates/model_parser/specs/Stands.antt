@@ -5,7 +5,8 @@ use Rattle.defs_event.specs.Raw.{Raw}
 use Rattle.defs_event.specs.Grammar.{Documents, stream_tokens, stream_events}
 use Rattle.model_parser.specs.declared.state.State.{State}
 use Rattle.model_parser.specs.Goal.{Goal, Awaits}
-use Rattle.model_parser.specs.Place.{open_after, open_at, other_next, next_after, next_at, top, is_node, is_after, is_directive_next, is_past_directives, IsNoDirective}
+use Rattle.defs_event.specs.Place.{open_after, other_next, next_after}
+use Rattle.model_parser.specs.Place.{open_at, next_at, top, is_node, is_after, is_directive_next, is_past_directives, IsNoDirective}
 use Rattle.model_parser.specs.Rest.{Rest, still_tokens, still_events, IsNested, IsFor}
 
 -- the next token, where it was looked at

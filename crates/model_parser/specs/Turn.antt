@@ -4,7 +4,8 @@ use Rattle.defs_token.specs.Token.{Tok}
 use Rattle.defs_event.specs.Raw.{Raw}
 use Rattle.model_parser.specs.declared.state.State.{State}
 use Rattle.model_parser.specs.Goal.{Goal, Awaits}
-use Rattle.model_parser.specs.Place.{open_past, open_at, next_past, next_at, top, is_node, is_after, is_directive_next, is_past_directives, IsNoDirective}
+use Rattle.defs_event.specs.Place.{open_past, next_past}
+use Rattle.model_parser.specs.Place.{open_at, next_at, top, is_node, is_after, is_directive_next, is_past_directives, IsNoDirective}
 use Rattle.model_parser.specs.Rest.{Rest, still_tokens, still_events, IsNested, IsFor}
 use Rattle.model_parser.specs.Stands.{IsNext}
 

@@ -4,7 +4,7 @@ use Rattle.defs_token.specs.Token.{Style, Tok}
 use Rattle.defs_event.specs.Raw.{Raw, nothing_written}
 use Rattle.defs_event.specs.Grammar.{scalar, flow, flow_sequence, no_items, block_content, block_sequence, flow_content, flow_mapping, flow_pairs, flow_keyed, some_flow, no_flow_value, flow_single, end_flow_pairs, comma_flow_pair, some_node, end_entries, entry, bare, end_stream, unmarked}
 use Rattle.yaml_tokens.specs.declared.problem.Problem.TheVariants.{NodeContent, FlowMappingEntry}
-use Rattle.model_parser.specs.Place.{block_mapping, flow_mapping as in_braces, open_after, node_next, directive_next, other_next, next_after}
+use Rattle.defs_event.specs.Place.{block_mapping, flow_mapping as in_braces, open_after, node_next, directive_next, other_next, next_after}
 use Rattle.yaml_parser.specs.Apart.{StandsApart}
 
 -- before `]` in `- ]`

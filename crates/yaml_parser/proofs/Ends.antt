@@ -26,7 +26,8 @@ use Rattle.yaml_scanner.specs.Scanned.{scanned}
 use Rattle.defs_token.specs.Toks.{toks}
 use Rattle.model_parser.specs.declared.kind.Kind.{Kind}
 use Rattle.model_parser.specs.Kinds.{kind_of}
-use Rattle.model_parser.specs.Place.{other_next, next_after, next_at, top, is_after}
+use Rattle.defs_event.specs.Place.{other_next, next_after}
+use Rattle.model_parser.specs.Place.{next_at, top, is_after}
 use Rattle.model_parser.specs.Stands.{IsNext as Begins1, GoesOn, IsSettled, as_tokens, goes_on, at_directive}
 use Rattle.model_parser.specs.Turn.{Refuses}
 use Rattle.yaml_parser.specs.Kinds.{IsOfKind}

@@ -15,7 +15,8 @@ use Rattle.model_parser.specs.declared.state.State.TheVariants as state
 use Rattle.model_parser.specs.Kinds.{kind_of, is_directive}
 use Rattle.model_parser.specs.Goal as at
 use Rattle.model_parser.specs.Goal.{Goal}
-use Rattle.model_parser.specs.Place.{Collection, block_sequence, block_mapping, flow_sequence, flow_mapping, open_after, open_under, open_at, Next, node_next, directive_next, other_next, next_after, next_at, top, is_after, is_over_document, IsNoDirective}
+use Rattle.defs_event.specs.Place.{Collection, block_sequence, block_mapping, flow_sequence, flow_mapping, open_after, Next, node_next, directive_next, other_next, next_after}
+use Rattle.model_parser.specs.Place.{open_under, open_at, next_at, top, is_after, is_over_document, IsNoDirective}
 use Rattle.model_parser.specs.Rest.{rest_tokens, is_in_mapping, IsNested, IsUnder, IsBottom}
 use Rattle.model_parser.proofs.Shortest.{ending}
 use Rattle.yaml_parser.specs.declared.reader.Reader.{Reader}

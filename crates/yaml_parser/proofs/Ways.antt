@@ -10,7 +10,8 @@ use Rattle.model_parser.specs.declared.context.NodeContext.{NodeContext}
 use Rattle.model_parser.specs.declared.context.NodeContext.TheVariants as context
 use Rattle.model_parser.specs.declared.state.State.{State}
 use Rattle.model_parser.specs.Goal as at
-use Rattle.model_parser.specs.Place.{open_after, open_at, node_next, other_next, next_after, next_at, top, is_after}
+use Rattle.defs_event.specs.Place.{open_after, node_next, other_next, next_after}
+use Rattle.model_parser.specs.Place.{open_at, next_at, top, is_after}
 use Rattle.model_parser.specs.Stands.{IsSettled, as_tokens, goes_on, at_directive}
 use Rattle.model_parser.specs.Goal.{Goal, Awaits, goal_tokens, goal_events, part_content, part_node}
 use Rattle.model_parser.specs.Rest.{rest_tokens, rest_events, IsFor}

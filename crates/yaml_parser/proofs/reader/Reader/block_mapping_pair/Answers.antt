@@ -4,7 +4,7 @@ use Rattle.yaml_parser.proofs.Arms.{gives, plain, push_after, not_as, goes_on}
 use Rattle.yaml_parser.proofs.InFlow.{key_in_block}
 use Rattle.yaml_parser.proofs.Ends.{refuses}
 use Rattle.yaml_parser.proofs.Ways.{goes_apart, key_pairs_ways}
-use Rattle.model_parser.specs.Place.{block_mapping}
+use Rattle.defs_event.specs.Place.{block_mapping}
 use Rattle.yaml_parser.proofs.Says.{says_inside}
 use Rattle.yaml_parser.proofs.Fits.{no_key}
 use Rattle.yaml_tokens.specs.declared.problem.Problem.TheVariants.{BlockMappingKey}

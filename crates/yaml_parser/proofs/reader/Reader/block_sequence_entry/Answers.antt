@@ -4,7 +4,7 @@ use Rattle.model_parser.proofs.Block as turn
 use Rattle.yaml_parser.proofs.Arms.{gives, goes, plain, answers_err, not_as}
 use Rattle.yaml_parser.proofs.Ends.{refuses}
 use Rattle.yaml_parser.proofs.Ways.{goes_apart, entries_ways}
-use Rattle.model_parser.specs.Place.{block_sequence}
+use Rattle.defs_event.specs.Place.{block_sequence}
 use Rattle.yaml_parser.proofs.Says.{says_inside}
 use Rattle.yaml_parser.proofs.Fits.{no_entry}
 use Rattle.yaml_tokens.specs.declared.problem.Problem.TheVariants.{BlockSequenceEntry}

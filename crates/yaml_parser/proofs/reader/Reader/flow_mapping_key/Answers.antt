@@ -5,7 +5,7 @@ use Rattle.yaml_parser.proofs.Arms.{goes, answers_err, not_as}
 use Rattle.yaml_parser.proofs.InFlow.{mapping_ends, comma_skipped}
 use Rattle.yaml_parser.proofs.Ends.{refuses}
 use Rattle.yaml_parser.proofs.Ways.{goes_apart, more_flow_pairs_ways}
-use Rattle.model_parser.specs.Place.{flow_mapping}
+use Rattle.defs_event.specs.Place.{flow_mapping}
 use Rattle.yaml_parser.proofs.Says.{says_inside}
 use Rattle.yaml_parser.proofs.Fits.{no_flow_pair}
 use Rattle.yaml_tokens.specs.declared.problem.Problem.TheVariants.{FlowMappingEntry}
