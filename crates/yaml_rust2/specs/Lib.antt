@@ -33,6 +33,7 @@ pub use Rattle.defs_row.specs.Tokens
 pub use Rattle.defs_row.specs.Row
 pub use Rattle.defs_event.specs.Event
 pub use Rattle.defs_event.specs.Nested
+pub use Rattle.defs_event.specs.Place
 pub use Rattle.defs_event.specs.Stream
 pub use Rattle.defs_event.specs.PulledList
 pub use Rattle.defs_event.specs.Push
@@ -62,6 +63,8 @@ pub use Rattle.yaml_emitter.specs.Writing
 pub use Rattle.yaml_scanner.specs.Rowless
 pub use Rattle.yaml_scanner.specs.Scanned
 pub use Rattle.yaml_scanner.specs.Next
+pub use Rattle.yaml_parser.specs.Apart
+pub use Rattle.yaml_parser.specs.Blames
 pub use Rattle.yaml_parser.specs.Parsed
 pub use Rattle.yaml_parser.specs.Follows
 pub use Rattle.yaml_parser.specs.Loads
