@@ -1,6 +1,7 @@
 pub mod Shortest
 pub mod First
 pub mod Settling
+pub mod Orderly
 pub mod Apart
 pub mod Around
 pub mod Carry
