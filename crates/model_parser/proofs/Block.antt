@@ -51,7 +51,7 @@ entry_node_goes ss t a b (no_node, entry p x) r h = absurd (a (ap kind_of (sym h
 entry_node_goes ss t a b (some_node n, x) r h = (n, (x, r), refl, refl)
 
 pub entry_node : (ss : List State) (t : Tok) → kind_of t ≢ kind.BlockEntry → kind_of t ≢ kind.BlockEnd → Leaves at.entry ss (Some t) None (at.node context.Block) (state.BlockSequenceEntry ∷ ss)
-entry_node ss t a b = record { nested = λ n f. ((f, n), (after_entries ss, tt)); comes = λ x' r'. ((some_node x', r'.0), r'.1, refl, refl); goes = λ n f. entry_node_goes ss t a b; opened = refl; settles = λ f. alike refl refl; past = λ f h. inl h }
+entry_node ss t a b = record { nested = λ n f. ((f, n), (after_entries ss, refl)); comes = λ x' r'. ((some_node x', r'.0), r'.1, refl, refl); goes = λ n f. entry_node_goes ss t a b; opened = refl; settles = λ f. alike refl refl; past = λ f h. inl h }
 
 -- ---- a sequence without indentation
 
@@ -82,7 +82,7 @@ dashed_node_goes ss t e a b (no_node, dash p d) r h = absurd (a (ap kind_of (sym
 dashed_node_goes ss t e a b (some_node n, x) r h = (n, (x, r), refl, refl)
 
 pub dashed_node : (ss : List State) (t : Tok) → kind_of t ≢ kind.BlockEntry → ends_part (kind_of t) ≡ false → Leaves at.dashed ss (Some t) None (at.node context.Block) (state.IndentlessSequenceEntry ∷ ss)
-dashed_node ss t a b = record { nested = λ n f. ((f, n), (after_dashes ss f.0, tt)); comes = λ x' r'. ((some_node x', r'.0), r'.1, refl, refl); goes = λ n f. dashed_node_goes ss t f.0 a b; opened = refl; settles = λ f. alike refl refl; past = λ f h. inl h }
+dashed_node ss t a b = record { nested = λ n f. ((f, n), (after_dashes ss f.0, refl)); comes = λ x' r'. ((some_node x', r'.0), r'.1, refl, refl); goes = λ n f. dashed_node_goes ss t f.0 a b; opened = refl; settles = λ f. alike refl refl; past = λ f h. inl h }
 
 -- ---- a block mapping
 
@@ -92,7 +92,7 @@ pairs_value_goes ss (keyed (key p a)) r ts h = cc
 pairs_value_goes ss (keyless v x) r ts h = (tt, (v, (x, r)), tail_eq h, refl)
 
 pub pairs_value : (ss : List State) → Takes at.pairs ss Tok.value (Some nothing_written) at.done (state.BlockMappingPart ∷ state.BlockMappingKey ∷ ss)
-pairs_value ss = record { nested = λ n f. (((after_pairs ss, tt), (f, n)), tt); comes = λ x' r'. (keyless r'.0 r'.1.0, r'.1.1, refl, refl); goes = λ n f. pairs_value_goes ss; opened = refl; next = λ f. refl; past = λ f. refl }
+pairs_value ss = record { nested = λ n f. (((after_pairs ss, refl), (f, n)), tt); comes = λ x' r'. (keyless r'.0 r'.1.0, r'.1.1, refl, refl); goes = λ n f. pairs_value_goes ss; opened = refl; next = λ f. refl; past = λ f. refl }
 
 pairs_key_goes : (ss : List State) (t : Tok) → kind_of t ≢ kind.Value → (x : Pairs) → Stays at.pairs ss (Some t) None at.key_pairs ss x
 pairs_key_goes ss t a (keyed k) r h = (k, r, refl, refl)
@@ -113,7 +113,7 @@ key_pairs_key_goes ss end_pairs r ts h = cc
 key_pairs_key_goes ss (key p a) r ts h = (p, (a, r), tail_eq h, refl)
 
 pub key_pairs_key : (ss : List State) → Takes at.key_pairs ss Tok.key None at.part (state.BlockMappingValue ∷ ss)
-key_pairs_key ss = record { nested = λ n f. ((f, n), (after_after_key ss, tt)); comes = λ x' r'. (key x' r'.0, r'.1, refl, refl); goes = λ n f. key_pairs_key_goes ss; opened = refl; next = λ f. refl; past = λ f. refl }
+key_pairs_key ss = record { nested = λ n f. ((f, n), (after_after_key ss, refl)); comes = λ x' r'. (key x' r'.0, r'.1, refl, refl); goes = λ n f. key_pairs_key_goes ss; opened = refl; next = λ f. refl; past = λ f. refl }
 
 pub key_pairs_refuses : (ss : List State) (t : Tok) → kind_of t ≢ kind.BlockEnd → kind_of t ≢ kind.Key → Refuses at.key_pairs ss t
 key_pairs_refuses ss t a b n f end_pairs r h = a (ap kind_of (sym h))
@@ -125,7 +125,7 @@ after_key_value_goes ss (no_value end_pairs) r ts h = cc
 after_key_value_goes ss (no_value (key p a)) r ts h = cc
 
 pub after_key_value : (ss : List State) → Takes at.after_key ss Tok.value None at.part (state.BlockMappingKey ∷ ss)
-after_key_value ss = record { nested = λ n f. ((f, n), (after_pairs ss, tt)); comes = λ x' r'. (value x' r'.0, r'.1, refl, refl); goes = λ n f. after_key_value_goes ss; opened = refl; next = λ f. refl; past = λ f. refl }
+after_key_value ss = record { nested = λ n f. ((f, n), (after_pairs ss, refl)); comes = λ x' r'. (value x' r'.0, r'.1, refl, refl); goes = λ n f. after_key_value_goes ss; opened = refl; next = λ f. refl; past = λ f. refl }
 
 after_key_empty_goes : (ss : List State) (t : Tok) → kind_of t ≢ kind.Value → (x : AfterKey) → Stays at.after_key ss (Some t) (Some nothing_written) at.done (state.BlockMappingNextKey ∷ ss) x
 after_key_empty_goes ss t a (value v x) r h = absurd (a (ap kind_of (sym h)))

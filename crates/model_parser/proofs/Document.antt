@@ -58,7 +58,7 @@ documents_bare_goes ss t e a (others end_stream) r h = absurd (other ends_docume
 documents_bare_goes ss t e a (others (explicit p x)) r h = absurd (other ends_document h refl e)
 
 pub documents_bare : (ss : List State) (t : Tok) → ends_document (kind_of t) ≡ false → is_directive (kind_of t) ≡ false → Leaves at.documents ss (Some t) (Some (Raw.document_start [])) at.done (state.BlockNode ∷ state.DocumentEnd ∷ ss)
-documents_bare ss t e a = record { nested = λ n f. (((after_after ss, tt), (f, n)), tt); comes = λ x' r'. (bare r'.0 r'.1.0, r'.1.1, refl, refl); goes = λ n f. documents_bare_goes ss t e a; opened = refl; settles = λ f. alike refl refl; past = λ f h. inr a }
+documents_bare ss t e a = record { nested = λ n f. (((after_after ss, refl), (f, n)), tt); comes = λ x' r'. (bare r'.0 r'.1.0, r'.1.1, refl, refl); goes = λ n f. documents_bare_goes ss t e a; opened = refl; settles = λ f. alike refl refl; past = λ f h. inr a }
 
 -- ---- directives
 
@@ -138,7 +138,7 @@ content_node_goes ss t a (no_node, x) r h = absurd (clash ends_document _ t (aft
 content_node_goes ss t a (some_node n, x) r h = (n, (x, r), refl, refl)
 
 pub content_node : (ss : List State) (t : Tok) → ends_document (kind_of t) ≡ false → is_directive (kind_of t) ≡ false → Leaves at.content ss (Some t) None (at.node context.Block) (state.DocumentEnd ∷ ss)
-content_node ss t a b = record { nested = λ n f. ((f, n), (after_after ss, tt)); comes = λ x' r'. ((some_node x', r'.0), r'.1, refl, refl); goes = λ n f. content_node_goes ss t a; opened = refl; settles = λ f. alike refl refl; past = λ f h. inr b }
+content_node ss t a b = record { nested = λ n f. ((f, n), (after_after ss, refl)); comes = λ x' r'. ((some_node x', r'.0), r'.1, refl, refl); goes = λ n f. content_node_goes ss t a; opened = refl; settles = λ f. alike refl refl; past = λ f h. inr b }
 
 -- ---- after a document's node
 

@@ -38,26 +38,7 @@ other test h a b = true_is_not_false (ap (λ y. test (kind_of y)) (sym h) ∙ a)
 -- a token without texts is known by its kind
 plain_tok : (t : Tok) → has_no_text (kind_of t) ≡ true → tok_of_kind (kind_of t) ≡ t
 plain_tok Tok.stream_start h = refl
-plain_tok Tok.stream_end h = refl
-plain_tok (Tok.version_directive m n) h = cc
-plain_tok (Tok.tag_directive m n) h = cc
-plain_tok Tok.document_start h = refl
-plain_tok Tok.document_end h = refl
-plain_tok Tok.block_sequence_start h = refl
-plain_tok Tok.block_mapping_start h = refl
-plain_tok Tok.block_end h = refl
-plain_tok Tok.flow_sequence_start h = refl
-plain_tok Tok.flow_sequence_end h = refl
-plain_tok Tok.flow_mapping_start h = refl
-plain_tok Tok.flow_mapping_end h = refl
-plain_tok Tok.block_entry h = refl
-plain_tok Tok.flow_entry h = refl
-plain_tok Tok.key h = refl
-plain_tok Tok.value h = refl
-plain_tok (Tok.alias n) h = cc
-plain_tok (Tok.anchor n) h = cc
-plain_tok (Tok.tag m n) h = cc
-plain_tok (Tok.scalar m n) h = cc
+plain_tok t h = cc
 
 pub tok_is : {t : Tok} {k : Kind} → kind_of t ≡ k → has_no_text k ≡ true → t ≡ tok_of_kind k
 tok_is {t} {k} h e = sym (plain_tok t (ap has_no_text h ∙ e)) ∙ ap tok_of_kind h
@@ -66,59 +47,39 @@ tok_is {t} {k} h e = sym (plain_tok t (ap has_no_text h ∙ e)) ∙ ap tok_of_ki
 
 pub flow_content_first : (c : FlowContent) (r : List Tok) → first_is (begins_content context.Flow) (flow_content_tokens c r) ≡ true
 flow_content_first (scalar s x) r = refl
-flow_content_first (flow_sequence i) r = refl
-flow_content_first (flow_mapping p) r = refl
+flow_content_first c r = refl
 
 pub content_first : (c : Content) (r : List Tok) → first_is (begins_content context.Block) (content_tokens c r) ≡ true
 content_first (flow (scalar s x)) r = refl
-content_first (flow (flow_sequence i)) r = refl
-content_first (flow (flow_mapping p)) r = refl
-content_first (block_sequence x) r = refl
-content_first (block_mapping x) r = refl
+content_first c r = refl
 
 pub content_at_first : (p : NodeContext) (c : ContentAt p) (r : List Tok) → first_is (begins_content p) (content_at_tokens p c r) ≡ true
 content_at_first context.Flow c r = flow_content_first c r
 content_at_first context.Block c r = content_first c r
 content_at_first context.Part (part_content (flow (scalar s x))) r = refl
-content_at_first context.Part (part_content (flow (flow_sequence i))) r = refl
-content_at_first context.Part (part_content (flow (flow_mapping i))) r = refl
-content_at_first context.Part (part_content (block_sequence i)) r = refl
-content_at_first context.Part (part_content (block_mapping i)) r = refl
-content_at_first context.Part (part_dashes q d) r = refl
+content_at_first context.Part c r = refl
 
 properties_first : (p : NodeContext) (o : Properties) (r : List Tok) → first_is (begins_node p) (properties_tokens o r) ≡ true
 properties_first p (anchored a) r = refl
-properties_first p (tagged t) r = refl
-properties_first p (anchored_tagged a t) r = refl
-properties_first p (tagged_anchored t a) r = refl
+properties_first p o r = refl
 
 pub flow_node_first : (n : FlowNode) (r : List Tok) → first_is (begins_node context.Flow) (flow_node_tokens n r) ≡ true
-flow_node_first (flow_alias n) r = refl
 flow_node_first (flow_content None (scalar s x)) r = refl
-flow_node_first (flow_content None (flow_sequence i)) r = refl
-flow_node_first (flow_content None (flow_mapping i)) r = refl
 flow_node_first (flow_content (Some o) c) r = properties_first context.Flow o _
 flow_node_first (flow_properties o) r = properties_first context.Flow o _
+flow_node_first n r = refl
 
 pub node_first : (n : Node) (r : List Tok) → first_is (begins_node context.Block) (node_tokens n r) ≡ true
-node_first (block_alias n) r = refl
 node_first (block_content None (flow (scalar s x))) r = refl
-node_first (block_content None (flow (flow_sequence i))) r = refl
-node_first (block_content None (flow (flow_mapping i))) r = refl
-node_first (block_content None (block_sequence i)) r = refl
-node_first (block_content None (block_mapping i)) r = refl
 node_first (block_content (Some o) c) r = properties_first context.Block o _
 node_first (block_properties o) r = properties_first context.Block o _
+node_first n r = refl
 
 part_node_first : (n : Node) (r : List Tok) → first_is (begins_node context.Part) (node_tokens n r) ≡ true
-part_node_first (block_alias n) r = refl
 part_node_first (block_content None (flow (scalar s x))) r = refl
-part_node_first (block_content None (flow (flow_sequence i))) r = refl
-part_node_first (block_content None (flow (flow_mapping i))) r = refl
-part_node_first (block_content None (block_sequence i)) r = refl
-part_node_first (block_content None (block_mapping i)) r = refl
 part_node_first (block_content (Some o) c) r = properties_first context.Part o _
 part_node_first (block_properties o) r = properties_first context.Part o _
+part_node_first n r = refl
 
 pub node_at_first : (p : NodeContext) (n : NodeAt p) (r : List Tok) → first_is (begins_node p) (node_at_tokens p n r) ≡ true
 node_at_first context.Flow n r = flow_node_first n r

@@ -86,7 +86,7 @@ item_node_goes ss t a (single n, m) r h = (n, (m, r), refl, refl)
 item_node_goes ss t a (single_pair k v, m) r h = absurd (a (ap kind_of (sym h)))
 
 pub item_node : (ss : List State) (t : Tok) → kind_of t ≢ kind.Key → Leaves at.item ss (Some t) None (at.node context.Flow) (state.FlowSequenceEntry ∷ ss)
-item_node ss t a = record { nested = λ n f. ((f, n), (after_more_items ss, tt)); comes = λ x' r'. ((single x', r'.0), r'.1, refl, refl); goes = λ n f. item_node_goes ss t a; opened = refl; settles = λ f. alike refl refl; past = λ f h. inl h }
+item_node ss t a = record { nested = λ n f. ((f, n), (after_more_items ss, refl)); comes = λ x' r'. ((single x', r'.0), r'.1, refl, refl); goes = λ n f. item_node_goes ss t a; opened = refl; settles = λ f. alike refl refl; past = λ f h. inl h }
 
 -- ---- a pair that is an item
 
@@ -98,7 +98,7 @@ pub pair_key_empty : (ss : List State) (t : Tok) → ends_item_key (kind_of t) �
 pair_key_empty ss t a = record { nested = λ n f. ((f, n), tt); comes = λ x' r'. ((no_flow, r'.0.0, r'.0.1), r'.1, refl, refl); goes = λ n f. key_empty MoreItems more_items_tokens pair_end_events ss t (item_key_no_node (kind_of t) a); opened = refl; settles = λ f. without_node refl (pair_key_comes ss t a); past = λ f h. inl h }
 
 pub pair_key_node : (ss : List State) (t : Tok) → ends_item_key (kind_of t) ≡ false → Leaves at.pair_key ss (Some t) None (at.node context.Flow) (state.FlowSequenceEntryMappingValue ∷ ss)
-pair_key_node ss t a = record { nested = λ n f. ((f, n), (after_pair_value ss, tt)); comes = λ x' r'. ((some_flow x', r'.0.0, r'.0.1), r'.1, refl, refl); goes = λ n f. key_node MoreItems more_items_tokens pair_end_events ss ends_item_key item_key_first t a; opened = refl; settles = λ f. alike refl refl; past = λ f h. inl h }
+pair_key_node ss t a = record { nested = λ n f. ((f, n), (after_pair_value ss, refl)); comes = λ x' r'. ((some_flow x', r'.0.0, r'.0.1), r'.1, refl, refl); goes = λ n f. key_node MoreItems more_items_tokens pair_end_events ss ends_item_key item_key_first t a; opened = refl; settles = λ f. alike refl refl; past = λ f h. inl h }
 
 pub pair_value_value : (ss : List State) → Takes at.pair_value ss Tok.value None at.pair_valued ss
 pair_value_value ss = record { nested = λ n f. (n, f); comes = λ x' r'. ((flow_value x'.0, x'.1), r', refl, refl); goes = λ n f. value_colon MoreItems more_items_tokens pair_end_events ss ends_item refl more_items_first; opened = refl; next = λ f. refl; past = λ f. refl }
@@ -110,7 +110,7 @@ pub pair_valued_empty : (ss : List State) (t : Tok) → ends_item (kind_of t) �
 pair_valued_empty ss t a = record { nested = λ n f. ((f, n), tt); comes = λ x' r'. ((no_flow, r'.0), r'.1, refl, refl); goes = λ n f. valued_empty MoreItems more_items_tokens pair_end_events ss t (item_has_no_node (kind_of t) a); opened = refl; settles = λ f. without_node refl (pair_valued_comes ss t a); past = λ f h. inl h }
 
 pub pair_valued_node : (ss : List State) (t : Tok) → ends_item (kind_of t) ≡ false → Leaves at.pair_valued ss (Some t) None (at.node context.Flow) (state.FlowSequenceEntryMappingEnd ∷ ss)
-pair_valued_node ss t a = record { nested = λ n f. ((f, n), (after_pair_end ss, tt)); comes = λ x' r'. ((some_flow x', r'.0), r'.1, refl, refl); goes = λ n f. valued_node MoreItems more_items_tokens pair_end_events ss ends_item more_items_first t a; opened = refl; settles = λ f. alike refl refl; past = λ f h. inl h }
+pair_valued_node ss t a = record { nested = λ n f. ((f, n), (after_pair_end ss, refl)); comes = λ x' r'. ((some_flow x', r'.0), r'.1, refl, refl); goes = λ n f. valued_node MoreItems more_items_tokens pair_end_events ss ends_item more_items_first t a; opened = refl; settles = λ f. alike refl refl; past = λ f h. inl h }
 
 pub pair_ends : (ss : List State) (p : Option Tok) → Leaves at.pair_end ss p (Some Raw.mapping_end) at.done (state.FlowSequenceEntry ∷ ss)
 pair_ends ss p = record { nested = λ n f. ((f, n), tt); comes = λ x' r'. (r'.0, r'.1, refl, refl); goes = λ n f x r h. (tt, (x, r), refl, refl); opened = refl; settles = λ f. alike refl refl; past = λ f h. inl h }
@@ -196,13 +196,13 @@ flow_pair_node_goes ss t a b (flow_keyless v, m) r h = absurd (b (ap kind_of (sy
 flow_pair_node_goes ss t a b (flow_single n, m) r h = (n, (m, r), refl, refl)
 
 pub flow_pair_node : (ss : List State) (t : Tok) → kind_of t ≢ kind.Key → kind_of t ≢ kind.Value → Leaves at.flow_pair ss (Some t) None (at.node context.Flow) (state.FlowMappingEmptyValue ∷ ss)
-flow_pair_node ss t a b = record { nested = λ n f. ((f, n), (after_flow_empty ss, tt)); comes = λ x' r'. ((flow_single x', r'.0), r'.1, refl, refl); goes = λ n f. flow_pair_node_goes ss t a b; opened = refl; settles = λ f. alike refl refl; past = λ f h. inl h }
+flow_pair_node ss t a b = record { nested = λ n f. ((f, n), (after_flow_empty ss, refl)); comes = λ x' r'. ((flow_single x', r'.0), r'.1, refl, refl); goes = λ n f. flow_pair_node_goes ss t a b; opened = refl; settles = λ f. alike refl refl; past = λ f h. inl h }
 
 pub flow_key_empty : (ss : List State) (t : Tok) → ends_flow_key (kind_of t) ≡ true → Leaves at.flow_key ss (Some t) (Some nothing_written) at.done (state.FlowMappingValue ∷ ss)
 flow_key_empty ss t a = record { nested = λ n f. ((f, n), tt); comes = λ x' r'. ((no_flow, r'.0.0, r'.0.1), r'.1, refl, refl); goes = λ n f. key_empty MoreFlowPairs more_flow_pairs_tokens more_flow_pairs_events ss t (flow_key_no_node (kind_of t) a); opened = refl; settles = λ f. without_node refl (flow_key_comes ss t a); past = λ f h. inl h }
 
 pub flow_key_node : (ss : List State) (t : Tok) → ends_flow_key (kind_of t) ≡ false → Leaves at.flow_key ss (Some t) None (at.node context.Flow) (state.FlowMappingValue ∷ ss)
-flow_key_node ss t a = record { nested = λ n f. ((f, n), (after_flow_value ss, tt)); comes = λ x' r'. ((some_flow x', r'.0.0, r'.0.1), r'.1, refl, refl); goes = λ n f. key_node MoreFlowPairs more_flow_pairs_tokens more_flow_pairs_events ss ends_flow_key flow_key_first t a; opened = refl; settles = λ f. alike refl refl; past = λ f h. inl h }
+flow_key_node ss t a = record { nested = λ n f. ((f, n), (after_flow_value ss, refl)); comes = λ x' r'. ((some_flow x', r'.0.0, r'.0.1), r'.1, refl, refl); goes = λ n f. key_node MoreFlowPairs more_flow_pairs_tokens more_flow_pairs_events ss ends_flow_key flow_key_first t a; opened = refl; settles = λ f. alike refl refl; past = λ f h. inl h }
 
 pub flow_after_value : (ss : List State) → Takes at.flow_after_key ss Tok.value None at.flow_valued ss
 flow_after_value ss = record { nested = λ n f. (n, f); comes = λ x' r'. ((flow_value x'.0, x'.1), r', refl, refl); goes = λ n f. value_colon MoreFlowPairs more_flow_pairs_tokens more_flow_pairs_events ss ends_flow_pair refl more_pairs_first; opened = refl; next = λ f. refl; past = λ f. refl }
@@ -214,7 +214,7 @@ pub flow_valued_empty : (ss : List State) (t : Tok) → ends_flow_pair (kind_of 
 flow_valued_empty ss t a = record { nested = λ n f. ((f, n), tt); comes = λ x' r'. ((no_flow, r'.0), r'.1, refl, refl); goes = λ n f. valued_empty MoreFlowPairs more_flow_pairs_tokens more_flow_pairs_events ss t (pair_has_no_node (kind_of t) a); opened = refl; settles = λ f. without_node refl (flow_valued_comes ss t a); past = λ f h. inl h }
 
 pub flow_valued_node : (ss : List State) (t : Tok) → ends_flow_pair (kind_of t) ≡ false → Leaves at.flow_valued ss (Some t) None (at.node context.Flow) (state.FlowMappingKey ∷ ss)
-flow_valued_node ss t a = record { nested = λ n f. ((f, n), (after_more_flow ss, tt)); comes = λ x' r'. ((some_flow x', r'.0), r'.1, refl, refl); goes = λ n f. valued_node MoreFlowPairs more_flow_pairs_tokens more_flow_pairs_events ss ends_flow_pair more_pairs_first t a; opened = refl; settles = λ f. alike refl refl; past = λ f h. inl h }
+flow_valued_node ss t a = record { nested = λ n f. ((f, n), (after_more_flow ss, refl)); comes = λ x' r'. ((some_flow x', r'.0), r'.1, refl, refl); goes = λ n f. valued_node MoreFlowPairs more_flow_pairs_tokens more_flow_pairs_events ss ends_flow_pair more_pairs_first t a; opened = refl; settles = λ f. alike refl refl; past = λ f h. inl h }
 
 pub flow_empties : (ss : List State) (p : Option Tok) → Leaves at.flow_empty ss p (Some nothing_written) at.done (state.FlowMappingKey ∷ ss)
 flow_empties ss p = record { nested = λ n f. ((f, n), tt); comes = λ x' r'. (r'.0, r'.1, refl, refl); goes = λ n f x r h. (tt, (x, r), refl, refl); opened = refl; settles = λ f. alike refl refl; past = λ f h. inl h }

@@ -14,68 +14,24 @@ use Rattle.model_parser.specs.Goal as at
 use Rattle.model_parser.specs.Goal.{Goal, Awaits}
 use Rattle.defs_event.specs.Place.{Collection, open_past, directive_next, other_next, next_past}
 use Rattle.model_parser.specs.Place.{next_in, next_at, is_over_document, is_past_directives}
-use Rattle.model_parser.specs.Rest.{Rest, rest_tokens, still_tokens, is_in_mapping, EndsPart, IsGoing, IsUnder}
+use Rattle.model_parser.specs.Rest.{Rest, rest_tokens, still_tokens, is_in_mapping, EndsPart, IsGoing, is_under}
 use Rattle.model_parser.specs.Turn.{MayCome, Settles, without_node, before_directive}
 use Rattle.model_parser.proofs.Shortest.{ending}
 use Rattle.model_parser.proofs.First.{tok_is, part_ends_no_node, item_no_node, flow_pair_no_node}
 
 -- ---- under a node
 
-pub under_goes : (ss : List State) → IsUnder ss → IsGoing ss
-under_goes [] h = h
+pub under_goes : (ss : List State) → is_under ss ≡ true → IsGoing ss
+under_goes [] h = cc
 under_goes (s ∷ ss) h = tt
 
-pub under_other : (ss : List State) → IsUnder ss → other_next ≡ next_at at.done ss
-under_other [] h = absurd h
-under_other (state.StreamStart ∷ ss) h = absurd h
-under_other (state.ImplicitDocumentStart ∷ ss) h = absurd h
-under_other (state.DocumentStart ∷ ss) h = absurd h
-under_other (state.DocumentContent ∷ ss) h = absurd h
+pub under_other : (ss : List State) → is_under ss ≡ true → other_next ≡ next_at at.done ss
 under_other (state.DocumentEnd ∷ ss) h = refl
-under_other (state.BlockNode ∷ ss) h = absurd h
-under_other (state.BlockSequenceEntry ∷ ss) h = refl
-under_other (state.IndentlessSequenceEntry ∷ ss) h = refl
-under_other (state.IndentlessSequenceItem ∷ ss) h = absurd h
-under_other (state.BlockMappingKey ∷ ss) h = refl
-under_other (state.BlockMappingNextKey ∷ ss) h = refl
-under_other (state.BlockMappingValue ∷ ss) h = refl
-under_other (state.BlockMappingPart ∷ ss) h = absurd h
-under_other (state.FlowSequenceFirstEntry ∷ ss) h = absurd h
-under_other (state.FlowSequenceEntry ∷ ss) h = refl
-under_other (state.FlowSequenceEntryMappingKey ∷ ss) h = absurd h
-under_other (state.FlowSequenceEntryMappingValue ∷ ss) h = refl
-under_other (state.FlowSequenceEntryMappingEnd ∷ ss) h = refl
-under_other (state.FlowMappingFirstKey ∷ ss) h = absurd h
-under_other (state.FlowMappingKey ∷ ss) h = refl
-under_other (state.FlowMappingValue ∷ ss) h = refl
-under_other (state.FlowMappingPart m ∷ ss) h = absurd h
-under_other (state.FlowMappingEmptyValue ∷ ss) h = refl
+under_other ss h = cc
 
-pub under_past : (ss : List State) → IsUnder ss → is_past_directives at.done ss ≡ false
-under_past [] h = absurd h
-under_past (state.StreamStart ∷ ss) h = absurd h
-under_past (state.ImplicitDocumentStart ∷ ss) h = absurd h
-under_past (state.DocumentStart ∷ ss) h = absurd h
-under_past (state.DocumentContent ∷ ss) h = absurd h
+pub under_past : (ss : List State) → is_under ss ≡ true → is_past_directives at.done ss ≡ false
 under_past (state.DocumentEnd ∷ ss) h = refl
-under_past (state.BlockNode ∷ ss) h = absurd h
-under_past (state.BlockSequenceEntry ∷ ss) h = refl
-under_past (state.IndentlessSequenceEntry ∷ ss) h = refl
-under_past (state.IndentlessSequenceItem ∷ ss) h = absurd h
-under_past (state.BlockMappingKey ∷ ss) h = refl
-under_past (state.BlockMappingNextKey ∷ ss) h = refl
-under_past (state.BlockMappingValue ∷ ss) h = refl
-under_past (state.BlockMappingPart ∷ ss) h = absurd h
-under_past (state.FlowSequenceFirstEntry ∷ ss) h = absurd h
-under_past (state.FlowSequenceEntry ∷ ss) h = refl
-under_past (state.FlowSequenceEntryMappingKey ∷ ss) h = absurd h
-under_past (state.FlowSequenceEntryMappingValue ∷ ss) h = refl
-under_past (state.FlowSequenceEntryMappingEnd ∷ ss) h = refl
-under_past (state.FlowMappingFirstKey ∷ ss) h = absurd h
-under_past (state.FlowMappingKey ∷ ss) h = refl
-under_past (state.FlowMappingValue ∷ ss) h = refl
-under_past (state.FlowMappingPart m ∷ ss) h = absurd h
-under_past (state.FlowMappingEmptyValue ∷ ss) h = refl
+under_past ss h = cc
 
 -- where a mapping goes on, no document's node is read
 pub mapping_no_document : (ss : List State) → is_in_mapping ss ≡ true → is_over_document ss ≡ false

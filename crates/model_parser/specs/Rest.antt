@@ -93,21 +93,21 @@ abbrev pub IsGoing : List State → Type 0
 IsGoing [] = ⊥
 IsGoing (s ∷ ss) = Unit {0}
 
--- Something is awaited, and it is no node, and no document or stream.
-abbrev pub IsUnder : List State → Type 0
-IsUnder [] = ⊥
-IsUnder (state.StreamStart ∷ ss) = ⊥
-IsUnder (state.DocumentStart ∷ ss) = ⊥
-IsUnder (state.ImplicitDocumentStart ∷ ss) = ⊥
-IsUnder (state.DocumentContent ∷ ss) = ⊥
-IsUnder (state.BlockNode ∷ ss) = ⊥
-IsUnder (state.IndentlessSequenceItem ∷ ss) = ⊥
-IsUnder (state.BlockMappingPart ∷ ss) = ⊥
-IsUnder (state.FlowSequenceFirstEntry ∷ ss) = ⊥
-IsUnder (state.FlowSequenceEntryMappingKey ∷ ss) = ⊥
-IsUnder (state.FlowMappingFirstKey ∷ ss) = ⊥
-IsUnder (state.FlowMappingPart m ∷ ss) = ⊥
-IsUnder (s ∷ ss) = Unit {0}
+-- whether something is awaited that is no node, and no document or stream
+abbrev pub is_under : List State → Bool
+is_under [] = false
+is_under (state.StreamStart ∷ ss) = false
+is_under (state.DocumentStart ∷ ss) = false
+is_under (state.ImplicitDocumentStart ∷ ss) = false
+is_under (state.DocumentContent ∷ ss) = false
+is_under (state.BlockNode ∷ ss) = false
+is_under (state.IndentlessSequenceItem ∷ ss) = false
+is_under (state.BlockMappingPart ∷ ss) = false
+is_under (state.FlowSequenceFirstEntry ∷ ss) = false
+is_under (state.FlowSequenceEntryMappingKey ∷ ss) = false
+is_under (state.FlowMappingFirstKey ∷ ss) = false
+is_under (state.FlowMappingPart m ∷ ss) = false
+is_under (s ∷ ss) = true
 
 -- what must stand under what is read
 abbrev pub IsFor : Goal → List State → Type 0
@@ -119,14 +119,14 @@ IsFor at.explicit ss = IsBottom ss
 IsFor (at.directed ds) ss = IsBottom ss
 IsFor at.content ss = IsBottom ss
 IsFor at.after ss = IsBottom ss
-IsFor (at.node p) ss = EndsNode p ss × IsUnder ss
-IsFor (at.after_anchor p a) ss = EndsNode p ss × IsUnder ss
-IsFor (at.after_tag p t) ss = EndsNode p ss × IsUnder ss
-IsFor (at.after_properties p o) ss = EndsNode p ss × IsUnder ss
-IsFor at.dashes ss = EndsPart ss × IsUnder ss
-IsFor at.dashed ss = EndsPart ss × IsUnder ss
-IsFor at.part ss = EndsPart ss × IsUnder ss
-IsFor _ ss = IsUnder ss
+IsFor (at.node p) ss = EndsNode p ss × (is_under ss ≡ true)
+IsFor (at.after_anchor p a) ss = EndsNode p ss × (is_under ss ≡ true)
+IsFor (at.after_tag p t) ss = EndsNode p ss × (is_under ss ≡ true)
+IsFor (at.after_properties p o) ss = EndsNode p ss × (is_under ss ≡ true)
+IsFor at.dashes ss = EndsPart ss × (is_under ss ≡ true)
+IsFor at.dashed ss = EndsPart ss × (is_under ss ≡ true)
+IsFor at.part ss = EndsPart ss × (is_under ss ≡ true)
+IsFor _ ss = is_under ss ≡ true
 
 abbrev pub IsNested : List State → Type 0
 IsNested [] = Unit {0}
