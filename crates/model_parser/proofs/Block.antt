@@ -14,9 +14,9 @@ use Rattle.model_parser.specs.Place.{is_node, is_over_document, is_past_directiv
 use Rattle.model_parser.specs.Goal.{PartNode, part_node, part_sequence}
 use Rattle.model_parser.specs.Rest.{EndsPart}
 use Rattle.model_parser.specs.Turn.{Goes, Comes, Stays, Takes, Leaves, Refuses, alike, without_node}
-use Rattle.model_parser.proofs.First.{clash, clash_cons, node_first, node_at_first, after_entries, after_dashes, after_pairs, after_after_key}
+use Rattle.model_parser.proofs.First.{clash, clash_cons, node_first, node_at_first, after_entries, after_dashes, after_pairs, after_after_key, entry_no_node, dashed_no_node, part_no_node}
 use Rattle.model_parser.proofs.Nodes.{tail_eq}
-use Rattle.model_parser.proofs.Settling.{under_goes, under_other, under_past, mapping_no_document, entry_no_node, dashed_no_node, part_no_node, entry_comes, part_comes, dashed_comes}
+use Rattle.model_parser.proofs.Settling.{under_goes, under_other, under_past, mapping_no_document, entry_comes, part_comes, dashed_comes}
 
 -- ---- a block sequence
 
@@ -140,7 +140,7 @@ part_empty_goes ss t a (plain (some_node n)) r h = absurd (clash (begins_node co
 part_empty_goes ss t a (indentless o p d) r h = absurd (clash (begins_node context.Part) _ t (node_at_first context.Part (part_sequence o p d) _) a h)
 
 pub part_empty : (ss : List State) (t : Tok) → ends_part (kind_of t) ≡ true → Leaves at.part ss (Some t) (Some nothing_written) at.done ss
-part_empty ss t a = record { nested = λ n f. (n, under_goes ss f.1); comes = λ x' r'. (plain no_node, r', refl, refl); goes = λ n f. part_empty_goes ss t (part_no_node (kind_of t) a); opened = refl; settles = λ f. without_node (ap is_node (sym (under_other ss f.1))) (part_comes ss t f.0 a); past = λ f h. absurd (both_ways (is_past_directives at.done ss) (under_past ss f.1) h) }
+part_empty ss t a = record { nested = λ n f. (n, under_goes ss f.1); comes = λ x' r'. (plain no_node, r', refl, refl); goes = λ n f. part_empty_goes ss t (part_no_node context.Part (kind_of t) a); opened = refl; settles = λ f. without_node (ap is_node (sym (under_other ss f.1))) (part_comes ss t f.0 a); past = λ f h. absurd (both_ways (is_past_directives at.done ss) (under_past ss f.1) h) }
 
 part_node_goes : (ss : List State) (t : Tok) → EndsPart ss → ends_part (kind_of t) ≡ false → (x : Part) → Stays at.part ss (Some t) None (at.node context.Part) ss x
 part_node_goes ss t e a (plain no_node) r h = absurd (clash ends_part _ t (e.0 r) a h)

@@ -11,8 +11,8 @@ use Rattle.model_parser.specs.Kinds.{kind_of, begins_node, ends_document, ends_c
 use Rattle.model_parser.specs.Goal as at
 use Rattle.model_parser.specs.Place.{open_at}
 use Rattle.model_parser.specs.Turn.{Comes, Goes, Stays, Takes, Leaves, Refuses, alike, alike_after, without_node}
-use Rattle.model_parser.proofs.First.{clash, clash_cons, other, node_first, after_first, after_after, true_is_not_false}
-use Rattle.model_parser.proofs.Settling.{no_directive, content_no_node, content_settles, explicit_comes, directive_comes, directive_opens_none, directive_next_is}
+use Rattle.model_parser.proofs.First.{clash, clash_cons, other, node_first, after_first, after_after, true_is_not_false, content_no_node}
+use Rattle.model_parser.proofs.Settling.{no_directive, content_settles, explicit_comes, directive_comes, directive_opens_none, directive_next_is}
 
 with_directives : {a b : List Directive} {es : List Raw} → a ≡ b → Raw.document_start a ∷ es ≡ Raw.document_start b ∷ es
 with_directives {a} {b} {es} h = ap (λ ds. Raw.document_start ds ∷ es) h
@@ -131,7 +131,7 @@ content_empty_goes ss t a (no_node, x) r h = (tt, (x, r), refl, refl)
 content_empty_goes ss t a (some_node n, x) r h = absurd (clash (begins_node context.Block) _ t (node_first n _) a h)
 
 pub content_empty : (ss : List State) (t : Tok) → ends_content (kind_of t) ≡ true → Leaves at.content ss (Some t) (Some nothing_written) at.done (state.DocumentEnd ∷ ss)
-content_empty ss t a = record { nested = λ n f. ((f, n), tt); comes = λ x' r'. ((no_node, r'.0), r'.1, refl, refl); goes = λ n f. content_empty_goes ss t (content_no_node (kind_of t) a); opened = refl; settles = λ f. content_settles ss t a; past = λ f h. inl h }
+content_empty ss t a = record { nested = λ n f. ((f, n), tt); comes = λ x' r'. ((no_node, r'.0), r'.1, refl, refl); goes = λ n f. content_empty_goes ss t (content_no_node context.Block (kind_of t) a); opened = refl; settles = λ f. content_settles ss t a; past = λ f h. inl h }
 
 content_node_goes : (ss : List State) (t : Tok) → ends_document (kind_of t) ≡ false → (x : Perhaps × After) → Stays at.content ss (Some t) None (at.node context.Block) (state.DocumentEnd ∷ ss) x
 content_node_goes ss t a (no_node, x) r h = absurd (clash ends_document _ t (after_first x _) a h)

@@ -1,15 +1,15 @@
 -- What each part of the grammar begins with.
 use Rattle.std.proofs.Common.{◌≡◌, ◌≢◌, List, [], ◌∷◌, Some, None, Bool, true, false, not, refl, sym, ap, ◌∙◌, subst}
 use Rattle.defs_token.specs.Token.{Tok}
-use Rattle.defs_event.specs.Grammar.{anchored, tagged, anchored_tagged, tagged_anchored, Properties, FlowNode, flow_alias, flow_content, flow_properties, FlowContent, scalar, flow_sequence, flow_mapping, MoreItems, end_items, comma_end_items, comma_item, FlowValue, no_flow_value, flow_value, MoreFlowPairs, end_flow_pairs, comma_end_flow_pairs, comma_flow_pair, Node, block_alias, block_content, block_properties, Content, flow, block_sequence, block_mapping, Entries, end_entries, entry, Dashes, end_dashes, dash, Pairs, keyed, keyless, end_pairs, key, AfterKey, value, no_value, no_node, plain, end_stream, explicit, After, marked, unmarked, flow_node_tokens, flow_content_tokens, more_items_tokens, flow_value_tokens, more_flow_pairs_tokens, node_tokens, content_tokens, entries_tokens, dashes_tokens, pairs_tokens, after_key_tokens, after_tokens, properties_tokens}
+use Rattle.defs_event.specs.Grammar.{anchored, Properties, FlowNode, flow_content, flow_properties, FlowContent, scalar, MoreItems, end_items, comma_end_items, comma_item, FlowValue, no_flow_value, flow_value, MoreFlowPairs, end_flow_pairs, comma_end_flow_pairs, comma_flow_pair, Node, block_content, block_properties, Content, flow, Entries, end_entries, entry, Dashes, end_dashes, dash, Pairs, keyed, keyless, end_pairs, key, AfterKey, value, no_value, no_node, plain, end_stream, explicit, After, marked, unmarked, flow_node_tokens, flow_content_tokens, more_items_tokens, flow_value_tokens, more_flow_pairs_tokens, node_tokens, content_tokens, entries_tokens, dashes_tokens, pairs_tokens, after_key_tokens, after_tokens, properties_tokens}
 use Rattle.model_parser.specs.declared.kind.Kind.{Kind}
 use Rattle.model_parser.specs.declared.kind.Kind.TheVariants as kind
 use Rattle.model_parser.specs.declared.context.NodeContext.{NodeContext}
 use Rattle.model_parser.specs.declared.context.NodeContext.TheVariants as context
 use Rattle.model_parser.specs.declared.state.State.{State}
 use Rattle.model_parser.specs.declared.state.State.TheVariants as state
-use Rattle.model_parser.specs.Kinds.{kind_of, begins_content, begins_node, ends_part, ends_document, ends_item, ends_item_key, ends_flow_pair, ends_flow_key, tok_of_kind, has_no_text}
-use Rattle.model_parser.specs.Goal.{NodeAt, ContentAt, part_node, part_sequence, part_content, part_dashes, node_at_tokens, content_at_tokens}
+use Rattle.model_parser.specs.Kinds.{kind_of, begins_content, begins_node, ends_part, ends_document, ends_content, ends_entry, ends_dashed, ends_item, ends_item_key, ends_flow_pair, ends_flow_key, tok_of_kind, has_no_text}
+use Rattle.model_parser.specs.Goal.{NodeAt, ContentAt, part_node, part_sequence, part_content, node_at_tokens, content_at_tokens}
 use Rattle.model_parser.specs.Rest.{Rest, rest_tokens, first_is, BeginsNoNode, EndsPart, EndsNode}
 use Rattle.model_parser.specs.Stands.{IsNext}
 use Rattle.model_parser.proofs.Shortest.{ending}
@@ -132,56 +132,55 @@ pub first_more : (a b : Kind → Bool) → ((k : Kind) → a k ≡ true → b k 
 first_more a b f [] h = refl
 first_more a b f (t ∷ ts) h = f (kind_of t) h
 
-pub no_node_at : NodeContext → Kind → Bool
-no_node_at p k = not (begins_node p k)
+-- ---- what ends one thing begins no node
 
-pub part_ends_no_node : (p : NodeContext) (k : Kind) → ends_part k ≡ true → not (begins_node p k) ≡ true
-part_ends_no_node p kind.Key h = refl
-part_ends_no_node p kind.Value h = refl
-part_ends_no_node p kind.BlockEnd h = refl
-part_ends_no_node p _ h = cc
+pub part_no_node : (p : NodeContext) (k : Kind) → ends_part k ≡ true → begins_node p k ≡ false
+part_no_node p kind.Key h = refl
+part_no_node p k h = cc
+
+pub content_no_node : (p : NodeContext) (k : Kind) → ends_content k ≡ true → begins_node p k ≡ false
+content_no_node p kind.DocumentStart h = refl
+content_no_node p k h = cc
+
+pub item_key_no_node : (p : NodeContext) (k : Kind) → ends_item_key k ≡ true → begins_node p k ≡ false
+item_key_no_node p kind.Value h = refl
+item_key_no_node p k h = cc
+
+pub item_no_node : (p : NodeContext) (k : Kind) → ends_item k ≡ true → begins_node p k ≡ false
+item_no_node p kind.FlowEntry h = refl
+item_no_node p k h = cc
+
+pub flow_key_no_node : (p : NodeContext) (k : Kind) → ends_flow_key k ≡ true → begins_node p k ≡ false
+flow_key_no_node p kind.Value h = refl
+flow_key_no_node p k h = cc
+
+pub flow_pair_no_node : (p : NodeContext) (k : Kind) → ends_flow_pair k ≡ true → begins_node p k ≡ false
+flow_pair_no_node p kind.FlowEntry h = refl
+flow_pair_no_node p k h = cc
+
+-- here a `-` does not begin a node, either
+pub entry_no_node : (k : Kind) → ends_entry k ≡ true → begins_node context.Block k ≡ false
+entry_no_node kind.BlockEntry h = refl
+entry_no_node k h = cc
+
+pub dashed_no_node : (k : Kind) → ends_dashed k ≡ true → begins_node context.Block k ≡ false
+dashed_no_node kind.BlockEntry h = refl
+dashed_no_node k h = cc
+
+pub document_is_content : (k : Kind) → ends_document k ≡ true → ends_content k ≡ true
+document_is_content kind.DocumentStart h = refl
+document_is_content k h = cc
+
+-- Tokens of which the first ends something begin no node.
+none_first : (p : NodeContext) (ends : Kind → Bool) → ((k : Kind) → ends k ≡ true → begins_node p k ≡ false) → (ts : List Tok) → first_is ends ts ≡ true → first_is (λ k. not (begins_node p k)) ts ≡ true
+none_first p ends f ts h = first_more ends (λ k. not (begins_node p k)) (λ k e. ap not (f k e)) ts h
 
 pub ends_part_begins_none : (p : NodeContext) (ss : List State) → EndsPart ss → BeginsNoNode p ss
-ends_part_begins_none p ss e r = first_more ends_part (λ k. not (begins_node p k)) (part_ends_no_node p) (rest_tokens ss r) (e.0 r)
-
-pub document_no_node : (p : NodeContext) (k : Kind) → ends_document k ≡ true → not (begins_node p k) ≡ true
-document_no_node p kind.DocumentStart h = refl
-document_no_node p kind.DocumentEnd h = refl
-document_no_node p kind.StreamEnd h = refl
-document_no_node p _ h = cc
-
-pub item_no_node : (p : NodeContext) (k : Kind) → ends_item_key k ≡ true → not (begins_node p k) ≡ true
-item_no_node p kind.Value h = refl
-item_no_node p kind.FlowEntry h = refl
-item_no_node p kind.FlowSequenceEnd h = refl
-item_no_node p _ h = cc
-
-pub flow_pair_no_node : (p : NodeContext) (k : Kind) → ends_flow_key k ≡ true → not (begins_node p k) ≡ true
-flow_pair_no_node p kind.Value h = refl
-flow_pair_no_node p kind.FlowEntry h = refl
-flow_pair_no_node p kind.FlowMappingEnd h = refl
-flow_pair_no_node p _ h = cc
-
-item_is_key : (k : Kind) → ends_item k ≡ true → ends_item_key k ≡ true
-item_is_key kind.FlowEntry h = refl
-item_is_key kind.FlowSequenceEnd h = refl
-item_is_key _ h = cc
-
-pair_is_key : (k : Kind) → ends_flow_pair k ≡ true → ends_flow_key k ≡ true
-pair_is_key kind.FlowEntry h = refl
-pair_is_key kind.FlowMappingEnd h = refl
-pair_is_key _ h = cc
+ends_part_begins_none p ss e r = none_first p ends_part (part_no_node p) (rest_tokens ss r) (e.0 r)
 
 pub block_begins_fewer : (k : Kind) → not (begins_node context.Block k) ≡ true → not (begins_node context.Flow k) ≡ true
-block_begins_fewer kind.BlockSequenceStart h = refl
-block_begins_fewer kind.BlockMappingStart h = refl
 block_begins_fewer kind.Alias h = h
-block_begins_fewer kind.Anchor h = h
-block_begins_fewer kind.Tag h = h
-block_begins_fewer kind.Scalar h = h
-block_begins_fewer kind.FlowSequenceStart h = h
-block_begins_fewer kind.FlowMappingStart h = h
-block_begins_fewer _ h = refl
+block_begins_fewer k h = cc
 
 -- what stands under a node begins none
 pub after_begins_none : (p : NodeContext) (ss : List State) → EndsNode p ss → BeginsNoNode p ss
@@ -192,7 +191,7 @@ after_begins_none context.Flow ss b = b
 -- ---- what may be pushed below a node
 
 pub after_after : (ss : List State) → BeginsNoNode context.Block (state.DocumentEnd ∷ ss)
-after_after ss r = first_more ends_document (λ k. not (begins_node context.Block k)) (document_no_node context.Block) _ (after_first r.0 _)
+after_after ss r = none_first context.Block ends_document (λ k h. content_no_node context.Block k (document_is_content k h)) _ (after_first r.0 _)
 
 entries_first : (x : Entries) (r : List Tok) → first_is (λ k. not (begins_node context.Block k)) (entries_tokens x r) ≡ true
 entries_first end_entries r = refl
@@ -212,41 +211,41 @@ after_dashes ss e r = dashes_first r.0 ss e r.1
 abbrev Gives : State → List State → Tok → Type 0
 Gives s ss t = (r : Rest (s ∷ ss)) × (ts : List Tok) × (rest_tokens (s ∷ ss) r ≡ t ∷ ts)
 
-pairs_give : (ss : List State) (t : Tok) (k : Kind) → kind_of t ≡ k → ends_part k ≡ true → Gives state.BlockMappingKey ss t
-pairs_give ss t kind.Key e h = let ts = Tok.block_end ∷ rest_tokens ss (ending ss) in ((keyed (key (plain no_node) (no_value end_pairs)), ending ss), ts, ap (λ u. u ∷ ts) (sym (tok_is e refl)))
-pairs_give ss t kind.Value e h = let ts = Tok.block_end ∷ rest_tokens ss (ending ss) in ((keyless (plain no_node) (keyed end_pairs), ending ss), ts, ap (λ u. u ∷ ts) (sym (tok_is e refl)))
-pairs_give ss t kind.BlockEnd e h = let ts = rest_tokens ss (ending ss) in ((keyed end_pairs, ending ss), ts, ap (λ u. u ∷ ts) (sym (tok_is e refl)))
-pairs_give ss t _ e h = cc
+pairs_give : (ss : List State) (t : Tok) → ends_part (kind_of t) ≡ true → Gives state.BlockMappingKey ss t
+pairs_give ss Tok.key h = ((keyed (key (plain no_node) (no_value end_pairs)), ending ss), _, refl)
+pairs_give ss Tok.value h = ((keyless (plain no_node) (keyed end_pairs), ending ss), _, refl)
+pairs_give ss Tok.block_end h = ((keyed end_pairs, ending ss), _, refl)
+pairs_give ss t h = cc
 
 pub after_pairs : (ss : List State) → EndsPart (state.BlockMappingKey ∷ ss)
-after_pairs ss = (λ r. pairs_first r.0 _, λ t h. pairs_give ss t (kind_of t) refl h, refl)
+after_pairs ss = (λ r. pairs_first r.0 _, pairs_give ss, refl)
 
-value_gives : (ss : List State) (t : Tok) (k : Kind) → kind_of t ≡ k → ends_part k ≡ true → Gives state.BlockMappingValue ss t
-value_gives ss t kind.Key e h = let ts = Tok.block_end ∷ rest_tokens ss (ending ss) in ((no_value (key (plain no_node) (no_value end_pairs)), ending ss), ts, ap (λ u. u ∷ ts) (sym (tok_is e refl)))
-value_gives ss t kind.Value e h = let ts = Tok.block_end ∷ rest_tokens ss (ending ss) in ((value (plain no_node) (keyed end_pairs), ending ss), ts, ap (λ u. u ∷ ts) (sym (tok_is e refl)))
-value_gives ss t kind.BlockEnd e h = let ts = rest_tokens ss (ending ss) in ((no_value end_pairs, ending ss), ts, ap (λ u. u ∷ ts) (sym (tok_is e refl)))
-value_gives ss t _ e h = cc
+value_gives : (ss : List State) (t : Tok) → ends_part (kind_of t) ≡ true → Gives state.BlockMappingValue ss t
+value_gives ss Tok.key h = ((no_value (key (plain no_node) (no_value end_pairs)), ending ss), _, refl)
+value_gives ss Tok.value h = ((value (plain no_node) (keyed end_pairs), ending ss), _, refl)
+value_gives ss Tok.block_end h = ((no_value end_pairs, ending ss), _, refl)
+value_gives ss t h = cc
 
 pub after_after_key : (ss : List State) → EndsPart (state.BlockMappingValue ∷ ss)
-after_after_key ss = (λ r. after_key_first r.0 _, λ t h. value_gives ss t (kind_of t) refl h, refl)
+after_after_key ss = (λ r. after_key_first r.0 _, value_gives ss, refl)
 
 pub after_more_items : (ss : List State) → BeginsNoNode context.Flow (state.FlowSequenceEntry ∷ ss)
-after_more_items ss r = first_more ends_item (λ k. not (begins_node context.Flow k)) (λ k h. item_no_node context.Flow k (item_is_key k h)) _ (more_items_first r.0 _)
+after_more_items ss r = none_first context.Flow ends_item (item_no_node context.Flow) _ (more_items_first r.0 _)
 
 pub after_pair_value : (ss : List State) → BeginsNoNode context.Flow (state.FlowSequenceEntryMappingValue ∷ ss)
-after_pair_value ss r = first_more ends_item_key (λ k. not (begins_node context.Flow k)) (item_no_node context.Flow) _ (item_key_first r.0.0 r.0.1 _)
+after_pair_value ss r = none_first context.Flow ends_item_key (item_key_no_node context.Flow) _ (item_key_first r.0.0 r.0.1 _)
 
 pub after_pair_end : (ss : List State) → BeginsNoNode context.Flow (state.FlowSequenceEntryMappingEnd ∷ ss)
-after_pair_end ss r = first_more ends_item (λ k. not (begins_node context.Flow k)) (λ k h. item_no_node context.Flow k (item_is_key k h)) _ (more_items_first r.0 _)
+after_pair_end ss r = none_first context.Flow ends_item (item_no_node context.Flow) _ (more_items_first r.0 _)
 
 pub after_more_flow : (ss : List State) → BeginsNoNode context.Flow (state.FlowMappingKey ∷ ss)
-after_more_flow ss r = first_more ends_flow_pair (λ k. not (begins_node context.Flow k)) (λ k h. flow_pair_no_node context.Flow k (pair_is_key k h)) _ (more_pairs_first r.0 _)
+after_more_flow ss r = none_first context.Flow ends_flow_pair (flow_pair_no_node context.Flow) _ (more_pairs_first r.0 _)
 
 pub after_flow_value : (ss : List State) → BeginsNoNode context.Flow (state.FlowMappingValue ∷ ss)
-after_flow_value ss r = first_more ends_flow_key (λ k. not (begins_node context.Flow k)) (flow_pair_no_node context.Flow) _ (flow_key_first r.0.0 r.0.1 _)
+after_flow_value ss r = none_first context.Flow ends_flow_key (flow_key_no_node context.Flow) _ (flow_key_first r.0.0 r.0.1 _)
 
 pub after_flow_empty : (ss : List State) → BeginsNoNode context.Flow (state.FlowMappingEmptyValue ∷ ss)
-after_flow_empty ss r = first_more ends_flow_pair (λ k. not (begins_node context.Flow k)) (λ k h. flow_pair_no_node context.Flow k (pair_is_key k h)) _ (more_pairs_first r.0 _)
+after_flow_empty ss r = none_first context.Flow ends_flow_pair (flow_pair_no_node context.Flow) _ (more_pairs_first r.0 _)
 
 -- ---- a kind that is none of several
 

@@ -12,10 +12,10 @@ use Rattle.model_parser.specs.Kinds.{kind_of, begins_node, ends_item, ends_item_
 use Rattle.model_parser.specs.Goal as at
 use Rattle.model_parser.specs.Goal.{Comma, last, another, FlowComma, last_pair, another_pair}
 use Rattle.model_parser.specs.Turn.{Goes, Comes, Stays, Takes, Leaves, Refuses, alike, without_node}
-use Rattle.model_parser.proofs.First.{clash_cons, flow_node_first, more_items_first, item_key_first, more_pairs_first, flow_key_first, after_more_items, after_pair_value, after_pair_end, after_more_flow, after_flow_value, after_flow_empty}
+use Rattle.model_parser.proofs.First.{clash_cons, flow_node_first, more_items_first, item_key_first, more_pairs_first, flow_key_first, after_more_items, after_pair_value, after_pair_end, after_more_flow, after_flow_value, after_flow_empty, item_key_no_node, item_no_node, flow_key_no_node, flow_pair_no_node}
 use Rattle.model_parser.proofs.KeyAndValue.{key_empty, key_node, value_colon, value_empty, valued_empty, valued_node}
 use Rattle.model_parser.proofs.Nodes.{tail_eq}
-use Rattle.model_parser.proofs.Settling.{under_goes, under_other, under_past, item_key_no_node, item_has_no_node, flow_key_no_node, pair_has_no_node, pair_key_comes, pair_valued_comes, flow_key_comes, flow_valued_comes}
+use Rattle.model_parser.proofs.Settling.{under_goes, under_other, under_past, pair_key_comes, pair_valued_comes, flow_key_comes, flow_valued_comes}
 
 -- ---- a flow sequence
 
@@ -95,7 +95,7 @@ abbrev pair_end_events : MoreItems → List Raw → List Raw
 pair_end_events m es = Raw.mapping_end ∷ more_items_events m es
 
 pub pair_key_empty : (ss : List State) (t : Tok) → ends_item_key (kind_of t) ≡ true → Leaves at.pair_key ss (Some t) (Some nothing_written) at.done (state.FlowSequenceEntryMappingValue ∷ ss)
-pair_key_empty ss t a = record { nested = λ n f. ((f, n), tt); comes = λ x' r'. ((no_flow, r'.0.0, r'.0.1), r'.1, refl, refl); goes = λ n f. key_empty MoreItems more_items_tokens pair_end_events ss t (item_key_no_node (kind_of t) a); opened = refl; settles = λ f. without_node refl (pair_key_comes ss t a); past = λ f h. inl h }
+pair_key_empty ss t a = record { nested = λ n f. ((f, n), tt); comes = λ x' r'. ((no_flow, r'.0.0, r'.0.1), r'.1, refl, refl); goes = λ n f. key_empty MoreItems more_items_tokens pair_end_events ss t (item_key_no_node context.Flow (kind_of t) a); opened = refl; settles = λ f. without_node refl (pair_key_comes ss t a); past = λ f h. inl h }
 
 pub pair_key_node : (ss : List State) (t : Tok) → ends_item_key (kind_of t) ≡ false → Leaves at.pair_key ss (Some t) None (at.node context.Flow) (state.FlowSequenceEntryMappingValue ∷ ss)
 pair_key_node ss t a = record { nested = λ n f. ((f, n), (after_pair_value ss, refl)); comes = λ x' r'. ((some_flow x', r'.0.0, r'.0.1), r'.1, refl, refl); goes = λ n f. key_node MoreItems more_items_tokens pair_end_events ss ends_item_key item_key_first t a; opened = refl; settles = λ f. alike refl refl; past = λ f h. inl h }
@@ -107,7 +107,7 @@ pub pair_value_empty : (ss : List State) (t : Tok) → kind_of t ≢ kind.Value 
 pair_value_empty ss t a = record { nested = λ n f. ((f, n), tt); comes = λ x' r'. ((no_flow_value, r'.0), r'.1, refl, refl); goes = λ n f. value_empty MoreItems more_items_tokens pair_end_events ss t a; opened = refl; settles = λ f. alike refl refl; past = λ f h. inl h }
 
 pub pair_valued_empty : (ss : List State) (t : Tok) → ends_item (kind_of t) ≡ true → Leaves at.pair_valued ss (Some t) (Some nothing_written) at.done (state.FlowSequenceEntryMappingEnd ∷ ss)
-pair_valued_empty ss t a = record { nested = λ n f. ((f, n), tt); comes = λ x' r'. ((no_flow, r'.0), r'.1, refl, refl); goes = λ n f. valued_empty MoreItems more_items_tokens pair_end_events ss t (item_has_no_node (kind_of t) a); opened = refl; settles = λ f. without_node refl (pair_valued_comes ss t a); past = λ f h. inl h }
+pair_valued_empty ss t a = record { nested = λ n f. ((f, n), tt); comes = λ x' r'. ((no_flow, r'.0), r'.1, refl, refl); goes = λ n f. valued_empty MoreItems more_items_tokens pair_end_events ss t (item_no_node context.Flow (kind_of t) a); opened = refl; settles = λ f. without_node refl (pair_valued_comes ss t a); past = λ f h. inl h }
 
 pub pair_valued_node : (ss : List State) (t : Tok) → ends_item (kind_of t) ≡ false → Leaves at.pair_valued ss (Some t) None (at.node context.Flow) (state.FlowSequenceEntryMappingEnd ∷ ss)
 pair_valued_node ss t a = record { nested = λ n f. ((f, n), (after_pair_end ss, refl)); comes = λ x' r'. ((some_flow x', r'.0), r'.1, refl, refl); goes = λ n f. valued_node MoreItems more_items_tokens pair_end_events ss ends_item more_items_first t a; opened = refl; settles = λ f. alike refl refl; past = λ f h. inl h }
@@ -199,7 +199,7 @@ pub flow_pair_node : (ss : List State) (t : Tok) → kind_of t ≢ kind.Key → 
 flow_pair_node ss t a b = record { nested = λ n f. ((f, n), (after_flow_empty ss, refl)); comes = λ x' r'. ((flow_single x', r'.0), r'.1, refl, refl); goes = λ n f. flow_pair_node_goes ss t a b; opened = refl; settles = λ f. alike refl refl; past = λ f h. inl h }
 
 pub flow_key_empty : (ss : List State) (t : Tok) → ends_flow_key (kind_of t) ≡ true → Leaves at.flow_key ss (Some t) (Some nothing_written) at.done (state.FlowMappingValue ∷ ss)
-flow_key_empty ss t a = record { nested = λ n f. ((f, n), tt); comes = λ x' r'. ((no_flow, r'.0.0, r'.0.1), r'.1, refl, refl); goes = λ n f. key_empty MoreFlowPairs more_flow_pairs_tokens more_flow_pairs_events ss t (flow_key_no_node (kind_of t) a); opened = refl; settles = λ f. without_node refl (flow_key_comes ss t a); past = λ f h. inl h }
+flow_key_empty ss t a = record { nested = λ n f. ((f, n), tt); comes = λ x' r'. ((no_flow, r'.0.0, r'.0.1), r'.1, refl, refl); goes = λ n f. key_empty MoreFlowPairs more_flow_pairs_tokens more_flow_pairs_events ss t (flow_key_no_node context.Flow (kind_of t) a); opened = refl; settles = λ f. without_node refl (flow_key_comes ss t a); past = λ f h. inl h }
 
 pub flow_key_node : (ss : List State) (t : Tok) → ends_flow_key (kind_of t) ≡ false → Leaves at.flow_key ss (Some t) None (at.node context.Flow) (state.FlowMappingValue ∷ ss)
 flow_key_node ss t a = record { nested = λ n f. ((f, n), (after_flow_value ss, refl)); comes = λ x' r'. ((some_flow x', r'.0.0, r'.0.1), r'.1, refl, refl); goes = λ n f. key_node MoreFlowPairs more_flow_pairs_tokens more_flow_pairs_events ss ends_flow_key flow_key_first t a; opened = refl; settles = λ f. alike refl refl; past = λ f h. inl h }
@@ -211,7 +211,7 @@ pub flow_after_empty : (ss : List State) (t : Tok) → kind_of t ≢ kind.Value 
 flow_after_empty ss t a = record { nested = λ n f. ((f, n), tt); comes = λ x' r'. ((no_flow_value, r'.0), r'.1, refl, refl); goes = λ n f. value_empty MoreFlowPairs more_flow_pairs_tokens more_flow_pairs_events ss t a; opened = refl; settles = λ f. alike refl refl; past = λ f h. inl h }
 
 pub flow_valued_empty : (ss : List State) (t : Tok) → ends_flow_pair (kind_of t) ≡ true → Leaves at.flow_valued ss (Some t) (Some nothing_written) at.done (state.FlowMappingKey ∷ ss)
-flow_valued_empty ss t a = record { nested = λ n f. ((f, n), tt); comes = λ x' r'. ((no_flow, r'.0), r'.1, refl, refl); goes = λ n f. valued_empty MoreFlowPairs more_flow_pairs_tokens more_flow_pairs_events ss t (pair_has_no_node (kind_of t) a); opened = refl; settles = λ f. without_node refl (flow_valued_comes ss t a); past = λ f h. inl h }
+flow_valued_empty ss t a = record { nested = λ n f. ((f, n), tt); comes = λ x' r'. ((no_flow, r'.0), r'.1, refl, refl); goes = λ n f. valued_empty MoreFlowPairs more_flow_pairs_tokens more_flow_pairs_events ss t (flow_pair_no_node context.Flow (kind_of t) a); opened = refl; settles = λ f. without_node refl (flow_valued_comes ss t a); past = λ f h. inl h }
 
 pub flow_valued_node : (ss : List State) (t : Tok) → ends_flow_pair (kind_of t) ≡ false → Leaves at.flow_valued ss (Some t) None (at.node context.Flow) (state.FlowMappingKey ∷ ss)
 flow_valued_node ss t a = record { nested = λ n f. ((f, n), (after_more_flow ss, refl)); comes = λ x' r'. ((some_flow x', r'.0), r'.1, refl, refl); goes = λ n f. valued_node MoreFlowPairs more_flow_pairs_tokens more_flow_pairs_events ss ends_flow_pair more_pairs_first t a; opened = refl; settles = λ f. alike refl refl; past = λ f h. inl h }
