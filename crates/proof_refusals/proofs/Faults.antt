@@ -1,5 +1,5 @@
 -- What holds of the fault of a step, if it has one: rules for the forms that the model's functions are made of.
-use Rattle.std.proofs.Common.{◌≡◌, Bool, true, false, if◌then◌else◌, Result, Ok, Err, refl, ap, subst}
+use Rattle.std.proofs.Common.{◌≡◌, Bool, true, false, if◌then◌else◌, Result, Ok, Err, refl, subst}
 use Rattle.yaml_tokens.specs.declared.problem.Fault.{Fault}
 use Rattle.model_lexers.specs.Machine.{Read}
 use Rattle.model_scanner.specs.State.{Held, ScannerState, ◌>>=◌, with_held, go_on, lexed}
@@ -10,14 +10,7 @@ pub data Faults (F : Fault → Type 0) {A : Type 0} : Result A Fault → Type 0 
   goes : {x : A} → Faults F (Ok x)
 
 pub fault_is : {F : Fault → Type 0} {A : Type 0} {r : Result A Fault} (f : Fault) → Faults F r → r ≡ Err f → F f
-fault_is {F = F} f (fault {f = g} p) e = subst F (same g f e) p
-  where
-    fault_or : {B : Type 0} → Fault → Result B Fault → Fault
-    fault_or z (Ok w) = z
-    fault_or z (Err f) = f
-
-    same : {B : Type 0} (g f : Fault) → ◌≡◌ {A = Result B Fault} (Err g) (Err f) → g ≡ f
-    same g f e = ap (fault_or g) e
+fault_is {F = F} f (fault {f = g} p) e = let same : g ≡ f = cc e in subst F same p
 fault_is f goes e = absurd (cc)
 
 pub in_turn : {F : Fault → Type 0} {A B : Type 0} {r : Result A Fault} {k : A → Result B Fault} → Faults F r → ((x : A) → r ≡ Ok x → Faults F (k x)) → Faults F (r >>= k)

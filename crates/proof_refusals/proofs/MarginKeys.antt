@@ -24,9 +24,10 @@ use Rattle.proof_row_sound.specs.Stands.{AreCollections, AreLevels, IsTopLevel, 
 use Rattle.proof_row_sound.specs.Arrives.{Arrives, IsLineHere, site_here}
 use Rattle.proof_row_sound.proofs.Passed.{some_columns}
 use Rattle.proof_row_sound.proofs.Stales.{no_entries}
+use Rattle.proof_row_complete.proofs.Indicators.MarginSteps.{margin_before, directive_or_not}
 use Rattle.proof_row_complete.proofs.Indicators.Passed.{same_value}
 use Rattle.proof_refusals.proofs.LastTokens.{Marked, Marks, last_pushed}
-use Rattle.proof_refusals.proofs.Margins.{margin_before, directive_or_not, begun}
+use Rattle.proof_refusals.proofs.Margins.{begun}
 
 -- Outside flow, where the last token is a property in the first column and a level of indentation is open: the open key must be one.
 abbrev pub IsMargin : Held → Type 0

@@ -2,7 +2,7 @@
 use Rattle.std.proofs.Common.{◌≡◌, ◌≤◌, List, [], ◌∷◌, ◌++◌, ℕ, Bool, true, false, not, ◌==◌, ◌&&◌, ◌||◌, nat_le, nat_lt, if◌then◌else◌, map, Option, Some, None, refl, ap, sym, ◌∙◌, arith}
 use Rattle.std.proofs.lemmas.Bool.{and_parts, eqb-true}
 use Rattle.std.proofs.lemmas.Bool.Decides.{nat_tests}
-use Rattle.defs_text.specs.Breaks.{split, is_at_line_end, is_blanks_and_comment, is_rest_of_line}
+use Rattle.defs_text.specs.Breaks.{split, is_at_line_end}
 use Rattle.defs_text.specs.Classes.{tab, is_one_of, is_blank, is_break, is_nul, is_blank_or_end, is_alpha, is_decimal_digit, is_letter, is_at_end, is_at_gap, is_document_marker}
 use Rattle.defs_text.specs.Position.{Position, position_after}
 use Rattle.defs_text.specs.Text.{is_empty, has_no_nul}
@@ -26,6 +26,7 @@ use Rattle.defs_row.specs.Tokens.{content_position, shown_position}
 use Rattle.proof_lexers.specs.PlainEnds.{is_white}
 use Rattle.proof_lexers.specs.Separations.{begins_separation, has}
 use Rattle.proof_row_complete.proofs.Around.Markers.{begins_document, BeginsLine, marker_begins}
+use Rattle.proof_row_complete.proofs.Scalars.AfterQuoted.{not_done}
 use Rattle.proof_row_sound.proofs.QuotedEnds.{blanks_alone, after_blanks}
 use Rattle.proof_row.proofs.Accounts.{same_flow}
 use Rattle.proof_row.proofs.Written.{At, same_piece}
@@ -48,35 +49,6 @@ and_last false y e = refl
 both_false : (x y : Bool) → (x || y) ≡ false → (x ≡ false) × (y ≡ false)
 both_false true y e = absurd (cc e)
 both_false false y e = (refl, e)
-
--- a line on which something other than a comment stands after blanks holds more
-not_done : (s : List ℕ) (d : ℕ) (r : List ℕ) → is_blanks s ≡ true → is_break d ≡ false → is_blank d ≡ false → (d == 35) ≡ false → line_is_done (s ++ d ∷ r) ≡ false
-unfolding is_blank is_break
-not_done s d r b e f g = ap is_rest_of_line (on_line s b) ∙ done s b
-  where
-    tail : List ℕ
-    tail = d ∷ leading is_on_line r
-
-    unbroken : (c : ℕ) → is_blank c ≡ true → is_break c ≡ false
-    unbroken c h = grind (arith, nat_tests, h)
-
-    on_line : (s : List ℕ) → is_blanks s ≡ true → leading is_on_line (s ++ d ∷ r) ≡ s ++ tail
-    on_line [] b = rw e refl
-    on_line (c ∷ s) b =
-        let p = and_parts (is_blank c) (is_blanks s) b in
-        let u : is_break c ≡ false = unbroken c p.0 in
-        rw u (ap (λ l. c ∷ l) (on_line s p.1))
-
-    comment : (s : List ℕ) → is_blanks s ≡ true → is_blanks_and_comment (s ++ tail) ≡ false
-    comment [] b = rw (g, f) refl
-    comment (c ∷ s) b =
-        let p = and_parts (is_blank c) (is_blanks s) b in
-        let u : (c == 35) ≡ false = grind (arith, nat_tests, p.0) in
-        rw (u, p.0) (comment s p.1)
-
-    done : (s : List ℕ) → is_blanks s ≡ true → is_rest_of_line (s ++ tail) ≡ false
-    done [] b = rw f refl
-    done (c ∷ s) b = let p = and_parts (is_blank c) (is_blanks s) b in rw p.0 (comment s p.1)
 
 leading_blanks : (s : List ℕ) (d : ℕ) (r : List ℕ) → is_blanks s ≡ true → is_blank d ≡ false → leading is_blank (s ++ d ∷ r) ≡ s
 leading_blanks [] d r b f = rw f refl

@@ -102,7 +102,7 @@ ends_off_margin a w next h n q =
     (piece_of (seen a (site_of a w next) w.separation) w.piece next None (shown_position (site_of a w next) w.piece w.shown next) w.shown some h.1.1) n)
 
 -- within a line a position in the first column was there before
-margin_before : (p : Position) (f next : List ℕ) → has_break f ≡ false → ((position_after p f next).col == 0) ≡ true → (p.col == 0) ≡ true
+pub margin_before : (p : Position) (f next : List ℕ) → has_break f ≡ false → ((position_after p f next).col == 0) ≡ true → (p.col == 0) ≡ true
 margin_before p f next h e = back p.col (length f) (ap (λ q. q.col == 0) (position_in_line p f next (unbroken f h)) ∙ e)
   where
     unbroken : (f : List ℕ) → has_break f ≡ false → has_no_break f ≡ true
@@ -184,7 +184,7 @@ margin_blocks col (n ∷ ns) e = by (margin_blocks col ns e) (nat_lt col n) refl
     by more true i = more
     by more false i = inr (same col n e i)
 
-directive_or_not : (b : Previous) → (b ≡ directive) ⊎ ((f : List ℕ) → begins_free_line b f ≡ has_break f)
+pub directive_or_not : (b : Previous) → (b ≡ directive) ⊎ ((f : List ℕ) → begins_free_line b f ≡ has_break f)
 directive_or_not before_plain = inr (λ f. refl)
 directive_or_not quoted_scalar = inr (λ f. refl)
 directive_or_not Previous.block_scalar = inr (λ f. refl)
@@ -260,46 +260,102 @@ not_empty_then : {A : Type 0} (xs : List A) (y : A) (ys : List A) → is_empty (
 not_empty_then [] y ys = refl
 not_empty_then (x ∷ xs) y ys = refl
 
+-- outside flow, before a text that goes on as a row
+module _ (s : Site) (l : Line) (w : Step) (next : List ℕ) (ws : List Step) (last : List ℕ) (written : IsWritten (Outer s l) w next) (row : IsRowFrom (account_past (Outer s l) w next) ws last) where
+  abbrev outer_site : Site
+  outer_site = site_at false s w.separation w.piece w.shown next
+
+  outer : WentOutside s l w next ws last
+  outer = went_outside s l w next ws last row
+
+  abbrev outer_past : Account
+  outer_past = record { site = site_past false outer_site w.piece w.shown next outer.after.blocks; line = outer.after.line; entries = begun_by w.shown }
+
+  outer_past_is : account_past (Outer s l) w next ≡ Some outer_past
+  outer_past_is =
+      let again : Bool = is_renewed s.before w.separation in
+      ap (λ y. if y then on_one_line w.piece (past_piece outer_site w.piece w.shown next again w.key (line_past_separation false (begins_free_line s.before w.separation) l) []) else None) outer.stands ∙
+      (ap (λ o. on_one_line w.piece (past_piece outer_site w.piece w.shown next again w.key o [])) outer.line_is ∙
+      (ap (λ o. on_one_line w.piece (past_outside outer_site w.piece w.shown next o)) outer.after_is ∙
+      ap (λ y. if y then None else Some outer_past) outer.one_line))
+
+  -- what the step asks of the line, if its piece is this
+  outer_asks : (act : Act) → act_of w.shown ≡ act → let z : Site = site_in false act outer_site.position s in line_past (is_in_column z.position.col z.blocks) z.position z.blocks act w.key outer.line_here ≡ Some outer.after
+  outer_asks act e = subst (λ k. let z : Site = site_in false k outer_site.position s in line_past (is_in_column z.position.col z.blocks) z.position z.blocks k w.key outer.line_here ≡ Some outer.after) e outer.after_is
+
+  outer_inv : Inv outer_past
+  outer_inv i = (off, marks)
+    where
+      off : ((position_after outer_site.position w.piece next).col == 0) ≡ true → outer.after.line ≢ taken
+      off e t = by (block_or_line w.shown)
+        where
+          by : (act_of w.shown ≡ gives_block_scalar) ⊎ (kind_of w.shown ≢ block_scalar) → ⊥
+          by (inl k) = let z : Site = site_in false gives_block_scalar outer_site.position s in absurd (cc (block_line (is_in_column z.position.col z.blocks) z.position z.blocks w.key outer.line_here outer.after (outer_asks gives_block_scalar k), t))
+          by (inr k) = absurd (cc (e, ends_off_margin (Outer s l) w next written k outer_site.position))
+
+      marks : previous_by w.shown ≡ directive → outer.after.blocks ≡ []
+      marks d =
+          let k : act_of w.shown ≡ gives_marker = directive_is w.shown d in
+          marker_blocks (is_in_column outer_site.position.col []) outer_site.position [] w.key outer.line_here outer.after (outer_asks gives_marker k)
+
+-- and in flow
+module _ (s : Site) (l : Line) (e : Entry) (es : List Entry) (w : Step) (next : List ℕ) (ws : List Step) (last : List ℕ) (written : IsWritten (with_entries s l (e ∷ es)) w next) (row : IsRowFrom (account_past (with_entries s l (e ∷ es)) w next) ws last) where
+  abbrev inner_site : Site
+  inner_site = site_at true s w.separation w.piece w.shown next
+
+  inner : WentInside s l e es w next ws last
+  inner = went_inside s l e es w next ws last row
+
+  abbrev inner_past : Account
+  inner_past = record { site = site_past true inner_site w.piece w.shown next inner_site.blocks; line = inner.line_here; entries = inner.after }
+
+  inner_past_is : account_past (with_entries s l (e ∷ es)) w next ≡ Some inner_past
+  inner_past_is =
+      let again : Bool = is_renewed s.before w.separation in
+      ap (λ z. if z then on_one_line w.piece (past_piece inner_site w.piece w.shown next again w.key (line_past_separation true (begins_free_line s.before w.separation) l) (e ∷ es)) else None) inner.stands ∙
+      (ap (λ o. on_one_line w.piece (past_piece inner_site w.piece w.shown next again w.key o (e ∷ es))) inner.line_is ∙
+      (ap (λ o. on_one_line w.piece (past_inside inner_site w.piece w.shown next inner.line_here o)) inner.after_is ∙
+      ap (λ z. if z then None else Some inner_past) inner.one_line))
+
+  inner_asks : (act : Act) → act_of w.shown ≡ act → entries_past inner_site.position (is_renewed s.before w.separation) act (begun_by w.shown) w.key e es ≡ Some inner.after
+  inner_asks act k = ap (λ z. entries_past inner_site.position (is_renewed s.before w.separation) z (begun_by w.shown) w.key e es) (sym k) ∙ inner.after_is
+
+  inner_inv : Inv inner_past
+  inner_inv i = (off, marks)
+    where
+      off : ((position_after inner_site.position w.piece next).col == 0) ≡ true → inner.line_here ≢ taken
+      off m t = by (block_or_line w.shown)
+        where
+          by : (act_of w.shown ≡ gives_block_scalar) ⊎ (kind_of w.shown ≢ block_scalar) → ⊥
+          by (inl k) = no_block inner_site.position (is_renewed s.before w.separation) (begun_by w.shown) w.key e es inner.after (inner_asks gives_block_scalar k)
+          by (inr k) = absurd (cc (m, ends_off_margin (with_entries s l (e ∷ es)) w next written k inner_site.position))
+
+      marks : previous_by w.shown ≡ directive → inner_site.blocks ≡ []
+      marks d = absurd (cc (i, entry_stays e.kind (pair_past (takes_pair e.kind e.pair) gives_marker e.pair) (begun_by w.shown) es (had_after inner_site.position (takes_pair e.kind e.pair) gives_marker w.key (renewed (is_renewed s.before w.separation) gives_marker e.had)) inner.after (inner_asks gives_marker (directive_is w.shown d))))
+
+pub inv_after : (a : Account) (w : Step) (next : List ℕ) (ws : List Step) (last : List ℕ) (b : Account) → IsWritten a w next → IsRowFrom (account_past a w next) ws last → account_past a w next ≡ Some b → Inv b
+inv_after a w next ws last b written row e = by a.entries written row e
+  where
+    by : (es : List Entry) → IsWritten (with_entries a.site a.line es) w next → IsRowFrom (account_past (with_entries a.site a.line es) w next) ws last → account_past (with_entries a.site a.line es) w next ≡ Some b → Inv b
+    by [] h r i = subst (λ z. Inv z) (same_value (outer_past a.site a.line w next ws last h r) b (sym (outer_past_is a.site a.line w next ws last h r) ∙ i)) (outer_inv a.site a.line w next ws last h r)
+    by (x ∷ xs) h r i = subst (λ z. Inv z) (same_value (inner_past a.site a.line x xs w next ws last h r) b (sym (inner_past_is a.site a.line x xs w next ws last h r) ∙ i)) (inner_inv a.site a.line x xs w next ws last h r)
+
 -- outside flow
 module _ (s : Site) (l : Line) (w : Step) (ws : List Step) (last : List ℕ) (written : IsWritten (Outer s l) w (spelled ws last)) (row : IsRowFrom (account_past (Outer s l) w (spelled ws last)) ws last) (inv : Inv (Outer s l)) (b : Bool) (link : Link b (Outer s l)) where
   abbrev next : List ℕ
   next = spelled ws last
 
   abbrev x : Site
-  x = site_at false s w.separation w.piece w.shown next
+  x = outer_site s l w next ws last written row
 
-  v : WentOutside s l w next ws last
-  v = went_outside s l w next ws last row
+  abbrev v : WentOutside s l w next ws last
+  v = outer s l w next ws last written row
 
   abbrev past_out : Account
-  past_out = record { site = site_past false x w.piece w.shown next v.after.blocks; line = v.after.line; entries = begun_by w.shown }
+  past_out = outer_past s l w next ws last written row
 
-  past_out_is : account_past (Outer s l) w next ≡ Some past_out
-  past_out_is =
-      let again : Bool = is_renewed s.before w.separation in
-      ap (λ y. if y then on_one_line w.piece (past_piece x w.piece w.shown next again w.key (line_past_separation false (begins_free_line s.before w.separation) l) []) else None) v.stands ∙
-      (ap (λ o. on_one_line w.piece (past_piece x w.piece w.shown next again w.key o [])) v.line_is ∙
-      (ap (λ o. on_one_line w.piece (past_outside x w.piece w.shown next o)) v.after_is ∙
-      ap (λ y. if y then None else Some past_out) v.one_line))
-
-  -- what the step asks of the line, if its piece is this
   asks : (act : Act) → act_of w.shown ≡ act → let z : Site = site_in false act x.position s in line_past (is_in_column z.position.col z.blocks) z.position z.blocks act w.key v.line_here ≡ Some v.after
-  asks act e = subst (λ k. let z : Site = site_in false k x.position s in line_past (is_in_column z.position.col z.blocks) z.position z.blocks k w.key v.line_here ≡ Some v.after) e v.after_is
-
-  inv_out : Inv past_out
-  inv_out i = (off, marks)
-    where
-      off : ((position_after x.position w.piece next).col == 0) ≡ true → v.after.line ≢ taken
-      off e t = by (block_or_line w.shown)
-        where
-          by : (act_of w.shown ≡ gives_block_scalar) ⊎ (kind_of w.shown ≢ block_scalar) → ⊥
-          by (inl k) = let z : Site = site_in false gives_block_scalar x.position s in absurd (cc (block_line (is_in_column z.position.col z.blocks) z.position z.blocks w.key v.line_here v.after (asks gives_block_scalar k), t))
-          by (inr k) = absurd (cc (e, ends_off_margin (Outer s l) w next written k x.position))
-
-      marks : previous_by w.shown ≡ directive → v.after.blocks ≡ []
-      marks d =
-          let k : act_of w.shown ≡ gives_marker = directive_is w.shown d in
-          marker_blocks (is_in_column x.position.col []) x.position [] w.key v.line_here v.after (asks gives_marker k)
+  asks = outer_asks s l w next ws last written row
 
   link_out : Link (stands_out (shown_token (Outer s l) w next)) past_out
   link_out m i = by (margin_blocks x.position.col s.blocks out)
@@ -346,7 +402,7 @@ module _ (s : Site) (l : Line) (w : Step) (ws : List Step) (last : List ℕ) (wr
           not_empty_then (ends_at x.position s.blocks x.blocks) (put x.position block_sequence_start) []))
 
   steps_outside : Steps (Outer s l) b w ws last
-  steps_outside = record { past = past_out; past_is = past_out_is; row = v.is_row; inv = inv_out; link = link_out; no_entry = none_out }
+  steps_outside = record { past = past_out; past_is = outer_past_is s l w next ws last written row; row = v.is_row; inv = outer_inv s l w next ws last written row; link = link_out; no_entry = none_out }
 
 -- in flow
 module _ (s : Site) (l : Line) (e : Entry) (es : List Entry) (w : Step) (ws : List Step) (last : List ℕ) (written : IsWritten (with_entries s l (e ∷ es)) w (spelled ws last)) (row : IsRowFrom (account_past (with_entries s l (e ∷ es)) w (spelled ws last)) ws last) (b : Bool) where
@@ -354,37 +410,16 @@ module _ (s : Site) (l : Line) (e : Entry) (es : List Entry) (w : Step) (ws : Li
   after_it = spelled ws last
 
   abbrev y : Site
-  y = site_at true s w.separation w.piece w.shown after_it
+  y = inner_site s l e es w after_it ws last written row
 
-  u : WentInside s l e es w after_it ws last
-  u = went_inside s l e es w after_it ws last row
+  abbrev u : WentInside s l e es w after_it ws last
+  u = inner s l e es w after_it ws last written row
 
   abbrev past_in : Account
-  past_in = record { site = site_past true y w.piece w.shown after_it y.blocks; line = u.line_here; entries = u.after }
-
-  past_in_is : account_past (with_entries s l (e ∷ es)) w after_it ≡ Some past_in
-  past_in_is =
-      let again : Bool = is_renewed s.before w.separation in
-      ap (λ z. if z then on_one_line w.piece (past_piece y w.piece w.shown after_it again w.key (line_past_separation true (begins_free_line s.before w.separation) l) (e ∷ es)) else None) u.stands ∙
-      (ap (λ o. on_one_line w.piece (past_piece y w.piece w.shown after_it again w.key o (e ∷ es))) u.line_is ∙
-      (ap (λ o. on_one_line w.piece (past_inside y w.piece w.shown after_it u.line_here o)) u.after_is ∙
-      ap (λ z. if z then None else Some past_in) u.one_line))
+  past_in = inner_past s l e es w after_it ws last written row
 
   asks_in : (act : Act) → act_of w.shown ≡ act → entries_past y.position (is_renewed s.before w.separation) act (begun_by w.shown) w.key e es ≡ Some u.after
-  asks_in act k = ap (λ z. entries_past y.position (is_renewed s.before w.separation) z (begun_by w.shown) w.key e es) (sym k) ∙ u.after_is
-
-  inv_in : Inv past_in
-  inv_in i = (off, marks)
-    where
-      off : ((position_after y.position w.piece after_it).col == 0) ≡ true → u.line_here ≢ taken
-      off m t = by (block_or_line w.shown)
-        where
-          by : (act_of w.shown ≡ gives_block_scalar) ⊎ (kind_of w.shown ≢ block_scalar) → ⊥
-          by (inl k) = no_block y.position (is_renewed s.before w.separation) (begun_by w.shown) w.key e es u.after (asks_in gives_block_scalar k)
-          by (inr k) = absurd (cc (m, ends_off_margin (with_entries s l (e ∷ es)) w after_it written k y.position))
-
-      marks : previous_by w.shown ≡ directive → y.blocks ≡ []
-      marks d = absurd (cc (i, entry_stays e.kind (pair_past (takes_pair e.kind e.pair) gives_marker e.pair) (begun_by w.shown) es (had_after y.position (takes_pair e.kind e.pair) gives_marker w.key (renewed (is_renewed s.before w.separation) gives_marker e.had)) u.after (asks_in gives_marker (directive_is w.shown d))))
+  asks_in = inner_asks s l e es w after_it ws last written row
 
   link_in : Link (stands_out (shown_token (with_entries s l (e ∷ es)) w after_it)) past_in
   link_in m i =
@@ -396,7 +431,7 @@ module _ (s : Site) (l : Line) (e : Entry) (es : List Entry) (w : Step) (ws : Li
       (λ h. absurd (no_dash y.position (is_renewed s.before w.separation) (begun_by w.shown) w.key e es u.after (asks_in gives_dash (entry_is w.shown (and_parts b (is_entry w.shown) h).1))))
 
   steps_inside : Steps (with_entries s l (e ∷ es)) b w ws last
-  steps_inside = record { past = past_in; past_is = past_in_is; row = u.is_row; inv = inv_in; link = link_in; no_entry = none_in }
+  steps_inside = record { past = past_in; past_is = inner_past_is s l e es w after_it ws last written row; row = u.is_row; inv = inner_inv s l e es w after_it ws last written row; link = link_in; no_entry = none_in }
 
 pub step_by : (a : Account) (b : Bool) (w : Step) (ws : List Step) (last : List ℕ) → IsRowFrom (Some a) (w ∷ ws) last → Inv a → Link b a → Steps a b w ws last
 step_by a b w ws last row inv link = by a.entries row.0 row.1 inv link

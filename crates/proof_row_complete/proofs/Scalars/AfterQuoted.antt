@@ -63,7 +63,7 @@ skipped t none = by (space Yes t.rest t.held.position) refl (spaces_are_passed Y
 -- ---- what stands there
 
 -- a line on which something other than a comment stands after blanks holds more
-not_done : (s : List ℕ) (d : ℕ) (r : List ℕ) → is_blanks s ≡ true → is_break d ≡ false → is_blank d ≡ false → (d == 35) ≡ false → line_is_done (s ++ d ∷ r) ≡ false
+pub not_done : (s : List ℕ) (d : ℕ) (r : List ℕ) → is_blanks s ≡ true → is_break d ≡ false → is_blank d ≡ false → (d == 35) ≡ false → line_is_done (s ++ d ∷ r) ≡ false
 unfolding is_blank is_break
 not_done s d r b e f g = ap is_rest_of_line (on_line s b) ∙ done s b
   where
