@@ -10,45 +10,32 @@ use Rattle.defs_json.specs.Fault.{first_fault, index, key, is_no_number, has_oth
 
 -- ---- reals
 
-with_fraction : is_json_real (codes "1.0") ≡ true
-unfolding is_json_number
-with_fraction = refl
+record RealRows : Type 0 where
+  with_fraction : is_json_real (codes "1.0") ≡ true
+  with_exponent : is_json_real (codes "-0e+07") ≡ true
+  above_greatest : is_json_real (codes "9223372036854775808") ≡ true
+  greatest : is_json_real (codes "9223372036854775807") ≡ false
+  leading_zero : is_json_real (codes "01.5") ≡ false
+  leading_plus : is_json_real (codes "+1.5") ≡ false
+  no_digit_after : is_json_real (codes "1.") ≡ false
+  no_digit_before : is_json_real (codes ".5") ≡ false
+  infinity : is_json_real (codes ".inf") ≡ false
+  minus_alone : is_json_real (codes "-") ≡ false
 
-with_exponent : is_json_real (codes "-0e+07") ≡ true
+real_rows : RealRows
 unfolding is_json_number
-with_exponent = refl
-
-above_greatest : is_json_real (codes "9223372036854775808") ≡ true
-unfolding is_json_number
-above_greatest = refl
-
-greatest : is_json_real (codes "9223372036854775807") ≡ false
-unfolding is_json_number
-greatest = refl
-
-leading_zero : is_json_real (codes "01.5") ≡ false
-unfolding is_json_number
-leading_zero = refl
-
-leading_plus : is_json_real (codes "+1.5") ≡ false
-unfolding is_json_number
-leading_plus = refl
-
-no_digit_after : is_json_real (codes "1.") ≡ false
-unfolding is_json_number
-no_digit_after = refl
-
-no_digit_before : is_json_real (codes ".5") ≡ false
-unfolding is_json_number
-no_digit_before = refl
-
-infinity : is_json_real (codes ".inf") ≡ false
-unfolding is_json_number
-infinity = refl
-
-minus_alone : is_json_real (codes "-") ≡ false
-unfolding is_json_number
-minus_alone = refl
+real_rows = record {
+  with_fraction = refl;
+  with_exponent = refl;
+  above_greatest = refl;
+  greatest = refl;
+  leading_zero = refl;
+  leading_plus = refl;
+  no_digit_after = refl;
+  no_digit_before = refl;
+  infinity = refl;
+  minus_alone = refl;
+}
 
 -- ---- texts
 
@@ -62,13 +49,16 @@ a_tree = Tree.hash (pairs_of (
     (Tree.string (codes "a"), Tree.array (items_of (Tree.integer (pos 1) ∷ Tree.real (codes "-2.50") ∷ Tree.null ∷ Tree.boolean true ∷ Tree.array (items_of []) ∷ [])))
     ∷ (Tree.string (codes "b"), Tree.hash (pairs_of [])) ∷ []))
 
-compact : json_text None 0 a_tree ≡ codes "{\"a\":[1,-2.50,null,true,[]],\"b\":{}}"
-unfolding a_tree written_character digits
-compact = refl
+record TextRows : Type 0 where
+  compact : json_text None 0 a_tree ≡ codes "{\"a\":[1,-2.50,null,true,[]],\"b\":{}}"
+  indented : json_text (Some 2) 0 a_tree ≡ codes "{\n  \"a\": [\n    1,\n    -2.50,\n    null,\n    true,\n    []\n  ],\n  \"b\": {}\n}"
 
-indented : json_text (Some 2) 0 a_tree ≡ codes "{\n  \"a\": [\n    1,\n    -2.50,\n    null,\n    true,\n    []\n  ],\n  \"b\": {}\n}"
+text_rows : TextRows
 unfolding a_tree written_character digits
-indented = refl
+text_rows = record {
+  compact = refl;
+  indented = refl;
+}
 
 -- ---- faults
 

@@ -15,207 +15,132 @@ abbrev scalar_before_text : (header text : List ℕ) → (collection : Option �
 scalar_before_text header text collection =
     elim (header_of header) [ None ↦ None | Some h ↦ block_value h collection (body ((split text).complete) further_text) ]
 
--- one break is a space, an empty line a line feed, and lines that start with a blank keep theirs
-folds : scalar_to_end (codes ">") (codes " a\n b\n\n c\n  d\n e\n") None ≡ Some (codes "a b\nc\n d\ne\n")
-unfolding is_blank is_break is_nul is_blank_or_end are_marks sign_of digit_of is_empty_line is_content_line row_of
-folds = refl
+record Rows : Type 0 where
+  -- one break is a space, an empty line a line feed, and lines that start with a blank keep theirs
+  folds : scalar_to_end (codes ">") (codes " a\n b\n\n c\n  d\n e\n") None ≡ Some (codes "a b\nc\n d\ne\n")
+  -- the first content line gives the column; strip drops the last break
+  literal_strip : scalar_to_end (codes "|-") (codes "                  a\n                      b\n") (Some 0) ≡ Some (codes "a\n    b")
+  -- a digit counts from the collection's column
+  digit_from_collection : scalar_to_end (codes "|1") (codes "  x\n") (Some 0) ≡ Some (codes " x\n")
+  -- and from column 0 where none is open
+  digit_from_nothing : scalar_to_end (codes "|1") (codes "  x\n") None ≡ Some (codes " x\n")
+  -- keep keeps the empty lines
+  keeps : scalar_to_end (codes "|+") (codes "a\n\n") None ≡ Some (codes "a\n\n")
+  -- strip drops them and the last break
+  strips : scalar_to_end (codes ">-") (codes "a\n\n") None ≡ Some (codes "a")
+  -- clip drops the empty lines alone
+  clips : scalar_to_end (codes "|") (codes " a\n\n\n") None ≡ Some (codes "a\n")
+  -- an unbroken last line that reaches the content column adds a break
+  end_adds : scalar_to_end (codes "|") (codes "  x\n  ") (Some 0) ≡ Some (codes "x\n\n")
+  -- one that does not reach it adds none
+  end_short : scalar_to_end (codes "|") (codes "  x\n ") (Some 0) ≡ Some (codes "x\n")
+  -- and strip drops it
+  end_strip : scalar_to_end (codes "|-") (codes "  x\n  ") (Some 0) ≡ Some (codes "x")
+  -- an unbroken last line of content counts as broken
+  end_content : scalar_to_end (codes "|") (codes " x\n y") None ≡ Some (codes "x\ny\n")
+  -- in column 0 an empty last line adds none
+  end_column_0 : scalar_to_end (codes "|") (codes "x\n") None ≡ Some (codes "x\n")
+  -- no content before the end: strip
+  empty_strip : scalar_to_end (codes "|-") (codes "\n \n") None ≡ Some (codes "")
+  -- clip
+  empty_clip : scalar_to_end (codes "|") (codes "\n \n") None ≡ Some (codes "\n")
+  -- keep, with two empty lines
+  empty_keep : scalar_to_end (codes "|+") (codes "\n \n") None ≡ Some (codes "\n\n")
+  -- keep, with none
+  empty_keep_none : scalar_to_end (codes "|+") (codes "") None ≡ Some (codes "\n")
+  -- no content before further text: clip
+  text_clip : scalar_before_text (codes "|") (codes "\n  \n") (Some 0) ≡ Some (codes "")
+  -- keep
+  text_keep : scalar_before_text (codes "|+") (codes "\n  \n") (Some 0) ≡ Some (codes "\n\n")
+  -- empty lines before the content are a line feed each, folded too
+  leading_empty : scalar_to_end (codes ">") (codes "\n  \n  a\n") (Some 0) ≡ Some (codes "\n\na\n")
+  -- a line of more spaces than the first content line, before it, gives the column
+  deeper_spaces : scalar_to_end (codes "|") (codes "   \n a\n") (Some 0) ≡ None
+  -- after the first content line more spaces than the column are content
+  spaces_are_content : scalar_to_end (codes "|") (codes " a\n   \n b\n") None ≡ Some (codes "a\n  \nb\n")
+  -- every break stays where one of two lines starts with a blank
+  blank_lines_fold : scalar_to_end (codes ">") (codes "a\n b\n\nc\nd\n") None ≡ Some (codes "a\n b\n\nc d\n")
+  -- CR LF and CR are breaks
+  breaks_alike : scalar_to_end (codes "|") (codes " a\r\n b\r c\n") None ≡ Some (codes "a\nb\nc\n")
+  -- a first line that starts with a TAB
+  tab_first : scalar_to_end (codes "|") (codes "\ta\n") None ≡ None
+  -- a TAB before the content column
+  tab_in_indentation : scalar_to_end (codes "|") (codes " a\n\tb\n") None ≡ None
+  -- a document marker in column 0 is no line of it
+  marker_at_0 : scalar_to_end (codes "|") (codes "a\n---\nb\n") None ≡ None
+  -- in column 1 it is content
+  marker_at_1 : scalar_to_end (codes "|") (codes " a\n ---\n") None ≡ Some (codes "a\n---\n")
+  -- a header at the end of input
+  header_alone : block_value (record { style = BlockStyle.literal; chomping = Chomping.keep; digit = None }) None input_ends ≡ Some []
+  -- a sign before a digit
+  header_both : header_of (codes "|-2") ≡ Some (record { style = BlockStyle.literal; chomping = Chomping.strip; digit = Some 2 })
+  -- a digit before a sign, and a comment
+  header_both_turned : header_of (codes ">9+ # c") ≡ Some (record { style = BlockStyle.folded; chomping = Chomping.keep; digit = Some 9 })
+  -- a TAB before the comment
+  header_tab : header_of (codes "|\t# c") ≡ Some (record { style = BlockStyle.literal; chomping = Chomping.clip; digit = None })
+  -- the digit 0
+  header_zero : header_of (codes "|0") ≡ None
+  -- two digits
+  header_two_digits : header_of (codes "|12") ≡ None
+  -- two signs
+  header_two_signs : header_of (codes "|+-") ≡ None
+  -- a comment without a blank before it
+  header_hash : header_of (codes "|#c") ≡ None
+  -- text after the header
+  header_text : header_of (codes "|- a") ≡ None
+  -- a line before the content column is further text
+  further : is_further_text 2 (codes " b: 1") ≡ true
+  -- a line at the content column is none
+  not_further : is_further_text 2 (codes "  b") ≡ false
+  -- nor is an empty line
+  not_further_empty : is_further_text 2 (codes " \n") ≡ false
+  -- a document marker in column 0
+  further_marker : is_further_text 0 (codes "---\n") ≡ true
+  -- other text in column 0 is none
+  not_further_0 : is_further_text 0 (codes "----") ≡ false
 
--- the first content line gives the column; strip drops the last break
-literal_strip : scalar_to_end (codes "|-") (codes "                  a\n                      b\n") (Some 0) ≡ Some (codes "a\n    b")
+rows : Rows
 unfolding is_blank is_break is_nul is_blank_or_end are_marks sign_of digit_of is_empty_line is_content_line row_of
-literal_strip = refl
-
--- a digit counts from the collection's column
-digit_from_collection : scalar_to_end (codes "|1") (codes "  x\n") (Some 0) ≡ Some (codes " x\n")
-unfolding is_blank is_break is_nul is_blank_or_end are_marks sign_of digit_of is_empty_line is_content_line row_of
-digit_from_collection = refl
-
--- and from column 0 where none is open
-digit_from_nothing : scalar_to_end (codes "|1") (codes "  x\n") None ≡ Some (codes " x\n")
-unfolding is_blank is_break is_nul is_blank_or_end are_marks sign_of digit_of is_empty_line is_content_line row_of
-digit_from_nothing = refl
-
--- keep keeps the empty lines
-keeps : scalar_to_end (codes "|+") (codes "a\n\n") None ≡ Some (codes "a\n\n")
-unfolding is_blank is_break is_nul is_blank_or_end are_marks sign_of digit_of is_empty_line is_content_line row_of
-keeps = refl
-
--- strip drops them and the last break
-strips : scalar_to_end (codes ">-") (codes "a\n\n") None ≡ Some (codes "a")
-unfolding is_blank is_break is_nul is_blank_or_end are_marks sign_of digit_of is_empty_line is_content_line row_of
-strips = refl
-
--- clip drops the empty lines alone
-clips : scalar_to_end (codes "|") (codes " a\n\n\n") None ≡ Some (codes "a\n")
-unfolding is_blank is_break is_nul is_blank_or_end are_marks sign_of digit_of is_empty_line is_content_line row_of
-clips = refl
-
--- an unbroken last line that reaches the content column adds a break
-end_adds : scalar_to_end (codes "|") (codes "  x\n  ") (Some 0) ≡ Some (codes "x\n\n")
-unfolding is_blank is_break is_nul is_blank_or_end are_marks sign_of digit_of is_empty_line is_content_line row_of
-end_adds = refl
-
--- one that does not reach it adds none
-end_short : scalar_to_end (codes "|") (codes "  x\n ") (Some 0) ≡ Some (codes "x\n")
-unfolding is_blank is_break is_nul is_blank_or_end are_marks sign_of digit_of is_empty_line is_content_line row_of
-end_short = refl
-
--- and strip drops it
-end_strip : scalar_to_end (codes "|-") (codes "  x\n  ") (Some 0) ≡ Some (codes "x")
-unfolding is_blank is_break is_nul is_blank_or_end are_marks sign_of digit_of is_empty_line is_content_line row_of
-end_strip = refl
-
--- an unbroken last line of content counts as broken
-end_content : scalar_to_end (codes "|") (codes " x\n y") None ≡ Some (codes "x\ny\n")
-unfolding is_blank is_break is_nul is_blank_or_end are_marks sign_of digit_of is_empty_line is_content_line row_of
-end_content = refl
-
--- in column 0 an empty last line adds none
-end_column_0 : scalar_to_end (codes "|") (codes "x\n") None ≡ Some (codes "x\n")
-unfolding is_blank is_break is_nul is_blank_or_end are_marks sign_of digit_of is_empty_line is_content_line row_of
-end_column_0 = refl
-
--- no content before the end: strip
-empty_strip : scalar_to_end (codes "|-") (codes "\n \n") None ≡ Some (codes "")
-unfolding is_blank is_break is_nul is_blank_or_end are_marks sign_of digit_of is_empty_line is_content_line row_of
-empty_strip = refl
-
--- clip
-empty_clip : scalar_to_end (codes "|") (codes "\n \n") None ≡ Some (codes "\n")
-unfolding is_blank is_break is_nul is_blank_or_end are_marks sign_of digit_of is_empty_line is_content_line row_of
-empty_clip = refl
-
--- keep, with two empty lines
-empty_keep : scalar_to_end (codes "|+") (codes "\n \n") None ≡ Some (codes "\n\n")
-unfolding is_blank is_break is_nul is_blank_or_end are_marks sign_of digit_of is_empty_line is_content_line row_of
-empty_keep = refl
-
--- keep, with none
-empty_keep_none : scalar_to_end (codes "|+") (codes "") None ≡ Some (codes "\n")
-unfolding is_blank is_break is_nul is_blank_or_end are_marks sign_of digit_of is_empty_line is_content_line row_of
-empty_keep_none = refl
-
--- no content before further text: clip
-text_clip : scalar_before_text (codes "|") (codes "\n  \n") (Some 0) ≡ Some (codes "")
-unfolding is_blank is_break is_nul is_blank_or_end are_marks sign_of digit_of is_empty_line is_content_line row_of
-text_clip = refl
-
--- keep
-text_keep : scalar_before_text (codes "|+") (codes "\n  \n") (Some 0) ≡ Some (codes "\n\n")
-unfolding is_blank is_break is_nul is_blank_or_end are_marks sign_of digit_of is_empty_line is_content_line row_of
-text_keep = refl
-
--- empty lines before the content are a line feed each, folded too
-leading_empty : scalar_to_end (codes ">") (codes "\n  \n  a\n") (Some 0) ≡ Some (codes "\n\na\n")
-unfolding is_blank is_break is_nul is_blank_or_end are_marks sign_of digit_of is_empty_line is_content_line row_of
-leading_empty = refl
-
--- a line of more spaces than the first content line, before it, gives the column
-deeper_spaces : scalar_to_end (codes "|") (codes "   \n a\n") (Some 0) ≡ None
-unfolding is_blank is_break is_nul is_blank_or_end are_marks sign_of digit_of is_empty_line is_content_line row_of
-deeper_spaces = refl
-
--- after the first content line more spaces than the column are content
-spaces_are_content : scalar_to_end (codes "|") (codes " a\n   \n b\n") None ≡ Some (codes "a\n  \nb\n")
-unfolding is_blank is_break is_nul is_blank_or_end are_marks sign_of digit_of is_empty_line is_content_line row_of
-spaces_are_content = refl
-
--- every break stays where one of two lines starts with a blank
-blank_lines_fold : scalar_to_end (codes ">") (codes "a\n b\n\nc\nd\n") None ≡ Some (codes "a\n b\n\nc d\n")
-unfolding is_blank is_break is_nul is_blank_or_end are_marks sign_of digit_of is_empty_line is_content_line row_of
-blank_lines_fold = refl
-
--- CR LF and CR are breaks
-breaks_alike : scalar_to_end (codes "|") (codes " a\r\n b\r c\n") None ≡ Some (codes "a\nb\nc\n")
-unfolding is_blank is_break is_nul is_blank_or_end are_marks sign_of digit_of is_empty_line is_content_line row_of
-breaks_alike = refl
-
--- a first line that starts with a TAB
-tab_first : scalar_to_end (codes "|") (codes "\ta\n") None ≡ None
-unfolding is_blank is_break is_nul is_blank_or_end are_marks sign_of digit_of is_empty_line is_content_line row_of
-tab_first = refl
-
--- a TAB before the content column
-tab_in_indentation : scalar_to_end (codes "|") (codes " a\n\tb\n") None ≡ None
-unfolding is_blank is_break is_nul is_blank_or_end are_marks sign_of digit_of is_empty_line is_content_line row_of
-tab_in_indentation = refl
-
--- a document marker in column 0 is no line of it
-marker_at_0 : scalar_to_end (codes "|") (codes "a\n---\nb\n") None ≡ None
-unfolding is_blank is_break is_nul is_blank_or_end are_marks sign_of digit_of is_empty_line is_content_line row_of
-marker_at_0 = refl
-
--- in column 1 it is content
-marker_at_1 : scalar_to_end (codes "|") (codes " a\n ---\n") None ≡ Some (codes "a\n---\n")
-unfolding is_blank is_break is_nul is_blank_or_end are_marks sign_of digit_of is_empty_line is_content_line row_of
-marker_at_1 = refl
-
--- a header at the end of input
-header_alone : block_value (record { style = BlockStyle.literal; chomping = Chomping.keep; digit = None }) None input_ends ≡ Some []
-unfolding is_blank is_break is_nul is_blank_or_end are_marks sign_of digit_of is_empty_line is_content_line row_of
-header_alone = refl
-
--- a sign before a digit
-header_both : header_of (codes "|-2") ≡ Some (record { style = BlockStyle.literal; chomping = Chomping.strip; digit = Some 2 })
-unfolding is_blank is_break is_nul is_blank_or_end are_marks sign_of digit_of is_empty_line is_content_line row_of
-header_both = refl
-
--- a digit before a sign, and a comment
-header_both_turned : header_of (codes ">9+ # c") ≡ Some (record { style = BlockStyle.folded; chomping = Chomping.keep; digit = Some 9 })
-unfolding is_blank is_break is_nul is_blank_or_end are_marks sign_of digit_of is_empty_line is_content_line row_of
-header_both_turned = refl
-
--- a TAB before the comment
-header_tab : header_of (codes "|\t# c") ≡ Some (record { style = BlockStyle.literal; chomping = Chomping.clip; digit = None })
-unfolding is_blank is_break is_nul is_blank_or_end are_marks sign_of digit_of is_empty_line is_content_line row_of
-header_tab = refl
-
--- the digit 0
-header_zero : header_of (codes "|0") ≡ None
-unfolding is_blank is_break is_nul is_blank_or_end are_marks sign_of digit_of is_empty_line is_content_line row_of
-header_zero = refl
-
--- two digits
-header_two_digits : header_of (codes "|12") ≡ None
-unfolding is_blank is_break is_nul is_blank_or_end are_marks sign_of digit_of is_empty_line is_content_line row_of
-header_two_digits = refl
-
--- two signs
-header_two_signs : header_of (codes "|+-") ≡ None
-unfolding is_blank is_break is_nul is_blank_or_end are_marks sign_of digit_of is_empty_line is_content_line row_of
-header_two_signs = refl
-
--- a comment without a blank before it
-header_hash : header_of (codes "|#c") ≡ None
-unfolding is_blank is_break is_nul is_blank_or_end are_marks sign_of digit_of is_empty_line is_content_line row_of
-header_hash = refl
-
--- text after the header
-header_text : header_of (codes "|- a") ≡ None
-unfolding is_blank is_break is_nul is_blank_or_end are_marks sign_of digit_of is_empty_line is_content_line row_of
-header_text = refl
-
--- a line before the content column is further text
-further : is_further_text 2 (codes " b: 1") ≡ true
-unfolding is_blank is_break is_nul is_blank_or_end are_marks sign_of digit_of is_empty_line is_content_line row_of
-further = refl
-
--- a line at the content column is none
-not_further : is_further_text 2 (codes "  b") ≡ false
-unfolding is_blank is_break is_nul is_blank_or_end are_marks sign_of digit_of is_empty_line is_content_line row_of
-not_further = refl
-
--- nor is an empty line
-not_further_empty : is_further_text 2 (codes " \n") ≡ false
-unfolding is_blank is_break is_nul is_blank_or_end are_marks sign_of digit_of is_empty_line is_content_line row_of
-not_further_empty = refl
-
--- a document marker in column 0
-further_marker : is_further_text 0 (codes "---\n") ≡ true
-unfolding is_blank is_break is_nul is_blank_or_end are_marks sign_of digit_of is_empty_line is_content_line row_of
-further_marker = refl
-
--- other text in column 0 is none
-not_further_0 : is_further_text 0 (codes "----") ≡ false
-unfolding is_blank is_break is_nul is_blank_or_end are_marks sign_of digit_of is_empty_line is_content_line row_of
-not_further_0 = refl
+rows = record {
+  folds = refl;
+  literal_strip = refl;
+  digit_from_collection = refl;
+  digit_from_nothing = refl;
+  keeps = refl;
+  strips = refl;
+  clips = refl;
+  end_adds = refl;
+  end_short = refl;
+  end_strip = refl;
+  end_content = refl;
+  end_column_0 = refl;
+  empty_strip = refl;
+  empty_clip = refl;
+  empty_keep = refl;
+  empty_keep_none = refl;
+  text_clip = refl;
+  text_keep = refl;
+  leading_empty = refl;
+  deeper_spaces = refl;
+  spaces_are_content = refl;
+  blank_lines_fold = refl;
+  breaks_alike = refl;
+  tab_first = refl;
+  tab_in_indentation = refl;
+  marker_at_0 = refl;
+  marker_at_1 = refl;
+  header_alone = refl;
+  header_both = refl;
+  header_both_turned = refl;
+  header_tab = refl;
+  header_zero = refl;
+  header_two_digits = refl;
+  header_two_signs = refl;
+  header_hash = refl;
+  header_text = refl;
+  further = refl;
+  not_further = refl;
+  not_further_empty = refl;
+  further_marker = refl;
+  not_further_0 = refl;
+}

@@ -3,50 +3,40 @@ use Rattle.std.specs.Prelude.{◌≡◌, [], ◌∷◌, refl, codes}
 use Rattle.std.specs.Str.Lines.{lines}
 use Rattle.defs_tree.specs.Lines.{lines_of}
 
-no_line : lines_of (codes "") ≡ []
-no_line = refl
+record Rows : Type 0 where
+  no_line : lines_of (codes "") ≡ []
+  no_line_as_std_gives_it : lines (codes "") ≡ []
+  one_line : lines_of (codes "a") ≡ codes "a" ∷ []
+  one_line_as_std_gives_it : lines (codes "a") ≡ codes "a" ∷ []
+  a_final_break_ends_a_line : lines_of (codes "a\n") ≡ codes "a" ∷ []
+  a_final_break_ends_a_line_as_std_gives_it : lines (codes "a\n") ≡ codes "a" ∷ []
+  two_lines : lines_of (codes "a\nbc") ≡ codes "a" ∷ codes "bc" ∷ []
+  two_lines_as_std_gives_it : lines (codes "a\nbc") ≡ codes "a" ∷ codes "bc" ∷ []
+  an_empty_line_inside : lines_of (codes "a\n\nb") ≡ codes "a" ∷ codes "" ∷ codes "b" ∷ []
+  an_empty_line_inside_as_std_gives_it : lines (codes "a\n\nb") ≡ codes "a" ∷ codes "" ∷ codes "b" ∷ []
+  an_empty_line_at_the_end : lines_of (codes "a\n\n") ≡ codes "a" ∷ codes "" ∷ []
+  an_empty_line_at_the_end_as_std_gives_it : lines (codes "a\n\n") ≡ codes "a" ∷ codes "" ∷ []
+  a_break_alone_is_one_empty_line : lines_of (codes "\n") ≡ codes "" ∷ []
+  a_break_alone_is_one_empty_line_as_std_gives_it : lines (codes "\n") ≡ codes "" ∷ []
+  empty_line_first : lines_of (codes "\na") ≡ codes "" ∷ codes "a" ∷ []
+  empty_line_first_as_std_gives_it : lines (codes "\na") ≡ codes "" ∷ codes "a" ∷ []
 
-no_line_as_std_gives_it : lines (codes "") ≡ []
-no_line_as_std_gives_it = refl
-
-one_line : lines_of (codes "a") ≡ codes "a" ∷ []
-one_line = refl
-
-one_line_as_std_gives_it : lines (codes "a") ≡ codes "a" ∷ []
-one_line_as_std_gives_it = refl
-
-a_final_break_ends_a_line : lines_of (codes "a\n") ≡ codes "a" ∷ []
-a_final_break_ends_a_line = refl
-
-a_final_break_ends_a_line_as_std_gives_it : lines (codes "a\n") ≡ codes "a" ∷ []
-a_final_break_ends_a_line_as_std_gives_it = refl
-
-two_lines : lines_of (codes "a\nbc") ≡ codes "a" ∷ codes "bc" ∷ []
-two_lines = refl
-
-two_lines_as_std_gives_it : lines (codes "a\nbc") ≡ codes "a" ∷ codes "bc" ∷ []
-two_lines_as_std_gives_it = refl
-
-an_empty_line_inside : lines_of (codes "a\n\nb") ≡ codes "a" ∷ codes "" ∷ codes "b" ∷ []
-an_empty_line_inside = refl
-
-an_empty_line_inside_as_std_gives_it : lines (codes "a\n\nb") ≡ codes "a" ∷ codes "" ∷ codes "b" ∷ []
-an_empty_line_inside_as_std_gives_it = refl
-
-an_empty_line_at_the_end : lines_of (codes "a\n\n") ≡ codes "a" ∷ codes "" ∷ []
-an_empty_line_at_the_end = refl
-
-an_empty_line_at_the_end_as_std_gives_it : lines (codes "a\n\n") ≡ codes "a" ∷ codes "" ∷ []
-an_empty_line_at_the_end_as_std_gives_it = refl
-
-a_break_alone_is_one_empty_line : lines_of (codes "\n") ≡ codes "" ∷ []
-a_break_alone_is_one_empty_line = refl
-
-a_break_alone_is_one_empty_line_as_std_gives_it : lines (codes "\n") ≡ codes "" ∷ []
-a_break_alone_is_one_empty_line_as_std_gives_it = refl
-
-empty_line_first : lines_of (codes "\na") ≡ codes "" ∷ codes "a" ∷ []
-empty_line_first = refl
-
-empty_line_first_as_std_gives_it : lines (codes "\na") ≡ codes "" ∷ codes "a" ∷ []
-empty_line_first_as_std_gives_it = refl
+rows : Rows
+rows = record {
+  no_line = refl;
+  no_line_as_std_gives_it = refl;
+  one_line = refl;
+  one_line_as_std_gives_it = refl;
+  a_final_break_ends_a_line = refl;
+  a_final_break_ends_a_line_as_std_gives_it = refl;
+  two_lines = refl;
+  two_lines_as_std_gives_it = refl;
+  an_empty_line_inside = refl;
+  an_empty_line_inside_as_std_gives_it = refl;
+  an_empty_line_at_the_end = refl;
+  an_empty_line_at_the_end_as_std_gives_it = refl;
+  a_break_alone_is_one_empty_line = refl;
+  a_break_alone_is_one_empty_line_as_std_gives_it = refl;
+  empty_line_first = refl;
+  empty_line_first_as_std_gives_it = refl;
+}

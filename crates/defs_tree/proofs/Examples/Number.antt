@@ -2,134 +2,75 @@
 use Rattle.std.specs.Prelude.{◌≡◌, pos, negsuc, true, false, Some, None, refl, codes}
 use Rattle.defs_tree.specs.Typing.{typing, is_decimal, is_real_text, signed_decimal}
 
-decimal_grammar_decimal_digits : is_decimal (codes "12") ≡ true
-unfolding typing is_decimal
-decimal_grammar_decimal_digits = refl
+record Rows : Type 0 where
+  decimal_grammar_decimal_digits : is_decimal (codes "12") ≡ true
+  decimal_grammar_decimal_with_point : is_decimal (codes "1.5") ≡ true
+  decimal_grammar_point_after : is_decimal (codes "5.") ≡ true
+  decimal_grammar_point_before : is_decimal (codes ".5") ≡ true
+  decimal_grammar_signed : is_decimal (codes "+1.5e-7") ≡ true
+  decimal_grammar_point_alone : is_decimal (codes ".") ≡ false
+  decimal_grammar_nothing : is_decimal (codes "") ≡ false
+  decimal_grammar_sign_alone : is_decimal (codes "-") ≡ false
+  decimal_grammar_exponent_without_digits : is_decimal (codes "1e") ≡ false
+  decimal_grammar_two_signs : is_decimal (codes "--1") ≡ false
+  decimal_grammar_letter : is_decimal (codes "1a") ≡ false
+  decimal_grammar_inf : is_decimal (codes ".inf") ≡ false
+  decimal_grammar_exponent_alone : is_decimal (codes "e1") ≡ false
+  decimal_grammar_capital_exponent : is_decimal (codes "1E5") ≡ true
+  real_text_real : is_real_text (codes "1.5") ≡ true
+  real_text_special_word : is_real_text (codes "-.inf") ≡ true
+  real_text_great_integer : is_real_text (codes "9223372036854775808") ≡ true
+  real_text_integer : is_real_text (codes "12") ≡ false
+  real_text_word : is_real_text (codes "inf") ≡ false
+  real_text_null : is_real_text (codes "") ≡ false
+  signed_decimal_number : signed_decimal (codes "42") ≡ Some (pos 42)
+  signed_decimal_plus : signed_decimal (codes "+42") ≡ Some (pos 42)
+  signed_decimal_minus : signed_decimal (codes "-42") ≡ Some (negsuc 41)
+  signed_decimal_two_signs : signed_decimal (codes "++5") ≡ None
+  signed_decimal_hexadecimal : signed_decimal (codes "0x2A") ≡ None
+  signed_decimal_nothing : signed_decimal (codes "") ≡ None
+  signed_decimal_sign_alone : signed_decimal (codes "-") ≡ None
+  signed_decimal_greatest : signed_decimal (codes "9223372036854775807") ≡ Some (pos 9223372036854775807)
+  signed_decimal_above_the_greatest : signed_decimal (codes "9223372036854775808") ≡ None
+  signed_decimal_least : signed_decimal (codes "-9223372036854775808") ≡ Some (negsuc 9223372036854775807)
+  signed_decimal_below_the_least : signed_decimal (codes "-9223372036854775809") ≡ None
+  signed_decimal_real : signed_decimal (codes "1.0") ≡ None
+  signed_decimal_zero : signed_decimal (codes "-0") ≡ Some (pos 0)
 
-decimal_grammar_decimal_with_point : is_decimal (codes "1.5") ≡ true
+rows : Rows
 unfolding typing is_decimal
-decimal_grammar_decimal_with_point = refl
-
-decimal_grammar_point_after : is_decimal (codes "5.") ≡ true
-unfolding typing is_decimal
-decimal_grammar_point_after = refl
-
-decimal_grammar_point_before : is_decimal (codes ".5") ≡ true
-unfolding typing is_decimal
-decimal_grammar_point_before = refl
-
-decimal_grammar_signed : is_decimal (codes "+1.5e-7") ≡ true
-unfolding typing is_decimal
-decimal_grammar_signed = refl
-
-decimal_grammar_point_alone : is_decimal (codes ".") ≡ false
-unfolding typing is_decimal
-decimal_grammar_point_alone = refl
-
-decimal_grammar_nothing : is_decimal (codes "") ≡ false
-unfolding typing is_decimal
-decimal_grammar_nothing = refl
-
-decimal_grammar_sign_alone : is_decimal (codes "-") ≡ false
-unfolding typing is_decimal
-decimal_grammar_sign_alone = refl
-
-decimal_grammar_exponent_without_digits : is_decimal (codes "1e") ≡ false
-unfolding typing is_decimal
-decimal_grammar_exponent_without_digits = refl
-
-decimal_grammar_two_signs : is_decimal (codes "--1") ≡ false
-unfolding typing is_decimal
-decimal_grammar_two_signs = refl
-
-decimal_grammar_letter : is_decimal (codes "1a") ≡ false
-unfolding typing is_decimal
-decimal_grammar_letter = refl
-
-decimal_grammar_inf : is_decimal (codes ".inf") ≡ false
-unfolding typing is_decimal
-decimal_grammar_inf = refl
-
-decimal_grammar_exponent_alone : is_decimal (codes "e1") ≡ false
-unfolding typing is_decimal
-decimal_grammar_exponent_alone = refl
-
-decimal_grammar_capital_exponent : is_decimal (codes "1E5") ≡ true
-unfolding typing is_decimal
-decimal_grammar_capital_exponent = refl
-
-real_text_real : is_real_text (codes "1.5") ≡ true
-unfolding typing is_decimal
-real_text_real = refl
-
-real_text_special_word : is_real_text (codes "-.inf") ≡ true
-unfolding typing is_decimal
-real_text_special_word = refl
-
-real_text_great_integer : is_real_text (codes "9223372036854775808") ≡ true
-unfolding typing is_decimal
-real_text_great_integer = refl
-
-real_text_integer : is_real_text (codes "12") ≡ false
-unfolding typing is_decimal
-real_text_integer = refl
-
-real_text_word : is_real_text (codes "inf") ≡ false
-unfolding typing is_decimal
-real_text_word = refl
-
-real_text_null : is_real_text (codes "") ≡ false
-unfolding typing is_decimal
-real_text_null = refl
-
-signed_decimal_number : signed_decimal (codes "42") ≡ Some (pos 42)
-unfolding typing is_decimal
-signed_decimal_number = refl
-
-signed_decimal_plus : signed_decimal (codes "+42") ≡ Some (pos 42)
-unfolding typing is_decimal
-signed_decimal_plus = refl
-
-signed_decimal_minus : signed_decimal (codes "-42") ≡ Some (negsuc 41)
-unfolding typing is_decimal
-signed_decimal_minus = refl
-
-signed_decimal_two_signs : signed_decimal (codes "++5") ≡ None
-unfolding typing is_decimal
-signed_decimal_two_signs = refl
-
-signed_decimal_hexadecimal : signed_decimal (codes "0x2A") ≡ None
-unfolding typing is_decimal
-signed_decimal_hexadecimal = refl
-
-signed_decimal_nothing : signed_decimal (codes "") ≡ None
-unfolding typing is_decimal
-signed_decimal_nothing = refl
-
-signed_decimal_sign_alone : signed_decimal (codes "-") ≡ None
-unfolding typing is_decimal
-signed_decimal_sign_alone = refl
-
-signed_decimal_greatest : signed_decimal (codes "9223372036854775807") ≡ Some (pos 9223372036854775807)
-unfolding typing is_decimal
-signed_decimal_greatest = refl
-
-signed_decimal_above_the_greatest : signed_decimal (codes "9223372036854775808") ≡ None
-unfolding typing is_decimal
-signed_decimal_above_the_greatest = refl
-
-signed_decimal_least : signed_decimal (codes "-9223372036854775808") ≡ Some (negsuc 9223372036854775807)
-unfolding typing is_decimal
-signed_decimal_least = refl
-
-signed_decimal_below_the_least : signed_decimal (codes "-9223372036854775809") ≡ None
-unfolding typing is_decimal
-signed_decimal_below_the_least = refl
-
-signed_decimal_real : signed_decimal (codes "1.0") ≡ None
-unfolding typing is_decimal
-signed_decimal_real = refl
-
-signed_decimal_zero : signed_decimal (codes "-0") ≡ Some (pos 0)
-unfolding typing is_decimal
-signed_decimal_zero = refl
+rows = record {
+  decimal_grammar_decimal_digits = refl;
+  decimal_grammar_decimal_with_point = refl;
+  decimal_grammar_point_after = refl;
+  decimal_grammar_point_before = refl;
+  decimal_grammar_signed = refl;
+  decimal_grammar_point_alone = refl;
+  decimal_grammar_nothing = refl;
+  decimal_grammar_sign_alone = refl;
+  decimal_grammar_exponent_without_digits = refl;
+  decimal_grammar_two_signs = refl;
+  decimal_grammar_letter = refl;
+  decimal_grammar_inf = refl;
+  decimal_grammar_exponent_alone = refl;
+  decimal_grammar_capital_exponent = refl;
+  real_text_real = refl;
+  real_text_special_word = refl;
+  real_text_great_integer = refl;
+  real_text_integer = refl;
+  real_text_word = refl;
+  real_text_null = refl;
+  signed_decimal_number = refl;
+  signed_decimal_plus = refl;
+  signed_decimal_minus = refl;
+  signed_decimal_two_signs = refl;
+  signed_decimal_hexadecimal = refl;
+  signed_decimal_nothing = refl;
+  signed_decimal_sign_alone = refl;
+  signed_decimal_greatest = refl;
+  signed_decimal_above_the_greatest = refl;
+  signed_decimal_least = refl;
+  signed_decimal_below_the_least = refl;
+  signed_decimal_real = refl;
+  signed_decimal_zero = refl;
+}

@@ -7,106 +7,61 @@ use Rattle.defs_tree.specs.Escapes.{written_character}
 use Rattle.defs_tree.specs.Quoting.{is_quoted, is_unfit_for_plain}
 use Rattle.defs_tree.specs.Spelling.{spelling}
 
-null_is_a_tilde : spelling null ≡ codes "~"
-unfolding is_quoted is_unfit_for_plain typing is_decimal written_character digits
-null_is_a_tilde = refl
+record Rows : Type 0 where
+  null_is_a_tilde : spelling null ≡ codes "~"
+  bad_value_is_a_tilde : spelling bad_value ≡ codes "~"
+  alias_is_nothing : spelling (alias 1) ≡ codes ""
+  true_is_a_word : spelling (boolean true) ≡ codes "true"
+  false_is_a_word : spelling (boolean false) ≡ codes "false"
+  integer_is_its_digits : spelling (integer (pos 42)) ≡ codes "42"
+  zero_is_one_digit : spelling (integer (pos 0)) ≡ codes "0"
+  negative_integer_has_a_minus : spelling (integer (negsuc 6)) ≡ codes "-7"
+  greatest_integer : spelling (integer (pos 9223372036854775807)) ≡ codes "9223372036854775807"
+  least_integer : spelling (integer (negsuc 9223372036854775807)) ≡ codes "-9223372036854775808"
+  real_is_its_text : spelling (real (codes "1e400")) ≡ codes "1e400"
+  empty_array : spelling (array no_items) ≡ codes "[]"
+  empty_hash : spelling (hash no_pairs) ≡ codes "{}"
+  octal_text_is_quoted : spelling (string (codes "0o52")) ≡ codes "\"0o52\""
+  inf_is_quoted : spelling (string (codes "inf")) ≡ codes "\"inf\""
+  colon_is_quoted : spelling (string (codes "x: %")) ≡ codes "\"x: %\""
+  yes_is_quoted : spelling (string (codes "yes")) ≡ codes "\"yes\""
+  true_is_quoted : spelling (string (codes "true")) ≡ codes "\"true\""
+  tilde_is_quoted : spelling (string (codes "~")) ≡ codes "\"~\""
+  real_text_is_quoted : spelling (string (codes "2.6")) ≡ codes "\"2.6\""
+  apostrophe_is_quoted : spelling (string (codes "can't")) ≡ codes "\"can't\""
+  point_first_is_quoted : spelling (string (codes ".milk")) ≡ codes "\".milk\""
+  two_words_stand : spelling (string (codes "a b")) ≡ codes "a b"
+  date_stands : spelling (string (codes "2014-12-31")) ≡ codes "2014-12-31"
+  chinese_letters_stand : spelling (string (20320 ∷ 22909 ∷ [])) ≡ 20320 ∷ 22909 ∷ []
+  lines_are_escaped : spelling (string (codes "a\n---\nb")) ≡ codes "\"a\\n---\\nb\""
 
-bad_value_is_a_tilde : spelling bad_value ≡ codes "~"
+rows : Rows
 unfolding is_quoted is_unfit_for_plain typing is_decimal written_character digits
-bad_value_is_a_tilde = refl
-
-alias_is_nothing : spelling (alias 1) ≡ codes ""
-unfolding is_quoted is_unfit_for_plain typing is_decimal written_character digits
-alias_is_nothing = refl
-
-true_is_a_word : spelling (boolean true) ≡ codes "true"
-unfolding is_quoted is_unfit_for_plain typing is_decimal written_character digits
-true_is_a_word = refl
-
-false_is_a_word : spelling (boolean false) ≡ codes "false"
-unfolding is_quoted is_unfit_for_plain typing is_decimal written_character digits
-false_is_a_word = refl
-
-integer_is_its_digits : spelling (integer (pos 42)) ≡ codes "42"
-unfolding is_quoted is_unfit_for_plain typing is_decimal written_character digits
-integer_is_its_digits = refl
-
-zero_is_one_digit : spelling (integer (pos 0)) ≡ codes "0"
-unfolding is_quoted is_unfit_for_plain typing is_decimal written_character digits
-zero_is_one_digit = refl
-
-negative_integer_has_a_minus : spelling (integer (negsuc 6)) ≡ codes "-7"
-unfolding is_quoted is_unfit_for_plain typing is_decimal written_character digits
-negative_integer_has_a_minus = refl
-
-greatest_integer : spelling (integer (pos 9223372036854775807)) ≡ codes "9223372036854775807"
-unfolding is_quoted is_unfit_for_plain typing is_decimal written_character digits
-greatest_integer = refl
-
-least_integer : spelling (integer (negsuc 9223372036854775807)) ≡ codes "-9223372036854775808"
-unfolding is_quoted is_unfit_for_plain typing is_decimal written_character digits
-least_integer = refl
-
-real_is_its_text : spelling (real (codes "1e400")) ≡ codes "1e400"
-unfolding is_quoted is_unfit_for_plain typing is_decimal written_character digits
-real_is_its_text = refl
-
-empty_array : spelling (array no_items) ≡ codes "[]"
-unfolding is_quoted is_unfit_for_plain typing is_decimal written_character digits
-empty_array = refl
-
-empty_hash : spelling (hash no_pairs) ≡ codes "{}"
-unfolding is_quoted is_unfit_for_plain typing is_decimal written_character digits
-empty_hash = refl
-
-octal_text_is_quoted : spelling (string (codes "0o52")) ≡ codes "\"0o52\""
-unfolding is_quoted is_unfit_for_plain typing is_decimal written_character digits
-octal_text_is_quoted = refl
-
-inf_is_quoted : spelling (string (codes "inf")) ≡ codes "\"inf\""
-unfolding is_quoted is_unfit_for_plain typing is_decimal written_character digits
-inf_is_quoted = refl
-
-colon_is_quoted : spelling (string (codes "x: %")) ≡ codes "\"x: %\""
-unfolding is_quoted is_unfit_for_plain typing is_decimal written_character digits
-colon_is_quoted = refl
-
-yes_is_quoted : spelling (string (codes "yes")) ≡ codes "\"yes\""
-unfolding is_quoted is_unfit_for_plain typing is_decimal written_character digits
-yes_is_quoted = refl
-
-true_is_quoted : spelling (string (codes "true")) ≡ codes "\"true\""
-unfolding is_quoted is_unfit_for_plain typing is_decimal written_character digits
-true_is_quoted = refl
-
-tilde_is_quoted : spelling (string (codes "~")) ≡ codes "\"~\""
-unfolding is_quoted is_unfit_for_plain typing is_decimal written_character digits
-tilde_is_quoted = refl
-
-real_text_is_quoted : spelling (string (codes "2.6")) ≡ codes "\"2.6\""
-unfolding is_quoted is_unfit_for_plain typing is_decimal written_character digits
-real_text_is_quoted = refl
-
-apostrophe_is_quoted : spelling (string (codes "can't")) ≡ codes "\"can't\""
-unfolding is_quoted is_unfit_for_plain typing is_decimal written_character digits
-apostrophe_is_quoted = refl
-
-point_first_is_quoted : spelling (string (codes ".milk")) ≡ codes "\".milk\""
-unfolding is_quoted is_unfit_for_plain typing is_decimal written_character digits
-point_first_is_quoted = refl
-
-two_words_stand : spelling (string (codes "a b")) ≡ codes "a b"
-unfolding is_quoted is_unfit_for_plain typing is_decimal written_character digits
-two_words_stand = refl
-
-date_stands : spelling (string (codes "2014-12-31")) ≡ codes "2014-12-31"
-unfolding is_quoted is_unfit_for_plain typing is_decimal written_character digits
-date_stands = refl
-
-chinese_letters_stand : spelling (string (20320 ∷ 22909 ∷ [])) ≡ 20320 ∷ 22909 ∷ []
-unfolding is_quoted is_unfit_for_plain typing is_decimal written_character digits
-chinese_letters_stand = refl
-
-lines_are_escaped : spelling (string (codes "a\n---\nb")) ≡ codes "\"a\\n---\\nb\""
-unfolding is_quoted is_unfit_for_plain typing is_decimal written_character digits
-lines_are_escaped = refl
+rows = record {
+  null_is_a_tilde = refl;
+  bad_value_is_a_tilde = refl;
+  alias_is_nothing = refl;
+  true_is_a_word = refl;
+  false_is_a_word = refl;
+  integer_is_its_digits = refl;
+  zero_is_one_digit = refl;
+  negative_integer_has_a_minus = refl;
+  greatest_integer = refl;
+  least_integer = refl;
+  real_is_its_text = refl;
+  empty_array = refl;
+  empty_hash = refl;
+  octal_text_is_quoted = refl;
+  inf_is_quoted = refl;
+  colon_is_quoted = refl;
+  yes_is_quoted = refl;
+  true_is_quoted = refl;
+  tilde_is_quoted = refl;
+  real_text_is_quoted = refl;
+  apostrophe_is_quoted = refl;
+  point_first_is_quoted = refl;
+  two_words_stand = refl;
+  date_stands = refl;
+  chinese_letters_stand = refl;
+  lines_are_escaped = refl;
+}
