@@ -9,14 +9,7 @@ use Rattle.defs_json.specs.Fault.{index, here, below, first_of, step_of, are_str
 
 key_is_string : (k : Tree) → IsKey k → is_string k ≡ true
 key_is_string (string s) h = refl
-key_is_string (real s) h = absurd h
-key_is_string (integer z) h = absurd h
-key_is_string (boolean b) h = absurd h
-key_is_string (array ts) h = absurd h
-key_is_string (hash ps) h = absurd h
-key_is_string (alias n) h = absurd h
-key_is_string null h = absurd h
-key_is_string bad_value h = absurd h
+key_is_string _ h = absurd h
 
 keys_are_strings : (ps : Pairs) → AreMembers ps → are_strings ps ≡ true
 keys_are_strings no_pairs h = refl

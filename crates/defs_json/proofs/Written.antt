@@ -65,14 +65,7 @@ record IsWrittenKey (k : Tree) : Type 0 where
 
 key_written : (k : Tree) → IsKey k → IsWrittenKey k
 key_written (string s) h = let w = all_written s h in record { pieces = pieces_of s; fit = w.fit; spelt = λ r. string_spelt s r h; tree = ap string w.value }
-key_written (real s) h = absurd h
-key_written (integer z) h = absurd h
-key_written (boolean b) h = absurd h
-key_written (array ts) h = absurd h
-key_written (hash ps) h = absurd h
-key_written (alias n) h = absurd h
-key_written null h = absurd h
-key_written bad_value h = absurd h
+key_written _ h = absurd h
 
 -- ---- trees
 
