@@ -1,5 +1,5 @@
 -- Like lines stay like: over a separation, and over a piece outside flow.
-use Rattle.std.proofs.Common.{◌≡◌, ℕ, List, Bool, true, false, if◌then◌else◌, Some, None, ap, subst, refl}
+use Rattle.std.proofs.Common.{◌≡◌, ℕ, List, Bool, true, false, if◌then◌else◌, Option, Some, None, ap, subst, refl}
 use Rattle.defs_text.specs.Position.{Position}
 use Rattle.defs_row.specs.Step.{Act, gives_node, gives_block_scalar, gives_dash, gives_question, gives_colon, gives_comma, gives_closing, gives_marker, gives_nothing}
 use Rattle.defs_row.specs.Column.{opened}
@@ -89,32 +89,25 @@ colon_step must here bs false false taken m i = tt
 colon_step must here bs false false (waits p) taken i = none_second LikeOutside ((waits p ≡ taken) × (false ≡ false)) (keyed p here bs)
 colon_step must here bs false false _ _ i = absurd i
 
+-- A piece that is no key, and after which the same is so wherever no key waits.
+settled : (f : (key : Bool) → Line → Option Outside) (x : Outside) → LikeOutside x x → f false free ≡ Some x → f false taken ≡ Some x → ((p : Position) → f false (waits p) ≡ None) → ((l : Line) → f true l ≡ None)
+    → (b c : Bool) (l m : Line) → LikeLine l m → Stepped LikeOutside ((l ≡ m) × (b ≡ c)) (f b l) (f c m)
+settled f x s of_free of_taken waiting key false false free free i = rw of_free (s, λ h. (refl, refl))
+settled f x s of_free of_taken waiting key false false taken taken i = rw of_taken (s, λ h. (refl, refl))
+settled f x s of_free of_taken waiting key true c l m i = rw (key l) tt
+settled f x s of_free of_taken waiting key false true l m i = rw (key m) (none_second LikeOutside ((l ≡ m) × (false ≡ true)) (f false l))
+settled f x s of_free of_taken waiting key false false (waits p) m i = rw (waiting p) tt
+settled f x s of_free of_taken waiting key false false l (waits q) i = rw (waiting q) (none_second LikeOutside ((l ≡ waits q) × (false ≡ false)) (f false l))
+settled f x s of_free of_taken waiting key false false _ _ i = absurd i
+
 comma_step : LineStep gives_comma
-comma_step must here bs false false free free i = ((tt, refl), λ h. (refl, refl))
-comma_step must here bs false false taken taken i = ((tt, refl), λ h. (refl, refl))
-comma_step must here bs true c l m i = tt
-comma_step must here bs false true l m i = none_second LikeOutside ((l ≡ m) × (false ≡ true)) (line_past must here bs gives_comma false l)
-comma_step must here bs false false (waits p) m i = tt
-comma_step must here bs false false l (waits q) i = none_second LikeOutside ((l ≡ waits q) × (false ≡ false)) (line_past must here bs gives_comma false l)
-comma_step must here bs false false _ _ i = absurd i
+comma_step must here bs = settled (line_past must here bs gives_comma) (Outer free bs) (tt, refl) refl refl (λ p. refl) (λ l. refl)
 
 closing_step : LineStep gives_closing
-closing_step must here bs false false free free i = ((tt, refl), λ h. (refl, refl))
-closing_step must here bs false false taken taken i = ((tt, refl), λ h. (refl, refl))
-closing_step must here bs true c l m i = tt
-closing_step must here bs false true l m i = none_second LikeOutside ((l ≡ m) × (false ≡ true)) (line_past must here bs gives_closing false l)
-closing_step must here bs false false (waits p) m i = tt
-closing_step must here bs false false l (waits q) i = none_second LikeOutside ((l ≡ waits q) × (false ≡ false)) (line_past must here bs gives_closing false l)
-closing_step must here bs false false _ _ i = absurd i
+closing_step must here bs = settled (line_past must here bs gives_closing) (Outer taken bs) (tt, refl) refl refl (λ p. refl) (λ l. refl)
 
 marker_step : LineStep gives_marker
-marker_step must here bs false false free free i = ((tt, refl), λ h. (refl, refl))
-marker_step must here bs false false taken taken i = ((tt, refl), λ h. (refl, refl))
-marker_step must here bs true c l m i = tt
-marker_step must here bs false true l m i = none_second LikeOutside ((l ≡ m) × (false ≡ true)) (line_past must here bs gives_marker false l)
-marker_step must here bs false false (waits p) m i = tt
-marker_step must here bs false false l (waits q) i = none_second LikeOutside ((l ≡ waits q) × (false ≡ false)) (line_past must here bs gives_marker false l)
-marker_step must here bs false false _ _ i = absurd i
+marker_step must here bs = settled (line_past must here bs gives_marker) (Outer taken bs) (tt, refl) refl refl (λ p. refl) (λ l. refl)
 
 -- Like lines are like again after a piece outside flow.
 pub line_step : (k : Act) → LineStep k
