@@ -46,7 +46,7 @@ use Rattle.proof_row_sound.specs.Stands.{columns}
 use Rattle.proof_row_sound.proofs.Arrivals.{clean_after}
 use Rattle.proof_row_sound.proofs.BlockEnds.{IsLeast, Written, written}
 use Rattle.proof_row_sound.proofs.WithoutOpen.{AreClosed, without_is}
-use Rattle.proof_row_complete.proofs.Scalars.AfterBlocks.{block_is_clear}
+use Rattle.proof_row_complete.proofs.Scalars.AfterBlocks.{block_is_clear, lines_asked, lines_written}
 use Rattle.proof_refusals.specs.NoPiece as none
 use Rattle.proof_refusals.specs.NoPiece.{IsBlockFault}
 use Rattle.proof_refusals.specs.Stuck.{IsStuck, no_block, site_at_place}
@@ -163,21 +163,18 @@ column_fault indent bs here text piece next b least e clean is untabbed low = by
         w : Written piece next
         w = written (collection_of indent) piece next b is further
 
-        lines_are : (split piece).complete ≡ w.header.text ∷ texts w.lines
-        lines_are = ap (λ x. (split x).complete) w.is ∙ ap (λ x. x.complete) (split_spell (w.header ∷ w.lines) [] w.are refl)
-
         read_here : block_read (innermost bs) piece next ≡ Some b
         read_here = ap (λ c. block_read c piece next) (sym least.0) ∙ is
 
         asked : lines_may_end bs b.column (w.header.text ∷ texts w.lines) next ≡ false
-        asked = ap (λ x. lines_may_end bs b.column x next) (sym lines_are) ∙ (ap (λ o. read_may_end bs o piece next) (sym read_here) ∙ k)
+        asked = lines_asked indent b piece next bs least is w ∙ k
 
         untabbed_by : (h : List ℕ) (ls : List (List ℕ)) (t : Bool) → (scan.is_single (h ∷ ls) && t) ≡ false → not (is_empty ls && t) ≡ true
         untabbed_by h [] t i = ap not i
         untabbed_by h (l ∷ ls) t i = refl
 
         no_tab : not (is_empty (texts w.lines) && begins_with tab next) ≡ true
-        no_tab = untabbed_by w.header.text (texts w.lines) (begins_with tab next) (ap (λ x. scan.is_single x && begins_with tab next) (sym lines_are) ∙ untabbed)
+        no_tab = untabbed_by w.header.text (texts w.lines) (begins_with tab next) (ap (λ x. scan.is_single x && begins_with tab next) (sym (lines_written piece next w)) ∙ untabbed)
 
         parts : (t y l d : Bool) → not (is_empty (texts w.lines) && begins_with tab next) ≡ t → are_empty b.column (texts w.lines) ≡ y → nat_lt (leading_spaces next) (least_column bs true) ≡ l → nat_le b.column (leading_spaces next) ≡ d → (t && (not y || l || d)) ≡ false
             → IsBlockFault bs here text problem.BlockScalarIndentation (scan.further_position here piece next)
@@ -185,7 +182,7 @@ column_fault indent bs here text piece next b least e clean is untabbed low = by
         parts true false l d f g i j k = absurd (cc k)
         parts true true true d f g i j k = absurd (cc k)
         parts true true false true f g i j k = absurd (cc k)
-        parts true true false false f g i j k = none.by_column piece w.header.text next (texts w.lines) b e read_here further lines_are g (grind (arith, nat_tests, i)) (grind (arith, nat_tests, j))
+        parts true true false false f g i j k = none.by_column piece w.header.text next (texts w.lines) b e read_here further (lines_written piece next w) g (grind (arith, nat_tests, i)) (grind (arith, nat_tests, j))
 
 -- ---- the scan
 

@@ -61,6 +61,14 @@ no_content column piece next p w h =
 
 -- ---- what stands after it
 
+-- the lines of a scalar that was written so, and what is asked of them
+pub lines_written : (piece next : List ℕ) (w : Written piece next) → (split piece).complete ≡ w.header.text ∷ texts w.lines
+lines_written piece next w = ap (λ x. (split x).complete) w.is ∙ ap (λ x. x.complete) (split_spell (w.header ∷ w.lines) [] w.are refl)
+
+pub lines_asked : (indent : ℕ) (b : BlockRead) (piece next bs : List ℕ) → IsLeast indent bs → block_read (collection_of indent) piece next ≡ Some b → (w : Written piece next) → lines_may_end bs b.column (w.header.text ∷ texts w.lines) next ≡ read_may_end bs (block_read (innermost bs) piece next) piece next
+lines_asked indent b piece next bs least is w =
+    ap (λ x. lines_may_end bs b.column x next) (sym (lines_written piece next w)) ∙ ap (λ o. read_may_end bs o piece next) (sym (ap (λ c. block_read c piece next) (sym least.0) ∙ is))
+
 -- No TAB begins the line after a header, and what stands after a scalar without content is not both deeper than the block collection and left of the content column.
 pub record IsClear (indent : ℕ) (p : Position) (b : BlockRead) (piece next : List ℕ) : Type 0 where
   pub untabbed : is_tabbed piece next ≡ false
@@ -86,17 +94,8 @@ module _ (indent : ℕ) (p : Position) (b : BlockRead) (piece next bs : List ℕ
     w : Written piece next
     w = written (collection_of indent) piece next b is further
 
-    lines_are : (split piece).complete ≡ w.header.text ∷ texts w.lines
-    lines_are = ap (λ x. (split x).complete) w.is ∙ ap (λ x. x.complete) (split_spell (w.header ∷ w.lines) [] w.are refl)
-
-    read_here : block_read (innermost bs) piece next ≡ Some b
-    read_here = ap (λ c. block_read c piece next) (sym least.0) ∙ is
-
-    asked : lines_may_end bs b.column (w.header.text ∷ texts w.lines) next ≡ true
-    asked = ap (λ x. lines_may_end bs b.column x next) (sym lines_are) ∙ (ap (λ o. read_may_end bs o piece next) (sym read_here) ∙ may)
-
     both : (not (is_empty (texts w.lines) && begins_with tab next) ≡ true) × ((not (are_empty b.column (texts w.lines)) || nat_lt (leading_spaces next) (least_column bs true) || nat_le b.column (leading_spaces next)) ≡ true)
-    both = and_parts _ _ asked
+    both = and_parts _ _ (lines_asked indent b piece next bs least is w ∙ may)
 
     single_by : (h : List ℕ) (ls : List (List ℕ)) (t : Bool) → not (is_empty ls && t) ≡ true → (is_single (h ∷ ls) && t) ≡ false
     single_by h [] true e = absurd (cc e)
@@ -129,7 +128,7 @@ module _ (indent : ℕ) (p : Position) (b : BlockRead) (piece next bs : List ℕ
 
     before_text : Clear
     before_text = record {
-      untabbed = ap (λ x. is_single x && begins_with tab next) lines_are ∙ single_by w.header.text (texts w.lines) (begins_with tab next) both.0;
+      untabbed = ap (λ x. is_single x && begins_with tab next) (lines_written piece next w) ∙ single_by w.header.text (texts w.lines) (begins_with tab next) both.0;
       deep =
           ap (λ x. ((not x && is_none (first_content b.column true p piece)) && nat_le indent (further_position p piece next).col) && nat_lt (further_position p piece next).col b.column) further ∙
           (ap (λ k. (is_none (first_content b.column true p piece) && nat_le indent k) && nat_lt k b.column) column_is ∙
