@@ -224,20 +224,23 @@ module _ (v : ScannerState) (many : IsMany v.held) where
       by true e = same_keeps s s (refl, refl)
       by false e = record { outside = λ o. absurd (cc (o, e)); inside = λ i f. last_of_pop s.keys (many2 i) }
 
+  -- after the innermost level's key is no longer open
+  from_removed : (f : Result Held Fault → Result Held Fault) → ((e : Fault) → f (Err e) ≡ Err e) → ((s : Held) → s ≡ record v.held { keys = with_top None v.held.keys } → Holds (Keeps v.held) (f (Ok s))) → Holds (Keeps v.held) (f (remove_implicit_key v.held))
+  from_removed f faults goes = by (remove_implicit_key v.held) (removed_is v.held)
+    where
+      by : (r : Result Held Fault) → Holds (λ w. w ≡ record v.held { keys = with_top None v.held.keys }) r → Holds (Keeps v.held) (f r)
+      by (Err e) h = subst (λ r. Holds (Keeps v.held) r) (sym (faults e)) refused
+      by (Ok s) h = goes s (held_of s h refl)
+
   flow_ended : Holds (Keeps v.held) (end_flow v.held)
   unfolding end_flow end_flow_pair
-  flow_ended = by (remove_implicit_key v.held) (removed_is v.held)
-    where
-      by : (r : Result Held Fault) → Holds (λ w. w ≡ record v.held { keys = with_top None v.held.keys }) r → Holds (Keeps v.held) (ended_flow r)
-      by (Err f) h = refused
-      by (Ok s) h =
-          let e = held_of s h refl in
-          let p = pair_ended s.flow s refl in
-          let flow_is : is_empty (end_pair s.flow s).flow ≡ is_empty v.held.flow = p.0 ∙ ap (λ w. is_empty w.flow) e in
-          let keys_are : (end_pair s.flow s).keys ≡ with_top None v.held.keys = p.1 ∙ ap (λ w. w.keys) e in
-          let kept : Keeps v.held (end_pair s.flow s) = top_keeps v.held (end_pair s.flow s) None many flow_is keys_are in
-          let many2 : IsMany (end_pair s.flow s) = λ i. subst (λ ks. 2 ≤ length ks) (sym keys_are) (subst (λ n. 2 ≤ n) (sym (many_with_top None v.held.keys)) (many (sym flow_is ∙ i))) in
-          went (also_keeps v.held (decrease_flow_level (end_pair s.flow s)) _ (then_keeps v.held (end_pair s.flow s) (decrease_flow_level (end_pair s.flow s)) kept (popped (end_pair s.flow s) many2)) (refl, refl))
+  flow_ended = from_removed ended_flow (λ e. refl) (λ s e.
+      let p = pair_ended s.flow s refl in
+      let flow_is : is_empty (end_pair s.flow s).flow ≡ is_empty v.held.flow = p.0 ∙ ap (λ w. is_empty w.flow) e in
+      let keys_are : (end_pair s.flow s).keys ≡ with_top None v.held.keys = p.1 ∙ ap (λ w. w.keys) e in
+      let kept : Keeps v.held (end_pair s.flow s) = top_keeps v.held (end_pair s.flow s) None many flow_is keys_are in
+      let many2 : IsMany (end_pair s.flow s) = λ i. subst (λ ks. 2 ≤ length ks) (sym keys_are) (subst (λ n. 2 ≤ n) (sym (many_with_top None v.held.keys)) (many (sym flow_is ∙ i))) in
+      went (also_keeps v.held (decrease_flow_level (end_pair s.flow s)) _ (then_keeps v.held (end_pair s.flow s) (decrease_flow_level (end_pair s.flow s)) kept (popped (end_pair s.flow s) many2)) (refl, refl)))
 
   passed_indicator : (u : ScannerState) → Holds (λ w. IsSame u.held w.held) (pass_indicator u)
   unfolding pass_indicator
@@ -261,14 +264,9 @@ module _ (v : ScannerState) (many : IsMany v.held) where
 
   entry_ended : Holds (Keeps v.held) (end_entry v.held)
   unfolding end_entry end_flow_pair
-  entry_ended = by (remove_implicit_key v.held) (removed_is v.held)
-    where
-      by : (r : Result Held Fault) → Holds (λ w. w ≡ record v.held { keys = with_top None v.held.keys }) r → Holds (Keeps v.held) (next_entry r)
-      by (Err f) h = refused
-      by (Ok s) h =
-          let e = held_of s h refl in
-          let p = pair_ended s.flow (allow_key true s) refl in
-          went (top_keeps v.held _ None many (p.0 ∙ ap (λ w. is_empty w.flow) e) (p.1 ∙ ap (λ w. w.keys) e))
+  entry_ended = from_removed next_entry (λ e. refl) (λ s e.
+      let p = pair_ended s.flow (allow_key true s) refl in
+      went (top_keeps v.held _ None many (p.0 ∙ ap (λ w. is_empty w.flow) e) (p.1 ∙ ap (λ w. w.keys) e)))
 
   pub comma_keeps : Holds Kept (fetch_flow_entry v)
   unfolding fetch_flow_entry
