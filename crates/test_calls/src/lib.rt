@@ -20,6 +20,8 @@ mod pushes;
 #[cfg(test)]
 mod refused_events;
 #[cfg(test)]
+mod refused_json;
+#[cfg(test)]
 mod refused_reads;
 #[cfg(test)]
 mod refused_writes;

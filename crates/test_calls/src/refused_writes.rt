@@ -10,9 +10,9 @@ use yaml_tree::Yaml;
 
 /// Takes a number of calls, and refuses the next one.
 #[derive(Drop)]
-struct Refusing {
-    text: String,
-    left: u32,
+pub(crate) struct Refusing {
+    pub(crate) text: String,
+    pub(crate) left: u32,
 }
 
 impl Refusing {
@@ -157,20 +157,27 @@ fn fewest(alloc: Global, tree: &Yaml) -> Result<u32, &'static str> {
     Ok(fewest)
 }
 
-// The same of the only document of a text.
-fn fewest_of_text(alloc: Global, text: &str) -> Result<u32, &'static str> {
-    match YamlLoader::load_from_str(alloc, text) {
-        Ok(documents) => match documents.as_slice() {
-            [tree] => fewest(alloc, tree),
-            _ => Err("no document"),
-        },
-        Err(_) => Err("a fault"),
+// The only document of a text.
+pub(crate) fn only_document(alloc: Global, text: &str) -> Result<Yaml, &'static str> {
+    let Ok(mut documents) = YamlLoader::load_from_str(alloc, text) else {
+        return Err("a fault");
+    };
+    let count = documents.len();
+    match documents.pop() {
+        Some(tree) if count == 1 => Ok(tree),
+        _ => Err("no document"),
     }
 }
 
-// What is wrong with the dumps of a text's document, which make so many calls at least, if anything.
-fn wrong(alloc: Global, text: &str, least: u32) -> &'static str {
-    match fewest_of_text(alloc, text) {
+// The fewest calls that the dumps of a text's only document make.
+fn fewest_of_text(alloc: Global, text: &str) -> Result<u32, &'static str> {
+    let tree = only_document(alloc, text)?;
+    fewest(alloc, &tree)
+}
+
+// What is wrong with texts that take so many calls, and must take so many at least, if anything.
+pub(crate) fn wrong(calls: Result<u32, &'static str>, least: u32) -> &'static str {
+    match calls {
         Ok(calls) if calls >= least => "nothing",
         Ok(_) => "too few calls",
         Err(why) => why,
@@ -181,7 +188,8 @@ fn wrong(alloc: Global, text: &str, least: u32) -> &'static str {
 fn rows_hold(rt: &(impl Abort + AllocGlobal), rows: &[Row]) -> Result<(), Fail> {
     let mut report = Report::new(rt.alloc());
     for (name, text, least) in rows {
-        report.compare(name, "wrong", wrong(rt.alloc(), text, *least), "nothing")?;
+        let calls = fewest_of_text(rt.alloc(), text);
+        report.compare(name, "wrong", wrong(calls, *least), "nothing")?;
     }
     assert!(rt; report.is_empty(), "{report}");
     Ok(())
