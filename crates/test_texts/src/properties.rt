@@ -51,7 +51,7 @@ fn properties_are_read(rt: HostRuntime) -> Result<(), Fail> {
 }
 
 // The same where declared handles are kept.
-const KEPT: [Row; 2] = [
+const KEPT: [Row; 4] = [
     (
         "a handle that is kept for three documents",
         "%TAG !prefix! tag:example.com,2011:\n--- !prefix!A\na: b\n--- !prefix!B\nc: d\n--- !prefix!C\ne: f",
@@ -61,6 +61,16 @@ const KEPT: [Row; 2] = [
         "a handle that is kept beside a version",
         "%YAML 1.1\n%TAG !t! tag:test,2024:\n--- !t!1 &1\nfoo: \"bar\"\n--- !t!2 &2\nbaz: \"qux\"\n",
         "[Hash({String(\"foo\"): String(\"bar\")}), Hash({String(\"baz\"): String(\"qux\")})]",
+    ),
+    (
+        "a kept handle is declared anew",
+        "%TAG !a! x:\n--- !a!int 5\n...\n%TAG !a! tag:yaml.org,2002:\n--- !a!int 5\n",
+        "[String(\"5\"), Integer(5)]",
+    ),
+    (
+        "a kept handle stays beside a later one",
+        "%TAG !a! tag:yaml.org,2002:\n--- !a!int 5\n...\n%TAG !b! x:\n--- [!a!int 5, !b!int 5]\n",
+        "[Integer(5), Array([Integer(5), String(\"5\")])]",
     ),
 ];
 
