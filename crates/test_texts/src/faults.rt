@@ -6,7 +6,7 @@ use std::test::Fail;
 use test_rows::Report;
 
 // What it shows, a text, and its fault's printed line: tokens that may not stand where they stand.
-const MISPLACED: [Row; 48] = [
+const MISPLACED: [Row; 49] = [
     (
         "a sequence without its bracket",
         "[a",
@@ -241,6 +241,11 @@ const MISPLACED: [Row; 48] = [
         "`@`",
         "@",
         "unexpected character: `@' at byte 0 line 1 column 1",
+    ),
+    (
+        "`@` after a flow collection, on the next line",
+        "[a]\n@",
+        "unexpected character: `@' at byte 4 line 2 column 1",
     ),
     (
         "a backtick",
