@@ -1,17 +1,19 @@
-// Refuses each request for memory in turn: refuse FILE.., each a text that loads.
+// Refuses each request for memory in turn: refuse FILE.. -- OTHER.., each FILE a text that loads.
 //
 // For each file it loads it with the first request refused, then with the second, and so on, up to a run that asks less often; and
 // again with all requests from that one on refused. So it does with the text laid over the file before it; and with every other call
 // that takes memory: loads by an iterator, a parser and from bytes, the typing of the text, a fault of it, copies of tokens, events, the
-// fault and trees, dumps, and trees put into a hash. It prints a line for each run that answers all the same, answers wrongly or leaves
-// memory behind; then its status is 1.
+// fault and trees, dumps, and trees put into a hash. Each OTHER is a text that loads where declared handles are kept, or has a fault, and
+// is loaded so. It prints a line for each run that answers all the same, answers wrongly or leaves memory behind; then its status is 1.
 #include <stdint.h>
 #include <stdio.h>
 #include <stdlib.h>
+#include <string.h>
 
 int64_t yamlbench_load(const unsigned char *text, size_t length);
 int64_t yamlbench_overlay(const unsigned char *below, size_t below_length, const unsigned char *above, size_t above_length);
 int64_t yamlbench_calls(const unsigned char *text, size_t length);
+int64_t yamlbench_load_with_kept_handles(const unsigned char *text, size_t length);
 
 void *__real_malloc(size_t size);
 void *__real_realloc(void *old, size_t size);
@@ -84,6 +86,11 @@ static int64_t call(const struct text *below, const struct text *text) {
     return yamlbench_calls(text->bytes, text->length);
 }
 
+static int64_t load_with_kept_handles(const struct text *below, const struct text *text) {
+    (void)below;
+    return yamlbench_load_with_kept_handles(text->bytes, text->length);
+}
+
 static int bad;
 
 static void tell(const char *path, const char *what) {
@@ -114,8 +121,9 @@ static long run_both_ways(deed *deed, const struct text *below, const struct tex
 
 int main(int argc, char **argv) {
     struct text texts[2];
-    long loads = 0, overlays = 0, calls = 0;
-    for (int i = 1; i < argc; i++) {
+    long loads = 0, overlays = 0, calls = 0, others = 0;
+    int i = 1;
+    for (; i < argc && strcmp(argv[i], "--") != 0; i++) {
         struct text *text = &texts[i % 2];
         text->path = argv[i];
         text->bytes = read_file(argv[i], &text->length);
@@ -126,6 +134,12 @@ int main(int argc, char **argv) {
             __real_free(texts[(i + 1) % 2].bytes);
         }
     }
-    printf("%ld requests of loads, %ld of overlays and %ld of other calls refused: %s\n", loads, overlays, calls, bad ? "NOT all is well" : "each is answered, and nothing is left behind");
+    for (i++; i < argc; i++) {
+        struct text other = {.path = argv[i]};
+        other.bytes = read_file(argv[i], &other.length);
+        others += run_both_ways(load_with_kept_handles, NULL, &other);
+        __real_free(other.bytes);
+    }
+    printf("%ld requests of loads, %ld of overlays, %ld of other calls and %ld of loads of other texts refused: %s\n", loads, overlays, calls, others, bad ? "NOT all is well" : "each is answered, and nothing is left behind");
     return bad;
 }

@@ -17,19 +17,29 @@ INPUTS = ["%TAG !prefix! tag:example.com,2011:\n--- !prefix!A\na: b\n", "---\n? 
           "".join("k%d: v\n" % (i * 7 % 300) for i in range(300))]
 
 
+# Texts that do not load as they stand: a handle that is kept for three documents, and a key twice in two ways.
+OTHERS = ["%TAG !prefix! tag:example.com,2011:\n--- !prefix!A\na: b\n--- !prefix!B\nc: d\n--- !prefix!C\ne: f", '{"a":1,"a":2}', "? [x, {y: z}]\n: 1\n? [x, {y: z}]\n: 2\n"]
+
+
+def write_all(directory, name, texts):
+    """The files that hold these texts."""
+    paths = [os.path.join(directory, "%s%02d" % (name, i)) for i in range(len(texts))]
+    for path, text in zip(paths, texts):
+        with open(path, "w") as f:
+            f.write(text)
+    return paths
+
+
 def main():
     if not os.path.exists(bench.LIBRARY):
         sys.exit("refuse.py: no static library: cd crates/yamlbench && rt lib")
     kit = os.path.dirname(subprocess.run(["rt", "doc"], capture_output=True, text=True, check=True).stdout.split()[0])
     with tempfile.TemporaryDirectory() as directory:
-        program, paths = os.path.join(directory, "refuse"), []
-        for i, text in enumerate(INPUTS):
-            paths.append(os.path.join(directory, "%02d" % i))
-            with open(paths[-1], "w") as f:
-                f.write(text)
+        program = os.path.join(directory, "refuse")
+        paths, others = write_all(directory, "text", INPUTS), write_all(directory, "other", OTHERS)
         wraps = ["-Wl,--wrap=malloc", "-Wl,--wrap=realloc", "-Wl,--wrap=free"]
         subprocess.run(["gcc", "-O2", "-o", program, os.path.join(HERE, "refuse.c"), bench.LIBRARY, os.path.join(kit, "c", "liblibc_c.a"), *wraps], check=True)
-        return subprocess.run([program, *paths]).returncode
+        return subprocess.run([program, *paths, "--", *others]).returncode
 
 
 if __name__ == "__main__":

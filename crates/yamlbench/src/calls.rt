@@ -46,7 +46,8 @@ fn load_by_iterator(alloc: Global, text: &str) -> Result<(), End> {
     }
 }
 
-fn load_by_parser(alloc: Global, text: &str) -> Result<Vec<Yaml>, End> {
+/// Loads a text where declared handles are kept.
+pub fn load_by_parser(alloc: Global, text: &str) -> Result<Vec<Yaml>, End> {
     let mut parser = Parser::new_from_str(alloc, text).keep_tags(true);
     match YamlLoader::load_from_parser(alloc, &mut parser) {
         Ok(documents) => Ok(documents),

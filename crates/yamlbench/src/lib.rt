@@ -3,7 +3,7 @@
 
 mod calls;
 
-use crate::calls::{End, call_all};
+use crate::calls::{End, call_all, load_by_parser};
 use overlay::overlay;
 use std::alloc::{AllocError, Global};
 use std::hash::{DefaultHasher, Hash as _, Hasher};
@@ -220,6 +220,19 @@ pub extern "C" fn yamlbench_calls(alloc: Global, text: &[u8]) -> i64 {
         Ok(()) => 1,
         Err(End::Refused) => -1,
         Err(End::Wrong) => -2,
+    }
+}
+
+/// Loads a text where declared handles are kept: 1, or 0 where it has a fault of its own, or -1 where memory is refused.
+#[unsafe(no_mangle)]
+pub extern "C" fn yamlbench_load_with_kept_handles(alloc: Global, text: &[u8]) -> i64 {
+    let Ok(text) = str::from_utf8(text) else {
+        return 0;
+    };
+    match load_by_parser(alloc, text) {
+        Ok(_) => 1,
+        Err(End::Refused) => -1,
+        Err(End::Wrong) => 0,
     }
 }
 
