@@ -204,30 +204,25 @@ NoEntries before = (i : Entries) (r ts : List Tok) → entries_tokens i r ≡ be
 abbrev NoPairs : List Tok → Type 0
 NoPairs before = (i : Pairs) (r ts : List Tok) → pairs_tokens i r ≡ before ++ ts → ⊥
 
--- So no stream begins with such a sequence; for the others it is the same.
-none_with_items : (before : List Tok) → NoItems before → NoneWith (Tok.stream_start ∷ Tok.flow_sequence_start ∷ before)
-none_with_items before k d ts h =
-    let w = written Tok.flow_sequence_start (before ++ ts) d tt (omega arith) h in
-    let i = items_of w.content w.rest (before ++ ts) w.are_its in
+-- No stream begins with a start and these tokens, where nothing that the start begins goes on with them.
+none_with : {X : Type 0} (t : Tok) (tokens : X → List Tok → List Tok) → BeginsNode t → 3 ≤ rank t → ((c : Content) (r ts : List Tok) → content_tokens c r ≡ t ∷ ts → (i : X) × (tokens i r ≡ ts))
+    → (before : List Tok) → ((i : X) (r ts : List Tok) → tokens i r ≡ before ++ ts → ⊥) → NoneWith (Tok.stream_start ∷ t ∷ before)
+none_with t tokens begins m of before k d ts h =
+    let w = written t (before ++ ts) d begins m h in
+    let i = of w.content w.rest (before ++ ts) w.are_its in
     k i.0 w.rest ts i.1
+
+none_with_items : (before : List Tok) → NoItems before → NoneWith (Tok.stream_start ∷ Tok.flow_sequence_start ∷ before)
+none_with_items = none_with Tok.flow_sequence_start items_tokens tt (omega arith) items_of
 
 none_with_flow_pairs : (before : List Tok) → NoFlowPairs before → NoneWith (Tok.stream_start ∷ Tok.flow_mapping_start ∷ before)
-none_with_flow_pairs before k d ts h =
-    let w = written Tok.flow_mapping_start (before ++ ts) d tt (omega arith) h in
-    let i = flow_pairs_of w.content w.rest (before ++ ts) w.are_its in
-    k i.0 w.rest ts i.1
+none_with_flow_pairs = none_with Tok.flow_mapping_start flow_pairs_tokens tt (omega arith) flow_pairs_of
 
 none_with_entries : (before : List Tok) → NoEntries before → NoneWith (Tok.stream_start ∷ Tok.block_sequence_start ∷ before)
-none_with_entries before k d ts h =
-    let w = written Tok.block_sequence_start (before ++ ts) d tt (omega arith) h in
-    let i = entries_of w.content w.rest (before ++ ts) w.are_its in
-    k i.0 w.rest ts i.1
+none_with_entries = none_with Tok.block_sequence_start entries_tokens tt (omega arith) entries_of
 
 none_with_pairs : (before : List Tok) → NoPairs before → NoneWith (Tok.stream_start ∷ Tok.block_mapping_start ∷ before)
-none_with_pairs before k d ts h =
-    let w = written Tok.block_mapping_start (before ++ ts) d tt (omega arith) h in
-    let i = pairs_of w.content w.rest (before ++ ts) w.are_its in
-    k i.0 w.rest ts i.1
+none_with_pairs = none_with Tok.block_mapping_start pairs_tokens tt (omega arith) pairs_of
 
 -- `[,`: a comma where there is no entry
 comma_first : NoItems (Tok.flow_entry ∷ [])
