@@ -8,7 +8,7 @@ use Rattle.defs_event.specs.Grammar.{Documents, anchored, tagged, tagged_anchore
 use Rattle.defs_event.specs.Names.{named, no_names}
 use Rattle.defs_event.specs.Stream.{IsStream}
 use Rattle.defs_event.proofs.OneReading.{one_reading}
-use Rattle.defs_event.proofs.Texts.{tag_of_text}
+use Rattle.defs_event.proofs.Texts.{tag_of_text, three_documents, three_documents_read}
 
 nothing_is_some : (o : Option (List Ev)) (es : List Ev) → o ≡ None → o ≡ Some es → ⊥
 nothing_is_some o es h k = cc
@@ -57,16 +57,9 @@ repeated_version = no_reading false (directed (Directive.version 1 2) ((Directiv
 
 -- a handle that later documents use, where tags are not kept
 handle_of_an_earlier_document : (es : List Ev) → IsStream false
-    (Tok.stream_start ∷ Tok.tag_directive (codes "!prefix!") (codes "tag:example.com,2011:") ∷ Tok.document_start ∷
-    Tok.tag (codes "!prefix!") (codes "A") ∷ Tok.block_mapping_start ∷ Tok.key ∷
-    Tok.scalar Style.plain (codes "a") ∷ Tok.value ∷ Tok.scalar Style.plain (codes "b") ∷ Tok.block_end ∷
-    Tok.document_start ∷ Tok.tag (codes "!prefix!") (codes "B") ∷ Tok.block_mapping_start ∷ Tok.key ∷
-    Tok.scalar Style.plain (codes "c") ∷ Tok.value ∷ Tok.scalar Style.plain (codes "d") ∷ Tok.block_end ∷
-    Tok.document_start ∷ Tok.tag (codes "!prefix!") (codes "C") ∷ Tok.block_mapping_start ∷ Tok.key ∷
-    Tok.scalar Style.plain (codes "e") ∷ Tok.value ∷ Tok.scalar Style.plain (codes "f") ∷ Tok.block_end ∷
-    Tok.stream_end ∷ [])
+    three_documents
     es → ⊥
-handle_of_an_earlier_document = no_reading false (directed (Directive.tag (codes "!prefix!") (codes "tag:example.com,2011:")) ([]) (some_node (block_content (Some (tagged (tag_of_text (codes "!prefix!") (codes "A")))) (block_mapping (keyed (key (plain (some_node (block_content None (flow (scalar Style.plain (codes "a")))))) (value (plain (some_node (block_content None (flow (scalar Style.plain (codes "b")))))) (keyed end_pairs))))))) (unmarked (explicit (some_node (block_content (Some (tagged (tag_of_text (codes "!prefix!") (codes "B")))) (block_mapping (keyed (key (plain (some_node (block_content None (flow (scalar Style.plain (codes "c")))))) (value (plain (some_node (block_content None (flow (scalar Style.plain (codes "d")))))) (keyed end_pairs))))))) (unmarked (explicit (some_node (block_content (Some (tagged (tag_of_text (codes "!prefix!") (codes "C")))) (block_mapping (keyed (key (plain (some_node (block_content None (flow (scalar Style.plain (codes "e")))))) (value (plain (some_node (block_content None (flow (scalar Style.plain (codes "f")))))) (keyed end_pairs))))))) (unmarked end_stream)))))) refl
+handle_of_an_earlier_document = no_reading false three_documents_read refl
 
 -- the same after a version
 version_and_handle_of_an_earlier_document : (es : List Ev) → IsStream false

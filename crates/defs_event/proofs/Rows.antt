@@ -5,7 +5,7 @@ use Rattle.defs_event.specs.Event.{Ev}
 use Rattle.defs_event.specs.Raw.{Directive}
 use Rattle.defs_event.specs.Grammar.{anchored, tagged, anchored_tagged, tagged_anchored, flow_alias, flow_content, flow_properties, scalar, flow_sequence, flow_mapping, no_flow, some_flow, no_items, items, end_items, comma_end_items, comma_item, single, single_pair, no_flow_value, flow_value, no_flow_pairs, flow_pairs, end_flow_pairs, comma_end_flow_pairs, comma_flow_pair, flow_keyed, flow_keyless, flow_single, block_alias, block_content, block_properties, flow, block_sequence, block_mapping, no_node, some_node, end_entries, entry, plain, indentless, end_dashes, dash, keyed, keyless, end_pairs, key, value, no_value, marker, bare, directed, others, end_stream, explicit, marked, unmarked}
 use Rattle.defs_event.specs.Stream.{IsStream}
-use Rattle.defs_event.proofs.Texts.{tag_of_text}
+use Rattle.defs_event.proofs.Texts.{tag_of_text, three_documents, three_documents_read}
 
 -- an empty text
 no_document : IsStream false
@@ -594,14 +594,7 @@ numbers_over_documents = record {
 
 -- a handle that later documents use, where tags are kept
 tags_kept : IsStream true
-    (Tok.stream_start ∷ Tok.tag_directive (codes "!prefix!") (codes "tag:example.com,2011:") ∷ Tok.document_start ∷
-    Tok.tag (codes "!prefix!") (codes "A") ∷ Tok.block_mapping_start ∷ Tok.key ∷
-    Tok.scalar Style.plain (codes "a") ∷ Tok.value ∷ Tok.scalar Style.plain (codes "b") ∷ Tok.block_end ∷
-    Tok.document_start ∷ Tok.tag (codes "!prefix!") (codes "B") ∷ Tok.block_mapping_start ∷ Tok.key ∷
-    Tok.scalar Style.plain (codes "c") ∷ Tok.value ∷ Tok.scalar Style.plain (codes "d") ∷ Tok.block_end ∷
-    Tok.document_start ∷ Tok.tag (codes "!prefix!") (codes "C") ∷ Tok.block_mapping_start ∷ Tok.key ∷
-    Tok.scalar Style.plain (codes "e") ∷ Tok.value ∷ Tok.scalar Style.plain (codes "f") ∷ Tok.block_end ∷
-    Tok.stream_end ∷ [])
+    three_documents
     (Ev.stream_start ∷ Ev.document_start ∷
     Ev.mapping_start 0 (Some (tag_of_text (codes "tag:example.com,2011:") (codes "A"))) ∷
     Ev.scalar (codes "a") Style.plain 0 None ∷ Ev.scalar (codes "b") Style.plain 0 None ∷ Ev.mapping_end ∷
@@ -613,7 +606,7 @@ tags_kept : IsStream true
     Ev.scalar (codes "e") Style.plain 0 None ∷ Ev.scalar (codes "f") Style.plain 0 None ∷ Ev.mapping_end ∷
     Ev.document_end ∷ Ev.stream_end ∷ [])
 tags_kept = record {
-  documents = directed (Directive.tag (codes "!prefix!") (codes "tag:example.com,2011:")) ([]) (some_node (block_content (Some (tagged (tag_of_text (codes "!prefix!") (codes "A")))) (block_mapping (keyed (key (plain (some_node (block_content None (flow (scalar Style.plain (codes "a")))))) (value (plain (some_node (block_content None (flow (scalar Style.plain (codes "b")))))) (keyed end_pairs))))))) (unmarked (explicit (some_node (block_content (Some (tagged (tag_of_text (codes "!prefix!") (codes "B")))) (block_mapping (keyed (key (plain (some_node (block_content None (flow (scalar Style.plain (codes "c")))))) (value (plain (some_node (block_content None (flow (scalar Style.plain (codes "d")))))) (keyed end_pairs))))))) (unmarked (explicit (some_node (block_content (Some (tagged (tag_of_text (codes "!prefix!") (codes "C")))) (block_mapping (keyed (key (plain (some_node (block_content None (flow (scalar Style.plain (codes "e")))))) (value (plain (some_node (block_content None (flow (scalar Style.plain (codes "f")))))) (keyed end_pairs))))))) (unmarked end_stream)))));
+  documents = three_documents_read;
   has_tokens = refl;
   has_events = refl;
 }
