@@ -1,12 +1,8 @@
 -- More rows that are none, by computing: keys in flow, columns in flow, and the line after a directive.
 use Rattle.std.proofs.Common.{[], ◌∷◌, true, false}
 use Rattle.std.specs.Prelude.{codes}
-use Rattle.defs_text.specs.Classes.{is_blank, is_break, is_nul, is_blank_or_end, is_flow, is_decimal_digit, is_letter, is_alpha, is_uri, is_tag, is_anchor_name, are_marks}
-use Rattle.defs_scalar.specs.FlowScalar.{plain_element, single_quoted_element, double_quoted_element, is_character_code, numeric_escape, escape, begins_with_marker, plain_value, single_quoted_value, double_quoted_value}
-use Rattle.defs_scalar.specs.BlockScalar.{sign_of, digit_of, is_empty_line, is_content_line, row_of}
-use Rattle.defs_scalar.specs.Tags.{octet_at, lead_of, is_trail, escaped_character, uri_character}
-use Rattle.defs_scalar.specs.Directives.{directive_of}
 use Rattle.defs_token.specs.Token.{tag_directive, document_start, flow_sequence_start, flow_sequence_end, flow_mapping_start, flow_mapping_end, block_entry, flow_entry, key, value, alias, anchor, scalar, plain}
+use Rattle.defs_token.proofs.OnLiterals.{cut_on_literals}
 use Rattle.defs_row.specs.Row.{HasRow}
 use Rattle.defs_row.proofs.Shown.{step}
 
@@ -20,7 +16,7 @@ question_in_value : HasRow (codes "a: ? b") (record {
       [];
   last = [];
 }) → ⊥
-unfolding is_blank is_break is_nul is_blank_or_end is_flow is_decimal_digit is_letter is_alpha is_uri is_tag is_anchor_name are_marks plain_element single_quoted_element double_quoted_element is_character_code numeric_escape escape begins_with_marker plain_value single_quoted_value double_quoted_value sign_of digit_of is_empty_line is_content_line row_of octet_at lead_of is_trail escaped_character uri_character directive_of
+unfolding cut_on_literals
 question_in_value h = absurd h.1.1.1.1
 
 -- an empty key where no key may begin
@@ -33,7 +29,7 @@ colon_in_value : HasRow (codes "a: : b") (record {
       [];
   last = [];
 }) → ⊥
-unfolding is_blank is_break is_nul is_blank_or_end is_flow is_decimal_digit is_letter is_alpha is_uri is_tag is_anchor_name are_marks plain_element single_quoted_element double_quoted_element is_character_code numeric_escape escape begins_with_marker plain_value single_quoted_value double_quoted_value sign_of digit_of is_empty_line is_content_line row_of octet_at lead_of is_trail escaped_character uri_character directive_of
+unfolding cut_on_literals
 colon_in_value h = absurd h.1.1.1
 
 -- a comma while a key waits
@@ -48,7 +44,7 @@ comma_in_key : HasRow (codes "[a] , : b") (record {
       [];
   last = [];
 }) → ⊥
-unfolding is_blank is_break is_nul is_blank_or_end is_flow is_decimal_digit is_letter is_alpha is_uri is_tag is_anchor_name are_marks plain_element single_quoted_element double_quoted_element is_character_code numeric_escape escape begins_with_marker plain_value single_quoted_value double_quoted_value sign_of digit_of is_empty_line is_content_line row_of octet_at lead_of is_trail escaped_character uri_character directive_of
+unfolding cut_on_literals
 comma_in_key h = absurd h.1.1.1.1.1
 
 -- a closing bracket while a key waits
@@ -63,7 +59,7 @@ bracket_in_key : HasRow (codes "[a] ] : b") (record {
       [];
   last = [];
 }) → ⊥
-unfolding is_blank is_break is_nul is_blank_or_end is_flow is_decimal_digit is_letter is_alpha is_uri is_tag is_anchor_name are_marks plain_element single_quoted_element double_quoted_element is_character_code numeric_escape escape begins_with_marker plain_value single_quoted_value double_quoted_value sign_of digit_of is_empty_line is_content_line row_of octet_at lead_of is_trail escaped_character uri_character directive_of
+unfolding cut_on_literals
 bracket_in_key h = absurd h.1.1.1.1.1
 
 -- a dash while a key waits
@@ -78,7 +74,7 @@ dash_in_key : HasRow (codes "[a] - : b") (record {
       [];
   last = [];
 }) → ⊥
-unfolding is_blank is_break is_nul is_blank_or_end is_flow is_decimal_digit is_letter is_alpha is_uri is_tag is_anchor_name are_marks plain_element single_quoted_element double_quoted_element is_character_code numeric_escape escape begins_with_marker plain_value single_quoted_value double_quoted_value sign_of digit_of is_empty_line is_content_line row_of octet_at lead_of is_trail escaped_character uri_character directive_of
+unfolding cut_on_literals
 dash_in_key h = absurd h.1.1.1.1.1
 
 -- an explicit key while a key waits
@@ -93,7 +89,7 @@ question_in_key : HasRow (codes "[a] ? : b") (record {
       [];
   last = [];
 }) → ⊥
-unfolding is_blank is_break is_nul is_blank_or_end is_flow is_decimal_digit is_letter is_alpha is_uri is_tag is_anchor_name are_marks plain_element single_quoted_element double_quoted_element is_character_code numeric_escape escape begins_with_marker plain_value single_quoted_value double_quoted_value sign_of digit_of is_empty_line is_content_line row_of octet_at lead_of is_trail escaped_character uri_character directive_of
+unfolding cut_on_literals
 question_in_key h = absurd h.1.1.1.1.1
 
 -- a key without its colon
@@ -103,7 +99,7 @@ key_without_colon : HasRow (codes "a") (record {
       [];
   last = [];
 }) → ⊥
-unfolding is_blank is_break is_nul is_blank_or_end is_flow is_decimal_digit is_letter is_alpha is_uri is_tag is_anchor_name are_marks plain_element single_quoted_element double_quoted_element is_character_code numeric_escape escape begins_with_marker plain_value single_quoted_value double_quoted_value sign_of digit_of is_empty_line is_content_line row_of octet_at lead_of is_trail escaped_character uri_character directive_of
+unfolding cut_on_literals
 key_without_colon h = cc h.1.1.1
 
 -- a key in flow without its colon
@@ -114,7 +110,7 @@ key_in_flow_without_colon : HasRow (codes "[a") (record {
       [];
   last = [];
 }) → ⊥
-unfolding is_blank is_break is_nul is_blank_or_end is_flow is_decimal_digit is_letter is_alpha is_uri is_tag is_anchor_name are_marks plain_element single_quoted_element double_quoted_element is_character_code numeric_escape escape begins_with_marker plain_value single_quoted_value double_quoted_value sign_of digit_of is_empty_line is_content_line row_of octet_at lead_of is_trail escaped_character uri_character directive_of
+unfolding cut_on_literals
 key_in_flow_without_colon h = cc h.1.1.1.1
 
 -- a key inside an entry that has had a node
@@ -129,7 +125,7 @@ second_key : HasRow (codes "[&x a: b]") (record {
       [];
   last = [];
 }) → ⊥
-unfolding is_blank is_break is_nul is_blank_or_end is_flow is_decimal_digit is_letter is_alpha is_uri is_tag is_anchor_name are_marks plain_element single_quoted_element double_quoted_element is_character_code numeric_escape escape begins_with_marker plain_value single_quoted_value double_quoted_value sign_of digit_of is_empty_line is_content_line row_of octet_at lead_of is_trail escaped_character uri_character directive_of
+unfolding cut_on_literals
 second_key h = absurd h.1.1.1.1
 
 -- a colon after a node that is no key
@@ -143,7 +139,7 @@ colon_after_node : HasRow (codes "[a: b]") (record {
       [];
   last = [];
 }) → ⊥
-unfolding is_blank is_break is_nul is_blank_or_end is_flow is_decimal_digit is_letter is_alpha is_uri is_tag is_anchor_name are_marks plain_element single_quoted_element double_quoted_element is_character_code numeric_escape escape begins_with_marker plain_value single_quoted_value double_quoted_value sign_of digit_of is_empty_line is_content_line row_of octet_at lead_of is_trail escaped_character uri_character directive_of
+unfolding cut_on_literals
 colon_after_node h = absurd h.1.1.1.1
 
 -- a single pair's key and its colon on two lines
@@ -157,7 +153,7 @@ key_on_two_lines : HasRow (codes "[a\n: b]") (record {
       [];
   last = [];
 }) → ⊥
-unfolding is_blank is_break is_nul is_blank_or_end is_flow is_decimal_digit is_letter is_alpha is_uri is_tag is_anchor_name are_marks plain_element single_quoted_element double_quoted_element is_character_code numeric_escape escape begins_with_marker plain_value single_quoted_value double_quoted_value sign_of digit_of is_empty_line is_content_line row_of octet_at lead_of is_trail escaped_character uri_character directive_of
+unfolding cut_on_literals
 key_on_two_lines h = absurd h.1.1.1.1
 
 -- a comma while a key waits in its entry
@@ -171,7 +167,7 @@ comma_after_key : HasRow (codes "[a, b]") (record {
       [];
   last = [];
 }) → ⊥
-unfolding is_blank is_break is_nul is_blank_or_end is_flow is_decimal_digit is_letter is_alpha is_uri is_tag is_anchor_name are_marks plain_element single_quoted_element double_quoted_element is_character_code numeric_escape escape begins_with_marker plain_value single_quoted_value double_quoted_value sign_of digit_of is_empty_line is_content_line row_of octet_at lead_of is_trail escaped_character uri_character directive_of
+unfolding cut_on_literals
 comma_after_key h = absurd h.1.1.1.1
 
 -- a closing bracket while a key waits in its entry
@@ -183,7 +179,7 @@ bracket_after_key : HasRow (codes "[a]") (record {
       [];
   last = [];
 }) → ⊥
-unfolding is_blank is_break is_nul is_blank_or_end is_flow is_decimal_digit is_letter is_alpha is_uri is_tag is_anchor_name are_marks plain_element single_quoted_element double_quoted_element is_character_code numeric_escape escape begins_with_marker plain_value single_quoted_value double_quoted_value sign_of digit_of is_empty_line is_content_line row_of octet_at lead_of is_trail escaped_character uri_character directive_of
+unfolding cut_on_literals
 bracket_after_key h = absurd h.1.1.1.1
 
 -- `?` while a key waits in its entry
@@ -198,7 +194,7 @@ question_after_key : HasRow (codes "[*a ? : b]") (record {
       [];
   last = [];
 }) → ⊥
-unfolding is_blank is_break is_nul is_blank_or_end is_flow is_decimal_digit is_letter is_alpha is_uri is_tag is_anchor_name are_marks plain_element single_quoted_element double_quoted_element is_character_code numeric_escape escape begins_with_marker plain_value single_quoted_value double_quoted_value sign_of digit_of is_empty_line is_content_line row_of octet_at lead_of is_trail escaped_character uri_character directive_of
+unfolding cut_on_literals
 question_after_key h = absurd h.1.1.1.1
 
 -- a marker while a key waits in its entry
@@ -213,7 +209,7 @@ marker_after_key : HasRow (codes "{*a\n--- : b}") (record {
       [];
   last = [];
 }) → ⊥
-unfolding is_blank is_break is_nul is_blank_or_end is_flow is_decimal_digit is_letter is_alpha is_uri is_tag is_anchor_name are_marks plain_element single_quoted_element double_quoted_element is_character_code numeric_escape escape begins_with_marker plain_value single_quoted_value double_quoted_value sign_of digit_of is_empty_line is_content_line row_of octet_at lead_of is_trail escaped_character uri_character directive_of
+unfolding cut_on_literals
 marker_after_key h = absurd h.1.1.1.1
 
 -- a key that waits where a key may begin again
@@ -228,7 +224,7 @@ key_before_renewal : HasRow (codes "{a\n#\nb: c}") (record {
       [];
   last = [];
 }) → ⊥
-unfolding is_blank is_break is_nul is_blank_or_end is_flow is_decimal_digit is_letter is_alpha is_uri is_tag is_anchor_name are_marks plain_element single_quoted_element double_quoted_element is_character_code numeric_escape escape begins_with_marker plain_value single_quoted_value double_quoted_value sign_of digit_of is_empty_line is_content_line row_of octet_at lead_of is_trail escaped_character uri_character directive_of
+unfolding cut_on_literals
 key_before_renewal h = absurd h.1.1.1.1
 
 -- a bracket left of the least column
@@ -241,7 +237,7 @@ flow_left : HasRow (codes "a: [\n]") (record {
       [];
   last = [];
 }) → ⊥
-unfolding is_blank is_break is_nul is_blank_or_end is_flow is_decimal_digit is_letter is_alpha is_uri is_tag is_anchor_name are_marks plain_element single_quoted_element double_quoted_element is_character_code numeric_escape escape begins_with_marker plain_value single_quoted_value double_quoted_value sign_of digit_of is_empty_line is_content_line row_of octet_at lead_of is_trail escaped_character uri_character directive_of
+unfolding cut_on_literals
 flow_left h = absurd h.1.1.1.1.1
 
 -- a plain scalar in flow that is not deeper than the block
@@ -257,7 +253,7 @@ flow_plain_left : HasRow (codes "a: [b,\nc]") (record {
       [];
   last = [];
 }) → ⊥
-unfolding is_blank is_break is_nul is_blank_or_end is_flow is_decimal_digit is_letter is_alpha is_uri is_tag is_anchor_name are_marks plain_element single_quoted_element double_quoted_element is_character_code numeric_escape escape begins_with_marker plain_value single_quoted_value double_quoted_value sign_of digit_of is_empty_line is_content_line row_of octet_at lead_of is_trail escaped_character uri_character directive_of
+unfolding cut_on_literals
 flow_plain_left h = absurd h.1.1.1.1.1.1.1
 
 -- a key after a directive's own break
@@ -270,5 +266,5 @@ own_break : HasRow (codes "%FOO\na: b") (record {
       [];
   last = [];
 }) → ⊥
-unfolding is_blank is_break is_nul is_blank_or_end is_flow is_decimal_digit is_letter is_alpha is_uri is_tag is_anchor_name are_marks plain_element single_quoted_element double_quoted_element is_character_code numeric_escape escape begins_with_marker plain_value single_quoted_value double_quoted_value sign_of digit_of is_empty_line is_content_line row_of octet_at lead_of is_trail escaped_character uri_character directive_of
+unfolding cut_on_literals
 own_break h = absurd h.1.1.1

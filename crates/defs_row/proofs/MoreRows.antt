@@ -1,12 +1,8 @@
 -- More texts with their rows, and their tokens with positions, by computing: flow collections, documents, and what the original does of its own.
 use Rattle.std.proofs.Common.{[], ◌∷◌, true, false, inl, inr, refl}
 use Rattle.std.specs.Prelude.{codes}
-use Rattle.defs_text.specs.Classes.{is_blank, is_break, is_nul, is_blank_or_end, is_flow, is_decimal_digit, is_letter, is_alpha, is_uri, is_tag, is_anchor_name, are_marks}
-use Rattle.defs_scalar.specs.FlowScalar.{plain_element, single_quoted_element, double_quoted_element, is_character_code, numeric_escape, escape, begins_with_marker, plain_value, single_quoted_value, double_quoted_value}
-use Rattle.defs_scalar.specs.BlockScalar.{sign_of, digit_of, is_empty_line, is_content_line, row_of}
-use Rattle.defs_scalar.specs.Tags.{octet_at, lead_of, is_trail, escaped_character, uri_character}
-use Rattle.defs_scalar.specs.Directives.{directive_of}
 use Rattle.defs_token.specs.Token.{stream_start, stream_end, version_directive, tag_directive, document_start, document_end, block_sequence_start, block_mapping_start, block_end, flow_sequence_start, flow_sequence_end, flow_mapping_start, flow_mapping_end, block_entry, flow_entry, key, value, tag, scalar, plain, single_quoted, double_quoted, literal, folded}
+use Rattle.defs_token.proofs.OnLiterals.{cut_on_literals}
 use Rattle.defs_row.specs.Step.{Row}
 use Rattle.defs_row.specs.Tokens.{put}
 use Rattle.defs_row.specs.Row.{IsRead}
@@ -53,7 +49,7 @@ pub flow_key : IsRead (codes "[a: b]: {c: d}\n") (
     put (position 15 2 0) block_end ∷
     put (position 15 2 0) stream_end ∷
     [])
-unfolding is_blank is_break is_nul is_blank_or_end is_flow is_decimal_digit is_letter is_alpha is_uri is_tag is_anchor_name are_marks plain_element single_quoted_element double_quoted_element is_character_code numeric_escape escape begins_with_marker plain_value single_quoted_value double_quoted_value sign_of digit_of is_empty_line is_content_line row_of octet_at lead_of is_trail escaped_character uri_character directive_of
+unfolding cut_on_literals
 flow_key = (flow_key_row, (refl, ((refl, (refl, ((refl, refl), refl))), ((refl, (refl, ((refl, refl, refl), refl))), ((refl, (refl, (refl, refl))), ((refl, (refl, ((refl, refl, refl), refl))), ((refl, (refl, ((refl, refl), refl))), ((refl, (refl, (refl, refl))), ((refl, (refl, inl ((refl, refl), refl))), ((refl, (refl, ((refl, refl, refl), refl))), ((refl, (refl, (refl, refl))), ((refl, (refl, ((refl, refl, refl), refl))), ((refl, (refl, inl ((refl, refl), refl))), (refl, refl))))))))))))), refl)
 
 -- a single pair whose value is a sequence with another
@@ -92,7 +88,7 @@ nested_pairs : IsRead (codes "[a: [b: c]]") (
     put (position 10 1 10) flow_sequence_end ∷
     put (position 11 2 0) stream_end ∷
     [])
-unfolding is_blank is_break is_nul is_blank_or_end is_flow is_decimal_digit is_letter is_alpha is_uri is_tag is_anchor_name are_marks plain_element single_quoted_element double_quoted_element is_character_code numeric_escape escape begins_with_marker plain_value single_quoted_value double_quoted_value sign_of digit_of is_empty_line is_content_line row_of octet_at lead_of is_trail escaped_character uri_character directive_of
+unfolding cut_on_literals
 nested_pairs = (nested_pairs_row, (refl, ((refl, (refl, ((refl, refl), refl))), ((refl, (refl, ((refl, refl, refl), refl))), ((refl, (refl, (refl, refl))), ((refl, (refl, ((refl, refl), refl))), ((refl, (refl, ((refl, refl, refl), refl))), ((refl, (refl, (refl, refl))), ((refl, (refl, ((refl, refl, refl), refl))), ((refl, (refl, ((refl, refl), refl))), ((refl, (refl, ((refl, refl), refl))), (refl, refl))))))))))), refl)
 
 -- a flow collection left open at the text's end
@@ -111,7 +107,7 @@ open_flow : IsRead (codes "[a") (
     put (position 1 1 1) (scalar plain (codes "a")) ∷
     put (position 2 2 0) stream_end ∷
     [])
-unfolding is_blank is_break is_nul is_blank_or_end is_flow is_decimal_digit is_letter is_alpha is_uri is_tag is_anchor_name are_marks plain_element single_quoted_element double_quoted_element is_character_code numeric_escape escape begins_with_marker plain_value single_quoted_value double_quoted_value sign_of digit_of is_empty_line is_content_line row_of octet_at lead_of is_trail escaped_character uri_character directive_of
+unfolding cut_on_literals
 open_flow = (open_flow_row, (refl, ((refl, (refl, ((refl, refl), refl))), ((refl, (refl, ((refl, refl, refl), refl))), (refl, refl)))), refl)
 
 -- a flow mapping's key may lie on another line than its colon
@@ -137,7 +133,7 @@ many_lines : IsRead (codes "{a\n: b}") (
     put (position 6 2 3) flow_mapping_end ∷
     put (position 7 3 0) stream_end ∷
     [])
-unfolding is_blank is_break is_nul is_blank_or_end is_flow is_decimal_digit is_letter is_alpha is_uri is_tag is_anchor_name are_marks plain_element single_quoted_element double_quoted_element is_character_code numeric_escape escape begins_with_marker plain_value single_quoted_value double_quoted_value sign_of digit_of is_empty_line is_content_line row_of octet_at lead_of is_trail escaped_character uri_character directive_of
+unfolding cut_on_literals
 many_lines = (many_lines_row, (refl, ((refl, (refl, inl ((refl, refl), refl))), ((refl, (refl, ((refl, refl, refl), refl))), ((refl, (refl, (refl, refl))), ((refl, (refl, ((refl, refl, refl), refl))), ((refl, (refl, inl ((refl, refl), refl))), (refl, refl))))))), refl)
 
 -- quoted scalars of several lines
@@ -162,7 +158,7 @@ quoted : IsRead (codes "- \"a\n  b\"\n- 'c\n\n  d'\n") (
     put (position 21 6 0) block_end ∷
     put (position 21 6 0) stream_end ∷
     [])
-unfolding is_blank is_break is_nul is_blank_or_end is_flow is_decimal_digit is_letter is_alpha is_uri is_tag is_anchor_name are_marks plain_element single_quoted_element double_quoted_element is_character_code numeric_escape escape begins_with_marker plain_value single_quoted_value double_quoted_value sign_of digit_of is_empty_line is_content_line row_of octet_at lead_of is_trail escaped_character uri_character directive_of
+unfolding cut_on_literals
 quoted = (quoted_row, (refl, ((refl, (refl, (refl, refl, refl))), ((refl, (refl, ((codes "a\n  b", refl, refl), refl))), ((refl, (refl, (refl, refl, refl))), ((refl, (refl, ((codes "c\n\n  d", refl, refl, refl), refl))), (refl, refl)))))), refl)
 
 -- a closing quote directly after an escaped break may stand anywhere
@@ -186,7 +182,7 @@ escaped_break : IsRead (codes "a: \"b\\\n\"\n") (
     put (position 9 3 0) block_end ∷
     put (position 9 3 0) stream_end ∷
     [])
-unfolding is_blank is_break is_nul is_blank_or_end is_flow is_decimal_digit is_letter is_alpha is_uri is_tag is_anchor_name are_marks plain_element single_quoted_element double_quoted_element is_character_code numeric_escape escape begins_with_marker plain_value single_quoted_value double_quoted_value sign_of digit_of is_empty_line is_content_line row_of octet_at lead_of is_trail escaped_character uri_character directive_of
+unfolding cut_on_literals
 escaped_break = (escaped_break_row, (refl, ((refl, (refl, ((refl, refl, refl), refl))), ((refl, (refl, (refl, refl))), ((refl, (refl, ((codes "b\\\n", refl, refl), refl))), (refl, refl))))), refl)
 
 -- a literal scalar's position is where its content begins
@@ -217,7 +213,7 @@ literal_block : IsRead (codes "a: |\n  b\n  c\nd: e\n") (
     put (position 18 5 0) block_end ∷
     put (position 18 5 0) stream_end ∷
     [])
-unfolding is_blank is_break is_nul is_blank_or_end is_flow is_decimal_digit is_letter is_alpha is_uri is_tag is_anchor_name are_marks plain_element single_quoted_element double_quoted_element is_character_code numeric_escape escape begins_with_marker plain_value single_quoted_value double_quoted_value sign_of digit_of is_empty_line is_content_line row_of octet_at lead_of is_trail escaped_character uri_character directive_of
+unfolding cut_on_literals
 literal_block = (literal_block_row, (refl, ((refl, (refl, ((refl, refl, refl), refl))), ((refl, (refl, (refl, refl))), ((refl, (refl, (refl, (2, refl, refl)))), ((refl, (refl, ((refl, refl, refl), refl))), ((refl, (refl, (refl, refl))), ((refl, (refl, ((refl, refl, refl), refl))), (refl, refl)))))))), refl)
 
 -- a folded scalar with a header
@@ -242,7 +238,7 @@ folded_block : IsRead (codes "- >-\n  a\n  b\n- c\n") (
     put (position 17 5 0) block_end ∷
     put (position 17 5 0) stream_end ∷
     [])
-unfolding is_blank is_break is_nul is_blank_or_end is_flow is_decimal_digit is_letter is_alpha is_uri is_tag is_anchor_name are_marks plain_element single_quoted_element double_quoted_element is_character_code numeric_escape escape begins_with_marker plain_value single_quoted_value double_quoted_value sign_of digit_of is_empty_line is_content_line row_of octet_at lead_of is_trail escaped_character uri_character directive_of
+unfolding cut_on_literals
 folded_block = (folded_block_row, (refl, ((refl, (refl, (refl, refl, refl))), ((refl, (refl, (refl, (2, refl, refl)))), ((refl, (refl, (refl, refl, refl))), ((refl, (refl, ((refl, refl, refl), refl))), (refl, refl)))))), refl)
 
 -- after a block scalar a key may begin
@@ -268,7 +264,7 @@ literal_then_key : IsRead (codes "|\n a\nb: c\n") (
     put (position 10 4 0) block_end ∷
     put (position 10 4 0) stream_end ∷
     [])
-unfolding is_blank is_break is_nul is_blank_or_end is_flow is_decimal_digit is_letter is_alpha is_uri is_tag is_anchor_name are_marks plain_element single_quoted_element double_quoted_element is_character_code numeric_escape escape begins_with_marker plain_value single_quoted_value double_quoted_value sign_of digit_of is_empty_line is_content_line row_of octet_at lead_of is_trail escaped_character uri_character directive_of
+unfolding cut_on_literals
 literal_then_key = (literal_then_key_row, (refl, ((refl, (refl, (refl, (1, refl, refl)))), ((refl, (refl, ((refl, refl, refl), refl))), ((refl, (refl, (refl, refl))), ((refl, (refl, ((refl, refl, refl), refl))), (refl, refl)))))), refl)
 
 -- markers of documents end all collections
@@ -300,7 +296,7 @@ documents : IsRead (codes "--- a\n...\n---\nb: c\n") (
     put (position 19 5 0) block_end ∷
     put (position 19 5 0) stream_end ∷
     [])
-unfolding is_blank is_break is_nul is_blank_or_end is_flow is_decimal_digit is_letter is_alpha is_uri is_tag is_anchor_name are_marks plain_element single_quoted_element double_quoted_element is_character_code numeric_escape escape begins_with_marker plain_value single_quoted_value double_quoted_value sign_of digit_of is_empty_line is_content_line row_of octet_at lead_of is_trail escaped_character uri_character directive_of
+unfolding cut_on_literals
 documents = (documents_row, (refl, ((refl, (refl, ((refl, refl, refl, refl), refl))), ((refl, (refl, ((refl, refl, refl), refl))), ((refl, (refl, ((refl, refl, refl, refl), refl))), ((refl, (refl, ((refl, refl, refl, refl), refl))), ((refl, (refl, ((refl, refl, refl), refl))), ((refl, (refl, (refl, refl))), ((refl, (refl, ((refl, refl, refl), refl))), (refl, refl))))))))), refl)
 
 -- directives, and a tag with a declared handle
@@ -325,7 +321,7 @@ directives : IsRead (codes "%YAML 1.2\n%TAG !e! x\n--- !e!a b\n") (
     put (position 30 3 9) (scalar plain (codes "b")) ∷
     put (position 32 4 0) stream_end ∷
     [])
-unfolding is_blank is_break is_nul is_blank_or_end is_flow is_decimal_digit is_letter is_alpha is_uri is_tag is_anchor_name are_marks plain_element single_quoted_element double_quoted_element is_character_code numeric_escape escape begins_with_marker plain_value single_quoted_value double_quoted_value sign_of digit_of is_empty_line is_content_line row_of octet_at lead_of is_trail escaped_character uri_character directive_of
+unfolding cut_on_literals
 directives = (directives_row, (refl, ((refl, (refl, ((refl, refl, refl, refl, refl), refl))), ((refl, (refl, (inl (refl, refl, refl, refl, refl), refl))), ((refl, (refl, ((refl, refl, refl, refl), refl))), ((refl, (refl, ((refl, refl), refl))), ((refl, (refl, ((refl, refl, refl), refl))), (refl, refl))))))), refl)
 
 -- a directive of another name
@@ -344,7 +340,7 @@ reserved : IsRead (codes "%FOO bar\n---\n") (
     put (position 9 2 0) document_start ∷
     put (position 13 3 0) stream_end ∷
     [])
-unfolding is_blank is_break is_nul is_blank_or_end is_flow is_decimal_digit is_letter is_alpha is_uri is_tag is_anchor_name are_marks plain_element single_quoted_element double_quoted_element is_character_code numeric_escape escape begins_with_marker plain_value single_quoted_value double_quoted_value sign_of digit_of is_empty_line is_content_line row_of octet_at lead_of is_trail escaped_character uri_character directive_of
+unfolding cut_on_literals
 reserved = (reserved_row, (refl, ((refl, (refl, (inr (refl, refl, (refl, refl, refl, refl, refl)), refl))), ((refl, (refl, ((refl, refl, refl, refl), refl))), (refl, refl)))), refl)
 
 -- a directive's own break lets no key begin
@@ -363,7 +359,7 @@ own_break : IsRead (codes "%FOO\na") (
     put (position 5 2 0) (scalar plain (codes "a")) ∷
     put (position 6 3 0) stream_end ∷
     [])
-unfolding is_blank is_break is_nul is_blank_or_end is_flow is_decimal_digit is_letter is_alpha is_uri is_tag is_anchor_name are_marks plain_element single_quoted_element double_quoted_element is_character_code numeric_escape escape begins_with_marker plain_value single_quoted_value double_quoted_value sign_of digit_of is_empty_line is_content_line row_of octet_at lead_of is_trail escaped_character uri_character directive_of
+unfolding cut_on_literals
 own_break = (own_break_row, (refl, ((refl, (refl, (inr (refl, refl, (refl, refl, refl, refl, refl)), refl))), ((refl, (refl, ((refl, refl, refl), refl))), (refl, refl)))), refl)
 
 -- a comma outside flow lets a key begin
@@ -396,7 +392,7 @@ stray_comma : IsRead (codes "a: , b: c\n") (
     put (position 10 2 0) block_end ∷
     put (position 10 2 0) stream_end ∷
     [])
-unfolding is_blank is_break is_nul is_blank_or_end is_flow is_decimal_digit is_letter is_alpha is_uri is_tag is_anchor_name are_marks plain_element single_quoted_element double_quoted_element is_character_code numeric_escape escape begins_with_marker plain_value single_quoted_value double_quoted_value sign_of digit_of is_empty_line is_content_line row_of octet_at lead_of is_trail escaped_character uri_character directive_of
+unfolding cut_on_literals
 stray_comma = (stray_comma_row, (refl, ((refl, (refl, ((refl, refl, refl), refl))), ((refl, (refl, (refl, refl))), ((refl, (refl, ((refl, refl), refl))), ((refl, (refl, ((refl, refl, refl), refl))), ((refl, (refl, (refl, refl))), ((refl, (refl, ((refl, refl, refl), refl))), (refl, refl)))))))), refl)
 
 -- a closing bracket outside flow
@@ -415,7 +411,7 @@ stray_bracket : IsRead (codes "] a") (
     put (position 2 1 2) (scalar plain (codes "a")) ∷
     put (position 3 2 0) stream_end ∷
     [])
-unfolding is_blank is_break is_nul is_blank_or_end is_flow is_decimal_digit is_letter is_alpha is_uri is_tag is_anchor_name are_marks plain_element single_quoted_element double_quoted_element is_character_code numeric_escape escape begins_with_marker plain_value single_quoted_value double_quoted_value sign_of digit_of is_empty_line is_content_line row_of octet_at lead_of is_trail escaped_character uri_character directive_of
+unfolding cut_on_literals
 stray_bracket = (stray_bracket_row, (refl, ((refl, (refl, ((refl, refl), refl))), ((refl, (refl, ((refl, refl, refl), refl))), (refl, refl)))), refl)
 
 -- in flow, after a plain scalar and a break, a key may begin again
@@ -445,7 +441,7 @@ renewed : IsRead (codes "[a\n#\nb: c]") (
     put (position 9 3 4) flow_sequence_end ∷
     put (position 10 4 0) stream_end ∷
     [])
-unfolding is_blank is_break is_nul is_blank_or_end is_flow is_decimal_digit is_letter is_alpha is_uri is_tag is_anchor_name are_marks plain_element single_quoted_element double_quoted_element is_character_code numeric_escape escape begins_with_marker plain_value single_quoted_value double_quoted_value sign_of digit_of is_empty_line is_content_line row_of octet_at lead_of is_trail escaped_character uri_character directive_of
+unfolding cut_on_literals
 renewed = (renewed_row, (refl, ((refl, (refl, ((refl, refl), refl))), ((refl, (refl, ((refl, refl, refl), refl))), ((refl, (refl, ((refl, refl, refl), refl))), ((refl, (refl, (refl, refl))), ((refl, (refl, ((refl, refl, refl), refl))), ((refl, (refl, ((refl, refl), refl))), (refl, refl)))))))), refl)
 
 -- the start of a single pair, where a TAB follows its colon
@@ -473,7 +469,7 @@ tab_after_colon : IsRead (codes "[a:\t\"b\"]") (
     put (position 7 1 7) flow_sequence_end ∷
     put (position 8 2 0) stream_end ∷
     [])
-unfolding is_blank is_break is_nul is_blank_or_end is_flow is_decimal_digit is_letter is_alpha is_uri is_tag is_anchor_name are_marks plain_element single_quoted_element double_quoted_element is_character_code numeric_escape escape begins_with_marker plain_value single_quoted_value double_quoted_value sign_of digit_of is_empty_line is_content_line row_of octet_at lead_of is_trail escaped_character uri_character directive_of
+unfolding cut_on_literals
 tab_after_colon = (tab_after_colon_row, (refl, ((refl, (refl, ((refl, refl), refl))), ((refl, (refl, ((refl, refl, refl), refl))), ((refl, (refl, (refl, refl))), ((refl, (refl, ((codes "b", refl, refl), refl))), ((refl, (refl, ((refl, refl), refl))), (refl, refl))))))), refl)
 
 -- a line of blanks may have a TAB before the least column
@@ -497,7 +493,7 @@ blank_tab_line : IsRead (codes "a:\n\t\n  b\n") (
     put (position 9 4 0) block_end ∷
     put (position 9 4 0) stream_end ∷
     [])
-unfolding is_blank is_break is_nul is_blank_or_end is_flow is_decimal_digit is_letter is_alpha is_uri is_tag is_anchor_name are_marks plain_element single_quoted_element double_quoted_element is_character_code numeric_escape escape begins_with_marker plain_value single_quoted_value double_quoted_value sign_of digit_of is_empty_line is_content_line row_of octet_at lead_of is_trail escaped_character uri_character directive_of
+unfolding cut_on_literals
 blank_tab_line = (blank_tab_line_row, (refl, ((refl, (refl, ((refl, refl, refl), refl))), ((refl, (refl, (refl, refl))), ((refl, (refl, ((refl, refl, refl), refl))), (refl, refl))))), refl)
 
 -- a carriage return and a line feed are one break
@@ -522,7 +518,7 @@ crlf : IsRead (codes "- a\r\n- b\r\n") (
     put (position 10 3 0) block_end ∷
     put (position 10 3 0) stream_end ∷
     [])
-unfolding is_blank is_break is_nul is_blank_or_end is_flow is_decimal_digit is_letter is_alpha is_uri is_tag is_anchor_name are_marks plain_element single_quoted_element double_quoted_element is_character_code numeric_escape escape begins_with_marker plain_value single_quoted_value double_quoted_value sign_of digit_of is_empty_line is_content_line row_of octet_at lead_of is_trail escaped_character uri_character directive_of
+unfolding cut_on_literals
 crlf = (crlf_row, (refl, ((refl, (refl, (refl, refl, refl))), ((refl, (refl, ((refl, refl, refl), refl))), ((refl, (refl, (refl, refl, refl))), ((refl, (refl, ((refl, refl, refl), refl))), (refl, refl)))))), refl)
 
 -- what is awaited after a colon lies deeper than the mapping
@@ -550,7 +546,7 @@ least_column : IsRead (codes "a: [\n b\n ]\n") (
     put (position 11 4 0) block_end ∷
     put (position 11 4 0) stream_end ∷
     [])
-unfolding is_blank is_break is_nul is_blank_or_end is_flow is_decimal_digit is_letter is_alpha is_uri is_tag is_anchor_name are_marks plain_element single_quoted_element double_quoted_element is_character_code numeric_escape escape begins_with_marker plain_value single_quoted_value double_quoted_value sign_of digit_of is_empty_line is_content_line row_of octet_at lead_of is_trail escaped_character uri_character directive_of
+unfolding cut_on_literals
 least_column = (least_column_row, (refl, ((refl, (refl, ((refl, refl, refl), refl))), ((refl, (refl, (refl, refl))), ((refl, (refl, ((refl, refl), refl))), ((refl, (refl, ((refl, refl, refl), refl))), ((refl, (refl, ((refl, refl), refl))), (refl, refl))))))), refl)
 
 -- at the end, collections deeper than the last line end at the text's end
@@ -578,5 +574,5 @@ end_left : IsRead (codes "a:\n  - b\n ") (
     put (position 10 4 0) block_end ∷
     put (position 10 4 0) stream_end ∷
     [])
-unfolding is_blank is_break is_nul is_blank_or_end is_flow is_decimal_digit is_letter is_alpha is_uri is_tag is_anchor_name are_marks plain_element single_quoted_element double_quoted_element is_character_code numeric_escape escape begins_with_marker plain_value single_quoted_value double_quoted_value sign_of digit_of is_empty_line is_content_line row_of octet_at lead_of is_trail escaped_character uri_character directive_of
+unfolding cut_on_literals
 end_left = (end_left_row, (refl, ((refl, (refl, ((refl, refl, refl), refl))), ((refl, (refl, (refl, refl))), ((refl, (refl, (refl, refl, refl))), ((refl, (refl, ((refl, refl, refl), refl))), (refl, refl)))))), refl)

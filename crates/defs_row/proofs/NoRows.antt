@@ -1,12 +1,8 @@
 -- Rows that are none, by computing. Each is refused by the rule that is named alone: without it, it would be one.
 use Rattle.std.proofs.Common.{[], ◌∷◌, true, false}
 use Rattle.std.specs.Prelude.{codes}
-use Rattle.defs_text.specs.Classes.{is_blank, is_break, is_nul, is_blank_or_end, is_flow, is_decimal_digit, is_letter, is_alpha, is_uri, is_tag, is_anchor_name, are_marks}
-use Rattle.defs_scalar.specs.FlowScalar.{plain_element, single_quoted_element, double_quoted_element, is_character_code, numeric_escape, escape, begins_with_marker, plain_value, single_quoted_value, double_quoted_value}
-use Rattle.defs_scalar.specs.BlockScalar.{sign_of, digit_of, is_empty_line, is_content_line, row_of}
-use Rattle.defs_scalar.specs.Tags.{octet_at, lead_of, is_trail, escaped_character, uri_character}
-use Rattle.defs_scalar.specs.Directives.{directive_of}
 use Rattle.defs_token.specs.Token.{document_end, flow_sequence_start, flow_sequence_end, block_entry, key, value, scalar, plain, double_quoted, literal}
+use Rattle.defs_token.proofs.OnLiterals.{cut_on_literals}
 use Rattle.defs_row.specs.Row.{HasRow}
 use Rattle.defs_row.proofs.Shown.{step}
 
@@ -19,7 +15,7 @@ tab : HasRow (codes "a:\n\tb") (record {
       [];
   last = [];
 }) → ⊥
-unfolding is_blank is_break is_nul is_blank_or_end is_flow is_decimal_digit is_letter is_alpha is_uri is_tag is_anchor_name are_marks plain_element single_quoted_element double_quoted_element is_character_code numeric_escape escape begins_with_marker plain_value single_quoted_value double_quoted_value sign_of digit_of is_empty_line is_content_line row_of octet_at lead_of is_trail escaped_character uri_character directive_of
+unfolding cut_on_literals
 tab h = absurd h.1.1.1.1
 
 -- after a plain scalar a TAB stands before the column of a value
@@ -33,7 +29,7 @@ tab_after_plain : HasRow (codes "a: [b\n\t]") (record {
       [];
   last = [];
 }) → ⊥
-unfolding is_blank is_break is_nul is_blank_or_end is_flow is_decimal_digit is_letter is_alpha is_uri is_tag is_anchor_name are_marks plain_element single_quoted_element double_quoted_element is_character_code numeric_escape escape begins_with_marker plain_value single_quoted_value double_quoted_value sign_of digit_of is_empty_line is_content_line row_of octet_at lead_of is_trail escaped_character uri_character directive_of
+unfolding cut_on_literals
 tab_after_plain h = absurd h.1.1.1.1.1.1
 
 -- a TAB indents the second line of a plain scalar
@@ -45,7 +41,7 @@ plain_tab : HasRow (codes "a: b\n\tc") (record {
       [];
   last = [];
 }) → ⊥
-unfolding is_blank is_break is_nul is_blank_or_end is_flow is_decimal_digit is_letter is_alpha is_uri is_tag is_anchor_name are_marks plain_element single_quoted_element double_quoted_element is_character_code numeric_escape escape begins_with_marker plain_value single_quoted_value double_quoted_value sign_of digit_of is_empty_line is_content_line row_of octet_at lead_of is_trail escaped_character uri_character directive_of
+unfolding cut_on_literals
 plain_tab h = absurd h.1.1.1.1
 
 -- a TAB indents the second line of a quoted scalar
@@ -57,7 +53,7 @@ quoted_tab : HasRow (codes "a: \"b\n\tc\"") (record {
       [];
   last = [];
 }) → ⊥
-unfolding is_blank is_break is_nul is_blank_or_end is_flow is_decimal_digit is_letter is_alpha is_uri is_tag is_anchor_name are_marks plain_element single_quoted_element double_quoted_element is_character_code numeric_escape escape begins_with_marker plain_value single_quoted_value double_quoted_value sign_of digit_of is_empty_line is_content_line row_of octet_at lead_of is_trail escaped_character uri_character directive_of
+unfolding cut_on_literals
 quoted_tab h = absurd h.1.1.1.1
 
 -- the second line of a quoted scalar is not indented
@@ -69,7 +65,7 @@ quoted_column : HasRow (codes "a: \"b\nc\"") (record {
       [];
   last = [];
 }) → ⊥
-unfolding is_blank is_break is_nul is_blank_or_end is_flow is_decimal_digit is_letter is_alpha is_uri is_tag is_anchor_name are_marks plain_element single_quoted_element double_quoted_element is_character_code numeric_escape escape begins_with_marker plain_value single_quoted_value double_quoted_value sign_of digit_of is_empty_line is_content_line row_of octet_at lead_of is_trail escaped_character uri_character directive_of
+unfolding cut_on_literals
 quoted_column h = absurd h.1.1.1.1
 
 -- text on the line of a quoted scalar
@@ -80,7 +76,7 @@ after_quoted : HasRow (codes "\"a\" b") (record {
       [];
   last = [];
 }) → ⊥
-unfolding is_blank is_break is_nul is_blank_or_end is_flow is_decimal_digit is_letter is_alpha is_uri is_tag is_anchor_name are_marks plain_element single_quoted_element double_quoted_element is_character_code numeric_escape escape begins_with_marker plain_value single_quoted_value double_quoted_value sign_of digit_of is_empty_line is_content_line row_of octet_at lead_of is_trail escaped_character uri_character directive_of
+unfolding cut_on_literals
 after_quoted h = absurd h.1.1
 
 -- the line after a header begins with a TAB
@@ -93,7 +89,7 @@ header_tab : HasRow (codes "a: |\n\tb") (record {
       [];
   last = [];
 }) → ⊥
-unfolding is_blank is_break is_nul is_blank_or_end is_flow is_decimal_digit is_letter is_alpha is_uri is_tag is_anchor_name are_marks plain_element single_quoted_element double_quoted_element is_character_code numeric_escape escape begins_with_marker plain_value single_quoted_value double_quoted_value sign_of digit_of is_empty_line is_content_line row_of octet_at lead_of is_trail escaped_character uri_character directive_of
+unfolding cut_on_literals
 header_tab h = absurd h.1.1.1.1
 
 -- text that is deeper than the block, and before the content column of a scalar without content
@@ -106,7 +102,7 @@ not_clear : HasRow (codes "a: |\n   \n b") (record {
       [];
   last = [];
 }) → ⊥
-unfolding is_blank is_break is_nul is_blank_or_end is_flow is_decimal_digit is_letter is_alpha is_uri is_tag is_anchor_name are_marks plain_element single_quoted_element double_quoted_element is_character_code numeric_escape escape begins_with_marker plain_value single_quoted_value double_quoted_value sign_of digit_of is_empty_line is_content_line row_of octet_at lead_of is_trail escaped_character uri_character directive_of
+unfolding cut_on_literals
 not_clear h = absurd h.1.1.1.1
 
 -- a TAB between two dashes
@@ -118,7 +114,7 @@ dash_tab : HasRow (codes "-\t- a") (record {
       [];
   last = [];
 }) → ⊥
-unfolding is_blank is_break is_nul is_blank_or_end is_flow is_decimal_digit is_letter is_alpha is_uri is_tag is_anchor_name are_marks plain_element single_quoted_element double_quoted_element is_character_code numeric_escape escape begins_with_marker plain_value single_quoted_value double_quoted_value sign_of digit_of is_empty_line is_content_line row_of octet_at lead_of is_trail escaped_character uri_character directive_of
+unfolding cut_on_literals
 dash_tab h = absurd h.1.1
 
 -- TABs alone between a colon and a letter
@@ -130,7 +126,7 @@ colon_tab : HasRow (codes "a:\tb") (record {
       [];
   last = [];
 }) → ⊥
-unfolding is_blank is_break is_nul is_blank_or_end is_flow is_decimal_digit is_letter is_alpha is_uri is_tag is_anchor_name are_marks plain_element single_quoted_element double_quoted_element is_character_code numeric_escape escape begins_with_marker plain_value single_quoted_value double_quoted_value sign_of digit_of is_empty_line is_content_line row_of octet_at lead_of is_trail escaped_character uri_character directive_of
+unfolding cut_on_literals
 colon_tab h = absurd h.1.1.1
 
 -- a comment directly after a bracket
@@ -141,7 +137,7 @@ bracket_comment : HasRow (codes "[#\n]") (record {
       [];
   last = [];
 }) → ⊥
-unfolding is_blank is_break is_nul is_blank_or_end is_flow is_decimal_digit is_letter is_alpha is_uri is_tag is_anchor_name are_marks plain_element single_quoted_element double_quoted_element is_character_code numeric_escape escape begins_with_marker plain_value single_quoted_value double_quoted_value sign_of digit_of is_empty_line is_content_line row_of octet_at lead_of is_trail escaped_character uri_character directive_of
+unfolding cut_on_literals
 bracket_comment h = absurd h.1.1
 
 -- a dash between a blank and a flow indicator
@@ -153,7 +149,7 @@ plain_dash : HasRow (codes "[a -]") (record {
       [];
   last = [];
 }) → ⊥
-unfolding is_blank is_break is_nul is_blank_or_end is_flow is_decimal_digit is_letter is_alpha is_uri is_tag is_anchor_name are_marks plain_element single_quoted_element double_quoted_element is_character_code numeric_escape escape begins_with_marker plain_value single_quoted_value double_quoted_value sign_of digit_of is_empty_line is_content_line row_of octet_at lead_of is_trail escaped_character uri_character directive_of
+unfolding cut_on_literals
 plain_dash h = absurd h.1.1.1
 
 -- text on the line of a document's end
@@ -164,7 +160,7 @@ after_document_end : HasRow (codes "... a") (record {
       [];
   last = [];
 }) → ⊥
-unfolding is_blank is_break is_nul is_blank_or_end is_flow is_decimal_digit is_letter is_alpha is_uri is_tag is_anchor_name are_marks plain_element single_quoted_element double_quoted_element is_character_code numeric_escape escape begins_with_marker plain_value single_quoted_value double_quoted_value sign_of digit_of is_empty_line is_content_line row_of octet_at lead_of is_trail escaped_character uri_character directive_of
+unfolding cut_on_literals
 after_document_end h = absurd h.1.1
 
 -- a TAB between `?` and the next piece
@@ -175,7 +171,7 @@ question_tab : HasRow (codes "? \ta") (record {
       [];
   last = [];
 }) → ⊥
-unfolding is_blank is_break is_nul is_blank_or_end is_flow is_decimal_digit is_letter is_alpha is_uri is_tag is_anchor_name are_marks plain_element single_quoted_element double_quoted_element is_character_code numeric_escape escape begins_with_marker plain_value single_quoted_value double_quoted_value sign_of digit_of is_empty_line is_content_line row_of octet_at lead_of is_trail escaped_character uri_character directive_of
+unfolding cut_on_literals
 question_tab h = absurd h.1.1
 
 -- a key and its colon on two lines
@@ -186,7 +182,7 @@ key_over_break : HasRow (codes "a\n:") (record {
       [];
   last = [];
 }) → ⊥
-unfolding is_blank is_break is_nul is_blank_or_end is_flow is_decimal_digit is_letter is_alpha is_uri is_tag is_anchor_name are_marks plain_element single_quoted_element double_quoted_element is_character_code numeric_escape escape begins_with_marker plain_value single_quoted_value double_quoted_value sign_of digit_of is_empty_line is_content_line row_of octet_at lead_of is_trail escaped_character uri_character directive_of
+unfolding cut_on_literals
 key_over_break h = absurd h.1.1.1
 
 -- a key of two lines
@@ -198,7 +194,7 @@ key_with_break : HasRow (codes "a\nb: c") (record {
       [];
   last = [];
 }) → ⊥
-unfolding is_blank is_break is_nul is_blank_or_end is_flow is_decimal_digit is_letter is_alpha is_uri is_tag is_anchor_name are_marks plain_element single_quoted_element double_quoted_element is_character_code numeric_escape escape begins_with_marker plain_value single_quoted_value double_quoted_value sign_of digit_of is_empty_line is_content_line row_of octet_at lead_of is_trail escaped_character uri_character directive_of
+unfolding cut_on_literals
 key_with_break h = absurd h.1.1
 
 -- a key where none may begin
@@ -212,7 +208,7 @@ key_in_value : HasRow (codes "a: b: c") (record {
       [];
   last = [];
 }) → ⊥
-unfolding is_blank is_break is_nul is_blank_or_end is_flow is_decimal_digit is_letter is_alpha is_uri is_tag is_anchor_name are_marks plain_element single_quoted_element double_quoted_element is_character_code numeric_escape escape begins_with_marker plain_value single_quoted_value double_quoted_value sign_of digit_of is_empty_line is_content_line row_of octet_at lead_of is_trail escaped_character uri_character directive_of
+unfolding cut_on_literals
 key_in_value h = absurd h.1.1.1.1
 
 -- a node in the column of its mapping that is no key
@@ -225,7 +221,7 @@ no_key : HasRow (codes "a: b\nc") (record {
       [];
   last = [];
 }) → ⊥
-unfolding is_blank is_break is_nul is_blank_or_end is_flow is_decimal_digit is_letter is_alpha is_uri is_tag is_anchor_name are_marks plain_element single_quoted_element double_quoted_element is_character_code numeric_escape escape begins_with_marker plain_value single_quoted_value double_quoted_value sign_of digit_of is_empty_line is_content_line row_of octet_at lead_of is_trail escaped_character uri_character directive_of
+unfolding cut_on_literals
 no_key h = absurd h.1.1.1.1.1
 
 -- a block scalar there
@@ -238,7 +234,7 @@ no_key_block_scalar : HasRow (codes "a: b\n|\n c") (record {
       [];
   last = [];
 }) → ⊥
-unfolding is_blank is_break is_nul is_blank_or_end is_flow is_decimal_digit is_letter is_alpha is_uri is_tag is_anchor_name are_marks plain_element single_quoted_element double_quoted_element is_character_code numeric_escape escape begins_with_marker plain_value single_quoted_value double_quoted_value sign_of digit_of is_empty_line is_content_line row_of octet_at lead_of is_trail escaped_character uri_character directive_of
+unfolding cut_on_literals
 no_key_block_scalar h = absurd h.1.1.1.1.1
 
 -- an entry where no key may begin
@@ -251,5 +247,5 @@ dash_in_value : HasRow (codes "a: - b") (record {
       [];
   last = [];
 }) → ⊥
-unfolding is_blank is_break is_nul is_blank_or_end is_flow is_decimal_digit is_letter is_alpha is_uri is_tag is_anchor_name are_marks plain_element single_quoted_element double_quoted_element is_character_code numeric_escape escape begins_with_marker plain_value single_quoted_value double_quoted_value sign_of digit_of is_empty_line is_content_line row_of octet_at lead_of is_trail escaped_character uri_character directive_of
+unfolding cut_on_literals
 dash_in_value h = absurd h.1.1.1.1

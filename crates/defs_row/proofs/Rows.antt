@@ -1,12 +1,8 @@
 -- Texts with their rows, and their tokens with positions, by computing.
 use Rattle.std.proofs.Common.{[], ◌∷◌, true, false, inl, refl}
 use Rattle.std.specs.Prelude.{codes}
-use Rattle.defs_text.specs.Classes.{is_blank, is_break, is_nul, is_blank_or_end, is_flow, is_decimal_digit, is_letter, is_alpha, is_uri, is_tag, is_anchor_name, are_marks}
-use Rattle.defs_scalar.specs.FlowScalar.{plain_element, single_quoted_element, double_quoted_element, is_character_code, numeric_escape, escape, begins_with_marker, plain_value, single_quoted_value, double_quoted_value}
-use Rattle.defs_scalar.specs.BlockScalar.{sign_of, digit_of, is_empty_line, is_content_line, row_of}
-use Rattle.defs_scalar.specs.Tags.{octet_at, lead_of, is_trail, escaped_character, uri_character}
-use Rattle.defs_scalar.specs.Directives.{directive_of}
 use Rattle.defs_token.specs.Token.{stream_start, stream_end, block_sequence_start, block_mapping_start, block_end, flow_sequence_start, flow_sequence_end, flow_mapping_start, flow_mapping_end, block_entry, flow_entry, key, value, alias, anchor, tag, scalar, plain, double_quoted}
+use Rattle.defs_token.proofs.OnLiterals.{cut_on_literals}
 use Rattle.defs_row.specs.Step.{Row}
 use Rattle.defs_row.specs.Tokens.{put}
 use Rattle.defs_row.specs.Row.{IsRead}
@@ -24,7 +20,7 @@ empty : IsRead ([]) (
     put (position 0 1 0) stream_start ∷
     put (position 0 1 0) stream_end ∷
     [])
-unfolding is_blank is_break is_nul is_blank_or_end is_flow is_decimal_digit is_letter is_alpha is_uri is_tag is_anchor_name are_marks plain_element single_quoted_element double_quoted_element is_character_code numeric_escape escape begins_with_marker plain_value single_quoted_value double_quoted_value sign_of digit_of is_empty_line is_content_line row_of octet_at lead_of is_trail escaped_character uri_character directive_of
+unfolding cut_on_literals
 empty = (empty_row, (refl, (refl, refl)), refl)
 
 -- one plain scalar
@@ -41,7 +37,7 @@ one_scalar : IsRead (codes "a") (
     put (position 0 1 0) (scalar plain (codes "a")) ∷
     put (position 1 2 0) stream_end ∷
     [])
-unfolding is_blank is_break is_nul is_blank_or_end is_flow is_decimal_digit is_letter is_alpha is_uri is_tag is_anchor_name are_marks plain_element single_quoted_element double_quoted_element is_character_code numeric_escape escape begins_with_marker plain_value single_quoted_value double_quoted_value sign_of digit_of is_empty_line is_content_line row_of octet_at lead_of is_trail escaped_character uri_character directive_of
+unfolding cut_on_literals
 one_scalar = (one_scalar_row, (refl, ((refl, (refl, ((refl, refl, refl), refl))), (refl, refl))), refl)
 
 -- a plain scalar of two lines
@@ -58,7 +54,7 @@ two_lines : IsRead (codes "a\n b\n") (
     put (position 0 1 0) (scalar plain (codes "a b")) ∷
     put (position 5 3 0) stream_end ∷
     [])
-unfolding is_blank is_break is_nul is_blank_or_end is_flow is_decimal_digit is_letter is_alpha is_uri is_tag is_anchor_name are_marks plain_element single_quoted_element double_quoted_element is_character_code numeric_escape escape begins_with_marker plain_value single_quoted_value double_quoted_value sign_of digit_of is_empty_line is_content_line row_of octet_at lead_of is_trail escaped_character uri_character directive_of
+unfolding cut_on_literals
 two_lines = (two_lines_row, (refl, ((refl, (refl, ((refl, refl, refl), refl))), (refl, refl))), refl)
 
 -- a mapping stands before its implicit key, and its start has the position of the colon
@@ -82,7 +78,7 @@ pub one_pair : IsRead (codes "a: b\n") (
     put (position 5 2 0) block_end ∷
     put (position 5 2 0) stream_end ∷
     [])
-unfolding is_blank is_break is_nul is_blank_or_end is_flow is_decimal_digit is_letter is_alpha is_uri is_tag is_anchor_name are_marks plain_element single_quoted_element double_quoted_element is_character_code numeric_escape escape begins_with_marker plain_value single_quoted_value double_quoted_value sign_of digit_of is_empty_line is_content_line row_of octet_at lead_of is_trail escaped_character uri_character directive_of
+unfolding cut_on_literals
 one_pair = (one_pair_row, (refl, ((refl, (refl, ((refl, refl, refl), refl))), ((refl, (refl, (refl, refl))), ((refl, (refl, ((refl, refl, refl), refl))), (refl, refl))))), refl)
 
 -- the second key joins the mapping
@@ -113,7 +109,7 @@ two_pairs : IsRead (codes "a: b\nc: d\n") (
     put (position 10 3 0) block_end ∷
     put (position 10 3 0) stream_end ∷
     [])
-unfolding is_blank is_break is_nul is_blank_or_end is_flow is_decimal_digit is_letter is_alpha is_uri is_tag is_anchor_name are_marks plain_element single_quoted_element double_quoted_element is_character_code numeric_escape escape begins_with_marker plain_value single_quoted_value double_quoted_value sign_of digit_of is_empty_line is_content_line row_of octet_at lead_of is_trail escaped_character uri_character directive_of
+unfolding cut_on_literals
 two_pairs = (two_pairs_row, (refl, ((refl, (refl, ((refl, refl, refl), refl))), ((refl, (refl, (refl, refl))), ((refl, (refl, ((refl, refl, refl), refl))), ((refl, (refl, ((refl, refl, refl), refl))), ((refl, (refl, (refl, refl))), ((refl, (refl, ((refl, refl, refl), refl))), (refl, refl)))))))), refl)
 
 -- a deeper key opens a mapping; a key in an outer column ends the inner one
@@ -151,7 +147,7 @@ nested : IsRead (codes "a:\n  b: c\nd: e\n") (
     put (position 15 4 0) block_end ∷
     put (position 15 4 0) stream_end ∷
     [])
-unfolding is_blank is_break is_nul is_blank_or_end is_flow is_decimal_digit is_letter is_alpha is_uri is_tag is_anchor_name are_marks plain_element single_quoted_element double_quoted_element is_character_code numeric_escape escape begins_with_marker plain_value single_quoted_value double_quoted_value sign_of digit_of is_empty_line is_content_line row_of octet_at lead_of is_trail escaped_character uri_character directive_of
+unfolding cut_on_literals
 nested = (nested_row, (refl, ((refl, (refl, ((refl, refl, refl), refl))), ((refl, (refl, (refl, refl))), ((refl, (refl, ((refl, refl, refl), refl))), ((refl, (refl, (refl, refl))), ((refl, (refl, ((refl, refl, refl), refl))), ((refl, (refl, ((refl, refl, refl), refl))), ((refl, (refl, (refl, refl))), ((refl, (refl, ((refl, refl, refl), refl))), (refl, refl)))))))))), refl)
 
 -- a dash's token stands after the blanks after it and a comment
@@ -176,7 +172,7 @@ dashes : IsRead (codes "- a\n-  # c\n  b\n") (
     put (position 15 4 0) block_end ∷
     put (position 15 4 0) stream_end ∷
     [])
-unfolding is_blank is_break is_nul is_blank_or_end is_flow is_decimal_digit is_letter is_alpha is_uri is_tag is_anchor_name are_marks plain_element single_quoted_element double_quoted_element is_character_code numeric_escape escape begins_with_marker plain_value single_quoted_value double_quoted_value sign_of digit_of is_empty_line is_content_line row_of octet_at lead_of is_trail escaped_character uri_character directive_of
+unfolding cut_on_literals
 dashes = (dashes_row, (refl, ((refl, (refl, (refl, refl, refl))), ((refl, (refl, ((refl, refl, refl), refl))), ((refl, (refl, (refl, refl, refl))), ((refl, (refl, ((refl, refl, refl), refl))), (refl, refl)))))), refl)
 
 -- sequences in a sequence, ended by the first piece left of their column
@@ -209,7 +205,7 @@ dash_dash : IsRead (codes "- - a\n  - b\n- c\n") (
     put (position 16 4 0) block_end ∷
     put (position 16 4 0) stream_end ∷
     [])
-unfolding is_blank is_break is_nul is_blank_or_end is_flow is_decimal_digit is_letter is_alpha is_uri is_tag is_anchor_name are_marks plain_element single_quoted_element double_quoted_element is_character_code numeric_escape escape begins_with_marker plain_value single_quoted_value double_quoted_value sign_of digit_of is_empty_line is_content_line row_of octet_at lead_of is_trail escaped_character uri_character directive_of
+unfolding cut_on_literals
 dash_dash = (dash_dash_row, (refl, ((refl, (refl, (refl, refl, refl))), ((refl, (refl, (refl, refl, refl))), ((refl, (refl, ((refl, refl, refl), refl))), ((refl, (refl, (refl, refl, refl))), ((refl, (refl, ((refl, refl, refl), refl))), ((refl, (refl, (refl, refl, refl))), ((refl, (refl, ((refl, refl, refl), refl))), (refl, refl))))))))), refl)
 
 -- a sequence at the column of its key has no start and no end
@@ -242,7 +238,7 @@ pub at_key_column : IsRead (codes "a:\n- b\nc: d\n") (
     put (position 12 4 0) block_end ∷
     put (position 12 4 0) stream_end ∷
     [])
-unfolding is_blank is_break is_nul is_blank_or_end is_flow is_decimal_digit is_letter is_alpha is_uri is_tag is_anchor_name are_marks plain_element single_quoted_element double_quoted_element is_character_code numeric_escape escape begins_with_marker plain_value single_quoted_value double_quoted_value sign_of digit_of is_empty_line is_content_line row_of octet_at lead_of is_trail escaped_character uri_character directive_of
+unfolding cut_on_literals
 at_key_column = (at_key_column_row, (refl, ((refl, (refl, ((refl, refl, refl), refl))), ((refl, (refl, (refl, refl))), ((refl, (refl, (refl, refl, refl))), ((refl, (refl, ((refl, refl, refl), refl))), ((refl, (refl, ((refl, refl, refl), refl))), ((refl, (refl, (refl, refl))), ((refl, (refl, ((refl, refl, refl), refl))), (refl, refl))))))))), refl)
 
 -- an explicit key, and its value
@@ -267,7 +263,7 @@ question : IsRead (codes "? a\n: b\n") (
     put (position 8 3 0) block_end ∷
     put (position 8 3 0) stream_end ∷
     [])
-unfolding is_blank is_break is_nul is_blank_or_end is_flow is_decimal_digit is_letter is_alpha is_uri is_tag is_anchor_name are_marks plain_element single_quoted_element double_quoted_element is_character_code numeric_escape escape begins_with_marker plain_value single_quoted_value double_quoted_value sign_of digit_of is_empty_line is_content_line row_of octet_at lead_of is_trail escaped_character uri_character directive_of
+unfolding cut_on_literals
 question = (question_row, (refl, ((refl, (refl, inl (refl, refl))), ((refl, (refl, ((refl, refl, refl), refl))), ((refl, (refl, (refl, refl))), ((refl, (refl, ((refl, refl, refl), refl))), (refl, refl)))))), refl)
 
 -- a colon with an empty key
@@ -288,7 +284,7 @@ empty_key : IsRead (codes ": a\n") (
     put (position 4 2 0) block_end ∷
     put (position 4 2 0) stream_end ∷
     [])
-unfolding is_blank is_break is_nul is_blank_or_end is_flow is_decimal_digit is_letter is_alpha is_uri is_tag is_anchor_name are_marks plain_element single_quoted_element double_quoted_element is_character_code numeric_escape escape begins_with_marker plain_value single_quoted_value double_quoted_value sign_of digit_of is_empty_line is_content_line row_of octet_at lead_of is_trail escaped_character uri_character directive_of
+unfolding cut_on_literals
 empty_key = (empty_key_row, (refl, ((refl, (refl, (refl, refl))), ((refl, (refl, ((refl, refl, refl), refl))), (refl, refl)))), refl)
 
 -- after an empty key's colon a key may begin
@@ -316,7 +312,7 @@ key_with_colon_next : IsRead (codes ": a: b\n") (
     put (position 7 2 0) block_end ∷
     put (position 7 2 0) stream_end ∷
     [])
-unfolding is_blank is_break is_nul is_blank_or_end is_flow is_decimal_digit is_letter is_alpha is_uri is_tag is_anchor_name are_marks plain_element single_quoted_element double_quoted_element is_character_code numeric_escape escape begins_with_marker plain_value single_quoted_value double_quoted_value sign_of digit_of is_empty_line is_content_line row_of octet_at lead_of is_trail escaped_character uri_character directive_of
+unfolding cut_on_literals
 key_with_colon_next = (key_with_colon_next_row, (refl, ((refl, (refl, (refl, refl))), ((refl, (refl, ((refl, refl, refl), refl))), ((refl, (refl, (refl, refl))), ((refl, (refl, ((refl, refl, refl), refl))), (refl, refl)))))), refl)
 
 -- a key begins with its first property
@@ -344,7 +340,7 @@ properties : IsRead (codes "&x !t a: *x \n") (
     put (position 13 2 0) block_end ∷
     put (position 13 2 0) stream_end ∷
     [])
-unfolding is_blank is_break is_nul is_blank_or_end is_flow is_decimal_digit is_letter is_alpha is_uri is_tag is_anchor_name are_marks plain_element single_quoted_element double_quoted_element is_character_code numeric_escape escape begins_with_marker plain_value single_quoted_value double_quoted_value sign_of digit_of is_empty_line is_content_line row_of octet_at lead_of is_trail escaped_character uri_character directive_of
+unfolding cut_on_literals
 properties = (properties_row, (refl, ((refl, (refl, ((refl, refl, refl), refl))), ((refl, (refl, ((refl, refl), refl))), ((refl, (refl, ((refl, refl, refl), refl))), ((refl, (refl, (refl, refl))), ((refl, (refl, ((refl, refl, refl), refl))), (refl, refl))))))), refl)
 
 -- an anchor before a mapping, on a line of its own
@@ -377,7 +373,7 @@ anchors_apart : IsRead (codes "k:\n  &x\n  a: b\n") (
     put (position 15 4 0) block_end ∷
     put (position 15 4 0) stream_end ∷
     [])
-unfolding is_blank is_break is_nul is_blank_or_end is_flow is_decimal_digit is_letter is_alpha is_uri is_tag is_anchor_name are_marks plain_element single_quoted_element double_quoted_element is_character_code numeric_escape escape begins_with_marker plain_value single_quoted_value double_quoted_value sign_of digit_of is_empty_line is_content_line row_of octet_at lead_of is_trail escaped_character uri_character directive_of
+unfolding cut_on_literals
 anchors_apart = (anchors_apart_row, (refl, ((refl, (refl, ((refl, refl, refl), refl))), ((refl, (refl, (refl, refl))), ((refl, (refl, ((refl, refl, refl), refl))), ((refl, (refl, ((refl, refl, refl), refl))), ((refl, (refl, (refl, refl))), ((refl, (refl, ((refl, refl, refl), refl))), (refl, refl)))))))), refl)
 
 -- entries of a flow sequence
@@ -402,7 +398,7 @@ flow_sequence : IsRead (codes "[a, b]") (
     put (position 5 1 5) flow_sequence_end ∷
     put (position 6 2 0) stream_end ∷
     [])
-unfolding is_blank is_break is_nul is_blank_or_end is_flow is_decimal_digit is_letter is_alpha is_uri is_tag is_anchor_name are_marks plain_element single_quoted_element double_quoted_element is_character_code numeric_escape escape begins_with_marker plain_value single_quoted_value double_quoted_value sign_of digit_of is_empty_line is_content_line row_of octet_at lead_of is_trail escaped_character uri_character directive_of
+unfolding cut_on_literals
 flow_sequence = (flow_sequence_row, (refl, ((refl, (refl, ((refl, refl), refl))), ((refl, (refl, ((refl, refl, refl), refl))), ((refl, (refl, ((refl, refl), refl))), ((refl, (refl, ((refl, refl, refl), refl))), ((refl, (refl, ((refl, refl), refl))), (refl, refl))))))), refl)
 
 -- an implicit key in a flow mapping has no start
@@ -432,7 +428,7 @@ flow_mapping : IsRead (codes "{a: b, c}") (
     put (position 8 1 8) flow_mapping_end ∷
     put (position 9 2 0) stream_end ∷
     [])
-unfolding is_blank is_break is_nul is_blank_or_end is_flow is_decimal_digit is_letter is_alpha is_uri is_tag is_anchor_name are_marks plain_element single_quoted_element double_quoted_element is_character_code numeric_escape escape begins_with_marker plain_value single_quoted_value double_quoted_value sign_of digit_of is_empty_line is_content_line row_of octet_at lead_of is_trail escaped_character uri_character directive_of
+unfolding cut_on_literals
 flow_mapping = (flow_mapping_row, (refl, ((refl, (refl, inl ((refl, refl), refl))), ((refl, (refl, ((refl, refl, refl), refl))), ((refl, (refl, (refl, refl))), ((refl, (refl, ((refl, refl, refl), refl))), ((refl, (refl, ((refl, refl), refl))), ((refl, (refl, ((refl, refl, refl), refl))), ((refl, (refl, inl ((refl, refl), refl))), (refl, refl))))))))), refl)
 
 -- a single pair: its start has the position after its colon
@@ -460,7 +456,7 @@ single_pair : IsRead (codes "[a: b]") (
     put (position 5 1 5) flow_sequence_end ∷
     put (position 6 2 0) stream_end ∷
     [])
-unfolding is_blank is_break is_nul is_blank_or_end is_flow is_decimal_digit is_letter is_alpha is_uri is_tag is_anchor_name are_marks plain_element single_quoted_element double_quoted_element is_character_code numeric_escape escape begins_with_marker plain_value single_quoted_value double_quoted_value sign_of digit_of is_empty_line is_content_line row_of octet_at lead_of is_trail escaped_character uri_character directive_of
+unfolding cut_on_literals
 single_pair = (single_pair_row, (refl, ((refl, (refl, ((refl, refl), refl))), ((refl, (refl, ((refl, refl, refl), refl))), ((refl, (refl, (refl, refl))), ((refl, (refl, ((refl, refl, refl), refl))), ((refl, (refl, ((refl, refl), refl))), (refl, refl))))))), refl)
 
 -- a single pair with an empty key starts at its colon
@@ -489,7 +485,7 @@ single_pair_empty : IsRead (codes "[: a, b]") (
     put (position 7 1 7) flow_sequence_end ∷
     put (position 8 2 0) stream_end ∷
     [])
-unfolding is_blank is_break is_nul is_blank_or_end is_flow is_decimal_digit is_letter is_alpha is_uri is_tag is_anchor_name are_marks plain_element single_quoted_element double_quoted_element is_character_code numeric_escape escape begins_with_marker plain_value single_quoted_value double_quoted_value sign_of digit_of is_empty_line is_content_line row_of octet_at lead_of is_trail escaped_character uri_character directive_of
+unfolding cut_on_literals
 single_pair_empty = (single_pair_empty_row, (refl, ((refl, (refl, ((refl, refl), refl))), ((refl, (refl, (refl, refl))), ((refl, (refl, ((refl, refl, refl), refl))), ((refl, (refl, ((refl, refl), refl))), ((refl, (refl, ((refl, refl, refl), refl))), ((refl, (refl, ((refl, refl), refl))), (refl, refl)))))))), refl)
 
 -- a pair after `?` has no start
@@ -516,7 +512,7 @@ asked_pair : IsRead (codes "[? a : b]") (
     put (position 8 1 8) flow_sequence_end ∷
     put (position 9 2 0) stream_end ∷
     [])
-unfolding is_blank is_break is_nul is_blank_or_end is_flow is_decimal_digit is_letter is_alpha is_uri is_tag is_anchor_name are_marks plain_element single_quoted_element double_quoted_element is_character_code numeric_escape escape begins_with_marker plain_value single_quoted_value double_quoted_value sign_of digit_of is_empty_line is_content_line row_of octet_at lead_of is_trail escaped_character uri_character directive_of
+unfolding cut_on_literals
 asked_pair = (asked_pair_row, (refl, ((refl, (refl, ((refl, refl), refl))), ((refl, (refl, inl (refl, refl))), ((refl, (refl, ((refl, refl, refl), refl))), ((refl, (refl, (refl, refl))), ((refl, (refl, ((refl, refl, refl), refl))), ((refl, (refl, ((refl, refl), refl))), (refl, refl)))))))), refl)
 
 -- a colon next to a quoted key
@@ -542,7 +538,7 @@ adjacent : IsRead (codes "{\"a\":b}") (
     put (position 6 1 6) flow_mapping_end ∷
     put (position 7 2 0) stream_end ∷
     [])
-unfolding is_blank is_break is_nul is_blank_or_end is_flow is_decimal_digit is_letter is_alpha is_uri is_tag is_anchor_name are_marks plain_element single_quoted_element double_quoted_element is_character_code numeric_escape escape begins_with_marker plain_value single_quoted_value double_quoted_value sign_of digit_of is_empty_line is_content_line row_of octet_at lead_of is_trail escaped_character uri_character directive_of
+unfolding cut_on_literals
 adjacent = (adjacent_row, (refl, ((refl, (refl, inl ((refl, refl), refl))), ((refl, (refl, ((codes "a", refl, refl), refl))), ((refl, (refl, (refl, refl))), ((refl, (refl, ((refl, refl, refl), refl))), ((refl, (refl, inl ((refl, refl), refl))), (refl, refl))))))), refl)
 
 -- a colon next to a flow collection
@@ -574,5 +570,5 @@ adjacent_collection : IsRead (codes "[[a]:b]") (
     put (position 6 1 6) flow_sequence_end ∷
     put (position 7 2 0) stream_end ∷
     [])
-unfolding is_blank is_break is_nul is_blank_or_end is_flow is_decimal_digit is_letter is_alpha is_uri is_tag is_anchor_name are_marks plain_element single_quoted_element double_quoted_element is_character_code numeric_escape escape begins_with_marker plain_value single_quoted_value double_quoted_value sign_of digit_of is_empty_line is_content_line row_of octet_at lead_of is_trail escaped_character uri_character directive_of
+unfolding cut_on_literals
 adjacent_collection = (adjacent_collection_row, (refl, ((refl, (refl, ((refl, refl), refl))), ((refl, (refl, ((refl, refl), refl))), ((refl, (refl, ((refl, refl, refl), refl))), ((refl, (refl, ((refl, refl), refl))), ((refl, (refl, (refl, refl))), ((refl, (refl, ((refl, refl, refl), refl))), ((refl, (refl, ((refl, refl), refl))), (refl, refl))))))))), refl)

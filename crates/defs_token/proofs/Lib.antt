@@ -6,7 +6,7 @@ pub mod InsertedPair
 mod Limits
 mod LongDirective
 mod MoreRows
-mod OnLiterals
+pub mod OnLiterals
 pub mod Shown
 mod WrongPair
 mod WrongStart
