@@ -24,18 +24,7 @@ record RealRows : Type 0 where
 
 real_rows : RealRows
 unfolding is_json_number
-real_rows = record {
-  with_fraction = refl;
-  with_exponent = refl;
-  above_greatest = refl;
-  greatest = refl;
-  leading_zero = refl;
-  leading_plus = refl;
-  no_digit_after = refl;
-  no_digit_before = refl;
-  infinity = refl;
-  minus_alone = refl;
-}
+real_rows = search
 
 -- ---- texts
 
@@ -55,10 +44,7 @@ record TextRows : Type 0 where
 
 text_rows : TextRows
 unfolding a_tree written_character digits
-text_rows = record {
-  compact = refl;
-  indented = refl;
-}
+text_rows = search
 
 -- ---- faults
 

@@ -1,5 +1,5 @@
 -- Block scalars and their values, by computing.
-use Rattle.std.proofs.Common.{◌≡◌, ℕ, List, [], true, false, Option, Some, None, refl}
+use Rattle.std.proofs.Common.{◌≡◌, ℕ, List, [], true, false, Option, Some, None}
 use Rattle.std.specs.Prelude.{codes}
 use Rattle.defs_text.specs.Classes.{is_blank, is_break, is_nul, are_marks, is_blank_or_end}
 use Rattle.defs_text.specs.Breaks.{split}
@@ -101,46 +101,4 @@ record Rows : Type 0 where
 
 rows : Rows
 unfolding is_blank is_break is_nul is_blank_or_end are_marks sign_of digit_of is_empty_line is_content_line row_of
-rows = record {
-  folds = refl;
-  literal_strip = refl;
-  digit_from_collection = refl;
-  digit_from_nothing = refl;
-  keeps = refl;
-  strips = refl;
-  clips = refl;
-  end_adds = refl;
-  end_short = refl;
-  end_strip = refl;
-  end_content = refl;
-  end_column_0 = refl;
-  empty_strip = refl;
-  empty_clip = refl;
-  empty_keep = refl;
-  empty_keep_none = refl;
-  text_clip = refl;
-  text_keep = refl;
-  leading_empty = refl;
-  deeper_spaces = refl;
-  spaces_are_content = refl;
-  blank_lines_fold = refl;
-  breaks_alike = refl;
-  tab_first = refl;
-  tab_in_indentation = refl;
-  marker_at_0 = refl;
-  marker_at_1 = refl;
-  header_alone = refl;
-  header_both = refl;
-  header_both_turned = refl;
-  header_tab = refl;
-  header_zero = refl;
-  header_two_digits = refl;
-  header_two_signs = refl;
-  header_hash = refl;
-  header_text = refl;
-  further = refl;
-  not_further = refl;
-  not_further_empty = refl;
-  further_marker = refl;
-  not_further_0 = refl;
-}
+rows = search

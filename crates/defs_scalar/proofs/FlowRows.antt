@@ -1,5 +1,5 @@
 -- Flow scalars and their values, by computing.
-use Rattle.std.proofs.Common.{◌≡◌, [], ◌∷◌, Some, None, refl}
+use Rattle.std.proofs.Common.{◌≡◌, [], ◌∷◌, Some, None}
 use Rattle.std.specs.Prelude.{codes}
 use Rattle.defs_text.specs.Classes.{is_blank, is_break, is_nul, are_marks}
 use Rattle.defs_scalar.specs.FlowScalar.{plain_element, single_quoted_element, double_quoted_element, is_character_code, numeric_escape, escape, begins_with_marker, plain_value, single_quoted_value, double_quoted_value}
@@ -54,31 +54,7 @@ record DoubleQuotedRows : Type 0 where
 
 double_quoted_rows : DoubleQuotedRows
 unfolding is_blank is_break is_nul are_marks plain_element double_quoted_element is_character_code numeric_escape escape begins_with_marker double_quoted_value
-double_quoted_rows = record {
-  folds = refl;
-  by_number = refl;
-  by_letter = refl;
-  too_few_digits = refl;
-  no_digit = refl;
-  unknown_escape = refl;
-  surrogate = refl;
-  last_character = refl;
-  above_last_character = refl;
-  quote_alone = refl;
-  backslash_last = refl;
-  end_inside = refl;
-  escaped_blank = refl;
-  blanks_before_escaped_break = refl;
-  empty_after_escaped = refl;
-  backslash_then_break = refl;
-  escaped_twice = refl;
-  first_line_empty = refl;
-  one_empty_line = refl;
-  marker_inside = refl;
-  marker_after_escaped = refl;
-  marker_indented = refl;
-  marker_between_escapes = refl;
-}
+double_quoted_rows = search
 
 record SingleQuotedRows : Type 0 where
   -- two single quotes are one
@@ -96,14 +72,7 @@ record SingleQuotedRows : Type 0 where
 
 single_quoted_rows : SingleQuotedRows
 unfolding is_blank is_break is_nul are_marks plain_element single_quoted_element begins_with_marker single_quoted_value
-single_quoted_rows = record {
-  doubled = refl;
-  single_alone = refl;
-  backslash_is_itself = refl;
-  own_blanks = refl;
-  marker_at_quote = refl;
-  marker_first = refl;
-}
+single_quoted_rows = search
 
 record PlainRows : Type 0 where
   -- a plain scalar over lines
@@ -115,8 +84,4 @@ record PlainRows : Type 0 where
 
 plain_rows : PlainRows
 unfolding is_blank is_break are_marks plain_element begins_with_marker plain_value
-plain_rows = record {
-  plain_lines = refl;
-  breaks_alike = refl;
-  other_separators = refl;
-}
+plain_rows = search

@@ -1,5 +1,5 @@
 -- Tags, handles, URIs and directives, by computing.
-use Rattle.std.proofs.Common.{◌≡◌, [], ◌∷◌, ◌++◌, true, false, Some, None, Ok, Err, refl}
+use Rattle.std.proofs.Common.{◌≡◌, [], ◌∷◌, ◌++◌, true, false, Some, None, Ok, Err}
 use Rattle.std.specs.Prelude.{codes}
 use Rattle.defs_text.specs.Classes.{is_blank, is_break, is_nul, is_blank_or_end, is_flow, is_decimal_digit, is_letter, is_alpha, is_uri, is_tag, is_anchor_name, are_marks, is_document_marker}
 use Rattle.defs_scalar.specs.FlowScalar.{is_character_code}
@@ -42,24 +42,7 @@ record OctetRows : Type 0 where
 
 octet_rows : OctetRows
 unfolding octet_at lead_of is_trail is_character_code escaped_character uri_character
-octet_rows = record {
-  two_octets = refl;
-  one_octet = refl;
-  three_octets = refl;
-  four_octets = refl;
-  overlong_two = refl;
-  overlong_three = refl;
-  least_three = refl;
-  overlong_four = refl;
-  surrogate = refl;
-  last = refl;
-  above = refl;
-  lead_f8 = refl;
-  trail_alone = refl;
-  no_second = refl;
-  wrong_second = refl;
-  one_digit = refl;
-}
+octet_rows = search
 
 record WrittenRows : Type 0 where
   -- a verbatim tag
@@ -87,19 +70,7 @@ record WrittenRows : Type 0 where
 
 written_rows : WrittenRows
 unfolding is_flow is_decimal_digit is_letter is_alpha is_uri is_tag octet_at lead_of is_trail is_character_code escaped_character uri_character
-written_rows = record {
-  verbatim_tag = refl;
-  verbatim_open = refl;
-  non_specific = refl;
-  local = refl;
-  secondary = refl;
-  own_handle = refl;
-  escaped_suffix = refl;
-  no_suffix = refl;
-  mark_in_suffix = refl;
-  flow_in_suffix = refl;
-  name_not_alpha = refl;
-}
+written_rows = search
 
 record PrefixRows : Type 0 where
   -- of two declarations the later counts
@@ -117,14 +88,7 @@ record PrefixRows : Type 0 where
 
 prefix_rows : PrefixRows
 unfolding prefix_of
-prefix_rows = record {
-  later_counts = refl;
-  secondary_declared = refl;
-  secondary_default = refl;
-  local_default = refl;
-  verbatim_stays = refl;
-  undeclared = refl;
-}
+prefix_rows = search
 
 record HandleRows : Type 0 where
   -- whether ! is a handle
@@ -140,13 +104,7 @@ record HandleRows : Type 0 where
 
 handle_rows : HandleRows
 unfolding is_flow is_decimal_digit is_letter is_alpha is_uri is_tag octet_at lead_of is_trail is_character_code escaped_character uri_character
-handle_rows = record {
-  handle_1 = refl;
-  handle_2 = refl;
-  handle_3 = refl;
-  handle_4 = refl;
-  handle_5 = refl;
-}
+handle_rows = search
 
 record DirectiveRows : Type 0 where
   -- a version
@@ -180,22 +138,7 @@ record DirectiveRows : Type 0 where
 
 directive_rows : DirectiveRows
 unfolding is_blank is_break is_nul is_blank_or_end is_flow is_decimal_digit is_letter is_alpha is_uri is_tag octet_at lead_of is_trail is_character_code escaped_character uri_character directive_of
-directive_rows = record {
-  yaml = refl;
-  yaml_comment = refl;
-  yaml_long = refl;
-  yaml_nine = refl;
-  yaml_word = refl;
-  yaml_none = refl;
-  tag_line = refl;
-  tag_local = refl;
-  tag_no_mark = refl;
-  tag_no_prefix = refl;
-  tag_bad_prefix = refl;
-  other_name = refl;
-  no_name = refl;
-  bad_name = refl;
-}
+directive_rows = search
 
 record BreakRows : Type 0 where
   -- U+0085 is no break
@@ -205,10 +148,7 @@ record BreakRows : Type 0 where
 
 break_rows : BreakRows
 unfolding is_break
-break_rows = record {
-  next_line_is_text = refl;
-  separator_is_text = refl;
-}
+break_rows = search
 
 record NameRows : Type 0 where
   -- a colon may stand in an anchor's name
@@ -218,10 +158,7 @@ record NameRows : Type 0 where
 
 name_rows : NameRows
 unfolding is_blank is_break is_nul is_blank_or_end is_flow is_anchor_name
-name_rows = record {
-  colon_in_anchor = refl;
-  byte_order_mark_in_anchor = refl;
-}
+name_rows = search
 
 record MarkerRows : Type 0 where
   -- a document marker before a TAB
@@ -237,10 +174,4 @@ record MarkerRows : Type 0 where
 
 marker_rows : MarkerRows
 unfolding is_blank is_break is_nul is_blank_or_end are_marks
-marker_rows = record {
-  marker = refl;
-  marker_end = refl;
-  marker_nul = refl;
-  no_marker_mixed = refl;
-  no_marker_four = refl;
-}
+marker_rows = search

@@ -1,5 +1,5 @@
 -- The texts that `dump` writes, worked: the first flag is compact, the second multiline.
-use Rattle.std.specs.Prelude.{◌≡◌, pos, true, false, [], ◌∷◌, ◌++◌, refl, codes}
+use Rattle.std.specs.Prelude.{◌≡◌, pos, true, false, [], ◌∷◌, ◌++◌, codes}
 use Rattle.std.specs.Fmt.{digits}
 use Rattle.defs_tree.specs.Tree.{real, integer, string, boolean, array, hash, alias, null, bad_value, no_items, item, no_pairs, pair}
 use Rattle.defs_tree.specs.Typing.{typing, is_decimal}
@@ -37,30 +37,4 @@ record Rows : Type 0 where
 
 rows : Rows
 unfolding is_quoted is_unfit_for_plain typing is_decimal written_character digits is_literal_text is_root_literal is_literal_character
-rows = record {
-  literal_block_as_value = refl;
-  lines_are_escaped_without_the_setting = refl;
-  marker_in_a_root_text = refl;
-  literal_block_at_the_root = refl;
-  octal_look_is_quoted = refl;
-  integer_at_the_root = refl;
-  array_in_an_array = refl;
-  array_in_an_array_spread = refl;
-  hash_as_key = refl;
-  hash_as_key_spread = refl;
-  empty_array_as_key = refl;
-  empty_hash_as_value = refl;
-  empty_line_in_a_literal_block = refl;
-  two_breaks_at_the_end = refl;
-  byte_order_mark = refl;
-  word_of_a_float = refl;
-  colon_in_a_text = refl;
-  bad_value_at_the_root = refl;
-  alias_at_the_root = refl;
-  alias_in_an_array = refl;
-  words_in_an_array = refl;
-  hashes_and_arrays_in_one_another = refl;
-  literal_block_after_a_colon_of_an_array_key = refl;
-  key_is_never_a_literal_block = refl;
-  real_and_booleans = refl;
-}
+rows = search

@@ -1,5 +1,5 @@
 -- Numbers of binary digits, worked.
-use Rattle.std.specs.Prelude.{◌≡◌, refl}
+use Rattle.std.specs.Prelude.{◌≡◌}
 use Rattle.defs_tree.specs.Digits.{binary_digits}
 
 record Rows : Type 0 where
@@ -18,17 +18,4 @@ record Rows : Type 0 where
 
 rows : Rows
 unfolding binary_digits
-rows = record {
-  digits_of_0 = refl;
-  digits_of_1 = refl;
-  digits_of_2 = refl;
-  digits_of_3 = refl;
-  digits_of_4 = refl;
-  digits_of_7 = refl;
-  digits_of_8 = refl;
-  digits_of_255 = refl;
-  digits_of_256 = refl;
-  digits_of_1023 = refl;
-  digits_of_1024 = refl;
-  digits_of_1000000 = refl;
-}
+rows = search

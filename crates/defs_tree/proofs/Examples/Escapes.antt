@@ -1,5 +1,5 @@
 -- Texts in double quotes, worked.
-use Rattle.std.specs.Prelude.{◌≡◌, [], ◌∷◌, refl, codes}
+use Rattle.std.specs.Prelude.{◌≡◌, [], ◌∷◌, codes}
 use Rattle.defs_tree.specs.Escapes.{double_quoted, written_character}
 
 record Rows : Type 0 where
@@ -24,23 +24,4 @@ record Rows : Type 0 where
 
 rows : Rows
 unfolding written_character
-rows = record {
-  plain_letters = refl;
-  empty_quotes = refl;
-  quote_is_escaped = refl;
-  backslash_is_escaped = refl;
-  backspace_is_escaped = refl;
-  tab_is_escaped = refl;
-  line_feed_is_escaped = refl;
-  form_feed_is_escaped = refl;
-  carriage_return_is_escaped = refl;
-  code_0_is_escaped = refl;
-  code_11_is_escaped = refl;
-  code_31_is_escaped = refl;
-  code_127_is_escaped = refl;
-  space_stands = refl;
-  single_quote_stands = refl;
-  slash_stands = refl;
-  code_128_stands = refl;
-  byte_order_mark_stands = refl;
-}
+rows = search

@@ -1,5 +1,5 @@
 -- Texts and their lines, worked, and the same as std's `lines` gives them.
-use Rattle.std.specs.Prelude.{◌≡◌, [], ◌∷◌, refl, codes}
+use Rattle.std.specs.Prelude.{◌≡◌, [], ◌∷◌, codes}
 use Rattle.std.specs.Str.Lines.{lines}
 use Rattle.defs_tree.specs.Lines.{lines_of}
 
@@ -22,21 +22,4 @@ record Rows : Type 0 where
   empty_line_first_as_std_gives_it : lines (codes "\na") ≡ codes "" ∷ codes "a" ∷ []
 
 rows : Rows
-rows = record {
-  no_line = refl;
-  no_line_as_std_gives_it = refl;
-  one_line = refl;
-  one_line_as_std_gives_it = refl;
-  a_final_break_ends_a_line = refl;
-  a_final_break_ends_a_line_as_std_gives_it = refl;
-  two_lines = refl;
-  two_lines_as_std_gives_it = refl;
-  an_empty_line_inside = refl;
-  an_empty_line_inside_as_std_gives_it = refl;
-  an_empty_line_at_the_end = refl;
-  an_empty_line_at_the_end_as_std_gives_it = refl;
-  a_break_alone_is_one_empty_line = refl;
-  a_break_alone_is_one_empty_line_as_std_gives_it = refl;
-  empty_line_first = refl;
-  empty_line_first_as_std_gives_it = refl;
-}
+rows = search

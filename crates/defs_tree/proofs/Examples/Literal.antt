@@ -1,5 +1,5 @@
 -- Which texts may be literal blocks, worked: for each condition one in and one out.
-use Rattle.std.specs.Prelude.{◌≡◌, true, false, [], ◌∷◌, refl, codes}
+use Rattle.std.specs.Prelude.{◌≡◌, true, false, [], ◌∷◌, codes}
 use Rattle.defs_tree.specs.Literal.{is_literal_text, is_root_literal, is_literal_character, literal_header}
 
 record Rows : Type 0 where
@@ -56,55 +56,4 @@ record Rows : Type 0 where
 
 rows : Rows
 unfolding is_literal_text is_root_literal is_literal_character
-rows = record {
-  two_lines = refl;
-  one_line = refl;
-  one_line_and_its_end = refl;
-  empty_text = refl;
-  line_feed_alone = refl;
-  ends_in_one_break = refl;
-  ends_in_two_breaks = refl;
-  empty_line_inside = refl;
-  empty_lines_before = refl;
-  first_line_starts_with_a_space = refl;
-  first_full_line_starts_with_a_space = refl;
-  second_full_line_starts_with_a_space = refl;
-  first_line_starts_with_a_tab = refl;
-  carriage_return = refl;
-  escape_code = refl;
-  code_31 = refl;
-  code_32 = refl;
-  code_126 = refl;
-  code_127 = refl;
-  code_132 = refl;
-  next_line = refl;
-  code_134 = refl;
-  code_159 = refl;
-  code_160 = refl;
-  last_before_the_surrogates = refl;
-  first_surrogate = refl;
-  last_surrogate = refl;
-  first_after_the_surrogates = refl;
-  byte_order_mark = refl;
-  before_the_byte_order_mark = refl;
-  code_65533 = refl;
-  code_65534 = refl;
-  code_65536 = refl;
-  greatest_code = refl;
-  above_the_greatest_code = refl;
-  two_lines_at_the_root = refl;
-  space_first_at_the_root = refl;
-  tab_first_at_the_root = refl;
-  tab_on_a_later_line_at_the_root = refl;
-  tab_after_an_empty_line_at_the_root = refl;
-  dashes_at_the_root = refl;
-  dashes_and_space_at_the_root = refl;
-  dashes_and_tab_at_the_root = refl;
-  points_at_the_root = refl;
-  dashes_and_letter_at_the_root = refl;
-  two_dashes_at_the_root = refl;
-  dashes_after_a_space_at_the_root = refl;
-  dashes_below_the_root = refl;
-  header_of_a_text_with_its_end = refl;
-  header_of_a_text_without_its_end = refl;
-}
+rows = search

@@ -1,5 +1,5 @@
 -- The decimal grammar, real texts and signed decimal numbers, worked.
-use Rattle.std.specs.Prelude.{◌≡◌, pos, negsuc, true, false, Some, None, refl, codes}
+use Rattle.std.specs.Prelude.{◌≡◌, pos, negsuc, true, false, Some, None, codes}
 use Rattle.defs_tree.specs.Typing.{typing, is_decimal, is_real_text, signed_decimal}
 
 record Rows : Type 0 where
@@ -39,38 +39,4 @@ record Rows : Type 0 where
 
 rows : Rows
 unfolding typing is_decimal
-rows = record {
-  decimal_grammar_decimal_digits = refl;
-  decimal_grammar_decimal_with_point = refl;
-  decimal_grammar_point_after = refl;
-  decimal_grammar_point_before = refl;
-  decimal_grammar_signed = refl;
-  decimal_grammar_point_alone = refl;
-  decimal_grammar_nothing = refl;
-  decimal_grammar_sign_alone = refl;
-  decimal_grammar_exponent_without_digits = refl;
-  decimal_grammar_two_signs = refl;
-  decimal_grammar_letter = refl;
-  decimal_grammar_inf = refl;
-  decimal_grammar_exponent_alone = refl;
-  decimal_grammar_capital_exponent = refl;
-  real_text_real = refl;
-  real_text_special_word = refl;
-  real_text_great_integer = refl;
-  real_text_integer = refl;
-  real_text_word = refl;
-  real_text_null = refl;
-  signed_decimal_number = refl;
-  signed_decimal_plus = refl;
-  signed_decimal_minus = refl;
-  signed_decimal_two_signs = refl;
-  signed_decimal_hexadecimal = refl;
-  signed_decimal_nothing = refl;
-  signed_decimal_sign_alone = refl;
-  signed_decimal_greatest = refl;
-  signed_decimal_above_the_greatest = refl;
-  signed_decimal_least = refl;
-  signed_decimal_below_the_least = refl;
-  signed_decimal_real = refl;
-  signed_decimal_zero = refl;
-}
+rows = search

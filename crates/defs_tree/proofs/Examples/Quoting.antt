@@ -1,5 +1,5 @@
 -- Which strings are written in double quotes, worked: for each reason one in, and one out beside its limit.
-use Rattle.std.specs.Prelude.{◌≡◌, true, false, [], ◌∷◌, refl, codes}
+use Rattle.std.specs.Prelude.{◌≡◌, true, false, [], ◌∷◌, codes}
 use Rattle.defs_tree.specs.Typing.{typing, is_decimal}
 use Rattle.defs_tree.specs.Quoting.{is_quoted, is_unfit_for_plain}
 
@@ -85,83 +85,4 @@ record Rows : Type 0 where
 
 rows : Rows
 unfolding is_quoted is_unfit_for_plain typing is_decimal
-rows = record {
-  empty_text = refl;
-  space_before = refl;
-  space_after = refl;
-  space_alone = refl;
-  space_inside = refl;
-  ampersand_first = refl;
-  asterisk_first = refl;
-  question_mark_first = refl;
-  bar_first = refl;
-  dash_first = refl;
-  less_first = refl;
-  greater_first = refl;
-  equals_first = refl;
-  exclamation_mark_first = refl;
-  percent_first = refl;
-  at_sign_first = refl;
-  point_first = refl;
-  indicator_inside = refl;
-  hexadecimal_mark_first = refl;
-  zero_first = refl;
-  colon_inside = refl;
-  open_brace_inside = refl;
-  close_brace_inside = refl;
-  open_bracket_inside = refl;
-  close_bracket_inside = refl;
-  comma_inside = refl;
-  number_sign_inside = refl;
-  backquote_inside = refl;
-  double_quote_inside = refl;
-  single_quote_inside = refl;
-  backslash_inside = refl;
-  tab_inside = refl;
-  line_feed_inside = refl;
-  carriage_return_inside = refl;
-  code_0 = refl;
-  code_6 = refl;
-  code_7 = refl;
-  code_8 = refl;
-  code_11 = refl;
-  code_12 = refl;
-  code_14 = refl;
-  code_26 = refl;
-  code_27 = refl;
-  code_28 = refl;
-  code_31 = refl;
-  code_127 = refl;
-  code_20320 = refl;
-  true_word = refl;
-  true_capital = refl;
-  false_in_capitals = refl;
-  null_capital = refl;
-  null_in_capitals = refl;
-  tilde = refl;
-  letter_y = refl;
-  letter_n_capital = refl;
-  word_yes = refl;
-  word_no_in_capitals = refl;
-  word_on_capital = refl;
-  word_off = refl;
-  yes_in_mixed_case = refl;
-  longer_than_yes = refl;
-  inf_word = refl;
-  inf_in_mixed_case = refl;
-  infinity_word = refl;
-  nan_word = refl;
-  longer_than_inf = refl;
-  infinit = refl;
-  integer_text = refl;
-  real_text = refl;
-  octal_text = refl;
-  two_pluses = refl;
-  plus_and_minus = refl;
-  infinity_text = refl;
-  octal_mark_alone = refl;
-  eight_in_base_8 = refl;
-  underscore = refl;
-  date = refl;
-  exponent_without_digits = refl;
-}
+rows = search

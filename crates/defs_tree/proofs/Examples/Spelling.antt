@@ -1,5 +1,5 @@
 -- How scalars are spelt, worked.
-use Rattle.std.specs.Prelude.{◌≡◌, pos, negsuc, true, false, [], ◌∷◌, refl, codes}
+use Rattle.std.specs.Prelude.{◌≡◌, pos, negsuc, true, false, [], ◌∷◌, codes}
 use Rattle.std.specs.Fmt.{digits}
 use Rattle.defs_tree.specs.Tree.{real, integer, string, boolean, array, hash, alias, null, bad_value, no_items, no_pairs}
 use Rattle.defs_tree.specs.Typing.{typing, is_decimal}
@@ -37,31 +37,4 @@ record Rows : Type 0 where
 
 rows : Rows
 unfolding is_quoted is_unfit_for_plain typing is_decimal written_character digits
-rows = record {
-  null_is_a_tilde = refl;
-  bad_value_is_a_tilde = refl;
-  alias_is_nothing = refl;
-  true_is_a_word = refl;
-  false_is_a_word = refl;
-  integer_is_its_digits = refl;
-  zero_is_one_digit = refl;
-  negative_integer_has_a_minus = refl;
-  greatest_integer = refl;
-  least_integer = refl;
-  real_is_its_text = refl;
-  empty_array = refl;
-  empty_hash = refl;
-  octal_text_is_quoted = refl;
-  inf_is_quoted = refl;
-  colon_is_quoted = refl;
-  yes_is_quoted = refl;
-  true_is_quoted = refl;
-  tilde_is_quoted = refl;
-  real_text_is_quoted = refl;
-  apostrophe_is_quoted = refl;
-  point_first_is_quoted = refl;
-  two_words_stand = refl;
-  date_stands = refl;
-  chinese_letters_stand = refl;
-  lines_are_escaped = refl;
-}
+rows = search

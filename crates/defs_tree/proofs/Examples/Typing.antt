@@ -1,5 +1,5 @@
 -- What texts stand for, worked.
-use Rattle.std.specs.Prelude.{◌≡◌, pos, negsuc, true, false, refl, codes}
+use Rattle.std.specs.Prelude.{◌≡◌, pos, negsuc, true, false, codes}
 use Rattle.defs_tree.specs.Tree.{real, integer, string, boolean, null}
 use Rattle.defs_tree.specs.Typing.{typing, is_decimal}
 
@@ -74,72 +74,4 @@ record Rows : Type 0 where
 
 rows : Rows
 unfolding typing is_decimal
-rows = record {
-  hexadecimal_is_read = refl;
-  hexadecimal_in_lower_case = refl;
-  octal_is_read = refl;
-  decimal_is_read = refl;
-  sign_after_the_octal_mark = refl;
-  sign_after_the_hexadecimal_mark = refl;
-  two_pluses = refl;
-  plus_and_minus = refl;
-  one_plus = refl;
-  minus = refl;
-  minus_zero = refl;
-  leading_zeros = refl;
-  greatest_integer = refl;
-  least_integer = refl;
-  least_integer_in_base_16 = refl;
-  above_the_greatest_integer = refl;
-  below_the_least_integer = refl;
-  great_exponent = refl;
-  no_digits_before_the_point = refl;
-  no_digits_after_the_point = refl;
-  point_and_exponent = refl;
-  sign_and_no_digits_before_the_point = refl;
-  digits_on_both_sides = refl;
-  signed_exponent = refl;
-  infinity = refl;
-  infinity_below = refl;
-  infinity_with_plus = refl;
-  not_a_number = refl;
-  hexadecimal_mark_alone = refl;
-  plus_alone = refl;
-  minus_alone = refl;
-  point_alone = refl;
-  minus_before_the_hexadecimal_mark = refl;
-  word_of_another_case = refl;
-  inf_without_point = refl;
-  underscore = refl;
-  above_the_greatest_in_base_16 = refl;
-  eight_in_base_8 = refl;
-  plus_before_the_hexadecimal_mark = refl;
-  two_minuses = refl;
-  exponent_without_digits = refl;
-  signed_not_a_number = refl;
-  not_a_number_of_another_case = refl;
-  exponent_alone = refl;
-  point_and_exponent_alone = refl;
-  two_points = refl;
-  space_before = refl;
-  nan = refl;
-  nan_in_upper_case = refl;
-  nan_mixed = refl;
-  infinity_in_letters = refl;
-  infinity_capital = refl;
-  signed_inf = refl;
-  signed_nan = refl;
-  signed_infinity = refl;
-  word = refl;
-  beginning_of_true = refl;
-  longer_than_true = refl;
-  empty_is_null = refl;
-  tilde_is_null = refl;
-  null_word = refl;
-  boolean_true = refl;
-  boolean_true_capital = refl;
-  boolean_true_in_capitals = refl;
-  boolean_false = refl;
-  boolean_false_capital = refl;
-  boolean_false_in_capitals = refl;
-}
+rows = search
