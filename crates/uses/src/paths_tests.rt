@@ -1,8 +1,9 @@
 use Step::{Index, Key};
 use std::alloc::Global;
+use std::process::Abort;
 use std::test::Fail;
 use test_rows::Report;
-use yaml_marked::load_marked;
+use yaml_marked::{Marked, load_marked};
 use yaml_paths::{Step, at, marked, read, read_list};
 use yaml_rust2::{Yaml, YamlLoader};
 
@@ -70,7 +71,9 @@ fn lists_are_read_with_their_types(rt: HostRuntime) -> Result<(), Fail> {
 }
 
 // What stands there, its path, and what is said of a number there.
-const NUMBERS: [(&str, &[Step<'static>], &str); 3] = [
+type Row = (&'static str, &'static [Step<'static>], &'static str);
+
+const NUMBERS: [Row; 3] = [
     (
         "a string",
         HOST,
@@ -88,25 +91,56 @@ const NUMBERS: [(&str, &[Step<'static>], &str); 3] = [
     ),
 ];
 
+// What is said of a number there.
+fn said(alloc: Global, root: Marked<'_>, path: &[Step<'static>]) -> Result<String, Fail> {
+    match marked::read::<i64>(root, path) {
+        Ok(_) => Err(Fail::from("a number")),
+        Err(error) => Ok(format!(in alloc; "{error}")?),
+    }
+}
+
+// Of each node is said what its row says. All rows that fail are told.
+fn rows_hold(
+    rt: &(impl Abort + AllocGlobal),
+    root: Marked<'_>,
+    rows: &[Row],
+) -> Result<(), Fail> {
+    let mut report = Report::new(rt.alloc());
+    for (name, path, want) in rows {
+        let found = said(rt.alloc(), root, path)?;
+        report.compare(name, "read", found.as_str(), want)?;
+    }
+    assert!(rt; report.is_empty(), "{report}");
+    Ok(())
+}
+
 #[test]
 fn errors_point_into_the_text(rt: HostRuntime) -> Result<(), Fail> {
     let alloc = rt.alloc();
     let documents = load_marked(alloc, TEXT)?;
     let root = documents.first().ok_or("no document")?;
-    let mut report = Report::new(alloc);
-    for (name, path, want) in NUMBERS {
-        let Err(error) = marked::read::<i64>(root, path) else {
-            return Err(Fail::from("a number"));
-        };
-        report.compare(name, "read", format!(in alloc; "{error}")?.as_str(), want)?;
-    }
-    assert!(rt; report.is_empty(), "{report}");
+    rows_hold(&rt, root, &NUMBERS)
+}
+
+#[test]
+fn an_item_of_another_kind_is_told(rt: HostRuntime) -> Result<(), Fail> {
+    let alloc = rt.alloc();
+    let documents = load_marked(alloc, TEXT)?;
+    let root = documents.first().ok_or("no document")?;
     let Err(error) = marked::read_list::<bool>(alloc, root, FLAGS) else {
         return Err(Fail::from("flags"));
     };
     let want =
         "line 9, column 17: $[\"server\"][\"flags\"][1]: a string, where a boolean is wanted";
     assert_eq!(rt; format!(in alloc; "{error}")?.as_str(), want);
+    Ok(())
+}
+
+#[test]
+fn a_number_has_its_position(rt: HostRuntime) -> Result<(), Fail> {
+    let alloc = rt.alloc();
+    let documents = load_marked(alloc, TEXT)?;
+    let root = documents.first().ok_or("no document")?;
     let port = marked::at(root, PORT).ok_or("no port")?;
     assert_eq!(rt; port.marker().line(), 2);
     let Ok(number) = marked::read::<i64>(root, PORT) else {

@@ -1,5 +1,6 @@
 use super::{NoSettings, load_settings, port};
 use std::alloc::Global;
+use std::process::Abort;
 use std::test::Fail;
 use test_rows::Report;
 use yaml_merge::merge;
@@ -11,8 +12,10 @@ fn tree(alloc: Global, text: &str) -> Result<Yaml, Fail> {
     Ok(documents.pop().unwrap_or(Yaml::BadValue))
 }
 
-// What it shows, a document, and what it is after its merges.
-const ROWS: [(&str, &str, &str); 7] = [
+// What it shows, a document, and what it is after its merges, or what is said of the first node that cannot be merged.
+type Row = (&'static str, &'static str, &'static str);
+
+const ROWS: [Row; 7] = [
     (
         "a pair of its own comes before a merged one",
         "defaults: &d {host: a, port: 80}\nserver: {<<: *d, port: 8080}\n",
@@ -46,20 +49,29 @@ const ROWS: [(&str, &str, &str); 7] = [
     ("no merge key", "[1, ~, x, {a: [b]}]", "[1, ~, x, {a: [b]}]"),
 ];
 
-#[test]
-fn merge_keys_are_carried_out(rt: HostRuntime) -> Result<(), Fail> {
-    let alloc = rt.alloc();
-    let mut report = Report::new(alloc);
-    for (name, text, want) in ROWS {
-        let merged = merge(alloc, &tree(alloc, text)?)?;
-        report.check(name, "another tree", merged == tree(alloc, want)?)?;
+// Whether a document is this one after its merges.
+fn gives(alloc: Global, text: &str, want: &str) -> Result<bool, Fail> {
+    let merged = merge(alloc, &tree(alloc, text)?)?;
+    Ok(merged == tree(alloc, want)?)
+}
+
+// Each document gives the tree of its row. All rows that fail are told.
+fn rows_hold(rt: &(impl Abort + AllocGlobal), rows: &[Row]) -> Result<(), Fail> {
+    let mut report = Report::new(rt.alloc());
+    for (name, text, want) in rows {
+        let holds = gives(rt.alloc(), text, want)?;
+        report.check(name, "another tree", holds)?;
     }
     assert!(rt; report.is_empty(), "{report}");
     Ok(())
 }
 
-// What it shows, a document, and what is said of the first node that cannot be merged.
-const FAULTS: [(&str, &str, &str); 5] = [
+#[test]
+fn merge_keys_are_carried_out(rt: HostRuntime) -> Result<(), Fail> {
+    rows_hold(&rt, &ROWS)
+}
+
+const FAULTS: [Row; 5] = [
     (
         "an integer",
         "{<<: 5}",
@@ -95,15 +107,20 @@ fn refusal(alloc: Global, text: &str) -> Result<String, Fail> {
     }
 }
 
-#[test]
-fn nodes_that_cannot_be_merged_are_named(rt: HostRuntime) -> Result<(), Fail> {
+// Of each document is said what its row says. All rows that fail are told.
+fn faults_hold(rt: &(impl Abort + AllocGlobal), rows: &[Row]) -> Result<(), Fail> {
     let mut report = Report::new(rt.alloc());
-    for (name, text, want) in FAULTS {
+    for (name, text, want) in rows {
         let found = refusal(rt.alloc(), text)?;
         report.compare(name, "merged", found.as_str(), want)?;
     }
     assert!(rt; report.is_empty(), "{report}");
     Ok(())
+}
+
+#[test]
+fn nodes_that_cannot_be_merged_are_named(rt: HostRuntime) -> Result<(), Fail> {
+    faults_hold(&rt, &FAULTS)
 }
 
 #[test]

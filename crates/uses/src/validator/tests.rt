@@ -1,10 +1,13 @@
 use super::port_of_text;
 use std::alloc::Global;
+use std::process::Abort;
 use std::test::Fail;
 use test_rows::Report;
 
 // What it shows, a text, and what is said of it.
-const ROWS: [(&str, &str, &str); 7] = [
+type Row = (&'static str, &'static str, &'static str);
+
+const ROWS: [Row; 7] = [
     ("a port", "host: example.org\nport: 8080\n", "8080"),
     (
         "too large a number",
@@ -37,14 +40,18 @@ fn said(alloc: Global, text: &str) -> Result<String, Fail> {
     })
 }
 
-#[test]
-fn ports_are_judged(rt: HostRuntime) -> Result<(), Fail> {
-    let alloc = rt.alloc();
-    let mut report = Report::new(alloc);
-    for (name, text, want) in ROWS {
-        let said = said(alloc, text)?;
+// Of each text is said what its row says. All rows that fail are told.
+fn rows_hold(rt: &(impl Abort + AllocGlobal), rows: &[Row]) -> Result<(), Fail> {
+    let mut report = Report::new(rt.alloc());
+    for (name, text, want) in rows {
+        let said = said(rt.alloc(), text)?;
         report.compare(name, "said", said.as_str(), want)?;
     }
     assert!(rt; report.is_empty(), "{report}");
     Ok(())
+}
+
+#[test]
+fn ports_are_judged(rt: HostRuntime) -> Result<(), Fail> {
+    rows_hold(&rt, &ROWS)
 }
