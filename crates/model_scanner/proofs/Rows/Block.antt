@@ -1,5 +1,5 @@
 -- Block collections and their tokens.
-use Rattle.std.specs.Prelude.{ℕ, List, [], ◌∷◌, Result, Ok, Err, ◌≡◌, refl, codes}
+use Rattle.std.specs.Prelude.{ℕ, List, [], ◌∷◌, Result, Ok, Err, ◌≡◌, codes}
 use Rattle.defs_token.specs.Token.{Tok, Style, Token}
 use Rattle.yaml_tokens.specs.declared.problem.Fault.{Fault}
 use Rattle.yaml_tokens.specs.declared.problem.Fault.TheVariants.{At}
@@ -47,19 +47,4 @@ record Rows : Type 0 where
 
 rows : Rows
 unfolding scan_on_literals
-rows = record {
-  mapping = refl;
-  sequence = refl;
-  key = refl;
-  value = refl;
-  comment = refl;
-  one_column = refl;
-  compact = refl;
-  at_key = refl;
-  carriage_returns = refl;
-  outdented = refl;
-  required = refl;
-  no_colon = refl;
-  tab_after_colon = refl;
-  tab_after_dash = refl;
-}
+rows = search

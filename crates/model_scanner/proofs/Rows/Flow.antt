@@ -1,5 +1,5 @@
 -- Flow collections and their tokens.
-use Rattle.std.specs.Prelude.{ℕ, List, [], ◌∷◌, Result, Ok, Err, ◌≡◌, refl, codes}
+use Rattle.std.specs.Prelude.{ℕ, List, [], ◌∷◌, Result, Ok, Err, ◌≡◌, codes}
 use Rattle.defs_token.specs.Token.{Tok, Style, Token}
 use Rattle.yaml_tokens.specs.declared.problem.Fault.{Fault}
 use Rattle.yaml_tokens.specs.declared.problem.Fault.TheVariants.{At}
@@ -47,19 +47,4 @@ record Rows : Type 0 where
 
 rows : Rows
 unfolding scan_on_literals
-rows = record {
-  empty = refl;
-  sequence = refl;
-  open_sequence = refl;
-  objects = refl;
-  tabs = refl;
-  nested = refl;
-  empty_key = refl;
-  lone_key = refl;
-  pairs = refl;
-  colon_in_word = refl;
-  commas = refl;
-  adjacent = refl;
-  dash_in_flow = refl;
-  far_colon = refl;
-}
+rows = search

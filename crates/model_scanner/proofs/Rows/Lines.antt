@@ -1,5 +1,5 @@
 -- Block scalars and their tokens.
-use Rattle.std.specs.Prelude.{ℕ, List, [], ◌∷◌, Result, Ok, Err, ◌≡◌, refl, codes}
+use Rattle.std.specs.Prelude.{ℕ, List, [], ◌∷◌, Result, Ok, Err, ◌≡◌, codes}
 use Rattle.defs_token.specs.Token.{Tok, Style, Token}
 use Rattle.yaml_tokens.specs.declared.problem.Fault.{Fault}
 use Rattle.yaml_tokens.specs.declared.problem.Fault.TheVariants.{At}
@@ -46,18 +46,4 @@ record Rows : Type 0 where
 
 rows : Rows
 unfolding scan_on_literals
-rows = record {
-  literal = refl;
-  markers = refl;
-  folded = refl;
-  wide = refl;
-  indicator = refl;
-  keep = refl;
-  strip = refl;
-  zero = refl;
-  tab = refl;
-  next = refl;
-  end = refl;
-  header = refl;
-  next_line = refl;
-}
+rows = search

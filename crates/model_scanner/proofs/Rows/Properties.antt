@@ -1,5 +1,5 @@
 -- Anchors, tags and directives, and their tokens.
-use Rattle.std.specs.Prelude.{ℕ, List, [], ◌∷◌, Result, Ok, Err, ◌≡◌, refl, codes}
+use Rattle.std.specs.Prelude.{ℕ, List, [], ◌∷◌, Result, Ok, Err, ◌≡◌, codes}
 use Rattle.defs_token.specs.Token.{Tok, Style, Token}
 use Rattle.yaml_tokens.specs.declared.problem.Fault.{Fault}
 use Rattle.yaml_tokens.specs.declared.problem.Fault.TheVariants.{At}
@@ -42,16 +42,4 @@ record Rows : Type 0 where
 
 rows : Rows
 unfolding scan_on_literals
-rows = record {
-  alias = refl;
-  anchors = refl;
-  shorthand = refl;
-  handles = refl;
-  version = refl;
-  unknown = refl;
-  verbatim = refl;
-  overlong = refl;
-  no_name = refl;
-  long_version = refl;
-  margin = refl;
-}
+rows = search

@@ -1,5 +1,5 @@
 -- Texts that the scanner refuses.
-use Rattle.std.specs.Prelude.{ℕ, List, [], ◌∷◌, Result, Ok, Err, ◌≡◌, refl, codes}
+use Rattle.std.specs.Prelude.{ℕ, List, [], ◌∷◌, Result, Ok, Err, ◌≡◌, codes}
 use Rattle.defs_token.specs.Token.{Tok, Style, Token}
 use Rattle.yaml_tokens.specs.declared.problem.Fault.{Fault}
 use Rattle.yaml_tokens.specs.declared.problem.Fault.TheVariants.{At}
@@ -49,20 +49,4 @@ record Rows : Type 0 where
 
 rows : Rows
 unfolding scan_on_literals
-rows = record {
-  second_colon = refl;
-  misplaced = refl;
-  left = refl;
-  tab_indentation = refl;
-  percent = refl;
-  at_sign = refl;
-  backtick = refl;
-  comment = refl;
-  tab_after_key = refl;
-  key_in_value = refl;
-  entry_in_value = refl;
-  open_quote = refl;
-  after_quote = refl;
-  after_end = refl;
-  flow_left = refl;
-}
+rows = search

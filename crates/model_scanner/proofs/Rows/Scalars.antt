@@ -1,5 +1,5 @@
 -- Documents, plain and quoted scalars, and their tokens.
-use Rattle.std.specs.Prelude.{ℕ, List, [], ◌∷◌, Result, Ok, Err, ◌≡◌, refl, codes}
+use Rattle.std.specs.Prelude.{ℕ, [], ◌∷◌, Ok, ◌≡◌, codes}
 use Rattle.defs_token.specs.Token.{Tok, Style, Token}
 use Rattle.model_scanner.specs.State.{token}
 use Rattle.model_scanner.specs.Run.{scan}
@@ -40,19 +40,4 @@ record Rows : Type 0 where
 
 rows : Rows
 unfolding scan_on_literals
-rows = record {
-  marker = refl;
-  dashes = refl;
-  comment = refl;
-  documents = refl;
-  doubled = refl;
-  escapes = refl;
-  folded = refl;
-  characters = refl;
-  quoted_lines = refl;
-  colon_inside = refl;
-  colon_first = refl;
-  question_first = refl;
-  tab_comment = refl;
-  end = refl;
-}
+rows = search
