@@ -1,6 +1,6 @@
 -- The arms of the productions.
 use Rattle.std.proofs.Common.{◌≡◌, ◌≢◌, List, [], ◌∷◌, ◌++◌, Some, None, option_map, Bool, true, false, not, ◌||◌, ◌&&◌, Result, Ok, Err, refl, sym, ap, ◌∙◌, subst, ◌⊎◌, inl, inr}
-use Rattle.std.specs.Result.{IsErrAnd, IfErr}
+use Rattle.std.specs.Result.{IsErrAnd, OnErr}
 use Rattle.std.proofs.lemmas.Bool.{or_parts, both_ways}
 use Rattle.defs_text.specs.Position.{Position}
 use Rattle.defs_token.specs.Token.{Tok}
@@ -21,12 +21,13 @@ use Rattle.model_parser.proofs.First.{tok_is}
 use Rattle.yaml_parser.specs.declared.event.Event.{Event}
 use Rattle.yaml_parser.specs.declared.tokens.Stop.{Stop}
 use Rattle.yaml_parser.specs.declared.reader.Reader.{Reader}
+use Rattle.yaml_parser.specs.declared.slot.Slot.{Slot}
 use Rattle.yaml_parser.specs.Ahead.{Skips}
 use Rattle.yaml_parser.specs.Handed.{peeked_tok, before_next}
 use Rattle.yaml_parser.specs.Kinds.{IsOfKind}
 use Rattle.yaml_parser.specs.Named.{IsNamed}
 use Rattle.yaml_parser.specs.Shown.{placed}
-use Rattle.yaml_parser.specs.At.{At, Answers, Took, Stayed, Faulted, goal_after_event, is_over, may_follow_comma, names_at, IsPending}
+use Rattle.yaml_parser.specs.At.{At, Answers, answered, Took, Stayed, Faulted, goal_after_event, is_over, may_follow_comma, names_at, IsPending}
 use Rattle.yaml_parser.proofs.Positions.{IsPlaced, may_give, gives_none}
 use Rattle.yaml_parser.proofs.Steps.{looked, took, took_on, left, left_on, Named, breaks, kept}
 
@@ -152,20 +153,20 @@ went {T} m {g} {p} {r} {ss} {e} {v} {names} {given} s turn y over a =
 
 -- ---- what is answered
 
-pub if_err_as : {A : Type 0} (P : Stop → Type 0) (r : Result A Stop) {x : Stop} → IsErrAnd r (λ e. e ≡ x) → P x → IfErr r P
-if_err_as P (Ok e) h f = tt
-if_err_as P (Err s) h f = subst P (sym h) f
+pub on_err : {A E : Type 0} (P : Type 0) (r : Result A E) → P → OnErr r P
+on_err P (Ok e) f = tt
+on_err P (Err e) f = f
 
-pub answers_err : {T : Type 0} (p : Reader T) (given : List (Ev × Position)) (r : Result (Event × Position) Stop) (x : Stop) → IsErrAnd r (λ e. e ≡ x) → Faulted p given x → Answers p given r
-answers_err {T} p given (Ok e) x h f = absurd h
-answers_err {T} p given (Err s) x h f = subst (Faulted p given) (sym h) f
+pub answers_err : {T E : Type 0} (p : Reader T) (given : List (Ev × Position)) (r : Result (Unit {0}) E) (x : E) (slot : Slot) → IsErrAnd r (λ e. e ≡ x) → Faulted p given slot.stop → Answers p given (answered r slot)
+answers_err {T} p given (Ok u) x slot h f = absurd h
+answers_err {T} p given (Err e) x slot h f = f
 
 pub answers_written : {T : Type 0} (p : Reader T) (given : List (Ev × Position)) (r : Event × Position) {x : Ev × Position} → placed r ≡ x
     → ((names : Names) × At (goal_after_event x.0) p names (given ++ x ∷ [])) → Answers p given (Ok r)
 answers_written {T} p given r {x} h a = subst (λ y. (names : Names) × At (goal_after_event y.0) p names (given ++ y ∷ [])) (sym h) a
 
-pub answers_stop : {T : Type 0} (p : Reader T) (given : List (Ev × Position)) (r : Result (Event × Position) Stop) {s : Stop} → r ≡ Err s → Faulted p given s → Answers p given r
-answers_stop p given r {s} h f = subst (Answers p given) (sym h) f
+pub wrote : {T : Type 0} (p : Reader T) (given : List (Ev × Position)) {x y : Event × Position} → x ≡ y → Answers p given (Ok y) → Answers p given (Ok x)
+wrote {T} p given h a = subst (λ e. Answers p given (Ok e)) (sym h) a
 
 pub faulted_as : {T : Type 0} (p : Reader T) (given : List (Ev × Position)) {s u : Stop} → s ≡ u → Faulted p given u → Faulted p given s
 faulted_as {T} p given h f = subst (Faulted p given) (sym h) f

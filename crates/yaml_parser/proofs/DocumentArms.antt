@@ -2,7 +2,6 @@
 use Rattle.std.proofs.Common.{◌≡◌, ◌≢◌, ℕ, ◌+◌, ◌<◌, List, [], ◌∷◌, ◌++◌, Some, None, option_map, Bool, true, false, nat_le, Result, Ok, Err, refl, sym, ap, ◌∙◌, subst, if◌then◌else◌, append-nil, append_assoc, arith, inl}
 use Rattle.std.proofs.lemmas.Bool.{and_parts, and_from, and_left, and_right, lt-leb}
 use Rattle.std.specs.Option.{IfSome}
-use Rattle.std.specs.Result.{IsErrAnd}
 use Rattle.defs_text.specs.Position.{Position}
 use Rattle.defs_token.specs.Token.{Tok}
 use Rattle.yaml_tokens.specs.declared.token.Token.{Token}
@@ -251,10 +250,6 @@ tag_directive_taken {T} {p} r {t} m {h} {x} {versioned} {names} {given} (Err (st
     (refused_directive RepeatedHandle d.read (raw.tag h x) refl refl handle_is_other mark here skips keep tok (λ more. and_right (nat_le (versions ((d.read ++ raw.tag h x ∷ []) ++ more)) 1) (is_each_once (declared ((d.read ++ raw.tag h x ∷ []) ++ more))) (k.0 more)) d.taken (λ before last x. x) (apart_as refl (directed_ways d.read)) d.here)
 tag_directive_taken {T} {p} r {t} m {h} {x} {versioned} {names} {given} (Err stop.Scan) mark here skips stack keep tok declares d = absurd (declares p.names.keeping.tags names d.read (record { named = d.here.code; own = d.own }))
 tag_directive_taken {T} {p} r {t} m {h} {x} {versioned} {names} {given} (Err stop.Ended) mark here skips stack keep tok declares d = absurd (declares p.names.keeping.tags names d.read (record { named = d.here.code; own = d.own }))
-
-pub directs_err : {T : Type 0} (r : Reader T) (names : defs.Names) (given : List (Ev × Position)) (versioned : Bool) (res : Result (Unit {0}) Stop) (x : Stop) → IsErrAnd res (λ e. e ≡ x) → DirectsTo r names given versioned (Err x) → DirectsTo r names given versioned res
-directs_err {T} r names given versioned (Ok u) x h f = absurd h
-directs_err {T} r names given versioned (Err s) x h f = subst (Faulted r given) (sym h) f
 
 -- a look at the next token
 pub directing_on : {T : Type 0} {p r : Reader T} {versioned : Bool} {names : defs.Names} {given : List (Ev × Position)} → ((g : at.Goal) → is_over g ≡ false → Carries g p r) → r.names ≡ p.names → r.tokens.taken ≡ p.tokens.taken → Directing p names given versioned → Directing r names given versioned

@@ -1,6 +1,7 @@
 -- What holds between two calls, and what it says of the events.
-use Rattle.std.proofs.Common.{◌≡◌, inl, inr, ◌+◌, ◌<◌, ◌≤◌, length, List, [], ◌∷◌, ◌++◌, Option, Some, None, option_map, Bool, true, false, ◌||◌, Ok, Err, refl, sym, ap, ◌∙◌, subst, append_assoc, append-nil, unwrap_or, arith}
+use Rattle.std.proofs.Common.{◌≡◌, inl, inr, ◌+◌, ◌<◌, ◌≤◌, length, List, [], ◌∷◌, ◌++◌, Option, Some, None, option_map, Bool, true, false, ◌||◌, Result, Ok, Err, refl, sym, ap, ◌∙◌, subst, append_assoc, append-nil, unwrap_or, arith}
 use Rattle.std.specs.Option.{IsSome, IfSome}
+use Rattle.std.specs.Result.{IsErrAnd}
 use Rattle.std.proofs.lemmas.Bool.{both_ways}
 use Rattle.std.proofs.lemmas.List.{map-append, length-append}
 use Rattle.defs_text.specs.Position.{Position}
@@ -28,6 +29,7 @@ use Rattle.model_parser.specs.Place.{next_in, top, is_node, is_after, is_past_in
 use Rattle.model_parser.specs.Stands.{IsOnTrack, IsSettled, as_tokens, goes_on, at_directive}
 use Rattle.yaml_parser.specs.declared.event.Event.{Event}
 use Rattle.yaml_parser.specs.declared.tokens.KeptStop.{KeptStop}
+use Rattle.yaml_parser.specs.declared.slot.Slot.{Slot}
 use Rattle.yaml_parser.specs.declared.tokens.Stop.{Stop}
 use Rattle.yaml_parser.specs.declared.tokens.Stop.TheVariants as stop
 use Rattle.yaml_parser.specs.declared.pull.Pull.{Pull}
@@ -44,10 +46,10 @@ use Rattle.yaml_parser.specs.Follows.{Follows, Derives, IsComplete, Refused, IsW
 use Rattle.yaml_parser.specs.Halts.{IsHalted}
 use Rattle.yaml_parser.specs.Pulls.{IsSound}
 use Rattle.yaml_parser.specs.View.{fault_kept}
-use Rattle.yaml_parser.specs.At.{At, Answers, Reads, Faulted, is_over, names_at, named_by, names_by, goal_after_event}
+use Rattle.yaml_parser.specs.At.{At, Answers, Reads, Fails, answered, Faulted, is_over, names_at, named_by, names_by, goal_after_event}
 use Rattle.yaml_parser.specs.declared.names.Keeping.{Keeping}
 use Rattle.yaml_parser.specs.Settings.{named_since, names_since, AreAll}
-use Rattle.yaml_parser.specs.Held.{IsHeld, IsMet, Stands, Notes, goal_after}
+use Rattle.yaml_parser.specs.Held.{Advances, IsHeld, IsMet, Stands, Notes, goal_after}
 use Rattle.yaml_parser.proofs.Since.{since_noted, names_noted, since_other, names_other, since_same}
 use Rattle.yaml_parser.specs.Nests.{BeginsNested}
 use Rattle.yaml_parser.proofs.Ends.{state_pending, at_derived}
@@ -301,10 +303,11 @@ closed_at {T} false p h a = absurd (subst IsGoing h a.stands.fits)
 pub closed : {T : Type 0} (p : Reader T) (es : List (Ev × Position)) → p.stack ≡ [] → IsHeld p es None → has_end es ≡ true
 closed {T} p es h x = closed_at (has_end es) p h x.here
 
-pub pulled : {T : Type 0} (p r : Reader T) (s : State) (ss : List State) (es : List (Ev × Position)) (e : Event × Position) (k : Keeping)
-    → p.stack ≡ s ∷ ss → IsHeld p es None → Reads (goal_of s) (record p { stack = ss }) r (Ok e) → Moves (weight s) 1 (record p { stack = ss }) r (Ok e) → Notes r.names.keeping k
-    → (has_end es ≡ false) × (work r < work p) × Notes p.names.keeping k × IsHeld (record r { names = record (r.names) { keeping = k } }) (es ++ placed e ∷ []) None
-pulled {T} p r s ss es e k h x reads moves notes =
+pub pulled : {T E : Type 0} (p r : Reader T) (s : State) (ss : List State) (es : List (Ev × Position)) (slot : Slot) (k : Keeping)
+    → p.stack ≡ s ∷ ss → IsHeld p es None → Reads {E = E} (goal_of s) (record p { stack = ss }) r (Ok (tt {0})) slot → Moves {E = E} (weight s) 1 (record p { stack = ss }) r (Ok (tt {0})) → Notes r.names.keeping k
+    → (has_end es ≡ false) × (work r < work p) × Notes p.names.keeping k × IsHeld (record r { names = record (r.names) { keeping = k } }) (es ++ placed slot.next ∷ []) None
+pulled {T} p r s ss es slot k h x reads moves notes =
+    let e = slot.next in
     let o = open_at (has_end es) p s ss h x.here in
     let a = answered_at r es e o.0 (reads x.names es (popped p s ss h o.1)) in
     let keep : r.names.keeping ≡ p.names.keeping = moves.input.keeping in
@@ -314,10 +317,14 @@ pulled {T} p r s ss es e k h x reads moves notes =
     (o.0, omega (arith, less, popped_is), subst (λ q. Notes q k) keep notes, noted_stands r k (es ++ placed e ∷ []) a.0 notes a.1 each)
 
 pub failed : {T : Type 0} (p r : Reader T) (s : State) (ss : List State) (es : List (Ev × Position)) (u : Stop)
-    → p.stack ≡ s ∷ ss → IsHeld p es None → Reads (goal_of s) (record p { stack = ss }) r (Err u) → (has_end es ≡ false) × Faulted r es u
+    → p.stack ≡ s ∷ ss → IsHeld p es None → Fails (goal_of s) (record p { stack = ss }) r u → (has_end es ≡ false) × Faulted r es u
 failed {T} p r s ss es u h x reads =
     let o = open_at (has_end es) p s ss h x.here in
     (o.0, reads x.names es (popped p s ss h o.1))
+
+pub advances_err : {T E : Type 0} (old new : Pull T) (es : List (Ev × Position)) (r : Result (Unit {0}) E) (x : E) (slot : Slot) → IsErrAnd r (λ e. e ≡ x) → Advances old es (Err slot.stop) new → Advances old es (answered r slot) new
+advances_err old new es (Ok u) x slot h a = absurd h
+advances_err old new es (Err e) x slot h a = a
 
 pub keeps : {T : Type 0} (p : Pull T) (es : List (Ev × Position)) (u : Stop) {f : ErrorReport} → fault_kept p ≡ Some f → IfSome p.kept (λ k. k.stop ≡ u) → (has_end es ≡ false) × Faulted p.reader es u → IsHeld p.reader es p.kept × IsMet p.reader es p.kept
 keeps {T} p es u {f} h k x = kept_at p.reader es u p.kept is_kept k x

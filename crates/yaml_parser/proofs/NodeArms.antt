@@ -1,6 +1,6 @@
 -- The arms of the productions of nodes.
 use Rattle.std.proofs.Common.{◌≡◌, ◌≢◌, ℕ, List, [], ◌∷◌, ◌++◌, Option, Some, None, option_map, is_some, Bool, true, false, ◌||◌, Result, Ok, Err, refl, sym, ap, ◌∙◌, subst, append_assoc, ◌⊎◌, inl, inr}
-use Rattle.std.specs.Result.{IfOk, IfErr}
+use Rattle.std.specs.Result.{OnOk, OnErr}
 use Rattle.std.specs.Option.{IsSome, IfSome}
 use Rattle.std.proofs.lemmas.Bool.{or_parts, both_ways}
 use Rattle.defs_text.specs.Position.{Position}
@@ -37,10 +37,10 @@ use Rattle.model_parser.specs.Stands.{IsNext as Starts}
 use Rattle.model_parser.specs.Turn.{Takes, Leaves, event_then}
 use Rattle.model_parser.proofs.First.{tok_is}
 use Rattle.model_parser.proofs.Apart.{no_two_anchors}
-use Rattle.yaml_parser.specs.declared.event.Event.{Event}
 use Rattle.yaml_parser.specs.declared.node.Properties.{Properties}
 use Rattle.yaml_parser.specs.declared.tokens.Stop.{Stop}
 use Rattle.yaml_parser.specs.declared.tokens.Stop.TheVariants as stop
+use Rattle.yaml_parser.specs.declared.slot.Slot.{Slot}
 use Rattle.yaml_parser.specs.declared.reader.Reader.{Reader}
 use Rattle.yaml_parser.specs.declared.tokens.Tokens.{Tokens}
 use Rattle.yaml_parser.specs.Ahead.{Skips, SkipsOne}
@@ -51,7 +51,7 @@ use Rattle.yaml_parser.specs.Kinds.{IsOfKind}
 use Rattle.yaml_parser.specs.Named.{IsNamed}
 use Rattle.yaml_parser.specs.Properties.{Has, Registers, name_of, kept_tag}
 use Rattle.yaml_parser.specs.Shown.{placed}
-use Rattle.yaml_parser.specs.At.{At, Answers, Faulted, named_by, names_by, goal_after_event, IsPending}
+use Rattle.yaml_parser.specs.At.{At, Answers, Faulted, answered, named_by, names_by, goal_after_event, IsPending}
 use Rattle.yaml_parser.proofs.Positions.{ends_mapping, own_place}
 use Rattle.yaml_parser.proofs.Steps.{looked, took, took_on, left, Named, breaks, map_snoc, if_some_at}
 use Rattle.yaml_parser.proofs.Arms.{Skipped, stays, stay, not_as, faulted_as}
@@ -92,15 +92,15 @@ abbrev pub is_startless : Tok → Bool
 is_startless t = is_end t || (is_comma t || ends_mapping t)
 
 -- The start of a collection is taken, and its properties are registered.
-pub starts : {T : Type 0} (m : Position) {p q : Reader T} (r : Reader T) {k k' : Kind} {w : positions.NodeContext} {o : Option written.Properties} {x : Option Properties} {ss : List State} (mk : Option (List ℕ) → Option event.Tag → Raw) (f : ℕ → Option event.Tag → Ev) {s : Names} {given : List (Ev × Position)} (res : Result (Event × Position) Stop)
+pub starts : {T E : Type 0} (m : Position) {p q : Reader T} (r : Reader T) {k k' : Kind} {w : positions.NodeContext} {o : Option written.Properties} {x : Option Properties} {ss : List State} (mk : Option (List ℕ) → Option event.Tag → Raw) (f : ℕ → Option event.Tag → Ev) {s : Names} {given : List (Ev × Position)} (res : Result (Unit {0}) E) (slot : Slot)
     → Makes mk f → IsOfKind k' p.tokens.peeked → k' ≡ k → has_no_text k ≡ true → is_startless (tok_of_kind k) ≡ false
     → ((a : Option (List ℕ)) (t : Option event.Tag) → has_position (mk a t) ≡ gives_position (before_next p.tokens).around (tok_of_kind k)) → IfSome p.tokens.peeked (λ t. t.0 ≡ m) → Skipped p q ss
     → Takes (at.after_properties w o) p.stack (tok_of_kind k) (Some (mk (perhaps_anchor_of o) (perhaps_tag_of o))) at.done ss
-    → ((names : Names) → IsNamed q.names names → IfOk res (λ e. Registers q x names (λ a t. placed e ≡ (f a t, m)) r)) → IfErr res (λ u. u ≡ stop.Own OutOfMemory)
+    → ((names : Names) → IsNamed q.names names → OnOk res (Registers q x names (λ a t. placed slot.next ≡ (f a t, m)) r)) → OnErr res (slot.stop ≡ stop.Own OutOfMemory)
     → ((a : ℕ) (t : Option event.Tag) → goal_after_event (f a t) ≡ at.done)
-    → Has s o x → At (at.after_properties w o) p s given → Answers r given res
-starts {T} m {p} {q} r {k} {k'} {w} {o} {x} {ss} mk f {s} {given} (Err u) makes here h plain end alike mark skip turn registers err no_end has a = subst (Faulted r given) (sym err) tt
-starts {T} m {p} {q} r {k} {k'} {w} {o} {x} {ss} mk f {s} {given} (Ok e) makes here h plain end alike mark skip turn registers err no_end has a =
+    → Has s o x → At (at.after_properties w o) p s given → Answers r given (answered res slot)
+starts {T} {E} m {p} {q} r {k} {k'} {w} {o} {x} {ss} mk f {s} {given} (Err u) slot makes here h plain end alike mark skip turn registers err no_end has a = subst (Faulted r given) (sym err) tt
+starts {T} {E} m {p} {q} r {k} {k'} {w} {o} {x} {ss} mk f {s} {given} (Ok e) slot makes here h plain end alike mark skip turn registers err no_end has a =
     let l = looked k' p.tokens.peeked here in
     let t = l.0 in
     let y = skip t l.1 in

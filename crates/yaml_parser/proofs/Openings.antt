@@ -1,9 +1,8 @@
 -- Where the next token decides, two different events may come.
-use Rattle.std.proofs.Common.{◌≡◌, ◌≢◌, ◌≤◌, length, List, [], ◌∷◌, ◌++◌, Option, Some, None, false, refl, sym, ap, ◌∙◌, subst, append_assoc, arith, Result, Ok, Err, true}
+use Rattle.std.proofs.Common.{◌≡◌, ◌≢◌, ◌≤◌, length, List, [], ◌∷◌, ◌++◌, Option, Some, None, false, refl, sym, ap, ◌∙◌, subst, append_assoc, arith, true}
 use Rattle.std.proofs.lemmas.Bool.{or_parts}
 use Rattle.std.proofs.lemmas.List.{map-append}
 use Rattle.std.specs.Option.{IsSome, IfSome}
-use Rattle.std.specs.Result.{IfErr, IsErrAnd}
 use Rattle.defs_text.specs.Position.{Position}
 use Rattle.defs_token.specs.Token as defs
 use Rattle.defs_token.specs.Token.{Style, Tok}
@@ -199,9 +198,8 @@ halted {T} p r {g} {names} {given} taken same handed names_same busy a =
     few None = omega arith
     few (Some t) = omega arith
 
-pub look_fails : {T A : Type 0} (p r : Reader T) (x : Result A Stop) {m : Missing} → r.tokens.taken ≡ p.tokens.taken → ((t : Token) → p.tokens.peeked ≡ Some t → r.tokens.peeked ≡ Some t) → (IsHanded p.tokens → IsHanded r.tokens) → r.names ≡ p.names
-    → IsErrAnd x (λ s. s ≡ stop_of m) → (IsAwake p.tokens → (m ≡ missing.Scan) × IsSome (scanned r.tokens.scanner).fault) → IfErr x (λ s. (g : Goal) → is_idle g ≡ false → Fails g p r s)
-look_fails {T} {A} p r (Ok n) taken same handed names_same e h = tt
-look_fails {T} {A} p r (Err s) taken same handed names_same e h = λ g busy names given a.
+pub look_fails : {T : Type 0} (p r : Reader T) {s : Stop} {m : Missing} → r.tokens.taken ≡ p.tokens.taken → ((t : Token) → p.tokens.peeked ≡ Some t → r.tokens.peeked ≡ Some t) → (IsHanded p.tokens → IsHanded r.tokens) → r.names ≡ p.names
+    → s ≡ stop_of m → (IsAwake p.tokens → (m ≡ missing.Scan) × IsSome (scanned r.tokens.scanner).fault) → (g : Goal) → is_idle g ≡ false → Fails g p r s
+look_fails {T} p r {s} {m} taken same handed names_same e h = λ g busy names given a.
     let k = h (a.awake (or_parts (is_over g) (is_done g) busy).0) in
     subst (Faulted r given) (sym (e ∙ ap stop_of k.0)) (k.1, halted p r taken same (handed a.handed) names_same busy a)

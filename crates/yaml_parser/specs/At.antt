@@ -19,6 +19,7 @@ use Rattle.model_parser.specs.Stands.{IsOnTrack}
 use Rattle.model_parser.specs.declared.state.State.{State}
 use Rattle.yaml_parser.specs.declared.event.Event.{Event}
 use Rattle.yaml_parser.specs.declared.names.Keeping.{Keeping}
+use Rattle.yaml_parser.specs.declared.slot.Slot.{Slot}
 use Rattle.yaml_parser.specs.declared.tokens.Stop.{Stop}
 use Rattle.yaml_parser.specs.declared.tokens.Stop.TheVariants as stop
 use Rattle.yaml_parser.specs.declared.reader.Reader.{Reader}
@@ -111,9 +112,19 @@ abbrev pub Answers : {T : Type 0} → Reader T → List (Ev × Position) → Res
 Answers p given (Ok e) = (names : Names) × At (goal_after_event (ev_of e.0)) p names (given ++ placed e ∷ [])
 Answers p given (Err s) = Faulted p given s
 
+-- what a slot holds after this answer
+abbrev pub answered : {E : Type 0} → Result (Unit {0}) E → Slot → Result (Event × Position) Stop
+answered (Ok u) slot = Ok slot.next
+answered (Err e) slot = Err slot.stop
+
+-- the same of what is no event
+abbrev pub with_stop : {A E : Type 0} → Result A E → Slot → Result A Stop
+with_stop (Ok x) slot = Ok x
+with_stop (Err e) slot = Err slot.stop
+
 -- what a production comes to
-abbrev pub Reads : {T : Type 0} → Goal → Reader T → Reader T → Result (Event × Position) Stop → Type 0
-Reads g old new result = (names : Names) (given : List (Ev × Position)) → At g old names given → Answers new given result
+abbrev pub Reads : {T E : Type 0} → Goal → Reader T → Reader T → Result (Unit {0}) E → Slot → Type 0
+Reads g old new result slot = (names : Names) (given : List (Ev × Position)) → At g old names given → Answers new given (answered result slot)
 
 abbrev pub Carries : {T : Type 0} → Goal → Reader T → Reader T → Type 0
 Carries g old new = (names : Names) (given : List (Ev × Position)) → At g old names given → At g new names given

@@ -9,13 +9,12 @@ use Rattle.defs_event.specs.Grammar.{anchor_of, tag_of}
 use Rattle.defs_event.specs.Names.{Names, number, with_anchor, perhaps_resolved}
 use Rattle.model_parser.specs.declared.context.NodeContext.{NodeContext}
 use Rattle.model_parser.specs.Goal as at
-use Rattle.yaml_parser.specs.declared.event.Event.{Event}
 use Rattle.yaml_parser.specs.declared.node.Properties.{Properties}
-use Rattle.yaml_parser.specs.declared.tokens.Stop.{Stop}
+use Rattle.yaml_parser.specs.declared.slot.Slot.{Slot}
 use Rattle.yaml_parser.specs.declared.reader.Reader.{Reader}
 use Rattle.yaml_parser.specs.Named.{IsNamed}
 use Rattle.yaml_parser.specs.Shown as shown
-use Rattle.yaml_parser.specs.At.{At, Answers}
+use Rattle.yaml_parser.specs.At.{At, Answers, answered}
 
 -- the anchor's name
 abbrev pub name_of : Option Properties → Option (List ℕ)
@@ -33,9 +32,9 @@ pub record Has (names : Names) (o : Option written.Properties) (p : Option Prope
   pub tag : perhaps_resolved names.handles (written.perhaps_tag_of o) ≡ Some (kept_tag p)
 
 -- what a content comes to, after these properties
-abbrev pub ReadsAfter : {T : Type 0} → NodeContext → Option Properties → Reader T → Reader T → Result (Event × chars.Position) Stop → Type 0
-ReadsAfter p properties old new result =
-    (o : Option written.Properties) (names : Names) (given : List (Ev × chars.Position)) → Has names o properties → At (at.after_properties p o) old names given → Answers new given result
+abbrev pub ReadsAfter : {T E : Type 0} → NodeContext → Option Properties → Reader T → Reader T → Result (Unit {0}) E → Slot → Type 0
+ReadsAfter p properties old new result slot =
+    (o : Option written.Properties) (names : Names) (given : List (Ev × chars.Position)) → Has names o properties → At (at.after_properties p o) old names given → Answers new given (answered result slot)
 
 -- The anchor of these properties is numbered, and nothing else changes.
 pub record Registers {T : Type 0} (old : Reader T) (properties : Option Properties) (names : Names) (gives : ℕ → Option defs.Tag → Type 0) (new : Reader T) : Type 0 where

@@ -3,7 +3,6 @@ use Rattle.std.specs.Prelude.{◌≡◌, ℕ, ◌+◌, ◌*◌, ◌≤◌, List,
 use Rattle.model_parser.specs.declared.state.State.{State}
 use Rattle.model_parser.specs.declared.state.State.TheVariants as state
 use Rattle.yaml_parser.specs.declared.reader.Reader.{Reader}
-use Rattle.yaml_parser.specs.declared.tokens.Stop.{Stop}
 use Rattle.yaml_parser.specs.Ahead.{left}
 
 -- what a state may bring beyond what the tokens to come bring
@@ -39,6 +38,6 @@ pub record KeepsInput {T : Type 0} (old new : Reader T) : Type 0 where
   pub start : new.tokens.scanner.start ≡ old.tokens.scanner.start
 
 -- The same; and without a fault, the bound grows by at most so much, and falls by at least so much.
-pub record Moves {T A : Type 0} (up down : ℕ) (old new : Reader T) (result : Result A Stop) : Type 0 where
+pub record Moves {T A E : Type 0} (up down : ℕ) (old new : Reader T) (result : Result A E) : Type 0 where
   pub input : KeepsInput old new
   pub bound : OnOk result (work new + down ≤ work old + up)

@@ -1,5 +1,5 @@
 //! The stream and its documents (YAML 1.2, chapter 9).
-ghost use Rattle.std.specs.Prelude.{◌≡◌, ◌≢◌, Bool, true, IfErr, OnOk, IfOk};
+ghost use Rattle.std.specs.Prelude.{◌≡◌, ◌≢◌, Bool, true, OnErr, OnOk, IfOk};
 ghost use Rattle.model_parser.specs.Goal as at;
 ghost use Rattle.model_parser.specs.Kinds.{is_directive};
 ghost use Rattle.yaml_parser.specs.At.{Reads, Carries, Fails};
@@ -9,187 +9,205 @@ ghost use Rattle.yaml_parser.specs.Work.{Moves};
 ghost use Rattle.yaml_parser.specs.Kinds.{IsOfKind};
 
 use crate::event::Event;
-use crate::reader::{Answer, Reader};
+use crate::reader::Reader;
+use crate::slot::{Answer, Halted, Slot};
 use crate::tokens::Stop;
 use model_parser::{Kind, NodeContext, State};
 use yaml_tokens::{Fault, Problem};
 
 impl<T: Iterator<Item = char>> Reader<T> {
-    pub(crate) fn stream_start(&mut self) -> Answer
-        ensures answers { Reads at.start self.old self.new result }
+    pub(crate) fn stream_start(&mut self, slot: &mut Slot) -> Answer
+        ensures answers { Reads at.start self.old self.new result slot.new }
         ensures moves { Moves 1 1 self.old self.new result }
     {
-        let next = self.peek()?;
+        let next = self.peek(slot)?;
         match next {
             Kind::StreamStart => {
                 let mark = self.skip();
-                self.push(State::ImplicitDocumentStart)?;
-                Ok((Event::StreamStart, mark))
+                self.push(slot, State::ImplicitDocumentStart)?;
+                slot.write(Event::StreamStart, mark);
+                Ok(())
             }
-            _ => Err(Stop::Own(Fault::At(Problem::DocumentStartToken, self.mark()))),
+            _ => Err(slot.halt(Stop::Own(Fault::At(Problem::DocumentStartToken, self.mark())))),
         }
     }
 
     /// The first token that is no `...`.
-    fn skip_document_ends(&mut self) -> Result<Kind, Stop>
+    fn skip_document_ends(&mut self, slot: &mut Slot) -> Result<Kind, Halted>
         ensures peeked { IfOk result (λ n. IsOfKind n self.new.tokens.peeked × (n ≢ kind.DocumentEnd)) }
         ensures moves { Moves 0 0 self.old self.new result }
         ensures at { OnOk result (Carries at.documents self.old self.new) }
-        ensures err { IfErr result (λ s. Fails at.documents self.old self.new s) }
+        ensures err { OnErr result (Fails at.documents self.old self.new slot.new.stop) }
     {
-        let mut next = self.peek()?;
+        let mut next = self.peek(slot)?;
         'ends: while let Kind::DocumentEnd = next {
             self.skip();
-            next = self.peek()?;
+            next = self.peek(slot)?;
         }
         Ok(next)
     }
 
     /// After the stream's start or `...`.
-    pub(crate) fn document(&mut self) -> Answer
-        ensures answers { Reads at.documents self.old self.new result }
+    pub(crate) fn document(&mut self, slot: &mut Slot) -> Answer
+        ensures answers { Reads at.documents self.old self.new result slot.new }
         ensures moves { Moves 4 1 self.old self.new result }
     {
-        let next = self.skip_document_ends()?;
+        let next = self.skip_document_ends(slot)?;
         match next {
-            Kind::StreamEnd | Kind::DocumentStart => self.end_or_document(next),
-            Kind::VersionDirective | Kind::TagDirective => self.directed_document(next),
+            Kind::StreamEnd | Kind::DocumentStart => self.end_or_document(slot, next),
+            Kind::VersionDirective | Kind::TagDirective => self.directed_document(slot, next),
             _ => {
                 self.names.start_document();
-                self.push(State::DocumentEnd)?;
-                self.push(State::BlockNode)?;
-                Ok((Event::DocumentStart, self.mark()))
+                self.push(slot, State::DocumentEnd)?;
+                self.push(slot, State::BlockNode)?;
+                slot.write(Event::DocumentStart, self.mark());
+                Ok(())
             }
         }
     }
 
     /// After a document without `...`.
-    pub(crate) fn explicit_document(&mut self) -> Answer
-        ensures answers { Reads at.explicit self.old self.new result }
+    pub(crate) fn explicit_document(&mut self, slot: &mut Slot) -> Answer
+        ensures answers { Reads at.explicit self.old self.new result slot.new }
         ensures moves { Moves 1 1 self.old self.new result }
     {
-        let next = self.peek()?;
-        self.end_or_document(next)
+        let next = self.peek(slot)?;
+        self.end_or_document(slot, next)
     }
 
     /// The stream's end, or a document that begins with `---`. `next` was looked at.
-    fn end_or_document(&mut self, next: Kind) -> Answer
+    fn end_or_document(&mut self, slot: &mut Slot, next: Kind) -> Answer
         requires { IsOfKind next self.old.tokens.peeked }
-        ensures answers { Reads at.explicit self.old self.new result }
+        ensures answers { Reads at.explicit self.old self.new result slot.new }
         ensures moves { Moves 1 1 self.old self.new result }
     {
         match next {
-            Kind::StreamEnd => Ok((Event::StreamEnd, self.skip())),
+            Kind::StreamEnd => {
+                slot.write(Event::StreamEnd, self.skip());
+                Ok(())
+            }
             Kind::DocumentStart => {
                 self.names.start_document();
                 let mark = self.skip();
-                self.push(State::DocumentContent)?;
-                Ok((Event::DocumentStart, mark))
+                self.push(slot, State::DocumentContent)?;
+                slot.write(Event::DocumentStart, mark);
+                Ok(())
             }
-            _ => Err(Stop::Own(Fault::At(Problem::DocumentStartToken, self.mark()))),
+            _ => Err(slot.halt(Stop::Own(Fault::At(Problem::DocumentStartToken, self.mark())))),
         }
     }
 
     /// A document with directives. The first directive was looked at.
-    fn directed_document(&mut self, kind: Kind) -> Answer
+    fn directed_document(&mut self, slot: &mut Slot, kind: Kind) -> Answer
         requires looks { IsOfKind kind self.old.tokens.peeked }
         requires directive { is_directive kind ≡ true }
-        ensures answers { Reads at.documents self.old self.new result }
+        ensures answers { Reads at.documents self.old self.new result slot.new }
         ensures moves { Moves 1 1 self.old self.new result }
     {
         self.names.start_document();
-        let next = self.directives()?;
+        let next = self.directives(slot)?;
         match next {
             Kind::DocumentStart => {
                 let mark = self.skip();
-                self.push(State::DocumentContent)?;
-                Ok((Event::DocumentStart, mark))
+                self.push(slot, State::DocumentContent)?;
+                slot.write(Event::DocumentStart, mark);
+                Ok(())
             }
-            _ => Err(Stop::Own(Fault::At(Problem::DocumentStartToken, self.mark()))),
+            _ => Err(slot.halt(Stop::Own(Fault::At(Problem::DocumentStartToken, self.mark())))),
         }
     }
 
     /// Reads directives, and gives the first token that is none.
-    fn directives(&mut self) -> Result<Kind, Stop>
+    fn directives(&mut self, slot: &mut Slot) -> Result<Kind, Halted>
         ensures peeked { IfOk result (λ n. IsOfKind n self.new.tokens.peeked × (n ≢ kind.VersionDirective) × (n ≢ kind.TagDirective)) }
         ensures moves { Moves 0 0 self.old self.new result }
         ensures at { OnOk result (AreRead self.old self.new) }
-        ensures err { IfErr result (λ s. DirectivesFail self.old self.new s) }
+        ensures err { OnErr result (DirectivesFail self.old self.new slot.new.stop) }
     {
         let mut versioned = false;
         'directives: loop {
-            let next = self.peek()?;
+            let next = self.peek(slot)?;
             match next {
                 Kind::VersionDirective => {
-                    self.version(versioned)?;
+                    self.version(slot, versioned)?;
                     versioned = true;
                 }
-                Kind::TagDirective => self.tag_directive()?,
+                Kind::TagDirective => self.tag_directive(slot)?,
                 _ => return Ok(next),
             }
         }
     }
 
     /// Takes a version. A document may have one.
-    fn version(&mut self, versioned: bool) -> Result<(), Stop>
+    fn version(&mut self, slot: &mut Slot, versioned: bool) -> Result<(), Halted>
         requires { IsOfKind kind.VersionDirective self.old.tokens.peeked }
-        ensures directs { Directs versioned true self.old self.new result }
+        ensures directs { Directs versioned true self.old self.new result slot.new }
         ensures moves { Moves 0 1 self.old self.new result }
     {
         let mark = self.skip();
         if versioned {
-            return Err(Stop::Own(Fault::At(Problem::SecondVersion, mark)));
+            return Err(slot.halt(Stop::Own(Fault::At(Problem::SecondVersion, mark))));
         }
         Ok(())
     }
 
     /// Takes a `%TAG` directive, or one of another name.
-    fn tag_directive(&mut self) -> Result<(), Stop>
+    fn tag_directive(&mut self, slot: &mut Slot) -> Result<(), Halted>
         requires { IsOfKind kind.TagDirective self.old.tokens.peeked }
-        ensures directs { (versioned : Bool) → Directs versioned versioned self.old self.new result }
+        ensures directs { (versioned : Bool) → Directs versioned versioned self.old self.new result slot.new }
         ensures moves { Moves 0 1 self.old self.new result }
     {
         let mark = self.mark();
         let (handle, prefix) = self.tokens.take_tag_directive();
-        self.names.declare(mark, handle, prefix)?;
-        Ok(())
+        match self.names.declare(mark, handle, prefix) {
+            Ok(()) => Ok(()),
+            Err(stop) => Err(slot.halt(stop)),
+        }
     }
 
     /// After `---`.
-    pub(crate) fn document_content(&mut self) -> Answer
-        ensures answers { Reads at.content self.old self.new result }
+    pub(crate) fn document_content(&mut self, slot: &mut Slot) -> Answer
+        ensures answers { Reads at.content self.old self.new result slot.new }
         ensures moves { Moves 3 1 self.old self.new result }
     {
-        let next = self.peek()?;
-        self.push(State::DocumentEnd)?;
+        let next = self.peek(slot)?;
+        self.push(slot, State::DocumentEnd)?;
         match next {
             Kind::VersionDirective
             | Kind::TagDirective
             | Kind::DocumentStart
             | Kind::DocumentEnd
-            | Kind::StreamEnd => Ok(self.nothing_written(self.mark())),
-            _ => self.node(NodeContext::Block, next),
+            | Kind::StreamEnd => {
+                self.nothing_written(slot, self.mark());
+                Ok(())
+            }
+            _ => self.node(slot, NodeContext::Block, next),
         }
     }
 
     /// After a document's node.
-    pub(crate) fn document_end(&mut self) -> Answer
-        ensures answers { Reads at.after self.old self.new result }
+    pub(crate) fn document_end(&mut self, slot: &mut Slot) -> Answer
+        ensures answers { Reads at.after self.old self.new result slot.new }
         ensures moves { Moves 2 1 self.old self.new result }
     {
-        let next = self.peek()?;
+        let next = self.peek(slot)?;
         match next {
             Kind::DocumentEnd => {
                 let mark = self.skip();
-                self.push(State::ImplicitDocumentStart)?;
-                Ok((Event::DocumentEnd, mark))
+                self.push(slot, State::ImplicitDocumentStart)?;
+                slot.write(Event::DocumentEnd, mark);
+                Ok(())
             }
             Kind::VersionDirective | Kind::TagDirective => {
-                Err(Stop::Own(Fault::At(Problem::DirectiveWithoutDocumentEnd, self.mark())))
+                Err(slot.halt(Stop::Own(Fault::At(
+                    Problem::DirectiveWithoutDocumentEnd,
+                    self.mark(),
+                ))))
             }
             _ => {
-                self.push(State::DocumentStart)?;
-                Ok((Event::DocumentEnd, self.mark()))
+                self.push(slot, State::DocumentStart)?;
+                slot.write(Event::DocumentEnd, self.mark());
+                Ok(())
             }
         }
     }

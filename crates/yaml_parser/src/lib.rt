@@ -13,6 +13,7 @@ pub mod parser;
 pub mod pull;
 pub mod reader;
 pub mod receiver;
+pub mod slot;
 pub mod stack;
 pub mod tokens;
 

@@ -89,8 +89,9 @@ impl<T: Iterator<Item = char>> Parser<T> {
         ensures start { self.new.start ≡ self.old.start }
         ensures left { OnOk result ((parsed self.new).left ≤ (parsed self.old).left) }
     {
+        let mut slot = self.slot();
         'events: loop {
-            let last = match self.push_next(recv) {
+            let last = match self.push_next(recv, &mut slot) {
                 Ok(last) => last,
                 Err(error) => return Err(error),
             };

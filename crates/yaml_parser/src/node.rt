@@ -1,5 +1,5 @@
 //! Nodes: their properties, and what may stand after them (YAML 1.2, section 6.9).
-ghost use Rattle.std.specs.Prelude.{◌≡◌, false, Some, None, OnOk, IfOk, IfErr};
+ghost use Rattle.std.specs.Prelude.{◌≡◌, false, Some, None, OnOk, OnErr, IfOk};
 ghost use Rattle.model_parser.specs.Goal as at;
 ghost use Rattle.defs_event.specs.Event.{Ev};
 ghost use Rattle.defs_event.specs.Names.{Names};
@@ -16,7 +16,8 @@ ghost use Rattle.yaml_parser.specs.Kinds.{IsOfKind, IsName};
 ghost use Rattle.model_parser.specs.declared.kind.Kind.TheVariants as kind;
 
 use crate::event::{Event, Tag};
-use crate::reader::{Answer, Reader};
+use crate::reader::Reader;
+use crate::slot::{Answer, Halted, Slot};
 use crate::tokens::Stop;
 use model_parser::{Kind, NodeContext, State};
 use yaml_chars::Marker;
@@ -33,59 +34,67 @@ pub struct Properties {
 
 impl<T: Iterator<Item = char>> Reader<T> {
     /// The node of a document without `---`.
-    pub(crate) fn block_node(&mut self) -> Answer
-        ensures answers { Reads (at.node context.Block) self.old self.new result }
+    pub(crate) fn block_node(&mut self, slot: &mut Slot) -> Answer
+        ensures answers { Reads (at.node context.Block) self.old self.new result slot.new }
         ensures moves { Moves 0 2 self.old self.new result }
     {
-        let next = self.peek()?;
-        self.node(NodeContext::Block, next)
+        let next = self.peek(slot)?;
+        self.node(slot, NodeContext::Block, next)
     }
 
     /// A node that stands here. `next`, its first token, was looked at.
     #[inline(always)]
-    pub(crate) fn node(&mut self, context: NodeContext, next: Kind) -> Answer
+    pub(crate) fn node(&mut self, slot: &mut Slot, context: NodeContext, next: Kind) -> Answer
         requires { IsOfKind next self.old.tokens.peeked }
-        ensures answers { Reads (at.node context) self.old self.new result }
+        ensures answers { Reads (at.node context) self.old self.new result slot.new }
         ensures moves { Moves 0 2 self.old self.new result }
     {
         match next {
-            Kind::Alias => self.alias(),
-            Kind::Anchor => self.anchored(context),
-            Kind::Tag => self.tagged(context),
+            Kind::Alias => self.alias(slot),
+            Kind::Anchor => self.anchored(slot, context),
+            Kind::Tag => self.tagged(slot, context),
             Kind::BlockEntry | Kind::BlockSequenceStart | Kind::BlockMappingStart => {
-                self.content(context, None, next)
+                self.content(slot, context, None, next)
             }
-            _ => self.flow_content(None, next),
+            _ => self.flow_content(slot, None, next),
         }
     }
 
-    fn alias(&mut self) -> Answer
+    fn alias(&mut self, slot: &mut Slot) -> Answer
         requires { IsOfKind kind.Alias self.old.tokens.peeked }
-        ensures answers { (context : NodeContext) → Reads (at.node context) self.old self.new result }
+        ensures answers { (context : NodeContext) → Reads (at.node context) self.old self.new result slot.new }
         ensures moves { Moves 0 2 self.old self.new result }
     {
         let mark = self.mark();
         let name = self.tokens.take_name();
-        let number = self.names.number_of(mark, &name)?;
-        Ok((Event::Alias(number), mark))
+        let number = match self.names.number_of(mark, &name) {
+            Ok(number) => number,
+            Err(stop) => return Err(slot.halt(stop)),
+        };
+        slot.write(Event::Alias(number), mark);
+        Ok(())
     }
 
     /// A node that begins with an anchor.
-    fn anchored(&mut self, context: NodeContext) -> Answer
+    fn anchored(&mut self, slot: &mut Slot, context: NodeContext) -> Answer
         requires { IsOfKind kind.Anchor self.old.tokens.peeked }
-        ensures answers { Reads (at.node context) self.old self.new result }
+        ensures answers { Reads (at.node context) self.old self.new result slot.new }
         ensures moves { Moves 0 2 self.old self.new result }
     {
         let mark = self.mark();
         let name = self.tokens.take_name();
-        let next = self.peek()?;
+        let next = self.peek(slot)?;
         match next {
             Kind::Tag => {
                 let (handle, suffix) = self.tokens.take_tag();
-                let tag = self.names.resolve(mark, handle, suffix)?;
-                self.content_after(context, name, tag)
+                let tag = match self.names.resolve(mark, handle, suffix) {
+                    Ok(tag) => tag,
+                    Err(stop) => return Err(slot.halt(stop)),
+                };
+                self.content_after(slot, context, name, tag)
             }
             _ => self.content(
+                slot,
                 context,
                 Some(Properties {
                     anchor: Some(name),
@@ -97,21 +106,25 @@ impl<T: Iterator<Item = char>> Reader<T> {
     }
 
     /// A node that begins with a tag.
-    fn tagged(&mut self, context: NodeContext) -> Answer
+    fn tagged(&mut self, slot: &mut Slot, context: NodeContext) -> Answer
         requires { IsOfKind kind.Tag self.old.tokens.peeked }
-        ensures answers { Reads (at.node context) self.old self.new result }
+        ensures answers { Reads (at.node context) self.old self.new result slot.new }
         ensures moves { Moves 0 2 self.old self.new result }
     {
         let mark = self.mark();
         let (handle, suffix) = self.tokens.take_tag();
-        let tag = self.names.resolve(mark, handle, suffix)?;
-        let next = self.peek()?;
+        let tag = match self.names.resolve(mark, handle, suffix) {
+            Ok(tag) => tag,
+            Err(stop) => return Err(slot.halt(stop)),
+        };
+        let next = self.peek(slot)?;
         match next {
             Kind::Anchor => {
                 let name = self.tokens.take_name();
-                self.content_after(context, name, tag)
+                self.content_after(slot, context, name, tag)
             }
             _ => self.content(
+                slot,
                 context,
                 Some(Properties {
                     anchor: None,
@@ -124,155 +137,188 @@ impl<T: Iterator<Item = char>> Reader<T> {
 
     /// What stands after an anchor and a tag.
     #[inline(never)]
-    fn content_after(&mut self, context: NodeContext, anchor: String, tag: Tag) -> Answer
-        ensures answers { ReadsAfter context (Some (record { anchor = Some anchor; tag = Some tag })) self.old self.new result }
+    fn content_after(
+        &mut self,
+        slot: &mut Slot,
+        context: NodeContext,
+        anchor: String,
+        tag: Tag,
+    ) -> Answer
+        ensures answers { ReadsAfter context (Some (record { anchor = Some anchor; tag = Some tag })) self.old self.new result slot.new }
         ensures moves { Moves 0 0 self.old self.new result }
     {
-        let next = self.peek()?;
+        let next = self.peek(slot)?;
         let properties = Properties {
             anchor: Some(anchor),
             tag: Some(tag),
         };
-        self.content(context, Some(properties), next)
+        self.content(slot, context, Some(properties), next)
     }
 
     /// What stands after a node's properties. `next` was looked at.
     #[inline(always)]
     fn content(
         &mut self,
+        slot: &mut Slot,
         context: NodeContext,
         properties: Option<Properties>,
         next: Kind,
     ) -> Answer
         requires { IsOfKind next self.old.tokens.peeked }
-        ensures answers { ReadsAfter context properties self.old self.new result }
+        ensures answers { ReadsAfter context properties self.old self.new result slot.new }
         ensures moves { Moves 0 (owed properties) self.old self.new result }
     {
         match context {
-            NodeContext::Flow => self.flow_content(properties, next),
-            NodeContext::Block => self.block_content(properties, next),
-            NodeContext::Part => self.part_content(properties, next),
+            NodeContext::Flow => self.flow_content(slot, properties, next),
+            NodeContext::Block => self.block_content(slot, properties, next),
+            NodeContext::Part => self.part_content(slot, properties, next),
         }
     }
 
     #[inline(always)]
-    fn part_content(&mut self, properties: Option<Properties>, next: Kind) -> Answer
+    fn part_content(
+        &mut self,
+        slot: &mut Slot,
+        properties: Option<Properties>,
+        next: Kind,
+    ) -> Answer
         requires { IsOfKind next self.old.tokens.peeked }
-        ensures answers { ReadsAfter context.Part properties self.old self.new result }
+        ensures answers { ReadsAfter context.Part properties self.old self.new result slot.new }
         ensures moves { Moves 0 (owed properties) self.old self.new result }
     {
         match next {
             Kind::BlockEntry => {
                 let mark = self.skip();
-                self.push(State::IndentlessSequenceItem)?;
-                self.sequence(properties, mark)
+                self.push(slot, State::IndentlessSequenceItem)?;
+                self.sequence(slot, properties, mark)
             }
-            _ => self.block_content(properties, next),
+            _ => self.block_content(slot, properties, next),
         }
     }
 
     #[inline(always)]
-    fn block_content(&mut self, properties: Option<Properties>, next: Kind) -> Answer
+    fn block_content(
+        &mut self,
+        slot: &mut Slot,
+        properties: Option<Properties>,
+        next: Kind,
+    ) -> Answer
         requires { IsOfKind next self.old.tokens.peeked }
-        ensures answers { ReadsAfter context.Block properties self.old self.new result }
+        ensures answers { ReadsAfter context.Block properties self.old self.new result slot.new }
         ensures moves { Moves 0 (owed properties) self.old self.new result }
     {
         match next {
             Kind::BlockSequenceStart => {
                 let mark = self.skip();
-                self.push(State::BlockSequenceEntry)?;
-                self.sequence(properties, mark)
+                self.push(slot, State::BlockSequenceEntry)?;
+                self.sequence(slot, properties, mark)
             }
             Kind::BlockMappingStart => {
                 let mark = self.skip();
-                self.push(State::BlockMappingKey)?;
-                self.mapping(properties, mark)
+                self.push(slot, State::BlockMappingKey)?;
+                self.mapping(slot, properties, mark)
             }
-            _ => self.flow_content(properties, next),
+            _ => self.flow_content(slot, properties, next),
         }
     }
 
     #[inline(always)]
-    fn flow_content(&mut self, properties: Option<Properties>, next: Kind) -> Answer
+    fn flow_content(
+        &mut self,
+        slot: &mut Slot,
+        properties: Option<Properties>,
+        next: Kind,
+    ) -> Answer
         requires { IsOfKind next self.old.tokens.peeked }
-        ensures answers { ReadsAfter context.Flow properties self.old self.new result }
+        ensures answers { ReadsAfter context.Flow properties self.old self.new result slot.new }
         ensures moves { Moves 0 (owed properties) self.old self.new result }
     {
         match next {
             Kind::Scalar => {
                 let mark = self.mark();
                 let (style, text) = self.tokens.take_scalar();
-                let (anchor, tag) = self.registered(properties)?;
-                Ok((Event::Scalar(text, style, anchor, tag), mark))
+                let (anchor, tag) = self.registered(slot, properties)?;
+                slot.write(Event::Scalar(text, style, anchor, tag), mark);
+                Ok(())
             }
             Kind::FlowSequenceStart => {
                 let mark = self.skip();
-                self.push(State::FlowSequenceFirstEntry)?;
-                self.sequence(properties, mark)
+                self.push(slot, State::FlowSequenceFirstEntry)?;
+                self.sequence(slot, properties, mark)
             }
             Kind::FlowMappingStart => {
                 let mark = self.skip();
-                self.push(State::FlowMappingFirstKey)?;
-                self.mapping(properties, mark)
+                self.push(slot, State::FlowMappingFirstKey)?;
+                self.mapping(slot, properties, mark)
             }
-            _ => self.no_content(properties, next),
+            _ => self.no_content(slot, properties, next),
         }
     }
 
     /// Properties alone are a node. `next` was looked at.
     #[inline(never)]
-    fn no_content(&mut self, properties: Option<Properties>, next: Kind) -> Answer
+    fn no_content(&mut self, slot: &mut Slot, properties: Option<Properties>, next: Kind) -> Answer
         requires looks { IsOfKind next self.old.tokens.peeked }
         requires none { begins_content context.Flow next ≡ false }
-        ensures answers { ReadsAfter context.Flow properties self.old self.new result }
+        ensures answers { ReadsAfter context.Flow properties self.old self.new result slot.new }
         ensures moves { Moves 0 (owed properties) self.old self.new result }
     {
         let mark = self.mark();
         match properties {
             Some(properties) => {
-                let (anchor, tag) = self.registered(Some(properties))?;
-                Ok((Event::empty_with(self.alloc, anchor, tag), mark))
+                let (anchor, tag) = self.registered(slot, Some(properties))?;
+                slot.write(Event::empty_with(self.alloc, anchor, tag), mark);
+                Ok(())
             }
-            None => Err(Stop::Own(Fault::At(Problem::NodeContent, mark))),
+            None => Err(slot.halt(Stop::Own(Fault::At(Problem::NodeContent, mark)))),
         }
     }
 
     /// The start of a sequence with these properties.
     #[inline(always)]
-    fn sequence(&mut self, properties: Option<Properties>, mark: Marker) -> Answer
+    fn sequence(&mut self, slot: &mut Slot, properties: Option<Properties>, mark: Marker) -> Answer
         ensures work { OnOk result (work self.new ≡ work self.old) }
         ensures input { KeepsInput self.old self.new }
-        ensures registers { (names : Names) → IsNamed self.old.names names → IfOk result (λ e. Registers self.old properties names (λ a t. placed e ≡ (Ev.sequence_start a t, mark)) self.new) }
-        ensures err { IfErr result (λ s. s ≡ Own OutOfMemory) }
+        ensures registers { (names : Names) → IsNamed self.old.names names → OnOk result (Registers self.old properties names (λ a t. placed slot.new.next ≡ (Ev.sequence_start a t, mark)) self.new) }
+        ensures err { OnErr result (slot.new.stop ≡ Own OutOfMemory) }
     {
-        let (anchor, tag) = self.registered(properties)?;
-        Ok((Event::SequenceStart(anchor, tag), mark))
+        let (anchor, tag) = self.registered(slot, properties)?;
+        slot.write(Event::SequenceStart(anchor, tag), mark);
+        Ok(())
     }
 
     /// The start of a mapping with these properties.
     #[inline(always)]
-    fn mapping(&mut self, properties: Option<Properties>, mark: Marker) -> Answer
+    fn mapping(&mut self, slot: &mut Slot, properties: Option<Properties>, mark: Marker) -> Answer
         ensures work { OnOk result (work self.new ≡ work self.old) }
         ensures input { KeepsInput self.old self.new }
-        ensures registers { (names : Names) → IsNamed self.old.names names → IfOk result (λ e. Registers self.old properties names (λ a t. placed e ≡ (Ev.mapping_start a t, mark)) self.new) }
-        ensures err { IfErr result (λ s. s ≡ Own OutOfMemory) }
+        ensures registers { (names : Names) → IsNamed self.old.names names → OnOk result (Registers self.old properties names (λ a t. placed slot.new.next ≡ (Ev.mapping_start a t, mark)) self.new) }
+        ensures err { OnErr result (slot.new.stop ≡ Own OutOfMemory) }
     {
-        let (anchor, tag) = self.registered(properties)?;
-        Ok((Event::MappingStart(anchor, tag), mark))
+        let (anchor, tag) = self.registered(slot, properties)?;
+        slot.write(Event::MappingStart(anchor, tag), mark);
+        Ok(())
     }
 
     /// Numbers the anchor of these properties.
     #[inline(always)]
-    fn registered(&mut self, properties: Option<Properties>) -> Result<(usize, Option<Tag>), Stop>
+    fn registered(
+        &mut self,
+        slot: &mut Slot,
+        properties: Option<Properties>,
+    ) -> Result<(usize, Option<Tag>), Halted>
         ensures work { OnOk result (work self.new ≡ work self.old) }
         ensures input { KeepsInput self.old self.new }
         ensures registers { (names : Names) → IsNamed self.old.names names → IfOk result (λ r. Registers self.old properties names (λ a t. (r.0 ≡ a) × (perhaps_tag_of r.1 ≡ t)) self.new) }
-        ensures err { IfErr result (λ s. s ≡ Own OutOfMemory) }
+        ensures err { OnErr result (slot.new.stop ≡ Own OutOfMemory) }
     {
         let Some(properties) = properties else {
             return Ok((0, None));
         };
-        let anchor = self.names.register(properties.anchor)?;
+        let anchor = match self.names.register(properties.anchor) {
+            Ok(anchor) => anchor,
+            Err(stop) => return Err(slot.halt(stop)),
+        };
         Ok((anchor, properties.tag))
     }
 }

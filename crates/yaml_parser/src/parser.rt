@@ -16,8 +16,10 @@ ghost use Rattle.yaml_parser.specs.View.{no_document};
 use crate::event::{Event, ParseResult};
 use crate::pull::Pull;
 use crate::receiver::MarkedEventReceiver;
+use crate::slot::Slot;
 use std::alloc::Global;
 use std::marker::Model;
+use std::mem;
 use std::str::Chars;
 use yaml_chars::Marker;
 use yaml_chars::history::History;
@@ -272,12 +274,13 @@ impl<T: Iterator<Item = char>> Parser<T> {
         next
     }
 
-    /// Pushes the next event of a document, where none waits and no fault is kept. The result says whether it is the
-    /// document's end.
+    /// Pushes the next event of a document, where none waits and no fault is kept, by way of a slot. The result says
+    /// whether it is the document's end.
     #[inline(always)]
     pub(crate) fn push_next<R: MarkedEventReceiver>(
         &mut self,
         recv: &mut R,
+        slot: &mut Slot,
     ) -> Result<bool, ScanError>
         requires inside { IsInside (parsed self.old) }
         requires none { (parsed self.old).ahead ≡ None }
@@ -285,19 +288,20 @@ impl<T: Iterator<Item = char>> Parser<T> {
         ensures pushes { PushesNext R.takes (parsed self.old) recv.old result (parsed self.new) recv.new }
         ensures start { self.new.start ≡ self.old.start }
     {
-        match self.pull.advance() {
-            Ok(next) => {
-                note(&mut self.given, &next, self.ended);
+        match self.pull.advance(slot) {
+            Ok(()) => {
+                note(&mut self.given, &slot.next, self.ended);
                 self.started = true;
-                self.ended = ends(self.ended, &next.0);
-                let (event, mark) = next;
-                let last = is_document_end(&event);
+                self.ended = ends(self.ended, &slot.next.0);
+                let last = is_document_end(&slot.next.0);
+                let mark = slot.next.1;
+                let event = mem::replace(&mut slot.next.0, Event::Nothing);
                 if let Err(error) = recv.on_event(event, mark) {
                     return Err(error);
                 }
                 Ok(last)
             }
-            Err(stop) => Err(self.pull.keep(stop)),
+            Err(_) => Err(self.pull.keep(slot.stop)),
         }
     }
 
@@ -331,6 +335,11 @@ impl<T: Iterator<Item = char>> Parser<T> {
         ensures scans { Scans (parsed self.now).scanner }
     {
         let _ = self.pull.reader.tokens.scanner.mark();
+    }
+
+    /// A slot for the events to come.
+    pub(crate) fn slot(&self) -> Slot {
+        Slot::new(self.pull.reader.tokens.scanner.mark())
     }
 
     /// Whether an event was given.

@@ -6,11 +6,13 @@ ghost use Rattle.yaml_parser.specs.Shown.{placed, ev_of};
 ghost use Rattle.defs_text.specs.Position.{Position};
 ghost use Rattle.defs_event.specs.Event.{Ev};
 ghost use Rattle.yaml_parser.specs.Held.{IsHeld, Continues, Advances};
+ghost use Rattle.yaml_parser.specs.At.{answered};
 ghost use Rattle.yaml_parser.specs.View.{fault_kept};
 
 use crate::event::{Event, ParseResult};
 use crate::names::Names;
-use crate::reader::{Answer, Reader};
+use crate::reader::Reader;
+use crate::slot::{Answer, Slot};
 use crate::stack::Stack;
 use crate::tokens::{KeptStop, Stop, Tokens};
 use std::alloc::Global;
@@ -66,31 +68,30 @@ impl<T: Iterator<Item = char>> Pull<T> {
         let Some(state) = self.reader.stack.pop() else {
             return Ok((Event::StreamEnd, self.reader.tokens.scanner.mark()));
         };
-        match self.reader.next(state) {
-            Ok(next) => {
+        let mut slot = Slot::new(self.reader.tokens.scanner.mark());
+        match self.reader.next(&mut slot, state) {
+            Ok(()) => {
                 self.reader.names.keeping.note();
-                Ok(next)
+                Ok(slot.next)
             }
-            Err(stop) => Err(self.keep(stop)),
+            Err(_) => Err(self.keep(slot.stop)),
         }
     }
 
     /// The next event, before the stream's end. A fault is not kept yet: see [`keep`](Pull::keep).
     #[inline(always)]
-    pub fn advance(&mut self) -> Answer
+    pub fn advance(&mut self, slot: &mut Slot) -> Answer
         requires { self.old.reader.stack ≢ [] }
-        ensures advances { (read : List (Ev × Position)) → IsHeld self.old.reader read None → Advances self.old read result self.new }
+        ensures advances { (read : List (Ev × Position)) → IsHeld self.old.reader read None → Advances self.old read (answered result slot.new) self.new }
         ensures kept { self.new.kept ≡ self.old.kept }
         ensures start { self.new.reader.tokens.scanner.start ≡ self.old.reader.tokens.scanner.start }
     {
         let Some(state) = self.reader.stack.pop() else {
             unreachable!()
         };
-        let next = self.reader.next(state);
-        if let Ok(_) = &next {
-            self.reader.names.keeping.note();
-        }
-        next
+        self.reader.next(slot, state)?;
+        self.reader.names.keeping.note();
+        Ok(())
     }
 
     /// Keeps a fault, and gives it as callers see it.

@@ -1,4 +1,4 @@
-ghost use Rattle.std.specs.Prelude.{◌≡◌, ◌+◌, [], ◌∷◌, false, Some, None, IfErr, OnOk, IfOk, IsSome, IfSome};
+ghost use Rattle.std.specs.Prelude.{◌≡◌, ◌+◌, [], ◌∷◌, false, Some, None, OnErr, OnOk, IfOk, IsSome, IfSome};
 ghost use Rattle.defs_token.specs.Token.{Style};
 ghost use Rattle.yaml_tokens.specs.declared.token.Token.{Token};
 ghost use Rattle.yaml_tokens.specs.declared.problem.Fault.TheVariants.{OutOfMemory};
@@ -15,15 +15,13 @@ ghost use Rattle.yaml_parser.specs.Seen.{fault_seen};
 
 use crate::event::Event;
 use crate::names::Names;
+use crate::slot::{Answer, Halted, Slot};
 use crate::stack::Stack;
 use crate::tokens::{KeptStop, Stop, Tokens};
 use model_parser::{Kind, State};
 use std::alloc::Global;
 use yaml_chars::Marker;
 use yaml_tokens::ScanError;
-
-/// An event and its position, or why there is none.
-pub type Answer = Result<(Event, Marker), Stop>;
 
 /// The productions of the token grammar, one function each.
 #[derive(Drop)]
@@ -41,16 +39,18 @@ pub struct Reader<T: Iterator<Item = char>> {
 impl<T: Iterator<Item = char>> Reader<T> {
     /// What the next token is, which stays.
     #[inline(always)]
-    pub(crate) fn peek(&mut self) -> Result<Kind, Stop>
+    pub(crate) fn peek(&mut self, slot: &mut Slot) -> Result<Kind, Halted>
         ensures peeked { IfOk result (λ k. IsOfKind k self.new.tokens.peeked) }
         ensures names { self.new.names ≡ self.old.names }
         ensures taken { self.new.tokens.taken ≡ self.old.tokens.taken }
         ensures moves { Moves 0 0 self.old self.new result }
         ensures at { OnOk result ((g : Goal) → is_over g ≡ false → Carries g self.old self.new) }
-        ensures err { IfErr result (λ s. (g : Goal) → is_idle g ≡ false → Fails g self.old self.new s) }
+        ensures err { OnErr result ((g : Goal) → is_idle g ≡ false → Fails g self.old self.new slot.new.stop) }
     {
-        let kind = self.tokens.peek()?;
-        Ok(kind)
+        match self.tokens.peek() {
+            Ok(kind) => Ok(kind),
+            Err(missing) => Err(slot.halt(Stop::from(missing))),
+        }
     }
 
     /// Where the token stands that was looked at.
@@ -76,23 +76,25 @@ impl<T: Iterator<Item = char>> Reader<T> {
     }
 
     #[inline(always)]
-    pub(crate) fn push(&mut self, state: State) -> Result<(), Stop>
+    pub(crate) fn push(&mut self, slot: &mut Slot, state: State) -> Result<(), Halted>
         ensures work { OnOk result (work self.new ≡ work self.old + weight state) }
         ensures names { self.new.names ≡ self.old.names }
         ensures tokens { self.new.tokens ≡ self.old.tokens }
         ensures stayed { OnOk result (Stayed self.old self.new (state ∷ self.old.stack)) }
-        ensures err { IfErr result (λ s. s ≡ Own OutOfMemory) }
+        ensures err { OnErr result (slot.new.stop ≡ Own OutOfMemory) }
     {
-        self.stack.push(state)?;
-        Ok(())
+        match self.stack.push(state) {
+            Ok(()) => Ok(()),
+            Err(error) => Err(slot.halt(Stop::from(error))),
+        }
     }
 
     /// A scalar that is not written.
     #[inline(always)]
-    pub(crate) fn nothing_written(&self, mark: Marker) -> (Event, Marker)
-        ensures { placed result ≡ (Ev.scalar [] Style.plain 0 None, mark) }
+    pub(crate) fn nothing_written(&self, slot: &mut Slot, mark: Marker)
+        ensures { placed slot.new.next ≡ (Ev.scalar [] Style.plain 0 None, mark) }
     {
-        (Event::empty_with(self.alloc, 0, None), mark)
+        slot.write(Event::empty_with(self.alloc, 0, None), mark);
     }
 
     /// A fault as callers see it.
@@ -112,34 +114,34 @@ impl<T: Iterator<Item = char>> Reader<T> {
 
     /// The next event, where this state was on top.
     #[inline(never)]
-    pub fn next(&mut self, state: State) -> Answer
-        ensures answers { Reads (goal_of state) self.old self.new result }
+    pub fn next(&mut self, slot: &mut Slot, state: State) -> Answer
+        ensures answers { Reads (goal_of state) self.old self.new result slot.new }
         ensures moves { Moves (weight state) 1 self.old self.new result }
     {
         match state {
-            State::StreamStart => self.stream_start(),
-            State::ImplicitDocumentStart => self.document(),
-            State::DocumentStart => self.explicit_document(),
-            State::DocumentContent => self.document_content(),
-            State::DocumentEnd => self.document_end(),
-            State::BlockNode => self.block_node(),
-            State::BlockSequenceEntry => self.block_sequence_entry(),
-            State::IndentlessSequenceEntry => self.indentless_sequence_entry(),
-            State::IndentlessSequenceItem => self.indentless_sequence_item(),
-            State::BlockMappingKey => self.block_mapping_key(),
-            State::BlockMappingNextKey => self.block_mapping_next_key(),
-            State::BlockMappingValue => self.block_mapping_value(),
-            State::BlockMappingPart => self.block_mapping_part(),
-            State::FlowSequenceFirstEntry => self.flow_sequence_first_entry(),
-            State::FlowSequenceEntry => self.flow_sequence_entry(),
-            State::FlowSequenceEntryMappingKey => self.flow_pair_key(),
-            State::FlowSequenceEntryMappingValue => self.flow_pair_value(),
-            State::FlowSequenceEntryMappingEnd => self.flow_pair_end(),
-            State::FlowMappingFirstKey => self.flow_mapping_first_key(),
-            State::FlowMappingKey => self.flow_mapping_key(),
-            State::FlowMappingValue => self.flow_mapping_value(),
-            State::FlowMappingPart(mark) => self.flow_mapping_valued(mark),
-            State::FlowMappingEmptyValue => self.flow_mapping_empty_value(),
+            State::StreamStart => self.stream_start(slot),
+            State::ImplicitDocumentStart => self.document(slot),
+            State::DocumentStart => self.explicit_document(slot),
+            State::DocumentContent => self.document_content(slot),
+            State::DocumentEnd => self.document_end(slot),
+            State::BlockNode => self.block_node(slot),
+            State::BlockSequenceEntry => self.block_sequence_entry(slot),
+            State::IndentlessSequenceEntry => self.indentless_sequence_entry(slot),
+            State::IndentlessSequenceItem => self.indentless_sequence_item(slot),
+            State::BlockMappingKey => self.block_mapping_key(slot),
+            State::BlockMappingNextKey => self.block_mapping_next_key(slot),
+            State::BlockMappingValue => self.block_mapping_value(slot),
+            State::BlockMappingPart => self.block_mapping_part(slot),
+            State::FlowSequenceFirstEntry => self.flow_sequence_first_entry(slot),
+            State::FlowSequenceEntry => self.flow_sequence_entry(slot),
+            State::FlowSequenceEntryMappingKey => self.flow_pair_key(slot),
+            State::FlowSequenceEntryMappingValue => self.flow_pair_value(slot),
+            State::FlowSequenceEntryMappingEnd => self.flow_pair_end(slot),
+            State::FlowMappingFirstKey => self.flow_mapping_first_key(slot),
+            State::FlowMappingKey => self.flow_mapping_key(slot),
+            State::FlowMappingValue => self.flow_mapping_value(slot),
+            State::FlowMappingPart(mark) => self.flow_mapping_valued(slot, mark),
+            State::FlowMappingEmptyValue => self.flow_mapping_empty_value(slot),
         }
     }
 }

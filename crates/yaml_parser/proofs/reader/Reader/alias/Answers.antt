@@ -3,12 +3,12 @@ use Rattle.defs_text.specs.Text.{string_chars}
 use Rattle.defs_token.specs.Token.{Tok}
 use Rattle.yaml_tokens.specs.Shown.{tok_of}
 use Rattle.yaml_parser.proofs.Steps.{looked, if_some_at}
-use Rattle.yaml_parser.proofs.Arms.{answers_err, faulted_as}
+use Rattle.yaml_parser.proofs.Arms.{faulted_as, wrote}
 use Rattle.yaml_parser.proofs.NodeArms.{taken_with, alias_text, alias_taken, alias_unknown}
 use Rattle.yaml_parser.proofs.reader.Reader.alias.Goals as goal
 
-pub returns-in_err-number-clause-answers : goal.returns-in_err-number-clause-answers
-returns-in_err-number-clause-answers g c = λ position names given h. let l = looked _ _ c.requires in answers_err _ given c.from_residual.result _ c.from_residual.ensures.1 (faulted_as _ given c.in_err-number.ensures.none.0 (alias_unknown l.1 (if_some_at (λ t. t.0 ≡ c.mark-mark.result) c.mark-mark.ensures l.1) (taken_with c.take_name-name.ensures.skips l.1) refl (alias_text l.2 (if_some_at (λ t. (tok_of t.1 ≡ Tok.alias (string_chars c.take_name-name.result)) ⊎ (tok_of t.1 ≡ Tok.anchor (string_chars c.take_name-name.result))) c.take_name-name.ensures.name l.1)) (sym (h.code.anchors c.take_name-name.result) ∙ c.in_err-number.ensures.none.1) h))
+pub returns-in-Err-clause-answers : goal.returns-in-Err-clause-answers
+returns-in-Err-clause-answers g c = λ position names given h. let l = looked _ _ c.requires in faulted_as _ given c.halt.ensures (faulted_as _ given c.in-Err.ensures.none.0 (alias_unknown l.1 (if_some_at (λ t. t.0 ≡ c.mark-mark.result) c.mark-mark.ensures l.1) (taken_with c.take_name-name.ensures.skips l.1) refl (alias_text l.2 (if_some_at (λ t. (tok_of t.1 ≡ Tok.alias (string_chars c.take_name-name.result)) ⊎ (tok_of t.1 ≡ Tok.anchor (string_chars c.take_name-name.result))) c.take_name-name.ensures.name l.1)) (sym (h.code.anchors c.take_name-name.result) ∙ c.in-Err.ensures.none.1) h))
 
 pub returns-clause-answers : goal.returns-clause-answers
-returns-clause-answers g c = λ position names given h. let l = looked _ _ c.requires in alias_taken _ l.1 (if_some_at (λ t. t.0 ≡ c.mark-mark.result) c.mark-mark.ensures l.1) (taken_with c.take_name-name.ensures.skips l.1) refl refl (alias_text l.2 (if_some_at (λ t. (tok_of t.1 ≡ Tok.alias (string_chars c.take_name-name.result)) ⊎ (tok_of t.1 ≡ Tok.anchor (string_chars c.take_name-name.result))) c.take_name-name.ensures.name l.1)) (sym (h.code.anchors c.take_name-name.result) ∙ c.in_ok-number.ensures.some) h
+returns-clause-answers g c = λ position names given h. let l = looked _ _ c.requires in wrote _ given c.write.ensures (alias_taken _ l.1 (if_some_at (λ t. t.0 ≡ c.mark-mark.result) c.mark-mark.ensures l.1) (taken_with c.take_name-name.ensures.skips l.1) refl refl (alias_text l.2 (if_some_at (λ t. (tok_of t.1 ≡ Tok.alias (string_chars c.take_name-name.result)) ⊎ (tok_of t.1 ≡ Tok.anchor (string_chars c.take_name-name.result))) c.take_name-name.ensures.name l.1)) (sym (h.code.anchors c.take_name-name.result) ∙ c.in-Ok.ensures.some) h)

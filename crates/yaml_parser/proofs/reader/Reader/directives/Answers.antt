@@ -1,16 +1,15 @@
-use Rattle.yaml_parser.specs.Directing.{DirectivesFail}
 use Rattle.std.proofs.Common.{refl, arith}
 use Rattle.model_parser.specs.Goal as at
-use Rattle.yaml_parser.proofs.Arms.{if_err_as}
+use Rattle.yaml_parser.proofs.Arms.{on_err}
 use Rattle.yaml_parser.proofs.DocumentArms.{directing_on}
 use Rattle.yaml_parser.proofs.reader.Reader.directives.Goals as goal
 
 pub returns-in_err-next-clause-err : goal.returns-in_err-next-clause-err
-returns-in_err-next-clause-err g c = if_err_as (DirectivesFail c.args.self.now c.peek.new.self) c.from_residual.result c.from_residual.ensures.1
+returns-in_err-next-clause-err g c = on_err _ c.from_residual.result
     (λ names given h. let d = c.directives.invariant.at names given h in c.in_err-next.ensures.err (at.directed d.read) refl names given d.here)
 
 pub returns-in_err-version-in-VersionDirective-clause-err : goal.returns-in_err-version-in-VersionDirective-clause-err
-returns-in_err-version-in-VersionDirective-clause-err g c = if_err_as (DirectivesFail c.args.self.now c.version.new.self) c.from_residual-in_err-version-in-VersionDirective.result c.from_residual-in_err-version-in-VersionDirective.ensures.1
+returns-in_err-version-in-VersionDirective-clause-err g c = on_err _ c.from_residual-in_err-version-in-VersionDirective.result
     (λ names given h. c.in_err-version-in-VersionDirective.ensures.directs names given (directing_on c.in_ok-next.ensures.at c.in_ok-next.ensures.names c.in_ok-next.ensures.taken (c.directives.invariant.at names given h)))
 
 pub directives-preserved-in-VersionDirective : goal.directives-preserved-in-VersionDirective
@@ -28,7 +27,7 @@ directives-preserved g c = record {
 }
 
 pub returns-in_err-tag_directive-in-TagDirective-clause-err : goal.returns-in_err-tag_directive-in-TagDirective-clause-err
-returns-in_err-tag_directive-in-TagDirective-clause-err g c = if_err_as (DirectivesFail c.args.self.now c.tag_directive.new.self) c.from_residual-in_err-tag_directive-in-TagDirective.result c.from_residual-in_err-tag_directive-in-TagDirective.ensures.1
+returns-in_err-tag_directive-in-TagDirective-clause-err g c = on_err _ c.from_residual-in_err-tag_directive-in-TagDirective.result
     (λ names given h. c.in_err-tag_directive-in-TagDirective.ensures.directs c.directives.versioned names given (directing_on c.in_ok-next.ensures.at c.in_ok-next.ensures.names c.in_ok-next.ensures.taken (c.directives.invariant.at names given h)))
 
 pub returns-in_default : goal.returns-in_default

@@ -3,12 +3,12 @@ use Rattle.model_parser.specs.declared.context.NodeContext.TheVariants as contex
 use Rattle.model_parser.specs.Kinds.{begins_node, ends_document, is_directive}
 use Rattle.model_parser.proofs.First as first
 use Rattle.model_parser.proofs.Document as turn
-use Rattle.yaml_parser.proofs.Arms.{stays, stay, stay_push, answers_err, either, as_kind, not_as}
+use Rattle.yaml_parser.proofs.Arms.{stays, stay, stay_push, answers_err, either, as_kind, not_as, wrote}
 use Rattle.yaml_parser.proofs.DocumentArms.{bare_begins, not_directive}
 use Rattle.yaml_parser.proofs.reader.Reader.document.Goals as goal
 
 pub returns-in_err-next-clause-answers : goal.returns-in_err-next-clause-answers
-returns-in_err-next-clause-answers g c = λ names given h. answers_err c.skip_document_ends.new.self given c.from_residual.result _ c.from_residual.ensures.1 (c.in_err-next.ensures.err names given h)
+returns-in_err-next-clause-answers g c = λ names given h. answers_err c.skip_document_ends.new.self given c.from_residual.result _ c.skip_document_ends.new.slot c.from_residual.ensures.1 (c.in_err-next.ensures.err names given h)
 
 pub returns-in-StreamEnd-clause-answers : goal.returns-in-StreamEnd-clause-answers
 returns-in-StreamEnd-clause-answers g c = λ names given h.
@@ -22,8 +22,8 @@ returns-in-VersionDirective-clause-answers g c = λ names given h. c.directed_do
 pub returns-in_ok-push-in_default-2-clause-answers : goal.returns-in_ok-push-in_default-2-clause-answers
 returns-in_ok-push-in_default-2-clause-answers g c = λ names given h.
     let a = c.in_ok-next.ensures.at names given h in
-    bare_begins _ c.in_ok-next.ensures.peeked.0
+    wrote _ given c.write.ensures (bare_begins _ c.in_ok-next.ensures.peeked.0
     (λ t e. turn.documents_bare _ t
     (as_kind ends_document (first.not_document _ c.in_default.not-DocumentStart c.in_ok-next.ensures.peeked.1 c.in_default.not-StreamEnd) e)
     (as_kind is_directive (not_directive _ c.in_default.not-VersionDirective c.in_default.not-TagDirective) e))
-    refl c.start_document.ensures.keep c.start_document.ensures.named (stay_push (stay_push stay c.in_ok-push-in_default.ensures.stayed) c.in_ok-push-in_default-2.ensures.stayed) a
+    refl c.start_document.ensures.keep c.start_document.ensures.named (stay_push (stay_push stay c.in_ok-push-in_default.ensures.stayed) c.in_ok-push-in_default-2.ensures.stayed) a)

@@ -1,7 +1,7 @@
 use Rattle.std.proofs.Common.{refl, ap}
 use Rattle.model_parser.specs.Kinds.{kind_of}
 use Rattle.model_parser.proofs.Document as turn
-use Rattle.yaml_parser.proofs.Arms.{push_after, not_as}
+use Rattle.yaml_parser.proofs.Arms.{push_after, not_as, wrote, faulted_as}
 use Rattle.yaml_parser.proofs.Ends.{refuses_for}
 use Rattle.yaml_parser.proofs.Says.{says_explicit}
 use Rattle.yaml_parser.proofs.Ways.{goes_apart, explicit_ways, explicit_right}
@@ -11,13 +11,13 @@ use Rattle.yaml_parser.proofs.DocumentArms.{explicit_begins, stream_ends}
 use Rattle.yaml_parser.proofs.reader.Reader.end_or_document.Goals as goal
 
 pub returns-in-StreamEnd-clause-answers : goal.returns-in-StreamEnd-clause-answers
-returns-in-StreamEnd-clause-answers g c = λ names given h. stream_ends _ c.requires c.in-StreamEnd.is c.skip.ensures.took h
+returns-in-StreamEnd-clause-answers g c = λ names given h. wrote _ given c.write.ensures (stream_ends _ c.requires c.in-StreamEnd.is c.skip.ensures.took h)
 
 pub returns-in_ok-push-in-DocumentStart-clause-answers : goal.returns-in_ok-push-in-DocumentStart-clause-answers
 returns-in_ok-push-in-DocumentStart-clause-answers g c = λ names given h.
-    explicit_begins _ c.requires c.in-DocumentStart.is refl refl c.start_document.ensures.keep c.start_document.ensures.named (push_after c.skip-mark.ensures.took c.in_ok-push-in-DocumentStart.ensures.stayed) h
+    wrote _ given c.write-in-DocumentStart.ensures (explicit_begins _ c.requires c.in-DocumentStart.is refl refl c.start_document.ensures.keep c.start_document.ensures.named (push_after c.skip-mark.ensures.took c.in_ok-push-in-DocumentStart.ensures.stayed) h)
 
 pub returns-in_default-clause-answers : goal.returns-in_default-clause-answers
 returns-in_default-clause-answers g c = λ names given h.
-    refuses_for DocumentStartToken refl refl c.mark.ensures c.requires (λ t e. turn.explicit_refuses _ t (not_as c.in_default.not-StreamEnd e) (not_as c.in_default.not-DocumentStart e))
-    (λ a t e. (explicit_outside a, λ same. absurd (not_as c.in_default.not-DocumentStart e (ap kind_of same)))) (λ a no. goes_apart explicit_ways explicit_right a) says_explicit h
+    faulted_as _ given c.halt.ensures (refuses_for DocumentStartToken refl refl c.mark.ensures c.requires (λ t e. turn.explicit_refuses _ t (not_as c.in_default.not-StreamEnd e) (not_as c.in_default.not-DocumentStart e))
+    (λ a t e. (explicit_outside a, λ same. absurd (not_as c.in_default.not-DocumentStart e (ap kind_of same)))) (λ a no. goes_apart explicit_ways explicit_right a) says_explicit h)

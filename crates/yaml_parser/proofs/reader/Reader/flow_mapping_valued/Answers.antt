@@ -7,10 +7,10 @@ use Rattle.yaml_parser.proofs.Arms.{leaves, stays, plain, stay, stay_push, answe
 use Rattle.yaml_parser.proofs.reader.Reader.flow_mapping_valued.Goals as goal
 
 pub returns-in_err-next-clause-answers : goal.returns-in_err-next-clause-answers
-returns-in_err-next-clause-answers g c = λ names given h. answers_err c.peek.new.self given c.from_residual.result _ c.from_residual.ensures.1 (c.in_err-next.ensures.err at.flow_valued refl names given h)
+returns-in_err-next-clause-answers g c = λ names given h. answers_err c.peek.new.self given c.from_residual.result _ c.peek.new.slot c.from_residual.ensures.1 (c.in_err-next.ensures.err at.flow_valued refl names given h)
 
 pub returns-in-FlowEntry-clause-answers : goal.returns-in-FlowEntry-clause-answers
-returns-in-FlowEntry-clause-answers g c = λ names given h. answers_written c.push.new.self given c.nothing_written.result c.nothing_written.ensures (leaves _ c.in_ok-next.ensures.peeked (stay_push stay c.in_ok-push.ensures.stayed) (λ t e. turn.flow_valued_empty _ t (as_kind ends_flow_pair (either (λ k. ends_flow_pair k ≡ true) refl refl c.in-FlowEntry.is) e)) (plain refl refl refl refl) refl (c.in_ok-next.ensures.at at.flow_valued refl names given h))
+returns-in-FlowEntry-clause-answers g c = λ names given h. answers_written c.push.new.self given c.nothing_written.new.slot.next c.nothing_written.ensures (leaves _ c.in_ok-next.ensures.peeked (stay_push stay c.in_ok-push.ensures.stayed) (λ t e. turn.flow_valued_empty _ t (as_kind ends_flow_pair (either (λ k. ends_flow_pair k ≡ true) refl refl c.in-FlowEntry.is) e)) (plain refl refl refl refl) refl (c.in_ok-next.ensures.at at.flow_valued refl names given h))
 
 pub returns-in_default-clause-answers : goal.returns-in_default-clause-answers
 returns-in_default-clause-answers g c = λ names given h. c.node.ensures.answers names given (stays c.in_ok-next.ensures.peeked (stay_push stay c.in_ok-push.ensures.stayed) (λ t e. turn.flow_valued_node _ t (as_kind ends_flow_pair (first.not_flow_pair _ c.in_default.not-FlowEntry c.in_default.not-FlowMappingEnd) e)) refl tt refl (c.in_ok-next.ensures.at at.flow_valued refl names given h))

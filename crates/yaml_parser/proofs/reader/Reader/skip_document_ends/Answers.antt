@@ -1,15 +1,14 @@
-use Rattle.yaml_parser.specs.At.{Fails}
 use Rattle.std.proofs.Common.{refl, arith}
 use Rattle.model_parser.specs.Goal as at
 use Rattle.model_parser.proofs.Document as turn
-use Rattle.yaml_parser.proofs.Arms.{goes, if_err_as}
+use Rattle.yaml_parser.proofs.Arms.{goes, on_err}
 use Rattle.yaml_parser.proofs.reader.Reader.skip_document_ends.Goals as goal
 
 pub returns-in_err-next-clause-err : goal.returns-in_err-next-clause-err
-returns-in_err-next-clause-err g c = if_err_as (Fails at.documents c.args.self.now c.peek.new.self) c.from_residual.result c.from_residual.ensures.1 (c.in_err-next.ensures.err at.documents refl)
+returns-in_err-next-clause-err g c = on_err _ c.from_residual.result (c.in_err-next.ensures.err at.documents refl)
 
 pub returns-in_err-next-2-clause-err : goal.returns-in_err-next-2-clause-err
-returns-in_err-next-2-clause-err g c = if_err_as (Fails at.documents c.args.self.now c.peek-in-DocumentEnd.new.self) c.from_residual-in_err-next-2.result c.from_residual-in_err-next-2.ensures.1
+returns-in_err-next-2-clause-err g c = on_err _ c.from_residual-in_err-next-2.result
     (λ names given h. c.in_err-next-2.ensures.err at.documents refl names given (goes c.ends.invariant.peeked c.in-DocumentEnd.is refl c.skip.ensures.took (turn.documents_marker _) refl tt refl refl (c.ends.invariant.at names given h)))
 
 pub ends-preserved : goal.ends-preserved

@@ -1,0 +1,50 @@
+ghost use Rattle.std.specs.Prelude.{◌≡◌};
+
+use crate::event::Event;
+use crate::tokens::Stop;
+use std::mem;
+use yaml_chars::Marker;
+
+/// No event comes: the slot says why.
+#[derive(Clone, Copy)]
+pub struct Halted;
+
+/// Whether an event was written into the slot.
+pub type Answer = Result<(), Halted>;
+
+/// Where productions write.
+#[derive(Drop)]
+pub struct Slot {
+    /// The event that was written, and its position.
+    pub next: (Event, Marker),
+    /// Why no event comes.
+    pub stop: Stop,
+}
+
+impl Slot {
+    /// A slot before the first event.
+    #[inline(always)]
+    pub fn new(mark: Marker) -> Self {
+        Slot {
+            next: (Event::Nothing, mark),
+            stop: Stop::Ended,
+        }
+    }
+
+    /// Writes an event. The one before is not dropped: it was taken.
+    #[inline(always)]
+    pub(crate) fn write(&mut self, event: Event, mark: Marker)
+        ensures { self.new.next ≡ (event, mark) }
+    {
+        mem::forget(mem::replace(&mut self.next, (event, mark)));
+    }
+
+    /// Writes why no event comes.
+    #[inline(never)]
+    pub(crate) fn halt(&mut self, stop: Stop) -> Halted
+        ensures { self.new.stop ≡ stop }
+    {
+        self.stop = stop;
+        Halted
+    }
+}
