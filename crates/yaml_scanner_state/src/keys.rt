@@ -206,7 +206,7 @@ impl ImplicitKeys {
     }
 
     // The same, where some key is stale.
-    #[inline(never)]
+    #[inline(always)]
     fn end_stale(&mut self, mark: Marker) -> Result<(), Fault>
         ensures ok { OnOk result ((g : ℕ) → drop_stale mark (seen g self.old) ≡ Ok (seen g self.new)) }
         ensures err { IfErr result (λ e. (g : ℕ) → drop_stale mark (seen g self.old) ≡ Err e) }
