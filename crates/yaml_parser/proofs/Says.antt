@@ -17,7 +17,7 @@ use Rattle.model_parser.specs.Goal as at
 use Rattle.model_parser.specs.Goal.{Goal}
 use Rattle.defs_event.specs.Place.{Collection, block_sequence, block_mapping, flow_sequence, flow_mapping, open_after, Next, node_next, directive_next, other_next, next_after}
 use Rattle.model_parser.specs.Place.{open_under, open_at, next_at, top, is_after, is_over_document, IsNoDirective}
-use Rattle.model_parser.specs.Rest.{rest_tokens, is_in_mapping, IsNested, IsUnder, IsBottom}
+use Rattle.model_parser.specs.Rest.{rest_tokens, is_in_mapping, IsNested, is_under, IsBottom}
 use Rattle.model_parser.proofs.Shortest.{ending}
 use Rattle.yaml_parser.specs.declared.reader.Reader.{Reader}
 use Rattle.yaml_parser.specs.Blames.{problem_in, problem_at, problem_for, problem_of}
@@ -97,30 +97,30 @@ mapping_opens (state.BlockMappingValue ∷ ss) h e = cc
 mapping_opens _ h e = cc
 
 -- Where nothing is open, it is a document's.
-over_document : (ss : List State) → IsNested ss → IsUnder ss → open_under ss ≡ [] → is_over_document ss ≡ true
-over_document [] n u e = absurd u
-over_document (state.StreamStart ∷ ss) n u e = absurd u
-over_document (state.ImplicitDocumentStart ∷ ss) n u e = absurd u
-over_document (state.DocumentStart ∷ ss) n u e = absurd u
-over_document (state.DocumentContent ∷ ss) n u e = absurd u
+over_document : (ss : List State) → IsNested ss → is_under ss ≡ true → open_under ss ≡ [] → is_over_document ss ≡ true
+over_document [] n u e = cc
+over_document (state.StreamStart ∷ ss) n u e = cc
+over_document (state.ImplicitDocumentStart ∷ ss) n u e = cc
+over_document (state.DocumentStart ∷ ss) n u e = cc
+over_document (state.DocumentContent ∷ ss) n u e = cc
 over_document (state.DocumentEnd ∷ ss) n u e = refl
-over_document (state.BlockNode ∷ ss) n u e = absurd u
+over_document (state.BlockNode ∷ ss) n u e = cc
 over_document (state.BlockSequenceEntry ∷ ss) n u e = cc
 over_document (state.IndentlessSequenceEntry ∷ ss) n u e = absurd (mapping_opens ss n.0.0.2 e)
-over_document (state.IndentlessSequenceItem ∷ ss) n u e = absurd u
+over_document (state.IndentlessSequenceItem ∷ ss) n u e = cc
 over_document (state.BlockMappingKey ∷ ss) n u e = cc
 over_document (state.BlockMappingNextKey ∷ ss) n u e = cc
 over_document (state.BlockMappingValue ∷ ss) n u e = cc
-over_document (state.BlockMappingPart ∷ ss) n u e = absurd u
-over_document (state.FlowSequenceFirstEntry ∷ ss) n u e = absurd u
+over_document (state.BlockMappingPart ∷ ss) n u e = cc
+over_document (state.FlowSequenceFirstEntry ∷ ss) n u e = cc
 over_document (state.FlowSequenceEntry ∷ ss) n u e = cc
-over_document (state.FlowSequenceEntryMappingKey ∷ ss) n u e = absurd u
+over_document (state.FlowSequenceEntryMappingKey ∷ ss) n u e = cc
 over_document (state.FlowSequenceEntryMappingValue ∷ ss) n u e = cc
 over_document (state.FlowSequenceEntryMappingEnd ∷ ss) n u e = cc
-over_document (state.FlowMappingFirstKey ∷ ss) n u e = absurd u
+over_document (state.FlowMappingFirstKey ∷ ss) n u e = cc
 over_document (state.FlowMappingKey ∷ ss) n u e = cc
 over_document (state.FlowMappingValue ∷ ss) n u e = cc
-over_document (state.FlowMappingPart m ∷ ss) n u e = absurd u
+over_document (state.FlowMappingPart m ∷ ss) n u e = cc
 over_document (state.FlowMappingEmptyValue ∷ ss) n u e = cc
 
 node_for : (k : Kind) (cs : List Collection) → (cs ≡ [] → is_directive k ≡ false) → problem.NodeContent ≡ problem_for k node_next cs
