@@ -100,11 +100,7 @@ fn said(alloc: Global, root: Marked<'_>, path: &[Step<'static>]) -> Result<Strin
 }
 
 // Of each node is said what its row says. All rows that fail are told.
-fn rows_hold(
-    rt: &(impl Abort + AllocGlobal),
-    root: Marked<'_>,
-    rows: &[Row],
-) -> Result<(), Fail> {
+fn rows_hold(rt: &(impl Abort + AllocGlobal), root: Marked<'_>, rows: &[Row]) -> Result<(), Fail> {
     let mut report = Report::new(rt.alloc());
     for (name, path, want) in rows {
         let found = said(rt.alloc(), root, path)?;

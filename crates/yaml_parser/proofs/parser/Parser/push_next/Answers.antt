@@ -37,8 +37,12 @@ returns-in-Err-on_event-clause-pushes g c =
     let noted = all_noted i.given.items c.note.new.given.items c.advance.new.slot.next i.ended c.note.ensures in
     let gives = (advanced i.pull c.advance.new.self (all_placed i.given.items) (all_placed c.note.new.given.items) i.current i.started i.ended c.ends-self-inside.result i.misplaced c.advance.new.slot.next c.self.invariant ahead clear c.in-Ok.ensures.advances c.advance.ensures.kept noted c.ends-self-inside.ensures).1 in
     let v = seen c.advance.new.self (all_placed c.note.new.given.items) i.current true c.ends-self-inside.result i.misplaced in
-    inr (ev_of c.advance.new.slot.next.0, c.advance.new.slot.next.1, subst (λ u. GivesEvent (parsed u) (placed c.advance.new.slot.next) v) c.self.view_is gives,
-    subst (λ v. g.R.MarkedEventReceiver.takes c.args.recv.now (ev_of v) c.advance.new.slot.next.1 (Err c.in-Err-on_event.error) c.on_event.new.self) c.replace-event.ensures.value c.in-Err-on_event.ensures)
+    inr (
+      ev_of c.advance.new.slot.next.0,
+      c.advance.new.slot.next.1,
+      subst (λ u. GivesEvent (parsed u) (placed c.advance.new.slot.next) v) c.self.view_is gives,
+      subst (λ v. g.R.MarkedEventReceiver.takes c.args.recv.now (ev_of v) c.advance.new.slot.next.1 (Err c.in-Err-on_event.error) c.on_event.new.self) c.replace-event.ensures.value c.in-Err-on_event.ensures,
+    )
 
 pub returns-in_default-clause-pushes : goal.returns-in_default-clause-pushes
 returns-in_default-clause-pushes g c =
@@ -47,9 +51,13 @@ returns-in_default-clause-pushes g c =
     let clear = subst (λ u. (parsed u).fault ≡ None) (sym c.self.view_is) c.requires.clear in
     let noted = all_noted i.given.items c.note.new.given.items c.advance.new.slot.next i.ended c.note.ensures in
     let gives = (advanced i.pull c.advance.new.self (all_placed i.given.items) (all_placed c.note.new.given.items) i.current i.started i.ended c.ends-self-inside.result i.misplaced c.advance.new.slot.next c.self.invariant ahead clear c.in-Ok.ensures.advances c.advance.ensures.kept noted c.ends-self-inside.ensures).1 in
-    let v = seen c.advance.new.self (all_placed c.note.new.given.items) i.current true c.ends-self-inside.result i.misplaced in
-    (ev_of c.advance.new.slot.next.0, c.advance.new.slot.next.1, subst (λ u. GivesEvent (parsed u) (placed c.advance.new.slot.next) v) c.self.view_is gives,
-    subst (λ v. g.R.MarkedEventReceiver.takes c.args.recv.now (ev_of v) c.advance.new.slot.next.1 (Ok (tt {0})) c.on_event.new.self) c.replace-event.ensures.value c.in_default.ensures, c.is_document_end-last.ensures)
+    let v = seen c.advance.new.self (all_placed c.note.new.given.items) i.current true c.ends-self-inside.result i.misplaced in (
+      ev_of c.advance.new.slot.next.0,
+      c.advance.new.slot.next.1,
+      subst (λ u. GivesEvent (parsed u) (placed c.advance.new.slot.next) v) c.self.view_is gives,
+      subst (λ v. g.R.MarkedEventReceiver.takes c.args.recv.now (ev_of v) c.advance.new.slot.next.1 (Ok (tt {0})) c.on_event.new.self) c.replace-event.ensures.value c.in_default.ensures,
+      c.is_document_end-last.ensures,
+    )
 
 pub returns-in-Err-clause-pushes : goal.returns-in-Err-clause-pushes
 returns-in-Err-clause-pushes g c =
