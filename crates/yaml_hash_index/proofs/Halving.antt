@@ -1,8 +1,11 @@
--- Half of what is left has fewer binary digits.
-use Rattle.std.proofs.Common.{ℕ, zero, suc, ◌+◌, ◌<◌, ◌≤◌, ◌/◌, ◌^◌, arith}
+-- A search by halves: half of what is left has fewer binary digits.
+use Rattle.std.proofs.Common.{◌≡◌, ℕ, zero, suc, ◌+◌, ◌-◌, ◌<◌, ◌≤◌, ◌/◌, ◌^◌, Bool, true, false, sym, ap, ◌∙◌, arith}
+use Rattle.std.specs.Prelude.{nat_lt}
 use Rattle.std.proofs.Math.Nat.{pow-suc}
+use Rattle.std.proofs.lemmas.Bool.{ltb-true, ltb-false}
 use Rattle.defs_tree.specs.Digits.{binary_digits, IsLeastExponent}
 use Rattle.defs_tree.proofs.DigitsLaws.{least_exponent}
+use Rattle.yaml_hash_index.specs.Edges.{IsHalving}
 
 pub halved : (m n : ℕ) → 0 < n → m ≤ n / 2 → binary_digits m + 1 ≤ binary_digits n
 halved m n h e = from (binary_digits n) (least_exponent n)
@@ -17,3 +20,49 @@ halved m n h e = from (binary_digits n) (least_exponent n)
 
 pub digits_rise : (m n : ℕ) → m ≤ n → binary_digits m ≤ binary_digits n
 digits_rise m n h = let high : n < 2 ^ binary_digits n = (least_exponent n).0 in (least_exponent m).1 (binary_digits n) (omega arith)
+
+-- a search that began at the count `first` has come to stand between low and high; what it may still count is kept in mind
+pub record IsSearch (f : ℕ → ℕ) (n m first now low high : ℕ) : Type 0 where
+  pub halving : IsHalving f n m low high
+  pub counted : first ≤ now
+  pub within : now + binary_digits (high - low) ≤ first + binary_digits n
+
+abbrev pub middle : ℕ → ℕ → ℕ
+middle low high = low + (high - low) / 2
+
+pub middle_within : {f : ℕ → ℕ} {n m first now low high : ℕ} → IsSearch f n m first now low high → low < high → middle low high < n
+middle_within i test = omega (arith, i.halving.within, test)
+
+-- where the number in the middle is below, the search goes on after it
+pub search_after : {f : ℕ → ℕ} {n m first now later low high d : ℕ} {b : Bool} → IsSearch f n m first now low high → low < high
+    → b ≡ nat_lt d m → b ≡ true → d ≡ f (middle low high) → later ≡ now + 1 → IsSearch f n m first later (middle low high + 1) high
+search_after {f} {n} {m} {first} {now} {later} {low} {high} {d} i test order is got count =
+    let less : d < m = ltb-true d m (sym order ∙ is) in
+    let fewer = halved (high - (middle low high + 1)) (high - low) (omega (arith, test)) (omega (arith, test)) in
+    record {
+      halving = record {
+        ordered = omega (arith, test);
+        within = i.halving.within;
+        below = λ k e. let same : k ≡ middle low high = omega arith in omega (arith, ap f same, got, less);
+        from = i.halving.from;
+      };
+      counted = omega (arith, i.counted, count);
+      within = omega (arith, i.within, count, fewer);
+    }
+
+-- where it is not, the search goes on before it
+pub search_before : {f : ℕ → ℕ} {n m first now later low high d : ℕ} {b : Bool} → IsSearch f n m first now low high → low < high
+    → b ≡ nat_lt d m → b ≡ false → d ≡ f (middle low high) → later ≡ now + 1 → IsSearch f n m first later low (middle low high)
+search_before {f} {n} {m} {first} {now} {later} {low} {high} {d} i test order is got count =
+    let more : m ≤ d = ltb-false d m (sym order ∙ is) in
+    let fewer = halved (middle low high - low) (high - low) (omega (arith, test)) (omega (arith, test)) in
+    record {
+      halving = record {
+        ordered = omega (arith, test);
+        within = omega (arith, test, i.halving.within);
+        below = i.halving.below;
+        from = λ h. omega (arith, got, more);
+      };
+      counted = omega (arith, i.counted, count);
+      within = omega (arith, i.within, count, fewer);
+    }

@@ -1,7 +1,7 @@
 -- Starts of blocks: what a change of the blocks makes of them.
-use Rattle.std.proofs.Common.{◌≡◌, ℕ, zero, suc, ◌+◌, ◌*◌, ◌/◌, ◌^◌, ◌<◌, ◌≤◌, ◌⊎◌, List, [], ◌∷◌, ◌++◌, length, get_or, set, take, drop, map, refl, ap, inl, inr, ◌∙◌, length-append, length-set, length-take, length-drop, arith}
+use Rattle.std.proofs.Common.{◌≡◌, ℕ, zero, suc, ◌+◌, ◌-◌, ◌*◌, ◌/◌, ◌^◌, ◌<◌, ◌≤◌, ◌⊎◌, List, [], ◌∷◌, ◌++◌, length, get_or, set, take, drop, map, refl, ap, inl, inr, ◌∙◌, length-append, length-set, length-take, length-drop, arith}
 use Rattle.std.specs.List.{insert, remove}
-use Rattle.std.proofs.lemmas.List.{length-map, get_or_append_left, get_or_push, take-append-drop}
+use Rattle.std.proofs.lemmas.List.{length-map, get_or_read, get_or_append_left, get_or_push, take-append-drop}
 use Rattle.std.proofs.lemmas.List.Edits.{length-remove}
 use Rattle.std.proofs.lemmas.Bool.{cases_lt}
 use Rattle.yaml_hash_index.specs.declared.entry.Entry.{Entry}
@@ -121,54 +121,57 @@ filled_remove (c ∷ bs) (suc i) a (suc j) g = filled_remove bs i (λ k l. a (su
 pub starts_some : (bs : List (List Entry)) (starts : List ℕ) → AreStarts bs starts → 0 < length starts
 starts_some bs starts a = omega (arith, a.enough)
 
+-- starts that are right before a group and right from it on
+starts_split : (bs : List (List Entry)) (starts : List ℕ) (first : ℕ) → length bs + 16 ≤ 16 * length starts
+    → ((g : ℕ) → g < length starts → g < first → get_or starts g 0 ≡ start bs (16 * g))
+    → ((g : ℕ) → g < length starts → first ≤ g → get_or starts g 0 ≡ start bs (16 * g))
+    → AreStarts bs starts
+starts_split bs starts first enough before after = record { enough = enough; each = λ g h. by g h (cases_lt g first) }
+  where
+    by : (g : ℕ) → g < length starts → (g < first) ⊎ (first ≤ g) → get_or starts g 0 ≡ start bs (16 * g)
+    by g h (inl k) = before g h k
+    by g h (inr k) = after g h k
+
 -- the last start counts all entries
 pub starts_all : (bs : List (List Entry)) (starts : List ℕ) (g : ℕ) → AreStarts bs starts → suc g ≡ length starts → get_or starts g 0 ≡ length (joined bs)
 starts_all bs starts g a e = a.each g (omega (arith, e)) ∙ start_all bs (16 * g) (omega (arith, a.enough, e))
+
+-- the last start, as it is read
+pub last_counts : {bs cs : List (List Entry)} (starts : List ℕ) (n last : ℕ) → AreStarts bs starts → bs ≡ cs → n ≡ length starts → last ≡ get_or starts (n - 1) last → last ≡ length (joined cs)
+last_counts {bs} starts n last a same e read =
+    let some = starts_some bs starts a in
+    get_or_read starts (n - 1) last (omega (arith, e, some)) read 0 ∙ starts_all bs starts (n - 1) a (omega (arith, e, some)) ∙ ap (λ xs. length (joined xs)) same
 
 -- a start and its block are within all entries
 pub start_head : (bs : List (List Entry)) (starts : List ℕ) (g : ℕ) → AreStarts bs starts → g < length starts → get_or starts g 0 + head_length bs g ≤ length (joined bs)
 start_head bs starts g a h = omega (arith, a.each g h, start_next bs (16 * g) (suc (16 * g)) refl, start_within bs (suc (16 * g)))
 
 pub starts_pushed : (bs : List (List Entry)) (starts : List ℕ) (last n : ℕ) → AreStarts bs starts → suc n ≡ length starts → last ≡ get_or starts n 0 → AreStarts bs (starts ++ last ∷ [])
-starts_pushed bs starts last n a e l = record {
-  enough = omega (arith, a.enough, length-append starts (last ∷ []));
-  each = λ g h. by g (cases_lt g (length starts)) (omega (arith, h, length-append starts (last ∷ [])));
-}
-  where
-    by : (g : ℕ) → (g < length starts) ⊎ (length starts ≤ g) → g < length starts + 1 → get_or (starts ++ last ∷ []) g 0 ≡ start bs (16 * g)
-    by g (inl k) h = get_or_append_left starts (last ∷ []) 0 g k ∙ a.each g k
-    by g (inr k) h =
-        let pushed : get_or (starts ++ last ∷ []) g 0 ≡ last = get_or_push starts last 0 g (omega arith) in
-        let whole = start_all bs (16 * g) (omega (arith, a.enough)) in
-        omega (arith, pushed, l, starts_all bs starts n a e, whole)
+starts_pushed bs starts last n a e l =
+    let longer = length-append starts (last ∷ []) in
+    starts_split bs (starts ++ last ∷ []) (length starts) (omega (arith, a.enough, longer))
+    (λ g h k. get_or_append_left starts (last ∷ []) 0 g k ∙ a.each g k)
+    (λ g h k. omega (arith, get_or_push starts last 0 g (omega (arith, h, k, longer)), l, starts_all bs starts n a e, start_all bs (16 * g) (omega (arith, k, a.enough))))
 
 -- the starts of other blocks, which are higher from the first on
 pub starts_up : (more : ℕ → ℕ) (bs cs : List (List Entry)) (olds news : List ℕ) (first n : ℕ) → AreStarts bs olds → n ≡ length olds → AreApart more first n olds news → length cs + 16 ≤ 16 * length olds
     → ((g : ℕ) → g < first → start cs (16 * g) ≡ start bs (16 * g))
     → ((g : ℕ) → first ≤ g → start cs (16 * g) ≡ start bs (16 * g) + more g)
     → AreStarts cs news
-starts_up more bs cs olds news first n a e d enough before after = record {
-  enough = omega (arith, enough, d.count);
-  each = λ g h. by g (omega (arith, h, d.count)) (cases_lt g first);
-}
-  where
-    by : (g : ℕ) → g < length olds → (g < first) ⊎ (first ≤ g) → get_or news g 0 ≡ start cs (16 * g)
-    by g h (inl k) = omega (arith, d.before g k, a.each g h, before g k)
-    by g h (inr k) = omega (arith, d.inside g k (omega (arith, h, e)), a.each g h, after g k)
+starts_up more bs cs olds news first n a e d enough before after =
+    starts_split cs news first (omega (arith, enough, d.count))
+    (λ g h k. omega (arith, d.before g k, a.each g (omega (arith, h, d.count)), before g k))
+    (λ g h k. omega (arith, d.inside g k (omega (arith, h, e, d.count)), a.each g (omega (arith, h, d.count)), after g k))
 
 -- which are lower from the first on
 pub starts_down : (more : ℕ → ℕ) (bs cs : List (List Entry)) (olds news : List ℕ) (first n : ℕ) → AreStarts bs olds → n ≡ length olds → AreApart more first n news olds → length cs + 16 ≤ 16 * length olds
     → ((g : ℕ) → g < first → start cs (16 * g) ≡ start bs (16 * g))
     → ((g : ℕ) → first ≤ g → start cs (16 * g) + more g ≡ start bs (16 * g))
     → AreStarts cs news
-starts_down more bs cs olds news first n a e d enough before after = record {
-  enough = omega (arith, enough, d.count);
-  each = λ g h. by g (omega (arith, h, d.count)) (cases_lt g first);
-}
-  where
-    by : (g : ℕ) → g < length olds → (g < first) ⊎ (first ≤ g) → get_or news g 0 ≡ start cs (16 * g)
-    by g h (inl k) = omega (arith, d.before g k, a.each g h, before g k)
-    by g h (inr k) = omega (arith, d.inside g k (omega (arith, h, e)), a.each g h, after g k)
+starts_down more bs cs olds news first n a e d enough before after =
+    starts_split cs news first (omega (arith, enough, d.count))
+    (λ g h k. omega (arith, d.before g k, a.each g (omega (arith, h, d.count)), before g k))
+    (λ g h k. omega (arith, d.inside g k (omega (arith, h, e, d.count)), a.each g (omega (arith, h, d.count)), after g k))
 
 -- ---- one change of the blocks, and that of the starts which goes with it
 
@@ -228,21 +231,22 @@ pub counted_without : (bs : List (List Entry)) (olds mids news : List ℕ) (i fi
     → first ≡ i / 16 + 1 → i < length bs → length (get_or bs i []) ≡ 1 → AreCounted (remove bs i) news
 counted_without bs olds mids news i first n m a e up k down f h one = record {
   filled = filled_remove bs i a.filled;
-  right = record {
-    enough = omega (arith, a.right.enough, up.count, down.count, length-remove bs i h);
-    each = λ g l. by g (omega (arith, l, up.count, down.count)) (cases_lt g first);
-  };
+  right = starts_split (remove bs i) news first (omega (arith, a.right.enough, up.count, down.count, length-remove bs i h)) before after;
   fits = omega (arith, all_remove bs i h, a.fits);
 }
   where
-    by : (g : ℕ) → g < length olds → (g < first) ⊎ (first ≤ g) → get_or news g 0 ≡ start (remove bs i) (16 * g)
-    by g l (inl b) = omega (arith, up.before g b, down.before g b, a.right.each g l, start_remove_before bs i (16 * g) (omega (arith, f, b)))
-    by g l (inr b) =
+    before : (g : ℕ) → g < length news → g < first → get_or news g 0 ≡ start (remove bs i) (16 * g)
+    before g l b =
+        omega (arith, up.before g b, down.before g b, a.right.each g (omega (arith, l, up.count, down.count)), start_remove_before bs i (16 * g) (omega (arith, f, b)))
+
+    after : (g : ℕ) → g < length news → first ≤ g → get_or news g 0 ≡ start (remove bs i) (16 * g)
+    after g l b =
+        let within : g < length olds = omega (arith, l, up.count, down.count) in
         omega (
           arith,
-          up.inside g b (omega (arith, l, e)),
-          down.inside g b (omega (arith, l, k, up.count)),
-          a.right.each g l,
+          up.inside g b (omega (arith, within, e)),
+          down.inside g b (omega (arith, within, k, up.count)),
+          a.right.each g within,
           start_remove_after bs i (16 * g) h (omega (arith, f, b)),
           start_next bs (16 * g) (suc (16 * g)) refl,
           one,
