@@ -1,9 +1,13 @@
 //! The order of trees, and when two are equal.
-ghost use Rattle.std.specs.Prelude.{◌≡◌, chars};
+ghost use Rattle.std.specs.Prelude.{◌≡◌, chars, refl};
+ghost use Rattle.std.specs.Cmp.{partial_equiv_from_equiv, partial_order_from_agreeing_total};
+ghost use Rattle.std.specs.Ordering.{on, as_partial_cmp};
+ghost use Rattle.std.proofs.lemmas.Cmp.{on_equiv, on_total};
 ghost use Rattle.defs_tree.specs.Lists.{list_cmp};
-ghost use Rattle.defs_tree.specs.Order.{rank, tree_cmp, items_cmp, pairs_cmp};
+ghost use Rattle.defs_tree.specs.Order.{rank, tree_cmp, tree_eq, items_cmp, pairs_cmp};
 ghost use Rattle.defs_tree.specs.Tree.{string, items_of, pairs_of};
-ghost use Rattle.yaml_tree.specs.View.{view, items_view};
+ghost use Rattle.defs_tree.proofs.OrderLaws.{tree_eq_equiv, tree_cmp_total};
+ghost use Rattle.yaml_tree.specs.View.{view, items_view, array_tree, hash_tree};
 
 use crate::array::Array;
 use crate::hash::Hash;
@@ -84,13 +88,6 @@ pub(crate) fn compare_text(text: &str, b: &Yaml) -> Ordering
 }
 
 impl PartialEq for Yaml {
-    ghost use Rattle.std.specs.Ordering.{on};
-    ghost use Rattle.std.specs.Cmp.{partial_equiv_from_equiv};
-    ghost use Rattle.std.proofs.lemmas.Cmp.{on_equiv};
-    ghost use Rattle.defs_tree.specs.Order.{tree_eq};
-    ghost use Rattle.defs_tree.proofs.OrderLaws.{tree_eq_equiv};
-    ghost use Rattle.yaml_tree.specs.View.{view};
-
     ghost eq = { on view tree_eq };
 
     ghost laws = { partial_equiv_from_equiv (on_equiv view tree_eq_equiv) };
@@ -101,22 +98,10 @@ impl PartialEq for Yaml {
 }
 
 impl Eq for Yaml {
-    ghost use Rattle.std.proofs.lemmas.Cmp.{on_equiv};
-    ghost use Rattle.defs_tree.proofs.OrderLaws.{tree_eq_equiv};
-    ghost use Rattle.yaml_tree.specs.View.{view};
-
     ghost laws = { on_equiv view tree_eq_equiv };
 }
 
 impl PartialOrd for Yaml {
-    ghost use Rattle.std.specs.Prelude.{refl};
-    ghost use Rattle.std.specs.Ordering.{on, as_partial_cmp};
-    ghost use Rattle.std.specs.Cmp.{partial_order_from_agreeing_total};
-    ghost use Rattle.std.proofs.lemmas.Cmp.{on_total};
-    ghost use Rattle.defs_tree.specs.Order.{tree_cmp};
-    ghost use Rattle.defs_tree.proofs.OrderLaws.{tree_cmp_total};
-    ghost use Rattle.yaml_tree.specs.View.{view};
-
     ghost partial_cmp = { as_partial_cmp (on view tree_cmp) };
 
     ghost laws = { partial_order_from_agreeing_total (on view tree_cmp) (on_total view tree_cmp_total) (λ _ _. refl) (λ _ _. refl) };
@@ -127,13 +112,6 @@ impl PartialOrd for Yaml {
 }
 
 impl Ord for Yaml {
-    ghost use Rattle.std.specs.Prelude.{refl};
-    ghost use Rattle.std.specs.Ordering.{on};
-    ghost use Rattle.std.proofs.lemmas.Cmp.{on_total};
-    ghost use Rattle.defs_tree.specs.Order.{tree_cmp};
-    ghost use Rattle.defs_tree.proofs.OrderLaws.{tree_cmp_total};
-    ghost use Rattle.yaml_tree.specs.View.{view};
-
     ghost cmp = { on view tree_cmp };
 
     ghost total = { on_total view tree_cmp_total };
@@ -148,13 +126,6 @@ impl Ord for Yaml {
 }
 
 impl PartialEq for Array {
-    ghost use Rattle.std.specs.Ordering.{on};
-    ghost use Rattle.std.specs.Cmp.{partial_equiv_from_equiv};
-    ghost use Rattle.std.proofs.lemmas.Cmp.{on_equiv};
-    ghost use Rattle.defs_tree.specs.Order.{tree_eq};
-    ghost use Rattle.defs_tree.proofs.OrderLaws.{tree_eq_equiv};
-    ghost use Rattle.yaml_tree.specs.View.{array_tree};
-
     ghost eq = { on array_tree tree_eq };
 
     ghost laws = { partial_equiv_from_equiv (on_equiv array_tree tree_eq_equiv) };
@@ -165,22 +136,10 @@ impl PartialEq for Array {
 }
 
 impl Eq for Array {
-    ghost use Rattle.std.proofs.lemmas.Cmp.{on_equiv};
-    ghost use Rattle.defs_tree.proofs.OrderLaws.{tree_eq_equiv};
-    ghost use Rattle.yaml_tree.specs.View.{array_tree};
-
     ghost laws = { on_equiv array_tree tree_eq_equiv };
 }
 
 impl PartialOrd for Array {
-    ghost use Rattle.std.specs.Prelude.{refl};
-    ghost use Rattle.std.specs.Ordering.{on, as_partial_cmp};
-    ghost use Rattle.std.specs.Cmp.{partial_order_from_agreeing_total};
-    ghost use Rattle.std.proofs.lemmas.Cmp.{on_total};
-    ghost use Rattle.defs_tree.specs.Order.{tree_cmp};
-    ghost use Rattle.defs_tree.proofs.OrderLaws.{tree_cmp_total};
-    ghost use Rattle.yaml_tree.specs.View.{array_tree};
-
     ghost partial_cmp = { as_partial_cmp (on array_tree tree_cmp) };
 
     ghost laws = { partial_order_from_agreeing_total (on array_tree tree_cmp) (on_total array_tree tree_cmp_total) (λ _ _. refl) (λ _ _. refl) };
@@ -191,13 +150,6 @@ impl PartialOrd for Array {
 }
 
 impl Ord for Array {
-    ghost use Rattle.std.specs.Prelude.{refl};
-    ghost use Rattle.std.specs.Ordering.{on};
-    ghost use Rattle.std.proofs.lemmas.Cmp.{on_total};
-    ghost use Rattle.defs_tree.specs.Order.{tree_cmp};
-    ghost use Rattle.defs_tree.proofs.OrderLaws.{tree_cmp_total};
-    ghost use Rattle.yaml_tree.specs.View.{array_tree};
-
     ghost cmp = { on array_tree tree_cmp };
 
     ghost total = { on_total array_tree tree_cmp_total };
@@ -212,13 +164,6 @@ impl Ord for Array {
 }
 
 impl PartialEq for Hash {
-    ghost use Rattle.std.specs.Ordering.{on};
-    ghost use Rattle.std.specs.Cmp.{partial_equiv_from_equiv};
-    ghost use Rattle.std.proofs.lemmas.Cmp.{on_equiv};
-    ghost use Rattle.defs_tree.specs.Order.{tree_eq};
-    ghost use Rattle.defs_tree.proofs.OrderLaws.{tree_eq_equiv};
-    ghost use Rattle.yaml_tree.specs.View.{hash_tree};
-
     ghost eq = { on hash_tree tree_eq };
 
     ghost laws = { partial_equiv_from_equiv (on_equiv hash_tree tree_eq_equiv) };
@@ -229,22 +174,10 @@ impl PartialEq for Hash {
 }
 
 impl Eq for Hash {
-    ghost use Rattle.std.proofs.lemmas.Cmp.{on_equiv};
-    ghost use Rattle.defs_tree.proofs.OrderLaws.{tree_eq_equiv};
-    ghost use Rattle.yaml_tree.specs.View.{hash_tree};
-
     ghost laws = { on_equiv hash_tree tree_eq_equiv };
 }
 
 impl PartialOrd for Hash {
-    ghost use Rattle.std.specs.Prelude.{refl};
-    ghost use Rattle.std.specs.Ordering.{on, as_partial_cmp};
-    ghost use Rattle.std.specs.Cmp.{partial_order_from_agreeing_total};
-    ghost use Rattle.std.proofs.lemmas.Cmp.{on_total};
-    ghost use Rattle.defs_tree.specs.Order.{tree_cmp};
-    ghost use Rattle.defs_tree.proofs.OrderLaws.{tree_cmp_total};
-    ghost use Rattle.yaml_tree.specs.View.{hash_tree};
-
     ghost partial_cmp = { as_partial_cmp (on hash_tree tree_cmp) };
 
     ghost laws = { partial_order_from_agreeing_total (on hash_tree tree_cmp) (on_total hash_tree tree_cmp_total) (λ _ _. refl) (λ _ _. refl) };
@@ -255,13 +188,6 @@ impl PartialOrd for Hash {
 }
 
 impl Ord for Hash {
-    ghost use Rattle.std.specs.Prelude.{refl};
-    ghost use Rattle.std.specs.Ordering.{on};
-    ghost use Rattle.std.proofs.lemmas.Cmp.{on_total};
-    ghost use Rattle.defs_tree.specs.Order.{tree_cmp};
-    ghost use Rattle.defs_tree.proofs.OrderLaws.{tree_cmp_total};
-    ghost use Rattle.yaml_tree.specs.View.{hash_tree};
-
     ghost cmp = { on hash_tree tree_cmp };
 
     ghost total = { on_total hash_tree tree_cmp_total };

@@ -1,6 +1,11 @@
 //! Hashes by their pairs: iterators.
-ghost use Rattle.std.specs.Prelude.{◌≡◌};
+ghost use Rattle.std.specs.Prelude.{◌≡◌, List};
+ghost use Rattle.std.specs.Iterator.{YieldsFirstBy, item_count};
+ghost use Rattle.std.specs.Vec.Iter.{into_iter_items};
 ghost use Rattle.defs_tree.specs.Pairs.{AreDistinct};
+ghost use Rattle.defs_tree.specs.Tree.{Tree};
+ghost use Rattle.defs_tree.specs.TreeCode.{pairs_code};
+ghost use Rattle.yaml_tree.specs.View.{view, pair_view, pairs_view};
 
 use crate::hash::Hash;
 use crate::yaml::Yaml;
@@ -34,11 +39,6 @@ pub struct Iter<'a> {
 }
 
 impl<'a> Model for Iter<'a> {
-    ghost use Rattle.std.specs.Prelude.{List};
-    ghost use Rattle.defs_tree.specs.Tree.{Tree};
-    ghost use Rattle.defs_tree.specs.TreeCode.{pairs_code};
-    ghost use Rattle.yaml_tree.specs.View.{pairs_view};
-
     ghost Value = { List (Tree × Tree) };
 
     ghost coded = { pairs_code };
@@ -47,9 +47,6 @@ impl<'a> Model for Iter<'a> {
 }
 
 impl<'a> Iterator for Iter<'a> {
-    ghost use Rattle.std.specs.Iterator.{YieldsFirstBy, item_count};
-    ghost use Rattle.yaml_tree.specs.View.{view};
-
     type Item = (&'a Yaml, &'a Yaml);
 
     ghost next_gives = { YieldsFirstBy (λ p. (view p.0.now, view p.1.now)) (λ i. i) };
@@ -95,12 +92,6 @@ pub struct IntoIter {
 }
 
 impl Model for IntoIter {
-    ghost use Rattle.std.specs.Prelude.{List};
-    ghost use Rattle.std.specs.Vec.Iter.{into_iter_items};
-    ghost use Rattle.defs_tree.specs.Tree.{Tree};
-    ghost use Rattle.defs_tree.specs.TreeCode.{pairs_code};
-    ghost use Rattle.yaml_tree.specs.View.{pairs_view};
-
     ghost Value = { List (Tree × Tree) };
 
     ghost coded = { pairs_code };
@@ -109,9 +100,6 @@ impl Model for IntoIter {
 }
 
 impl Iterator for IntoIter {
-    ghost use Rattle.std.specs.Iterator.{YieldsFirstBy, item_count};
-    ghost use Rattle.yaml_tree.specs.View.{pair_view};
-
     type Item = (Yaml, Yaml);
 
     ghost next_gives = { YieldsFirstBy pair_view (λ i. i) };

@@ -1,8 +1,10 @@
 //! What a tree feeds a hasher.
 ghost use Rattle.std.specs.Prelude.{◌≡◌, fold};
+ghost use Rattle.std.proofs.Common.{ap};
 ghost use Rattle.defs_tree.specs.Tree.{items_of, pairs_of};
+ghost use Rattle.defs_tree.proofs.OrderLaws.{tree_eq_decides};
 ghost use Rattle.yaml_tree.specs.Feed.{tree_feed, items_feed, pairs_feed};
-ghost use Rattle.yaml_tree.specs.View.{view};
+ghost use Rattle.yaml_tree.specs.View.{view, array_tree, hash_tree};
 
 use crate::array::Array;
 use crate::hash::Hash;
@@ -73,11 +75,6 @@ fn feed_pairs<H: Hasher>(pairs: &Hash, state: &mut H)
 }
 
 impl std::hash::Hash for Yaml {
-    ghost use Rattle.std.proofs.Common.{ap};
-    ghost use Rattle.defs_tree.proofs.OrderLaws.{tree_eq_decides};
-    ghost use Rattle.yaml_tree.specs.Feed.{tree_feed};
-    ghost use Rattle.yaml_tree.specs.View.{view};
-
     ghost hash_input = { λ y. tree_feed (view y) };
 
     ghost respects_eq = { λ x y e. ap tree_feed ((tree_eq_decides (view x) (view y)).0 e) };
@@ -88,11 +85,6 @@ impl std::hash::Hash for Yaml {
 }
 
 impl std::hash::Hash for Array {
-    ghost use Rattle.std.proofs.Common.{ap};
-    ghost use Rattle.defs_tree.proofs.OrderLaws.{tree_eq_decides};
-    ghost use Rattle.yaml_tree.specs.Feed.{tree_feed};
-    ghost use Rattle.yaml_tree.specs.View.{array_tree};
-
     ghost hash_input = { λ y. tree_feed (array_tree y) };
 
     ghost respects_eq = { λ x y e. ap tree_feed ((tree_eq_decides (array_tree x) (array_tree y)).0 e) };
@@ -104,11 +96,6 @@ impl std::hash::Hash for Array {
 }
 
 impl std::hash::Hash for Hash {
-    ghost use Rattle.std.proofs.Common.{ap};
-    ghost use Rattle.defs_tree.proofs.OrderLaws.{tree_eq_decides};
-    ghost use Rattle.yaml_tree.specs.Feed.{tree_feed};
-    ghost use Rattle.yaml_tree.specs.View.{hash_tree};
-
     ghost hash_input = { λ y. tree_feed (hash_tree y) };
 
     ghost respects_eq = { λ x y e. ap tree_feed ((tree_eq_decides (hash_tree x) (hash_tree y)).0 e) };

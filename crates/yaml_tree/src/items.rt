@@ -1,5 +1,10 @@
 //! Nodes by their items: iterators.
-ghost use Rattle.std.specs.Prelude.{◌≡◌};
+ghost use Rattle.std.specs.Prelude.{◌≡◌, List};
+ghost use Rattle.std.specs.Iterator.{YieldsFirstBy, item_count};
+ghost use Rattle.defs_tree.specs.Tree.{Tree};
+ghost use Rattle.defs_tree.specs.TreeCode.{items_code};
+ghost use Rattle.yaml_tree.specs.Items.{items_in, items_left};
+ghost use Rattle.yaml_tree.specs.View.{view, items_view};
 
 use crate::array::Array;
 use crate::yaml::Yaml;
@@ -13,23 +18,14 @@ pub struct YamlIter {
 }
 
 impl Model for YamlIter {
-    ghost use Rattle.std.specs.Prelude.{List};
-    ghost use Rattle.defs_tree.specs.Tree.{Tree};
-    ghost use Rattle.defs_tree.specs.TreeCode.{items_code};
-
     ghost Value = { List Tree };
 
     ghost coded = { items_code };
-
-    ghost use Rattle.yaml_tree.specs.Items.{items_left};
 
     ghost view = { λ i. items_left i.items };
 }
 
 impl Iterator for YamlIter {
-    ghost use Rattle.std.specs.Iterator.{YieldsFirstBy, item_count};
-    ghost use Rattle.yaml_tree.specs.View.{view};
-
     type Item = Yaml;
 
     ghost next_gives = { YieldsFirstBy view (λ i. i) };
@@ -59,8 +55,6 @@ impl IntoIterator for Array {
 }
 
 impl IntoIterator for Yaml {
-    ghost use Rattle.yaml_tree.specs.Items.{items_in};
-
     type Item = Yaml;
 
     type IntoIter = YamlIter;
@@ -82,11 +76,6 @@ pub struct Iter<'a> {
 }
 
 impl<'a> Model for Iter<'a> {
-    ghost use Rattle.std.specs.Prelude.{List};
-    ghost use Rattle.defs_tree.specs.Tree.{Tree};
-    ghost use Rattle.defs_tree.specs.TreeCode.{items_code};
-    ghost use Rattle.yaml_tree.specs.View.{items_view};
-
     ghost Value = { List Tree };
 
     ghost coded = { items_code };
@@ -95,9 +84,6 @@ impl<'a> Model for Iter<'a> {
 }
 
 impl<'a> Iterator for Iter<'a> {
-    ghost use Rattle.std.specs.Iterator.{YieldsFirstBy, item_count};
-    ghost use Rattle.yaml_tree.specs.View.{view};
-
     type Item = &'a Yaml;
 
     ghost next_gives = { YieldsFirstBy (λ y. view y.now) (λ i. i) };
