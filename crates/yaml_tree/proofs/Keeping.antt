@@ -16,9 +16,9 @@ use Rattle.yaml_tree.specs.declared.ranks.Kept.TheVariants.{Few, Many}
 use Rattle.yaml_tree.specs.declared.yaml.Yaml.{Yaml}
 use Rattle.yaml_tree.proofs.Indexed.{digests_counted}
 use Rattle.yaml_tree.proofs.Digesting.{digested_value, digested_removed, digested_moved}
-use Rattle.yaml_tree.proofs.Placed.{place_in, absent}
+use Rattle.defs_tree.proofs.Places.{absent}
 use Rattle.yaml_tree.proofs.Ranking.{gap_none}
-use Rattle.yaml_tree.proofs.Rows.{made_without, made_moved, made_added, made_value, ranked_place, seen_as, seen_value}
+use Rattle.yaml_tree.proofs.Rows.{made_without, made_moved, made_added, made_value, remove_ranked, seen_as, seen_value}
 
 no_digests : (ms : List ℕ) (r s : ℕ) → ms ≡ [] → s < length (remove ms r) → ⊥
 no_digests [] zero s e h = absurd (omega arith)
@@ -36,11 +36,10 @@ module _ (k v : Tree) (ys zs : List Yaml) (o n : Kept) (i : IsIndexed (items_vie
   pub indexed_moved : IsRank k (places o) (pairs_view ys) r → items_view zs ≡ flat (insert_pair k v (pairs_view ys))
       → places n ≡ map (moved_up (get_or (places o) r 0) (length (places o))) (places o) → digests n ≡ digests o → first_by n ≡ first_by o → IsIndexed (items_view zs) n
   indexed_moved at e f g order =
-      let p = place_in k (pairs_view ys) (get_or (places o) r 0) (ranked_place k ys (pairs_view ys) (places o) r (get_or (places o) r 0) i.hash refl at refl) in
       record {
         hash = subst (λ m. IsHash m (items_view zs) (places n)) (sym order) (made_moved k v ys (places o) i.hash zs (places n) r at e f);
         digested = subst (AreDigests (digests n) (places n)) (sym (seen_as zs (insert_pair k v (pairs_view ys)) e))
-            (subst (λ us. AreDigests (digests n) (places n) (us ++ (k, v) ∷ [])) p.rest
+            (subst (λ us. AreDigests (digests n) (places n) (us ++ (k, v) ∷ [])) (remove_ranked k ys (places o) r i.hash at)
             (subst (λ ms. AreDigests ms (places n) (remove (pairs_view ys) (get_or (places o) r 0) ++ (k, v) ∷ [])) (sym g)
             (subst (λ rs. AreDigests (digests o) rs (remove (pairs_view ys) (get_or (places o) r 0) ++ (k, v) ∷ [])) (sym f)
             (digested_moved (digests o) (places o) (pairs_view ys) r k v (digests_counted o) i.hash.ranked at i.digested))));
@@ -49,11 +48,10 @@ module _ (k v : Tree) (ys zs : List Yaml) (o n : Kept) (i : IsIndexed (items_vie
   pub indexed_without : IsRank k (places o) (pairs_view ys) r → items_view zs ≡ flat (without k (pairs_view ys))
       → places n ≡ map (closed_up (get_or (places o) r 0)) (remove (places o) r) → digests n ≡ remove (digests o) r → first_by n ≡ first_by o → IsIndexed (items_view zs) n
   indexed_without at e f g order =
-      let p = place_in k (pairs_view ys) (get_or (places o) r 0) (ranked_place k ys (pairs_view ys) (places o) r (get_or (places o) r 0) i.hash refl at refl) in
       record {
         hash = subst (λ m. IsHash m (items_view zs) (places n)) (sym order) (made_without k v ys (places o) i.hash zs (places n) r at e f);
         digested = subst (AreDigests (digests n) (places n)) (sym (seen_as zs (without k (pairs_view ys)) e))
-            (subst (AreDigests (digests n) (places n)) p.rest
+            (subst (AreDigests (digests n) (places n)) (remove_ranked k ys (places o) r i.hash at)
             (subst (λ ms. AreDigests ms (places n) (remove (pairs_view ys) (get_or (places o) r 0))) (sym g)
             (subst (λ rs. AreDigests (remove (digests o) r) rs (remove (pairs_view ys) (get_or (places o) r 0))) (sym f)
             (digested_without o (pairs_view ys) r i.hash.ranked at.0 i.digested))));

@@ -10,8 +10,8 @@ use Rattle.yaml_hash_index.specs.Moves.{closed_up, moved_up}
 use Rattle.yaml_tree.specs.View.{view, items_view, pairs_view}
 use Rattle.yaml_tree.specs.declared.yaml.Yaml.{Yaml}
 use Rattle.yaml_tree.proofs.Flattened.{pairs_from, even_from, row_length, key_seen, value_seen, taken, added, value_set}
-use Rattle.defs_tree.proofs.Places.{AreDistinct-with_value_at}
-use Rattle.yaml_tree.proofs.Placed.{place_in, absent}
+use Rattle.defs_tree.proofs.Places.{place_in, absent, AreDistinct-with_value_at}
+use Rattle.yaml_tree.proofs.Placed.{remove_placed}
 use Rattle.yaml_tree.proofs.Ranking.{place_some, gap_none, ranked_moved, ranked_removed, ranked_value}
 
 -- ---- a row that was looked into
@@ -42,13 +42,18 @@ placed k ys us rs p h is e =
       inside = omega (arith, at.within, row_length ys us even);
       place = e;
       found = λ x f. value_seen ys us even p x at.within f ∙ at.found;
-      rest = λ zs f. taken ys us even zs p at.within f ∙ ap flat at.rest;
+      rest = λ zs f. taken ys us even zs p at.within f ∙ ap flat (remove_placed k us p e);
     }
 
 pub ranked_place : {m : Tree → ℕ} (k : Tree) (ys : List Yaml) (us : List (Tree × Tree)) (rs : List ℕ) (r p : ℕ) → IsHash m (items_view ys) rs → pairs_view ys ≡ us
     → IsRank k rs (pairs_view ys) r → p ≡ get_or rs r 0 → Some p ≡ place_of k us
 ranked_place k ys us rs r p h is at e =
     place_some k (pairs_view ys) p h.distinct (ranked_inside ys rs h r p at.0 e) (ap (key_at (pairs_view ys)) e ∙ at.1) ∙ ap (place_of k) is
+
+-- taking out the pair at a rank's place takes out the key's pair
+pub remove_ranked : {m : Tree → ℕ} (k : Tree) (ys : List Yaml) (rs : List ℕ) (r : ℕ) → IsHash m (items_view ys) rs → IsRank k rs (pairs_view ys) r
+    → remove (pairs_view ys) (get_or rs r 0) ≡ without k (pairs_view ys)
+remove_ranked k ys rs r h at = remove_placed k (pairs_view ys) (get_or rs r 0) (ranked_place k ys (pairs_view ys) rs r (get_or rs r 0) h refl at refl)
 
 pub gap_place : {m : Tree → ℕ} (k : Tree) (ys : List Yaml) (us : List (Tree × Tree)) (rs : List ℕ) (r : ℕ) → IsHash m (items_view ys) rs → pairs_view ys ≡ us
     → IsRankGap m k rs (pairs_view ys) r → None ≡ place_of k us
@@ -68,17 +73,15 @@ module _ {m : Tree → ℕ} (k v : Tree) (ys : List Yaml) (rs : List ℕ) (h : I
   pub made_without : (zs : List Yaml) (qs : List ℕ) (r : ℕ) → IsRank k rs (pairs_view ys) r → items_view zs ≡ flat (without k (pairs_view ys))
       → qs ≡ map (closed_up (get_or rs r 0)) (remove rs r) → IsHash m (items_view zs) qs
   made_without zs qs r at e f =
-      let p = place_in k (pairs_view ys) (get_or rs r 0) (ranked_place k ys (pairs_view ys) rs r (get_or rs r 0) h refl at refl) in
       made zs qs (without k (pairs_view ys)) e (AreDistinct-without k (pairs_view ys) h.distinct)
-      (subst (λ xs. AreRanked m xs (without k (pairs_view ys))) (sym f) (subst (AreRanked m (map (closed_up (get_or rs r 0)) (remove rs r))) p.rest (ranked_removed rs (pairs_view ys) r h.ranked at.0)))
+      (subst (λ xs. AreRanked m xs (without k (pairs_view ys))) (sym f) (subst (AreRanked m (map (closed_up (get_or rs r 0)) (remove rs r))) (remove_ranked k ys rs r h at) (ranked_removed rs (pairs_view ys) r h.ranked at.0)))
 
   pub made_moved : (zs : List Yaml) (qs : List ℕ) (r : ℕ) → IsRank k rs (pairs_view ys) r → items_view zs ≡ flat (insert_pair k v (pairs_view ys))
       → qs ≡ map (moved_up (get_or rs r 0) (length rs)) rs → IsHash m (items_view zs) qs
   made_moved zs qs r at e f =
-      let p = place_in k (pairs_view ys) (get_or rs r 0) (ranked_place k ys (pairs_view ys) rs r (get_or rs r 0) h refl at refl) in
       made zs qs (insert_pair k v (pairs_view ys)) e (AreDistinct_insert k v (pairs_view ys) h.distinct)
       (subst (λ xs. AreRanked m xs (insert_pair k v (pairs_view ys))) (sym f)
-      (subst (λ us. AreRanked m (map (moved_up (get_or rs r 0) (length rs)) rs) (us ++ (k, v) ∷ [])) p.rest (ranked_moved rs (pairs_view ys) r k v h.ranked at)))
+      (subst (λ us. AreRanked m (map (moved_up (get_or rs r 0) (length rs)) rs) (us ++ (k, v) ∷ [])) (remove_ranked k ys rs r h at) (ranked_moved rs (pairs_view ys) r k v h.ranked at)))
 
   pub made_added : {n : Tree → ℕ} (zs : List Yaml) (qs : List ℕ) (r : ℕ) → IsRankGap m k rs (pairs_view ys) r → items_view zs ≡ flat (insert_pair k v (pairs_view ys))
       → AreRanked n qs (pairs_view ys ++ (k, v) ∷ []) → IsHash n (items_view zs) qs

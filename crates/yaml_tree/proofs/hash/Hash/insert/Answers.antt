@@ -7,7 +7,7 @@ use Rattle.yaml_tree.specs.Places.{places, rank_at}
 use Rattle.yaml_tree.specs.View.{view, pairs_view}
 use Rattle.yaml_tree.proofs.Flattened.{row_length}
 use Rattle.yaml_tree.proofs.Keeping.{indexed_moved, indexed_added}
-use Rattle.yaml_tree.proofs.Placed.{absent}
+use Rattle.defs_tree.proofs.Places.{absent}
 use Rattle.yaml_tree.proofs.Rows.{placed, ranked_place, gap_place, row_added, row_exchanged, seen_as}
 use Rattle.yaml_tree.proofs.hash.Hash.insert.Goals as goal
 

@@ -5,7 +5,7 @@ use Rattle.yaml_tree.specs.Digests.{first_by}
 use Rattle.yaml_tree.specs.Places.{places, rank_at}
 use Rattle.yaml_tree.specs.View.{view, pairs_view}
 use Rattle.yaml_tree.proofs.Keeping.{indexed_without}
-use Rattle.yaml_tree.proofs.Placed.{absent}
+use Rattle.defs_tree.proofs.Places.{absent}
 use Rattle.yaml_tree.proofs.Rows.{placed, ranked_place, gap_place, seen_as}
 use Rattle.yaml_tree.proofs.hash.Hash.remove.Goals as goal
 
