@@ -1,20 +1,23 @@
 -- JSON numbers on the bytes of a text.
-use Rattle.std.proofs.Common.{◌≡◌, ℕ, zero, suc, List, [], ◌∷◌, Bool, true, false, not, ◌&&◌, Some, None, refl, sym, ap, ◌∙◌, arith}
-use Rattle.std.specs.Prelude.{ℤ, Result, Ok, Err, MatchResult, is_none, is_err, nat_lt, chars, IsUtf8, IsAscii, ◌==◌}
+use Rattle.std.proofs.Common.{◌≡◌, ℕ, List, [], ◌∷◌, Bool, true, false, not, ◌&&◌, Some, None, refl, sym, ap, ◌∙◌, arith}
+use Rattle.std.specs.Prelude.{ℤ, Result, Ok, Err, MatchResult, is_none, is_err, nat_lt, chars, IsUtf8, ◌==◌}
 use Rattle.std.specs.Char.{is_ascii_digit}
-use Rattle.std.specs.List.{list_all}
 use Rattle.std.proofs.lemmas.Str.{chars-IsAscii, encodes-IsAscii, encodes-chars}
-use Rattle.std.proofs.lemmas.Bool.{and_parts, and_from, ltb-true}
+use Rattle.std.proofs.lemmas.Bool.{and_parts, and_from}
 use Rattle.std.proofs.lemmas.Bool.Decides.{nat_tests}
 use Rattle.defs_tree.specs.Grammar.{one, at_least_one, optional, in_order}
 use Rattle.defs_tree.specs.Typing.{is_minus, is_exponent, is_exponent_mark, is_sign, signed_decimal}
-use Rattle.defs_tree.proofs.GrammarLaws.{IsWithin, IsWithin-followed_by, IsWithin-empty, IsWithin-one, IsWithin-at_least_one, IsWithin-optional}
+use Rattle.defs_tree.proofs.GrammarLaws.{IsWithin, IsWithin-followed_by, IsWithin-empty, IsWithin-one, IsWithin-at_least_one, IsWithin-optional, list_all-more}
 use Rattle.defs_layout.specs.JsonNumber.{is_whole, are_digits}
 use Rattle.defs_json.proofs.Reading.{reads_number, is_json_number-read}
 use Rattle.defs_json.specs.JsonReal.{is_frac, is_json_number, is_json_real}
+use Rattle.yaml_typing.proofs.WideTexts.{low_at}
 
 abbrev is_low : ℕ → Bool
 is_low c = nat_lt c 128
+
+abbrev Fits : (List ℕ → Bool) → Type 0
+Fits f = IsWithin is_low f
 
 digit_low : (c : ℕ) → is_ascii_digit c ≡ true → is_low c ≡ true
 digit_low c h = grind (arith, nat_tests)
@@ -31,25 +34,18 @@ mark_low c h = grind (arith, nat_tests)
 point_low : (c : ℕ) → (c == 46) ≡ true → is_low c ≡ true
 point_low c h = grind (arith, nat_tests)
 
-all_digits_low : (t : List ℕ) → list_all is_ascii_digit t ≡ true → list_all is_low t ≡ true
-all_digits_low [] h = refl
-all_digits_low (c ∷ t) h = let p = and_parts (is_ascii_digit c) (list_all is_ascii_digit t) h in and_from _ _ (digit_low c p.0) (all_digits_low t p.1)
-
-digits_low : IsWithin is_low are_digits
+digits_low : Fits are_digits
 digits_low [] h = refl
-digits_low (c ∷ t) h = all_digits_low (c ∷ t) h
+digits_low (c ∷ t) h = list_all-more is_ascii_digit is_low digit_low (c ∷ t) h
 
-whole_low : IsWithin is_low is_whole
+whole_low : Fits is_whole
 whole_low [] h = refl
 whole_low (c ∷ []) h = and_from _ true (digit_low c h) refl
 whole_low (c ∷ d ∷ w) h = digits_low (c ∷ d ∷ w) (and_parts (not (c == 48)) (are_digits (c ∷ d ∷ w)) h).1
 
-frac_low : IsWithin is_low is_frac
+frac_low : Fits is_frac
 frac_low [] h = refl
 frac_low (c ∷ w) h = let p = and_parts (c == 46) (are_digits w) h in and_from _ _ (point_low c p.0) (digits_low w p.1)
-
-abbrev Fits : (List ℕ → Bool) → Type 0
-Fits f = IsWithin is_low f
 
 part_low : (f : List ℕ → Bool) (fs : List (List ℕ → Bool)) → Fits f → Fits (λ t. in_order fs t) → Fits (λ t. in_order (f ∷ fs) t)
 part_low f fs h e = IsWithin-followed_by is_low f (λ t. in_order fs t) h e
@@ -68,18 +64,13 @@ number_low =
     (part_low (optional is_frac) (optional is_exponent ∷ []) (IsWithin-optional is_low is_frac frac_low)
     (part_low (optional is_exponent) [] (IsWithin-optional is_low is_exponent exponent_low) (IsWithin-empty is_low))))
 
-low_is : (t : List ℕ) → list_all is_low t ≡ true → IsAscii t
-low_is [] h i = omega arith
-low_is (c ∷ cs) h zero = ltb-true c 128 (and_parts (is_low c) (list_all is_low cs) h).0
-low_is (c ∷ cs) h (suc i) = low_is cs (and_parts (is_low c) (list_all is_low cs) h).1 i
-
 -- the characters of a text are a number exactly if its bytes are
 pub is_json_number-chars : (bs : List ℕ) → IsUtf8 bs → is_json_number (chars bs) ≡ is_json_number bs
 is_json_number-chars bs u = by (is_json_number (chars bs)) (is_json_number bs) refl refl
   where
     by : (b d : Bool) → is_json_number (chars bs) ≡ b → is_json_number bs ≡ d → is_json_number (chars bs) ≡ is_json_number bs
-    by true d e f = ap is_json_number (sym (encodes-IsAscii (chars bs) (low_is (chars bs) (number_low (chars bs) e))) ∙ encodes-chars bs u)
-    by false true e f = ap is_json_number (chars-IsAscii bs (low_is bs (number_low bs f)))
+    by true d e f = ap is_json_number (sym (encodes-IsAscii (chars bs) (low_at (chars bs) (number_low (chars bs) e))) ∙ encodes-chars bs u)
+    by false true e f = ap is_json_number (chars-IsAscii bs (low_at bs (number_low bs f)))
     by false false e f = e ∙ sym f
 
 -- a text that is read as a number, and not as an integer

@@ -4,16 +4,11 @@ use Rattle.std.specs.Prelude.{nat_lt, IsAscii}
 use Rattle.std.specs.List.{list_all}
 use Rattle.std.specs.Str.{IsCharBoundary}
 use Rattle.std.proofs.lemmas.Str.{IsCharBoundary-from_ascii}
-use Rattle.std.proofs.lemmas.Bool.{ltb-true, lt-ltb, and_parts, and_from}
-use Rattle.std.specs.Prelude.{slice_index}
+use Rattle.std.proofs.lemmas.Bool.{lt-ltb, and_from}
+use Rattle.yaml_typing.proofs.WideTexts.{low_at}
 
 abbrev pub is_low : List ℕ → Bool
 is_low text = list_all (λ c. nat_lt c 128) text
-
-low_at : (t : List ℕ) → is_low t ≡ true → (i : ℕ) → slice_index t i < 128
-low_at [] h i = omega arith
-low_at (c ∷ cs) h zero = let parts = and_parts (nat_lt c 128) (is_low cs) h in ltb-true c 128 parts.0
-low_at (c ∷ cs) h (suc i) = let parts = and_parts (nat_lt c 128) (is_low cs) h in low_at cs parts.1 i
 
 -- the spaces of a margin
 abbrev pub spaces : ℕ → List ℕ

@@ -1,3 +1,4 @@
+pub mod DecimalLemmas
 pub mod FirstByte
 pub mod TypingLemmas
 pub mod WideTexts

@@ -10,6 +10,7 @@ use Rattle.std.proofs.lemmas.Str.{encodes-chars, encodes-IsAscii}
 use Rattle.defs_tree.specs.Grammar.{at_least_one, is_among}
 use Rattle.defs_tree.specs.Tree.{Tree, string, integer, real, boolean, null}
 use Rattle.defs_tree.specs.Typing.{typing, rows, where_true, is_digit, is_plus, is_minus, number, with_sign, signed_number, fits_i64, after_prefix, is_decimal, null_words, true_words, false_words, special_words}
+use Rattle.defs_tree.proofs.GrammarLaws.{list_all-more}
 use Rattle.defs_tree.proofs.RealTexts.{is_real_character, decimal-characters}
 use Rattle.defs_tree.proofs.TypingLaws.{strings_exactly}
 
@@ -25,8 +26,7 @@ wide_tail : (c : ℕ) (cs : List ℕ) → c < 128 → Wide (c ∷ cs) → Wide c
 wide_tail c cs h w = λ e. w (and_from (nat_lt c 128) (low cs) (grind (arith, nat_tests)) e)
 
 all_low : (p : ℕ → Bool) → ((c : ℕ) → p c ≡ true → nat_lt c 128 ≡ true) → (t : List ℕ) → list_all p t ≡ true → low t ≡ true
-all_low p f [] h = refl
-all_low p f (c ∷ cs) h = let parts = and_parts (p c) (list_all p cs) h in and_from (nat_lt c 128) (low cs) (f c parts.0) (all_low p f cs parts.1)
+all_low p f t h = list_all-more p (λ c. nat_lt c 128) f t h
 
 not_true : (b : Bool) → (b ≡ true → ⊥) → b ≡ false
 not_true true n = absurd (n refl)
@@ -118,7 +118,7 @@ typing-wide t w = (strings_exactly t).1 (fits_no_row t w)
 
 -- ---- the bytes of a text
 
-low_at : (t : List ℕ) → low t ≡ true → (i : ℕ) → slice_index t i < 128
+pub low_at : (t : List ℕ) → low t ≡ true → (i : ℕ) → slice_index t i < 128
 low_at [] h i = omega arith
 low_at (c ∷ cs) h zero = let parts = and_parts (nat_lt c 128) (low cs) h in grind (arith, nat_tests)
 low_at (c ∷ cs) h (suc i) = let parts = and_parts (nat_lt c 128) (low cs) h in low_at cs parts.1 i

@@ -1,12 +1,12 @@
 //! What a plain text stands for.
 ghost use Rattle.std.specs.Prelude.{◌≡◌, ◌≤◌, ◌||◌, option_map, option_and_then, map, chars};
-ghost use Rattle.std.specs.Char.{is_ascii_digit};
-ghost use Rattle.defs_tree.specs.Grammar.{is_among, at_least_one};
-ghost use Rattle.defs_tree.specs.Typing.{after_prefix, signed_number, typing, is_string, is_sign, is_decimal, special_words, null_words, true_words, false_words};
-ghost use Rattle.defs_tree.proofs.GrammarLaws.{after_all, after_one};
-ghost use Rattle.defs_tree.proofs.DecimalReading.{begins_in, reads_exponent, reads_on, reads_decimal};
+ghost use Rattle.defs_tree.specs.Grammar.{is_among};
+ghost use Rattle.defs_tree.specs.Typing.{after_prefix, signed_number, typing, is_string, is_decimal, special_words, null_words, true_words, false_words};
+ghost use Rattle.defs_tree.proofs.DecimalReading.{reads_on, reads_decimal};
 ghost use Rattle.yaml_typing.specs.Meanings.{meant};
 ghost use Rattle.yaml_typing.specs.Values.{value_row, begins_value};
+
+use crate::decimal::{after_digits, after_sign, begins_with_digit, is_exponent};
 
 const SPECIAL: [&str; 12] = [
     ".inf", ".Inf", ".INF", "+.inf", "+.Inf", "+.INF", "-.inf", "-.Inf", "-.INF", ".nan", ".NaN",
@@ -161,56 +161,4 @@ fn is_rest_of_decimal(has_digits: bool, text: &[u8]) -> bool
             && is_exponent(after_digits(rest)),
         _ => has_digits && is_exponent(text),
     }
-}
-
-// An exponent, or nothing.
-fn is_exponent(text: &[u8]) -> bool
-    ensures { result ≡ reads_exponent text.now }
-{
-    match text {
-        [] => true,
-        [b'e' | b'E', rest @ ..] => are_digits(after_sign(rest)),
-        _ => false,
-    }
-}
-
-#[tactic(auto, using(crate::proofs::TypingLemmas::digits_only))]
-fn are_digits(text: &[u8]) -> bool
-    ensures { result ≡ at_least_one is_ascii_digit text.now }
-{
-    match after_digits(text) {
-        [] => begins_with_digit(text),
-        _ => false,
-    }
-}
-
-fn begins_with_digit(text: &[u8]) -> bool
-    ensures { result ≡ begins_in is_ascii_digit text.now }
-{
-    match text {
-        [first, ..] => first.is_ascii_digit(),
-        [] => false,
-    }
-}
-
-fn after_sign(text: &[u8]) -> &[u8]
-    ensures { result.now ≡ after_one is_sign text.now }
-{
-    match text {
-        [b'+' | b'-', rest @ ..] => rest,
-        _ => text,
-    }
-}
-
-fn after_digits(text: &[u8]) -> &[u8]
-    ensures { result.now ≡ after_all is_ascii_digit text.now }
-{
-    let mut rest = text;
-    while let [first, after @ ..] = rest {
-        if !first.is_ascii_digit() {
-            return rest;
-        }
-        rest = after;
-    }
-    rest
 }

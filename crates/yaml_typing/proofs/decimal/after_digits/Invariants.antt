@@ -1,7 +1,7 @@
 use Rattle.std.proofs.Common.{◌≡◌, length}
 use Rattle.std.specs.Char.{is_ascii_digit}
 use Rattle.defs_tree.proofs.GrammarLaws.{after_all}
-use Rattle.yaml_typing.proofs.typing.after_digits.Given as goal
+use Rattle.yaml_typing.proofs.decimal.after_digits.Given as goal
 
 abbrev pub invariant-loop-rest : goal.invariant-loop-rest
 invariant-loop-rest l = after_all is_ascii_digit l.text ≡ after_all is_ascii_digit l.rest
