@@ -2,6 +2,7 @@
 use Rattle.std.proofs.Common.{◌≡◌, ℕ, List, [], ◌∷◌, Bool, true, false, not, ◌&&◌, Some, None, refl, sym, ap, ◌∙◌, arith}
 use Rattle.std.specs.Prelude.{ℤ, Result, Ok, Err, MatchResult, is_none, is_err, nat_lt, chars, IsUtf8, ◌==◌}
 use Rattle.std.specs.Char.{is_ascii_digit}
+use Rattle.std.specs.List.{list_all}
 use Rattle.std.proofs.lemmas.Str.{chars-IsAscii, encodes-IsAscii, encodes-chars}
 use Rattle.std.proofs.lemmas.Bool.{and_parts, and_from}
 use Rattle.std.proofs.lemmas.Bool.Decides.{nat_tests}
@@ -22,18 +23,6 @@ Fits f = IsWithin is_low f
 digit_low : (c : ℕ) → is_ascii_digit c ≡ true → is_low c ≡ true
 digit_low c h = grind (arith, nat_tests)
 
-sign_low : (c : ℕ) → is_sign c ≡ true → is_low c ≡ true
-sign_low c h = grind (arith, nat_tests)
-
-minus_low : (c : ℕ) → is_minus c ≡ true → is_low c ≡ true
-minus_low c h = grind (arith, nat_tests)
-
-mark_low : (c : ℕ) → is_exponent_mark c ≡ true → is_low c ≡ true
-mark_low c h = grind (arith, nat_tests)
-
-point_low : (c : ℕ) → (c == 46) ≡ true → is_low c ≡ true
-point_low c h = grind (arith, nat_tests)
-
 digits_low : Fits are_digits
 digits_low [] h = refl
 digits_low (c ∷ t) h = list_all-more is_ascii_digit is_low digit_low (c ∷ t) h
@@ -45,21 +34,21 @@ whole_low (c ∷ d ∷ w) h = digits_low (c ∷ d ∷ w) (and_parts (not (c == 4
 
 frac_low : Fits is_frac
 frac_low [] h = refl
-frac_low (c ∷ w) h = let p = and_parts (c == 46) (are_digits w) h in and_from _ _ (point_low c p.0) (digits_low w p.1)
+frac_low (c ∷ w) h = let p = and_parts (c == 46) (are_digits w) h in and_from (is_low c) (list_all is_low w) (grind (arith, nat_tests, p.0)) (digits_low w p.1)
 
 part_low : (f : List ℕ → Bool) (fs : List (List ℕ → Bool)) → Fits f → Fits (λ t. in_order fs t) → Fits (λ t. in_order (f ∷ fs) t)
 part_low f fs h e = IsWithin-followed_by is_low f (λ t. in_order fs t) h e
 
 exponent_low : Fits is_exponent
 exponent_low =
-    part_low (one is_exponent_mark) (optional (one is_sign) ∷ at_least_one is_ascii_digit ∷ []) (IsWithin-one is_low is_exponent_mark mark_low)
-    (part_low (optional (one is_sign)) (at_least_one is_ascii_digit ∷ []) (IsWithin-optional is_low (one is_sign) (IsWithin-one is_low is_sign sign_low))
+    part_low (one is_exponent_mark) (optional (one is_sign) ∷ at_least_one is_ascii_digit ∷ []) (IsWithin-one is_low is_exponent_mark (λ c h. grind (arith, nat_tests)))
+    (part_low (optional (one is_sign)) (at_least_one is_ascii_digit ∷ []) (IsWithin-optional is_low (one is_sign) (IsWithin-one is_low is_sign (λ c h. grind (arith, nat_tests))))
     (part_low (at_least_one is_ascii_digit) [] (IsWithin-at_least_one is_low is_ascii_digit digit_low) (IsWithin-empty is_low)))
 
 number_low : Fits is_json_number
 unfolding is_json_number
 number_low =
-    part_low (optional (one is_minus)) (is_whole ∷ optional is_frac ∷ optional is_exponent ∷ []) (IsWithin-optional is_low (one is_minus) (IsWithin-one is_low is_minus minus_low))
+    part_low (optional (one is_minus)) (is_whole ∷ optional is_frac ∷ optional is_exponent ∷ []) (IsWithin-optional is_low (one is_minus) (IsWithin-one is_low is_minus (λ c h. grind (arith, nat_tests))))
     (part_low is_whole (optional is_frac ∷ optional is_exponent ∷ []) whole_low
     (part_low (optional is_frac) (optional is_exponent ∷ []) (IsWithin-optional is_low is_frac frac_low)
     (part_low (optional is_exponent) [] (IsWithin-optional is_low is_exponent exponent_low) (IsWithin-empty is_low))))
