@@ -137,28 +137,7 @@ completes at.flow_empty keep s r p f = nothing keep s (Raw.flow_mapping_end ∷ 
 
 pub state_pending : (s : State) (names : Names) → IsPending names (goal_of s)
 state_pending state.StreamStart n = tt
-state_pending state.ImplicitDocumentStart n = tt
-state_pending state.DocumentStart n = tt
-state_pending state.DocumentContent n = tt
-state_pending state.DocumentEnd n = tt
-state_pending state.BlockNode n = tt
-state_pending state.BlockSequenceEntry n = tt
-state_pending state.IndentlessSequenceEntry n = tt
-state_pending state.IndentlessSequenceItem n = tt
-state_pending state.BlockMappingKey n = tt
-state_pending state.BlockMappingNextKey n = tt
-state_pending state.BlockMappingValue n = tt
-state_pending state.BlockMappingPart n = tt
-state_pending state.FlowSequenceFirstEntry n = tt
-state_pending state.FlowSequenceEntry n = tt
-state_pending state.FlowSequenceEntryMappingKey n = tt
-state_pending state.FlowSequenceEntryMappingValue n = tt
-state_pending state.FlowSequenceEntryMappingEnd n = tt
-state_pending state.FlowMappingFirstKey n = tt
-state_pending state.FlowMappingKey n = tt
-state_pending state.FlowMappingValue n = tt
-state_pending (state.FlowMappingPart m) n = tt
-state_pending state.FlowMappingEmptyValue n = tt
+state_pending _ n = tt
 
 pub rest_nameable : (keep : Bool) (ss : List State) → AnyNameable keep (rest_events ss (ending ss))
 rest_nameable keep [] s = ([], refl)

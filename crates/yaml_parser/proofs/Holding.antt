@@ -60,105 +60,21 @@ use Rattle.yaml_parser.proofs.Nesting.{at_begins_nested}
 
 state_going : (s : State) → is_over (goal_of s) ≡ false
 state_going state.StreamStart = refl
-state_going state.ImplicitDocumentStart = refl
-state_going state.DocumentStart = refl
-state_going state.DocumentContent = refl
-state_going state.DocumentEnd = refl
-state_going state.BlockNode = refl
-state_going state.BlockSequenceEntry = refl
-state_going state.IndentlessSequenceEntry = refl
-state_going state.IndentlessSequenceItem = refl
-state_going state.BlockMappingKey = refl
-state_going state.BlockMappingNextKey = refl
-state_going state.BlockMappingValue = refl
-state_going state.BlockMappingPart = refl
-state_going state.FlowSequenceFirstEntry = refl
-state_going state.FlowSequenceEntry = refl
-state_going state.FlowSequenceEntryMappingKey = refl
-state_going state.FlowSequenceEntryMappingValue = refl
-state_going state.FlowSequenceEntryMappingEnd = refl
-state_going state.FlowMappingFirstKey = refl
-state_going state.FlowMappingKey = refl
-state_going state.FlowMappingValue = refl
-state_going (state.FlowMappingPart m) = refl
-state_going state.FlowMappingEmptyValue = refl
+state_going _ = refl
 
 state_seen : (s : State) (keep : Bool) (names : Names) → names_at keep (goal_of s) names ≡ names
 state_seen state.StreamStart keep names = refl
-state_seen state.ImplicitDocumentStart keep names = refl
-state_seen state.DocumentStart keep names = refl
-state_seen state.DocumentContent keep names = refl
-state_seen state.DocumentEnd keep names = refl
-state_seen state.BlockNode keep names = refl
-state_seen state.BlockSequenceEntry keep names = refl
-state_seen state.IndentlessSequenceEntry keep names = refl
-state_seen state.IndentlessSequenceItem keep names = refl
-state_seen state.BlockMappingKey keep names = refl
-state_seen state.BlockMappingNextKey keep names = refl
-state_seen state.BlockMappingValue keep names = refl
-state_seen state.BlockMappingPart keep names = refl
-state_seen state.FlowSequenceFirstEntry keep names = refl
-state_seen state.FlowSequenceEntry keep names = refl
-state_seen state.FlowSequenceEntryMappingKey keep names = refl
-state_seen state.FlowSequenceEntryMappingValue keep names = refl
-state_seen state.FlowSequenceEntryMappingEnd keep names = refl
-state_seen state.FlowMappingFirstKey keep names = refl
-state_seen state.FlowMappingKey keep names = refl
-state_seen state.FlowMappingValue keep names = refl
-state_seen (state.FlowMappingPart m) keep names = refl
-state_seen state.FlowMappingEmptyValue keep names = refl
+state_seen _ keep names = refl
 
 -- What a state reads is read next.
 top_of : (s : State) (ss : List State) → top (goal_of s) ss ≡ goal_of s
 top_of state.StreamStart ss = refl
-top_of state.ImplicitDocumentStart ss = refl
-top_of state.DocumentStart ss = refl
-top_of state.DocumentContent ss = refl
-top_of state.DocumentEnd ss = refl
-top_of state.BlockNode ss = refl
-top_of state.BlockSequenceEntry ss = refl
-top_of state.IndentlessSequenceEntry ss = refl
-top_of state.IndentlessSequenceItem ss = refl
-top_of state.BlockMappingKey ss = refl
-top_of state.BlockMappingNextKey ss = refl
-top_of state.BlockMappingValue ss = refl
-top_of state.BlockMappingPart ss = refl
-top_of state.FlowSequenceFirstEntry ss = refl
-top_of state.FlowSequenceEntry ss = refl
-top_of state.FlowSequenceEntryMappingKey ss = refl
-top_of state.FlowSequenceEntryMappingValue ss = refl
-top_of state.FlowSequenceEntryMappingEnd ss = refl
-top_of state.FlowMappingFirstKey ss = refl
-top_of state.FlowMappingKey ss = refl
-top_of state.FlowMappingValue ss = refl
-top_of (state.FlowMappingPart m) ss = refl
-top_of state.FlowMappingEmptyValue ss = refl
+top_of _ ss = refl
 
 -- Whether a directive may be next is the same for what a state reads and for the state on top.
 past_of : (s : State) (ss : List State) → is_past_directives (goal_of s) ss ≡ is_past_in (goal_of s) ss
 past_of state.StreamStart ss = refl
-past_of state.ImplicitDocumentStart ss = refl
-past_of state.DocumentStart ss = refl
-past_of state.DocumentContent ss = refl
-past_of state.DocumentEnd ss = refl
-past_of state.BlockNode ss = refl
-past_of state.BlockSequenceEntry ss = refl
-past_of state.IndentlessSequenceEntry ss = refl
-past_of state.IndentlessSequenceItem ss = refl
-past_of state.BlockMappingKey ss = refl
-past_of state.BlockMappingNextKey ss = refl
-past_of state.BlockMappingValue ss = refl
-past_of state.BlockMappingPart ss = refl
-past_of state.FlowSequenceFirstEntry ss = refl
-past_of state.FlowSequenceEntry ss = refl
-past_of state.FlowSequenceEntryMappingKey ss = refl
-past_of state.FlowSequenceEntryMappingValue ss = refl
-past_of state.FlowSequenceEntryMappingEnd ss = refl
-past_of state.FlowMappingFirstKey ss = refl
-past_of state.FlowMappingKey ss = refl
-past_of state.FlowMappingValue ss = refl
-past_of (state.FlowMappingPart m) ss = refl
-past_of state.FlowMappingEmptyValue ss = refl
+past_of _ ss = refl
 
 popped_stands : (s : State) (ss : List State) (taken : List Tok) (p : Option Tok) (given : List Raw) → IsOnTrack at.done (s ∷ ss) taken p given → IsOnTrack (goal_of s) ss taken p given
 popped_stands s ss taken p given h = record {
@@ -200,16 +116,7 @@ popped_work {T} p s ss h = let e : weights p.stack ≡ weight s + weights ss = a
 
 after_event : (v : Ev) → goal_after_event v ≡ goal_after (is_stream_end v)
 after_event Ev.nothing = refl
-after_event Ev.stream_start = refl
-after_event Ev.stream_end = refl
-after_event Ev.document_start = refl
-after_event Ev.document_end = refl
-after_event (Ev.alias n) = refl
-after_event (Ev.scalar x s a t) = refl
-after_event (Ev.sequence_start a t) = refl
-after_event Ev.sequence_end = refl
-after_event (Ev.mapping_start a t) = refl
-after_event Ev.mapping_end = refl
+after_event _ = refl
 
 or_none : (b : Bool) → (b || false) ≡ b
 or_none true = refl

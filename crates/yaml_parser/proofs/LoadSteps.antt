@@ -45,82 +45,29 @@ taken_all [] l = omega arith
 taken_all (e ∷ es) l = omega (arith, taken_all es l)
 
 pub misplaced_run : (e : Ev) (p : Position) (multi : Bool) (rest : List (Answer ErrorReport)) → is_stream_end e ≡ false → is_document_start e ≡ false → load_from run.between multi (event e p ∷ rest) ≡ ends (run.no_document p) 1
-misplaced_run Ev.nothing p multi rest h k = refl
-misplaced_run Ev.stream_start p multi rest h k = refl
 misplaced_run Ev.stream_end p multi rest h k = cc
 misplaced_run Ev.document_start p multi rest h k = cc
-misplaced_run Ev.document_end p multi rest h k = refl
-misplaced_run (Ev.alias n) p multi rest h k = refl
-misplaced_run (Ev.scalar x y a t) p multi rest h k = refl
-misplaced_run (Ev.sequence_start a t) p multi rest h k = refl
-misplaced_run Ev.sequence_end p multi rest h k = refl
-misplaced_run (Ev.mapping_start a t) p multi rest h k = refl
-misplaced_run Ev.mapping_end p multi rest h k = refl
+misplaced_run _ p multi rest h k = refl
 
 pub end_run : (e : Ev) (p : Position) (multi : Bool) (rest : List (Answer ErrorReport)) → is_stream_end e ≡ true → load_from run.between multi (event e p ∷ rest) ≡ push e p (ends run.well 0)
-end_run Ev.nothing p multi rest h = cc
-end_run Ev.stream_start p multi rest h = cc
 end_run Ev.stream_end p multi rest h = refl
-end_run Ev.document_start p multi rest h = cc
-end_run Ev.document_end p multi rest h = cc
-end_run (Ev.alias n) p multi rest h = cc
-end_run (Ev.scalar x y a t) p multi rest h = cc
-end_run (Ev.sequence_start a t) p multi rest h = cc
-end_run Ev.sequence_end p multi rest h = cc
-end_run (Ev.mapping_start a t) p multi rest h = cc
-end_run Ev.mapping_end p multi rest h = cc
+end_run _ p multi rest h = cc
 
 pub start_run : (e : Ev) (p : Position) (multi : Bool) (rest : List (Answer ErrorReport)) → is_document_start e ≡ true → load_from run.between multi (event e p ∷ rest) ≡ push e p (load_from run.inside multi rest)
-start_run Ev.nothing p multi rest h = cc
-start_run Ev.stream_start p multi rest h = cc
-start_run Ev.stream_end p multi rest h = cc
 start_run Ev.document_start p multi rest h = refl
-start_run Ev.document_end p multi rest h = cc
-start_run (Ev.alias n) p multi rest h = cc
-start_run (Ev.scalar x y a t) p multi rest h = cc
-start_run (Ev.sequence_start a t) p multi rest h = cc
-start_run Ev.sequence_end p multi rest h = cc
-start_run (Ev.mapping_start a t) p multi rest h = cc
-start_run Ev.mapping_end p multi rest h = cc
+start_run _ p multi rest h = cc
 
 pub inside_run : (e : Ev) (p : Position) (multi : Bool) (rest : List (Answer ErrorReport)) → is_document_end e ≡ false → load_from run.inside multi (event e p ∷ rest) ≡ push e p (load_from run.inside multi rest)
-inside_run Ev.nothing p multi rest h = refl
-inside_run Ev.stream_start p multi rest h = refl
-inside_run Ev.stream_end p multi rest h = refl
-inside_run Ev.document_start p multi rest h = refl
 inside_run Ev.document_end p multi rest h = cc
-inside_run (Ev.alias n) p multi rest h = refl
-inside_run (Ev.scalar x y a t) p multi rest h = refl
-inside_run (Ev.sequence_start a t) p multi rest h = refl
-inside_run Ev.sequence_end p multi rest h = refl
-inside_run (Ev.mapping_start a t) p multi rest h = refl
-inside_run Ev.mapping_end p multi rest h = refl
+inside_run _ p multi rest h = refl
 
 pub last_run : (e : Ev) (p : Position) (multi : Bool) (rest : List (Answer ErrorReport)) → is_document_end e ≡ true → load_from run.inside multi (event e p ∷ rest) ≡ push e p (after_document multi rest)
-last_run Ev.nothing p multi rest h = cc
-last_run Ev.stream_start p multi rest h = cc
-last_run Ev.stream_end p multi rest h = cc
-last_run Ev.document_start p multi rest h = cc
 last_run Ev.document_end p multi rest h = refl
-last_run (Ev.alias n) p multi rest h = cc
-last_run (Ev.scalar x y a t) p multi rest h = cc
-last_run (Ev.sequence_start a t) p multi rest h = cc
-last_run Ev.sequence_end p multi rest h = cc
-last_run (Ev.mapping_start a t) p multi rest h = cc
-last_run Ev.mapping_end p multi rest h = cc
+last_run _ p multi rest h = cc
 
 end_is : (e : Ev) → is_stream_end e ≡ true → e ≡ Ev.stream_end
-end_is Ev.nothing h = cc
-end_is Ev.stream_start h = cc
 end_is Ev.stream_end h = refl
-end_is Ev.document_start h = cc
-end_is Ev.document_end h = cc
-end_is (Ev.alias n) h = cc
-end_is (Ev.scalar x y a t) h = cc
-end_is (Ev.sequence_start a t) h = cc
-end_is Ev.sequence_end h = cc
-end_is (Ev.mapping_start a t) h = cc
-end_is Ev.mapping_end h = cc
+end_is _ h = cc
 
 pub end_is_not : (e : Ev) → is_stream_end e ≡ false → e ≢ Ev.stream_end
 end_is_not e h k = let no : true ≡ false = sym (ap is_stream_end k) ∙ h in cc

@@ -63,8 +63,10 @@ use Rattle.yaml_parser.specs.Apart.{StandsApart}
 
 -- ---- an event with properties
 
-pub two_values : (f : ℕ → Option event.Tag → Ev × Position) {n a : ℕ} {t u : Option event.Tag} → n ≡ a → t ≡ u → f n t ≡ f a u
-two_values f {n} {a} {t} {u} h k = ap (λ x. f x t) h ∙ ap (f a) k
+-- the event that is made of the number and the tag that were given
+pub with_number : {T : Type 0} {p r : Reader T} {x : Option Properties} {s : Names} {n : ℕ} {t : Option event.Tag} {e : Ev × Position} (f : ℕ → Option event.Tag → Ev × Position)
+    → Registers p x s (λ a u. (n ≡ a) × (t ≡ u)) r → e ≡ f n t → Registers p x s (λ a u. e ≡ f a u) r
+with_number {t = t} f r h = record { value = h ∙ ap (λ a. f a t) r.value.0 ∙ ap (f _) r.value.1; tokens = r.tokens; stack = r.stack; keep = r.keep; code = r.code }
 
 -- how an event is made of an anchor and a tag, before and after the resolution of names
 pub record Makes (mk : Option (List ℕ) → Option event.Tag → Raw) (f : ℕ → Option event.Tag → Ev) : Type 0 where

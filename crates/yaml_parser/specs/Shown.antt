@@ -1,10 +1,12 @@
 -- The events of the code, as clauses see them.
-use Rattle.std.specs.Prelude.{List, Bool, true, false, Option, option_map, is_some, map}
+use Rattle.std.specs.Prelude.{ℕ, List, Bool, true, false, Option, option_map, is_some, map}
 use Rattle.defs_text.specs.Position.{Position}
 use Rattle.defs_text.specs.Text.{string_chars}
 use Rattle.yaml_tokens.specs.Shown.{style_of}
 use Rattle.defs_event.specs.Event as defs
 use Rattle.defs_event.specs.Event.{Ev}
+use Rattle.yaml_scanner_state.specs.declared.collection.Collection.{Collection}
+use Rattle.yaml_scanner_state.specs.declared.collection.Collection.TheVariants as collection
 use Rattle.yaml_parser.specs.declared.event.Event.{Event}
 use Rattle.yaml_parser.specs.declared.event.Event.TheVariants as event
 use Rattle.yaml_parser.specs.declared.event.Tag.{Tag}
@@ -28,7 +30,11 @@ ev_of event.SequenceEnd = Ev.sequence_end
 ev_of (event.MappingStart a t) = Ev.mapping_start a (perhaps_tag_of t)
 ev_of event.MappingEnd = Ev.mapping_end
 
--- an event and its position
+-- the event that starts a collection, with this anchor and this tag
+abbrev pub start_of : Collection → ℕ → Option defs.Tag → Ev
+start_of collection.Sequence a t = Ev.sequence_start a t
+start_of collection.Mapping a t = Ev.mapping_start a t
+
 -- whether an event keeps a text, for which a copy asks for memory
 abbrev pub keeps_text : Ev → Bool
 keeps_text (Ev.scalar x s a t) = true
@@ -36,6 +42,7 @@ keeps_text (Ev.sequence_start a t) = is_some t
 keeps_text (Ev.mapping_start a t) = is_some t
 keeps_text _ = false
 
+-- an event and its position
 abbrev pub placed : Event × Position → Ev × Position
 placed e = (ev_of e.0, e.1)
 

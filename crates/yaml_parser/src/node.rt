@@ -1,13 +1,12 @@
 //! Nodes: their properties, and what may stand after them (YAML 1.2, section 6.9).
 ghost use Rattle.std.specs.Prelude.{◌≡◌, false, Some, None, OnOk, OnErr, IfOk};
 ghost use Rattle.model_parser.specs.Goal as at;
-ghost use Rattle.defs_event.specs.Event.{Ev};
 ghost use Rattle.defs_event.specs.Names.{Names};
 ghost use Rattle.model_parser.specs.declared.context.NodeContext.TheVariants as context;
 ghost use Rattle.model_parser.specs.Kinds.{begins_content};
 ghost use Rattle.yaml_tokens.specs.declared.problem.Fault.TheVariants.{OutOfMemory};
 ghost use Rattle.yaml_parser.specs.declared.tokens.Stop.TheVariants.{Own};
-ghost use Rattle.yaml_parser.specs.Shown.{placed, perhaps_tag_of};
+ghost use Rattle.yaml_parser.specs.Shown.{placed, perhaps_tag_of, start_of};
 ghost use Rattle.yaml_parser.specs.Named.{IsNamed};
 ghost use Rattle.yaml_parser.specs.Properties.{ReadsAfter, Registers};
 ghost use Rattle.yaml_parser.specs.At.{Reads};
@@ -21,6 +20,7 @@ use crate::slot::{Answer, Halted, Slot};
 use crate::tokens::Stop;
 use model_parser::{Kind, NodeContext, State};
 use yaml_chars::Marker;
+use yaml_scanner_state::Collection;
 use yaml_tokens::{Fault, Problem};
 
 /// What stands before a node's content.
@@ -190,7 +190,7 @@ impl<T: Iterator<Item = char>> Reader<T> {
             Kind::BlockEntry => {
                 let mark = self.skip();
                 self.push(slot, State::IndentlessSequenceItem)?;
-                self.sequence(slot, properties, mark)
+                self.start(slot, Collection::Sequence, properties, mark)
             }
             _ => self.block_content(slot, properties, next),
         }
@@ -211,12 +211,12 @@ impl<T: Iterator<Item = char>> Reader<T> {
             Kind::BlockSequenceStart => {
                 let mark = self.skip();
                 self.push(slot, State::BlockSequenceEntry)?;
-                self.sequence(slot, properties, mark)
+                self.start(slot, Collection::Sequence, properties, mark)
             }
             Kind::BlockMappingStart => {
                 let mark = self.skip();
                 self.push(slot, State::BlockMappingKey)?;
-                self.mapping(slot, properties, mark)
+                self.start(slot, Collection::Mapping, properties, mark)
             }
             _ => self.flow_content(slot, properties, next),
         }
@@ -244,12 +244,12 @@ impl<T: Iterator<Item = char>> Reader<T> {
             Kind::FlowSequenceStart => {
                 let mark = self.skip();
                 self.push(slot, State::FlowSequenceFirstEntry)?;
-                self.sequence(slot, properties, mark)
+                self.start(slot, Collection::Sequence, properties, mark)
             }
             Kind::FlowMappingStart => {
                 let mark = self.skip();
                 self.push(slot, State::FlowMappingFirstKey)?;
-                self.mapping(slot, properties, mark)
+                self.start(slot, Collection::Mapping, properties, mark)
             }
             _ => self.no_content(slot, properties, next),
         }
@@ -274,29 +274,25 @@ impl<T: Iterator<Item = char>> Reader<T> {
         }
     }
 
-    /// The start of a sequence with these properties.
+    /// The start of this collection, with these properties.
     #[inline(always)]
-    fn sequence(&mut self, slot: &mut Slot, properties: Option<Properties>, mark: Marker) -> Answer
+    fn start(
+        &mut self,
+        slot: &mut Slot,
+        collection: Collection,
+        properties: Option<Properties>,
+        mark: Marker,
+    ) -> Answer
         ensures work { OnOk result (work self.new ≡ work self.old) }
         ensures input { KeepsInput self.old self.new }
-        ensures registers { (names : Names) → IsNamed self.old.names names → OnOk result (Registers self.old properties names (λ a t. placed slot.new.next ≡ (Ev.sequence_start a t, mark)) self.new) }
+        ensures registers { (names : Names) → IsNamed self.old.names names → OnOk result (Registers self.old properties names (λ a t. placed slot.new.next ≡ (start_of collection a t, mark)) self.new) }
         ensures err { OnErr result (slot.new.stop ≡ Own OutOfMemory) }
     {
         let (anchor, tag) = self.registered(slot, properties)?;
-        slot.write(Event::SequenceStart(anchor, tag), mark);
-        Ok(())
-    }
-
-    /// The start of a mapping with these properties.
-    #[inline(always)]
-    fn mapping(&mut self, slot: &mut Slot, properties: Option<Properties>, mark: Marker) -> Answer
-        ensures work { OnOk result (work self.new ≡ work self.old) }
-        ensures input { KeepsInput self.old self.new }
-        ensures registers { (names : Names) → IsNamed self.old.names names → OnOk result (Registers self.old properties names (λ a t. placed slot.new.next ≡ (Ev.mapping_start a t, mark)) self.new) }
-        ensures err { OnErr result (slot.new.stop ≡ Own OutOfMemory) }
-    {
-        let (anchor, tag) = self.registered(slot, properties)?;
-        slot.write(Event::MappingStart(anchor, tag), mark);
+        match collection {
+            Collection::Sequence => slot.write(Event::SequenceStart(anchor, tag), mark),
+            Collection::Mapping => slot.write(Event::MappingStart(anchor, tag), mark),
+        }
         Ok(())
     }
 
