@@ -14,8 +14,9 @@ use crate::stop::Stop;
 use crate::trap::YAMLDecodingTrap;
 use std::alloc::Global;
 
-/// Reads the part of an input at a position, and returns the position after it.
-fn read_part(
+/// Reads some of an input at a position, and returns the position after it: in UTF-8 a run of ASCII bytes if one begins
+/// there, else one part.
+fn read_some(
     encoding: Encoding,
     trap: YAMLDecodingTrap,
     input: &[u8],
@@ -26,6 +27,10 @@ fn read_part(
     ensures { Passes (steps_by (λ f. IsStep (post f.function)) trap) (encoding_of encoding) input.now position (string_chars text.old) (string_chars text.new) result }
 {
     let rest = &input[position..];
+    if matches!(encoding, Encoding::Utf8) && input[position] < 128 {
+        let count = read_run(rest, text)?;
+        return Ok(position + count);
+    }
     let sequence = encoding.sequence(rest);
     let after = position + usize::from(sequence.bytes);
     let Some(c) = sequence.character else {
@@ -41,27 +46,6 @@ fn read_part(
     };
     push(text, c)?;
     Ok(after)
-}
-
-/// Reads some of an input at a position, and returns the position after it: in UTF-8 a run of ASCII bytes if one begins
-/// there, else one part.
-fn read_some(
-    encoding: Encoding,
-    trap: YAMLDecodingTrap,
-    input: &[u8],
-    position: usize,
-    text: &mut String,
-) -> Result<usize, Stop>
-    requires { position < length input.now }
-    ensures { Passes (steps_by (λ f. IsStep (post f.function)) trap) (encoding_of encoding) input.now position (string_chars text.old) (string_chars text.new) result }
-{
-    match encoding {
-        Encoding::Utf8 if input[position] < 128 => {
-            let count = read_run(&input[position..], text)?;
-            Ok(position + count)
-        }
-        _ => read_part(encoding, trap, input, position, text),
-    }
 }
 
 /// The text of an input: by calls of the trap at each malformation.
