@@ -13,4 +13,5 @@ pub mod WordLemmas
 pub mod LiteralLemmas
 pub mod EntryLemmas
 pub mod ValidLemmas
+pub mod ListLemmas
 pub mod NodeLemmas

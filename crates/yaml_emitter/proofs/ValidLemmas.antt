@@ -1,15 +1,14 @@
 -- Valid trees, part by part.
-use Rattle.std.proofs.Common.{◌≡◌, List, [], ◌∷◌, true, sym, ap, subst, refl}
-use Rattle.std.specs.Prelude.{Result, Ok, Err, IsErr, OnOk, OnErr}
+use Rattle.std.proofs.Common.{◌≡◌, List, [], ◌∷◌, true, false, true≢false, sym, ap, subst, refl}
+use Rattle.std.specs.Prelude.{Result, Ok, Err, IsErr, OnOk, OnErr, max}
+use Rattle.defs_tree.specs.Box.{is_block}
 use Rattle.defs_tree.specs.Pairs.{AreDistinct}
 use Rattle.defs_tree.specs.Spelling.{is_scalar}
-use Rattle.defs_tree.specs.Tree.{Tree, Items, Pairs, items_of, pairs_of, pair_list_of}
-use Rattle.yaml_tree.specs.View.{view, array_tree, hash_tree}
-use Rattle.yaml_tree.specs.declared.yaml.Yaml.{Yaml}
-use Rattle.yaml_tree.specs.declared.yaml.Yaml.TheVariants.{Real, Integer, String, Boolean, Array, Hash, Alias, Null, BadValue}
-use Rattle.yaml_tree.specs.declared.array.Array as arrays
-use Rattle.yaml_tree.specs.declared.hash.Hash as hashes
+use Rattle.defs_tree.specs.Tree.{Tree, real, integer, string, boolean, array, hash, alias, null, bad_value, no_items, item, no_pairs, pair, items_of, pairs_of, pair_list_of}
+use Rattle.yaml_tree.specs.Depth.{depth, items_depth, pairs_depth}
+use Rattle.yaml_tree.specs.View.{hash_tree}
 use Rattle.yaml_emitter.specs.ValidTree.{IsValid, AreValid, ArePairsValid}
+use Rattle.yaml_emitter.proofs.ListLemmas.{Members}
 
 -- ---- answers
 
@@ -27,17 +26,6 @@ on_err (Err x) p = p
 
 -- ---- nodes
 
-pub other_is_scalar : (y : Yaml) → ((a : arrays.Array) → y ≡ Array a → ⊥) → ((h : hashes.Hash) → y ≡ Hash h → ⊥) → is_scalar (view y) ≡ true
-other_is_scalar (Real s) a h = refl
-other_is_scalar (Integer z) a h = refl
-other_is_scalar (String s) a h = refl
-other_is_scalar (Boolean b) a h = refl
-other_is_scalar (Array x) a h = absurd (a x refl)
-other_is_scalar (Hash x) a h = absurd (h x refl)
-other_is_scalar (Alias n) a h = refl
-other_is_scalar Null a h = refl
-other_is_scalar BadValue a h = refl
-
 pub valid_as : {E : Type 0} (r : Result (Unit {0}) E) (t s : Tree) → t ≡ s → OnOk r (IsValid s) → OnOk r (IsValid t)
 valid_as r t s e p = subst (λ x. OnOk r (IsValid x)) (sym e) p
 
@@ -45,20 +33,43 @@ pub pair_valid : {E : Type 0} (r : Result (Unit {0}) E) (k v : Tree) → IsValid
 pair_valid (Ok x) k v p q = (p, q)
 pair_valid (Err x) k v p q = tt
 
--- ---- arrays and hashes, where what is left decides
+-- an array or hash with no part, or a scalar
+pub flat_valid : (t : Tree) → is_block t ≡ false → (is_scalar t ≡ true → IsValid t) → IsValid t
+flat_valid (array no_items) b h = (tt, tt)
+flat_valid (array (item t ts)) b h = absurd (true≢false b)
+flat_valid (hash no_pairs) b h = ((tt, tt), tt)
+flat_valid (hash (pair k v ps)) b h = absurd (true≢false b)
+flat_valid (real s) b h = h refl
+flat_valid (integer z) b h = h refl
+flat_valid (string s) b h = h refl
+flat_valid (boolean x) b h = h refl
+flat_valid (alias n) b h = h refl
+flat_valid null b h = h refl
+flat_valid bad_value b h = h refl
 
-pub items_valid : (ts us : List Tree) (t : Tree) (all : Items) → ts ≡ t ∷ us → IsValid t → (AreValid (items_of ts) → AreValid all) → AreValid (items_of us) → AreValid all
-items_valid ts us t all e p f v = f (subst (λ xs. AreValid (items_of xs)) (sym e) ((p.0, v.0), (p.1, v.1)))
+-- ---- arrays and hashes, part by part
 
-pub pairs_valid : (ps qs : List (Tree × Tree)) (p : Tree × Tree) (all : Pairs) → ps ≡ p ∷ qs → IsValid p.0 × IsValid p.1
-    → (ArePairsValid (pairs_of ps) → ArePairsValid all) → ArePairsValid (pairs_of qs) → ArePairsValid all
-pairs_valid ps qs p all e q f v = f (subst (λ xs. ArePairsValid (pairs_of xs)) (sym e) ((q.0.0, q.1.0, v.0), (q.0.1, q.1.1, v.1)))
+abbrev pub nodes : Members Tree
+nodes = record {
+  own_depth = depth;
+  depth = λ ts. items_depth (items_of ts);
+  deepest = record { greatest = λ t ts. refl };
+  IsFit = IsValid;
+  AreFit = λ ts. AreValid (items_of ts);
+  none_fit = (tt, tt);
+  more_fit = λ t ts f fs. ((f.0, fs.0), (f.1, fs.1));
+}
 
-pub no_items_left : (ts : List Tree) (all : Items) → ts ≡ [] → (AreValid (items_of ts) → AreValid all) → AreValid all
-no_items_left ts all e f = f (subst (λ xs. AreValid (items_of xs)) (sym e) (tt, tt))
-
-pub no_pairs_left : (ps : List (Tree × Tree)) (all : Pairs) → ps ≡ [] → (ArePairsValid (pairs_of ps) → ArePairsValid all) → ArePairsValid all
-no_pairs_left ps all e f = f (subst (λ xs. ArePairsValid (pairs_of xs)) (sym e) (tt, tt))
+abbrev pub nodes_in_pairs : Members (Tree × Tree)
+nodes_in_pairs = record {
+  own_depth = λ p. max (depth p.0) (depth p.1);
+  depth = λ ps. pairs_depth (pairs_of ps);
+  deepest = record { greatest = λ p ps. refl };
+  IsFit = λ p. IsValid p.0 × IsValid p.1;
+  AreFit = λ ps. ArePairsValid (pairs_of ps);
+  none_fit = (tt, tt);
+  more_fit = λ p ps f fs. ((f.0.0, f.1.0, fs.0), (f.0.1, f.1.1, fs.1));
+}
 
 same_pairs : (ps : List (Tree × Tree)) → pair_list_of (pairs_of ps) ≡ ps
 same_pairs [] = refl
@@ -66,9 +77,3 @@ same_pairs (p ∷ ps) = ap (λ xs. p ∷ xs) (same_pairs ps)
 
 pub valid_hash : (ps : List (Tree × Tree)) → AreDistinct ps → ArePairsValid (pairs_of ps) → IsValid (hash_tree ps)
 valid_hash ps d v = ((subst AreDistinct (sym (same_pairs ps)) d, v.0), v.1)
-
-pub empty_array : (ts : List Tree) → ts ≡ [] → IsValid (array_tree ts)
-empty_array ts e = subst (λ xs. IsValid (array_tree xs)) (sym e) (tt, tt)
-
-pub empty_hash : (ps : List (Tree × Tree)) → ps ≡ [] → IsValid (hash_tree ps)
-empty_hash ps e = subst (λ xs. IsValid (hash_tree xs)) (sym e) ((tt, tt), tt)

@@ -1,6 +1,6 @@
 //! Nodes: scalars, and arrays and hashes in block style (YAML 1.2, chapter 8).
 ghost use Rattle.std.specs.Prelude.{◌≡◌, ◌<◌, ◌≤◌, ◌+◌, ◌^◌, max, chars, true, false, if◌then◌else◌, OnOk};
-ghost use Rattle.defs_tree.specs.Box.{box, is_block, string_box};
+ghost use Rattle.defs_tree.specs.Box.{box, item_boxes, pair_boxes, is_block, string_box};
 ghost use Rattle.defs_tree.specs.DumpText.{dump_text};
 ghost use Rattle.defs_tree.specs.Literal.{is_literal_text, is_root_literal};
 ghost use Rattle.defs_tree.specs.Spelling.{is_scalar};
@@ -8,7 +8,7 @@ ghost use Rattle.defs_tree.specs.Tree.{array, hash, items_of, pairs_of};
 ghost use Rattle.defs_tree.specs.Writable.{levels};
 ghost use Rattle.yaml_tree.specs.View.{view, array_tree, hash_tree};
 ghost use Rattle.yaml_emitter.specs.At.{stacked};
-ghost use Rattle.yaml_emitter.specs.Entries.{before_value, after_mark, before_entry, item_mark, second_mark, scalar_key, pair_text, scalar_box};
+ghost use Rattle.yaml_emitter.specs.Entries.{before_value, after_mark, before_entry, item_mark, second_mark, scalar_key, pair_text, entries_text, scalar_box};
 ghost use Rattle.yaml_emitter.specs.ValidTree.{IsValid, IsValidScalar};
 ghost use Rattle.yaml_emitter.specs.Writing.{Writes, WritesUnless};
 
@@ -59,10 +59,16 @@ fn write_node<W: Writer>(
         (stacked level (box settings.now.compact settings.now.multiline at_root (view node.now))) out.new }
     ensures valid { OnOk result (IsValid (view node.now)) }
 {
+    if !is_block(node) {
+        return write_scalar(out, settings.multiline, at_root, level, node);
+    }
+    if level >= DEEPEST {
+        return Err(fmt::Error);
+    }
     match node {
-        Yaml::Array(items) => write_array(out, settings, level, items),
-        Yaml::Hash(pairs) => write_hash(out, settings, level, pairs),
-        _ => write_scalar(out, settings.multiline, at_root, level, node),
+        Yaml::Array(items) => write_items(out, settings, level, items),
+        Yaml::Hash(pairs) => write_pairs(out, settings, level, pairs),
+        _ => unreachable!(),
     }
 }
 
@@ -107,23 +113,17 @@ fn is_block(node: &Yaml) -> bool
 }
 
 #[cycle(write)]
-fn write_array<W: Writer>(
+fn write_items<W: Writer>(
     out: &mut W,
     settings: &Settings,
     level: usize,
     items: &Array,
 ) -> fmt::Result
-    requires { level < 2 ^ 62 }
+    requires { level + 1 < 2 ^ 62 }
     ensures text { WritesUnless (2 ^ 62 ≤ level + levels (array_tree items.now)) W.put_gives W.put_leaves out.old result
-        (stacked level (box settings.now.compact settings.now.multiline false (array_tree items.now))) out.new }
+        (entries_text true level (item_boxes settings.now.compact settings.now.multiline (items_of items.now))) out.new }
     ensures valid { OnOk result (IsValid (array_tree items.now)) }
 {
-    if items.is_empty() {
-        return put_ascii(out, "[]");
-    }
-    if level >= DEEPEST {
-        return Err(fmt::Error);
-    }
     let mut is_first = true;
     'items: for item in items {
         begin_item(out, level, is_first)?;
@@ -134,23 +134,17 @@ fn write_array<W: Writer>(
 }
 
 #[cycle(write)]
-fn write_hash<W: Writer>(
+fn write_pairs<W: Writer>(
     out: &mut W,
     settings: &Settings,
     level: usize,
     pairs: &Hash,
 ) -> fmt::Result
-    requires { level < 2 ^ 62 }
+    requires { level + 1 < 2 ^ 62 }
     ensures text { WritesUnless (2 ^ 62 ≤ level + levels (hash_tree pairs.now)) W.put_gives W.put_leaves out.old result
-        (stacked level (box settings.now.compact settings.now.multiline false (hash_tree pairs.now))) out.new }
+        (entries_text true level (pair_boxes settings.now.compact settings.now.multiline (pairs_of pairs.now))) out.new }
     ensures valid { OnOk result (IsValid (hash_tree pairs.now)) }
 {
-    if pairs.is_empty() {
-        return put_ascii(out, "{}");
-    }
-    if level >= DEEPEST {
-        return Err(fmt::Error);
-    }
     let mut is_first = true;
     'pairs: for (key, value) in pairs.iter() {
         begin_entry(out, level, is_first)?;

@@ -1,8 +1,9 @@
-use Rattle.std.proofs.Common.{◌+◌, ◌*◌, ◌≤◌}
+use Rattle.std.proofs.Common.{◌+◌, ◌*◌}
 use Rattle.defs_tree.specs.Tree.{items_of, pairs_of}
 use Rattle.yaml_tree.specs.Depth.{depth, items_depth, pairs_depth}
 use Rattle.yaml_tree.specs.View.{view}
-use Rattle.yaml_emitter.specs.ValidTree.{AreValid, ArePairsValid}
+use Rattle.yaml_emitter.proofs.ListLemmas.{Decide}
+use Rattle.yaml_emitter.proofs.ValidLemmas.{nodes, nodes_in_pairs}
 use Rattle.yaml_emitter.proofs.walk.+look.Given as goal
 
 abbrev pub decreases-look : goal.decreases-look
@@ -15,13 +16,7 @@ abbrev pub decreases-look_at_pairs : goal.decreases-look_at_pairs
 decreases-look_at_pairs l = 2 * pairs_depth (pairs_of l.pairs.now) + 1
 
 abbrev pub invariant-look_at_items-items : goal.invariant-look_at_items-items
-invariant-look_at_items-items l = record {
-  no_deeper : items_depth (items_of l.item-iterator) ≤ items_depth (items_of l.fn.items);
-  valid : AreValid (items_of l.item-iterator) → AreValid (items_of l.fn.items);
-}
+invariant-look_at_items-items l = Decide nodes l.fn.items l.item-iterator
 
 abbrev pub invariant-look_at_pairs-pairs : goal.invariant-look_at_pairs-pairs
-invariant-look_at_pairs-pairs l = record {
-  no_deeper : pairs_depth (pairs_of l.key-iterator) ≤ pairs_depth (pairs_of l.fn.pairs);
-  valid : ArePairsValid (pairs_of l.key-iterator) → ArePairsValid (pairs_of l.fn.pairs);
-}
+invariant-look_at_pairs-pairs l = Decide nodes_in_pairs l.fn.pairs l.key-iterator
