@@ -1,8 +1,16 @@
 -- The cases of a character that is written.
-use Rattle.std.proofs.Common.{◌≡◌, ◌≢◌, ℕ, refl, ne_eqb}
+use Rattle.std.proofs.Common.{◌≡◌, ◌≢◌, ℕ, List, refl, sym, ap, ne_eqb}
+use Rattle.std.specs.Prelude.{Result}
 use Rattle.defs_tree.specs.Escapes.{written_character}
 use Rattle.yaml_emitter.specs.Escaping.{written_code}
+use Rattle.yaml_emitter.specs.Writing.{WritesUnless}
+use Rattle.yaml_emitter.proofs.WritingLemmas.{writes_as}
 
 pub other_character : (c : ℕ) → c ≢ 34 → c ≢ 92 → c ≢ 8 → c ≢ 9 → c ≢ 10 → c ≢ 12 → c ≢ 13 → written_code c ≡ written_character c
 unfolding written_character
 other_character c a b d e f g h = rw (ne_eqb c 34 a, ne_eqb c 92 b, ne_eqb c 8 d, ne_eqb c 9 e, ne_eqb c 10 f, ne_eqb c 12 g, ne_eqb c 13 h) refl
+
+-- a character that has an escape of its own
+pub writes_escape : {W E : Type 0} {gives leaves : W → List ℕ → W → Type 0} {w v : W} {r : Result (Unit {0}) E} {c d : ℕ}
+    → c ≡ d → WritesUnless ⊥ gives leaves w r (written_character d) v → WritesUnless ⊥ gives leaves w r (written_character c) v
+writes_escape e = writes_as (ap written_character (sym e))
