@@ -19,4 +19,6 @@ mod writer;
 pub use emitter::{EmitError, EmitResult, YamlEmitter};
 pub use escape::{DoubleQuoted, write_double_quoted};
 pub use fmt_writer::FmtWriter;
+pub use line::start_line;
+pub use node::has_parts;
 pub use writer::{Writer, put_ascii};

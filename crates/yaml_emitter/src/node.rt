@@ -59,7 +59,7 @@ fn write_node<W: Writer>(
         (stacked level (box settings.now.compact settings.now.multiline at_root (view node.now))) out.new }
     ensures valid { OnOk result (IsValid (view node.now)) }
 {
-    if !is_block(node) {
+    if !has_parts(node) {
         return write_scalar(out, settings.multiline, at_root, level, node);
     }
     if level >= DEEPEST {
@@ -95,14 +95,15 @@ fn begin_value<W: Writer>(out: &mut W, level: usize, blocks_lower: bool, node: &
     requires { level < 2 ^ 62 }
     ensures { Writes W.put_gives W.put_leaves out.old result (before_value blocks_lower level (view node.now)) out.new }
 {
-    if blocks_lower && is_block(node) {
+    if blocks_lower && has_parts(node) {
         break_line(out, level + 1)
     } else {
         put_ascii(out, " ")
     }
 }
 
-fn is_block(node: &Yaml) -> bool
+/// Whether a node is an array or a hash that is not empty.
+pub fn has_parts(node: &Yaml) -> bool
     ensures { result ≡ is_block (view node.now) }
 {
     match node {

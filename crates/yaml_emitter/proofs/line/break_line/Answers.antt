@@ -1,16 +1,16 @@
-use Rattle.std.proofs.Common.{refl, arith}
-use Rattle.yaml_emitter.proofs.LineLemmas.{deep_line, low_line}
+use Rattle.std.proofs.Common.{◌∷◌, ◌*◌, ◌∙◌, refl, ap}
+use Rattle.yaml_emitter.proofs.LineLemmas.{low_line, twice, of_level}
 use Rattle.yaml_emitter.proofs.WritingLemmas.{writes_as, writes_late, writes_err, stopped_as, stopped_early}
 use Rattle.yaml_emitter.proofs.line.break_line.Goals as goal
 
 pub put_ascii-requires : goal.put_ascii-requires
-put_ascii-requires g c = low_line _ c.args.level c.line.ensures
+put_ascii-requires g c = low_line _ (2 * c.args.level) c.line.ensures
 
-pub returns-then-level-le-MOST : goal.returns-then-level-le-MOST
-returns-then-level-le-MOST g c = writes_as c.line.ensures c.put_ascii.ensures
+pub returns-then-level-le-MOST_LEVELS : goal.returns-then-level-le-MOST_LEVELS
+returns-then-level-le-MOST_LEVELS g c = writes_as (c.line.ensures ∙ ap (λ t. 10 ∷ t) (of_level c.args.level)) c.put_ascii.ensures
 
-pub returns-in_err-put_ascii : goal.returns-in_err-put_ascii
-returns-in_err-put_ascii g c = writes_err c.from_residual.ensures.0 (stopped_as (deep_line c.args.level (omega arith)) (stopped_early _ (c.in_err-put_ascii.ensures.err refl)))
+pub returns-in_err-start_line : goal.returns-in_err-start_line
+returns-in_err-start_line g c = writes_err c.from_residual.ensures.0 (stopped_as (ap (λ t. 10 ∷ t) (twice c.args.level)) (stopped_early _ (c.in_err-start_line.ensures.err refl)))
 
 pub returns : goal.returns
-returns g c = writes_as (deep_line c.args.level (omega arith)) (writes_late (c.in_ok-put_ascii.ensures.ok refl) c.indent.ensures)
+returns g c = writes_as (ap (λ t. 10 ∷ t) (twice c.args.level)) (writes_late (c.in_ok-start_line.ensures.ok refl) c.put_spaces.ensures)

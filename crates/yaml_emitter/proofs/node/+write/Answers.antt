@@ -15,26 +15,26 @@ write_value-returns-in_err-begin_value-clause-text g t c = writes_err c.from_res
 pub write_value-returns-clause-text : goal.write_value-returns-clause-text
 write_value-returns-clause-text g t c = writes_late (c.in_ok-begin_value.ensures.ok refl) c.write_node.ensures.text
 
-pub write_node-returns-then-not-is_block-clause-text : goal.write_node-returns-then-not-is_block-clause-text
-write_node-returns-then-not-is_block-clause-text g t c =
-    writes_as (ap (stacked c.args.level) (flat_box (view c.args.node.now) _ _ _ (sym (c.if-not-is_block.ensures {u = tt})))) (writes_for (λ b. absurd b) c.write_scalar.ensures.text)
+pub write_node-returns-then-not-has_parts-clause-text : goal.write_node-returns-then-not-has_parts-clause-text
+write_node-returns-then-not-has_parts-clause-text g t c =
+    writes_as (ap (stacked c.args.level) (flat_box (view c.args.node.now) _ _ _ (sym (c.if-not-has_parts.ensures {u = tt})))) (writes_for (λ b. absurd b) c.write_scalar.ensures.text)
 
 pub write_node-returns-then-level-ge-DEEPEST-clause-text : goal.write_node-returns-then-level-ge-DEEPEST-clause-text
 write_node-returns-then-level-ge-DEEPEST-clause-text g t c =
-    let two = two_levels (view c.args.node.now) (sym (c.if-not-is_block.ensures {u = tt})) in
+    let two = two_levels (view c.args.node.now) (sym (c.if-not-has_parts.ensures {u = tt})) in
     writes_err refl (stopped_here _ _ _ _ _ (omega (arith, two)) refl)
 
 pub write_node-returns-in-Array-clause-text : goal.write_node-returns-in-Array-clause-text
 write_node-returns-in-Array-clause-text g t c =
-    block_writes _ _ _ c.args.level _ _ (ap view c.in-Array.is) (items_text _ _ c.args.level _) (sym (c.if-not-is_block.ensures {u = tt})) c.write_items.ensures.text
+    block_writes _ _ _ c.args.level _ _ (ap view c.in-Array.is) (items_text _ _ c.args.level _) (sym (c.if-not-has_parts.ensures {u = tt})) c.write_items.ensures.text
 
 pub write_node-returns-in-Hash-clause-text : goal.write_node-returns-in-Hash-clause-text
 write_node-returns-in-Hash-clause-text g t c =
-    block_writes _ _ _ c.args.level _ _ (ap view c.in-Hash.is) (pairs_text _ _ c.args.level _) (sym (c.if-not-is_block.ensures {u = tt})) c.write_pairs.ensures.text
+    block_writes _ _ _ c.args.level _ _ (ap view c.in-Hash.is) (pairs_text _ _ c.args.level _) (sym (c.if-not-has_parts.ensures {u = tt})) c.write_pairs.ensures.text
 
-pub write_node-returns-then-not-is_block-clause-valid : goal.write_node-returns-then-not-is_block-clause-valid
-write_node-returns-then-not-is_block-clause-valid g t c =
-    in_any _ (flat_valid (view c.args.node.now) (sym (c.if-not-is_block.ensures {u = tt})) c.write_scalar.ensures.valid)
+pub write_node-returns-then-not-has_parts-clause-valid : goal.write_node-returns-then-not-has_parts-clause-valid
+write_node-returns-then-not-has_parts-clause-valid g t c =
+    in_any _ (flat_valid (view c.args.node.now) (sym (c.if-not-has_parts.ensures {u = tt})) c.write_scalar.ensures.valid)
 
 pub write_node-returns-in-Array-clause-valid : goal.write_node-returns-in-Array-clause-valid
 write_node-returns-in-Array-clause-valid g t c = valid_as _ _ _ (ap view c.in-Array.is) c.write_items.ensures.valid

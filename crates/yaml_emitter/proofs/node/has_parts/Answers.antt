@@ -2,7 +2,7 @@ use Rattle.std.proofs.Common.{ap, sym, ◌∙◌}
 use Rattle.defs_tree.specs.Box.{is_block}
 use Rattle.yaml_tree.specs.View.{view}
 use Rattle.yaml_emitter.proofs.EntryLemmas.{block_of_items, block_of_pairs}
-use Rattle.yaml_emitter.proofs.node.is_block.Goals as goal
+use Rattle.yaml_emitter.proofs.node.has_parts.Goals as goal
 
 pub returns-in-Array : goal.returns-in-Array
 returns-in-Array c = block_of_items c.is_empty.result _ c.is_empty.ensures ∙ ap (λ y. is_block (view y)) (sym c.in-Array.is)

@@ -1,9 +1,0 @@
-use Rattle.std.proofs.Common.{◌∙◌}
-use Rattle.yaml_emitter.proofs.LineLemmas.{after_break, break_boundary}
-use Rattle.yaml_emitter.proofs.line.blanks.Goals as goal
-
-pub split_at-requires : goal.split_at-requires
-split_at-requires c = break_boundary _ c.args.level c.line.ensures
-
-pub returns : goal.returns
-returns c = c.split_at.ensures.back ∙ after_break _ c.args.level c.line.ensures

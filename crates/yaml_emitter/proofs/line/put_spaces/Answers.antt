@@ -1,0 +1,24 @@
+use Rattle.std.proofs.Common.{refl, sym, arith}
+use Rattle.yaml_emitter.proofs.LineLemmas.{deep_blanks, low_text}
+use Rattle.yaml_emitter.proofs.WritingLemmas.{writes_err, stopped_early, left_all, left_as, left_after, left_stopped, left_writes}
+use Rattle.yaml_emitter.proofs.line.put_spaces.Goals as goal
+
+pub left-init : goal.left-init
+left-init g c = left_all
+
+pub put_ascii-requires : goal.put_ascii-requires
+put_ascii-requires g c = low_text _ 64 c.spaces.ensures
+
+pub put_ascii-requires-2 : goal.put_ascii-requires-2
+put_ascii-requires-2 g c = low_text _ c.left.left c.spaces-2.ensures
+
+pub returns-in_err-put_ascii : goal.returns-in_err-put_ascii
+returns-in_err-put_ascii g c =
+    writes_err c.from_residual.ensures.0
+    (left_stopped (left_as (deep_blanks c.left.left (omega arith)) c.left.invariant) (stopped_early _ (rw c.spaces.ensures at (c.in_err-put_ascii.ensures.err refl))))
+
+pub left-preserved : goal.left-preserved
+left-preserved g c = left_after (left_as (deep_blanks c.left.left (omega arith)) c.left.invariant) (rw c.spaces.ensures at (c.in_ok-put_ascii.ensures.ok refl))
+
+pub returns : goal.returns
+returns g c = left_writes (left_as (sym c.spaces-2.ensures) c.left.invariant) c.put_ascii-2.ensures

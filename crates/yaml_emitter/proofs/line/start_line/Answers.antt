@@ -1,0 +1,15 @@
+use Rattle.std.proofs.Common.{refl, arith}
+use Rattle.yaml_emitter.proofs.WritingLemmas.{writes_as, writes_late, writes_err, stopped_as, stopped_early}
+use Rattle.yaml_emitter.proofs.LineLemmas.{deep_line, low_line}
+use Rattle.yaml_emitter.proofs.line.start_line.Goals as goal
+
+pub put_ascii-requires : goal.put_ascii-requires
+put_ascii-requires g c = low_line _ c.args.count c.line.ensures
+
+pub returns-in_err-put_ascii : goal.returns-in_err-put_ascii
+returns-in_err-put_ascii g c =
+    writes_err c.from_residual.ensures.0
+    (stopped_as (deep_line c.args.count (omega arith)) (stopped_early _ (c.in_err-put_ascii.ensures.err refl)))
+
+pub returns : goal.returns
+returns g c = writes_as (deep_line c.args.count (omega arith)) (writes_late (c.in_ok-put_ascii.ensures.ok refl) c.put_spaces.ensures)
