@@ -1,24 +1,21 @@
 -- What every tree of the library meets, part by part.
-use Rattle.std.proofs.Common.{◌≡◌, List, [], ◌∷◌, ℕ, ◌+◌, Bool, true, false, refl, sym, ap, subst, arith}
+use Rattle.std.proofs.Common.{◌≡◌, List, [], ◌∷◌, ℕ, ◌+◌, Bool, true, false, true≢false, refl, sym, ap, subst, arith}
 use Rattle.std.specs.Prelude.{Result, OnOk, Option, Some, None, if◌then◌else◌}
 use Rattle.std.specs.Char.{IsScalar}
 use Rattle.std.specs.Str.{chars, IsUtf8, all_scalars}
 use Rattle.std.proofs.lemmas.Bool.{and_parts, and_from}
 use Rattle.std.proofs.lemmas.Bool.Decides.{nat_tests}
 use Rattle.std.proofs.lemmas.Str.{scalars-chars}
-use Rattle.defs_tree.specs.Tree.{Tree, real, integer, string, boolean, array, hash, alias, null, bad_value, Items, no_items, item, Pairs, no_pairs, pair, items_of, pairs_of, pair_list_of}
+use Rattle.defs_tree.specs.Box.{is_block}
+use Rattle.defs_tree.specs.Tree.{Tree, real, integer, string, boolean, array, hash, alias, null, bad_value, Items, no_items, item, Pairs, no_pairs, pair, pairs_of, pair_list_of}
 use Rattle.defs_tree.specs.Pairs.{AreDistinct}
 use Rattle.defs_tree.specs.Typing.{is_string}
 use Rattle.defs_json.specs.JsonReal.{is_json_real}
 use Rattle.defs_json.specs.HasJson.{HasJson, AllHaveJson, AreMembers, IsKey, is_character, are_characters}
 use Rattle.defs_json.specs.Fault.{Fault, Step, index, here, below, first_of, step_of, are_strings, is_no_number, has_other_key, first_fault, first_item_fault, first_member_fault}
-use Rattle.yaml_tree.specs.View.{view, array_tree, hash_tree}
-use Rattle.yaml_tree.specs.declared.yaml.Yaml.{Yaml}
-use Rattle.yaml_tree.specs.declared.yaml.Yaml.TheVariants.{Real, Integer, String, Boolean, Array, Hash, Alias, Null, BadValue}
-use Rattle.yaml_tree.specs.declared.array.Array as arrays
-use Rattle.yaml_tree.specs.declared.hash.Hash as hashes
-use Rattle.yaml_json.specs.Given.{IsGiven, AreGiven, ArePairsGiven, IsKeyGiven, IsScalarGiven}
-use Rattle.yaml_json.specs.Left.{scalar_text}
+use Rattle.yaml_tree.specs.View.{hash_tree}
+use Rattle.yaml_json.specs.Given.{IsGiven, AreGiven, ArePairsGiven, IsKeyGiven, IsFlatGiven}
+use Rattle.yaml_json.specs.Left.{flat_text}
 use Rattle.defs_json.specs.JsonText.{json_text}
 
 -- ---- texts
@@ -35,45 +32,35 @@ text_given bs u = scalars_are (chars bs) (scalars-chars bs u)
 
 -- ---- nodes
 
--- one that is neither an array nor a hash
-pub scalar_given : (y : Yaml) → ((a : arrays.Array) → y ≡ Array a → ⊥) → ((h : hashes.Hash) → y ≡ Hash h → ⊥) → IsScalarGiven (view y) → IsGiven (view y)
-scalar_given (Real s) a h g = g
-scalar_given (Integer z) a h g = g
-scalar_given (String s) a h g = g
-scalar_given (Boolean b) a h g = g
-scalar_given (Array x) a h g = absurd (a x refl)
-scalar_given (Hash x) a h g = absurd (h x refl)
-scalar_given (Alias n) a h g = g
-scalar_given Null a h g = g
-scalar_given BadValue a h g = g
+-- one that has no parts
+pub flat_given : (t : Tree) → is_block t ≡ false → IsFlatGiven t → IsGiven t
+flat_given (array no_items) b g = tt
+flat_given (array (item t ts)) b g = absurd (true≢false b)
+flat_given (hash no_pairs) b g = (tt, tt)
+flat_given (hash (pair k v ps)) b g = absurd (true≢false b)
+flat_given (real s) b g = g
+flat_given (integer z) b g = g
+flat_given (string s) b g = g
+flat_given (boolean x) b g = g
+flat_given (alias n) b g = g
+flat_given null b g = g
+flat_given bad_value b g = g
 
-pub scalar_text_is : (y : Yaml) (i : Option ℕ) (m : ℕ) → ((a : arrays.Array) → y ≡ Array a → ⊥) → ((h : hashes.Hash) → y ≡ Hash h → ⊥) → scalar_text (view y) ≡ json_text i m (view y)
-scalar_text_is (Real s) i m a h = refl
-scalar_text_is (Integer z) i m a h = refl
-scalar_text_is (String s) i m a h = refl
-scalar_text_is (Boolean b) i m a h = refl
-scalar_text_is (Array x) i m a h = absurd (a x refl)
-scalar_text_is (Hash x) i m a h = absurd (h x refl)
-scalar_text_is (Alias n) i m a h = refl
-scalar_text_is Null i m a h = refl
-scalar_text_is BadValue i m a h = refl
+pub flat_text_is : (t : Tree) (i : Option ℕ) (m : ℕ) → is_block t ≡ false → flat_text t ≡ json_text i m t
+flat_text_is (array no_items) i m b = refl
+flat_text_is (array (item t ts)) i m b = absurd (true≢false b)
+flat_text_is (hash no_pairs) i m b = refl
+flat_text_is (hash (pair k v ps)) i m b = absurd (true≢false b)
+flat_text_is (real s) i m b = refl
+flat_text_is (integer z) i m b = refl
+flat_text_is (string s) i m b = refl
+flat_text_is (boolean x) i m b = refl
+flat_text_is (alias n) i m b = refl
+flat_text_is null i m b = refl
+flat_text_is bad_value i m b = refl
 
 pub given_as : {E : Type 0} (r : Result (Unit {0}) E) (t s : Tree) → t ≡ s → OnOk r (IsGiven s) → OnOk r (IsGiven t)
 given_as r t s e p = subst (λ x. OnOk r (IsGiven x)) (sym e) p
-
--- what is left decides
-pub items_given : (ts us : List Tree) (t : Tree) (all : Items) → ts ≡ t ∷ us → IsGiven t → (AreGiven (items_of ts) → AreGiven all) → AreGiven (items_of us) → AreGiven all
-items_given ts us t all e p f v = f (subst (λ xs. AreGiven (items_of xs)) (sym e) (p, v))
-
-pub pairs_given : (ps qs : List (Tree × Tree)) (p : Tree × Tree) (all : Pairs) → ps ≡ p ∷ qs → IsKeyGiven p.0 → IsGiven p.1
-    → (ArePairsGiven (pairs_of ps) → ArePairsGiven all) → ArePairsGiven (pairs_of qs) → ArePairsGiven all
-pairs_given ps qs p all e k q f v = f (subst (λ xs. ArePairsGiven (pairs_of xs)) (sym e) (k, q, v))
-
-pub no_items_left : (ts : List Tree) (all : Items) → ts ≡ [] → (AreGiven (items_of ts) → AreGiven all) → AreGiven all
-no_items_left ts all e f = f (subst (λ xs. AreGiven (items_of xs)) (sym e) tt)
-
-pub no_pairs_left : (ps : List (Tree × Tree)) (all : Pairs) → ps ≡ [] → (ArePairsGiven (pairs_of ps) → ArePairsGiven all) → ArePairsGiven all
-no_pairs_left ps all e f = f (subst (λ xs. ArePairsGiven (pairs_of xs)) (sym e) tt)
 
 same_pairs : (ps : List (Tree × Tree)) → pair_list_of (pairs_of ps) ≡ ps
 same_pairs [] = refl
@@ -81,12 +68,6 @@ same_pairs (p ∷ ps) = ap (λ xs. p ∷ xs) (same_pairs ps)
 
 pub given_hash : (ps : List (Tree × Tree)) → AreDistinct ps → ArePairsGiven (pairs_of ps) → IsGiven (hash_tree ps)
 given_hash ps d v = (subst AreDistinct (sym (same_pairs ps)) d, v)
-
-pub empty_array_given : (ts : List Tree) → ts ≡ [] → IsGiven (array_tree ts)
-empty_array_given ts e = subst (λ xs. IsGiven (array_tree xs)) (sym e) tt
-
-pub empty_hash_given : (ps : List (Tree × Tree)) → ps ≡ [] → IsGiven (hash_tree ps)
-empty_hash_given ps e = subst (λ xs. IsGiven (hash_tree xs)) (sym e) (tt, tt)
 
 -- ---- with no fault
 

@@ -1,16 +1,16 @@
 -- What is left to write of arrays and objects.
-use Rattle.std.proofs.Common.{◌≡◌, ◌≢◌, ℕ, suc, ◌^◌, ◌≤◌, List, [], ◌∷◌, ◌++◌, Bool, true, false, refl, sym, ap, ◌∙◌, subst, arith, append_assoc, true≢false, ◌↔◌}
-use Rattle.std.specs.Prelude.{codes, Option, unwrap_or, IsTrue}
+use Rattle.std.proofs.Common.{◌≡◌, ℕ, suc, ◌^◌, ◌≤◌, List, ◌++◌, Bool, true, false, refl, sym, ap, ◌∙◌, arith, append_assoc, subst, true≢false}
+use Rattle.std.specs.Prelude.{Option, unwrap_or, max}
 use Rattle.std.proofs.Math.Nat.{mul-le-mul_left}
-use Rattle.defs_tree.specs.Tree.{Tree, array, hash, Items, no_items, item, Pairs, no_pairs, pair, items_of, pairs_of}
+use Rattle.defs_tree.specs.Box.{is_block}
+use Rattle.defs_tree.specs.Tree.{Tree, real, integer, string, boolean, array, hash, alias, null, bad_value, Items, no_items, item, Pairs, no_pairs, pair, items_of, pairs_of}
 use Rattle.defs_json.specs.HasJson.{nesting, item_nesting, member_nesting}
 use Rattle.defs_json.specs.JsonText.{deeper, new_line, key_end, key_text, json_text, more_items, more_members}
 use Rattle.yaml_tree.specs.Depth.{depth, items_depth, pairs_depth}
-use Rattle.yaml_json.specs.Left.{IsTooWide, before_entry, items_left, members_left}
-
--- a test that fails
-pub not_empty : (b : Bool) (P : Type 0) → (IsTrue b ↔ P) → b ≡ false → P → ⊥
-not_empty b P h e p = true≢false (sym (h.1 p) ∙ e)
+use Rattle.yaml_emitter.specs.At.{is_low}
+use Rattle.yaml_emitter.proofs.ListLemmas.{Entries}
+use Rattle.yaml_json.specs.Given.{IsGiven, AreGiven, IsKeyGiven, ArePairsGiven}
+use Rattle.yaml_json.specs.Left.{IsTooWide, before_entry, items_left, members_left, parts_left, part_nesting, opening, closing}
 
 -- ---- how wide
 
@@ -24,65 +24,119 @@ wide_inside i m inner n e w = omega arith
 pub wide_margin : (i : Option ℕ) (m n : ℕ) → 2 ^ 64 ≤ deeper i m → IsTooWide i m (suc n)
 wide_margin i m n w = omega arith
 
--- ---- arrays
+part_wide : (t : Tree) → is_block t ≡ true → nesting t ≡ suc (part_nesting t)
+part_wide (array ts) b = refl
+part_wide (hash ps) b = refl
+part_wide (real s) b = absurd (true≢false (sym b))
+part_wide (integer z) b = absurd (true≢false (sym b))
+part_wide (string s) b = absurd (true≢false (sym b))
+part_wide (boolean x) b = absurd (true≢false (sym b))
+part_wide (alias n) b = absurd (true≢false (sym b))
+part_wide null b = absurd (true≢false (sym b))
+part_wide bad_value b = absurd (true≢false (sym b))
 
-pub empty_array : (i : Option ℕ) (m : ℕ) (ts : List Tree) → ts ≡ [] → codes "[]" ≡ json_text i m (array (items_of ts))
-empty_array i m ts e = ap (λ us. json_text i m (array (items_of us))) (sym e)
+-- of a node that has parts
+pub part_inside : (i : Option ℕ) (m inner : ℕ) (t : Tree) → is_block t ≡ true → inner ≡ deeper i m → IsTooWide i inner (part_nesting t) → IsTooWide i m (nesting t)
+part_inside i m inner t b e w = subst (IsTooWide i m) (sym (part_wide t b)) (wide_inside i m inner (part_nesting t) e w)
 
-pub full_array : (i : Option ℕ) (m inner : ℕ) (ts : List Tree) → inner ≡ deeper i m → ts ≢ []
-    → codes "[" ++ (items_left true i inner (items_of ts) ++ (new_line i m ++ codes "]")) ≡ json_text i m (array (items_of ts))
-full_array i m inner [] e h = absurd (h refl)
-full_array i m inner (t ∷ ts) e h = ap (λ n. codes "[" ++ (items_left true i n (items_of (t ∷ ts)) ++ (new_line i m ++ codes "]"))) e ∙ simp append_assoc
+pub part_margin : (i : Option ℕ) (m : ℕ) (t : Tree) → is_block t ≡ true → 2 ^ 64 ≤ deeper i m → IsTooWide i m (nesting t)
+part_margin i m t b w = subst (IsTooWide i m) (sym (part_wide t b)) (wide_margin i m (part_nesting t) w)
+
+-- ---- arrays and objects with parts
+
+pub low_brackets : (t : Tree) → (is_low (opening t) ≡ true) × (is_low (closing t) ≡ true)
+low_brackets (array ts) = (refl, refl)
+low_brackets (hash ps) = (refl, refl)
+low_brackets (real s) = (refl, refl)
+low_brackets (integer z) = (refl, refl)
+low_brackets (string s) = (refl, refl)
+low_brackets (boolean x) = (refl, refl)
+low_brackets (alias n) = (refl, refl)
+low_brackets null = (refl, refl)
+low_brackets bad_value = (refl, refl)
+
+-- the text between the brackets, and they
+abbrev around : Option ℕ → ℕ → Tree → ℕ → List ℕ
+around i m t n = opening t ++ (parts_left i n t ++ (new_line i m ++ closing t))
+
+in_brackets : (i : Option ℕ) (m inner : ℕ) (t : Tree) → inner ≡ deeper i m → is_block t ≡ true
+    → opening t ++ (parts_left i inner t ++ (new_line i m ++ closing t)) ≡ json_text i m t
+in_brackets i m inner (array (item t ts)) e b = ap (around i m (array (item t ts))) e ∙ simp append_assoc
+in_brackets i m inner (hash (pair k v ps)) e b = ap (around i m (hash (pair k v ps))) e ∙ simp append_assoc
+in_brackets i m inner (array no_items) e b = absurd (true≢false (sym b))
+in_brackets i m inner (hash no_pairs) e b = absurd (true≢false (sym b))
+in_brackets i m inner (real s) e b = absurd (true≢false (sym b))
+in_brackets i m inner (integer z) e b = absurd (true≢false (sym b))
+in_brackets i m inner (string s) e b = absurd (true≢false (sym b))
+in_brackets i m inner (boolean x) e b = absurd (true≢false (sym b))
+in_brackets i m inner (alias n) e b = absurd (true≢false (sym b))
+in_brackets i m inner null e b = absurd (true≢false (sym b))
+in_brackets i m inner bad_value e b = absurd (true≢false (sym b))
+
+-- the brackets as they are written
+pub put_in_brackets : {before after : List ℕ} (i : Option ℕ) (m inner : ℕ) (t : Tree) → before ≡ opening t → after ≡ closing t → inner ≡ deeper i m → is_block t ≡ true
+    → before ++ (parts_left i inner t ++ (new_line i m ++ after)) ≡ json_text i m t
+put_in_brackets {after = after} i m inner t o c e b =
+    ap (λ x. x ++ (parts_left i inner t ++ (new_line i m ++ after))) o ∙ ap (λ x. opening t ++ (parts_left i inner t ++ (new_line i m ++ x))) c ∙ in_brackets i m inner t e b
+
+-- ---- what is written of an array or object, part by part
 
 later_items : (i : Option ℕ) (m : ℕ) (ts : Items) → more_items i m ts ≡ items_left false i m ts
 later_items i m no_items = refl
 later_items i m (item t ts) = refl
 
-pub next_item : (first : Bool) (i : Option ℕ) (m : ℕ) (ts us : List Tree) (t : Tree) → ts ≡ t ∷ us
-    → items_left first i m (items_of ts) ≡ before_entry first i m ++ (json_text i m t ++ items_left false i m (items_of us))
-next_item first i m ts us t e = ap (λ xs. items_left first i m (items_of xs)) e ∙ ap (λ r. before_entry first i m ++ (json_text i m t ++ r)) (later_items i m (items_of us))
+-- an item, and the items after it
+pub next_item : (i : Option ℕ) (m : ℕ) (first : Bool) (t : Tree) (ts : Items) → items_left first i m (item t ts) ≡ (before_entry first i m ++ json_text i m t) ++ items_left false i m ts
+next_item i m first t ts = ap (λ r. before_entry first i m ++ (json_text i m t ++ r)) (later_items i m ts) ∙ sym (append_assoc (before_entry first i m) (json_text i m t) (items_left false i m ts))
 
-pub none_left : (first : Bool) (i : Option ℕ) (m : ℕ) (ts : List Tree) → ts ≡ [] → items_left first i m (items_of ts) ≡ []
-none_left first i m ts e = ap (λ xs. items_left first i m (items_of xs)) e
-
--- ---- objects
-
-pub empty_object : (i : Option ℕ) (m : ℕ) (ps : List (Tree × Tree)) → ps ≡ [] → codes "{}" ≡ json_text i m (hash (pairs_of ps))
-empty_object i m ps e = ap (λ us. json_text i m (hash (pairs_of us))) (sym e)
-
-pub full_object : (i : Option ℕ) (m inner : ℕ) (ps : List (Tree × Tree)) → inner ≡ deeper i m → ps ≢ []
-    → codes "{" ++ (members_left true i inner (pairs_of ps) ++ (new_line i m ++ codes "}")) ≡ json_text i m (hash (pairs_of ps))
-full_object i m inner [] e h = absurd (h refl)
-full_object i m inner (p ∷ ps) e h = ap (λ n. codes "{" ++ (members_left true i n (pairs_of (p ∷ ps)) ++ (new_line i m ++ codes "}"))) e ∙ simp append_assoc
+abbrev pub item_entries : Option ℕ → ℕ → Entries Tree
+item_entries i m = record {
+  members = record {
+    own_depth = depth;
+    depth = λ ts. items_depth (items_of ts);
+    deepest = record { greatest = λ t ts. refl };
+    IsFit = IsGiven;
+    AreFit = λ ts. AreGiven (items_of ts);
+    none_fit = tt;
+    more_fit = λ t ts f fs. (f, fs);
+  };
+  own_levels = nesting;
+  levels = λ ts. item_nesting (items_of ts);
+  highest = record { greatest = λ t ts. refl };
+  entry = λ first t. before_entry first i m ++ json_text i m t;
+  text = λ first ts. items_left first i m (items_of ts);
+  none_text = λ first. refl;
+  more_text = λ first t ts. next_item i m first t (items_of ts);
+}
 
 later_members : (i : Option ℕ) (m : ℕ) (ps : Pairs) → more_members i m ps ≡ members_left false i m ps
 later_members i m no_pairs = refl
 later_members i m (pair k v ps) = refl
 
-pub next_member : (first : Bool) (i : Option ℕ) (m : ℕ) (ps qs : List (Tree × Tree)) (p : Tree × Tree) → ps ≡ p ∷ qs
-    → members_left first i m (pairs_of ps) ≡ before_entry first i m ++ (key_text p.0 ++ (key_end i ++ (json_text i m p.1 ++ members_left false i m (pairs_of qs))))
-next_member first i m ps qs p e =
-    ap (λ xs. members_left first i m (pairs_of xs)) e ∙ ap (λ r. before_entry first i m ++ (key_text p.0 ++ (key_end i ++ (json_text i m p.1 ++ r)))) (later_members i m (pairs_of qs))
+-- a member
+abbrev pub member_text : Bool → Option ℕ → ℕ → Tree → Tree → List ℕ
+member_text first i m k v = before_entry first i m ++ (key_text k ++ (key_end i ++ json_text i m v))
 
-pub no_pair_left : (first : Bool) (i : Option ℕ) (m : ℕ) (ps : List (Tree × Tree)) → ps ≡ [] → members_left first i m (pairs_of ps) ≡ []
-no_pair_left first i m ps e = ap (λ xs. members_left first i m (pairs_of xs)) e
+-- a member, and the members after it
+pub next_member : (i : Option ℕ) (m : ℕ) (first : Bool) (k v : Tree) (ps : Pairs) → members_left first i m (pair k v ps) ≡ member_text first i m k v ++ members_left false i m ps
+next_member i m first k v ps = ap (λ r. before_entry first i m ++ (key_text k ++ (key_end i ++ (json_text i m v ++ r)))) (later_members i m ps) ∙ simp append_assoc
 
--- ---- parts of arrays and objects
-
-pub record IsNextItem (ts us : List Tree) (t : Tree) : Type 0 where
-  pub rest_nesting : item_nesting (items_of us) ≤ item_nesting (items_of ts)
-  pub own_nesting : nesting t ≤ item_nesting (items_of ts)
-  pub rest_depth : items_depth (items_of us) ≤ items_depth (items_of ts)
-  pub own_depth : depth t ≤ items_depth (items_of ts)
-
-pub item_within : (ts us : List Tree) (t : Tree) → ts ≡ t ∷ us → IsNextItem ts us t
-item_within ts us t e = subst (λ xs. IsNextItem xs us t) (sym e) (record { rest_nesting = omega arith; own_nesting = omega arith; rest_depth = omega arith; own_depth = omega arith })
-
-pub record IsNextPair (ps qs : List (Tree × Tree)) (p : Tree × Tree) : Type 0 where
-  pub rest_nesting : member_nesting (pairs_of qs) ≤ member_nesting (pairs_of ps)
-  pub own_nesting : nesting p.1 ≤ member_nesting (pairs_of ps)
-  pub rest_depth : pairs_depth (pairs_of qs) ≤ pairs_depth (pairs_of ps)
-  pub own_depth : depth p.1 ≤ pairs_depth (pairs_of ps)
-
-pub pair_within : (ps qs : List (Tree × Tree)) (p : Tree × Tree) → ps ≡ p ∷ qs → IsNextPair ps qs p
-pair_within ps qs p e = subst (λ xs. IsNextPair xs qs p) (sym e) (record { rest_nesting = omega arith; own_nesting = omega arith; rest_depth = omega arith; own_depth = omega arith })
+abbrev pub member_entries : Option ℕ → ℕ → Entries (Tree × Tree)
+member_entries i m = record {
+  members = record {
+    own_depth = λ p. max (depth p.0) (depth p.1);
+    depth = λ ps. pairs_depth (pairs_of ps);
+    deepest = record { greatest = λ p ps. refl };
+    IsFit = λ p. IsKeyGiven p.0 × IsGiven p.1;
+    AreFit = λ ps. ArePairsGiven (pairs_of ps);
+    none_fit = tt;
+    more_fit = λ p ps f fs. (f.0, f.1, fs);
+  };
+  own_levels = λ p. nesting p.1;
+  levels = λ ps. member_nesting (pairs_of ps);
+  highest = record { greatest = λ p ps. refl };
+  entry = λ first p. member_text first i m p.0 p.1;
+  text = λ first ps. members_left first i m (pairs_of ps);
+  none_text = λ first. refl;
+  more_text = λ first p ps. next_member i m first p.0 p.1 (pairs_of ps);
+}

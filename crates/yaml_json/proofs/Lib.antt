@@ -3,6 +3,5 @@ pub mod GivenLemmas
 pub mod LeftLemmas
 pub mod NestLemmas
 pub mod NumberLemmas
-pub mod WhiteLemmas
 pub mod ValueLemmas
 pub mod WholeLemmas

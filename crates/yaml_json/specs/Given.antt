@@ -30,8 +30,8 @@ abbrev mutual
   ArePairsGiven no_pairs = Unit {0}
   ArePairsGiven (pair k v ps) = IsKeyGiven k × IsGiven v × ArePairsGiven ps
 
--- a tree that is a scalar
-abbrev pub IsScalarGiven : Tree → Type 0
-IsScalarGiven (integer z) = IsTrue (fits_i64 z)
-IsScalarGiven (string s) = IsTrue (are_characters s)
-IsScalarGiven _ = Unit {0}
+-- a tree that has no parts
+abbrev pub IsFlatGiven : Tree → Type 0
+IsFlatGiven (integer z) = IsTrue (fits_i64 z)
+IsFlatGiven (string s) = IsTrue (are_characters s)
+IsFlatGiven _ = Unit {0}

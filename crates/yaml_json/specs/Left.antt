@@ -1,6 +1,7 @@
--- What is left to write of an array and an object, and the text of a scalar.
-use Rattle.std.specs.Prelude.{ℕ, ◌+◌, ◌*◌, ◌^◌, ◌≤◌, Bool, if◌then◌else◌, Option, None, unwrap_or, List, [], ◌++◌, codes}
+-- What is left to write of an array and an object, and the text of a node that has no parts.
+use Rattle.std.specs.Prelude.{ℕ, ◌+◌, ◌*◌, ◌^◌, ◌≤◌, Bool, true, if◌then◌else◌, Option, None, unwrap_or, List, [], ◌++◌, codes}
 use Rattle.defs_tree.specs.Tree.{Tree, array, hash, Items, no_items, item, Pairs, no_pairs, pair}
+use Rattle.defs_json.specs.HasJson.{item_nesting, member_nesting}
 use Rattle.defs_json.specs.JsonText.{new_line, key_end, key_text, json_text, more_items, more_members}
 
 -- a line would need 2^64 spaces
@@ -24,8 +25,29 @@ members_left is_first indentation margin (pair k v ps) =
     before_entry is_first indentation margin
     ++ (key_text k ++ (key_end indentation ++ (json_text indentation margin v ++ more_members indentation margin ps)))
 
--- the text of a scalar
-abbrev pub scalar_text : Tree → List ℕ
-scalar_text (array ts) = []
-scalar_text (hash ps) = []
-scalar_text t = json_text None 0 t
+-- the parts of an array or object that are left, where none was written
+abbrev pub parts_left : (indentation : Option ℕ) → (margin : ℕ) → Tree → List ℕ
+parts_left indentation margin (array ts) = items_left true indentation margin ts
+parts_left indentation margin (hash ps) = members_left true indentation margin ps
+parts_left indentation margin t = []
+
+-- how deep its parts nest
+abbrev pub part_nesting : Tree → ℕ
+part_nesting (array ts) = item_nesting ts
+part_nesting (hash ps) = member_nesting ps
+part_nesting t = 0
+
+-- the bracket before the parts, and that after them
+abbrev pub opening : Tree → List ℕ
+opening (array ts) = codes "["
+opening t = codes "{"
+
+abbrev pub closing : Tree → List ℕ
+closing (array ts) = codes "]"
+closing t = codes "}"
+
+-- the text of a node that has no parts
+abbrev pub flat_text : Tree → List ℕ
+flat_text (array ts) = codes "[]"
+flat_text (hash ps) = codes "{}"
+flat_text t = json_text None 0 t

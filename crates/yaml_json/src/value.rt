@@ -1,19 +1,20 @@
 //! Values (RFC 8259, sections 3 to 6).
-ghost use Rattle.std.specs.Prelude.{true, OnOk};
+ghost use Rattle.std.specs.Prelude.{◌≡◌, true, OnOk};
 ghost use Rattle.std.specs.Fmt.{signed_decimal};
 ghost use Rattle.defs_json.specs.HasJson.{nesting, item_nesting, member_nesting};
 ghost use Rattle.defs_json.specs.JsonText.{json_text, key_text};
+ghost use Rattle.defs_tree.specs.Box.{is_block};
 ghost use Rattle.defs_tree.specs.Spelling.{boolean_spelling};
 ghost use Rattle.defs_tree.specs.Tree.{items_of, pairs_of};
 ghost use Rattle.yaml_emitter.specs.Writing.{Writes, WritesUnless};
-ghost use Rattle.yaml_json.specs.Left.{IsTooWide, items_left, members_left, scalar_text};
-ghost use Rattle.yaml_json.specs.Given.{IsGiven, IsScalarGiven, IsKeyGiven};
+ghost use Rattle.yaml_json.specs.Left.{IsTooWide, items_left, members_left, parts_left, part_nesting, opening, closing, flat_text};
+ghost use Rattle.yaml_json.specs.Given.{IsGiven, IsFlatGiven, IsKeyGiven};
 ghost use Rattle.yaml_tree.specs.View.{view, array_tree, hash_tree};
 
 use crate::nest::{close_nest, only_item, open_nest};
 use crate::white::{Spacing, begin_entry};
 use std::fmt;
-use yaml_emitter::{Writer, put_ascii, write_double_quoted};
+use yaml_emitter::{Writer, has_parts, put_ascii, write_double_quoted};
 use yaml_tree::{Array, Hash, Yaml};
 
 /// Writes a value. An alias and a bad value have no text, nor has a key that is no string.
@@ -62,17 +63,32 @@ fn write_node<W: Writer, S: Spacing>(
         (json_text (S.indentation spacing) margin (view node.now)) out.new }
     ensures given { OnOk result (IsGiven (view node.now)) }
 {
+    if !has_parts(node) {
+        return write_flat(out, node);
+    }
+    let (opening, closing) = brackets(node);
+    let inner = spacing.deeper(margin)?;
+    put_ascii(out, opening)?;
+    write_parts(out, spacing, inner, node)?;
+    spacing.new_line(out, margin)?;
+    put_ascii(out, closing)
+}
+
+fn brackets(node: &Yaml) -> (&'static str, &'static str)
+    ensures opening { result.0.now ≡ opening (view node.now) }
+    ensures closing { result.1.now ≡ closing (view node.now) }
+{
     match node {
-        Yaml::Array(items) => write_array(out, spacing, margin, items),
-        Yaml::Hash(pairs) => write_object(out, spacing, margin, pairs),
-        _ => write_scalar(out, node),
+        Yaml::Array(_) => ("[", "]"),
+        _ => ("{", "}"),
     }
 }
 
+// A scalar, or an array or object that is empty.
 #[tactic(auto, using(crate::proofs::GivenLemmas::text_given), unfolding(defs_text::specs::Text::string_chars))]
-fn write_scalar<W: Writer>(out: &mut W, node: &Yaml) -> fmt::Result
-    ensures given { IsScalarGiven (view node.now) }
-    ensures text { Writes W.put_gives W.put_leaves out.old result (scalar_text (view node.now)) out.new }
+fn write_flat<W: Writer>(out: &mut W, node: &Yaml) -> fmt::Result
+    ensures given { IsFlatGiven (view node.now) }
+    ensures text { Writes W.put_gives W.put_leaves out.old result (flat_text (view node.now)) out.new }
 {
     match node {
         Yaml::Real(text) => out.put(text.as_str()),
@@ -81,7 +97,9 @@ fn write_scalar<W: Writer>(out: &mut W, node: &Yaml) -> fmt::Result
         Yaml::Boolean(true) => put_ascii(out, "true"),
         Yaml::Boolean(false) => put_ascii(out, "false"),
         Yaml::Null => put_ascii(out, "null"),
-        Yaml::Array(_) | Yaml::Hash(_) | Yaml::Alias(_) | Yaml::BadValue => Ok(()),
+        Yaml::Array(_) => put_ascii(out, "[]"),
+        Yaml::Hash(_) => put_ascii(out, "{}"),
+        Yaml::Alias(_) | Yaml::BadValue => Ok(()),
     }
 }
 
@@ -93,24 +111,22 @@ fn write_integer<W: Writer>(out: &mut W, number: i64) -> fmt::Result
 }
 
 #[cycle(write)]
-fn write_array<W: Writer, S: Spacing>(
+fn write_parts<W: Writer, S: Spacing>(
     out: &mut W,
     spacing: S,
     margin: usize,
-    items: &Array,
+    node: &Yaml,
 ) -> fmt::Result
-    ensures text { WritesUnless (IsTooWide (S.indentation spacing) margin (nesting (array_tree items.now))) W.put_gives W.put_leaves out.old result
-        (json_text (S.indentation spacing) margin (array_tree items.now)) out.new }
-    ensures given { OnOk result (IsGiven (array_tree items.now)) }
+    requires { is_block (view node.now) ≡ true }
+    ensures text { WritesUnless (IsTooWide (S.indentation spacing) margin (part_nesting (view node.now))) W.put_gives W.put_leaves out.old result
+        (parts_left (S.indentation spacing) margin (view node.now)) out.new }
+    ensures given { OnOk result (IsGiven (view node.now)) }
 {
-    if items.is_empty() {
-        return put_ascii(out, "[]");
+    match node {
+        Yaml::Array(items) => write_items(out, spacing, margin, items),
+        Yaml::Hash(pairs) => write_members(out, spacing, margin, pairs),
+        _ => unreachable!(),
     }
-    let inner = spacing.deeper(margin)?;
-    put_ascii(out, "[")?;
-    write_items(out, spacing, inner, items)?;
-    spacing.new_line(out, margin)?;
-    put_ascii(out, "]")
 }
 
 #[cycle(write)]
@@ -131,27 +147,6 @@ fn write_items<W: Writer, S: Spacing>(
         write_value(out, spacing, margin, item)?;
     }
     Ok(())
-}
-
-#[cycle(write)]
-fn write_object<W: Writer, S: Spacing>(
-    out: &mut W,
-    spacing: S,
-    margin: usize,
-    pairs: &Hash,
-) -> fmt::Result
-    ensures text { WritesUnless (IsTooWide (S.indentation spacing) margin (nesting (hash_tree pairs.now))) W.put_gives W.put_leaves out.old result
-        (json_text (S.indentation spacing) margin (hash_tree pairs.now)) out.new }
-    ensures given { OnOk result (IsGiven (hash_tree pairs.now)) }
-{
-    if pairs.is_empty() {
-        return put_ascii(out, "{}");
-    }
-    let inner = spacing.deeper(margin)?;
-    put_ascii(out, "{")?;
-    write_members(out, spacing, inner, pairs)?;
-    spacing.new_line(out, margin)?;
-    put_ascii(out, "}")
 }
 
 #[cycle(write)]

@@ -1,18 +1,12 @@
 //! White space and commas between items and members (RFC 8259, section 2).
-ghost use Rattle.std.specs.Prelude.{◌≡◌, ◌≤◌, ◌^◌, ◌∷◌, ℕ, Option, None, Some, replicate, MatchResult};
+ghost use Rattle.std.specs.Prelude.{◌≡◌, ◌≤◌, ◌^◌, ℕ, Option, None, Some, MatchResult};
 ghost use Rattle.defs_json.specs.JsonText.{deeper, new_line, key_end};
 ghost use Rattle.yaml_emitter.specs.Writing.{Writes};
 ghost use Rattle.yaml_json.specs.Left.{before_entry};
 ghost use Rattle.yaml_json.specs.Nest.{shallower};
 
 use std::fmt;
-use yaml_emitter::{Writer, put_ascii};
-
-/// The spaces that one call writes.
-const MOST: usize = 64;
-
-/// A line feed, and that many spaces.
-const LINE: &str = "\n                                                                ";
+use yaml_emitter::{Writer, put_ascii, start_line};
 
 /// The white space of a text.
 pub(crate) trait Spacing: Copy {
@@ -85,11 +79,7 @@ impl Spacing for Indented {
     }
 
     fn new_line<W: Writer>(self, out: &mut W, margin: usize) -> fmt::Result {
-        if margin <= MOST {
-            return put_ascii(out, line(margin));
-        }
-        put_ascii(out, LINE)?;
-        put_spaces(out, margin - MOST)
+        start_line(out, margin)
     }
 
     fn end_key<W: Writer>(self, out: &mut W) -> fmt::Result {
@@ -111,31 +101,4 @@ pub(crate) fn begin_entry<W: Writer, S: Spacing>(
     }
     put_ascii(out, ",")?;
     spacing.new_line(out, margin)
-}
-
-fn line(margin: usize) -> &'static str
-    requires { margin ≤ 64 }
-    ensures { result.now ≡ 10 ∷ replicate margin 32 }
-{
-    let (line, _) = LINE.split_at(1 + margin);
-    line
-}
-
-fn put_spaces<W: Writer>(out: &mut W, count: usize) -> fmt::Result
-    ensures { Writes W.put_gives W.put_leaves out.old result (replicate count 32) out.new }
-{
-    let mut left = count;
-    'left: while left > MOST {
-        put_ascii(out, spaces(MOST))?;
-        left -= MOST;
-    }
-    put_ascii(out, spaces(left))
-}
-
-fn spaces(count: usize) -> &'static str
-    requires { count ≤ 64 }
-    ensures { result.now ≡ replicate count 32 }
-{
-    let (_, spaces) = line(count).split_at(1);
-    spaces
 }

@@ -1,4 +1,4 @@
-use Rattle.yaml_json.proofs.WhiteLemmas.{ascii_low}
+use Rattle.yaml_json.proofs.ValueLemmas.{ascii_low}
 use Rattle.yaml_json.proofs.value.write_integer.Goals as goal
 
 pub put_ascii-requires : goal.put_ascii-requires

@@ -1,9 +1,0 @@
-use Rattle.std.proofs.Common.{◌∙◌}
-use Rattle.yaml_json.proofs.WhiteLemmas.{after_break, break_boundary}
-use Rattle.yaml_json.proofs.white.spaces.Goals as goal
-
-pub split_at-requires : goal.split_at-requires
-split_at-requires c = break_boundary _ c.args.count c.line.ensures
-
-pub returns : goal.returns
-returns c = c.split_at.ensures.back ∙ after_break _ c.args.count c.line.ensures
