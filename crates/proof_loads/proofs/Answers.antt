@@ -154,10 +154,11 @@ ends_whole {takes = takes} {r = r} {s = s} {text = text} answers p b clear h rec
     let all = ended_all answers p (b.noted clear) (b.followed clear) (end_was_given answers p (b.noted clear) (b.followed clear) h) in
     whole p.given (has_all_events text p b.scans all.is_whole) (subst (λ es. Receives takes r es s) all.pushed.0 received)
 
-fault_of : (text : List ℕ) (answers : List (Answer ErrorReport)) (p : Parsed) (f : ErrorReport) → After text answers p → Explains f p → IsFaultOf p.keep_tags text f
-fault_of text answers p f b why = elim why [
+-- A parser's fault is one of the text.
+pub fault_of : (text : List ℕ) (p : Parsed) (f : ErrorReport) → ScansIn text p.scanner → p.steady ≡ true → Explains f p → IsFaultOf p.keep_tags text f
+fault_of text p f scans steady why = elim why [
   | inl kept ↦ by_scanner f.memory refl kept
-  | inr other ↦ elim other [ inl wants ↦ wants_memory wants | inr cut ↦ by_grammar (blames_steady (cut.steady b.steady) cut.blames) (cut.refused b.steady) ]
+  | inr other ↦ elim other [ inl wants ↦ wants_memory wants | inr cut ↦ by_grammar (blames_steady (cut.steady steady) cut.blames) (cut.refused steady) ]
 ]
   where
     refusal : (o : Option ErrorReport) → o ≡ Some f → IfSome o (λ g. g.memory ≡ false → IsRefusal text g) → f.memory ≡ false → IsRefusal text f
@@ -169,12 +170,12 @@ fault_of text answers p f b why = elim why [
     says (Some g) e h m = let same : g ≡ f = cc in ap (λ x. x.text) (sym same) ∙ h (ap (λ x. x.memory) same ∙ m)
 
     by_scanner : (m : Bool) → f.memory ≡ m → p.scanner.fault ≡ Some f → IsFaultOf p.keep_tags text f
-    by_scanner true m kept = wants_memory (record { memory = m; text = says p.scanner.fault kept b.scans.wants m })
-    by_scanner false m kept = no_token (refusal p.scanner.fault kept b.scans.refused m)
+    by_scanner true m kept = wants_memory (record { memory = m; text = says p.scanner.fault kept scans.wants m })
+    by_scanner false m kept = no_token (refusal p.scanner.fault kept scans.refused m)
 
     by_grammar : Blames f [] p.keep_tags p.scanner.given (read p) → Refused p → IsFaultOf p.keep_tags text f
     by_grammar blames r =
-        no_stream r.before r.last (read p) (subst (AreFirst text) r.tokens (first_tokens text p.scanner b.scans)) (subst (λ ts. Blames f [] p.keep_tags ts (read p)) r.tokens blames) r.begins
+        no_stream r.before r.last (read p) (subst (AreFirst text) r.tokens (first_tokens text p.scanner scans)) (subst (λ ts. Blames f [] p.keep_tags ts (read p)) r.tokens blames) r.begins
         (subst (λ ts. NoneBegins p.keep_tags (toks ts)) r.tokens r.none)
 
 -- An event that is no document's start never stands between documents.
@@ -230,7 +231,7 @@ begins_text text answers p es e b clear pushed = by (b.followed clear)
 ends_so : {R : Type 0} {takes : R → Ev → Position → Result (Unit {0}) ErrorReport → R → Type 0} {r s : R} {text : List ℕ} {result : Result (Unit {0}) ErrorReport} {new : Parsed} (answers : List (Answer ErrorReport)) (p : Parsed)
     → After text answers p → (so answers).taken ≡ length answers → EndsSo takes r (so answers) p result new s → AnswersText takes p.keep_tags text r result s
 ends_so answers p b taken (loads.well e clear received) = ends_whole answers p b clear (end_was_pushed before_stream answers e) received
-ends_so {text = text} answers p b taken (loads.faulted {f = f} e kept received) = faulted (so answers).pushed (fault_of text answers p f b (b.explained f kept)) received
+ends_so {text = text} answers p b taken (loads.faulted {f = f} e kept received) = faulted (so answers).pushed (fault_of text p f b.scans b.steady (b.explained f kept)) received
 ends_so {text = text} answers p b taken (loads.misplaced q e received) = absurd (not_misplaced text answers p q b e taken)
 ends_so {text = text} answers p b taken (loads.refused {es = es} e q pushed clear received takes) = refused es e q (begins_text text answers p es (e, q) b clear pushed) received takes
 

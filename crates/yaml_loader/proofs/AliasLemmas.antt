@@ -1,10 +1,11 @@
 -- The finished anchors of a map, as clauses see them: what an alias means.
 use Rattle.std.proofs.Common.{◌≡◌, ℕ, zero, suc, ◌<◌, List, [], ◌∷◌, Bool, true, false, cond, refl, sym, ap, ◌∙◌, subst, nat_eq, arith}
-use Rattle.std.specs.Prelude.{Option, Some, None, option_map, unwrap_or, if◌then◌else◌}
+use Rattle.std.specs.Prelude.{Option, Some, None, option_map, unwrap_or, if◌then◌else◌, Result, OnOk, IfErr}
 use Rattle.std.specs.Ordering.{nat_cmp}
 use Rattle.std.specs.BTreeMap.{is_at}
 use Rattle.std.specs.Map.{lookup}
 use Rattle.std.proofs.lemmas.Bool.Decides.{nat_tests}
+use Rattle.std.proofs.lemmas.Result.{on_ok_weaker, IfErr-weaker}
 use Rattle.defs_tree.specs.Tree.{Tree, bad_value}
 use Rattle.defs_event.specs.Anchors.{Anchors, aliased, finished}
 use Rattle.defs_event.specs.Unfinished.{Opened, opened_sequence, opened_mapping, Unfinished, Step, reads, repeats, out_of_nesting, with_root, with_tree, with_node}
@@ -111,3 +112,15 @@ with_tree_opened t u x (opened_mapping a ps (Some k) ∷ outer) = refl
 
 pub with_node_opened : (a : ℕ) (t : Tree) (u : Unfinished) (x os : List Opened) → with_node a t (record u { opened = x }) os ≡ with_node a t u os
 with_node_opened a t u x os = with_tree_opened t (record u { anchors = finished a t u.anchors }) x os
+
+-- ---- the end of a collection: its node goes to those around it
+
+module _ (a : ℕ) (t : Tree) (u : Unfinished) (outer : List Opened) (v : Unfinished) {s : Step} (r : Result (Unit {0}) Refusal) (is : with_node a t u outer ≡ s) where
+  same_end : with_node a t (record u { opened = outer }) outer ≡ s
+  same_end = with_node_opened a t u outer outer ∙ is
+
+  pub end_reads : OnOk r (ReadsTo (with_node a t (record u { opened = outer }) outer) v) → OnOk r (ReadsTo s v)
+  end_reads = on_ok_weaker r (λ h. subst (λ x. ReadsTo x v) same_end h)
+
+  pub end_refuses : IfErr r (λ x. IsRefusedBy x (with_node a t (record u { opened = outer }) outer) v.opened) → IfErr r (λ x. IsRefusedBy x s v.opened)
+  end_refuses = IfErr-weaker r (λ x. IsRefusedBy x (with_node a t (record u { opened = outer }) outer) v.opened) (λ x. IsRefusedBy x s v.opened) (λ x h. subst (λ y. IsRefusedBy x y v.opened) same_end h)

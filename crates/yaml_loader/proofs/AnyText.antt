@@ -34,7 +34,7 @@ use Rattle.yaml_loader.proofs.LoadLemmas.{with_last, StandsAfter, stands, new_fa
 
 -- ---- events with which a stream's begin are not refused
 
-events_append : (x : Loader) (es fs : List (Ev × Position)) → with_events x (es ++ fs) ≡ with_events (with_events x es) fs
+pub events_append : (x : Loader) (es fs : List (Ev × Position)) → with_events x (es ++ fs) ≡ with_events (with_events x es) fs
 events_append x [] fs = refl
 events_append x (e ∷ es) fs = events_append (with_event_at x e.0 e.1) es fs
 
@@ -46,7 +46,7 @@ nothing_read_refused : (r : Result (List Tree) Tree) (documents : List Tree) (p 
 nothing_read_refused (Ok trees) documents p h = h
 nothing_read_refused (Err key) documents p h = h
 
-not_refused : (keep_tags : Bool) (tokens : List Token) (es : List (Ev × Position)) (p : Position) → BeginsPlaced keep_tags tokens es → refused_at (with_events new_loader es) ≡ Some p → ⊥
+pub not_refused : (keep_tags : Bool) (tokens : List Token) (es : List (Ev × Position)) (p : Position) → BeginsPlaced keep_tags tokens es → refused_at (with_events new_loader es) ≡ Some p → ⊥
 not_refused keep_tags tokens es p b = by (with_events new_loader es) refl
   where
     all : List (Ev × Position)

@@ -72,6 +72,10 @@ some_opened os h e = let f = (innermost os [] h).before (first os h) in cc
 pub popped : (os rest : List Open) (o : Open) → os ≡ rest ++ o ∷ [] → all_opened os [] ≡ opened_of o ∷ all_opened rest []
 popped os rest o e = ap (λ x. all_opened x []) e ∙ all_opened_push rest o []
 
+-- the same, where it is known what that collection is
+pub popped_as : (os rest : List Open) (o : Open) (x : Opened) → os ≡ rest ++ o ∷ [] → opened_of o ≡ x → all_opened os [] ≡ x ∷ all_opened rest []
+popped_as os rest o x e same = popped os rest o e ∙ ap (λ y. y ∷ all_opened rest []) same
+
 pub nothing_opened : (os rest : List Open) → os ≡ rest ++ [] → 0 ≡ length os → all_opened os [] ≡ []
 nothing_opened [] rest e h = refl
 nothing_opened (o ∷ os) rest e h = absurd (omega arith)
