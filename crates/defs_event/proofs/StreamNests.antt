@@ -1,227 +1,310 @@
--- The events of a derivation, with names resolved, are nested: what each part of it is nested as.
-use Rattle.std.proofs.Common.{◌≡◌, Bool, List, [], ◌∷◌, Option, None, sym, ap, ◌∙◌}
+-- The events that the table says are nested: row by row, each goal's events close what they open.
+use Rattle.std.proofs.Common.{◌≡◌, ℕ, Bool, true, List, [], ◌∷◌, Option, Some, None, map, refl, ap, ◌∙◌, subst}
 use Rattle.defs_token.specs.Token.{Style, Tok}
-use Rattle.defs_event.specs.Event.{Ev}
-use Rattle.defs_event.specs.Raw.{Raw}
-use Rattle.defs_event.specs.Grammar.{Properties, FlowNode, flow_alias, flow_content, flow_properties, FlowContent, scalar, flow_sequence, flow_mapping, PerhapsFlow, no_flow, some_flow, Items, no_items, items, MoreItems, end_items, comma_end_items, comma_item, Item, single, single_pair, FlowValue, no_flow_value, flow_value, FlowPairs, no_flow_pairs, flow_pairs, MoreFlowPairs, end_flow_pairs, comma_end_flow_pairs, comma_flow_pair, FlowPair, flow_keyed, flow_keyless, flow_single, Node, block_alias, block_content, block_properties, Content, flow, block_sequence, block_mapping, Perhaps, no_node, some_node, Entries, end_entries, entry, Part, plain, indentless, Dashes, end_dashes, dash, Pairs, keyed, keyless, KeyPairs, end_pairs, key, AfterKey, value, no_value, Documents, marker, bare, directed, others, Explicit, end_stream, explicit, After, marked, unmarked, flow_node_events, flow_content_events, perhaps_flow_events, items_events, more_items_events, item_events, flow_value_events, flow_pairs_events, more_flow_pairs_events, flow_pair_events, node_events, content_events, perhaps_events, entries_events, part_events, dashes_events, pairs_events, key_pairs_events, after_key_events, documents_events, explicit_events, after_events, stream_events}
+use Rattle.defs_event.specs.Event.{Tag, Ev}
+use Rattle.defs_event.specs.Raw.{Raw, nothing_written}
 use Rattle.defs_event.specs.Names.{no_names}
-use Rattle.defs_event.specs.Stream.{IsStream}
-use Rattle.defs_event.specs.Nested.{Nest, nested_alias, nested_scalar, nested_sequence, nested_mapping, Nests, no_nests, nest, NestPairs, no_nest_pairs, nest_pair, NestedDocument, with_node, nest_events, nests_events, nest_pairs_events, nested_documents_events, IsNested}
+use Rattle.defs_event.specs.Nested.{IsNested, Open, in_stream, before_node, after_node, in_sequence, at_key, at_value, with_child, child_then, open_after, there_and, closes, is_nested}
 use Rattle.defs_event.proofs.Shaped.{Shaped, named_shaped}
+use Rattle.defs_event.proofs.NestedTest.{test_is_exact}
+use Rattle.defs_event.specs.Table.{read, show, empty, takes, leaves, before}
+use Rattle.defs_event.specs.Kinds.{is_scalar, is_flow_sequence_start, is_flow_mapping_start, is_block_sequence_start, is_block_mapping_start}
+use Rattle.defs_event.specs.Grammar.{Held, Side, key, value, Place, in_flow, in_block, in_pair, Goal, stream, documents, directives, explicit_document, document_end, node, after_anchor, after_tag, content, block_sequence_entries, indentless_sequence_entries, block_mapping_entries, block_mapping_value, flow_sequence_entries, flow_sequence_comma, flow_mapping_entries, flow_mapping_comma, flow_value, then_in, then_in_pair, grammar}
+use Rattle.defs_event.specs.Stream.{whole_stream, StreamSays, IsStream}
+use Rattle.defs_event.proofs.Meanings.{Means, IsAllowed, AllAllowed, derived_means}
+use Rattle.defs_event.proofs.Tests.{on_stream_start, on_stream_end, on_directive, on_document_start, on_document_end, on_block_sequence_start, on_block_mapping_start, on_block_end, on_flow_sequence_start, on_flow_sequence_end, on_flow_mapping_start, on_flow_mapping_end, on_block_entry, on_flow_entry, on_key, on_value, on_alias, on_anchor, on_tag, on_scalar}
 
--- The events are those of something, and then others of this shape.
-record Yields {A : Type 0} (f : A → List Ev → List Ev) (r : List Raw) (es : List Ev) : Type 0 where
-  it : A
-  more : List Ev
-  whole : es ≡ f it more
-  rest : Shaped r more
+-- ---- the test of nesting, of events before names are resolved
 
--- a key and a value
-abbrev two_events : Nest × Nest → List Ev → List Ev
-two_events p vs = nest_events p.0 (nest_events p.1 vs)
+-- the event with no anchor and no tag
+abbrev shape_of : Raw → Ev
+shape_of Raw.stream_start = Ev.stream_start
+shape_of Raw.stream_end = Ev.stream_end
+shape_of (Raw.document_start ds) = Ev.document_start
+shape_of Raw.document_end = Ev.document_end
+shape_of (Raw.alias n) = Ev.alias 0
+shape_of (Raw.scalar x s a t) = Ev.scalar x s 0 None
+shape_of (Raw.empty_scalar a t) = Ev.scalar [] Style.plain 0 None
+shape_of (Raw.flow_sequence_start a t) = Ev.sequence_start 0 None
+shape_of (Raw.sequence_start a t) = Ev.sequence_start 0 None
+shape_of Raw.flow_sequence_end = Ev.sequence_end
+shape_of Raw.sequence_end = Ev.sequence_end
+shape_of (Raw.flow_mapping_start a t) = Ev.mapping_start 0 None
+shape_of (Raw.mapping_start a t) = Ev.mapping_start 0 None
+shape_of Raw.pair_start = Ev.mapping_start 0 None
+shape_of Raw.flow_mapping_end = Ev.mapping_end
+shape_of Raw.mapping_end = Ev.mapping_end
 
-abbrev items_end : Nests → List Ev → List Ev
-items_end ns vs = nests_events ns (Ev.sequence_end ∷ vs)
+abbrev shut : List Raw → List Open → Bool
+shut es os = closes (map shape_of es) os
 
-abbrev pairs_end : NestPairs → List Ev → List Ev
-pairs_end ps vs = nest_pairs_events ps (Ev.mapping_end ∷ vs)
+-- ---- what each goal closes
 
--- a value and the pairs after it
-abbrev value_end : Nest × NestPairs → List Ev → List Ev
-value_end p vs = nest_events p.0 (pairs_end p.1 vs)
+-- the events of a node, where one may stand
+abbrev Child : List Raw → List Raw → Type 0
+Child es fs = (o o' : Open) (os : List Open) → with_child o ≡ Some o' → shut es (o ∷ os) ≡ shut fs (o' ∷ os)
 
-mutual
-  flow_node_nests : (x : FlowNode) (r : List Raw) (es : List Ev) → Shaped (flow_node_events x r) es → Yields nest_events r es
-  flow_node_nests (flow_alias n) r es h = record { it = nested_alias h.0; more = h.1; whole = h.2; rest = h.3 }
-  flow_node_nests (flow_content p c) r es h = flow_content_nests c p r es h
-  flow_node_nests (flow_properties p) r es h = record { it = nested_scalar [] Style.plain h.0 h.1; more = h.2; whole = h.3; rest = h.4 }
+-- the events that close the innermost of what is open
+abbrev Closes : Open → List Raw → List Raw → Type 0
+Closes o es fs = (os : List Open) → shut es (o ∷ os) ≡ shut fs os
 
-  flow_content_nests : (x : FlowContent) (p : Option Properties) (r : List Raw) (es : List Ev) → Shaped (flow_content_events p x r) es → Yields nest_events r es
-  flow_content_nests (scalar s x) p r es h = record { it = nested_scalar x s h.0 h.1; more = h.2; whole = h.3; rest = h.4 }
-  flow_content_nests (flow_sequence i) p r es h =
-      let y = items_nests i r h.2 h.4 in
-      record { it = nested_sequence h.0 h.1 y.it; more = y.more; whole = h.3 ∙ ap (λ vs. Ev.sequence_start h.0 h.1 ∷ vs) y.whole; rest = y.rest }
-  flow_content_nests (flow_mapping i) p r es h =
-      let y = flow_pairs_nests i r h.2 h.4 in
-      record { it = nested_mapping h.0 h.1 y.it; more = y.more; whole = h.3 ∙ ap (λ vs. Ev.mapping_start h.0 h.1 ∷ vs) y.whole; rest = y.rest }
+abbrev ClosesSide : Side → List Raw → List Raw → Type 0
+ClosesSide key es fs = Closes at_value es fs
+ClosesSide value es fs = Closes at_key es fs
 
-  perhaps_flow_nests : (x : PerhapsFlow) (r : List Raw) (es : List Ev) → Shaped (perhaps_flow_events x r) es → Yields nest_events r es
-  perhaps_flow_nests no_flow r es h = record { it = nested_scalar [] Style.plain h.0 h.1; more = h.2; whole = h.3; rest = h.4 }
-  perhaps_flow_nests (some_flow n) r es h = flow_node_nests n r es h
+abbrev ClosesAt : Place → List Raw → List Raw → Type 0
+ClosesAt (in_pair key) es fs = Closes at_key es fs
+ClosesAt (in_pair value) es fs = Closes at_value es fs
+ClosesAt _ es fs = Child es fs
 
-  items_nests : (x : Items) (r : List Raw) (es : List Ev) → Shaped (items_events x r) es → Yields items_end r es
-  items_nests no_items r es h = record { it = no_nests; more = h.0; whole = h.1; rest = h.2 }
-  items_nests (items i m) r es h =
-      let y = item_nests i (more_items_events m r) es h in
-      let z = more_items_nests m r y.more y.rest in
-      record { it = nest y.it z.it; more = z.more; whole = y.whole ∙ ap (nest_events y.it) z.whole; rest = z.rest }
+abbrev nests : Goal → Held → List Tok → List Raw → List Tok → List Raw → Type 0
+nests stream h ts es us fs = (gs : List Raw) × (es ≡ Raw.stream_start ∷ gs) × Closes in_stream gs fs
+nests documents h ts es us fs = Closes in_stream es fs
+nests directives h ts es us fs = Closes in_stream es fs
+nests explicit_document h ts es us fs = Closes in_stream es fs
+nests document_end h ts es us fs = (os : List Open) → shut es (after_node ∷ in_stream ∷ os) ≡ shut fs os
+nests (node p) h ts es us fs = ClosesAt p es fs
+nests (after_anchor p) h ts es us fs = ClosesAt p es fs
+nests (after_tag p) h ts es us fs = ClosesAt p es fs
+nests (content p) h ts es us fs = ClosesAt p es fs
+nests block_sequence_entries h ts es us fs = Closes in_sequence es fs
+nests (indentless_sequence_entries s) h ts es us fs = (gs : List Raw) × Closes in_sequence es gs × ClosesSide s gs fs
+nests block_mapping_entries h ts es us fs = Closes at_key es fs
+nests block_mapping_value h ts es us fs = Closes at_value es fs
+nests flow_sequence_entries h ts es us fs = Closes in_sequence es fs
+nests flow_sequence_comma h ts es us fs = Closes in_sequence es fs
+nests flow_mapping_entries h ts es us fs = Closes at_key es fs
+nests flow_mapping_comma h ts es us fs = Closes at_key es fs
+nests flow_value h ts es us fs = Child es fs
 
-  more_items_nests : (x : MoreItems) (r : List Raw) (es : List Ev) → Shaped (more_items_events x r) es → Yields items_end r es
-  more_items_nests end_items r es h = record { it = no_nests; more = h.0; whole = h.1; rest = h.2 }
-  more_items_nests comma_end_items r es h = record { it = no_nests; more = h.0; whole = h.1; rest = h.2 }
-  more_items_nests (comma_item i m) r es h =
-      let y = item_nests i (more_items_events m r) es h in
-      let z = more_items_nests m r y.more y.rest in
-      record { it = nest y.it z.it; more = z.more; whole = y.whole ∙ ap (nest_events y.it) z.whole; rest = z.rest }
+-- ---- nodes
 
-  item_nests : (x : Item) (r : List Raw) (es : List Ev) → Shaped (item_events x r) es → Yields nest_events r es
-  item_nests (single n) r es h = flow_node_nests n r es h
-  item_nests (single_pair k v) r es h =
-      let y = perhaps_flow_nests k (flow_value_events v (Raw.mapping_end ∷ r)) h.0 h.2 in
-      let z = flow_value_nests v (Raw.mapping_end ∷ r) y.more y.rest in
-      record {
-        it = nested_mapping 0 None (nest_pair y.it z.it no_nest_pairs);
-        more = z.rest.0;
-        whole = h.1 ∙ ap (λ vs. Ev.mapping_start 0 None ∷ vs) (y.whole ∙ ap (nest_events y.it) (z.whole ∙ ap (nest_events z.it) z.rest.1));
-        rest = z.rest.2;
-      }
+-- what an event of a node opens in it
+child : (e : Raw) (inner : List Open) → ((o : Open) (os : List Open) → open_after (shape_of e) (o ∷ os) ≡ child_then (with_child o) inner os)
+    → (es gs : List Raw) → es ≡ e ∷ gs → (o o' : Open) (os : List Open) → with_child o ≡ Some o' → shut es (o ∷ os) ≡ there_and (closes (map shape_of gs)) (child_then (Some o') inner os)
+child e inner f es gs p o o' os w =
+    ap (λ l. shut l (o ∷ os)) p ∙ ap (λ c. there_and (closes (map shape_of gs)) c) (f o os ∙ ap (λ c. child_then c inner os) w)
 
-  flow_value_nests : (x : FlowValue) (r : List Raw) (es : List Ev) → Shaped (flow_value_events x r) es → Yields nest_events r es
-  flow_value_nests no_flow_value r es h = record { it = nested_scalar [] Style.plain h.0 h.1; more = h.2; whole = h.3; rest = h.4 }
-  flow_value_nests (flow_value v) r es h = perhaps_flow_nests v r es h
+leaf : (e : Raw) → ((o : Open) (os : List Open) → open_after (shape_of e) (o ∷ os) ≡ child_then (with_child o) [] os) → (es gs : List Raw) → es ≡ e ∷ gs → Child es gs
+leaf e f es gs p o o' os w = child e [] f es gs p o o' os w
 
-  flow_pairs_nests : (x : FlowPairs) (r : List Raw) (es : List Ev) → Shaped (flow_pairs_events x r) es → Yields pairs_end r es
-  flow_pairs_nests no_flow_pairs r es h = record { it = no_nest_pairs; more = h.0; whole = h.1; rest = h.2 }
-  flow_pairs_nests (flow_pairs p m) r es h =
-      let y = flow_pair_nests p (more_flow_pairs_events m r) es h in
-      let z = more_flow_pairs_nests m r y.more y.rest in
-      record { it = nest_pair y.it.0 y.it.1 z.it; more = z.more; whole = y.whole ∙ ap (two_events y.it) z.whole; rest = z.rest }
+collection : (e : Raw) (i : Open) → ((o : Open) (os : List Open) → open_after (shape_of e) (o ∷ os) ≡ child_then (with_child o) (i ∷ []) os) → (es gs hs : List Raw) → es ≡ e ∷ gs → Closes i gs hs → Child es hs
+collection e i f es gs hs p c o o' os w = child e (i ∷ []) f es gs p o o' os w ∙ c (o' ∷ os)
 
-  more_flow_pairs_nests : (x : MoreFlowPairs) (r : List Raw) (es : List Ev) → Shaped (more_flow_pairs_events x r) es → Yields pairs_end r es
-  more_flow_pairs_nests end_flow_pairs r es h = record { it = no_nest_pairs; more = h.0; whole = h.1; rest = h.2 }
-  more_flow_pairs_nests comma_end_flow_pairs r es h = record { it = no_nest_pairs; more = h.0; whole = h.1; rest = h.2 }
-  more_flow_pairs_nests (comma_flow_pair p m) r es h =
-      let y = flow_pair_nests p (more_flow_pairs_events m r) es h in
-      let z = more_flow_pairs_nests m r y.more y.rest in
-      record { it = nest_pair y.it.0 y.it.1 z.it; more = z.more; whole = y.whole ∙ ap (two_events y.it) z.whole; rest = z.rest }
+abbrev AfterAt : Place → List Raw → List Raw → Type 0
+AfterAt (in_pair s) es fs = ClosesSide s es fs
+AfterAt _ es fs = es ≡ fs
 
-  flow_pair_nests : (x : FlowPair) (r : List Raw) (es : List Ev) → Shaped (flow_pair_events x r) es → Yields two_events r es
-  flow_pair_nests (flow_keyed k v) r es h =
-      let y = perhaps_flow_nests k (flow_value_events v r) es h in
-      let z = flow_value_nests v r y.more y.rest in
-      record { it = (y.it, z.it); more = z.more; whole = y.whole ∙ ap (nest_events y.it) z.whole; rest = z.rest }
-  flow_pair_nests (flow_keyless v) r es h =
-      let z = perhaps_flow_nests v r h.2 h.4 in
-      record { it = (nested_scalar [] Style.plain h.0 h.1, z.it); more = z.more; whole = h.3 ∙ ap (λ vs. Ev.scalar [] Style.plain h.0 h.1 ∷ vs) z.whole; rest = z.rest }
-  flow_pair_nests (flow_single n) r es h =
-      let y = flow_node_nests n (Raw.empty_scalar None None ∷ r) es h in
-      let z = y.rest in
-      record { it = (y.it, nested_scalar [] Style.plain z.0 z.1); more = z.2; whole = y.whole ∙ ap (nest_events y.it) z.3; rest = z.4 }
+after_side : (s : Side) (h : Held) (t : Tok) (ts : List Tok) (es : List Raw) (us : List Tok) (fs : List Raw) → Means nests (before grammar h t (then_in_pair s) []) ts es us fs → ClosesSide s es fs
+after_side key h t ts es us fs m = λ os. m.2 os ∙ ap (λ l. shut l os) m.3.1
+after_side value h t ts es us fs m = λ os. m.2 os ∙ ap (λ l. shut l os) m.3.1
 
-mutual
-  node_nests : (x : Node) (r : List Raw) (es : List Ev) → Shaped (node_events x r) es → Yields nest_events r es
-  node_nests (block_alias n) r es h = record { it = nested_alias h.0; more = h.1; whole = h.2; rest = h.3 }
-  node_nests (block_content p c) r es h = content_nests c p r es h
-  node_nests (block_properties p) r es h = record { it = nested_scalar [] Style.plain h.0 h.1; more = h.2; whole = h.3; rest = h.4 }
+after_place : (p : Place) (h : Held) (t : Tok) (ts : List Tok) (es : List Raw) (us : List Tok) (fs : List Raw) → Means nests (before grammar h t (then_in p) []) ts es us fs → AfterAt p es fs
+after_place in_flow h t ts es us fs m = m.1
+after_place in_block h t ts es us fs m = m.1
+after_place (in_pair s) h t ts es us fs m = after_side s h t ts es us fs m
 
-  content_nests : (x : Content) (p : Option Properties) (r : List Raw) (es : List Ev) → Shaped (content_events p x r) es → Yields nest_events r es
-  content_nests (flow c) p r es h = flow_content_nests c p r es h
-  content_nests (block_sequence i) p r es h =
-      let y = entries_nests i r h.2 h.4 in
-      record { it = nested_sequence h.0 h.1 y.it; more = y.more; whole = h.3 ∙ ap (λ vs. Ev.sequence_start h.0 h.1 ∷ vs) y.whole; rest = y.rest }
-  content_nests (block_mapping i) p r es h =
-      let y = pairs_nests i r h.2 h.4 in
-      record { it = nested_mapping h.0 h.1 y.it; more = y.more; whole = h.3 ∙ ap (λ vs. Ev.mapping_start h.0 h.1 ∷ vs) y.whole; rest = y.rest }
+-- a node and what comes after it
+placed : (p : Place) (es gs fs : List Raw) → Child es gs → AfterAt p gs fs → ClosesAt p es fs
+placed in_flow es gs fs c q = λ o o' os w. c o o' os w ∙ ap (λ l. shut l (o' ∷ os)) q
+placed in_block es gs fs c q = λ o o' os w. c o o' os w ∙ ap (λ l. shut l (o' ∷ os)) q
+placed (in_pair key) es gs fs c q = λ os. c at_key at_value os refl ∙ q os
+placed (in_pair value) es gs fs c q = λ os. c at_value at_key os refl ∙ q os
 
-  perhaps_nests : (x : Perhaps) (r : List Raw) (es : List Ev) → Shaped (perhaps_events x r) es → Yields nest_events r es
-  perhaps_nests no_node r es h = record { it = nested_scalar [] Style.plain h.0 h.1; more = h.2; whole = h.3; rest = h.4 }
-  perhaps_nests (some_node n) r es h = node_nests n r es h
+-- the same up to an equal end
+placed_last : (p : Place) (es gs fs : List Raw) → ClosesAt p es gs → gs ≡ fs → ClosesAt p es fs
+placed_last p es gs fs c q = subst (λ l. ClosesAt p es l) q c
 
-  entries_nests : (x : Entries) (r : List Raw) (es : List Ev) → Shaped (entries_events x r) es → Yields items_end r es
-  entries_nests end_entries r es h = record { it = no_nests; more = h.0; whole = h.1; rest = h.2 }
-  entries_nests (entry p x) r es h =
-      let y = perhaps_nests p (entries_events x r) es h in
-      let z = entries_nests x r y.more y.rest in
-      record { it = nest y.it z.it; more = z.more; whole = y.whole ∙ ap (nest_events y.it) z.whole; rest = z.rest }
+scalar_case : (p : Place) (t : Tok) → is_scalar t ≡ true → IsAllowed grammar nests (content p) t (takes (show ∷ then_in p))
+scalar_case p = on_scalar _ (λ y x h ts es us fs m. placed p es m.0 fs (leaf (Raw.scalar x y h.anchor h.tag) (λ o os. refl) es m.0 m.1) (after_place p h (Tok.scalar y x) ts m.0 us fs m.2))
 
-  part_nests : (x : Part) (r : List Raw) (es : List Ev) → Shaped (part_events x r) es → Yields nest_events r es
-  part_nests (plain p) r es h = perhaps_nests p r es h
-  part_nests (indentless o p d) r es h =
-      let y = perhaps_nests p (dashes_events d r) h.2 h.4 in
-      let z = dashes_nests d r y.more y.rest in
-      record {
-        it = nested_sequence h.0 h.1 (nest y.it z.it);
-        more = z.more;
-        whole = h.3 ∙ ap (λ vs. Ev.sequence_start h.0 h.1 ∷ vs) (y.whole ∙ ap (nest_events y.it) z.whole);
-        rest = z.rest;
-      }
+flow_sequence_case : (p : Place) (t : Tok) → is_flow_sequence_start t ≡ true → IsAllowed grammar nests (content p) t (takes (show ∷ read flow_sequence_entries ∷ then_in p))
+flow_sequence_case p = on_flow_sequence_start _ (λ h ts es us fs m.
+    placed p es m.2.1 fs (collection (Raw.flow_sequence_start h.anchor h.tag) in_sequence (λ o os. refl) es m.0 m.2.1 m.1 m.2.2) (after_place p h Tok.flow_sequence_start m.2.0 m.2.1 us fs m.2.3))
 
-  dashes_nests : (x : Dashes) (r : List Raw) (es : List Ev) → Shaped (dashes_events x r) es → Yields items_end r es
-  dashes_nests end_dashes r es h = record { it = no_nests; more = h.0; whole = h.1; rest = h.2 }
-  dashes_nests (dash p d) r es h =
-      let y = perhaps_nests p (dashes_events d r) es h in
-      let z = dashes_nests d r y.more y.rest in
-      record { it = nest y.it z.it; more = z.more; whole = y.whole ∙ ap (nest_events y.it) z.whole; rest = z.rest }
+flow_mapping_case : (p : Place) (t : Tok) → is_flow_mapping_start t ≡ true → IsAllowed grammar nests (content p) t (takes (show ∷ read flow_mapping_entries ∷ then_in p))
+flow_mapping_case p = on_flow_mapping_start _ (λ h ts es us fs m.
+    placed p es m.2.1 fs (collection (Raw.flow_mapping_start h.anchor h.tag) at_key (λ o os. refl) es m.0 m.2.1 m.1 m.2.2) (after_place p h Tok.flow_mapping_start m.2.0 m.2.1 us fs m.2.3))
 
-  pairs_nests : (x : Pairs) (r : List Raw) (es : List Ev) → Shaped (pairs_events x r) es → Yields pairs_end r es
-  pairs_nests (keyed k) r es h = key_pairs_nests k r es h
-  pairs_nests (keyless v x) r es h =
-      let y = part_nests v (pairs_events x r) h.2 h.4 in
-      let z = pairs_nests x r y.more y.rest in
-      record {
-        it = nest_pair (nested_scalar [] Style.plain h.0 h.1) y.it z.it;
-        more = z.more;
-        whole = h.3 ∙ ap (λ vs. Ev.scalar [] Style.plain h.0 h.1 ∷ vs) (y.whole ∙ ap (nest_events y.it) z.whole);
-        rest = z.rest;
-      }
+block_sequence_case : (p : Place) (t : Tok) → is_block_sequence_start t ≡ true → IsAllowed grammar nests (content p) t (takes (show ∷ read block_sequence_entries ∷ then_in p))
+block_sequence_case p = on_block_sequence_start _ (λ h ts es us fs m.
+    placed p es m.2.1 fs (collection (Raw.sequence_start h.anchor h.tag) in_sequence (λ o os. refl) es m.0 m.2.1 m.1 m.2.2) (after_place p h Tok.block_sequence_start m.2.0 m.2.1 us fs m.2.3))
 
-  key_pairs_nests : (x : KeyPairs) (r : List Raw) (es : List Ev) → Shaped (key_pairs_events x r) es → Yields pairs_end r es
-  key_pairs_nests end_pairs r es h = record { it = no_nest_pairs; more = h.0; whole = h.1; rest = h.2 }
-  key_pairs_nests (key p a) r es h =
-      let y = part_nests p (after_key_events a r) es h in
-      let z = after_key_nests a r y.more y.rest in
-      record { it = nest_pair y.it z.it.0 z.it.1; more = z.more; whole = y.whole ∙ ap (nest_events y.it) z.whole; rest = z.rest }
+block_mapping_case : (p : Place) (t : Tok) → is_block_mapping_start t ≡ true → IsAllowed grammar nests (content p) t (takes (show ∷ read block_mapping_entries ∷ then_in p))
+block_mapping_case p = on_block_mapping_start _ (λ h ts es us fs m.
+    placed p es m.2.1 fs (collection (Raw.mapping_start h.anchor h.tag) at_key (λ o os. refl) es m.0 m.2.1 m.1 m.2.2) (after_place p h Tok.block_mapping_start m.2.0 m.2.1 us fs m.2.3))
 
-  after_key_nests : (x : AfterKey) (r : List Raw) (es : List Ev) → Shaped (after_key_events x r) es → Yields value_end r es
-  after_key_nests (value v x) r es h =
-      let y = part_nests v (pairs_events x r) es h in
-      let z = pairs_nests x r y.more y.rest in
-      record { it = (y.it, z.it); more = z.more; whole = y.whole ∙ ap (nest_events y.it) z.whole; rest = z.rest }
-  after_key_nests (no_value k) r es h =
-      let z = key_pairs_nests k r h.2 h.4 in
-      record { it = (nested_scalar [] Style.plain h.0 h.1, z.it); more = z.more; whole = h.3 ∙ ap (λ vs. Ev.scalar [] Style.plain h.0 h.1 ∷ vs) z.whole; rest = z.rest }
+empty_case : (p : Place) (t : Tok) → IsAllowed grammar nests (content p) t (leaves (empty ∷ then_in p))
+empty_case p t h ts es us fs m = placed p es m.0 fs (leaf (Raw.empty_scalar h.anchor h.tag) (λ o os. refl) es m.0 m.1) (after_place p h t (t ∷ ts) m.0 us fs m.2)
+
+-- a sequence without indentation: an entry, and those after it
+indentless : (s : Side) (h : Held) (ts : List Tok) (es : List Raw) (us : List Tok) (fs : List Raw)
+    → Means nests (before grammar h Tok.block_entry (show ∷ read (node in_block) ∷ read (indentless_sequence_entries s) ∷ []) []) ts es us fs → ClosesAt (in_pair s) es fs
+indentless s h ts es us fs m =
+    let d = m.2.3.2 in
+    let c = collection (Raw.sequence_start h.anchor h.tag) in_sequence (λ o os. refl) es m.0 d.0 m.1 (λ os. m.2.2 in_sequence in_sequence os refl ∙ d.1 os) in
+    placed_last (in_pair s) es m.2.3.1 fs (placed (in_pair s) es d.0 m.2.3.1 c d.2) m.2.3.3.1
 
 -- ---- documents
 
-abbrev stream_ends : List NestedDocument → List Ev → List Ev
-stream_ends ds vs = nested_documents_events ds (Ev.stream_end ∷ vs)
+-- a document that an event starts
+document : (ds : List _) (es gs hs vs fs : List Raw) → es ≡ Raw.document_start ds ∷ gs → Child gs hs → ((os : List Open) → shut hs (after_node ∷ in_stream ∷ os) ≡ shut vs os) → vs ≡ fs → Closes in_stream es fs
+document ds es gs hs vs fs p c d q os =
+    ap (λ l. shut l (in_stream ∷ os)) p ∙ c before_node after_node (in_stream ∷ os) refl ∙ d os ∙ ap (λ l. shut l os) q
 
-abbrev document_ends : List NestedDocument → List Ev → List Ev
-document_ends ds vs = Ev.document_end ∷ stream_ends ds vs
+-- ---- all rows
 
--- a document of this node, and those after it
-one_document : (r : List Raw) (r' : List Raw) (es vs : List Ev) → es ≡ Ev.document_start ∷ vs → (y : Yields nest_events r' vs) → Yields document_ends r y.more → Yields stream_ends r es
-one_document r r' es vs e y z =
-    record { it = with_node y.it ∷ z.it; more = z.more; whole = e ∙ ap (λ ws. Ev.document_start ∷ ws) (y.whole ∙ ap (nest_events y.it) z.whole); rest = z.rest }
+allowed : AllAllowed grammar nests
+allowed stream = (on_stream_start _ (λ h ts es us fs m. (m.0, m.1, λ os. m.2.2 os ∙ ap (λ l. shut l os) m.2.3.1)), tt)
+allowed documents = (
+  on_document_end _ (λ h ts es us fs m os. m.2 os ∙ ap (λ l. shut l os) m.3.1),
+  (
+    on_directive _ (λ v w h ts es us fs m os. m.2 os ∙ ap (λ l. shut l os) m.3.1) (λ x y h ts es us fs m os. m.2 os ∙ ap (λ l. shut l os) m.3.1),
+    (
+      λ t i h ts es us fs m. document [] es m.0 m.2.1 m.2.3.1 fs m.1 m.2.2 m.2.3.2 m.2.3.3.1,
+      λ t i h ts es us fs m os. m.2 os ∙ ap (λ l. shut l os) m.3.1,
+    ),
+  ),
+)
+allowed directives = (
+  on_directive _ (λ v w h ts es us fs m os. m.2 os ∙ ap (λ l. shut l os) m.3.1) (λ x y h ts es us fs m os. m.2 os ∙ ap (λ l. shut l os) m.3.1),
+  (on_document_start _ (λ h ts es us fs m. document h.directives es m.0 m.2.1 m.2.3.1 fs m.1 m.2.2 m.2.3.2 m.2.3.3.1), tt),
+)
+allowed explicit_document = (
+  on_document_start _ (λ h ts es us fs m. document h.directives es m.0 m.2.1 m.2.3.1 fs m.1 m.2.2 m.2.3.2 m.2.3.3.1),
+  (on_stream_end _ (λ h ts es us fs m os. ap (λ l. shut l (in_stream ∷ os)) m.1 ∙ ap (λ l. shut l os) m.2.1), tt),
+)
+allowed document_end = (
+  on_document_end _ (λ h ts es us fs m os. ap (λ l. shut l (after_node ∷ in_stream ∷ os)) m.1 ∙ m.2.2 os ∙ ap (λ l. shut l os) m.2.3.1),
+  λ t i h ts es us fs m os. ap (λ l. shut l (after_node ∷ in_stream ∷ os)) m.1 ∙ m.2.2 os ∙ ap (λ l. shut l os) m.2.3.1,
+)
+allowed (node p) = (
+  on_alias _ (λ n h ts es us fs m. placed p es m.0 fs (leaf (Raw.alias n) (λ o os. refl) es m.0 m.1) (after_place p h (Tok.alias n) ts m.0 us fs m.2)),
+  (
+    on_anchor _ (λ n h ts es us fs m. placed_last p es m.1 fs m.2 m.3.1),
+    (on_tag _ (λ x y h ts es us fs m. placed_last p es m.1 fs m.2 m.3.1), λ t i h ts es us fs m. placed_last p es m.1 fs m.2 m.3.1),
+  ),
+)
+allowed (after_anchor p) = (on_tag _ (λ x y h ts es us fs m. placed_last p es m.1 fs m.2 m.3.1), λ t i h ts es us fs m. placed_last p es m.1 fs m.2 m.3.1)
+allowed (after_tag p) = (on_anchor _ (λ n h ts es us fs m. placed_last p es m.1 fs m.2 m.3.1), λ t i h ts es us fs m. placed_last p es m.1 fs m.2 m.3.1)
+allowed (content in_flow) = (scalar_case in_flow, (flow_sequence_case in_flow, (flow_mapping_case in_flow, λ t i. empty_case in_flow t)))
+allowed (content in_block) =
+    (scalar_case in_block, (flow_sequence_case in_block, (flow_mapping_case in_block, (block_sequence_case in_block, (block_mapping_case in_block, λ t i. empty_case in_block t)))))
+allowed (content (in_pair s)) = (
+  scalar_case (in_pair s),
+  (flow_sequence_case (in_pair s), (flow_mapping_case (in_pair s), (block_sequence_case (in_pair s), (block_mapping_case (in_pair s), (on_block_entry _ (indentless s), λ t i. empty_case (in_pair s) t))))),
+)
+allowed block_sequence_entries = (
+  on_block_entry _ (λ h ts es us fs m os. m.2 in_sequence in_sequence os refl ∙ m.3.2 os ∙ ap (λ l. shut l os) m.3.3.1),
+  (on_block_end _ (λ h ts es us fs m os. ap (λ l. shut l (in_sequence ∷ os)) m.1 ∙ ap (λ l. shut l os) m.2.1), tt),
+)
+allowed (indentless_sequence_entries s) = (
+  on_block_entry _ (λ h ts es us fs m. let d = m.3.2 in (d.0, (λ os. m.2 in_sequence in_sequence os refl ∙ d.1 os), subst (λ l. ClosesSide s d.0 l) m.3.3.1 d.2)),
+  λ t i h ts es us fs m. (m.0, (λ os. ap (λ l. shut l (in_sequence ∷ os)) m.1), after_side s h t (t ∷ ts) m.0 us fs m.2),
+)
+allowed block_mapping_entries = (
+  on_key _ (λ h ts es us fs m os. m.2 os ∙ ap (λ l. shut l os) m.3.1),
+  (
+    on_value _ (λ h ts es us fs m os. ap (λ l. shut l (at_key ∷ os)) m.1 ∙ m.2.2 os ∙ ap (λ l. shut l os) m.2.3.1),
+    (on_block_end _ (λ h ts es us fs m os. ap (λ l. shut l (at_key ∷ os)) m.1 ∙ ap (λ l. shut l os) m.2.1), tt),
+  ),
+)
+allowed block_mapping_value = (
+  on_value _ (λ h ts es us fs m os. m.2 os ∙ ap (λ l. shut l os) m.3.1),
+  λ t i h ts es us fs m os. ap (λ l. shut l (at_value ∷ os)) m.1 ∙ m.2.2 os ∙ ap (λ l. shut l os) m.2.3.1,
+)
+allowed flow_sequence_entries = (
+  λ t i h ts es us fs m os. m.2 in_sequence in_sequence os refl ∙ m.3.2 os ∙ ap (λ l. shut l os) m.3.3.1,
+  (
+    on_key _ (λ h ts es us fs m os. let v = m.2.3 in let e = v.3 in
+        ap (λ l. shut l (in_sequence ∷ os)) m.1 ∙ m.2.2 at_key at_value (in_sequence ∷ os) refl ∙ v.2 at_value at_key (in_sequence ∷ os) refl
+        ∙ ap (λ l. shut l (at_key ∷ in_sequence ∷ os)) e.1 ∙ e.2.2 os ∙ ap (λ l. shut l os) e.2.3.1),
+    (on_flow_sequence_end _ (λ h ts es us fs m os. ap (λ l. shut l (in_sequence ∷ os)) m.1 ∙ ap (λ l. shut l os) m.2.1), tt),
+  ),
+)
+allowed flow_sequence_comma = (
+  on_flow_entry _ (λ h ts es us fs m os. m.2 os ∙ ap (λ l. shut l os) m.3.1),
+  (on_flow_sequence_end _ (λ h ts es us fs m os. ap (λ l. shut l (in_sequence ∷ os)) m.1 ∙ ap (λ l. shut l os) m.2.1), tt),
+)
+allowed flow_mapping_entries = (
+  λ t i h ts es us fs m os. let e = m.3 in m.2 at_key at_value os refl ∙ ap (λ l. shut l (at_value ∷ os)) e.1 ∙ e.2.2 os ∙ ap (λ l. shut l os) e.2.3.1,
+  (
+    on_key _ (λ h ts es us fs m os. let v = m.3 in m.2 at_key at_value os refl ∙ v.2 at_value at_key os refl ∙ v.3.2 os ∙ ap (λ l. shut l os) v.3.3.1),
+    (
+      on_value _ (λ h ts es us fs m os. let v = m.2 in ap (λ l. shut l (at_key ∷ os)) m.1 ∙ v.2 at_value at_key os refl ∙ v.3.2 os ∙ ap (λ l. shut l os) v.3.3.1),
+      (on_flow_mapping_end _ (λ h ts es us fs m os. ap (λ l. shut l (at_key ∷ os)) m.1 ∙ ap (λ l. shut l os) m.2.1), tt),
+    ),
+  ),
+)
+allowed flow_mapping_comma = (
+  on_flow_entry _ (λ h ts es us fs m os. m.2 os ∙ ap (λ l. shut l os) m.3.1),
+  (on_flow_mapping_end _ (λ h ts es us fs m os. ap (λ l. shut l (at_key ∷ os)) m.1 ∙ ap (λ l. shut l os) m.2.1), tt),
+)
+allowed flow_value = (
+  on_value _ (λ h ts es us fs m. placed_last in_flow es m.1 fs m.2 m.3.1),
+  λ t i h ts es us fs m. placed in_flow es m.0 fs (leaf nothing_written (λ o os. refl) es m.0 m.1) m.2.1,
+)
 
-mutual
-  documents_nest : (x : Documents) (r : List Raw) (es : List Ev) → Shaped (documents_events x r) es → Yields stream_ends r es
-  documents_nest (marker d) r es h = documents_nest d r es h
-  documents_nest (bare n a) r es h =
-      let y = node_nests n (after_events a r) h.0 h.2 in
-      one_document r (after_events a r) es h.0 h.1 y (after_nests a r y.more y.rest)
-  documents_nest (directed d ds p a) r es h =
-      let y = perhaps_nests p (after_events a r) h.0 h.2 in
-      one_document r (after_events a r) es h.0 h.1 y (after_nests a r y.more y.rest)
-  documents_nest (others x) r es h = explicit_nests x r es h
+-- ---- events with their names resolved
 
-  explicit_nests : (x : Explicit) (r : List Raw) (es : List Ev) → Shaped (explicit_events x r) es → Yields stream_ends r es
-  explicit_nests end_stream r es h = record { it = []; more = h.0; whole = h.1; rest = h.2 }
-  explicit_nests (explicit p a) r es h =
-      let y = perhaps_nests p (after_events a r) h.0 h.2 in
-      one_document r (after_events a r) es h.0 h.1 y (after_nests a r y.more y.rest)
+there_too : (f g : List Open → Bool) → ((os : List Open) → f os ≡ g os) → (o : Option (List Open)) → there_and f o ≡ there_and g o
+there_too f g h None = refl
+there_too f g h (Some os) = h os
 
-  after_nests : (x : After) (r : List Raw) (es : List Ev) → Shaped (after_events x r) es → Yields document_ends r es
-  after_nests (marked d) r es h =
-      let y = documents_nest d r h.0 h.2 in
-      record { it = y.it; more = y.more; whole = h.1 ∙ ap (λ vs. Ev.document_end ∷ vs) y.whole; rest = y.rest }
-  after_nests (unmarked x) r es h =
-      let y = explicit_nests x r h.0 h.2 in
-      record { it = y.it; more = y.more; whole = h.1 ∙ ap (λ vs. Ev.document_end ∷ vs) y.whole; rest = y.rest }
+-- the values of an event open nothing
+same_alias : (n : ℕ) (os : List Open) → open_after (Ev.alias n) os ≡ open_after (Ev.alias 0) os
+same_alias n [] = refl
+same_alias n (o ∷ os) = refl
 
--- events of this shape are nested, whatever their numbers and tags
-pub shaped_nests : (d : Documents) (events : List Ev) → Shaped (stream_events d) events → IsNested events
-shaped_nests d es h = let y = documents_nest d [] h.0 h.2 in (y.it, sym (h.1 ∙ ap (λ vs. Ev.stream_start ∷ vs) (y.whole ∙ ap (stream_ends y.it) y.rest)))
+same_scalar : (x : List ℕ) (y : Style) (n : ℕ) (u : Option Tag) (os : List Open) → open_after (Ev.scalar x y n u) os ≡ open_after (Ev.scalar x y 0 None) os
+same_scalar x y n u [] = refl
+same_scalar x y n u (o ∷ os) = refl
+
+same_sequence : (n : ℕ) (u : Option Tag) (os : List Open) → open_after (Ev.sequence_start n u) os ≡ open_after (Ev.sequence_start 0 None) os
+same_sequence n u [] = refl
+same_sequence n u (o ∷ os) = refl
+
+same_mapping : (n : ℕ) (u : Option Tag) (os : List Open) → open_after (Ev.mapping_start n u) os ≡ open_after (Ev.mapping_start 0 None) os
+same_mapping n u [] = refl
+same_mapping n u (o ∷ os) = refl
+
+same_after : (v w : Ev) (r : List Raw) (es vs : List Ev) → es ≡ v ∷ vs → ((os : List Open) → open_after v os ≡ open_after w os) → ((os : List Open) → closes vs os ≡ shut r os)
+    → (os : List Open) → closes es os ≡ there_and (closes (map shape_of r)) (open_after w os)
+same_after v w r es vs p f g os =
+    ap (λ l. closes l os) p ∙ ap (λ o. there_and (closes vs) o) (f os) ∙ there_too (closes vs) (closes (map shape_of r)) g (open_after w os)
+
+same_shape : (raws : List Raw) (es : List Ev) → Shaped raws es → (os : List Open) → closes es os ≡ shut raws os
+same_shape [] es x os = ap (λ l. closes l os) x
+same_shape (Raw.stream_start ∷ r) es x os = same_after Ev.stream_start Ev.stream_start r es x.0 x.1 (λ os. refl) (same_shape r x.0 x.2) os
+same_shape (Raw.stream_end ∷ r) es x os = same_after Ev.stream_end Ev.stream_end r es x.0 x.1 (λ os. refl) (same_shape r x.0 x.2) os
+same_shape (Raw.document_start ds ∷ r) es x os = same_after Ev.document_start Ev.document_start r es x.0 x.1 (λ os. refl) (same_shape r x.0 x.2) os
+same_shape (Raw.document_end ∷ r) es x os = same_after Ev.document_end Ev.document_end r es x.0 x.1 (λ os. refl) (same_shape r x.0 x.2) os
+same_shape (Raw.alias n ∷ r) es x os = same_after (Ev.alias x.0) (Ev.alias 0) r es x.1 x.2 (same_alias x.0) (same_shape r x.1 x.3) os
+same_shape (Raw.scalar u y a t ∷ r) es x os = same_after (Ev.scalar u y x.0 x.1) (Ev.scalar u y 0 None) r es x.2 x.3 (same_scalar u y x.0 x.1) (same_shape r x.2 x.4) os
+same_shape (Raw.empty_scalar a t ∷ r) es x os =
+    same_after (Ev.scalar [] Style.plain x.0 x.1) (Ev.scalar [] Style.plain 0 None) r es x.2 x.3 (same_scalar [] Style.plain x.0 x.1) (same_shape r x.2 x.4) os
+same_shape (Raw.flow_sequence_start a t ∷ r) es x os = same_after (Ev.sequence_start x.0 x.1) (Ev.sequence_start 0 None) r es x.2 x.3 (same_sequence x.0 x.1) (same_shape r x.2 x.4) os
+same_shape (Raw.sequence_start a t ∷ r) es x os = same_after (Ev.sequence_start x.0 x.1) (Ev.sequence_start 0 None) r es x.2 x.3 (same_sequence x.0 x.1) (same_shape r x.2 x.4) os
+same_shape (Raw.flow_sequence_end ∷ r) es x os = same_after Ev.sequence_end Ev.sequence_end r es x.0 x.1 (λ os. refl) (same_shape r x.0 x.2) os
+same_shape (Raw.sequence_end ∷ r) es x os = same_after Ev.sequence_end Ev.sequence_end r es x.0 x.1 (λ os. refl) (same_shape r x.0 x.2) os
+same_shape (Raw.flow_mapping_start a t ∷ r) es x os = same_after (Ev.mapping_start x.0 x.1) (Ev.mapping_start 0 None) r es x.2 x.3 (same_mapping x.0 x.1) (same_shape r x.2 x.4) os
+same_shape (Raw.mapping_start a t ∷ r) es x os = same_after (Ev.mapping_start x.0 x.1) (Ev.mapping_start 0 None) r es x.2 x.3 (same_mapping x.0 x.1) (same_shape r x.2 x.4) os
+same_shape (Raw.pair_start ∷ r) es x os = same_after (Ev.mapping_start 0 None) (Ev.mapping_start 0 None) r es x.0 x.1 (λ os. refl) (same_shape r x.0 x.2) os
+same_shape (Raw.flow_mapping_end ∷ r) es x os = same_after Ev.mapping_end Ev.mapping_end r es x.0 x.1 (λ os. refl) (same_shape r x.0 x.2) os
+same_shape (Raw.mapping_end ∷ r) es x os = same_after Ev.mapping_end Ev.mapping_end r es x.0 x.1 (λ os. refl) (same_shape r x.0 x.2) os
+
+-- events of a stream's shape pass the test
+passes : (raws : List Raw) (es : List Ev) (gs : List Raw) → raws ≡ Raw.stream_start ∷ gs → Closes in_stream gs [] → Shaped raws es → is_nested es ≡ true
+passes raws es gs p c x =
+    let y : Shaped (Raw.stream_start ∷ gs) es = subst (λ l. Shaped l es) p x in
+    ap (λ l. is_nested l) y.1 ∙ same_shape gs y.0 y.2 (in_stream ∷ []) ∙ c []
+
+pub shaped_nests : (tokens : List Tok) (raws : List Raw) (events : List Ev) → StreamSays tokens raws → Shaped raws events → IsNested events
+shaped_nests tokens raws events says x =
+    let m = derived_means grammar nests allowed whole_stream tokens raws says in
+    let c = m.2 in
+    let q = m.3 in
+    (test_is_exact events).0 (passes raws events c.0 c.1 (λ os. c.2 os ∙ ap (λ l. shut l os) q.1) x)
 
 pub stream_nests : (keep_tags : Bool) (tokens : List Tok) (events : List Ev) → IsStream keep_tags tokens events → IsNested events
-stream_nests k tokens es s = shaped_nests s.documents es (named_shaped k no_names (stream_events s.documents) es s.has_events)
+stream_nests keep_tags tokens events x = shaped_nests tokens x.raws events x.says (named_shaped keep_tags no_names x.raws events x.has_events)

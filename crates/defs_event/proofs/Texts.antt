@@ -1,15 +1,14 @@
 -- Short forms for the examples.
-use Rattle.std.specs.Prelude.{ℕ, List, [], ◌∷◌, Some, None, map, codes}
+use Rattle.std.specs.Prelude.{ℕ, List, [], ◌∷◌, None, map, codes}
 use Rattle.defs_text.specs.Position.{Position}
 use Rattle.defs_token.specs.Token.{Style, Tok}
 use Rattle.defs_event.specs.Event.{Tag, Ev}
-use Rattle.defs_event.specs.Raw.{Raw, Directive}
-use Rattle.defs_event.specs.Grammar.{Documents, directed, some_node, block_content, tagged, block_mapping, keyed, key, plain, flow, scalar, value, end_pairs, unmarked, explicit, end_stream}
+use Rattle.defs_event.specs.Raw.{Raw}
 
 abbrev pub tag_of_text : List ℕ → List ℕ → Tag
 tag_of_text handle suffix = record { handle = handle; suffix = suffix }
 
--- `%TAG !prefix! tag:example.com,2011:` LF `--- !prefix!A` LF `a: b` LF `--- !prefix!B` LF `c: d` LF `--- !prefix!C` LF `e: f`, and its derivation
+-- `%TAG !prefix! tag:example.com,2011:` LF `--- !prefix!A` LF `a: b` LF `--- !prefix!B` LF `c: d` LF `--- !prefix!C` LF `e: f`
 abbrev pub three_documents : List Tok
 three_documents =
     Tok.stream_start ∷ Tok.tag_directive (codes "!prefix!") (codes "tag:example.com,2011:") ∷ Tok.document_start ∷
@@ -20,9 +19,6 @@ three_documents =
     Tok.document_start ∷ Tok.tag (codes "!prefix!") (codes "C") ∷ Tok.block_mapping_start ∷ Tok.key ∷
     Tok.scalar Style.plain (codes "e") ∷ Tok.value ∷ Tok.scalar Style.plain (codes "f") ∷ Tok.block_end ∷
     Tok.stream_end ∷ []
-
-abbrev pub three_documents_read : Documents
-three_documents_read = directed (Directive.tag (codes "!prefix!") (codes "tag:example.com,2011:")) ([]) (some_node (block_content (Some (tagged (tag_of_text (codes "!prefix!") (codes "A")))) (block_mapping (keyed (key (plain (some_node (block_content None (flow (scalar Style.plain (codes "a")))))) (value (plain (some_node (block_content None (flow (scalar Style.plain (codes "b")))))) (keyed end_pairs))))))) (unmarked (explicit (some_node (block_content (Some (tagged (tag_of_text (codes "!prefix!") (codes "B")))) (block_mapping (keyed (key (plain (some_node (block_content None (flow (scalar Style.plain (codes "c")))))) (value (plain (some_node (block_content None (flow (scalar Style.plain (codes "d")))))) (keyed end_pairs))))))) (unmarked (explicit (some_node (block_content (Some (tagged (tag_of_text (codes "!prefix!") (codes "C")))) (block_mapping (keyed (key (plain (some_node (block_content None (flow (scalar Style.plain (codes "e")))))) (value (plain (some_node (block_content None (flow (scalar Style.plain (codes "f")))))) (keyed end_pairs))))))) (unmarked end_stream)))))
 
 -- a plain scalar without anchor and tag
 abbrev pub plain_event : List ℕ → Ev

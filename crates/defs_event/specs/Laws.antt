@@ -5,8 +5,8 @@ use Rattle.defs_tree.specs.Tree.{Tree}
 use Rattle.defs_tree.specs.Valid.{IsDistinct, FitsI64}
 use Rattle.defs_token.specs.Token.{Tok}
 use Rattle.defs_event.specs.Event.{Ev}
-use Rattle.defs_event.specs.Grammar.{Documents, stream_tokens}
-use Rattle.defs_event.specs.Stream.{IsStream, events_of}
+use Rattle.defs_event.specs.Raw.{Raw}
+use Rattle.defs_event.specs.Stream.{StreamSays, IsStream, events_of}
 use Rattle.defs_event.specs.Nested.{NestedDocument, IsNested, is_nested, nested_stream}
 use Rattle.defs_event.specs.Reading.{reading}
 use Rattle.defs_event.specs.Unfinished.{Loader, at_work, noted, new_loader, with_events, documents_of}
@@ -14,9 +14,9 @@ use Rattle.defs_event.specs.PulledList.{given}
 use Rattle.defs_event.specs.Push.{well, load}
 use Rattle.defs_event.specs.NoAlias.{HasNoAlias}
 
--- `tokens_are_derived_in_one_way`
-abbrev pub TokensAreDerivedInOneWay : Type 0
-TokensAreDerivedInOneWay = (d e : Documents) → stream_tokens d ≡ stream_tokens e → d ≡ e
+-- `tokens_are_read_in_one_way`
+abbrev pub TokensAreReadInOneWay : Type 0
+TokensAreReadInOneWay = (tokens : List Tok) (raws others : List Raw) → StreamSays tokens raws → StreamSays tokens others → raws ≡ others
 
 -- `streams_have_one_reading`
 abbrev pub StreamsHaveOneReading : Type 0

@@ -14,3 +14,6 @@ pub mod Reading
 pub mod Scalar
 pub mod Stream
 pub mod Unfinished
+pub mod Properties
+pub mod Table
+pub mod Kinds

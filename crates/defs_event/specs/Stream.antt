@@ -5,15 +5,24 @@ use Rattle.defs_token.specs.Token.{Tok, Token}
 use Rattle.defs_token.specs.Toks.{toks}
 use Rattle.defs_event.specs.Event.{Ev}
 use Rattle.defs_event.specs.Raw.{Raw}
-use Rattle.defs_event.specs.Grammar.{Documents, stream_tokens, stream_events}
+use Rattle.defs_event.specs.Table.{Work, reading, Derives}
+use Rattle.defs_event.specs.Grammar as table
 use Rattle.defs_event.specs.Names.{named, no_names}
 
--- These are the tokens of a stream, and its events: a derivation has the tokens, and what it says has these events
+-- all that is to be read at first
+abbrev pub whole_stream : List (Work table.Goal Raw table.Held)
+whole_stream = reading table.stream table.nothing_held ∷ []
+
+-- These tokens are a stream, and it says these events, before names are resolved.
+abbrev pub StreamSays : List Tok → List Raw → Type 0
+StreamSays tokens raws = Derives table.grammar whole_stream tokens raws
+
+-- These are the tokens of a stream, and its events: the grammar reads the tokens, all of them, and what it says has these events
 -- where its names are resolved. With `keep_tags` a declared handle counts in later documents too.
 pub record IsStream (keep_tags : Bool) (tokens : List Tok) (events : List Ev) : Type 0 where
-  pub documents : Documents
-  pub has_tokens : stream_tokens documents ≡ tokens
-  pub has_events : named keep_tags no_names (stream_events documents) ≡ Some events
+  pub raws : List Raw
+  pub says : StreamSays tokens raws
+  pub has_events : named keep_tags no_names raws ≡ Some events
 
 -- ---- beginnings
 
@@ -132,10 +141,10 @@ positions_of es = map (λ e. e.1) es
 
 -- These are the tokens of a stream and its events, with their positions.
 pub record IsPlacedStream (keep_tags : Bool) (tokens : List Token) (events : List (Ev × Position)) : Type 0 where
-  pub documents : Documents
-  pub has_tokens : stream_tokens documents ≡ toks tokens
-  pub has_events : named keep_tags no_names (stream_events documents) ≡ Some (events_of events)
-  pub has_positions : taken_positions (stream_events documents) (positions_of events) ≡ given_positions tokens
+  pub raws : List Raw
+  pub says : StreamSays (toks tokens) raws
+  pub has_events : named keep_tags no_names raws ≡ Some (events_of events)
+  pub has_positions : taken_positions raws (positions_of events) ≡ given_positions tokens
 
 -- A stream begins with these tokens and events, at these positions.
 pub record BeginsPlaced (keep_tags : Bool) (tokens : List Token) (events : List (Ev × Position)) : Type 0 where

@@ -1,11 +1,11 @@
 //! Laws of the definitions, each the contract of an empty function.
 
-ghost use Rattle.defs_event.specs.Laws.{TokensAreDerivedInOneWay, StreamsHaveOneReading, NestingTestIsExact, StreamEventsAreNested, NestedEventsAreReadOneByOne, MultiLoadPushesAllEvents, LoadedTreesHaveNoAlias, LoadedTreesHaveDistinctKeys, LoadedIntegersHave64Bits};
+ghost use Rattle.defs_event.specs.Laws.{TokensAreReadInOneWay, StreamsHaveOneReading, NestingTestIsExact, StreamEventsAreNested, NestedEventsAreReadOneByOne, MultiLoadPushesAllEvents, LoadedTreesHaveNoAlias, LoadedTreesHaveDistinctKeys, LoadedIntegersHave64Bits};
 
-/// A list of tokens has at most one derivation by the token grammar.
-#[tactic(auto, using(crate::proofs::OneReading::one_reading))]
-pub fn tokens_are_derived_in_one_way()
-    ensures { TokensAreDerivedInOneWay }
+/// The token grammar reads a list of tokens in at most one way.
+#[tactic(auto, using(crate::proofs::OneReading::read_in_one_way))]
+pub fn tokens_are_read_in_one_way()
+    ensures { TokensAreReadInOneWay }
 {}
 
 /// The tokens of a stream have one list of events.

@@ -3,7 +3,7 @@ use Rattle.std.specs.Prelude.{◌≡◌, Bool, true, false, List, [], ◌∷◌,
 use Rattle.defs_token.specs.Token.{Style, Tok}
 use Rattle.defs_event.specs.Raw.{Raw}
 use Rattle.defs_grammar.specs.Machine.{Outcome, stops}
-use Rattle.defs_grammar.specs.Stream.{read_stream}
+use Rattle.defs_grammar.specs.Reader.{read_stream}
 
 abbrev x : Tok
 x = Tok.scalar Style.plain (codes "x")

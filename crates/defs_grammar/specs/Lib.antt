@@ -1,5 +1,2 @@
-pub mod Grammar
-pub mod Kinds
 pub mod Machine
-pub mod Stream
-pub mod Table
+pub mod Reader

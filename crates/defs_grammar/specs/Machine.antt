@@ -1,6 +1,6 @@
 -- A machine over a table: it takes token by token, and stops at the first one that it refuses.
 use Rattle.std.specs.Prelude.{ℕ, zero, suc, ◌+◌, List, [], ◌∷◌, ◌++◌, Option, Some, None}
-use Rattle.defs_grammar.specs.Table.{Part, read, keep, hold, Row, takes, leaves, Table, row_of, Work, reading, saying, before}
+use Rattle.defs_event.specs.Table.{Part, read, keep, hold, Row, takes, leaves, Table, row_of, Work, reading, saying, before}
 
 -- ---- how many turns a token needs, if each goal has a weight
 

@@ -1,2 +1,2 @@
-//! The token grammar as one table: what each goal makes of the next token.
+//! A machine that reads tokens by the table of the token grammar.
 #![tactic(auto)]

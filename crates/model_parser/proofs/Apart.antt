@@ -1,8 +1,8 @@
 -- No anchor stands right after another in a stream: each node has one at most, and no node stands right after another.
 use Rattle.std.proofs.Common.{◌≡◌, ℕ, List, [], ◌∷◌, ◌++◌, Bool, true, false, not, ◌&&◌, refl, sym, ap, ◌∙◌}
 use Rattle.defs_token.specs.Token.{Tok}
-use Rattle.defs_event.specs.Stream.{Flow, around_after}
-use Rattle.defs_event.specs.Grammar.{Documents, stream_tokens}
+use Rattle.defs_event.specs.Stream.{StreamSays, Flow, around_after}
+use Rattle.defs_event.specs.Raw.{Raw}
 use Rattle.model_parser.proofs.Orderly.{is_anchor, may_stand, is_orderly, stream_is_orderly}
 
 and_false : (b : Bool) → (b && false) ≡ false
@@ -15,7 +15,7 @@ two_anchors a fs [] m n ys = and_false (not a)
 two_anchors a fs (x ∷ xs) m n ys = ap (λ c. may_stand a fs x && c) (two_anchors (is_anchor x) (around_after x fs) xs m n ys) ∙ and_false (may_stand a fs x)
 
 -- They stand in no stream.
-pub no_two_anchors : (d : Documents) (xs : List Tok) (m n : List ℕ) (ys : List Tok) → stream_tokens d ≡ xs ++ Tok.anchor m ∷ Tok.anchor n ∷ ys → ⊥
-no_two_anchors d xs m n ys h =
-    let clash : true ≡ false = sym (stream_is_orderly d) ∙ ap (is_orderly false []) h ∙ two_anchors false [] xs m n ys in
+pub no_two_anchors : (xs : List Tok) (m n : List ℕ) (ys : List Tok) (es : List Raw) → StreamSays (xs ++ Tok.anchor m ∷ Tok.anchor n ∷ ys) es → ⊥
+no_two_anchors xs m n ys es d =
+    let clash : true ≡ false = sym (stream_is_orderly (xs ++ Tok.anchor m ∷ Tok.anchor n ∷ ys) es d) ∙ two_anchors false [] xs m n ys in
     cc

@@ -3,17 +3,18 @@ use Rattle.std.proofs.Common.{◌≡◌, ◌⊎◌, inl, inr, List, [], ◌∷�
 use Rattle.std.proofs.lemmas.Bool.{both_ways}
 use Rattle.defs_token.specs.Token.{Tok}
 use Rattle.defs_event.specs.Raw.{Raw}
-use Rattle.defs_event.specs.Grammar.{stream_tokens}
+use Rattle.defs_event.specs.Stream.{StreamSays}
 use Rattle.model_parser.specs.declared.state.State.{State}
 use Rattle.model_parser.specs.Goal.{Goal}
 use Rattle.defs_event.specs.Place.{Collection, open_past, open_after, Next, next_past, next_after, other_next}
 use Rattle.model_parser.specs.Place.{next_at, top, is_node, is_after, is_directive_next, is_past_directives}
+use Rattle.model_parser.specs.Rest.{Awaits}
 use Rattle.model_parser.specs.Stands.{IsOnTrack, IsNext, GoesOn, IsSettled, as_tokens, goes_on, at_directive}
 use Rattle.model_parser.specs.Turn.{Takes, Leaves, MayCome, Settles, alike, alike_after, without_node, before_directive, event_then, then_event}
 
-event_along : (given es fs : List Raw) (e : Option Raw) → es ≡ event_then e fs → given ++ es ≡ then_event given e ++ fs
-event_along given es fs None h = ap (λ xs. given ++ xs) h
-event_along given es fs (Some x) h = ap (λ xs. given ++ xs) h ∙ sym (append_assoc given (x ∷ []) fs)
+event_along : (given fs : List Raw) (e : Option Raw) → given ++ event_then e fs ≡ then_event given e ++ fs
+event_along given fs None = refl
+event_along given fs (Some x) = sym (append_assoc given (x ∷ []) fs)
 
 open_more : (cs : List Collection) (ts : List Tok) (t : Tok) → open_after cs (ts ++ t ∷ []) ≡ open_past t (open_after cs ts)
 open_more cs [] t = refl
@@ -31,21 +32,19 @@ stands_take g ss t e g' ss' taken given k s = record {
   opened = open_more [] taken t ∙ ap (open_past t) s.opened ∙ k.opened;
   settled = as_tokens (next_more other_next taken t ∙ k.next s.fits);
   past = λ h. absurd (both_ways (is_past_directives g' ss') (k.past s.fits) h);
-  sound = λ x' r'.
-      let b = k.comes x' r' in
-      let d = s.sound b.0 b.1 in
-      (d.0, d.1 ∙ ap (λ xs. taken ++ xs) b.2 ∙ sym (append_assoc taken (t ∷ []) _), d.2 ∙ event_along given _ _ e b.3);
-  exact = λ d ts h u.
-      let h' : stream_tokens d ≡ taken ++ (t ∷ ts) = h ∙ append_assoc taken (t ∷ []) ts in
-      let o = s.exact d (t ∷ ts) h' refl in
-      let n = k.goes s.nested s.fits o.0 o.1 ts o.2 in
-      (n.0, n.1, n.2, o.3 ∙ event_along given _ _ e n.3);
+  sound = λ ts es a.
+      let d = s.sound (t ∷ ts) (event_then e es) (k.comes s.fits ts es a) in
+      subst (λ us. StreamSays us (then_event given e ++ es)) (sym (append_assoc taken (t ∷ []) ts)) (subst (λ fs. StreamSays (taken ++ t ∷ ts) fs) (event_along given es e) d);
+  exact = λ ts es u d.
+      let x = s.exact (t ∷ ts) es refl (subst (λ us. StreamSays us es) (append_assoc taken (t ∷ []) ts) d) in
+      let y = k.goes s.fits ts x.0 x.2 in
+      (y.0, x.1 ∙ ap (λ fs. given ++ fs) y.1 ∙ event_along given y.0 e, y.2);
 }
 
 -- a token that may come here goes on
 comes_on : (g : Goal) (ss : List State) (p : Option Tok) (taken : List Tok) (given : List Raw) → IsOnTrack g ss taken p given → MayCome g ss p → GoesOn taken p
 comes_on g ss None taken given s m = m
-comes_on g ss (Some t) taken given s m = let d = s.sound m.0 m.1 in (d.0, m.2, d.1 ∙ ap (λ xs. taken ++ xs) m.3)
+comes_on g ss (Some t) taken given s m = (m.0, given ++ m.1, s.sound (t ∷ m.0) m.1 m.2)
 
 as_before : (g : Goal) (ss : List State) (p : Option Tok) (g' : Goal) (ss' : List State) (taken : List Tok) → next_at g ss ≡ next_at g' ss'
     → (is_after (top g ss) ≡ true → is_directive_next p ≡ true → ⊥) → IsSettled g ss taken p → IsSettled g' ss' taken p
@@ -71,12 +70,9 @@ stands_leave g ss p e g' ss' taken given k s = record {
   opened = s.opened ∙ k.opened;
   settled = settled_on g ss p g' ss' taken given (k.settles s.fits) s;
   past = λ h. past_on (k.past s.fits h) s.past;
-  sound = λ x' r'.
-      let b = k.comes x' r' in
-      let d = s.sound b.0 b.1 in
-      (d.0, d.1 ∙ ap (λ xs. taken ++ xs) b.2, d.2 ∙ event_along given _ _ e b.3);
-  exact = λ d ts h u.
-      let o = s.exact d ts h u in
-      let n = k.goes s.nested s.fits o.0 o.1 (subst (IsNext p) (sym o.2) u) in
-      (n.0, n.1, n.2 ∙ o.2, o.3 ∙ event_along given _ _ e n.3);
+  sound = λ ts es a. subst (λ fs. StreamSays (taken ++ ts) fs) (event_along given es e) (s.sound ts (event_then e es) (k.comes s.nested s.fits ts es a));
+  exact = λ ts es u d.
+      let x = s.exact ts es u d in
+      let y = k.goes s.nested s.fits ts x.0 u x.2 in
+      (y.0, x.1 ∙ ap (λ fs. given ++ fs) y.1 ∙ event_along given y.0 e, y.2);
 }

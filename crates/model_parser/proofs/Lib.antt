@@ -1,12 +1,13 @@
-pub mod Shortest
 pub mod First
+pub mod Rows
 pub mod Settling
 pub mod Orderly
 pub mod Apart
 pub mod Around
 pub mod Carry
 pub mod Document
-pub mod Nodes
 pub mod Block
 pub mod Flow
-mod KeyAndValue
+pub mod Nodes
+pub mod Standing
+pub mod Endings

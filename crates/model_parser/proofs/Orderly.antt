@@ -4,12 +4,9 @@ use Rattle.std.proofs.Common.{◌≡◌, Bool, true, false, not, ◌&&◌, ◌||
 use Rattle.std.proofs.lemmas.Bool.{and_parts, and_from}
 use Rattle.defs_token.specs.Token.{Tok}
 use Rattle.defs_event.specs.Raw.{Raw}
-use Rattle.defs_event.specs.Stream.{Flow, in_sequence, in_mapping, without_innermost, around_after, is_in_sequence}
-use Rattle.defs_event.specs.Grammar.{Documents, stream_tokens, stream_events}
-use Rattle.defs_grammar.specs.Table.{Row, takes, leaves, row_of, Work, reading, saying, before, Derives, nothing_left, says, by_taking, by_leaving}
-use Rattle.defs_grammar.specs.Grammar.{Held, Place, in_flow, in_block, in_pair, key, value, Goal, stream, documents, directives, explicit_document, document_end, node, after_anchor, after_tag, content, block_sequence_entries, indentless_sequence_entries, block_mapping_entries, block_mapping_value, flow_sequence_entries, flow_sequence_comma, flow_mapping_entries, flow_mapping_comma, flow_value, then_in, cases, grammar}
-use Rattle.defs_grammar.specs.Stream.{whole_stream}
-use Rattle.proof_grammar.proofs.Included.{derived_says}
+use Rattle.defs_event.specs.Stream.{StreamSays, Flow, in_sequence, in_mapping, without_innermost, around_after, is_in_sequence, whole_stream}
+use Rattle.defs_event.specs.Table.{Row, takes, leaves, row_of, Work, reading, saying, before, Derives, nothing_left, says, by_taking, by_leaving}
+use Rattle.defs_event.specs.Grammar.{Held, Place, in_flow, in_block, in_pair, key, value, Goal, stream, documents, directives, explicit_document, document_end, node, after_anchor, after_tag, content, block_sequence_entries, indentless_sequence_entries, block_mapping_entries, block_mapping_value, flow_sequence_entries, flow_sequence_comma, flow_mapping_entries, flow_mapping_comma, flow_value, then_in, cases, grammar}
 
 abbrev pub is_in_mapping : List Flow → Bool
 is_in_mapping (in_mapping ∷ fs) = true
@@ -168,5 +165,5 @@ orderly (reading g h ∷ w) (t ∷ ts) es a fs (by_taking ps q d) k =
     and_from (may_stand a fs t) (is_orderly (is_anchor t) (around_after t fs) ts) r.0 (orderly (before grammar h t ps w) ts es (is_anchor t) (around_after t fs) d r.1)
 orderly (reading g h ∷ w) (t ∷ ts) es a fs (by_leaving ps q d) k = orderly (before grammar h t ps w) (t ∷ ts) es a fs d (subst (λ r. keeps h t w a fs r ≡ true) q (row_keeps g h w a fs t k))
 
-pub stream_is_orderly : (d : Documents) → is_orderly false [] (stream_tokens d) ≡ true
-stream_is_orderly d = orderly whole_stream (stream_tokens d) (stream_events d) false [] (derived_says d) refl
+pub stream_is_orderly : (ts : List Tok) (es : List Raw) → StreamSays ts es → is_orderly false [] ts ≡ true
+stream_is_orderly ts es d = orderly whole_stream ts es false [] d refl

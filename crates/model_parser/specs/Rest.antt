@@ -1,15 +1,20 @@
--- What may still come under a parser's stack.
-use Rattle.std.specs.Prelude.{◌≡◌, List, [], ◌∷◌, Bool, true, false, not}
+-- What a parser still has to read, as work of the grammar's table; and what may stand under what.
+use Rattle.std.specs.Prelude.{◌≡◌, List, [], ◌∷◌, Option, Some, None, Bool, true, false, not, ◌||◌}
 use Rattle.defs_token.specs.Token.{Tok}
-use Rattle.defs_event.specs.Raw.{Raw}
+use Rattle.defs_event.specs.Raw.{Raw, Directive, nothing_written}
+use Rattle.defs_event.specs.Properties.{Properties, anchored, tagged, perhaps_anchor_of, perhaps_tag_of}
+use Rattle.defs_event.specs.Table.{Work, reading, saying, Derives}
+use Rattle.defs_event.specs.Grammar as table
+use Rattle.defs_event.specs.Grammar.{Held, nothing_held, Side, Place, in_flow, in_block, in_pair, grammar}
 use Rattle.model_parser.specs.declared.kind.Kind.{Kind}
+use Rattle.model_parser.specs.declared.kind.Kind.TheVariants as kind
 use Rattle.model_parser.specs.declared.context.NodeContext.{NodeContext}
 use Rattle.model_parser.specs.declared.context.NodeContext.TheVariants as context
 use Rattle.model_parser.specs.declared.state.State.{State}
 use Rattle.model_parser.specs.declared.state.State.TheVariants as state
-use Rattle.model_parser.specs.Kinds.{kind_of, begins_node, ends_part}
+use Rattle.model_parser.specs.Kinds.{kind_of, begins_content, begins_node}
 use Rattle.model_parser.specs.Goal as at
-use Rattle.model_parser.specs.Goal.{Goal, Awaits, goal_tokens, goal_events}
+use Rattle.model_parser.specs.Goal.{Goal}
 
 abbrev pub goal_of : State → Goal
 goal_of state.StreamStart = at.start
@@ -36,35 +41,126 @@ goal_of state.FlowMappingValue = at.flow_after_key
 goal_of (state.FlowMappingPart m) = at.flow_valued
 goal_of state.FlowMappingEmptyValue = at.flow_empty
 
-abbrev pub Rest : List State → Type 0
-Rest [] = Unit {0}
-Rest (s ∷ ss) = Awaits (goal_of s) × Rest ss
+-- ---- where a node stands, by what goes on after it
 
-abbrev pub rest_tokens : (ss : List State) → Rest ss → List Tok
-rest_tokens [] r = []
-rest_tokens (s ∷ ss) r = goal_tokens (goal_of s) r.0 (rest_tokens ss r.1)
+abbrev pub place_of : List State → Place
+place_of (state.BlockMappingKey ∷ ss) = in_pair table.value
+place_of (state.BlockMappingValue ∷ ss) = in_pair table.key
+place_of (state.FlowSequenceEntry ∷ ss) = in_flow
+place_of (state.FlowSequenceEntryMappingValue ∷ ss) = in_flow
+place_of (state.FlowSequenceEntryMappingEnd ∷ ss) = in_flow
+place_of (state.FlowMappingKey ∷ ss) = in_flow
+place_of (state.FlowMappingValue ∷ ss) = in_flow
+place_of (state.FlowMappingEmptyValue ∷ ss) = in_flow
+place_of ss = in_block
 
-abbrev pub rest_events : (ss : List State) → Rest ss → List Raw
-rest_events [] r = []
-rest_events (s ∷ ss) r = goal_events (goal_of s) r.0 (rest_events ss r.1)
+abbrev pub side_of : List State → Side
+side_of (state.BlockMappingValue ∷ ss) = table.key
+side_of ss = table.value
 
--- and under what is read now
-abbrev pub still_tokens : (g : Goal) (ss : List State) → Awaits g → Rest ss → List Tok
-still_tokens g ss x r = goal_tokens g x (rest_tokens ss r)
+abbrev pub context_at : Place → NodeContext
+context_at in_flow = context.Flow
+context_at in_block = context.Block
+context_at (in_pair s) = context.Part
 
-abbrev pub still_events : (g : Goal) (ss : List State) → Awaits g → Rest ss → List Raw
-still_events g ss x r = goal_events g x (rest_events ss r)
+-- ---- what is still to be read
+
+abbrev pub Works : Type 0
+Works = List (Work table.Goal Raw Held)
+
+-- a goal that holds nothing, before other work
+abbrev pub goal_and : table.Goal → Works → Works
+goal_and g w = reading g nothing_held ∷ w
+
+abbrev pub with_properties : Option Properties → Held
+with_properties o = record { anchor = perhaps_anchor_of o; tag = perhaps_tag_of o; directives = [] }
+
+abbrev pub with_directives : List Directive → Held
+with_directives ds = record { anchor = None; tag = None; directives = ds }
+
+-- The goal of a key or a value has in it what comes after in its mapping.
+abbrev pub without_first : Works → Works
+without_first [] = []
+without_first (x ∷ w) = w
+
+abbrev pub past : List State → Works → Works
+past (state.BlockMappingKey ∷ ss) w = without_first w
+past (state.BlockMappingValue ∷ ss) w = without_first w
+past ss w = w
+
+-- what is read now, with these states under it, before their work
+abbrev pub goal_work : Goal → List State → Works → Works
+goal_work at.done ss w = w
+goal_work at.ended ss w = w
+goal_work at.start ss w = goal_and table.stream w
+goal_work at.documents ss w = goal_and table.documents w
+goal_work at.explicit ss w = goal_and table.explicit_document w
+goal_work (at.directed ds) ss w = reading table.directives (with_directives ds) ∷ w
+goal_work at.content ss w = goal_and (table.node in_block) (goal_and table.document_end w)
+goal_work at.after ss w = goal_and table.document_end w
+goal_work (at.node p) ss w = goal_and (table.node (place_of ss)) (past ss w)
+goal_work (at.after_anchor p a) ss w = reading (table.after_anchor (place_of ss)) (with_properties (Some (anchored a))) ∷ past ss w
+goal_work (at.after_tag p t) ss w = reading (table.after_tag (place_of ss)) (with_properties (Some (tagged t))) ∷ past ss w
+goal_work (at.after_properties p o) ss w = reading (table.content (place_of ss)) (with_properties o) ∷ past ss w
+goal_work at.entries ss w = goal_and table.block_sequence_entries w
+goal_work at.entry ss w = goal_and (table.node in_block) (goal_and table.block_sequence_entries w)
+goal_work at.dashes ss w = goal_and (table.indentless_sequence_entries (side_of ss)) (past ss w)
+goal_work at.dashed ss w = goal_and (table.node in_block) (goal_and (table.indentless_sequence_entries (side_of ss)) (past ss w))
+goal_work at.part ss w = goal_and (table.node (place_of ss)) (past ss w)
+goal_work at.pairs ss w = goal_and table.block_mapping_entries w
+goal_work at.key_pairs ss w = goal_and table.block_mapping_entries w
+goal_work at.after_key ss w = goal_and table.block_mapping_value w
+goal_work at.items ss w = goal_and table.flow_sequence_entries w
+goal_work at.more_items ss w = goal_and table.flow_sequence_comma w
+goal_work at.comma_items ss w = goal_and table.flow_sequence_entries w
+goal_work at.item ss w = goal_and table.flow_sequence_entries w
+goal_work at.pair_key ss w = goal_and (table.node in_flow) (goal_and table.flow_value (saying Raw.mapping_end ∷ goal_and table.flow_sequence_comma w))
+goal_work at.pair_value ss w = goal_and table.flow_value (saying Raw.mapping_end ∷ goal_and table.flow_sequence_comma w)
+goal_work at.pair_valued ss w = goal_and (table.node in_flow) (saying Raw.mapping_end ∷ goal_and table.flow_sequence_comma w)
+goal_work at.pair_end ss w = saying Raw.mapping_end ∷ goal_and table.flow_sequence_comma w
+goal_work at.flow_pairs ss w = goal_and table.flow_mapping_entries w
+goal_work at.more_flow_pairs ss w = goal_and table.flow_mapping_comma w
+goal_work at.comma_flow_pairs ss w = goal_and table.flow_mapping_entries w
+goal_work at.flow_pair ss w = goal_and table.flow_mapping_entries w
+goal_work at.flow_key ss w = goal_and (table.node in_flow) (goal_and table.flow_value (goal_and table.flow_mapping_comma w))
+goal_work at.flow_after_key ss w = goal_and table.flow_value (goal_and table.flow_mapping_comma w)
+goal_work at.flow_valued ss w = goal_and (table.node in_flow) (goal_and table.flow_mapping_comma w)
+goal_work at.flow_empty ss w = saying nothing_written ∷ goal_and table.flow_mapping_comma w
+
+abbrev pub works : List State → Works
+works [] = []
+works (s ∷ ss) = goal_work (goal_of s) ss (works ss)
+
+abbrev pub work_of : Goal → List State → Works
+work_of g ss = goal_work g ss (works ss)
+
+-- ---- with which tokens it may go on
+
+-- Of a content, by what begins one of this context, and one where the node stands: properties go on without content at what begins none.
+abbrev pub may_begin_content : (p : NodeContext) → Option Properties → (where_it_stands : NodeContext) → Kind → Bool
+may_begin_content p None c k = begins_content p k
+may_begin_content p (Some o) c k = begins_content p k || not (begins_content c k)
+
+-- whether a token of this kind may come, by what was seen of it before the parser came there
+abbrev pub may_begin : Goal → List State → Kind → Bool
+may_begin (at.node p) ss k = begins_node p k
+may_begin (at.after_properties p o) ss k = may_begin_content p o (context_at (place_of ss)) k
+may_begin at.key_pairs ss kind.Value = false
+may_begin at.item ss kind.FlowSequenceEnd = false
+may_begin at.flow_pair ss kind.FlowMappingEnd = false
+may_begin at.done (state.BlockNode ∷ ss) k = begins_node context.Block k
+may_begin at.done (state.BlockMappingNextKey ∷ ss) kind.Value = false
+may_begin g ss k = true
+
+abbrev pub first_may : Goal → List State → List Tok → Bool
+first_may g ss [] = true
+first_may g ss (t ∷ ts) = may_begin g ss (kind_of t)
+
+-- What is awaited reads these tokens, all of them, and says these events.
+abbrev pub Awaits : Goal → List State → List Tok → List Raw → Type 0
+Awaits g ss ts es = Derives grammar (work_of g ss) ts es × (first_may g ss ts ≡ true)
 
 -- ---- what stands under what
-
--- whether the test holds of the first token, where there is one
-abbrev pub first_is : (Kind → Bool) → List Tok → Bool
-first_is test [] = true
-first_is test (t ∷ ts) = test (kind_of t)
-
--- Nothing that may come here begins a node of that context.
-abbrev pub BeginsNoNode : NodeContext → List State → Type 0
-BeginsNoNode p ss = (r : Rest ss) → first_is (λ k. not (begins_node p k)) (rest_tokens ss r) ≡ true
 
 -- whether a block mapping goes on with these
 abbrev pub is_in_mapping : List State → Bool
@@ -72,17 +168,28 @@ is_in_mapping (state.BlockMappingKey ∷ ss) = true
 is_in_mapping (state.BlockMappingValue ∷ ss) = true
 is_in_mapping _ = false
 
--- What comes here ends a part of a block mapping; each token that does may come; and the mapping goes on.
-abbrev pub EndsPart : List State → Type 0
-EndsPart ss =
-    ((r : Rest ss) → first_is ends_part (rest_tokens ss r) ≡ true)
-    × ((t : Tok) → ends_part (kind_of t) ≡ true → (r : Rest ss) × (ts : List Tok) × (rest_tokens ss r ≡ t ∷ ts))
-    × (is_in_mapping ss ≡ true)
+-- whether these go on after a node
+abbrev pub is_under : List State → Bool
+is_under (state.DocumentEnd ∷ ss) = true
+is_under (state.BlockSequenceEntry ∷ ss) = true
+is_under (state.IndentlessSequenceEntry ∷ ss) = is_in_mapping ss
+is_under (state.BlockMappingKey ∷ ss) = true
+is_under (state.BlockMappingValue ∷ ss) = true
+is_under (state.FlowSequenceEntry ∷ ss) = true
+is_under (state.FlowSequenceEntryMappingValue ∷ ss) = true
+is_under (state.FlowSequenceEntryMappingEnd ∷ ss) = true
+is_under (state.FlowMappingKey ∷ ss) = true
+is_under (state.FlowMappingValue ∷ ss) = true
+is_under (state.FlowMappingEmptyValue ∷ ss) = true
+is_under ss = false
 
--- what stands under a node of that context
-abbrev pub EndsNode : NodeContext → List State → Type 0
-EndsNode context.Part ss = EndsPart ss
-EndsNode p ss = BeginsNoNode p ss
+-- whether what begins a content of the first context may begin one of the other, too
+abbrev pub narrows : NodeContext → NodeContext → Bool
+narrows context.Flow c = true
+narrows context.Block context.Flow = false
+narrows context.Block c = true
+narrows context.Part context.Part = true
+narrows context.Part c = false
 
 abbrev pub IsBottom : List State → Type 0
 IsBottom [] = Unit {0}
@@ -93,21 +200,9 @@ abbrev pub IsGoing : List State → Type 0
 IsGoing [] = ⊥
 IsGoing (s ∷ ss) = Unit {0}
 
--- whether something is awaited that is no node, and no document or stream
-abbrev pub is_under : List State → Bool
-is_under [] = false
-is_under (state.StreamStart ∷ ss) = false
-is_under (state.DocumentStart ∷ ss) = false
-is_under (state.ImplicitDocumentStart ∷ ss) = false
-is_under (state.DocumentContent ∷ ss) = false
-is_under (state.BlockNode ∷ ss) = false
-is_under (state.IndentlessSequenceItem ∷ ss) = false
-is_under (state.BlockMappingPart ∷ ss) = false
-is_under (state.FlowSequenceFirstEntry ∷ ss) = false
-is_under (state.FlowSequenceEntryMappingKey ∷ ss) = false
-is_under (state.FlowMappingFirstKey ∷ ss) = false
-is_under (state.FlowMappingPart m ∷ ss) = false
-is_under (s ∷ ss) = true
+-- A node of that context is read over these.
+abbrev pub IsUnder : NodeContext → List State → Type 0
+IsUnder p ss = (is_under ss ≡ true) × (context_at (place_of ss) ≡ p)
 
 -- what must stand under what is read
 abbrev pub IsFor : Goal → List State → Type 0
@@ -119,13 +214,13 @@ IsFor at.explicit ss = IsBottom ss
 IsFor (at.directed ds) ss = IsBottom ss
 IsFor at.content ss = IsBottom ss
 IsFor at.after ss = IsBottom ss
-IsFor (at.node p) ss = EndsNode p ss × (is_under ss ≡ true)
-IsFor (at.after_anchor p a) ss = EndsNode p ss × (is_under ss ≡ true)
-IsFor (at.after_tag p t) ss = EndsNode p ss × (is_under ss ≡ true)
-IsFor (at.after_properties p o) ss = EndsNode p ss × (is_under ss ≡ true)
-IsFor at.dashes ss = EndsPart ss × (is_under ss ≡ true)
-IsFor at.dashed ss = EndsPart ss × (is_under ss ≡ true)
-IsFor at.part ss = EndsPart ss × (is_under ss ≡ true)
+IsFor (at.node p) ss = IsUnder p ss
+IsFor (at.after_anchor p a) ss = IsUnder p ss
+IsFor (at.after_tag p t) ss = IsUnder p ss
+IsFor (at.after_properties p o) ss = (is_under ss ≡ true) × (narrows p (context_at (place_of ss)) ≡ true)
+IsFor at.dashes ss = is_in_mapping ss ≡ true
+IsFor at.dashed ss = is_in_mapping ss ≡ true
+IsFor at.part ss = is_in_mapping ss ≡ true
 IsFor _ ss = is_under ss ≡ true
 
 abbrev pub IsNested : List State → Type 0

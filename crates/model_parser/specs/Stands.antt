@@ -2,12 +2,12 @@
 use Rattle.std.specs.Prelude.{◌≡◌, List, [], ◌∷◌, ◌++◌, true, false, Option, Some, None}
 use Rattle.defs_token.specs.Token.{Tok}
 use Rattle.defs_event.specs.Raw.{Raw}
-use Rattle.defs_event.specs.Grammar.{Documents, stream_tokens, stream_events}
+use Rattle.defs_event.specs.Stream.{StreamSays}
 use Rattle.model_parser.specs.declared.state.State.{State}
-use Rattle.model_parser.specs.Goal.{Goal, Awaits}
+use Rattle.model_parser.specs.Goal.{Goal}
 use Rattle.defs_event.specs.Place.{open_after, other_next, next_after}
 use Rattle.model_parser.specs.Place.{open_at, next_at, top, is_node, is_after, is_directive_next, is_past_directives, IsNoDirective}
-use Rattle.model_parser.specs.Rest.{Rest, still_tokens, still_events, IsNested, IsFor}
+use Rattle.model_parser.specs.Rest.{Awaits, IsNested, IsFor}
 
 -- the next token, where it was looked at
 abbrev pub IsNext : Option Tok → List Tok → Type 0
@@ -18,7 +18,7 @@ IsNext (Some x) (y ∷ ts) = y ≡ x
 -- Some stream goes on with the token that was looked at.
 abbrev pub GoesOn : List Tok → Option Tok → Type 0
 GoesOn taken None = ⊥
-GoesOn taken (Some t) = (d : Documents) × (ts : List Tok) × (stream_tokens d ≡ taken ++ t ∷ ts)
+GoesOn taken (Some t) = (ts : List Tok) × (es : List Raw) × StreamSays (taken ++ t ∷ ts) es
 
 -- A node is read next just where the tokens leave one to come; or no node is read any more, since the token that was looked at goes
 -- on without one, or is a directive where a document ends.
@@ -35,6 +35,5 @@ pub record IsOnTrack (g : Goal) (ss : List State) (taken : List Tok) (peeked : O
   pub opened : open_after [] taken ≡ open_at g ss
   pub settled : IsSettled g ss taken peeked
   pub past : is_past_directives g ss ≡ true → IsNoDirective peeked
-  pub sound : (x : Awaits g) (r : Rest ss) → (d : Documents) × (stream_tokens d ≡ taken ++ still_tokens g ss x r) × (stream_events d ≡ given ++ still_events g ss x r)
-  pub exact : (d : Documents) (ts : List Tok) → stream_tokens d ≡ taken ++ ts → IsNext peeked ts
-      → (x : Awaits g) × (r : Rest ss) × (still_tokens g ss x r ≡ ts) × (stream_events d ≡ given ++ still_events g ss x r)
+  pub sound : (ts : List Tok) (es : List Raw) → Awaits g ss ts es → StreamSays (taken ++ ts) (given ++ es)
+  pub exact : (ts : List Tok) (es : List Raw) → IsNext peeked ts → StreamSays (taken ++ ts) es → (fs : List Raw) × (es ≡ given ++ fs) × Awaits g ss ts fs

@@ -3,10 +3,10 @@ use Rattle.std.specs.Prelude.{◌≡◌, ◌⊎◌, List, [], ◌∷◌, ◌++�
 use Rattle.defs_token.specs.Token.{Tok}
 use Rattle.defs_event.specs.Raw.{Raw}
 use Rattle.model_parser.specs.declared.state.State.{State}
-use Rattle.model_parser.specs.Goal.{Goal, Awaits}
+use Rattle.model_parser.specs.Goal.{Goal}
 use Rattle.defs_event.specs.Place.{open_past, next_past}
 use Rattle.model_parser.specs.Place.{open_at, next_at, top, is_node, is_after, is_directive_next, is_past_directives, IsNoDirective}
-use Rattle.model_parser.specs.Rest.{Rest, still_tokens, still_events, IsNested, IsFor}
+use Rattle.model_parser.specs.Rest.{Awaits, IsNested, IsFor}
 use Rattle.model_parser.specs.Stands.{IsNext}
 
 -- an event, or none
@@ -18,34 +18,23 @@ abbrev pub then_event : List Raw → Option Raw → List Raw
 then_event es None = es
 then_event es (Some x) = es ++ x ∷ []
 
--- What is awaited here goes on there, after this token and this event.
-abbrev pub Goes : (g : Goal) (ss : List State) → Tok → Option Raw → (g' : Goal) (ss' : List State) → Awaits g → Type 0
-Goes g ss t e g' ss' x = (r : Rest ss) (ts : List Tok) → still_tokens g ss x r ≡ t ∷ ts
-    → (x' : Awaits g') × (r' : Rest ss') × (still_tokens g' ss' x' r' ≡ ts) × (still_events g ss x r ≡ event_then e (still_events g' ss' x' r'))
-
--- What is awaited there comes of what is awaited here.
-abbrev pub Comes : (g : Goal) (ss : List State) → List Tok → Option Raw → (g' : Goal) (ss' : List State) → Awaits g' → Type 0
-Comes g ss ts e g' ss' x' = (r' : Rest ss')
-    → (x : Awaits g) × (r : Rest ss) × (still_tokens g ss x r ≡ ts ++ still_tokens g' ss' x' r') × (still_events g ss x r ≡ event_then e (still_events g' ss' x' r'))
+-- These tokens and events are awaited there, after this event.
+abbrev pub Then : Option Raw → (g : Goal) (ss : List State) → List Tok → List Raw → Type 0
+Then e g ss ts es = (fs : List Raw) × (es ≡ event_then e fs) × Awaits g ss ts fs
 
 -- The token is taken.
 pub record Takes (g : Goal) (ss : List State) (t : Tok) (e : Option Raw) (g' : Goal) (ss' : List State) : Type 0 where
   pub nested : IsNested ss → IsFor g ss → IsNested ss' × IsFor g' ss'
-  pub comes : (x' : Awaits g') → Comes g ss (t ∷ []) e g' ss' x'
-  pub goes : IsNested ss → IsFor g ss → (x : Awaits g) → Goes g ss t e g' ss' x
+  pub comes : IsFor g ss → (ts : List Tok) (es : List Raw) → Awaits g' ss' ts es → Awaits g ss (t ∷ ts) (event_then e es)
+  pub goes : IsFor g ss → (ts : List Tok) (es : List Raw) → Awaits g ss (t ∷ ts) es → Then e g' ss' ts es
   pub opened : open_past t (open_at g ss) ≡ open_at g' ss'
   pub next : IsFor g ss → next_past t ≡ next_at g' ss'
   pub past : IsFor g ss → is_past_directives g' ss' ≡ false
 
--- What is awaited here, where that token comes, goes on there after this event.
-abbrev pub Stays : (g : Goal) (ss : List State) → Option Tok → Option Raw → (g' : Goal) (ss' : List State) → Awaits g → Type 0
-Stays g ss p e g' ss' x = (r : Rest ss) → IsNext p (still_tokens g ss x r)
-    → (x' : Awaits g') × (r' : Rest ss') × (still_tokens g' ss' x' r' ≡ still_tokens g ss x r) × (still_events g ss x r ≡ event_then e (still_events g' ss' x' r'))
-
 -- The token may come here.
 abbrev pub MayCome : (g : Goal) (ss : List State) → Option Tok → Type 0
 MayCome g ss None = ⊥
-MayCome g ss (Some t) = (x : Awaits g) × (r : Rest ss) × (ts : List Tok) × (still_tokens g ss x r ≡ t ∷ ts)
+MayCome g ss (Some t) = (ts : List Tok) × (es : List Raw) × Awaits g ss (t ∷ ts) es
 
 -- What is read next there, where the token stays: a node just where one is read here; or none, since the token may come here without one,
 -- or is a directive where a document ends.
@@ -58,12 +47,12 @@ pub data Settles (g : Goal) (ss : List State) (p : Option Tok) (g' : Goal) (ss' 
 -- The token stays.
 pub record Leaves (g : Goal) (ss : List State) (p : Option Tok) (e : Option Raw) (g' : Goal) (ss' : List State) : Type 0 where
   pub nested : IsNested ss → IsFor g ss → IsNested ss' × IsFor g' ss'
-  pub comes : (x' : Awaits g') → Comes g ss [] e g' ss' x'
-  pub goes : IsNested ss → IsFor g ss → (x : Awaits g) → Stays g ss p e g' ss' x
+  pub comes : IsNested ss → IsFor g ss → (ts : List Tok) (es : List Raw) → Awaits g' ss' ts es → Awaits g ss ts (event_then e es)
+  pub goes : IsNested ss → IsFor g ss → (ts : List Tok) (es : List Raw) → IsNext p ts → Awaits g ss ts es → Then e g' ss' ts es
   pub opened : open_at g ss ≡ open_at g' ss'
   pub settles : IsFor g ss → Settles g ss p g' ss'
   pub past : IsFor g ss → is_past_directives g' ss' ≡ true → (is_past_directives g ss ≡ true) ⊎ IsNoDirective p
 
 -- Nothing that is awaited begins with that token.
 abbrev pub Refuses : (g : Goal) (ss : List State) → Tok → Type 0
-Refuses g ss t = IsNested ss → IsFor g ss → (x : Awaits g) (r : Rest ss) → IsNext (Some t) (still_tokens g ss x r) → ⊥
+Refuses g ss t = IsNested ss → IsFor g ss → (ts : List Tok) (es : List Raw) → Awaits g ss (t ∷ ts) es → ⊥

@@ -1,6 +1,6 @@
 -- Where each goal of a table can be read to an end, all work can.
 use Rattle.std.proofs.Common.{◌≡◌, List, [], ◌∷◌, ◌++◌, refl, ap, subst}
-use Rattle.defs_grammar.specs.Table.{Part, Table, Work, reading, saying, part_work, before, Derives, nothing_left, says, by_taking, by_leaving}
+use Rattle.defs_event.specs.Table.{Part, Table, Work, reading, saying, part_work, before, Derives, nothing_left, says, by_taking, by_leaving}
 use Rattle.proof_grammar.specs.Outcome.{Begins}
 
 pub before_along : {G T E H : Type 0} (a : Table G T E H) (h : H) (t : T) (ps : List (Part G E)) (w v : List (Work G E H)) → before a h t ps w ++ v ≡ before a h t ps (w ++ v)

@@ -2,11 +2,11 @@
 use Rattle.std.proofs.Common.{◌≡◌, ℕ, ◌<◌, Bool, true, false, ◌&&◌, nat_lt, List, [], ◌∷◌, Some, if◌then◌else◌, refl, subst}
 use Rattle.std.proofs.lemmas.Bool.{ltb-true}
 use Rattle.defs_token.specs.Token.{Style, Tok}
-use Rattle.defs_event.specs.Raw.{Raw}
-use Rattle.defs_grammar.specs.Table.{Part, Row, takes, leaves, Case, on, otherwise, row_of, reading, Derives, nothing_left, says, by_taking, by_leaving}
+use Rattle.defs_event.specs.Raw.{Raw, nothing_written}
+use Rattle.defs_event.specs.Table.{Part, Row, takes, leaves, Case, on, otherwise, row_of, reading, Derives, nothing_left, says, by_taking, by_leaving}
 use Rattle.defs_grammar.specs.Machine.{parts_weight}
-use Rattle.defs_grammar.specs.Grammar.{Held, key, value, Place, in_flow, in_block, in_pair, Goal, stream, documents, directives, explicit_document, document_end, node, after_anchor, after_tag, content, block_sequence_entries, indentless_sequence_entries, block_mapping_entries, block_mapping_value, flow_sequence_entries, flow_sequence_comma, flow_mapping_entries, flow_mapping_comma, flow_value, cases, grammar}
-use Rattle.defs_grammar.specs.Stream.{weight}
+use Rattle.defs_event.specs.Grammar.{Held, nothing_held, key, value, Place, in_flow, in_block, in_pair, Goal, stream, documents, directives, explicit_document, document_end, node, after_anchor, after_tag, content, block_sequence_entries, indentless_sequence_entries, block_mapping_entries, block_mapping_value, flow_sequence_entries, flow_sequence_comma, flow_mapping_entries, flow_mapping_comma, flow_value, cases, grammar}
+use Rattle.defs_grammar.specs.Reader.{weight}
 use Rattle.proof_grammar.proofs.Steps.{Falls}
 use Rattle.proof_grammar.proofs.Completions.{Completes}
 
@@ -94,35 +94,63 @@ shortest block_mapping_entries = Tok.block_end ∷ []
 shortest block_mapping_value = Tok.block_end ∷ []
 shortest _ = Tok.stream_end ∷ []
 
+-- what it says then
+abbrev pub text_event : Held → Raw
+text_event h = Raw.scalar [] Style.plain h.anchor h.tag
+
+abbrev pub after_text_events : Place → List Raw
+after_text_events (in_pair key) = nothing_written ∷ Raw.mapping_end ∷ []
+after_text_events (in_pair value) = Raw.mapping_end ∷ []
+after_text_events _ = []
+
+abbrev pub shortest_events : Goal → Held → List Raw
+shortest_events stream h = Raw.stream_start ∷ Raw.stream_end ∷ []
+shortest_events directives h = Raw.document_start h.directives ∷ text_event nothing_held ∷ Raw.document_end ∷ Raw.stream_end ∷ []
+shortest_events document_end h = Raw.document_end ∷ Raw.stream_end ∷ []
+shortest_events (node p) h = text_event h ∷ after_text_events p
+shortest_events (after_anchor p) h = text_event h ∷ after_text_events p
+shortest_events (after_tag p) h = text_event h ∷ after_text_events p
+shortest_events (content p) h = text_event h ∷ after_text_events p
+shortest_events flow_sequence_entries h = Raw.flow_sequence_end ∷ []
+shortest_events flow_sequence_comma h = Raw.flow_sequence_end ∷ []
+shortest_events flow_mapping_entries h = Raw.flow_mapping_end ∷ []
+shortest_events flow_mapping_comma h = Raw.flow_mapping_end ∷ []
+shortest_events flow_value h = text_event nothing_held ∷ []
+shortest_events block_sequence_entries h = Raw.sequence_end ∷ []
+shortest_events (indentless_sequence_entries s) h = Raw.sequence_end ∷ after_text_events (in_pair s)
+shortest_events block_mapping_entries h = Raw.mapping_end ∷ []
+shortest_events block_mapping_value h = nothing_written ∷ Raw.mapping_end ∷ []
+shortest_events _ h = Raw.stream_end ∷ []
+
 abbrev pub Ends : Goal → Held → Type 0
-Ends g h = (es : List Raw) × Derives grammar (reading g h ∷ []) (shortest g) es
+Ends g h = Derives grammar (reading g h ∷ []) (shortest g) (shortest_events g h)
 
 content_ends : (p : Place) (h : Held) → Ends (content p) h
-content_ends in_flow h = (_, by_taking _ refl (says nothing_left))
-content_ends in_block h = (_, by_taking _ refl (says nothing_left))
-content_ends (in_pair key) h = (_, by_taking _ refl (says (by_leaving _ refl (says (by_taking _ refl (says nothing_left))))))
-content_ends (in_pair value) h = (_, by_taking _ refl (says (by_taking _ refl (says nothing_left))))
+content_ends in_flow h = by_taking _ refl (says nothing_left)
+content_ends in_block h = by_taking _ refl (says nothing_left)
+content_ends (in_pair key) h = by_taking _ refl (says (by_leaving _ refl (says (by_taking _ refl (says nothing_left)))))
+content_ends (in_pair value) h = by_taking _ refl (says (by_taking _ refl (says nothing_left)))
 
 pub ends : (g : Goal) (h : Held) → Ends g h
-ends stream h = (_, by_taking _ refl (says (by_leaving _ refl (by_taking _ refl (says nothing_left)))))
-ends documents h = (_, by_leaving _ refl (by_taking _ refl (says nothing_left)))
-ends directives h = (_, by_taking _ refl (says (by_leaving _ refl (by_taking _ refl (says (by_leaving _ refl (says (by_taking _ refl (says nothing_left)))))))))
-ends explicit_document h = (_, by_taking _ refl (says nothing_left))
-ends document_end h = (_, by_leaving _ refl (says (by_taking _ refl (says nothing_left))))
-ends (node p) h = let c = content_ends p h in (c.0, by_leaving _ refl c.1)
-ends (after_anchor p) h = let c = content_ends p h in (c.0, by_leaving _ refl c.1)
-ends (after_tag p) h = let c = content_ends p h in (c.0, by_leaving _ refl c.1)
+ends stream h = by_taking _ refl (says (by_leaving _ refl (by_taking _ refl (says nothing_left))))
+ends documents h = by_leaving _ refl (by_taking _ refl (says nothing_left))
+ends directives h = by_taking _ refl (says (by_leaving _ refl (by_taking _ refl (says (by_leaving _ refl (says (by_taking _ refl (says nothing_left))))))))
+ends explicit_document h = by_taking _ refl (says nothing_left)
+ends document_end h = by_leaving _ refl (says (by_taking _ refl (says nothing_left)))
+ends (node p) h = by_leaving _ refl (content_ends p h)
+ends (after_anchor p) h = by_leaving _ refl (content_ends p h)
+ends (after_tag p) h = by_leaving _ refl (content_ends p h)
 ends (content p) h = content_ends p h
-ends block_sequence_entries h = (_, by_taking _ refl (says nothing_left))
-ends (indentless_sequence_entries key) h = (_, by_leaving _ refl (says (by_leaving _ refl (says (by_taking _ refl (says nothing_left))))))
-ends (indentless_sequence_entries value) h = (_, by_leaving _ refl (says (by_taking _ refl (says nothing_left))))
-ends block_mapping_entries h = (_, by_taking _ refl (says nothing_left))
-ends block_mapping_value h = (_, by_leaving _ refl (says (by_taking _ refl (says nothing_left))))
-ends flow_sequence_entries h = (_, by_taking _ refl (says nothing_left))
-ends flow_sequence_comma h = (_, by_taking _ refl (says nothing_left))
-ends flow_mapping_entries h = (_, by_taking _ refl (says nothing_left))
-ends flow_mapping_comma h = (_, by_taking _ refl (says nothing_left))
-ends flow_value h = (_, by_taking _ refl (by_leaving _ refl (by_taking _ refl (says nothing_left))))
+ends block_sequence_entries h = by_taking _ refl (says nothing_left)
+ends (indentless_sequence_entries key) h = by_leaving _ refl (says (by_leaving _ refl (says (by_taking _ refl (says nothing_left)))))
+ends (indentless_sequence_entries value) h = by_leaving _ refl (says (by_taking _ refl (says nothing_left)))
+ends block_mapping_entries h = by_taking _ refl (says nothing_left)
+ends block_mapping_value h = by_leaving _ refl (says (by_taking _ refl (says nothing_left)))
+ends flow_sequence_entries h = by_taking _ refl (says nothing_left)
+ends flow_sequence_comma h = by_taking _ refl (says nothing_left)
+ends flow_mapping_entries h = by_taking _ refl (says nothing_left)
+ends flow_mapping_comma h = by_taking _ refl (says nothing_left)
+ends flow_value h = by_taking _ refl (by_leaving _ refl (by_taking _ refl (says nothing_left)))
 
 pub grammar_completes : Completes grammar
-grammar_completes g h = let e = ends g h in (shortest g, e.0, e.1)
+grammar_completes g h = (shortest g, shortest_events g h, ends g h)

@@ -1,13 +1,16 @@
 -- The table reads what the derivations derive, and says what they say.
-use Rattle.std.proofs.Common.{◌≤◌, List, [], ◌∷◌, ◌++◌, Option, Some, None, refl, sym, subst, append_assoc, append-nil, arith}
+use Rattle.std.proofs.Common.{Bool, ◌≡◌, ◌≤◌, List, [], ◌∷◌, ◌++◌, Option, Some, None, refl, sym, subst, append_assoc, append-nil, arith}
 use Rattle.defs_token.specs.Token.{Tok}
 use Rattle.defs_event.specs.Raw.{Raw, Directive, nothing_written}
-use Rattle.defs_event.specs.Grammar.{Properties, anchored, tagged, anchored_tagged, tagged_anchored, FlowNode, flow_alias, flow_content, flow_properties, FlowContent, scalar, flow_sequence, flow_mapping, PerhapsFlow, no_flow, some_flow, Items, no_items, items, MoreItems, end_items, comma_end_items, comma_item, Item, single, single_pair, FlowValue, no_flow_value, flow_value, FlowPairs, no_flow_pairs, flow_pairs, MoreFlowPairs, end_flow_pairs, comma_end_flow_pairs, comma_flow_pair, FlowPair, flow_keyed, flow_keyless, flow_single, Node, block_alias, block_content, block_properties, Content, flow, block_sequence, block_mapping, Perhaps, no_node, some_node, Entries, end_entries, entry, Part, plain, indentless, Dashes, end_dashes, dash, Pairs, keyed, keyless, KeyPairs, end_pairs, key, AfterKey, value, no_value, Documents, marker, bare, directed, others, Explicit, end_stream, explicit, After, marked, unmarked, perhaps_properties_tokens, flow_node_tokens, flow_content_tokens, perhaps_flow_tokens, items_tokens, more_items_tokens, item_tokens, flow_value_tokens, flow_pairs_tokens, more_flow_pairs_tokens, flow_pair_tokens, node_tokens, content_tokens, perhaps_tokens, entries_tokens, part_tokens, dashes_tokens, pairs_tokens, key_pairs_tokens, after_key_tokens, directives_tokens, documents_tokens, explicit_tokens, after_tokens, stream_tokens, perhaps_anchor_of, perhaps_tag_of, flow_node_events, flow_content_events, perhaps_flow_events, items_events, more_items_events, item_events, flow_value_events, flow_pairs_events, more_flow_pairs_events, flow_pair_events, node_events, content_events, perhaps_events, entries_events, part_events, dashes_events, pairs_events, key_pairs_events, after_key_events, documents_events, explicit_events, after_events, stream_events}
-use Rattle.defs_event.proofs.OneReading.{rank, first, content_first, flow_node_first, node_first}
-use Rattle.defs_grammar.specs.Table.{Work, reading, saying, before, Derives, nothing_left, says, by_taking, by_leaving}
-use Rattle.defs_grammar.specs.Grammar as at
-use Rattle.defs_grammar.specs.Grammar.{Held, nothing_held, empty_event, Side, Place, in_flow, in_block, in_pair, Goal, node, content, after_anchor, after_tag, then_in, grammar}
-use Rattle.defs_grammar.specs.Stream.{StreamSays}
+use Rattle.defs_event.specs.Properties.{Properties, anchored, tagged, anchored_tagged, tagged_anchored, directives_tokens, perhaps_anchor_of, perhaps_tag_of}
+use Rattle.proof_grammar.specs.Derivations.{FlowNode, flow_alias, flow_content, flow_properties, FlowContent, scalar, flow_sequence, flow_mapping, PerhapsFlow, no_flow, some_flow, Items, no_items, items, MoreItems, end_items, comma_end_items, comma_item, Item, single, single_pair, FlowValue, no_flow_value, flow_value, FlowPairs, no_flow_pairs, flow_pairs, MoreFlowPairs, end_flow_pairs, comma_end_flow_pairs, comma_flow_pair, FlowPair, flow_keyed, flow_keyless, flow_single, Node, block_alias, block_content, block_properties, Content, flow, block_sequence, block_mapping, Perhaps, no_node, some_node, Entries, end_entries, entry, Part, plain, indentless, Dashes, end_dashes, dash, Pairs, keyed, keyless, KeyPairs, end_pairs, key, AfterKey, value, no_value, Documents, marker, bare, directed, others, Explicit, end_stream, explicit, After, marked, unmarked, perhaps_properties_tokens, flow_node_tokens, flow_content_tokens, perhaps_flow_tokens, items_tokens, more_items_tokens, item_tokens, flow_value_tokens, flow_pairs_tokens, more_flow_pairs_tokens, flow_pair_tokens, node_tokens, content_tokens, perhaps_tokens, entries_tokens, part_tokens, dashes_tokens, pairs_tokens, key_pairs_tokens, after_key_tokens, documents_tokens, explicit_tokens, after_tokens, stream_tokens, flow_node_events, flow_content_events, perhaps_flow_events, items_events, more_items_events, item_events, flow_value_events, flow_pairs_events, more_flow_pairs_events, flow_pair_events, node_events, content_events, perhaps_events, entries_events, part_events, dashes_events, pairs_events, key_pairs_events, after_key_events, documents_events, explicit_events, after_events, stream_events}
+use Rattle.proof_grammar.proofs.Firsts.{rank, first, content_first, flow_node_first, node_first}
+use Rattle.defs_event.specs.Table.{Work, reading, saying, before, Derives, nothing_left, says, by_taking, by_leaving}
+use Rattle.defs_event.specs.Grammar as at
+use Rattle.defs_event.specs.Grammar.{Held, nothing_held, empty_event, Side, Place, in_flow, in_block, in_pair, Goal, node, content, after_anchor, after_tag, then_in, grammar}
+use Rattle.defs_event.specs.Event.{Ev}
+use Rattle.defs_event.specs.Names.{named, no_names}
+use Rattle.defs_event.specs.Stream.{StreamSays, IsStream}
 use Rattle.proof_grammar.proofs.Next.{Next, next_above, more_items_next, flow_value_next, more_flow_pairs_next, entries_next, dashes_next, pairs_next, after_key_next, after_next, node_leaves, anchor_leaves, tag_leaves, after_rank, content_leaves, flow_value_leaves, dashes_leave, items_leave, flow_pairs_leave, documents_leave}
 
 abbrev pub Works : Type 0
@@ -263,3 +266,6 @@ mutual
 
 pub derived_says : (d : Documents) → StreamSays (stream_tokens d) (stream_events d)
 derived_says d = by_taking _ refl (says (documents_read d [] [] [] nothing_left))
+
+pub derived_stream : {keep_tags : Bool} (d : Documents) {tokens : List Tok} {events : List Ev} → stream_tokens d ≡ tokens → named keep_tags no_names (stream_events d) ≡ Some events → IsStream keep_tags tokens events
+derived_stream d h n = record { raws = stream_events d; says = subst (λ ts. StreamSays ts (stream_events d)) h (derived_says d); has_events = n }

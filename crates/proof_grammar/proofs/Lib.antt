@@ -1,15 +1,14 @@
 pub mod Completions
-pub mod Derived
 pub mod Falls
 pub mod Included
-pub mod Meanings
 pub mod Mended
-pub mod Nests
 pub mod Next
-pub mod OneReading
 pub mod Refused
 pub mod Runs
 pub mod Steps
 pub mod Streams
-pub mod Tests
 pub mod Track
+pub mod Firsts
+mod NoReadingRows
+mod PositionRows
+mod Rows

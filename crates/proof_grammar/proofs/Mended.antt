@@ -2,13 +2,14 @@
 use Rattle.std.proofs.Common.{◌≡◌, ◌⊎◌, inl, inr, ℕ, zero, suc, ◌<◌, Bool, true, false, List, [], ◌∷◌, ◌++◌, Some, None, if◌then◌else◌, refl, arith}
 use Rattle.defs_token.specs.Token.{Tok}
 use Rattle.defs_event.specs.Raw.{Raw, nothing_written}
-use Rattle.defs_grammar.specs.Table.{Part, read, keep, say, empty, Row, leaves, Case, on, otherwise, row_of, Work, reading, saying, before}
-use Rattle.defs_grammar.specs.Kinds.{begins_flow_node, begins_node}
+use Rattle.defs_event.specs.Table.{Part, read, keep, say, empty, Row, leaves, Case, on, otherwise, row_of, Work, reading, saying, before}
+use Rattle.defs_event.specs.Kinds.{begins_flow_node, begins_node}
 use Rattle.defs_grammar.specs.Machine.{work_weight, Turned, goes, refused, and_before, step}
-use Rattle.defs_grammar.specs.Grammar.{Held, nothing_held, Side, key, value, Place, in_flow, in_block, in_pair, Goal, stream, documents, directives, explicit_document, document_end, node, after_anchor, after_tag, content, block_sequence_entries, indentless_sequence_entries, block_mapping_entries, block_mapping_value, flow_sequence_entries, flow_sequence_comma, flow_mapping_entries, flow_mapping_comma, flow_value, cases, then_in, then_in_pair, grammar}
-use Rattle.defs_grammar.specs.Stream.{weight, whole_stream}
+use Rattle.defs_event.specs.Grammar.{Held, nothing_held, Side, key, value, Place, in_flow, in_block, in_pair, Goal, stream, documents, directives, explicit_document, document_end, node, after_anchor, after_tag, content, block_sequence_entries, indentless_sequence_entries, block_mapping_entries, block_mapping_value, flow_sequence_entries, flow_sequence_comma, flow_mapping_entries, flow_mapping_comma, flow_value, cases, then_in, then_in_pair, grammar}
+use Rattle.defs_event.specs.Stream.{whole_stream}
+use Rattle.defs_grammar.specs.Reader.{weight}
 use Rattle.proof_grammar.specs.Track.{ends_goal}
-use Rattle.proof_grammar.proofs.Meanings.{EachRow, row_holds}
+use Rattle.defs_event.proofs.Meanings.{EachRow, row_holds}
 use Rattle.proof_grammar.proofs.Runs.{AllKeep}
 use Rattle.proof_grammar.proofs.Falls.{grammar_falls, grammar_completes, ends}
 use Rattle.proof_grammar.proofs.Refused.{IsOpen, IsInStep, BottomRow, LeavingRow, EndsGoal, IsMended, all_keep}
@@ -215,10 +216,10 @@ abbrev Refusing : Goal → Type 0
 Refusing g = (has_otherwise (cases g) ≡ true) ⊎ ((h : Held) → EndsGoal grammar ends_goal g h)
 
 refusing : (g : Goal) → Refusing g
-refusing stream = inr (λ h. let e = ends stream h in (_, _, e.0, refl, e.1))
+refusing stream = inr (λ h. (_, _, _, refl, ends stream h))
 refusing documents = inl refl
-refusing directives = inr (λ h. let e = ends directives h in (_, _, e.0, refl, e.1))
-refusing explicit_document = inr (λ h. let e = ends explicit_document h in (_, _, e.0, refl, e.1))
+refusing directives = inr (λ h. (_, _, _, refl, ends directives h))
+refusing explicit_document = inr (λ h. (_, _, _, refl, ends explicit_document h))
 refusing document_end = inl refl
 refusing (node p) = inl refl
 refusing (after_anchor p) = inl refl
@@ -226,14 +227,14 @@ refusing (after_tag p) = inl refl
 refusing (content in_flow) = inl refl
 refusing (content in_block) = inl refl
 refusing (content (in_pair s)) = inl refl
-refusing block_sequence_entries = inr (λ h. let e = ends block_sequence_entries h in (_, _, e.0, refl, e.1))
+refusing block_sequence_entries = inr (λ h. (_, _, _, refl, ends block_sequence_entries h))
 refusing (indentless_sequence_entries s) = inl refl
-refusing block_mapping_entries = inr (λ h. let e = ends block_mapping_entries h in (_, _, e.0, refl, e.1))
+refusing block_mapping_entries = inr (λ h. (_, _, _, refl, ends block_mapping_entries h))
 refusing block_mapping_value = inl refl
-refusing flow_sequence_entries = inr (λ h. let e = ends flow_sequence_entries h in (_, _, e.0, refl, e.1))
-refusing flow_sequence_comma = inr (λ h. let e = ends flow_sequence_comma h in (_, _, e.0, refl, e.1))
-refusing flow_mapping_entries = inr (λ h. let e = ends flow_mapping_entries h in (_, _, e.0, refl, e.1))
-refusing flow_mapping_comma = inr (λ h. let e = ends flow_mapping_comma h in (_, _, e.0, refl, e.1))
+refusing flow_sequence_entries = inr (λ h. (_, _, _, refl, ends flow_sequence_entries h))
+refusing flow_sequence_comma = inr (λ h. (_, _, _, refl, ends flow_sequence_comma h))
+refusing flow_mapping_entries = inr (λ h. (_, _, _, refl, ends flow_mapping_entries h))
+refusing flow_mapping_comma = inr (λ h. (_, _, _, refl, ends flow_mapping_comma h))
 refusing flow_value = inl refl
 
 pub ended : (g : Goal) (h : Held) (t : Tok) → row_of (cases g) t ≡ None → EndsGoal grammar ends_goal g h

@@ -2,11 +2,11 @@
 use Rattle.std.proofs.Common.{◌≡◌, ℕ, ◌≤◌, List, [], ◌∷◌, Some, refl, arith}
 use Rattle.defs_token.specs.Token.{Tok}
 use Rattle.defs_event.specs.Raw.{Raw, nothing_written}
-use Rattle.defs_event.specs.Grammar.{MoreItems, end_items, comma_end_items, comma_item, FlowValue, no_flow_value, flow_value, MoreFlowPairs, end_flow_pairs, comma_end_flow_pairs, comma_flow_pair, Entries, end_entries, entry, Dashes, end_dashes, dash, Pairs, keyed, keyless, KeyPairs, end_pairs, key, AfterKey, value, no_value, Explicit, end_stream, explicit, After, marked, unmarked, more_items_tokens, flow_value_tokens, more_flow_pairs_tokens, entries_tokens, dashes_tokens, pairs_tokens, key_pairs_tokens, after_key_tokens, explicit_tokens, after_tokens}
-use Rattle.defs_event.proofs.OneReading.{rank}
-use Rattle.defs_grammar.specs.Table.{read, keep, say, empty, leaves, row_of}
-use Rattle.defs_grammar.specs.Grammar as at
-use Rattle.defs_grammar.specs.Grammar.{Side, Place, in_flow, in_block, in_pair, node, content, after_anchor, after_tag, cases, then_in, then_in_pair}
+use Rattle.proof_grammar.specs.Derivations.{MoreItems, end_items, comma_end_items, comma_item, FlowValue, no_flow_value, flow_value, MoreFlowPairs, end_flow_pairs, comma_end_flow_pairs, comma_flow_pair, Entries, end_entries, entry, Dashes, end_dashes, dash, Pairs, keyed, keyless, KeyPairs, end_pairs, key, AfterKey, value, no_value, Explicit, end_stream, explicit, After, marked, unmarked, more_items_tokens, flow_value_tokens, more_flow_pairs_tokens, entries_tokens, dashes_tokens, pairs_tokens, key_pairs_tokens, after_key_tokens, explicit_tokens, after_tokens}
+use Rattle.proof_grammar.proofs.Firsts.{rank}
+use Rattle.defs_event.specs.Table.{read, keep, say, empty, leaves, row_of}
+use Rattle.defs_event.specs.Grammar as at
+use Rattle.defs_event.specs.Grammar.{Side, Place, in_flow, in_block, in_pair, node, content, after_anchor, after_tag, cases, then_in, then_in_pair}
 
 -- There is a next token, and it has this rank or a higher one.
 abbrev pub Next : ℕ → List Tok → Type 0

@@ -1,6 +1,6 @@
 -- Which events come before a refusal: over any table whose rows for all other tokens are chosen by what ends a goal too.
 use Rattle.std.proofs.Common.{◌≡◌, ◌⊎◌, inl, inr, ℕ, zero, suc, ◌<◌, Bool, true, List, [], ◌∷◌, ◌++◌, Option, Some, None, refl, sym, ap, subst, arith, append-nil}
-use Rattle.defs_grammar.specs.Table.{Part, Row, takes, leaves, Table, row_of, Work, reading, saying, before, Derives, nothing_left, says, by_leaving}
+use Rattle.defs_event.specs.Table.{Part, Row, takes, leaves, Table, row_of, Work, reading, saying, before, Derives, nothing_left, says, by_leaving}
 use Rattle.defs_grammar.specs.Machine.{work_weight, Turned, goes, refused, and_before, by_row, step}
 use Rattle.proof_grammar.specs.Outcome.{Begins}
 use Rattle.proof_grammar.proofs.Steps.{Falls, parts_weigh}

@@ -1,6 +1,6 @@
 -- A machine's run, over any table whose rows fall and whose goals complete.
 use Rattle.std.proofs.Common.{◌≡◌, ℕ, ◌<◌, suc, List, [], ◌∷◌, ◌++◌, refl, sym, ap, subst, ◌∙◌, append_assoc, arith}
-use Rattle.defs_grammar.specs.Table.{Table, Work, reading, saying, Derives, nothing_left, says}
+use Rattle.defs_event.specs.Table.{Table, Work, reading, saying, Derives, nothing_left, says}
 use Rattle.defs_grammar.specs.Machine.{work_weight, Turned, goes, refused, step, Outcome, reads, unfinished, stops, after_events, finish, go_on, run}
 use Rattle.proof_grammar.specs.Outcome.{Begins, StopsRight, IsRight}
 use Rattle.proof_grammar.proofs.Steps.{Sound, step_sound, Falls, Follows, step_follows}

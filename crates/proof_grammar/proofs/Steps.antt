@@ -1,6 +1,6 @@
 -- A machine's turn at one token, over any table.
 use Rattle.std.proofs.Common.{◌≡◌, ℕ, zero, suc, ◌+◌, ◌<◌, List, [], ◌∷◌, ◌++◌, Option, Some, None, refl, sym, ap, subst, arith}
-use Rattle.defs_grammar.specs.Table.{Part, read, keep, hold, say, show, empty, Row, takes, leaves, Table, row_of, Work, reading, saying, part_work, before, Derives, says, by_taking, by_leaving}
+use Rattle.defs_event.specs.Table.{Part, read, keep, hold, say, show, empty, Row, takes, leaves, Table, row_of, Work, reading, saying, part_work, before, Derives, says, by_taking, by_leaving}
 use Rattle.defs_grammar.specs.Machine.{part_weight, parts_weight, work_weight, Turned, goes, refused, and_before, by_row, step}
 
 -- ---- what the machine reads, the table reads

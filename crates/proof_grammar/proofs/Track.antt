@@ -1,9 +1,10 @@
 -- The steps of a parser by a table: whatever the table, it stays on track.
-use Rattle.std.proofs.Common.{◌≡◌, ◌⊎◌, inl, inr, ℕ, suc, ◌<◌, Bool, true, false, List, [], ◌∷◌, ◌++◌, Option, Some, None, refl, sym, ap, subst, ◌∙◌, append_assoc, arith}
-use Rattle.defs_grammar.specs.Table.{Part, takes, leaves, Table, row_of, Work, reading, saying, before, Derives, says, by_taking, by_leaving}
-use Rattle.defs_grammar.specs.Machine.{work_weight, Turned, goes, refused, and_before, by_row, step}
-use Rattle.defs_grammar.specs.Grammar.{grammar}
-use Rattle.defs_grammar.specs.Stream.{weight, whole_stream}
+use Rattle.std.proofs.Common.{◌≡◌, inl, inr, ℕ, suc, Bool, true, false, List, [], ◌∷◌, ◌++◌, Option, Some, None, refl, sym, ap, subst, ◌∙◌, append_assoc, arith}
+use Rattle.defs_event.specs.Table.{Part, takes, leaves, Table, row_of, Work, reading, saying, before, Derives, says, by_taking, by_leaving}
+use Rattle.defs_grammar.specs.Machine.{work_weight, Turned, goes, refused, step}
+use Rattle.defs_event.specs.Grammar.{grammar}
+use Rattle.defs_event.specs.Stream.{whole_stream}
+use Rattle.defs_grammar.specs.Reader.{weight}
 use Rattle.proof_grammar.specs.Outcome.{Begins}
 use Rattle.proof_grammar.specs.Track.{MayBegin, IsNext, GoesOn, IsOnTrack, ends_goal, OnTrack}
 use Rattle.proof_grammar.specs.Laws.{ParsersStayOnTrack}

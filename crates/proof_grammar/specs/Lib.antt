@@ -1,3 +1,4 @@
 pub mod Laws
 pub mod Outcome
 pub mod Track
+pub mod Derivations

@@ -1,6 +1,6 @@
 -- What an outcome of a table's machine says of the tokens.
 use Rattle.std.specs.Prelude.{◌≡◌, List, ◌∷◌, ◌++◌}
-use Rattle.defs_grammar.specs.Table.{Table, Work, Derives}
+use Rattle.defs_event.specs.Table.{Table, Work, Derives}
 use Rattle.defs_grammar.specs.Machine.{Outcome, reads, unfinished, stops}
 
 -- This work reads these tokens and some after them, and says these events and some after them.

@@ -2,9 +2,9 @@
 use Rattle.std.specs.Prelude.{◌≡◌, ◌⊎◌, Bool, true, false, List, [], ◌∷◌, ◌++◌, Option, Some, None}
 use Rattle.defs_token.specs.Token.{Tok}
 use Rattle.defs_event.specs.Raw.{Raw}
-use Rattle.defs_grammar.specs.Table.{Table, Work, Derives}
-use Rattle.defs_grammar.specs.Grammar.{Held, Goal, grammar}
-use Rattle.defs_grammar.specs.Stream.{whole_stream}
+use Rattle.defs_event.specs.Table.{Table, Work, Derives}
+use Rattle.defs_event.specs.Grammar.{Held, Goal, grammar}
+use Rattle.defs_event.specs.Stream.{whole_stream}
 
 -- The tokens may begin so: where the next one was looked at, with it, or with one that ends a goal, if such are meant too.
 abbrev pub MayBegin : {T : Type 0} → (ends : T → Bool) → (too : Bool) → Option T → List T → Type 0

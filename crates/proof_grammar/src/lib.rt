@@ -1,4 +1,5 @@
-//! The table of the token grammar reads the streams of the derivations and no others: theorems about definitions alone.
+//! The machine that reads by the table of the token grammar, what derivations say by it, and a parser's way through it: theorems
+//! about definitions alone.
 #![tactic(auto)]
 
 pub mod laws;

@@ -74,7 +74,7 @@ all_are_pushed keep_tags tokens es stream =
 
 -- the same without positions
 pub placed_stream : (keep_tags : Bool) (tokens : List Token) (es : List (Ev × Position)) → IsPlacedStream keep_tags tokens es → IsStream keep_tags (toks tokens) (events_of es)
-placed_stream keep_tags tokens es s = record { documents = s.documents; has_tokens = s.has_tokens; has_events = s.has_events }
+placed_stream keep_tags tokens es s = record { raws = s.raws; says = s.says; has_events = s.has_events }
 
 -- The text's tokens are a stream, with its nested events.
 pub nested_is_stream : {keep_tags : Bool} {text : List ℕ} {es : List (Ev × Position)} (h : HasEvents keep_tags text es) → IsStream keep_tags (toks h.tokens) (nested_stream h.documents)
@@ -132,7 +132,7 @@ has_all_events text p scans s =
     let nested = stream_nests p.keep_tags (toks p.scanner.given) (events_of p.given) stream in
     record {
       tokens = p.scanner.given;
-      has = all_tokens text p.scanner.given s.documents scans.reached s.has_tokens;
+      has = all_tokens text p.scanner.given s.raws scans.reached s.says;
       stream = s;
       documents = nested.0;
       events_are = sym nested.1;

@@ -3,7 +3,7 @@ use Rattle.std.proofs.Common.{Bool, [], ◌∷◌, refl, sym, ap, ◌∙◌, sub
 use Rattle.defs_token.specs.Token.{Tok}
 use Rattle.defs_layout.specs.DumpsInTurn.{dump_texts}
 use Rattle.defs_layout.specs.LayoutTokens.{layout_tokens}
-use Rattle.defs_event.specs.Grammar.{others, end_stream}
+use Rattle.proof_grammar.proofs.Streams.{stream_by}
 use Rattle.proof_dumps.proofs.Whole.{dumps_are_laid_out_in_turn}
 use Rattle.proof_layout_trees.proofs.Layouts.Documents.{tokens_read_as_their_trees}
 use Rattle.proof_layout_tokens.proofs.Documents.{nothing_has_its_tokens}
@@ -18,7 +18,7 @@ nothing_is_read : (keep_tags : Bool) → IsReadAs keep_tags [] []
 nothing_is_read keep_tags = record {
   tokens = Tok.stream_start ∷ Tok.stream_end ∷ [];
   has = nothing_has_its_tokens;
-  read = record { documents = []; stream = record { documents = others end_stream; has_tokens = refl; has_events = refl }; trees_are = refl };
+  read = record { documents = []; stream = stream_by refl refl; trees_are = refl };
 }
 
 pub layouts_in_turn_are_read : LayoutsInTurnAreReadAsTheirTrees

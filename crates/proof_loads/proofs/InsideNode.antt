@@ -12,7 +12,6 @@ use Rattle.defs_event.specs.Names.{Names, no_names, named, both, names_after, re
 use Rattle.defs_event.specs.Scalar.{scalar_tree}
 use Rattle.defs_event.specs.Anchors.{Anchors, aliased, finished}
 use Rattle.defs_event.specs.Unfinished.{Opened, opened_sequence, opened_mapping, Unfinished, Step, reads, repeats, out_of_nesting, with_root, with_tree, with_node, with_start, with_sequence_end, with_mapping_end, with_document_end, with_event, Loader, at_work, noted, refused, new_loader, loader_after, with_event_at, with_events}
-use Rattle.defs_event.specs.Grammar.{stream_events}
 use Rattle.defs_event.specs.Stream.{events_of}
 use Rattle.proof_loads.specs.Documents.{IsOpen, AliasesInsideTheirNodeAreBadValues}
 
@@ -263,6 +262,6 @@ open_unfinished m n anchors (opened_mapping a ps w ∷ outer) h (inr o) = open_u
 
 pub aliases_are_bad : AliasesInsideTheirNodeAreBadValues
 aliases_are_bad keep_tags tokens before n more u stream work is_open =
-    let names_after = stands_after keep_tags no_names (stream_events stream.documents) new_loader before (Ev.alias n ∷ more) stream.has_events (record { low = tt; held = tt }) in
+    let names_after = stands_after keep_tags no_names stream.raws new_loader before (Ev.alias n ∷ more) stream.has_events (record { low = tt; held = tt }) in
     let stands : IsStillOpen names_after.0 u = subst (OfLoader names_after.0) work names_after.1 in
     ap (λ t. with_tree t u u.opened) (open_unfinished names_after.0 n u.anchors u.opened stands.held is_open)

@@ -39,5 +39,5 @@ of_the_row keep_tags text events without h =
     record {
       tokens = h.tokens;
       has = tokens_are_of_a_row text h.tokens (without_nul text without) h.has;
-      stream = record { documents = stream.documents; has_tokens = stream.has_tokens; has_events = stream.has_events };
+      stream = record { raws = stream.raws; says = stream.says; has_events = stream.has_events };
     }

@@ -5,7 +5,6 @@ use Rattle.defs_token.specs.Token.{Token}
 use Rattle.yaml_tokens.specs.ErrorReport.{ErrorReport}
 use Rattle.defs_event.specs.Event.{Ev}
 use Rattle.defs_event.specs.Raw.{Raw}
-use Rattle.defs_event.specs.Grammar.{stream_events}
 use Rattle.defs_event.specs.Names.{no_names}
 use Rattle.defs_token.specs.Toks.{toks}
 use Rattle.defs_event.specs.Stream.{events_of}
@@ -20,9 +19,7 @@ derived_steady {settings} {keep_tags} {tokens} {raw} {events} all d = record {
   more_raw = d.more_raw;
   more_events = d.more_events;
   stream = record {
-    documents = d.stream.documents;
-    has_tokens = d.stream.has_tokens;
-    has_raw = d.stream.has_raw;
+    says = d.stream.says;
     has_events = sym (since_same settings keep_tags no_names (raw ++ d.more_raw) all) ∙ d.stream.has_events;
     has_positions = d.stream.has_positions;
   };
@@ -37,7 +34,7 @@ blames_steady {f} {settings} {keep_tags} {tokens} {events} all b = record {
   whole = b.whole;
   raw = b.raw;
   derived = derived_steady all b.derived;
-  unnamed = λ d ts es has named. b.unnamed d ts es has (since_same settings keep_tags no_names (stream_events d) all ∙ named);
+  unnamed = λ ts raw es d named. b.unnamed ts raw es d (since_same settings keep_tags no_names raw all ∙ named);
   problem = b.problem;
   shown = b.shown;
   fits_it = b.fits_it;

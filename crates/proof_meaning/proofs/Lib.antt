@@ -1,1 +1,2 @@
 pub mod Meanings
+mod MeaningRows

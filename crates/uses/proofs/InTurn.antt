@@ -4,11 +4,10 @@ use Rattle.std.specs.Prelude.{chars, string_bytes, String}
 use Rattle.std.proofs.lemmas.Str.{chars-nil, chars-append, chars-encodes, IsUtf8-string_bytes}
 use Rattle.std.proofs.lemmas.List.Elements.{All-nil, All-cons, All-head, All-tail}
 use lib.ListN.{get_or}
-use Rattle.yaml_rust2.specs.Text.{up_to_nul}
+use Rattle.yaml_rust2.specs.Text.{up_to_nul, string_chars}
 use Rattle.yaml_rust2.specs.DumpIsInjective.{CanBeWritten}
 use Rattle.yaml_rust2.specs.DumpText.{dump_text}
 use Rattle.yaml_rust2.specs.DumpsInTurn.{dump_texts}
-use Rattle.yaml_rust2.specs.Text.{string_chars}
 use Rattle.yaml_rust2.specs.TextReadAs.{IsReadAs}
 use Rattle.yaml_rust2.specs.Tree.{Tree}
 use Rattle.yaml_rust2.specs.ValidTree.{IsValid}

@@ -9,7 +9,6 @@ use Rattle.defs_token.specs.Toks.{toks}
 use Rattle.defs_tree.specs.Tree.{Tree}
 use Rattle.yaml_tokens.specs.ErrorReport.{ErrorReport}
 use Rattle.defs_event.specs.Event.{Ev}
-use Rattle.defs_event.specs.Grammar.{stream_events}
 use Rattle.defs_event.specs.Laws.{HasRead}
 use Rattle.defs_event.specs.Nested.{IsNested}
 use Rattle.defs_event.specs.Reading.{reading}
@@ -73,7 +72,7 @@ module _ {old now : Parsed} (b : IsBetween old) (c : Ended old now) where
   its_aliases =
       let s = stream_begins b.plain c in
       let more = s.1.more_events in
-      let all : AreOwn 0 0 (events_of ((old.given ++ all_of c) ++ more)) = stream_own now.keep_tags (stream_events s.1.stream.documents) (events_of ((old.given ++ all_of c) ++ more)) s.1.stream.has_events in
+      let all : AreOwn 0 0 (events_of ((old.given ++ all_of c) ++ more)) = stream_own now.keep_tags s.1.stream.raws (events_of ((old.given ++ all_of c) ++ more)) s.1.stream.has_events in
       let first : AreOwn 0 0 (events_of (old.given ++ all_of c)) =
       own_first 0 0 (events_of (old.given ++ all_of c)) (events_of more) (subst (AreOwn 0 0) (parts (old.given ++ all_of c) more) all) in
       own_rest 0 0 (events_of old.given) (events_of (all_of c)) (subst (AreOwn 0 0) (parts old.given (all_of c)) first)

@@ -95,7 +95,7 @@ says_all {old} {now} text r scans =
     let was = one_by_one nested.0 (read now) (sym nested.1) in
     record {
       tokens = toks tokens;
-      has = (tokens, all_tokens text tokens whole.stream.documents scans.reached whole.stream.has_tokens, refl);
+      has = (tokens, all_tokens text tokens whole.stream.raws scans.reached whole.stream.says, refl);
       read = record {
         documents = nested.0;
         stream = subst (λ k. IsStream k (toks tokens) (nested_stream nested.0)) h.plain.keep_tags (subst (IsStream now.keep_tags (toks tokens)) (sym nested.1) stream);

@@ -34,8 +34,8 @@ same_events keep_tags text ts us es fs h k x y =
 
 pub one_list_of_pulled_events : OneListOfPulledEvents
 one_list_of_pulled_events p q text setting scans scanned x y =
-    let has = all_tokens text p.scanner.given x.stream.documents scans.reached x.stream.has_tokens in
-    let had = all_tokens text q.scanner.given y.stream.documents scanned.reached y.stream.has_tokens in
+    let has = all_tokens text p.scanner.given x.stream.raws scans.reached x.stream.says in
+    let had = all_tokens text q.scanner.given y.stream.raws scanned.reached y.stream.says in
     same_events q.keep_tags text p.scanner.given q.scanner.given (read p) (read q) has had (subst (λ k. IsPlacedStream k p.scanner.given (read p)) setting x.stream) y.stream
 
 -- a load that ended well pushed all events of its text

@@ -2,7 +2,7 @@
 use Rattle.std.proofs.Common.{◌≡◌, List, [], ◌∷◌, None, refl}
 use Rattle.defs_token.specs.Token.{Style, Tok}
 use Rattle.defs_event.specs.Raw.{Raw, nothing_written}
-use Rattle.defs_event.specs.Grammar.{scalar, flow, flow_sequence, no_items, block_content, block_sequence, flow_content, flow_mapping, flow_pairs, flow_keyed, some_flow, no_flow_value, flow_single, end_flow_pairs, comma_flow_pair, some_node, end_entries, entry, bare, end_stream, unmarked}
+use Rattle.proof_grammar.proofs.Streams.{says_by}
 use Rattle.yaml_tokens.specs.declared.problem.Problem.TheVariants.{NodeContent, FlowMappingEntry}
 use Rattle.defs_event.specs.Place.{block_mapping, flow_mapping as in_braces, open_after, node_next, directive_next, other_next, next_after}
 use Rattle.yaml_parser.specs.Apart.{StandsApart}
@@ -48,18 +48,14 @@ no_scalar_after_dash = record {
   event = Raw.scalar [] Style.plain None None;
   other_event = Raw.flow_sequence_start None None;
   one = record {
-    documents = bare (block_content None (block_sequence (entry (some_node (block_content None (flow (scalar Style.plain [])))) end_entries))) (unmarked end_stream);
     more_tokens = Tok.block_end ∷ Tok.stream_end ∷ [];
     more_events = Raw.sequence_end ∷ Raw.document_end ∷ Raw.stream_end ∷ [];
-    has_tokens = refl;
-    has_events = refl;
+    says = says_by refl;
   };
   other = record {
-    documents = bare (block_content None (block_sequence (entry (some_node (block_content None (flow (flow_sequence no_items)))) end_entries))) (unmarked end_stream);
     more_tokens = Tok.flow_sequence_end ∷ Tok.block_end ∷ Tok.stream_end ∷ [];
     more_events = Raw.flow_sequence_end ∷ Raw.sequence_end ∷ Raw.document_end ∷ Raw.stream_end ∷ [];
-    has_tokens = refl;
-    has_events = refl;
+    says = says_by refl;
   };
   two_events = λ e. cc;
 }
@@ -70,18 +66,14 @@ value_after_key = record {
   event = Raw.flow_mapping_end;
   other_event = Raw.scalar [] Style.plain None None;
   one = record {
-    documents = bare (block_content None (flow (flow_mapping (flow_pairs (flow_keyed (some_flow (flow_content None (scalar Style.plain []))) no_flow_value) end_flow_pairs)))) (unmarked end_stream);
     more_tokens = Tok.stream_end ∷ [];
     more_events = Raw.document_end ∷ Raw.stream_end ∷ [];
-    has_tokens = refl;
-    has_events = refl;
+    says = says_by refl;
   };
   other = record {
-    documents = bare (block_content None (flow (flow_mapping (flow_pairs (flow_keyed (some_flow (flow_content None (scalar Style.plain []))) no_flow_value) (comma_flow_pair (flow_single (flow_content None (scalar Style.plain []))) end_flow_pairs))))) (unmarked end_stream);
     more_tokens = Tok.scalar Style.plain [] ∷ Tok.flow_mapping_end ∷ Tok.stream_end ∷ [];
     more_events = nothing_written ∷ Raw.flow_mapping_end ∷ Raw.document_end ∷ Raw.stream_end ∷ [];
-    has_tokens = refl;
-    has_events = refl;
+    says = says_by refl;
   };
   two_events = λ e. cc;
 }

@@ -14,9 +14,9 @@ use Rattle.yaml_scanner_state.specs.Tokens.{is_end}
 use Rattle.defs_event.specs.Event.{Ev}
 use Rattle.defs_event.specs.Raw as raw
 use Rattle.defs_event.specs.Raw.{Raw, Directive}
-use Rattle.defs_event.specs.Grammar.{directive_token, directives_tokens, perhaps_events, after_events}
+use Rattle.defs_event.specs.Properties.{directive_token, directives_tokens}
 use Rattle.defs_event.specs.Names as defs
-use Rattle.defs_event.specs.Names.{declared, versions, is_each_once, are_allowed, at_document, under_name}
+use Rattle.defs_event.specs.Names.{named, declared, versions, is_each_once, are_allowed, at_document, under_name}
 use Rattle.defs_token.specs.Toks.{toks}
 use Rattle.defs_event.specs.Stream.{events_of, gives_position, is_comma}
 use Rattle.model_parser.specs.declared.kind.Kind.{Kind}
@@ -25,7 +25,11 @@ use Rattle.model_parser.specs.declared.context.NodeContext.TheVariants as contex
 use Rattle.model_parser.specs.declared.state.State.TheVariants as state
 use Rattle.model_parser.specs.Kinds.{kind_of, begins_node, is_directive}
 use Rattle.model_parser.specs.Goal as at
-use Rattle.model_parser.specs.Rest.{rest_events}
+use Rattle.model_parser.specs.Rest.{Works, works, with_directives}
+use Rattle.defs_event.specs.Table.{reading, Derives}
+use Rattle.defs_event.specs.Grammar as table
+use Rattle.defs_event.specs.Grammar.{grammar}
+use Rattle.model_parser.proofs.Rows.{row_taken, no_row, said, needs_tokens}
 use Rattle.model_parser.specs.Turn.{Takes, Leaves}
 use Rattle.model_parser.proofs.First.{tok_is}
 use Rattle.model_parser.proofs.Document as turn
@@ -207,6 +211,21 @@ version_is_other e = cc
 handle_is_other : RepeatedHandle ≡ UndeclaredHandle → ⊥
 handle_is_other e = cc
 
+more_of : (ds : List Directive) (d : Directive) (es : List Raw) → (more : List Directive) × (fs : List Raw) × (es ≡ Raw.document_start ((ds ++ d ∷ []) ++ more) ∷ fs) → (more : List Directive) × (fs : List Raw) × (es ≡ Raw.document_start (ds ++ more) ∷ fs)
+more_of ds d es x = (d ∷ x.0, x.1, x.2 ∙ ap (λ y. Raw.document_start y ∷ x.1) (append_assoc ds (d ∷ []) x.0))
+
+-- Where directives are read, a document's start comes with these and some more.
+directives_say : (ds : List Directive) (w : Works) (ts : List Tok) (es : List Raw) → Derives grammar (reading table.directives (with_directives ds) ∷ w) ts es → (more : List Directive) × (fs : List Raw) × (es ≡ Raw.document_start (ds ++ more) ∷ fs)
+directives_say ds w [] es d = absurd (needs_tokens (reading table.directives (with_directives ds) ∷ w) es refl d)
+directives_say ds w (Tok.version_directive m n ∷ ts) es d =
+    more_of ds (raw.version m n) es (directives_say (ds ++ raw.version m n ∷ []) w ts es (row_taken table.directives (with_directives ds) w (Tok.version_directive m n) ts es _ refl d))
+directives_say ds w (Tok.tag_directive x y ∷ ts) es d =
+    more_of ds (raw.tag x y) es (directives_say (ds ++ raw.tag x y ∷ []) w ts es (row_taken table.directives (with_directives ds) w (Tok.tag_directive x y) ts es _ refl d))
+directives_say ds w (Tok.document_start ∷ ts) es d =
+    let s = said _ _ ts es (row_taken table.directives (with_directives ds) w Tok.document_start ts es _ refl d) in
+    ([], s.0, s.1 ∙ ap (λ x. Raw.document_start x ∷ s.0) (sym (append-nil ds)))
+directives_say ds w (t ∷ ts) es d = absurd (no_row table.directives (with_directives ds) w t ts es refl d)
+
 -- Directives that are not allowed are refused with the last one.
 refused_directive : {T : Type 0} {p r : Reader T} {t : Token} {m : Position} (q : Problem) (read : List Directive) (d : Directive) {names : defs.Names} {given : List (Ev × Position)}
     → fits q (kind_of (directive_token d)) ≡ true → is_of_names q ≡ true → (q ≡ UndeclaredHandle → ⊥) → t.0 ≡ m → p.tokens.peeked ≡ Some t → Skips p.tokens t r.tokens → r.names.keeping ≡ p.names.keeping → tok_of t.1 ≡ directive_token d → ((more : List Directive) → are_allowed ((read ++ d ∷ []) ++ more) ≡ false)
@@ -214,7 +233,9 @@ refused_directive : {T : Type 0} {p r : Reader T} {t : Token} {m : Position} (q 
     → At (at.directed read) p names given → Faulted r given (stop.Own (fault.At q m))
 refused_directive {T} {p} {r} {t} {m} q read d {names} {given} fit of_names other mark here skips keep tok bad taken cause apart a =
     unnamed_at q (ap (λ u. fits q (kind_of u)) tok ∙ fit) of_names (inl (sym mark, λ e. absurd (other e))) here skips keep (subst (λ u. Takes (at.directed read) p.stack u None (at.directed (read ++ d ∷ [])) p.stack) (sym tok) (turn.directed_more p.stack read d))
-    (λ x y. unnameable_first p.names.keeping.tags names (Raw.document_start ((read ++ d ∷ []) ++ x.0)) (perhaps_events x.1 (after_events x.2 (rest_events p.stack y))) (ap (λ b. if b then Some Ev.document_start else None) (bad x.0)))
+    (λ ts es x.
+    let s = directives_say (read ++ d ∷ []) (works p.stack) ts es x.0 in
+    ap (named p.names.keeping.tags names) s.2 ∙ unnameable_first p.names.keeping.tags names (Raw.document_start ((read ++ d ∷ []) ++ s.0)) s.1 (ap (λ b. if b then Some Ev.document_start else None) (bad s.0)))
     (cause _ _ (record { earlier = taken.0; read = read; directive = d; before_are = taken.1; last_is = tok; allowed = a.pending; spoilt = ap are_allowed (sym (append-nil (read ++ d ∷ []))) ∙ bad [] })) apart a
 
 -- A second version is refused.

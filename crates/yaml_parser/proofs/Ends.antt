@@ -1,24 +1,21 @@
 -- The shortest way to the end from each position: so no fault is late.
-use Rattle.std.proofs.Common.{◌≡◌, List, [], ◌∷◌, ◌++◌, Option, Some, None, option_map, Bool, true, false, refl, sym, ap, ◌∙◌, subst, append-nil, append_assoc, if◌then◌else◌, map, inl}
+use Rattle.std.proofs.Common.{◌≡◌, List, [], ◌∷◌, ◌++◌, Some, option_map, Bool, true, false, refl, sym, ap, ◌∙◌, subst, append_assoc, map, inl}
 use Rattle.std.proofs.lemmas.Bool.{both_ways}
 use Rattle.std.proofs.lemmas.List.{map-append}
-use Rattle.std.specs.Option.{IsSome, IfSome}
+use Rattle.std.specs.Option.{IfSome}
 use Rattle.defs_text.specs.Position.{Position}
 use Rattle.defs_token.specs.Token.{Style, Tok}
 use Rattle.defs_event.specs.Event.{Ev}
 use Rattle.defs_event.specs.Raw.{Raw}
-use Rattle.defs_event.specs.Grammar.{anchor_of, tag_of, Documents, stream_tokens}
-use Rattle.defs_event.specs.Names.{Names, number, named, both, names_after, resolved_event, resolved, perhaps_resolved, are_allowed, no_names}
+use Rattle.defs_event.specs.Names.{Names, named, names_after, resolved_event, no_names}
 use Rattle.defs_event.proofs.NameLemmas.{both_some}
-use Rattle.defs_event.specs.Stream.{Before, nothing_before, place_of, events_of, positions_of, taken_positions, given_after, given_positions}
-use Rattle.model_parser.specs.declared.context.NodeContext.TheVariants as context
+use Rattle.defs_event.specs.Stream.{nothing_before, events_of, positions_of, taken_positions, given_positions, StreamSays}
 use Rattle.model_parser.specs.declared.state.State.{State}
 use Rattle.model_parser.specs.declared.state.State.TheVariants as state
-use Rattle.model_parser.specs.Goal as at
-use Rattle.model_parser.specs.Goal.{Goal, goal_events, goal_tokens}
-use Rattle.model_parser.proofs.Shortest.{shortest, ending}
-use Rattle.model_parser.specs.Rest.{rest_events, rest_tokens, goal_of, still_tokens, still_events}
+use Rattle.model_parser.specs.Goal.{Goal}
+use Rattle.model_parser.specs.Rest.{goal_of}
 use Rattle.yaml_parser.specs.declared.reader.Reader.{Reader}
+use Rattle.yaml_parser.proofs.Completed.{token_nowhere, event_nowhere, position_nowhere, completed}
 use Rattle.defs_token.specs.Token as defs
 use Rattle.yaml_tokens.specs.declared.token.Token.{Token}
 use Rattle.yaml_tokens.specs.Shown.{shown, all_shown, tok_of}
@@ -34,7 +31,7 @@ use Rattle.yaml_parser.specs.Kinds.{IsOfKind}
 use Rattle.yaml_parser.proofs.Steps.{map_snoc, looked, if_some_at}
 use Rattle.yaml_parser.proofs.Positions.{taken_positions_append, given_after_append, positions_length}
 use Rattle.yaml_parser.specs.Handed.{taken_toks, peeked_tok, before_next, shown_list}
-use Rattle.yaml_parser.specs.At.{At, Faulted, IsPending, may_follow_comma, names_by}
+use Rattle.yaml_parser.specs.At.{At, Faulted, IsPending, names_by}
 use Rattle.yaml_parser.specs.Blames.{fits, problem_of, is_of_names, IsCause}
 use Rattle.yaml_parser.proofs.Since.{since_append}
 use Rattle.yaml_parser.specs.Apart.{StandsApart}
@@ -43,178 +40,11 @@ use Rattle.yaml_parser.specs.declared.tokens.Stop.TheVariants as stop
 use Rattle.yaml_tokens.specs.declared.problem.Problem.{Problem}
 use Rattle.yaml_tokens.specs.declared.problem.Fault.TheVariants as fault
 
--- ---- it can be named
-
-abbrev pub Nameable : Bool → Names → List Raw → Type 0
-Nameable keep s es = (vs : List Ev) × (named keep s es ≡ Some vs)
-
-abbrev pub AnyNameable : Bool → List Raw → Type 0
-AnyNameable keep es = (s : Names) → Nameable keep s es
-
-name_one : (keep : Bool) (s : Names) (e : Raw) (es : List Raw) {v : Ev} → resolved_event s e ≡ Some v → AnyNameable keep es → Nameable keep s (e ∷ es)
-name_one keep s e es {v} h f = let n = f (names_after keep s e) in (v ∷ n.0, ap (λ o. both o (named keep (names_after keep s e) es)) h ∙ ap (λ o. both (Some v) o) n.1)
-
-nothing : (keep : Bool) (s : Names) (es : List Raw) → AnyNameable keep es → Nameable keep s (Raw.empty_scalar None None ∷ es)
-nothing keep s es f = name_one keep s (Raw.empty_scalar None None) es refl f
-
-sequence_end : (keep : Bool) (s : Names) (es : List Raw) → AnyNameable keep es → Nameable keep s (Raw.sequence_end ∷ es)
-sequence_end keep s es f = name_one keep s Raw.sequence_end es refl f
-
-brackets_end : (keep : Bool) (s : Names) (es : List Raw) → AnyNameable keep es → Nameable keep s (Raw.flow_sequence_end ∷ es)
-brackets_end keep s es f = name_one keep s Raw.flow_sequence_end es refl f
-
-mapping_end : (keep : Bool) (s : Names) (es : List Raw) → AnyNameable keep es → Nameable keep s (Raw.mapping_end ∷ es)
-mapping_end keep s es f = name_one keep s Raw.mapping_end es refl f
-
-braces_end : (keep : Bool) (s : Names) (es : List Raw) → AnyNameable keep es → Nameable keep s (Raw.flow_mapping_end ∷ es)
-braces_end keep s es f = name_one keep s Raw.flow_mapping_end es refl f
-
-word : (keep : Bool) (s : Names) (es : List Raw) → AnyNameable keep es → Nameable keep s (Raw.scalar [] Style.plain None None ∷ es)
-word keep s es f = name_one keep s (Raw.scalar [] Style.plain None None) es refl f
-
-finish : (keep : Bool) (s : Names) (es : List Raw) → AnyNameable keep es → Nameable keep s (Raw.stream_end ∷ es)
-finish keep s es f = name_one keep s Raw.stream_end es refl f
-
-document_end : (keep : Bool) (s : Names) (es : List Raw) → AnyNameable keep es → Nameable keep s (Raw.document_end ∷ es)
-document_end keep s es f = name_one keep s Raw.document_end es refl f
-
--- a document without a node, and the stream's end
-last_document : (keep : Bool) (es : List Raw) → AnyNameable keep es → AnyNameable keep (Raw.empty_scalar None None ∷ Raw.document_end ∷ Raw.stream_end ∷ es)
-last_document keep es f s = nothing keep s (Raw.document_end ∷ Raw.stream_end ∷ es) (λ s1. document_end keep s1 (Raw.stream_end ∷ es) (λ s2. finish keep s2 es f))
-
-is_some_value : {A : Type 0} (o : Option A) → IsSome o → (x : A) × (o ≡ Some x)
-is_some_value None h = cc
-is_some_value (Some x) h = (x, refl)
-
-pub completes : (g : Goal) (keep : Bool) (s : Names) (r : List Raw) → IsPending s g → AnyNameable keep r → Nameable keep s (goal_events g (shortest g) r)
-completes at.done keep s r p f = f s
-completes at.ended keep s r p f = f s
-completes at.start keep s r p f = name_one keep s Raw.stream_start (Raw.stream_end ∷ r) refl (λ s1. finish keep s1 r f)
-completes at.documents keep s r p f = finish keep s r f
-completes at.explicit keep s r p f = finish keep s r f
-completes (at.directed ds) keep s r p f =
-    let h : are_allowed (ds ++ []) ≡ true = ap are_allowed (append-nil ds) ∙ p in
-    name_one keep s (Raw.document_start (ds ++ [])) (Raw.empty_scalar None None ∷ Raw.document_end ∷ Raw.stream_end ∷ r) (ap (λ b. if b then Some Ev.document_start else None) h) (last_document keep r f)
-completes at.content keep s r p f = last_document keep r f s
-completes at.after keep s r p f = document_end keep s (Raw.stream_end ∷ r) (λ s1. finish keep s1 r f)
-completes (at.node context.Flow) keep s r p f = word keep s r f
-completes (at.node context.Block) keep s r p f = word keep s r f
-completes (at.node context.Part) keep s r p f = word keep s r f
-completes (at.after_anchor q a) keep s r p f = name_one keep s (Raw.empty_scalar (Some a) None) r refl f
-completes (at.after_tag q t) keep s r p f =
-    let u = is_some_value (resolved s.handles t) p in
-    name_one keep s (Raw.empty_scalar None (Some t)) r (ap (λ o. option_map (λ x. Ev.scalar [] Style.plain 0 x) (option_map Some o)) u.1) f
-completes (at.after_properties q (Some o)) keep s r p f =
-    let u = is_some_value (perhaps_resolved s.handles (tag_of o)) p in
-    name_one keep s (Raw.empty_scalar (anchor_of o) (tag_of o)) r (ap (λ x. option_map (λ y. Ev.scalar [] Style.plain (number s (anchor_of o)) y) x) u.1) f
-completes (at.after_properties context.Flow None) keep s r p f = word keep s r f
-completes (at.after_properties context.Block None) keep s r p f = word keep s r f
-completes (at.after_properties context.Part None) keep s r p f = word keep s r f
-completes at.entries keep s r p f = sequence_end keep s r f
-completes at.entry keep s r p f = nothing keep s (Raw.sequence_end ∷ r) (λ s1. sequence_end keep s1 r f)
-completes at.dashes keep s r p f = sequence_end keep s r f
-completes at.dashed keep s r p f = nothing keep s (Raw.sequence_end ∷ r) (λ s1. sequence_end keep s1 r f)
-completes at.part keep s r p f = nothing keep s r f
-completes at.pairs keep s r p f = mapping_end keep s r f
-completes at.key_pairs keep s r p f = mapping_end keep s r f
-completes at.after_key keep s r p f = nothing keep s (Raw.mapping_end ∷ r) (λ s1. mapping_end keep s1 r f)
-completes at.items keep s r p f = brackets_end keep s r f
-completes at.more_items keep s r p f = brackets_end keep s r f
-completes at.comma_items keep s r p f = brackets_end keep s r f
-completes at.item keep s r p f = word keep s (Raw.flow_sequence_end ∷ r) (λ s1. brackets_end keep s1 r f)
-completes at.pair_key keep s r p f = nothing keep s (Raw.empty_scalar None None ∷ Raw.mapping_end ∷ Raw.flow_sequence_end ∷ r) (λ s1. nothing keep s1 (Raw.mapping_end ∷ Raw.flow_sequence_end ∷ r) (λ s2. mapping_end keep s2 (Raw.flow_sequence_end ∷ r) (λ s3. brackets_end keep s3 r f)))
-completes at.pair_value keep s r p f = nothing keep s (Raw.mapping_end ∷ Raw.flow_sequence_end ∷ r) (λ s1. mapping_end keep s1 (Raw.flow_sequence_end ∷ r) (λ s2. brackets_end keep s2 r f))
-completes at.pair_valued keep s r p f = nothing keep s (Raw.mapping_end ∷ Raw.flow_sequence_end ∷ r) (λ s1. mapping_end keep s1 (Raw.flow_sequence_end ∷ r) (λ s2. brackets_end keep s2 r f))
-completes at.pair_end keep s r p f = mapping_end keep s (Raw.flow_sequence_end ∷ r) (λ s1. brackets_end keep s1 r f)
-completes at.flow_pairs keep s r p f = braces_end keep s r f
-completes at.more_flow_pairs keep s r p f = braces_end keep s r f
-completes at.comma_flow_pairs keep s r p f = nothing keep s (Raw.empty_scalar None None ∷ Raw.flow_mapping_end ∷ r) (λ s1. nothing keep s1 (Raw.flow_mapping_end ∷ r) (λ s2. braces_end keep s2 r f))
-completes at.flow_pair keep s r p f = nothing keep s (Raw.empty_scalar None None ∷ Raw.flow_mapping_end ∷ r) (λ s1. nothing keep s1 (Raw.flow_mapping_end ∷ r) (λ s2. braces_end keep s2 r f))
-completes at.flow_key keep s r p f = nothing keep s (Raw.empty_scalar None None ∷ Raw.flow_mapping_end ∷ r) (λ s1. nothing keep s1 (Raw.flow_mapping_end ∷ r) (λ s2. braces_end keep s2 r f))
-completes at.flow_after_key keep s r p f = nothing keep s (Raw.flow_mapping_end ∷ r) (λ s1. braces_end keep s1 r f)
-completes at.flow_valued keep s r p f = nothing keep s (Raw.flow_mapping_end ∷ r) (λ s1. braces_end keep s1 r f)
-completes at.flow_empty keep s r p f = nothing keep s (Raw.flow_mapping_end ∷ r) (λ s1. braces_end keep s1 r f)
+-- ---- what comes of the tokens
 
 pub state_pending : (s : State) (names : Names) → IsPending names (goal_of s)
 state_pending state.StreamStart n = tt
 state_pending _ n = tt
-
-pub rest_nameable : (keep : Bool) (ss : List State) → AnyNameable keep (rest_events ss (ending ss))
-rest_nameable keep [] s = ([], refl)
-rest_nameable keep (x ∷ ss) s = completes (goal_of x) keep s _ (state_pending x s) (rest_nameable keep ss)
-
--- ---- and placed
-
--- where no position is known
-abbrev pub token_nowhere : Tok → defs.Token
-token_nowhere t = record { position = record { index = 0; line = 1; col = 0 }; tok = t }
-
-abbrev pub event_nowhere : Ev → Ev × Position
-event_nowhere v = (v, record { index = 0; line = 1; col = 0 })
-
-abbrev pub position_nowhere : Raw → Position
-position_nowhere e = record { index = 0; line = 1; col = 0 }
-
--- as many events with a position as tokens, where no comma stands right before them
-abbrev pub AreEven : List Raw → List Tok → Type 0
-AreEven es ts = (b : Before) → b.comma ≡ None → taken_positions es (map position_nowhere es) ≡ given_after b (map token_nowhere ts)
-
-abbrev nowhere : Position
-nowhere = position_nowhere Raw.stream_start
-
-one_each : {ps qs : List Position} → ps ≡ qs → nowhere ∷ ps ≡ nowhere ∷ qs
-one_each h = ap (λ ps. nowhere ∷ ps) h
-
-at_bracket : (b : Before) {ps qs : List Position} → b.comma ≡ None → ps ≡ qs → nowhere ∷ ps ≡ place_of Tok.flow_mapping_end b.comma nowhere ∷ qs
-at_bracket b {ps} {qs} e h = one_each h ∙ ap (λ c. place_of Tok.flow_mapping_end c nowhere ∷ qs) (sym e)
-
-even : (g : Goal) (es : List Raw) (ts : List Tok) → AreEven es ts → (b : Before) → (may_follow_comma g ≡ false → b.comma ≡ None)
-    → taken_positions (goal_events g (shortest g) es) (map position_nowhere (goal_events g (shortest g) es)) ≡ given_after b (map token_nowhere (goal_tokens g (shortest g) ts))
-even at.done es ts h b c = h b (c refl)
-even at.ended es ts h b c = h b (c refl)
-even (at.after_anchor q a) es ts h b c = h b (c refl)
-even (at.after_tag q t) es ts h b c = h b (c refl)
-even (at.after_properties q (Some o)) es ts h b c = h b (c refl)
-even at.part es ts h b c = h b (c refl)
-even at.dashes es ts h b c = h b (c refl)
-even at.dashed es ts h b c = h b (c refl)
-even at.start es ts h b c = h _ refl
-even at.documents es ts h b c = h _ refl
-even at.explicit es ts h b c = h _ refl
-even (at.directed ds) es ts h b c = h _ refl
-even at.content es ts h b c = h _ refl
-even at.after es ts h b c = h _ refl
-even at.entries es ts h b c = h _ refl
-even at.entry es ts h b c = h _ refl
-even at.pairs es ts h b c = h _ refl
-even at.key_pairs es ts h b c = h _ refl
-even at.after_key es ts h b c = h _ refl
-even at.items es ts h b c = one_each (h _ refl)
-even at.more_items es ts h b c = one_each (h _ refl)
-even at.comma_items es ts h b c = one_each (h _ refl)
-even at.pair_key es ts h b c = one_each (h _ refl)
-even at.pair_value es ts h b c = one_each (h _ refl)
-even at.pair_valued es ts h b c = one_each (h _ refl)
-even at.pair_end es ts h b c = one_each (h _ refl)
-even at.flow_pair es ts h b c = one_each (h _ refl)
-even at.comma_flow_pairs es ts h b c = one_each (h _ refl)
-even at.item es ts h b c = one_each (one_each (h _ refl))
-even at.flow_pairs es ts h b c = at_bracket b (c refl) (h _ refl)
-even at.more_flow_pairs es ts h b c = at_bracket b (c refl) (h _ refl)
-even at.flow_key es ts h b c = at_bracket b (c refl) (h _ refl)
-even at.flow_after_key es ts h b c = at_bracket b (c refl) (h _ refl)
-even at.flow_valued es ts h b c = at_bracket b (c refl) (h _ refl)
-even at.flow_empty es ts h b c = at_bracket b (c refl) (h _ refl)
-even (at.node context.Flow) es ts h b c = one_each (h _ refl)
-even (at.node context.Block) es ts h b c = one_each (h _ refl)
-even (at.node context.Part) es ts h b c = one_each (h _ refl)
-even (at.after_properties context.Flow None) es ts h b c = one_each (h _ refl)
-even (at.after_properties context.Block None) es ts h b c = one_each (h _ refl)
-even (at.after_properties context.Part None) es ts h b c = one_each (h _ refl)
-
-rest_even : (ss : List State) → AreEven (rest_events ss (ending ss)) (rest_tokens ss (ending ss))
-rest_even [] b e = refl
-rest_even (s ∷ ss) b e = even (goal_of s) (rest_events ss (ending ss)) (rest_tokens ss (ending ss)) (rest_even ss) b (λ f. e)
 
 named_length : (keep : Bool) (s : Names) (es : List Raw) (vs : List Ev) → named keep s es ≡ Some vs → positions_of (map event_nowhere vs) ≡ map position_nowhere es
 named_length keep s [] vs h = let x : vs ≡ [] = cc in ap (λ ws. positions_of (map event_nowhere ws)) x
@@ -236,24 +66,22 @@ pub at_derived : {T : Type 0} (g : Goal) (p : Reader T) (names : Names) (given :
 at_derived {T} g p names given a =
     let ks = p.names.keeping.settings.items in
     let keep = p.names.keeping.tags in
-    let es = still_events g p.stack (shortest g) (ending p.stack) in
-    let ts = still_tokens g p.stack (shortest g) (ending p.stack) in
-    let d = a.stands.sound (shortest g) (ending p.stack) in
-    let n = completes g keep names (rest_events p.stack (ending p.stack)) a.pending (rest_nameable keep p.stack) in
+    let c = completed g p.stack in
+    let es = c.events in
+    let ts = c.tokens in
+    let n = c.nameable keep names a.pending in
     let all = since_append ks keep no_names a.raw es (events_of given) n.0 a.few a.events (ap (λ s. named keep s es) a.names_are ∙ n.1) in
     record {
       more_tokens = map token_nowhere ts;
       more_raw = es;
       more_events = map event_nowhere n.0;
       stream = record {
-        documents = d.0;
-        has_tokens = d.1 ∙ ap (λ us. taken_toks p.tokens ++ us) (sym (toks_nowhere ts)) ∙ sym (map-append (λ (t : defs.Token). t.tok) (all_shown p.tokens.taken.items) (map token_nowhere ts));
-        has_raw = d.2;
+        says = subst (λ us. StreamSays us (a.raw ++ es)) (ap (λ us. taken_toks p.tokens ++ us) (sym (toks_nowhere ts)) ∙ sym (map-append (λ (t : defs.Token). t.tok) (all_shown p.tokens.taken.items) (map token_nowhere ts))) (a.stands.sound ts es c.awaits);
         has_events = all ∙ ap (λ vs. Some (events_of given ++ vs)) (sym (events_nowhere n.0)) ∙ ap Some (sym (map-append (λ (e : Ev × Position). e.0) given (map event_nowhere n.0)));
         has_positions = ap (taken_positions (a.raw ++ es)) (map-append (λ (e : Ev × Position). e.1) given (map event_nowhere n.0))
             ∙ taken_positions_append a.raw es (positions_of given) (positions_of (map event_nowhere n.0)) (a.count ∙ sym (positions_length given))
             ∙ ap (λ ps. ps ++ taken_positions es (positions_of (map event_nowhere n.0))) a.positions
-            ∙ ap (λ ps. given_positions (all_shown p.tokens.taken.items) ++ ps) (ap (taken_positions es) (named_length keep names es n.0 n.1) ∙ even g (rest_events p.stack (ending p.stack)) (rest_tokens p.stack (ending p.stack)) (rest_even p.stack) (before_next p.tokens) a.comma)
+            ∙ ap (λ ps. given_positions (all_shown p.tokens.taken.items) ++ ps) (ap (taken_positions es) (named_length keep names es n.0 n.1) ∙ c.even (before_next p.tokens) a.comma)
             ∙ sym (given_after_append nothing_before (all_shown p.tokens.taken.items) (map token_nowhere ts));
       };
       named = a.events;
@@ -268,12 +96,11 @@ handed_with {T} {g} {p} here a = a.handed ∙ ap (λ o. all_shown p.tokens.taken
 
 -- No stream goes on with it.
 never : {T : Type 0} {g : Goal} {p : Reader T} {t : Token} {names : Names} {given : List (Ev × Position)}
-    → p.tokens.peeked ≡ Some t → Refuses g p.stack (tok_of t.1) → At g p names given
-    → (d : Documents) (ts : List Tok) → stream_tokens d ≡ taken_toks p.tokens ++ (tok_of t.1 ∷ ts) → ⊥
-never {T} {g} {p} {t} {names} {given} here turn a d ts h =
+    → p.tokens.peeked ≡ Some t → Refuses g p.stack (tok_of t.1) → At g p names given → (ts : List Tok) (es : List Raw) → StreamSays (taken_toks p.tokens ++ (tok_of t.1 ∷ ts)) es → ⊥
+never {T} {g} {p} {t} {names} {given} here turn a ts es d =
     let b : Begins1 (peeked_tok p.tokens) (tok_of t.1 ∷ ts) = subst (λ o. Begins1 (option_map (λ (x : Token). tok_of x.1) o) (tok_of t.1 ∷ ts)) (sym here) refl in
-    let o = a.stands.exact d (tok_of t.1 ∷ ts) h b in
-    turn a.stands.nested a.stands.fits o.0 o.1 (subst (Begins1 (Some (tok_of t.1))) (sym o.2) refl)
+    let o = a.stands.exact (tok_of t.1 ∷ ts) es b d in
+    turn a.stands.nested a.stands.fits ts o.0 o.2
 
 -- The tokens leave to come what is read here, unless it is a document's end.
 abbrev pub IsKnown : {T : Type 0} → Goal → Reader T → Type 0
@@ -294,11 +121,11 @@ known {T} {g} {p} {t} {names} {given} here turn a not_after = by a.stands.settle
 -- No stream begins with the tokens up to it.
 cut : {T : Type 0} {g : Goal} {p : Reader T} {t : Token} {names : Names} {given : List (Ev × Position)}
     → p.tokens.peeked ≡ Some t → Refuses g p.stack (tok_of t.1) → At g p names given
-    → (d : Documents) (ts : List Tok) → stream_tokens d ≡ toks (scanned p.tokens.scanner).given ++ ts → ⊥
-cut {T} {g} {p} {t} {names} {given} here turn a d ts has =
-    let h : stream_tokens d ≡ taken_toks p.tokens ++ (tok_of t.1 ∷ ts) =
-    has ∙ ap (λ xs. toks xs ++ ts) (handed_with here a) ∙ ap (λ xs. xs ++ ts) (map_snoc (λ (x : defs.Token). x.tok) (all_shown p.tokens.taken.items) (shown t)) ∙ append_assoc (taken_toks p.tokens) (tok_of t.1 ∷ []) ts in
-    never here turn a d ts h
+    → (ts : List Tok) (es : List Raw) → StreamSays (toks (scanned p.tokens.scanner).given ++ ts) es → ⊥
+cut {T} {g} {p} {t} {names} {given} here turn a ts es d =
+    let h : toks (scanned p.tokens.scanner).given ++ ts ≡ taken_toks p.tokens ++ (tok_of t.1 ∷ ts) =
+    ap (λ xs. toks xs ++ ts) (handed_with here a) ∙ ap (λ xs. xs ++ ts) (map_snoc (λ (x : defs.Token). x.tok) (all_shown p.tokens.taken.items) (shown t)) ∙ append_assoc (taken_toks p.tokens) (tok_of t.1 ∷ []) ts in
+    never here turn a ts es (subst (λ us. StreamSays us es) h d)
 
 -- the problem has no cause but that the grammar goes on with no such token
 abbrev pub HasNoCause : Problem → Type 0
@@ -325,7 +152,7 @@ refuses_for {T} {g} {p} {k} {m} {names} {given} q free fit mark o turn cause apa
         whole = handed_with l.1 a;
         raw = a.raw;
         derived = at_derived g p names given a;
-        unnamed = λ d ts es has named. cut l.1 no a d ts has;
+        unnamed = λ ts raw es d named. cut l.1 no a ts raw d;
         problem = q;
         shown = refl;
         fits_it = ap (fits q) l.2 ∙ fit;

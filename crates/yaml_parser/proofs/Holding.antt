@@ -15,18 +15,17 @@ use Rattle.yaml_tokens.specs.Shown.{shown, all_shown, tok_of}
 use Rattle.yaml_scanner.specs.Scanned.{scanned}
 use Rattle.defs_event.specs.Event.{Ev}
 use Rattle.defs_event.specs.Raw.{Raw}
-use Rattle.defs_event.specs.Grammar.{Documents, stream_tokens, stream_events}
 use Rattle.defs_event.specs.Names.{Names, named, no_names}
 use Rattle.defs_token.specs.Toks.{toks}
-use Rattle.defs_event.specs.Stream.{BeginsPlaced, events_of, positions_of, taken_positions, given_positions, nothing_before, past_all}
+use Rattle.defs_event.specs.Stream.{BeginsPlaced, events_of, positions_of, taken_positions, given_positions, nothing_before, past_all, StreamSays}
 use Rattle.defs_event.proofs.NameLemmas.{named_append}
 use Rattle.model_parser.specs.declared.state.State.{State}
 use Rattle.model_parser.specs.declared.state.State.TheVariants as state
 use Rattle.model_parser.specs.Goal as at
 use Rattle.model_parser.specs.Goal.{Goal}
-use Rattle.model_parser.specs.Rest.{goal_of, still_events, IsBottom, IsGoing}
-use Rattle.model_parser.specs.Place.{next_in, top, is_node, is_after, is_past_in, is_past_directives}
-use Rattle.model_parser.specs.Stands.{IsOnTrack, IsSettled, as_tokens, goes_on, at_directive}
+use Rattle.model_parser.specs.Rest.{goal_of, IsBottom, IsGoing}
+use Rattle.model_parser.specs.Stands.{IsOnTrack}
+use Rattle.model_parser.proofs.Standing.{begins, pops, ends as read_whole}
 use Rattle.yaml_parser.specs.declared.event.Event.{Event}
 use Rattle.yaml_parser.specs.declared.tokens.KeptStop.{KeptStop}
 use Rattle.yaml_parser.specs.declared.slot.Slot.{Slot}
@@ -66,36 +65,10 @@ state_seen : (s : State) (keep : Bool) (names : Names) → names_at keep (goal_o
 state_seen state.StreamStart keep names = refl
 state_seen _ keep names = refl
 
--- What a state reads is read next.
-top_of : (s : State) (ss : List State) → top (goal_of s) ss ≡ goal_of s
-top_of state.StreamStart ss = refl
-top_of _ ss = refl
-
--- Whether a directive may be next is the same for what a state reads and for the state on top.
-past_of : (s : State) (ss : List State) → is_past_directives (goal_of s) ss ≡ is_past_in (goal_of s) ss
-past_of state.StreamStart ss = refl
-past_of _ ss = refl
-
-popped_stands : (s : State) (ss : List State) (taken : List Tok) (p : Option Tok) (given : List Raw) → IsOnTrack at.done (s ∷ ss) taken p given → IsOnTrack (goal_of s) ss taken p given
-popped_stands s ss taken p given h = record {
-  nested = h.nested.1;
-  fits = h.nested.0;
-  opened = h.opened;
-  settled = by h.settled;
-  past = λ e. h.past (sym (past_of s ss) ∙ e);
-  sound = λ x r. h.sound tt (x, r);
-  exact = λ d ts e b. let o = h.exact d ts e b in (o.1.0, o.1.1, o.2, o.3);
-}
-  where
-    by : IsSettled at.done (s ∷ ss) taken p → IsSettled (goal_of s) ss taken p
-    by (as_tokens e) = as_tokens (e ∙ ap next_in (sym (top_of s ss)))
-    by (goes_on e c) = goes_on (ap (λ g. is_node (next_in g)) (top_of s ss) ∙ e) c
-    by (at_directive e d) = at_directive (ap is_after (top_of s ss) ∙ e) d
-
 popped : {T : Type 0} (p : Reader T) (s : State) (ss : List State) {names : Names} {given : List (Ev × Position)} → p.stack ≡ s ∷ ss → At at.done p names given → At (goal_of s) (record p { stack = ss }) names given
 popped {T} p s ss {names} {given} h a = record {
   raw = a.raw;
-  stands = popped_stands s ss (taken_toks p.tokens) (peeked_tok p.tokens) a.raw (subst (λ x. IsOnTrack at.done x (taken_toks p.tokens) (peeked_tok p.tokens) a.raw) h a.stands);
+  stands = pops (subst (λ x. IsOnTrack at.done x (taken_toks p.tokens) (peeked_tok p.tokens) a.raw) h a.stands);
   handed = a.handed;
   awake = λ o. a.awake refl;
   over = λ o. absurd (both_ways (is_over (goal_of s)) (state_going s) o);
@@ -262,15 +235,7 @@ begun {T} p stack peeked taken given ended code none = record {
   names = no_names;
   here = record {
     raw = [];
-    stands = subst (λ ss. IsOnTrack at.done ss (taken_toks p.tokens) (peeked_tok p.tokens) []) (sym stack) (subst (λ ts. IsOnTrack at.done (state.StreamStart ∷ []) (toks (all_shown ts)) (peeked_tok p.tokens) []) (sym taken) (record {
-      nested = (tt, tt);
-      fits = tt;
-      opened = refl;
-      settled = as_tokens refl;
-      past = λ h. cc;
-      sound = λ x r. (r.0, refl, refl);
-      exact = λ d ts e b. (tt, (d, tt), e, refl);
-    }));
+    stands = subst (λ ss. IsOnTrack at.done ss (taken_toks p.tokens) (peeked_tok p.tokens) []) (sym stack) (subst (λ ts. IsOnTrack at.done (state.StreamStart ∷ []) (toks (all_shown ts)) (peeked_tok p.tokens) []) (sym taken) (begins (peeked_tok p.tokens)));
     handed = given ∙ sym (ap (λ ts. all_shown ts ++ shown_list p.tokens.peeked) taken ∙ ap shown_list peeked);
     awake = λ o. ended ∙ sym (ap ends peeked);
     over = λ o. peeked;
@@ -324,10 +289,10 @@ derived_begins {T} p v es before raw steady s d = subst (BeginsPlaced v.keep_tag
   more_tokens = d.more_tokens;
   more_events = d.more_events;
   stream = record {
-    documents = d.stream.documents;
-    has_tokens = d.stream.has_tokens;
-    has_events = ap (named v.keep_tags no_names) d.stream.has_raw ∙ named_steady p v es (raw ++ d.more_raw) _ steady s d.stream.has_events;
-    has_positions = ap (λ xs. taken_positions xs (positions_of (es ++ d.more_events))) d.stream.has_raw ∙ d.stream.has_positions;
+    raws = raw ++ d.more_raw;
+    says = d.stream.says;
+    has_events = named_steady p v es (raw ++ d.more_raw) _ steady s d.stream.has_events;
+    has_positions = d.stream.has_positions;
   };
 })
 
@@ -339,20 +304,13 @@ at_follows {T} {g} p names es a steady v s =
       tokens = ap (λ x. x.given) s.scanner ∙ a.handed ∙ ap (λ xs. all_shown p.tokens.taken.items ++ xs) (sym (listed_shown p.tokens.peeked));
       begins = derived_begins p v es (all_shown p.tokens.taken.items) a.raw steady s (at_derived g p names es a);
       only = λ ts fs x.
-          let h = handed_on p ts (stream_tokens x.documents) a (x.has_tokens ∙ ap (λ z. toks z.given ++ ts) s.scanner) in
-          let o = a.stands.exact x.documents (toks (shown_list p.tokens.peeked) ++ ts) h (begins_peeked p.tokens.peeked ts) in
-          let n = named_append v.keep_tags no_names a.raw (still_events g p.stack o.0 o.1) fs (ap (named v.keep_tags no_names) (sym o.3) ∙ x.has_events) in
+          let h = handed_on p ts (toks v.scanner.given ++ ts) a (ap (λ z. toks z.given ++ ts) s.scanner) in
+          let o = a.stands.exact (toks (shown_list p.tokens.peeked) ++ ts) x.raws (begins_peeked p.tokens.peeked ts) (subst (λ us. StreamSays us x.raws) h x.says) in
+          let n = named_append v.keep_tags no_names a.raw o.0 fs (ap (named v.keep_tags no_names) (sym o.1) ∙ x.has_events) in
           (n.after, n.whole ∙ ap (λ vs. vs ++ n.after) (same_before (named v.keep_tags no_names a.raw) (named_steady p v es a.raw (events_of es) steady s a.events) n.of_before ∙ ap events_of (sym s.events)));
     }
 
 -- ---- at the end
-
-ended_stands : (ss : List State) (taken : List Tok) (raw : List Raw) → IsOnTrack at.ended ss taken None raw
-    → ((d : Documents) × (stream_tokens d ≡ taken) × (stream_events d ≡ raw)) × ((d : Documents) (ts : List Tok) → stream_tokens d ≡ taken ++ ts → (ts ≡ []) × (stream_events d ≡ raw))
-ended_stands [] taken raw s =
-    let d = s.sound tt tt in
-    ((d.0, d.1 ∙ append-nil taken, d.2 ∙ append-nil raw), λ e ts h. let o = s.exact e ts h tt in (sym o.2, o.3 ∙ append-nil raw))
-ended_stands (x ∷ ss) taken raw s = absurd s.fits
 
 shown_named : {T : Type 0} (p : Reader T) (v : Parsed) (es : List (Ev × Position)) (raw : List Raw) (vs : List Ev) → Shows p es v → named_by p.names.keeping raw ≡ Some vs → named_since v.settings v.keep_tags no_names raw ≡ Some vs
 shown_named {T} p v es raw vs s h = ap (λ ks. named_since ks v.keep_tags no_names raw) s.settings ∙ ap (λ k. named_since p.names.keeping.settings.items k no_names raw) s.keep_tags ∙ h
@@ -360,33 +318,31 @@ shown_named {T} p v es raw vs s h = ap (λ ks. named_since ks v.keep_tags no_nam
 at_complete : {T : Type 0} (p : Reader T) (names : Names) (es : List (Ev × Position)) → At at.ended p names es → (v : Parsed) → Shows p es v → IsComplete v
 at_complete {T} p names es a v s =
     let taken : v.scanner.given ≡ all_shown p.tokens.taken.items = ap (λ x. x.given) s.scanner ∙ a.handed ∙ ap (λ o. all_shown p.tokens.taken.items ++ shown_list o) (a.over refl) ∙ append-nil (all_shown p.tokens.taken.items) in
-    let o = ended_stands p.stack (taken_toks p.tokens) a.raw (subst (λ x. IsOnTrack at.ended p.stack (taken_toks p.tokens) (option_map (λ (t : Token). tok_of t.1) x) a.raw) (a.over refl) a.stands) in
+    let o = read_whole p.stack (taken_toks p.tokens) a.raw (subst (λ x. IsOnTrack at.ended p.stack (taken_toks p.tokens) (option_map (λ (t : Token). tok_of t.1) x) a.raw) (a.over refl) a.stands) in
     record {
       raw = a.raw;
       stream = record {
-        documents = o.0.0;
-        has_tokens = o.0.1 ∙ ap toks (sym taken);
-        has_raw = o.0.2;
+        says = subst (λ ts. StreamSays ts a.raw) (ap toks (sym taken)) o.0;
         has_events = shown_named p v es a.raw (events_of es) s a.events ∙ ap (λ x. Some (events_of x)) (sym s.events);
         has_positions = ap (λ x. taken_positions a.raw (positions_of x)) s.events ∙ a.positions ∙ ap given_positions (sym taken);
       };
-      only = λ d ts h. (o.1 d ts (h ∙ ap (λ z. toks z ++ ts) taken)).0;
+      only = λ ts fs d. (o.1 ts fs (subst (λ us. StreamSays us fs) (ap (λ z. toks z ++ ts) taken) d)).0;
     }
 
 at_whole : {T : Type 0} (p : Reader T) (names : Names) (es : List (Ev × Position)) → At at.ended p names es → IsSteady p → (v : Parsed) → Shows p es v → IsWhole v
 at_whole {T} p names es a steady v s =
     let taken : v.scanner.given ≡ all_shown p.tokens.taken.items = ap (λ x. x.given) s.scanner ∙ a.handed ∙ ap (λ o. all_shown p.tokens.taken.items ++ shown_list o) (a.over refl) ∙ append-nil (all_shown p.tokens.taken.items) in
-    let o = ended_stands p.stack (taken_toks p.tokens) a.raw (subst (λ x. IsOnTrack at.ended p.stack (taken_toks p.tokens) (option_map (λ (t : Token). tok_of t.1) x) a.raw) (a.over refl) a.stands) in
+    let o = read_whole p.stack (taken_toks p.tokens) a.raw (subst (λ x. IsOnTrack at.ended p.stack (taken_toks p.tokens) (option_map (λ (t : Token). tok_of t.1) x) a.raw) (a.over refl) a.stands) in
     let events : named v.keep_tags no_names a.raw ≡ Some (events_of (read v)) = named_steady p v es a.raw (events_of es) steady s a.events ∙ ap (λ x. Some (events_of x)) (sym s.events) in
     record {
       stream = record {
-        documents = o.0.0;
-        has_tokens = o.0.1 ∙ ap toks (sym taken);
-        has_events = ap (named v.keep_tags no_names) o.0.2 ∙ events;
-        has_positions = ap (λ x. taken_positions x (positions_of (read v))) o.0.2 ∙ ap (λ x. taken_positions a.raw (positions_of x)) s.events ∙ a.positions ∙ ap given_positions (sym taken);
+        raws = a.raw;
+        says = subst (λ ts. StreamSays ts a.raw) (ap toks (sym taken)) o.0;
+        has_events = events;
+        has_positions = ap (λ x. taken_positions a.raw (positions_of x)) s.events ∙ a.positions ∙ ap given_positions (sym taken);
       };
       only = λ ts fs x.
-          let u = o.1 x.documents ts (x.has_tokens ∙ ap (λ z. toks z ++ ts) taken) in
+          let u = o.1 ts x.raws (subst (λ us. StreamSays us x.raws) (ap (λ z. toks z ++ ts) taken) x.says) in
           (u.0, same_before (named v.keep_tags no_names a.raw) events (ap (named v.keep_tags no_names) (sym u.1) ∙ x.has_events));
     }
 
@@ -410,10 +366,10 @@ at_derives {T} {g} p names es a v s = record {
   tokens = ap (λ x. x.given) s.scanner ∙ a.handed ∙ ap (λ xs. all_shown p.tokens.taken.items ++ xs) (sym (listed_shown p.tokens.peeked));
   raw = a.raw;
   derived = shown_derived p es (all_shown p.tokens.taken.items) a.raw v s (at_derived g p names es a);
-  only = λ d ts h.
-      let k = handed_on p ts (stream_tokens d) a (h ∙ ap (λ z. toks z.given ++ ts) s.scanner) in
-      let o = a.stands.exact d (toks (shown_list p.tokens.peeked) ++ ts) k (begins_peeked p.tokens.peeked ts) in
-      (still_events g p.stack o.0 o.1, o.3);
+  only = λ ts fs d.
+      let k = handed_on p ts (toks v.scanner.given ++ ts) a (ap (λ z. toks z.given ++ ts) s.scanner) in
+      let o = a.stands.exact (toks (shown_list p.tokens.peeked) ++ ts) fs (begins_peeked p.tokens.peeked ts) (subst (λ us. StreamSays us fs) k d) in
+      (o.0, o.1);
 }
 
 -- whether all settings were the one that there is, as the code knows it
@@ -442,8 +398,8 @@ blames_refused {T} p es x steady v s = record {
   tokens = ap (λ z. z.given) s.scanner ∙ x.whole;
   begins = derived_begins p v es x.before x.raw steady s x.derived;
   none = λ ts fs y.
-      let h : stream_tokens y.documents ≡ toks (scanned p.tokens.scanner).given ++ ts = y.has_tokens ∙ ap (λ z. toks z.given ++ ts) s.scanner in
-      x.unnamed y.documents ts fs h (since_same p.names.keeping.settings.items p.names.keeping.tags no_names (stream_events y.documents) steady ∙ ap (λ k. named k no_names (stream_events y.documents)) (sym s.keep_tags) ∙ y.has_events);
+      x.unnamed ts y.raws fs (subst (λ us. StreamSays us y.raws) (ap (λ z. toks z.given ++ ts) s.scanner) y.says)
+          (since_same p.names.keeping.settings.items p.names.keeping.tags no_names y.raws steady ∙ ap (λ k. named k no_names y.raws) (sym s.keep_tags) ∙ y.has_events);
 }
 
 shown_blames : {T : Type 0} (p : Reader T) (es : List (Ev × Position)) {f : ErrorReport} (v : Parsed) → Shows p es v → Blames f p.names.keeping.settings.items p.names.keeping.tags (scanned p.tokens.scanner).given es

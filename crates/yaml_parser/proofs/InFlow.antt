@@ -9,7 +9,6 @@ use Rattle.yaml_tokens.specs.declared.token.Token.{Token}
 use Rattle.yaml_tokens.specs.Shown.{all_shown, tok_of}
 use Rattle.defs_event.specs.Event.{Ev}
 use Rattle.defs_event.specs.Raw.{Raw}
-use Rattle.defs_event.specs.Grammar.{no_flow, end_items, single_pair, no_flow_value, end_flow_pairs, flow_keyed, no_node, plain, end_pairs, key, no_value}
 use Rattle.defs_event.specs.Names.{Names}
 use Rattle.defs_event.specs.Stream.{Before, nothing_before, past, past_all, is_comma, is_in_sequence, place_of, gives_position}
 use Rattle.model_parser.specs.declared.kind.Kind.{Kind}
@@ -17,7 +16,7 @@ use Rattle.model_parser.specs.declared.kind.Kind.TheVariants as kind
 use Rattle.model_parser.specs.declared.state.State.{State}
 use Rattle.model_parser.specs.Goal as at
 use Rattle.model_parser.specs.Goal.{Goal}
-use Rattle.model_parser.specs.Rest.{rest_tokens}
+use Rattle.model_parser.proofs.Endings.{goes_so}
 use Rattle.model_parser.specs.Turn.{Takes}
 use Rattle.model_parser.proofs.First.{tok_is}
 use Rattle.model_parser.proofs.Around.{around_all, around_sequence_end, around_mapping_end, around_block_end}
@@ -29,7 +28,6 @@ use Rattle.yaml_parser.specs.At.{At, is_over, may_follow_comma, names_at}
 use Rattle.yaml_parser.proofs.Positions.{comma_more}
 use Rattle.yaml_parser.proofs.Steps.{looked, if_some_at}
 use Rattle.yaml_parser.proofs.Arms.{Skipped, gives_at}
-use Rattle.model_parser.proofs.Shortest.{ending}
 
 -- ---- keys
 
@@ -42,20 +40,14 @@ around_taken {T} p = ap is_in_sequence (around_same nothing_before (all_shown p.
 
 -- Where an item may come, a flow sequence is the innermost collection.
 key_in_sequence : {T : Type 0} {p : Reader T} {names : Names} {given : List (Ev × Position)} → At at.item p names given → gives_position (before_next p.tokens).around Tok.key ≡ true
-key_in_sequence {T} {p} a =
-    let d = a.stands.sound (single_pair no_flow no_flow_value, end_items) (ending p.stack) in
-    around_taken p.tokens ∙ around_sequence_end d.0 (taken_toks p.tokens) (rest_tokens p.stack (ending p.stack)) d.1
+key_in_sequence {T} {p} a = around_taken p.tokens ∙ around_sequence_end (taken_toks p.tokens) _ _ (a.stands.sound _ _ (goes_so at.item p.stack Tok.key (Tok.flow_sequence_end ∷ []) refl refl))
 
 -- Where a pair of a mapping may come, none is.
 pub key_in_mapping : {T : Type 0} {p : Reader T} {names : Names} {given : List (Ev × Position)} → At at.flow_pair p names given → gives_position (before_next p.tokens).around Tok.key ≡ false
-key_in_mapping {T} {p} a =
-    let d = a.stands.sound (flow_keyed no_flow no_flow_value, end_flow_pairs) (ending p.stack) in
-    around_taken p.tokens ∙ around_mapping_end d.0 (taken_toks p.tokens) (rest_tokens p.stack (ending p.stack)) d.1
+key_in_mapping {T} {p} a = around_taken p.tokens ∙ around_mapping_end (taken_toks p.tokens) _ _ (a.stands.sound _ _ (goes_so at.flow_pair p.stack Tok.key (Tok.flow_mapping_end ∷ []) refl refl))
 
 pub key_in_block : {T : Type 0} {p : Reader T} {names : Names} {given : List (Ev × Position)} → At at.key_pairs p names given → gives_position (before_next p.tokens).around Tok.key ≡ false
-key_in_block {T} {p} a =
-    let d = a.stands.sound (key (plain no_node) (no_value end_pairs)) (ending p.stack) in
-    around_taken p.tokens ∙ around_block_end d.0 (taken_toks p.tokens) (rest_tokens p.stack (ending p.stack)) d.1
+key_in_block {T} {p} a = around_taken p.tokens ∙ around_block_end (taken_toks p.tokens) _ _ (a.stands.sound _ _ (goes_so at.key_pairs p.stack Tok.key (Tok.block_end ∷ []) refl refl))
 
 -- A single pair starts at its key's token.
 pub pair_starts : {T : Type 0} (m : Position) {p r : Reader T} {k : Kind} {ss : List State} {names : Names} {given : List (Ev × Position)}

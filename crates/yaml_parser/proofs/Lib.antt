@@ -1,5 +1,6 @@
 mod ApartRows
 pub mod Arms
+pub mod Completed
 pub mod InFlow
 pub mod DirectiveLemmas
 pub mod DocumentArms

@@ -3,39 +3,37 @@ use Rattle.std.proofs.Common.{◌≡◌, length, arith, List, [], ◌∷◌, ◌
 use Rattle.defs_text.specs.Position.{Position}
 use Rattle.defs_token.specs.Token.{Tok}
 use Rattle.defs_event.specs.Event.{Ev}
-use Rattle.defs_event.specs.Grammar.{Documents, marker, bare, directed, others, end_stream, explicit, documents_tokens, documents_events, stream_tokens, stream_events}
+use Rattle.defs_event.specs.Grammar as table
+use Rattle.defs_event.specs.Table.{reading, Derives}
 use Rattle.defs_event.specs.Nested.{Open, in_stream, before_node, after_node, in_sequence, at_key, at_value, open_after, there_and, closes, is_nested, IsNested}
-use Rattle.defs_event.specs.Stream.{events_of}
+use Rattle.defs_event.specs.Stream.{StreamSays, events_of}
 use Rattle.defs_event.proofs.NestedTest.{test_is_exact}
 use Rattle.defs_event.proofs.Shaped.{Shaped, named_shaped}
 use Rattle.defs_event.proofs.StreamNests.{shaped_nests}
 use Rattle.model_parser.specs.Goal.{Goal}
-use Rattle.model_parser.specs.Rest.{rest_tokens, rest_events, still_events}
-use Rattle.defs_event.specs.Names.{Names, no_names, named, names_after, resolved_event, are_allowed}
+use Rattle.model_parser.specs.Rest.{works, Awaits}
+use Rattle.model_parser.proofs.Rows.{row_taken, row_left, no_row, said, needs_tokens, steps, by_steps, refuses, not_refused}
+use Rattle.model_parser.proofs.Endings.{end_tokens, end_events, goes_so}
+use Rattle.defs_event.specs.Names.{Names, no_names, named, both, names_after, resolved_event}
 use Rattle.defs_event.specs.Raw.{Raw, Directive}
-use Rattle.defs_event.proofs.NameLemmas.{both_some}
 use Rattle.model_parser.specs.Goal as at
 use Rattle.yaml_parser.specs.declared.reader.Reader.{Reader}
 use Rattle.yaml_parser.specs.At.{At}
 use Rattle.yaml_parser.specs.Handed.{taken_toks}
 use Rattle.yaml_parser.specs.Nests.{BeginsNested, opened, is_open}
-use Rattle.yaml_parser.proofs.Ends.{completes, rest_nameable}
-use Rattle.model_parser.proofs.Shortest.{shortest, ending}
+use Rattle.yaml_parser.proofs.Completed.{Nameable, are_free, free_named, works_free, completed}
 use Rattle.yaml_parser.proofs.Resolved.{since_shaped}
 
--- The shortest way to the end completes them.
-nested_so : {T : Type 0} (g : Goal) (p : Reader T) (names : Names) (given : List (Ev × Position)) → At g p names given
-    → (more : List Ev) × (named p.names.keeping.tags names (still_events g p.stack (shortest g) (ending p.stack)) ≡ Some more) × IsNested (events_of given ++ more)
-nested_so {T} g p names given a =
+-- What is awaited and can be named completes them.
+nested_by : {T : Type 0} {g : Goal} {p : Reader T} {names : Names} {given : List (Ev × Position)} (a : At g p names given) {ts : List Tok} {es : List Raw} → Awaits g p.stack ts es
+    → (n : Nameable p.names.keeping.tags names es) → IsNested (events_of given ++ n.0)
+nested_by {T} {g} {p} {names} {given} a {ts} {es} x n =
     let keep = p.names.keeping.tags in
-    let es = still_events g p.stack (shortest g) (ending p.stack) in
-    let d = a.stands.sound (shortest g) (ending p.stack) in
-    let n = completes g keep names (rest_events p.stack (ending p.stack)) a.pending (rest_nameable keep p.stack) in
-    let all = since_shaped p.names.keeping.settings.items keep no_names a.raw es (events_of given) n.0 a.events (named_shaped keep names es n.0 n.1) in
-    (n.0, n.1, shaped_nests d.0 (events_of given ++ n.0) (subst (λ rs. Shaped rs (events_of given ++ n.0)) (sym d.2) all))
+    shaped_nests (taken_toks p.tokens ++ ts) (a.raw ++ es) (events_of given ++ n.0) (a.stands.sound ts es x)
+    (since_shaped p.names.keeping.settings.items keep no_names a.raw es (events_of given) n.0 a.events (named_shaped keep names es n.0 n.1))
 
 pub at_begins_nested : {T : Type 0} (g : Goal) (p : Reader T) (names : Names) (given : List (Ev × Position)) → At g p names given → BeginsNested (events_of given)
-at_begins_nested g p names given a = let n = nested_so g p names given a in (n.0, n.2)
+at_begins_nested g p names given a = let c = completed g p.stack in let n = c.nameable p.names.keeping.tags names a.pending in (n.0, nested_by a c.awaits n)
 
 -- ---- what is open
 
@@ -124,13 +122,14 @@ open_more b (x ∷ es) e p = open_more (opened x.0 b) es e p
 
 -- ---- outside of documents
 
--- The events begin nested ones that go on with these.
-nested_with : {T : Type 0} (g : Goal) (p : Reader T) (names : Names) (given : List (Ev × Position)) (e : Raw) (es : List Raw) → still_events g p.stack (shortest g) (ending p.stack) ≡ e ∷ es → At g p names given
-    → (v : Ev) × (ws : List Ev) × (resolved_event names e ≡ Some v) × (is_nested (events_of given ++ v ∷ ws) ≡ true)
-nested_with {T} g p names given e es next a =
-    let n = nested_so g p names given a in
-    let f = both_some (resolved_event names e) (named p.names.keeping.tags (names_after p.names.keeping.tags names e) es) n.0 (ap (named p.names.keeping.tags names) (sym next) ∙ n.1) in
-    (f.event, f.more, f.is_first, subst (λ vs. is_nested (events_of given ++ vs) ≡ true) f.whole ((test_is_exact (events_of given ++ n.0)).1 n.2))
+-- The events begin nested ones that go on with this one.
+nested_with : {T : Type 0} {g : Goal} {p : Reader T} {names : Names} {given : List (Ev × Position)} (a : At g p names given) (e : Raw) {ts : List Tok} {es : List Raw} → Awaits g p.stack ts (e ∷ es) → {v : Ev} → resolved_event names e ≡ Some v → are_free es ≡ true
+    → (ws : List Ev) × (is_nested (events_of given ++ v ∷ ws) ≡ true)
+nested_with {T} {g} {p} {names} {given} a e {ts} {es} x {v} r free =
+    let keep = p.names.keeping.tags in
+    let m = free_named keep es free (names_after keep names e) in
+    let n : Nameable keep names (e ∷ es) = (v ∷ m.0, ap (λ o. both o (named keep (names_after keep names e) es)) r ∙ ap (λ o. both (Some v) o) m.1) in
+    (m.0, (test_is_exact (events_of given ++ n.0)).1 (nested_by a x n))
 
 closed_if : (b : Bool) → (b ≡ true → ⊥) → b ≡ false
 closed_if true f = absurd (f refl)
@@ -139,41 +138,62 @@ closed_if false f = refl
 -- Where the stream's end or a document's start may come, no document is open.
 pub explicit_outside : {T : Type 0} {p : Reader T} {names : Names} {given : List (Ev × Position)} → At at.explicit p names given → is_open false (events_of given) ≡ false
 explicit_outside {T} {p} {names} {given} a =
-    let n = nested_with at.explicit p names given Raw.stream_end (rest_events p.stack (ending p.stack)) refl a in
-    let v : n.0 ≡ Ev.stream_end = cc in
-    closed_if (is_open false (events_of given)) (λ o. never_nested Ev.stream_end end_is_outside (events_of given) n.1 o (subst (λ x. is_nested (events_of given ++ x ∷ n.1) ≡ true) v n.3))
+    let n = nested_with a Raw.stream_end (goes_so at.explicit p.stack Tok.stream_end [] refl refl) refl (works_free p.stack) in
+    closed_if (is_open false (events_of given)) (λ o. never_nested Ev.stream_end end_is_outside (events_of given) n.0 o n.1)
 
 pub directed_outside : {T : Type 0} {p : Reader T} {ds : List Directive} {names : Names} {given : List (Ev × Position)} → At (at.directed ds) p names given → is_open false (events_of given) ≡ false
 directed_outside {T} {p} {ds} {names} {given} a =
-    let n = nested_with (at.directed ds) p names given (Raw.document_start (ds ++ [])) _ refl a in
-    let v = document_starts (are_allowed (ds ++ [])) n.2 in
-    closed_if (is_open false (events_of given)) (λ o. never_nested Ev.document_start start_is_outside (events_of given) n.1 o (subst (λ x. is_nested (events_of given ++ x ∷ n.1) ≡ true) v n.3))
-  where
-    document_starts : (b : Bool) {v : Ev} → (if b then Some Ev.document_start else None) ≡ Some v → v ≡ Ev.document_start
-    document_starts true h = cc
-    document_starts false h = cc
+    let n = nested_with a (Raw.document_start ds) (goes_so (at.directed ds) p.stack Tok.document_start [] refl refl) (ap (λ b. if b then Some Ev.document_start else None) a.pending) (works_free p.stack) in
+    closed_if (is_open false (events_of given)) (λ o. never_nested Ev.document_start start_is_outside (events_of given) n.0 o n.1)
 
 never_starts : (es more : List Ev) (os : List Open) → closes (es ++ Ev.stream_start ∷ more) os ≡ true → ⊥
 never_starts [] more os h = cc
 never_starts (e ∷ es) more os h = closes_on (open_after e os) (es ++ Ev.stream_start ∷ more) (λ new i. never_starts es more new) h
 
+-- The start of a document comes after directives.
+directed_first : (h : table.Held) (ts : List Tok) (es : List Raw) → Derives table.grammar (reading table.directives h ∷ []) ts (Raw.stream_end ∷ es) → ⊥
+directed_first h [] es d = needs_tokens (reading table.directives h ∷ []) (Raw.stream_end ∷ es) refl d
+directed_first h (Tok.version_directive m n ∷ ts) es d = directed_first _ ts es (row_taken table.directives h [] (Tok.version_directive m n) ts (Raw.stream_end ∷ es) _ refl d)
+directed_first h (Tok.tag_directive x y ∷ ts) es d = directed_first _ ts es (row_taken table.directives h [] (Tok.tag_directive x y) ts (Raw.stream_end ∷ es) _ refl d)
+directed_first h (Tok.document_start ∷ ts) es d =
+    let s = said _ _ ts (Raw.stream_end ∷ es) (row_taken table.directives h [] Tok.document_start ts (Raw.stream_end ∷ es) _ refl d) in
+    let e : Raw.stream_end ∷ es ≡ Raw.document_start h.directives ∷ s.0 = s.1 in
+    cc
+directed_first h (t ∷ ts) es d = no_row table.directives h [] t ts (Raw.stream_end ∷ es) refl d
+
+nothing_left : (ts us : List Tok) (es : List Raw) → Derives table.grammar [] (ts ++ Tok.stream_start ∷ us) es → ⊥
+nothing_left [] us es d = elim d [ ]
+nothing_left (t ∷ ts) us es d = elim d [ ]
+
 -- A stream in which no document begins has its start first and never again.
-starts_once : (d : Documents) (ts us : List Tok) (es : List Raw) → documents_events d [] ≡ Raw.stream_end ∷ es → documents_tokens d [] ≡ ts ++ Tok.stream_start ∷ us → ⊥
-starts_once (marker d) [] us es e h = cc
-starts_once (marker d) (t ∷ ts) us es e h = starts_once d ts us es e (let same : documents_tokens d [] ≡ ts ++ Tok.stream_start ∷ us = cc in same)
-starts_once (bare n a) ts us es e h = cc
-starts_once (directed d ds p a) ts us es e h = cc
-starts_once (others end_stream) [] us es e h = cc
-starts_once (others end_stream) (t ∷ []) us es e h = cc
-starts_once (others end_stream) (t ∷ u ∷ ts) us es e h = cc
-starts_once (others (explicit p a)) ts us es e h = cc
+starts_once : (ts us : List Tok) (es : List Raw) → Derives table.grammar (reading table.documents table.nothing_held ∷ []) (ts ++ Tok.stream_start ∷ us) (Raw.stream_end ∷ es) → ⊥
+starts_once [] us es d = let r : true ≡ false = not_refused 9 Tok.stream_start (reading table.documents table.nothing_held ∷ []) us (Raw.stream_end ∷ es) d in cc
+starts_once (Tok.document_end ∷ ts) us es d = starts_once ts us es (row_taken table.documents table.nothing_held [] Tok.document_end (ts ++ Tok.stream_start ∷ us) (Raw.stream_end ∷ es) _ refl d)
+starts_once (Tok.version_directive m n ∷ ts) us es d =
+    directed_first _ (ts ++ Tok.stream_start ∷ us) es (row_taken table.documents table.nothing_held [] (Tok.version_directive m n) (ts ++ Tok.stream_start ∷ us) (Raw.stream_end ∷ es) _ refl d)
+starts_once (Tok.tag_directive x y ∷ ts) us es d =
+    directed_first _ (ts ++ Tok.stream_start ∷ us) es (row_taken table.documents table.nothing_held [] (Tok.tag_directive x y) (ts ++ Tok.stream_start ∷ us) (Raw.stream_end ∷ es) _ refl d)
+starts_once (Tok.document_start ∷ ts) us es d =
+    let x = row_left table.documents table.nothing_held [] Tok.document_start (ts ++ Tok.stream_start ∷ us) (Raw.stream_end ∷ es) _ refl d in
+    let s = said _ _ (ts ++ Tok.stream_start ∷ us) (Raw.stream_end ∷ es) (row_taken table.explicit_document table.nothing_held [] Tok.document_start (ts ++ Tok.stream_start ∷ us) (Raw.stream_end ∷ es) _ refl x) in
+    let e : Raw.stream_end ∷ es ≡ Raw.document_start [] ∷ s.0 = s.1 in
+    cc
+starts_once (Tok.stream_end ∷ ts) us es d =
+    let x = row_left table.documents table.nothing_held [] Tok.stream_end (ts ++ Tok.stream_start ∷ us) (Raw.stream_end ∷ es) _ refl d in
+    let s = said _ _ (ts ++ Tok.stream_start ∷ us) (Raw.stream_end ∷ es) (row_taken table.explicit_document table.nothing_held [] Tok.stream_end (ts ++ Tok.stream_start ∷ us) (Raw.stream_end ∷ es) _ refl x) in
+    nothing_left ts us s.0 s.2
+starts_once (t ∷ ts) us es d =
+    let w = reading table.documents table.nothing_held ∷ [] in
+    let r : refuses 9 t w ≡ false = not_refused 9 t w (ts ++ Tok.stream_start ∷ us) (Raw.stream_end ∷ es) d in
+    let s = (by_steps 2 t w).1 (ts ++ Tok.stream_start ∷ us) (Raw.stream_end ∷ es) d in
+    let e : Raw.stream_end ∷ es ≡ (steps 2 t w).0 ++ s.0 = s.1 in
+    cc
 
 -- Before the stream's start nothing was given.
 pub nothing_given : {T : Type 0} {p : Reader T} {names : Names} {given : List (Ev × Position)} → At at.start p names given → events_of given ≡ []
 nothing_given {T} {p} {names} {given} a =
-    let n = nested_with at.start p names given Raw.stream_start _ refl a in
-    let v : n.0 ≡ Ev.stream_start = cc in
-    by (events_of given) n.1 (subst (λ x. is_nested (events_of given ++ x ∷ n.1) ≡ true) v n.3)
+    let n = nested_with a Raw.stream_start (goes_so at.start p.stack Tok.stream_start [] refl refl) refl (works_free p.stack) in
+    by (events_of given) n.0 n.1
   where
     by : (es ws : List Ev) → is_nested (es ++ Ev.stream_start ∷ ws) ≡ true → es ≡ []
     by [] ws h = refl
@@ -190,13 +210,14 @@ nothing_read {T} {p} {names} {given} a = empty a.raw given a.count (nothing_give
 -- and nothing was taken.
 pub nothing_taken : {T : Type 0} {p : Reader T} {names : Names} {given : List (Ev × Position)} → At at.start p names given → taken_toks p.tokens ≡ []
 nothing_taken {T} {p} a =
-    let d = a.stands.sound (others end_stream) (ending p.stack) in
-    by (taken_toks p.tokens) d.0 (rest_tokens p.stack (ending p.stack)) (rest_events p.stack (ending p.stack)) d.1
-    (d.2 ∙ ap (λ es. es ++ Raw.stream_start ∷ Raw.stream_end ∷ rest_events p.stack (ending p.stack)) (nothing_read a))
+    let d = a.stands.sound _ _ (goes_so at.start p.stack Tok.stream_start (Tok.stream_end ∷ []) refl refl) in
+    by (taken_toks p.tokens) (end_tokens (works p.stack)) (end_events (works p.stack))
+    (subst (λ rs. StreamSays (taken_toks p.tokens ++ Tok.stream_start ∷ Tok.stream_end ∷ end_tokens (works p.stack)) (rs ++ Raw.stream_start ∷ Raw.stream_end ∷ end_events (works p.stack))) (nothing_read a) d)
   where
-    by : (taken : List Tok) (d : Documents) (us : List Tok) (es : List Raw) → stream_tokens d ≡ taken ++ Tok.stream_start ∷ Tok.stream_end ∷ us → stream_events d ≡ Raw.stream_start ∷ Raw.stream_end ∷ es → taken ≡ []
-    by [] d us es h e = refl
-    by (t ∷ ts) d us es h e =
-        let tokens : documents_tokens d [] ≡ ts ++ Tok.stream_start ∷ Tok.stream_end ∷ us = cc in
-        let events : documents_events d [] ≡ Raw.stream_end ∷ es = cc in
-        absurd (starts_once d ts (Tok.stream_end ∷ us) es events tokens)
+    by : (taken us : List Tok) (es : List Raw) → StreamSays (taken ++ Tok.stream_start ∷ Tok.stream_end ∷ us) (Raw.stream_start ∷ Raw.stream_end ∷ es) → taken ≡ []
+    by [] us es d = refl
+    by (Tok.stream_start ∷ ts) us es d =
+        let s = said _ _ _ _ (row_taken table.stream table.nothing_held [] Tok.stream_start (ts ++ Tok.stream_start ∷ Tok.stream_end ∷ us) (Raw.stream_start ∷ Raw.stream_end ∷ es) _ refl d) in
+        let e : Raw.stream_end ∷ es ≡ s.0 = cc in
+        absurd (starts_once ts (Tok.stream_end ∷ us) es (subst (λ rs. Derives table.grammar (reading table.documents table.nothing_held ∷ []) (ts ++ Tok.stream_start ∷ Tok.stream_end ∷ us) rs) (sym e) s.2))
+    by (t ∷ ts) us es d = absurd (no_row table.stream table.nothing_held [] t (ts ++ Tok.stream_start ∷ Tok.stream_end ∷ us) (Raw.stream_start ∷ Raw.stream_end ∷ es) refl d)

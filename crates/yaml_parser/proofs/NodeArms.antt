@@ -17,22 +17,28 @@ use Rattle.yaml_scanner_state.specs.Tokens.{is_end}
 use Rattle.defs_event.specs.Event as event
 use Rattle.defs_event.specs.Event.{Ev}
 use Rattle.defs_event.specs.Raw.{Raw}
-use Rattle.defs_event.specs.Grammar as written
-use Rattle.defs_event.specs.Grammar.{perhaps_anchor_of, perhaps_tag_of, stream_tokens, stream_events, items_events, flow_pairs_events, entries_events, pairs_events, perhaps_events, dashes_events, scalar, flow_sequence, flow_mapping, flow, block_sequence, block_mapping, flow_properties, block_properties}
+use Rattle.defs_event.specs.Properties as written
+use Rattle.defs_event.specs.Properties.{perhaps_anchor_of, perhaps_tag_of}
 use Rattle.defs_event.specs.Names.{Names, number, with_anchor, names_after, both, named, no_names, resolved_event, perhaps_resolved, resolved, under_name, prefix_of}
 use Rattle.defs_token.specs.Toks.{toks}
-use Rattle.defs_event.specs.Stream.{events_of, is_comma, place_of, has_position, gives_position}
+use Rattle.defs_event.specs.Stream.{StreamSays, events_of, is_comma, place_of, has_position, gives_position}
 use Rattle.model_parser.specs.declared.kind.Kind.{Kind}
 use Rattle.model_parser.specs.declared.context.NodeContext as positions
 use Rattle.model_parser.specs.declared.context.NodeContext.TheVariants as context
 use Rattle.model_parser.specs.declared.state.State.{State}
 use Rattle.model_parser.specs.Kinds.{kind_of, tok_of_kind, has_no_text}
 use Rattle.model_parser.specs.Goal as at
-use Rattle.model_parser.specs.Goal.{Goal, Awaits, goal_tokens, ContentAt, part_node, part_content, part_dashes, perhaps_content_events, tag_and}
+use Rattle.model_parser.specs.Goal.{Goal}
 use Rattle.model_parser.proofs.Nodes as turn
 use Rattle.model_parser.specs.declared.kind.Kind.TheVariants as kind
 use Rattle.yaml_parser.specs.Resolves.{Resolves}
-use Rattle.model_parser.specs.Rest.{Rest, rest_tokens, rest_events, still_tokens, still_events}
+use Rattle.model_parser.specs.Rest.{Works, works, past, place_of as where_it_stands, Awaits}
+use Rattle.defs_event.specs.Table.{show, empty, Row, takes, leaves, row_of, reading, Derives}
+use Rattle.defs_event.specs.Grammar as table
+use Rattle.defs_event.specs.Grammar.{Held, Place, event_of, empty_event, cases, grammar}
+use Rattle.proof_grammar.proofs.Falls.{text, after_text}
+use Rattle.model_parser.proofs.Rows.{row_taken, row_left, said, needs_tokens}
+use Rattle.model_parser.proofs.Endings.{end_tokens, end_events, goes_so}
 use Rattle.model_parser.specs.Stands.{IsNext as Starts}
 use Rattle.model_parser.specs.Turn.{Takes, Leaves, event_then}
 use Rattle.model_parser.proofs.First.{tok_is}
@@ -56,7 +62,7 @@ use Rattle.yaml_parser.proofs.Positions.{ends_mapping, own_place}
 use Rattle.yaml_parser.proofs.Steps.{looked, took, took_on, left, Named, breaks, map_snoc, if_some_at}
 use Rattle.yaml_parser.proofs.Arms.{Skipped, stays, stay, not_as, faulted_as}
 use Rattle.yaml_parser.proofs.Ends.{at_derived}
-use Rattle.model_parser.proofs.Shortest.{shortest, ending}
+use Rattle.yaml_parser.proofs.Completed.{completed}
 use Rattle.yaml_parser.proofs.Since.{since_stops}
 use Rattle.yaml_parser.proofs.Ways.{apart_as, node_apart, node_ways, anchored_ways}
 use Rattle.yaml_parser.specs.Apart.{StandsApart}
@@ -168,7 +174,7 @@ unnameable_first keep s e es h = ap (λ o. both o (named keep (names_after keep 
 pub unnamed_at : {T : Type 0} {g g' : Goal} {p r : Reader T} {t : Token} {m : Position} {ss : List State} {e : Option Raw} {names : Names} {given : List (Ev × Position)} (q : Problem)
     → fits q (kind_of (tok_of t.1)) ≡ true → is_of_names q ≡ true → StandsAt q m (all_shown p.tokens.taken.items) (shown t)
     → p.tokens.peeked ≡ Some t → Skips p.tokens t r.tokens → r.names.keeping ≡ p.names.keeping → Takes g p.stack (tok_of t.1) e g' ss
-    → ((x : Awaits g') (y : Rest ss) → Unnameable p.names.keeping.tags names (event_then e (still_events g' ss x y)))
+    → ((ts : List Tok) (es : List Raw) → Awaits g' ss ts es → Unnameable p.names.keeping.tags names (event_then e es))
     → IsCause q names (events_of given) (taken_toks p.tokens) (tok_of t.1) → ((a : At g p names given) → StandsApart q (taken_toks p.tokens) a.raw)
     → At g p names given → Faulted r given (stop.Own (fault.At q m))
 unnamed_at {T} {g} {g'} {p} {r} {t} {m} {ss} {e} {names} {given} q fit of_names stands here skips keep turn bad cause apart a =
@@ -181,16 +187,16 @@ unnamed_at {T} {g} {g'} {p} {r} {t} {m} {ss} {e} {names} {given} q fit of_names 
         whole = handed;
         raw = a.raw;
         derived = subst (λ k. IsDerived k.settings.items k.tags (all_shown p.tokens.taken.items) a.raw given) (sym keep) (at_derived g p names given a);
-        unnamed = λ d ts es has resolved.
-            let h : stream_tokens d ≡ taken_toks p.tokens ++ (tok_of t.1 ∷ ts) =
-            has ∙ ap (λ xs. toks xs ++ ts) handed ∙ ap (λ xs. xs ++ ts) (map_snoc (λ (x : defs.Token). x.tok) (all_shown p.tokens.taken.items) (shown t)) ∙ append_assoc (taken_toks p.tokens) (tok_of t.1 ∷ []) ts in
+        unnamed = λ ts raw es d resolved.
+            let h : toks (scanned r.tokens.scanner).given ++ ts ≡ taken_toks p.tokens ++ (tok_of t.1 ∷ ts) =
+            ap (λ xs. toks xs ++ ts) handed ∙ ap (λ xs. xs ++ ts) (map_snoc (λ (x : defs.Token). x.tok) (all_shown p.tokens.taken.items) (shown t)) ∙ append_assoc (taken_toks p.tokens) (tok_of t.1 ∷ []) ts in
             let b : Starts (peeked_tok p.tokens) (tok_of t.1 ∷ ts) = subst (λ o. Starts (option_map (λ (x : Token). tok_of x.1) o) (tok_of t.1 ∷ ts)) (sym here) refl in
-            let o = a.stands.exact d (tok_of t.1 ∷ ts) h b in
-            let n = turn.goes a.stands.nested a.stands.fits o.0 o.1 ts o.2 in
-            let no : named_by p.names.keeping (stream_events d) ≡ None =
-            ap (named_by p.names.keeping) (o.3 ∙ ap (λ xs. a.raw ++ xs) n.3)
-            ∙ since_stops p.names.keeping.settings.items p.names.keeping.tags no_names a.raw _ a.few (ap (λ z. named p.names.keeping.tags z (event_then e (still_events g' ss n.0 n.1))) a.names_are ∙ bad n.0 n.1) in
-            let yes : named_by p.names.keeping (stream_events d) ≡ Some es = ap (λ k. named_by k (stream_events d)) (sym keep) ∙ resolved in
+            let o = a.stands.exact (tok_of t.1 ∷ ts) raw b (subst (λ us. StreamSays us raw) h d) in
+            let n = turn.goes a.stands.fits ts o.0 o.2 in
+            let no : named_by p.names.keeping raw ≡ None =
+            ap (named_by p.names.keeping) (o.1 ∙ ap (λ xs. a.raw ++ xs) n.1)
+            ∙ since_stops p.names.keeping.settings.items p.names.keeping.tags no_names a.raw _ a.few (ap (λ z. named p.names.keeping.tags z (event_then e n.0)) a.names_are ∙ bad ts n.0 n.2) in
+            let yes : named_by p.names.keeping raw ≡ Some es = ap (λ k. named_by k raw) (sym keep) ∙ resolved in
             let clash : None ≡ Some es = sym no ∙ yes in
             cc;
         problem = q;
@@ -201,15 +207,12 @@ unnamed_at {T} {g} {g'} {p} {r} {t} {m} {ss} {e} {names} {given} q fit of_names 
         cause = subst (λ z. IsCause q z (events_of given) (taken_toks p.tokens) (tok_of t.1)) (sym (ap (λ k. names_by k a.raw) keep ∙ a.names_are)) cause;
         stands = stands;
         none = λ e. absurd (both_ways (is_of_names q) e of_names);
-        some = λ e.
-            let b = turn.comes (shortest g') (ending ss) in
-            let d = a.stands.sound b.0 b.1 in
-            let rest = still_tokens g' ss (shortest g') (ending ss) in (
-              d.0,
-              rest,
-              d.1 ∙ ap (λ xs. taken_toks p.tokens ++ xs) b.2 ∙ sym (append_assoc (taken_toks p.tokens) (tok_of t.1 ∷ []) rest)
-                  ∙ sym (ap (λ xs. toks xs ++ rest) handed ∙ ap (λ xs. xs ++ rest) (map_snoc (λ (x : defs.Token). x.tok) (all_shown p.tokens.taken.items) (shown t))),
-            );
+        some = λ named.
+            let c = completed g' ss in
+            let rest = c.tokens in
+            let h : toks (scanned r.tokens.scanner).given ++ rest ≡ taken_toks p.tokens ++ (tok_of t.1 ∷ rest) =
+            ap (λ xs. toks xs ++ rest) handed ∙ ap (λ xs. xs ++ rest) (map_snoc (λ (x : defs.Token). x.tok) (all_shown p.tokens.taken.items) (shown t)) ∙ append_assoc (taken_toks p.tokens) (tok_of t.1 ∷ []) rest in
+            (rest, a.raw ++ event_then e c.events, subst (λ us. StreamSays us (a.raw ++ event_then e c.events)) (sym h) (a.stands.sound (tok_of t.1 ∷ rest) (event_then e c.events) (turn.comes a.stands.fits rest c.events c.awaits)));
       };
     }
 
@@ -299,7 +302,7 @@ pub alias_unknown : {T : Type 0} {p r : Reader T} {t : Token} {m : Position} {w 
     → p.tokens.peeked ≡ Some t → t.0 ≡ m → Skips p.tokens t r.tokens → r.names ≡ p.names → tok_of t.1 ≡ Tok.alias x → under_name x names.anchors ≡ None → At (at.node w) p names given → Faulted r given (stop.Own (fault.At UnknownAnchor m))
 alias_unknown {T} {p} {r} {t} {m} {w} {x} {names} {given} here mark skips same tok missing a =
     unnamed_at UnknownAnchor (ap (λ u. fits UnknownAnchor (kind_of u)) tok) refl (inl (sym mark, λ e. absurd (unknown_is_other e))) here skips (ap (λ z. z.keeping) same) (subst (λ u. Takes (at.node w) p.stack u (Some (Raw.alias x)) at.done p.stack) (sym tok) (turn.node_alias w p.stack x))
-    (λ y z. unnameable_first p.names.keeping.tags names (Raw.alias x) (still_events at.done p.stack y z) (ap (option_map Ev.alias) missing)) (subst (HasUnknownAnchor names) (sym tok) missing) node_apart a
+    (λ ts es y. unnameable_first p.names.keeping.tags names (Raw.alias x) es (ap (option_map Ev.alias) missing)) (subst (HasUnknownAnchor names) (sym tok) missing) node_apart a
 
 pub anchor_taken : {T : Type 0} {p r : Reader T} {t : Token} {w : positions.NodeContext} {x : List ℕ} {names : Names} {given : List (Ev × Position)}
     → p.tokens.peeked ≡ Some t → Skips p.tokens t r.tokens → r.stack ≡ p.stack → r.names ≡ p.names → tok_of t.1 ≡ Tok.anchor x → At (at.node w) p names given → At (at.after_anchor w x) r names given
@@ -325,36 +328,43 @@ anchor_after_tag {T} {p} {r} {t} {w} {y} {x} {u} {names} {given} here skips stac
     took_on here skips stack (subst (λ z. Takes (at.after_tag w x) p.stack z None (at.after_properties w (Some (written.tagged_anchored x y))) p.stack) (sym tok) (turn.tag_anchor w p.stack x y))
     (ap (λ z. z.keeping) same) (subst (λ z. IsNamed z names) (sym same) a.code) (is_some_of (ap (option_map Some) known)) (λ b. (refl, ap is_end tok)) (ap (gives_position _) tok) (λ f. ap is_comma tok) a
 
-content_unnameable : (keep : Bool) (s : Names) (w : positions.NodeContext) (o : Option written.Properties) (c : Option (ContentAt w)) (r : List Raw) → perhaps_resolved s.handles (perhaps_tag_of o) ≡ None → Unnameable keep s (perhaps_content_events w o c r)
-content_unnameable keep s w o None r h = unnameable_first keep s (Raw.empty_scalar (perhaps_anchor_of o) (perhaps_tag_of o)) r (ap (option_map (λ u. Ev.scalar [] Style.plain (number s (perhaps_anchor_of o)) u)) h)
-content_unnameable keep s context.Flow o (Some (scalar y v)) r h = unnameable_first keep s (Raw.scalar v y (perhaps_anchor_of o) (perhaps_tag_of o)) r (ap (option_map (λ u. Ev.scalar v y (number s (perhaps_anchor_of o)) u)) h)
-content_unnameable keep s context.Flow o (Some (flow_sequence i)) r h = unnameable_first keep s (Raw.flow_sequence_start (perhaps_anchor_of o) (perhaps_tag_of o)) (items_events i r) (ap (option_map (λ u. Ev.sequence_start (number s (perhaps_anchor_of o)) u)) h)
-content_unnameable keep s context.Flow o (Some (flow_mapping i)) r h = unnameable_first keep s (Raw.flow_mapping_start (perhaps_anchor_of o) (perhaps_tag_of o)) (flow_pairs_events i r) (ap (option_map (λ u. Ev.mapping_start (number s (perhaps_anchor_of o)) u)) h)
-content_unnameable keep s context.Block o (Some (flow (scalar y v))) r h = unnameable_first keep s (Raw.scalar v y (perhaps_anchor_of o) (perhaps_tag_of o)) r (ap (option_map (λ u. Ev.scalar v y (number s (perhaps_anchor_of o)) u)) h)
-content_unnameable keep s context.Block o (Some (flow (flow_sequence i))) r h = unnameable_first keep s (Raw.flow_sequence_start (perhaps_anchor_of o) (perhaps_tag_of o)) (items_events i r) (ap (option_map (λ u. Ev.sequence_start (number s (perhaps_anchor_of o)) u)) h)
-content_unnameable keep s context.Block o (Some (flow (flow_mapping i))) r h = unnameable_first keep s (Raw.flow_mapping_start (perhaps_anchor_of o) (perhaps_tag_of o)) (flow_pairs_events i r) (ap (option_map (λ u. Ev.mapping_start (number s (perhaps_anchor_of o)) u)) h)
-content_unnameable keep s context.Block o (Some (block_sequence i)) r h = unnameable_first keep s (Raw.sequence_start (perhaps_anchor_of o) (perhaps_tag_of o)) (entries_events i r) (ap (option_map (λ u. Ev.sequence_start (number s (perhaps_anchor_of o)) u)) h)
-content_unnameable keep s context.Block o (Some (block_mapping i)) r h = unnameable_first keep s (Raw.mapping_start (perhaps_anchor_of o) (perhaps_tag_of o)) (pairs_events i r) (ap (option_map (λ u. Ev.mapping_start (number s (perhaps_anchor_of o)) u)) h)
-content_unnameable keep s context.Part o (Some (part_content (flow (scalar y v)))) r h = unnameable_first keep s (Raw.scalar v y (perhaps_anchor_of o) (perhaps_tag_of o)) r (ap (option_map (λ u. Ev.scalar v y (number s (perhaps_anchor_of o)) u)) h)
-content_unnameable keep s context.Part o (Some (part_content (flow (flow_sequence i)))) r h = unnameable_first keep s (Raw.flow_sequence_start (perhaps_anchor_of o) (perhaps_tag_of o)) (items_events i r) (ap (option_map (λ u. Ev.sequence_start (number s (perhaps_anchor_of o)) u)) h)
-content_unnameable keep s context.Part o (Some (part_content (flow (flow_mapping i)))) r h = unnameable_first keep s (Raw.flow_mapping_start (perhaps_anchor_of o) (perhaps_tag_of o)) (flow_pairs_events i r) (ap (option_map (λ u. Ev.mapping_start (number s (perhaps_anchor_of o)) u)) h)
-content_unnameable keep s context.Part o (Some (part_content (block_sequence i))) r h = unnameable_first keep s (Raw.sequence_start (perhaps_anchor_of o) (perhaps_tag_of o)) (entries_events i r) (ap (option_map (λ u. Ev.sequence_start (number s (perhaps_anchor_of o)) u)) h)
-content_unnameable keep s context.Part o (Some (part_content (block_mapping i))) r h = unnameable_first keep s (Raw.mapping_start (perhaps_anchor_of o) (perhaps_tag_of o)) (pairs_events i r) (ap (option_map (λ u. Ev.mapping_start (number s (perhaps_anchor_of o)) u)) h)
-content_unnameable keep s context.Part o (Some (part_dashes q d)) r h = unnameable_first keep s (Raw.sequence_start (perhaps_anchor_of o) (perhaps_tag_of o)) (perhaps_events q (dashes_events d r)) (ap (option_map (λ u. Ev.sequence_start (number s (perhaps_anchor_of o)) u)) h)
+-- ---- a node whose tag stands for nothing
 
-tag_and_tag : (x : event.Tag) (y : Option (List ℕ)) → perhaps_tag_of (Some (tag_and x y)) ≡ Some x
-tag_and_tag x None = refl
-tag_and_tag x (Some y) = refl
+-- Where a row says its token's event first, or that of a node that is not written, this event comes.
+abbrev first_said : Held → Tok → Option (Row table.Goal Raw) → Option Raw
+first_said h t (Some (takes (show ∷ ps))) = Some (event_of h t)
+first_said h t (Some (leaves (empty ∷ ps))) = Some (empty_event h)
+first_said h t _ = None
 
-abbrev node_with_anchor : (w : positions.NodeContext) → Awaits (at.node w)
-node_with_anchor context.Flow = flow_properties (written.anchored [])
-node_with_anchor context.Block = block_properties (written.anchored [])
-node_with_anchor context.Part = part_node (block_properties (written.anchored []))
+is_same : {A : Type 0} {x y : A} → Some x ≡ Some y → x ≡ y
+is_same h = cc
 
-begins_with_anchor : (w : positions.NodeContext) (r : List Tok) → goal_tokens (at.node w) (node_with_anchor w) r ≡ Tok.anchor [] ∷ r
-begins_with_anchor context.Flow r = refl
-begins_with_anchor context.Block r = refl
-begins_with_anchor context.Part r = refl
+said_first : (g : table.Goal) (h : Held) (w : Works) (t : Tok) (ts : List Tok) (es : List Raw) (e : Raw) → first_said h t (row_of (cases g) t) ≡ Some e → Derives grammar (reading g h ∷ w) (t ∷ ts) es → (fs : List Raw) × (es ≡ e ∷ fs)
+said_first g h w t ts es e f d = by (row_of (cases g) t) refl f
+  where
+    by : (r : Option (Row table.Goal Raw)) → row_of (cases g) t ≡ r → first_said h t r ≡ Some e → (fs : List Raw) × (es ≡ e ∷ fs)
+    by (Some (takes (show ∷ ps))) q k = let s = said _ _ ts es (row_taken g h w t ts es _ q d) in (s.0, s.1 ∙ ap (λ o. o ∷ s.0) (is_same k))
+    by (Some (leaves (empty ∷ ps))) q k = let s = said _ _ (t ∷ ts) es (row_left g h w t ts es _ q d) in (s.0, s.1 ∙ ap (λ o. o ∷ s.0) (is_same k))
+    by r q k = cc
+
+content_unresolved : (s : Names) (p : Place) (h : Held) (t : Tok) → perhaps_resolved s.handles h.tag ≡ None → (e : Raw) × (first_said h t (row_of (cases (table.content p)) t) ≡ Some e) × (resolved_event s e ≡ None)
+content_unresolved s table.in_flow h (Tok.scalar y v) k = (_, refl, ap (option_map _) k)
+content_unresolved s table.in_block h Tok.block_mapping_start k = (_, refl, ap (option_map _) k)
+content_unresolved s (table.in_pair q) h Tok.block_entry k = (_, refl, ap (option_map _) k)
+content_unresolved s p h t k = (_, refl, ap (option_map _) k)
+
+content_unnameable : (keep : Bool) (s : Names) (p : Place) (h : Held) (w : Works) (ts : List Tok) (es : List Raw) → perhaps_resolved s.handles h.tag ≡ None → Derives grammar (reading (table.content p) h ∷ w) ts es → Unnameable keep s es
+content_unnameable keep s p h w [] es k d = absurd (needs_tokens (reading (table.content p) h ∷ w) es refl d)
+content_unnameable keep s p h w (t ∷ ts) es k d =
+    let c = content_unresolved s p h t k in
+    let f = said_first (table.content p) h w t ts es c.0 c.1 d in
+    ap (named keep s) f.1 ∙ unnameable_first keep s c.0 f.0 c.2
+
+-- An anchor may still come.
+tagged_unnameable : (keep : Bool) (s : Names) (p : Place) (h : Held) (w : Works) (ts : List Tok) (es : List Raw) → perhaps_resolved s.handles h.tag ≡ None → Derives grammar (reading (table.after_tag p) h ∷ w) ts es → Unnameable keep s es
+tagged_unnameable keep s p h w [] es k d = absurd (needs_tokens (reading (table.after_tag p) h ∷ w) es refl d)
+tagged_unnameable keep s p h w (Tok.anchor n ∷ ts) es k d = content_unnameable keep s p (record h { anchor = Some n }) w ts es k (row_taken (table.after_tag p) h w (Tok.anchor n) ts es _ refl d)
+tagged_unnameable keep s p h w (t ∷ ts) es k d = content_unnameable keep s p h w (t ∷ ts) es k (row_left (table.after_tag p) h w t ts es _ refl d)
 
 anchor_named : (t : Tok) → kind_of t ≡ kind.Anchor → (n : List ℕ) × (t ≡ Tok.anchor n)
 anchor_named (Tok.anchor n) h = (n, refl)
@@ -364,13 +374,13 @@ anchor_named _ h = cc
 no_anchor_before : {T : Type 0} {p : Reader T} {m : Position} (w : positions.NodeContext) {names : Names} {given : List (Ev × Position)}
     → At (at.node w) p names given → EndsInAnchor (all_shown p.tokens.taken.items) m → ⊥
 no_anchor_before {T} {p} {m} w a e =
-    let d = a.stands.sound (node_with_anchor w) (ending p.stack) in
+    let d = a.stands.sound _ _ (goes_so (at.node w) p.stack (Tok.anchor []) [] refl refl) in
     let n = anchor_named e.anchor.tok e.is in
-    let rest = rest_tokens p.stack (ending p.stack) in
     let taken : taken_toks p.tokens ≡ toks e.before ++ Tok.anchor n.0 ∷ [] =
     ap toks e.whole ∙ map_snoc (λ (x : defs.Token). x.tok) e.before e.anchor ∙ ap (λ u. toks e.before ++ u ∷ []) n.1 in
-    no_two_anchors d.0 (toks e.before) n.0 [] rest
-    (d.1 ∙ ap (λ xs. taken_toks p.tokens ++ xs) (begins_with_anchor w rest) ∙ ap (λ xs. xs ++ Tok.anchor [] ∷ rest) taken ∙ append_assoc (toks e.before) (Tok.anchor n.0 ∷ []) (Tok.anchor [] ∷ rest))
+    let rest = text ∷ (after_text (where_it_stands p.stack) ++ end_tokens (past p.stack (works p.stack))) in
+    let says = end_events (reading (table.after_anchor (where_it_stands p.stack)) (record { anchor = Some []; tag = None; directives = [] }) ∷ past p.stack (works p.stack)) in
+    no_two_anchors (toks e.before) n.0 [] rest (a.raw ++ says) (subst (λ us. StreamSays us (a.raw ++ says)) (ap (λ xs. xs ++ Tok.anchor [] ∷ rest) taken ∙ append_assoc (toks e.before) (Tok.anchor n.0 ∷ []) (Tok.anchor [] ∷ rest)) d)
 
 no_prefix : (x : event.Tag) (o : Option (List ℕ)) → option_map {U = event.Tag} (λ prefix. record { handle = prefix; suffix = x.suffix }) o ≡ None → o ≡ None
 no_prefix x None h = refl
@@ -380,14 +390,14 @@ pub tag_unknown : {T : Type 0} {p r : Reader T} {t : Token} {m : Position} {w : 
     → p.tokens.peeked ≡ Some t → t.0 ≡ m → Skips p.tokens t r.tokens → r.names ≡ p.names → tok_of t.1 ≡ written.tag_token x → resolved names.handles x ≡ None → At (at.node w) p names given → Faulted r given (stop.Own (fault.At UndeclaredHandle m))
 tag_unknown {T} {p} {r} {t} {m} {w} {x} {names} {given} here mark skips same tok missing a =
     unnamed_at UndeclaredHandle (ap (λ u. fits UndeclaredHandle (kind_of u)) tok) refl (inl (sym mark, λ e q before. no_anchor_before w a before)) here skips (ap (λ z. z.keeping) same) (subst (λ z. Takes (at.node w) p.stack z None (at.after_tag w x) p.stack) (sym tok) (turn.node_tag w p.stack x))
-    (λ y z. content_unnameable p.names.keeping.tags names w (Some (tag_and x y.0)) y.1 (rest_events p.stack z) (ap (perhaps_resolved names.handles) (tag_and_tag x y.0) ∙ ap (option_map Some) missing))
+    (λ ts es y. tagged_unnameable p.names.keeping.tags names _ _ _ ts es (ap (option_map Some) missing) y.0)
     (subst (HasUndeclaredHandle names) (sym tok) (no_prefix x (prefix_of names.handles x.handle) missing)) (apart_as refl (node_ways w)) a
 
 pub tag_unknown_after : {T : Type 0} {p r : Reader T} {t : Token} {m : Position} {w : positions.NodeContext} {v : List ℕ} {x : event.Tag} {names : Names} {given : List (Ev × Position)}
     → p.tokens.peeked ≡ Some t → EndsInAnchor (all_shown p.tokens.taken.items) m → Skips p.tokens t r.tokens → r.names ≡ p.names → tok_of t.1 ≡ written.tag_token x → resolved names.handles x ≡ None → At (at.after_anchor w v) p names given → Faulted r given (stop.Own (fault.At UndeclaredHandle m))
 tag_unknown_after {T} {p} {r} {t} {m} {w} {v} {x} {names} {given} here anchored skips same tok missing a =
     unnamed_at UndeclaredHandle (ap (λ u. fits UndeclaredHandle (kind_of u)) tok) refl (inr (refl, anchored)) here skips (ap (λ z. z.keeping) same) (subst (λ z. Takes (at.after_anchor w v) p.stack z None (at.after_properties w (Some (written.anchored_tagged v x))) p.stack) (sym tok) (turn.anchor_tag w p.stack v x))
-    (λ y z. content_unnameable p.names.keeping.tags names w (Some (written.anchored_tagged v x)) y.0 (rest_events p.stack z) (ap (option_map Some) missing))
+    (λ ts es y. content_unnameable p.names.keeping.tags names _ _ _ ts es (ap (option_map Some) missing) y.0)
     (subst (HasUndeclaredHandle names) (sym tok) (no_prefix x (prefix_of names.handles x.handle) missing)) (apart_as refl (anchored_ways w v)) a
 
 -- An anchor was taken, and then a token was looked at.

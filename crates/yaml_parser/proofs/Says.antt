@@ -3,8 +3,9 @@ use Rattle.std.proofs.Common.{◌≡◌, ◌≢◌, List, [], ◌∷◌, ◌++�
 use Rattle.defs_text.specs.Position.{Position}
 use Rattle.defs_token.specs.Token.{Tok}
 use Rattle.defs_event.specs.Event.{Ev}
-use Rattle.defs_event.specs.Raw.{Directive}
-use Rattle.defs_event.specs.Grammar.{Documents, stream_tokens, end_stream, unmarked}
+use Rattle.defs_event.specs.Raw.{Raw, Directive}
+use Rattle.defs_event.specs.Grammar as table
+use Rattle.defs_event.specs.Stream.{StreamSays}
 use Rattle.defs_event.specs.Names.{Names}
 use Rattle.yaml_tokens.specs.declared.problem.Problem.{Problem}
 use Rattle.yaml_tokens.specs.declared.problem.Problem.TheVariants as problem
@@ -17,8 +18,9 @@ use Rattle.model_parser.specs.Goal as at
 use Rattle.model_parser.specs.Goal.{Goal}
 use Rattle.defs_event.specs.Place.{Collection, block_sequence, block_mapping, flow_sequence, flow_mapping, open_after, Next, node_next, directive_next, other_next, next_after}
 use Rattle.model_parser.specs.Place.{open_under, open_at, next_at, top, is_after, is_over_document, IsNoDirective}
-use Rattle.model_parser.specs.Rest.{rest_tokens, is_in_mapping, IsNested, is_under, IsBottom}
-use Rattle.model_parser.proofs.Shortest.{ending}
+use Rattle.model_parser.specs.Rest.{is_in_mapping, IsNested, is_under, IsBottom}
+use Rattle.model_parser.proofs.Rows.{no_row}
+use Rattle.model_parser.proofs.Endings.{goes_so}
 use Rattle.yaml_parser.specs.declared.reader.Reader.{Reader}
 use Rattle.yaml_parser.specs.Blames.{problem_in, problem_at, problem_for, problem_of}
 use Rattle.yaml_parser.specs.Handed.{taken_toks}
@@ -78,15 +80,15 @@ says_directed {T} {k} {p} read none a known t look kind =
     (no_directive_for (kind_of t) directive_next (ap is_directive kind ∙ none))
 
 -- Something was taken before a document's end.
-taken_some : (ts us : List Tok) (d : Documents) → stream_tokens d ≡ ts ++ Tok.stream_end ∷ us → ts ≢ []
-taken_some [] us d h e = cc
-taken_some (t ∷ ts) us d h e = cc
+taken_some : (ts us : List Tok) (es : List Raw) → StreamSays (ts ++ Tok.stream_end ∷ us) es → ts ≢ []
+taken_some [] us es d e = no_row table.stream table.nothing_held [] Tok.stream_end us es refl d
+taken_some (t ∷ ts) us es d e = cc
 
 pub says_after : {T : Type 0} {k : Kind} {p : Reader T} {names : Names} {given : List (Ev × Position)} → is_directive k ≡ true → Says problem.DirectiveWithoutDocumentEnd k at.after p names given
 says_after {T} {k} {p} is a known t look kind =
-    let d = a.stands.sound (unmarked end_stream) (ending p.stack) in
+    let d = a.stands.sound _ _ (goes_so at.after p.stack Tok.stream_end [] refl refl) in
     by_tokens problem.DirectiveWithoutDocumentEnd (taken_toks p.tokens) t refl (a.stands.opened ∙ bottom_open p.stack a.stands.fits)
-    (λ e. absurd (taken_some (taken_toks p.tokens) (rest_tokens p.stack (ending p.stack)) d.0 d.1 e))
+    (λ e. absurd (taken_some (taken_toks p.tokens) _ _ d e))
     (ap (λ b. if b then problem.DirectiveWithoutDocumentEnd else problem_at (next_after other_next (taken_toks p.tokens)) []) (sym (ap is_directive kind ∙ is)))
 
 -- ---- where a node is read
@@ -106,7 +108,7 @@ over_document (state.DocumentContent ∷ ss) n u e = cc
 over_document (state.DocumentEnd ∷ ss) n u e = refl
 over_document (state.BlockNode ∷ ss) n u e = cc
 over_document (state.BlockSequenceEntry ∷ ss) n u e = cc
-over_document (state.IndentlessSequenceEntry ∷ ss) n u e = absurd (mapping_opens ss n.0.0.2 e)
+over_document (state.IndentlessSequenceEntry ∷ ss) n u e = absurd (mapping_opens ss n.0 e)
 over_document (state.IndentlessSequenceItem ∷ ss) n u e = cc
 over_document (state.BlockMappingKey ∷ ss) n u e = cc
 over_document (state.BlockMappingNextKey ∷ ss) n u e = cc
@@ -131,4 +133,4 @@ pub says_node : {T : Type 0} {k : Kind} {p : Reader T} {names : Names} {given : 
 says_node {T} {k} {p} a known t look kind =
     let next : next_after other_next (taken_toks p.tokens) ≡ node_next = known refl in
     by_tokens problem.NodeContent (taken_toks p.tokens) t next a.stands.opened (λ e. let no : other_next ≡ node_next = next_is_none next e in cc)
-    (node_for (kind_of t) (open_under p.stack) (λ e. looked_no_directive look (a.stands.past (over_document p.stack a.stands.nested a.stands.fits.1 e))))
+    (node_for (kind_of t) (open_under p.stack) (λ e. looked_no_directive look (a.stands.past (over_document p.stack a.stands.nested a.stands.fits.0 e))))

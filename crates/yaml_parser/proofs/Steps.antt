@@ -18,9 +18,10 @@ use Rattle.model_parser.specs.declared.kind.Kind.{Kind}
 use Rattle.model_parser.specs.declared.state.State.{State}
 use Rattle.model_parser.specs.Kinds.{kind_of}
 use Rattle.model_parser.specs.Goal.{Goal}
-use Rattle.model_parser.specs.Stands.{IsOnTrack, IsNext, IsSettled, as_tokens, goes_on, at_directive}
+use Rattle.model_parser.specs.Stands.{IsOnTrack, IsNext}
 use Rattle.model_parser.specs.Turn.{Takes, Leaves}
 use Rattle.model_parser.proofs.Carry.{stands_take, stands_leave}
+use Rattle.model_parser.proofs.Standing.{looks}
 use Rattle.yaml_parser.specs.declared.names.Keeping.{Keeping}
 use Rattle.yaml_parser.specs.declared.tokens.Tokens.{Tokens}
 use Rattle.yaml_parser.specs.declared.reader.Reader.{Reader}
@@ -47,14 +48,6 @@ taken_snoc ts t = ap toks (map_snoc shown ts t) ∙ map_snoc (λ (x : defs.Token
 pub looked : (k : Kind) (o : Option Token) → IsOfKind k o → (t : Token) × (o ≡ Some t) × (kind_of (tok_of t.1) ≡ k)
 looked k None h = absurd h
 looked k (Some t) h = (t, refl, h)
-
-stands_look : (g : Goal) (ss : List State) (taken : List Tok) (o : Option Tok) (given : List Raw) → IsOnTrack g ss taken None given → IsOnTrack g ss taken o given
-stands_look g ss taken o given s = record { nested = s.nested; fits = s.fits; opened = s.opened; settled = by s.settled; past = λ h. absurd (s.past h); sound = s.sound; exact = λ d ts h u. s.exact d ts h tt }
-  where
-    by : IsSettled g ss taken None → IsSettled g ss taken o
-    by (as_tokens h) = as_tokens h
-    by (goes_on h c) = absurd c
-    by (at_directive h d) = cc
 
 skipped_handed : {T : Type 0} {p r : Tokens T} {t : Token} → p.peeked ≡ Some t → Skips p t r → IsHanded p → IsHanded r
 skipped_handed {T} {p} {r} {t} here s h =
@@ -229,7 +222,7 @@ left_on {T} {g} {g'} {p} {r} {o} {ss'} {names} {given} here same to turn names_s
 
 pub look_peeked : (g : Goal) (ss : List State) (taken : List Tok) (o q : Option Token) (raw : List Raw) → ((t : Token) → o ≡ Some t → q ≡ Some t)
     → IsOnTrack g ss taken (option_map (λ (x : Token). tok_of x.1) o) raw → IsOnTrack g ss taken (option_map (λ (x : Token). tok_of x.1) q) raw
-look_peeked g ss taken None q raw f s = stands_look g ss taken _ raw s
+look_peeked g ss taken None q raw f s = looks _ s
 look_peeked g ss taken (Some t) q raw f s = subst (λ x. IsOnTrack g ss taken (option_map (λ (y : Token). tok_of y.1) x) raw) (sym (f t refl)) s
 
 -- the next token is the one that was looked at, where one was

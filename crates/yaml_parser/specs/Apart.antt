@@ -1,27 +1,23 @@
 -- After the same tokens and events, streams go on in two ways, or with two events.
-use Rattle.std.specs.Prelude.{◌≡◌, ◌≢◌, List, [], ◌∷◌, ◌++◌}
+use Rattle.std.specs.Prelude.{◌≢◌, List, [], ◌∷◌, ◌++◌}
 use Rattle.defs_token.specs.Token.{Style, Tok}
 use Rattle.defs_event.specs.Raw.{Raw}
-use Rattle.defs_event.specs.Grammar.{Documents, stream_tokens, stream_events}
+use Rattle.defs_event.specs.Stream.{StreamSays}
 use Rattle.yaml_tokens.specs.declared.problem.Problem.{Problem}
 use Rattle.yaml_tokens.specs.declared.problem.Problem.TheVariants as problem
 use Rattle.defs_event.specs.Place.{Collection, block_sequence, block_mapping, flow_sequence, flow_mapping, open_after, Next, node_next, directive_next, other_next, next_after}
 
 -- A stream begins with these tokens and events, and goes on with this token and with this event.
 pub record GoesOnBy (tokens : List Tok) (raw : List Raw) (token : Tok) (event : Raw) : Type 0 where
-  pub documents : Documents
   pub more_tokens : List Tok
   pub more_events : List Raw
-  pub has_tokens : stream_tokens documents ≡ tokens ++ token ∷ more_tokens
-  pub has_events : stream_events documents ≡ raw ++ event ∷ more_events
+  pub says : StreamSays (tokens ++ token ∷ more_tokens) (raw ++ event ∷ more_events)
 
 -- A stream begins with these tokens, and with these events and then this one.
 pub record GoesOnWith (tokens : List Tok) (raw : List Raw) (event : Raw) : Type 0 where
-  pub documents : Documents
   pub more_tokens : List Tok
   pub more_events : List Raw
-  pub has_tokens : stream_tokens documents ≡ tokens ++ more_tokens
-  pub has_events : stream_events documents ≡ raw ++ event ∷ more_events
+  pub says : StreamSays (tokens ++ more_tokens) (raw ++ event ∷ more_events)
 
 -- Two different events may come next. So these tokens make no further event certain.
 pub record IsOpen (tokens : List Tok) (raw : List Raw) : Type 0 where

@@ -10,7 +10,7 @@ use Rattle.yaml_tokens.specs.Shown.{all_shown}
 use Rattle.yaml_scanner.specs.Scanned.{scanned}
 use Rattle.defs_event.specs.Event.{Ev}
 use Rattle.defs_event.specs.Raw.{Raw}
-use Rattle.defs_event.specs.Grammar.{tag_of}
+use Rattle.defs_event.specs.Properties.{tag_of}
 use Rattle.defs_event.specs.Names.{Names, no_names, at_document, are_allowed, resolved, perhaps_resolved}
 use Rattle.defs_event.specs.Stream.{events_of, positions_of, taken_positions, given_positions}
 use Rattle.model_parser.specs.Goal as at

@@ -9,9 +9,9 @@ use Rattle.yaml_tokens.specs.declared.problem.Problem.{Problem}
 use Rattle.yaml_tokens.specs.declared.problem.Problem.TheVariants as problem
 use Rattle.defs_event.specs.Event.{Ev}
 use Rattle.defs_event.specs.Raw.{Raw, Directive}
-use Rattle.defs_event.specs.Grammar.{Documents, stream_tokens, directive_token, directives_tokens}
+use Rattle.defs_event.specs.Properties.{directive_token, directives_tokens}
 use Rattle.defs_event.specs.Names.{Names, no_names, under_name, prefix_of, are_allowed}
-use Rattle.defs_event.specs.Stream.{events_of}
+use Rattle.defs_event.specs.Stream.{StreamSays, events_of}
 use Rattle.defs_token.specs.Toks.{toks}
 use Rattle.model_parser.specs.declared.kind.Kind.{Kind}
 use Rattle.model_parser.specs.declared.kind.Kind.TheVariants as kind
@@ -149,9 +149,9 @@ pub record Blames (f : ErrorReport) (settings : List Bool) (keep_tags : Bool) (t
   -- But at the stream's start, the events are those that the tokens before make certain.
   pub apart : (toks before ≡ [] → ⊥) → StandsApart problem (toks before) raw
   -- But for a problem of names, the token grammar has no stream that begins so, whatever names mean.
-  pub none : is_of_names problem ≡ false → (d : Documents) (ts : List Tok) → stream_tokens d ≡ toks tokens ++ ts → ⊥
+  pub none : is_of_names problem ≡ false → (ts : List Tok) (es : List Raw) → StreamSays (toks tokens ++ ts) es → ⊥
   -- For one of names, it has such a stream.
-  pub some : is_of_names problem ≡ true → (d : Documents) × (ts : List Tok) × (stream_tokens d ≡ toks tokens ++ ts)
+  pub some : is_of_names problem ≡ true → (ts : List Tok) × (es : List Raw) × StreamSays (toks tokens ++ ts) es
 
 -- Memory was refused.
 pub record WantsMemory (f : ErrorReport) : Type 0 where

@@ -4,27 +4,24 @@ use Rattle.defs_text.specs.Position.{Position}
 use Rattle.defs_token.specs.Token.{Tok, Token}
 use Rattle.defs_event.specs.Event.{Ev}
 use Rattle.defs_event.specs.Raw.{Raw}
-use Rattle.defs_event.specs.Grammar.{Documents, stream_tokens, stream_events}
 use Rattle.defs_event.specs.Names.{no_names}
 use Rattle.defs_token.specs.Toks.{toks}
-use Rattle.defs_event.specs.Stream.{events_of, positions_of, taken_positions, given_positions}
+use Rattle.defs_event.specs.Stream.{StreamSays, events_of, positions_of, taken_positions, given_positions}
 use Rattle.yaml_parser.specs.Settings.{named_since}
 
 -- Each stream that begins with these tokens begins with these events.
 abbrev pub ForetellsRaw : List Tok → List Raw → Type 0
-ForetellsRaw tokens raw = (d : Documents) (ts : List Tok) → stream_tokens d ≡ tokens ++ ts → (es : List Raw) × (stream_events d ≡ raw ++ es)
+ForetellsRaw tokens raw = (ts : List Tok) (es : List Raw) → StreamSays (tokens ++ ts) es → (fs : List Raw) × (es ≡ raw ++ fs)
 
 -- No stream that begins with these tokens can be named.
 abbrev pub NoneIsNamed : (settings : List Bool) → (keep_tags : Bool) → List Tok → Type 0
 NoneIsNamed settings keep_tags tokens =
-    (d : Documents) (ts : List Tok) (es : List Ev) → stream_tokens d ≡ tokens ++ ts → named_since settings keep_tags no_names (stream_events d) ≡ Some es → ⊥
+    (ts : List Tok) (raw : List Raw) (es : List Ev) → StreamSays (tokens ++ ts) raw → named_since settings keep_tags no_names raw ≡ Some es → ⊥
 
 -- The tokens are a stream, with these events before names are resolved and after. Those that have a token of their own are those of
 -- the tokens, in order, each at its token's position.
 pub record IsStreamSince (settings : List Bool) (keep_tags : Bool) (tokens : List Token) (raw : List Raw) (events : List (Ev × Position)) : Type 0 where
-  pub documents : Documents
-  pub has_tokens : stream_tokens documents ≡ toks tokens
-  pub has_raw : stream_events documents ≡ raw
+  pub says : StreamSays (toks tokens) raw
   pub has_events : named_since settings keep_tags no_names raw ≡ Some (events_of events)
   pub has_positions : taken_positions raw (positions_of events) ≡ given_positions tokens
 

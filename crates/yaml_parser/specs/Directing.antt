@@ -3,7 +3,7 @@ use Rattle.std.specs.Prelude.{◌≡◌, List, [], ◌++◌, Bool, false, if◌t
 use Rattle.defs_text.specs.Position.{Position}
 use Rattle.defs_event.specs.Event.{Ev}
 use Rattle.defs_event.specs.Raw.{Directive}
-use Rattle.defs_event.specs.Grammar.{directives_tokens}
+use Rattle.defs_event.specs.Properties.{directives_tokens}
 use Rattle.defs_token.specs.Token.{Tok}
 use Rattle.defs_event.specs.Names.{Names, versions}
 use Rattle.model_parser.specs.Goal as at

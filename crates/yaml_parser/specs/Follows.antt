@@ -4,9 +4,8 @@ use Rattle.defs_token.specs.Token.{Tok, Token}
 use Rattle.yaml_tokens.specs.ErrorReport.{ErrorReport}
 use Rattle.defs_event.specs.Event.{Ev}
 use Rattle.defs_event.specs.Raw.{Raw}
-use Rattle.defs_event.specs.Grammar.{Documents, stream_tokens}
 use Rattle.defs_token.specs.Toks.{toks}
-use Rattle.defs_event.specs.Stream.{IsStream, IsPlacedStream, BeginsPlaced, Foretells, NoneBegins, events_of}
+use Rattle.defs_event.specs.Stream.{StreamSays, IsStream, IsPlacedStream, BeginsPlaced, Foretells, NoneBegins, events_of}
 use Rattle.yaml_parser.specs.Blames.{Blames, WantsMemory}
 use Rattle.yaml_parser.specs.Derived.{IsDerived, IsStreamSince, ForetellsRaw}
 use Rattle.yaml_parser.specs.Halts.{IsHalted}
@@ -53,7 +52,7 @@ pub record Derives (p : Parsed) : Type 0 where
 pub record IsComplete (p : Parsed) : Type 0 where
   pub raw : List Raw
   pub stream : IsStreamSince p.settings p.keep_tags p.scanner.given raw (read p)
-  pub only : (d : Documents) (ts : List Tok) → stream_tokens d ≡ toks p.scanner.given ++ ts → ts ≡ []
+  pub only : (ts : List Tok) (es : List Raw) → StreamSays (toks p.scanner.given ++ ts) es → ts ≡ []
 
 -- The last token is refused: by its text and position, and by the grammar.
 pub record IsRefusedAtLast (f : ErrorReport) (p : Parsed) : Type 0 where

@@ -4,8 +4,8 @@ use Rattle.defs_text.specs.Position as chars
 use Rattle.defs_text.specs.Text.{string_chars}
 use Rattle.defs_event.specs.Event as defs
 use Rattle.defs_event.specs.Event.{Ev}
-use Rattle.defs_event.specs.Grammar as written
-use Rattle.defs_event.specs.Grammar.{anchor_of, tag_of}
+use Rattle.defs_event.specs.Properties as written
+use Rattle.defs_event.specs.Properties.{anchor_of, tag_of}
 use Rattle.defs_event.specs.Names.{Names, number, with_anchor, perhaps_resolved}
 use Rattle.model_parser.specs.declared.context.NodeContext.{NodeContext}
 use Rattle.model_parser.specs.Goal as at

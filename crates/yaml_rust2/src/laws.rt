@@ -8,7 +8,7 @@ pub use defs_event::laws::nested_events_are_read_one_by_one;
 pub use defs_event::laws::nesting_test_is_exact;
 pub use defs_event::laws::stream_events_are_nested;
 pub use defs_event::laws::streams_have_one_reading;
-pub use defs_event::laws::tokens_are_derived_in_one_way;
+pub use defs_event::laws::tokens_are_read_in_one_way;
 pub use defs_layout::laws::basic_layouts_are_layouts;
 pub use defs_layout::laws::json_trees_are_sound;
 pub use defs_layout::laws::laid_out_trees_are_sound;

@@ -6,8 +6,9 @@ use Rattle.defs_layout.specs.Basic.{IsBasicScalar, IsBasicInline, IsBasicBlock, 
 use Rattle.defs_layout.specs.LayoutTokens.{scalar_token, block_tokens, value_tokens, entry_tokens, field_tokens, all_field_tokens, root_tokens, documents_tokens, marked}
 use Rattle.defs_event.specs.Event.{Ev}
 use Rattle.defs_event.specs.Raw.{Raw}
-use Rattle.defs_event.specs.Grammar as grammar
-use Rattle.defs_event.specs.Grammar.{content_tokens, node_tokens, entries_tokens, part_tokens, pairs_tokens, key_pairs_tokens, stream_tokens, content_events, node_events, entries_events, pairs_events, key_pairs_events, stream_events}
+use Rattle.proof_grammar.specs.Derivations as grammar
+use Rattle.proof_grammar.proofs.Included.{derived_stream}
+use Rattle.proof_grammar.specs.Derivations.{content_tokens, node_tokens, entries_tokens, part_tokens, pairs_tokens, key_pairs_tokens, stream_tokens, content_events, node_events, entries_events, pairs_events, key_pairs_events, stream_events}
 use Rattle.defs_event.specs.Names.{Names, no_names, named, at_document}
 use Rattle.defs_event.specs.Nested.{NestPairs, nest_events, nests_events, nest_pairs_events, with_node, nested_stream}
 use Rattle.proof_layout_trees.proofs.Json.Derived.{and_then}
@@ -122,8 +123,7 @@ events_named keep (Documents.last_document d after) h =
 events_named keep (Documents.document d g ds) h = absurd h
 
 pub tokens_are_a_stream : BasicTokensAreAStream
-tokens_are_a_stream keep w basic = record {
-  documents = documents w;
-  has_tokens = ap (λ b. stream_tokens (documents_by b w.documents)) basic.0 ∙ tokens_told w.documents basic.1 ∙ ap (λ b. Tok.stream_start ∷ marked b (documents_tokens w.documents)) (sym basic.0);
-  has_events = ap (λ b. named keep no_names (stream_events (documents_by b w.documents))) basic.0 ∙ events_named keep w.documents basic.1;
-}
+tokens_are_a_stream keep w basic =
+    derived_stream (documents w)
+    (ap (λ b. stream_tokens (documents_by b w.documents)) basic.0 ∙ tokens_told w.documents basic.1 ∙ ap (λ b. Tok.stream_start ∷ marked b (documents_tokens w.documents)) (sym basic.0))
+    (ap (λ b. named keep no_names (stream_events (documents_by b w.documents))) basic.0 ∙ events_named keep w.documents basic.1)

@@ -8,8 +8,9 @@ use Rattle.defs_layout.specs.Json.{Json, Elements, Members, JsonText}
 use Rattle.defs_layout.specs.JsonTokens.{json_tokens, element_tokens, member_tokens, json_text_tokens}
 use Rattle.defs_event.specs.Event.{Ev}
 use Rattle.defs_event.specs.Raw.{Raw}
-use Rattle.defs_event.specs.Grammar as grammar
-use Rattle.defs_event.specs.Grammar.{FlowContent, FlowNode, Item, MoreItems, FlowPair, MoreFlowPairs, Documents, flow_content_tokens, item_tokens, more_items_tokens, flow_pair_tokens, more_flow_pairs_tokens, flow_content_events, item_events, more_items_events, flow_pair_events, more_flow_pairs_events, stream_tokens, stream_events}
+use Rattle.proof_grammar.specs.Derivations as grammar
+use Rattle.proof_grammar.proofs.Included.{derived_stream}
+use Rattle.proof_grammar.specs.Derivations.{FlowContent, FlowNode, Item, MoreItems, FlowPair, MoreFlowPairs, Documents, flow_content_tokens, item_tokens, more_items_tokens, flow_pair_tokens, more_flow_pairs_tokens, flow_content_events, item_events, more_items_events, flow_pair_events, more_flow_pairs_events, stream_tokens, stream_events}
 use Rattle.defs_event.specs.Names.{Names, no_names, named, both, at_document}
 use Rattle.defs_event.specs.Nested.{nest_events, nests_events, nest_pairs_events, nested_stream}
 use Rattle.proof_layout_trees.specs.JsonNest.{nested_of, element_nests, member_nests, json_documents}
@@ -128,4 +129,4 @@ events_named keep w =
     (content_named w.value keep (at_document keep no_names []) (Raw.document_end ∷ Raw.stream_end ∷ []) (Ev.document_end ∷ Ev.stream_end ∷ []) refl))
 
 pub tokens_are_a_stream : JsonTokensAreAStream
-tokens_are_a_stream keep w = record { documents = documents w; has_tokens = tokens_told w; has_events = events_named keep w }
+tokens_are_a_stream keep w = derived_stream (documents w) (tokens_told w) (events_named keep w)

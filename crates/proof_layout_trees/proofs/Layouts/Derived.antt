@@ -5,15 +5,17 @@ use Rattle.defs_tree.specs.Spelling.{spelling}
 use Rattle.defs_layout.specs.Anchored.{Anchor, begun}
 use Rattle.defs_layout.specs.Layout.{Scalar, Inline, Block, Value, Entries, Field, Fields, Root, Documents, Layout, IsBlock, IsValue, AreEntries, IsField, AreFields, IsRoot, AreDocuments, IsLayout, MayFollowMark, MayBeAnchored, IsExplicitKey, anchors_after, anchors_after_field}
 use Rattle.defs_layout.specs.LayoutTokens.{scalar_token, inline_tokens, block_tokens, value_tokens, entry_tokens, field_tokens, all_field_tokens, root_tokens, documents_tokens, marked, layout_tokens}
-use Rattle.defs_event.specs.Grammar as grammar
-use Rattle.defs_event.specs.Grammar.{Properties, Content, Node, Perhaps, Part, Dashes, KeyPairs, After, content_tokens, node_tokens, perhaps_tokens, entries_tokens, part_tokens, dashes_tokens, pairs_tokens, key_pairs_tokens, after_tokens, stream_tokens}
+use Rattle.proof_grammar.specs.Derivations as grammar
+use Rattle.defs_event.specs.Properties as written
+use Rattle.defs_event.specs.Properties.{Properties}
+use Rattle.proof_grammar.specs.Derivations.{Content, Node, Perhaps, Part, Dashes, KeyPairs, After, content_tokens, node_tokens, perhaps_tokens, entries_tokens, part_tokens, dashes_tokens, pairs_tokens, key_pairs_tokens, after_tokens, stream_tokens}
 use Rattle.proof_layout_trees.proofs.Json.Derived as json
 
 -- ---- the derivation; o is the name of an anchor before the node, or nothing
 
 abbrev pub properties : Option (List ℕ) → Option Properties
 properties None = None
-properties (Some name) = Some (grammar.anchored name)
+properties (Some name) = Some (written.anchored name)
 
 abbrev pub leaf : Style → List ℕ → Content
 leaf style text = grammar.flow (grammar.scalar style text)

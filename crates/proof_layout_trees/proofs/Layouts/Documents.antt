@@ -5,7 +5,8 @@ use Rattle.defs_layout.specs.Layout.{Documents, AreDocuments, root_tree, trees_o
 use Rattle.defs_layout.specs.LayoutTokens.{layout_tokens}
 use Rattle.defs_event.specs.Event.{Ev}
 use Rattle.defs_event.specs.Raw.{Raw}
-use Rattle.defs_event.specs.Grammar.{node_events, after_events, stream_events}
+use Rattle.proof_grammar.specs.Derivations.{node_events, after_events, stream_events}
+use Rattle.proof_grammar.proofs.Included.{derived_stream}
 use Rattle.defs_event.specs.Names.{Names, no_names, named, at_document}
 use Rattle.defs_event.specs.Nested.{NestedDocument, with_node, nested_documents_events, nested_stream}
 use Rattle.defs_event.specs.Anchors.{Anchors}
@@ -60,7 +61,7 @@ tokens_read_as_their_trees keep w is =
     let x = documents_read keep no_names [] w.documents is in
     record {
       documents = x.nodes;
-      stream = record { documents = documents w; has_tokens = tokens_told w is; has_events = events_named keep w.is_marked w.documents x.nodes x.names };
+      stream = derived_stream (documents w) (tokens_told w is) (events_named keep w.is_marked w.documents x.nodes x.names);
       trees_are = rw (x.reads []) refl;
     }
 

@@ -6,8 +6,8 @@ use Rattle.defs_tree.specs.Pairs.{AreDistinct}
 use Rattle.defs_layout.specs.Anchored.{Anchor}
 use Rattle.defs_event.specs.Event.{Ev}
 use Rattle.defs_event.specs.Raw.{Raw}
-use Rattle.defs_event.specs.Grammar as grammar
-use Rattle.defs_event.specs.Grammar.{node_events}
+use Rattle.proof_grammar.specs.Derivations as grammar
+use Rattle.proof_grammar.specs.Derivations.{node_events}
 use Rattle.defs_event.specs.Names.{Names, named, both, number, with_anchor}
 use Rattle.defs_event.specs.Nested.{Nest, nested_scalar, nested_sequence, nested_mapping, Nests, no_nests, nest, NestPairs, no_nest_pairs, nest_pair, nest_events, nests_events, nest_pairs_events}
 use Rattle.defs_event.specs.Scalar.{scalar_tree}

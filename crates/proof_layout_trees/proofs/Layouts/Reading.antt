@@ -10,8 +10,9 @@ use Rattle.defs_layout.specs.Json.{Json, IsJson, tree_of}
 use Rattle.defs_layout.specs.Layout.{Scalar, Inline, Block, Value, Entries, Field, Fields, Root, IsPlain, IsScalar, IsInline, IsBlock, IsValue, AreEntries, IsField, AreFields, IsRoot, scalar_tree, inline_tree, block_tree, value_tree, items, pair_of, pair_list, root_tree, anchors_after_block, anchors_after, anchors_after_entries, anchors_after_field, anchors_after_fields}
 use Rattle.defs_event.specs.Event.{Ev}
 use Rattle.defs_event.specs.Raw.{Raw}
-use Rattle.defs_event.specs.Grammar as grammar
-use Rattle.defs_event.specs.Grammar.{perhaps_anchor_of, perhaps_tag_of, node_events, perhaps_events, entries_events, part_events, dashes_events, pairs_events, key_pairs_events}
+use Rattle.proof_grammar.specs.Derivations as grammar
+use Rattle.defs_event.specs.Properties.{perhaps_anchor_of, perhaps_tag_of}
+use Rattle.proof_grammar.specs.Derivations.{node_events, perhaps_events, entries_events, part_events, dashes_events, pairs_events, key_pairs_events}
 use Rattle.defs_event.specs.Names.{Names, named, number, with_anchor}
 use Rattle.defs_event.specs.Nested.{nested_alias}
 use Rattle.defs_event.specs.Anchors.{Anchors}

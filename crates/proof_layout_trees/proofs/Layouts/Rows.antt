@@ -10,8 +10,8 @@ use Rattle.defs_layout.specs.LayoutTokens.{layout_tokens}
 use Rattle.defs_event.specs.Event.{Ev}
 use Rattle.defs_event.specs.Nested.{Nest, nested_alias, nested_scalar, nested_sequence, no_nests, nest, with_node, nested_stream}
 use Rattle.defs_event.specs.Reading.{reading}
+use Rattle.proof_grammar.proofs.Streams.{stream_by}
 use Rattle.defs_event.specs.Stream.{IsStream}
-use Rattle.proof_layout_trees.proofs.Layouts.Derived.{documents}
 
 abbrev single : List ℕ → Inline
 single text = Inline.scalar (Scalar.single_quoted text)
@@ -47,7 +47,7 @@ two_documents_stream : IsStream false (layout_tokens two_documents)
     (Ev.stream_start ∷ Ev.document_start ∷ Ev.mapping_start 0 None ∷ Ev.scalar (codes "k") Style.double_quoted 0 None
     ∷ Ev.sequence_start 0 None ∷ Ev.scalar (codes "x") Style.single_quoted 1 None ∷ Ev.alias 1 ∷ Ev.sequence_end ∷ Ev.mapping_end ∷ Ev.document_end
     ∷ Ev.document_start ∷ Ev.sequence_start 0 None ∷ Ev.scalar (codes "x") Style.single_quoted 2 None ∷ Ev.alias 2 ∷ Ev.sequence_end ∷ Ev.document_end ∷ Ev.stream_end ∷ [])
-two_documents_stream = record { documents = documents two_documents; has_tokens = refl; has_events = refl }
+two_documents_stream = stream_by refl refl
 
 -- ---- `- &a 1`, `- &a 2`, `- *a`: the last node of the name counts
 
@@ -70,4 +70,4 @@ twice_named_nests = nested_sequence 0 None (nest (nested_scalar (codes "1") Styl
 twice_named_read : IsStream false (layout_tokens twice_named) (nested_stream (with_node twice_named_nests ∷ []))
     × (reading (with_node twice_named_nests ∷ []) ≡ Ok (trees_of twice_named.documents))
 unfolding typing is_decimal digits
-twice_named_read = (record { documents = documents twice_named; has_tokens = refl; has_events = refl }, refl)
+twice_named_read = (stream_by refl refl, refl)

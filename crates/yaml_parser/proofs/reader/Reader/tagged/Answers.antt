@@ -2,7 +2,7 @@ use Rattle.std.proofs.Common.{◌≡◌, refl, ap, ◌∙◌, Some, option_map, 
 use Rattle.defs_text.specs.Text.{string_chars}
 use Rattle.defs_token.specs.Token.{Tok}
 use Rattle.yaml_tokens.specs.Shown.{tok_of}
-use Rattle.defs_event.specs.Grammar as written
+use Rattle.defs_event.specs.Properties as written
 use Rattle.model_parser.specs.Goal as at
 use Rattle.model_parser.proofs.Nodes as turn
 use Rattle.yaml_parser.proofs.Steps.{looked, if_some_at}

@@ -2,40 +2,27 @@
 use Rattle.std.specs.Prelude.{true, false, [], ◌∷◌, Some, None, codes, refl}
 use Rattle.defs_token.specs.Token.{Style, Tok}
 use Rattle.defs_event.specs.Event.{Ev}
-use Rattle.defs_event.specs.Raw.{Directive}
-use Rattle.defs_event.specs.Grammar.{anchored, tagged, anchored_tagged, tagged_anchored, flow_alias, flow_content, flow_properties, scalar, flow_sequence, flow_mapping, no_flow, some_flow, no_items, items, end_items, comma_end_items, comma_item, single, single_pair, no_flow_value, flow_value, no_flow_pairs, flow_pairs, end_flow_pairs, comma_end_flow_pairs, comma_flow_pair, flow_keyed, flow_keyless, flow_single, block_alias, block_content, block_properties, flow, block_sequence, block_mapping, no_node, some_node, end_entries, entry, plain, indentless, end_dashes, dash, keyed, keyless, end_pairs, key, value, no_value, marker, bare, directed, others, end_stream, explicit, marked, unmarked}
 use Rattle.defs_event.specs.Stream.{IsStream}
-use Rattle.defs_event.proofs.Texts.{tag_of_text, three_documents, three_documents_read}
+use Rattle.proof_grammar.proofs.Streams.{stream_by}
+use Rattle.defs_event.proofs.Texts.{tag_of_text, three_documents}
 
 -- an empty text
 no_document : IsStream false
     (Tok.stream_start ∷ Tok.stream_end ∷ [])
     (Ev.stream_start ∷ Ev.stream_end ∷ [])
-no_document = record {
-  documents = others end_stream;
-  has_tokens = refl;
-  has_events = refl;
-}
+no_document = stream_by refl refl
 
 -- `---`
 empty_document : IsStream false
     (Tok.stream_start ∷ Tok.document_start ∷ Tok.stream_end ∷ [])
     (Ev.stream_start ∷ Ev.document_start ∷ Ev.scalar [] Style.plain 0 None ∷ Ev.document_end ∷ Ev.stream_end ∷ [])
-empty_document = record {
-  documents = others (explicit no_node (unmarked end_stream));
-  has_tokens = refl;
-  has_events = refl;
-}
+empty_document = stream_by refl refl
 
 -- `&a`: properties without content
 anchor_alone : IsStream false
     (Tok.stream_start ∷ Tok.anchor (codes "a") ∷ Tok.stream_end ∷ [])
     (Ev.stream_start ∷ Ev.document_start ∷ Ev.scalar [] Style.plain 1 None ∷ Ev.document_end ∷ Ev.stream_end ∷ [])
-anchor_alone = record {
-  documents = bare (block_properties (anchored (codes "a"))) (unmarked end_stream);
-  has_tokens = refl;
-  has_events = refl;
-}
+anchor_alone = stream_by refl refl
 
 -- `--- |` LF `a` LF `---` LF `b`: a document after another without `...`
 two_dashed_documents : IsStream false
@@ -43,11 +30,7 @@ two_dashed_documents : IsStream false
     Tok.scalar Style.plain (codes "b") ∷ Tok.stream_end ∷ [])
     (Ev.stream_start ∷ Ev.document_start ∷ Ev.scalar (97 ∷ 10 ∷ []) Style.literal 0 None ∷ Ev.document_end ∷
     Ev.document_start ∷ Ev.scalar (codes "b") Style.plain 0 None ∷ Ev.document_end ∷ Ev.stream_end ∷ [])
-two_dashed_documents = record {
-  documents = others (explicit (some_node (block_content None (flow (scalar Style.literal (97 ∷ 10 ∷ []))))) (unmarked (explicit (some_node (block_content None (flow (scalar Style.plain (codes "b"))))) (unmarked end_stream))));
-  has_tokens = refl;
-  has_events = refl;
-}
+two_dashed_documents = stream_by refl refl
 
 -- `a` LF `...` LF `...` LF `b` LF `...`: documents without `---` after `...`
 ended_documents : IsStream false
@@ -55,11 +38,7 @@ ended_documents : IsStream false
     Tok.scalar Style.plain (codes "b") ∷ Tok.document_end ∷ Tok.stream_end ∷ [])
     (Ev.stream_start ∷ Ev.document_start ∷ Ev.scalar (codes "a") Style.plain 0 None ∷ Ev.document_end ∷
     Ev.document_start ∷ Ev.scalar (codes "b") Style.plain 0 None ∷ Ev.document_end ∷ Ev.stream_end ∷ [])
-ended_documents = record {
-  documents = bare (block_content None (flow (scalar Style.plain (codes "a")))) (marked (marker (bare (block_content None (flow (scalar Style.plain (codes "b")))) (marked (others end_stream)))));
-  has_tokens = refl;
-  has_events = refl;
-}
+ended_documents = stream_by refl refl
 
 -- `...` LF `--- a`: markers before the first document
 markers_first : IsStream false
@@ -67,11 +46,7 @@ markers_first : IsStream false
     Tok.stream_end ∷ [])
     (Ev.stream_start ∷ Ev.document_start ∷ Ev.scalar (codes "a") Style.plain 0 None ∷ Ev.document_end ∷
     Ev.stream_end ∷ [])
-markers_first = record {
-  documents = marker (others (explicit (some_node (block_content None (flow (scalar Style.plain (codes "a"))))) (unmarked end_stream)));
-  has_tokens = refl;
-  has_events = refl;
-}
+markers_first = stream_by refl refl
 
 -- a block sequence as a value, with a comment before it
 deep_sequence : IsStream false
@@ -83,11 +58,7 @@ deep_sequence : IsStream false
     Ev.sequence_start 0 None ∷ Ev.scalar (codes "1") Style.plain 0 None ∷
     Ev.scalar (codes "2") Style.plain 0 None ∷ Ev.sequence_end ∷ Ev.mapping_end ∷ Ev.document_end ∷ Ev.stream_end ∷
     [])
-deep_sequence = record {
-  documents = others (explicit (some_node (block_content None (block_mapping (keyed (key (plain (some_node (block_content None (flow (scalar Style.plain (codes "a")))))) (value (plain (some_node (block_content None (block_sequence (entry (some_node (block_content None (flow (scalar Style.plain (codes "1"))))) (entry (some_node (block_content None (flow (scalar Style.plain (codes "2"))))) end_entries)))))) (keyed end_pairs))))))) (unmarked end_stream));
-  has_tokens = refl;
-  has_events = refl;
-}
+deep_sequence = stream_by refl refl
 
 -- `[a: [b, c]]`: a pair that begins without `?`
 pair_in_sequence : IsStream false
@@ -99,11 +70,7 @@ pair_in_sequence : IsStream false
     Ev.scalar (codes "a") Style.plain 0 None ∷ Ev.sequence_start 0 None ∷
     Ev.scalar (codes "b") Style.plain 0 None ∷ Ev.scalar (codes "c") Style.plain 0 None ∷ Ev.sequence_end ∷
     Ev.mapping_end ∷ Ev.sequence_end ∷ Ev.document_end ∷ Ev.stream_end ∷ [])
-pair_in_sequence = record {
-  documents = bare (block_content None (flow (flow_sequence (items (single (flow_content None (flow_mapping (flow_pairs (flow_keyed (some_flow (flow_content None (scalar Style.plain (codes "a")))) (flow_value (some_flow (flow_content None (flow_sequence (items (single (flow_content None (scalar Style.plain (codes "b")))) (comma_item (single (flow_content None (scalar Style.plain (codes "c")))) end_items))))))) end_flow_pairs)))) end_items)))) (unmarked end_stream);
-  has_tokens = refl;
-  has_events = refl;
-}
+pair_in_sequence = stream_by refl refl
 
 -- `[? : x]`: an empty key after `?`
 asked_pair : IsStream false
@@ -112,11 +79,7 @@ asked_pair : IsStream false
     (Ev.stream_start ∷ Ev.document_start ∷ Ev.sequence_start 0 None ∷ Ev.mapping_start 0 None ∷
     Ev.scalar [] Style.plain 0 None ∷ Ev.scalar (codes "x") Style.plain 0 None ∷ Ev.mapping_end ∷ Ev.sequence_end ∷
     Ev.document_end ∷ Ev.stream_end ∷ [])
-asked_pair = record {
-  documents = bare (block_content None (flow (flow_sequence (items (single_pair no_flow (flow_value (some_flow (flow_content None (scalar Style.plain (codes "x")))))) end_items)))) (unmarked end_stream);
-  has_tokens = refl;
-  has_events = refl;
-}
+asked_pair = stream_by refl refl
 
 -- `[? ]`
 asked_nothing : IsStream false
@@ -124,11 +87,7 @@ asked_nothing : IsStream false
     (Ev.stream_start ∷ Ev.document_start ∷ Ev.sequence_start 0 None ∷ Ev.mapping_start 0 None ∷
     Ev.scalar [] Style.plain 0 None ∷ Ev.scalar [] Style.plain 0 None ∷ Ev.mapping_end ∷ Ev.sequence_end ∷
     Ev.document_end ∷ Ev.stream_end ∷ [])
-asked_nothing = record {
-  documents = bare (block_content None (flow (flow_sequence (items (single_pair no_flow no_flow_value) end_items)))) (unmarked end_stream);
-  has_tokens = refl;
-  has_events = refl;
-}
+asked_nothing = stream_by refl refl
 
 -- `[? a, ? b : c, ]`: a pair without value, a pair with one, a comma at the end
 asked_key : IsStream false
@@ -139,11 +98,7 @@ asked_key : IsStream false
     Ev.scalar (codes "a") Style.plain 0 None ∷ Ev.scalar [] Style.plain 0 None ∷ Ev.mapping_end ∷
     Ev.mapping_start 0 None ∷ Ev.scalar (codes "b") Style.plain 0 None ∷ Ev.scalar (codes "c") Style.plain 0 None ∷
     Ev.mapping_end ∷ Ev.sequence_end ∷ Ev.document_end ∷ Ev.stream_end ∷ [])
-asked_key = record {
-  documents = bare (block_content None (flow (flow_sequence (items (single_pair (some_flow (flow_content None (scalar Style.plain (codes "a")))) no_flow_value) (comma_item (single_pair (some_flow (flow_content None (scalar Style.plain (codes "b")))) (flow_value (some_flow (flow_content None (scalar Style.plain (codes "c")))))) comma_end_items))))) (unmarked end_stream);
-  has_tokens = refl;
-  has_events = refl;
-}
+asked_key = stream_by refl refl
 
 -- `{a, b: c, : d, ? e}`: a single node, a pair, one without key, one without value
 flow_pairs_of_each_kind : IsStream false
@@ -156,11 +111,7 @@ flow_pairs_of_each_kind : IsStream false
     Ev.scalar (codes "c") Style.plain 0 None ∷ Ev.scalar [] Style.plain 0 None ∷
     Ev.scalar (codes "d") Style.plain 0 None ∷ Ev.scalar (codes "e") Style.plain 0 None ∷
     Ev.scalar [] Style.plain 0 None ∷ Ev.mapping_end ∷ Ev.document_end ∷ Ev.stream_end ∷ [])
-flow_pairs_of_each_kind = record {
-  documents = bare (block_content None (flow (flow_mapping (flow_pairs (flow_single (flow_content None (scalar Style.plain (codes "a")))) (comma_flow_pair (flow_keyed (some_flow (flow_content None (scalar Style.plain (codes "b")))) (flow_value (some_flow (flow_content None (scalar Style.plain (codes "c")))))) (comma_flow_pair (flow_keyless (some_flow (flow_content None (scalar Style.plain (codes "d"))))) (comma_flow_pair (flow_keyed (some_flow (flow_content None (scalar Style.plain (codes "e")))) no_flow_value) end_flow_pairs))))))) (unmarked end_stream);
-  has_tokens = refl;
-  has_events = refl;
-}
+flow_pairs_of_each_kind = stream_by refl refl
 
 -- `{` LF `? foo :,` LF `: bar,` LF `}`: a value that is empty, a key that is empty, a comma at the end
 flow_pairs_over_lines : IsStream false
@@ -170,11 +121,7 @@ flow_pairs_over_lines : IsStream false
     (Ev.stream_start ∷ Ev.document_start ∷ Ev.mapping_start 0 None ∷ Ev.scalar (codes "foo") Style.plain 0 None ∷
     Ev.scalar [] Style.plain 0 None ∷ Ev.scalar [] Style.plain 0 None ∷
     Ev.scalar (codes "bar") Style.plain 0 None ∷ Ev.mapping_end ∷ Ev.document_end ∷ Ev.stream_end ∷ [])
-flow_pairs_over_lines = record {
-  documents = bare (block_content None (flow (flow_mapping (flow_pairs (flow_keyed (some_flow (flow_content None (scalar Style.plain (codes "foo")))) (flow_value no_flow)) (comma_flow_pair (flow_keyless (some_flow (flow_content None (scalar Style.plain (codes "bar"))))) comma_end_flow_pairs))))) (unmarked end_stream);
-  has_tokens = refl;
-  has_events = refl;
-}
+flow_pairs_over_lines = stream_by refl refl
 
 -- `{? , ? : , x}`
 asked_flow_pairs : IsStream false
@@ -184,11 +131,7 @@ asked_flow_pairs : IsStream false
     Ev.scalar [] Style.plain 0 None ∷ Ev.scalar [] Style.plain 0 None ∷ Ev.scalar [] Style.plain 0 None ∷
     Ev.scalar (codes "x") Style.plain 0 None ∷ Ev.scalar [] Style.plain 0 None ∷ Ev.mapping_end ∷ Ev.document_end ∷
     Ev.stream_end ∷ [])
-asked_flow_pairs = record {
-  documents = bare (block_content None (flow (flow_mapping (flow_pairs (flow_keyed no_flow no_flow_value) (comma_flow_pair (flow_keyed no_flow (flow_value no_flow)) (comma_flow_pair (flow_single (flow_content None (scalar Style.plain (codes "x")))) end_flow_pairs)))))) (unmarked end_stream);
-  has_tokens = refl;
-  has_events = refl;
-}
+asked_flow_pairs = stream_by refl refl
 
 -- `{a: :b}`
 adjacent_value : IsStream false
@@ -196,11 +139,7 @@ adjacent_value : IsStream false
     Tok.scalar Style.plain (codes ":b") ∷ Tok.flow_mapping_end ∷ Tok.stream_end ∷ [])
     (Ev.stream_start ∷ Ev.document_start ∷ Ev.mapping_start 0 None ∷ Ev.scalar (codes "a") Style.plain 0 None ∷
     Ev.scalar (codes ":b") Style.plain 0 None ∷ Ev.mapping_end ∷ Ev.document_end ∷ Ev.stream_end ∷ [])
-adjacent_value = record {
-  documents = bare (block_content None (flow (flow_mapping (flow_pairs (flow_keyed (some_flow (flow_content None (scalar Style.plain (codes "a")))) (flow_value (some_flow (flow_content None (scalar Style.plain (codes ":b")))))) end_flow_pairs)))) (unmarked end_stream);
-  has_tokens = refl;
-  has_events = refl;
-}
+adjacent_value = stream_by refl refl
 
 -- `[[], {}]`
 empty_flow : IsStream false
@@ -208,11 +147,7 @@ empty_flow : IsStream false
     Tok.flow_mapping_start ∷ Tok.flow_mapping_end ∷ Tok.flow_sequence_end ∷ Tok.stream_end ∷ [])
     (Ev.stream_start ∷ Ev.document_start ∷ Ev.sequence_start 0 None ∷ Ev.sequence_start 0 None ∷ Ev.sequence_end ∷
     Ev.mapping_start 0 None ∷ Ev.mapping_end ∷ Ev.sequence_end ∷ Ev.document_end ∷ Ev.stream_end ∷ [])
-empty_flow = record {
-  documents = bare (block_content None (flow (flow_sequence (items (single (flow_content None (flow_sequence no_items))) (comma_item (single (flow_content None (flow_mapping no_flow_pairs))) end_items))))) (unmarked end_stream);
-  has_tokens = refl;
-  has_events = refl;
-}
+empty_flow = stream_by refl refl
 
 -- `[&a , !t , *a , &b !u {}, !v &c []]`: properties without content, an alias, properties in both orders
 properties_in_flow : IsStream false
@@ -226,11 +161,7 @@ properties_in_flow : IsStream false
     Ev.mapping_start 2 (Some (tag_of_text (codes "!") (codes "u"))) ∷ Ev.mapping_end ∷
     Ev.sequence_start 3 (Some (tag_of_text (codes "!") (codes "v"))) ∷ Ev.sequence_end ∷ Ev.sequence_end ∷
     Ev.document_end ∷ Ev.stream_end ∷ [])
-properties_in_flow = record {
-  documents = bare (block_content None (flow (flow_sequence (items (single (flow_properties (anchored (codes "a")))) (comma_item (single (flow_properties (tagged (tag_of_text (codes "!") (codes "t"))))) (comma_item (single (flow_alias (codes "a"))) (comma_item (single (flow_content (Some (anchored_tagged (codes "b") (tag_of_text (codes "!") (codes "u")))) (flow_mapping no_flow_pairs))) (comma_item (single (flow_content (Some (tagged_anchored (tag_of_text (codes "!") (codes "v")) (codes "c"))) (flow_sequence no_items))) end_items)))))))) (unmarked end_stream);
-  has_tokens = refl;
-  has_events = refl;
-}
+properties_in_flow = stream_by refl refl
 
 -- `a: 1` LF `a: 2`
 repeated_key_tokens : IsStream false
@@ -240,11 +171,7 @@ repeated_key_tokens : IsStream false
     (Ev.stream_start ∷ Ev.document_start ∷ Ev.mapping_start 0 None ∷ Ev.scalar (codes "a") Style.plain 0 None ∷
     Ev.scalar (codes "1") Style.plain 0 None ∷ Ev.scalar (codes "a") Style.plain 0 None ∷
     Ev.scalar (codes "2") Style.plain 0 None ∷ Ev.mapping_end ∷ Ev.document_end ∷ Ev.stream_end ∷ [])
-repeated_key_tokens = record {
-  documents = bare (block_content None (block_mapping (keyed (key (plain (some_node (block_content None (flow (scalar Style.plain (codes "a")))))) (value (plain (some_node (block_content None (flow (scalar Style.plain (codes "1")))))) (keyed (key (plain (some_node (block_content None (flow (scalar Style.plain (codes "a")))))) (value (plain (some_node (block_content None (flow (scalar Style.plain (codes "2")))))) (keyed end_pairs))))))))) (unmarked end_stream);
-  has_tokens = refl;
-  has_events = refl;
-}
+repeated_key_tokens = stream_by refl refl
 
 -- `&a [*a]`: an alias inside its own node has its number
 alias_inside : IsStream false
@@ -252,11 +179,7 @@ alias_inside : IsStream false
     Tok.flow_sequence_end ∷ Tok.stream_end ∷ [])
     (Ev.stream_start ∷ Ev.document_start ∷ Ev.sequence_start 1 None ∷ Ev.alias 1 ∷ Ev.sequence_end ∷
     Ev.document_end ∷ Ev.stream_end ∷ [])
-alias_inside = record {
-  documents = bare (block_content (Some (anchored (codes "a"))) (flow (flow_sequence (items (single (flow_alias (codes "a"))) end_items)))) (unmarked end_stream);
-  has_tokens = refl;
-  has_events = refl;
-}
+alias_inside = stream_by refl refl
 
 -- a sequence at its key's column
 sequence_at_key : IsStream false
@@ -267,11 +190,7 @@ sequence_at_key : IsStream false
     Ev.sequence_start 0 None ∷ Ev.scalar (codes "item 1") Style.plain 0 None ∷
     Ev.scalar (codes "item 2") Style.plain 0 None ∷ Ev.sequence_end ∷ Ev.mapping_end ∷ Ev.document_end ∷
     Ev.stream_end ∷ [])
-sequence_at_key = record {
-  documents = bare (block_content None (block_mapping (keyed (key (plain (some_node (block_content None (flow (scalar Style.plain (codes "key")))))) (value (indentless None (some_node (block_content None (flow (scalar Style.plain (codes "item 1"))))) (dash (some_node (block_content None (flow (scalar Style.plain (codes "item 2"))))) end_dashes)) (keyed end_pairs)))))) (unmarked end_stream);
-  has_tokens = refl;
-  has_events = refl;
-}
+sequence_at_key = stream_by refl refl
 
 -- an anchor before a block mapping, and its alias
 anchored_mapping : IsStream false
@@ -285,11 +204,7 @@ anchored_mapping : IsStream false
     Ev.scalar (codes "4") Style.plain 0 None ∷ Ev.scalar (codes "b2") Style.plain 0 None ∷
     Ev.scalar (codes "d") Style.plain 0 None ∷ Ev.mapping_end ∷ Ev.scalar (codes "a2") Style.plain 0 None ∷
     Ev.alias 1 ∷ Ev.mapping_end ∷ Ev.document_end ∷ Ev.stream_end ∷ [])
-anchored_mapping = record {
-  documents = bare (block_content None (block_mapping (keyed (key (plain (some_node (block_content None (flow (scalar Style.plain (codes "a1")))))) (value (plain (some_node (block_content (Some (anchored (codes "DEFAULT"))) (block_mapping (keyed (key (plain (some_node (block_content None (flow (scalar Style.plain (codes "b1")))))) (value (plain (some_node (block_content None (flow (scalar Style.plain (codes "4")))))) (keyed (key (plain (some_node (block_content None (flow (scalar Style.plain (codes "b2")))))) (value (plain (some_node (block_content None (flow (scalar Style.plain (codes "d")))))) (keyed end_pairs))))))))))) (keyed (key (plain (some_node (block_content None (flow (scalar Style.plain (codes "a2")))))) (value (plain (some_node (block_alias (codes "DEFAULT")))) (keyed end_pairs))))))))) (unmarked end_stream);
-  has_tokens = refl;
-  has_events = refl;
-}
+anchored_mapping = stream_by refl refl
 
 -- `[a: b, c: [d: e], {f: g}]`
 flow_in_flow : IsStream false
@@ -307,11 +222,7 @@ flow_in_flow : IsStream false
     Ev.mapping_end ∷ Ev.sequence_end ∷ Ev.mapping_end ∷ Ev.mapping_start 0 None ∷
     Ev.scalar (codes "f") Style.plain 0 None ∷ Ev.scalar (codes "g") Style.plain 0 None ∷ Ev.mapping_end ∷
     Ev.sequence_end ∷ Ev.document_end ∷ Ev.stream_end ∷ [])
-flow_in_flow = record {
-  documents = bare (block_content None (flow (flow_sequence (items (single (flow_content None (flow_mapping (flow_pairs (flow_keyed (some_flow (flow_content None (scalar Style.plain (codes "a")))) (flow_value (some_flow (flow_content None (scalar Style.plain (codes "b")))))) end_flow_pairs)))) (comma_item (single (flow_content None (flow_mapping (flow_pairs (flow_keyed (some_flow (flow_content None (scalar Style.plain (codes "c")))) (flow_value (some_flow (flow_content None (flow_sequence (items (single (flow_content None (flow_mapping (flow_pairs (flow_keyed (some_flow (flow_content None (scalar Style.plain (codes "d")))) (flow_value (some_flow (flow_content None (scalar Style.plain (codes "e")))))) end_flow_pairs)))) end_items)))))) end_flow_pairs)))) (comma_item (single (flow_content None (flow_mapping (flow_pairs (flow_keyed (some_flow (flow_content None (scalar Style.plain (codes "f")))) (flow_value (some_flow (flow_content None (scalar Style.plain (codes "g")))))) end_flow_pairs)))) end_items)))))) (unmarked end_stream);
-  has_tokens = refl;
-  has_events = refl;
-}
+flow_in_flow = stream_by refl refl
 
 -- `-` LF `-`
 empty_entries : IsStream false
@@ -319,11 +230,7 @@ empty_entries : IsStream false
     Tok.stream_end ∷ [])
     (Ev.stream_start ∷ Ev.document_start ∷ Ev.sequence_start 0 None ∷ Ev.scalar [] Style.plain 0 None ∷
     Ev.scalar [] Style.plain 0 None ∷ Ev.sequence_end ∷ Ev.document_end ∷ Ev.stream_end ∷ [])
-empty_entries = record {
-  documents = bare (block_content None (block_sequence (entry no_node (entry no_node end_entries)))) (unmarked end_stream);
-  has_tokens = refl;
-  has_events = refl;
-}
+empty_entries = stream_by refl refl
 
 -- `? a`
 key_without_value : IsStream false
@@ -331,11 +238,7 @@ key_without_value : IsStream false
     Tok.stream_end ∷ [])
     (Ev.stream_start ∷ Ev.document_start ∷ Ev.mapping_start 0 None ∷ Ev.scalar (codes "a") Style.plain 0 None ∷
     Ev.scalar [] Style.plain 0 None ∷ Ev.mapping_end ∷ Ev.document_end ∷ Ev.stream_end ∷ [])
-key_without_value = record {
-  documents = bare (block_content None (block_mapping (keyed (key (plain (some_node (block_content None (flow (scalar Style.plain (codes "a")))))) (no_value end_pairs))))) (unmarked end_stream);
-  has_tokens = refl;
-  has_events = refl;
-}
+key_without_value = stream_by refl refl
 
 -- `: b`
 value_without_key : IsStream false
@@ -343,11 +246,7 @@ value_without_key : IsStream false
     Tok.stream_end ∷ [])
     (Ev.stream_start ∷ Ev.document_start ∷ Ev.mapping_start 0 None ∷ Ev.scalar [] Style.plain 0 None ∷
     Ev.scalar (codes "b") Style.plain 0 None ∷ Ev.mapping_end ∷ Ev.document_end ∷ Ev.stream_end ∷ [])
-value_without_key = record {
-  documents = bare (block_content None (block_mapping (keyless (plain (some_node (block_content None (flow (scalar Style.plain (codes "b")))))) (keyed end_pairs)))) (unmarked end_stream);
-  has_tokens = refl;
-  has_events = refl;
-}
+value_without_key = stream_by refl refl
 
 -- `?` LF `: b`: an empty key
 empty_key : IsStream false
@@ -355,11 +254,7 @@ empty_key : IsStream false
     Tok.block_end ∷ Tok.stream_end ∷ [])
     (Ev.stream_start ∷ Ev.document_start ∷ Ev.mapping_start 0 None ∷ Ev.scalar [] Style.plain 0 None ∷
     Ev.scalar (codes "b") Style.plain 0 None ∷ Ev.mapping_end ∷ Ev.document_end ∷ Ev.stream_end ∷ [])
-empty_key = record {
-  documents = bare (block_content None (block_mapping (keyed (key (plain no_node) (value (plain (some_node (block_content None (flow (scalar Style.plain (codes "b")))))) (keyed end_pairs)))))) (unmarked end_stream);
-  has_tokens = refl;
-  has_events = refl;
-}
+empty_key = stream_by refl refl
 
 -- `---` LF `- tok1` LF `- tok2`
 dashed_sequence : IsStream false
@@ -368,11 +263,7 @@ dashed_sequence : IsStream false
     Tok.block_end ∷ Tok.stream_end ∷ [])
     (Ev.stream_start ∷ Ev.document_start ∷ Ev.sequence_start 0 None ∷ Ev.scalar (codes "tok1") Style.plain 0 None ∷
     Ev.scalar (codes "tok2") Style.plain 0 None ∷ Ev.sequence_end ∷ Ev.document_end ∷ Ev.stream_end ∷ [])
-dashed_sequence = record {
-  documents = others (explicit (some_node (block_content None (block_sequence (entry (some_node (block_content None (flow (scalar Style.plain (codes "tok1"))))) (entry (some_node (block_content None (flow (scalar Style.plain (codes "tok2"))))) end_entries))))) (unmarked end_stream));
-  has_tokens = refl;
-  has_events = refl;
-}
+dashed_sequence = stream_by refl refl
 
 -- `? a` LF `:` LF `? b`: an empty value
 empty_value : IsStream false
@@ -381,11 +272,7 @@ empty_value : IsStream false
     (Ev.stream_start ∷ Ev.document_start ∷ Ev.mapping_start 0 None ∷ Ev.scalar (codes "a") Style.plain 0 None ∷
     Ev.scalar [] Style.plain 0 None ∷ Ev.scalar (codes "b") Style.plain 0 None ∷ Ev.scalar [] Style.plain 0 None ∷
     Ev.mapping_end ∷ Ev.document_end ∷ Ev.stream_end ∷ [])
-empty_value = record {
-  documents = bare (block_content None (block_mapping (keyed (key (plain (some_node (block_content None (flow (scalar Style.plain (codes "a")))))) (value (plain no_node) (keyed (key (plain (some_node (block_content None (flow (scalar Style.plain (codes "b")))))) (no_value end_pairs)))))))) (unmarked end_stream);
-  has_tokens = refl;
-  has_events = refl;
-}
+empty_value = stream_by refl refl
 
 -- `:` LF `: b`: two values without key
 keyless_pairs : IsStream false
@@ -394,11 +281,7 @@ keyless_pairs : IsStream false
     (Ev.stream_start ∷ Ev.document_start ∷ Ev.mapping_start 0 None ∷ Ev.scalar [] Style.plain 0 None ∷
     Ev.scalar [] Style.plain 0 None ∷ Ev.scalar [] Style.plain 0 None ∷ Ev.scalar (codes "b") Style.plain 0 None ∷
     Ev.mapping_end ∷ Ev.document_end ∷ Ev.stream_end ∷ [])
-keyless_pairs = record {
-  documents = bare (block_content None (block_mapping (keyless (plain no_node) (keyless (plain (some_node (block_content None (flow (scalar Style.plain (codes "b")))))) (keyed end_pairs))))) (unmarked end_stream);
-  has_tokens = refl;
-  has_events = refl;
-}
+keyless_pairs = stream_by refl refl
 
 -- `?` LF `? a` LF `? *b`: keys without values
 keys_in_a_row : IsStream false
@@ -407,11 +290,7 @@ keys_in_a_row : IsStream false
     (Ev.stream_start ∷ Ev.document_start ∷ Ev.mapping_start 0 None ∷ Ev.scalar [] Style.plain 0 None ∷
     Ev.scalar [] Style.plain 0 None ∷ Ev.scalar (codes "a") Style.plain 1 None ∷ Ev.scalar [] Style.plain 0 None ∷
     Ev.alias 1 ∷ Ev.scalar [] Style.plain 0 None ∷ Ev.mapping_end ∷ Ev.document_end ∷ Ev.stream_end ∷ [])
-keys_in_a_row = record {
-  documents = bare (block_content None (block_mapping (keyed (key (plain no_node) (no_value (key (plain (some_node (block_content (Some (anchored (codes "b"))) (flow (scalar Style.plain (codes "a")))))) (no_value (key (plain (some_node (block_alias (codes "b")))) (no_value end_pairs))))))))) (unmarked end_stream);
-  has_tokens = refl;
-  has_events = refl;
-}
+keys_in_a_row = stream_by refl refl
 
 -- a mapping in a sequence, its first value empty
 sequence_of_mapping : IsStream false
@@ -425,11 +304,7 @@ sequence_of_mapping : IsStream false
     Ev.scalar [] Style.plain 0 None ∷ Ev.scalar (codes "about") Style.plain 0 None ∷
     Ev.scalar (codes "x") Style.plain 0 None ∷ Ev.mapping_end ∷ Ev.sequence_end ∷ Ev.mapping_end ∷
     Ev.document_end ∷ Ev.stream_end ∷ [])
-sequence_of_mapping = record {
-  documents = bare (block_content None (block_mapping (keyed (key (plain (some_node (block_content None (flow (scalar Style.plain (codes "s")))))) (value (plain (some_node (block_content None (block_sequence (entry (some_node (block_content None (block_mapping (keyed (key (plain (some_node (block_content None (flow (scalar Style.plain (codes "server")))))) (value (plain no_node) (keyed (key (plain (some_node (block_content None (flow (scalar Style.plain (codes "about")))))) (value (plain (some_node (block_content None (flow (scalar Style.plain (codes "x")))))) (keyed end_pairs)))))))))) end_entries))))) (keyed end_pairs)))))) (unmarked end_stream);
-  has_tokens = refl;
-  has_events = refl;
-}
+sequence_of_mapping = stream_by refl refl
 
 -- `? - a` LF `  -` LF `: - &b`: block sequences as key and value, an entry of properties alone
 sequence_as_key : IsStream false
@@ -441,11 +316,7 @@ sequence_as_key : IsStream false
     Ev.scalar (codes "a") Style.plain 0 None ∷ Ev.scalar [] Style.plain 0 None ∷ Ev.sequence_end ∷
     Ev.sequence_start 0 None ∷ Ev.scalar [] Style.plain 1 None ∷ Ev.scalar (codes "c") Style.plain 0 None ∷
     Ev.sequence_end ∷ Ev.mapping_end ∷ Ev.document_end ∷ Ev.stream_end ∷ [])
-sequence_as_key = record {
-  documents = bare (block_content None (block_mapping (keyed (key (plain (some_node (block_content None (block_sequence (entry (some_node (block_content None (flow (scalar Style.plain (codes "a"))))) (entry no_node end_entries)))))) (value (plain (some_node (block_content None (block_sequence (entry (some_node (block_properties (anchored (codes "b")))) (entry (some_node (block_content None (flow (scalar Style.plain (codes "c"))))) end_entries)))))) (keyed end_pairs)))))) (unmarked end_stream);
-  has_tokens = refl;
-  has_events = refl;
-}
+sequence_as_key = stream_by refl refl
 
 -- `k: !t &x` LF `- &y` LF `- b`: a `-` after properties begins a sequence, but in that sequence an entry
 indentless_of_properties : IsStream false
@@ -456,11 +327,7 @@ indentless_of_properties : IsStream false
     Ev.sequence_start 1 (Some (tag_of_text (codes "!") (codes "t"))) ∷ Ev.scalar [] Style.plain 2 None ∷
     Ev.scalar (codes "b") Style.plain 0 None ∷ Ev.sequence_end ∷ Ev.mapping_end ∷ Ev.document_end ∷ Ev.stream_end ∷
     [])
-indentless_of_properties = record {
-  documents = bare (block_content None (block_mapping (keyed (key (plain (some_node (block_content None (flow (scalar Style.plain (codes "k")))))) (value (indentless (Some (tagged_anchored (tag_of_text (codes "!") (codes "t")) (codes "x"))) (some_node (block_properties (anchored (codes "y")))) (dash (some_node (block_content None (flow (scalar Style.plain (codes "b"))))) end_dashes)) (keyed end_pairs)))))) (unmarked end_stream);
-  has_tokens = refl;
-  has_events = refl;
-}
+indentless_of_properties = stream_by refl refl
 
 -- tokens of a sequence without start and end as a key
 indentless_as_key : IsStream false
@@ -470,11 +337,7 @@ indentless_as_key : IsStream false
     Ev.scalar (codes "a") Style.plain 0 None ∷ Ev.scalar [] Style.plain 0 None ∷ Ev.sequence_end ∷
     Ev.sequence_start 0 None ∷ Ev.scalar [] Style.plain 0 None ∷ Ev.sequence_end ∷ Ev.mapping_end ∷
     Ev.document_end ∷ Ev.stream_end ∷ [])
-indentless_as_key = record {
-  documents = bare (block_content None (block_mapping (keyed (key (indentless None (some_node (block_content None (flow (scalar Style.plain (codes "a"))))) (dash no_node end_dashes)) (value (indentless None no_node end_dashes) (keyed end_pairs)))))) (unmarked end_stream);
-  has_tokens = refl;
-  has_events = refl;
-}
+indentless_as_key = stream_by refl refl
 
 -- an empty block sequence and an empty block mapping
 empty_blocks : IsStream false
@@ -482,11 +345,7 @@ empty_blocks : IsStream false
     Tok.block_entry ∷ Tok.block_mapping_start ∷ Tok.block_end ∷ Tok.block_end ∷ Tok.stream_end ∷ [])
     (Ev.stream_start ∷ Ev.document_start ∷ Ev.sequence_start 0 None ∷ Ev.sequence_start 0 None ∷ Ev.sequence_end ∷
     Ev.mapping_start 0 None ∷ Ev.mapping_end ∷ Ev.sequence_end ∷ Ev.document_end ∷ Ev.stream_end ∷ [])
-empty_blocks = record {
-  documents = bare (block_content None (block_sequence (entry (some_node (block_content None (block_sequence end_entries))) (entry (some_node (block_content None (block_mapping (keyed end_pairs)))) end_entries)))) (unmarked end_stream);
-  has_tokens = refl;
-  has_events = refl;
-}
+empty_blocks = stream_by refl refl
 
 -- `- &a 1` LF `- &a 2` LF `- *a`: an alias means the last anchor of its name
 given_again : IsStream false
@@ -496,11 +355,7 @@ given_again : IsStream false
     [])
     (Ev.stream_start ∷ Ev.document_start ∷ Ev.sequence_start 0 None ∷ Ev.scalar (codes "1") Style.plain 1 None ∷
     Ev.scalar (codes "2") Style.plain 2 None ∷ Ev.alias 2 ∷ Ev.sequence_end ∷ Ev.document_end ∷ Ev.stream_end ∷ [])
-given_again = record {
-  documents = bare (block_content None (block_sequence (entry (some_node (block_content (Some (anchored (codes "a"))) (flow (scalar Style.plain (codes "1"))))) (entry (some_node (block_content (Some (anchored (codes "a"))) (flow (scalar Style.plain (codes "2"))))) (entry (some_node (block_alias (codes "a"))) end_entries))))) (unmarked end_stream);
-  has_tokens = refl;
-  has_events = refl;
-}
+given_again = stream_by refl refl
 
 -- two handles of one document
 two_handles : IsStream false
@@ -513,11 +368,7 @@ two_handles : IsStream false
     Ev.scalar (codes "1") Style.plain 0 (Some (tag_of_text (codes "x:") (codes "p"))) ∷
     Ev.scalar (codes "2") Style.plain 0 (Some (tag_of_text (codes "y:") (codes "q"))) ∷ Ev.sequence_end ∷
     Ev.document_end ∷ Ev.stream_end ∷ [])
-two_handles = record {
-  documents = directed (Directive.tag (codes "!a!") (codes "x:")) ((Directive.tag (codes "!b!") (codes "y:")) ∷ []) (some_node (block_content None (flow (flow_sequence (items (single (flow_content (Some (tagged (tag_of_text (codes "!a!") (codes "p")))) (scalar Style.plain (codes "1")))) (comma_item (single (flow_content (Some (tagged (tag_of_text (codes "!b!") (codes "q")))) (scalar Style.plain (codes "2")))) end_items)))))) (unmarked end_stream);
-  has_tokens = refl;
-  has_events = refl;
-}
+two_handles = stream_by refl refl
 
 -- `%FOO bar` LF `--- a`: a directive of another name
 another_directive : IsStream false
@@ -525,11 +376,7 @@ another_directive : IsStream false
     Tok.stream_end ∷ [])
     (Ev.stream_start ∷ Ev.document_start ∷ Ev.scalar (codes "a") Style.plain 0 None ∷ Ev.document_end ∷
     Ev.stream_end ∷ [])
-another_directive = record {
-  documents = directed (Directive.tag [] []) ([]) (some_node (block_content None (flow (scalar Style.plain (codes "a"))))) (unmarked end_stream);
-  has_tokens = refl;
-  has_events = refl;
-}
+another_directive = stream_by refl refl
 
 -- two directives of other names, and a version
 ignored_twice : IsStream false
@@ -537,11 +384,7 @@ ignored_twice : IsStream false
     Tok.document_start ∷ Tok.scalar Style.plain (codes "a") ∷ Tok.stream_end ∷ [])
     (Ev.stream_start ∷ Ev.document_start ∷ Ev.scalar (codes "a") Style.plain 0 None ∷ Ev.document_end ∷
     Ev.stream_end ∷ [])
-ignored_twice = record {
-  documents = directed (Directive.tag [] []) ((Directive.tag [] []) ∷ (Directive.version 1 2) ∷ []) (some_node (block_content None (flow (scalar Style.plain (codes "a"))))) (unmarked end_stream);
-  has_tokens = refl;
-  has_events = refl;
-}
+ignored_twice = stream_by refl refl
 
 -- `!`, `!s`, `!!s`, `!<u>` without directives
 tags_of_each_kind : IsStream false
@@ -555,11 +398,7 @@ tags_of_each_kind : IsStream false
     Ev.scalar (codes "c") Style.plain 0 (Some (tag_of_text (codes "tag:yaml.org,2002:") (codes "s"))) ∷
     Ev.scalar (codes "d") Style.plain 0 (Some (tag_of_text [] (codes "u"))) ∷ Ev.sequence_end ∷ Ev.document_end ∷
     Ev.stream_end ∷ [])
-tags_of_each_kind = record {
-  documents = bare (block_content None (flow (flow_sequence (items (single (flow_content (Some (tagged (tag_of_text [] (codes "!")))) (scalar Style.plain (codes "a")))) (comma_item (single (flow_content (Some (tagged (tag_of_text (codes "!") (codes "s")))) (scalar Style.plain (codes "b")))) (comma_item (single (flow_content (Some (tagged (tag_of_text (codes "!!") (codes "s")))) (scalar Style.plain (codes "c")))) (comma_item (single (flow_content (Some (tagged (tag_of_text [] (codes "u")))) (scalar Style.plain (codes "d")))) end_items))))))) (unmarked end_stream);
-  has_tokens = refl;
-  has_events = refl;
-}
+tags_of_each_kind = stream_by refl refl
 
 -- `!` and `!!` with prefixes declared
 tags_declared : IsStream false
@@ -574,11 +413,7 @@ tags_declared : IsStream false
     Ev.scalar (codes "c") Style.plain 0 (Some (tag_of_text (codes "y:") (codes "s"))) ∷
     Ev.scalar (codes "d") Style.plain 0 (Some (tag_of_text [] (codes "u"))) ∷ Ev.sequence_end ∷ Ev.document_end ∷
     Ev.stream_end ∷ [])
-tags_declared = record {
-  documents = directed (Directive.tag (codes "!") (codes "x:")) ((Directive.tag (codes "!!") (codes "y:")) ∷ []) (some_node (block_content None (flow (flow_sequence (items (single (flow_content (Some (tagged (tag_of_text [] (codes "!")))) (scalar Style.plain (codes "a")))) (comma_item (single (flow_content (Some (tagged (tag_of_text (codes "!") (codes "s")))) (scalar Style.plain (codes "b")))) (comma_item (single (flow_content (Some (tagged (tag_of_text (codes "!!") (codes "s")))) (scalar Style.plain (codes "c")))) (comma_item (single (flow_content (Some (tagged (tag_of_text [] (codes "u")))) (scalar Style.plain (codes "d")))) end_items)))))))) (unmarked end_stream);
-  has_tokens = refl;
-  has_events = refl;
-}
+tags_declared = stream_by refl refl
 
 -- `&a x` LF `--- &a y`: numbers go on over documents
 numbers_over_documents : IsStream false
@@ -586,11 +421,7 @@ numbers_over_documents : IsStream false
     Tok.anchor (codes "a") ∷ Tok.scalar Style.plain (codes "y") ∷ Tok.stream_end ∷ [])
     (Ev.stream_start ∷ Ev.document_start ∷ Ev.scalar (codes "x") Style.plain 1 None ∷ Ev.document_end ∷
     Ev.document_start ∷ Ev.scalar (codes "y") Style.plain 2 None ∷ Ev.document_end ∷ Ev.stream_end ∷ [])
-numbers_over_documents = record {
-  documents = bare (block_content (Some (anchored (codes "a"))) (flow (scalar Style.plain (codes "x")))) (unmarked (explicit (some_node (block_content (Some (anchored (codes "a"))) (flow (scalar Style.plain (codes "y"))))) (unmarked end_stream)));
-  has_tokens = refl;
-  has_events = refl;
-}
+numbers_over_documents = stream_by refl refl
 
 -- a handle that later documents use, where tags are kept
 tags_kept : IsStream true
@@ -605,11 +436,7 @@ tags_kept : IsStream true
     Ev.mapping_start 0 (Some (tag_of_text (codes "tag:example.com,2011:") (codes "C"))) ∷
     Ev.scalar (codes "e") Style.plain 0 None ∷ Ev.scalar (codes "f") Style.plain 0 None ∷ Ev.mapping_end ∷
     Ev.document_end ∷ Ev.stream_end ∷ [])
-tags_kept = record {
-  documents = three_documents_read;
-  has_tokens = refl;
-  has_events = refl;
-}
+tags_kept = stream_by refl refl
 
 -- the same after a version, with anchors
 version_and_tags_kept : IsStream true
@@ -626,11 +453,7 @@ version_and_tags_kept : IsStream true
     Ev.mapping_start 2 (Some (tag_of_text (codes "tag:test,2024:") (codes "2"))) ∷
     Ev.scalar (codes "baz") Style.plain 0 None ∷ Ev.scalar (codes "qux") Style.double_quoted 0 None ∷
     Ev.mapping_end ∷ Ev.document_end ∷ Ev.stream_end ∷ [])
-version_and_tags_kept = record {
-  documents = directed (Directive.version 1 1) ((Directive.tag (codes "!t!") (codes "tag:test,2024:")) ∷ []) (some_node (block_content (Some (tagged_anchored (tag_of_text (codes "!t!") (codes "1")) (codes "1"))) (block_mapping (keyed (key (plain (some_node (block_content None (flow (scalar Style.plain (codes "foo")))))) (value (plain (some_node (block_content None (flow (scalar Style.double_quoted (codes "bar")))))) (keyed end_pairs))))))) (unmarked (explicit (some_node (block_content (Some (tagged_anchored (tag_of_text (codes "!t!") (codes "2")) (codes "2"))) (block_mapping (keyed (key (plain (some_node (block_content None (flow (scalar Style.plain (codes "baz")))))) (value (plain (some_node (block_content None (flow (scalar Style.double_quoted (codes "qux")))))) (keyed end_pairs))))))) (unmarked end_stream)));
-  has_tokens = refl;
-  has_events = refl;
-}
+version_and_tags_kept = stream_by refl refl
 
 -- where tags are kept, the later declaration counts
 later_declaration : IsStream true
@@ -642,8 +465,4 @@ later_declaration : IsStream true
     Ev.scalar (codes "a") Style.plain 0 (Some (tag_of_text (codes "x:") (codes "1"))) ∷ Ev.document_end ∷
     Ev.document_start ∷ Ev.scalar (codes "b") Style.plain 0 (Some (tag_of_text (codes "y:") (codes "2"))) ∷
     Ev.document_end ∷ Ev.stream_end ∷ [])
-later_declaration = record {
-  documents = directed (Directive.tag (codes "!t!") (codes "x:")) ([]) (some_node (block_content (Some (tagged (tag_of_text (codes "!t!") (codes "1")))) (flow (scalar Style.plain (codes "a"))))) (marked (directed (Directive.tag (codes "!t!") (codes "y:")) ([]) (some_node (block_content (Some (tagged (tag_of_text (codes "!t!") (codes "2")))) (flow (scalar Style.plain (codes "b"))))) (unmarked end_stream)));
-  has_tokens = refl;
-  has_events = refl;
-}
+later_declaration = stream_by refl refl

@@ -1,6 +1,6 @@
 -- What each row of a table reads and says within its goal's bounds, all that is derived reads and says.
 use Rattle.std.proofs.Common.{◌≡◌, Bool, true, false, ◌||◌, List, [], ◌∷◌, Some, if◌then◌else◌, refl, sym, subst}
-use Rattle.defs_grammar.specs.Table.{Part, Row, takes, leaves, Case, on, otherwise, Table, row_of, Work, reading, saying, part_work, before, Derives, nothing_left, says, by_taking, by_leaving}
+use Rattle.defs_event.specs.Table.{Part, Row, takes, leaves, Case, on, otherwise, Table, row_of, Work, reading, saying, part_work, before, Derives, nothing_left, says, by_taking, by_leaving}
 
 -- ---- a statement about each row
 

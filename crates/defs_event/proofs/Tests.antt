@@ -1,8 +1,7 @@
 -- What is so at a test's tokens is so wherever the test holds.
-use Rattle.std.proofs.Common.{◌≡◌, ℕ, ◌≤◌, List, true, arith}
+use Rattle.std.proofs.Common.{◌≡◌, ℕ, List, true}
 use Rattle.defs_token.specs.Token.{Style, Tok}
-use Rattle.defs_event.proofs.OneReading.{rank}
-use Rattle.defs_grammar.specs.Kinds.{is_stream_start, is_stream_end, is_directive, is_document_start, is_document_end, is_block_sequence_start, is_block_mapping_start, is_block_end, is_flow_sequence_start, is_flow_sequence_end, is_flow_mapping_start, is_flow_mapping_end, is_block_entry, is_flow_entry, is_key, is_value, is_alias, is_anchor, is_tag, is_scalar, begins_flow_node, begins_node}
+use Rattle.defs_event.specs.Kinds.{is_stream_start, is_stream_end, is_directive, is_document_start, is_document_end, is_block_sequence_start, is_block_mapping_start, is_block_end, is_flow_sequence_start, is_flow_sequence_end, is_flow_mapping_start, is_flow_mapping_end, is_block_entry, is_flow_entry, is_key, is_value, is_alias, is_anchor, is_tag, is_scalar}
 
 pub on_stream_start : (P : Tok → Type 0) → P Tok.stream_start → (t : Tok) → is_stream_start t ≡ true → P t
 on_stream_start P x Tok.stream_start h = x
@@ -84,23 +83,3 @@ pub on_directive : (P : Tok → Type 0) → ((m n : ℕ) → P (Tok.version_dire
 on_directive P x y (Tok.version_directive m n) h = x m n
 on_directive P x y (Tok.tag_directive a b) h = y a b
 on_directive P x y _ h = cc
-
-pub on_flow_node : (t : Tok) → begins_flow_node t ≡ true → rank t ≤ 5
-on_flow_node (Tok.alias n) h = omega arith
-on_flow_node (Tok.anchor n) h = omega arith
-on_flow_node (Tok.tag a b) h = omega arith
-on_flow_node (Tok.scalar y x) h = omega arith
-on_flow_node Tok.flow_sequence_start h = omega arith
-on_flow_node Tok.flow_mapping_start h = omega arith
-on_flow_node _ h = cc
-
-pub on_node : (t : Tok) → begins_node t ≡ true → rank t ≤ 7
-on_node Tok.block_sequence_start h = omega arith
-on_node Tok.block_mapping_start h = omega arith
-on_node (Tok.alias n) h = omega arith
-on_node (Tok.anchor n) h = omega arith
-on_node (Tok.tag a b) h = omega arith
-on_node (Tok.scalar y x) h = omega arith
-on_node Tok.flow_sequence_start h = omega arith
-on_node Tok.flow_mapping_start h = omega arith
-on_node _ h = cc

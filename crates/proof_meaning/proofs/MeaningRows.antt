@@ -4,16 +4,13 @@ use Rattle.std.specs.Prelude.{codes}
 use Rattle.defs_tree.specs.Tree.{string, array, hash, items_of, pairs_of}
 use Rattle.defs_tree.specs.Typing.{typing, is_decimal}
 use Rattle.defs_token.specs.Token.{Style}
-use Rattle.defs_event.specs.Grammar.{Perhaps, scalar, block_content, flow, block_mapping, some_node, plain, indentless, end_dashes, keyed, end_pairs, key, value, bare, end_stream, unmarked}
+use Rattle.proof_grammar.proofs.Streams.{stream_by}
 use Rattle.defs_event.specs.Nested.{Nest, nested_scalar, nested_sequence, nested_mapping, no_nests, nest, no_nest_pairs, nest_pair, with_node}
 use Rattle.defs_meaning.specs.Meaning.{Means}
 use Rattle.defs_row.proofs.Rows.{one_pair, at_key_column}
 
 abbrev leaf : List ℕ → Nest
 leaf text = nested_scalar text Style.plain 0 None
-
-abbrev word : List ℕ → Perhaps
-word text = some_node (block_content None (flow (scalar Style.plain text)))
 
 -- a mapping of one pair
 pair_means : Means true (codes "a: b\n") (hash (pairs_of ((string (codes "a"), string (codes "b")) ∷ [])) ∷ [])
@@ -23,11 +20,7 @@ pair_means = record {
   has = one_pair;
   read = record {
     documents = with_node (nested_mapping 0 None (nest_pair (leaf (codes "a")) (leaf (codes "b")) no_nest_pairs)) ∷ [];
-    stream = record {
-      documents = bare (block_content None (block_mapping (keyed (key (plain (word (codes "a"))) (value (plain (word (codes "b"))) (keyed end_pairs)))))) (unmarked end_stream);
-      has_tokens = refl;
-      has_events = refl;
-    };
+    stream = stream_by refl refl;
     trees_are = refl;
   };
 }
@@ -42,12 +35,7 @@ sequence_means = record {
   read = record {
     documents = with_node (nested_mapping 0 None (nest_pair (leaf (codes "a")) (nested_sequence 0 None (nest (leaf (codes "b")) no_nests))
         (nest_pair (leaf (codes "c")) (leaf (codes "d")) no_nest_pairs))) ∷ [];
-    stream = record {
-      documents = bare (block_content None (block_mapping (keyed (key (plain (word (codes "a"))) (value (indentless None (word (codes "b")) end_dashes)
-          (keyed (key (plain (word (codes "c"))) (value (plain (word (codes "d"))) (keyed end_pairs))))))))) (unmarked end_stream);
-      has_tokens = refl;
-      has_events = refl;
-    };
+    stream = stream_by refl refl;
     trees_are = refl;
   };
 }

@@ -1,11 +1,11 @@
 -- The positions that events have: tokens and events of `[1, &a ]` and others, with those positions that are promised and others.
-use Rattle.std.specs.Prelude.{◌≡◌, ℕ, false, List, [], ◌∷◌, ◌++◌, None, codes, refl}
+use Rattle.std.specs.Prelude.{◌≡◌, ℕ, false, List, [], ◌∷◌, ◌++◌, Some, None, codes, refl}
 use Rattle.std.proofs.Common.{ap, arith}
 use Rattle.defs_text.specs.Position.{Position}
 use Rattle.defs_token.specs.Token.{Style, Tok, Token}
 use Rattle.defs_event.specs.Event.{Ev}
 use Rattle.defs_event.specs.Raw.{Raw, nothing_written}
-use Rattle.defs_event.specs.Grammar.{Documents, anchored, flow_content, flow_properties, scalar, flow_sequence, items, single, comma_item, end_items, bare, block_content, flow, unmarked, end_stream, stream_events}
+use Rattle.proof_grammar.proofs.Streams.{says_by}
 use Rattle.defs_event.specs.Stream.{IsPlacedStream, BeginsPlaced, given_positions, taken_positions}
 use Rattle.defs_event.proofs.Texts.{plain_event}
 
@@ -16,9 +16,9 @@ col n = record { index = n; line = 1; col = n }
 abbrev token_at : ℕ → Tok → Token
 token_at n t = record { position = col n; tok = t }
 
-abbrev derivation : Documents
-derivation = bare (block_content None (flow (flow_sequence
-    (items (single (flow_content None (scalar Style.plain (codes "1")))) (comma_item (single (flow_properties (anchored (codes "a")))) end_items))))) (unmarked end_stream)
+abbrev raws : List Raw
+raws = Raw.stream_start ∷ Raw.document_start [] ∷ Raw.flow_sequence_start None None ∷ Raw.scalar (codes "1") Style.plain None None ∷ Raw.empty_scalar (Some (codes "a")) None ∷ Raw.flow_sequence_end
+    ∷ Raw.document_end ∷ Raw.stream_end ∷ []
 
 abbrev tokens : List Token
 tokens = token_at 0 Tok.stream_start ∷ token_at 0 Tok.flow_sequence_start ∷ token_at 1 (Tok.scalar Style.plain (codes "1")) ∷ token_at 2 Tok.flow_entry
@@ -28,7 +28,7 @@ tokens = token_at 0 Tok.stream_start ∷ token_at 0 Tok.flow_sequence_start ∷ 
 placed : IsPlacedStream false tokens
     ((Ev.stream_start, col 0) ∷ (Ev.document_start, col 9) ∷ (Ev.sequence_start 0 None, col 0) ∷ (plain_event (codes "1"), col 1)
     ∷ (Ev.scalar [] Style.plain 1 None, col 5) ∷ (Ev.sequence_end, col 7) ∷ (Ev.document_end, col 8) ∷ (Ev.stream_end, col 8) ∷ [])
-placed = record { documents = derivation; has_tokens = refl; has_events = refl; has_positions = refl }
+placed = record { raws = raws; says = says_by refl; has_events = refl; has_positions = refl }
 
 -- a beginning of it
 begun : BeginsPlaced false (token_at 0 Tok.stream_start ∷ token_at 0 Tok.flow_sequence_start ∷ [])
@@ -56,15 +56,15 @@ abbrev third_col : List Position → ℕ
 third_col ps = second_col (later ps)
 
 -- A scalar elsewhere than its token is refused.
-misplaced_scalar : taken_positions (stream_events derivation) (col 0 ∷ col 9 ∷ col 0 ∷ col 2 ∷ col 5 ∷ col 7 ∷ col 8 ∷ col 8 ∷ []) ≡ given_positions tokens → ⊥
+misplaced_scalar : taken_positions raws (col 0 ∷ col 9 ∷ col 0 ∷ col 2 ∷ col 5 ∷ col 7 ∷ col 8 ∷ col 8 ∷ []) ≡ given_positions tokens → ⊥
 misplaced_scalar h = let e : 2 ≡ 1 = ap second_col h in omega (arith, e)
 
 -- So is the start of a flow collection.
-misplaced_start : taken_positions (stream_events derivation) (col 0 ∷ col 0 ∷ col 9 ∷ col 1 ∷ col 5 ∷ col 7 ∷ col 8 ∷ col 8 ∷ []) ≡ given_positions tokens → ⊥
+misplaced_start : taken_positions raws (col 0 ∷ col 0 ∷ col 9 ∷ col 1 ∷ col 5 ∷ col 7 ∷ col 8 ∷ col 8 ∷ []) ≡ given_positions tokens → ⊥
 misplaced_start h = let e : 9 ≡ 0 = ap first_col h in omega (arith, e)
 
 -- So is its end.
-misplaced_end : taken_positions (stream_events derivation) (col 0 ∷ col 9 ∷ col 0 ∷ col 1 ∷ col 5 ∷ col 8 ∷ col 8 ∷ col 8 ∷ []) ≡ given_positions tokens → ⊥
+misplaced_end : taken_positions raws (col 0 ∷ col 9 ∷ col 0 ∷ col 1 ∷ col 5 ∷ col 8 ∷ col 8 ∷ col 8 ∷ []) ≡ given_positions tokens → ⊥
 misplaced_end h = let e : 8 ≡ 7 = ap third_col h in omega (arith, e)
 
 -- An alias has its token's position, an end of a block collection has any.

@@ -1,0 +1,68 @@
+-- How what is awaited may go on: by some tokens, and then on the shortest way to the end.
+use Rattle.std.proofs.Common.{◌≡◌, List, [], ◌∷◌, ◌++◌, Option, Some, None, true, sym, subst, append_assoc}
+use Rattle.defs_token.specs.Token.{Tok}
+use Rattle.defs_event.specs.Raw.{Raw}
+use Rattle.defs_event.specs.Table.{reading, saying, Derives, nothing_left, says}
+use Rattle.defs_grammar.specs.Machine.{Turned, goes, refused, step}
+use Rattle.defs_event.specs.Grammar as table
+use Rattle.defs_event.specs.Grammar.{Held, grammar}
+use Rattle.proof_grammar.proofs.Completions.{along}
+use Rattle.proof_grammar.proofs.Falls.{shortest, shortest_events, ends}
+use Rattle.proof_grammar.proofs.Steps.{Sound, step_sound}
+use Rattle.model_parser.specs.declared.state.State.{State}
+use Rattle.model_parser.specs.Kinds.{kind_of}
+use Rattle.model_parser.specs.Goal.{Goal}
+use Rattle.model_parser.specs.Rest.{Works, work_of, may_begin, Awaits}
+
+-- ---- the shortest way to the end
+
+abbrev pub end_tokens : Works → List Tok
+end_tokens [] = []
+end_tokens (saying e ∷ w) = end_tokens w
+end_tokens (reading g h ∷ w) = shortest g ++ end_tokens w
+
+abbrev pub end_events : Works → List Raw
+end_events [] = []
+end_events (saying e ∷ w) = e ∷ end_events w
+end_events (reading g h ∷ w) = shortest_events g h ++ end_events w
+
+pub ends_so : (w : Works) → Derives grammar w (end_tokens w) (end_events w)
+ends_so [] = nothing_left
+ends_so (saying e ∷ w) = says (ends_so w)
+ends_so (reading g h ∷ w) = along grammar (reading g h ∷ []) w (shortest g) (end_tokens w) (shortest_events g h) (end_events w) (ends g h) (ends_so w)
+
+-- ---- by some tokens
+
+abbrev with_events : List Raw → Option (List Raw × Works) → Option (List Raw × Works)
+with_events es None = None
+with_events es (Some x) = Some (es ++ x.0, x.1)
+
+abbrev on_turn : Turned table.Goal Raw Held → (Works → Option (List Raw × Works)) → Option (List Raw × Works)
+on_turn (goes es v) again = with_events es (again v)
+on_turn (refused es) again = None
+
+-- what is said while these tokens are read, and what is left then
+abbrev pub past_tokens : Works → List Tok → Option (List Raw × Works)
+past_tokens w [] = Some ([], w)
+past_tokens w (t ∷ ts) = on_turn (step grammar 12 w t) (λ v. past_tokens v ts)
+
+abbrev Past : Works → List Tok → Option (List Raw × Works) → Type 0
+Past w ts None = Unit {0}
+Past w ts (Some x) = (us : List Tok) (fs : List Raw) → Derives grammar x.1 us fs → Derives grammar w (ts ++ us) (x.0 ++ fs)
+
+further : (w v : Works) (t : Tok) (ts : List Tok) (es : List Raw) → Sound grammar w t (goes es v) → (x : Option (List Raw × Works)) → Past v ts x → Past w (t ∷ ts) (with_events es x)
+further w v t ts es s None p = tt
+further w v t ts es s (Some x) p = λ us fs d. subst (λ l. Derives grammar w (t ∷ (ts ++ us)) l) (sym (append_assoc es x.0 fs)) (s (ts ++ us) (x.0 ++ fs) (p us fs d))
+
+turned : (w : Works) (t : Tok) (ts : List Tok) (o : Turned table.Goal Raw Held) → Sound grammar w t o → ((v : Works) → Past v ts (past_tokens v ts)) → Past w (t ∷ ts) (on_turn o (λ v. past_tokens v ts))
+turned w t ts (goes es v) s i = further w v t ts es s (past_tokens v ts) (i v)
+turned w t ts (refused es) s i = tt
+
+past_so : (w : Works) (ts : List Tok) → Past w ts (past_tokens w ts)
+past_so w [] = λ us fs d. d
+past_so w (t ∷ ts) = turned w t ts (step grammar 12 w t) (step_sound grammar 12 w t) (λ v. past_so v ts)
+
+-- So what is awaited goes on.
+pub goes_so : (g : Goal) (ss : List State) (t : Tok) (ts : List Tok) {x : List Raw × Works} → past_tokens (work_of g ss) (t ∷ ts) ≡ Some x → may_begin g ss (kind_of t) ≡ true
+    → Awaits g ss (t ∷ (ts ++ end_tokens x.1)) (x.0 ++ end_events x.1)
+goes_so g ss t ts {x} h m = (subst (Past (work_of g ss) (t ∷ ts)) h (past_so (work_of g ss) (t ∷ ts)) (end_tokens x.1) (end_events x.1) (ends_so x.1), m)
