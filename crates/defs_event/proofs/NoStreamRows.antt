@@ -3,7 +3,7 @@ use Rattle.std.specs.Prelude.{◌≡◌, List, [], ◌∷◌, ◌++◌, Some, No
 use Rattle.std.proofs.Common.{◌≤◌, sym, ap, subst, arith}
 use Rattle.defs_token.specs.Token.{Style, Tok}
 use Rattle.defs_event.specs.Raw.{Directive}
-use Rattle.defs_event.specs.Grammar.{anchored, tagged, anchored_tagged, tagged_anchored, FlowNode, flow_alias, flow_content, flow_properties, scalar, flow_sequence, flow_mapping, Items, no_items, items, MoreItems, end_items, comma_end_items, comma_item, single, single_pair, FlowPairs, no_flow_pairs, flow_pairs, flow_keyed, flow_keyless, flow_single, Node, block_alias, block_content, block_properties, flow, block_sequence, block_mapping, no_node, some_node, Entries, end_entries, entry, Part, plain, indentless, Pairs, keyed, keyless, end_pairs, key, value, no_value, Documents, marker, bare, directed, others, end_stream, explicit, After, marked, unmarked, flow_node_tokens, items_tokens, more_items_tokens, flow_pairs_tokens, more_flow_pairs_tokens, node_tokens, perhaps_tokens, entries_tokens, part_tokens, pairs_tokens, after_key_tokens, after_tokens, stream_tokens, content_tokens, dashes_tokens, Content}
+use Rattle.defs_event.specs.Grammar.{anchored, tagged, anchored_tagged, tagged_anchored, FlowNode, flow_alias, flow_content, flow_properties, scalar, flow_sequence, flow_mapping, Items, no_items, items, MoreItems, end_items, comma_end_items, comma_item, single, single_pair, FlowPairs, no_flow_pairs, flow_pairs, flow_keyed, flow_keyless, flow_single, Node, block_alias, block_content, block_properties, flow, block_sequence, block_mapping, no_node, some_node, Entries, end_entries, entry, Part, plain, indentless, Pairs, keyed, keyless, end_pairs, key, value, no_value, Documents, marker, bare, directed, others, end_stream, explicit, After, marked, unmarked, flow_node_tokens, flow_content_tokens, items_tokens, more_items_tokens, flow_pairs_tokens, more_flow_pairs_tokens, node_tokens, perhaps_tokens, entries_tokens, part_tokens, pairs_tokens, after_key_tokens, after_tokens, stream_tokens, content_tokens, dashes_tokens, Content}
 use Rattle.defs_event.proofs.OneReading.{rank, first, tail_of, properties_first, flow_node_first, item_first, more_items_first, flow_pair_first, more_flow_pairs_first, content_first, written_first, node_first, entries_first, pairs_first, after_first, directive_first}
 
 -- no stream's tokens begin with these
@@ -21,30 +21,16 @@ flow_scalar (flow_alias a) r ts h = cc
 flow_scalar (flow_content None (scalar s t)) r ts h = cc
 flow_scalar (flow_content None (flow_sequence i)) r ts h = cc
 flow_scalar (flow_content None (flow_mapping i)) r ts h = cc
-flow_scalar (flow_content (Some (anchored a)) c) r ts h = cc
-flow_scalar (flow_content (Some (tagged t)) c) r ts h = cc
-flow_scalar (flow_content (Some (anchored_tagged a t)) c) r ts h = cc
-flow_scalar (flow_content (Some (tagged_anchored t a)) c) r ts h = cc
-flow_scalar (flow_properties (anchored a)) r ts h = cc
-flow_scalar (flow_properties (tagged t)) r ts h = cc
-flow_scalar (flow_properties (anchored_tagged a t)) r ts h = cc
-flow_scalar (flow_properties (tagged_anchored t a)) r ts h = cc
+flow_scalar (flow_content (Some p) c) r ts h = let f = (properties_first p (flow_content_tokens c r)).1 in absurd (omega (arith, f, ap first h))
+flow_scalar (flow_properties p) r ts h = let f = (properties_first p r).1 in absurd (omega (arith, f, ap first h))
 
 node_scalar : (n : Node) (r ts : List Tok) → node_tokens n r ≡ x ∷ ts → r ≡ ts
 node_scalar (block_alias a) r ts h = cc
-node_scalar (block_content None (flow (scalar s t))) r ts h = cc
-node_scalar (block_content None (flow (flow_sequence i))) r ts h = cc
-node_scalar (block_content None (flow (flow_mapping i))) r ts h = cc
+node_scalar (block_content None (flow c)) r ts h = flow_scalar (flow_content None c) r ts h
 node_scalar (block_content None (block_sequence i)) r ts h = cc
 node_scalar (block_content None (block_mapping i)) r ts h = cc
-node_scalar (block_content (Some (anchored a)) c) r ts h = cc
-node_scalar (block_content (Some (tagged t)) c) r ts h = cc
-node_scalar (block_content (Some (anchored_tagged a t)) c) r ts h = cc
-node_scalar (block_content (Some (tagged_anchored t a)) c) r ts h = cc
-node_scalar (block_properties (anchored a)) r ts h = cc
-node_scalar (block_properties (tagged t)) r ts h = cc
-node_scalar (block_properties (anchored_tagged a t)) r ts h = cc
-node_scalar (block_properties (tagged_anchored t a)) r ts h = cc
+node_scalar (block_content (Some p) c) r ts h = let f = (properties_first p (content_tokens c r)).1 in absurd (omega (arith, f, ap first h))
+node_scalar (block_properties p) r ts h = let f = (properties_first p r).1 in absurd (omega (arith, f, ap first h))
 
 -- ---- what a bare document's first token is
 
