@@ -1,9 +1,9 @@
 -- Short streams: their tokens, and the events that they have. A comment gives a text with these tokens.
-use Rattle.std.specs.Prelude.{true, false, [], ◌∷◌, Some, None, codes, refl}
+use Rattle.std.specs.Prelude.{ℕ, true, false, List, [], ◌∷◌, Some, None, codes, refl}
 use Rattle.defs_token.specs.Token.{Style, Tok}
 use Rattle.defs_event.specs.Event.{Ev}
 use Rattle.defs_event.specs.Raw.{Directive}
-use Rattle.defs_event.specs.Grammar.{anchored, tagged, anchored_tagged, tagged_anchored, flow_alias, flow_content, flow_properties, scalar, flow_sequence, flow_mapping, no_flow, some_flow, no_items, items, end_items, comma_end_items, comma_item, single, single_pair, no_flow_value, flow_value, no_flow_pairs, flow_pairs, end_flow_pairs, comma_end_flow_pairs, comma_flow_pair, flow_keyed, flow_keyless, flow_single, block_alias, block_content, block_properties, flow, block_sequence, block_mapping, no_node, some_node, end_entries, entry, plain, indentless, end_dashes, dash, keyed, keyless, end_pairs, key, value, no_value, marker, bare, directed, others, end_stream, explicit, marked, unmarked}
+use Rattle.defs_event.specs.Grammar.{anchored, tagged, anchored_tagged, tagged_anchored, flow_alias, flow_content, flow_properties, scalar, flow_sequence, flow_mapping, no_flow, some_flow, no_items, items, end_items, comma_end_items, comma_item, single, single_pair, no_flow_value, flow_value, no_flow_pairs, flow_pairs, end_flow_pairs, comma_end_flow_pairs, comma_flow_pair, flow_keyed, flow_keyless, flow_single, Node, block_alias, block_content, block_properties, flow, block_sequence, block_mapping, no_node, some_node, end_entries, entry, plain, indentless, end_dashes, dash, keyed, keyless, end_pairs, key, value, no_value, marker, bare, directed, others, end_stream, explicit, marked, unmarked}
 use Rattle.defs_event.specs.Stream.{IsStream}
 use Rattle.defs_event.proofs.Texts.{tag_of_text, three_documents, three_documents_read}
 
@@ -543,20 +543,33 @@ ignored_twice = record {
   has_events = refl;
 }
 
--- `!`, `!s`, `!!s`, `!<u>` without directives
-tags_of_each_kind : IsStream false
-    (Tok.stream_start ∷ Tok.flow_sequence_start ∷ Tok.tag [] (codes "!") ∷ Tok.scalar Style.plain (codes "a") ∷
+-- `[! a, !s b, !!s c, !<u> d]` at the end of the stream: a tag of each kind
+abbrev tags_of_each_kind : List Tok
+tags_of_each_kind =
+    Tok.flow_sequence_start ∷ Tok.tag [] (codes "!") ∷ Tok.scalar Style.plain (codes "a") ∷
     Tok.flow_entry ∷ Tok.tag (codes "!") (codes "s") ∷ Tok.scalar Style.plain (codes "b") ∷ Tok.flow_entry ∷
     Tok.tag (codes "!!") (codes "s") ∷ Tok.scalar Style.plain (codes "c") ∷ Tok.flow_entry ∷
-    Tok.tag [] (codes "u") ∷ Tok.scalar Style.plain (codes "d") ∷ Tok.flow_sequence_end ∷ Tok.stream_end ∷ [])
-    (Ev.stream_start ∷ Ev.document_start ∷ Ev.sequence_start 0 None ∷
+    Tok.tag [] (codes "u") ∷ Tok.scalar Style.plain (codes "d") ∷ Tok.flow_sequence_end ∷ Tok.stream_end ∷ []
+
+abbrev tags_of_each_kind_read : Node
+tags_of_each_kind_read = block_content None (flow (flow_sequence (items (single (flow_content (Some (tagged (tag_of_text [] (codes "!")))) (scalar Style.plain (codes "a")))) (comma_item (single (flow_content (Some (tagged (tag_of_text (codes "!") (codes "s")))) (scalar Style.plain (codes "b")))) (comma_item (single (flow_content (Some (tagged (tag_of_text (codes "!!") (codes "s")))) (scalar Style.plain (codes "c")))) (comma_item (single (flow_content (Some (tagged (tag_of_text [] (codes "u")))) (scalar Style.plain (codes "d")))) end_items))))))
+
+-- the events of its document, where `!` and `!!` stand for these
+abbrev tags_of_each_kind_events : List ℕ → List ℕ → List Ev
+tags_of_each_kind_events one two =
+    Ev.stream_start ∷ Ev.document_start ∷ Ev.sequence_start 0 None ∷
     Ev.scalar (codes "a") Style.plain 0 (Some (tag_of_text [] (codes "!"))) ∷
-    Ev.scalar (codes "b") Style.plain 0 (Some (tag_of_text (codes "!") (codes "s"))) ∷
-    Ev.scalar (codes "c") Style.plain 0 (Some (tag_of_text (codes "tag:yaml.org,2002:") (codes "s"))) ∷
+    Ev.scalar (codes "b") Style.plain 0 (Some (tag_of_text one (codes "s"))) ∷
+    Ev.scalar (codes "c") Style.plain 0 (Some (tag_of_text two (codes "s"))) ∷
     Ev.scalar (codes "d") Style.plain 0 (Some (tag_of_text [] (codes "u"))) ∷ Ev.sequence_end ∷ Ev.document_end ∷
-    Ev.stream_end ∷ [])
-tags_of_each_kind = record {
-  documents = bare (block_content None (flow (flow_sequence (items (single (flow_content (Some (tagged (tag_of_text [] (codes "!")))) (scalar Style.plain (codes "a")))) (comma_item (single (flow_content (Some (tagged (tag_of_text (codes "!") (codes "s")))) (scalar Style.plain (codes "b")))) (comma_item (single (flow_content (Some (tagged (tag_of_text (codes "!!") (codes "s")))) (scalar Style.plain (codes "c")))) (comma_item (single (flow_content (Some (tagged (tag_of_text [] (codes "u")))) (scalar Style.plain (codes "d")))) end_items))))))) (unmarked end_stream);
+    Ev.stream_end ∷ []
+
+-- without directives
+tags_undeclared : IsStream false
+    (Tok.stream_start ∷ tags_of_each_kind)
+    (tags_of_each_kind_events (codes "!") (codes "tag:yaml.org,2002:"))
+tags_undeclared = record {
+  documents = bare tags_of_each_kind_read (unmarked end_stream);
   has_tokens = refl;
   has_events = refl;
 }
@@ -564,18 +577,10 @@ tags_of_each_kind = record {
 -- `!` and `!!` with prefixes declared
 tags_declared : IsStream false
     (Tok.stream_start ∷ Tok.tag_directive (codes "!") (codes "x:") ∷ Tok.tag_directive (codes "!!") (codes "y:") ∷
-    Tok.document_start ∷ Tok.flow_sequence_start ∷ Tok.tag [] (codes "!") ∷ Tok.scalar Style.plain (codes "a") ∷
-    Tok.flow_entry ∷ Tok.tag (codes "!") (codes "s") ∷ Tok.scalar Style.plain (codes "b") ∷ Tok.flow_entry ∷
-    Tok.tag (codes "!!") (codes "s") ∷ Tok.scalar Style.plain (codes "c") ∷ Tok.flow_entry ∷
-    Tok.tag [] (codes "u") ∷ Tok.scalar Style.plain (codes "d") ∷ Tok.flow_sequence_end ∷ Tok.stream_end ∷ [])
-    (Ev.stream_start ∷ Ev.document_start ∷ Ev.sequence_start 0 None ∷
-    Ev.scalar (codes "a") Style.plain 0 (Some (tag_of_text [] (codes "!"))) ∷
-    Ev.scalar (codes "b") Style.plain 0 (Some (tag_of_text (codes "x:") (codes "s"))) ∷
-    Ev.scalar (codes "c") Style.plain 0 (Some (tag_of_text (codes "y:") (codes "s"))) ∷
-    Ev.scalar (codes "d") Style.plain 0 (Some (tag_of_text [] (codes "u"))) ∷ Ev.sequence_end ∷ Ev.document_end ∷
-    Ev.stream_end ∷ [])
+    Tok.document_start ∷ tags_of_each_kind)
+    (tags_of_each_kind_events (codes "x:") (codes "y:"))
 tags_declared = record {
-  documents = directed (Directive.tag (codes "!") (codes "x:")) ((Directive.tag (codes "!!") (codes "y:")) ∷ []) (some_node (block_content None (flow (flow_sequence (items (single (flow_content (Some (tagged (tag_of_text [] (codes "!")))) (scalar Style.plain (codes "a")))) (comma_item (single (flow_content (Some (tagged (tag_of_text (codes "!") (codes "s")))) (scalar Style.plain (codes "b")))) (comma_item (single (flow_content (Some (tagged (tag_of_text (codes "!!") (codes "s")))) (scalar Style.plain (codes "c")))) (comma_item (single (flow_content (Some (tagged (tag_of_text [] (codes "u")))) (scalar Style.plain (codes "d")))) end_items)))))))) (unmarked end_stream);
+  documents = directed (Directive.tag (codes "!") (codes "x:")) ((Directive.tag (codes "!!") (codes "y:")) ∷ []) (some_node tags_of_each_kind_read) (unmarked end_stream);
   has_tokens = refl;
   has_events = refl;
 }
