@@ -8,7 +8,7 @@ use Rattle.model_parser.specs.declared.context.NodeContext.{NodeContext}
 use Rattle.model_parser.specs.declared.context.NodeContext.TheVariants as context
 use Rattle.model_parser.specs.declared.state.State.{State}
 use Rattle.model_parser.specs.declared.state.State.TheVariants as state
-use Rattle.model_parser.specs.Kinds.{kind_of, begins_content, begins_node, ends_part, ends_document, ends_content, ends_entry, ends_dashed, ends_item, ends_item_key, ends_flow_pair, ends_flow_key, tok_of_kind, has_no_text}
+use Rattle.model_parser.specs.Kinds.{kind_of, begins_content, begins_node, ends_part, ends_document, ends_content, ends_entry, ends_dashed, or_value, ends_item, ends_item_key, ends_flow_pair, ends_flow_key, tok_of_kind, HasNoText}
 use Rattle.model_parser.specs.Goal.{NodeAt, ContentAt, part_node, part_sequence, part_content, node_at_tokens, content_at_tokens}
 use Rattle.model_parser.specs.Rest.{Rest, rest_tokens, first_is, BeginsNoNode, EndsPart, EndsNode}
 use Rattle.model_parser.specs.Stands.{IsNext}
@@ -36,12 +36,17 @@ pub other : (test : Kind → Bool) {x t : Tok} → x ≡ t → test (kind_of x) 
 other test h a b = true_is_not_false (ap (λ y. test (kind_of y)) (sym h) ∙ a) b
 
 -- a token without texts is known by its kind
-plain_tok : (t : Tok) → has_no_text (kind_of t) ≡ true → tok_of_kind (kind_of t) ≡ t
+plain_tok : (t : Tok) → HasNoText (kind_of t) → tok_of_kind (kind_of t) ≡ t
 plain_tok Tok.stream_start h = refl
 plain_tok t h = cc
 
-pub tok_is : {t : Tok} {k : Kind} → kind_of t ≡ k → has_no_text k ≡ true → t ≡ tok_of_kind k
-tok_is {t} {k} h e = sym (plain_tok t (ap has_no_text h ∙ e)) ∙ ap tok_of_kind h
+pub tok_is : {t : Tok} {k : Kind} → kind_of t ≡ k → HasNoText k → t ≡ tok_of_kind k
+tok_is {t} {k} h e = sym (plain_tok t (subst HasNoText (sym h) e)) ∙ ap tok_of_kind h
+
+-- the first token is one of a larger class
+pub first_more : (a b : Kind → Bool) → ((k : Kind) → a k ≡ true → b k ≡ true) → (ts : List Tok) → first_is a ts ≡ true → first_is b ts ≡ true
+first_more a b f [] h = refl
+first_more a b f (t ∷ ts) h = f (kind_of t) h
 
 -- ---- nodes
 
@@ -105,16 +110,22 @@ after_key_first (value v x) r = refl
 after_key_first (no_value end_pairs) r = refl
 after_key_first (no_value (key p a)) r = refl
 
+or_value_more : (ends : Kind → Bool) (k : Kind) → ends k ≡ true → or_value ends k ≡ true
+or_value_more ends kind.Value h = refl
+or_value_more ends k h = h
+
+-- a value, where it is written, and what stands after it
+value_first : (ends : Kind → Bool) (v : FlowValue) (r : List Tok) → first_is ends r ≡ true → first_is (or_value ends) (flow_value_tokens v r) ≡ true
+value_first ends no_flow_value r h = first_more ends (or_value ends) (or_value_more ends) r h
+value_first ends (flow_value v) r h = refl
+
 pub more_items_first : (m : MoreItems) (r : List Tok) → first_is ends_item (more_items_tokens m r) ≡ true
 more_items_first end_items r = refl
 more_items_first comma_end_items r = refl
 more_items_first (comma_item i m) r = refl
 
 pub item_key_first : (v : FlowValue) (m : MoreItems) (r : List Tok) → first_is ends_item_key (flow_value_tokens v (more_items_tokens m r)) ≡ true
-item_key_first no_flow_value end_items r = refl
-item_key_first no_flow_value comma_end_items r = refl
-item_key_first no_flow_value (comma_item i m) r = refl
-item_key_first (flow_value v) m r = refl
+item_key_first v m r = value_first ends_item v (more_items_tokens m r) (more_items_first m r)
 
 pub more_pairs_first : (m : MoreFlowPairs) (r : List Tok) → first_is ends_flow_pair (more_flow_pairs_tokens m r) ≡ true
 more_pairs_first end_flow_pairs r = refl
@@ -122,15 +133,7 @@ more_pairs_first comma_end_flow_pairs r = refl
 more_pairs_first (comma_flow_pair i m) r = refl
 
 pub flow_key_first : (v : FlowValue) (m : MoreFlowPairs) (r : List Tok) → first_is ends_flow_key (flow_value_tokens v (more_flow_pairs_tokens m r)) ≡ true
-flow_key_first no_flow_value end_flow_pairs r = refl
-flow_key_first no_flow_value comma_end_flow_pairs r = refl
-flow_key_first no_flow_value (comma_flow_pair i m) r = refl
-flow_key_first (flow_value v) m r = refl
-
--- the first token is one of a larger class
-pub first_more : (a b : Kind → Bool) → ((k : Kind) → a k ≡ true → b k ≡ true) → (ts : List Tok) → first_is a ts ≡ true → first_is b ts ≡ true
-first_more a b f [] h = refl
-first_more a b f (t ∷ ts) h = f (kind_of t) h
+flow_key_first v m r = value_first ends_flow_pair v (more_flow_pairs_tokens m r) (more_pairs_first m r)
 
 -- ---- what ends one thing begins no node
 
@@ -142,21 +145,23 @@ pub content_no_node : (p : NodeContext) (k : Kind) → ends_content k ≡ true �
 content_no_node p kind.DocumentStart h = refl
 content_no_node p k h = cc
 
-pub item_key_no_node : (p : NodeContext) (k : Kind) → ends_item_key k ≡ true → begins_node p k ≡ false
-item_key_no_node p kind.Value h = refl
-item_key_no_node p k h = cc
-
 pub item_no_node : (p : NodeContext) (k : Kind) → ends_item k ≡ true → begins_node p k ≡ false
 item_no_node p kind.FlowEntry h = refl
 item_no_node p k h = cc
 
-pub flow_key_no_node : (p : NodeContext) (k : Kind) → ends_flow_key k ≡ true → begins_node p k ≡ false
-flow_key_no_node p kind.Value h = refl
-flow_key_no_node p k h = cc
-
 pub flow_pair_no_node : (p : NodeContext) (k : Kind) → ends_flow_pair k ≡ true → begins_node p k ≡ false
 flow_pair_no_node p kind.FlowEntry h = refl
 flow_pair_no_node p k h = cc
+
+or_value_no_node : (p : NodeContext) (ends : Kind → Bool) → ((k : Kind) → ends k ≡ true → begins_node p k ≡ false) → (k : Kind) → or_value ends k ≡ true → begins_node p k ≡ false
+or_value_no_node p ends f kind.Value h = refl
+or_value_no_node p ends f k h = f k h
+
+pub item_key_no_node : (p : NodeContext) (k : Kind) → ends_item_key k ≡ true → begins_node p k ≡ false
+item_key_no_node p k h = or_value_no_node p ends_item (item_no_node p) k h
+
+pub flow_key_no_node : (p : NodeContext) (k : Kind) → ends_flow_key k ≡ true → begins_node p k ≡ false
+flow_key_no_node p k h = or_value_no_node p ends_flow_pair (flow_pair_no_node p) k h
 
 -- here a `-` does not begin a node, either
 pub entry_no_node : (k : Kind) → ends_entry k ≡ true → begins_node context.Block k ≡ false
@@ -266,19 +271,17 @@ not_item kind.FlowEntry a b = absurd (a refl)
 not_item kind.FlowSequenceEnd a b = absurd (b refl)
 not_item _ a b = refl
 
-pub not_item_key : (k : Kind) → k ≢ kind.Value → k ≢ kind.FlowEntry → k ≢ kind.FlowSequenceEnd → ends_item_key k ≡ false
-not_item_key kind.Value a b c = absurd (a refl)
-not_item_key kind.FlowEntry a b c = absurd (b refl)
-not_item_key kind.FlowSequenceEnd a b c = absurd (c refl)
-not_item_key _ a b c = refl
-
 pub not_flow_pair : (k : Kind) → k ≢ kind.FlowEntry → k ≢ kind.FlowMappingEnd → ends_flow_pair k ≡ false
 not_flow_pair kind.FlowEntry a b = absurd (a refl)
 not_flow_pair kind.FlowMappingEnd a b = absurd (b refl)
 not_flow_pair _ a b = refl
 
+not_or_value : (ends : Kind → Bool) (k : Kind) → k ≢ kind.Value → ends k ≡ false → or_value ends k ≡ false
+not_or_value ends kind.Value a h = absurd (a refl)
+not_or_value ends k a h = h
+
+pub not_item_key : (k : Kind) → k ≢ kind.Value → k ≢ kind.FlowEntry → k ≢ kind.FlowSequenceEnd → ends_item_key k ≡ false
+not_item_key k a b c = not_or_value ends_item k a (not_item k b c)
+
 pub not_flow_key : (k : Kind) → k ≢ kind.Value → k ≢ kind.FlowEntry → k ≢ kind.FlowMappingEnd → ends_flow_key k ≡ false
-not_flow_key kind.Value a b c = absurd (a refl)
-not_flow_key kind.FlowEntry a b c = absurd (b refl)
-not_flow_key kind.FlowMappingEnd a b c = absurd (c refl)
-not_flow_key _ a b c = refl
+not_flow_key k a b c = not_or_value ends_flow_pair k a (not_flow_pair k b c)

@@ -291,9 +291,7 @@ after_sequence_goes : (ss : List State) (o : Option Properties) → EndsNode con
 after_sequence_goes ss o b (None, i) r ts h = absurd (none_begins context.Block ss b r Tok.block_sequence_start (begins_some Tok.block_sequence_start ts _ h) refl)
 after_sequence_goes ss o b (Some (block_sequence x), i) r ts h = (tt, (x, r), tail_eq h, refl)
 after_sequence_goes ss o b (Some (block_mapping x), i) r ts h = cc
-after_sequence_goes ss o b (Some (flow (scalar y x)), i) r ts h = cc
-after_sequence_goes ss o b (Some (flow (flow_sequence x)), i) r ts h = cc
-after_sequence_goes ss o b (Some (flow (flow_mapping x)), i) r ts h = cc
+after_sequence_goes ss o b (Some (flow c), i) r ts h = absurd (clash_cons (begins_content context.Flow) _ Tok.block_sequence_start ts (flow_content_first c _) refl h)
 
 pub after_sequence : (ss : List State) (o : Option Properties) → Takes (at.after_properties context.Block o) ss Tok.block_sequence_start (Some (Raw.sequence_start (perhaps_anchor_of o) (perhaps_tag_of o))) at.done (state.BlockSequenceEntry ∷ ss)
 after_sequence ss o = record { nested = λ n f. ((f.1, n), tt); comes = λ x' r'. ((Some (block_sequence r'.0), there_some o _), r'.1, refl, refl); goes = λ n f. after_sequence_goes ss o f.0; opened = refl; next = λ f. refl; past = λ f. refl }
@@ -302,9 +300,7 @@ after_mapping_goes : (ss : List State) (o : Option Properties) → EndsNode cont
 after_mapping_goes ss o b (None, i) r ts h = absurd (none_begins context.Block ss b r Tok.block_mapping_start (begins_some Tok.block_mapping_start ts _ h) refl)
 after_mapping_goes ss o b (Some (block_mapping x), i) r ts h = (tt, (x, r), tail_eq h, refl)
 after_mapping_goes ss o b (Some (block_sequence x), i) r ts h = cc
-after_mapping_goes ss o b (Some (flow (scalar y x)), i) r ts h = cc
-after_mapping_goes ss o b (Some (flow (flow_sequence x)), i) r ts h = cc
-after_mapping_goes ss o b (Some (flow (flow_mapping x)), i) r ts h = cc
+after_mapping_goes ss o b (Some (flow c), i) r ts h = absurd (clash_cons (begins_content context.Flow) _ Tok.block_mapping_start ts (flow_content_first c _) refl h)
 
 pub after_mapping : (ss : List State) (o : Option Properties) → Takes (at.after_properties context.Block o) ss Tok.block_mapping_start (Some (Raw.mapping_start (perhaps_anchor_of o) (perhaps_tag_of o))) at.done (state.BlockMappingKey ∷ ss)
 after_mapping ss o = record { nested = λ n f. ((f.1, n), tt); comes = λ x' r'. ((Some (block_mapping r'.0), there_some o _), r'.1, refl, refl); goes = λ n f. after_mapping_goes ss o f.0; opened = refl; next = λ f. refl; past = λ f. refl }

@@ -64,27 +64,23 @@ pub dashed_comes : (ss : List State) (t : Tok) → EndsPart ss → ends_dashed (
 dashed_comes ss Tok.block_entry f h = ((no_node, dash no_node end_dashes), ending ss, _, refl)
 dashed_comes ss t f h = let c = f.1 t h in ((no_node, end_dashes), c.0, c.1, c.2)
 
-pub pair_key_comes : (ss : List State) (t : Tok) → ends_item_key (kind_of t) ≡ true → MayCome at.pair_key ss (Some t)
-pair_key_comes ss Tok.value h = ((no_flow, flow_value no_flow, end_items), ending ss, _, refl)
-pair_key_comes ss Tok.flow_entry h = ((no_flow, no_flow_value, comma_end_items), ending ss, _, refl)
-pair_key_comes ss Tok.flow_sequence_end h = ((no_flow, no_flow_value, end_items), ending ss, _, refl)
-pair_key_comes ss t h = cc
-
 pub pair_valued_comes : (ss : List State) (t : Tok) → ends_item (kind_of t) ≡ true → MayCome at.pair_valued ss (Some t)
 pair_valued_comes ss Tok.flow_entry h = ((no_flow, comma_end_items), ending ss, _, refl)
 pair_valued_comes ss Tok.flow_sequence_end h = ((no_flow, end_items), ending ss, _, refl)
 pair_valued_comes ss t h = cc
 
-pub flow_key_comes : (ss : List State) (t : Tok) → ends_flow_key (kind_of t) ≡ true → MayCome at.flow_key ss (Some t)
-flow_key_comes ss Tok.value h = ((no_flow, flow_value no_flow, end_flow_pairs), ending ss, _, refl)
-flow_key_comes ss Tok.flow_entry h = ((no_flow, no_flow_value, comma_end_flow_pairs), ending ss, _, refl)
-flow_key_comes ss Tok.flow_mapping_end h = ((no_flow, no_flow_value, end_flow_pairs), ending ss, _, refl)
-flow_key_comes ss t h = cc
+pub pair_key_comes : (ss : List State) (t : Tok) → ends_item_key (kind_of t) ≡ true → MayCome at.pair_key ss (Some t)
+pair_key_comes ss Tok.value h = ((no_flow, flow_value no_flow, end_items), ending ss, _, refl)
+pair_key_comes ss t h = let c = pair_valued_comes ss t h in ((c.0.0, no_flow_value, c.0.1), c.1, c.2, c.3)
 
 pub flow_valued_comes : (ss : List State) (t : Tok) → ends_flow_pair (kind_of t) ≡ true → MayCome at.flow_valued ss (Some t)
 flow_valued_comes ss Tok.flow_entry h = ((no_flow, comma_end_flow_pairs), ending ss, _, refl)
 flow_valued_comes ss Tok.flow_mapping_end h = ((no_flow, end_flow_pairs), ending ss, _, refl)
 flow_valued_comes ss t h = cc
+
+pub flow_key_comes : (ss : List State) (t : Tok) → ends_flow_key (kind_of t) ≡ true → MayCome at.flow_key ss (Some t)
+flow_key_comes ss Tok.value h = ((no_flow, flow_value no_flow, end_flow_pairs), ending ss, _, refl)
+flow_key_comes ss t h = let c = flow_valued_comes ss t h in ((c.0.0, no_flow_value, c.0.1), c.1, c.2, c.3)
 
 -- ---- between documents
 
