@@ -168,6 +168,9 @@ answers_written {T} p given r {x} h a = subst (λ y. (names : Names) × At (goal
 pub wrote : {T : Type 0} (p : Reader T) (given : List (Ev × Position)) {x y : Event × Position} → x ≡ y → Answers p given (Ok y) → Answers p given (Ok x)
 wrote {T} p given h a = subst (λ e. Answers p given (Ok e)) (sym h) a
 
+pub wrote_event : {T : Type 0} (p : Reader T) (given : List (Ev × Position)) (r : Event × Position) {e : Event} → r.0 ≡ e → Answers p given (Ok (e, r.1)) → Answers p given (Ok r)
+wrote_event {T} p given r h a = subst (λ x. Answers p given (Ok (x, r.1))) (sym h) a
+
 pub faulted_as : {T : Type 0} (p : Reader T) (given : List (Ev × Position)) {s u : Stop} → s ≡ u → Faulted p given u → Faulted p given s
 faulted_as {T} p given h f = subst (Faulted p given) (sym h) f
 
