@@ -3,12 +3,12 @@ use Rattle.std.proofs.Common.{◌≡◌, ℕ, zero, suc, Bool, true, false, cond
 use Rattle.std.specs.Prelude.{ℤ, IsTrue, ◌||◌, unwrap_or, option_map, if◌then◌else◌, nat_eq, bytes_eq, codes, All}
 use Rattle.std.proofs.lemmas.List.Elements.{All-nil, All-cons}
 use Rattle.defs_text.specs.Position.{Position}
-use Rattle.defs_tree.specs.Tree.{Tree, real, integer, string, boolean, array, hash, alias, null, bad_value, items_of, pairs_of, pair_list_of}
+use Rattle.defs_tree.specs.Tree.{Tree, real, integer, string, boolean, null, array, hash, alias, bad_value, Items, no_items, item, Pairs, no_pairs, pair, items_of, pairs_of, pair_list_of}
 use Rattle.defs_tree.specs.Grammar.{is_among}
 use Rattle.defs_tree.specs.Typing.{typing, fits_i64, signed_decimal, is_decimal, is_real_text, true_words, false_words}
 use Rattle.defs_tree.specs.Order.{tree_eq}
 use Rattle.defs_tree.specs.Pairs.{has_key, without, insert, AreDistinct}
-use Rattle.defs_tree.specs.Valid.{IsDistinct, AllPairsDistinct, FitsI64}
+use Rattle.defs_tree.specs.Valid.{IsDistinct, AllDistinct, AllPairsDistinct, FitsI64, AllFitI64, AllPairsFitI64}
 use Rattle.defs_tree.specs.Laws.{MayStandFor}
 use Rattle.defs_tree.proofs.PairsLaws.{AreDistinct_insert}
 use Rattle.defs_tree.proofs.TypingLaws.{OfSome, signed_number-fits, typing_plain}
@@ -18,7 +18,7 @@ use Rattle.defs_event.specs.Scalar.{by_name, scalar_tree}
 use Rattle.defs_event.specs.Names.{core_prefix}
 use Rattle.defs_event.specs.Anchors.{Anchors, aliased, finished}
 use Rattle.defs_event.specs.Unfinished.{Opened, opened_sequence, opened_mapping, Unfinished, Step, reads, repeats, out_of_nesting, with_root, with_tree, with_node, with_start, with_sequence_end, with_mapping_end, with_document_end, with_event, Loader, at_work, noted, refused, new_loader, loader_after, with_event_at, with_events, documents_of}
-use Rattle.defs_event.specs.NoAlias.{HasNoAlias}
+use Rattle.defs_event.specs.NoAlias.{HasNoAlias, NoneHasAlias, NoPairHasAlias}
 
 -- each of a list has it
 abbrev Each : {A : Type 0} → (A → Type 0) → List A → Type 0
@@ -37,13 +37,16 @@ each_more P (x ∷ xs) y h p = (h.0, each_more P xs y h.1 p)
 abbrev OfPair : (Tree → Type 0) → Tree × Tree → Type 0
 OfPair P p = P p.0 × P p.1
 
+-- what a scalar is read as: its integers have 64 bits
+abbrev IsLeaf : Tree → Type 0
+IsLeaf (integer z) = IsTrue (fits_i64 z)
+IsLeaf (array ts) = ⊥
+IsLeaf (hash ps) = ⊥
+IsLeaf (alias n) = ⊥
+IsLeaf _ = Unit {0}
+
 pub record IsKept (P : Tree → Type 0) : Type 0 where
-  pub of_real : (s : List ℕ) → P (real s)
-  pub of_integer : (z : ℤ) → IsTrue (fits_i64 z) → P (integer z)
-  pub of_string : (s : List ℕ) → P (string s)
-  pub of_boolean : (b : Bool) → P (boolean b)
-  pub of_null : P null
-  pub of_bad_value : P bad_value
+  pub of_leaf : (t : Tree) → IsLeaf t → P t
   pub of_array : (ts : List Tree) → Each P ts → P (array (items_of ts))
   pub of_hash : (ps : List (Tree × Tree)) → AreDistinct ps → Each (OfPair P) ps → P (hash (pairs_of ps))
 
@@ -53,34 +56,34 @@ either : (P : Tree → Type 0) (b : Bool) (t u : Tree) → P t → P u → P (if
 either P true t u h r = h
 either P false t u h r = r
 
-of_plain : (P : Tree → Type 0) → IsKept P → (text : List ℕ) (t : Tree) → MayStandFor text t → P t
-of_plain P k text (real s) h = k.of_real s
-of_plain P k text (integer z) h = k.of_integer z h
-of_plain P k text (string s) h = k.of_string s
-of_plain P k text (boolean b) h = k.of_boolean b
-of_plain P k text (array ts) h = absurd h
-of_plain P k text (hash ps) h = absurd h
-of_plain P k text (alias n) h = absurd h
-of_plain P k text null h = k.of_null
-of_plain P k text bad_value h = absurd h
+leaf_of_plain : (text : List ℕ) (t : Tree) → MayStandFor text t → IsLeaf t
+leaf_of_plain text (integer z) h = h
+leaf_of_plain text (array ts) h = h
+leaf_of_plain text (hash ps) h = h
+leaf_of_plain text (alias n) h = h
+leaf_of_plain text t h = tt
+
+of_plain : (P : Tree → Type 0) → IsKept P → (text : List ℕ) → P (typing text)
+of_plain P k text = k.of_leaf (typing text) (leaf_of_plain text (typing text) (typing_plain text))
 
 of_number : (P : Tree → Type 0) → IsKept P → (o : Option ℤ) → OfSome (λ z. IsTrue (fits_i64 z)) o → P (unwrap_or (option_map integer o) bad_value)
-of_number P k None h = k.of_bad_value
-of_number P k (Some z) h = k.of_integer z h
+of_number P k None h = k.of_leaf bad_value tt
+of_number P k (Some z) h = k.of_leaf (integer z) h
 
 of_name : (P : Tree → Type 0) → IsKept P → (name text : List ℕ) → P (by_name name text)
 of_name P k name text =
+    let bad : P bad_value = k.of_leaf bad_value tt in
     either P (bytes_eq name (codes "bool")) _ _
-    (either P (is_among true_words text) _ _ (k.of_boolean true) (either P (is_among false_words text) _ _ (k.of_boolean false) k.of_bad_value))
+    (either P (is_among true_words text) _ _ (k.of_leaf (boolean true) tt) (either P (is_among false_words text) _ _ (k.of_leaf (boolean false) tt) bad))
     (either P (bytes_eq name (codes "int")) _ _ (of_number P k (signed_decimal text) (signed_number-fits 10 text))
-    (either P (bytes_eq name (codes "float")) _ _ (either P (is_real_text text || is_decimal text) _ _ (k.of_real text) k.of_bad_value)
-    (either P (bytes_eq name (codes "null")) _ _ (either P (is_among (codes "~" ∷ codes "null" ∷ []) text) _ _ k.of_null k.of_bad_value)
-    (k.of_string text))))
+    (either P (bytes_eq name (codes "float")) _ _ (either P (is_real_text text || is_decimal text) _ _ (k.of_leaf (real text) tt) bad)
+    (either P (bytes_eq name (codes "null")) _ _ (either P (is_among (codes "~" ∷ codes "null" ∷ []) text) _ _ (k.of_leaf null tt) bad)
+    (k.of_leaf (string text) tt))))
 
 of_scalar : (P : Tree → Type 0) → IsKept P → (text : List ℕ) (style : Style) (tag : Option Tag) → P (scalar_tree text style tag)
-of_scalar P k text Style.plain None = of_plain P k text (typing text) (typing_plain text)
-of_scalar P k text Style.plain (Some t) = either P (bytes_eq t.handle core_prefix) _ _ (of_name P k t.suffix text) (k.of_string text)
-of_scalar P k text _ tag = k.of_string text
+of_scalar P k text Style.plain None = of_plain P k text
+of_scalar P k text Style.plain (Some t) = either P (bytes_eq t.handle core_prefix) _ _ (of_name P k t.suffix text) (k.of_leaf (string text) tt)
+of_scalar P k text _ tag = k.of_leaf (string text) tt
 
 -- ---- anchors
 
@@ -88,7 +91,7 @@ abbrev OfAnchor : (Tree → Type 0) → ℕ × Tree → Type 0
 OfAnchor P a = P a.1
 
 of_alias : (P : Tree → Type 0) → IsKept P → (n : ℕ) (anchors : Anchors) → Each (OfAnchor P) anchors → P (aliased n anchors)
-of_alias P k n [] h = k.of_bad_value
+of_alias P k n [] h = k.of_leaf bad_value tt
 of_alias P k n (a ∷ anchors) h = either P (nat_eq n a.0) _ _ h.0 (of_alias P k n anchors h.1)
 
 of_finished : (P : Tree → Type 0) (a : ℕ) (t : Tree) (anchors : Anchors) → P t → Each (OfAnchor P) anchors → Each (OfAnchor P) (finished a t anchors)
@@ -174,7 +177,7 @@ of_mapping_end P k u (opened_mapping a ps None ∷ outer) h o = of_node P a (has
 of_mapping_end P k u (opened_mapping a ps (Some w) ∷ outer) h o = tt
 
 of_perhaps : (P : Tree → Type 0) → IsKept P → (root : Option Tree) → OfPerhaps P root → P (unwrap_or root bad_value)
-of_perhaps P k None h = k.of_bad_value
+of_perhaps P k None h = k.of_leaf bad_value tt
 of_perhaps P k (Some t) h = h
 
 of_document_end : (P : Tree → Type 0) → IsKept P → (u : Unfinished) (outer : List Opened) → OfUnfinished P u → Each (OfOpened P) outer → OfStep P (with_document_end u outer)
@@ -225,66 +228,53 @@ loaded_kept P k es =
 
 -- ---- what is kept
 
-no_alias_items : (ts : List Tree) → Each HasNoAlias ts → HasNoAlias (array (items_of ts))
-no_alias_items [] h = tt
-no_alias_items (t ∷ ts) h = (h.0, no_alias_items ts h.1)
+-- what is said of each item, and of each key and value
+each_item : (P : Tree → Type 0) (Q : Items → Type 0) → Q no_items → ((t : Tree) (ts : Items) → P t → Q ts → Q (item t ts)) → (ts : List Tree) → Each P ts → Q (items_of ts)
+each_item P Q none more [] h = none
+each_item P Q none more (t ∷ ts) h = more t (items_of ts) h.0 (each_item P Q none more ts h.1)
 
-no_alias_pairs : (ps : List (Tree × Tree)) → Each (OfPair HasNoAlias) ps → HasNoAlias (hash (pairs_of ps))
-no_alias_pairs [] h = tt
-no_alias_pairs (p ∷ ps) h = (h.0.0, h.0.1, no_alias_pairs ps h.1)
+each_pair : (P : Tree → Type 0) (Q : Pairs → Type 0) → Q no_pairs → ((k v : Tree) (ps : Pairs) → P k → P v → Q ps → Q (pair k v ps)) → (ps : List (Tree × Tree)) → Each (OfPair P) ps → Q (pairs_of ps)
+each_pair P Q none more [] h = none
+each_pair P Q none more (p ∷ ps) h = more p.0 p.1 (pairs_of ps) h.0.0 h.0.1 (each_pair P Q none more ps h.1)
+
+no_alias_leaf : (t : Tree) → IsLeaf t → HasNoAlias t
+no_alias_leaf (array ts) h = absurd h
+no_alias_leaf (hash ps) h = absurd h
+no_alias_leaf (alias n) h = h
+no_alias_leaf t h = tt
 
 pub no_alias_kept : IsKept HasNoAlias
 no_alias_kept = record {
-  of_real = λ s. tt;
-  of_integer = λ z h. tt;
-  of_string = λ s. tt;
-  of_boolean = λ b. tt;
-  of_null = tt;
-  of_bad_value = tt;
-  of_array = no_alias_items;
-  of_hash = λ ps d h. no_alias_pairs ps h;
+  of_leaf = no_alias_leaf;
+  of_array = each_item HasNoAlias NoneHasAlias tt (λ t ts h i. (h, i));
+  of_hash = λ ps d. each_pair HasNoAlias NoPairHasAlias tt (λ k v ps h i j. (h, i, j)) ps;
 }
 
-fits_items : (ts : List Tree) → Each FitsI64 ts → FitsI64 (array (items_of ts))
-fits_items [] h = tt
-fits_items (t ∷ ts) h = (h.0, fits_items ts h.1)
-
-fits_pairs : (ps : List (Tree × Tree)) → Each (OfPair FitsI64) ps → FitsI64 (hash (pairs_of ps))
-fits_pairs [] h = tt
-fits_pairs (p ∷ ps) h = (h.0.0, h.0.1, fits_pairs ps h.1)
+fits_leaf : (t : Tree) → IsLeaf t → FitsI64 t
+fits_leaf (integer z) h = h
+fits_leaf (array ts) h = absurd h
+fits_leaf (hash ps) h = absurd h
+fits_leaf t h = tt
 
 pub fits_kept : IsKept FitsI64
 fits_kept = record {
-  of_real = λ s. tt;
-  of_integer = λ z h. h;
-  of_string = λ s. tt;
-  of_boolean = λ b. tt;
-  of_null = tt;
-  of_bad_value = tt;
-  of_array = fits_items;
-  of_hash = λ ps d h. fits_pairs ps h;
+  of_leaf = fits_leaf;
+  of_array = each_item FitsI64 AllFitI64 tt (λ t ts h i. (h, i));
+  of_hash = λ ps d. each_pair FitsI64 AllPairsFitI64 tt (λ k v ps h i j. (h, i, j)) ps;
 }
 
 pairs_back : (ps : List (Tree × Tree)) → ps ≡ pair_list_of (pairs_of ps)
 pairs_back [] = refl
 pairs_back (p ∷ ps) = ap (λ qs. p ∷ qs) (pairs_back ps)
 
-distinct_items : (ts : List Tree) → Each IsDistinct ts → IsDistinct (array (items_of ts))
-distinct_items [] h = tt
-distinct_items (t ∷ ts) h = (h.0, distinct_items ts h.1)
-
-distinct_pairs : (ps : List (Tree × Tree)) → Each (OfPair IsDistinct) ps → AllPairsDistinct (pairs_of ps)
-distinct_pairs [] h = tt
-distinct_pairs (p ∷ ps) h = (h.0.0, h.0.1, distinct_pairs ps h.1)
+distinct_leaf : (t : Tree) → IsLeaf t → IsDistinct t
+distinct_leaf (array ts) h = absurd h
+distinct_leaf (hash ps) h = absurd h
+distinct_leaf t h = tt
 
 pub distinct_kept : IsKept IsDistinct
 distinct_kept = record {
-  of_real = λ s. tt;
-  of_integer = λ z h. tt;
-  of_string = λ s. tt;
-  of_boolean = λ b. tt;
-  of_null = tt;
-  of_bad_value = tt;
-  of_array = distinct_items;
-  of_hash = λ ps d h. (subst AreDistinct (pairs_back ps) d, distinct_pairs ps h);
+  of_leaf = distinct_leaf;
+  of_array = each_item IsDistinct AllDistinct tt (λ t ts h i. (h, i));
+  of_hash = λ ps d h. (subst AreDistinct (pairs_back ps) d, each_pair IsDistinct AllPairsDistinct tt (λ k v ps h i j. (h, i, j)) ps h);
 }

@@ -1,7 +1,7 @@
 -- The test of nesting holds of nested events and of no others.
-use Rattle.std.proofs.Common.{◌≡◌, ℕ, true, List, [], ◌∷◌, Option, Some, refl, sym, ap, ◌∙◌, subst, ◌↔◌}
+use Rattle.std.proofs.Common.{◌≡◌, true, List, [], ◌∷◌, Option, Some, None, refl, sym, ap, ◌∙◌, subst, ◌↔◌}
 use Rattle.std.specs.Prelude.{IsTrue}
-use Rattle.defs_event.specs.Event.{Tag, Ev}
+use Rattle.defs_event.specs.Event.{Ev}
 use Rattle.defs_event.specs.Nested.{Nest, nested_alias, nested_scalar, nested_sequence, nested_mapping, Nests, no_nests, nest, NestPairs, no_nest_pairs, nest_pair, NestedDocument, without_node, with_node, nest_events, nests_events, nest_pairs_events, nested_document_events, nested_documents_events, nested_stream, IsNested, Open, in_stream, before_node, after_node, in_sequence, at_key, at_value, with_child, child_then, there_and, closes, is_nested}
 
 -- ---- nested events pass
@@ -52,30 +52,17 @@ Fills (at_key ∷ os) es = (ps : NestPairs) × (vs : List Ev) × (es ≡ nest_pa
 Fills (at_value ∷ os) es = (v : Nest) × (ps : NestPairs) × (vs : List Ev) × (es ≡ nest_events v (nest_pairs_events ps (Ev.mapping_end ∷ vs))) × Fills os vs
 
 -- A node there, and what fills the rest.
-in_document : (n : Nest) (os : List Open) (es vs : List Ev) → es ≡ nest_events n vs → Fills (after_node ∷ os) vs → Fills (before_node ∷ os) es
-in_document n os es vs e f = (with_node n, f.0, ap (λ ws. Ev.document_start ∷ ws) (e ∙ ap (nest_events n) f.1), f.2)
+filled : (o o' : Open) (n : Nest) (os : List Open) (es vs : List Ev) → with_child o ≡ Some o' → es ≡ nest_events n vs → Fills (o' ∷ os) vs → Fills (o ∷ os) es
+filled before_node after_node n os es vs h e f = (with_node n, f.0, ap (λ ws. Ev.document_start ∷ ws) (e ∙ ap (nest_events n) f.1), f.2)
+filled in_sequence in_sequence n os es vs h e f = (nest n f.0, f.1, e ∙ ap (nest_events n) f.2, f.3)
+filled at_key at_value n os es vs h e f = (nest_pair n f.0 f.1, f.2, e ∙ ap (nest_events n) f.3, f.4)
+filled at_value at_key n os es vs h e f = (n, f.0, f.1, e ∙ ap (nest_events n) f.2, f.3)
+filled o o' n os es vs h e f = cc
 
-as_item : (n : Nest) (os : List Open) (es vs : List Ev) → es ≡ nest_events n vs → Fills (in_sequence ∷ os) vs → Fills (in_sequence ∷ os) es
-as_item n os es vs e f = (nest n f.0, f.1, e ∙ ap (nest_events n) f.2, f.3)
-
-as_key : (n : Nest) (os : List Open) (es vs : List Ev) → es ≡ nest_events n vs → Fills (at_value ∷ os) vs → Fills (at_key ∷ os) es
-as_key n os es vs e f = (nest_pair n f.0 f.1, f.2, e ∙ ap (nest_events n) f.3, f.4)
-
-as_value : (n : Nest) (os : List Open) (es vs : List Ev) → es ≡ nest_events n vs → Fills (at_key ∷ os) vs → Fills (at_value ∷ os) es
-as_value n os es vs e f = (n, f.0, f.1, e ∙ ap (nest_events n) f.2, f.3)
-
--- a sequence, and what stands after it
-abbrev sequence_then : ℕ → Option Tag → List Open → List Ev → Type 0
-sequence_then a t os es = (n : Nest) × (vs : List Ev) × (Ev.sequence_start a t ∷ es ≡ nest_events n vs) × Fills os vs
-
-a_sequence : (a : ℕ) (t : Option Tag) (os : List Open) (es : List Ev) → Fills (in_sequence ∷ os) es → sequence_then a t os es
-a_sequence a t os es f = (nested_sequence a t f.0, f.1, ap (λ ws. Ev.sequence_start a t ∷ ws) f.2, f.3)
-
-abbrev mapping_then : ℕ → Option Tag → List Open → List Ev → Type 0
-mapping_then a t os es = (n : Nest) × (vs : List Ev) × (Ev.mapping_start a t ∷ es ≡ nest_events n vs) × Fills os vs
-
-a_mapping : (a : ℕ) (t : Option Tag) (os : List Open) (es : List Ev) → Fills (at_key ∷ os) es → mapping_then a t os es
-a_mapping a t os es f = (nested_mapping a t f.0, f.1, ap (λ ws. Ev.mapping_start a t ∷ ws) f.2, f.3)
+-- what a node leaves open, where one may stand
+left_open : (c : Option Open) (inner os : List Open) (es : List Ev) → IsTrue (there_and (closes es) (child_then c inner os)) → (o : Open) × (c ≡ Some o) × IsTrue (there_and (closes es) (child_then (Some o) inner os))
+left_open None inner os es h = cc
+left_open (Some o) inner os es h = (o, refl, h)
 
 fills : (es : List Ev) (os : List Open) → IsTrue (closes es os) → Fills os es
 fills [] [] h = refl
@@ -88,30 +75,20 @@ fills (Ev.document_end ∷ es) (before_node ∷ os) h = (without_node, es, refl,
 fills (Ev.document_end ∷ es) (after_node ∷ os) h = (es, refl, fills es os h)
 fills (Ev.sequence_end ∷ es) (in_sequence ∷ os) h = (no_nests, es, refl, fills es os h)
 fills (Ev.mapping_end ∷ es) (at_key ∷ os) h = (no_nest_pairs, es, refl, fills es os h)
-fills (Ev.alias n ∷ es) (before_node ∷ os) h = in_document (nested_alias n) os (Ev.alias n ∷ es) es refl (fills es (after_node ∷ os) h)
-fills (Ev.alias n ∷ es) (in_sequence ∷ os) h = as_item (nested_alias n) os (Ev.alias n ∷ es) es refl (fills es (in_sequence ∷ os) h)
-fills (Ev.alias n ∷ es) (at_key ∷ os) h = as_key (nested_alias n) os (Ev.alias n ∷ es) es refl (fills es (at_value ∷ os) h)
-fills (Ev.alias n ∷ es) (at_value ∷ os) h = as_value (nested_alias n) os (Ev.alias n ∷ es) es refl (fills es (at_key ∷ os) h)
-fills (Ev.scalar x s a t ∷ es) (before_node ∷ os) h = in_document (nested_scalar x s a t) os (Ev.scalar x s a t ∷ es) es refl (fills es (after_node ∷ os) h)
-fills (Ev.scalar x s a t ∷ es) (in_sequence ∷ os) h = as_item (nested_scalar x s a t) os (Ev.scalar x s a t ∷ es) es refl (fills es (in_sequence ∷ os) h)
-fills (Ev.scalar x s a t ∷ es) (at_key ∷ os) h = as_key (nested_scalar x s a t) os (Ev.scalar x s a t ∷ es) es refl (fills es (at_value ∷ os) h)
-fills (Ev.scalar x s a t ∷ es) (at_value ∷ os) h = as_value (nested_scalar x s a t) os (Ev.scalar x s a t ∷ es) es refl (fills es (at_key ∷ os) h)
-fills (Ev.sequence_start a t ∷ es) (before_node ∷ os) h =
-    let y = a_sequence a t (after_node ∷ os) es (fills es (in_sequence ∷ after_node ∷ os) h) in in_document y.0 os (Ev.sequence_start a t ∷ es) y.1 y.2 y.3
-fills (Ev.sequence_start a t ∷ es) (in_sequence ∷ os) h =
-    let y = a_sequence a t (in_sequence ∷ os) es (fills es (in_sequence ∷ in_sequence ∷ os) h) in as_item y.0 os (Ev.sequence_start a t ∷ es) y.1 y.2 y.3
-fills (Ev.sequence_start a t ∷ es) (at_key ∷ os) h =
-    let y = a_sequence a t (at_value ∷ os) es (fills es (in_sequence ∷ at_value ∷ os) h) in as_key y.0 os (Ev.sequence_start a t ∷ es) y.1 y.2 y.3
-fills (Ev.sequence_start a t ∷ es) (at_value ∷ os) h =
-    let y = a_sequence a t (at_key ∷ os) es (fills es (in_sequence ∷ at_key ∷ os) h) in as_value y.0 os (Ev.sequence_start a t ∷ es) y.1 y.2 y.3
-fills (Ev.mapping_start a t ∷ es) (before_node ∷ os) h =
-    let y = a_mapping a t (after_node ∷ os) es (fills es (at_key ∷ after_node ∷ os) h) in in_document y.0 os (Ev.mapping_start a t ∷ es) y.1 y.2 y.3
-fills (Ev.mapping_start a t ∷ es) (in_sequence ∷ os) h =
-    let y = a_mapping a t (in_sequence ∷ os) es (fills es (at_key ∷ in_sequence ∷ os) h) in as_item y.0 os (Ev.mapping_start a t ∷ es) y.1 y.2 y.3
-fills (Ev.mapping_start a t ∷ es) (at_key ∷ os) h =
-    let y = a_mapping a t (at_value ∷ os) es (fills es (at_key ∷ at_value ∷ os) h) in as_key y.0 os (Ev.mapping_start a t ∷ es) y.1 y.2 y.3
-fills (Ev.mapping_start a t ∷ es) (at_value ∷ os) h =
-    let y = a_mapping a t (at_key ∷ os) es (fills es (at_key ∷ at_key ∷ os) h) in as_value y.0 os (Ev.mapping_start a t ∷ es) y.1 y.2 y.3
+fills (Ev.alias n ∷ es) (o ∷ os) h =
+    let c = left_open (with_child o) [] os es h in
+    filled o c.0 (nested_alias n) os (Ev.alias n ∷ es) es c.1 refl (fills es (c.0 ∷ os) c.2)
+fills (Ev.scalar x s a t ∷ es) (o ∷ os) h =
+    let c = left_open (with_child o) [] os es h in
+    filled o c.0 (nested_scalar x s a t) os (Ev.scalar x s a t ∷ es) es c.1 refl (fills es (c.0 ∷ os) c.2)
+fills (Ev.sequence_start a t ∷ es) (o ∷ os) h =
+    let c = left_open (with_child o) (in_sequence ∷ []) os es h in
+    let f = fills es (in_sequence ∷ c.0 ∷ os) c.2 in
+    filled o c.0 (nested_sequence a t f.0) os (Ev.sequence_start a t ∷ es) f.1 c.1 (ap (λ ws. Ev.sequence_start a t ∷ ws) f.2) f.3
+fills (Ev.mapping_start a t ∷ es) (o ∷ os) h =
+    let c = left_open (with_child o) (at_key ∷ []) os es h in
+    let f = fills es (at_key ∷ c.0 ∷ os) c.2 in
+    filled o c.0 (nested_mapping a t f.0) os (Ev.mapping_start a t ∷ es) f.1 c.1 (ap (λ ws. Ev.mapping_start a t ∷ ws) f.2) f.3
 fills (e ∷ es) os h = cc
 
 pass_nested : (es : List Ev) → IsTrue (is_nested es) → IsNested es

@@ -185,20 +185,6 @@ distinct_opens = ((λ ps h. distinct_each ps h.1), distinct_items)
 whole_distinct : (ps : List (Tree × Tree)) → AreDistinct ps → Each IsDistinct IsDistinct ps → IsDistinct (hash (pairs_of (merged_pairs ps)))
 whole_distinct ps h g = (subst AreDistinct (sym (list_of_pairs (merged_pairs ps))) (merged_pairs_distinct ps h), each_distinct (merged_pairs ps) (each_merged IsDistinct IsDistinct distinct_opens ps g))
 
-mutual
-  pub merged_distinct : (t : Tree) → IsDistinct t → IsDistinct (merged t)
-  merged_distinct (array ts) h = items_distinct ts h
-  merged_distinct (hash ps) h = whole_distinct (merged_values ps) (values_distinct ps h.0) (pairs_distinct ps h.1)
-  merged_distinct t h = h
-
-  items_distinct : (ts : Items) → AllDistinct ts → AllDistinct (items_of (merged_items ts))
-  items_distinct no_items h = tt
-  items_distinct (item t ts) h = (merged_distinct t h.0, items_distinct ts h.1)
-
-  pairs_distinct : (ps : Pairs) → AllPairsDistinct ps → Each IsDistinct IsDistinct (merged_values ps)
-  pairs_distinct no_pairs h = tt
-  pairs_distinct (pair k v ps) h = ((h.0, merged_distinct v h.1), pairs_distinct ps h.2)
-
 -- ---- no merge key is left
 
 -- a key that is no merge key
@@ -241,19 +227,29 @@ whole_lacks ps h g =
     let new = each_brought IsOther LacksMergeKeys other_opens (lookup merge_key ps) (each_lookup IsAny LacksMergeKeys merge_key ps g) in
     each_other (merged_pairs ps) (each_new_pairs IsOther LacksMergeKeys other_opens (without merge_key ps) (brought (lookup merge_key ps)) own new)
 
+-- ---- merged trees
+
 mutual
-  pub none_is_left : (t : Tree) → IsDistinct t → LacksMergeKeys (merged t)
-  none_is_left (array ts) h = no_item_left ts h
-  none_is_left (hash ps) h = whole_lacks (merged_values ps) (values_distinct ps h.0) (no_value_left ps h.1)
-  none_is_left t h = tt
+  merged_both : (t : Tree) → IsDistinct t → IsDistinct (merged t) × LacksMergeKeys (merged t)
+  merged_both (array ts) h = items_both ts h
+  merged_both (hash ps) h =
+      let r = values_both ps h.1 in
+      (whole_distinct (merged_values ps) (values_distinct ps h.0) r.0, whole_lacks (merged_values ps) (values_distinct ps h.0) r.1)
+  merged_both t h = (h, tt)
 
-  no_item_left : (ts : Items) → AllDistinct ts → AllLackMergeKeys (items_of (merged_items ts))
-  no_item_left no_items h = tt
-  no_item_left (item t ts) h = (none_is_left t h.0, no_item_left ts h.1)
+  items_both : (ts : Items) → AllDistinct ts → AllDistinct (items_of (merged_items ts)) × AllLackMergeKeys (items_of (merged_items ts))
+  items_both no_items h = (tt, tt)
+  items_both (item t ts) h = let a = merged_both t h.0 in let b = items_both ts h.1 in ((a.0, b.0), (a.1, b.1))
 
-  no_value_left : (ps : Pairs) → AllPairsDistinct ps → Each IsAny LacksMergeKeys (merged_values ps)
-  no_value_left no_pairs h = tt
-  no_value_left (pair k v ps) h = ((tt, none_is_left v h.1), no_value_left ps h.2)
+  values_both : (ps : Pairs) → AllPairsDistinct ps → Each IsDistinct IsDistinct (merged_values ps) × Each IsAny LacksMergeKeys (merged_values ps)
+  values_both no_pairs h = (tt, tt)
+  values_both (pair k v ps) h = let a = merged_both v h.1 in let b = values_both ps h.2 in (((h.0, a.0), b.0), ((tt, a.1), b.1))
+
+pub merged_distinct : (t : Tree) → IsDistinct t → IsDistinct (merged t)
+merged_distinct t h = (merged_both t h).0
+
+pub none_is_left : (t : Tree) → IsDistinct t → LacksMergeKeys (merged t)
+none_is_left t h = (merged_both t h).1
 
 -- ---- without merge keys
 

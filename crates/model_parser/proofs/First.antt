@@ -5,15 +5,15 @@ use Rattle.model_parser.specs.declared.kind.Kind.{Kind}
 use Rattle.model_parser.specs.declared.kind.Kind.TheVariants as kind
 use Rattle.model_parser.specs.declared.context.NodeContext.{NodeContext}
 use Rattle.model_parser.specs.declared.context.NodeContext.TheVariants as context
-use Rattle.model_parser.specs.Kinds.{kind_of, begins_node, ends_part, ends_document, ends_content, ends_entry, ends_dashed, ends_item, ends_item_key, ends_flow_pair, ends_flow_key, tok_of_kind, has_no_text}
+use Rattle.model_parser.specs.Kinds.{kind_of, begins_node, ends_part, ends_document, ends_content, ends_entry, ends_dashed, ends_item, ends_item_key, ends_flow_pair, ends_flow_key, tok_of_kind, HasNoText}
 
 -- a token without texts is known by its kind
-plain_tok : (t : Tok) → has_no_text (kind_of t) ≡ true → tok_of_kind (kind_of t) ≡ t
+plain_tok : (t : Tok) → HasNoText (kind_of t) → tok_of_kind (kind_of t) ≡ t
 plain_tok Tok.stream_start h = refl
 plain_tok t h = cc
 
-pub tok_is : {t : Tok} {k : Kind} → kind_of t ≡ k → has_no_text k ≡ true → t ≡ tok_of_kind k
-tok_is {t} {k} h e = sym (plain_tok t (ap has_no_text h ∙ e)) ∙ ap tok_of_kind h
+pub tok_is : {t : Tok} {k : Kind} → kind_of t ≡ k → HasNoText k → t ≡ tok_of_kind k
+tok_is {t} {k} h e = sym (plain_tok t (subst HasNoText (sym h) e)) ∙ ap tok_of_kind h
 
 -- ---- what ends one thing begins no node
 
@@ -25,21 +25,23 @@ pub content_no_node : (p : NodeContext) (k : Kind) → ends_content k ≡ true �
 content_no_node p kind.DocumentStart h = refl
 content_no_node p k h = cc
 
-pub item_key_no_node : (p : NodeContext) (k : Kind) → ends_item_key k ≡ true → begins_node p k ≡ false
-item_key_no_node p kind.Value h = refl
-item_key_no_node p k h = cc
-
 pub item_no_node : (p : NodeContext) (k : Kind) → ends_item k ≡ true → begins_node p k ≡ false
 item_no_node p kind.FlowEntry h = refl
 item_no_node p k h = cc
 
-pub flow_key_no_node : (p : NodeContext) (k : Kind) → ends_flow_key k ≡ true → begins_node p k ≡ false
-flow_key_no_node p kind.Value h = refl
-flow_key_no_node p k h = cc
-
 pub flow_pair_no_node : (p : NodeContext) (k : Kind) → ends_flow_pair k ≡ true → begins_node p k ≡ false
 flow_pair_no_node p kind.FlowEntry h = refl
 flow_pair_no_node p k h = cc
+
+or_value_no_node : (p : NodeContext) (ends : Kind → Bool) → ((k : Kind) → ends k ≡ true → begins_node p k ≡ false) → (k : Kind) → or_value ends k ≡ true → begins_node p k ≡ false
+or_value_no_node p ends f kind.Value h = refl
+or_value_no_node p ends f k h = f k h
+
+pub item_key_no_node : (p : NodeContext) (k : Kind) → ends_item_key k ≡ true → begins_node p k ≡ false
+item_key_no_node p k h = or_value_no_node p ends_item (item_no_node p) k h
+
+pub flow_key_no_node : (p : NodeContext) (k : Kind) → ends_flow_key k ≡ true → begins_node p k ≡ false
+flow_key_no_node p k h = or_value_no_node p ends_flow_pair (flow_pair_no_node p) k h
 
 -- here a `-` does not begin a node, either
 pub entry_no_node : (k : Kind) → ends_entry k ≡ true → begins_node context.Block k ≡ false
@@ -69,19 +71,17 @@ not_item kind.FlowEntry a b = absurd (a refl)
 not_item kind.FlowSequenceEnd a b = absurd (b refl)
 not_item _ a b = refl
 
-pub not_item_key : (k : Kind) → k ≢ kind.Value → k ≢ kind.FlowEntry → k ≢ kind.FlowSequenceEnd → ends_item_key k ≡ false
-not_item_key kind.Value a b c = absurd (a refl)
-not_item_key kind.FlowEntry a b c = absurd (b refl)
-not_item_key kind.FlowSequenceEnd a b c = absurd (c refl)
-not_item_key _ a b c = refl
-
 pub not_flow_pair : (k : Kind) → k ≢ kind.FlowEntry → k ≢ kind.FlowMappingEnd → ends_flow_pair k ≡ false
 not_flow_pair kind.FlowEntry a b = absurd (a refl)
 not_flow_pair kind.FlowMappingEnd a b = absurd (b refl)
 not_flow_pair _ a b = refl
 
+not_or_value : (ends : Kind → Bool) (k : Kind) → k ≢ kind.Value → ends k ≡ false → or_value ends k ≡ false
+not_or_value ends kind.Value a h = absurd (a refl)
+not_or_value ends k a h = h
+
+pub not_item_key : (k : Kind) → k ≢ kind.Value → k ≢ kind.FlowEntry → k ≢ kind.FlowSequenceEnd → ends_item_key k ≡ false
+not_item_key k a b c = not_or_value ends_item k a (not_item k b c)
+
 pub not_flow_key : (k : Kind) → k ≢ kind.Value → k ≢ kind.FlowEntry → k ≢ kind.FlowMappingEnd → ends_flow_key k ≡ false
-not_flow_key kind.Value a b c = absurd (a refl)
-not_flow_key kind.FlowEntry a b c = absurd (b refl)
-not_flow_key kind.FlowMappingEnd a b c = absurd (c refl)
-not_flow_key _ a b c = refl
+not_flow_key k a b c = not_or_value ends_flow_pair k a (not_flow_pair k b c)

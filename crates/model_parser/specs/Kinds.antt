@@ -1,5 +1,5 @@
 -- What a token is, without its texts.
-use Rattle.std.specs.Prelude.{Bool, true, false}
+use Rattle.std.specs.Prelude.{◌≡◌, Bool, true, false}
 use Rattle.defs_token.specs.Token.{Tok}
 use Rattle.model_parser.specs.declared.kind.Kind.{Kind}
 use Rattle.model_parser.specs.declared.kind.Kind.TheVariants as kind
@@ -68,6 +68,11 @@ ends_entry kind.BlockEntry = true
 ends_entry kind.BlockEnd = true
 ends_entry _ = false
 
+-- a `:`, or a token for which the test holds
+abbrev pub or_value : (Kind → Bool) → Kind → Bool
+or_value ends kind.Value = true
+or_value ends k = ends k
+
 -- what stands after an item of a flow sequence
 abbrev pub ends_item : Kind → Bool
 ends_item kind.FlowEntry = true
@@ -76,8 +81,7 @@ ends_item _ = false
 
 -- what stands after the key of a pair that is an item
 abbrev pub ends_item_key : Kind → Bool
-ends_item_key kind.Value = true
-ends_item_key k = ends_item k
+ends_item_key = or_value ends_item
 
 -- what stands after a pair of a flow mapping
 abbrev pub ends_flow_pair : Kind → Bool
@@ -87,8 +91,7 @@ ends_flow_pair _ = false
 
 -- what stands after a key of a flow mapping
 abbrev pub ends_flow_key : Kind → Bool
-ends_flow_key kind.Value = true
-ends_flow_key k = ends_flow_pair k
+ends_flow_key = or_value ends_flow_pair
 
 -- what stands after an item of a sequence without indentation
 abbrev pub ends_dashed : Kind → Bool
@@ -107,7 +110,7 @@ ends_content kind.VersionDirective = true
 ends_content kind.TagDirective = true
 ends_content k = ends_document k
 
--- a token with that kind, where the kind has no texts
+-- the token of that kind, where the kind has no texts, else some token
 abbrev pub tok_of_kind : Kind → Tok
 tok_of_kind kind.StreamStart = Tok.stream_start
 tok_of_kind kind.StreamEnd = Tok.stream_end
@@ -126,11 +129,6 @@ tok_of_kind kind.Key = Tok.key
 tok_of_kind kind.Value = Tok.value
 tok_of_kind _ = Tok.stream_start
 
-abbrev pub has_no_text : Kind → Bool
-has_no_text kind.VersionDirective = false
-has_no_text kind.TagDirective = false
-has_no_text kind.Alias = false
-has_no_text kind.Anchor = false
-has_no_text kind.Tag = false
-has_no_text kind.Scalar = false
-has_no_text _ = true
+-- Tokens of that kind have no texts.
+abbrev pub HasNoText : Kind → Type 0
+HasNoText k = kind_of (tok_of_kind k) ≡ k

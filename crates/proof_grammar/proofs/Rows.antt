@@ -1,5 +1,5 @@
 -- Short streams: their tokens, and the events that they have. A comment gives a text with these tokens.
-use Rattle.std.specs.Prelude.{true, false, [], ◌∷◌, Some, None, codes, refl}
+use Rattle.std.specs.Prelude.{ℕ, true, false, List, [], ◌∷◌, Some, None, codes, refl}
 use Rattle.defs_token.specs.Token.{Style, Tok}
 use Rattle.defs_event.specs.Event.{Ev}
 use Rattle.defs_event.specs.Stream.{IsStream}
@@ -386,33 +386,35 @@ ignored_twice : IsStream false
     Ev.stream_end ∷ [])
 ignored_twice = stream_by refl refl
 
--- `!`, `!s`, `!!s`, `!<u>` without directives
-tags_of_each_kind : IsStream false
-    (Tok.stream_start ∷ Tok.flow_sequence_start ∷ Tok.tag [] (codes "!") ∷ Tok.scalar Style.plain (codes "a") ∷
+-- `[! a, !s b, !!s c, !<u> d]` at the end of the stream: a tag of each kind
+abbrev tags_of_each_kind : List Tok
+tags_of_each_kind =
+    Tok.flow_sequence_start ∷ Tok.tag [] (codes "!") ∷ Tok.scalar Style.plain (codes "a") ∷
     Tok.flow_entry ∷ Tok.tag (codes "!") (codes "s") ∷ Tok.scalar Style.plain (codes "b") ∷ Tok.flow_entry ∷
     Tok.tag (codes "!!") (codes "s") ∷ Tok.scalar Style.plain (codes "c") ∷ Tok.flow_entry ∷
-    Tok.tag [] (codes "u") ∷ Tok.scalar Style.plain (codes "d") ∷ Tok.flow_sequence_end ∷ Tok.stream_end ∷ [])
-    (Ev.stream_start ∷ Ev.document_start ∷ Ev.sequence_start 0 None ∷
+    Tok.tag [] (codes "u") ∷ Tok.scalar Style.plain (codes "d") ∷ Tok.flow_sequence_end ∷ Tok.stream_end ∷ []
+
+-- the events of its document, where `!` and `!!` stand for these
+abbrev tags_of_each_kind_events : List ℕ → List ℕ → List Ev
+tags_of_each_kind_events one two =
+    Ev.stream_start ∷ Ev.document_start ∷ Ev.sequence_start 0 None ∷
     Ev.scalar (codes "a") Style.plain 0 (Some (tag_of_text [] (codes "!"))) ∷
-    Ev.scalar (codes "b") Style.plain 0 (Some (tag_of_text (codes "!") (codes "s"))) ∷
-    Ev.scalar (codes "c") Style.plain 0 (Some (tag_of_text (codes "tag:yaml.org,2002:") (codes "s"))) ∷
+    Ev.scalar (codes "b") Style.plain 0 (Some (tag_of_text one (codes "s"))) ∷
+    Ev.scalar (codes "c") Style.plain 0 (Some (tag_of_text two (codes "s"))) ∷
     Ev.scalar (codes "d") Style.plain 0 (Some (tag_of_text [] (codes "u"))) ∷ Ev.sequence_end ∷ Ev.document_end ∷
-    Ev.stream_end ∷ [])
-tags_of_each_kind = stream_by refl refl
+    Ev.stream_end ∷ []
+
+-- without directives
+tags_undeclared : IsStream false
+    (Tok.stream_start ∷ tags_of_each_kind)
+    (tags_of_each_kind_events (codes "!") (codes "tag:yaml.org,2002:"))
+tags_undeclared = stream_by refl refl
 
 -- `!` and `!!` with prefixes declared
 tags_declared : IsStream false
     (Tok.stream_start ∷ Tok.tag_directive (codes "!") (codes "x:") ∷ Tok.tag_directive (codes "!!") (codes "y:") ∷
-    Tok.document_start ∷ Tok.flow_sequence_start ∷ Tok.tag [] (codes "!") ∷ Tok.scalar Style.plain (codes "a") ∷
-    Tok.flow_entry ∷ Tok.tag (codes "!") (codes "s") ∷ Tok.scalar Style.plain (codes "b") ∷ Tok.flow_entry ∷
-    Tok.tag (codes "!!") (codes "s") ∷ Tok.scalar Style.plain (codes "c") ∷ Tok.flow_entry ∷
-    Tok.tag [] (codes "u") ∷ Tok.scalar Style.plain (codes "d") ∷ Tok.flow_sequence_end ∷ Tok.stream_end ∷ [])
-    (Ev.stream_start ∷ Ev.document_start ∷ Ev.sequence_start 0 None ∷
-    Ev.scalar (codes "a") Style.plain 0 (Some (tag_of_text [] (codes "!"))) ∷
-    Ev.scalar (codes "b") Style.plain 0 (Some (tag_of_text (codes "x:") (codes "s"))) ∷
-    Ev.scalar (codes "c") Style.plain 0 (Some (tag_of_text (codes "y:") (codes "s"))) ∷
-    Ev.scalar (codes "d") Style.plain 0 (Some (tag_of_text [] (codes "u"))) ∷ Ev.sequence_end ∷ Ev.document_end ∷
-    Ev.stream_end ∷ [])
+    Tok.document_start ∷ tags_of_each_kind)
+    (tags_of_each_kind_events (codes "x:") (codes "y:"))
 tags_declared = stream_by refl refl
 
 -- `&a x` LF `--- &a y`: numbers go on over documents

@@ -171,18 +171,8 @@ fn nodes_are_asked(rt: HostRuntime) -> Result<(), Fail> {
 type Choice = (&'static str, &'static str, &'static str, &'static str);
 
 const CHOICES: [Choice; 5] = [
-    (
-        "a number in place of a bad value",
-        "bad",
-        "number",
-        "Integer(3)",
-    ),
-    (
-        "a Boolean in place of null",
-        "null",
-        "flag",
-        "Boolean(false)",
-    ),
+    ("a number for a bad value", "bad", "number", "Integer(3)"),
+    ("a Boolean for null", "null", "flag", "Boolean(false)"),
     ("a number before a bad value", "number", "bad", "Integer(3)"),
     ("a number before a Boolean", "number", "flag", "Integer(3)"),
     ("a bad value in place of null", "null", "bad", "BadValue"),

@@ -70,86 +70,98 @@ fn all_words(alloc: Global, pairs: &Hash) -> Result<String, Fail> {
     Ok(words)
 }
 
-// What a call returns; `show` is its length, whether it is empty, and its pairs.
-fn answer(alloc: Global, pairs: &mut Hash, call: &str, key: &str) -> Result<String, Fail> {
+// A call of a hash.
+#[derive(Clone, Copy)]
+enum Call {
+    // `insert` of these two texts.
+    Put(&'static str, &'static str),
+    Get(&'static str),
+    Remove(&'static str),
+    Place(&'static str),
+    Back,
+    // The pairs, lent and then by value.
+    All,
+    // Its length, whether it is empty, and its pairs.
+    Show,
+    // Whether a copy is equal.
+    Clone,
+    // Whether a new hash is equal.
+    IsNone,
+}
+
+// What a call returns.
+fn answer(alloc: Global, pairs: &mut Hash, call: Call) -> Result<String, Fail> {
     match call {
-        "get" => get_words(alloc, pairs, key),
-        "remove" => remove_words(alloc, pairs, key),
-        "back" => back_words(alloc, pairs),
-        "place" => place_words(alloc, pairs, key),
-        "all" => all_words(alloc, pairs),
-        "show" => show_words(alloc, pairs),
-        "clone" => copy_words(alloc, pairs),
-        "is none" => none_words(alloc, pairs),
-        value => insert_words(alloc, pairs, key, value),
+        Call::Put(key, value) => insert_words(alloc, pairs, key, value),
+        Call::Get(key) => get_words(alloc, pairs, key),
+        Call::Remove(key) => remove_words(alloc, pairs, key),
+        Call::Place(key) => place_words(alloc, pairs, key),
+        Call::Back => back_words(alloc, pairs),
+        Call::All => all_words(alloc, pairs),
+        Call::Show => show_words(alloc, pairs),
+        Call::Clone => copy_words(alloc, pairs),
+        Call::IsNone => none_words(alloc, pairs),
     }
 }
 
-// What it shows, a call and its key, and what the call returns: all are calls of one hash, one after the other. `1` inserts
-// the text.
-type Call = (&'static str, &'static str, &'static str, &'static str);
+// What it shows, a call, and what it returns: all are calls of one hash, one after the other.
+type Row = (&'static str, Call, &'static str);
 
-const CALLS: [Call; 21] = [
-    ("nothing in a new hash", "show", "", "0 true {}"),
-    ("no last pair", "back", "", "None"),
-    ("no place", "place", "a", "None"),
-    ("nothing to go over", "all", "", ""),
-    ("a new hash is a new hash", "is none", "", "true"),
-    ("a first key", "1", "a", "None"),
-    ("a second key", "2", "b", "None"),
+const CALLS: [Row; 21] = [
+    ("nothing in a new hash", Call::Show, "0 true {}"),
+    ("no last pair", Call::Back, "None"),
+    ("no place", Call::Place("a"), "None"),
+    ("nothing to go over", Call::All, ""),
+    ("a new hash is a new hash", Call::IsNone, "true"),
+    ("a first key", Call::Put("a", "1"), "None"),
+    ("a second key", Call::Put("b", "2"), "None"),
     (
         "a key again gives its old value",
-        "3",
-        "a",
+        Call::Put("a", "3"),
         "Some(String(\"1\"))",
     ),
     (
         "a key again stands last",
-        "show",
-        "",
+        Call::Show,
         "2 false {String(\"b\"): String(\"2\"), String(\"a\"): String(\"3\")}",
     ),
-    ("the place of the first", "place", "b", "Some(0)"),
-    ("the place of the last", "place", "a", "Some(1)"),
-    ("no place of another key", "place", "c", "None"),
+    ("the place of the first", Call::Place("b"), "Some(0)"),
+    ("the place of the last", Call::Place("a"), "Some(1)"),
+    ("no place of another key", Call::Place("c"), "None"),
     (
         "all pairs, lent and then owned",
-        "all",
-        "",
+        Call::All,
         "(String(\"b\"), String(\"2\")) (String(\"a\"), String(\"3\")) (String(\"b\"), String(\"2\")) (String(\"a\"), String(\"3\")) ",
     ),
-    ("a copy is equal", "clone", "", "true"),
-    ("no longer a new hash", "is none", "", "false"),
-    ("the new value", "get", "a", "Some(String(\"3\"))"),
+    ("a copy is equal", Call::Clone, "true"),
+    ("no longer a new hash", Call::IsNone, "false"),
+    ("the new value", Call::Get("a"), "Some(String(\"3\"))"),
     (
         "a key is taken out with its value",
-        "remove",
-        "b",
+        Call::Remove("b"),
         "Some(String(\"2\"))",
     ),
-    ("it is gone", "get", "b", "None"),
-    ("it cannot be taken out again", "remove", "b", "None"),
+    ("it is gone", Call::Get("b"), "None"),
+    ("it cannot be taken out again", Call::Remove("b"), "None"),
     (
         "the last pair",
-        "back",
-        "",
+        Call::Back,
         "Some((String(\"a\"), String(\"3\")))",
     ),
     (
         "what is left",
-        "show",
-        "",
+        Call::Show,
         "1 false {String(\"a\"): String(\"3\")}",
     ),
 ];
 
 // A new hash answers each call as its row says. All rows that fail are told.
-fn calls_hold(rt: &(impl Abort + AllocGlobal), rows: &[Call]) -> Result<(), Fail> {
+fn calls_hold(rt: &(impl Abort + AllocGlobal), rows: &[Row]) -> Result<(), Fail> {
     let mut report = Report::new(rt.alloc());
     let mut pairs = Hash::new(rt.alloc());
-    for (name, call, key, want) in rows {
-        let found = answer(rt.alloc(), &mut pairs, call, key)?;
-        report.compare(name, call, found.as_str(), want)?;
+    for (name, call, want) in rows {
+        let found = answer(rt.alloc(), &mut pairs, *call)?;
+        report.compare(name, "called", found.as_str(), want)?;
     }
     assert!(rt; report.is_empty(), "{report}");
     Ok(())

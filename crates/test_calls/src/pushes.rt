@@ -1,9 +1,9 @@
 //! Calls of a parser, one after the other, and what receivers are pushed.
+use crate::calls;
+use crate::calls::{Row, rows_hold};
 use std::alloc::{AllocError, Global};
-use std::process::Abort;
 use std::str::Chars;
 use std::test::Fail;
-use test_rows::Report;
 use yaml_chars::Marker;
 use yaml_parser::{Event, EventReceiver, MarkedEventReceiver, Parser};
 use yaml_tokens::ScanError;
@@ -131,21 +131,19 @@ fn answer(alloc: Global, parser: &mut Parser<Chars<'_>>, call: Call) -> Result<S
     }
 }
 
-// What these calls show, one after the other.
-fn answers(alloc: Global, text: &str, calls: &[Call]) -> Result<String, Fail> {
-    let mut parser = Parser::new_from_str(alloc, text);
-    let mut out = String::new(alloc);
-    for call in calls {
-        out.push_str(answer(alloc, &mut parser, *call)?.as_str())?;
-        out.push_str("/ ")?;
+impl calls::Call for Call {
+    fn answers(alloc: Global, text: &str, calls: &[Self]) -> Result<String, Fail> {
+        let mut parser = Parser::new_from_str(alloc, text);
+        let mut out = String::new(alloc);
+        for call in calls {
+            out.push_str(answer(alloc, &mut parser, *call)?.as_str())?;
+            out.push_str("/ ")?;
+        }
+        Ok(out)
     }
-    Ok(out)
 }
 
-// What it shows, a text, calls of its parser, and what each gives.
-type Row = (&'static str, &'static str, &'static [Call], &'static str);
-
-const CALLS: [Row; 6] = [
+const CALLS: [Row<Call>; 6] = [
     (
         "a document for each call",
         "--- 1\n--- 2",
@@ -190,17 +188,6 @@ const CALLS: [Row; 6] = [
         "stop 0 / Scalar(\"1\", Plain, 0, None) / ",
     ),
 ];
-
-// Each parser answers as its row says. All rows that fail are told.
-fn rows_hold(rt: &(impl Abort + AllocGlobal), rows: &[Row]) -> Result<(), Fail> {
-    let mut report = Report::new(rt.alloc());
-    for (name, text, calls, want) in rows {
-        let found = answers(rt.alloc(), text, calls)?;
-        report.compare(name, "called", found.as_str(), want)?;
-    }
-    assert!(rt; report.is_empty(), "{report}");
-    Ok(())
-}
 
 #[test]
 fn events_are_pushed_and_pulled(rt: HostRuntime) -> Result<(), Fail> {

@@ -1,9 +1,7 @@
 //! Writers that refuse a part of a JSON text.
-use crate::refused_writes::{Refusing, only_document, wrong};
+use crate::refused_writes::{Refusing, Row, TextKind, rows_hold};
 use std::alloc::Global;
-use std::process::Abort;
 use std::test::Fail;
-use test_rows::Report;
 use yaml_emitter::Writer;
 use yaml_json::{JsonError, write_json, write_json_indented};
 use yaml_tree::Yaml;
@@ -83,21 +81,16 @@ fn calls(alloc: Global, tree: &Yaml, width: Option<usize>) -> Result<u32, &'stat
     Err("no end")
 }
 
-// The fewest calls that a tree's texts take, without white space and in lines.
-fn fewest(alloc: Global, tree: &Yaml) -> Result<u32, &'static str> {
-    let compact = calls(alloc, tree, None)?;
-    let in_lines = calls(alloc, tree, Some(33))?;
-    Ok(compact.min(in_lines))
-}
+// JSON texts without white space and in lines.
+struct JsonTexts;
 
-// The same of the only document of a text.
-fn fewest_of_text(alloc: Global, text: &str) -> Result<u32, &'static str> {
-    let tree = only_document(alloc, text)?;
-    fewest(alloc, &tree)
+impl TextKind for JsonTexts {
+    fn fewest(&self, alloc: Global, tree: &Yaml) -> Result<u32, &'static str> {
+        let compact = calls(alloc, tree, None)?;
+        let in_lines = calls(alloc, tree, Some(33))?;
+        Ok(compact.min(in_lines))
+    }
 }
-
-// What it shows, the text of a tree, and how many calls its JSON texts take at least.
-type Row = (&'static str, &'static str, u32);
 
 const TEXTS: [Row; 5] = [
     ("a scalar", "~", 1),
@@ -111,18 +104,7 @@ const TEXTS: [Row; 5] = [
     ("lines of more than 64 spaces", "[[[[a]]]]", 4),
 ];
 
-// A writer that refuses a call of a row's texts is answered. All rows that fail are told.
-fn rows_hold(rt: &(impl Abort + AllocGlobal), rows: &[Row]) -> Result<(), Fail> {
-    let mut report = Report::new(rt.alloc());
-    for (name, text, least) in rows {
-        let calls = fewest_of_text(rt.alloc(), text);
-        report.compare(name, "wrong", wrong(calls, *least), "nothing")?;
-    }
-    assert!(rt; report.is_empty(), "{report}");
-    Ok(())
-}
-
 #[test]
 fn a_writer_that_refuses_json_is_answered(rt: HostRuntime) -> Result<(), Fail> {
-    rows_hold(&rt, &TEXTS)
+    rows_hold(&rt, &TEXTS, &JsonTexts)
 }

@@ -121,8 +121,8 @@ const SETTINGS: [Settings; 4] = [
     },
 ];
 
-// What it shows, the text of a tree, and how many calls its dumps make at least.
-type Row = (&'static str, &'static str, u32);
+/// What it shows, the text of a tree, and how many calls its texts take at least.
+pub(crate) type Row = (&'static str, &'static str, u32);
 
 const TEXTS: [Row; 5] = [
     (
@@ -148,17 +148,21 @@ const TEXTS: [Row; 5] = [
     ),
 ];
 
-// The fewest calls that a tree's dumps make.
-fn fewest(alloc: Global, tree: &Yaml) -> Result<u32, &'static str> {
-    let mut fewest = u32::MAX;
-    for settings in &SETTINGS {
-        fewest = fewest.min(refused(alloc, tree, *settings)?);
+// Dumps by all settings.
+struct Dumps;
+
+impl TextKind for Dumps {
+    fn fewest(&self, alloc: Global, tree: &Yaml) -> Result<u32, &'static str> {
+        let mut fewest = u32::MAX;
+        for settings in &SETTINGS {
+            fewest = fewest.min(refused(alloc, tree, *settings)?);
+        }
+        Ok(fewest)
     }
-    Ok(fewest)
 }
 
 // The only document of a text.
-pub(crate) fn only_document(alloc: Global, text: &str) -> Result<Yaml, &'static str> {
+fn only_document(alloc: Global, text: &str) -> Result<Yaml, &'static str> {
     let Ok(mut documents) = YamlLoader::load_from_str(alloc, text) else {
         return Err("a fault");
     };
@@ -169,14 +173,8 @@ pub(crate) fn only_document(alloc: Global, text: &str) -> Result<Yaml, &'static 
     }
 }
 
-// The fewest calls that the dumps of a text's only document make.
-fn fewest_of_text(alloc: Global, text: &str) -> Result<u32, &'static str> {
-    let tree = only_document(alloc, text)?;
-    fewest(alloc, &tree)
-}
-
 // What is wrong with texts that take so many calls, and must take so many at least, if anything.
-pub(crate) fn wrong(calls: Result<u32, &'static str>, least: u32) -> &'static str {
+fn wrong(calls: Result<u32, &'static str>, least: u32) -> &'static str {
     match calls {
         Ok(calls) if calls >= least => "nothing",
         Ok(_) => "too few calls",
@@ -184,11 +182,24 @@ pub(crate) fn wrong(calls: Result<u32, &'static str>, least: u32) -> &'static st
     }
 }
 
-// A writer that refuses a call of a row's dumps is answered. All rows that fail are told.
-fn rows_hold(rt: &(impl Abort + AllocGlobal), rows: &[Row]) -> Result<(), Fail> {
+/// A kind of texts that trees are written as.
+pub(crate) trait TextKind {
+    /// The fewest calls that the texts of a tree take: each of them is refused in turn. Or what is wrong.
+    fn fewest(&self, alloc: Global, tree: &Yaml) -> Result<u32, &'static str>;
+}
+
+/// A writer that refuses a call of a row's texts is answered. All rows that fail are told.
+pub(crate) fn rows_hold<K: TextKind>(
+    rt: &(impl Abort + AllocGlobal),
+    rows: &[Row],
+    kind: &K,
+) -> Result<(), Fail> {
     let mut report = Report::new(rt.alloc());
     for (name, text, least) in rows {
-        let calls = fewest_of_text(rt.alloc(), text);
+        let calls = match only_document(rt.alloc(), text) {
+            Ok(tree) => kind.fewest(rt.alloc(), &tree),
+            Err(why) => Err(why),
+        };
         report.compare(name, "wrong", wrong(calls, *least), "nothing")?;
     }
     assert!(rt; report.is_empty(), "{report}");
@@ -197,5 +208,5 @@ fn rows_hold(rt: &(impl Abort + AllocGlobal), rows: &[Row]) -> Result<(), Fail> 
 
 #[test]
 fn a_writer_that_refuses_is_answered(rt: HostRuntime) -> Result<(), Fail> {
-    rows_hold(&rt, &TEXTS)
+    rows_hold(&rt, &TEXTS, &Dumps)
 }

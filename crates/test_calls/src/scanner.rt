@@ -1,9 +1,9 @@
 //! Calls of a scanner, one after the other.
+use crate::calls;
+use crate::calls::{Row, rows_hold};
 use std::alloc::Global;
-use std::process::Abort;
 use std::str::Chars;
 use std::test::Fail;
-use test_rows::Report;
 use yaml_scanner::Scanner;
 use yaml_tokens::ScanError;
 
@@ -85,21 +85,19 @@ fn answer(alloc: Global, scanner: &mut Scanner<Chars<'_>>, call: Call) -> Result
     }
 }
 
-// What these calls answer, one after the other.
-fn answers(alloc: Global, text: &str, calls: &[Call]) -> Result<String, Fail> {
-    let mut scanner = Scanner::new(alloc, text.chars());
-    let mut out = String::new(alloc);
-    for call in calls {
-        out.push_str(answer(alloc, &mut scanner, *call)?.as_str())?;
-        out.push_str(" / ")?;
+impl calls::Call for Call {
+    fn answers(alloc: Global, text: &str, calls: &[Self]) -> Result<String, Fail> {
+        let mut scanner = Scanner::new(alloc, text.chars());
+        let mut out = String::new(alloc);
+        for call in calls {
+            out.push_str(answer(alloc, &mut scanner, *call)?.as_str())?;
+            out.push_str(" / ")?;
+        }
+        Ok(out)
     }
-    Ok(out)
 }
 
-// What it shows, a text, calls of its scanner, and what they answer.
-type Row = (&'static str, &'static str, &'static [Call], &'static str);
-
-const CALLS: [Row; 3] = [
+const CALLS: [Row<Call>; 3] = [
     // No memory is refused here, so no call returns that fault.
     (
         "after the end nothing changes",
@@ -154,17 +152,6 @@ const CALLS: [Row; 3] = [
         "StreamStart(Utf8) / ok / ok / ok / unexpected character: `@' at byte 4 line 2 column 1 false / unexpected character: `@' at byte 4 line 2 column 1 false / unexpected character: `@' at byte 4 line 2 column 1 false / ",
     ),
 ];
-
-// Each scanner answers as its row says. All rows that fail are told.
-fn rows_hold(rt: &(impl Abort + AllocGlobal), rows: &[Row]) -> Result<(), Fail> {
-    let mut report = Report::new(rt.alloc());
-    for (name, text, calls, want) in rows {
-        let found = answers(rt.alloc(), text, calls)?;
-        report.compare(name, "called", found.as_str(), want)?;
-    }
-    assert!(rt; report.is_empty(), "{report}");
-    Ok(())
-}
 
 #[test]
 fn a_scanner_goes_step_by_step(rt: HostRuntime) -> Result<(), Fail> {

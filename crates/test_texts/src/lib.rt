@@ -3,26 +3,4 @@
 #![tactic(auto)]
 
 #[cfg(test)]
-mod blocks;
-#[cfg(test)]
-mod decoding;
-#[cfg(test)]
-mod documents;
-#[cfg(test)]
-mod dumping;
-#[cfg(test)]
-mod faults;
-#[cfg(test)]
-mod flow;
-#[cfg(test)]
-mod json;
-#[cfg(test)]
-mod layouts;
-#[cfg(test)]
-mod limits;
-#[cfg(test)]
-mod properties;
-#[cfg(test)]
-mod reading;
-#[cfg(test)]
-mod scalars;
+mod tests;

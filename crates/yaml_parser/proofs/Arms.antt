@@ -13,7 +13,7 @@ use Rattle.defs_event.specs.Names.{Names, names_after, resolved_event}
 use Rattle.defs_event.specs.Stream.{Before, has_position, gives_position, is_comma}
 use Rattle.model_parser.specs.declared.kind.Kind.{Kind}
 use Rattle.model_parser.specs.declared.state.State.{State}
-use Rattle.model_parser.specs.Kinds.{kind_of, tok_of_kind, has_no_text}
+use Rattle.model_parser.specs.Kinds.{kind_of, tok_of_kind, HasNoText}
 use Rattle.model_parser.specs.Goal as at
 use Rattle.model_parser.specs.Goal.{Goal}
 use Rattle.model_parser.specs.Turn.{Takes, Leaves}
@@ -81,7 +81,7 @@ no_positions {b} {e} {t} m h k =
 
 -- The token is taken, and an event is given, which has the position that the token gives, if it gives one.
 pub gives_at : {T : Type 0} (m : Position) {g : Goal} {p r : Reader T} {k k' : Kind} {ss : List State} {e : Raw} {v : Ev} {names : Names} {given : List (Ev × Position)}
-    → IsOfKind k' p.tokens.peeked → k' ≡ k → has_no_text k ≡ true → Skipped p r ss → Takes g p.stack (tok_of_kind k) (Some e) at.done ss
+    → IsOfKind k' p.tokens.peeked → k' ≡ k → HasNoText k → Skipped p r ss → Takes g p.stack (tok_of_kind k) (Some e) at.done ss
     → Bare g p names e v → is_over g ≡ false → is_end (tok_of_kind k) ≡ false → ((t : Token) → p.tokens.peeked ≡ Some t → tok_of t.1 ≡ tok_of_kind k → IsPlaced (before_next p.tokens) e t m)
     → At g p names given → (names' : Names) × At at.done r names' (given ++ (v, m) ∷ [])
 gives_at {T} m {g} {p} {r} {k} {k'} {ss} {e} {v} {names} {given} o h plain s turn y over end places a =
@@ -95,7 +95,7 @@ gives_at {T} m {g} {p} {r} {k} {k'} {ss} {e} {v} {names} {given} o h plain s tur
 
 -- The token is taken, which gives no position, and an event is given.
 pub gives : {T : Type 0} (m : Position) {g : Goal} {p r : Reader T} {k k' : Kind} {ss : List State} {e : Raw} {v : Ev} {names : Names} {given : List (Ev × Position)}
-    → IsOfKind k' p.tokens.peeked → k' ≡ k → has_no_text k ≡ true → Skipped p r ss → Takes g p.stack (tok_of_kind k) (Some e) at.done ss
+    → IsOfKind k' p.tokens.peeked → k' ≡ k → HasNoText k → Skipped p r ss → Takes g p.stack (tok_of_kind k) (Some e) at.done ss
     → Plain g p names e v → is_over g ≡ false → (is_end (tok_of_kind k) || counts (tok_of_kind k)) ≡ false → At g p names given → (names' : Names) × At at.done r names' (given ++ (v, m) ∷ [])
 gives {T} m {g} {p} {r} {k} {k'} {ss} {e} {v} {names} {given} o h plain s turn y over end a =
     let parts = or_parts (is_end (tok_of_kind k)) (counts (tok_of_kind k)) end in
@@ -107,7 +107,7 @@ stands_out t g = is_end t || (may_give t || (is_comma t && not (may_follow_comma
 
 -- The token is taken, and it goes on; with these flow collections around it, it gives no position.
 pub goes_on : {T : Type 0} {g g' : Goal} {p r : Reader T} {k k' : Kind} {ss : List State} {names : Names} {given : List (Ev × Position)}
-    → IsOfKind k' p.tokens.peeked → k' ≡ k → has_no_text k ≡ true → Skipped p r ss → Takes g p.stack (tok_of_kind k) None g' ss
+    → IsOfKind k' p.tokens.peeked → k' ≡ k → HasNoText k → Skipped p r ss → Takes g p.stack (tok_of_kind k) None g' ss
     → names_at p.names.keeping.tags g' names ≡ names_at p.names.keeping.tags g names → IsPending names g' → is_over g ≡ false → is_end (tok_of_kind k) ≡ false
     → gives_position (before_next p.tokens).around (tok_of_kind k) ≡ false → (may_follow_comma g' ≡ false → is_comma (tok_of_kind k) ≡ false) → At g p names given → At g' r names given
 goes_on {T} {g} {g'} {p} {r} {k} {k'} {ss} {names} {given} o h plain s turn seen pending over end spot other a =
@@ -121,7 +121,7 @@ goes_on {T} {g} {g'} {p} {r} {k} {k'} {ss} {names} {given} o h plain s turn seen
 
 -- The token is taken, which gives no position, and it goes on.
 pub goes : {T : Type 0} {g g' : Goal} {p r : Reader T} {k k' : Kind} {ss : List State} {names : Names} {given : List (Ev × Position)}
-    → IsOfKind k' p.tokens.peeked → k' ≡ k → has_no_text k ≡ true → Skipped p r ss → Takes g p.stack (tok_of_kind k) None g' ss
+    → IsOfKind k' p.tokens.peeked → k' ≡ k → HasNoText k → Skipped p r ss → Takes g p.stack (tok_of_kind k) None g' ss
     → names_at p.names.keeping.tags g' names ≡ names_at p.names.keeping.tags g names → IsPending names g' → is_over g ≡ false → stands_out (tok_of_kind k) g' ≡ false → At g p names given → At g' r names given
 goes {T} {g} {g'} {p} {r} {k} {k'} {ss} {names} {given} o h plain s turn seen pending over end a =
     let t = tok_of_kind k in
@@ -167,6 +167,9 @@ answers_written {T} p given r {x} h a = subst (λ y. (names : Names) × At (goal
 
 pub wrote : {T : Type 0} (p : Reader T) (given : List (Ev × Position)) {x y : Event × Position} → x ≡ y → Answers p given (Ok y) → Answers p given (Ok x)
 wrote {T} p given h a = subst (λ e. Answers p given (Ok e)) (sym h) a
+
+pub wrote_event : {T : Type 0} (p : Reader T) (given : List (Ev × Position)) (r : Event × Position) {e : Event} → r.0 ≡ e → Answers p given (Ok (e, r.1)) → Answers p given (Ok r)
+wrote_event {T} p given r h a = subst (λ x. Answers p given (Ok (x, r.1))) (sym h) a
 
 pub faulted_as : {T : Type 0} (p : Reader T) (given : List (Ev × Position)) {s u : Stop} → s ≡ u → Faulted p given u → Faulted p given s
 faulted_as {T} p given h f = subst (Faulted p given) (sym h) f

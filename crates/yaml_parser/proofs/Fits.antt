@@ -1,19 +1,16 @@
 -- Tokens that are refused, by what they are not.
-use Rattle.std.proofs.Common.{◌≡◌, ◌≢◌, true, refl}
+use Rattle.std.proofs.Common.{◌≡◌, ◌≢◌, true, not, refl, ap}
 use Rattle.yaml_tokens.specs.declared.problem.Problem.TheVariants.{BlockMappingKey, BlockSequenceEntry, FlowMappingEntry, FlowSequenceEntry}
 use Rattle.model_parser.specs.declared.kind.Kind.{Kind}
 use Rattle.model_parser.specs.declared.kind.Kind.TheVariants as kind
+use Rattle.model_parser.proofs.First.{not_item, not_flow_pair}
 use Rattle.yaml_parser.specs.Blames.{fits}
 
 pub no_item : (k : Kind) → k ≢ kind.FlowEntry → k ≢ kind.FlowSequenceEnd → fits FlowSequenceEntry k ≡ true
-no_item kind.FlowEntry a b = absurd (a refl)
-no_item kind.FlowSequenceEnd a b = absurd (b refl)
-no_item _ a b = refl
+no_item k a b = ap not (not_item k a b)
 
 pub no_flow_pair : (k : Kind) → k ≢ kind.FlowEntry → k ≢ kind.FlowMappingEnd → fits FlowMappingEntry k ≡ true
-no_flow_pair kind.FlowEntry a b = absurd (a refl)
-no_flow_pair kind.FlowMappingEnd a b = absurd (b refl)
-no_flow_pair _ a b = refl
+no_flow_pair k a b = ap not (not_flow_pair k a b)
 
 pub no_entry : (k : Kind) → k ≢ kind.BlockEntry → k ≢ kind.BlockEnd → fits BlockSequenceEntry k ≡ true
 no_entry kind.BlockEntry a b = absurd (a refl)

@@ -26,7 +26,7 @@ use Rattle.model_parser.specs.declared.kind.Kind.{Kind}
 use Rattle.model_parser.specs.declared.context.NodeContext as positions
 use Rattle.model_parser.specs.declared.context.NodeContext.TheVariants as context
 use Rattle.model_parser.specs.declared.state.State.{State}
-use Rattle.model_parser.specs.Kinds.{kind_of, tok_of_kind, has_no_text}
+use Rattle.model_parser.specs.Kinds.{kind_of, tok_of_kind, HasNoText}
 use Rattle.model_parser.specs.Goal as at
 use Rattle.model_parser.specs.Goal.{Goal}
 use Rattle.model_parser.proofs.Nodes as turn
@@ -101,7 +101,7 @@ is_startless t = is_end t || (is_comma t || ends_mapping t)
 
 -- The start of a collection is taken, and its properties are registered.
 pub starts : {T E : Type 0} (m : Position) {p q : Reader T} (r : Reader T) {k k' : Kind} {w : positions.NodeContext} {o : Option written.Properties} {x : Option Properties} {ss : List State} (mk : Option (List ℕ) → Option event.Tag → Raw) (f : ℕ → Option event.Tag → Ev) {s : Names} {given : List (Ev × Position)} (res : Result (Unit {0}) E) (slot : Slot)
-    → Makes mk f → IsOfKind k' p.tokens.peeked → k' ≡ k → has_no_text k ≡ true → is_startless (tok_of_kind k) ≡ false
+    → Makes mk f → IsOfKind k' p.tokens.peeked → k' ≡ k → HasNoText k → is_startless (tok_of_kind k) ≡ false
     → ((a : Option (List ℕ)) (t : Option event.Tag) → has_position (mk a t) ≡ gives_position (before_next p.tokens).around (tok_of_kind k)) → IfSome p.tokens.peeked (λ t. t.0 ≡ m) → Skipped p q ss
     → Takes (at.after_properties w o) p.stack (tok_of_kind k) (Some (mk (perhaps_anchor_of o) (perhaps_tag_of o))) at.done ss
     → ((names : Names) → IsNamed q.names names → OnOk res (Registers q x names (λ a t. placed slot.next ≡ (f a t, m)) r)) → OnErr res (slot.stop ≡ stop.Own OutOfMemory)

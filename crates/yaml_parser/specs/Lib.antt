@@ -21,5 +21,6 @@ pub mod Seen
 pub mod Settings
 pub mod Shown
 pub mod Stacked
+pub mod Top
 pub mod View
 pub mod Work

@@ -20,7 +20,7 @@ impl<T: Iterator<Item = char>> Reader<T> {
         let next = self.peek(slot)?;
         match next {
             Kind::BlockEnd => {
-                slot.write(Event::SequenceEnd, self.skip());
+                self.end_sequence(slot);
                 Ok(())
             }
             Kind::BlockEntry => {
@@ -118,7 +118,7 @@ impl<T: Iterator<Item = char>> Reader<T> {
     {
         match next {
             Kind::BlockEnd => {
-                slot.write(Event::MappingEnd, self.skip());
+                self.end_mapping(slot);
                 Ok(())
             }
             Kind::Key => {

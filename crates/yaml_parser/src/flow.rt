@@ -1,5 +1,6 @@
 //! Flow collections (YAML 1.2, section 7.4).
 ghost use Rattle.model_parser.specs.Goal as at;
+ghost use Rattle.model_parser.specs.declared.kind.Kind.TheVariants as kind;
 ghost use Rattle.yaml_parser.specs.At.{Reads};
 ghost use Rattle.yaml_parser.specs.Handed.{IsAfterComma};
 ghost use Rattle.yaml_parser.specs.Work.{Moves};
@@ -22,7 +23,7 @@ impl<T: Iterator<Item = char>> Reader<T> {
         let next = self.peek(slot)?;
         match next {
             Kind::FlowSequenceEnd => {
-                slot.write(Event::SequenceEnd, self.skip());
+                self.end_sequence(slot);
                 Ok(())
             }
             _ => self.flow_sequence_item(slot, next),
@@ -38,8 +39,7 @@ impl<T: Iterator<Item = char>> Reader<T> {
         let next = self.peek(slot)?;
         match next {
             Kind::FlowSequenceEnd => {
-                let bracket = self.skip();
-                slot.write(Event::SequenceEnd, bracket);
+                self.end_sequence(slot);
                 Ok(())
             }
             Kind::FlowEntry => {
@@ -59,7 +59,7 @@ impl<T: Iterator<Item = char>> Reader<T> {
         let next = self.peek(slot)?;
         match next {
             Kind::FlowSequenceEnd => {
-                slot.write(Event::SequenceEnd, self.skip());
+                self.end_sequence(slot);
                 Ok(())
             }
             _ => self.flow_sequence_item(slot, next),
@@ -74,17 +74,25 @@ impl<T: Iterator<Item = char>> Reader<T> {
         ensures moves { Moves 1 1 self.old self.new result }
     {
         match next {
-            Kind::Key => {
-                let mark = self.skip();
-                self.push(slot, State::FlowSequenceEntryMappingKey)?;
-                slot.write(Event::MappingStart(0, None), mark);
-                Ok(())
-            }
+            Kind::Key => self.flow_pair(slot),
             _ => {
                 self.push(slot, State::FlowSequenceEntry)?;
                 self.node(slot, NodeContext::Flow, next)
             }
         }
+    }
+
+    /// A pair that is an item. Its `?` was looked at.
+    #[inline(always)]
+    fn flow_pair(&mut self, slot: &mut Slot) -> Answer
+        requires { IsOfKind kind.Key self.old.tokens.peeked }
+        ensures answers { Reads at.item self.old self.new result slot.new }
+        ensures moves { Moves 1 1 self.old self.new result }
+    {
+        let mark = self.skip();
+        self.push(slot, State::FlowSequenceEntryMappingKey)?;
+        slot.write(Event::MappingStart(0, None), mark);
+        Ok(())
     }
 
     /// The key of a pair that is an item.
@@ -157,7 +165,7 @@ impl<T: Iterator<Item = char>> Reader<T> {
         let next = self.peek(slot)?;
         match next {
             Kind::FlowMappingEnd => {
-                slot.write(Event::MappingEnd, self.skip());
+                self.end_mapping(slot);
                 Ok(())
             }
             _ => self.flow_mapping_pair(slot, next),
@@ -173,8 +181,7 @@ impl<T: Iterator<Item = char>> Reader<T> {
         let next = self.peek(slot)?;
         match next {
             Kind::FlowMappingEnd => {
-                let brace = self.skip();
-                slot.write(Event::MappingEnd, brace);
+                self.end_mapping(slot);
                 Ok(())
             }
             Kind::FlowEntry => {

@@ -7,6 +7,7 @@ pub mod event;
 mod flow;
 pub mod kind;
 mod load;
+pub mod looked;
 pub mod names;
 pub mod node;
 pub mod parser;

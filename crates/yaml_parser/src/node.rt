@@ -187,11 +187,7 @@ impl<T: Iterator<Item = char>> Reader<T> {
         ensures moves { Moves 0 (owed properties) self.old self.new result }
     {
         match next {
-            Kind::BlockEntry => {
-                let mark = self.skip();
-                self.push(slot, State::IndentlessSequenceItem)?;
-                self.start(slot, Collection::Sequence, properties, mark)
-            }
+            Kind::BlockEntry => self.indentless_sequence(slot, properties),
             _ => self.block_content(slot, properties, next),
         }
     }
@@ -208,16 +204,8 @@ impl<T: Iterator<Item = char>> Reader<T> {
         ensures moves { Moves 0 (owed properties) self.old self.new result }
     {
         match next {
-            Kind::BlockSequenceStart => {
-                let mark = self.skip();
-                self.push(slot, State::BlockSequenceEntry)?;
-                self.start(slot, Collection::Sequence, properties, mark)
-            }
-            Kind::BlockMappingStart => {
-                let mark = self.skip();
-                self.push(slot, State::BlockMappingKey)?;
-                self.start(slot, Collection::Mapping, properties, mark)
-            }
+            Kind::BlockSequenceStart => self.block_sequence(slot, properties),
+            Kind::BlockMappingStart => self.block_mapping(slot, properties),
             _ => self.flow_content(slot, properties, next),
         }
     }
@@ -234,25 +222,85 @@ impl<T: Iterator<Item = char>> Reader<T> {
         ensures moves { Moves 0 (owed properties) self.old self.new result }
     {
         match next {
-            Kind::Scalar => {
-                let mark = self.mark();
-                let (style, text) = self.tokens.take_scalar();
-                let (anchor, tag) = self.registered(slot, properties)?;
-                slot.write(Event::Scalar(text, style, anchor, tag), mark);
-                Ok(())
-            }
-            Kind::FlowSequenceStart => {
-                let mark = self.skip();
-                self.push(slot, State::FlowSequenceFirstEntry)?;
-                self.start(slot, Collection::Sequence, properties, mark)
-            }
-            Kind::FlowMappingStart => {
-                let mark = self.skip();
-                self.push(slot, State::FlowMappingFirstKey)?;
-                self.start(slot, Collection::Mapping, properties, mark)
-            }
+            Kind::Scalar => self.scalar(slot, properties),
+            Kind::FlowSequenceStart => self.flow_sequence(slot, properties),
+            Kind::FlowMappingStart => self.flow_mapping(slot, properties),
             _ => self.no_content(slot, properties, next),
         }
+    }
+
+    /// A scalar. Its token was looked at.
+    #[inline(always)]
+    fn scalar(&mut self, slot: &mut Slot, properties: Option<Properties>) -> Answer
+        requires { IsOfKind kind.Scalar self.old.tokens.peeked }
+        ensures answers { ReadsAfter context.Flow properties self.old self.new result slot.new }
+        ensures moves { Moves 0 (owed properties) self.old self.new result }
+    {
+        let mark = self.mark();
+        let (style, text) = self.tokens.take_scalar();
+        let (anchor, tag) = self.registered(slot, properties)?;
+        slot.write(Event::Scalar(text, style, anchor, tag), mark);
+        Ok(())
+    }
+
+    /// A flow sequence. Its bracket was looked at.
+    #[inline(always)]
+    fn flow_sequence(&mut self, slot: &mut Slot, properties: Option<Properties>) -> Answer
+        requires { IsOfKind kind.FlowSequenceStart self.old.tokens.peeked }
+        ensures answers { ReadsAfter context.Flow properties self.old self.new result slot.new }
+        ensures moves { Moves 0 (owed properties) self.old self.new result }
+    {
+        let mark = self.skip();
+        self.push(slot, State::FlowSequenceFirstEntry)?;
+        self.start(slot, Collection::Sequence, properties, mark)
+    }
+
+    /// A flow mapping. Its brace was looked at.
+    #[inline(always)]
+    fn flow_mapping(&mut self, slot: &mut Slot, properties: Option<Properties>) -> Answer
+        requires { IsOfKind kind.FlowMappingStart self.old.tokens.peeked }
+        ensures answers { ReadsAfter context.Flow properties self.old self.new result slot.new }
+        ensures moves { Moves 0 (owed properties) self.old self.new result }
+    {
+        let mark = self.skip();
+        self.push(slot, State::FlowMappingFirstKey)?;
+        self.start(slot, Collection::Mapping, properties, mark)
+    }
+
+    /// A block sequence. Its start was looked at.
+    #[inline(always)]
+    fn block_sequence(&mut self, slot: &mut Slot, properties: Option<Properties>) -> Answer
+        requires { IsOfKind kind.BlockSequenceStart self.old.tokens.peeked }
+        ensures answers { ReadsAfter context.Block properties self.old self.new result slot.new }
+        ensures moves { Moves 0 (owed properties) self.old self.new result }
+    {
+        let mark = self.skip();
+        self.push(slot, State::BlockSequenceEntry)?;
+        self.start(slot, Collection::Sequence, properties, mark)
+    }
+
+    /// A block mapping. Its start was looked at.
+    #[inline(always)]
+    fn block_mapping(&mut self, slot: &mut Slot, properties: Option<Properties>) -> Answer
+        requires { IsOfKind kind.BlockMappingStart self.old.tokens.peeked }
+        ensures answers { ReadsAfter context.Block properties self.old self.new result slot.new }
+        ensures moves { Moves 0 (owed properties) self.old self.new result }
+    {
+        let mark = self.skip();
+        self.push(slot, State::BlockMappingKey)?;
+        self.start(slot, Collection::Mapping, properties, mark)
+    }
+
+    /// A block sequence at the column of its key. Its first `-` was looked at.
+    #[inline(always)]
+    fn indentless_sequence(&mut self, slot: &mut Slot, properties: Option<Properties>) -> Answer
+        requires { IsOfKind kind.BlockEntry self.old.tokens.peeked }
+        ensures answers { ReadsAfter context.Part properties self.old self.new result slot.new }
+        ensures moves { Moves 0 (owed properties) self.old self.new result }
+    {
+        let mark = self.skip();
+        self.push(slot, State::IndentlessSequenceItem)?;
+        self.start(slot, Collection::Sequence, properties, mark)
     }
 
     /// Properties alone are a node. `next` was looked at.

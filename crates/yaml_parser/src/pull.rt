@@ -65,11 +65,11 @@ impl<T: Iterator<Item = char>> Pull<T> {
         if let Some(kept) = &self.kept {
             return Err(self.reader.error(kept));
         }
-        let Some(state) = self.reader.stack.pop() else {
+        if self.reader.stack.is_empty() {
             return Ok((Event::StreamEnd, self.reader.tokens.scanner.mark()));
-        };
+        }
         let mut slot = Slot::new(self.reader.tokens.scanner.mark());
-        match self.reader.next(&mut slot, state) {
+        match self.reader.next(&mut slot) {
             Ok(()) => {
                 self.reader.names.keeping.note();
                 Ok(slot.next)
@@ -86,10 +86,7 @@ impl<T: Iterator<Item = char>> Pull<T> {
         ensures kept { self.new.kept ≡ self.old.kept }
         ensures start { self.new.reader.tokens.scanner.start ≡ self.old.reader.tokens.scanner.start }
     {
-        let Some(state) = self.reader.stack.pop() else {
-            unreachable!()
-        };
-        self.reader.next(slot, state)?;
+        self.reader.next(slot)?;
         self.reader.names.keeping.note();
         Ok(())
     }

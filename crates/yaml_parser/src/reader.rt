@@ -1,9 +1,10 @@
-ghost use Rattle.std.specs.Prelude.{◌≡◌, ◌+◌, [], ◌∷◌, false, Some, None, OnErr, OnOk, IfOk, IsSome, IfSome};
+ghost use Rattle.std.specs.Prelude.{◌≡◌, ◌≢◌, ◌+◌, [], ◌∷◌, false, Some, None, OnErr, OnOk, IfOk, IsSome, IfSome};
 ghost use Rattle.defs_token.specs.Token.{Style};
 ghost use Rattle.yaml_tokens.specs.declared.token.Token.{Token};
 ghost use Rattle.yaml_tokens.specs.declared.problem.Fault.TheVariants.{OutOfMemory};
 ghost use Rattle.defs_event.specs.Event.{Ev};
 ghost use Rattle.model_parser.specs.Goal.{Goal};
+ghost use Rattle.yaml_parser.specs.declared.event.Event.TheVariants.{SequenceEnd, MappingEnd};
 ghost use Rattle.yaml_parser.specs.declared.tokens.Stop.TheVariants.{Own};
 ghost use Rattle.yaml_parser.specs.Shown.{placed};
 ghost use Rattle.model_parser.specs.Rest.{goal_of};
@@ -12,6 +13,7 @@ ghost use Rattle.yaml_parser.specs.Work.{Moves, work, weight};
 ghost use Rattle.yaml_parser.specs.Kinds.{IsOfKind};
 ghost use Rattle.yaml_scanner.specs.Scanned.{scanned};
 ghost use Rattle.yaml_parser.specs.Seen.{fault_seen};
+ghost use Rattle.yaml_parser.specs.Top.{ReadsTop};
 
 use crate::event::Event;
 use crate::names::Names;
@@ -89,6 +91,34 @@ impl<T: Iterator<Item = char>> Reader<T> {
         }
     }
 
+    /// Takes the token that was looked at, where a sequence ends.
+    #[inline(always)]
+    pub(crate) fn end_sequence(&mut self, slot: &mut Slot)
+        requires { IsSome self.old.tokens.peeked }
+        ensures event { slot.new.next.0 ≡ SequenceEnd }
+        ensures mark { IfSome self.old.tokens.peeked (λ t. t.0 ≡ slot.new.next.1) }
+        ensures work { work self.new + 4 ≡ work self.old }
+        ensures names { self.new.names ≡ self.old.names }
+        ensures start { self.new.tokens.scanner.start ≡ self.old.tokens.scanner.start }
+        ensures took { (t : Token) → self.old.tokens.peeked ≡ Some t → Took self.old t self.new self.old.stack }
+    {
+        slot.write(Event::SequenceEnd, self.skip());
+    }
+
+    /// Takes the token that was looked at, where a mapping ends.
+    #[inline(always)]
+    pub(crate) fn end_mapping(&mut self, slot: &mut Slot)
+        requires { IsSome self.old.tokens.peeked }
+        ensures event { slot.new.next.0 ≡ MappingEnd }
+        ensures mark { IfSome self.old.tokens.peeked (λ t. t.0 ≡ slot.new.next.1) }
+        ensures work { work self.new + 4 ≡ work self.old }
+        ensures names { self.new.names ≡ self.old.names }
+        ensures start { self.new.tokens.scanner.start ≡ self.old.tokens.scanner.start }
+        ensures took { (t : Token) → self.old.tokens.peeked ≡ Some t → Took self.old t self.new self.old.stack }
+    {
+        slot.write(Event::MappingEnd, self.skip());
+    }
+
     /// A scalar that is not written.
     #[inline(always)]
     pub(crate) fn nothing_written(&self, slot: &mut Slot, mark: Marker)
@@ -112,9 +142,21 @@ impl<T: Iterator<Item = char>> Reader<T> {
         }
     }
 
-    /// The next event, where this state was on top.
+    /// The next event. A state is awaited.
     #[inline(never)]
-    pub fn next(&mut self, slot: &mut Slot, state: State) -> Answer
+    pub fn next(&mut self, slot: &mut Slot) -> Answer
+        requires { self.old.stack ≢ [] }
+        ensures { ReadsTop self.old self.new result slot.new }
+    {
+        let Some(state) = self.stack.pop() else {
+            unreachable!()
+        };
+        self.read(slot, state)
+    }
+
+    /// The next event, where this state was on top.
+    #[inline(always)]
+    fn read(&mut self, slot: &mut Slot, state: State) -> Answer
         ensures answers { Reads (goal_of state) self.old self.new result slot.new }
         ensures moves { Moves (weight state) 1 self.old self.new result }
     {

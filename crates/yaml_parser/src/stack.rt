@@ -1,4 +1,4 @@
-ghost use Rattle.std.specs.Prelude.{◌≡◌, List, [], ◌∷◌, OnOk, OnErr, IfSome, IfNone};
+ghost use Rattle.std.specs.Prelude.{◌≡◌, ◌≢◌, List, [], ◌∷◌, true, false, OnOk, OnErr, IfSome, IfNone};
 ghost use Rattle.model_parser.specs.declared.state.State.{State};
 ghost use Rattle.model_parser.specs.declared.state.State.TheVariants.{StreamStart};
 
@@ -36,14 +36,26 @@ impl Stack {
     }
 
     /// An `Err` changes nothing.
+    #[inline(always)]
     pub fn push(&mut self, state: State) -> Result<(), AllocError>
         ensures ok { OnOk result (self.new ≡ state ∷ self.old) }
         ensures err { OnErr result (self.new ≡ self.old) }
     {
-        self.states.push(state).map_err(|_| AllocError)
+        self.states.reserve(1)?;
+        self.states.push_reserved(state);
+        Ok(())
+    }
+
+    /// Whether nothing is awaited.
+    pub fn is_empty(&self) -> bool
+        ensures yes { result ≡ true → self.now ≡ [] }
+        ensures no { result ≡ false → self.now ≢ [] }
+    {
+        !self.fresh && self.states.is_empty()
     }
 
     /// Takes the state on top, or `None` if there is none.
+    #[inline(always)]
     pub fn pop(&mut self) -> Option<State>
         ensures some { IfSome result (λ s. self.old ≡ s ∷ self.new) }
         ensures none { IfNone result ((self.old ≡ []) × (self.new ≡ [])) }

@@ -9,7 +9,7 @@ ghost use Rattle.yaml_parser.specs.Handed.{IsHanded, IsAwake};
 ghost use Rattle.yaml_parser.specs.declared.tokens.Missing.TheVariants.{Scan};
 ghost use Rattle.model_parser.specs.declared.kind.Kind.TheVariants as kind;
 
-use crate::kind::kind_of_token;
+use crate::looked::Looked;
 use model_parser::Kind;
 use std::alloc::AllocError;
 use yaml_chars::Marker;
@@ -89,7 +89,7 @@ pub struct Tokens<T: Iterator<Item = char>> {
     /// What gives the tokens.
     pub scanner: Scanner<T>,
     /// The token that was looked at, if there is one.
-    pub peeked: Option<Token>,
+    pub peeked: Looked,
     /// The tokens that were taken, for clauses alone.
     pub taken: History<Token>,
 }
@@ -101,9 +101,10 @@ impl<T: Iterator<Item = char>> Tokens<T> {
         ensures peeked { result.peeked ≡ None }
         ensures taken { result.taken.items ≡ [] }
     {
+        let mark = scanner.mark();
         Tokens {
             scanner,
-            peeked: None,
+            peeked: Looked::new(mark),
             taken: History::new(),
         }
     }
@@ -120,15 +121,11 @@ impl<T: Iterator<Item = char>> Tokens<T> {
         ensures awake { OnOk result (IsAwake self.old → IsAwake self.new) }
         ensures err { IsAwake self.old → IfErr result (λ m. (m ≡ Scan) × IsSome (scanned self.new.scanner).fault) }
     {
-        if let Some(token) = &self.peeked {
-            return Ok(kind_of_token(&token.1));
+        if let Some(kind) = self.peeked.kind() {
+            return Ok(kind);
         }
         match self.scanner.next_token() {
-            Ok(Some(token)) => {
-                let kind = kind_of_token(&token.1);
-                self.peeked = Some(token);
-                Ok(kind)
-            }
+            Ok(Some(token)) => Ok(self.peeked.put(token)),
             Ok(None) => Err(Missing::Ended),
             Err(_) => Err(Missing::Scan),
         }
@@ -140,22 +137,7 @@ impl<T: Iterator<Item = char>> Tokens<T> {
         requires { IsSome self.now.peeked }
         ensures { IfSome self.now.peeked (λ t. t.0 ≡ result) }
     {
-        match &self.peeked {
-            Some(token) => token.0,
-            None => unreachable!(),
-        }
-    }
-
-    /// Takes the token that was looked at.
-    #[inline(always)]
-    fn take(&mut self) -> Option<Token>
-        ensures token { result ≡ self.old.peeked }
-        ensures skips { IfSome result (λ _. SkipsOne self.old self.new) }
-        ensures start { self.new.scanner.start ≡ self.old.scanner.start }
-    {
-        let token = self.peeked.take()?;
-        self.taken.push(&token);
-        Some(token)
+        self.peeked.get().0
     }
 
     /// Takes the token that was looked at, and gives its position.
@@ -165,12 +147,10 @@ impl<T: Iterator<Item = char>> Tokens<T> {
         ensures mark { IfSome self.old.peeked (λ t. t.0 ≡ result) }
         ensures skips { SkipsOne self.old self.new }
     {
-        let Some(token) = &self.peeked else {
-            unreachable!()
-        };
+        let token = self.peeked.get();
         let mark = token.0;
         self.taken.push(token);
-        self.peeked = None;
+        self.peeked.skip();
         mark
     }
 
@@ -180,10 +160,8 @@ impl<T: Iterator<Item = char>> Tokens<T> {
         ensures skips { SkipsOne self.old self.new }
         ensures name { IfSome self.old.peeked (λ t. (tok_of t.1 ≡ Tok.alias (string_chars result)) ⊎ (tok_of t.1 ≡ Tok.anchor (string_chars result))) }
     {
-        match self.take() {
-            Some(Token(_, TokenType::Alias(name) | TokenType::Anchor(name))) => name,
-            _ => unreachable!(),
-        }
+        self.taken.push(self.peeked.get());
+        self.peeked.take_name()
     }
 
     /// Takes a tag that was looked at, and gives its handle and suffix.
@@ -192,10 +170,8 @@ impl<T: Iterator<Item = char>> Tokens<T> {
         ensures texts { IfSome self.old.peeked (λ t. tok_of t.1 ≡ Tok.tag (string_chars result.0) (string_chars result.1)) }
         ensures skips { SkipsOne self.old self.new }
     {
-        match self.take() {
-            Some(Token(_, TokenType::Tag(handle, suffix))) => (handle, suffix),
-            _ => unreachable!(),
-        }
+        self.taken.push(self.peeked.get());
+        self.peeked.take_tag()
     }
 
     /// Takes a `%TAG` directive that was looked at, and gives its handle and prefix.
@@ -204,10 +180,8 @@ impl<T: Iterator<Item = char>> Tokens<T> {
         ensures texts { IfSome self.old.peeked (λ t. tok_of t.1 ≡ Tok.tag_directive (string_chars result.0) (string_chars result.1)) }
         ensures skips { SkipsOne self.old self.new }
     {
-        match self.take() {
-            Some(Token(_, TokenType::TagDirective(handle, prefix))) => (handle, prefix),
-            _ => unreachable!(),
-        }
+        self.taken.push(self.peeked.get());
+        self.peeked.take_tag_directive()
     }
 
     /// Takes a scalar that was looked at, and gives its style and text.
@@ -217,9 +191,7 @@ impl<T: Iterator<Item = char>> Tokens<T> {
         ensures texts { IfSome self.old.peeked (λ t. tok_of t.1 ≡ Tok.scalar (style_of result.0) (string_chars result.1)) }
         ensures skips { SkipsOne self.old self.new }
     {
-        match self.take() {
-            Some(Token(_, TokenType::Scalar(style, text))) => (style, text),
-            _ => unreachable!(),
-        }
+        self.taken.push(self.peeked.get());
+        self.peeked.take_scalar()
     }
 }

@@ -3,8 +3,10 @@
 
 mod failure;
 mod files;
+mod printer;
 mod program;
 
 pub use failure::{Failure, Tell};
 pub use files::{read, read_bytes, read_input, without_byte_order_mark};
+pub use printer::Printer;
 pub use program::{Program, arguments, begin};

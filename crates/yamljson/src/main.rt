@@ -8,14 +8,14 @@ pub mod run;
 #[cfg(test)]
 mod tests;
 
-use run::start;
+use run::YamlJson;
 use std::io;
 use std::process::ExitCode;
-use yaml_programs::arguments;
+use yaml_programs::{Printer, arguments};
 
 fn main(rt: HostRuntime) -> ExitCode {
     let alloc = rt.alloc();
     let out = io::BufWriter::new(alloc, rt.stdout());
     let mut err = rt.stderr();
-    ExitCode::from(start(&rt, alloc, arguments(&rt), out, &mut err))
+    ExitCode::from(YamlJson::start(&rt, alloc, arguments(&rt), out, &mut err))
 }

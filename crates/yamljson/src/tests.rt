@@ -1,8 +1,9 @@
-use crate::run::run;
+use crate::run::YamlJson;
 use std::alloc::Global;
 use std::test::Fail;
 use std::{env, fs};
 use test_rows::Report;
+use yaml_programs::Printer;
 
 // All that is printed for a file that holds these bytes, and the status. `options` come before the file's path.
 fn told(rt: &HostRuntime, options: &[&str], bytes: &[u8]) -> Result<String, Fail> {
@@ -28,7 +29,7 @@ fn ran(rt: &HostRuntime, args: &[String]) -> Result<String, Fail> {
     let alloc = rt.alloc();
     let mut out = Vec::new(alloc);
     let mut err = Vec::new(alloc);
-    let status = run(rt, alloc, args, &mut out, &mut err);
+    let status = YamlJson::run(rt, alloc, args, &mut out, &mut err);
     let printed = String::from_utf8_lossy(alloc, out.as_slice())?;
     let said = String::from_utf8_lossy(alloc, err.as_slice())?;
     Ok(format!(in alloc; "{printed}{said}{status}")?)

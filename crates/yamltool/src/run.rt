@@ -3,68 +3,39 @@ use crate::command::{Command, Settings, command_of};
 use crate::failure::{Failure, Trouble};
 use overlay::overlay;
 use std::alloc::Global;
-use std::io;
 use std::io::Write;
 use std::rt::Files;
 use yaml_emitter::YamlEmitter;
 use yaml_event_lines::write_event;
 use yaml_loader::YamlLoader;
 use yaml_parser::{Event, Parser};
-use yaml_programs::{Program, begin, read, without_byte_order_mark};
+use yaml_programs::{Printer, Program, read, without_byte_order_mark};
 use yaml_tree::Yaml;
 
-const PROGRAM: Program = Program {
-    name: "yamltool",
-    usage: "usage: yamltool events FILE | dump [--spread] [--multiline] FILE | overlay A B",
-};
+/// The program.
+pub struct YamlTool;
 
-/// Runs the program on its arguments and its output, if these could be had, and gives its exit status. An argument
-/// that is not UTF-8 gives the usage; any other failure to get them is refused memory.
-pub fn start<R: Files, O: Write + Drop, E: Write>(
-    rt: &R,
-    alloc: Global,
-    args: io::Result<Vec<String>>,
-    out: io::Result<O>,
-    err: &mut E,
-) -> u8 {
-    match begin(args, out) {
-        Ok((args, mut out)) => run(rt, alloc, args.as_slice(), &mut out, err),
-        Err(failure) => PROGRAM.end(err, Err::<(), Failure>(failure)),
-    }
-}
-
-/// Runs the program on its arguments (its own name left out), and gives its exit status: 0, or 1
-/// with a line in `err` that says what failed, or 2 with the usage.
-pub fn run<R: Files, O: Write, E: Write>(
-    rt: &R,
-    alloc: Global,
-    args: &[String],
-    out: &mut O,
-    err: &mut E,
-) -> u8 {
-    let outcome = print(rt, alloc, args, out);
-    PROGRAM.end(err, outcome)
-}
-
-fn print<'a, R: Files, O: Write>(
-    rt: &R,
-    alloc: Global,
-    args: &'a [String],
-    out: &mut O,
-) -> Result<(), Failure<'a>> {
-    let Some(command) = command_of(args) else {
-        return Err(Failure::Usage);
+impl Printer for YamlTool {
+    const PROGRAM: Program = Program {
+        name: "yamltool",
+        usage: "usage: yamltool events FILE | dump [--spread] [--multiline] FILE | overlay A B",
     };
-    let printed = match command {
-        Command::Events(path) => print_events(rt, alloc, path, out),
-        Command::Dump(settings, path) => print_dumps(rt, alloc, path, settings, out),
-        Command::Overlay(left, right) => print_overlay(rt, alloc, left, right, out),
-    };
-    // What was printed before a fault is shown.
-    if out.flush().is_err() {
-        return Err(Failure::CannotWrite);
+
+    type Trouble = Trouble;
+
+    fn print<'a, R: Files, O: Write>(
+        rt: &R,
+        alloc: Global,
+        args: &'a [String],
+        out: &mut O,
+    ) -> Result<(), Failure<'a>> {
+        match command_of(args) {
+            Some(Command::Events(path)) => print_events(rt, alloc, path, out),
+            Some(Command::Dump(settings, path)) => print_dumps(rt, alloc, path, settings, out),
+            Some(Command::Overlay(left, right)) => print_overlay(rt, alloc, left, right, out),
+            None => Err(Failure::Usage),
+        }
     }
-    printed
 }
 
 fn print_events<'a, R: Files, O: Write>(

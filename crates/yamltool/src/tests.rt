@@ -1,4 +1,4 @@
-use crate::run::{run, start};
+use crate::run::YamlTool;
 use std::alloc::{Allocator, Global};
 use std::fs::{File, Metadata, OpenOptions};
 use std::io::{ErrorKind, Write};
@@ -7,6 +7,7 @@ use std::rt::{Env, Files};
 use std::test::Fail;
 use std::{env, fs, io};
 use test_rows::Report;
+use yaml_programs::Printer;
 
 const USAGE: &str =
     "usage: yamltool events FILE | dump [--spread] [--multiline] FILE | overlay A B\n";
@@ -103,7 +104,7 @@ fn ran(rt: &HostRuntime, args: &[String]) -> Result<(String, String), Fail> {
     let alloc = rt.alloc();
     let mut out = Vec::new(alloc);
     let mut err = Vec::new(alloc);
-    let status = run(rt, alloc, args, &mut out, &mut err);
+    let status = YamlTool::run(rt, alloc, args, &mut out, &mut err);
     let printed = String::from_utf8_lossy(alloc, out.as_slice())?;
     let said = String::from_utf8_lossy(alloc, err.as_slice())?;
     Ok((
@@ -305,7 +306,7 @@ fn files_that_cannot_be_read_are_told(rt: HostRuntime) -> Result<(), Fail> {
     assert!(rt; printed.is_empty());
     let mut out = Vec::new(alloc);
     let mut err = Vec::new(alloc);
-    let status = run(&NoMemory, alloc, args.as_slice(), &mut out, &mut err);
+    let status = YamlTool::run(&NoMemory, alloc, args.as_slice(), &mut out, &mut err);
     assert_eq!(rt; status, 1);
     assert_eq!(rt; err.as_slice(), WANT.as_bytes());
     assert!(rt; out.is_empty());
@@ -324,7 +325,7 @@ fn told_of_output(
     let args = words(alloc, &[command, path])?;
     let mut out = Failing { writes, flushes };
     let mut err = Vec::new(alloc);
-    let status = run(rt, alloc, args.as_slice(), &mut out, &mut err);
+    let status = YamlTool::run(rt, alloc, args.as_slice(), &mut out, &mut err);
     let text = String::from_utf8_lossy(alloc, err.as_slice())?;
     Ok(format!(in alloc; "{text}{status}")?)
 }
@@ -416,7 +417,7 @@ fn told_of_start(
 ) -> Result<String, Fail> {
     let alloc = rt.alloc();
     let mut err = Vec::new(alloc);
-    let status = start(rt, alloc, args, out, &mut err);
+    let status = YamlTool::start(rt, alloc, args, out, &mut err);
     let said = String::from_utf8_lossy(alloc, err.as_slice())?;
     Ok(format!(in alloc; "{said}{status}")?)
 }

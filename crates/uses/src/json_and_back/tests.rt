@@ -12,40 +12,42 @@ fn tree(alloc: Global, text: &str) -> Result<Yaml, Fail> {
     Ok(documents.pop().unwrap_or(Yaml::BadValue))
 }
 
-// What it shows, a document, its JSON text, and that text indented by two spaces.
-const ROWS: [(&str, &str, &str, &str); 8] = [
-    ("null", "~", "null", "null"),
+// What it shows, a document, its JSON text, and that text indented by two spaces, where it is another.
+const ROWS: [(&str, &str, &str, Option<&str>); 8] = [
+    ("null", "~", "null", None),
     (
         "numbers keep their spelling, integers but for base and sign of zero",
         "[0x1F, -0, -5, 1.50, 1e5]",
         "[31,0,-5,1.50,1e5]",
-        "[\n  31,\n  0,\n  -5,\n  1.50,\n  1e5\n]",
+        Some("[\n  31,\n  0,\n  -5,\n  1.50,\n  1e5\n]"),
     ),
     (
         "an integer that is too large",
         "9223372036854775808",
         "9223372036854775808",
-        "9223372036854775808",
+        None,
     ),
-    ("an empty array", "[]", "[]", "[]"),
-    ("an empty hash", "{}", "{}", "{}"),
+    ("an empty array", "[]", "[]", None),
+    ("an empty hash", "{}", "{}", None),
     (
         "collections in collections, and an empty key",
         "a: {b: [x], c: []}\n'': true",
         "{\"a\":{\"b\":[\"x\"],\"c\":[]},\"\":true}",
-        "{\n  \"a\": {\n    \"b\": [\n      \"x\"\n    ],\n    \"c\": []\n  },\n  \"\": true\n}",
+        Some(
+            "{\n  \"a\": {\n    \"b\": [\n      \"x\"\n    ],\n    \"c\": []\n  },\n  \"\": true\n}",
+        ),
     ),
     (
         "escapes",
         "\"\\\"\\\\/\\b\\f\\n\\r\\t\\0\\x1f\\x7f\"",
         "\"\\\"\\\\/\\b\\f\\n\\r\\t\\u0000\\u001f\\u007f\"",
-        "\"\\\"\\\\/\\b\\f\\n\\r\\t\\u0000\\u001f\\u007f\"",
+        None,
     ),
     (
         "characters that are not ASCII",
         "é\u{2028}\u{1F600}",
         "\"é\u{2028}\u{1F600}\"",
-        "\"é\u{2028}\u{1F600}\"",
+        None,
     ),
 ];
 
@@ -58,7 +60,12 @@ fn trees_come_back(rt: HostRuntime) -> Result<(), Fail> {
         report.compare(name, "compact", json_of(alloc, &tree)?.as_str(), compact)?;
         let mut lines = String::new(alloc);
         write_json_indented(alloc, &tree, 2, &mut lines)?;
-        report.compare(name, "indented", lines.as_str(), indented)?;
+        report.compare(
+            name,
+            "indented",
+            lines.as_str(),
+            indented.unwrap_or(compact),
+        )?;
         let holds = match json_and_back(alloc, &tree)?.as_slice() {
             [document] => *document == tree,
             _ => false,

@@ -110,16 +110,27 @@ write_node-returns-in_err-write_parts-clause-given g t c = unless_ok _ _ c.from_
 pub write_node-returns-in_err-new_line-clause-given : goal.write_node-returns-in_err-new_line-clause-given
 write_node-returns-in_err-new_line-clause-given g t c = unless_ok _ _ c.from_residual-in_err-new_line.ensures.0
 
--- ---- items
+-- ---- items and members: the loops
 
 pub write_items-items-init : goal.write_items-items-init
 write_items-items-init g t c = all_left (item_entries (g.S.Spacing.indentation c.args.spacing) c.args.margin) c.into_iter-item-iterator.ensures.into_iter_gives
 
+pub write_members-pairs-init : goal.write_members-pairs-init
+write_members-pairs-init g t c = all_left (member_entries (g.S.Spacing.indentation c.args.spacing) c.args.margin) (c.into_iter-key-iterator.ensures.into_iter_gives ∙ c.iter-key-items.ensures.pairs)
+
 pub write_items-items-preserved : goal.write_items-items-preserved
 write_items-items-preserved g t c = rest_left (item_entries (g.S.Spacing.indentation c.args.spacing) c.args.margin) c.items.invariant c.in-Some.ensures.steps (wrote_then (c.in_ok-begin_entry.ensures.ok refl) (c.in_ok-write_value.ensures.text.ok refl)) c.in_ok-write_value.ensures.given
 
+pub write_members-pairs-preserved : goal.write_members-pairs-preserved
+write_members-pairs-preserved g t c = rest_left (member_entries (g.S.Spacing.indentation c.args.spacing) c.args.margin) c.pairs.invariant c.in-Some.ensures.steps (wrote_then (c.in_ok-begin_entry.ensures.ok refl) (wrote_then (c.in_ok-write_key.ensures.text.ok refl) (wrote_then (c.in_ok-end_key.ensures.ok refl) (c.in_ok-write_value.ensures.text.ok refl)))) (c.write_key.ensures.given, c.in_ok-write_value.ensures.given)
+
 pub write_items-write_value-requires : goal.write_items-write_value-requires
 write_items-write_value-requires g t c = λ κs s. (omega (arith, first_within (item_entries (g.S.Spacing.indentation c.args.spacing) c.args.margin).members c.items.invariant.decide c.in-Some.ensures.steps), s)
+
+pub write_members-write_value-requires : goal.write_members-write_value-requires
+write_members-write_value-requires g t c = λ κs s. (omega (arith, first_within (member_entries (g.S.Spacing.indentation c.args.spacing) c.args.margin).members c.pairs.invariant.decide c.in-Some.ensures.steps), s)
+
+-- ---- items and members: where a call is refused
 
 pub write_items-returns-in_err-begin_entry-clause-text : goal.write_items-returns-in_err-begin_entry-clause-text
 write_items-returns-in_err-begin_entry-clause-text g t c =
@@ -127,40 +138,14 @@ write_items-returns-in_err-begin_entry-clause-text g t c =
     (entry_stopped (item_entries (g.S.Spacing.indentation c.args.spacing) c.args.margin) c.items.invariant c.in-Some.ensures.steps
     (stopped_early _ (stopped_for (λ b. absurd b) (c.in_err-begin_entry.ensures.err refl))))
 
-pub write_items-returns-in_err-begin_entry-clause-given : goal.write_items-returns-in_err-begin_entry-clause-given
-write_items-returns-in_err-begin_entry-clause-given g t c = unless_ok _ _ c.from_residual.ensures.0
-
-pub write_items-returns-in_err-write_value-clause-text : goal.write_items-returns-in_err-write_value-clause-text
-write_items-returns-in_err-write_value-clause-text g t c =
-    writes_err c.from_residual-in_err-write_value.ensures.0
-    (entry_stopped (item_entries (g.S.Spacing.indentation c.args.spacing) c.args.margin) c.items.invariant c.in-Some.ensures.steps
-    (stopped_late (c.in_ok-begin_entry.ensures.ok refl) (stopped_for (wide_within (g.S.Spacing.indentation c.args.spacing) c.args.margin _ _ (own_no_higher (item_entries (g.S.Spacing.indentation c.args.spacing) c.args.margin) c.items.invariant c.in-Some.ensures.steps)) (c.in_err-write_value.ensures.text.err refl))))
-
-pub write_items-returns-in_err-write_value-clause-given : goal.write_items-returns-in_err-write_value-clause-given
-write_items-returns-in_err-write_value-clause-given g t c = unless_ok _ _ c.from_residual-in_err-write_value.ensures.0
-
-pub write_items-returns-clause-text : goal.write_items-returns-clause-text
-write_items-returns-clause-text g t c = writes_ok refl (none_left (item_entries (g.S.Spacing.indentation c.args.spacing) c.args.margin) c.items.invariant c.in-None.ensures.steps.0)
-
-pub write_items-returns-clause-given : goal.write_items-returns-clause-given
-write_items-returns-clause-given g t c = none_decide (item_entries (g.S.Spacing.indentation c.args.spacing) c.args.margin).members c.items.invariant.decide c.in-None.ensures.steps.0
-
--- ---- members
-
-pub write_members-pairs-init : goal.write_members-pairs-init
-write_members-pairs-init g t c = all_left (member_entries (g.S.Spacing.indentation c.args.spacing) c.args.margin) (c.into_iter-key-iterator.ensures.into_iter_gives ∙ c.iter-key-items.ensures.pairs)
-
-pub write_members-pairs-preserved : goal.write_members-pairs-preserved
-write_members-pairs-preserved g t c = rest_left (member_entries (g.S.Spacing.indentation c.args.spacing) c.args.margin) c.pairs.invariant c.in-Some.ensures.steps (wrote_then (c.in_ok-begin_entry.ensures.ok refl) (wrote_then (c.in_ok-write_key.ensures.text.ok refl) (wrote_then (c.in_ok-end_key.ensures.ok refl) (c.in_ok-write_value.ensures.text.ok refl)))) (c.write_key.ensures.given, c.in_ok-write_value.ensures.given)
-
-pub write_members-write_value-requires : goal.write_members-write_value-requires
-write_members-write_value-requires g t c = λ κs s. (omega (arith, first_within (member_entries (g.S.Spacing.indentation c.args.spacing) c.args.margin).members c.pairs.invariant.decide c.in-Some.ensures.steps), s)
-
 pub write_members-returns-in_err-begin_entry-clause-text : goal.write_members-returns-in_err-begin_entry-clause-text
 write_members-returns-in_err-begin_entry-clause-text g t c =
     writes_err c.from_residual.ensures.0
     (entry_stopped (member_entries (g.S.Spacing.indentation c.args.spacing) c.args.margin) c.pairs.invariant c.in-Some.ensures.steps
     (stopped_early _ (stopped_for (λ b. absurd b) (c.in_err-begin_entry.ensures.err refl))))
+
+pub write_items-returns-in_err-begin_entry-clause-given : goal.write_items-returns-in_err-begin_entry-clause-given
+write_items-returns-in_err-begin_entry-clause-given g t c = unless_ok _ _ c.from_residual.ensures.0
 
 pub write_members-returns-in_err-begin_entry-clause-given : goal.write_members-returns-in_err-begin_entry-clause-given
 write_members-returns-in_err-begin_entry-clause-given g t c = unless_ok _ _ c.from_residual.ensures.0
@@ -183,17 +168,34 @@ write_members-returns-in_err-end_key-clause-text g t c =
 pub write_members-returns-in_err-end_key-clause-given : goal.write_members-returns-in_err-end_key-clause-given
 write_members-returns-in_err-end_key-clause-given g t c = unless_ok _ _ c.from_residual-in_err-end_key.ensures.0
 
+pub write_items-returns-in_err-write_value-clause-text : goal.write_items-returns-in_err-write_value-clause-text
+write_items-returns-in_err-write_value-clause-text g t c =
+    writes_err c.from_residual-in_err-write_value.ensures.0
+    (entry_stopped (item_entries (g.S.Spacing.indentation c.args.spacing) c.args.margin) c.items.invariant c.in-Some.ensures.steps
+    (stopped_late (c.in_ok-begin_entry.ensures.ok refl) (stopped_for (wide_within (g.S.Spacing.indentation c.args.spacing) c.args.margin _ _ (own_no_higher (item_entries (g.S.Spacing.indentation c.args.spacing) c.args.margin) c.items.invariant c.in-Some.ensures.steps)) (c.in_err-write_value.ensures.text.err refl))))
+
 pub write_members-returns-in_err-write_value-clause-text : goal.write_members-returns-in_err-write_value-clause-text
 write_members-returns-in_err-write_value-clause-text g t c =
     writes_err c.from_residual-in_err-write_value.ensures.0
     (entry_stopped (member_entries (g.S.Spacing.indentation c.args.spacing) c.args.margin) c.pairs.invariant c.in-Some.ensures.steps
     (stopped_late (c.in_ok-begin_entry.ensures.ok refl) (stopped_late (c.in_ok-write_key.ensures.text.ok refl) (stopped_late (c.in_ok-end_key.ensures.ok refl) (stopped_for (wide_within (g.S.Spacing.indentation c.args.spacing) c.args.margin _ _ (own_no_higher (member_entries (g.S.Spacing.indentation c.args.spacing) c.args.margin) c.pairs.invariant c.in-Some.ensures.steps)) (c.in_err-write_value.ensures.text.err refl))))))
 
+pub write_items-returns-in_err-write_value-clause-given : goal.write_items-returns-in_err-write_value-clause-given
+write_items-returns-in_err-write_value-clause-given g t c = unless_ok _ _ c.from_residual-in_err-write_value.ensures.0
+
 pub write_members-returns-in_err-write_value-clause-given : goal.write_members-returns-in_err-write_value-clause-given
 write_members-returns-in_err-write_value-clause-given g t c = unless_ok _ _ c.from_residual-in_err-write_value.ensures.0
 
+-- ---- items and members: the end
+
+pub write_items-returns-clause-text : goal.write_items-returns-clause-text
+write_items-returns-clause-text g t c = writes_ok refl (none_left (item_entries (g.S.Spacing.indentation c.args.spacing) c.args.margin) c.items.invariant c.in-None.ensures.steps.0)
+
 pub write_members-returns-clause-text : goal.write_members-returns-clause-text
 write_members-returns-clause-text g t c = writes_ok refl (none_left (member_entries (g.S.Spacing.indentation c.args.spacing) c.args.margin) c.pairs.invariant c.in-None.ensures.steps.0)
+
+pub write_items-returns-clause-given : goal.write_items-returns-clause-given
+write_items-returns-clause-given g t c = none_decide (item_entries (g.S.Spacing.indentation c.args.spacing) c.args.margin).members c.items.invariant.decide c.in-None.ensures.steps.0
 
 pub write_members-returns-clause-given : goal.write_members-returns-clause-given
 write_members-returns-clause-given g t c = given_hash _ c.iter-key-items.ensures.distinct (none_decide (member_entries (g.S.Spacing.indentation c.args.spacing) c.args.margin).members c.pairs.invariant.decide c.in-None.ensures.steps.0)

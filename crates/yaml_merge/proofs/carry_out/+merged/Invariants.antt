@@ -11,14 +11,14 @@ decreases-merged l = 2 * depth (view l.node.now)
 abbrev pub decreases-merged_items : goal.decreases-merged_items
 decreases-merged_items l = 2 * items_depth (items_of l.items.now) + 1
 
-abbrev pub decreases-merged_values : goal.decreases-merged_values
-decreases-merged_values l = 2 * pairs_depth (pairs_of l.pairs.now) + 1
-
 abbrev pub invariant-merged_items-items : goal.invariant-merged_items-items
 invariant-merged_items-items l = record {
   merged : l.whole ++ merged_items (items_of l.item-iterator) ≡ merged_items (items_of l.fn.items);
   no_deeper : items_depth (items_of l.item-iterator) ≤ items_depth (items_of l.fn.items);
 }
+
+abbrev pub decreases-merged_values : goal.decreases-merged_values
+decreases-merged_values l = 2 * pairs_depth (pairs_of l.pairs.now) + 1
 
 abbrev pub invariant-merged_values-pairs : goal.invariant-merged_values-pairs
 invariant-merged_values-pairs l = record {

@@ -3,9 +3,11 @@ use Rattle.yaml_parser.proofs.pull.Pull.advance.Goals as goal
 
 pub returns-clause-advances : goal.returns-clause-advances
 returns-clause-advances g c = λ es h.
-    pulled c.args.self.now.reader c.next.new.self c.in-Some.state c.pop.new.self es c.next.new.slot c.note.new.self c.in-Some.ensures.some h c.in_ok-next.ensures.answers c.in_ok-next.ensures.moves c.note.ensures
+    let x = c.in_ok-next.ensures in
+    pulled c.args.self.now.reader c.next.new.self x.state x.below es c.next.new.slot c.note.new.self x.top h x.answers x.moves c.note.ensures
 
 pub returns-in_err-next-clause-advances : goal.returns-in_err-next-clause-advances
 returns-in_err-next-clause-advances g c = λ es h.
-    let failing = failed c.args.self.now.reader c.next.new.self c.in-Some.state c.pop.new.self es c.next.new.slot.stop c.in-Some.ensures.some h c.in_err-next.ensures.answers in
+    let x = c.in_err-next.ensures in
+    let failing = failed c.args.self.now.reader c.next.new.self x.state x.below es c.next.new.slot.stop x.top h x.answers in
     advances_err c.args.self.now (record (c.args.self.now) { reader = c.next.new.self }) es c.from_residual.result _ c.next.new.slot c.from_residual.ensures.1 (c.next.ensures.moves.input.keeping, failing.0, failing.1)

@@ -10,11 +10,11 @@ pub returns-in-Ok-clause-continues : goal.returns-in-Ok-clause-continues
 returns-in-Ok-clause-continues g c = λ es h. (
   c.in_default.is,
   c.in_default.is,
-  inr (pulled c.args.self.now.reader c.next.new.self c.in-Some-pop.state c.pop.new.self es c.next.new.slot c.note.new.self c.in-Some-pop.ensures.some (subst (IsHeld c.args.self.now.reader es) c.in_default.is h) c.in-Ok.ensures.answers c.in-Ok.ensures.moves c.note.ensures),
+  inr (pulled c.args.self.now.reader c.next.new.self c.in-Ok.ensures.state c.in-Ok.ensures.below es c.next.new.slot c.note.new.self c.in-Ok.ensures.top (subst (IsHeld c.args.self.now.reader es) c.in_default.is h) c.in-Ok.ensures.answers c.in-Ok.ensures.moves c.note.ensures),
 )
 
 pub returns-in-Err-clause-continues : goal.returns-in-Err-clause-continues
 returns-in-Err-clause-continues g c = λ es h.
     let x = keeps c.keep.new.self es c.next.new.slot.stop c.keep.ensures.kept c.keep.ensures.stop
-    (failed_as es c.next.new.slot.stop c.keep.ensures.reader (failed c.args.self.now.reader c.next.new.self c.in-Some-pop.state c.pop.new.self es c.next.new.slot.stop c.in-Some-pop.ensures.some (subst (IsHeld c.args.self.now.reader es) c.in_default.is h) c.in-Err.ensures.answers)) in
+    (failed_as es c.next.new.slot.stop c.keep.ensures.reader (failed c.args.self.now.reader c.next.new.self c.in-Err.ensures.state c.in-Err.ensures.below es c.next.new.slot.stop c.in-Err.ensures.top (subst (IsHeld c.args.self.now.reader es) c.in_default.is h) c.in-Err.ensures.answers)) in
     (ap (λ r. r.names.keeping) c.keep.ensures.reader ∙ c.next.ensures.moves.input.keeping, x.0, λ none. x.1)

@@ -1,7 +1,7 @@
 use Rattle.std.proofs.Common.{refl}
 use Rattle.model_parser.specs.Goal as at
 use Rattle.model_parser.proofs.Flow as turn
-use Rattle.yaml_parser.proofs.Arms.{goes, answers_err, not_as, faulted_as, wrote}
+use Rattle.yaml_parser.proofs.Arms.{goes, answers_err, not_as, faulted_as, wrote_event}
 use Rattle.yaml_parser.proofs.InFlow.{mapping_ends, comma_skipped}
 use Rattle.yaml_parser.proofs.Ends.{refuses}
 use Rattle.yaml_parser.proofs.Ways.{goes_apart, more_flow_pairs_ways}
@@ -15,7 +15,7 @@ pub returns-in_err-next-clause-answers : goal.returns-in_err-next-clause-answers
 returns-in_err-next-clause-answers g c = λ names given h. answers_err c.peek.new.self given c.from_residual.result _ c.peek.new.slot c.from_residual.ensures.1 (c.in_err-next.ensures.err at.more_flow_pairs refl names given h)
 
 pub returns-in-FlowMappingEnd-clause-answers : goal.returns-in-FlowMappingEnd-clause-answers
-returns-in-FlowMappingEnd-clause-answers g c = λ names given h. wrote _ given c.write.ensures (mapping_ends _ c.in_ok-next.ensures.peeked c.in-FlowMappingEnd.is c.skip-brace.ensures.mark c.skip-brace.ensures.took (turn.more_flow_end _) refl refl refl (c.in_ok-next.ensures.at at.more_flow_pairs refl names given h))
+returns-in-FlowMappingEnd-clause-answers g c = λ names given h. wrote_event _ given c.end_mapping.new.slot.next c.end_mapping.ensures.event (mapping_ends _ c.in_ok-next.ensures.peeked c.in-FlowMappingEnd.is c.end_mapping.ensures.mark c.end_mapping.ensures.took (turn.more_flow_end _) refl refl refl (c.in_ok-next.ensures.at at.more_flow_pairs refl names given h))
 
 pub returns-in-FlowEntry-clause-answers : goal.returns-in-FlowEntry-clause-answers
 returns-in-FlowEntry-clause-answers g c = λ names given h. c.flow_mapping_next.ensures.answers (comma_skipped c.in_ok-next.ensures.peeked c.in-FlowEntry.is c.skip-comma.ensures.mark c.skip-comma.ensures.took) names given (goes c.in_ok-next.ensures.peeked c.in-FlowEntry.is refl c.skip-comma.ensures.took (turn.more_flow_comma _) refl tt refl refl (c.in_ok-next.ensures.at at.more_flow_pairs refl names given h))

@@ -1,7 +1,7 @@
 use Rattle.std.proofs.Common.{refl}
 use Rattle.model_parser.specs.Goal as at
 use Rattle.model_parser.proofs.Flow as turn
-use Rattle.yaml_parser.proofs.Arms.{goes, answers_err, not_as, faulted_as, wrote}
+use Rattle.yaml_parser.proofs.Arms.{goes, answers_err, not_as, faulted_as, wrote_event}
 use Rattle.yaml_parser.proofs.InFlow.{sequence_ends}
 use Rattle.yaml_parser.proofs.Ends.{refuses}
 use Rattle.yaml_parser.proofs.Ways.{goes_apart, more_items_ways}
@@ -15,7 +15,7 @@ pub returns-in_err-next-clause-answers : goal.returns-in_err-next-clause-answers
 returns-in_err-next-clause-answers g c = λ names given h. answers_err c.peek.new.self given c.from_residual.result _ c.peek.new.slot c.from_residual.ensures.1 (c.in_err-next.ensures.err at.more_items refl names given h)
 
 pub returns-in-FlowSequenceEnd-clause-answers : goal.returns-in-FlowSequenceEnd-clause-answers
-returns-in-FlowSequenceEnd-clause-answers g c = λ names given h. wrote _ given c.write.ensures (sequence_ends _ c.in_ok-next.ensures.peeked c.in-FlowSequenceEnd.is c.skip-bracket.ensures.mark c.skip-bracket.ensures.took (turn.more_items_end _) refl refl (c.in_ok-next.ensures.at at.more_items refl names given h))
+returns-in-FlowSequenceEnd-clause-answers g c = λ names given h. wrote_event _ given c.end_sequence.new.slot.next c.end_sequence.ensures.event (sequence_ends _ c.in_ok-next.ensures.peeked c.in-FlowSequenceEnd.is c.end_sequence.ensures.mark c.end_sequence.ensures.took (turn.more_items_end _) refl refl (c.in_ok-next.ensures.at at.more_items refl names given h))
 
 pub returns-in-FlowEntry-clause-answers : goal.returns-in-FlowEntry-clause-answers
 returns-in-FlowEntry-clause-answers g c = λ names given h. c.flow_sequence_next.ensures.answers names given (goes c.in_ok-next.ensures.peeked c.in-FlowEntry.is refl c.skip.ensures.took (turn.more_items_comma _) refl tt refl refl (c.in_ok-next.ensures.at at.more_items refl names given h))

@@ -1,5 +1,5 @@
 //! Texts that are refused.
-use crate::reading::{Row, pulled, rows_hold};
+use super::reading::{Row, pulled, rows_hold};
 use std::alloc::Global;
 use std::process::Abort;
 use std::test::Fail;

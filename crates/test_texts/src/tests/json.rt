@@ -1,5 +1,5 @@
 //! Generated JSON texts (RFC 8259), each with the value that it was generated from.
-use crate::dumping::{is_read_as, loads_back_in_all};
+use super::dumping::{is_read_as, loads_back_in_all};
 use std::alloc::Global;
 use std::test::Fail;
 use yaml_rust2::yaml::{Array, Hash, Yaml};

@@ -1,5 +1,5 @@
 //! Documents, their markers and directives (YAML 1.2, chapter 9 and section 6.8).
-use crate::reading::{Row, rows_hold};
+use super::reading::{Row, rows_hold};
 use std::test::Fail;
 
 // What it shows, a text, and the trees that it loads as.

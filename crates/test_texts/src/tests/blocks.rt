@@ -1,5 +1,5 @@
 //! Block collections (YAML 1.2, section 8.2).
-use crate::reading::{Row, rows_hold};
+use super::reading::{Row, rows_hold};
 use std::test::Fail;
 
 // What it shows, a text, and the trees that it loads as.

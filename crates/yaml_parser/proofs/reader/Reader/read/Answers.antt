@@ -1,7 +1,7 @@
 use Rattle.std.proofs.Common.{sym, subst}
 use Rattle.model_parser.specs.Rest.{goal_of}
 use Rattle.yaml_parser.specs.At.{Reads}
-use Rattle.yaml_parser.proofs.reader.Reader.next.Goals as goal
+use Rattle.yaml_parser.proofs.reader.Reader.read.Goals as goal
 
 pub returns-in-StreamStart-clause-answers : goal.returns-in-StreamStart-clause-answers
 returns-in-StreamStart-clause-answers g c = subst (λ s. Reads (goal_of s) c.args.self.now c.stream_start.new.self c.stream_start.result c.stream_start.new.slot) (sym c.in-StreamStart.is) c.stream_start.ensures.answers

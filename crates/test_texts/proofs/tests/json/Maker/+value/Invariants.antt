@@ -1,5 +1,5 @@
 use Rattle.std.proofs.Common.{◌+◌, ◌*◌}
-use Rattle.test_texts.proofs.json.Maker.+value.Given as goal
+use Rattle.test_texts.proofs.tests.json.Maker.+value.Given as goal
 
 abbrev pub decreases-array : goal.decreases-array
 decreases-array l = 2 * l.depth + 1

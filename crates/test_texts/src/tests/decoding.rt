@@ -76,7 +76,7 @@ fn decoded(alloc: Global, bytes: &[u8], trap: Trap) -> Result<String, Fail> {
 
 const A_LETTER_TOO_MUCH: &[u8] = b"---\na\xa9: 1\nb: 2.2\nc: [1, 2]\n";
 
-const LEAD_BEFORE_A: &[u8] = &[0xFF, 0xFE, 0x00, 0xD8, 0x61, 0x00];
+const LEAD_BEFORE_A: &[u8] = b"\xFF\xFE\0\xD8a\0";
 
 const TREE: &str =
     "[Hash({String(\"a\"): Integer(1), String(\"b\"): Real(\"2.2\"), String(\"c\"): Array([Integer(1), Integer(2)])})]";
@@ -123,126 +123,126 @@ const DECODING: [Row; 29] = [
     ),
     (
         "UTF-16 by the place of its NUL",
-        &[0x00, 0x61],
+        b"\0a",
         Trap::Strict,
         "[String(\"a\")]",
     ),
     (
         "a byte that begins no character, by a function that goes on",
-        &[0x61, 0xFF],
+        b"a\xFF",
         Trap::Asks,
         "[String(\"a?\")]",
     ),
     (
         "a byte that begins no character, by a function that notes what it gets",
-        &[0x61, 0xFF],
+        b"a\xFF",
         Trap::Notes,
         "[String(\"a<1 0 [255] 1>\")]",
     ),
     (
         "a byte that begins no character, by a function that stops with a message",
-        &[0x61, 0xFF],
+        b"a\xFF",
         Trap::Bad,
         "stopped: bad",
     ),
     (
         "a byte that begins no character, by a function that stops without a message",
-        &[0x61, 0xFF],
+        b"a\xFF",
         Trap::Silent,
         "stopped: Invalid character sequence at 1: [255]",
     ),
     (
         "no malformation, so the function is not called",
-        &[0x61],
+        b"a",
         Trap::Bad,
         "[String(\"a\")]",
     ),
     (
         "a character that is cut off is replaced once",
-        &[0xE2, 0x82, 0x41],
+        b"\xE2\x82A",
         Trap::Replace,
         "[String(\"\u{FFFD}A\")]",
     ),
     (
         "a character that is cut off, strict",
-        &[0xE2, 0x82, 0x41],
+        b"\xE2\x82A",
         Trap::Strict,
         "stopped: Invalid character sequence at 0: [226, 130]",
     ),
     (
         "an overlong character is replaced twice",
-        &[0xE0, 0x80, 0x41],
+        b"\xE0\x80A",
         Trap::Replace,
         "[String(\"\u{FFFD}\u{FFFD}A\")]",
     ),
     (
         "the position counts the byte order mark",
-        &[0xEF, 0xBB, 0xBF, 0x61, 0xFF],
+        b"\xEF\xBB\xBFa\xFF",
         Trap::Strict,
         "stopped: Invalid character sequence at 4: [255]",
     ),
     (
         "UTF-16 that ends in half a unit",
-        &[0xFF, 0xFE, 0x61, 0x00, 0x62],
+        b"\xFF\xFEa\0b",
         Trap::Strict,
         "stopped: Invalid character sequence at 4: [98]",
     ),
     (
         "half a unit after a lead surrogate",
-        &[0xFF, 0xFE, 0x00, 0xD8, 0x61],
+        b"\xFF\xFE\0\xD8a",
         Trap::Strict,
         "stopped: Invalid character sequence at 2: [0, 216, 97]",
     ),
     (
         "a lead surrogate before a pair of surrogates",
-        &[0xFF, 0xFE, 0x00, 0xD8, 0x01, 0xD8, 0x00, 0xDC],
+        b"\xFF\xFE\0\xD8\x01\xD8\0\xDC",
         Trap::Replace,
         "[String(\"\u{FFFD}\u{10400}\")]",
     ),
     (
         "a trail surrogate at the end, big-endian",
-        &[0xFE, 0xFF, 0x00, 0x61, 0xDC, 0x00],
+        b"\xFE\xFF\0a\xDC\0",
         Trap::Ignore,
         "[String(\"a\")]",
     ),
     (
         "four bytes that lack the last",
-        &[0xF0, 0x9F, 0x98],
+        b"\xF0\x9F\x98",
         Trap::Replace,
         "[String(\"\u{FFFD}\")]",
     ),
     (
         "four bytes",
-        &[0xF0, 0x9F, 0x98, 0x80],
+        b"\xF0\x9F\x98\x80",
         Trap::Replace,
         "[String(\"\u{1F600}\")]",
     ),
     (
         "two bytes and three bytes",
-        &[0xC3, 0xA9, 0xE2, 0x82, 0xAC],
+        b"\xC3\xA9\xE2\x82\xAC",
         Trap::Replace,
         "[String(\"\u{e9}\u{20AC}\")]",
     ),
     (
         "bytes that look like a byte order mark, not at the start",
-        &[0x61, 0xFF, 0xFE],
+        b"a\xFF\xFE",
         Trap::Strict,
         "stopped: Invalid character sequence at 1: [255]",
     ),
     (
         "two malformations, by a function that goes on",
-        &[0x61, 0xFF, 0x61, 0xE2, 0x82],
+        b"a\xFFa\xE2\x82",
         Trap::Asks,
         "[String(\"a?a?\")]",
     ),
     (
         "two malformations, ignored",
-        &[0x61, 0xFF, 0xFF],
+        b"a\xFF\xFF",
         Trap::Ignore,
         "[String(\"a\")]",
     ),
-    ("no bytes", &[], Trap::Strict, "[]"),
-    ("NUL alone", &[0x00], Trap::Strict, "[]"),
+    ("no bytes", b"", Trap::Strict, "[]"),
+    ("NUL alone", b"\0", Trap::Strict, "[]"),
     (
         "a fault of the text",
         b"[",
@@ -329,26 +329,26 @@ enum Unit {
 type Encoding = (&'static str, &'static [u8], Unit);
 
 const ENCODINGS: [Encoding; 6] = [
-    ("UTF-8 with a mark", &[0xEF, 0xBB, 0xBF], Unit::Utf8),
-    ("UTF-8 without a mark", &[], Unit::Utf8),
+    ("UTF-8 with a mark", b"\xEF\xBB\xBF", Unit::Utf8),
+    ("UTF-8 without a mark", b"", Unit::Utf8),
     (
         "UTF-16, little-endian, with a mark",
-        &[0xFF, 0xFE],
+        b"\xFF\xFE",
         Unit::Utf16LittleEndian,
     ),
     (
         "UTF-16, little-endian, without a mark",
-        &[],
+        b"",
         Unit::Utf16LittleEndian,
     ),
     (
         "UTF-16, big-endian, with a mark",
-        &[0xFE, 0xFF],
+        b"\xFE\xFF",
         Unit::Utf16BigEndian,
     ),
     (
         "UTF-16, big-endian, without a mark",
-        &[],
+        b"",
         Unit::Utf16BigEndian,
     ),
 ];

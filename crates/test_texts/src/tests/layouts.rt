@@ -1,5 +1,5 @@
 //! Layouts with anchors and aliases, comments, arrays at their key's column, every style of scalars, and several documents.
-use crate::reading::{Row, rows_hold};
+use super::reading::{Row, rows_hold};
 use std::test::Fail;
 
 // What it shows, a text, and the trees that it loads as.

@@ -1,5 +1,5 @@
 //! Tags, anchors and aliases (YAML 1.2, sections 6.9 and 7.1).
-use crate::reading::{Row, loaded_with_tags, rows_hold};
+use super::reading::{Row, loaded_with_tags, rows_hold};
 use std::process::Abort;
 use std::test::Fail;
 use test_rows::Report;

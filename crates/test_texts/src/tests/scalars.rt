@@ -1,5 +1,5 @@
 //! Scalars: quoted, plain, literal and folded (YAML 1.2, chapters 7.3 and 8.1).
-use crate::reading::{Row, rows_hold};
+use super::reading::{Row, rows_hold};
 use std::test::Fail;
 
 // What it shows, a text, and the trees that it loads as.

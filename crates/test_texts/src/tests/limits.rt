@@ -1,6 +1,6 @@
 //! Texts that are long, deep or both.
-use crate::dumping::{COMPACT, dumped, loads_back_in_all, tree};
-use crate::reading::loaded;
+use super::dumping::{COMPACT, dumped, loads_back_in_all, tree};
+use super::reading::loaded;
 use std::alloc::Global;
 use std::process::Abort;
 use std::test::Fail;

@@ -1,0 +1,13 @@
+//! A module for each subject.
+mod blocks;
+mod decoding;
+mod documents;
+mod dumping;
+mod faults;
+mod flow;
+mod json;
+mod layouts;
+mod limits;
+mod properties;
+mod reading;
+mod scalars;
