@@ -2,7 +2,6 @@ pub mod CameBy
 pub mod Completions
 pub mod Falls
 pub mod Mended
-pub mod Refused
 pub mod Runs
 pub mod Steps
 pub mod Streams
