@@ -6,6 +6,5 @@ pub mod Runs
 pub mod Steps
 pub mod Streams
 pub mod Track
-mod NoReadingRows
 mod PositionRows
 mod Rows
