@@ -1,18 +1,17 @@
 -- In the table of the token grammar, rows for all other tokens are chosen by each token that ends a goal too.
-use Rattle.std.proofs.Common.{◌≡◌, ◌⊎◌, inl, inr, ℕ, zero, suc, ◌<◌, Bool, true, false, List, [], ◌∷◌, ◌++◌, Some, None, if◌then◌else◌, refl, arith}
+use Rattle.std.proofs.Common.{◌≡◌, ◌⊎◌, inl, inr, ℕ, zero, suc, ◌<◌, Bool, true, false, List, [], ◌∷◌, Some, None, if◌then◌else◌, refl, arith}
 use Rattle.defs_token.specs.Token.{Tok}
-use Rattle.defs_event.specs.Raw.{Raw, nothing_written}
-use Rattle.defs_event.specs.Table.{Part, read, keep, say, empty, Row, leaves, Case, on, otherwise, row_of, Work, reading, saying, before}
+use Rattle.defs_event.specs.Raw.{Raw}
+use Rattle.defs_event.specs.Table.{Part, Row, leaves, Case, on, otherwise, row_of, Work, reading, saying, before}
 use Rattle.defs_event.specs.Kinds.{begins_flow_node, begins_node}
 use Rattle.defs_grammar.specs.Machine.{work_weight, Turned, goes, refused, and_before, step}
-use Rattle.defs_event.specs.Grammar.{Held, nothing_held, Side, key, value, Place, in_flow, in_block, in_pair, Goal, stream, documents, directives, explicit_document, document_end, node, after_anchor, after_tag, content, block_sequence_entries, indentless_sequence_entries, block_mapping_entries, block_mapping_value, flow_sequence_entries, flow_sequence_comma, flow_mapping_entries, flow_mapping_comma, flow_value, cases, then_in, then_in_pair, grammar}
-use Rattle.defs_event.specs.Stream.{whole_stream}
+use Rattle.defs_event.specs.Grammar.{Held, nothing_held, key, value, Place, in_flow, in_block, in_pair, Goal, stream, documents, directives, explicit_document, document_end, node, after_anchor, after_tag, content, block_sequence_entries, indentless_sequence_entries, block_mapping_entries, block_mapping_value, flow_sequence_entries, flow_sequence_comma, flow_mapping_entries, flow_mapping_comma, flow_value, cases, grammar}
 use Rattle.defs_grammar.specs.Reader.{weight}
 use Rattle.proof_grammar.specs.Track.{ends_goal}
 use Rattle.defs_event.proofs.Meanings.{EachRow, row_holds}
-use Rattle.proof_grammar.proofs.Runs.{AllKeep}
 use Rattle.proof_grammar.proofs.Falls.{grammar_falls, grammar_completes, ends}
-use Rattle.proof_grammar.proofs.Refused.{IsOpen, IsInStep, BottomRow, LeavingRow, EndsGoal, IsMended, all_keep}
+use Rattle.proof_grammar.proofs.Track.{LeavingRow, EndsGoal}
+use Rattle.proof_grammar.proofs.Runs.{BottomRow, IsMended}
 
 -- ---- bottom goals
 
@@ -24,41 +23,21 @@ is_bottom explicit_document = true
 is_bottom document_end = true
 is_bottom _ = false
 
-abbrev Open : List (Work Goal Raw Held) → Type 0
-Open w = IsOpen is_bottom w
-
-last_goal : (f : List (Work Goal Raw Held)) (g : Goal) (h : Held) → is_bottom g ≡ true → Open (f ++ (reading g h ∷ []))
-last_goal f g h b = record { front = f; goal = g; held = h; is_bottom = b; whole = refl }
-
 abbrev Bottoms : Goal → Type 0
 Bottoms g = EachRow (λ t r. BottomRow grammar is_bottom t r) (λ t. false) (cases g)
 
--- a node and what comes after its document
-abbrev node_then_end : List (Work Goal Raw Held)
-node_then_end = reading (node in_block) nothing_held ∷ []
-
 bottom_rows : (g : Goal) → is_bottom g ≡ true → Bottoms g
-bottom_rows stream b = (λ t i h. inl (last_goal (saying _ ∷ []) documents nothing_held refl), tt)
-bottom_rows documents b = (
-  λ t i h. inl (last_goal [] documents nothing_held refl),
-  (
-    λ t i h. inl (last_goal [] directives _ refl),
-    (λ t i h. last_goal (saying _ ∷ node_then_end) document_end nothing_held refl, λ t i h. last_goal [] explicit_document nothing_held refl),
-  ),
-)
-bottom_rows directives b = (λ t i h. inl (last_goal [] directives _ refl), (λ t i h. inl (last_goal (saying _ ∷ node_then_end) document_end nothing_held refl), tt))
-bottom_rows explicit_document b = (λ t i h. inl (last_goal (saying _ ∷ node_then_end) document_end nothing_held refl), (λ t i h. inr tt, tt))
-bottom_rows document_end b = (λ t i h. inl (last_goal (saying _ ∷ []) documents nothing_held refl), λ t i h. last_goal (saying _ ∷ []) explicit_document nothing_held refl)
+bottom_rows stream b = (λ t i h. inl refl, tt)
+bottom_rows documents b = (λ t i h. inl refl, (λ t i h. inl refl, (λ t i h. refl, λ t i h. refl)))
+bottom_rows directives b = (λ t i h. inl refl, (λ t i h. inl refl, tt))
+bottom_rows explicit_document b = (λ t i h. inl refl, (λ t i h. inr refl, tt))
+bottom_rows document_end b = (λ t i h. inl refl, λ t i h. refl)
 bottom_rows _ b = cc
 
 bottoms : (g : Goal) (t : Tok) (r : Row Goal Raw) → is_bottom g ≡ true → row_of (cases g) t ≡ Some r → BottomRow grammar is_bottom t r
 bottoms g t r b p = row_holds (λ t r. BottomRow grammar is_bottom t r) (λ t. false) (cases g) (bottom_rows g b) t refl r p
 
 -- ---- tokens that end a goal
-
--- the row is that of each token which ends a goal
-abbrev IsEnders : Goal → List (Part Goal Raw) → Type 0
-IsEnders g ps = (u : Tok) → ends_goal u ≡ true → row_of (cases g) u ≡ Some (leaves ps)
 
 at_enders : (P : Tok → Type 0) → P Tok.stream_start → P Tok.stream_end → P Tok.document_start → P Tok.block_end → P Tok.flow_sequence_end → P Tok.flow_mapping_end → (u : Tok) → ends_goal u ≡ true → P u
 at_enders P a b c d e f Tok.stream_start h = a
@@ -69,59 +48,30 @@ at_enders P a b c d e f Tok.flow_sequence_end h = e
 at_enders P a b c d e f Tok.flow_mapping_end h = f
 at_enders P a b c d e f _ h = cc
 
-documents_enders : IsEnders documents (read explicit_document ∷ [])
-documents_enders = at_enders _ refl refl refl refl refl refl
-
-document_enders : IsEnders document_end (say Raw.document_end ∷ read explicit_document ∷ [])
-document_enders = at_enders _ refl refl refl refl refl refl
-
-node_enders : (p : Place) → IsEnders (node p) (keep (content p) ∷ [])
-node_enders p = at_enders _ refl refl refl refl refl refl
-
-anchor_enders : (p : Place) → IsEnders (after_anchor p) (keep (content p) ∷ [])
-anchor_enders p = at_enders _ refl refl refl refl refl refl
-
-tag_enders : (p : Place) → IsEnders (after_tag p) (keep (content p) ∷ [])
-tag_enders p = at_enders _ refl refl refl refl refl refl
-
-content_enders : (p : Place) → IsEnders (content p) (empty ∷ then_in p)
-content_enders in_flow = at_enders _ refl refl refl refl refl refl
-content_enders in_block = at_enders _ refl refl refl refl refl refl
-content_enders (in_pair s) = at_enders _ refl refl refl refl refl refl
-
-dashes_enders : (s : Side) → IsEnders (indentless_sequence_entries s) (say Raw.sequence_end ∷ then_in_pair s)
-dashes_enders s = at_enders _ refl refl refl refl refl refl
-
-value_enders : IsEnders block_mapping_value (say nothing_written ∷ read block_mapping_entries ∷ [])
-value_enders = at_enders _ refl refl refl refl refl refl
-
-flow_value_enders : IsEnders flow_value (say nothing_written ∷ [])
-flow_value_enders = at_enders _ refl refl refl refl refl refl
+-- A row for all other tokens is that of these tokens too, and shows none of them.
+others : (g : Goal) (t : Tok) (ps : List (Part Goal Raw)) → row_of (cases g) Tok.stream_start ≡ Some (leaves ps) → row_of (cases g) Tok.stream_end ≡ Some (leaves ps) → row_of (cases g) Tok.document_start ≡ Some (leaves ps)
+    → row_of (cases g) Tok.block_end ≡ Some (leaves ps) → row_of (cases g) Tok.flow_sequence_end ≡ Some (leaves ps) → row_of (cases g) Tok.flow_mapping_end ≡ Some (leaves ps)
+    → ((u : Tok) (h : Held) (w : List (Work Goal Raw Held)) → before grammar h u ps w ≡ before grammar h t ps w) → LeavingRow grammar weight ends_goal g t (leaves ps)
+others g t ps a b c d e f same = inl (λ u is. (at_enders (λ u. row_of (cases g) u ≡ Some (leaves ps)) a b c d e f u is, λ h w. same u h w))
 
 -- ---- a node's first token is taken
 
 abbrev NeverRefused : Place → Tok → Type 0
 NeverRefused p t = (n : ℕ) (h : Held) (w : List (Work Goal Raw Held)) (es : List Raw) → step grammar (suc (suc n)) (reading (node p) h ∷ w) t ≡ refused es → ⊥
 
-flow_node_taken : (t : Tok) → begins_flow_node t ≡ true → NeverRefused in_flow t
-flow_node_taken (Tok.alias a) b n h w es e = cc
-flow_node_taken (Tok.anchor a) b n h w es e = cc
-flow_node_taken (Tok.tag x y) b n h w es e = cc
-flow_node_taken (Tok.scalar y x) b n h w es e = cc
-flow_node_taken Tok.flow_sequence_start b n h w es e = cc
-flow_node_taken Tok.flow_mapping_start b n h w es e = cc
-flow_node_taken _ b n h w es e = cc
+flow_node_taken : (p : Place) (t : Tok) → begins_flow_node t ≡ true → NeverRefused p t
+flow_node_taken p (Tok.alias a) b n h w es e = cc
+flow_node_taken p (Tok.anchor a) b n h w es e = cc
+flow_node_taken p (Tok.tag x y) b n h w es e = cc
+flow_node_taken p (Tok.scalar y x) b n h w es e = cc
+flow_node_taken p Tok.flow_sequence_start b n h w es e = cc
+flow_node_taken p Tok.flow_mapping_start b n h w es e = cc
+flow_node_taken p _ b n h w es e = cc
 
 node_taken : (t : Tok) → begins_node t ≡ true → NeverRefused in_block t
-node_taken (Tok.alias a) b n h w es e = cc
-node_taken (Tok.anchor a) b n h w es e = cc
-node_taken (Tok.tag x y) b n h w es e = cc
-node_taken (Tok.scalar y x) b n h w es e = cc
-node_taken Tok.flow_sequence_start b n h w es e = cc
-node_taken Tok.flow_mapping_start b n h w es e = cc
 node_taken Tok.block_sequence_start b n h w es e = cc
 node_taken Tok.block_mapping_start b n h w es e = cc
-node_taken _ b n h w es e = cc
+node_taken t b n h w es e = flow_node_taken in_block t b n h w es e
 
 abbrev GoesFrom : Place → Tok → List (Work Goal Raw Held) → Type 0
 GoesFrom p t v = (n : ℕ) (h : Held) (es : List Raw) → work_weight weight (reading (node p) h ∷ v) < n → step grammar n (reading (node p) h ∷ v) t ≡ refused es → ⊥
@@ -148,50 +98,29 @@ bare_taken (suc n) t i w es l e =
 abbrev Leaving : Goal → Type 0
 Leaving g = EachRow (λ t r. LeavingRow grammar weight ends_goal g t r) (λ t. false) (cases g)
 
--- the parts of a content's last row do not show the token
-same_empty : (p : Place) (t u : Tok) (h : Held) (w : List (Work Goal Raw Held)) → before grammar h u (empty ∷ then_in p) w ≡ before grammar h t (empty ∷ then_in p) w
-same_empty in_flow t u h w = refl
-same_empty in_block t u h w = refl
-same_empty (in_pair key) t u h w = refl
-same_empty (in_pair value) t u h w = refl
-
-same_end : (s : Side) (t u : Tok) (h : Held) (w : List (Work Goal Raw Held)) → before grammar h u (say Raw.sequence_end ∷ then_in_pair s) w ≡ before grammar h t (say Raw.sequence_end ∷ then_in_pair s) w
-same_end key t u h w = refl
-same_end value t u h w = refl
-
-content_leaving : (p : Place) (t : Tok) → LeavingRow grammar weight ends_goal (content p) t (leaves (empty ∷ then_in p))
-content_leaving p t = inl (λ u e. (content_enders p u e, λ h w. same_empty p t u h w))
-
 leaving_rows : (g : Goal) → Leaving g
 leaving_rows stream = (λ t i. tt, tt)
-leaving_rows documents = (
-  λ t i. tt,
-  (
-    λ t i. tt,
-    (
-      λ t i. inr (λ n h w es l e. bare_taken n t i (reading document_end nothing_held ∷ w) es l e),
-      λ t i. inl (λ u e. (documents_enders u e, λ h w. refl)),
-    ),
-  ),
-)
+leaving_rows documents = (λ t i. tt, (λ t i. tt, (λ t i. inr (λ n h w es l e. bare_taken n t i (reading document_end nothing_held ∷ w) es l e), λ t i. others documents t _ refl refl refl refl refl refl (λ u h w. refl))))
 leaving_rows directives = (λ t i. tt, (λ t i. tt, tt))
 leaving_rows explicit_document = (λ t i. tt, (λ t i. tt, tt))
-leaving_rows document_end = (λ t i. tt, λ t i. inl (λ u e. (document_enders u e, λ h w. refl)))
-leaving_rows (node p) = (λ t i. tt, (λ t i. tt, (λ t i. tt, λ t i. inl (λ u e. (node_enders p u e, λ h w. refl)))))
-leaving_rows (after_anchor p) = (λ t i. tt, λ t i. inl (λ u e. (anchor_enders p u e, λ h w. refl)))
-leaving_rows (after_tag p) = (λ t i. tt, λ t i. inl (λ u e. (tag_enders p u e, λ h w. refl)))
-leaving_rows (content in_flow) = (λ t i. tt, (λ t i. tt, (λ t i. tt, λ t i. content_leaving in_flow t)))
-leaving_rows (content in_block) = (λ t i. tt, (λ t i. tt, (λ t i. tt, (λ t i. tt, (λ t i. tt, λ t i. content_leaving in_block t)))))
-leaving_rows (content (in_pair s)) = (λ t i. tt, (λ t i. tt, (λ t i. tt, (λ t i. tt, (λ t i. tt, (λ t i. tt, λ t i. content_leaving (in_pair s) t))))))
+leaving_rows document_end = (λ t i. tt, λ t i. others document_end t _ refl refl refl refl refl refl (λ u h w. refl))
+leaving_rows (node p) = (λ t i. tt, (λ t i. tt, (λ t i. tt, λ t i. others (node p) t _ refl refl refl refl refl refl (λ u h w. refl))))
+leaving_rows (after_anchor p) = (λ t i. tt, λ t i. others (after_anchor p) t _ refl refl refl refl refl refl (λ u h w. refl))
+leaving_rows (after_tag p) = (λ t i. tt, λ t i. others (after_tag p) t _ refl refl refl refl refl refl (λ u h w. refl))
+leaving_rows (content in_flow) = (λ t i. tt, (λ t i. tt, (λ t i. tt, λ t i. others (content in_flow) t _ refl refl refl refl refl refl (λ u h w. refl))))
+leaving_rows (content in_block) = (λ t i. tt, (λ t i. tt, (λ t i. tt, (λ t i. tt, (λ t i. tt, λ t i. others (content in_block) t _ refl refl refl refl refl refl (λ u h w. refl))))))
+leaving_rows (content (in_pair key)) = (λ t i. tt, (λ t i. tt, (λ t i. tt, (λ t i. tt, (λ t i. tt, (λ t i. tt, λ t i. others (content (in_pair key)) t _ refl refl refl refl refl refl (λ u h w. refl)))))))
+leaving_rows (content (in_pair value)) = (λ t i. tt, (λ t i. tt, (λ t i. tt, (λ t i. tt, (λ t i. tt, (λ t i. tt, λ t i. others (content (in_pair value)) t _ refl refl refl refl refl refl (λ u h w. refl)))))))
 leaving_rows block_sequence_entries = (λ t i. tt, (λ t i. tt, tt))
-leaving_rows (indentless_sequence_entries s) = (λ t i. tt, λ t i. inl (λ u e. (dashes_enders s u e, λ h w. same_end s t u h w)))
+leaving_rows (indentless_sequence_entries key) = (λ t i. tt, λ t i. others (indentless_sequence_entries key) t _ refl refl refl refl refl refl (λ u h w. refl))
+leaving_rows (indentless_sequence_entries value) = (λ t i. tt, λ t i. others (indentless_sequence_entries value) t _ refl refl refl refl refl refl (λ u h w. refl))
 leaving_rows block_mapping_entries = (λ t i. tt, (λ t i. tt, (λ t i. tt, tt)))
-leaving_rows block_mapping_value = (λ t i. tt, λ t i. inl (λ u e. (value_enders u e, λ h w. refl)))
-leaving_rows flow_sequence_entries = (λ t i. inr (λ n h w es l e. goes_from in_flow t _ (flow_node_taken t i) n nothing_held es l e), (λ t i. tt, (λ t i. tt, tt)))
+leaving_rows block_mapping_value = (λ t i. tt, λ t i. others block_mapping_value t _ refl refl refl refl refl refl (λ u h w. refl))
+leaving_rows flow_sequence_entries = (λ t i. inr (λ n h w es l e. goes_from in_flow t _ (flow_node_taken in_flow t i) n nothing_held es l e), (λ t i. tt, (λ t i. tt, tt)))
 leaving_rows flow_sequence_comma = (λ t i. tt, (λ t i. tt, tt))
-leaving_rows flow_mapping_entries = (λ t i. inr (λ n h w es l e. goes_from in_flow t _ (flow_node_taken t i) n nothing_held es l e), (λ t i. tt, (λ t i. tt, (λ t i. tt, tt))))
+leaving_rows flow_mapping_entries = (λ t i. inr (λ n h w es l e. goes_from in_flow t _ (flow_node_taken in_flow t i) n nothing_held es l e), (λ t i. tt, (λ t i. tt, (λ t i. tt, tt))))
 leaving_rows flow_mapping_comma = (λ t i. tt, (λ t i. tt, tt))
-leaving_rows flow_value = (λ t i. tt, λ t i. inl (λ u e. (flow_value_enders u e, λ h w. refl)))
+leaving_rows flow_value = (λ t i. tt, λ t i. others flow_value t _ refl refl refl refl refl refl (λ u h w. refl))
 
 pub leaving : (g : Goal) (t : Tok) (r : Row Goal Raw) → row_of (cases g) t ≡ Some r → LeavingRow grammar weight ends_goal g t r
 leaving g t r p = row_holds (λ t r. LeavingRow grammar weight ends_goal g t r) (λ t. false) (cases g) (leaving_rows g) t refl r p
@@ -244,11 +173,5 @@ ended g h t p = by (refusing g)
     by (inl b) = absurd (never_refuses (cases g) t b p)
     by (inr f) = f h
 
-mended : IsMended grammar weight is_bottom ends_goal
+pub mended : IsMended grammar weight is_bottom ends_goal
 mended = record { falls = grammar_falls; completes = grammar_completes; bottoms = bottoms; leaving = leaving; ended = ended }
-
-pub grammar_keeps : AllKeep grammar weight (IsInStep is_bottom)
-grammar_keeps = all_keep grammar weight is_bottom ends_goal mended
-
-pub starts_in_step : IsInStep is_bottom whole_stream
-starts_in_step = inl (last_goal [] stream nothing_held refl)

@@ -1,115 +1,75 @@
--- The positions that events have: tokens and events of `[1, &a ]` and others, with those positions that are promised and others.
-use Rattle.std.specs.Prelude.{◌≡◌, ℕ, false, List, [], ◌∷◌, ◌++◌, Some, None, codes, refl}
-use Rattle.std.proofs.Common.{ap, arith}
+-- The positions that events have, and those that the tokens of a stream give.
+use Rattle.std.specs.Prelude.{◌≡◌, ℕ, false, List, [], ◌∷◌, ◌++◌, Some, None, map, codes, refl}
 use Rattle.defs_text.specs.Position.{Position}
 use Rattle.defs_token.specs.Token.{Style, Tok, Token}
 use Rattle.defs_event.specs.Event.{Ev}
 use Rattle.defs_event.specs.Raw.{Raw, nothing_written}
-use Rattle.proof_grammar.proofs.Streams.{says_by}
 use Rattle.defs_event.specs.Stream.{IsPlacedStream, BeginsPlaced, given_positions, taken_positions}
-use Rattle.defs_event.proofs.Texts.{plain_event}
+use Rattle.defs_event.proofs.Texts.{plain_raw, plain_event}
+use Rattle.proof_grammar.proofs.Streams.{says_by}
 
 -- in the first line
 abbrev col : ℕ → Position
 col n = record { index = n; line = 1; col = n }
 
+abbrev cols : List ℕ → List Position
+cols ns = map col ns
+
 abbrev token_at : ℕ → Tok → Token
 token_at n t = record { position = col n; tok = t }
 
-abbrev raws : List Raw
-raws = Raw.stream_start ∷ Raw.document_start [] ∷ Raw.flow_sequence_start None None ∷ Raw.scalar (codes "1") Style.plain None None ∷ Raw.empty_scalar (Some (codes "a")) None ∷ Raw.flow_sequence_end
-    ∷ Raw.document_end ∷ Raw.stream_end ∷ []
+abbrev word : List ℕ → Tok
+word text = Tok.scalar Style.plain text
 
-abbrev tokens : List Token
-tokens = token_at 0 Tok.stream_start ∷ token_at 0 Tok.flow_sequence_start ∷ token_at 1 (Tok.scalar Style.plain (codes "1")) ∷ token_at 2 Tok.flow_entry
-    ∷ token_at 4 (Tok.anchor (codes "a")) ∷ token_at 7 Tok.flow_sequence_end ∷ token_at 8 Tok.stream_end ∷ []
+-- ---- a stream: `[1, &a ]`
 
--- The empty scalar has any position, as have starts and ends of documents.
-placed : IsPlacedStream false tokens
-    ((Ev.stream_start, col 0) ∷ (Ev.document_start, col 9) ∷ (Ev.sequence_start 0 None, col 0) ∷ (plain_event (codes "1"), col 1)
-    ∷ (Ev.scalar [] Style.plain 1 None, col 5) ∷ (Ev.sequence_end, col 7) ∷ (Ev.document_end, col 8) ∷ (Ev.stream_end, col 8) ∷ [])
-placed = record { raws = raws; says = says_by refl; has_events = refl; has_positions = refl }
+abbrev first_tokens : List Token
+first_tokens = token_at 0 Tok.stream_start ∷ token_at 0 Tok.flow_sequence_start ∷ []
 
--- a beginning of it
-begun : BeginsPlaced false (token_at 0 Tok.stream_start ∷ token_at 0 Tok.flow_sequence_start ∷ [])
-    ((Ev.stream_start, col 0) ∷ (Ev.document_start, col 9) ∷ (Ev.sequence_start 0 None, col 0) ∷ [])
-begun = record {
-  more_tokens = token_at 1 (Tok.scalar Style.plain (codes "1")) ∷ token_at 2 Tok.flow_entry ∷ token_at 4 (Tok.anchor (codes "a"))
-      ∷ token_at 7 Tok.flow_sequence_end ∷ token_at 8 Tok.stream_end ∷ [];
-  more_events = (plain_event (codes "1"), col 1) ∷ (Ev.scalar [] Style.plain 1 None, col 5) ∷ (Ev.sequence_end, col 7) ∷ (Ev.document_end, col 8) ∷ (Ev.stream_end, col 8) ∷ [];
-  stream = placed;
+abbrev later_tokens : List Token
+later_tokens = token_at 1 (word (codes "1")) ∷ token_at 2 Tok.flow_entry ∷ token_at 4 (Tok.anchor (codes "a")) ∷ token_at 7 Tok.flow_sequence_end ∷ token_at 8 Tok.stream_end ∷ []
+
+-- starts and ends of documents have any position
+abbrev first_events : List (Ev × Position)
+first_events = (Ev.stream_start, col 0) ∷ (Ev.document_start, col 9) ∷ (Ev.sequence_start 0 None, col 0) ∷ []
+
+-- so has the empty scalar
+abbrev later_events : List (Ev × Position)
+later_events = (plain_event (codes "1"), col 1) ∷ (Ev.scalar [] Style.plain 1 None, col 5) ∷ (Ev.sequence_end, col 7) ∷ (Ev.document_end, col 8) ∷ (Ev.stream_end, col 8) ∷ []
+
+placed : IsPlacedStream false (first_tokens ++ later_tokens) (first_events ++ later_events)
+placed = record {
+  raws = Raw.stream_start ∷ Raw.document_start [] ∷ Raw.flow_sequence_start None None ∷ plain_raw (codes "1") ∷ Raw.empty_scalar (Some (codes "a")) None ∷ Raw.flow_sequence_end
+      ∷ Raw.document_end ∷ Raw.stream_end ∷ [];
+  says = says_by refl;
+  has_events = refl;
+  has_positions = refl;
 }
 
-abbrev first_col : List Position → ℕ
-first_col [] = 0
-first_col (p ∷ ps) = p.col
+begun : BeginsPlaced false first_tokens first_events
+begun = record { more_tokens = later_tokens; more_events = later_events; stream = placed }
 
-abbrev second_col : List Position → ℕ
-second_col [] = 0
-second_col (p ∷ ps) = first_col ps
+-- ---- the positions that tokens give
 
-abbrev later : List Position → List Position
-later [] = []
-later (p ∷ ps) = ps
+-- `[*a, ? b, {? c : d}, ]`: an alias, and both brackets of a flow sequence; a key there is the start of a single pair, in a mapping it is not
+given_in_a_sequence : given_positions
+    (token_at 0 Tok.stream_start ∷ token_at 1 Tok.flow_sequence_start ∷ token_at 2 (Tok.alias (codes "a")) ∷ token_at 4 Tok.flow_entry ∷ token_at 6 Tok.key ∷ token_at 8 (word (codes "b")) ∷ token_at 9 Tok.flow_entry
+    ∷ token_at 11 Tok.flow_mapping_start ∷ token_at 12 Tok.key ∷ token_at 14 (word (codes "c")) ∷ token_at 16 Tok.value ∷ token_at 18 (word (codes "d")) ∷ token_at 19 Tok.flow_mapping_end ∷ token_at 20 Tok.flow_entry
+    ∷ token_at 22 Tok.flow_sequence_end ∷ token_at 23 Tok.stream_end ∷ []) ≡ cols (1 ∷ 2 ∷ 6 ∷ 8 ∷ 11 ∷ 14 ∷ 18 ∷ 19 ∷ 22 ∷ [])
+given_in_a_sequence = refl
 
-abbrev third_col : List Position → ℕ
-third_col ps = second_col (later ps)
+-- `{a, }`: with a comma right before its bracket, the end of a flow mapping has the comma's position
+given_at_a_comma : given_positions (token_at 0 Tok.flow_mapping_start ∷ token_at 1 (word (codes "a")) ∷ token_at 2 Tok.flow_entry ∷ token_at 4 Tok.flow_mapping_end ∷ []) ≡ cols (0 ∷ 1 ∷ 2 ∷ [])
+given_at_a_comma = refl
 
--- A scalar elsewhere than its token is refused.
-misplaced_scalar : taken_positions raws (col 0 ∷ col 9 ∷ col 0 ∷ col 2 ∷ col 5 ∷ col 7 ∷ col 8 ∷ col 8 ∷ []) ≡ given_positions tokens → ⊥
-misplaced_scalar h = let e : 2 ≡ 1 = ap second_col h in omega (arith, e)
+-- tokens outside flow give none
+none_given : given_positions
+    (token_at 0 Tok.block_mapping_start ∷ token_at 1 Tok.key ∷ token_at 2 (Tok.anchor (codes "a")) ∷ token_at 3 Tok.value ∷ token_at 4 Tok.block_sequence_start ∷ token_at 5 Tok.block_entry ∷ token_at 6 Tok.block_end ∷ []) ≡ []
+none_given = refl
 
--- So is the start of a flow collection.
-misplaced_start : taken_positions raws (col 0 ∷ col 0 ∷ col 9 ∷ col 1 ∷ col 5 ∷ col 7 ∷ col 8 ∷ col 8 ∷ []) ≡ given_positions tokens → ⊥
-misplaced_start h = let e : 9 ≡ 0 = ap first_col h in omega (arith, e)
+-- ---- the events that have them
 
--- So is its end.
-misplaced_end : taken_positions raws (col 0 ∷ col 9 ∷ col 0 ∷ col 1 ∷ col 5 ∷ col 8 ∷ col 8 ∷ col 8 ∷ []) ≡ given_positions tokens → ⊥
-misplaced_end h = let e : 8 ≡ 7 = ap third_col h in omega (arith, e)
-
--- An alias has its token's position, an end of a block collection has any.
-of_an_alias : taken_positions (Raw.sequence_end ∷ Raw.alias (codes "a") ∷ Raw.mapping_start None None ∷ []) (col 3 ∷ col 4 ∷ col 5 ∷ []) ≡ given_positions (token_at 4 (Tok.alias (codes "a")) ∷ token_at 6 Tok.key ∷ [])
-of_an_alias = refl
-
--- ---- a mapping and a pair: `{a: b}`, `{a: b, }`, `[? a]` and `{? a}`
-
-abbrev word : List ℕ → Raw
-word text = Raw.scalar text Style.plain None None
-
--- the tokens before its end
-abbrev pair_tokens : List Token
-pair_tokens = token_at 0 Tok.flow_mapping_start ∷ token_at 1 Tok.key ∷ token_at 1 (Tok.scalar Style.plain (codes "a")) ∷ token_at 2 Tok.value ∷ token_at 4 (Tok.scalar Style.plain (codes "b")) ∷ []
-
-abbrev pair_events : List Raw
-pair_events = Raw.flow_mapping_start None None ∷ word (codes "a") ∷ word (codes "b") ∷ Raw.flow_mapping_end ∷ []
-
--- The end of a flow mapping has its bracket's position.
-at_its_bracket : taken_positions pair_events (col 0 ∷ col 1 ∷ col 4 ∷ col 5 ∷ []) ≡ given_positions (pair_tokens ++ token_at 5 Tok.flow_mapping_end ∷ [])
-at_its_bracket = refl
-
--- With a comma right before the bracket, it has the comma's,
-at_a_comma : taken_positions pair_events (col 0 ∷ col 1 ∷ col 4 ∷ col 5 ∷ []) ≡ given_positions (pair_tokens ++ token_at 5 Tok.flow_entry ∷ token_at 7 Tok.flow_mapping_end ∷ [])
-at_a_comma = refl
-
--- and not its bracket's.
-past_a_comma : taken_positions pair_events (col 0 ∷ col 1 ∷ col 4 ∷ col 7 ∷ []) ≡ given_positions (pair_tokens ++ token_at 5 Tok.flow_entry ∷ token_at 7 Tok.flow_mapping_end ∷ []) → ⊥
-past_a_comma h = let e : 7 ≡ 5 = ap (λ ps. third_col (later ps)) h in omega (arith, e)
-
--- The end of a flow sequence has its bracket's, also after a comma.
-after_a_comma : taken_positions (Raw.flow_sequence_start None None ∷ word (codes "a") ∷ Raw.flow_sequence_end ∷ []) (col 0 ∷ col 1 ∷ col 4 ∷ []) ≡
-    given_positions (token_at 0 Tok.flow_sequence_start ∷ token_at 1 (Tok.scalar Style.plain (codes "a")) ∷ token_at 2 Tok.flow_entry ∷ token_at 4 Tok.flow_sequence_end ∷ [])
-after_a_comma = refl
-
--- A single pair in a flow sequence starts at its key's token; the mapping's end and what is not written have any position.
-of_a_pair : taken_positions (Raw.flow_sequence_start None None ∷ Raw.pair_start ∷ word (codes "a") ∷ nothing_written ∷ Raw.mapping_end ∷ Raw.flow_sequence_end ∷ []) (col 0 ∷ col 1 ∷ col 3 ∷ col 8 ∷ col 9 ∷ col 4 ∷ []) ≡
-    given_positions (token_at 0 Tok.flow_sequence_start ∷ token_at 1 Tok.key ∷ token_at 3 (Tok.scalar Style.plain (codes "a")) ∷ token_at 4 Tok.flow_sequence_end ∷ [])
-of_a_pair = refl
-
-misplaced_pair : taken_positions (Raw.flow_sequence_start None None ∷ Raw.pair_start ∷ word (codes "a") ∷ nothing_written ∷ Raw.mapping_end ∷ Raw.flow_sequence_end ∷ []) (col 0 ∷ col 3 ∷ col 3 ∷ col 8 ∷ col 9 ∷ col 4 ∷ []) ≡
-    given_positions (token_at 0 Tok.flow_sequence_start ∷ token_at 1 Tok.key ∷ token_at 3 (Tok.scalar Style.plain (codes "a")) ∷ token_at 4 Tok.flow_sequence_end ∷ []) → ⊥
-misplaced_pair h = let e : 3 ≡ 1 = ap second_col h in omega (arith, e)
-
--- A key in a flow mapping gives no event of its own.
-of_a_key : taken_positions (Raw.flow_mapping_start None None ∷ word (codes "a") ∷ nothing_written ∷ Raw.flow_mapping_end ∷ []) (col 0 ∷ col 3 ∷ col 8 ∷ col 4 ∷ []) ≡
-    given_positions (token_at 0 Tok.flow_mapping_start ∷ token_at 1 Tok.key ∷ token_at 3 (Tok.scalar Style.plain (codes "a")) ∷ token_at 4 Tok.flow_mapping_end ∷ [])
-of_a_key = refl
+taken : taken_positions
+    (Raw.flow_sequence_start None None ∷ Raw.alias (codes "a") ∷ Raw.pair_start ∷ plain_raw (codes "b") ∷ nothing_written ∷ Raw.mapping_end ∷ Raw.flow_mapping_start None None ∷ Raw.flow_mapping_end ∷ Raw.flow_sequence_end
+    ∷ Raw.sequence_start None None ∷ Raw.sequence_end ∷ Raw.mapping_start None None ∷ Raw.document_end ∷ []) (cols (0 ∷ 1 ∷ 2 ∷ 3 ∷ 4 ∷ 5 ∷ 6 ∷ 7 ∷ 8 ∷ 9 ∷ 10 ∷ 11 ∷ 12 ∷ [])) ≡ cols (0 ∷ 1 ∷ 2 ∷ 3 ∷ 6 ∷ 7 ∷ 8 ∷ [])
+taken = refl

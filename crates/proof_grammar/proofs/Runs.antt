@@ -1,104 +1,169 @@
--- A machine's run, over any table whose rows fall and whose goals complete.
-use Rattle.std.proofs.Common.{◌≡◌, ℕ, ◌<◌, suc, List, [], ◌∷◌, ◌++◌, refl, sym, ap, subst, ◌∙◌, append_assoc, arith}
-use Rattle.defs_event.specs.Table.{Table, Work, reading, saying, Derives, nothing_left, says}
-use Rattle.defs_grammar.specs.Machine.{work_weight, Turned, goes, refused, step, Outcome, reads, unfinished, stops, after_events, finish, go_on, run}
-use Rattle.proof_grammar.specs.Outcome.{Begins, StopsRight, IsRight}
-use Rattle.proof_grammar.proofs.Steps.{Sound, step_sound, Falls, Follows, step_follows}
+-- What a machine tells of tokens is right, over any table: it is a parser that stays on track.
+use Rattle.std.proofs.Common.{◌≡◌, ◌⊎◌, inl, inr, ℕ, zero, suc, ◌<◌, Bool, true, false, List, [], ◌∷◌, ◌++◌, Option, Some, None, refl, sym, ap, subst, arith, append_assoc, append-nil}
+use Rattle.defs_event.specs.Table.{Part, Row, takes, leaves, Table, row_of, Work, reading, saying, part_work, before, Derives, nothing_left, says}
+use Rattle.defs_grammar.specs.Machine.{work_weight, Turned, goes, refused, and_before, by_row, step, Outcome, reads, unfinished, stops, after_events, finish, go_on, run}
+use Rattle.proof_grammar.specs.Outcome.{Begins, NeverGoesOn, IsRight}
+use Rattle.proof_grammar.specs.Track.{IsOnTrack}
+use Rattle.proof_grammar.proofs.Steps.{Falls, parts_weigh}
 use Rattle.proof_grammar.proofs.Completions.{Completes, all_complete}
+use Rattle.proof_grammar.proofs.CameBy.{said_by}
+use Rattle.proof_grammar.proofs.Track.{LeavingRow, EndsGoal, starts, look, give, take, leave, refuse}
 
--- ---- what the table reads, the machine reads
+-- ---- work that is not at its end, and work that is
 
-finished : {G T E H : Type 0} (a : Table G T E H) (w : List (Work G E H)) (es : List E) → Derives a w [] es → finish {T = T} w ≡ reads es
-finished a [] _ nothing_left = refl
-finished a (saying e ∷ w) _ (says {es = es} d) = ap (λ o. after_events (e ∷ []) o) (finished a w es d)
-finished a (reading g h ∷ w) es d = elim d [ ]
+-- The last of it is a goal of the bottom.
+abbrev pub is_open : {G E H : Type 0} → (bottom : G → Bool) → List (Work G E H) → Bool
+is_open bottom [] = false
+is_open bottom (saying e ∷ w) = is_open bottom w
+is_open bottom (reading g h ∷ []) = bottom g
+is_open bottom (reading g h ∷ (x ∷ w)) = is_open bottom (x ∷ w)
 
-read_on : {G T E H : Type 0} (a : Table G T E H) (t : T) (ts : List T) (fs : List E) (again : List (Work G E H) → Outcome T E) (o : Turned G E H)
-    → Follows a o ts fs → ((v : List (Work G E H)) (gs : List E) → Derives a v ts gs → again v ≡ reads gs) → go_on t ts again o ≡ reads fs
-read_on a t ts fs again (goes es v) x i = ap (λ r. after_events es r) (i v x.0 x.2) ∙ ap (λ l. reads l) (sym x.1)
-read_on a t ts fs again (refused es) x i = absurd x
+-- There are events alone.
+abbrev pub is_shut : {G E H : Type 0} → List (Work G E H) → Bool
+is_shut [] = true
+is_shut (saying e ∷ w) = is_shut w
+is_shut (reading g h ∷ w) = false
 
-pub derived_is_read : {G T E H : Type 0} (a : Table G T E H) (m : G → ℕ) → Falls a m → (w : List (Work G E H)) (ts : List T) (es : List E) → Derives a w ts es → run a m w ts ≡ reads es
-derived_is_read a m f w [] es d = finished a w es d
-derived_is_read a m f w (t ∷ ts) es d =
+abbrev pub IsInStep : {G E H : Type 0} → (bottom : G → Bool) → List (Work G E H) → Type 0
+IsInStep bottom w = (is_open bottom w ≡ true) ⊎ (is_shut w ≡ true)
+
+-- The rows of a bottom goal leave a bottom goal last, or take the last token.
+abbrev pub BottomRow : {G T E H : Type 0} → Table G T E H → (bottom : G → Bool) → T → Row G E → Type 0
+BottomRow {H = H} a bottom t (takes ps) = (h : H) → IsInStep bottom (before a h t ps [])
+BottomRow {H = H} a bottom t (leaves ps) = (h : H) → is_open bottom (before a h t ps []) ≡ true
+
+-- what is asked of a table
+pub record IsMended {G T E H : Type 0} (a : Table G T E H) (m : G → ℕ) (bottom : G → Bool) (ends : T → Bool) : Type 0 where
+  pub falls : Falls a m
+  pub completes : Completes a
+  pub bottoms : (g : G) (t : T) (r : Row G E) → bottom g ≡ true → row_of (a.cases g) t ≡ Some r → BottomRow a bottom t r
+  pub leaving : (g : G) (t : T) (r : Row G E) → row_of (a.cases g) t ≡ Some r → LeavingRow a m ends g t r
+  pub ended : (g : G) (h : H) (t : T) → row_of (a.cases g) t ≡ None → EndsGoal a ends g h
+
+open_after : {G E H : Type 0} (bottom : G → Bool) (x : Work G E H) (w : List (Work G E H)) → is_open bottom w ≡ true → is_open bottom (x ∷ w) ≡ true
+open_after bottom (saying e) w o = o
+open_after bottom (reading g h) [] o = cc
+open_after bottom (reading g h) (x ∷ w) o = o
+
+open_before : {G T E H : Type 0} (a : Table G T E H) (bottom : G → Bool) (h : H) (t : T) (ps : List (Part G E)) (w : List (Work G E H)) → is_open bottom w ≡ true → is_open bottom (before a h t ps w) ≡ true
+open_before a bottom h t [] w o = o
+open_before a bottom h t (p ∷ ps) w o = open_after bottom (part_work a h t p) (before a h t ps w) (open_before a bottom h t ps w o)
+
+-- a row's parts in the place of an open goal
+takes_in_step : {G T E H : Type 0} (a : Table G T E H) (bottom : G → Bool) (g : G) (h : H) (t : T) (ps : List (Part G E)) (w : List (Work G E H))
+    → (bottom g ≡ true → BottomRow a bottom t (takes ps)) → is_open bottom (reading g h ∷ w) ≡ true → IsInStep bottom (before a h t ps w)
+takes_in_step a bottom g h t ps [] r o = r o h
+takes_in_step a bottom g h t ps (x ∷ w) r o = inl (open_before a bottom h t ps (x ∷ w) o)
+
+leaves_open : {G T E H : Type 0} (a : Table G T E H) (bottom : G → Bool) (g : G) (h : H) (t : T) (ps : List (Part G E)) (w : List (Work G E H))
+    → (bottom g ≡ true → BottomRow a bottom t (leaves ps)) → is_open bottom (reading g h ∷ w) ≡ true → is_open bottom (before a h t ps w) ≡ true
+leaves_open a bottom g h t ps [] r o = r o h
+leaves_open a bottom g h t ps (x ∷ w) r o = open_before a bottom h t ps (x ∷ w) o
+
+-- ---- a turn of open work
+
+-- It goes on, on track and in step; or the token is refused by right.
+abbrev TurnsRight : {G T E H : Type 0} → Table G T E H → (bottom : G → Bool) → (ends : T → Bool) → (start : List (Work G E H)) → (taken : List T) → T → (given : List E) → Turned G E H → Type 0
+TurnsRight a bottom ends start taken t given (goes es v) = IsOnTrack a ends start v (taken ++ t ∷ []) None (given ++ es) × IsInStep bottom v
+TurnsRight a bottom ends start taken t given (refused es) = Begins a start taken (given ++ es) × NeverGoesOn a start taken t
+
+turn_saying : {G T E H : Type 0} (a : Table G T E H) (bottom : G → Bool) (ends : T → Bool) (start : List (Work G E H)) (taken : List T) (t : T) (given : List E) (e : E) (o : Turned G E H)
+    → TurnsRight a bottom ends start taken t (given ++ e ∷ []) o → TurnsRight a bottom ends start taken t given (and_before e o)
+turn_saying a bottom ends start taken t given e (goes es v) x = (subst (λ l. IsOnTrack a ends start v (taken ++ t ∷ []) None l) (append_assoc given (e ∷ []) es) x.0, x.1)
+turn_saying a bottom ends start taken t given e (refused es) x = (subst (λ l. Begins a start taken l) (append_assoc given (e ∷ []) es) x.0, x.1)
+
+turn_row : {G T E H : Type 0} (a : Table G T E H) (m : G → ℕ) (bottom : G → Bool) (ends : T → Bool) → IsMended a m bottom ends → (start : List (Work G E H)) (g : G) (h : H) (w : List (Work G E H)) (taken : List T) (t : T)
+    (given : List E) (n : ℕ) (r : Option (Row G E)) → row_of (a.cases g) t ≡ r → work_weight m (reading g h ∷ w) < suc n → is_open bottom (reading g h ∷ w) ≡ true
+    → IsOnTrack a ends start (reading g h ∷ w) taken (Some t) given
+    → ((v : List (Work G E H)) → work_weight m v < n → is_open bottom v ≡ true → IsOnTrack a ends start v taken (Some t) given → TurnsRight a bottom ends start taken t given (step a n v t))
+    → TurnsRight a bottom ends start taken t given (by_row a h t w (λ v. step a n v t) r)
+turn_row a m bottom ends c start g h w taken t given n (Some (takes ps)) p k o x i = (
+  subst (λ l. IsOnTrack a ends start (before a h t ps w) (taken ++ t ∷ []) None l) (sym (append-nil given)) (take a ends start g h w taken t given ps p x),
+  takes_in_step a bottom g h t ps w (λ b. c.bottoms g t (takes ps) b p) o,
+)
+turn_row a m bottom ends c start g h w taken t given n (Some (leaves ps)) p k o x i =
+    let l = c.falls g t ps p in
+    let j = parts_weigh a m h t ps w in
+    i (before a h t ps w) (omega (arith, k, l, j)) (leaves_open a bottom g h t ps w (λ b. c.bottoms g t (leaves ps) b p) o)
+    (leave a m ends c.completes start g h w taken t given ps p (c.leaving g t (leaves ps) p) x)
+turn_row a m bottom ends c start g h w taken t given n None p k o x i =
+    let y = refuse a ends c.completes start g h w taken t given p (c.ended g h t p) x in
+    (subst (λ l. Begins a start taken l) (sym (append-nil given)) y.0, y.1)
+
+open_turn : {G T E H : Type 0} (a : Table G T E H) (m : G → ℕ) (bottom : G → Bool) (ends : T → Bool) → IsMended a m bottom ends → (start : List (Work G E H)) (n : ℕ) (w : List (Work G E H)) (taken : List T) (t : T)
+    (given : List E) → work_weight m w < n → is_open bottom w ≡ true → IsOnTrack a ends start w taken (Some t) given → TurnsRight a bottom ends start taken t given (step a n w t)
+open_turn a m bottom ends c start zero w taken t given k o x = absurd (omega (arith, k))
+open_turn a m bottom ends c start (suc n) [] taken t given k o x = cc
+open_turn a m bottom ends c start (suc n) (saying e ∷ w) taken t given k o x =
+    turn_saying a bottom ends start taken t given e (step a n w t)
+    (open_turn a m bottom ends c start n w taken t (given ++ e ∷ []) (omega (arith, k)) o (give a ends start e w taken (Some t) given x))
+open_turn a m bottom ends c start (suc n) (reading g h ∷ w) taken t given k o x =
+    turn_row a m bottom ends c start g h w taken t given n (row_of (a.cases g) t) refl k o x (λ v l q y. open_turn a m bottom ends c start n v taken t given l q y)
+
+-- ---- a turn at the end
+
+-- What is left is said, and the token is refused.
+shut_turn : {G T E H : Type 0} (a : Table G T E H) (m : G → ℕ) (n : ℕ) (w : List (Work G E H)) (t : T) → work_weight m w < n → is_shut w ≡ true
+    → (es : List E) × (step a n w t ≡ refused es) × Derives a w [] es × ((us : List T) (fs : List E) → Derives a w (t ∷ us) fs → ⊥)
+shut_turn a m zero w t k s = absurd (omega (arith, k))
+shut_turn a m (suc n) [] t k s = ([], refl, nothing_left, λ us fs d. elim d [ ])
+shut_turn a m (suc n) (saying e ∷ w) t k s =
+    let x = shut_turn a m n w t (omega (arith, k)) s in
+    (e ∷ x.0, ap (λ o. and_before e o) x.1, says x.2, λ us fs d. let y = said_by a e w (t ∷ us) fs d in x.3 us y.0 y.2)
+shut_turn a m (suc n) (reading g h ∷ w) t k s = cc
+
+turns : {G T E H : Type 0} (a : Table G T E H) (m : G → ℕ) (bottom : G → Bool) (ends : T → Bool) → IsMended a m bottom ends → (start : List (Work G E H)) (n : ℕ) (w : List (Work G E H)) (taken : List T) (t : T)
+    (given : List E) → work_weight m w < n → IsInStep bottom w → IsOnTrack a ends start w taken None given → TurnsRight a bottom ends start taken t given (step a n w t)
+turns a m bottom ends c start n w taken t given k (inl o) x = open_turn a m bottom ends c start n w taken t given k o (look a ends start w taken t given x)
+turns a m bottom ends c start n w taken t given k (inr s) x =
+    let y = shut_turn a m n w t k s in
+    let b : Derives a start (taken ++ []) ((given ++ y.0) ++ []) = rw (append-nil (given ++ y.0)) (x.sound [] y.0 tt y.2) in
+    subst (λ o. TurnsRight a bottom ends start taken t given o) (sym y.1)
+    (([], [], b), λ us fs d. let z = x.exact (t ∷ us) fs tt d in y.3 us z.0 z.2)
+
+-- ---- all tokens
+
+-- the events that were given before those of the outcome
+events_along : {T E : Type 0} (given es : List E) (o : Outcome T E) → after_events (given ++ es) o ≡ after_events given (after_events es o)
+events_along given es (reads fs) = ap (λ l. reads l) (append_assoc given es fs)
+events_along given es (unfinished fs) = ap (λ l. unfinished l) (append_assoc given es fs)
+events_along given es (stops fs ts) = ap (λ l. stops l ts) (append_assoc given es fs)
+
+-- what the machine tells from here is right of all tokens
+abbrev RightFrom : {G T E H : Type 0} → Table G T E H → (start : List (Work G E H)) → (taken : List T) → (given : List E) → (ts : List T) → Outcome T E → Type 0
+RightFrom a start taken given ts o = IsRight a start (taken ++ ts) (after_events given o)
+
+right_end : {G T E H : Type 0} (a : Table G T E H) (ends : T → Bool) → Completes a → (start w : List (Work G E H)) (taken : List T) (given : List E) → IsOnTrack a ends start w taken None given
+    → RightFrom a start taken given [] (finish w)
+right_end a ends c start [] taken given x = x.sound [] [] tt nothing_left
+right_end a ends c start (saying e ∷ w) taken given x =
+    subst (λ o. IsRight a start (taken ++ []) o) (events_along given (e ∷ []) (finish w)) (right_end a ends c start w taken (given ++ e ∷ []) (give a ends start e w taken None given x))
+right_end a ends c start (reading g h ∷ w) taken given x =
+    let k = all_complete a c (reading g h ∷ w) in
+    let b : Derives a start ((taken ++ []) ++ k.0) ((given ++ []) ++ k.1) = rw (append-nil taken, append-nil given) (x.sound k.0 k.1 tt k.2) in
+    ((k.0, k.1, b), λ fs d. let y = x.exact [] fs tt d in elim y.2 [ ])
+
+right_on : {G T E H : Type 0} (a : Table G T E H) (bottom : G → Bool) (ends : T → Bool) (start : List (Work G E H)) (taken : List T) (given : List E) (t : T) (ts : List T) (again : List (Work G E H) → Outcome T E) (o : Turned G E H)
+    → TurnsRight a bottom ends start taken t given o
+    → ((v : List (Work G E H)) (given : List E) → IsInStep bottom v → IsOnTrack a ends start v (taken ++ t ∷ []) None given → RightFrom a start (taken ++ t ∷ []) given ts (again v))
+    → RightFrom a start taken given (t ∷ ts) (go_on t ts again o)
+right_on a bottom ends start taken given t ts again (goes es v) x i =
+    subst (λ l. IsRight a start l (after_events given (after_events es (again v)))) (append_assoc taken (t ∷ []) ts)
+    (subst (λ o. IsRight a start ((taken ++ t ∷ []) ++ ts) o) (events_along given es (again v)) (i v (given ++ es) x.1 x.0))
+right_on a bottom ends start taken given t ts again (refused es) x i = record { seen = taken; bad = t; after = ts; is_unread = refl; are_all = refl; begins = x.0; never = x.1 }
+
+right_from : {G T E H : Type 0} (a : Table G T E H) (m : G → ℕ) (bottom : G → Bool) (ends : T → Bool) → IsMended a m bottom ends → (start w : List (Work G E H)) (taken : List T) (given : List E) (ts : List T)
+    → IsInStep bottom w → IsOnTrack a ends start w taken None given → RightFrom a start taken given ts (run a m w ts)
+right_from a m bottom ends c start w taken given [] s x = right_end a ends c.completes start w taken given x
+right_from a m bottom ends c start w taken given (t ∷ ts) s x =
     let n = suc (work_weight m w) in
-    read_on a t ts es (λ v. run a m v ts) (step a n w t) (step_follows a m f n w t ts es (omega arith) d) (λ v gs c. derived_is_read a m f v ts gs c)
+    right_on a bottom ends start taken given t ts (λ v. run a m v ts) (step a n w t) (turns a m bottom ends c start n w taken t given (omega arith) s x)
+    (λ v es q y. right_from a m bottom ends c start v (taken ++ t ∷ []) es ts q y)
 
--- ---- what an outcome says is so
+no_events : {T E : Type 0} (o : Outcome T E) → after_events [] o ≡ o
+no_events (reads es) = refl
+no_events (unfinished es) = refl
+no_events (stops es ts) = refl
 
--- A turn keeps the invariant; or the work begins with the events that were said.
-abbrev pub Keeps : {G T E H : Type 0} → Table G T E H → (List (Work G E H) → Type 0) → List (Work G E H) → Turned G E H → Type 0
-Keeps a I w (goes es v) = I v
-Keeps a I w (refused es) = Begins a w [] es
-
-abbrev pub AllKeep : {G T E H : Type 0} → Table G T E H → (G → ℕ) → (List (Work G E H) → Type 0) → Type 0
-AllKeep {G = G} {T = T} {E = E} {H = H} a m I = (n : ℕ) (w : List (Work G E H)) (t : T) → work_weight m w < n → I w → Keeps a I w (step a n w t)
-
--- but that unfinished tokens may be read too
-abbrev Tells : {G T E H : Type 0} → Table G T E H → List (Work G E H) → List T → Outcome T E → Type 0
-Tells a w ts (reads es) = Derives a w ts es
-Tells a w ts (unfinished es) = Begins a w ts es
-Tells a w ts (stops es unread) = StopsRight a w ts es unread
-
--- a turn as it should be: what follows it is read, all that is read follows it, and it keeps the invariant
-abbrev Turns : {G T E H : Type 0} → Table G T E H → (List (Work G E H) → Type 0) → List (Work G E H) → T → Turned G E H → Type 0
-Turns {T = T} {E = E} a I w t o = Sound a w t o × ((ts : List T) (fs : List E) → Derives a w (t ∷ ts) fs → Follows a o ts fs) × Keeps a I w o
-
-begins_after : {G T E H : Type 0} (a : Table G T E H) (w v : List (Work G E H)) (t : T) (ts : List T) (es fs : List E) → Sound a w t (goes es v) → Begins a v ts fs → Begins a w (t ∷ ts) (es ++ fs)
-begins_after a w v t ts es fs s x = (x.0, x.1, subst (λ l. Derives a w (t ∷ (ts ++ x.0)) l) (sym (append_assoc es fs x.1)) (s (ts ++ x.0) (fs ++ x.1) x.2))
-
-tells_after : {G T E H : Type 0} (a : Table G T E H) (I : List (Work G E H) → Type 0) (w v : List (Work G E H)) (t : T) (ts : List T) (es : List E) (o : Outcome T E)
-    → Turns a I w t (goes es v) → Tells a v ts o → Tells a w (t ∷ ts) (after_events es o)
-tells_after a I w v t ts es (reads fs) s d = s.0 ts fs d
-tells_after a I w v t ts es (unfinished fs) s x = begins_after a w v t ts es fs s.0 x
-tells_after a I w v t ts es (stops fs us) s x = record {
-  seen = t ∷ x.seen;
-  bad = x.bad;
-  after = x.after;
-  is_unread = x.is_unread;
-  are_all = ap (λ l. t ∷ l) x.are_all;
-  begins = begins_after a w v t x.seen es fs s.0 x.begins;
-  never = λ vs gs d. let r = s.1 (x.seen ++ (x.bad ∷ vs)) gs d in x.never vs r.0 r.2;
-}
-
-tells_on : {G T E H : Type 0} (a : Table G T E H) (I : List (Work G E H) → Type 0) (w : List (Work G E H)) (t : T) (ts : List T) (again : List (Work G E H) → Outcome T E) (o : Turned G E H)
-    → Turns a I w t o → ((v : List (Work G E H)) → I v → Tells a v ts (again v)) → Tells a w (t ∷ ts) (go_on t ts again o)
-tells_on a I w t ts again (goes es v) s i = tells_after a I w v t ts es (again v) s (i v s.2)
-tells_on a I w t ts again (refused es) s i = record { seen = []; bad = t; after = ts; is_unread = refl; are_all = refl; begins = s.2; never = λ us fs d. s.1 us fs d }
-
-said_first : {G T E H : Type 0} (a : Table G T E H) (e : E) (w : List (Work G E H)) (ts : List T) (es : List E) → Derives a (saying e ∷ w) ts es → (fs : List E) × Derives a w ts fs
-said_first a e w ts _ (says {es = es} c) = (es, c)
-
-tells_saying : {G T E H : Type 0} (a : Table G T E H) (e : E) (w : List (Work G E H)) (o : Outcome T E) → Tells a w [] o → Tells a (saying e ∷ w) [] (after_events (e ∷ []) o)
-tells_saying a e w (reads es) d = says d
-tells_saying a e w (unfinished es) x = (x.0, x.1, says x.2)
-tells_saying a e w (stops es us) d = record {
-  seen = d.seen;
-  bad = d.bad;
-  after = d.after;
-  is_unread = d.is_unread;
-  are_all = d.are_all;
-  begins = (d.begins.0, d.begins.1, says d.begins.2);
-  never = λ vs gs c. let n = said_first a e w (d.seen ++ (d.bad ∷ vs)) gs c in d.never vs n.0 n.1;
-}
-
-tells_finish : {G T E H : Type 0} (a : Table G T E H) → Completes a → (w : List (Work G E H)) → Tells a w [] (finish w)
-tells_finish a c [] = nothing_left
-tells_finish a c (saying e ∷ w) = tells_saying a e w (finish w) (tells_finish a c w)
-tells_finish a c (reading g h ∷ w) = all_complete a c (reading g h ∷ w)
-
-tells : {G T E H : Type 0} (a : Table G T E H) (m : G → ℕ) (I : List (Work G E H) → Type 0) → Falls a m → Completes a → AllKeep a m I → (w : List (Work G E H)) (ts : List T) → I w → Tells a w ts (run a m w ts)
-tells a m I f c k w [] i = tells_finish a c w
-tells a m I f c k w (t ∷ ts) i =
-    let n = suc (work_weight m w) in
-    tells_on a I w t ts (λ v. run a m v ts) (step a n w t)
-    (step_sound a n w t, (λ us fs d. step_follows a m f n w t us fs (omega arith) d), k n w t (omega arith) i)
-    (λ v j. tells a m I f c k v ts j)
-
-right : {G T E H : Type 0} (a : Table G T E H) (m : G → ℕ) → Falls a m → (w : List (Work G E H)) (ts : List T) (o : Outcome T E) → run a m w ts ≡ o → Tells a w ts o → IsRight a w ts o
-right a m f w ts (reads es) p x = x
-right a m f w ts (unfinished es) p x = (x, λ fs d. let r = derived_is_read a m f w ts fs d in cc)
-right a m f w ts (stops es us) p x = x
-
-pub run_is_right : {G T E H : Type 0} (a : Table G T E H) (m : G → ℕ) (I : List (Work G E H) → Type 0) → Falls a m → Completes a → AllKeep a m I → (w : List (Work G E H)) (ts : List T) → I w → IsRight a w ts (run a m w ts)
-run_is_right a m I f c k w ts i = right a m f w ts (run a m w ts) refl (tells a m I f c k w ts i)
+pub run_is_right : {G T E H : Type 0} (a : Table G T E H) (m : G → ℕ) (bottom : G → Bool) (ends : T → Bool) → IsMended a m bottom ends → (w : List (Work G E H)) (ts : List T) → IsInStep bottom w → IsRight a w ts (run a m w ts)
+run_is_right a m bottom ends c w ts s = subst (λ o. IsRight a w ts o) (no_events (run a m w ts)) (right_from a m bottom ends c w w [] [] ts s (starts a ends w))

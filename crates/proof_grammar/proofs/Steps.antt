@@ -1,5 +1,5 @@
 -- A machine's turn at one token, over any table.
-use Rattle.std.proofs.Common.{◌≡◌, ℕ, zero, suc, ◌+◌, ◌<◌, List, [], ◌∷◌, ◌++◌, Option, Some, None, refl, sym, ap, subst, arith}
+use Rattle.std.proofs.Common.{◌≡◌, ℕ, zero, suc, ◌+◌, ◌<◌, List, [], ◌∷◌, ◌++◌, Option, Some, None, refl, arith}
 use Rattle.defs_event.specs.Table.{Part, read, keep, hold, say, show, empty, Row, takes, leaves, Table, row_of, Work, reading, saying, part_work, before, Derives, says, by_taking, by_leaving}
 use Rattle.defs_grammar.specs.Machine.{part_weight, parts_weight, work_weight, Turned, goes, refused, and_before, by_row, step}
 
@@ -31,7 +31,7 @@ step_sound a (suc n) [] t = tt
 step_sound a (suc n) (saying e ∷ w) t = sound_saying a e w t (step a n w t) (step_sound a n w t)
 step_sound a (suc n) (reading g h ∷ w) t = sound_row a g h w t (λ v. step a n v t) (row_of (a.cases g) t) refl (λ v. step_sound a n v t)
 
--- ---- what the table reads, the machine reads
+-- ---- weights
 
 -- each row that leaves its token weighs less than its goal
 abbrev pub Falls : {G T E H : Type 0} → Table G T E H → (G → ℕ) → Type 0
@@ -48,25 +48,3 @@ part_weighs a m h t empty w = omega arith
 pub parts_weigh : {G T E H : Type 0} (a : Table G T E H) (m : G → ℕ) (h : H) (t : T) (ps : List (Part G E)) (w : List (Work G E H)) → work_weight m (before a h t ps w) ≡ parts_weight m ps + work_weight m w
 parts_weigh a m h t [] w = omega arith
 parts_weigh a m h t (p ∷ ps) w = let i = parts_weigh a m h t ps w in let j = part_weighs a m h t p (before a h t ps w) in omega (arith, i, j)
-
--- The tokens after the turn, with all events, are read from where the turn leads.
-abbrev pub Follows : {G T E H : Type 0} → Table G T E H → Turned G E H → List T → List E → Type 0
-Follows {E = E} a (goes es v) ts fs = (gs : List E) × (fs ≡ es ++ gs) × Derives a v ts gs
-Follows a (refused es) ts fs = ⊥
-
-follows_saying : {G T E H : Type 0} (a : Table G T E H) (e : E) (o : Turned G E H) (ts : List T) (fs : List E) → Follows a o ts fs → Follows a (and_before e o) ts (e ∷ fs)
-follows_saying a e (goes es v) ts fs x = (x.0, ap (λ l. e ∷ l) x.1, x.2)
-follows_saying a e (refused es) ts fs x = x
-
-pub step_follows : {G T E H : Type 0} (a : Table G T E H) (m : G → ℕ) → Falls a m → (n : ℕ) (w : List (Work G E H)) (t : T) (ts : List T) (fs : List E)
-    → work_weight m w < n → Derives a w (t ∷ ts) fs → Follows a (step a n w t) ts fs
-step_follows a m f zero w t ts fs l d = absurd (omega (arith, l))
-step_follows a m f (suc n) [] t ts fs l d = elim d [ ]
-step_follows a m f (suc n) (saying e ∷ w) t ts _ l (says {es = es} d) =
-    follows_saying a e (step a n w t) ts es (step_follows a m f n w t ts es (omega (arith, l)) d)
-step_follows a m f (suc n) (reading g h ∷ w) t ts fs l (by_taking ps p d) =
-    subst (λ r. Follows a (by_row a h t w (λ v. step a n v t) r) ts fs) (sym p) (fs, refl, d)
-step_follows a m f (suc n) (reading g h ∷ w) t ts fs l (by_leaving ps p d) =
-    let k = f g t ps p in
-    let i = parts_weigh a m h t ps w in
-    subst (λ r. Follows a (by_row a h t w (λ v. step a n v t) r) ts fs) (sym p) (step_follows a m f n (before a h t ps w) t ts fs (omega (arith, l, k, i)) d)

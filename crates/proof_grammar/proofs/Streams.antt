@@ -1,21 +1,24 @@
--- What the machine says of tokens by the table.
-use Rattle.std.proofs.Common.{◌≡◌, Bool, List, Some, subst}
+-- By the table of the token grammar, what the machine says of tokens is right, and a parser stays on track.
+use Rattle.std.proofs.Common.{◌≡◌, inl, Bool, List, Some, refl, subst}
 use Rattle.defs_token.specs.Token.{Tok}
 use Rattle.defs_event.specs.Event.{Ev}
 use Rattle.defs_event.specs.Raw.{Raw}
 use Rattle.defs_event.specs.Names.{named, no_names}
+use Rattle.defs_event.specs.Table.{leaves}
 use Rattle.defs_event.specs.Grammar.{grammar}
 use Rattle.defs_event.specs.Stream.{whole_stream, StreamSays, IsStream}
 use Rattle.defs_grammar.specs.Machine.{reads}
 use Rattle.defs_grammar.specs.Reader.{weight, read_stream}
+use Rattle.proof_grammar.specs.Laws.{ParsersStayOnTrack}
 use Rattle.proof_grammar.specs.Outcome.{IsRight}
+use Rattle.proof_grammar.specs.Track.{ends_goal}
 use Rattle.proof_grammar.proofs.Runs.{run_is_right}
-use Rattle.proof_grammar.proofs.Refused.{IsInStep}
-use Rattle.proof_grammar.proofs.Falls.{grammar_falls, grammar_completes}
-use Rattle.proof_grammar.proofs.Mended.{is_bottom, grammar_keeps, starts_in_step}
+use Rattle.proof_grammar.proofs.Track.{starts, look, give, take, leave, refuse}
+use Rattle.proof_grammar.proofs.Falls.{grammar_completes}
+use Rattle.proof_grammar.proofs.Mended.{is_bottom, leaving, ended, mended}
 
 pub stream_outcome : (tokens : List Tok) → IsRight grammar whole_stream tokens (read_stream tokens)
-stream_outcome tokens = run_is_right grammar weight (IsInStep is_bottom) grammar_falls grammar_completes grammar_keeps whole_stream tokens starts_in_step
+stream_outcome tokens = run_is_right grammar weight is_bottom ends_goal mended whole_stream tokens (inl refl)
 
 -- What the machine reads is a stream.
 pub says_by : {tokens : List Tok} {raws : List Raw} → read_stream tokens ≡ reads raws → StreamSays tokens raws
@@ -23,3 +26,13 @@ says_by {tokens} h = subst (IsRight grammar whole_stream tokens) h (stream_outco
 
 pub stream_by : {keep_tags : Bool} {tokens : List Tok} {raws : List Raw} {events : List Ev} → read_stream tokens ≡ reads raws → named keep_tags no_names raws ≡ Some events → IsStream keep_tags tokens events
 stream_by {raws = raws} h e = record { raws = raws; says = says_by h; has_events = e }
+
+pub all_stay : ParsersStayOnTrack
+all_stay = (
+  starts grammar ends_goal whole_stream,
+  (λ w taken t given x. look grammar ends_goal whole_stream w taken t given x),
+  (λ e w taken next given x. give grammar ends_goal whole_stream e w taken next given x),
+  (λ g h w taken t given ps r x. take grammar ends_goal whole_stream g h w taken t given ps r x),
+  (λ g h w taken t given ps r x. leave grammar weight ends_goal grammar_completes whole_stream g h w taken t given ps r (leaving g t (leaves ps) r) x),
+  (λ g h w taken t given r x. refuse grammar ends_goal grammar_completes whole_stream g h w taken t given r (ended g h t r) x),
+)

@@ -1,49 +1,34 @@
 -- The steps of a parser by a table: whatever the table, it stays on track.
-use Rattle.std.proofs.Common.{◌≡◌, inl, inr, ℕ, suc, Bool, true, false, List, [], ◌∷◌, ◌++◌, Option, Some, None, refl, sym, ap, subst, ◌∙◌, append_assoc, arith}
-use Rattle.defs_event.specs.Table.{Part, takes, leaves, Table, row_of, Work, reading, saying, before, Derives, says, by_taking, by_leaving}
+use Rattle.std.proofs.Common.{◌≡◌, ◌⊎◌, inl, inr, ℕ, suc, ◌<◌, Bool, true, false, List, [], ◌∷◌, ◌++◌, Option, Some, None, refl, sym, ap, subst, ◌∙◌, append_assoc, arith}
+use Rattle.defs_event.specs.Table.{Part, Row, takes, leaves, Table, row_of, Work, reading, saying, before, Derives, says, by_taking, by_leaving}
 use Rattle.defs_grammar.specs.Machine.{work_weight, Turned, goes, refused, step}
-use Rattle.defs_event.specs.Grammar.{grammar}
-use Rattle.defs_event.specs.Stream.{whole_stream}
-use Rattle.defs_grammar.specs.Reader.{weight}
 use Rattle.proof_grammar.specs.Outcome.{Begins}
-use Rattle.proof_grammar.specs.Track.{MayBegin, IsNext, GoesOn, IsOnTrack, ends_goal, OnTrack}
-use Rattle.proof_grammar.specs.Laws.{ParsersStayOnTrack}
+use Rattle.proof_grammar.specs.Track.{MayBegin, IsNext, GoesOn, IsOnTrack}
+use Rattle.proof_grammar.proofs.CameBy.{taken_by, left_by, none_by, said_by}
 use Rattle.proof_grammar.proofs.Steps.{Sound, step_sound}
 use Rattle.proof_grammar.proofs.Completions.{along, Completes, all_complete}
-use Rattle.proof_grammar.proofs.Refused.{LeavingRow, EndsGoal}
-use Rattle.proof_grammar.proofs.Falls.{grammar_completes}
-use Rattle.proof_grammar.proofs.Mended.{leaving, ended}
 
--- ---- what a derivation came by
+-- ---- what is asked of a table
 
-takes_back : {G E : Type 0} (ps qs : List (Part G E)) → Some (takes ps) ≡ Some (takes qs) → ps ≡ qs
-takes_back ps qs h = cc
+-- A row that leaves its token: each token that ends a goal has it too, or it comes to a row that takes the token.
+abbrev pub LeavingRow : {G T E H : Type 0} → Table G T E H → (G → ℕ) → (ends : T → Bool) → G → T → Row G E → Type 0
+LeavingRow a m ends g t (takes ps) = Unit {0}
+LeavingRow {G = G} {T = T} {E = E} {H = H} a m ends g t (leaves ps) =
+    ((u : T) → ends u ≡ true → (row_of (a.cases g) u ≡ Some (leaves ps)) × ((h : H) (w : List (Work G E H)) → before a h u ps w ≡ before a h t ps w))
+    ⊎ ((n : ℕ) (h : H) (w : List (Work G E H)) (es : List E) → work_weight m (before a h t ps w) < n → step a n (before a h t ps w) t ≡ refused es → ⊥)
 
-leaves_back : {G E : Type 0} (ps qs : List (Part G E)) → Some (leaves ps) ≡ Some (leaves qs) → ps ≡ qs
-leaves_back ps qs h = cc
-
-taken_by : {G T E H : Type 0} (a : Table G T E H) (g : G) (h : H) (w : List (Work G E H)) (t : T) (ts : List T) (es : List E) (ps : List (Part G E))
-    → row_of (a.cases g) t ≡ Some (takes ps) → Derives a (reading g h ∷ w) (t ∷ ts) es → Derives a (before a h t ps w) ts es
-taken_by a g h w t ts es ps r (by_taking qs q d) = subst (λ l. Derives a (before a h t l w) ts es) (takes_back qs ps (sym q ∙ r)) d
-taken_by a g h w t ts es ps r (by_leaving qs q d) = cc
-
-left_by : {G T E H : Type 0} (a : Table G T E H) (g : G) (h : H) (w : List (Work G E H)) (t : T) (ts : List T) (es : List E) (ps : List (Part G E))
-    → row_of (a.cases g) t ≡ Some (leaves ps) → Derives a (reading g h ∷ w) (t ∷ ts) es → Derives a (before a h t ps w) (t ∷ ts) es
-left_by a g h w t ts es ps r (by_taking qs q d) = cc
-left_by a g h w t ts es ps r (by_leaving qs q d) = subst (λ l. Derives a (before a h t l w) (t ∷ ts) es) (leaves_back qs ps (sym q ∙ r)) d
-
-none_by : {G T E H : Type 0} (a : Table G T E H) (g : G) (h : H) (w : List (Work G E H)) (t : T) (ts : List T) (es : List E) → row_of (a.cases g) t ≡ None → Derives a (reading g h ∷ w) (t ∷ ts) es → ⊥
-none_by a g h w t ts es r (by_taking qs q d) = cc
-none_by a g h w t ts es r (by_leaving qs q d) = cc
-
-said_by : {G T E H : Type 0} (a : Table G T E H) (e : E) (w : List (Work G E H)) (ts : List T) (es : List E) → Derives a (saying e ∷ w) ts es → (fs : List E) × (es ≡ e ∷ fs) × Derives a w ts fs
-said_by a e w ts _ (says {es = es} d) = (es, refl, d)
+-- A goal that refuses tokens is read to its end by tokens that begin with one that ends a goal.
+abbrev pub EndsGoal : {G T E H : Type 0} → Table G T E H → (ends : T → Bool) → G → H → Type 0
+EndsGoal {T = T} {E = E} a ends g h = (u : T) × (us : List T) × (es : List E) × (ends u ≡ true) × Derives a (reading g h ∷ []) (u ∷ us) es
 
 -- ---- steps
 
 itself : {T : Type 0} (ends : T → Bool) (too : Bool) (t : T) (ts : List T) → MayBegin ends too (Some t) (t ∷ ts)
 itself ends true t ts = inl refl
 itself ends false t ts = refl
+
+pub starts : {G T E H : Type 0} (a : Table G T E H) (ends : T → Bool) (w : List (Work G E H)) → IsOnTrack a ends w w [] None []
+starts a ends w = record { too = true; sound = λ ts es b d. d; exact = λ ts es n d. (es, refl, d); safe = λ f. absurd (cc f) }
 
 -- The next token is looked at.
 pub look : {G T E H : Type 0} (a : Table G T E H) (ends : T → Bool) (start w : List (Work G E H)) (taken : List T) (t : T) (given : List E)
@@ -158,18 +143,3 @@ refuse a ends c start g h w taken t given r e x = (
         let b : MayBegin ends x.too (Some t) (e.0 ∷ (e.1 ++ k.0)) = subst (λ z. MayBegin ends z (Some t) (e.0 ∷ (e.1 ++ k.0))) (sym p) (inr e.3) in
         (e.0 ∷ (e.1 ++ k.0), e.2 ++ k.1, x.sound (e.0 ∷ (e.1 ++ k.0)) (e.2 ++ k.1) b d)
     begun false p = let y = x.safe p in absurd (none_by a g h w t y.0 y.1 r y.2)
-
--- ---- the token grammar
-
-starts : OnTrack whole_stream [] None []
-starts = record { too = true; sound = λ ts es b d. d; exact = λ ts es n d. (es, refl, d); safe = λ f. absurd (cc f) }
-
-pub all_stay : ParsersStayOnTrack
-all_stay = (
-  starts,
-  (λ w taken t given x. look grammar ends_goal whole_stream w taken t given x),
-  (λ e w taken next given x. give grammar ends_goal whole_stream e w taken next given x),
-  (λ g h w taken t given ps r x. take grammar ends_goal whole_stream g h w taken t given ps r x),
-  (λ g h w taken t given ps r x. leave grammar weight ends_goal grammar_completes whole_stream g h w taken t given ps r (leaving g t (leaves ps) r) x),
-  (λ g h w taken t given r x. refuse grammar ends_goal grammar_completes whole_stream g h w taken t given r (ended g h t r) x),
-)

@@ -1,4 +1,3 @@
 pub mod Laws
 pub mod Outcome
 pub mod Track
-pub mod Derivations

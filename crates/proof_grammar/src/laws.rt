@@ -12,7 +12,7 @@ pub fn outcomes_are_right()
 
 /// A parser by the table takes rows one after the other, and stays on track: what it still has to read completes the tokens that
 /// it took, with the events that it gave, and all that completes them is read so. What it refuses is refused by right.
-#[tactic(auto, using(crate::proofs::Track::all_stay))]
+#[tactic(auto, using(crate::proofs::Streams::all_stay))]
 pub fn parsers_stay_on_track()
     ensures { ParsersStayOnTrack }
 {}

@@ -1,4 +1,3 @@
-pub mod Derived
 pub mod Documents
 pub mod Nodes
 pub mod Reading

@@ -6,3 +6,4 @@ pub mod Loads
 pub mod Numbered
 pub mod Numbers
 pub mod Quoted
+pub mod Says

@@ -1,132 +1,62 @@
--- The derivation of a JSON text's tokens by the token grammar, and its events.
-use Rattle.std.proofs.Common.{◌≡◌, ℕ, Bool, List, [], ◌∷◌, Option, Some, None, refl, ap, ◌∙◌}
-use Rattle.std.specs.Prelude.{codes}
-use Rattle.defs_token.specs.Token.{Tok, Style}
-use Rattle.defs_layout.specs.JsonNumber.{spell_number}
-use Rattle.defs_layout.specs.JsonString.{Piece, unescaped}
-use Rattle.defs_layout.specs.Json.{Json, Elements, Members, JsonText}
-use Rattle.defs_layout.specs.JsonTokens.{json_tokens, element_tokens, member_tokens, json_text_tokens}
+-- The tokens of a JSON text are read by the table of the token grammar, and say its events.
+use Rattle.std.proofs.Common.{Bool, List, [], ◌∷◌, None, refl}
+use Rattle.defs_token.specs.Token.{Tok}
+use Rattle.defs_layout.specs.Json.{Json, Elements, Members}
+use Rattle.defs_layout.specs.JsonTokens.{json_tokens, element_tokens, member_tokens}
 use Rattle.defs_event.specs.Event.{Ev}
 use Rattle.defs_event.specs.Raw.{Raw}
-use Rattle.proof_grammar.specs.Derivations as grammar
-use Rattle.proof_grammar.proofs.Included.{derived_stream}
-use Rattle.proof_grammar.specs.Derivations.{FlowContent, FlowNode, Item, MoreItems, FlowPair, MoreFlowPairs, Documents, flow_content_tokens, item_tokens, more_items_tokens, flow_pair_tokens, more_flow_pairs_tokens, flow_content_events, item_events, more_items_events, flow_pair_events, more_flow_pairs_events, stream_tokens, stream_events}
-use Rattle.defs_event.specs.Names.{Names, no_names, named, both, at_document}
-use Rattle.defs_event.specs.Nested.{nest_events, nests_events, nest_pairs_events, nested_stream}
-use Rattle.proof_layout_trees.specs.JsonNest.{nested_of, element_nests, member_nests, json_documents}
+use Rattle.defs_event.specs.Grammar as at
+use Rattle.defs_event.specs.Grammar.{Place, in_flow, in_block, node}
+use Rattle.defs_event.specs.Table.{saying}
+use Rattle.defs_event.specs.Names.{Names}
+use Rattle.defs_event.specs.Nested.{nest_events, nests_events, nest_pairs_events}
+use Rattle.proof_layout_trees.specs.JsonNest.{nested_of, element_nests, member_nests}
 use Rattle.proof_layout_trees.specs.Laws.{JsonTokensAreAStream}
+use Rattle.proof_layout_trees.proofs.Says.{Works, goal_and, Says, taken, left, said, behind, scalar, flow_sequence, flow_mapping, stream_ends, stream_said}
 
--- ---- the derivation
+-- ---- a value's first token leaves a goal for a node
 
--- a content without properties
-abbrev node : FlowContent → FlowNode
-node c = grammar.flow_content None c
+item_left : {keep_tags : Bool} {s : Names} {w : Works} {es : List Ev} (v : Json) (r : List Tok) → Says keep_tags s (goal_and (node in_flow) (goal_and at.flow_sequence_comma w)) (json_tokens v r) es
+    → Says keep_tags s (goal_and at.flow_sequence_entries w) (json_tokens v r) es
+item_left Json.false_word r x = left _ refl x
+item_left _ r x = left _ refl x
 
-abbrev plain : List ℕ → FlowContent
-plain text = grammar.scalar Style.plain text
+document_left : {keep_tags : Bool} {s : Names} {w : Works} {es : List Ev} (v : Json) (r : List Tok)
+    → Says keep_tags s (saying (Raw.document_start []) ∷ goal_and (node in_block) (goal_and at.document_end w)) (json_tokens v r) es
+    → Says keep_tags s (goal_and at.documents w) (json_tokens v r) es
+document_left Json.false_word r x = left _ refl x
+document_left _ r x = left _ refl x
 
-abbrev quoted : List Piece → FlowContent
-quoted ps = grammar.scalar Style.double_quoted (unescaped ps)
+-- ---- values
 
-abbrev one_item : FlowContent → Item
-one_item c = grammar.single (node c)
+mutual
+  pub value_said : {keep_tags : Bool} {s : Names} {w : Works} {r : List Tok} {es : List Ev} (p : Place) (v : Json) → Says keep_tags s (behind p w) r es
+      → Says keep_tags s (goal_and (node p) w) (json_tokens v r) (nest_events (nested_of v) es)
+  value_said p Json.false_word x = scalar None p _ _ x
+  value_said p Json.null_word x = scalar None p _ _ x
+  value_said p Json.true_word x = scalar None p _ _ x
+  value_said p (Json.number n) x = scalar None p _ _ x
+  value_said p (Json.string ps) x = scalar None p _ _ x
+  value_said p (Json.empty_array g) x = flow_sequence None p (taken _ refl (said _ refl x))
+  value_said p (Json.array g vs) x = flow_sequence None p (elements_said vs x)
+  value_said p (Json.empty_object g) x = flow_mapping None p (taken _ refl (said _ refl x))
+  value_said p (Json.object g ms) x = flow_mapping None p (members_said ms x)
 
--- a key and its value
-abbrev one_pair : List Piece → FlowContent → FlowPair
-one_pair k c = grammar.flow_keyed (grammar.some_flow (node (quoted k))) (grammar.flow_value (grammar.some_flow (node c)))
+  -- after `[` or a comma
+  elements_said : {keep_tags : Bool} {s : Names} {w : Works} {r : List Tok} {es : List Ev} (vs : Elements) → Says keep_tags s w r es
+      → Says keep_tags s (goal_and at.flow_sequence_entries w) (element_tokens vs (Tok.flow_sequence_end ∷ r)) (nests_events (element_nests vs) (Ev.sequence_end ∷ es))
+  elements_said (Elements.last_element v a) x = item_left v _ (value_said in_flow v (taken _ refl (said _ refl x)))
+  elements_said (Elements.element v a b vs) x = item_left v _ (value_said in_flow v (taken _ refl (elements_said vs x)))
 
-abbrev mutual
-  pub content : Json → FlowContent
-  content Json.false_word = plain (codes "false")
-  content Json.null_word = plain (codes "null")
-  content Json.true_word = plain (codes "true")
-  content (Json.number n) = plain (spell_number n [])
-  content (Json.string ps) = quoted ps
-  content (Json.empty_array g) = grammar.flow_sequence grammar.no_items
-  content (Json.array g es) = grammar.flow_sequence (grammar.items (first_item es) (later_items es))
-  content (Json.empty_object g) = grammar.flow_mapping grammar.no_flow_pairs
-  content (Json.object g ms) = grammar.flow_mapping (grammar.flow_pairs (first_pair ms) (later_pairs ms))
-
-  first_item : Elements → Item
-  first_item (Elements.last_element v a) = one_item (content v)
-  first_item (Elements.element v a b es) = one_item (content v)
-
-  later_items : Elements → MoreItems
-  later_items (Elements.last_element v a) = grammar.end_items
-  later_items (Elements.element v a b es) = grammar.comma_item (first_item es) (later_items es)
-
-  first_pair : Members → FlowPair
-  first_pair (Members.last_member k g h v a) = one_pair k (content v)
-  first_pair (Members.member k g h v a b ms) = one_pair k (content v)
-
-  later_pairs : Members → MoreFlowPairs
-  later_pairs (Members.last_member k g h v a) = grammar.end_flow_pairs
-  later_pairs (Members.member k g h v a b ms) = grammar.comma_flow_pair (first_pair ms) (later_pairs ms)
+  -- after `{` or a comma
+  members_said : {keep_tags : Bool} {s : Names} {w : Works} {r : List Tok} {es : List Ev} (ms : Members) → Says keep_tags s w r es
+      → Says keep_tags s (goal_and at.flow_mapping_entries w) (member_tokens ms (Tok.flow_mapping_end ∷ r)) (nest_pairs_events (member_nests ms) (Ev.mapping_end ∷ es))
+  members_said (Members.last_member k g h v a) x =
+      taken _ refl (scalar None in_flow _ _ (taken _ refl (value_said in_flow v (taken _ refl (said _ refl x)))))
+  members_said (Members.member k g h v a b ms) x =
+      taken _ refl (scalar None in_flow _ _ (taken _ refl (value_said in_flow v (taken _ refl (members_said ms x)))))
 
 -- one document without marker
-abbrev documents : JsonText → Documents
-documents w = grammar.bare (grammar.block_content None (grammar.flow (content w.value))) (grammar.unmarked grammar.end_stream)
-
--- ---- its tokens
-
-mutual
-  pub content_tokens : (v : Json) (r : List Tok) → flow_content_tokens (content v) r ≡ json_tokens v r
-  content_tokens Json.false_word r = refl
-  content_tokens Json.null_word r = refl
-  content_tokens Json.true_word r = refl
-  content_tokens (Json.number n) r = refl
-  content_tokens (Json.string ps) r = refl
-  content_tokens (Json.empty_array g) r = refl
-  content_tokens (Json.array g es) r = ap (λ ts. Tok.flow_sequence_start ∷ ts) (items_told es r)
-  content_tokens (Json.empty_object g) r = refl
-  content_tokens (Json.object g ms) r = ap (λ ts. Tok.flow_mapping_start ∷ ts) (pairs_told ms r)
-
-  items_told : (es : Elements) (r : List Tok) → item_tokens (first_item es) (more_items_tokens (later_items es) r) ≡ element_tokens es (Tok.flow_sequence_end ∷ r)
-  items_told (Elements.last_element v a) r = content_tokens v (Tok.flow_sequence_end ∷ r)
-  items_told (Elements.element v a b es) r = content_tokens v _ ∙ ap (λ ts. json_tokens v (Tok.flow_entry ∷ ts)) (items_told es r)
-
-  pairs_told : (ms : Members) (r : List Tok) → flow_pair_tokens (first_pair ms) (more_flow_pairs_tokens (later_pairs ms) r) ≡ member_tokens ms (Tok.flow_mapping_end ∷ r)
-  pairs_told (Members.last_member k g h v a) r =
-      ap (λ ts. Tok.key ∷ Tok.scalar Style.double_quoted (unescaped k) ∷ Tok.value ∷ ts) (content_tokens v (Tok.flow_mapping_end ∷ r))
-  pairs_told (Members.member k g h v a b ms) r =
-      ap (λ ts. Tok.key ∷ Tok.scalar Style.double_quoted (unescaped k) ∷ Tok.value ∷ ts)
-      (content_tokens v _ ∙ ap (λ ts. json_tokens v (Tok.flow_entry ∷ ts)) (pairs_told ms r))
-
-tokens_told : (w : JsonText) → stream_tokens (documents w) ≡ json_text_tokens w
-tokens_told w = ap (λ ts. Tok.stream_start ∷ ts) (content_tokens w.value (Tok.stream_end ∷ []))
-
--- ---- its events
-
--- an event that has a name, before others that have
-pub and_then : (e : Ev) (o : Option (List Ev)) (es : List Ev) → o ≡ Some es → both (Some e) o ≡ Some (e ∷ es)
-and_then e o es h = ap (both (Some e)) h
-
-mutual
-  pub content_named : (v : Json) (keep : Bool) (s : Names) (r : List Raw) (es : List Ev) → named keep s r ≡ Some es → named keep s (flow_content_events None (content v) r) ≡ Some (nest_events (nested_of v) es)
-  content_named Json.false_word keep s r es h = and_then _ _ es h
-  content_named Json.null_word keep s r es h = and_then _ _ es h
-  content_named Json.true_word keep s r es h = and_then _ _ es h
-  content_named (Json.number n) keep s r es h = and_then _ _ es h
-  content_named (Json.string ps) keep s r es h = and_then _ _ es h
-  content_named (Json.empty_array g) keep s r es h = and_then _ _ _ (and_then _ _ es h)
-  content_named (Json.array g vs) keep s r es h = and_then _ _ _ (items_named vs keep s r es h)
-  content_named (Json.empty_object g) keep s r es h = and_then _ _ _ (and_then _ _ es h)
-  content_named (Json.object g ms) keep s r es h = and_then _ _ _ (pairs_named ms keep s r es h)
-
-  items_named : (vs : Elements) (keep : Bool) (s : Names) (r : List Raw) (es : List Ev) → named keep s r ≡ Some es
-      → named keep s (item_events (first_item vs) (more_items_events (later_items vs) r)) ≡ Some (nests_events (element_nests vs) (Ev.sequence_end ∷ es))
-  items_named (Elements.last_element v a) keep s r es h = content_named v keep s _ _ (and_then _ _ es h)
-  items_named (Elements.element v a b vs) keep s r es h = content_named v keep s _ _ (items_named vs keep s r es h)
-
-  pairs_named : (ms : Members) (keep : Bool) (s : Names) (r : List Raw) (es : List Ev) → named keep s r ≡ Some es
-      → named keep s (flow_pair_events (first_pair ms) (more_flow_pairs_events (later_pairs ms) r)) ≡ Some (nest_pairs_events (member_nests ms) (Ev.mapping_end ∷ es))
-  pairs_named (Members.last_member k g q v a) keep s r es h = and_then _ _ _ (content_named v keep s _ _ (and_then _ _ es h))
-  pairs_named (Members.member k g q v a b ms) keep s r es h = and_then _ _ _ (content_named v keep s _ _ (pairs_named ms keep s r es h))
-
-events_named : (keep : Bool) (w : JsonText) → named keep no_names (stream_events (documents w)) ≡ Some (nested_stream (json_documents w))
-events_named keep w =
-    and_then Ev.stream_start _ _ (and_then Ev.document_start _ _
-    (content_named w.value keep (at_document keep no_names []) (Raw.document_end ∷ Raw.stream_end ∷ []) (Ev.document_end ∷ Ev.stream_end ∷ []) refl))
-
 pub tokens_are_a_stream : JsonTokensAreAStream
-tokens_are_a_stream keep w = derived_stream (documents w) (tokens_told w) (events_named keep w)
+tokens_are_a_stream keep_tags w =
+    stream_said (taken _ refl (said _ refl (document_left w.value _ (said _ refl (value_said in_block w.value stream_ends)))))
