@@ -1,5 +1,10 @@
 -- Short streams. Together they use each row of the table, say each of its events, and hold and keep what it holds.
 -- A comment gives a text with these tokens.
+--
+-- The goals whose rows they use: `documents` those of documents; `beginnings` what begins a document; `flow_sequence` those of nodes and
+-- their properties, contents in flow, and flow sequences; `single_pairs` the pairs in these, and flow values; `flow_mapping` flow mappings;
+-- `block_sequence` contents in blocks, and block sequences; `values` and `keys` contents in block mappings, sequences without indentation,
+-- and block mappings.
 use Rattle.std.specs.Prelude.{◌≡◌, ℕ, Bool, true, false, List, [], ◌∷◌, ◌++◌, Some, None, codes, refl}
 use Rattle.std.proofs.Common.{ap, ◌∙◌}
 use Rattle.defs_token.specs.Token.{Style, Tok}
