@@ -1,5 +1,10 @@
 -- Short streams. Together they use each row of the table, say each of its events, and hold and keep what it holds.
 -- A comment gives a text with these tokens.
+--
+-- The goals whose rows they use: `documents` those of documents; `beginnings` what begins a document; `flow_sequence` those of nodes and
+-- their properties, contents in flow, and flow sequences; `single_pairs` the pairs in these, and flow values; `flow_mapping` flow mappings;
+-- `block_sequence` contents in blocks, and block sequences; `values` and `keys` contents in block mappings, sequences without indentation,
+-- and block mappings.
 use Rattle.std.specs.Prelude.{◌≡◌, ℕ, Bool, true, false, List, [], ◌∷◌, ◌++◌, Some, None, codes, refl}
 use Rattle.std.proofs.Common.{ap, ◌∙◌}
 use Rattle.defs_token.specs.Token.{Style, Tok}
@@ -37,14 +42,14 @@ DocumentSays tokens raws =
 no_document : StreamSays (Tok.stream_start ∷ Tok.stream_end ∷ []) (Raw.stream_start ∷ Raw.stream_end ∷ [])
 no_document = says_by refl
 
--- `...` LF `a` LF `...` LF `%YAML 1.2` LF `%TAG !t! x:` LF `---` LF `--- b` LF `...` LF `--- c`
+-- `...` LF `a` LF `...` LF `%TAG !t! x:` LF `%YAML 1.2` LF `%TAG !u! y:` LF `---` LF `--- b` LF `...` LF `--- c`
 documents : StreamSays
     (Tok.stream_start ∷ Tok.document_end ∷ word (codes "a") ∷ Tok.document_end
-    ∷ Tok.version_directive 1 2 ∷ Tok.tag_directive (codes "!t!") (codes "x:") ∷ Tok.document_start
+    ∷ Tok.tag_directive (codes "!t!") (codes "x:") ∷ Tok.version_directive 1 2 ∷ Tok.tag_directive (codes "!u!") (codes "y:") ∷ Tok.document_start
     ∷ Tok.document_start ∷ word (codes "b") ∷ Tok.document_end
     ∷ Tok.document_start ∷ word (codes "c") ∷ Tok.stream_end ∷ [])
     (Raw.stream_start ∷ Raw.document_start [] ∷ plain_raw (codes "a") ∷ Raw.document_end
-    ∷ Raw.document_start (Directive.version 1 2 ∷ Directive.tag (codes "!t!") (codes "x:") ∷ []) ∷ nothing_written ∷ Raw.document_end
+    ∷ Raw.document_start (Directive.tag (codes "!t!") (codes "x:") ∷ Directive.version 1 2 ∷ Directive.tag (codes "!u!") (codes "y:") ∷ []) ∷ nothing_written ∷ Raw.document_end
     ∷ Raw.document_start [] ∷ plain_raw (codes "b") ∷ Raw.document_end
     ∷ Raw.document_start [] ∷ plain_raw (codes "c") ∷ Raw.document_end ∷ Raw.stream_end ∷ [])
 documents = says_by refl
@@ -109,11 +114,11 @@ block_sequence : DocumentSays
     (Tok.block_sequence_start ∷ Tok.block_entry ∷ word (codes "x") ∷ Tok.block_entry ∷ Tok.block_entry ∷ anchored (codes "a") ∷ Tok.block_entry ∷ Tok.alias (codes "a")
     ∷ Tok.block_entry ∷ Tok.flow_sequence_start ∷ Tok.flow_sequence_end ∷ Tok.block_entry ∷ Tok.flow_mapping_start ∷ Tok.flow_mapping_end
     ∷ Tok.block_entry ∷ anchored (codes "b") ∷ tagged (codes "t") ∷ Tok.block_sequence_start ∷ Tok.block_entry ∷ word (codes "y") ∷ Tok.block_end
-    ∷ Tok.block_entry ∷ tagged (codes "u") ∷ Tok.block_mapping_start ∷ Tok.block_end ∷ Tok.block_end ∷ [])
+    ∷ Tok.block_entry ∷ tagged (codes "u") ∷ anchored (codes "c") ∷ Tok.block_mapping_start ∷ Tok.block_end ∷ Tok.block_end ∷ [])
     (Raw.sequence_start None None ∷ plain_raw (codes "x") ∷ nothing_written ∷ properties_said (codes "a") ∷ Raw.alias (codes "a")
     ∷ Raw.flow_sequence_start None None ∷ Raw.flow_sequence_end ∷ Raw.flow_mapping_start None None ∷ Raw.flow_mapping_end
     ∷ Raw.sequence_start (Some (codes "b")) (Some (tag_of_text (codes "!") (codes "t"))) ∷ plain_raw (codes "y") ∷ Raw.sequence_end
-    ∷ Raw.mapping_start None (Some (tag_of_text (codes "!") (codes "u"))) ∷ Raw.mapping_end ∷ Raw.sequence_end ∷ [])
+    ∷ Raw.mapping_start (Some (codes "c")) (Some (tag_of_text (codes "!") (codes "u"))) ∷ Raw.mapping_end ∷ Raw.sequence_end ∷ [])
 block_sequence = says_by refl
 
 -- `? a` LF `: b`, and with each kind of value: an alias, flow and block collections, a sequence without indentation, nothing; then a
