@@ -1,5 +1,5 @@
 -- What scalars have, and arrays and hashes of trees that have it, every loaded tree has.
-use Rattle.std.proofs.Common.{◌≡◌, ℕ, zero, suc, Bool, true, false, cond, List, [], ◌∷◌, ◌++◌, Option, Some, None, refl, ap, subst}
+use Rattle.std.proofs.Common.{◌≡◌, ℕ, zero, suc, Bool, true, false, List, [], ◌∷◌, ◌++◌, Option, Some, None, refl, ap, subst}
 use Rattle.std.specs.Prelude.{ℤ, IsTrue, ◌||◌, unwrap_or, option_map, if◌then◌else◌, nat_eq, bytes_eq, codes, All}
 use Rattle.std.proofs.lemmas.List.Elements.{All-nil, All-cons}
 use Rattle.defs_text.specs.Position.{Position}
