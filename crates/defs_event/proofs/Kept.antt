@@ -1,5 +1,5 @@
 -- What scalars have, and arrays and hashes of trees that have it, every loaded tree has.
-use Rattle.std.proofs.Common.{◌≡◌, ℕ, zero, suc, Bool, true, false, cond, List, [], ◌∷◌, ◌++◌, Option, Some, None, refl, ap, subst}
+use Rattle.std.proofs.Common.{◌≡◌, ℕ, zero, suc, Bool, true, false, List, [], ◌∷◌, ◌++◌, Option, Some, None, refl, ap, subst}
 use Rattle.std.specs.Prelude.{ℤ, IsTrue, ◌||◌, unwrap_or, option_map, if◌then◌else◌, nat_eq, bytes_eq, codes, All}
 use Rattle.std.proofs.lemmas.List.Elements.{All-nil, All-cons}
 use Rattle.defs_text.specs.Position.{Position}
@@ -52,7 +52,7 @@ pub record IsKept (P : Tree → Type 0) : Type 0 where
 
 -- ---- scalars
 
-either : (P : Tree → Type 0) (b : Bool) (t u : Tree) → P t → P u → P (if b then t else u)
+either : {A : Type 0} (P : A → Type 0) (b : Bool) (t u : A) → P t → P u → P (if b then t else u)
 either P true t u h r = h
 either P false t u h r = r
 
@@ -100,13 +100,9 @@ of_finished P (suc n) t anchors h r = (h, r)
 
 -- ---- pairs
 
-one_or_more : (P : Tree → Type 0) (b : Bool) (p : Tree × Tree) (ps qs : List (Tree × Tree)) → OfPair P p → Each (OfPair P) ps → Each (OfPair P) qs → Each (OfPair P) (cond b ps (p ∷ qs))
-one_or_more P true p ps qs h a b = a
-one_or_more P false p ps qs h a b = (h, b)
-
 of_without : (P : Tree → Type 0) (key : Tree) (ps : List (Tree × Tree)) → Each (OfPair P) ps → Each (OfPair P) (without key ps)
 of_without P key [] h = tt
-of_without P key (p ∷ ps) h = one_or_more P (tree_eq key p.0) p ps (without key ps) h.0 h.1 (of_without P key ps h.1)
+of_without P key (p ∷ ps) h = either (Each (OfPair P)) (tree_eq key p.0) ps (p ∷ without key ps) h.1 (h.0, of_without P key ps h.1)
 
 of_insert : (P : Tree → Type 0) (key value : Tree) (ps : List (Tree × Tree)) → Each (OfPair P) ps → P key → P value → Each (OfPair P) (insert key value ps)
 of_insert P key value ps h a b = each_more (OfPair P) (without key ps) (key, value) (of_without P key ps h) (a, b)
@@ -132,9 +128,8 @@ OfStep P (reads u) = OfUnfinished P u
 OfStep P (repeats key) = Unit {0}
 OfStep P out_of_nesting = Unit {0}
 
-repeats_or : (P : Tree → Type 0) (b : Bool) (key : Tree) (u : Unfinished) → OfUnfinished P u → OfStep P (if b then repeats key else reads u)
-repeats_or P true key u h = tt
-repeats_or P false key u h = h
+reopened : (P : Tree → Type 0) (u : Unfinished) (os : List Opened) → OfUnfinished P u → Each (OfOpened P) os → OfUnfinished P (record u { opened = os })
+reopened P u os h o = record { documents = h.documents; opened = o; root = h.root; anchors = h.anchors }
 
 of_root : (P : Tree → Type 0) (t : Tree) (u : Unfinished) (root : Option Tree) → OfUnfinished P u → P t → OfStep P (with_root t u root)
 of_root P t u None h r = record { documents = h.documents; opened = tt; root = r; anchors = h.anchors }
@@ -142,18 +137,12 @@ of_root P t u (Some x) h r = tt
 
 of_tree : (P : Tree → Type 0) (t : Tree) (u : Unfinished) (outer : List Opened) → OfUnfinished P u → Each (OfOpened P) outer → P t → OfStep P (with_tree t u outer)
 of_tree P t u [] h o r = of_root P t u u.root h r
-of_tree P t u (opened_sequence a ts ∷ outer) h o r =
-    record { documents = h.documents; opened = (each_more P ts t o.0 r, o.1); root = h.root; anchors = h.anchors }
-of_tree P t u (opened_mapping a ps None ∷ outer) h o r =
-    record { documents = h.documents; opened = ((o.0.0, o.0.1, r), o.1); root = h.root; anchors = h.anchors }
+of_tree P t u (opened_sequence a ts ∷ outer) h o r = reopened P u (opened_sequence a (ts ++ t ∷ []) ∷ outer) h (each_more P ts t o.0 r, o.1)
+of_tree P t u (opened_mapping a ps None ∷ outer) h o r = reopened P u (opened_mapping a ps (Some t) ∷ outer) h ((o.0.0, o.0.1, r), o.1)
 of_tree P t u (opened_mapping a ps (Some k) ∷ outer) h o r =
-    repeats_or P (has_key k ps) k (record u { opened = opened_mapping a (insert k t ps) None ∷ outer })
-    (record {
-      documents = h.documents;
-      opened = ((AreDistinct_insert k t ps o.0.0, of_insert P k t ps o.0.1 o.0.2 r, tt), o.1);
-      root = h.root;
-      anchors = h.anchors;
-    })
+    let new = opened_mapping a (insert k t ps) None ∷ outer in
+    either (OfStep P) (has_key k ps) (repeats k) (reads (record u { opened = new })) tt
+    (reopened P u new h ((AreDistinct_insert k t ps o.0.0, of_insert P k t ps o.0.1 o.0.2 r, tt), o.1))
 
 of_node : (P : Tree → Type 0) (a : ℕ) (t : Tree) (u : Unfinished) (outer : List Opened) → OfUnfinished P u → Each (OfOpened P) outer → P t → OfStep P (with_node a t u outer)
 of_node P a t u outer h o r =
@@ -162,19 +151,15 @@ of_node P a t u outer h o r =
 
 of_start : (P : Tree → Type 0) (c : Opened) (u : Unfinished) (outer : List Opened) (root : Option Tree) → OfUnfinished P u → Each (OfOpened P) outer → OfOpened P c → OfStep P (with_start c u outer root)
 of_start P c u [] (Some x) h o r = tt
-of_start P c u [] None h o r = record { documents = h.documents; opened = (r, tt); root = h.root; anchors = h.anchors }
-of_start P c u (d ∷ outer) root h o r = record { documents = h.documents; opened = (r, o); root = h.root; anchors = h.anchors }
+of_start P c u outer root h o r = reopened P u (c ∷ outer) h (r, o)
 
 of_sequence_end : (P : Tree → Type 0) → IsKept P → (u : Unfinished) (outer : List Opened) → OfUnfinished P u → Each (OfOpened P) outer → OfStep P (with_sequence_end u outer)
-of_sequence_end P k u [] h o = tt
 of_sequence_end P k u (opened_sequence a ts ∷ outer) h o = of_node P a (array (items_of ts)) u outer h o.1 (k.of_array ts o.0)
-of_sequence_end P k u (opened_mapping a ps w ∷ outer) h o = tt
+of_sequence_end P k u _ h o = tt
 
 of_mapping_end : (P : Tree → Type 0) → IsKept P → (u : Unfinished) (outer : List Opened) → OfUnfinished P u → Each (OfOpened P) outer → OfStep P (with_mapping_end u outer)
-of_mapping_end P k u [] h o = tt
-of_mapping_end P k u (opened_sequence a ts ∷ outer) h o = tt
 of_mapping_end P k u (opened_mapping a ps None ∷ outer) h o = of_node P a (hash (pairs_of ps)) u outer h o.1 (k.of_hash ps o.0.0 o.0.1)
-of_mapping_end P k u (opened_mapping a ps (Some w) ∷ outer) h o = tt
+of_mapping_end P k u _ h o = tt
 
 of_perhaps : (P : Tree → Type 0) → IsKept P → (root : Option Tree) → OfPerhaps P root → P (unwrap_or root bad_value)
 of_perhaps P k None h = k.of_leaf bad_value tt
@@ -186,10 +171,6 @@ of_document_end P k u [] h o =
 of_document_end P k u (c ∷ outer) h o = tt
 
 of_event : (P : Tree → Type 0) → IsKept P → (u : Unfinished) (e : Ev) → OfUnfinished P u → OfStep P (with_event u e)
-of_event P k u Ev.nothing h = h
-of_event P k u Ev.stream_start h = h
-of_event P k u Ev.stream_end h = h
-of_event P k u Ev.document_start h = h
 of_event P k u Ev.document_end h = of_document_end P k u u.opened h h.opened
 of_event P k u (Ev.alias n) h = of_tree P (aliased n u.anchors) u u.opened h h.opened (of_alias P k n u.anchors h.anchors)
 of_event P k u (Ev.scalar x s a t) h = of_node P a (scalar_tree x s t) u u.opened h h.opened (of_scalar P k x s t)
@@ -197,6 +178,7 @@ of_event P k u (Ev.sequence_start a t) h = of_start P (opened_sequence a []) u u
 of_event P k u Ev.sequence_end h = of_sequence_end P k u u.opened h h.opened
 of_event P k u (Ev.mapping_start a t) h = of_start P (opened_mapping a [] None) u u.opened u.root h h.opened (tt, tt, tt)
 of_event P k u Ev.mapping_end h = of_mapping_end P k u u.opened h h.opened
+of_event P k u _ h = h
 
 -- ---- loaders
 
@@ -207,19 +189,16 @@ OfLoader P (refused docs p) = Each P docs
 
 of_loader_after : (P : Tree → Type 0) (s : Step) (docs : List Tree) (p : Position) → OfStep P s → Each P docs → OfLoader P (loader_after s docs p)
 of_loader_after P (reads u) docs p h d = h
-of_loader_after P (repeats key) docs p h d = d
-of_loader_after P out_of_nesting docs p h d = d
+of_loader_after P _ docs p h d = d
 
 of_events : (P : Tree → Type 0) → IsKept P → (es : List (Ev × Position)) (l : Loader) → OfLoader P l → OfLoader P (with_events l es)
 of_events P k [] l h = h
 of_events P k (e ∷ es) (at_work u) h = of_events P k es (with_event_at (at_work u) e.0 e.1) (of_loader_after P (with_event u e.0) u.documents e.1 (of_event P k u e.0 h) h.documents)
-of_events P k (e ∷ es) (noted docs key p) h = of_events P k es (noted docs key p) h
-of_events P k (e ∷ es) (refused docs p) h = of_events P k es (refused docs p) h
+of_events P k (e ∷ es) l h = of_events P k es l h
 
 of_documents : (P : Tree → Type 0) (l : Loader) → OfLoader P l → Each P (documents_of l)
 of_documents P (at_work u) h = h.documents
-of_documents P (noted docs key p) h = h
-of_documents P (refused docs p) h = h
+of_documents P _ h = h
 
 pub loaded_kept : (P : Tree → Type 0) → IsKept P → (es : List (Ev × Position)) → All P (documents_of (with_events new_loader es))
 loaded_kept P k es =

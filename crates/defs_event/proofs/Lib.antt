@@ -13,4 +13,3 @@ pub mod Shaped
 pub mod StreamNests
 pub mod Texts
 pub mod Meanings
-pub mod Tests

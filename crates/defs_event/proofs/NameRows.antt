@@ -2,9 +2,9 @@
 use Rattle.std.specs.Prelude.{◌≡◌, ℕ, true, false, List, [], ◌∷◌, ◌++◌, Some, None, codes, refl}
 use Rattle.defs_token.specs.Token.{Style}
 use Rattle.defs_event.specs.Event.{Ev}
-use Rattle.defs_event.specs.Raw.{Raw, Directive, nothing_written}
+use Rattle.defs_event.specs.Raw.{Raw, Directive}
 use Rattle.defs_event.specs.Names.{named, no_names, are_allowed, declared, resolved}
-use Rattle.defs_event.proofs.Texts.{tag_of_text, plain_raw, plain_event}
+use Rattle.defs_event.proofs.Texts.{tag_of_text, plain_raw}
 
 -- a document of these nodes
 abbrev raw_document : List Directive → List Raw → List Raw → List Raw
@@ -19,123 +19,75 @@ anchored_raw name text = Raw.scalar text Style.plain (Some name) None
 abbrev tagged_raw : List ℕ → List ℕ → Raw
 tagged_raw handle suffix = Raw.scalar (codes "x") Style.plain None (Some (tag_of_text handle suffix))
 
--- `*a`
-unknown_alias : named false no_names (raw_stream (raw_document [] (Raw.alias (codes "a") ∷ []) [])) ≡ None
-unknown_alias = refl
+abbrev alias_a : Raw
+alias_a = Raw.alias (codes "a")
 
--- `--- &a 1` LF `--- *a`
-alias_of_an_earlier_document :
-    named false no_names (raw_stream (raw_document [] (anchored_raw (codes "a") (codes "1") ∷ [])
-    (raw_document [] (Raw.alias (codes "a") ∷ []) []))) ≡ None
-alias_of_an_earlier_document = refl
-
--- Anchors are forgotten where tags are kept, too.
-alias_where_tags_are_kept :
-    named true no_names (raw_stream (raw_document [] (anchored_raw (codes "a") (codes "1") ∷ [])
-    (raw_document [] (Raw.alias (codes "a") ∷ []) []))) ≡ None
-alias_where_tags_are_kept = refl
-
--- `[*a, &a 1]`: the anchor stands after
-alias_before_its_anchor :
-    named false no_names (raw_stream (raw_document []
-    (Raw.flow_sequence_start None None ∷ Raw.alias (codes "a") ∷ anchored_raw (codes "a") (codes "1") ∷ Raw.flow_sequence_end ∷ []) [])) ≡ None
-alias_before_its_anchor = refl
+-- `--- &a 1` LF `--- *a`, where tags are kept too, and `[*a, &a 1]`
+aliases_without_anchor :
+    (named true no_names (raw_stream (raw_document [] (anchored_raw (codes "a") (codes "1") ∷ []) (raw_document [] (alias_a ∷ []) []))) ≡ None)
+    × (named false no_names (raw_stream (raw_document [] (Raw.flow_sequence_start None None ∷ alias_a ∷ anchored_raw (codes "a") (codes "1") ∷ Raw.flow_sequence_end ∷ []) [])) ≡ None)
+aliases_without_anchor = (refl, refl)
 
 -- An anchor counts over the stream, and is 1 more than those before.
 numbers : named false no_names (raw_stream (raw_document [] (anchored_raw (codes "a") (codes "1") ∷ [])
-    (raw_document [] (Raw.sequence_start (Some (codes "b")) None ∷ Raw.empty_scalar (Some (codes "a")) None ∷ Raw.alias (codes "a") ∷ Raw.sequence_end ∷ []) [])))
+    (raw_document [] (Raw.sequence_start (Some (codes "b")) None ∷ Raw.empty_scalar (Some (codes "a")) None ∷ alias_a ∷ Raw.sequence_end ∷ []) [])))
     ≡ Some (Ev.stream_start ∷ Ev.document_start ∷ Ev.scalar (codes "1") Style.plain 1 None ∷ Ev.document_end
     ∷ Ev.document_start ∷ Ev.sequence_start 2 None ∷ Ev.scalar [] Style.plain 3 None ∷ Ev.alias 3 ∷ Ev.sequence_end ∷ Ev.document_end ∷ Ev.stream_end ∷ [])
 numbers = refl
 
--- `--- !q!s x`
-undeclared_handle : named false no_names (raw_stream (raw_document [] (tagged_raw (codes "!q!") (codes "s") ∷ []) [])) ≡ None
-undeclared_handle = refl
+abbrev twice_used : List Directive → List Raw
+twice_used ds = raw_stream (raw_document (Directive.tag (codes "!q!") (codes "p") ∷ []) (tagged_raw (codes "!q!") (codes "s") ∷ [])
+    (raw_document ds (tagged_raw (codes "!q!") (codes "t") ∷ []) []))
 
-abbrev twice_used : List Raw
-twice_used = raw_stream (raw_document (Directive.tag (codes "!q!") (codes "p") ∷ []) (tagged_raw (codes "!q!") (codes "s") ∷ [])
-    (raw_document [] (tagged_raw (codes "!q!") (codes "t") ∷ []) []))
+abbrev twice_resolved : List ℕ → List ℕ → List Ev
+twice_resolved p q = Ev.stream_start ∷ Ev.document_start ∷ Ev.scalar (codes "x") Style.plain 0 (Some (tag_of_text p (codes "s"))) ∷ Ev.document_end
+    ∷ Ev.document_start ∷ Ev.scalar (codes "x") Style.plain 0 (Some (tag_of_text q (codes "t"))) ∷ Ev.document_end ∷ Ev.stream_end ∷ []
 
--- a handle in the document after its own
-handle_of_an_earlier_document : named false no_names twice_used ≡ None
-handle_of_an_earlier_document = refl
+-- A handle of an earlier document counts where tags are kept. A document may declare it again.
+handles :
+    (named false no_names (twice_used []) ≡ None) × (named true no_names (twice_used []) ≡ Some (twice_resolved (codes "p") (codes "p")))
+    × (named true no_names (twice_used (Directive.tag (codes "!q!") (codes "q") ∷ [])) ≡ Some (twice_resolved (codes "p") (codes "q")))
+handles = (refl, refl, refl)
 
-handle_where_tags_are_kept : named true no_names twice_used
-    ≡ Some (Ev.stream_start ∷ Ev.document_start ∷ Ev.scalar (codes "x") Style.plain 0 (Some (tag_of_text (codes "p") (codes "s"))) ∷ Ev.document_end
-    ∷ Ev.document_start ∷ Ev.scalar (codes "x") Style.plain 0 (Some (tag_of_text (codes "p") (codes "t"))) ∷ Ev.document_end ∷ Ev.stream_end ∷ [])
-handle_where_tags_are_kept = refl
+-- A repeated handle in the directives of a document leaves it without events.
+repeated_handle :
+    named true no_names (raw_stream (raw_document (Directive.tag (codes "!a!") (codes "x:") ∷ Directive.tag (codes "!a!") (codes "y:") ∷ []) (plain_raw (codes "b") ∷ []) [])) ≡ None
+repeated_handle = refl
 
 -- ---- directives of one document
 
-no_directive : are_allowed [] ≡ true
-no_directive = refl
+-- none, one version, two handles of one prefix, and directives of other names
+allowed :
+    (are_allowed [] ≡ true) × (are_allowed (Directive.version 1 2 ∷ []) ≡ true)
+    × (are_allowed (Directive.tag (codes "!a!") (codes "x:") ∷ Directive.tag (codes "!b!") (codes "x:") ∷ []) ≡ true)
+    × (are_allowed (Directive.tag [] [] ∷ Directive.version 1 2 ∷ Directive.tag [] [] ∷ []) ≡ true)
+allowed = (refl, refl, refl, refl)
 
-one_version : are_allowed (Directive.version 1 2 ∷ []) ≡ true
-one_version = refl
-
--- `%YAML 1.2` LF `%YAML 1.2`
-two_versions : are_allowed (Directive.version 1 2 ∷ Directive.version 1 2 ∷ []) ≡ false
-two_versions = refl
-
--- `%TAG !a! x:` LF `%TAG !a! y:`
-one_handle_twice : are_allowed (Directive.tag (codes "!a!") (codes "x:") ∷ Directive.tag (codes "!a!") (codes "y:") ∷ []) ≡ false
-one_handle_twice = refl
-
--- with others between
-one_handle_twice_apart :
-    are_allowed (Directive.tag (codes "!a!") (codes "x:") ∷ Directive.version 1 2 ∷ Directive.tag (codes "!b!") (codes "x:")
-    ∷ Directive.tag (codes "!a!") (codes "x:") ∷ []) ≡ false
-one_handle_twice_apart = refl
-
-two_handles_of_one_prefix : are_allowed (Directive.tag (codes "!a!") (codes "x:") ∷ Directive.tag (codes "!b!") (codes "x:") ∷ []) ≡ true
-two_handles_of_one_prefix = refl
-
--- directives of other names are ignored
-others_are_ignored : are_allowed (Directive.tag [] [] ∷ Directive.version 1 2 ∷ Directive.tag [] [] ∷ []) ≡ true
-others_are_ignored = refl
+-- two versions, and one handle twice with others between
+not_allowed :
+    (are_allowed (Directive.version 1 2 ∷ Directive.version 1 2 ∷ []) ≡ false)
+    × (are_allowed (Directive.tag (codes "!a!") (codes "x:") ∷ Directive.version 1 2 ∷ Directive.tag (codes "!b!") (codes "x:") ∷ Directive.tag (codes "!a!") (codes "x:") ∷ []) ≡ false)
+not_allowed = (refl, refl)
 
 others_declare_nothing : declared (Directive.tag [] [] ∷ Directive.tag (codes "!") (codes "p") ∷ []) ≡ (codes "!", codes "p") ∷ []
 others_declare_nothing = refl
 
--- A repeated handle in the directives of a document leaves it without events.
-repeated_handle :
-    named false no_names (raw_stream (raw_document (Directive.tag (codes "!a!") (codes "x:") ∷ Directive.tag (codes "!a!") (codes "y:") ∷ []) (plain_raw (codes "b") ∷ []) [])) ≡ None
-repeated_handle = refl
-
-repeated_version :
-    named true no_names (raw_stream (raw_document (Directive.version 1 2 ∷ Directive.version 1 2 ∷ []) (nothing_written ∷ []) [])) ≡ None
-repeated_version = refl
-
--- One document may declare again what an earlier one declared.
-declared_again :
-    named true no_names (raw_stream (raw_document (Directive.tag (codes "!a!") (codes "x:") ∷ []) (plain_raw (codes "b") ∷ [])
-    (raw_document (Directive.tag (codes "!a!") (codes "y:") ∷ []) (tagged_raw (codes "!a!") (codes "s") ∷ []) [])))
-    ≡ Some (Ev.stream_start ∷ Ev.document_start ∷ plain_event (codes "b") ∷ Ev.document_end
-    ∷ Ev.document_start ∷ Ev.scalar (codes "x") Style.plain 0 (Some (tag_of_text (codes "y:") (codes "s"))) ∷ Ev.document_end ∷ Ev.stream_end ∷ [])
-declared_again = refl
-
 -- ---- single tags
 
-verbatim : resolved [] (tag_of_text [] (codes "u")) ≡ Some (tag_of_text [] (codes "u"))
-verbatim = refl
+-- verbatim, and `!` alone
+without_handle :
+    (resolved [] (tag_of_text [] (codes "u")) ≡ Some (tag_of_text [] (codes "u")))
+    × (resolved ((codes "!", codes "p") ∷ []) (tag_of_text [] (codes "!")) ≡ Some (tag_of_text [] (codes "!")))
+without_handle = (refl, refl)
 
-lone_mark : resolved ((codes "!", codes "p") ∷ []) (tag_of_text [] (codes "!")) ≡ Some (tag_of_text [] (codes "!"))
-lone_mark = refl
+not_declared :
+    (resolved [] (tag_of_text (codes "!") (codes "s")) ≡ Some (tag_of_text (codes "!") (codes "s")))
+    × (resolved [] (tag_of_text (codes "!!") (codes "int")) ≡ Some (tag_of_text (codes "tag:yaml.org,2002:") (codes "int")))
+    × (resolved ((codes "!b!", codes "q") ∷ []) (tag_of_text (codes "!a!") (codes "s")) ≡ None)
+not_declared = (refl, refl, refl)
 
-primary : resolved [] (tag_of_text (codes "!") (codes "s")) ≡ Some (tag_of_text (codes "!") (codes "s"))
-primary = refl
-
-primary_declared : resolved ((codes "!", codes "p") ∷ []) (tag_of_text (codes "!") (codes "s")) ≡ Some (tag_of_text (codes "p") (codes "s"))
-primary_declared = refl
-
-secondary : resolved [] (tag_of_text (codes "!!") (codes "int")) ≡ Some (tag_of_text (codes "tag:yaml.org,2002:") (codes "int"))
-secondary = refl
-
-secondary_declared : resolved ((codes "!!", codes "p") ∷ []) (tag_of_text (codes "!!") (codes "int")) ≡ Some (tag_of_text (codes "p") (codes "int"))
-secondary_declared = refl
-
-named_handle : resolved ((codes "!b!", codes "q") ∷ (codes "!a!", codes "p") ∷ []) (tag_of_text (codes "!a!") (codes "s")) ≡ Some (tag_of_text (codes "p") (codes "s"))
-named_handle = refl
-
-not_declared : resolved ((codes "!b!", codes "q") ∷ []) (tag_of_text (codes "!a!") (codes "s")) ≡ None
-not_declared = refl
+by_their_prefix :
+    (resolved ((codes "!", codes "p") ∷ []) (tag_of_text (codes "!") (codes "s")) ≡ Some (tag_of_text (codes "p") (codes "s")))
+    × (resolved ((codes "!!", codes "p") ∷ []) (tag_of_text (codes "!!") (codes "int")) ≡ Some (tag_of_text (codes "p") (codes "int")))
+    × (resolved ((codes "!b!", codes "q") ∷ (codes "!a!", codes "p") ∷ []) (tag_of_text (codes "!a!") (codes "s")) ≡ Some (tag_of_text (codes "p") (codes "s")))
+by_their_prefix = (refl, refl, refl)

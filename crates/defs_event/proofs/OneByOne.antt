@@ -1,5 +1,5 @@
 -- Nested events, handed in one by one, are read as the recursive reading has them.
-use Rattle.std.proofs.Common.{◌≡◌, ℕ, zero, suc, Bool, true, false, List, [], ◌∷◌, ◌++◌, Option, Some, None, refl, sym, ap, ◌∙◌, subst}
+use Rattle.std.proofs.Common.{◌≡◌, ℕ, Bool, true, false, List, [], ◌∷◌, ◌++◌, Option, Some, None, refl, ap, ◌∙◌, subst}
 use Rattle.std.specs.Prelude.{Ok, Err, if◌then◌else◌}
 use Rattle.defs_text.specs.Position.{Position}
 use Rattle.defs_tree.specs.Tree.{Tree, array, hash, items_of, pairs_of}
@@ -9,175 +9,135 @@ use Rattle.defs_event.specs.Stream.{events_of}
 use Rattle.defs_event.specs.Nested.{Nest, nested_alias, nested_scalar, nested_sequence, nested_mapping, Nests, no_nests, nest, NestPairs, no_nest_pairs, nest_pair, NestedDocument, without_node, with_node, nest_events, nests_events, nest_pairs_events, nested_document_events, nested_documents_events, nested_stream}
 use Rattle.defs_event.specs.Anchors.{Anchors, finished}
 use Rattle.defs_event.specs.Reading.{Read, then_read, node_read, read_node, read_items, read_pairs, read_document, read_documents, documents_or_key, reading}
-use Rattle.defs_event.specs.Unfinished.{Opened, opened_sequence, opened_mapping, Unfinished, reads, repeats, with_tree, with_start, Loader, at_work, noted, new_loader, loader_after, with_event_at, with_events}
+use Rattle.defs_event.specs.Unfinished.{Opened, opened_sequence, opened_mapping, Unfinished, Step, reads, repeats, out_of_nesting, with_tree, with_start, with_event, Loader, at_work, noted, refused, new_loader, nothing_read, loader_after, with_event_at, with_events}
 use Rattle.defs_event.specs.Laws.{HasRead}
 
--- ---- events at positions that a function gives
+-- ---- all events, whatever their positions
 
-abbrev run : Loader → (ℕ → Position) → List Ev → Loader
-run l at [] = l
-run l at (e ∷ es) = run (with_event_at l e (at 0)) (λ k. at (suc k)) es
+abbrev run : Step → List Ev → Step
+run (reads u) [] = reads u
+run (reads u) (e ∷ es) = run (with_event u e) es
+run s es = s
 
-abbrev here : Position
-here = record { index = 0; line = 1; col = 0 }
+abbrev step_of : Loader → Step
+step_of (at_work u) = reads u
+step_of (noted docs key p) = repeats key
+step_of (refused docs p) = out_of_nesting
 
-abbrev position_at : List (Ev × Position) → ℕ → Position
-position_at [] n = here
-position_at (e ∷ es) zero = e.1
-position_at (e ∷ es) (suc n) = position_at es n
+step_after : (s : Step) (docs : List Tree) (p : Position) → step_of (loader_after s docs p) ≡ s
+step_after (reads u) docs p = refl
+step_after s docs p = refl
 
-as_run : (es : List (Ev × Position)) (l : Loader) → with_events l es ≡ run l (position_at es) (events_of es)
+as_run : (es : List (Ev × Position)) (l : Loader) → step_of (with_events l es) ≡ run (step_of l) (events_of es)
+as_run [] (at_work u) = refl
 as_run [] l = refl
-as_run (e ∷ es) l = as_run es (with_event_at l e.0 e.1)
-
-run_noted : (es : List Ev) (docs : List Tree) (key : Tree) (p : Position) (at : ℕ → Position) → run (noted docs key p) at es ≡ noted docs key p
-run_noted [] docs key p at = refl
-run_noted (e ∷ es) docs key p at = run_noted es docs key p (λ k. at (suc k))
+as_run (e ∷ es) (at_work u) = as_run es (with_event_at (at_work u) e.0 e.1) ∙ ap (λ s. run s (events_of es)) (step_after (with_event u e.0) u.documents e.1)
+as_run (e ∷ es) l = as_run es l
 
 abbrev state : List Tree → List Opened → Option Tree → Anchors → Unfinished
 state docs opened root anchors = record { documents = docs; opened = opened; root = root; anchors = anchors }
 
--- ---- where a run comes: to what the value read says, or to a noted key
+-- ---- where a run comes: to what the value read says, or to a key that comes twice
 
-abbrev Comes : {A : Type 0} → Read A → (A → Anchors → Position → (ℕ → Position) → Loader) → Loader → Type 0
-Comes (Ok x) goal l = (p : Position) × (at : ℕ → Position) × (l ≡ goal x.0 x.1 p at)
-Comes (Err key) goal l = (docs : List Tree) × (p : Position) × (l ≡ noted docs key p)
+abbrev came : {A : Type 0} → Read A → (A → Anchors → Step) → Step
+came (Ok x) goal = goal x.0 x.1
+came (Err key) goal = repeats key
 
-comes_then : {A B : Type 0} (x : Read A) (next : A → Anchors → Read B) (goal : A → Anchors → Position → (ℕ → Position) → Loader) (goal' : B → Anchors → Position → (ℕ → Position) → Loader) (l : Loader)
-    → Comes x goal l → ((a : A) (more : Anchors) (p : Position) (at : ℕ → Position) → Comes (next a more) goal' (goal a more p at)) → Comes (then_read x next) goal' l
-comes_then (Ok x) next goal goal' l h k = subst (λ m. Comes (next x.0 x.1) goal' m) (sym h.2) (k x.0 x.1 h.0 h.1)
-comes_then (Err key) next goal goal' l h k = h
+came_then : {A B : Type 0} (x : Read A) (next : A → Anchors → Read B) (goal : A → Anchors → Step) (goal' : B → Anchors → Step) (s : Step)
+    → s ≡ came x goal → ((a : A) (more : Anchors) → goal a more ≡ came (next a more) goal') → s ≡ came (then_read x next) goal'
+came_then (Ok x) next goal goal' s h k = h ∙ k x.0 x.1
+came_then (Err key) next goal goal' s h k = h
 
 -- a node may begin
-abbrev Room : Option Tree → List Opened → Type 0
-Room None [] = Unit {0}
-Room (Some t) [] = ⊥
-Room root (c ∷ outer) = Unit {0}
+abbrev Room : List Opened → Option Tree → Type 0
+Room [] (Some t) = ⊥
+Room outer root = Unit {0}
 
-starts : (c : Opened) (u : Unfinished) (outer : List Opened) (root : Option Tree) → Room root outer → with_start c u outer root ≡ reads (record u { opened = c ∷ outer })
-starts c u [] None h = refl
+starts : (c : Opened) (u : Unfinished) (outer : List Opened) (root : Option Tree) → Room outer root → with_start c u outer root ≡ reads (record u { opened = c ∷ outer })
 starts c u [] (Some t) h = absurd h
-starts c u (d ∷ outer) root h = refl
+starts c u outer root h = refl
 
 -- what was open does not count
 ended : (t : Tree) (docs : List Tree) (opened outer : List Opened) (root : Option Tree) (anchors : Anchors) → with_tree t (state docs opened root anchors) outer ≡ with_tree t (state docs outer root anchors) outer
 ended t docs opened [] None anchors = refl
-ended t docs opened [] (Some x) anchors = refl
-ended t docs opened (opened_sequence a ts ∷ outer) root anchors = refl
 ended t docs opened (opened_mapping a ps None ∷ outer) root anchors = refl
-ended t docs opened (opened_mapping a ps (Some k) ∷ outer) root anchors = refl
+ended t docs opened outer root anchors = refl
 
--- after a node
-abbrev node_goal : List Tree → List Opened → Option Tree → List Ev → Tree → Anchors → Position → (ℕ → Position) → Loader
-node_goal docs outer root r t anchors p at = run (loader_after (with_tree t (state docs outer root anchors) outer) docs p) at r
+abbrev after_node : List Tree → List Opened → Option Tree → List Ev → Tree → Anchors → Step
+after_node docs outer root r t anchors = run (with_tree t (state docs outer root anchors) outer) r
 
--- after items
-abbrev items_goal : List Tree → List Opened → Option Tree → ℕ → List Ev → List Tree → Anchors → Position → (ℕ → Position) → Loader
-items_goal docs outer root a r ts anchors p at = run (at_work (state docs (opened_sequence a ts ∷ outer) root anchors)) at r
+abbrev after_items : List Tree → List Opened → Option Tree → ℕ → List Ev → List Tree → Anchors → Step
+after_items docs outer root a r ts anchors = run (reads (state docs (opened_sequence a ts ∷ outer) root anchors)) r
 
--- after pairs
-abbrev pairs_goal : List Tree → List Opened → Option Tree → ℕ → List Ev → List (Tree × Tree) → Anchors → Position → (ℕ → Position) → Loader
-pairs_goal docs outer root a r ps anchors p at = run (at_work (state docs (opened_mapping a ps None ∷ outer) root anchors)) at r
-
--- a collection ends
-node_ends : (docs : List Tree) (opened outer : List Opened) (root : Option Tree) (a : ℕ) (t : Tree) (anchors : Anchors) (p : Position) (at : ℕ → Position) (r : List Ev)
-    → Comes (node_read a t anchors) (node_goal docs outer root r) (run (loader_after (with_tree t (state docs opened root (finished a t anchors)) outer) docs p) at r)
-node_ends docs opened outer root a t anchors p at r =
-    (p, at, ap (λ s. run (loader_after s docs p) at r) (ended t docs opened outer root (finished a t anchors)))
+abbrev after_pairs : List Tree → List Opened → Option Tree → ℕ → List Ev → List (Tree × Tree) → Anchors → Step
+after_pairs docs outer root a r ps anchors = run (reads (state docs (opened_mapping a ps None ∷ outer) root anchors)) r
 
 -- a pair is inserted, or its key was there
-pair_ends : {A : Type 0} (b : Bool) (key : Tree) (z : Read A) (goal : A → Anchors → Position → (ℕ → Position) → Loader) (u : Unfinished) (docs : List Tree) (p : Position) (at : ℕ → Position) (r : List Ev)
-    → Comes z goal (run (at_work u) at r) → Comes (if b then Err key else z) goal (run (loader_after (if b then repeats key else reads u) docs p) at r)
-pair_ends true key z goal u docs p at r h = (docs, p, run_noted r docs key p at)
-pair_ends false key z goal u docs p at r h = h
+pair_ends : {A : Type 0} (b : Bool) (key : Tree) (z : Read A) (goal : A → Anchors → Step) (u : Unfinished) (r : List Ev)
+    → run (reads u) r ≡ came z goal → run (if b then repeats key else reads u) r ≡ came (if b then Err key else z) goal
+pair_ends true key z goal u r h = refl
+pair_ends false key z goal u r h = h
 
 mutual
-  node_comes : (n : Nest) (docs : List Tree) (outer : List Opened) (root : Option Tree) (anchors : Anchors) (at : ℕ → Position) (r : List Ev) → Room root outer
-      → Comes (read_node n anchors) (node_goal docs outer root r) (run (at_work (state docs outer root anchors)) at (nest_events n r))
-  node_comes (nested_alias n) docs outer root anchors at r h = (at 0, (λ k. at (suc k)), refl)
-  node_comes (nested_scalar x s a t) docs outer root anchors at r h = (at 0, (λ k. at (suc k)), refl)
-  node_comes (nested_sequence a t ns) docs outer root anchors at r h =
-      let next : ℕ → Position = λ k. at (suc k) in
-      let e = ap (λ s. run (loader_after s docs (at 0)) next (nests_events ns (Ev.sequence_end ∷ r))) (starts (opened_sequence a []) (state docs outer root anchors) outer root h) in
-      let all = comes_then (read_items ns [] anchors) (λ ts more. node_read a (array (items_of ts)) more)
-      (items_goal docs outer root a (Ev.sequence_end ∷ r)) (node_goal docs outer root r)
-      (run (at_work (state docs (opened_sequence a [] ∷ outer) root anchors)) next (nests_events ns (Ev.sequence_end ∷ r)))
-      (items_come ns [] docs outer root a anchors next (Ev.sequence_end ∷ r))
-      (λ ts more p g. node_ends docs (opened_sequence a ts ∷ outer) outer root a (array (items_of ts)) more (g 0) (λ k. g (suc k)) r) in
-      subst (λ l. Comes (read_node (nested_sequence a t ns) anchors) (node_goal docs outer root r) l) (sym e) all
-  node_comes (nested_mapping a t ps) docs outer root anchors at r h =
-      let next : ℕ → Position = λ k. at (suc k) in
-      let e = ap (λ s. run (loader_after s docs (at 0)) next (nest_pairs_events ps (Ev.mapping_end ∷ r))) (starts (opened_mapping a [] None) (state docs outer root anchors) outer root h) in
-      let all = comes_then (read_pairs ps [] anchors) (λ held more. node_read a (hash (pairs_of held)) more)
-      (pairs_goal docs outer root a (Ev.mapping_end ∷ r)) (node_goal docs outer root r)
-      (run (at_work (state docs (opened_mapping a [] None ∷ outer) root anchors)) next (nest_pairs_events ps (Ev.mapping_end ∷ r)))
-      (pairs_come ps [] docs outer root a anchors next (Ev.mapping_end ∷ r))
-      (λ held more p g. node_ends docs (opened_mapping a held None ∷ outer) outer root a (hash (pairs_of held)) more (g 0) (λ k. g (suc k)) r) in
-      subst (λ l. Comes (read_node (nested_mapping a t ps) anchors) (node_goal docs outer root r) l) (sym e) all
+  node_came : (n : Nest) (docs : List Tree) (outer : List Opened) (root : Option Tree) (anchors : Anchors) (r : List Ev) → Room outer root
+      → run (reads (state docs outer root anchors)) (nest_events n r) ≡ came (read_node n anchors) (after_node docs outer root r)
+  node_came (nested_alias n) docs outer root anchors r h = refl
+  node_came (nested_scalar x s a t) docs outer root anchors r h = refl
+  node_came (nested_sequence a t ns) docs outer root anchors r h =
+      ap (λ s. run s (nests_events ns (Ev.sequence_end ∷ r))) (starts (opened_sequence a []) (state docs outer root anchors) outer root h)
+      ∙ came_then (read_items ns [] anchors) (λ ts more. node_read a (array (items_of ts)) more) (after_items docs outer root a (Ev.sequence_end ∷ r)) (after_node docs outer root r) _
+      (items_came ns [] docs outer root a anchors (Ev.sequence_end ∷ r))
+      (λ ts more. ap (λ s. run s r) (ended (array (items_of ts)) docs (opened_sequence a ts ∷ outer) outer root (finished a (array (items_of ts)) more)))
+  node_came (nested_mapping a t ps) docs outer root anchors r h =
+      ap (λ s. run s (nest_pairs_events ps (Ev.mapping_end ∷ r))) (starts (opened_mapping a [] None) (state docs outer root anchors) outer root h)
+      ∙ came_then (read_pairs ps [] anchors) (λ held more. node_read a (hash (pairs_of held)) more) (after_pairs docs outer root a (Ev.mapping_end ∷ r)) (after_node docs outer root r) _
+      (pairs_came ps [] docs outer root a anchors (Ev.mapping_end ∷ r))
+      (λ held more. ap (λ s. run s r) (ended (hash (pairs_of held)) docs (opened_mapping a held None ∷ outer) outer root (finished a (hash (pairs_of held)) more)))
 
-  items_come : (ns : Nests) (ts : List Tree) (docs : List Tree) (outer : List Opened) (root : Option Tree) (a : ℕ) (anchors : Anchors) (at : ℕ → Position) (r : List Ev)
-      → Comes (read_items ns ts anchors) (items_goal docs outer root a r) (run (at_work (state docs (opened_sequence a ts ∷ outer) root anchors)) at (nests_events ns r))
-  items_come no_nests ts docs outer root a anchors at r = (here, at, refl)
-  items_come (nest n ns) ts docs outer root a anchors at r =
-      comes_then (read_node n anchors) (λ t more. read_items ns (ts ++ t ∷ []) more)
-      (node_goal docs (opened_sequence a ts ∷ outer) root (nests_events ns r)) (items_goal docs outer root a r)
-      (run (at_work (state docs (opened_sequence a ts ∷ outer) root anchors)) at (nest_events n (nests_events ns r)))
-      (node_comes n docs (opened_sequence a ts ∷ outer) root anchors at (nests_events ns r) tt)
-      (λ t more p g. items_come ns (ts ++ t ∷ []) docs outer root a more g r)
+  items_came : (ns : Nests) (ts : List Tree) (docs : List Tree) (outer : List Opened) (root : Option Tree) (a : ℕ) (anchors : Anchors) (r : List Ev)
+      → run (reads (state docs (opened_sequence a ts ∷ outer) root anchors)) (nests_events ns r) ≡ came (read_items ns ts anchors) (after_items docs outer root a r)
+  items_came no_nests ts docs outer root a anchors r = refl
+  items_came (nest n ns) ts docs outer root a anchors r =
+      came_then (read_node n anchors) (λ t more. read_items ns (ts ++ t ∷ []) more) (after_node docs (opened_sequence a ts ∷ outer) root (nests_events ns r)) (after_items docs outer root a r) _
+      (node_came n docs (opened_sequence a ts ∷ outer) root anchors (nests_events ns r) tt)
+      (λ t more. items_came ns (ts ++ t ∷ []) docs outer root a more r)
 
-  pairs_come : (ps : NestPairs) (held : List (Tree × Tree)) (docs : List Tree) (outer : List Opened) (root : Option Tree) (a : ℕ) (anchors : Anchors) (at : ℕ → Position) (r : List Ev)
-      → Comes (read_pairs ps held anchors) (pairs_goal docs outer root a r) (run (at_work (state docs (opened_mapping a held None ∷ outer) root anchors)) at (nest_pairs_events ps r))
-  pairs_come no_nest_pairs held docs outer root a anchors at r = (here, at, refl)
-  pairs_come (nest_pair k v ps) held docs outer root a anchors at r =
-      comes_then (read_node k anchors)
-      (λ key more. then_read (read_node v more) (λ value most. if has_key key held then Err key else read_pairs ps (insert key value held) most))
-      (node_goal docs (opened_mapping a held None ∷ outer) root (nest_events v (nest_pairs_events ps r))) (pairs_goal docs outer root a r)
-      (run (at_work (state docs (opened_mapping a held None ∷ outer) root anchors)) at (nest_events k (nest_events v (nest_pairs_events ps r))))
-      (node_comes k docs (opened_mapping a held None ∷ outer) root anchors at (nest_events v (nest_pairs_events ps r)) tt)
-      (λ key more p g. comes_then (read_node v more) (λ value most. if has_key key held then Err key else read_pairs ps (insert key value held) most)
-      (node_goal docs (opened_mapping a held (Some key) ∷ outer) root (nest_pairs_events ps r)) (pairs_goal docs outer root a r)
-      (run (at_work (state docs (opened_mapping a held (Some key) ∷ outer) root more)) g (nest_events v (nest_pairs_events ps r)))
-      (node_comes v docs (opened_mapping a held (Some key) ∷ outer) root more g (nest_pairs_events ps r) tt)
-      (λ value most q g'. pair_ends (has_key key held) key (read_pairs ps (insert key value held) most) (pairs_goal docs outer root a r)
-      (state docs (opened_mapping a (insert key value held) None ∷ outer) root most) docs q g' (nest_pairs_events ps r)
-      (pairs_come ps (insert key value held) docs outer root a most g' r)))
+  pairs_came : (ps : NestPairs) (held : List (Tree × Tree)) (docs : List Tree) (outer : List Opened) (root : Option Tree) (a : ℕ) (anchors : Anchors) (r : List Ev)
+      → run (reads (state docs (opened_mapping a held None ∷ outer) root anchors)) (nest_pairs_events ps r) ≡ came (read_pairs ps held anchors) (after_pairs docs outer root a r)
+  pairs_came no_nest_pairs held docs outer root a anchors r = refl
+  pairs_came (nest_pair k v ps) held docs outer root a anchors r =
+      let put : Tree → Tree → Anchors → Read (List (Tree × Tree)) = λ key value most. if has_key key held then Err key else read_pairs ps (insert key value held) most in
+      came_then (read_node k anchors) (λ key more. then_read (read_node v more) (put key))
+      (after_node docs (opened_mapping a held None ∷ outer) root (nest_events v (nest_pairs_events ps r))) (after_pairs docs outer root a r) _
+      (node_came k docs (opened_mapping a held None ∷ outer) root anchors (nest_events v (nest_pairs_events ps r)) tt)
+      (λ key more. came_then (read_node v more) (put key) (after_node docs (opened_mapping a held (Some key) ∷ outer) root (nest_pairs_events ps r)) (after_pairs docs outer root a r) _
+      (node_came v docs (opened_mapping a held (Some key) ∷ outer) root more (nest_pairs_events ps r) tt)
+      (λ value most. pair_ends (has_key key held) key (read_pairs ps (insert key value held) most) (after_pairs docs outer root a r)
+      (state docs (opened_mapping a (insert key value held) None ∷ outer) root most) (nest_pairs_events ps r)
+      (pairs_came ps (insert key value held) docs outer root a most r)))
 
 -- ---- documents
 
-abbrev document_goal : List Tree → List Ev → Tree → Anchors → Position → (ℕ → Position) → Loader
-document_goal docs r t anchors p at = run (at_work (state (docs ++ t ∷ []) [] None anchors)) at r
+abbrev after_documents : List Ev → List Tree → Anchors → Step
+after_documents r docs anchors = run (reads (state docs [] None anchors)) r
 
-abbrev documents_goal : List Ev → List Tree → Anchors → Position → (ℕ → Position) → Loader
-documents_goal r docs anchors p at = run (at_work (state docs [] None anchors)) at r
+document_came : (d : NestedDocument) (docs : List Tree) (anchors : Anchors) (r : List Ev)
+    → after_documents (nested_document_events d r) docs anchors ≡ came (read_document d anchors) (λ t more. after_documents r (docs ++ t ∷ []) more)
+document_came without_node docs anchors r = refl
+document_came (with_node n) docs anchors r = node_came n docs [] None anchors (Ev.document_end ∷ r) tt
 
--- a node, and the document's end
-document_ends : (docs : List Tree) (r : List Ev) (x : Read Tree) (l : Loader) → Comes x (node_goal docs [] None (Ev.document_end ∷ r)) l → Comes x (document_goal docs r) l
-document_ends docs r (Ok x) l h = (h.0, (λ k. h.1 (suc k)), h.2)
-document_ends docs r (Err key) l h = h
+documents_came : (ds : List NestedDocument) (docs : List Tree) (anchors : Anchors) (r : List Ev)
+    → after_documents (nested_documents_events ds r) docs anchors ≡ came (read_documents ds docs anchors) (after_documents r)
+documents_came [] docs anchors r = refl
+documents_came (d ∷ ds) docs anchors r =
+    came_then (read_document d anchors) (λ t more. read_documents ds (docs ++ t ∷ []) more) (λ t more. after_documents (nested_documents_events ds r) (docs ++ t ∷ []) more) (after_documents r) _
+    (document_came d docs anchors (nested_documents_events ds r))
+    (λ t more. documents_came ds (docs ++ t ∷ []) more r)
 
-document_comes : (d : NestedDocument) (docs : List Tree) (anchors : Anchors) (at : ℕ → Position) (r : List Ev)
-    → Comes (read_document d anchors) (document_goal docs r) (run (at_work (state docs [] None anchors)) at (nested_document_events d r))
-document_comes without_node docs anchors at r = (at 0, (λ k. at (suc (suc k))), refl)
-document_comes (with_node n) docs anchors at r =
-    document_ends docs r (read_node n anchors) (run (at_work (state docs [] None anchors)) (λ k. at (suc k)) (nest_events n (Ev.document_end ∷ r)))
-    (node_comes n docs [] None anchors (λ k. at (suc k)) (Ev.document_end ∷ r) tt)
-
-documents_come : (ds : List NestedDocument) (docs : List Tree) (anchors : Anchors) (at : ℕ → Position) (r : List Ev)
-    → Comes (read_documents ds docs anchors) (documents_goal r) (run (at_work (state docs [] None anchors)) at (nested_documents_events ds r))
-documents_come [] docs anchors at r = (here, at, refl)
-documents_come (d ∷ ds) docs anchors at r =
-    comes_then (read_document d anchors) (λ t more. read_documents ds (docs ++ t ∷ []) more)
-    (document_goal docs (nested_documents_events ds r)) (documents_goal r)
-    (run (at_work (state docs [] None anchors)) at (nested_document_events d (nested_documents_events ds r)))
-    (document_comes d docs anchors at (nested_documents_events ds r))
-    (λ t more p g. documents_come ds (docs ++ t ∷ []) more g r)
-
-has_read : (x : Read (List Tree)) (l : Loader) → Comes x (documents_goal (Ev.stream_end ∷ [])) l → HasRead (documents_or_key x) l
-has_read (Ok x) l h = subst (λ m. HasRead (Ok x.0) m) (sym h.2) (refl, refl, refl)
-has_read (Err key) l h = subst (λ m. HasRead (Err key) m) (sym h.2) refl
+has_read : (x : Read (List Tree)) (l : Loader) → step_of l ≡ came x (after_documents (Ev.stream_end ∷ [])) → HasRead (documents_or_key x) l
+has_read (Ok x) (at_work u) h = let e : state x.0 [] None x.1 ≡ u = cc in subst (λ v. HasRead (Ok x.0) (at_work v)) e (refl, refl, refl)
+has_read (Err k) (noted docs key p) h = cc
+has_read x l h = cc
 
 pub one_by_one : (ds : List NestedDocument) (es : List (Ev × Position)) → events_of es ≡ nested_stream ds → HasRead (reading ds) (with_events new_loader es)
-one_by_one ds es h =
-    let e : with_events new_loader es ≡ run new_loader (position_at es) (nested_stream ds) = as_run es new_loader ∙ ap (λ vs. run new_loader (position_at es) vs) h in
-    subst (λ l. HasRead (reading ds) l) (sym e)
-    (has_read (read_documents ds [] []) (run new_loader (position_at es) (nested_stream ds)) (documents_come ds [] [] (λ k. position_at es (suc k)) (Ev.stream_end ∷ [])))
+one_by_one ds es h = has_read (read_documents ds [] []) (with_events new_loader es) (as_run es new_loader ∙ ap (run (reads nothing_read)) h ∙ documents_came ds [] [] (Ev.stream_end ∷ []))
