@@ -69,36 +69,35 @@ TurnsRight a bottom ends start taken t given (refused es) = Begins a start taken
 
 turn_saying : {G T E H : Type 0} (a : Table G T E H) (bottom : G → Bool) (ends : T → Bool) (start : List (Work G E H)) (taken : List T) (t : T) (given : List E) (e : E) (o : Turned G E H)
     → TurnsRight a bottom ends start taken t (given ++ e ∷ []) o → TurnsRight a bottom ends start taken t given (and_before e o)
-turn_saying a bottom ends start taken t given e (goes es v) x = (subst (λ l. IsOnTrack a ends start v (taken ++ t ∷ []) None l) (append_assoc given (e ∷ []) es) x.0, x.1)
+turn_saying a bottom ends start taken t given e (goes es v) x =
+    (subst (λ l. IsOnTrack a ends start v (taken ++ t ∷ []) None l) (append_assoc given (e ∷ []) es) x.0, x.1)
 turn_saying a bottom ends start taken t given e (refused es) x = (subst (λ l. Begins a start taken l) (append_assoc given (e ∷ []) es) x.0, x.1)
 
-turn_row : {G T E H : Type 0} (a : Table G T E H) (m : G → ℕ) (bottom : G → Bool) (ends : T → Bool) → IsMended a m bottom ends → (start : List (Work G E H)) (g : G) (h : H) (w : List (Work G E H)) (taken : List T) (t : T)
-    (given : List E) (n : ℕ) (r : Option (Row G E)) → row_of (a.cases g) t ≡ r → work_weight m (reading g h ∷ w) < suc n → is_open bottom (reading g h ∷ w) ≡ true
-    → IsOnTrack a ends start (reading g h ∷ w) taken (Some t) given
-    → ((v : List (Work G E H)) → work_weight m v < n → is_open bottom v ≡ true → IsOnTrack a ends start v taken (Some t) given → TurnsRight a bottom ends start taken t given (step a n v t))
+turn_row : {G T E H : Type 0} {a : Table G T E H} {m : G → ℕ} {bottom : G → Bool} {ends : T → Bool} → IsMended a m bottom ends
+    → {start : List (Work G E H)} {g : G} {h : H} {w : List (Work G E H)} {taken : List T} {t : T} {given : List E} → IsOnTrack a ends start (reading g h ∷ w) taken (Some t) given
+    → (n : ℕ) (r : Option (Row G E)) → row_of (a.cases g) t ≡ r → work_weight m (reading g h ∷ w) < suc n → is_open bottom (reading g h ∷ w) ≡ true
+    → ((v : List (Work G E H)) → IsOnTrack a ends start v taken (Some t) given → work_weight m v < n → is_open bottom v ≡ true → TurnsRight a bottom ends start taken t given (step a n v t))
     → TurnsRight a bottom ends start taken t given (by_row a h t w (λ v. step a n v t) r)
-turn_row a m bottom ends c start g h w taken t given n (Some (takes ps)) p k o x i = (
-  subst (λ l. IsOnTrack a ends start (before a h t ps w) (taken ++ t ∷ []) None l) (sym (append-nil given)) (take a ends start g h w taken t given ps p x),
+turn_row {a = a} {bottom = bottom} {ends = ends} c {start} {g} {h} {w} {taken} {t} {given} x n (Some (takes ps)) p k o i = (
+  subst (λ l. IsOnTrack a ends start (before a h t ps w) (taken ++ t ∷ []) None l) (sym (append-nil given)) (take x ps p),
   takes_in_step a bottom g h t ps w (λ b. c.bottoms g t (takes ps) b p) o,
 )
-turn_row a m bottom ends c start g h w taken t given n (Some (leaves ps)) p k o x i =
+turn_row {a = a} {m = m} {bottom = bottom} c {g = g} {h = h} {w = w} {t = t} x n (Some (leaves ps)) p k o i =
     let l = c.falls g t ps p in
     let j = parts_weigh a m h t ps w in
-    i (before a h t ps w) (omega (arith, k, l, j)) (leaves_open a bottom g h t ps w (λ b. c.bottoms g t (leaves ps) b p) o)
-    (leave a m ends c.completes start g h w taken t given ps p (c.leaving g t (leaves ps) p) x)
-turn_row a m bottom ends c start g h w taken t given n None p k o x i =
-    let y = refuse a ends c.completes start g h w taken t given p (c.ended g h t p) x in
+    i (before a h t ps w) (leave m x c.completes ps p (c.leaving g t (leaves ps) p)) (omega (arith, k, l, j)) (leaves_open a bottom g h t ps w (λ b. c.bottoms g t (leaves ps) b p) o)
+turn_row {a = a} c {start} {g} {h} {w} {taken} {t} {given} x n None p k o i =
+    let y = refuse x c.completes (c.ended g h t p) p in
     (subst (λ l. Begins a start taken l) (sym (append-nil given)) y.0, y.1)
 
-open_turn : {G T E H : Type 0} (a : Table G T E H) (m : G → ℕ) (bottom : G → Bool) (ends : T → Bool) → IsMended a m bottom ends → (start : List (Work G E H)) (n : ℕ) (w : List (Work G E H)) (taken : List T) (t : T)
-    (given : List E) → work_weight m w < n → is_open bottom w ≡ true → IsOnTrack a ends start w taken (Some t) given → TurnsRight a bottom ends start taken t given (step a n w t)
-open_turn a m bottom ends c start zero w taken t given k o x = absurd (omega (arith, k))
-open_turn a m bottom ends c start (suc n) [] taken t given k o x = cc
-open_turn a m bottom ends c start (suc n) (saying e ∷ w) taken t given k o x =
-    turn_saying a bottom ends start taken t given e (step a n w t)
-    (open_turn a m bottom ends c start n w taken t (given ++ e ∷ []) (omega (arith, k)) o (give a ends start e w taken (Some t) given x))
-open_turn a m bottom ends c start (suc n) (reading g h ∷ w) taken t given k o x =
-    turn_row a m bottom ends c start g h w taken t given n (row_of (a.cases g) t) refl k o x (λ v l q y. open_turn a m bottom ends c start n v taken t given l q y)
+open_turn : {G T E H : Type 0} {a : Table G T E H} {m : G → ℕ} {bottom : G → Bool} {ends : T → Bool} → IsMended a m bottom ends
+    → {start : List (Work G E H)} {taken : List T} {given : List E} (n : ℕ) (w : List (Work G E H)) (t : T) → IsOnTrack a ends start w taken (Some t) given
+    → work_weight m w < n → is_open bottom w ≡ true → TurnsRight a bottom ends start taken t given (step a n w t)
+open_turn c zero w t x k o = absurd (omega (arith, k))
+open_turn c (suc n) [] t x k o = cc
+open_turn {a = a} {bottom = bottom} {ends = ends} c {start} {taken} {given} (suc n) (saying e ∷ w) t x k o =
+    turn_saying a bottom ends start taken t given e (step a n w t) (open_turn c n w t (give x) (omega (arith, k)) o)
+open_turn {a = a} c (suc n) (reading g h ∷ w) t x k o = turn_row c x n (row_of (a.cases g) t) refl k o (λ v y l q. open_turn c n v t y l q)
 
 -- ---- a turn at the end
 
@@ -109,17 +108,17 @@ shut_turn a m zero w t k s = absurd (omega (arith, k))
 shut_turn a m (suc n) [] t k s = ([], refl, nothing_left, λ us fs d. elim d [ ])
 shut_turn a m (suc n) (saying e ∷ w) t k s =
     let x = shut_turn a m n w t (omega (arith, k)) s in
-    (e ∷ x.0, ap (λ o. and_before e o) x.1, says x.2, λ us fs d. let y = said_by a e w (t ∷ us) fs d in x.3 us y.0 y.2)
+    (e ∷ x.0, ap (λ o. and_before e o) x.1, says x.2, λ us fs d. let y = said_by d in x.3 us y.0 y.2)
 shut_turn a m (suc n) (reading g h ∷ w) t k s = cc
 
-turns : {G T E H : Type 0} (a : Table G T E H) (m : G → ℕ) (bottom : G → Bool) (ends : T → Bool) → IsMended a m bottom ends → (start : List (Work G E H)) (n : ℕ) (w : List (Work G E H)) (taken : List T) (t : T)
-    (given : List E) → work_weight m w < n → IsInStep bottom w → IsOnTrack a ends start w taken None given → TurnsRight a bottom ends start taken t given (step a n w t)
-turns a m bottom ends c start n w taken t given k (inl o) x = open_turn a m bottom ends c start n w taken t given k o (look a ends start w taken t given x)
-turns a m bottom ends c start n w taken t given k (inr s) x =
+turns : {G T E H : Type 0} {a : Table G T E H} {m : G → ℕ} {bottom : G → Bool} {ends : T → Bool} → IsMended a m bottom ends
+    → {start : List (Work G E H)} {taken : List T} {given : List E} (n : ℕ) (w : List (Work G E H)) (t : T) → IsOnTrack a ends start w taken None given
+    → work_weight m w < n → IsInStep bottom w → TurnsRight a bottom ends start taken t given (step a n w t)
+turns c n w t x k (inl o) = open_turn c n w t (look x t) k o
+turns {a = a} {m = m} {bottom = bottom} {ends = ends} c {start} {taken} {given} n w t x k (inr s) =
     let y = shut_turn a m n w t k s in
     let b : Derives a start (taken ++ []) ((given ++ y.0) ++ []) = rw (append-nil (given ++ y.0)) (x.sound [] y.0 tt y.2) in
-    subst (λ o. TurnsRight a bottom ends start taken t given o) (sym y.1)
-    (([], [], b), λ us fs d. let z = x.exact (t ∷ us) fs tt d in y.3 us z.0 z.2)
+    subst (λ o. TurnsRight a bottom ends start taken t given o) (sym y.1) (([], [], b), λ us fs d. let z = x.exact (t ∷ us) fs tt d in y.3 us z.0 z.2)
 
 -- ---- all tokens
 
@@ -133,18 +132,18 @@ events_along given es (stops fs ts) = ap (λ l. stops l ts) (append_assoc given 
 abbrev RightFrom : {G T E H : Type 0} → Table G T E H → (start : List (Work G E H)) → (taken : List T) → (given : List E) → (ts : List T) → Outcome T E → Type 0
 RightFrom a start taken given ts o = IsRight a start (taken ++ ts) (after_events given o)
 
-right_end : {G T E H : Type 0} (a : Table G T E H) (ends : T → Bool) → Completes a → (start w : List (Work G E H)) (taken : List T) (given : List E) → IsOnTrack a ends start w taken None given
-    → RightFrom a start taken given [] (finish w)
-right_end a ends c start [] taken given x = x.sound [] [] tt nothing_left
-right_end a ends c start (saying e ∷ w) taken given x =
-    subst (λ o. IsRight a start (taken ++ []) o) (events_along given (e ∷ []) (finish w)) (right_end a ends c start w taken (given ++ e ∷ []) (give a ends start e w taken None given x))
-right_end a ends c start (reading g h ∷ w) taken given x =
+right_end : {G T E H : Type 0} {a : Table G T E H} {ends : T → Bool} {start : List (Work G E H)} {taken : List T} {given : List E} → Completes a → (w : List (Work G E H))
+    → IsOnTrack a ends start w taken None given → RightFrom a start taken given [] (finish w)
+right_end c [] x = x.sound [] [] tt nothing_left
+right_end {a = a} {start = start} {taken = taken} {given = given} c (saying e ∷ w) x =
+    subst (λ o. IsRight a start (taken ++ []) o) (events_along given (e ∷ []) (finish w)) (right_end c w (give x))
+right_end {a = a} {start = start} {taken = taken} {given = given} c (reading g h ∷ w) x =
     let k = all_complete a c (reading g h ∷ w) in
     let b : Derives a start ((taken ++ []) ++ k.0) ((given ++ []) ++ k.1) = rw (append-nil taken, append-nil given) (x.sound k.0 k.1 tt k.2) in
     ((k.0, k.1, b), λ fs d. let y = x.exact [] fs tt d in elim y.2 [ ])
 
-right_on : {G T E H : Type 0} (a : Table G T E H) (bottom : G → Bool) (ends : T → Bool) (start : List (Work G E H)) (taken : List T) (given : List E) (t : T) (ts : List T) (again : List (Work G E H) → Outcome T E) (o : Turned G E H)
-    → TurnsRight a bottom ends start taken t given o
+right_on : {G T E H : Type 0} (a : Table G T E H) (bottom : G → Bool) (ends : T → Bool) (start : List (Work G E H)) (taken : List T) (given : List E) (t : T) (ts : List T)
+    (again : List (Work G E H) → Outcome T E) (o : Turned G E H) → TurnsRight a bottom ends start taken t given o
     → ((v : List (Work G E H)) (given : List E) → IsInStep bottom v → IsOnTrack a ends start v (taken ++ t ∷ []) None given → RightFrom a start (taken ++ t ∷ []) given ts (again v))
     → RightFrom a start taken given (t ∷ ts) (go_on t ts again o)
 right_on a bottom ends start taken given t ts again (goes es v) x i =
@@ -152,18 +151,19 @@ right_on a bottom ends start taken given t ts again (goes es v) x i =
     (subst (λ o. IsRight a start ((taken ++ t ∷ []) ++ ts) o) (events_along given es (again v)) (i v (given ++ es) x.1 x.0))
 right_on a bottom ends start taken given t ts again (refused es) x i = record { seen = taken; bad = t; after = ts; is_unread = refl; are_all = refl; begins = x.0; never = x.1 }
 
-right_from : {G T E H : Type 0} (a : Table G T E H) (m : G → ℕ) (bottom : G → Bool) (ends : T → Bool) → IsMended a m bottom ends → (start w : List (Work G E H)) (taken : List T) (given : List E) (ts : List T)
-    → IsInStep bottom w → IsOnTrack a ends start w taken None given → RightFrom a start taken given ts (run a m w ts)
-right_from a m bottom ends c start w taken given [] s x = right_end a ends c.completes start w taken given x
-right_from a m bottom ends c start w taken given (t ∷ ts) s x =
+right_from : {G T E H : Type 0} {a : Table G T E H} {m : G → ℕ} {bottom : G → Bool} {ends : T → Bool} → IsMended a m bottom ends
+    → {start : List (Work G E H)} {taken : List T} {given : List E} (w : List (Work G E H)) (ts : List T) → IsInStep bottom w → IsOnTrack a ends start w taken None given
+    → RightFrom a start taken given ts (run a m w ts)
+right_from c w [] s x = right_end c.completes w x
+right_from {a = a} {m = m} {bottom = bottom} {ends = ends} c {start} {taken} {given} w (t ∷ ts) s x =
     let n = suc (work_weight m w) in
-    right_on a bottom ends start taken given t ts (λ v. run a m v ts) (step a n w t) (turns a m bottom ends c start n w taken t given (omega arith) s x)
-    (λ v es q y. right_from a m bottom ends c start v (taken ++ t ∷ []) es ts q y)
+    right_on a bottom ends start taken given t ts (λ v. run a m v ts) (step a n w t) (turns c n w t x (omega arith) s) (λ v es q y. right_from c v ts q y)
 
 no_events : {T E : Type 0} (o : Outcome T E) → after_events [] o ≡ o
 no_events (reads es) = refl
 no_events (unfinished es) = refl
 no_events (stops es ts) = refl
 
-pub run_is_right : {G T E H : Type 0} (a : Table G T E H) (m : G → ℕ) (bottom : G → Bool) (ends : T → Bool) → IsMended a m bottom ends → (w : List (Work G E H)) (ts : List T) → IsInStep bottom w → IsRight a w ts (run a m w ts)
-run_is_right a m bottom ends c w ts s = subst (λ o. IsRight a w ts o) (no_events (run a m w ts)) (right_from a m bottom ends c w w [] [] ts s (starts a ends w))
+pub run_is_right : {G T E H : Type 0} {a : Table G T E H} {m : G → ℕ} {bottom : G → Bool} {ends : T → Bool} → IsMended a m bottom ends
+    → (w : List (Work G E H)) (ts : List T) → IsInStep bottom w → IsRight a w ts (run a m w ts)
+run_is_right {a = a} {m = m} {ends = ends} c w ts s = subst (λ o. IsRight a w ts o) (no_events (run a m w ts)) (right_from c w ts s (starts a ends w))

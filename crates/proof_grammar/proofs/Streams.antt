@@ -15,10 +15,10 @@ use Rattle.proof_grammar.specs.Track.{ends_goal}
 use Rattle.proof_grammar.proofs.Runs.{run_is_right}
 use Rattle.proof_grammar.proofs.Track.{starts, look, give, take, leave, refuse}
 use Rattle.proof_grammar.proofs.Falls.{grammar_completes}
-use Rattle.proof_grammar.proofs.Mended.{is_bottom, leaving, ended, mended}
+use Rattle.proof_grammar.proofs.Mended.{leaving, ended, mended}
 
 pub stream_outcome : (tokens : List Tok) → IsRight grammar whole_stream tokens (read_stream tokens)
-stream_outcome tokens = run_is_right grammar weight is_bottom ends_goal mended whole_stream tokens (inl refl)
+stream_outcome tokens = run_is_right mended whole_stream tokens (inl refl)
 
 -- What the machine reads is a stream.
 pub says_by : {tokens : List Tok} {raws : List Raw} → read_stream tokens ≡ reads raws → StreamSays tokens raws
@@ -30,9 +30,9 @@ stream_by {raws = raws} h e = record { raws = raws; says = says_by h; has_events
 pub all_stay : ParsersStayOnTrack
 all_stay = (
   starts grammar ends_goal whole_stream,
-  (λ w taken t given x. look grammar ends_goal whole_stream w taken t given x),
-  (λ e w taken next given x. give grammar ends_goal whole_stream e w taken next given x),
-  (λ g h w taken t given ps r x. take grammar ends_goal whole_stream g h w taken t given ps r x),
-  (λ g h w taken t given ps r x. leave grammar weight ends_goal grammar_completes whole_stream g h w taken t given ps r (leaving g t (leaves ps) r) x),
-  (λ g h w taken t given r x. refuse grammar ends_goal grammar_completes whole_stream g h w taken t given r (ended g h t r) x),
+  (λ w taken t given x. look x t),
+  (λ e w taken next given x. give x),
+  (λ g h w taken t given ps r x. take x ps r),
+  (λ g h w taken t given ps r x. leave weight x grammar_completes ps r (leaving g t (leaves ps) r)),
+  (λ g h w taken t given r x. refuse x grammar_completes (ended g h t r) r),
 )

@@ -113,9 +113,8 @@ block_mapping o (Some side) x =
 pub indentless_sequence : {keep_tags : Bool} {s : Names} {w : Works} {ts : List Tok} {es : List Ev} (side : Side)
     → Says keep_tags s (goal_and (at.indentless_sequence_entries side) w) (Tok.block_entry ∷ ts) es
     → Says keep_tags s (node_and None (in_pair side) w) (Tok.block_entry ∷ ts) (Ev.sequence_start 0 None ∷ es)
-indentless_sequence {w = w} {ts = ts} side x =
-    let entry = taken_by grammar (at.indentless_sequence_entries side) nothing_held w Tok.block_entry ts x.raws _ refl x.derived in
-    left _ refl (taken _ refl (said _ refl (record { raws = x.raws; derived = entry; names = x.names })))
+indentless_sequence side x =
+    left _ refl (taken _ refl (said _ refl (record { raws = x.raws; derived = taken_by x.derived _ refl; names = x.names })))
 
 -- It ends where the mapping goes on: no entry stands there.
 no_entry : (t : Tok) (r : Row Goal Raw) → row_of (cases at.block_mapping_entries) t ≡ Some r
