@@ -1,18 +1,12 @@
 -- By any table, tokens are read in one way only; so a stream has one list of events.
-use Rattle.std.proofs.Common.{◌≡◌, Bool, List, [], ◌∷◌, Some, refl, sym, ap, subst, ◌∙◌}
+use Rattle.std.proofs.Common.{◌≡◌, Bool, List, [], ◌∷◌, refl, ap, subst}
 use Rattle.defs_token.specs.Token.{Tok}
 use Rattle.defs_event.specs.Event.{Ev}
 use Rattle.defs_event.specs.Names.{named, no_names}
 use Rattle.defs_event.specs.Grammar.{grammar}
 use Rattle.defs_event.specs.Stream.{whole_stream, IsStream}
 use Rattle.defs_event.specs.Laws.{TokensAreReadInOneWay}
-use Rattle.defs_event.specs.Table.{Part, takes, leaves, Table, Work, reading, saying, before, Derives, nothing_left, says, by_taking, by_leaving}
-
-takes_back : {G E : Type 0} (ps qs : List (Part G E)) → Some (takes ps) ≡ Some (takes qs) → ps ≡ qs
-takes_back ps qs h = cc
-
-leaves_back : {G E : Type 0} (ps qs : List (Part G E)) → Some (leaves ps) ≡ Some (leaves qs) → ps ≡ qs
-leaves_back ps qs h = cc
+use Rattle.defs_event.specs.Table.{Table, Work, reading, saying, before, Derives, nothing_left, says, by_taking, by_leaving}
 
 pub one_reading : {G T E H : Type 0} (a : Table G T E H) (w : List (Work G E H)) (ts : List T) (es fs : List E) → Derives a w ts es → Derives a w ts fs → es ≡ fs
 one_reading a [] [] _ _ nothing_left nothing_left = refl
@@ -20,17 +14,16 @@ one_reading a [] (t ∷ ts) es fs d c = elim d [ ]
 one_reading a (reading g h ∷ w) [] es fs d c = elim d [ ]
 one_reading a (saying e ∷ w) ts _ _ (says {es = es} d) (says {es = fs} c) = ap (λ l. e ∷ l) (one_reading a w ts es fs d c)
 one_reading a (reading g h ∷ w) (t ∷ ts) es fs (by_taking ps p d) (by_taking qs q c) =
-    one_reading a (before a h t ps w) ts es fs d (subst (λ l. Derives a (before a h t l w) ts fs) (takes_back qs ps (sym q ∙ p)) c)
+    let same : qs ≡ ps = cc in one_reading a (before a h t ps w) ts es fs d (subst (λ l. Derives a (before a h t l w) ts fs) same c)
 one_reading a (reading g h ∷ w) (t ∷ ts) es fs (by_taking ps p d) (by_leaving qs q c) = cc
 one_reading a (reading g h ∷ w) (t ∷ ts) es fs (by_leaving ps p d) (by_taking qs q c) = cc
 one_reading a (reading g h ∷ w) (t ∷ ts) es fs (by_leaving ps p d) (by_leaving qs q c) =
-    one_reading a (before a h t ps w) (t ∷ ts) es fs d (subst (λ l. Derives a (before a h t l w) (t ∷ ts) fs) (leaves_back qs ps (sym q ∙ p)) c)
+    let same : qs ≡ ps = cc in one_reading a (before a h t ps w) (t ∷ ts) es fs d (subst (λ l. Derives a (before a h t l w) (t ∷ ts) fs) same c)
 
 pub read_in_one_way : TokensAreReadInOneWay
 read_in_one_way tokens raws others x y = one_reading grammar whole_stream tokens raws others x y
 
-events_back : (es fs : List Ev) → Some es ≡ Some fs → es ≡ fs
-events_back es fs h = cc
-
 pub one_list : (keep_tags : Bool) (tokens : List Tok) (es fs : List Ev) → IsStream keep_tags tokens es → IsStream keep_tags tokens fs → es ≡ fs
-one_list keep_tags tokens es fs x y = events_back es fs (sym x.has_events ∙ ap (named keep_tags no_names) (read_in_one_way tokens x.raws y.raws x.says y.says) ∙ y.has_events)
+one_list keep_tags tokens es fs x y =
+    let same = read_in_one_way tokens x.raws y.raws x.says y.says in
+    cc (x.has_events, y.has_events, ap (named keep_tags no_names) same)

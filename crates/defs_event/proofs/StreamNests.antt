@@ -110,6 +110,7 @@ child : (c : Option Open) (inner os : List Open) (f k : List Open → Option (Li
 child None inner os f k h = refl
 child (Some o) inner os f k h = if_same (k (o ∷ os)) (and_then f (child_then (Some o) inner os)) (h o)
 
+-- A clause that names `key` has the checker look at each token there. The last clause with its pattern is for the others.
 row_too : (g : Goal) (os : List Open) (t : Tok) (h : Held) → if_some (after_goal g os) (by_row (row_of (cases g) t) h t os (after_goal g os)) ≡ after_goal g os
 row_too documents (in_stream ∷ os) Tok.key h = refl
 row_too directives (in_stream ∷ os) Tok.key h = refl
