@@ -25,12 +25,12 @@ pub record Says (keep_tags : Bool) (s : Names) (w : Works) (ts : List Tok) (es :
 
 -- ---- one row, one event
 
-pub taken : {keep_tags : Bool} {s : Names} {g : Goal} {h : Held} {w : Works} {t : Tok} {ts : List Tok} {es : List Ev} (ps : List (Part Goal Raw)) → row_of (cases g) t ≡ Some (takes ps)
-    → Says keep_tags s (before grammar h t ps w) ts es → Says keep_tags s (reading g h ∷ w) (t ∷ ts) es
+pub taken : {keep_tags : Bool} {s : Names} {g : Goal} {h : Held} {w : Works} {t : Tok} {ts : List Tok} {es : List Ev} (ps : List (Part Goal Raw))
+    → row_of (cases g) t ≡ Some (takes ps) → Says keep_tags s (before grammar h t ps w) ts es → Says keep_tags s (reading g h ∷ w) (t ∷ ts) es
 taken ps row x = record { raws = x.raws; derived = by_taking ps row x.derived; names = x.names }
 
-pub left : {keep_tags : Bool} {s : Names} {g : Goal} {h : Held} {w : Works} {t : Tok} {ts : List Tok} {es : List Ev} (ps : List (Part Goal Raw)) → row_of (cases g) t ≡ Some (leaves ps)
-    → Says keep_tags s (before grammar h t ps w) (t ∷ ts) es → Says keep_tags s (reading g h ∷ w) (t ∷ ts) es
+pub left : {keep_tags : Bool} {s : Names} {g : Goal} {h : Held} {w : Works} {t : Tok} {ts : List Tok} {es : List Ev} (ps : List (Part Goal Raw))
+    → row_of (cases g) t ≡ Some (leaves ps) → Says keep_tags s (before grammar h t ps w) (t ∷ ts) es → Says keep_tags s (reading g h ∷ w) (t ∷ ts) es
 left ps row x = record { raws = x.raws; derived = by_leaving ps row x.derived; names = x.names }
 
 pub said : {keep_tags : Bool} {s : Names} {e : Ev} {w : Works} {ts : List Tok} {es : List Ev} (raw : Raw) → resolved_event s raw ≡ Some e
@@ -70,7 +70,8 @@ content_begins None p alone anchored x = left _ alone x
 content_begins (Some name) p alone anchored x = left _ anchored x
 
 pub scalar : {keep_tags : Bool} {s : Names} {w : Works} {ts : List Tok} {es : List Ev} (o : Option (List ℕ)) (p : Place) (style : Style) (text : List ℕ)
-    → Says keep_tags (with_anchor s o) (behind p w) ts es → Says keep_tags s (node_and o p w) (Tok.scalar style text ∷ ts) (Ev.scalar text style (number s o) None ∷ es)
+    → Says keep_tags (with_anchor s o) (behind p w) ts es → Says keep_tags s (node_and o p w) (Tok.scalar style text ∷ ts)
+    (Ev.scalar text style (number s o) None ∷ es)
 scalar o p style text x =
     content_begins o p refl refl (taken _ refl (said _ refl (rw (then_behind p (held o) (Tok.scalar style text) _) x)))
 
@@ -86,7 +87,8 @@ pub flow_mapping : {keep_tags : Bool} {s : Names} {w : Works} {ts : List Tok} {e
 flow_mapping o p x =
     content_begins o p refl refl (taken _ refl (said _ refl (rw (then_behind p (held o) Tok.flow_mapping_start _) x)))
 
-pub alias : {keep_tags : Bool} {s : Names} {w : Works} {ts : List Tok} {es : List Ev} (p : Place) (name : List ℕ) (number : ℕ) → under_name name s.anchors ≡ Some number
+pub alias : {keep_tags : Bool} {s : Names} {w : Works} {ts : List Tok} {es : List Ev} (p : Place) (name : List ℕ) (number : ℕ)
+    → under_name name s.anchors ≡ Some number
     → Says keep_tags s (behind p w) ts es → Says keep_tags s (node_and None p w) (Tok.alias name ∷ ts) (Ev.alias number ∷ es)
 alias p name number named x = taken _ refl (said _ (rw named refl) (rw (then_behind p (held None) (Tok.alias name) _) x))
 
