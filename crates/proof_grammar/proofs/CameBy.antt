@@ -17,5 +17,6 @@ pub none_by : {G T E H : Type 0} {a : Table G T E H} {g : G} {h : H} {w : List (
 none_by (by_taking qs q d) r = cc
 none_by (by_leaving qs q d) r = cc
 
-pub said_by : {G T E H : Type 0} {a : Table G T E H} {e : E} {w : List (Work G E H)} {ts : List T} {es : List E} → Derives a (saying e ∷ w) ts es → (fs : List E) × (es ≡ e ∷ fs) × Derives a w ts fs
+pub said_by : {G T E H : Type 0} {a : Table G T E H} {e : E} {w : List (Work G E H)} {ts : List T} {es : List E} → Derives a (saying e ∷ w) ts es
+    → (fs : List E) × (es ≡ e ∷ fs) × Derives a w ts fs
 said_by (says {es = es} d) = (es, refl, d)

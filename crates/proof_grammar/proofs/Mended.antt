@@ -39,7 +39,8 @@ bottoms g t r b p = row_holds (λ t r. BottomRow grammar is_bottom t r) (λ t. f
 
 -- ---- tokens that end a goal
 
-at_enders : (P : Tok → Type 0) → P Tok.stream_start → P Tok.stream_end → P Tok.document_start → P Tok.block_end → P Tok.flow_sequence_end → P Tok.flow_mapping_end → (u : Tok) → ends_goal u ≡ true → P u
+at_enders : (P : Tok → Type 0) → P Tok.stream_start → P Tok.stream_end → P Tok.document_start → P Tok.block_end → P Tok.flow_sequence_end → P Tok.flow_mapping_end
+    → (u : Tok) → ends_goal u ≡ true → P u
 at_enders P a b c d e f Tok.stream_start h = a
 at_enders P a b c d e f Tok.stream_end h = b
 at_enders P a b c d e f Tok.document_start h = c
@@ -48,11 +49,14 @@ at_enders P a b c d e f Tok.flow_sequence_end h = e
 at_enders P a b c d e f Tok.flow_mapping_end h = f
 at_enders P a b c d e f _ h = cc
 
+abbrev Leaves : Goal → List (Part Goal Raw) → Tok → Type 0
+Leaves g ps t = row_of (cases g) t ≡ Some (leaves ps)
+
 -- A row for all other tokens is that of these tokens too, and shows none of them.
-others : (g : Goal) (t : Tok) (ps : List (Part Goal Raw)) → row_of (cases g) Tok.stream_start ≡ Some (leaves ps) → row_of (cases g) Tok.stream_end ≡ Some (leaves ps) → row_of (cases g) Tok.document_start ≡ Some (leaves ps)
-    → row_of (cases g) Tok.block_end ≡ Some (leaves ps) → row_of (cases g) Tok.flow_sequence_end ≡ Some (leaves ps) → row_of (cases g) Tok.flow_mapping_end ≡ Some (leaves ps)
+others : (g : Goal) (t : Tok) (ps : List (Part Goal Raw)) → Leaves g ps Tok.stream_start → Leaves g ps Tok.stream_end → Leaves g ps Tok.document_start
+    → Leaves g ps Tok.block_end → Leaves g ps Tok.flow_sequence_end → Leaves g ps Tok.flow_mapping_end
     → ((u : Tok) (h : Held) (w : List (Work Goal Raw Held)) → before grammar h u ps w ≡ before grammar h t ps w) → LeavingRow grammar weight ends_goal g t (leaves ps)
-others g t ps a b c d e f same = inl (λ u is. (at_enders (λ u. row_of (cases g) u ≡ Some (leaves ps)) a b c d e f u is, λ h w. same u h w))
+others g t ps a b c d e f same = inl (λ u is. (at_enders (Leaves g ps) a b c d e f u is, λ h w. same u h w))
 
 -- ---- a node's first token is taken
 
@@ -86,7 +90,8 @@ and_refused e (goes es v) fs p = cc
 and_refused e (refused es) fs p = (es, refl)
 
 -- a document that begins with its node
-bare_taken : (n : ℕ) (t : Tok) → begins_node t ≡ true → (w : List (Work Goal Raw Held)) (es : List Raw) → work_weight weight (saying (Raw.document_start []) ∷ reading (node in_block) nothing_held ∷ w) < n
+bare_taken : (n : ℕ) (t : Tok) → begins_node t ≡ true → (w : List (Work Goal Raw Held)) (es : List Raw)
+    → work_weight weight (saying (Raw.document_start []) ∷ reading (node in_block) nothing_held ∷ w) < n
     → step grammar n (saying (Raw.document_start []) ∷ reading (node in_block) nothing_held ∷ w) t ≡ refused es → ⊥
 bare_taken zero t i w es l e = omega (arith, l)
 bare_taken (suc n) t i w es l e =

@@ -53,8 +53,10 @@ begun = record { more_tokens = later_tokens; more_events = later_events; stream 
 
 -- `[*a, ? b, {? c : d}, ]`: an alias, and both brackets of a flow sequence; a key there is the start of a single pair, in a mapping it is not
 given_in_a_sequence : given_positions
-    (token_at 0 Tok.stream_start ∷ token_at 1 Tok.flow_sequence_start ∷ token_at 2 (Tok.alias (codes "a")) ∷ token_at 4 Tok.flow_entry ∷ token_at 6 Tok.key ∷ token_at 8 (word (codes "b")) ∷ token_at 9 Tok.flow_entry
-    ∷ token_at 11 Tok.flow_mapping_start ∷ token_at 12 Tok.key ∷ token_at 14 (word (codes "c")) ∷ token_at 16 Tok.value ∷ token_at 18 (word (codes "d")) ∷ token_at 19 Tok.flow_mapping_end ∷ token_at 20 Tok.flow_entry
+    (token_at 0 Tok.stream_start ∷ token_at 1 Tok.flow_sequence_start ∷ token_at 2 (Tok.alias (codes "a")) ∷ token_at 4 Tok.flow_entry
+    ∷ token_at 6 Tok.key ∷ token_at 8 (word (codes "b")) ∷ token_at 9 Tok.flow_entry
+    ∷ token_at 11 Tok.flow_mapping_start ∷ token_at 12 Tok.key ∷ token_at 14 (word (codes "c")) ∷ token_at 16 Tok.value ∷ token_at 18 (word (codes "d"))
+    ∷ token_at 19 Tok.flow_mapping_end ∷ token_at 20 Tok.flow_entry
     ∷ token_at 22 Tok.flow_sequence_end ∷ token_at 23 Tok.stream_end ∷ []) ≡ cols (1 ∷ 2 ∷ 6 ∷ 8 ∷ 11 ∷ 14 ∷ 18 ∷ 19 ∷ 22 ∷ [])
 given_in_a_sequence = refl
 
@@ -64,12 +66,15 @@ given_at_a_comma = refl
 
 -- tokens outside flow give none
 none_given : given_positions
-    (token_at 0 Tok.block_mapping_start ∷ token_at 1 Tok.key ∷ token_at 2 (Tok.anchor (codes "a")) ∷ token_at 3 Tok.value ∷ token_at 4 Tok.block_sequence_start ∷ token_at 5 Tok.block_entry ∷ token_at 6 Tok.block_end ∷ []) ≡ []
+    (token_at 0 Tok.block_mapping_start ∷ token_at 1 Tok.key ∷ token_at 2 (Tok.anchor (codes "a")) ∷ token_at 3 Tok.value
+    ∷ token_at 4 Tok.block_sequence_start ∷ token_at 5 Tok.block_entry ∷ token_at 6 Tok.block_end ∷ []) ≡ []
 none_given = refl
 
 -- ---- the events that have them
 
 taken : taken_positions
-    (Raw.flow_sequence_start None None ∷ Raw.alias (codes "a") ∷ Raw.pair_start ∷ plain_raw (codes "b") ∷ nothing_written ∷ Raw.mapping_end ∷ Raw.flow_mapping_start None None ∷ Raw.flow_mapping_end ∷ Raw.flow_sequence_end
-    ∷ Raw.sequence_start None None ∷ Raw.sequence_end ∷ Raw.mapping_start None None ∷ Raw.document_end ∷ []) (cols (0 ∷ 1 ∷ 2 ∷ 3 ∷ 4 ∷ 5 ∷ 6 ∷ 7 ∷ 8 ∷ 9 ∷ 10 ∷ 11 ∷ 12 ∷ [])) ≡ cols (0 ∷ 1 ∷ 2 ∷ 3 ∷ 6 ∷ 7 ∷ 8 ∷ [])
+    (Raw.flow_sequence_start None None ∷ Raw.alias (codes "a") ∷ Raw.pair_start ∷ plain_raw (codes "b") ∷ nothing_written ∷ Raw.mapping_end
+    ∷ Raw.flow_mapping_start None None ∷ Raw.flow_mapping_end ∷ Raw.flow_sequence_end
+    ∷ Raw.sequence_start None None ∷ Raw.sequence_end ∷ Raw.mapping_start None None ∷ Raw.document_end ∷ [])
+    (cols (0 ∷ 1 ∷ 2 ∷ 3 ∷ 4 ∷ 5 ∷ 6 ∷ 7 ∷ 8 ∷ 9 ∷ 10 ∷ 11 ∷ 12 ∷ [])) ≡ cols (0 ∷ 1 ∷ 2 ∷ 3 ∷ 6 ∷ 7 ∷ 8 ∷ [])
 taken = refl

@@ -49,7 +49,8 @@ documents : StreamSays
     ∷ Tok.document_start ∷ word (codes "b") ∷ Tok.document_end
     ∷ Tok.document_start ∷ word (codes "c") ∷ Tok.stream_end ∷ [])
     (Raw.stream_start ∷ Raw.document_start [] ∷ plain_raw (codes "a") ∷ Raw.document_end
-    ∷ Raw.document_start (Directive.tag (codes "!t!") (codes "x:") ∷ Directive.version 1 2 ∷ Directive.tag (codes "!u!") (codes "y:") ∷ []) ∷ nothing_written ∷ Raw.document_end
+    ∷ Raw.document_start (Directive.tag (codes "!t!") (codes "x:") ∷ Directive.version 1 2 ∷ Directive.tag (codes "!u!") (codes "y:") ∷ []) ∷ nothing_written
+    ∷ Raw.document_end
     ∷ Raw.document_start [] ∷ plain_raw (codes "b") ∷ Raw.document_end
     ∷ Raw.document_start [] ∷ plain_raw (codes "c") ∷ Raw.document_end ∷ Raw.stream_end ∷ [])
 documents = says_by refl
@@ -80,7 +81,8 @@ flow_sequence : DocumentSays
     ∷ tagged (codes "v") ∷ anchored (codes "c") ∷ Tok.flow_sequence_start ∷ Tok.flow_sequence_end ∷ Tok.flow_entry
     ∷ tagged (codes "w") ∷ Tok.flow_mapping_start ∷ Tok.flow_mapping_end ∷ Tok.flow_entry
     ∷ Tok.flow_sequence_start ∷ word (codes "y") ∷ Tok.flow_sequence_end ∷ Tok.flow_entry ∷ Tok.flow_sequence_end ∷ [])
-    (Raw.flow_sequence_start None None ∷ properties_said (codes "a") ∷ Raw.empty_scalar None (Some (tag_of_text (codes "!") (codes "t"))) ∷ Raw.alias (codes "a")
+    (Raw.flow_sequence_start None None ∷ properties_said (codes "a") ∷ Raw.empty_scalar None (Some (tag_of_text (codes "!") (codes "t")))
+    ∷ Raw.alias (codes "a")
     ∷ Raw.scalar (codes "x") Style.plain (Some (codes "b")) (Some (tag_of_text (codes "!") (codes "u")))
     ∷ Raw.flow_sequence_start (Some (codes "c")) (Some (tag_of_text (codes "!") (codes "v"))) ∷ Raw.flow_sequence_end
     ∷ Raw.flow_mapping_start None (Some (tag_of_text (codes "!") (codes "w"))) ∷ Raw.flow_mapping_end
@@ -101,10 +103,12 @@ single_pairs = says_by refl
 flow_mapping : DocumentSays
     (Tok.flow_mapping_start ∷ word (codes "a") ∷ Tok.flow_entry ∷ Tok.key ∷ word (codes "b") ∷ Tok.value ∷ word (codes "c") ∷ Tok.flow_entry
     ∷ Tok.value ∷ word (codes "d") ∷ Tok.flow_entry ∷ Tok.key ∷ Tok.flow_entry
-    ∷ anchored (codes "e") ∷ Tok.flow_mapping_start ∷ Tok.key ∷ word (codes "f") ∷ Tok.value ∷ Tok.flow_mapping_end ∷ Tok.flow_entry ∷ Tok.flow_mapping_end ∷ [])
+    ∷ anchored (codes "e") ∷ Tok.flow_mapping_start ∷ Tok.key ∷ word (codes "f") ∷ Tok.value ∷ Tok.flow_mapping_end ∷ Tok.flow_entry ∷ Tok.flow_mapping_end
+    ∷ [])
     (Raw.flow_mapping_start None None ∷ plain_raw (codes "a") ∷ nothing_written ∷ plain_raw (codes "b") ∷ plain_raw (codes "c")
     ∷ nothing_written ∷ plain_raw (codes "d") ∷ nothing_written ∷ nothing_written
-    ∷ Raw.flow_mapping_start (Some (codes "e")) None ∷ plain_raw (codes "f") ∷ nothing_written ∷ Raw.flow_mapping_end ∷ nothing_written ∷ Raw.flow_mapping_end ∷ [])
+    ∷ Raw.flow_mapping_start (Some (codes "e")) None ∷ plain_raw (codes "f") ∷ nothing_written ∷ Raw.flow_mapping_end ∷ nothing_written
+    ∷ Raw.flow_mapping_end ∷ [])
 flow_mapping = says_by refl
 
 -- ---- block
@@ -144,7 +148,8 @@ values = says_by refl
 keys : DocumentSays
     (Tok.block_mapping_start ∷ Tok.key ∷ Tok.block_entry ∷ word (codes "a") ∷ Tok.block_entry ∷ Tok.value ∷ word (codes "b") ∷ Tok.key ∷ word (codes "c") ∷ Tok.key ∷ Tok.alias (codes "d")
     ∷ Tok.key ∷ Tok.flow_sequence_start ∷ Tok.flow_sequence_end ∷ Tok.key ∷ Tok.flow_mapping_start ∷ Tok.flow_mapping_end
-    ∷ Tok.key ∷ Tok.block_sequence_start ∷ Tok.block_end ∷ Tok.key ∷ Tok.block_mapping_start ∷ Tok.block_end ∷ Tok.key ∷ Tok.value ∷ Tok.key ∷ Tok.block_end ∷ [])
+    ∷ Tok.key ∷ Tok.block_sequence_start ∷ Tok.block_end ∷ Tok.key ∷ Tok.block_mapping_start ∷ Tok.block_end ∷ Tok.key ∷ Tok.value ∷ Tok.key ∷ Tok.block_end
+    ∷ [])
     (Raw.mapping_start None None ∷ Raw.sequence_start None None ∷ plain_raw (codes "a") ∷ nothing_written ∷ Raw.sequence_end ∷ plain_raw (codes "b")
     ∷ plain_raw (codes "c") ∷ nothing_written ∷ Raw.alias (codes "d") ∷ nothing_written
     ∷ Raw.flow_sequence_start None None ∷ Raw.flow_sequence_end ∷ nothing_written ∷ Raw.flow_mapping_start None None ∷ Raw.flow_mapping_end ∷ nothing_written
@@ -177,7 +182,8 @@ tags_kept : IsStream true
 tags_kept = stream_by refl refl
 
 -- The tokens are read in no other way, and what they say has no events.
-no_reading : {keep_tags : Bool} {tokens : List Tok} {raws : List Raw} → read_stream tokens ≡ reads raws → named keep_tags no_names raws ≡ None → (es : List Ev) → IsStream keep_tags tokens es → ⊥
+no_reading : {keep_tags : Bool} {tokens : List Tok} {raws : List Raw} → read_stream tokens ≡ reads raws → named keep_tags no_names raws ≡ None → (es : List Ev)
+    → IsStream keep_tags tokens es → ⊥
 no_reading {keep_tags} {tokens} {raws} h none es s =
     let same : s.raws ≡ raws = read_in_one_way tokens s.raws raws s.says (says_by h) in
     cc (ap (named keep_tags no_names) same ∙ none, s.has_events)

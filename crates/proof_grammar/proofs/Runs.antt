@@ -45,7 +45,8 @@ open_after bottom (saying e) w o = o
 open_after bottom (reading g h) [] o = cc
 open_after bottom (reading g h) (x ∷ w) o = o
 
-open_before : {G T E H : Type 0} (a : Table G T E H) (bottom : G → Bool) (h : H) (t : T) (ps : List (Part G E)) (w : List (Work G E H)) → is_open bottom w ≡ true → is_open bottom (before a h t ps w) ≡ true
+open_before : {G T E H : Type 0} (a : Table G T E H) (bottom : G → Bool) (h : H) (t : T) (ps : List (Part G E)) (w : List (Work G E H))
+    → is_open bottom w ≡ true → is_open bottom (before a h t ps w) ≡ true
 open_before a bottom h t [] w o = o
 open_before a bottom h t (p ∷ ps) w o = open_after bottom (part_work a h t p) (before a h t ps w) (open_before a bottom h t ps w o)
 
@@ -63,18 +64,20 @@ leaves_open a bottom g h t ps (x ∷ w) r o = open_before a bottom h t ps (x ∷
 -- ---- a turn of open work
 
 -- It goes on, on track and in step; or the token is refused by right.
-abbrev TurnsRight : {G T E H : Type 0} → Table G T E H → (bottom : G → Bool) → (ends : T → Bool) → (start : List (Work G E H)) → (taken : List T) → T → (given : List E) → Turned G E H → Type 0
+abbrev TurnsRight : {G T E H : Type 0} → Table G T E H → (bottom : G → Bool) → (ends : T → Bool) → (start : List (Work G E H)) → (taken : List T) → T
+    → (given : List E) → Turned G E H → Type 0
 TurnsRight a bottom ends start taken t given (goes es v) = IsOnTrack a ends start v (taken ++ t ∷ []) None (given ++ es) × IsInStep bottom v
 TurnsRight a bottom ends start taken t given (refused es) = Begins a start taken (given ++ es) × NeverGoesOn a start taken t
 
-turn_saying : {G T E H : Type 0} (a : Table G T E H) (bottom : G → Bool) (ends : T → Bool) (start : List (Work G E H)) (taken : List T) (t : T) (given : List E) (e : E) (o : Turned G E H)
-    → TurnsRight a bottom ends start taken t (given ++ e ∷ []) o → TurnsRight a bottom ends start taken t given (and_before e o)
+turn_saying : {G T E H : Type 0} (a : Table G T E H) (bottom : G → Bool) (ends : T → Bool) (start : List (Work G E H)) (taken : List T) (t : T) (given : List E)
+    (e : E) (o : Turned G E H) → TurnsRight a bottom ends start taken t (given ++ e ∷ []) o → TurnsRight a bottom ends start taken t given (and_before e o)
 turn_saying a bottom ends start taken t given e (goes es v) x =
     (subst (λ l. IsOnTrack a ends start v (taken ++ t ∷ []) None l) (append_assoc given (e ∷ []) es) x.0, x.1)
 turn_saying a bottom ends start taken t given e (refused es) x = (subst (λ l. Begins a start taken l) (append_assoc given (e ∷ []) es) x.0, x.1)
 
 turn_row : {G T E H : Type 0} {a : Table G T E H} {m : G → ℕ} {bottom : G → Bool} {ends : T → Bool} → IsMended a m bottom ends
-    → {start : List (Work G E H)} {g : G} {h : H} {w : List (Work G E H)} {taken : List T} {t : T} {given : List E} → IsOnTrack a ends start (reading g h ∷ w) taken (Some t) given
+    → {start : List (Work G E H)} {g : G} {h : H} {w : List (Work G E H)} {taken : List T} {t : T} {given : List E}
+    → IsOnTrack a ends start (reading g h ∷ w) taken (Some t) given
     → (n : ℕ) (r : Option (Row G E)) → row_of (a.cases g) t ≡ r → work_weight m (reading g h ∷ w) < suc n → is_open bottom (reading g h ∷ w) ≡ true
     → ((v : List (Work G E H)) → IsOnTrack a ends start v taken (Some t) given → work_weight m v < n → is_open bottom v ≡ true → TurnsRight a bottom ends start taken t given (step a n v t))
     → TurnsRight a bottom ends start taken t given (by_row a h t w (λ v. step a n v t) r)
@@ -132,8 +135,8 @@ events_along given es (stops fs ts) = ap (λ l. stops l ts) (append_assoc given 
 abbrev RightFrom : {G T E H : Type 0} → Table G T E H → (start : List (Work G E H)) → (taken : List T) → (given : List E) → (ts : List T) → Outcome T E → Type 0
 RightFrom a start taken given ts o = IsRight a start (taken ++ ts) (after_events given o)
 
-right_end : {G T E H : Type 0} {a : Table G T E H} {ends : T → Bool} {start : List (Work G E H)} {taken : List T} {given : List E} → Completes a → (w : List (Work G E H))
-    → IsOnTrack a ends start w taken None given → RightFrom a start taken given [] (finish w)
+right_end : {G T E H : Type 0} {a : Table G T E H} {ends : T → Bool} {start : List (Work G E H)} {taken : List T} {given : List E} → Completes a
+    → (w : List (Work G E H)) → IsOnTrack a ends start w taken None given → RightFrom a start taken given [] (finish w)
 right_end c [] x = x.sound [] [] tt nothing_left
 right_end {a = a} {start = start} {taken = taken} {given = given} c (saying e ∷ w) x =
     subst (λ o. IsRight a start (taken ++ []) o) (events_along given (e ∷ []) (finish w)) (right_end c w (give x))
@@ -142,8 +145,8 @@ right_end {a = a} {start = start} {taken = taken} {given = given} c (reading g h
     let b : Derives a start ((taken ++ []) ++ k.0) ((given ++ []) ++ k.1) = rw (append-nil taken, append-nil given) (x.sound k.0 k.1 tt k.2) in
     ((k.0, k.1, b), λ fs d. let y = x.exact [] fs tt d in elim y.2 [ ])
 
-right_on : {G T E H : Type 0} (a : Table G T E H) (bottom : G → Bool) (ends : T → Bool) (start : List (Work G E H)) (taken : List T) (given : List E) (t : T) (ts : List T)
-    (again : List (Work G E H) → Outcome T E) (o : Turned G E H) → TurnsRight a bottom ends start taken t given o
+right_on : {G T E H : Type 0} (a : Table G T E H) (bottom : G → Bool) (ends : T → Bool) (start : List (Work G E H)) (taken : List T) (given : List E) (t : T)
+    (ts : List T) (again : List (Work G E H) → Outcome T E) (o : Turned G E H) → TurnsRight a bottom ends start taken t given o
     → ((v : List (Work G E H)) (given : List E) → IsInStep bottom v → IsOnTrack a ends start v (taken ++ t ∷ []) None given → RightFrom a start (taken ++ t ∷ []) given ts (again v))
     → RightFrom a start taken given (t ∷ ts) (go_on t ts again o)
 right_on a bottom ends start taken given t ts again (goes es v) x i =
@@ -152,8 +155,8 @@ right_on a bottom ends start taken given t ts again (goes es v) x i =
 right_on a bottom ends start taken given t ts again (refused es) x i = record { seen = taken; bad = t; after = ts; is_unread = refl; are_all = refl; begins = x.0; never = x.1 }
 
 right_from : {G T E H : Type 0} {a : Table G T E H} {m : G → ℕ} {bottom : G → Bool} {ends : T → Bool} → IsMended a m bottom ends
-    → {start : List (Work G E H)} {taken : List T} {given : List E} (w : List (Work G E H)) (ts : List T) → IsInStep bottom w → IsOnTrack a ends start w taken None given
-    → RightFrom a start taken given ts (run a m w ts)
+    → {start : List (Work G E H)} {taken : List T} {given : List E} (w : List (Work G E H)) (ts : List T) → IsInStep bottom w
+    → IsOnTrack a ends start w taken None given → RightFrom a start taken given ts (run a m w ts)
 right_from c w [] s x = right_end c.completes w x
 right_from {a = a} {m = m} {bottom = bottom} {ends = ends} c {start} {taken} {given} w (t ∷ ts) s x =
     let n = suc (work_weight m w) in

@@ -24,7 +24,8 @@ stream_outcome tokens = run_is_right mended whole_stream tokens (inl refl)
 pub says_by : {tokens : List Tok} {raws : List Raw} → read_stream tokens ≡ reads raws → StreamSays tokens raws
 says_by {tokens} h = subst (IsRight grammar whole_stream tokens) h (stream_outcome tokens)
 
-pub stream_by : {keep_tags : Bool} {tokens : List Tok} {raws : List Raw} {events : List Ev} → read_stream tokens ≡ reads raws → named keep_tags no_names raws ≡ Some events → IsStream keep_tags tokens events
+pub stream_by : {keep_tags : Bool} {tokens : List Tok} {raws : List Raw} {events : List Ev} → read_stream tokens ≡ reads raws
+    → named keep_tags no_names raws ≡ Some events → IsStream keep_tags tokens events
 stream_by {raws = raws} h e = record { raws = raws; says = says_by h; has_events = e }
 
 pub all_stay : ParsersStayOnTrack

@@ -55,8 +55,8 @@ give {a = a} {start = start} {w = w} {e = e} {taken = taken} {next = next} {give
 }
 
 -- A row takes the next token.
-pub take : {G T E H : Type 0} {a : Table G T E H} {ends : T → Bool} {start : List (Work G E H)} {g : G} {h : H} {w : List (Work G E H)} {taken : List T} {t : T} {given : List E}
-    → IsOnTrack a ends start (reading g h ∷ w) taken (Some t) given → (ps : List (Part G E)) → row_of (a.cases g) t ≡ Some (takes ps)
+pub take : {G T E H : Type 0} {a : Table G T E H} {ends : T → Bool} {start : List (Work G E H)} {g : G} {h : H} {w : List (Work G E H)} {taken : List T} {t : T}
+    {given : List E} → IsOnTrack a ends start (reading g h ∷ w) taken (Some t) given → (ps : List (Part G E)) → row_of (a.cases g) t ≡ Some (takes ps)
     → IsOnTrack a ends start (before a h t ps w) (taken ++ t ∷ []) None given
 take {a = a} {ends = ends} {start = start} {taken = taken} {t = t} {given = given} x ps r = record {
   too = true;
@@ -72,14 +72,17 @@ as_first : {G T E H : Type 0} {a : Table G T E H} {g : G} {h : H} {w : List (Wor
 as_first {a = a} {g = g} {h = h} {w = w} {u = u} {ts = ts} {es = es} ps r e d =
     by_leaving ps (ap (λ v. row_of (a.cases g) v) e ∙ r) (subst (λ v. Derives a (before a h v ps w) (u ∷ ts) es) (sym e) d)
 
-left_sound : {G T E H : Type 0} {a : Table G T E H} (ends : T → Bool) {g : G} {h : H} {w : List (Work G E H)} (t : T) (ps : List (Part G E)) (ts : List T) {es : List E} (too : Bool)
-    → row_of (a.cases g) t ≡ Some (leaves ps) → HaveIt a ends g t ps → MayBegin ends too (Some t) ts → Derives a (before a h t ps w) ts es → Derives a (reading g h ∷ w) ts es
+left_sound : {G T E H : Type 0} {a : Table G T E H} (ends : T → Bool) {g : G} {h : H} {w : List (Work G E H)} (t : T) (ps : List (Part G E)) (ts : List T)
+    {es : List E} (too : Bool)
+    → row_of (a.cases g) t ≡ Some (leaves ps) → HaveIt a ends g t ps → MayBegin ends too (Some t) ts → Derives a (before a h t ps w) ts es
+    → Derives a (reading g h ∷ w) ts es
 left_sound ends t ps [] too r l b d = absurd b
 left_sound ends t ps (u ∷ ts) true r l (inl e) d = as_first ps r e d
 left_sound {a = a} ends {h = h} {w = w} t ps (u ∷ ts) {es} true r l (inr e) d = let k = l u e in by_leaving ps k.0 (subst (λ v. Derives a v (u ∷ ts) es) (sym (k.1 h w)) d)
 left_sound ends t ps (u ∷ ts) false r l e d = as_first ps r e d
 
-left_alone : {G T E H : Type 0} {a : Table G T E H} (ends : T → Bool) {g : G} {h : H} {w : List (Work G E H)} (t : T) (ps : List (Part G E)) (ts : List T) {es : List E}
+left_alone : {G T E H : Type 0} {a : Table G T E H} (ends : T → Bool) {g : G} {h : H} {w : List (Work G E H)} (t : T) (ps : List (Part G E)) (ts : List T)
+    {es : List E}
     → row_of (a.cases g) t ≡ Some (leaves ps) → MayBegin ends false (Some t) ts → Derives a (before a h t ps w) ts es → Derives a (reading g h ∷ w) ts es
 left_alone ends t ps [] r b d = absurd b
 left_alone ends t ps (u ∷ ts) r e d = as_first ps r e d
@@ -90,9 +93,10 @@ alone ends too t [] b = absurd b
 alone ends true t (u ∷ ts) b = inl b
 alone ends false t (u ∷ ts) b = b
 
-left_exact : {G T E H : Type 0} {a : Table G T E H} {ends : T → Bool} {start : List (Work G E H)} {g : G} {h : H} {w : List (Work G E H)} {taken : List T} {t : T} {given : List E}
-    → IsOnTrack a ends start (reading g h ∷ w) taken (Some t) given → (ps : List (Part G E)) → row_of (a.cases g) t ≡ Some (leaves ps)
-    → (ts : List T) (es : List E) → IsNext (Some t) ts → Derives a start (taken ++ ts) es → (fs : List E) × (es ≡ given ++ fs) × Derives a (before a h t ps w) ts fs
+left_exact : {G T E H : Type 0} {a : Table G T E H} {ends : T → Bool} {start : List (Work G E H)} {g : G} {h : H} {w : List (Work G E H)} {taken : List T}
+    {t : T} {given : List E} → IsOnTrack a ends start (reading g h ∷ w) taken (Some t) given → (ps : List (Part G E)) → row_of (a.cases g) t ≡ Some (leaves ps)
+    → (ts : List T) (es : List E) → IsNext (Some t) ts → Derives a start (taken ++ ts) es
+    → (fs : List E) × (es ≡ given ++ fs) × Derives a (before a h t ps w) ts fs
 left_exact x ps r [] es n d = absurd n
 left_exact {a = a} {g = g} {h = h} {w = w} {t = t} x ps r (u ∷ ts) es n d =
     let y = x.exact (u ∷ ts) es n d in
@@ -100,11 +104,13 @@ left_exact {a = a} {g = g} {h = h} {w = w} {t = t} x ps r (u ∷ ts) es n d =
     (y.0, y.1, subst (λ v. Derives a (before a h t ps w) (v ∷ ts) y.0) (sym n) (left_by z ps r))
 
 -- work whose turn does not refuse a token goes on with it
-not_refused : {G T E H : Type 0} (a : Table G T E H) (m : G → ℕ) (w : List (Work G E H)) (t : T) (o : Turned G E H) → Completes a → Sound a w t o → ((es : List E) → o ≡ refused es → ⊥) → GoesOn a w (Some t)
+not_refused : {G T E H : Type 0} (a : Table G T E H) (m : G → ℕ) (w : List (Work G E H)) (t : T) (o : Turned G E H) → Completes a → Sound a w t o
+    → ((es : List E) → o ≡ refused es → ⊥) → GoesOn a w (Some t)
 not_refused a m w t (goes es v) c s n = let k = all_complete a c v in (k.0, es ++ k.1, s k.0 k.1 k.2)
 not_refused a m w t (refused es) c s n = absurd (n es refl)
 
-pub leave : {G T E H : Type 0} {a : Table G T E H} (m : G → ℕ) {ends : T → Bool} {start : List (Work G E H)} {g : G} {h : H} {w : List (Work G E H)} {taken : List T} {t : T} {given : List E}
+pub leave : {G T E H : Type 0} {a : Table G T E H} (m : G → ℕ) {ends : T → Bool} {start : List (Work G E H)} {g : G} {h : H} {w : List (Work G E H)}
+    {taken : List T} {t : T} {given : List E}
     → IsOnTrack a ends start (reading g h ∷ w) taken (Some t) given → Completes a → (ps : List (Part G E)) → row_of (a.cases g) t ≡ Some (leaves ps)
     → LeavingRow a m ends g t (leaves ps) → IsOnTrack a ends start (before a h t ps w) taken (Some t) given
 leave m {ends = ends} {t = t} x c ps r (inl l) = record {
@@ -126,8 +132,8 @@ leave {a = a} m {ends = ends} {h = h} {w = w} {t = t} x c ps r (inr l) =
 -- ---- refusals
 
 -- No row is for the next token: no stream begins so, but one begins with the tokens before and with the events that were given.
-pub refuse : {G T E H : Type 0} {a : Table G T E H} {ends : T → Bool} {start : List (Work G E H)} {g : G} {h : H} {w : List (Work G E H)} {taken : List T} {t : T} {given : List E}
-    → IsOnTrack a ends start (reading g h ∷ w) taken (Some t) given → Completes a → EndsGoal a ends g h → row_of (a.cases g) t ≡ None
+pub refuse : {G T E H : Type 0} {a : Table G T E H} {ends : T → Bool} {start : List (Work G E H)} {g : G} {h : H} {w : List (Work G E H)} {taken : List T}
+    {t : T} {given : List E} → IsOnTrack a ends start (reading g h ∷ w) taken (Some t) given → Completes a → EndsGoal a ends g h → row_of (a.cases g) t ≡ None
     → Begins a start taken given × NeverGoesOn a start taken t
 refuse {a = a} {ends = ends} {start = start} {g = g} {h = h} {w = w} {taken = taken} {t = t} {given = given} x c e r =
     (begun x.too refl, λ ts es d. let y = x.exact (t ∷ ts) es refl d in none_by y.2 r)

@@ -3,16 +3,17 @@ use Rattle.std.proofs.Common.{◌≡◌, ℕ, Bool, List, [], ◌∷◌, None, O
 use Rattle.defs_token.specs.Token.{Tok}
 use Rattle.defs_tree.specs.Tree.{Tree}
 use Rattle.defs_layout.specs.QuotedText.{Quotes, single, double, style_of}
-use Rattle.proof_grammar.proofs.Streams.{stream_by}
+use Rattle.defs_event.specs.Grammar.{in_block}
 use Rattle.defs_event.specs.Nested.{nested_scalar, with_node}
 use Rattle.defs_event.specs.Reading.{reading}
 use Rattle.defs_event.specs.ReadAs.{ReadAs}
 use Rattle.proof_layout_trees.specs.Laws.{QuotedTokensReadAsTheirString}
+use Rattle.proof_layout_trees.proofs.Says.{taken, left, said, scalar, stream_ends, stream_said}
 
 one_scalar : (keep_tags : Bool) (quotes : Quotes) (value : List ℕ) → ReadAs keep_tags (Tok.stream_start ∷ Tok.scalar (style_of quotes) value ∷ Tok.stream_end ∷ []) (Tree.string value ∷ [])
 one_scalar keep_tags quotes value = record {
   documents = with_node (nested_scalar value (style_of quotes) 0 None) ∷ [];
-  stream = stream_by refl refl;
+  stream = stream_said (taken _ refl (said _ refl (left _ refl (said _ refl (scalar None in_block (style_of quotes) value stream_ends)))));
   trees_are = by quotes;
 }
   where

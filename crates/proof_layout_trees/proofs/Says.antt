@@ -1,5 +1,5 @@
 -- What work reads and says by the table of the token grammar, where the names of its events are resolved.
-use Rattle.std.proofs.Common.{◌≡◌, ℕ, Bool, List, [], ◌∷◌, Option, Some, None, refl}
+use Rattle.std.proofs.Common.{◌≡◌, ℕ, Bool, List, [], ◌∷◌, Option, Some, None, refl, subst}
 use Rattle.defs_token.specs.Token.{Tok, Style}
 use Rattle.defs_event.specs.Event.{Ev}
 use Rattle.defs_event.specs.Raw.{Raw}
@@ -7,7 +7,6 @@ use Rattle.defs_event.specs.Table.{Part, Row, read, keep, say, takes, leaves, ro
 use Rattle.defs_event.specs.Grammar as at
 use Rattle.defs_event.specs.Grammar.{Held, nothing_held, Side, Place, in_flow, in_block, in_pair, Goal, node, content, after_anchor, cases, then_in, grammar}
 use Rattle.defs_event.specs.Names.{Names, no_names, under_name, number, with_anchor, names_after, resolved_event, named}
-use Rattle.proof_grammar.proofs.CameBy.{taken_by}
 use Rattle.defs_event.specs.Stream.{IsStream, whole_stream}
 
 abbrev pub Works : Type 0
@@ -25,12 +24,12 @@ pub record Says (keep_tags : Bool) (s : Names) (w : Works) (ts : List Tok) (es :
 
 -- ---- one row, one event
 
-pub taken : {keep_tags : Bool} {s : Names} {g : Goal} {h : Held} {w : Works} {t : Tok} {ts : List Tok} {es : List Ev} (ps : List (Part Goal Raw)) → row_of (cases g) t ≡ Some (takes ps)
-    → Says keep_tags s (before grammar h t ps w) ts es → Says keep_tags s (reading g h ∷ w) (t ∷ ts) es
+pub taken : {keep_tags : Bool} {s : Names} {g : Goal} {h : Held} {w : Works} {t : Tok} {ts : List Tok} {es : List Ev} (ps : List (Part Goal Raw))
+    → row_of (cases g) t ≡ Some (takes ps) → Says keep_tags s (before grammar h t ps w) ts es → Says keep_tags s (reading g h ∷ w) (t ∷ ts) es
 taken ps row x = record { raws = x.raws; derived = by_taking ps row x.derived; names = x.names }
 
-pub left : {keep_tags : Bool} {s : Names} {g : Goal} {h : Held} {w : Works} {t : Tok} {ts : List Tok} {es : List Ev} (ps : List (Part Goal Raw)) → row_of (cases g) t ≡ Some (leaves ps)
-    → Says keep_tags s (before grammar h t ps w) (t ∷ ts) es → Says keep_tags s (reading g h ∷ w) (t ∷ ts) es
+pub left : {keep_tags : Bool} {s : Names} {g : Goal} {h : Held} {w : Works} {t : Tok} {ts : List Tok} {es : List Ev} (ps : List (Part Goal Raw))
+    → row_of (cases g) t ≡ Some (leaves ps) → Says keep_tags s (before grammar h t ps w) (t ∷ ts) es → Says keep_tags s (reading g h ∷ w) (t ∷ ts) es
 left ps row x = record { raws = x.raws; derived = by_leaving ps row x.derived; names = x.names }
 
 pub said : {keep_tags : Bool} {s : Names} {e : Ev} {w : Works} {ts : List Tok} {es : List Ev} (raw : Raw) → resolved_event s raw ≡ Some e
@@ -70,7 +69,8 @@ content_begins None p alone anchored x = left _ alone x
 content_begins (Some name) p alone anchored x = left _ anchored x
 
 pub scalar : {keep_tags : Bool} {s : Names} {w : Works} {ts : List Tok} {es : List Ev} (o : Option (List ℕ)) (p : Place) (style : Style) (text : List ℕ)
-    → Says keep_tags (with_anchor s o) (behind p w) ts es → Says keep_tags s (node_and o p w) (Tok.scalar style text ∷ ts) (Ev.scalar text style (number s o) None ∷ es)
+    → Says keep_tags (with_anchor s o) (behind p w) ts es → Says keep_tags s (node_and o p w) (Tok.scalar style text ∷ ts)
+    (Ev.scalar text style (number s o) None ∷ es)
 scalar o p style text x =
     content_begins o p refl refl (taken _ refl (said _ refl (rw (then_behind p (held o) (Tok.scalar style text) _) x)))
 
@@ -86,7 +86,8 @@ pub flow_mapping : {keep_tags : Bool} {s : Names} {w : Works} {ts : List Tok} {e
 flow_mapping o p x =
     content_begins o p refl refl (taken _ refl (said _ refl (rw (then_behind p (held o) Tok.flow_mapping_start _) x)))
 
-pub alias : {keep_tags : Bool} {s : Names} {w : Works} {ts : List Tok} {es : List Ev} (p : Place) (name : List ℕ) (number : ℕ) → under_name name s.anchors ≡ Some number
+pub alias : {keep_tags : Bool} {s : Names} {w : Works} {ts : List Tok} {es : List Ev} (p : Place) (name : List ℕ) (number : ℕ)
+    → under_name name s.anchors ≡ Some number
     → Says keep_tags s (behind p w) ts es → Says keep_tags s (node_and None p w) (Tok.alias name ∷ ts) (Ev.alias number ∷ es)
 alias p name number named x = taken _ refl (said _ (rw named refl) (rw (then_behind p (held None) (Tok.alias name) _) x))
 
@@ -110,11 +111,18 @@ block_mapping o (Some side) x =
     content_begins o (in_pair side) refl refl (taken _ refl (said _ refl (rw (then_behind (in_pair side) (held o) Tok.block_mapping_start _) x)))
 
 -- A sequence without indentation begins with an entry.
+entry_taken : (side : Side) (w : Works) (ts : List Tok) (raws : List Raw) → Derives grammar (goal_and (at.indentless_sequence_entries side) w) (Tok.block_entry ∷ ts) raws
+    → Derives grammar (goal_and (node in_block) (goal_and (at.indentless_sequence_entries side) w)) ts raws
+entry_taken side w ts raws (by_taking ps row d) =
+    let same : ps ≡ read (node in_block) ∷ read (at.indentless_sequence_entries side) ∷ [] = cc row in
+    subst (λ ps. Derives grammar (before grammar nothing_held Tok.block_entry ps w) ts raws) same d
+entry_taken side w ts raws (by_leaving ps row d) = cc
+
 pub indentless_sequence : {keep_tags : Bool} {s : Names} {w : Works} {ts : List Tok} {es : List Ev} (side : Side)
     → Says keep_tags s (goal_and (at.indentless_sequence_entries side) w) (Tok.block_entry ∷ ts) es
     → Says keep_tags s (node_and None (in_pair side) w) (Tok.block_entry ∷ ts) (Ev.sequence_start 0 None ∷ es)
-indentless_sequence side x =
-    left _ refl (taken _ refl (said _ refl (record { raws = x.raws; derived = taken_by x.derived _ refl; names = x.names })))
+indentless_sequence {w = w} {ts = ts} side x =
+    left _ refl (taken _ refl (said _ refl (record { raws = x.raws; derived = entry_taken side w ts x.raws x.derived; names = x.names })))
 
 -- It ends where the mapping goes on: no entry stands there.
 no_entry : (t : Tok) (r : Row Goal Raw) → row_of (cases at.block_mapping_entries) t ≡ Some r

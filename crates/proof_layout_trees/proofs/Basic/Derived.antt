@@ -14,26 +14,26 @@ use Rattle.proof_layout_trees.specs.BasicNest.{scalar_nest, inline_nest, block_n
 use Rattle.proof_layout_trees.specs.Laws.{BasicTokensAreAStream}
 use Rattle.proof_layout_trees.proofs.Says.{Works, goal_and, Says, taken, left, said, behind, outside, scalar, flow_sequence, flow_mapping, block_sequence, block_mapping, stream_ends, stream_said}
 
-scalar_said : {keep_tags : Bool} {s : Names} {w : Works} {r : List Tok} {es : List Ev} (p : Place) (x : Scalar) (h : IsBasicScalar x) → Says keep_tags s (behind p w) r es
-    → Says keep_tags s (goal_and (node p) w) (scalar_token x ∷ r) (nest_events (scalar_nest x h) es)
+scalar_said : {keep_tags : Bool} {s : Names} {w : Works} {r : List Tok} {es : List Ev} (p : Place) (x : Scalar) (h : IsBasicScalar x)
+    → Says keep_tags s (behind p w) r es → Says keep_tags s (goal_and (node p) w) (scalar_token x ∷ r) (nest_events (scalar_nest x h) es)
 scalar_said p (Scalar.plain t) h d = scalar None p _ _ d
 scalar_said p (Scalar.quoted text) h d = scalar None p _ _ d
 scalar_said p (Scalar.single_quoted text) h d = absurd h
 
-inline_said : {keep_tags : Bool} {s : Names} {w : Works} {r : List Tok} {es : List Ev} (p : Place) (i : Inline) (h : IsBasicInline i) → Says keep_tags s (behind p w) r es
-    → Says keep_tags s (goal_and (node p) w) (inline_tokens i r) (nest_events (inline_nest i h) es)
+inline_said : {keep_tags : Bool} {s : Names} {w : Works} {r : List Tok} {es : List Ev} (p : Place) (i : Inline) (h : IsBasicInline i)
+    → Says keep_tags s (behind p w) r es → Says keep_tags s (goal_and (node p) w) (inline_tokens i r) (nest_events (inline_nest i h) es)
 inline_said p (Inline.scalar x) h d = scalar_said p x h d
 inline_said p Inline.empty_array h d = flow_sequence None p (taken _ refl (said _ refl d))
 inline_said p Inline.empty_hash h d = flow_mapping None p (taken _ refl (said _ refl d))
 
 mutual
-  block_said : {keep_tags : Bool} {s : Names} {w : Works} {r : List Tok} {es : List Ev} (q : Option Side) (b : Block) (h : IsBasicBlock b) → Says keep_tags s (behind (outside q) w) r es
-      → Says keep_tags s (goal_and (node (outside q)) w) (block_tokens b r) (nest_events (block_nest b h) es)
+  block_said : {keep_tags : Bool} {s : Names} {w : Works} {r : List Tok} {es : List Ev} (q : Option Side) (b : Block) (h : IsBasicBlock b)
+      → Says keep_tags s (behind (outside q) w) r es → Says keep_tags s (goal_and (node (outside q)) w) (block_tokens b r) (nest_events (block_nest b h) es)
   block_said q (Block.array vs) h d = block_sequence None q (entries_said vs h d)
   block_said q (Block.hash fs) h d = block_mapping None q (fields_said fs h d)
 
-  value_said : {keep_tags : Bool} {s : Names} {w : Works} {r : List Tok} {es : List Ev} (q : Option Side) (v : Value) (h : IsBasicValue v) → Says keep_tags s (behind (outside q) w) r es
-      → Says keep_tags s (goal_and (node (outside q)) w) (value_tokens v r) (nest_events (value_nest v h) es)
+  value_said : {keep_tags : Bool} {s : Names} {w : Works} {r : List Tok} {es : List Ev} (q : Option Side) (v : Value) (h : IsBasicValue v)
+      → Says keep_tags s (behind (outside q) w) r es → Says keep_tags s (goal_and (node (outside q)) w) (value_tokens v r) (nest_events (value_nest v h) es)
   value_said q (Value.beside more i after) h d = inline_said (outside q) i h.0 d
   value_said q (Value.literal more column text ls) h d = scalar None (outside q) _ _ d
   value_said q (Value.compact more b) h d = block_said q b h d
@@ -56,7 +56,8 @@ mutual
   field_said (Field.explicit k g v) h ns es d = taken _ refl (value_said (Some at.key) k h.0 (taken _ refl (value_said (Some at.value) v h.1 d)))
 
   fields_said : {keep_tags : Bool} {s : Names} {w : Works} {r : List Tok} {es : List Ev} (fs : Fields) (h : AreBasicFields fs) → Says keep_tags s w r es
-      → Says keep_tags s (goal_and at.block_mapping_entries w) (all_field_tokens fs (Tok.block_end ∷ r)) (nest_pairs_events (all_field_nests fs h) (Ev.mapping_end ∷ es))
+      → Says keep_tags s (goal_and at.block_mapping_entries w) (all_field_tokens fs (Tok.block_end ∷ r))
+      (nest_pairs_events (all_field_nests fs h) (Ev.mapping_end ∷ es))
   fields_said (Fields.last_field f) h d = field_said f h _ _ (taken _ refl (said _ refl d))
   fields_said (Fields.field f g fs) h d = field_said f h.0 _ _ (fields_said fs h.1 d)
 

@@ -16,7 +16,8 @@ use Rattle.proof_layout_trees.proofs.Says.{Works, goal_and, Says, taken, left, s
 
 -- ---- a value's first token leaves a goal for a node
 
-item_left : {keep_tags : Bool} {s : Names} {w : Works} {es : List Ev} (v : Json) (r : List Tok) → Says keep_tags s (goal_and (node in_flow) (goal_and at.flow_sequence_comma w)) (json_tokens v r) es
+item_left : {keep_tags : Bool} {s : Names} {w : Works} {es : List Ev} (v : Json) (r : List Tok)
+    → Says keep_tags s (goal_and (node in_flow) (goal_and at.flow_sequence_comma w)) (json_tokens v r) es
     → Says keep_tags s (goal_and at.flow_sequence_entries w) (json_tokens v r) es
 item_left Json.false_word r x = left _ refl x
 item_left _ r x = left _ refl x
@@ -44,13 +45,15 @@ mutual
 
   -- after `[` or a comma
   elements_said : {keep_tags : Bool} {s : Names} {w : Works} {r : List Tok} {es : List Ev} (vs : Elements) → Says keep_tags s w r es
-      → Says keep_tags s (goal_and at.flow_sequence_entries w) (element_tokens vs (Tok.flow_sequence_end ∷ r)) (nests_events (element_nests vs) (Ev.sequence_end ∷ es))
+      → Says keep_tags s (goal_and at.flow_sequence_entries w) (element_tokens vs (Tok.flow_sequence_end ∷ r))
+      (nests_events (element_nests vs) (Ev.sequence_end ∷ es))
   elements_said (Elements.last_element v a) x = item_left v _ (value_said in_flow v (taken _ refl (said _ refl x)))
   elements_said (Elements.element v a b vs) x = item_left v _ (value_said in_flow v (taken _ refl (elements_said vs x)))
 
   -- after `{` or a comma
   members_said : {keep_tags : Bool} {s : Names} {w : Works} {r : List Tok} {es : List Ev} (ms : Members) → Says keep_tags s w r es
-      → Says keep_tags s (goal_and at.flow_mapping_entries w) (member_tokens ms (Tok.flow_mapping_end ∷ r)) (nest_pairs_events (member_nests ms) (Ev.mapping_end ∷ es))
+      → Says keep_tags s (goal_and at.flow_mapping_entries w) (member_tokens ms (Tok.flow_mapping_end ∷ r))
+      (nest_pairs_events (member_nests ms) (Ev.mapping_end ∷ es))
   members_said (Members.last_member k g h v a) x =
       taken _ refl (scalar None in_flow _ _ (taken _ refl (value_said in_flow v (taken _ refl (said _ refl x)))))
   members_said (Members.member k g h v a b ms) x =

@@ -22,7 +22,8 @@ use Rattle.proof_layout_trees.proofs.Numbered.{Agrees, After, after_nothing, aft
 pub record ReadsNode (keep_tags : Bool) (s : Names) (a b : List Anchor) (read : Anchors) (o : Option (List ℕ)) (p : Place) (tokens : List Tok → List Tok) (t : Tree) : Type 0 where
   pub after : After s a b
   pub node : Nest
-  pub says : (w : Works) (r : List Tok) (es : List Ev) → Says keep_tags after.names (behind p w) r es → Says keep_tags s (node_and o p w) (tokens r) (nest_events node es)
+  pub says : (w : Works) (r : List Tok) (es : List Ev) → Says keep_tags after.names (behind p w) r es
+      → Says keep_tags s (node_and o p w) (tokens r) (nest_events node es)
   pub reads : read_node node read ≡ Ok (t, after.read)
 
 -- the items of a sequence at p, with its end
@@ -43,7 +44,8 @@ pub record ReadsPairs (keep_tags : Bool) (s : Names) (a b : List Anchor) (read :
 
 -- ---- nodes
 
-pub scalar_reads : {keep_tags : Bool} {s : Names} {a : List Anchor} {read : Anchors} (o : Option (List ℕ)) (p : Place) (style : Style) (text : List ℕ) (t : Tree)
+pub scalar_reads : {keep_tags : Bool} {s : Names} {a : List Anchor} {read : Anchors} (o : Option (List ℕ)) (p : Place) (style : Style) (text : List ℕ)
+    (t : Tree)
     → scalar_tree text style None ≡ t → Agrees s a read → ReadsNode keep_tags s a (ended_by o t (begun_by o a)) read o p (λ r. Tok.scalar style text ∷ r) t
 scalar_reads {s = s} {a = a} {read = read} o p style text t is h = record {
   after = after_node o s a (begun_by o a) t (after_nothing (with_anchor s o) (begun_by o a) read (begun_agrees o s a read h));
@@ -53,7 +55,8 @@ scalar_reads {s = s} {a = a} {read = read} o p style text t is h = record {
 }
 
 -- a sequence, by its items and by how it begins
-pub sequence_reads : {keep_tags : Bool} {s : Names} {a b : List Anchor} {read : Anchors} {o : Option (List ℕ)} {p : Place} {work : Works → Works} {inside tokens : List Tok → List Tok} {items : Items}
+pub sequence_reads : {keep_tags : Bool} {s : Names} {a b : List Anchor} {read : Anchors} {o : Option (List ℕ)} {p : Place} {work : Works → Works}
+    {inside tokens : List Tok → List Tok} {items : Items}
     → ((w : Works) (r : List Tok) (es : List Ev) → Says keep_tags (with_anchor s o) (work w) (inside r) es → Says keep_tags s (node_and o p w) (tokens r) (Ev.sequence_start (number s o) None ∷ es))
     → ReadsItems keep_tags (with_anchor s o) (begun_by o a) b read p work inside (list_of items)
     → ReadsNode keep_tags s a (ended_by o (Tree.array items) b) read o p tokens (Tree.array items)
@@ -65,7 +68,8 @@ sequence_reads {s = s} {a = a} {b = b} {o = o} {items = items} begins x = record
 }
 
 -- a mapping, by its pairs and by how it begins
-pub mapping_reads : {keep_tags : Bool} {s : Names} {a b : List Anchor} {read : Anchors} {o : Option (List ℕ)} {p : Place} {entries : at.Goal} {inside tokens : List Tok → List Tok} {ps : List (Tree × Tree)}
+pub mapping_reads : {keep_tags : Bool} {s : Names} {a b : List Anchor} {read : Anchors} {o : Option (List ℕ)} {p : Place} {entries : at.Goal}
+    {inside tokens : List Tok → List Tok} {ps : List (Tree × Tree)}
     → ((w : Works) (r : List Tok) (es : List Ev) → Says keep_tags (with_anchor s o) (goal_and entries (behind p w)) (inside r) es → Says keep_tags s (node_and o p w) (tokens r) (Ev.mapping_start (number s o) None ∷ es))
     → AreDistinct ps → ReadsPairs keep_tags (with_anchor s o) (begun_by o a) b read entries inside ps
     → ReadsNode keep_tags s a (ended_by o (Tree.hash (pairs_of ps)) b) read o p tokens (Tree.hash (pairs_of ps))
@@ -88,7 +92,8 @@ no_items {s = s} {a = a} {read = read} ends h = record {
   reads = λ held. ap (λ ts. Ok (ts, read)) (sym (append-nil held));
 }
 
-pub item_reads : {keep_tags : Bool} {s : Names} {a b c : List Anchor} {read : Anchors} {p : Place} {work : Works → Works} {first others : List Tok → List Tok} {t : Tree} {ts : List Tree}
+pub item_reads : {keep_tags : Bool} {s : Names} {a b c : List Anchor} {read : Anchors} {p : Place} {work : Works → Works} {first others : List Tok → List Tok}
+    {t : Tree} {ts : List Tree}
     → ((w : Works) (r : List Tok) (es : List Ev) → Says keep_tags s (node_and None in_block (work w)) r es → Says keep_tags s (work w) (Tok.block_entry ∷ r) es)
     → (x : ReadsNode keep_tags s a b read None in_block first t) → ReadsItems keep_tags x.after.names b c x.after.read p work others ts
     → ReadsItems keep_tags s a c read p work (λ r. Tok.block_entry ∷ first (others r)) (t ∷ ts)
@@ -109,7 +114,8 @@ no_pairs {s = s} {a = a} {read = read} ends h = record {
   reads = λ held distinct. ap (λ ps. Ok (ps, read)) (sym (append-nil held));
 }
 
-pub pair_reads : {keep_tags : Bool} {s : Names} {a b c d : List Anchor} {read : Anchors} {first second others : List Tok → List Tok} {k v : Tree} {ps : List (Tree × Tree)}
+pub pair_reads : {keep_tags : Bool} {s : Names} {a b c d : List Anchor} {read : Anchors} {first second others : List Tok → List Tok} {k v : Tree}
+    {ps : List (Tree × Tree)}
     (x : ReadsNode keep_tags s a b read None (in_pair at.key) first k) (y : ReadsNode keep_tags x.after.names b c x.after.read None (in_pair at.value) second v)
     → ReadsPairs keep_tags y.after.names c d y.after.read at.block_mapping_entries others ps
     → ReadsPairs keep_tags s a d read at.block_mapping_entries (λ r. Tok.key ∷ first (Tok.value ∷ second (others r))) ((k, v) ∷ ps)

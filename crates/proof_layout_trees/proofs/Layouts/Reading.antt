@@ -61,8 +61,8 @@ json_reads {s = s} {a = a} {read = read} p v is h = record {
 
 -- ---- anchors and aliases
 
-alias_reads : {keep_tags : Bool} {s : Names} {a : List Anchor} {read : Anchors} (p : Place) (more : ℕ) (name : List ℕ) (t : Tree) (c : ℕ) → IsValue c a (Value.alias more name t) → Agrees s a read
-    → ReadsNode keep_tags s a a read None p (λ r. Tok.alias name ∷ r) t
+alias_reads : {keep_tags : Bool} {s : Names} {a : List Anchor} {read : Anchors} (p : Place) (more : ℕ) (name : List ℕ) (t : Tree) (c : ℕ)
+    → IsValue c a (Value.alias more name t) → Agrees s a read → ReadsNode keep_tags s a a read None p (λ r. Tok.alias name ∷ r) t
 alias_reads {s = s} {a = a} {read = read} p more name t c is h =
     let f = found (s.count + 1) name s.anchors a read t h is.1 in
     record {
@@ -103,7 +103,8 @@ anchored_stands (Some at.value) v h = tt
 
 -- what is read before each entry, and how the last one ends
 record Entered (keep_tags : Bool) (p : Place) (work : Works → Works) (last : List Tok → List Tok) : Type 0 where
-  dash : (s : Names) (w : Works) (r : List Tok) (es : List Ev) → Says keep_tags s (node_and None in_block (work w)) r es → Says keep_tags s (work w) (Tok.block_entry ∷ r) es
+  dash : (s : Names) (w : Works) (r : List Tok) (es : List Ev) → Says keep_tags s (node_and None in_block (work w)) r es
+      → Says keep_tags s (work w) (Tok.block_entry ∷ r) es
   ends : (s : Names) (w : Works) (r : List Tok) (es : List Ev) → Says keep_tags s (behind p w) r es → Says keep_tags s (work w) (last r) (Ev.sequence_end ∷ es)
 
 indented : {keep_tags : Bool} {p : Place} → Entered keep_tags p (λ w. goal_and at.block_sequence_entries (behind p w)) (λ r. Tok.block_end ∷ r)
@@ -112,7 +113,8 @@ indented = record { dash = λ s w r es d. taken _ refl d; ends = λ s w r es d. 
 not_indented : {keep_tags : Bool} → Entered keep_tags (in_pair at.value) (λ w. goal_and (at.indentless_sequence_entries at.value) w) (λ r. r)
 not_indented = record { dash = λ s w r es d. taken _ refl d; ends = λ s w r es d. entries_end d }
 
-indentless : {keep_tags : Bool} {s : Names} {w : Works} {es : List Ev} (vs : Entries) (r : List Tok) → Says keep_tags s (goal_and (at.indentless_sequence_entries at.value) w) (entry_tokens vs r) es
+indentless : {keep_tags : Bool} {s : Names} {w : Works} {es : List Ev} (vs : Entries) (r : List Tok)
+    → Says keep_tags s (goal_and (at.indentless_sequence_entries at.value) w) (entry_tokens vs r) es
     → Says keep_tags s (node_and None (in_pair at.value) w) (entry_tokens vs r) (Ev.sequence_start 0 None ∷ es)
 indentless (Entries.last_entry v) r d = indentless_sequence at.value d
 indentless (Entries.entry v g vs) r d = indentless_sequence at.value d
@@ -120,15 +122,18 @@ indentless (Entries.entry v g vs) r d = indentless_sequence at.value d
 -- ---- all
 
 mutual
-  block_reads : {keep_tags : Bool} {s : Names} {a : List Anchor} {read : Anchors} (o : Option (List ℕ)) (q : Option Side) (c : ℕ) (b : Block) → IsBlock c (begun_by o a) b → Agrees s a read
+  block_reads : {keep_tags : Bool} {s : Names} {a : List Anchor} {read : Anchors} (o : Option (List ℕ)) (q : Option Side) (c : ℕ) (b : Block)
+      → IsBlock c (begun_by o a) b → Agrees s a read
       → ReadsNode keep_tags s a (ended_by o (block_tree b) (anchors_after_block b (begun_by o a))) read o (outside q) (block_tokens b) (block_tree b)
   block_reads {s = s} {a = a} {read = read} o q c (Block.array vs) is h =
       sequence_reads (λ w r es d. block_sequence o q d) (entries_read indented c vs is (begun_agrees o s a read h))
   block_reads {s = s} {a = a} {read = read} o q c (Block.hash fs) is h =
       mapping_reads (λ w r es d. block_mapping o q d) is.1 (fields_read c fs is.0 (begun_agrees o s a read h))
 
-  value_reads : {keep_tags : Bool} {s : Names} {a : List Anchor} {read : Anchors} (o : Option (List ℕ)) (q : Option Side) (c : ℕ) (v : Value) → IsValue c (begun_by o a) v → IsAnchorable o v → MayStand q v
-      → Agrees s a read → ReadsNode keep_tags s a (ended_by o (value_tree v) (anchors_after v (begun_by o a))) read o (outside q) (value_tokens v) (value_tree v)
+  value_reads : {keep_tags : Bool} {s : Names} {a : List Anchor} {read : Anchors} (o : Option (List ℕ)) (q : Option Side) (c : ℕ) (v : Value)
+      → IsValue c (begun_by o a) v → IsAnchorable o v → MayStand q v
+      → Agrees s a read → ReadsNode keep_tags s a (ended_by o (value_tree v) (anchors_after v (begun_by o a))) read o (outside q) (value_tokens v)
+      (value_tree v)
   value_reads o q c (Value.beside more i after) is may stands h = inline_reads o (outside q) i is.0 h
   value_reads o q c (Value.literal more column text ls) is may stands h = scalar_reads o (outside q) Style.literal text (Tree.string text) refl h
   value_reads o q c (Value.folded more column strips text ls) is may stands h = scalar_reads o (outside q) Style.folded text (Tree.string text) refl h
@@ -146,8 +151,8 @@ mutual
   value_reads None q c (Value.alias more name t) is may stands h = alias_reads (outside q) more name t c is h
   value_reads (Some n) q c (Value.alias more name t) is may stands h = absurd may
 
-  entries_read : {keep_tags : Bool} {s : Names} {a : List Anchor} {read : Anchors} {p : Place} {work : Works → Works} {last : List Tok → List Tok} → Entered keep_tags p work last
-      → (c : ℕ) (vs : Entries) → AreEntries c a vs → Agrees s a read
+  entries_read : {keep_tags : Bool} {s : Names} {a : List Anchor} {read : Anchors} {p : Place} {work : Works → Works} {last : List Tok → List Tok}
+      → Entered keep_tags p work last → (c : ℕ) (vs : Entries) → AreEntries c a vs → Agrees s a read
       → ReadsItems keep_tags s a (anchors_after_entries vs a) read p work (λ r. entry_tokens vs (last r)) (list_of (items vs))
   entries_read k c (Entries.last_entry v) are h =
       let x = value_reads None None c v are.1 tt are.0 h in
@@ -157,7 +162,8 @@ mutual
       item_reads (k.dash _) x (entries_read k c vs are.3 x.after.agrees)
 
   -- an entry of a hash, before others
-  field_reads : {keep_tags : Bool} {s : Names} {a d : List Anchor} {read : Anchors} {others : List Tok → List Tok} {qs : List (Tree × Tree)} (c : ℕ) (f : Field) → IsField c a f → Agrees s a read
+  field_reads : {keep_tags : Bool} {s : Names} {a d : List Anchor} {read : Anchors} {others : List Tok → List Tok} {qs : List (Tree × Tree)} (c : ℕ) (f : Field)
+      → IsField c a f → Agrees s a read
       → ((u : Names) (more : Anchors) → Agrees u (anchors_after_field f a) more → ReadsPairs keep_tags u (anchors_after_field f a) d more at.block_mapping_entries others qs)
       → ReadsPairs keep_tags s a d read at.block_mapping_entries (λ r. field_tokens f (others r)) (pair_of f ∷ qs)
   field_reads c (Field.implicit k v) is h others =
