@@ -4,7 +4,7 @@ use Rattle.defs_token.specs.Token.{Style}
 use Rattle.defs_event.specs.Event.{Ev}
 use Rattle.defs_event.specs.Raw.{Raw, Directive}
 use Rattle.defs_event.specs.Names.{named, no_names, are_allowed, declared, resolved}
-use Rattle.defs_event.proofs.Texts.{tag_of_text, plain_raw}
+use Rattle.defs_event.proofs.Texts.{tag_of_text}
 
 -- a document of these nodes
 abbrev raw_document : List Directive → List Raw → List Raw → List Raw
@@ -51,7 +51,7 @@ handles = (refl, refl, refl)
 
 -- A repeated handle in the directives of a document leaves it without events.
 repeated_handle :
-    named true no_names (raw_stream (raw_document (Directive.tag (codes "!a!") (codes "x:") ∷ Directive.tag (codes "!a!") (codes "y:") ∷ []) (plain_raw (codes "b") ∷ []) [])) ≡ None
+    named true no_names (raw_stream (raw_document (Directive.tag (codes "!a!") (codes "x:") ∷ Directive.tag (codes "!a!") (codes "y:") ∷ []) [] [])) ≡ None
 repeated_handle = refl
 
 -- ---- directives of one document

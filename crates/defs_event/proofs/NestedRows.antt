@@ -1,5 +1,6 @@
 -- Nested events, and events that are not.
-use Rattle.std.specs.Prelude.{◌≡◌, ◌||◌, Bool, false, List, [], ◌∷◌, ◌++◌, None, codes, refl}
+use Rattle.std.specs.Prelude.{◌≡◌, false, List, [], ◌∷◌, ◌++◌, None, codes, refl}
+use Rattle.std.specs.List.{list_any}
 use Rattle.defs_token.specs.Token.{Style}
 use Rattle.defs_event.specs.Event.{Ev}
 use Rattle.defs_event.specs.Nested.{IsNested, is_nested, nested_alias, nested_scalar, nested_sequence, nested_mapping, no_nests, nest, no_nest_pairs, nest_pair, without_node, with_node}
@@ -23,22 +24,18 @@ deep = (
   refl,
 )
 
-abbrev any_is_nested : List (List Ev) → Bool
-any_is_nested [] = false
-any_is_nested (es ∷ lists) = is_nested es || any_is_nested lists
-
 -- a stream of one document
 abbrev of_document : List Ev → List Ev
 of_document es = Ev.stream_start ∷ Ev.document_start ∷ (es ++ Ev.document_end ∷ Ev.stream_end ∷ [])
 
 -- Start or end is missing, something stands after the end or outside a document, or a document is open.
-streams_that_are_not : any_is_nested (
+streams_that_are_not : list_any is_nested (
     [] ∷ (Ev.stream_start ∷ []) ∷ (Ev.stream_end ∷ []) ∷ (Ev.stream_start ∷ Ev.stream_end ∷ Ev.stream_end ∷ [])
     ∷ (Ev.stream_start ∷ plain_event (codes "a") ∷ Ev.stream_end ∷ []) ∷ (Ev.stream_start ∷ Ev.document_start ∷ Ev.stream_end ∷ []) ∷ []) ≡ false
 streams_that_are_not = refl
 
 -- A document in a document, two nodes, an open sequence, wrong and crossed ends, a key without value, an event that is none.
-documents_that_are_not : any_is_nested (
+documents_that_are_not : list_any is_nested (
     of_document (Ev.document_start ∷ Ev.document_end ∷ []) ∷ of_document (plain_event (codes "a") ∷ Ev.sequence_start 0 None ∷ Ev.sequence_end ∷ [])
     ∷ of_document (Ev.sequence_start 0 None ∷ []) ∷ of_document (Ev.sequence_start 0 None ∷ Ev.mapping_end ∷ []) ∷ of_document (Ev.mapping_start 0 None ∷ Ev.sequence_end ∷ [])
     ∷ of_document (Ev.sequence_start 0 None ∷ Ev.mapping_start 0 None ∷ Ev.sequence_end ∷ Ev.mapping_end ∷ [])

@@ -1,5 +1,6 @@
 -- The events that the table says are nested: what each goal's events make of what is open, and that its rows make the same of it.
 use Rattle.std.proofs.Common.{◌≡◌, Bool, true, List, [], ◌∷◌, Option, Some, None, map, refl, ap, ◌∙◌, subst, subst₂}
+use Rattle.std.specs.Option.{option_and, option_and_then}
 use Rattle.defs_token.specs.Token.{Style, Tok}
 use Rattle.defs_event.specs.Event.{Ev}
 use Rattle.defs_event.specs.Raw.{Raw}
@@ -38,17 +39,13 @@ after_side key (at_value ∷ os) = Some os
 after_side value (at_key ∷ os) = Some os
 after_side _ os = None
 
-abbrev and_then : (List Open → Option (List Open)) → Option (List Open) → Option (List Open)
-and_then f None = None
-and_then f (Some os) = f os
-
 -- after what comes after a node there
 abbrev after_place : Place → List Open → Option (List Open)
-after_place (in_pair s) os = and_then (λ os. Some os) (after_side s os)
+after_place (in_pair s) os = option_and_then (λ os. Some os) (after_side s os)
 after_place _ os = Some os
 
 abbrev after_node_at : Place → List Open → Option (List Open)
-after_node_at p os = and_then (after_place p) (open_after (Ev.alias 0) os)
+after_node_at p os = option_and_then (after_place p) (open_after (Ev.alias 0) os)
 
 abbrev after_goal : Goal → List Open → Option (List Open)
 after_goal documents (in_stream ∷ os) = Some os
@@ -76,17 +73,13 @@ after_work (saying e) os = open_after (shape_of e) os
 
 abbrev after_all : List (Work Goal Raw Held) → List Open → Option (List Open)
 after_all [] os = Some os
-after_all (x ∷ w) os = and_then (after_all w) (after_work x os)
+after_all (x ∷ w) os = option_and_then (after_all w) (after_work x os)
 
 -- ---- each row makes the same of what is open as its goal, where the goal may stand
 
 abbrev parts_of : Row Goal Raw → List (Part Goal Raw)
 parts_of (takes ps) = ps
 parts_of (leaves ps) = ps
-
-abbrev if_some : Option (List Open) → Option (List Open) → Option (List Open)
-if_some None other = None
-if_some (Some os) other = other
 
 abbrev by_row : Option (Row Goal Raw) → Held → Tok → List Open → Option (List Open) → Option (List Open)
 by_row None h t os other = other
@@ -96,22 +89,22 @@ then_too : (p : Place) (h : Held) (t : Tok) (os : List Open) → after_all (befo
 then_too (in_pair key) h t os = refl
 then_too p h t os = refl
 
-same : (x : Option (List Open)) → if_some x (and_then (λ os. Some os) x) ≡ x
+same : (x : Option (List Open)) → option_and x (option_and_then (λ os. Some os) x) ≡ x
 same None = refl
 same (Some os) = refl
 
-if_same : (x y : Option (List Open)) → y ≡ x → if_some x y ≡ x
+if_same : (x y : Option (List Open)) → y ≡ x → option_and x y ≡ x
 if_same None y h = refl
 if_same (Some os) y h = h
 
 -- a node, with what it opens
-child : (c : Option Open) (inner os : List Open) (f k : List Open → Option (List Open)) → ((o : Open) → and_then f (child_then (Some o) inner os) ≡ k (o ∷ os))
-    → if_some (and_then k (child_then c [] os)) (and_then f (child_then c inner os)) ≡ and_then k (child_then c [] os)
+child : (c : Option Open) (inner os : List Open) (f k : List Open → Option (List Open)) → ((o : Open) → option_and_then f (child_then (Some o) inner os) ≡ k (o ∷ os))
+    → option_and (option_and_then k (child_then c [] os)) (option_and_then f (child_then c inner os)) ≡ option_and_then k (child_then c [] os)
 child None inner os f k h = refl
-child (Some o) inner os f k h = if_same (k (o ∷ os)) (and_then f (child_then (Some o) inner os)) (h o)
+child (Some o) inner os f k h = if_same (k (o ∷ os)) (option_and_then f (child_then (Some o) inner os)) (h o)
 
 -- A clause that names `key` has the checker look at each token there. The last clause with its pattern is for the others.
-row_too : (g : Goal) (os : List Open) (t : Tok) (h : Held) → if_some (after_goal g os) (by_row (row_of (cases g) t) h t os (after_goal g os)) ≡ after_goal g os
+row_too : (g : Goal) (os : List Open) (t : Tok) (h : Held) → option_and (after_goal g os) (by_row (row_of (cases g) t) h t os (after_goal g os)) ≡ after_goal g os
 row_too documents (in_stream ∷ os) Tok.key h = refl
 row_too directives (in_stream ∷ os) Tok.key h = refl
 row_too explicit_document (in_stream ∷ os) Tok.key h = refl
@@ -142,20 +135,20 @@ row_too g os t h = refl
 -- ---- derived events close what is open
 
 over : (h : Held) (t : Tok) (ps : List (Part Goal Raw)) (w : List (Work Goal Raw Held)) (o : Option (List Open))
-    → and_then (after_all (before grammar h t ps w)) o ≡ and_then (after_all w) (and_then (after_all (before grammar h t ps [])) o)
+    → option_and_then (after_all (before grammar h t ps w)) o ≡ option_and_then (after_all w) (option_and_then (after_all (before grammar h t ps [])) o)
 over h t ps w None = refl
 over h t [] w (Some os) = refl
 over h t (p ∷ ps) w (Some os) = over h t ps w (after_work (part_work grammar h t p) os)
 
 -- A row's parts stand where its goal stands, and leave as much to close.
 goal_parts : (g : Goal) (h : Held) (t : Tok) (r : Row Goal Raw) (w : List (Work Goal Raw Held)) (os new : List Open) → row_of (cases g) t ≡ Some r
-    → (x : Option (List Open)) → after_goal g os ≡ x → and_then (after_all w) x ≡ Some new → after_all (before grammar h t (parts_of r) w) os ≡ Some new
+    → (x : Option (List Open)) → after_goal g os ≡ x → option_and_then (after_all w) x ≡ Some new → after_all (before grammar h t (parts_of r) w) os ≡ Some new
 goal_parts g h t r w os new p None q e = cc
 goal_parts g h t r w os new p (Some mid) q e =
-    let s : if_some (Some mid) (by_row (Some r) h t os (Some mid)) ≡ Some mid = subst₂ (λ x y. if_some x (by_row y h t os x) ≡ x) q p (row_too g os t h) in
-    over h t (parts_of r) w (Some os) ∙ ap (and_then (after_all w)) s ∙ e
+    let s : option_and (Some mid) (by_row (Some r) h t os (Some mid)) ≡ Some mid = subst₂ (λ x y. option_and x (by_row y h t os x) ≡ x) q p (row_too g os t h) in
+    over h t (parts_of r) w (Some os) ∙ ap (option_and_then (after_all w)) s ∙ e
 
-then_closes : (f : List Open → Option (List Open)) (test : List Open → Bool) → ((os : List Open) → f os ≡ Some [] → test os ≡ true) → (x : Option (List Open)) → and_then f x ≡ Some [] → there_and test x ≡ true
+then_closes : (f : List Open → Option (List Open)) (test : List Open → Bool) → ((os : List Open) → f os ≡ Some [] → test os ≡ true) → (x : Option (List Open)) → option_and_then f x ≡ Some [] → there_and test x ≡ true
 then_closes f test k None h = cc
 then_closes f test k (Some os) h = k os h
 
