@@ -23,7 +23,8 @@ integers :
     × (core (codes "int") (codes "9223372036854775808") ≡ bad_value)
 integers = (refl, refl)
 
-reals : (core (codes "float") (codes "12") ≡ real (codes "12")) × (core (codes "float") (codes ".INF") ≡ real (codes ".INF")) × (core (codes "float") (codes "x") ≡ bad_value)
+reals :
+    (core (codes "float") (codes "12") ≡ real (codes "12")) × (core (codes "float") (codes ".INF") ≡ real (codes ".INF")) × (core (codes "float") (codes "x") ≡ bad_value)
 unfolding typing is_decimal
 reals = (refl, refl, refl)
 

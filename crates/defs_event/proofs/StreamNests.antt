@@ -98,7 +98,8 @@ if_same None y h = refl
 if_same (Some os) y h = h
 
 -- a node, with what it opens
-child : (c : Option Open) (inner os : List Open) (f k : List Open → Option (List Open)) → ((o : Open) → option_and_then f (child_then (Some o) inner os) ≡ k (o ∷ os))
+child : (c : Option Open) (inner os : List Open) (f k : List Open → Option (List Open))
+    → ((o : Open) → option_and_then f (child_then (Some o) inner os) ≡ k (o ∷ os))
     → option_and (option_and_then k (child_then c [] os)) (option_and_then f (child_then c inner os)) ≡ option_and_then k (child_then c [] os)
 child None inner os f k h = refl
 child (Some o) inner os f k h = if_same (k (o ∷ os)) (option_and_then f (child_then (Some o) inner os)) (h o)
@@ -149,7 +150,8 @@ bare_opens e [] = refl
 bare_opens e (o ∷ os) = refl
 
 -- the first event and those after it
-first_opens : (e : Raw) (r : List Raw) (es : List Ev) → Shaped (e ∷ r) es → (v : Ev) × (vs : List Ev) × (es ≡ v ∷ vs) × ((os : List Open) → open_after v os ≡ open_after (shape_of e) os) × Shaped r vs
+first_opens : (e : Raw) (r : List Raw) (es : List Ev) → Shaped (e ∷ r) es
+    → (v : Ev) × (vs : List Ev) × (es ≡ v ∷ vs) × ((os : List Open) → open_after v os ≡ open_after (shape_of e) os) × Shaped r vs
 first_opens (Raw.alias n) r es x = (Ev.alias x.0, x.1, x.2, bare_opens (Ev.alias x.0), x.3)
 first_opens (Raw.scalar u y a t) r es x = (Ev.scalar u y x.0 x.1, x.2, x.3, bare_opens (Ev.scalar u y x.0 x.1), x.4)
 first_opens (Raw.empty_scalar a t) r es x = (Ev.scalar [] Style.plain x.0 x.1, x.2, x.3, bare_opens (Ev.scalar [] Style.plain x.0 x.1), x.4)
@@ -175,11 +177,13 @@ goal_parts g h t r w os new p (Some mid) q e =
     let s : option_and (Some mid) (by_row (Some r) h t os (Some mid)) ≡ Some mid = subst₂ (λ x y. option_and x (by_row y h t os x) ≡ x) q p (row_too g os t h) in
     over h t (parts_of r) w (Some os) ∙ ap (option_and_then (after_all w)) s ∙ e
 
-then_closes : (f : List Open → Option (List Open)) (test : List Open → Bool) → ((os : List Open) → f os ≡ Some [] → test os ≡ true) → (x : Option (List Open)) → option_and_then f x ≡ Some [] → there_and test x ≡ true
+then_closes : (f : List Open → Option (List Open)) (test : List Open → Bool) → ((os : List Open) → f os ≡ Some [] → test os ≡ true) → (x : Option (List Open))
+    → option_and_then f x ≡ Some [] → there_and test x ≡ true
 then_closes f test k None h = cc
 then_closes f test k (Some os) h = k os h
 
-derived_closes : (w : List (Work Goal Raw Held)) (ts : List Tok) (es : List Raw) → Derives grammar w ts es → (vs : List Ev) → Shaped es vs → (os : List Open) → after_all w os ≡ Some [] → closes vs os ≡ true
+derived_closes : (w : List (Work Goal Raw Held)) (ts : List Tok) (es : List Raw) → Derives grammar w ts es → (vs : List Ev) → Shaped es vs → (os : List Open)
+    → after_all w os ≡ Some [] → closes vs os ≡ true
 derived_closes [] [] _ nothing_left vs x [] e = ap (λ l. closes l []) x
 derived_closes [] [] _ nothing_left vs x (o ∷ os) e = cc
 derived_closes [] (t ∷ ts) es d vs x os e = elim d [ ]
@@ -193,7 +197,8 @@ derived_closes (reading g h ∷ w) (t ∷ ts) es (by_taking ps p d) vs x os e =
 derived_closes (reading g h ∷ w) (t ∷ ts) es (by_leaving ps p d) vs x os e =
     derived_closes (before grammar h t ps w) (t ∷ ts) es d vs x os (goal_parts g h t (leaves ps) w os [] p (after_goal g os) refl e)
 
-said_start : (ts : List Tok) (raws : List Raw) (events : List Ev) → Derives grammar (saying Raw.stream_start ∷ reading documents nothing_held ∷ []) ts raws → Shaped raws events → is_nested events ≡ true
+said_start : (ts : List Tok) (raws : List Raw) (events : List Ev) → Derives grammar (saying Raw.stream_start ∷ reading documents nothing_held ∷ []) ts raws
+    → Shaped raws events → is_nested events ≡ true
 said_start ts _ events (says {es = es} d) x = ap is_nested x.1 ∙ derived_closes (reading documents nothing_held ∷ []) ts es d x.0 x.2 (in_stream ∷ []) refl
 
 passes : (tokens : List Tok) (raws : List Raw) (events : List Ev) → StreamSays tokens raws → Shaped raws events → is_nested events ≡ true
