@@ -35,7 +35,8 @@ abbrev AllPushed : (Fault : Type 0) → Standing → List Ev → Type 0
 AllPushed Fault s es = (at : ℕ → Position) → Whole (load_from s true (given Fault (placed at es))) (placed at es)
 
 -- The first event is pushed where the call stands, and the others where it stands then.
-pushed_on : (F : Type 0) (s next : Standing) (e : Ev) (es : List Ev) → ((p : Position) (answers : List (Answer F)) → load_from s true (event e p ∷ answers) ≡ push e p (load_from next true answers))
+pushed_on : (F : Type 0) (s next : Standing) (e : Ev) (es : List Ev)
+    → ((p : Position) (answers : List (Answer F)) → load_from s true (event e p ∷ answers) ≡ push e p (load_from next true answers))
     → AllPushed F next es → AllPushed F s (e ∷ es)
 pushed_on F s next e es f h at =
     let more = placed (λ k. at (suc k)) es in
@@ -61,7 +62,8 @@ mutual
   pairs_pushed F (nest_pair k v ps) r h = node_pushed F k (nest_events v (nest_pairs_events ps r)) (node_pushed F v (nest_pairs_events ps r) (pairs_pushed F ps r h))
 
 document_pushed : (F : Type 0) (d : NestedDocument) (r : List Ev) → AllPushed F between r → AllPushed F between (nested_document_events d r)
-document_pushed F without_node r h = pushed_on F between inside Ev.document_start (Ev.document_end ∷ r) (λ p answers. refl) (pushed_on F inside between Ev.document_end r (λ p answers. refl) h)
+document_pushed F without_node r h =
+    pushed_on F between inside Ev.document_start (Ev.document_end ∷ r) (λ p answers. refl) (pushed_on F inside between Ev.document_end r (λ p answers. refl) h)
 document_pushed F (with_node n) r h =
     pushed_on F between inside Ev.document_start (nest_events n (Ev.document_end ∷ r)) (λ p answers. refl)
     (node_pushed F n (Ev.document_end ∷ r) (pushed_on F inside between Ev.document_end r (λ p answers. refl) h))

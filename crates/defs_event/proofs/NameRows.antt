@@ -25,7 +25,8 @@ alias_a = Raw.alias (codes "a")
 -- `--- &a 1` LF `--- *a`, where tags are kept too, and `[*a, &a 1]`
 aliases_without_anchor :
     (named true no_names (raw_stream (raw_document [] (anchored_raw (codes "a") (codes "1") ∷ []) (raw_document [] (alias_a ∷ []) []))) ≡ None)
-    × (named false no_names (raw_stream (raw_document [] (Raw.flow_sequence_start None None ∷ alias_a ∷ anchored_raw (codes "a") (codes "1") ∷ Raw.flow_sequence_end ∷ []) [])) ≡ None)
+    × (named false no_names
+    (raw_stream (raw_document [] (Raw.flow_sequence_start None None ∷ alias_a ∷ anchored_raw (codes "a") (codes "1") ∷ Raw.flow_sequence_end ∷ []) [])) ≡ None)
 aliases_without_anchor = (refl, refl)
 
 -- An anchor counts over the stream, and is 1 more than those before.
@@ -66,7 +67,8 @@ allowed = (refl, refl, refl, refl)
 -- two versions, and one handle twice with others between
 not_allowed :
     (are_allowed (Directive.version 1 2 ∷ Directive.version 1 2 ∷ []) ≡ false)
-    × (are_allowed (Directive.tag (codes "!a!") (codes "x:") ∷ Directive.version 1 2 ∷ Directive.tag (codes "!b!") (codes "x:") ∷ Directive.tag (codes "!a!") (codes "x:") ∷ []) ≡ false)
+    × (are_allowed (Directive.tag (codes "!a!") (codes "x:") ∷ Directive.version 1 2 ∷
+    Directive.tag (codes "!b!") (codes "x:") ∷ Directive.tag (codes "!a!") (codes "x:") ∷ []) ≡ false)
 not_allowed = (refl, refl)
 
 others_declare_nothing : declared (Directive.tag [] [] ∷ Directive.tag (codes "!") (codes "p") ∷ []) ≡ (codes "!", codes "p") ∷ []

@@ -8,7 +8,7 @@ use Rattle.defs_event.specs.Event.{Ev}
 use Rattle.defs_event.specs.Stream.{events_of}
 use Rattle.defs_event.specs.Nested.{Nest, nested_alias, nested_scalar, nested_sequence, nested_mapping, Nests, no_nests, nest, NestPairs, no_nest_pairs, nest_pair, NestedDocument, without_node, with_node, nest_events, nests_events, nest_pairs_events, nested_document_events, nested_documents_events, nested_stream}
 use Rattle.defs_event.specs.Anchors.{Anchors, finished}
-use Rattle.defs_event.specs.Reading.{Read, then_read, node_read, read_node, read_items, read_pairs, read_document, read_documents, documents_or_key, reading}
+use Rattle.defs_event.specs.Reading.{Read, then_read, read_node, read_items, read_pairs, read_document, read_documents, documents_or_key, reading}
 use Rattle.defs_event.specs.Unfinished.{Opened, opened_sequence, opened_mapping, Unfinished, Step, reads, repeats, out_of_nesting, with_tree, with_start, with_event, Loader, at_work, noted, refused, new_loader, nothing_read, loader_after, with_event_at, with_events}
 use Rattle.defs_event.specs.Laws.{HasRead}
 
@@ -53,7 +53,8 @@ abbrev Room : List Opened → Option Tree → Type 0
 Room [] (Some t) = ⊥
 Room outer root = Unit {0}
 
-starts : (c : Opened) (u : Unfinished) (outer : List Opened) (root : Option Tree) → Room outer root → with_start c u outer root ≡ reads (record u { opened = c ∷ outer })
+starts : (c : Opened) (u : Unfinished) (outer : List Opened) (root : Option Tree) → Room outer root
+    → with_start c u outer root ≡ reads (record u { opened = c ∷ outer })
 starts c u [] (Some t) h = absurd h
 starts c u outer root h = refl
 
@@ -85,20 +86,18 @@ mutual
   node_came (nested_scalar x s a t) docs outer root anchors r h = refl
   node_came (nested_sequence a t ns) docs outer root anchors r h =
       ap (λ s. run s (nests_events ns (Ev.sequence_end ∷ r))) (starts (opened_sequence a []) (state docs outer root anchors) outer root h)
-      ∙ came_then (read_items ns [] anchors) (λ ts more. node_read a (array (items_of ts)) more) (after_items docs outer root a (Ev.sequence_end ∷ r)) (after_node docs outer root r) _
-      (items_came ns [] docs outer root a anchors (Ev.sequence_end ∷ r))
+      ∙ came_then _ _ (after_items docs outer root a (Ev.sequence_end ∷ r)) _ _ (items_came ns [] docs outer root a anchors (Ev.sequence_end ∷ r))
       (λ ts more. ap (λ s. run s r) (ended (array (items_of ts)) docs (opened_sequence a ts ∷ outer) outer root (finished a (array (items_of ts)) more)))
   node_came (nested_mapping a t ps) docs outer root anchors r h =
       ap (λ s. run s (nest_pairs_events ps (Ev.mapping_end ∷ r))) (starts (opened_mapping a [] None) (state docs outer root anchors) outer root h)
-      ∙ came_then (read_pairs ps [] anchors) (λ held more. node_read a (hash (pairs_of held)) more) (after_pairs docs outer root a (Ev.mapping_end ∷ r)) (after_node docs outer root r) _
-      (pairs_came ps [] docs outer root a anchors (Ev.mapping_end ∷ r))
+      ∙ came_then _ _ (after_pairs docs outer root a (Ev.mapping_end ∷ r)) _ _ (pairs_came ps [] docs outer root a anchors (Ev.mapping_end ∷ r))
       (λ held more. ap (λ s. run s r) (ended (hash (pairs_of held)) docs (opened_mapping a held None ∷ outer) outer root (finished a (hash (pairs_of held)) more)))
 
   items_came : (ns : Nests) (ts : List Tree) (docs : List Tree) (outer : List Opened) (root : Option Tree) (a : ℕ) (anchors : Anchors) (r : List Ev)
       → run (reads (state docs (opened_sequence a ts ∷ outer) root anchors)) (nests_events ns r) ≡ came (read_items ns ts anchors) (after_items docs outer root a r)
   items_came no_nests ts docs outer root a anchors r = refl
   items_came (nest n ns) ts docs outer root a anchors r =
-      came_then (read_node n anchors) (λ t more. read_items ns (ts ++ t ∷ []) more) (after_node docs (opened_sequence a ts ∷ outer) root (nests_events ns r)) (after_items docs outer root a r) _
+      came_then _ _ (after_node docs (opened_sequence a ts ∷ outer) root (nests_events ns r)) _ _
       (node_came n docs (opened_sequence a ts ∷ outer) root anchors (nests_events ns r) tt)
       (λ t more. items_came ns (ts ++ t ∷ []) docs outer root a more r)
 
@@ -106,11 +105,9 @@ mutual
       → run (reads (state docs (opened_mapping a held None ∷ outer) root anchors)) (nest_pairs_events ps r) ≡ came (read_pairs ps held anchors) (after_pairs docs outer root a r)
   pairs_came no_nest_pairs held docs outer root a anchors r = refl
   pairs_came (nest_pair k v ps) held docs outer root a anchors r =
-      let put : Tree → Tree → Anchors → Read (List (Tree × Tree)) = λ key value most. if has_key key held then Err key else read_pairs ps (insert key value held) most in
-      came_then (read_node k anchors) (λ key more. then_read (read_node v more) (put key))
-      (after_node docs (opened_mapping a held None ∷ outer) root (nest_events v (nest_pairs_events ps r))) (after_pairs docs outer root a r) _
+      came_then _ _ (after_node docs (opened_mapping a held None ∷ outer) root (nest_events v (nest_pairs_events ps r))) _ _
       (node_came k docs (opened_mapping a held None ∷ outer) root anchors (nest_events v (nest_pairs_events ps r)) tt)
-      (λ key more. came_then (read_node v more) (put key) (after_node docs (opened_mapping a held (Some key) ∷ outer) root (nest_pairs_events ps r)) (after_pairs docs outer root a r) _
+      (λ key more. came_then _ _ (after_node docs (opened_mapping a held (Some key) ∷ outer) root (nest_pairs_events ps r)) _ _
       (node_came v docs (opened_mapping a held (Some key) ∷ outer) root more (nest_pairs_events ps r) tt)
       (λ value most. pair_ends (has_key key held) key (read_pairs ps (insert key value held) most) (after_pairs docs outer root a r)
       (state docs (opened_mapping a (insert key value held) None ∷ outer) root most) (nest_pairs_events ps r)
@@ -130,7 +127,7 @@ documents_came : (ds : List NestedDocument) (docs : List Tree) (anchors : Anchor
     → after_documents (nested_documents_events ds r) docs anchors ≡ came (read_documents ds docs anchors) (after_documents r)
 documents_came [] docs anchors r = refl
 documents_came (d ∷ ds) docs anchors r =
-    came_then (read_document d anchors) (λ t more. read_documents ds (docs ++ t ∷ []) more) (λ t more. after_documents (nested_documents_events ds r) (docs ++ t ∷ []) more) (after_documents r) _
+    came_then _ _ (λ t more. after_documents (nested_documents_events ds r) (docs ++ t ∷ []) more) _ _
     (document_came d docs anchors (nested_documents_events ds r))
     (λ t more. documents_came ds (docs ++ t ∷ []) more r)
 
@@ -140,4 +137,5 @@ has_read (Err k) (noted docs key p) h = cc
 has_read x l h = cc
 
 pub one_by_one : (ds : List NestedDocument) (es : List (Ev × Position)) → events_of es ≡ nested_stream ds → HasRead (reading ds) (with_events new_loader es)
-one_by_one ds es h = has_read (read_documents ds [] []) (with_events new_loader es) (as_run es new_loader ∙ ap (run (reads nothing_read)) h ∙ documents_came ds [] [] (Ev.stream_end ∷ []))
+one_by_one ds es h =
+    has_read (read_documents ds [] []) (with_events new_loader es) (as_run es new_loader ∙ ap (run (reads nothing_read)) h ∙ documents_came ds [] [] (Ev.stream_end ∷ []))

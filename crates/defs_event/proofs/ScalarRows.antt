@@ -18,12 +18,19 @@ by_style_and_schema :
 unfolding typing is_decimal
 by_style_and_schema = (refl, refl, refl)
 
+-- in each other style
+not_plain :
+    (scalar_tree [] Style.single_quoted None ≡ string []) × (scalar_tree (codes "12") Style.double_quoted None ≡ string (codes "12"))
+    × (scalar_tree (codes "12") Style.literal None ≡ string (codes "12")) × (scalar_tree (codes "12") Style.folded None ≡ string (codes "12"))
+not_plain = (refl, refl, refl, refl)
+
 integers :
     (core (codes "int") (codes "-9223372036854775808") ≡ integer (negsuc 9223372036854775807))
     × (core (codes "int") (codes "9223372036854775808") ≡ bad_value)
 integers = (refl, refl)
 
-reals : (core (codes "float") (codes "12") ≡ real (codes "12")) × (core (codes "float") (codes ".INF") ≡ real (codes ".INF")) × (core (codes "float") (codes "x") ≡ bad_value)
+reals :
+    (core (codes "float") (codes "12") ≡ real (codes "12")) × (core (codes "float") (codes ".INF") ≡ real (codes ".INF")) × (core (codes "float") (codes "x") ≡ bad_value)
 unfolding typing is_decimal
 reals = (refl, refl, refl)
 

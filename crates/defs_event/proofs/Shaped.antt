@@ -32,7 +32,8 @@ valued : (r : List Raw) (g : ℕ → Option Tag → Ev) (n : ℕ) (o : Option (O
 valued r g n None v vs h k = cc
 valued r g n (Some u) v vs h k = (n, u, vs, cc, k)
 
-numbered : (r : List Raw) (o : Option ℕ) (v : Ev) (vs : List Ev) → option_map Ev.alias o ≡ Some v → Shaped r vs → (n : ℕ) × (ws : List Ev) × (v ∷ vs ≡ Ev.alias n ∷ ws) × Shaped r ws
+numbered : (r : List Raw) (o : Option ℕ) (v : Ev) (vs : List Ev) → option_map Ev.alias o ≡ Some v → Shaped r vs
+    → (n : ℕ) × (ws : List Ev) × (v ∷ vs ≡ Ev.alias n ∷ ws) × Shaped r ws
 numbered r None v vs h k = cc
 numbered r (Some n) v vs h k = (n, vs, cc, k)
 

@@ -1,5 +1,5 @@
 -- The events that the table says are nested: what each goal's events make of what is open, and that its rows make the same of it.
-use Rattle.std.proofs.Common.{◌≡◌, Bool, true, List, [], ◌∷◌, Option, Some, None, map, refl, ap, ◌∙◌, subst, subst₂}
+use Rattle.std.proofs.Common.{◌≡◌, Bool, true, List, [], ◌∷◌, Option, Some, None, refl, ap, ◌∙◌, subst, subst₂}
 use Rattle.std.specs.Option.{option_and, option_and_then}
 use Rattle.defs_token.specs.Token.{Style, Tok}
 use Rattle.defs_event.specs.Event.{Ev}
@@ -98,7 +98,8 @@ if_same None y h = refl
 if_same (Some os) y h = h
 
 -- a node, with what it opens
-child : (c : Option Open) (inner os : List Open) (f k : List Open → Option (List Open)) → ((o : Open) → option_and_then f (child_then (Some o) inner os) ≡ k (o ∷ os))
+child : (c : Option Open) (inner os : List Open) (f k : List Open → Option (List Open))
+    → ((o : Open) → option_and_then f (child_then (Some o) inner os) ≡ k (o ∷ os))
     → option_and (option_and_then k (child_then c [] os)) (option_and_then f (child_then c inner os)) ≡ option_and_then k (child_then c [] os)
 child None inner os f k h = refl
 child (Some o) inner os f k h = if_same (k (o ∷ os)) (option_and_then f (child_then (Some o) inner os)) (h o)
@@ -132,40 +133,6 @@ row_too flow_value os Tok.value h = same _
 row_too flow_value (o ∷ os) t h = child (with_child o) _ os _ _ (λ o. refl)
 row_too g os t h = refl
 
--- ---- derived events close what is open
-
-over : (h : Held) (t : Tok) (ps : List (Part Goal Raw)) (w : List (Work Goal Raw Held)) (o : Option (List Open))
-    → option_and_then (after_all (before grammar h t ps w)) o ≡ option_and_then (after_all w) (option_and_then (after_all (before grammar h t ps [])) o)
-over h t ps w None = refl
-over h t [] w (Some os) = refl
-over h t (p ∷ ps) w (Some os) = over h t ps w (after_work (part_work grammar h t p) os)
-
--- A row's parts stand where its goal stands, and leave as much to close.
-goal_parts : (g : Goal) (h : Held) (t : Tok) (r : Row Goal Raw) (w : List (Work Goal Raw Held)) (os new : List Open) → row_of (cases g) t ≡ Some r
-    → (x : Option (List Open)) → after_goal g os ≡ x → option_and_then (after_all w) x ≡ Some new → after_all (before grammar h t (parts_of r) w) os ≡ Some new
-goal_parts g h t r w os new p None q e = cc
-goal_parts g h t r w os new p (Some mid) q e =
-    let s : option_and (Some mid) (by_row (Some r) h t os (Some mid)) ≡ Some mid = subst₂ (λ x y. option_and x (by_row y h t os x) ≡ x) q p (row_too g os t h) in
-    over h t (parts_of r) w (Some os) ∙ ap (option_and_then (after_all w)) s ∙ e
-
-then_closes : (f : List Open → Option (List Open)) (test : List Open → Bool) → ((os : List Open) → f os ≡ Some [] → test os ≡ true) → (x : Option (List Open)) → option_and_then f x ≡ Some [] → there_and test x ≡ true
-then_closes f test k None h = cc
-then_closes f test k (Some os) h = k os h
-
-abbrev shut : List Raw → List Open → Bool
-shut es os = closes (map shape_of es) os
-
-derived_shut : (w : List (Work Goal Raw Held)) (ts : List Tok) (es : List Raw) → Derives grammar w ts es → (os : List Open) → after_all w os ≡ Some [] → shut es os ≡ true
-derived_shut [] [] _ nothing_left [] e = refl
-derived_shut [] [] _ nothing_left (o ∷ os) e = cc
-derived_shut [] (t ∷ ts) es d os e = elim d [ ]
-derived_shut (saying e ∷ w) ts _ (says {es = es} d) os h = then_closes (after_all w) (shut es) (derived_shut w ts es d) (open_after (shape_of e) os) h
-derived_shut (reading g h ∷ w) [] es d os e = elim d [ ]
-derived_shut (reading g h ∷ w) (t ∷ ts) es (by_taking ps p d) os e =
-    derived_shut (before grammar h t ps w) ts es d os (goal_parts g h t (takes ps) w os [] p (after_goal g os) refl e)
-derived_shut (reading g h ∷ w) (t ∷ ts) es (by_leaving ps p d) os e =
-    derived_shut (before grammar h t ps w) (t ∷ ts) es d os (goal_parts g h t (leaves ps) w os [] p (after_goal g os) refl e)
-
 -- ---- events with their names resolved
 
 -- the event without anchor, tag and number
@@ -182,27 +149,57 @@ bare_opens (Ev.alias n) (o ∷ os) = refl
 bare_opens e [] = refl
 bare_opens e (o ∷ os) = refl
 
-there_too : (f g : List Open → Bool) → ((os : List Open) → f os ≡ g os) → (x : Option (List Open)) → there_and f x ≡ there_and g x
-there_too f g h None = refl
-there_too f g h (Some os) = h os
+-- the first event and those after it
+first_opens : (e : Raw) (r : List Raw) (es : List Ev) → Shaped (e ∷ r) es
+    → (v : Ev) × (vs : List Ev) × (es ≡ v ∷ vs) × ((os : List Open) → open_after v os ≡ open_after (shape_of e) os) × Shaped r vs
+first_opens (Raw.alias n) r es x = (Ev.alias x.0, x.1, x.2, bare_opens (Ev.alias x.0), x.3)
+first_opens (Raw.scalar u y a t) r es x = (Ev.scalar u y x.0 x.1, x.2, x.3, bare_opens (Ev.scalar u y x.0 x.1), x.4)
+first_opens (Raw.empty_scalar a t) r es x = (Ev.scalar [] Style.plain x.0 x.1, x.2, x.3, bare_opens (Ev.scalar [] Style.plain x.0 x.1), x.4)
+first_opens (Raw.flow_sequence_start a t) r es x = (Ev.sequence_start x.0 x.1, x.2, x.3, bare_opens (Ev.sequence_start x.0 x.1), x.4)
+first_opens (Raw.sequence_start a t) r es x = (Ev.sequence_start x.0 x.1, x.2, x.3, bare_opens (Ev.sequence_start x.0 x.1), x.4)
+first_opens (Raw.flow_mapping_start a t) r es x = (Ev.mapping_start x.0 x.1, x.2, x.3, bare_opens (Ev.mapping_start x.0 x.1), x.4)
+first_opens (Raw.mapping_start a t) r es x = (Ev.mapping_start x.0 x.1, x.2, x.3, bare_opens (Ev.mapping_start x.0 x.1), x.4)
+first_opens e r es x = (shape_of e, x.0, x.1, (λ os. refl), x.2)
 
-same_after : (e : Ev) (r : List Raw) (es vs : List Ev) → es ≡ e ∷ vs → ((os : List Open) → closes vs os ≡ shut r os) → (os : List Open) → closes es os ≡ there_and (shut r) (open_after (bare e) os)
-same_after e r es vs p g os = ap (λ l. closes l os) p ∙ ap (there_and (closes vs)) (bare_opens e os) ∙ there_too (closes vs) (shut r) g (open_after (bare e) os)
+-- ---- derived events close what is open
 
-same_shape : (raws : List Raw) (es : List Ev) → Shaped raws es → (os : List Open) → closes es os ≡ shut raws os
-same_shape [] es x os = ap (λ l. closes l os) x
-same_shape (Raw.alias n ∷ r) es x os = same_after (Ev.alias x.0) r es x.1 x.2 (same_shape r x.1 x.3) os
-same_shape (Raw.scalar u y a t ∷ r) es x os = same_after (Ev.scalar u y x.0 x.1) r es x.2 x.3 (same_shape r x.2 x.4) os
-same_shape (Raw.empty_scalar a t ∷ r) es x os = same_after (Ev.scalar [] Style.plain x.0 x.1) r es x.2 x.3 (same_shape r x.2 x.4) os
-same_shape (Raw.flow_sequence_start a t ∷ r) es x os = same_after (Ev.sequence_start x.0 x.1) r es x.2 x.3 (same_shape r x.2 x.4) os
-same_shape (Raw.sequence_start a t ∷ r) es x os = same_after (Ev.sequence_start x.0 x.1) r es x.2 x.3 (same_shape r x.2 x.4) os
-same_shape (Raw.flow_mapping_start a t ∷ r) es x os = same_after (Ev.mapping_start x.0 x.1) r es x.2 x.3 (same_shape r x.2 x.4) os
-same_shape (Raw.mapping_start a t ∷ r) es x os = same_after (Ev.mapping_start x.0 x.1) r es x.2 x.3 (same_shape r x.2 x.4) os
-same_shape (e ∷ r) es x os = same_after (shape_of e) r es x.0 x.1 (same_shape r x.0 x.2) os
+over : (h : Held) (t : Tok) (ps : List (Part Goal Raw)) (w : List (Work Goal Raw Held)) (o : Option (List Open))
+    → option_and_then (after_all (before grammar h t ps w)) o ≡ option_and_then (after_all w) (option_and_then (after_all (before grammar h t ps [])) o)
+over h t ps w None = refl
+over h t [] w (Some os) = refl
+over h t (p ∷ ps) w (Some os) = over h t ps w (after_work (part_work grammar h t p) os)
 
-said_start : (ts : List Tok) (raws : List Raw) (events : List Ev) → Derives grammar (saying Raw.stream_start ∷ reading documents nothing_held ∷ []) ts raws → Shaped raws events → is_nested events ≡ true
-said_start ts _ events (says {es = es} d) x =
-    ap is_nested x.1 ∙ same_shape es x.0 x.2 (in_stream ∷ []) ∙ derived_shut (reading documents nothing_held ∷ []) ts es d (in_stream ∷ []) refl
+-- A row's parts stand where its goal stands, and leave as much to close.
+goal_parts : (g : Goal) (h : Held) (t : Tok) (r : Row Goal Raw) (w : List (Work Goal Raw Held)) (os new : List Open) → row_of (cases g) t ≡ Some r
+    → (x : Option (List Open)) → after_goal g os ≡ x → option_and_then (after_all w) x ≡ Some new → after_all (before grammar h t (parts_of r) w) os ≡ Some new
+goal_parts g h t r w os new p None q e = cc
+goal_parts g h t r w os new p (Some mid) q e =
+    let s : option_and (Some mid) (by_row (Some r) h t os (Some mid)) ≡ Some mid = subst₂ (λ x y. option_and x (by_row y h t os x) ≡ x) q p (row_too g os t h) in
+    over h t (parts_of r) w (Some os) ∙ ap (option_and_then (after_all w)) s ∙ e
+
+then_closes : (f : List Open → Option (List Open)) (test : List Open → Bool) → ((os : List Open) → f os ≡ Some [] → test os ≡ true) → (x : Option (List Open))
+    → option_and_then f x ≡ Some [] → there_and test x ≡ true
+then_closes f test k None h = cc
+then_closes f test k (Some os) h = k os h
+
+derived_closes : (w : List (Work Goal Raw Held)) (ts : List Tok) (es : List Raw) → Derives grammar w ts es → (vs : List Ev) → Shaped es vs → (os : List Open)
+    → after_all w os ≡ Some [] → closes vs os ≡ true
+derived_closes [] [] _ nothing_left vs x [] e = ap (λ l. closes l []) x
+derived_closes [] [] _ nothing_left vs x (o ∷ os) e = cc
+derived_closes [] (t ∷ ts) es d vs x os e = elim d [ ]
+derived_closes (saying e ∷ w) ts _ (says {es = es} d) vs x os h =
+    let y = first_opens e es vs x in
+    ap (λ l. closes l os) y.2 ∙ ap (there_and (closes y.1)) (y.3 os)
+    ∙ then_closes (after_all w) (closes y.1) (derived_closes w ts es d y.1 y.4) (open_after (shape_of e) os) h
+derived_closes (reading g h ∷ w) [] es d vs x os e = elim d [ ]
+derived_closes (reading g h ∷ w) (t ∷ ts) es (by_taking ps p d) vs x os e =
+    derived_closes (before grammar h t ps w) ts es d vs x os (goal_parts g h t (takes ps) w os [] p (after_goal g os) refl e)
+derived_closes (reading g h ∷ w) (t ∷ ts) es (by_leaving ps p d) vs x os e =
+    derived_closes (before grammar h t ps w) (t ∷ ts) es d vs x os (goal_parts g h t (leaves ps) w os [] p (after_goal g os) refl e)
+
+said_start : (ts : List Tok) (raws : List Raw) (events : List Ev) → Derives grammar (saying Raw.stream_start ∷ reading documents nothing_held ∷ []) ts raws
+    → Shaped raws events → is_nested events ≡ true
+said_start ts _ events (says {es = es} d) x = ap is_nested x.1 ∙ derived_closes (reading documents nothing_held ∷ []) ts es d x.0 x.2 (in_stream ∷ []) refl
 
 passes : (tokens : List Tok) (raws : List Raw) (events : List Ev) → StreamSays tokens raws → Shaped raws events → is_nested events ≡ true
 passes [] raws events d x = elim d [ ]
