@@ -15,7 +15,7 @@ use std::alloc::AllocError;
 use yaml_chars::Marker;
 use yaml_chars::history::History;
 use yaml_scanner::Scanner;
-use yaml_tokens::{Fault, TScalarStyle, Token, TokenType};
+use yaml_tokens::{Fault, TScalarStyle, Token};
 
 /// Why no event comes.
 #[derive(Clone, Copy, Debug, PartialEq, Eq)]
