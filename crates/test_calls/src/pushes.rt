@@ -143,12 +143,18 @@ impl calls::Call for Call {
     }
 }
 
-const CALLS: [Row<Call>; 6] = [
+const CALLS: [Row<Call>; 7] = [
     (
         "a document for each call",
         "--- 1\n--- 2",
         &[Call::Load, Call::Load, Call::Load, Call::Load],
         "StreamStart DocumentStart 1 DocumentEnd / DocumentStart 2 DocumentEnd / StreamEnd / StreamEnd / ",
+    ),
+    (
+        "a text without document",
+        "",
+        &[Call::Load, Call::Load],
+        "StreamStart StreamEnd / StreamEnd / ",
     ),
     (
         "all documents by one call",
