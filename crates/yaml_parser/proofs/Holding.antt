@@ -399,7 +399,7 @@ blames_refused {T} p es x steady v s = record {
   begins = derived_begins p v es x.before x.raw steady s x.derived;
   none = λ ts fs y.
       x.unnamed ts y.raws fs (subst (λ us. StreamSays us y.raws) (ap (λ z. toks z.given ++ ts) s.scanner) y.says)
-          (since_same p.names.keeping.settings.items p.names.keeping.tags no_names y.raws steady ∙ ap (λ k. named k no_names y.raws) (sym s.keep_tags) ∙ y.has_events);
+      (since_same p.names.keeping.settings.items p.names.keeping.tags no_names y.raws steady ∙ ap (λ k. named k no_names y.raws) (sym s.keep_tags) ∙ y.has_events);
 }
 
 shown_blames : {T : Type 0} (p : Reader T) (es : List (Ev × Position)) {f : ErrorReport} (v : Parsed) → Shows p es v → Blames f p.names.keeping.settings.items p.names.keeping.tags (scanned p.tokens.scanner).given es
