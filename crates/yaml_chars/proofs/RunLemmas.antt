@@ -1,10 +1,12 @@
 -- Lemmas about runs that are taken from a source.
-use Rattle.std.proofs.Common.{◌≡◌, ◌≢◌, ℕ, ◌+◌, ◌<◌, ◌≤◌, Bool, false, true, List, [], ◌∷◌, ◌++◌, length, drop, slice_index, arith, refl, ◌∙◌, length-append}
+use Rattle.std.proofs.Common.{◌≡◌, ◌≢◌, ℕ, ◌+◌, Bool, false, true, List, [], ◌∷◌, ◌++◌, length, slice_index, arith, refl, ◌∙◌, length-append}
 use Rattle.defs_text.specs.Position.{Position}
 use Rattle.yaml_chars.specs.Reading.{Reading, Reads, Fills}
 use Rattle.yaml_chars.specs.Source.{Pulled, Pulls}
 use Rattle.yaml_chars.specs.Run.{stops, ran, bare, GoesOn, GoesOver}
+use Rattle.yaml_chars.specs.Class.{is_blank, is_break}
 use Rattle.yaml_chars.specs.declared.run.Run.{Run}
+use Rattle.yaml_chars.specs.declared.run.Run.TheVariants.{Line, Quoted, Plain}
 use Rattle.yaml_chars.proofs.ReadingLemmas.{Reads-then, Fills-more, Possible-pulls, left-pulls, left-taken, front-pulls, next-pulls}
 
 module _ {T : Type 0} (s : Pulled T) (at line col c : ℕ) (next : Pulled T) (fills : Fills s [] at line col) (pulls : Pulls s c next) (some : c ≢ 0) where
@@ -53,6 +55,36 @@ GoesOn-more run old s next n c before t on pulls goes some = record {
       let there : col + (n + 1) ≡ (col + n) + 1 = omega arith in
       let step = Reads-step s (at + n) line (col + n) c next (on.fills at line col f) pulls some in
       rw (here, there) (Reads-then _ _ _ (on.reads at line col f) step (λ a b d e g. e ∙ ran_on run c b d _ t g goes));
+}
+
+-- a run ends at the end of the text
+pub stops_nul : (run : Run) → stops run 0 ≡ true
+unfolding stops is_blank is_break
+stops_nul Line = refl
+stops_nul (Quoted quote) = refl
+stops_nul (Plain flow) = refl
+
+-- no character of a run came yet
+GoesOn-none : {T : Type 0} (run : Run) (s : Pulled T) (t : List ℕ) → GoesOn run s s 0 t t
+GoesOn-none run s t = record {
+  left = omega arith;
+  fills = λ at line col f. let here : at + 0 ≡ at = omega arith in let there : col + 0 ≡ col = omega arith in rw (here, there) f;
+  reads = λ at line col f. let here : at + 0 ≡ at = omega arith in let there : col + 0 ≡ col = omega arith in rw (here, there) record {
+    start = refl;
+    at = omega arith;
+    left = omega arith;
+    back = λ w p. p;
+    reads = λ w p. refl;
+  };
+}
+
+-- at the end of the text no run goes on
+pub GoesOver-ended : {T : Type 0} (run : Run) (s : Pulled T) (t : List ℕ) → s.done ≡ true → s.left ≡ 0 → GoesOver run s s 0 0 false t t
+GoesOver-ended run s t done none = record {
+  last = s;
+  goes = GoesOn-none run s t;
+  later = record { start = refl; ends = λ _. (refl, done, none); char = λ h. absurd (h refl) };
+  stops = λ _. stops_nul run;
 }
 
 pub true_is_not_false : true ≡ false → ⊥

@@ -25,11 +25,29 @@ pub(crate) struct Ran {
     pub refused: bool,
 }
 
+/// How many characters of a word went into a text, the one after them, and whether memory was refused for that.
+#[derive(Clone, Copy)]
+pub(crate) struct Met {
+    pub count: usize,
+    pub after: char,
+    pub refused: bool,
+}
+
 fn ended(text: Text, count: usize, after: char, refused: bool) -> Ran
     ensures { result ≡ record { text = text; count = count; after = after; refused = refused } }
 {
     Ran {
         text,
+        count,
+        after,
+        refused,
+    }
+}
+
+fn word_ended(count: usize, after: char, refused: bool) -> Met
+    ensures { result ≡ record { count = count; after = after; refused = refused } }
+{
+    Met {
         count,
         after,
         refused,
@@ -71,6 +89,13 @@ impl<T: Iterator<Item = char>> Source<T> {
         }
     }
 
+    fn has_ended(&self) -> bool
+        ensures value { result ≡ self.now.done }
+        ensures none { result ≡ true → self.now.left ≡ 0 }
+    {
+        self.done
+    }
+
     /// The next character, or NUL at the end and from then on.
     #[inline(always)]
     pub fn next(&mut self) -> char
@@ -79,6 +104,15 @@ impl<T: Iterator<Item = char>> Source<T> {
         if self.done {
             return '\0';
         }
+        self.pull()
+    }
+
+    // The same, where the end was not met yet.
+    #[inline(always)]
+    fn pull(&mut self) -> char
+        requires { self.old.done ≡ false }
+        ensures { Pulls self.old result self.new }
+    {
         match self.iter.next() {
             Some(c) if c != '\0' => {
                 self.taken.push(&c);
@@ -110,6 +144,28 @@ impl<T: Iterator<Item = char>> Source<T> {
                 Ok(()) => count += 1,
                 Err(_) => return (source, ended(text, count, after, true)),
             }
+        }
+    }
+
+    /// The same for a word. Nothing is moved: a word's few characters would not pay for that.
+    #[inline(always)]
+    pub(crate) fn word_on(&mut self, run: Run, text: &mut Text) -> Met
+        requires { self.old.left < 2 ^ 63 }
+        ensures { GoesOver run self.old self.new result.count result.after result.refused text.old text.new }
+    {
+        if self.has_ended() {
+            return word_ended(0, '\0', false);
+        }
+        let mut count = 0;
+        'run: loop {
+            let after = self.pull();
+            if run.stops(after) {
+                return word_ended(count, after, false);
+            }
+            if let Err(_) = text.push(after) {
+                return word_ended(count, after, true);
+            }
+            count += 1;
         }
     }
 

@@ -207,8 +207,44 @@ impl<T: Iterator<Item = char>> Window<T> {
         Some(c)
     }
 
+    /// Takes the next character, if it is a space; every other stays.
+    #[inline(always)]
+    pub fn take_space(&mut self) -> bool
+        ensures taken { result ≡ true → Reads self.old self.new (λ a b. a ≡ 32 ∷ b) }
+        ensures on { result ≡ true → OneOn self.old self.new }
+        ensures stays { result ≡ false → Reads self.old self.new (λ a b. (b ≡ a) × (slice_index b 0 ≢ 32)) }
+        ensures position { result ≡ false → SamePosition self.old self.new }
+    {
+        if self.len() == 0 {
+            return self.space_from_source();
+        }
+        if self.ch() != ' ' {
+            return false;
+        }
+        self.skip();
+        true
+    }
+
+    // The same, where nothing is in the window.
+    #[inline(always)]
+    fn space_from_source(&mut self) -> bool
+        requires { self.old.ahead ≡ 0 }
+        ensures taken { result ≡ true → Reads self.old self.new (λ a b. a ≡ 32 ∷ b) }
+        ensures on { result ≡ true → OneOn self.old self.new }
+        ensures stays { result ≡ false → Reads self.old self.new (λ a b. (b ≡ a) × (slice_index b 0 ≢ 32)) }
+        ensures position { result ≡ false → SamePosition self.old self.new }
+    {
+        let c = self.source.next();
+        if c != ' ' {
+            self.ring.push(c);
+            return false;
+        }
+        (self.col, self.index) = (self.col + 1, self.index + 1);
+        true
+    }
+
     /// Takes the characters of a run into a text. The one that ends it stays. Worth its while where
-    /// runs are long, as a line is; words are taken faster one character at a time.
+    /// runs are long, as a line is; words are taken faster by `take_word`.
     #[inline(always)]
     pub fn take_run(&mut self, run: Run, text: &mut Text) -> Result<(), AllocError>
         ensures ok { OnOk result (Reads self.old self.new (λ a b. ran run a (position_of self.old) text.old ≡ record { rest = b; position = position_of self.new; text = text.new })) }
@@ -246,6 +282,38 @@ impl<T: Iterator<Item = char>> Window<T> {
         self.col += count;
         self.ring.push(following);
         if refused {
+            return Err(AllocError);
+        }
+        Ok(())
+    }
+
+    /// The same for a word.
+    #[inline(always)]
+    pub fn take_word(&mut self, run: Run, text: &mut Text) -> Result<(), AllocError>
+        ensures ok { OnOk result (Reads self.old self.new (λ a b. ran run a (position_of self.old) text.old ≡ record { rest = b; position = position_of self.new; text = text.new })) }
+        ensures err { OnErr result (Reads self.old self.new (λ _ _. Unit {0})) }
+    {
+        'held: while self.len() > 0 {
+            let Some(c) = self.take(run) else {
+                return Ok(());
+            };
+            text.push(c)?;
+        }
+        self.word_from_source(run, text)
+    }
+
+    // The same, where nothing is in the window.
+    #[inline(always)]
+    fn word_from_source(&mut self, run: Run, text: &mut Text) -> Result<(), AllocError>
+        requires { self.old.ahead ≡ 0 }
+        ensures ok { OnOk result (Reads self.old self.new (λ a b. ran run a (position_of self.old) text.old ≡ record { rest = b; position = position_of self.new; text = text.new })) }
+        ensures err { OnErr result (Reads self.old self.new (λ _ _. Unit {0})) }
+    {
+        let met = self.source.word_on(run, text);
+        self.index += met.count;
+        self.col += met.count;
+        self.ring.push(met.after);
+        if met.refused {
             return Err(AllocError);
         }
         Ok(())

@@ -1,0 +1,10 @@
+use Rattle.std.proofs.Common.{◌≡◌}
+use Rattle.yaml_chars.specs.Reading.{Reads, position_of}
+use Rattle.yaml_chars.specs.Run.{ran}
+use Rattle.yaml_chars.proofs.window.Window.take_word.Given as goal
+
+abbrev pub invariant-held : goal.invariant-held
+invariant-held g l = Reads l.fn.self l.self (λ a b. ran l.fn.run a (position_of l.fn.self) l.fn.text ≡ ran l.fn.run b (position_of l.self) l.text)
+
+abbrev pub decreases-held : goal.decreases-held
+decreases-held g l = l.self.left
