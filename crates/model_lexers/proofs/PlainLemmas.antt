@@ -1,13 +1,14 @@
 -- Lemmas about the scan of a plain scalar.
-use Rattle.std.proofs.Common.{◌≡◌, ℕ, List, [], ◌∷◌, Bool, true, false, ◌||◌, ◌&&◌, not, ◌==◌, refl, if◌then◌else◌, slice_index, sym, arith, ◌<◌, nat_lt, Ok, Err, Result, inl, inr}
+use Rattle.std.proofs.Common.{◌≡◌, ◌≢◌, ℕ, List, [], ◌∷◌, Bool, true, false, ◌||◌, ◌&&◌, not, ◌==◌, refl, if◌then◌else◌, slice_index, sym, arith, ◌<◌, nat_lt, Ok, Err, Result, inl, inr}
 use Rattle.std.proofs.lemmas.Bool.Decides.{nat_tests}
 use Rattle.std.proofs.lemmas.Bool.{eqb-true, cases_Bool}
 use Rattle.defs_text.specs.Position.{Position}
-use Rattle.yaml_chars.specs.Class.{is_break, is_blank, is_flow}
+use Rattle.yaml_chars.specs.Class.{is_break, is_blank, is_blank_or_breakz, is_flow}
 use Rattle.yaml_tokens.specs.declared.problem.Fault.{Fault}
 use Rattle.model_lexers.specs.declared.context.Context.{Context}
 use Rattle.model_lexers.specs.Machine.{past, at_marker}
-use Rattle.model_lexers.specs.Folding.{Folded, nothing}
+use Rattle.model_lexers.specs.Folding.{Folded, nothing, with_break}
+use Rattle.model_lexers.proofs.RunLemmas.{no_gap}
 use Rattle.model_lexers.specs.Plain.{plain_from, first, inside, between, tabs, ends_run, ends_gap, ends_tabs, goes_on, is_shallow, at_dash, at_plain, can_be_plain, starts, plain}
 
 -- at a comment and at a line's end blanks after a TAB are a gap
@@ -131,3 +132,20 @@ tab_turn ctx start a b p t e l h = let less : nat_lt p.col ctx.indent ≡ true =
 pub plain_starts : (ctx : Context) (a : List ℕ) (p q : Position) → starts ctx a p ≡ Ok tt → q ≡ p → plain ctx a q ≡ plain_from ctx p a (record { mode = first; position = p; folded = nothing })
 unfolding plain
 plain_starts ctx a p q h e = rw (e, h) refl
+
+-- a character that ends a scalar where no gap stands
+pub ends_here : (ctx : Context) (c d : ℕ) (a : List ℕ) (p : Position) → c ≢ 0 → c ≡ slice_index a 0 → d ≡ slice_index a 1 → is_blank_or_breakz c ≡ false → can_be_plain ctx.flow c d ≡ false
+    → (ends_gap a ≡ true) × (goes_on ctx a p ≡ Ok false)
+ends_here ctx c d [] p some e f gap plain = absurd (some e)
+ends_here ctx c d (x ∷ a) p some e f gap plain =
+    let g : (is_break x || is_blank x) ≡ false = no_gap x (rw e at gap) in
+    let h : can_be_plain ctx.flow x (slice_index a 0) ≡ false = rw (e, f) at plain in
+    (rw g refl, goes_on_end ctx x a p h)
+
+-- after a break a scalar's line begins
+pub break_leads : (t : Folded) → (with_break t).leading ≡ true
+break_leads t = leads t.leading refl
+  where
+    leads : (b : Bool) → t.leading ≡ b → (with_break t).leading ≡ true
+    leads true e = rw e refl
+    leads false e = rw e refl

@@ -1,5 +1,7 @@
 -- Lemmas about the scan of a quoted scalar.
-use Rattle.std.proofs.Common.{◌≡◌, ◌≢◌, ℕ, zero, suc, ◌+◌, ◌*◌, List, [], ◌∷◌, Bool, true, false, ◌||◌, ◌&&◌, not, ◌==◌, refl, slice_index, ap, sym, ◌∙◌, Ok, Err}
+use Rattle.std.proofs.Common.{◌≡◌, ◌≢◌, ℕ, zero, suc, ◌+◌, ◌*◌, List, [], ◌∷◌, Bool, true, false, ◌||◌, ◌&&◌, not, ◌==◌, refl, slice_index, ap, sym, ◌∙◌, Ok, Err, ◌<◌, ◌≤◌, nat_lt, arith, inl, inr}
+use Rattle.std.proofs.lemmas.Bool.Decides.{nat_tests}
+use Rattle.std.proofs.lemmas.Bool.{eqb-true, cases_Bool}
 use Rattle.std.specs.Char.{digit_value}
 use Rattle.defs_text.specs.Position.{Position}
 use Rattle.yaml_chars.specs.Class.{is_break, is_blank, is_hex}
@@ -7,8 +9,8 @@ use Rattle.yaml_tokens.specs.declared.problem.Fault.{Fault}
 use Rattle.yaml_tokens.specs.declared.problem.Fault.TheVariants.{At}
 use Rattle.yaml_tokens.specs.declared.problem.Problem.TheVariants as problem
 use Rattle.model_lexers.specs.declared.context.Context.{Context}
-use Rattle.model_lexers.specs.Machine.{past}
-use Rattle.model_lexers.specs.Folding.{Folded, nothing, with_char, joined}
+use Rattle.model_lexers.specs.Machine.{past, at_marker}
+use Rattle.model_lexers.specs.Folding.{Folded, nothing, with_char, with_blank, joined}
 use Rattle.model_lexers.specs.Quoted.{quoted, quoted_from, digits_from, quote_of, Escape, escape_of, is_scalar, refused, first, inside, gap, after, named, digits, closed}
 
 module _ (single : Bool) (ctx : Context) (start : Position) where
@@ -109,3 +111,42 @@ pub quoted_starts : (single : Bool) (ctx : Context) (a b : List ℕ) (p : Positi
     → quoted single ctx a p ≡ quoted_from single ctx p b (record { mode = first; position = past p; folded = nothing })
 unfolding quoted
 quoted_starts single ctx a b p e = rw e refl
+
+-- in a line's second column or after that no document marker stands
+pub in_line_goes_on : (ctx : Context) (start : Position) (a : List ℕ) (p : Position) → 0 < p.col → ctx.indent ≤ p.col + 1 → refused ctx start a p ≡ Ok tt
+unfolding refused at_marker
+in_line_goes_on ctx start a p right deep =
+    let column : (p.col == 0) ≡ false = grind (arith, nat_tests) in
+    let indent : nat_lt (p.col + 1) ctx.indent ≡ false = grind (arith, nat_tests) in
+    rw (column, indent) refl
+
+blank_no_break : (c : ℕ) → is_blank c ≡ true → is_break c ≡ false
+unfolding is_blank is_break
+blank_no_break c h = elim (cases_Bool (c == 32)) [
+  | inl space ↦ let e : c ≡ 32 = eqb-true c 32 space in rw e refl
+  | inr other ↦ let e : c ≡ 9 = eqb-true c 9 (rw other at h) in rw e refl
+]
+
+blank_turn : (single : Bool) (ctx : Context) (start : Position) (c : ℕ) (a : List ℕ) (p : Position) (t : Folded) → is_blank c ≡ true → t.leading ≡ false
+    → quoted_from single ctx start (c ∷ a) (record { mode = inside; position = p; folded = t }) ≡ quoted_from single ctx start a (record { mode = gap; position = past p; folded = with_blank c t })
+blank_turn single ctx start c a p t blank leading = rw (blank_no_break c blank, blank, leading) refl
+
+-- a blank that stands alone between two characters of a line belongs to the text as it stands
+pub lone_blank : (single : Bool) (ctx : Context) (start : Position) (c d : ℕ) (a b : List ℕ) (p : Position) (t : Folded)
+    → a ≡ c ∷ b → d ≡ slice_index b 0 → is_blank c ≡ true → (is_break d || is_blank d) ≡ false → t.gap ≡ [] → t.leading ≡ false → t.escaped ≡ false → refused ctx start b (past p) ≡ Ok tt
+    → quoted_from single ctx start a (record { mode = inside; position = p; folded = t }) ≡ quoted_from single ctx start b (record { mode = inside; position = past p; folded = with_char c t })
+lone_blank single ctx start c d a b p t e next blank other none leading escaped goes =
+    ap (λ x. quoted_from single ctx start x (record { mode = inside; position = p; folded = t })) e
+    ∙ blank_turn single ctx start c b p t blank leading
+    ∙ gap_line single ctx start d b (past p) (with_blank c t) next other
+    ∙ line_inside single ctx start b (past p) (with_blank c t) goes
+    ∙ ap (λ x. quoted_from single ctx start b (record { mode = inside; position = past p; folded = x })) same
+  where
+    same : joined (with_blank c t) ≡ with_char c t
+    same = rw (none, leading, escaped) refl
+
+-- the closing quote
+pub closing : (ctx : Context) (start : Position) (a b : List ℕ) (p : Position) (t : Folded) → a ≡ 34 ∷ b
+    → quoted_from false ctx start a (record { mode = inside; position = p; folded = t }) ≡ quoted_from false ctx start b (record { mode = closed; position = past p; folded = t })
+unfolding is_break is_blank
+closing ctx start a b p t e = rw e refl

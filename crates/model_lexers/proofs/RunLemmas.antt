@@ -23,7 +23,7 @@ second_of false c h = h
 no_break : (c : ℕ) → is_breakz c ≡ false → is_break c ≡ false
 no_break c h = first_of (is_break c) _ h
 
-no_gap : (c : ℕ) → (is_blank c || is_breakz c) ≡ false → (is_break c || is_blank c) ≡ false
+pub no_gap : (c : ℕ) → (is_blank c || is_breakz c) ≡ false → (is_break c || is_blank c) ≡ false
 no_gap c h = let b = first_of (is_blank c) _ h in let d = no_break c (second_of (is_blank c) _ h) in rw (d, b) refl
 
 -- of a line of a block scalar
@@ -77,3 +77,24 @@ pub block_ran : (literal : Bool) (column : ℕ) (a b : List ℕ) (p q : Position
 block_ran literal column a b p q l u h =
     through_run kind.Line (λ d r t. block.lines_from literal column d (record { mode = block.line; position = r; lines = record l { text = t } }))
     (λ c d r t e. block_run literal column c d r (record l { text = t }) e) a b p q l.text u h
+
+pub quoted_ran : (single : Bool) (ctx : Context) (start : Position) (a b : List ℕ) (p q : Position) (t : folding.Folded) (u : List ℕ) → ran (kind.Quoted (quoted.quote_of single)) a p t.text ≡ record { rest = b; position = q; text = u }
+    → quoted.quoted_from single ctx start a (record { mode = quoted.inside; position = p; folded = t })
+    ≡ quoted.quoted_from single ctx start b (record { mode = quoted.inside; position = q; folded = record t { text = u } })
+quoted_ran single ctx start a b p q t u h =
+    through_run (kind.Quoted (quoted.quote_of single)) (λ d r v. quoted.quoted_from single ctx start d (record { mode = quoted.inside; position = r; folded = record t { text = v } }))
+    (λ c d r v e. quoted_run single ctx start c d r (record t { text = v }) e) a b p q t.text u h
+
+pub plain_ran : (ctx : Context) (start : Position) (a b : List ℕ) (p q : Position) (t : folding.Folded) (u : List ℕ) → ran (kind.Plain ctx.flow) a p t.text ≡ record { rest = b; position = q; text = u }
+    → plain.plain_from ctx start a (record { mode = plain.inside; position = p; folded = t })
+    ≡ plain.plain_from ctx start b (record { mode = plain.inside; position = q; folded = record t { text = u } })
+plain_ran ctx start a b p q t u h =
+    through_run (kind.Plain ctx.flow) (λ d r v. plain.plain_from ctx start d (record { mode = plain.inside; position = r; folded = record t { text = v } }))
+    (λ c d r v e. plain_run ctx start c d r (record t { text = v }) e) a b p q t.text u h
+
+-- a space of an indentation is no text
+pub space_run : (ctx : Context) (start : Position) (a b : List ℕ) (p : Position) (t : folding.Folded) → a ≡ 32 ∷ b → t.leading ≡ true
+    → plain.plain_from ctx start a (record { mode = plain.between; position = p; folded = t })
+    ≡ plain.plain_from ctx start b (record { mode = plain.between; position = past p; folded = t })
+unfolding is_break is_blank
+space_run ctx start a b p t e leading = rw (e, leading) refl

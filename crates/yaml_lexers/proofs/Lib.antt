@@ -1,4 +1,6 @@
 pub mod WindowLemmas
 mod EscapeLemmas
+mod PlainLemmas
+mod QuotedLemmas
 mod SpaceLemmas
 mod UriLemmas

@@ -1,5 +1,5 @@
 -- What the code of flow scalars holds, as the model's states.
-use Rattle.std.specs.Prelude.{◌≡◌, ◌≢◌, ℕ, List, Result, Ok, Err}
+use Rattle.std.specs.Prelude.{◌≡◌, ◌≢◌, ℕ, List, Result, Ok, Err, true, false}
 use Rattle.defs_text.specs.Position.{Position}
 use Rattle.yaml_chars.specs.Reading.{Reading, Reads, position_of}
 use Rattle.defs_text.specs.Text.{string_chars}
@@ -9,7 +9,8 @@ use Rattle.yaml_lexers.specs.declared.folding.Folding.{Folding}
 use Rattle.yaml_lexers.specs.declared.plain.Plain as code
 use Rattle.model_lexers.specs.Machine.{Read}
 use Rattle.model_lexers.specs.Folding.{Folded}
-use Rattle.model_lexers.specs.Plain.{Mode, PlainState, Plain}
+use Rattle.model_lexers.specs.declared.context.Context.{Context}
+use Rattle.model_lexers.specs.Plain.{Mode, PlainState, Plain, ends_gap, goes_on}
 
 abbrev pub folded : Folding → Folded
 folded p = record { text = p.text; gap = p.gap; leading = p.leading; escaped = p.escaped }
@@ -23,6 +24,10 @@ at mode w p = at_folded mode w (folded p)
 
 abbrev pub plain_shown : code.Plain → Plain
 plain_shown s = record { text = string_chars s.text; leading = s.leading }
+
+-- a plain scalar ends where a window stands
+abbrev pub EndsHere : {T : Type 0} → Context → Reading T → List ℕ → Type 0
+EndsHere context w a = (ends_gap a ≡ true) × (goes_on context a (position_of w) ≡ Ok false)
 
 -- what is left after a function
 abbrev pub read : {T A : Type 0} → List ℕ → Reading T → A → Read A

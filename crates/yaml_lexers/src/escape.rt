@@ -1,7 +1,7 @@
 //! Escapes of double-quoted scalars (YAML 1.2, section 5.7).
 ghost use Rattle.std.specs.Prelude.{◌≡◌, ◌≢◌, ◌≤◌, ◌<◌, ◌+◌, ◌*◌, ℕ, zero, suc, Bool, true, false, Ok, Err, OnOk, IfOk, IfErr, slice_index, MatchOption, if◌then◌else◌};
 ghost use Rattle.defs_text.specs.Position.{Position};
-ghost use Rattle.yaml_chars.specs.Reading.{Reads, Sees, HasChar, position_of};
+ghost use Rattle.yaml_chars.specs.Reading.{Reads, Sees, HasChar, SamePosition, position_of};
 ghost use Rattle.model_lexers.specs.declared.context.Context.{Context};
 ghost use Rattle.model_lexers.specs.Folding.{Folded};
 ghost use Rattle.model_lexers.specs.Quoted.{escape_of, is_scalar, digits_from, quoted_from, inside, breaking, named};
@@ -9,7 +9,7 @@ ghost use Rattle.yaml_lexers.specs.ShownQuoted.{at, at_folded, mode_of, escape_s
 ghost use Rattle.yaml_lexers.specs.Shown.{folded};
 
 use crate::folding::Folding;
-use crate::quoted::{Part, Quote};
+use crate::quoted::{Part, Quote, read_run};
 use yaml_chars::class::{hex_value, is_break, is_hex};
 use yaml_chars::{Marker, Window};
 use yaml_tokens::{Fault, Problem};
@@ -162,6 +162,34 @@ fn read_named<T: Iterator<Item = char>>(
     }
 }
 
+/// Reads what a backslash names, and the words after it.
+#[inline(always)]
+fn read_named_and_words<T: Iterator<Item = char>>(
+    window: &mut Window<T>,
+    quote: &Quote,
+    scalar: &mut Folding,
+) -> Result<(), Fault>
+    ensures { ReadsOn quote.now named window.old scalar.old result (λ _. inside) window.new scalar.new }
+{
+    read_named(window, quote, scalar)?;
+    read_run(window, quote, scalar)?;
+    Ok(())
+}
+
+/// Whether a backslash stands here. Then the character after it is in the window too.
+#[inline(always)]
+fn at_backslash<T: Iterator<Item = char>>(window: &mut Window<T>) -> bool
+    ensures reads { Reads window.old window.new (λ a b. b ≡ a) }
+    ensures position { SamePosition window.old window.new }
+    ensures here { result ≡ true → Shows window.new 2 92 }
+{
+    if window.look_ch() != '\\' {
+        return false;
+    }
+    window.lookahead(2);
+    true
+}
+
 /// Steps over a backslash, and says whether a break stands after it.
 #[inline(always)]
 fn skip_backslash<T: Iterator<Item = char>>(window: &mut Window<T>) -> bool
@@ -175,7 +203,7 @@ fn skip_backslash<T: Iterator<Item = char>>(window: &mut Window<T>) -> bool
     breaks
 }
 
-/// Reads an escape, and those right after it.
+/// Reads an escape and the words after it, as long as an escape comes after these.
 pub(crate) fn read_escapes<T: Iterator<Item = char>>(
     window: &mut Window<T>,
     quote: &Quote,
@@ -189,9 +217,8 @@ pub(crate) fn read_escapes<T: Iterator<Item = char>>(
         if skip_backslash(window) {
             return Ok(Part::Breaking);
         }
-        read_named(window, quote, scalar)?;
-        window.lookahead(2);
-        if window.ch() != '\\' {
+        read_named_and_words(window, quote, scalar)?;
+        if !at_backslash(window) {
             return Ok(Part::Inside);
         }
     }

@@ -1,5 +1,5 @@
 //! Lines of a flow scalar, folded.
-ghost use Rattle.std.specs.Prelude.{◌≡◌, OnOk};
+ghost use Rattle.std.specs.Prelude.{◌≡◌, OnOk, true, false, []};
 ghost use Rattle.model_lexers.specs.Folding.{nothing, with_char, with_blank, with_break, with_escaped_break, joined};
 ghost use Rattle.yaml_lexers.specs.Shown.{folded};
 
@@ -46,6 +46,15 @@ impl Folding {
         Ok(())
     }
 
+    /// Whether nothing stands between the text and the next character.
+    pub(crate) fn is_joined(&self) -> bool
+        ensures gap { result ≡ true → (folded self.now).gap ≡ [] }
+        ensures leading { result ≡ true → (folded self.now).leading ≡ false }
+        ensures escaped { result ≡ true → (folded self.now).escaped ≡ false }
+    {
+        !self.leading && !self.escaped && self.gap.is_empty()
+    }
+
     pub(crate) fn add_blank(&mut self, c: char) -> Result<(), AllocError>
         ensures { OnOk result (folded self.new ≡ with_blank c (folded self.old)) }
     {
@@ -56,7 +65,8 @@ impl Folding {
     }
 
     pub(crate) fn add_break(&mut self) -> Result<(), AllocError>
-        ensures { OnOk result (folded self.new ≡ with_break (folded self.old)) }
+        ensures folded { OnOk result (folded self.new ≡ with_break (folded self.old)) }
+        ensures leading { OnOk result (self.new.leading ≡ true) }
     {
         if self.leading {
             self.gap.push('\n')?;

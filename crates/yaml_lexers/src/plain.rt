@@ -6,7 +6,7 @@ ghost use Rattle.model_lexers.specs.declared.context.Context.{Context};
 ghost use Rattle.model_lexers.specs.Folding.{Folded};
 ghost use Rattle.model_lexers.specs.Machine.{is_marker, at_marker};
 ghost use Rattle.model_lexers.specs.Plain.{can_be_plain, is_shallow, at_dash, at_plain, goes_on, starts, plain, plain_from, first, inside, between, ends_gap};
-ghost use Rattle.yaml_lexers.specs.Shown.{Lexes, Refuses, at, at_folded, plain_shown};
+ghost use Rattle.yaml_lexers.specs.Shown.{Lexes, Refuses, at, at_folded, plain_shown, EndsHere};
 
 use crate::folding::Folding;
 use model_lexers::Context;
@@ -35,7 +35,6 @@ fn can_be_plain(flow: bool, c: char, next: char) -> bool
 }
 
 /// Reads the characters up to a blank, a break, the end, a colon or what ends a plain scalar in flow.
-#[tactic(auto, using(model_lexers::proofs::RunLemmas::plain_run))]
 fn read_word<T: Iterator<Item = char>>(
     window: &mut Window<T>,
     context: Context,
@@ -45,32 +44,32 @@ fn read_word<T: Iterator<Item = char>>(
         plain_from context start a (at inside window.old scalar.old) ≡ plain_from context start b (at inside window.new scalar.new))) }
     ensures err { OnErr result (Reads window.old window.new (λ _ _. Unit {0})) }
 {
-    'run: while let Some(c) = window.take(Run::Plain(context.flow)) {
-        scalar.push(c)?;
-    }
+    window.take_word(Run::Plain(context.flow), &mut scalar.text)?;
     Ok(())
 }
 
-/// Reads the characters up to a blank, a break, the end, or what ends a plain scalar.
+/// Reads the characters up to a blank, a break, the end, or what ends a plain scalar. The result is whether a gap may
+/// come: without one the scalar ends here.
 #[tactic(auto, using(model_lexers::proofs::PlainLemmas::run_end))]
 fn read_run<T: Iterator<Item = char>>(
     window: &mut Window<T>,
     context: Context,
     scalar: &mut Folding,
-) -> Result<(), AllocError>
-    ensures ok { OnOk result (Reads window.old window.new (λ a b. (start : Position) →
-        plain_from context start a (at inside window.old scalar.old) ≡ plain_from context start b (at between window.new scalar.new))) }
+) -> Result<bool, AllocError>
+    ensures ok { IfOk result (λ gap. Reads window.old window.new (λ a b.
+        ((start : Position) → plain_from context start a (at inside window.old scalar.old) ≡ plain_from context start b (at between window.new scalar.new))
+        × (gap ≡ false → EndsHere context window.new b))) }
     ensures err { OnErr result (Reads window.old window.new (λ _ _. Unit {0})) }
 {
     'run: loop {
         read_word(window, context, scalar)?;
         let c = window.look_ch();
         if is_blank_or_breakz(c) {
-            return Ok(());
+            return Ok(true);
         }
         window.lookahead(2);
         if !can_be_plain(context.flow, c, window.peek(1)) {
-            return Ok(());
+            return Ok(false);
         }
         scalar.push(c)?;
         window.skip();
@@ -192,6 +191,16 @@ fn skip_tabs<T: Iterator<Item = char>>(window: &mut Window<T>, start: Marker) ->
     }
 }
 
+/// Steps over the spaces that a line after a break begins with.
+#[inline(always)]
+#[tactic(auto, using(model_lexers::proofs::RunLemmas::space_run))]
+fn skip_spaces<T: Iterator<Item = char>>(window: &mut Window<T>)
+    ensures { Reads window.old window.new (λ a b. (context : Context) (start : Position) (t : Folded) → t.leading ≡ true →
+        plain_from context start a (at_folded between window.old t) ≡ plain_from context start b (at_folded between window.new t)) }
+{
+    'spaces: while window.take_space() {}
+}
+
 /// Reads blanks and breaks.
 fn read_gap<T: Iterator<Item = char>>(
     window: &mut Window<T>,
@@ -213,6 +222,7 @@ fn read_gap<T: Iterator<Item = char>>(
             } else {
                 window.skip_break();
                 scalar.add_break()?;
+                skip_spaces(window);
             }
         } else if !is_blank(c) {
             return Ok(());
@@ -241,17 +251,19 @@ fn check_start<T: Iterator<Item = char>>(window: &Window<T>, context: Context) -
     Ok(())
 }
 
-/// Reads the character that stands here and the rest of its line, and the gap after it.
+/// Reads the character that stands here and the rest of its line, and the gap after it. The result is whether a gap may
+/// have come: without one the scalar ends here.
 fn read_line<T: Iterator<Item = char>>(
     window: &mut Window<T>,
     context: Context,
     start: Marker,
     scalar: &mut Folding,
-) -> Result<(), Fault>
+) -> Result<bool, Fault>
     requires has { HasChar window.old }
     requires ahead { 0 < window.old.ahead }
-    ensures ok { OnOk result (Reads window.old window.new (λ a b.
-        (plain_from context start a (at first window.old scalar.old) ≡ plain_from context start b (at between window.new scalar.new)) × (ends_gap b ≡ true))) }
+    ensures ok { IfOk result (λ gap. Reads window.old window.new (λ a b.
+        (plain_from context start a (at first window.old scalar.old) ≡ plain_from context start b (at between window.new scalar.new)) × (ends_gap b ≡ true)
+        × (gap ≡ false → EndsHere context window.new b))) }
     ensures err { IfErr result (λ e. Reads window.old window.new (λ a b. e ≢ Fault.OutOfMemory →
         plain_from context start a (at first window.old scalar.old) ≡ Err e)) }
     ensures less { OnOk result (window.new.left < window.old.left) }
@@ -260,8 +272,20 @@ fn read_line<T: Iterator<Item = char>>(
     scalar.join()?;
     scalar.push(c)?;
     window.skip();
-    read_run(window, context, scalar)?;
-    read_gap(window, context, start, scalar)
+    if !read_run(window, context, scalar)? {
+        return Ok(false);
+    }
+    read_gap(window, context, start, scalar)?;
+    Ok(true)
+}
+
+fn ended(scalar: Folding) -> Plain
+    ensures { plain_shown result ≡ record { text = scalar.text; leading = scalar.leading } }
+{
+    Plain {
+        leading: scalar.leading,
+        text: scalar.text.into_string(),
+    }
 }
 
 /// Reads a plain scalar, which may go on over lines, from its first character on.
@@ -282,12 +306,11 @@ pub fn read_plain<T: Iterator<Item = char>>(
     let mut scalar = Folding::new(alloc);
     scalar.make_room()?;
     'lines: loop {
-        read_line(window, context, start, &mut scalar)?;
+        if !read_line(window, context, start, &mut scalar)? {
+            return Ok(ended(scalar));
+        }
         if !goes_on(window, context)? {
-            return Ok(Plain {
-                leading: scalar.leading,
-                text: scalar.text.into_string(),
-            });
+            return Ok(ended(scalar));
         }
     }
 }

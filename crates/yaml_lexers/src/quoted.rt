@@ -1,18 +1,19 @@
 //! Quoted scalars (YAML 1.2, sections 7.3.1 and 7.3.2).
-ghost use Rattle.std.specs.Prelude.{◌≡◌, ◌≢◌, ◌≤◌, ◌<◌, ◌==◌, ◌||◌, true, false, Ok, Err, OnOk, OnErr, IfOk, IfErr};
+ghost use Rattle.std.specs.Prelude.{◌≡◌, ◌≢◌, ◌≤◌, ◌<◌, ◌^◌, ◌+◌, ◌==◌, ◌||◌, true, false, Ok, Err, OnOk, OnErr, IfOk, IfErr};
 ghost use Rattle.yaml_chars.specs.Class.{is_blank, is_break};
 ghost use Rattle.yaml_chars.specs.Reading.{Reads, Sees, HasChar, position_of};
 ghost use Rattle.defs_text.specs.Text.{string_chars};
-ghost use Rattle.model_lexers.specs.Quoted.{quote_of, refused, quoted, first, inside, gap, breaking, after, doubled, closed};
-ghost use Rattle.yaml_lexers.specs.Shown.{Lexes, Refuses};
-ghost use Rattle.yaml_lexers.specs.ShownQuoted.{mode_of, GoesOn, AllGoOn, IsRefused, ReadsOn, Shows};
+ghost use Rattle.model_lexers.specs.Quoted.{quote_of, refused, quoted, quoted_from, first, inside, gap, breaking, after, doubled, closed};
+ghost use Rattle.model_lexers.specs.Folding.{Folded, nothing};
+ghost use Rattle.yaml_lexers.specs.Shown.{Lexes, Refuses, folded};
+ghost use Rattle.yaml_lexers.specs.ShownQuoted.{mode_of, at_folded, GoesOn, AllGoOn, IsRefused, ReadsOn, Shows};
 
 use crate::escape::read_escapes;
 use crate::folding::Folding;
 use crate::plain::{at_marker, look_ahead};
 use model_lexers::Context;
 use std::alloc::{AllocError, Global};
-use yaml_chars::class::{is_blank, is_break};
+use yaml_chars::class::{is_blank, is_blank_or_breakz, is_break};
 use yaml_chars::{Marker, Run, Window};
 use yaml_tokens::{Fault, Problem};
 
@@ -252,8 +253,8 @@ fn read_part<T: Iterator<Item = char>>(
 }
 
 /// Reads the characters up to a blank, a break, the end, a quote or a backslash.
-#[tactic(auto, using(model_lexers::proofs::RunLemmas::quoted_run))]
-fn read_run<T: Iterator<Item = char>>(
+#[inline(always)]
+fn read_word<T: Iterator<Item = char>>(
     window: &mut Window<T>,
     quote: &Quote,
     scalar: &mut Folding,
@@ -261,10 +262,117 @@ fn read_run<T: Iterator<Item = char>>(
     ensures ok { OnOk result (GoesOn quote.now inside window.old scalar.old inside window.new scalar.new) }
     ensures err { OnErr result (Reads window.old window.new (λ _ _. Unit {0})) }
 {
-    'run: while let Some(c) = window.take(Run::Quoted(quote_of(quote.single))) {
+    let run = Run::Quoted(quote_of(quote.single));
+    window.take_word(run, &mut scalar.text)?;
+    Ok(())
+}
+
+/// Whether a line may go on in a column, whatever stands there.
+fn goes_on_in(quote: &Quote, col: usize) -> bool
+    requires { col ≤ 2 ^ 63 }
+    ensures { result ≡ true → (0 < col) × (quote.now.context.indent ≤ col + 1) }
+{
+    col > 0 && quote.context.indent <= col + 1
+}
+
+/// Reads the character that a word begins with, and makes room for a short text. Where none begins, no memory is taken.
+#[inline(always)]
+fn begin_word<T: Iterator<Item = char>>(
+    window: &mut Window<T>,
+    quote: &Quote,
+    scalar: &mut Folding,
+) -> Result<(), AllocError>
+    ensures ok { OnOk result (GoesOn quote.now inside window.old scalar.old inside window.new scalar.new) }
+    ensures err { OnErr result (Reads window.old window.new (λ _ _. Unit {0})) }
+    ensures left { OnOk result (window.new.left ≤ window.old.left) }
+{
+    if let Some(c) = window.take(Run::Quoted(quote_of(quote.single))) {
+        scalar.make_room()?;
         scalar.push(c)?;
     }
     Ok(())
+}
+
+/// Takes a blank that stands alone between two characters of a line.
+#[inline(always)]
+fn take_lone_blank<T: Iterator<Item = char>>(
+    window: &mut Window<T>,
+    quote: &Quote,
+    scalar: &mut Folding,
+) -> Result<bool, AllocError>
+    ensures ok { OnOk result (GoesOn quote.now inside window.old scalar.old inside window.new scalar.new) }
+    ensures err { OnErr result (Reads window.old window.new (λ _ _. Unit {0})) }
+    ensures less { result ≡ Ok true → window.new.left < window.old.left }
+    ensures ahead { OnOk result (0 < window.new.ahead) }
+{
+    let c = window.look_ch();
+    if !is_blank(c) {
+        return Ok(false);
+    }
+    window.lookahead(2);
+    let next = window.peek(1);
+    let col = window.mark().col();
+    if is_blank_or_breakz(next) || !scalar.is_joined() || col + 2 < quote.context.indent {
+        return Ok(false);
+    }
+    window.skip();
+    scalar.push(c)?;
+    Ok(true)
+}
+
+/// Reads words of a line, with one blank between each two.
+pub(crate) fn read_run<T: Iterator<Item = char>>(
+    window: &mut Window<T>,
+    quote: &Quote,
+    scalar: &mut Folding,
+) -> Result<(), AllocError>
+    ensures ok { OnOk result (GoesOn quote.now inside window.old scalar.old inside window.new scalar.new) }
+    ensures err { OnErr result (Reads window.old window.new (λ _ _. Unit {0})) }
+    ensures left { OnOk result (window.new.left ≤ window.old.left) }
+{
+    'words: loop {
+        read_word(window, quote, scalar)?;
+        if !take_lone_blank(window, quote, scalar)? {
+            return Ok(());
+        }
+    }
+}
+
+/// Takes the closing quote of a scalar in double quotes, if it stands here.
+#[inline(always)]
+fn take_closing<T: Iterator<Item = char>>(window: &mut Window<T>, quote: &Quote) -> Part
+    ensures reads { Reads window.old window.new (λ a b. (t : Folded) →
+        quoted_from quote.now.single quote.now.context quote.now.start a (at_folded inside window.old t) ≡ quoted_from quote.now.single quote.now.context quote.now.start b (at_folded (mode_of result) window.new t)) }
+    ensures left { window.new.left ≤ window.old.left }
+{
+    if quote.single {
+        return Part::Inside;
+    }
+    if window.look_ch() != '"' {
+        return Part::Inside;
+    }
+    window.skip();
+    Part::Closed
+}
+
+/// Reads the words that a scalar begins with, and in double quotes the closing one, if it stands right after them.
+#[inline(always)]
+fn begin_words<T: Iterator<Item = char>>(
+    window: &mut Window<T>,
+    quote: &Quote,
+    scalar: &mut Folding,
+) -> Result<Part, AllocError>
+    requires { folded scalar.old ≡ nothing }
+    ensures ok { IfOk result (λ part. GoesOn quote.now first window.old scalar.old (mode_of part) window.new scalar.new) }
+    ensures err { OnErr result (Reads window.old window.new (λ _ _. Unit {0})) }
+    ensures left { OnOk result (window.new.left ≤ window.old.left) }
+{
+    if !goes_on_in(quote, window.mark().col()) {
+        return Ok(Part::First);
+    }
+    begin_word(window, quote, scalar)?;
+    read_run(window, quote, scalar)?;
+    Ok(take_closing(window, quote))
 }
 
 /// Reads what stands between the quotes, and the closing one.
@@ -273,11 +381,12 @@ fn read_parts<T: Iterator<Item = char>>(
     quote: &Quote,
     scalar: &mut Folding,
 ) -> Result<(), Fault>
+    requires { folded scalar.old ≡ nothing }
     ensures ok { OnOk result (GoesOn quote.now first window.old scalar.old closed window.new scalar.new) }
     ensures err { IfErr result (λ e. IsRefused quote.now first window.old scalar.old window.new e) }
     ensures left { OnOk result (window.new.left ≤ window.old.left) }
 {
-    let mut part = Part::First;
+    let mut part = begin_words(window, quote, scalar)?;
     'parts: while part != Part::Closed {
         part = read_part(window, quote, part, scalar)?;
         if part == Part::Inside {

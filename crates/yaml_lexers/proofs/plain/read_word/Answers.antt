@@ -1,9 +1,6 @@
-use Rattle.std.proofs.Common.{◌∙◌}
-use Rattle.yaml_chars.proofs.ReadingLemmas.{Reads-then}
-use Rattle.model_lexers.proofs.RunLemmas.{plain_run}
+use Rattle.yaml_chars.proofs.RunLemmas.{Reads-map}
+use Rattle.model_lexers.proofs.RunLemmas.{plain_ran}
 use Rattle.yaml_lexers.proofs.plain.read_word.Goals as goal
 
-pub run-preserved : goal.run-preserved
-run-preserved g c =
-    let on = c.in-Some.ensures.on in
-    Reads-then _ _ _ c.run.invariant c.in-Some.ensures.taken.1 (λ a b d e f start. e start ∙ (rw (f, on.at, on.line, on.col, c.in_ok-push.ensures) (plain_run _ start _ d _ _ c.in-Some.ensures.taken.0)))
+pub returns-clause-ok : goal.returns-clause-ok
+returns-clause-ok g c = Reads-map _ _ c.in_ok-take_word.ensures.ok (λ a b e start. plain_ran _ start a b _ _ _ _ e)

@@ -1,9 +1,13 @@
+use Rattle.std.proofs.Common.{◌≤◌}
 use Rattle.model_lexers.specs.Quoted.{inside}
 use Rattle.yaml_lexers.specs.ShownQuoted.{GoesOn}
 use Rattle.yaml_lexers.proofs.quoted.read_run.Given as goal
 
-abbrev pub invariant-run : goal.invariant-run
-invariant-run g l = GoesOn l.fn.quote inside l.fn.window l.fn.scalar inside l.window l.scalar
+abbrev pub invariant-words : goal.invariant-words
+invariant-words g l = record {
+  reads : GoesOn l.fn.quote inside l.fn.window l.fn.scalar inside l.window l.scalar;
+  left : l.window.left ≤ l.fn.window.left;
+}
 
-abbrev pub decreases-run : goal.decreases-run
-decreases-run g l = l.window.left
+abbrev pub decreases-words : goal.decreases-words
+decreases-words g l = l.window.left

@@ -1,0 +1,15 @@
+-- Lemmas about plain scalars that are being read.
+use Rattle.std.proofs.Common.{◌≡◌, ℕ, List, [], ◌∷◌, Bool, true, false, ◌||◌, refl, slice_index}
+use Rattle.yaml_chars.specs.Class.{is_break, is_blank}
+use Rattle.model_lexers.specs.declared.context.Context.{Context}
+use Rattle.model_lexers.specs.Plain.{can_be_plain, ends_run}
+
+or_true : (b c : Bool) → (b || c || true) ≡ true
+or_true true c = refl
+or_true false true = refl
+or_true false false = refl
+
+-- a run ends at a character that no plain scalar has
+pub runs_out : (ctx : Context) (c d : ℕ) (a : List ℕ) → c ≡ slice_index a 0 → d ≡ slice_index a 1 → can_be_plain ctx.flow c d ≡ false → ends_run ctx a ≡ true
+runs_out ctx c d [] e f h = refl
+runs_out ctx c d (x ∷ a) e f h = let g : can_be_plain ctx.flow x (slice_index a 0) ≡ false = rw (e, f) at h in rw g (or_true (is_break x) (is_blank x))

@@ -1,0 +1,12 @@
+-- Lemmas about quoted scalars that are being read.
+use Rattle.std.proofs.Common.{◌≡◌, ℕ, ◌+◌, ◌<◌, ◌≤◌, List, Bool}
+use Rattle.defs_text.specs.Position.{Position}
+use Rattle.model_lexers.specs.declared.context.Context.{Context}
+use Rattle.model_lexers.specs.Folding.{nothing}
+use Rattle.model_lexers.specs.Quoted.{quoted_from, first, inside}
+use Rattle.model_lexers.proofs.QuotedLemmas.{line_inside, in_line_goes_on}
+
+-- words may stand where a scalar begins
+pub begins_inside : (single : Bool) (ctx : Context) (start : Position) (a : List ℕ) (p : Position) → 0 < p.col → ctx.indent ≤ p.col + 1
+    → quoted_from single ctx start a (record { mode = first; position = p; folded = nothing }) ≡ quoted_from single ctx start a (record { mode = inside; position = p; folded = nothing })
+begins_inside single ctx start a p right deep = line_inside single ctx start a p nothing (in_line_goes_on ctx start a p right deep)
