@@ -97,6 +97,11 @@ pub gap_blank : (a b : List ℕ) (c : ℕ) (h u : Held) → a ≡ c ∷ b → is
 unfolding skip
 gap_blank a b c h u e i t k f = rw (e, f, i, t, k) refl
 
+-- a space of an indentation
+pub gap_space : (a b : List ℕ) (h u : Held) → a ≡ 32 ∷ b → u ≡ moved h → skip between a h ≡ skip between b u
+unfolding is_break is_blank
+gap_space a b h u e f = gap_blank a b 32 h u e refl refl refl f
+
 pub gap_tab : (a b : List ℕ) (h u : Held) → a ≡ 9 ∷ b → is_before_indent h ≡ true → u ≡ moved h → skip between a h ≡ skip tab_line b u
 unfolding skip is_break
 gap_tab a b h u e t f = rw (e, f, t) refl

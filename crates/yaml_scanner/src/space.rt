@@ -30,6 +30,28 @@ impl<T: Iterator<Item = char>> Fetcher<T> {
         self.key_allowed = key_allowed;
     }
 
+    /// Steps over a line break and the spaces after it.
+    #[inline(always)]
+    fn pass_to_indented(&mut self)
+        requires { HasChar self.old.window }
+        ensures gap { Reads self.old.window self.new.window (λ a b. is_break (slice_index a 0) ≡ true → skip between a (held self.old) ≡ skip between b (held self.new)) }
+        ensures moves { Moves self.old self.new 0 8 }
+        ensures less { self.new.window.left < self.old.window.left }
+    {
+        self.pass_break();
+        self.pass_indentation();
+    }
+
+    /// Steps over the spaces that stand here.
+    #[inline(always)]
+    #[tactic(auto, using(crate::proofs::SpaceLemmas::gap_space))]
+    fn pass_indentation(&mut self)
+        ensures gap { Reads self.old.window self.new.window (λ a b. skip between a (held self.old) ≡ skip between b (held self.new)) }
+        ensures moves { Moves self.old self.new 0 0 }
+    {
+        'spaces: while self.window.take_space() {}
+    }
+
     /// Whether a key may begin on the next line.
     fn allows_key(&self) -> bool
         ensures { result ≡ (not (in_flow (held self.now)) || self.now.key_allowed) }
@@ -66,7 +88,7 @@ impl<T: Iterator<Item = char>> Fetcher<T> {
         'space: loop {
             let c = self.window.look_ch();
             if is_break(c) {
-                self.pass_break();
+                self.pass_to_indented();
             } else if self.at_tab_line(c) {
                 self.skip_tab_line()?;
             } else if is_blank(c) {
