@@ -1,15 +1,17 @@
 -- Lemmas about the scan of a plain scalar.
-use Rattle.std.proofs.Common.{◌≡◌, ◌≢◌, ℕ, List, [], ◌∷◌, Bool, true, false, ◌||◌, ◌&&◌, not, ◌==◌, refl, if◌then◌else◌, slice_index, sym, arith, ◌<◌, nat_lt, Ok, Err, Result, inl, inr}
+use Rattle.std.proofs.Common.{◌≡◌, ◌≢◌, ℕ, ◌+◌, List, [], ◌∷◌, Bool, true, false, ◌||◌, ◌&&◌, not, ◌==◌, refl, if◌then◌else◌, slice_index, sym, ap, ◌∙◌, arith, ◌<◌, nat_lt, Ok, Err, Result, inl, inr}
 use Rattle.std.proofs.lemmas.Bool.Decides.{nat_tests}
 use Rattle.std.proofs.lemmas.Bool.{eqb-true, cases_Bool}
 use Rattle.defs_text.specs.Position.{Position}
 use Rattle.yaml_chars.specs.Class.{is_break, is_blank, is_blank_or_breakz, is_flow}
+use Rattle.yaml_chars.specs.Run.{stops}
 use Rattle.yaml_tokens.specs.declared.problem.Fault.{Fault}
 use Rattle.model_lexers.specs.declared.context.Context.{Context}
 use Rattle.model_lexers.specs.Machine.{past, at_marker}
-use Rattle.model_lexers.specs.Folding.{Folded, nothing, with_break}
+use Rattle.model_lexers.specs.Folding.{Folded, nothing, with_char, with_blank, with_break, joined}
+use Rattle.model_lexers.proofs.QuotedLemmas.{blank_no_break}
 use Rattle.model_lexers.proofs.RunLemmas.{no_gap}
-use Rattle.model_lexers.specs.Plain.{plain_from, first, inside, between, tabs, ends_run, ends_gap, ends_tabs, goes_on, is_shallow, at_dash, at_plain, can_be_plain, starts, plain}
+use Rattle.model_lexers.specs.Plain.{plain_from, first, inside, between, tabs, ends_run, ends_gap, ends_tabs, goes_on, is_shallow, at_dash, at_plain, can_be_plain, starts, plain, is_wordy}
 
 -- at a comment and at a line's end blanks after a TAB are a gap
 at_hash : is_break 35 ≡ false
@@ -149,3 +151,57 @@ break_leads t = leads t.leading refl
     leads : (b : Bool) → t.leading ≡ b → (with_break t).leading ≡ true
     leads true e = rw e refl
     leads false e = rw e refl
+
+-- a character of a run that begins neither a comment nor a marker's dash
+record IsWordy (ctx : Context) (c : ℕ) : Type 0 where
+  apart : (is_break c || is_blank c) ≡ false
+  some : c ≢ 0
+  colon : (c == 58) ≡ false
+  hash : (c == 35) ≡ false
+  dash : (c == 45) ≡ false
+  indicator : (ctx.flow && is_flow c) ≡ false
+
+wordy : (ctx : Context) (c : ℕ) → is_wordy c ≡ true → IsWordy ctx c
+unfolding is_wordy stops is_break is_blank is_flow
+wordy ctx c h = record {
+  apart = grind (arith, nat_tests);
+  some = λ e. absurd (zero_is_none (rw e at h));
+  colon = grind (arith, nat_tests);
+  hash = grind (arith, nat_tests);
+  dash = grind (arith, nat_tests);
+  indicator = grind (arith, nat_tests);
+}
+  where
+    zero_is_none : is_wordy 0 ≡ true → ⊥
+    zero_is_none h = cc
+
+wordy_plain : (ctx : Context) (c d : ℕ) → IsWordy ctx c → can_be_plain ctx.flow c d ≡ true
+unfolding can_be_plain
+wordy_plain ctx c d w = rw (w.colon, w.indicator) refl
+
+wordy_goes_on : (ctx : Context) (c : ℕ) (a : List ℕ) (p : Position) → IsWordy ctx c → is_shallow ctx (p.col + 1) ≡ false → goes_on ctx (c ∷ a) (past p) ≡ Ok true
+unfolding goes_on at_marker at_plain
+wordy_goes_on ctx c a p w deep =
+    let column : (p.col + 1 == 0) ≡ false = grind (arith, nat_tests) in
+    let plain : can_be_plain ctx.flow c (slice_index a 0) ≡ true = wordy_plain ctx c _ w in
+    let some : is_blank_or_breakz c ≡ false = apart c w.apart w.some in
+    rw (deep, w.hash, column, no_dash ctx.flow c a w.dash, some, plain) refl
+  where
+    apart : (c : ℕ) → (is_break c || is_blank c) ≡ false → c ≢ 0 → is_blank_or_breakz c ≡ false
+    apart c h n = grind (arith, nat_tests)
+
+-- a blank that stands alone between two characters of a line belongs to the text as it stands
+pub lone_blank : (ctx : Context) (start : Position) (c d : ℕ) (a b : List ℕ) (p : Position) (t : Folded)
+    → a ≡ c ∷ b → d ≡ slice_index b 0 → is_blank c ≡ true → is_wordy d ≡ true → is_shallow ctx (p.col + 1) ≡ false → t.gap ≡ [] → t.leading ≡ false → t.escaped ≡ false
+    → plain_from ctx start a (record { mode = inside; position = p; folded = t }) ≡ plain_from ctx start b (record { mode = inside; position = past p; folded = with_char c t })
+lone_blank ctx start c d a [] p t e next blank w deep none leading escaped = let v = wordy ctx d w in absurd (v.some next)
+lone_blank ctx start c d a (x ∷ b) p t e next blank w deep none leading escaped =
+    let v : IsWordy ctx x = rw next at (wordy ctx d w) in
+    let turn : plain_from ctx start (c ∷ x ∷ b) (record { mode = inside; position = p; folded = t }) ≡ plain_from ctx start (x ∷ b) (record { mode = between; position = past p; folded = with_blank c t }) =
+    rw (blank_no_break c blank, blank, leading) refl in
+    let here : plain_from ctx start (x ∷ b) (record { mode = between; position = past p; folded = with_blank c t }) ≡ plain_from ctx start (x ∷ b) (record { mode = inside; position = past p; folded = joined (with_blank c t) }) =
+    rw (v.apart, wordy_goes_on ctx x b p v deep, wordy_plain ctx x (slice_index b 0) v) refl in
+    ap (λ y. plain_from ctx start y (record { mode = inside; position = p; folded = t })) e ∙ turn ∙ here ∙ ap (λ y. plain_from ctx start (x ∷ b) (record { mode = inside; position = past p; folded = y })) same
+  where
+    same : joined (with_blank c t) ≡ with_char c t
+    same = rw (none, leading, escaped) refl

@@ -120,7 +120,7 @@ in_line_goes_on ctx start a p right deep =
     let indent : nat_lt (p.col + 1) ctx.indent ≡ false = grind (arith, nat_tests) in
     rw (column, indent) refl
 
-blank_no_break : (c : ℕ) → is_blank c ≡ true → is_break c ≡ false
+pub blank_no_break : (c : ℕ) → is_blank c ≡ true → is_break c ≡ false
 unfolding is_blank is_break
 blank_no_break c h = elim (cases_Bool (c == 32)) [
   | inl space ↦ let e : c ≡ 32 = eqb-true c 32 space in rw e refl

@@ -5,7 +5,7 @@ ghost use Rattle.yaml_chars.specs.Reading.{Reads, Sees, HasChar, SamePosition, p
 ghost use Rattle.model_lexers.specs.declared.context.Context.{Context};
 ghost use Rattle.model_lexers.specs.Folding.{Folded};
 ghost use Rattle.model_lexers.specs.Machine.{is_marker, at_marker};
-ghost use Rattle.model_lexers.specs.Plain.{can_be_plain, is_shallow, at_dash, at_plain, goes_on, starts, plain, plain_from, first, inside, between, ends_gap};
+ghost use Rattle.model_lexers.specs.Plain.{can_be_plain, is_shallow, at_dash, at_plain, goes_on, starts, plain, plain_from, first, inside, between, ends_gap, is_wordy};
 ghost use Rattle.yaml_lexers.specs.Shown.{Lexes, Refuses, at, at_folded, plain_shown, EndsHere};
 
 use crate::folding::Folding;
@@ -48,6 +48,60 @@ fn read_word<T: Iterator<Item = char>>(
     Ok(())
 }
 
+/// Whether a character after a lone blank is one of the scalar, whatever comes after it.
+#[inline(always)]
+#[tactic(auto, unfolding(model_lexers::specs::Plain::is_wordy))]
+fn is_wordy(c: char) -> bool
+    ensures { result ≡ is_wordy c }
+{
+    !Run::Plain(true).stops(c) && c != '#' && c != '-'
+}
+
+/// Takes a blank that stands alone between two characters of a line.
+#[inline(always)]
+fn take_lone_blank<T: Iterator<Item = char>>(
+    window: &mut Window<T>,
+    context: Context,
+    scalar: &mut Folding,
+) -> Result<bool, AllocError>
+    ensures ok { OnOk result (Reads window.old window.new (λ a b. (start : Position) →
+        plain_from context start a (at inside window.old scalar.old) ≡ plain_from context start b (at inside window.new scalar.new))) }
+    ensures err { OnErr result (Reads window.old window.new (λ _ _. Unit {0})) }
+    ensures less { result ≡ Ok true → window.new.left < window.old.left }
+    ensures ahead { OnOk result (0 < window.new.ahead) }
+{
+    let c = window.look_ch();
+    if !is_blank(c) {
+        return Ok(false);
+    }
+    window.lookahead(2);
+    let col = window.mark().col();
+    if !is_wordy(window.peek(1)) || is_shallow(context, col + 1) || !scalar.is_joined() {
+        return Ok(false);
+    }
+    window.skip();
+    scalar.push(c)?;
+    Ok(true)
+}
+
+/// Reads words with one blank between each two.
+fn read_words<T: Iterator<Item = char>>(
+    window: &mut Window<T>,
+    context: Context,
+    scalar: &mut Folding,
+) -> Result<(), AllocError>
+    ensures ok { OnOk result (Reads window.old window.new (λ a b. (start : Position) →
+        plain_from context start a (at inside window.old scalar.old) ≡ plain_from context start b (at inside window.new scalar.new))) }
+    ensures err { OnErr result (Reads window.old window.new (λ _ _. Unit {0})) }
+{
+    'words: loop {
+        read_word(window, context, scalar)?;
+        if !take_lone_blank(window, context, scalar)? {
+            return Ok(());
+        }
+    }
+}
+
 /// Reads the characters up to a blank, a break, the end, or what ends a plain scalar. The result is whether a gap may
 /// come: without one the scalar ends here.
 #[tactic(auto, using(model_lexers::proofs::PlainLemmas::run_end))]
@@ -62,7 +116,7 @@ fn read_run<T: Iterator<Item = char>>(
     ensures err { OnErr result (Reads window.old window.new (λ _ _. Unit {0})) }
 {
     'run: loop {
-        read_word(window, context, scalar)?;
+        read_words(window, context, scalar)?;
         let c = window.look_ch();
         if is_blank_or_breakz(c) {
             return Ok(true);
