@@ -39,6 +39,10 @@ impl Text {
     pub fn make_room(&mut self) -> Result<(), AllocError>
         ensures { self.new ≡ self.old }
     {
+        if self.inner.is_empty() && self.inner.capacity() == 0 {
+            self.inner = String::with_capacity(*self.inner.allocator(), ROOM)?;
+            return Ok(());
+        }
         self.inner.reserve(ROOM)
     }
 
