@@ -20,7 +20,7 @@ second_of : (b c : Bool) → (b || c) ≡ false → c ≡ false
 second_of true c h = cc
 second_of false c h = h
 
-no_break : (c : ℕ) → is_breakz c ≡ false → is_break c ≡ false
+pub no_break : (c : ℕ) → is_breakz c ≡ false → is_break c ≡ false
 no_break c h = first_of (is_break c) _ h
 
 pub no_gap : (c : ℕ) → (is_blank c || is_breakz c) ≡ false → (is_break c || is_blank c) ≡ false

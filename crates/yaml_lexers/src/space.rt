@@ -5,8 +5,8 @@ ghost use Rattle.model_lexers.specs.Space.{linebreak, comment, blanks, space};
 ghost use Rattle.yaml_lexers.specs.Shown.{read};
 
 use model_lexers::{SkipTabs, Whitespace};
-use yaml_chars::Window;
-use yaml_chars::class::{is_blank, is_breakz};
+use yaml_chars::class::is_blank;
+use yaml_chars::{Run, Window};
 use yaml_tokens::{Fault, Problem};
 
 /// Steps over the line break that stands here, CR LF as one.
@@ -25,17 +25,13 @@ pub fn skip_linebreak<T: Iterator<Item = char>>(window: &mut Window<T>)
 }
 
 /// Steps to the end of the line. What stands there is then in the window.
-#[tactic(auto, using(model_lexers::proofs::SpaceLemmas::skip_end))]
+#[tactic(auto, using(model_lexers::proofs::SpaceLemmas::comment_on, model_lexers::proofs::SpaceLemmas::comment_end))]
 pub fn skip_comment<T: Iterator<Item = char>>(window: &mut Window<T>)
     ensures reads { Reads window.old window.new (λ a b. comment a (position_of window.old) ≡ read b window.new tt) }
     ensures ahead { 0 < window.new.ahead }
 {
-    'comment: loop {
-        if is_breakz(window.look_ch()) {
-            return;
-        }
-        window.skip();
-    }
+    'comment: while let Some(_) = window.take(Run::Line) {}
+    window.look_ch();
 }
 
 /// Steps over spaces, TABs where these are to be skipped, and a comment, up to the end of the
