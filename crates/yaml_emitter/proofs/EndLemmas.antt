@@ -1,12 +1,15 @@
 -- How a text begins and ends, by its bytes and by its characters.
-use Rattle.std.proofs.Common.{◌≡◌, ◌≢◌, ℕ, zero, suc, ◌-◌, List, [], ◌∷◌, ◌++◌, length, take, drop, Bool, true, false, refl, sym, ap, ◌∙◌, arith, length-append}
-use Rattle.std.specs.Prelude.{nat_eq, encode_utf8_all, None}
+use Rattle.std.proofs.Common.{◌≡◌, ◌≢◌, ℕ, zero, suc, ◌-◌, ◌<◌, ◌≤◌, get_or, List, [], ◌∷◌, ◌++◌, length, take, drop, Bool, true, false, refl, sym, ap, ◌∙◌, arith, length-append}
+use Rattle.std.specs.Prelude.{◌==◌, nat_eq, encode_utf8_all, None}
 use Rattle.std.specs.List.{ends_with}
 use Rattle.std.specs.Str.{chars, IsUtf8}
 use Rattle.std.specs.Str.Pattern.{HasPrefixMatch, FindsTextPrefix, HasSuffixMatch, FindsTextSuffix}
 use Rattle.std.specs.Bool.{MatchBool}
+use Rattle.std.proofs.Math.ListN.{drop_of_length-le}
+use Rattle.std.proofs.Math.Seq.{drop-cons}
+use Rattle.std.proofs.lemmas.Bool.Decides.{nat_tests}
 use Rattle.std.proofs.lemmas.Slice.Eq.{bytes_eq-Decides}
-use Rattle.std.proofs.lemmas.Str.{chars-append, encodes-append, encodes-chars, encodes-IsAscii, IsUtf8-from_ascii, IsUtf8-take}
+use Rattle.std.proofs.lemmas.Str.{chars-append, chars-nil, encodes-append, encodes-chars, encodes-IsAscii, IsUtf8-from_ascii, IsUtf8-take, IsCharBoundary-before_ascii}
 use Rattle.defs_tree.specs.Quoting.{begins_with}
 use Rattle.yaml_emitter.specs.At.{is_low}
 use Rattle.yaml_emitter.proofs.TextLemmas.{low_at, low_chars}
@@ -71,3 +74,42 @@ begins_by w s false h u m = begins_otherwise w s h u m
 pub ends_by : (w s : List ℕ) (b : Bool) → is_low w ≡ true → IsUtf8 s → MatchBool b (HasSuffixMatch (FindsTextSuffix w) s) (FindsTextSuffix w s None) → b ≡ ends_with nat_eq (chars s) w
 ends_by w s true h u m = ends_so w s _ h (IsUtf8-take s _ u m.3) m.1.1
 ends_by w s false h u m = ends_otherwise w s h u m
+
+-- ---- a text by its last byte
+
+no_end : (bs front : List ℕ) (c : ℕ) → bs ≡ front ++ c ∷ [] → get_or bs (length bs - 1) 0 ≡ c
+no_end bs front c e =
+    ap (λ x. get_or x (length x - 1) 0) e ∙ ap (λ k. get_or (front ++ c ∷ []) k 0) (omega (arith, length-append front (c ∷ []))) ∙ by front
+  where
+    by : (x : List ℕ) → get_or (x ++ c ∷ []) (length x) 0 ≡ c
+    by [] = refl
+    by (d ∷ x) = by x
+
+last_apart : (bs : List ℕ) → 1 ≤ length bs → bs ≡ take (length bs - 1) bs ++ get_or bs (length bs - 1) 0 ∷ []
+last_apart bs some =
+    let n = length bs - 1 in
+    let end : length bs ≤ suc n = omega arith in
+    sym (halves n bs) ∙ ap (λ x. take n bs ++ x) (drop-cons bs n 0 (omega arith) ∙ ap (λ x. get_or bs n 0 ∷ x) (drop_of_length-le bs end))
+
+pub last_is : (bs : List ℕ) (c : ℕ) → c < 128 → IsUtf8 bs → 1 ≤ length bs → (get_or bs (length bs - 1) 0 == c) ≡ ends_with nat_eq (chars bs) (c ∷ [])
+last_is bs c lt u some = by (get_or bs (length bs - 1) 0 == c) refl
+  where
+    low : is_low (c ∷ []) ≡ true
+    low = grind (arith, nat_tests)
+
+    is : (a : ℕ) → (a == c) ≡ true → a ≡ c
+    is a e = grind (arith, nat_tests)
+
+    is_not : (a : ℕ) → (a == c) ≡ false → a ≢ c
+    is_not a e f = grind (arith, nat_tests)
+
+    by : (b : Bool) → (get_or bs (length bs - 1) 0 == c) ≡ b → b ≡ ends_with nat_eq (chars bs) (c ∷ [])
+    by true e =
+        let f = is _ e in
+        ends_so (c ∷ []) bs (take (length bs - 1) bs) low (IsUtf8-take bs (length bs - 1) u (IsCharBoundary-before_ascii bs (length bs - 1) (omega arith) (omega (arith, f))))
+        (last_apart bs some ∙ ap (λ x. take (length bs - 1) bs ++ x ∷ []) f)
+    by false e = ends_otherwise (c ∷ []) bs low u (λ front f. is_not _ e (no_end bs front c f))
+
+pub none_last : (bs : List ℕ) (c : ℕ) → length bs < 1 → false ≡ ends_with nat_eq (chars bs) (c ∷ [])
+none_last [] c n = ap (λ x. ends_with nat_eq x (c ∷ [])) (sym chars-nil)
+none_last (b ∷ bs) c n = absurd (omega arith)

@@ -6,7 +6,7 @@ use Rattle.defs_tree.specs.Spelling.{spelling, is_scalar}
 use Rattle.defs_tree.specs.Tree.{Tree, real, integer, string, boolean, array, hash, alias, null, bad_value, Items, no_items, item, Pairs, no_pairs, pair, items_of, pairs_of}
 use Rattle.defs_tree.specs.Writable.{levels}
 use Rattle.yaml_emitter.specs.At.{spaces, new_line, below, stacked}
-use Rattle.yaml_emitter.specs.Entries.{after_mark, before_entry, item_mark, second_mark, scalar_key, pair_text, entries_text}
+use Rattle.yaml_emitter.specs.Entries.{after_mark, before_entry, complex_text, pair_text, entries_text}
 
 -- ---- arrays and hashes that aren't empty
 
@@ -98,12 +98,11 @@ entries_append false level {a} b h =
 -- the items that are left, the first one apart
 pub next_item : (c m first : Bool) (level : ℕ) (t : Tree) (ts : Items)
     → entries_text first level (item_boxes c m (item t ts))
-    ≡ item_mark first level ++ (after_mark (not c) level t (box c m false t) ++ entries_text false level (item_boxes c m ts))
+    ≡ before_entry first level ++ ((codes "-" ++ after_mark (not c) level t (box c m false t)) ++ entries_text false level (item_boxes c m ts))
 next_item c m first level t ts =
     let h = box_lines c m false t in
     entries_append first level (item_boxes c m ts) (placed_lines (not c) (codes "-") t h)
     ∙ ap (λ x. before_entry first level ++ (x ++ below level (item_boxes c m ts))) (placed_at (not c) (codes "-") level t h)
-    ∙ sym (append_assoc (before_entry first level) (codes "-") (after_mark (not c) level t (box c m false t) ++ entries_text false level (item_boxes c m ts)))
 
 -- a pair
 pair_lines : (c m : Bool) (k v : Tree) → HasLines (pair_box c k (box c m false k) v (box c m false v))
@@ -128,14 +127,11 @@ pair_at c m level k v = by (is_scalar k)
 
     by : (x : Bool) → stacked level (if x then placed true (spelling k ++ codes ":") v (box c m false v)
         else placed (not c) (codes "?") k (box c m false k) ++ placed (not c) (codes ":") v (box c m false v))
-        ≡ (if x then scalar_key k ++ after_mark true level v (box c m false v)
-        else codes "?" ++ (after_mark (not c) level k (box c m false k) ++ (second_mark level ++ after_mark (not c) level v (box c m false v))))
-    by true = placed_at true (spelling k ++ codes ":") level v V
+        ≡ (if x then spelling k ++ (codes ":" ++ after_mark true level v (box c m false v)) else complex_text c m level k v)
+    by true = placed_at true (spelling k ++ codes ":") level v V ∙ append_assoc (spelling k) (codes ":") (after_mark true level v (box c m false v))
     by false =
         stacked_append level (placed (not c) (codes ":") v (box c m false v)) (placed_lines (not c) (codes "?") k K)
-        ∙ (λ i. placed_at (not c) (codes "?") level k K i ++ (below_stacked level (placed_lines (not c) (codes ":") v V) ∙ ap (λ t. new_line level ++ t) (placed_at (not c) (codes ":") level v V)
-        ∙ sym (append_assoc (new_line level) (codes ":") (after_mark (not c) level v (box c m false v)))) i)
-        ∙ append_assoc (codes "?") (after_mark (not c) level k (box c m false k)) _
+        ∙ (λ i. placed_at (not c) (codes "?") level k K i ++ (below_stacked level (placed_lines (not c) (codes ":") v V) ∙ ap (λ t. new_line level ++ t) (placed_at (not c) (codes ":") level v V)) i)
 
 -- the pairs that are left, the first one apart
 pub next_pair : (c m first : Bool) (level : ℕ) (k v : Tree) (ps : Pairs)

@@ -1,13 +1,14 @@
 -- The tests of literal blocks.
-use Rattle.std.proofs.Common.{◌≡◌, ◌≢◌, ℕ, suc, ne_eqb, eq-eqb, eqb-true, length, take, drop, ◌<◌, ◌+◌, subst, append_assoc, append-nil, List, [], ◌∷◌, ◌++◌, Bool, true, false, not, ◌&&◌, ◌||◌, refl, sym, ap, ◌∙◌, arith}
-use Rattle.std.specs.Prelude.{◌==◌, nat_eq, bytes_eq, encode_utf8, Option, Some, None, MatchOption, if◌then◌else◌, codes}
-use Rattle.std.specs.Char.{len_utf8}
-use Rattle.std.specs.Borrow.{Bor}
-use Rattle.std.specs.Str.{chars, IsUtf8}
-use Rattle.std.specs.Str.Pattern.{SplitsAroundMatch, FindsChar}
+use Rattle.std.proofs.Common.{◌≡◌, ◌≢◌, ℕ, suc, cond, get_or, ne_eqb, eq-eqb, eqb-true, length, take, drop, ◌<◌, ◌≤◌, ◌+◌, subst, append_assoc, append-nil, List, [], ◌∷◌, ◌++◌, Bool, true, false, not, ◌&&◌, ◌||◌, refl, sym, ap, ◌∙◌, arith}
+use Rattle.std.specs.Prelude.{◌==◌, nat_eq, bytes_eq, encode_utf8, if◌then◌else◌, codes}
+use Rattle.std.specs.Str.{chars, IsCharBoundary, IsUtf8, NonePass}
+use Rattle.std.proofs.Math.Seq.{drop-cons, take-length}
+use Rattle.std.proofs.lemmas.Bool.Decides.{nat_tests}
+use Rattle.std.proofs.lemmas.List.{length-drop}
+use Rattle.std.proofs.lemmas.List.Sums.{prefix_len_stops}
 use Rattle.std.proofs.lemmas.Slice.Eq.{bytes_eq-Decides}
-use Rattle.std.proofs.lemmas.Str.{encode_ascii, chars-nil, chars-append, chars_from_encodes, chars_past_char, IsUtf8-from_ascii, IsUtf8-append, IsUtf8-take, IsUtf8-drop, IsCharBoundary-before_ascii}
-use Rattle.std.specs.List.{list_any, list_all, ends_with}
+use Rattle.std.proofs.lemmas.Str.{encode_ascii, chars-nil, chars-append, chars_past_char, IsUtf8-from_ascii, IsUtf8-past_char, IsUtf8-take, IsUtf8-drop, IsCharBoundary-before_ascii, IsCharBoundary-after_ascii}
+use Rattle.std.specs.List.{list_any, list_all, ends_with, prefix_len}
 use Rattle.defs_text.specs.Text.{is_empty}
 use Rattle.defs_tree.specs.Lines.{lines_of, onto_first_line}
 use Rattle.defs_tree.specs.Literal.{is_literal_text, is_root_literal, is_literal_character, is_line_feed, first_full_line_is_indented, begins_as_marker, begins_blank}
@@ -15,6 +16,8 @@ use Rattle.defs_tree.specs.Quoting.{begins_with}
 use Rattle.yaml_chars.specs.Class as class
 use Rattle.yaml_emitter.specs.At.{is_low, new_line, below}
 use Rattle.yaml_emitter.specs.Blocks.{begins_well, has_clear_lines, begins_with_mark, last_line, IsUnbroken, IsFirstCut}
+use Rattle.yaml_emitter.specs.Runs.{is_break}
+use Rattle.yaml_emitter.proofs.ByteLemmas.{bytes_tested}
 use Rattle.yaml_emitter.proofs.EndLemmas.{halves, take_front, begins_otherwise}
 use Rattle.yaml_emitter.proofs.TextLemmas.{low_at, low_chars}
 use Rattle.yaml_emitter.proofs.WordLemmas.{empty_text}
@@ -132,22 +135,73 @@ pub line_last : (level : ℕ) (l : List ℕ) → IsUnbroken l → below level (l
 line_last level [] n = refl
 line_last level (c ∷ l) n = ap (below level) (one_line c l n) ∙ ap (λ x. new_line level ++ x) (append-nil (c ∷ l))
 
-pub first_cut : (s front back : List ℕ) → IsUtf8 s → SplitsAroundMatch (FindsChar 10) s front back → IsFirstCut s front back
-first_cut s front back u m =
-    let low : 10 < 128 = omega arith in
-    let byte = m.2.1.byte low in
-    let within : m.0 < length s = omega (arith, m.2.1.ends, m.7) in
-    let front_utf8 = subst IsUtf8 (sym m.3) (IsUtf8-take s m.0 u (IsCharBoundary-before_ascii s m.0 within (omega (arith, byte)))) in
-    let back_utf8 = subst IsUtf8 (sym (m.4 ∙ ap (λ k. drop k s) m.2.1.ends)) (IsUtf8-drop s (m.0 + len_utf8 10) u m.2.1.after) in
-    let rest : drop m.0 s ≡ encode_utf8 10 ++ back = m.2.1.split ∙ ap (λ r. encode_utf8 10 ++ r) (sym m.4) in
-    let bytes : s ≡ front ++ (encode_utf8 10 ++ back) = sym (halves m.0 s) ∙ (λ k. sym m.3 k ++ rest k) in
-    let rest_utf8 : IsUtf8 (encode_utf8 10 ++ back) = IsUtf8-append (encode_utf8 10) back (subst IsUtf8 (sym (encode_ascii 10 low)) (IsUtf8-from_ascii (10 ∷ []) (low_at (10 ∷ []) refl))) back_utf8 in
-    record {
-      none_before = subst IsUnbroken (chars_from_encodes m.2.0.0 front front_utf8 (m.2.0.1 ∙ sym m.3)) m.2.0.2;
-      whole = ap chars bytes ∙ chars-append front (encode_utf8 10 ++ back) front_utf8 ∙ ap (λ t. chars front ++ t) (chars_past_char (encode_utf8 10 ++ back) back 10 rest_utf8 refl);
-      shorter = omega (arith, m.2.1.ends, m.7, m.5);
-      utf8 = back_utf8;
-    }
+module _ (p : ℕ → Bool) where
+  run_clear : (xs : List ℕ) → list_any p (take (prefix_len (λ b. not (p b)) xs) xs) ≡ false
+  run_clear [] = refl
+  run_clear (x ∷ xs) = by (p x) refl (run_clear xs)
+    where
+      by : (b : Bool) → p x ≡ b → list_any p (take (prefix_len (λ b. not (p b)) xs) xs) ≡ false → list_any p (take (cond (not b) (1 + prefix_len (λ b. not (p b)) xs) 0) (x ∷ xs)) ≡ false
+      by true e h = refl
+      by false e h =
+          let n : 1 + prefix_len (λ b. not (p b)) xs ≡ suc (prefix_len (λ b. not (p b)) xs) = omega arith in
+          ap (λ k. list_any p (take k (x ∷ xs))) n ∙ ap (λ b. b || list_any p (take (prefix_len (λ b. not (p b)) xs) xs)) e ∙ h
+
+  none_pass : (xs : List ℕ) → list_any p xs ≡ false → NonePass p xs
+  none_pass [] h = tt
+  none_pass (x ∷ xs) h = let parts = neither (p x) (list_any p xs) h in (parts.0, none_pass xs parts.1)
+    where
+      neither : (a b : Bool) → (a || b) ≡ false → (a ≡ false) × (b ≡ false)
+      neither true b e = cc
+      neither false b e = (refl, e)
+
+abbrev pub runs_on : ℕ → Bool
+runs_on b = not (is_break b)
+
+break_low : (c : ℕ) → 128 ≤ c → is_break c ≡ false
+break_low c h = grind (arith, nat_tests)
+
+-- the run before the first line feed
+unbroken_front : (s : List ℕ) → IsUtf8 (take (prefix_len runs_on s) s) → IsUnbroken (chars (take (prefix_len runs_on s) s))
+unbroken_front s u = none_pass is_break _ (sym (bytes_tested is_break break_low _ u) ∙ run_clear is_break s)
+
+pub unbroken : (s : List ℕ) → IsUtf8 s → prefix_len runs_on s ≡ length s → IsUnbroken (chars s)
+unbroken s u e =
+    let same : take (prefix_len runs_on s) s ≡ s = ap (λ k. take k s) e ∙ take-length s in
+    subst (λ x. IsUnbroken (chars x)) same (unbroken_front s (subst IsUtf8 (sym same) u))
+
+module _ (s : List ℕ) (u : IsUtf8 s) (n : ℕ) (run : n ≡ prefix_len runs_on s) (within : n < length s) where
+  at_break : get_or s n 0 ≡ 10
+  at_break =
+      let stops : runs_on (get_or s (prefix_len runs_on s) 0) ≡ false = prefix_len_stops runs_on s 0 (omega (arith, run)) in
+      ap (λ k. get_or s k 0) run ∙ is _ stops
+    where
+      is : (a : ℕ) → runs_on a ≡ false → a ≡ 10
+      is a e = grind (arith, nat_tests)
+
+  pub break_boundary : IsCharBoundary s n
+  break_boundary = IsCharBoundary-before_ascii s n within (omega (arith, at_break))
+
+  break_cut : drop n s ≡ 10 ∷ drop (suc n) s
+  break_cut = drop-cons s n 0 within ∙ ap (λ x. x ∷ drop (suc n) s) at_break
+
+  break_split : drop n s ≡ encode_utf8 10 ++ drop 1 (drop n s)
+  break_split = break_cut ∙ ap (λ x. 10 ∷ x) (sym (ap (drop 1) break_cut)) ∙ ap (λ x. x ++ drop 1 (drop n s)) (sym (encode_ascii 10 (omega arith)))
+
+  break_utf8 : IsUtf8 (drop n s)
+  break_utf8 = IsUtf8-drop s n u break_boundary
+
+  pub break_passed : IsCharBoundary (drop n s) 1
+  break_passed = IsCharBoundary-after_ascii (drop n s) 0 break_utf8 (omega (arith, length-drop n s)) (omega (arith, ap (λ x. get_or x 0 0) break_cut))
+
+  pub first_cut : IsFirstCut s (take n s) (drop 1 (drop n s))
+  first_cut =
+      let front = IsUtf8-take s n u break_boundary in
+      record {
+        none_before = subst (λ k. IsUtf8 (take k s) → IsUnbroken (chars (take k s))) (sym run) (unbroken_front s) front;
+        whole = ap chars (sym (halves n s)) ∙ chars-append (take n s) (drop n s) front ∙ ap (λ t. chars (take n s) ++ t) (chars_past_char (drop n s) (drop 1 (drop n s)) 10 break_utf8 break_split);
+        shorter = omega (arith, length-drop n s, length-drop 1 (drop n s));
+        utf8 = IsUtf8-past_char (drop n s) (drop 1 (drop n s)) 10 break_utf8 break_split;
+      }
 
 -- what holds of the lines of a text, the first one apart
 pub first_line : (p : List ℕ → Bool) (s front back : List ℕ) → IsFirstCut s front back → list_any p (lines_of (chars s)) ≡ (p (chars front) || list_any p (lines_of (chars back)))
@@ -170,13 +224,6 @@ pub first_below : (level : ℕ) (s front back : List ℕ) → IsFirstCut s front
 first_below level s front back m =
     ap (λ t. below level (lines_of t)) m.whole ∙ ap (below level) (line_first (chars front) (chars back) m.none_before)
     ∙ sym (append_assoc (new_line level) (chars front) (below level (lines_of (chars back))))
-
--- what `split_once` answers
-pub cut_by : (s : List ℕ) (r : Option (Bor (List ℕ) × Bor (List ℕ))) → IsUtf8 s
-    → MatchOption r (FindsChar 10 s None) (λ x. SplitsAroundMatch (FindsChar 10) s x.0.now x.1.now)
-    → MatchOption r (IsUnbroken (chars s)) (λ x. IsFirstCut s x.0.now x.1.now)
-cut_by s (Some x) u m = first_cut s x.0.now x.1.now u m
-cut_by s None u m = subst IsUnbroken (chars_from_encodes m.0 s u m.1) m.2
 
 pub literal_character : (c : ℕ) → class.is_literal_character c ≡ is_literal_character c
 unfolding class.is_literal_character is_literal_character

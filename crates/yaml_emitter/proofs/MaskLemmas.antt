@@ -1,11 +1,16 @@
 -- A mask that a vector's tests give, held to a test of each byte.
-use Rattle.std.proofs.Common.{◌≡◌, ℕ, zero, suc, ◌+◌, ◌*◌, ◌%◌, ◌^◌, ◌<◌, ◌≤◌, ltb, Bool, true, false, not, ◌&&◌, cond, eqb, T, ◌⊎◌, inl, inr, List, [], ◌∷◌, map, length, drop, replicate, refl, sym, ap, ap₂, subst, ◌∙◌, arith, w8, Fits, not-suc-le-zero}
+use Rattle.std.proofs.Common.{◌≡◌, ℕ, zero, suc, ◌+◌, ◌*◌, ◌%◌, ◌^◌, ◌<◌, ◌≤◌, ltb, Bool, true, false, not, ◌&&◌, ◌||◌, cond, eqb, T, ◌⊎◌, inl, inr, List, [], ◌∷◌, map, length, drop, replicate, refl, sym, ap, ap₂, subst, ◌∙◌, arith, w8, Fits, not-suc-le-zero}
 use Rattle.std.proofs.lemmas.Bool.{cases_order, eq-eqb, ne_eqb}
+use Rattle.std.proofs.lemmas.Bool.Decides.{nat_tests}
 use Rattle.std.proofs.lemmas.List.{length-map, length-drop}
 use Rattle.std.proofs.lemmas.List.Folds.{prefix_len-append}
 use Rattle.std.proofs.lemmas.List.Sums.{prefix_len-le-length}
 use Rattle.std.proofs.lemmas.Simd.{chunk-drop, length-chunk, leading_from_mask_l, trailing_mask_l, mask_l-mod}
-use Rattle.std.specs.List.{prefix_len}
+use Rattle.std.specs.List.{list_any, prefix_len}
+use Rattle.std.specs.Char.{is_ascii_lowercase}
+use Rattle.defs_tree.specs.Quoting.{is_unfit_for_plain}
+use Rattle.yaml_emitter.specs.declared.runs.Bits.{Bits}
+use Rattle.yaml_emitter.specs.Runs.{has_bit, is_escaped}
 use lib.Bits.{bit_or, bit_and}
 use lib.Count.{count_trailing_zeros}
 use lib.Lanes.{zip2, mask_l, top, chunk, Each1}
@@ -48,7 +53,7 @@ abbrev pub same : Bool → Bool → Bool
 same true b = b
 same false b = not b
 
-same_is : (a b : Bool) → T (same a b) → a ≡ b
+pub same_is : (a b : Bool) → T (same a b) → a ≡ b
 same_is true true h = refl
 same_is false false h = refl
 same_is true false h = absurd h
@@ -70,6 +75,20 @@ each_upto p (suc n) h i lt = go (each_upto p n (both (p n) (all_upto p n) h).1 i
     go before (inl e) = subst (λ x. T (p x)) (sym e) (both (p n) (all_upto p n) h).0
     go before (inr (inl l)) = before l
     go before (inr (inr g)) = let no : ⊥ = omega arith in absurd no
+
+-- the sets that are held as bits
+abbrev pub escaped_set : Bits
+escaped_set = record { low = 21474836479; high = 9223372037123211264 }
+
+pub escaped_bits : (b : ℕ) → b < 256 → (not (is_ascii_lowercase b) && has_bit escaped_set b) ≡ is_escaped b
+escaped_bits b lt = same_is _ _ (each_upto (λ x. same (not (is_ascii_lowercase x) && has_bit escaped_set x) (is_escaped x)) 256 tt b lt)
+
+abbrev pub unfit_set : Bits
+unfit_set = record { low = 288248573793920639; high = 2882303766751608832 }
+
+pub unfit_bits : (b : ℕ) → b < 256 → (not (is_ascii_lowercase b) && has_bit unfit_set b) ≡ is_unfit_for_plain b
+unfolding is_unfit_for_plain
+unfit_bits b lt = same_is _ _ (each_upto (λ x. same (not (is_ascii_lowercase x) && has_bit unfit_set x) (is_unfit_for_plain x)) 256 tt b lt)
 
 each_byte : (f : ℕ → ℕ) (p : ℕ → Bool) → T (all_upto (λ x. same (top 7 (f x)) (p x)) 256) → (v : List ℕ) → Each1 (Fits w8) v → map (top 7) (map f v) ≡ map p v
 each_byte f p all [] fits = refl
@@ -111,6 +130,31 @@ module _ (p : ℕ → Bool) where
       let c = chunk i n d in
       split d i n ∙ ap (λ b. cond b (length c + prefix_len passes (drop (i + n) d)) (prefix_len passes c)) (ne_eqb _ _ (λ (e : prefix_len passes c ≡ length c). omega (arith, all_pass c e)))
       ∙ sym (trailing_mask_l p 64 c (omega (arith, length-chunk i n d room)) some)
+
+  -- a run is counted from any place in it
+  pub run_from : (d : List ℕ) (i : ℕ) → i ≤ prefix_len passes d → prefix_len passes d ≡ i + prefix_len passes (drop i d)
+  run_from d zero h = omega arith
+  run_from [] (suc i) h = absurd (not-suc-le-zero h)
+  run_from (x ∷ xs) (suc i) h = by (passes x) h (run_from xs i)
+    where
+      by : (b : Bool) → suc i ≤ cond b (1 + prefix_len passes xs) 0 → (i ≤ prefix_len passes xs → prefix_len passes xs ≡ i + prefix_len passes (drop i xs)) → cond b (1 + prefix_len passes xs) 0 ≡ suc i + prefix_len passes (drop i xs)
+      by true le before = omega (arith, before (omega arith))
+      by false le before = absurd (not-suc-le-zero le)
+
+  -- so is whether a byte passes the test
+  pub run_ends : (xs : List ℕ) → ltb (prefix_len passes xs) (length xs) ≡ list_any p xs
+  run_ends [] = refl
+  run_ends (x ∷ xs) = by (p x) (run_ends xs)
+    where
+      some : (m : ℕ) → ltb 0 (suc m) ≡ true
+      some m = grind (arith, nat_tests)
+
+      sooner : (n m : ℕ) → ltb (1 + n) (suc m) ≡ ltb n m
+      sooner n m = grind (arith, nat_tests)
+
+      by : (b : Bool) → ltb (prefix_len passes xs) (length xs) ≡ list_any p xs → ltb (cond (not b) (1 + prefix_len passes xs) 0) (suc (length xs)) ≡ (b || list_any p xs)
+      by true e = some (length xs)
+      by false e = sooner (prefix_len passes xs) (length xs) ∙ e
 
 pub run_bound : (p : ℕ → Bool) (d : List ℕ) (i : ℕ) → i ≤ length d → i + prefix_len p (drop i d) ≤ length d
 run_bound p d i h = omega (arith, prefix_len-le-length p (drop i d), length-drop i d)

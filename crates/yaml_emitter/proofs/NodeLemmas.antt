@@ -1,14 +1,14 @@
 -- How a writer stands after a node.
-use Rattle.std.proofs.Common.{append-nil, append_assoc, ◌≡◌, ℕ, ◌+◌, ◌≤◌, List, [], ◌∷◌, ◌++◌, Bool, true, false, true≢false, not, refl, sym, ap, ◌∙◌, subst}
+use Rattle.std.proofs.Common.{append-nil, append_assoc, ◌≡◌, ℕ, ◌+◌, ◌≤◌, List, [], ◌∷◌, ◌++◌, Bool, true, false, true≢false, not, ◌&&◌, refl, sym, ap, ◌∙◌, subst}
 use Rattle.std.specs.Prelude.{◌^◌, max, Result, if◌then◌else◌, codes}
 use Rattle.defs_tree.specs.Box.{box, item_boxes, pair_boxes, is_block}
 use Rattle.defs_tree.specs.DumpText.{dump_text}
 use Rattle.defs_tree.specs.Lines.{joined}
-use Rattle.defs_tree.specs.Spelling.{is_scalar}
+use Rattle.defs_tree.specs.Spelling.{is_scalar, spelling}
 use Rattle.defs_tree.specs.Tree.{Tree, real, integer, string, boolean, array, hash, alias, null, bad_value, no_items, item, no_pairs, pair, items_of, pairs_of}
 use Rattle.defs_tree.specs.Writable.{levels, item_levels, pair_levels}
-use Rattle.yaml_emitter.specs.At.{below, stacked}
-use Rattle.yaml_emitter.specs.Entries.{after_mark, before_entry, item_mark, second_mark, scalar_key, pair_text, entries_text, scalar_box}
+use Rattle.yaml_emitter.specs.At.{below, new_line, stacked}
+use Rattle.yaml_emitter.specs.Entries.{after_mark, before_block, before_entry, complex_text, pair_text, entries_text, scalar_box}
 use Rattle.yaml_emitter.specs.Writing.{WritesUnless}
 use Rattle.yaml_emitter.proofs.EntryLemmas.{HasLines, lines, box_lines, next_item, next_pair}
 use Rattle.yaml_emitter.proofs.ListLemmas.{Entries}
@@ -50,10 +50,10 @@ item_entries c m level = record {
   own_levels = levels;
   levels = λ ts. item_levels (items_of ts);
   highest = record { greatest = λ t ts. refl };
-  entry = λ first t. item_mark first level ++ after_mark (not c) level t (box c m false t);
+  entry = λ first t. before_entry first level ++ (codes "-" ++ after_mark (not c) level t (box c m false t));
   text = λ first ts. entries_text first level (item_boxes c m (items_of ts));
   none_text = no_entries level;
-  more_text = λ first t ts. next_item c m first level t (items_of ts) ∙ sym (append_assoc (item_mark first level) _ _);
+  more_text = λ first t ts. next_item c m first level t (items_of ts) ∙ sym (append_assoc (before_entry first level) _ _);
 }
 
 abbrev pub pair_entries : (compact multiline : Bool) → (level : ℕ) → Entries (Tree × Tree)
@@ -69,14 +69,44 @@ pair_entries c m level = record {
 }
 
 -- the two forms of a pair
-pub scalar_pair : (c m : Bool) (level : ℕ) (k v : Tree) → true ≡ is_scalar k → scalar_key k ++ after_mark true level v (box c m false v) ≡ pair_text c m level k v
-scalar_pair c m level k v e = ap (λ b. if b then scalar_key k ++ after_mark true level v (box c m false v)
-    else codes "?" ++ (after_mark (not c) level k (box c m false k) ++ (second_mark level ++ after_mark (not c) level v (box c m false v)))) e
+pub scalar_pair : (c m : Bool) (level : ℕ) (k v : Tree) → true ≡ is_scalar k → spelling k ++ (codes ":" ++ after_mark true level v (box c m false v)) ≡ pair_text c m level k v
+scalar_pair c m level k v e = ap (λ b. if b then spelling k ++ (codes ":" ++ after_mark true level v (box c m false v)) else complex_text c m level k v) e
 
-pub complex_pair : (c m : Bool) (level : ℕ) (k v : Tree) → false ≡ is_scalar k
-    → codes "?" ++ (after_mark (not c) level k (box c m false k) ++ (second_mark level ++ after_mark (not c) level v (box c m false v))) ≡ pair_text c m level k v
-complex_pair c m level k v e = ap (λ b. if b then scalar_key k ++ after_mark true level v (box c m false v)
-    else codes "?" ++ (after_mark (not c) level k (box c m false k) ++ (second_mark level ++ after_mark (not c) level v (box c m false v)))) e
+pub complex_pair : (c m : Bool) (level : ℕ) (k v : Tree) → false ≡ is_scalar k → complex_text c m level k v ≡ pair_text c m level k v
+complex_pair c m level k v e = ap (λ b. if b then spelling k ++ (codes ":" ++ after_mark true level v (box c m false v)) else complex_text c m level k v) e
+
+-- what stands after a mark: a scalar or a block
+pub flat_after : (c m lower : Bool) (level : ℕ) (mark : List ℕ) (t : Tree) → is_block t ≡ false
+    → (mark ++ codes " ") ++ stacked (level + 1) (scalar_box m false t) ≡ mark ++ after_mark lower level t (box c m false t)
+flat_after c m lower level mark t e =
+    append_assoc mark (codes " ") _
+    ∙ (λ i. mark ++ ((if sym (not_lower lower (is_block t) e) i then new_line (level + 1) else codes " ") ++ stacked (level + 1) (flat_box t c m false e i)))
+  where
+    not_lower : (a b : Bool) → b ≡ false → (a && b) ≡ false
+    not_lower true b e = e
+    not_lower false b e = refl
+
+pub block_after : (c m lower : Bool) (level : ℕ) (mark : List ℕ) (t : Tree) → is_block t ≡ true
+    → (mark ++ before_block lower level) ++ stacked (level + 1) (box c m false t) ≡ mark ++ after_mark lower level t (box c m false t)
+block_after c m lower level mark t e =
+    append_assoc mark (before_block lower level) _
+    ∙ ap (λ b. mark ++ ((if b then new_line (level + 1) else codes " ") ++ stacked (level + 1) (box c m false t))) (sym (lower_so lower (is_block t) e))
+  where
+    lower_so : (a b : Bool) → b ≡ true → (a && b) ≡ a
+    lower_so true b e = e
+    lower_so false b e = refl
+
+-- a block is written alike at the root
+pub root_block : (c m r : Bool) (t : Tree) → is_block t ≡ true → box c m false t ≡ box c m r t
+root_block c m r (array ts) e = refl
+root_block c m r (hash ps) e = refl
+root_block c m r (real s) e = cc
+root_block c m r (integer z) e = cc
+root_block c m r (string s) e = cc
+root_block c m r (boolean x) e = cc
+root_block c m r (alias n) e = cc
+root_block c m r null e = cc
+root_block c m r bad_value e = cc
 
 -- the document's text, from its root's box
 pub document_text : (c m : Bool) (t : Tree) → codes "---\n" ++ stacked 0 (box c m true t) ≡ dump_text c m t

@@ -1,20 +1,23 @@
 -- The words that are quoted.
-use Rattle.std.proofs.Common.{◌≡◌, ℕ, suc, get_or, ◌+◌, cond, ◌<◌, List, [], ◌∷◌, length, ◌≤◌, Bool, true, false, ◌||◌, refl, sym, ap, subst, ◌∙◌, arith}
-use Rattle.std.specs.Prelude.{map, not, if◌then◌else◌, ◌==◌, nat_lt, bytes_eq, encode_utf8_all}
+use Rattle.std.proofs.Common.{◌≡◌, ◌/◌, ◌-◌, ℕ, T, take, ◌++◌, suc, get_or, ◌+◌, cond, ◌<◌, List, [], ◌∷◌, length, ◌≤◌, Bool, true, false, ◌||◌, refl, sym, ap, subst, ◌∙◌, arith}
+use Rattle.std.specs.Prelude.{map, not, ◌&&◌, if◌then◌else◌, ◌==◌, nat_eq, nat_lt, ◌^◌, bit_and, bit_or, bytes_eq, codes, encode_utf8_all}
 use Rattle.std.specs.Char.{to_ascii_lowercase}
-use Rattle.std.specs.List.{list_all, list_any}
+use Rattle.std.specs.List.{ends_with, list_all, list_any}
 use Rattle.std.specs.Str.{chars, IsUtf8}
 use Rattle.std.proofs.lemmas.Bool.{and_parts, and_from}
 use Rattle.std.proofs.lemmas.Bool.Decides.{nat_tests}
 use Rattle.std.proofs.lemmas.Slice.Eq.{bytes_eq-Decides}
-use Rattle.std.proofs.lemmas.Str.{chars-nil, encodes-chars}
+use Rattle.std.proofs.lemmas.Str.{chars-nil, chars_past_char, encode_ascii, encodes-chars}
 use Rattle.defs_tree.specs.Grammar.{is_among, followed_by}
 use Rattle.defs_text.specs.Text.{is_empty}
-use Rattle.defs_tree.specs.Quoting.{is_quoted, has_outer_space, has_indicator_first, is_unfit_for_plain, reserved_words, is_float_word}
+use Rattle.defs_tree.specs.Quoting.{begins_with, is_in, is_quoted, has_outer_space, has_indicator_first, is_unfit_for_plain, reserved_words, is_float_word}
 use Rattle.defs_tree.specs.Typing.{is_sign, typing, is_string}
 use Rattle.defs_tree.proofs.GrammarLaws.{after_one, Rejects, optional_one-after, followed_by-empty}
+use Rattle.yaml_typing.proofs.FirstByte.{string_by_first}
+use Rattle.yaml_typing.specs.Values.{begins_value}
 use Rattle.yaml_typing.proofs.WideTexts.{low, Wide, low_bytes}
-use Rattle.yaml_emitter.specs.Words.{is_unfit, is_word, is_name, float_names}
+use Rattle.yaml_emitter.specs.Words.{is_unfit, is_word, is_name, float_names, begins_plainly, is_plain_letter, is_plain_small}
+use Rattle.yaml_emitter.proofs.MaskLemmas.{each_upto, same, same_is}
 use Rattle.yaml_emitter.proofs.TextLemmas.{low_chars}
 
 -- ---- names of numbers
@@ -160,3 +163,112 @@ empty_text (b ∷ bs) u = by (chars (b ∷ bs)) refl
 pub wide_fits : (c : ℕ) → 128 ≤ c → is_unfit_for_plain c ≡ false
 unfolding is_unfit_for_plain
 wide_fits c h = grind (arith, nat_tests)
+
+-- ---- a text that begins with a plain letter
+
+module _ (q : ℕ → Bool) where
+  -- the first character is one of these
+  abbrev begins : List ℕ → Bool
+  begins [] = false
+  begins (d ∷ ds) = q d
+
+  not_begun : (w : List ℕ) (c : ℕ) (cs : List ℕ) → begins w ≡ true → q c ≡ false → bytes_eq w (c ∷ cs) ≡ false
+  not_begun w c cs e f = not_true _ (λ g. let x : true ≡ false = sym (subst (λ u. begins u ≡ true) ((bytes_eq-Decides w (c ∷ cs)).0 g) e) ∙ f in cc)
+
+  none_begun : (ws : List (List ℕ)) (c : ℕ) (cs : List ℕ) → list_all begins ws ≡ true → q c ≡ false → is_among ws (c ∷ cs) ≡ false
+  none_begun [] c cs h f = refl
+  none_begun (w ∷ ws) c cs h f =
+      let parts = and_parts (begins w) (list_all begins ws) h in
+      (λ i. not_begun w c cs parts.0 f i || none_begun ws c cs parts.1 f i)
+
+abbrev reserved_first : ℕ → Bool
+reserved_first c = is_in (codes "~tTfFnNyYoO") c
+
+abbrev float_first : ℕ → Bool
+float_first c = is_in (codes "in") c
+
+-- what begins otherwise than with a plain letter
+abbrev is_special : ℕ → Bool
+is_special c =
+    not (nat_lt c 128) || (is_in (codes " ") c || (is_in (codes "0") c || (is_in (codes "&*?|-<>=!%@.") c || (reserved_first c || (is_sign c || (float_first (to_ascii_lowercase c) || begins_value c))))))
+
+abbrev is_tame : ℕ → Bool
+is_tame c = not (is_plain_letter c && is_special c)
+
+letter_small : (c : ℕ) → is_plain_letter c ≡ true → c < 123
+letter_small c e = grind (arith, nat_tests)
+
+record Tame (c : ℕ) : Type 0 where
+  low : nat_lt c 128 ≡ true
+  no_space : is_in (codes " ") c ≡ false
+  no_zero : is_in (codes "0") c ≡ false
+  no_indicator : is_in (codes "&*?|-<>=!%@.") c ≡ false
+  no_reserved : reserved_first c ≡ false
+  no_sign : is_sign c ≡ false
+  no_float : float_first (to_ascii_lowercase c) ≡ false
+  no_value : begins_value c ≡ false
+
+tame : (c : ℕ) → is_plain_letter c ≡ true → Tame c
+tame c e =
+    let t = each_upto is_tame 123 tt c (letter_small c e) in
+    let s = parts8 _ _ _ _ _ _ _ _ (special (is_plain_letter c) (is_special c) e t) in
+    record { low = s.0; no_space = s.1.0; no_zero = s.1.1.0; no_indicator = s.1.1.1.0; no_reserved = s.1.1.1.1.0; no_sign = s.1.1.1.1.1.0; no_float = s.1.1.1.1.1.1.0; no_value = s.1.1.1.1.1.1.1 }
+  where
+    special : (a b : Bool) → a ≡ true → T (not (a && b)) → b ≡ false
+    special true true e t = absurd t
+    special true false e t = refl
+    special false b e t = cc
+
+    parts8 : (a b c d e f g h : Bool) → (not a || (b || (c || (d || (e || (f || (g || h))))))) ≡ false
+        → (a ≡ true) × ((b ≡ false) × ((c ≡ false) × ((d ≡ false) × ((e ≡ false) × ((f ≡ false) × ((g ≡ false) × (h ≡ false)))))))
+    parts8 true false false false false false false false z = (refl, (refl, (refl, (refl, (refl, (refl, (refl, refl)))))))
+    parts8 true false false false false false false true z = cc
+    parts8 true false false false false false true h z = cc
+    parts8 true false false false false true g h z = cc
+    parts8 true false false false true f g h z = cc
+    parts8 true false false true e f g h z = cc
+    parts8 true false true d e f g h z = cc
+    parts8 true true c d e f g h z = cc
+    parts8 false b c d e f g h z = cc
+
+no_front : (d c : ℕ) (ds cs : List ℕ) → is_in (d ∷ []) c ≡ false → begins_with (d ∷ ds) (c ∷ cs) ≡ false
+no_front d c ds cs f = not_true _ (λ g.
+    let same : d ∷ ds ≡ take (length (d ∷ ds)) (c ∷ cs) = (bytes_eq-Decides (d ∷ ds) (take (length (d ∷ ds)) (c ∷ cs))).0 g in
+    let e : d ≡ c = cc in
+    grind (arith, nat_tests))
+
+only_two : (e b s i x l r f n : Bool) → e ≡ false → b ≡ false → i ≡ false → x ≡ false → r ≡ false → f ≡ false → n ≡ false
+    → (e || (b || s) || i || x || l || r || f || n) ≡ (s || l)
+only_two e b s i x l r f n p q t u v w z = (λ k. p k || (q k || s) || t k || u k || l || v k || w k || z k) ∙ by s l
+  where
+    by : (s l : Bool) → (false || (false || s) || false || false || l || false || false || false) ≡ (s || l)
+    by true true = refl
+    by true false = refl
+    by false true = refl
+    by false false = refl
+
+plain_word : (c : ℕ) (cs : List ℕ) → Tame c → is_float_word (c ∷ cs) ≡ false
+plain_word c cs t =
+    float_word (c ∷ cs)
+    ∙ ap (λ b. is_among float_names (map to_ascii_lowercase (if b then cs else c ∷ cs))) t.no_sign
+    ∙ none_begun float_first float_names (to_ascii_lowercase c) (map to_ascii_lowercase cs) refl t.no_float
+
+plain_text : (c : ℕ) (cs : List ℕ) → Tame c → is_string (typing (c ∷ cs)) ≡ true
+    → is_quoted (c ∷ cs) ≡ (ends_with nat_eq (c ∷ cs) (codes " ") || list_any is_unfit_for_plain (c ∷ cs))
+unfolding is_quoted
+plain_text c cs t e =
+    only_two _ _ (ends_with nat_eq (c ∷ cs) (codes " ")) _ _ (list_any is_unfit_for_plain (c ∷ cs)) _ _ _
+    refl (no_front 32 c [] cs t.no_space) t.no_indicator (no_front 48 c (codes "x") cs t.no_zero)
+    (none_begun reserved_first reserved_words c cs refl t.no_reserved) (plain_word c cs t) (ap not e)
+
+-- what is asked of such a text
+pub plain_quoted : (bs : List ℕ) → IsUtf8 bs → begins_plainly bs ≡ true → (ends_with nat_eq (chars bs) (codes " ") || list_any is_unfit_for_plain (chars bs)) ≡ is_quoted (chars bs)
+plain_quoted [] u e = cc
+plain_quoted (c ∷ bs) u e =
+    let t = tame c e in
+    let cs : chars (c ∷ bs) ≡ c ∷ chars bs = chars_past_char (c ∷ bs) bs c u (ap (λ x. x ++ bs) (sym (encode_ascii c (grind (arith, nat_tests, t.low))))) in
+    let itself : is_string (typing (chars (c ∷ bs))) ≡ true = ap is_string (sym (string_by_first (c ∷ bs) u (omega arith) t.no_value)) in
+    sym (subst (λ x. is_string (typing x) ≡ true → is_quoted x ≡ (ends_with nat_eq x (codes " ") || list_any is_unfit_for_plain x)) (sym cs) (plain_text c (chars bs) t) itself)
+
+pub small_letter : (b : ℕ) → b < 256 → is_plain_small (bit_or b 32) ≡ is_plain_letter b
+small_letter b lt = same_is _ _ (each_upto (λ x. same (is_plain_small (bit_or x 32)) (is_plain_letter x)) 256 tt b lt)

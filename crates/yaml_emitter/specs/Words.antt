@@ -1,9 +1,10 @@
 -- The words that the code tells apart.
-use Rattle.std.specs.Prelude.{ℕ, Bool, not, ◌||◌, List, [], ◌∷◌, codes}
+use Rattle.std.specs.Prelude.{ℕ, Bool, false, not, ◌&&◌, ◌||◌, List, [], ◌∷◌, codes}
+use Rattle.std.specs.Char.{is_ascii_alphabetic, is_ascii_lowercase}
 use Rattle.std.specs.List.{list_any}
 use Rattle.defs_tree.specs.Grammar.{is_among}
 use Rattle.defs_text.specs.Text.{is_empty}
-use Rattle.defs_tree.specs.Quoting.{has_outer_space, has_indicator_first, begins_with, is_unfit_for_plain, reserved_words, is_float_word}
+use Rattle.defs_tree.specs.Quoting.{has_outer_space, has_indicator_first, begins_with, is_in, is_unfit_for_plain, reserved_words, is_float_word}
 use Rattle.defs_tree.specs.Typing.{typing, is_string}
 
 -- the text cannot be written as one plain scalar
@@ -24,3 +25,16 @@ is_word text = is_name text || not (is_string (typing text))
 -- the names of an infinity and of what is no number
 abbrev pub float_names : List (List ℕ)
 float_names = codes "inf" ∷ codes "infinity" ∷ codes "nan" ∷ []
+
+-- a small letter but `f`, `i`, `n`, `o`, `t` and `y`
+abbrev pub is_plain_small : ℕ → Bool
+is_plain_small c = is_ascii_lowercase c && not (is_in (codes "finoty") c)
+
+-- the same in either case
+abbrev pub is_plain_letter : ℕ → Bool
+is_plain_letter c = is_ascii_alphabetic c && not (is_in (codes "fFiInNoOtTyY") c)
+
+-- the first character is such a letter
+abbrev pub begins_plainly : List ℕ → Bool
+begins_plainly [] = false
+begins_plainly (c ∷ cs) = is_plain_letter c

@@ -9,7 +9,7 @@ ghost use Rattle.yaml_emitter.specs.Writing.{Writes};
 
 use crate::ends::{begins_with, ends_with};
 use crate::line::break_line;
-use crate::runs::{Unprintable, run_length};
+use crate::runs::{LineFeed, Unprintable, run_length};
 use crate::writer::{Writer, put_ascii};
 use std::fmt;
 use yaml_chars::class;
@@ -99,7 +99,13 @@ fn has_marker(text: &str) -> bool
 fn first_cut(text: &str) -> Option<(&str, &str)>
     ensures { MatchOption result (IsUnbroken (chars text.now)) (λ x. IsFirstCut text.now x.0.now x.1.now) }
 {
-    text.split_once('\n')
+    let end = run_length::<LineFeed>(text.as_bytes());
+    if end == text.len() {
+        return None;
+    }
+    let (line, rest) = text.split_at(end);
+    let (_, after) = rest.split_at(1);
+    Some((line, after))
 }
 
 #[tactic(auto, using(crate::proofs::LiteralLemmas::marks))]
@@ -127,6 +133,7 @@ fn begins_blank(text: &str) -> bool
 }
 
 /// Writes the header of a literal block, and its lines at the level.
+#[inline(never)]
 pub(crate) fn write_literal<W: Writer>(out: &mut W, level: usize, text: &str) -> fmt::Result
     ensures { Writes W.put_gives W.put_leaves out.old result
         (literal_header (chars text.now) ++ below level (lines_of (chars text.now))) out.new }

@@ -1,5 +1,5 @@
 //! Nodes: scalars, and arrays and hashes in block style (YAML 1.2, chapter 8).
-ghost use Rattle.std.specs.Prelude.{◌≡◌, ◌<◌, ◌≤◌, ◌+◌, ◌^◌, max, chars, true, false, if◌then◌else◌, OnOk};
+ghost use Rattle.std.specs.Prelude.{◌≡◌, ◌<◌, ◌≤◌, ◌+◌, ◌^◌, ◌++◌, max, chars, codes, true, false, if◌then◌else◌, OnOk};
 ghost use Rattle.defs_tree.specs.Box.{box, item_boxes, pair_boxes, is_block, string_box};
 ghost use Rattle.defs_tree.specs.DumpText.{dump_text};
 ghost use Rattle.defs_tree.specs.Literal.{is_literal_text, is_root_literal};
@@ -8,7 +8,7 @@ ghost use Rattle.defs_tree.specs.Tree.{array, hash, items_of, pairs_of};
 ghost use Rattle.defs_tree.specs.Writable.{levels};
 ghost use Rattle.yaml_tree.specs.View.{view, array_tree, hash_tree};
 ghost use Rattle.yaml_emitter.specs.At.{stacked};
-ghost use Rattle.yaml_emitter.specs.Entries.{before_value, after_mark, before_entry, item_mark, second_mark, scalar_key, pair_text, entries_text, scalar_box};
+ghost use Rattle.yaml_emitter.specs.Entries.{mark_text, before_block, after_mark, before_entry, complex_text, pair_text, entries_text, scalar_box};
 ghost use Rattle.yaml_emitter.specs.ValidTree.{IsValid, IsValidScalar};
 ghost use Rattle.yaml_emitter.specs.Writing.{Writes, WritesUnless};
 
@@ -46,7 +46,6 @@ pub(crate) fn write_document<W: Writer>(
 }
 
 // A node that starts at the level.
-#[cycle(write)]
 fn write_node<W: Writer>(
     out: &mut W,
     settings: &Settings,
@@ -59,9 +58,27 @@ fn write_node<W: Writer>(
         (stacked level (box settings.now.compact settings.now.multiline at_root (view node.now))) out.new }
     ensures valid { OnOk result (IsValid (view node.now)) }
 {
-    if !has_parts(node) {
-        return write_scalar(out, settings.multiline, at_root, level, node);
+    if has_parts(node) {
+        write_block(out, settings, level, node)
+    } else {
+        write_scalar(out, settings.multiline, at_root, level, node)
     }
+}
+
+// An array or hash with parts that starts at the level.
+#[cycle(write)]
+fn write_block<W: Writer>(
+    out: &mut W,
+    settings: &Settings,
+    level: usize,
+    node: &Yaml,
+) -> fmt::Result
+    requires level { level < 2 ^ 62 }
+    requires block { is_block (view node.now) ≡ true }
+    ensures text { WritesUnless (2 ^ 62 ≤ level + levels (view node.now)) W.put_gives W.put_leaves out.old result
+        (stacked level (box settings.now.compact settings.now.multiline false (view node.now))) out.new }
+    ensures valid { OnOk result (IsValid (view node.now)) }
+{
     if level >= DEEPEST {
         return Err(fmt::Error);
     }
@@ -72,33 +89,72 @@ fn write_node<W: Writer>(
     }
 }
 
-// What follows a dash, a question mark or a colon that stands at the level.
+/// What stands before a value.
+#[derive(Clone, Copy)]
+pub(crate) enum Mark {
+    /// The dash of an item.
+    Dash,
+    /// The question mark of a complex key.
+    Question,
+    /// The colon of a value.
+    Colon,
+}
+
+// A mark at the level, and its value.
 #[cycle(write)]
+#[inline(always)]
 fn write_value<W: Writer>(
     out: &mut W,
     settings: &Settings,
     level: usize,
+    mark: Mark,
     blocks_lower: bool,
     node: &Yaml,
 ) -> fmt::Result
     requires { level + 1 < 2 ^ 62 }
     ensures text { WritesUnless (2 ^ 62 ≤ level + 1 + levels (view node.now)) W.put_gives W.put_leaves out.old result
-        (after_mark blocks_lower level (view node.now) (box settings.now.compact settings.now.multiline false (view node.now))) out.new }
+        (mark_text mark ++ after_mark blocks_lower level (view node.now) (box settings.now.compact settings.now.multiline false (view node.now))) out.new }
     ensures valid { OnOk result (IsValid (view node.now)) }
 {
-    begin_value(out, level, blocks_lower, node)?;
-    write_node(out, settings, false, level + 1, node)
+    if !has_parts(node) {
+        put_spaced(out, mark)?;
+        return write_scalar(out, settings.multiline, false, level + 1, node);
+    }
+    begin_block(out, level, mark, blocks_lower)?;
+    write_block(out, settings, level + 1, node)
 }
 
-// A space, or a new line where the value is a block that goes lower.
-fn begin_value<W: Writer>(out: &mut W, level: usize, blocks_lower: bool, node: &Yaml) -> fmt::Result
+// A mark, and a space or a new line for a block that goes lower.
+fn begin_block<W: Writer>(out: &mut W, level: usize, mark: Mark, blocks_lower: bool) -> fmt::Result
     requires { level < 2 ^ 62 }
-    ensures { Writes W.put_gives W.put_leaves out.old result (before_value blocks_lower level (view node.now)) out.new }
+    ensures { Writes W.put_gives W.put_leaves out.old result (mark_text mark ++ before_block blocks_lower level) out.new }
 {
-    if blocks_lower && has_parts(node) {
-        break_line(out, level + 1)
-    } else {
-        put_ascii(out, " ")
+    if !blocks_lower {
+        return put_spaced(out, mark);
+    }
+    put_mark(out, mark)?;
+    break_line(out, level + 1)
+}
+
+fn put_mark<W: Writer>(out: &mut W, mark: Mark) -> fmt::Result
+    ensures { Writes W.put_gives W.put_leaves out.old result (mark_text mark) out.new }
+{
+    match mark {
+        Mark::Dash => put_ascii(out, "-"),
+        Mark::Question => put_ascii(out, "?"),
+        Mark::Colon => put_ascii(out, ":"),
+    }
+}
+
+// A mark and a space.
+#[inline(always)]
+fn put_spaced<W: Writer>(out: &mut W, mark: Mark) -> fmt::Result
+    ensures { Writes W.put_gives W.put_leaves out.old result (mark_text mark ++ codes " ") out.new }
+{
+    match mark {
+        Mark::Dash => put_ascii(out, "- "),
+        Mark::Question => put_ascii(out, "? "),
+        Mark::Colon => put_ascii(out, ": "),
     }
 }
 
@@ -127,9 +183,9 @@ fn write_items<W: Writer>(
 {
     let mut is_first = true;
     'items: for item in items {
-        begin_item(out, level, is_first)?;
+        begin_entry(out, level, is_first)?;
         is_first = false;
-        write_value(out, settings, level, !settings.compact, item)?;
+        write_value(out, settings, level, Mark::Dash, !settings.compact, item)?;
     }
     Ok(())
 }
@@ -165,30 +221,6 @@ fn begin_entry<W: Writer>(out: &mut W, level: usize, is_first: bool) -> fmt::Res
     break_line(out, level)
 }
 
-// The dash of an item.
-fn begin_item<W: Writer>(out: &mut W, level: usize, is_first: bool) -> fmt::Result
-    ensures { Writes W.put_gives W.put_leaves out.old result (item_mark is_first level) out.new }
-{
-    begin_entry(out, level, is_first)?;
-    put_ascii(out, "-")
-}
-
-// The colon after a complex key stands on a line of its own.
-fn begin_second<W: Writer>(out: &mut W, level: usize) -> fmt::Result
-    ensures { Writes W.put_gives W.put_leaves out.old result (second_mark level) out.new }
-{
-    break_line(out, level)?;
-    put_ascii(out, ":")
-}
-
-fn write_scalar_key<W: Writer>(out: &mut W, key: &Yaml) -> fmt::Result
-    ensures text { Writes W.put_gives W.put_leaves out.old result (scalar_key (view key.now)) out.new }
-    ensures valid { IsValidScalar (view key.now) }
-{
-    write_spelling(out, key)?;
-    put_ascii(out, ":")
-}
-
 #[cycle(write)]
 fn write_pair<W: Writer>(
     out: &mut W,
@@ -203,13 +235,30 @@ fn write_pair<W: Writer>(
     ensures valid { OnOk result (IsValid (view key.now) × IsValid (view value.now)) }
 {
     if is_scalar(key) {
-        write_scalar_key(out, key)?;
-        return write_value(out, settings, level, true, value);
+        write_spelling(out, key)?;
+        return write_value(out, settings, level, Mark::Colon, true, value);
     }
-    put_ascii(out, "?")?;
-    write_value(out, settings, level, !settings.compact, key)?;
-    begin_second(out, level)?;
-    write_value(out, settings, level, !settings.compact, value)
+    write_complex_pair(out, settings, level, key, value)
+}
+
+// The colon after a complex key stands on a line of its own.
+#[cycle(write)]
+#[inline(never)]
+fn write_complex_pair<W: Writer>(
+    out: &mut W,
+    settings: &Settings,
+    level: usize,
+    key: &Yaml,
+    value: &Yaml,
+) -> fmt::Result
+    requires { level + 1 < 2 ^ 62 }
+    ensures text { WritesUnless (2 ^ 62 ≤ level + 1 + max (levels (view key.now)) (levels (view value.now))) W.put_gives W.put_leaves
+        out.old result (complex_text settings.now.compact settings.now.multiline level (view key.now) (view value.now)) out.new }
+    ensures valid { OnOk result (IsValid (view key.now) × IsValid (view value.now)) }
+{
+    write_value(out, settings, level, Mark::Question, !settings.compact, key)?;
+    break_line(out, level)?;
+    write_value(out, settings, level, Mark::Colon, !settings.compact, value)
 }
 
 fn is_scalar(node: &Yaml) -> bool

@@ -1,15 +1,16 @@
 //! Which texts are written in double quotes (YAML 1.2, section 7.3.3).
-ghost use Rattle.std.specs.Prelude.{◌≡◌, not, ◌||◌, map, chars};
+ghost use Rattle.std.specs.Prelude.{◌≡◌, not, ◌||◌, map, chars, codes, nat_eq};
 ghost use Rattle.std.specs.Char.{to_ascii_lowercase};
-ghost use Rattle.std.specs.List.{list_any};
+ghost use Rattle.std.specs.List.{list_any, ends_with};
 ghost use Rattle.defs_tree.specs.Grammar.{is_among};
 ghost use Rattle.defs_text.specs.Text.{is_empty};
 ghost use Rattle.defs_tree.specs.Quoting.{is_quoted, has_outer_space, has_indicator_first, is_unfit_for_plain, reserved_words, is_float_word};
 ghost use Rattle.defs_tree.specs.Typing.{typing, is_string, is_sign};
 ghost use Rattle.defs_tree.proofs.GrammarLaws.{after_one};
-ghost use Rattle.yaml_emitter.specs.Words.{is_unfit, is_word, is_name, float_names};
+ghost use Rattle.yaml_emitter.specs.Words.{is_unfit, is_word, is_name, float_names, begins_plainly, is_plain_letter, is_plain_small};
 
 use crate::ends::{begins_with, ends_with};
+use crate::runs::{Unfit, run_length};
 
 /// Whether a plain scalar of the text would be read as something else than the text, here or by other
 /// readers of YAML.
@@ -17,7 +18,49 @@ use crate::ends::{begins_with, ends_with};
 pub(crate) fn needs_quotes(text: &str) -> bool
     ensures { result ≡ is_quoted (chars text.now) }
 {
+    if begins_plainly(text.as_bytes()) {
+        return is_unfit_behind(text);
+    }
     is_unfit(text) || stands_for_word(text)
+}
+
+// Whether the first byte is a letter that begins none of the words below.
+fn begins_plainly(text: &[u8]) -> bool
+    ensures { result ≡ begins_plainly text.now }
+{
+    match text {
+        [first, ..] => is_plain_letter(*first),
+        [] => false,
+    }
+}
+
+// A letter but `f`, `i`, `n`, `o`, `t` and `y`, in either case.
+fn is_plain_letter(byte: u8) -> bool
+    ensures { result ≡ is_plain_letter byte }
+{
+    is_plain_small(byte | 0x20)
+}
+
+fn is_plain_small(letter: u8) -> bool
+    ensures { result ≡ is_plain_small letter }
+{
+    letter.is_ascii_lowercase() && !matches!(letter, b'f' | b'i' | b'n' | b'o' | b't' | b'y')
+}
+
+// What is left to be asked of a text that begins so.
+fn is_unfit_behind(text: &str) -> bool
+    ensures { result ≡ (ends_with nat_eq (chars text.now) (codes " ") || list_any is_unfit_for_plain (chars text.now)) }
+{
+    ends_with_space(text) || has_unfit_character(text)
+}
+
+fn ends_with_space(text: &str) -> bool
+    ensures { result ≡ ends_with nat_eq (chars text.now) (codes " ") }
+{
+    match text.as_bytes() {
+        [.., last] => *last == b' ',
+        [] => false,
+    }
 }
 
 // A text that cannot be written as one plain scalar.
@@ -62,19 +105,7 @@ fn has_unfit_character(text: &str) -> bool
 fn has_unfit_byte(bytes: &[u8]) -> bool
     ensures { result ≡ list_any is_unfit_for_plain bytes.now }
 {
-    bytes.iter().any(|byte| is_unfit_for_plain(*byte))
-}
-
-#[tactic(auto, unfolding(defs_tree::specs::Quoting::is_unfit_for_plain))]
-fn is_unfit_for_plain(byte: u8) -> bool
-    ensures { result ≡ is_unfit_for_plain byte }
-{
-    matches!(
-        byte,
-        b':' | b'{' | b'}' | b'[' | b']' | b',' | b'#' | b'`' | b'"' | b'\'' | b'\\'
-    ) || byte <= 6
-        || matches!(byte, b'\t' | b'\n' | b'\r')
-        || matches!(byte, 14..=26 | 28..=31)
+    run_length::<Unfit>(bytes) < bytes.len()
 }
 
 // A text that stands for something else, or that some reader takes for a boolean, for nothing or for a number.

@@ -19,7 +19,7 @@ pub(crate) fn write_spelling<W: Writer>(out: &mut W, node: &Yaml) -> fmt::Result
     ensures valid { IsValidScalar (view node.now) }
 {
     match node {
-        Yaml::Real(text) => out.put(text.as_str()),
+        Yaml::Real(text) => put_text(out, text.as_str()),
         Yaml::Integer(number) => write_integer(out, *number),
         Yaml::String(text) => write_string(out, text.as_str()),
         Yaml::Boolean(truth) => write_boolean(out, *truth),
@@ -48,4 +48,12 @@ pub(crate) fn write_string<W: Writer>(out: &mut W, text: &str) -> fmt::Result
     } else {
         out.put(text)
     }
+}
+
+// A text as it stands.
+#[inline(never)]
+fn put_text<W: Writer>(out: &mut W, text: &str) -> fmt::Result
+    ensures { Writes W.put_gives W.put_leaves out.old result (chars text.now) out.new }
+{
+    out.put(text)
 }

@@ -1,5 +1,5 @@
 -- How a writer stands after a value.
-use Rattle.std.proofs.Common.{◌≡◌, ◌+◌, ◌*◌, ℕ, zero, suc, List, [], ◌∷◌, true, refl, sym, subst}
+use Rattle.std.proofs.Common.{◌≡◌, ℕ, suc, List, [], ◌∷◌, true, refl, sym, subst}
 use Rattle.std.specs.Prelude.{Option, Result, IsAscii, nat_lt}
 use Rattle.std.proofs.lemmas.Bool.{lt-ltb, and_from}
 use Rattle.defs_tree.specs.Tree.{Tree}

@@ -1,5 +1,5 @@
 //! Values (RFC 8259, sections 3 to 6).
-ghost use Rattle.std.specs.Prelude.{◌≡◌, true, OnOk};
+ghost use Rattle.std.specs.Prelude.{◌≡◌, true, chars, OnOk};
 ghost use Rattle.std.specs.Fmt.{signed_decimal};
 ghost use Rattle.defs_json.specs.HasJson.{nesting, item_nesting, member_nesting};
 ghost use Rattle.defs_json.specs.JsonText.{json_text, key_text};
@@ -29,6 +29,9 @@ pub(crate) fn write_value<W: Writer, S: Spacing>(
         (json_text (S.indentation spacing) margin (view node.now)) out.new }
     ensures given { OnOk result (IsGiven (view node.now)) }
 {
+    if !has_parts(node) {
+        return write_flat(out, node);
+    }
     match only_item(node) {
         Some(_) => write_nest(out, spacing, margin, node),
         None => write_node(out, spacing, margin, node),
@@ -91,7 +94,7 @@ fn write_flat<W: Writer>(out: &mut W, node: &Yaml) -> fmt::Result
     ensures text { Writes W.put_gives W.put_leaves out.old result (flat_text (view node.now)) out.new }
 {
     match node {
-        Yaml::Real(text) => out.put(text.as_str()),
+        Yaml::Real(text) => put_text(out, text.as_str()),
         Yaml::Integer(number) => write_integer(out, *number),
         Yaml::String(text) => write_double_quoted(out, text.as_str()),
         Yaml::Boolean(true) => put_ascii(out, "true"),
@@ -103,6 +106,15 @@ fn write_flat<W: Writer>(out: &mut W, node: &Yaml) -> fmt::Result
     }
 }
 
+// A text as it stands.
+#[inline(never)]
+fn put_text<W: Writer>(out: &mut W, text: &str) -> fmt::Result
+    ensures { Writes W.put_gives W.put_leaves out.old result (chars text.now) out.new }
+{
+    out.put(text)
+}
+
+#[inline(never)]
 fn write_integer<W: Writer>(out: &mut W, number: i64) -> fmt::Result
     ensures { Writes W.put_gives W.put_leaves out.old result (signed_decimal number) out.new }
 {

@@ -1,52 +1,62 @@
 use Rattle.std.proofs.Common.{refl, ap, sym, ◌∙◌, arith}
 use Rattle.yaml_tree.specs.Depth.{depth}
 use Rattle.yaml_tree.specs.View.{view}
-use Rattle.yaml_emitter.specs.At.{stacked}
+use Rattle.yaml_emitter.specs.Entries.{mark_text}
 use Rattle.yaml_emitter.proofs.EntryLemmas.{items_text, pairs_text, two_levels}
 use Rattle.yaml_emitter.proofs.ListLemmas.{all_left, rest_left, entry_stopped, none_left, own_no_higher, none_decide, first_within}
-use Rattle.yaml_emitter.proofs.NodeLemmas.{flat_box, block_writes, item_entries, pair_entries, scalar_pair, complex_pair}
+use Rattle.yaml_emitter.proofs.NodeLemmas.{flat_after, block_after, block_writes, item_entries, pair_entries, scalar_pair, complex_pair}
 use Rattle.yaml_emitter.proofs.ValidLemmas.{unless_ok, pair_valid, in_any, flat_valid, valid_as, valid_hash, nodes, nodes_in_pairs}
 use Rattle.yaml_emitter.proofs.WritingLemmas.{wrote_then, writes_late, writes_err, writes_for, writes_as, stopped_early, stopped_late, stopped_for, stopped_here, writes_ok}
 use Rattle.yaml_emitter.proofs.node.+write.Goals as goal
 
-pub write_value-returns-in_err-begin_value-clause-text : goal.write_value-returns-in_err-begin_value-clause-text
-write_value-returns-in_err-begin_value-clause-text g t c = writes_err c.from_residual.ensures.0 (stopped_early _ (stopped_for (λ b. absurd b) (c.in_err-begin_value.ensures.err refl)))
+pub write_value-returns-in_err-put_spaced-clause-text : goal.write_value-returns-in_err-put_spaced-clause-text
+write_value-returns-in_err-put_spaced-clause-text g t c =
+    writes_as (flat_after _ _ c.args.blocks_lower c.args.level (mark_text c.args.mark) (view c.args.node.now) (sym (c.if-not-has_parts.ensures {u = tt})))
+    (writes_err c.from_residual.ensures.0 (stopped_early _ (stopped_for (λ b. absurd b) (c.in_err-put_spaced.ensures.err refl))))
+
+pub write_value-returns-then-not-has_parts-clause-text : goal.write_value-returns-then-not-has_parts-clause-text
+write_value-returns-then-not-has_parts-clause-text g t c =
+    writes_as (flat_after _ _ c.args.blocks_lower c.args.level (mark_text c.args.mark) (view c.args.node.now) (sym (c.if-not-has_parts.ensures {u = tt})))
+    (writes_late (c.in_ok-put_spaced.ensures.ok refl) (writes_for (λ b. absurd b) c.write_scalar.ensures.text))
+
+pub write_value-returns-in_err-begin_block-clause-text : goal.write_value-returns-in_err-begin_block-clause-text
+write_value-returns-in_err-begin_block-clause-text g t c =
+    writes_as (block_after _ _ c.args.blocks_lower c.args.level (mark_text c.args.mark) (view c.args.node.now) (sym (c.if-not-has_parts.ensures {u = tt})))
+    (writes_err c.from_residual-in_err-begin_block.ensures.0 (stopped_early _ (stopped_for (λ b. absurd b) (c.in_err-begin_block.ensures.err refl))))
 
 pub write_value-returns-clause-text : goal.write_value-returns-clause-text
-write_value-returns-clause-text g t c = writes_late (c.in_ok-begin_value.ensures.ok refl) c.write_node.ensures.text
+write_value-returns-clause-text g t c =
+    writes_as (block_after _ _ c.args.blocks_lower c.args.level (mark_text c.args.mark) (view c.args.node.now) (sym (c.if-not-has_parts.ensures {u = tt})))
+    (writes_late (c.in_ok-begin_block.ensures.ok refl) c.write_block.ensures.text)
 
-pub write_node-returns-then-not-has_parts-clause-text : goal.write_node-returns-then-not-has_parts-clause-text
-write_node-returns-then-not-has_parts-clause-text g t c =
-    writes_as (ap (stacked c.args.level) (flat_box (view c.args.node.now) _ _ _ (sym (c.if-not-has_parts.ensures {u = tt})))) (writes_for (λ b. absurd b) c.write_scalar.ensures.text)
-
-pub write_node-returns-then-level-ge-DEEPEST-clause-text : goal.write_node-returns-then-level-ge-DEEPEST-clause-text
-write_node-returns-then-level-ge-DEEPEST-clause-text g t c =
-    let two = two_levels (view c.args.node.now) (sym (c.if-not-has_parts.ensures {u = tt})) in
+pub write_block-returns-then-level-ge-DEEPEST-clause-text : goal.write_block-returns-then-level-ge-DEEPEST-clause-text
+write_block-returns-then-level-ge-DEEPEST-clause-text g t c =
+    let two = two_levels (view c.args.node.now) c.requires.block in
     writes_err refl (stopped_here _ _ _ _ _ (omega (arith, two)) refl)
 
-pub write_node-returns-in-Array-clause-text : goal.write_node-returns-in-Array-clause-text
-write_node-returns-in-Array-clause-text g t c =
-    block_writes _ _ _ c.args.level _ _ (ap view c.in-Array.is) (items_text _ _ c.args.level _) (sym (c.if-not-has_parts.ensures {u = tt})) c.write_items.ensures.text
+pub write_block-returns-in-Array-clause-text : goal.write_block-returns-in-Array-clause-text
+write_block-returns-in-Array-clause-text g t c =
+    block_writes _ _ _ c.args.level _ _ (ap view c.in-Array.is) (items_text _ _ c.args.level _) c.requires.block c.write_items.ensures.text
 
-pub write_node-returns-in-Hash-clause-text : goal.write_node-returns-in-Hash-clause-text
-write_node-returns-in-Hash-clause-text g t c =
-    block_writes _ _ _ c.args.level _ _ (ap view c.in-Hash.is) (pairs_text _ _ c.args.level _) (sym (c.if-not-has_parts.ensures {u = tt})) c.write_pairs.ensures.text
+pub write_block-returns-in-Hash-clause-text : goal.write_block-returns-in-Hash-clause-text
+write_block-returns-in-Hash-clause-text g t c =
+    block_writes _ _ _ c.args.level _ _ (ap view c.in-Hash.is) (pairs_text _ _ c.args.level _) c.requires.block c.write_pairs.ensures.text
 
-pub write_node-returns-then-not-has_parts-clause-valid : goal.write_node-returns-then-not-has_parts-clause-valid
-write_node-returns-then-not-has_parts-clause-valid g t c =
+pub write_value-returns-then-not-has_parts-clause-valid : goal.write_value-returns-then-not-has_parts-clause-valid
+write_value-returns-then-not-has_parts-clause-valid g t c =
     in_any _ (flat_valid (view c.args.node.now) (sym (c.if-not-has_parts.ensures {u = tt})) c.write_scalar.ensures.valid)
 
-pub write_node-returns-in-Array-clause-valid : goal.write_node-returns-in-Array-clause-valid
-write_node-returns-in-Array-clause-valid g t c = valid_as _ _ _ (ap view c.in-Array.is) c.write_items.ensures.valid
+pub write_block-returns-in-Array-clause-valid : goal.write_block-returns-in-Array-clause-valid
+write_block-returns-in-Array-clause-valid g t c = valid_as _ _ _ (ap view c.in-Array.is) c.write_items.ensures.valid
 
-pub write_node-returns-in-Hash-clause-valid : goal.write_node-returns-in-Hash-clause-valid
-write_node-returns-in-Hash-clause-valid g t c = valid_as _ _ _ (ap view c.in-Hash.is) c.write_pairs.ensures.valid
+pub write_block-returns-in-Hash-clause-valid : goal.write_block-returns-in-Hash-clause-valid
+write_block-returns-in-Hash-clause-valid g t c = valid_as _ _ _ (ap view c.in-Hash.is) c.write_pairs.ensures.valid
 
-pub write_node-write_items-requires : goal.write_node-write_items-requires
-write_node-write_items-requires g t c = λ κs s. (omega (arith, ap (λ y. depth (view y)) c.in-Array.is), (s, omega arith))
+pub write_block-write_items-requires : goal.write_block-write_items-requires
+write_block-write_items-requires g t c = λ κs s. (omega (arith, ap (λ y. depth (view y)) c.in-Array.is), (s, omega arith))
 
-pub write_node-write_pairs-requires : goal.write_node-write_pairs-requires
-write_node-write_pairs-requires g t c = λ κs s. (omega (arith, ap (λ y. depth (view y)) c.in-Hash.is), (s, omega arith))
+pub write_block-write_pairs-requires : goal.write_block-write_pairs-requires
+write_block-write_pairs-requires g t c = λ κs s. (omega (arith, ap (λ y. depth (view y)) c.in-Hash.is), (s, omega arith))
 
 -- ---- entries
 
@@ -56,16 +66,16 @@ write_items-items-init g t c = all_left (item_entries c.args.settings.now.compac
 pub write_items-items-preserved : goal.write_items-items-preserved
 write_items-items-preserved g t c =
     rest_left (item_entries c.args.settings.now.compact c.args.settings.now.multiline c.args.level) c.items.invariant c.in-Some.ensures.steps
-    (wrote_then (c.in_ok-begin_item.ensures.ok refl) (c.in_ok-write_value.ensures.text.ok refl)) c.in_ok-write_value.ensures.valid
+    (wrote_then (c.in_ok-begin_entry.ensures.ok refl) (c.in_ok-write_value.ensures.text.ok refl)) c.in_ok-write_value.ensures.valid
 
 pub write_items-write_value-requires : goal.write_items-write_value-requires
 write_items-write_value-requires g t c = λ κs s. (omega (arith, first_within nodes c.items.invariant.decide c.in-Some.ensures.steps), (s, omega arith))
 
-pub write_items-returns-in_err-begin_item-clause-text : goal.write_items-returns-in_err-begin_item-clause-text
-write_items-returns-in_err-begin_item-clause-text g t c =
+pub write_items-returns-in_err-begin_entry-clause-text : goal.write_items-returns-in_err-begin_entry-clause-text
+write_items-returns-in_err-begin_entry-clause-text g t c =
     writes_err c.from_residual.ensures.0
     (entry_stopped (item_entries c.args.settings.now.compact c.args.settings.now.multiline c.args.level) c.items.invariant c.in-Some.ensures.steps
-    (stopped_early _ (stopped_for (λ b. absurd b) (c.in_err-begin_item.ensures.err refl))))
+    (stopped_early _ (stopped_for (λ b. absurd b) (c.in_err-begin_entry.ensures.err refl))))
 
 pub write_items-returns-in_err-write_value-clause-text : goal.write_items-returns-in_err-write_value-clause-text
 write_items-returns-in_err-write_value-clause-text g t c =
@@ -73,7 +83,7 @@ write_items-returns-in_err-write_value-clause-text g t c =
     let own = own_no_higher s c.items.invariant c.in-Some.ensures.steps in
     writes_err c.from_residual-in_err-write_value.ensures.0
     (entry_stopped s c.items.invariant c.in-Some.ensures.steps
-    (stopped_late (c.in_ok-begin_item.ensures.ok refl) (stopped_for (λ b. omega (arith, b, own)) (c.in_err-write_value.ensures.text.err refl))))
+    (stopped_late (c.in_ok-begin_entry.ensures.ok refl) (stopped_for (λ b. omega (arith, b, own)) (c.in_err-write_value.ensures.text.err refl))))
 
 pub write_items-returns-clause-text : goal.write_items-returns-clause-text
 write_items-returns-clause-text g t c =
@@ -109,52 +119,49 @@ pub write_pairs-returns-clause-text : goal.write_pairs-returns-clause-text
 write_pairs-returns-clause-text g t c =
     writes_ok refl (none_left (pair_entries c.args.settings.now.compact c.args.settings.now.multiline c.args.level) c.pairs.invariant c.in-None.ensures.steps.0)
 
-pub write_pair-returns-in_err-write_scalar_key-clause-text : goal.write_pair-returns-in_err-write_scalar_key-clause-text
-write_pair-returns-in_err-write_scalar_key-clause-text g t c =
+pub write_pair-returns-in_err-write_spelling-clause-text : goal.write_pair-returns-in_err-write_spelling-clause-text
+write_pair-returns-in_err-write_spelling-clause-text g t c =
     writes_as (scalar_pair _ _ c.args.level _ _ (c.if-is_scalar.ensures {u = tt}))
-    (writes_err c.from_residual.ensures.0 (stopped_early _ (stopped_for (λ b. absurd b) (c.in_err-write_scalar_key.ensures.text.err refl))))
+    (writes_err c.from_residual.ensures.0 (stopped_early _ (stopped_for (λ b. absurd b) (c.in_err-write_spelling.ensures.text.err refl))))
 
 pub write_pair-returns-then-is_scalar-clause-text : goal.write_pair-returns-then-is_scalar-clause-text
 write_pair-returns-then-is_scalar-clause-text g t c =
     writes_as (scalar_pair _ _ c.args.level _ _ (c.if-is_scalar.ensures {u = tt}))
-    (writes_late (c.in_ok-write_scalar_key.ensures.text.ok refl) (writes_for (λ b. omega (arith, b)) c.write_value.ensures.text))
-
-pub write_pair-returns-in_err-put_ascii-clause-text : goal.write_pair-returns-in_err-put_ascii-clause-text
-write_pair-returns-in_err-put_ascii-clause-text g t c =
-    writes_as (complex_pair _ _ c.args.level _ _ (c.if-is_scalar.ensures {u = tt}))
-    (writes_err c.from_residual-in_err-put_ascii.ensures.0 (stopped_early _ (stopped_for (λ b. absurd b) (c.in_err-put_ascii.ensures.err refl))))
-
-pub write_pair-returns-in_err-write_value-clause-text : goal.write_pair-returns-in_err-write_value-clause-text
-write_pair-returns-in_err-write_value-clause-text g t c =
-    writes_as (complex_pair _ _ c.args.level _ _ (c.if-is_scalar.ensures {u = tt}))
-    (writes_err c.from_residual-in_err-write_value.ensures.0
-    (stopped_late (c.in_ok-put_ascii.ensures.ok refl) (stopped_early _ (stopped_for (λ b. omega (arith, b)) (c.in_err-write_value.ensures.text.err refl)))))
-
-pub write_pair-returns-in_err-begin_second-clause-text : goal.write_pair-returns-in_err-begin_second-clause-text
-write_pair-returns-in_err-begin_second-clause-text g t c =
-    writes_as (complex_pair _ _ c.args.level _ _ (c.if-is_scalar.ensures {u = tt}))
-    (writes_err c.from_residual-in_err-begin_second.ensures.0
-    (stopped_late (c.in_ok-put_ascii.ensures.ok refl) (stopped_late (c.in_ok-write_value.ensures.text.ok refl) (stopped_early _ (stopped_for (λ b. absurd b) (c.in_err-begin_second.ensures.err refl))))))
+    (writes_late (c.in_ok-write_spelling.ensures.text.ok refl) (writes_for (λ b. omega (arith, b)) c.write_value.ensures.text))
 
 pub write_pair-returns-clause-text : goal.write_pair-returns-clause-text
-write_pair-returns-clause-text g t c =
-    writes_as (complex_pair _ _ c.args.level _ _ (c.if-is_scalar.ensures {u = tt}))
-    (writes_late (c.in_ok-put_ascii.ensures.ok refl) (writes_late (c.in_ok-write_value.ensures.text.ok refl)
-    (writes_late (c.in_ok-begin_second.ensures.ok refl) (writes_for (λ b. omega (arith, b)) c.write_value-3.ensures.text))))
+write_pair-returns-clause-text g t c = writes_as (complex_pair _ _ c.args.level _ _ (c.if-is_scalar.ensures {u = tt})) c.write_complex_pair.ensures.text
+
+pub write_complex_pair-returns-in_err-write_value-clause-text : goal.write_complex_pair-returns-in_err-write_value-clause-text
+write_complex_pair-returns-in_err-write_value-clause-text g t c =
+    writes_err c.from_residual.ensures.0 (stopped_early _ (stopped_for (λ b. omega (arith, b)) (c.in_err-write_value.ensures.text.err refl)))
+
+pub write_complex_pair-returns-in_err-break_line-clause-text : goal.write_complex_pair-returns-in_err-break_line-clause-text
+write_complex_pair-returns-in_err-break_line-clause-text g t c =
+    writes_err c.from_residual-in_err-break_line.ensures.0
+    (stopped_late (c.in_ok-write_value.ensures.text.ok refl) (stopped_early _ (stopped_for (λ b. absurd b) (c.in_err-break_line.ensures.err refl))))
+
+pub write_complex_pair-returns-clause-text : goal.write_complex_pair-returns-clause-text
+write_complex_pair-returns-clause-text g t c =
+    writes_late (c.in_ok-write_value.ensures.text.ok refl)
+    (writes_late (c.in_ok-break_line.ensures.ok refl) (writes_for (λ b. omega (arith, b)) c.write_value-2.ensures.text))
 
 pub write_pair-write_value-requires : goal.write_pair-write_value-requires
 write_pair-write_value-requires g t c = λ κs s. (omega arith, (s, omega arith))
 
 -- ---- valid trees
 
-pub write_value-returns-in_err-begin_value-clause-valid : goal.write_value-returns-in_err-begin_value-clause-valid
-write_value-returns-in_err-begin_value-clause-valid g t c = unless_ok _ _ c.from_residual.ensures.0
+pub write_value-returns-in_err-put_spaced-clause-valid : goal.write_value-returns-in_err-put_spaced-clause-valid
+write_value-returns-in_err-put_spaced-clause-valid g t c = unless_ok _ _ c.from_residual.ensures.0
+
+pub write_value-returns-in_err-begin_block-clause-valid : goal.write_value-returns-in_err-begin_block-clause-valid
+write_value-returns-in_err-begin_block-clause-valid g t c = unless_ok _ _ c.from_residual-in_err-begin_block.ensures.0
 
 pub write_items-returns-clause-valid : goal.write_items-returns-clause-valid
 write_items-returns-clause-valid g t c = none_decide nodes c.items.invariant.decide c.in-None.ensures.steps.0
 
-pub write_items-returns-in_err-begin_item-clause-valid : goal.write_items-returns-in_err-begin_item-clause-valid
-write_items-returns-in_err-begin_item-clause-valid g t c = unless_ok _ _ c.from_residual.ensures.0
+pub write_items-returns-in_err-begin_entry-clause-valid : goal.write_items-returns-in_err-begin_entry-clause-valid
+write_items-returns-in_err-begin_entry-clause-valid g t c = unless_ok _ _ c.from_residual.ensures.0
 
 pub write_items-returns-in_err-write_value-clause-valid : goal.write_items-returns-in_err-write_value-clause-valid
 write_items-returns-in_err-write_value-clause-valid g t c = unless_ok _ _ c.from_residual-in_err-write_value.ensures.0
@@ -168,21 +175,18 @@ write_pairs-returns-in_err-begin_entry-clause-valid g t c = unless_ok _ _ c.from
 pub write_pairs-returns-in_err-write_pair-clause-valid : goal.write_pairs-returns-in_err-write_pair-clause-valid
 write_pairs-returns-in_err-write_pair-clause-valid g t c = unless_ok _ _ c.from_residual-in_err-write_pair.ensures.0
 
-pub write_pair-returns-in_err-write_scalar_key-clause-valid : goal.write_pair-returns-in_err-write_scalar_key-clause-valid
-write_pair-returns-in_err-write_scalar_key-clause-valid g t c = unless_ok _ _ c.from_residual.ensures.0
+pub write_pair-returns-in_err-write_spelling-clause-valid : goal.write_pair-returns-in_err-write_spelling-clause-valid
+write_pair-returns-in_err-write_spelling-clause-valid g t c = unless_ok _ _ c.from_residual.ensures.0
 
 pub write_pair-returns-then-is_scalar-clause-valid : goal.write_pair-returns-then-is_scalar-clause-valid
 write_pair-returns-then-is_scalar-clause-valid g t c =
-    pair_valid _ _ _ (c.in_ok-write_scalar_key.ensures.valid (sym (c.if-is_scalar.ensures {u = tt}))) c.write_value.ensures.valid
+    pair_valid _ _ _ (c.in_ok-write_spelling.ensures.valid (sym (c.if-is_scalar.ensures {u = tt}))) c.write_value.ensures.valid
 
-pub write_pair-returns-in_err-put_ascii-clause-valid : goal.write_pair-returns-in_err-put_ascii-clause-valid
-write_pair-returns-in_err-put_ascii-clause-valid g t c = unless_ok _ _ c.from_residual-in_err-put_ascii.ensures.0
+pub write_complex_pair-returns-in_err-write_value-clause-valid : goal.write_complex_pair-returns-in_err-write_value-clause-valid
+write_complex_pair-returns-in_err-write_value-clause-valid g t c = unless_ok _ _ c.from_residual.ensures.0
 
-pub write_pair-returns-in_err-write_value-clause-valid : goal.write_pair-returns-in_err-write_value-clause-valid
-write_pair-returns-in_err-write_value-clause-valid g t c = unless_ok _ _ c.from_residual-in_err-write_value.ensures.0
+pub write_complex_pair-returns-in_err-break_line-clause-valid : goal.write_complex_pair-returns-in_err-break_line-clause-valid
+write_complex_pair-returns-in_err-break_line-clause-valid g t c = unless_ok _ _ c.from_residual-in_err-break_line.ensures.0
 
-pub write_pair-returns-in_err-begin_second-clause-valid : goal.write_pair-returns-in_err-begin_second-clause-valid
-write_pair-returns-in_err-begin_second-clause-valid g t c = unless_ok _ _ c.from_residual-in_err-begin_second.ensures.0
-
-pub write_pair-returns-clause-valid : goal.write_pair-returns-clause-valid
-write_pair-returns-clause-valid g t c = pair_valid _ _ _ c.in_ok-write_value.ensures.valid c.write_value-3.ensures.valid
+pub write_complex_pair-returns-clause-valid : goal.write_complex_pair-returns-clause-valid
+write_complex_pair-returns-clause-valid g t c = pair_valid _ _ _ c.in_ok-write_value.ensures.valid c.write_value-2.ensures.valid

@@ -7,20 +7,23 @@ use Rattle.yaml_emitter.proofs.ListLemmas.{AreLeft}
 use Rattle.yaml_emitter.proofs.NodeLemmas.{item_entries, pair_entries}
 use Rattle.yaml_emitter.proofs.node.+write.Given as goal
 
-abbrev pub decreases-write_node : goal.decreases-write_node
-decreases-write_node g l = 4 * depth (view l.node.now)
+abbrev pub decreases-write_block : goal.decreases-write_block
+decreases-write_block g l = 5 * depth (view l.node.now)
 
 abbrev pub decreases-write_value : goal.decreases-write_value
-decreases-write_value g l = 4 * depth (view l.node.now) + 1
+decreases-write_value g l = 5 * depth (view l.node.now) + 1
 
 abbrev pub decreases-write_items : goal.decreases-write_items
-decreases-write_items g l = 4 * items_depth (items_of l.items.now) + 3
+decreases-write_items g l = 5 * items_depth (items_of l.items.now) + 4
 
 abbrev pub decreases-write_pairs : goal.decreases-write_pairs
-decreases-write_pairs g l = 4 * pairs_depth (pairs_of l.pairs.now) + 3
+decreases-write_pairs g l = 5 * pairs_depth (pairs_of l.pairs.now) + 4
 
 abbrev pub decreases-write_pair : goal.decreases-write_pair
-decreases-write_pair g l = 4 * max (depth (view l.key.now)) (depth (view l.value.now)) + 2
+decreases-write_pair g l = 5 * max (depth (view l.key.now)) (depth (view l.value.now)) + 3
+
+abbrev pub decreases-write_complex_pair : goal.decreases-write_complex_pair
+decreases-write_complex_pair g l = 5 * max (depth (view l.key.now)) (depth (view l.value.now)) + 2
 
 abbrev pub invariant-write_items-items : goal.invariant-write_items-items
 invariant-write_items-items g l = AreLeft (item_entries l.settings.compact l.settings.multiline l.level) g.W.Writer.put_gives l.initial.out l.fn.items l.out l.is_first l.item-iterator

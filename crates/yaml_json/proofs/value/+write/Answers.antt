@@ -33,6 +33,15 @@ write_nest-returns-in_err-write_node-clause-given g t c = unless_ok _ _ c.from_r
 pub write_nest-returns-clause-given : goal.write_nest-returns-clause-given
 write_nest-returns-clause-given g t c = in_any _ (c.in_ok-nest.ensures.opened.given c.in_ok-write_node.ensures.given)
 
+-- ---- values
+
+pub write_value-returns-then-not-has_parts-clause-text : goal.write_value-returns-then-not-has_parts-clause-text
+write_value-returns-then-not-has_parts-clause-text g t c =
+    writes_as (flat_text_is (view c.args.node.now) _ _ (sym (c.if-not-has_parts.ensures {u = tt}))) (writes_for (λ b. absurd b) c.write_flat.ensures.text)
+
+pub write_value-returns-then-not-has_parts-clause-given : goal.write_value-returns-then-not-has_parts-clause-given
+write_value-returns-then-not-has_parts-clause-given g t c = in_any _ (flat_given (view c.args.node.now) (sym (c.if-not-has_parts.ensures {u = tt})) c.write_flat.ensures.given)
+
 -- ---- nodes
 
 pub write_node-returns-then-not-has_parts-clause-text : goal.write_node-returns-then-not-has_parts-clause-text

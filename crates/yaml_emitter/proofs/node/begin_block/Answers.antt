@@ -1,0 +1,12 @@
+use Rattle.std.proofs.Common.{refl, sym, ap, ◌++◌}
+use Rattle.yaml_emitter.specs.Entries.{mark_text, before_block}
+use Rattle.yaml_emitter.proofs.WritingLemmas.{writes_as, writes_late, writes_err, stopped_early}
+use Rattle.yaml_emitter.proofs.node.begin_block.Goals as goal
+
+pub returns-in_err-put_mark : goal.returns-in_err-put_mark
+returns-in_err-put_mark g c = writes_err c.from_residual.ensures.0 (stopped_early _ (c.in_err-put_mark.ensures.err refl))
+
+pub returns : goal.returns
+returns g c =
+    writes_as (ap (λ b. mark_text c.args.mark ++ before_block b c.args.level) (sym c.if-not-blocks_lower.false))
+    (writes_late (c.in_ok-put_mark.ensures.ok refl) c.break_line.ensures)

@@ -1,0 +1,11 @@
+use Rattle.std.proofs.Common.{ap, ◌∙◌, ◌-◌, get_or, length, arith}
+use Rattle.std.specs.Prelude.{◌==◌}
+use Rattle.yaml_emitter.proofs.EndLemmas.{last_is, none_last}
+use Rattle.yaml_emitter.proofs.quoting.ends_with_space.Goals as goal
+
+pub returns-in-len1-up : goal.returns-in-len1-up
+returns-in-len1-up c =
+    ap (λ x. get_or x (length x - 1) 0 == 32) c.as_bytes.ensures.value ∙ last_is c.args.text.now 32 (omega arith) c.utf8.text (omega (arith, c.as_bytes.ensures.len))
+
+pub returns-in-empty : goal.returns-in-empty
+returns-in-empty c = none_last c.args.text.now 32 (omega (arith, c.as_bytes.ensures.len))

@@ -1,0 +1,6 @@
+use Rattle.std.proofs.Common.{◌∙◌, arith}
+use Rattle.yaml_emitter.proofs.WordLemmas.{small_letter}
+use Rattle.yaml_emitter.proofs.quoting.is_plain_letter.Goals as goal
+
+pub returns : goal.returns
+returns c = c.is_plain_small.ensures ∙ small_letter c.args.byte (omega arith)

@@ -1,0 +1,9 @@
+use Rattle.std.proofs.Common.{sym, ap, ◌∙◌}
+use Rattle.yaml_emitter.specs.Words.{begins_plainly}
+use Rattle.yaml_emitter.proofs.WordLemmas.{plain_quoted}
+use Rattle.yaml_emitter.proofs.quoting.needs_quotes.Goals as goal
+
+pub returns-then-begins_plainly : goal.returns-then-begins_plainly
+returns-then-begins_plainly c =
+    c.is_unfit_behind.ensures
+    ∙ plain_quoted c.args.text.now c.utf8.text (sym ((c.if-begins_plainly.ensures {u = tt}) ∙ ap begins_plainly c.as_bytes.ensures.value))
