@@ -1,5 +1,5 @@
 //! A block of entries.
-ghost use Rattle.std.specs.Prelude.{◌≡◌, ◌<◌, ◌≤◌, ◌∷◌, [], length, map, take, drop, IfOk, OnOk, OnErr};
+ghost use Rattle.std.specs.Prelude.{◌≡◌, ◌-◌, ◌<◌, ◌≤◌, ◌∷◌, [], length, map, take, drop, IfOk, OnOk, OnErr};
 ghost use Rattle.std.specs.List.{insert, remove};
 ghost use Rattle.defs_tree.specs.Digits.{binary_digits};
 ghost use Rattle.yaml_hash_index.specs.Counts.{RisesWithin};
@@ -57,13 +57,15 @@ impl Block {
         self.entries[offset].place
     }
 
-    /// Where the digests reach this one.
+    /// Where the digests reach this one. The first does not.
     pub(crate) fn edge(&self, digest: u64, compared: &mut Count) -> usize
+        requires some { 0 < length self.now }
+        requires first { digest_at self.now 0 < digest }
         ensures edge { IsEdge (digest_at self.now) (length self.now) digest result }
-        ensures compared { RisesWithin compared.old (binary_digits (length self.now)) compared.new }
+        ensures compared { RisesWithin compared.old (binary_digits (length self.now - 1)) compared.new }
     {
         let entries = self.entries.as_slice();
-        let mut low = 0;
+        let mut low = 1;
         let mut high = entries.len();
         while low < high {
             let middle = low + (high - low) / 2;

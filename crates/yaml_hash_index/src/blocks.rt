@@ -1,5 +1,5 @@
 //! Entries in blocks.
-ghost use Rattle.std.specs.Prelude.{◌≡◌, ◌<◌, ◌≤◌, ◌+◌, ◌*◌, ◌^◌, ◌∷◌, [], length, map, take, drop, get_or, set, IsTrue, IsFalse, IfOk, OnOk, OnErr};
+ghost use Rattle.std.specs.Prelude.{◌≡◌, ◌<◌, ◌≤◌, ◌+◌, ◌-◌, ◌*◌, ◌^◌, ◌∷◌, [], length, map, take, drop, get_or, set, IsTrue, IsFalse, IfOk, IfSome, OnOk, OnErr};
 ghost use Rattle.std.specs.List.{insert, remove};
 ghost use Rattle.defs_tree.specs.Digits.{binary_digits};
 ghost use Rattle.yaml_hash_index.specs.Blocks.{joined, start, rank_of, head_at, halved, IsSpot, IsTaken, AreFilled, IsNarrowed};
@@ -81,7 +81,7 @@ impl Blocks {
     fn edge(&self, digest: u64, compared: &mut Count) -> Spot
         ensures spot { IsSpot self.now result }
         ensures edge { IsEdge (digest_at (joined self.now)) (length (joined self.now)) digest (rank_of self.now result) }
-        ensures compared { RisesWithin compared.old (2 * binary_digits (length (joined self.now))) compared.new }
+        ensures compared { RisesWithin compared.old (2 * binary_digits (length (joined self.now)) - 1) compared.new }
     {
         let before = edge_of_heads(self.blocks.as_slice(), digest, compared);
         match before.checked_sub(1) {
@@ -100,6 +100,7 @@ impl Blocks {
     fn is_past(&self, spot: Spot, digest: u64, compared: &mut Count) -> bool
         requires { IsSpot self.now spot }
         ensures past { IsTrue result → rank_of self.now spot < length (joined self.now) → digest < digest_at (joined self.now) (rank_of self.now spot) }
+        ensures not_past { IsFalse result → digest_at (joined self.now) (rank_of self.now spot) ≤ digest }
         ensures compared { RisesWithin compared.old 1 compared.new }
     {
         if self.blocks.len() <= spot.block {
@@ -113,6 +114,44 @@ impl Blocks {
             return true;
         }
         compared.is_below(digest, self.blocks[spot.block + 1].digest(0))
+    }
+
+    // Whether an entry stands at the spot, and the next one, if there is one, has a higher digest. It is `false` also at
+    // the end of a block.
+    fn is_last(&self, spot: Spot, digest: u64, compared: &mut Count) -> bool
+        requires { IsSpot self.now spot }
+        ensures taken { IsTrue result → rank_of self.now spot < length (joined self.now) }
+        ensures past { IsTrue result → rank_of self.now spot + 1 < length (joined self.now) → digest < digest_at (joined self.now) (rank_of self.now spot + 1) }
+        ensures compared { RisesWithin compared.old 1 compared.new }
+    {
+        if self.blocks.len() <= spot.block {
+            return false;
+        }
+        if self.blocks[spot.block].len() <= spot.offset {
+            return false;
+        }
+        let next = Spot {
+            block: spot.block,
+            offset: spot.offset + 1,
+        };
+        self.is_past(next, digest, compared)
+    }
+
+    // The end of all entries, if there are some and the last digest is below this one.
+    fn end_below(&self, digest: u64, compared: &mut Count) -> Option<Spot>
+        ensures spot { IfSome result (λ s. IsSpot self.now s) }
+        ensures end { IfSome result (λ s. rank_of self.now s ≡ length (joined self.now)) }
+        ensures below { IfSome result (λ s. IsEdge (digest_at (joined self.now)) (length (joined self.now)) digest (rank_of self.now s)) }
+        ensures compared { RisesWithin compared.old 1 compared.new }
+    {
+        let block = self.blocks.len().checked_sub(1)?;
+        let last = &self.blocks[block];
+        let offset = last.len();
+        if compared.is_below(last.digest(offset - 1), digest) {
+            Some(Spot { block, offset })
+        } else {
+            None
+        }
     }
 
     // How many entries stand between two spots.
@@ -154,9 +193,22 @@ impl Blocks {
         ensures narrowed { IsNarrowed (joined self.now) digest (rank_of self.now result.0) result.1 }
         ensures compared { RisesWithin compared.old (4 * binary_digits (length (joined self.now)) + 1) compared.new }
     {
+        if self.blocks.is_empty() {
+            let only = Spot {
+                block: 0,
+                offset: 0,
+            };
+            return (only, 0);
+        }
+        if let Some(end) = self.end_below(digest, compared) {
+            return (end, 0);
+        }
         let low = self.edge(digest, compared);
         if self.is_past(low, digest, compared) {
             return (low, 0);
+        }
+        if self.is_last(low, digest, compared) {
+            return (low, 1);
         }
         let high = self.edge(digest + 1, compared);
         (low, self.between(low, high))

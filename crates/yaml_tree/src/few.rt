@@ -6,15 +6,15 @@ ghost use Rattle.yaml_hash_index.specs.Moves.{closed_up, moved_up};
 use std::marker::Model;
 use yaml_hash_index::moves::{closed_up, moved_up};
 
-/// How many places there is room for.
-pub(crate) const ROOM: usize = 8;
+/// How many places there is room for. With the count they fit beside a hash's row in 16 bytes.
+pub(crate) const ROOM: usize = 14;
 
-/// Up to eight places below 256, by their rank.
+/// Up to fourteen places below 256, by their rank.
 #[derive(Drop)]
 pub(crate) struct Few {
-    count: u32,
+    count: u8,
     // Only the first `count` of them are in use.
-    slots: [u8; 8],
+    slots: [u8; 14],
 }
 
 impl Model for Few {
@@ -24,7 +24,7 @@ impl Model for Few {
 
     ghost view = { λ f. take f.count f.slots };
 
-    ghost invariant = { λ f. (f.count ≤ 8) × (length f.slots ≡ 8) };
+    ghost invariant = { λ f. (f.count ≤ 14) × (length f.slots ≡ 14) };
 }
 
 // Inserts a place at a rank, before the places from that rank on.
@@ -47,7 +47,7 @@ impl Few {
     {
         Few {
             count: 0,
-            slots: [0; 8],
+            slots: [0; 14],
         }
     }
 
@@ -62,7 +62,7 @@ impl Few {
 
     pub(crate) fn len(&self) -> usize
         ensures count { result ≡ length self.now }
-        ensures within { result ≤ 8 }
+        ensures within { result ≤ 14 }
     {
         self.count as usize
     }
@@ -78,7 +78,7 @@ impl Few {
 
     /// Gives a place this rank, before the one that had it.
     pub(crate) fn insert(&mut self, rank: usize, place: u8)
-        requires room { length self.old < 8 }
+        requires room { length self.old < 14 }
         requires rank { rank ≤ length self.old }
         ensures { self.new ≡ insert self.old rank place }
     {
@@ -88,7 +88,7 @@ impl Few {
     }
 
     fn push(&mut self, place: usize)
-        requires room { length self.old < 8 }
+        requires room { length self.old < 14 }
         requires low { place < 256 }
         ensures { self.new ≡ self.old ++ place ∷ [] }
     {

@@ -24,6 +24,17 @@ pub(crate) enum Probe<'a> {
 }
 
 impl<'a> Probe<'a> {
+    // The same, as a text if it is a `String`, so that a comparison need not look at its kind again.
+    #[tactic(auto, unfolding(defs_text::specs::Text::string_chars))]
+    fn plain(self) -> Probe<'a>
+        ensures { probed result ≡ probed self.entry }
+    {
+        match self {
+            Probe::Node(Yaml::String(text)) => Probe::Text(text.as_str()),
+            _ => self,
+        }
+    }
+
     /// The digest of what is looked up.
     pub(crate) fn digest(self) -> u64
         ensures digest { result ≡ digest (probed self.entry) }
@@ -62,6 +73,7 @@ pub(crate) fn search(
     ensures keys { RisesWithin steps.old.keys (binary_digits (length (places ranks.now.kept))) steps.new.keys }
     ensures digests { RisesWithin steps.old.digests (4 * binary_digits (length (places ranks.now.kept)) + 1) steps.new.digests }
 {
+    let probe = probe.plain();
     let (mut low, mut count) = ranks.window(probe, &mut steps.digests);
     while 0 < count {
         let half = count / 2;

@@ -24,7 +24,7 @@ window-count-requires-clause-fits c =
 
 pub loop-count-init : goal.loop-count-init
 loop-count-init c =
-    let k = probed c.args.probe in
+    let k = probed c.plain-probe.result in
     let count = c.window-count.result.1 in
     let left = window_leaves c.args.ranks.now.kept k (pairs_view c.args.row.now) (rank_at c.args.ranks.now.kept c.window-count.result.0) count c.requires.hash.ranked c.requires.digested c.window-count.ensures.window in
     record {
@@ -62,16 +62,16 @@ pub loop-count-preserved-in-Less : goal.loop-count-preserved-in-Less
 loop-count-preserved-in-Less c =
     let i = c.loop-count.invariant in
     let within = place_inside c.args.ranks.now.kept c.advanced-middle.result c.advanced-middle.ensures.place in
-    let compared = c.compare.ensures.order ∙ ap (tree_cmp (probed c.args.probe)) (ranked_key c.args.row.now (places c.args.ranks.now.kept) c.requires.hash (rank_at c.args.ranks.now.kept c.advanced-middle.result) c.at-place.result c.index-row-place.result within c.at-place.ensures c.index-row-place.is) in
+    let compared = c.compare.ensures.order ∙ ap (tree_cmp (probed c.plain-probe.result)) (ranked_key c.args.row.now (places c.args.ranks.now.kept) c.requires.hash (rank_at c.args.ranks.now.kept c.advanced-middle.result) c.at-place.result c.index-row-place.result within c.at-place.ensures c.index-row-place.is) in
     let test : 0 < c.loop-count.count = c.loop-count-test.true in
-    let by_key = same_digest (first_by c.args.ranks.now.kept) (probed c.args.probe) (key_of_rank (places c.args.ranks.now.kept) (pairs_view c.args.row.now) (rank_at c.args.ranks.now.kept c.advanced-middle.result))
+    let by_key = same_digest (first_by c.args.ranks.now.kept) (probed c.plain-probe.result) (key_of_rank (places c.args.ranks.now.kept) (pairs_view c.args.row.now) (rank_at c.args.ranks.now.kept c.advanced-middle.result))
     (i.same (rank_at c.args.ranks.now.kept c.advanced-middle.result) (omega (arith, c.advanced-middle.ensures.rank)) (omega (arith, test, c.advanced-middle.ensures.rank))) in
     let half = halved (c.loop-count.count / 2) c.loop-count.count c.loop-count-test.true (omega arith) in
     record {
       spot = i.spot;
       within = omega (arith, i.within);
       above = i.above;
-      below = λ r h g. below_from_on (places c.args.ranks.now.kept) (pairs_view c.args.row.now) c.requires.hash.ranked (probed c.args.probe) (rank_at c.args.ranks.now.kept c.advanced-middle.result) (by_key ∙ sym (sym c.in-Less.is ∙ compared)) r (omega (arith, h, c.advanced-middle.ensures.rank)) g;
+      below = λ r h g. below_from_on (places c.args.ranks.now.kept) (pairs_view c.args.row.now) c.requires.hash.ranked (probed c.plain-probe.result) (rank_at c.args.ranks.now.kept c.advanced-middle.result) (by_key ∙ sym (sym c.in-Less.is ∙ compared)) r (omega (arith, h, c.advanced-middle.ensures.rank)) g;
       same = λ r h g. i.same r h (omega (arith, g));
       keys = omega (arith, half, i.keys, c.compare.ensures.keys);
       counted = omega (arith, i.counted, c.compare.ensures.keys);
@@ -92,14 +92,14 @@ loop-count-preserved c =
     let test : 0 < c.loop-count.count = c.loop-count-test.true in
     let next = next_rank c.args.ranks.now.kept c.advanced-middle.result.block c.advanced-middle.result.offset in
     let within = place_inside c.args.ranks.now.kept c.advanced-middle.result c.advanced-middle.ensures.place in
-    let compared = c.compare.ensures.order ∙ ap (tree_cmp (probed c.args.probe)) (ranked_key c.args.row.now (places c.args.ranks.now.kept) c.requires.hash (rank_at c.args.ranks.now.kept c.advanced-middle.result) c.at-place.result c.index-row-place.result within c.at-place.ensures c.index-row-place.is) in
-    let by_key = same_digest (first_by c.args.ranks.now.kept) (probed c.args.probe) (key_of_rank (places c.args.ranks.now.kept) (pairs_view c.args.row.now) (rank_at c.args.ranks.now.kept c.advanced-middle.result))
+    let compared = c.compare.ensures.order ∙ ap (tree_cmp (probed c.plain-probe.result)) (ranked_key c.args.row.now (places c.args.ranks.now.kept) c.requires.hash (rank_at c.args.ranks.now.kept c.advanced-middle.result) c.at-place.result c.index-row-place.result within c.at-place.ensures c.index-row-place.is) in
+    let by_key = same_digest (first_by c.args.ranks.now.kept) (probed c.plain-probe.result) (key_of_rank (places c.args.ranks.now.kept) (pairs_view c.args.row.now) (rank_at c.args.ranks.now.kept c.advanced-middle.result))
     (i.same (rank_at c.args.ranks.now.kept c.advanced-middle.result) (omega (arith, c.advanced-middle.ensures.rank)) (omega (arith, test, c.advanced-middle.ensures.rank))) in
     let half = halved (c.loop-count.count - (c.loop-count.count / 2 + 1)) c.loop-count.count c.loop-count-test.true (omega arith) in
     record {
       spot = next_spot c.args.ranks.now.kept c.advanced-middle.result.block c.advanced-middle.result.offset c.advanced-middle.ensures.place;
       within = omega (arith, next, c.advanced-middle.ensures.rank, i.within);
-      above = λ r h. above_up_to (places c.args.ranks.now.kept) (pairs_view c.args.row.now) c.requires.hash.ranked (probed c.args.probe) (rank_at c.args.ranks.now.kept c.advanced-middle.result) within (by_key ∙ sym (sym c.in-Greater.is ∙ compared)) r (omega (arith, h, next));
+      above = λ r h. above_up_to (places c.args.ranks.now.kept) (pairs_view c.args.row.now) c.requires.hash.ranked (probed c.plain-probe.result) (rank_at c.args.ranks.now.kept c.advanced-middle.result) within (by_key ∙ sym (sym c.in-Greater.is ∙ compared)) r (omega (arith, h, next));
       below = λ r h g. i.below r (omega (arith, h, next, c.advanced-middle.ensures.rank)) g;
       same = λ r h g. i.same r (omega (arith, h, next, c.advanced-middle.ensures.rank)) (omega (arith, g, next, c.advanced-middle.ensures.rank));
       keys = omega (arith, half, i.keys, c.compare.ensures.keys);
@@ -110,8 +110,8 @@ loop-count-preserved c =
 pub returns-in-Equal-clause-found : goal.returns-in-Equal-clause-found
 returns-in-Equal-clause-found c =
     let within = place_inside c.args.ranks.now.kept c.advanced-middle.result c.advanced-middle.ensures.place in
-    let compared = c.compare.ensures.order ∙ ap (tree_cmp (probed c.args.probe)) (ranked_key c.args.row.now (places c.args.ranks.now.kept) c.requires.hash (rank_at c.args.ranks.now.kept c.advanced-middle.result) c.at-place.result c.index-row-place.result within c.at-place.ensures c.index-row-place.is) in
-    (within, sym (tree_tied _ _ (sym compared ∙ c.in-Equal.is)))
+    let compared = c.compare.ensures.order ∙ ap (tree_cmp (probed c.plain-probe.result)) (ranked_key c.args.row.now (places c.args.ranks.now.kept) c.requires.hash (rank_at c.args.ranks.now.kept c.advanced-middle.result) c.at-place.result c.index-row-place.result within c.at-place.ensures c.index-row-place.is) in
+    (within, sym (tree_tied _ _ (sym compared ∙ c.in-Equal.is)) ∙ c.plain-probe.ensures)
 
 pub returns-in-Equal-clause-keys : goal.returns-in-Equal-clause-keys
 returns-in-Equal-clause-keys c =

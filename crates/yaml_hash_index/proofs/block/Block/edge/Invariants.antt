@@ -1,10 +1,11 @@
 use Rattle.std.proofs.Common.{◌-◌, length}
+use Rattle.defs_tree.specs.Digits.{binary_digits}
 use Rattle.yaml_hash_index.specs.Edges.{digest_at}
 use Rattle.yaml_hash_index.proofs.Halving.{IsSearch}
 use Rattle.yaml_hash_index.proofs.block.Block.edge.Given as goal
 
 abbrev pub invariant-loop-low : goal.invariant-loop-low
-invariant-loop-low l = IsSearch (digest_at l.entries) (length l.entries) l.digest l.initial.compared l.compared l.low l.high
+invariant-loop-low l = IsSearch (digest_at l.entries) (length l.entries) (binary_digits (length l.entries - 1)) l.digest l.initial.compared l.compared l.low l.high
 
 abbrev pub decreases-loop-low : goal.decreases-loop-low
 decreases-loop-low l = l.high - l.low
