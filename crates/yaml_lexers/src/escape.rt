@@ -162,20 +162,6 @@ fn read_named<T: Iterator<Item = char>>(
     }
 }
 
-/// Reads what a backslash names, and the words after it.
-#[inline(always)]
-fn read_named_and_words<T: Iterator<Item = char>>(
-    window: &mut Window<T>,
-    quote: &Quote,
-    scalar: &mut Folding,
-) -> Result<(), Fault>
-    ensures { ReadsOn quote.now named window.old scalar.old result (λ _. inside) window.new scalar.new }
-{
-    read_named(window, quote, scalar)?;
-    read_run(window, quote, scalar)?;
-    Ok(())
-}
-
 /// Whether a backslash stands here. Then the character after it is in the window too.
 #[inline(always)]
 fn at_backslash<T: Iterator<Item = char>>(window: &mut Window<T>) -> bool
@@ -217,9 +203,12 @@ pub(crate) fn read_escapes<T: Iterator<Item = char>>(
         if skip_backslash(window) {
             return Ok(Part::Breaking);
         }
-        read_named_and_words(window, quote, scalar)?;
+        read_named(window, quote, scalar)?;
         if !at_backslash(window) {
-            return Ok(Part::Inside);
+            read_run(window, quote, scalar)?;
+            if !at_backslash(window) {
+                return Ok(Part::Inside);
+            }
         }
     }
 }
