@@ -213,8 +213,8 @@ impl Hash {
                 self.ranks.move_to_end(place, count);
                 Ok(Some(exchange(&mut self.row, place, key, value)))
             }
-            Err(spot) => {
-                add(&mut self.row, &mut self.ranks, spot, key, value)?;
+            Err(gap) => {
+                add(&mut self.row, &mut self.ranks, gap, key, value)?;
                 Ok(None)
             }
         }

@@ -15,9 +15,8 @@ ghost use Rattle.yaml_tree.specs.Probes.{probed};
 ghost use Rattle.yaml_tree.specs.Ranked.{AreRanked, IsHash, IsRankGap};
 ghost use Rattle.yaml_tree.specs.View.{view, items_view, pairs_view};
 
-use crate::digest::digest;
 use crate::few::{Few, ROOM};
-use crate::search::{Probe, search};
+use crate::search::{Gap, Probe, search};
 use crate::steps::Steps;
 use crate::yaml::Yaml;
 use std::alloc::{AllocError, Global};
@@ -36,21 +35,22 @@ pub(crate) struct Ranks {
     kept: Kept,
 }
 
-// Adds the place of the next pair of a row, whose key belongs at this spot.
-fn put(blocks: &mut Blocks, row: &[Yaml], spot: Spot, key: &Yaml) -> Result<(), AllocError>
+// Adds the place of the next pair of a row, whose key belongs in this gap.
+fn put(blocks: &mut Blocks, row: &[Yaml], gap: Gap, key: &Yaml) -> Result<(), AllocError>
     requires hash { IsHash digest (items_view row.now) (places_in blocks.old) }
     requires digested { AreDigests (digests_in blocks.old) (places_in blocks.old) (pairs_view row.now) }
-    requires spot { IsSpot blocks.old spot }
-    requires gap { IsRankGap digest (view key.now) (places_in blocks.old) (pairs_view row.now) (rank_of blocks.old spot) }
+    requires spot { IsSpot blocks.old gap.spot }
+    requires digest { gap.digest ≡ digest (view key.now) }
+    requires gap { IsRankGap digest (view key.now) (places_in blocks.old) (pairs_view row.now) (rank_of blocks.old gap.spot) }
     ensures ranked { OnOk result ((v : Tree) → AreRanked digest (places_in blocks.new) (pairs_view row.now ++ (view key.now, v) ∷ [])) }
     ensures digested { OnOk result ((v : Tree) → AreDigests (digests_in blocks.new) (places_in blocks.new) (pairs_view row.now ++ (view key.now, v) ∷ [])) }
     ensures same { OnErr result (joined blocks.new ≡ joined blocks.old) }
 {
     let next = Entry {
-        digest: digest(key),
+        digest: gap.digest,
         place: row.len() / 2,
     };
-    blocks.insert(spot, next)?;
+    blocks.insert(gap.spot, next)?;
     Ok(())
 }
 
@@ -83,13 +83,26 @@ impl Ranks {
         }
     }
 
-    /// The first spot at which the key's place may be, and how many spots to search from there.
+    /// The digest by which a key is searched for; 0 where no digests are kept.
     #[inline(always)]
-    pub(crate) fn window(&self, probe: Probe<'_>, compared: &mut Count) -> (Spot, usize)
+    pub(crate) fn digest(&self, probe: Probe<'_>) -> u64
+        ensures digest { result ≡ first_by self.now.kept (probed probe.entry) }
+        ensures next { result + 1 < 2 ^ 64 }
+    {
+        match &self.kept {
+            Kept::Few(_) => 0,
+            Kept::Many(_) => probe.digest(),
+        }
+    }
+
+    /// The first spot at which the place of a key with this digest may be, and how many spots to search from there.
+    #[inline(always)]
+    pub(crate) fn window(&self, digest: u64, compared: &mut Count) -> (Spot, usize)
+        requires next { digest + 1 < 2 ^ 64 }
         requires rising { HaveRising self.now.kept }
         requires fits { length (places self.now.kept) < 2 ^ 63 }
         ensures spot { HasSpot self.now.kept result.0 }
-        ensures window { IsWindow self.now.kept (probed probe.entry) (rank_at self.now.kept result.0) result.1 }
+        ensures window { (k : Tree) → digest ≡ first_by self.now.kept k → IsWindow self.now.kept k (rank_at self.now.kept result.0) result.1 }
         ensures compared { RisesWithin compared.old (4 * binary_digits (length (places self.now.kept)) + 1) compared.new }
     {
         match &self.kept {
@@ -100,7 +113,7 @@ impl Ranks {
                 };
                 (first, few.len())
             }
-            Kept::Many(blocks) => blocks.narrowed(probe.digest(), compared),
+            Kept::Many(blocks) => blocks.narrowed(digest, compared),
         }
     }
 
@@ -134,18 +147,19 @@ impl Ranks {
         }
     }
 
-    /// Adds the place of the next pair of a row, whose key belongs at this spot. An `Err` comes only if memory was
+    /// Adds the place of the next pair of a row, whose key belongs in this gap. An `Err` comes only if memory was
     /// refused, and then all is as it was.
     pub(crate) fn insert(
         &mut self,
         alloc: Global,
         row: &[Yaml],
-        spot: Spot,
+        gap: Gap,
         key: &Yaml,
     ) -> Result<(), AllocError>
         requires indexed { IsIndexed (items_view row.now) self.old.kept }
-        requires spot { HasSpot self.old.kept spot }
-        requires gap { IsRankGap (first_by self.old.kept) (view key.now) (places self.old.kept) (pairs_view row.now) (rank_at self.old.kept spot) }
+        requires spot { HasSpot self.old.kept gap.spot }
+        requires digest { gap.digest ≡ first_by self.old.kept (view key.now) }
+        requires gap { IsRankGap (first_by self.old.kept) (view key.now) (places self.old.kept) (pairs_view row.now) (rank_at self.old.kept gap.spot) }
         ensures ranked { OnOk result ((v : Tree) → AreRanked (first_by self.new.kept) (places self.new.kept) (pairs_view row.now ++ (view key.now, v) ∷ [])) }
         ensures digests { OnOk result ((v : Tree) → AreDigests (digests self.new.kept) (places self.new.kept) (pairs_view row.now ++ (view key.now, v) ∷ [])) }
         ensures same { OnErr result (IsIndexed (items_view row.now) self.new.kept) }
@@ -153,7 +167,7 @@ impl Ranks {
         match &mut self.kept {
             Kept::Few(few) if few.len() < ROOM => {
                 let place = few.len() as u8;
-                few.insert(spot.offset, place);
+                few.insert(gap.spot.offset, place);
                 Ok(())
             }
             Kept::Few(_) => {
@@ -162,7 +176,7 @@ impl Ranks {
                 *self = ranks;
                 Ok(())
             }
-            Kept::Many(blocks) => put(blocks, row, spot, key),
+            Kept::Many(blocks) => put(blocks, row, gap, key),
         }
     }
 
@@ -176,13 +190,13 @@ impl Ranks {
         ensures many { OnOk result (HasDigests self.new.kept) }
     {
         let mut steps = Steps::new();
-        let Err(spot) = search(row, self, Probe::Node(key), &mut steps) else {
+        let Err(gap) = search(row, self, Probe::Node(key), &mut steps) else {
             unreachable!()
         };
         let Kept::Many(blocks) = &mut self.kept else {
             unreachable!()
         };
-        put(blocks, row, spot, key)
+        put(blocks, row, gap, key)
     }
 
     /// Removes the place at a spot; the places above it fall by one.

@@ -8,25 +8,26 @@ ghost use Rattle.yaml_tree.specs.Ranked.{AreRanked, IsRankGap};
 ghost use Rattle.yaml_tree.specs.View.{view, items_view, pairs_view};
 
 use crate::ranks::Ranks;
+use crate::search::Gap;
 use crate::yaml::Yaml;
-use yaml_hash_index::Spot;
 
 // Room that the first pair takes: most hashes have no more than four pairs.
 const FIRST_ROOM: usize = 8;
 
-/// Adds a pair at the end, and its place at a spot. An `Err` comes only if memory was refused; then both
+/// Adds a pair at the end, and its place in a gap. An `Err` comes only if memory was refused; then both
 /// are as they were, and the pair is handed back.
 #[inline(always)]
 pub(crate) fn add(
     row: &mut Vec<Yaml>,
     ranks: &mut Ranks,
-    spot: Spot,
+    gap: Gap,
     key: Yaml,
     value: Yaml,
 ) -> Result<(), (Yaml, Yaml)>
     requires indexed { IsIndexed (items_view row.old.items) ranks.old.kept }
-    requires spot { HasSpot ranks.old.kept spot }
-    requires gap { IsRankGap (first_by ranks.old.kept) (view key) (places ranks.old.kept) (pairs_view row.old.items) (rank_at ranks.old.kept spot) }
+    requires spot { HasSpot ranks.old.kept gap.spot }
+    requires digest { gap.digest ≡ first_by ranks.old.kept (view key) }
+    requires gap { IsRankGap (first_by ranks.old.kept) (view key) (places ranks.old.kept) (pairs_view row.old.items) (rank_at ranks.old.kept gap.spot) }
     ensures row { OnOk result (row.new.items ≡ row.old.items ++ key ∷ value ∷ []) }
     ensures ranked { OnOk result ((v : Tree) → AreRanked (first_by ranks.new.kept) (places ranks.new.kept) (pairs_view row.old.items ++ (view key, v) ∷ [])) }
     ensures digests { OnOk result ((v : Tree) → AreDigests (digests ranks.new.kept) (places ranks.new.kept) (pairs_view row.old.items ++ (view key, v) ∷ [])) }
@@ -39,7 +40,7 @@ pub(crate) fn add(
         return Err((key, value));
     }
     let alloc = *row.allocator();
-    if ranks.insert(alloc, row.as_slice(), spot, &key).is_err() {
+    if ranks.insert(alloc, row.as_slice(), gap, &key).is_err() {
         return Err((key, value));
     }
     row.push_reserved(key);

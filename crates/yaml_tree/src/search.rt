@@ -16,6 +16,13 @@ use crate::yaml::Yaml;
 use std::cmp::Ordering;
 use yaml_hash_index::Spot;
 
+/// The spot that a key would have, and its digest if digests are kept.
+#[derive(Clone, Copy)]
+pub(crate) struct Gap {
+    pub(crate) spot: Spot,
+    pub(crate) digest: u64,
+}
+
 /// What is looked up: a key, or the key `String` with a text.
 #[derive(Clone, Copy)]
 pub(crate) enum Probe<'a> {
@@ -58,23 +65,25 @@ impl<'a> Probe<'a> {
     }
 }
 
-/// The spot of a key as `Ok`, or as `Err` the spot that it would have if no pair has it.
+/// The spot of a key as `Ok`, or as `Err` the gap that it would fill if no pair has it.
 pub(crate) fn search(
     row: &[Yaml],
     ranks: &Ranks,
     probe: Probe<'_>,
     steps: &mut Steps,
-) -> Result<Spot, Spot>
+) -> Result<Spot, Gap>
     requires { IsIndexed (items_view row.now) ranks.now.kept }
     ensures place { IfOk result (λ s. HasPlace ranks.now.kept s) }
     ensures found { IfOk result (λ s. IsRank (probed probe.entry) (places ranks.now.kept) (pairs_view row.now) (rank_at ranks.now.kept s)) }
-    ensures spot { IfErr result (λ s. HasSpot ranks.now.kept s) }
-    ensures missing { IfErr result (λ s. IsRankGap (first_by ranks.now.kept) (probed probe.entry) (places ranks.now.kept) (pairs_view row.now) (rank_at ranks.now.kept s)) }
+    ensures spot { IfErr result (λ g. HasSpot ranks.now.kept g.spot) }
+    ensures missing { IfErr result (λ g. IsRankGap (first_by ranks.now.kept) (probed probe.entry) (places ranks.now.kept) (pairs_view row.now) (rank_at ranks.now.kept g.spot)) }
+    ensures digest { IfErr result (λ g. g.digest ≡ first_by ranks.now.kept (probed probe.entry)) }
     ensures keys { RisesWithin steps.old.keys (binary_digits (length (places ranks.now.kept))) steps.new.keys }
     ensures digests { RisesWithin steps.old.digests (4 * binary_digits (length (places ranks.now.kept)) + 1) steps.new.digests }
 {
     let probe = probe.plain();
-    let (mut low, mut count) = ranks.window(probe, &mut steps.digests);
+    let digest = ranks.digest(probe);
+    let (mut low, mut count) = ranks.window(digest, &mut steps.digests);
     while 0 < count {
         let half = count / 2;
         let middle = ranks.advanced(low, half);
@@ -91,5 +100,5 @@ pub(crate) fn search(
             Ordering::Equal => return Ok(middle),
         }
     }
-    Err(low)
+    Err(Gap { spot: low, digest })
 }

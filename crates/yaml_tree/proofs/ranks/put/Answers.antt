@@ -17,9 +17,9 @@ use Rattle.yaml_tree.proofs.ranks.put.Goals as goal
 pub returns-clause-ranked : goal.returns-clause-ranked
 returns-clause-ranked c =
     let bs = c.args.blocks.now in
-    let r = rank_of bs c.args.spot in
+    let r = rank_of bs c.args.gap.spot in
     let ps = pairs_view c.args.row.now in
-    let next : Entry = record { digest = c.digest.result; place = length c.args.row.now / 2 } in
+    let next : Entry = record { digest = c.args.gap.digest; place = length c.args.row.now / 2 } in
     let count : length c.args.row.now / 2 ≡ length (places_in bs) = omega (arith, row_length c.args.row.now ps c.requires.hash.even, c.requires.hash.ranked.counted) in
     let rs = ap (map place_of_entry) (c.in_ok-insert.ensures {u = tt}).ok ∙ map-insert place_of_entry (joined bs) r next ∙ ap (insert (places_in bs) r) count in
     λ v. subst (λ qs. AreRanked digest qs (ps ++ (view c.args.key.now, v) ∷ [])) (sym rs) (ranked_added (places_in bs) ps r (view c.args.key.now) v c.requires.hash.ranked c.requires.gap)
@@ -27,15 +27,15 @@ returns-clause-ranked c =
 pub returns-clause-digested : goal.returns-clause-digested
 returns-clause-digested c =
     let bs = c.args.blocks.now in
-    let r = rank_of bs c.args.spot in
+    let r = rank_of bs c.args.gap.spot in
     let k = view c.args.key.now in
     let ps = pairs_view c.args.row.now in
-    let next : Entry = record { digest = c.digest.result; place = length c.args.row.now / 2 } in
+    let next : Entry = record { digest = c.args.gap.digest; place = length c.args.row.now / 2 } in
     let put = (c.in_ok-insert.ensures {u = tt}).ok in
     let count : length c.args.row.now / 2 ≡ length (places_in bs) = omega (arith, row_length c.args.row.now ps c.requires.hash.even, c.requires.hash.ranked.counted) in
     let counted : length (digests_in bs) ≡ length (places_in bs) = omega (arith, length-map (joined bs) digest_of_entry, length-map (joined bs) place_of_entry) in
-    let within = rank_within bs c.args.spot.block c.args.spot.offset c.requires.spot.1 in
+    let within = rank_within bs c.args.gap.spot.block c.args.gap.spot.offset c.requires.spot.1 in
     λ v. subst (λ es. AreDigests (map digest_of_entry es) (map place_of_entry es) (ps ++ (k, v) ∷ [])) (sym put)
     (subst (λ ms. AreDigests ms (map place_of_entry (insert (joined bs) r next)) (ps ++ (k, v) ∷ [])) (sym (map-insert digest_of_entry (joined bs) r next))
-    (subst (λ rs. AreDigests (insert (digests_in bs) r c.digest.result) rs (ps ++ (k, v) ∷ [])) (sym (map-insert place_of_entry (joined bs) r next ∙ ap (insert (places_in bs) r) count))
-    (digested_added (digests_in bs) (places_in bs) ps r c.digest.result k v counted (omega (arith, within, length-map (joined bs) place_of_entry)) c.requires.hash.ranked.counted c.requires.hash.ranked.within c.requires.digested c.digest.ensures.digest)))
+    (subst (λ rs. AreDigests (insert (digests_in bs) r c.args.gap.digest) rs (ps ++ (k, v) ∷ [])) (sym (map-insert place_of_entry (joined bs) r next ∙ ap (insert (places_in bs) r) count))
+    (digested_added (digests_in bs) (places_in bs) ps r c.args.gap.digest k v counted (omega (arith, within, length-map (joined bs) place_of_entry)) c.requires.hash.ranked.counted c.requires.hash.ranked.within c.requires.digested c.requires.digest)))

@@ -26,7 +26,7 @@ pub loop-count-init : goal.loop-count-init
 loop-count-init c =
     let k = probed c.plain-probe.result in
     let count = c.window-count.result.1 in
-    let left = window_leaves c.args.ranks.now.kept k (pairs_view c.args.row.now) (rank_at c.args.ranks.now.kept c.window-count.result.0) count c.requires.hash.ranked c.requires.digested c.window-count.ensures.window in
+    let left = window_leaves c.args.ranks.now.kept k (pairs_view c.args.row.now) (rank_at c.args.ranks.now.kept c.window-count.result.0) count c.requires.hash.ranked c.requires.digested (c.window-count.ensures.window k c.digest-digest.ensures.digest) in
     record {
       spot = c.window-count.ensures.spot;
       within = left.within;

@@ -60,30 +60,30 @@ returns-in-Ok-clause-old c =
 pub returns-in_err-add-in-Err-clause-only_at_growth : goal.returns-in_err-add-in-Err-clause-only_at_growth
 returns-in_err-add-in-Err-clause-only_at_growth c =
     let k = view c.args.key in
-    let gap = subst (λ ys. IsRankGap (first_by c.self.inside.ranks.kept) k (places c.self.inside.ranks.kept) (pairs_view ys) (rank_at c.self.inside.ranks.kept c.in-Err.spot)) c.as_slice.ensures.value (c.in-Err.ensures {u = tt}).missing in
+    let gap = subst (λ ys. IsRankGap (first_by c.self.inside.ranks.kept) k (places c.self.inside.ranks.kept) (pairs_view ys) (rank_at c.self.inside.ranks.kept c.in-Err.gap.spot)) c.as_slice.ensures.value (c.in-Err.ensures {u = tt}).missing in
     let away : lookup k c.args.self.now ≡ None =
-    (absent k c.args.self.now (gap_place k c.self.inside.row.items c.args.self.now (places c.self.inside.ranks.kept) (rank_at c.self.inside.ranks.kept c.in-Err.spot) c.self.invariant.hash c.self.view_is gap)).unfound in
+    (absent k c.args.self.now (gap_place k c.self.inside.row.items c.args.self.now (places c.self.inside.ranks.kept) (rank_at c.self.inside.ranks.kept c.in-Err.gap.spot) c.self.invariant.hash c.self.view_is gap)).unfound in
     always c.from_residual.result away
 
 pub invariant_of-self-in-Err : goal.invariant_of-self-in-Err
 invariant_of-self-in-Err c =
     let k = view c.args.key in
-    let gap = subst (λ ys. IsRankGap (first_by c.self.inside.ranks.kept) k (places c.self.inside.ranks.kept) (pairs_view ys) (rank_at c.self.inside.ranks.kept c.in-Err.spot)) c.as_slice.ensures.value (c.in-Err.ensures {u = tt}).missing in
+    let gap = subst (λ ys. IsRankGap (first_by c.self.inside.ranks.kept) k (places c.self.inside.ranks.kept) (pairs_view ys) (rank_at c.self.inside.ranks.kept c.in-Err.gap.spot)) c.as_slice.ensures.value (c.in-Err.ensures {u = tt}).missing in
     let ys = c.self.inside.row.items in
-    indexed_added k (view c.args.value) ys _ c.self.inside.ranks.kept _ c.self.invariant (rank_at c.self.inside.ranks.kept c.in-Err.spot) gap
-    (row_added ys _ (pairs_view ys) (places c.self.inside.ranks.kept) (rank_at c.self.inside.ranks.kept c.in-Err.spot) c.args.key c.args.value c.self.invariant.hash refl gap (c.in_ok-add-in-Err.ensures {u = tt}).row)
+    indexed_added k (view c.args.value) ys _ c.self.inside.ranks.kept _ c.self.invariant (rank_at c.self.inside.ranks.kept c.in-Err.gap.spot) gap
+    (row_added ys _ (pairs_view ys) (places c.self.inside.ranks.kept) (rank_at c.self.inside.ranks.kept c.in-Err.gap.spot) c.args.key c.args.value c.self.invariant.hash refl gap (c.in_ok-add-in-Err.ensures {u = tt}).row)
     ((c.in_ok-add-in-Err.ensures {u = tt}).ranked (view c.args.value))
     ((c.in_ok-add-in-Err.ensures {u = tt}).digests (view c.args.value))
 
 pub returns-clause-pairs : goal.returns-clause-pairs
 returns-clause-pairs c =
     let k = view c.args.key in
-    let gap = subst (λ ys. IsRankGap (first_by c.self.inside.ranks.kept) k (places c.self.inside.ranks.kept) (pairs_view ys) (rank_at c.self.inside.ranks.kept c.in-Err.spot)) c.as_slice.ensures.value (c.in-Err.ensures {u = tt}).missing in
+    let gap = subst (λ ys. IsRankGap (first_by c.self.inside.ranks.kept) k (places c.self.inside.ranks.kept) (pairs_view ys) (rank_at c.self.inside.ranks.kept c.in-Err.gap.spot)) c.as_slice.ensures.value (c.in-Err.ensures {u = tt}).missing in
     seen_as _ (insert k (view c.args.value) c.args.self.now)
-    (row_added c.self.inside.row.items _ c.args.self.now (places c.self.inside.ranks.kept) (rank_at c.self.inside.ranks.kept c.in-Err.spot) c.args.key c.args.value c.self.invariant.hash c.self.view_is gap (c.in_ok-add-in-Err.ensures {u = tt}).row)
+    (row_added c.self.inside.row.items _ c.args.self.now (places c.self.inside.ranks.kept) (rank_at c.self.inside.ranks.kept c.in-Err.gap.spot) c.args.key c.args.value c.self.invariant.hash c.self.view_is gap (c.in_ok-add-in-Err.ensures {u = tt}).row)
 
 pub returns-clause-old : goal.returns-clause-old
 returns-clause-old c =
     let k = view c.args.key in
-    let gap = subst (λ ys. IsRankGap (first_by c.self.inside.ranks.kept) k (places c.self.inside.ranks.kept) (pairs_view ys) (rank_at c.self.inside.ranks.kept c.in-Err.spot)) c.as_slice.ensures.value (c.in-Err.ensures {u = tt}).missing in
-    sym (absent k c.args.self.now (gap_place k c.self.inside.row.items c.args.self.now (places c.self.inside.ranks.kept) (rank_at c.self.inside.ranks.kept c.in-Err.spot) c.self.invariant.hash c.self.view_is gap)).unfound
+    let gap = subst (λ ys. IsRankGap (first_by c.self.inside.ranks.kept) k (places c.self.inside.ranks.kept) (pairs_view ys) (rank_at c.self.inside.ranks.kept c.in-Err.gap.spot)) c.as_slice.ensures.value (c.in-Err.ensures {u = tt}).missing in
+    sym (absent k c.args.self.now (gap_place k c.self.inside.row.items c.args.self.now (places c.self.inside.ranks.kept) (rank_at c.self.inside.ranks.kept c.in-Err.gap.spot) c.self.invariant.hash c.self.view_is gap)).unfound

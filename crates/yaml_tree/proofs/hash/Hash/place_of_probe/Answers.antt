@@ -15,8 +15,8 @@ returns-in-Ok-clause-place c =
 
 pub returns-in-Err-clause-place : goal.returns-in-Err-clause-place
 returns-in-Err-clause-place c =
-    gap_place (probed c.args.probe) c.self.inside.row.items c.args.self.now (places c.self.inside.ranks.kept) (rank_at c.self.inside.ranks.kept c.in-Err.field-0) c.self.invariant.hash c.self.view_is
-    (subst (λ ys. IsRankGap (first_by c.self.inside.ranks.kept) (probed c.args.probe) (places c.self.inside.ranks.kept) (pairs_view ys) (rank_at c.self.inside.ranks.kept c.in-Err.field-0)) c.as_slice.ensures.value (c.in-Err.ensures {u = tt}).missing)
+    gap_place (probed c.args.probe) c.self.inside.row.items c.args.self.now (places c.self.inside.ranks.kept) (rank_at c.self.inside.ranks.kept c.in-Err.field-0.spot) c.self.invariant.hash c.self.view_is
+    (subst (λ ys. IsRankGap (first_by c.self.inside.ranks.kept) (probed c.args.probe) (places c.self.inside.ranks.kept) (pairs_view ys) (rank_at c.self.inside.ranks.kept c.in-Err.field-0.spot)) c.as_slice.ensures.value (c.in-Err.ensures {u = tt}).missing)
 
 pub returns-in-Ok-clause-distinct : goal.returns-in-Ok-clause-distinct
 returns-in-Ok-clause-distinct c = subst AreDistinct c.self.view_is c.self.invariant.hash.distinct

@@ -12,14 +12,14 @@ use Rattle.yaml_tree.proofs.hash.Hash.remove.Goals as goal
 pub returns-in_default-clause-pairs : goal.returns-in_default-clause-pairs
 returns-in_default-clause-pairs c =
     let k = view c.args.key.now in
-    let gap = subst (λ ys. IsRankGap (first_by c.self.inside.ranks.kept) k (places c.self.inside.ranks.kept) (pairs_view ys) (rank_at c.self.inside.ranks.kept c.in_default.field-0)) c.as_slice.ensures.value (c.in_default.ensures {u = tt}).missing in
-    sym (absent k c.args.self.now (gap_place k c.self.inside.row.items c.args.self.now (places c.self.inside.ranks.kept) (rank_at c.self.inside.ranks.kept c.in_default.field-0) c.self.invariant.hash c.self.view_is gap)).same
+    let gap = subst (λ ys. IsRankGap (first_by c.self.inside.ranks.kept) k (places c.self.inside.ranks.kept) (pairs_view ys) (rank_at c.self.inside.ranks.kept c.in_default.field-0.spot)) c.as_slice.ensures.value (c.in_default.ensures {u = tt}).missing in
+    sym (absent k c.args.self.now (gap_place k c.self.inside.row.items c.args.self.now (places c.self.inside.ranks.kept) (rank_at c.self.inside.ranks.kept c.in_default.field-0.spot) c.self.invariant.hash c.self.view_is gap)).same
 
 pub returns-in_default-clause-value : goal.returns-in_default-clause-value
 returns-in_default-clause-value c =
     let k = view c.args.key.now in
-    let gap = subst (λ ys. IsRankGap (first_by c.self.inside.ranks.kept) k (places c.self.inside.ranks.kept) (pairs_view ys) (rank_at c.self.inside.ranks.kept c.in_default.field-0)) c.as_slice.ensures.value (c.in_default.ensures {u = tt}).missing in
-    sym (absent k c.args.self.now (gap_place k c.self.inside.row.items c.args.self.now (places c.self.inside.ranks.kept) (rank_at c.self.inside.ranks.kept c.in_default.field-0) c.self.invariant.hash c.self.view_is gap)).unfound
+    let gap = subst (λ ys. IsRankGap (first_by c.self.inside.ranks.kept) k (places c.self.inside.ranks.kept) (pairs_view ys) (rank_at c.self.inside.ranks.kept c.in_default.field-0.spot)) c.as_slice.ensures.value (c.in_default.ensures {u = tt}).missing in
+    sym (absent k c.args.self.now (gap_place k c.self.inside.row.items c.args.self.now (places c.self.inside.ranks.kept) (rank_at c.self.inside.ranks.kept c.in_default.field-0.spot) c.self.invariant.hash c.self.view_is gap)).unfound
 
 pub take-requires : goal.take-requires
 take-requires c =

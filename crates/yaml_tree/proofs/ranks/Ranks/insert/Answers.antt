@@ -10,15 +10,15 @@ use Rattle.yaml_tree.proofs.ranks.Ranks.insert.Goals as goal
 
 pub add-requires-clause-absent : goal.add-requires-clause-absent
 add-requires-clause-absent c =
-    gap_none (view c.args.key.now) (places c.args.self.now.kept) (pairs_view c.args.row.now) c.requires.indexed.hash.ranked (rank_at c.args.self.now.kept c.args.spot) c.requires.gap
+    gap_none (view c.args.key.now) (places c.args.self.now.kept) (pairs_view c.args.row.now) c.requires.indexed.hash.ranked (rank_at c.args.self.now.kept c.args.gap.spot) c.requires.gap
 
 pub returns-in-Few-clause-ranked : goal.returns-in-Few-clause-ranked
 returns-in-Few-clause-ranked c =
     let few = c.in-Few.few in
-    let at = c.args.spot.offset in
+    let at = c.args.gap.spot.offset in
     let k = view c.args.key.now in
     let ps = pairs_view c.args.row.now in
     let ranked = subst (λ o. AreRanked (first_by o) (places o) ps) c.in-Few.is c.requires.indexed.hash.ranked in
-    let gap = subst (λ o. IsRankGap (first_by o) k (places o) ps (rank_at o c.args.spot)) c.in-Few.is c.requires.gap in
+    let gap = subst (λ o. IsRankGap (first_by o) k (places o) ps (rank_at o c.args.gap.spot)) c.in-Few.is c.requires.gap in
     let rs = c.insert.ensures ∙ ap (insert few at) c.len-place.ensures.count in
     λ v. subst (λ qs. AreRanked (first_by (Few few)) qs (ps ++ (k, v) ∷ [])) (sym rs) (ranked_added few ps at k v ranked gap)

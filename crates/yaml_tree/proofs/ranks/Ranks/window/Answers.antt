@@ -10,5 +10,5 @@ narrowed-requires-clause-rising c = subst (λ bs. AreRising (joined bs)) (sym c.
 pub returns-in-Many-clause-window : goal.returns-in-Many-clause-window
 returns-in-Many-clause-window c =
     let bs = c.in-Many.blocks.value in
-    rw c.in-Many.is (subst (λ m. IsNarrowed (joined bs) m (rank_of bs c.narrowed.result.0) c.narrowed.result.1) c.digest.ensures.digest
-    (subst (λ xs. IsNarrowed (joined xs) c.digest.result (rank_of xs c.narrowed.result.0) c.narrowed.result.1) c.deref.ensures c.narrowed.ensures.narrowed))
+    rw c.in-Many.is (λ k e. subst (λ m. IsNarrowed (joined bs) m (rank_of bs c.narrowed.result.0) c.narrowed.result.1) e
+    (subst (λ xs. IsNarrowed (joined xs) c.args.digest (rank_of xs c.narrowed.result.0) c.narrowed.result.1) c.deref.ensures c.narrowed.ensures.narrowed))
