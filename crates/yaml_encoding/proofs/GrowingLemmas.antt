@@ -1,5 +1,5 @@
 -- Lemmas about strings that grow.
-use Rattle.std.proofs.Common.{◌≡◌, ℕ, ◌<◌, ◌^◌, List, ◌++◌, ap, ◌∙◌}
+use Rattle.std.proofs.Common.{◌≡◌, ℕ, ◌<◌, ◌^◌, List, [], ◌∷◌, ◌++◌, ap, ◌∙◌}
 use Rattle.std.specs.Prelude.{String, string_bytes, decimal}
 use Rattle.std.specs.Str.{chars}
 use Rattle.std.proofs.lemmas.Str.{chars-append, chars-IsAscii, IsUtf8-string_bytes}
@@ -12,3 +12,7 @@ text_pushed s t more e = ap chars e ∙ chars-append (string_bytes s) more (IsUt
 
 pub number_pushed : {A : Type 0} (s t : String A) (n : ℕ) → n < 2 ^ 64 → string_bytes t ≡ string_bytes s ++ decimal n → string_chars t ≡ string_chars s ++ decimal n
 number_pushed s t n fits e = text_pushed s t (decimal n) e ∙ ap (λ cs. string_chars s ++ cs) (chars-IsAscii (decimal n) (IsAscii-decimal n fits))
+
+pub replacement_pushed : (s t : List ℕ) → t ≡ s ++ chars (0xEF ∷ 0xBF ∷ 0xBD ∷ []) → t ≡ s ++ 0xFFFD ∷ []
+unfolding chars
+replacement_pushed s t e = e

@@ -6,4 +6,4 @@ pub mod MalformationLemmas
 pub mod PartsLemmas
 pub mod ReadLemmas
 pub mod TrapLemmas
-pub mod AsciiLemmas
+pub mod ValidLemmas

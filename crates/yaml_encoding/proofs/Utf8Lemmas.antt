@@ -78,7 +78,7 @@ Trails-start (b ∷ r) bits low high after some e few above = record {
 }
 
 -- a byte in its range
-stays : (n bits : ℕ) (range : Range) (ranges : List Range) (b : ℕ) (r : List ℕ) → is_between (range.low) (range.high) b ≡ true
+pub stays : (n bits : ℕ) (range : Range) (ranges : List Range) (b : ℕ) (r : List ℕ) → is_between (range.low) (range.high) b ≡ true
     → sequence_from n bits (range ∷ ranges) (b ∷ r) ≡ sequence_from (suc n) (bits * 64 + (b - 0x80)) ranges r
 stays n bits range ranges b r e = rw e refl
 
@@ -86,7 +86,7 @@ leaves : (n bits : ℕ) (range : Range) (ranges : List Range) (b : ℕ) (r : Lis
     → sequence_from n bits (range ∷ ranges) (b ∷ r) ≡ malformed n 0
 leaves n bits range ranges b r e = rw e refl
 
-inside : (low high b : ℕ) → low ≤ b → b ≤ high → is_between low high b ≡ true
+pub inside : (low high b : ℕ) → low ≤ b → b ≤ high → is_between low high b ≡ true
 inside low high b l h = grind (arith, nat_tests)
 
 outside : (low high b : ℕ) → (b < low) ⊎ (high < b) → is_between low high b ≡ false

@@ -1,4 +1,3 @@
-pub mod Ascii
 pub mod Decoding
 pub mod Front
 pub mod Trails

@@ -1,12 +1,13 @@
 //! The encoding of an input, by its byte order mark or its first two bytes.
-ghost use Rattle.std.specs.Prelude.{◌≡◌, ◌<◌, ◌≤◌, length};
-ghost use Rattle.yaml_encoding.specs.Decoding.{chosen, unmarked, reading};
+ghost use Rattle.std.specs.Prelude.{◌≡◌, ◌<◌, ◌≤◌, length, take};
+ghost use Rattle.yaml_encoding.specs.Decoding.{chosen, unmarked, reading, utf_8};
 ghost use Rattle.yaml_encoding.specs.Encodings.{encoding_of};
 ghost use Rattle.yaml_encoding.specs.Front.{front, sequence_of};
 
 use crate::sequence::Sequence;
 use crate::utf_8::utf_8_sequence;
 use crate::utf_16::{ByteOrder, utf_16_sequence};
+use crate::valid::valid_text;
 
 /// How an input is read.
 #[derive(Clone, Copy)]
@@ -24,6 +25,19 @@ impl Encoding {
         match self {
             Encoding::Utf8 => utf_8_sequence(input),
             Encoding::Utf16(order) => utf_16_sequence(order, input),
+        }
+    }
+
+    /// The text with which an input begins as it stands, up to so many bytes or the first malformation. In UTF-16 it is
+    /// empty.
+    pub fn text(self, input: &[u8], size: usize) -> &str
+        ensures there { length result.now ≤ length input.now }
+        ensures value { result.now ≡ take (length result.now) input.now }
+        ensures encoding { 0 < length result.now → encoding_of self ≡ utf_8 }
+    {
+        match self {
+            Encoding::Utf8 => valid_text(input, size),
+            Encoding::Utf16(_) => "",
         }
     }
 }

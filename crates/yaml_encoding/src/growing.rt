@@ -29,3 +29,11 @@ pub(crate) fn push_text(text: &mut String, more: &str) -> Result<(), AllocError>
 {
     text.push_str(more)
 }
+
+/// Appends the replacement character, by its bytes.
+#[tactic(auto, using(crate::proofs::GrowingLemmas::replacement_pushed))]
+pub(crate) fn push_replacement(text: &mut String) -> Result<(), AllocError>
+    ensures { OnOk result (string_chars text.new ≡ string_chars text.old ++ 0xFFFD ∷ []) }
+{
+    push_text(text, "\u{FFFD}")
+}

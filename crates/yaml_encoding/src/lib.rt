@@ -2,7 +2,6 @@
 //! of these.
 #![tactic(auto)]
 
-mod ascii;
 mod encoding;
 mod growing;
 mod malformation;
@@ -13,6 +12,7 @@ pub mod text;
 pub mod trap;
 mod utf_16;
 mod utf_8;
+mod valid;
 
 pub use stop::Stop;
 pub use text::text_of;

@@ -5,7 +5,7 @@ ghost use Rattle.yaml_encoding.specs.Decoding.{message, message_or, stopped};
 ghost use Rattle.yaml_encoding.specs.Outcomes.{StopIs, LeftIs};
 ghost use Rattle.yaml_encoding.specs.Steps.{IsStep, steps_by, Stepped};
 
-use crate::growing::push;
+use crate::growing::push_replacement;
 use crate::message::message;
 use crate::stop::Stop;
 use crate::trap::{YAMLDecodingTrap, YAMLDecodingTrapFn};
@@ -77,7 +77,7 @@ pub(crate) fn trapped(
     match trap {
         YAMLDecodingTrap::Ignore => Ok(()),
         YAMLDecodingTrap::Replace => {
-            push(text, '\u{FFFD}')?;
+            push_replacement(text)?;
             Ok(())
         }
         YAMLDecodingTrap::Strict => Err(stop(alloc, malformation, input)),

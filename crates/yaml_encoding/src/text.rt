@@ -6,31 +6,28 @@ ghost use Rattle.yaml_encoding.specs.Encodings.{encoding_of};
 ghost use Rattle.yaml_encoding.specs.Outcomes.{OutcomeIs, Passes};
 ghost use Rattle.yaml_encoding.specs.Steps.{IsStep, steps_by};
 
-use crate::ascii::read_run;
 use crate::encoding::{Encoding, chosen_encoding};
-use crate::growing::push;
+use crate::growing::{push, push_text};
 use crate::malformation::{Malformation, trapped};
 use crate::stop::Stop;
 use crate::trap::YAMLDecodingTrap;
+use crate::valid::{FIRST, next_size};
 use std::alloc::Global;
 
-/// Reads some of an input at a position, and returns the position after it: in UTF-8 a run of ASCII bytes if one begins
-/// there, else one part.
+/// Reads some of an input at a position, and returns the position after it: a malformation or a character, in UTF-8 with
+/// those after it, as far as so many bytes are a text.
 fn read_some(
     encoding: Encoding,
     trap: YAMLDecodingTrap,
     input: &[u8],
     position: usize,
+    size: usize,
     text: &mut String,
 ) -> Result<usize, Stop>
     requires { position < length input.now }
     ensures { Passes (steps_by (λ f. IsStep (post f.function)) trap) (encoding_of encoding) input.now position (string_chars text.old) (string_chars text.new) result }
 {
     let rest = &input[position..];
-    if matches!(encoding, Encoding::Utf8) && input[position] < 128 {
-        let count = read_run(rest, text)?;
-        return Ok(position + count);
-    }
     let sequence = encoding.sequence(rest);
     let after = position + usize::from(sequence.bytes);
     let Some(c) = sequence.character else {
@@ -44,8 +41,13 @@ fn read_some(
             Err(stop) => Err(stop),
         };
     };
-    push(text, c)?;
-    Ok(after)
+    let valid = encoding.text(rest, size);
+    if valid.is_empty() {
+        push(text, c)?;
+        return Ok(after);
+    }
+    push_text(text, valid)?;
+    Ok(position + valid.len())
 }
 
 /// The text of an input: by calls of the trap at each malformation.
@@ -55,8 +57,11 @@ fn decoded(alloc: Global, input: &[u8], trap: YAMLDecodingTrap) -> Result<String
     let chosen = chosen_encoding(input);
     let mut text = String::with_capacity(alloc, input.len())?;
     let mut position = chosen.mark;
+    let mut size = FIRST;
     'parts: while position < input.len() {
-        position = read_some(chosen.encoding, trap, input, position, &mut text)?;
+        let after = read_some(chosen.encoding, trap, input, position, size, &mut text)?;
+        size = next_size(after - position);
+        position = after;
     }
     Ok(text)
 }

@@ -1,0 +1,154 @@
+-- Lemmas about UTF-8 that is read as it stands.
+use Rattle.std.proofs.Common.{◌≡◌, ℕ, ◌+◌, ◌-◌, ◌*◌, ◌/◌, ◌%◌, ◌≤◌, ◌<◌, ◌⊎◌, true, List, [], ◌∷◌, ◌++◌, Some, length, take, drop, refl, ap, sym, ◌∙◌, arith, inl, inr, add-zero, append-nil, append_assoc, length-drop}
+use Rattle.std.specs.Str.{IsUtf8, chars}
+use Rattle.std.proofs.lemmas.Str.{length-encode, chars-encodes, encode_ascii, len_utf8_bounds, drop_past_char}
+use Rattle.std.proofs.lemmas.Bool.Decides.{nat_tests}
+use Rattle.std.proofs.lemmas.Bool.{cases_lt, and_parts, cond_above, cond_below}
+use mathlib.Core.Logic.{⊎_elim}
+use Rattle.std.proofs.lemmas.List.{length-append, take-append-drop}
+use lib.Utf8.{next, scalar, scalars, scalar_cases, encode, encodes}
+use Rattle.yaml_encoding.specs.Decoding.{Encoding, utf_8, means, Range, any_trail, start_of, utf_8_sequence, Steps}
+use Rattle.yaml_encoding.specs.Front.{front}
+use Rattle.yaml_encoding.specs.Outcomes.{IsRead}
+use Rattle.yaml_encoding.proofs.Utf8Lemmas.{inside, stays}
+use Rattle.yaml_encoding.proofs.ReadLemmas.{passes_character}
+
+-- ---- what each first byte begins
+
+start_1 : (b : ℕ) → b < 128 → start_of b ≡ Some (record { bits = b; after = [] })
+unfolding start_of
+start_1 b h = grind (arith, nat_tests)
+
+at_ED : (b : ℕ) → (b ≡ 0xED) ⊎ ((b < 0xED) ⊎ (0xED < b))
+at_ED b = ⊎_elim (λ h. inr (inl h)) (λ h. ⊎_elim (λ k. inl (omega arith)) (λ k. inr (inr (omega arith))) (cases_lt b 0xEE)) (cases_lt b 0xED)
+
+start_2 : (b : ℕ) → 0xC2 ≤ b → b ≤ 0xDF → start_of b ≡ Some (record { bits = b - 0xC0; after = any_trail ∷ [] })
+unfolding start_of
+start_2 b l h = grind (arith, nat_tests)
+
+start_E0 : (b : ℕ) → b ≡ 0xE0 → start_of b ≡ Some (record { bits = b - 0xE0; after = record { low = 0xA0; high = 0xBF } ∷ any_trail ∷ [] })
+unfolding start_of
+start_E0 b e = rw e refl
+
+start_ED : (b : ℕ) → b ≡ 0xED → start_of b ≡ Some (record { bits = b - 0xE0; after = record { low = 0x80; high = 0x9F } ∷ any_trail ∷ [] })
+unfolding start_of
+start_ED b e = rw e refl
+
+start_3 : (b : ℕ) → 0xE1 ≤ b → b ≤ 0xEF → (b < 0xED) ⊎ (0xED < b) → start_of b ≡ Some (record { bits = b - 0xE0; after = any_trail ∷ any_trail ∷ [] })
+unfolding start_of
+start_3 b l h o = grind (arith, nat_tests)
+
+start_F0 : (b : ℕ) → b ≡ 0xF0 → start_of b ≡ Some (record { bits = b - 0xF0; after = record { low = 0x90; high = 0xBF } ∷ any_trail ∷ any_trail ∷ [] })
+unfolding start_of
+start_F0 b e = rw e refl
+
+start_F4 : (b : ℕ) → b ≡ 0xF4 → start_of b ≡ Some (record { bits = b - 0xF0; after = record { low = 0x80; high = 0x8F } ∷ any_trail ∷ any_trail ∷ [] })
+unfolding start_of
+start_F4 b e = rw e refl
+
+start_4 : (b : ℕ) → 0xF1 ≤ b → b ≤ 0xF3 → start_of b ≡ Some (record { bits = b - 0xF0; after = any_trail ∷ any_trail ∷ any_trail ∷ [] })
+unfolding start_of
+start_4 b l h = grind (arith, nat_tests)
+
+-- ---- sequences whose bytes are in their ranges
+
+one : (b bits : ℕ) (r : List ℕ) → start_of b ≡ Some (record { bits = bits; after = [] }) → utf_8_sequence b r ≡ means 1 bits
+one b bits r e = rw e refl
+
+two : (b bits x : ℕ) (a : Range) (r : List ℕ) → start_of b ≡ Some (record { bits = bits; after = a ∷ [] }) → a.low ≤ x → x ≤ a.high
+    → utf_8_sequence b (x ∷ r) ≡ means 2 (bits * 64 + (x - 0x80))
+two b bits x a r e l h = rw e (stays 1 bits a [] x r (inside (a.low) (a.high) x l h))
+
+three : (b bits x y : ℕ) (a : Range) (r : List ℕ) → start_of b ≡ Some (record { bits = bits; after = a ∷ any_trail ∷ [] }) → a.low ≤ x → x ≤ a.high → 0x80 ≤ y → y ≤ 0xBF
+    → utf_8_sequence b (x ∷ y ∷ r) ≡ means 3 ((bits * 64 + (x - 0x80)) * 64 + (y - 0x80))
+three b bits x y a r e l h m i =
+    rw e (stays 1 bits a (any_trail ∷ []) x (y ∷ r) (inside (a.low) (a.high) x l h) ∙ stays 2 (bits * 64 + (x - 0x80)) any_trail [] y r (inside 0x80 0xBF y m i))
+
+four : (b bits x y z : ℕ) (a : Range) (r : List ℕ) → start_of b ≡ Some (record { bits = bits; after = a ∷ any_trail ∷ any_trail ∷ [] }) → a.low ≤ x → x ≤ a.high → 0x80 ≤ y → y ≤ 0xBF → 0x80 ≤ z → z ≤ 0xBF
+    → utf_8_sequence b (x ∷ y ∷ z ∷ r) ≡ means 4 (((bits * 64 + (x - 0x80)) * 64 + (y - 0x80)) * 64 + (z - 0x80))
+four b bits x y z a r e l h m i n j =
+    rw e (stays 1 bits a (any_trail ∷ any_trail ∷ []) x (y ∷ z ∷ r) (inside (a.low) (a.high) x l h) ∙ stays 2 (bits * 64 + (x - 0x80)) any_trail (any_trail ∷ []) y (z ∷ r) (inside 0x80 0xBF y m i) ∙ stays 3 ((bits * 64 + (x - 0x80)) * 64 + (y - 0x80)) any_trail [] z r (inside 0x80 0xBF z n j))
+
+-- ---- an encoded character is read as it
+
+front_2 : (c b x : ℕ) (r : List ℕ) → 128 ≤ c → c < 2048 → b ≡ 192 + c / 64 → x ≡ 128 + c % 64 → utf_8_sequence b (x ∷ r) ≡ means 2 c
+front_2 c b x r l h e f =
+    let v : (b - 0xC0) * 64 + (x - 0x80) ≡ c = omega arith in
+    two b (b - 0xC0) x any_trail r (start_2 b (omega arith) (omega arith)) (omega arith) (omega arith) ∙ ap (λ n. means 2 n) v
+
+front_3 : (c b x y : ℕ) (r : List ℕ) → 2048 ≤ c → c < 65536 → (c < 55296) ⊎ (57344 ≤ c) → b ≡ 224 + c / 4096 → x ≡ 128 + c / 64 % 64 → y ≡ 128 + c % 64
+    → utf_8_sequence b (x ∷ y ∷ r) ≡ means 3 c
+front_3 c b x y r l h s e f g =
+    let v : ((b - 0xE0) * 64 + (x - 0x80)) * 64 + (y - 0x80) ≡ c = omega arith in
+    ⊎_elim (λ k. three b (b - 0xE0) x y (record { low = 0xA0; high = 0xBF }) r (start_E0 b (omega arith)) (omega arith) (omega arith) (omega arith) (omega arith))
+    (λ k. ⊎_elim (λ i. three b (b - 0xE0) x y (record { low = 0x80; high = 0x9F }) r (start_ED b (omega arith)) (omega arith) (omega arith) (omega arith) (omega arith))
+    (λ i. three b (b - 0xE0) x y any_trail r (start_3 b (omega arith) (omega arith) i) (omega arith) (omega arith) (omega arith) (omega arith)) (at_ED b))
+    (cases_lt c 4096)
+    ∙ ap (λ n. means 3 n) v
+
+front_4 : (c b x y z : ℕ) (r : List ℕ) → 65536 ≤ c → c < 1114112 → b ≡ 240 + c / 262144 → x ≡ 128 + c / 4096 % 64 → y ≡ 128 + c / 64 % 64 → z ≡ 128 + c % 64
+    → utf_8_sequence b (x ∷ y ∷ z ∷ r) ≡ means 4 c
+front_4 c b x y z r l h e f g i =
+    let v : (((b - 0xF0) * 64 + (x - 0x80)) * 64 + (y - 0x80)) * 64 + (z - 0x80) ≡ c = omega arith in
+    ⊎_elim (λ k. four b (b - 0xF0) x y z (record { low = 0x90; high = 0xBF }) r (start_F0 b (omega arith)) (omega arith) (omega arith) (omega arith) (omega arith) (omega arith) (omega arith))
+    (λ k. ⊎_elim (λ j. four b (b - 0xF0) x y z any_trail r (start_4 b (omega arith) (omega arith)) (omega arith) (omega arith) (omega arith) (omega arith) (omega arith) (omega arith))
+    (λ j. four b (b - 0xF0) x y z (record { low = 0x80; high = 0x8F }) r (start_F4 b (omega arith)) (omega arith) (omega arith) (omega arith) (omega arith) (omega arith) (omega arith)) (cases_lt c 0x100000))
+    (cases_lt c 0x40000)
+    ∙ ap (λ n. means 4 n) v
+
+encoded_2 : (c : ℕ) → 128 ≤ c → c < 2048 → (192 + c / 64) ∷ next c ∷ [] ≡ encode c
+unfolding encode
+encoded_2 c l h = cond_above c 128 _ _ _ l (cond_below c 2048 _ _ h)
+
+encoded_3 : (c : ℕ) → 2048 ≤ c → c < 65536 → (224 + c / 4096) ∷ next (c / 64) ∷ next c ∷ [] ≡ encode c
+unfolding encode
+encoded_3 c l h = cond_above c 128 _ _ _ (omega arith) (cond_above c 2048 _ _ _ l (cond_below c 65536 _ _ h))
+
+encoded_4 : (c : ℕ) → 65536 ≤ c → (240 + c / 262144) ∷ next (c / 4096) ∷ next (c / 64) ∷ next c ∷ [] ≡ encode c
+unfolding encode
+encoded_4 c l = cond_above c 128 _ _ _ (omega arith) (cond_above c 2048 _ _ _ (omega arith) (cond_above c 65536 _ _ _ l refl))
+
+encode_front : (c : ℕ) (r : List ℕ) → scalar c ≡ true → means (length (encode c)) c ≡ front utf_8_sequence (encode c ++ r)
+encode_front c r s =
+    let k = scalar_cases c s in
+    let top : c < 1114112 = elim k [ inl h ↦ omega arith | inr h ↦ h.1 ] in
+    let apart : (c < 55296) ⊎ (57344 ≤ c) = elim k [ inl h ↦ inl h | inr h ↦ inr (h.0) ] in
+    elim (cases_lt c 128) [
+      | inl h ↦ rw (encode_ascii c h) (sym (one c c r (start_1 c h)))
+      | inr l ↦ elim (cases_lt c 2048) [
+        | inl h ↦ rw (← encoded_2 c l h) (sym (front_2 c (192 + c / 64) (next c) r l h refl refl))
+        | inr m ↦ elim (cases_lt c 65536) [
+          | inl h ↦ rw (← encoded_3 c m h) (sym (front_3 c (224 + c / 4096) (next (c / 64)) (next c) r m h apart refl refl refl))
+          | inr n ↦ rw (← encoded_4 c n) (sym (front_4 c (240 + c / 262144) (next (c / 4096)) (next (c / 64)) (next c) r n top refl refl refl refl))
+        ]
+      ]
+    ]
+
+-- ---- an input is read over the characters that are encoded next
+
+read_over : (step : Steps) (input cs rest : List ℕ) (at : ℕ) (so_far : List ℕ) → scalars cs ≡ true → drop at input ≡ encodes cs ++ rest
+    → IsRead step utf_8 input at so_far → IsRead step utf_8 input (at + length (encodes cs)) (so_far ++ cs)
+read_over step input [] rest at so_far s e r = rw (add-zero at, append-nil so_far) r
+read_over step input (c ∷ cs) rest at so_far s e r =
+    let parts = and_parts (scalar c) (scalars cs) s in
+    let here : drop at input ≡ encode c ++ (encodes cs ++ rest) = e ∙ append_assoc (encode c) (encodes cs) rest in
+    let some = len_utf8_bounds c in
+    let same = length-encode c in
+    let l : length input - at ≡ length (encode c) + length (encodes cs ++ rest) = sym (length-drop at input) ∙ ap (λ xs. length xs) here ∙ length-append (encode c) (encodes cs ++ rest) in
+    let p = passes_character step utf_8 input at so_far (means (length (encode c)) c) (encode c ++ (encodes cs ++ rest)) (sym here) (omega arith) (encode_front c (encodes cs ++ rest) parts.0) (so_far ++ c ∷ []) c (at + length (encode c)) refl refl refl in
+    let after : drop (at + length (encode c)) input ≡ encodes cs ++ rest = rw same (drop_past_char input (encodes cs ++ rest) at c here) in
+    let q = read_over step input cs rest (at + length (encode c)) (so_far ++ c ∷ []) parts.1 after (p.2 r) in
+    let m : (at + length (encode c)) + length (encodes cs) ≡ at + length (encode c ++ encodes cs) = omega (arith, length-append (encode c) (encodes cs)) in
+    rw (← append_assoc so_far (c ∷ []) cs, ← m) q
+
+pub passes_text : (step : Steps) (e : Encoding) (input : List ℕ) (at after : ℕ) (so_far next rest piece : List ℕ) → (0 < length piece → e ≡ utf_8) → rest ≡ drop at input → at < length input → 0 < length piece → length piece ≤ length rest
+    → piece ≡ take (length piece) rest → IsUtf8 piece → next ≡ so_far ++ chars piece → after ≡ at + length piece
+    → (at < after) × (after ≤ length input) × (IsRead step e input at so_far → IsRead step e input after next)
+passes_text step e input at after so_far next rest piece is_utf_8 is_rest in_range some there begins (cs, (s, u)) n b =
+    let l : length rest ≡ length input - at = ap (λ r. length r) is_rest ∙ length-drop at input in
+    let many : length (encodes cs) ≡ length piece = ap (λ xs. length xs) u in
+    let same : chars piece ≡ cs = ap (λ xs. chars xs) (sym u) ∙ chars-encodes cs s in
+    let split : drop at input ≡ encodes cs ++ drop (length piece) rest =
+    sym is_rest ∙ sym (take-append-drop (length piece) rest) ∙ ap (λ xs. xs ++ drop (length piece) rest) (sym begins ∙ sym u) in
+    let e_utf_8 = is_utf_8 some in
+    (omega arith, omega arith, λ r. rw (e_utf_8, n, b, same, ← many) (read_over step input cs (drop (length piece) rest) at so_far s split (rw e_utf_8 at r)))
