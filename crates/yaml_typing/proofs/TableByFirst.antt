@@ -1,12 +1,15 @@
 -- The table of plain texts, read by the first byte of a text: which of its rows may fit.
-use Rattle.std.proofs.Common.{◌≡◌, ℕ, ◌<◌, List, [], ◌∷◌, length, get_or, Bool, true, false, not, ◌&&◌, ◌||◌, Option, Some, None, refl, sym, ap, subst, ◌∙◌, ◌⊎◌, inl, inr, arith}
-use Rattle.std.specs.Prelude.{ℤ, pos, neg_ℤ, ◌==◌, if◌then◌else◌, option_map, option_and_then, unwrap_or, bytes_eq, codes}
-use Rattle.std.specs.Char.{is_ascii_digit}
+use Rattle.std.proofs.Common.{◌≡◌, ℕ, ◌+◌, ◌-◌, ◌*◌, ◌^◌, ◌<◌, ◌≤◌, take, List, [], ◌∷◌, length, get_or, Bool, true, false, not, ◌&&◌, ◌||◌, Option, Some, None, refl, sym, ap, subst, ◌∙◌, ◌⊎◌, inl, inr, arith}
+use Rattle.std.specs.Prelude.{ℤ, pos, neg_ℤ, nat_lt, ◌==◌, if◌then◌else◌, option_map, option_and_then, unwrap_or, bytes_eq, codes}
+use Rattle.std.specs.Char.{digit_value, is_ascii_digit}
 use Rattle.std.specs.List.{list_all}
 use Rattle.std.specs.Str.Parse.{digits_value}
 use Rattle.std.specs.Option.{option_or}
-use Rattle.std.specs.Str.{chars, IsUtf8}
-use Rattle.std.proofs.lemmas.Bool.{and_parts, false≢true}
+use Rattle.std.specs.Int.{IsInRange}
+use Rattle.std.specs.Str.{chars, IsUtf8, all_ascii_digits}
+use Rattle.std.proofs.lemmas.Int.Digits.{digits_value_more}
+use Rattle.std.proofs.lemmas.Str.Parse.{IsNumeralModel, numerals_by_value, tells_all_ascii_digits, digits_value_short, digits_value-take-le, digit_at}
+use Rattle.std.proofs.lemmas.Bool.{and_parts, and_from, false≢true}
 use Rattle.std.proofs.lemmas.Bool.Decides.{nat_tests}
 use Rattle.std.proofs.lemmas.Slice.Eq.{bytes_eq-Decides}
 use Rattle.std.proofs.lemmas.Str.{chars-IsAscii}
@@ -161,6 +164,21 @@ module _ (c : ℕ) (cs : List ℕ) (digit : is_ascii_digit c ≡ true) where
       none true = refl
       none false = refl
 
+  -- digits alone write a number that 64 bits hold
+  small_integer : list_all is_ascii_digit cs ≡ true → digits_value 10 (c ∷ cs) < 10 ^ 18 → signed_number 10 (c ∷ cs) ≡ Some (pos (digits_value 10 (c ∷ cs)))
+  small_integer h small =
+      (λ i. option_and_then (λ z. if fits_i64 z then Some z else None)
+      (if no_plus i then option_map pos (number 10 cs) else (if no_minus i then option_map (λ m. neg_ℤ (pos m)) (number 10 cs) else option_map pos (number 10 (c ∷ cs)))))
+      ∙ ap (λ b. option_and_then (λ z. if fits_i64 z then Some z else None) (option_map pos (if b then Some (digits_value 10 (c ∷ cs)) else None)))
+      (and_from (is_digit 10 c) (list_all (is_digit 10) cs) (is_base c digit) (list_all-more is_ascii_digit (is_digit 10) is_base cs h))
+      ∙ ap (λ b. if b then Some (pos (digits_value 10 (c ∷ cs))) else None) (fits (digits_value 10 (c ∷ cs)) small)
+    where
+      is_base : (d : ℕ) → is_ascii_digit d ≡ true → is_digit 10 d ≡ true
+      is_base d e = grind (arith, nat_tests)
+
+      fits : (n : ℕ) → n < 10 ^ 18 → nat_lt n (2 ^ 63) ≡ true
+      fits n e = grind (arith, nat_tests)
+
   rest_after : after_all is_ascii_digit (c ∷ cs) ≡ after_all is_ascii_digit cs
   rest_after = ap (λ b. if b then after_all is_ascii_digit cs else c ∷ cs) digit
 
@@ -219,6 +237,39 @@ digits_other (c ∷ cs) [] h e n x o = absurd (omega arith)
 digits_other (c ∷ cs) (d ∷ r) h e n x o =
     let rest = e ∙ rest_after c cs h in
     ap (λ u. meant (string_or meaning.Real (reads_on true u)) (c ∷ cs)) rest ∙ after_other c cs h d r (sym rest) x o
+
+pub all_ascii : (t : List ℕ) → all_ascii_digits t ≡ list_all is_ascii_digit t
+all_ascii [] = refl
+all_ascii (c ∷ cs) = ap (λ b. is_ascii_digit c && b) (all_ascii cs)
+
+-- nothing stands after the digits of a text of digits
+pub only_digits : (t r : List ℕ) → r ≡ after_all is_ascii_digit t → length r < 1 → all_ascii_digits t ≡ true
+only_digits t [] e n = all_ascii t ∙ all_after is_ascii_digit t ∙ ap is_empty (sym e)
+only_digits t (d ∷ r) e n = absurd (omega arith)
+
+pub number_of_digits : (t : List ℕ) → begins_digit t → all_ascii_digits t ≡ true → digits_value 10 t < 10 ^ 18 → Some (pos (digits_value 10 t)) ≡ signed_number 10 t
+number_of_digits [] h e n = absurd (grind arith)
+number_of_digits (c ∷ cs) h e n = sym (small_integer c cs h (and_parts (is_ascii_digit c) (list_all is_ascii_digit cs) (sym (all_ascii (c ∷ cs)) ∙ e)).1 n)
+
+-- texts of digits, as std reads them
+pub own : IsNumeralModel (λ ds. all_ascii_digits ds ≡ true) (digits_value 10)
+own = numerals_by_value (λ ds. all_ascii_digits ds ≡ true) tells_all_ascii_digits
+
+pub short_below : (t : List ℕ) → all_ascii_digits t ≡ true → length t ≤ 18 → digits_value 10 t < 10 ^ 18
+short_below t e n = digits_value_short own t 18 e n
+
+-- one more digit: it is one, and the number so far is no more than the whole
+pub one_digit : (t : List ℕ) (i : ℕ) → all_ascii_digits t ≡ true → i < length t → IsInRange 48 57 (get_or t i 0)
+one_digit t i e n = digit_at t i (own.to t e) n
+
+pub one_more : (t : List ℕ) (i : ℕ) → all_ascii_digits t ≡ true → i < length t → digits_value 10 (take (i + 1) t) ≡ digits_value 10 (take i t) * 10 + (get_or t i 0 - 48)
+one_more t i e n = digits_value_more 10 t i n ∙ ap (λ d. digits_value 10 (take i t) * 10 + d) (value (get_or t i 0) (one_digit t i e n))
+  where
+    value : (c : ℕ) → IsInRange 48 57 c → digit_value c ≡ c - 48
+    value c h = grind (arith, nat_tests)
+
+pub no_more : (t : List ℕ) (i : ℕ) → digits_value 10 (take i t) ≤ digits_value 10 t
+no_more t i = digits_value-take-le 10 t i (omega arith)
 
 -- ---- signs
 

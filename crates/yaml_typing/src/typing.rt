@@ -1,6 +1,8 @@
 //! What a plain text stands for.
-ghost use Rattle.std.specs.Prelude.{◌≡◌, ◌≤◌, ◌||◌, true, option_and_then, map, chars, codes};
+ghost use Rattle.std.specs.Prelude.{◌≡◌, ◌≤◌, ◌<◌, ◌^◌, ◌||◌, true, option_and_then, map, chars, codes};
 ghost use Rattle.std.specs.Option.{option_or};
+ghost use Rattle.std.specs.Str.{all_ascii_digits};
+ghost use Rattle.std.specs.Str.Parse.{digits_value};
 ghost use Rattle.std.specs.Char.{is_ascii_digit};
 ghost use Rattle.defs_tree.specs.Grammar.{is_among};
 ghost use Rattle.defs_tree.specs.Typing.{after_prefix, signed_number, typing, is_string, is_sign, is_decimal, special_words, null_words, true_words, false_words};
@@ -72,7 +74,7 @@ fn begun_by_digit(text: &str) -> Meaning
 {
     let rest = after_digits(text.as_bytes());
     let [next, ..] = rest else {
-        return integer_or(Meaning::Real, number_in(text, 10));
+        return integer_or(Meaning::Real, number_of_digits(text));
     };
     match *next {
         b'x' => integer_or(Meaning::String, number_after("0x", text, 16)),
@@ -184,6 +186,30 @@ fn number_in(text: &str, base: u32) -> Option<i64>
     ensures { result ≡ signed_number base text.now }
 {
     i64::from_str_radix(text, base).ok()
+}
+
+// The integer that digits write, where 64 bits hold it. They hold that of 18 digits, whatever these are.
+fn number_of_digits(text: &str) -> Option<i64>
+    requires begins { begins_in is_ascii_digit text.now ≡ true }
+    requires digits { all_ascii_digits text.now ≡ true }
+    ensures { result ≡ signed_number 10 text.now }
+{
+    if text.len() <= 18 {
+        return Some(value_of(text.as_bytes()) as i64);
+    }
+    number_in(text, 10)
+}
+
+fn value_of(digits: &[u8]) -> u64
+    requires digits { all_ascii_digits digits.now ≡ true }
+    requires below { digits_value 10 digits.now < 10 ^ 18 }
+    ensures { result ≡ digits_value 10 digits.now }
+{
+    let mut value = 0u64;
+    for digit in digits {
+        value = value * 10 + (*digit - b'0') as u64;
+    }
+    value
 }
 
 fn is_decimal(text: &[u8]) -> bool
