@@ -8,7 +8,7 @@ use Rattle.defs_tree.specs.Grammar.{at_least_one}
 use Rattle.defs_tree.proofs.GrammarLaws.{after_all}
 use Rattle.defs_tree.proofs.DecimalReading.{begins_in}
 
-all_after : (p : ℕ → Bool) (t : List ℕ) → list_all p t ≡ is_empty (after_all p t)
+pub all_after : (p : ℕ → Bool) (t : List ℕ) → list_all p t ≡ is_empty (after_all p t)
 all_after p [] = refl
 all_after p (c ∷ cs) = by (p c) (all_after p cs)
   where

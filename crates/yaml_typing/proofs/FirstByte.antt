@@ -1,14 +1,12 @@
 -- What the first byte of a text tells of what it stands for.
-use Rattle.std.proofs.Common.{◌≡◌, ℕ, ◌<◌, List, [], ◌∷◌, length, get_or, Bool, true, false, ◌&&◌, ◌||◌, Some, None, refl, sym, ap, subst, ◌∙◌, arith}
+use Rattle.std.proofs.Common.{◌≡◌, ℕ, List, [], ◌∷◌, Bool, true, false, ◌&&◌, ◌||◌, Some, None, refl, ap, subst, ◌∙◌, arith}
 use Rattle.std.specs.Prelude.{pos, neg_ℤ, ◌==◌, if◌then◌else◌, option_map, option_and_then, is_none, bytes_eq, codes}
 use Rattle.std.specs.Char.{is_ascii_digit}
 use Rattle.std.specs.List.{list_all}
 use Rattle.std.specs.Str.Parse.{digits_value}
-use Rattle.std.specs.Str.{chars, IsUtf8}
 use Rattle.std.proofs.lemmas.Bool.{and_parts}
 use Rattle.std.proofs.lemmas.Bool.Decides.{nat_tests}
 use Rattle.std.proofs.lemmas.Slice.Eq.{bytes_eq-Decides}
-use Rattle.std.proofs.lemmas.Str.{chars-nil, chars-IsAscii}
 use Rattle.defs_tree.specs.Grammar.{is_among}
 use Rattle.defs_tree.specs.Tree.{Tree, string, integer, real, boolean, null}
 use Rattle.defs_tree.specs.Typing.{typing, rows, where_true, is_digit, is_sign, is_point, is_plus, is_minus, number, signed_number, fits_i64, after_prefix, is_decimal, null_words, true_words, false_words, special_words}
@@ -16,7 +14,6 @@ use Rattle.defs_tree.proofs.DecimalReading.{begins_in, reads_exponent, reads_on,
 use Rattle.defs_tree.proofs.GrammarLaws.{after_all}
 use Rattle.defs_tree.proofs.TypingLaws.{strings_exactly}
 use Rattle.yaml_typing.specs.Values.{begins_value, begins_word}
-use Rattle.yaml_typing.proofs.WideTexts.{low, low_bytes, typing-wide}
 
 true_no_false : (b : Bool) → b ≡ true → b ≡ false → ⊥
 true_no_false b e f = cc
@@ -89,22 +86,5 @@ module _ (c : ℕ) (cs : List ℕ) (plain : begins_value c ≡ false) where
       λ i. is_none (f i) && (is_none (g i) && (is_none (h i) && (is_none (where_true (n i) null) && (is_none (where_true (t i) (boolean true))
       && (is_none (where_true (u i) (boolean false)) && (is_none (d i) && (is_none (where_true (w i) (real (c ∷ cs))) && (is_none (where_true (r i) (real (c ∷ cs))) && true))))))))
 
-  typing_itself : typing (c ∷ cs) ≡ string (c ∷ cs)
+  pub typing_itself : typing (c ∷ cs) ≡ string (c ∷ cs)
   typing_itself = (strings_exactly (c ∷ cs)).1 fits_no_row
-
--- ---- the bytes of a text
-
--- a text stands for its string where its first byte begins no value
-pub string_by_first : (bs : List ℕ) → IsUtf8 bs → 0 < length bs → begins_value (get_or bs 0 0) ≡ false → string (chars bs) ≡ typing (chars bs)
-string_by_first [] u n e = absurd (omega arith)
-string_by_first (b ∷ bs) u n e = by (low (chars (b ∷ bs))) refl
-  where
-    by : (l : Bool) → low (chars (b ∷ bs)) ≡ l → string (chars (b ∷ bs)) ≡ typing (chars (b ∷ bs))
-    by true h = sym (subst (λ t. typing t ≡ string t) (sym (chars-IsAscii (b ∷ bs) (low_bytes (b ∷ bs) u h))) (typing_itself b bs e))
-    by false h = sym (typing-wide (chars (b ∷ bs)) (λ l. true_no_false (low (chars (b ∷ bs))) l h))
-
--- the empty text stands for null
-pub null_by_none : (bs : List ℕ) → length bs < 1 → null ≡ typing (chars bs)
-unfolding typing
-null_by_none [] n = ap typing (sym chars-nil)
-null_by_none (b ∷ bs) n = absurd (omega arith)

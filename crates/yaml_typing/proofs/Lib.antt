@@ -1,4 +1,5 @@
 pub mod DecimalLemmas
 pub mod FirstByte
+pub mod TableByFirst
 pub mod TypingLemmas
 pub mod WideTexts

@@ -1,18 +1,22 @@
--- The rows of the table of plain texts that give an integer, a null or a boolean: all that keep no text.
-use Rattle.std.specs.Prelude.{ℕ, ◌==◌, Bool, ◌||◌, List, [], ◌∷◌, Option, None, take}
+-- The beginnings of plain texts that may stand for anything but their own string.
+use Rattle.std.specs.Prelude.{ℕ, ◌==◌, Bool, false, ◌&&◌, ◌||◌, List, [], ◌∷◌}
 use Rattle.std.specs.Char.{is_ascii_digit}
-use Rattle.std.specs.Option.{option_or}
-use Rattle.defs_tree.specs.Tree.{Tree}
-use Rattle.defs_tree.specs.Typing.{rows, is_sign, is_point}
+use Rattle.defs_tree.specs.Typing.{is_sign, is_point}
 
--- the tree of the first row that fits, if one does
-abbrev pub first_row : List (List ℕ → Option Tree) → List ℕ → Option Tree
-first_row [] text = None
-first_row (row ∷ rest) text = option_or (row text) (first_row rest text)
+-- `i` or `I`
+abbrev pub begins_infinity : ℕ → Bool
+begins_infinity c = (c == 105) || (c == 73)
 
--- what the first seven rows give
-abbrev pub value_row : List ℕ → Option Tree
-value_row text = first_row (take 7 rows) text
+-- `n` or `N`
+abbrev pub begins_nan : ℕ → Bool
+begins_nan c = (c == 110) || (c == 78)
+
+-- `.` and the first letter of a word, or a sign, `.` and the first letter of a word for infinity
+abbrev pub begins_special : List ℕ → Bool
+begins_special (c ∷ d ∷ e ∷ cs) =
+    (is_sign c && (is_point d && begins_infinity e)) || (is_point c && (begins_infinity d || begins_nan d))
+begins_special (c ∷ d ∷ []) = is_point c && (begins_infinity d || begins_nan d)
+begins_special _ = false
 
 -- the byte is the first of a word of null, true or false other than the empty one: `~`, `n`, `t`, `T`, `f` or `F`
 abbrev pub begins_word : ℕ → Bool

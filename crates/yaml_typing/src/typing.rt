@@ -1,10 +1,14 @@
 //! What a plain text stands for.
-ghost use Rattle.std.specs.Prelude.{◌≡◌, ◌≤◌, ◌||◌, option_map, option_and_then, map, chars};
+ghost use Rattle.std.specs.Prelude.{◌≡◌, ◌≤◌, ◌<◌, ◌^◌, ◌||◌, true, option_and_then, map, chars, codes};
+ghost use Rattle.std.specs.Option.{option_or};
+ghost use Rattle.std.specs.Str.{all_ascii_digits};
+ghost use Rattle.std.specs.Str.Parse.{digits_value};
+ghost use Rattle.std.specs.Char.{is_ascii_digit};
 ghost use Rattle.defs_tree.specs.Grammar.{is_among};
-ghost use Rattle.defs_tree.specs.Typing.{after_prefix, signed_number, typing, is_string, is_decimal, special_words, null_words, true_words, false_words};
-ghost use Rattle.defs_tree.proofs.DecimalReading.{reads_on, reads_decimal};
-ghost use Rattle.yaml_typing.specs.Meanings.{meant};
-ghost use Rattle.yaml_typing.specs.Values.{value_row, begins_value};
+ghost use Rattle.defs_tree.specs.Typing.{after_prefix, signed_number, typing, is_string, is_sign, is_decimal, special_words, null_words, true_words, false_words};
+ghost use Rattle.defs_tree.proofs.DecimalReading.{begins_in, reads_on, reads_decimal};
+ghost use Rattle.yaml_typing.specs.Meanings.{meant, string_or, integer_or};
+ghost use Rattle.yaml_typing.specs.Values.{begins_special};
 
 use crate::decimal::{after_digits, after_sign, begins_with_digit, is_exponent};
 
@@ -38,56 +42,80 @@ pub fn is_string(text: &str) -> bool
     }
 }
 
-/// What the text stands for as a plain scalar. The first byte tells most texts that stand for themselves.
+/// What the text stands for as a plain scalar. It takes no memory.
 pub fn stands_for(text: &str) -> Meaning
     ensures { meant result (chars text.now) ≡ typing (chars text.now) }
+{
+    by_first_byte(text)
+}
+
+// The first byte of a text chooses what it may stand for besides its own string.
+fn by_first_byte(text: &str) -> Meaning
+    ensures { meant result text.now ≡ typing text.now }
 {
     let [first, ..] = text.as_bytes() else {
         return Meaning::Null;
     };
-    if !begins_value(*first) || !text.is_ascii() {
-        return Meaning::String;
-    }
-    match value_of(text) {
-        Some(value) => value,
-        None if is_real(text) => Meaning::Real,
-        None => Meaning::String,
+    match *first {
+        b'0'..=b'9' => begun_by_digit(text),
+        b'+' | b'-' => begun_by_sign(text),
+        b'.' => string_or(Meaning::Real, is_real(text)),
+        b'~' | b'n' => string_or(Meaning::Null, is_null(text)),
+        b't' | b'T' => string_or(Meaning::Boolean(true), is_true(text)),
+        b'f' | b'F' => string_or(Meaning::Boolean(false), is_false(text)),
+        _ => Meaning::String,
     }
 }
 
-// Whether a text that begins so may stand for anything but itself.
-fn begins_value(first: u8) -> bool
-    ensures { result ≡ begins_value first }
+// What follows the digits tells an integer, a decimal number and a string apart.
+fn begun_by_digit(text: &str) -> Meaning
+    requires begins { begins_in is_ascii_digit text.now ≡ true }
+    ensures { meant result text.now ≡ typing text.now }
 {
-    matches!(
-        first,
-        b'0'..=b'9' | b'+' | b'-' | b'.' | b'~' | b'n' | b't' | b'T' | b'f' | b'F'
-    )
+    let rest = after_digits(text.as_bytes());
+    let [next, ..] = rest else {
+        return integer_or(Meaning::Real, number_of_digits(text));
+    };
+    match *next {
+        b'x' => integer_or(Meaning::String, number_after("0x", text, 16)),
+        b'o' => integer_or(Meaning::String, number_after("0o", text, 8)),
+        _ => string_or(Meaning::Real, is_rest_of_decimal(true, rest)),
+    }
 }
 
-// An integer, a null or a boolean.
-fn value_of(text: &str) -> Option<Meaning>
-    ensures { option_map (λ m. meant m text.now) result ≡ value_row text.now }
+// A sign may stand before an integer, a decimal number or a word for infinity, and a plus before an integer with a sign of its own.
+fn begun_by_sign(text: &str) -> Meaning
+    requires begins { begins_in is_sign text.now ≡ true }
+    ensures { meant result text.now ≡ typing text.now }
 {
-    if let Some(number) = number_after("0x", text, 16) {
-        return Some(Meaning::Integer(number));
+    match integer_after_sign(text) {
+        Some(number) => Meaning::Integer(number),
+        None => string_or(Meaning::Real, is_real(text)),
     }
-    if let Some(number) = number_after("0o", text, 8) {
-        return Some(Meaning::Integer(number));
+}
+
+fn integer_after_sign(text: &str) -> Option<i64>
+    ensures { result ≡ option_or (option_and_then (signed_number 10) (after_prefix (codes "+") text.now)) (signed_number 10 text.now) }
+{
+    match number_after("+", text, 10) {
+        Some(number) => Some(number),
+        None => number_in(text, 10),
     }
-    if let Some(number) = number_after("+", text, 10) {
-        return Some(Meaning::Integer(number));
+}
+
+fn string_or(meaning: Meaning, holds: bool) -> Meaning
+    ensures { result ≡ string_or meaning holds }
+{
+    if holds { meaning } else { Meaning::String }
+}
+
+fn integer_or(meaning: Meaning, number: Option<i64>) -> Meaning
+    ensures { result ≡ integer_or meaning number }
+{
+    match number {
+        Some(number) => Meaning::Integer(number),
+        None => meaning,
     }
-    if is_null(text) {
-        return Some(Meaning::Null);
-    }
-    if is_true(text) {
-        return Some(Meaning::Boolean(true));
-    }
-    if is_false(text) {
-        return Some(Meaning::Boolean(false));
-    }
-    Some(Meaning::Integer(number_in(text, 10)?))
 }
 
 fn is_null(text: &str) -> bool
@@ -113,7 +141,24 @@ fn is_false(text: &str) -> bool
 pub fn is_real(text: &str) -> bool
     ensures { result ≡ (is_among special_words text.now || is_decimal text.now) }
 {
-    is_among(&SPECIAL, text) || is_decimal(text.as_bytes())
+    is_special(text) || is_decimal(text.as_bytes())
+}
+
+fn is_special(text: &str) -> bool
+    ensures { result ≡ is_among special_words text.now }
+{
+    begins_special(text.as_bytes()) && is_among(&SPECIAL, text)
+}
+
+// Whether a text begins as one of the words for infinity and for not a number.
+fn begins_special(text: &[u8]) -> bool
+    ensures { result ≡ begins_special text.now }
+{
+    match text {
+        [b'+' | b'-', b'.', third, ..] => matches!(*third, b'i' | b'I'),
+        [b'.', second, ..] => matches!(*second, b'i' | b'I' | b'n' | b'N'),
+        _ => false,
+    }
 }
 
 fn is_among(words: &[&str], text: &str) -> bool
@@ -141,6 +186,30 @@ fn number_in(text: &str, base: u32) -> Option<i64>
     ensures { result ≡ signed_number base text.now }
 {
     i64::from_str_radix(text, base).ok()
+}
+
+// The integer that digits write, where 64 bits hold it. They hold that of 18 digits, whatever these are.
+fn number_of_digits(text: &str) -> Option<i64>
+    requires begins { begins_in is_ascii_digit text.now ≡ true }
+    requires digits { all_ascii_digits text.now ≡ true }
+    ensures { result ≡ signed_number 10 text.now }
+{
+    if text.len() <= 18 {
+        return Some(value_of(text.as_bytes()) as i64);
+    }
+    number_in(text, 10)
+}
+
+fn value_of(digits: &[u8]) -> u64
+    requires digits { all_ascii_digits digits.now ≡ true }
+    requires below { digits_value 10 digits.now < 10 ^ 18 }
+    ensures { result ≡ digits_value 10 digits.now }
+{
+    let mut value = 0u64;
+    for digit in digits {
+        value = value * 10 + (*digit - b'0') as u64;
+    }
+    value
 }
 
 fn is_decimal(text: &[u8]) -> bool
