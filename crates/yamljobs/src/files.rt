@@ -129,7 +129,7 @@ fn put_release(file: &mut Maker) -> Result<(), AllocError> {
     file.put("\n    date: 2026-01-0")?;
     file.number(10)?;
     file.put("\n    notes: |\n")?;
-    let lines = file.below(8) + 2;
+    let lines = file.below(8).wrapping_add(2);
     for _ in 0..lines {
         file.put("      ")?;
         file.phrase()?;
@@ -156,7 +156,7 @@ fn put_machine(file: &mut Maker) -> Result<(), AllocError> {
     file.put("\n    stage: ")?;
     file.pick(VALUES)?;
     file.put("\n  packages:")?;
-    let count = file.below(6) + 1;
+    let count = file.below(6).wrapping_add(1);
     for _ in 0..count {
         file.put("\n    - name: ")?;
         file.name()?;

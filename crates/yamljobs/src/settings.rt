@@ -17,7 +17,7 @@ pub fn put_settings(file: &mut Maker) -> Result<(), AllocError> {
     file.number(40)?;
     file.put(".0\ndescription: ")?;
     file.phrase()?;
-    let parts = file.below(PARTS) + 1;
+    let parts = file.below(PARTS).wrapping_add(1);
     for part in 0..parts {
         put_part(file, part)?;
     }
@@ -70,7 +70,7 @@ fn put_server(file: &mut Maker, part: u64) -> Result<(), AllocError> {
 
 fn put_list(file: &mut Maker, part: u64) -> Result<(), AllocError> {
     put_key(file, part)?;
-    let count = file.below(5) + 1;
+    let count = file.below(5).wrapping_add(1);
     for _ in 0..count {
         file.put("\n  - ")?;
         match file.below(10) {
@@ -93,7 +93,7 @@ fn put_quoted(file: &mut Maker, quote: &str) -> Result<(), AllocError> {
 
 fn put_steps(file: &mut Maker, part: u64) -> Result<(), AllocError> {
     put_key(file, part)?;
-    let count = file.below(3) + 1;
+    let count = file.below(3).wrapping_add(1);
     for _ in 0..count {
         file.put("\n  - name: ")?;
         file.phrase()?;
@@ -130,7 +130,7 @@ fn put_comments(file: &mut Maker) -> Result<(), AllocError> {
 
 fn put_pairs(file: &mut Maker, part: u64) -> Result<(), AllocError> {
     put_key(file, part)?;
-    let count = file.below(12) + 1;
+    let count = file.below(12).wrapping_add(1);
     for pair in 0..count {
         file.put("\n  ")?;
         file.name()?;
