@@ -13,7 +13,7 @@ use Rattle.defs_text.specs.Text.{is_empty}
 use Rattle.defs_tree.specs.Quoting.{begins_with, is_in, is_quoted, has_outer_space, has_indicator_first, is_unfit_for_plain, reserved_words, is_float_word}
 use Rattle.defs_tree.specs.Typing.{is_sign, typing, is_string}
 use Rattle.defs_tree.proofs.GrammarLaws.{after_one, Rejects, optional_one-after, followed_by-empty}
-use Rattle.yaml_typing.proofs.FirstByte.{string_by_first}
+use Rattle.yaml_typing.proofs.FirstByte.{typing_itself}
 use Rattle.yaml_typing.specs.Values.{begins_value}
 use Rattle.yaml_typing.proofs.WideTexts.{low, Wide, low_bytes}
 use Rattle.yaml_emitter.specs.Words.{is_unfit, is_word, is_name, float_names, begins_plainly, is_plain_letter, is_plain_small}
@@ -267,8 +267,8 @@ plain_quoted [] u e = cc
 plain_quoted (c ∷ bs) u e =
     let t = tame c e in
     let cs : chars (c ∷ bs) ≡ c ∷ chars bs = chars_past_char (c ∷ bs) bs c u (ap (λ x. x ++ bs) (sym (encode_ascii c (grind (arith, nat_tests, t.low))))) in
-    let itself : is_string (typing (chars (c ∷ bs))) ≡ true = ap is_string (sym (string_by_first (c ∷ bs) u (omega arith) t.no_value)) in
-    sym (subst (λ x. is_string (typing x) ≡ true → is_quoted x ≡ (ends_with nat_eq x (codes " ") || list_any is_unfit_for_plain x)) (sym cs) (plain_text c (chars bs) t) itself)
+    let itself : is_string (typing (c ∷ chars bs)) ≡ true = ap is_string (typing_itself c (chars bs) t.no_value) in
+    sym (subst (λ x. is_quoted x ≡ (ends_with nat_eq x (codes " ") || list_any is_unfit_for_plain x)) (sym cs) (plain_text c (chars bs) t itself))
 
 pub small_letter : (b : ℕ) → b < 256 → is_plain_small (bit_or b 32) ≡ is_plain_letter b
 small_letter b lt = same_is _ _ (each_upto (λ x. same (is_plain_small (bit_or x 32)) (is_plain_letter x)) 256 tt b lt)
