@@ -124,7 +124,9 @@ fn write_value<W: Writer>(
     write_block(out, settings, level + 1, node)
 }
 
-// A mark, and a space or a new line for a block that goes lower.
+// A mark, and a space or a new line for a block that goes lower. It is a call of its own, so that a level of a dump takes
+// less stack.
+#[inline(never)]
 fn begin_block<W: Writer>(out: &mut W, level: usize, mark: Mark, blocks_lower: bool) -> fmt::Result
     requires { level < 2 ^ 62 }
     ensures { Writes W.put_gives W.put_leaves out.old result (mark_text mark ++ before_block blocks_lower level) out.new }
@@ -243,7 +245,6 @@ fn write_pair<W: Writer>(
 
 // The colon after a complex key stands on a line of its own.
 #[cycle(write)]
-#[inline(never)]
 fn write_complex_pair<W: Writer>(
     out: &mut W,
     settings: &Settings,
