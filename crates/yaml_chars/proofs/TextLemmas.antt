@@ -54,3 +54,6 @@ is_nil_encoded (c ∷ cs) (b ∷ bs) e f = rw (← f) (sym (suc_is_some (length 
 
 pub is_nil_chars : {A : Type 0} (s : String A) → is_empty (chars (string_bytes s)) ≡ (length (string_bytes s) == 0)
 is_nil_chars s = is_nil_encoded (chars (string_bytes s)) (string_bytes s) (encodes-chars (string_bytes s) (IsUtf8-string_bytes s)) refl
+
+pub chars_append_bytes : {A : Type 0} (s : String A) (more bs : List ℕ) → bs ≡ string_bytes s ++ more → chars bs ≡ chars (string_bytes s) ++ chars more
+chars_append_bytes s more bs e = ap chars e ∙ chars-append (string_bytes s) more (IsUtf8-string_bytes s)

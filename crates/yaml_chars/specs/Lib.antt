@@ -3,3 +3,4 @@ pub mod Queue
 pub mod Reading
 pub mod Run
 pub mod Source
+pub mod Words

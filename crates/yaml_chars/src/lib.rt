@@ -2,6 +2,7 @@
 //! iterator of characters.
 #![tactic(auto)]
 
+pub mod characters;
 pub mod class;
 pub mod history;
 pub mod marker;
@@ -11,6 +12,7 @@ pub mod source;
 pub mod text;
 pub mod window;
 
+pub use characters::{Characters, TextInMemory};
 pub use marker::Marker;
 pub use run::Run;
 pub use text::Text;

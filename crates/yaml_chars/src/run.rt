@@ -1,6 +1,7 @@
 //! Runs of characters that are taken one by one, without a look ahead.
-ghost use Rattle.std.specs.Prelude.{◌≡◌, ◌≢◌, false};
+ghost use Rattle.std.specs.Prelude.{◌≡◌, ◌≢◌, ◌<◌, ◌≤◌, false, true, length};
 ghost use Rattle.yaml_chars.specs.Run.{stops};
+ghost use Rattle.yaml_chars.specs.Words.{begins_word, AreWordsUpTo, IsWordBetween};
 
 use crate::class::{is_blank_or_breakz, is_breakz, is_flow};
 
@@ -28,5 +29,62 @@ impl Run {
             Run::Quoted(quote) => is_blank_or_breakz(c) || c == quote || c == '\\',
             Run::Plain(flow) => is_blank_or_breakz(c) || c == ':' || flow && is_flow(c),
         }
+    }
+
+    /// Whether a byte is an ASCII character of the run, whatever comes after it. Control characters are not looked at
+    /// further: of them it says nothing.
+    #[inline(always)]
+    #[tactic(auto, using(crate::proofs::WordsLemmas::ordinary_in_line, crate::proofs::WordsLemmas::ordinary_in_quotes, crate::proofs::WordsLemmas::ordinary_in_plain))]
+    fn is_ordinary(self, byte: u8) -> bool
+        ensures goes { result ≡ true → stops self byte ≡ false }
+        ensures ascii { result ≡ true → byte < 128 }
+    {
+        match self {
+            Run::Line => byte >= b' ' && byte < 127,
+            Run::Quoted(quote) => {
+                byte > b' ' && byte < 127 && char::from(byte) != quote && byte != b'\\'
+            }
+            Run::Plain(flow) => {
+                byte > b' ' && byte < 127 && byte != b':' && !(flow && is_flow(char::from(byte)))
+            }
+        }
+    }
+
+    /// Whether a byte is an ASCII character with which a word goes on after a lone blank.
+    #[inline(always)]
+    #[tactic(auto, using(crate::proofs::WordsLemmas::begins_in_line, crate::proofs::WordsLemmas::begins_in_quotes, crate::proofs::WordsLemmas::begins_in_plain))]
+    fn is_first(self, byte: u8) -> bool
+        ensures begins { result ≡ true → begins_word self byte ≡ true }
+        ensures ascii { result ≡ true → byte < 128 }
+    {
+        match self {
+            Run::Plain(_) => Run::Plain(true).is_ordinary(byte) && byte != b'#' && byte != b'-',
+            _ => self.is_ordinary(byte),
+        }
+    }
+
+    /// Where the ordinary characters that begin at a place end.
+    #[inline(always)]
+    fn word_end(self, bytes: &[u8], start: usize) -> usize
+        requires { start ≤ length bytes.now }
+        ensures { IsWordBetween self bytes.now start result }
+    {
+        let mut at = start;
+        'word: while at < bytes.len() && self.is_ordinary(bytes[at]) {
+            at += 1;
+        }
+        at
+    }
+
+    /// How many of the bytes that come next are characters of words, or lone blanks between words.
+    #[inline(always)]
+    pub(crate) fn words(self, bytes: &[u8]) -> usize
+        ensures { AreWordsUpTo self bytes.now result }
+    {
+        let mut end = self.word_end(bytes, 0);
+        'words: while end + 1 < bytes.len() && bytes[end] == b' ' && self.is_first(bytes[end + 1]) {
+            end = self.word_end(bytes, end + 2);
+        }
+        end
     }
 }

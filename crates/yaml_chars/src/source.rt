@@ -1,11 +1,14 @@
-ghost use Rattle.std.specs.Prelude.{◌≡◌, ◌≢◌, ◌<◌, ◌≤◌, ◌^◌, [], ◌∷◌, ◌++◌, true, false};
+ghost use Rattle.std.specs.Prelude.{◌≡◌, ◌≢◌, ◌<◌, ◌≤◌, ◌^◌, [], ◌∷◌, ◌++◌, true, false, IfOk, OnErr};
 ghost use Rattle.std.specs.Iterator.{IsFinite, size};
 ghost use Rattle.yaml_chars.specs.Run.{GoesOver};
 ghost use Rattle.yaml_chars.specs.Source.{Pulls, Came};
+ghost use Rattle.yaml_chars.specs.Words.{GivesWords, HasGiven};
 
+use crate::characters::Characters;
 use crate::history::History;
 use crate::run::Run;
 use crate::text::Text;
+use std::alloc::AllocError;
 use std::marker::Model;
 use std::snapshot::Snapshot;
 
@@ -54,16 +57,16 @@ fn word_ended(count: usize, after: char, refused: bool) -> Met
     }
 }
 
-/// The characters of an iterator up to its end or to a NUL. After that the iterator is left alone.
+/// The characters that come, up to their end or to a NUL. After that none is asked for.
 #[derive(Drop)]
-pub struct Source<T: Iterator<Item = char>> {
+pub struct Source<T: Characters> {
     iter: T,
     start: Snapshot<T>,
     taken: History<char>,
     done: bool,
 }
 
-impl<T: Iterator<Item = char>> Model for Source<T> {
+impl<T: Characters> Model for Source<T> {
     ghost use Rattle.std.specs.Prelude.{if◌then◌else◌};
     ghost use Rattle.yaml_chars.specs.Source.{Pulled, IterStands};
 
@@ -74,7 +77,7 @@ impl<T: Iterator<Item = char>> Model for Source<T> {
     ghost invariant = { λ s. IterStands T.can_next T.next_gives T.remaining s.start.value s.taken.items s.done s.iter };
 }
 
-impl<T: Iterator<Item = char>> Source<T> {
+impl<T: Characters> Source<T> {
     /// The characters of an iterator that was not asked yet.
     pub fn new(iter: T) -> Self
         requires can { T.can_next iter }
@@ -113,7 +116,7 @@ impl<T: Iterator<Item = char>> Source<T> {
         requires { self.old.done ≡ false }
         ensures { Pulls self.old result self.new }
     {
-        match self.iter.next() {
+        match self.iter.next_char() {
             Some(c) if c != '\0' => {
                 self.taken.push(&c);
                 c
@@ -123,6 +126,47 @@ impl<T: Iterator<Item = char>> Source<T> {
                 '\0'
             }
         }
+    }
+
+    /// Takes words that are known to come, and lone blanks between them, into a text, and says how many characters
+    /// they have. An `Err` changes nothing.
+    #[inline(always)]
+    pub(crate) fn words_on(&mut self, run: Run, text: &mut Text) -> Result<usize, AllocError>
+        ensures ok { IfOk result (λ count. GivesWords run self.old self.new count text.old text.new) }
+        ensures err { OnErr result ((self.new ≡ self.old) × (text.new ≡ text.old)) }
+    {
+        if self.has_ended() {
+            return Ok(0);
+        }
+        let known = self.iter.known();
+        let count = run.words(known.as_bytes());
+        if count == 0 {
+            return Ok(0);
+        }
+        let words = &known[..count];
+        text.push_str(words)?;
+        self.taken.push_ascii(words.as_bytes());
+        self.iter.pass(count);
+        Ok(count)
+    }
+
+    /// Takes words that are known to come, and lone blanks between them, and says how many characters they have.
+    #[inline(always)]
+    pub(crate) fn pass_words(&mut self, run: Run) -> usize
+        ensures { HasGiven run self.old self.new result }
+    {
+        if self.has_ended() {
+            return 0;
+        }
+        let known = self.iter.known();
+        let count = run.words(known.as_bytes());
+        if count == 0 {
+            return 0;
+        }
+        let words = &known[..count];
+        self.taken.push_ascii(words.as_bytes());
+        self.iter.pass(count);
+        count
     }
 
     /// Takes the characters of a run into a text. Both are moved in and out, so that the loop keeps

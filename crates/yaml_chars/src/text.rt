@@ -66,6 +66,16 @@ impl Text {
         Ok(())
     }
 
+    /// Appends a text. An `Err` changes nothing.
+    #[tactic(auto, using(crate::proofs::TextLemmas::chars_append_bytes, crate::proofs::TextLemmas::chars_same))]
+    pub fn push_str(&mut self, more: &str) -> Result<(), AllocError>
+        ensures ok { OnOk result (self.new ≡ self.old ++ chars more.now) }
+        ensures err { OnErr result (self.new ≡ self.old) }
+    {
+        self.inner.push_str(more)?;
+        Ok(())
+    }
+
     /// Makes the text empty, and keeps its memory.
     #[tactic(auto, using(crate::proofs::TextLemmas::chars_nil_of))]
     pub fn clear(&mut self)

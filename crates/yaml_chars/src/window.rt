@@ -2,8 +2,10 @@ ghost use Rattle.std.specs.Prelude.{◌≡◌, ◌≢◌, ℕ, ◌+◌, ◌-◌,
 ghost use Rattle.std.specs.Iterator.{IsFinite, size};
 ghost use Rattle.yaml_chars.specs.Run.{stops, ran};
 ghost use Rattle.yaml_chars.specs.Source.{CameFrom};
+ghost use Rattle.yaml_chars.specs.Words.{TakesWords, PassesWords};
 ghost use Rattle.yaml_chars.specs.Reading.{position_of, Reads, Sees, HasChar, SamePosition, OneOn, after_char, after_break, after_line, HasNoNul};
 
+use crate::characters::Characters;
 use crate::marker::Marker;
 use crate::ring::Ring;
 use crate::run::Run;
@@ -13,9 +15,9 @@ use core::mem;
 use std::alloc::AllocError;
 use std::marker::Model;
 
-/// The next characters of a text that comes from an iterator, at most 16 at a time. NULs stand after its end.
+/// The next characters of a text, at most 16 at a time. NULs stand after its end.
 #[derive(Drop)]
-pub struct Window<T: Iterator<Item = char>> {
+pub struct Window<T: Characters> {
     source: Source<T>,
     ring: Ring,
     index: usize,
@@ -23,7 +25,7 @@ pub struct Window<T: Iterator<Item = char>> {
     col: usize,
 }
 
-impl<T: Iterator<Item = char>> Model for Window<T> {
+impl<T: Characters> Model for Window<T> {
     ghost use Rattle.std.specs.Prelude.{◌+◌, ◌-◌};
     ghost use Rattle.std.specs.Prelude.{length as list_len};
     ghost use Rattle.yaml_chars.specs.Reading.{Reading, Fills};
@@ -44,7 +46,7 @@ impl<T: Iterator<Item = char>> Model for Window<T> {
     ghost invariant = { λ s. Fills s.source s.ring s.index s.line s.col };
 }
 
-impl<T: Iterator<Item = char>> Window<T> {
+impl<T: Characters> Window<T> {
     /// A window at the start of a text. Nothing is read yet.
     pub fn new(iter: T) -> Self
         requires can { T.can_next iter }
@@ -317,6 +319,49 @@ impl<T: Iterator<Item = char>> Window<T> {
             return Err(AllocError);
         }
         Ok(())
+    }
+
+    /// Takes words, and lone blanks between them, into a text, as far as they are in the window or known to come. It may
+    /// take none.
+    #[inline(always)]
+    pub fn take_words(&mut self, run: Run, text: &mut Text) -> Result<(), AllocError>
+        ensures ok { OnOk result (Reads self.old self.new (λ a b. TakesWords run a b (position_of self.old) (position_of self.new) text.old text.new)) }
+        ensures err { OnErr result (Reads self.old self.new (λ _ _. Unit {0})) }
+    {
+        'held: while self.len() > 0 {
+            let Some(c) = self.take(run) else {
+                return Ok(());
+            };
+            text.push(c)?;
+        }
+        self.words_from_source(run, text)
+    }
+
+    // The same, where nothing is in the window.
+    #[inline(always)]
+    fn words_from_source(&mut self, run: Run, text: &mut Text) -> Result<(), AllocError>
+        requires { self.old.ahead ≡ 0 }
+        ensures ok { OnOk result (Reads self.old self.new (λ a b. TakesWords run a b (position_of self.old) (position_of self.new) text.old text.new)) }
+        ensures err { OnErr result (Reads self.old self.new (λ _ _. Unit {0})) }
+    {
+        let count = self.source.words_on(run, text)?;
+        self.index += count;
+        self.col += count;
+        Ok(())
+    }
+
+    /// Steps over words, and lone blanks between them, as far as they are known to come. It may step over none, and does
+    /// so where something is in the window.
+    #[inline(always)]
+    pub fn pass_words(&mut self, run: Run)
+        ensures { Reads self.old self.new (λ a b. PassesWords run a b (position_of self.old) (position_of self.new)) }
+    {
+        if self.len() > 0 {
+            return;
+        }
+        let count = self.source.pass_words(run);
+        self.index += count;
+        self.col += count;
     }
 
     /// Steps over a line break.

@@ -1,0 +1,10 @@
+use Rattle.yaml_chars.proofs.WordsLemmas.{words_start, words_more, begins_goes}
+use Rattle.yaml_chars.proofs.run.Run.words.Goals as goal
+
+pub words-init : goal.words-init
+words-init c = words_start _ _ _ c.word_end-end.ensures
+
+pub words-preserved : goal.words-preserved
+words-preserved c =
+    let begins = c.is_first.ensures.begins c.if-is_first.true in
+    words_more _ _ _ _ c.words.invariant c.words-test.true c.if-bytes-end-eq32.true begins (begins_goes _ _ begins) (c.is_first.ensures.ascii c.if-is_first.true) c.word_end-end-in-words.ensures
