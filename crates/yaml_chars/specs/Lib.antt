@@ -1,4 +1,5 @@
 pub mod Class
+pub mod InMemory
 pub mod Queue
 pub mod Reading
 pub mod Run

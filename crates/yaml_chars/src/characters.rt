@@ -74,11 +74,11 @@ pub struct TextInMemory<'a> {
 }
 
 impl<'a> TextInMemory<'a> {
-    ghost use Rattle.std.specs.Str.Iter.{chars_rest};
+    ghost use Rattle.yaml_chars.specs.InMemory.{text_rest};
 
     /// A text, from its first character on.
     pub fn new(text: &'a str) -> Self
-        ensures { chars_rest result.chars ≡ text.now }
+        ensures { text_rest result ≡ text.now }
     {
         TextInMemory {
             chars: text.chars(),

@@ -4,3 +4,4 @@ mod PlainLemmas
 mod QuotedLemmas
 mod SpaceLemmas
 mod UriLemmas
+mod WordsLemmas

@@ -9,12 +9,12 @@ ghost use Rattle.yaml_lexers.specs.Shown.{Lexes, Refuses, read};
 
 use std::alloc::{AllocError, Global};
 use yaml_chars::class::is_anchor;
-use yaml_chars::{Text, Window};
+use yaml_chars::{Characters, Text, Window};
 use yaml_tokens::{Fault, Problem};
 
 /// Reads the characters of a name.
 #[tactic(auto, using(model_lexers::proofs::SpaceLemmas::take_end))]
-fn read_name<T: Iterator<Item = char>>(
+fn read_name<T: Characters>(
     window: &mut Window<T>,
     name: &mut Text,
 ) -> Result<(), AllocError>
@@ -33,7 +33,7 @@ fn read_name<T: Iterator<Item = char>>(
 
 /// Reads the name of an anchor or an alias, from the `&` or `*` on.
 #[tactic(auto, unfolding(model_lexers::specs::Anchor::anchor_name))]
-pub fn read_anchor_name<T: Iterator<Item = char>>(
+pub fn read_anchor_name<T: Characters>(
     alloc: Global,
     window: &mut Window<T>,
 ) -> Result<String, Fault>

@@ -10,7 +10,7 @@ use crate::header::{Header, read_header};
 use crate::plain::at_marker;
 use std::alloc::{AllocError, Global};
 use yaml_chars::class::{is_blank, is_break};
-use yaml_chars::{Marker, Run, Text, Window};
+use yaml_chars::{Characters, Marker, Run, Text, Window};
 use yaml_tokens::{Chomping, Fault, Problem};
 
 /// A block scalar's `|` or `>`: whether it is the literal one, its position, and the column of the
@@ -81,7 +81,7 @@ impl Lines {
 /// Steps over the spaces and empty lines before the first content line. The answer is the most
 /// spaces that a line of these begins with.
 #[tactic(auto, using(model_lexers::proofs::BlockLemmas::first_stop))]
-fn read_first_indent<T: Iterator<Item = char>>(
+fn read_first_indent<T: Characters>(
     window: &mut Window<T>,
     block: &mut Lines,
 ) -> Result<usize, AllocError>
@@ -114,7 +114,7 @@ fn read_first_indent<T: Iterator<Item = char>>(
 
 /// Steps over indentation and empty lines.
 #[tactic(auto, using(model_lexers::proofs::BlockLemmas::indent_stop), unfolding(model_lexers::specs::Block::ends_indent))]
-fn read_indent<T: Iterator<Item = char>>(
+fn read_indent<T: Characters>(
     window: &mut Window<T>,
     column: usize,
     block: &mut Lines,
@@ -143,7 +143,7 @@ fn read_indent<T: Iterator<Item = char>>(
 }
 
 /// Reads the characters up to a break or the end.
-fn read_run<T: Iterator<Item = char>>(
+fn read_run<T: Characters>(
     window: &mut Window<T>,
     block: &mut Lines,
 ) -> Result<(), AllocError>
@@ -151,12 +151,13 @@ fn read_run<T: Iterator<Item = char>>(
         lines_from literal column a (at line window.old block.old) ≡ lines_from literal column b (at line window.new block.new))) }
     ensures err { OnErr result (Reads window.old window.new (λ _ _. Unit {0})) }
 {
+    window.take_words(Run::Line, &mut block.text)?;
     window.take_run(Run::Line, &mut block.text)?;
     Ok(())
 }
 
 /// Reads a content line and its break.
-fn read_line<T: Iterator<Item = char>>(
+fn read_line<T: Characters>(
     window: &mut Window<T>,
     block: &mut Lines,
 ) -> Result<(), AllocError>
@@ -187,7 +188,7 @@ fn read_line<T: Iterator<Item = char>>(
 
 /// Whether a content line begins here.
 #[tactic(auto, unfolding(model_lexers::specs::Block::begins))]
-fn begins<T: Iterator<Item = char>>(window: &Window<T>, column: usize) -> bool
+fn begins<T: Characters>(window: &Window<T>, column: usize) -> bool
     requires { 4 ≤ window.now.ahead }
     ensures sees { Sees window.now (λ a. result ≡ begins column window.now.col a) }
     ensures has { result ≡ true → HasChar window.now }
@@ -200,7 +201,7 @@ fn begins<T: Iterator<Item = char>>(window: &Window<T>, column: usize) -> bool
 
 /// Reads the content line that begins here.
 #[tactic(auto, using(model_lexers::proofs::BlockLemmas::begin_lines))]
-fn read_content<T: Iterator<Item = char>>(
+fn read_content<T: Characters>(
     window: &mut Window<T>,
     literal: bool,
     column: usize,
@@ -222,7 +223,7 @@ fn read_content<T: Iterator<Item = char>>(
 
 /// Reads the lines of a block scalar whose content stands at a column, from the first one on.
 #[tactic(auto, using(model_lexers::proofs::BlockLemmas::stop_lines))]
-fn read_lines<T: Iterator<Item = char>>(
+fn read_lines<T: Characters>(
     window: &mut Window<T>,
     literal: bool,
     column: usize,
@@ -289,7 +290,7 @@ fn take_empty(chomping: Chomping, broken: bool, block: Lines) -> Result<Text, Al
 
 /// Steps to the first content line, and answers the column where content stands.
 #[tactic(auto, unfolding(model_lexers::specs::Block::content))]
-fn read_column<T: Iterator<Item = char>>(
+fn read_column<T: Characters>(
     window: &mut Window<T>,
     indent: usize,
     increment: usize,
@@ -314,7 +315,7 @@ fn read_column<T: Iterator<Item = char>>(
 
 /// Reads the lines from the first content line on, and what the chomping leaves of their tail. The
 /// answer is the token's position.
-fn read_body<T: Iterator<Item = char>>(
+fn read_body<T: Characters>(
     window: &mut Window<T>,
     indicator: Indicator,
     column: usize,
@@ -339,7 +340,7 @@ fn read_body<T: Iterator<Item = char>>(
 }
 
 /// Reads what comes after a header. The answer is the token's position and the text.
-fn read_after<T: Iterator<Item = char>>(
+fn read_after<T: Characters>(
     alloc: Global,
     window: &mut Window<T>,
     indicator: Indicator,
@@ -365,7 +366,7 @@ fn read_after<T: Iterator<Item = char>>(
 /// Reads a block scalar, from its `|` or `>` on. `indent` is the innermost block collection's
 /// column counted from 1, 0 where none is open. The answer is the token's position and the text.
 #[tactic(auto, unfolding(model_lexers::specs::Block::block))]
-pub fn read_block_scalar<T: Iterator<Item = char>>(
+pub fn read_block_scalar<T: Characters>(
     alloc: Global,
     window: &mut Window<T>,
     literal: bool,

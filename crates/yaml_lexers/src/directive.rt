@@ -14,7 +14,7 @@ use crate::tag::{read_handle, read_prefix};
 use model_lexers::SkipTabs;
 use std::alloc::Global;
 use yaml_chars::class::{is_alpha, is_blank_or_breakz, is_break, is_digit};
-use yaml_chars::{Marker, Text, Window};
+use yaml_chars::{Characters, Marker, Text, Window};
 use yaml_tokens::{Fault, Problem, TokenType};
 
 /// What a directive is by its name.
@@ -27,7 +27,7 @@ enum Directive {
 
 /// The directive whose name stands here.
 #[tactic(auto, unfolding(model_lexers::specs::Directive::kind))]
-fn directive_here<T: Iterator<Item = char>>(window: &Window<T>) -> Directive
+fn directive_here<T: Characters>(window: &Window<T>) -> Directive
     requires { 5 ≤ window.now.ahead }
     ensures { Sees window.now (λ a. kind_shown result ≡ kind a) }
 {
@@ -44,7 +44,7 @@ fn directive_here<T: Iterator<Item = char>>(window: &Window<T>) -> Directive
 
 /// Steps over ASCII letters, digits, `_` and `-`.
 #[tactic(auto, using(model_lexers::proofs::SpaceLemmas::skip_end))]
-fn skip_word<T: Iterator<Item = char>>(window: &mut Window<T>)
+fn skip_word<T: Characters>(window: &mut Window<T>)
     ensures reads { Reads window.old window.new (λ a b. skip_while is_alpha a (position_of window.old) ≡ read b window.new tt) }
     ensures ahead { 0 < window.new.ahead }
 {
@@ -58,7 +58,7 @@ fn skip_word<T: Iterator<Item = char>>(window: &mut Window<T>)
 
 /// Steps over a directive's name.
 #[tactic(auto, unfolding(model_lexers::specs::Directive::name))]
-fn skip_name<T: Iterator<Item = char>>(window: &mut Window<T>) -> Result<Directive, Fault>
+fn skip_name<T: Characters>(window: &mut Window<T>) -> Result<Directive, Fault>
     ensures ok { IfOk result (λ k. Lexes name window.old window.new (kind_shown k)) }
     ensures err { IfErr result (λ e. Refuses name window.old window.new e) }
 {
@@ -88,7 +88,7 @@ fn with_digit(value: u32, c: char) -> u32
 
 /// Reads a number of a version, of at most nine digits.
 #[tactic(auto, using(model_lexers::proofs::DirectiveLemmas::digits_stop, model_lexers::proofs::DirectiveLemmas::too_long), unfolding(model_lexers::specs::Directive::number))]
-fn read_number<T: Iterator<Item = char>>(
+fn read_number<T: Characters>(
     window: &mut Window<T>,
     start: Marker,
 ) -> Result<u32, Fault>
@@ -115,7 +115,7 @@ fn read_number<T: Iterator<Item = char>>(
 }
 
 /// Reads the minor number of a version, with the dot before it.
-fn read_minor<T: Iterator<Item = char>>(
+fn read_minor<T: Characters>(
     window: &mut Window<T>,
     start: Marker,
     major: u32,
@@ -133,7 +133,7 @@ fn read_minor<T: Iterator<Item = char>>(
 
 /// Reads the two numbers of a version.
 #[tactic(auto, unfolding(model_lexers::specs::Directive::version_value))]
-fn read_version<T: Iterator<Item = char>>(
+fn read_version<T: Characters>(
     window: &mut Window<T>,
     start: Marker,
 ) -> Result<TokenType, Fault>
@@ -146,7 +146,7 @@ fn read_version<T: Iterator<Item = char>>(
 }
 
 /// Reads the prefix of a tag directive, with the blanks before it.
-fn read_tag_prefix<T: Iterator<Item = char>>(
+fn read_tag_prefix<T: Characters>(
     alloc: Global,
     window: &mut Window<T>,
     start: Marker,
@@ -165,7 +165,7 @@ fn read_tag_prefix<T: Iterator<Item = char>>(
 
 /// Reads a handle and its prefix.
 #[tactic(auto, unfolding(model_lexers::specs::Directive::tag_value))]
-fn read_tag_directive<T: Iterator<Item = char>>(
+fn read_tag_directive<T: Characters>(
     alloc: Global,
     window: &mut Window<T>,
     start: Marker,
@@ -179,7 +179,7 @@ fn read_tag_directive<T: Iterator<Item = char>>(
 }
 
 /// Reads what a directive says, up to what may stand before its line's end.
-fn read_value<T: Iterator<Item = char>>(
+fn read_value<T: Characters>(
     alloc: Global,
     window: &mut Window<T>,
     start: Marker,
@@ -201,7 +201,7 @@ fn read_value<T: Iterator<Item = char>>(
 
 /// Steps over the break after a directive, if one stands here.
 #[tactic(auto, using(model_lexers::proofs::DirectiveLemmas::break_stands, model_lexers::proofs::DirectiveLemmas::break_fails), unfolding(model_lexers::specs::Directive::directive_break))]
-fn skip_directive_break<T: Iterator<Item = char>>(
+fn skip_directive_break<T: Characters>(
     window: &mut Window<T>,
     start: Marker,
 ) -> Result<(), Fault>
@@ -221,7 +221,7 @@ fn skip_directive_break<T: Iterator<Item = char>>(
 
 /// Steps over a directive's line from after its value on, with its break.
 #[tactic(auto, unfolding(model_lexers::specs::Directive::line_end))]
-fn skip_line_end<T: Iterator<Item = char>>(
+fn skip_line_end<T: Characters>(
     window: &mut Window<T>,
     start: Marker,
 ) -> Result<(), Fault>
@@ -233,7 +233,7 @@ fn skip_line_end<T: Iterator<Item = char>>(
 }
 
 /// Reads a directive after its name.
-fn read_named<T: Iterator<Item = char>>(
+fn read_named<T: Characters>(
     alloc: Global,
     window: &mut Window<T>,
     start: Marker,
@@ -250,7 +250,7 @@ fn read_named<T: Iterator<Item = char>>(
 /// Reads a directive, from the `%` to after its line's break. One of an unknown name is a tag
 /// directive of two empty texts.
 #[tactic(auto, unfolding(model_lexers::specs::Directive::directive))]
-pub fn read_directive<T: Iterator<Item = char>>(
+pub fn read_directive<T: Characters>(
     alloc: Global,
     window: &mut Window<T>,
 ) -> Result<TokenType, Fault>

@@ -11,7 +11,7 @@ ghost use Rattle.yaml_lexers.specs.Shown.{folded};
 use crate::folding::Folding;
 use crate::quoted::{Part, Quote, read_run};
 use yaml_chars::class::{hex_value, is_break, is_hex};
-use yaml_chars::{Marker, Window};
+use yaml_chars::{Characters, Marker, Window};
 use yaml_tokens::{Fault, Problem};
 
 /// How many hexadecimal digits a code has.
@@ -72,7 +72,7 @@ fn escape_of(c: char) -> Escape
 /// Reads a hexadecimal digit.
 #[inline(always)]
 #[tactic(auto, using(model_lexers::proofs::QuotedLemmas::digit_turn, model_lexers::proofs::QuotedLemmas::digit_fails))]
-fn read_digit<T: Iterator<Item = char>>(window: &mut Window<T>, start: Marker) -> Result<u32, Fault>
+fn read_digit<T: Characters>(window: &mut Window<T>, start: Marker) -> Result<u32, Fault>
     ensures ok { IfOk result (λ n. Reads window.old window.new (λ a b. (single : Bool) (context : Context) (more value : ℕ) (t : Folded) →
         digits_from single context start (suc more) value a (position_of window.old) t ≡ digits_from single context start more (value * 16 + n) b (position_of window.new) t)) }
     ensures err { IfErr result (λ e. Reads window.old window.new (λ a b. (single : Bool) (context : Context) (more value : ℕ) (t : Folded) →
@@ -96,7 +96,7 @@ fn char_of(code: u32) -> Option<char>
 }
 
 /// Reads a code's digits.
-fn read_code<T: Iterator<Item = char>>(
+fn read_code<T: Characters>(
     window: &mut Window<T>,
     start: Marker,
     digits: Digits,
@@ -118,7 +118,7 @@ fn read_code<T: Iterator<Item = char>>(
 
 /// Reads a code's digits. The code has to be a character's.
 #[tactic(auto, using(model_lexers::proofs::QuotedLemmas::coded, model_lexers::proofs::QuotedLemmas::coded_fails))]
-fn read_coded<T: Iterator<Item = char>>(
+fn read_coded<T: Characters>(
     window: &mut Window<T>,
     quote: &Quote,
     digits: Digits,
@@ -140,7 +140,7 @@ fn read_coded<T: Iterator<Item = char>>(
 /// Reads what a backslash names.
 #[inline(always)]
 #[tactic(auto, using(model_lexers::proofs::QuotedLemmas::named_char, model_lexers::proofs::QuotedLemmas::named_code, model_lexers::proofs::QuotedLemmas::named_unknown))]
-fn read_named<T: Iterator<Item = char>>(
+fn read_named<T: Characters>(
     window: &mut Window<T>,
     quote: &Quote,
     scalar: &mut Folding,
@@ -164,7 +164,7 @@ fn read_named<T: Iterator<Item = char>>(
 
 /// Whether a backslash stands here. Then the character after it is in the window too.
 #[inline(always)]
-fn at_backslash<T: Iterator<Item = char>>(window: &mut Window<T>) -> bool
+fn at_backslash<T: Characters>(window: &mut Window<T>) -> bool
     ensures reads { Reads window.old window.new (λ a b. b ≡ a) }
     ensures position { SamePosition window.old window.new }
     ensures here { result ≡ true → Shows window.new 2 92 }
@@ -178,7 +178,7 @@ fn at_backslash<T: Iterator<Item = char>>(window: &mut Window<T>) -> bool
 
 /// Steps over a backslash, and says whether a break stands after it.
 #[inline(always)]
-fn skip_backslash<T: Iterator<Item = char>>(window: &mut Window<T>) -> bool
+fn skip_backslash<T: Characters>(window: &mut Window<T>) -> bool
     requires here { Shows window.old 2 92 }
     ensures reads { Reads window.old window.new (λ a b. (context : Context) (start : Position) (t : Folded) →
         quoted_from false context start a (at_folded inside window.old t) ≡ quoted_from false context start b (at_folded (if result then breaking else named) window.new t)) }
@@ -190,7 +190,7 @@ fn skip_backslash<T: Iterator<Item = char>>(window: &mut Window<T>) -> bool
 }
 
 /// Reads an escape and the words after it, as long as an escape comes after these.
-pub(crate) fn read_escapes<T: Iterator<Item = char>>(
+pub(crate) fn read_escapes<T: Characters>(
     window: &mut Window<T>,
     quote: &Quote,
     scalar: &mut Folding,

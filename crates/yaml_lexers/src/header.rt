@@ -8,7 +8,7 @@ ghost use Rattle.yaml_lexers.specs.ShownBlock.{indicators_shown, header_shown};
 use crate::space::{skip_linebreak, skip_ws_to_eol};
 use model_lexers::SkipTabs;
 use yaml_chars::class::{hex_value, is_break, is_digit};
-use yaml_chars::{Marker, Window};
+use yaml_chars::{Characters, Marker, Window};
 use yaml_tokens::{Chomping, Fault, Problem};
 
 /// A header: the chomping, the indentation indicator or 0 where there is none, and whether a break
@@ -22,7 +22,7 @@ pub(crate) struct Header {
 
 /// Reads a chomping indicator, if one stands here, else it is `Clip`.
 #[tactic(auto, using(model_lexers::proofs::BlockLemmas::no_chomping), unfolding(model_lexers::specs::Block::chomping))]
-fn read_chomping<T: Iterator<Item = char>>(window: &mut Window<T>) -> Chomping
+fn read_chomping<T: Characters>(window: &mut Window<T>) -> Chomping
     ensures { Reads window.old window.new (λ a b. chomping a (position_of window.old) ≡ read b window.new result) }
 {
     match window.look_ch() {
@@ -40,7 +40,7 @@ fn read_chomping<T: Iterator<Item = char>>(window: &mut Window<T>) -> Chomping
 
 /// Reads an indentation indicator, if one stands here, else it is 0.
 #[tactic(auto, using(model_lexers::proofs::BlockLemmas::no_increment), unfolding(yaml_chars::specs::Class::is_digit, model_lexers::specs::Block::increment))]
-fn read_increment<T: Iterator<Item = char>>(
+fn read_increment<T: Characters>(
     window: &mut Window<T>,
     start: Marker,
 ) -> Result<usize, Fault>
@@ -61,7 +61,7 @@ fn read_increment<T: Iterator<Item = char>>(
 
 /// Reads the chomping and the indentation indicator, in either order.
 #[tactic(auto, unfolding(model_lexers::specs::Block::indicators))]
-fn read_indicators<T: Iterator<Item = char>>(
+fn read_indicators<T: Characters>(
     window: &mut Window<T>,
     start: Marker,
 ) -> Result<(Chomping, usize), Fault>
@@ -80,7 +80,7 @@ fn read_indicators<T: Iterator<Item = char>>(
 
 /// Steps over the break after a header, if one stands here. The answer is whether it did.
 #[tactic(auto, using(model_lexers::proofs::BlockLemmas::break_stands, model_lexers::proofs::BlockLemmas::header_fails), unfolding(model_lexers::specs::Block::header_break))]
-fn end_line<T: Iterator<Item = char>>(window: &mut Window<T>, start: Marker) -> Result<bool, Fault>
+fn end_line<T: Characters>(window: &mut Window<T>, start: Marker) -> Result<bool, Fault>
     ensures ok { IfOk result (λ broken. Reads window.old window.new (λ a b. header_break start a (position_of window.old) ≡ Ok (read b window.new broken))) }
     ensures err { IfErr result (λ e. Reads window.old window.new (λ a b. header_break start a (position_of window.old) ≡ Err e)) }
 {
@@ -100,7 +100,7 @@ fn end_line<T: Iterator<Item = char>>(window: &mut Window<T>, start: Marker) -> 
 
 /// Steps over the rest of a header's line. The answer is whether a break ended it.
 #[tactic(auto, unfolding(model_lexers::specs::Block::header_end))]
-fn end_header<T: Iterator<Item = char>>(
+fn end_header<T: Characters>(
     window: &mut Window<T>,
     start: Marker,
 ) -> Result<bool, Fault>
@@ -113,7 +113,7 @@ fn end_header<T: Iterator<Item = char>>(
 
 /// Reads a header from after the `|` or `>` on, with its line's break.
 #[tactic(auto, unfolding(model_lexers::specs::Block::header))]
-pub(crate) fn read_header<T: Iterator<Item = char>>(
+pub(crate) fn read_header<T: Characters>(
     window: &mut Window<T>,
     start: Marker,
 ) -> Result<Header, Fault>

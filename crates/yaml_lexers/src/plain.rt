@@ -12,7 +12,7 @@ use crate::folding::Folding;
 use model_lexers::Context;
 use std::alloc::{AllocError, Global};
 use yaml_chars::class::{is_blank, is_blank_or_breakz, is_break, is_breakz, is_flow};
-use yaml_chars::{Marker, Run, Window};
+use yaml_chars::{Characters, Marker, Run, Window};
 use yaml_tokens::{Fault, Problem};
 
 /// A plain scalar's text, and whether it ended after a break, where a key may follow.
@@ -34,8 +34,26 @@ fn can_be_plain(flow: bool, c: char, next: char) -> bool
     }
 }
 
+/// Reads words, and lone blanks between them, as far as the text is known.
+#[inline(always)]
+fn read_known<T: Characters>(
+    window: &mut Window<T>,
+    context: Context,
+    scalar: &mut Folding,
+) -> Result<(), AllocError>
+    ensures ok { OnOk result (Reads window.old window.new (λ a b. (start : Position) →
+        plain_from context start a (at inside window.old scalar.old) ≡ plain_from context start b (at inside window.new scalar.new))) }
+    ensures err { OnErr result (Reads window.old window.new (λ _ _. Unit {0})) }
+{
+    if is_shallow(context, window.mark().col()) || !scalar.is_joined() {
+        return Ok(());
+    }
+    window.take_words(Run::Plain(context.flow), &mut scalar.text)?;
+    Ok(())
+}
+
 /// Reads the characters up to a blank, a break, the end, a colon or what ends a plain scalar in flow.
-fn read_word<T: Iterator<Item = char>>(
+fn read_word<T: Characters>(
     window: &mut Window<T>,
     context: Context,
     scalar: &mut Folding,
@@ -59,7 +77,7 @@ fn is_wordy(c: char) -> bool
 
 /// Takes a blank that stands alone between two characters of a line.
 #[inline(always)]
-fn take_lone_blank<T: Iterator<Item = char>>(
+fn take_lone_blank<T: Characters>(
     window: &mut Window<T>,
     context: Context,
     scalar: &mut Folding,
@@ -85,7 +103,7 @@ fn take_lone_blank<T: Iterator<Item = char>>(
 }
 
 /// Reads words with one blank between each two.
-fn read_words<T: Iterator<Item = char>>(
+fn read_words<T: Characters>(
     window: &mut Window<T>,
     context: Context,
     scalar: &mut Folding,
@@ -95,6 +113,7 @@ fn read_words<T: Iterator<Item = char>>(
     ensures err { OnErr result (Reads window.old window.new (λ _ _. Unit {0})) }
 {
     'words: loop {
+        read_known(window, context, scalar)?;
         read_word(window, context, scalar)?;
         if !take_lone_blank(window, context, scalar)? {
             return Ok(());
@@ -105,7 +124,7 @@ fn read_words<T: Iterator<Item = char>>(
 /// Reads the characters up to a blank, a break, the end, or what ends a plain scalar. The result is whether a gap may
 /// come: without one the scalar ends here.
 #[tactic(auto, using(model_lexers::proofs::PlainLemmas::run_end))]
-fn read_run<T: Iterator<Item = char>>(
+fn read_run<T: Characters>(
     window: &mut Window<T>,
     context: Context,
     scalar: &mut Folding,
@@ -140,7 +159,7 @@ fn is_marker(c: char, d: char, e: char, f: char) -> bool
 /// Sees to it that the next two characters are in the window, and four where a document marker may stand: at a line's
 /// first column.
 #[inline(always)]
-pub(crate) fn look_ahead<T: Iterator<Item = char>>(window: &mut Window<T>)
+pub(crate) fn look_ahead<T: Characters>(window: &mut Window<T>)
     ensures reads { Reads window.old window.new (λ a b. b ≡ a) }
     ensures position { SamePosition window.old window.new }
     ensures ahead { 2 ≤ window.new.ahead }
@@ -152,7 +171,7 @@ pub(crate) fn look_ahead<T: Iterator<Item = char>>(window: &mut Window<T>)
 
 /// Whether a document marker stands here.
 #[tactic(auto, unfolding(model_lexers::specs::Machine::at_marker))]
-pub(crate) fn at_marker<T: Iterator<Item = char>>(window: &Window<T>) -> bool
+pub(crate) fn at_marker<T: Characters>(window: &Window<T>) -> bool
     requires { window.now.col ≡ 0 → 4 ≤ window.now.ahead }
     ensures { Sees window.now (λ a. result ≡ at_marker window.now.col a) }
 {
@@ -169,7 +188,7 @@ pub(crate) fn at_marker<T: Iterator<Item = char>>(window: &Window<T>) -> bool
 
 /// Whether a dash stands here that no plain scalar may begin with.
 #[tactic(auto, unfolding(model_lexers::specs::Plain::at_dash))]
-fn at_dash<T: Iterator<Item = char>>(window: &Window<T>, flow: bool) -> bool
+fn at_dash<T: Characters>(window: &Window<T>, flow: bool) -> bool
     requires { 2 ≤ window.now.ahead }
     ensures { Sees window.now (λ a. result ≡ at_dash flow a) }
 {
@@ -178,7 +197,7 @@ fn at_dash<T: Iterator<Item = char>>(window: &Window<T>, flow: bool) -> bool
 
 /// Whether a character stands here that may be one of a plain scalar.
 #[tactic(auto, unfolding(model_lexers::specs::Plain::at_plain))]
-fn at_plain<T: Iterator<Item = char>>(window: &Window<T>, flow: bool) -> bool
+fn at_plain<T: Characters>(window: &Window<T>, flow: bool) -> bool
     requires { 2 ≤ window.now.ahead }
     ensures sees { Sees window.now (λ a. result ≡ at_plain flow a) }
     ensures has { result ≡ true → HasChar window.now }
@@ -196,7 +215,7 @@ fn is_shallow(context: Context, col: usize) -> bool
 
 /// Whether a scalar goes on at a character after a gap.
 #[tactic(auto, unfolding(model_lexers::specs::Plain::goes_on))]
-fn goes_on<T: Iterator<Item = char>>(
+fn goes_on<T: Characters>(
     window: &mut Window<T>,
     context: Context,
 ) -> Result<bool, Fault>
@@ -222,7 +241,7 @@ fn goes_on<T: Iterator<Item = char>>(
 /// Steps over a TAB at the indentation's position and the blanks after it, up to the end of the
 /// line or a comment.
 #[tactic(auto, using(model_lexers::proofs::PlainLemmas::tabs_end))]
-fn skip_tabs<T: Iterator<Item = char>>(window: &mut Window<T>, start: Marker) -> Result<(), Fault>
+fn skip_tabs<T: Characters>(window: &mut Window<T>, start: Marker) -> Result<(), Fault>
     requires tab { Sees window.old (λ a. slice_index a 0 ≡ 9) }
     requires has { HasChar window.old }
     requires ahead { 0 < window.old.ahead }
@@ -248,7 +267,7 @@ fn skip_tabs<T: Iterator<Item = char>>(window: &mut Window<T>, start: Marker) ->
 /// Steps over the spaces that a line after a break begins with.
 #[inline(always)]
 #[tactic(auto, using(model_lexers::proofs::RunLemmas::space_run))]
-fn skip_spaces<T: Iterator<Item = char>>(window: &mut Window<T>)
+fn skip_spaces<T: Characters>(window: &mut Window<T>)
     ensures { Reads window.old window.new (λ a b. (context : Context) (start : Position) (t : Folded) → t.leading ≡ true →
         plain_from context start a (at_folded between window.old t) ≡ plain_from context start b (at_folded between window.new t)) }
 {
@@ -256,7 +275,7 @@ fn skip_spaces<T: Iterator<Item = char>>(window: &mut Window<T>)
 }
 
 /// Reads blanks and breaks.
-fn read_gap<T: Iterator<Item = char>>(
+fn read_gap<T: Characters>(
     window: &mut Window<T>,
     context: Context,
     start: Marker,
@@ -291,7 +310,7 @@ fn read_gap<T: Iterator<Item = char>>(
 
 /// Whether a plain scalar may begin here.
 #[tactic(auto, unfolding(model_lexers::specs::Plain::starts))]
-fn check_start<T: Iterator<Item = char>>(window: &Window<T>, context: Context) -> Result<(), Fault>
+fn check_start<T: Characters>(window: &Window<T>, context: Context) -> Result<(), Fault>
     requires { 2 ≤ window.now.ahead }
     ensures { Sees window.now (λ a. result ≡ starts context a (position_of window.now)) }
 {
@@ -307,7 +326,7 @@ fn check_start<T: Iterator<Item = char>>(window: &Window<T>, context: Context) -
 
 /// Reads the character that stands here and the rest of its line, and the gap after it. The result is whether a gap may
 /// have come: without one the scalar ends here.
-fn read_line<T: Iterator<Item = char>>(
+fn read_line<T: Characters>(
     window: &mut Window<T>,
     context: Context,
     start: Marker,
@@ -344,7 +363,7 @@ fn ended(scalar: Folding) -> Plain
 
 /// Reads a plain scalar, which may go on over lines, from its first character on.
 #[tactic(auto, using(model_lexers::proofs::PlainLemmas::go_on, model_lexers::proofs::PlainLemmas::stop_here, model_lexers::proofs::PlainLemmas::fail_here), unfolding(model_lexers::specs::Plain::plain))]
-pub fn read_plain<T: Iterator<Item = char>>(
+pub fn read_plain<T: Characters>(
     alloc: Global,
     window: &mut Window<T>,
     context: Context,

@@ -14,7 +14,7 @@ use crate::plain::{at_marker, look_ahead};
 use model_lexers::Context;
 use std::alloc::{AllocError, Global};
 use yaml_chars::class::{is_blank, is_blank_or_breakz, is_break};
-use yaml_chars::{Marker, Run, Window};
+use yaml_chars::{Characters, Marker, Run, Window};
 use yaml_tokens::{Fault, Problem};
 
 /// What stands next in a quoted scalar: its first character, the next one of a line, what comes in
@@ -48,7 +48,7 @@ fn quote_of(single: bool) -> char
 
 /// Refuses a document marker and a line that stands too far left.
 #[tactic(auto, unfolding(model_lexers::specs::Quoted::refused))]
-fn check_line<T: Iterator<Item = char>>(window: &Window<T>, quote: &Quote) -> Result<(), Fault>
+fn check_line<T: Characters>(window: &Window<T>, quote: &Quote) -> Result<(), Fault>
     requires { window.now.col ≡ 0 → 4 ≤ window.now.ahead }
     ensures { Sees window.now (λ a. result ≡ refused quote.now.context quote.now.start a (position_of window.now)) }
 {
@@ -63,7 +63,7 @@ fn check_line<T: Iterator<Item = char>>(window: &Window<T>, quote: &Quote) -> Re
 
 /// Reads a blank or a break.
 #[inline(always)]
-fn read_gap<T: Iterator<Item = char>>(
+fn read_gap<T: Characters>(
     window: &mut Window<T>,
     quote: &Quote,
     c: char,
@@ -91,7 +91,7 @@ fn read_gap<T: Iterator<Item = char>>(
 
 /// Reads a character that is no blank and no break.
 #[inline(always)]
-fn read_inside<T: Iterator<Item = char>>(
+fn read_inside<T: Characters>(
     window: &mut Window<T>,
     quote: &Quote,
     c: char,
@@ -117,7 +117,7 @@ fn read_inside<T: Iterator<Item = char>>(
 /// Reads a character of a line.
 #[inline(always)]
 #[tactic(auto, using(model_lexers::proofs::QuotedLemmas::inside_gap))]
-fn read_in_line<T: Iterator<Item = char>>(
+fn read_in_line<T: Characters>(
     window: &mut Window<T>,
     quote: &Quote,
     c: char,
@@ -136,7 +136,7 @@ fn read_in_line<T: Iterator<Item = char>>(
 /// Reads the first character of a line, or one after a gap.
 #[inline(always)]
 #[tactic(auto, using(model_lexers::proofs::QuotedLemmas::line_inside, model_lexers::proofs::QuotedLemmas::line_fails))]
-fn read_line<T: Iterator<Item = char>>(
+fn read_line<T: Characters>(
     window: &mut Window<T>,
     quote: &Quote,
     c: char,
@@ -154,7 +154,7 @@ fn read_line<T: Iterator<Item = char>>(
 
 /// Reads a character in a gap, or the one after it.
 #[tactic(auto, using(model_lexers::proofs::QuotedLemmas::gap_line))]
-fn read_in_gap<T: Iterator<Item = char>>(
+fn read_in_gap<T: Characters>(
     window: &mut Window<T>,
     quote: &Quote,
     c: char,
@@ -174,7 +174,7 @@ fn read_in_gap<T: Iterator<Item = char>>(
 
 /// Reads a character after an escaped break.
 #[tactic(auto, using(model_lexers::proofs::QuotedLemmas::after_quote, model_lexers::proofs::QuotedLemmas::after_gap))]
-fn read_after<T: Iterator<Item = char>>(
+fn read_after<T: Characters>(
     window: &mut Window<T>,
     quote: &Quote,
     c: char,
@@ -192,7 +192,7 @@ fn read_after<T: Iterator<Item = char>>(
 }
 
 /// Reads an escaped break.
-fn read_escaped_break<T: Iterator<Item = char>>(
+fn read_escaped_break<T: Characters>(
     window: &mut Window<T>,
     scalar: &mut Folding,
 ) -> Part
@@ -211,7 +211,7 @@ fn read_escaped_break<T: Iterator<Item = char>>(
 }
 
 /// Reads the second one of two quotes.
-fn read_doubled<T: Iterator<Item = char>>(
+fn read_doubled<T: Characters>(
     window: &mut Window<T>,
     c: char,
     scalar: &mut Folding,
@@ -227,7 +227,7 @@ fn read_doubled<T: Iterator<Item = char>>(
 }
 
 /// Reads what stands here.
-fn read_part<T: Iterator<Item = char>>(
+fn read_part<T: Characters>(
     window: &mut Window<T>,
     quote: &Quote,
     part: Part,
@@ -252,9 +252,27 @@ fn read_part<T: Iterator<Item = char>>(
     }
 }
 
+/// Reads words, and lone blanks between them, as far as the text is known.
+#[inline(always)]
+fn read_known<T: Characters>(
+    window: &mut Window<T>,
+    quote: &Quote,
+    scalar: &mut Folding,
+) -> Result<(), AllocError>
+    ensures ok { OnOk result (GoesOn quote.now inside window.old scalar.old inside window.new scalar.new) }
+    ensures err { OnErr result (Reads window.old window.new (λ _ _. Unit {0})) }
+{
+    if window.mark().col() + 1 < quote.context.indent || !scalar.is_joined() {
+        return Ok(());
+    }
+    let run = Run::Quoted(quote_of(quote.single));
+    window.take_words(run, &mut scalar.text)?;
+    Ok(())
+}
+
 /// Reads the characters up to a blank, a break, the end, a quote or a backslash.
 #[inline(always)]
-fn read_word<T: Iterator<Item = char>>(
+fn read_word<T: Characters>(
     window: &mut Window<T>,
     quote: &Quote,
     scalar: &mut Folding,
@@ -277,7 +295,7 @@ fn goes_on_in(quote: &Quote, col: usize) -> bool
 
 /// Reads the character that a word begins with, and makes room for a short text. Where none begins, no memory is taken.
 #[inline(always)]
-fn begin_word<T: Iterator<Item = char>>(
+fn begin_word<T: Characters>(
     window: &mut Window<T>,
     quote: &Quote,
     scalar: &mut Folding,
@@ -295,7 +313,7 @@ fn begin_word<T: Iterator<Item = char>>(
 
 /// Takes a blank that stands alone between two characters of a line.
 #[inline(always)]
-fn take_lone_blank<T: Iterator<Item = char>>(
+fn take_lone_blank<T: Characters>(
     window: &mut Window<T>,
     quote: &Quote,
     scalar: &mut Folding,
@@ -321,7 +339,7 @@ fn take_lone_blank<T: Iterator<Item = char>>(
 }
 
 /// Reads words of a line, with one blank between each two.
-pub(crate) fn read_run<T: Iterator<Item = char>>(
+pub(crate) fn read_run<T: Characters>(
     window: &mut Window<T>,
     quote: &Quote,
     scalar: &mut Folding,
@@ -331,6 +349,7 @@ pub(crate) fn read_run<T: Iterator<Item = char>>(
     ensures left { OnOk result (window.new.left ≤ window.old.left) }
 {
     'words: loop {
+        read_known(window, quote, scalar)?;
         read_word(window, quote, scalar)?;
         if !take_lone_blank(window, quote, scalar)? {
             return Ok(());
@@ -340,7 +359,7 @@ pub(crate) fn read_run<T: Iterator<Item = char>>(
 
 /// Takes the closing quote of a scalar in double quotes, if it stands here.
 #[inline(always)]
-fn take_closing<T: Iterator<Item = char>>(window: &mut Window<T>, quote: &Quote) -> Part
+fn take_closing<T: Characters>(window: &mut Window<T>, quote: &Quote) -> Part
     ensures reads { Reads window.old window.new (λ a b. (t : Folded) →
         quoted_from quote.now.single quote.now.context quote.now.start a (at_folded inside window.old t) ≡ quoted_from quote.now.single quote.now.context quote.now.start b (at_folded (mode_of result) window.new t)) }
     ensures left { window.new.left ≤ window.old.left }
@@ -357,7 +376,7 @@ fn take_closing<T: Iterator<Item = char>>(window: &mut Window<T>, quote: &Quote)
 
 /// Reads the words that a scalar begins with, and in double quotes the closing one, if it stands right after them.
 #[inline(always)]
-fn begin_words<T: Iterator<Item = char>>(
+fn begin_words<T: Characters>(
     window: &mut Window<T>,
     quote: &Quote,
     scalar: &mut Folding,
@@ -376,7 +395,7 @@ fn begin_words<T: Iterator<Item = char>>(
 }
 
 /// Reads what stands between the quotes, and the closing one.
-fn read_parts<T: Iterator<Item = char>>(
+fn read_parts<T: Characters>(
     window: &mut Window<T>,
     quote: &Quote,
     scalar: &mut Folding,
@@ -398,7 +417,7 @@ fn read_parts<T: Iterator<Item = char>>(
 
 /// Reads a quoted scalar, from the opening quote to after the closing one.
 #[tactic(auto, using(model_lexers::proofs::QuotedLemmas::quoted_starts, model_lexers::proofs::QuotedLemmas::closed_end), unfolding(model_lexers::specs::Quoted::quoted))]
-pub fn read_quoted<T: Iterator<Item = char>>(
+pub fn read_quoted<T: Characters>(
     alloc: Global,
     window: &mut Window<T>,
     single: bool,

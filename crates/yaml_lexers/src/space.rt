@@ -6,11 +6,11 @@ ghost use Rattle.yaml_lexers.specs.Shown.{read};
 
 use model_lexers::{SkipTabs, Whitespace};
 use yaml_chars::class::is_blank;
-use yaml_chars::{Run, Window};
+use yaml_chars::{Characters, Run, Window};
 use yaml_tokens::{Fault, Problem};
 
 /// Steps over the line break that stands here, CR LF as one.
-pub fn skip_linebreak<T: Iterator<Item = char>>(window: &mut Window<T>)
+pub fn skip_linebreak<T: Characters>(window: &mut Window<T>)
     requires { HasChar window.old }
     ensures reads { Reads window.old window.new (λ a b. linebreak a (position_of window.old) ≡ read b window.new tt) }
     ensures less { window.new.left < window.old.left }
@@ -26,10 +26,11 @@ pub fn skip_linebreak<T: Iterator<Item = char>>(window: &mut Window<T>)
 
 /// Steps to the end of the line. What stands there is then in the window.
 #[tactic(auto, using(model_lexers::proofs::SpaceLemmas::comment_on, model_lexers::proofs::SpaceLemmas::comment_end))]
-pub fn skip_comment<T: Iterator<Item = char>>(window: &mut Window<T>)
+pub fn skip_comment<T: Characters>(window: &mut Window<T>)
     ensures reads { Reads window.old window.new (λ a b. comment a (position_of window.old) ≡ read b window.new tt) }
     ensures ahead { 0 < window.new.ahead }
 {
+    window.pass_words(Run::Line);
     'comment: while let Some(_) = window.take(Run::Line) {}
     window.look_ch();
 }
@@ -38,7 +39,7 @@ pub fn skip_comment<T: Iterator<Item = char>>(window: &mut Window<T>)
 /// line. What stands after them is then in the window.
 #[inline(always)]
 #[tactic(auto, using(crate::proofs::SpaceLemmas::no_space), unfolding(model_lexers::specs::Space::space))]
-pub fn skip_ws_to_eol<T: Iterator<Item = char>>(
+pub fn skip_ws_to_eol<T: Characters>(
     window: &mut Window<T>,
     tabs: SkipTabs,
 ) -> Result<Whitespace, Fault>
@@ -59,7 +60,7 @@ pub fn skip_ws_to_eol<T: Iterator<Item = char>>(
 // The same, where a blank or a comment stands here.
 #[inline(never)]
 #[tactic(auto, using(model_lexers::proofs::SpaceLemmas::spaces_stop, model_lexers::proofs::SpaceLemmas::at_comment), unfolding(model_lexers::specs::Space::space))]
-fn skip_spaces<T: Iterator<Item = char>>(
+fn skip_spaces<T: Characters>(
     window: &mut Window<T>,
     tabs: SkipTabs,
 ) -> Result<Whitespace, Fault>
@@ -92,7 +93,7 @@ fn skip_spaces<T: Iterator<Item = char>>(
 
 /// Steps over spaces and TABs.
 #[tactic(auto, using(model_lexers::proofs::SpaceLemmas::skip_end))]
-pub(crate) fn skip_blanks<T: Iterator<Item = char>>(window: &mut Window<T>)
+pub(crate) fn skip_blanks<T: Characters>(window: &mut Window<T>)
     ensures reads { Reads window.old window.new (λ a b. blanks a (position_of window.old) ≡ read b window.new tt) }
     ensures ahead { 0 < window.new.ahead }
 {

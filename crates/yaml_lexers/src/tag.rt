@@ -11,12 +11,12 @@ ghost use Rattle.yaml_lexers.specs.ShownTag.{tag_shown};
 use crate::uri::{read_suffix, read_uri};
 use std::alloc::{AllocError, Global};
 use yaml_chars::class::{is_alpha, is_blank_or_breakz, is_flow, is_tag};
-use yaml_chars::{Marker, Text, Window};
+use yaml_chars::{Characters, Marker, Text, Window};
 use yaml_tokens::{Fault, Problem};
 
 /// Reads ASCII letters, digits, `_` and `-`.
 #[tactic(auto, using(model_lexers::proofs::SpaceLemmas::take_end))]
-fn read_word<T: Iterator<Item = char>>(
+fn read_word<T: Characters>(
     window: &mut Window<T>,
     text: &mut Text,
 ) -> Result<(), AllocError>
@@ -36,7 +36,7 @@ fn read_word<T: Iterator<Item = char>>(
 
 /// Reads a tag after its `!<`.
 #[tactic(auto, using(model_lexers::proofs::TagLemmas::verbatim_closes, model_lexers::proofs::TagLemmas::verbatim_fails), unfolding(model_lexers::specs::Tag::verbatim))]
-fn read_verbatim<T: Iterator<Item = char>>(
+fn read_verbatim<T: Characters>(
     alloc: Global,
     window: &mut Window<T>,
     start: Marker,
@@ -56,7 +56,7 @@ fn read_verbatim<T: Iterator<Item = char>>(
 
 /// Reads the suffix after a handle `!name!`.
 #[tactic(auto, unfolding(model_lexers::specs::Tag::named))]
-fn read_named<T: Iterator<Item = char>>(
+fn read_named<T: Characters>(
     alloc: Global,
     window: &mut Window<T>,
     start: Marker,
@@ -78,7 +78,7 @@ fn read_named<T: Iterator<Item = char>>(
 }
 
 /// Reads a suffix without a handle, which begins with a name.
-fn read_local<T: Iterator<Item = char>>(
+fn read_local<T: Characters>(
     alloc: Global,
     window: &mut Window<T>,
     start: Marker,
@@ -98,7 +98,7 @@ fn read_local<T: Iterator<Item = char>>(
 
 /// Reads a tag `!`, `!suffix`, `!!suffix` or `!name!suffix` after its first `!`.
 #[tactic(auto, unfolding(model_lexers::specs::Tag::shorthand))]
-fn read_shorthand<T: Iterator<Item = char>>(
+fn read_shorthand<T: Characters>(
     alloc: Global,
     window: &mut Window<T>,
     start: Marker,
@@ -116,7 +116,7 @@ fn read_shorthand<T: Iterator<Item = char>>(
 }
 
 /// Reads a tag after its first `!`.
-fn read_here<T: Iterator<Item = char>>(
+fn read_here<T: Characters>(
     alloc: Global,
     window: &mut Window<T>,
     start: Marker,
@@ -140,7 +140,7 @@ fn ends_tag(flow: bool, c: char) -> bool
 
 /// Reads a tag from its `!` on: its handle and its suffix.
 #[tactic(auto, unfolding(model_lexers::specs::Tag::tag))]
-pub fn read_tag<T: Iterator<Item = char>>(
+pub fn read_tag<T: Characters>(
     alloc: Global,
     window: &mut Window<T>,
     in_flow: bool,
@@ -161,7 +161,7 @@ pub fn read_tag<T: Iterator<Item = char>>(
 }
 
 /// Reads the end of a tag directive's handle after its name.
-fn end_handle<T: Iterator<Item = char>>(
+fn end_handle<T: Characters>(
     window: &mut Window<T>,
     start: Marker,
     bare: bool,
@@ -183,7 +183,7 @@ fn end_handle<T: Iterator<Item = char>>(
 
 /// Reads the handle of a tag directive: `!`, `!!` or `!name!`.
 #[tactic(auto, unfolding(model_lexers::specs::Tag::handle))]
-pub(crate) fn read_handle<T: Iterator<Item = char>>(
+pub(crate) fn read_handle<T: Characters>(
     alloc: Global,
     window: &mut Window<T>,
     start: Marker,
@@ -204,7 +204,7 @@ pub(crate) fn read_handle<T: Iterator<Item = char>>(
 
 /// Reads the prefix of a tag directive: a `!` or a character of a tag, and characters of a URI.
 #[tactic(auto, unfolding(model_lexers::specs::Tag::prefix))]
-pub(crate) fn read_prefix<T: Iterator<Item = char>>(
+pub(crate) fn read_prefix<T: Characters>(
     alloc: Global,
     window: &mut Window<T>,
     start: Marker,

@@ -9,12 +9,12 @@ ghost use Rattle.yaml_lexers.specs.Shown.{read};
 ghost use Rattle.yaml_lexers.specs.ShownTag.{at};
 
 use yaml_chars::class::{hex_value, is_hex, is_tag, is_uri};
-use yaml_chars::{Marker, Text, Window};
+use yaml_chars::{Characters, Marker, Text, Window};
 use yaml_tokens::{Fault, Problem};
 
 /// Reads a `%` and a hexadecimal digit.
 #[tactic(auto, using(model_lexers::proofs::UriLemmas::percent_fails, model_lexers::proofs::UriLemmas::high_fails))]
-fn read_high<T: Iterator<Item = char>>(window: &mut Window<T>, start: Marker) -> Result<u32, Fault>
+fn read_high<T: Characters>(window: &mut Window<T>, start: Marker) -> Result<u32, Fault>
     ensures ok { IfOk result (λ n. Reads window.old window.new (λ a b. (test : ℕ → Bool) (o : Octet) (t : List ℕ) →
         uri_from test start a (at (percent o) window.old t) ≡ uri_from test start b (at (low o n) window.new t))) }
     ensures err { IfErr result (λ e. Reads window.old window.new (λ a b. (test : ℕ → Bool) (o : Octet) (t : List ℕ) →
@@ -36,7 +36,7 @@ fn read_high<T: Iterator<Item = char>>(window: &mut Window<T>, start: Marker) ->
 
 /// Reads a `%` and two hexadecimal digits.
 #[tactic(auto, using(model_lexers::proofs::UriLemmas::low_fails, model_lexers::proofs::UriLemmas::low_turn))]
-fn read_octet<T: Iterator<Item = char>>(window: &mut Window<T>, start: Marker) -> Result<u32, Fault>
+fn read_octet<T: Characters>(window: &mut Window<T>, start: Marker) -> Result<u32, Fault>
     ensures ok { IfOk result (λ n. Reads window.old window.new (λ a b. (test : ℕ → Bool) (o : Octet) (t : List ℕ) →
         uri_from test start a (at (percent o) window.old t) ≡ octet_from test start o n b (position_of window.new) t)) }
     ensures err { IfErr result (λ e. Reads window.old window.new (λ a b. (test : ℕ → Bool) (o : Octet) (t : List ℕ) →
@@ -93,7 +93,7 @@ fn lead_of(octet: u32) -> Option<Lead>
 }
 
 /// Reads an octet that goes on with a character whose first bits are `code`.
-fn read_trail<T: Iterator<Item = char>>(
+fn read_trail<T: Characters>(
     window: &mut Window<T>,
     start: Marker,
     code: u32,
@@ -113,7 +113,7 @@ fn read_trail<T: Iterator<Item = char>>(
 }
 
 /// Reads the octets after the first one. The answer is the character's code.
-fn read_trails<T: Iterator<Item = char>>(
+fn read_trails<T: Characters>(
     window: &mut Window<T>,
     start: Marker,
     lead: Lead,
@@ -149,7 +149,7 @@ fn decoded(code: u32, least: u32, start: Marker) -> Result<char, Fault>
 }
 
 /// Reads the octets of a character in UTF-8, each a `%` and two hexadecimal digits.
-fn read_uri_escape<T: Iterator<Item = char>>(
+fn read_uri_escape<T: Characters>(
     window: &mut Window<T>,
     start: Marker,
 ) -> Result<char, Fault>
@@ -169,7 +169,7 @@ fn read_uri_escape<T: Iterator<Item = char>>(
 
 /// Reads a character of a URI, which may be an escaped one.
 #[tactic(auto, using(model_lexers::proofs::UriLemmas::percent_lead))]
-fn read_uri_char<T: Iterator<Item = char>>(
+fn read_uri_char<T: Characters>(
     window: &mut Window<T>,
     start: Marker,
     c: char,
@@ -196,7 +196,7 @@ fn read_uri_char<T: Iterator<Item = char>>(
 
 /// Reads the characters of a URI.
 #[tactic(auto, using(model_lexers::proofs::UriLemmas::uri_end))]
-pub(crate) fn read_uri<T: Iterator<Item = char>>(
+pub(crate) fn read_uri<T: Characters>(
     window: &mut Window<T>,
     start: Marker,
     text: &mut Text,
@@ -216,7 +216,7 @@ pub(crate) fn read_uri<T: Iterator<Item = char>>(
 
 /// Reads the characters of a tag's suffix.
 #[tactic(auto, using(model_lexers::proofs::UriLemmas::uri_end))]
-pub(crate) fn read_suffix<T: Iterator<Item = char>>(
+pub(crate) fn read_suffix<T: Characters>(
     window: &mut Window<T>,
     start: Marker,
     text: &mut Text,

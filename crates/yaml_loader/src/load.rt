@@ -15,6 +15,7 @@ ghost use Rattle.yaml_loader.specs.TextLoads.{LoadsText, LoadsOnly, OfTexts, OfT
 use crate::loader::YamlLoader;
 use defs_event::laws::loaded_trees_have_no_alias;
 use std::alloc::Global;
+use yaml_chars::Characters;
 use yaml_parser::Parser;
 use yaml_tokens::ScanError;
 use yaml_tree::Yaml;
@@ -73,7 +74,7 @@ impl YamlLoader {
         ensures laid_out_before_nul { OfLayout (up_to_nul (chars source.now)) (LoadsOnly result) }
         ensures quoted_before_nul { OfQuoted (up_to_nul (chars source.now)) (LoadsOnly result) }
     {
-        let mut parser = Parser::new_from_str(alloc, source);
+        let mut parser = Parser::of_text(alloc, source);
         YamlLoader::load_from_parser(alloc, &mut parser)
     }
 
@@ -129,7 +130,7 @@ impl YamlLoader {
     ///
     /// The parser's fault, which the parser keeps. A key that comes twice in its mapping is returned only if the
     /// parser has no fault. Or memory was refused.
-    pub fn load_from_parser<I: Iterator<Item = char>>(
+    pub fn load_from_parser<I: Characters>(
         alloc: Global,
         parser: &mut Parser<I>,
     ) -> Result<Vec<Yaml>, ScanError>

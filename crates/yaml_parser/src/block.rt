@@ -9,9 +9,10 @@ use crate::reader::Reader;
 use crate::slot::{Answer, Slot};
 use crate::tokens::Stop;
 use model_parser::{Kind, NodeContext, State};
+use yaml_chars::Characters;
 use yaml_tokens::{Fault, Problem};
 
-impl<T: Iterator<Item = char>> Reader<T> {
+impl<T: Characters> Reader<T> {
     #[inline(always)]
     pub(crate) fn block_sequence_entry(&mut self, slot: &mut Slot) -> Answer
         ensures answers { Reads at.entries self.old self.new result slot.new }

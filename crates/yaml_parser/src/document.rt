@@ -13,9 +13,10 @@ use crate::reader::Reader;
 use crate::slot::{Answer, Halted, Slot};
 use crate::tokens::Stop;
 use model_parser::{Kind, NodeContext, State};
+use yaml_chars::Characters;
 use yaml_tokens::{Fault, Problem};
 
-impl<T: Iterator<Item = char>> Reader<T> {
+impl<T: Characters> Reader<T> {
     pub(crate) fn stream_start(&mut self, slot: &mut Slot) -> Answer
         ensures answers { Reads at.start self.old self.new result slot.new }
         ensures moves { Moves 1 1 self.old self.new result }

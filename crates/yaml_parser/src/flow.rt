@@ -11,10 +11,10 @@ use crate::reader::Reader;
 use crate::slot::{Answer, Slot};
 use crate::tokens::Stop;
 use model_parser::{Kind, NodeContext, State};
-use yaml_chars::Marker;
+use yaml_chars::{Characters, Marker};
 use yaml_tokens::{Fault, Problem};
 
-impl<T: Iterator<Item = char>> Reader<T> {
+impl<T: Characters> Reader<T> {
     #[inline(always)]
     pub(crate) fn flow_sequence_first_entry(&mut self, slot: &mut Slot) -> Answer
         ensures answers { Reads at.items self.old self.new result slot.new }

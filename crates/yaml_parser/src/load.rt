@@ -9,6 +9,7 @@ ghost use Rattle.yaml_parser.specs.Loads.{Loads, StartsSo, ReadsOn};
 use crate::event::Event;
 use crate::parser::Parser;
 use crate::receiver::MarkedEventReceiver;
+use yaml_chars::Characters;
 use yaml_tokens::ScanError;
 
 fn is_stream_end(event: &Event) -> bool
@@ -23,7 +24,7 @@ fn is_document_start(event: &Event) -> bool
     matches!(event, Event::DocumentStart)
 }
 
-impl<T: Iterator<Item = char>> Parser<T> {
+impl<T: Characters> Parser<T> {
     /// Pushes events into a receiver, from where the parser stands: first the stream's start, if it was not given
     /// yet; then the events of the next document, or with `multi` those of all documents and the stream's end.
     ///

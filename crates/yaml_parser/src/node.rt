@@ -19,7 +19,7 @@ use crate::reader::Reader;
 use crate::slot::{Answer, Halted, Slot};
 use crate::tokens::Stop;
 use model_parser::{Kind, NodeContext, State};
-use yaml_chars::Marker;
+use yaml_chars::{Characters, Marker};
 use yaml_scanner_state::Collection;
 use yaml_tokens::{Fault, Problem};
 
@@ -32,7 +32,7 @@ pub struct Properties {
     pub tag: Option<Tag>,
 }
 
-impl<T: Iterator<Item = char>> Reader<T> {
+impl<T: Characters> Reader<T> {
     /// The node of a document without `---`.
     pub(crate) fn block_node(&mut self, slot: &mut Slot) -> Answer
         ensures answers { Reads (at.node context.Block) self.old self.new result slot.new }

@@ -4,6 +4,7 @@ ghost use Rattle.std.specs.Io.BufRead.{Rests};
 ghost use Rattle.std.specs.Iterator.{IsFinite, size};
 ghost use Rattle.std.specs.Str.Iter.{chars_rest};
 ghost use Rattle.yaml_chars.specs.Reading.{HasNoNul};
+ghost use Rattle.yaml_chars.specs.InMemory.{text_rest};
 ghost use Rattle.yaml_chars.specs.Source.{CameFrom};
 ghost use Rattle.yaml_scanner.specs.Scanned.{Scans};
 ghost use Rattle.yaml_parser.specs.Loads.{PushesNext};
@@ -21,7 +22,7 @@ use std::alloc::Global;
 use std::marker::Model;
 use std::mem;
 use std::str::Chars;
-use yaml_chars::Marker;
+use yaml_chars::{Characters, Marker, TextInMemory};
 use yaml_chars::history::History;
 use yaml_tokens::{Fault, Problem, ScanError};
 
@@ -74,7 +75,7 @@ fn is_document_end(event: &Event) -> bool
 /// assert_eq!(rt; scalars, 3);
 /// ```
 #[derive(Drop)]
-pub struct Parser<T: Iterator<Item = char>> {
+pub struct Parser<T: Characters> {
     pull: Pull<T>,
     current: Option<(Event, Marker)>,
     given: History<(Event, Marker)>,
@@ -84,7 +85,7 @@ pub struct Parser<T: Iterator<Item = char>> {
     misplaced: Option<Marker>,
 }
 
-impl<T: Iterator<Item = char>> Model for Parser<T> {
+impl<T: Characters> Model for Parser<T> {
     ghost use Rattle.std.specs.Prelude.{option_map};
     ghost use Rattle.yaml_scanner.specs.Scanned.{scanned};
     ghost use Rattle.yaml_parser.specs.Parsed.{Parse};
@@ -116,7 +117,25 @@ impl<'a> Parser<Chars<'a>> {
     }
 }
 
-impl<T: Iterator<Item = char>> Parser<T> {
+impl<'a> Parser<TextInMemory<'a>> {
+    /// The same parser as that of [`new_from_str`](Parser::new_from_str), but for its type. It is faster, since it knows
+    /// what comes next in the text.
+    pub fn of_text(alloc: Global, value: &'a str) -> Self
+        ensures given { (parsed result).given ≡ [] }
+        ensures ahead { (parsed result).ahead ≡ None }
+        ensures fault { (parsed result).fault ≡ None }
+        ensures started { (parsed result).started ≡ false }
+        ensures ended { (parsed result).ended ≡ false }
+        ensures keep_tags { (parsed result).keep_tags ≡ false }
+        ensures steady { (parsed result).steady ≡ true }
+        ensures settings { (parsed result).settings ≡ [] }
+        ensures source { text_rest result.start ≡ value.now }
+    {
+        Parser::new(alloc, TextInMemory::new(value))
+    }
+}
+
+impl<T: Characters> Parser<T> {
     ghost use Rattle.yaml_parser.specs.contracts.parser.Parser.{the_row};
 
     /// A parser of the characters that an iterator gives, up to its first `None` or NUL. It takes no memory.

@@ -16,19 +16,20 @@ use crate::slot::{Answer, Slot};
 use crate::stack::Stack;
 use crate::tokens::{KeptStop, Stop, Tokens};
 use std::alloc::Global;
+use yaml_chars::Characters;
 use yaml_scanner::Scanner;
 use yaml_tokens::ScanError;
 
 /// Reads events one by one, and keeps a fault.
 #[derive(Drop)]
-pub struct Pull<T: Iterator<Item = char>> {
+pub struct Pull<T: Characters> {
     /// What reads the events.
     pub reader: Reader<T>,
     /// The fault that is kept, if there is one.
     pub kept: Option<KeptStop>,
 }
 
-impl<T: Iterator<Item = char>> Pull<T> {
+impl<T: Characters> Pull<T> {
     /// Nothing was read yet. It takes no memory.
     pub fn new(alloc: Global, src: T) -> Pull<T>
         requires can { T.can_next src }

@@ -22,12 +22,12 @@ use crate::stack::Stack;
 use crate::tokens::{KeptStop, Stop, Tokens};
 use model_parser::{Kind, State};
 use std::alloc::Global;
-use yaml_chars::Marker;
+use yaml_chars::{Characters, Marker};
 use yaml_tokens::ScanError;
 
 /// The productions of the token grammar, one function each.
 #[derive(Drop)]
-pub struct Reader<T: Iterator<Item = char>> {
+pub struct Reader<T: Characters> {
     /// The allocator for texts.
     pub alloc: Global,
     /// The tokens to come.
@@ -38,7 +38,7 @@ pub struct Reader<T: Iterator<Item = char>> {
     pub names: Names,
 }
 
-impl<T: Iterator<Item = char>> Reader<T> {
+impl<T: Characters> Reader<T> {
     /// What the next token is, which stays.
     #[inline(always)]
     pub(crate) fn peek(&mut self, slot: &mut Slot) -> Result<Kind, Halted>

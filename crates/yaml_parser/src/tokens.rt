@@ -12,7 +12,7 @@ ghost use Rattle.model_parser.specs.declared.kind.Kind.TheVariants as kind;
 use crate::looked::Looked;
 use model_parser::Kind;
 use std::alloc::AllocError;
-use yaml_chars::Marker;
+use yaml_chars::{Characters, Marker};
 use yaml_chars::history::History;
 use yaml_scanner::Scanner;
 use yaml_tokens::{Fault, TScalarStyle, Token};
@@ -85,7 +85,7 @@ pub struct KeptStop {
 
 /// A scanner's tokens. The next one may have been looked at.
 #[derive(Drop)]
-pub struct Tokens<T: Iterator<Item = char>> {
+pub struct Tokens<T: Characters> {
     /// What gives the tokens.
     pub scanner: Scanner<T>,
     /// The token that was looked at, if there is one.
@@ -94,7 +94,7 @@ pub struct Tokens<T: Iterator<Item = char>> {
     pub taken: History<Token>,
 }
 
-impl<T: Iterator<Item = char>> Tokens<T> {
+impl<T: Characters> Tokens<T> {
     /// The tokens of a scanner.
     pub fn new(scanner: Scanner<T>) -> Self
         ensures scanner { result.scanner ≡ scanner }

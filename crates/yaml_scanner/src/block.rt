@@ -14,7 +14,7 @@ ghost use Rattle.yaml_scanner.specs.Work.{Moves, Fetches};
 
 use crate::fetcher::{Failed, Fetcher};
 use model_scanner::FlowLevel;
-use yaml_chars::Marker;
+use yaml_chars::{Characters, Marker};
 use yaml_chars::class::{is_alpha, is_blank_or_breakz, is_break, is_flow};
 use yaml_lexers::{SkipTabs, Whitespace};
 use yaml_scanner_state::{Collection, ImplicitKey};
@@ -34,7 +34,7 @@ fn begins_word(c: char) -> bool
     c == '-' || is_alpha(c)
 }
 
-impl<T: Iterator<Item = char>> Fetcher<T> {
+impl<T: Characters> Fetcher<T> {
     /// `-`
     pub(crate) fn fetch_block_entry(&mut self) -> Result<(), Failed>
         requires ahead { 0 < self.old.window.ahead }

@@ -14,6 +14,7 @@ ghost use Rattle.yaml_scanner.specs.Work.{Moves, Fetches, HasChars, work};
 
 use crate::fetcher::{Failed, Fetcher};
 use model_scanner::{Class, class_of};
+use yaml_chars::Characters;
 use yaml_chars::class::{is_blank_or_breakz, is_breakz, is_flow};
 use yaml_lexers::{
     Context, SkipTabs, read_anchor_name, read_block_scalar, read_directive, read_plain,
@@ -41,7 +42,7 @@ fn is_thrice(c: char, first: char, second: char, third: char) -> bool
     first == c && second == c && third == c
 }
 
-impl<T: Iterator<Item = char>> Fetcher<T> {
+impl<T: Characters> Fetcher<T> {
     /// Fetches a token, or several.
     pub(crate) fn fetch(&mut self) -> Result<(), Failed>
         requires { self.old.tokens.ended ≡ false }

@@ -3,7 +3,7 @@ ghost use Rattle.std.specs.Iterator.{IsFinite, size};
 
 use model_scanner::FlowLevel;
 use std::alloc::Global;
-use yaml_chars::{Marker, Window};
+use yaml_chars::{Characters, Marker, Window};
 use yaml_scanner_state::{ImplicitKeys, Levels, Queue, Stack};
 use yaml_tokens::{Fault, Problem};
 
@@ -18,7 +18,7 @@ pub struct KeptFault {
 
 /// Fetches tokens. Its fields are what the functions of all token kinds share.
 #[derive(Drop)]
-pub struct Fetcher<T: Iterator<Item = char>> {
+pub struct Fetcher<T: Characters> {
     pub(crate) alloc: Global,
     pub(crate) window: Window<T>,
     pub(crate) tokens: Queue,
@@ -41,7 +41,7 @@ pub struct Fetcher<T: Iterator<Item = char>> {
 #[derive(Clone, Copy)]
 pub struct Failed;
 
-impl<T: Iterator<Item = char>> Fetcher<T> {
+impl<T: Characters> Fetcher<T> {
     ghost use Rattle.model_scanner.specs.Run.{nothing_held};
     ghost use Rattle.yaml_scanner.specs.Shape.{held};
     ghost use Rattle.yaml_scanner_state.specs.Tokens.{handed};

@@ -11,7 +11,7 @@ ghost use Rattle.yaml_scanner.specs.Work.{Moves, Fetches};
 
 use crate::fetcher::{Failed, Fetcher};
 use model_scanner::FlowLevel;
-use yaml_chars::Marker;
+use yaml_chars::{Characters, Marker};
 use yaml_lexers::SkipTabs;
 use yaml_scanner_state::Collection;
 use yaml_tokens::{Fault, Problem, Token, TokenType};
@@ -19,7 +19,7 @@ use yaml_tokens::{Fault, Problem, Token, TokenType};
 // How many levels of flow collections there may be.
 const DEEPEST_FLOW: usize = 255;
 
-impl<T: Iterator<Item = char>> Fetcher<T> {
+impl<T: Characters> Fetcher<T> {
     /// Steps over an indicator.
     #[inline(always)]
     pub(crate) fn skip_indicator(&mut self)

@@ -10,6 +10,7 @@ ghost use Rattle.yaml_scanner_state.specs.Tokens.{waiting, handed, is_end};
 ghost use Rattle.yaml_scanner.specs.Work.{Fetches, work};
 
 use crate::fetcher::{Failed, Fetcher, KeptFault};
+use yaml_chars::Characters;
 use yaml_tokens::{ScanError, Token};
 
 impl KeptFault {
@@ -21,7 +22,7 @@ impl KeptFault {
     }
 }
 
-impl<T: Iterator<Item = char>> Fetcher<T> {
+impl<T: Characters> Fetcher<T> {
     /// Keeps the fault that was met.
     pub(crate) fn keep(&mut self) -> ScanError
         requires follows { (mark : Position) → Follows (record self.old { kept = Some (record { fault = self.old.fault; mark = mark }) }) }

@@ -10,11 +10,11 @@ ghost use Rattle.yaml_scanner_state.specs.ImplicitKeys.{number_of};
 ghost use Rattle.yaml_scanner.specs.Work.{Moves};
 
 use crate::fetcher::{Failed, Fetcher};
-use yaml_chars::Marker;
+use yaml_chars::{Characters, Marker};
 use yaml_scanner_state::{Collection, ImplicitKey};
 use yaml_tokens::{Fault, Problem, Token, TokenType};
 
-impl<T: Iterator<Item = char>> Fetcher<T> {
+impl<T: Characters> Fetcher<T> {
     pub(crate) fn in_flow(&self) -> bool
         ensures { result ≡ in_flow (held self.now) }
     {

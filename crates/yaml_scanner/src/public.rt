@@ -10,10 +10,10 @@ ghost use Rattle.yaml_scanner.specs.Next.{GivesNext};
 use crate::fetcher::Fetcher;
 use crate::scanner::Scanner;
 use std::alloc::Global;
-use yaml_chars::Marker;
+use yaml_chars::{Characters, Marker};
 use yaml_tokens::{ScanError, ScanResult, Token};
 
-impl<T: Iterator<Item = char>> Scanner<T> {
+impl<T: Characters> Scanner<T> {
     /// A scanner of the characters that an iterator gives, up to its first `None` or NUL. It takes no memory.
     ///
     /// Conditions, which a proof must show: the iterator can be asked, comes to an end, and gives fewer than 2^63 characters.
@@ -175,7 +175,7 @@ impl<T: Iterator<Item = char>> Scanner<T> {
     }
 }
 
-impl<T: Iterator<Item = char>> Iterator for Scanner<T> {
+impl<T: Characters> Iterator for Scanner<T> {
     type Item = Token;
 
     ghost remaining = { λ s. at_most (scanned s).left };

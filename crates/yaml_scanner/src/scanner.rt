@@ -1,5 +1,6 @@
 use crate::fetcher::Fetcher;
 use std::marker::Model;
+use yaml_chars::Characters;
 
 /// Reads characters as tokens (YAML 1.2, chapters 5 to 9). It is an iterator of tokens, which ends at the first
 /// fault. [`next_token`](Scanner::next_token) and [`get_error`](Scanner::get_error) give the fault.
@@ -36,11 +37,11 @@ use std::marker::Model;
 /// assert!(rt; fault.is_some() && count > 0);
 /// ```
 #[derive(Drop)]
-pub struct Scanner<T: Iterator<Item = char>> {
+pub struct Scanner<T: Characters> {
     pub(crate) fetcher: Fetcher<T>,
 }
 
-impl<T: Iterator<Item = char>> Model for Scanner<T> {
+impl<T: Characters> Model for Scanner<T> {
     ghost use Rattle.yaml_scanner.specs.Scanned.{Scan, scan_of};
     ghost use Rattle.yaml_scanner.specs.Follows.{Follows};
 

@@ -10,11 +10,12 @@ ghost use Rattle.yaml_scanner.specs.Shape.{held, Does, Fails};
 ghost use Rattle.yaml_scanner.specs.Work.{Moves};
 
 use crate::fetcher::{Failed, Fetcher};
+use yaml_chars::Characters;
 use yaml_chars::class::{is_blank, is_break, is_breakz};
 use yaml_lexers::{SkipTabs, Whitespace, skip_comment, skip_linebreak, skip_ws_to_eol};
 use yaml_tokens::Problem;
 
-impl<T: Iterator<Item = char>> Fetcher<T> {
+impl<T: Characters> Fetcher<T> {
     /// Steps over a line break. Outside flow a key may begin after it.
     #[inline(always)]
     pub(crate) fn pass_break(&mut self)

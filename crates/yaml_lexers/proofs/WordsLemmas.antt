@@ -1,0 +1,134 @@
+-- Words that are taken at once, and the lone blanks between them, belong to a scalar's text as they stand.
+use Rattle.std.proofs.Common.{◌≡◌, ◌≢◌, ℕ, suc, ◌+◌, ◌<◌, ◌≤◌, List, [], ◌∷◌, ◌++◌, length, ◌∙◌, ap, sym, subst, Bool, true, false, ◌||◌, ◌&&◌, ◌==◌, refl, slice_index, arith, append_assoc, append-nil}
+use Rattle.std.specs.Prelude.{not}
+use Rattle.std.proofs.lemmas.Bool.{and_parts}
+use Rattle.std.proofs.lemmas.Bool.Decides.{nat_tests}
+use Rattle.defs_text.specs.Position.{Position}
+use Rattle.yaml_chars.specs.Class.{is_break, is_blank, is_breakz, is_flow}
+use Rattle.yaml_chars.specs.Run.{stops}
+use Rattle.yaml_chars.specs.Words.{begins_word, is_in_words, are_words, TakesWords, PassesWords}
+use Rattle.yaml_chars.specs.declared.run.Run.{Run}
+use Rattle.yaml_chars.specs.declared.run.Run.TheVariants as kind
+use Rattle.yaml_chars.proofs.RunLemmas.{stops_nul}
+use Rattle.yaml_chars.proofs.WordsLemmas.{begins_goes}
+use Rattle.model_lexers.specs.declared.context.Context.{Context}
+use Rattle.model_lexers.specs.Machine.{past}
+use Rattle.model_lexers.specs.Space.{comment}
+use Rattle.model_lexers.specs.Folding as folding
+use Rattle.model_lexers.specs.Plain as plain
+use Rattle.model_lexers.specs.Quoted as quoted
+use Rattle.model_lexers.specs.Block as block
+use Rattle.model_lexers.proofs.RunLemmas.{plain_run, quoted_run, block_run, no_gap}
+use Rattle.model_lexers.proofs.PlainLemmas as in_plain
+use Rattle.model_lexers.proofs.QuotedLemmas as in_quotes
+use Rattle.model_lexers.proofs.SpaceLemmas.{comment_on}
+
+true_is_not_false : true ≡ false → ⊥
+true_is_not_false h = cc
+
+-- so many characters on in a line
+abbrev along : Position → ℕ → Position
+along p n = record { index = p.index + n; line = p.line; col = p.col + n }
+
+module _ {A : Type 0} (run : Run) (f : List ℕ → Position → List ℕ → A) (Fits : Position → Type 0) (later : (p : Position) → Fits p → Fits (past p))
+    (step : (c : ℕ) (a : List ℕ) (p : Position) (t : List ℕ) → stops run c ≡ false → f (c ∷ a) p t ≡ f a (past p) (t ++ c ∷ []))
+    (over : (c d : ℕ) (a : List ℕ) (p : Position) (t : List ℕ) → Fits p → stops run c ≡ true → is_blank c ≡ true → begins_word run d ≡ true → f (c ∷ d ∷ a) p t ≡ f (d ∷ a) (past p) (t ++ c ∷ [])) where
+
+  -- a character of words
+  one : (c : ℕ) (cs b : List ℕ) (p : Position) (t : List ℕ) → Fits p → is_in_words run c (slice_index cs 0) ≡ true → f (c ∷ (cs ++ b)) p t ≡ f (cs ++ b) (past p) (t ++ c ∷ [])
+  one c cs b p t fits h = by (stops run c) refl
+    where
+      both : (x y : Bool) → (not true || (x && y)) ≡ true → (x ≡ true) × (y ≡ true)
+      both true true h = (refl, refl)
+      both true false h = cc
+      both false y h = cc
+
+      at_blank : (cs : List ℕ) → is_blank c ≡ true → stops run c ≡ true → begins_word run (slice_index cs 0) ≡ true → f (c ∷ (cs ++ b)) p t ≡ f (cs ++ b) (past p) (t ++ c ∷ [])
+      at_blank [] blank stop begins = absurd (true_is_not_false (sym (stops_nul run) ∙ begins_goes run 0 begins))
+      at_blank (d ∷ cs) blank stop begins = over c d (cs ++ b) p t fits stop blank begins
+
+      by : (x : Bool) → stops run c ≡ x → f (c ∷ (cs ++ b)) p t ≡ f (cs ++ b) (past p) (t ++ c ∷ [])
+      by false e = step c (cs ++ b) p t e
+      by true e = let parts = both (is_blank c) (begins_word run (slice_index cs 0)) (rw e at h) in at_blank cs parts.0 e parts.1
+
+  through : (part b : List ℕ) (p : Position) (t : List ℕ) → Fits p → are_words run part ≡ true → f (part ++ b) p t ≡ f b (along p (length part)) (t ++ part)
+  through [] b p t fits h =
+      let index : p.index ≡ p.index + 0 = omega arith in
+      let col : p.col ≡ p.col + 0 = omega arith in
+      let same : t ≡ t ++ [] = sym (append-nil t) in
+      λ i. f b (record { index = index i; line = p.line; col = col i }) (same i)
+  through (c ∷ cs) b p t fits h =
+      let parts = and_parts (is_in_words run c (slice_index cs 0)) _ h in
+      let index : p.index + 1 + length cs ≡ p.index + suc (length cs) = omega arith in
+      let col : p.col + 1 + length cs ≡ p.col + suc (length cs) = omega arith in
+      let same : (t ++ c ∷ []) ++ cs ≡ t ++ c ∷ cs = append_assoc t (c ∷ []) cs in
+      one c cs b p t fits parts.0 ∙ through cs b (past p) (t ++ c ∷ []) (later p fits) parts.1
+      ∙ (λ i. f b (record { index = index i; line = p.line; col = col i }) (same i))
+
+  pub through_words : (a b : List ℕ) (p q : Position) (t u : List ℕ) → Fits p → TakesWords run a b p q t u → f a p t ≡ f b q u
+  through_words a b p q t u fits took =
+      ap (λ x. f x p t) took.split ∙ through took.part b p t fits took.words
+      ∙ (let position = sym took.position in let text = sym took.text in λ i. f b (position i) (text i))
+
+-- ---- of a plain scalar
+
+deeper : (ctx : Context) (n : ℕ) → plain.is_shallow ctx n ≡ false → plain.is_shallow ctx (n + 1) ≡ false
+unfolding plain.is_shallow
+deeper ctx n h = grind (arith, nat_tests)
+
+wordy : (flow : Bool) (c : ℕ) → begins_word (kind.Plain flow) c ≡ true → plain.is_wordy c ≡ true
+unfolding begins_word plain.is_wordy
+wordy flow c h = h
+
+pub plain_words : (ctx : Context) (start : Position) (a b : List ℕ) (p q : Position) (t : folding.Folded) (u : List ℕ)
+    → plain.is_shallow ctx p.col ≡ false → t.gap ≡ [] → t.leading ≡ false → t.escaped ≡ false → TakesWords (kind.Plain ctx.flow) a b p q t.text u
+    → plain.plain_from ctx start a (record { mode = plain.inside; position = p; folded = t })
+    ≡ plain.plain_from ctx start b (record { mode = plain.inside; position = q; folded = record t { text = u } })
+plain_words ctx start a b p q t u deep gap leading escaped took =
+    through_words (kind.Plain ctx.flow) (λ d r v. plain.plain_from ctx start d (record { mode = plain.inside; position = r; folded = record t { text = v } }))
+    (λ r. plain.is_shallow ctx r.col ≡ false) (λ r h. deeper ctx r.col h)
+    (λ c d r v e. plain_run ctx start c d r (record t { text = v }) e)
+    (λ c d e r v h stop blank begins. in_plain.lone_blank ctx start c d (c ∷ d ∷ e) (d ∷ e) r (record t { text = v }) refl refl blank (wordy ctx.flow d begins) (deeper ctx r.col h) gap leading escaped)
+    a b p q t.text u deep took
+
+-- ---- of a quoted scalar
+
+no_gap_of : (quote d : ℕ) → begins_word (kind.Quoted quote) d ≡ true → (is_break d || is_blank d) ≡ false
+unfolding stops is_break is_blank
+no_gap_of quote d h = let g = begins_goes (kind.Quoted quote) d h in grind (arith, nat_tests)
+
+pub quoted_words : (single : Bool) (ctx : Context) (start : Position) (a b : List ℕ) (p q : Position) (t : folding.Folded) (u : List ℕ)
+    → ctx.indent ≤ p.col + 1 → t.gap ≡ [] → t.leading ≡ false → t.escaped ≡ false → TakesWords (kind.Quoted (quoted.quote_of single)) a b p q t.text u
+    → quoted.quoted_from single ctx start a (record { mode = quoted.inside; position = p; folded = t })
+    ≡ quoted.quoted_from single ctx start b (record { mode = quoted.inside; position = q; folded = record t { text = u } })
+quoted_words single ctx start a b p q t u deep gap leading escaped took =
+    through_words (kind.Quoted (quoted.quote_of single)) (λ d r v. quoted.quoted_from single ctx start d (record { mode = quoted.inside; position = r; folded = record t { text = v } }))
+    (λ r. ctx.indent ≤ r.col + 1) (λ r h. omega (arith, h))
+    (λ c d r v e. quoted_run single ctx start c d r (record t { text = v }) e)
+    (λ c d e r v h stop blank begins. in_quotes.lone_blank single ctx start c d (c ∷ d ∷ e) (d ∷ e) r (record t { text = v }) refl refl blank (no_gap_of (quoted.quote_of single) d begins) gap leading escaped
+    (in_quotes.in_line_goes_on ctx start (d ∷ e) (past r) (omega arith) (omega (arith, h))))
+    a b p q t.text u deep took
+
+-- ---- of a line
+
+-- in a line no blank ends a run
+never_blank : (c : ℕ) → stops kind.Line c ≡ true → is_blank c ≡ true → ⊥
+unfolding stops is_break is_blank
+never_blank c h blank = grind (arith, nat_tests)
+
+pub block_words : (literal : Bool) (column : ℕ) (a b : List ℕ) (p q : Position) (l : block.Lines) (u : List ℕ) → TakesWords kind.Line a b p q l.text u
+    → block.lines_from literal column a (record { mode = block.line; position = p; lines = l })
+    ≡ block.lines_from literal column b (record { mode = block.line; position = q; lines = record l { text = u } })
+block_words literal column a b p q l u took =
+    through_words kind.Line (λ d r t. block.lines_from literal column d (record { mode = block.line; position = r; lines = record l { text = t } }))
+    (λ r. Unit {0}) (λ r h. tt)
+    (λ c d r t e. block_run literal column c d r (record l { text = t }) e)
+    (λ c d e r v h stop blank begins. absurd (never_blank c stop blank))
+    a b p q l.text u tt took
+
+pub comment_words : (a b : List ℕ) (p q : Position) → PassesWords kind.Line a b p q → comment a p ≡ comment b q
+comment_words a b p q passed =
+    through_words kind.Line (λ d r t. comment d r) (λ r. Unit {0}) (λ r h. tt)
+    (λ c d r t e. comment_on c (c ∷ d) d r refl e)
+    (λ c d e r v h stop blank begins. absurd (never_blank c stop blank))
+    a b p q [] (passed.0) tt passed.1
