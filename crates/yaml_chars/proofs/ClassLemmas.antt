@@ -1,6 +1,6 @@
 -- Lemmas about the classes of characters.
-use Rattle.std.proofs.Common.{◌≡◌, ◌≢◌, ℕ, ◌==◌, ◌||◌, ◌&&◌, Bool, false, true, refl, rules}
-use Rattle.yaml_chars.specs.Class.{is_blank, is_break, is_breakz, is_blank_or_breakz, is_flow}
+use Rattle.std.proofs.Common.{◌≡◌, ◌≢◌, ℕ, ◌||◌, Bool, false, true, refl}
+use Rattle.yaml_chars.specs.Class.{is_blank, is_break, is_breakz}
 use Rattle.yaml_chars.specs.Run.{stops}
 use Rattle.yaml_chars.specs.declared.run.Run.{Run}
 use Rattle.yaml_chars.specs.declared.run.Run.TheVariants.{Line, Quoted, Plain}

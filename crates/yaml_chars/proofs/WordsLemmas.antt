@@ -1,22 +1,21 @@
 -- Lemmas about characters of a line that are known to come.
-use Rattle.std.proofs.Common.{◌≡◌, ◌≢◌, ℕ, zero, suc, ◌+◌, ◌-◌, ◌<◌, ◌≤◌, ◌==◌, ◌||◌, ◌&&◌, Bool, true, false, List, [], ◌∷◌, ◌++◌, length, take, drop, slice_index, refl, sym, ap, subst, ◌∙◌, arith, rules, append_assoc, append-nil, length-append, inl, inr}
+use Rattle.std.proofs.Common.{◌≡◌, ◌≢◌, ℕ, zero, suc, ◌+◌, ◌-◌, ◌<◌, ◌≤◌, ◌==◌, ◌||◌, ◌&&◌, Bool, true, false, List, [], ◌∷◌, ◌++◌, length, take, drop, slice_index, refl, sym, ap, subst, ◌∙◌, arith, append_assoc, append-nil, length-append, inl, inr}
 use Rattle.std.specs.List.{slice_range}
-use Rattle.std.specs.Prelude.{not, encode_utf8, Option, Some, None, slice_get}
+use Rattle.std.specs.Prelude.{not, Option, Some, slice_get}
 use Rattle.std.specs.Iterator.{Count, IsFinite, Yields}
-use Rattle.std.specs.Str.{chars, IsUtf8, IsCharBoundary, IsAscii}
+use Rattle.std.specs.Str.{IsUtf8, IsCharBoundary, IsAscii}
 use Rattle.std.specs.Str.Iter.{chars_rest, chars_steps}
 use Rattle.std.specs.declared.str.Chars.{Chars}
 use Rattle.std.proofs.lemmas.Bool.Decides.{nat_tests}
 use Rattle.std.proofs.lemmas.Bool.{and_parts, cases_lt}
-use Rattle.std.proofs.lemmas.Grind.{common_steps, elements}
 use Rattle.std.proofs.lemmas.List.{take-append-drop}
-use Rattle.std.proofs.lemmas.Str.{encode_ascii, chars_past_char, IsUtf8-past_char, IsCharBoundary-after_ascii, IsCharBoundary-start, chars-IsAscii}
+use Rattle.std.proofs.lemmas.Str.{encode_ascii, chars_past_char, IsUtf8-past_char, IsCharBoundary-after_ascii, IsCharBoundary-start}
 use Rattle.defs_text.specs.Position.{Position}
-use Rattle.yaml_chars.specs.Class.{is_blank, is_break, is_breakz, is_blank_or_breakz, is_flow}
-use Rattle.yaml_chars.specs.Reading.{Reading, Possible, Reads, Fills, HasNoNul, position_of}
+use Rattle.yaml_chars.specs.Class.{is_blank, is_break, is_flow}
+use Rattle.yaml_chars.specs.Reading.{Reads, Fills, HasNoNul}
 use Rattle.yaml_chars.specs.Run.{stops, bare}
-use Rattle.yaml_chars.specs.Source.{Pulled, CameFrom, IterStands}
-use Rattle.yaml_chars.specs.Words.{begins_word, is_in_words, are_words, AreWordsUpTo, IsWordBetween, Gives, GivesWords, TakesWords}
+use Rattle.yaml_chars.specs.Source.{Pulled, IterStands}
+use Rattle.yaml_chars.specs.Words.{begins_word, is_in_words, are_words, AreWordsUpTo, AreWordsBetween, IsWordBetween, halts, halts_line, Goes, LanesGo, GivesWords, TakesWords}
 use Rattle.yaml_chars.specs.declared.run.Run.{Run}
 use Rattle.yaml_chars.specs.declared.run.Run.TheVariants.{Line, Quoted, Plain}
 
@@ -184,6 +183,130 @@ words_more run bs n to words h blank begins goes low w = record {
       | inr next ↦ let e : k ≡ n + 1 = omega arith in rw e goes
       | inl beyond ↦ w.inner k (omega arith) b
     ]
+
+-- ---- sixteen bytes at a time
+
+halts_at : (first second c d : ℕ) → halts first second (c, d) ≡ false → c ≢ 32 → (32 < c) × (c < 127) × (c ≢ first) × (c ≢ second)
+halts_at first second c d h apart = (grind (arith, nat_tests), grind (arith, nat_tests), grind (arith, nat_tests), grind (arith, nat_tests))
+
+halts_low : (first second c d : ℕ) → halts first second (c, d) ≡ false → c < 128
+halts_low first second c d h = grind (arith, nat_tests)
+
+halts_after : (first second c d : ℕ) → halts first second (c, d) ≡ false → c ≡ 32 → (47 < d) × (d < 123) × (d ≢ 58) × (d ≢ 91) × (d ≢ 92) × (d ≢ 93)
+halts_after first second c d h blank =
+    let g = rw blank at h in
+    (grind (arith, nat_tests), grind (arith, nat_tests), grind (arith, nat_tests), grind (arith, nat_tests), grind (arith, nat_tests), grind (arith, nat_tests))
+
+begins_plain : (d : ℕ) → (47 < d) × (d < 123) × (d ≢ 58) × (d ≢ 91) × (d ≢ 92) × (d ≢ 93) → begins_word (Plain false) d ≡ true
+unfolding begins_word stops is_break is_blank is_flow
+begins_plain d h = let a = h.0 in let b = h.1 in let e = h.2 in let f = h.3 in let g = h.4 in let i = h.5 in grind (arith, nat_tests)
+
+begins_quoted : (quote d : ℕ) → quote < 40 → (47 < d) × (d < 123) × (d ≢ 58) × (d ≢ 91) × (d ≢ 92) × (d ≢ 93) → begins_word (Quoted quote) d ≡ true
+unfolding begins_word stops is_break is_blank
+begins_quoted quote d low h = let a = h.0 in let b = h.1 in let e = h.2 in let f = h.3 in let g = h.4 in let i = h.5 in grind (arith, nat_tests)
+
+pub goes_plain : (c d : ℕ) → halts 58 58 (c, d) ≡ false → Goes (Plain false) c d
+goes_plain c d h = record {
+  low = halts_low 58 58 c d h;
+  word = λ apart. let at = halts_at 58 58 c d h apart in ordinary_in_plain false c at.0 at.2 refl;
+  blank = λ e. blank_in_words (Plain false) c d e (begins_plain d (halts_after 58 58 c d h e));
+}
+
+pub goes_quoted : (quote c d : ℕ) → quote < 40 → halts quote 92 (c, d) ≡ false → Goes (Quoted quote) c d
+goes_quoted quote c d small h = record {
+  low = halts_low quote 92 c d h;
+  word = λ apart. let at = halts_at quote 92 c d h apart in ordinary_in_quotes quote c at.0 at.2 at.3;
+  blank = λ e. blank_in_words (Quoted quote) c d e (begins_quoted quote d small (halts_after quote 92 c d h e));
+}
+
+pub goes_line : (c d : ℕ) → halts_line c ≡ false → Goes Line c d
+goes_line c d h =
+    let goes : stops Line c ≡ false = ordinary_in_line c (grind (arith, nat_tests)) in
+    record {
+      low = grind (arith, nat_tests);
+      word = λ apart. goes;
+      blank = λ e. goes_in_words Line c d goes;
+    }
+
+lane_in_words : (run : Run) (bs : List ℕ) (at n : ℕ) → LanesGo run bs at n → (j : ℕ) → at ≤ j → j < at + n → is_in_words run (slice_index bs j) (slice_index bs (j + 1)) ≡ true
+lane_in_words run bs at n go j a b =
+    let k = j - at in
+    let here : at + k ≡ j = omega arith in
+    let next : at + 1 + k ≡ j + 1 = omega arith in
+    let g = subst (λ i. Goes run (slice_index bs i) (slice_index bs (at + 1 + k))) here (go k (omega arith)) in
+    let h = subst (λ i. Goes run (slice_index bs j) (slice_index bs i)) next g in
+    by h (slice_index bs j == 32) refl
+  where
+    by : Goes run (slice_index bs j) (slice_index bs (j + 1)) → (x : Bool) → (slice_index bs j == 32) ≡ x → is_in_words run (slice_index bs j) (slice_index bs (j + 1)) ≡ true
+    by h true e = h.blank (grind (arith, nat_tests))
+    by h false e = goes_in_words run _ _ (h.word (grind (arith, nat_tests)))
+
+lane_low : (run : Run) (bs : List ℕ) (at n : ℕ) → LanesGo run bs at n → (j : ℕ) → at ≤ j → j < at + n → slice_index bs j < 128
+lane_low run bs at n go j a b =
+    let here : at + (j - at) ≡ j = omega arith in
+    let g = go (j - at) (omega arith) in
+    subst (λ i. slice_index bs i < 128) here g.low
+
+-- a character before a blank is of a word
+before_blank : (run : Run) (c d : ℕ) → is_in_words run c d ≡ true → d ≡ 32 → stops run c ≡ false
+unfolding begins_word stops is_break is_blank
+before_blank Line c d h e = let g = rw e at h in grind (arith, nat_tests)
+before_blank (Quoted quote) c d h e = let g = rw e at h in grind (arith, nat_tests)
+before_blank (Plain flow) c d h e = let g = rw e at h in grind (arith, nat_tests)
+
+-- where the last lane is no blank, they are words; where it is one, those before it are
+pub lanes_whole : (run : Run) (bs : List ℕ) (at n : ℕ) → at + 16 < length bs → n ≤ 16 → LanesGo run bs at n → (0 < n → slice_index bs (at + n - 1) ≢ 32) → AreWordsBetween run bs at (at + n)
+lanes_whole run bs at n room few go last = record {
+  after = omega arith;
+  within = omega (arith, room, few);
+  ascii = λ j a b. lane_low run bs at n go j a b;
+  inner = λ j a b. lane_in_words run bs at n go j a (omega (arith, b));
+  last = λ j a b.
+      let here : at + (j - at) ≡ j = omega arith in
+      let end : at + n - 1 ≡ j = omega arith in
+      let g = go (j - at) (omega (arith, b)) in
+      subst (λ i. stops run (slice_index bs i) ≡ false) here (g.word (subst (λ i. slice_index bs i ≢ 32) (end ∙ sym here) (last (omega (arith, a, b)))));
+}
+
+pub lanes_but_last : (run : Run) (bs : List ℕ) (at n : ℕ) → at + 16 < length bs → n ≤ 16 → 0 < n → LanesGo run bs at n → slice_index bs (at + n - 1) ≡ 32 → AreWordsBetween run bs at (at + (n - 1))
+lanes_but_last run bs at n room few some go blank = record {
+  after = omega arith;
+  within = omega (arith, room, few);
+  ascii = λ j a b. lane_low run bs at n go j a (omega (arith, b));
+  inner = λ j a b. lane_in_words run bs at n go j a (omega (arith, b));
+  last = λ j a b.
+      let end : at + n - 1 ≡ j + 1 = omega (arith, some, b) in
+      before_blank run _ _ (lane_in_words run bs at n go j a (omega (arith, b, some))) (subst (λ i. slice_index bs i ≡ 32) end blank);
+}
+
+pub words_none : (run : Run) (bs : List ℕ) → AreWordsUpTo run bs 0
+words_none run bs = record { within = omega arith; ascii = λ k h. absurd (omega (arith, h)); inner = λ k h. absurd (omega (arith, h)); last = λ k h. absurd (omega (arith, h)) }
+
+pub words_further : (run : Run) (bs : List ℕ) (n to : ℕ) → AreWordsUpTo run bs n → AreWordsBetween run bs n to → AreWordsUpTo run bs to
+words_further run bs n to words more = record {
+  within = more.within;
+  ascii = λ k h. elim (cases_lt k n) [ | inl before ↦ words.ascii k before | inr after ↦ more.ascii k (omega arith) h ];
+  inner = λ k h. elim (cases_lt (k + 1) n) [
+    | inl before ↦ words.inner k before
+    | inr later ↦ elim (cases_lt k n) [
+      | inl last ↦ goes_in_words run _ _ (words.last k (omega arith))
+      | inr after ↦ more.inner k (omega arith) h
+    ]
+  ];
+  last = λ k h. elim (cases_lt k n) [
+    | inl before ↦ let same : k + 1 ≡ n = omega (arith, more.after, h) in words.last k same
+    | inr after ↦ more.last k (omega arith) h
+  ];
+}
+
+pub word_further : (run : Run) (bs : List ℕ) (n to : ℕ) → AreWordsUpTo run bs n → IsWordBetween run bs n to → AreWordsUpTo run bs to
+word_further run bs n to words w = words_further run bs n to words record {
+  after = w.after;
+  within = w.within;
+  ascii = w.ascii;
+  inner = λ k a b. goes_in_words run _ _ (w.inner k a (omega (arith, b)));
+  last = λ k a b. w.inner k a (omega (arith, b));
+}
 
 -- ---- the front of a slice
 
@@ -358,3 +481,6 @@ given_nothing run s = record {
   gives = record { start = refl; taken = sym (append-nil s.taken); done = refl; none = λ d. refl; left = omega arith };
   text = refl;
 }
+
+pub no_lanes : (run : Run) (bs : List ℕ) (at : ℕ) → LanesGo run bs at 0
+no_lanes run bs at k h = absurd (omega (arith, h))

@@ -1,5 +1,5 @@
 -- What clauses see of a window, and how they speak of the text after it.
-use Rattle.std.specs.Prelude.{◌≡◌, ◌≢◌, ℕ, ◌+◌, ◌-◌, ◌^◌, ◌<◌, ◌≤◌, Bool, true, false, List, [], ◌∷◌, length, take, drop, slice_index, Option, ◌==◌, if◌then◌else◌}
+use Rattle.std.specs.Prelude.{◌≡◌, ◌≢◌, ℕ, ◌+◌, ◌-◌, ◌^◌, ◌<◌, ◌≤◌, Bool, true, false, List, length, take, drop, slice_index, Option, ◌==◌, if◌then◌else◌}
 use Rattle.std.specs.Iterator.{YieldsThen}
 use Rattle.defs_text.specs.Position.{Position}
 use Rattle.yaml_chars.specs.Source.{Pulled, CameFrom, IsEnd}

@@ -1,5 +1,5 @@
 -- Characters of a line that are known to come, and are taken at once: words, and lone blanks between them.
-use Rattle.std.specs.Prelude.{◌≡◌, ℕ, ◌+◌, ◌<◌, ◌≤◌, List, [], ◌∷◌, ◌++◌, length, slice_index, Bool, true, false, not, ◌==◌, ◌||◌, ◌&&◌}
+use Rattle.std.specs.Prelude.{◌≡◌, ℕ, ◌+◌, ◌<◌, ◌≤◌, List, [], ◌∷◌, ◌++◌, length, slice_index, Bool, true, false, not, ◌==◌, ◌||◌, ◌&&◌, nat_eq, nat_lt, ◌≢◌}
 use Rattle.defs_text.specs.Position.{Position}
 use Rattle.yaml_chars.specs.Class.{is_blank}
 use Rattle.yaml_chars.specs.Run.{stops}
@@ -67,3 +67,40 @@ pub record TakesWords (run : Run) (a b : List ℕ) (p q : Position) (before afte
 -- words were read of the text that was left
 abbrev pub PassesWords : Run → List ℕ → List ℕ → Position → Position → Type 0
 PassesWords run a b p q = (part : List ℕ) × TakesWords run a b p q [] part
+
+-- ---- sixteen bytes at a time
+
+-- A byte where words do not surely go on, by the byte after it: no visible character, or one of two marks. After a blank they do before
+-- a digit, a letter or one of `;<=>?@^_` and the grave accent.
+abbrev pub halts : (first second : ℕ) → ℕ × ℕ → Bool
+halts first second x =
+    (((nat_lt x.0 33 || nat_lt 126 x.0) || nat_eq x.0 first) || nat_eq x.0 second)
+    && ((((((not (nat_eq x.0 32) || nat_lt x.1 48) || nat_lt 122 x.1) || nat_eq x.1 58) || nat_eq x.1 91) || nat_eq x.1 92) || nat_eq x.1 93)
+
+-- each byte with the one after it
+abbrev pub pairs : List ℕ → List ℕ → List (ℕ × ℕ)
+pairs [] ys = []
+pairs (x ∷ xs) [] = []
+pairs (x ∷ xs) (y ∷ ys) = (x, y) ∷ pairs xs ys
+
+-- a byte that is no printable character
+abbrev pub halts_line : ℕ → Bool
+halts_line c = nat_lt c 32 || nat_lt 126 c
+
+-- the bytes from one place to another are ASCII, and characters of words and lone blanks between these
+pub record AreWordsBetween (run : Run) (bs : List ℕ) (from to : ℕ) : Type 0 where
+  pub after : from ≤ to
+  pub within : to ≤ length bs
+  pub ascii : (k : ℕ) → from ≤ k → k < to → slice_index bs k < 128
+  pub inner : (k : ℕ) → from ≤ k → k + 1 < to → is_in_words run (slice_index bs k) (slice_index bs (k + 1)) ≡ true
+  pub last : (k : ℕ) → from ≤ k → k + 1 ≡ to → stops run (slice_index bs k) ≡ false
+
+-- a byte with which words go on, by the byte after it
+pub record Goes (run : Run) (c d : ℕ) : Type 0 where
+  pub low : c < 128
+  pub word : c ≢ 32 → stops run c ≡ false
+  pub blank : c ≡ 32 → is_in_words run c d ≡ true
+
+-- words go on with so many bytes
+abbrev pub LanesGo : Run → List ℕ → (at n : ℕ) → Type 0
+LanesGo run bs at n = (k : ℕ) → k < n → Goes run (slice_index bs (at + k)) (slice_index bs (at + 1 + k))

@@ -5,6 +5,7 @@
 pub mod characters;
 pub mod class;
 pub mod history;
+mod lanes;
 pub mod marker;
 mod ring;
 mod run;

@@ -1,9 +1,10 @@
 //! Runs of characters that are taken one by one, without a look ahead.
-ghost use Rattle.std.specs.Prelude.{◌≡◌, ◌≢◌, ◌<◌, ◌≤◌, false, true, length};
+ghost use Rattle.std.specs.Prelude.{◌≡◌, ◌≢◌, ◌+◌, ◌<◌, ◌≤◌, false, true, length};
 ghost use Rattle.yaml_chars.specs.Run.{stops};
-ghost use Rattle.yaml_chars.specs.Words.{begins_word, AreWordsUpTo, IsWordBetween};
+ghost use Rattle.yaml_chars.specs.Words.{begins_word, AreWordsUpTo, AreWordsBetween, IsWordBetween, LanesGo};
 
 use crate::class::{is_blank_or_breakz, is_breakz, is_flow};
+use crate::lanes::{LANES, line_lanes, word_lanes};
 
 /// A run of ordinary characters of one line. None holds a line break or a NUL.
 #[derive(Clone, Copy)]
@@ -76,12 +77,59 @@ impl Run {
         at
     }
 
+    /// With how many of the next sixteen bytes words surely go on.
+    #[inline(always)]
+    fn lanes_on(self, bytes: &[u8], at: usize) -> usize
+        requires { at + 16 < length bytes.now }
+        ensures within { result ≤ 16 }
+        ensures goes { LanesGo self bytes.now at result }
+    {
+        match self {
+            Run::Line => line_lanes(bytes, at),
+            Run::Plain(false) => word_lanes(bytes, at, b':', b':'),
+            Run::Quoted('"') => word_lanes(bytes, at, b'"', b'\\'),
+            Run::Quoted('\'') => word_lanes(bytes, at, b'\'', b'\\'),
+            _ => 0,
+        }
+    }
+
+    /// How many of the next sixteen bytes are surely characters of words, or lone blanks between words.
+    #[inline(always)]
+    fn lanes(self, bytes: &[u8], at: usize) -> usize
+        requires { at + 16 < length bytes.now }
+        ensures within { result ≤ 16 }
+        ensures words { AreWordsBetween self bytes.now at (at + result) }
+    {
+        let count = self.lanes_on(bytes, at);
+        // A blank is left for what comes with the character after it.
+        if count > 0 && bytes[at + count - 1] == b' ' {
+            return count - 1;
+        }
+        count
+    }
+
+    /// The same of all bytes that come next, sixteen at a time.
+    #[inline(always)]
+    fn blocks(self, bytes: &[u8]) -> usize
+        ensures { AreWordsUpTo self bytes.now result }
+    {
+        let mut at = 0;
+        'blocks: while bytes.len() - at > LANES {
+            let count = self.lanes(bytes, at);
+            at += count;
+            if count + 1 < LANES {
+                return at;
+            }
+        }
+        at
+    }
+
     /// How many of the bytes that come next are characters of words, or lone blanks between words.
     #[inline(always)]
     pub(crate) fn words(self, bytes: &[u8]) -> usize
         ensures { AreWordsUpTo self bytes.now result }
     {
-        let mut end = self.word_end(bytes, 0);
+        let mut end = self.word_end(bytes, self.blocks(bytes));
         'words: while end + 1 < bytes.len() && bytes[end] == b' ' && self.is_first(bytes[end + 1]) {
             end = self.word_end(bytes, end + 2);
         }

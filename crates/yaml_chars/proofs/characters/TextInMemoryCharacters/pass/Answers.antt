@@ -1,5 +1,4 @@
-use Rattle.std.proofs.Common.{sym, ◌∙◌, ap}
-use Rattle.std.specs.declared.str.Chars.{Chars}
+use Rattle.std.proofs.Common.{◌∙◌, ap}
 use Rattle.std.proofs.Common.{refl, subst, drop}
 use Rattle.std.specs.Str.{IsUtf8}
 use Rattle.yaml_chars.specs.declared.characters.TextInMemory.{TextInMemory}

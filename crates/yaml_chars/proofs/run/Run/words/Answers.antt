@@ -1,8 +1,8 @@
-use Rattle.yaml_chars.proofs.WordsLemmas.{words_start, words_more, begins_goes}
+use Rattle.yaml_chars.proofs.WordsLemmas.{word_further, words_more, begins_goes}
 use Rattle.yaml_chars.proofs.run.Run.words.Goals as goal
 
 pub words-init : goal.words-init
-words-init c = words_start _ _ _ c.word_end-end.ensures
+words-init c = word_further _ _ _ _ c.blocks-2.ensures c.word_end-end.ensures
 
 pub words-preserved : goal.words-preserved
 words-preserved c =

@@ -1,9 +1,7 @@
 use Rattle.std.proofs.Common.{false, ◌≡◌, ◌++◌, take, refl, sym, ap, subst, ◌∙◌, arith}
 use Rattle.std.proofs.lemmas.List.{length-take-le}
-use Rattle.std.proofs.lemmas.Str.{chars-IsAscii}
-use Rattle.std.specs.Prelude.{chars}
 use Rattle.yaml_chars.specs.Source.{IterStands}
-use Rattle.yaml_chars.proofs.WordsLemmas.{ascii_of, boundary_of, words_of, Stands-on, front_range, true_is_not_false}
+use Rattle.yaml_chars.proofs.WordsLemmas.{boundary_of, words_of, Stands-on, front_range, true_is_not_false}
 use Rattle.yaml_chars.proofs.source.Source.pass_words.Goals as goal
 
 pub range-words-requires-clause-end_boundary : goal.range-words-requires-clause-end_boundary

@@ -1,4 +1,3 @@
-use Rattle.std.proofs.Common.{◌≡◌}
 use Rattle.yaml_chars.specs.Run.{GoesOn}
 use Rattle.yaml_chars.proofs.source.Source.run_on.Given as goal
 

@@ -1,4 +1,3 @@
-use Rattle.std.proofs.Common.{◌≡◌}
 use Rattle.yaml_chars.proofs.RunLemmas.{Fills-over, Reads-over, Ran-over, Reads-map}
 use Rattle.yaml_chars.proofs.window.Window.run_from_source.Goals as goal
 

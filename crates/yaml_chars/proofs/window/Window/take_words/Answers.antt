@@ -1,4 +1,3 @@
-use Rattle.std.proofs.Common.{◌≡◌}
 use Rattle.std.specs.Prelude.{Result, Ok, Err, OnOk}
 use Rattle.yaml_chars.specs.Reading.{Reads, position_of}
 use Rattle.yaml_chars.specs.Words.{TakesWords}

@@ -1,0 +1,67 @@
+//! Sixteen bytes at a time.
+ghost use Rattle.std.specs.Prelude.{◌≡◌, ℕ, ◌+◌, ◌<◌, ◌≤◌, length, slice_index, false, map};
+ghost use Rattle.yaml_chars.specs.Words.{halts, halts_line, pairs};
+ghost use lib.Lanes.{mask_l};
+
+use std::simd::prelude::*;
+
+/// How many bytes are looked at together.
+pub(crate) const LANES: usize = 16;
+
+/// The bytes where words do not surely go on, as bits: by the bytes after them, and by two that are of no word.
+#[inline(always)]
+fn halting(block: u8x16, next: u8x16, first: u8, second: u8) -> u64
+    ensures { result ≡ mask_l (map (halts first second) (pairs block next)) }
+{
+    let other = block.simd_lt(u8x16::splat(b'!'))
+        | block.simd_gt(u8x16::splat(b'~'))
+        | block.simd_eq(u8x16::splat(first))
+        | block.simd_eq(u8x16::splat(second));
+    let apart = block.simd_ne(u8x16::splat(b' '))
+        | next.simd_lt(u8x16::splat(b'0'))
+        | next.simd_gt(u8x16::splat(b'z'))
+        | next.simd_eq(u8x16::splat(b':'))
+        | next.simd_eq(u8x16::splat(b'['))
+        | next.simd_eq(u8x16::splat(b'\\'))
+        | next.simd_eq(u8x16::splat(b']'));
+    (other & apart).to_bitmask()
+}
+
+/// The bytes that are no printable characters, as bits.
+#[inline(always)]
+fn unprintable(block: u8x16) -> u64
+    ensures { result ≡ mask_l (map halts_line block) }
+{
+    (block.simd_lt(u8x16::splat(b' ')) | block.simd_gt(u8x16::splat(b'~'))).to_bitmask()
+}
+
+/// How many of the next sixteen bytes come before the first where words do not surely go on. Two bytes are named that are
+/// of no word.
+#[inline(always)]
+pub(crate) fn word_lanes(bytes: &[u8], at: usize, first: u8, second: u8) -> usize
+    requires { at + 16 < length bytes.now }
+    ensures within { result ≤ 16 }
+    ensures goes { (k : ℕ) → k < result → halts first second (slice_index bytes.now (at + k), slice_index bytes.now (at + 1 + k)) ≡ false }
+{
+    let block = u8x16::from_slice(&bytes[at..]);
+    let next = u8x16::from_slice(&bytes[at + 1..]);
+    let found = halting(block, next, first, second);
+    if found == 0 {
+        return LANES;
+    }
+    found.trailing_zeros() as usize
+}
+
+/// How many of the next sixteen bytes come before the first that is no printable character.
+#[inline(always)]
+pub(crate) fn line_lanes(bytes: &[u8], at: usize) -> usize
+    requires { at + 16 < length bytes.now }
+    ensures within { result ≤ 16 }
+    ensures goes { (k : ℕ) → k < result → halts_line (slice_index bytes.now (at + k)) ≡ false }
+{
+    let found = unprintable(u8x16::from_slice(&bytes[at..]));
+    if found == 0 {
+        return LANES;
+    }
+    found.trailing_zeros() as usize
+}
