@@ -17,7 +17,7 @@ pub fn load_with_limits(alloc: Global, text: &str, limits: Limits) -> Result<Vec
     ensures { Answers limits (up_to_nul (chars text.now)) result }
 {
     let mut guard = Guard::new(alloc, limits);
-    let mut parser = Parser::new_from_str(alloc, text);
+    let mut parser = Parser::of_text(alloc, text);
     texts_are_answered::<Guard>();
     strings_are_the_text();
     taken_texts_are_loaded();

@@ -42,7 +42,7 @@ impl MarkedLoader {
         let loader = YamlLoader::default(alloc);
         let marking = Marking::new(alloc);
         let mut receiver = MarkedLoader { loader, marking };
-        let mut parser = Parser::new_from_str(alloc, text);
+        let mut parser = Parser::of_text(alloc, text);
         texts_are_answered::<MarkedLoader>();
         strings_are_the_text();
         refused_texts_want_memory();
