@@ -124,11 +124,20 @@ impl Run {
         at
     }
 
+    /// Whether words may begin with the first byte. Where they do not, nothing more is looked at.
+    #[inline(always)]
+    fn may_begin(self, bytes: &[u8]) -> bool {
+        !bytes.is_empty() && (self.is_ordinary(bytes[0]) || bytes[0] == b' ')
+    }
+
     /// How many of the bytes that come next are characters of words, or lone blanks between words.
     #[inline(always)]
     pub(crate) fn words(self, bytes: &[u8]) -> usize
         ensures { AreWordsUpTo self bytes.now result }
     {
+        if !self.may_begin(bytes) {
+            return 0;
+        }
         let mut end = self.word_end(bytes, self.blocks(bytes));
         'words: while end + 1 < bytes.len() && bytes[end] == b' ' && self.is_first(bytes[end + 1]) {
             end = self.word_end(bytes, end + 2);

@@ -322,15 +322,15 @@ impl<T: Characters> Window<T> {
     }
 
     /// Takes words, and lone blanks between them, into a text, as far as they are in the window or known to come. It may
-    /// take none.
+    /// take none. The result is whether some were known.
     #[inline(always)]
-    pub fn take_words(&mut self, run: Run, text: &mut Text) -> Result<(), AllocError>
+    pub fn take_words(&mut self, run: Run, text: &mut Text) -> Result<bool, AllocError>
         ensures ok { OnOk result (Reads self.old self.new (λ a b. TakesWords run a b (position_of self.old) (position_of self.new) text.old text.new)) }
         ensures err { OnErr result (Reads self.old self.new (λ _ _. Unit {0})) }
     {
         'held: while self.len() > 0 {
             let Some(c) = self.take(run) else {
-                return Ok(());
+                return Ok(false);
             };
             text.push(c)?;
         }
@@ -339,7 +339,7 @@ impl<T: Characters> Window<T> {
 
     // The same, where nothing is in the window.
     #[inline(always)]
-    fn words_from_source(&mut self, run: Run, text: &mut Text) -> Result<(), AllocError>
+    fn words_from_source(&mut self, run: Run, text: &mut Text) -> Result<bool, AllocError>
         requires { self.old.ahead ≡ 0 }
         ensures ok { OnOk result (Reads self.old self.new (λ a b. TakesWords run a b (position_of self.old) (position_of self.new) text.old text.new)) }
         ensures err { OnErr result (Reads self.old self.new (λ _ _. Unit {0})) }
@@ -347,7 +347,7 @@ impl<T: Characters> Window<T> {
         let count = self.source.words_on(run, text)?;
         self.index += count;
         self.col += count;
-        Ok(())
+        Ok(count > 0)
     }
 
     /// Steps over words, and lone blanks between them, as far as they are known to come. It may step over none, and does

@@ -34,22 +34,22 @@ fn can_be_plain(flow: bool, c: char, next: char) -> bool
     }
 }
 
-/// Reads words, and lone blanks between them, as far as the text is known.
+/// Reads words, and lone blanks between them, as far as the text is known. The result is whether some of it was.
 #[inline(always)]
 fn read_known<T: Characters>(
     window: &mut Window<T>,
     context: Context,
     scalar: &mut Folding,
-) -> Result<(), AllocError>
+) -> Result<bool, AllocError>
     ensures ok { OnOk result (Reads window.old window.new (λ a b. (start : Position) →
         plain_from context start a (at inside window.old scalar.old) ≡ plain_from context start b (at inside window.new scalar.new))) }
     ensures err { OnErr result (Reads window.old window.new (λ _ _. Unit {0})) }
 {
     if is_shallow(context, window.mark().col()) || !scalar.is_joined() {
-        return Ok(());
+        return Ok(false);
     }
-    window.take_words(Run::Plain(context.flow), &mut scalar.text)?;
-    Ok(())
+    let known = window.take_words(Run::Plain(context.flow), &mut scalar.text)?;
+    Ok(known)
 }
 
 /// Reads the characters up to a blank, a break, the end, a colon or what ends a plain scalar in flow.
@@ -113,8 +113,9 @@ fn read_words<T: Characters>(
     ensures err { OnErr result (Reads window.old window.new (λ _ _. Unit {0})) }
 {
     'words: loop {
-        read_known(window, context, scalar)?;
-        read_word(window, context, scalar)?;
+        if !read_known(window, context, scalar)? {
+            read_word(window, context, scalar)?;
+        }
         if !take_lone_blank(window, context, scalar)? {
             return Ok(());
         }

@@ -252,22 +252,22 @@ fn read_part<T: Characters>(
     }
 }
 
-/// Reads words, and lone blanks between them, as far as the text is known.
+/// Reads words, and lone blanks between them, as far as the text is known. The result is whether some of it was.
 #[inline(always)]
 fn read_known<T: Characters>(
     window: &mut Window<T>,
     quote: &Quote,
     scalar: &mut Folding,
-) -> Result<(), AllocError>
+) -> Result<bool, AllocError>
     ensures ok { OnOk result (GoesOn quote.now inside window.old scalar.old inside window.new scalar.new) }
     ensures err { OnErr result (Reads window.old window.new (λ _ _. Unit {0})) }
 {
     if window.mark().col() + 1 < quote.context.indent || !scalar.is_joined() {
-        return Ok(());
+        return Ok(false);
     }
     let run = Run::Quoted(quote_of(quote.single));
-    window.take_words(run, &mut scalar.text)?;
-    Ok(())
+    let known = window.take_words(run, &mut scalar.text)?;
+    Ok(known)
 }
 
 /// Reads the characters up to a blank, a break, the end, a quote or a backslash.
@@ -349,8 +349,9 @@ pub(crate) fn read_run<T: Characters>(
     ensures left { OnOk result (window.new.left ≤ window.old.left) }
 {
     'words: loop {
-        read_known(window, quote, scalar)?;
-        read_word(window, quote, scalar)?;
+        if !read_known(window, quote, scalar)? {
+            read_word(window, quote, scalar)?;
+        }
         if !take_lone_blank(window, quote, scalar)? {
             return Ok(());
         }

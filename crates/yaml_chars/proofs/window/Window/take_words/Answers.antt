@@ -1,4 +1,4 @@
-use Rattle.std.specs.Prelude.{Result, Ok, Err, OnOk}
+use Rattle.std.specs.Prelude.{Bool, Result, Ok, Err, OnOk}
 use Rattle.yaml_chars.specs.Reading.{Reads, position_of}
 use Rattle.yaml_chars.specs.Words.{TakesWords}
 use Rattle.yaml_chars.proofs.ReadingLemmas.{Reads-then}
@@ -15,7 +15,7 @@ held-preserved g c =
 pub returns-clause-ok : goal.returns-clause-ok
 returns-clause-ok g c = by c.words_from_source.result c.words_from_source.ensures.ok
   where
-    by : {E : Type 0} (r : Result (Unit {0}) E) → OnOk r (Reads c.held.self c.words_from_source.new.self (λ a b. TakesWords c.args.run a b (position_of c.held.self) (position_of c.words_from_source.new.self) c.held.text c.words_from_source.new.text))
+    by : {E : Type 0} (r : Result Bool E) → OnOk r (Reads c.held.self c.words_from_source.new.self (λ a b. TakesWords c.args.run a b (position_of c.held.self) (position_of c.words_from_source.new.self) c.held.text c.words_from_source.new.text))
         → OnOk r (Reads c.args.self.now c.words_from_source.new.self (λ a b. TakesWords c.args.run a b (position_of c.args.self.now) (position_of c.words_from_source.new.self) c.args.text.now c.words_from_source.new.text))
     by (Ok u) reads = Reads-then _ _ _ c.held.invariant reads (λ a b d x y. takes_then _ a b d _ _ _ _ _ _ x y)
     by (Err e) reads = tt
