@@ -112,8 +112,11 @@ fn read_words<T: Characters>(
         plain_from context start a (at inside window.old scalar.old) ≡ plain_from context start b (at inside window.new scalar.new))) }
     ensures err { OnErr result (Reads window.old window.new (λ _ _. Unit {0})) }
 {
+    let mut known = true;
     'words: loop {
-        if !read_known(window, context, scalar)? {
+        // What was not known once is not asked for again in this line: so no word is looked at twice.
+        known = known && read_known(window, context, scalar)?;
+        if !known {
             read_word(window, context, scalar)?;
         }
         if !take_lone_blank(window, context, scalar)? {

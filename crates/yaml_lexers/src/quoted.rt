@@ -348,8 +348,11 @@ pub(crate) fn read_run<T: Characters>(
     ensures err { OnErr result (Reads window.old window.new (λ _ _. Unit {0})) }
     ensures left { OnOk result (window.new.left ≤ window.old.left) }
 {
+    let mut known = true;
     'words: loop {
-        if !read_known(window, quote, scalar)? {
+        // What was not known once is not asked for again in this line: so no word is looked at twice.
+        known = known && read_known(window, quote, scalar)?;
+        if !known {
             read_word(window, quote, scalar)?;
         }
         if !take_lone_blank(window, quote, scalar)? {
