@@ -1,6 +1,7 @@
 pub mod Agreement
 pub mod AliasLemmas
 pub mod GoOnAlike
+pub mod InMemory
 pub mod KeyText
 pub mod LastPair
 pub mod LoadLemmas
@@ -9,4 +10,4 @@ pub mod Reals
 pub mod Tags
 pub mod Words
 pub mod AnyText
-mod TextLemmas
+pub mod TextLemmas

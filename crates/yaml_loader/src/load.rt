@@ -15,10 +15,22 @@ ghost use Rattle.yaml_loader.specs.TextLoads.{LoadsText, LoadsOnly, OfTexts, OfT
 use crate::loader::YamlLoader;
 use defs_event::laws::loaded_trees_have_no_alias;
 use std::alloc::Global;
-use yaml_chars::Characters;
+use yaml_chars::{Characters, TextInMemory};
 use yaml_parser::Parser;
 use yaml_tokens::ScanError;
 use yaml_tree::Yaml;
+
+/// Loads all documents of the characters that come from a source.
+fn load_known<S: Characters>(alloc: Global, source: S) -> Result<Vec<Yaml>, ScanError>
+    requires can { S.can_next source }
+    requires finite { IsFinite (S.remaining source) }
+    requires few { size (S.remaining source) < 2 ^ 63 }
+    ensures reads { BeginsText S.next_gives source (λ text. LoadsText false text result) }
+    ensures no_alias { IfOk result (λ documents. All HasNoAlias (items_view documents.items)) }
+{
+    let mut parser = Parser::new(alloc, source);
+    YamlLoader::load_from_parser(alloc, &mut parser)
+}
 
 impl YamlLoader {
     /// Loads all documents of a text, up to its end or its first NUL (YAML 1.2, section 3.1). An empty text has no
@@ -74,8 +86,7 @@ impl YamlLoader {
         ensures laid_out_before_nul { OfLayout (up_to_nul (chars source.now)) (LoadsOnly result) }
         ensures quoted_before_nul { OfQuoted (up_to_nul (chars source.now)) (LoadsOnly result) }
     {
-        let mut parser = Parser::of_text(alloc, source);
-        YamlLoader::load_from_parser(alloc, &mut parser)
+        load_known(alloc, TextInMemory::new(source))
     }
 
     /// Loads all documents of the characters that an iterator gives, up to its first `None` or NUL. After that the

@@ -1,11 +1,13 @@
 //! A loader that also takes the positions of nodes.
-ghost use Rattle.std.specs.Prelude.{chars};
+ghost use Rattle.std.specs.Prelude.{◌<◌, ◌^◌, chars};
+ghost use Rattle.std.specs.Iterator.{IsFinite, size};
 ghost use Rattle.defs_text.specs.Text.{up_to_nul};
+ghost use Rattle.yaml_chars.specs.Reading.{BeginsText};
 
 use crate::marking::Marking;
-use proof_loads::laws::{strings_are_the_text, texts_are_answered};
+use proof_loads::laws::texts_are_answered;
 use std::alloc::Global;
-use yaml_chars::Marker;
+use yaml_chars::{Characters, Marker, TextInMemory};
 use yaml_loader::YamlLoader;
 use yaml_loader::laws::refused_texts_want_memory;
 use yaml_parser::{Event, MarkedEventReceiver, Parser};
@@ -39,12 +41,21 @@ impl MarkedLoader {
     pub(crate) fn of_text(alloc: Global, text: &str) -> Result<MarkedLoader, ScanError>
         ensures { Receives (up_to_nul (chars text.now)) result }
     {
+        MarkedLoader::of_source(alloc, TextInMemory::new(text))
+    }
+
+    /// A loader that took all events of the characters that come from a source.
+    fn of_source<S: Characters>(alloc: Global, source: S) -> Result<MarkedLoader, ScanError>
+        requires can { S.can_next source }
+        requires finite { IsFinite (S.remaining source) }
+        requires few { size (S.remaining source) < 2 ^ 63 }
+        ensures { BeginsText S.next_gives source (λ text. Receives text result) }
+    {
         let loader = YamlLoader::default(alloc);
         let marking = Marking::new(alloc);
         let mut receiver = MarkedLoader { loader, marking };
-        let mut parser = Parser::of_text(alloc, text);
+        let mut parser = Parser::new(alloc, source);
         texts_are_answered::<MarkedLoader>();
-        strings_are_the_text();
         refused_texts_want_memory();
         let outcome = parser.load(&mut receiver, true);
         parser.note();

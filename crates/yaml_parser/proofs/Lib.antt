@@ -2,7 +2,6 @@ mod ApartRows
 pub mod Arms
 pub mod Completed
 pub mod InFlow
-pub mod InMemory
 pub mod DirectiveLemmas
 pub mod DocumentArms
 pub mod Ends

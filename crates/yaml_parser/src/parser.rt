@@ -4,7 +4,6 @@ ghost use Rattle.std.specs.Io.BufRead.{Rests};
 ghost use Rattle.std.specs.Iterator.{IsFinite, size};
 ghost use Rattle.std.specs.Str.Iter.{chars_rest};
 ghost use Rattle.yaml_chars.specs.Reading.{HasNoNul};
-ghost use Rattle.yaml_chars.specs.InMemory.{text_rest};
 ghost use Rattle.yaml_chars.specs.Source.{CameFrom};
 ghost use Rattle.yaml_scanner.specs.Scanned.{Scans};
 ghost use Rattle.yaml_parser.specs.Loads.{PushesNext};
@@ -22,7 +21,7 @@ use std::alloc::Global;
 use std::marker::Model;
 use std::mem;
 use std::str::Chars;
-use yaml_chars::{Characters, Marker, TextInMemory};
+use yaml_chars::{Characters, Marker};
 use yaml_chars::history::History;
 use yaml_tokens::{Fault, Problem, ScanError};
 
@@ -117,24 +116,6 @@ impl<'a> Parser<Chars<'a>> {
     }
 }
 
-impl<'a> Parser<TextInMemory<'a>> {
-    /// The same parser as that of [`new_from_str`](Parser::new_from_str), but for its type. It is faster, since it knows
-    /// what comes next in the text.
-    pub fn of_text(alloc: Global, value: &'a str) -> Self
-        ensures given { (parsed result).given ≡ [] }
-        ensures ahead { (parsed result).ahead ≡ None }
-        ensures fault { (parsed result).fault ≡ None }
-        ensures started { (parsed result).started ≡ false }
-        ensures ended { (parsed result).ended ≡ false }
-        ensures keep_tags { (parsed result).keep_tags ≡ false }
-        ensures steady { (parsed result).steady ≡ true }
-        ensures settings { (parsed result).settings ≡ [] }
-        ensures source { text_rest result.start ≡ value.now }
-    {
-        Parser::new(alloc, TextInMemory::new(value))
-    }
-}
-
 impl<T: Characters> Parser<T> {
     ghost use Rattle.yaml_parser.specs.contracts.parser.Parser.{the_row};
 
@@ -213,7 +194,7 @@ impl<T: Characters> Parser<T> {
     ///
     /// Those of [`next_token`](Parser::next_token).
     pub fn peek(&mut self) -> Result<&(Event, Marker), ScanError>
-        ensures* after { sem 𝓛 (Rests (the_row T.row T.Iterator) self.entry (λ after. PeekLeaves self.old result after)) }
+        ensures* after { sem 𝓛 (Rests (the_row T.row T.Characters) self.entry (λ after. PeekLeaves self.old result after)) }
         ensures event { IfOk result (λ e. ShowsNext (parsed self.old) (placed e.now)) }
         ensures fault { IfErr result (λ f. MeetsFault (parsed self.old) f) }
     {

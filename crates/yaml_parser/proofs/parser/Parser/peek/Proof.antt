@@ -36,7 +36,6 @@ use denote.Steps.{nothing, peeks, heard}
 use denote.Struct.Field.{shr_ref_field, unit-field}
 use denote.Struct.Laws.{shr_ref_laws, shr_ref_copy, unit-laws, unit-copy}
 use denote.Struct.Tuple.{Tuple, tuple_laws}
-use denote.Text.{char-field}
 use denote.Triple.Call.{calls_at}
 use denote.Triple.Clauses.{Lasts, lasts, Ended}
 use denote.Triple.Spec.{triple_of}
@@ -46,7 +45,7 @@ use borrow.Rule.Reshare.{ref_Share}
 use borrow.Table.Owned as Owned
 use Rattle.std.specs.Prelude.{⊤, IsSome, IfOk}
 use Rattle.std.specs.Io.BufRead.{Rests}
-use Rattle.std.specs.declared.iter.Iterator.{Ghosts}
+use Rattle.yaml_chars.specs.declared.characters.Characters.{Ghosts}
 use Rattle.std.specs.contracts.result.Result.{the_row as result_row}
 use Rattle.std.proofs.raw_atomic.Walks.{proved}
 use Rattle.std.proofs.result.Result.TheLaws.{the_row_laws as result_laws}
@@ -97,7 +96,7 @@ rests : {M : Type 1} {𝓤 : Ura M} (𝓛 : Logic 𝓤) (R : RattleType) (γ : G
 unfolding such_by follows_by
 rests 𝓛 R γ P v p = qed 𝓛 (‵ (fres γ (R.coded.code v)) ∷ []) ∵ fpack ! ((s : (R.Denot → R.Denot) × R.Denot) × (R.Denot → ⊤) × P s.1) (λ s. fres γ (R.coded.code s.0.1)) ((((λ w. w), v)), (λ w. tt), p) $ done !
 
-module _ (T : RattleType) (g : Ghosts T.Denot char-field.Value) (d dd : Dict) where
+module _ (T : RattleType) (g : Ghosts T.Denot) (d dd : Dict) where
   abbrev args : Args
   args = bounded (a_type ∷ []) (T, tt) (dcons d (dcons dd dnil))
 
