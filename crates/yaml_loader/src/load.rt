@@ -28,8 +28,8 @@ fn load_known<S: Characters>(alloc: Global, source: S) -> Result<Vec<Yaml>, Scan
     ensures reads { BeginsText S.next_gives source (λ text. LoadsText false text result) }
     ensures no_alias { IfOk result (λ documents. All HasNoAlias (items_view documents.items)) }
 {
-    let mut parser = Parser::new(alloc, source);
-    YamlLoader::load_from_parser(alloc, &mut parser)
+    let mut known = Parser::new(alloc, source);
+    YamlLoader::load_from_parser(alloc, &mut known)
 }
 
 impl YamlLoader {
