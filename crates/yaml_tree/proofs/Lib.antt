@@ -12,6 +12,7 @@ pub mod Packing
 pub mod Placed
 pub mod Ranking
 pub mod Rows
+pub mod Seating
 pub mod TextLemmas
 pub mod TextOrder
 pub mod WeightLemmas

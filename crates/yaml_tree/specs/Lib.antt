@@ -12,6 +12,7 @@ pub mod Packed
 pub mod Probes
 pub mod Ranked
 pub mod Rows
+pub mod Seats
 pub mod View
 pub mod Weight
 pub mod Writes
