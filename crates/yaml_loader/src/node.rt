@@ -269,16 +269,16 @@ impl Open {
     }
 }
 
-// A call of its own, so that no other node pays for its locals.
-#[inline(never)]
+// Not a call of its own, which would copy both nodes once more.
+#[inline(always)]
 #[tactic(auto, using(crate::proofs::LastPair::last_of_push))]
 fn insert_pair(pairs: &mut Hash, key: Yaml, value: Yaml) -> Result<(), Refusal>
     ensures ok { OnOk result ((n : ℕ) → Inserts (opened_mapping n pairs.old (Some (view key))) (view value) (opened_mapping n pairs.new None)) }
     ensures err { IfErr result (λ r. (n : ℕ) → IsNoInsert r (opened_mapping n pairs.old (Some (view key))) (view value) (opened_mapping n pairs.new None)) }
 {
-    match pairs.insert(key, value) {
-        Ok(None) => Ok(()),
-        Ok(Some(_)) => Err(Refusal::RepeatedKey),
+    match pairs.put(key, value) {
+        Ok(false) => Ok(()),
+        Ok(true) => Err(Refusal::RepeatedKey),
         Err(_) => Err(Refusal::OutOfMemory),
     }
 }

@@ -8,10 +8,11 @@ pub mod Indexed
 pub mod ItemsLemmas
 pub mod Keeping
 pub mod Digesting
+pub mod Packing
 pub mod Placed
 pub mod Ranking
 pub mod Rows
-pub mod Shifting
+pub mod Seating
 pub mod TextLemmas
 pub mod TextOrder
 pub mod WeightLemmas

@@ -8,9 +8,11 @@ pub mod Laws
 pub mod Digests
 pub mod Node
 pub mod Places
+pub mod Packed
 pub mod Probes
 pub mod Ranked
 pub mod Rows
+pub mod Seats
 pub mod View
 pub mod Weight
 pub mod Writes

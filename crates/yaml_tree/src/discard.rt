@@ -79,6 +79,14 @@ fn discard_by_loop(y: Yaml) {
     }
 }
 
+/// Drops a pair.
+#[cold]
+#[inline(never)]
+pub(crate) fn discard_pair(key: Yaml, value: Yaml) {
+    drop(key);
+    drop(value);
+}
+
 // How many levels of a tree go by calls one in another, which is quicker than the loop.
 const LEVELS: u8 = 24;
 

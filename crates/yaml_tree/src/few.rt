@@ -1,62 +1,44 @@
 //! Places by rank for a short hash, with no memory of their own.
-ghost use Rattle.std.specs.Prelude.{◌≡◌, ◌<◌, ◌≤◌, ◌+◌, ◌++◌, ◌∷◌, [], length, map, take, get_or};
+ghost use Rattle.std.specs.Prelude.{◌≡◌, ◌<◌, ◌≤◌, ◌+◌, ◌++◌, ◌∷◌, [], length, map, get_or};
 ghost use Rattle.std.specs.List.{insert, remove};
 ghost use Rattle.yaml_hash_index.specs.Moves.{closed_up, moved_up};
 
 use std::marker::Model;
 use yaml_hash_index::moves::{closed_up, moved_up};
 
-/// How many places there is room for. With the count they fit beside a hash's row in 16 bytes.
+/// How many places there is room for.
 pub(crate) const ROOM: usize = 14;
 
-/// Up to fourteen places below 256, by their rank.
+/// Up to fourteen places below 16, by their rank.
 #[derive(Drop)]
 pub(crate) struct Few {
-    count: u8,
-    // Only the first `count` of them are in use.
-    slots: [u8; 14],
+    // Four bits each: first their count, then the places from the least rank on. So a hash is moved by whole words.
+    packed: u64,
 }
 
 impl Model for Few {
-    ghost use Rattle.std.specs.Prelude.{ℕ, List, ◌≡◌, ◌≤◌, length, take};
+    ghost use Rattle.std.specs.Prelude.{ℕ, List};
+    ghost use Rattle.yaml_tree.specs.Packed.{unpacked, IsPacked};
 
     ghost Value = { List ℕ };
 
-    ghost view = { λ f. take f.count f.slots };
+    ghost view = { λ f. unpacked f.packed };
 
-    ghost invariant = { λ f. (f.count ≤ 14) × (length f.slots ≡ 14) };
-}
-
-// Inserts a place at a rank, before the places from that rank on.
-fn insert_at(slots: &mut [u8], count: usize, rank: usize, place: u8)
-    requires rank { rank ≤ count }
-    requires room { count < length slots.old }
-    ensures { take (count + 1) slots.new ≡ insert (take count slots.old) rank place }
-{
-    let mut free = count;
-    while rank < free {
-        slots[free] = slots[free - 1];
-        free -= 1;
-    }
-    slots[free] = place;
+    ghost invariant = { λ f. IsPacked f.packed };
 }
 
 impl Few {
     pub(crate) fn new() -> Few
         ensures { result ≡ [] }
     {
-        Few {
-            count: 0,
-            slots: [0; 14],
-        }
+        Few { packed: 0 }
     }
 
     pub(crate) fn same(&self) -> Few
         ensures { result ≡ self.now }
     {
         Few {
-            count: self.count,
-            slots: self.slots,
+            packed: self.packed,
         }
     }
 
@@ -64,37 +46,37 @@ impl Few {
         ensures count { result ≡ length self.now }
         ensures within { result ≤ 14 }
     {
-        self.count as usize
+        (self.packed % 16) as usize
     }
 
     /// The place of a rank.
     pub(crate) fn at(&self, rank: usize) -> usize
         requires { rank < length self.now }
         ensures place { result ≡ get_or self.now rank 0 }
-        ensures low { result < 256 }
+        ensures low { result < 16 }
     {
-        usize::from(self.slots[rank])
+        ((self.packed >> (4 * rank + 4)) % 16) as usize
     }
 
     /// Gives a place this rank, before the one that had it.
-    pub(crate) fn insert(&mut self, rank: usize, place: u8)
+    pub(crate) fn insert(&mut self, rank: usize, place: usize)
         requires room { length self.old < 14 }
         requires rank { rank ≤ length self.old }
+        requires low { place < 16 }
         ensures { self.new ≡ insert self.old rank place }
     {
-        let count = self.len();
-        insert_at(self.slots.as_mut_slice(), count, rank, place);
-        self.count += 1;
+        let shift = 4 * rank + 4;
+        let above = self.packed >> shift;
+        let below = self.packed - (above << shift);
+        self.packed = below + ((above * 16 + place as u64) << shift) + 1;
     }
 
     fn push(&mut self, place: usize)
         requires room { length self.old < 14 }
-        requires low { place < 256 }
+        requires low { place < 16 }
         ensures { self.new ≡ self.old ++ place ∷ [] }
     {
-        let count = self.len();
-        self.slots[count] = place as u8;
-        self.count += 1;
+        self.insert(self.len(), place);
     }
 
     /// The places without that of a rank; the places above it fall by one.

@@ -2,19 +2,19 @@
 ghost use Rattle.std.specs.Prelude.{◌≡◌, ◌+◌, ◌*◌, ◌<◌, ◌↔◌, [], Some, None, length, option_map, IsTrue, IsSome, IfOk, IfErr, OnOk, OnErr};
 ghost use Rattle.defs_tree.specs.Digits.{binary_digits};
 ghost use Rattle.defs_tree.specs.Tree.{string};
-ghost use Rattle.defs_tree.specs.Pairs.{insert, last_of, lookup, without, place_of, value_at, with_value_at, with_value, AreDistinct};
+ghost use Rattle.defs_tree.specs.Pairs.{insert, last_of, lookup, without, has_key, place_of, value_at, with_value_at, with_value, AreDistinct};
 ghost use Rattle.yaml_hash_index.specs.Counts.{RisesWithin};
 ghost use Rattle.yaml_tree.specs.Probes.{probed};
 ghost use Rattle.yaml_tree.specs.View.{view, items_view};
 ghost use Rattle.yaml_tree.specs.Flat.{flat};
 
-use crate::discard::discard_row;
+use crate::discard::{discard_pair, discard_row};
 use crate::ranks::Ranks;
-use crate::row::{add, exchange, take};
+use crate::row::{exchange, replace, seat, take};
 use crate::search::{Probe, search};
 use crate::steps::Steps;
 use crate::yaml::Yaml;
-use std::alloc::Global;
+use std::alloc::{AllocError, Global};
 use std::marker::Model;
 
 /// Pairs of a key and a value, in the order of insertion. No two keys are equal.
@@ -200,22 +200,39 @@ impl Hash {
         ensures unchanged { OnErr result (self.new ≡ self.old) }
         ensures only_at_growth { OnErr result (lookup (view key) self.old ≡ None) }
     {
-        let mut steps = Steps::new();
-        match search(
-            self.row.as_slice(),
-            &self.ranks,
-            Probe::Node(&key),
-            &mut steps,
-        ) {
-            Ok(spot) => {
-                let place = self.ranks.at(spot);
-                let count = self.row.len() / 2;
-                self.ranks.move_to_end(place, count);
-                Ok(Some(exchange(&mut self.row, place, key, value)))
-            }
-            Err(gap) => {
-                add(&mut self.row, &mut self.ranks, gap, key, value)?;
+        match seat(&mut self.row, &mut self.ranks, &key) {
+            Ok(None) => {
+                self.row.push_reserved(key);
+                self.row.push_reserved(value);
                 Ok(None)
+            }
+            Ok(Some(place)) => Ok(Some(exchange(&mut self.row, place, key, value))),
+            Err(_) => Err((key, value)),
+        }
+    }
+
+    /// The same as `insert`, but for what it returns: whether the key was there. The key's old value is dropped, and so
+    /// is the pair if memory was refused.
+    #[inline(always)]
+    pub fn put(&mut self, key: Yaml, value: Yaml) -> Result<bool, AllocError>
+        ensures pairs { OnOk result (self.new ≡ insert (view key) (view value) self.old) }
+        ensures there { IfOk result (λ there. there ≡ has_key (view key) self.old) }
+        ensures unchanged { OnErr result (self.new ≡ self.old) }
+        ensures only_at_growth { OnErr result (lookup (view key) self.old ≡ None) }
+    {
+        match seat(&mut self.row, &mut self.ranks, &key) {
+            Ok(None) => {
+                self.row.push_reserved(key);
+                self.row.push_reserved(value);
+                Ok(false)
+            }
+            Ok(Some(place)) => {
+                replace(&mut self.row, place, key, value);
+                Ok(true)
+            }
+            Err(refused) => {
+                discard_pair(key, value);
+                Err(refused)
             }
         }
     }

@@ -166,7 +166,7 @@ impl Ranks {
     {
         match &mut self.kept {
             Kept::Few(few) if few.len() < ROOM => {
-                let place = few.len() as u8;
+                let place = few.len();
                 few.insert(gap.spot.offset, place);
                 Ok(())
             }

@@ -1,51 +1,53 @@
 //! Rows of keys and values.
-ghost use Rattle.std.specs.Prelude.{◌≡◌, ◌+◌, ◌*◌, ◌<◌, ◌≤◌, ◌++◌, ◌∷◌, [], length, get_or, IfErr, OnOk, OnErr, vec_len, vec_capacity};
+ghost use Rattle.std.specs.Prelude.{◌≡◌, ◌+◌, ◌*◌, ◌<◌, ◌≤◌, ◌++◌, ◌∷◌, [], None, length, get_or, IfOk, IfSome, IfNone, OnErr, vec_len, vec_capacity};
 ghost use Rattle.std.specs.List.{remove};
-ghost use Rattle.defs_tree.specs.Tree.{Tree};
-ghost use Rattle.yaml_tree.specs.Digests.{first_by, AreDigests};
-ghost use Rattle.yaml_tree.specs.Places.{places, digests, rank_at, HasSpot, IsIndexed};
-ghost use Rattle.yaml_tree.specs.Ranked.{AreRanked, IsRankGap};
+ghost use Rattle.defs_tree.specs.Pairs.{lookup};
+ghost use Rattle.yaml_tree.specs.Places.{IsIndexed};
+ghost use Rattle.yaml_tree.specs.Seats.{IsReady, IsReadyWithout};
 ghost use Rattle.yaml_tree.specs.View.{view, items_view, pairs_view};
 
 use crate::ranks::Ranks;
-use crate::search::Gap;
+use crate::search::{Probe, search};
+use crate::steps::Steps;
 use crate::yaml::Yaml;
+use std::alloc::AllocError;
 
 // Room that the first pair takes: most hashes have no more than four pairs.
 const FIRST_ROOM: usize = 8;
 
-/// Adds a pair at the end, and its place in a gap. An `Err` comes only if memory was refused; then both
-/// are as they were, and the pair is handed back.
-#[inline(always)]
-pub(crate) fn add(
+/// Makes all ready for a pair with this key to be put at the end. The result is the place of the key's old pair, which is
+/// to go first; with none there is room for two more nodes. An `Err` comes only if memory was refused; then both are as
+/// they were.
+#[inline(never)]
+pub(crate) fn seat(
     row: &mut Vec<Yaml>,
     ranks: &mut Ranks,
-    gap: Gap,
-    key: Yaml,
-    value: Yaml,
-) -> Result<(), (Yaml, Yaml)>
+    key: &Yaml,
+) -> Result<Option<usize>, AllocError>
     requires indexed { IsIndexed (items_view row.old.items) ranks.old.kept }
-    requires spot { HasSpot ranks.old.kept gap.spot }
-    requires digest { gap.digest ≡ first_by ranks.old.kept (view key) }
-    requires gap { IsRankGap (first_by ranks.old.kept) (view key) (places ranks.old.kept) (pairs_view row.old.items) (rank_at ranks.old.kept gap.spot) }
-    ensures row { OnOk result (row.new.items ≡ row.old.items ++ key ∷ value ∷ []) }
-    ensures ranked { OnOk result ((v : Tree) → AreRanked (first_by ranks.new.kept) (places ranks.new.kept) (pairs_view row.old.items ++ (view key, v) ∷ [])) }
-    ensures digests { OnOk result ((v : Tree) → AreDigests (digests ranks.new.kept) (places ranks.new.kept) (pairs_view row.old.items ++ (view key, v) ∷ [])) }
-    ensures same { OnErr result (row.new.items ≡ row.old.items) }
-    ensures indexed { OnErr result (IsIndexed (items_view row.old.items) ranks.new.kept) }
-    ensures handed_back { IfErr result (λ p. p ≡ (key, value)) }
+    ensures row { row.new.items ≡ row.old.items }
+    ensures room { IfOk result (λ place. IfNone place (vec_len row.new + 2 ≤ vec_capacity row.new)) }
+    ensures ready { IfOk result (λ place. IfNone place (IsReady row.old.items key.now ranks.new.kept)) }
+    ensures ready_without { IfOk result (λ place. IfSome place (λ p. IsReadyWithout row.old.items p key.now ranks.new.kept)) }
+    ensures same { OnErr result (IsIndexed (items_view row.old.items) ranks.new.kept) }
+    ensures away { OnErr result (lookup (view key.now) (pairs_view row.old.items) ≡ None) }
 {
-    let room = if row.is_empty() { FIRST_ROOM } else { 2 };
-    if row.reserve(room).is_err() {
-        return Err((key, value));
+    let mut steps = Steps::new();
+    match search(row.as_slice(), ranks, Probe::Node(key), &mut steps) {
+        Ok(spot) => {
+            let place = ranks.at(spot);
+            let count = row.len() / 2;
+            ranks.move_to_end(place, count);
+            Ok(Some(place))
+        }
+        Err(gap) => {
+            let room = if row.is_empty() { FIRST_ROOM } else { 2 };
+            row.reserve(room)?;
+            let alloc = *row.allocator();
+            ranks.insert(alloc, row.as_slice(), gap, key)?;
+            Ok(None)
+        }
     }
-    let alloc = *row.allocator();
-    if ranks.insert(alloc, row.as_slice(), gap, &key).is_err() {
-        return Err((key, value));
-    }
-    row.push_reserved(key);
-    row.push_reserved(value);
-    Ok(())
 }
 
 /// Removes the pair at a place, and returns its value.
@@ -71,4 +73,14 @@ pub(crate) fn exchange(row: &mut Vec<Yaml>, place: usize, key: Yaml, value: Yaml
     row.push_reserved(key);
     row.push_reserved(value);
     old
+}
+
+/// Removes the pair at a place, drops it, and puts another at the end.
+#[cold]
+#[inline(never)]
+pub(crate) fn replace(row: &mut Vec<Yaml>, place: usize, key: Yaml, value: Yaml)
+    requires { 2 * place + 1 < length row.old.items }
+    ensures { row.new.items ≡ remove (remove row.old.items (2 * place)) (2 * place) ++ key ∷ value ∷ [] }
+{
+    drop(exchange(row, place, key, value));
 }

@@ -66,6 +66,7 @@ impl<'a> Probe<'a> {
 }
 
 /// The spot of a key as `Ok`, or as `Err` the gap that it would fill if no pair has it.
+#[inline(always)]
 pub(crate) fn search(
     row: &[Yaml],
     ranks: &Ranks,
