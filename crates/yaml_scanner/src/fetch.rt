@@ -100,6 +100,7 @@ impl<T: Iterator<Item = char>> Fetcher<T> {
         self.fetch_content()
     }
 
+    #[inline(never)]
     fn fetch_stream_start(&mut self) -> Result<(), Failed>
         requires { self.old.started ≡ false }
         ensures held { OnOk result (held self.new ≡ begin_stream (held self.old)) }
@@ -118,6 +119,7 @@ impl<T: Iterator<Item = char>> Fetcher<T> {
         Ok(())
     }
 
+    #[inline(never)]
     fn fetch_stream_end(&mut self) -> Result<(), Failed>
         requires { self.old.tokens.ended ≡ false }
         ensures does { OnOk result (Does fetch_stream_end self.old self.new) }
@@ -206,6 +208,7 @@ impl<T: Iterator<Item = char>> Fetcher<T> {
         self.fetch_token()
     }
 
+    #[inline(always)]
     fn fetch_token(&mut self) -> Result<(), Failed>
         requires ahead { 2 ≤ self.old.window.ahead }
         requires has { HasChar self.old.window }
@@ -334,6 +337,7 @@ impl<T: Iterator<Item = char>> Fetcher<T> {
         Ok(())
     }
 
+    #[inline(never)]
     fn fetch_directive(&mut self) -> Result<(), Failed>
         requires ahead { 0 < self.old.window.ahead }
         requires has { HasChar self.old.window }
@@ -368,6 +372,7 @@ impl<T: Iterator<Item = char>> Fetcher<T> {
     }
 
     /// `---` or `...`
+    #[inline(never)]
     fn fetch_document_marker(&mut self, marker: TokenType) -> Result<(), Failed>
         requires ahead { 3 ≤ self.old.window.ahead }
         requires has { HasChars 3 self.old.window }
@@ -401,6 +406,7 @@ impl<T: Iterator<Item = char>> Fetcher<T> {
     }
 
     /// `*name` or `&name`
+    #[inline(never)]
     fn fetch_anchor(&mut self, kind: NameKind) -> Result<(), Failed>
         requires ahead { 0 < self.old.window.ahead }
         requires has { HasChar self.old.window }
@@ -421,6 +427,7 @@ impl<T: Iterator<Item = char>> Fetcher<T> {
         Ok(())
     }
 
+    #[inline(never)]
     fn fetch_tag(&mut self) -> Result<(), Failed>
         requires ahead { 0 < self.old.window.ahead }
         requires has { HasChar self.old.window }
@@ -451,6 +458,7 @@ impl<T: Iterator<Item = char>> Fetcher<T> {
         }
     }
 
+    #[inline(never)]
     fn fetch_block_scalar(&mut self, style: BlockStyle) -> Result<(), Failed>
         requires ahead { 0 < self.old.window.ahead }
         requires has { HasChar self.old.window }
@@ -474,6 +482,7 @@ impl<T: Iterator<Item = char>> Fetcher<T> {
     }
 
     /// `'` or `"`
+    #[inline(never)]
     fn fetch_flow_scalar(&mut self, quotes: Quotes) -> Result<(), Failed>
         requires ahead { 0 < self.old.window.ahead }
         requires has { HasChar self.old.window }
@@ -526,6 +535,7 @@ impl<T: Iterator<Item = char>> Fetcher<T> {
         Ok(())
     }
 
+    #[inline(never)]
     fn fetch_plain_scalar(&mut self) -> Result<(), Failed>
         requires ahead { 0 < self.old.window.ahead }
         requires has { HasChar self.old.window }
