@@ -36,6 +36,7 @@ fn begins_word(c: char) -> bool
 
 impl<T: Characters> Fetcher<T> {
     /// `-`
+    #[inline(never)]
     pub(crate) fn fetch_block_entry(&mut self) -> Result<(), Failed>
         requires ahead { 0 < self.old.window.ahead }
         requires has { HasChar self.old.window }
@@ -160,6 +161,7 @@ impl<T: Characters> Fetcher<T> {
     }
 
     /// `?`
+    #[inline(never)]
     pub(crate) fn fetch_key(&mut self) -> Result<(), Failed>
         requires ahead { 0 < self.old.window.ahead }
         requires has { HasChar self.old.window }
@@ -238,6 +240,7 @@ impl<T: Characters> Fetcher<T> {
     }
 
     /// `:`
+    #[inline(never)]
     pub(crate) fn fetch_value(&mut self) -> Result<(), Failed>
         requires ahead { 0 < self.old.window.ahead }
         requires has { HasChar self.old.window }

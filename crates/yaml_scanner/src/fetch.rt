@@ -101,6 +101,7 @@ impl<T: Characters> Fetcher<T> {
         self.fetch_content()
     }
 
+    #[inline(never)]
     fn fetch_stream_start(&mut self) -> Result<(), Failed>
         requires { self.old.started ≡ false }
         ensures held { OnOk result (held self.new ≡ begin_stream (held self.old)) }
@@ -119,6 +120,7 @@ impl<T: Characters> Fetcher<T> {
         Ok(())
     }
 
+    #[inline(never)]
     fn fetch_stream_end(&mut self) -> Result<(), Failed>
         requires { self.old.tokens.ended ≡ false }
         ensures does { OnOk result (Does fetch_stream_end self.old self.new) }
@@ -207,6 +209,7 @@ impl<T: Characters> Fetcher<T> {
         self.fetch_token()
     }
 
+    #[inline(always)]
     fn fetch_token(&mut self) -> Result<(), Failed>
         requires ahead { 2 ≤ self.old.window.ahead }
         requires has { HasChar self.old.window }
@@ -335,6 +338,7 @@ impl<T: Characters> Fetcher<T> {
         Ok(())
     }
 
+    #[inline(never)]
     fn fetch_directive(&mut self) -> Result<(), Failed>
         requires ahead { 0 < self.old.window.ahead }
         requires has { HasChar self.old.window }
@@ -369,6 +373,7 @@ impl<T: Characters> Fetcher<T> {
     }
 
     /// `---` or `...`
+    #[inline(never)]
     fn fetch_document_marker(&mut self, marker: TokenType) -> Result<(), Failed>
         requires ahead { 3 ≤ self.old.window.ahead }
         requires has { HasChars 3 self.old.window }
@@ -402,6 +407,7 @@ impl<T: Characters> Fetcher<T> {
     }
 
     /// `*name` or `&name`
+    #[inline(never)]
     fn fetch_anchor(&mut self, kind: NameKind) -> Result<(), Failed>
         requires ahead { 0 < self.old.window.ahead }
         requires has { HasChar self.old.window }
@@ -422,6 +428,7 @@ impl<T: Characters> Fetcher<T> {
         Ok(())
     }
 
+    #[inline(never)]
     fn fetch_tag(&mut self) -> Result<(), Failed>
         requires ahead { 0 < self.old.window.ahead }
         requires has { HasChar self.old.window }
@@ -452,6 +459,7 @@ impl<T: Characters> Fetcher<T> {
         }
     }
 
+    #[inline(never)]
     fn fetch_block_scalar(&mut self, style: BlockStyle) -> Result<(), Failed>
         requires ahead { 0 < self.old.window.ahead }
         requires has { HasChar self.old.window }
@@ -475,6 +483,7 @@ impl<T: Characters> Fetcher<T> {
     }
 
     /// `'` or `"`
+    #[inline(never)]
     fn fetch_flow_scalar(&mut self, quotes: Quotes) -> Result<(), Failed>
         requires ahead { 0 < self.old.window.ahead }
         requires has { HasChar self.old.window }
@@ -527,6 +536,7 @@ impl<T: Characters> Fetcher<T> {
         Ok(())
     }
 
+    #[inline(never)]
     fn fetch_plain_scalar(&mut self) -> Result<(), Failed>
         requires ahead { 0 < self.old.window.ahead }
         requires has { HasChar self.old.window }

@@ -63,6 +63,7 @@ impl<T: Characters> Fetcher<T> {
     }
 
     /// `[` or `{`
+    #[inline(never)]
     pub(crate) fn fetch_flow_collection_start(&mut self, kind: Collection) -> Result<(), Failed>
         requires ahead { 0 < self.old.window.ahead }
         requires has { HasChar self.old.window }
@@ -111,6 +112,7 @@ impl<T: Characters> Fetcher<T> {
     }
 
     /// `]` or `}`
+    #[inline(never)]
     pub(crate) fn fetch_flow_collection_end(&mut self, kind: Collection) -> Result<(), Failed>
         requires ahead { 0 < self.old.window.ahead }
         requires has { HasChar self.old.window }
@@ -164,6 +166,7 @@ impl<T: Characters> Fetcher<T> {
     }
 
     /// `,`
+    #[inline(never)]
     pub(crate) fn fetch_flow_entry(&mut self) -> Result<(), Failed>
         requires ahead { 0 < self.old.window.ahead }
         requires has { HasChar self.old.window }

@@ -1,5 +1,5 @@
 //! Fetching as far as the next token needs, and handing it out.
-ghost use Rattle.std.specs.Prelude.{◌≡◌, ◌≤◌, ◌<◌, ◌+◌, ◌||◌, OnOk, IfErr, IfSome, IsSome, Ok, Some, None, true, false, ◌++◌, ◌∷◌, []};
+ghost use Rattle.std.specs.Prelude.{◌≡◌, ◌≤◌, ◌<◌, ◌+◌, ◌||◌, OnOk, IfErr, Ok, Some, None, true, false, ◌++◌, ◌∷◌, []};
 ghost use Rattle.std.specs.List.{list_any};
 ghost use Rattle.defs_text.specs.Position.{Position};
 ghost use Rattle.yaml_tokens.specs.Shown.{shown};
@@ -117,19 +117,20 @@ impl<T: Characters> Fetcher<T> {
 
     /// Hands out the next token.
     #[inline(always)]
-    pub(crate) fn hand(&mut self) -> Option<Token>
+    pub(crate) fn hand(&mut self) -> Token
         requires kept { self.old.kept ≡ None }
         requires going { self.old.tokens.over ≡ false }
         requires some { self.old.tokens.ended ≡ false → 0 < waiting self.old.tokens }
         requires front { self.old.tokens.ended ≡ false → list_any is_front self.old.keys ≡ false }
         requires follows { Follows self.old }
-        ensures some { IsSome result }
-        ensures token { IfSome result (λ t. HandsOut (inside self.old) (shown t) (inside self.new)) }
+        ensures token { HandsOut (inside self.old) (shown result) (inside self.new) }
         ensures follows { Follows self.new }
         ensures window { self.new.window ≡ self.old.window }
     {
         self.keys.lower();
-        let token = self.tokens.pop()?;
-        Some(token)
+        let Some(token) = self.tokens.pop() else {
+            unreachable!()
+        };
+        token
     }
 }

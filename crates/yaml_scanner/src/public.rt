@@ -169,7 +169,7 @@ impl<T: Characters> Scanner<T> {
         let filled = self.fetcher.fill();
         self.fetcher.window.note();
         match filled {
-            Ok(()) => Ok(self.fetcher.hand()),
+            Ok(()) => Ok(Some(self.fetcher.hand())),
             Err(_) => Err(self.fetcher.keep()),
         }
     }

@@ -1,6 +1,7 @@
 -- Lemmas about what may be a key.
 use Rattle.std.proofs.Common.{◌≡◌, ℕ, List, [], ◌∷◌, ◌++◌, reverse, map, refl, ap, sym, ◌∙◌, Option, Some, None, length, arith, Bool, true, false, ◌||◌, Ok, Err, if◌then◌else◌}
 use Rattle.std.specs.List.{list_any}
+use Rattle.std.specs.Prelude.{is_some}
 use Rattle.std.proofs.lemmas.List.{reverse-append, map-append}
 use Rattle.defs_text.specs.Position.{Position}
 use Rattle.yaml_tokens.specs.declared.problem.Fault.TheVariants.{At}
@@ -8,7 +9,7 @@ use Rattle.yaml_tokens.specs.declared.problem.Problem.TheVariants as problem
 use Rattle.model_scanner.specs.State.{pop, with_top}
 use Rattle.model_scanner.specs.Keys.{is_far, is_overdue, still, drop_stale, is_required, has_required, cleared, top_key}
 use Rattle.yaml_scanner_state.specs.declared.keys.ImplicitKey.{ImplicitKey}
-use Rattle.yaml_scanner_state.specs.ImplicitKeys.{key_of, seen, still_implicit, is_stale, no_implicit, top_implicit}
+use Rattle.yaml_scanner_state.specs.ImplicitKeys.{key_of, seen, is_front, lowered, still_implicit, is_stale, no_implicit, top_implicit}
 use Rattle.yaml_scanner_state.proofs.StackLemmas as stack
 
 pub popped : {A : Type 0} (xs ys : List A) (x : A) → xs ≡ ys ++ x ∷ [] → reverse ys ≡ pop (reverse xs)
@@ -125,3 +126,41 @@ top_seen g (l ∷ ks) = refl
 pub pop_seen : (g : ℕ) (ks : List (Option ImplicitKey)) → seen g (pop ks) ≡ pop (seen g ks)
 pop_seen g [] = refl
 pop_seen g (l ∷ ks) = refl
+
+-- ---- where no level has a key
+
+pub closed_twice : (ks : List (Option ImplicitKey)) → map no_implicit (map no_implicit ks) ≡ map no_implicit ks
+closed_twice [] = refl
+closed_twice (k ∷ ks) = ap (λ ls. None ∷ ls) (closed_twice ks)
+
+pub none_found : (ks : List (Option ImplicitKey)) → list_any is_some ks ≡ false → map no_implicit ks ≡ ks
+none_found [] e = refl
+none_found (None ∷ ks) e = ap (λ ls. None ∷ ls) (none_found ks e)
+none_found (Some k ∷ ks) e = absurd cc
+
+none_stale : (p : Position) (ks : List (Option ImplicitKey)) → map no_implicit ks ≡ ks → list_any (is_stale p) ks ≡ false
+none_stale p [] e = refl
+none_stale p (None ∷ ks) e = none_stale p ks cc
+none_stale p (Some k ∷ ks) e = absurd cc
+
+none_front : (ks : List (Option ImplicitKey)) → map no_implicit ks ≡ ks → list_any is_front ks ≡ false
+none_front [] e = refl
+none_front (None ∷ ks) e = none_front ks cc
+none_front (Some k ∷ ks) e = absurd cc
+
+none_lowered : (ks : List (Option ImplicitKey)) → map no_implicit ks ≡ ks → map lowered ks ≡ ks
+none_lowered [] e = refl
+none_lowered (None ∷ ks) e = ap (λ ls. None ∷ ls) (none_lowered ks cc)
+none_lowered (Some k ∷ ks) e = absurd cc
+
+-- none is too far back
+pub none_seen : (p : Position) (g : ℕ) (ks : List (Option ImplicitKey)) → map no_implicit ks ≡ ks → drop_stale p (seen g (reverse ks)) ≡ Ok (seen g (reverse ks))
+none_seen p g ks e = fresh_seen p g ks (none_stale p ks e)
+
+-- none stands before the next token
+pub none_precedes : (ks : List (Option ImplicitKey)) → map no_implicit ks ≡ ks → false ≡ list_any is_front (reverse ks)
+none_precedes ks e = sym (any_reversed is_front ks ∙ none_front ks e)
+
+-- none changes where a token is handed out
+pub none_lower : (ks : List (Option ImplicitKey)) → map no_implicit ks ≡ ks → reverse ks ≡ map lowered (reverse ks)
+none_lower ks e = sym (map_reversed lowered ks ∙ ap reverse (none_lowered ks e))

@@ -1,4 +1,4 @@
-ghost use Rattle.std.specs.Prelude.{◌≡◌, ℕ, ◌+◌, ◌-◌, ◌∷◌, [], OnOk, OnErr, IfErr, Ok, Err, None, true, false, map};
+ghost use Rattle.std.specs.Prelude.{◌≡◌, ℕ, ◌+◌, ◌-◌, ◌∷◌, [], OnOk, OnErr, IfErr, Ok, Err, None, true, false, map, is_some};
 ghost use Rattle.std.specs.List.{list_any};
 ghost use Rattle.model_scanner.specs.State.{Key, with_top, pop};
 ghost use Rattle.model_scanner.specs.Keys.{is_far, is_overdue, drop_stale, is_required, has_required, cleared, top_key};
@@ -28,15 +28,20 @@ pub struct ImplicitKey {
 #[derive(Drop)]
 pub struct ImplicitKeys {
     levels: Vec<Option<ImplicitKey>>,
+    // Whether some level may have a key. Where none may, no level is looked at.
+    any: bool,
 }
 
 impl Model for ImplicitKeys {
-    ghost use Rattle.std.specs.Prelude.{List, Option, reverse};
+    ghost use Rattle.std.specs.Prelude.{◌≡◌, List, Option, reverse, map, false};
     ghost use Rattle.yaml_scanner_state.specs.declared.keys.ImplicitKey.{ImplicitKey};
+    ghost use Rattle.yaml_scanner_state.specs.ImplicitKeys.{no_implicit};
 
     ghost Value = { List (Option ImplicitKey) };
 
     ghost view = { λ s. reverse s.levels.items };
+
+    ghost invariant = { λ s. s.any ≡ false → map no_implicit s.levels.items ≡ s.levels.items };
 }
 
 #[tactic(auto, unfolding(model_scanner::specs::Keys::is_far))]
@@ -94,6 +99,12 @@ fn any_front(keys: &[Option<ImplicitKey>]) -> bool
     keys.iter().any(|key| is_front(*key))
 }
 
+fn any_key(keys: &[Option<ImplicitKey>]) -> bool
+    ensures { result ≡ list_any is_some keys.now }
+{
+    keys.iter().any(|key| key.is_some())
+}
+
 /// Gives up a possible key that began on an earlier line or too far back.
 fn drop_one(key: &mut Option<ImplicitKey>, mark: Marker)
     ensures { key.new ≡ still_implicit mark key.old }
@@ -147,6 +158,7 @@ impl ImplicitKeys {
     {
         ImplicitKeys {
             levels: Vec::new(alloc),
+            any: false,
         }
     }
 
@@ -190,6 +202,7 @@ impl ImplicitKeys {
         let len = self.levels.len();
         if len > 0 {
             self.levels[len - 1] = key;
+            self.any = key.is_some() || self.any && len > 1;
         }
     }
 
@@ -199,6 +212,9 @@ impl ImplicitKeys {
         ensures ok { OnOk result ((g : ℕ) → drop_stale mark (seen g self.old) ≡ Ok (seen g self.new)) }
         ensures err { IfErr result (λ e. (g : ℕ) → drop_stale mark (seen g self.old) ≡ Err e) }
     {
+        if !self.any {
+            return Ok(());
+        }
         if !any_stale(&self.levels, mark) {
             return Ok(());
         }
@@ -215,6 +231,7 @@ impl ImplicitKeys {
             return Err(Fault::At(Problem::KeyWithoutColon, mark));
         }
         drop_far(&mut self.levels, mark);
+        self.any = any_key(&self.levels);
         Ok(())
     }
 
@@ -230,6 +247,7 @@ impl ImplicitKeys {
         ensures { (g : ℕ) → seen g self.new ≡ cleared (seen g self.old) }
     {
         close_all(&mut self.levels);
+        self.any = false;
     }
 
     /// Whether a key may still come before the next token.
@@ -237,13 +255,15 @@ impl ImplicitKeys {
     pub fn may_precede(&self) -> bool
         ensures { result ≡ list_any is_front self.now }
     {
-        any_front(&self.levels)
+        self.any && any_front(&self.levels)
     }
 
     /// The next token was handed out.
     pub fn lower(&mut self)
         ensures { self.new ≡ map lowered self.old }
     {
-        lower_all(&mut self.levels);
+        if self.any {
+            lower_all(&mut self.levels);
+        }
     }
 }

@@ -146,12 +146,12 @@ impl Queue {
         ensures handed { IfSome result (λ t. handed self.new ≡ handed self.old ++ shown t ∷ []) }
         ensures less { IfSome result (λ _. waiting self.new + 1 ≡ waiting self.old) }
     {
-        let token = self.waiting.front()?;
-        self.given.push(token);
+        let token = self.waiting.pop_front()?;
+        self.given.push(&token);
         if let TokenType::StreamEnd = token.1 {
             self.over = true;
         }
-        self.waiting.pop_front()
+        Some(token)
     }
 }
 
