@@ -1,0 +1,68 @@
+-- What is read of a text stands before what is left.
+use Rattle.std.proofs.lemmas.Bool.{and_parts}
+use Rattle.std.proofs.Common.{◌&&◌, ◌≡◌, ℕ, suc, ◌+◌, ◌<◌, ◌≤◌, List, [], ◌∷◌, ◌++◌, Bool, true, false, length, refl, sym, ap, ◌∙◌, subst, arith, length-append}
+use Rattle.std.specs.Prelude.{codes}
+use Rattle.defs_layout.specs.Json.{Json, IsJson, levels, Elements, Members, spell, spell_elements, spell_members, false_word, null_word, true_word, number, string, empty_array, array, empty_object, object, last_element, element, last_member, member}
+use Rattle.defs_layout.specs.JsonGap.{Blank, spell_gap}
+use Rattle.defs_layout.specs.JsonNumber as json
+use Rattle.defs_layout.specs.JsonNumber.{Number, Fraction, Exponent, Sign, no_fraction, fraction, no_exponent, exponent, no_sign, plus, minus, spell_number, spell_minus, spell_fraction, spell_exponent, spell_sign, is_number, is_whole, is_fraction, is_exponent}
+use Rattle.defs_layout.specs.JsonString.{Piece, itself, short, unicode, spell_piece, spell_pieces, spell_string}
+use Rattle.defs_tree.specs.Tree.{Tree}
+use Rattle.yaml_json_reader.proofs.NumberLemmas.{number_before}
+use Rattle.yaml_json_reader.specs.Reads.{IsGap, IsValue, IsKey}
+
+pub gap_longer : (g : List Blank) (r : List ℕ) → length r ≤ length (spell_gap g r)
+gap_longer [] r = omega arith
+gap_longer (b ∷ g) r = omega (arith, gap_longer g r)
+
+piece_longer : (p : Piece) (r : List ℕ) → length r ≤ length (spell_piece p r)
+piece_longer (itself c) r = omega arith
+piece_longer (short s) r = omega arith
+piece_longer (unicode a b c d) r = omega arith
+
+pieces_longer : (ps : List Piece) (r : List ℕ) → length r ≤ length (spell_pieces ps r)
+pieces_longer [] r = omega arith
+pieces_longer (p ∷ ps) r = omega (arith, piece_longer p (spell_pieces ps r), pieces_longer ps r)
+
+pub string_longer : (ps : List Piece) (r : List ℕ) → length r < length (spell_string ps r)
+string_longer ps r = omega (arith, pieces_longer ps (34 ∷ r))
+
+-- ---- values without parts
+
+some_whole : (w : List ℕ) → is_whole w ≡ true → 0 < length w
+some_whole [] h = cc
+some_whole (c ∷ w) h = omega arith
+
+minus_longer : (b : Bool) (r : List ℕ) → length r ≤ length (spell_minus b r)
+minus_longer true r = omega arith
+minus_longer false r = omega arith
+
+number_longer : (n : Number) (r : List ℕ) → is_number n ≡ true → length r < length (spell_number n r)
+number_longer (json.number b w f e) r h =
+    let parts = and_parts (is_whole w) (is_fraction f) (and_parts (is_whole w && is_fraction f) (is_exponent e) h).0 in
+    let some = some_whole w parts.0 in
+    let front = minus_longer b (w ++ spell_fraction f (spell_exponent e [])) in
+    omega (arith, ap length (number_before (json.number b w f e) r), length-append (spell_minus b (w ++ spell_fraction f (spell_exponent e []))) r, front, length-append w (spell_fraction f (spell_exponent e [])))
+
+scalar_longer : (v : Json) (r : List ℕ) → IsJson v → levels v ≤ 0 → length r < length (spell v r)
+scalar_longer false_word r h low = omega arith
+scalar_longer null_word r h low = omega arith
+scalar_longer true_word r h low = omega arith
+scalar_longer (number n) r h low = number_longer n r h
+scalar_longer (string ps) r h low = string_longer ps r
+scalar_longer (empty_array g) r h low = absurd (omega arith)
+scalar_longer (array g es) r h low = absurd (omega arith)
+scalar_longer (empty_object g) r h low = absurd (omega arith)
+scalar_longer (object g ms) r h low = absurd (omega arith)
+
+pub value_nearer : (tree : Tree) (text rest : List ℕ) → IsValue tree 0 text rest → length rest < length text
+value_nearer tree text rest v = omega (arith, scalar_longer v.value rest v.is v.shallow, ap length v.spelled)
+
+-- ---- keys and gaps
+
+pub gap_nearer : (b : Bool) (text rest : List ℕ) → IsGap b text rest → length rest ≤ length text
+gap_nearer b text rest g = omega (arith, gap_longer g.gap rest, ap length g.spelled)
+
+pub key_nearer : {key : Tree} (text rest : List ℕ) → IsKey key text rest → length rest < length text
+key_nearer text rest k =
+    omega (arith, string_longer k.pieces (spell_gap k.after_key (58 ∷ spell_gap k.after_colon rest)), gap_longer k.after_key (58 ∷ spell_gap k.after_colon rest), gap_longer k.after_colon rest, ap length k.spelled)

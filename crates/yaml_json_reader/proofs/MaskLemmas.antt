@@ -1,0 +1,142 @@
+-- A mask that a vector's tests give, held to a test of each byte.
+use Rattle.std.proofs.Common.{◌≡◌, ℕ, zero, suc, ◌+◌, ◌*◌, ◌%◌, ◌^◌, ◌<◌, ◌≤◌, ltb, Bool, true, false, not, ◌&&◌, ◌||◌, cond, eqb, T, ◌⊎◌, inl, inr, List, [], ◌∷◌, map, length, drop, replicate, refl, sym, ap, ap₂, subst, ◌∙◌, arith, w8, Fits, not-suc-le-zero}
+use Rattle.std.proofs.lemmas.Bool.{cases_order, eq-eqb, ne_eqb}
+use Rattle.std.proofs.lemmas.Bool.Decides.{nat_tests}
+use Rattle.std.proofs.lemmas.List.{length-map, length-drop}
+use Rattle.std.proofs.lemmas.List.Folds.{prefix_len-append}
+use Rattle.std.proofs.lemmas.List.Sums.{prefix_len-le-length}
+use Rattle.std.proofs.lemmas.Simd.{chunk-drop, length-chunk, leading_from_mask_l, trailing_mask_l, mask_l-mod}
+use Rattle.std.specs.List.{list_any, prefix_len}
+use lib.Bits.{bit_or, bit_and}
+use lib.Count.{count_trailing_zeros}
+use lib.Lanes.{zip2, mask_l, top, chunk, Each1}
+
+-- what a comparison gives in a lane
+abbrev pub hit : ℕ → ℕ → ℕ
+hit a b = cond (eqb a b) 255 0
+
+abbrev pub below : ℕ → ℕ → ℕ
+below a b = cond (ltb a b) 255 0
+
+abbrev pub other : ℕ → ℕ → ℕ
+other a b = cond (not (eqb a b)) 255 0
+
+zip2_maps : (f g : ℕ → ℕ) (xs : List ℕ) → zip2 bit_or (map f xs) (map g xs) ≡ map (λ x. bit_or (f x) (g x)) xs
+zip2_maps f g [] = refl
+zip2_maps f g (x ∷ xs) = ap (λ r. bit_or (f x) (g x) ∷ r) (zip2_maps f g xs)
+
+pub either : (f g : ℕ → ℕ) (v : List ℕ) {a b : List ℕ} → a ≡ map f v → b ≡ map g v → zip2 bit_or a b ≡ map (λ x. bit_or (f x) (g x)) v
+either f g v p q = ap₂ (zip2 bit_or) p q ∙ zip2_maps f g v
+
+maps_and : (f g : ℕ → ℕ) (xs : List ℕ) → zip2 bit_and (map f xs) (map g xs) ≡ map (λ x. bit_and (f x) (g x)) xs
+maps_and f g [] = refl
+maps_and f g (x ∷ xs) = ap (λ r. bit_and (f x) (g x) ∷ r) (maps_and f g xs)
+
+pub both_of : (f g : ℕ → ℕ) (v : List ℕ) {a b : List ℕ} → a ≡ map f v → b ≡ map g v → zip2 bit_and a b ≡ map (λ x. bit_and (f x) (g x)) v
+both_of f g v p q = ap₂ (zip2 bit_and) p q ∙ maps_and f g v
+
+-- a comparison with the same byte in each lane, on the left
+pub splat_first : (h : ℕ → ℕ → ℕ) (v : List ℕ) (n y : ℕ) → length v ≡ n → zip2 h (replicate n y) v ≡ map (λ x. h y x) v
+splat_first h v n y e = ap (λ k. zip2 h (replicate k y) v) (sym e) ∙ by v
+  where
+    by : (v : List ℕ) → zip2 h (replicate (length v) y) v ≡ map (λ x. h y x) v
+    by [] = refl
+    by (x ∷ v) = ap (λ r. h y x ∷ r) (by v)
+
+-- ---- a fact of each number below n, by computation
+
+abbrev pub same : Bool → Bool → Bool
+same true b = b
+same false b = not b
+
+pub same_is : (a b : Bool) → T (same a b) → a ≡ b
+same_is true true h = refl
+same_is false false h = refl
+same_is true false h = absurd h
+same_is false true h = absurd h
+
+abbrev pub all_upto : (ℕ → Bool) → ℕ → Bool
+all_upto p zero = true
+all_upto p (suc n) = p n && all_upto p n
+
+both : (a b : Bool) → T (a && b) → T a × T b
+both true b h = (tt, h)
+both false b h = absurd h
+
+pub each_upto : (p : ℕ → Bool) (n : ℕ) → T (all_upto p n) → (i : ℕ) → i < n → T (p i)
+each_upto p zero h i lt = absurd (not-suc-le-zero lt)
+each_upto p (suc n) h i lt = go (each_upto p n (both (p n) (all_upto p n) h).1 i) (cases_order i n)
+  where
+    go : (i < n → T (p i)) → (i ≡ n) ⊎ ((i < n) ⊎ (n < i)) → T (p i)
+    go before (inl e) = subst (λ x. T (p x)) (sym e) (both (p n) (all_upto p n) h).0
+    go before (inr (inl l)) = before l
+    go before (inr (inr g)) = let no : ⊥ = omega arith in absurd no
+
+each_byte : (f : ℕ → ℕ) (p : ℕ → Bool) → T (all_upto (λ x. same (top 7 (f x)) (p x)) 256) → (v : List ℕ) → Each1 (Fits w8) v → map (top 7) (map f v) ≡ map p v
+each_byte f p all [] fits = refl
+each_byte f p all (x ∷ xs) fits = ap₂ (λ a b. a ∷ b) (same_is _ _ (each_upto (λ y. same (top 7 (f y)) (p y)) 256 all x fits.0.fits)) (each_byte f p all xs fits.1)
+
+-- the lanes' top bits are the bytes' tests
+pub masked : (f : ℕ → ℕ) (p : ℕ → Bool) (v z : List ℕ) → length v ≤ 64 → Each1 (Fits w8) v → z ≡ map f v → T (all_upto (λ x. same (top 7 (f x)) (p x)) 256)
+    → mask_l (map (top 7) z) % 2 ^ 64 ≡ mask_l (map p v)
+masked f p v z short fits e all =
+    ap (λ l. mask_l l % 2 ^ 64) (ap (map (top 7)) e ∙ each_byte f p all v fits) ∙ mask_l-mod (map p v) 64 (omega (arith, length-map v p))
+
+-- ---- a run of bytes that fail the test, a block at a time
+
+none_fails : (b : Bool) (n l m : ℕ) → n ≤ l → cond (not b) (1 + n) 0 ≡ 1 + l → (n ≡ l → m ≡ 0) → cond b 1 0 + 2 * m ≡ 0
+none_fails true n l m le e ih = let no : ⊥ = omega arith in absurd no
+none_fails false n l m le e ih = let z = ih (omega arith) in omega arith
+
+module _ (p : ℕ → Bool) where
+  abbrev passes : ℕ → Bool
+  passes x = not (p x)
+
+  all_pass : (xs : List ℕ) → prefix_len passes xs ≡ length xs → mask_l (map p xs) ≡ 0
+  all_pass [] e = refl
+  all_pass (x ∷ xs) e = none_fails (p x) _ (length xs) _ (prefix_len-le-length passes xs) (omega arith) (all_pass xs)
+
+  split : (d : List ℕ) (i n : ℕ) → prefix_len passes (drop i d) ≡ cond (eqb (prefix_len passes (chunk i n d)) (length (chunk i n d))) (length (chunk i n d) + prefix_len passes (drop (i + n) d)) (prefix_len passes (chunk i n d))
+  split d i n = ap (prefix_len passes) (chunk-drop i n d) ∙ prefix_len-append passes (chunk i n d) (drop (i + n) d)
+
+  -- no byte of the block passes it
+  pub run_through : (d : List ℕ) (i n : ℕ) → i + n ≤ length d → mask_l (map p (chunk i n d)) ≡ 0 → prefix_len passes (drop i d) ≡ n + prefix_len passes (drop (i + n) d)
+  run_through d i n room none =
+      let c = chunk i n d in
+      split d i n ∙ ap (λ b. cond b (length c + prefix_len passes (drop (i + n) d)) (prefix_len passes c)) (eq-eqb _ _ (leading_from_mask_l p c none))
+      ∙ ap (λ k. k + prefix_len passes (drop (i + n) d)) (length-chunk i n d room)
+
+  -- one does
+  pub run_stops : (d : List ℕ) (i n : ℕ) → i + n ≤ length d → n ≤ 64 → 0 < mask_l (map p (chunk i n d)) → prefix_len passes (drop i d) ≡ count_trailing_zeros 64 (mask_l (map p (chunk i n d)))
+  run_stops d i n room short some =
+      let c = chunk i n d in
+      split d i n ∙ ap (λ b. cond b (length c + prefix_len passes (drop (i + n) d)) (prefix_len passes c)) (ne_eqb _ _ (λ (e : prefix_len passes c ≡ length c). omega (arith, all_pass c e)))
+      ∙ sym (trailing_mask_l p 64 c (omega (arith, length-chunk i n d room)) some)
+
+  -- a run is counted from any place in it
+  pub run_from : (d : List ℕ) (i : ℕ) → i ≤ prefix_len passes d → prefix_len passes d ≡ i + prefix_len passes (drop i d)
+  run_from d zero h = omega arith
+  run_from [] (suc i) h = absurd (not-suc-le-zero h)
+  run_from (x ∷ xs) (suc i) h = by (passes x) h (run_from xs i)
+    where
+      by : (b : Bool) → suc i ≤ cond b (1 + prefix_len passes xs) 0 → (i ≤ prefix_len passes xs → prefix_len passes xs ≡ i + prefix_len passes (drop i xs)) → cond b (1 + prefix_len passes xs) 0 ≡ suc i + prefix_len passes (drop i xs)
+      by true le before = omega (arith, before (omega arith))
+      by false le before = absurd (not-suc-le-zero le)
+
+  -- so is whether a byte passes the test
+  pub run_ends : (xs : List ℕ) → ltb (prefix_len passes xs) (length xs) ≡ list_any p xs
+  run_ends [] = refl
+  run_ends (x ∷ xs) = by (p x) (run_ends xs)
+    where
+      some : (m : ℕ) → ltb 0 (suc m) ≡ true
+      some m = grind (arith, nat_tests)
+
+      sooner : (n m : ℕ) → ltb (1 + n) (suc m) ≡ ltb n m
+      sooner n m = grind (arith, nat_tests)
+
+      by : (b : Bool) → ltb (prefix_len passes xs) (length xs) ≡ list_any p xs → ltb (cond (not b) (1 + prefix_len passes xs) 0) (suc (length xs)) ≡ (b || list_any p xs)
+      by true e = some (length xs)
+      by false e = sooner (prefix_len passes xs) (length xs) ∙ e
+
+pub run_bound : (p : ℕ → Bool) (d : List ℕ) (i : ℕ) → i ≤ length d → i + prefix_len p (drop i d) ≤ length d
+run_bound p d i h = omega (arith, prefix_len-le-length p (drop i d), length-drop i d)

@@ -1,0 +1,10 @@
+use Rattle.std.proofs.Common.{◌≡◌, ◌+◌, ◌-◌, ◌≤◌, length, drop}
+use Rattle.std.specs.List.{prefix_len}
+use Rattle.yaml_json_reader.specs.Runs.{stands}
+use Rattle.yaml_json_reader.proofs.run.last_run.Given as goal
+
+abbrev pub invariant-bytes : goal.invariant-bytes
+invariant-bytes l = (prefix_len stands l.bytes ≡ l.at + prefix_len stands (drop l.at l.bytes)) × (l.at ≤ length l.bytes)
+
+abbrev pub decreases-bytes : goal.decreases-bytes
+decreases-bytes l = length l.bytes - l.at

@@ -1,0 +1,4 @@
+pub mod Numbers
+pub mod Opened
+pub mod Reads
+pub mod Runs

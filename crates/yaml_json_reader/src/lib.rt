@@ -1,0 +1,18 @@
+//! JSON texts, read at once into their trees.
+//!
+//! A YAML text that is JSON needs none of YAML's tokens and events: [`read_json`] reads it in one pass. It gives a tree only where
+//! the text is one of the class of JSON texts of the definitions, and then the tree that the definitions give it. For each other
+//! text it gives nothing, and the general way reads that text from its start.
+#![tactic(auto)]
+
+mod cursor;
+mod digits;
+mod open;
+mod reader;
+mod run;
+mod scalar;
+mod stop;
+mod string;
+mod text;
+
+pub use text::read_json;

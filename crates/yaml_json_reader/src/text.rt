@@ -1,0 +1,42 @@
+//! JSON texts.
+ghost use Rattle.std.specs.Prelude.{IfOk, IfSome, chars};
+ghost use Rattle.defs_layout.specs.Json.{IsJsonText};
+ghost use Rattle.yaml_tree.specs.View.{view};
+ghost use Rattle.yaml_json_reader.specs.Reads.{IsWholeValue};
+
+use crate::cursor::Cursor;
+use crate::reader::read_value;
+use crate::stop::Stop;
+use std::alloc::{AllocError, Global};
+use yaml_tree::Yaml;
+
+/// The tree of a JSON text whose value is an array or an object. It gives `None` where the text is none of the class, also
+/// where that shows only at its end, and at once where it begins with something else.
+#[inline(always)]
+pub fn read_json(alloc: Global, text: &str) -> Result<Option<Yaml>, AllocError>
+    ensures { IfOk result (λ read. IfSome read (λ tree. IsJsonText (view tree) (chars text.now))) }
+{
+    let mut cursor = Cursor::new(text);
+    cursor.skip_first_gap();
+    if !matches!(cursor.peek(), b'[' | b'{') {
+        return Ok(None);
+    }
+    match read_whole(alloc, &mut cursor) {
+        Ok(tree) => Ok(Some(tree)),
+        Err(Stop::Foreign) => Ok(None),
+        Err(Stop::OutOfMemory) => Err(AllocError),
+    }
+}
+
+// The value that stands here, behind which nothing but white space stands.
+#[inline(never)]
+fn read_whole(alloc: Global, cursor: &mut Cursor<'_>) -> Result<Yaml, Stop>
+    ensures { IfOk result (λ tree. IsWholeValue (view tree) cursor.old) }
+{
+    let tree = read_value(alloc, cursor)?;
+    cursor.skip_gap();
+    if !cursor.is_at_end() {
+        return Err(Stop::Foreign);
+    }
+    Ok(tree)
+}
