@@ -1,6 +1,7 @@
 pub mod Agreement
 pub mod AliasLemmas
 pub mod GoOnAlike
+pub mod JsonTexts
 pub mod KeyText
 pub mod LastPair
 pub mod LoadLemmas
