@@ -6,6 +6,7 @@ mod dumping;
 mod faults;
 mod flow;
 mod json;
+mod json_at_once;
 mod layouts;
 mod limits;
 mod properties;

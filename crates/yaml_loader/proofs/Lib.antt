@@ -2,6 +2,7 @@ pub mod Agreement
 pub mod AliasLemmas
 pub mod GoOnAlike
 pub mod InMemory
+pub mod JsonTexts
 pub mod KeyText
 pub mod LastPair
 pub mod LoadLemmas

@@ -1,13 +1,14 @@
 //! Texts, read as trees.
-ghost use Rattle.std.specs.Prelude.{◌≡◌, ◌^◌, ◌<◌, false, None, IfOk, OnOk, IfErr, All, chars};
+ghost use Rattle.std.specs.Prelude.{◌≡◌, ◌^◌, ◌<◌, [], ◌∷◌, false, None, IfOk, OnOk, IfErr, All, chars};
 ghost use Rattle.std.specs.Iterator.{IsFinite, size};
 ghost use Rattle.defs_event.specs.NoAlias.{HasNoAlias};
-ghost use Rattle.yaml_tree.specs.View.{items_view};
+ghost use Rattle.yaml_tree.specs.View.{view, items_view};
 ghost use Rattle.defs_text.specs.Text.{up_to_nul};
 ghost use Rattle.yaml_chars.specs.Reading.{HasNoNul, BeginsText};
 ghost use Rattle.yaml_chars.specs.Source.{CameFrom};
 ghost use Rattle.yaml_parser.specs.Parsed.{parsed};
 ghost use Rattle.defs_meaning.specs.Meaning.{Means};
+ghost use Rattle.yaml_parser.specs.Blames.{WantsMemory};
 ghost use Rattle.proof_loads.specs.Cuts.{IsReadOfCut};
 ghost use Rattle.yaml_loader.specs.Loads.{AreLoaded, IsLoadFault};
 ghost use Rattle.yaml_loader.specs.TextLoads.{LoadsText, LoadsOnly, OfTexts, OfText, OfMeaning, OfGiven, OfJson, OfBasic, OfLayout, OfQuoted, Answers};
@@ -15,7 +16,8 @@ ghost use Rattle.yaml_loader.specs.TextLoads.{LoadsText, LoadsOnly, OfTexts, OfT
 use crate::loader::YamlLoader;
 use defs_event::laws::loaded_trees_have_no_alias;
 use std::alloc::Global;
-use yaml_chars::{Characters, TextInMemory};
+use yaml_chars::{Characters, TextInMemory, Window};
+use yaml_json_reader::read_json;
 use yaml_parser::Parser;
 use yaml_tokens::ScanError;
 use yaml_tree::Yaml;
@@ -86,7 +88,7 @@ impl YamlLoader {
         ensures laid_out_before_nul { OfLayout (up_to_nul (chars source.now)) (LoadsOnly result) }
         ensures quoted_before_nul { OfQuoted (up_to_nul (chars source.now)) (LoadsOnly result) }
     {
-        load_known(alloc, TextInMemory::new(source))
+        load_text(alloc, source)
     }
 
     /// Loads all documents of the characters that an iterator gives, up to its first `None` or NUL. After that the
@@ -161,4 +163,36 @@ impl YamlLoader {
         loaded_trees_have_no_alias();
         loader.into_documents()
     }
+}
+
+// The documents of a text. A JSON text is read at once, each other text by a parser.
+fn load_text(alloc: Global, source: &str) -> Result<Vec<Yaml>, ScanError>
+    ensures reads { LoadsText false (up_to_nul (chars source.now)) result }
+    ensures no_alias { IfOk result (λ documents. All HasNoAlias (items_view documents.items)) }
+{
+    match read_json(alloc, source) {
+        Ok(Some(tree)) => one_document(alloc, tree),
+        Ok(None) => load_known(alloc, TextInMemory::new(source)),
+        Err(_) => Err(out_of_memory()),
+    }
+}
+
+fn one_document(alloc: Global, tree: Yaml) -> Result<Vec<Yaml>, ScanError>
+    ensures ok { IfOk result (λ documents. items_view documents.items ≡ view tree ∷ []) }
+    ensures err { IfErr result (λ f. WantsMemory f) }
+{
+    let mut documents = Vec::new(alloc);
+    if documents.push(tree).is_err() {
+        return Err(out_of_memory());
+    }
+    Ok(documents)
+}
+
+// Memory was refused to a JSON text. The fault has the position of the text's start.
+#[cold]
+#[inline(never)]
+fn out_of_memory() -> ScanError
+    ensures { WantsMemory result }
+{
+    ScanError::memory(Window::new("".chars()).mark())
 }

@@ -24,7 +24,7 @@ pub(crate) fn loaded(alloc: Global, text: &str) -> Result<String, Fail> {
 }
 
 /// The same by the characters that an iterator gives.
-fn loaded_from_iter(alloc: Global, text: &str) -> Result<String, Fail> {
+pub(crate) fn loaded_from_iter(alloc: Global, text: &str) -> Result<String, Fail> {
     shown(alloc, YamlLoader::load_from_iter(alloc, text.chars()))
 }
 

@@ -1,0 +1,77 @@
+-- What a load answers of a JSON text that was read at once.
+use Rattle.std.proofs.Common.{◌≡◌, ℕ, List, [], ◌∷◌, Bool, true, false, refl, sym, ap, ◌∙◌, subst}
+use Rattle.std.specs.Prelude.{Result, Ok, Err, IfOk, IfErr, All, Vec, if◌then◌else◌}
+use Rattle.std.specs.declared.alloc.Global.{Global}
+use Rattle.std.proofs.lemmas.List.Elements.{All-nil, All-cons}
+use Rattle.defs_text.specs.Text.{up_to_nul}
+use Rattle.defs_tree.specs.Tree.{Tree, pairs_of}
+use Rattle.defs_tree.specs.Typing.{fits_i64}
+use Rattle.defs_layout.specs.Json.{IsJsonText, Json, Elements, Members, false_word, null_word, true_word, number, string, empty_array, array, empty_object, object, last_element, element, last_member, member, tree_of, items, pair_list, spell_text}
+use Rattle.defs_layout.specs.JsonNumber as json
+use Rattle.defs_layout.specs.JsonNumber.{Number, no_fraction, fraction, no_exponent, exponent, number_tree, integer_value}
+use Rattle.defs_event.specs.NoAlias.{HasNoAlias, NoneHasAlias, NoPairHasAlias}
+use Rattle.yaml_tokens.specs.ErrorReport.{ErrorReport}
+use Rattle.yaml_tree.specs.View.{items_view}
+use Rattle.yaml_tree.specs.declared.yaml.Yaml.{Yaml}
+use Rattle.yaml_parser.specs.Blames.{WantsMemory}
+use Rattle.proof_loads.specs.TextReadAs.{IsReadAs}
+use Rattle.proof_loads.specs.TextEvents.{wants_memory}
+use Rattle.proof_loads.proofs.Spelled.{json_texts_are_read}
+use Rattle.proof_loads.proofs.JsonNul.{json_texts_have_no_nul}
+use Rattle.yaml_loader.specs.Unread.{of_parser}
+use Rattle.yaml_loader.specs.TextLoads.{LoadsText}
+
+-- ---- no alias stands in its tree
+
+either : {A : Type 0} (P : A → Type 0) (b : Bool) (t u : A) → P t → P u → P (if b then t else u)
+either P true t u h r = h
+either P false t u h r = r
+
+number_no_alias : (n : Number) → HasNoAlias (number_tree n)
+number_no_alias (json.number b w no_fraction no_exponent) = either HasNoAlias (fits_i64 (integer_value b w)) _ _ tt tt
+number_no_alias (json.number b w no_fraction (exponent c s d)) = tt
+number_no_alias (json.number b w (fraction d) e) = tt
+
+mutual
+  value_no_alias : (v : Json) → HasNoAlias (tree_of v)
+  value_no_alias false_word = tt
+  value_no_alias null_word = tt
+  value_no_alias true_word = tt
+  value_no_alias (number n) = number_no_alias n
+  value_no_alias (string ps) = tt
+  value_no_alias (empty_array g) = tt
+  value_no_alias (array g es) = elements_no_alias es
+  value_no_alias (empty_object g) = tt
+  value_no_alias (object g ms) = members_no_alias ms
+
+  elements_no_alias : (es : Elements) → NoneHasAlias (items es)
+  elements_no_alias (last_element v a) = (value_no_alias v, tt)
+  elements_no_alias (element v a b es) = (value_no_alias v, elements_no_alias es)
+
+  members_no_alias : (ms : Members) → NoPairHasAlias (pairs_of (pair_list ms))
+  members_no_alias (last_member k g h v a) = (tt, value_no_alias v, tt)
+  members_no_alias (member k g h v a b ms) = (tt, value_no_alias v, members_no_alias ms)
+
+-- ---- what a load answers
+
+-- the one tree, or out of memory
+one_read : (text : List ℕ) (tree : Tree) (documents : List Tree) → IsJsonText tree text → documents ≡ tree ∷ [] → IsReadAs false (up_to_nul text) documents
+one_read text tree documents (w, is, e, same) shown =
+    subst (IsReadAs false (up_to_nul text)) (ap (λ t. t ∷ []) same ∙ sym shown)
+    (subst (λ a. IsReadAs false a (tree_of w.value ∷ [])) (sym (json_texts_have_no_nul w is) ∙ ap up_to_nul e) (json_texts_are_read false w is))
+
+pub json_reads : (text : List ℕ) (tree : Tree) (result : Result (Vec Yaml Global) ErrorReport) → IsJsonText tree text → IfOk result (λ documents. items_view documents.items ≡ tree ∷ []) → IfErr result (λ f. WantsMemory f)
+    → LoadsText false (up_to_nul text) result
+json_reads text tree (Ok documents) is ok err = one_read text tree (items_view documents.items) is ok
+json_reads text tree (Err f) is ok err = of_parser (wants_memory err)
+
+one_no_alias : (text : List ℕ) (tree : Tree) (documents : List Tree) → IsJsonText tree text → documents ≡ tree ∷ [] → All HasNoAlias documents
+one_no_alias text tree documents (w, is, e, same) shown = subst (λ ts. All HasNoAlias ts) (sym shown) (All-cons HasNoAlias tree [] (subst HasNoAlias same (value_no_alias w.value)) (All-nil HasNoAlias))
+
+pub json_no_alias : (text : List ℕ) (tree : Tree) (result : Result (Vec Yaml Global) ErrorReport) → IsJsonText tree text → IfOk result (λ documents. items_view documents.items ≡ tree ∷ [])
+    → IfOk result (λ documents. All HasNoAlias (items_view documents.items))
+json_no_alias text tree (Ok documents) is ok = one_no_alias text tree (items_view documents.items) is ok
+json_no_alias text tree (Err f) is ok = tt
+
+pub memory_reads : (text : List ℕ) (f : ErrorReport) → WantsMemory f → LoadsText false text (Err f)
+memory_reads text f wants = of_parser (wants_memory wants)
