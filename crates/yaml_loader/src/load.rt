@@ -22,7 +22,7 @@ use yaml_parser::Parser;
 use yaml_tokens::ScanError;
 use yaml_tree::Yaml;
 
-/// Loads all documents of the characters that come from a source.
+// All documents of the characters that come from a source.
 fn load_known<S: Characters>(alloc: Global, source: S) -> Result<Vec<Yaml>, ScanError>
     requires can { S.can_next source }
     requires finite { IsFinite (S.remaining source) }
@@ -92,7 +92,8 @@ impl YamlLoader {
     }
 
     /// Loads all documents of the characters that an iterator gives, up to its first `None` or NUL. After that the
-    /// iterator is not asked again. Errors and promises are those of [`YamlLoader::load_from_str`].
+    /// iterator is not asked again. Errors and promises are those of [`YamlLoader::load_from_str`], which is faster for a
+    /// text in memory.
     ///
     /// Conditions, which a proof must show: the iterator can be asked, comes to an end, and gives fewer than 2^63 characters.
     /// An iterator over a text in memory, such as `text.chars()`, meets them.
