@@ -167,4 +167,3 @@ module _ (bs : List ℕ) (at : ℕ) (room : at + 16 < length bs) where
       let count = first_set m some in
       let same = ap (λ x. cond (eqb x 0) 16 (count_trailing_zeros 64 x)) e in
       ap p (sym (line_is k (omega (arith, h, line_count_of p m e some)))) ∙ before_first p (chunk at 16 bs) 0 k here (omega (arith, count, same, h))
-

@@ -128,8 +128,8 @@ pub word_more : (run : Run) (bs : List ℕ) (from to : ℕ) → IsWordBetween ru
 word_more run bs from to w h low goes = record {
   after = omega (arith, w.after);
   within = omega arith;
-  ascii = λ k a b. elim (cases_lt k to) [ | inl before ↦ w.ascii k a before | inr last ↦ let here : k ≡ to = omega arith in rw here low ];
-  inner = λ k a b. elim (cases_lt k to) [ | inl before ↦ w.inner k a before | inr last ↦ let here : k ≡ to = omega arith in rw here goes ];
+  ascii = λ k a b. elim (cases_lt k to) [ inl before ↦ w.ascii k a before | inr last ↦ let here : k ≡ to = omega arith in rw here low ];
+  inner = λ k a b. elim (cases_lt k to) [ inl before ↦ w.inner k a before | inr last ↦ let here : k ≡ to = omega arith in rw here goes ];
 }
 
 goes_in_words : (run : Run) (c d : ℕ) → stops run c ≡ false → is_in_words run c d ≡ true
@@ -285,7 +285,7 @@ words_none run bs = record { within = omega arith; ascii = λ k h. absurd (omega
 pub words_further : (run : Run) (bs : List ℕ) (n to : ℕ) → AreWordsUpTo run bs n → AreWordsBetween run bs n to → AreWordsUpTo run bs to
 words_further run bs n to words more = record {
   within = more.within;
-  ascii = λ k h. elim (cases_lt k n) [ | inl before ↦ words.ascii k before | inr after ↦ more.ascii k (omega arith) h ];
+  ascii = λ k h. elim (cases_lt k n) [ inl before ↦ words.ascii k before | inr after ↦ more.ascii k (omega arith) h ];
   inner = λ k h. elim (cases_lt (k + 1) n) [
     | inl before ↦ words.inner k before
     | inr later ↦ elim (cases_lt k n) [

@@ -33,7 +33,6 @@ along p n = record { index = p.index + n; line = p.line; col = p.col + n }
 module _ {A : Type 0} (run : Run) (f : List ℕ → Position → List ℕ → A) (Fits : Position → Type 0) (later : (p : Position) → Fits p → Fits (past p))
     (step : (c : ℕ) (a : List ℕ) (p : Position) (t : List ℕ) → stops run c ≡ false → f (c ∷ a) p t ≡ f a (past p) (t ++ c ∷ []))
     (over : (c d : ℕ) (a : List ℕ) (p : Position) (t : List ℕ) → Fits p → stops run c ≡ true → is_blank c ≡ true → begins_word run d ≡ true → f (c ∷ d ∷ a) p t ≡ f (d ∷ a) (past p) (t ++ c ∷ [])) where
-
   -- a character of words
   one : (c : ℕ) (cs b : List ℕ) (p : Position) (t : List ℕ) → Fits p → is_in_words run c (slice_index cs 0) ≡ true → f (c ∷ (cs ++ b)) p t ≡ f (cs ++ b) (past p) (t ++ c ∷ [])
   one c cs b p t fits h = by (stops run c) refl

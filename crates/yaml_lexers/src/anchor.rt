@@ -14,10 +14,7 @@ use yaml_tokens::{Fault, Problem};
 
 /// Reads the characters of a name.
 #[tactic(auto, using(model_lexers::proofs::SpaceLemmas::take_end))]
-fn read_name<T: Characters>(
-    window: &mut Window<T>,
-    name: &mut Text,
-) -> Result<(), AllocError>
+fn read_name<T: Characters>(window: &mut Window<T>, name: &mut Text) -> Result<(), AllocError>
     ensures ok { OnOk result (Reads window.old window.new (λ a b. take_while is_anchor a (position_of window.old) name.old ≡ read b window.new name.new)) }
     ensures err { OnErr result (Reads window.old window.new (λ _ _. Unit {0})) }
 {

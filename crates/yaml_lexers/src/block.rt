@@ -143,10 +143,7 @@ fn read_indent<T: Characters>(
 }
 
 /// Reads the characters up to a break or the end.
-fn read_run<T: Characters>(
-    window: &mut Window<T>,
-    block: &mut Lines,
-) -> Result<(), AllocError>
+fn read_run<T: Characters>(window: &mut Window<T>, block: &mut Lines) -> Result<(), AllocError>
     ensures ok { OnOk result (Reads window.old window.new (λ a b. (literal : Bool) (column : ℕ) →
         lines_from literal column a (at line window.old block.old) ≡ lines_from literal column b (at line window.new block.new))) }
     ensures err { OnErr result (Reads window.old window.new (λ _ _. Unit {0})) }
@@ -157,10 +154,7 @@ fn read_run<T: Characters>(
 }
 
 /// Reads a content line and its break.
-fn read_line<T: Characters>(
-    window: &mut Window<T>,
-    block: &mut Lines,
-) -> Result<(), AllocError>
+fn read_line<T: Characters>(window: &mut Window<T>, block: &mut Lines) -> Result<(), AllocError>
     ensures ok { OnOk result (Reads window.old window.new (λ a b. (literal : Bool) (column : ℕ) →
         lines_from literal column a (at line window.old block.old) ≡ lines_from literal column b (at margin window.new block.new))) }
     ensures err { OnErr result (Reads window.old window.new (λ _ _. Unit {0})) }

@@ -88,10 +88,7 @@ fn with_digit(value: u32, c: char) -> u32
 
 /// Reads a number of a version, of at most nine digits.
 #[tactic(auto, using(model_lexers::proofs::DirectiveLemmas::digits_stop, model_lexers::proofs::DirectiveLemmas::too_long), unfolding(model_lexers::specs::Directive::number))]
-fn read_number<T: Characters>(
-    window: &mut Window<T>,
-    start: Marker,
-) -> Result<u32, Fault>
+fn read_number<T: Characters>(window: &mut Window<T>, start: Marker) -> Result<u32, Fault>
     ensures ok { IfOk result (λ n. Lexes (number start) window.old window.new n) }
     ensures err { IfErr result (λ e. Refuses (number start) window.old window.new e) }
 {
@@ -133,10 +130,7 @@ fn read_minor<T: Characters>(
 
 /// Reads the two numbers of a version.
 #[tactic(auto, unfolding(model_lexers::specs::Directive::version_value))]
-fn read_version<T: Characters>(
-    window: &mut Window<T>,
-    start: Marker,
-) -> Result<TokenType, Fault>
+fn read_version<T: Characters>(window: &mut Window<T>, start: Marker) -> Result<TokenType, Fault>
     ensures ok { IfOk result (λ t. Lexes (version_value start) window.old window.new (tok_of t)) }
     ensures err { IfErr result (λ e. Refuses (version_value start) window.old window.new e) }
 {
@@ -201,10 +195,7 @@ fn read_value<T: Characters>(
 
 /// Steps over the break after a directive, if one stands here.
 #[tactic(auto, using(model_lexers::proofs::DirectiveLemmas::break_stands, model_lexers::proofs::DirectiveLemmas::break_fails), unfolding(model_lexers::specs::Directive::directive_break))]
-fn skip_directive_break<T: Characters>(
-    window: &mut Window<T>,
-    start: Marker,
-) -> Result<(), Fault>
+fn skip_directive_break<T: Characters>(window: &mut Window<T>, start: Marker) -> Result<(), Fault>
     ensures ok { IfOk result (λ _. Lexes (directive_break start) window.old window.new tt) }
     ensures err { IfErr result (λ e. Refuses (directive_break start) window.old window.new e) }
 {
@@ -221,10 +212,7 @@ fn skip_directive_break<T: Characters>(
 
 /// Steps over a directive's line from after its value on, with its break.
 #[tactic(auto, unfolding(model_lexers::specs::Directive::line_end))]
-fn skip_line_end<T: Characters>(
-    window: &mut Window<T>,
-    start: Marker,
-) -> Result<(), Fault>
+fn skip_line_end<T: Characters>(window: &mut Window<T>, start: Marker) -> Result<(), Fault>
     ensures ok { IfOk result (λ _. Lexes (line_end start) window.old window.new tt) }
     ensures err { IfErr result (λ e. Refuses (line_end start) window.old window.new e) }
 {

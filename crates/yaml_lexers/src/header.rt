@@ -40,10 +40,7 @@ fn read_chomping<T: Characters>(window: &mut Window<T>) -> Chomping
 
 /// Reads an indentation indicator, if one stands here, else it is 0.
 #[tactic(auto, using(model_lexers::proofs::BlockLemmas::no_increment), unfolding(yaml_chars::specs::Class::is_digit, model_lexers::specs::Block::increment))]
-fn read_increment<T: Characters>(
-    window: &mut Window<T>,
-    start: Marker,
-) -> Result<usize, Fault>
+fn read_increment<T: Characters>(window: &mut Window<T>, start: Marker) -> Result<usize, Fault>
     ensures ok { IfOk result (λ n. Reads window.old window.new (λ a b. increment start a (position_of window.old) ≡ Ok (read b window.new n))) }
     ensures err { IfErr result (λ e. Reads window.old window.new (λ a b. increment start a (position_of window.old) ≡ Err e)) }
     ensures small { IfOk result (λ n. n < 10) }
@@ -100,10 +97,7 @@ fn end_line<T: Characters>(window: &mut Window<T>, start: Marker) -> Result<bool
 
 /// Steps over the rest of a header's line. The answer is whether a break ended it.
 #[tactic(auto, unfolding(model_lexers::specs::Block::header_end))]
-fn end_header<T: Characters>(
-    window: &mut Window<T>,
-    start: Marker,
-) -> Result<bool, Fault>
+fn end_header<T: Characters>(window: &mut Window<T>, start: Marker) -> Result<bool, Fault>
     ensures ok { IfOk result (λ broken. Reads window.old window.new (λ a b. header_end start a (position_of window.old) ≡ Ok (read b window.new broken))) }
     ensures err { IfErr result (λ e. Reads window.old window.new (λ a b. header_end start a (position_of window.old) ≡ Err e)) }
 {

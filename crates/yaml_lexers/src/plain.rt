@@ -219,10 +219,7 @@ fn is_shallow(context: Context, col: usize) -> bool
 
 /// Whether a scalar goes on at a character after a gap.
 #[tactic(auto, unfolding(model_lexers::specs::Plain::goes_on))]
-fn goes_on<T: Characters>(
-    window: &mut Window<T>,
-    context: Context,
-) -> Result<bool, Fault>
+fn goes_on<T: Characters>(window: &mut Window<T>, context: Context) -> Result<bool, Fault>
     ensures reads { Reads window.old window.new (λ a b. (b ≡ a) × (result ≡ goes_on context a (position_of window.old))) }
     ensures position { SamePosition window.old window.new }
     ensures ahead { 0 < window.new.ahead }

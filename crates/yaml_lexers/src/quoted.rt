@@ -192,10 +192,7 @@ fn read_after<T: Characters>(
 }
 
 /// Reads an escaped break.
-fn read_escaped_break<T: Characters>(
-    window: &mut Window<T>,
-    scalar: &mut Folding,
-) -> Part
+fn read_escaped_break<T: Characters>(window: &mut Window<T>, scalar: &mut Folding) -> Part
     requires has { HasChar window.old }
     requires ahead { 2 ≤ window.old.ahead }
     ensures reads { AllGoOn breaking window.old scalar.old (mode_of result) window.new scalar.new }

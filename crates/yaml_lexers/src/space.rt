@@ -60,10 +60,7 @@ pub fn skip_ws_to_eol<T: Characters>(
 // The same, where a blank or a comment stands here.
 #[inline(never)]
 #[tactic(auto, using(model_lexers::proofs::SpaceLemmas::spaces_stop, model_lexers::proofs::SpaceLemmas::at_comment), unfolding(model_lexers::specs::Space::space))]
-fn skip_spaces<T: Characters>(
-    window: &mut Window<T>,
-    tabs: SkipTabs,
-) -> Result<Whitespace, Fault>
+fn skip_spaces<T: Characters>(window: &mut Window<T>, tabs: SkipTabs) -> Result<Whitespace, Fault>
     ensures ok { IfOk result (λ w. Reads window.old window.new (λ a b. space tabs a (position_of window.old) ≡ Ok (read b window.new w))) }
     ensures err { IfErr result (λ e. Reads window.old window.new (λ a b. space tabs a (position_of window.old) ≡ Err e)) }
     ensures ahead { 0 < window.new.ahead }

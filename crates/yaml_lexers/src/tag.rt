@@ -16,10 +16,7 @@ use yaml_tokens::{Fault, Problem};
 
 /// Reads ASCII letters, digits, `_` and `-`.
 #[tactic(auto, using(model_lexers::proofs::SpaceLemmas::take_end))]
-fn read_word<T: Characters>(
-    window: &mut Window<T>,
-    text: &mut Text,
-) -> Result<(), AllocError>
+fn read_word<T: Characters>(window: &mut Window<T>, text: &mut Text) -> Result<(), AllocError>
     ensures ok { OnOk result (Reads window.old window.new (λ a b. take_while is_alpha a (position_of window.old) text.old ≡ read b window.new text.new)) }
     ensures err { OnErr result (Reads window.old window.new (λ _ _. Unit {0})) }
     ensures ahead { OnOk result (0 < window.new.ahead) }

@@ -93,11 +93,7 @@ fn lead_of(octet: u32) -> Option<Lead>
 }
 
 /// Reads an octet that goes on with a character whose first bits are `code`.
-fn read_trail<T: Characters>(
-    window: &mut Window<T>,
-    start: Marker,
-    code: u32,
-) -> Result<u32, Fault>
+fn read_trail<T: Characters>(window: &mut Window<T>, start: Marker, code: u32) -> Result<u32, Fault>
     requires { code < 2 ^ 20 }
     ensures ok { IfOk result (λ n. Reads window.old window.new (λ a b. (test : ℕ → Bool) (more least : ℕ) (t : List ℕ) →
         trails_from test start (suc more) code least a (position_of window.old) t ≡ trails_from test start more n least b (position_of window.new) t)) }
@@ -149,10 +145,7 @@ fn decoded(code: u32, least: u32, start: Marker) -> Result<char, Fault>
 }
 
 /// Reads the octets of a character in UTF-8, each a `%` and two hexadecimal digits.
-fn read_uri_escape<T: Characters>(
-    window: &mut Window<T>,
-    start: Marker,
-) -> Result<char, Fault>
+fn read_uri_escape<T: Characters>(window: &mut Window<T>, start: Marker) -> Result<char, Fault>
     ensures ok { IfOk result (λ c. Reads window.old window.new (λ a b. (test : ℕ → Bool) (t : List ℕ) →
         uri_from test start a (at (percent lead) window.old t) ≡ uri_from test start b (at plain window.new (t ++ c ∷ [])))) }
     ensures err { IfErr result (λ e. Reads window.old window.new (λ a b. (test : ℕ → Bool) (t : List ℕ) →

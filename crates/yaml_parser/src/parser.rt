@@ -21,8 +21,8 @@ use std::alloc::Global;
 use std::marker::Model;
 use std::mem;
 use std::str::Chars;
-use yaml_chars::{Characters, Marker};
 use yaml_chars::history::History;
+use yaml_chars::{Characters, Marker};
 use yaml_tokens::{Fault, Problem, ScanError};
 
 /// Notes an event, unless the stream's end was given before.

@@ -12,8 +12,8 @@ ghost use Rattle.model_parser.specs.declared.kind.Kind.TheVariants as kind;
 use crate::looked::Looked;
 use model_parser::Kind;
 use std::alloc::AllocError;
-use yaml_chars::{Characters, Marker};
 use yaml_chars::history::History;
+use yaml_chars::{Characters, Marker};
 use yaml_scanner::Scanner;
 use yaml_tokens::{Fault, TScalarStyle, Token};
 

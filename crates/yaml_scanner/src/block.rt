@@ -14,8 +14,8 @@ ghost use Rattle.yaml_scanner.specs.Work.{Moves, Fetches};
 
 use crate::fetcher::{Failed, Fetcher};
 use model_scanner::FlowLevel;
-use yaml_chars::{Characters, Marker};
 use yaml_chars::class::{is_alpha, is_blank_or_breakz, is_break, is_flow};
+use yaml_chars::{Characters, Marker};
 use yaml_lexers::{SkipTabs, Whitespace};
 use yaml_scanner_state::{Collection, ImplicitKey};
 use yaml_tokens::{Fault, Problem, Token, TokenType};

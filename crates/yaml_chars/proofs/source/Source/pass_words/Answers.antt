@@ -27,17 +27,19 @@ returns g c =
     let ready = c.self.invariant.ready going in
     let words = rw (c.as_bytes.ensures.value, c.known-known.ensures) at c.words-count.ensures in
     let piece = c.range-words.ensures.value ∙ front_range _ _ ∙ ap (take c.words-count.result) c.known-known.ensures in
-    let count = length-take-le c.words-count.result (g.T.Characters.known c.self.inside.iter) words.within in
-    (take c.words-count.result (g.T.Characters.known c.self.inside.iter), rw (← c.self.view_is) record {
-      part = take c.words-count.result (g.T.Characters.known c.self.inside.iter);
-      count = count;
-      words = words_of c.args.run _ _ words;
-      gives = record {
-        start = refl;
-        taken = c.push_ascii.ensures ∙ ap (λ x. c.self.inside.taken.items ++ x) (c.as_bytes-2.ensures.value ∙ piece);
-        done = refl;
-        none = λ d. absurd (true_is_not_false (sym d ∙ going));
-        left = rw going (omega (arith, (c.pass.ensures.goes ready.1).1, count));
-      };
-      text = refl;
-    })
+    let count = length-take-le c.words-count.result (g.T.Characters.known c.self.inside.iter) words.within in (
+      take c.words-count.result (g.T.Characters.known c.self.inside.iter),
+      rw (← c.self.view_is) record {
+        part = take c.words-count.result (g.T.Characters.known c.self.inside.iter);
+        count = count;
+        words = words_of c.args.run _ _ words;
+        gives = record {
+          start = refl;
+          taken = c.push_ascii.ensures ∙ ap (λ x. c.self.inside.taken.items ++ x) (c.as_bytes-2.ensures.value ∙ piece);
+          done = refl;
+          none = λ d. absurd (true_is_not_false (sym d ∙ going));
+          left = rw going (omega (arith, (c.pass.ensures.goes ready.1).1, count));
+        };
+        text = refl;
+      },
+    )
