@@ -10,8 +10,8 @@ use crate::stop::Stop;
 use std::alloc::{AllocError, Global};
 use yaml_tree::Yaml;
 
-/// The tree of a JSON text whose value is an array or an object. It gives `None` where the text is none of the class, also
-/// where that shows only at its end, and at once where it begins with something else.
+/// The tree of a JSON text whose value is an array or an object. `None` says nothing of the text: it is given at once
+/// where the text begins with something else, and wherever the text is found to be none of the class, also at its end.
 #[inline(always)]
 pub fn read_json(alloc: Global, text: &str) -> Result<Option<Yaml>, AllocError>
     ensures { IfOk result (λ read. IfSome read (λ tree. IsJsonText (view tree) (chars text.now))) }
