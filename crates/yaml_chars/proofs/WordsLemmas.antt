@@ -55,6 +55,9 @@ begins_goes (Plain false) b h = grind (arith, nat_tests)
 
 -- ---- a text in memory gives its characters
 
+pub some_of : (n : ℕ) → n ≢ 0 → 0 < n
+some_of n h = omega (arith, h)
+
 abbrev from : Chars → List ℕ → Chars
 from it bs = record { rest = record { ref_ptr = it.rest.ref_ptr; now = bs } }
 

@@ -1,5 +1,5 @@
 //! Where characters come from: an iterator, or a text in memory.
-ghost use Rattle.std.specs.Prelude.{◌≡◌, ℕ, ◌+◌, ◌<◌, ◌≤◌, List, [], length, take, drop, Option, IsCharBoundary, IsAscii};
+ghost use Rattle.std.specs.Prelude.{◌≡◌, ℕ, ◌+◌, ◌≤◌, List, [], length, take, drop, Option, IsCharBoundary, IsAscii};
 ghost use Rattle.std.specs.Iterator.{Count, IsFinite, size, MakesProgress, Yields};
 
 use std::str::Chars;
@@ -29,11 +29,9 @@ pub trait Characters: Drop {
     fn known(&self) -> &str
         ensures { result.now ≡ known self.now };
 
-    /// Steps over so many bytes of the text that is known, at least one. They are ASCII. It is as if their characters had been
-    /// asked for.
+    /// Steps over so many bytes of the text that is known, which are ASCII. It is as if their characters had been asked for.
     fn pass(&mut self, count: usize)
         requires can { can_next self.old }
-        requires some { 0 < count }
         requires within { count ≤ length (known self.old) }
         requires cut { IsCharBoundary (known self.old) count }
         requires ascii { IsAscii (take count (known self.old)) }
@@ -111,6 +109,9 @@ impl<'a> Characters for TextInMemory<'a> {
 
     #[inline(always)]
     fn pass(&mut self, count: usize) {
+        if count == 0 {
+            return;
+        }
         let rest = &self.chars.as_str()[count..];
         self.chars = rest.chars();
     }
