@@ -143,15 +143,18 @@ none_stale p [] e = refl
 none_stale p (None ∷ ks) e = none_stale p ks cc
 none_stale p (Some k ∷ ks) e = absurd cc
 
-none_front : (ks : List (Option ImplicitKey)) → map no_implicit ks ≡ ks → list_any is_front ks ≡ false
+pub none_front : (ks : List (Option ImplicitKey)) → map no_implicit ks ≡ ks → list_any is_front ks ≡ false
 none_front [] e = refl
 none_front (None ∷ ks) e = none_front ks cc
 none_front (Some k ∷ ks) e = absurd cc
 
-none_lowered : (ks : List (Option ImplicitKey)) → map no_implicit ks ≡ ks → map lowered ks ≡ ks
+pub none_lowered : (ks : List (Option ImplicitKey)) → map no_implicit ks ≡ ks → map lowered ks ≡ ks
 none_lowered [] e = refl
 none_lowered (None ∷ ks) e = ap (λ ls. None ∷ ls) (none_lowered ks cc)
 none_lowered (Some k ∷ ks) e = absurd cc
+
+pub none_reversed : (ks : List (Option ImplicitKey)) → map no_implicit ks ≡ ks → map no_implicit (reverse ks) ≡ reverse ks
+none_reversed ks e = map_reversed no_implicit ks ∙ ap reverse e
 
 -- none is too far back
 pub none_seen : (p : Position) (g : ℕ) (ks : List (Option ImplicitKey)) → map no_implicit ks ≡ ks → drop_stale p (seen g (reverse ks)) ≡ Ok (seen g (reverse ks))

@@ -1,5 +1,5 @@
 -- Lemmas about the queue of tokens.
-use Rattle.std.proofs.Common.{◌≡◌, ℕ, ◌+◌, ◌-◌, Bool, true, false, ◌||◌, List, [], ◌∷◌, ◌++◌, map, length, take, drop, refl, ap, sym, ◌∙◌, append_assoc, arith, length-append, length-drop, ◌<◌, ◌≤◌, suc, Option, None}
+use Rattle.std.proofs.Common.{◌≡◌, ℕ, ◌+◌, ◌-◌, Bool, true, false, ◌||◌, List, [], ◌∷◌, ◌++◌, map, length, take, drop, refl, ap, sym, ◌∙◌, append_assoc, append-nil, arith, length-append, length-drop, ◌<◌, ◌≤◌, suc, Option, None}
 use Rattle.std.proofs.lemmas.List.{map-append, take-map, drop-map, take_all, drop_all, take-append-drop}
 use Rattle.std.proofs.lemmas.List.Edits.{insert-append_right}
 use Rattle.std.specs.List.{insert}
@@ -19,6 +19,9 @@ waiting_len g w = simp (length-append, length_shown) refl
 
 pub push_shown : (g w v : List Token) (t : Token) → v ≡ w ++ t ∷ [] → map shown g ++ map shown v ≡ (map shown g ++ map shown w) ++ shown t ∷ []
 push_shown g w v t e = rw (e, map-append shown w (t ∷ [])) (sym (append_assoc (map shown g) (map shown w) (shown t ∷ [])))
+
+pub one_shown : (g h : List Token) (t : Token) → h ≡ g ++ t ∷ [] → map shown h ≡ map shown g ++ shown t ∷ []
+one_shown g h t e = rw (e, map-append shown g (t ∷ [])) refl
 
 map_insert : (w : List Token) (i : ℕ) (t : Token) → map shown (insert w i t) ≡ insert (map shown w) i (shown t)
 map_insert w i t = rw (take-map shown i w, drop-map shown i w) (map-append shown (take i w) (t ∷ drop i w))
@@ -119,3 +122,41 @@ front_keeps w v t e h = insert_keeps w v 0 t e h
 -- and it leaves the last one
 pub front_last : (g w v : List Token) (t : Token) → v ≡ t ∷ w → 0 < length w → last_property (map shown g ++ map shown v) ≡ last_property (map shown g ++ map shown w)
 front_last g w v t e h = insert_last g w v 0 t e h
+
+-- ---- two tokens are handed out at once
+
+pub key_shown : (g k s w v : List Token) (t u : Token) (x : seen.Token) → length w ≡ 0 → k ≡ g ++ t ∷ [] → map shown s ≡ map shown k ++ x ∷ [] → v ≡ w ++ u ∷ []
+    → map shown s ++ map shown v ≡ (map shown g ++ map shown w) ++ shown t ∷ x ∷ shown u ∷ []
+key_shown g k s [] v t u x n e f h = rw (h, f, e, map-append shown g (t ∷ [])) (simp (append_assoc, append-nil) refl)
+key_shown g k s (y ∷ w) v t u x n e f h = absurd (omega (arith, n))
+
+pub value_shown : (g k s w v : List Token) (t : Token) (x : seen.Token) → w ≡ t ∷ v → length v ≡ 0 → k ≡ g ++ t ∷ [] → map shown s ≡ map shown k ++ x ∷ []
+    → map shown s ++ map shown v ≡ (map shown g ++ map shown w) ++ x ∷ []
+value_shown g k s w [] t x e n f h = rw (h, f, e, map-append shown g (t ∷ [])) (simp (append_assoc, append-nil) refl)
+value_shown g k s w (y ∷ v) t x e n f h = absurd (omega (arith, n))
+
+pub two_more : (g k s : List Token) (t : Token) → k ≡ g ++ t ∷ [] → length s ≡ length k + 1 → length s ≡ length g + 2
+two_more g k s t e f = let one = give_len g k t e in omega (arith, one, f)
+
+take_given : (g w : List Token) → take (length g) (map shown g ++ map shown w) ≡ map shown g
+take_given [] w = refl
+take_given (t ∷ g) w = ap (λ xs. shown t ∷ xs) (take_given g w)
+
+cancel : (xs ys zs : List seen.Token) → xs ++ ys ≡ xs ++ zs → ys ≡ zs
+cancel [] ys zs e = e
+cancel (x ∷ xs) ys zs e = cancel xs ys zs cc
+
+-- a token alone waits
+pub alone_shown : (g w : List Token) (t : Token) → w ≡ t ∷ [] → map shown g ++ map shown w ≡ take (length g) (map shown g ++ map shown w) ++ shown t ∷ []
+alone_shown g w t e = rw (take_given g w, e) refl
+
+pub waits_alone : (g w : List Token) (x : seen.Token) → map shown g ++ map shown w ≡ take (length g) (map shown g ++ map shown w) ++ x ∷ [] → map shown w ≡ x ∷ []
+waits_alone g w x e = cancel (map shown g) (map shown w) (x ∷ []) (e ∙ ap (λ xs. xs ++ x ∷ []) (take_given g w))
+
+-- nothing waits after it
+none_after : (w v : List Token) (t : Token) (x : seen.Token) → w ≡ t ∷ v → map shown w ≡ x ∷ [] → map shown v ≡ []
+none_after w v t x e f = let g : shown t ∷ map shown v ≡ x ∷ [] = rw e at f in cc
+
+-- once it and a scalar were handed out, the scalar is the last
+pub scalar_last : (k : List seen.Token) (s w v : List Token) (t : Token) (x y : seen.Token) → w ≡ t ∷ v → map shown w ≡ x ∷ [] → map shown s ≡ k ++ y ∷ [] → property_position y.tok y.position ≡ last_property (map shown s ++ map shown v)
+scalar_last k s w v t x y e f h = rw (none_after w v t x e f, h, append-nil) (sym (last_after k y []))

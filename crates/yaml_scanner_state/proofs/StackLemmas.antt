@@ -1,9 +1,11 @@
 -- Lemmas about stacks.
-use Rattle.std.proofs.Common.{◌≡◌, ◌-◌, List, [], ◌∷◌, ◌++◌, reverse, refl, ap, sym, ◌∙◌, Some, length, arith, slice_get, set, ◌==◌}
+use Rattle.std.proofs.Common.{◌≡◌, ◌-◌, ◌<◌, ◌≤◌, List, [], ◌∷◌, ◌++◌, reverse, refl, ap, sym, ◌∙◌, Option, Some, None, length, arith, slice_get, set, ◌==◌}
 use Rattle.std.proofs.lemmas.List.{reverse-append, reverse-reverse, length-reverse}
 use Rattle.std.proofs.lemmas.Grind.{common_steps, elements}
 use Rattle.std.proofs.lemmas.Bool.{ne_eqb}
-use Rattle.model_scanner.specs.State.{top, with_top}
+use Rattle.std.proofs.lemmas.Option.{slice_get_read}
+use Rattle.std.proofs.Common.{get_or}
+use Rattle.model_scanner.specs.State.{top, with_top, pop}
 use Rattle.defs_text.specs.Text.{is_empty}
 
 pub pushed : {A : Type 0} (xs ys : List A) (x : A) → ys ≡ xs ++ x ∷ [] → reverse ys ≡ x ∷ reverse xs
@@ -26,6 +28,27 @@ topped_by xs (y ∷ ys) e f = rw (f, reverse-append (y ∷ []) ys) (last_of (rev
 
 pub topped : {A : Type 0} (xs : List A) → slice_get xs (length xs - 1) ≡ top (reverse xs)
 topped xs = topped_by xs (reverse xs) refl (sym (reverse-reverse xs))
+
+before_last : {A : Type 0} (zs : List A) (x y : A) → slice_get (zs ++ y ∷ x ∷ []) (length (zs ++ y ∷ x ∷ []) - 2) ≡ Some y
+before_last [] x y = refl
+before_last (z ∷ zs) x y = grind (arith, elements, common_steps, before_last zs x y)
+
+under_by : {A : Type 0} (xs ys : List A) → xs ≡ reverse ys → 2 ≤ length xs → slice_get xs (length xs - 2) ≡ top (pop ys)
+under_by xs [] f h = absurd (omega (arith, ap length f, h))
+under_by xs (x ∷ []) f h = absurd (omega (arith, ap length f, h))
+under_by xs (x ∷ y ∷ ys) f h = rw (f, reverse-append (x ∷ y ∷ []) ys) (before_last (reverse ys) x y)
+
+-- the item under the top, and where there is none
+under_top : {A : Type 0} (xs : List A) → 2 ≤ length xs → slice_get xs (length xs - 2) ≡ top (pop (reverse xs))
+under_top xs h = under_by xs (reverse xs) (sym (reverse-reverse xs)) h
+
+pub under_read : {A : Type 0} (xs : List A) (x : A) → 2 ≤ length xs → x ≡ get_or xs (length xs - 2) x → Some x ≡ top (pop (reverse xs))
+under_read xs x h e = sym (slice_get_read xs (length xs) (length xs - 2) x refl (omega (arith, h)) e) ∙ under_top xs h
+
+pub none_under : {A : Type 0} (xs : List A) → length xs < 2 → ◌≡◌ {A = Option A} None (top (pop (reverse xs)))
+none_under [] h = refl
+none_under (x ∷ []) h = refl
+none_under (x ∷ y ∷ xs) h = absurd (omega (arith, h))
 
 set_last : {A : Type 0} (zs : List A) (x y : A) → set (zs ++ x ∷ []) (length zs) y ≡ zs ++ y ∷ []
 set_last [] x y = refl

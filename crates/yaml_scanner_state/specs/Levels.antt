@@ -1,5 +1,5 @@
 -- Levels of indentation, as clauses see them.
-use Rattle.std.specs.Prelude.{ℕ, ◌+◌, ◌≤◌, ◌^◌, List, [], ◌∷◌, Bool, false, not, if◌then◌else◌}
+use Rattle.std.specs.Prelude.{ℕ, ◌+◌, ◌≤◌, ◌^◌, List, [], ◌∷◌, Bool, false, not, ◌||◌, if◌then◌else◌, Option, Some, None}
 use Rattle.model_scanner.specs.declared.level.Indent.{Indent}
 
 -- the innermost column, and the levels, the innermost first
@@ -11,6 +11,12 @@ pub record Columns : Type 0 where
 abbrev pub ends_open : List Indent → Bool
 ends_open [] = false
 ends_open (d ∷ ds) = not d.needs_block_end
+
+-- where the innermost level opens no collection and the one outside it is a block collection: the column of that one
+abbrev pub lone_open : List Indent → Option ℕ
+lone_open [] = None
+lone_open (d ∷ []) = None
+lone_open (d ∷ e ∷ ds) = (if d.needs_block_end || not e.needs_block_end then None else Some d.indent)
 
 -- the greatest column that a level may have
 abbrev pub deepest : List Indent → ℕ

@@ -1,7 +1,8 @@
 -- All tokens so far, how many of them were handed out, and whether the stream's end is among all and among those.
 use Rattle.std.specs.Prelude.{ℕ, ◌-◌, List, [], ◌∷◌, length, take, Bool, true, false, ◌||◌}
 use Rattle.defs_text.specs.Position.{Position}
-use Rattle.defs_token.specs.Token.{Token, Tok}
+use Rattle.defs_token.specs.Token.{Token, Tok, Style}
+use Rattle.model_scanner.specs.State.{token}
 
 pub record Tokens : Type 0 where
   pub all : List Token
@@ -28,3 +29,7 @@ has_end (t ∷ ts) = is_end t.tok || has_end ts
 -- the end of the stream, at a position
 abbrev pub end_at : Position → Token
 end_at p = record { position = p; tok = Tok.stream_end }
+
+-- a key, which is a plain scalar with a text, and the `:` after it
+abbrev pub key_tokens : Position → List ℕ → Position → List Token
+key_tokens p text colon = token p Tok.key ∷ token p (Tok.scalar Style.plain text) ∷ token colon Tok.value ∷ []

@@ -1,4 +1,4 @@
-ghost use Rattle.std.specs.Prelude.{◌≡◌, ℕ, ◌+◌, ◌-◌, ◌∷◌, [], OnOk, OnErr, IfErr, Ok, Err, None, true, false, map, is_some};
+ghost use Rattle.std.specs.Prelude.{◌≡◌, ℕ, ◌+◌, ◌-◌, ◌∷◌, [], OnOk, OnErr, IfErr, Ok, Err, None, true, false, map, is_some, length, ◌<◌};
 ghost use Rattle.std.specs.List.{list_any};
 ghost use Rattle.model_scanner.specs.State.{Key, with_top, pop};
 ghost use Rattle.model_scanner.specs.Keys.{is_far, is_overdue, drop_stale, is_required, has_required, cleared, top_key};
@@ -240,6 +240,15 @@ impl ImplicitKeys {
         ensures { (g : ℕ) → result ≡ has_required (seen g self.now) }
     {
         any_required(&self.levels)
+    }
+
+    /// Whether there is a level, and none has a possible key.
+    #[tactic(auto, using(crate::proofs::KeyLemmas::none_reversed, crate::proofs::StackLemmas::reversed_len))]
+    pub fn has_none(&self) -> bool
+        ensures none { result ≡ true → map no_implicit self.now ≡ self.now }
+        ensures level { result ≡ true → 0 < length self.now }
+    {
+        !self.any && !self.levels.is_empty()
     }
 
     /// Gives up all possible keys.

@@ -1,7 +1,7 @@
 ghost use Rattle.std.specs.Prelude.{◌≡◌, ◌<◌, ◌≤◌, ◌^◌, ◌+◌, ◌∷◌, [], OnOk, OnErr, MatchOption, true, false};
 ghost use Rattle.model_scanner.specs.Keys.{top_needs_block_end};
 ghost use Rattle.model_scanner.specs.Indents.{level};
-ghost use Rattle.yaml_scanner_state.specs.Levels.{ends_open};
+ghost use Rattle.yaml_scanner_state.specs.Levels.{ends_open, lone_open};
 ghost use Rattle.defs_text.specs.Text.{is_empty};
 
 use crate::stack::Stack;
@@ -71,6 +71,19 @@ impl Levels {
         self.indents
             .top()
             .is_some_and(|level| !level.needs_block_end)
+    }
+
+    /// Where the innermost level opens no collection and the one outside it is a block collection: the column of that one.
+    #[tactic(auto)]
+    pub fn lone_open(&self) -> Option<usize>
+        ensures { result ≡ lone_open self.now.indents }
+    {
+        let inner = self.indents.top()?;
+        let outer = self.indents.under()?;
+        if inner.needs_block_end || !outer.needs_block_end {
+            return None;
+        }
+        Some(inner.indent)
     }
 
     /// Opens a block collection at a column. An `Err` changes nothing.

@@ -1,15 +1,19 @@
-ghost use Rattle.std.specs.Prelude.{◌≡◌, ◌≤◌, ◌+◌, ◌∷◌, [], ◌++◌, OnOk, OnErr, IfSome, IsNone, true, false, ◌||◌, length};
+ghost use Rattle.std.specs.Prelude.{◌≡◌, ◌≤◌, ◌+◌, ◌∷◌, [], ◌++◌, OnOk, OnErr, IfOk, IfSome, IsNone, IsSome, true, false, ◌||◌, length, map, List, ℕ};
 ghost use Rattle.std.specs.List.{insert};
-ghost use Rattle.yaml_tokens.specs.Shown.{shown};
+ghost use Rattle.yaml_tokens.specs.Shown.{shown, tok_of};
 ghost use Rattle.model_scanner.specs.Block.{last_property, property_position};
-ghost use Rattle.yaml_scanner_state.specs.Tokens.{handed, waiting, is_end, end_at};
+ghost use Rattle.yaml_scanner_state.specs.Tokens.{handed, waiting, is_end, end_at, key_tokens};
+ghost use Rattle.defs_text.specs.Position.{Position};
+ghost use Rattle.defs_text.specs.Text.{string_chars};
+ghost use Rattle.defs_token.specs.Token.{Style, Tok};
+ghost use Rattle.model_scanner.specs.State.{token};
 
 use std::alloc::{AllocError, Global};
 use std::collections::VecDeque;
 use std::marker::Model;
 use yaml_chars::Marker;
 use yaml_chars::history::History;
-use yaml_tokens::{Token, TokenType};
+use yaml_tokens::{TScalarStyle, Token, TokenType};
 
 /// The tokens that wait to be handed out. Clauses see all tokens so far, also those handed out.
 #[derive(Drop)]
@@ -108,6 +112,55 @@ impl Queue {
         Ok(())
     }
 
+    /// Where no token waits, hands out a `Key` and a plain scalar, which stand at the same position, and lets the `Value`
+    /// after them wait. The result is the scalar's text. An `Err` changes nothing.
+    #[inline(always)]
+    #[tactic(auto, using(crate::proofs::QueueLemmas::key_shown, crate::proofs::QueueLemmas::two_more, crate::proofs::QueueLemmas::waiting_len))]
+    pub fn pass_key(&mut self, mark: Marker, text: String, colon: Marker) -> Result<String, AllocError>
+        requires { waiting self.old ≡ 0 }
+        ensures ok { OnOk result (self.new ≡ record self.old { all = self.old.all ++ key_tokens mark (string_chars text) colon; given = self.old.given + 2 }) }
+        ensures text { IfOk result (λ t. string_chars t ≡ string_chars text) }
+        ensures err { OnErr result (self.new ≡ self.old) }
+    {
+        self.waiting.try_reserve(1)?;
+        self.given.push(&Token(mark, TokenType::Key));
+        let text = pass_scalar(&mut self.given, mark, text);
+        self.waiting.push_back_reserved(Token(colon, TokenType::Value));
+        self.property = None;
+        Ok(text)
+    }
+
+    /// Where a `Value` alone waits, its position.
+    #[tactic(auto, using(crate::proofs::QueueLemmas::alone_shown, crate::proofs::QueueLemmas::waiting_len))]
+    pub fn lone_value(&self) -> Option<Marker>
+        ensures value { IfSome result (λ m. self.now.all ≡ handed self.now ++ token m Tok.value ∷ []) }
+        ensures count { IsSome result → self.now.given + 1 ≡ length self.now.all }
+    {
+        if self.waiting.len() != 1 {
+            return None;
+        }
+        let Token(mark, TokenType::Value) = self.waiting.front()? else {
+            return None;
+        };
+        Some(*mark)
+    }
+
+    /// Hands out the `Value` that alone waits, and a plain scalar after it. The result is the scalar's text.
+    #[inline(always)]
+    #[tactic(auto, using(crate::proofs::QueueLemmas::value_shown, crate::proofs::QueueLemmas::two_more, crate::proofs::QueueLemmas::waits_alone))]
+    pub fn pass_value(&mut self, mark: Marker, text: String) -> String
+        requires { (m : Position) × (self.old.all ≡ handed self.old ++ token m Tok.value ∷ []) }
+        ensures queue { self.new ≡ record self.old { all = self.old.all ++ token mark (Tok.scalar Style.plain (string_chars text)) ∷ []; given = self.old.given + 2 } }
+        ensures text { string_chars result ≡ string_chars text }
+    {
+        let Some(value) = self.waiting.pop_front() else {
+            unreachable!()
+        };
+        self.given.push(&value);
+        self.property = None;
+        pass_scalar(&mut self.given, mark, text)
+    }
+
     /// Ends the stream. An `Err` changes nothing.
     #[tactic(auto, using(crate::proofs::QueueLemmas::push_shown, crate::proofs::QueueLemmas::end_waits))]
     pub fn push_end(&mut self, mark: Marker) -> Result<(), AllocError>
@@ -169,4 +222,30 @@ fn stream_end(mark: Marker) -> Token
     ensures { shown result ≡ end_at mark }
 {
     Token(mark, TokenType::StreamEnd)
+}
+
+/// A plain scalar came. The result is its text.
+#[inline(always)]
+#[tactic(auto, using(crate::proofs::QueueLemmas::one_shown, crate::proofs::QueueLemmas::give_len))]
+fn pass_scalar(given: &mut History<Token>, mark: Marker, text: String) -> String
+    ensures items { map shown given.new.items ≡ map shown given.old.items ++ token mark (Tok.scalar Style.plain (string_chars text)) ∷ [] }
+    ensures more { length given.new.items ≡ length given.old.items + 1 }
+    ensures text { string_chars result ≡ string_chars text }
+{
+    let scalar = Token(mark, TokenType::Scalar(TScalarStyle::Plain, text));
+    given.push(&scalar);
+    text_of(scalar)
+}
+
+/// The text of a plain scalar.
+#[inline(always)]
+fn text_of(token: Token) -> String
+    requires { (text : List ℕ) × (tok_of token.1 ≡ Tok.scalar Style.plain text) }
+    ensures { tok_of token.1 ≡ Tok.scalar Style.plain (string_chars result) }
+{
+    let Token(_, kind) = token;
+    match kind {
+        TokenType::Scalar(_, text) => text,
+        _ => unreachable!(),
+    }
 }

@@ -54,6 +54,18 @@ impl<X: Copy> Stack<X> {
         self.items.last().copied()
     }
 
+    /// The value under the one on top, or `None` if there is none. Both stay.
+    #[tactic(auto, using(crate::proofs::StackLemmas::under_read, crate::proofs::StackLemmas::none_under))]
+    pub fn under(&self) -> Option<X>
+        ensures { result ≡ top (pop self.now) }
+    {
+        let len = self.items.len();
+        if len < 2 {
+            return None;
+        }
+        Some(self.items[len - 2])
+    }
+
     /// Replaces the top item, if there is one.
     #[tactic(auto, using(crate::proofs::StackLemmas::top_set, crate::proofs::StackLemmas::none_set))]
     pub fn set_top(&mut self, item: X)
