@@ -8,3 +8,6 @@ pub mod FollowLemmas
 pub mod HeldLemmas
 pub mod NodeLemmas
 pub mod SpaceLemmas
+pub mod PairTexts
+pub mod PairFetches
+pub mod PairFollows

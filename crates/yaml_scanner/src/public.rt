@@ -1,13 +1,17 @@
 //! The scanner's public calls.
-ghost use Rattle.std.specs.Prelude.{◌≡◌, ◌≤◌, ◌<◌, ◌^◌, [], OnOk, IfOk, IfErr, IfSome, IsNone, IsOk, Ok, Err, Some, None, true, false};
+ghost use Rattle.std.specs.Prelude.{◌≡◌, ◌≤◌, ◌<◌, ◌^◌, [], OnOk, IfOk, IfErr, IfSome, IfNone, IsNone, IsOk, Ok, Err, Some, None, true, false};
 ghost use Rattle.std.specs.Iterator.{at_most, IsFinite, size};
 ghost use Rattle.yaml_chars.specs.Source.{CameFrom};
 ghost use Rattle.yaml_chars.specs.Reading.{HasNoNul};
 ghost use Rattle.yaml_tokens.specs.Shown.{shown};
-ghost use Rattle.yaml_scanner.specs.Scanned.{scanned, HandsOut, HandsNothing, LeavesNoRow, Refuses, Scans};
+ghost use Rattle.yaml_scanner.specs.Scanned.{scanned, HandsOut, HandsBoth, HandsNothing, LeavesNoRow, Refuses, Scans};
 ghost use Rattle.yaml_scanner.specs.Next.{GivesNext};
+ghost use Rattle.defs_text.specs.Text.{string_chars};
+ghost use Rattle.defs_token.specs.Token.{Style, Tok};
+ghost use Rattle.model_scanner.specs.State.{token};
 
 use crate::fetcher::Fetcher;
+use crate::pairs::PlainNode;
 use crate::scanner::Scanner;
 use std::alloc::Global;
 use yaml_chars::{Characters, Marker};
@@ -170,6 +174,48 @@ impl<T: Characters> Scanner<T> {
         self.fetcher.window.note();
         match filled {
             Ok(()) => Ok(Some(self.fetcher.hand())),
+            Err(_) => Err(self.fetcher.keep()),
+        }
+    }
+
+    /// Hands out the `Key` and the scalar of a key of a block mapping by one call, where both are next and the key is a plain
+    /// scalar on one line, not the mapping's first, of characters that are known to come. Else it is `None`, and nothing
+    /// changes: [`next_token`](Scanner::next_token) then gives the next token, or the fault that is kept.
+    ///
+    /// # Errors
+    ///
+    /// Memory was refused. The fault is kept.
+    pub fn next_key(&mut self) -> Result<Option<PlainNode>, ScanError>
+        ensures key { IfOk result (λ o. IfSome o (λ n. HandsBoth (scanned self.old) (token n.indicator Tok.key) (token n.mark (Tok.scalar Style.plain (string_chars n.text))) (scanned self.new))) }
+        ensures none { IfOk result (λ o. IfNone o (self.new ≡ self.old)) }
+        ensures err { IfErr result (λ e. Refuses (scanned self.old) e (scanned self.new)) }
+        ensures memory { IfErr result (λ e. e.memory ≡ true) }
+        ensures scans { Scans (scanned self.new) }
+        ensures start { self.new.start ≡ self.old.start }
+    {
+        match self.fetcher.next_key() {
+            Ok(node) => Ok(node),
+            Err(_) => Err(self.fetcher.keep()),
+        }
+    }
+
+    /// Hands out the `Value` and the scalar of a value of a block mapping by one call, where both are next and the value is a
+    /// plain scalar on one line, of characters that are known to come, before a line that is not deeper than the mapping.
+    /// Else it is `None`, and nothing changes.
+    ///
+    /// # Errors
+    ///
+    /// Memory was refused. The fault is kept.
+    pub fn next_value(&mut self) -> Result<Option<PlainNode>, ScanError>
+        ensures value { IfOk result (λ o. IfSome o (λ n. HandsBoth (scanned self.old) (token n.indicator Tok.value) (token n.mark (Tok.scalar Style.plain (string_chars n.text))) (scanned self.new))) }
+        ensures none { IfOk result (λ o. IfNone o (self.new ≡ self.old)) }
+        ensures err { IfErr result (λ e. Refuses (scanned self.old) e (scanned self.new)) }
+        ensures memory { IfErr result (λ e. e.memory ≡ true) }
+        ensures scans { Scans (scanned self.new) }
+        ensures start { self.new.start ≡ self.old.start }
+    {
+        match self.fetcher.next_value() {
+            Ok(node) => Ok(node),
             Err(_) => Err(self.fetcher.keep()),
         }
     }

@@ -1,0 +1,233 @@
+-- What the model's fetches do at a key or a value of a block mapping that is a simple text.
+use Rattle.std.proofs.Common.{◌≡◌, ◌≢◌, ℕ, suc, ◌+◌, ◌<◌, ◌≤◌, List, [], ◌∷◌, ◌++◌, Bool, true, false, ◌||◌, ◌&&◌, not, ◌==◌, Option, Some, None, Ok, refl, ap, sym, ◌∙◌, append_assoc, nat_lt, nat_le, arith, length, map, slice_index, if◌then◌else◌}
+use Rattle.std.specs.List.{list_any, insert}
+use Rattle.std.proofs.lemmas.Bool.{le-ltb, lt-ltb, ne_eqb}
+use Rattle.std.proofs.lemmas.Bool.Decides.{nat_tests}
+use Rattle.defs_text.specs.Position.{Position}
+use Rattle.yaml_chars.specs.Class.{is_break, is_blank, is_blank_or_breakz}
+use Rattle.defs_token.specs.Token.{Tok, Style, Token}
+use Rattle.model_lexers.specs.Machine.{past, past_break}
+use Rattle.model_lexers.specs.Plain.{plain}
+use Rattle.model_scanner.specs.declared.level.Indent.{Indent}
+use Rattle.model_scanner.specs.State.{Key, Held, ScannerState, token, moved}
+use Rattle.model_scanner.specs.Class.{class_of}
+use Rattle.model_scanner.specs.Keys.{is_far, is_overdue, still, drop_stale, stale, cleared, save_implicit_key, must_be_key, top_needs_block_end}
+use Rattle.model_scanner.specs.Indents.{Levels, level, roll_indent, drop_open, drop_open_level, deepen, roll_one_col_indent, in_block, unroll_indent, unrolled, unroll_non_block_indents, without_open}
+use Rattle.model_scanner.specs.Space.{skip, skip_to_next_token}
+use Rattle.model_scanner.specs.Block.{check_value_space, begin_pair, insert_key, fetch_value}
+use Rattle.model_scanner.specs.Document.{fetch_plain_scalar}
+use Rattle.model_scanner.specs.Fetch.{fetch, fetch_next, fetch_here, fetch_content, fetch_first_column, fetch_indented, fetch_token, comes_marker, is_value}
+use Rattle.proof_lexers.specs.HeaderEnds.{along}
+use Rattle.yaml_scanner_state.specs.Tokens.{key_tokens}
+use Rattle.yaml_scanner.specs.Pairs.{IsSimpleText, indented}
+use Rattle.yaml_scanner.proofs.PairTexts.{Opener, Simple, simple_text, outside, along_is, plain_key, plain_value}
+
+-- ---- what a fetch does beside its token
+
+abbrev at : List ℕ → Held → ScannerState
+at a s = record { rest = a; held = s }
+
+-- where nothing stands before the token, no key is too far back and no level ends
+fetched : (t : ScannerState) (a : List ℕ) (s : Held) (u : ScannerState) → t.held.started ≡ true → skip_to_next_token t ≡ Ok (at a s) → stale s ≡ Ok s → unroll_indent (s.position.col + 1) s ≡ s → fetch_here (at a s) ≡ Ok u → stale u.held ≡ Ok u.held
+    → fetch t ≡ Ok u
+unfolding fetch fetch_next
+fetched t a s u started skips fresh stays here after = rw (skips, started, fresh, stays, here, after) refl
+
+none_overdue : (p : Position) (ks : List (Option Key)) → cleared ks ≡ ks → (list_any (is_overdue p) ks ≡ false) × (map (still p) ks ≡ ks)
+none_overdue p [] e = (refl, refl)
+none_overdue p (None ∷ ks) e = let z = none_overdue p ks cc in (z.0, ap (λ ls. None ∷ ls) z.1)
+none_overdue p (Some k ∷ ks) e = absurd cc
+
+none_stale : (s : Held) → s.flow ≡ [] → cleared s.keys ≡ s.keys → stale s ≡ Ok s
+unfolding stale drop_stale
+none_stale s flow e = let z = none_overdue s.position s.keys e in rw (flow, z.0, z.1) refl
+
+near_stay : (p : Position) (k : Key) (ks : List (Option Key)) → is_far k.position p ≡ false → cleared ks ≡ ks → drop_stale p (Some k ∷ ks) ≡ Ok (Some k ∷ ks)
+unfolding drop_stale
+near_stay p k ks near e = let z = none_overdue p ks e in rw (near, z.0, z.1) refl
+
+near_stale : (s : Held) (k : Key) (ks : List (Option Key)) → s.flow ≡ [] → s.keys ≡ Some k ∷ ks → is_far k.position s.position ≡ false → cleared ks ≡ ks → stale s ≡ Ok s
+unfolding stale
+near_stale s k ks flow keys near e = let stay : drop_stale s.position s.keys ≡ Ok s.keys = rw keys (near_stay s.position k ks near e) in rw (flow, stay) refl
+
+unrolled_none : (limit : ℕ) (p : Position) (i : ℕ) (ds : List Indent) (ts : List Token) → i ≤ limit → unrolled limit p i ds ts ≡ record { indent = i; indents = ds; tokens = ts }
+unfolding unrolled
+unrolled_none limit p i [] ts low = refl
+unrolled_none limit p i (d ∷ ds) ts low = rw (le-ltb limit i low) refl
+
+none_end : (s : Held) → s.flow ≡ [] → s.indent ≤ s.position.col + 1 → unroll_indent (s.position.col + 1) s ≡ s
+unfolding unroll_indent
+none_end s flow low = rw (flow, unrolled_none (s.position.col + 1) s.position s.indent s.indents s.tokens low) refl
+
+solid_here : (c : ℕ) (a : List ℕ) (s : Held) → is_break c ≡ false → (c == 9) ≡ false → is_blank c ≡ false → (c == 35) ≡ false → skip_to_next_token (at (c ∷ a) s) ≡ Ok (at (c ∷ a) s)
+unfolding skip_to_next_token skip
+solid_here c a s break tab blank hash = rw (break, tab, blank, hash) refl
+
+after_space : (c : ℕ) (a : List ℕ) (s : Held) → Opener c → skip_to_next_token (at (32 ∷ c ∷ a) s) ≡ Ok (at (c ∷ a) (moved s))
+unfolding skip_to_next_token skip is_break is_blank
+after_space c a s z = solid_here c a (moved s) z.break z.tab z.blank z.hash
+
+indented_plain : (c : ℕ) (a : List ℕ) (s : Held) → Opener c → s.indent ≤ s.position.col + 1 → fetch_indented (at (c ∷ a) s) ≡ fetch_plain_scalar (at (c ∷ a) s)
+unfolding fetch_indented fetch_token
+indented_plain c a s z low = rw (le-ltb (s.position.col + 1) s.indent low, z.class) refl
+
+plain_here : (c : ℕ) (a : List ℕ) (s : Held) → Opener c → s.indent ≤ s.position.col + 1 → fetch_here (at (c ∷ a) s) ≡ fetch_plain_scalar (at (c ∷ a) s)
+unfolding fetch_here fetch_content fetch_first_column comes_marker
+plain_here c a s z low = by (s.position.col == 0) refl
+  where
+    by : (b : Bool) → (s.position.col == 0) ≡ b → fetch_here (at (c ∷ a) s) ≡ fetch_plain_scalar (at (c ∷ a) s)
+    by true e = rw (z.nul, e, z.percent, z.dash, z.point) (indented_plain c a s z low)
+    by false e = rw (z.nul, e) (indented_plain c a s z low)
+
+value_here : (d : ℕ) (a : List ℕ) (s : Held) → is_blank_or_breakz d ≡ true → 1 ≤ s.position.col → s.indent ≤ s.position.col + 1 → fetch_here (at (58 ∷ d ∷ a) s) ≡ fetch_value (at (58 ∷ d ∷ a) s)
+unfolding fetch_here fetch_content fetch_indented fetch_token class_of is_value
+value_here d a s blank off low = rw (ne_eqb s.position.col 0 (λ e. omega (arith, off, e)), le-ltb (s.position.col + 1) s.indent low, blank) refl
+
+-- ---- levels
+
+block_stays : (i : ℕ) (ds : List Indent) (ts : List Token) → top_needs_block_end ds ≡ true → without_open i ds ts ≡ record { indent = i; indents = ds; tokens = ts }
+unfolding without_open
+block_stays i [] ts e = absurd cc
+block_stays i (d ∷ ds) ts e = rw e refl
+
+-- outside flow, inside a block collection that stands at the column
+none_dropped : (col : ℕ) (s : Held) → top_needs_block_end s.indents ≡ true → drop_open_level col s ≡ s
+unfolding drop_open_level
+none_dropped col s block = by (nat_le s.indent (col + 1)) s.indents block
+  where
+    by : (b : Bool) (ds : List Indent) → top_needs_block_end ds ≡ true → (if b then drop_open s ds else s) ≡ s
+    by false ds h = refl
+    by true [] h = absurd cc
+    by true (d ∷ ds) h = rw h refl
+
+none_deeper : (col : ℕ) (n : Option ℕ) (t : Token) (s : Held) → s.indent ≡ col + 1 → deepen col n t s ≡ s
+unfolding deepen
+none_deeper col n t s e = rw (le-ltb s.indent (col + 1) (omega (arith, e))) refl
+
+opens_none : (col n : ℕ) (t : Tok) (p : Position) (s : Held) → s.flow ≡ [] → s.indent ≡ col + 1 → top_needs_block_end s.indents ≡ true → roll_indent col (Some n) t p s ≡ s
+unfolding roll_indent
+opens_none col n t p s flow indent block = rw (none_dropped col s block, none_deeper col (Some n) (token p t) s indent, flow) refl
+
+one_deeper : (s : Held) → s.flow ≡ [] → top_needs_block_end s.indents ≡ true → roll_one_col_indent s ≡ record s { indents = level s.indent false ∷ s.indents; indent = s.indent + 1 }
+unfolding roll_one_col_indent in_block
+one_deeper s flow block = rw (flow, block) refl
+
+-- ---- what stands after a key or a value
+
+follows_blank : (d : ℕ) → ((d == 32) || (d == 10)) ≡ true → (is_blank_or_breakz d ≡ true) × ((d == 9) ≡ false)
+unfolding is_blank is_break
+follows_blank d h = (grind (arith, nat_tests), grind (arith, nat_tests))
+
+follows_visible : (e : ℕ) → (nat_lt 32 e && nat_lt e 127) ≡ true → (is_break e ≡ false) × (is_blank e ≡ false)
+unfolding is_blank is_break
+follows_visible e h = (grind (arith, nat_tests), grind (arith, nat_tests))
+
+-- ---- a key
+
+insert_key_token : (ts : List Token) (k s : Token) → insert (ts ++ s ∷ []) (length ts) k ≡ ts ++ k ∷ s ∷ []
+insert_key_token [] k s = refl
+insert_key_token (t ∷ ts) k s = ap (λ us. t ∷ us) (insert_key_token ts k s)
+
+near_along : (w : List ℕ) (p : Position) → length w ≤ 1024 → is_far p (along w p) ≡ false
+unfolding is_far
+near_along w p h = rw (along_is w p, le-ltb p.line p.line (omega arith), le-ltb (p.index + 1024) (p.index + length w) (omega (arith, h))) refl
+
+-- What is held outside flow in a block mapping, at a position: the tokens, keys and levels, and whether a key may begin and a line begins.
+abbrev pub in_mapping : Position → List Token → List (Option Key) → ℕ → List Indent → Bool → Bool → ℕ → Held
+in_mapping p ts ks i ds allowed leading adjacent = record { position = p; tokens = ts; keys = ks; indents = ds; indent = i; flow = []; key_allowed = allowed; leading = leading; adjacent_value_at = adjacent; started = true; ended = false }
+
+-- two fetches
+pub record FetchesTwice (t u : ScannerState) : Type 0 where
+  pub between : ScannerState
+  pub first : fetch t ≡ Ok between
+  pub going : between.held.ended ≡ false
+  pub second : fetch between ≡ Ok u
+
+module _ (p : Position) (ts : List Token) (ks : List (Option Key)) (ds : List Indent) (leading : Bool) (adjacent : ℕ) (free : cleared ks ≡ ks) (block : top_needs_block_end ds ≡ true) where
+  abbrev i : ℕ
+  i = p.col + 1
+
+  abbrev before : Held
+  before = in_mapping p ts (None ∷ ks) i ds true leading adjacent
+
+  abbrev key_here : Key
+  key_here = record { required = must_be_key before; number = length ts; position = p }
+
+  -- after the scalar
+  abbrev after_scalar : List ℕ → Held
+  after_scalar w = in_mapping (along w p) (ts ++ token p (Tok.scalar Style.plain w) ∷ []) (Some key_here ∷ ks) i ds false false adjacent
+
+  -- after the `:`
+  abbrev pub after_colon : List ℕ → Held
+  after_colon w = in_mapping (past (along w p)) (ts ++ key_tokens p w (along w p)) (None ∷ ks) (i + 1) (level i false ∷ ds) false false adjacent
+
+  key_scalar : (text : List ℕ) (d : ℕ) (a : List ℕ) → Simple text → is_blank_or_breakz d ≡ true → fetch_plain_scalar (at (text ++ 58 ∷ d ∷ a) before) ≡ Ok (at (58 ∷ d ∷ a) (after_scalar text))
+  unfolding fetch_plain_scalar save_implicit_key unroll_non_block_indents
+  key_scalar text d a z blank =
+      let scanned = plain_key i p z.head z.tail d a z.chars z.close (omega arith) blank in
+      rw (z.whole, block_stays i ds ts block, scanned) refl
+
+  key_fetch : (text : List ℕ) (d : ℕ) (a : List ℕ) → Simple text → length text ≤ 1024 → is_blank_or_breakz d ≡ true → fetch (at (text ++ 58 ∷ d ∷ a) before) ≡ Ok (at (58 ∷ d ∷ a) (after_scalar text))
+  key_fetch text d a z short blank =
+      let o = z.opens in
+      let rest : List ℕ = z.tail ++ 58 ∷ d ∷ a in
+      let same : text ++ 58 ∷ d ∷ a ≡ z.head ∷ rest = ap (λ t. t ++ 58 ∷ d ∷ a) z.whole in
+      rw same (fetched (at (z.head ∷ rest) before) (z.head ∷ rest) before (at (58 ∷ d ∷ a) (after_scalar text)) refl (solid_here z.head rest before o.break o.tab o.blank o.hash) (none_stale before refl (ap (λ l. None ∷ l) free)) (none_end before refl (omega arith))
+      (plain_here z.head rest before o (omega arith) ∙ rw same at (key_scalar text d a z blank))
+      (near_stale (after_scalar text) key_here ks refl refl (near_along text p short) free))
+
+  key_value : (text : List ℕ) (d : ℕ) (a : List ℕ) → (d == 9) ≡ false → fetch_value (at (58 ∷ d ∷ a) (after_scalar text)) ≡ Ok (at (d ∷ a) (after_colon text))
+  unfolding fetch_value insert_key begin_pair check_value_space
+  key_value text d a tab =
+      let s = record (after_scalar text) { position = past (along text p); tokens = ts ++ token p Tok.key ∷ token p (Tok.scalar Style.plain text) ∷ [] } in
+      rw (
+        tab,
+        insert_key_token ts (token p Tok.key) (token p (Tok.scalar Style.plain text)),
+        opens_none p.col (length ts) Tok.block_mapping_start (along text p) s refl refl block,
+        one_deeper s refl block,
+        append_assoc ts (token p Tok.key ∷ token p (Tok.scalar Style.plain text) ∷ []) (token (along text p) Tok.value ∷ []),
+      ) refl
+
+  colon_fetch : (text : List ℕ) (d : ℕ) (a : List ℕ) → 0 < length text → length text ≤ 1024 → is_blank_or_breakz d ≡ true → (d == 9) ≡ false → fetch (at (58 ∷ d ∷ a) (after_scalar text)) ≡ Ok (at (d ∷ a) (after_colon text))
+  unfolding is_break is_blank
+  colon_fetch text d a some short blank tab =
+      let s = after_scalar text in
+      let col : (along text p).col ≡ p.col + length text = ap (λ q. q.col) (along_is text p) in
+      fetched (at (58 ∷ d ∷ a) s) (58 ∷ d ∷ a) s (at (d ∷ a) (after_colon text)) refl (solid_here 58 (d ∷ a) s refl refl refl refl) (near_stale s key_here ks refl refl (near_along text p short) free) (none_end s refl (omega (arith, col)))
+      (value_here d a s blank (omega (arith, col, some)) (omega (arith, col)) ∙ key_value text d a tab)
+      (none_stale (after_colon text) refl (ap (λ l. None ∷ l) free))
+
+  -- a key and its `:`
+  pub key_fetched : (text : List ℕ) (b : List ℕ) → IsSimpleText text → length text ≤ 1024 → ((slice_index b 0 == 32) || (slice_index b 0 == 10)) ≡ true → FetchesTwice (at (text ++ 58 ∷ b) before) (at b (after_colon text))
+  key_fetched text [] simple short next = absurd cc
+  key_fetched text (d ∷ a) simple short next =
+      let blank = follows_blank d next in
+      record { between = at (58 ∷ d ∷ a) (after_scalar text); first = key_fetch text d a (simple_text text simple) short blank.0; going = refl; second = colon_fetch text d a simple.some short blank.0 blank.1 }
+
+-- ---- a value
+
+module _ (p : Position) (ts : List Token) (ks : List (Option Key)) (m i : ℕ) (ds : List Indent) (leading : Bool) (adjacent : ℕ) (free : cleared ks ≡ ks) (block : top_needs_block_end ds ≡ true) (deep : m ≤ p.col + 2) (limit : i ≤ p.col + 2) where
+  abbrev pub after_value : List ℕ → ℕ → Held
+  after_value w n = in_mapping (record { index = p.index + length w + 2 + n; line = p.line + 1; col = n }) (ts ++ token (past p) (Tok.scalar Style.plain w) ∷ []) ks i ds true true adjacent
+
+  abbrev waits : Held
+  waits = in_mapping p ts ks m (level i false ∷ ds) false leading adjacent
+
+  value_scalar : (text : List ℕ) (n e : ℕ) (a : List ℕ) → Simple text → is_break e ≡ false → is_blank e ≡ false → nat_lt n i ≡ true → fetch_plain_scalar (at (text ++ 10 ∷ indented n (e ∷ a)) (moved waits)) ≡ Ok (at (e ∷ a) (after_value text n))
+  unfolding fetch_plain_scalar save_implicit_key unroll_non_block_indents without_open
+  value_scalar text n e a z solid visible low =
+      let scanned = plain_value i (past p) z.head z.tail n e a z.chars z.close (omega (arith, limit)) solid visible low in
+      let place : p.index + 1 + length (z.head ∷ z.tail) + 1 + n ≡ p.index + length (z.head ∷ z.tail) + 2 + n = omega arith in
+      rw (z.whole, block_stays i ds ts block, scanned, place) refl
+
+  pub value_fetched : (text : List ℕ) (n : ℕ) (b : List ℕ) → IsSimpleText text → (nat_lt 32 (slice_index b 0) && nat_lt (slice_index b 0) 127) ≡ true → n < i → fetch (at (32 ∷ (text ++ 10 ∷ indented n b)) waits) ≡ Ok (at b (after_value text n))
+  value_fetched text n [] simple visible low = absurd cc
+  value_fetched text n (e ∷ a) simple visible low =
+      let z = simple_text text simple in
+      let o = z.opens in
+      let stands = follows_visible e visible in
+      let rest : List ℕ = z.tail ++ 10 ∷ indented n (e ∷ a) in
+      let same : text ++ 10 ∷ indented n (e ∷ a) ≡ z.head ∷ rest = ap (λ t. t ++ 10 ∷ indented n (e ∷ a)) z.whole in
+      rw same (fetched (at (32 ∷ z.head ∷ rest) waits) (z.head ∷ rest) (moved waits) (at (e ∷ a) (after_value text n)) refl (after_space z.head rest waits o) (none_stale (moved waits) refl free) (none_end (moved waits) refl (omega (arith, deep)))
+      (plain_here z.head rest (moved waits) o (omega (arith, deep)) ∙ rw same at (value_scalar text n e a z stands.0 stands.1 (lt-ltb n i low)))
+      (none_stale (after_value text n) refl free))

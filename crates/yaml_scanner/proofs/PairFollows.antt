@@ -1,0 +1,280 @@
+-- Two tokens that are handed out at once, against the model's runs.
+use Rattle.std.proofs.Common.{◌≡◌, ℕ, suc, ◌+◌, ◌-◌, ◌<◌, ◌≤◌, List, [], ◌∷◌, ◌++◌, Bool, true, false, ◌||◌, refl, ap, sym, ◌∙◌, arith, Option, Some, None, length, length-append, map, take, drop, option_map, subst, append_assoc, Result, Ok}
+use Rattle.defs_text.specs.Position.{Position}
+use Rattle.yaml_chars.specs.Reading.{Reading, Reads, position_of}
+use Rattle.defs_token.specs.Token.{Tok, Style, Token}
+use Rattle.yaml_tokens.specs.declared.problem.Fault.{Fault}
+use Rattle.yaml_tokens.specs.declared.problem.Fault.TheVariants.{OutOfMemory}
+use Rattle.model_lexers.specs.Machine.{past}
+use Rattle.model_scanner.specs.declared.level.Indent.{Indent}
+use Rattle.model_scanner.specs.State.{Key, Held, token}
+use Rattle.model_scanner.specs.Keys.{cleared, top_needs_block_end}
+use Rattle.model_scanner.specs.Indents.{level}
+use Rattle.model_scanner.specs.Fetch.{fetch}
+use Rattle.model_scanner.specs.Run.{Reaches, start}
+use Rattle.model_scanner.proofs.Runs.{one_more}
+use Rattle.proof_lexers.specs.HeaderEnds.{along}
+use Rattle.yaml_scanner.specs.declared.fetcher.Fetcher.{Fetcher}
+use Rattle.yaml_scanner.specs.declared.fetcher.KeptFault.{KeptFault}
+use Rattle.yaml_scanner_state.specs.declared.keys.ImplicitKey.{ImplicitKey}
+use Rattle.yaml_scanner_state.specs.ImplicitKeys.{key_of, seen, no_implicit}
+use Rattle.yaml_scanner_state.specs.Levels.{Columns, lone_open}
+use Rattle.yaml_scanner_state.specs.Tokens.{Tokens, handed, is_end, key_tokens}
+use Rattle.yaml_scanner_state.proofs.KeyLemmas.{none_front, none_lowered}
+use Rattle.yaml_scanner.specs.Awaits.{IsSettled, AwaitsKey, AwaitsValue}
+use Rattle.yaml_scanner.specs.Follows.{Follows}
+use Rattle.yaml_scanner.specs.Pairs.{TakesKey, TakesValue}
+use Rattle.yaml_scanner.specs.Scanned.{Scanned, inside, kept_fault, HandsOut, HandsBoth}
+use Rattle.yaml_scanner.specs.Shape.{held, state, Does}
+use Rattle.yaml_scanner.specs.Work.{Fetches, work, unset}
+use Rattle.yaml_scanner.proofs.DoesLemmas.{Reads-map}
+use Rattle.yaml_scanner.proofs.FollowLemmas.{fetched_on, handed_on}
+use Rattle.yaml_scanner.proofs.PairTexts.{same_place, along_is}
+use Rattle.yaml_scanner.proofs.PairFetches.{in_mapping, FetchesTwice, key_fetched, value_fetched, after_colon, after_value}
+
+-- two fetches more
+fetched_twice : {T : Type 0} (x y : Fetcher T) → x.kept ≡ None → x.tokens.ended ≡ false → Follows x → Reads x.window y.window (λ a b. FetchesTwice (state a x) (state b y)) → Fetches x y → y.tokens.ended ≡ false → Follows y
+fetched_twice x y k g f d m n = λ a p.
+    let old = f a (d.back a p) in
+    let z = d.reads a p in
+    let run : Reaches (start a) (state (drop y.window.at a) y) = one_more (one_more (old.run k g) g z.first) z.going z.second in
+    record {
+      run = λ _ _. run;
+      all = λ _ e. absurd cc;
+      done = λ _ e. absurd cc;
+      reached = rw m.given old.reached;
+      begins = λ ts h. rw m.given (old.begins ts h);
+      whole = λ o. rw m.given (old.whole (sym m.over ∙ o));
+      refused = rw (m.fault, k) tt;
+      open_end = λ o. rw m.given (old.open_end (sym m.over ∙ o));
+    }
+
+-- Memory was refused after characters were read: the fault is kept, whatever was read.
+pub memory_refused : {T : Type 0} {P : List ℕ → List ℕ → Type 0} (x y : Fetcher T) (k : KeptFault) → k.fault ≡ OutOfMemory → x.kept ≡ None → Follows x → Reads x.window y.window P → Fetches x y → Follows (record y { kept = Some k })
+memory_refused x y k i n f d m = λ a p.
+    let old = f a (d.back a p) in
+    record {
+      run = λ c _. absurd cc;
+      all = λ c _. absurd cc;
+      done = λ c _. absurd cc;
+      reached = rw m.given old.reached;
+      begins = λ ts h. rw m.given (old.begins ts h);
+      whole = λ o. rw m.given (old.whole (sym m.over ∙ o));
+      refused = λ q. absurd (q i);
+      open_end = λ o. rw m.given (old.open_end (sym m.over ∙ o));
+    }
+
+-- ---- tokens
+
+taken_all : (xs ys : List Token) (n : ℕ) → n ≡ length xs → take n (xs ++ ys) ≡ xs
+taken_all xs ys n e = rw e (by xs ys)
+  where
+    by : (xs ys : List Token) → take (length xs) (xs ++ ys) ≡ xs
+    by [] ys = refl
+    by (x ∷ xs) ys = ap (λ zs. x ∷ zs) (by xs ys)
+
+one_after : (xs ys : List Token) (t : Token) (n : ℕ) → n ≡ length xs → take (n + 1) (xs ++ t ∷ ys) ≡ xs ++ t ∷ []
+one_after xs ys t n e = ap (take (n + 1)) (sym (append_assoc xs (t ∷ []) ys)) ∙ taken_all (xs ++ t ∷ []) ys (n + 1) (rw e (sym (length-append xs (t ∷ []))))
+
+or_false : (b : Bool) → b ≡ (b || false)
+or_false true = refl
+or_false false = refl
+
+-- a token is handed out that is not the end, where nothing may be a key
+one_handed : {T : Type 0} (x : Fetcher T) (gs us : List Token) (t : Token) → x.kept ≡ None → x.tokens.over ≡ false → map no_implicit x.keys ≡ x.keys → x.tokens.all ≡ gs ++ t ∷ us → x.tokens.given ≡ length gs → is_end t.tok ≡ false → Follows x
+    → Follows (record x { tokens = record x.tokens { given = x.tokens.given + 1 } })
+one_handed x gs us t k o free all given end f =
+    let q : Tokens = record x.tokens { given = x.tokens.given + 1 } in
+    let made : q ≡ record x.tokens { given = x.tokens.given + 1; over = x.tokens.over || is_end t.tok } = ap (λ b. record x.tokens { given = x.tokens.given + 1; over = b }) (rw end (or_false x.tokens.over)) in
+    let before : handed x.tokens ≡ gs = rw all (taken_all gs (t ∷ us) x.tokens.given given) in
+    let after : handed q ≡ handed x.tokens ++ t ∷ [] = rw (before, all) (one_after gs us t x.tokens.given given) in
+    handed_on x q x.keys t k o (λ _. none_front x.keys free) made after (sym (none_lowered x.keys free)) f
+
+both_handed : {T : Type 0} (x : Fetcher T) (gs us : List Token) (t u : Token) → x.kept ≡ None → x.tokens.over ≡ false → map no_implicit x.keys ≡ x.keys → x.tokens.all ≡ gs ++ t ∷ u ∷ us → x.tokens.given ≡ length gs → is_end t.tok ≡ false → is_end u.tok ≡ false → Follows x
+    → Follows (record x { tokens = record x.tokens { given = x.tokens.given + 2 } })
+both_handed x gs us t u k o free all given te ue f =
+    let y = record x { tokens = record x.tokens { given = x.tokens.given + 1 } } in
+    let one : Follows y = one_handed x gs (u ∷ us) t k o free all given te f in
+    let count : x.tokens.given + 1 ≡ length (gs ++ t ∷ []) = rw given (sym (length-append gs (t ∷ []))) in
+    let two : Follows (record x { tokens = record x.tokens { given = x.tokens.given + 1 + 1 } }) = one_handed y (gs ++ t ∷ []) us u k o free (all ∙ sym (append_assoc gs (t ∷ []) (u ∷ us))) count ue one in
+    let sum : x.tokens.given + 1 + 1 ≡ x.tokens.given + 2 = omega arith in
+    subst (λ n. Follows (record x { tokens = record x.tokens { given = n } })) sum two
+
+two_after : (gs us : List Token) (t u : Token) (n : ℕ) → n ≡ length gs → take (n + 2) (gs ++ t ∷ u ∷ us) ≡ (gs ++ t ∷ []) ++ u ∷ []
+two_after gs us t u n e =
+    let count : n + 1 ≡ length (gs ++ t ∷ []) = rw e (sym (length-append gs (t ∷ []))) in
+    let sum : n + 2 ≡ n + 1 + 1 = omega arith in
+    ap (λ m. take m (gs ++ t ∷ u ∷ us)) sum ∙ ap (take (n + 1 + 1)) (sym (append_assoc gs (t ∷ []) (u ∷ us))) ∙ one_after (gs ++ t ∷ []) us u (n + 1) count
+
+-- two tokens more, as callers see it
+hands_both : {T : Type 0} (x y : Fetcher T) (gs us : List Token) (t u : Token) → x.kept ≡ None → x.tokens.over ≡ false → y.kept ≡ x.kept → y.tokens.over ≡ x.tokens.over → handed x.tokens ≡ gs → y.tokens.all ≡ gs ++ t ∷ u ∷ us → y.tokens.given ≡ length gs + 2
+    → is_end t.tok ≡ false → is_end u.tok ≡ false → work y + 1 < work x → HandsBoth (inside x) t u (inside y)
+hands_both x y gs us t u k o kept over given all count te ue less =
+    let fault : option_map kept_fault x.kept ≡ None = ap (option_map kept_fault) k in
+    let middle : Scanned = record (inside x) { given = handed x.tokens ++ t ∷ []; left = work y + 1 } in
+    record {
+      between = middle;
+      first = record { going = (o, fault); given = refl; fault = fault; ended = o ∙ sym te; left = less };
+      second = record {
+        going = (o, fault);
+        given = rw (all, count, given) (two_after gs us t u (length gs) refl);
+        fault = ap (option_map kept_fault) (kept ∙ k);
+        ended = over ∙ o ∙ sym ue;
+        left = omega arith;
+      };
+    }
+
+-- ---- what is held
+
+keys_split : (ks : List (Option ImplicitKey)) → map no_implicit ks ≡ ks → 0 < length ks → (js : List (Option ImplicitKey)) × (ks ≡ None ∷ js) × (map no_implicit js ≡ js)
+keys_split [] e h = absurd (omega (arith, h))
+keys_split (None ∷ js) e h = (js, refl, cc)
+keys_split (Some k ∷ js) e h = absurd cc
+
+seen_free : (g : ℕ) (js : List (Option ImplicitKey)) → map no_implicit js ≡ js → cleared (seen g js) ≡ seen g js
+seen_free g [] e = refl
+seen_free g (None ∷ js) e = ap (λ ks. None ∷ ks) (seen_free g js cc)
+seen_free g (Some k ∷ js) e = absurd cc
+
+-- ---- a key
+
+module _ {T : Type 0} (x : Fetcher T) (w : Reading T) (key : List ℕ) (colon : Position) (z : AwaitsKey x) (t : TakesKey x.window w key) (at : colon ≡ record { index = w.at - 1; line = w.line; col = w.col - 1 }) where
+  abbrev p : Position
+  p = position_of x.window
+
+  -- after the fetches, and once both were handed out
+  abbrev key_fetcher : ℕ → Fetcher T
+  key_fetcher n = record x {
+    window = w;
+    tokens = record x.tokens { all = x.tokens.all ++ key_tokens p key colon; given = n };
+    levels = record { indent = x.levels.indent + 1; indents = level x.levels.indent false ∷ x.levels.indents };
+    key_allowed = false;
+    leading = false;
+  }
+
+  colon_is : colon ≡ along key p
+  colon_is =
+      let index = t.at in
+      let line = t.line in
+      let col = t.col in
+      at ∙ same_place (omega (arith, index)) line (omega (arith, col)) ∙ sym (along_is key p)
+
+  after_is : position_of w ≡ past (along key p)
+  after_is = same_place t.at t.line t.col ∙ sym (ap past (along_is key p))
+
+  all_of : (xs : List Token) → take (length xs) xs ≡ xs
+  all_of [] = refl
+  all_of (x ∷ xs) = ap (λ ys. x ∷ ys) (all_of xs)
+
+  key_fetches : Follows x → Follows (key_fetcher x.tokens.given)
+  key_fetches f =
+      let s = z.settled in
+      let split = keys_split x.keys s.free s.level in
+      let ks = seen x.tokens.given split.0 in
+      let free = seen_free x.tokens.given split.0 split.2 in
+      let keys : seen x.tokens.given x.keys ≡ None ∷ ks = ap (seen x.tokens.given) split.1 in
+      let y = key_fetcher x.tokens.given in
+      let old : held x ≡ in_mapping p x.tokens.all (None ∷ ks) (p.col + 1) x.levels.indents true x.leading x.adjacent_value_at = rw (s.flow, s.started, s.ended, z.allowed, z.indent, keys) refl in
+      let new : held y ≡ after_colon p x.tokens.all ks x.levels.indents x.leading x.adjacent_value_at free z.block key = rw (s.flow, s.started, s.ended, z.indent, keys, colon_is, after_is) refl in
+      fetched_twice x y s.kept s.ended f
+      (Reads-map _ _ t.reads (λ a b r. subst (λ h. FetchesTwice (record { rest = a; held = h }) (state b y)) (sym old) (subst (λ h. FetchesTwice (record { rest = a; held = in_mapping p x.tokens.all (None ∷ ks) (p.col + 1) x.levels.indents true x.leading x.adjacent_value_at }) (record { rest = b; held = h })) (sym new)
+      (rw r.0 (key_fetched p x.tokens.all ks x.levels.indents x.leading x.adjacent_value_at free z.block key b t.simple t.short r.1)))))
+      (record { given = rw z.waits (taken_all x.tokens.all (key_tokens p key colon) (length x.tokens.all) refl ∙ sym (all_of x.tokens.all)); over = refl; fault = refl })
+      s.ended
+
+  pub key_follows : Follows x → Follows (key_fetcher (x.tokens.given + 2))
+  key_follows f =
+      let s = z.settled in
+      both_handed (key_fetcher x.tokens.given) x.tokens.all (token colon Tok.value ∷ []) (token p Tok.key) (token p (Tok.scalar Style.plain key)) s.kept s.over s.free refl z.waits refl refl (key_fetches f)
+
+  pub key_handed : HandsBoth (inside x) (token p Tok.key) (token p (Tok.scalar Style.plain key)) (inside (key_fetcher (x.tokens.given + 2)))
+  key_handed =
+      let s = z.settled in
+      let more : length (x.tokens.all ++ key_tokens p key colon) ≡ length x.tokens.all + 3 = length-append x.tokens.all (key_tokens p key colon) in
+      let waits = z.waits in
+      let left = t.reads.left in
+      let moved = t.at in
+      let some = t.simple.some in
+      hands_both x (key_fetcher (x.tokens.given + 2)) x.tokens.all (token colon Tok.value ∷ []) (token p Tok.key) (token p (Tok.scalar Style.plain key)) s.kept s.over refl refl (rw waits (all_of x.tokens.all)) refl (rw waits refl) refl refl
+      (omega (arith, more, waits, left, moved, some))
+
+-- ---- a value
+
+levels_split : (ds : List Indent) (limit : ℕ) (l : Columns) → lone_open ds ≡ Some limit → ds ≡ level l.indent false ∷ l.indents → (l.indent ≡ limit) × (top_needs_block_end l.indents ≡ true)
+levels_split [] limit l e f = absurd cc
+levels_split (d ∷ []) limit l e f = absurd cc
+levels_split (d ∷ g ∷ ds) limit l e f = by d g ds l d.needs_block_end g.needs_block_end refl refl e f
+  where
+    by : (d g : Indent) (ds : List Indent) (l : Columns) (b c : Bool) → d.needs_block_end ≡ b → g.needs_block_end ≡ c → lone_open (d ∷ g ∷ ds) ≡ Some limit → d ∷ g ∷ ds ≡ level l.indent false ∷ l.indents → (l.indent ≡ limit) × (top_needs_block_end l.indents ≡ true)
+    by d g ds l true c h k e f = let n = rw h at e in absurd cc
+    by d g ds l false false h k e f = let n = rw (h, k) at e in absurd cc
+    by d g ds l false true h k e f =
+        let one : Some d.indent ≡ Some limit = rw (h, k) at e in
+        let top : d ≡ level l.indent false = cc in
+        let rest : g ∷ ds ≡ l.indents = cc in
+        (ap (λ i. i.indent) (sym top) ∙ cc, ap top_needs_block_end (sym rest) ∙ k)
+
+module _ {T : Type 0} (x : Fetcher T) (w : Reading T) (value : List ℕ) (at : Position) (limit : ℕ) (mark : Position) (l : Columns) (z : AwaitsValue x at limit) (t : TakesValue limit x.window w value) (is : mark ≡ past (position_of x.window)) (popped : x.levels.indents ≡ level l.indent false ∷ l.indents) where
+  abbrev q : Position
+  q = position_of x.window
+
+  abbrev scalar : Token
+  scalar = token mark (Tok.scalar Style.plain value)
+
+  -- after the fetch, and once both were handed out
+  abbrev value_fetcher : ℕ → Fetcher T
+  value_fetcher n = record x {
+    window = w;
+    tokens = record x.tokens { all = x.tokens.all ++ scalar ∷ []; given = n };
+    levels = l;
+    key_allowed = true;
+    leading = true;
+  }
+
+  value_after : position_of w ≡ record { index = q.index + length value + 2 + t.spaces; line = q.line + 1; col = t.spaces }
+  value_after = same_place t.at t.line t.col
+
+  gone : x.tokens.given ≡ length (handed x.tokens)
+  gone =
+      let sum = length-append (handed x.tokens) (token at Tok.value ∷ []) in
+      let all = ap length z.waits in
+      let count = z.count in
+      omega (arith, sum, all, count)
+
+  tokens_are : x.tokens.all ++ scalar ∷ [] ≡ handed x.tokens ++ token at Tok.value ∷ scalar ∷ []
+  tokens_are = ap (λ ts. ts ++ scalar ∷ []) z.waits ∙ append_assoc (handed x.tokens) (token at Tok.value ∷ []) (scalar ∷ [])
+
+  value_fetches : Follows x → Follows (value_fetcher x.tokens.given)
+  value_fetches f =
+      let s = z.settled in
+      let ks = seen x.tokens.given x.keys in
+      let free = seen_free x.tokens.given x.keys s.free in
+      let split = levels_split x.levels.indents limit l z.opened popped in
+      let y = value_fetcher x.tokens.given in
+      let indents : x.levels.indents ≡ level limit false ∷ l.indents = popped ∙ ap (λ i. level i false ∷ l.indents) split.0 in
+      let before = in_mapping q x.tokens.all ks x.levels.indent (level limit false ∷ l.indents) false x.leading x.adjacent_value_at in
+      let after = after_value q x.tokens.all ks x.levels.indent limit l.indents x.leading x.adjacent_value_at free split.1 z.deep z.off value t.spaces in
+      let old : held x ≡ before = rw (s.flow, s.started, s.ended, z.allowed, indents) refl in
+      let new : held y ≡ after = rw (s.flow, s.started, s.ended, is, value_after, split.0) refl in
+      let same : handed y.tokens ≡ handed x.tokens = ap (take x.tokens.given) tokens_are ∙ taken_all (handed x.tokens) (token at Tok.value ∷ scalar ∷ []) x.tokens.given gone in
+      fetched_on x y s.kept s.ended f
+      (record { runs = Reads-map _ _ t.reads (λ a b r. subst (λ h. fetch (record { rest = a; held = h }) ≡ Ok (state b y)) (sym old) (subst (λ h. fetch (record { rest = a; held = before }) ≡ Ok (record { rest = b; held = h })) (sym new)
+      (rw r.0 (value_fetched q x.tokens.all ks x.levels.indent limit l.indents x.leading x.adjacent_value_at free split.1 z.deep z.off value t.spaces b t.simple r.1 t.low)))) })
+      (record { given = same; over = refl; fault = refl })
+      (λ e. absurd (cc (e, s.ended)))
+
+  pub value_follows : Follows x → Follows (value_fetcher (x.tokens.given + 2))
+  value_follows f =
+      let s = z.settled in
+      both_handed (value_fetcher x.tokens.given) (handed x.tokens) [] (token at Tok.value) scalar s.kept s.over s.free tokens_are gone refl refl (value_fetches f)
+
+  pub value_handed : HandsBoth (inside x) (token at Tok.value) scalar (inside (value_fetcher (x.tokens.given + 2)))
+  value_handed =
+      let s = z.settled in
+      let more : length (x.tokens.all ++ scalar ∷ []) ≡ length x.tokens.all + 1 = length-append x.tokens.all (scalar ∷ []) in
+      let shorter : length x.levels.indents ≡ suc (length l.indents) = ap length popped in
+      let count = z.count in
+      let left = t.reads.left in
+      let moved = t.at in
+      hands_both x (value_fetcher (x.tokens.given + 2)) (handed x.tokens) [] (token at Tok.value) scalar s.kept s.over refl refl refl tokens_are (ap (λ n. n + 2) gone) refl refl
+      (omega (arith, more, shorter, count, left, moved))
