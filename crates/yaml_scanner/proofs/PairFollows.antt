@@ -3,7 +3,7 @@ use Rattle.std.proofs.Common.{◌≡◌, ℕ, suc, ◌+◌, ◌-◌, ◌<◌, �
 use Rattle.defs_text.specs.Position.{Position}
 use Rattle.yaml_chars.specs.Reading.{Reading, Reads, position_of}
 use Rattle.defs_token.specs.Token.{Tok, Style, Token}
-use Rattle.yaml_tokens.specs.declared.problem.Fault.{Fault}
+use Rattle.yaml_tokens.specs.ErrorReport.{ErrorReport}
 use Rattle.yaml_tokens.specs.declared.problem.Fault.TheVariants.{OutOfMemory}
 use Rattle.model_lexers.specs.Machine.{past}
 use Rattle.model_scanner.specs.declared.level.Indent.{Indent}
@@ -49,20 +49,9 @@ fetched_twice x y k g f d m n = λ a p.
       open_end = λ o. rw m.given (old.open_end (sym m.over ∙ o));
     }
 
--- Memory was refused after characters were read: the fault is kept, whatever was read.
-pub memory_refused : {T : Type 0} {P : List ℕ → List ℕ → Type 0} (x y : Fetcher T) (k : KeptFault) → k.fault ≡ OutOfMemory → x.kept ≡ None → Follows x → Reads x.window y.window P → Fetches x y → Follows (record y { kept = Some k })
-memory_refused x y k i n f d m = λ a p.
-    let old = f a (d.back a p) in
-    record {
-      run = λ c _. absurd cc;
-      all = λ c _. absurd cc;
-      done = λ c _. absurd cc;
-      reached = rw m.given old.reached;
-      begins = λ ts h. rw m.given (old.begins ts h);
-      whole = λ o. rw m.given (old.whole (sym m.over ∙ o));
-      refused = λ q. absurd (q i);
-      open_end = λ o. rw m.given (old.open_end (sym m.over ∙ o));
-    }
+-- memory was refused, as callers see it
+pub memory_kept : (k : KeptFault) (r : ErrorReport) → r ≡ kept_fault k → k.fault ≡ OutOfMemory → r.memory ≡ true
+memory_kept k r e f = rw (e, f) refl
 
 -- ---- tokens
 

@@ -11,7 +11,7 @@ ghost use Rattle.yaml_scanner.specs.Work.{Fetches, work};
 
 use crate::fetcher::{Failed, Fetcher, KeptFault};
 use yaml_chars::Characters;
-use yaml_tokens::{ScanError, Token};
+use yaml_tokens::{Fault, ScanError, Token};
 
 impl KeptFault {
     /// The fault as callers see it.
@@ -24,10 +24,12 @@ impl KeptFault {
 
 impl<T: Characters> Fetcher<T> {
     /// Keeps the fault that was met.
+    #[tactic(auto, using(crate::proofs::PairFollows::memory_kept))]
     pub(crate) fn keep(&mut self) -> ScanError
         requires follows { (mark : Position) → Follows (record self.old { kept = Some (record { fault = self.old.fault; mark = mark }) }) }
         ensures kept { (inside self.new).fault ≡ Some result }
         ensures same { inside self.new ≡ record (inside self.old) { fault = Some result } }
+        ensures memory { self.old.fault ≡ Fault.OutOfMemory → result.memory ≡ true }
         ensures follows { Follows self.new }
         ensures window { self.new.window ≡ self.old.window }
     {
