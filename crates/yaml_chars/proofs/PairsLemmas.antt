@@ -7,6 +7,7 @@ use Rattle.std.proofs.lemmas.Bool.{cases_lt}
 use Rattle.std.proofs.lemmas.List.{same_lists, drop_more, take-append-drop, length-take-le, get_or-take, get_or-drop, get_or_append_left, get_or-append-add, drop-append-le}
 use Rattle.std.proofs.lemmas.Grind.{get_or_default_zero}
 use Rattle.std.proofs.lemmas.Str.{IsCharBoundary-after_ascii, IsCharBoundary-start, chars-IsAscii}
+use Rattle.yaml_chars.specs.Class.{is_alphanumeric}
 use Rattle.yaml_chars.specs.Reading.{Reading, Possible, Reads, Fills, HasNoNul}
 use Rattle.yaml_chars.specs.Run.{bare}
 use Rattle.yaml_chars.specs.Source.{Pulled}
@@ -63,6 +64,15 @@ simple_further bs at n so room few go = record {
   ];
 }
 
+-- what a text may begin with is simple
+pub opens_is_simple : (c : ℕ) → opens_simple c ≡ true → is_simple c ≡ true
+unfolding is_simple opens_simple is_alphanumeric
+opens_is_simple c h = grind (arith, nat_tests)
+
+pub space_is_simple : (c : ℕ) → c ≡ 32 → is_simple c ≡ true
+unfolding is_simple
+space_is_simple c e = grind (arith, nat_tests)
+
 -- ---- what is held, and the bytes after it
 
 pub held_at : (held more : List ℕ) (k : ℕ) → k < length held → slice_index (held ++ more) k ≡ slice_index held k
@@ -105,6 +115,19 @@ text_ends held bs from n simple so begun some first last =
         last = λ k h. subst (λ c. c ≢ 32) (sym (get_or-drop from whole k 0)) (last (from + k) (omega (arith, h, long, rest, some)));
       };
     }
+
+-- where the first character of a text is simple, as well as what is held before and after it, all that is held is
+pub held_simple : (held bs : List ℕ) (from n : ℕ) → ((k : ℕ) → k < from → is_simple (slice_index held k) ≡ true) → opens_simple (slice_index (held ++ take n bs) from) ≡ true
+    → ((k : ℕ) → from + 1 ≤ k → k < length held → is_simple (slice_index held k) ≡ true) → (k : ℕ) → k < length held → is_simple (slice_index held k) ≡ true
+held_simple held bs from n before first after k h = elim (cases_lt k from) [
+  | inl earlier ↦ before k earlier
+  | inr later ↦ elim (cases_lt from k) [
+    | inl beyond ↦ after k (omega (arith, beyond)) h
+    | inr here ↦
+        let same : from ≡ k = omega (arith, later, here) in
+        opens_is_simple _ (subst (λ c. opens_simple c ≡ true) (held_at held (take n bs) k h) (subst (λ i. opens_simple (slice_index (held ++ take n bs) i) ≡ true) same first))
+  ]
+]
 
 -- ---- the bytes of a part
 
@@ -254,10 +277,9 @@ module _ {T : Type 0} (part : Part) (held : List ℕ) (s new : Pulled T) (n spac
         let both = old w (begins w p.begins) in
         let ring = held_front held s.taken at here fills.window in
         let rest : length s.taken + length (take size given.known) ≡ to = omega (arith, before_length, length-append s.taken (take size given.known), here, end) in
-        let there : length before ≡ to = omega (arith, before_length, here, end) in
-        (
+        let there : length before ≡ to = omega (arith, before_length, here, end) in (
           drop_front s.taken w at (omega (arith, here)) both.0 ∙ ap (λ x. x ++ drop (length s.taken) w) (sym ring)
-          ∙ ap (λ x. held ++ x) (both.1 ∙ ap (λ m. take size given.known ++ drop m w) rest),
+              ∙ ap (λ x. held ++ x) (both.1 ∙ ap (λ m. take size given.known ++ drop m w) rest),
           first_again _ _ c (ap (λ m. drop m w) (sym there) ∙ begins-front before c w (begins w p.begins)),
         );
   }
@@ -316,10 +338,9 @@ module _ {T : Type 0} (held : List ℕ) (s new : Pulled T) (n spaces c : ℕ) (t
           left = r.left;
           back = r.back;
           reads = λ w p.
-              let e = r.reads w p in
-              (
+              let e = r.reads w p in (
                 e.0 ∙ ap (λ x. held ++ (x ++ drop (at + (length held + n + 1)) w)) front ∙ ap (λ x. held ++ x) (append_assoc (take n given.known) (58 ∷ []) _)
-                ∙ sym (append_assoc held (take n given.known) _) ∙ ap (λ x. x ++ 58 ∷ drop (at + (length held + n + 1)) w) (sym given.joined),
+                    ∙ sym (append_assoc held (take n given.known) _) ∙ ap (λ x. x ++ 58 ∷ drop (at + (length held + n + 1)) w) (sym given.joined),
                 subst (λ x. ((x == 32) || (x == 10)) ≡ true) (sym (e.1 ∙ next)) ends.next,
               );
         };
@@ -371,8 +392,7 @@ module _ {T : Type 0} (limit : ℕ) (held : List ℕ) (s new : Pulled T) (n spac
           left = r.left;
           back = r.back;
           reads = λ w p.
-              let e = r.reads w p in
-              (
+              let e = r.reads w p in (
                 e.0 ∙ ap (λ x. held ++ x) (front (drop to w)) ∙ sym (append_assoc held (take n given.known) _) ∙ ap (λ x. x ++ 10 ∷ indented spaces (drop to w)) opened,
                 subst (λ x. (nat_lt 32 x && nat_lt x 127) ≡ true) (sym (e.1 ∙ given.next)) ends.next,
               );

@@ -69,12 +69,12 @@ fn opens_simple(c: char) -> bool
     is_alphanumeric(c) || matches!(c, '_' | '/' | '$' | '(' | '~')
 }
 
-/// Whether all characters that are held are simple.
+/// Whether the characters that are held from a place on are simple.
 #[inline(always)]
-fn are_simple(held: &Ring) -> bool
-    ensures { result ≡ true → (k : ℕ) → k < length held.now → is_simple (slice_index held.now k) ≡ true }
+fn are_simple(held: &Ring, start: usize) -> bool
+    ensures { result ≡ true → (k : ℕ) → start ≤ k → k < length held.now → is_simple (slice_index held.now k) ≡ true }
 {
-    'held: for i in 0..held.len() {
+    'held: for i in start..held.len() {
         if !is_simple(held.get(i)) {
             return false;
         }
@@ -82,9 +82,22 @@ fn are_simple(held: &Ring) -> bool
     true
 }
 
-/// How many simple bytes come first, as far as sixteen can be looked at together.
+/// How many simple bytes come first, where so many are known to be simple.
+#[inline(never)]
+fn simple_tail(bytes: &[u8], start: usize) -> usize
+    requires { AreSimpleUpTo bytes.now start }
+    ensures { AreSimpleUpTo bytes.now result }
+{
+    let mut at = start;
+    'bytes: while at < bytes.len() && is_simple(char::from(bytes[at])) {
+        at += 1;
+    }
+    at
+}
+
+/// How many simple bytes come first. Sixteen are looked at together, but for the last ones of a text.
 #[inline(always)]
-fn simple_blocks(bytes: &[u8]) -> usize
+fn simple_end(bytes: &[u8]) -> usize
     ensures { AreSimpleUpTo bytes.now result }
 {
     let mut at = 0;
@@ -95,33 +108,20 @@ fn simple_blocks(bytes: &[u8]) -> usize
             return at;
         }
     }
-    at
-}
-
-/// How many simple bytes come first.
-#[inline(always)]
-fn simple_end(bytes: &[u8]) -> usize
-    ensures { AreSimpleUpTo bytes.now result }
-{
-    let mut at = simple_blocks(bytes);
-    'bytes: while at < bytes.len() && is_simple(char::from(bytes[at])) {
-        at += 1;
-    }
-    at
+    simple_tail(bytes, at)
 }
 
 /// Whether a text may begin with the character at a place: of those that are held, or behind them the first byte.
 #[inline(always)]
-fn opens(held: &Ring, from: usize, bytes: &[u8], end: usize) -> bool
-    requires { end ≤ length bytes.now }
+fn opens(held: &Ring, from: usize, bytes: &[u8]) -> bool
+    ensures few { result ≡ true → from ≤ 16 }
     ensures begun { result ≡ true → from ≤ length held.now }
-    ensures some { result ≡ true → from < length held.now + end }
-    ensures first { result ≡ true → opens_simple (slice_index (held.now ++ take end bytes.now) from) ≡ true }
+    ensures first { result ≡ true → (n : ℕ) → from < length held.now + n → opens_simple (slice_index (held.now ++ take n bytes.now) from) ≡ true }
 {
     if from < held.len() {
         return opens_simple(held.get(from));
     }
-    from == held.len() && end > 0 && opens_simple(char::from(bytes[0]))
+    from == held.len() && !bytes.is_empty() && opens_simple(char::from(bytes[0]))
 }
 
 /// Whether the last of the bytes is no space, or where there are none the last character that is held.
@@ -139,13 +139,15 @@ fn closes(held: &Ring, bytes: &[u8], end: usize) -> bool
 /// How many bytes go on a simple text that begins at a place of what is held.
 #[inline(always)]
 fn text_end(held: &Ring, from: usize, bytes: &[u8]) -> Option<usize>
+    requires { (k : ℕ) → k < from → is_simple (slice_index held.now k) ≡ true }
     ensures { IfSome result (λ end. IsTextUpTo held.now from bytes.now end) }
 {
-    if !are_simple(held) {
+    if !opens(held, from, bytes) {
         return None;
     }
     let end = simple_end(bytes);
-    if !opens(held, from, bytes, end) || !closes(held, bytes, end) {
+    // The first character is simple, since a text may begin with it.
+    if held.len() + end <= from || !closes(held, bytes, end) || !are_simple(held, from + 1) {
         return None;
     }
     Some(end)
