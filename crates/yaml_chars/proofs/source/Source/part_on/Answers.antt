@@ -1,4 +1,4 @@
-use Rattle.std.proofs.Common.{false, ◌≡◌, ◌++◌, take, drop, refl, sym, ap, subst, ◌∙◌, ◌+◌, arith, length}
+use Rattle.std.proofs.Common.{false, ◌≡◌, ◌++◌, take, drop, refl, sym, ap, subst, ◌∙◌, ◌+◌, arith}
 use Rattle.std.proofs.lemmas.List.{length-take-le, drop-append-le}
 use Rattle.std.specs.Prelude.{chars, slice_index}
 use Rattle.std.specs.Str.{IsAscii, IsCharBoundary}
