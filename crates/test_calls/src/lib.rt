@@ -12,6 +12,8 @@ mod events;
 #[cfg(test)]
 mod faults;
 #[cfg(test)]
+mod lines;
+#[cfg(test)]
 mod made;
 #[cfg(test)]
 mod nodes;

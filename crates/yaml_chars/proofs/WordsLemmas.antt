@@ -355,13 +355,13 @@ words_no_nul run [] h k l = absurd (omega (arith, l))
 words_no_nul run (c ∷ cs) h zero l = words_some run c _ (and_parts (is_in_words run c (slice_index cs 0)) _ h).0
 words_no_nul run (c ∷ cs) h (suc k) l = words_no_nul run cs (and_parts (is_in_words run c (slice_index cs 0)) _ h).1 k (omega (arith, l))
 
-no_nul_append : (xs ys : List ℕ) → HasNoNul xs → HasNoNul ys → HasNoNul (xs ++ ys)
+pub no_nul_append : (xs ys : List ℕ) → HasNoNul xs → HasNoNul ys → HasNoNul (xs ++ ys)
 no_nul_append [] ys f g k l = g k l
 no_nul_append (x ∷ xs) ys f g zero l = f 0 (omega arith)
 no_nul_append (x ∷ xs) ys f g (suc k) l = no_nul_append xs ys (λ j m. f (suc j) (omega (arith, m))) g k (omega (arith, l))
 
 -- a text that begins with two lists has the second after the first
-begins_both : (xs ys w : List ℕ) → take (length (xs ++ ys)) w ≡ xs ++ ys → (take (length xs) w ≡ xs) × (drop (length xs) w ≡ ys ++ drop (length xs + length ys) w)
+pub begins_both : (xs ys w : List ℕ) → take (length (xs ++ ys)) w ≡ xs ++ ys → (take (length xs) w ≡ xs) × (drop (length xs) w ≡ ys ++ drop (length xs + length ys) w)
 begins_both [] ys w h =
     let none : length ys ≡ 0 + length ys = omega arith in
     (refl, sym (take-append-drop (length ys) w) ∙ ap (λ x. x ++ drop (length ys) w) h ∙ ap (λ k. ys ++ drop k w) none)

@@ -1,5 +1,6 @@
 pub mod Class
 pub mod InMemory
+pub mod Pairs
 pub mod Queue
 pub mod Reading
 pub mod Run

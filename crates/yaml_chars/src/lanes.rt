@@ -1,5 +1,6 @@
 //! Sixteen bytes at a time.
 ghost use Rattle.std.specs.Prelude.{◌≡◌, ℕ, ◌+◌, ◌<◌, ◌≤◌, length, slice_index, false, map};
+ghost use Rattle.yaml_chars.specs.Pairs.{halts_simple};
 ghost use Rattle.yaml_chars.specs.Words.{halts, halts_line, pairs};
 ghost use lib.Lanes.{mask_l};
 
@@ -60,6 +61,31 @@ pub(crate) fn line_lanes(bytes: &[u8], at: usize) -> usize
     ensures goes { (k : ℕ) → k < result → halts_line (slice_index bytes.now (at + k)) ≡ false }
 {
     let found = unprintable(u8x16::from_slice(&bytes[at..]));
+    if found == 0 {
+        return LANES;
+    }
+    found.trailing_zeros() as usize
+}
+
+/// The bytes that are not simple, as bits: no printable characters, `:` and `#`.
+#[inline(always)]
+fn not_simple(block: u8x16) -> u64
+    ensures { result ≡ mask_l (map halts_simple block) }
+{
+    (block.simd_lt(u8x16::splat(b' '))
+        | block.simd_gt(u8x16::splat(b'~'))
+        | block.simd_eq(u8x16::splat(b':'))
+        | block.simd_eq(u8x16::splat(b'#'))).to_bitmask()
+}
+
+/// How many of the next sixteen bytes come before the first that is not simple.
+#[inline(always)]
+pub(crate) fn simple_lanes(bytes: &[u8], at: usize) -> usize
+    requires { at + 16 < length bytes.now }
+    ensures within { result ≤ 16 }
+    ensures goes { (k : ℕ) → k < result → halts_simple (slice_index bytes.now (at + k)) ≡ false }
+{
+    let found = not_simple(u8x16::from_slice(&bytes[at..]));
     if found == 0 {
         return LANES;
     }

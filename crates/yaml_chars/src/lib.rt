@@ -7,6 +7,7 @@ pub mod class;
 pub mod history;
 mod lanes;
 pub mod marker;
+mod pairs;
 mod ring;
 mod run;
 pub mod source;

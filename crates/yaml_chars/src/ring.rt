@@ -62,4 +62,13 @@ impl Ring {
         self.oldest = (self.oldest + 1) % CAP;
         self.len -= 1;
     }
+
+    /// One character in place of all.
+    pub(crate) fn keep_only(&mut self, c: char)
+        ensures { self.new ≡ c ∷ [] }
+    {
+        self.oldest = 0;
+        self.len = 1;
+        self.slots[0] = c;
+    }
 }

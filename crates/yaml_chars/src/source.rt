@@ -1,14 +1,17 @@
-ghost use Rattle.std.specs.Prelude.{◌≡◌, ◌≢◌, ◌<◌, ◌≤◌, ◌^◌, [], ◌∷◌, ◌++◌, true, false, IfOk, OnErr};
+ghost use Rattle.std.specs.Prelude.{◌≡◌, ◌≢◌, ◌<◌, ◌≤◌, ◌^◌, [], ◌∷◌, ◌++◌, true, false, IfOk, IfSome, IfNone, OnErr};
 ghost use Rattle.std.specs.Iterator.{IsFinite, size};
+ghost use Rattle.yaml_chars.specs.Pairs.{GivesPart};
 ghost use Rattle.yaml_chars.specs.Run.{GoesOver};
 ghost use Rattle.yaml_chars.specs.Source.{Pulls, Came};
 ghost use Rattle.yaml_chars.specs.Words.{GivesWords, HasGiven};
 
 use crate::characters::Characters;
 use crate::history::History;
+use crate::pairs::{Part, Piece, given, joined};
+use crate::ring::Ring;
 use crate::run::Run;
 use crate::text::Text;
-use std::alloc::AllocError;
+use std::alloc::{AllocError, Global};
 use std::marker::Model;
 use std::snapshot::Snapshot;
 
@@ -167,6 +170,37 @@ impl<T: Characters> Source<T> {
         self.taken.push_ascii(words.as_bytes());
         self.iter.pass(count);
         count
+    }
+
+    /// Takes a part of a line `key: value` that is known to come, with the character after it. Its text begins with the
+    /// characters that a window holds. An `Err` changes nothing.
+    #[inline(always)]
+    pub(crate) fn part_on(
+        &mut self,
+        part: Part,
+        held: &Ring,
+        alloc: Global,
+    ) -> Result<Option<Piece>, AllocError>
+        ensures some { IfOk result (λ o. IfSome o (λ p. GivesPart part held.now self.old self.new p.end p.spaces p.next p.text)) }
+        ensures none { IfOk result (λ o. IfNone o (self.new ≡ self.old)) }
+        ensures err { OnErr result (self.new ≡ self.old) }
+    {
+        if self.has_ended() {
+            return Ok(None);
+        }
+        let known = self.iter.known();
+        let bytes = known.as_bytes();
+        let Some(ended) = part.find(held, bytes) else {
+            return Ok(None);
+        };
+        let rest = &known[..ended.text];
+        let text = joined(alloc, held, part.begin(), rest)?;
+        let last = ended.text + 1 + ended.spaces;
+        let next = char::from(bytes[last]);
+        let passed = &known[..last + 1];
+        self.taken.push_ascii(passed.as_bytes());
+        self.iter.pass(last + 1);
+        Ok(Some(given(text, ended.text, ended.spaces, next)))
     }
 
     /// Takes the characters of a run into a text. Both are moved in and out, so that the loop keeps

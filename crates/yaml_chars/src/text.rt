@@ -1,5 +1,5 @@
 //! Texts that clauses see as lists of characters.
-ghost use Rattle.std.specs.Prelude.{◌≡◌, ◌++◌, [], ◌∷◌, OnOk, OnErr, chars, IsTrue, ◌↔◌};
+ghost use Rattle.std.specs.Prelude.{◌≡◌, ◌++◌, [], ◌∷◌, IfOk, OnOk, OnErr, chars, IsTrue, ◌↔◌};
 ghost use Rattle.defs_text.specs.Text.{string_chars, is_empty};
 
 use std::alloc::{AllocError, Global};
@@ -32,6 +32,15 @@ impl Text {
         Text {
             inner: String::new(alloc),
         }
+    }
+
+    /// The empty text, with room for so many bytes.
+    #[tactic(auto, using(crate::proofs::TextLemmas::chars_nil_of))]
+    pub(crate) fn with_room(alloc: Global, room: usize) -> Result<Self, AllocError>
+        ensures { IfOk result (λ text. text ≡ []) }
+    {
+        let inner = String::with_capacity(alloc, room)?;
+        Ok(Text { inner })
     }
 
     /// Makes room for a short text, which then takes memory once. An `Err` changes nothing.

@@ -18,11 +18,11 @@ use std::marker::Model;
 /// The next characters of a text, at most 16 at a time. NULs stand after its end.
 #[derive(Drop)]
 pub struct Window<T: Characters> {
-    source: Source<T>,
-    ring: Ring,
-    index: usize,
-    line: usize,
-    col: usize,
+    pub(crate) source: Source<T>,
+    pub(crate) ring: Ring,
+    pub(crate) index: usize,
+    pub(crate) line: usize,
+    pub(crate) col: usize,
 }
 
 impl<T: Characters> Model for Window<T> {

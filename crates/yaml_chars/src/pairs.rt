@@ -1,0 +1,308 @@
+//! Lines `key: value` of a text in memory. A key with its `:`, and a value with the line break after it, are found in the
+//! bytes that are known to come, and taken at once.
+ghost use Rattle.std.specs.Prelude.{◌≡◌, ◌≢◌, ℕ, ◌+◌, ◌<◌, ◌≤◌, ◌++◌, length, take, drop, slice_index, chars, true, false, IfOk, IfSome, IfNone, OnErr};
+ghost use Rattle.yaml_chars.specs.Pairs.{is_simple, opens_simple, AreSimpleUpTo, IsTextUpTo, EndsKey, EndsValue, Ends, begin, TakesKey, TakesValue};
+
+use crate::characters::Characters;
+use crate::class::is_alphanumeric;
+use crate::lanes::{LANES, simple_lanes};
+use crate::ring::Ring;
+use crate::text::Text;
+use crate::window::Window;
+use std::alloc::{AllocError, Global};
+
+// The longest key has so many characters.
+const LONGEST: usize = 1024;
+
+/// What is taken of a line at once.
+#[derive(Clone, Copy)]
+pub enum Part {
+    /// A key and its `:`.
+    Key,
+    /// A space, a value, the line feed after it and the spaces of the next line, if they are fewer than this.
+    Value(usize),
+}
+
+/// Where the text of a part ends, and how many spaces the line after it begins with.
+#[derive(Clone, Copy)]
+pub(crate) struct Ended {
+    pub text: usize,
+    pub spaces: usize,
+}
+
+/// A part's text, how many bytes it has that were known, how many spaces the line after it begins with, and the
+/// character after that.
+#[derive(Drop)]
+pub(crate) struct Piece {
+    pub text: Text,
+    pub end: usize,
+    pub spaces: usize,
+    pub next: char,
+}
+
+pub(crate) fn given(text: Text, end: usize, spaces: usize, next: char) -> Piece
+    ensures { result ≡ record { text = text; end = end; spaces = spaces; next = next } }
+{
+    Piece {
+        text,
+        end,
+        spaces,
+        next,
+    }
+}
+
+/// A printable ASCII character but `:` and `#`.
+#[inline(always)]
+#[tactic(auto, unfolding(crate::specs::Pairs::is_simple))]
+fn is_simple(c: char) -> bool
+    ensures { result ≡ is_simple c }
+{
+    c > '\x1f' && c < '\x7f' && c != ':' && c != '#'
+}
+
+/// An ASCII letter or digit, or one of `_ / $ ( ~`.
+#[inline(always)]
+#[tactic(auto, unfolding(crate::specs::Pairs::opens_simple))]
+fn opens_simple(c: char) -> bool
+    ensures { result ≡ opens_simple c }
+{
+    is_alphanumeric(c) || matches!(c, '_' | '/' | '$' | '(' | '~')
+}
+
+/// Whether the characters that are held from a place on are simple.
+#[inline(always)]
+fn are_simple(held: &Ring, start: usize) -> bool
+    ensures { result ≡ true → (k : ℕ) → start ≤ k → k < length held.now → is_simple (slice_index held.now k) ≡ true }
+{
+    'held: for i in start..held.len() {
+        if !is_simple(held.get(i)) {
+            return false;
+        }
+    }
+    true
+}
+
+/// How many simple bytes come first, where so many are known to be simple.
+#[inline(never)]
+fn simple_tail(bytes: &[u8], start: usize) -> usize
+    requires { AreSimpleUpTo bytes.now start }
+    ensures { AreSimpleUpTo bytes.now result }
+{
+    let mut at = start;
+    'bytes: while at < bytes.len() && is_simple(char::from(bytes[at])) {
+        at += 1;
+    }
+    at
+}
+
+/// How many simple bytes come first. Sixteen are looked at together, but for the last ones of a text.
+#[inline(always)]
+fn simple_end(bytes: &[u8]) -> usize
+    ensures { AreSimpleUpTo bytes.now result }
+{
+    let mut at = 0;
+    'blocks: while bytes.len() - at > LANES {
+        let count = simple_lanes(bytes, at);
+        at += count;
+        if count < LANES {
+            return at;
+        }
+    }
+    simple_tail(bytes, at)
+}
+
+/// Whether a text may begin with the character at a place: of those that are held, or behind them the first byte.
+#[inline(always)]
+fn opens(held: &Ring, from: usize, bytes: &[u8]) -> bool
+    ensures few { result ≡ true → from ≤ 16 }
+    ensures begun { result ≡ true → from ≤ length held.now }
+    ensures first { result ≡ true → (n : ℕ) → from < length held.now + n → opens_simple (slice_index (held.now ++ take n bytes.now) from) ≡ true }
+{
+    if from < held.len() {
+        return opens_simple(held.get(from));
+    }
+    from == held.len() && !bytes.is_empty() && opens_simple(char::from(bytes[0]))
+}
+
+/// Whether the last of the bytes is no space, or where there are none the last character that is held.
+#[inline(always)]
+fn closes(held: &Ring, bytes: &[u8], end: usize) -> bool
+    requires { end ≤ length bytes.now }
+    ensures { result ≡ true → (k : ℕ) → k + 1 ≡ length held.now + end → slice_index (held.now ++ take end bytes.now) k ≢ 32 }
+{
+    if end > 0 {
+        return bytes[end - 1] != b' ';
+    }
+    held.len() > 0 && held.get(held.len() - 1) != ' '
+}
+
+/// How many bytes go on a simple text that begins at a place of what is held.
+#[inline(always)]
+fn text_end(held: &Ring, from: usize, bytes: &[u8]) -> Option<usize>
+    requires { (k : ℕ) → k < from → is_simple (slice_index held.now k) ≡ true }
+    ensures { IfSome result (λ end. IsTextUpTo held.now from bytes.now end) }
+{
+    if !opens(held, from, bytes) {
+        return None;
+    }
+    let end = simple_end(bytes);
+    // The first character is simple, since a text may begin with it.
+    if held.len() + end <= from || !closes(held, bytes, end) || !are_simple(held, from + 1) {
+        return None;
+    }
+    Some(end)
+}
+
+/// Where a key ends that has `:` and a space or a line feed after it.
+#[inline(always)]
+fn key_end(held: &Ring, bytes: &[u8]) -> Option<usize>
+    ensures { IfSome result (λ end. EndsKey held.now bytes.now end) }
+{
+    let Some(end) = text_end(held, 0, bytes) else {
+        return None;
+    };
+    if end + 1 >= bytes.len() || bytes[end] != b':' || held.len() + end > LONGEST {
+        return None;
+    }
+    let next = bytes[end + 1];
+    if next != b' ' && next != b'\n' {
+        return None;
+    }
+    Some(end)
+}
+
+/// How many spaces stand at a place.
+#[inline(always)]
+fn spaces_at(bytes: &[u8], start: usize) -> usize
+    requires { start ≤ length bytes.now }
+    ensures within { start + result ≤ length bytes.now }
+    ensures blank { (k : ℕ) → k < result → slice_index bytes.now (start + k) ≡ 32 }
+{
+    let mut count = 0;
+    'spaces: while start + count < bytes.len() && bytes[start + count] == b' ' {
+        count += 1;
+    }
+    count
+}
+
+/// Where a value ends that stands after a space and has a line feed after it, and how many spaces the next line begins
+/// with, if they are fewer than this and a visible character comes after them.
+#[inline(always)]
+fn value_end(held: &Ring, bytes: &[u8], limit: usize) -> Option<Ended>
+    ensures { IfSome result (λ e. EndsValue limit held.now bytes.now e.text e.spaces) }
+{
+    if held.len() == 0 || held.get(0) != ' ' {
+        return None;
+    }
+    let Some(text) = text_end(held, 1, bytes) else {
+        return None;
+    };
+    if text >= bytes.len() || bytes[text] != b'\n' {
+        return None;
+    }
+    let spaces = spaces_at(bytes, text + 1);
+    let next = text + 1 + spaces;
+    if spaces >= limit || next >= bytes.len() || bytes[next] <= b' ' || bytes[next] >= 127 {
+        return None;
+    }
+    Some(Ended { text, spaces })
+}
+
+impl Part {
+    /// Where a part ends in the bytes that come after what is held.
+    #[inline(always)]
+    pub(crate) fn find(self, held: &Ring, bytes: &[u8]) -> Option<Ended>
+        ensures { IfSome result (λ e. Ends self held.now bytes.now e.text e.spaces) }
+    {
+        match self {
+            Part::Key => match key_end(held, bytes) {
+                Some(text) => Some(Ended { text, spaces: 0 }),
+                None => None,
+            },
+            Part::Value(limit) => value_end(held, bytes, limit),
+        }
+    }
+
+    /// With which of the characters that are held its text begins.
+    #[inline(always)]
+    pub(crate) fn begin(self) -> usize
+        ensures { result ≡ begin self }
+    {
+        match self {
+            Part::Key => 0,
+            Part::Value(_) => 1,
+        }
+    }
+}
+
+/// The characters that are held, from one on, and a text after them, in memory that is asked for once.
+#[inline(always)]
+pub(crate) fn joined(
+    alloc: Global,
+    held: &Ring,
+    from: usize,
+    rest: &str,
+) -> Result<Text, AllocError>
+    requires { from ≤ length held.now }
+    ensures { IfOk result (λ text. text ≡ drop from held.now ++ chars rest.now) }
+{
+    let mut text = Text::with_room(alloc, held.len() + rest.len())?;
+    'held: for i in from..held.len() {
+        text.push(held.get(i))?;
+    }
+    text.push_str(rest)?;
+    Ok(text)
+}
+
+impl<T: Characters> Window<T> {
+    /// Takes a key of a block mapping and the `:` after it, where these are known to come, the key is simple, and a space
+    /// or a line feed stands after the `:`. Else nothing changes.
+    #[inline(always)]
+    pub fn take_key(&mut self, alloc: Global) -> Result<Option<Text>, AllocError>
+        ensures key { IfOk result (λ o. IfSome o (λ key. TakesKey self.old self.new key)) }
+        ensures none { IfOk result (λ o. IfNone o (self.new ≡ self.old)) }
+        ensures err { OnErr result (self.new ≡ self.old) }
+    {
+        let found = self.source.part_on(Part::Key, &self.ring, alloc)?;
+        let Some(key) = found else {
+            return Ok(None);
+        };
+        let Piece {
+            text,
+            end,
+            next,
+            ..
+        } = key;
+        let count = self.ring.len() + end + 1;
+        self.index += count;
+        self.col += count;
+        self.ring.keep_only(next);
+        Ok(Some(text))
+    }
+
+    /// Takes a space, a value, the line feed after it and the spaces that the next line begins with, where these are known
+    /// to come, the value is simple, the spaces are fewer than the limit, and a visible ASCII character stands after them.
+    /// Else nothing changes.
+    #[inline(always)]
+    pub fn take_value(&mut self, alloc: Global, limit: usize) -> Result<Option<Text>, AllocError>
+        ensures value { IfOk result (λ o. IfSome o (λ value. TakesValue limit self.old self.new value)) }
+        ensures none { IfOk result (λ o. IfNone o (self.new ≡ self.old)) }
+        ensures err { OnErr result (self.new ≡ self.old) }
+    {
+        let found = self.source.part_on(Part::Value(limit), &self.ring, alloc)?;
+        let Some(value) = found else {
+            return Ok(None);
+        };
+        let Piece {
+            text,
+            end,
+            spaces,
+            next,
+        } = value;
+        self.index += self.ring.len() + end + 1 + spaces;
+        self.line += 1;
+        self.col = spaces;
+        self.ring.keep_only(next);
+        Ok(Some(text))
+    }
+}
