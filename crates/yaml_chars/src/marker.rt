@@ -1,7 +1,10 @@
-ghost use Rattle.std.specs.Prelude.{◌≡◌, ◌^◌, ◌<◌, ◌≤◌};
+ghost use Rattle.std.specs.Prelude.{◌≡◌, ◌^◌, ◌<◌, ◌≤◌, ◌+◌, ◌-◌, IfSome};
 ghost use Rattle.defs_text.specs.Position.{IsSmall};
 
 use std::marker::Model;
+
+// The last index and column of a text of fewer than 2^63 characters.
+const LAST: usize = 0x7fff_ffff_ffff_ffff;
 
 /// A position in a text.
 #[derive(Clone, Copy, Debug, PartialEq, Eq)]
@@ -53,5 +56,24 @@ impl Marker {
         ensures small { result < 2 ^ 63 }
     {
         self.col
+    }
+
+    /// The position of the character before this one, in the same line.
+    pub fn back(&self) -> Marker
+        ensures { result ≡ record { index = self.now.index - 1; line = self.now.line; col = self.now.col - 1 } }
+    {
+        let index = self.index.saturating_sub(1);
+        Marker::new(index, self.line, self.col.saturating_sub(1))
+    }
+
+    /// The position after a character of a line that stands here. It is `None` if it were no position of a text of fewer
+    /// than 2^63 characters.
+    pub fn past(&self) -> Option<Marker>
+        ensures { IfSome result (λ p. p ≡ record { index = self.now.index + 1; line = self.now.line; col = self.now.col + 1 }) }
+    {
+        if self.index >= LAST || self.col >= LAST {
+            return None;
+        }
+        Some(Marker::new(self.index + 1, self.line, self.col + 1))
     }
 }

@@ -19,7 +19,7 @@ use Rattle.model_scanner.specs.Document.{fetch_plain_scalar}
 use Rattle.model_scanner.specs.Fetch.{fetch, fetch_next, fetch_here, fetch_content, fetch_first_column, fetch_indented, fetch_token, comes_marker, is_value}
 use Rattle.proof_lexers.specs.HeaderEnds.{along}
 use Rattle.yaml_scanner_state.specs.Tokens.{key_tokens}
-use Rattle.yaml_scanner.specs.Pairs.{IsSimpleText, indented}
+use Rattle.yaml_chars.specs.Pairs.{IsSimpleText, indented}
 use Rattle.yaml_scanner.proofs.PairTexts.{Opener, Simple, simple_text, outside, along_is, plain_key, plain_value}
 
 -- ---- what a fetch does beside its token

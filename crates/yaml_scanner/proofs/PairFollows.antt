@@ -23,7 +23,7 @@ use Rattle.yaml_scanner_state.specs.Tokens.{Tokens, handed, is_end, key_tokens}
 use Rattle.yaml_scanner_state.proofs.KeyLemmas.{none_front, none_lowered}
 use Rattle.yaml_scanner.specs.Awaits.{IsSettled, AwaitsKey, AwaitsValue}
 use Rattle.yaml_scanner.specs.Follows.{Follows}
-use Rattle.yaml_scanner.specs.Pairs.{TakesKey, TakesValue}
+use Rattle.yaml_chars.specs.Pairs.{TakesKey, TakesValue}
 use Rattle.yaml_scanner.specs.Scanned.{Scanned, inside, kept_fault, HandsOut, HandsBoth}
 use Rattle.yaml_scanner.specs.Shape.{held, state, Does}
 use Rattle.yaml_scanner.specs.Work.{Fetches, work, unset}

@@ -11,7 +11,7 @@ use Rattle.model_lexers.specs.Plain.{PlainState, Plain, inside, between, plain, 
 use Rattle.model_scanner.specs.declared.class.Class.TheVariants.{Other}
 use Rattle.model_scanner.specs.Class.{class_of}
 use Rattle.proof_lexers.specs.HeaderEnds.{along}
-use Rattle.yaml_scanner.specs.Pairs.{is_simple, opens_simple, IsSimpleText, indented}
+use Rattle.yaml_chars.specs.Pairs.{is_simple, opens_simple, IsSimpleText, indented}
 
 -- ---- simple texts
 

@@ -2,7 +2,6 @@ pub mod Awaits
 pub mod Blocks
 pub mod Follows
 pub mod Next
-pub mod Pairs
 pub mod Rowless
 pub mod Scanned
 pub mod Shape

@@ -13,7 +13,7 @@ ghost use Rattle.yaml_scanner_state.specs.Levels.{ends_open};
 ghost use Rattle.yaml_scanner_state.specs.Tokens.{waiting, handed, key_tokens};
 ghost use Rattle.yaml_scanner.specs.Awaits.{IsSettled, AwaitsKey, AwaitsValue};
 ghost use Rattle.yaml_scanner.specs.Follows.{Follows};
-ghost use Rattle.yaml_scanner.specs.Pairs.{TakesKey, TakesValue};
+ghost use Rattle.yaml_chars.specs.Pairs.{TakesKey, TakesValue};
 ghost use Rattle.yaml_scanner.specs.Scanned.{inside, HandsBoth};
 ghost use Rattle.yaml_scanner.specs.Work.{Fetches};
 
@@ -35,29 +35,36 @@ pub struct PlainNode {
 }
 
 /// Takes a key and the `:` after it, where their characters are known to come. With the key comes the position of its `:`.
+#[inline(always)]
 fn take_key<T: Characters>(window: &mut Window<T>, alloc: Global) -> Result<Option<(Text, Marker)>, AllocError>
     ensures key { IfOk result (λ o. IfSome o (λ k. TakesKey window.old window.new k.0)) }
     ensures colon { IfOk result (λ o. IfSome o (λ k. k.1 ≡ record { index = window.new.at - 1; line = window.new.line; col = window.new.col - 1 })) }
     ensures none { IfOk result (λ o. IfNone o (window.new ≡ window.old)) }
     ensures err { OnErr result (window.new ≡ window.old) }
 {
-    let _ = window;
-    let _ = alloc;
-    Ok(None)
+    let Some(key) = window.take_key(alloc)? else {
+        return Ok(None);
+    };
+    let colon = window.mark().back();
+    Ok(Some((key, colon)))
 }
 
 /// Takes a value between a space and a line feed, and the next line's spaces, fewer than the limit, where their characters
 /// are known to come. With the value comes its position.
+#[inline(always)]
 fn take_value<T: Characters>(window: &mut Window<T>, alloc: Global, limit: usize) -> Result<Option<(Text, Marker)>, AllocError>
     ensures value { IfOk result (λ o. IfSome o (λ v. TakesValue limit window.old window.new v.0)) }
     ensures mark { IfOk result (λ o. IfSome o (λ v. v.1 ≡ past (position_of window.old))) }
     ensures none { IfOk result (λ o. IfNone o (window.new ≡ window.old)) }
     ensures err { OnErr result (window.new ≡ window.old) }
 {
-    let _ = window;
-    let _ = alloc;
-    let _ = limit;
-    Ok(None)
+    let Some(mark) = window.mark().past() else {
+        return Ok(None);
+    };
+    let Some(value) = window.take_value(alloc, limit)? else {
+        return Ok(None);
+    };
+    Ok(Some((value, mark)))
 }
 
 impl<T: Characters> Fetcher<T> {

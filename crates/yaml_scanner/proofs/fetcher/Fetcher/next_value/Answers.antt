@@ -2,7 +2,7 @@ use Rattle.std.proofs.Common.{subst, ◌≡◌}
 use Rattle.std.specs.Option.{IfSome}
 use Rattle.model_lexers.specs.Machine.{past}
 use Rattle.yaml_chars.specs.Reading.{position_of}
-use Rattle.yaml_scanner.specs.Pairs.{TakesValue}
+use Rattle.yaml_chars.specs.Pairs.{TakesValue}
 use Rattle.yaml_scanner.proofs.PairFollows.{value_handed, value_follows}
 use Rattle.yaml_scanner.proofs.fetcher.Fetcher.next_value.Goals as goal
 
