@@ -1,6 +1,6 @@
 //! Keys and values of block mappings that are plain scalars on one line: each is handed out with the token before it by
 //! one call, where its characters are known to come.
-ghost use Rattle.std.specs.Prelude.{◌≡◌, ◌≢◌, ◌≤◌, ◌<◌, ◌+◌, ◌-◌, ◌++◌, ◌∷◌, [], OnOk, OnErr, IfOk, IfErr, IfSome, IfNone, Some, None, Ok, true, false};
+ghost use Rattle.std.specs.Prelude.{◌≡◌, ◌<◌, ◌+◌, ◌-◌, ◌++◌, ◌∷◌, [], OnOk, OnErr, IfOk, IfErr, IfSome, IfNone, Some, None, Ok, true, false};
 ghost use Rattle.defs_text.specs.Position.{Position};
 ghost use Rattle.defs_text.specs.Text.{string_chars};
 ghost use Rattle.defs_token.specs.Token.{Style, Tok};
@@ -36,7 +36,10 @@ pub struct PlainNode {
 
 /// Takes a key and the `:` after it, where their characters are known to come. With the key comes the position of its `:`.
 #[inline(always)]
-fn take_key<T: Characters>(window: &mut Window<T>, alloc: Global) -> Result<Option<(Text, Marker)>, AllocError>
+fn take_key<T: Characters>(
+    window: &mut Window<T>,
+    alloc: Global,
+) -> Result<Option<(Text, Marker)>, AllocError>
     ensures key { IfOk result (λ o. IfSome o (λ k. TakesKey window.old window.new k.0)) }
     ensures colon { IfOk result (λ o. IfSome o (λ k. k.1 ≡ record { index = window.new.at - 1; line = window.new.line; col = window.new.col - 1 })) }
     ensures none { IfOk result (λ o. IfNone o (window.new ≡ window.old)) }
@@ -52,7 +55,11 @@ fn take_key<T: Characters>(window: &mut Window<T>, alloc: Global) -> Result<Opti
 /// Takes a value between a space and a line feed, and the next line's spaces, fewer than the limit, where their characters
 /// are known to come. With the value comes its position.
 #[inline(always)]
-fn take_value<T: Characters>(window: &mut Window<T>, alloc: Global, limit: usize) -> Result<Option<(Text, Marker)>, AllocError>
+fn take_value<T: Characters>(
+    window: &mut Window<T>,
+    alloc: Global,
+    limit: usize,
+) -> Result<Option<(Text, Marker)>, AllocError>
     ensures value { IfOk result (λ o. IfSome o (λ v. TakesValue limit window.old window.new v.0)) }
     ensures mark { IfOk result (λ o. IfSome o (λ v. v.1 ≡ past (position_of window.old))) }
     ensures none { IfOk result (λ o. IfNone o (window.new ≡ window.old)) }

@@ -1,10 +1,9 @@
 -- Lemmas about levels of indentation.
-use Rattle.std.proofs.Common.{◌≡◌, ℕ, ◌+◌, ◌^◌, ◌<◌, ◌≤◌, List, [], ◌∷◌, Bool, true, false, not, ◌||◌, refl, sym, ◌∙◌, Option, Some, None, arith, if◌then◌else◌}
+use Rattle.std.proofs.Common.{◌≡◌, ℕ, ◌+◌, ◌^◌, ◌<◌, ◌≤◌, List, [], ◌∷◌, Bool, true, false, not, refl, arith, if◌then◌else◌}
 use Rattle.model_scanner.specs.declared.level.Indent.{Indent}
 use Rattle.model_scanner.specs.Keys.{top_needs_block_end}
 use Rattle.model_scanner.specs.Indents.{level}
-use Rattle.yaml_scanner_state.specs.Levels.{ends_open, lone_open, AreSmall}
-use Rattle.model_scanner.specs.State.{top, pop}
+use Rattle.yaml_scanner_state.specs.Levels.{ends_open, AreSmall}
 
 deep : (b : Bool) (i : ℕ) → i ≤ (if b then 2 ^ 63 + 1 else 2 ^ 63) → i ≤ 2 ^ 63 + 1
 deep true i h = h
