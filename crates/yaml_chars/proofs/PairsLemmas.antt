@@ -1,14 +1,14 @@
 -- Lemmas about keys and values that are known to come.
-use Rattle.std.proofs.Common.{◌≡◌, ◌≢◌, ℕ, zero, suc, ◌+◌, ◌-◌, ◌^◌, ◌<◌, ◌≤◌, ◌==◌, ◌||◌, ◌&&◌, Bool, true, false, List, [], ◌∷◌, ◌++◌, length, take, drop, slice_index, refl, sym, ap, subst, ◌∙◌, arith, append_assoc, append-nil, length-append, length-drop, inl, inr}
-use Rattle.std.specs.Prelude.{not, nat_lt, chars}
+use Rattle.std.proofs.Common.{◌≡◌, ◌≢◌, ℕ, zero, suc, ◌+◌, ◌-◌, ◌^◌, ◌<◌, ◌≤◌, ◌==◌, ◌||◌, ◌&&◌, true, false, List, [], ◌∷◌, ◌++◌, length, take, drop, slice_index, refl, sym, ap, subst, ◌∙◌, arith, append_assoc, length-append, length-drop, inl, inr}
+use Rattle.std.specs.Prelude.{nat_lt, chars}
 use Rattle.std.specs.Str.{IsUtf8, IsCharBoundary, IsAscii}
 use Rattle.std.proofs.lemmas.Bool.Decides.{nat_tests}
 use Rattle.std.proofs.lemmas.Bool.{cases_lt}
-use Rattle.std.proofs.lemmas.List.{same_lists, drop_more, take-append-drop, length-take-le, get_or-take, get_or-drop, get_or_append_left, get_or-append-add, drop-append-le}
+use Rattle.std.proofs.lemmas.List.{same_lists, take-append-drop, length-take-le, get_or-take, get_or-drop, get_or_append_left, get_or-append-add, drop-append-le}
 use Rattle.std.proofs.lemmas.Grind.{get_or_default_zero}
 use Rattle.std.proofs.lemmas.Str.{IsCharBoundary-after_ascii, IsCharBoundary-start, chars-IsAscii}
 use Rattle.yaml_chars.specs.Class.{is_alphanumeric}
-use Rattle.yaml_chars.specs.Reading.{Reading, Possible, Reads, Fills, HasNoNul}
+use Rattle.yaml_chars.specs.Reading.{Reads, Fills, HasNoNul}
 use Rattle.yaml_chars.specs.Run.{bare}
 use Rattle.yaml_chars.specs.Source.{Pulled}
 use Rattle.yaml_chars.specs.Pairs.{is_simple, opens_simple, IsSimpleText, indented, TakesKey, TakesValue, IsTextUpTo, EndsKey, EndsValue, Ends, begin, GivesPart, halts_simple, AreSimpleUpTo}

@@ -1,5 +1,5 @@
 -- Lines `key: value` whose characters are known to come: the key with its `:` is taken at once, and so is the value with the line break after it.
-use Rattle.std.specs.Prelude.{◌≡◌, ◌≢◌, ℕ, zero, suc, ◌+◌, ◌<◌, ◌≤◌, List, [], ◌∷◌, ◌++◌, length, take, drop, slice_index, Bool, true, false, not, ◌==◌, ◌||◌, ◌&&◌, nat_eq, nat_lt}
+use Rattle.std.specs.Prelude.{◌≡◌, ◌≢◌, ℕ, zero, suc, ◌+◌, ◌<◌, ◌≤◌, List, ◌∷◌, ◌++◌, length, take, drop, slice_index, Bool, true, false, not, ◌==◌, ◌||◌, ◌&&◌, nat_eq, nat_lt}
 use Rattle.yaml_chars.specs.Class.{is_alphanumeric}
 use Rattle.yaml_chars.specs.Reading.{Reading, Reads}
 use Rattle.yaml_chars.specs.Source.{Pulled}
