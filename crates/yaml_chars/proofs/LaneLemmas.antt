@@ -4,7 +4,7 @@ use Rattle.std.proofs.lemmas.Bool.Decides.{nat_tests}
 use Rattle.std.proofs.lemmas.List.{length-map}
 use Rattle.std.proofs.lemmas.List.Sums.{prefix_len-le-length, prefix_len_passes}
 use Rattle.std.proofs.lemmas.Simd.{first_set_mask_l, mask_l-mod, length-chunk, get_or-chunk}
-use Rattle.yaml_chars.specs.Words.{pairs}
+use Rattle.yaml_chars.specs.Words.{is_beyond, pairs}
 use lib.Bits.{bit_or, bit_and}
 use lib.Count.{count_trailing_zeros}
 use lib.Lanes.{zip2, mask_l, top, chunk}
@@ -167,3 +167,7 @@ module _ (bs : List ℕ) (at : ℕ) (room : at + 16 < length bs) where
       let count = first_set m some in
       let same = ap (λ x. cond (eqb x 0) 16 (count_trailing_zeros 64 x)) e in
       ap p (sym (line_is k (omega (arith, h, line_count_of p m e some)))) ∙ before_first p (chunk at 16 bs) 0 k here (omega (arith, count, same, h))
+
+  -- no byte is outside ASCII
+  pub all_ascii : (m : ℕ) → m ≡ mask_l (map is_beyond (chunk at 16 bs)) → m ≡ 0 → (k : ℕ) → k < 16 → slice_index bs (at + k) < 128
+  all_ascii m e none k h = let low : is_beyond (slice_index bs (at + k)) ≡ false = line_goes_all is_beyond m e none k h in grind (arith, nat_tests)

@@ -1,57 +1,146 @@
 -- Lemmas about characters of a line that are known to come.
-use Rattle.std.proofs.Common.{◌≡◌, ◌≢◌, ℕ, zero, suc, ◌+◌, ◌-◌, ◌<◌, ◌≤◌, ◌==◌, ◌||◌, ◌&&◌, Bool, true, false, List, [], ◌∷◌, ◌++◌, length, take, drop, slice_index, refl, sym, ap, subst, ◌∙◌, arith, append_assoc, append-nil, length-append, inl, inr}
+use Rattle.std.proofs.Common.{◌≡◌, ◌≢◌, ℕ, zero, suc, ◌+◌, ◌-◌, ◌<◌, ◌≤◌, ◌⊎◌, ◌==◌, ◌||◌, ◌&&◌, Bool, cond, true, false, List, [], ◌∷◌, ◌++◌, length, take, drop, slice_index, refl, sym, ap, subst, ◌∙◌, arith, append_assoc, append-nil, length-append, inl, inr}
 use Rattle.std.specs.List.{slice_range}
-use Rattle.std.specs.Prelude.{not, Option, Some, slice_get}
+use Rattle.std.specs.Prelude.{not, nat_lt, Option, Some, slice_get}
 use Rattle.std.specs.Iterator.{Count, IsFinite, Yields}
-use Rattle.std.specs.Str.{IsUtf8, IsCharBoundary, IsAscii}
+use Rattle.std.specs.Str.{IsUtf8, IsCharBoundary, IsAscii, chars}
 use Rattle.std.specs.Str.Iter.{chars_rest, chars_steps}
 use Rattle.std.specs.declared.str.Chars.{Chars}
 use Rattle.std.proofs.lemmas.Bool.Decides.{nat_tests}
 use Rattle.std.proofs.lemmas.Bool.{and_parts, cases_lt}
-use Rattle.std.proofs.lemmas.List.{take-append-drop}
-use Rattle.std.proofs.lemmas.Str.{encode_ascii, chars_past_char, IsUtf8-past_char, IsCharBoundary-after_ascii, IsCharBoundary-start}
+use Rattle.std.proofs.lemmas.List.{take-append-drop, length-take-le}
+use lib.Utf8.{encode, encodes}
+use Rattle.std.proofs.lemmas.Str.{encode_ascii, encodes-chars, chars_past_char, char_from_byte, byte_from_char, length-encode, len_utf8_bounds, IsUtf8-past_char, IsUtf8-take, IsCharBoundary-before_ascii, IsCharBoundary-after_ascii, IsCharBoundary-start, IsCharBoundary-end}
 use Rattle.defs_text.specs.Position.{Position}
 use Rattle.yaml_chars.specs.Class.{is_blank, is_break, is_flow}
 use Rattle.yaml_chars.specs.Reading.{Reads, Fills, HasNoNul}
 use Rattle.yaml_chars.specs.Run.{stops, bare}
 use Rattle.yaml_chars.specs.Source.{Pulled, IterStands}
-use Rattle.yaml_chars.specs.Words.{begins_word, is_in_words, are_words, AreWordsUpTo, AreWordsBetween, IsWordBetween, halts, halts_line, Goes, LanesGo, GivesWords, TakesWords}
+use Rattle.yaml_chars.specs.Words.{begins_word, is_in_words, are_words, stops_beyond, stops_byte, begins_byte, is_word_byte, AreWordsUpTo, AreWordsBetween, IsWordBetween, AreAscii, EndsAtAscii, halts, halts_line, Goes, LanesGo, GivesWords, TakesWords}
 use Rattle.yaml_chars.specs.declared.run.Run.{Run}
 use Rattle.yaml_chars.specs.declared.run.Run.TheVariants.{Line, Quoted, Plain}
 
 -- ---- bytes
 
-pub ordinary_in_line : (b : ℕ) → 32 ≤ b → stops Line b ≡ false
+-- a byte is of the run, where it ends no run as a character, and no character outside ASCII does
+pub byte_goes : (run : Run) (b : ℕ) → stops_beyond run ≡ false → stops run b ≡ false → stops_byte run b ≡ false
+unfolding stops_byte
+byte_goes run b beyond goes = by (nat_lt b 128)
+  where
+    by : (x : Bool) → cond x (stops run b) (stops_beyond run) ≡ false
+    by true = goes
+    by false = beyond
+
+byte_goes_low : (run : Run) (b : ℕ) → b < 128 → stops run b ≡ false → stops_byte run b ≡ false
+unfolding stops_byte
+byte_goes_low run b low goes = let h : nat_lt b 128 ≡ true = grind (arith, nat_tests) in rw h goes
+
+pub byte_begins : (run : Run) (b : ℕ) → stops_beyond run ≡ false → begins_word run b ≡ true → begins_byte run b ≡ true
+unfolding begins_byte
+byte_begins run b beyond begins = by (nat_lt b 128)
+  where
+    by : (x : Bool) → cond x (begins_word run b) (not (stops_beyond run)) ≡ true
+    by true = begins
+    by false = rw beyond refl
+
+-- the byte of an ASCII character
+pub stops_low : (run : Run) (b : ℕ) → b < 128 → stops_byte run b ≡ false → stops run b ≡ false
+unfolding stops_byte
+stops_low run b low h = let e : nat_lt b 128 ≡ true = grind (arith, nat_tests) in rw e at h
+
+pub begins_low : (run : Run) (b : ℕ) → b < 128 → begins_byte run b ≡ true → begins_word run b ≡ true
+unfolding begins_byte
+begins_low run b low h = let e : nat_lt b 128 ≡ true = grind (arith, nat_tests) in rw e at h
+
+-- a byte outside ASCII
+pub stops_high : (run : Run) (b : ℕ) → 128 ≤ b → stops_byte run b ≡ false → stops_beyond run ≡ false
+unfolding stops_byte
+stops_high run b high h = let e : nat_lt b 128 ≡ false = grind (arith, nat_tests) in rw e at h
+
+pub begins_high : (run : Run) (b : ℕ) → 128 ≤ b → begins_byte run b ≡ true → stops_beyond run ≡ false
+unfolding begins_byte
+begins_high run b high h = let e : nat_lt b 128 ≡ false = grind (arith, nat_tests) in not_true _ (rw e at h)
+  where
+    not_true : (x : Bool) → not x ≡ true → x ≡ false
+    not_true true h = sym h
+    not_true false h = refl
+
+begins_beyond : (run : Run) (b : ℕ) → stops_beyond run ≡ false → 128 ≤ b → begins_byte run b ≡ true
+unfolding begins_byte
+begins_beyond run b beyond high = let e : nat_lt b 128 ≡ false = grind (arith, nat_tests) in rw (e, beyond) refl
+
+goes_beyond : (run : Run) (b : ℕ) → stops_beyond run ≡ false → 128 ≤ b → stops_byte run b ≡ false
+unfolding stops_byte
+goes_beyond run b beyond high = let e : nat_lt b 128 ≡ false = grind (arith, nat_tests) in rw (e, beyond) refl
+
+pub ordinary_in_line : (b : ℕ) → 32 ≤ b → stops_byte Line b ≡ false
 unfolding stops is_break
-ordinary_in_line b h = grind (arith, nat_tests)
+ordinary_in_line b h = byte_goes Line b refl (grind (arith, nat_tests))
 
-pub ordinary_in_quotes : (quote b : ℕ) → 32 < b → b ≢ quote → b ≢ 92 → stops (Quoted quote) b ≡ false
+pub low_quote : (quote : ℕ) → quote < 128 → stops_beyond (Quoted quote) ≡ false
+low_quote quote low = let h : nat_lt quote 128 ≡ true = grind (arith, nat_tests) in rw h refl
+
+ordinary_of_quoted : (quote b : ℕ) → 32 < b → b ≢ quote → b ≢ 92 → stops (Quoted quote) b ≡ false
 unfolding stops is_break is_blank
-ordinary_in_quotes quote b h q e = grind (arith, nat_tests)
+ordinary_of_quoted quote b h q e = grind (arith, nat_tests)
 
-pub ordinary_in_plain : (flow : Bool) (b : ℕ) → 32 < b → b ≢ 58 → (flow && is_flow b) ≡ false → stops (Plain flow) b ≡ false
+pub ordinary_in_quotes : (quote b : ℕ) → 32 < b → b ≢ quote → b ≢ 92 → quote < 128 → stops_byte (Quoted quote) b ≡ false
+ordinary_in_quotes quote b h q e low = byte_goes (Quoted quote) b (low_quote quote low) (ordinary_of_quoted quote b h q e)
+
+pub ascii_in_quotes : (quote b : ℕ) → 32 < b → b ≢ quote → b ≢ 92 → b < 128 → stops_byte (Quoted quote) b ≡ false
+ascii_in_quotes quote b h q e low = byte_goes_low (Quoted quote) b low (ordinary_of_quoted quote b h q e)
+
+pub ordinary_in_plain : (flow : Bool) (b : ℕ) → 32 < b → b ≢ 58 → (flow && is_flow b) ≡ false → stops_byte (Plain flow) b ≡ false
 unfolding stops is_break is_blank
-ordinary_in_plain flow b h e f = grind (arith, nat_tests)
+ordinary_in_plain flow b h e f = byte_goes (Plain flow) b refl (grind (arith, nat_tests))
 
-pub begins_in_line : (b : ℕ) → stops Line b ≡ false → begins_word Line b ≡ true
-unfolding begins_word
-begins_in_line b h = rw h refl
+pub begins_in_line : (b : ℕ) → stops_byte Line b ≡ false → begins_byte Line b ≡ true
+unfolding begins_byte begins_word stops_byte
+begins_in_line b h = by (nat_lt b 128) h
+  where
+    by : (x : Bool) → cond x (stops Line b) false ≡ false → cond x (not (stops Line b)) true ≡ true
+    by true g = rw g refl
+    by false g = refl
 
-pub begins_in_quotes : (quote b : ℕ) → stops (Quoted quote) b ≡ false → begins_word (Quoted quote) b ≡ true
-unfolding begins_word
-begins_in_quotes quote b h = rw h refl
+pub begins_in_quotes : (quote b : ℕ) → stops_byte (Quoted quote) b ≡ false → begins_byte (Quoted quote) b ≡ true
+unfolding begins_byte begins_word stops_byte
+begins_in_quotes quote b h = by (nat_lt b 128) h
+  where
+    by : (x : Bool) → cond x (stops (Quoted quote) b) (not (nat_lt quote 128)) ≡ false → cond x (not (stops (Quoted quote) b)) (not (not (nat_lt quote 128))) ≡ true
+    by true g = rw g refl
+    by false g = rw g refl
 
-pub begins_in_plain : (flow : Bool) (b : ℕ) → stops (Plain true) b ≡ false → b ≢ 35 → b ≢ 45 → begins_word (Plain flow) b ≡ true
+begins_of_plain : (flow : Bool) (b : ℕ) → stops (Plain true) b ≡ false → b ≢ 35 → b ≢ 45 → begins_word (Plain flow) b ≡ true
 unfolding begins_word stops is_break is_blank is_flow
-begins_in_plain flow b h e f = grind (arith, nat_tests)
+begins_of_plain flow b h e f = grind (arith, nat_tests)
+
+pub begins_in_plain : (flow : Bool) (b : ℕ) → stops_byte (Plain true) b ≡ false → b ≢ 35 → b ≢ 45 → begins_byte (Plain flow) b ≡ true
+begins_in_plain flow b h e f = elim (cases_lt b 128) [
+  | inl low ↦ byte_begins (Plain flow) b refl (begins_of_plain flow b (stops_low (Plain true) b low h) e f)
+  | inr high ↦ begins_beyond (Plain flow) b refl high
+]
+
+pub not_out : (x : Bool) → not x ≡ false → x ≡ true
+not_out true h = refl
+not_out false h = sym h
+
+pub flow_low : (b : ℕ) → is_flow b ≡ true → b < 128
+unfolding is_flow
+flow_low b h = grind (arith, nat_tests)
+
+begins_goes_word : (run : Run) (b : ℕ) → begins_word run b ≡ true → stops run b ≡ false
+unfolding begins_word stops is_break is_blank is_flow
+begins_goes_word Line b h = grind (arith, nat_tests)
+begins_goes_word (Quoted quote) b h = grind (arith, nat_tests)
+begins_goes_word (Plain true) b h = grind (arith, nat_tests)
+begins_goes_word (Plain false) b h = grind (arith, nat_tests)
 
 -- what a word begins with does not end it
-pub begins_goes : (run : Run) (b : ℕ) → begins_word run b ≡ true → stops run b ≡ false
-unfolding begins_word stops is_break is_blank is_flow
-begins_goes Line b h = grind (arith, nat_tests)
-begins_goes (Quoted quote) b h = grind (arith, nat_tests)
-begins_goes (Plain true) b h = grind (arith, nat_tests)
-begins_goes (Plain false) b h = grind (arith, nat_tests)
+pub begins_goes : (run : Run) (b : ℕ) → begins_byte run b ≡ true → stops_byte run b ≡ false
+begins_goes run b h = elim (cases_lt b 128) [
+  | inl low ↦ byte_goes_low run b low (begins_goes_word run b (begins_low run b low h))
+  | inr high ↦ goes_beyond run b (begins_high run b high h) high
+]
 
 -- ---- a text in memory gives its characters
 
@@ -62,40 +151,54 @@ abbrev from : Chars → List ℕ → Chars
 from it bs = record { rest = record { ref_ptr = it.rest.ref_ptr; now = bs } }
 
 module _ {S : Type 0} (chars_of : S → Chars) (with_chars : S → Chars → S) (same : (s : S) (it : Chars) → chars_of (with_chars s it) ≡ it) where
-  step : (c : ℕ) (s t : S) → IsUtf8 (chars_rest (chars_of s)) → chars_rest (chars_of s) ≡ c ∷ chars_rest (chars_of t) → c < 128 → chars_steps (chars_of s) (Some c) (chars_of t)
-  step c s t u e low =
-      let one = e ∙ ap (λ x. x ++ chars_rest (chars_of t)) (sym (encode_ascii c low)) in
-      (one, (λ l. refl), sym (ap (λ x. slice_get x 0) (chars_past_char (chars_rest (chars_of s)) (chars_rest (chars_of t)) c u one)))
+  step : (c : ℕ) (s t : S) → IsUtf8 (chars_rest (chars_of s)) → chars_rest (chars_of s) ≡ encode c ++ chars_rest (chars_of t) → chars_steps (chars_of s) (Some c) (chars_of t)
+  step c s t u e = (e, (λ l. refl), sym (ap (λ x. slice_get x 0) (chars_past_char (chars_rest (chars_of s)) (chars_rest (chars_of t)) c u e)))
 
-  low_of : (c : ℕ) (part : List ℕ) → IsAscii (c ∷ part) → (c < 128) × IsAscii part
-  low_of c part a = (a 0, λ i. a (suc i))
-
-  pub gives_ascii : (c : ℕ) (part post : List ℕ) (s t : S) → IsUtf8 (chars_rest (chars_of s)) → chars_rest (chars_of s) ≡ c ∷ (part ++ post) → IsAscii (c ∷ part) → chars_rest (chars_of t) ≡ post
+  gives_chars : (c : ℕ) (part post : List ℕ) (s t : S) → IsUtf8 (chars_rest (chars_of s)) → chars_rest (chars_of s) ≡ encode c ++ (encodes part ++ post) → chars_rest (chars_of t) ≡ post
       → Yields (λ x r y. chars_steps (chars_of x) r (chars_of y)) s (c ∷ part) t
-  gives_ascii c [] post s t u e a rest = (t, step c s t u (e ∙ ap (λ x. c ∷ x) (sym rest)) (low_of c [] a).0, refl)
-  gives_ascii c (d ∷ part) post s t u e a rest =
-      let j = with_chars s (from (chars_of s) (d ∷ (part ++ post))) in
-      let here : chars_rest (chars_of j) ≡ d ∷ (part ++ post) = ap chars_rest (same s _) in
-      let low = low_of c (d ∷ part) a in
-      let v : IsUtf8 (chars_rest (chars_of j)) = subst IsUtf8 (sym here) (IsUtf8-past_char (chars_rest (chars_of s)) _ c u (e ∙ ap (λ x. x ++ (d ∷ (part ++ post))) (sym (encode_ascii c low.0)))) in
-      (j, step c s j u (e ∙ ap (λ x. c ∷ x) (sym here)) low.0, gives_ascii d part post j t v here low.1 rest)
+  gives_chars c [] post s t u e rest = (t, step c s t u (e ∙ ap (λ x. encode c ++ x) (sym rest)), refl)
+  gives_chars c (d ∷ part) post s t u e rest =
+      let f : chars_rest (chars_of s) ≡ encode c ++ (encode d ++ (encodes part ++ post)) = e ∙ ap (λ x. encode c ++ x) (append_assoc (encode d) (encodes part) post) in
+      let j = with_chars s (from (chars_of s) (encode d ++ (encodes part ++ post))) in
+      let here : chars_rest (chars_of j) ≡ encode d ++ (encodes part ++ post) = ap chars_rest (same s _) in
+      let v : IsUtf8 (chars_rest (chars_of j)) = subst IsUtf8 (sym here) (IsUtf8-past_char (chars_rest (chars_of s)) _ c u f) in
+      (j, step c s j u (f ∙ ap (λ x. encode c ++ x) (sym here)), gives_chars d part post j t v here rest)
 
-  pub gives_front : (s t : S) (n : ℕ) → 0 < n → n ≤ length (chars_rest (chars_of s)) → IsUtf8 (chars_rest (chars_of s)) → IsAscii (take n (chars_rest (chars_of s)))
-      → chars_rest (chars_of t) ≡ drop n (chars_rest (chars_of s)) → Yields (λ x r y. chars_steps (chars_of x) r (chars_of y)) s (take n (chars_rest (chars_of s))) t
-  gives_front s t zero some within u a rest = absurd (omega (arith, some))
-  gives_front s t (suc n) some within u a rest = by (chars_rest (chars_of s)) refl
+  -- the characters of the first bytes
+  pub gives_front : (s t : S) (n : ℕ) → 0 < n → n ≤ length (chars_rest (chars_of s)) → IsUtf8 (chars_rest (chars_of s)) → IsCharBoundary (chars_rest (chars_of s)) n
+      → chars_rest (chars_of t) ≡ drop n (chars_rest (chars_of s)) → Yields (λ x r y. chars_steps (chars_of x) r (chars_of y)) s (chars (take n (chars_rest (chars_of s)))) t
+  gives_front s t n some within u cut rest = by (chars (take n (chars_rest (chars_of s)))) (encodes-chars _ (IsUtf8-take _ n u cut))
     where
-      by : (bs : List ℕ) → chars_rest (chars_of s) ≡ bs → Yields (λ x r y. chars_steps (chars_of x) r (chars_of y)) s (take (suc n) (chars_rest (chars_of s))) t
-      by [] e = absurd (omega (arith, within, ap length e))
-      by (c ∷ bs) e =
-          let front : take (suc n) (chars_rest (chars_of s)) ≡ c ∷ take n bs = ap (take (suc n)) e in
-          let back : drop (suc n) (chars_rest (chars_of s)) ≡ drop n bs = ap (drop (suc n)) e in
-          rw front (gives_ascii c (take n bs) (drop n bs) s t u (e ∙ ap (λ x. c ∷ x) (sym (take-append-drop n bs))) (rw front at a) (rest ∙ back))
+      by : (cs : List ℕ) → encodes cs ≡ take n (chars_rest (chars_of s)) → Yields (λ x r y. chars_steps (chars_of x) r (chars_of y)) s cs t
+      by [] e = absurd (omega (arith, some, within, length-take-le n (chars_rest (chars_of s)) within, ap length e))
+      by (c ∷ cs) e =
+          gives_chars c cs (drop n (chars_rest (chars_of s))) s t u
+          (sym (take-append-drop n (chars_rest (chars_of s))) ∙ ap (λ x. x ++ drop n (chars_rest (chars_of s))) (sym e) ∙ append_assoc (encode c) (encodes cs) _) rest
+
+pub true_is_not_false : true ≡ false → ⊥
+true_is_not_false h = cc
+
+goes_word : (run : Run) (c d : ℕ) → stops run c ≡ false → is_in_words run c d ≡ true
+goes_word run c d h = rw h refl
+
+goes_in_words : (run : Run) (c d : ℕ) → stops_byte run c ≡ false → is_word_byte run c d ≡ true
+goes_in_words run c d h = rw h refl
+
+or_true : (b : Bool) → (b || true) ≡ true
+or_true true = refl
+or_true false = refl
+
+blank_word : (run : Run) (c d : ℕ) → is_blank c ≡ true → begins_word run d ≡ true → is_in_words run c d ≡ true
+blank_word run c d e h = rw (e, h) (or_true (not (stops run c)))
+
+blank_in_words : (run : Run) (c d : ℕ) → c ≡ 32 → begins_byte run d ≡ true → is_word_byte run c d ≡ true
+unfolding is_blank
+blank_in_words run c d e h = rw (e, h) (or_true (not (stops_byte run 32)))
 
 -- ---- words
 
-pub ascii_of : (run : Run) (bs : List ℕ) (n : ℕ) → AreWordsUpTo run bs n → IsAscii (take n bs)
-ascii_of run bs n words = by n bs words.ascii
+pub ascii_of : (bs : List ℕ) (n : ℕ) → AreAscii bs 0 n → IsAscii (take n bs)
+ascii_of bs n low = by n bs (λ k h. low k (omega arith) h)
   where
     by : (n : ℕ) (bs : List ℕ) → ((k : ℕ) → k < n → slice_index bs k < 128) → IsAscii (take n bs)
     by zero bs low i = omega arith
@@ -103,71 +206,160 @@ ascii_of run bs n words = by n bs words.ascii
     by (suc n) (b ∷ bs) low zero = low 0 (omega arith)
     by (suc n) (b ∷ bs) low (suc i) = by n bs (λ k h. low (suc k) (omega arith)) i
 
-pub boundary_of : (run : Run) (bs : List ℕ) (n : ℕ) → IsUtf8 bs → AreWordsUpTo run bs n → IsCharBoundary bs n
-boundary_of run bs zero u words = IsCharBoundary-start bs u
-boundary_of run bs (suc n) u words = let next : n + 1 ≡ suc n = omega arith in subst (IsCharBoundary bs) next (IsCharBoundary-after_ascii bs n u (omega (arith, words.within)) (words.ascii n (omega arith)))
+-- a byte of words goes on, or is a blank
+word_byte_low : (run : Run) (b d : ℕ) → stops_beyond run ≡ true → is_word_byte run b d ≡ true → b < 128
+unfolding stops_byte is_blank
+word_byte_low run b d beyond h = elim (cases_lt b 128) [
+  | inl low ↦ low
+  | inr high ↦
+      let e : nat_lt b 128 ≡ false = grind (arith, nat_tests) in
+      let tab : (b == 9) ≡ false = grind (arith, nat_tests) in
+      let space : (b == 32) ≡ false = grind (arith, nat_tests) in
+      let g : false ≡ true = rw (e, beyond, tab, space) at h in
+      absurd (true_is_not_false (sym g))
+]
 
--- the first bytes are words as a list too
-pub words_of : (run : Run) (bs : List ℕ) (n : ℕ) → AreWordsUpTo run bs n → are_words run (take n bs) ≡ true
-words_of run bs n words = by n bs words.within words.inner words.last
+-- where words end, the text may be cut
+pub boundary_of : (run : Run) (bs : List ℕ) (n : ℕ) → IsUtf8 bs → AreWordsUpTo run bs n → EndsAtAscii run bs n → IsCharBoundary bs n
+boundary_of run bs n u words ends = by n words (stops_beyond run) refl (cases_lt n (length bs)) ends
   where
-    by : (n : ℕ) (bs : List ℕ) → n ≤ length bs → ((k : ℕ) → k + 1 < n → is_in_words run (slice_index bs k) (slice_index bs (k + 1)) ≡ true) → ((k : ℕ) → k + 1 ≡ n → stops run (slice_index bs k) ≡ false) → are_words run (take n bs) ≡ true
+    last_low : (m : ℕ) → AreWordsUpTo run bs (m + 1) → stops_beyond run ≡ true → slice_index bs m < 128
+    last_low m words beyond = word_byte_low run (slice_index bs m) 0 beyond (goes_in_words run _ 0 (words.last m refl))
+
+    by : (n : ℕ) → AreWordsUpTo run bs n → (x : Bool) → stops_beyond run ≡ x → (n < length bs) ⊎ (length bs ≤ n) → EndsAtAscii run bs n → IsCharBoundary bs n
+    by n words false e (inl inside) ends = IsCharBoundary-before_ascii bs n inside (ends e inside)
+    by n words x e (inr outside) ends = let same : length bs ≡ n = omega (arith, outside, words.within) in subst (IsCharBoundary bs) same (IsCharBoundary-end bs)
+    by zero words true e (inl inside) ends = IsCharBoundary-start bs u
+    by (suc m) words true e (inl inside) ends =
+        let next : m + 1 ≡ suc m = omega arith in
+        let w : AreWordsUpTo run bs (m + 1) = subst (AreWordsUpTo run bs) (sym next) words in
+        subst (IsCharBoundary bs) next (IsCharBoundary-after_ascii bs m u (omega (arith, words.within)) (last_low m w e))
+
+-- ---- the characters of the bytes of words
+
+are_word_bytes : Run → List ℕ → Bool
+are_word_bytes run [] = true
+are_word_bytes run (b ∷ bs) = is_word_byte run b (slice_index bs 0) && are_word_bytes run bs
+
+-- the first bytes are so as a list too
+bytes_of : (run : Run) (bs : List ℕ) (n : ℕ) → AreWordsUpTo run bs n → are_word_bytes run (take n bs) ≡ true
+unfolding are_word_bytes
+bytes_of run bs n words = by n bs words.within words.inner words.last
+  where
+    by : (n : ℕ) (bs : List ℕ) → n ≤ length bs → ((k : ℕ) → k + 1 < n → is_word_byte run (slice_index bs k) (slice_index bs (k + 1)) ≡ true) → ((k : ℕ) → k + 1 ≡ n → stops_byte run (slice_index bs k) ≡ false) → are_word_bytes run (take n bs) ≡ true
     by zero bs within inner last = refl
     by (suc n) [] within inner last = absurd (omega (arith, within))
     by (suc zero) (b ∷ bs) within inner last =
-        let goes : stops run b ≡ false = last 0 (omega arith) in
+        let goes : stops_byte run b ≡ false = last 0 (omega arith) in
         rw goes refl
     by (suc (suc n)) (b ∷ []) within inner last = absurd (omega (arith, within))
     by (suc (suc n)) (b ∷ c ∷ bs) within inner last =
-        let first : is_in_words run b c ≡ true = inner 0 (omega arith) in
-        rw first (by (suc n) (c ∷ bs) (omega (arith, within)) (λ k h. let next : suc k + 1 ≡ suc (k + 1) = omega arith in subst (λ m. is_in_words run (slice_index (c ∷ bs) k) (slice_index (b ∷ c ∷ bs) m) ≡ true) next (inner (suc k) (omega arith))) (λ k h. last (suc k) (omega arith)))
+        let first : is_word_byte run b c ≡ true = inner 0 (omega arith) in
+        rw first (by (suc n) (c ∷ bs) (omega (arith, within)) (λ k h. let next : suc k + 1 ≡ suc (k + 1) = omega arith in subst (λ m. is_word_byte run (slice_index (c ∷ bs) k) (slice_index (b ∷ c ∷ bs) m) ≡ true) next (inner (suc k) (omega arith))) (λ k h. last (suc k) (omega arith)))
+
+bytes_after : (run : Run) (xs ys : List ℕ) → are_word_bytes run (xs ++ ys) ≡ true → are_word_bytes run ys ≡ true
+unfolding are_word_bytes
+bytes_after run [] ys h = h
+bytes_after run (x ∷ xs) ys h = bytes_after run xs ys (and_parts (is_word_byte run x (slice_index (xs ++ ys) 0)) _ h).1
+
+-- a character outside ASCII begins with a byte outside it
+lead_high : (c : ℕ) (rest : List ℕ) → 128 ≤ c → 128 ≤ slice_index (encode c ++ rest) 0
+lead_high c rest high = elim (cases_lt (slice_index (encode c ++ rest) 0) 128) [
+  | inl low ↦
+      let some : 0 < length (encode c ++ rest) = omega (arith, length-append (encode c) rest, length-encode c, (len_utf8_bounds c).0) in
+      absurd (omega (arith, high, low, char_from_byte (encode c ++ rest) rest c refl low some))
+  | inr h ↦ h
+]
+
+goes_high : (run : Run) (c : ℕ) → 128 ≤ c → stops_beyond run ≡ false → stops run c ≡ false
+unfolding stops is_break is_blank is_flow
+goes_high Line c high h = grind (arith, nat_tests)
+goes_high (Quoted quote) c high h =
+    let low : quote < 128 = grind (arith, nat_tests) in
+    let apart : c ≢ quote = omega (arith, low, high) in
+    grind (arith, nat_tests)
+goes_high (Plain flow) c high h = grind (arith, nat_tests)
+
+begins_of_high : (run : Run) (c : ℕ) → 128 ≤ c → stops_beyond run ≡ false → begins_word run c ≡ true
+unfolding begins_word stops is_break is_blank is_flow
+begins_of_high Line c high h = grind (arith, nat_tests)
+begins_of_high (Quoted quote) c high h =
+    let low : quote < 128 = grind (arith, nat_tests) in
+    let apart : c ≢ quote = omega (arith, low, high) in
+    grind (arith, nat_tests)
+begins_of_high (Plain flow) c high h = grind (arith, nat_tests)
+
+-- a blank that goes on in bytes goes on in characters
+blank_of_bytes : (run : Run) (cs : List ℕ) → begins_byte run (slice_index (encodes cs) 0) ≡ true → begins_word run (slice_index cs 0) ≡ true
+blank_of_bytes run [] h = begins_low run 0 (omega arith) h
+blank_of_bytes run (d ∷ ds) h = elim (cases_lt d 128) [
+  | inl low ↦
+      let same : slice_index (encode d ++ encodes ds) 0 ≡ d = byte_from_char _ (encodes ds) d refl low in
+      begins_low run d low (subst (λ b. begins_byte run b ≡ true) same h)
+  | inr high ↦ begins_of_high run d high (begins_high run _ (lead_high d (encodes ds) high) h)
+]
+
+in_words_of : (run : Run) (c : ℕ) (cs : List ℕ) → is_word_byte run (slice_index (encode c ++ encodes cs) 0) (slice_index (drop 1 (encode c ++ encodes cs)) 0) ≡ true → is_in_words run c (slice_index cs 0) ≡ true
+in_words_of run c cs h = elim (cases_lt c 128) [
+  | inl low ↦
+      let one : encode c ++ encodes cs ≡ c ∷ encodes cs = ap (λ x. x ++ encodes cs) (encode_ascii c low) in
+      let g : is_word_byte run c (slice_index (encodes cs) 0) ≡ true = subst (λ x. is_word_byte run (slice_index x 0) (slice_index (drop 1 x) 0) ≡ true) one h in
+      by_blank low g (stops_byte run c) refl
+  | inr high ↦
+      goes_word run c _ (goes_high run c high (beyond_of high (stops_beyond run) refl))
+]
+  where
+    by_blank : c < 128 → is_word_byte run c (slice_index (encodes cs) 0) ≡ true → (x : Bool) → stops_byte run c ≡ x → is_in_words run c (slice_index cs 0) ≡ true
+    by_blank low g false e = goes_word run c _ (stops_low run c low e)
+    by_blank low g true e =
+        let both : (is_blank c && begins_byte run (slice_index (encodes cs) 0)) ≡ true = rw e at g in
+        let parts = and_parts (is_blank c) _ both in
+        blank_word run c _ parts.0 (blank_of_bytes run cs parts.1)
+
+    beyond_of : 128 ≤ c → (x : Bool) → stops_beyond run ≡ x → stops_beyond run ≡ false
+    beyond_of high false e = e
+    beyond_of high true e = absurd (omega (arith, lead_high c (encodes cs) high, word_byte_low run _ _ e h))
+
+chars_of_bytes : (run : Run) (cs : List ℕ) → are_word_bytes run (encodes cs) ≡ true → are_words run cs ≡ true
+unfolding are_word_bytes
+chars_of_bytes run [] h = refl
+chars_of_bytes run (c ∷ cs) h =
+    rw (in_words_of run c cs (first_of (encode c ++ encodes cs) (omega (arith, length-append (encode c) (encodes cs), length-encode c, (len_utf8_bounds c).0)) h)) (chars_of_bytes run cs (bytes_after run (encode c) (encodes cs) h))
+  where
+    first_of : (bs : List ℕ) → 0 < length bs → are_word_bytes run bs ≡ true → is_word_byte run (slice_index bs 0) (slice_index (drop 1 bs) 0) ≡ true
+    first_of [] some g = absurd (omega (arith, some))
+    first_of (b ∷ bs) some g = (and_parts (is_word_byte run b (slice_index bs 0)) _ g).0
+
+-- the characters of the first bytes are words
+pub words_of : (run : Run) (bs : List ℕ) (n : ℕ) → IsUtf8 bs → AreWordsUpTo run bs n → EndsAtAscii run bs n → are_words run (chars (take n bs)) ≡ true
+words_of run bs n u words ends =
+    chars_of_bytes run (chars (take n bs)) (subst (λ x. are_word_bytes run x ≡ true) (sym (encodes-chars _ (IsUtf8-take bs n u (boundary_of run bs n u words ends)))) (bytes_of run bs n words))
 
 -- ---- words are found
 
 pub word_none : (run : Run) (bs : List ℕ) (from : ℕ) → from ≤ length bs → IsWordBetween run bs from from
-word_none run bs from h = record { after = omega arith; within = h; ascii = λ k a b. absurd (omega arith); inner = λ k a b. absurd (omega arith) }
+word_none run bs from h = record { after = omega arith; within = h; inner = λ k a b. absurd (omega arith) }
 
-pub word_more : (run : Run) (bs : List ℕ) (from to : ℕ) → IsWordBetween run bs from to → to < length bs → slice_index bs to < 128 → stops run (slice_index bs to) ≡ false → IsWordBetween run bs from (to + 1)
-word_more run bs from to w h low goes = record {
+pub word_more : (run : Run) (bs : List ℕ) (from to : ℕ) → IsWordBetween run bs from to → to < length bs → stops_byte run (slice_index bs to) ≡ false → IsWordBetween run bs from (to + 1)
+word_more run bs from to w h goes = record {
   after = omega (arith, w.after);
   within = omega arith;
-  ascii = λ k a b. elim (cases_lt k to) [ inl before ↦ w.ascii k a before | inr last ↦ let here : k ≡ to = omega arith in rw here low ];
   inner = λ k a b. elim (cases_lt k to) [ inl before ↦ w.inner k a before | inr last ↦ let here : k ≡ to = omega arith in rw here goes ];
 }
 
-goes_in_words : (run : Run) (c d : ℕ) → stops run c ≡ false → is_in_words run c d ≡ true
-goes_in_words run c d h = rw h refl
+pub ascii_none : (bs : List ℕ) (from : ℕ) → AreAscii bs from from
+ascii_none bs from k a b = absurd (omega (arith, a, b))
 
-blank_in_words : (run : Run) (c d : ℕ) → c ≡ 32 → begins_word run d ≡ true → is_in_words run c d ≡ true
-unfolding is_blank
-blank_in_words run c d e h = rw (e, h) (either (not (stops run 32)))
-  where
-    either : (b : Bool) → (b || true) ≡ true
-    either true = refl
-    either false = refl
+pub ascii_more : (bs : List ℕ) (from to : ℕ) → AreAscii bs from to → slice_index bs to < 128 → AreAscii bs from (to + 1)
+ascii_more bs from to low here k a b = elim (cases_lt k to) [ inl before ↦ low k a before | inr last ↦ let e : k ≡ to = omega arith in rw e here ]
 
-pub words_start : (run : Run) (bs : List ℕ) (n : ℕ) → IsWordBetween run bs 0 n → AreWordsUpTo run bs n
-words_start run bs n w = record {
+pub ascii_further : (bs : List ℕ) (from mid to : ℕ) → AreAscii bs from mid → AreAscii bs mid to → AreAscii bs from to
+ascii_further bs from mid to low more k a b = elim (cases_lt k mid) [ inl before ↦ low k a before | inr after ↦ more k after b ]
+
+pub words_more : (run : Run) (bs : List ℕ) (n to : ℕ) → AreWordsUpTo run bs n → n + 1 < length bs → slice_index bs n ≡ 32 → begins_byte run (slice_index bs (n + 1)) ≡ true
+    → IsWordBetween run bs (n + 2) to → AreWordsUpTo run bs to
+words_more run bs n to words h blank begins w = record {
   within = w.within;
-  ascii = λ k h. w.ascii k (omega arith) h;
-  inner = λ k h. goes_in_words run _ _ (w.inner k (omega arith) (omega arith));
-  last = λ k h. w.inner k (omega arith) (omega arith);
-}
-
-pub words_more : (run : Run) (bs : List ℕ) (n to : ℕ) → AreWordsUpTo run bs n → n + 1 < length bs → slice_index bs n ≡ 32 → begins_word run (slice_index bs (n + 1)) ≡ true → stops run (slice_index bs (n + 1)) ≡ false
-    → slice_index bs (n + 1) < 128 → IsWordBetween run bs (n + 2) to → AreWordsUpTo run bs to
-words_more run bs n to words h blank begins goes low w = record {
-  within = w.within;
-  ascii = λ k a. elim (cases_lt k n) [
-    | inl before ↦ words.ascii k before
-    | inr later ↦ elim (cases_lt n k) [
-      | inr here ↦ let e : k ≡ n = omega arith in rw (e, blank) (omega arith)
-      | inl after ↦ elim (cases_lt (n + 1) k) [
-        | inr next ↦ let e : k ≡ n + 1 = omega arith in rw e low
-        | inl beyond ↦ w.ascii k (omega arith) a
-      ]
-    ]
-  ];
   inner = λ k a. elim (cases_lt (k + 1) n) [
     | inl before ↦ words.inner k before
     | inr later ↦ elim (cases_lt k n) [
@@ -181,57 +373,79 @@ words_more run bs n to words h blank begins goes low w = record {
   last = λ k a. goes_at k (omega (arith, w.after)) (omega arith);
 }
   where
-    goes_at : (k : ℕ) → n < k → k < to → stops run (slice_index bs k) ≡ false
+    goes_at : (k : ℕ) → n < k → k < to → stops_byte run (slice_index bs k) ≡ false
     goes_at k a b = elim (cases_lt (n + 1) k) [
-      | inr next ↦ let e : k ≡ n + 1 = omega arith in rw e goes
+      | inr next ↦ let e : k ≡ n + 1 = omega arith in rw e (begins_goes run _ begins)
       | inl beyond ↦ w.inner k (omega arith) b
     ]
 
+-- a lone blank and the byte after it are ASCII too
+pub ascii_word : (bs : List ℕ) (n to : ℕ) → AreAscii bs 0 n → slice_index bs n ≡ 32 → slice_index bs (n + 1) < 128 → AreAscii bs (n + 2) to → AreAscii bs 0 to
+ascii_word bs n to low blank next more =
+    let one : AreAscii bs 0 (n + 1) = ascii_more bs 0 n low (rw blank (omega arith)) in
+    let same : n + 1 + 1 ≡ n + 2 = omega arith in
+    ascii_further bs 0 (n + 2) to (subst (AreAscii bs 0) same (ascii_more bs 0 (n + 1) one next)) more
+
 -- ---- sixteen bytes at a time
 
-halts_at : (first second c d : ℕ) → halts first second (c, d) ≡ false → c ≢ 32 → (32 < c) × (c < 127) × (c ≢ first) × (c ≢ second)
-halts_at first second c d h apart = (grind (arith, nat_tests), grind (arith, nat_tests), grind (arith, nat_tests), grind (arith, nat_tests))
+halts_at : (first second c d : ℕ) → halts first second (c, d) ≡ false → c ≢ 32 → (32 < c) × (c ≢ first) × (c ≢ second)
+halts_at first second c d h apart = (grind (arith, nat_tests), grind (arith, nat_tests), grind (arith, nat_tests))
 
-halts_low : (first second c d : ℕ) → halts first second (c, d) ≡ false → c < 128
-halts_low first second c d h = grind (arith, nat_tests)
+-- a byte with which words go on after a lone blank
+abbrev IsFirst : ℕ → Type 0
+IsFirst d = (47 < d) × (d ≢ 58) × (d ≢ 91) × (d ≢ 92) × (d ≢ 93) × (d ≢ 123) × (d ≢ 125)
 
-halts_after : (first second c d : ℕ) → halts first second (c, d) ≡ false → c ≡ 32 → (47 < d) × (d < 123) × (d ≢ 58) × (d ≢ 91) × (d ≢ 92) × (d ≢ 93)
+halts_after : (first second c d : ℕ) → halts first second (c, d) ≡ false → c ≡ 32 → IsFirst d
 halts_after first second c d h blank =
     let g = rw blank at h in
-    (grind (arith, nat_tests), grind (arith, nat_tests), grind (arith, nat_tests), grind (arith, nat_tests), grind (arith, nat_tests), grind (arith, nat_tests))
+    (grind (arith, nat_tests), grind (arith, nat_tests), grind (arith, nat_tests), grind (arith, nat_tests), grind (arith, nat_tests), grind (arith, nat_tests), grind (arith, nat_tests))
 
-begins_plain : (d : ℕ) → (47 < d) × (d < 123) × (d ≢ 58) × (d ≢ 91) × (d ≢ 92) × (d ≢ 93) → begins_word (Plain false) d ≡ true
+plain_first : (d : ℕ) → IsFirst d → begins_word (Plain false) d ≡ true
 unfolding begins_word stops is_break is_blank is_flow
-begins_plain d h = let a = h.0 in let b = h.1 in let e = h.2 in let f = h.3 in let g = h.4 in let i = h.5 in grind (arith, nat_tests)
+plain_first d h = let a = h.0 in let b = h.1 in let e = h.2 in let f = h.3 in let g = h.4 in let i = h.5 in let j = h.6 in grind (arith, nat_tests)
 
-begins_quoted : (quote d : ℕ) → quote < 40 → (47 < d) × (d < 123) × (d ≢ 58) × (d ≢ 91) × (d ≢ 92) × (d ≢ 93) → begins_word (Quoted quote) d ≡ true
+begins_plain : (d : ℕ) → IsFirst d → begins_byte (Plain false) d ≡ true
+begins_plain d h = byte_begins (Plain false) d refl (plain_first d h)
+
+quoted_first : (quote d : ℕ) → quote < 40 → IsFirst d → begins_word (Quoted quote) d ≡ true
 unfolding begins_word stops is_break is_blank
-begins_quoted quote d low h = let a = h.0 in let b = h.1 in let e = h.2 in let f = h.3 in let g = h.4 in let i = h.5 in grind (arith, nat_tests)
+quoted_first quote d low h = let a = h.0 in let b = h.1 in let e = h.2 in let f = h.3 in let g = h.4 in grind (arith, nat_tests)
+
+begins_quoted : (quote d : ℕ) → quote < 40 → IsFirst d → begins_byte (Quoted quote) d ≡ true
+begins_quoted quote d low h = byte_begins (Quoted quote) d (low_quote quote (omega (arith, low))) (quoted_first quote d low h)
 
 pub goes_plain : (c d : ℕ) → halts 58 58 (c, d) ≡ false → Goes (Plain false) c d
 goes_plain c d h = record {
-  low = halts_low 58 58 c d h;
-  word = λ apart. let at = halts_at 58 58 c d h apart in ordinary_in_plain false c at.0 at.2 refl;
+  word = λ apart. let at = halts_at 58 58 c d h apart in ordinary_in_plain false c at.0 at.1 refl;
   blank = λ e. blank_in_words (Plain false) c d e (begins_plain d (halts_after 58 58 c d h e));
 }
 
 pub goes_quoted : (quote c d : ℕ) → quote < 40 → halts quote 92 (c, d) ≡ false → Goes (Quoted quote) c d
 goes_quoted quote c d small h = record {
-  low = halts_low quote 92 c d h;
-  word = λ apart. let at = halts_at quote 92 c d h apart in ordinary_in_quotes quote c at.0 at.2 at.3;
+  word = λ apart. let at = halts_at quote 92 c d h apart in ordinary_in_quotes quote c at.0 at.1 at.2 (omega (arith, small));
   blank = λ e. blank_in_words (Quoted quote) c d e (begins_quoted quote d small (halts_after quote 92 c d h e));
 }
 
 pub goes_line : (c d : ℕ) → halts_line c ≡ false → Goes Line c d
 goes_line c d h =
-    let goes : stops Line c ≡ false = ordinary_in_line c (grind (arith, nat_tests)) in
+    let goes : stops_byte Line c ≡ false = ordinary_in_line c (grind (arith, nat_tests)) in
     record {
-      low = grind (arith, nat_tests);
       word = λ apart. goes;
       blank = λ e. goes_in_words Line c d goes;
     }
 
-lane_in_words : (run : Run) (bs : List ℕ) (at n : ℕ) → LanesGo run bs at n → (j : ℕ) → at ≤ j → j < at + n → is_in_words run (slice_index bs j) (slice_index bs (j + 1)) ≡ true
+blank_in_line : (c : ℕ) → is_blank c ≡ true → stops Line c ≡ false
+unfolding stops is_break is_blank
+blank_in_line c h = grind (arith, nat_tests)
+
+-- only where a run goes up to the line's end, a blank goes on before a blank
+blank_before : (run : Run) (c : ℕ) → is_blank c ≡ true → begins_byte run 32 ≡ true → stops_byte run c ≡ false
+unfolding begins_byte begins_word stops is_break is_blank
+blank_before Line c h g = byte_goes Line c refl (blank_in_line c h)
+blank_before (Quoted quote) c h g = absurd (true_is_not_false (sym g))
+blank_before (Plain flow) c h g = absurd (true_is_not_false (sym g))
+
+lane_in_words : (run : Run) (bs : List ℕ) (at n : ℕ) → LanesGo run bs at n → (j : ℕ) → at ≤ j → j < at + n → is_word_byte run (slice_index bs j) (slice_index bs (j + 1)) ≡ true
 lane_in_words run bs at n go j a b =
     let k = j - at in
     let here : at + k ≡ j = omega arith in
@@ -240,42 +454,38 @@ lane_in_words run bs at n go j a b =
     let h = subst (λ i. Goes run (slice_index bs j) (slice_index bs i)) next g in
     by h (slice_index bs j == 32) refl
   where
-    by : Goes run (slice_index bs j) (slice_index bs (j + 1)) → (x : Bool) → (slice_index bs j == 32) ≡ x → is_in_words run (slice_index bs j) (slice_index bs (j + 1)) ≡ true
+    by : Goes run (slice_index bs j) (slice_index bs (j + 1)) → (x : Bool) → (slice_index bs j == 32) ≡ x → is_word_byte run (slice_index bs j) (slice_index bs (j + 1)) ≡ true
     by h true e = h.blank (grind (arith, nat_tests))
     by h false e = goes_in_words run _ _ (h.word (grind (arith, nat_tests)))
 
-lane_low : (run : Run) (bs : List ℕ) (at n : ℕ) → LanesGo run bs at n → (j : ℕ) → at ≤ j → j < at + n → slice_index bs j < 128
-lane_low run bs at n go j a b =
-    let here : at + (j - at) ≡ j = omega arith in
-    let g = go (j - at) (omega arith) in
-    subst (λ i. slice_index bs i < 128) here g.low
-
 -- a character before a blank is of a word
-before_blank : (run : Run) (c d : ℕ) → is_in_words run c d ≡ true → d ≡ 32 → stops run c ≡ false
-unfolding begins_word stops is_break is_blank
-before_blank Line c d h e = let g = rw e at h in grind (arith, nat_tests)
-before_blank (Quoted quote) c d h e = let g = rw e at h in grind (arith, nat_tests)
-before_blank (Plain flow) c d h e = let g = rw e at h in grind (arith, nat_tests)
+before_blank : (run : Run) (c d : ℕ) → is_word_byte run c d ≡ true → d ≡ 32 → stops_byte run c ≡ false
+before_blank run c d h e = by (stops_byte run c) refl
+  where
+    by : (x : Bool) → stops_byte run c ≡ x → stops_byte run c ≡ false
+    by false f = f
+    by true f =
+        let both : (is_blank c && begins_byte run d) ≡ true = rw f at h in
+        let parts = and_parts (is_blank c) _ both in
+        blank_before run c parts.0 (subst (λ x. begins_byte run x ≡ true) e parts.1)
 
 -- where the last lane is no blank, they are words; where it is one, those before it are
 pub lanes_whole : (run : Run) (bs : List ℕ) (at n : ℕ) → at + 16 < length bs → n ≤ 16 → LanesGo run bs at n → (0 < n → slice_index bs (at + n - 1) ≢ 32) → AreWordsBetween run bs at (at + n)
 lanes_whole run bs at n room few go last = record {
   after = omega arith;
   within = omega (arith, room, few);
-  ascii = λ j a b. lane_low run bs at n go j a b;
   inner = λ j a b. lane_in_words run bs at n go j a (omega (arith, b));
   last = λ j a b.
       let here : at + (j - at) ≡ j = omega arith in
       let end : at + n - 1 ≡ j = omega arith in
       let g = go (j - at) (omega (arith, b)) in
-      subst (λ i. stops run (slice_index bs i) ≡ false) here (g.word (subst (λ i. slice_index bs i ≢ 32) (end ∙ sym here) (last (omega (arith, a, b)))));
+      subst (λ i. stops_byte run (slice_index bs i) ≡ false) here (g.word (subst (λ i. slice_index bs i ≢ 32) (end ∙ sym here) (last (omega (arith, a, b)))));
 }
 
 pub lanes_but_last : (run : Run) (bs : List ℕ) (at n : ℕ) → at + 16 < length bs → n ≤ 16 → 0 < n → LanesGo run bs at n → slice_index bs (at + n - 1) ≡ 32 → AreWordsBetween run bs at (at + (n - 1))
 lanes_but_last run bs at n room few some go blank = record {
   after = omega arith;
   within = omega (arith, room, few);
-  ascii = λ j a b. lane_low run bs at n go j a (omega (arith, b));
   inner = λ j a b. lane_in_words run bs at n go j a (omega (arith, b));
   last = λ j a b.
       let end : at + n - 1 ≡ j + 1 = omega (arith, some, b) in
@@ -283,12 +493,11 @@ lanes_but_last run bs at n room few some go blank = record {
 }
 
 pub words_none : (run : Run) (bs : List ℕ) → AreWordsUpTo run bs 0
-words_none run bs = record { within = omega arith; ascii = λ k h. absurd (omega (arith, h)); inner = λ k h. absurd (omega (arith, h)); last = λ k h. absurd (omega (arith, h)) }
+words_none run bs = record { within = omega arith; inner = λ k h. absurd (omega (arith, h)); last = λ k h. absurd (omega (arith, h)) }
 
 pub words_further : (run : Run) (bs : List ℕ) (n to : ℕ) → AreWordsUpTo run bs n → AreWordsBetween run bs n to → AreWordsUpTo run bs to
 words_further run bs n to words more = record {
   within = more.within;
-  ascii = λ k h. elim (cases_lt k n) [ inl before ↦ words.ascii k before | inr after ↦ more.ascii k (omega arith) h ];
   inner = λ k h. elim (cases_lt (k + 1) n) [
     | inl before ↦ words.inner k before
     | inr later ↦ elim (cases_lt k n) [
@@ -306,10 +515,23 @@ pub word_further : (run : Run) (bs : List ℕ) (n to : ℕ) → AreWordsUpTo run
 word_further run bs n to words w = words_further run bs n to words record {
   after = w.after;
   within = w.within;
-  ascii = w.ascii;
   inner = λ k a b. goes_in_words run _ _ (w.inner k a (omega (arith, b)));
   last = λ k a b. w.inner k a (omega (arith, b));
 }
+
+-- ---- whether a byte outside ASCII was met
+
+pub or_parts : (x y : Bool) → (x || y) ≡ false → (x ≡ false) × (y ≡ false)
+or_parts false y h = (refl, h)
+or_parts true y h = absurd (true_is_not_false h)
+
+pub blocks_ascii : (x y : Bool) (bs : List ℕ) (at n : ℕ) → (x ≡ false → AreAscii bs 0 at) → (y ≡ false → (k : ℕ) → k < 16 → slice_index bs (at + k) < 128) → n ≤ 16 → (x || y) ≡ false → AreAscii bs 0 (at + n)
+blocks_ascii x y bs at n before here few h k a b =
+    let parts = or_parts x y h in
+    elim (cases_lt k at) [
+      | inl low ↦ before parts.0 k a low
+      | inr high ↦ let same : at + (k - at) ≡ k = omega (arith, high) in subst (λ i. slice_index bs i < 128) same (here parts.1 (k - at) (omega (arith, high, b, few)))
+    ]
 
 -- ---- the front of a slice
 
@@ -427,9 +649,6 @@ module _ {T : Type 0} (run : Run) (s : Pulled T) (ring : List ℕ) (at line col 
   }
 
 -- ---- words in two parts
-
-pub true_is_not_false : true ≡ false → ⊥
-true_is_not_false h = cc
 
 -- a character that no blank may follow may stand before any
 last_in_words : (run : Run) (c d : ℕ) → is_in_words run c 0 ≡ true → is_in_words run c d ≡ true

@@ -1,5 +1,5 @@
 //! Where characters come from: an iterator, or a text in memory.
-ghost use Rattle.std.specs.Prelude.{◌≡◌, ℕ, ◌+◌, ◌≤◌, List, [], length, take, drop, Option, IsCharBoundary, IsAscii};
+ghost use Rattle.std.specs.Prelude.{◌≡◌, ℕ, ◌+◌, ◌≤◌, List, [], length, take, drop, chars, Option, IsCharBoundary};
 ghost use Rattle.std.specs.Iterator.{Count, IsFinite, size, MakesProgress, Yields};
 
 use std::str::Chars;
@@ -29,15 +29,14 @@ pub trait Characters: Drop {
     fn known(&self) -> &str
         ensures { result.now ≡ known self.now };
 
-    /// Steps over so many bytes of the text that is known, which are ASCII. It is as if their characters had been asked for.
+    /// Steps over so many bytes of the text that is known. It is as if their characters had been asked for.
     fn pass(&mut self, count: usize)
         requires can { can_next self.old }
         requires within { count ≤ length (known self.old) }
         requires cut { IsCharBoundary (known self.old) count }
-        requires ascii { IsAscii (take count (known self.old)) }
-        ensures gives { Yields next_gives self.old (take count (known self.old)) self.new }
+        ensures gives { Yields next_gives self.old (chars (take count (known self.old))) self.new }
         ensures can { can_next self.new }
-        ensures goes { IsFinite (remaining self.old) → IsFinite (remaining self.new) × (size (remaining self.new) + count ≤ size (remaining self.old)) };
+        ensures goes { IsFinite (remaining self.old) → IsFinite (remaining self.new) × (size (remaining self.new) + length (chars (take count (known self.old))) ≤ size (remaining self.old)) };
 }
 
 impl<T: Iterator<Item = char>> Characters for T {

@@ -1,7 +1,7 @@
 //! Sixteen bytes at a time.
 ghost use Rattle.std.specs.Prelude.{◌≡◌, ℕ, ◌+◌, ◌<◌, ◌≤◌, length, slice_index, false, map};
 ghost use Rattle.yaml_chars.specs.Pairs.{halts_simple};
-ghost use Rattle.yaml_chars.specs.Words.{halts, halts_line, pairs};
+ghost use Rattle.yaml_chars.specs.Words.{halts, halts_line, is_beyond, pairs};
 ghost use lib.Lanes.{mask_l};
 
 use std::simd::prelude::*;
@@ -15,25 +15,26 @@ fn halting(block: u8x16, next: u8x16, first: u8, second: u8) -> u64
     ensures { result ≡ mask_l (map (halts first second) (pairs block next)) }
 {
     let other = block.simd_lt(u8x16::splat(b'!'))
-        | block.simd_gt(u8x16::splat(b'~'))
+        | block.simd_eq(u8x16::splat(127))
         | block.simd_eq(u8x16::splat(first))
         | block.simd_eq(u8x16::splat(second));
     let apart = block.simd_ne(u8x16::splat(b' '))
         | next.simd_lt(u8x16::splat(b'0'))
-        | next.simd_gt(u8x16::splat(b'z'))
         | next.simd_eq(u8x16::splat(b':'))
         | next.simd_eq(u8x16::splat(b'['))
         | next.simd_eq(u8x16::splat(b'\\'))
-        | next.simd_eq(u8x16::splat(b']'));
+        | next.simd_eq(u8x16::splat(b']'))
+        | next.simd_eq(u8x16::splat(b'{'))
+        | next.simd_eq(u8x16::splat(b'}'));
     (other & apart).to_bitmask()
 }
 
-/// The bytes that are no printable characters, as bits.
+/// The bytes that are ASCII control characters, as bits.
 #[inline(always)]
-fn unprintable(block: u8x16) -> u64
+fn controls(block: u8x16) -> u64
     ensures { result ≡ mask_l (map halts_line block) }
 {
-    (block.simd_lt(u8x16::splat(b' ')) | block.simd_gt(u8x16::splat(b'~'))).to_bitmask()
+    (block.simd_lt(u8x16::splat(b' ')) | block.simd_eq(u8x16::splat(127))).to_bitmask()
 }
 
 /// How many of the next sixteen bytes come before the first where words do not surely go on. Two bytes are named that are
@@ -53,18 +54,36 @@ pub(crate) fn word_lanes(bytes: &[u8], at: usize, first: u8, second: u8) -> usiz
     found.trailing_zeros() as usize
 }
 
-/// How many of the next sixteen bytes come before the first that is no printable character.
+/// How many of the next sixteen bytes come before the first that is an ASCII control character.
 #[inline(always)]
 pub(crate) fn line_lanes(bytes: &[u8], at: usize) -> usize
     requires { at + 16 < length bytes.now }
     ensures within { result ≤ 16 }
     ensures goes { (k : ℕ) → k < result → halts_line (slice_index bytes.now (at + k)) ≡ false }
 {
-    let found = unprintable(u8x16::from_slice(&bytes[at..]));
+    let found = controls(u8x16::from_slice(&bytes[at..]));
     if found == 0 {
         return LANES;
     }
     found.trailing_zeros() as usize
+}
+
+/// The bytes outside ASCII, as bits.
+#[inline(always)]
+fn beyond_ascii(block: u8x16) -> u64
+    ensures { result ≡ mask_l (map is_beyond block) }
+{
+    block.simd_gt(u8x16::splat(127)).to_bitmask()
+}
+
+/// Whether one of the next sixteen bytes is outside ASCII.
+#[inline(always)]
+pub(crate) fn has_beyond(bytes: &[u8], at: usize) -> bool
+    requires { at + 16 < length bytes.now }
+    ensures { result ≡ false → (k : ℕ) → k < 16 → slice_index bytes.now (at + k) < 128 }
+{
+    let found = beyond_ascii(u8x16::from_slice(&bytes[at..]));
+    found != 0
 }
 
 /// The bytes that are not simple, as bits: no printable characters, `:` and `#`.

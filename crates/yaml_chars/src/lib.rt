@@ -4,6 +4,7 @@
 
 pub mod characters;
 pub mod class;
+mod count;
 pub mod history;
 mod lanes;
 pub mod marker;

@@ -1,10 +1,10 @@
 //! Runs of characters that are taken one by one, without a look ahead.
-ghost use Rattle.std.specs.Prelude.{◌≡◌, ◌≢◌, ◌+◌, ◌<◌, ◌≤◌, false, true, length};
+ghost use Rattle.std.specs.Prelude.{◌≡◌, ◌≢◌, ◌+◌, ◌<◌, ◌≤◌, false, true, length, slice_index};
 ghost use Rattle.yaml_chars.specs.Run.{stops};
-ghost use Rattle.yaml_chars.specs.Words.{begins_word, AreWordsUpTo, AreWordsBetween, IsWordBetween, LanesGo};
+ghost use Rattle.yaml_chars.specs.Words.{stops_beyond, stops_byte, begins_byte, AreWordsUpTo, AreWordsBetween, AreAscii, EndsAtAscii, IsWordBetween, LanesGo};
 
 use crate::class::{is_blank_or_breakz, is_breakz, is_flow};
-use crate::lanes::{LANES, line_lanes, word_lanes};
+use crate::lanes::{LANES, has_beyond, line_lanes, word_lanes};
 
 /// A run of ordinary characters of one line. None holds a line break or a NUL.
 #[derive(Clone, Copy)]
@@ -15,6 +15,13 @@ pub enum Run {
     Quoted(char),
     /// In a plain scalar: up to a blank or a colon, and inside a flow collection up to one of its indicators.
     Plain(bool),
+}
+
+/// Where words end among bytes, and whether one of these may be outside ASCII.
+#[derive(Clone, Copy)]
+pub(crate) struct Found {
+    pub end: usize,
+    pub beyond: bool,
 }
 
 impl Run {
@@ -32,31 +39,34 @@ impl Run {
         }
     }
 
-    /// Whether a byte is an ASCII character of the run, whatever comes after it. Control characters are not looked at
-    /// further: of them it says nothing.
+    /// Whether a byte is of a character of the run, whatever comes after it. Control characters are not looked at further:
+    /// of them it says nothing. Bytes outside ASCII are all of the run, or where its quote is outside ASCII, none.
     #[inline(always)]
-    #[tactic(auto, using(crate::proofs::WordsLemmas::ordinary_in_line, crate::proofs::WordsLemmas::ordinary_in_quotes, crate::proofs::WordsLemmas::ordinary_in_plain))]
+    #[tactic(auto, using(crate::proofs::WordsLemmas::ordinary_in_line, crate::proofs::WordsLemmas::ordinary_in_quotes, crate::proofs::WordsLemmas::ascii_in_quotes, crate::proofs::WordsLemmas::ordinary_in_plain))]
     fn is_ordinary(self, byte: u8) -> bool
-        ensures goes { result ≡ true → stops self byte ≡ false }
-        ensures ascii { result ≡ true → byte < 128 }
+        ensures goes { result ≡ true → stops_byte self byte ≡ false }
+        ensures ascii { result ≡ false → stops_beyond self ≡ false → byte < 128 }
     {
         match self {
-            Run::Line => byte >= b' ' && byte < 127,
+            Run::Line => byte >= b' ' && byte != 127,
             Run::Quoted(quote) => {
-                byte > b' ' && byte < 127 && char::from(byte) != quote && byte != b'\\'
+                byte > b' '
+                    && byte != 127
+                    && char::from(byte) != quote
+                    && byte != b'\\'
+                    && (byte < 128 || quote < '\u{80}')
             }
             Run::Plain(flow) => {
-                byte > b' ' && byte < 127 && byte != b':' && !(flow && is_flow(char::from(byte)))
+                byte > b' ' && byte != 127 && byte != b':' && !(flow && is_flow(char::from(byte)))
             }
         }
     }
 
-    /// Whether a byte is an ASCII character with which a word goes on after a lone blank.
+    /// Whether a byte is of a character with which a word goes on after a lone blank.
     #[inline(always)]
     #[tactic(auto, using(crate::proofs::WordsLemmas::begins_in_line, crate::proofs::WordsLemmas::begins_in_quotes, crate::proofs::WordsLemmas::begins_in_plain))]
     fn is_first(self, byte: u8) -> bool
-        ensures begins { result ≡ true → begins_word self byte ≡ true }
-        ensures ascii { result ≡ true → byte < 128 }
+        ensures { result ≡ true → begins_byte self byte ≡ true }
     {
         match self {
             Run::Plain(_) => Run::Plain(true).is_ordinary(byte) && byte != b'#' && byte != b'-',
@@ -66,15 +76,19 @@ impl Run {
 
     /// Where the ordinary characters that begin at a place end.
     #[inline(always)]
-    fn word_end(self, bytes: &[u8], start: usize) -> usize
+    fn word_end(self, bytes: &[u8], start: usize) -> Found
         requires { start ≤ length bytes.now }
-        ensures { IsWordBetween self bytes.now start result }
+        ensures word { IsWordBetween self bytes.now start result.end }
+        ensures ascii { result.beyond ≡ false → AreAscii bytes.now start result.end }
+        ensures ends { EndsAtAscii self bytes.now result.end }
     {
         let mut at = start;
+        let mut beyond = false;
         'word: while at < bytes.len() && self.is_ordinary(bytes[at]) {
+            beyond = beyond | (bytes[at] >= 128);
             at += 1;
         }
-        at
+        Found { end: at, beyond }
     }
 
     /// With how many of the next sixteen bytes words surely go on.
@@ -110,18 +124,21 @@ impl Run {
 
     /// The same of all bytes that come next, sixteen at a time.
     #[inline(always)]
-    fn blocks(self, bytes: &[u8]) -> usize
-        ensures { AreWordsUpTo self bytes.now result }
+    fn blocks(self, bytes: &[u8]) -> Found
+        ensures words { AreWordsUpTo self bytes.now result.end }
+        ensures ascii { result.beyond ≡ false → AreAscii bytes.now 0 result.end }
     {
         let mut at = 0;
+        let mut beyond = false;
         'blocks: while bytes.len() - at > LANES {
             let count = self.lanes(bytes, at);
+            beyond = beyond | has_beyond(bytes, at);
             at += count;
             if count + 1 < LANES {
-                return at;
+                return Found { end: at, beyond };
             }
         }
-        at
+        Found { end: at, beyond }
     }
 
     /// Whether words may begin with the first byte. Where they do not, nothing more is looked at.
@@ -132,16 +149,26 @@ impl Run {
 
     /// How many of the bytes that come next are characters of words, or lone blanks between words.
     #[inline(always)]
-    pub(crate) fn words(self, bytes: &[u8]) -> usize
-        ensures { AreWordsUpTo self bytes.now result }
+    pub(crate) fn words(self, bytes: &[u8]) -> Found
+        ensures words { AreWordsUpTo self bytes.now result.end }
+        ensures ascii { result.beyond ≡ false → AreAscii bytes.now 0 result.end }
+        ensures ends { result.end ≢ 0 → EndsAtAscii self bytes.now result.end }
     {
         if !self.may_begin(bytes) {
-            return 0;
+            return Found {
+                end: 0,
+                beyond: false,
+            };
         }
-        let mut end = self.word_end(bytes, self.blocks(bytes));
+        let blocks = self.blocks(bytes);
+        let first = self.word_end(bytes, blocks.end);
+        let mut end = first.end;
+        let mut beyond = blocks.beyond | first.beyond;
         'words: while end + 1 < bytes.len() && bytes[end] == b' ' && self.is_first(bytes[end + 1]) {
-            end = self.word_end(bytes, end + 2);
+            let word = self.word_end(bytes, end + 2);
+            beyond = beyond | (bytes[end + 1] >= 128) | word.beyond;
+            end = word.end;
         }
-        end
+        Found { end, beyond }
     }
 }

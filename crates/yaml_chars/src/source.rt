@@ -6,6 +6,7 @@ ghost use Rattle.yaml_chars.specs.Source.{Pulls, Came};
 ghost use Rattle.yaml_chars.specs.Words.{GivesWords, HasGiven};
 
 use crate::characters::Characters;
+use crate::count::character_count;
 use crate::history::History;
 use crate::pairs::{Part, Piece, given, joined};
 use crate::ring::Ring;
@@ -142,14 +143,15 @@ impl<T: Characters> Source<T> {
             return Ok(0);
         }
         let known = self.iter.known();
-        let count = run.words(known.as_bytes());
-        if count == 0 {
+        let found = run.words(known.as_bytes());
+        if found.end == 0 {
             return Ok(0);
         }
-        let words = &known[..count];
+        let words = &known[..found.end];
         text.push_str(words)?;
-        self.taken.push_ascii(words.as_bytes());
-        self.iter.pass(count);
+        let count = character_count(words, found.beyond);
+        self.taken.push_text(words);
+        self.iter.pass(found.end);
         Ok(count)
     }
 
@@ -162,13 +164,14 @@ impl<T: Characters> Source<T> {
             return 0;
         }
         let known = self.iter.known();
-        let count = run.words(known.as_bytes());
-        if count == 0 {
+        let found = run.words(known.as_bytes());
+        if found.end == 0 {
             return 0;
         }
-        let words = &known[..count];
-        self.taken.push_ascii(words.as_bytes());
-        self.iter.pass(count);
+        let words = &known[..found.end];
+        let count = character_count(words, found.beyond);
+        self.taken.push_text(words);
+        self.iter.pass(found.end);
         count
     }
 
@@ -198,7 +201,7 @@ impl<T: Characters> Source<T> {
         let last = ended.text + 1 + ended.spaces;
         let next = char::from(bytes[last]);
         let passed = &known[..last + 1];
-        self.taken.push_ascii(passed.as_bytes());
+        self.taken.push_text(passed);
         self.iter.pass(last + 1);
         Ok(Some(given(text, ended.text, ended.spaces, next)))
     }

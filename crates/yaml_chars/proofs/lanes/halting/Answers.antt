@@ -1,6 +1,6 @@
 use Rattle.std.proofs.Common.{◌≡◌, length, not, eqb, ltb, ◌∙◌, sym, arith}
 use Rattle.yaml_chars.specs.Words.{halts, pairs}
-use Rattle.yaml_chars.proofs.LaneLemmas.{either, both, against, against_first, masked, length-pairs, fronts, backs}
+use Rattle.yaml_chars.proofs.LaneLemmas.{either, both, against, masked, length-pairs, fronts, backs}
 use Rattle.yaml_chars.proofs.lanes.halting.Goals as goal
 
 pub returns : goal.returns
@@ -13,7 +13,8 @@ returns c =
     masked (halts c.args.first c.args.second) v _ (omega (arith, long))
     (both _ _ v
     (either _ _ v (either _ _ v (either _ _ v
-    (against ltb (λ x. x.0) v 16 33 long here) (against_first ltb (λ x. x.0) v 16 126 long here)) (against eqb (λ x. x.0) v 16 c.args.first long here)) (against eqb (λ x. x.0) v 16 c.args.second long here))
-    (either _ _ v (either _ _ v (either _ _ v (either _ _ v (either _ _ v (either _ _ v
-    (against (λ a b. not (eqb a b)) (λ x. x.0) v 16 32 long here) (against ltb (λ x. x.1) v 16 48 long after)) (against_first ltb (λ x. x.1) v 16 122 long after))
-    (against eqb (λ x. x.1) v 16 58 long after)) (against eqb (λ x. x.1) v 16 91 long after)) (against eqb (λ x. x.1) v 16 92 long after)) (against eqb (λ x. x.1) v 16 93 long after)))
+    (against ltb (λ x. x.0) v 16 33 long here) (against eqb (λ x. x.0) v 16 127 long here)) (against eqb (λ x. x.0) v 16 c.args.first long here)) (against eqb (λ x. x.0) v 16 c.args.second long here))
+    (either _ _ v (either _ _ v (either _ _ v (either _ _ v (either _ _ v (either _ _ v (either _ _ v
+    (against (λ a b. not (eqb a b)) (λ x. x.0) v 16 32 long here) (against ltb (λ x. x.1) v 16 48 long after))
+    (against eqb (λ x. x.1) v 16 58 long after)) (against eqb (λ x. x.1) v 16 91 long after)) (against eqb (λ x. x.1) v 16 92 long after)) (against eqb (λ x. x.1) v 16 93 long after))
+    (against eqb (λ x. x.1) v 16 123 long after)) (against eqb (λ x. x.1) v 16 125 long after)))

@@ -3,10 +3,10 @@ use Rattle.yaml_chars.proofs.LaneLemmas.{line_goes_all, line_count_of, line_goes
 use Rattle.yaml_chars.proofs.lanes.line_lanes.Goals as goal
 
 pub returns-then-found-eq0-clause-goes : goal.returns-then-found-eq0-clause-goes
-returns-then-found-eq0-clause-goes c = line_goes_all c.args.bytes.now c.args.at c.requires halts_line _ c.unprintable-found.ensures c.if-found-eq0.true
+returns-then-found-eq0-clause-goes c = line_goes_all c.args.bytes.now c.args.at c.requires halts_line _ c.controls-found.ensures c.if-found-eq0.true
 
 pub returns-clause-within : goal.returns-clause-within
-returns-clause-within c = line_count_of c.args.bytes.now c.args.at c.requires halts_line _ c.unprintable-found.ensures c.if-found-eq0.false
+returns-clause-within c = line_count_of c.args.bytes.now c.args.at c.requires halts_line _ c.controls-found.ensures c.if-found-eq0.false
 
 pub returns-clause-goes : goal.returns-clause-goes
-returns-clause-goes c = line_goes_before c.args.bytes.now c.args.at c.requires halts_line _ c.unprintable-found.ensures c.if-found-eq0.false
+returns-clause-goes c = line_goes_before c.args.bytes.now c.args.at c.requires halts_line _ c.controls-found.ensures c.if-found-eq0.false

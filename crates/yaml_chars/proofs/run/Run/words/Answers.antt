@@ -1,13 +1,28 @@
-use Rattle.yaml_chars.proofs.WordsLemmas.{words_none, word_further, words_more, begins_goes}
+use Rattle.std.proofs.Common.{◌+◌, ◌<◌, slice_index, arith}
+use Rattle.std.proofs.lemmas.Bool.Decides.{nat_tests}
+use Rattle.yaml_chars.proofs.WordsLemmas.{words_none, word_further, words_more, ascii_none, ascii_further, ascii_word, or_parts}
 use Rattle.yaml_chars.proofs.run.Run.words.Goals as goal
 
 pub words-init : goal.words-init
-words-init c = word_further _ _ _ _ c.blocks-2.ensures c.word_end-end.ensures
+words-init c = (
+  word_further _ _ _ _ c.blocks-blocks.ensures.words c.word_end-first.ensures.word,
+  λ h. let parts = or_parts _ _ h in ascii_further _ 0 _ _ (c.blocks-blocks.ensures.ascii parts.0) (c.word_end-first.ensures.ascii parts.1),
+  c.word_end-first.ensures.ends,
+)
 
 pub words-preserved : goal.words-preserved
-words-preserved c =
-    let begins = c.is_first.ensures.begins c.if-is_first.true in
-    words_more _ _ _ _ c.words.invariant c.words-test.true c.if-bytes-end-eq32.true begins (begins_goes _ _ begins) (c.is_first.ensures.ascii c.if-is_first.true) c.word_end-end-in-words.ensures
+words-preserved c = (
+  words_more _ _ _ _ c.words.invariant.0 c.words-test.true c.if-bytes-end-eq32.true (c.is_first.ensures c.if-is_first.true) c.word_end-word.ensures.word,
+  λ h.
+      let parts = or_parts _ c.word_end-word.result.beyond h in
+      let more = or_parts c.words.beyond _ parts.0 in
+      let low : slice_index c.args.bytes.now (c.words.end + 1) < 128 = let not_high = more.1 in grind (arith, nat_tests) in
+      ascii_word _ _ _ (c.words.invariant.1 more.0) c.if-bytes-end-eq32.true low (c.word_end-word.ensures.ascii parts.1),
+  c.word_end-word.ensures.ends,
+)
 
-pub returns-then-not-may_begin : goal.returns-then-not-may_begin
-returns-then-not-may_begin c = words_none _ _
+pub returns-then-not-may_begin-clause-words : goal.returns-then-not-may_begin-clause-words
+returns-then-not-may_begin-clause-words c = words_none _ _
+
+pub returns-then-not-may_begin-clause-ascii : goal.returns-then-not-may_begin-clause-ascii
+returns-then-not-may_begin-clause-ascii c = λ e. ascii_none _ 0

@@ -1,45 +1,59 @@
-use Rattle.std.proofs.Common.{false, ◌≡◌, ◌++◌, take, refl, sym, ap, subst, ◌∙◌, arith}
-use Rattle.std.proofs.lemmas.List.{length-take-le}
-use Rattle.std.proofs.lemmas.Str.{chars-IsAscii}
+use Rattle.std.proofs.Common.{false, ◌≡◌, ◌++◌, take, length, refl, sym, ap, subst, ◌∙◌, arith}
 use Rattle.std.specs.Prelude.{chars}
+use Rattle.std.specs.Str.{IsAscii, IsUtf8}
 use Rattle.yaml_chars.specs.Source.{IterStands}
+use Rattle.yaml_chars.specs.Words.{AreAscii, AreWordsUpTo, EndsAtAscii}
 use Rattle.yaml_chars.proofs.WordsLemmas.{ascii_of, boundary_of, words_of, Stands-on, front_range, true_is_not_false}
 use Rattle.yaml_chars.proofs.source.Source.words_on.Goals as goal
 
 pub range-words-requires-clause-end_boundary : goal.range-words-requires-clause-end_boundary
 range-words-requires-clause-end_boundary g c =
-    boundary_of c.args.run _ _ c.known-known.utf8 (rw c.as_bytes.ensures.value at c.words-count.ensures)
+    let same = c.as_bytes.ensures.value in
+    boundary_of c.args.run _ _ c.known-known.utf8
+    (subst (λ b. AreWordsUpTo c.args.run b c.words-found.result.end) same c.words-found.ensures.words)
+    (subst (λ b. EndsAtAscii c.args.run b c.words-found.result.end) same (c.words-found.ensures.ends c.if-found-eq0.false))
+
+pub character_count-count-requires : goal.character_count-count-requires
+character_count-count-requires g c = λ narrow.
+    subst IsAscii (sym (c.range-words.ensures.value ∙ front_range _ _))
+    (ascii_of c.known-known.result.now c.words-found.result.end (subst (λ b. AreAscii b 0 c.words-found.result.end) c.as_bytes.ensures.value (c.words-found.ensures.ascii narrow)))
 
 pub pass-requires-clause-cut : goal.pass-requires-clause-cut
 pass-requires-clause-cut g c =
-    rw (← c.known-known.ensures) (boundary_of c.args.run _ _ c.known-known.utf8 (rw c.as_bytes.ensures.value at c.words-count.ensures))
+    let same = c.as_bytes.ensures.value ∙ c.known-known.ensures in
+    boundary_of c.args.run _ _ (subst IsUtf8 c.known-known.ensures c.known-known.utf8)
+    (subst (λ b. AreWordsUpTo c.args.run b c.words-found.result.end) same c.words-found.ensures.words)
+    (subst (λ b. EndsAtAscii c.args.run b c.words-found.result.end) same (c.words-found.ensures.ends c.if-found-eq0.false))
 
 pub invariant_of-self : goal.invariant_of-self
 invariant_of-self g c =
     let going : c.self.inside.done ≡ false = rw (← c.self.view_is) at (sym c.has_ended.ensures.value ∙ c.if-has_ended.false) in
     let ready = c.self.invariant.ready going in
-    let taken : c.push_ascii.new.self.items ≡ c.self.inside.taken.items ++ take c.words-count.result (g.T.Characters.known c.self.inside.iter) =
-    c.push_ascii.ensures ∙ ap (λ x. c.self.inside.taken.items ++ x) (c.as_bytes-2.ensures.value ∙ c.range-words.ensures.value ∙ front_range _ _ ∙ ap (take c.words-count.result) c.known-known.ensures) in
+    let taken : c.push_text.new.self.items ≡ c.self.inside.taken.items ++ chars (take c.words-found.result.end (g.T.Characters.known c.self.inside.iter)) =
+    c.push_text.ensures ∙ ap (λ x. c.self.inside.taken.items ++ chars x) (c.range-words.ensures.value ∙ front_range _ _ ∙ ap (take c.words-found.result.end) c.known-known.ensures) in
     subst (λ x. IterStands g.T.Characters.can_next g.T.Characters.next_gives g.T.Characters.remaining c.self.inside.start.value x c.self.inside.done c.pass.new.self) (sym taken)
     (Stands-on _ _ _ _ _ _ _ _ _ c.self.invariant going c.pass.ensures.gives (c.pass.ensures.can, (c.pass.ensures.goes ready.1).0))
 
 pub returns-clause-ok : goal.returns-clause-ok
 returns-clause-ok g c =
+    let n = c.words-found.result.end in
+    let known = g.T.Characters.known c.self.inside.iter in
     let going : c.self.inside.done ≡ false = rw (← c.self.view_is) at (sym c.has_ended.ensures.value ∙ c.if-has_ended.false) in
     let ready = c.self.invariant.ready going in
-    let words = rw (c.as_bytes.ensures.value, c.known-known.ensures) at c.words-count.ensures in
-    let piece = c.range-words.ensures.value ∙ front_range _ _ ∙ ap (take c.words-count.result) c.known-known.ensures in
-    let count = length-take-le c.words-count.result (g.T.Characters.known c.self.inside.iter) words.within in
+    let same = c.as_bytes.ensures.value ∙ c.known-known.ensures in
+    let words = subst (λ b. AreWordsUpTo c.args.run b n) same c.words-found.ensures.words in
+    let ends = subst (λ b. EndsAtAscii c.args.run b n) same (c.words-found.ensures.ends c.if-found-eq0.false) in
+    let piece = c.range-words.ensures.value ∙ front_range _ _ ∙ ap (take n) c.known-known.ensures in
     rw (← c.self.view_is) record {
-      part = take c.words-count.result (g.T.Characters.known c.self.inside.iter);
-      count = count;
-      words = words_of c.args.run _ _ words;
+      part = chars (take n known);
+      count = sym (c.character_count-count.ensures ∙ ap (λ x. length (chars x)) piece);
+      words = words_of c.args.run _ _ (subst IsUtf8 c.known-known.ensures c.known-known.utf8) words ends;
       gives = record {
         start = refl;
-        taken = c.push_ascii.ensures ∙ ap (λ x. c.self.inside.taken.items ++ x) (c.as_bytes-2.ensures.value ∙ piece);
+        taken = c.push_text.ensures ∙ ap (λ x. c.self.inside.taken.items ++ chars x) piece;
         done = refl;
         none = λ d. absurd (true_is_not_false (sym d ∙ going));
-        left = rw going (omega (arith, (c.pass.ensures.goes ready.1).1, count));
+        left = rw going (omega (arith, (c.pass.ensures.goes ready.1).1));
       };
-      text = c.in_ok-push_str.ensures.ok ∙ ap (λ x. c.args.text.now ++ x) (ap chars piece ∙ chars-IsAscii _ (ascii_of c.args.run _ _ words));
+      text = c.in_ok-push_str.ensures.ok ∙ ap (λ x. c.args.text.now ++ chars x) piece;
     }

@@ -1,0 +1,9 @@
+use Rattle.std.proofs.Common.{refl, length, ap, arith}
+use Rattle.yaml_chars.proofs.CountLemmas.{chars_of_none}
+use Rattle.yaml_chars.proofs.characters.AnyCharacters.pass.Goals as goal
+
+pub returns-clause-gives : goal.returns-clause-gives
+returns-clause-gives g c = rw (chars_of_none c.args.count) refl
+
+pub returns-clause-goes : goal.returns-clause-goes
+returns-clause-goes g c = λ finite. (finite, omega (arith, ap length (chars_of_none c.args.count)))
