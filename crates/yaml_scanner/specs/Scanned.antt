@@ -124,6 +124,12 @@ pub record HandsOut (old : Scanned) (t : Token) (new : Scanned) : Type 0 where
   pub ended : new.ended ≡ is_end t.tok
   pub left : new.left < old.left
 
+-- two tokens more are handed out, one after the other
+pub record HandsBoth (old : Scanned) (t u : Token) (new : Scanned) : Type 0 where
+  pub between : Scanned
+  pub first : HandsOut old t between
+  pub second : HandsOut between u new
+
 -- the end was handed out before, and nothing changes
 pub record HandsNothing (old new : Scanned) : Type 0 where
   pub going : (old.ended ≡ true) × (old.fault ≡ None)

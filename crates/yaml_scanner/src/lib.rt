@@ -7,8 +7,10 @@ mod fetcher;
 mod flow;
 mod hand;
 mod indents;
+mod pairs;
 mod public;
 mod scanner;
 mod space;
 
+pub use pairs::PlainNode;
 pub use scanner::Scanner;
