@@ -12,6 +12,7 @@ pub mod NameLemmas
 pub mod Nesting
 pub mod NodeArms
 pub mod Openings
+pub mod Pairs
 pub mod Parsing
 pub mod Peeking
 pub mod Positions

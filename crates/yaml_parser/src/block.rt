@@ -88,6 +88,9 @@ impl<T: Characters> Reader<T> {
         ensures answers { Reads at.pairs self.old self.new result slot.new }
         ensures moves { Moves 1 1 self.old self.new result }
     {
+        if let Some(key) = self.next_key(slot)? {
+            return self.plain(slot, key, State::BlockMappingValue);
+        }
         let next = self.peek(slot)?;
         match next {
             Kind::Value => {
@@ -137,6 +140,9 @@ impl<T: Characters> Reader<T> {
         ensures answers { Reads at.after_key self.old self.new result slot.new }
         ensures moves { Moves 2 1 self.old self.new result }
     {
+        if let Some(value) = self.next_value(slot)? {
+            return self.plain(slot, value, State::BlockMappingKey);
+        }
         let next = self.peek(slot)?;
         match next {
             Kind::Value => {

@@ -1,5 +1,5 @@
 //! The token that was looked at.
-ghost use Rattle.std.specs.Prelude.{◌≡◌, ◌⊎◌, Some, None, IsSome, IfSome, IfNone};
+ghost use Rattle.std.specs.Prelude.{◌≡◌, ◌⊎◌, false, Some, None, IsSome, IfSome, IfNone};
 ghost use Rattle.defs_text.specs.Text.{string_chars};
 ghost use Rattle.defs_token.specs.Token.{Tok};
 ghost use Rattle.yaml_tokens.specs.Shown.{tok_of, style_of};
@@ -42,6 +42,14 @@ impl Looked {
             token: Token(mark, TokenType::StreamEnd),
             waits: false,
         }
+    }
+
+    /// Whether a token was looked at and is not yet taken.
+    #[inline(always)]
+    pub fn is_there(&self) -> bool
+        ensures no { result ≡ false → self.now ≡ None }
+    {
+        self.waits
     }
 
     /// What the token is, or `None` if there is none.

@@ -1,11 +1,14 @@
-ghost use Rattle.std.specs.Prelude.{◌≡◌, ◌≢◌, ◌+◌, [], ◌∷◌, false, Some, None, OnErr, OnOk, IfOk, IsSome, IfSome};
+ghost use Rattle.std.specs.Prelude.{◌≡◌, ◌≢◌, ◌+◌, ◌≤◌, [], ◌∷◌, false, Some, None, OnErr, OnOk, IfOk, IsSome, IfSome, IfNone};
 ghost use Rattle.defs_token.specs.Token.{Style};
+ghost use Rattle.defs_text.specs.Text.{string_chars};
 ghost use Rattle.yaml_tokens.specs.declared.token.Token.{Token};
+ghost use Rattle.yaml_tokens.specs.declared.token.TokenType.TheVariants.{Key, Value};
 ghost use Rattle.yaml_tokens.specs.declared.problem.Fault.TheVariants.{OutOfMemory};
 ghost use Rattle.defs_event.specs.Event.{Ev};
 ghost use Rattle.model_parser.specs.Goal.{Goal};
 ghost use Rattle.yaml_parser.specs.declared.event.Event.TheVariants.{SequenceEnd, MappingEnd};
 ghost use Rattle.yaml_parser.specs.declared.tokens.Stop.TheVariants.{Own};
+ghost use Rattle.yaml_parser.specs.Ahead.{TakesBoth};
 ghost use Rattle.yaml_parser.specs.Shown.{placed};
 ghost use Rattle.model_parser.specs.Rest.{goal_of};
 ghost use Rattle.yaml_parser.specs.At.{Reads, Carries, Fails, Took, Stayed, is_over, is_idle};
@@ -23,7 +26,8 @@ use crate::tokens::{KeptStop, Stop, Tokens};
 use model_parser::{Kind, State};
 use std::alloc::Global;
 use yaml_chars::{Characters, Marker};
-use yaml_tokens::ScanError;
+use yaml_scanner::PlainNode;
+use yaml_tokens::{ScanError, TScalarStyle};
 
 /// The productions of the token grammar, one function each.
 #[derive(Drop)]
@@ -89,6 +93,58 @@ impl<T: Characters> Reader<T> {
             Ok(()) => Ok(()),
             Err(error) => Err(slot.halt(Stop::from(error))),
         }
+    }
+
+    /// Takes a `Key` and the plain scalar after it at once, or gives `None` and changes nothing.
+    #[inline(always)]
+    pub(crate) fn next_key(&mut self, slot: &mut Slot) -> Result<Option<PlainNode>, Halted>
+        ensures key { IfOk result (λ o. IfSome o (λ n. TakesBoth self.old.tokens Key n self.new.tokens)) }
+        ensures work { IfOk result (λ o. IfSome o (λ n. work self.new + 8 ≤ work self.old)) }
+        ensures none { IfOk result (λ o. IfNone o (self.new ≡ self.old)) }
+        ensures names { self.new.names ≡ self.old.names }
+        ensures stack { self.new.stack ≡ self.old.stack }
+        ensures start { self.new.tokens.scanner.start ≡ self.old.tokens.scanner.start }
+        ensures err { OnErr result ((g : Goal) → is_idle g ≡ false → Fails g self.old self.new slot.new.stop) }
+    {
+        match self.tokens.next_key() {
+            Ok(node) => Ok(node),
+            Err(missing) => Err(slot.halt(Stop::from(missing))),
+        }
+    }
+
+    /// Takes a `Value` and the plain scalar after it at once, or gives `None` and changes nothing.
+    #[inline(always)]
+    pub(crate) fn next_value(&mut self, slot: &mut Slot) -> Result<Option<PlainNode>, Halted>
+        ensures value { IfOk result (λ o. IfSome o (λ n. TakesBoth self.old.tokens Value n self.new.tokens)) }
+        ensures work { IfOk result (λ o. IfSome o (λ n. work self.new + 8 ≤ work self.old)) }
+        ensures none { IfOk result (λ o. IfNone o (self.new ≡ self.old)) }
+        ensures names { self.new.names ≡ self.old.names }
+        ensures stack { self.new.stack ≡ self.old.stack }
+        ensures start { self.new.tokens.scanner.start ≡ self.old.tokens.scanner.start }
+        ensures err { OnErr result ((g : Goal) → is_idle g ≡ false → Fails g self.old self.new slot.new.stop) }
+    {
+        match self.tokens.next_value() {
+            Ok(node) => Ok(node),
+            Err(missing) => Err(slot.halt(Stop::from(missing))),
+        }
+    }
+
+    /// A plain scalar that was taken. `state` is awaited after it.
+    #[inline(always)]
+    pub(crate) fn plain(&mut self, slot: &mut Slot, node: PlainNode, state: State) -> Answer
+        ensures event { OnOk result (placed slot.new.next ≡ (Ev.scalar (string_chars node.text) Style.plain 0 None, node.mark)) }
+        ensures work { OnOk result (work self.new ≡ work self.old + weight state) }
+        ensures names { self.new.names ≡ self.old.names }
+        ensures tokens { self.new.tokens ≡ self.old.tokens }
+        ensures stayed { OnOk result (Stayed self.old self.new (state ∷ self.old.stack)) }
+        ensures err { OnErr result (slot.new.stop ≡ Own OutOfMemory) }
+    {
+        self.push(slot, state)?;
+        slot.write(
+            Event::Scalar(node.text, TScalarStyle::Plain, 0, None),
+            node.mark,
+        );
+        Ok(())
     }
 
     /// Takes the token that was looked at, where a sequence ends.

@@ -1,10 +1,11 @@
-ghost use Rattle.std.specs.Prelude.{◌≡◌, ◌⊎◌, ◌+◌, ◌≤◌, List, [], ◌∷◌, ◌++◌, Some, None, IsSome, IfSome, IfOk, IfErr, OnOk};
+ghost use Rattle.std.specs.Prelude.{◌≡◌, ◌⊎◌, ◌+◌, ◌≤◌, List, [], ◌∷◌, ◌++◌, Some, None, IsSome, IfSome, IfNone, IfOk, IfErr, OnOk, OnErr};
 ghost use Rattle.yaml_scanner.specs.Scanned.{scanned};
 ghost use Rattle.defs_token.specs.Token.{Tok};
 ghost use Rattle.defs_text.specs.Text.{string_chars};
 ghost use Rattle.yaml_tokens.specs.Shown.{tok_of, style_of};
+ghost use Rattle.yaml_tokens.specs.declared.token.TokenType.TheVariants.{Key, Value};
 ghost use Rattle.yaml_parser.specs.Kinds.{IsOfKind, IsName};
-ghost use Rattle.yaml_parser.specs.Ahead.{left, Skips, SkipsOne};
+ghost use Rattle.yaml_parser.specs.Ahead.{left, Skips, SkipsOne, TakesBoth, indicator_of, scalar_of};
 ghost use Rattle.yaml_parser.specs.Handed.{IsHanded, IsAwake};
 ghost use Rattle.yaml_parser.specs.declared.tokens.Missing.TheVariants.{Scan};
 ghost use Rattle.model_parser.specs.declared.kind.Kind.TheVariants as kind;
@@ -14,8 +15,8 @@ use model_parser::Kind;
 use std::alloc::AllocError;
 use yaml_chars::history::History;
 use yaml_chars::{Characters, Marker};
-use yaml_scanner::Scanner;
-use yaml_tokens::{Fault, TScalarStyle, Token};
+use yaml_scanner::{PlainNode, Scanner};
+use yaml_tokens::{Fault, TScalarStyle, Token, TokenType};
 
 /// Why no event comes.
 #[derive(Clone, Copy, Debug, PartialEq, Eq)]
@@ -193,5 +194,70 @@ impl<T: Characters> Tokens<T> {
     {
         self.taken.push(self.peeked.get());
         self.peeked.take_scalar()
+    }
+
+    /// Takes a `Key` and the plain scalar after it at once, or gives `None` and changes nothing.
+    #[inline(always)]
+    pub fn next_key(&mut self) -> Result<Option<PlainNode>, Missing>
+        ensures key { IfOk result (λ o. IfSome o (λ n. TakesBoth self.old Key n self.new)) }
+        ensures left { IfOk result (λ o. IfSome o (λ n. left self.new + 2 ≤ left self.old)) }
+        ensures none { IfOk result (λ o. IfNone o (self.new ≡ self.old)) }
+        ensures start { self.new.scanner.start ≡ self.old.scanner.start }
+        ensures err { IfErr result (λ m. (m ≡ Scan) × IsSome (scanned self.new.scanner).fault) }
+        ensures kept { OnErr result ((self.new.taken ≡ self.old.taken) × (self.new.peeked ≡ self.old.peeked) × (IsHanded self.old → IsHanded self.new)) }
+    {
+        if self.peeked.is_there() {
+            return Ok(None);
+        }
+        match self.scanner.next_key() {
+            Ok(Some(node)) => Ok(Some(self.note(TokenType::Key, node))),
+            Ok(None) => Ok(None),
+            Err(_) => Err(Missing::Scan),
+        }
+    }
+
+    /// Takes a `Value` and the plain scalar after it at once, or gives `None` and changes nothing.
+    #[inline(always)]
+    pub fn next_value(&mut self) -> Result<Option<PlainNode>, Missing>
+        ensures value { IfOk result (λ o. IfSome o (λ n. TakesBoth self.old Value n self.new)) }
+        ensures left { IfOk result (λ o. IfSome o (λ n. left self.new + 2 ≤ left self.old)) }
+        ensures none { IfOk result (λ o. IfNone o (self.new ≡ self.old)) }
+        ensures start { self.new.scanner.start ≡ self.old.scanner.start }
+        ensures err { IfErr result (λ m. (m ≡ Scan) × IsSome (scanned self.new.scanner).fault) }
+        ensures kept { OnErr result ((self.new.taken ≡ self.old.taken) × (self.new.peeked ≡ self.old.peeked) × (IsHanded self.old → IsHanded self.new)) }
+    {
+        if self.peeked.is_there() {
+            return Ok(None);
+        }
+        match self.scanner.next_value() {
+            Ok(Some(node)) => Ok(Some(self.note(TokenType::Value, node))),
+            Ok(None) => Ok(None),
+            Err(_) => Err(Missing::Scan),
+        }
+    }
+
+    /// Notes that a token of this kind and the plain scalar after it were taken. This takes no time.
+    #[inline(always)]
+    fn note(&mut self, kind: TokenType, node: PlainNode) -> PlainNode
+        ensures same { result ≡ node }
+        ensures taken { self.new.taken.items ≡ self.old.taken.items ++ indicator_of kind node ∷ scalar_of node ∷ [] }
+        ensures peeked { self.new.peeked ≡ self.old.peeked }
+        ensures scanner { self.new.scanner ≡ self.old.scanner }
+    {
+        let indicator = node.indicator;
+        let mark = node.mark;
+        let before = Token(indicator, kind);
+        self.taken.push(&before);
+        let scalar = Token(mark, TokenType::Scalar(TScalarStyle::Plain, node.text));
+        self.taken.push(&scalar);
+        let Token(_, scalar) = scalar;
+        match scalar {
+            TokenType::Scalar(_, text) => PlainNode {
+                indicator,
+                mark,
+                text,
+            },
+            _ => unreachable!(),
+        }
     }
 }
