@@ -115,6 +115,10 @@ halts_line c = nat_lt c 32 || nat_eq c 127
 abbrev pub is_beyond : ℕ → Bool
 is_beyond c = nat_lt 127 c
 
+-- a byte with which a character begins: every other one is from 128 to 191
+abbrev pub is_first_byte : ℕ → Bool
+is_first_byte c = nat_lt c 128 || nat_lt 191 c
+
 -- the bytes from one place to another are of characters of words and lone blanks between these
 pub record AreWordsBetween (run : Run) (bs : List ℕ) (from to : ℕ) : Type 0 where
   pub after : from ≤ to

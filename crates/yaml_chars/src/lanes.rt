@@ -1,8 +1,9 @@
 //! Sixteen bytes at a time.
 ghost use Rattle.std.specs.Prelude.{◌≡◌, ℕ, ◌+◌, ◌<◌, ◌≤◌, length, slice_index, false, map};
 ghost use Rattle.yaml_chars.specs.Pairs.{halts_simple};
-ghost use Rattle.yaml_chars.specs.Words.{halts, halts_line, is_beyond, pairs};
-ghost use lib.Lanes.{mask_l};
+ghost use Rattle.std.specs.List.{count_by};
+ghost use Rattle.yaml_chars.specs.Words.{halts, halts_line, is_beyond, is_first_byte, pairs};
+ghost use lib.Lanes.{chunk, mask_l};
 
 use std::simd::prelude::*;
 
@@ -84,6 +85,23 @@ pub(crate) fn has_beyond(bytes: &[u8], at: usize) -> bool
 {
     let found = beyond_ascii(u8x16::from_slice(&bytes[at..]));
     found != 0
+}
+
+/// The bytes with which characters begin, as bits.
+#[inline(always)]
+fn first_bytes(block: u8x16) -> u64
+    ensures { result ≡ mask_l (map is_first_byte block) }
+{
+    (block.simd_lt(u8x16::splat(128)) | block.simd_gt(u8x16::splat(191))).to_bitmask()
+}
+
+/// How many characters begin among the next sixteen bytes.
+#[inline(always)]
+pub(crate) fn first_lanes(bytes: &[u8], at: usize) -> usize
+    requires { at + 16 < length bytes.now }
+    ensures { result ≡ count_by is_first_byte (chunk at 16 bytes.now) }
+{
+    first_bytes(u8x16::from_slice(&bytes[at..])).count_ones() as usize
 }
 
 /// The bytes that are not simple, as bits: no printable characters, `:` and `#`.

@@ -1,0 +1,10 @@
+use Rattle.std.proofs.Common.{◌≡◌, ◌≤◌, length, take, ◌-◌}
+use Rattle.std.specs.List.{count_by}
+use Rattle.yaml_chars.specs.Words.{is_first_byte}
+use Rattle.yaml_chars.proofs.count.counted.Given as goal
+
+abbrev pub invariant-blocks-2 : goal.invariant-blocks-2
+invariant-blocks-2 l = (l.count ≡ count_by is_first_byte (take l.at l.bytes)) × (l.at ≤ length l.bytes)
+
+abbrev pub decreases-blocks-2 : goal.decreases-blocks-2
+decreases-blocks-2 l = length l.bytes - l.at
