@@ -1,18 +1,18 @@
 -- What the model's fetches do at a key or a value of a block mapping that is a simple text.
-use Rattle.std.proofs.Common.{◌≡◌, ◌≢◌, ℕ, suc, ◌+◌, ◌<◌, ◌≤◌, List, [], ◌∷◌, ◌++◌, Bool, true, false, ◌||◌, ◌&&◌, not, ◌==◌, Option, Some, None, Ok, refl, ap, sym, ◌∙◌, append_assoc, nat_lt, nat_le, arith, length, map, slice_index, if◌then◌else◌}
+use Rattle.std.proofs.Common.{◌≡◌, ℕ, ◌+◌, ◌<◌, ◌≤◌, List, [], ◌∷◌, ◌++◌, Bool, true, false, ◌||◌, ◌&&◌, ◌==◌, Option, Some, None, Ok, refl, ap, ◌∙◌, append_assoc, nat_lt, nat_le, arith, length, map, slice_index, if◌then◌else◌}
 use Rattle.std.specs.List.{list_any, insert}
 use Rattle.std.proofs.lemmas.Bool.{le-ltb, lt-ltb, ne_eqb}
 use Rattle.std.proofs.lemmas.Bool.Decides.{nat_tests}
 use Rattle.defs_text.specs.Position.{Position}
 use Rattle.yaml_chars.specs.Class.{is_break, is_blank, is_blank_or_breakz}
 use Rattle.defs_token.specs.Token.{Tok, Style, Token}
-use Rattle.model_lexers.specs.Machine.{past, past_break}
+use Rattle.model_lexers.specs.Machine.{past}
 use Rattle.model_lexers.specs.Plain.{plain}
 use Rattle.model_scanner.specs.declared.level.Indent.{Indent}
 use Rattle.model_scanner.specs.State.{Key, Held, ScannerState, token, moved}
 use Rattle.model_scanner.specs.Class.{class_of}
 use Rattle.model_scanner.specs.Keys.{is_far, is_overdue, still, drop_stale, stale, cleared, save_implicit_key, must_be_key, top_needs_block_end}
-use Rattle.model_scanner.specs.Indents.{Levels, level, roll_indent, drop_open, drop_open_level, deepen, roll_one_col_indent, in_block, unroll_indent, unrolled, unroll_non_block_indents, without_open}
+use Rattle.model_scanner.specs.Indents.{level, roll_indent, drop_open, drop_open_level, deepen, roll_one_col_indent, in_block, unroll_indent, unrolled, unroll_non_block_indents, without_open}
 use Rattle.model_scanner.specs.Space.{skip, skip_to_next_token}
 use Rattle.model_scanner.specs.Block.{check_value_space, begin_pair, insert_key, fetch_value}
 use Rattle.model_scanner.specs.Document.{fetch_plain_scalar}

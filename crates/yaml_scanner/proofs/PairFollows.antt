@@ -1,5 +1,5 @@
 -- Two tokens that are handed out at once, against the model's runs.
-use Rattle.std.proofs.Common.{◌≡◌, ℕ, suc, ◌+◌, ◌-◌, ◌<◌, ◌≤◌, List, [], ◌∷◌, ◌++◌, Bool, true, false, ◌||◌, refl, ap, sym, ◌∙◌, arith, Option, Some, None, length, length-append, map, take, drop, option_map, subst, append_assoc, Result, Ok}
+use Rattle.std.proofs.Common.{◌≡◌, ℕ, suc, ◌+◌, ◌-◌, ◌<◌, List, [], ◌∷◌, ◌++◌, Bool, true, false, ◌||◌, refl, ap, sym, ◌∙◌, arith, Option, Some, None, length, length-append, map, take, drop, option_map, subst, append_assoc, Ok}
 use Rattle.defs_text.specs.Position.{Position}
 use Rattle.yaml_chars.specs.Reading.{Reading, Reads, position_of}
 use Rattle.defs_token.specs.Token.{Tok, Style, Token}
@@ -7,7 +7,7 @@ use Rattle.yaml_tokens.specs.ErrorReport.{ErrorReport}
 use Rattle.yaml_tokens.specs.declared.problem.Fault.TheVariants.{OutOfMemory}
 use Rattle.model_lexers.specs.Machine.{past}
 use Rattle.model_scanner.specs.declared.level.Indent.{Indent}
-use Rattle.model_scanner.specs.State.{Key, Held, token}
+use Rattle.model_scanner.specs.State.{token}
 use Rattle.model_scanner.specs.Keys.{cleared, top_needs_block_end}
 use Rattle.model_scanner.specs.Indents.{level}
 use Rattle.model_scanner.specs.Fetch.{fetch}
@@ -17,16 +17,16 @@ use Rattle.proof_lexers.specs.HeaderEnds.{along}
 use Rattle.yaml_scanner.specs.declared.fetcher.Fetcher.{Fetcher}
 use Rattle.yaml_scanner.specs.declared.fetcher.KeptFault.{KeptFault}
 use Rattle.yaml_scanner_state.specs.declared.keys.ImplicitKey.{ImplicitKey}
-use Rattle.yaml_scanner_state.specs.ImplicitKeys.{key_of, seen, no_implicit}
+use Rattle.yaml_scanner_state.specs.ImplicitKeys.{seen, no_implicit}
 use Rattle.yaml_scanner_state.specs.Levels.{Columns, lone_open}
 use Rattle.yaml_scanner_state.specs.Tokens.{Tokens, handed, is_end, key_tokens}
 use Rattle.yaml_scanner_state.proofs.KeyLemmas.{none_front, none_lowered}
-use Rattle.yaml_scanner.specs.Awaits.{IsSettled, AwaitsKey, AwaitsValue}
+use Rattle.yaml_scanner.specs.Awaits.{AwaitsKey, AwaitsValue}
 use Rattle.yaml_scanner.specs.Follows.{Follows}
 use Rattle.yaml_scanner.specs.Pairs.{TakesKey, TakesValue}
-use Rattle.yaml_scanner.specs.Scanned.{Scanned, inside, kept_fault, HandsOut, HandsBoth}
-use Rattle.yaml_scanner.specs.Shape.{held, state, Does}
-use Rattle.yaml_scanner.specs.Work.{Fetches, work, unset}
+use Rattle.yaml_scanner.specs.Scanned.{Scanned, inside, kept_fault, HandsBoth}
+use Rattle.yaml_scanner.specs.Shape.{held, state}
+use Rattle.yaml_scanner.specs.Work.{Fetches, work}
 use Rattle.yaml_scanner.proofs.DoesLemmas.{Reads-map}
 use Rattle.yaml_scanner.proofs.FollowLemmas.{fetched_on, handed_on}
 use Rattle.yaml_scanner.proofs.PairTexts.{same_place, along_is}

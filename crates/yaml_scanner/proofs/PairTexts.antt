@@ -6,7 +6,7 @@ use Rattle.defs_text.specs.Position.{Position}
 use Rattle.yaml_chars.specs.Class.{is_break, is_blank, is_blank_or_breakz, is_alphanumeric}
 use Rattle.yaml_tokens.specs.declared.problem.Fault.{Fault}
 use Rattle.model_lexers.specs.declared.context.Context.{Context}
-use Rattle.model_lexers.specs.Machine.{Read, past, past_break, at_marker}
+use Rattle.model_lexers.specs.Machine.{Read, past, at_marker}
 use Rattle.model_lexers.specs.Plain.{PlainState, Plain, inside, between, plain, plain_from, can_be_plain, starts, at_dash, at_plain, goes_on, is_shallow}
 use Rattle.model_scanner.specs.declared.class.Class.TheVariants.{Other}
 use Rattle.model_scanner.specs.Class.{class_of}

@@ -1,6 +1,6 @@
 //! Keys and values of block mappings that are plain scalars on one line: each is handed out with the token before it by
 //! one call, where its characters are known to come.
-ghost use Rattle.std.specs.Prelude.{◌≡◌, ◌≢◌, ◌≤◌, ◌<◌, ◌+◌, ◌-◌, ◌++◌, ◌∷◌, [], OnOk, OnErr, IfOk, IfErr, IfSome, IfNone, Some, None, Ok, true, false};
+ghost use Rattle.std.specs.Prelude.{◌≡◌, ◌<◌, ◌+◌, ◌-◌, ◌++◌, ◌∷◌, [], OnOk, OnErr, IfOk, IfErr, IfSome, IfNone, Some, None, Ok, true, false};
 ghost use Rattle.defs_text.specs.Position.{Position};
 ghost use Rattle.defs_text.specs.Text.{string_chars};
 ghost use Rattle.defs_token.specs.Token.{Style, Tok};

@@ -1,8 +1,6 @@
-use Rattle.std.proofs.Common.{subst, refl}
+use Rattle.std.proofs.Common.{◌≡◌, ◌-◌, subst, refl}
 use Rattle.std.specs.Option.{IfSome}
-use Rattle.defs_text.specs.Position.{Position}
 use Rattle.yaml_scanner.specs.Pairs.{TakesKey}
-use Rattle.std.proofs.Common.{◌≡◌, ◌-◌}
 use Rattle.yaml_scanner.proofs.PairFollows.{key_handed, key_follows}
 use Rattle.yaml_scanner.proofs.fetcher.Fetcher.next_key.Goals as goal
 
