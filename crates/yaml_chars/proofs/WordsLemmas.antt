@@ -128,17 +128,17 @@ pub flow_low : (b : ℕ) → is_flow b ≡ true → b < 128
 unfolding is_flow
 flow_low b h = grind (arith, nat_tests)
 
-begins_goes_word : (run : Run) (b : ℕ) → begins_word run b ≡ true → stops run b ≡ false
+pub begins_goes : (run : Run) (b : ℕ) → begins_word run b ≡ true → stops run b ≡ false
 unfolding begins_word stops is_break is_blank is_flow
-begins_goes_word Line b h = grind (arith, nat_tests)
-begins_goes_word (Quoted quote) b h = grind (arith, nat_tests)
-begins_goes_word (Plain true) b h = grind (arith, nat_tests)
-begins_goes_word (Plain false) b h = grind (arith, nat_tests)
+begins_goes Line b h = grind (arith, nat_tests)
+begins_goes (Quoted quote) b h = grind (arith, nat_tests)
+begins_goes (Plain true) b h = grind (arith, nat_tests)
+begins_goes (Plain false) b h = grind (arith, nat_tests)
 
 -- what a word begins with does not end it
-pub begins_goes : (run : Run) (b : ℕ) → begins_byte run b ≡ true → stops_byte run b ≡ false
-begins_goes run b h = elim (cases_lt b 128) [
-  | inl low ↦ byte_goes_low run b low (begins_goes_word run b (begins_low run b low h))
+pub byte_begins_goes : (run : Run) (b : ℕ) → begins_byte run b ≡ true → stops_byte run b ≡ false
+byte_begins_goes run b h = elim (cases_lt b 128) [
+  | inl low ↦ byte_goes_low run b low (begins_goes run b (begins_low run b low h))
   | inr high ↦ goes_beyond run b (begins_high run b high h) high
 ]
 
@@ -375,7 +375,7 @@ words_more run bs n to words h blank begins w = record {
   where
     goes_at : (k : ℕ) → n < k → k < to → stops_byte run (slice_index bs k) ≡ false
     goes_at k a b = elim (cases_lt (n + 1) k) [
-      | inr next ↦ let e : k ≡ n + 1 = omega arith in rw e (begins_goes run _ begins)
+      | inr next ↦ let e : k ≡ n + 1 = omega arith in rw e (byte_begins_goes run _ begins)
       | inl beyond ↦ w.inner k (omega arith) b
     ]
 
