@@ -27,11 +27,20 @@ use Rattle.yaml_scanner.proofs.PairTexts.{Opener, Simple, simple_text, outside, 
 abbrev at : List ℕ → Held → ScannerState
 at a s = record { rest = a; held = s }
 
--- where nothing stands before the token, no key is too far back and no level ends
-fetched : (t : ScannerState) (a : List ℕ) (s : Held) (u : ScannerState) → t.held.started ≡ true → skip_to_next_token t ≡ Ok (at a s) → stale s ≡ Ok s → unroll_indent (s.position.col + 1) s ≡ s → fetch_here (at a s) ≡ Ok u → stale u.held ≡ Ok u.held
+-- What is held outside flow in a block mapping, at a position: the tokens, keys and levels, and whether a key may begin and a line begins.
+abbrev pub in_mapping : Position → List Token → List (Option Key) → ℕ → List Indent → Bool → Bool → ℕ → Held
+in_mapping p ts ks i ds allowed leading adjacent = record { position = p; tokens = ts; keys = ks; indents = ds; indent = i; flow = []; key_allowed = allowed; leading = leading; adjacent_value_at = adjacent; started = true; ended = false }
+
+-- where nothing stands before the token, and no key is too far back: the levels that are deeper end
+fetched_after : (t : ScannerState) (a : List ℕ) (s v : Held) (u : ScannerState) → t.held.started ≡ true → skip_to_next_token t ≡ Ok (at a s) → stale s ≡ Ok s → unroll_indent (s.position.col + 1) s ≡ v → fetch_here (at a v) ≡ Ok u → stale u.held ≡ Ok u.held
     → fetch t ≡ Ok u
 unfolding fetch fetch_next
-fetched t a s u started skips fresh stays here after = rw (skips, started, fresh, stays, here, after) refl
+fetched_after t a s v u started skips fresh ends here after = rw (skips, started, fresh, ends, here, after) refl
+
+-- the same where no level ends
+fetched : (t : ScannerState) (a : List ℕ) (s : Held) (u : ScannerState) → t.held.started ≡ true → skip_to_next_token t ≡ Ok (at a s) → stale s ≡ Ok s → unroll_indent (s.position.col + 1) s ≡ s → fetch_here (at a s) ≡ Ok u → stale u.held ≡ Ok u.held
+    → fetch t ≡ Ok u
+fetched t a s u started skips fresh stays here after = fetched_after t a s s u started skips fresh stays here after
 
 none_overdue : (p : Position) (ks : List (Option Key)) → cleared ks ≡ ks → (list_any (is_overdue p) ks ≡ false) × (map (still p) ks ≡ ks)
 none_overdue p [] e = (refl, refl)
@@ -58,6 +67,13 @@ unrolled_none limit p i (d ∷ ds) ts low = rw (le-ltb limit i low) refl
 none_end : (s : Held) → s.flow ≡ [] → s.indent ≤ s.position.col + 1 → unroll_indent (s.position.col + 1) s ≡ s
 unfolding unroll_indent
 none_end s flow low = rw (flow, unrolled_none (s.position.col + 1) s.position s.indent s.indents s.tokens low) refl
+
+-- a level that opens no collection ends
+open_ends : (p : Position) (ts : List Token) (ks : List (Option Key)) (ds : List Indent) (leading : Bool) (adjacent : ℕ)
+    → unroll_indent (p.col + 1) (in_mapping p ts ks (p.col + 1 + 1) (level (p.col + 1) false ∷ ds) true leading adjacent) ≡ in_mapping p ts ks (p.col + 1) ds true leading adjacent
+unfolding unroll_indent unrolled
+open_ends p ts ks ds leading adjacent =
+    rw (lt-ltb (p.col + 1) (p.col + 1 + 1) (omega arith), unrolled_none (p.col + 1) p (p.col + 1) ds ts (omega arith)) refl
 
 solid_here : (c : ℕ) (a : List ℕ) (s : Held) → is_break c ≡ false → (c == 9) ≡ false → is_blank c ≡ false → (c == 35) ≡ false → skip_to_next_token (at (c ∷ a) s) ≡ Ok (at (c ∷ a) s)
 unfolding skip_to_next_token skip
@@ -132,10 +148,6 @@ near_along : (w : List ℕ) (p : Position) → length w ≤ 1024 → is_far p (a
 unfolding is_far
 near_along w p h = rw (along_is w p, le-ltb p.line p.line (omega arith), le-ltb (p.index + 1024) (p.index + length w) (omega (arith, h))) refl
 
--- What is held outside flow in a block mapping, at a position: the tokens, keys and levels, and whether a key may begin and a line begins.
-abbrev pub in_mapping : Position → List Token → List (Option Key) → ℕ → List Indent → Bool → Bool → ℕ → Held
-in_mapping p ts ks i ds allowed leading adjacent = record { position = p; tokens = ts; keys = ks; indents = ds; indent = i; flow = []; key_allowed = allowed; leading = leading; adjacent_value_at = adjacent; started = true; ended = false }
-
 -- two fetches
 pub record FetchesTwice (t u : ScannerState) : Type 0 where
   pub between : ScannerState
@@ -149,6 +161,14 @@ module _ (p : Position) (ts : List Token) (ks : List (Option Key)) (ds : List In
 
   abbrev before : Held
   before = in_mapping p ts (None ∷ ks) i ds true leading adjacent
+
+  -- the same after a value that has left its level open
+  abbrev before_open : Held
+  before_open = in_mapping p ts (None ∷ ks) (i + 1) (level i false ∷ ds) true leading adjacent
+
+  abbrev pub before_key : (opens : Bool) → Held
+  before_key true = before
+  before_key false = before_open
 
   abbrev key_here : Key
   key_here = record { required = must_be_key before; number = length ts; position = p }
@@ -167,14 +187,22 @@ module _ (p : Position) (ts : List Token) (ks : List (Option Key)) (ds : List In
       let scanned = plain_key i p z.head z.tail d a z.chars z.close (omega arith) blank in
       rw (z.whole, block_stays i ds ts block, scanned) refl
 
-  key_fetch : (text : List ℕ) (d : ℕ) (a : List ℕ) → Simple text → length text ≤ 1024 → is_blank_or_breakz d ≡ true → fetch (at (text ++ 58 ∷ d ∷ a) before) ≡ Ok (at (58 ∷ d ∷ a) (after_scalar text))
-  key_fetch text d a z short blank =
-      let o = z.opens in
-      let rest : List ℕ = z.tail ++ 58 ∷ d ∷ a in
-      let same : text ++ 58 ∷ d ∷ a ≡ z.head ∷ rest = ap (λ t. t ++ 58 ∷ d ∷ a) z.whole in
-      rw same (fetched (at (z.head ∷ rest) before) (z.head ∷ rest) before (at (58 ∷ d ∷ a) (after_scalar text)) refl (solid_here z.head rest before o.break o.tab o.blank o.hash) (none_stale before refl (ap (λ l. None ∷ l) free)) (none_end before refl (omega arith))
-      (plain_here z.head rest before o (omega arith) ∙ rw same at (key_scalar text d a z blank))
-      (near_stale (after_scalar text) key_here ks refl refl (near_along text p short) free))
+  key_fetch : (opens : Bool) (text : List ℕ) (d : ℕ) (a : List ℕ) → Simple text → length text ≤ 1024 → is_blank_or_breakz d ≡ true → fetch (at (text ++ 58 ∷ d ∷ a) (before_key opens)) ≡ Ok (at (58 ∷ d ∷ a) (after_scalar text))
+  key_fetch opens text d a z short blank = rw same (by opens)
+    where
+      o : Opener z.head
+      o = z.opens
+      rest : List ℕ
+      rest = z.tail ++ 58 ∷ d ∷ a
+      same : text ++ 58 ∷ d ∷ a ≡ z.head ∷ rest
+      same = ap (λ t. t ++ 58 ∷ d ∷ a) z.whole
+      here : fetch_here (at (z.head ∷ rest) before) ≡ Ok (at (58 ∷ d ∷ a) (after_scalar text))
+      here = plain_here z.head rest before o (omega arith) ∙ rw same at (key_scalar text d a z blank)
+      after : stale (after_scalar text) ≡ Ok (after_scalar text)
+      after = near_stale (after_scalar text) key_here ks refl refl (near_along text p short) free
+      by : (b : Bool) → fetch (at (z.head ∷ rest) (before_key b)) ≡ Ok (at (58 ∷ d ∷ a) (after_scalar text))
+      by true = fetched (at (z.head ∷ rest) before) (z.head ∷ rest) before (at (58 ∷ d ∷ a) (after_scalar text)) refl (solid_here z.head rest before o.break o.tab o.blank o.hash) (none_stale before refl (ap (λ l. None ∷ l) free)) (none_end before refl (omega arith)) here after
+      by false = fetched_after (at (z.head ∷ rest) before_open) (z.head ∷ rest) before_open before (at (58 ∷ d ∷ a) (after_scalar text)) refl (solid_here z.head rest before_open o.break o.tab o.blank o.hash) (none_stale before_open refl (ap (λ l. None ∷ l) free)) (open_ends p ts (None ∷ ks) ds leading adjacent) here after
 
   key_value : (text : List ℕ) (d : ℕ) (a : List ℕ) → (d == 9) ≡ false → fetch_value (at (58 ∷ d ∷ a) (after_scalar text)) ≡ Ok (at (d ∷ a) (after_colon text))
   unfolding fetch_value insert_key begin_pair check_value_space
@@ -198,11 +226,11 @@ module _ (p : Position) (ts : List Token) (ks : List (Option Key)) (ds : List In
       (none_stale (after_colon text) refl (ap (λ l. None ∷ l) free))
 
   -- a key and its `:`
-  pub key_fetched : (text : List ℕ) (b : List ℕ) → IsSimpleText text → length text ≤ 1024 → ((slice_index b 0 == 32) || (slice_index b 0 == 10)) ≡ true → FetchesTwice (at (text ++ 58 ∷ b) before) (at b (after_colon text))
-  key_fetched text [] simple short next = absurd cc
-  key_fetched text (d ∷ a) simple short next =
+  pub key_fetched : (opens : Bool) (text : List ℕ) (b : List ℕ) → IsSimpleText text → length text ≤ 1024 → ((slice_index b 0 == 32) || (slice_index b 0 == 10)) ≡ true → FetchesTwice (at (text ++ 58 ∷ b) (before_key opens)) (at b (after_colon text))
+  key_fetched opens text [] simple short next = absurd cc
+  key_fetched opens text (d ∷ a) simple short next =
       let blank = follows_blank d next in
-      record { between = at (58 ∷ d ∷ a) (after_scalar text); first = key_fetch text d a (simple_text text simple) short blank.0; going = refl; second = colon_fetch text d a simple.some short blank.0 blank.1 }
+      record { between = at (58 ∷ d ∷ a) (after_scalar text); first = key_fetch opens text d a (simple_text text simple) short blank.0; going = refl; second = colon_fetch text d a simple.some short blank.0 blank.1 }
 
 -- ---- a value
 

@@ -7,7 +7,7 @@ use Rattle.yaml_tokens.specs.ErrorReport.{ErrorReport}
 use Rattle.yaml_tokens.specs.declared.problem.Fault.TheVariants.{OutOfMemory}
 use Rattle.model_lexers.specs.Machine.{past}
 use Rattle.model_scanner.specs.declared.level.Indent.{Indent}
-use Rattle.model_scanner.specs.State.{token}
+use Rattle.model_scanner.specs.State.{Key, token}
 use Rattle.model_scanner.specs.Keys.{cleared, top_needs_block_end}
 use Rattle.model_scanner.specs.Indents.{level}
 use Rattle.model_scanner.specs.Fetch.{fetch}
@@ -21,7 +21,7 @@ use Rattle.yaml_scanner_state.specs.ImplicitKeys.{seen, no_implicit}
 use Rattle.yaml_scanner_state.specs.Levels.{Columns, lone_open}
 use Rattle.yaml_scanner_state.specs.Tokens.{Tokens, handed, is_end, key_tokens}
 use Rattle.yaml_scanner_state.proofs.KeyLemmas.{none_front, none_lowered}
-use Rattle.yaml_scanner.specs.Awaits.{AwaitsKey, AwaitsValue}
+use Rattle.yaml_scanner.specs.Awaits.{StandsAt, levels_after, AwaitsKey, AwaitsValue}
 use Rattle.yaml_scanner.specs.Follows.{Follows}
 use Rattle.yaml_chars.specs.Pairs.{TakesKey, TakesValue}
 use Rattle.yaml_scanner.specs.Scanned.{Scanned, inside, kept_fault, HandsBoth}
@@ -30,7 +30,7 @@ use Rattle.yaml_scanner.specs.Work.{Fetches, work}
 use Rattle.yaml_scanner.proofs.DoesLemmas.{Reads-map}
 use Rattle.yaml_scanner.proofs.FollowLemmas.{fetched_on, handed_on}
 use Rattle.yaml_scanner.proofs.PairTexts.{same_place, along_is}
-use Rattle.yaml_scanner.proofs.PairFetches.{in_mapping, FetchesTwice, key_fetched, value_fetched, after_colon, after_value}
+use Rattle.yaml_scanner.proofs.PairFetches.{in_mapping, FetchesTwice, key_fetched, value_fetched, before_key, after_colon, after_value}
 
 -- two fetches more
 fetched_twice : {T : Type 0} (x y : Fetcher T) → x.kept ≡ None → x.tokens.ended ≡ false → Follows x → Reads x.window y.window (λ a b. FetchesTwice (state a x) (state b y)) → Fetches x y → y.tokens.ended ≡ false → Follows y
@@ -125,9 +125,48 @@ seen_free g [] e = refl
 seen_free g (None ∷ js) e = ap (λ ks. None ∷ ks) (seen_free g js cc)
 seen_free g (Some k ∷ js) e = absurd cc
 
+-- ---- levels
+
+levels_split : (ds : List Indent) (limit : ℕ) → lone_open ds ≡ Some limit → (es : List Indent) × (ds ≡ level limit false ∷ es) × (top_needs_block_end es ≡ true)
+levels_split [] limit e = absurd cc
+levels_split (d ∷ []) limit e = absurd cc
+levels_split (d ∷ g ∷ ds) limit e = by d.needs_block_end g.needs_block_end refl refl
+  where
+    by : (b c : Bool) → d.needs_block_end ≡ b → g.needs_block_end ≡ c → (es : List Indent) × (d ∷ g ∷ ds ≡ level limit false ∷ es) × (top_needs_block_end es ≡ true)
+    by true c h k = let n = rw h at e in absurd cc
+    by false false h k = let n = rw (h, k) at e in absurd cc
+    by false true h k =
+        let one : Some d.indent ≡ Some limit = rw (h, k) at e in
+        let width : d.indent ≡ limit = cc in
+        let top : d ≡ level limit false = rw (sym width, sym h) refl in
+        (g ∷ ds, ap (λ i. i ∷ g ∷ ds) top, k)
+
+-- the levels where a key stands at a column, by those outside it
+abbrev levels_at : ℕ → (opens : Bool) → List Indent → Columns
+levels_at col true ds = record { indent = col + 1; indents = ds }
+levels_at col false ds = record { indent = col + 1 + 1; indents = level (col + 1) false ∷ ds }
+
+record Outside (col : ℕ) (opens : Bool) (l : Columns) : Type 0 where
+  ds : List Indent
+  block : top_needs_block_end ds ≡ true
+  before : l ≡ levels_at col opens ds
+  after : levels_after opens l ≡ levels_at col false ds
+
+outside_of : (col : ℕ) (opens : Bool) (l : Columns) → StandsAt col opens l → Outside col opens l
+outside_of col true l z = record { ds = l.indents; block = z.1; before = rw z.0 refl; after = rw z.0 refl }
+outside_of col false l z =
+    let s = levels_split l.indents (col + 1) z.1 in
+    let width : l.indent ≡ col + 1 + 1 = z.0 ∙ omega arith in
+    let same : l ≡ levels_at col false s.0 = rw (width, s.1) refl in
+    record { ds = s.0; block = s.2; before = same; after = same }
+
+levels_more : (opens : Bool) (l : Columns) → length (levels_after opens l).indents ≤ length l.indents + 1
+levels_more true l = omega arith
+levels_more false l = omega arith
+
 -- ---- a key
 
-module _ {T : Type 0} (x : Fetcher T) (w : Reading T) (key : List ℕ) (colon : Position) (z : AwaitsKey x) (t : TakesKey x.window w key) (at : colon ≡ record { index = w.at - 1; line = w.line; col = w.col - 1 }) where
+module _ {T : Type 0} (x : Fetcher T) (w : Reading T) (key : List ℕ) (colon : Position) (opens : Bool) (z : AwaitsKey x opens) (t : TakesKey x.window w key) (at : colon ≡ record { index = w.at - 1; line = w.line; col = w.col - 1 }) where
   abbrev p : Position
   p = position_of x.window
 
@@ -136,7 +175,7 @@ module _ {T : Type 0} (x : Fetcher T) (w : Reading T) (key : List ℕ) (colon : 
   key_fetcher n = record x {
     window = w;
     tokens = record x.tokens { all = x.tokens.all ++ key_tokens p key colon; given = n };
-    levels = record { indent = x.levels.indent + 1; indents = level x.levels.indent false ∷ x.levels.indents };
+    levels = levels_after opens x.levels;
     key_allowed = false;
     leading = false;
   }
@@ -155,6 +194,14 @@ module _ {T : Type 0} (x : Fetcher T) (w : Reading T) (key : List ℕ) (colon : 
   all_of [] = refl
   all_of (x ∷ xs) = ap (λ ys. x ∷ ys) (all_of xs)
 
+  held_before : (ds : List Indent) (ks : List (Option Key)) (l : Columns) (free : cleared ks ≡ ks) (block : top_needs_block_end ds ≡ true) → l ≡ levels_at p.col opens ds → seen x.tokens.given x.keys ≡ None ∷ ks
+      → held (record x { levels = l }) ≡ before_key p x.tokens.all ks ds x.leading x.adjacent_value_at free block opens
+  held_before ds ks l free block e keys = by opens e
+    where
+      by : (b : Bool) → l ≡ levels_at p.col b ds → held (record x { levels = l }) ≡ before_key p x.tokens.all ks ds x.leading x.adjacent_value_at free block b
+      by true h = let s = z.settled in rw (s.flow, s.started, s.ended, z.allowed, h, keys) refl
+      by false h = let s = z.settled in rw (s.flow, s.started, s.ended, z.allowed, h, keys) refl
+
   key_fetches : Follows x → Follows (key_fetcher x.tokens.given)
   key_fetches f =
       let s = z.settled in
@@ -163,11 +210,13 @@ module _ {T : Type 0} (x : Fetcher T) (w : Reading T) (key : List ℕ) (colon : 
       let free = seen_free x.tokens.given split.0 split.2 in
       let keys : seen x.tokens.given x.keys ≡ None ∷ ks = ap (seen x.tokens.given) split.1 in
       let y = key_fetcher x.tokens.given in
-      let old : held x ≡ in_mapping p x.tokens.all (None ∷ ks) (p.col + 1) x.levels.indents true x.leading x.adjacent_value_at = rw (s.flow, s.started, s.ended, z.allowed, z.indent, keys) refl in
-      let new : held y ≡ after_colon p x.tokens.all ks x.levels.indents x.leading x.adjacent_value_at free z.block key = rw (s.flow, s.started, s.ended, z.indent, keys, colon_is, after_is) refl in
+      let o = outside_of p.col opens x.levels z.stands in
+      let before = before_key p x.tokens.all ks o.ds x.leading x.adjacent_value_at free o.block opens in
+      let old : held x ≡ before = held_before o.ds ks x.levels free o.block o.before keys in
+      let new : held y ≡ after_colon p x.tokens.all ks o.ds x.leading x.adjacent_value_at free o.block key = rw (s.flow, s.started, s.ended, o.after, keys, colon_is, after_is) refl in
       fetched_twice x y s.kept s.ended f
-      (Reads-map _ _ t.reads (λ a b r. subst (λ h. FetchesTwice (record { rest = a; held = h }) (state b y)) (sym old) (subst (λ h. FetchesTwice (record { rest = a; held = in_mapping p x.tokens.all (None ∷ ks) (p.col + 1) x.levels.indents true x.leading x.adjacent_value_at }) (record { rest = b; held = h })) (sym new)
-      (rw r.0 (key_fetched p x.tokens.all ks x.levels.indents x.leading x.adjacent_value_at free z.block key b t.simple t.short r.1)))))
+      (Reads-map _ _ t.reads (λ a b r. subst (λ h. FetchesTwice (record { rest = a; held = h }) (state b y)) (sym old) (subst (λ h. FetchesTwice (record { rest = a; held = before }) (record { rest = b; held = h })) (sym new)
+      (rw r.0 (key_fetched p x.tokens.all ks o.ds x.leading x.adjacent_value_at free o.block opens key b t.simple t.short r.1)))))
       (record { given = rw z.waits (taken_all x.tokens.all (key_tokens p key colon) (length x.tokens.all) refl ∙ sym (all_of x.tokens.all)); over = refl; fault = refl })
       s.ended
 
@@ -184,24 +233,18 @@ module _ {T : Type 0} (x : Fetcher T) (w : Reading T) (key : List ℕ) (colon : 
       let left = t.reads.left in
       let moved = t.at in
       let some = t.simple.some in
+      let deeper = levels_more opens x.levels in
       hands_both x (key_fetcher (x.tokens.given + 2)) x.tokens.all (token colon Tok.value ∷ []) (token p Tok.key) (token p (Tok.scalar Style.plain key)) s.kept s.over refl refl (rw waits (all_of x.tokens.all)) refl (rw waits refl) refl refl
-      (omega (arith, more, waits, left, moved, some))
+      (omega (arith, more, waits, left, moved, some, deeper))
 
 -- ---- a value
 
-levels_split : (ds : List Indent) (limit : ℕ) (l : Columns) → lone_open ds ≡ Some limit → ds ≡ level l.indent false ∷ l.indents → (l.indent ≡ limit) × (top_needs_block_end l.indents ≡ true)
-levels_split [] limit l e f = absurd cc
-levels_split (d ∷ []) limit l e f = absurd cc
-levels_split (d ∷ g ∷ ds) limit l e f = by d g ds l d.needs_block_end g.needs_block_end refl refl e f
-  where
-    by : (d g : Indent) (ds : List Indent) (l : Columns) (b c : Bool) → d.needs_block_end ≡ b → g.needs_block_end ≡ c → lone_open (d ∷ g ∷ ds) ≡ Some limit → d ∷ g ∷ ds ≡ level l.indent false ∷ l.indents → (l.indent ≡ limit) × (top_needs_block_end l.indents ≡ true)
-    by d g ds l true c h k e f = let n = rw h at e in absurd cc
-    by d g ds l false false h k e f = let n = rw (h, k) at e in absurd cc
-    by d g ds l false true h k e f =
-        let one : Some d.indent ≡ Some limit = rw (h, k) at e in
-        let top : d ≡ level l.indent false = cc in
-        let rest : g ∷ ds ≡ l.indents = cc in
-        (ap (λ i. i.indent) (sym top) ∙ cc, ap top_needs_block_end (sym rest) ∙ k)
+popped_is : (ds : List Indent) (limit : ℕ) (l : Columns) → lone_open ds ≡ Some limit → ds ≡ level l.indent false ∷ l.indents → (l.indent ≡ limit) × (top_needs_block_end l.indents ≡ true)
+popped_is ds limit l e f =
+    let s = levels_split ds limit e in
+    let same : level l.indent false ∷ l.indents ≡ level limit false ∷ s.0 = sym f ∙ s.1 in
+    let rest : l.indents ≡ s.0 = cc in
+    (cc, ap top_needs_block_end rest ∙ s.2)
 
 module _ {T : Type 0} (x : Fetcher T) (w : Reading T) (value : List ℕ) (at : Position) (limit : ℕ) (mark : Position) (l : Columns) (z : AwaitsValue x at limit) (t : TakesValue limit x.window w value) (is : mark ≡ past (position_of x.window)) (popped : x.levels.indents ≡ level l.indent false ∷ l.indents) where
   abbrev q : Position
@@ -238,7 +281,7 @@ module _ {T : Type 0} (x : Fetcher T) (w : Reading T) (value : List ℕ) (at : P
       let s = z.settled in
       let ks = seen x.tokens.given x.keys in
       let free = seen_free x.tokens.given x.keys s.free in
-      let split = levels_split x.levels.indents limit l z.opened popped in
+      let split = popped_is x.levels.indents limit l z.opened popped in
       let y = value_fetcher x.tokens.given in
       let indents : x.levels.indents ≡ level limit false ∷ l.indents = popped ∙ ap (λ i. level i false ∷ l.indents) split.0 in
       let before = in_mapping q x.tokens.all ks x.levels.indent (level limit false ∷ l.indents) false x.leading x.adjacent_value_at in

@@ -1,11 +1,12 @@
 -- Where a key or a value of a block mapping may be taken at once.
-use Rattle.std.specs.Prelude.{◌≡◌, ℕ, ◌+◌, ◌<◌, ◌≤◌, [], ◌∷◌, ◌++◌, length, map, true, false, None, Some}
+use Rattle.std.specs.Prelude.{◌≡◌, ℕ, ◌+◌, ◌<◌, ◌≤◌, [], ◌∷◌, ◌++◌, length, map, Bool, true, false, None, Some}
 use Rattle.defs_text.specs.Position.{Position}
 use Rattle.defs_token.specs.Token.{Tok}
 use Rattle.model_scanner.specs.State.{token}
 use Rattle.model_scanner.specs.Keys.{top_needs_block_end}
 use Rattle.yaml_scanner_state.specs.ImplicitKeys.{no_implicit}
-use Rattle.yaml_scanner_state.specs.Levels.{lone_open}
+use Rattle.model_scanner.specs.Indents.{level}
+use Rattle.yaml_scanner_state.specs.Levels.{Columns, lone_open}
 use Rattle.yaml_scanner_state.specs.Tokens.{handed}
 use Rattle.yaml_scanner.specs.declared.fetcher.Fetcher.{Fetcher}
 
@@ -19,13 +20,22 @@ pub record IsSettled {T : Type 0} (s : Fetcher T) : Type 0 where
   pub free : map no_implicit s.keys ≡ s.keys
   pub level : 0 < length s.keys
 
+-- The innermost block collection stands at a column. Its key opens a level for the value, or the value before has left such a level open.
+abbrev pub StandsAt : ℕ → (opens : Bool) → Columns → Type 0
+StandsAt col true l = (l.indent ≡ col + 1) × (top_needs_block_end l.indents ≡ true)
+StandsAt col false l = (l.indent ≡ col + 2) × (lone_open l.indents ≡ Some (col + 1))
+
+-- the levels after such a key and its `:`
+abbrev pub levels_after : (opens : Bool) → Columns → Columns
+levels_after true l = record { indent = l.indent + 1; indents = level l.indent false ∷ l.indents }
+levels_after false l = l
+
 -- no token waits, and a key may begin here, where the innermost block collection stands
-pub record AwaitsKey {T : Type 0} (s : Fetcher T) : Type 0 where
+pub record AwaitsKey {T : Type 0} (s : Fetcher T) (opens : Bool) : Type 0 where
   pub settled : IsSettled s
   pub waits : s.tokens.given ≡ length s.tokens.all
   pub allowed : s.key_allowed ≡ true
-  pub indent : s.levels.indent ≡ s.window.col + 1
-  pub block : top_needs_block_end s.levels.indents ≡ true
+  pub stands : StandsAt s.window.col opens s.levels
 
 -- a `Value` alone waits, and what comes next stands deeper than the block collection outside, whose column is the limit
 pub record AwaitsValue {T : Type 0} (s : Fetcher T) (value : Position) (limit : ℕ) : Type 0 where

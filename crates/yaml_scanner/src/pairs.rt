@@ -11,7 +11,7 @@ ghost use Rattle.model_scanner.specs.Indents.{level};
 ghost use Rattle.yaml_chars.specs.Reading.{position_of};
 ghost use Rattle.yaml_scanner_state.specs.Levels.{ends_open};
 ghost use Rattle.yaml_scanner_state.specs.Tokens.{waiting, handed, key_tokens};
-ghost use Rattle.yaml_scanner.specs.Awaits.{IsSettled, AwaitsKey, AwaitsValue};
+ghost use Rattle.yaml_scanner.specs.Awaits.{IsSettled, AwaitsKey, AwaitsValue, levels_after};
 ghost use Rattle.yaml_scanner.specs.Follows.{Follows};
 ghost use Rattle.yaml_chars.specs.Pairs.{TakesKey, TakesValue};
 ghost use Rattle.yaml_scanner.specs.Scanned.{inside, HandsBoth};
@@ -87,15 +87,27 @@ impl<T: Characters> Fetcher<T> {
             && !self.tokens.is_over()
     }
 
-    /// Whether no token waits, and a key may begin here, where the innermost block collection stands.
-    fn awaits_key(&self) -> bool
-        ensures { result ≡ true → AwaitsKey self.now }
+    /// Where no token waits, and a key may begin here, where the innermost block collection stands: whether the key opens a
+    /// level for its value. It does not where the value before has left such a level open.
+    fn awaits_key(&self) -> Option<bool>
+        ensures { IfSome result (λ opens. AwaitsKey self.now opens) }
     {
-        self.key_allowed
-            && self.tokens.len() == 0
-            && self.levels.needs_block_end()
-            && self.levels.indent() == self.window.mark().col() + 1
-            && self.is_settled()
+        if !self.key_allowed || self.tokens.len() > 0 || !self.is_settled() {
+            return None;
+        }
+        let col = self.window.mark().col();
+        if self.levels.needs_block_end() {
+            return if self.levels.indent() == col + 1 {
+                Some(true)
+            } else {
+                None
+            };
+        }
+        let outer = self.levels.lone_open()?;
+        if outer != col + 1 || self.levels.indent() != col + 2 {
+            return None;
+        }
+        Some(false)
     }
 
     /// Where a `Value` alone waits, and what comes next stands deeper than the block collection outside: the position of
@@ -115,18 +127,27 @@ impl<T: Characters> Fetcher<T> {
         Some((value, limit))
     }
 
-    /// Hands out the `Key` and the scalar of a key that was read, and lets its `:` wait.
-    fn hand_key(&mut self, mark: Marker, key: String, colon: Marker) -> Result<String, Failed>
+    /// Hands out the `Key` and the scalar of a key that was read, and lets its `:` wait. The level of its value is opened,
+    /// or is open.
+    fn hand_key(
+        &mut self,
+        mark: Marker,
+        key: String,
+        colon: Marker,
+        opens: bool,
+    ) -> Result<String, Failed>
         requires waits { waiting self.old.tokens ≡ 0 }
-        requires block { top_needs_block_end self.old.levels.indents ≡ true }
-        ensures ok { OnOk result (self.new ≡ record self.old { tokens = record self.old.tokens { all = self.old.tokens.all ++ key_tokens mark (string_chars key) colon; given = self.old.tokens.given + 2 }; levels = record { indent = self.old.levels.indent + 1; indents = level self.old.levels.indent false ∷ self.old.levels.indents }; key_allowed = false; leading = false }) }
+        requires block { opens ≡ true → top_needs_block_end self.old.levels.indents ≡ true }
+        ensures ok { OnOk result (self.new ≡ record self.old { tokens = record self.old.tokens { all = self.old.tokens.all ++ key_tokens mark (string_chars key) colon; given = self.old.tokens.given + 2 }; levels = levels_after opens self.old.levels; key_allowed = false; leading = false }) }
         ensures text { IfOk result (λ t. string_chars t ≡ string_chars key) }
         ensures err { IfErr result (λ _. self.new.fault ≡ Fault.OutOfMemory) }
         ensures run { IfErr result (λ _. Fetches self.old self.new) }
         ensures window { self.new.window ≡ self.old.window }
     {
-        if let Err(_) = self.levels.push_open() {
-            return Err(self.fail(Fault::OutOfMemory));
+        if opens {
+            if let Err(_) = self.levels.push_open() {
+                return Err(self.fail(Fault::OutOfMemory));
+            }
         }
         self.key_allowed = false;
         self.leading = false;
@@ -162,12 +183,12 @@ impl<T: Characters> Fetcher<T> {
         ensures memory { IfErr result (λ _. self.new.fault ≡ Fault.OutOfMemory) }
         ensures start { self.new.window.start ≡ self.old.window.start }
     {
-        if !self.awaits_key() {
+        let Some(opens) = self.awaits_key() else {
             return Ok(None);
-        }
+        };
         let mark = self.window.mark();
         match take_key(&mut self.window, self.alloc) {
-            Ok(Some((key, colon))) => match self.hand_key(mark, key.into_string(), colon) {
+            Ok(Some((key, colon))) => match self.hand_key(mark, key.into_string(), colon, opens) {
                 Ok(text) => Ok(Some(PlainNode {
                     indicator: mark,
                     mark,

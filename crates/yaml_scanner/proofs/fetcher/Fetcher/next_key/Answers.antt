@@ -11,7 +11,7 @@ returns-in-Ok-clause-key g c =
     let takes = subst (λ o. IfSome o (λ k. TakesKey x.window w k.0)) c.in-Ok-Some.field-0-is c.in-Ok-Some.ensures.key in
     let at = subst (λ o. IfSome o (λ k. k.1 ≡ record { index = w.at - 1; line = w.line; col = w.col - 1 })) c.in-Ok-Some.field-0-is c.in-Ok-Some.ensures.colon in
     rw (c.in-Ok.ensures.ok, c.in-Ok.ensures.text, c.into_string.ensures, c.mark-mark.ensures)
-    (key_handed x w c.in-Ok-Some.key c.in-Ok-Some.colon (c.if-not-awaits_key.ensures refl) takes at)
+    (key_handed x w c.in-Ok-Some.key c.in-Ok-Some.colon c.in-Some.opens c.in-Some.ensures takes at)
 
 pub returns-in-Ok-clause-ok : goal.returns-in-Ok-clause-ok
 returns-in-Ok-clause-ok g c =
@@ -20,4 +20,4 @@ returns-in-Ok-clause-ok g c =
     let takes = subst (λ o. IfSome o (λ k. TakesKey x.window w k.0)) c.in-Ok-Some.field-0-is c.in-Ok-Some.ensures.key in
     let at = subst (λ o. IfSome o (λ k. k.1 ≡ record { index = w.at - 1; line = w.line; col = w.col - 1 })) c.in-Ok-Some.field-0-is c.in-Ok-Some.ensures.colon in
     rw (c.in-Ok.ensures.ok, c.into_string.ensures, c.mark-mark.ensures)
-    (key_follows x w c.in-Ok-Some.key c.in-Ok-Some.colon (c.if-not-awaits_key.ensures refl) takes at c.requires)
+    (key_follows x w c.in-Ok-Some.key c.in-Ok-Some.colon c.in-Some.opens c.in-Some.ensures takes at c.requires)
