@@ -1,5 +1,5 @@
 //! JSON texts.
-ghost use Rattle.std.specs.Prelude.{IfOk, IfSome, chars};
+ghost use Rattle.std.specs.Prelude.{◌≤◌, IfOk, IfSome, chars, length};
 ghost use Rattle.defs_layout.specs.Json.{IsJsonText};
 ghost use Rattle.yaml_tree.specs.View.{view};
 ghost use Rattle.yaml_json_reader.specs.Reads.{IsWholeValue};
@@ -18,7 +18,7 @@ pub fn read_json(alloc: Global, text: &str) -> Result<Option<Yaml>, AllocError>
 {
     let mut cursor = Cursor::new(text);
     cursor.skip_first_gap();
-    if !matches!(cursor.peek(), b'[' | b'{') {
+    if !matches!(cursor.peek(), b'[' | b'{') || !may_end(text.as_bytes()) {
         return Ok(None);
     }
     match read_whole(alloc, &mut cursor) {
@@ -39,4 +39,28 @@ fn read_whole(alloc: Global, cursor: &mut Cursor<'_>) -> Result<Yaml, Stop>
         return Err(Stop::Foreign);
     }
     Ok(tree)
+}
+
+// Whether the text may end as a JSON text does: with a bracket that no comma stands before. It is asked first: a text with a
+// comma too many, a comment or a further document at its end would else be read up to there in vain.
+#[inline(never)]
+fn may_end(bytes: &[u8]) -> bool {
+    let end = gap_start(bytes, bytes.len());
+    if end == 0 || !matches!(bytes[end - 1], b']' | b'}') {
+        return false;
+    }
+    let before = gap_start(bytes, end - 1);
+    before == 0 || bytes[before - 1] != b','
+}
+
+// Where the white space before a place begins.
+fn gap_start(bytes: &[u8], end: usize) -> usize
+    requires { end ≤ length bytes.now }
+    ensures { result ≤ end }
+{
+    let mut start = end;
+    'gap: while start > 0 && matches!(bytes[start - 1], b' ' | b'\t' | b'\n' | b'\r') {
+        start -= 1;
+    }
+    start
 }

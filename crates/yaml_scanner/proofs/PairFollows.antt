@@ -138,13 +138,16 @@ levels_split (d ∷ g ∷ ds) limit e = by d.needs_block_end g.needs_block_end r
     by false true h k =
         let one : Some d.indent ≡ Some limit = rw (h, k) at e in
         let width : d.indent ≡ limit = cc in
-        let top : d ≡ level limit false = rw (sym width, sym h) refl in
+        let top : d ≡ level limit false = ap (λ i. level i d.needs_block_end) width ∙ ap (λ n. level limit n) h in
         (g ∷ ds, ap (λ i. i ∷ g ∷ ds) top, k)
+
+abbrev columns : ℕ → List Indent → Columns
+columns i ds = record { indent = i; indents = ds }
 
 -- the levels where a key stands at a column, by those outside it
 abbrev levels_at : ℕ → (opens : Bool) → List Indent → Columns
-levels_at col true ds = record { indent = col + 1; indents = ds }
-levels_at col false ds = record { indent = col + 1 + 1; indents = level (col + 1) false ∷ ds }
+levels_at col true ds = columns (col + 1) ds
+levels_at col false ds = columns (col + 1 + 1) (level (col + 1) false ∷ ds)
 
 record Outside (col : ℕ) (opens : Bool) (l : Columns) : Type 0 where
   ds : List Indent
@@ -153,11 +156,11 @@ record Outside (col : ℕ) (opens : Bool) (l : Columns) : Type 0 where
   after : levels_after opens l ≡ levels_at col false ds
 
 outside_of : (col : ℕ) (opens : Bool) (l : Columns) → StandsAt col opens l → Outside col opens l
-outside_of col true l z = record { ds = l.indents; block = z.1; before = rw z.0 refl; after = rw z.0 refl }
+outside_of col true l z = record { ds = l.indents; block = z.1; before = ap (λ i. columns i l.indents) z.0; after = ap (λ i. columns (i + 1) (level i false ∷ l.indents)) z.0 }
 outside_of col false l z =
     let s = levels_split l.indents (col + 1) z.1 in
     let width : l.indent ≡ col + 1 + 1 = z.0 ∙ omega arith in
-    let same : l ≡ levels_at col false s.0 = rw (width, s.1) refl in
+    let same : l ≡ levels_at col false s.0 = ap (λ i. columns i l.indents) width ∙ ap (λ es. columns (col + 1 + 1) es) s.1 in
     record { ds = s.0; block = s.2; before = same; after = same }
 
 levels_more : (opens : Bool) (l : Columns) → length (levels_after opens l).indents ≤ length l.indents + 1
@@ -243,8 +246,9 @@ popped_is : (ds : List Indent) (limit : ℕ) (l : Columns) → lone_open ds ≡ 
 popped_is ds limit l e f =
     let s = levels_split ds limit e in
     let same : level l.indent false ∷ l.indents ≡ level limit false ∷ s.0 = sym f ∙ s.1 in
+    let top : level l.indent false ≡ level limit false = cc in
     let rest : l.indents ≡ s.0 = cc in
-    (cc, ap top_needs_block_end rest ∙ s.2)
+    (ap (λ (i : Indent). i.indent) top, ap top_needs_block_end rest ∙ s.2)
 
 module _ {T : Type 0} (x : Fetcher T) (w : Reading T) (value : List ℕ) (at : Position) (limit : ℕ) (mark : Position) (l : Columns) (z : AwaitsValue x at limit) (t : TakesValue limit x.window w value) (is : mark ≡ past (position_of x.window)) (popped : x.levels.indents ≡ level l.indent false ∷ l.indents) where
   abbrev q : Position
