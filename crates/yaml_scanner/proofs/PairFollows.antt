@@ -1,5 +1,5 @@
 -- Two tokens that are handed out at once, against the model's runs.
-use Rattle.std.proofs.Common.{◌≡◌, ℕ, suc, ◌+◌, ◌-◌, ◌<◌, List, [], ◌∷◌, ◌++◌, Bool, true, false, ◌||◌, refl, ap, sym, ◌∙◌, arith, Option, Some, None, length, length-append, map, take, drop, option_map, subst, append_assoc, Ok}
+use Rattle.std.proofs.Common.{◌≡◌, ℕ, suc, ◌+◌, ◌-◌, ◌<◌, ◌≤◌, List, [], ◌∷◌, ◌++◌, Bool, true, false, ◌||◌, refl, ap, sym, ◌∙◌, arith, Option, Some, None, length, length-append, map, take, drop, option_map, subst, append_assoc, Ok}
 use Rattle.defs_text.specs.Position.{Position}
 use Rattle.yaml_chars.specs.Reading.{Reading, Reads, position_of}
 use Rattle.defs_token.specs.Token.{Tok, Style, Token}
@@ -228,17 +228,21 @@ module _ {T : Type 0} (x : Fetcher T) (w : Reading T) (key : List ℕ) (colon : 
       let s = z.settled in
       both_handed (key_fetcher x.tokens.given) x.tokens.all (token colon Tok.value ∷ []) (token p Tok.key) (token p (Tok.scalar Style.plain key)) s.kept s.over s.free refl z.waits refl refl (key_fetches f)
 
-  pub key_handed : HandsBoth (inside x) (token p Tok.key) (token p (Tok.scalar Style.plain key)) (inside (key_fetcher (x.tokens.given + 2)))
-  key_handed =
-      let s = z.settled in
+  key_less : (n : ℕ) → length (levels_after opens x.levels).indents ≡ n → n ≤ length x.levels.indents + 1 → work (key_fetcher (x.tokens.given + 2)) + 1 < work x
+  key_less n e low =
       let more : length (x.tokens.all ++ key_tokens p key colon) ≡ length x.tokens.all + 3 = length-append x.tokens.all (key_tokens p key colon) in
       let waits = z.waits in
       let left = t.reads.left in
       let moved = t.at in
       let some = t.simple.some in
-      let deeper = levels_more opens x.levels in
+      rw e (omega (arith, more, waits, left, moved, some, low))
+
+  pub key_handed : HandsBoth (inside x) (token p Tok.key) (token p (Tok.scalar Style.plain key)) (inside (key_fetcher (x.tokens.given + 2)))
+  key_handed =
+      let s = z.settled in
+      let waits = z.waits in
       hands_both x (key_fetcher (x.tokens.given + 2)) x.tokens.all (token colon Tok.value ∷ []) (token p Tok.key) (token p (Tok.scalar Style.plain key)) s.kept s.over refl refl (rw waits (all_of x.tokens.all)) refl (rw waits refl) refl refl
-      (omega (arith, more, waits, left, moved, some, deeper))
+      (key_less _ refl (levels_more opens x.levels))
 
 -- ---- a value
 
