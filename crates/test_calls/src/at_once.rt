@@ -22,11 +22,7 @@ const ROWS: [Row; 9] = [
         "a: b\nc:\n- d\nother: f\ng: h\n",
         "3 keys, 2 values",
     ),
-    (
-        "a quoted value",
-        "a: b\nc: 'd'\ne: f\n",
-        "1 keys, 1 values",
-    ),
+    ("a quoted value", "a: b\nc: 'd'\ne: f\n", "2 keys, 1 values"),
     (
         "a value of two lines",
         "a: b\nc: d\n e\nother: g\n",
@@ -42,8 +38,12 @@ const ROWS: [Row; 9] = [
 
 // A token with its position.
 fn tell(alloc: Global, out: &mut String, mark: Marker, kind: &TokenType) -> Result<(), Fail> {
-    let word =
-        format!(in alloc; "{kind:?} {} {} {}, ", mark.index(), mark.line(), mark.col())?;
+    let word = format!(in alloc;
+        "{kind:?} {} {} {}, ",
+        mark.index(),
+        mark.line(),
+        mark.col()
+    )?;
     out.push_str(word.as_str())?;
     Ok(())
 }

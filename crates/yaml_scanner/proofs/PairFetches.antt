@@ -192,14 +192,19 @@ module _ (p : Position) (ts : List Token) (ks : List (Option Key)) (ds : List In
     where
       o : Opener z.head
       o = z.opens
+
       rest : List ℕ
       rest = z.tail ++ 58 ∷ d ∷ a
+
       same : text ++ 58 ∷ d ∷ a ≡ z.head ∷ rest
       same = ap (λ t. t ++ 58 ∷ d ∷ a) z.whole
+
       here : fetch_here (at (z.head ∷ rest) before) ≡ Ok (at (58 ∷ d ∷ a) (after_scalar text))
       here = plain_here z.head rest before o (omega arith) ∙ rw same at (key_scalar text d a z blank)
+
       after : stale (after_scalar text) ≡ Ok (after_scalar text)
       after = near_stale (after_scalar text) key_here ks refl refl (near_along text p short) free
+
       by : (b : Bool) → fetch (at (z.head ∷ rest) (before_key b)) ≡ Ok (at (58 ∷ d ∷ a) (after_scalar text))
       by true = fetched (at (z.head ∷ rest) before) (z.head ∷ rest) before (at (58 ∷ d ∷ a) (after_scalar text)) refl (solid_here z.head rest before o.break o.tab o.blank o.hash) (none_stale before refl (ap (λ l. None ∷ l) free)) (none_end before refl (omega arith)) here after
       by false = fetched_after (at (z.head ∷ rest) before_open) (z.head ∷ rest) before_open before (at (58 ∷ d ∷ a) (after_scalar text)) refl (solid_here z.head rest before_open o.break o.tab o.blank o.hash) (none_stale before_open refl (ap (λ l. None ∷ l) free)) (open_ends p ts (None ∷ ks) ds leading adjacent) here after

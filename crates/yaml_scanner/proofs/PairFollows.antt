@@ -298,8 +298,10 @@ module _ {T : Type 0} (x : Fetcher T) (w : Reading T) (value : List ℕ) (at : P
       let new : held y ≡ after = rw (s.flow, s.started, s.ended, is, value_after, split.0) refl in
       let same : handed y.tokens ≡ handed x.tokens = ap (take x.tokens.given) tokens_are ∙ taken_all (handed x.tokens) (token at Tok.value ∷ scalar ∷ []) x.tokens.given gone in
       fetched_on x y s.kept s.ended f
-      (record { runs = Reads-map _ _ t.reads (λ a b r. subst (λ h. fetch (record { rest = a; held = h }) ≡ Ok (state b y)) (sym old) (subst (λ h. fetch (record { rest = a; held = before }) ≡ Ok (record { rest = b; held = h })) (sym new)
-      (rw r.0 (value_fetched q x.tokens.all ks x.levels.indent limit l.indents x.leading x.adjacent_value_at free split.1 z.deep z.off value t.spaces b t.simple r.1 t.low)))) })
+      (record {
+        runs = Reads-map _ _ t.reads (λ a b r. subst (λ h. fetch (record { rest = a; held = h }) ≡ Ok (state b y)) (sym old) (subst (λ h. fetch (record { rest = a; held = before }) ≡ Ok (record { rest = b; held = h })) (sym new)
+            (rw r.0 (value_fetched q x.tokens.all ks x.levels.indent limit l.indents x.leading x.adjacent_value_at free split.1 z.deep z.off value t.spaces b t.simple r.1 t.low))));
+      })
       (record { given = same; over = refl; fault = refl })
       (λ e. absurd (cc (e, s.ended)))
 

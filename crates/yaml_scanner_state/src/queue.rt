@@ -116,7 +116,12 @@ impl Queue {
     /// after them wait. The result is the scalar's text. An `Err` changes nothing.
     #[inline(always)]
     #[tactic(auto, using(crate::proofs::QueueLemmas::key_shown, crate::proofs::QueueLemmas::two_more, crate::proofs::QueueLemmas::waiting_len))]
-    pub fn pass_key(&mut self, mark: Marker, text: String, colon: Marker) -> Result<String, AllocError>
+    pub fn pass_key(
+        &mut self,
+        mark: Marker,
+        text: String,
+        colon: Marker,
+    ) -> Result<String, AllocError>
         requires { waiting self.old ≡ 0 }
         ensures ok { OnOk result (self.new ≡ record self.old { all = self.old.all ++ key_tokens mark (string_chars text) colon; given = self.old.given + 2 }) }
         ensures text { IfOk result (λ t. string_chars t ≡ string_chars text) }
@@ -125,7 +130,8 @@ impl Queue {
         self.waiting.try_reserve(1)?;
         self.given.push(&Token(mark, TokenType::Key));
         let text = pass_scalar(&mut self.given, mark, text);
-        self.waiting.push_back_reserved(Token(colon, TokenType::Value));
+        self.waiting
+            .push_back_reserved(Token(colon, TokenType::Value));
         self.property = None;
         Ok(text)
     }
