@@ -142,12 +142,12 @@ fn text_end(held: &Ring, from: usize, bytes: &[u8]) -> Option<usize>
     requires { (k : ℕ) → k < from → is_simple (slice_index held.now k) ≡ true }
     ensures { IfSome result (λ end. IsTextUpTo held.now from bytes.now end) }
 {
-    if !opens(held, from, bytes) {
+    // The first character is simple, since a text may begin with it.
+    if !opens(held, from, bytes) || !are_simple(held, from + 1) {
         return None;
     }
     let end = simple_end(bytes);
-    // The first character is simple, since a text may begin with it.
-    if held.len() + end <= from || !closes(held, bytes, end) || !are_simple(held, from + 1) {
+    if held.len() + end <= from || !closes(held, bytes, end) {
         return None;
     }
     Some(end)
@@ -246,7 +246,7 @@ pub(crate) fn joined(
     requires { from ≤ length held.now }
     ensures { IfOk result (λ text. text ≡ drop from held.now ++ chars rest.now) }
 {
-    let mut text = Text::with_room(alloc, held.len() + rest.len())?;
+    let mut text = Text::with_room(alloc, held.len() - from + rest.len())?;
     'held: for i in from..held.len() {
         text.push(held.get(i))?;
     }
@@ -255,8 +255,14 @@ pub(crate) fn joined(
 }
 
 impl<T: Characters> Window<T> {
-    /// Takes a key of a block mapping and the `:` after it, where these are known to come, the key is simple, and a space
-    /// or a line feed stands after the `:`. Else nothing changes.
+    /// Takes a key of a block mapping and the `:` after it, where these are known to come, the key is simple and has at most
+    /// 1024 characters, and a space or a line feed stands after the `:`. Else nothing changes. A simple text is of printable ASCII
+    /// but `:` and `#`, ends in no space, and begins with a letter, a digit or one of `_ / $ ( ~`, with which no indicator
+    /// and no document marker begins. The text has just the memory that it needs.
+    ///
+    /// # Errors
+    ///
+    /// Memory was refused. Then nothing changed.
     #[inline(always)]
     pub fn take_key(&mut self, alloc: Global) -> Result<Option<Text>, AllocError>
         ensures key { IfOk result (λ o. IfSome o (λ key. TakesKey self.old self.new key)) }
@@ -281,8 +287,12 @@ impl<T: Characters> Window<T> {
     }
 
     /// Takes a space, a value, the line feed after it and the spaces that the next line begins with, where these are known
-    /// to come, the value is simple, the spaces are fewer than the limit, and a visible ASCII character stands after them.
-    /// Else nothing changes.
+    /// to come, the value is simple as a key is (see [`Window::take_key`]), the spaces are fewer than the limit, and a visible
+    /// ASCII character stands after them. Else nothing changes.
+    ///
+    /// # Errors
+    ///
+    /// Memory was refused. Then nothing changed.
     #[inline(always)]
     pub fn take_value(&mut self, alloc: Global, limit: usize) -> Result<Option<Text>, AllocError>
         ensures value { IfOk result (λ o. IfSome o (λ value. TakesValue limit self.old self.new value)) }

@@ -192,6 +192,9 @@ impl<T: Characters> Source<T> {
             return Ok(None);
         }
         let known = self.iter.known();
+        if known.is_empty() {
+            return Ok(None);
+        }
         let bytes = known.as_bytes();
         let Some(ended) = part.find(held, bytes) else {
             return Ok(None);
