@@ -42,7 +42,7 @@ fn read_whole(alloc: Global, cursor: &mut Cursor<'_>) -> Result<Yaml, Stop>
 }
 
 // Whether the text may end as a JSON text does: with a bracket that no comma stands before. It is asked first: a text with a
-// comma too many, a comment or a further document at its end would else be read up to there in vain.
+// comma too many at its end, or with something after it that ends in no bracket, would else be read up to there in vain.
 #[inline(never)]
 fn may_end(bytes: &[u8]) -> bool {
     let end = gap_start(bytes, bytes.len());

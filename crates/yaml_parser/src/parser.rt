@@ -55,7 +55,7 @@ fn is_document_end(event: &Event) -> bool
 
 /// Reads characters as events (YAML 1.2, chapters 6 to 9). [`next_token`](Parser::next_token) gives the next event,
 /// [`load`](Parser::load) pushes events into a receiver. The parser takes memory for open collections and for texts,
-/// and reads an iterator no further than it must; of a text in memory it may read on to the end of a line.
+/// and reads an iterator no further than it must; of a text in memory it may read on to where the text of the next line begins.
 ///
 /// A fault is kept: each later call returns it again.
 ///

@@ -5,7 +5,7 @@ use std::alloc::Global;
 use std::test::Fail;
 use test_rows::Report;
 
-const TEXTS: [&str; 47] = [
+const TEXTS: [&str; 50] = [
     "{\"a\": [1, -2, 3.50, -0, 0, 1e5, 2E-3, 0.0e+0], \"b\": {\"c\": null, \"d\": [true, false]}}",
     "[]",
     "{}",
@@ -55,6 +55,9 @@ const TEXTS: [&str; 47] = [
     "[\"a\tb\"]",
     "[\"\u{1f}\", \"\u{0}\"]",
     "\u{feff}[1]",
+    "[1]\n---\n[2]",
+    "[1] # a ]",
+    "[[1,], 2]",
 ];
 
 // Notes where both loads of the text differ.
@@ -65,13 +68,25 @@ fn compare(report: &mut Report, alloc: Global, text: &str) -> Result<(), Fail> {
     Ok(())
 }
 
+// The same of the text as it stands, and with a bracket at its end: a text that ends with none is not read at once.
+fn compare_ended(report: &mut Report, alloc: Global, text: &str) -> Result<(), Fail> {
+    compare(report, alloc, text)?;
+    for end in ["]", "}"] {
+        let mut ended = String::new(alloc);
+        ended.push_str(text)?;
+        ended.push_str(end)?;
+        compare(report, alloc, ended.as_str())?;
+    }
+    Ok(())
+}
+
 #[test]
 fn each_beginning_is_read_alike(rt: HostRuntime) -> Result<(), Fail> {
     let mut report = Report::new(rt.alloc());
     for text in &TEXTS {
         for end in 0..text.len() {
             if let Some((front, _)) = text.split_at_checked(end) {
-                compare(&mut report, rt.alloc(), front)?;
+                compare_ended(&mut report, rt.alloc(), front)?;
             }
         }
         compare(&mut report, rt.alloc(), text)?;
