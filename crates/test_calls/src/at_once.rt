@@ -1,9 +1,12 @@
 //! Keys and values of block mappings, each handed out with the token before it by one call.
+ghost use Rattle.std.specs.Prelude.{◌^◌, ◌<◌};
+ghost use Rattle.std.specs.Iterator.{IsFinite, size};
+
 use std::alloc::Global;
 use std::process::Abort;
 use std::test::Fail;
 use test_rows::Report;
-use yaml_chars::{Marker, TextInMemory};
+use yaml_chars::{Characters, Marker, TextInMemory};
 use yaml_scanner::{PlainNode, Scanner};
 use yaml_tokens::{TScalarStyle, TokenType};
 
@@ -61,10 +64,10 @@ fn tell_both(
 }
 
 // The next token alone, or the fault. The result is whether there was a token.
-fn tell_next(
+fn tell_next<S: Characters>(
     alloc: Global,
     out: &mut String,
-    scanner: &mut Scanner<TextInMemory<'_>>,
+    scanner: &mut Scanner<S>,
 ) -> Result<bool, Fail> {
     match scanner.next_token() {
         Ok(Some(token)) => {
@@ -80,9 +83,13 @@ fn tell_next(
 }
 
 // The tokens of a text, one by one.
-fn alone(alloc: Global, text: &str) -> Result<String, Fail> {
+fn alone<S: Characters>(alloc: Global, source: S) -> Result<String, Fail>
+    requires can { S.can_next source }
+    requires finite { IsFinite (S.remaining source) }
+    requires few { size (S.remaining source) < 2 ^ 63 }
+{
     let mut out = String::new(alloc);
-    let mut scanner = Scanner::new(alloc, TextInMemory::new(text));
+    let mut scanner = Scanner::new(alloc, source);
     for _ in 0..u64::MAX {
         if !tell_next(alloc, &mut out, &mut scanner)? {
             break;
@@ -92,11 +99,15 @@ fn alone(alloc: Global, text: &str) -> Result<String, Fail> {
 }
 
 // The tokens of a text, two at once where that can be, and how many keys and values were handed out so.
-fn at_once(alloc: Global, text: &str) -> Result<(String, String), Fail> {
+fn at_once<S: Characters>(alloc: Global, source: S) -> Result<(String, String), Fail>
+    requires can { S.can_next source }
+    requires finite { IsFinite (S.remaining source) }
+    requires few { size (S.remaining source) < 2 ^ 63 }
+{
     let mut out = String::new(alloc);
     let mut keys: u64 = 0;
     let mut values: u64 = 0;
-    let mut scanner = Scanner::new(alloc, TextInMemory::new(text));
+    let mut scanner = Scanner::new(alloc, source);
     for _ in 0..u64::MAX {
         if let Some(node) = scanner.next_key()? {
             tell_both(alloc, &mut out, node, &TokenType::Key)?;
@@ -115,8 +126,8 @@ fn at_once(alloc: Global, text: &str) -> Result<(String, String), Fail> {
 fn rows_hold(rt: &(impl Abort + AllocGlobal), rows: &[Row]) -> Result<(), Fail> {
     let mut report = Report::new(rt.alloc());
     for (name, text, want) in rows {
-        let one_by_one = alone(rt.alloc(), text)?;
-        let (tokens, counts) = at_once(rt.alloc(), text)?;
+        let one_by_one = alone(rt.alloc(), TextInMemory::new(text))?;
+        let (tokens, counts) = at_once(rt.alloc(), TextInMemory::new(text))?;
         report.compare(name, "scanned", tokens.as_str(), one_by_one.as_str())?;
         report.compare(name, "counted", counts.as_str(), want)?;
     }
