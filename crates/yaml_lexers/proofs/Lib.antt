@@ -1,4 +1,5 @@
 pub mod WindowLemmas
+mod BlockLemmas
 mod EscapeLemmas
 mod PlainLemmas
 mod QuotedLemmas

@@ -1,6 +1,6 @@
 //! Block scalars (YAML 1.2, section 8.1).
-ghost use Rattle.std.specs.Prelude.{◌≡◌, ◌≢◌, ◌≤◌, ◌<◌, ◌^◌, ◌++◌, ◌&&◌, not, [], ℕ, Bool, true, false, Ok, Err, OnOk, OnErr, IfOk, IfErr};
-ghost use Rattle.yaml_chars.specs.Reading.{Reads, Sees, HasChar, position_of};
+ghost use Rattle.std.specs.Prelude.{◌≡◌, ◌≢◌, ◌≤◌, ◌<◌, ◌^◌, ◌++◌, ◌==◌, ◌&&◌, not, slice_index, [], ℕ, Bool, true, false, Ok, Err, OnOk, OnErr, IfOk, IfErr};
+ghost use Rattle.yaml_chars.specs.Reading.{Reads, Sees, HasChar, SamePosition, position_of};
 ghost use Rattle.defs_text.specs.Text.{string_chars};
 ghost use Rattle.model_lexers.specs.Block.{margin, line, lines_from, begins, begun, with_char, tail, ends_indent, indent_from, first_indent, content, empty_text, body, after_header, block};
 ghost use Rattle.yaml_lexers.specs.Shown.{Lexes, Refuses, read};
@@ -9,7 +9,7 @@ ghost use Rattle.yaml_lexers.specs.ShownBlock.{lines, at, column_shown, header_s
 use crate::header::{Header, read_header};
 use crate::plain::at_marker;
 use std::alloc::{AllocError, Global};
-use yaml_chars::class::{is_blank, is_break};
+use yaml_chars::class::{is_blank, is_break, is_breakz};
 use yaml_chars::{Characters, Marker, Run, Text, Window};
 use yaml_tokens::{Chomping, Fault, Problem};
 
@@ -68,7 +68,9 @@ impl Lines {
             if self.broken {
                 self.text.push('\n')?;
             }
-            self.text.append(&self.breaks)?;
+            if !self.breaks.is_empty() {
+                self.text.append(&self.breaks)?;
+            }
         }
         self.breaks.clear();
         self.broken = false;
@@ -76,6 +78,21 @@ impl Lines {
         self.text.push(c)?;
         Ok(())
     }
+}
+
+/// Whether a CR LF comes. Only after a CR a second character is looked at.
+#[inline(always)]
+fn comes_cr_lf<T: Characters>(window: &mut Window<T>) -> bool
+    requires { 0 < window.old.ahead }
+    ensures reads { Reads window.old window.new (λ a b. (b ≡ a) × (result ≡ (slice_index b 0 == 13 && slice_index b 1 == 10))) }
+    ensures position { SamePosition window.old window.new }
+    ensures has { HasChar window.old → HasChar window.new }
+{
+    if window.ch() != '\r' {
+        return false;
+    }
+    window.lookahead(2);
+    window.at_cr_lf()
 }
 
 /// Steps over the spaces and empty lines before the first content line. The answer is the most
@@ -94,14 +111,14 @@ fn read_first_indent<T: Characters>(
     let mut most = 0usize;
     let mut spaces = 0usize;
     'indent: loop {
-        window.lookahead(2);
-        let c = window.ch();
-        if c == ' ' {
-            window.skip();
+        if window.take_space() {
             spaces = window.mark().col();
-        } else if !is_break(c) {
+            continue;
+        }
+        if !is_break(window.look_ch()) {
             return Ok(most.max(spaces));
-        } else if window.at_cr_lf() {
+        }
+        if comes_cr_lf(window) {
             window.skip();
         } else {
             window.skip_break();
@@ -113,7 +130,7 @@ fn read_first_indent<T: Characters>(
 }
 
 /// Steps over indentation and empty lines.
-#[tactic(auto, using(model_lexers::proofs::BlockLemmas::indent_stop), unfolding(model_lexers::specs::Block::ends_indent))]
+#[tactic(auto, using(model_lexers::proofs::BlockLemmas::indent_stop, crate::proofs::BlockLemmas::indent_ends))]
 fn read_indent<T: Characters>(
     window: &mut Window<T>,
     column: usize,
@@ -127,13 +144,13 @@ fn read_indent<T: Characters>(
     ensures ahead { OnOk result (0 < window.new.ahead) }
 {
     'indent: loop {
-        window.lookahead(2);
-        let c = window.ch();
-        if c == ' ' && window.mark().col() < column {
-            window.skip();
-        } else if !is_break(c) {
+        if window.mark().col() < column && window.take_space() {
+            continue;
+        }
+        if !is_break(window.look_ch()) {
             return Ok(());
-        } else if window.at_cr_lf() {
+        }
+        if comes_cr_lf(window) {
             window.skip();
         } else {
             window.skip_break();
@@ -149,8 +166,10 @@ fn read_run<T: Characters>(window: &mut Window<T>, block: &mut Lines) -> Result<
     ensures err { OnErr result (Reads window.old window.new (λ _ _. Unit {0})) }
 {
     window.take_words(Run::Line, &mut block.text)?;
-    window.take_run(Run::Line, &mut block.text)?;
-    Ok(())
+    if is_breakz(window.look_ch()) {
+        return Ok(());
+    }
+    window.take_run(Run::Line, &mut block.text)
 }
 
 /// Reads a content line and its break.
@@ -161,10 +180,9 @@ fn read_line<T: Characters>(window: &mut Window<T>, block: &mut Lines) -> Result
 {
     'line: loop {
         read_run(window, block)?;
-        window.lookahead(2);
-        let c = window.ch();
+        let c = window.look_ch();
         if is_break(c) {
-            if window.at_cr_lf() {
+            if comes_cr_lf(window) {
                 window.skip();
             } else {
                 window.skip_break();
@@ -183,7 +201,8 @@ fn read_line<T: Characters>(window: &mut Window<T>, block: &mut Lines) -> Result
 /// Whether a content line begins here.
 #[tactic(auto, unfolding(model_lexers::specs::Block::begins))]
 fn begins<T: Characters>(window: &Window<T>, column: usize) -> bool
-    requires { 4 ≤ window.now.ahead }
+    requires ahead { 0 < window.now.ahead }
+    requires marker { column ≡ 0 → 4 ≤ window.now.ahead }
     ensures sees { Sees window.now (λ a. result ≡ begins column window.now.col a) }
     ensures has { result ≡ true → HasChar window.now }
 {
@@ -229,7 +248,7 @@ fn read_lines<T: Characters>(
 {
     'lines: loop {
         read_indent(window, column, block)?;
-        window.lookahead(4);
+        window.lookahead(if column == 0 { 4 } else { 1 });
         if !begins(window, column) {
             return Ok(());
         }

@@ -1,0 +1,11 @@
+-- Lemmas about block scalars that are being read.
+use Rattle.std.proofs.Common.{◌≡◌, ◌≢◌, ℕ, ◌<◌, List, [], ◌∷◌, true, false, refl, slice_index, arith}
+use Rattle.std.proofs.lemmas.Bool.Decides.{nat_tests}
+use Rattle.yaml_chars.specs.Class.{is_break}
+use Rattle.model_lexers.specs.Block.{ends_indent}
+
+-- neither a space before the column nor a break stands here
+pub indent_ends : (column col c : ℕ) (a : List ℕ) → c ≡ slice_index a 0 → is_break c ≡ false → (col < column → slice_index a 0 ≢ 32) → ends_indent column col a ≡ true
+unfolding ends_indent
+indent_ends column col c [] is break space = refl
+indent_ends column col c (d ∷ a) is break space = let b : is_break d ≡ false = rw is at break in grind (arith, nat_tests)
