@@ -13,7 +13,7 @@ use yaml_tokens::{TScalarStyle, TokenType};
 /// What it shows, a text, and how many of its keys and values are handed out at once.
 type Row = (&'static str, &'static str, &'static str);
 
-const ROWS: [Row; 9] = [
+const ROWS: [Row; 12] = [
     ("pairs", "a: b\nc: d\ne: f\n", "2 keys, 2 values"),
     (
         "a mapping in a mapping",
@@ -35,6 +35,17 @@ const ROWS: [Row; 9] = [
     ("a marker", "a: b\n---\nc: d\n", "0 keys, 1 values"),
     ("in flow", "{a: b, c: d}\n", "0 keys, 0 values"),
     ("a fault", "a: b\nc: d\n  e: f\n", "1 keys, 1 values"),
+    (
+        "an array of words and mappings",
+        "- a\n- b c\n- d: e\n  f: g\n- h\n",
+        "1 keys, 2 values",
+    ),
+    (
+        "words below a key",
+        "a:\n- b\n- c d\ne:\n  f\ng: h\ni: j\n",
+        "3 keys, 1 values",
+    ),
+    ("a word for a key", "a: b\nc\nd: e\n", "0 keys, 1 values"),
 ];
 
 // The functions below have no contract, so that a row of calls makes no long proof.
@@ -122,13 +133,15 @@ fn at_once<S: Characters>(alloc: Global, source: S) -> Result<(String, String), 
     Ok((out, format!(in alloc; "{keys} keys, {values} values")?))
 }
 
-// Each text has the same tokens in both ways. All rows that fail are told.
+// Each text has the same tokens in both ways, and where its characters are asked for one by one. All rows that fail are told.
 fn rows_hold(rt: &(impl Abort + AllocGlobal), rows: &[Row]) -> Result<(), Fail> {
     let mut report = Report::new(rt.alloc());
     for (name, text, want) in rows {
         let one_by_one = alone(rt.alloc(), TextInMemory::new(text))?;
         let (tokens, counts) = at_once(rt.alloc(), TextInMemory::new(text))?;
+        let asked_for = alone(rt.alloc(), text.chars())?;
         report.compare(name, "scanned", tokens.as_str(), one_by_one.as_str())?;
+        report.compare(name, "asked for", asked_for.as_str(), one_by_one.as_str())?;
         report.compare(name, "counted", counts.as_str(), want)?;
     }
     assert!(rt; report.is_empty(), "{report}");

@@ -1,4 +1,4 @@
-//! A key and a value of a line, each taken at once of a text in memory.
+//! A key, a value and another scalar of a line, each taken at once of a text in memory.
 ghost use Rattle.std.specs.Prelude.{◌<◌, ◌^◌};
 ghost use Rattle.std.specs.Iterator.{IsFinite, size};
 
@@ -6,7 +6,7 @@ use std::alloc::{AllocError, Global};
 use std::process::Abort;
 use std::test::Fail;
 use test_rows::Report;
-use yaml_chars::{Characters, Text, TextInMemory, Window};
+use yaml_chars::{Characters, Node, Text, TextInMemory, Window};
 
 /// What it shows, a text, and what is taken of its first line: each text, with the index, line and column after it.
 type Row = (&'static str, &'static str, &'static str);
@@ -62,6 +62,34 @@ const ROWS: [Row; 16] = [
     ),
 ];
 
+/// The same where a key or another scalar may begin. The next line ends a scalar if it has fewer than four spaces.
+const NODES: [Row; 12] = [
+    ("a key", "key: value\nnext: x", "key key 4 1 4"),
+    ("a key without a value", "key:\n  n: x", "key key 4 1 4"),
+    ("a scalar", "some words\nnext", "scalar some words 11 2 0"),
+    (
+        "the next line is indented",
+        "some words\n   next",
+        "scalar some words 14 2 3",
+    ),
+    (
+        "words of more than sixteen characters",
+        "some words that are longer than one block\n- next",
+        "scalar some words that are longer than one block 42 2 0",
+    ),
+    (
+        "the next line goes on",
+        "some words\n    more",
+        "none 0 1 0",
+    ),
+    ("an empty line", "word\n\nnext", "none 0 1 0"),
+    ("a comment", "word # c\nnext", "none 0 1 0"),
+    ("a colon in a word", "a:b\nnext", "none 0 1 0"),
+    ("an indicator", "- word\nnext", "none 0 1 0"),
+    ("no ASCII", "mot à\nnext", "none 0 1 0"),
+    ("the text ends", "word\n", "none 0 1 0"),
+];
+
 // What was taken, and where the window stands then.
 fn shown<T: Characters>(
     alloc: Global,
@@ -98,6 +126,23 @@ fn taken<T: Characters>(alloc: Global, source: T) -> Result<String, Fail>
     Ok(format!(in alloc; "{first}, {second}")?)
 }
 
+// The key or the scalar that is taken first.
+fn node_taken<T: Characters>(alloc: Global, source: T) -> Result<String, Fail>
+    requires can { T.can_next source }
+    requires finite { IsFinite (T.remaining source) }
+    requires few { size (T.remaining source) < 2 ^ 63 }
+{
+    let mut window = Window::new(source);
+    window.lookahead(1);
+    let (kind, text) = match window.take_node(alloc, 4)? {
+        Some(Node::Key(text)) => ("key ", Some(text)),
+        Some(Node::Scalar(text)) => ("scalar ", Some(text)),
+        None => ("", None),
+    };
+    let node = shown(alloc, &window, text)?;
+    Ok(format!(in alloc; "{kind}{node}")?)
+}
+
 // Of each text is taken what its row says. All rows that fail are told.
 fn rows_hold(rt: &(impl Abort + AllocGlobal), rows: &[Row]) -> Result<(), Fail> {
     let mut report = Report::new(rt.alloc());
@@ -112,4 +157,15 @@ fn rows_hold(rt: &(impl Abort + AllocGlobal), rows: &[Row]) -> Result<(), Fail> 
 #[test]
 fn lines_are_taken(rt: HostRuntime) -> Result<(), Fail> {
     rows_hold(&rt, &ROWS)
+}
+
+#[test]
+fn nodes_are_taken(rt: HostRuntime) -> Result<(), Fail> {
+    let mut report = Report::new(rt.alloc());
+    for (name, text, want) in &NODES {
+        let found = node_taken(rt.alloc(), TextInMemory::new(text))?;
+        report.compare(name, "taken", found.as_str(), want)?;
+    }
+    assert!(rt; report.is_empty(), "{report}");
+    Ok(())
 }

@@ -1,6 +1,6 @@
--- Lemmas about keys and values that are known to come.
-use Rattle.std.proofs.Common.{◌≡◌, ◌≢◌, ℕ, zero, suc, ◌+◌, ◌-◌, ◌^◌, ◌<◌, ◌≤◌, ◌==◌, ◌||◌, ◌&&◌, true, false, List, [], ◌∷◌, ◌++◌, length, take, drop, slice_index, refl, sym, ap, subst, ◌∙◌, arith, append_assoc, length-append, length-drop, inl, inr}
-use Rattle.std.specs.Prelude.{nat_lt, chars}
+-- Lemmas about keys, values and other scalars of one line that are known to come.
+use Rattle.std.proofs.Common.{◌≡◌, ◌≢◌, ℕ, zero, suc, ◌+◌, ◌-◌, ◌<◌, ◌≤◌, ◌==◌, ◌||◌, ◌&&◌, true, false, List, [], ◌∷◌, ◌++◌, length, take, drop, slice_index, refl, sym, ap, subst, ◌∙◌, arith, append_assoc, length-append, length-drop, inl, inr}
+use Rattle.std.specs.Prelude.{Bool, nat_lt, chars}
 use Rattle.std.specs.Str.{IsUtf8, IsCharBoundary, IsAscii}
 use Rattle.std.proofs.lemmas.Bool.Decides.{nat_tests}
 use Rattle.std.proofs.lemmas.Bool.{cases_lt}
@@ -11,9 +11,9 @@ use Rattle.yaml_chars.specs.Class.{is_alphanumeric}
 use Rattle.yaml_chars.specs.Reading.{Reads, Fills, HasNoNul}
 use Rattle.yaml_chars.specs.Run.{bare}
 use Rattle.yaml_chars.specs.Source.{Pulled}
-use Rattle.yaml_chars.specs.Pairs.{is_simple, opens_simple, IsSimpleText, indented, TakesKey, TakesValue, IsTextUpTo, EndsKey, EndsValue, Ends, begin, GivesPart, halts_simple, AreSimpleUpTo}
+use Rattle.yaml_chars.specs.Pairs.{is_simple, opens_simple, IsSimpleText, indented, TakesKey, TakesLine, IsTextUpTo, EndsKey, EndsLine, Ends, begin, GivesPart, halts_simple, AreSimpleUpTo}
 use Rattle.yaml_chars.specs.declared.pairs.Part.{Part}
-use Rattle.yaml_chars.specs.declared.pairs.Part.TheVariants.{Key, Value}
+use Rattle.yaml_chars.specs.declared.pairs.Part.TheVariants.{Key, Value, Node}
 use Rattle.yaml_chars.proofs.ReadingLemmas.{begins-back, begins-front}
 use Rattle.yaml_chars.proofs.WordsLemmas.{take_one_more, begins_both, no_nul_append, true_is_not_false}
 
@@ -147,8 +147,8 @@ plain_key held bs n e = record {
   ];
 }
 
-pub plain_value : (limit : ℕ) (held bs : List ℕ) (n spaces : ℕ) → EndsValue limit held bs n spaces → ArePlain bs (n + 2 + spaces)
-plain_value limit held bs n spaces e = record {
+pub plain_line : (from limit : ℕ) (held bs : List ℕ) (n spaces : ℕ) → EndsLine from limit held bs n spaces → ArePlain bs (n + 1 + spaces + 1)
+plain_line from limit held bs n spaces e = record {
   within = omega (arith, e.within);
   plain = λ k h. elim (cases_lt k n) [
     | inl before ↦ plain_simple _ (e.text.bytes k before)
@@ -164,13 +164,30 @@ plain_value limit held bs n spaces e = record {
   ];
 }
 
+plain_key_part : (held bs : List ℕ) (n spaces : ℕ) → EndsKey held bs n × (spaces ≡ 0) → ArePlain bs (n + 1 + spaces + 1)
+plain_key_part held bs n spaces e = let same : n + 2 ≡ n + 1 + spaces + 1 = omega (arith, e.1) in subst (ArePlain bs) same (plain_key held bs n e.0)
+
 pub plain_part : (part : Part) (held bs : List ℕ) (n spaces : ℕ) → Ends part held bs n spaces → ArePlain bs (n + 1 + spaces + 1)
-plain_part Key held bs n spaces e = let same : n + 2 ≡ n + 1 + spaces + 1 = omega (arith, e.1) in subst (ArePlain bs) same (plain_key held bs n e.0)
-plain_part (Value limit) held bs n spaces e = let same : n + 2 + spaces ≡ n + 1 + spaces + 1 = omega arith in subst (ArePlain bs) same (plain_value limit held bs n spaces e)
+plain_part Key held bs n spaces e = plain_key_part held bs n spaces e
+plain_part (Value limit) held bs n spaces e = plain_line 1 limit held bs n spaces e.1
+plain_part (Node limit) held bs n spaces (inl e) = plain_key_part held bs n spaces e
+plain_part (Node limit) held bs n spaces (inr e) = plain_line 0 limit held bs n spaces e
 
 pub text_part : (part : Part) (held bs : List ℕ) (n spaces : ℕ) → Ends part held bs n spaces → IsTextUpTo held (begin part) bs n
 text_part Key held bs n spaces e = e.0.text
-text_part (Value limit) held bs n spaces e = e.text
+text_part (Value limit) held bs n spaces e = e.1.text
+text_part (Node limit) held bs n spaces (inl e) = e.0.text
+text_part (Node limit) held bs n spaces (inr e) = e.text
+
+-- a node with no line feed after its text is a key
+pub node_key : (limit : ℕ) (held bs : List ℕ) (n spaces : ℕ) → Ends (Node limit) held bs n spaces → (slice_index bs n == 10) ≡ false → EndsKey held bs n × (spaces ≡ 0)
+node_key limit held bs n spaces (inl e) other = e
+node_key limit held bs n spaces (inr e) other = absurd (let lf = e.lf in grind (arith, nat_tests))
+
+-- and one with a line feed there is none
+pub node_line : (limit : ℕ) (held bs : List ℕ) (n spaces : ℕ) → Ends (Node limit) held bs n spaces → (slice_index bs n == 10) ≡ true → EndsLine 0 limit held bs n spaces
+node_line limit held bs n spaces (inl e) lf = absurd (let colon = e.0.colon in grind (arith, nat_tests))
+node_line limit held bs n spaces (inr e) lf = e
 
 pub plain_front : (bs : List ℕ) (m n : ℕ) → ArePlain bs n → m ≤ n → ArePlain bs m
 plain_front bs m n e h = record { within = omega (arith, e.within, h); plain = λ k l. e.plain k (omega (arith, h, l)) }
@@ -216,7 +233,7 @@ drop_front taken w at within begins =
 first_again : (b rest : List ℕ) (c : ℕ) → b ≡ c ∷ rest → slice_index b 0 ≡ c
 first_again b rest c e = ap (λ x. slice_index x 0) e
 
-module _ {T : Type 0} (part : Part) (held : List ℕ) (s new : Pulled T) (n spaces c : ℕ) (text : List ℕ) (at line col : ℕ) (fills : Fills s held at line col) (given : GivesPart part held s new n spaces c text) where
+module _ {T : Type 0} (part : Part) (held : List ℕ) (s new : Pulled T) (n : ℕ) (broken : Bool) (spaces c : ℕ) (text : List ℕ) (at line col : ℕ) (fills : Fills s held at line col) (given : GivesPart part held s new n broken spaces c text) where
   abbrev size : ℕ
   size = n + 1 + spaces
 
@@ -242,10 +259,6 @@ module _ {T : Type 0} (part : Part) (held : List ℕ) (s new : Pulled T) (n spac
 
   before_length : length before ≡ length s.taken + size
   before_length = length-append s.taken _ ∙ ap (λ m. length s.taken + m) (length-take-le size given.known (omega (arith, plain.within)))
-
-  -- no index wraps
-  pub part_room : at + (length held + size) < 2 ^ 63
-  part_room = omega (arith, fills.room, here, given.gives.left, count)
 
   pub Fills-part : (to row place : ℕ) → to ≡ at + (length held + size) → row + place ≤ to + 1 → place ≤ to → Fills new (c ∷ []) to row place
   Fills-part to row place end lines cols = record {
@@ -309,28 +322,27 @@ head_again (x ∷ xs) c some e = ap (λ y. y ∷ xs) e
 
 -- ---- a key
 
-module _ {T : Type 0} (held : List ℕ) (s new : Pulled T) (n spaces c : ℕ) (text : List ℕ) (at line col : ℕ) (fills : Fills s held at line col) (given : GivesPart Key held s new n spaces c text) where
+module _ {T : Type 0} {part : Part} {held : List ℕ} {s new : Pulled T} {n : ℕ} {broken : Bool} {spaces c : ℕ} {text : List ℕ} {at line col : ℕ} (fills : Fills s held at line col) (given : GivesPart part held s new n broken spaces c text)
+    (stands : held ++ take n given.known ≡ text) (ends : EndsKey held given.known n × (spaces ≡ 0)) where
   key_end : at + (length held + n + 1) ≡ at + (length held + (n + 1 + spaces))
-  key_end = omega (arith, given.ends.1)
+  key_end = omega (arith, ends.1)
 
   key_length : length text ≡ length held + n
-  key_length = let ends = given.ends.0 in let up_to = ends.text in ap length given.joined ∙ whole_length held given.known n up_to.within
-
-  pub key_room : at + (length held + n + 1) < 2 ^ 63
-  key_room = omega (arith, key_end, part_room Key held s new n spaces c text at line col fills given)
+  key_length = let key = ends.0 in let up_to = key.text in ap length (sym stands) ∙ whole_length held given.known n up_to.within
 
   pub Fills-key : Fills new (c ∷ []) (at + (length held + n + 1)) line (col + (length held + n + 1))
-  Fills-key = Fills-part Key held s new n spaces c text at line col fills given _ line _ key_end (omega (arith, fills.lines)) (omega (arith, fills.cols))
+  Fills-key = Fills-part part held s new n broken spaces c text at line col fills given _ line _ key_end (omega (arith, fills.lines)) (omega (arith, fills.cols))
 
   pub takes_key : (h k : ℕ) → TakesKey (record (bare s at line col) { ahead = h }) (record (bare new (at + (length held + n + 1)) line (col + (length held + n + 1))) { ahead = k }) text
   takes_key h k =
-      let ends = given.ends.0 in
-      let up_to = ends.text in
-      let r = Reads-part Key held s new n spaces c text at line col fills given (at + (length held + n + 1)) line (col + (length held + n + 1)) h k key_end in
-      let none : n + 1 ≡ n + 1 + spaces = omega (arith, given.ends.1) in
+      let key = ends.0 in
+      let up_to = key.text in
+      let to = at + (length held + n + 1) in
+      let r = Reads-part part held s new n broken spaces c text at line col fills given to line (col + (length held + n + 1)) h k key_end in
+      let none : n + 1 ≡ n + 1 + spaces = omega (arith, ends.1) in
       let next : c ≡ slice_index given.known (n + 1) = given.next ∙ ap (slice_index given.known) (sym none) in
       let front : take (n + 1 + spaces) given.known ≡ take n given.known ++ 58 ∷ [] =
-      ap (λ m. take m given.known) (sym none) ∙ take_one_more given.known n (omega (arith, ends.within)) ∙ ap (λ x. take n given.known ++ x ∷ []) ends.colon in
+      ap (λ m. take m given.known) (sym none) ∙ take_one_more given.known n (omega (arith, key.within)) ∙ ap (λ x. take n given.known ++ x ∷ []) key.colon in
       record {
         reads = record {
           start = r.start;
@@ -339,50 +351,43 @@ module _ {T : Type 0} (held : List ℕ) (s new : Pulled T) (n spaces c : ℕ) (t
           back = r.back;
           reads = λ w p.
               let e = r.reads w p in (
-                e.0 ∙ ap (λ x. held ++ (x ++ drop (at + (length held + n + 1)) w)) front ∙ ap (λ x. held ++ x) (append_assoc (take n given.known) (58 ∷ []) _)
-                    ∙ sym (append_assoc held (take n given.known) _) ∙ ap (λ x. x ++ 58 ∷ drop (at + (length held + n + 1)) w) (sym given.joined),
-                subst (λ x. ((x == 32) || (x == 10)) ≡ true) (sym (e.1 ∙ next)) ends.next,
+                e.0 ∙ ap (λ x. held ++ (x ++ drop to w)) front ∙ ap (λ x. held ++ x) (append_assoc (take n given.known) (58 ∷ []) _)
+                    ∙ sym (append_assoc held (take n given.known) _) ∙ ap (λ x. x ++ 58 ∷ drop to w) stands,
+                subst (λ x. ((x == 32) || (x == 10)) ≡ true) (sym (e.1 ∙ next)) key.next,
               );
         };
-        simple = subst IsSimpleText (sym given.joined) up_to.simple;
-        short = omega (arith, key_length, ends.short);
+        simple = subst IsSimpleText stands up_to.simple;
+        short = omega (arith, key_length, key.short);
         at = omega (arith, key_length);
         line = refl;
         col = omega (arith, key_length);
       }
 
--- ---- a value
+-- ---- a text, a line feed and the next line's spaces
 
-module _ {T : Type 0} (limit : ℕ) (held : List ℕ) (s new : Pulled T) (n spaces c : ℕ) (text : List ℕ) (at line col : ℕ) (fills : Fills s held at line col) (given : GivesPart (Value limit) held s new n spaces c text) where
-  value_end : at + (length held + n + 1 + spaces) ≡ at + (length held + (n + 1 + spaces))
-  value_end = omega arith
+module _ {T : Type 0} {part : Part} {limit : ℕ} {held : List ℕ} {s new : Pulled T} {n : ℕ} {broken : Bool} {spaces c : ℕ} {text : List ℕ} {at line col : ℕ} (fills : Fills s held at line col) (given : GivesPart part held s new n broken spaces c text)
+    (before : List ℕ) (stands : held ++ take n given.known ≡ before ++ text) (ends : EndsLine (begin part) limit held given.known n spaces) where
+  line_end : at + (length held + n + 1 + spaces) ≡ at + (length held + (n + 1 + spaces))
+  line_end = omega arith
 
-  value_length : length text + 1 ≡ length held + n
-  value_length =
-      let ends = given.ends in
-      let up_to = ends.text in
-      omega (arith, up_to.begun, ap length given.joined, length-drop 1 (held ++ take n given.known), whole_length held given.known n up_to.within)
+  line_length : length before + length text ≡ length held + n
+  line_length = let up_to = ends.text in sym (length-append before text) ∙ ap length (sym stands) ∙ whole_length held given.known n up_to.within
 
-  pub value_room : at + (length held + n + 1 + spaces) < 2 ^ 63
-  value_room = omega (arith, value_end, part_room (Value limit) held s new n spaces c text at line col fills given)
+  text_some : 0 < length text
+  text_some = let up_to = ends.text in let simple = subst IsSimpleText (sym given.joined) up_to.simple in simple.some
 
-  pub Fills-value : Fills new (c ∷ []) (at + (length held + n + 1 + spaces)) (line + 1) spaces
-  Fills-value = Fills-part (Value limit) held s new n spaces c text at line col fills given _ (line + 1) spaces value_end (omega (arith, fills.lines, value_length)) (omega arith)
+  pub Fills-line : Fills new (c ∷ []) (at + (length held + n + 1 + spaces)) (line + 1) spaces
+  Fills-line = Fills-part part held s new n broken spaces c text at line col fills given _ (line + 1) spaces line_end (omega (arith, fills.lines, line_length, text_some)) (omega arith)
 
-  pub takes_value : (h k : ℕ) → TakesValue limit (record (bare s at line col) { ahead = h }) (record (bare new (at + (length held + n + 1 + spaces)) (line + 1) spaces) { ahead = k }) text
-  takes_value h k =
-      let ends = given.ends in
+  pub takes_line : (h k : ℕ) → TakesLine before limit (record (bare s at line col) { ahead = h }) (record (bare new (at + (length held + n + 1 + spaces)) (line + 1) spaces) { ahead = k }) text
+  takes_line h k =
       let up_to = ends.text in
       let to = at + (length held + n + 1 + spaces) in
-      let r = Reads-part (Value limit) held s new n spaces c text at line col fills given to (line + 1) spaces h k value_end in
-      let whole = held ++ take n given.known in
+      let r = Reads-part part held s new n broken spaces c text at line col fills given to (line + 1) spaces h k line_end in
       let front : (b : List ℕ) → take (n + 1 + spaces) given.known ++ b ≡ take n given.known ++ 10 ∷ indented spaces b =
       λ b. indented_after given.known b (n + 1) spaces (omega (arith, ends.within)) ends.blank
       ∙ ap (λ x. x ++ indented spaces b) (take_one_more given.known n (omega (arith, ends.within)) ∙ ap (λ x. take n given.known ++ x ∷ []) ends.lf)
       ∙ append_assoc (take n given.known) (10 ∷ []) (indented spaces b) in
-      let opened : whole ≡ 32 ∷ text =
-      head_again whole 32 (omega (arith, whole_length held given.known n up_to.within, up_to.begun)) (held_at held (take n given.known) 0 (omega (arith, up_to.begun)) ∙ ends.space)
-      ∙ ap (λ x. 32 ∷ x) (sym given.joined) in
       record {
         spaces = spaces;
         low = ends.low;
@@ -393,12 +398,23 @@ module _ {T : Type 0} (limit : ℕ) (held : List ℕ) (s new : Pulled T) (n spac
           back = r.back;
           reads = λ w p.
               let e = r.reads w p in (
-                e.0 ∙ ap (λ x. held ++ x) (front (drop to w)) ∙ sym (append_assoc held (take n given.known) _) ∙ ap (λ x. x ++ 10 ∷ indented spaces (drop to w)) opened,
+                e.0 ∙ ap (λ x. held ++ x) (front (drop to w)) ∙ sym (append_assoc held (take n given.known) _) ∙ ap (λ x. x ++ 10 ∷ indented spaces (drop to w)) stands
+                    ∙ append_assoc before text _,
                 subst (λ x. (nat_lt 32 x && nat_lt x 127) ≡ true) (sym (e.1 ∙ given.next)) ends.next,
               );
         };
         simple = subst IsSimpleText (sym given.joined) up_to.simple;
-        at = omega (arith, value_length);
+        at = omega (arith, line_length);
         line = refl;
         col = refl;
       }
+
+-- what is held and the bytes after it are a space and the value
+pub value_stands : (limit : ℕ) {T : Type 0} {held : List ℕ} {s new : Pulled T} {n : ℕ} {broken : Bool} {spaces c : ℕ} {text : List ℕ} (given : GivesPart (Value limit) held s new n broken spaces c text)
+    → held ++ take n given.known ≡ (32 ∷ []) ++ text
+value_stands limit {held = held} {n = n} given =
+    let ends = given.ends.1 in
+    let up_to = ends.text in
+    let whole = held ++ take n given.known in
+    head_again whole 32 (omega (arith, whole_length held given.known n up_to.within, up_to.begun)) (held_at held (take n given.known) 0 (omega (arith, up_to.begun)) ∙ given.ends.0)
+    ∙ ap (λ x. 32 ∷ x) (sym given.joined)

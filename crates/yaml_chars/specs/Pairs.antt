@@ -1,11 +1,13 @@
--- Lines `key: value` whose characters are known to come: the key with its `:` is taken at once, and so is the value with the line break after it.
-use Rattle.std.specs.Prelude.{◌≡◌, ◌≢◌, ℕ, zero, suc, ◌+◌, ◌<◌, ◌≤◌, List, ◌∷◌, ◌++◌, length, take, drop, slice_index, Bool, true, false, not, ◌==◌, ◌||◌, ◌&&◌, nat_eq, nat_lt}
+-- Lines of block collections whose characters are known to come: a key with its `:` is taken at once, and so is a value or another scalar with the line break after it.
+use Rattle.std.specs.Prelude.{◌≡◌, ◌≢◌, ◌⊎◌, ℕ, zero, suc, ◌+◌, ◌<◌, ◌≤◌, List, [], ◌∷◌, ◌++◌, length, take, drop, slice_index, Bool, true, false, not, ◌==◌, ◌||◌, ◌&&◌, nat_eq, nat_lt}
 use Rattle.yaml_chars.specs.Class.{is_alphanumeric}
 use Rattle.yaml_chars.specs.Reading.{Reading, Reads}
 use Rattle.yaml_chars.specs.Source.{Pulled}
 use Rattle.yaml_chars.specs.Words.{Gives}
 use Rattle.yaml_chars.specs.declared.pairs.Part.{Part}
-use Rattle.yaml_chars.specs.declared.pairs.Part.TheVariants.{Key, Value}
+use Rattle.yaml_chars.specs.declared.pairs.Part.TheVariants.{Key, Value, Node}
+use Rattle.yaml_chars.specs.declared.pairs.Node.{Node as Taken}
+use Rattle.yaml_chars.specs.declared.pairs.Node.TheVariants as taken
 
 -- a character that may stand inside a plain scalar of one line outside flow, whatever stands beside it: printable ASCII (a space too) but `:` and `#`
 unfoldable pub is_simple : ℕ → Bool
@@ -36,15 +38,24 @@ pub record TakesKey {T : Type 0} (old new : Reading T) (key : List ℕ) : Type 0
   pub line : new.line ≡ old.line
   pub col : new.col ≡ old.col + length key + 1
 
--- a space, a value, the line feed after it and the next line's spaces were read, and a visible ASCII character stands next
-pub record TakesValue {T : Type 0} (limit : ℕ) (old new : Reading T) (value : List ℕ) : Type 0 where
+-- What stands before a text, the text, the line feed after it and the next line's spaces were read, and a visible ASCII character stands next.
+pub record TakesLine {T : Type 0} (before : List ℕ) (limit : ℕ) (old new : Reading T) (text : List ℕ) : Type 0 where
   pub spaces : ℕ
   pub low : spaces < limit
-  pub reads : Reads old new (λ a b. (a ≡ 32 ∷ (value ++ 10 ∷ indented spaces b)) × ((nat_lt 32 (slice_index b 0) && nat_lt (slice_index b 0) 127) ≡ true))
-  pub simple : IsSimpleText value
-  pub at : new.at ≡ old.at + length value + 2 + spaces
+  pub reads : Reads old new (λ a b. (a ≡ before ++ (text ++ 10 ∷ indented spaces b)) × ((nat_lt 32 (slice_index b 0) && nat_lt (slice_index b 0) 127) ≡ true))
+  pub simple : IsSimpleText text
+  pub at : new.at ≡ old.at + length before + length text + 1 + spaces
   pub line : new.line ≡ old.line + 1
   pub col : new.col ≡ spaces
+
+-- a value after a space
+abbrev pub TakesValue : {T : Type 0} → (limit : ℕ) → (old new : Reading T) → (value : List ℕ) → Type 0
+TakesValue limit old new value = TakesLine (32 ∷ []) limit old new value
+
+-- a key, or another scalar of one line
+abbrev pub TakesNode : {T : Type 0} → (limit : ℕ) → (old new : Reading T) → Taken → Type 0
+TakesNode limit old new (taken.Key key) = TakesKey old new key
+TakesNode limit old new (taken.Scalar text) = TakesLine [] limit old new text
 
 -- ---- the characters of a window, and the bytes that are known to come after them
 
@@ -63,32 +74,34 @@ pub record EndsKey (held bs : List ℕ) (n : ℕ) : Type 0 where
   pub next : ((slice_index bs (n + 1) == 32) || (slice_index bs (n + 1) == 10)) ≡ true
   pub short : length held + n ≤ 1024
 
--- a value after a space ends after n bytes, and a line feed, spaces and a visible character come after it
-pub record EndsValue (limit : ℕ) (held bs : List ℕ) (n spaces : ℕ) : Type 0 where
-  pub text : IsTextUpTo held 1 bs n
-  pub space : slice_index held 0 ≡ 32
+-- a text that begins in the window at a place ends after n bytes, and a line feed, spaces and a visible character come after it
+pub record EndsLine (from limit : ℕ) (held bs : List ℕ) (n spaces : ℕ) : Type 0 where
+  pub text : IsTextUpTo held from bs n
   pub within : n + 1 + spaces < length bs
   pub lf : slice_index bs n ≡ 10
   pub blank : (k : ℕ) → k < spaces → slice_index bs (n + 1 + k) ≡ 32
   pub next : (nat_lt 32 (slice_index bs (n + 1 + spaces)) && nat_lt (slice_index bs (n + 1 + spaces)) 127) ≡ true
   pub low : spaces < limit
 
--- a key or a value ends after n bytes, with so many spaces in the line after it
+-- a part ends after n bytes, with so many spaces in the line after it
 abbrev pub Ends : Part → (held bs : List ℕ) → (n spaces : ℕ) → Type 0
 Ends Key held bs n spaces = EndsKey held bs n × (spaces ≡ 0)
-Ends (Value limit) held bs n spaces = EndsValue limit held bs n spaces
+Ends (Value limit) held bs n spaces = (slice_index held 0 ≡ 32) × EndsLine 1 limit held bs n spaces
+Ends (Node limit) held bs n spaces = (EndsKey held bs n × (spaces ≡ 0)) ⊎ EndsLine 0 limit held bs n spaces
 
 -- where a part's text begins in the window
 abbrev pub begin : Part → ℕ
 begin Key = 0
 begin (Value limit) = 1
+begin (Node limit) = 0
 
--- a key or a value came from a source, with the character after it
-pub record GivesPart {T : Type 0} (part : Part) (held : List ℕ) (old new : Pulled T) (n spaces c : ℕ) (text : List ℕ) : Type 0 where
+-- a part came from a source, with the character after it
+pub record GivesPart {T : Type 0} (part : Part) (held : List ℕ) (old new : Pulled T) (n : ℕ) (broken : Bool) (spaces c : ℕ) (text : List ℕ) : Type 0 where
   pub going : old.done ≡ false
   pub known : List ℕ
   pub ends : Ends part held known n spaces
   pub gives : Gives old new (take (n + 1 + spaces + 1) known)
+  pub broke : broken ≡ (slice_index known n == 10)
   pub next : c ≡ slice_index known (n + 1 + spaces)
   pub joined : text ≡ drop (begin part) (held ++ take n known)
 

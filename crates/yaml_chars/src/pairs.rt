@@ -1,7 +1,8 @@
-//! Lines `key: value` of a text in memory. A key with its `:`, and a value with the line break after it, are found in the
-//! bytes that are known to come, and taken at once.
+//! Lines of block collections of a text in memory. A key with its `:`, and a value or another scalar with the line break after
+//! it, are found in the bytes that are known to come, and taken at once.
 ghost use Rattle.std.specs.Prelude.{◌≡◌, ◌≢◌, ℕ, ◌+◌, ◌<◌, ◌≤◌, ◌++◌, length, take, drop, slice_index, chars, true, false, IfOk, IfSome, IfNone, OnErr};
-ghost use Rattle.yaml_chars.specs.Pairs.{is_simple, opens_simple, AreSimpleUpTo, IsTextUpTo, EndsKey, EndsValue, Ends, begin, TakesKey, TakesValue};
+ghost use Rattle.yaml_chars.specs.Pairs.{is_simple, opens_simple, AreSimpleUpTo, IsTextUpTo, EndsKey, EndsLine, Ends, begin, TakesKey, TakesValue, TakesNode};
+ghost use Rattle.yaml_chars.specs.declared.pairs.Part.TheVariants as part;
 
 use crate::characters::Characters;
 use crate::class::is_alphanumeric;
@@ -21,6 +22,17 @@ pub enum Part {
     Key,
     /// A space, a value, the line feed after it and the spaces of the next line, if they are fewer than this.
     Value(usize),
+    /// A key and its `:`; or else a scalar, the line feed after it and the spaces of the next line, if they are fewer than this.
+    Node(usize),
+}
+
+/// What is taken at once where a key or another scalar of a block collection may begin.
+#[derive(Drop)]
+pub enum Node {
+    /// A key. The `:` after it was taken too.
+    Key(Text),
+    /// A scalar. The line feed after it and the next line's spaces were taken too.
+    Scalar(Text),
 }
 
 /// Where the text of a part ends, and how many spaces the line after it begins with.
@@ -30,23 +42,25 @@ pub(crate) struct Ended {
     pub spaces: usize,
 }
 
-/// A part's text, how many bytes it has that were known, how many spaces the line after it begins with, and the
-/// character after that.
+/// A part's text, how many bytes it has that were known, whether a line feed comes after it, how many spaces the line
+/// after it begins with, and the character after that.
 #[derive(Drop)]
 pub(crate) struct Piece {
     pub text: Text,
     pub end: usize,
+    pub broken: bool,
     pub spaces: usize,
     pub next: char,
 }
 
-pub(crate) fn given(text: Text, end: usize, spaces: usize, next: char) -> Piece
-    ensures { result ≡ record { text = text; end = end; spaces = spaces; next = next } }
+pub(crate) fn given(text: Text, ended: Ended, broken: bool, next: char) -> Piece
+    ensures { result ≡ record { text = text; end = ended.text; broken = broken; spaces = ended.spaces; next = next } }
 {
     Piece {
         text,
-        end,
-        spaces,
+        end: ended.text,
+        broken,
+        spaces: ended.spaces,
         next,
     }
 }
@@ -153,6 +167,19 @@ fn text_end(held: &Ring, from: usize, bytes: &[u8]) -> Option<usize>
     Some(end)
 }
 
+/// Whether a text that ends there is a key: it has `:` and a space or a line feed after it, and is not too long.
+#[inline(always)]
+fn ends_key(held: &Ring, bytes: &[u8], end: usize) -> bool
+    requires { IsTextUpTo held.now 0 bytes.now end }
+    ensures { result ≡ true → EndsKey held.now bytes.now end }
+{
+    if end + 1 >= bytes.len() || bytes[end] != b':' || held.len() + end > LONGEST {
+        return false;
+    }
+    let next = bytes[end + 1];
+    next == b' ' || next == b'\n'
+}
+
 /// Where a key ends that has `:` and a space or a line feed after it.
 #[inline(always)]
 fn key_end(held: &Ring, bytes: &[u8]) -> Option<usize>
@@ -161,14 +188,11 @@ fn key_end(held: &Ring, bytes: &[u8]) -> Option<usize>
     let Some(end) = text_end(held, 0, bytes) else {
         return None;
     };
-    if end + 1 >= bytes.len() || bytes[end] != b':' || held.len() + end > LONGEST {
-        return None;
+    if ends_key(held, bytes, end) {
+        Some(end)
+    } else {
+        None
     }
-    let next = bytes[end + 1];
-    if next != b' ' && next != b'\n' {
-        return None;
-    }
-    Some(end)
 }
 
 /// How many spaces stand at a place.
@@ -185,18 +209,13 @@ fn spaces_at(bytes: &[u8], start: usize) -> usize
     count
 }
 
-/// Where a value ends that stands after a space and has a line feed after it, and how many spaces the next line begins
-/// with, if they are fewer than this and a visible character comes after them.
+/// Where a text ends that has a line feed after it, and how many spaces the next line begins with, if they are fewer than
+/// this and a visible character comes after them.
 #[inline(always)]
-fn value_end(held: &Ring, bytes: &[u8], limit: usize) -> Option<Ended>
-    ensures { IfSome result (λ e. EndsValue limit held.now bytes.now e.text e.spaces) }
+fn line_end(held: &Ring, from: usize, bytes: &[u8], text: usize, limit: usize) -> Option<Ended>
+    requires { IsTextUpTo held.now from bytes.now text }
+    ensures { IfSome result (λ e. EndsLine from limit held.now bytes.now e.text e.spaces) }
 {
-    if held.len() == 0 || held.get(0) != ' ' {
-        return None;
-    }
-    let Some(text) = text_end(held, 1, bytes) else {
-        return None;
-    };
     if text >= bytes.len() || bytes[text] != b'\n' {
         return None;
     }
@@ -206,6 +225,34 @@ fn value_end(held: &Ring, bytes: &[u8], limit: usize) -> Option<Ended>
         return None;
     }
     Some(Ended { text, spaces })
+}
+
+/// The same of a value that stands after a space.
+#[inline(always)]
+fn value_end(held: &Ring, bytes: &[u8], limit: usize) -> Option<Ended>
+    ensures { IfSome result (λ e. Ends (part.Value limit) held.now bytes.now e.text e.spaces) }
+{
+    if held.len() == 0 || held.get(0) != ' ' {
+        return None;
+    }
+    match text_end(held, 1, bytes) {
+        Some(text) => line_end(held, 1, bytes, text, limit),
+        None => None,
+    }
+}
+
+/// Where a key ends, or else a scalar that has a line feed after it. For a key there are no spaces.
+#[inline(always)]
+fn node_end(held: &Ring, bytes: &[u8], limit: usize) -> Option<Ended>
+    ensures { IfSome result (λ e. Ends (part.Node limit) held.now bytes.now e.text e.spaces) }
+{
+    let Some(text) = text_end(held, 0, bytes) else {
+        return None;
+    };
+    if ends_key(held, bytes, text) {
+        return Some(Ended { text, spaces: 0 });
+    }
+    line_end(held, 0, bytes, text, limit)
 }
 
 impl Part {
@@ -220,6 +267,7 @@ impl Part {
                 None => None,
             },
             Part::Value(limit) => value_end(held, bytes, limit),
+            Part::Node(limit) => node_end(held, bytes, limit),
         }
     }
 
@@ -229,7 +277,7 @@ impl Part {
         ensures { result ≡ begin self }
     {
         match self {
-            Part::Key => 0,
+            Part::Key | Part::Node(_) => 0,
             Part::Value(_) => 1,
         }
     }
@@ -308,11 +356,49 @@ impl<T: Characters> Window<T> {
             end,
             spaces,
             next,
+            ..
         } = value;
         self.index += self.ring.len() + end + 1 + spaces;
         self.line += 1;
         self.col = spaces;
         self.ring.keep_only(next);
         Ok(Some(text))
+    }
+
+    /// Takes a key as [`Window::take_key`] does; or else a simple text, the line feed after it and the spaces that the next
+    /// line begins with, where these are known to come, the spaces are fewer than the limit, and a visible ASCII character
+    /// stands after them. Else nothing changes.
+    ///
+    /// # Errors
+    ///
+    /// Memory was refused. Then nothing changed.
+    #[inline(always)]
+    pub fn take_node(&mut self, alloc: Global, limit: usize) -> Result<Option<Node>, AllocError>
+        ensures node { IfOk result (λ o. IfSome o (λ node. TakesNode limit self.old self.new node)) }
+        ensures none { IfOk result (λ o. IfNone o (self.new ≡ self.old)) }
+        ensures err { OnErr result (self.new ≡ self.old) }
+    {
+        let found = self.source.part_on(Part::Node(limit), &self.ring, alloc)?;
+        let Some(node) = found else {
+            return Ok(None);
+        };
+        let Piece {
+            text,
+            end,
+            broken,
+            spaces,
+            next,
+        } = node;
+        let taken = self.ring.len() + end + 1;
+        self.ring.keep_only(next);
+        if broken {
+            self.index += taken + spaces;
+            self.line += 1;
+            self.col = spaces;
+            return Ok(Some(Node::Scalar(text)));
+        }
+        self.index += taken;
+        self.col += taken;
+        Ok(Some(Node::Key(text)))
     }
 }

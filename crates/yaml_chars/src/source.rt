@@ -184,7 +184,7 @@ impl<T: Characters> Source<T> {
         held: &Ring,
         alloc: Global,
     ) -> Result<Option<Piece>, AllocError>
-        ensures some { IfOk result (λ o. IfSome o (λ p. GivesPart part held.now self.old self.new p.end p.spaces p.next p.text)) }
+        ensures some { IfOk result (λ o. IfSome o (λ p. GivesPart part held.now self.old self.new p.end p.broken p.spaces p.next p.text)) }
         ensures none { IfOk result (λ o. IfNone o (self.new ≡ self.old)) }
         ensures err { OnErr result (self.new ≡ self.old) }
     {
@@ -203,10 +203,11 @@ impl<T: Characters> Source<T> {
         let text = joined(alloc, held, part.begin(), rest)?;
         let last = ended.text + 1 + ended.spaces;
         let next = char::from(bytes[last]);
+        let broken = bytes[ended.text] == b'\n';
         let passed = &known[..last + 1];
         self.taken.push_text(passed);
         self.iter.pass(last + 1);
-        Ok(Some(given(text, ended.text, ended.spaces, next)))
+        Ok(Some(given(text, ended, broken, next)))
     }
 
     /// Takes the characters of a run into a text. Both are moved in and out, so that the loop keeps

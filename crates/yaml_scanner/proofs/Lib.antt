@@ -11,3 +11,5 @@ pub mod SpaceLemmas
 pub mod PairTexts
 pub mod PairFetches
 pub mod PairFollows
+pub mod NodeFetches
+pub mod NodeFollows

@@ -20,11 +20,12 @@ use Rattle.model_scanner.specs.Fetch.{fetch, fetch_next, fetch_here, fetch_conte
 use Rattle.proof_lexers.specs.HeaderEnds.{along}
 use Rattle.yaml_scanner_state.specs.Tokens.{key_tokens}
 use Rattle.yaml_chars.specs.Pairs.{IsSimpleText, indented}
+use Rattle.yaml_scanner.specs.Fetched.{FetchesTwice}
 use Rattle.yaml_scanner.proofs.PairTexts.{Opener, Simple, simple_text, outside, along_is, plain_key, plain_value}
 
 -- ---- what a fetch does beside its token
 
-abbrev at : List ℕ → Held → ScannerState
+abbrev pub at : List ℕ → Held → ScannerState
 at a s = record { rest = a; held = s }
 
 -- What is held outside flow in a block mapping, at a position: the tokens, keys and levels, and whether a key may begin and a line begins.
@@ -38,16 +39,16 @@ unfolding fetch fetch_next
 fetched_after t a s v u started skips fresh ends here after = rw (skips, started, fresh, ends, here, after) refl
 
 -- the same where no level ends
-fetched : (t : ScannerState) (a : List ℕ) (s : Held) (u : ScannerState) → t.held.started ≡ true → skip_to_next_token t ≡ Ok (at a s) → stale s ≡ Ok s → unroll_indent (s.position.col + 1) s ≡ s → fetch_here (at a s) ≡ Ok u → stale u.held ≡ Ok u.held
+pub fetched : (t : ScannerState) (a : List ℕ) (s : Held) (u : ScannerState) → t.held.started ≡ true → skip_to_next_token t ≡ Ok (at a s) → stale s ≡ Ok s → unroll_indent (s.position.col + 1) s ≡ s → fetch_here (at a s) ≡ Ok u → stale u.held ≡ Ok u.held
     → fetch t ≡ Ok u
 fetched t a s u started skips fresh stays here after = fetched_after t a s s u started skips fresh stays here after
 
-none_overdue : (p : Position) (ks : List (Option Key)) → cleared ks ≡ ks → (list_any (is_overdue p) ks ≡ false) × (map (still p) ks ≡ ks)
+pub none_overdue : (p : Position) (ks : List (Option Key)) → cleared ks ≡ ks → (list_any (is_overdue p) ks ≡ false) × (map (still p) ks ≡ ks)
 none_overdue p [] e = (refl, refl)
 none_overdue p (None ∷ ks) e = let z = none_overdue p ks cc in (z.0, ap (λ ls. None ∷ ls) z.1)
 none_overdue p (Some k ∷ ks) e = absurd cc
 
-none_stale : (s : Held) → s.flow ≡ [] → cleared s.keys ≡ s.keys → stale s ≡ Ok s
+pub none_stale : (s : Held) → s.flow ≡ [] → cleared s.keys ≡ s.keys → stale s ≡ Ok s
 unfolding stale drop_stale
 none_stale s flow e = let z = none_overdue s.position s.keys e in rw (flow, z.0, z.1) refl
 
@@ -55,7 +56,7 @@ near_stay : (p : Position) (k : Key) (ks : List (Option Key)) → is_far k.posit
 unfolding drop_stale
 near_stay p k ks near e = let z = none_overdue p ks e in rw (near, z.0, z.1) refl
 
-near_stale : (s : Held) (k : Key) (ks : List (Option Key)) → s.flow ≡ [] → s.keys ≡ Some k ∷ ks → is_far k.position s.position ≡ false → cleared ks ≡ ks → stale s ≡ Ok s
+pub near_stale : (s : Held) (k : Key) (ks : List (Option Key)) → s.flow ≡ [] → s.keys ≡ Some k ∷ ks → is_far k.position s.position ≡ false → cleared ks ≡ ks → stale s ≡ Ok s
 unfolding stale
 near_stale s k ks flow keys near e = let stay : drop_stale s.position s.keys ≡ Ok s.keys = rw keys (near_stay s.position k ks near e) in rw (flow, stay) refl
 
@@ -64,7 +65,7 @@ unfolding unrolled
 unrolled_none limit p i [] ts low = refl
 unrolled_none limit p i (d ∷ ds) ts low = rw (le-ltb limit i low) refl
 
-none_end : (s : Held) → s.flow ≡ [] → s.indent ≤ s.position.col + 1 → unroll_indent (s.position.col + 1) s ≡ s
+pub none_end : (s : Held) → s.flow ≡ [] → s.indent ≤ s.position.col + 1 → unroll_indent (s.position.col + 1) s ≡ s
 unfolding unroll_indent
 none_end s flow low = rw (flow, unrolled_none (s.position.col + 1) s.position s.indent s.indents s.tokens low) refl
 
@@ -75,7 +76,7 @@ unfolding unroll_indent unrolled
 open_ends p ts ks ds leading adjacent =
     rw (lt-ltb (p.col + 1) (p.col + 1 + 1) (omega arith), unrolled_none (p.col + 1) p (p.col + 1) ds ts (omega arith)) refl
 
-solid_here : (c : ℕ) (a : List ℕ) (s : Held) → is_break c ≡ false → (c == 9) ≡ false → is_blank c ≡ false → (c == 35) ≡ false → skip_to_next_token (at (c ∷ a) s) ≡ Ok (at (c ∷ a) s)
+pub solid_here : (c : ℕ) (a : List ℕ) (s : Held) → is_break c ≡ false → (c == 9) ≡ false → is_blank c ≡ false → (c == 35) ≡ false → skip_to_next_token (at (c ∷ a) s) ≡ Ok (at (c ∷ a) s)
 unfolding skip_to_next_token skip
 solid_here c a s break tab blank hash = rw (break, tab, blank, hash) refl
 
@@ -87,7 +88,7 @@ indented_plain : (c : ℕ) (a : List ℕ) (s : Held) → Opener c → s.indent �
 unfolding fetch_indented fetch_token
 indented_plain c a s z low = rw (le-ltb (s.position.col + 1) s.indent low, z.class) refl
 
-plain_here : (c : ℕ) (a : List ℕ) (s : Held) → Opener c → s.indent ≤ s.position.col + 1 → fetch_here (at (c ∷ a) s) ≡ fetch_plain_scalar (at (c ∷ a) s)
+pub plain_here : (c : ℕ) (a : List ℕ) (s : Held) → Opener c → s.indent ≤ s.position.col + 1 → fetch_here (at (c ∷ a) s) ≡ fetch_plain_scalar (at (c ∷ a) s)
 unfolding fetch_here fetch_content fetch_first_column comes_marker
 plain_here c a s z low = by (s.position.col == 0) refl
   where
@@ -95,7 +96,7 @@ plain_here c a s z low = by (s.position.col == 0) refl
     by true e = rw (z.nul, e, z.percent, z.dash, z.point) (indented_plain c a s z low)
     by false e = rw (z.nul, e) (indented_plain c a s z low)
 
-value_here : (d : ℕ) (a : List ℕ) (s : Held) → is_blank_or_breakz d ≡ true → 1 ≤ s.position.col → s.indent ≤ s.position.col + 1 → fetch_here (at (58 ∷ d ∷ a) s) ≡ fetch_value (at (58 ∷ d ∷ a) s)
+pub value_here : (d : ℕ) (a : List ℕ) (s : Held) → is_blank_or_breakz d ≡ true → 1 ≤ s.position.col → s.indent ≤ s.position.col + 1 → fetch_here (at (58 ∷ d ∷ a) s) ≡ fetch_value (at (58 ∷ d ∷ a) s)
 unfolding fetch_here fetch_content fetch_indented fetch_token class_of is_value
 value_here d a s blank off low = rw (ne_eqb s.position.col 0 (λ e. omega (arith, off, e)), le-ltb (s.position.col + 1) s.indent low, blank) refl
 
@@ -116,7 +117,7 @@ none_dropped col s block = by (nat_le s.indent (col + 1)) s.indents block
     by true [] h = absurd cc
     by true (d ∷ ds) h = rw h refl
 
-none_deeper : (col : ℕ) (n : Option ℕ) (t : Token) (s : Held) → s.indent ≡ col + 1 → deepen col n t s ≡ s
+pub none_deeper : (col : ℕ) (n : Option ℕ) (t : Token) (s : Held) → s.indent ≡ col + 1 → deepen col n t s ≡ s
 unfolding deepen
 none_deeper col n t s e = rw (le-ltb s.indent (col + 1) (omega (arith, e))) refl
 
@@ -124,36 +125,29 @@ opens_none : (col n : ℕ) (t : Tok) (p : Position) (s : Held) → s.flow ≡ []
 unfolding roll_indent
 opens_none col n t p s flow indent block = rw (none_dropped col s block, none_deeper col (Some n) (token p t) s indent, flow) refl
 
-one_deeper : (s : Held) → s.flow ≡ [] → top_needs_block_end s.indents ≡ true → roll_one_col_indent s ≡ record s { indents = level s.indent false ∷ s.indents; indent = s.indent + 1 }
+pub one_deeper : (s : Held) → s.flow ≡ [] → top_needs_block_end s.indents ≡ true → roll_one_col_indent s ≡ record s { indents = level s.indent false ∷ s.indents; indent = s.indent + 1 }
 unfolding roll_one_col_indent in_block
 one_deeper s flow block = rw (flow, block) refl
 
 -- ---- what stands after a key or a value
 
-follows_blank : (d : ℕ) → ((d == 32) || (d == 10)) ≡ true → (is_blank_or_breakz d ≡ true) × ((d == 9) ≡ false)
+pub follows_blank : (d : ℕ) → ((d == 32) || (d == 10)) ≡ true → (is_blank_or_breakz d ≡ true) × ((d == 9) ≡ false)
 unfolding is_blank is_break
 follows_blank d h = (grind (arith, nat_tests), grind (arith, nat_tests))
 
-follows_visible : (e : ℕ) → (nat_lt 32 e && nat_lt e 127) ≡ true → (is_break e ≡ false) × (is_blank e ≡ false)
+pub follows_visible : (e : ℕ) → (nat_lt 32 e && nat_lt e 127) ≡ true → (is_break e ≡ false) × (is_blank e ≡ false)
 unfolding is_blank is_break
 follows_visible e h = (grind (arith, nat_tests), grind (arith, nat_tests))
 
 -- ---- a key
 
-insert_key_token : (ts : List Token) (k s : Token) → insert (ts ++ s ∷ []) (length ts) k ≡ ts ++ k ∷ s ∷ []
+pub insert_key_token : (ts : List Token) (k s : Token) → insert (ts ++ s ∷ []) (length ts) k ≡ ts ++ k ∷ s ∷ []
 insert_key_token [] k s = refl
 insert_key_token (t ∷ ts) k s = ap (λ us. t ∷ us) (insert_key_token ts k s)
 
-near_along : (w : List ℕ) (p : Position) → length w ≤ 1024 → is_far p (along w p) ≡ false
+pub near_along : (w : List ℕ) (p : Position) → length w ≤ 1024 → is_far p (along w p) ≡ false
 unfolding is_far
 near_along w p h = rw (along_is w p, le-ltb p.line p.line (omega arith), le-ltb (p.index + 1024) (p.index + length w) (omega (arith, h))) refl
-
--- two fetches
-pub record FetchesTwice (t u : ScannerState) : Type 0 where
-  pub between : ScannerState
-  pub first : fetch t ≡ Ok between
-  pub going : between.held.ended ≡ false
-  pub second : fetch between ≡ Ok u
 
 module _ (p : Position) (ts : List Token) (ks : List (Option Key)) (ds : List Indent) (leading : Bool) (adjacent : ℕ) (free : cleared ks ≡ ks) (block : top_needs_block_end ds ≡ true) where
   abbrev i : ℕ

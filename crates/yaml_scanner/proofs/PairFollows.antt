@@ -22,6 +22,7 @@ use Rattle.yaml_scanner_state.specs.Levels.{Columns, lone_open}
 use Rattle.yaml_scanner_state.specs.Tokens.{Tokens, handed, is_end, key_tokens}
 use Rattle.yaml_scanner_state.proofs.KeyLemmas.{none_front, none_lowered}
 use Rattle.yaml_scanner.specs.Awaits.{StandsAt, levels_after, AwaitsKey, AwaitsValue}
+use Rattle.yaml_scanner.specs.Fetched.{FetchesTwice}
 use Rattle.yaml_scanner.specs.Follows.{Follows}
 use Rattle.yaml_chars.specs.Pairs.{TakesKey, TakesValue}
 use Rattle.yaml_scanner.specs.Scanned.{Scanned, inside, kept_fault, HandsBoth}
@@ -30,18 +31,18 @@ use Rattle.yaml_scanner.specs.Work.{Fetches, work}
 use Rattle.yaml_scanner.proofs.DoesLemmas.{Reads-map}
 use Rattle.yaml_scanner.proofs.FollowLemmas.{fetched_on, handed_on}
 use Rattle.yaml_scanner.proofs.PairTexts.{same_place, along_is}
-use Rattle.yaml_scanner.proofs.PairFetches.{in_mapping, FetchesTwice, key_fetched, value_fetched, before_key, after_colon, after_value}
+use Rattle.yaml_scanner.proofs.PairFetches.{in_mapping, key_fetched, value_fetched, before_key, after_colon, after_value}
 
 -- two fetches more
-fetched_twice : {T : Type 0} (x y : Fetcher T) → x.kept ≡ None → x.tokens.ended ≡ false → Follows x → Reads x.window y.window (λ a b. FetchesTwice (state a x) (state b y)) → Fetches x y → y.tokens.ended ≡ false → Follows y
+pub fetched_twice : {T : Type 0} (x y : Fetcher T) → x.kept ≡ None → x.tokens.ended ≡ false → Follows x → Reads x.window y.window (λ a b. FetchesTwice (state a x) (state b y)) → Fetches x y → (y.tokens.ended ≡ true → y.window.done ≡ true) → Follows y
 fetched_twice x y k g f d m n = λ a p.
     let old = f a (d.back a p) in
     let z = d.reads a p in
     let run : Reaches (start a) (state (drop y.window.at a) y) = one_more (one_more (old.run k g) g z.first) z.going z.second in
     record {
       run = λ _ _. run;
-      all = λ _ e. absurd cc;
-      done = λ _ e. absurd cc;
+      all = λ _ e. record { whole = record { end = state (drop y.window.at a) y; run = run; ended = e; tokens = refl }; position = refl; began = refl };
+      done = λ _ e. n e;
       reached = rw m.given old.reached;
       begins = λ ts h. rw m.given (old.begins ts h);
       whole = λ o. rw m.given (old.whole (sym m.over ∙ o));
@@ -115,19 +116,19 @@ hands_both x y gs us t u k o kept over given all count te ue less =
 
 -- ---- what is held
 
-keys_split : (ks : List (Option ImplicitKey)) → map no_implicit ks ≡ ks → 0 < length ks → (js : List (Option ImplicitKey)) × (ks ≡ None ∷ js) × (map no_implicit js ≡ js)
+pub keys_split : (ks : List (Option ImplicitKey)) → map no_implicit ks ≡ ks → 0 < length ks → (js : List (Option ImplicitKey)) × (ks ≡ None ∷ js) × (map no_implicit js ≡ js)
 keys_split [] e h = absurd (omega (arith, h))
 keys_split (None ∷ js) e h = (js, refl, cc)
 keys_split (Some k ∷ js) e h = absurd cc
 
-seen_free : (g : ℕ) (js : List (Option ImplicitKey)) → map no_implicit js ≡ js → cleared (seen g js) ≡ seen g js
+pub seen_free : (g : ℕ) (js : List (Option ImplicitKey)) → map no_implicit js ≡ js → cleared (seen g js) ≡ seen g js
 seen_free g [] e = refl
 seen_free g (None ∷ js) e = ap (λ ks. None ∷ ks) (seen_free g js cc)
 seen_free g (Some k ∷ js) e = absurd cc
 
 -- ---- levels
 
-levels_split : (ds : List Indent) (limit : ℕ) → lone_open ds ≡ Some limit → (es : List Indent) × (ds ≡ level limit false ∷ es) × (top_needs_block_end es ≡ true)
+pub levels_split : (ds : List Indent) (limit : ℕ) → lone_open ds ≡ Some limit → (es : List Indent) × (ds ≡ level limit false ∷ es) × (top_needs_block_end es ≡ true)
 levels_split [] limit e = absurd cc
 levels_split (d ∷ []) limit e = absurd cc
 levels_split (d ∷ g ∷ ds) limit e = by d.needs_block_end g.needs_block_end refl refl
@@ -221,7 +222,7 @@ module _ {T : Type 0} (x : Fetcher T) (w : Reading T) (key : List ℕ) (colon : 
       (Reads-map _ _ t.reads (λ a b r. subst (λ h. FetchesTwice (record { rest = a; held = h }) (state b y)) (sym old) (subst (λ h. FetchesTwice (record { rest = a; held = before }) (record { rest = b; held = h })) (sym new)
       (rw r.0 (key_fetched p x.tokens.all ks o.ds x.leading x.adjacent_value_at free o.block opens key b t.simple t.short r.1)))))
       (record { given = rw z.waits (taken_all x.tokens.all (key_tokens p key colon) (length x.tokens.all) refl ∙ sym (all_of x.tokens.all)); over = refl; fault = refl })
-      s.ended
+      (λ e. absurd (cc (e, s.ended)))
 
   pub key_follows : Follows x → Follows (key_fetcher (x.tokens.given + 2))
   key_follows f =
@@ -272,7 +273,9 @@ module _ {T : Type 0} (x : Fetcher T) (w : Reading T) (value : List ℕ) (at : P
   }
 
   value_after : position_of w ≡ record { index = q.index + length value + 2 + t.spaces; line = q.line + 1; col = t.spaces }
-  value_after = same_place t.at t.line t.col
+  value_after =
+      let at = t.at in
+      same_place (omega (arith, at)) t.line t.col
 
   gone : x.tokens.given ≡ length (handed x.tokens)
   gone =

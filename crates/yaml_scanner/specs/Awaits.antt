@@ -1,12 +1,12 @@
--- Where a key or a value of a block mapping may be taken at once.
-use Rattle.std.specs.Prelude.{◌≡◌, ℕ, ◌+◌, ◌<◌, ◌≤◌, [], ◌∷◌, ◌++◌, length, map, Bool, true, false, None, Some}
+-- Where a key, a value or another scalar of a block collection may be taken at once.
+use Rattle.std.specs.Prelude.{◌≡◌, ℕ, ◌+◌, ◌<◌, ◌≤◌, ◌==◌, ◌&&◌, List, [], ◌∷◌, ◌++◌, length, map, Bool, true, false, None, Some}
 use Rattle.defs_text.specs.Position.{Position}
-use Rattle.defs_token.specs.Token.{Tok}
+use Rattle.defs_token.specs.Token.{Tok, Token}
 use Rattle.model_scanner.specs.State.{token}
 use Rattle.model_scanner.specs.Keys.{top_needs_block_end}
 use Rattle.yaml_scanner_state.specs.ImplicitKeys.{no_implicit}
-use Rattle.model_scanner.specs.Indents.{level}
-use Rattle.yaml_scanner_state.specs.Levels.{Columns, lone_open}
+use Rattle.model_scanner.specs.Indents.{level, without_open}
+use Rattle.yaml_scanner_state.specs.Levels.{Columns, ends_open, lone_open}
 use Rattle.yaml_scanner_state.specs.Tokens.{handed}
 use Rattle.yaml_scanner.specs.declared.fetcher.Fetcher.{Fetcher}
 
@@ -46,3 +46,22 @@ pub record AwaitsValue {T : Type 0} (s : Fetcher T) (value : Position) (limit : 
   pub opened : lone_open s.levels.indents ≡ Some limit
   pub deep : s.levels.indent ≤ s.window.col + 2
   pub off : limit ≤ s.window.col + 2
+
+-- A node may begin at a column: without the levels that open no collection, the innermost collection stands there or left of there,
+-- or none is open. Where the limit is not 0, the node need not be a key, and the next line ends a scalar if it has fewer spaces.
+pub record Stands (col : ℕ) (l : Columns) (limit : ℕ) : Type 0 where
+  pub outer : Columns
+  pub rest : (ts : List Token) → without_open l.indent l.indents ts ≡ record { indent = outer.indent; indents = outer.indents; tokens = ts }
+  pub shallow : l.indent ≤ col + 1
+  pub deep : outer.indent ≤ col + 1
+  pub block : ends_open outer.indents ≡ false
+  pub there : outer.indent ≡ col + 1 → top_needs_block_end outer.indents ≡ true
+  pub low : 0 < limit → (limit ≤ outer.indent) × (((l.indent == col + 1) && top_needs_block_end l.indents) ≡ false)
+
+-- outside flow, where nothing is a key yet, and one may begin
+pub record AwaitsNode {T : Type 0} (s : Fetcher T) (limit : ℕ) : Type 0 where
+  pub flow : s.flow ≡ []
+  pub allowed : s.key_allowed ≡ true
+  pub free : map no_implicit s.keys ≡ s.keys
+  pub level : 0 < length s.keys
+  pub stands : Stands s.window.col s.levels limit

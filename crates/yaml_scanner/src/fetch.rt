@@ -7,6 +7,7 @@ ghost use Rattle.yaml_tokens.specs.Shown.{tok_of};
 ghost use Rattle.model_scanner.specs.Space.{skip_spaces};
 ghost use Rattle.model_scanner.specs.Document.{begin_stream, fetch_stream_end, fetch_document_marker, fetch_document_end, begin_line, context, may_follow_quoted, check_after_quoted, fetch_directive, fetch_anchor, fetch_tag, fetch_block_scalar, fetch_flow_scalar, fetch_plain_scalar};
 ghost use Rattle.model_scanner.specs.Fetch.{comes_marker, is_value, token_by, fetch_token, fetch_indented, fetch_first_column, fetch_content, fetch_here, fetch_next, fetch};
+ghost use Rattle.yaml_scanner.specs.Fetched.{Fetched};
 ghost use Rattle.yaml_scanner.specs.Shape.{held, state, Does, Fails};
 ghost use Rattle.yaml_scanner.specs.Steps.{end_quoted, fetch_bar, scalar_by};
 ghost use Rattle.yaml_scanner_state.specs.Styles.{is_alias, are_single, is_literal_style};
@@ -46,7 +47,7 @@ impl<T: Characters> Fetcher<T> {
     /// Fetches a token, or several.
     pub(crate) fn fetch(&mut self) -> Result<(), Failed>
         requires { self.old.tokens.ended ≡ false }
-        ensures does { OnOk result (Does fetch self.old self.new) }
+        ensures does { OnOk result (Fetched fetch self.old self.new) }
         ensures fails { IfErr result (λ _. Fails fetch self.old self.new self.new.fault) }
         ensures done { OnOk result (self.new.tokens.ended ≡ true → self.new.window.done ≡ true) }
         ensures less { OnOk result (work self.new < work self.old) }
@@ -58,10 +59,11 @@ impl<T: Characters> Fetcher<T> {
         self.fetch_next()
     }
 
-    /// Skips to the next token, ends the block collections that end there, and fetches the token.
+    /// Skips to the next token, ends the block collections that end there, and fetches the token. A key comes with its `:`.
     fn fetch_next(&mut self) -> Result<(), Failed>
-        requires { self.old.tokens.ended ≡ false }
-        ensures does { OnOk result (Does fetch_next self.old self.new) }
+        requires started { self.old.started ≡ true }
+        requires going { self.old.tokens.ended ≡ false }
+        ensures does { OnOk result (Fetched fetch_next self.old self.new) }
         ensures fails { IfErr result (λ _. Fails fetch_next self.old self.new self.new.fault) }
         ensures done { OnOk result (self.new.tokens.ended ≡ true → self.new.window.done ≡ true) }
         ensures less { OnOk result (work self.new < work self.old) }
@@ -76,6 +78,11 @@ impl<T: Characters> Fetcher<T> {
         let limit = self.window.mark().col() + 1;
         if let Err(fault) = self.unroll_indent(limit) {
             return Err(fault);
+        }
+        match self.fetch_node() {
+            Ok(true) => return Ok(()),
+            Ok(false) => {}
+            Err(fault) => return Err(fault),
         }
         if let Err(fault) = self.fetch_here() {
             return Err(fault);

@@ -7,6 +7,7 @@ mod fetcher;
 mod flow;
 mod hand;
 mod indents;
+mod nodes;
 mod pairs;
 mod public;
 mod scanner;

@@ -1,4 +1,4 @@
-use Rattle.std.proofs.Common.{false, ◌≡◌, ◌++◌, take, drop, refl, sym, ap, subst, ◌∙◌, ◌+◌, arith, length}
+use Rattle.std.proofs.Common.{false, ◌≡◌, ◌==◌, ◌++◌, take, drop, refl, sym, ap, subst, ◌∙◌, ◌+◌, arith, length}
 use Rattle.std.proofs.lemmas.List.{drop-append-le}
 use Rattle.std.specs.Prelude.{chars, slice_index}
 use Rattle.std.specs.Str.{IsCharBoundary}
@@ -55,6 +55,7 @@ returns-clause-some g c =
         none = λ d. absurd (true_is_not_false (sym d ∙ going));
         left = rw going (omega (arith, (c.pass.ensures.goes ready.1).1, ap length all));
       };
+      broke = ap (λ b. slice_index b n == 10) same;
       next = c.from-next.ensures ∙ ap (λ b. slice_index b (n + 1 + c.in-Some.ended.spaces)) same;
       joined = text;
     }

@@ -1,0 +1,214 @@
+-- What the model does at a key or another plain scalar of one line that is a simple text.
+use Rattle.std.proofs.Common.{◌≡◌, ℕ, ◌+◌, ◌-◌, ◌<◌, ◌≤◌, List, [], ◌∷◌, ◌++◌, Bool, true, false, ◌||◌, ◌&&◌, ◌==◌, Option, Some, None, Ok, refl, ap, sym, ◌∙◌, append_assoc, nat_lt, nat_le, arith, length, map, slice_index, if◌then◌else◌}
+use Rattle.std.specs.List.{list_any, insert}
+use Rattle.std.proofs.lemmas.Bool.{le-ltb, lt-ltb, ltb-true, ltb-false}
+use Rattle.defs_text.specs.Position.{Position}
+use Rattle.yaml_chars.specs.Class.{is_break, is_blank, is_blank_or_breakz}
+use Rattle.defs_token.specs.Token.{Tok, Style, Token}
+use Rattle.model_lexers.specs.Machine.{past}
+use Rattle.model_lexers.specs.Plain.{plain}
+use Rattle.model_scanner.specs.declared.level.Indent.{Indent}
+use Rattle.model_scanner.specs.State.{Key, Held, ScannerState, token, ◌>>=◌, try_held, push}
+use Rattle.model_scanner.specs.Keys.{is_far, is_overdue, still, drop_stale, stale, cleared, save_implicit_key, must_be_key, top_needs_block_end}
+use Rattle.model_scanner.specs.Indents.{level, roll_indent, drop_open, drop_open_level, deepen, roll_one_col_indent, in_block, unroll_non_block_indents, without_open}
+use Rattle.model_scanner.specs.Block.{check_value_space, begin_pair, insert_key, fetch_value}
+use Rattle.model_scanner.specs.Document.{fetch_plain_scalar}
+use Rattle.model_scanner.specs.Fetch.{fetch, fetch_here}
+use Rattle.proof_lexers.specs.HeaderEnds.{along}
+use Rattle.yaml_scanner_state.specs.Levels.{ends_open}
+use Rattle.yaml_scanner_state.specs.Tokens.{key_tokens}
+use Rattle.yaml_chars.specs.Pairs.{IsSimpleText, indented}
+use Rattle.yaml_scanner.specs.Fetched.{RunsTwice, fetch_rest, before as before_position, with_key, with_line}
+use Rattle.yaml_scanner.proofs.PairTexts.{Opener, Simple, simple_text, same_place, along_is, plain_key, plain_value}
+use Rattle.yaml_scanner.proofs.PairFetches.{at, in_mapping, fetched, none_overdue, none_stale, near_stale, none_end, solid_here, plain_here, value_here, none_deeper, one_deeper, follows_blank, follows_visible, insert_key_token, near_along}
+
+-- ---- levels
+
+-- outside flow, where the innermost level is no open one
+kept_level : (col : ℕ) (s : Held) → ends_open s.indents ≡ false → drop_open_level col s ≡ s
+unfolding drop_open_level
+kept_level col s block = by (nat_le s.indent (col + 1)) s.indents block
+  where
+    by : (b : Bool) (ds : List Indent) → ends_open ds ≡ false → (if b then drop_open s ds else s) ≡ s
+    by false ds h = refl
+    by true [] h = refl
+    by true (d ∷ ds) h = here d.needs_block_end refl
+      where
+        here : (e : Bool) → d.needs_block_end ≡ e → drop_open s (d ∷ ds) ≡ s
+        here true g = rw g refl
+        here false g = let n = rw g at h in absurd cc
+
+-- a collection begins at a column, before the tokens of a number or after all
+begins_before : (col n : ℕ) (t : Tok) (p : Position) (s : Held) → s.flow ≡ [] → ends_open s.indents ≡ false → nat_lt s.indent (col + 1) ≡ true
+    → roll_indent col (Some n) t p s ≡ record s { indents = level s.indent true ∷ s.indents; indent = col + 1; tokens = insert s.tokens n (token p t) }
+unfolding roll_indent deepen
+begins_before col n t p s flow block left = rw (kept_level col s block, left, flow) refl
+
+begins_after : (col : ℕ) (t : Tok) (p : Position) (s : Held) → s.flow ≡ [] → ends_open s.indents ≡ false → nat_lt s.indent (col + 1) ≡ true
+    → roll_indent col None t p s ≡ record s { indents = level s.indent true ∷ s.indents; indent = col + 1; tokens = s.tokens ++ token p t ∷ [] }
+unfolding roll_indent deepen
+begins_after col t p s flow block left = rw (kept_level col s block, left, flow) refl
+
+-- none begins where one stands
+stays : (col : ℕ) (n : Option ℕ) (t : Tok) (p : Position) (s : Held) → s.flow ≡ [] → ends_open s.indents ≡ false → nat_lt s.indent (col + 1) ≡ false → roll_indent col n t p s ≡ s
+unfolding roll_indent deepen
+stays col n t p s flow block left = rw (kept_level col s block, left, flow) refl
+
+insert_start : (ts us : List Token) (t : Token) → insert (ts ++ us) (length ts) t ≡ ts ++ t ∷ us
+insert_start [] us t = refl
+insert_start (s ∷ ts) us t = ap (λ vs. s ∷ vs) (insert_start ts us t)
+
+-- ---- a node
+
+module _ (p : Position) (ts : List Token) (ks : List (Option Key)) (l : ℕ) (ls : List Indent) (i : ℕ) (ds : List Indent) (leading : Bool) (adjacent : ℕ) (free : cleared ks ≡ ks) (shallow : l ≤ p.col + 1)
+    (outer : (us : List Token) → without_open l ls us ≡ record { indent = i; indents = ds; tokens = us }) (deep : i ≤ p.col + 1) (block : ends_open ds ≡ false) (there : i ≡ p.col + 1 → top_needs_block_end ds ≡ true) where
+  abbrev pub before : Held
+  before = in_mapping p ts (None ∷ ks) l ls true leading adjacent
+
+  abbrev key_here : Key
+  key_here = record { required = must_be_key before; number = length ts; position = p }
+
+  -- after the scalar of a key
+  abbrev after_scalar : List ℕ → Held
+  after_scalar w = in_mapping (along w p) (ts ++ token p (Tok.scalar Style.plain w) ∷ []) (Some key_here ∷ ks) i ds false false adjacent
+
+  abbrev start : List ℕ → Token
+  start w = token (along w p) Tok.block_mapping_start
+
+  -- after the `:`, where a mapping begins there, or stands there
+  abbrev after_colon : (begins : Bool) → List ℕ → Held
+  after_colon true w = in_mapping (past (along w p)) (ts ++ start w ∷ key_tokens p w (along w p)) (None ∷ ks) (p.col + 1 + 1) (level (p.col + 1) false ∷ level i true ∷ ds) false false adjacent
+  after_colon false w = in_mapping (past (along w p)) (ts ++ key_tokens p w (along w p)) (None ∷ ks) (i + 1) (level i false ∷ ds) false false adjacent
+
+  key_scalar : (text : List ℕ) (d : ℕ) (a : List ℕ) → Simple text → is_blank_or_breakz d ≡ true → fetch_plain_scalar (at (text ++ 58 ∷ d ∷ a) before) ≡ Ok (at (58 ∷ d ∷ a) (after_scalar text))
+  unfolding fetch_plain_scalar save_implicit_key unroll_non_block_indents
+  key_scalar text d a z blank =
+      let scanned = plain_key i p z.head z.tail d a z.chars z.close deep blank in
+      rw (z.whole, outer ts, scanned) refl
+
+  key_rest : (text : List ℕ) (d : ℕ) (a : List ℕ) → Simple text → length text ≤ 1024 → is_blank_or_breakz d ≡ true → fetch_rest (at (text ++ 58 ∷ d ∷ a) before) ≡ Ok (at (58 ∷ d ∷ a) (after_scalar text))
+  unfolding fetch_rest
+  key_rest text d a z short blank =
+      let rest : List ℕ = z.tail ++ 58 ∷ d ∷ a in
+      let same : text ++ 58 ∷ d ∷ a ≡ z.head ∷ rest = ap (λ t. t ++ 58 ∷ d ∷ a) z.whole in
+      let here : fetch_here (at (text ++ 58 ∷ d ∷ a) before) ≡ Ok (at (58 ∷ d ∷ a) (after_scalar text)) = rw same (plain_here z.head rest before z.opens shallow ∙ rw same at (key_scalar text d a z blank)) in
+      let after : stale (after_scalar text) ≡ Ok (after_scalar text) = near_stale (after_scalar text) key_here ks refl refl (near_along text p short) free in
+      rw (here, after) refl
+
+  abbrev key : Token
+  key = token p Tok.key
+
+  abbrev scalar : List ℕ → Token
+  scalar w = token p (Tok.scalar Style.plain w)
+
+  -- after the tokens of a key
+  abbrev with_tokens : List ℕ → Held
+  with_tokens w = record (after_scalar w) { position = past (along w p); tokens = ts ++ key ∷ scalar w ∷ [] }
+
+  -- after the `:` was read, without open levels
+  abbrev plainly : List ℕ → Held
+  plainly w = record before { position = past (along w p); indent = i; indents = ds }
+
+  key_value : (b : Bool) → nat_lt i (p.col + 1) ≡ b → (text : List ℕ) (d : ℕ) (a : List ℕ) → (d == 9) ≡ false → fetch_value (at (58 ∷ d ∷ a) (after_scalar text)) ≡ Ok (at (d ∷ a) (after_colon b text))
+  unfolding fetch_value insert_key begin_pair check_value_space
+  key_value true left text d a tab = rw (
+    tab,
+    insert_key_token ts key (scalar text),
+    begins_before p.col (length ts) Tok.block_mapping_start (along text p) (with_tokens text) refl block left,
+    insert_start ts (key ∷ scalar text ∷ []) (start text),
+    one_deeper (record (with_tokens text) { indents = level i true ∷ ds; indent = p.col + 1; tokens = ts ++ start text ∷ key ∷ scalar text ∷ [] }) refl refl,
+    append_assoc ts (start text ∷ key ∷ scalar text ∷ []) (token (along text p) Tok.value ∷ []),
+  ) refl
+  key_value false left text d a tab =
+      let top : top_needs_block_end ds ≡ true = there (omega (arith, deep, ltb-false i (p.col + 1) left)) in
+      rw (
+        tab,
+        insert_key_token ts key (scalar text),
+        stays p.col (Some (length ts)) Tok.block_mapping_start (along text p) (with_tokens text) refl block left,
+        one_deeper (with_tokens text) refl top,
+        append_assoc ts (key ∷ scalar text ∷ []) (token (along text p) Tok.value ∷ []),
+      ) refl
+
+  before_past : (text : List ℕ) → before_position (past (along text p)) ≡ along text p
+  before_past text = same_place (omega arith) refl (omega arith)
+
+  -- what the code holds then
+  pub colon_is : (b : Bool) → nat_lt i (p.col + 1) ≡ b → (text : List ℕ) → with_key p text (record before { position = past (along text p) }) ≡ after_colon b text
+  unfolding unroll_non_block_indents
+  colon_is true left text = rw (
+    outer ts,
+    before_past text,
+    begins_after p.col Tok.block_mapping_start (along text p) (plainly text) refl block left,
+    one_deeper (record (plainly text) { indents = level i true ∷ ds; indent = p.col + 1; tokens = ts ++ start text ∷ [] }) refl refl,
+    append_assoc ts (start text ∷ []) (key ∷ []),
+    append_assoc ts (start text ∷ key ∷ []) (scalar text ∷ []),
+    append_assoc ts (start text ∷ key ∷ scalar text ∷ []) (token (along text p) Tok.value ∷ []),
+  ) refl
+  colon_is false left text =
+      let top : top_needs_block_end ds ≡ true = there (omega (arith, deep, ltb-false i (p.col + 1) left)) in
+      rw (
+        outer ts,
+        before_past text,
+        stays p.col None Tok.block_mapping_start (along text p) (plainly text) refl block left,
+        one_deeper (plainly text) refl top,
+        append_assoc ts (key ∷ []) (scalar text ∷ []),
+        append_assoc ts (key ∷ scalar text ∷ []) (token (along text p) Tok.value ∷ []),
+      ) refl
+
+  keys_then : (b : Bool) (text : List ℕ) → ((after_colon b text).keys ≡ None ∷ ks) × ((after_colon b text).flow ≡ [])
+  keys_then true text = (refl, refl)
+  keys_then false text = (refl, refl)
+
+  colon_fetch : (b : Bool) → nat_lt i (p.col + 1) ≡ b → (text : List ℕ) (d : ℕ) (a : List ℕ) → 0 < length text → length text ≤ 1024 → is_blank_or_breakz d ≡ true → (d == 9) ≡ false
+      → fetch (at (58 ∷ d ∷ a) (after_scalar text)) ≡ Ok (at (d ∷ a) (after_colon b text))
+  unfolding is_break is_blank
+  colon_fetch b left text d a some short blank tab =
+      let s = after_scalar text in
+      let z = keys_then b text in
+      let col : (along text p).col ≡ p.col + length text = ap (λ q. q.col) (along_is text p) in
+      fetched (at (58 ∷ d ∷ a) s) (58 ∷ d ∷ a) s (at (d ∷ a) (after_colon b text)) refl (solid_here 58 (d ∷ a) s refl refl refl refl) (near_stale s key_here ks refl refl (near_along text p short) free) (none_end s refl (omega (arith, col, deep)))
+      (value_here d a s blank (omega (arith, col, some)) (omega (arith, col, deep)) ∙ key_value b left text d a tab)
+      (none_stale (after_colon b text) z.1 (rw (z.0) (ap (λ l. None ∷ l) free)))
+
+  pub key_runs : (text b : List ℕ) → IsSimpleText text → length text ≤ 1024 → ((slice_index b 0 == 32) || (slice_index b 0 == 10)) ≡ true
+      → RunsTwice fetch_rest (at (text ++ 58 ∷ b) before) (at b (with_key p text (record before { position = past (along text p) })))
+  key_runs text [] simple short next = absurd cc
+  key_runs text (d ∷ a) simple short next =
+      let blank = follows_blank d next in
+      rw (colon_is (nat_lt i (p.col + 1)) refl text) (record { between = at (58 ∷ d ∷ a) (after_scalar text); first = key_rest text d a (simple_text text simple) short blank.0; going = refl; second = colon_fetch (nat_lt i (p.col + 1)) refl text d a simple.some short blank.0 blank.1 })
+
+  -- ---- a scalar of one line
+
+  abbrev line_end : List ℕ → ℕ → Position
+  line_end w n = record { index = p.index + length w + 1 + n; line = p.line + 1; col = n }
+
+  -- after the scalar, which is no key then
+  abbrev after_line : Option Key → List ℕ → ℕ → Held
+  after_line k w n = in_mapping (line_end w n) (ts ++ scalar w ∷ []) (k ∷ ks) i ds true true adjacent
+
+  line_scalar : (text : List ℕ) (n e : ℕ) (a : List ℕ) → Simple text → is_break e ≡ false → is_blank e ≡ false → nat_lt n i ≡ true → fetch_plain_scalar (at (text ++ 10 ∷ indented n (e ∷ a)) before) ≡ Ok (at (e ∷ a) (after_line (Some key_here) text n))
+  unfolding fetch_plain_scalar save_implicit_key unroll_non_block_indents
+  line_scalar text n e a z solid visible low =
+      let scanned = plain_value i p z.head z.tail n e a z.chars z.close deep solid visible low in
+      rw (z.whole, outer ts, scanned) refl
+
+  -- the scalar began on an earlier line, and need not be a key
+  late : (w : List ℕ) (n : ℕ) → is_far p (line_end w n) ≡ true
+  unfolding is_far
+  late w n = rw (lt-ltb p.line (p.line + 1) (omega arith)) refl
+
+  line_stale : (w : List ℕ) (n : ℕ) → must_be_key before ≡ false → stale (after_line (Some key_here) w n) ≡ Ok (after_line None w n)
+  unfolding stale drop_stale
+  line_stale w n need = let z = none_overdue (line_end w n) ks free in rw (late w n, need, z.0, z.1) refl
+
+  pub line_runs : (text : List ℕ) (n : ℕ) (b : List ℕ) → IsSimpleText text → (nat_lt 32 (slice_index b 0) && nat_lt (slice_index b 0) 127) ≡ true → n < i → must_be_key before ≡ false
+      → fetch_rest (at (text ++ 10 ∷ indented n b) before) ≡ Ok (at b (with_line p text (record before { position = line_end text n })))
+  unfolding fetch_rest unroll_non_block_indents
+  line_runs text n [] simple visible low need = absurd cc
+  line_runs text n (e ∷ a) simple visible low need =
+      let z = simple_text text simple in
+      let stands = follows_visible e visible in
+      let rest : List ℕ = z.tail ++ 10 ∷ indented n (e ∷ a) in
+      let same : text ++ 10 ∷ indented n (e ∷ a) ≡ z.head ∷ rest = ap (λ t. t ++ 10 ∷ indented n (e ∷ a)) z.whole in
+      let here : fetch_here (at (text ++ 10 ∷ indented n (e ∷ a)) before) ≡ Ok (at (e ∷ a) (after_line (Some key_here) text n)) = rw same (plain_here z.head rest before z.opens shallow ∙ rw same at (line_scalar text n e a z stands.0 stands.1 (lt-ltb n i low))) in
+      rw (here, line_stale text n need, outer ts) refl

@@ -1,0 +1,198 @@
+-- A key or another scalar that was fetched at once, against the model's steps.
+use Rattle.std.proofs.Common.{◌≡◌, ℕ, ◌+◌, ◌-◌, ◌<◌, ◌≤◌, List, [], ◌∷◌, ◌++◌, Bool, true, false, ◌&&◌, ◌==◌, refl, ap, sym, ◌∙◌, arith, Option, Some, None, length, map, subst, Result, Ok, Err, if◌then◌else◌}
+use Rattle.std.specs.Prelude.{IfSome, OnOk}
+use Rattle.std.proofs.lemmas.Bool.{ne_eqb}
+use Rattle.defs_text.specs.Position.{Position}
+use Rattle.defs_token.specs.Token.{Token}
+use Rattle.yaml_chars.specs.Reading.{Reading, Reads, Sees, position_of}
+use Rattle.yaml_chars.proofs.ReadingLemmas.{Reads-then, Reads-saw}
+use Rattle.yaml_tokens.specs.declared.problem.Fault.{Fault}
+use Rattle.yaml_chars.specs.Pairs.{TakesKey, TakesLine, TakesNode}
+use Rattle.yaml_chars.specs.declared.pairs.Node.{Node}
+use Rattle.yaml_chars.specs.declared.pairs.Node.TheVariants as taken
+use Rattle.model_lexers.specs.Machine.{past}
+use Rattle.model_scanner.specs.declared.level.Indent.{Indent}
+use Rattle.model_scanner.specs.State.{Key, Held, ScannerState}
+use Rattle.model_scanner.specs.Keys.{cleared, must_be_key, stale, top_needs_block_end}
+use Rattle.model_scanner.specs.Indents.{level, unroll_indent, without_open}
+use Rattle.model_scanner.specs.Space.{skip_to_next_token}
+use Rattle.model_scanner.specs.Fetch.{fetch, fetch_next}
+use Rattle.proof_lexers.specs.HeaderEnds.{along}
+use Rattle.yaml_scanner.specs.declared.fetcher.Fetcher.{Fetcher}
+use Rattle.yaml_scanner_state.specs.ImplicitKeys.{seen, no_implicit}
+use Rattle.yaml_scanner_state.specs.Levels.{Columns, ends_open, lone_open}
+use Rattle.yaml_scanner.specs.Awaits.{Stands, AwaitsNode}
+use Rattle.yaml_scanner.specs.Fetched.{Fetched, once, twice, RunsTwice, fetch_rest, with_key, with_line}
+use Rattle.yaml_scanner.specs.Follows.{Follows}
+use Rattle.yaml_scanner.specs.Shape.{held, state, Does}
+use Rattle.yaml_scanner.specs.Work.{Fetches}
+use Rattle.yaml_scanner.proofs.DoesLemmas.{Reads-map, Reads-along, does_then}
+use Rattle.yaml_scanner.proofs.FollowLemmas.{fetched_on}
+use Rattle.yaml_scanner.proofs.PairTexts.{same_place, along_is}
+use Rattle.yaml_scanner.proofs.PairFetches.{in_mapping}
+use Rattle.yaml_scanner.proofs.PairFollows.{keys_split, seen_free, levels_split, fetched_twice}
+use Rattle.yaml_scanner.proofs.NodeFetches.{before, key_runs, line_runs}
+
+-- ---- levels
+
+-- the innermost level is a block collection
+block_rest : (i : ℕ) (ds : List Indent) → top_needs_block_end ds ≡ true → (ts : List Token) → without_open i ds ts ≡ record { indent = i; indents = ds; tokens = ts }
+unfolding without_open
+block_rest i [] top ts = absurd cc
+block_rest i (d ∷ ds) top ts = rw top refl
+
+block_closed : (ds : List Indent) → top_needs_block_end ds ≡ true → ends_open ds ≡ false
+block_closed [] top = absurd cc
+block_closed (d ∷ ds) top = rw top refl
+
+-- left of the column, a scalar may stand there
+pub stands_deeper : (col : ℕ) (l : Columns) → top_needs_block_end l.indents ≡ true → l.indent < col + 1 → Stands col l l.indent
+stands_deeper col l top left = record {
+  outer = l;
+  rest = block_rest l.indent l.indents top;
+  shallow = omega (arith, left);
+  deep = omega (arith, left);
+  block = block_closed l.indents top;
+  there = λ e. absurd (omega (arith, left, e));
+  low = λ _. (omega arith, rw (ne_eqb l.indent (col + 1) (λ e. omega (arith, left, e))) refl);
+}
+
+-- at the column, only a key
+pub stands_there : (col : ℕ) (l : Columns) → top_needs_block_end l.indents ≡ true → l.indent ≤ col + 1 → Stands col l 0
+stands_there col l top low = record {
+  outer = l;
+  rest = block_rest l.indent l.indents top;
+  shallow = low;
+  deep = low;
+  block = block_closed l.indents top;
+  there = λ _. top;
+  low = λ h. absurd (omega (arith, h));
+}
+
+-- outside all collections
+pub stands_outside : (col : ℕ) (l : Columns) → l.indents ≡ [] → l.indent < col + 1 → Stands col l 0
+unfolding without_open
+stands_outside col l none left = record {
+  outer = l;
+  rest = λ ts. rw none (by l.indent ts);
+  shallow = omega (arith, left);
+  deep = omega (arith, left);
+  block = rw none refl;
+  there = λ e. absurd (omega (arith, left, e));
+  low = λ h. absurd (omega (arith, h));
+}
+  where
+    by : (i : ℕ) (ts : List Token) → without_open i [] ts ≡ record { indent = i; indents = []; tokens = ts }
+    by i ts = refl
+
+-- inside a level that opens no collection
+pub stands_open : (col limit : ℕ) (l : Columns) → lone_open l.indents ≡ Some limit → l.indent ≤ col + 1 → limit < col + 1 → Stands col l limit
+unfolding without_open
+stands_open col limit l lone low left =
+    let s = levels_split l.indents limit lone in
+    record {
+      outer = record { indent = limit; indents = s.0 };
+      rest = λ ts. ap (λ ds. without_open l.indent ds ts) s.1 ∙ by s.0 ts ∙ block_rest limit s.0 s.2 ts;
+      shallow = low;
+      deep = omega (arith, left);
+      block = block_closed s.0 s.2;
+      there = λ e. absurd (omega (arith, left, e));
+      low = λ _. (omega arith, ap (λ ds. (l.indent == col + 1) && top_needs_block_end ds) s.1 ∙ no_top (l.indent == col + 1));
+    }
+  where
+    by : (ds : List Indent) (ts : List Token) → without_open l.indent (level limit false ∷ ds) ts ≡ without_open limit ds ts
+    by ds ts = refl
+
+    no_top : (b : Bool) → (b && false) ≡ false
+    no_top true = refl
+    no_top false = refl
+
+-- ---- a node
+
+pub took_key : {T : Type 0} (limit : ℕ) (x w : Reading T) (o : Option Node) (n : Node) (key : List ℕ) → o ≡ Some n → n ≡ taken.Key key → IfSome o (λ n. TakesNode limit x w n) → TakesKey x w key
+took_key limit x w o n key e f h = subst (λ n. TakesNode limit x w n) f (subst (λ o. IfSome o (λ n. TakesNode limit x w n)) e h)
+
+pub took_line : {T : Type 0} (limit : ℕ) (x w : Reading T) (o : Option Node) (n : Node) (text : List ℕ) → o ≡ Some n → n ≡ taken.Scalar text → IfSome o (λ n. TakesNode limit x w n) → TakesLine [] limit x w text
+took_line limit x w o n text e f h = subst (λ n. TakesNode limit x w n) f (subst (λ o. IfSome o (λ n. TakesNode limit x w n)) e h)
+
+module _ {T : Type 0} (x y : Fetcher T) (w : Reading T) (limit : ℕ) (z : AwaitsNode x limit) (started : x.started ≡ true) (going : x.tokens.ended ≡ false) (window : y.window ≡ w) where
+  abbrev p : Position
+  p = position_of x.window
+
+  abbrev o : Columns
+  o = z.stands.outer
+
+  module _ (ks : List (Option Key)) (free : cleared ks ≡ ks) (keys : seen x.tokens.given x.keys ≡ None ∷ ks) where
+    abbrev here : Held
+    here = before p x.tokens.all ks x.levels.indent x.levels.indents o.indent o.indents x.leading x.adjacent_value_at free z.stands.shallow z.stands.rest z.stands.deep z.stands.block z.stands.there
+
+    old : held x ≡ here
+    old = rw (z.flow, z.allowed, started, going, keys) refl
+
+    key_steps : (key : List ℕ) → TakesKey x.window w key → held y ≡ with_key p key (held (record x { window = w })) → Fetched fetch_rest x y
+    key_steps key t new =
+        let after_is : position_of w ≡ past (along key p) = same_place t.at t.line t.col ∙ sym (ap past (along_is key p)) in
+        let now : held y ≡ with_key p key (record (held x) { position = past (along key p) }) = new ∙ ap (λ q. with_key p key (record (held x) { position = q })) after_is in
+        twice (Reads-along _ _ _ _ refl window (Reads-map _ _ t.reads (λ a b r.
+        subst (λ h. RunsTwice fetch_rest (record { rest = a; held = held x }) (record { rest = b; held = h })) (sym now)
+        (subst (λ h. RunsTwice fetch_rest (record { rest = a; held = h }) (record { rest = b; held = with_key p key (record h { position = past (along key p) }) })) (sym old)
+        (subst (λ r. RunsTwice fetch_rest (record { rest = r; held = here }) (record { rest = b; held = with_key p key (record here { position = past (along key p) }) })) (sym (r.0))
+        (key_runs p x.tokens.all ks x.levels.indent x.levels.indents o.indent o.indents x.leading x.adjacent_value_at free z.stands.shallow z.stands.rest z.stands.deep z.stands.block z.stands.there key b t.simple t.short r.1))))))
+
+    need_not : ((x.levels.indent == p.col + 1) && top_needs_block_end x.levels.indents) ≡ false → must_be_key here ≡ false
+    unfolding must_be_key
+    need_not e = e
+
+    line_steps : (text : List ℕ) → TakesLine [] limit x.window w text → held y ≡ with_line p text (held (record x { window = w })) → Fetched fetch_rest x y
+    line_steps text t new =
+        let low = t.low in
+        let fits = z.stands.low (omega (arith, low)) in
+        let few = fits.0 in
+        let moved = t.at in
+        let after_is : position_of w ≡ record { index = p.index + length text + 1 + t.spaces; line = p.line + 1; col = t.spaces } = same_place (omega (arith, moved)) t.line t.col in
+        let now : held y ≡ with_line p text (record (held x) { position = record { index = p.index + length text + 1 + t.spaces; line = p.line + 1; col = t.spaces } }) = new ∙ ap (λ q. with_line p text (record (held x) { position = q })) after_is in
+        once (record {
+          runs = Reads-along _ _ _ _ refl window (Reads-map _ _ t.reads (λ a b r.
+              subst (λ h. fetch_rest (record { rest = a; held = held x }) ≡ Ok (record { rest = b; held = h })) (sym now)
+              (subst (λ h. fetch_rest (record { rest = a; held = h }) ≡ Ok (record { rest = b; held = with_line p text (record h { position = record { index = p.index + length text + 1 + t.spaces; line = p.line + 1; col = t.spaces } }) })) (sym old)
+              (subst (λ r. fetch_rest (record { rest = r; held = here }) ≡ Ok (record { rest = b; held = with_line p text (record here { position = record { index = p.index + length text + 1 + t.spaces; line = p.line + 1; col = t.spaces } }) })) (sym (r.0))
+              (line_runs p x.tokens.all ks x.levels.indent x.levels.indents o.indent o.indents x.leading x.adjacent_value_at free z.stands.shallow z.stands.rest z.stands.deep z.stands.block z.stands.there text t.spaces b t.simple r.1 (omega (arith, low, few)) (need_not fits.1))))));
+        })
+
+  pub key_does : (key : List ℕ) → TakesKey x.window w key → held y ≡ with_key p key (held (record x { window = w })) → Fetched fetch_rest x y
+  key_does key t new =
+      let split = keys_split x.keys z.free z.level in
+      key_steps (seen x.tokens.given split.0) (seen_free x.tokens.given split.0 split.2) (ap (seen x.tokens.given) split.1) key t new
+
+  pub line_does : (text : List ℕ) → TakesLine [] limit x.window w text → held y ≡ with_line p text (held (record x { window = w })) → Fetched fetch_rest x y
+  line_does text t new =
+      let split = keys_split x.keys z.free z.level in
+      line_steps (seen x.tokens.given split.0) (seen_free x.tokens.given split.0 split.2) (ap (seen x.tokens.given) split.1) text t new
+
+-- ---- a fetch
+
+rest_of : (a b d : List ℕ) (h u v w x : Held) (n : ℕ) → skip_to_next_token (record { rest = a; held = h }) ≡ Ok (record { rest = b; held = u }) → stale u ≡ Ok v → n ≡ v.position.col + 1 → w ≡ unroll_indent n v
+    → fetch_rest (record { rest = b; held = w }) ≡ Ok (record { rest = d; held = x }) → fetch_next (record { rest = a; held = h }) ≡ Ok (record { rest = d; held = x })
+unfolding fetch_next fetch_rest
+rest_of a b d h u v w x n e f g i j = let j' = rw (i, g) at j in rw (e, f) j'
+
+-- after what stands before a token
+pub fetched_rest : {T : Type 0} (x y1 v x2 y : Fetcher T) (n : ℕ) → x2.window ≡ y1.window → Does skip_to_next_token x y1 → stale (held y1) ≡ Ok (held v) → n ≡ (held v).position.col + 1 → held x2 ≡ unroll_indent n (held v) → Fetched fetch_rest x2 y → Fetched fetch_next x y
+fetched_rest x y1 v x2 y n w skip fresh col ends (once d) = once (does_then x x y1 x2 y y refl w refl skip d (λ a b d p q. rest_of a b d (held x) (held y1) (held v) (held x2) (held y) n p fresh col ends q))
+fetched_rest x y1 v x2 y n w skip fresh col ends (twice r) =
+    twice (Reads-then _ _ _ skip.runs (Reads-along _ _ _ _ (sym w) refl r) (λ a b d p q.
+    record { between = q.between; first = rest_of a b q.between.rest (held x) (held y1) (held v) (held x2) q.between.held n p fresh col ends q.first; going = q.going; second = q.second }))
+
+-- one step is here what another is
+pub fetched_as : {T X E : Type 0} (f h : ScannerState → Result ScannerState Fault) (x y : Fetcher T) (r : Result X E) → Sees x.window (λ a. h (state a x) ≡ f (state a x)) → OnOk r (Fetched f x y) → OnOk r (Fetched h x y)
+fetched_as f h x y (Err e) same d = tt
+fetched_as f h x y (Ok v) same d = by d
+  where
+    by : Fetched f x y → Fetched h x y
+    by (once d) = once (record { runs = Reads-saw _ _ same d.runs (λ a b p q. p ∙ q) })
+    by (twice r) = twice (Reads-saw _ _ same r (λ a b p q. record { between = q.between; first = p ∙ q.first; going = q.going; second = q.second }))
+
+-- one fetch more, or two
+pub fetched_some : {T : Type 0} (x y : Fetcher T) → x.kept ≡ None → x.tokens.ended ≡ false → Follows x → Fetched fetch x y → Fetches x y → (y.tokens.ended ≡ true → y.window.done ≡ true) → Follows y
+fetched_some x y k g f (once d) m n = fetched_on x y k g f d m n
+fetched_some x y k g f (twice r) m n = fetched_twice x y k g f r m n

@@ -1,0 +1,46 @@
+-- What one fetch of the code does: one of the model, or two of which the first does not end the stream.
+use Rattle.std.specs.Prelude.{◌≡◌, ◌+◌, ◌-◌, List, [], ◌∷◌, ◌++◌, ℕ, true, false, Result, Ok, None}
+use Rattle.defs_text.specs.Position.{Position}
+use Rattle.defs_token.specs.Token.{Tok, Style}
+use Rattle.yaml_chars.specs.Reading.{Reads}
+use Rattle.yaml_tokens.specs.declared.problem.Fault.{Fault}
+use Rattle.model_scanner.specs.State.{Held, ScannerState, ◌>>=◌, try_held, push}
+use Rattle.model_scanner.specs.Keys.{stale}
+use Rattle.model_scanner.specs.Indents.{unroll_non_block_indents, roll_indent, roll_one_col_indent}
+use Rattle.model_scanner.specs.Fetch.{fetch, fetch_here}
+use Rattle.yaml_scanner.specs.declared.fetcher.Fetcher.{Fetcher}
+use Rattle.yaml_scanner.specs.Shape.{state, Does}
+
+-- a step, and then a fetch
+pub record RunsTwice (f : ScannerState → Result ScannerState Fault) (t u : ScannerState) : Type 0 where
+  pub between : ScannerState
+  pub first : f t ≡ Ok between
+  pub going : between.held.ended ≡ false
+  pub second : fetch between ≡ Ok u
+
+-- two fetches
+abbrev pub FetchesTwice : ScannerState → ScannerState → Type 0
+FetchesTwice t u = RunsTwice fetch t u
+
+-- Whatever the text is, the model's step takes the old state to the new one, or the step and a fetch do.
+pub data Fetched {T : Type 0} (f : ScannerState → Result ScannerState Fault) (old new : Fetcher T) : Type 0 where
+  once : Does f old new → Fetched f old new
+  twice : Reads old.window new.window (λ a b. RunsTwice f (state a old) (state b new)) → Fetched f old new
+
+-- the last steps of a fetch: the token that stands here, after what is before it
+unfoldable pub fetch_rest : ScannerState → Result ScannerState Fault
+fetch_rest t = fetch_here t >>= λ u. try_held stale u
+
+-- the position before another on its line
+abbrev pub before : Position → Position
+before p = record { index = p.index - 1; line = p.line; col = p.col - 1 }
+
+-- What is held after the `:` of a key that began at a position: the `:` stands before the present one.
+abbrev pub with_key : Position → List ℕ → Held → Held
+with_key p key s =
+    let u = roll_one_col_indent (roll_indent p.col None Tok.block_mapping_start (before s.position) (unroll_non_block_indents s)) in
+    push (before s.position) Tok.value (push p (Tok.scalar Style.plain key) (push p Tok.key (record u { key_allowed = false; leading = false })))
+
+-- what is held after a scalar that began at a position and the break after it
+abbrev pub with_line : Position → List ℕ → Held → Held
+with_line p text s = push p (Tok.scalar Style.plain text) (record (unroll_non_block_indents s) { leading = true })

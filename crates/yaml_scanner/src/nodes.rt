@@ -1,0 +1,113 @@
+//! Keys of block mappings, and other plain scalars of one line, whose characters are known to come. Each is fetched at once,
+//! and a key with the `:` after it.
+ghost use Rattle.std.specs.Prelude.{◌≡◌, OnOk, IfOk, IfErr, IfSome, true, false};
+ghost use Rattle.defs_text.specs.Text.{string_chars};
+ghost use Rattle.defs_token.specs.Token.{Style, Tok};
+ghost use Rattle.model_scanner.specs.State.{push};
+ghost use Rattle.model_scanner.specs.Indents.{unroll_non_block_indents};
+ghost use Rattle.yaml_chars.specs.Reading.{Reads};
+ghost use Rattle.yaml_scanner.specs.Awaits.{AwaitsNode, Stands};
+ghost use Rattle.yaml_scanner.specs.Fetched.{Fetched, fetch_rest, with_key, with_line};
+ghost use Rattle.yaml_scanner.specs.Shape.{held};
+ghost use Rattle.yaml_scanner.specs.Work.{Fetches, Moves};
+
+use crate::fetcher::{Failed, Fetcher};
+use yaml_chars::{Characters, Marker, Node};
+use yaml_scanner_state::Collection;
+use yaml_tokens::{Fault, TScalarStyle, TokenType};
+
+impl<T: Characters> Fetcher<T> {
+    /// Where the levels let a key or another scalar begin here: the next line ends the scalar if it begins with fewer spaces than
+    /// this. It is 0 where only a key may begin, or where no collection is open.
+    #[tactic(auto, using(crate::proofs::NodeFollows::stands_deeper, crate::proofs::NodeFollows::stands_there, crate::proofs::NodeFollows::stands_outside, crate::proofs::NodeFollows::stands_open))]
+    fn node_limit(&self) -> Option<usize>
+        ensures { IfSome result (λ limit. Stands self.now.window.col self.now.levels limit) }
+    {
+        let here = self.window.mark().col() + 1;
+        let indent = self.levels.indent();
+        if indent > here {
+            return None;
+        }
+        if self.levels.needs_block_end() {
+            return Some(if indent < here { indent } else { 0 });
+        }
+        if self.levels.is_empty() {
+            return if indent < here { Some(0) } else { None };
+        }
+        let outer = self.levels.lone_open()?;
+        if outer < here { Some(outer) } else { None }
+    }
+
+    /// The same where nothing is a key yet, and one may begin here.
+    fn awaits_node(&self) -> Option<usize>
+        ensures { IfSome result (λ limit. AwaitsNode self.now limit) }
+    {
+        if !self.key_allowed || self.in_flow() || !self.keys.has_none() {
+            return None;
+        }
+        self.node_limit()
+    }
+
+    /// Fetches a key that was read, with its `:`, and its mapping's start if the key is the first.
+    fn push_key(&mut self, mark: Marker, key: String) -> Result<(), Failed>
+        ensures held { OnOk result (held self.new ≡ with_key mark (string_chars key) (held self.old)) }
+        ensures err { IfErr result (λ _. self.new.fault ≡ Fault.OutOfMemory) }
+        ensures moves { Moves self.old self.new 6 0 }
+        ensures window { self.new.window ≡ self.old.window }
+    {
+        let colon = self.window.mark().back();
+        self.unroll_non_block_indents();
+        self.roll_indent(mark.col(), None, Collection::Mapping, colon)?;
+        self.roll_one_col_indent()?;
+        self.key_allowed = false;
+        self.leading = false;
+        self.push_token(mark, TokenType::Key)?;
+        self.push_token(mark, TokenType::Scalar(TScalarStyle::Plain, key))?;
+        self.push_token(colon, TokenType::Value)?;
+        Ok(())
+    }
+
+    /// Fetches a scalar that was read, with the break after it.
+    fn push_line(&mut self, mark: Marker, text: String) -> Result<(), Failed>
+        ensures held { OnOk result (held self.new ≡ with_line mark (string_chars text) (held self.old)) }
+        ensures err { IfErr result (λ _. self.new.fault ≡ Fault.OutOfMemory) }
+        ensures moves { Moves self.old self.new 6 0 }
+        ensures window { self.new.window ≡ self.old.window }
+    {
+        self.unroll_non_block_indents();
+        self.leading = true;
+        self.push_token(mark, TokenType::Scalar(TScalarStyle::Plain, text))?;
+        Ok(())
+    }
+
+    /// Fetches a key with its `:`, or another plain scalar of one line, where its characters are known to come. The result is
+    /// whether it did; where not, nothing changed.
+    #[inline(always)]
+    pub(crate) fn fetch_node(&mut self) -> Result<bool, Failed>
+        requires started { self.old.started ≡ true }
+        requires going { self.old.tokens.ended ≡ false }
+        ensures does { IfOk result (λ fetched. fetched ≡ true → Fetched fetch_rest self.old self.new) }
+        ensures none { IfOk result (λ fetched. fetched ≡ false → self.new ≡ self.old) }
+        ensures memory { IfErr result (λ _. self.new.fault ≡ Fault.OutOfMemory) }
+        ensures reads { IfErr result (λ _. Reads self.old.window self.new.window (λ _ _. Unit {0})) }
+        ensures moves { IfOk result (λ fetched. fetched ≡ true → Moves self.old self.new 6 16) }
+        ensures run { Fetches self.old self.new }
+    {
+        let Some(limit) = self.awaits_node() else {
+            return Ok(false);
+        };
+        let mark = self.window.mark();
+        match self.window.take_node(self.alloc, limit) {
+            Ok(Some(Node::Key(key))) => {
+                self.push_key(mark, key.into_string())?;
+                Ok(true)
+            }
+            Ok(Some(Node::Scalar(text))) => {
+                self.push_line(mark, text.into_string())?;
+                Ok(true)
+            }
+            Ok(None) => Ok(false),
+            Err(_) => Err(self.fail(Fault::OutOfMemory)),
+        }
+    }
+}
