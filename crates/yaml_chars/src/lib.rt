@@ -17,7 +17,7 @@ pub mod window;
 
 pub use characters::{Characters, TextInMemory};
 pub use marker::Marker;
-pub use pairs::Node;
+pub use pairs::{Node, opens_simple};
 pub use run::Run;
 pub use text::Text;
 pub use window::Window;

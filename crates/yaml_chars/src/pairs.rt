@@ -74,10 +74,10 @@ fn is_simple(c: char) -> bool
     c > '\x1f' && c < '\x7f' && c != ':' && c != '#'
 }
 
-/// An ASCII letter or digit, or one of `_ / $ ( ~`.
+/// Whether a simple text may begin with the character: an ASCII letter or digit, or one of `_ / $ ( ~`.
 #[inline(always)]
 #[tactic(auto, unfolding(crate::specs::Pairs::opens_simple))]
-fn opens_simple(c: char) -> bool
+pub fn opens_simple(c: char) -> bool
     ensures { result ≡ opens_simple c }
 {
     is_alphanumeric(c) || matches!(c, '_' | '/' | '$' | '(' | '~')

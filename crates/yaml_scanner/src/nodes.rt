@@ -1,6 +1,6 @@
 //! Keys of block mappings, and other plain scalars of one line, whose characters are known to come. Each is fetched at once,
 //! and a key with the `:` after it.
-ghost use Rattle.std.specs.Prelude.{◌≡◌, OnOk, IfOk, IfErr, IfSome, true, false};
+ghost use Rattle.std.specs.Prelude.{◌≡◌, ◌<◌, OnOk, IfOk, IfErr, IfSome, true, false};
 ghost use Rattle.defs_text.specs.Text.{string_chars};
 ghost use Rattle.defs_token.specs.Token.{Style, Tok};
 ghost use Rattle.model_scanner.specs.State.{push};
@@ -12,7 +12,7 @@ ghost use Rattle.yaml_scanner.specs.Shape.{held};
 ghost use Rattle.yaml_scanner.specs.Work.{Fetches, Moves};
 
 use crate::fetcher::{Failed, Fetcher};
-use yaml_chars::{Characters, Marker, Node};
+use yaml_chars::{Characters, Marker, Node, opens_simple};
 use yaml_scanner_state::Collection;
 use yaml_tokens::{Fault, TScalarStyle, TokenType};
 
@@ -38,11 +38,15 @@ impl<T: Characters> Fetcher<T> {
         if outer < here { Some(outer) } else { None }
     }
 
-    /// The same where nothing is a key yet, and one may begin here.
+    /// The same where nothing is a key yet, one may begin here, and so may a simple text.
     fn awaits_node(&self) -> Option<usize>
+        requires { 0 < self.now.window.ahead }
         ensures { IfSome result (λ limit. AwaitsNode self.now limit) }
     {
-        if !self.key_allowed || self.in_flow() || !self.keys.has_none() {
+        if !self.key_allowed || !opens_simple(self.window.ch()) {
+            return None;
+        }
+        if self.in_flow() || !self.keys.has_none() {
             return None;
         }
         self.node_limit()
@@ -86,6 +90,7 @@ impl<T: Characters> Fetcher<T> {
     pub(crate) fn fetch_node(&mut self) -> Result<bool, Failed>
         requires started { self.old.started ≡ true }
         requires going { self.old.tokens.ended ≡ false }
+        requires ahead { 0 < self.old.window.ahead }
         ensures does { IfOk result (λ fetched. fetched ≡ true → Fetched fetch_rest self.old self.new) }
         ensures none { IfOk result (λ fetched. fetched ≡ false → self.new ≡ self.old) }
         ensures memory { IfErr result (λ _. self.new.fault ≡ Fault.OutOfMemory) }
