@@ -7,13 +7,14 @@ use std::process::Abort;
 use std::test::Fail;
 use test_rows::Report;
 use yaml_chars::{Characters, Marker, TextInMemory};
+use yaml_parser::{Event, Parser};
 use yaml_scanner::{PlainNode, Scanner};
 use yaml_tokens::{TScalarStyle, TokenType};
 
 /// What it shows, a text, and how many of its keys and values are handed out at once.
 type Row = (&'static str, &'static str, &'static str);
 
-const ROWS: [Row; 12] = [
+const ROWS: [Row; 13] = [
     ("pairs", "a: b\nc: d\ne: f\n", "2 keys, 2 values"),
     (
         "a mapping in a mapping",
@@ -46,6 +47,11 @@ const ROWS: [Row; 12] = [
         "3 keys, 1 values",
     ),
     ("a word for a key", "a: b\nc\nd: e\n", "0 keys, 1 values"),
+    (
+        "a key after brackets that may be one",
+        "a:\n- [? b]\ncd: e\nf: g\n",
+        "1 keys, 1 values",
+    ),
 ];
 
 // The functions below have no contract, so that a row of calls makes no long proof.
@@ -133,6 +139,30 @@ fn at_once<S: Characters>(alloc: Global, source: S) -> Result<(String, String), 
     Ok((out, format!(in alloc; "{keys} keys, {values} values")?))
 }
 
+// The events of a text with their positions, and its fault.
+fn events<S: Characters>(alloc: Global, source: S) -> Result<String, Fail>
+    requires can { S.can_next source }
+    requires finite { IsFinite (S.remaining source) }
+    requires few { size (S.remaining source) < 2 ^ 63 }
+{
+    let mut out = String::new(alloc);
+    let mut parser = Parser::new(alloc, source);
+    for _ in 0..u64::MAX {
+        match parser.next_token() {
+            Ok((Event::StreamEnd, _)) => break,
+            Ok((event, mark)) => {
+                let word = format!(in alloc; "{event:?} {} {}, ", mark.line(), mark.col())?;
+                out.push_str(word.as_str())?;
+            }
+            Err(fault) => {
+                out.push_str(format!(in alloc; "{fault}")?.as_str())?;
+                break;
+            }
+        }
+    }
+    Ok(out)
+}
+
 // Each text has the same tokens in both ways, and where its characters are asked for one by one. All rows that fail are told.
 fn rows_hold(rt: &(impl Abort + AllocGlobal), rows: &[Row]) -> Result<(), Fail> {
     let mut report = Report::new(rt.alloc());
@@ -142,6 +172,9 @@ fn rows_hold(rt: &(impl Abort + AllocGlobal), rows: &[Row]) -> Result<(), Fail> 
         let asked_for = alone(rt.alloc(), text.chars())?;
         report.compare(name, "scanned", tokens.as_str(), one_by_one.as_str())?;
         report.compare(name, "asked for", asked_for.as_str(), one_by_one.as_str())?;
+        let parsed = events(rt.alloc(), TextInMemory::new(text))?;
+        let asked_for = events(rt.alloc(), text.chars())?;
+        report.compare(name, "parsed", parsed.as_str(), asked_for.as_str())?;
         report.compare(name, "counted", counts.as_str(), want)?;
     }
     assert!(rt; report.is_empty(), "{report}");

@@ -74,7 +74,7 @@ fn is_simple(c: char) -> bool
     c > '\x1f' && c < '\x7f' && c != ':' && c != '#'
 }
 
-/// Whether a simple text may begin with the character: an ASCII letter or digit, or one of `_ / $ ( ~`.
+/// Whether a simple text (see [`Window::take_key`]) may begin with the character: an ASCII letter or digit, or one of `_ / $ ( ~`.
 #[inline(always)]
 #[tactic(auto, unfolding(crate::specs::Pairs::opens_simple))]
 pub fn opens_simple(c: char) -> bool

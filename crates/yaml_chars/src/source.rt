@@ -175,7 +175,7 @@ impl<T: Characters> Source<T> {
         count
     }
 
-    /// Takes a part of a line `key: value` that is known to come, with the character after it. Its text begins with the
+    /// Takes a key, a value or another scalar of a line that is known to come, with the character after it. Its text begins with the
     /// characters that a window holds. An `Err` changes nothing.
     #[inline(always)]
     pub(crate) fn part_on(

@@ -248,6 +248,7 @@ fn read_lines<T: Characters>(
 {
     'lines: loop {
         read_indent(window, column, block)?;
+        // A document marker has three characters and an end, and stands only at a line's first column.
         window.lookahead(if column == 0 { 4 } else { 1 });
         if !begins(window, column) {
             return Ok(());

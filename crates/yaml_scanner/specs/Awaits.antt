@@ -58,7 +58,7 @@ pub record Stands (col : ℕ) (l : Columns) (limit : ℕ) : Type 0 where
   pub there : outer.indent ≡ col + 1 → top_needs_block_end outer.indents ≡ true
   pub low : 0 < limit → (limit ≤ outer.indent) × (((l.indent == col + 1) && top_needs_block_end l.indents) ≡ false)
 
--- outside flow, where nothing is a key yet, and one may begin
+-- A node may begin here, outside flow: a key may begin, and no token before may still become one.
 pub record AwaitsNode {T : Type 0} (s : Fetcher T) (limit : ℕ) : Type 0 where
   pub flow : s.flow ≡ []
   pub allowed : s.key_allowed ≡ true

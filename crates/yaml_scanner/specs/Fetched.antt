@@ -27,7 +27,7 @@ pub data Fetched {T : Type 0} (f : ScannerState → Result ScannerState Fault) (
   once : Does f old new → Fetched f old new
   twice : Reads old.window new.window (λ a b. RunsTwice f (state a old) (state b new)) → Fetched f old new
 
--- the last steps of a fetch: the token that stands here, after what is before it
+-- the last steps of a fetch: the token that stands here, and then the keys that are given up
 unfoldable pub fetch_rest : ScannerState → Result ScannerState Fault
 fetch_rest t = fetch_here t >>= λ u. try_held stale u
 

@@ -59,7 +59,8 @@ impl<T: Characters> Fetcher<T> {
         self.fetch_next()
     }
 
-    /// Skips to the next token, ends the block collections that end there, and fetches the token. A key comes with its `:`.
+    /// Skips to the next token, ends the block collections that end there, and fetches the token; with a key that is taken at
+    /// once, its `:` too (see `fetch_node`).
     fn fetch_next(&mut self) -> Result<(), Failed>
         requires started { self.old.started ≡ true }
         requires going { self.old.tokens.ended ≡ false }
@@ -72,6 +73,7 @@ impl<T: Characters> Fetcher<T> {
         if let Err(fault) = self.skip_to_next_token() {
             return Err(fault);
         }
+        let free = self.keys.has_none();
         if let Err(fault) = self.drop_stale() {
             return Err(fault);
         }
@@ -79,7 +81,7 @@ impl<T: Characters> Fetcher<T> {
         if let Err(fault) = self.unroll_indent(limit) {
             return Err(fault);
         }
-        match self.fetch_node() {
+        match self.fetch_node(free) {
             Ok(true) => return Ok(()),
             Ok(false) => {}
             Err(fault) => return Err(fault),

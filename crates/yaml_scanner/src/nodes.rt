@@ -18,7 +18,8 @@ use yaml_tokens::{Fault, TScalarStyle, TokenType};
 
 impl<T: Characters> Fetcher<T> {
     /// Where the levels let a key or another scalar begin here: the next line ends the scalar if it begins with fewer spaces than
-    /// this. It is 0 where only a key may begin, or where no collection is open.
+    /// this. It is 0 where only a key may begin; so too where no collection is open, since no line ends a scalar there by its
+    /// indentation.
     #[tactic(auto, using(crate::proofs::NodeFollows::stands_deeper, crate::proofs::NodeFollows::stands_there, crate::proofs::NodeFollows::stands_outside, crate::proofs::NodeFollows::stands_open))]
     fn node_limit(&self) -> Option<usize>
         ensures { IfSome result (λ limit. Stands self.now.window.col self.now.levels limit) }
@@ -38,7 +39,8 @@ impl<T: Characters> Fetcher<T> {
         if outer < here { Some(outer) } else { None }
     }
 
-    /// The same where nothing is a key yet, one may begin here, and so may a simple text.
+    /// What `node_limit` gives, where a key may begin here, no token before may still become one, and the next character is one
+    /// that a simple text may begin with.
     fn awaits_node(&self) -> Option<usize>
         requires { 0 < self.now.window.ahead }
         ensures { IfSome result (λ limit. AwaitsNode self.now limit) }
@@ -52,7 +54,8 @@ impl<T: Characters> Fetcher<T> {
         self.node_limit()
     }
 
-    /// Fetches a key that was read, with its `:`, and its mapping's start if the key is the first.
+    /// Fetches a key that was read, with its `:`, and its mapping's start if the key is the first. The start has the position
+    /// of the `:`.
     fn push_key(&mut self, mark: Marker, key: String) -> Result<(), Failed>
         ensures held { OnOk result (held self.new ≡ with_key mark (string_chars key) (held self.old)) }
         ensures err { IfErr result (λ _. self.new.fault ≡ Fault.OutOfMemory) }
@@ -84,10 +87,11 @@ impl<T: Characters> Fetcher<T> {
         Ok(())
     }
 
-    /// Fetches a key with its `:`, or another plain scalar of one line, where its characters are known to come. The result is
-    /// whether it did; where not, nothing changed.
+    /// Fetches a key with its `:`, or another plain scalar of one line, where its characters are known to come and no token
+    /// before this fetch might have become a key (`free`): else the text is read no further than that token needs. The
+    /// result is whether it did; where not, nothing changed.
     #[inline(always)]
-    pub(crate) fn fetch_node(&mut self) -> Result<bool, Failed>
+    pub(crate) fn fetch_node(&mut self, free: bool) -> Result<bool, Failed>
         requires started { self.old.started ≡ true }
         requires going { self.old.tokens.ended ≡ false }
         requires ahead { 0 < self.old.window.ahead }
@@ -98,6 +102,9 @@ impl<T: Characters> Fetcher<T> {
         ensures moves { IfOk result (λ fetched. fetched ≡ true → Moves self.old self.new 6 16) }
         ensures run { Fetches self.old self.new }
     {
+        if !free {
+            return Ok(false);
+        }
         let Some(limit) = self.awaits_node() else {
             return Ok(false);
         };
