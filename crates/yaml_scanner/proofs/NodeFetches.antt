@@ -1,16 +1,15 @@
 -- What the model does at a key or another plain scalar of one line that is a simple text.
-use Rattle.std.proofs.Common.{◌≡◌, ℕ, ◌+◌, ◌-◌, ◌<◌, ◌≤◌, List, [], ◌∷◌, ◌++◌, Bool, true, false, ◌||◌, ◌&&◌, ◌==◌, Option, Some, None, Ok, refl, ap, sym, ◌∙◌, append_assoc, nat_lt, nat_le, arith, length, map, slice_index, if◌then◌else◌}
-use Rattle.std.specs.List.{list_any, insert}
-use Rattle.std.proofs.lemmas.Bool.{le-ltb, lt-ltb, ltb-true, ltb-false}
+use Rattle.std.proofs.Common.{◌≡◌, ℕ, ◌+◌, ◌<◌, ◌≤◌, List, [], ◌∷◌, ◌++◌, Bool, true, false, ◌||◌, ◌&&◌, ◌==◌, Option, Some, None, Ok, refl, ap, ◌∙◌, append_assoc, nat_lt, nat_le, arith, length, slice_index, if◌then◌else◌}
+use Rattle.std.specs.List.{insert}
+use Rattle.std.proofs.lemmas.Bool.{lt-ltb, ltb-false}
 use Rattle.defs_text.specs.Position.{Position}
 use Rattle.yaml_chars.specs.Class.{is_break, is_blank, is_blank_or_breakz}
 use Rattle.defs_token.specs.Token.{Tok, Style, Token}
 use Rattle.model_lexers.specs.Machine.{past}
-use Rattle.model_lexers.specs.Plain.{plain}
 use Rattle.model_scanner.specs.declared.level.Indent.{Indent}
-use Rattle.model_scanner.specs.State.{Key, Held, ScannerState, token, ◌>>=◌, try_held, push}
-use Rattle.model_scanner.specs.Keys.{is_far, is_overdue, still, drop_stale, stale, cleared, save_implicit_key, must_be_key, top_needs_block_end}
-use Rattle.model_scanner.specs.Indents.{level, roll_indent, drop_open, drop_open_level, deepen, roll_one_col_indent, in_block, unroll_non_block_indents, without_open}
+use Rattle.model_scanner.specs.State.{Key, Held, token}
+use Rattle.model_scanner.specs.Keys.{is_far, drop_stale, stale, cleared, save_implicit_key, must_be_key, top_needs_block_end}
+use Rattle.model_scanner.specs.Indents.{level, roll_indent, drop_open, drop_open_level, deepen, unroll_non_block_indents, without_open}
 use Rattle.model_scanner.specs.Block.{check_value_space, begin_pair, insert_key, fetch_value}
 use Rattle.model_scanner.specs.Document.{fetch_plain_scalar}
 use Rattle.model_scanner.specs.Fetch.{fetch, fetch_here}
@@ -19,8 +18,8 @@ use Rattle.yaml_scanner_state.specs.Levels.{ends_open}
 use Rattle.yaml_scanner_state.specs.Tokens.{key_tokens}
 use Rattle.yaml_chars.specs.Pairs.{IsSimpleText, indented}
 use Rattle.yaml_scanner.specs.Fetched.{RunsTwice, fetch_rest, before as before_position, with_key, with_line}
-use Rattle.yaml_scanner.proofs.PairTexts.{Opener, Simple, simple_text, same_place, along_is, plain_key, plain_value}
-use Rattle.yaml_scanner.proofs.PairFetches.{at, in_mapping, fetched, none_overdue, none_stale, near_stale, none_end, solid_here, plain_here, value_here, none_deeper, one_deeper, follows_blank, follows_visible, insert_key_token, near_along}
+use Rattle.yaml_scanner.proofs.PairTexts.{Simple, simple_text, same_place, along_is, plain_key, plain_value}
+use Rattle.yaml_scanner.proofs.PairFetches.{at, in_mapping, fetched, none_overdue, none_stale, near_stale, none_end, solid_here, plain_here, value_here, one_deeper, follows_blank, follows_visible, insert_key_token, near_along}
 
 -- ---- levels
 

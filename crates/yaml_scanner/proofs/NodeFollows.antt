@@ -1,10 +1,10 @@
 -- A key or another scalar that was fetched at once, against the model's steps.
-use Rattle.std.proofs.Common.{◌≡◌, ℕ, ◌+◌, ◌-◌, ◌<◌, ◌≤◌, List, [], ◌∷◌, ◌++◌, Bool, true, false, ◌&&◌, ◌==◌, refl, ap, sym, ◌∙◌, arith, Option, Some, None, length, map, subst, Result, Ok, Err, if◌then◌else◌}
+use Rattle.std.proofs.Common.{◌≡◌, ℕ, ◌+◌, ◌<◌, ◌≤◌, List, [], ◌∷◌, Bool, true, false, ◌&&◌, ◌==◌, refl, ap, sym, ◌∙◌, arith, Option, Some, None, length, subst, Result, Ok, Err}
 use Rattle.std.specs.Prelude.{IfSome, OnOk}
 use Rattle.std.proofs.lemmas.Bool.{ne_eqb}
 use Rattle.defs_text.specs.Position.{Position}
 use Rattle.defs_token.specs.Token.{Token}
-use Rattle.yaml_chars.specs.Reading.{Reading, Reads, Sees, position_of}
+use Rattle.yaml_chars.specs.Reading.{Reading, Sees, position_of}
 use Rattle.yaml_chars.proofs.ReadingLemmas.{Reads-then, Reads-saw}
 use Rattle.yaml_tokens.specs.declared.problem.Fault.{Fault}
 use Rattle.yaml_chars.specs.Pairs.{TakesKey, TakesLine, TakesNode}
@@ -19,7 +19,7 @@ use Rattle.model_scanner.specs.Space.{skip_to_next_token}
 use Rattle.model_scanner.specs.Fetch.{fetch, fetch_next}
 use Rattle.proof_lexers.specs.HeaderEnds.{along}
 use Rattle.yaml_scanner.specs.declared.fetcher.Fetcher.{Fetcher}
-use Rattle.yaml_scanner_state.specs.ImplicitKeys.{seen, no_implicit}
+use Rattle.yaml_scanner_state.specs.ImplicitKeys.{seen}
 use Rattle.yaml_scanner_state.specs.Levels.{Columns, ends_open, lone_open}
 use Rattle.yaml_scanner.specs.Awaits.{Stands, AwaitsNode}
 use Rattle.yaml_scanner.specs.Fetched.{Fetched, once, twice, RunsTwice, fetch_rest, with_key, with_line}
@@ -29,7 +29,6 @@ use Rattle.yaml_scanner.specs.Work.{Fetches}
 use Rattle.yaml_scanner.proofs.DoesLemmas.{Reads-map, Reads-along, does_then}
 use Rattle.yaml_scanner.proofs.FollowLemmas.{fetched_on}
 use Rattle.yaml_scanner.proofs.PairTexts.{same_place, along_is}
-use Rattle.yaml_scanner.proofs.PairFetches.{in_mapping}
 use Rattle.yaml_scanner.proofs.PairFollows.{keys_split, seen_free, levels_split, fetched_twice}
 use Rattle.yaml_scanner.proofs.NodeFetches.{before, key_runs, line_runs}
 

@@ -1,5 +1,5 @@
 -- What one fetch of the code does: one of the model, or two of which the first does not end the stream.
-use Rattle.std.specs.Prelude.{◌≡◌, ◌+◌, ◌-◌, List, [], ◌∷◌, ◌++◌, ℕ, true, false, Result, Ok, None}
+use Rattle.std.specs.Prelude.{◌≡◌, ◌-◌, List, ℕ, true, false, Result, Ok, None}
 use Rattle.defs_text.specs.Position.{Position}
 use Rattle.defs_token.specs.Token.{Tok, Style}
 use Rattle.yaml_chars.specs.Reading.{Reads}

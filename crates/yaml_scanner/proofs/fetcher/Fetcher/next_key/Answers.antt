@@ -1,4 +1,4 @@
-use Rattle.std.proofs.Common.{◌≡◌, ◌-◌, subst, refl}
+use Rattle.std.proofs.Common.{◌≡◌, ◌-◌, subst}
 use Rattle.std.specs.Option.{IfSome}
 use Rattle.yaml_chars.specs.Pairs.{TakesKey}
 use Rattle.yaml_scanner.proofs.PairFollows.{key_handed, key_follows}
