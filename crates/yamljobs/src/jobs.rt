@@ -60,10 +60,12 @@ fn add_refusal(digest: &mut Digest, error: &LimitsError) -> Result<(), AllocErro
     match error {
         LimitsError::Scan(fault) => add_fault(digest, fault),
         LimitsError::Levels(mark) => {
+            digest.add_number(1);
             digest.add_mark(*mark);
             Ok(())
         }
         LimitsError::Size(mark) => {
+            digest.add_number(2);
             digest.add_mark(*mark);
             Ok(())
         }

@@ -10,6 +10,7 @@ mod json;
 mod maker;
 mod more_jobs;
 mod random;
+mod results;
 mod settings;
 mod words;
 

@@ -6,12 +6,13 @@ use crate::jobs::add_fault;
 use crate::json::{Dump, put_dump};
 use crate::maker::Maker;
 use crate::random::Random;
+use crate::results::{add_event, add_positions};
 use crate::settings::put_settings;
 use overlay::overlay;
 use std::alloc::{AllocError, Global};
 use yaml_documents::Documents;
 use yaml_json::{write_json, write_json_indented};
-use yaml_marked::{Marked, load_marked};
+use yaml_marked::load_marked;
 use yaml_rust2::parser::{Event, Parser};
 use yaml_rust2::{Yaml, YamlEmitter, YamlLoader};
 
@@ -103,45 +104,18 @@ fn add_events(alloc: Global, text: &str, digest: &mut Digest) -> Result<(), Allo
     Ok(())
 }
 
-fn add_event(digest: &mut Digest, event: &Event) {
-    match event {
-        Event::Scalar(text, _, _, _) => digest.add_text(text.as_str()),
-        Event::SequenceStart(_, _) => digest.add_number(1),
-        Event::MappingStart(_, _) => digest.add_number(2),
-        Event::SequenceEnd | Event::MappingEnd => digest.add_number(3),
-        _ => digest.add_number(4),
-    }
-}
-
 fn add_marks(alloc: Global, text: &str, digest: &mut Digest) -> Result<(), AllocError> {
     match load_marked(alloc, text) {
         Ok(documents) => {
-            if let Some(root) = documents.first() {
-                add_pairs(digest, root);
+            for i in 0..documents.len() {
+                if let Some(root) = documents.get(i) {
+                    add_positions(alloc, root, digest)?;
+                }
             }
             digest.add_trees(documents.documents());
             Ok(())
         }
         Err(fault) => add_fault(digest, &fault),
-    }
-}
-
-fn add_pairs(digest: &mut Digest, node: Marked<'_>) {
-    let Some(pairs) = node.pairs() else {
-        return;
-    };
-    for (key, value) in pairs {
-        digest.add_mark(key.marker());
-        add_items(digest, value);
-    }
-}
-
-fn add_items(digest: &mut Digest, node: Marked<'_>) {
-    let Some(items) = node.items() else {
-        return;
-    };
-    for item in items {
-        digest.add_mark(item.marker());
     }
 }
 
