@@ -1,4 +1,4 @@
-// Does one deed with a text, and ends with status 1 where the text is refused: deep FILE load|hash|dump
+// Does one deed with a text, and ends with status 1 where the text is refused: deep FILE load|hash|dump|json|overlay|merge
 #include <stdint.h>
 #include <stdio.h>
 #include <stdlib.h>
@@ -7,10 +7,22 @@
 int64_t yamlbench_load(const unsigned char *text, size_t length);
 int64_t yamlbench_hash(const unsigned char *text, size_t length);
 int64_t yamlbench_dump_length(const unsigned char *text, size_t length);
+int64_t yamlbench_json_length(const unsigned char *text, size_t length);
+int64_t yamlbench_overlay_itself(const unsigned char *text, size_t length);
+int64_t yamlbench_merge(const unsigned char *text, size_t length);
+
+static const struct {
+    const char *name;
+    int64_t (*done)(const unsigned char *text, size_t length);
+} DEEDS[] = {
+    {"load", yamlbench_load},           {"hash", yamlbench_hash},
+    {"dump", yamlbench_dump_length},    {"json", yamlbench_json_length},
+    {"overlay", yamlbench_overlay_itself}, {"merge", yamlbench_merge},
+};
 
 int main(int argc, char **argv) {
     if (argc != 3) {
-        fprintf(stderr, "usage: deep FILE load|hash|dump\n");
+        fprintf(stderr, "usage: deep FILE load|hash|dump|json|overlay|merge\n");
         return 2;
     }
     FILE *file = fopen(argv[1], "rb");
@@ -26,8 +38,11 @@ int main(int argc, char **argv) {
         fprintf(stderr, "cannot read %s\n", argv[1]);
         return 2;
     }
-    int64_t answer = !strcmp(argv[2], "hash")   ? yamlbench_hash(text, (size_t)length)
-                     : !strcmp(argv[2], "dump") ? yamlbench_dump_length(text, (size_t)length)
-                                                : yamlbench_load(text, (size_t)length);
-    return answer < 0;
+    for (size_t i = 0; i < sizeof DEEDS / sizeof *DEEDS; i++) {
+        if (!strcmp(argv[2], DEEDS[i].name)) {
+            return DEEDS[i].done(text, (size_t)length) < 0;
+        }
+    }
+    fprintf(stderr, "no such deed: %s\n", argv[2]);
+    return 2;
 }

@@ -13,9 +13,11 @@ sys.path.insert(0, os.path.join(HERE, "..", "bench"))
 import bench
 
 MOST = 300000
-LEVELS = {"arrays": "- ", "hash keys": "? ", "hash values": ": "}
+BLOCKS = {"arrays": "- ", "hash keys": "? ", "hash values": ": "}
+# JSON has no key but strings.
+JSON = {"arrays": ("[", "]"), "hash values": ("{a: ", "}")}
 # What the program is told, and the text. A clone is made for an alias, two keys are compared for a mapping, and a key is shown where it
-# comes twice.
+# comes twice. A tree is laid over itself, and the merge keys of a tree that has none are carried out.
 DEEDS = {
     "load and drop": ("load", lambda levels: levels + "x\n"),
     "clone": ("load", lambda levels: "- &a\n  " + levels + "x\n- *a\n"),
@@ -23,7 +25,20 @@ DEEDS = {
     "show": ("load", lambda levels: "? " + levels + "x\n: 1\n? " + levels + "x\n: 2\n"),
     "hash": ("hash", lambda levels: levels + "x\n"),
     "dump": ("dump", lambda levels: levels + "x\n"),
+    "overlay": ("overlay", lambda levels: levels + "x\n"),
+    "merge": ("merge", lambda levels: levels + "x\n"),
 }
+
+
+def rows():
+    """Each deed, with the text of so many levels."""
+    for name, (deed, make) in DEEDS.items():
+        for shape, level in BLOCKS.items():
+            yield name, shape, deed, lambda levels, make=make, level=level: make(level * levels)
+    for shape, (begin, end) in JSON.items():
+        yield "JSON out", shape, "json", lambda levels, begin=begin, end=end: begin * levels + "x" + end * levels + "\n"
+
+
 DOUBLED = "- &a1 [x, x]\n" + "".join("- &a%d [*a%d, *a%d]\n" % (i, i - 1, i - 1) for i in range(2, 30))
 
 
@@ -42,8 +57,8 @@ def status(program, directory, deed, text, limit):
     return subprocess.run(["bash", "-c", "ulimit %s; exec %s %s %s" % (limit, program, path, deed)], capture_output=True).returncode
 
 
-def depth(program, directory, deed, make, level):
-    def ends_well(levels): return status(program, directory, deed, make(level * levels), "-s 8192") in (0, 1)
+def depth(program, directory, deed, make):
+    def ends_well(levels): return status(program, directory, deed, make(levels), "-s 8192") in (0, 1)
     if ends_well(MOST):
         return "at least %d" % MOST
     low, high = 1, MOST
@@ -58,10 +73,9 @@ def main():
         sys.exit("deep.py: no static library: cd crates/yamlbench && rt lib")
     with tempfile.TemporaryDirectory() as directory:
         program = built(directory)
-        for name, (deed, make) in DEEDS.items():
-            for shape, level in LEVELS.items():
-                if not sys.argv[1:] or name in sys.argv[1:]:
-                    print("%s, %s: %s levels" % (name, shape, depth(program, directory, deed, make, level)), flush=True)
+        for name, shape, deed, make in rows():
+            if not sys.argv[1:] or name in sys.argv[1:]:
+                print("%s, %s: %s levels" % (name, shape, depth(program, directory, deed, make)), flush=True)
         # The program ends with status 1 where the load is refused.
         answered = status(program, directory, "load", DOUBLED, "-v 1000000")
         print("29 lines of `[*a, *a]` under 1 GB: %s" % ("refused" if answered == 1 else "status %d" % answered))

@@ -2,12 +2,14 @@
 #![tactic(auto)]
 
 mod calls;
+mod outside;
 
 use crate::calls::{End, call_all, load_by_parser};
+use crate::outside::Counter;
 use overlay::overlay;
 use std::alloc::{AllocError, Global};
 use std::hash::{DefaultHasher, Hash as _, Hasher};
-use std::{fmt, slice, str};
+use std::{slice, str};
 use yaml_documents::Documents;
 use yaml_json::write_json;
 use yaml_limits::{Limits, LimitsError, load_with_limits};
@@ -263,17 +265,4 @@ pub extern "C" fn yamlbench_dump_length(alloc: Global, text: &[u8]) -> i64 {
         return -1;
     }
     i64::try_from(writer.into_inner().bytes).unwrap_or(i64::MAX)
-}
-
-/// Counts what is written, and keeps none of it.
-#[derive(Drop)]
-struct Counter {
-    bytes: u64,
-}
-
-impl fmt::Write for Counter {
-    fn write_str(&mut self, text: &str) -> fmt::Result {
-        self.bytes = self.bytes.wrapping_add(text.len() as u64);
-        Ok(())
-    }
 }

@@ -1,0 +1,150 @@
+//! Calls that are no loads: decoding, pairs put into a hash, and what else goes through a tree.
+
+use crate::last_document;
+use overlay::overlay;
+use std::alloc::{AllocError, Global};
+use std::fmt;
+use yaml_encoding::{YAMLDecodingTrap, text_of};
+use yaml_json::write_json;
+use yaml_merge::merge;
+use yaml_rust2::Yaml;
+use yaml_rust2::emitter::FmtWriter;
+use yaml_rust2::yaml::Hash;
+
+/// Decodes bytes so many times, with malformations left out (0) or replaced (1): the bytes of the text, or -1 where memory is
+/// refused.
+#[unsafe(no_mangle)]
+pub extern "C" fn yamlbench_decode(alloc: Global, bytes: &[u8], replace: bool, rounds: u32) -> i64 {
+    let mut length = 0;
+    for _ in 0..rounds {
+        let trap = if replace {
+            YAMLDecodingTrap::Replace
+        } else {
+            YAMLDecodingTrap::Ignore
+        };
+        let Ok(text) = text_of(alloc, bytes, trap) else {
+            return -1;
+        };
+        length = i64::try_from(text.len()).unwrap_or(i64::MAX);
+    }
+    length
+}
+
+/// What is done with the keys of a hash.
+#[derive(Clone, Copy)]
+struct Deed {
+    // Each key is put in once more.
+    again: bool,
+    // Each key is removed and put in again.
+    removed: bool,
+    // Each key is looked up.
+    found: bool,
+}
+
+/// Fills a hash with so many integers, so many times, and then does what the bits of `deed` say: 1 puts each key in once more,
+/// 2 removes it and puts it in again, 4 looks it up. The keys come in order, or by steps of `step`: the pairs of the last
+/// hash, or -1 where memory is refused.
+#[unsafe(no_mangle)]
+pub extern "C" fn yamlbench_fill(
+    alloc: Global,
+    count: u32,
+    step: u32,
+    deed: u32,
+    rounds: u32,
+) -> i64 {
+    let deed = Deed {
+        again: deed & 1 != 0,
+        removed: deed & 2 != 0,
+        found: deed & 4 != 0,
+    };
+    let mut length = 0;
+    for _ in 0..rounds {
+        match filled(alloc, count, step, deed) {
+            Ok(pairs) => length = i64::try_from(pairs.len()).unwrap_or(i64::MAX),
+            Err(_) => return -1,
+        }
+    }
+    length
+}
+
+fn filled(alloc: Global, count: u32, step: u32, deed: Deed) -> Result<Hash, AllocError> {
+    let mut pairs = Hash::new(alloc);
+    for i in 0..count {
+        put(&mut pairs, key(i, step, count))?;
+    }
+    for i in 0..count {
+        do_with(&mut pairs, key(i, step, count), deed)?;
+    }
+    Ok(pairs)
+}
+
+// The key number `i`: by steps through as many keys as there are.
+fn key(i: u32, step: u32, count: u32) -> Yaml {
+    let number = u64::from(i).wrapping_mul(u64::from(step));
+    Yaml::Integer((number % u64::from(count.max(1))) as i64)
+}
+
+fn put(pairs: &mut Hash, key: Yaml) -> Result<(), AllocError> {
+    match pairs.insert(key, Yaml::Null) {
+        Ok(_) => Ok(()),
+        Err(_) => Err(AllocError),
+    }
+}
+
+fn do_with(pairs: &mut Hash, key: Yaml, deed: Deed) -> Result<(), AllocError> {
+    if deed.found && pairs.get(&key).is_none() {
+        return Err(AllocError);
+    }
+    if deed.removed {
+        let _ = pairs.remove(&key);
+        return put(pairs, key);
+    }
+    if deed.again {
+        return put(pairs, key);
+    }
+    Ok(())
+}
+
+/// How many bytes the JSON text of a text's last document takes, or -1 where there is none. They are not kept.
+#[unsafe(no_mangle)]
+pub extern "C" fn yamlbench_json_length(alloc: Global, text: &[u8]) -> i64 {
+    let Some(tree) = last_document(alloc, text) else {
+        return -1;
+    };
+    let mut writer = FmtWriter::new(Counter { bytes: 0 });
+    if write_json(alloc, &tree, &mut writer).is_err() {
+        return -1;
+    }
+    i64::try_from(writer.into_inner().bytes).unwrap_or(i64::MAX)
+}
+
+/// Carries out the merge keys of a text's last document: 1, or -1 where that is refused.
+#[unsafe(no_mangle)]
+pub extern "C" fn yamlbench_merge(alloc: Global, text: &[u8]) -> i64 {
+    match last_document(alloc, text) {
+        Some(tree) if merge(alloc, &tree).is_ok() => 1,
+        _ => -1,
+    }
+}
+
+/// Lays a text's last document over itself: 1, or -1 where memory is refused.
+#[unsafe(no_mangle)]
+pub extern "C" fn yamlbench_overlay_itself(alloc: Global, text: &[u8]) -> i64 {
+    match last_document(alloc, text) {
+        Some(tree) if overlay(alloc, &tree, &tree).is_ok() => 1,
+        _ => -1,
+    }
+}
+
+/// Counts what is written, and keeps none of it.
+#[derive(Drop)]
+pub(crate) struct Counter {
+    pub(crate) bytes: u64,
+}
+
+impl fmt::Write for Counter {
+    fn write_str(&mut self, text: &str) -> fmt::Result {
+        self.bytes = self.bytes.wrapping_add(text.len() as u64);
+        Ok(())
+    }
+}

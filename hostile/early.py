@@ -1,0 +1,58 @@
+#!/usr/bin/env python3
+"""Counts what the load of a text costs that is refused, or ends, at its first characters, however much comes after them.
+
+usage: early.py
+
+Each text stands before 10 and before 1,000,000 characters, and is loaded once. Instructions are counted by valgrind. Those of a load of `@` before
+as many characters are taken off: that text is refused at its first character, so what is left is what the first characters cost. The two
+numbers of a row may differ by 1,000; else the status is 1. Build the static library first: `cd crates/yamlbench && rt lib`.
+"""
+import os, sys, tempfile
+
+HERE = os.path.dirname(os.path.abspath(__file__))
+sys.path.insert(0, os.path.join(HERE, "..", "bench"))
+import dearer, dumps
+
+# What begins a text, what comes after it again and again, and what ends it.
+ROWS = {
+    "`[@`, then blanks": ("[@", " ", ""),
+    "`{]`, then blanks": ("{]", " ", ""),
+    "`[@`, then blanks and `]`": ("[@", " ", "]"),
+    "`[1]` and NUL, then blanks": ("[1]\0", " ", ""),
+    "`{\"a\": @`, then blanks and `}`": ("{\"a\": @", " ", "}"),
+    "`[1 1]`, then items": ("[1 1]", ",1", "]"),
+    "`[01`, then items": ("[01", ",1", "]"),
+    "`[\"\\q`, then letters": ("[\"\\q", "a", "\"]"),
+    "`[}`, then items": ("[}", ",1", "]"),
+    "`@`, then line feeds": ("@", "\n", ""),
+}
+COUNTS = (10, 1000000)
+MORE = 1000
+
+
+def loaded(program, path, text):
+    with open(path, "w", newline="") as f:
+        f.write(text)
+    return dumps.counted([program, "load", path, "1"])[0]
+
+
+def main():
+    bad = False
+    with tempfile.TemporaryDirectory() as directory:
+        program = dearer.built(os.path.join(HERE, ".."), directory, 0)
+        path = os.path.join(directory, "text")
+        print("| Text | before %d characters | before %d |" % COUNTS)
+        print("|---|---|---|")
+        for name, (first, more, last) in ROWS.items():
+            numbers = []
+            for count in COUNTS:
+                rest = (more * count)[:count] + last
+                plain = "@" * len(first) + rest
+                numbers.append(loaded(program, path, first + rest) - loaded(program, path, plain))
+            bad = bad or abs(numbers[1] - numbers[0]) > MORE
+            print("| %s | %d | %d |" % (name, *numbers), flush=True)
+    sys.exit(1 if bad else 0)
+
+
+if __name__ == "__main__":
+    main()
