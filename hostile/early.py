@@ -11,7 +11,7 @@ import os, sys, tempfile
 
 HERE = os.path.dirname(os.path.abspath(__file__))
 sys.path.insert(0, os.path.join(HERE, "..", "bench"))
-import dearer, dumps
+import cases, dumps
 
 # What begins a text, what comes after it again and again, and what ends it.
 ROWS = {
@@ -39,7 +39,7 @@ def loaded(program, path, text):
 def main():
     bad = False
     with tempfile.TemporaryDirectory() as directory:
-        program = dearer.built(os.path.join(HERE, ".."), directory, 0)
+        program = cases.built(os.path.join(HERE, ".."), directory, 0)
         path = os.path.join(directory, "text")
         print("| Text | before %d characters | before %d |" % COUNTS)
         print("|---|---|---|")

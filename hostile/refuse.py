@@ -14,7 +14,17 @@ INPUTS = ["%TAG !prefix! tag:example.com,2011:\n--- !prefix!A\na: b\n", "---\n? 
           "a1: &DEFAULT\n    b1: 4\n    b2: d\na2: *DEFAULT\n", LAID_OUT, "[[[[{a: b}]]]]", '"' + "long " * 100 + '"',
           "%YAML 1.2\n%TAG !a! x:\n--- !a!b &c [*c, ? d : 'e', !<%C3%A9> f]\n...\n---\n- &x y\n- *x\n", '{"a":"\\u00e9\\n","b":[1,2.5,-0,true,null]}',
           "a: |\n  x\n  y\n\nb: >-\n  p\n  q\n", "? [1, 2]\n: {c: d}\n",
-          "".join("k%d: v\n" % (i * 7 % 300) for i in range(300))]
+          "".join("k%d: v\n" % (i * 7 % 300) for i in range(300)),
+          # Read as JSON at once; and what begins as JSON and is none.
+          '[{"name": "a long text of more than twenty-four characters", "on": [true, null, -1.5e3]}, {"%s": {"b": "\\u0436\\n\\t"}}]\n' % ("k" * 30),
+          '[{"a": [1, "b", {}]}, [[2], {"c": "d"}], bare]\n', '{"a": 1}\n---\n[2]\n', '["\\ud83d", 1]\n'.replace("\\ud83d", "\\U0001f600"),
+          # Keys and values that are taken at once, behind ends of blocks too, and items.
+          "a:\n  b:\n    c: some words of a value\n    d: 2\ne: f\ng:\n  - h: i\n    j: k\n  - l\nm: n\n", "- alpha\n- beta gamma delta epsilon zeta eta theta\n- x: y\n  z: 1\n",
+          # Block scalars with long lines, and scalars whose words end late at a `:`, an escape or a quote.
+          "a: |\n  %s\nb: >\n  %s\n  %s\n\n  x\nc: |-\n  y\n" % ("w" * 40, "words of text " * 5, "more of them " * 6),
+          "a: %s:x and %s\nb: \"%s\\n\"\nc: '%s''s'\n" % ("w" * 26, "v" * 30, "words " * 9, "u" * 25),
+          # A hash whose index comes with one of these pairs, from blocks and from JSON.
+          "".join("key%d: %d\n" % (i, i) for i in range(16)), "{" + ", ".join('"key%d": %d' % (i * 5 % 16, i) for i in range(16)) + "}\n"]
 
 
 # Texts that do not load as they stand: a handle that is kept for three documents, and a key twice in two ways.

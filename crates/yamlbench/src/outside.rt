@@ -3,13 +3,13 @@
 use crate::last_document;
 use overlay::overlay;
 use std::alloc::{AllocError, Global};
-use std::fmt;
+use std::{fmt, str};
 use yaml_encoding::{YAMLDecodingTrap, text_of};
 use yaml_json::write_json;
 use yaml_merge::merge;
-use yaml_rust2::Yaml;
 use yaml_rust2::emitter::FmtWriter;
 use yaml_rust2::yaml::Hash;
+use yaml_rust2::{Yaml, YamlLoader};
 
 /// Decodes bytes so many times, with malformations left out (0) or replaced (1): the bytes of the text, or -1 where memory is
 /// refused.
@@ -39,11 +39,13 @@ struct Deed {
     removed: bool,
     // Each key is looked up.
     found: bool,
+    // The keys are strings.
+    strings: bool,
 }
 
 /// Fills a hash with so many integers, so many times, and then does what the bits of `deed` say: 1 puts each key in once more,
-/// 2 removes it and puts it in again, 4 looks it up. The keys come in order, or by steps of `step`: the pairs of the last
-/// hash, or -1 where memory is refused.
+/// 2 removes it and puts it in again, 4 looks it up; with 8 the keys are strings. They come in order, or by steps of `step`: the
+/// pairs of the last hash, or -1 where memory is refused.
 #[unsafe(no_mangle)]
 pub extern "C" fn yamlbench_fill(
     alloc: Global,
@@ -56,6 +58,7 @@ pub extern "C" fn yamlbench_fill(
         again: deed & 1 != 0,
         removed: deed & 2 != 0,
         found: deed & 4 != 0,
+        strings: deed & 8 != 0,
     };
     let mut length = 0;
     for _ in 0..rounds {
@@ -70,18 +73,25 @@ pub extern "C" fn yamlbench_fill(
 fn filled(alloc: Global, count: u32, step: u32, deed: Deed) -> Result<Hash, AllocError> {
     let mut pairs = Hash::new(alloc);
     for i in 0..count {
-        put(&mut pairs, key(i, step, count))?;
+        put(&mut pairs, key(alloc, i, step, count, deed.strings)?)?;
+    }
+    if !deed.again && !deed.removed && !deed.found {
+        return Ok(pairs);
     }
     for i in 0..count {
-        do_with(&mut pairs, key(i, step, count), deed)?;
+        do_with(&mut pairs, key(alloc, i, step, count, deed.strings)?, deed)?;
     }
     Ok(pairs)
 }
 
 // The key number `i`: by steps through as many keys as there are.
-fn key(i: u32, step: u32, count: u32) -> Yaml {
+fn key(alloc: Global, i: u32, step: u32, count: u32, is_string: bool) -> Result<Yaml, AllocError> {
     let number = u64::from(i).wrapping_mul(u64::from(step));
-    Yaml::Integer((number % u64::from(count.max(1))) as i64)
+    let number = number % u64::from(count.max(1));
+    if is_string {
+        return Ok(Yaml::String(format!(in alloc; "key-{number:05}")?));
+    }
+    Ok(Yaml::Integer(number as i64))
 }
 
 fn put(pairs: &mut Hash, key: Yaml) -> Result<(), AllocError> {
@@ -103,6 +113,18 @@ fn do_with(pairs: &mut Hash, key: Yaml, deed: Deed) -> Result<(), AllocError> {
         return put(pairs, key);
     }
     Ok(())
+}
+
+/// How many documents a text has whose characters come one by one, or -1 where it is refused. The trees are made and dropped.
+#[unsafe(no_mangle)]
+pub extern "C" fn yamlbench_load_from_iter(alloc: Global, text: &[u8]) -> i64 {
+    let Ok(text) = str::from_utf8(text) else {
+        return -1;
+    };
+    match YamlLoader::load_from_iter(alloc, text.chars()) {
+        Ok(documents) => i64::try_from(documents.len()).unwrap_or(i64::MAX),
+        Err(_) => -1,
+    }
 }
 
 /// How many bytes the JSON text of a text's last document takes, or -1 where there is none. They are not kept.

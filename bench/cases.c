@@ -1,5 +1,5 @@
-// Does one thing N times with this library, for its instructions to be counted: dearer load FILE N, dearer json FILE N, dearer dump FILE N,
-// dearer decode FILE 0|1 N, dearer fill COUNT STEP DEED N
+// Does one thing N times with this library, for its instructions to be counted: cases load|iter|json|dump FILE N, cases decode FILE 0|1 N,
+// cases fill COUNT STEP DEED N
 #include <stdbool.h>
 #include <stdint.h>
 #include <stdio.h>
@@ -9,6 +9,7 @@
 #include "read.h"
 
 int64_t yamlbench_load(const unsigned char *text, size_t length);
+int64_t yamlbench_load_from_iter(const unsigned char *text, size_t length);
 int64_t yamlbench_write_json(const unsigned char *text, size_t length, uint32_t rounds);
 int64_t yamlbench_dump(const unsigned char *text, size_t length, bool compact, bool multiline, uint32_t rounds);
 int64_t yamlbench_decode(const unsigned char *bytes, size_t length, bool replace, uint32_t rounds);
@@ -21,7 +22,7 @@ int main(int argc, char **argv) {
         return yamlbench_fill(number(argv[2]), number(argv[3]), number(argv[4]), number(argv[5])) < 0;
     }
     if (argc < 4) {
-        fprintf(stderr, "usage: dearer load|json|dump FILE N, decode FILE 0|1 N, fill COUNT STEP DEED N\n");
+        fprintf(stderr, "usage: cases load|iter|json|dump FILE N, decode FILE 0|1 N, fill COUNT STEP DEED N\n");
         return 2;
     }
     size_t length;
@@ -37,8 +38,9 @@ int main(int argc, char **argv) {
         return yamlbench_dump(text, length, true, false, rounds) < 0;
     }
     // A text that is refused is read up to its fault.
+    int64_t (*load)(const unsigned char *, size_t) = strcmp(argv[1], "iter") ? yamlbench_load : yamlbench_load_from_iter;
     for (uint32_t i = 0; i < rounds; i++) {
-        yamlbench_load(text, length);
+        load(text, length);
     }
     return 0;
 }
