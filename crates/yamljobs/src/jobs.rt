@@ -91,6 +91,25 @@ pub fn load(alloc: Global, text: &str, digest: &mut Digest) -> Result<(), AllocE
     Ok(())
 }
 
+/// A text of a large file or of a JSON text, by the name of what it holds.
+pub fn text(alloc: Global, name: &str, random: Random) -> io::Result<Maker> {
+    let mut file = Maker::new(alloc, random);
+    match name {
+        "messages" => put_file(&mut file, Subject::Messages, 60_000)?,
+        "translations" => put_file(&mut file, Subject::Translations, 60_000)?,
+        "calls" => put_file(&mut file, Subject::Calls, 200_000)?,
+        "changes" => put_file(&mut file, Subject::Changes, 80_000)?,
+        "machines" => put_file(&mut file, Subject::Machines, 100_000)?,
+        "rules" => put_file(&mut file, Subject::Rules, 60_000)?,
+        "records" => put_dump(&mut file, Dump::Records, 120_000)?,
+        "lock" => put_dump(&mut file, Dump::Lock, 80_000)?,
+        "numbers" => put_dump(&mut file, Dump::Numbers, 40_000)?,
+        "escapes" => put_dump(&mut file, Dump::Escapes, 40_000)?,
+        _ => return Err(io::Error::from(io::ErrorKind::InvalidInput)),
+    }
+    Ok(file)
+}
+
 // One large file of each subject, from bytes.
 fn load_files(alloc: Global, random: Random, digest: &mut Digest) -> Result<(), AllocError> {
     load_file(alloc, random, Subject::Messages, 60_000, digest)?;

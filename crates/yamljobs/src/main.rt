@@ -1,5 +1,6 @@
 //! Does the jobs that users wait for, on texts that it makes: `yamljobs JOB SEED COUNT`. It prints one number of all
-//! results. bench/run takes the time.
+//! results. bench/run takes the time. `yamljobs text NAME SEED` prints the first text of that name which a job with this
+//! seed loads.
 #![tactic(auto)]
 
 mod awkward;
@@ -22,6 +23,13 @@ fn main(rt: HostRuntime) -> io::Result<()> {
     let alloc = rt.alloc();
     let mut words = env::args(&rt)?.skip(1);
     let job = words.next().ok_or(io::ErrorKind::InvalidInput)?;
+    if job.as_str() == "text" {
+        let name = words.next().ok_or(io::ErrorKind::InvalidInput)?;
+        let mut random = Random::new(number(words.next())?);
+        let file = jobs::text(alloc, name.as_str(), Random::new(random.next()))?;
+        let text = file.text();
+        return print!(rt; "{text}");
+    }
     let seed = number(words.next())?;
     let count = number(words.next())?;
     let mut digest = Digest::new();
