@@ -1,7 +1,8 @@
 -- Lemmas about UTF-8 that is read as it stands.
-use Rattle.std.proofs.Common.{◌≡◌, ℕ, ◌+◌, ◌-◌, ◌*◌, ◌/◌, ◌%◌, ◌≤◌, ◌<◌, ◌⊎◌, true, List, [], ◌∷◌, ◌++◌, Some, length, take, drop, refl, ap, sym, ◌∙◌, arith, inl, inr, add-zero, append-nil, append_assoc, length-drop}
-use Rattle.std.specs.Str.{IsUtf8, chars}
-use Rattle.std.proofs.lemmas.Str.{length-encode, chars-encodes, encode_ascii, len_utf8_bounds, drop_past_char}
+use Rattle.std.proofs.Common.{◌≡◌, ℕ, zero, suc, ◌+◌, ◌-◌, ◌*◌, ◌/◌, ◌%◌, ◌≤◌, ◌<◌, ◌⊎◌, Bool, true, false, if◌then◌else◌, List, [], ◌∷◌, ◌++◌, Some, length, take, drop, get_or, refl, ap, sym, ◌∙◌, arith, inl, inr, add-zero, append-nil, append_assoc, length-drop}
+use Rattle.std.specs.Str.{IsUtf8, chars, is_utf8}
+use Rattle.std.specs.Str.Lossy.{valid_len_up_to, utf8_valid_len}
+use Rattle.std.proofs.lemmas.Str.{length-encode, chars-encodes, encode_ascii, len_utf8_bounds, drop_past_char, IsUtf8-from_ascii, is_utf8-from_IsUtf8}
 use Rattle.std.proofs.lemmas.Bool.Decides.{nat_tests}
 use Rattle.std.proofs.lemmas.Bool.{cases_lt, and_parts, cond_above, cond_below}
 use mathlib.Core.Logic.{⊎_elim}
@@ -124,6 +125,28 @@ encode_front c r s =
       ]
     ]
 
+-- ---- text with which an input begins
+
+ascii_of : (input : List ℕ) (n : ℕ) → ((k : ℕ) → k < n → get_or input k 0 < 128) → (i : ℕ) → get_or (take n input) i 0 < 128
+ascii_of input zero below i = omega arith
+ascii_of [] (suc n) below i = omega arith
+ascii_of (b ∷ r) (suc n) below zero = below 0 (omega arith)
+ascii_of (b ∷ r) (suc n) below (suc i) = ascii_of r n (λ k h. below (suc k) (omega arith)) i
+
+either_some : (t : Bool) (n m : ℕ) → 0 < m → 0 < (if t then suc n else m)
+either_some true n m h = omega arith
+either_some false n m h = h
+
+up_to_some : (bs : List ℕ) (n : ℕ) → is_utf8 (take 1 bs) ≡ true → 0 < valid_len_up_to bs (suc n)
+up_to_some bs zero e = rw e (omega arith)
+up_to_some bs (suc n) e = either_some (is_utf8 (take (suc (suc n)) bs)) (suc n) _ (up_to_some bs n e)
+
+-- text that begins with an ASCII byte is not empty
+pub valid_some : (bs : List ℕ) → 0 < length bs → get_or bs 0 0 < 128 → 0 < utf8_valid_len bs
+unfolding utf8_valid_len
+valid_some [] some low = absurd (omega arith)
+valid_some (b ∷ r) some low = up_to_some (b ∷ r) (length r) (is_utf8-from_IsUtf8 _ (IsUtf8-from_ascii (b ∷ []) (ascii_of (b ∷ []) 1 (λ k h. let e : k ≡ 0 = omega arith in rw e low))))
+
 -- ---- an input is read over the characters that are encoded next
 
 read_over : (step : Steps) (input cs rest : List ℕ) (at : ℕ) (so_far : List ℕ) → scalars cs ≡ true → drop at input ≡ encodes cs ++ rest
@@ -141,7 +164,7 @@ read_over step input (c ∷ cs) rest at so_far s e r =
     let m : (at + length (encode c)) + length (encodes cs) ≡ at + length (encode c ++ encodes cs) = omega (arith, length-append (encode c) (encodes cs)) in
     rw (← append_assoc so_far (c ∷ []) cs, ← m) q
 
-pub passes_text : (step : Steps) (e : Encoding) (input : List ℕ) (at after : ℕ) (so_far next rest piece : List ℕ) → (0 < length piece → e ≡ utf_8) → rest ≡ drop at input → at < length input → 0 < length piece → length piece ≤ length rest
+pub passes_text : (step : Steps) (e : Encoding) (input : List ℕ) (at after : ℕ) (so_far next rest piece : List ℕ) → e ≡ utf_8 → rest ≡ drop at input → at < length input → 0 < length piece → length piece ≤ length rest
     → piece ≡ take (length piece) rest → IsUtf8 piece → next ≡ so_far ++ chars piece → after ≡ at + length piece
     → (at < after) × (after ≤ length input) × (IsRead step e input at so_far → IsRead step e input after next)
 passes_text step e input at after so_far next rest piece is_utf_8 is_rest in_range some there begins (cs, (s, u)) n b =
@@ -150,5 +173,4 @@ passes_text step e input at after so_far next rest piece is_utf_8 is_rest in_ran
     let same : chars piece ≡ cs = ap (λ xs. chars xs) (sym u) ∙ chars-encodes cs s in
     let split : drop at input ≡ encodes cs ++ drop (length piece) rest =
     sym is_rest ∙ sym (take-append-drop (length piece) rest) ∙ ap (λ xs. xs ++ drop (length piece) rest) (sym begins ∙ sym u) in
-    let e_utf_8 = is_utf_8 some in
-    (omega arith, omega arith, λ r. rw (e_utf_8, n, b, same, ← many) (read_over step input cs (drop (length piece) rest) at so_far s split (rw e_utf_8 at r)))
+    (omega arith, omega arith, λ r. rw (is_utf_8, n, b, same, ← many) (read_over step input cs (drop (length piece) rest) at so_far s split (rw is_utf_8 at r)))

@@ -1,5 +1,5 @@
 //! The encoding of an input, by its byte order mark or its first two bytes.
-ghost use Rattle.std.specs.Prelude.{◌≡◌, ◌<◌, ◌≤◌, length, take};
+ghost use Rattle.std.specs.Prelude.{◌≡◌, ◌<◌, ◌≤◌, length, IsTrue};
 ghost use Rattle.yaml_encoding.specs.Decoding.{chosen, unmarked, reading, utf_8};
 ghost use Rattle.yaml_encoding.specs.Encodings.{encoding_of};
 ghost use Rattle.yaml_encoding.specs.Front.{front, sequence_of};
@@ -7,7 +7,6 @@ ghost use Rattle.yaml_encoding.specs.Front.{front, sequence_of};
 use crate::sequence::Sequence;
 use crate::utf_8::utf_8_sequence;
 use crate::utf_16::{ByteOrder, utf_16_sequence};
-use crate::valid::valid_text;
 
 /// How an input is read.
 #[derive(Clone, Copy)]
@@ -17,6 +16,16 @@ pub(crate) enum Encoding {
 }
 
 impl Encoding {
+    /// Whether the input is read as UTF-8.
+    pub fn is_utf_8(self) -> bool
+        ensures { IsTrue result → encoding_of self ≡ utf_8 }
+    {
+        match self {
+            Encoding::Utf8 => true,
+            Encoding::Utf16(_) => false,
+        }
+    }
+
     /// What an input begins with.
     pub fn sequence(self, input: &[u8]) -> Sequence
         requires { 0 < length input.now }
@@ -25,19 +34,6 @@ impl Encoding {
         match self {
             Encoding::Utf8 => utf_8_sequence(input),
             Encoding::Utf16(order) => utf_16_sequence(order, input),
-        }
-    }
-
-    /// The text with which an input begins as it stands, up to so many bytes or the first malformation. In UTF-16 it is
-    /// empty.
-    pub fn text(self, input: &[u8], size: usize) -> &str
-        ensures there { length result.now ≤ length input.now }
-        ensures value { result.now ≡ take (length result.now) input.now }
-        ensures encoding { 0 < length result.now → encoding_of self ≡ utf_8 }
-    {
-        match self {
-            Encoding::Utf8 => valid_text(input, size),
-            Encoding::Utf16(_) => "",
         }
     }
 }

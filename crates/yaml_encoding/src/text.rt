@@ -11,23 +11,27 @@ use crate::growing::{push, push_text};
 use crate::malformation::{Malformation, trapped};
 use crate::stop::Stop;
 use crate::trap::YAMLDecodingTrap;
-use crate::valid::{FIRST, next_size};
+use crate::valid::text_ahead;
 use std::alloc::Global;
 
-/// Reads some of an input at a position, and returns the position after it: a malformation or a character, in UTF-8 with
-/// those after it, as far as so many bytes are a text.
+/// Reads some of an input at a position, and returns the position after it: in UTF-8 text if it begins
+/// with an ASCII byte, else one part.
 fn read_some(
     encoding: Encoding,
     trap: YAMLDecodingTrap,
     input: &[u8],
     position: usize,
-    size: usize,
     text: &mut String,
 ) -> Result<usize, Stop>
     requires { position < length input.now }
     ensures { Passes (steps_by (λ f. IsStep (post f.function)) trap) (encoding_of encoding) input.now position (string_chars text.old) (string_chars text.new) result }
 {
     let rest = &input[position..];
+    if encoding.is_utf_8() && input[position] < 128 {
+        let valid = text_ahead(rest);
+        push_text(text, valid)?;
+        return Ok(position + valid.len());
+    }
     let sequence = encoding.sequence(rest);
     let after = position + usize::from(sequence.bytes);
     let Some(c) = sequence.character else {
@@ -41,13 +45,8 @@ fn read_some(
             Err(stop) => Err(stop),
         };
     };
-    let valid = encoding.text(rest, size);
-    if valid.is_empty() {
-        push(text, c)?;
-        return Ok(after);
-    }
-    push_text(text, valid)?;
-    Ok(position + valid.len())
+    push(text, c)?;
+    Ok(after)
 }
 
 /// The text of an input: by calls of the trap at each malformation.
@@ -57,11 +56,8 @@ fn decoded(alloc: Global, input: &[u8], trap: YAMLDecodingTrap) -> Result<String
     let chosen = chosen_encoding(input);
     let mut text = String::with_capacity(alloc, input.len())?;
     let mut position = chosen.mark;
-    let mut size = FIRST;
     'parts: while position < input.len() {
-        let after = read_some(chosen.encoding, trap, input, position, size, &mut text)?;
-        size = next_size(after - position);
-        position = after;
+        position = read_some(chosen.encoding, trap, input, position, &mut text)?;
     }
     Ok(text)
 }

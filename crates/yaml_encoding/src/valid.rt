@@ -1,60 +1,70 @@
 //! Text with which an input begins: UTF-8 as it stands.
-ghost use Rattle.std.specs.Prelude.{◌≡◌, ◌≤◌, length, take, IfSome};
+ghost use Rattle.std.specs.Prelude.{◌≡◌, ◌<◌, ◌≤◌, length, slice_index, take};
 
-use simdutf8::from_utf8_baseline;
+use std::simd::prelude::*;
+use std::str;
 
-/// How many bytes are looked at first, and after a malformation.
-pub(crate) const FIRST: usize = 64;
+/// How many bytes are looked at together.
+const LANES: usize = 16;
 
-/// How many bytes are looked at at most, so that little is looked at beyond a malformation.
-const MOST: usize = 4096;
-
-/// How many bytes to look at after so many were read at once.
-pub(crate) fn next_size(read: usize) -> usize
-    ensures { (64 ≤ result) × (result ≤ 4096) }
+/// How many ASCII bytes come before the first other byte of the next sixteen.
+#[inline(always)]
+fn ascii_lanes(input: &[u8]) -> usize
+    requires { 16 < length input.now }
+    ensures { result ≤ 16 }
 {
-    read.saturating_mul(2).clamp(FIRST, MOST)
+    let other = u8x16::from_slice(input)
+        .simd_ge(u8x16::splat(128))
+        .to_bitmask();
+    if other == 0 {
+        return LANES;
+    }
+    (other.trailing_zeros() as usize).min(LANES)
 }
 
-/// A place up to another, by three bytes at most, where a character may begin.
-fn cut(input: &[u8], end: usize) -> usize
-    ensures { result ≤ end }
-{
-    let mut cut = end;
-    'trails: while cut > 0 && end - cut < 3 {
-        let Some(0x80..=0xBF) = input.get(cut) else {
-            break;
-        };
-        cut -= 1;
-    }
-    cut
-}
-
-/// So many bytes of an input, or a few less, if they are a text. They are looked at by many at once.
-fn long_text(input: &[u8], size: usize) -> Option<&str>
-    ensures there { IfSome result (λ text. length text.now ≤ length input.now) }
-    ensures value { IfSome result (λ text. text.now ≡ take (length text.now) input.now) }
-{
-    if size <= FIRST || input.len() <= FIRST {
-        return None;
-    }
-    let end = cut(input, size.min(input.len()));
-    match from_utf8_baseline(&input[..end]) {
-        Ok(text) => Some(text),
-        Err(_) => None,
-    }
-}
-
-/// The text with which an input begins, up to so many bytes or the first malformation.
-pub(crate) fn valid_text(input: &[u8], size: usize) -> &str
+/// A run of a few ASCII bytes with which an input begins, before what is not likely to be a character. Where there is none,
+/// it is empty.
+fn short_text(input: &[u8]) -> &str
     ensures there { length result.now ≤ length input.now }
     ensures value { result.now ≡ take (length result.now) input.now }
 {
-    if let Some(text) = long_text(input, size) {
-        return text;
+    if input.len() <= LANES {
+        return "";
     }
-    match input[..size.min(input.len())].utf8_chunks().next() {
+    let count = ascii_lanes(input);
+    if count == LANES || matches!(input[count + 1], 0x80..=0xBF) {
+        return "";
+    }
+    match str::from_utf8(&input[..count]) {
+        Ok(run) => run,
+        Err(_) => "",
+    }
+}
+
+/// The text with which an input begins, up to the first malformation.
+fn valid_text(input: &[u8]) -> &str
+    ensures there { length result.now ≤ length input.now }
+    ensures value { result.now ≡ take (length result.now) input.now }
+    ensures some { 0 < length input.now → slice_index input.now 0 < 128 → 0 < length result.now }
+{
+    match input.utf8_chunks().next() {
         Some(chunk) => chunk.valid(),
         None => "",
     }
+}
+
+/// Text with which an input begins. It goes up to the first malformation, or it is a short run of ASCII bytes: to look for
+/// a malformation that is near costs more.
+pub(crate) fn text_ahead(input: &[u8]) -> &str
+    requires there { 0 < length input.now }
+    requires ascii { slice_index input.now 0 < 128 }
+    ensures there { length result.now ≤ length input.now }
+    ensures value { result.now ≡ take (length result.now) input.now }
+    ensures some { 0 < length result.now }
+{
+    let run = short_text(input);
+    if !run.is_empty() {
+        return run;
+    }
+    valid_text(input)
 }

@@ -15,10 +15,10 @@ returns-in-Ok g c = passes_malformation _ _ c.args.input.now c.args.position _ (
 pub returns-in-Err : goal.returns-in-Err
 returns-in-Err g c = passes_stop _ _ c.args.input.now c.args.position _ (sequence_of c.sequence-sequence.result) _ (rest_of c.args.input.now c.args.position) c.requires c.sequence-sequence.ensures _ (search rules) c.in-Err.ensures
 
-pub returns-then-is_empty : goal.returns-then-is_empty
-returns-then-is_empty g c = passes_character _ _ c.args.input.now c.args.position _ (sequence_of c.sequence-sequence.result) _ (rest_of c.args.input.now c.args.position) c.requires c.sequence-sequence.ensures _ c.in-Some.c _ (search rules) c.in_ok-push.ensures (search rules)
-
 pub returns : goal.returns
-returns g c =
-    let text = c.text-valid.ensures in
-    passes_text _ (encoding_of c.args.encoding) c.args.input.now c.args.position _ (string_chars c.args.text.now) _ _ _ text.encoding (rest_of c.args.input.now c.args.position) c.requires (search rules) text.there text.value (search rules) c.in_ok-push_text.ensures refl
+returns g c = passes_character _ _ c.args.input.now c.args.position _ (sequence_of c.sequence-sequence.result) _ (rest_of c.args.input.now c.args.position) c.requires c.sequence-sequence.ensures _ c.in-Some.c _ (search rules) c.in_ok-push.ensures (search rules)
+
+pub returns-then-input-position-lt128 : goal.returns-then-input-position-lt128
+returns-then-input-position-lt128 g c =
+    let ahead = c.text_ahead-valid.ensures in
+    passes_text _ (encoding_of c.args.encoding) c.args.input.now c.args.position _ (string_chars c.args.text.now) _ _ _ (c.is_utf_8.ensures (search rules)) (rest_of c.args.input.now c.args.position) c.requires ahead.some ahead.there ahead.value (search rules) c.in_ok-push_text.ensures refl
