@@ -144,9 +144,10 @@ def decoded(distance):
     return make
 
 
-DECODES = {"Latin-1, one letter of %d outside ASCII" % d: decoded(d) for d in (3, 20, 66, 100, 130, 200)}
+DECODES = {"Latin-1, one letter of %d outside ASCII" % d: decoded(d) for d in (1, 2, 3, 10, 20, 66, 100, 130, 200)}
 DECODES["English"] = lambda n: repeated([" ".join(WORDS) + "\n"], n).encode()
 DECODES["French"] = lambda n: repeated(["les élèves étaient déjà très occupés\n"], n).encode()
+DECODES["UTF-16 of ASCII"] = lambda n: repeated([" ".join(WORDS) + "\n"], n).encode("utf-16")
 DECODES["Cyrillic"] = lambda n: repeated(["слово другое время человек работа письмо\n"], n).encode()
 # A hash of so many integers, which come in order or by steps, and what is done with each afterwards.
 FILLS = {}
