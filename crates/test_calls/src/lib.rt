@@ -1,6 +1,6 @@
 //! What each layer answers, call by call: tokens, events, trees and dumps; copies and faults; what is refused by
-//! readers that fail after each number of bytes, by writers that refuse each of their calls, and for events out of
-//! nesting.
+//! readers that fail after each number of bytes, by writers that refuse each of their calls or each byte, and for events out
+//! of nesting.
 #![tactic(auto)]
 
 #[cfg(test)]
@@ -27,6 +27,8 @@ mod pushes;
 mod refused_events;
 #[cfg(test)]
 mod refused_json;
+#[cfg(test)]
+mod refused_parts;
 #[cfg(test)]
 mod refused_reads;
 #[cfg(test)]

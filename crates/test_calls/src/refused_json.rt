@@ -8,8 +8,8 @@ use yaml_tree::Yaml;
 
 // The functions below have no contract, so that many calls make no long proof.
 
-// Writes a tree without white space, or in lines that are indented by so many spaces a level.
-fn write<W: Writer>(
+/// Writes a tree without white space, or in lines that are indented by so many spaces a level.
+pub(crate) fn write<W: Writer>(
     alloc: Global,
     tree: &Yaml,
     width: Option<usize>,

@@ -49,15 +49,15 @@ impl fmt::Write for Refusing {
     }
 }
 
-// How a tree is written.
+/// How a tree is written.
 #[derive(Clone, Copy)]
-struct Settings {
-    compact: bool,
-    multiline: bool,
+pub(crate) struct Settings {
+    pub(crate) compact: bool,
+    pub(crate) multiline: bool,
 }
 
-// Whether a dump is written.
-fn is_written<W: Writer>(writer: &mut W, tree: &Yaml, settings: Settings) -> bool {
+/// Whether a dump is written.
+pub(crate) fn is_written<W: Writer>(writer: &mut W, tree: &Yaml, settings: Settings) -> bool {
     let mut emitter = YamlEmitter::new(writer);
     emitter.compact(settings.compact);
     emitter.multiline_strings(settings.multiline);
@@ -161,8 +161,8 @@ impl TextKind for Dumps {
     }
 }
 
-// The only document of a text.
-fn only_document(alloc: Global, text: &str) -> Result<Yaml, &'static str> {
+/// The only document of a text.
+pub(crate) fn only_document(alloc: Global, text: &str) -> Result<Yaml, &'static str> {
     let Ok(mut documents) = YamlLoader::load_from_str(alloc, text) else {
         return Err("a fault");
     };

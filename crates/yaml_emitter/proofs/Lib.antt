@@ -6,6 +6,7 @@ pub mod PrintableLemmas
 pub mod TextLemmas
 pub mod WritingLemmas
 pub mod LineLemmas
+pub mod NumberLemmas
 pub mod EndLemmas
 pub mod ByteLemmas
 pub mod WordLemmas

@@ -2,7 +2,7 @@
 use Rattle.std.proofs.Common.{◌≡◌, ℕ, zero, suc, ◌+◌, ◌*◌, ◌%◌, ◌^◌, ◌<◌, ◌≤◌, ltb, Bool, true, false, not, ◌&&◌, ◌||◌, cond, eqb, T, ◌⊎◌, inl, inr, List, [], ◌∷◌, map, length, drop, replicate, refl, sym, ap, ap₂, subst, ◌∙◌, arith, w8, Fits, not-suc-le-zero}
 use Rattle.std.proofs.lemmas.Bool.{cases_order, eq-eqb, ne_eqb}
 use Rattle.std.proofs.lemmas.Bool.Decides.{nat_tests}
-use Rattle.std.proofs.lemmas.List.{length-map, length-drop}
+use Rattle.std.proofs.lemmas.List.{length-map}
 use Rattle.std.proofs.lemmas.List.Folds.{prefix_len-append}
 use Rattle.std.proofs.lemmas.List.Sums.{prefix_len-le-length}
 use Rattle.std.proofs.lemmas.Simd.{chunk-drop, length-chunk, leading_from_mask_l, trailing_mask_l, mask_l-mod}
@@ -155,6 +155,3 @@ module _ (p : ℕ → Bool) where
       by : (b : Bool) → ltb (prefix_len passes xs) (length xs) ≡ list_any p xs → ltb (cond (not b) (1 + prefix_len passes xs) 0) (suc (length xs)) ≡ (b || list_any p xs)
       by true e = some (length xs)
       by false e = sooner (prefix_len passes xs) (length xs) ∙ e
-
-pub run_bound : (p : ℕ → Bool) (d : List ℕ) (i : ℕ) → i ≤ length d → i + prefix_len p (drop i d) ≤ length d
-run_bound p d i h = omega (arith, prefix_len-le-length p (drop i d), length-drop i d)

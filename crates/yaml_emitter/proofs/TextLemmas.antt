@@ -1,8 +1,8 @@
 -- Texts by their bytes and characters.
-use Rattle.std.proofs.Common.{◌≡◌, ℕ, zero, suc, ◌<◌, List, [], ◌∷◌, true, refl, arith}
-use Rattle.std.specs.Prelude.{IsAscii, nat_lt, slice_index}
+use Rattle.std.proofs.Common.{◌≡◌, ℕ, zero, suc, ◌<◌, List, [], ◌∷◌, true, arith}
+use Rattle.std.specs.Prelude.{nat_lt, slice_index}
 use Rattle.std.specs.Str.{chars}
-use Rattle.std.proofs.lemmas.Bool.{and_parts, and_from, lt-ltb}
+use Rattle.std.proofs.lemmas.Bool.{and_parts}
 use Rattle.std.proofs.lemmas.Bool.Decides.{nat_tests}
 use Rattle.std.proofs.lemmas.Str.{chars-IsAscii}
 use Rattle.yaml_emitter.specs.At.{is_low}
@@ -15,7 +15,3 @@ low_at (c ∷ cs) h (suc i) = let parts = and_parts (nat_lt c 128) (is_low cs) h
 -- bytes that are all ASCII are the characters that they spell
 pub low_chars : (t : List ℕ) → is_low t ≡ true → chars t ≡ t
 low_chars t h = chars-IsAscii t (low_at t h)
-
-pub ascii_low : (t : List ℕ) → IsAscii t → is_low t ≡ true
-ascii_low [] h = refl
-ascii_low (c ∷ cs) h = and_from (nat_lt c 128) (is_low cs) (lt-ltb c 128 (h 0)) (ascii_low cs (λ i. h (suc i)))

@@ -1,6 +1,6 @@
 -- The words that are quoted.
-use Rattle.std.proofs.Common.{◌≡◌, ◌/◌, ◌-◌, ℕ, T, take, ◌++◌, suc, get_or, ◌+◌, cond, ◌<◌, List, [], ◌∷◌, length, ◌≤◌, Bool, true, false, ◌||◌, refl, sym, ap, subst, ◌∙◌, arith}
-use Rattle.std.specs.Prelude.{map, not, ◌&&◌, if◌then◌else◌, ◌==◌, nat_eq, nat_lt, ◌^◌, bit_and, bit_or, bytes_eq, codes, encode_utf8_all}
+use Rattle.std.proofs.Common.{◌≡◌, ℕ, T, take, ◌++◌, suc, get_or, ◌+◌, cond, ◌<◌, List, [], ◌∷◌, length, ◌≤◌, Bool, true, false, ◌||◌, refl, sym, ap, subst, ◌∙◌, arith}
+use Rattle.std.specs.Prelude.{map, not, ◌&&◌, if◌then◌else◌, ◌==◌, nat_eq, nat_lt, bit_or, bytes_eq, codes, encode_utf8_all}
 use Rattle.std.specs.Char.{to_ascii_lowercase}
 use Rattle.std.specs.List.{ends_with, list_all, list_any}
 use Rattle.std.specs.Str.{chars, IsUtf8}
@@ -51,9 +51,6 @@ same_sign c = by (nat_lt c 65) refl
     by : (a : Bool) → nat_lt c 65 ≡ a → is_sign (cond a c (cond (nat_lt c 91) (c + 32) c)) ≡ is_sign c
     by true e = refl
     by false e = letter (cond (nat_lt c 91) (c + 32) c) (lower_high c (nat_lt c 91) e) ∙ sym (letter c e)
-
-below_65 : (c : ℕ) → nat_lt c 65 ≡ true → nat_lt c 128 ≡ true
-below_65 c e = grind (arith, nat_tests)
 
 below_91 : (c : ℕ) → nat_lt c 91 ≡ true → nat_lt c 128 ≡ true
 below_91 c e = grind (arith, nat_tests)

@@ -153,11 +153,8 @@ fn put_mark<W: Writer>(out: &mut W, mark: Mark) -> fmt::Result
 fn put_spaced<W: Writer>(out: &mut W, mark: Mark) -> fmt::Result
     ensures { Writes W.put_gives W.put_leaves out.old result (mark_text mark ++ codes " ") out.new }
 {
-    match mark {
-        Mark::Dash => put_ascii(out, "- "),
-        Mark::Question => put_ascii(out, "? "),
-        Mark::Colon => put_ascii(out, ": "),
-    }
+    put_mark(out, mark)?;
+    put_ascii(out, " ")
 }
 
 /// Whether a node is an array or a hash that is not empty.

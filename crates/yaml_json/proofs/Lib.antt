@@ -1,3 +1,4 @@
+pub mod DigitLemmas
 pub mod FindLemmas
 pub mod GivenLemmas
 pub mod LeftLemmas

@@ -18,6 +18,7 @@
 
 mod error;
 mod find;
+mod integer;
 pub mod laws;
 mod nest;
 mod number;

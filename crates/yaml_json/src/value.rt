@@ -1,6 +1,5 @@
 //! Values (RFC 8259, sections 3 to 6).
 ghost use Rattle.std.specs.Prelude.{◌≡◌, true, chars, OnOk};
-ghost use Rattle.std.specs.Fmt.{signed_decimal};
 ghost use Rattle.defs_json.specs.HasJson.{nesting, item_nesting, member_nesting};
 ghost use Rattle.defs_json.specs.JsonText.{json_text, key_text};
 ghost use Rattle.defs_tree.specs.Box.{is_block};
@@ -11,6 +10,7 @@ ghost use Rattle.yaml_json.specs.Left.{IsTooWide, items_left, members_left, part
 ghost use Rattle.yaml_json.specs.Given.{IsGiven, IsFlatGiven, IsKeyGiven};
 ghost use Rattle.yaml_tree.specs.View.{view, array_tree, hash_tree};
 
+use crate::integer::write_integer;
 use crate::nest::{close_nest, only_item, open_nest};
 use crate::white::{Spacing, begin_entry};
 use std::fmt;
@@ -112,14 +112,6 @@ fn put_text<W: Writer>(out: &mut W, text: &str) -> fmt::Result
     ensures { Writes W.put_gives W.put_leaves out.old result (chars text.now) out.new }
 {
     out.put(text)
-}
-
-#[inline(never)]
-fn write_integer<W: Writer>(out: &mut W, number: i64) -> fmt::Result
-    ensures { Writes W.put_gives W.put_leaves out.old result (signed_decimal number) out.new }
-{
-    let mut buffer = itoa::Buffer::new();
-    put_ascii(out, buffer.format(number))
 }
 
 #[cycle(write)]

@@ -1,0 +1,9 @@
+use Rattle.std.proofs.Common.{refl}
+use Rattle.yaml_emitter.proofs.WritingLemmas.{writes_late, writes_err, stopped_early}
+use Rattle.yaml_emitter.proofs.node.put_spaced.Goals as goal
+
+pub returns-in_err-put_mark : goal.returns-in_err-put_mark
+returns-in_err-put_mark g c = writes_err c.from_residual.ensures.0 (stopped_early _ (c.in_err-put_mark.ensures.err refl))
+
+pub returns : goal.returns
+returns g c = writes_late (c.in_ok-put_mark.ensures.ok refl) c.put_ascii.ensures

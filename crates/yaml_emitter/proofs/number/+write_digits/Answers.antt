@@ -1,0 +1,15 @@
+use Rattle.std.proofs.Common.{refl}
+use Rattle.yaml_emitter.proofs.NumberLemmas.{one_digit, last_digit}
+use Rattle.yaml_emitter.proofs.WritingLemmas.{writes_late, writes_err, writes_as, stopped_as, stopped_early}
+use Rattle.yaml_emitter.proofs.number.+write_digits.Goals as goal
+
+pub returns-then-number-lt10 : goal.returns-then-number-lt10
+returns-then-number-lt10 g t c = writes_as (one_digit c.args.number c.digit.result c.if-number-lt10.true c.digit.ensures) c.put_char.ensures
+
+pub returns-in_err-write_digits : goal.returns-in_err-write_digits
+returns-in_err-write_digits g t c =
+    writes_err c.from_residual.ensures.0 (stopped_as (last_digit c.args.number _ c.if-number-lt10.false c.ranges.number.fits refl) (stopped_early _ (c.in_err-write_digits.ensures.err refl)))
+
+pub returns : goal.returns
+returns g t c =
+    writes_as (last_digit c.args.number c.digit-2.result c.if-number-lt10.false c.ranges.number.fits c.digit-2.ensures) (writes_late (c.in_ok-write_digits.ensures.ok refl) c.put_char-2.ensures)

@@ -1,0 +1,18 @@
+use Rattle.std.proofs.Common.{◌∙◌, to_z-of_z, subst, sym, ap}
+use Rattle.std.specs.Fmt.{signed_decimal}
+use Rattle.std.specs.Str.{IsAscii, IsUtf8}
+use Rattle.std.proofs.lemmas.Str.{IsUtf8-from_ascii}
+use Rattle.yaml_json.proofs.DigitLemmas.{end_text, signed_ascii}
+use Rattle.yaml_json.proofs.integer.spelled.Goals as goal
+
+pub from_utf8_unchecked-requires : goal.from_utf8_unchecked-requires
+from_utf8_unchecked-requires c =
+    let s = c.spell-start in
+    let text = end_text s.result s.new.bytes _ s.array_long (s.ensures.written ∙ ap signed_decimal (to_z-of_z c.ranges.number)) in
+    subst IsUtf8 (sym text) (IsUtf8-from_ascii _ (signed_ascii c.args.number c.ranges.number))
+
+pub returns-clause-ascii : goal.returns-clause-ascii
+returns-clause-ascii c =
+    let s = c.spell-start in
+    let text = end_text s.result s.new.bytes _ s.array_long (s.ensures.written ∙ ap signed_decimal (to_z-of_z c.ranges.number)) in
+    subst IsAscii (sym (c.from_utf8_unchecked.ensures ∙ text)) (signed_ascii c.args.number c.ranges.number)
