@@ -187,9 +187,6 @@ filled_beside [] i a h = absurd (omega arith)
 filled_beside (b ∷ bs) zero a h = omega (arith, filled_counted bs (λ j g. a (suc j) (omega arith)), length-append b (joined bs))
 filled_beside (b ∷ bs) (suc i) a h = omega (arith, a 0 (omega arith), filled_beside bs i (λ j g. a (suc j) (omega arith)) (omega arith), length-append b (joined bs))
 
-pub block_within : (bs : List (List Entry)) (i : ℕ) → length (get_or bs i []) ≤ length (joined bs)
-block_within bs i = omega (arith, start_next bs i (suc i) refl, start_within bs (suc i))
-
 -- ---- where digests reach a number
 
 pub edge_first : (bs : List (List Entry)) (m k : ℕ) → AreFilled bs → IsEdge (head_at bs) (length bs) m k → k ≡ 0 → IsEdge (digest_at (joined bs)) (length (joined bs)) m (start bs 0 + 0)
@@ -260,14 +257,6 @@ edge_past es m j d h = record {
   where
     same : (j : ℕ) → j + 0 ≡ j
     same j = omega arith
-
--- an entry that has the digest is the only one if the next has a higher one
-pub edge_single : (es : List Entry) (m j : ℕ) → IsEdge (digest_at es) (length es) m j → j < length es → digest_at es j ≤ m → (j + 1 < length es → m < digest_at es (j + 1))
-    → IsNarrowed es m j 1
-edge_single es m j d h g past = record { within = omega (arith, h); below = d.below; inside = only; above = past }
-  where
-    only : (i : ℕ) → j ≤ i → i < j + 1 → digest_at es i ≡ m
-    only i low high = let same : i ≡ j = omega arith in omega (arith, ap (digest_at es) same, d.from h, g)
 
 -- ---- reads and changes of a list of blocks
 

@@ -37,6 +37,13 @@ impl Block {
         Ok(Block { entries })
     }
 
+    /// A block of these entries.
+    pub(crate) fn with(entries: Vec<Entry>) -> Block
+        ensures { result ≡ entries.items }
+    {
+        Block { entries }
+    }
+
     pub(crate) fn len(&self) -> usize
         ensures { result ≡ length self.now }
     {

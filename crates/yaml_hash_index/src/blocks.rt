@@ -69,6 +69,19 @@ impl Blocks {
         })
     }
 
+    /// One block of these entries.
+    pub fn of(alloc: Global, entries: Vec<Entry>) -> Result<Blocks, AllocError>
+        requires { 0 < length entries.items }
+        ensures { IfOk result (λ b. joined b ≡ entries.items) }
+    {
+        let mut starts = Vec::with_capacity(alloc, 2)?;
+        starts.push(0)?;
+        starts.push(entries.len())?;
+        let mut blocks = Vec::new(alloc);
+        blocks.push(Block::with(entries))?;
+        Ok(Blocks { blocks, starts })
+    }
+
     /// The place at a spot.
     pub fn place(&self, spot: Spot) -> usize
         requires { IsTaken self.now spot }

@@ -34,13 +34,13 @@ module _ (m : Tree → ℕ) (s t : Tree) where
   higher_digest : m t < m s → key_cmp m s t ≡ Greater
   higher_digest h = ap (λ o. ordering_then o (tree_cmp s t)) (greater (m s) (m t) h)
 
-  lower_digest : m s < m t → key_cmp m s t ≡ Less
+  pub lower_digest : m s < m t → key_cmp m s t ≡ Less
   lower_digest h = ap (λ o. ordering_then o (tree_cmp s t)) (less (m s) (m t) h)
 
   pub same_digest : m t ≡ m s → key_cmp m s t ≡ tree_cmp s t
   same_digest e = ap (λ o. ordering_then o (tree_cmp s t)) (equal (m s) (m t) (sym e))
 
-  numbers_rise : key_cmp m s t ≡ Less → m s ≤ m t
+  pub numbers_rise : key_cmp m s t ≡ Less → m s ≤ m t
   numbers_rise e = by (cases_lt (m t) (m s))
     where
       by : (m t < m s) ⊎ (m s ≤ m t) → m s ≤ m t

@@ -1,4 +1,3 @@
-pub mod Beginnings
 pub mod Comparing
 pub mod Copied
 pub mod Discarding
@@ -13,6 +12,7 @@ pub mod Placed
 pub mod Ranking
 pub mod Rows
 pub mod Seating
+pub mod Sorting
 pub mod TextLemmas
 pub mod TextOrder
 pub mod WeightLemmas

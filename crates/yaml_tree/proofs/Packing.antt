@@ -1,8 +1,10 @@
 -- Places that stand in one number as its digits to base 16.
-use Rattle.std.proofs.Common.{◌≡◌, ℕ, zero, suc, ◌+◌, ◌-◌, ◌*◌, ◌^◌, ◌<◌, ◌≤◌, ◌/◌, ◌%◌, List, ◌∷◌, length, get_or, refl, sym, ap, subst, ◌∙◌, arith}
-use Rattle.std.specs.List.{insert}
+use Rattle.std.proofs.Common.{◌≡◌, ℕ, zero, suc, ◌+◌, ◌-◌, ◌*◌, ◌^◌, ◌<◌, ◌≤◌, ◌/◌, ◌%◌, List, [], ◌∷◌, length, map, get_or, refl, sym, ap, subst, ◌∙◌, arith}
+use Rattle.std.specs.List.{insert, remove}
+use Rattle.std.proofs.lemmas.Bool.Decides.{nat_tests}
 use Rattle.std.proofs.lemmas.Nat.{shr-shr, shr_split, mod-pow-add, pow-add, pow_below, shr_le}
 use Rattle.std.proofs.Math.Nat.{mul_assoc, mul_comm}
+use Rattle.yaml_hash_index.specs.Moves.{closed_up, moved_up}
 use Rattle.yaml_tree.specs.Packed.{digits, unpacked, IsPacked}
 
 pub length_digits : (n w : ℕ) → length (digits n w) ≡ n
@@ -168,3 +170,67 @@ place_at w r ps e h =
 -- the same of the places
 pub is_with_place : (w r p : ℕ) (ps : List ℕ) → unpacked w ≡ ps → IsPacked w → length ps < 14 → r ≤ length ps → p < 16 → IsWith w r p
 is_with_place w r p ps e k room h l = is_with w r p k (omega (arith, count_of w ps e, room)) (omega (arith, count_of w ps e, h)) l
+
+-- ---- places that are packed one by one, the last rank first
+
+abbrev pub packed : List ℕ → ℕ
+packed [] = 0
+packed (p ∷ ps) = packed ps * 16 + p
+
+-- each takes four bits
+abbrev pub AreLow : List ℕ → Type 0
+AreLow [] = Unit {0}
+AreLow (p ∷ ps) = (p < 16) × AreLow ps
+
+pub low_remove : (n : ℕ) (ps : List ℕ) → AreLow ps → AreLow (remove ps n)
+low_remove zero [] h = tt
+low_remove (suc n) [] h = tt
+low_remove zero (p ∷ ps) h = h.1
+low_remove (suc n) (p ∷ ps) h = (h.0, low_remove n ps h.1)
+
+pub length_remove : (n : ℕ) (ps : List ℕ) → length (remove ps n) ≤ length ps
+length_remove zero [] = omega arith
+length_remove (suc n) [] = omega arith
+length_remove zero (p ∷ ps) = omega arith
+length_remove (suc n) (p ∷ ps) = omega (arith, length_remove n ps)
+
+pub low_map : (f : ℕ → ℕ) → ((p : ℕ) → p < 16 → f p < 16) → (ps : List ℕ) → AreLow ps → AreLow (map f ps)
+low_map f g [] h = tt
+low_map f g (p ∷ ps) h = (g p h.0, low_map f g ps h.1)
+
+pub packed_below : (ps : List ℕ) → AreLow ps → packed ps < 2 ^ (4 * length ps)
+packed_below [] h = omega arith
+packed_below (p ∷ ps) h = omega (arith, h.0, packed_below ps h.1, four_more (length ps))
+
+digits_packed : (ps : List ℕ) → AreLow ps → digits (length ps) (packed ps) ≡ ps
+digits_packed [] h = refl
+digits_packed (p ∷ ps) h =
+    ap (λ d. d ∷ digits (length ps) ((packed ps * 16 + p) / 16)) last ∙ ap (λ v. p ∷ digits (length ps) v) before ∙ ap (λ ds. p ∷ ds) (digits_packed ps h.1)
+  where
+    last : (packed ps * 16 + p) % 16 ≡ p
+    last = omega (arith, h.0)
+
+    before : (packed ps * 16 + p) / 16 ≡ packed ps
+    before = omega (arith, h.0)
+
+-- there is room for one more
+pub packed_fits : (ps : List ℕ) → AreLow ps → length ps ≤ 14 → packed ps < 2 ^ 57
+packed_fits ps h few = omega (arith, packed_below ps h, pow_below (4 * length ps) 57 (omega (arith, few)))
+
+pub is_packed : (ps : List ℕ) (n : ℕ) → AreLow ps → n ≡ length ps → n ≤ 14 → IsPacked (packed ps * 16 + n)
+is_packed ps n h e few = same_packed (omega arith) (packed_of n (packed ps) few (subst (λ m. packed ps < 2 ^ (4 * m)) (sym e) (packed_below ps h)))
+
+pub unpacked_again : (ps : List ℕ) (n : ℕ) → AreLow ps → n ≡ length ps → n ≤ 14 → unpacked (packed ps * 16 + n) ≡ ps
+unpacked_again ps n h e few = ap (λ c. digits c ((packed ps * 16 + n) / 16)) (count ∙ e) ∙ ap (digits (length ps)) rest ∙ digits_packed ps h
+  where
+    count : (packed ps * 16 + n) % 16 ≡ n
+    count = omega (arith, few)
+
+    rest : (packed ps * 16 + n) / 16 ≡ packed ps
+    rest = omega (arith, few)
+
+pub low_closed : (gone p : ℕ) → p < 16 → closed_up gone p < 16
+low_closed gone p h = grind (arith, nat_tests)
+
+pub low_moved : (gone count p : ℕ) → count ≤ 14 → p < 16 → moved_up gone count p < 16
+low_moved gone count p few h = grind (arith, nat_tests)

@@ -101,7 +101,7 @@ moved_same p n q h = grind (arith, nat_tests)
 moved_other : (p n q : ℕ) → q ≢ p → moved_up p n q ≡ closed_up p q
 moved_other p n q h = grind (arith, nat_tests)
 
-sides : (q p : ℕ) → (q < p) ⊎ ((q ≡ p) ⊎ (p < q))
+pub sides : (q p : ℕ) → (q < p) ⊎ ((q ≡ p) ⊎ (p < q))
 sides q p = by (cases_lt q p) (cases_lt p q)
   where
     by : (q < p) ⊎ (p ≤ q) → (p < q) ⊎ (q ≤ p) → (q < p) ⊎ ((q ≡ p) ⊎ (p < q))
@@ -130,9 +130,6 @@ closed_within p q n a h g = by (sides q p)
     by (inr (inr l)) = omega (arith, closed_above p q l)
 
 -- ---- ranks
-
-pub no_ranks : {m : Tree → ℕ} → AreRanked m [] []
-no_ranks = record { counted = refl; within = λ r h. absurd (omega arith); ascending = λ r s h g. absurd (omega arith) }
 
 -- the same keys at the same ranks
 same_keys : {m : Tree → ℕ} (rs qs : List ℕ) (ps us : Pairs) → AreRanked m rs ps → length qs ≡ length rs → length us ≡ length ps

@@ -1,5 +1,5 @@
 //! Places by rank for a short hash, with no memory of their own.
-ghost use Rattle.std.specs.Prelude.{◌≡◌, ◌<◌, ◌≤◌, ◌+◌, ◌++◌, ◌∷◌, [], length, map, get_or};
+ghost use Rattle.std.specs.Prelude.{◌≡◌, ◌<◌, ◌≤◌, ◌+◌, [], length, map, get_or};
 ghost use Rattle.std.specs.List.{insert, remove};
 ghost use Rattle.yaml_hash_index.specs.Moves.{closed_up, moved_up};
 
@@ -71,27 +71,23 @@ impl Few {
         self.packed = below + ((above * 16 + place as u64) << shift) + 1;
     }
 
-    fn push(&mut self, place: usize)
-        requires room { length self.old < 14 }
-        requires low { place < 16 }
-        ensures { self.new ≡ self.old ++ place ∷ [] }
-    {
-        self.insert(self.len(), place);
-    }
-
     /// The places without that of a rank; the places above it fall by one.
     pub(crate) fn without(&self, rank: usize) -> Few
         requires { rank < length self.now }
         ensures { result ≡ map (closed_up (get_or self.now rank 0)) (remove self.now rank) }
     {
         let gone = self.at(rank);
-        let mut rest = Few::new();
-        for other in 0..self.len() {
-            if other != rank {
-                rest.push(closed_up(gone, self.at(other)));
+        let mut rest: u64 = 0;
+        let mut left = self.len();
+        while 0 < left {
+            left -= 1;
+            if left != rank {
+                rest = rest * 16 + closed_up(gone, self.at(left)) as u64;
             }
         }
-        rest
+        Few {
+            packed: rest * 16 + (self.len() - 1) as u64,
+        }
     }
 
     /// The places after the pair at `gone` moved to the end; the places above it fall by one.
@@ -99,10 +95,14 @@ impl Few {
         ensures { result ≡ map (moved_up gone (length self.now)) self.now }
     {
         let count = self.len();
-        let mut moved = Few::new();
-        for rank in 0..count {
-            moved.push(moved_up(gone, count, self.at(rank)));
+        let mut moved: u64 = 0;
+        let mut left = count;
+        while 0 < left {
+            left -= 1;
+            moved = moved * 16 + moved_up(gone, count, self.at(left)) as u64;
         }
-        moved
+        Few {
+            packed: moved * 16 + count as u64,
+        }
     }
 }

@@ -4,17 +4,18 @@ ghost use Rattle.std.specs.Prelude.{◌≡◌, ◌<◌, ◌≤◌, ◌+◌, ◌*
 ghost use Rattle.std.specs.List.{remove};
 ghost use Rattle.yaml_hash_index.specs.Blocks.{joined, rank_of, IsSpot};
 ghost use Rattle.yaml_hash_index.specs.Counts.{RisesWithin};
+ghost use Rattle.yaml_hash_index.specs.Edges.{digest_at, AreRising};
 ghost use Rattle.yaml_hash_index.specs.Moves.{closed_up, moved_up};
 ghost use Rattle.defs_tree.specs.Digits.{binary_digits};
-ghost use Rattle.defs_tree.specs.Pairs.{place_of, AreDistinct};
+ghost use Rattle.defs_tree.specs.Pairs.{place_of};
 ghost use Rattle.defs_tree.specs.Tree.{Tree};
-ghost use Rattle.yaml_tree.specs.Flat.{flat};
 ghost use Rattle.yaml_tree.specs.Digests.{digest, first_by, AreDigests, HaveRising, IsWindow};
 ghost use Rattle.yaml_tree.specs.Places.{places_in, digests_in, places, digests, rank_at, HasSpot, HasPlace, HasDigests, IsIndexed};
 ghost use Rattle.yaml_tree.specs.Probes.{probed};
 ghost use Rattle.yaml_tree.specs.Ranked.{AreRanked, IsHash, IsRankGap};
 ghost use Rattle.yaml_tree.specs.View.{view, items_view, pairs_view};
 
+use crate::digest::digest;
 use crate::few::{Few, ROOM};
 use crate::search::{Gap, Probe, search};
 use crate::steps::Steps;
@@ -54,22 +55,43 @@ fn put(blocks: &mut Blocks, row: &[Yaml], gap: Gap, key: &Yaml) -> Result<(), Al
     Ok(())
 }
 
-// The index by digests of the pairs of a row.
+// The offset after all entries whose digest is not above this one.
+fn end_of(entries: &[Entry], digest: u64) -> usize
+    requires rising { AreRising entries.now }
+    ensures within { result ≤ length entries.now }
+    ensures before { (i : ℕ) → i < result → digest_at entries.now i ≤ digest }
+    ensures after { (i : ℕ) → result ≤ i → i < length entries.now → digest < digest_at entries.now i }
+{
+    let mut end = entries.len();
+    while 0 < end {
+        if entries[end - 1].digest <= digest {
+            return end;
+        }
+        end -= 1;
+    }
+    0
+}
+
+// The index by digests of the pairs of a row, whose places these are. No two keys are compared: those of places that come
+// later are higher, so with the same digest they belong after the others.
 #[inline(never)]
-fn by_digests(alloc: Global, row: &[Yaml]) -> Result<Ranks, AllocError>
-    requires even { items_view row.now ≡ flat (pairs_view row.now) }
-    requires distinct { AreDistinct (pairs_view row.now) }
+fn by_digests(alloc: Global, row: &[Yaml], few: &Few) -> Result<Ranks, AllocError>
+    requires hash { IsHash (λ k. 0) (items_view row.now) few.now }
+    requires some { 0 < length few.now }
     ensures indexed { IfOk result (λ r. IsIndexed (items_view row.now) r.kept) }
     ensures many { IfOk result (λ r. HasDigests r.kept) }
 {
-    let blocks = Box::new(alloc, Blocks::new(alloc)?)?;
-    let mut ranks = Ranks {
-        kept: Kept::Many(blocks),
-    };
-    for place in 0..row.len() / 2 {
-        ranks.add(&row[..2 * place], &row[2 * place])?;
+    let mut entries = Vec::with_capacity(alloc, 16)?;
+    for rank in 0..few.len() {
+        let place = few.at(rank);
+        let digest = digest(&row[2 * place]);
+        let offset = end_of(entries.as_slice(), digest);
+        entries.insert(offset, Entry { digest, place })?;
     }
-    Ok(ranks)
+    let blocks = Box::new(alloc, Blocks::of(alloc, entries)?)?;
+    Ok(Ranks {
+        kept: Kept::Many(blocks),
+    })
 }
 
 impl Ranks {
@@ -170,8 +192,8 @@ impl Ranks {
                 few.insert(gap.spot.offset, place);
                 Ok(())
             }
-            Kept::Few(_) => {
-                let mut ranks = by_digests(alloc, row)?;
+            Kept::Few(few) => {
+                let mut ranks = by_digests(alloc, row, few)?;
                 ranks.add(row, key)?;
                 *self = ranks;
                 Ok(())

@@ -1,32 +1,81 @@
-use Rattle.std.proofs.Common.{◌+◌, ◌*◌, ◌<◌, ◌≤◌, length, subst, ◌∙◌, arith}
-use Rattle.std.proofs.lemmas.List.{take_all}
-use Rattle.yaml_tree.specs.Places.{IsIndexed}
-use Rattle.yaml_tree.specs.View.{items_view, pairs_view}
-use Rattle.yaml_tree.proofs.Beginnings.{key_absent, indexed_next, indexed_none}
-use Rattle.yaml_tree.proofs.Flattened.{row_length}
+use Rattle.std.proofs.Common.{◌≡◌, ◌+◌, ◌<◌, ◌≤◌, ℕ, List, length, get_or, map, sym, ap, subst, ◌∙◌, arith}
+use Rattle.std.specs.List.{insert}
+use Rattle.std.proofs.lemmas.List.{length-map}
+use Rattle.yaml_hash_index.specs.Blocks.{joined}
+use Rattle.yaml_hash_index.specs.Edges.{digest_at, AreRising}
+use Rattle.yaml_hash_index.specs.declared.entry.Entry.{Entry}
+use Rattle.yaml_tree.specs.Digests.{digest, AreDigests}
+use Rattle.yaml_tree.specs.Places.{place_of_entry, digest_of_entry}
+use Rattle.yaml_tree.specs.Ranked.{key_at, key_of_rank, AreRanked}
+use Rattle.yaml_tree.specs.View.{pairs_view}
+use Rattle.yaml_tree.proofs.Indexed.{digest_mapped, map-insert}
+use Rattle.yaml_tree.proofs.Ranking.{Pairs}
+use Rattle.yaml_tree.proofs.Rows.{ranked_inside, inside_row, ranked_key}
+use Rattle.yaml_tree.proofs.Sorting.{AreSorted, sorted_next, sorted_all, digests_next, entries_sorted}
 use Rattle.yaml_tree.proofs.ranks.by_digests.Goals as goal
 
-pub loop-place-init : goal.loop-place-init
-loop-place-init c = record {
-  indexed = indexed_none c.in_ok-blocks.blocks ((c.in_ok-blocks.ensures {u = tt}).ok ∙ c.in_ok-new.ensures {u = tt});
-  many = tt;
+pub bounds-row-place : goal.bounds-row-place
+bounds-row-place c =
+    let within : c.loop-rank.rank < length c.args.few.now = omega (arith, c.loop-rank-test.true, c.len-rank-end.ensures.count) in
+    omega (arith, inside_row c.args.row.now c.args.few.now c.requires.hash c.at-place.result (ranked_inside c.args.row.now c.args.few.now c.requires.hash c.loop-rank.rank c.at-place.result within c.at-place.ensures.place))
+
+pub end_of-offset-requires : goal.end_of-offset-requires
+end_of-offset-requires c = record {
+  rising = subst AreRising (sym c.as_slice.ensures.value) (entries_sorted c.loop-rank.entries.items c.args.few.now (pairs_view c.args.row.now) c.loop-rank.rank c.loop-rank.invariant.sorted c.loop-rank.invariant.digested);
 }
 
-pub add-requires-clause-absent : goal.add-requires-clause-absent
-add-requires-clause-absent c =
-    let inside : c.loop-place.place < length (pairs_view c.args.row.now) = omega (arith, c.loop-place-test.true, row_length c.args.row.now (pairs_view c.args.row.now) c.requires.even) in
-    key_absent c.args.row.now c.requires.even c.requires.distinct c.loop-place.place c.index-row-place.result inside c.index-row-place.is
+-- the entries with one more
+next : (es fs : List Entry) (rs : List ℕ) (ps : Pairs) (r at : ℕ) (e : Entry) → AreSorted (map place_of_entry es) rs ps r → AreDigests (map digest_of_entry es) (map place_of_entry es) ps → AreRanked (λ k. 0) rs ps
+    → r < length rs → e.place ≡ get_or rs r 0 → e.digest ≡ digest (key_of_rank rs ps r) → at ≤ length es → ((i : ℕ) → i < at → digest_at es i ≤ e.digest)
+    → ((i : ℕ) → at ≤ i → i < length es → e.digest < digest_at es i) → fs ≡ insert es at e
+    → AreSorted (map place_of_entry fs) rs ps (r + 1) × AreDigests (map digest_of_entry fs) (map place_of_entry fs) ps
+next es fs rs ps r at e sorted digested ranked inside its number within before after same = (
+  subst (λ qs. AreSorted qs rs ps (r + 1)) (sym places)
+      (sorted_next (map place_of_entry es) rs ps r at sorted ranked inside (omega (arith, within, length-map es place_of_entry))
+      (λ s h. omega (arith, before s h, of_entry s (omega (arith, h, within)), number))
+      (λ s h g. omega (arith, after s h (omega (arith, g, length-map es place_of_entry)), of_entry s (omega (arith, g, length-map es place_of_entry)), number))),
+  subst (λ ms. AreDigests ms (map place_of_entry fs) ps) (sym digests)
+      (subst (λ qs. AreDigests (insert (map digest_of_entry es) at e.digest) qs ps) (sym (ap (map place_of_entry) same ∙ map-insert place_of_entry es at e))
+      (digests_next (map digest_of_entry es) (map place_of_entry es) ps at e.digest e.place (length-map es digest_of_entry ∙ sym (length-map es place_of_entry)) (omega (arith, within, length-map es place_of_entry)) digested
+      (number ∙ sym (ap (λ p. digest (key_at ps p)) its)))),
+)
+  where
+    places : map place_of_entry fs ≡ insert (map place_of_entry es) at (get_or rs r 0)
+    places = ap (map place_of_entry) same ∙ map-insert place_of_entry es at e ∙ ap (insert (map place_of_entry es) at) its
 
-pub loop-place-preserved : goal.loop-place-preserved
-loop-place-preserved c =
-    let inside : c.loop-place.place < length (pairs_view c.args.row.now) = omega (arith, c.loop-place-test.true, row_length c.args.row.now (pairs_view c.args.row.now) c.requires.even) in
-    let added = c.in_ok-add.ensures {u = tt} in
-    record {
-      indexed = indexed_next c.args.row.now c.requires.even c.requires.distinct _ c.loop-place.place (c.loop-place.place + 1) c.index-row-place.result inside (omega arith) c.index-row-place.is added.many added.ranked added.digested;
-      many = added.many;
-    }
+    digests : map digest_of_entry fs ≡ insert (map digest_of_entry es) at e.digest
+    digests = ap (map digest_of_entry) same ∙ map-insert digest_of_entry es at e
+
+    of_entry : (s : ℕ) → s < length es → digest_at es s ≡ digest (key_of_rank (map place_of_entry es) ps s)
+    of_entry s h = sym (digest_mapped es s) ∙ digested s (omega (arith, h, length-map es digest_of_entry))
+
+pub loop-rank-preserved : goal.loop-rank-preserved
+loop-rank-preserved c =
+    let es = c.loop-rank.entries.items in
+    let rs = c.args.few.now in
+    let ps = pairs_view c.args.row.now in
+    let within : c.loop-rank.rank < length rs = omega (arith, c.loop-rank-test.true, c.len-rank-end.ensures.count) in
+    let key = ranked_key c.args.row.now rs c.requires.hash c.loop-rank.rank c.at-place.result c.index-row-place.result within c.at-place.ensures.place c.index-row-place.is in
+    let seen = c.as_slice.ensures.value in
+    let at = c.end_of-offset.result in
+    let both = next es c.insert.new.self.items rs ps c.loop-rank.rank at (record { digest = c.digest-digest.result; place = c.at-place.result })
+    c.loop-rank.invariant.sorted c.loop-rank.invariant.digested c.requires.hash.ranked within c.at-place.ensures.place
+    (c.digest-digest.ensures.digest ∙ ap digest key)
+    (omega (arith, c.end_of-offset.ensures.within, ap length seen))
+    (λ i h. omega (arith, c.end_of-offset.ensures.before i h, ap (λ xs. digest_at xs i) seen))
+    (λ i h g. omega (arith, c.end_of-offset.ensures.after i h (omega (arith, g, ap length seen)), ap (λ xs. digest_at xs i) seen))
+    ((c.in_ok-insert.ensures {u = tt}).items) in
+    record { sorted = both.0; digested = both.1 }
 
 pub returns-clause-indexed : goal.returns-clause-indexed
 returns-clause-indexed c =
-    let all : length c.args.row.now ≤ 2 * c.loop-place.place = omega (arith, c.loop-place-test.false, row_length c.args.row.now (pairs_view c.args.row.now) c.requires.even) in
-    subst (λ ys. IsIndexed (items_view ys) c.loop-place.ranks.kept) (take_all (2 * c.loop-place.place) c.args.row.now all) c.loop-place.invariant.indexed
+    let es = c.loop-rank.entries.items in
+    let rs = c.args.few.now in
+    let ps = pairs_view c.args.row.now in
+    let sorted = c.loop-rank.invariant.sorted in
+    let all = sorted_all (map place_of_entry es) rs ps c.loop-rank.rank sorted c.requires.hash.ranked.counted (omega (arith, c.loop-rank-test.false, c.len-rank-end.ensures.count)) (omega (arith, c.loop-rank.auto.rank-end, c.len-rank-end.ensures.count)) in
+    let made : joined c.in_ok-blocks.blocks.value ≡ es = ap joined (c.in_ok-blocks.ensures {u = tt}).ok ∙ c.in_ok-of.ensures {u = tt} in
+    record {
+      hash = record { even = c.requires.hash.even; distinct = c.requires.hash.distinct; ranked = subst (λ xs. AreRanked digest (map place_of_entry xs) ps) (sym made) all };
+      digested = subst (λ xs. AreDigests (map digest_of_entry xs) (map place_of_entry xs) ps) (sym made) c.loop-rank.invariant.digested;
+    }

@@ -1,10 +1,12 @@
-use Rattle.std.proofs.Common.{◌*◌, take}
-use Rattle.yaml_tree.specs.Places.{HasDigests, IsIndexed}
-use Rattle.yaml_tree.specs.View.{items_view}
+use Rattle.std.proofs.Common.{map}
+use Rattle.yaml_tree.specs.Digests.{AreDigests}
+use Rattle.yaml_tree.specs.Places.{place_of_entry, digest_of_entry}
+use Rattle.yaml_tree.specs.View.{pairs_view}
+use Rattle.yaml_tree.proofs.Sorting.{AreSorted}
 use Rattle.yaml_tree.proofs.ranks.by_digests.Given as goal
 
-abbrev pub invariant-loop-place : goal.invariant-loop-place
-invariant-loop-place l = record {
-  indexed : IsIndexed (items_view (take (2 * l.place) l.row)) l.ranks.kept;
-  many : HasDigests l.ranks.kept;
+abbrev pub invariant-loop-rank : goal.invariant-loop-rank
+invariant-loop-rank l = record {
+  sorted : AreSorted (map place_of_entry l.entries.items) l.few (pairs_view l.row) l.rank;
+  digested : AreDigests (map digest_of_entry l.entries.items) (map place_of_entry l.entries.items) (pairs_view l.row);
 }

@@ -1,64 +1,149 @@
-use Rattle.std.proofs.Common.{◌≡◌, ◌≢◌, ℕ, suc, ◌+◌, ◌-◌, ◌<◌, ◌≤◌, ◌⊎◌, inl, inr, List, [], ◌∷◌, ◌++◌, length, get_or, take, map, sym, ap, length-append, ◌∙◌, arith}
+use Rattle.std.proofs.Common.{◌≡◌, ◌≢◌, ◌+◌, ◌-◌, ◌*◌, ◌<◌, ◌≤◌, ◌^◌, ◌⊎◌, ◌∷◌, inl, inr, List, ℕ, suc, length, get_or, map, drop, sym, ap, subst, ◌∙◌, arith}
 use Rattle.std.specs.List.{remove}
 use Rattle.std.proofs.lemmas.Bool.{cases_lt}
-use Rattle.std.proofs.lemmas.List.{take_more, take_all, drop_all, append-nil, length-take-le, map-append}
-use Rattle.std.proofs.lemmas.List.Edits.{remove-append_left, remove-append_right}
+use Rattle.std.proofs.lemmas.List.{length-map, length-drop, drop_more, drop_all}
+use Rattle.std.proofs.lemmas.List.Edits.{length-remove}
 use Rattle.yaml_hash_index.specs.Moves.{closed_up}
-use Rattle.yaml_tree.proofs.few.Few.without.Goals.{then-other-rank, else-other-rank}
+use Rattle.yaml_tree.specs.Packed.{unpacked}
+use Rattle.yaml_tree.proofs.Packing.{packed, AreLow, low_map, low_closed, low_remove, length_remove, packed_fits, is_packed, unpacked_again, same_packed}
 use Rattle.yaml_tree.proofs.few.Few.without.Goals as goal
 
-past : (xs : List ℕ) (n : ℕ) → length xs ≤ n → remove xs n ≡ xs
-past xs n h = ap (λ ys. take n xs ++ ys) (drop_all (suc n) xs (omega (arith, h))) ∙ append-nil (take n xs) ∙ take_all n xs h
+one_more : (xs : List ℕ) (left : ℕ) → 0 < left → left ≤ length xs → drop (left - 1) xs ≡ get_or xs (left - 1) 0 ∷ drop left xs
+one_more xs left some h = drop_more xs (left - 1) 0 (omega arith) ∙ ap (λ n. get_or xs (left - 1) 0 ∷ drop n xs) (omega arith)
 
-kept : (xs : List ℕ) (i rank : ℕ) → i < length xs → i ≢ rank → remove (take (i + 1) xs) rank ≡ remove (take i xs) rank ++ get_or xs i 0 ∷ []
-kept xs i rank h other = ap (λ ys. remove ys rank) (take_more xs i 0 h) ∙ by (cases_lt rank i)
+low_places : (gone : ℕ) (xs : List ℕ) → AreLow xs → AreLow (map (closed_up gone) xs)
+low_places gone xs low = low_map (closed_up gone) (low_closed gone) xs low
+
+fits : (xs : List ℕ) (gone rank left n : ℕ) → length xs ≤ 14 → AreLow (drop left xs) → (rank < left → n ≡ packed (map (closed_up gone) (drop left xs)))
+    → (left ≤ rank → n ≡ packed (map (closed_up gone) (remove (drop left xs) (rank - left)))) → n < 2 ^ 57
+fits xs gone rank left n few low after before = by (cases_lt rank left)
   where
-    count : length (take i xs) ≡ i
-    count = length-take-le i xs (omega (arith, h))
+    ys : List ℕ
+    ys = remove (drop left xs) (rank - left)
 
-    by : (rank < i) ⊎ (i ≤ rank) → remove (take i xs ++ get_or xs i 0 ∷ []) rank ≡ remove (take i xs) rank ++ get_or xs i 0 ∷ []
-    by (inl less) = remove-append_left (take i xs) (get_or xs i 0 ∷ []) rank (omega (arith, less, count))
-    by (inr more) =
-        let after : 1 ≤ rank - i = omega (arith, more, other) in
-        remove-append_right (take i xs) (get_or xs i 0 ∷ []) i rank count more
-        ∙ ap (λ ys. take i xs ++ ys) (past (get_or xs i 0 ∷ []) (rank - i) after)
-        ∙ ap (λ ys. ys ++ get_or xs i 0 ∷ []) (sym (past (take i xs) rank (omega (arith, more, count))))
+    by : (rank < left) ⊎ (left ≤ rank) → n < 2 ^ 57
+    by (inl h) =
+        omega (arith, after h, packed_fits (map (closed_up gone) (drop left xs)) (low_places gone (drop left xs) low) (omega (arith, few, length-map (drop left xs) (closed_up gone), length-drop left xs)))
+    by (inr h) =
+        omega (
+          arith,
+          before h,
+          packed_fits (map (closed_up gone) ys) (low_places gone ys (low_remove (rank - left) (drop left xs) low))
+              (omega (arith, few, length-map ys (closed_up gone), length_remove (rank - left) (drop left xs), length-drop left xs)),
+        )
 
-gone : (xs : List ℕ) (i rank : ℕ) → i < length xs → i ≡ rank → remove (take (i + 1) xs) rank ≡ remove (take i xs) rank
-gone xs i rank h same =
-    ap (λ ys. remove ys rank) (take_more xs i 0 h)
-    ∙ remove-append_right (take i xs) (get_or xs i 0 ∷ []) i rank count (omega (arith, same))
-    ∙ ap (λ n. take i xs ++ remove (get_or xs i 0 ∷ []) n) none
-    ∙ append-nil (take i xs)
-    ∙ sym (past (take i xs) rank (omega (arith, same, count)))
-  where
-    count : length (take i xs) ≡ i
-    count = length-take-le i xs (omega (arith, h))
+module _ (xs : List ℕ) (gone rank left n : ℕ) (none : left ≤ 0) (low : AreLow (drop left xs)) (before : left ≤ rank → n ≡ packed (map (closed_up gone) (remove (drop left xs) (rank - left)))) where
+  start : left ≡ 0
+  start = omega (arith, none)
 
-    none : rank - i ≡ 0
-    none = omega (arith, same)
+  all : n ≡ packed (map (closed_up gone) (remove xs rank))
+  all = before (omega (arith, none)) ∙ ap (λ l. packed (map (closed_up gone) (remove (drop l xs) (rank - l)))) start ∙ ap (λ k. packed (map (closed_up gone) (remove xs k))) (omega arith)
 
-pub loop-other-preserved : goal.loop-other-preserved
-loop-other-preserved c =
-    let i = c.loop-other.invariant in
+  low_all : AreLow (map (closed_up gone) (remove xs rank))
+  low_all = low_places gone (remove xs rank) (low_remove rank xs (subst (λ l. AreLow (drop l xs)) start low))
+
+  counted : (m : ℕ) → rank < length xs → m ≡ length xs → m - 1 ≡ length (map (closed_up gone) (remove xs rank))
+  counted m h e = omega (arith, e, h, length-remove xs rank h, length-map (remove xs rank) (closed_up gone))
+
+pub loop-left-init : goal.loop-left-init
+loop-left-init c =
+    let none = drop_all c.len-left.result c.args.self.now (omega (arith, c.len-left.ensures.count)) in
+    record {
+      within = omega (arith, c.len-left.ensures.count);
+      low = subst AreLow (sym none) tt;
+      after = λ h. sym (ap (λ xs. packed (map (closed_up c.at-gone.result) xs)) none);
+      before = λ h. absurd (omega (arith, h, c.len-left.ensures.count, c.requires));
+    }
+
+pub overflow_mul-rest : goal.overflow_mul-rest
+overflow_mul-rest c =
+    let i = c.loop-left.invariant in
+    omega (arith, fits c.args.self.now c.at-gone.result c.args.rank c.loop-left.left c.loop-left.rest (omega (arith, c.len-left.ensures.count, c.len-left.ensures.within)) i.low i.after i.before)
+
+pub overflow_add-rest : goal.overflow_add-rest
+overflow_add-rest c =
+    let i = c.loop-left.invariant in
+    omega (
+      arith,
+      fits c.args.self.now c.at-gone.result c.args.rank c.loop-left.left c.loop-left.rest (omega (arith, c.len-left.ensures.count, c.len-left.ensures.within)) i.low i.after i.before,
+      c.closed_up.ensures,
+      low_closed c.at-gone.result c.at.result c.at.ensures.low,
+    )
+
+pub loop-left-preserved-then-left-rank : goal.loop-left-preserved-then-left-rank
+loop-left-preserved-then-left-rank c =
+    let i = c.loop-left.invariant in
     let xs = c.args.self.now in
-    let within : c.loop-other.other < length xs = omega (arith, c.loop-other-test.true, c.len-other-end.ensures.count) in
-    let at = c.loop-other.other in
+    let left = c.loop-left.left in
+    let rank = c.args.rank in
     let f = closed_up c.at-gone.result in
-    let before = remove (take at xs) c.args.rank in
-    elim c.if-other-rank.branch [
-      | then-other-rank w ↦
-          let added = w.rest-is ∙ w.push.ensures in
-          record {
-            room = omega (arith, i.room, ap length added, length-append c.loop-other.rest (w.closed_up.result ∷ []));
-            rest =
-                added ∙ ap (λ ys. ys ++ w.closed_up.result ∷ []) i.rest
-                ∙ ap (λ y. map f before ++ y ∷ []) (w.closed_up.ensures ∙ ap f w.at.ensures.place)
-                ∙ sym (map-append f before (get_or xs at 0 ∷ []))
-                ∙ ap (map f) (sym (kept xs at c.args.rank within w.if-other-rank.true));
-          }
-      | else-other-rank w ↦ record {
-        room = omega (arith, i.room, ap length w.rest-is);
-        rest = w.rest-is ∙ i.rest ∙ ap (map f) (sym (gone xs at c.args.rank within w.if-other-rank.false));
-      }
-    ]
+    let other : left - 1 ≢ rank = c.if-left-rank.true in
+    let test : 0 < left = c.loop-left-test.true in
+    let more = one_more xs left test i.within in
+    let its = c.closed_up.ensures ∙ ap f c.at.ensures.place in
+    record {
+      within = omega (arith, i.within);
+      low = subst AreLow (sym more) (omega (arith, c.at.ensures.place, c.at.ensures.low), i.low);
+      after = λ h.
+          ap (λ m. m * 16 + c.closed_up.result) (i.after (omega (arith, h)))
+          ∙ ap (λ p. packed (map f (drop left xs)) * 16 + p) its
+          ∙ sym (ap (λ ys. packed (map f ys)) more);
+      before = λ h.
+          let next : rank - (left - 1) ≡ suc (rank - left) = omega (arith, h, other, test) in
+          ap (λ m. m * 16 + c.closed_up.result) (i.before (omega (arith, h, other, test)))
+          ∙ ap (λ p. packed (map f (remove (drop left xs) (rank - left))) * 16 + p) its
+          ∙ sym (ap (λ ys. packed (map f (remove ys (rank - (left - 1))))) more ∙ ap (λ k. packed (map f (remove (get_or xs (left - 1) 0 ∷ drop left xs) k))) next);
+    }
+
+pub loop-left-preserved : goal.loop-left-preserved
+loop-left-preserved c =
+    let i = c.loop-left.invariant in
+    let xs = c.args.self.now in
+    let left = c.loop-left.left in
+    let rank = c.args.rank in
+    let same : left - 1 ≡ rank = c.if-left-rank.false in
+    let test : 0 < left = c.loop-left-test.true in
+    let more = one_more xs left test i.within in
+    let none : rank - (left - 1) ≡ 0 = omega (arith, same) in
+    record {
+      within = omega (arith, i.within);
+      low = subst AreLow (sym more) (omega (arith, c.at-gone.ensures.place, c.at-gone.ensures.low, ap (λ r. get_or xs r 0) same), i.low);
+      after = λ h. absurd (omega (arith, h, same));
+      before = λ h.
+          i.after (omega (arith, same, test))
+          ∙ sym (ap (λ ys. packed (map (closed_up c.at-gone.result) (remove ys (rank - (left - 1))))) more
+          ∙ ap (λ k. packed (map (closed_up c.at-gone.result) (remove (get_or xs (left - 1) 0 ∷ drop left xs) k))) none);
+    }
+
+pub overflow_mul-result : goal.overflow_mul-result
+overflow_mul-result c =
+    let i = c.loop-left.invariant in
+    omega (arith, fits c.args.self.now c.at-gone.result c.args.rank c.loop-left.left c.loop-left.rest (omega (arith, c.len-left.ensures.count, c.len-left.ensures.within)) i.low i.after i.before)
+
+pub overflow_add-result : goal.overflow_add-result
+overflow_add-result c =
+    let i = c.loop-left.invariant in
+    omega (
+      arith,
+      fits c.args.self.now c.at-gone.result c.args.rank c.loop-left.left c.loop-left.rest (omega (arith, c.len-left.ensures.count, c.len-left.ensures.within)) i.low i.after i.before,
+      c.len.ensures.within,
+    )
+
+pub invariant_of-result : goal.invariant_of-result
+invariant_of-result c =
+    let i = c.loop-left.invariant in
+    let xs = c.args.self.now in
+    let none : c.loop-left.left ≤ 0 = omega (arith, c.loop-left-test.false) in
+    same_packed (ap (λ m. m * 16 + (c.len.result - 1)) (sym (all xs c.at-gone.result c.args.rank c.loop-left.left c.loop-left.rest none i.low i.before)))
+    (is_packed (map (closed_up c.at-gone.result) (remove xs c.args.rank)) (c.len.result - 1) (low_all xs c.at-gone.result c.args.rank c.loop-left.left c.loop-left.rest none i.low i.before)
+    (counted xs c.at-gone.result c.args.rank c.loop-left.left c.loop-left.rest none i.low i.before c.len.result c.requires c.len.ensures.count) (omega (arith, c.len.ensures.within)))
+
+pub returns : goal.returns
+returns c =
+    let i = c.loop-left.invariant in
+    let xs = c.args.self.now in
+    let none : c.loop-left.left ≤ 0 = omega (arith, c.loop-left-test.false) in
+    ap (λ m. unpacked (m * 16 + (c.len.result - 1))) (all xs c.at-gone.result c.args.rank c.loop-left.left c.loop-left.rest none i.low i.before)
+    ∙ unpacked_again (map (closed_up c.at-gone.result) (remove xs c.args.rank)) (c.len.result - 1) (low_all xs c.at-gone.result c.args.rank c.loop-left.left c.loop-left.rest none i.low i.before)
+    (counted xs c.at-gone.result c.args.rank c.loop-left.left c.loop-left.rest none i.low i.before c.len.result c.requires c.len.ensures.count) (omega (arith, c.len.ensures.within))
+    ∙ ap (λ g. map (closed_up g) (remove xs c.args.rank)) c.at-gone.ensures.place

@@ -1,10 +1,16 @@
-use Rattle.std.proofs.Common.{◌≡◌, ◌≤◌, length, map, take}
+use Rattle.std.proofs.Common.{◌≡◌, ◌-◌, ◌<◌, ◌≤◌, length, map, drop}
 use Rattle.std.specs.List.{remove}
 use Rattle.yaml_hash_index.specs.Moves.{closed_up}
+use Rattle.yaml_tree.proofs.Packing.{packed, AreLow}
 use Rattle.yaml_tree.proofs.few.Few.without.Given as goal
 
-abbrev pub invariant-loop-other : goal.invariant-loop-other
-invariant-loop-other l = record {
-  room : length l.rest ≤ l.other;
-  rest : l.rest ≡ map (closed_up l.gone) (remove (take l.other l.self) l.rank);
+abbrev pub invariant-loop-left : goal.invariant-loop-left
+invariant-loop-left l = record {
+  within : l.left ≤ length l.self;
+  low : AreLow (drop l.left l.self);
+  after : l.rank < l.left → l.rest ≡ packed (map (closed_up l.gone) (drop l.left l.self));
+  before : l.left ≤ l.rank → l.rest ≡ packed (map (closed_up l.gone) (remove (drop l.left l.self) (l.rank - l.left)));
 }
+
+abbrev pub decreases-loop-left : goal.decreases-loop-left
+decreases-loop-left l = l.left

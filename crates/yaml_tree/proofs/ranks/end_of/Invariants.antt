@@ -1,0 +1,12 @@
+use Rattle.std.proofs.Common.{ℕ, ◌<◌, ◌≤◌, length}
+use Rattle.yaml_hash_index.specs.Edges.{digest_at}
+use Rattle.yaml_tree.proofs.ranks.end_of.Given as goal
+
+abbrev pub invariant-loop-end : goal.invariant-loop-end
+invariant-loop-end l = record {
+  within : l.end ≤ length l.entries;
+  after : (i : ℕ) → l.end ≤ i → i < length l.entries → l.digest < digest_at l.entries i;
+}
+
+abbrev pub decreases-loop-end : goal.decreases-loop-end
+decreases-loop-end l = l.end
