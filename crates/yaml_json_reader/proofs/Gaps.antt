@@ -1,6 +1,6 @@
 -- White space, blank by blank.
 use Rattle.std.proofs.Common.{◌≡◌, ℕ, suc, ◌<◌, List, [], ◌∷◌, Bool, true, false, length, refl, sym, ap, ◌∙◌, subst, arith}
-use Rattle.defs_layout.specs.JsonGap.{Blank, space, tab, line_feed, carriage_return, spell_gap, TabsBeginLines}
+use Rattle.defs_layout.specs.JsonGap.{space, tab, line_feed, carriage_return, TabsBeginLines}
 use Rattle.yaml_json_reader.specs.Reads.{IsGap, Takes}
 
 pub no_gap : (b : Bool) (text : List ℕ) → IsGap b text text

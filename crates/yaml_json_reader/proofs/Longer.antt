@@ -1,19 +1,25 @@
 -- What is read of a text stands before what is left.
+use Rattle.std.specs.List.{prefix_len}
+use Rattle.std.proofs.lemmas.List.Sums.{prefix_len-le-length}
+use Rattle.yaml_json_reader.specs.Runs.{stands}
 use Rattle.std.proofs.lemmas.Bool.{and_parts}
-use Rattle.std.proofs.Common.{◌&&◌, ◌≡◌, ℕ, suc, ◌+◌, ◌<◌, ◌≤◌, List, [], ◌∷◌, ◌++◌, Bool, true, false, length, refl, sym, ap, ◌∙◌, subst, arith, length-append}
-use Rattle.std.specs.Prelude.{codes}
-use Rattle.defs_layout.specs.Json.{Json, IsJson, levels, Elements, Members, spell, spell_elements, spell_members, false_word, null_word, true_word, number, string, empty_array, array, empty_object, object, last_element, element, last_member, member}
+use Rattle.std.proofs.Common.{◌&&◌, ◌≡◌, ℕ, ◌<◌, ◌≤◌, List, [], ◌∷◌, ◌++◌, Bool, true, false, length, ap, arith, length-append}
+use Rattle.defs_layout.specs.Json.{Json, IsJson, levels, spell, false_word, null_word, true_word, number, string, empty_array, array, empty_object, object}
 use Rattle.defs_layout.specs.JsonGap.{Blank, spell_gap}
 use Rattle.defs_layout.specs.JsonNumber as json
 use Rattle.defs_layout.specs.JsonNumber.{Number, Fraction, Exponent, Sign, no_fraction, fraction, no_exponent, exponent, no_sign, plus, minus, spell_number, spell_minus, spell_fraction, spell_exponent, spell_sign, is_number, is_whole, is_fraction, is_exponent}
 use Rattle.defs_layout.specs.JsonString.{Piece, itself, short, unicode, spell_piece, spell_pieces, spell_string}
 use Rattle.defs_tree.specs.Tree.{Tree}
 use Rattle.yaml_json_reader.proofs.NumberLemmas.{number_before}
+use Rattle.yaml_json_reader.specs.Numbers.{IsNumberPart}
 use Rattle.yaml_json_reader.specs.Reads.{IsGap, IsValue, IsKey}
 
 pub gap_longer : (g : List Blank) (r : List ℕ) → length r ≤ length (spell_gap g r)
 gap_longer [] r = omega arith
 gap_longer (b ∷ g) r = omega (arith, gap_longer g r)
+
+pub run_within : (text : List ℕ) (n : ℕ) → n ≡ prefix_len stands text → n ≤ length text
+run_within text n e = omega (arith, e, prefix_len-le-length stands text)
 
 piece_longer : (p : Piece) (r : List ℕ) → length r ≤ length (spell_piece p r)
 piece_longer (itself c) r = omega arith
@@ -43,6 +49,9 @@ number_longer (json.number b w f e) r h =
     let some = some_whole w parts.0 in
     let front = minus_longer b (w ++ spell_fraction f (spell_exponent e [])) in
     omega (arith, ap length (number_before (json.number b w f e) r), length-append (spell_minus b (w ++ spell_fraction f (spell_exponent e []))) r, front, length-append w (spell_fraction f (spell_exponent e [])))
+
+pub number_nearer : (text rest : List ℕ) → IsNumberPart text rest → length rest < length text
+number_nearer text rest n = omega (arith, number_longer n.parts rest n.is, ap length n.spelled)
 
 scalar_longer : (v : Json) (r : List ℕ) → IsJson v → levels v ≤ 0 → length r < length (spell v r)
 scalar_longer false_word r h low = omega arith

@@ -1,17 +1,17 @@
 -- Strings, escape by escape.
-use Rattle.std.proofs.Common.{◌≡◌, ◌≢◌, ℕ, suc, ◌+◌, ◌*◌, ◌<◌, ◌≤◌, List, [], ◌∷◌, ◌++◌, Bool, true, false, not, ◌&&◌, length, refl, sym, ap, ap₂, ◌∙◌, subst, arith, append-nil, append_assoc, length-append}
+use Rattle.std.proofs.Common.{◌≡◌, ℕ, ◌+◌, ◌*◌, ◌<◌, List, [], ◌∷◌, ◌++◌, true, not, ◌&&◌, length, refl, sym, ap, ap₂, ◌∙◌, subst, arith, append-nil, append_assoc}
 use Rattle.std.specs.Prelude.{encode_utf8, String, string_bytes}
-use Rattle.std.specs.Char.{IsScalar, digit_value}
+use Rattle.std.specs.Char.{IsScalar}
 use Rattle.std.specs.Str.{chars}
 use Rattle.std.proofs.lemmas.Bool.{and_from}
 use Rattle.std.proofs.lemmas.Bool.Decides.{nat_tests}
 use Rattle.defs_text.specs.Text.{string_chars}
 use Rattle.defs_tree.specs.Tree.{Tree}
 use Rattle.defs_layout.specs.Json as json
-use Rattle.defs_layout.specs.JsonString.{Piece, Short, short, unicode, letter_of, character_of, quotation_mark, reverse_solidus, solidus, backspace, form_feed, new_line, return, tabulator, four_digits, is_hex_digit, is_surrogate, is_piece, are_pieces, spell_pieces, unescaped}
+use Rattle.defs_layout.specs.JsonString.{Short, short, unicode, letter_of, quotation_mark, reverse_solidus, solidus, backspace, form_feed, new_line, return, tabulator, four_digits, is_hex_digit, is_surrogate, is_piece, are_pieces}
 use Rattle.std.proofs.lemmas.Str.{chars-append, IsUtf8-string_bytes}
 use Rattle.yaml_chars.proofs.TextLemmas.{string_chars_push}
-use Rattle.yaml_json_reader.specs.Reads.{IsFirst, Skips, IsInside, IsRun, IsEscape, IsCode, IsShort, IsPart, IsStringEnd, IsValue, TakesDigit}
+use Rattle.yaml_json_reader.specs.Reads.{IsInside, IsRun, IsEscape, IsCode, IsShort, IsPart, IsStringEnd, IsValue, TakesDigit}
 
 pub no_pieces : (text : List ℕ) → IsInside [] text text
 no_pieces text = record { pieces = []; are = refl; value_is = refl; spelled = refl }

@@ -1,5 +1,5 @@
 -- The first character of a text, and runs of characters.
-use Rattle.std.proofs.Common.{◌≡◌, ◌≢◌, ℕ, zero, suc, ◌+◌, ◌-◌, ◌<◌, ◌≤◌, List, [], ◌∷◌, ◌++◌, Bool, true, false, not, ◌&&◌, length, length-append, take, drop, get_or, refl, sym, ap, ap₂, ◌∙◌, subst, arith, ◌⊎◌, inl, inr}
+use Rattle.std.proofs.Common.{◌≡◌, ℕ, suc, ◌+◌, ◌<◌, ◌≤◌, List, [], ◌∷◌, ◌++◌, Bool, true, false, length, length-append, take, drop, get_or, refl, sym, ap, ap₂, ◌∙◌, subst, arith, ◌⊎◌, inl, inr}
 use Rattle.std.specs.Prelude.{encode_utf8, encode_utf8_all, nat_lt, cond, ◌==◌}
 use lib.Utf8.{scalar, scalars}
 use Rattle.std.specs.List.{prefix_len, list_all}
@@ -9,9 +9,9 @@ use Rattle.std.proofs.lemmas.Bool.Decides.{nat_tests}
 use Rattle.std.proofs.lemmas.List.Folds.{list_all-append}
 use Rattle.std.proofs.lemmas.List.Sums.{prefix_len-le-length, prefix_len_stops}
 use Rattle.std.proofs.lemmas.List.{take-append-drop}
-use Rattle.std.proofs.lemmas.Str.{encode_ascii, encodes-chars, scalars-chars, chars-append, chars_past_char, IsUtf8-take, IsUtf8-drop, IsUtf8-past_char, IsCharBoundary-before_ascii, IsCharBoundary-after_ascii, IsCharBoundary-end, chars-nil}
-use Rattle.defs_layout.specs.JsonString.{Piece, itself, is_unescaped, is_piece, are_pieces, spell_pieces, unescaped}
-use Rattle.yaml_json_reader.specs.Runs.{ends_run, stands}
+use Rattle.std.proofs.lemmas.Str.{encode_ascii, encodes-chars, scalars-chars, chars-append, chars_past_char, IsUtf8-take, IsUtf8-past_char, IsCharBoundary-before_ascii, IsCharBoundary-after_ascii, IsCharBoundary-end, chars-nil}
+use Rattle.defs_layout.specs.JsonString.{itself, is_unescaped, are_pieces}
+use Rattle.yaml_json_reader.specs.Runs.{stands}
 use Rattle.yaml_json_reader.specs.Reads.{IsFirst, IsAsciiFirst, Skips, IsInside, IsRun}
 
 -- ---- the first character

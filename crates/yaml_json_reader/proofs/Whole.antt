@@ -1,5 +1,5 @@
 -- A whole text.
-use Rattle.std.proofs.Common.{◌≡◌, ℕ, List, [], ap, ◌∙◌, true}
+use Rattle.std.proofs.Common.{ℕ, List, ap, ◌∙◌, true}
 use Rattle.defs_tree.specs.Tree.{Tree}
 use Rattle.defs_layout.specs.Json.{IsJsonText, spell}
 use Rattle.defs_layout.specs.JsonGap.{spell_gap}

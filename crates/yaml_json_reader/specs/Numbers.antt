@@ -1,5 +1,5 @@
 -- The parts of a JSON number, each from where it begins to what stands behind it.
-use Rattle.std.specs.Prelude.{◌≡◌, ℕ, Bool, true, List, [], ◌∷◌, ◌++◌}
+use Rattle.std.specs.Prelude.{◌≡◌, ℕ, Bool, true, List, ◌++◌}
 use Rattle.defs_layout.specs.JsonNumber.{Number, Fraction, Exponent, Sign, spell_number, spell_minus, spell_fraction, spell_sign, spell_exponent, is_number, is_whole, is_fraction, is_exponent, are_digits}
 
 pub record IsDigits (text rest : List ℕ) : Type 0 where

@@ -1,5 +1,5 @@
 -- The collections that are open around a place where a value stands.
-use Rattle.std.specs.Prelude.{◌≡◌, ℕ, suc, ◌+◌, ◌-◌, List, [], ◌∷◌, ◌++◌, Bool, true, false, length, Option, Some, None}
+use Rattle.std.specs.Prelude.{◌≡◌, ℕ, suc, ◌-◌, List, [], ◌∷◌, ◌++◌, Bool, true, false, length, Option, Some, None}
 use Rattle.defs_tree.specs.Tree.{Tree}
 use Rattle.defs_tree.specs.Pairs.{AreDistinct}
 use Rattle.defs_layout.specs.Marks.{right_brace, right_bracket}

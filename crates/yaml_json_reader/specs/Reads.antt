@@ -1,7 +1,7 @@
 -- What was read of a JSON text between two places in it. Each place is given by the characters that stand behind it.
-use Rattle.std.specs.Prelude.{◌≡◌, ℕ, suc, ◌+◌, ◌<◌, ◌≤◌, List, [], ◌∷◌, ◌++◌, Bool, true, false, length, Option, Some, None}
+use Rattle.std.specs.Prelude.{◌≡◌, ℕ, ◌+◌, ◌<◌, ◌≤◌, List, [], ◌∷◌, ◌++◌, Bool, true, false, length, Option, Some, None}
 use Rattle.std.specs.Char.{digit_value}
-use Rattle.defs_tree.specs.Tree.{Tree, Items, Pairs, items_of, pairs_of}
+use Rattle.defs_tree.specs.Tree.{Tree, items_of}
 use Rattle.defs_layout.specs.Marks.{colon, double_quote, backslash, letter_u}
 use Rattle.defs_layout.specs.Json.{Json, Elements, Members, IsJson, AreElements, AreMembers, spell, spell_elements, spell_members, tree_of, items, pair_list, levels, element_levels, member_levels}
 use Rattle.defs_layout.specs.JsonGap.{Blank, spell_gap, TabsBeginLines}

@@ -8,6 +8,10 @@ use crate::digits::after_number;
 use crate::run::run_length;
 use std::marker::Model;
 
+/// How much white space at a text's start is passed over: a text with more is not read as JSON, so that empty lines before another text
+/// are not looked at twice.
+const FIRST_BLANKS: usize = 64;
+
 /// A place in a text. Clauses see the characters that stand behind it.
 #[derive(Drop)]
 pub(crate) struct Cursor<'a> {
@@ -30,6 +34,11 @@ impl<'a> Cursor<'a> {
         ensures { result ≡ chars text.now }
     {
         Cursor { rest: text }
+    }
+
+    /// The text that stands behind the place.
+    pub(crate) fn rest(&self) -> &'a str {
+        self.rest
     }
 
     /// Whether the text ends here.
@@ -93,10 +102,10 @@ impl<'a> Cursor<'a> {
         if self.peek() > b' ' {
             return;
         }
-        self.skip_blanks(false);
+        self.skip_blanks();
     }
 
-    /// The same at the start of a text, where a line begins.
+    /// The same at the start of a text, where a line begins; at most the first [`FIRST_BLANKS`] bytes of it.
     #[inline(always)]
     pub(crate) fn skip_first_gap(&mut self)
         ensures { IsGap true self.old self.new }
@@ -104,15 +113,27 @@ impl<'a> Cursor<'a> {
         if self.peek() > b' ' {
             return;
         }
-        self.skip_blanks(true);
+        self.skip_first_blanks();
     }
 
-    /// The same. `at_beginning` tells whether a line begins here.
     #[inline(never)]
-    fn skip_blanks(&mut self, at_beginning: bool)
-        ensures { IsGap at_beginning self.old self.new }
+    fn skip_first_blanks(&mut self)
+        ensures { IsGap true self.old self.new }
     {
-        let mut begins = at_beginning;
+        let mut begins = true;
+        'blanks: for _ in 0..FIRST_BLANKS {
+            match self.take_blank(begins) {
+                Some(next) => begins = next,
+                None => return,
+            }
+        }
+    }
+
+    #[inline(never)]
+    fn skip_blanks(&mut self)
+        ensures { IsGap false self.old self.new }
+    {
+        let mut begins = false;
         'blanks: while let Some(next) = self.take_blank(begins) {
             begins = next;
         }

@@ -2,12 +2,17 @@
 //!
 //! A YAML text that is JSON needs none of YAML's tokens and events: [`read_json`] reads it in one pass. It gives a tree only where
 //! the text is one of the class of JSON texts of the definitions, and then the tree that the definitions give it. For each other
-//! text it gives nothing, and the general way reads that text from its start.
+//! text it gives nothing, and the general way reads that text from its start. A first look, which builds nothing, ends where a text does
+//! not go on as JSON; so few texts are read both ways.
 #![tactic(auto)]
 
+mod behind;
 mod cursor;
 mod digits;
+mod levels;
+mod likely;
 mod open;
+mod place;
 mod reader;
 mod run;
 mod scalar;
@@ -15,4 +20,6 @@ mod stop;
 mod string;
 mod text;
 
+pub use place::position_behind;
+pub use stop::Refused;
 pub use text::read_json;

@@ -12,8 +12,8 @@ use crate::stop::Stop;
 use std::alloc::{AllocError, Global};
 use yaml_tree::{Array, Hash, Yaml};
 
-// How many levels of arrays and objects there may be.
-const LEVELS: usize = 255;
+/// How many levels of arrays and objects there may be.
+pub(crate) const LEVELS: usize = 255;
 
 /// The value that stands here.
 pub(crate) fn read_value(alloc: Global, cursor: &mut Cursor<'_>) -> Result<Yaml, Stop>

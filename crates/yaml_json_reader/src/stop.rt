@@ -2,6 +2,13 @@
 
 use std::alloc::AllocError;
 
+/// Memory was refused.
+#[derive(Clone, Copy, Debug)]
+pub struct Refused {
+    /// How many bytes of the text were read until then.
+    pub read: usize,
+}
+
 /// Why no tree is read.
 #[derive(Clone, Copy, Debug)]
 pub(crate) enum Stop {

@@ -1,4 +1,4 @@
-use Rattle.std.proofs.Common.{◌≡◌, length, sym, ◌∙◌, ap, subst, false, arith}
+use Rattle.std.proofs.Common.{length, sym, ◌∙◌, ap, subst, false, arith}
 use Rattle.yaml_tree.specs.View.{view}
 use Rattle.yaml_json_reader.specs.Opened.{Adds}
 use Rattle.yaml_json_reader.specs.Reads.{IsKey}

@@ -1,4 +1,4 @@
-use Rattle.std.proofs.Common.{◌≡◌, length, true, false, sym, ap, ◌∙◌, subst, arith}
+use Rattle.std.proofs.Common.{◌∙◌, subst}
 use Rattle.yaml_tree.specs.View.{view}
 use Rattle.yaml_json_reader.specs.Reads.{IsValue}
 use Rattle.yaml_json_reader.proofs.Gaps.{not_taken}

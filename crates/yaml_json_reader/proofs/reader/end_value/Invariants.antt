@@ -1,4 +1,4 @@
-use Rattle.std.proofs.Common.{ℕ, List, ◌≤◌, vec_len, length}
+use Rattle.std.proofs.Common.{ℕ, List, ◌≤◌, length}
 use Rattle.yaml_tree.specs.View.{view}
 use Rattle.yaml_json_reader.specs.Opened.{HasValue}
 use Rattle.yaml_json_reader.proofs.reader.end_value.Given as goal

@@ -1,9 +1,5 @@
-use Rattle.std.proofs.Common.{sym, ◌∙◌, subst}
 use Rattle.defs_text.specs.Text.{string_chars}
-use Rattle.yaml_tree.specs.View.{view}
-use Rattle.yaml_json_reader.specs.Reads.{IsValue}
-use Rattle.yaml_json_reader.proofs.Gaps.{taken, not_taken}
-use Rattle.yaml_json_reader.proofs.Results.{ok_of}
+use Rattle.yaml_json_reader.proofs.Gaps.{taken}
 use Rattle.yaml_json_reader.proofs.StringLemmas.{string_value}
 use Rattle.yaml_json_reader.proofs.scalar.read_scalar.Goals as goal
 

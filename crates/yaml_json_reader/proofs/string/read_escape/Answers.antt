@@ -1,7 +1,5 @@
-use Rattle.std.proofs.Common.{◌∙◌, sym, ap, false, subst}
-use Rattle.std.specs.Prelude.{IfOk}
-use Rattle.yaml_json_reader.specs.Reads.{IsEscape}
-use Rattle.yaml_json_reader.proofs.Gaps.{not_taken, taken}
+use Rattle.std.proofs.Common.{◌∙◌, sym}
+use Rattle.yaml_json_reader.proofs.Gaps.{not_taken}
 use Rattle.yaml_json_reader.proofs.TextLemmas.{ascii_of, took}
 use Rattle.yaml_json_reader.proofs.StringLemmas.{short_read, short_ascii}
 use Rattle.yaml_json_reader.proofs.string.read_escape.Goals as goal

@@ -1,8 +1,8 @@
-use Rattle.std.proofs.Common.{◌∷◌, sym, ◌∙◌, subst, rules}
+use Rattle.std.proofs.Common.{sym, ◌∙◌, subst, rules}
 use Rattle.std.specs.Str.{chars}
 use Rattle.defs_text.specs.Text.{string_chars}
 use Rattle.yaml_json_reader.proofs.Gaps.{taken, not_taken}
-use Rattle.yaml_json_reader.proofs.StringLemmas.{Goes, begun, gone_on, ended, pushed}
+use Rattle.yaml_json_reader.proofs.StringLemmas.{Goes, gone_on, ended, pushed}
 use Rattle.yaml_json_reader.proofs.string.read_escaped.Goals as goal
 
 pub escapes-preserved : goal.escapes-preserved

@@ -1,8 +1,7 @@
-use Rattle.std.proofs.Common.{sym, ◌∙◌, subst}
+use Rattle.std.proofs.Common.{sym, subst}
 use Rattle.std.specs.Str.{chars}
-use Rattle.defs_layout.specs.Marks.{double_quote}
 use Rattle.defs_text.specs.Text.{string_chars}
-use Rattle.yaml_json_reader.specs.Reads.{IsStringEnd, IsRun}
+use Rattle.yaml_json_reader.specs.Reads.{IsRun}
 use Rattle.yaml_json_reader.proofs.Gaps.{taken, not_taken}
 use Rattle.yaml_json_reader.proofs.Results.{ok_of}
 use Rattle.yaml_json_reader.proofs.StringLemmas.{plain_string, escaped_string, begins_with}

@@ -1,4 +1,4 @@
-use Rattle.std.proofs.Common.{◌≡◌, true, ap, ◌∙◌, subst}
+use Rattle.std.proofs.Common.{true, subst}
 use Rattle.yaml_tree.specs.View.{view}
 use Rattle.yaml_json_reader.specs.Reads.{IsGap}
 use Rattle.std.specs.Str.{chars}

@@ -1,9 +1,9 @@
-use Rattle.std.proofs.Common.{ℕ, List, length}
+use Rattle.std.proofs.Common.{ℕ, List, length, false}
 use Rattle.yaml_json_reader.specs.Reads.{IsGap}
 use Rattle.yaml_json_reader.proofs.cursor.Cursor.skip_blanks.Given as goal
 
 abbrev pub invariant-blanks : goal.invariant-blanks
-invariant-blanks l = (end : List ℕ) → IsGap l.begins l.self end → IsGap l.fn.at_beginning l.initial.self end
+invariant-blanks l = (end : List ℕ) → IsGap l.begins l.self end → IsGap false l.initial.self end
 
 abbrev pub decreases-blanks : goal.decreases-blanks
 decreases-blanks l = length l.self

@@ -1,4 +1,4 @@
-use Rattle.std.proofs.Common.{◌-◌, length, sym, ap, ◌∙◌, subst, arith}
+use Rattle.std.proofs.Common.{◌-◌, length, ap, subst}
 use Rattle.std.specs.Str.{chars}
 use Rattle.yaml_json_reader.specs.Reads.{IsNumber}
 use Rattle.yaml_json_reader.specs.Numbers.{IsNumberPart}

@@ -1,0 +1,6 @@
+use Rattle.std.proofs.Common.{ℕ, List, true}
+use Rattle.yaml_json_reader.specs.Reads.{IsGap}
+use Rattle.yaml_json_reader.proofs.cursor.Cursor.skip_first_blanks.Given as goal
+
+abbrev pub invariant-blanks : goal.invariant-blanks
+invariant-blanks l = (end : List ℕ) → IsGap l.begins l.self end → IsGap true l.initial.self end
