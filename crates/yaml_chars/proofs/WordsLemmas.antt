@@ -52,11 +52,6 @@ pub begins_low : (run : Run) (b : ℕ) → b < 128 → begins_byte run b ≡ tru
 unfolding begins_byte
 begins_low run b low h = let e : nat_lt b 128 ≡ true = grind (arith, nat_tests) in rw e at h
 
--- a byte outside ASCII
-pub stops_high : (run : Run) (b : ℕ) → 128 ≤ b → stops_byte run b ≡ false → stops_beyond run ≡ false
-unfolding stops_byte
-stops_high run b high h = let e : nat_lt b 128 ≡ false = grind (arith, nat_tests) in rw e at h
-
 pub begins_high : (run : Run) (b : ℕ) → 128 ≤ b → begins_byte run b ≡ true → stops_beyond run ≡ false
 unfolding begins_byte
 begins_high run b high h = let e : nat_lt b 128 ≡ false = grind (arith, nat_tests) in not_true _ (rw e at h)
@@ -336,16 +331,6 @@ words_of run bs n u words ends =
     chars_of_bytes run (chars (take n bs)) (subst (λ x. are_word_bytes run x ≡ true) (sym (encodes-chars _ (IsUtf8-take bs n u (boundary_of run bs n u words ends)))) (bytes_of run bs n words))
 
 -- ---- words are found
-
-pub word_none : (run : Run) (bs : List ℕ) (from : ℕ) → from ≤ length bs → IsWordBetween run bs from from
-word_none run bs from h = record { after = omega arith; within = h; inner = λ k a b. absurd (omega arith) }
-
-pub word_more : (run : Run) (bs : List ℕ) (from to : ℕ) → IsWordBetween run bs from to → to < length bs → stops_byte run (slice_index bs to) ≡ false → IsWordBetween run bs from (to + 1)
-word_more run bs from to w h goes = record {
-  after = omega (arith, w.after);
-  within = omega arith;
-  inner = λ k a b. elim (cases_lt k to) [ inl before ↦ w.inner k a before | inr last ↦ let here : k ≡ to = omega arith in rw here goes ];
-}
 
 pub ascii_none : (bs : List ℕ) (from : ℕ) → AreAscii bs from from
 ascii_none bs from k a b = absurd (omega (arith, a, b))
@@ -688,21 +673,3 @@ takes_one run c a b p q t u goes split index line col text = record {
   position = λ i. record { index = index i; line = line i; col = col i };
   text = text;
 }
-
-pub takes_none : (run : Run) (a : List ℕ) (p : Position) → TakesWords run a a p p [] []
-takes_none run a p =
-    let index : p.index ≡ p.index + 0 = omega arith in
-    let col : p.col ≡ p.col + 0 = omega arith in
-    record { part = []; split = refl; words = refl; position = λ i. record { index = index i; line = p.line; col = col i }; text = refl }
-
-pub given_nothing : {T : Type 0} (run : Run) (s : Pulled T) → GivesWords run s s 0 [] []
-given_nothing run s = record {
-  part = [];
-  count = refl;
-  words = refl;
-  gives = record { start = refl; taken = sym (append-nil s.taken); done = refl; none = λ d. refl; left = omega arith };
-  text = refl;
-}
-
-pub no_lanes : (run : Run) (bs : List ℕ) (at : ℕ) → LanesGo run bs at 0
-no_lanes run bs at k h = absurd (omega (arith, h))

@@ -1,4 +1,4 @@
-//! Runs of characters that are taken one by one, without a look ahead.
+//! Runs of ordinary characters of one line, and how far words of them go among bytes that are known to come.
 ghost use Rattle.std.specs.Prelude.{◌≡◌, ◌≢◌, ◌+◌, ◌<◌, ◌≤◌, false, true, length, slice_index};
 ghost use Rattle.yaml_chars.specs.Run.{stops};
 ghost use Rattle.yaml_chars.specs.Words.{stops_beyond, stops_byte, begins_byte, AreWordsUpTo, AreWordsBetween, AreAscii, EndsAtAscii, IsWordBetween, LanesGo};
@@ -141,10 +141,21 @@ impl Run {
         Found { end: at, beyond }
     }
 
-    /// Whether words may begin with the first byte. Where they do not, nothing more is looked at.
+    /// Whether a byte is of a character of the run, or a blank.
     #[inline(always)]
-    fn may_begin(self, bytes: &[u8]) -> bool {
-        !bytes.is_empty() && (self.is_ordinary(bytes[0]) || bytes[0] == b' ')
+    fn is_near(self, byte: u8) -> bool {
+        self.is_ordinary(byte) || byte == b' '
+    }
+
+    /// Whether words of four bytes or more may come. Where they do not, nothing more is looked at: a few characters are read
+    /// faster one by one.
+    #[inline(always)]
+    pub(crate) fn may_begin(self, bytes: &[u8]) -> bool {
+        bytes.len() >= 4
+            && self.is_near(bytes[0])
+            && self.is_near(bytes[1])
+            && self.is_near(bytes[2])
+            && self.is_near(bytes[3])
     }
 
     /// How many of the bytes that come next are characters of words, or lone blanks between words.

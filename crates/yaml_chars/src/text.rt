@@ -9,6 +9,9 @@ use std::mem;
 // The least piece of memory that malloc hands out has this many bytes.
 const ROOM: usize = 24;
 
+// A text without memory that a character is put into gets room for so many bytes.
+const LEAST: usize = 8;
+
 /// A text that grows by characters.
 #[derive(Debug, Drop)]
 pub struct Text {
@@ -55,6 +58,22 @@ impl Text {
         self.inner.reserve(ROOM)
     }
 
+    /// Makes room for so many bytes more. The room grows as it does where characters come one by one: it doubles, from the
+    /// least room on.
+    #[inline(never)]
+    #[tactic(auto, using(crate::proofs::TextLemmas::chars_same))]
+    fn make_more_room(&mut self, more: usize) -> Result<(), AllocError>
+        ensures { self.new ≡ self.old }
+    {
+        let len = self.inner.len();
+        let wanted = len.saturating_add(more);
+        let mut room = self.inner.capacity().max(LEAST);
+        'room: while room < wanted {
+            room = room.saturating_add(room);
+        }
+        self.inner.reserve_exact(room.saturating_sub(len))
+    }
+
     /// An `Err` changes nothing.
     #[tactic(auto, using(crate::proofs::TextLemmas::chars_push, crate::proofs::TextLemmas::chars_same))]
     pub fn push(&mut self, c: char) -> Result<(), AllocError>
@@ -75,12 +94,16 @@ impl Text {
         Ok(())
     }
 
-    /// Appends a text. An `Err` changes nothing.
+    /// Appends a text, after which the text has no more room than if its characters had been put in one by one. An `Err`
+    /// changes nothing.
     #[tactic(auto, using(crate::proofs::TextLemmas::chars_append_bytes, crate::proofs::TextLemmas::chars_same))]
     pub fn push_str(&mut self, more: &str) -> Result<(), AllocError>
         ensures ok { OnOk result (self.new ≡ self.old ++ chars more.now) }
         ensures err { OnErr result (self.new ≡ self.old) }
     {
+        if self.inner.capacity() - self.inner.len() < more.len() {
+            self.make_more_room(more.len())?;
+        }
         self.inner.push_str(more)?;
         Ok(())
     }

@@ -289,6 +289,13 @@ impl<T: Characters> Window<T> {
         Ok(())
     }
 
+    // Steps over the next character, where the run goes on with it.
+    fn pass_one(&mut self, run: Run)
+        ensures { Reads self.old self.new (λ _ _. Unit {0}) }
+    {
+        let _ = self.take(run);
+    }
+
     /// The same for a word.
     #[inline(always)]
     pub fn take_word(&mut self, run: Run, text: &mut Text) -> Result<(), AllocError>
@@ -316,6 +323,8 @@ impl<T: Characters> Window<T> {
         self.col += met.count;
         self.ring.push(met.after);
         if met.refused {
+            // The character for which memory was refused counts as taken.
+            self.pass_one(run);
             return Err(AllocError);
         }
         Ok(())

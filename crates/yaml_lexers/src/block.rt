@@ -1,6 +1,8 @@
 //! Block scalars (YAML 1.2, section 8.1).
 ghost use Rattle.std.specs.Prelude.{◌≡◌, ◌≢◌, ◌≤◌, ◌<◌, ◌^◌, ◌++◌, ◌==◌, ◌&&◌, not, slice_index, [], ℕ, Bool, true, false, Ok, Err, OnOk, OnErr, IfOk, IfErr};
 ghost use Rattle.yaml_chars.specs.Reading.{Reads, Sees, HasChar, SamePosition, position_of};
+ghost use Rattle.yaml_chars.specs.Words.{TakesWords};
+ghost use Rattle.yaml_chars.specs.declared.run.Run.TheVariants as run;
 ghost use Rattle.defs_text.specs.Text.{string_chars};
 ghost use Rattle.model_lexers.specs.Block.{margin, line, lines_from, begins, begun, with_char, tail, ends_indent, indent_from, first_indent, content, empty_text, body, after_header, block};
 ghost use Rattle.yaml_lexers.specs.Shown.{Lexes, Refuses, read};
@@ -159,13 +161,27 @@ fn read_indent<T: Characters>(
     }
 }
 
+/// Takes words of a line, and lone blanks between them, as far as the text is known. Where nothing is known, the next three
+/// characters of a line are in the window then. A fault of memory stands after the one of these that it was refused for.
+fn take_known<T: Characters>(window: &mut Window<T>, text: &mut Text) -> Result<(), AllocError>
+    ensures ok { OnOk result (Reads window.old window.new (λ a b. TakesWords run.Line a b (position_of window.old) (position_of window.new) text.old text.new)) }
+    ensures err { OnErr result (Reads window.old window.new (λ _ _. Unit {0})) }
+{
+    let begins = window.len() == 0;
+    if window.take_words(Run::Line, text)? || !begins {
+        return Ok(());
+    }
+    window.lookahead(3);
+    Ok(())
+}
+
 /// Reads the characters up to a break or the end.
 fn read_run<T: Characters>(window: &mut Window<T>, block: &mut Lines) -> Result<(), AllocError>
     ensures ok { OnOk result (Reads window.old window.new (λ a b. (literal : Bool) (column : ℕ) →
         lines_from literal column a (at line window.old block.old) ≡ lines_from literal column b (at line window.new block.new))) }
     ensures err { OnErr result (Reads window.old window.new (λ _ _. Unit {0})) }
 {
-    window.take_words(Run::Line, &mut block.text)?;
+    take_known(window, &mut block.text)?;
     if is_breakz(window.look_ch()) {
         return Ok(());
     }

@@ -15,7 +15,12 @@ pub(crate) struct Folding {
     // Whether a break stands in the gap, and whether that was an escaped one.
     pub leading: bool,
     pub escaped: bool,
+    // How often words may still be looked for in vain before the next gap.
+    looks: usize,
 }
+
+// Where words were looked for in vain so often, pieces are short: they are read faster character by character.
+const LOOKS: usize = 2;
 
 impl Folding {
     /// Nothing yet. It takes no memory.
@@ -27,6 +32,28 @@ impl Folding {
             gap: Text::new(alloc),
             leading: false,
             escaped: false,
+            looks: LOOKS,
+        }
+    }
+
+    /// Whether words may be looked for: nothing stands between the text and the next character, and not too many looks
+    /// were in vain.
+    #[inline(always)]
+    pub(crate) fn may_look(&self) -> bool
+        ensures gap { result ≡ true → (folded self.now).gap ≡ [] }
+        ensures leading { result ≡ true → (folded self.now).leading ≡ false }
+        ensures escaped { result ≡ true → (folded self.now).escaped ≡ false }
+    {
+        self.looks > 0 && self.is_joined()
+    }
+
+    /// Notes whether words were found.
+    #[inline(always)]
+    pub(crate) fn note_look(&mut self, found: bool)
+        ensures { folded self.new ≡ folded self.old }
+    {
+        if !found {
+            self.looks = self.looks.saturating_sub(1);
         }
     }
 
@@ -98,6 +125,7 @@ impl Folding {
         }
         self.leading = false;
         self.escaped = false;
+        self.looks = LOOKS;
         Ok(())
     }
 }

@@ -45,10 +45,11 @@ fn read_known<T: Characters>(
         plain_from context start a (at inside window.old scalar.old) ≡ plain_from context start b (at inside window.new scalar.new))) }
     ensures err { OnErr result (Reads window.old window.new (λ _ _. Unit {0})) }
 {
-    if is_shallow(context, window.mark().col()) || !scalar.is_joined() {
+    if !scalar.may_look() || is_shallow(context, window.mark().col()) {
         return Ok(false);
     }
     let known = window.take_words(Run::Plain(context.flow), &mut scalar.text)?;
+    scalar.note_look(known);
     Ok(known)
 }
 
@@ -102,6 +103,26 @@ fn take_lone_blank<T: Characters>(
     Ok(true)
 }
 
+/// Reads the character that a word begins with, if one begins here.
+#[inline(always)]
+fn begin_word<T: Characters>(
+    window: &mut Window<T>,
+    context: Context,
+    scalar: &mut Folding,
+) -> Result<(), AllocError>
+    ensures ok { OnOk result (Reads window.old window.new (λ a b. (start : Position) →
+        plain_from context start a (at inside window.old scalar.old) ≡ plain_from context start b (at inside window.new scalar.new))) }
+    ensures err { OnErr result (Reads window.old window.new (λ _ _. Unit {0})) }
+{
+    let c = window.look_ch();
+    if Run::Plain(context.flow).stops(c) {
+        return Ok(());
+    }
+    scalar.push(c)?;
+    window.skip();
+    Ok(())
+}
+
 /// Reads words with one blank between each two.
 fn read_words<T: Characters>(
     window: &mut Window<T>,
@@ -114,7 +135,7 @@ fn read_words<T: Characters>(
 {
     let mut known = true;
     'words: loop {
-        // What was not known once is not asked for again in this line: so no word is looked at twice.
+        // After a look in vain, words are read character by character up to what ends them.
         known = known && read_known(window, context, scalar)?;
         if !known {
             read_word(window, context, scalar)?;
@@ -122,6 +143,7 @@ fn read_words<T: Characters>(
         if !take_lone_blank(window, context, scalar)? {
             return Ok(());
         }
+        begin_word(window, context, scalar)?;
     }
 }
 
@@ -265,7 +287,7 @@ fn skip_tabs<T: Characters>(window: &mut Window<T>, start: Marker) -> Result<(),
     }
 }
 
-/// Steps over the spaces that a line after a break begins with.
+/// Steps over spaces after a break.
 #[inline(always)]
 #[tactic(auto, using(model_lexers::proofs::RunLemmas::space_run))]
 fn skip_spaces<T: Characters>(window: &mut Window<T>)
@@ -296,7 +318,6 @@ fn read_gap<T: Characters>(
             } else {
                 window.skip_break();
                 scalar.add_break()?;
-                skip_spaces(window);
             }
         } else if !is_blank(c) {
             return Ok(());
@@ -305,6 +326,9 @@ fn read_gap<T: Characters>(
         } else {
             window.skip();
             scalar.add_blank(c)?;
+            if scalar.leading {
+                skip_spaces(window);
+            }
         }
     }
 }

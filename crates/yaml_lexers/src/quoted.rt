@@ -259,11 +259,12 @@ fn read_known<T: Characters>(
     ensures ok { OnOk result (GoesOn quote.now inside window.old scalar.old inside window.new scalar.new) }
     ensures err { OnErr result (Reads window.old window.new (λ _ _. Unit {0})) }
 {
-    if window.mark().col() + 1 < quote.context.indent || !scalar.is_joined() {
+    if !scalar.may_look() || window.mark().col() + 1 < quote.context.indent {
         return Ok(false);
     }
     let run = Run::Quoted(quote_of(quote.single));
     let known = window.take_words(run, &mut scalar.text)?;
+    scalar.note_look(known);
     Ok(known)
 }
 
@@ -290,22 +291,24 @@ fn goes_on_in(quote: &Quote, col: usize) -> bool
     col > 0 && quote.context.indent <= col + 1
 }
 
-/// Reads the character that a word begins with, and makes room for a short text. Where none begins, no memory is taken.
+/// Reads the character that a word begins with. The result is whether one begins here.
 #[inline(always)]
 fn begin_word<T: Characters>(
     window: &mut Window<T>,
     quote: &Quote,
     scalar: &mut Folding,
-) -> Result<(), AllocError>
+) -> Result<bool, AllocError>
     ensures ok { OnOk result (GoesOn quote.now inside window.old scalar.old inside window.new scalar.new) }
     ensures err { OnErr result (Reads window.old window.new (λ _ _. Unit {0})) }
     ensures left { OnOk result (window.new.left ≤ window.old.left) }
 {
-    if let Some(c) = window.take(Run::Quoted(quote_of(quote.single))) {
-        scalar.make_room()?;
-        scalar.push(c)?;
+    let c = window.look_ch();
+    if Run::Quoted(quote_of(quote.single)).stops(c) {
+        return Ok(false);
     }
-    Ok(())
+    scalar.push(c)?;
+    window.skip();
+    Ok(true)
 }
 
 /// Takes a blank that stands alone between two characters of a line.
@@ -347,7 +350,7 @@ pub(crate) fn read_run<T: Characters>(
 {
     let mut known = true;
     'words: loop {
-        // What was not known once is not asked for again in this line: so no word is looked at twice.
+        // After a look in vain, words are read character by character up to what ends them.
         known = known && read_known(window, quote, scalar)?;
         if !known {
             read_word(window, quote, scalar)?;
@@ -355,7 +358,26 @@ pub(crate) fn read_run<T: Characters>(
         if !take_lone_blank(window, quote, scalar)? {
             return Ok(());
         }
+        begin_word(window, quote, scalar)?;
     }
+}
+
+/// The same, where they begin here. Where none begins, nothing is read.
+#[inline(always)]
+fn begin_run<T: Characters>(
+    window: &mut Window<T>,
+    quote: &Quote,
+    scalar: &mut Folding,
+) -> Result<(), AllocError>
+    ensures ok { OnOk result (GoesOn quote.now inside window.old scalar.old inside window.new scalar.new) }
+    ensures err { OnErr result (Reads window.old window.new (λ _ _. Unit {0})) }
+    ensures left { OnOk result (window.new.left ≤ window.old.left) }
+{
+    if !begin_word(window, quote, scalar)? {
+        return Ok(());
+    }
+    read_run(window, quote, scalar)?;
+    Ok(())
 }
 
 /// Takes the closing quote of a scalar in double quotes, if it stands here.
@@ -390,8 +412,7 @@ fn begin_words<T: Characters>(
     if !goes_on_in(quote, window.mark().col()) {
         return Ok(Part::First);
     }
-    begin_word(window, quote, scalar)?;
-    read_run(window, quote, scalar)?;
+    begin_run(window, quote, scalar)?;
     Ok(take_closing(window, quote))
 }
 

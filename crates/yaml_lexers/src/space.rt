@@ -30,6 +30,11 @@ pub fn skip_comment<T: Characters>(window: &mut Window<T>)
     ensures reads { Reads window.old window.new (λ a b. comment a (position_of window.old) ≡ read b window.new tt) }
     ensures ahead { 0 < window.new.ahead }
 {
+    let c = window.look_ch();
+    if Run::Line.stops(c) {
+        return;
+    }
+    window.skip();
     window.pass_words(Run::Line);
     'comment: while let Some(_) = window.take(Run::Line) {}
     window.look_ch();

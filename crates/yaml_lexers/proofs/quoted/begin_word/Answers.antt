@@ -1,12 +1,15 @@
-use Rattle.std.proofs.Common.{◌≡◌, ◌∙◌, ap}
-use Rattle.yaml_chars.proofs.RunLemmas.{Reads-map}
-use Rattle.model_lexers.specs.Folding.{with_char}
+use Rattle.std.proofs.Common.{◌∷◌, ◌∙◌, ap, sym}
+use Rattle.yaml_chars.proofs.ReadingLemmas.{Reads-then}
+use Rattle.model_lexers.specs.Quoted.{quoted_from, inside}
 use Rattle.model_lexers.proofs.RunLemmas.{quoted_run}
-use Rattle.yaml_lexers.specs.Shown.{folded}
+use Rattle.yaml_lexers.specs.ShownQuoted.{at}
 use Rattle.yaml_lexers.proofs.quoted.begin_word.Goals as goal
 
-pub returns-in_ok-push-clause-ok : goal.returns-in_ok-push-clause-ok
-returns-in_ok-push-clause-ok g c =
-    let on = c.in-Some.ensures.on in
-    let pushed : folded c.push.new.self ≡ with_char c.in-Some.c (folded c.args.scalar.now) = c.in_ok-push.ensures ∙ ap (with_char c.in-Some.c) c.make_room.ensures in
-    Reads-map _ _ c.in-Some.ensures.taken.1 (λ a b f. rw (f, on.at, on.line, on.col, pushed) (quoted_run _ _ _ _ b _ _ (rw c.quote_of.ensures.value at c.in-Some.ensures.taken.0)))
+pub returns-clause-ok : goal.returns-clause-ok
+returns-clause-ok g c =
+    let goes = sym c.stops.ensures.value ∙ c.if-stops.false in
+    let was = c.look_ch-c.ensures.position in
+    Reads-then _ _ _ c.look_ch-c.ensures.reads c.skip.ensures.reads (λ a b d look s.
+    rw (c.skip.ensures.state, c.in_ok-push.ensures, was.at, was.line, was.col)
+    (ap (λ x. quoted_from c.args.quote.now.single c.args.quote.now.context c.args.quote.now.start x (at inside c.args.window.now c.args.scalar.now)) (sym look.0 ∙ s ∙ ap (λ x. x ∷ d) (sym look.1))
+    ∙ quoted_run _ _ _ c.look_ch-c.result d _ _ (rw c.quote_of.ensures.value at goes)))

@@ -3,7 +3,7 @@ use Rattle.yaml_chars.specs.Reading.{position_of}
 use Rattle.yaml_chars.proofs.ReadingLemmas.{Reads-then}
 use Rattle.model_lexers.specs.Folding.{Folded, nothing}
 use Rattle.model_lexers.specs.Quoted.{quoted_from, first, inside}
-use Rattle.yaml_lexers.specs.ShownQuoted.{GoesOn, at_folded}
+use Rattle.yaml_lexers.specs.ShownQuoted.{at_folded}
 use Rattle.yaml_lexers.proofs.QuotedLemmas.{begins_inside}
 use Rattle.yaml_lexers.proofs.quoted.begin_words.Goals as goal
 
@@ -11,9 +11,7 @@ pub returns-clause-ok : goal.returns-clause-ok
 returns-clause-ok g c =
     let deep = c.goes_on_in.ensures c.if-not-goes_on_in.false in
     let col : c.col.result ≡ c.args.window.now.col = c.col.ensures.value ∙ ap (λ (m : _). m.col) c.mark.ensures in
-    let words : GoesOn c.args.quote.now inside c.args.window.now c.args.scalar.now inside c.read_run.new.window c.read_run.new.scalar =
-    Reads-then _ _ _ c.in_ok-begin_word.ensures.ok c.in_ok-read_run.ensures.ok (λ a b d e f. e ∙ f) in
-    Reads-then _ _ _ words c.take_closing.ensures.reads (λ a b d reads closes.
+    Reads-then _ _ _ c.in_ok-begin_run.ensures.ok c.take_closing.ensures.reads (λ a b d reads closes.
     ap (λ (t : Folded). quoted_from c.args.quote.now.single c.args.quote.now.context c.args.quote.now.start a (at_folded first c.args.window.now t)) c.requires
     ∙ begins_inside _ _ _ a (position_of c.args.window.now) (rw (← col) deep.0) (rw (← col) deep.1)
     ∙ ap (λ (t : Folded). quoted_from c.args.quote.now.single c.args.quote.now.context c.args.quote.now.start a (at_folded inside c.args.window.now t)) (sym c.requires)
