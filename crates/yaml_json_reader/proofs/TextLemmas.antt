@@ -46,9 +46,6 @@ cut_first bs u a =
     let at = IsCharBoundary-after_ascii bs 0 u (omega (arith, long)) (omega (arith, byte, a.ascii)) in
     at
 
-pub behind_first : (bs back : List ℕ) → IsUtf8 bs → IsAsciiFirst (chars bs) → back ≡ drop 1 bs → IsUtf8 back
-behind_first bs back u a e = let b = begun bs a.first a.rest u a.is a.ascii in subst IsUtf8 (sym (e ∙ ap (drop 1) b.whole)) b.utf8
-
 pub skipped : (bs back : List ℕ) → IsUtf8 bs → IsAsciiFirst (chars bs) → back ≡ drop 1 bs → (c : ℕ) (rest : List ℕ) → chars bs ≡ c ∷ rest → chars back ≡ rest
 skipped bs back u a e c rest is =
     let b = begun bs a.first a.rest u a.is a.ascii in
