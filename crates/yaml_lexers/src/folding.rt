@@ -22,6 +22,9 @@ pub(crate) struct Folding {
 // Where words were looked for in vain so often, pieces are short: they are read faster character by character.
 const LOOKS: usize = 2;
 
+/// So many characters of a word are read one by one before the rest is looked for: for fewer a look does not pay.
+pub(crate) const FEW: usize = 4;
+
 impl Folding {
     /// Nothing yet. It takes no memory.
     pub(crate) fn new(alloc: Global) -> Self

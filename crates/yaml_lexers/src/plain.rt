@@ -8,7 +8,7 @@ ghost use Rattle.model_lexers.specs.Machine.{is_marker, at_marker};
 ghost use Rattle.model_lexers.specs.Plain.{can_be_plain, is_shallow, at_dash, at_plain, goes_on, starts, plain, plain_from, first, inside, between, ends_gap, is_wordy};
 ghost use Rattle.yaml_lexers.specs.Shown.{Lexes, Refuses, at, at_folded, plain_shown, EndsHere};
 
-use crate::folding::Folding;
+use crate::folding::{FEW, Folding};
 use model_lexers::Context;
 use std::alloc::{AllocError, Global};
 use yaml_chars::class::{is_blank, is_blank_or_breakz, is_break, is_breakz, is_flow};
@@ -51,6 +51,50 @@ fn read_known<T: Characters>(
     let known = window.take_words(Run::Plain(context.flow), &mut scalar.text)?;
     scalar.note_look(known);
     Ok(known)
+}
+
+/// Reads the next few characters of a word. The result is whether it has so many.
+#[inline(always)]
+fn read_few<T: Characters>(
+    window: &mut Window<T>,
+    context: Context,
+    scalar: &mut Folding,
+) -> Result<bool, AllocError>
+    ensures ok { OnOk result (Reads window.old window.new (λ a b. (start : Position) →
+        plain_from context start a (at inside window.old scalar.old) ≡ plain_from context start b (at inside window.new scalar.new))) }
+    ensures err { OnErr result (Reads window.old window.new (λ _ _. Unit {0})) }
+{
+    let mut left = FEW;
+    'few: while left > 0 {
+        let Some(c) = window.take(Run::Plain(context.flow)) else {
+            return Ok(false);
+        };
+        scalar.push(c)?;
+        left -= 1;
+    }
+    Ok(true)
+}
+
+/// Reads a word, and where it has more than a few characters and the text is known, those after it too. The result is
+/// whether words may be looked for after it.
+#[inline(always)]
+fn read_ahead<T: Characters>(
+    window: &mut Window<T>,
+    context: Context,
+    scalar: &mut Folding,
+) -> Result<bool, AllocError>
+    ensures ok { OnOk result (Reads window.old window.new (λ a b. (start : Position) →
+        plain_from context start a (at inside window.old scalar.old) ≡ plain_from context start b (at inside window.new scalar.new))) }
+    ensures err { OnErr result (Reads window.old window.new (λ _ _. Unit {0})) }
+{
+    if !read_few(window, context, scalar)? {
+        return Ok(true);
+    }
+    if read_known(window, context, scalar)? {
+        return Ok(true);
+    }
+    read_word(window, context, scalar)?;
+    Ok(false)
 }
 
 /// Reads the characters up to a blank, a break, the end, a colon or what ends a plain scalar in flow.
@@ -133,17 +177,17 @@ fn read_words<T: Characters>(
         plain_from context start a (at inside window.old scalar.old) ≡ plain_from context start b (at inside window.new scalar.new))) }
     ensures err { OnErr result (Reads window.old window.new (λ _ _. Unit {0})) }
 {
-    let mut known = true;
+    let mut known = read_ahead(window, context, scalar)?;
     'words: loop {
+        if !take_lone_blank(window, context, scalar)? {
+            return Ok(());
+        }
+        begin_word(window, context, scalar)?;
         // After a look in vain, words are read character by character up to what ends them.
         known = known && read_known(window, context, scalar)?;
         if !known {
             read_word(window, context, scalar)?;
         }
-        if !take_lone_blank(window, context, scalar)? {
-            return Ok(());
-        }
-        begin_word(window, context, scalar)?;
     }
 }
 

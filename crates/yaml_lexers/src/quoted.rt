@@ -9,7 +9,7 @@ ghost use Rattle.yaml_lexers.specs.Shown.{Lexes, Refuses, folded};
 ghost use Rattle.yaml_lexers.specs.ShownQuoted.{mode_of, at_folded, GoesOn, AllGoOn, IsRefused, ReadsOn, Shows};
 
 use crate::escape::read_escapes;
-use crate::folding::Folding;
+use crate::folding::{FEW, Folding};
 use crate::plain::{at_marker, look_ahead};
 use model_lexers::Context;
 use std::alloc::{AllocError, Global};
@@ -268,6 +268,49 @@ fn read_known<T: Characters>(
     Ok(known)
 }
 
+/// Reads the next few characters of a word. The result is whether it has so many.
+#[inline(always)]
+fn read_few<T: Characters>(
+    window: &mut Window<T>,
+    quote: &Quote,
+    scalar: &mut Folding,
+) -> Result<bool, AllocError>
+    ensures ok { OnOk result (GoesOn quote.now inside window.old scalar.old inside window.new scalar.new) }
+    ensures err { OnErr result (Reads window.old window.new (λ _ _. Unit {0})) }
+{
+    let run = Run::Quoted(quote_of(quote.single));
+    let mut left = FEW;
+    'few: while left > 0 {
+        let Some(c) = window.take(run) else {
+            return Ok(false);
+        };
+        scalar.push(c)?;
+        left -= 1;
+    }
+    Ok(true)
+}
+
+/// Reads a word, and where it has more than a few characters and the text is known, those after it too. The result is
+/// whether words may be looked for after it.
+#[inline(always)]
+fn read_ahead<T: Characters>(
+    window: &mut Window<T>,
+    quote: &Quote,
+    scalar: &mut Folding,
+) -> Result<bool, AllocError>
+    ensures ok { OnOk result (GoesOn quote.now inside window.old scalar.old inside window.new scalar.new) }
+    ensures err { OnErr result (Reads window.old window.new (λ _ _. Unit {0})) }
+{
+    if !read_few(window, quote, scalar)? {
+        return Ok(true);
+    }
+    if read_known(window, quote, scalar)? {
+        return Ok(true);
+    }
+    read_word(window, quote, scalar)?;
+    Ok(false)
+}
+
 /// Reads the characters up to a blank, a break, the end, a quote or a backslash.
 #[inline(always)]
 fn read_word<T: Characters>(
@@ -348,17 +391,17 @@ pub(crate) fn read_run<T: Characters>(
     ensures err { OnErr result (Reads window.old window.new (λ _ _. Unit {0})) }
     ensures left { OnOk result (window.new.left ≤ window.old.left) }
 {
-    let mut known = true;
+    let mut known = read_ahead(window, quote, scalar)?;
     'words: loop {
+        if !take_lone_blank(window, quote, scalar)? {
+            return Ok(());
+        }
+        begin_word(window, quote, scalar)?;
         // After a look in vain, words are read character by character up to what ends them.
         known = known && read_known(window, quote, scalar)?;
         if !known {
             read_word(window, quote, scalar)?;
         }
-        if !take_lone_blank(window, quote, scalar)? {
-            return Ok(());
-        }
-        begin_word(window, quote, scalar)?;
     }
 }
 

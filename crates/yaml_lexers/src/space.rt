@@ -4,6 +4,7 @@ ghost use Rattle.yaml_chars.specs.Reading.{Reads, HasChar, position_of};
 ghost use Rattle.model_lexers.specs.Space.{linebreak, comment, blanks, space};
 ghost use Rattle.yaml_lexers.specs.Shown.{read};
 
+use crate::folding::FEW;
 use model_lexers::{SkipTabs, Whitespace};
 use yaml_chars::class::is_blank;
 use yaml_chars::{Characters, Run, Window};
@@ -24,18 +25,40 @@ pub fn skip_linebreak<T: Characters>(window: &mut Window<T>)
     }
 }
 
+/// Steps over the next few characters of a comment. The result is whether it has so many.
+#[inline(always)]
+#[tactic(auto, using(model_lexers::proofs::SpaceLemmas::comment_on))]
+fn pass_few<T: Characters>(window: &mut Window<T>) -> bool
+    ensures { Reads window.old window.new (λ a b. comment a (position_of window.old) ≡ comment b (position_of window.new)) }
+{
+    let mut left = FEW;
+    'few: while left > 0 {
+        let Some(_) = window.take(Run::Line) else {
+            return false;
+        };
+        left -= 1;
+    }
+    true
+}
+
+/// Steps over what is known of a comment, where it has more than a few characters.
+#[inline(always)]
+fn pass_known<T: Characters>(window: &mut Window<T>)
+    ensures { Reads window.old window.new (λ a b. comment a (position_of window.old) ≡ comment b (position_of window.new)) }
+{
+    if !pass_few(window) {
+        return;
+    }
+    window.pass_words(Run::Line);
+}
+
 /// Steps to the end of the line. What stands there is then in the window.
 #[tactic(auto, using(model_lexers::proofs::SpaceLemmas::comment_on, model_lexers::proofs::SpaceLemmas::comment_end))]
 pub fn skip_comment<T: Characters>(window: &mut Window<T>)
     ensures reads { Reads window.old window.new (λ a b. comment a (position_of window.old) ≡ read b window.new tt) }
     ensures ahead { 0 < window.new.ahead }
 {
-    let c = window.look_ch();
-    if Run::Line.stops(c) {
-        return;
-    }
-    window.skip();
-    window.pass_words(Run::Line);
+    pass_known(window);
     'comment: while let Some(_) = window.take(Run::Line) {}
     window.look_ch();
 }

@@ -1,0 +1,9 @@
+use Rattle.model_lexers.specs.Quoted.{inside}
+use Rattle.yaml_lexers.specs.ShownQuoted.{GoesOn}
+use Rattle.yaml_lexers.proofs.quoted.read_few.Given as goal
+
+abbrev pub invariant-few : goal.invariant-few
+invariant-few g l = GoesOn l.fn.quote inside l.fn.window l.fn.scalar inside l.window l.scalar
+
+abbrev pub decreases-few : goal.decreases-few
+decreases-few g l = l.left

@@ -1,0 +1,10 @@
+use Rattle.std.proofs.Common.{◌≡◌}
+use Rattle.yaml_chars.specs.Reading.{Reads, position_of}
+use Rattle.model_lexers.specs.Space.{comment}
+use Rattle.yaml_lexers.proofs.space.pass_few.Given as goal
+
+abbrev pub invariant-few : goal.invariant-few
+invariant-few g l = Reads l.fn.window l.window (λ a b. comment a (position_of l.fn.window) ≡ comment b (position_of l.window))
+
+abbrev pub decreases-few : goal.decreases-few
+decreases-few g l = l.left
