@@ -16,8 +16,8 @@ ghost use Rattle.yaml_loader.specs.TextLoads.{LoadsText, LoadsOnly, OfTexts, OfT
 use crate::loader::YamlLoader;
 use defs_event::laws::loaded_trees_have_no_alias;
 use std::alloc::Global;
-use yaml_chars::{Characters, TextInMemory, Window};
-use yaml_json_reader::read_json;
+use yaml_chars::{Characters, TextInMemory};
+use yaml_json_reader::{position_behind, read_json};
 use yaml_parser::Parser;
 use yaml_tokens::ScanError;
 use yaml_tree::Yaml;
@@ -172,28 +172,29 @@ fn load_text(alloc: Global, source: &str) -> Result<Vec<Yaml>, ScanError>
     ensures no_alias { IfOk result (λ documents. All HasNoAlias (items_view documents.items)) }
 {
     match read_json(alloc, source) {
-        Ok(Some(tree)) => one_document(alloc, tree),
+        Ok(Some(tree)) => one_document(alloc, tree, source),
         Ok(None) => load_known(alloc, TextInMemory::new(source)),
-        Err(_) => Err(out_of_memory()),
+        Err(refused) => Err(out_of_memory(source, refused.read)),
     }
 }
 
-fn one_document(alloc: Global, tree: Yaml) -> Result<Vec<Yaml>, ScanError>
+// The tree of a text, which was read to its end.
+fn one_document(alloc: Global, tree: Yaml, source: &str) -> Result<Vec<Yaml>, ScanError>
     ensures ok { IfOk result (λ documents. items_view documents.items ≡ view tree ∷ []) }
     ensures err { IfErr result (λ f. WantsMemory f) }
 {
     let mut documents = Vec::new(alloc);
     if documents.push(tree).is_err() {
-        return Err(out_of_memory());
+        return Err(out_of_memory(source, source.len()));
     }
     Ok(documents)
 }
 
-// Memory was refused to a JSON text. The fault has the position of the text's start.
+// Memory was refused to a text of which so many bytes were read. The fault has the position behind them.
 #[cold]
 #[inline(never)]
-fn out_of_memory() -> ScanError
+fn out_of_memory(source: &str, read: usize) -> ScanError
     ensures { WantsMemory result }
 {
-    ScanError::memory(Window::new("".chars()).mark())
+    ScanError::memory(position_behind(source, read))
 }

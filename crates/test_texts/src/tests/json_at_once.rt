@@ -5,7 +5,7 @@ use std::alloc::Global;
 use std::test::Fail;
 use test_rows::Report;
 
-const TEXTS: [&str; 50] = [
+const TEXTS: [&str; 72] = [
     "{\"a\": [1, -2, 3.50, -0, 0, 1e5, 2E-3, 0.0e+0], \"b\": {\"c\": null, \"d\": [true, false]}}",
     "[]",
     "{}",
@@ -58,6 +58,28 @@ const TEXTS: [&str; 50] = [
     "[1]\n---\n[2]",
     "[1] # a ]",
     "[[1,], 2]",
+    "[\"abc\", \"def\", ghi]",
+    "[\"a\", true, nullx]",
+    "{\"a\": 1, \"b\": x}",
+    "{\"a\": 1, b: 2}",
+    "[{\"a\": 1},\t{\"b\": 2}]",
+    "[{\"a\": 1}, # a comment\n {\"b\": 2}]",
+    "[1]\n---\n[1]\n",
+    "[1]\n...\n",
+    "[1]\n%YAML 1.2",
+    "[\"\\ud7ff\", \"\\uD800\", \"\\uE000\"]",
+    "[\"\\udFFF\\uDc00\"]",
+    "[\"\\u04Dg\", \"\\u0g\"]",
+    "[@",
+    "{]",
+    "[1]\u{0}",
+    "[1]\u{0} and more",
+    "[1, 2]\u{0}]",
+    "[1]\n\t\n \t",
+    "[1] \t",
+    "[\r\n\t1\r\t]",
+    "[2024-01-02, 12:30, 1.2.3, -1-]",
+    "{\"a\": {\"b\": 1, \"c\": {\"d\": 2, \"d\": 3}}}",
 ];
 
 // Notes where both loads of the text differ.
@@ -68,7 +90,7 @@ fn compare(report: &mut Report, alloc: Global, text: &str) -> Result<(), Fail> {
     Ok(())
 }
 
-// The same of the text as it stands, and with a bracket at its end: a text that ends with none is not read at once.
+// The same of the text as it stands, and with a bracket at its end, which may close what is open.
 fn compare_ended(report: &mut Report, alloc: Global, text: &str) -> Result<(), Fail> {
     compare(report, alloc, text)?;
     for end in ["]", "}"] {
@@ -90,6 +112,31 @@ fn each_beginning_is_read_alike(rt: HostRuntime) -> Result<(), Fail> {
             }
         }
         compare(&mut report, rt.alloc(), text)?;
+    }
+    assert!(rt; report.is_empty(), "{report}");
+    Ok(())
+}
+
+// A text behind so many blanks of one kind.
+fn indented(alloc: Global, blank: char, count: usize, text: &str) -> Result<String, Fail> {
+    let mut indented = String::new(alloc);
+    for _ in 0..count {
+        indented.push(blank)?;
+    }
+    indented.push_str(text)?;
+    Ok(indented)
+}
+
+#[test]
+fn texts_behind_blanks_are_read_alike(rt: HostRuntime) -> Result<(), Fail> {
+    let mut report = Report::new(rt.alloc());
+    for blank in [' ', '\t', '\n', '\r'] {
+        for count in [1, 63, 64, 65, 66, 130] {
+            for text in ["[1]", "{\"a\": 1}", "[x]", "a", "[\n\t1]"] {
+                let text = indented(rt.alloc(), blank, count, text)?;
+                compare(&mut report, rt.alloc(), text.as_str())?;
+            }
+        }
     }
     assert!(rt; report.is_empty(), "{report}");
     Ok(())
