@@ -7,7 +7,7 @@ use Rattle.model_scanner.specs.Keys.{top_needs_block_end}
 use Rattle.yaml_scanner_state.specs.ImplicitKeys.{no_implicit}
 use Rattle.model_scanner.specs.Indents.{level, without_open}
 use Rattle.yaml_scanner_state.specs.Levels.{Columns, ends_open, lone_open}
-use Rattle.yaml_scanner_state.specs.Tokens.{handed}
+use Rattle.yaml_scanner_state.specs.Tokens.{handed, waiting}
 use Rattle.yaml_scanner.specs.declared.fetcher.Fetcher.{Fetcher}
 
 -- inside the stream, outside flow, no fault is kept and nothing may be a key
@@ -58,10 +58,13 @@ pub record Stands (col : ℕ) (l : Columns) (limit : ℕ) : Type 0 where
   pub there : outer.indent ≡ col + 1 → top_needs_block_end outer.indents ≡ true
   pub low : 0 < limit → (limit ≤ outer.indent) × (((l.indent == col + 1) && top_needs_block_end l.indents) ≡ false)
 
--- A node may begin here, outside flow: a key may begin, and no token before may still become one.
+-- A node may begin here, outside flow: a key may begin, and no token before may still become one. At most one token waits, and
+-- where one does, no mapping begins with the key.
 pub record AwaitsNode {T : Type 0} (s : Fetcher T) (limit : ℕ) : Type 0 where
   pub flow : s.flow ≡ []
   pub allowed : s.key_allowed ≡ true
   pub free : map no_implicit s.keys ≡ s.keys
   pub level : 0 < length s.keys
+  pub waits : waiting s.tokens ≤ 1
+  pub behind : 0 < waiting s.tokens → StandsAt s.window.col true s.levels
   pub stands : Stands s.window.col s.levels limit

@@ -73,7 +73,7 @@ impl<T: Characters> Fetcher<T> {
         if let Err(fault) = self.skip_to_next_token() {
             return Err(fault);
         }
-        let free = self.keys.has_none();
+        let free = self.is_free();
         if let Err(fault) = self.drop_stale() {
             return Err(fault);
         }

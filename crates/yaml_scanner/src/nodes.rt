@@ -1,15 +1,17 @@
 //! Keys of block mappings, and other plain scalars of one line, whose characters are known to come. Each is fetched at once,
 //! and a key with the `:` after it.
-ghost use Rattle.std.specs.Prelude.{◌≡◌, ◌<◌, OnOk, IfOk, IfErr, IfSome, true, false};
+ghost use Rattle.std.specs.Prelude.{◌≡◌, ◌<◌, ◌≤◌, OnOk, IfOk, IfErr, IfSome, true, false, map};
 ghost use Rattle.defs_text.specs.Text.{string_chars};
 ghost use Rattle.defs_token.specs.Token.{Style, Tok};
 ghost use Rattle.model_scanner.specs.State.{push};
 ghost use Rattle.model_scanner.specs.Indents.{unroll_non_block_indents};
 ghost use Rattle.yaml_chars.specs.Reading.{Reads};
-ghost use Rattle.yaml_scanner.specs.Awaits.{AwaitsNode, Stands};
+ghost use Rattle.yaml_scanner.specs.Awaits.{AwaitsNode, Stands, StandsAt};
 ghost use Rattle.yaml_scanner.specs.Fetched.{Fetched, fetch_rest, with_key, with_line};
 ghost use Rattle.yaml_scanner.specs.Shape.{held};
 ghost use Rattle.yaml_scanner.specs.Work.{Fetches, Moves};
+ghost use Rattle.yaml_scanner_state.specs.ImplicitKeys.{no_implicit};
+ghost use Rattle.yaml_scanner_state.specs.Tokens.{waiting};
 
 use crate::fetcher::{Failed, Fetcher};
 use yaml_chars::{Characters, Marker, Node, opens_simple};
@@ -39,8 +41,33 @@ impl<T: Characters> Fetcher<T> {
         if outer < here { Some(outer) } else { None }
     }
 
-    /// What `node_limit` gives, where a key may begin here, no token before may still become one, and the next character is one
-    /// that a simple text may begin with.
+    /// Whether no token waits, and none may become a key.
+    pub(crate) fn is_free(&self) -> bool
+        ensures waits { result ≡ true → waiting self.now.tokens ≡ 0 }
+        ensures keys { result ≡ true → map no_implicit self.now.keys ≡ self.now.keys }
+    {
+        self.tokens.len() == 0 && self.keys.has_none()
+    }
+
+    /// Whether a key's tokens stand behind so few others that they need no more room than the queue has had since its first token,
+    /// which is that of four. A key is three tokens, and a fourth begins its mapping. So no memory is asked for before the tokens
+    /// that wait are handed out.
+    fn has_room(&self) -> bool
+        ensures waits { result ≡ true → waiting self.now.tokens ≤ 1 }
+        ensures behind { result ≡ true → 0 < waiting self.now.tokens → StandsAt self.now.window.col true self.now.levels }
+    {
+        match self.tokens.len() {
+            0 => true,
+            1 => {
+                self.levels.needs_block_end()
+                    && self.levels.indent() == self.window.mark().col() + 1
+            }
+            _ => false,
+        }
+    }
+
+    /// What `node_limit` gives, where a key may begin here, no token before may still become one, at most one token waits, and the
+    /// next character is one that a simple text may begin with.
     fn awaits_node(&self) -> Option<usize>
         requires { 0 < self.now.window.ahead }
         ensures { IfSome result (λ limit. AwaitsNode self.now limit) }
@@ -48,7 +75,7 @@ impl<T: Characters> Fetcher<T> {
         if !self.key_allowed || !opens_simple(self.window.ch()) {
             return None;
         }
-        if self.in_flow() || !self.keys.has_none() {
+        if self.in_flow() || !self.keys.has_none() || !self.has_room() {
             return None;
         }
         self.node_limit()
@@ -87,9 +114,9 @@ impl<T: Characters> Fetcher<T> {
         Ok(())
     }
 
-    /// Fetches a key with its `:`, or another plain scalar of one line, where its characters are known to come and no token
-    /// before this fetch might have become a key (`free`): else the text is read no further than that token needs. The
-    /// result is whether it did; where not, nothing changed.
+    /// Fetches a key with its `:`, or another plain scalar of one line, where its characters are known to come, and before this
+    /// fetch no token waited and none might have become a key (`free`): else the text is read no further than such a token
+    /// needs. The result is whether it did; where not, nothing changed.
     #[inline(always)]
     pub(crate) fn fetch_node(&mut self, free: bool) -> Result<bool, Failed>
         requires started { self.old.started ≡ true }

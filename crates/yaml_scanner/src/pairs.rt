@@ -181,6 +181,9 @@ impl<T: Characters> Fetcher<T> {
         ensures run { IfErr result (λ _. Fetches self.old self.new) }
         ensures err { IfErr result (λ _. (mark : Position) → Follows (record self.new { kept = Some (record { fault = self.new.fault; mark = mark }) })) }
         ensures memory { IfErr result (λ _. self.new.fault ≡ Fault.OutOfMemory) }
+        ensures over { self.old.tokens.over ≡ true → (result ≡ Ok None) × (self.new ≡ self.old) }
+        ensures ready { self.old.tokens.ended ≡ true → (result ≡ Ok None) × (self.new ≡ self.old) }
+        ensures again { IfSome self.old.kept (λ _. (result ≡ Ok None) × (self.new ≡ self.old)) }
         ensures start { self.new.window.start ≡ self.old.window.start }
     {
         let Some(opens) = self.awaits_key() else {
@@ -211,6 +214,9 @@ impl<T: Characters> Fetcher<T> {
         ensures run { IfErr result (λ _. Fetches self.old self.new) }
         ensures err { IfErr result (λ _. (mark : Position) → Follows (record self.new { kept = Some (record { fault = self.new.fault; mark = mark }) })) }
         ensures memory { IfErr result (λ _. self.new.fault ≡ Fault.OutOfMemory) }
+        ensures over { self.old.tokens.over ≡ true → (result ≡ Ok None) × (self.new ≡ self.old) }
+        ensures ready { self.old.tokens.ended ≡ true → (result ≡ Ok None) × (self.new ≡ self.old) }
+        ensures again { IfSome self.old.kept (λ _. (result ≡ Ok None) × (self.new ≡ self.old)) }
         ensures start { self.new.window.start ≡ self.old.window.start }
     {
         let Some(found) = self.awaits_value() else {

@@ -184,12 +184,16 @@ impl<T: Characters> Scanner<T> {
     ///
     /// # Errors
     ///
-    /// Memory was refused. The fault is kept.
+    /// Memory was refused. The fault is kept: each later call is `None`, and [`next_token`](Scanner::next_token) gives the fault
+    /// again. Where a fault is kept, and once the stream's end was fetched, no fault comes, and no memory is taken.
     pub fn next_key(&mut self) -> Result<Option<PlainNode>, ScanError>
         ensures key { IfOk result (λ o. IfSome o (λ n. HandsBoth (scanned self.old) (token n.indicator Tok.key) (token n.mark (Tok.scalar Style.plain (string_chars n.text))) (scanned self.new))) }
         ensures none { IfOk result (λ o. IfNone o (self.new ≡ self.old)) }
         ensures err { IfErr result (λ e. Refuses (scanned self.old) e (scanned self.new)) }
         ensures memory { IfErr result (λ e. e.memory ≡ true) }
+        ensures over { (scanned self.old).ended ≡ true → (result ≡ Ok None) × (self.new ≡ self.old) }
+        ensures ready { (scanned self.old).stopped ≡ true → (result ≡ Ok None) × (self.new ≡ self.old) }
+        ensures again { IfSome (scanned self.old).fault (λ _. (result ≡ Ok None) × (self.new ≡ self.old)) }
         ensures scans { Scans (scanned self.new) }
         ensures start { self.new.start ≡ self.old.start }
     {
@@ -201,16 +205,21 @@ impl<T: Characters> Scanner<T> {
 
     /// Hands out the `Value` and the scalar of a value of a block mapping by one call, where both are next and the value is a
     /// plain scalar on one line, of characters that are known to come, before a line that is not deeper than the mapping.
-    /// Else it is `None`, and nothing changes.
+    /// Else it is `None`, and nothing changes: [`next_token`](Scanner::next_token) then gives the next token, or the fault that is
+    /// kept.
     ///
     /// # Errors
     ///
-    /// Memory was refused. The fault is kept.
+    /// Memory was refused. The fault is kept: each later call is `None`, and [`next_token`](Scanner::next_token) gives the fault
+    /// again. Where a fault is kept, and once the stream's end was fetched, no fault comes, and no memory is taken.
     pub fn next_value(&mut self) -> Result<Option<PlainNode>, ScanError>
         ensures value { IfOk result (λ o. IfSome o (λ n. HandsBoth (scanned self.old) (token n.indicator Tok.value) (token n.mark (Tok.scalar Style.plain (string_chars n.text))) (scanned self.new))) }
         ensures none { IfOk result (λ o. IfNone o (self.new ≡ self.old)) }
         ensures err { IfErr result (λ e. Refuses (scanned self.old) e (scanned self.new)) }
         ensures memory { IfErr result (λ e. e.memory ≡ true) }
+        ensures over { (scanned self.old).ended ≡ true → (result ≡ Ok None) × (self.new ≡ self.old) }
+        ensures ready { (scanned self.old).stopped ≡ true → (result ≡ Ok None) × (self.new ≡ self.old) }
+        ensures again { IfSome (scanned self.old).fault (λ _. (result ≡ Ok None) × (self.new ≡ self.old)) }
         ensures scans { Scans (scanned self.new) }
         ensures start { self.new.start ≡ self.old.start }
     {
