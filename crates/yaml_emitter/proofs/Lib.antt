@@ -1,6 +1,6 @@
 pub mod EscapeLemmas
 pub mod FmtLemmas
-pub mod MaskLemmas
+pub mod ByteSets
 pub mod RunLemmas
 pub mod PrintableLemmas
 pub mod TextLemmas

@@ -17,7 +17,7 @@ use Rattle.yaml_typing.proofs.FirstByte.{typing_itself}
 use Rattle.yaml_typing.specs.Values.{begins_value}
 use Rattle.yaml_typing.proofs.WideTexts.{low, Wide, low_bytes}
 use Rattle.yaml_emitter.specs.Words.{is_unfit, is_word, is_name, float_names, begins_plainly, is_plain_letter, is_plain_small}
-use Rattle.yaml_emitter.proofs.MaskLemmas.{each_upto, same, same_is}
+use Rattle.yaml_chars.proofs.MaskLemmas.{each_upto, same, same_is}
 use Rattle.yaml_emitter.proofs.TextLemmas.{low_chars}
 
 -- ---- names of numbers

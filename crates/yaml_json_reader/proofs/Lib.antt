@@ -1,7 +1,6 @@
 pub mod Collections
 pub mod Gaps
 pub mod Longer
-pub mod MaskLemmas
 pub mod NumberLemmas
 pub mod Places
 pub mod Results

@@ -1,7 +1,7 @@
 use Rattle.std.proofs.Common.{◌≡◌, true, false, not, ◌&&◌, ap, sym, ◌∙◌, arith}
 use Rattle.std.specs.Char.{is_ascii_lowercase}
 use Rattle.yaml_emitter.specs.Runs.{has_bit}
-use Rattle.yaml_emitter.proofs.MaskLemmas.{escaped_set, escaped_bits}
+use Rattle.yaml_emitter.proofs.ByteSets.{escaped_set, escaped_bits}
 use Rattle.yaml_emitter.proofs.runs.is_escaped.Goals as goal
 
 pub returns-then-not-is_ascii_lowercase : goal.returns-then-not-is_ascii_lowercase

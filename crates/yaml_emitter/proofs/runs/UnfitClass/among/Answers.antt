@@ -1,7 +1,7 @@
 use Rattle.std.proofs.Common.{arith}
 use Rattle.std.proofs.lemmas.Simd.{zip2_splat}
 use Rattle.defs_tree.specs.Quoting.{is_unfit_for_plain}
-use Rattle.yaml_emitter.proofs.MaskLemmas.{hit, below, other, either, both_of, masked}
+use Rattle.yaml_chars.proofs.MaskLemmas.{hit, below, other, either, both_of, masked}
 use Rattle.yaml_emitter.proofs.runs.UnfitClass.among.Goals as goal
 
 pub returns : goal.returns

@@ -1,4 +1,4 @@
--- A mask that a vector's tests give, held to a test of each byte.
+-- A mask that a vector's tests give, held to a test of each byte, for the crates that look at blocks of bytes.
 use Rattle.std.proofs.Common.{◌≡◌, ℕ, zero, suc, ◌+◌, ◌*◌, ◌%◌, ◌^◌, ◌<◌, ◌≤◌, ltb, Bool, true, false, not, ◌&&◌, ◌||◌, cond, eqb, T, ◌⊎◌, inl, inr, List, [], ◌∷◌, map, length, drop, replicate, refl, sym, ap, ap₂, subst, ◌∙◌, arith, w8, Fits, not-suc-le-zero}
 use Rattle.std.proofs.lemmas.Bool.{cases_order, eq-eqb, ne_eqb}
 use Rattle.std.proofs.lemmas.Bool.Decides.{nat_tests}
@@ -7,10 +7,6 @@ use Rattle.std.proofs.lemmas.List.Folds.{prefix_len-append}
 use Rattle.std.proofs.lemmas.List.Sums.{prefix_len-le-length}
 use Rattle.std.proofs.lemmas.Simd.{chunk-drop, length-chunk, leading_from_mask_l, trailing_mask_l, mask_l-mod}
 use Rattle.std.specs.List.{list_any, prefix_len}
-use Rattle.std.specs.Char.{is_ascii_lowercase}
-use Rattle.defs_tree.specs.Quoting.{is_unfit_for_plain}
-use Rattle.yaml_emitter.specs.declared.runs.Bits.{Bits}
-use Rattle.yaml_emitter.specs.Runs.{has_bit, is_escaped}
 use lib.Bits.{bit_or, bit_and}
 use lib.Count.{count_trailing_zeros}
 use lib.Lanes.{zip2, mask_l, top, chunk, Each1}
@@ -75,20 +71,6 @@ each_upto p (suc n) h i lt = go (each_upto p n (both (p n) (all_upto p n) h).1 i
     go before (inl e) = subst (λ x. T (p x)) (sym e) (both (p n) (all_upto p n) h).0
     go before (inr (inl l)) = before l
     go before (inr (inr g)) = let no : ⊥ = omega arith in absurd no
-
--- the sets that are held as bits
-abbrev pub escaped_set : Bits
-escaped_set = record { low = 21474836479; high = 9223372037123211264 }
-
-pub escaped_bits : (b : ℕ) → b < 256 → (not (is_ascii_lowercase b) && has_bit escaped_set b) ≡ is_escaped b
-escaped_bits b lt = same_is _ _ (each_upto (λ x. same (not (is_ascii_lowercase x) && has_bit escaped_set x) (is_escaped x)) 256 tt b lt)
-
-abbrev pub unfit_set : Bits
-unfit_set = record { low = 288248573793920639; high = 2882303766751608832 }
-
-pub unfit_bits : (b : ℕ) → b < 256 → (not (is_ascii_lowercase b) && has_bit unfit_set b) ≡ is_unfit_for_plain b
-unfolding is_unfit_for_plain
-unfit_bits b lt = same_is _ _ (each_upto (λ x. same (not (is_ascii_lowercase x) && has_bit unfit_set x) (is_unfit_for_plain x)) 256 tt b lt)
 
 each_byte : (f : ℕ → ℕ) (p : ℕ → Bool) → T (all_upto (λ x. same (top 7 (f x)) (p x)) 256) → (v : List ℕ) → Each1 (Fits w8) v → map (top 7) (map f v) ≡ map p v
 each_byte f p all [] fits = refl
