@@ -100,7 +100,7 @@ fn tell_next<S: Characters>(
 }
 
 // The tokens of a text, one by one.
-fn alone<S: Characters>(alloc: Global, source: S) -> Result<String, Fail>
+pub(crate) fn alone<S: Characters>(alloc: Global, source: S) -> Result<String, Fail>
     requires can { S.can_next source }
     requires finite { IsFinite (S.remaining source) }
     requires few { size (S.remaining source) < 2 ^ 63 }
@@ -116,7 +116,7 @@ fn alone<S: Characters>(alloc: Global, source: S) -> Result<String, Fail>
 }
 
 // The tokens of a text, two at once where that can be, and how many keys and values were handed out so.
-fn at_once<S: Characters>(alloc: Global, source: S) -> Result<(String, String), Fail>
+pub(crate) fn at_once<S: Characters>(alloc: Global, source: S) -> Result<(String, String), Fail>
     requires can { S.can_next source }
     requires finite { IsFinite (S.remaining source) }
     requires few { size (S.remaining source) < 2 ^ 63 }
@@ -140,7 +140,7 @@ fn at_once<S: Characters>(alloc: Global, source: S) -> Result<(String, String), 
 }
 
 // The events of a text with their positions, and its fault.
-fn events<S: Characters>(alloc: Global, source: S) -> Result<String, Fail>
+pub(crate) fn events<S: Characters>(alloc: Global, source: S) -> Result<String, Fail>
     requires can { S.can_next source }
     requires finite { IsFinite (S.remaining source) }
     requires few { size (S.remaining source) < 2 ^ 63 }
@@ -151,7 +151,12 @@ fn events<S: Characters>(alloc: Global, source: S) -> Result<String, Fail>
         match parser.next_token() {
             Ok((Event::StreamEnd, _)) => break,
             Ok((event, mark)) => {
-                let word = format!(in alloc; "{event:?} {} {}, ", mark.line(), mark.col())?;
+                let word = format!(in alloc;
+                    "{event:?} {} {} {}, ",
+                    mark.index(),
+                    mark.line(),
+                    mark.col()
+                )?;
                 out.push_str(word.as_str())?;
             }
             Err(fault) => {

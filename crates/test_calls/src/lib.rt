@@ -14,6 +14,8 @@ mod events;
 #[cfg(test)]
 mod faults;
 #[cfg(test)]
+mod kept;
+#[cfg(test)]
 mod lines;
 #[cfg(test)]
 mod made;
@@ -35,6 +37,8 @@ mod refused_reads;
 mod refused_writes;
 #[cfg(test)]
 mod scanner;
+#[cfg(test)]
+mod thresholds;
 #[cfg(test)]
 mod tokens;
 #[cfg(test)]
