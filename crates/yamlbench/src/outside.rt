@@ -143,18 +143,22 @@ pub extern "C" fn yamlbench_json_length(alloc: Global, text: &[u8]) -> i64 {
 /// Carries out the merge keys of a text's last document: 1, or -1 where that is refused.
 #[unsafe(no_mangle)]
 pub extern "C" fn yamlbench_merge(alloc: Global, text: &[u8]) -> i64 {
-    match last_document(alloc, text) {
-        Some(tree) if merge(alloc, &tree).is_ok() => 1,
-        _ => -1,
-    }
+    let Some(tree) = last_document(alloc, text) else {
+        return -1;
+    };
+    if merge(alloc, &tree).is_ok() { 1 } else { -1 }
 }
 
 /// Lays a text's last document over itself: 1, or -1 where memory is refused.
 #[unsafe(no_mangle)]
 pub extern "C" fn yamlbench_overlay_itself(alloc: Global, text: &[u8]) -> i64 {
-    match last_document(alloc, text) {
-        Some(tree) if overlay(alloc, &tree, &tree).is_ok() => 1,
-        _ => -1,
+    let Some(tree) = last_document(alloc, text) else {
+        return -1;
+    };
+    if overlay(alloc, &tree, &tree).is_ok() {
+        1
+    } else {
+        -1
     }
 }
 
