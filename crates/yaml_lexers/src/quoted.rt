@@ -268,18 +268,19 @@ fn read_known<T: Characters>(
     Ok(known)
 }
 
-/// Reads the next few characters of a word. The result is whether it has so many.
+/// Reads so many characters of a word. The result is whether it has them.
 #[inline(always)]
 fn read_few<T: Characters>(
     window: &mut Window<T>,
     quote: &Quote,
     scalar: &mut Folding,
+    count: usize,
 ) -> Result<bool, AllocError>
     ensures ok { OnOk result (GoesOn quote.now inside window.old scalar.old inside window.new scalar.new) }
     ensures err { OnErr result (Reads window.old window.new (λ _ _. Unit {0})) }
 {
     let run = Run::Quoted(quote_of(quote.single));
-    let mut left = FEW;
+    let mut left = count;
     'few: while left > 0 {
         let Some(c) = window.take(run) else {
             return Ok(false);
@@ -288,23 +289,6 @@ fn read_few<T: Characters>(
         left -= 1;
     }
     Ok(true)
-}
-
-/// Reads what of a word is read before the rest is looked for. In double quotes that is one character: words go on there up to
-/// an escape, and are long. The result is whether so much of one stands here.
-#[inline(always)]
-fn begin_ahead<T: Characters>(
-    window: &mut Window<T>,
-    quote: &Quote,
-    scalar: &mut Folding,
-) -> Result<bool, AllocError>
-    ensures ok { OnOk result (GoesOn quote.now inside window.old scalar.old inside window.new scalar.new) }
-    ensures err { OnErr result (Reads window.old window.new (λ _ _. Unit {0})) }
-{
-    if quote.single {
-        return read_few(window, quote, scalar);
-    }
-    begin_word(window, quote, scalar)
 }
 
 /// Reads a word, and where it has more than a few characters and the text is known, those after it too. The result is
@@ -318,7 +302,9 @@ fn read_ahead<T: Characters>(
     ensures ok { OnOk result (GoesOn quote.now inside window.old scalar.old inside window.new scalar.new) }
     ensures err { OnErr result (Reads window.old window.new (λ _ _. Unit {0})) }
 {
-    if !begin_ahead(window, quote, scalar)? {
+    // In double quotes words go on up to an escape, and are long.
+    let few = if quote.single { FEW } else { 1 };
+    if !read_few(window, quote, scalar, few)? {
         return Ok(true);
     }
     if read_known(window, quote, scalar)? {
@@ -398,8 +384,8 @@ fn take_lone_blank<T: Characters>(
     Ok(true)
 }
 
-/// Reads words of a line, with one blank before each. They are known to come, or else are read character by character up to
-/// what ends them.
+/// Reads words of a line, with one blank before each. They are looked for if some were known before; else they are read
+/// character by character up to what ends them.
 fn read_words<T: Characters>(
     window: &mut Window<T>,
     quote: &Quote,
