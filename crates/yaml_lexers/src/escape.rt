@@ -9,7 +9,7 @@ ghost use Rattle.yaml_lexers.specs.ShownQuoted.{at, at_folded, mode_of, escape_s
 ghost use Rattle.yaml_lexers.specs.Shown.{folded};
 
 use crate::folding::Folding;
-use crate::quoted::{Part, Quote, read_run};
+use crate::quoted::{Part, Quote, read_run, take_closing};
 use yaml_chars::class::{hex_value, is_break, is_hex};
 use yaml_chars::{Characters, Marker, Window};
 use yaml_tokens::{Fault, Problem};
@@ -189,7 +189,7 @@ fn skip_backslash<T: Characters>(window: &mut Window<T>) -> bool
     breaks
 }
 
-/// Reads an escape and the words after it, as long as an escape comes after these.
+/// Reads an escape and the words after it, as long as an escape comes after these, and the closing quote if that does.
 pub(crate) fn read_escapes<T: Characters>(
     window: &mut Window<T>,
     quote: &Quote,
@@ -207,7 +207,7 @@ pub(crate) fn read_escapes<T: Characters>(
         if !at_backslash(window) {
             read_run(window, quote, scalar)?;
             if !at_backslash(window) {
-                return Ok(Part::Inside);
+                return Ok(take_closing(window, quote));
             }
         }
     }

@@ -23,7 +23,7 @@ pub(crate) struct Folding {
 const LOOKS: usize = 2;
 
 /// So many characters of a word are read one by one before the rest is looked for: for fewer a look does not pay.
-pub(crate) const FEW: usize = 4;
+pub(crate) const FEW: usize = 5;
 
 impl Folding {
     /// Nothing yet. It takes no memory.

@@ -191,6 +191,41 @@ fn read_words<T: Characters>(
     }
 }
 
+/// Reads the characters of a word one by one. Where they are few, that is the fastest.
+#[inline(always)]
+fn read_each<T: Characters>(
+    window: &mut Window<T>,
+    context: Context,
+    scalar: &mut Folding,
+) -> Result<(), AllocError>
+    ensures ok { OnOk result (Reads window.old window.new (λ a b. (start : Position) →
+        plain_from context start a (at inside window.old scalar.old) ≡ plain_from context start b (at inside window.new scalar.new))) }
+    ensures err { OnErr result (Reads window.old window.new (λ _ _. Unit {0})) }
+{
+    'each: while let Some(c) = window.take(Run::Plain(context.flow)) {
+        scalar.push(c)?;
+    }
+    Ok(())
+}
+
+/// Reads words, or only the characters of one.
+#[inline(always)]
+fn read_piece<T: Characters>(
+    window: &mut Window<T>,
+    context: Context,
+    scalar: &mut Folding,
+    words: bool,
+) -> Result<(), AllocError>
+    ensures ok { OnOk result (Reads window.old window.new (λ a b. (start : Position) →
+        plain_from context start a (at inside window.old scalar.old) ≡ plain_from context start b (at inside window.new scalar.new))) }
+    ensures err { OnErr result (Reads window.old window.new (λ _ _. Unit {0})) }
+{
+    if words {
+        return read_words(window, context, scalar);
+    }
+    read_each(window, context, scalar)
+}
+
 /// Reads the characters up to a blank, a break, the end, or what ends a plain scalar. The result is whether a gap may
 /// come: without one the scalar ends here.
 #[tactic(auto, using(model_lexers::proofs::PlainLemmas::run_end))]
@@ -204,18 +239,22 @@ fn read_run<T: Characters>(
         × (gap ≡ false → EndsHere context window.new b))) }
     ensures err { OnErr result (Reads window.old window.new (λ _ _. Unit {0})) }
 {
+    let mut words = true;
     'run: loop {
-        read_words(window, context, scalar)?;
+        read_piece(window, context, scalar, words)?;
         let c = window.look_ch();
         if is_blank_or_breakz(c) {
             return Ok(true);
         }
         window.lookahead(2);
-        if !can_be_plain(context.flow, c, window.peek(1)) {
+        let next = window.peek(1);
+        if !can_be_plain(context.flow, c, next) {
             return Ok(false);
         }
         scalar.push(c)?;
         window.skip();
+        // After a colon mostly a few characters come. After that of a URL more do.
+        words = next == '/';
     }
 }
 

@@ -268,18 +268,19 @@ fn read_known<T: Characters>(
     Ok(known)
 }
 
-/// Reads the next few characters of a word. The result is whether it has so many.
+/// Reads so many characters of a word. The result is whether it has them.
 #[inline(always)]
 fn read_few<T: Characters>(
     window: &mut Window<T>,
     quote: &Quote,
     scalar: &mut Folding,
+    count: usize,
 ) -> Result<bool, AllocError>
     ensures ok { OnOk result (GoesOn quote.now inside window.old scalar.old inside window.new scalar.new) }
     ensures err { OnErr result (Reads window.old window.new (λ _ _. Unit {0})) }
 {
     let run = Run::Quoted(quote_of(quote.single));
-    let mut left = FEW;
+    let mut left = count;
     'few: while left > 0 {
         let Some(c) = window.take(run) else {
             return Ok(false);
@@ -301,7 +302,9 @@ fn read_ahead<T: Characters>(
     ensures ok { OnOk result (GoesOn quote.now inside window.old scalar.old inside window.new scalar.new) }
     ensures err { OnErr result (Reads window.old window.new (λ _ _. Unit {0})) }
 {
-    if !read_few(window, quote, scalar)? {
+    // In double quotes words go on up to an escape, and are long.
+    let few = if quote.single { FEW } else { 1 };
+    if !read_few(window, quote, scalar, few)? {
         return Ok(true);
     }
     if read_known(window, quote, scalar)? {
@@ -381,6 +384,32 @@ fn take_lone_blank<T: Characters>(
     Ok(true)
 }
 
+/// Reads words of a line, with one blank before each. They are looked for if some were known before; else they are read
+/// character by character up to what ends them.
+fn read_words<T: Characters>(
+    window: &mut Window<T>,
+    quote: &Quote,
+    scalar: &mut Folding,
+    known: bool,
+) -> Result<(), AllocError>
+    ensures ok { OnOk result (GoesOn quote.now inside window.old scalar.old inside window.new scalar.new) }
+    ensures err { OnErr result (Reads window.old window.new (λ _ _. Unit {0})) }
+    ensures left { OnOk result (window.new.left ≤ window.old.left) }
+{
+    let mut known = known;
+    'words: loop {
+        if !take_lone_blank(window, quote, scalar)? {
+            return Ok(());
+        }
+        begin_word(window, quote, scalar)?;
+        // After a look in vain none is made again.
+        known = known && read_known(window, quote, scalar)?;
+        if !known {
+            read_word(window, quote, scalar)?;
+        }
+    }
+}
+
 /// Reads words of a line, with one blank between each two.
 pub(crate) fn read_run<T: Characters>(
     window: &mut Window<T>,
@@ -391,23 +420,14 @@ pub(crate) fn read_run<T: Characters>(
     ensures err { OnErr result (Reads window.old window.new (λ _ _. Unit {0})) }
     ensures left { OnOk result (window.new.left ≤ window.old.left) }
 {
-    let mut known = read_ahead(window, quote, scalar)?;
-    'words: loop {
-        if !take_lone_blank(window, quote, scalar)? {
-            return Ok(());
-        }
-        begin_word(window, quote, scalar)?;
-        // After a look in vain, words are read character by character up to what ends them.
-        known = known && read_known(window, quote, scalar)?;
-        if !known {
-            read_word(window, quote, scalar)?;
-        }
-    }
+    let known = read_ahead(window, quote, scalar)?;
+    read_words(window, quote, scalar, known)
 }
 
-/// The same, where they begin here. Where none begins, nothing is read.
+/// The same, where they begin here. Where none begins, nothing is read. What the window holds goes into the text before it is
+/// stepped over.
 #[inline(always)]
-fn begin_run<T: Characters>(
+fn begin_held<T: Characters>(
     window: &mut Window<T>,
     quote: &Quote,
     scalar: &mut Folding,
@@ -419,13 +439,36 @@ fn begin_run<T: Characters>(
     if !begin_word(window, quote, scalar)? {
         return Ok(());
     }
-    read_run(window, quote, scalar)?;
-    Ok(())
+    read_run(window, quote, scalar)
+}
+
+/// The same, where the window holds nothing. In double quotes words are looked for at once.
+#[inline(always)]
+fn begin_run<T: Characters>(
+    window: &mut Window<T>,
+    quote: &Quote,
+    scalar: &mut Folding,
+) -> Result<(), AllocError>
+    ensures ok { OnOk result (GoesOn quote.now inside window.old scalar.old inside window.new scalar.new) }
+    ensures err { OnErr result (Reads window.old window.new (λ _ _. Unit {0})) }
+    ensures left { OnOk result (window.new.left ≤ window.old.left) }
+{
+    if quote.single || window.len() > 0 {
+        return begin_held(window, quote, scalar);
+    }
+    let known = read_known(window, quote, scalar)?;
+    if !known {
+        if !begin_word(window, quote, scalar)? {
+            return Ok(());
+        }
+        read_word(window, quote, scalar)?;
+    }
+    read_words(window, quote, scalar, known)
 }
 
 /// Takes the closing quote of a scalar in double quotes, if it stands here.
 #[inline(always)]
-fn take_closing<T: Characters>(window: &mut Window<T>, quote: &Quote) -> Part
+pub(crate) fn take_closing<T: Characters>(window: &mut Window<T>, quote: &Quote) -> Part
     ensures reads { Reads window.old window.new (λ a b. (t : Folded) →
         quoted_from quote.now.single quote.now.context quote.now.start a (at_folded inside window.old t) ≡ quoted_from quote.now.single quote.now.context quote.now.start b (at_folded (mode_of result) window.new t)) }
     ensures left { window.new.left ≤ window.old.left }

@@ -6,7 +6,7 @@ ghost use Rattle.yaml_lexers.specs.Shown.{read};
 
 use crate::folding::FEW;
 use model_lexers::{SkipTabs, Whitespace};
-use yaml_chars::class::is_blank;
+use yaml_chars::class::{is_blank, is_breakz};
 use yaml_chars::{Characters, Run, Window};
 use yaml_tokens::{Fault, Problem};
 
@@ -25,42 +25,54 @@ pub fn skip_linebreak<T: Characters>(window: &mut Window<T>)
     }
 }
 
-/// Steps over the next few characters of a comment. The result is whether it has so many.
+/// Steps over the next few characters of a comment. The result is whether it may have more: without more, its line ends here,
+/// and what stands here is in the window.
 #[inline(always)]
-#[tactic(auto, using(model_lexers::proofs::SpaceLemmas::comment_on))]
+#[tactic(auto, using(model_lexers::proofs::SpaceLemmas::skip_end))]
 fn pass_few<T: Characters>(window: &mut Window<T>) -> bool
-    ensures { Reads window.old window.new (λ a b. comment a (position_of window.old) ≡ comment b (position_of window.new)) }
+    ensures more { result ≡ true → Reads window.old window.new (λ a b. comment a (position_of window.old) ≡ comment b (position_of window.new)) }
+    ensures over { result ≡ false → Reads window.old window.new (λ a b. comment a (position_of window.old) ≡ read b window.new tt) }
+    ensures ahead { result ≡ false → 0 < window.new.ahead }
 {
     let mut left = FEW;
     'few: while left > 0 {
-        let Some(_) = window.take(Run::Line) else {
+        if is_breakz(window.look_ch()) {
             return false;
-        };
+        }
+        window.skip();
         left -= 1;
     }
     true
 }
 
-/// Steps over what is known of a comment, where it has more than a few characters.
+/// Steps over what is known of a comment.
 #[inline(always)]
 fn pass_known<T: Characters>(window: &mut Window<T>)
     ensures { Reads window.old window.new (λ a b. comment a (position_of window.old) ≡ comment b (position_of window.new)) }
 {
-    if !pass_few(window) {
-        return;
-    }
     window.pass_words(Run::Line);
 }
 
-/// Steps to the end of the line. What stands there is then in the window.
+/// Steps to the end of a line of more than a few characters. What stands there is then in the window.
+#[inline(never)]
 #[tactic(auto, using(model_lexers::proofs::SpaceLemmas::comment_on, model_lexers::proofs::SpaceLemmas::comment_end))]
-pub fn skip_comment<T: Characters>(window: &mut Window<T>)
+fn pass_rest<T: Characters>(window: &mut Window<T>)
     ensures reads { Reads window.old window.new (λ a b. comment a (position_of window.old) ≡ read b window.new tt) }
     ensures ahead { 0 < window.new.ahead }
 {
     pass_known(window);
     'comment: while let Some(_) = window.take(Run::Line) {}
     window.look_ch();
+}
+
+/// Steps to the end of the line. What stands there is then in the window.
+pub fn skip_comment<T: Characters>(window: &mut Window<T>)
+    ensures reads { Reads window.old window.new (λ a b. comment a (position_of window.old) ≡ read b window.new tt) }
+    ensures ahead { 0 < window.new.ahead }
+{
+    if pass_few(window) {
+        pass_rest(window);
+    }
 }
 
 /// Steps over spaces, TABs where these are to be skipped, and a comment, up to the end of the

@@ -1,7 +1,7 @@
 use Rattle.std.proofs.Common.{◌≡◌}
 use Rattle.yaml_chars.specs.Reading.{Reads, position_of}
 use Rattle.model_lexers.specs.Space.{comment}
-use Rattle.yaml_lexers.proofs.space.skip_comment.Given as goal
+use Rattle.yaml_lexers.proofs.space.pass_rest.Given as goal
 
 abbrev pub invariant-comment : goal.invariant-comment
 invariant-comment g l = Reads l.fn.window l.window (λ a b. comment a (position_of l.fn.window) ≡ comment b (position_of l.window))

@@ -1,7 +1,7 @@
 use Rattle.std.proofs.Common.{◌≤◌}
 use Rattle.model_lexers.specs.Quoted.{inside}
 use Rattle.yaml_lexers.specs.ShownQuoted.{GoesOn}
-use Rattle.yaml_lexers.proofs.quoted.read_run.Given as goal
+use Rattle.yaml_lexers.proofs.quoted.read_words.Given as goal
 
 abbrev pub invariant-words : goal.invariant-words
 invariant-words g l = record {

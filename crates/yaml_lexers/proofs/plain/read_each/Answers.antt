@@ -1,0 +1,9 @@
+use Rattle.std.proofs.Common.{◌∙◌}
+use Rattle.yaml_chars.proofs.ReadingLemmas.{Reads-then}
+use Rattle.model_lexers.proofs.RunLemmas.{plain_run}
+use Rattle.yaml_lexers.proofs.plain.read_each.Goals as goal
+
+pub each-preserved : goal.each-preserved
+each-preserved g c =
+    let on = c.in-Some.ensures.on in
+    Reads-then _ _ _ c.each.invariant c.in-Some.ensures.taken.1 (λ a b d e f start. e start ∙ (rw (f, on.at, on.line, on.col, c.in_ok-push.ensures) (plain_run _ start _ d _ _ c.in-Some.ensures.taken.0)))
