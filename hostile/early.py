@@ -1,10 +1,10 @@
 #!/usr/bin/env python3
-"""Counts what the load of a text costs that is refused, or ends, at its first characters, however much comes after them.
+"""Counts what the first look at JSON costs where a text is seen at its first characters to be none, however much comes after them.
 
 usage: early.py
 
-Each text stands before 10 and before 1,000,000 characters, and is loaded once. Instructions are counted by valgrind. Those of a load of `@` before
-as many characters are taken off: that text is refused at its first character, so what is left is what the first characters cost. The two
+Each text stands before 10 and before 1,000,000 characters, and is loaded once. Instructions are counted by valgrind. Those of a load of the same text
+behind 65 line feeds are taken off, at which no look is taken: what is left is the look, less what the line feeds cost. The two
 numbers of a row may differ by 1,000; else the status is 1. Build the static library first: `cd crates/yamlbench && rt lib`.
 """
 import os, sys, tempfile
@@ -24,7 +24,6 @@ ROWS = {
     "`[01`, then items": ("[01", ",1", "]"),
     "`[\"\\q`, then letters": ("[\"\\q", "a", "\"]"),
     "`[}`, then items": ("[}", ",1", "]"),
-    "`@`, then line feeds": ("@", "\n", ""),
 }
 COUNTS = (10, 1000000)
 MORE = 1000
@@ -47,7 +46,7 @@ def main():
             numbers = []
             for count in COUNTS:
                 rest = (more * count)[:count] + last
-                plain = "@" * len(first) + rest
+                plain = "\n" * 65 + first + rest
                 numbers.append(loaded(program, path, first + rest) - loaded(program, path, plain))
             bad = bad or abs(numbers[1] - numbers[0]) > MORE
             print("| %s | %d | %d |" % (name, *numbers), flush=True)
