@@ -1,10 +1,14 @@
-// Refuses each request for memory in turn: refuse FILE.. -- OTHER.., each FILE a text that loads.
+// Refuses each request for memory in turn: refuse FILE.. -- OTHER.., each FILE a text that loads; or refuse --places FILE..
 //
 // For each file it loads it with the first request refused, then with the second, and so on, up to a run that asks less often; and
 // again with all requests from that one on refused. So it does with the text laid over the file before it; and with every other call
 // that takes memory: loads by an iterator, a parser and from bytes, the typing of the text, a fault of it, copies of tokens, events, the
 // fault and trees, dumps, and trees put into a hash. Each OTHER is a text that loads where declared handles are kept, or has a fault, and
 // is loaded so. It prints a line for each run that answers all the same, answers wrongly or leaves memory behind; then its status is 1.
+//
+// With --places it prints for each FILE three lines: where the fault of each refused request stands, as EVENTS:INDEX, and how many
+// requests in turn have it there. The first line is of the events of its characters, which come one by one, the second of those of the text
+// in memory, the third of a load, without events.
 #include <stdint.h>
 #include <stdio.h>
 #include <stdlib.h>
@@ -14,6 +18,9 @@ int64_t yamlbench_load(const unsigned char *text, size_t length);
 int64_t yamlbench_overlay(const unsigned char *below, size_t below_length, const unsigned char *above, size_t above_length);
 int64_t yamlbench_calls(const unsigned char *text, size_t length);
 int64_t yamlbench_load_with_kept_handles(const unsigned char *text, size_t length);
+int64_t yamlbench_fault_of_characters(const unsigned char *text, size_t length);
+int64_t yamlbench_fault(const unsigned char *text, size_t length);
+int64_t yamlbench_fault_of_load(const unsigned char *text, size_t length);
 
 void *__real_malloc(size_t size);
 void *__real_realloc(void *old, size_t size);
@@ -119,7 +126,35 @@ static long run_both_ways(deed *deed, const struct text *below, const struct tex
     return all;
 }
 
+// Prints where the faults of a text stand.
+static void print_places(int64_t (*fault)(const unsigned char *, size_t), const unsigned char *text, size_t length) {
+    int64_t last = -1;
+    long times = 0;
+    for (refused_at = 1;; refused_at++) {
+        asked = 0;
+        int64_t place = fault(text, length);
+        if (place != last && times) printf(times > 1 ? " %ld:%ldx%ld" : " %ld:%ld", (long)(last >> 32), (long)(last & 0xffffffff), times);
+        if (place < 0) break;
+        times = place == last ? times + 1 : 1;
+        last = place;
+    }
+    printf("\n");
+}
+
+static int print_all_places(int count, char **paths) {
+    for (int i = 0; i < count; i++) {
+        size_t length;
+        unsigned char *text = read_file(paths[i], &length);
+        print_places(yamlbench_fault_of_characters, text, length);
+        print_places(yamlbench_fault, text, length);
+        print_places(yamlbench_fault_of_load, text, length);
+        __real_free(text);
+    }
+    return 0;
+}
+
 int main(int argc, char **argv) {
+    if (argc > 1 && strcmp(argv[1], "--places") == 0) return print_all_places(argc - 2, argv + 2);
     struct text texts[2];
     long loads = 0, overlays = 0, calls = 0, others = 0;
     int i = 1;

@@ -148,8 +148,8 @@ fn put_mark<W: Writer>(out: &mut W, mark: Mark) -> fmt::Result
     }
 }
 
-// A mark and a space.
-#[inline(always)]
+// A mark and a space: for the same reason a call of its own.
+#[inline(never)]
 fn put_spaced<W: Writer>(out: &mut W, mark: Mark) -> fmt::Result
     ensures { Writes W.put_gives W.put_leaves out.old result (mark_text mark ++ codes " ") out.new }
 {

@@ -76,10 +76,6 @@ popped os rest o e = ap (λ x. all_opened x []) e ∙ all_opened_push rest o []
 pub popped_as : (os rest : List Open) (o : Open) (x : Opened) → os ≡ rest ++ o ∷ [] → opened_of o ≡ x → all_opened os [] ≡ x ∷ all_opened rest []
 popped_as os rest o x e same = popped os rest o e ∙ ap (λ y. y ∷ all_opened rest []) same
 
-pub nothing_opened : (os rest : List Open) → os ≡ rest ++ [] → 0 ≡ length os → all_opened os [] ≡ []
-nothing_opened [] rest e h = refl
-nothing_opened (o ∷ os) rest e h = absurd (omega arith)
-
 pub no_root : (o : Option Yaml) → is_some o ≡ false → option_map view o ≡ None
 no_root None h = refl
 no_root (Some y) h = absurd (true≢false h)

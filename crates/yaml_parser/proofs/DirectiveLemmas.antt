@@ -127,11 +127,6 @@ numbered_by true d o n e h = omega (arith, e)
 numbered_by false d (Some x) n e h = omega (arith, h)
 numbered_by false d None n e h = tt
 
--- No declaration so far is of a document that begins.
-pub none_own : (o : Option Declaration) (n : ℕ) → IfSome o (λ d. d.number ≤ n) → is_own n o ≡ false
-none_own None n h = refl
-none_own (Some d) n h = grind (arith, nat_tests, h)
-
 -- A handle of which the code knows nothing of this document is declared now, under this number.
 pub has_declared : {code new : Names} {keep : Bool} {names : defs.Names} {read : List Directive} (handle : String Global) (d : Declaration)
     → HasRead code keep names read → new.count ≡ code.count → new.anchors ≡ code.anchors → new.earlier ≡ code.earlier → new.declared ≡ code.declared + 1 → d.number ≡ code.declared + 1

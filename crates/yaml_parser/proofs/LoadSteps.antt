@@ -15,7 +15,7 @@ use Rattle.yaml_parser.specs.Parsed.{Parsed, is_stream_end, is_document_start, i
 use Rattle.yaml_parser.specs.Pulls.{Pulls, GivesEvent}
 use Rattle.yaml_parser.specs.View.{no_document}
 use Rattle.yaml_parser.specs.Loads as loads
-use Rattle.yaml_parser.specs.Loads.{PullsAll, no_call, one_call, Receives, no_event, one_event, EndsSo, Loads, pushing, Going, RunsOn, PushesNext, StartsSo, after_document, IsAfter}
+use Rattle.yaml_parser.specs.Loads.{PullsAll, no_call, one_call, Receives, no_event, one_event, EndsSo, Loads, pushing, Going, RunsOn, PushesNext, StartsSo, after_document}
 use Rattle.yaml_parser.proofs.Nesting.{no_end_inside, open_more}
 
 -- ---- the run
@@ -246,10 +246,6 @@ module _ {R : Type 0} (takes : R → Ev → Position → Result (Unit {0}) Error
   pub loads_err : (x : Result (Unit {0}) ErrorReport) (f : ErrorReport) {now : Parsed} {s : R} → IsErrAnd x (λ e. e ≡ f) → Loads takes multi old r (Err f) now s → Loads takes multi old r x now s
   loads_err (Ok u) f {now} {s} h y = absurd h
   loads_err (Err e) f {now} {s} h y = subst (λ z. Loads takes multi old r (Err z) now s) (sym h) y
-
-  pub after_err : (x : Result (Unit {0}) ErrorReport) (f : ErrorReport) {now : Parsed} {s : R} → IsErrAnd x (λ e. e ≡ f) → Loads takes multi old r (Err f) now s → IsAfter takes multi old r x now s
-  after_err (Ok u) f {now} {s} h y = absurd h
-  after_err (Err e) f {now} {s} h y = subst (λ z. Loads takes multi old r (Err z) now s) (sym h) y
 
   pub starts_err : (x : Result (Unit {0}) ErrorReport) (f : ErrorReport) {now : Parsed} {s : R} → IsErrAnd x (λ e. e ≡ f) → Loads takes multi old r (Err f) now s → StartsSo takes multi old r x now s
   starts_err (Ok u) f {now} {s} h y = absurd h

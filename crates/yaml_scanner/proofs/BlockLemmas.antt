@@ -2,18 +2,15 @@
 use Rattle.std.proofs.Common.{◌≡◌, ◌≢◌, ℕ, List, [], ◌∷◌, Bool, true, false, not, ◌&&◌, ◌||◌, ◌==◌, refl, ap, ◌∙◌, Option, Some, None, Result, Ok, Err, slice_index}
 use Rattle.std.proofs.lemmas.Bool.{ne_eqb}
 use Rattle.defs_text.specs.Position.{Position}
-use Rattle.yaml_chars.specs.Reading.{Reading, Reads, SamePosition, position_of, after_char}
+use Rattle.yaml_chars.specs.Reading.{Reading, Reads, SamePosition, after_char}
 use Rattle.yaml_chars.proofs.ReadingLemmas.{Reads-then}
 use Rattle.yaml_tokens.specs.declared.problem.Fault.{Fault}
 use Rattle.yaml_tokens.specs.declared.problem.Fault.TheVariants.{At, OutOfMemory}
 use Rattle.yaml_tokens.specs.declared.problem.Problem.TheVariants as problem
-use Rattle.model_lexers.specs.declared.context.SkipTabs.{SkipTabs}
 use Rattle.model_lexers.specs.declared.context.Whitespace.{Whitespace}
-use Rattle.model_lexers.specs.Space.{space}
 use Rattle.yaml_chars.specs.Class.{is_alpha, is_blank_or_breakz, is_break, is_flow}
 use Rattle.defs_token.specs.Token.{Tok}
-use Rattle.yaml_lexers.specs.Shown.{read}
-use Rattle.model_scanner.specs.State.{Key, Held, ScannerState, ◌>>=◌, peek, put, in_flow, with_top, on_held, try_held, lexed, skip_indicator}
+use Rattle.model_scanner.specs.State.{Key, Held, ScannerState, ◌>>=◌, peek, put, in_flow, with_top, on_held, try_held, skip_indicator}
 use Rattle.model_scanner.specs.Indents.{roll_indent, roll_one_col_indent}
 use Rattle.model_scanner.specs.Block.{check_dash, roll_entry, check_key_space, check_after_tab, check_value_space, begin_pair, insert_key, begin_keyless_pair, begin_keyless_mapping, begin_keyless_value}
 use Rattle.yaml_scanner.specs.Blocks.{entry_level, pass_tab}
@@ -57,15 +54,6 @@ does_as x y s d = record { runs = Reads-map _ _ d.runs (λ a b p. s a ∙ p) }
 
 pub fails_as : {T : Type 0} {f h : ScannerState → Result ScannerState Fault} (x y : Fetcher T) (e : Fault) → ((a : List ℕ) → h (state a x) ≡ f (state a x)) → Fails f x y e → Fails h x y e
 fails_as x y e s d = record { runs = Reads-map _ _ d.runs (λ a b p n. s a ∙ p n) }
-
--- spaces are passed, and what was found decides how to go on
-pub does_lexed : {T : Type 0} (tabs : SkipTabs) (go : Whitespace → ScannerState → Result ScannerState Fault) (w : Whitespace) (x y z : Fetcher T) → held y ≡ record (held x) { position = position_of y.window }
-    → Reads x.window y.window (λ a b. space tabs a (position_of x.window) ≡ Ok (read b y.window w)) → Does (go w) y z → Does (λ t. lexed (space tabs t.rest t.held.position) t.held go) x z
-does_lexed tabs go w x y z e run d = record { runs = Reads-then _ _ _ run d.runs (λ a b c p q. rw (p, ← e) q) }
-
-pub fails_lexed : {T : Type 0} (tabs : SkipTabs) (go : Whitespace → ScannerState → Result ScannerState Fault) (w : Whitespace) (x y z : Fetcher T) (f : Fault) → held y ≡ record (held x) { position = position_of y.window }
-    → Reads x.window y.window (λ a b. space tabs a (position_of x.window) ≡ Ok (read b y.window w)) → Fails (go w) y z f → Fails (λ t. lexed (space tabs t.rest t.held.position) t.held go) x z f
-fails_lexed tabs go w x y z f e run d = record { runs = Reads-then _ _ _ run d.runs (λ a b c p q n. rw (p, ← e) (q n)) }
 
 peek_is : (a : List ℕ) → slice_index a 0 ≡ peek a
 peek_is [] = refl

@@ -5,7 +5,7 @@ use Rattle.yaml_chars.specs.Reading.{Reading, Reads, SamePosition, position_of}
 use Rattle.yaml_chars.proofs.ReadingLemmas.{Reads-then}
 use Rattle.yaml_tokens.specs.declared.problem.Fault.{Fault}
 use Rattle.yaml_tokens.specs.declared.problem.Fault.TheVariants.{OutOfMemory}
-use Rattle.model_scanner.specs.State.{Held, ScannerState}
+use Rattle.model_scanner.specs.State.{ScannerState}
 use Rattle.yaml_scanner.specs.declared.fetcher.Fetcher.{Fetcher}
 use Rattle.yaml_scanner.specs.Shape.{state, Does, Fails}
 
@@ -37,10 +37,6 @@ pub fails_then : {T : Type 0} {f k h : ScannerState → Result ScannerState Faul
     → ((a b : List ℕ) → f (state a x1) ≡ Ok (state b y1) → k (state b x2) ≡ Err x → h (state a x0) ≡ Err x) → Fails h x0 y0 x
 fails_then x0 x1 y1 x2 y2 y0 x e f i d1 d2 both = record { runs = Reads-along _ _ _ _ (sym e) i (Reads-then _ _ _ d1.runs (Reads-along _ _ _ _ (sym f) refl d2.runs) (λ a b d p q n. both a b p (q n))) }
 
--- out of memory is no refusal of the model
-pub no_memory : {T : Type 0} {P : List ℕ → List ℕ → Type 0} {h : ScannerState → Result ScannerState Fault} (x0 y0 : Fetcher T) (x : Fault) → x ≡ OutOfMemory → Reads x0.window y0.window P → Fails h x0 y0 x
-no_memory x0 y0 x e run = record { runs = Reads-map _ _ run (λ a b p n. absurd (n e)) }
-
 -- nothing was read
 pub Reads-none : {T : Type 0} (s : Reading T) → Reads s s (λ a b. b ≡ a)
 Reads-none s = record { start = refl; at = omega arith; left = omega arith; back = λ w p. p; reads = λ w p. refl }
@@ -52,9 +48,6 @@ fails_held x0 y0 x e f = record { runs = Reads-along _ _ _ _ refl e (Reads-map _
 -- a refusal that is held once it was met
 pub fails_kept : {T : Type 0} {h : ScannerState → Result ScannerState Fault} {w : Reading T} (x z : Fetcher T) (e : Fault) → z.window ≡ w → z.fault ≡ e → Reads x.window w (λ a b. e ≢ OutOfMemory → h (state a x) ≡ Err e) → Fails h x z z.fault
 fails_kept x z e v f run = rw f (record { runs = Reads-along _ _ _ _ refl v run })
-
-abbrev pub okay : List ℕ → Held → Result ScannerState Fault
-okay a h = Ok (record { rest = a; held = h })
 
 -- a fault that is passed on
 pub exits : {X E : Type 0} (P : E → Type 0) (r : Result X E) (e : E) → IsErrAnd r (λ y. y ≡ e) → P e → IfErr r P

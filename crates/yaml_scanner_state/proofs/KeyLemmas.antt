@@ -119,10 +119,6 @@ pub with_top_seen : (g : ℕ) (k : Option ImplicitKey) (ks : List (Option Implic
 with_top_seen g k [] = refl
 with_top_seen g k (l ∷ ks) = refl
 
-pub top_seen : (g : ℕ) (ks : List (Option ImplicitKey)) → top_key (seen g ks) ≡ key_of g (top_implicit ks)
-top_seen g [] = refl
-top_seen g (l ∷ ks) = refl
-
 pub pop_seen : (g : ℕ) (ks : List (Option ImplicitKey)) → seen g (pop ks) ≡ pop (seen g ks)
 pop_seen g [] = refl
 pop_seen g (l ∷ ks) = refl

@@ -97,10 +97,6 @@ insert_last g w v i t e h =
     ∙ insert_by (map shown g ++ take i (map shown w)) (drop i (map shown w)) (shown t) n
     ∙ ap last_property (append_assoc (map shown g) (take i (map shown w)) (drop i (map shown w)) ∙ ap (λ xs. map shown g ++ xs) split))
 
--- handing out leaves the last one
-pub give_last : (g h w v : List Token) (t : Token) → w ≡ t ∷ v → h ≡ g ++ t ∷ [] → last_property (map shown g ++ map shown w) ≡ last_property (map shown h ++ map shown v)
-give_last g h w v t e f = ap last_property (sym (give_shown g h w v t e f))
-
 pub end_last : (g w v : List Token) (t : Token) (p : Position) → shown t ≡ end_at p → v ≡ w ++ t ∷ [] → ◌≡◌ {A = Option Position} None (last_property (map shown g ++ map shown v))
 end_last g w v t p end e = ap (λ (s : seen.Token). property_position s.tok s.position) (sym end) ∙ push_last g w v t e
 

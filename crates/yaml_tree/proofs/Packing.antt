@@ -1,7 +1,8 @@
 -- Places that stand in one number as its digits to base 16.
-use Rattle.std.proofs.Common.{◌≡◌, ℕ, zero, suc, ◌+◌, ◌-◌, ◌*◌, ◌^◌, ◌<◌, ◌≤◌, ◌/◌, ◌%◌, List, [], ◌∷◌, length, map, get_or, refl, sym, ap, subst, ◌∙◌, arith}
+use Rattle.std.proofs.Common.{◌≡◌, ℕ, zero, suc, ◌+◌, ◌-◌, ◌*◌, ◌^◌, ◌<◌, ◌≤◌, ◌/◌, ◌%◌, List, [], ◌∷◌, length, map, get_or, drop, refl, sym, ap, subst, ◌∙◌, arith}
 use Rattle.std.specs.List.{insert, remove}
 use Rattle.std.proofs.lemmas.Bool.Decides.{nat_tests}
+use Rattle.std.proofs.lemmas.List.{drop_more}
 use Rattle.std.proofs.lemmas.Nat.{shr-shr, shr_split, mod-pow-add, pow-add, pow_below, shr_le}
 use Rattle.std.proofs.Math.Nat.{mul_assoc, mul_comm}
 use Rattle.yaml_hash_index.specs.Moves.{closed_up, moved_up}
@@ -234,3 +235,7 @@ low_closed gone p h = grind (arith, nat_tests)
 
 pub low_moved : (gone count p : ℕ) → count ≤ 14 → p < 16 → moved_up gone count p < 16
 low_moved gone count p few h = grind (arith, nat_tests)
+
+-- the places from the one before on
+pub from_before : (xs : List ℕ) (left : ℕ) → 0 < left → left ≤ length xs → drop (left - 1) xs ≡ get_or xs (left - 1) 0 ∷ drop left xs
+from_before xs left some h = drop_more xs (left - 1) 0 (omega arith) ∙ ap (λ n. get_or xs (left - 1) 0 ∷ drop n xs) (omega arith)

@@ -2,6 +2,7 @@
 #![tactic(auto)]
 
 mod calls;
+mod faults;
 mod outside;
 
 use crate::calls::{End, call_all, load_by_parser};

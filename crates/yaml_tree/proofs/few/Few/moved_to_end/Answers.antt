@@ -1,12 +1,9 @@
-use Rattle.std.proofs.Common.{◌≡◌, ◌+◌, ◌-◌, ◌*◌, ◌<◌, ◌≤◌, ◌^◌, ◌∷◌, List, ℕ, length, get_or, map, drop, sym, ap, subst, ◌∙◌, arith}
-use Rattle.std.proofs.lemmas.List.{length-map, length-drop, drop_more, drop_all}
+use Rattle.std.proofs.Common.{◌≡◌, ◌+◌, ◌-◌, ◌*◌, ◌<◌, ◌≤◌, ◌^◌, List, ℕ, length, map, drop, sym, ap, subst, ◌∙◌, arith}
+use Rattle.std.proofs.lemmas.List.{length-map, length-drop, drop_all}
 use Rattle.yaml_hash_index.specs.Moves.{moved_up}
 use Rattle.yaml_tree.specs.Packed.{unpacked}
-use Rattle.yaml_tree.proofs.Packing.{packed, AreLow, low_map, low_moved, packed_fits, is_packed, unpacked_again, same_packed}
+use Rattle.yaml_tree.proofs.Packing.{packed, from_before, AreLow, low_map, low_moved, packed_fits, is_packed, unpacked_again, same_packed}
 use Rattle.yaml_tree.proofs.few.Few.moved_to_end.Goals as goal
-
-one_more : (xs : List ℕ) (left : ℕ) → 0 < left → left ≤ length xs → drop (left - 1) xs ≡ get_or xs (left - 1) 0 ∷ drop left xs
-one_more xs left some h = drop_more xs (left - 1) 0 (omega arith) ∙ ap (λ n. get_or xs (left - 1) 0 ∷ drop n xs) (omega arith)
 
 module _ (xs : List ℕ) (gone count left : ℕ) (few : count ≤ 14) (all : count ≡ length xs) (low : AreLow (drop left xs)) where
   abbrev ps : List ℕ
@@ -56,7 +53,7 @@ loop-left-preserved c =
     let xs = c.args.self.now in
     let left = c.loop-left.left in
     let f = moved_up c.args.gone c.len-count.result in
-    let more = one_more xs left c.loop-left-test.true (omega (arith, i.within, c.len-count.ensures.count)) in
+    let more = from_before xs left c.loop-left-test.true (omega (arith, i.within, c.len-count.ensures.count)) in
     record {
       within = omega (arith, i.within);
       low = subst AreLow (sym more) (omega (arith, c.at.ensures.place, c.at.ensures.low), i.low);

@@ -1,15 +1,12 @@
 use Rattle.std.proofs.Common.{◌≡◌, ◌≢◌, ◌+◌, ◌-◌, ◌*◌, ◌<◌, ◌≤◌, ◌^◌, ◌⊎◌, ◌∷◌, inl, inr, List, ℕ, suc, length, get_or, map, drop, sym, ap, subst, ◌∙◌, arith}
 use Rattle.std.specs.List.{remove}
 use Rattle.std.proofs.lemmas.Bool.{cases_lt}
-use Rattle.std.proofs.lemmas.List.{length-map, length-drop, drop_more, drop_all}
+use Rattle.std.proofs.lemmas.List.{length-map, length-drop, drop_all}
 use Rattle.std.proofs.lemmas.List.Edits.{length-remove}
 use Rattle.yaml_hash_index.specs.Moves.{closed_up}
 use Rattle.yaml_tree.specs.Packed.{unpacked}
-use Rattle.yaml_tree.proofs.Packing.{packed, AreLow, low_map, low_closed, low_remove, length_remove, packed_fits, is_packed, unpacked_again, same_packed}
+use Rattle.yaml_tree.proofs.Packing.{packed, from_before, AreLow, low_map, low_closed, low_remove, length_remove, packed_fits, is_packed, unpacked_again, same_packed}
 use Rattle.yaml_tree.proofs.few.Few.without.Goals as goal
-
-one_more : (xs : List ℕ) (left : ℕ) → 0 < left → left ≤ length xs → drop (left - 1) xs ≡ get_or xs (left - 1) 0 ∷ drop left xs
-one_more xs left some h = drop_more xs (left - 1) 0 (omega arith) ∙ ap (λ n. get_or xs (left - 1) 0 ∷ drop n xs) (omega arith)
 
 low_places : (gone : ℕ) (xs : List ℕ) → AreLow xs → AreLow (map (closed_up gone) xs)
 low_places gone xs low = low_map (closed_up gone) (low_closed gone) xs low
@@ -79,7 +76,7 @@ loop-left-preserved-then-left-rank c =
     let f = closed_up c.at-gone.result in
     let other : left - 1 ≢ rank = c.if-left-rank.true in
     let test : 0 < left = c.loop-left-test.true in
-    let more = one_more xs left test i.within in
+    let more = from_before xs left test i.within in
     let its = c.closed_up.ensures ∙ ap f c.at.ensures.place in
     record {
       within = omega (arith, i.within);
@@ -103,7 +100,7 @@ loop-left-preserved c =
     let rank = c.args.rank in
     let same : left - 1 ≡ rank = c.if-left-rank.false in
     let test : 0 < left = c.loop-left-test.true in
-    let more = one_more xs left test i.within in
+    let more = from_before xs left test i.within in
     let none : rank - (left - 1) ≡ 0 = omega (arith, same) in
     record {
       within = omega (arith, i.within);
