@@ -5,13 +5,15 @@ use Rattle.std.proofs.lemmas.Bool.{eqb-true, cases_Bool}
 use Rattle.defs_text.specs.Position.{Position}
 use Rattle.yaml_chars.specs.Class.{is_break, is_blank, is_blank_or_breakz, is_flow}
 use Rattle.yaml_chars.specs.Run.{stops}
+use Rattle.yaml_chars.specs.Words.{begins_word}
+use Rattle.yaml_chars.specs.declared.run.Run.TheVariants.{Plain}
 use Rattle.yaml_tokens.specs.declared.problem.Fault.{Fault}
 use Rattle.model_lexers.specs.declared.context.Context.{Context}
 use Rattle.model_lexers.specs.Machine.{past, at_marker}
 use Rattle.model_lexers.specs.Folding.{Folded, nothing, with_char, with_blank, with_break, joined}
 use Rattle.model_lexers.proofs.QuotedLemmas.{blank_no_break}
 use Rattle.model_lexers.proofs.RunLemmas.{no_gap}
-use Rattle.model_lexers.specs.Plain.{plain_from, first, inside, between, tabs, ends_run, ends_gap, ends_tabs, goes_on, is_shallow, at_dash, at_plain, can_be_plain, starts, plain, is_wordy}
+use Rattle.model_lexers.specs.Plain.{plain_from, first, inside, between, tabs, ends_run, ends_gap, ends_tabs, goes_on, is_shallow, at_dash, at_plain, can_be_plain, starts, plain}
 
 -- at a comment and at a line's end blanks after a TAB are a gap
 at_hash : is_break 35 ≡ false
@@ -161,9 +163,9 @@ record IsWordy (ctx : Context) (c : ℕ) : Type 0 where
   dash : (c == 45) ≡ false
   indicator : (ctx.flow && is_flow c) ≡ false
 
-wordy : (ctx : Context) (c : ℕ) → is_wordy c ≡ true → IsWordy ctx c
-unfolding is_wordy stops is_break is_blank is_flow
-wordy ctx c h = record {
+wordy : (ctx : Context) (flow : Bool) (c : ℕ) → begins_word (Plain flow) c ≡ true → IsWordy ctx c
+unfolding begins_word stops is_break is_blank is_flow
+wordy ctx flow c h = record {
   apart = grind (arith, nat_tests);
   some = λ e. absurd (zero_is_none (rw e at h));
   colon = grind (arith, nat_tests);
@@ -172,7 +174,7 @@ wordy ctx c h = record {
   indicator = grind (arith, nat_tests);
 }
   where
-    zero_is_none : is_wordy 0 ≡ true → ⊥
+    zero_is_none : begins_word (Plain flow) 0 ≡ true → ⊥
     zero_is_none h = cc
 
 wordy_plain : (ctx : Context) (c d : ℕ) → IsWordy ctx c → can_be_plain ctx.flow c d ≡ true
@@ -191,12 +193,12 @@ wordy_goes_on ctx c a p w deep =
     apart c h n = grind (arith, nat_tests)
 
 -- a blank that stands alone between two characters of a line belongs to the text as it stands
-pub lone_blank : (ctx : Context) (start : Position) (c d : ℕ) (a b : List ℕ) (p : Position) (t : Folded)
-    → a ≡ c ∷ b → d ≡ slice_index b 0 → is_blank c ≡ true → is_wordy d ≡ true → is_shallow ctx (p.col + 1) ≡ false → t.gap ≡ [] → t.leading ≡ false → t.escaped ≡ false
+pub lone_blank : (ctx : Context) (start : Position) (flow : Bool) (c d : ℕ) (a b : List ℕ) (p : Position) (t : Folded)
+    → a ≡ c ∷ b → d ≡ slice_index b 0 → is_blank c ≡ true → begins_word (Plain flow) d ≡ true → is_shallow ctx (p.col + 1) ≡ false → t.gap ≡ [] → t.leading ≡ false → t.escaped ≡ false
     → plain_from ctx start a (record { mode = inside; position = p; folded = t }) ≡ plain_from ctx start b (record { mode = inside; position = past p; folded = with_char c t })
-lone_blank ctx start c d a [] p t e next blank w deep none leading escaped = let v = wordy ctx d w in absurd (v.some next)
-lone_blank ctx start c d a (x ∷ b) p t e next blank w deep none leading escaped =
-    let v : IsWordy ctx x = rw next at (wordy ctx d w) in
+lone_blank ctx start flow c d a [] p t e next blank w deep none leading escaped = let v = wordy ctx flow d w in absurd (v.some next)
+lone_blank ctx start flow c d a (x ∷ b) p t e next blank w deep none leading escaped =
+    let v : IsWordy ctx x = rw next at (wordy ctx flow d w) in
     let turn : plain_from ctx start (c ∷ x ∷ b) (record { mode = inside; position = p; folded = t }) ≡ plain_from ctx start (x ∷ b) (record { mode = between; position = past p; folded = with_blank c t }) =
     rw (blank_no_break c blank, blank, leading) refl in
     let here : plain_from ctx start (x ∷ b) (record { mode = between; position = past p; folded = with_blank c t }) ≡ plain_from ctx start (x ∷ b) (record { mode = inside; position = past p; folded = joined (with_blank c t) }) =

@@ -2,8 +2,6 @@
 use Rattle.std.specs.Prelude.{ℕ, Bool, true, false, List, [], ◌∷◌, ◌==◌, ◌||◌, ◌&&◌, not, nat_lt, if◌then◌else◌, slice_index, Result, Ok, Err}
 use Rattle.defs_text.specs.Position.{Position}
 use Rattle.yaml_chars.specs.Class.{is_break, is_blank, is_blank_or_breakz, is_flow}
-use Rattle.yaml_chars.specs.Run.{stops}
-use Rattle.yaml_chars.specs.declared.run.Run.TheVariants as kind
 use Rattle.yaml_tokens.specs.declared.problem.Fault.{Fault}
 use Rattle.yaml_tokens.specs.declared.problem.Fault.TheVariants.{At}
 use Rattle.yaml_tokens.specs.declared.problem.Problem.TheVariants as problem
@@ -112,7 +110,3 @@ ends_gap (c ∷ a) = not (is_break c || is_blank c)
 abbrev pub ends_tabs : List ℕ → Bool
 ends_tabs [] = true
 ends_tabs (c ∷ a) = is_break c || (c == 35)
-
--- a character of a word, whatever comes after it, with which no comment and no marker begins
-unfoldable pub is_wordy : ℕ → Bool
-is_wordy c = not (stops (kind.Plain true) c) && not (c == 35) && not (c == 45)

@@ -5,12 +5,14 @@ use Rattle.std.proofs.lemmas.Bool.{and_parts}
 use Rattle.std.proofs.lemmas.Bool.Decides.{nat_tests}
 use Rattle.defs_text.specs.Position.{Position}
 use Rattle.yaml_chars.specs.Class.{is_break, is_blank, is_breakz, is_flow}
+use Rattle.yaml_chars.specs.Reading.{Reading, Reads, position_of}
 use Rattle.yaml_chars.specs.Run.{stops}
 use Rattle.yaml_chars.specs.Words.{begins_word, is_in_words, are_words, TakesWords, PassesWords}
 use Rattle.yaml_chars.specs.declared.run.Run.{Run}
 use Rattle.yaml_chars.specs.declared.run.Run.TheVariants as kind
-use Rattle.yaml_chars.proofs.RunLemmas.{stops_nul}
+use Rattle.yaml_chars.proofs.RunLemmas.{stops_nul, Reads-map}
 use Rattle.yaml_chars.proofs.WordsLemmas.{begins_goes}
+use Rattle.yaml_lexers.specs.Shown.{AddsWords, none, some}
 use Rattle.model_lexers.specs.declared.context.Context.{Context}
 use Rattle.model_lexers.specs.Machine.{past}
 use Rattle.model_lexers.specs.Space.{comment}
@@ -75,20 +77,24 @@ deeper : (ctx : Context) (n : ℕ) → plain.is_shallow ctx n ≡ false → plai
 unfolding plain.is_shallow
 deeper ctx n h = grind (arith, nat_tests)
 
-wordy : (flow : Bool) (c : ℕ) → begins_word (kind.Plain flow) c ≡ true → plain.is_wordy c ≡ true
-unfolding begins_word plain.is_wordy
-wordy flow c h = h
-
-pub plain_words : (ctx : Context) (start : Position) (a b : List ℕ) (p q : Position) (t : folding.Folded) (u : List ℕ)
-    → plain.is_shallow ctx p.col ≡ false → t.gap ≡ [] → t.leading ≡ false → t.escaped ≡ false → TakesWords (kind.Plain ctx.flow) a b p q t.text u
+plain_words : (ctx : Context) (start : Position) (a b : List ℕ) (p q : Position) (t u : folding.Folded)
+    → plain.is_shallow ctx p.col ≡ false → AddsWords (kind.Plain ctx.flow) a b p q t u
     → plain.plain_from ctx start a (record { mode = plain.inside; position = p; folded = t })
-    ≡ plain.plain_from ctx start b (record { mode = plain.inside; position = q; folded = record t { text = u } })
-plain_words ctx start a b p q t u deep gap leading escaped took =
+    ≡ plain.plain_from ctx start b (record { mode = plain.inside; position = q; folded = u })
+plain_words ctx start a b p q t u deep (none left position same) = rw (left, position, same) refl
+plain_words ctx start a b p q t u deep (some gap leading escaped took same) =
     through_words (kind.Plain ctx.flow) (λ d r v. plain.plain_from ctx start d (record { mode = plain.inside; position = r; folded = record t { text = v } }))
     (λ r. plain.is_shallow ctx r.col ≡ false) (λ r h. deeper ctx r.col h)
     (λ c d r v e. plain_run ctx start c d r (record t { text = v }) e)
-    (λ c d e r v h stop blank begins. in_plain.lone_blank ctx start c d (c ∷ d ∷ e) (d ∷ e) r (record t { text = v }) refl refl blank (wordy ctx.flow d begins) (deeper ctx r.col h) gap leading escaped)
-    a b p q t.text u deep took
+    (λ c d e r v h stop blank begins. in_plain.lone_blank ctx start ctx.flow c d (c ∷ d ∷ e) (d ∷ e) r (record t { text = v }) refl refl blank begins (deeper ctx r.col h) gap leading escaped)
+    a b p q t.text u.text deep took
+    ∙ ap (λ v. plain.plain_from ctx start b (record { mode = plain.inside; position = q; folded = v })) (sym same)
+
+pub plain_read : {T : Type 0} (ctx : Context) (old new : Reading T) (t u : folding.Folded)
+    → plain.is_shallow ctx old.col ≡ false → Reads old new (λ a b. AddsWords (kind.Plain ctx.flow) a b (position_of old) (position_of new) t u)
+    → Reads old new (λ a b. (start : Position) → plain.plain_from ctx start a (record { mode = plain.inside; position = position_of old; folded = t })
+    ≡ plain.plain_from ctx start b (record { mode = plain.inside; position = position_of new; folded = u }))
+plain_read ctx old new t u deep took = Reads-map old new took (λ a b e start. plain_words ctx start a b _ _ t u deep e)
 
 -- ---- of a quoted scalar
 
@@ -96,17 +102,25 @@ no_gap_of : (quote d : ℕ) → begins_word (kind.Quoted quote) d ≡ true → (
 unfolding stops is_break is_blank
 no_gap_of quote d h = let g = begins_goes (kind.Quoted quote) d h in grind (arith, nat_tests)
 
-pub quoted_words : (single : Bool) (ctx : Context) (start : Position) (a b : List ℕ) (p q : Position) (t : folding.Folded) (u : List ℕ)
-    → ctx.indent ≤ p.col + 1 → t.gap ≡ [] → t.leading ≡ false → t.escaped ≡ false → TakesWords (kind.Quoted (quoted.quote_of single)) a b p q t.text u
+quoted_words : (single : Bool) (ctx : Context) (start : Position) (a b : List ℕ) (p q : Position) (t u : folding.Folded)
+    → ctx.indent ≤ p.col + 1 → AddsWords (kind.Quoted (quoted.quote_of single)) a b p q t u
     → quoted.quoted_from single ctx start a (record { mode = quoted.inside; position = p; folded = t })
-    ≡ quoted.quoted_from single ctx start b (record { mode = quoted.inside; position = q; folded = record t { text = u } })
-quoted_words single ctx start a b p q t u deep gap leading escaped took =
+    ≡ quoted.quoted_from single ctx start b (record { mode = quoted.inside; position = q; folded = u })
+quoted_words single ctx start a b p q t u deep (none left position same) = rw (left, position, same) refl
+quoted_words single ctx start a b p q t u deep (some gap leading escaped took same) =
     through_words (kind.Quoted (quoted.quote_of single)) (λ d r v. quoted.quoted_from single ctx start d (record { mode = quoted.inside; position = r; folded = record t { text = v } }))
     (λ r. ctx.indent ≤ r.col + 1) (λ r h. omega (arith, h))
     (λ c d r v e. quoted_run single ctx start c d r (record t { text = v }) e)
     (λ c d e r v h stop blank begins. in_quotes.lone_blank single ctx start c d (c ∷ d ∷ e) (d ∷ e) r (record t { text = v }) refl refl blank (no_gap_of (quoted.quote_of single) d begins) gap leading escaped
     (in_quotes.in_line_goes_on ctx start (d ∷ e) (past r) (omega arith) (omega (arith, h))))
-    a b p q t.text u deep took
+    a b p q t.text u.text deep took
+    ∙ ap (λ v. quoted.quoted_from single ctx start b (record { mode = quoted.inside; position = q; folded = v })) (sym same)
+
+pub quoted_read : {T : Type 0} (single : Bool) (ctx : Context) (start : Position) (quote : ℕ) (old new : Reading T) (t u : folding.Folded)
+    → quote ≡ quoted.quote_of single → ctx.indent ≤ old.col + 1 → Reads old new (λ a b. AddsWords (kind.Quoted quote) a b (position_of old) (position_of new) t u)
+    → Reads old new (λ a b. quoted.quoted_from single ctx start a (record { mode = quoted.inside; position = position_of old; folded = t })
+    ≡ quoted.quoted_from single ctx start b (record { mode = quoted.inside; position = position_of new; folded = u }))
+quoted_read single ctx start quote old new t u same deep took = Reads-map old new took (λ a b e. quoted_words single ctx start a b _ _ t u deep (rw same at e))
 
 -- ---- of a line
 

@@ -1,7 +1,9 @@
 -- What the code of flow scalars holds, as the model's states.
-use Rattle.std.specs.Prelude.{◌≡◌, ◌≢◌, ℕ, List, Result, Ok, Err, true, false}
+use Rattle.std.specs.Prelude.{◌≡◌, ◌≢◌, ℕ, List, [], Result, Ok, Err, true, false}
 use Rattle.defs_text.specs.Position.{Position}
 use Rattle.yaml_chars.specs.Reading.{Reading, Reads, position_of}
+use Rattle.yaml_chars.specs.Words.{TakesWords}
+use Rattle.yaml_chars.specs.declared.run.Run.{Run}
 use Rattle.defs_text.specs.Text.{string_chars}
 use Rattle.yaml_tokens.specs.declared.problem.Fault.{Fault}
 use Rattle.yaml_tokens.specs.declared.problem.Fault.TheVariants.{OutOfMemory}
@@ -21,6 +23,11 @@ at_folded mode w t = record { mode = mode; position = position_of w; folded = t 
 
 abbrev pub at : {T : Type 0} → Mode → Reading T → Folding → PlainState
 at mode w p = at_folded mode w (folded p)
+
+-- words went into a text that nothing stood behind, or none were read
+pub data AddsWords (run : Run) (a b : List ℕ) (p q : Position) (t u : Folded) : Type 0 where
+  none : b ≡ a → q ≡ p → u ≡ t → AddsWords run a b p q t u
+  some : t.gap ≡ [] → t.leading ≡ false → t.escaped ≡ false → TakesWords run a b p q t.text u.text → u ≡ record t { text = u.text } → AddsWords run a b p q t u
 
 abbrev pub plain_shown : code.Plain → Plain
 plain_shown s = record { text = string_chars s.text; leading = s.leading }

@@ -1,10 +1,11 @@
 //! Lines of a flow scalar, folded.
-ghost use Rattle.std.specs.Prelude.{◌≡◌, OnOk, true, false, []};
+ghost use Rattle.std.specs.Prelude.{◌≡◌, OnOk, OnErr, true, false, []};
+ghost use Rattle.yaml_chars.specs.Reading.{Reads, position_of};
 ghost use Rattle.model_lexers.specs.Folding.{nothing, with_char, with_blank, with_break, with_escaped_break, joined};
-ghost use Rattle.yaml_lexers.specs.Shown.{folded};
+ghost use Rattle.yaml_lexers.specs.Shown.{folded, AddsWords};
 
 use std::alloc::{AllocError, Global};
-use yaml_chars::Text;
+use yaml_chars::{Characters, Run, Text, Window};
 
 /// A text that is being folded, and what stands between it and the next character: blanks, or
 /// after a break the breaks after that.
@@ -42,7 +43,7 @@ impl Folding {
     /// Whether words may be looked for: nothing stands between the text and the next character, and not too many looks
     /// were in vain.
     #[inline(always)]
-    pub(crate) fn may_look(&self) -> bool
+    fn may_look(&self) -> bool
         ensures gap { result ≡ true → (folded self.now).gap ≡ [] }
         ensures leading { result ≡ true → (folded self.now).leading ≡ false }
         ensures escaped { result ≡ true → (folded self.now).escaped ≡ false }
@@ -52,12 +53,31 @@ impl Folding {
 
     /// Notes whether words were found.
     #[inline(always)]
-    pub(crate) fn note_look(&mut self, found: bool)
+    fn note_look(&mut self, found: bool)
         ensures { folded self.new ≡ folded self.old }
     {
         if !found {
             self.looks = self.looks.saturating_sub(1);
         }
+    }
+
+    /// Takes words, and lone blanks between them, as far as the text is known, unless such looks were in vain before. The
+    /// result is whether some of it was known.
+    #[inline(always)]
+    pub(crate) fn take_words<T: Characters>(
+        &mut self,
+        window: &mut Window<T>,
+        run: Run,
+    ) -> Result<bool, AllocError>
+        ensures ok { OnOk result (Reads window.old window.new (λ a b. AddsWords run a b (position_of window.old) (position_of window.new) (folded self.old) (folded self.new))) }
+        ensures err { OnErr result (Reads window.old window.new (λ _ _. Unit {0})) }
+    {
+        if !self.may_look() {
+            return Ok(false);
+        }
+        let known = window.take_words(run, &mut self.text)?;
+        self.note_look(known);
+        Ok(known)
     }
 
     /// Makes room for a short text.

@@ -2,10 +2,11 @@
 ghost use Rattle.std.specs.Prelude.{◌≡◌, ◌≢◌, ◌≤◌, ◌<◌, true, false, Ok, Err, OnOk, OnErr, IfOk, IfErr, slice_index};
 ghost use Rattle.defs_text.specs.Position.{Position};
 ghost use Rattle.yaml_chars.specs.Reading.{Reads, Sees, HasChar, SamePosition, position_of};
+ghost use Rattle.yaml_chars.specs.Words.{begins_word};
 ghost use Rattle.model_lexers.specs.declared.context.Context.{Context};
 ghost use Rattle.model_lexers.specs.Folding.{Folded};
 ghost use Rattle.model_lexers.specs.Machine.{is_marker, at_marker};
-ghost use Rattle.model_lexers.specs.Plain.{can_be_plain, is_shallow, at_dash, at_plain, goes_on, starts, plain, plain_from, first, inside, between, ends_gap, is_wordy};
+ghost use Rattle.model_lexers.specs.Plain.{can_be_plain, is_shallow, at_dash, at_plain, goes_on, starts, plain, plain_from, first, inside, between, ends_gap};
 ghost use Rattle.yaml_lexers.specs.Shown.{Lexes, Refuses, at, at_folded, plain_shown, EndsHere};
 
 use crate::folding::{FEW, Folding};
@@ -45,12 +46,10 @@ fn read_known<T: Characters>(
         plain_from context start a (at inside window.old scalar.old) ≡ plain_from context start b (at inside window.new scalar.new))) }
     ensures err { OnErr result (Reads window.old window.new (λ _ _. Unit {0})) }
 {
-    if !scalar.may_look() || is_shallow(context, window.mark().col()) {
+    if is_shallow(context, window.mark().col()) {
         return Ok(false);
     }
-    let known = window.take_words(Run::Plain(context.flow), &mut scalar.text)?;
-    scalar.note_look(known);
-    Ok(known)
+    scalar.take_words(window, Run::Plain(context.flow))
 }
 
 /// Reads the next few characters of a word. The result is whether it has so many.
@@ -113,9 +112,9 @@ fn read_word<T: Characters>(
 
 /// Whether a character after a lone blank is one of the scalar, whatever comes after it.
 #[inline(always)]
-#[tactic(auto, unfolding(model_lexers::specs::Plain::is_wordy))]
-fn is_wordy(c: char) -> bool
-    ensures { result ≡ is_wordy c }
+#[tactic(auto, unfolding(yaml_chars::specs::Words::begins_word))]
+fn begins_word(c: char) -> bool
+    ensures { result ≡ begins_word (Run.Plain true) c }
 {
     !Run::Plain(true).stops(c) && c != '#' && c != '-'
 }
@@ -139,7 +138,7 @@ fn take_lone_blank<T: Characters>(
     }
     window.lookahead(2);
     let col = window.mark().col();
-    if !is_wordy(window.peek(1)) || is_shallow(context, col + 1) || !scalar.is_joined() {
+    if !begins_word(window.peek(1)) || is_shallow(context, col + 1) || !scalar.is_joined() {
         return Ok(false);
     }
     window.skip();

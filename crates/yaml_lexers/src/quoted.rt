@@ -259,13 +259,11 @@ fn read_known<T: Characters>(
     ensures ok { OnOk result (GoesOn quote.now inside window.old scalar.old inside window.new scalar.new) }
     ensures err { OnErr result (Reads window.old window.new (λ _ _. Unit {0})) }
 {
-    if !scalar.may_look() || window.mark().col() + 1 < quote.context.indent {
+    let col = window.mark().col();
+    if col + 1 < quote.context.indent {
         return Ok(false);
     }
-    let run = Run::Quoted(quote_of(quote.single));
-    let known = window.take_words(run, &mut scalar.text)?;
-    scalar.note_look(known);
-    Ok(known)
+    scalar.take_words(window, Run::Quoted(quote_of(quote.single)))
 }
 
 /// Reads so many characters of a word. The result is whether it has them.

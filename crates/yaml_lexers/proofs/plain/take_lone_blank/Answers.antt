@@ -24,11 +24,11 @@ returns-clause-ok g c =
     let deep = ap (λ n. is_shallow c.args.context (n + 1)) (sym col) ∙ sym c.is_shallow.ensures ∙ c.if-is_shallow.false in
     Reads-then _ _ _ c.look_ch-c.ensures.reads later (λ a b d look s start.
     rw (c.skip.ensures.state, c.in_ok-push.ensures, same.at, same.line, same.col, was.at, was.line, was.col)
-    (lone_blank c.args.context start c.look_ch-c.result c.peek.result a d _ _
+    (lone_blank c.args.context start true c.look_ch-c.result c.peek.result a d _ _
     (sym look.0 ∙ s.1 ∙ ap (λ x. x ∷ d) (sym look.1))
     (s.0 ∙ ap (λ xs. slice_index xs 1) s.1)
     blank
-    (sym c.is_wordy.ensures ∙ c.if-not-is_wordy.false)
+    (sym c.begins_word.ensures ∙ c.if-not-begins_word.false)
     deep
     (c.is_joined.ensures.gap joined)
     (c.is_joined.ensures.leading joined)
