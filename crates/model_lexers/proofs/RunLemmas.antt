@@ -1,5 +1,5 @@
 -- A run of ordinary characters of one line belongs to a scalar's text as it stands.
-use Rattle.std.proofs.Common.{◌≡◌, ℕ, List, [], ◌∷◌, ◌++◌, ◌∙◌, ap, Bool, true, false, ◌||◌, ◌&&◌, not, ◌==◌, refl, slice_index}
+use Rattle.std.proofs.Common.{◌≡◌, ℕ, List, [], ◌∷◌, ◌++◌, ◌∙◌, ap, Bool, true, false, ◌||◌, ◌&&◌, ◌==◌, refl, slice_index}
 use Rattle.defs_text.specs.Position.{Position}
 use Rattle.yaml_chars.specs.Class.{is_break, is_blank, is_breakz, is_flow}
 use Rattle.yaml_chars.specs.Run.{Ran, stops, ran}

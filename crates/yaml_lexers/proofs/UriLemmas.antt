@@ -1,5 +1,5 @@
 -- Lemmas about the octets of a URI's escaped characters.
-use Rattle.std.proofs.Common.{◌≡◌, ◌≤◌, ◌<◌, ◌+◌, ◌*◌, ◌-◌, ◌^◌, ◌∙◌, ℕ, zero, suc, Bool, List, refl, sym, arith, ap, lit<}
+use Rattle.std.proofs.Common.{◌≡◌, ◌≤◌, ◌<◌, ◌+◌, ◌*◌, ◌-◌, ◌^◌, ◌∙◌, ℕ, suc, Bool, List, refl, sym, arith, ap, lit<}
 use Rattle.std.proofs.Math.Nat.{pow-succ', pow-le-pow_right, mul-le-mul_left, mul-le-mul_right, mul_assoc, le_trans}
 use Rattle.defs_text.specs.Position.{Position}
 use Rattle.model_lexers.specs.Uri.{trails_from}

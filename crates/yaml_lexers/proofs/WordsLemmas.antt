@@ -1,10 +1,10 @@
 -- Words that are taken at once, and the lone blanks between them, belong to a scalar's text as they stand.
-use Rattle.std.proofs.Common.{◌≡◌, ◌≢◌, ℕ, suc, ◌+◌, ◌<◌, ◌≤◌, List, [], ◌∷◌, ◌++◌, length, ◌∙◌, ap, sym, subst, Bool, true, false, ◌||◌, ◌&&◌, ◌==◌, refl, slice_index, arith, append_assoc, append-nil}
+use Rattle.std.proofs.Common.{◌≡◌, ℕ, suc, ◌+◌, ◌≤◌, List, [], ◌∷◌, ◌++◌, length, ◌∙◌, ap, sym, Bool, true, false, ◌||◌, ◌&&◌, refl, slice_index, arith, append_assoc, append-nil}
 use Rattle.std.specs.Prelude.{not}
 use Rattle.std.proofs.lemmas.Bool.{and_parts}
 use Rattle.std.proofs.lemmas.Bool.Decides.{nat_tests}
 use Rattle.defs_text.specs.Position.{Position}
-use Rattle.yaml_chars.specs.Class.{is_break, is_blank, is_breakz, is_flow}
+use Rattle.yaml_chars.specs.Class.{is_break, is_blank}
 use Rattle.yaml_chars.specs.Reading.{Reading, Reads, position_of}
 use Rattle.yaml_chars.specs.Run.{stops}
 use Rattle.yaml_chars.specs.Words.{begins_word, is_in_words, are_words, TakesWords, PassesWords}
@@ -20,7 +20,7 @@ use Rattle.model_lexers.specs.Folding as folding
 use Rattle.model_lexers.specs.Plain as plain
 use Rattle.model_lexers.specs.Quoted as quoted
 use Rattle.model_lexers.specs.Block as block
-use Rattle.model_lexers.proofs.RunLemmas.{plain_run, quoted_run, block_run, no_gap}
+use Rattle.model_lexers.proofs.RunLemmas.{plain_run, quoted_run, block_run}
 use Rattle.model_lexers.proofs.PlainLemmas as in_plain
 use Rattle.model_lexers.proofs.QuotedLemmas as in_quotes
 use Rattle.model_lexers.proofs.SpaceLemmas.{comment_on}

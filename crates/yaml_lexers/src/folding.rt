@@ -61,8 +61,8 @@ impl Folding {
         }
     }
 
-    /// Takes words, and lone blanks between them, as far as the text is known, unless such looks were in vain before. The
-    /// result is whether some of it was known.
+    /// Takes words, and lone blanks between them, as far as they are known to come, if they may be looked for. The result is
+    /// whether some were known.
     #[inline(always)]
     pub(crate) fn take_words<T: Characters>(
         &mut self,

@@ -1,7 +1,7 @@
 use Rattle.std.proofs.Common.{◌≡◌, ◌∙◌, ap, sym}
 use Rattle.yaml_chars.specs.Reading.{position_of}
 use Rattle.yaml_chars.proofs.ReadingLemmas.{Reads-then}
-use Rattle.model_lexers.specs.Folding.{Folded, nothing}
+use Rattle.model_lexers.specs.Folding.{Folded}
 use Rattle.model_lexers.specs.Quoted.{quoted_from, first, inside}
 use Rattle.yaml_lexers.specs.ShownQuoted.{at_folded}
 use Rattle.yaml_lexers.proofs.QuotedLemmas.{begins_inside}
