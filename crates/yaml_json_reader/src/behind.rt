@@ -106,45 +106,56 @@ fn after_escapes(text: &[u8]) -> &[u8]
     ensures { length result.now ≤ length text.now }
 {
     let mut rest = text;
-    'escapes: while let [b'\\', letter @ ..] = rest {
-        let Some(after) = after_escape(letter) else {
+    'parts: loop {
+        let after = match rest {
+            [b'\\', b'u', first, second, _, _, after @ ..] if !is_surrogate(*first, *second) => {
+                after_digits(after)
+            }
+            [b'\\', letter, after @ ..] if is_letter(*letter) => after,
+            [b'\\', ..] => return after_cut(rest),
+            [b'"', ..] => return rest,
+            _ => after_run(rest),
+        };
+        if after.len() >= rest.len() {
             return rest;
-        };
-        rest = match after {
-            [b'\\', ..] => after,
-            _ => after_run(after),
-        };
+        }
+        rest = after;
+    }
+}
+
+// Behind escapes by four digits that stand one behind the other, as texts of other scripts have them. One of a surrogate is none.
+// Other digits are not looked at: where they are none, the text is a fault in YAML too.
+#[inline(always)]
+fn after_digits(text: &[u8]) -> &[u8]
+    ensures { length result.now ≤ length text.now }
+{
+    let mut rest = text;
+    'digits: while let [b'\\', b'u', first, second, _, _, after @ ..] = rest {
+        if is_surrogate(*first, *second) {
+            return rest;
+        }
+        rest = after;
     }
     rest
 }
 
-// Behind an escape whose backslash stands before the text. One of a surrogate is none. Other digits are not looked at: where they are
-// none, the text is a fault in YAML too.
+// Whether a character may stand behind a backslash, with no digits behind it.
 #[inline(always)]
-fn after_escape(text: &[u8]) -> Option<&[u8]>
-    ensures { IfSome result (λ rest. length rest.now ≤ length text.now) }
-{
-    let [b'u', first, second, _, _, rest @ ..] = text else {
-        return after_letter(text);
-    };
-    if is_surrogate(*first, *second) {
-        return None;
-    }
-    Some(rest)
+fn is_letter(letter: u8) -> bool {
+    matches!(
+        letter,
+        b'"' | b'\\' | b'/' | b'b' | b'f' | b'n' | b'r' | b't'
+    )
 }
 
-// The same of an escape without digits, or one that the text's end cuts.
-#[inline(never)]
-fn after_letter(text: &[u8]) -> Option<&[u8]>
-    ensures { IfSome result (λ rest. length rest.now ≤ length text.now) }
+// The end of the text, where it cuts the escape that stands here; else nothing is passed over.
+fn after_cut(text: &[u8]) -> &[u8]
+    ensures { length result.now ≤ length text.now }
 {
     match text {
-        [
-            b'"' | b'\\' | b'/' | b'b' | b'f' | b'n' | b'r' | b't',
-            rest @ ..,
-        ] => Some(rest),
-        [] | [b'u', ..] => Some(&text[text.len()..]),
-        _ => None,
+        [_, b'u', _, _, _, _, ..] => text,
+        [_] | [_, b'u', ..] => &text[text.len()..],
+        _ => text,
     }
 }
 

@@ -1,8 +1,8 @@
 use Rattle.std.proofs.Common.{◌≤◌, length}
 use Rattle.yaml_json_reader.proofs.behind.after_escapes.Given as goal
 
-abbrev pub invariant-escapes : goal.invariant-escapes
-invariant-escapes l = length l.rest ≤ length l.text
+abbrev pub invariant-parts : goal.invariant-parts
+invariant-parts l = length l.rest ≤ length l.text
 
-abbrev pub decreases-escapes : goal.decreases-escapes
-decreases-escapes l = length l.rest
+abbrev pub decreases-parts : goal.decreases-parts
+decreases-parts l = length l.rest
