@@ -134,7 +134,7 @@ static void print_places(int64_t (*fault)(const unsigned char *, size_t), const 
         asked = 0;
         int64_t place = fault(text, length);
         if (place != last && times) printf(times > 1 ? " %ld:%ldx%ld" : " %ld:%ld", (long)(last >> 32), (long)(last & 0xffffffff), times);
-        if (place < 0) break;
+        if (asked < refused_at) break;
         times = place == last ? times + 1 : 1;
         last = place;
     }

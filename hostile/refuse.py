@@ -1,7 +1,10 @@
 #!/usr/bin/env python3
-"""Refuses each request for memory of loads, overlays and all other calls in turn, and counts. refuse.c says what is looked at.
+"""Refuses each request for memory of loads, overlays and all other calls in turn, and counts. refuse.c says what is looked at. Then it
+compares where the faults of refused requests stand, and how many events come before each, with what is written here.
 
-Build the static library first: `cd crates/yamlbench && rt lib`.
+usage: refuse.py [--places]
+
+With --places it prints where these faults stand, and refuses nothing else. Build the static library first: `cd crates/yamlbench && rt lib`.
 """
 import os, subprocess, sys, tempfile
 
