@@ -7,6 +7,7 @@ pub mod class;
 mod count;
 pub mod history;
 mod lanes;
+mod looks;
 pub mod marker;
 mod pairs;
 mod ring;

@@ -378,7 +378,7 @@ impl<T: Characters> Window<T> {
         ensures none { IfOk result (λ o. IfNone o (self.new ≡ self.old)) }
         ensures err { OnErr result (self.new ≡ self.old) }
     {
-        let found = self.source.part_on(Part::Node(limit), &self.ring, alloc)?;
+        let found = self.source.node_on(limit, &self.ring, alloc)?;
         let Some(node) = found else {
             return Ok(None);
         };

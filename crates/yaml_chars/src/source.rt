@@ -1,5 +1,6 @@
 ghost use Rattle.std.specs.Prelude.{◌≡◌, ◌≢◌, ◌<◌, ◌≤◌, ◌^◌, [], ◌∷◌, ◌++◌, true, false, IfOk, IfSome, IfNone, OnErr};
 ghost use Rattle.std.specs.Iterator.{IsFinite, size};
+ghost use Rattle.yaml_chars.specs.declared.pairs.Part.TheVariants as part;
 ghost use Rattle.yaml_chars.specs.Pairs.{GivesPart};
 ghost use Rattle.yaml_chars.specs.Run.{GoesOver};
 ghost use Rattle.yaml_chars.specs.Source.{Pulls, Came};
@@ -8,6 +9,7 @@ ghost use Rattle.yaml_chars.specs.Words.{GivesWords, HasGiven};
 use crate::characters::Characters;
 use crate::count::character_count;
 use crate::history::History;
+use crate::looks::Looks;
 use crate::pairs::{Part, Piece, given, joined};
 use crate::ring::Ring;
 use crate::run::Run;
@@ -15,6 +17,9 @@ use crate::text::Text;
 use std::alloc::{AllocError, Global};
 use std::marker::Model;
 use std::snapshot::Snapshot;
+
+// A look for words pays where it finds so many characters.
+const WORTH: usize = 8;
 
 /// A run, and the text that its characters go into.
 pub(crate) struct Filling {
@@ -68,6 +73,9 @@ pub struct Source<T: Characters> {
     start: Snapshot<T>,
     taken: History<char>,
     done: bool,
+    // Looks for words, and for scalars of a line.
+    words: Looks,
+    nodes: Looks,
 }
 
 impl<T: Characters> Model for Source<T> {
@@ -93,6 +101,8 @@ impl<T: Characters> Source<T> {
             iter,
             taken: History::new(),
             done: false,
+            words: Looks::new(),
+            nodes: Looks::new(),
         }
     }
 
@@ -133,9 +143,23 @@ impl<T: Characters> Source<T> {
     }
 
     /// Takes words that are known to come, and lone blanks between them, into a text, and says how many characters
-    /// they have. An `Err` changes nothing.
+    /// they have: none, where looks for them did not pay. An `Err` changes nothing.
     #[inline(always)]
     pub(crate) fn words_on(&mut self, run: Run, text: &mut Text) -> Result<usize, AllocError>
+        ensures ok { IfOk result (λ count. GivesWords run self.old self.new count text.old text.new) }
+        ensures err { OnErr result ((self.new ≡ self.old) × (text.new ≡ text.old)) }
+    {
+        if !self.words.is_due() {
+            return Ok(0);
+        }
+        let count = self.known_words_on(run, text)?;
+        self.words.note(count >= WORTH);
+        Ok(count)
+    }
+
+    // The same, whether looks paid or not.
+    #[inline(always)]
+    fn known_words_on(&mut self, run: Run, text: &mut Text) -> Result<usize, AllocError>
         ensures ok { IfOk result (λ count. GivesWords run self.old self.new count text.old text.new) }
         ensures err { OnErr result ((self.new ≡ self.old) × (text.new ≡ text.old)) }
     {
@@ -173,6 +197,26 @@ impl<T: Characters> Source<T> {
         self.taken.push_text(words);
         self.iter.pass(found.end);
         count
+    }
+
+    /// The same as `part_on` for another scalar than a key or a value of a mapping: none, where looks for such did not pay.
+    #[inline(always)]
+    pub(crate) fn node_on(
+        &mut self,
+        limit: usize,
+        held: &Ring,
+        alloc: Global,
+    ) -> Result<Option<Piece>, AllocError>
+        ensures some { IfOk result (λ o. IfSome o (λ p. GivesPart (part.Node limit) held.now self.old self.new p.end p.broken p.spaces p.next p.text)) }
+        ensures none { IfOk result (λ o. IfNone o (self.new ≡ self.old)) }
+        ensures err { OnErr result (self.new ≡ self.old) }
+    {
+        if !self.nodes.is_due() {
+            return Ok(None);
+        }
+        let found = self.part_on(Part::Node(limit), held, alloc)?;
+        self.nodes.note(found.is_some());
+        Ok(found)
     }
 
     /// Takes a key, a value or another scalar of a line that is known to come, with the character after it. Its text begins with the

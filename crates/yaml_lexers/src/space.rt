@@ -66,6 +66,7 @@ fn pass_rest<T: Characters>(window: &mut Window<T>)
 }
 
 /// Steps to the end of the line. What stands there is then in the window.
+#[inline(always)]
 pub fn skip_comment<T: Characters>(window: &mut Window<T>)
     ensures reads { Reads window.old window.new (λ a b. comment a (position_of window.old) ≡ read b window.new tt) }
     ensures ahead { 0 < window.new.ahead }

@@ -31,24 +31,27 @@ impl<T: Characters> Fetcher<T> {
         self.key_allowed = key_allowed;
     }
 
-    /// Steps over a line break and the spaces after it.
+    /// Steps over a space, and over those after it.
     #[inline(always)]
-    fn pass_to_indented(&mut self)
-        requires { HasChar self.old.window }
-        ensures gap { Reads self.old.window self.new.window (λ a b. is_break (slice_index a 0) ≡ true → skip between a (held self.old) ≡ skip between b (held self.new)) }
-        ensures moves { Moves self.old self.new 0 8 }
+    #[tactic(auto, using(crate::proofs::SpaceLemmas::gap_space))]
+    fn pass_indentation(&mut self)
+        requires ahead { 0 < self.old.window.ahead }
+        requires has { HasChar self.old.window }
+        ensures gap { Reads self.old.window self.new.window (λ a b. slice_index a 0 ≡ 32 → skip between a (held self.old) ≡ skip between b (held self.new)) }
+        ensures moves { Moves self.old self.new 0 0 }
         ensures less { self.new.window.left < self.old.window.left }
     {
-        self.pass_break();
-        self.pass_indentation();
+        self.window.skip();
+        self.pass_more_spaces();
     }
 
     /// Steps over the spaces that stand here.
     #[inline(always)]
     #[tactic(auto, using(crate::proofs::SpaceLemmas::gap_space))]
-    fn pass_indentation(&mut self)
+    fn pass_more_spaces(&mut self)
         ensures gap { Reads self.old.window self.new.window (λ a b. skip between a (held self.old) ≡ skip between b (held self.new)) }
         ensures moves { Moves self.old self.new 0 0 }
+        ensures less { self.new.window.left ≤ self.old.window.left }
     {
         'spaces: while self.window.take_space() {}
     }
@@ -89,7 +92,9 @@ impl<T: Characters> Fetcher<T> {
         'space: loop {
             let c = self.window.look_ch();
             if is_break(c) {
-                self.pass_to_indented();
+                self.pass_break();
+            } else if c == ' ' && self.leading {
+                self.pass_indentation();
             } else if self.at_tab_line(c) {
                 self.skip_tab_line()?;
             } else if is_blank(c) {

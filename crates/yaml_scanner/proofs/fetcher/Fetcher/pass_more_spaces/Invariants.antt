@@ -3,7 +3,7 @@ use Rattle.yaml_chars.specs.Reading.{Reads}
 use Rattle.model_scanner.specs.Space.{skip, between}
 use Rattle.yaml_scanner.specs.Shape.{held}
 use Rattle.yaml_scanner.specs.Work.{Moves}
-use Rattle.yaml_scanner.proofs.fetcher.Fetcher.pass_indentation.Given as goal
+use Rattle.yaml_scanner.proofs.fetcher.Fetcher.pass_more_spaces.Given as goal
 
 abbrev pub invariant-spaces : goal.invariant-spaces
 invariant-spaces g l = record {

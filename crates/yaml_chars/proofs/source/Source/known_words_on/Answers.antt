@@ -4,7 +4,7 @@ use Rattle.std.specs.Str.{IsAscii, IsUtf8}
 use Rattle.yaml_chars.specs.Source.{IterStands}
 use Rattle.yaml_chars.specs.Words.{AreAscii, AreWordsUpTo, EndsAtAscii}
 use Rattle.yaml_chars.proofs.WordsLemmas.{ascii_of, boundary_of, words_of, Stands-on, front_range, true_is_not_false}
-use Rattle.yaml_chars.proofs.source.Source.words_on.Goals as goal
+use Rattle.yaml_chars.proofs.source.Source.known_words_on.Goals as goal
 
 pub range-words-requires-clause-end_boundary : goal.range-words-requires-clause-end_boundary
 range-words-requires-clause-end_boundary g c =
