@@ -1,10 +1,10 @@
 #!/usr/bin/env python3
-"""Refuses each request for memory of loads, overlays and all other calls in turn, and counts. refuse.c says what is looked at. Then it
-compares where the faults of refused requests stand, and how many events come before each, with what is written here.
+"""Compares where the faults of refused requests for memory stand, and how many events come before each, with what is written here. Then it
+refuses each request of loads, overlays and all other calls in turn, and counts. refuse.c says what is looked at.
 
 usage: refuse.py [--places]
 
-With --places it prints where these faults stand, and refuses nothing else. Build the static library first: `cd crates/yamlbench && rt lib`.
+With --places it does only the first. Build the static library first: `cd crates/yamlbench && rt lib`.
 """
 import os, subprocess, sys, tempfile
 
@@ -33,6 +33,26 @@ INPUTS = ["%TAG !prefix! tag:example.com,2011:\n--- !prefix!A\na: b\n", "---\n? 
 # Texts that do not load as they stand: a handle that is kept for three documents, and a key twice in two ways.
 OTHERS = ["%TAG !prefix! tag:example.com,2011:\n--- !prefix!A\na: b\n--- !prefix!B\nc: d\n--- !prefix!C\ne: f", '{"a":1,"a":2}', "? [x, {y: z}]\n: 1\n? [x, {y: z}]\n: 2\n"]
 
+# Where the faults of refused requests stand, of the events of a text whose characters come one by one: EVENTS:INDEX, and how many requests in
+# turn have it there. So it was at commit 356243a4, before texts in memory were read in another way: no event is lost, and a fault stands after
+# the character that the request was for.
+PLACES = {"a:\n  b:\n    c: d\ne: f\n": "0:0x3 1:0 1:2 4:5 6:12 8:15 9:17 12:20",
+          "a:\n    b: c\n  d: e\n": "0:0x3 1:0 1:2 4:7 6:10 7:14",
+          "a:\n  b:\n    c:\n      d: e\nf: g\n": "0:0x3 1:0 1:2 4:5 6:12 8:21 8:23x2 10:24 11:26 15:29",
+          "- - - a: b\nc: d\n": "0:0x3 1:1 5:6 5:8x2 7:9 8:11",
+          "\"abcdefghijklmnopqrstuvwxyz\"\n": "0:0x3 1:1 1:10 1:18",
+          "\"ab\\ncdefghijklmnopqrstuvwxyz\"\n": "0:0x3 1:1 1:11 1:19",
+          "\"abcdefg\\nhijklmnopqrstuvwxyz\"\n": "0:0x3 1:1 1:11 1:19",
+          "\"\\n\\n\\n\\n\\n\\n\\n\\n\\n\\n\\n\\n\\n\\n\\n\\n\\n\\n\\n\\n\"\n": "0:0x3 1:2 1:18 1:34",
+          "'a''bcdefghijklmnopqrstuvwxyz'\n": "0:0x3 1:1 1:11 1:19",
+          "abcdefghijklmnopqrstuvwxyzabcdefghijklmnopqrstuvwxyz\n": "0:0x3 1:0 1:25 1:49",
+          "12:30:45:a:b:c:d:e:f:g:h:i:j:k:l:m:n:o:p\n": "0:0x3 1:0 1:24",
+          "|\n  abcdefghijklmnopq\n  abc\n  abcdefghijk\n\n  ab\n": "0:0x3 1:4 1:12 1:20 1:40 1:43",
+          ">\n  a\n  bcd\n  ef\n  mnopqrstuvwxyz\n": "0:0x3 1:4 1:19 1:26",
+          "- alpha: \"beta\"\n  delta: epsilon\n- x\n": "0:0x3 1:1 3:2 5:10 6:18 7:25 9:35"}
+# In a JSON text that is read at once, a fault stands where the text was read up to: no fault before an earlier one, and only the first at 0.
+JSON_TEXT = '["abc", {"key": "a text of more than twenty-four characters"}]\n'
+
 
 def write_all(directory, name, texts):
     """The files that hold these texts."""
@@ -41,6 +61,24 @@ def write_all(directory, name, texts):
         with open(path, "w") as f:
             f.write(text)
     return paths
+
+
+def places(program, directory):
+    """Prints where faults stand that are not where they ought to be. The result is how many such there are."""
+    paths = write_all(directory, "place", [*PLACES, JSON_TEXT])
+    lines = subprocess.run([program, "--places", *paths], capture_output=True, text=True, check=True).stdout.splitlines()
+    bad = 0
+    for i, (text, wanted) in enumerate(PLACES.items()):
+        for found in lines[3 * i:3 * i + 2]:
+            if found.strip() != wanted:
+                print("%r: faults at%s, and not at %s" % (text, found, wanted))
+                bad += 1
+    indices = [int(place.split(":")[1].split("x")[0]) for place in lines[-1].split()]
+    if indices != sorted(indices) or indices.count(0) > 1:
+        print("%r: faults at %s" % (JSON_TEXT, indices))
+        bad += 1
+    print("faults of refused requests in %d texts: %s" % (len(paths), "%d are in another place" % bad if bad else "each is in its place"))
+    return bad
 
 
 def main():
@@ -52,6 +90,9 @@ def main():
         paths, others = write_all(directory, "text", INPUTS), write_all(directory, "other", OTHERS)
         wraps = ["-Wl,--wrap=malloc", "-Wl,--wrap=realloc", "-Wl,--wrap=free"]
         subprocess.run(["gcc", "-O2", "-o", program, os.path.join(HERE, "refuse.c"), bench.LIBRARY, os.path.join(kit, "c", "liblibc_c.a"), *wraps], check=True)
+        bad = places(program, directory)
+        if bad or sys.argv[1:] == ["--places"]:
+            return 1 if bad else 0
         return subprocess.run([program, *paths, "--", *others]).returncode
 
 
