@@ -127,6 +127,7 @@ impl<T: Characters> Fetcher<T> {
     }
 
     /// Steps over a comment.
+    #[inline(always)]
     fn pass_comment(&mut self)
         requires ahead { 0 < self.old.window.ahead }
         requires has { HasChar self.old.window }
