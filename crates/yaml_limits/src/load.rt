@@ -16,11 +16,6 @@ use yaml_parser::Parser;
 use yaml_tree::Yaml;
 
 /// Loads all documents of a text, as `YamlLoader::load_from_str` does, if they are within limits.
-///
-/// # Errors
-///
-/// `Scan` has the text's fault, or says that memory was refused. `Levels` and `Size` have the position of the first event
-/// by which the load would make more than the limits allow.
 pub fn load_with_limits(alloc: Global, text: &str, limits: Limits) -> Result<Vec<Yaml>, LimitsError>
     ensures { Answers limits (up_to_nul (chars text.now)) result }
 {

@@ -216,10 +216,6 @@ impl<T: Characters> Parser<T> {
 
     /// Looks at the next event. After that `waiting` shows it, and the next call of `next_token` gives it. The two
     /// calls do what `peek` does; use them to prove something, since a proof learns more from their contracts.
-    ///
-    /// # Errors
-    ///
-    /// Those of [`next_token`](Parser::next_token).
     pub fn look(&mut self) -> Result<(), ScanError>
         ensures looks { Looks (parsed self.old) result (parsed self.new) }
         ensures start { self.new.start ≡ self.old.start }

@@ -90,7 +90,7 @@ pub enum Yaml {
     Alias(usize),
     /// The null value, as `~`.
     Null,
-    /// Stands for a missing node: an alias inside its own node, a plain scalar that does not fit its tag, or the root of
-    /// a document that was pushed without one.
+    /// Stands for a missing node: an empty document, an alias inside its own node, or a plain scalar that does not
+    /// fit its tag.
     BadValue,
 }
