@@ -8,6 +8,7 @@ pub mod Laws
 pub mod Digests
 pub mod Node
 pub mod Places
+pub mod Printing
 pub mod Packed
 pub mod Probes
 pub mod Ranked

@@ -14,19 +14,27 @@ use std::mem;
 
 /// An array or a hash.
 #[derive(Clone, Copy)]
-enum Source<'a> {
+pub(crate) enum Source<'a> {
     Items(&'a Array),
     Pairs(&'a Hash),
 }
 
 impl<'a> Source<'a> {
-    // The items, or the keys and values.
-    fn row(self) -> &'a [Yaml]
+    /// The items, or the keys and values.
+    pub(crate) fn row(self) -> &'a [Yaml]
         ensures { items_view result.now ≡ parts (source_tree self.entry) }
     {
         match self {
             Source::Items(items) => items.items.as_slice(),
             Source::Pairs(pairs) => pairs.row.as_slice(),
+        }
+    }
+
+    /// Where its memory is from.
+    pub(crate) fn allocator(self) -> Global {
+        match self {
+            Source::Items(items) => *items.items.allocator(),
+            Source::Pairs(pairs) => pairs.allocator(),
         }
     }
 

@@ -62,14 +62,20 @@ impl<'a> Iterator for Iter<'a> {
 }
 
 impl Hash {
+    /// The keys and values of the pairs, in turn.
+    pub fn row(&self) -> &[Yaml]
+        ensures pairs { pairs_view result.now ≡ self.now }
+        ensures distinct { AreDistinct self.now }
+    {
+        self.row.as_slice()
+    }
+
     /// The pairs, in their order.
     pub fn iter(&self) -> Iter<'_>
         ensures pairs { result ≡ self.now }
         ensures distinct { AreDistinct self.now }
     {
-        Iter {
-            rest: self.row.as_slice(),
-        }
+        Iter { rest: self.row() }
     }
 }
 

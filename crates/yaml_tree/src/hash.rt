@@ -259,6 +259,11 @@ impl Hash {
 }
 
 impl Hash {
+    /// The allocator that the pairs' memory is from.
+    pub fn allocator(&self) -> Global {
+        *self.row.allocator()
+    }
+
     pub(crate) fn into_row(self) -> Vec<Yaml>
         ensures { items_view result.items ≡ flat self }
     {

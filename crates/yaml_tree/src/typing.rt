@@ -10,10 +10,10 @@ use std::alloc::{AllocError, Global};
 use yaml_typing::{Meaning, stands_for};
 
 impl Yaml {
-    /// What the text stands for as a plain scalar, by the core schema (YAML 1.2, section 10.3.2): an integer of 64
-    /// bits, in base 10, or in base 16 or 8 after `0x` or `0o`; `Null`; a `Boolean`; a `Real`, which keeps the text
-    /// as it is; else the `String` of the text. Only a kept text takes memory, and an `Err` comes only if that was
-    /// refused.
+    /// What the text stands for as a plain scalar, nearly as in the core schema (YAML 1.2, section 10.3.2;
+    /// docs/DIFFERENCES.md has the exceptions): an integer of 64 bits, in base 10, or in base 16 or 8 after `0x` or
+    /// `0o`; `Null`; a `Boolean`; a `Real`, which keeps the text as it is; else the `String` of the text. Only a kept
+    /// text takes memory, and an `Err` comes only if that was refused.
     pub fn from_str(alloc: Global, text: &str) -> Result<Yaml, AllocError>
         ensures value { IfOk result (λ y. view y ≡ typing (chars text.now)) }
         ensures only_for_a_text { OnErr result (takes_memory (typing (chars text.now)) ≡ true) }

@@ -72,7 +72,7 @@ use crate::hash::Hash;
 /// assert!(rt; Yaml::Null.into_hash().is_none() && Yaml::Null.into_vec().is_none());
 /// ```
 #[cycle(yaml)]
-#[derive(Debug, Drop)]
+#[derive(Drop)]
 pub enum Yaml {
     /// A real number, as its text.
     Real(String),
@@ -90,7 +90,7 @@ pub enum Yaml {
     Alias(usize),
     /// The null value, as `~`.
     Null,
-    /// Stands for a missing node: an empty document, an alias inside its own node, or a plain scalar that does not
-    /// fit its tag.
+    /// Stands for a missing node: an alias inside its own node, a plain scalar that does not fit its tag, or the root of
+    /// a document that was pushed without one.
     BadValue,
 }

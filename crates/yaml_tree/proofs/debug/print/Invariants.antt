@@ -1,0 +1,6 @@
+use Rattle.std.proofs.Common.{◌+◌, ◌*◌}
+use Rattle.yaml_tree.specs.Printing.{unprinted, turns}
+use Rattle.yaml_tree.proofs.debug.print.Given as goal
+
+abbrev pub decreases-levels : goal.decreases-levels
+decreases-levels g l = 2 * unprinted l.level + turns l.outer
