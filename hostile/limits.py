@@ -2,6 +2,7 @@
 """Loads texts of hostile shapes, each of at most 100 KB, within the limits for their length, on 8 MB of stack and in 500 MB of memory.
 
 usage: limits.py [--bytes N] [--only SHAPE]
+       limits.py --within N [--bytes N] [--only SHAPE]   within so many levels and this size, in 200 MB: the texts that ask for most before an event
 
 Each shape of bench/hostile.py, of hostile/deep.py and of this file is made as long as fits. It is loaded, and then used: compared, hashed,
 shown, dumped, laid over itself and copied. A line tells the result, the time and the memory. The last line says whether any of them
@@ -32,8 +33,15 @@ def aliased(n, item, size, levels):
     """An array of such items, below so many levels as many aliases of it as the limits allow, and a comment."""
     count = n // 10 // (len(item) + 2)
     text = "- &a [" + (item + ", ") * count + "]\n" + levels + "- ["
-    aliases = min((2 * n + 100000) // (1 + count * size) - 3, (n - len(text)) // 4)
+    aliases = min((3 * n + 100000) // (1 + count * size) - 3, (n - len(text)) // 4)
     text += "*a, " * aliases + "]\n"
+    return text + "#" * (n - len(text))
+
+
+def tagged(n):
+    """A declared prefix of half the text, as many nodes with a tag of it as the limits allow, and a comment."""
+    prefix = n // 2
+    text = "%TAG !e! " + "x" * prefix + "\n---\n" + "- !e!a b\n" * min((3 * n + 100000) // (prefix + 3) - 1, n // 20)
     return text + "#" * (n - len(text))
 
 
@@ -54,6 +62,9 @@ OURS = {
     "nested anchors in blocks": lambda n: "".join("- &a%d\n" % i + " " * (i + 1) for i in range(200)) + items(n // 2) + "\n",
     "an alias in its own node": lambda n: "&a [" + "*a, " * (n // 4) + "]\n",
     "many tags of a long prefix": lambda n: "%TAG !e! tag:" + "x" * (n // 2) + "\n---\n" + "- !e!a b\n" * (n // 18),
+    "tags of a long prefix, within": tagged,
+    "tags of three letters, within": lambda n: "[" + "!!int 1," * (n // 8) + "]\n",
+    "tags of a letter": lambda n: "[" + "!!a," * (n // 4) + "]\n",
     "keys with one digest": lambda n: "".join("? [%d]\n: v\n" % i for i in range(n // 13)),
     "single pairs": lambda n: "[" + ":," * (n // 2) + "]\n",
     "aliases of nulls, within": lambda n: aliased(n, "~", 2, ""),
@@ -64,6 +75,24 @@ OURS = {
     "aliases of nulls under 200 levels, within": lambda n: aliased(n, "~", 2, "- " * 200),
     "deep keys, within": lambda n: "".join("? " + "[" * 250 + "%d" % i + "]" * 250 + "\n: v\n" for i in range(n // 510)),
     "escapes in a key twice": lambda n: '? "' + "\\0" * (n // 5) + '"\n: 1\n? "' + "\\0" * (n // 5) + '"\n: 2\n',
+}
+
+
+# Texts of about n bytes that hold much back before the first event, or between two.
+HELD = {
+    "single pairs": OURS["single pairs"],
+    "single pairs, never closed": lambda n: "[" + ":," * (n // 2),
+    "brackets": OURS["brackets"],
+    "keys of braces": lambda n: "{a: " * (n // 4),
+    "brackets in brackets": lambda n: "[" * 200 + "[]," * (n // 3),
+    "keys in a key": lambda n: "{{" + "a: 1, " * (n // 6),
+    "empty strings": lambda n: "[" + '"",' * (n // 3),
+    "tags and anchors": lambda n: "[" + "&a !b c," * (n // 8),
+    "question marks": lambda n: "[" + "? ," * (n // 3),
+    "a long scalar in flow": lambda n: "['" + "x" * n + "']\n",
+    "handles": lambda n: "".join("%%TAG !%x! x\n" % i for i in range(n // 14)) + "--- x\n",
+    "dashes": lambda n: "- " * (n // 2) + "x\n",
+    "a block's end": lambda n: "- " * 100000 + "x\n" + "- y\n" * ((n - 200000) // 4),
 }
 
 
@@ -82,7 +111,7 @@ def all_shapes():
     yield from OURS.items()
     yield from hostile.SHAPES.items()
     for deed, (_, make) in deep.DEEDS.items():
-        for kind, level in deep.LEVELS.items():
+        for kind, level in deep.BLOCKS.items():
             yield "to %s: %s" % (deed, kind), lambda n, make=make, level=level: make(level * n)
     yield "29 lines of `[*a, *a]`", lambda n: deep.DOUBLED
 
@@ -97,15 +126,16 @@ def texts(most):
             yield name, text
 
 
-def limited():
+def limited(megabytes):
     resource.setrlimit(resource.RLIMIT_STACK, (8 << 20, 8 << 20))
-    resource.setrlimit(resource.RLIMIT_AS, (500 << 20, 500 << 20))
+    resource.setrlimit(resource.RLIMIT_AS, (megabytes << 20, megabytes << 20))
 
 
 def run(program, path, deed):
     """The result, the seconds and the megabytes."""
     began = time.time()
-    process = subprocess.Popen([program, path, deed], stdout=subprocess.PIPE, preexec_fn=limited)
+    most = 500 if deed in ("load", "use") else 200
+    process = subprocess.Popen([program, path, deed], stdout=subprocess.PIPE, preexec_fn=lambda: limited(most))
     out = process.stdout.read().decode().strip()
     _, status, used = os.wait4(process.pid, 0)
     process.returncode = status
@@ -115,9 +145,12 @@ def run(program, path, deed):
 
 def main():
     p = argparse.ArgumentParser()
-    p.add_argument("--bytes", type=int, default=100000)
+    p.add_argument("--bytes", type=int)
+    p.add_argument("--within")
     p.add_argument("--only")
     a = p.parse_args()
+    most = a.bytes or (10000000 if a.within else 100000)
+    shapes = ((name, longest(make, most)) for name, make in HELD.items()) if a.within else texts(most)
     if not os.path.exists(bench.LIBRARY):
         sys.exit("limits.py: no static library: cd crates/yamlbench && rt lib")
     ended = count = 0
@@ -126,16 +159,16 @@ def main():
         program = os.path.join(directory, "limits")
         subprocess.run(["gcc", "-O2", "-o", program, os.path.join(HERE, "limits.c"), bench.LIBRARY, os.path.join(kit, "c", "liblibc_c.a")], check=True)
         path = os.path.join(directory, "text")
-        for name, text in texts(a.bytes):
+        for name, text in shapes:
             if a.only and a.only != name:
                 continue
             count += 1
             with open(path, "w") as f:
                 f.write(text)
-            for deed in ("load", "use"):
+            for deed in (a.within,) if a.within else ("load", "use"):
                 result, seconds, megabytes = run(program, path, deed)
                 ended += result.startswith("ENDED")
-                print("%-36s %6d bytes  %-4s %6.2f s %4d MB  %s" % (name, len(text), deed, seconds, megabytes, result), flush=True)
+                print("%-36s %8d bytes  %-7s %6.2f s %4d MB  %s" % (name, len(text), deed, seconds, megabytes, result), flush=True)
     print("%d texts; %s" % (count, "none ended the program" if not ended else "%d runs ENDED the program" % ended))
     return bool(ended)
 

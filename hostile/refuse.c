@@ -1,10 +1,15 @@
-// Refuses each request for memory in turn: refuse FILE.. -- OTHER.., each FILE a text that loads; or refuse --places FILE..
+// Refuses each request for memory in turn: refuse [--every N] FILE.. -- OTHER.., each FILE a text that loads; or
+// refuse --places FILE..
 //
 // For each file it loads it with the first request refused, then with the second, and so on, up to a run that asks less often; and
-// again with all requests from that one on refused. So it does with the text laid over the file before it; and with every other call
-// that takes memory: loads by an iterator, a parser and from bytes, the typing of the text, a fault of it, copies of tokens, events, the
-// fault and trees, dumps, and trees put into a hash. Each OTHER is a text that loads where declared handles are kept, or has a fault, and
-// is loaded so. It prints a line for each run that answers all the same, answers wrongly or leaves memory behind; then its status is 1.
+// again with all requests from that one on refused. So it does with a load within limits; with the text laid over the file before it; and
+// with every other call that takes memory: loads by an iterator, a parser and from bytes, the typing of the text, a fault of it, copies of
+// tokens, events, the fault and trees, dumps, and trees put into a hash. Each OTHER is a text that loads where declared handles are kept, or
+// has a fault, and is loaded so. It prints a line for each run that answers all the same, answers wrongly or leaves memory behind; then its
+// status is 1.
+//
+// With --every N it refuses each request of the loads, but of overlays and all other calls only each Nth, from another one on in each
+// text.
 //
 // With --places it prints for each FILE three lines: where the fault of each refused request stands, as EVENTS:INDEX, and how many
 // requests in turn have it there. The first line is of the events of its characters, which come one by one, the second of those of the text
@@ -15,6 +20,7 @@
 #include <string.h>
 
 int64_t yamlbench_load(const unsigned char *text, size_t length);
+int64_t yamlbench_load_with_limits(const unsigned char *text, size_t length);
 int64_t yamlbench_overlay(const unsigned char *below, size_t below_length, const unsigned char *above, size_t above_length);
 int64_t yamlbench_calls(const unsigned char *text, size_t length);
 int64_t yamlbench_load_with_kept_handles(const unsigned char *text, size_t length);
@@ -84,6 +90,11 @@ static int64_t load(const struct text *below, const struct text *text) {
     return yamlbench_load(text->bytes, text->length);
 }
 
+static int64_t load_within_limits(const struct text *below, const struct text *text) {
+    (void)below;
+    return yamlbench_load_with_limits(text->bytes, text->length);
+}
+
 static int64_t overlay(const struct text *below, const struct text *text) {
     return yamlbench_overlay(below->bytes, below->length, text->bytes, text->length);
 }
@@ -105,24 +116,25 @@ static void tell(const char *path, const char *what) {
     bad = 1;
 }
 
-// How many requests were refused. Each of them must be answered by a refusal, and nothing may be left behind.
-static long run(deed *deed, const struct text *below, const struct text *text) {
-    for (refused_at = 1;; refused_at++) {
+// How many requests were refused, from this one on by such steps. Each of them must be answered by a refusal, and nothing may be left behind.
+static long run(deed *deed, const struct text *below, const struct text *text, long first, long step) {
+    long refused = 0;
+    for (refused_at = first;; refused_at += step, refused++) {
         asked = held = 0;
         int64_t answer = deed(below, text);
         if (held != 0) tell(text->path, "memory is left behind");
         if (asked < refused_at) {
             if (answer < 0) tell(text->path, "it doesn't load");
-            return refused_at - 1;
+            return refused;
         }
         if (answer >= 0) tell(text->path, "it answers all the same");
         if (answer < -1) tell(text->path, "it answers wrongly");
     }
 }
 
-static long run_both_ways(deed *deed, const struct text *below, const struct text *text) {
+static long run_both_ways(deed *deed, const struct text *below, const struct text *text, long first, long step) {
     long all = 0;
-    for (is_for_good = 0; is_for_good < 2; is_for_good++) all += run(deed, below, text);
+    for (is_for_good = 0; is_for_good < 2; is_for_good++) all += run(deed, below, text, first, step);
     return all;
 }
 
@@ -156,25 +168,35 @@ static int print_all_places(int count, char **paths) {
 int main(int argc, char **argv) {
     if (argc > 1 && strcmp(argv[1], "--places") == 0) return print_all_places(argc - 2, argv + 2);
     struct text texts[2];
-    long loads = 0, overlays = 0, calls = 0, others = 0;
+    long loads = 0, limited = 0, overlays = 0, calls = 0, others = 0, step = 1;
     int i = 1;
-    for (; i < argc && strcmp(argv[i], "--") != 0; i++) {
+    if (argc > 2 && strcmp(argv[1], "--every") == 0) {
+        step = atol(argv[2]);
+        i = 3;
+    }
+    if (step < 1) {
+        fprintf(stderr, "refuse: --every wants a number above 0\n");
+        return 2;
+    }
+    for (int begin = i; i < argc && strcmp(argv[i], "--") != 0; i++) {
+        long first = 1 + i % step;
         struct text *text = &texts[i % 2];
         text->path = argv[i];
         text->bytes = read_file(argv[i], &text->length);
-        loads += run_both_ways(load, NULL, text);
-        calls += run_both_ways(call, NULL, text);
-        if (i > 1) {
-            overlays += run_both_ways(overlay, &texts[(i + 1) % 2], text);
+        loads += run_both_ways(load, NULL, text, 1, 1);
+        limited += run_both_ways(load_within_limits, NULL, text, 1, 1);
+        calls += run_both_ways(call, NULL, text, first, step);
+        if (i > begin) {
+            overlays += run_both_ways(overlay, &texts[(i + 1) % 2], text, first, step);
             __real_free(texts[(i + 1) % 2].bytes);
         }
     }
     for (i++; i < argc; i++) {
         struct text other = {.path = argv[i]};
         other.bytes = read_file(argv[i], &other.length);
-        others += run_both_ways(load_with_kept_handles, NULL, &other);
+        others += run_both_ways(load_with_kept_handles, NULL, &other, 1, 1);
         __real_free(other.bytes);
     }
-    printf("%ld requests of loads, %ld of overlays, %ld of other calls and %ld of loads of other texts refused: %s\n", loads, overlays, calls, others, bad ? "NOT all is well" : "each is answered, and nothing is left behind");
+    printf("%ld requests of loads, %ld of loads within limits, %ld of overlays, %ld of other calls and %ld of loads of other texts refused: %s\n", loads, limited, overlays, calls, others, bad ? "NOT all is well" : "each is answered, and nothing is left behind");
     return bad;
 }

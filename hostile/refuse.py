@@ -1,10 +1,11 @@
 #!/usr/bin/env python3
 """Compares where the faults of refused requests for memory stand, and how many events come before each, with what is written here. Then it
-refuses each request of loads, overlays and all other calls in turn, and counts. refuse.c says what is looked at.
+refuses each request of loads, loads within limits, overlays and all other calls in turn, and counts. refuse.c says what is looked at.
 
-usage: refuse.py [--places]
+usage: refuse.py [--places | --short]
 
-With --places it does only the first. Build the static library first: `cd crates/yamlbench && rt lib`.
+With --places it does only the first. With --short it does the first, refuses each request of the loads, and of overlays and all other calls
+each seventh. Build the static library first: `cd crates/yamlbench && rt lib`.
 """
 import os, subprocess, sys, tempfile
 
@@ -26,6 +27,8 @@ INPUTS = ["%TAG !prefix! tag:example.com,2011:\n--- !prefix!A\na: b\n", "---\n? 
           # Block scalars with long lines, and scalars whose words end late at a `:`, an escape or a quote.
           "a: |\n  %s\nb: >\n  %s\n  %s\n\n  x\nc: |-\n  y\n" % ("w" * 40, "words of text " * 5, "more of them " * 6),
           "a: %s:x and %s\nb: \"%s\\n\"\nc: '%s''s'\n" % ("w" * 26, "v" * 30, "words " * 9, "u" * 25),
+          # Deeper than the sixteen levels for which a walk through a tree takes no memory.
+          "- " * 20 + "{a: b}\n", "[" * 20 + "1" + ", {}]" * 20 + "\n", "? " * 18 + "x: y\n",
           # A hash whose index comes with one of these pairs, from blocks and from JSON.
           "".join("key%d: %d\n" % (i, i) for i in range(16)), "{" + ", ".join('"key%d": %d' % (i * 5 % 16, i) for i in range(16)) + "}\n"]
 
@@ -93,7 +96,8 @@ def main():
         bad = places(program, directory)
         if bad or sys.argv[1:] == ["--places"]:
             return 1 if bad else 0
-        return subprocess.run([program, *paths, "--", *others]).returncode
+        every = ["--every", "7"] if sys.argv[1:] == ["--short"] else []
+        return subprocess.run([program, *every, *paths, "--", *others]).returncode
 
 
 if __name__ == "__main__":

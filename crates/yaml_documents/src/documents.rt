@@ -85,7 +85,8 @@ impl<T: Iterator<Item = char>> Iterator for Documents<T> {
 
     ghost next_gives = { λ a r b. Gives T.next_gives a r b };
 
-    /// The next document, or the text's fault. `None` comes after the last document, and after a fault.
+    /// The next document. An `Err` has the text's fault, or says that memory was refused. `None` comes after the last
+    /// document, and after an `Err`.
     fn next(&mut self) -> Option<Result<Yaml, ScanError>> {
         if self.over {
             return None;

@@ -1,14 +1,14 @@
 -- The steps of a count.
-use Rattle.std.proofs.Common.{◌≡◌, ℕ, zero, suc, ◌+◌, ◌-◌, ◌^◌, ◌<◌, ◌≤◌, List, [], ◌∷◌, length, Bool, true, false, refl, sym, ap, ◌∙◌, subst, nat_eq, arith}
-use Rattle.std.specs.Prelude.{max, Result, Ok, Err, OnOk, IfErr, if◌then◌else◌, String}
+use Rattle.std.proofs.Common.{◌≡◌, ℕ, ◌+◌, ◌-◌, ◌^◌, ◌<◌, ◌≤◌, List, [], ◌∷◌, length, sym, ap, ◌∙◌, subst, arith}
+use Rattle.std.specs.Prelude.{max, Result, Ok, OnOk, IfErr, String}
 use Rattle.std.proofs.lemmas.Str.{encodes-chars, IsUtf8-string_bytes}
 use Rattle.std.specs.Str.{encode_utf8_all}
 use Rattle.std.specs.Prelude.{string_bytes}
 use Rattle.std.proofs.Math.Nat.{le-max_left, le-max_right, max-le}
 use Rattle.defs_text.specs.Text.{string_chars}
 use Rattle.yaml_limits.specs.Counting.{opened_size, AreAbove, FitsIn, Counts, Counted, IsExcess}
-use Rattle.yaml_limits.specs.Extents.{single_node, extended, extent_at, scalar_extent}
-use Rattle.yaml_limits.specs.Made.{Made, nothing_made, with_part, with_node, with_kept, with_start, with_end, IsWithin}
+use Rattle.yaml_limits.specs.Extents.{single_node, extent_at}
+use Rattle.yaml_limits.specs.Made.{Made, with_part, with_node, with_kept, with_start, with_end}
 use Rattle.yaml_limits.specs.declared.count.Count.{Count}
 use Rattle.yaml_limits.specs.declared.count.Excess.{Excess}
 use Rattle.yaml_limits.specs.declared.count.Excess.TheVariants as excess
@@ -110,37 +110,6 @@ start_counted old mid new a deep e large pushed rest = record {
         within = record { size = omega arith; levels = levels };
         fits = omega arith;
         above = (omega arith, above_more m.opened m.levels (max m.levels (length m.opened + 1)) (le-max_left m.levels (length m.opened + 1)) h.above);
-        size_fits = omega arith;
-        levels_fit = omega arith;
-      };
-  err = λ m h. tt;
-  limits = ap (λ c. c.limits) rest ∙ ap (λ c. c.limits) e;
-}
-
--- a node is kept
-pub kept_counted : (old mid new : Count) (a : ℕ) (x : Extent) → (a ≡ 0 → ⊥)
-    → mid ≡ record old { size = old.size + x.size } → old.size + x.size ≤ old.limits.size
-    → ((n : ℕ) → extent_at n new.anchors.entries ≡ (if nat_eq n a then x else extent_at n mid.anchors.entries)) → new ≡ record mid { anchors = new.anchors } → Counted old (with_kept a x) (Ok tt) new
-kept_counted old mid new zero x some e large noted rest = absurd (some refl)
-kept_counted old mid new (suc k) x some e large noted rest = record {
-  ok = λ m h.
-      let limits : new.limits ≡ old.limits = ap (λ c. c.limits) rest ∙ ap (λ c. c.limits) e in
-      let size : new.size ≡ m.size + x.size = ap (λ c. c.size) rest ∙ ap (λ c. c.size) e ∙ ap (λ n. n + x.size) h.size in
-      let anchors : mid.anchors ≡ old.anchors = ap (λ c. c.anchors) e in
-      let fits = h.fits in
-      let same = h.size in
-      let most_size : new.limits.size ≡ old.limits.size = ap (λ l. l.size) limits in
-      let most_levels : new.limits.levels ≡ old.limits.levels = ap (λ l. l.levels) limits in
-      let within_levels = h.within.levels in
-      let size_fits = h.size_fits in
-      let levels_fit = h.levels_fit in
-      record {
-        size = size;
-        opened = ap (λ c. c.opened) rest ∙ ap (λ c. c.opened) e ∙ h.opened;
-        anchors = λ n. noted n ∙ ap (λ y. if nat_eq n (suc k) then x else y) (ap (λ a. extent_at n a.entries) anchors ∙ h.anchors n);
-        within = record { size = omega arith; levels = omega arith };
-        fits = omega arith;
-        above = h.above;
         size_fits = omega arith;
         levels_fit = omega arith;
       };

@@ -1,6 +1,6 @@
 -- What a load within limits gives, from what its parser did with the guard.
-use Rattle.std.proofs.Common.{◌≡◌, ℕ, ◌<◌, false, List, [], ◌∷◌, ◌++◌, refl, sym, ap, ◌∙◌, subst, inl, inr, arith}
-use Rattle.std.specs.Prelude.{Bool, Option, Some, None, Result, Ok, Err, Vec}
+use Rattle.std.proofs.Common.{◌≡◌, ℕ, ◌+◌, ◌<◌, false, List, [], ◌∷◌, ◌++◌, refl, sym, ap, ◌∙◌, subst, inl, inr, arith}
+use Rattle.std.specs.Prelude.{Bool, Option, Some, None, Result, Ok, Err, IfSome, Vec}
 use Rattle.std.specs.declared.alloc.Global.{Global}
 use Rattle.defs_text.specs.Position.{Position}
 use Rattle.defs_tree.specs.Tree.{Tree}
@@ -19,7 +19,9 @@ use Rattle.yaml_loader.specs.Loading.{loader_of, kept_fault, want_of_memory, Tak
 use Rattle.yaml_loader.specs.TextLoads.{LoadsText}
 use Rattle.yaml_loader.specs.Unread.{IsUnread, of_parser}
 use Rattle.yaml_limits.specs.Counting.{Counts, Guards, IsExcess}
-use Rattle.yaml_limits.specs.Limited.{IsMadeWithin, IsNotLoaded, Answers, unread, too_deep, too_large, error_of, GivesAll, FinishesBy, Finishes}
+use Rattle.yaml_scanner.specs.Waits.{Waits}
+use Rattle.yaml_scanner.specs.declared.fetcher.Backlog.{Backlog}
+use Rattle.yaml_limits.specs.Limited.{IsMadeWithin, IsNotLoaded, Answers, unread, too_deep, too_large, too_many, HoldsBack, error_of, GivesAll, FinishesBy, Finishes}
 use Rattle.yaml_limits.specs.Made.{Made, nothing_made, made_by, made_from, made, IsWithin}
 use Rattle.yaml_limits.specs.Sizes.{AreWithin}
 use Rattle.yaml_limits.specs.declared.count.Excess.{Excess}
@@ -70,6 +72,13 @@ given_all limits text n (Ok documents) within loads small gives =
 given_all limits text n (Err (error.Scan f)) within loads small gives = record { reads = tt; within = tt; documents = tt; fault = unread f (loads (Err f) gives) }
 given_all limits text n (Err (error.Levels p)) within loads small gives = absurd gives
 given_all limits text n (Err (error.Size p)) within loads small gives = absurd gives
+
+-- more tokens wait than may
+pub held_back : (limits : Limits) (text : List ℕ) (backlog : Option Backlog) (p : Position) (result : Result (Vec Yaml Global) LimitsError) → IfSome backlog (λ b. Waits text b.mark b.tokens) → HoldsBack limits backlog p
+    → result ≡ Err (error.Size p) → Answers limits text result
+held_back limits text None p result waits holds e = absurd holds
+held_back limits text (Some b) p result waits holds e =
+    of_fault limits text result (error.Size p) e (too_many b.tokens p (subst (λ q. Waits text q b.tokens) holds.0 waits) holds.1)
 
 by_excess : (limits : Limits) (text : List ℕ) (es : List (Ev × Position)) (e : Ev) (p : Position) (x : Excess) → BeginsEvents false text (es ++ (e, p) ∷ []) → IsWithin limits (made es)
     → IsExcess x limits (made (es ++ (e, p) ∷ [])) → IsNotLoaded limits text (error_of x p)

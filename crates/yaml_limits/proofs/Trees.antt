@@ -5,7 +5,7 @@ use Rattle.std.proofs.Math.Nat.{le-max_left, le-max_right}
 use Rattle.defs_text.specs.Position.{Position}
 use Rattle.defs_tree.specs.Tree.{Tree, real, integer, string, boolean, array, hash, alias, null, bad_value, items_of, pairs_of}
 use Rattle.defs_tree.specs.Pairs.{has_key, insert}
-use Rattle.defs_event.specs.Event.{Ev}
+use Rattle.defs_event.specs.Event.{Ev, Tag}
 use Rattle.defs_event.specs.Anchors as trees
 use Rattle.defs_event.specs.Anchors.{aliased, finished}
 use Rattle.defs_event.specs.Scalar.{scalar_tree}
@@ -13,8 +13,8 @@ use Rattle.defs_event.specs.Unfinished as reading
 use Rattle.defs_event.specs.Unfinished.{opened_sequence, opened_mapping, Unfinished, Step, reads, repeats, out_of_nesting, with_root, with_tree, with_sequence_end, with_mapping_end, with_document_end, with_event, Loader, at_work, noted, refused, new_loader, loader_after, with_event_at, with_events}
 use Rattle.yaml_loader.specs.Loads.{HasDocuments}
 use Rattle.yaml_limits.specs.Counting.{opened_size, AreAbove}
-use Rattle.yaml_limits.specs.Extents.{scalar_extent, single_node, extended, extent_at}
-use Rattle.yaml_limits.specs.Made.{Made, nothing_made, with_part, with_kept, with_start, with_end, made_by, made_from, made}
+use Rattle.yaml_limits.specs.Extents.{scalar_extent, single_node, tag_size, extended, extent_at}
+use Rattle.yaml_limits.specs.Made.{Made, nothing_made, with_part, with_tag, with_kept, with_start, with_end, made_by, made_from, made}
 use Rattle.yaml_limits.specs.Sizes.{tree_extent, items_extent, pairs_extent, document_extent, documents_size, AreNoDeeper}
 use Rattle.yaml_limits.specs.declared.count.Opened.{Opened}
 use Rattle.yaml_limits.specs.declared.extent.Extent.{Extent}
@@ -184,6 +184,16 @@ put_kept (suc n) t x u outer m opened h p =
 
 -- ---- events
 
+-- a tag, which no tree holds
+tagged : (u : Unfinished) (m : Made) (tag : Option Tag) → IsMade u m → IsMade u (with_tag tag m)
+tagged u m None h = h
+tagged u m (Some t) h = record {
+  opened = h.opened;
+  anchors = h.anchors;
+  done = done_more u.documents u.root (opened_size m.opened) m.size m.levels (opened_size m.opened) (m.size + tag_size t) m.levels h.done (omega arith) (omega arith);
+  above = h.above;
+}
+
 -- a node where it stands
 abbrev placed : Extent → Made → Made
 placed x m = record { size = m.size + x.size; levels = max m.levels (length m.opened + x.levels); opened = with_part x m.opened; anchors = m.anchors }
@@ -288,10 +298,15 @@ one_event u m (Ev.alias n) h =
     put (aliased n u.anchors) x u u.opened (placed x m) m.opened (h.anchors n) (is_placed x u m h)
 one_event u m (Ev.scalar text style a tag) h =
     let x = scalar_extent text in
-    put_kept a (scalar_tree text style tag) x u u.opened (placed x m) m.opened (of_scalar text style tag) (is_placed x u m h)
-one_event u m (Ev.sequence_start a tag) h = start (opened_sequence a []) a u m u.opened u.root (refl, same single_node) h h.opened
+    let n = with_tag tag m in
+    put_kept a (scalar_tree text style tag) x u u.opened (placed x n) n.opened (of_scalar text style tag) (is_placed x u n (tagged u m tag h))
+one_event u m (Ev.sequence_start a tag) h =
+    let k = tagged u m tag h in
+    start (opened_sequence a []) a u (with_tag tag m) u.opened u.root (refl, same single_node) k k.opened
 one_event u m Ev.sequence_end h = sequence_end u m u.opened m.opened h refl h.opened
-one_event u m (Ev.mapping_start a tag) h = start (opened_mapping a [] None) a u m u.opened u.root (refl, same single_node) h h.opened
+one_event u m (Ev.mapping_start a tag) h =
+    let k = tagged u m tag h in
+    start (opened_mapping a [] None) a u (with_tag tag m) u.opened u.root (refl, same single_node) k k.opened
 one_event u m Ev.mapping_end h = mapping_end u m u.opened m.opened h refl h.opened
 
 -- ---- loaders

@@ -1,11 +1,16 @@
--- How large nodes are. YAML 1.2, section 3.2.1 (nodes).
+-- How large nodes and tags are. YAML 1.2, sections 3.2.1 (nodes) and 6.8.2 (prefixes of tag handles).
 use Rattle.std.specs.Prelude.{ℕ, suc, ◌+◌, max, nat_eq, if◌then◌else◌, List, [], ◌∷◌, length}
 use Rattle.std.specs.Str.{encode_utf8_all}
+use Rattle.defs_event.specs.Event.{Tag}
 use Rattle.yaml_limits.specs.declared.extent.Extent.{Extent}
 
 -- a scalar with this content
 abbrev pub scalar_extent : List ℕ → Extent
 scalar_extent content = record { size = length (encode_utf8_all content) + 1; levels = 1 }
+
+-- the bytes of a tag, in which the whole prefix stands in its handle's place
+abbrev pub tag_size : Tag → ℕ
+tag_size t = length (encode_utf8_all t.handle) + length (encode_utf8_all t.suffix)
 
 -- a collection without nodes
 abbrev pub single_node : Extent

@@ -1,9 +1,11 @@
 -- What a load within limits gives. YAML 1.2, section 3.1 (construction).
-use Rattle.std.specs.Prelude.{◌≡◌, ℕ, ◌<◌, false, List, [], ◌∷◌, ◌++◌, Option, Some, None, Result, Ok, Err, IfOk, IfErr, Vec}
+use Rattle.std.specs.Prelude.{◌≡◌, ℕ, ◌+◌, ◌<◌, false, List, [], ◌∷◌, ◌++◌, Option, Some, None, Result, Ok, Err, IfOk, IfErr, IfSome, Vec}
 use Rattle.std.specs.declared.alloc.Global.{Global}
 use Rattle.defs_text.specs.Position.{Position}
 use Rattle.defs_event.specs.Event.{Ev}
 use Rattle.yaml_tokens.specs.ErrorReport.{ErrorReport}
+use Rattle.yaml_scanner.specs.Waits.{Waits}
+use Rattle.yaml_scanner.specs.declared.fetcher.Backlog.{Backlog}
 use Rattle.yaml_tree.specs.View.{items_view}
 use Rattle.yaml_tree.specs.declared.yaml.Yaml.{Yaml}
 use Rattle.proof_loads.specs.TextReadAs.{IsReadAs}
@@ -25,13 +27,15 @@ abbrev pub IsMadeWithin : Limits → List ℕ → Type 0
 IsMadeWithin limits text = (es : List (Ev × Position)) × HasEvents false text es × IsWithin limits (made es)
 
 -- Why a text is not loaded: a load without limits has this fault too; or the text's events begin so, what a load makes of those before
--- the last is within the limits, and with the last, which is at this position, it is not.
+-- the last is within the limits, and with the last, which is at this position, it is not; or, where it is read up to this position, more
+-- tokens wait than may.
 pub data IsNotLoaded (limits : Limits) (text : List ℕ) : LimitsError → Type 0 where
   unread : (f : ErrorReport) → IsUnread false text f → IsNotLoaded limits text (error.Scan f)
   too_deep : (es : List (Ev × Position)) (e : Ev) (p : Position) → BeginsEvents false text (es ++ (e, p) ∷ []) → IsWithin limits (made es)
       → limits.levels < (made (es ++ (e, p) ∷ [])).levels → IsNotLoaded limits text (error.Levels p)
   too_large : (es : List (Ev × Position)) (e : Ev) (p : Position) → BeginsEvents false text (es ++ (e, p) ∷ []) → IsWithin limits (made es)
       → limits.size < (made (es ++ (e, p) ∷ [])).size → IsNotLoaded limits text (error.Size p)
+  too_many : (count : ℕ) (p : Position) → Waits text p count → limits.size + 1000 < count → IsNotLoaded limits text (error.Size p)
 
 -- What a load of the text gives: the documents that a load without limits gives, if what it makes is within the limits, and then they are
 -- within them too; or why not.
@@ -42,6 +46,11 @@ pub record Answers (limits : Limits) (text : List ℕ) (result : Result (Vec Yam
   pub fault : IfErr result (λ e. IsNotLoaded limits text e)
 
 -- ---- on the way
+
+-- where more tokens waited than may
+abbrev pub HoldsBack : Limits → Option Backlog → Position → Type 0
+HoldsBack limits None p = ⊥
+HoldsBack limits (Some b) p = (b.mark ≡ p) × (limits.size + 1000 < b.tokens)
 
 abbrev pub error_of : Excess → Position → LimitsError
 error_of excess.Levels p = error.Levels p

@@ -1,16 +1,17 @@
 -- What a load makes of events: how many nodes, and how deep they stand one in another. An alias makes a copy of its node, with all nodes
--- in it. A node with an anchor is made twice: where it stands, and as the copy that is kept for its aliases.
--- YAML 1.2, sections 3.1 (construction), 6.9.2 (anchors) and 7.1 (aliases).
-use Rattle.std.specs.Prelude.{ℕ, zero, suc, ◌+◌, ◌≤◌, max, List, [], ◌∷◌, length}
+-- in it. A node with an anchor is made twice: where it stands, and as the copy that is kept for its aliases. A tag is made once, where its
+-- node stands: its event has it, with a copy of the whole prefix, and trees have none.
+-- YAML 1.2, sections 3.1 (construction), 6.8.2 (prefixes of tag handles), 6.9.1 (tags), 6.9.2 (anchors) and 7.1 (aliases).
+use Rattle.std.specs.Prelude.{ℕ, zero, suc, ◌+◌, ◌≤◌, max, List, [], ◌∷◌, length, Option, Some, None}
 use Rattle.defs_text.specs.Position.{Position}
-use Rattle.defs_event.specs.Event.{Ev}
-use Rattle.yaml_limits.specs.Extents.{scalar_extent, single_node, extended, extent_at}
+use Rattle.defs_event.specs.Event.{Ev, Tag}
+use Rattle.yaml_limits.specs.Extents.{scalar_extent, single_node, tag_size, extended, extent_at}
 use Rattle.yaml_limits.specs.declared.count.Opened.{Opened}
 use Rattle.yaml_limits.specs.declared.extent.Extent.{Extent}
 use Rattle.yaml_limits.specs.declared.limits.Limits.{Limits}
 
 pub record Made : Type 0 where
-  -- of all nodes together: how many there are, and the bytes of their content
+  -- of all nodes together: how many there are, and the bytes of their content and their tags
   pub size : ℕ
   -- of the deepest
   pub levels : ℕ
@@ -26,6 +27,11 @@ nothing_made = record { size = 0; levels = 0; opened = []; anchors = [] }
 abbrev pub with_part : Extent → List Opened → List Opened
 with_part x [] = []
 with_part x (c ∷ outer) = record { anchor = c.anchor; extent = extended c.extent x } ∷ outer
+
+-- a node's tag, if it has one
+abbrev pub with_tag : Option Tag → Made → Made
+with_tag None m = m
+with_tag (Some t) m = record { size = m.size + tag_size t; levels = m.levels; opened = m.opened; anchors = m.anchors }
 
 -- A node, or the copy of one, where it stands.
 abbrev pub with_node : Extent → Made → Made
@@ -48,10 +54,10 @@ with_end (c ∷ outer) m = with_kept c.anchor c.extent (record { size = m.size; 
 -- after one more event
 abbrev pub made_by : Made → Ev → Made
 made_by m (Ev.alias n) = with_node (extent_at n m.anchors) m
-made_by m (Ev.scalar content style a tag) = with_kept a (scalar_extent content) (with_node (scalar_extent content) m)
-made_by m (Ev.sequence_start a tag) = with_start a m
+made_by m (Ev.scalar content style a tag) = with_kept a (scalar_extent content) (with_node (scalar_extent content) (with_tag tag m))
+made_by m (Ev.sequence_start a tag) = with_start a (with_tag tag m)
 made_by m Ev.sequence_end = with_end m.opened m
-made_by m (Ev.mapping_start a tag) = with_start a m
+made_by m (Ev.mapping_start a tag) = with_start a (with_tag tag m)
 made_by m Ev.mapping_end = with_end m.opened m
 made_by m _ = m
 

@@ -1,16 +1,16 @@
 //! What a load makes, counted before it is made.
 ghost use Rattle.std.specs.Prelude.{◌≡◌, ◌+◌, ◌<◌, ◌≤◌, ◌^◌, ℕ, nat_eq, if◌then◌else◌, length, OnOk, IfErr};
 ghost use Rattle.defs_text.specs.Text.{string_chars};
-ghost use Rattle.yaml_parser.specs.Shown.{ev_of};
+ghost use Rattle.yaml_parser.specs.Shown.{ev_of, tag_of, perhaps_tag_of};
 ghost use Rattle.yaml_limits.specs.Counting.{Counts, Counted, FitsIn};
-ghost use Rattle.yaml_limits.specs.Extents.{extent_at, scalar_extent};
-ghost use Rattle.yaml_limits.specs.Made.{nothing_made, made_by, with_part, with_node, with_kept, with_start, with_end};
+ghost use Rattle.yaml_limits.specs.Extents.{extent_at, scalar_extent, tag_size};
+ghost use Rattle.yaml_limits.specs.Made.{nothing_made, made_by, with_part, with_tag, with_node, with_kept, with_start, with_end};
 
 use crate::extent::{Extent, SINGLE_NODE};
 use crate::limits::Limits;
 use std::alloc::{AllocError, Global};
 use std::collections::BTreeMap;
-use yaml_parser::Event;
+use yaml_parser::{Event, Tag};
 use yaml_scanner_state::Stack;
 
 /// An open collection: its anchor's number, and how large it is so far.
@@ -75,8 +75,10 @@ impl Count {
     {
         match event {
             Event::Alias(number) => self.take_alias(*number),
-            Event::Scalar(content, _, anchor, _) => self.take_scalar(content, *anchor),
-            Event::SequenceStart(anchor, _) | Event::MappingStart(anchor, _) => self.open(*anchor),
+            Event::Scalar(content, _, anchor, tag) => self.take_scalar(content, *anchor, tag),
+            Event::SequenceStart(anchor, tag) | Event::MappingStart(anchor, tag) => {
+                self.start(*anchor, tag)
+            }
             Event::SequenceEnd | Event::MappingEnd => self.close(),
             Event::Nothing
             | Event::StreamStart
@@ -92,12 +94,41 @@ impl Count {
         self.take_node(self.extent_at(number))
     }
 
-    fn take_scalar(&mut self, content: &String, anchor: usize) -> Result<(), Excess>
+    fn take_scalar(
+        &mut self,
+        content: &String,
+        anchor: usize,
+        tag: &Option<Tag>,
+    ) -> Result<(), Excess>
+        ensures { Counted self.old (λ m. with_kept anchor (scalar_extent (string_chars content.now)) (with_node (scalar_extent (string_chars content.now)) (with_tag (perhaps_tag_of tag.now) m))) result self.new }
+    {
+        self.take_tag(tag)?;
+        self.take_content(content, anchor)
+    }
+
+    fn take_content(&mut self, content: &String, anchor: usize) -> Result<(), Excess>
         ensures { Counted self.old (λ m. with_kept anchor (scalar_extent (string_chars content.now)) (with_node (scalar_extent (string_chars content.now)) m)) result self.new }
     {
         let extent = scalar_extent(content);
         self.take_node(extent)?;
         self.keep(anchor, extent)
+    }
+
+    fn start(&mut self, anchor: usize, tag: &Option<Tag>) -> Result<(), Excess>
+        ensures { Counted self.old (λ m. with_start anchor (with_tag (perhaps_tag_of tag.now) m)) result self.new }
+    {
+        self.take_tag(tag)?;
+        self.open(anchor)
+    }
+
+    // A node's tag, which its event has and its tree has not.
+    fn take_tag(&mut self, tag: &Option<Tag>) -> Result<(), Excess>
+        ensures { Counted self.old (with_tag (perhaps_tag_of tag.now)) result self.new }
+    {
+        match tag {
+            Some(tag) => self.add(tag_size(tag)),
+            None => Ok(()),
+        }
     }
 
     // A node, or the copy of one, where it stands.
@@ -218,6 +249,12 @@ impl Count {
         self.anchors.insert(anchor, extent)?;
         Ok(())
     }
+}
+
+fn tag_size(tag: &Tag) -> usize
+    ensures { result ≡ tag_size (tag_of tag.now) }
+{
+    tag.handle.as_str().len() + tag.suffix.as_str().len()
 }
 
 fn scalar_extent(content: &String) -> Extent

@@ -16,8 +16,9 @@ pub enum LimitsError {
     /// A node has too many levels, with those around it: the position of the collection or alias that is one level too
     /// deep.
     Levels(Marker),
-    /// There are too many nodes, or their content is too large: the position of the scalar, alias or start of a
-    /// collection that is too much. For the copy of a collection with an anchor, the position of its end.
+    /// There are too many nodes, or their content and tags are too large: the position of the scalar, alias or start of a
+    /// collection that is too much. For the copy of a collection with an anchor, the position of its end. Or more tokens of a
+    /// flow collection wait than may: the position up to which the text was read.
     Size(Marker),
 }
 

@@ -17,12 +17,14 @@
 //! ```
 //!
 //! - `levels` limits how deep nodes stand one in another, and so the stack of each call that recurses on the trees:
-//!   comparison, hashing, `Debug`, dump and overlay.
-//! - `size` limits how many nodes are made and how many bytes their content has, and so the memory of the load.
+//!   comparison, hashing, overlay and merge.
+//! - `size` limits how many nodes are made and how many bytes their content and their tags have, and how many tokens wait
+//!   until a flow collection that may be a key closes, and so the memory and the time of the load.
 //!
 //! What an event would make is counted before the loader has the event: an alias as the whole tree that it is a copy of, a
-//! node with an anchor once where it stands and once as the copy that is kept for its aliases (`specs/Made`). The numbers
-//! are exact: a count that does not fit in 64 bits is over every limit.
+//! node with an anchor once where it stands and once as the copy that is kept for its aliases, a tag where its node stands
+//! (`specs/Made`). A tag is a copy of the prefix that its handle stands for: under a `%TAG` whose prefix has 50,000
+//! characters each `!e!a` copies as many. The numbers are exact: a count that does not fit in 64 bits is over every limit.
 //!
 //! `Ok` is what `YamlLoader::load_from_str` gives for the text. [`LimitsError`] tells the text's fault from a limit.
 #![tactic(auto)]

@@ -16,6 +16,12 @@ use yaml_parser::Parser;
 use yaml_tree::Yaml;
 
 /// Loads all documents of a text, as `YamlLoader::load_from_str` does, if they are within limits.
+///
+/// # Errors
+///
+/// `Scan` has the text's fault, or says that memory was refused. `Levels` and `Size` have the position of the first event
+/// by which the load would make more than the limits allow;
+/// or, of tokens that wait, the position up to which the text was read.
 pub fn load_with_limits(alloc: Global, text: &str, limits: Limits) -> Result<Vec<Yaml>, LimitsError>
     ensures { Answers limits (up_to_nul (chars text.now)) result }
 {
@@ -35,11 +41,15 @@ fn load_known<S: Characters>(
 {
     let mut guard = Guard::new(alloc, limits);
     let mut parser = Parser::new(alloc, source);
+    parser.set_room(limits.room());
     texts_are_answered::<Guard>();
     taken_texts_are_loaded();
     taken_events_are_read();
     refused_texts_want_memory();
     let outcome = parser.load(&mut guard, true);
     parser.note();
-    guard.finish(outcome)
+    match limits.excess(parser.backlog()) {
+        Some(mark) => Err(LimitsError::Size(mark)),
+        None => guard.finish(outcome),
+    }
 }

@@ -39,6 +39,7 @@ told taken done = record {
   left = 0;
   taken = taken;
   done = done;
+  backlog = None;
 }
 
 -- what holds of each text that begins with what came from a text in memory holds of that text

@@ -92,8 +92,8 @@ impl YamlLoader {
     }
 
     /// Loads all documents of the characters that an iterator gives, up to its first `None` or NUL. After that the
-    /// iterator is not asked again. Errors and promises are those of [`YamlLoader::load_from_str`], which is faster for a
-    /// text in memory.
+    /// iterator is not asked again. Promises are those of [`YamlLoader::load_from_str`], which is faster for a text in
+    /// memory.
     ///
     /// Conditions, which a proof must show: the iterator can be asked, comes to an end, and gives fewer than 2^63 characters.
     /// An iterator over a text in memory, such as `text.chars()`, meets them.
@@ -104,6 +104,10 @@ impl YamlLoader {
     /// let documents = YamlLoader::load_from_iter(alloc, "- a\n---\n- b\n".chars())?;
     /// assert_eq!(rt; documents.len(), 2);
     /// ```
+    ///
+    /// # Errors
+    ///
+    /// Those of [`YamlLoader::load_from_str`].
     pub fn load_from_iter<I: Iterator<Item = char> + Drop>(
         alloc: Global,
         source: I,

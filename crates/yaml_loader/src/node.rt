@@ -237,7 +237,7 @@ fn text_of_key(alloc: Global, key: &Yaml) -> Result<String, AllocError>
     Ok(text)
 }
 
-// The key as `Debug` shows it. A string is written here, since no clause says what the derived `Debug` writes.
+// The key as `Debug` shows it. A string is written here, since no clause says what `Debug` writes.
 fn shown_key(alloc: Global, key: &Yaml) -> Result<String, AllocError>
     ensures { IfOk result (λ text. IfSome (shown_key (view key.now)) (λ known. string_bytes text ≡ known)) }
 {

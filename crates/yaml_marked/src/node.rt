@@ -13,7 +13,7 @@ use yaml_tree::Yaml;
 ///
 /// A node begins where the event does that starts it (`Parser::next_token`): a scalar, an alias and a flow collection at
 /// their first character, after an anchor and a tag. A block sequence begins at its first `-`, and a block mapping at its
-/// first key, but after an anchor or a tag on a line of its own. A node that is not written begins where it was missed.
+/// first `?`, or at the `:` of its first pair. A node that is not written begins where it was missed.
 ///
 /// An alias begins at its `*`. Its tree is a copy, whose parts have the positions of the tree that was copied.
 #[derive(Clone, Copy)]

@@ -23,6 +23,7 @@ use std::mem;
 use std::str::Chars;
 use yaml_chars::history::History;
 use yaml_chars::{Characters, Marker};
+use yaml_scanner::Backlog;
 use yaml_tokens::{Fault, Problem, ScanError};
 
 /// Notes an event, unless the stream's end was given before.
@@ -216,6 +217,10 @@ impl<T: Characters> Parser<T> {
 
     /// Looks at the next event. After that `waiting` shows it, and the next call of `next_token` gives it. The two
     /// calls do what `peek` does; use them to prove something, since a proof learns more from their contracts.
+    ///
+    /// # Errors
+    ///
+    /// Those of [`next_token`](Parser::next_token).
     pub fn look(&mut self) -> Result<(), ScanError>
         ensures looks { Looks (parsed self.old) result (parsed self.new) }
         ensures start { self.new.start ≡ self.old.start }
@@ -326,6 +331,21 @@ impl<T: Characters> Parser<T> {
         self.started = true;
         self.ended = ends(self.ended, &next.0);
         next
+    }
+
+    /// Leaves room for so many tokens that wait, as [`Scanner::set_room`](yaml_scanner::Scanner::set_room) has it. Where more wait, the
+    /// fault is that of refused memory, and [`backlog`](Parser::backlog) tells it from others.
+    pub fn set_room(&mut self, tokens: usize)
+        ensures { self.new ≡ self.old }
+    {
+        self.pull.reader.tokens.scanner.set_room(tokens);
+    }
+
+    /// Where more tokens waited than there was room for, or `None`. It takes no memory.
+    pub fn backlog(&self) -> Option<Backlog>
+        ensures { result ≡ (parsed self.now).scanner.backlog }
+    {
+        self.pull.reader.tokens.scanner.backlog()
     }
 
     /// Does nothing. A proof learns from it that the characters read are those that the iterator gave.

@@ -62,6 +62,7 @@ pub use Rattle.yaml_emitter.specs.ValidTree
 pub use Rattle.yaml_emitter.specs.Writing
 pub use Rattle.yaml_scanner.specs.Rowless
 pub use Rattle.yaml_scanner.specs.Scanned
+pub use Rattle.yaml_scanner.specs.Waits
 pub use Rattle.yaml_scanner.specs.Next
 pub use Rattle.yaml_parser.specs.Apart
 pub use Rattle.yaml_parser.specs.Blames

@@ -17,6 +17,7 @@ use Rattle.model_scanner.specs.Run.{Reaches, here, HasTokens, IsRefused, start, 
 use Rattle.model_scanner.proofs.Runs.{one_more, run_to_end, one_list, one_fault, not_refused}
 use Rattle.model_scanner.proofs.Given.{GivenStands, KeysFrom, reached}
 use Rattle.model_scanner.proofs.Ends.{end_is_last}
+use Rattle.yaml_scanner.specs.declared.fetcher.Backlog.{Backlog}
 use Rattle.yaml_scanner.specs.declared.fetcher.Fetcher.{Fetcher}
 use Rattle.yaml_scanner.specs.declared.fetcher.KeptFault.{KeptFault}
 use Rattle.yaml_scanner_state.specs.declared.keys.ImplicitKey.{ImplicitKey}
@@ -26,23 +27,25 @@ use Rattle.yaml_scanner_state.specs.Tokens.{Tokens, handed, is_end, has_end}
 use Rattle.yaml_scanner.specs.Work.{Fetches}
 use Rattle.yaml_scanner.specs.Follows.{BeginsWith, IsReached, FollowsIn, Follows}
 use Rattle.yaml_scanner.specs.Rowless.{HasNoRow}
+use Rattle.yaml_scanner.specs.Waits.{comes_before}
 use Rattle.yaml_scanner.specs.Scanned.{Scanned, inside, kept_fault, IsRefusal, Scans, LeavesNoRow}
 use Rattle.yaml_scanner_state.proofs.GivenLemmas.{lowered_seen}
 use Rattle.yaml_scanner.proofs.WhereLemmas.{in_text, at_end, not_started, has_started}
 use Rattle.yaml_scanner_state.proofs.QueueLemmas.{has_end_append}
-use Rattle.yaml_chars.specs.Reading.{HasNoNul}
+use Rattle.yaml_chars.specs.Reading.{HasNoNul, position_of}
 use Rattle.defs_text.specs.Classes.{is_nul}
 use Rattle.defs_token.specs.Cut.{IsCut, IsCutOfBeginning, tokens_of, end_token}
 use Rattle.defs_text.specs.Text.{has_no_nul}
 use Rattle.proof_cut.proofs.Fetched.{tokens_are_cut}
+use Rattle.proof_cut.proofs.Scalars.{same_number}
 use Rattle.proof_cut.proofs.Faults.Fetches.{faults_stand}
 use Rattle.proof_cut.proofs.Beginnings.{first_tokens_are_cut}
 use Rattle.proof_row_complete.proofs.Complete.{texts_with_a_row_are_read}
 use Rattle.proof_refusals.proofs.Refusals.{refused_texts_are_stuck}
 
 -- before a text
-pub starts : {T : Type 0} (x : Fetcher T) → held x ≡ nothing_held → x.window.at ≡ 0 → x.kept ≡ None → handed x.tokens ≡ [] → x.tokens.over ≡ false → Follows x
-starts x e n k h o = λ a p. record {
+pub starts : {T : Type 0} (x : Fetcher T) → held x ≡ nothing_held → x.window.at ≡ 0 → x.kept ≡ None → handed x.tokens ≡ [] → x.tokens.over ≡ false → x.backlog ≡ None → Follows x
+starts x e n k h o b = λ a p. record {
   run = λ _ _. subst (λ t. Reaches (start a) t) (sym (ap (λ m. state (drop m a) x) n ∙ ap (λ h. record { rest = a; held = h }) e)) here;
   all = λ _ f. let g : x.tokens.ended ≡ false = ap (λ h. h.ended) e in absurd cc;
   done = λ _ f. let g : x.tokens.ended ≡ false = ap (λ h. h.ended) e in absurd cc;
@@ -51,6 +54,7 @@ starts x e n k h o = λ a p. record {
   whole = λ f. absurd cc;
   refused = rw k tt;
   open_end = λ _. rw h refl;
+  backlog = rw b tt;
 }
 
 -- a fetch more
@@ -67,6 +71,7 @@ fetched_on x y k g f d m n = λ a p.
       whole = λ o. rw m.given (old.whole (sym m.over ∙ o));
       refused = rw (m.fault, k) tt;
       open_end = λ o. rw m.given (old.open_end (sym m.over ∙ o));
+      backlog = rw m.backlog old.backlog;
     }
 
 -- a refusal, which is then kept
@@ -82,7 +87,48 @@ stopped x y e k i n g f d m = λ a p.
       whole = λ o. rw m.given (old.whole (sym m.over ∙ o));
       refused = λ q. rw i (record { last = state (drop x.window.at a) x; run = old.run n g; going = g; refused = d.runs.reads a p (λ z. q (i ∙ z)) });
       open_end = λ o. rw m.given (old.open_end (sym m.over ∙ o));
+      backlog = rw m.backlog old.backlog;
     }
+
+-- ---- tokens that wait
+
+-- a key that may come before the next token, by the number of that token
+is_numbered : (given : ℕ) (ks : List (Option ImplicitKey)) → list_any is_front ks ≡ true → list_any (comes_before given) (seen given ks) ≡ true
+is_numbered given [] e = absurd cc
+is_numbered given (None ∷ ks) e = is_numbered given ks e
+is_numbered given (Some k ∷ ks) e = by (k.position == 0) refl e (is_numbered given ks)
+  where
+    or_true_last : (b : Bool) → (b || true) ≡ true
+    or_true_last true = refl
+    or_true_last false = refl
+
+    by : (b : Bool) → (k.position == 0) ≡ b → (b || list_any is_front ks) ≡ true → (list_any is_front ks ≡ true → list_any (comes_before given) (seen given ks) ≡ true)
+        → ((given + k.position == given) || list_any (comes_before given) (seen given ks)) ≡ true
+    by true z h rest = rw (eqb-true k.position 0 z, same_number given) refl
+    by false z h rest = rw (rest h) (or_true_last (given + k.position == given))
+
+-- more tokens wait than there is room for, and the fault is kept
+pub held_up : {T : Type 0} (x : Fetcher T) (b : Backlog) (k : KeptFault) (d : Fault) → x.kept ≡ None → x.tokens.ended ≡ false → Follows x → list_any is_front x.keys ≡ true → x.tokens.given + b.tokens ≡ length x.tokens.all → b.mark ≡ position_of x.window
+    → k.fault ≡ OutOfMemory → Follows (record x { backlog = Some b; kept = Some k; fault = d })
+held_up x b k d n g f front count at e = λ a p.
+    let old = f a p in
+    record {
+      run = λ c _. absurd cc;
+      all = λ c _. absurd cc;
+      done = λ c _. absurd cc;
+      reached = old.reached;
+      begins = old.begins;
+      whole = old.whole;
+      refused = λ q. absurd (q e);
+      open_end = old.open_end;
+      backlog = record { last = state (drop x.window.at a) x; run = old.run n g; going = g; is_here = sym at; before = x.tokens.given; may = is_numbered x.tokens.given x.keys front; tokens = count };
+    }
+
+-- the room is of no account
+pub with_room : {T : Type 0} (x : Fetcher T) (n : ℕ) → Follows x → Follows (record x { room = n })
+with_room x n f = λ a p.
+    let old = f a p in
+    record { run = old.run; all = old.all; done = old.done; reached = old.reached; begins = old.begins; whole = old.whole; refused = old.refused; open_end = old.open_end; backlog = old.backlog }
 
 -- ---- a token is handed out
 
@@ -203,6 +249,7 @@ module _ {T : Type 0} (x : Fetcher T) (a : List ℕ) (t : Token) (old : FollowsI
     whole = λ o. whole_after x.tokens.ended refl g (or_true x.tokens.over (is_end t.tok) over o);
     refused = rw kept tt;
     open_end = λ o. rw g (open_after (handed x.tokens) t x.tokens.over over (old.open_end over) o);
+    backlog = old.backlog;
   }
 
 -- a token more is handed out
@@ -301,6 +348,7 @@ scans_from x f = record {
         wants = memory_says x.kept;
         refused = is_refusal x.kept a s.refused;
         same = one_refusal x.kept a s.refused;
+        waits = s.backlog;
       };
 }
 

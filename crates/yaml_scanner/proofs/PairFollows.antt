@@ -48,6 +48,7 @@ fetched_twice x y k g f d m n = λ a p.
       whole = λ o. rw m.given (old.whole (sym m.over ∙ o));
       refused = rw (m.fault, k) tt;
       open_end = λ o. rw m.given (old.open_end (sym m.over ∙ o));
+      backlog = rw m.backlog old.backlog;
     }
 
 -- memory was refused, as callers see it
@@ -221,7 +222,7 @@ module _ {T : Type 0} (x : Fetcher T) (w : Reading T) (key : List ℕ) (colon : 
       fetched_twice x y s.kept s.ended f
       (Reads-map _ _ t.reads (λ a b r. subst (λ h. FetchesTwice (record { rest = a; held = h }) (state b y)) (sym old) (subst (λ h. FetchesTwice (record { rest = a; held = before }) (record { rest = b; held = h })) (sym new)
       (rw r.0 (key_fetched p x.tokens.all ks o.ds x.leading x.adjacent_value_at free o.block opens key b t.simple t.short r.1)))))
-      (record { given = rw z.waits (taken_all x.tokens.all (key_tokens p key colon) (length x.tokens.all) refl ∙ sym (all_of x.tokens.all)); over = refl; fault = refl })
+      (record { given = rw z.waits (taken_all x.tokens.all (key_tokens p key colon) (length x.tokens.all) refl ∙ sym (all_of x.tokens.all)); over = refl; fault = refl; backlog = refl })
       (λ e. absurd (cc (e, s.ended)))
 
   pub key_follows : Follows x → Follows (key_fetcher (x.tokens.given + 2))
@@ -305,7 +306,7 @@ module _ {T : Type 0} (x : Fetcher T) (w : Reading T) (value : List ℕ) (at : P
         runs = Reads-map _ _ t.reads (λ a b r. subst (λ h. fetch (record { rest = a; held = h }) ≡ Ok (state b y)) (sym old) (subst (λ h. fetch (record { rest = a; held = before }) ≡ Ok (record { rest = b; held = h })) (sym new)
             (rw r.0 (value_fetched q x.tokens.all ks x.levels.indent limit l.indents x.leading x.adjacent_value_at free split.1 z.deep z.off value t.spaces b t.simple r.1 t.low))));
       })
-      (record { given = same; over = refl; fault = refl })
+      (record { given = same; over = refl; fault = refl; backlog = refl })
       (λ e. absurd (cc (e, s.ended)))
 
   pub value_follows : Follows x → Follows (value_fetcher (x.tokens.given + 2))

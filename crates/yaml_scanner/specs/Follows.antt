@@ -9,6 +9,7 @@ use Rattle.model_scanner.specs.Run.{Reaches, HasTokens, IsRefused, start}
 use Rattle.yaml_scanner.specs.declared.fetcher.Fetcher.{Fetcher}
 use Rattle.yaml_scanner_state.specs.Tokens.{handed, has_end}
 use Rattle.yaml_scanner.specs.Shape.{state}
+use Rattle.yaml_scanner.specs.Waits.{Waits}
 
 -- a list begins with another
 pub record BeginsWith (xs ys : List Token) : Type 0 where
@@ -40,6 +41,8 @@ pub record FollowsIn {T : Type 0} (a : List ℕ) (s : Fetcher T) : Type 0 where
   pub refused : IfSome s.kept (λ k. k.fault ≢ OutOfMemory → IsRefused a k.fault)
   -- until the stream's end was handed out it is none of what was
   pub open_end : s.tokens.over ≡ false → has_end (handed s.tokens) ≡ false
+  -- where more tokens waited than there was room for, they wait in the text
+  pub backlog : IfSome s.backlog (λ b. Waits a b.mark b.tokens)
 
 -- whatever the text is
 abbrev pub Follows : {T : Type 0} → Fetcher T → Type 0

@@ -12,10 +12,12 @@ use Rattle.model_scanner.specs.Document.{next_line}
 use Rattle.model_scanner.specs.Run.{HasTokens, IsRefused}
 use Rattle.proof_cut.specs.Faults.{IsThere, is_shown}
 use Rattle.proof_cut.specs.Positions.{IsPositionIn}
+use Rattle.yaml_scanner.specs.declared.fetcher.Backlog.{Backlog}
 use Rattle.yaml_scanner.specs.declared.fetcher.Fetcher.{Fetcher}
 use Rattle.yaml_scanner.specs.declared.fetcher.KeptFault.{KeptFault}
 use Rattle.yaml_scanner.specs.Follows.{BeginsWith, IsReached}
 use Rattle.yaml_scanner.specs.Rowless.{HasNoRow}
+use Rattle.yaml_scanner.specs.Waits.{Waits}
 use Rattle.yaml_scanner_state.specs.Tokens.{handed, waiting, is_end}
 use Rattle.yaml_scanner.specs.Work.{work}
 
@@ -36,6 +38,8 @@ pub record Scanned : Type 0 where
   -- the characters taken from the iterator, and whether they are all
   pub taken : List ℕ
   pub done : Bool
+  -- where more tokens waited than there was room for
+  pub backlog : Option Backlog
 
 abbrev pub kept_fault : KeptFault → ErrorReport
 kept_fault k = fault_of k.fault k.mark
@@ -52,6 +56,7 @@ inside s = record {
   left = work s;
   taken = s.window.taken;
   done = s.window.done;
+  backlog = s.backlog;
 }
 
 -- What clauses see of a scanner: the iterator as it was given, and what was read and handed out so far.
@@ -105,6 +110,8 @@ pub record ScansIn (a : List ℕ) (s : Scanned) : Type 0 where
   -- a fault other than out of memory is the text's refusal, of which there is one
   pub refused : IfSome s.fault (λ f. f.memory ≡ false → IsRefusal a f)
   pub same : (e : code.Fault) → IsRefused a e → IfSome s.fault (λ f. f.memory ≡ false → (p : Position) × (f ≡ fault_of e p))
+  -- tokens that waited without room wait in the text
+  pub waits : IfSome s.backlog (λ b. Waits a b.mark b.tokens)
 
 -- What was handed out, and the fault, whatever the text is.
 pub record Scans (s : Scanned) : Type 0 where

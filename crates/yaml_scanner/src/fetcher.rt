@@ -16,6 +16,15 @@ pub struct KeptFault {
     pub mark: Marker,
 }
 
+/// Where more tokens waited than there was room for.
+#[derive(Clone, Copy, Debug, PartialEq, Eq)]
+pub struct Backlog {
+    /// The position of the scanner, after the characters that it had read.
+    pub mark: Marker,
+    /// How many tokens waited, since a key might still have come before the first of them.
+    pub tokens: usize,
+}
+
 /// Fetches tokens. Its fields are what the functions of all token kinds share.
 #[derive(Drop)]
 pub struct Fetcher<T: Characters> {
@@ -31,6 +40,10 @@ pub struct Fetcher<T: Characters> {
     pub(crate) leading: bool,
     // Where a `:` may stand right after a quoted scalar or a flow collection.
     pub(crate) adjacent_value_at: usize,
+    // How many tokens may wait where one more is asked for.
+    pub(crate) room: usize,
+    // Where more of them waited.
+    pub(crate) backlog: Option<Backlog>,
     pub(crate) started: bool,
     pub(crate) kept: Option<KeptFault>,
     // The fault that was met last, where a function gave `Failed`.
@@ -59,6 +72,7 @@ impl<T: Characters> Fetcher<T> {
         ensures kept { result.kept ≡ None }
         ensures tokens { handed result.tokens ≡ [] }
         ensures over { result.tokens.over ≡ false }
+        ensures backlog { result.backlog ≡ None }
         ensures follows { Follows result }
         ensures start { result.window.start ≡ iter }
     {
@@ -72,6 +86,8 @@ impl<T: Characters> Fetcher<T> {
             key_allowed: true,
             leading: true,
             adjacent_value_at: 0,
+            room: usize::MAX,
+            backlog: None,
             started: false,
             kept: None,
             fault: Fault::OutOfMemory,

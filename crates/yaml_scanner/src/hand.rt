@@ -7,9 +7,10 @@ ghost use Rattle.yaml_scanner.specs.Follows.{Follows};
 ghost use Rattle.yaml_scanner_state.specs.ImplicitKeys.{is_front};
 ghost use Rattle.yaml_scanner.specs.Scanned.{inside, kept_fault, HandsOut};
 ghost use Rattle.yaml_scanner_state.specs.Tokens.{waiting, handed, is_end};
-ghost use Rattle.yaml_scanner.specs.Work.{Fetches, work};
+ghost use Rattle.yaml_scanner.specs.Work.{Fetches, Fills, work};
+ghost use Rattle.yaml_scanner.specs.declared.fetcher.Backlog.{Backlog};
 
-use crate::fetcher::{Failed, Fetcher, KeptFault};
+use crate::fetcher::{Backlog, Failed, Fetcher, KeptFault};
 use yaml_chars::Characters;
 use yaml_tokens::{Fault, ScanError, Token};
 
@@ -58,12 +59,13 @@ impl<T: Characters> Fetcher<T> {
         Ok(())
     }
 
-    /// Fetches tokens until the next one can be handed out: until no key may come before it.
+    /// Fetches tokens until the next one can be handed out: until no key may come before it. Where more wait before that than
+    /// there is room for, the fault is that of refused memory.
     #[inline(always)]
     pub(crate) fn fill(&mut self) -> Result<(), Failed>
         requires kept { self.old.kept ≡ None }
         requires follows { Follows self.old }
-        ensures run { Fetches self.old self.new }
+        ensures run { Fills self.old self.new }
         ensures start { self.new.window.start ≡ self.old.window.start }
         ensures left { OnOk result (work self.new ≤ work self.old) }
         ensures some { OnOk result (self.new.tokens.ended ≡ false → 0 < waiting self.new.tokens) }
@@ -83,7 +85,7 @@ impl<T: Characters> Fetcher<T> {
     fn fill_more(&mut self) -> Result<(), Failed>
         requires kept { self.old.kept ≡ None }
         requires follows { Follows self.old }
-        ensures run { Fetches self.old self.new }
+        ensures run { Fills self.old self.new }
         ensures start { self.new.window.start ≡ self.old.window.start }
         ensures left { OnOk result (work self.new ≤ work self.old) }
         ensures some { OnOk result (self.new.tokens.ended ≡ false → 0 < waiting self.new.tokens) }
@@ -93,6 +95,9 @@ impl<T: Characters> Fetcher<T> {
         ensures err { IfErr result (λ _. (mark : Position) → Follows (record self.new { kept = Some (record { fault = self.new.fault; mark = mark }) })) }
     {
         'tokens: while !self.is_ready() {
+            if self.tokens.len() > self.room {
+                return Err(self.hold_up());
+            }
             if let Err(failed) = self.fetch_one() {
                 return Err(failed);
             }
@@ -100,9 +105,29 @@ impl<T: Characters> Fetcher<T> {
         Ok(())
     }
 
+    /// Notes the tokens that wait, where there is no room for them.
+    #[inline(never)]
+    fn hold_up(&mut self) -> Failed
+        requires kept { self.old.kept ≡ None }
+        requires going { self.old.tokens.ended ≡ false }
+        requires front { list_any is_front self.old.keys ≡ true }
+        requires follows { Follows self.old }
+        ensures run { Fills self.old self.new }
+        ensures start { self.new.window.start ≡ self.old.window.start }
+        ensures err { (mark : Position) → Follows (record self.new { kept = Some (record { fault = self.new.fault; mark = mark }) }) }
+    {
+        self.backlog = Some(Backlog {
+            mark: self.window.mark(),
+            tokens: self.tokens.len(),
+        });
+        self.fault = Fault::OutOfMemory;
+        Failed
+    }
+
     /// Whether the next token can be handed out, or the stream's end was fetched.
     fn is_ready(&self) -> bool
         ensures ended { result ≡ false → self.now.tokens.ended ≡ false }
+        ensures waits { result ≡ false → 0 < waiting self.now.tokens → list_any is_front self.now.keys ≡ true }
         ensures some { result ≡ true → self.now.tokens.ended ≡ false → 0 < waiting self.now.tokens }
         ensures front { result ≡ true → self.now.tokens.ended ≡ false → list_any is_front self.now.keys ≡ false }
     {
@@ -111,6 +136,7 @@ impl<T: Characters> Fetcher<T> {
 
     /// Whether the next token may still get a key before it.
     fn needs_more(&self) -> bool
+        ensures waits { result ≡ true → 0 < waiting self.now.tokens → list_any is_front self.now.keys ≡ true }
         ensures some { result ≡ false → 0 < waiting self.now.tokens }
         ensures front { result ≡ false → list_any is_front self.now.keys ≡ false }
     {

@@ -13,5 +13,6 @@ mod public;
 mod scanner;
 mod space;
 
+pub use fetcher::Backlog;
 pub use pairs::PlainNode;
 pub use scanner::Scanner;

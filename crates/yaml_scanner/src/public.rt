@@ -10,7 +10,7 @@ ghost use Rattle.defs_text.specs.Text.{string_chars};
 ghost use Rattle.defs_token.specs.Token.{Style, Tok};
 ghost use Rattle.model_scanner.specs.State.{token};
 
-use crate::fetcher::Fetcher;
+use crate::fetcher::{Backlog, Fetcher};
 use crate::pairs::PlainNode;
 use crate::scanner::Scanner;
 use std::alloc::Global;
@@ -36,6 +36,24 @@ impl<T: Characters> Scanner<T> {
         Scanner {
             fetcher: Fetcher::new(alloc, iter),
         }
+    }
+
+    /// Leaves room for so many tokens that wait. In a flow collection that may be a key all tokens wait until its bracket
+    /// closes: a key may still come before the first of them. Where more tokens wait than there is room for, and another must be
+    /// read before the first can be handed out, the fault is that of refused memory, and [`backlog`](Scanner::backlog) tells it
+    /// from others.
+    pub fn set_room(&mut self, tokens: usize)
+        ensures { self.new ≡ self.old }
+    {
+        self.fetcher.room = tokens;
+    }
+
+    /// Where more tokens waited than there was room for, or `None`. It takes no memory.
+    pub fn backlog(&self) -> Option<Backlog>
+        ensures value { result ≡ (scanned self.now).backlog }
+        ensures scans { Scans (scanned self.now) }
+    {
+        self.fetcher.backlog
     }
 
     /// The fault that is kept, or `None`. It takes no memory.
