@@ -1,6 +1,6 @@
-//! What each layer answers, call by call: tokens, events, trees and dumps; copies and faults; what is refused by
-//! readers that fail after each number of bytes, by writers that refuse each of their calls or each byte, and for events out
-//! of nesting.
+//! What each layer answers, call by call: tokens, events, trees and dumps; copies and faults; how trees print; what is
+//! refused by readers that fail after each number of bytes, by writers that refuse each of their calls or each byte, and
+//! for events out of nesting.
 #![tactic(auto)]
 
 #[cfg(test)]
@@ -23,6 +23,8 @@ mod made;
 mod nodes;
 #[cfg(test)]
 mod pairs;
+#[cfg(test)]
+mod printed;
 #[cfg(test)]
 mod pushes;
 #[cfg(test)]

@@ -4,6 +4,8 @@
 pub mod agreement;
 pub mod anchors;
 pub mod calls;
+pub mod comparisons;
+pub mod defaults;
 #[cfg(test)]
 mod examples;
 pub mod front_matter;
@@ -15,6 +17,8 @@ pub mod many_documents;
 #[cfg(test)]
 mod marked_tests;
 pub mod merged_settings;
+#[cfg(test)]
+mod missing_tests;
 pub mod one_by_one;
 #[cfg(test)]
 mod paths_tests;
@@ -24,4 +28,5 @@ pub mod round_trip;
 pub mod rows;
 pub mod settings;
 pub mod strangers;
+pub mod typed_reads;
 pub mod validator;

@@ -70,10 +70,16 @@ fn lists_are_read_with_their_types(rt: HostRuntime) -> Result<(), Fail> {
     Ok(())
 }
 
+const BELOW_HOST: &[Step<'static>] = &[Key("server"), Key("host"), Key("x"), Index(0)];
+
+const BELOW_PORTS: &[Step<'static>] = &[Key("server"), Key("ports"), Key("x")];
+
+const BELOW_SERVER: &[Step<'static>] = &[Key("server"), Index(0)];
+
 // What stands there, its path, and what is said of a number there.
 type Row = (&'static str, &'static [Step<'static>], &'static str);
 
-const NUMBERS: [Row; 3] = [
+const NUMBERS: [Row; 6] = [
     (
         "a string",
         HOST,
@@ -88,6 +94,21 @@ const NUMBERS: [Row; 3] = [
         "an array",
         PORTS,
         "line 5, column 10: $[\"server\"][\"ports\"]: an array, where an integer is wanted",
+    ),
+    (
+        "a string on the way",
+        BELOW_HOST,
+        "line 3, column 9: $[\"server\"][\"host\"]: a string, where a hash is wanted",
+    ),
+    (
+        "an array on the way",
+        BELOW_PORTS,
+        "line 5, column 10: $[\"server\"][\"ports\"]: an array, where a hash is wanted",
+    ),
+    (
+        "a hash on the way",
+        BELOW_SERVER,
+        "line 2, column 7: $[\"server\"]: a hash, where an array is wanted",
     ),
 ];
 

@@ -10,6 +10,9 @@ use std::alloc::Global;
 use yaml_limits::{Limits, LimitsError, load_with_limits};
 use yaml_rust2::Yaml;
 
+#[cfg(test)]
+mod tests;
+
 /// The documents of a text that a stranger wrote, with at most so many levels. An `Err` is the text's fault, or says where
 /// the text is too deep or too large.
 pub fn load_from_stranger(

@@ -3,7 +3,8 @@ use Rattle.std.specs.Prelude.{◌≡◌, ◌≢◌, ◌⊎◌, ℕ, List, [], �
 use Rattle.defs_json.specs.Fault as json
 use Rattle.defs_tree.specs.Tree.{Tree}
 use Rattle.yaml_paths.specs.Kinds.{kind_of}
-use Rattle.yaml_paths.specs.Path.{steps_of, node_at, missing_at}
+use Rattle.yaml_paths.specs.NoNode.{fault_at}
+use Rattle.yaml_paths.specs.Path.{steps_of, node_at}
 use Rattle.yaml_paths.specs.declared.error.ReadError.{ReadError}
 use Rattle.yaml_paths.specs.declared.error.Reason.{Reason}
 use Rattle.yaml_paths.specs.declared.error.Reason.TheVariants.{Missing, Other, OutOfMemory}
@@ -11,14 +12,26 @@ use Rattle.yaml_paths.specs.declared.kind.Kind.{Kind}
 use Rattle.yaml_paths.specs.declared.kind.Kind.TheVariants as kind
 use Rattle.yaml_tree.specs.View.{array_tree}
 
--- A node is missing, or there is one at the end of the path, of another kind than was wanted.
+-- The path leads to no node, for this reason, and the error has the path of what it is about.
+abbrev pub LeadsNowhere : List json.Step → Tree → ReadError → Reason → Type 0
+LeadsNowhere path t e why = fault_at path t ≡ Some (steps_of e.path.now, why)
+
+-- There is a node at the end of the path, of another kind than was wanted.
+abbrev pub EndsAtOther : Kind → List json.Step → Tree → ReadError → Kind → Kind → Type 0
+EndsAtOther wanted path t e w found = (steps_of e.path.now ≡ path) × (w ≡ wanted) × (option_map kind_of (node_at path t) ≡ Some found) × (found ≢ wanted)
+
+-- A node is missing; or one on the way is of another kind than its step wants, or the one at the end than was wanted.
 abbrev pub ExplainsAs : Kind → List json.Step → Tree → ReadError → Reason → Type 0
-ExplainsAs wanted path t e Missing = missing_at path t ≡ Some (steps_of e.path.now)
-ExplainsAs wanted path t e (Other w found) = (steps_of e.path.now ≡ path) × (w ≡ wanted) × (option_map kind_of (node_at path t) ≡ Some found) × (found ≢ wanted)
+ExplainsAs wanted path t e Missing = LeadsNowhere path t e Missing
+ExplainsAs wanted path t e (Other w found) = LeadsNowhere path t e (Other w found) ⊎ EndsAtOther wanted path t e w found
 ExplainsAs wanted path t e OutOfMemory = ⊥
 
 abbrev pub Explains : Kind → List json.Step → Tree → ReadError → Type 0
 Explains wanted path t e = (e.item ≡ None) × ExplainsAs wanted path t e e.reason
+
+-- the same, where a node that is missing is no error
+abbrev pub ExplainsOther : Kind → List json.Step → Tree → ReadError → Type 0
+ExplainsOther wanted path t e = Explains wanted path t e × (e.reason ≢ Missing)
 
 -- all are of this kind
 abbrev pub AreOf : Kind → List Tree → Type 0

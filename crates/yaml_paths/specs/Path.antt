@@ -1,5 +1,5 @@
 -- Paths: rows of steps from a node down.
-use Rattle.std.specs.Prelude.{List, [], ◌∷◌, Option, Some, None, option_map, option_and_then, slice_get, map, chars}
+use Rattle.std.specs.Prelude.{List, [], ◌∷◌, Option, Some, option_and_then, slice_get, map, chars}
 use Rattle.defs_json.specs.Fault as json
 use Rattle.defs_json.specs.Fault.{index, key}
 use Rattle.defs_tree.specs.Tree.{Tree}
@@ -23,13 +23,3 @@ step_from (key s) t = value_at_text s t
 abbrev pub node_at : List json.Step → Tree → Option Tree
 node_at [] t = Some t
 node_at (s ∷ ss) t = option_and_then (node_at ss) (step_from s t)
-
--- the path of the node at the end of a step, if there is no such node; else the path from there, if there is one
-abbrev pub missing_after : json.Step → (Tree → Option (List json.Step)) → Option Tree → Option (List json.Step)
-missing_after s further None = Some (s ∷ [])
-missing_after s further (Some u) = option_map (λ p. s ∷ p) (further u)
-
--- the shortest beginning of a path that leads to no node, if there is one
-abbrev pub missing_at : List json.Step → Tree → Option (List json.Step)
-missing_at [] t = None
-missing_at (s ∷ ss) t = missing_after s (missing_at ss) (step_from s t)

@@ -10,11 +10,12 @@ use yaml_chars::Marker;
 /// `line 12, column 3: $["server"]["port"]: a string, where an integer is wanted`. The columns shown count from 1.
 #[derive(Clone, Copy, Debug)]
 pub struct ReadError<'a> {
-    /// The path that was asked for; where a node is missing, its beginning up to the first step that leads to no node.
+    /// The path that was asked for, or its beginning up to what the reason is about: the first node that is missing, or a
+    /// node of another kind on the way.
     pub path: &'a [Step<'a>],
     /// The place of the item that is of another kind, in a list, counted from 0.
     pub item: Option<usize>,
-    /// Where that node begins, or, where a node is missing, the last one before it.
+    /// Where the node of another kind begins, or, where a node is missing, the last one before it.
     pub position: Option<Marker>,
     /// What was wrong.
     pub reason: Reason,
@@ -23,11 +24,11 @@ pub struct ReadError<'a> {
 /// Why a value was not read.
 #[derive(Clone, Copy, Debug)]
 pub enum Reason {
-    /// There is no such node.
+    /// There is no such node: a hash has no such key, an array no such item, or null stands in place of both.
     Missing,
-    /// The node is of another kind.
+    /// A node is of another kind: the one that was asked for, or one on the way to it.
     Other {
-        /// The kind that was asked for.
+        /// The kind that was asked for, or on the way a hash for a key, and an array for an item.
         wanted: Kind,
         /// The node's kind.
         found: Kind,

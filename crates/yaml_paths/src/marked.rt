@@ -1,8 +1,9 @@
 //! The same for nodes with positions.
 ghost use Rattle.std.specs.Prelude.{◌≡◌, Some, IfOk, IfErr, map, option_map};
 ghost use Rattle.yaml_marked.specs.Node.{tree_of, node_of};
-ghost use Rattle.yaml_paths.specs.Explained.{Explains, ExplainsList};
+ghost use Rattle.yaml_paths.specs.Explained.{Explains, ExplainsList, ExplainsOther};
 ghost use Rattle.yaml_paths.specs.Marked.{marked_step_from, marked_at, deepest, position_of, IsAt};
+ghost use Rattle.yaml_paths.specs.Optional.{IsRead, IsReadOr};
 ghost use Rattle.yaml_paths.specs.Path.{node_at, step_view, steps_of};
 ghost use Rattle.yaml_tree.specs.View.{array_tree};
 
@@ -39,6 +40,56 @@ pub fn read<'a, 'p, T: FromYaml<'a>>(
     ensures position { IfErr result (IsAt (steps_of path.now) (node_of node.entry)) }
 {
     match plain::read(node.yaml(), path) {
+        Ok(value) => Ok(value),
+        Err(error) => Err(error.with_position(position(node, path, error.item))),
+    }
+}
+
+/// The value as [`read`] gives it, or `None` if it is missing.
+///
+/// # Errors
+///
+/// Those of [`read_optional`](crate::read_optional), with the position.
+pub fn read_optional<'a, 'p, T: FromYaml<'a>>(
+    node: Marked<'a>,
+    path: &'p [Step<'p>],
+) -> Result<Option<T>, ReadError<'p>>
+    ensures value { IfOk result (IsRead T.tree (steps_of path.now) (tree_of node.entry)) }
+    ensures err { IfErr result (ExplainsOther T.wanted (steps_of path.now) (tree_of node.entry)) }
+    ensures position { IfErr result (IsAt (steps_of path.now) (node_of node.entry)) }
+{
+    match plain::read_optional(node.yaml(), path) {
+        Ok(value) => Ok(value),
+        Err(error) => Err(error.with_position(position(node, path, error.item))),
+    }
+}
+
+/// The value as [`read`] gives it, or this one if it is missing.
+///
+/// ```
+/// let documents = load_marked(alloc, "server: oops\n")?;
+/// let document = documents.first().ok_or("no document")?;
+/// let Err(error) = marked::read_or(document, PORT, 8080) else {
+///     return Err(Fail::from("a number"));
+/// };
+/// let text = format!(in alloc; "{error}")?;
+/// let wanted = r#"line 1, column 9: $["server"]: a string, where a hash is wanted"#;
+/// assert_eq!(rt; text.as_str(), wanted);
+/// ```
+///
+/// # Errors
+///
+/// Those of [`read_or`](crate::read_or), with the position.
+pub fn read_or<'a, 'p, T: FromYaml<'a>>(
+    node: Marked<'a>,
+    path: &'p [Step<'p>],
+    default: T,
+) -> Result<T, ReadError<'p>>
+    ensures value { IfOk result (IsReadOr default T.tree (steps_of path.now) (tree_of node.entry)) }
+    ensures err { IfErr result (ExplainsOther T.wanted (steps_of path.now) (tree_of node.entry)) }
+    ensures position { IfErr result (IsAt (steps_of path.now) (node_of node.entry)) }
+{
+    match plain::read_or(node.yaml(), path, default) {
         Ok(value) => Ok(value),
         Err(error) => Err(error.with_position(position(node, path, error.item))),
     }

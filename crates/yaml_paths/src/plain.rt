@@ -1,8 +1,10 @@
 //! Nodes at the end of a path, and their values.
 ghost use Rattle.std.specs.Prelude.{◌≡◌, Some, None, IfOk, IfErr, map, option_map};
-ghost use Rattle.yaml_paths.specs.Explained.{Explains, ExplainsItem, ExplainsList};
+ghost use Rattle.yaml_paths.specs.Explained.{Explains, ExplainsItem, ExplainsList, ExplainsOther};
 ghost use Rattle.yaml_paths.specs.Kinds.{kind_of};
-ghost use Rattle.yaml_paths.specs.Path.{node_at, missing_at, steps_of};
+ghost use Rattle.yaml_paths.specs.NoNode.{fault_at, reason_at, told};
+ghost use Rattle.yaml_paths.specs.Optional.{IsRead, IsReadOr};
+ghost use Rattle.yaml_paths.specs.Path.{node_at, step_view, steps_of};
 ghost use Rattle.yaml_paths.specs.declared.error.Reason.TheVariants.{Other};
 ghost use Rattle.yaml_tree.specs.View.{view, array_tree};
 
@@ -28,7 +30,11 @@ pub fn at<'a>(node: &'a Yaml, path: &[Step<'_>]) -> Option<&'a Yaml>
 ///
 /// # Errors
 ///
-/// `Missing` with the first step that leads to no node, or `Other` if the node is of another kind.
+/// - `Missing` if the path leads to no node: a hash has no such key, or an array no such item. Null counts as an empty hash
+///   and as an empty array, so in a section that is left empty all keys are missing. The error has the path up to the
+///   first step that leads to no node.
+/// - `Other` if the node is of another kind, null included, and if a node on the way is neither null nor what its next
+///   step wants: a hash for a key, an array for an item. Then the error has the path of that node.
 pub fn read<'a, 'p, T: FromYaml<'a>>(
     node: &'a Yaml,
     path: &'p [Step<'p>],
@@ -39,11 +45,64 @@ pub fn read<'a, 'p, T: FromYaml<'a>>(
 {
     let found = match find(node, path) {
         Ok(found) => found,
-        Err(missing) => return Err(ReadError::new(missing, None, Reason::Missing)),
+        Err(error) => return Err(error),
     };
     match T::from_yaml(found) {
         Some(value) => Ok(value),
         None => Err(other(path, None, T::kind(), found)),
+    }
+}
+
+/// The value as [`read`] gives it, or `None` if it is missing.
+///
+/// # Errors
+///
+/// `Other` as of [`read`]: what is there and is of another kind is an error, on the way and at the path's end. Null at the
+/// path's end is such a node.
+pub fn read_optional<'a, 'p, T: FromYaml<'a>>(
+    node: &'a Yaml,
+    path: &'p [Step<'p>],
+) -> Result<Option<T>, ReadError<'p>>
+    ensures value { IfOk result (IsRead T.tree (steps_of path.now) (view node.now)) }
+    ensures err { IfErr result (ExplainsOther T.wanted (steps_of path.now) (view node.now)) }
+    ensures position { IfErr result (λ e. e.position ≡ None) }
+{
+    match read(node, path) {
+        Ok(value) => Ok(Some(value)),
+        Err(error) => match error.reason {
+            Reason::Missing => Ok(None),
+            _ => Err(error),
+        },
+    }
+}
+
+/// The value as [`read`] gives it, or this one if it is missing.
+///
+/// ```
+/// let documents = YamlLoader::load_from_str(alloc, "server:\n  host: a\n")?;
+/// let settings = documents.first().ok_or("no document")?;
+/// let Ok(port) = read_or(settings, PORT, 8080) else {
+///     return Err(Fail::from("another kind"));
+/// };
+/// assert_eq!(rt; port, 8080);
+/// ```
+///
+/// # Errors
+///
+/// Those of [`read_optional`].
+pub fn read_or<'a, 'p, T: FromYaml<'a>>(
+    node: &'a Yaml,
+    path: &'p [Step<'p>],
+    default: T,
+) -> Result<T, ReadError<'p>>
+    ensures value { IfOk result (IsReadOr default T.tree (steps_of path.now) (view node.now)) }
+    ensures err { IfErr result (ExplainsOther T.wanted (steps_of path.now) (view node.now)) }
+    ensures position { IfErr result (λ e. e.position ≡ None) }
+{
+    match read_optional(node, path) {
+        Ok(Some(value)) => Ok(value),
+        Ok(None) => Ok(default),
+        Err(error) => Err(error),
     }
 }
 
@@ -65,7 +124,7 @@ pub fn read_list<'a, 'p, T: FromYaml<'a>>(
     match find(node, path) {
         Ok(Yaml::Array(items)) => values(alloc, items, path),
         Ok(found) => Err(other(path, None, Kind::Array, found)),
-        Err(missing) => Err(ReadError::new(missing, None, Reason::Missing)),
+        Err(error) => Err(error),
     }
 }
 
@@ -91,19 +150,57 @@ fn values<'a, 'p, T: FromYaml<'a>>(
     Ok(values)
 }
 
-// The node at the end of a path, or the path's beginning up to the first step that leads to none.
-fn find<'a, 'p>(node: &'a Yaml, path: &'p [Step<'p>]) -> Result<&'a Yaml, &'p [Step<'p>]>
+// The node at the end of a path, or why there is none.
+fn find<'a, 'p>(node: &'a Yaml, path: &'p [Step<'p>]) -> Result<&'a Yaml, ReadError<'p>>
     ensures found { IfOk result (λ y. node_at (steps_of path.now) (view node.now) ≡ Some (view y.now)) }
-    ensures missing { IfErr result (λ p. missing_at (steps_of path.now) (view node.now) ≡ Some (steps_of p.now)) }
+    ensures err { IfErr result (λ e. fault_at (steps_of path.now) (view node.now) ≡ Some (steps_of e.path.now, e.reason)) }
+    ensures item { IfErr result (λ e. e.item ≡ None) }
+    ensures position { IfErr result (λ e. e.position ≡ None) }
 {
     let mut node = node;
     'steps: for (place, step) in path.iter().enumerate() {
         match part(node, *step) {
             Some(found) => node = found,
-            None => return Err(&path[..=place]),
+            None => return Err(nowhere(*step, node, &path[..place], &path[..=place])),
         }
     }
     Ok(node)
+}
+
+// The error of a step that leads from a node to none, by the paths to the node and one step further.
+fn nowhere<'p>(
+    step: Step<'_>,
+    node: &Yaml,
+    there: &'p [Step<'p>],
+    further: &'p [Step<'p>],
+) -> ReadError<'p>
+    ensures path { steps_of result.path.now ≡ told result.reason (steps_of there.now) (steps_of further.now) }
+    ensures item { result.item ≡ None }
+    ensures position { result.position ≡ None }
+    ensures reason { result.reason ≡ reason_at (step_view step.entry) (kind_of (view node.now)) }
+{
+    match reason_at(step, Kind::of(node)) {
+        Reason::Missing => ReadError::new(further, None, Reason::Missing),
+        reason => ReadError::new(there, None, reason),
+    }
+}
+
+// Why a step leads from a node of this kind to none.
+fn reason_at(step: Step<'_>, found: Kind) -> Reason
+    ensures { result ≡ reason_at (step_view step.entry) found }
+{
+    match (step, found) {
+        (_, Kind::Null) | (Step::Key(_), Kind::Hash) | (Step::Index(_), Kind::Array) =>
+            Reason::Missing,
+        (Step::Key(_), found) => Reason::Other {
+            wanted: Kind::Hash,
+            found,
+        },
+        (Step::Index(_), found) => Reason::Other {
+            wanted: Kind::Array,
+            found,
+        },
+    }
 }
 
 // The error of a node that is of another kind.

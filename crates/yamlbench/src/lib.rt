@@ -75,20 +75,33 @@ fn marked_load(alloc: Global, text: &str) -> i64 {
 #[unsafe(no_mangle)]
 pub extern "C" fn yamlbench_load_with_limits(alloc: Global, text: &[u8]) -> i64 {
     match str::from_utf8(text) {
-        Ok(text) => limited_load(alloc, text),
+        Ok(text) => limited_load(alloc, text, Limits::for_text(text)),
         Err(_) => -1,
     }
 }
 
-fn limited_load(alloc: Global, text: &str) -> i64 {
-    match load_with_limits(alloc, text, Limits::for_text(text)) {
+/// The same within so many levels and this size.
+#[unsafe(no_mangle)]
+pub extern "C" fn yamlbench_load_within(alloc: Global, text: &[u8], limit: usize) -> i64 {
+    let limits = Limits {
+        levels: limit,
+        size: limit,
+    };
+    match str::from_utf8(text) {
+        Ok(text) => limited_load(alloc, text, limits),
+        Err(_) => -1,
+    }
+}
+
+fn limited_load(alloc: Global, text: &str, limits: Limits) -> i64 {
+    match load_with_limits(alloc, text, limits) {
         Ok(documents) => i64::try_from(documents.len()).unwrap_or(i64::MAX),
         Err(LimitsError::Scan(_)) => -1,
         Err(_) => -2,
     }
 }
 
-/// Loads a text within limits, and calls what recurses on its documents: comparison, hashing, `Debug`, dump, overlay and
+/// Loads a text within limits, and calls what goes through its documents: comparison, hashing, `Debug`, dump, overlay and
 /// copy. It gives 1, or -1 or -2 as [`yamlbench_load_with_limits`].
 #[unsafe(no_mangle)]
 pub extern "C" fn yamlbench_use_within_limits(alloc: Global, text: &[u8]) -> i64 {

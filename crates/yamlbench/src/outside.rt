@@ -3,12 +3,14 @@
 use crate::last_document;
 use overlay::overlay;
 use std::alloc::{AllocError, Global};
+use std::fmt::Write as _;
 use std::{fmt, str};
 use yaml_encoding::{YAMLDecodingTrap, text_of};
 use yaml_json::write_json;
 use yaml_merge::merge;
 use yaml_rust2::emitter::FmtWriter;
-use yaml_rust2::yaml::Hash;
+use yaml_rust2::laws::laid_out;
+use yaml_rust2::yaml::{Array, Hash};
 use yaml_rust2::{Yaml, YamlLoader};
 
 /// Decodes bytes so many times, with malformations left out (0) or replaced (1): the bytes of the text, or -1 where memory is
@@ -127,10 +129,11 @@ pub extern "C" fn yamlbench_load_from_iter(alloc: Global, text: &[u8]) -> i64 {
     }
 }
 
-/// How many bytes the JSON text of a text's last document takes, or -1 where there is none. They are not kept.
+/// How many bytes the JSON text takes of a tree that has a level for each byte, the innermost first: `[` is an array of one item,
+/// `,` one with an item after that, `{` a hash of one pair, and any other one with a pair after that. -1 where memory is refused.
 #[unsafe(no_mangle)]
-pub extern "C" fn yamlbench_json_length(alloc: Global, text: &[u8]) -> i64 {
-    let Some(tree) = last_document(alloc, text) else {
+pub extern "C" fn yamlbench_json_of_levels(alloc: Global, levels: &[u8]) -> i64 {
+    let Ok(tree) = nested(alloc, levels) else {
         return -1;
     };
     let mut writer = FmtWriter::new(Counter { bytes: 0 });
@@ -138,6 +141,47 @@ pub extern "C" fn yamlbench_json_length(alloc: Global, text: &[u8]) -> i64 {
         return -1;
     }
     i64::try_from(writer.into_inner().bytes).unwrap_or(i64::MAX)
+}
+
+fn nested(alloc: Global, levels: &[u8]) -> Result<Yaml, AllocError> {
+    let mut tree = Yaml::Null;
+    for level in levels {
+        tree = match *level {
+            b'[' => Yaml::Array(array_around(alloc, tree)?),
+            b',' => {
+                let mut items = array_around(alloc, tree)?;
+                items.push(Yaml::Integer(1)).map_err(|_| AllocError)?;
+                Yaml::Array(items)
+            }
+            b'{' => Yaml::Hash(hash_around(alloc, tree)?),
+            _ => {
+                let mut pairs = hash_around(alloc, tree)?;
+                insert(alloc, &mut pairs, "b", Yaml::Integer(1))?;
+                Yaml::Hash(pairs)
+            }
+        };
+    }
+    Ok(tree)
+}
+
+fn array_around(alloc: Global, tree: Yaml) -> Result<Array, AllocError> {
+    let mut items = Array::new(alloc);
+    items.push(tree).map_err(|_| AllocError)?;
+    Ok(items)
+}
+
+fn hash_around(alloc: Global, tree: Yaml) -> Result<Hash, AllocError> {
+    let mut pairs = Hash::new(alloc);
+    insert(alloc, &mut pairs, "a", tree)?;
+    Ok(pairs)
+}
+
+fn insert(alloc: Global, pairs: &mut Hash, key: &str, value: Yaml) -> Result<(), AllocError> {
+    let key = Yaml::from_str(alloc, key)?;
+    match pairs.insert(key, value) {
+        Ok(_) => Ok(()),
+        Err(_) => Err(AllocError),
+    }
 }
 
 /// Carries out the merge keys of a text's last document: 1, or -1 where that is refused.
@@ -160,6 +204,29 @@ pub extern "C" fn yamlbench_overlay_itself(alloc: Global, text: &[u8]) -> i64 {
     } else {
         -1
     }
+}
+
+/// Visits a text's last document by the law `laid_out`: 1, or -1 where the text is refused.
+#[unsafe(no_mangle)]
+pub extern "C" fn yamlbench_laid_out(alloc: Global, text: &[u8]) -> i64 {
+    let Some(tree) = last_document(alloc, text) else {
+        return -1;
+    };
+    laid_out(&tree, true, false);
+    1
+}
+
+/// How many bytes `Debug` prints of a text's last document, or -1 where the text is refused.
+#[unsafe(no_mangle)]
+pub extern "C" fn yamlbench_debug_length(alloc: Global, text: &[u8]) -> i64 {
+    let Some(tree) = last_document(alloc, text) else {
+        return -1;
+    };
+    let mut counter = Counter { bytes: 0 };
+    if write!(&mut counter, "{tree:?}").is_err() {
+        return -1;
+    }
+    i64::try_from(counter.bytes).unwrap_or(i64::MAX)
 }
 
 /// Counts what is written, and keeps none of it.

@@ -76,8 +76,51 @@ fn trees_come_back(rt: HostRuntime) -> Result<(), Fail> {
     Ok(())
 }
 
+// What it shows, and what stands at each level before the node that is deeper, and after it.
+const LEVELS: [(&str, &str, &str); 5] = [
+    ("arrays", "[", "]"),
+    ("arrays with an item after", "[", ",1]"),
+    ("arrays with an item before", "[1,", "]"),
+    ("hashes", "{\"a\":", "}"),
+    ("hashes with a pair after", "{\"a\":", ",\"b\":1}"),
+];
+
+// A row with so many levels around a null: its text, and the tree that its lines load as.
+fn note_levels(
+    alloc: Global,
+    report: &mut Report,
+    (name, before, after): (&str, &str, &str),
+    levels: usize,
+) -> Result<(), Fail> {
+    let mut text = before.repeat(alloc, levels)?;
+    text.push_str("null")?;
+    text.push_str(after.repeat(alloc, levels)?.as_str())?;
+    let document = tree(alloc, text.as_str())?;
+    let json = json_of(alloc, &document)?;
+    report.compare(name, "compact", json.as_str(), text.as_str())?;
+    let mut lines = String::new(alloc);
+    write_json_indented(alloc, &document, 1, &mut lines)?;
+    let holds = tree(alloc, lines.as_str())? == document;
+    report.check(name, "indented, another tree came back", holds)?;
+    Ok(())
+}
+
+// Sixteen levels wait without memory.
+#[test]
+fn many_levels_are_written(rt: HostRuntime) -> Result<(), Fail> {
+    let alloc = rt.alloc();
+    let mut report = Report::new(alloc);
+    for row in LEVELS {
+        note_levels(alloc, &mut report, row, 16)?;
+        note_levels(alloc, &mut report, row, 17)?;
+        note_levels(alloc, &mut report, row, 200)?;
+    }
+    assert!(rt; report.is_empty(), "{report}");
+    Ok(())
+}
+
 // What it shows, a document, and what is said of the first node that has no JSON text.
-const FAULTS: [(&str, &str, &str); 6] = [
+const FAULTS: [(&str, &str, &str); 8] = [
     (
         "infinity in an array",
         "[1, .inf]",
@@ -104,6 +147,16 @@ const FAULTS: [(&str, &str, &str); 6] = [
         "$: a key is no string",
     ),
     ("a bad value", "!!int x", "$: a bad value has no JSON text"),
+    (
+        "behind levels that are done",
+        "a: [[1, {b: 2}], {c: [3]}]\nd: [0, {e: [~, .5]}]",
+        "$[\"d\"][1][\"e\"][1]: the number cannot be written in JSON",
+    ),
+    (
+        "below eighteen levels",
+        "[0, [1, [2, [3, [4, [5, [6, [7, [8, [9, [10, [11, [12, [13, [14, [15, [16, [{a: .5}, 17]]]]]]]]]]]]]]]]]]",
+        "$[1][1][1][1][1][1][1][1][1][1][1][1][1][1][1][1][1][0][\"a\"]: the number cannot be written in JSON",
+    ),
 ];
 
 // What is said of a tree without a JSON text.

@@ -1,0 +1,7 @@
+use Rattle.yaml_tree.specs.View.{view}
+use Rattle.yaml_paths.specs.Path.{steps_of}
+use Rattle.yaml_paths.proofs.Nowhere.{leads_nowhere}
+use Rattle.yaml_paths.proofs.plain.read.Goals as goal
+
+pub returns-in-Err-clause-err : goal.returns-in-Err-clause-err
+returns-in-Err-clause-err g c = leads_nowhere g.T.FromYaml.wanted (steps_of c.args.path.now) (view c.args.node.now) c.in-Err.error c.in-Err.ensures.item c.in-Err.ensures.err
