@@ -62,7 +62,7 @@ def kind(name):
     for i, start in enumerate(("defs_", "model_", "proof_")):
         if name.startswith(start):
             return i
-    if name.startswith("test_") or name in ("uses", "example"):
+    if name.startswith(("test_", "example")) or name == "uses":
         return 5
     return 4 if name in PROGRAMS_OWN or name == "yamlbench" or is_program(name) else 3
 
