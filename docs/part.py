@@ -1,7 +1,7 @@
 #!/usr/bin/env python3
 """Runs the gate on what a change reaches.
 
-usage: .ci/part COMMIT [FOLDER]
+usage: part.py COMMIT [FOLDER]
 
 COMMIT is one on which the whole gate passed. A crate is reached if one of its files differs from that commit, or its line in crates.txt,
 or if it stands on a crate that is reached by more than its edits. The last commit of this checkout is cloned to FOLDER (else to a folder
