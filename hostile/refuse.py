@@ -29,6 +29,8 @@ INPUTS = ["%TAG !prefix! tag:example.com,2011:\n--- !prefix!A\na: b\n", "---\n? 
           "a: %s:x and %s\nb: \"%s\\n\"\nc: '%s''s'\n" % ("w" * 26, "v" * 30, "words " * 9, "u" * 25),
           # Deeper than the sixteen levels for which a walk through a tree takes no memory.
           "- " * 20 + "{a: b}\n", "[" * 20 + "1" + ", {}]" * 20 + "\n", "? " * 18 + "x: y\n",
+          # Deeper than the 128 levels that a dump writes by calls, and the sixteen after them.
+          "- " * 150 + "{a: b}\n",
           # A hash whose index comes with one of these pairs, from blocks and from JSON.
           "".join("key%d: %d\n" % (i, i) for i in range(16)), "{" + ", ".join('"key%d": %d' % (i * 5 % 16, i) for i in range(16)) + "}\n"]
 

@@ -1,4 +1,4 @@
-//! What each layer answers, call by call: tokens, events, trees and dumps; copies and faults; how trees print; what is
+//! What each layer answers, call by call: tokens, events, trees and dumps, deep ones too; copies and faults; how trees print; what is
 //! refused by readers that fail after each number of bytes, by writers that refuse each of their calls or each byte, and
 //! for events out of nesting.
 #![tactic(auto)]
@@ -7,6 +7,8 @@
 mod at_once;
 #[cfg(test)]
 mod calls;
+#[cfg(test)]
+mod deep;
 #[cfg(test)]
 mod emitter;
 #[cfg(test)]

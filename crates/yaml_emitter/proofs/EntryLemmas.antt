@@ -5,6 +5,7 @@ use Rattle.defs_tree.specs.Box.{box, item_boxes, pair_boxes, pair_box, placed, i
 use Rattle.defs_tree.specs.Spelling.{spelling, is_scalar}
 use Rattle.defs_tree.specs.Tree.{Tree, real, integer, string, boolean, array, hash, alias, null, bad_value, Items, no_items, item, Pairs, no_pairs, pair, items_of, pairs_of}
 use Rattle.defs_tree.specs.Writable.{levels}
+use Rattle.yaml_tree.specs.Weight.{nodes}
 use Rattle.yaml_emitter.specs.At.{spaces, new_line, below, stacked}
 use Rattle.yaml_emitter.specs.Entries.{after_mark, before_entry, complex_text, pair_text, entries_text}
 
@@ -159,23 +160,23 @@ pairs_text c m level (pair k v ps) h = full (pair_lines c m k v)
     full : {a : List (List ℕ)} → HasLines a → stacked level (if_none (codes "{}") (a ++ pair_boxes c m ps)) ≡ stacked level (a ++ pair_boxes c m ps)
     full (lines l ls) = refl
 
--- ---- levels
+-- ---- levels and nodes
 
-pub some_level : (t : Tree) → 1 ≤ levels t
-some_level (array ts) = omega arith
-some_level (hash ps) = omega arith
-some_level (string s) = omega arith
-some_level (real s) = omega arith
-some_level (integer z) = omega arith
-some_level (boolean b) = omega arith
-some_level (alias n) = omega arith
-some_level null = omega arith
-some_level bad_value = omega arith
+pub at_least_one : (t : Tree) → (1 ≤ levels t) × (1 ≤ nodes t)
+at_least_one (array ts) = (omega arith, omega arith)
+at_least_one (hash ps) = (omega arith, omega arith)
+at_least_one (string s) = (omega arith, omega arith)
+at_least_one (real s) = (omega arith, omega arith)
+at_least_one (integer z) = (omega arith, omega arith)
+at_least_one (boolean b) = (omega arith, omega arith)
+at_least_one (alias n) = (omega arith, omega arith)
+at_least_one null = (omega arith, omega arith)
+at_least_one bad_value = (omega arith, omega arith)
 
 pub two_levels : (t : Tree) → is_block t ≡ true → 2 ≤ levels t
-two_levels (array (item t ts)) h = omega (arith, some_level t)
+two_levels (array (item t ts)) h = omega (arith, (at_least_one t).0)
 two_levels (array no_items) h = cc
-two_levels (hash (pair k v ps)) h = omega (arith, some_level k)
+two_levels (hash (pair k v ps)) h = omega (arith, (at_least_one k).0)
 two_levels (hash no_pairs) h = cc
 two_levels (string s) h = cc
 two_levels (real s) h = cc

@@ -15,3 +15,4 @@ pub mod EntryLemmas
 pub mod ValidLemmas
 pub mod ListLemmas
 pub mod NodeLemmas
+pub mod DeepLemmas

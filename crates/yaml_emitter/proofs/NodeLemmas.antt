@@ -1,6 +1,6 @@
 -- How a writer stands after a node.
-use Rattle.std.proofs.Common.{append-nil, append_assoc, ◌≡◌, ℕ, ◌+◌, ◌≤◌, List, [], ◌∷◌, ◌++◌, Bool, true, false, true≢false, not, ◌&&◌, refl, sym, ap, ◌∙◌, subst}
-use Rattle.std.specs.Prelude.{◌^◌, max, Result, if◌then◌else◌, codes}
+use Rattle.std.proofs.Common.{append-nil, append_assoc, ◌≡◌, ℕ, ◌+◌, ◌<◌, List, [], ◌∷◌, ◌++◌, Bool, true, false, true≢false, not, ◌&&◌, refl, sym, ap, ◌∙◌, subst}
+use Rattle.std.specs.Prelude.{max, Result, if◌then◌else◌, codes}
 use Rattle.defs_tree.specs.Box.{box, item_boxes, pair_boxes, is_block}
 use Rattle.defs_tree.specs.DumpText.{dump_text}
 use Rattle.defs_tree.specs.Lines.{joined}
@@ -32,10 +32,10 @@ flat_box bad_value c m r b = refl
 -- an array or a hash with parts
 pub block_writes : {W E : Type 0} {gives leaves : W → List ℕ → W → Type 0} {w v : W} {r : Result (Unit {0}) E} {text : List ℕ} (c m at_root : Bool) (level : ℕ) (t s : Tree)
     → t ≡ s → (is_block s ≡ true → stacked level (box c m at_root s) ≡ text) → is_block t ≡ true
-    → WritesUnless (2 ^ 62 ≤ level + levels s) gives leaves w r text v
-    → WritesUnless (2 ^ 62 ≤ level + levels t) gives leaves w r (stacked level (box c m at_root t)) v
+    → WritesUnless (128 < level + levels s) gives leaves w r text v
+    → WritesUnless (128 < level + levels t) gives leaves w r (stacked level (box c m at_root t)) v
 block_writes {gives = gives} {leaves} {w} {v} {r} c m at_root level t s e has b q =
-    subst (λ x. WritesUnless (2 ^ 62 ≤ level + levels x) gives leaves w r (stacked level (box c m at_root x)) v) (sym e) (writes_as (sym (has (ap is_block (sym e) ∙ b))) q)
+    subst (λ x. WritesUnless (128 < level + levels x) gives leaves w r (stacked level (box c m at_root x)) v) (sym e) (writes_as (sym (has (ap is_block (sym e) ∙ b))) q)
 
 -- ---- what is written of an array or hash, part by part
 

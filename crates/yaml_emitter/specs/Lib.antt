@@ -1,5 +1,6 @@
 pub mod At
 pub mod Blocks
+pub mod Deep
 pub mod Emitter
 pub mod Entries
 pub mod Escaping

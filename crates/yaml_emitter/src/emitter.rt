@@ -1,5 +1,5 @@
 //! The emitter: trees to text.
-ghost use Rattle.std.specs.Prelude.{◌≡◌, ◌≤◌, ◌^◌, true, false, OnOk, OnErr};
+ghost use Rattle.std.specs.Prelude.{◌≡◌, ◌<◌, true, false, OnOk, OnErr};
 ghost use Rattle.defs_tree.specs.DumpText.{dump_text};
 ghost use Rattle.defs_tree.specs.Writable.{levels};
 ghost use Rattle.yaml_tree.specs.View.{view};
@@ -16,7 +16,8 @@ use yaml_tree::Yaml;
 /// Why a tree was not written to its end.
 #[derive(Clone, Copy, Debug, Error)]
 pub enum EmitError {
-    /// The writer refused a part of the text, or the tree has 2^62 levels or more.
+    /// The writer refused a part of the text, or the tree has more than 128 levels and memory was refused, or 2^62
+    /// levels or more.
     #[error(transparent)]
     FmtError(fmt::Error),
 }
@@ -111,12 +112,13 @@ impl<'a, W: Writer> YamlEmitter<'a, W> {
     }
 
     /// Writes the line `---` and the tree (YAML 1.2, chapter 8), without a line break at the end. On `Ok` the writer
-    /// has taken the whole text. An `Err` comes only if the writer refused a part of the text, or if the tree has
-    /// 2^62 levels or more; then a beginning of the text was written. A `String` refuses only if memory is refused,
-    /// and has then grown by just that beginning. The settings stay.
+    /// has taken the whole text. An `Err` comes only if the writer refused a part of the text, or if the tree has more
+    /// than 128 levels, where memory may be refused, and 2^62 levels are too many; then a beginning of the text was
+    /// written. A `String` refuses only if memory is refused, and has then grown by just that beginning. The settings
+    /// stay.
     pub fn dump(&mut self, doc: &Yaml) -> EmitResult
         ensures same_writer { writer_name self.new ≡ writer_name self.old }
-        ensures text { WritesUnless (2 ^ 62 ≤ levels (view doc.now)) W.put_gives W.put_leaves (writer_of self.old) result
+        ensures text { WritesUnless (128 < levels (view doc.now)) W.put_gives W.put_leaves (writer_of self.old) result
             (dump_text (compact_of self.old) (multiline_of self.old) (view doc.now)) (writer_of self.new) }
         ensures written { OnOk result (W.calls_give (writer_of self.old)
             (dump_text (compact_of self.old) (multiline_of self.old) (view doc.now)) (writer_of self.new)) }

@@ -1,6 +1,7 @@
 //! YAML trees to text.
 #![tactic(auto)]
 
+mod deep;
 mod emitter;
 mod ends;
 mod escape;

@@ -1,5 +1,5 @@
 //! Nodes: scalars, and arrays and hashes in block style (YAML 1.2, chapter 8).
-ghost use Rattle.std.specs.Prelude.{◌≡◌, ◌<◌, ◌≤◌, ◌+◌, ◌^◌, ◌++◌, max, chars, codes, true, false, if◌then◌else◌, OnOk};
+ghost use Rattle.std.specs.Prelude.{◌≡◌, ◌<◌, ◌+◌, ◌^◌, ◌++◌, max, chars, codes, true, false, if◌then◌else◌, OnOk};
 ghost use Rattle.defs_tree.specs.Box.{box, item_boxes, pair_boxes, is_block, string_box};
 ghost use Rattle.defs_tree.specs.DumpText.{dump_text};
 ghost use Rattle.defs_tree.specs.Literal.{is_literal_text, is_root_literal};
@@ -12,6 +12,7 @@ ghost use Rattle.yaml_emitter.specs.Entries.{mark_text, before_block, after_mark
 ghost use Rattle.yaml_emitter.specs.ValidTree.{IsValid, IsValidScalar};
 ghost use Rattle.yaml_emitter.specs.Writing.{Writes, WritesUnless};
 
+use crate::deep::write_deep;
 use crate::line::break_line;
 use crate::literal::{is_literal_text, is_root_literal, write_literal};
 use crate::scalar::{write_spelling, write_string};
@@ -19,8 +20,10 @@ use crate::writer::{Writer, put_ascii};
 use std::fmt;
 use yaml_tree::{Array, Hash, Yaml};
 
-/// The deepest level at which an array or hash with parts is written: the parts stand one level deeper.
-const DEEPEST: usize = (1 << 62) - 2;
+/// How many levels are written by recursive calls, which take a frame of the stack each. What stands deeper is written by
+/// a loop, in memory: so a shallow dump is as quick as calls are, and a deep one does not end the program. A block goes
+/// from one to the other in `write_block` alone.
+const SHALLOW: usize = 128;
 
 /// The settings of an emitter.
 #[derive(Clone, Copy)]
@@ -37,7 +40,7 @@ pub(crate) fn write_document<W: Writer>(
     settings: &Settings,
     root: &Yaml,
 ) -> fmt::Result
-    ensures text { WritesUnless (2 ^ 62 ≤ levels (view root.now)) W.put_gives W.put_leaves out.old result
+    ensures text { WritesUnless (128 < levels (view root.now)) W.put_gives W.put_leaves out.old result
         (dump_text settings.now.compact settings.now.multiline (view root.now)) out.new }
     ensures valid { OnOk result (IsValid (view root.now)) }
 {
@@ -54,7 +57,7 @@ fn write_node<W: Writer>(
     node: &Yaml,
 ) -> fmt::Result
     requires { level < 2 ^ 62 }
-    ensures text { WritesUnless (2 ^ 62 ≤ level + levels (view node.now)) W.put_gives W.put_leaves out.old result
+    ensures text { WritesUnless (128 < level + levels (view node.now)) W.put_gives W.put_leaves out.old result
         (stacked level (box settings.now.compact settings.now.multiline at_root (view node.now))) out.new }
     ensures valid { OnOk result (IsValid (view node.now)) }
 {
@@ -75,12 +78,12 @@ fn write_block<W: Writer>(
 ) -> fmt::Result
     requires level { level < 2 ^ 62 }
     requires block { is_block (view node.now) ≡ true }
-    ensures text { WritesUnless (2 ^ 62 ≤ level + levels (view node.now)) W.put_gives W.put_leaves out.old result
+    ensures text { WritesUnless (128 < level + levels (view node.now)) W.put_gives W.put_leaves out.old result
         (stacked level (box settings.now.compact settings.now.multiline false (view node.now))) out.new }
     ensures valid { OnOk result (IsValid (view node.now)) }
 {
-    if level >= DEEPEST {
-        return Err(fmt::Error);
+    if level >= SHALLOW {
+        return write_deep(out, settings, level, node);
     }
     match node {
         Yaml::Array(items) => write_items(out, settings, level, items),
@@ -112,7 +115,7 @@ fn write_value<W: Writer>(
     node: &Yaml,
 ) -> fmt::Result
     requires { level + 1 < 2 ^ 62 }
-    ensures text { WritesUnless (2 ^ 62 ≤ level + 1 + levels (view node.now)) W.put_gives W.put_leaves out.old result
+    ensures text { WritesUnless (128 < level + 1 + levels (view node.now)) W.put_gives W.put_leaves out.old result
         (mark_text mark ++ after_mark blocks_lower level (view node.now) (box settings.now.compact settings.now.multiline false (view node.now))) out.new }
     ensures valid { OnOk result (IsValid (view node.now)) }
 {
@@ -124,10 +127,15 @@ fn write_value<W: Writer>(
     write_block(out, settings, level + 1, node)
 }
 
-// A mark, and a space or a new line for a block that goes lower. It is a call of its own, so that a level of a dump takes
-// less stack.
+/// A mark, and a space or a new line for a block that goes lower. It is a call of its own, so that a level of a dump takes
+/// less stack.
 #[inline(never)]
-fn begin_block<W: Writer>(out: &mut W, level: usize, mark: Mark, blocks_lower: bool) -> fmt::Result
+pub(crate) fn begin_block<W: Writer>(
+    out: &mut W,
+    level: usize,
+    mark: Mark,
+    blocks_lower: bool,
+) -> fmt::Result
     requires { level < 2 ^ 62 }
     ensures { Writes W.put_gives W.put_leaves out.old result (mark_text mark ++ before_block blocks_lower level) out.new }
 {
@@ -148,9 +156,9 @@ fn put_mark<W: Writer>(out: &mut W, mark: Mark) -> fmt::Result
     }
 }
 
-// A mark and a space: for the same reason a call of its own.
+/// A mark and a space: for the same reason a call of its own.
 #[inline(never)]
-fn put_spaced<W: Writer>(out: &mut W, mark: Mark) -> fmt::Result
+pub(crate) fn put_spaced<W: Writer>(out: &mut W, mark: Mark) -> fmt::Result
     ensures { Writes W.put_gives W.put_leaves out.old result (mark_text mark ++ codes " ") out.new }
 {
     put_mark(out, mark)?;
@@ -176,7 +184,7 @@ fn write_items<W: Writer>(
     items: &Array,
 ) -> fmt::Result
     requires { level + 1 < 2 ^ 62 }
-    ensures text { WritesUnless (2 ^ 62 ≤ level + levels (array_tree items.now)) W.put_gives W.put_leaves out.old result
+    ensures text { WritesUnless (128 < level + levels (array_tree items.now)) W.put_gives W.put_leaves out.old result
         (entries_text true level (item_boxes settings.now.compact settings.now.multiline (items_of items.now))) out.new }
     ensures valid { OnOk result (IsValid (array_tree items.now)) }
 {
@@ -197,7 +205,7 @@ fn write_pairs<W: Writer>(
     pairs: &Hash,
 ) -> fmt::Result
     requires { level + 1 < 2 ^ 62 }
-    ensures text { WritesUnless (2 ^ 62 ≤ level + levels (hash_tree pairs.now)) W.put_gives W.put_leaves out.old result
+    ensures text { WritesUnless (128 < level + levels (hash_tree pairs.now)) W.put_gives W.put_leaves out.old result
         (entries_text true level (pair_boxes settings.now.compact settings.now.multiline (pairs_of pairs.now))) out.new }
     ensures valid { OnOk result (IsValid (hash_tree pairs.now)) }
 {
@@ -210,8 +218,8 @@ fn write_pairs<W: Writer>(
     Ok(())
 }
 
-// The first entry starts where the array or hash does.
-fn begin_entry<W: Writer>(out: &mut W, level: usize, is_first: bool) -> fmt::Result
+/// The first entry starts where the array or hash does.
+pub(crate) fn begin_entry<W: Writer>(out: &mut W, level: usize, is_first: bool) -> fmt::Result
     ensures { Writes W.put_gives W.put_leaves out.old result (before_entry is_first level) out.new }
 {
     if is_first {
@@ -229,7 +237,7 @@ fn write_pair<W: Writer>(
     value: &Yaml,
 ) -> fmt::Result
     requires { level + 1 < 2 ^ 62 }
-    ensures text { WritesUnless (2 ^ 62 ≤ level + 1 + max (levels (view key.now)) (levels (view value.now))) W.put_gives W.put_leaves
+    ensures text { WritesUnless (128 < level + 1 + max (levels (view key.now)) (levels (view value.now))) W.put_gives W.put_leaves
         out.old result (pair_text settings.now.compact settings.now.multiline level (view key.now) (view value.now)) out.new }
     ensures valid { OnOk result (IsValid (view key.now) × IsValid (view value.now)) }
 {
@@ -250,7 +258,7 @@ fn write_complex_pair<W: Writer>(
     value: &Yaml,
 ) -> fmt::Result
     requires { level + 1 < 2 ^ 62 }
-    ensures text { WritesUnless (2 ^ 62 ≤ level + 1 + max (levels (view key.now)) (levels (view value.now))) W.put_gives W.put_leaves
+    ensures text { WritesUnless (128 < level + 1 + max (levels (view key.now)) (levels (view value.now))) W.put_gives W.put_leaves
         out.old result (complex_text settings.now.compact settings.now.multiline level (view key.now) (view value.now)) out.new }
     ensures valid { OnOk result (IsValid (view key.now) × IsValid (view value.now)) }
 {
@@ -259,15 +267,16 @@ fn write_complex_pair<W: Writer>(
     write_value(out, settings, level, Mark::Colon, !settings.compact, value)
 }
 
-fn is_scalar(node: &Yaml) -> bool
+/// Whether a node is neither an array nor a hash.
+pub(crate) fn is_scalar(node: &Yaml) -> bool
     ensures { result ≡ is_scalar (view node.now) }
 {
     !matches!(node, Yaml::Array(_) | Yaml::Hash(_))
 }
 
-// A scalar that is no key: a string of several lines may be a literal block.
+/// A scalar that is no key: a string of several lines may be a literal block.
 #[tactic(auto, unfolding(defs_text::specs::Text::string_chars))]
-fn write_scalar<W: Writer>(
+pub(crate) fn write_scalar<W: Writer>(
     out: &mut W,
     multiline: bool,
     at_root: bool,

@@ -1,5 +1,5 @@
 -- What is left to write of arrays and objects.
-use Rattle.std.proofs.Common.{◌≡◌, ℕ, suc, ◌^◌, ◌≤◌, List, ◌++◌, Bool, true, false, refl, sym, ap, ◌∙◌, arith, append_assoc, subst, true≢false}
+use Rattle.std.proofs.Common.{◌≡◌, ℕ, suc, ◌+◌, ◌^◌, ◌<◌, ◌≤◌, List, ◌++◌, Bool, true, false, length, get_or, drop, refl, sym, ap, ◌∙◌, arith, append_assoc, subst, true≢false}
 use Rattle.std.specs.Prelude.{Option, unwrap_or, max}
 use Rattle.std.proofs.Math.Nat.{mul-le-mul_left}
 use Rattle.defs_tree.specs.Box.{is_block}
@@ -9,8 +9,14 @@ use Rattle.defs_json.specs.JsonText.{deeper, new_line, key_end, key_text, json_t
 use Rattle.yaml_tree.specs.Depth.{depth, items_depth, pairs_depth}
 use Rattle.yaml_emitter.specs.At.{is_low}
 use Rattle.yaml_emitter.proofs.ListLemmas.{Entries}
-use Rattle.yaml_json.specs.Given.{IsGiven, AreGiven, IsKeyGiven, ArePairsGiven}
+use Rattle.yaml_json.proofs.RowLemmas.{item_left, member_left}
+use Rattle.yaml_json.specs.Given.{IsGiven, AreGiven, IsKeyGiven, ArePairsGiven, ArePartsGiven}
 use Rattle.yaml_json.specs.Left.{IsTooWide, before_entry, items_left, members_left, parts_left, part_nesting, opening, closing}
+use Rattle.yaml_json.specs.Level.{left_in, part_nodes}
+use Rattle.yaml_tree.specs.Flat.{paired}
+use Rattle.yaml_tree.specs.View.{view, items_view}
+use Rattle.yaml_tree.specs.Weight.{nodes}
+use Rattle.yaml_tree.specs.declared.yaml.Yaml.{Yaml}
 
 -- ---- how wide
 
@@ -24,7 +30,7 @@ wide_inside i m inner n e w = omega arith
 pub wide_margin : (i : Option ℕ) (m n : ℕ) → 2 ^ 64 ≤ deeper i m → IsTooWide i m (suc n)
 wide_margin i m n w = omega arith
 
-part_wide : (t : Tree) → is_block t ≡ true → nesting t ≡ suc (part_nesting t)
+pub part_wide : (t : Tree) → is_block t ≡ true → nesting t ≡ suc (part_nesting t)
 part_wide (array ts) b = refl
 part_wide (hash ps) b = refl
 part_wide (real s) b = absurd (true≢false (sym b))
@@ -57,10 +63,10 @@ low_brackets bad_value = (refl, refl)
 
 -- the text between the brackets, and they
 abbrev around : Option ℕ → ℕ → Tree → ℕ → List ℕ
-around i m t n = opening t ++ (parts_left i n t ++ (new_line i m ++ closing t))
+around i m t n = opening t ++ (parts_left true i n t ++ (new_line i m ++ closing t))
 
-in_brackets : (i : Option ℕ) (m inner : ℕ) (t : Tree) → inner ≡ deeper i m → is_block t ≡ true
-    → opening t ++ (parts_left i inner t ++ (new_line i m ++ closing t)) ≡ json_text i m t
+pub in_brackets : (i : Option ℕ) (m inner : ℕ) (t : Tree) → inner ≡ deeper i m → is_block t ≡ true
+    → opening t ++ (parts_left true i inner t ++ (new_line i m ++ closing t)) ≡ json_text i m t
 in_brackets i m inner (array (item t ts)) e b = ap (around i m (array (item t ts))) e ∙ simp append_assoc
 in_brackets i m inner (hash (pair k v ps)) e b = ap (around i m (hash (pair k v ps))) e ∙ simp append_assoc
 in_brackets i m inner (array no_items) e b = absurd (true≢false (sym b))
@@ -75,19 +81,67 @@ in_brackets i m inner bad_value e b = absurd (true≢false (sym b))
 
 -- the brackets as they are written
 pub put_in_brackets : {before after : List ℕ} (i : Option ℕ) (m inner : ℕ) (t : Tree) → before ≡ opening t → after ≡ closing t → inner ≡ deeper i m → is_block t ≡ true
-    → before ++ (parts_left i inner t ++ (new_line i m ++ after)) ≡ json_text i m t
+    → before ++ (parts_left true i inner t ++ (new_line i m ++ after)) ≡ json_text i m t
 put_in_brackets {after = after} i m inner t o c e b =
-    ap (λ x. x ++ (parts_left i inner t ++ (new_line i m ++ after))) o ∙ ap (λ x. opening t ++ (parts_left i inner t ++ (new_line i m ++ x))) c ∙ in_brackets i m inner t e b
+    ap (λ x. x ++ (parts_left true i inner t ++ (new_line i m ++ after))) o ∙ ap (λ x. opening t ++ (parts_left true i inner t ++ (new_line i m ++ x))) c ∙ in_brackets i m inner t e b
 
--- ---- what is written of an array or object, part by part
+-- ---- what is left of a level, part by part
+
+-- What stands before the first part of what is left, that part, and what is left after it. `K` is what is given of its key.
+pub record IsNext (i : Option ℕ) (m : ℕ) (first : Bool) (t : Tree) (before : List ℕ) (K : Type 0) (part : Tree) (u : Tree) : Type 0 where
+  pub text : parts_left first i m t ≡ before ++ (json_text i m part ++ parts_left false i m u)
+  pub deepest : part_nesting t ≡ max (nesting part) (part_nesting u)
+  pub fewer : nodes part + part_nodes u ≤ part_nodes t
+  pub given : K → IsGiven part → ArePartsGiven u → ArePartsGiven t
+  pub same : closing u ≡ closing t
 
 later_items : (i : Option ℕ) (m : ℕ) (ts : Items) → more_items i m ts ≡ items_left false i m ts
 later_items i m no_items = refl
 later_items i m (item t ts) = refl
 
+item_is_next : (i : Option ℕ) (m : ℕ) (first : Bool) (t : Tree) (ts : Items) → IsNext i m first (array (item t ts)) (before_entry first i m) (Unit {0}) t (array ts)
+item_is_next i m first t ts = record {
+  text = ap (λ r. before_entry first i m ++ (json_text i m t ++ r)) (later_items i m ts);
+  deepest = refl;
+  fewer = omega arith;
+  given = λ _ g gs. (g, gs);
+  same = refl;
+}
+
+pub item_next : (i : Option ℕ) (m : ℕ) (first : Bool) (row : List Yaml) (n q : ℕ) (y : Yaml) → n < length row → y ≡ get_or row n y → q ≡ n + 1
+    → IsNext i m first (left_in false row n) (before_entry first i m) (Unit {0}) (view y) (left_in false row q)
+item_next i m first row n q y h is e =
+    subst (λ t. IsNext i m first t (before_entry first i m) (Unit {0}) (view y) (left_in false row q)) (sym (item_left row n q y h is e))
+    (item_is_next i m first (view y) (items_of (items_view (drop q row))))
+
+later_members : (i : Option ℕ) (m : ℕ) (ps : Pairs) → more_members i m ps ≡ members_left false i m ps
+later_members i m no_pairs = refl
+later_members i m (pair k v ps) = refl
+
+-- what stands before a value
+abbrev pub before_value : Bool → Option ℕ → ℕ → Tree → List ℕ
+before_value first i m k = before_entry first i m ++ (key_text k ++ key_end i)
+
+member_is_next : (i : Option ℕ) (m : ℕ) (first : Bool) (k v : Tree) (ps : Pairs) → IsNext i m first (hash (pair k v ps)) (before_value first i m k) (IsKeyGiven k) v (hash ps)
+member_is_next i m first k v ps = record {
+  text = ap (λ r. before_entry first i m ++ (key_text k ++ (key_end i ++ (json_text i m v ++ r)))) (later_members i m ps) ∙ simp append_assoc;
+  deepest = refl;
+  fewer = omega arith;
+  given = λ g f fs. (g, f, fs);
+  same = refl;
+}
+
+pub member_next : (i : Option ℕ) (m : ℕ) (first : Bool) (row : List Yaml) (n q : ℕ) (k v : Yaml) → n + 1 < length row → k ≡ get_or row n k → v ≡ get_or row (n + 1) v → q ≡ n + 2
+    → IsNext i m first (left_in true row n) (before_value first i m (view k)) (IsKeyGiven (view k)) (view v) (left_in true row q)
+member_next i m first row n q k v h ks vs e =
+    subst (λ t. IsNext i m first t (before_value first i m (view k)) (IsKeyGiven (view k)) (view v) (left_in true row q)) (sym (member_left row n q k v h ks vs e))
+    (member_is_next i m first (view k) (view v) (pairs_of (paired (items_view (drop q row)))))
+
+-- ---- what is written of an array or object, part by part
+
 -- an item, and the items after it
 pub next_item : (i : Option ℕ) (m : ℕ) (first : Bool) (t : Tree) (ts : Items) → items_left first i m (item t ts) ≡ (before_entry first i m ++ json_text i m t) ++ items_left false i m ts
-next_item i m first t ts = ap (λ r. before_entry first i m ++ (json_text i m t ++ r)) (later_items i m ts) ∙ sym (append_assoc (before_entry first i m) (json_text i m t) (items_left false i m ts))
+next_item i m first t ts = (item_is_next i m first t ts).text ∙ sym (append_assoc (before_entry first i m) (json_text i m t) (items_left false i m ts))
 
 abbrev pub item_entries : Option ℕ → ℕ → Entries Tree
 item_entries i m = record {
@@ -108,10 +162,6 @@ item_entries i m = record {
   none_text = λ first. refl;
   more_text = λ first t ts. next_item i m first t (items_of ts);
 }
-
-later_members : (i : Option ℕ) (m : ℕ) (ps : Pairs) → more_members i m ps ≡ members_left false i m ps
-later_members i m no_pairs = refl
-later_members i m (pair k v ps) = refl
 
 -- a member
 abbrev pub member_text : Bool → Option ℕ → ℕ → Tree → Tree → List ℕ

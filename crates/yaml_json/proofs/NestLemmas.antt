@@ -7,8 +7,8 @@ use Rattle.defs_json.specs.JsonText.{deeper, new_line, json_text}
 use Rattle.yaml_emitter.specs.Writing.{Wrote, Stopped, IsLeft}
 use Rattle.yaml_emitter.proofs.WritingLemmas.{left_all, left_as, left_after, left_stopped, stopped_early, stopped_for, stopped_here}
 use Rattle.yaml_json.specs.Given.{IsGiven}
-use Rattle.yaml_json.specs.Left.{IsTooWide}
-use Rattle.yaml_json.specs.Nest.{IsOnlyItem, Opens, nest_end, shallower}
+use Rattle.yaml_json.specs.Left.{IsTooWide, shallower}
+use Rattle.yaml_json.specs.Nest.{IsOnlyItem, Opens, nest_end}
 use Rattle.yaml_json.proofs.LeftLemmas.{wide_inside, wide_margin}
 use Rattle.yaml_tree.specs.Depth.{depth}
 

@@ -13,5 +13,5 @@ ascii_low (c ∷ cs) h = and_from (nat_lt c 128) (is_low cs) (lt-ltb c 128 (h 0)
 
 -- the parts of the same tree
 pub parts_as : {W E : Type 0} {gives leaves : W → List ℕ → W → Type 0} {w v : W} {r : Result (Unit {0}) E} (i : Option ℕ) (m : ℕ) (t s : Tree)
-    → t ≡ s → WritesUnless (IsTooWide i m (part_nesting s)) gives leaves w r (parts_left i m s) v → WritesUnless (IsTooWide i m (part_nesting t)) gives leaves w r (parts_left i m t) v
-parts_as {gives = gives} {leaves} {w} {v} {r} i m t s e q = subst (λ x. WritesUnless (IsTooWide i m (part_nesting x)) gives leaves w r (parts_left i m x) v) (sym e) q
+    → t ≡ s → WritesUnless (IsTooWide i m (part_nesting s)) gives leaves w r (parts_left true i m s) v → WritesUnless (IsTooWide i m (part_nesting t)) gives leaves w r (parts_left true i m t) v
+parts_as {gives = gives} {leaves} {w} {v} {r} i m t s e q = subst (λ x. WritesUnless (IsTooWide i m (part_nesting x)) gives leaves w r (parts_left true i m x) v) (sym e) q

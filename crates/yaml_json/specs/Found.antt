@@ -1,5 +1,5 @@
 -- A node that has no JSON text, as the code holds it, and as clauses see it.
-use Rattle.std.specs.Prelude.{String, map, reverse}
+use Rattle.std.specs.Prelude.{String, map}
 use Rattle.defs_text.specs.Text.{string_chars}
 use Rattle.defs_json.specs.Fault as fault
 use Rattle.defs_json.specs.Fault.{Fault}
@@ -8,7 +8,6 @@ use Rattle.yaml_json.specs.declared.error.Step.TheVariants as steps
 use Rattle.yaml_json.specs.declared.error.Reason.{Reason}
 use Rattle.yaml_json.specs.declared.error.Reason.TheVariants as reasons
 use Rattle.yaml_json.specs.declared.error.NoJson.{NoJson}
-use Rattle.yaml_json.specs.declared.find.Found.{Found}
 
 -- a step
 abbrev pub step_view : Step → fault.Step
@@ -29,7 +28,3 @@ reason_view reasons.Key = fault.has_other_key
 -- the node, by the steps to it from the root
 abbrev pub fault_of : NoJson → Fault
 fault_of n = record { path = map step_view n.path.items; reason = reason_view n.reason }
-
--- the same, where the last step stands first
-abbrev pub found_fault : Found → Fault
-found_fault f = record { path = map step_view (reverse f.steps.items); reason = reason_view f.reason }

@@ -30,6 +30,12 @@ abbrev mutual
   ArePairsGiven no_pairs = Unit {0}
   ArePairsGiven (pair k v ps) = IsKeyGiven k × IsGiven v × ArePairsGiven ps
 
+-- the parts of an array or a hash
+abbrev pub ArePartsGiven : Tree → Type 0
+ArePartsGiven (array ts) = AreGiven ts
+ArePartsGiven (hash ps) = ArePairsGiven ps
+ArePartsGiven _ = Unit {0}
+
 -- a tree that has no parts
 abbrev pub IsFlatGiven : Tree → Type 0
 IsFlatGiven (integer z) = IsTrue (fits_i64 z)

@@ -1,5 +1,5 @@
 -- What is left to write of an array and an object, and the text of a node that has no parts.
-use Rattle.std.specs.Prelude.{ℕ, ◌+◌, ◌*◌, ◌^◌, ◌≤◌, Bool, true, if◌then◌else◌, Option, None, unwrap_or, List, [], ◌++◌, codes}
+use Rattle.std.specs.Prelude.{ℕ, ◌+◌, ◌-◌, ◌*◌, ◌^◌, ◌≤◌, Bool, if◌then◌else◌, Option, None, unwrap_or, List, [], ◌++◌, codes}
 use Rattle.defs_tree.specs.Tree.{Tree, array, hash, Items, no_items, item, Pairs, no_pairs, pair}
 use Rattle.defs_json.specs.HasJson.{item_nesting, member_nesting}
 use Rattle.defs_json.specs.JsonText.{new_line, key_end, key_text, json_text, more_items, more_members}
@@ -7,6 +7,10 @@ use Rattle.defs_json.specs.JsonText.{new_line, key_end, key_text, json_text, mor
 -- a line would need 2^64 spaces
 abbrev pub IsTooWide : (indentation : Option ℕ) → (margin levels : ℕ) → Type 0
 IsTooWide indentation margin levels = 2 ^ 64 ≤ margin + unwrap_or indentation 0 * levels
+
+-- the margin one level up
+abbrev pub shallower : (indentation : Option ℕ) → (margin : ℕ) → ℕ
+shallower indentation margin = margin - unwrap_or indentation 0
 
 -- what stands before an entry
 abbrev pub before_entry : (is_first : Bool) → (indentation : Option ℕ) → (margin : ℕ) → List ℕ
@@ -25,11 +29,11 @@ members_left is_first indentation margin (pair k v ps) =
     before_entry is_first indentation margin
     ++ (key_text k ++ (key_end indentation ++ (json_text indentation margin v ++ more_members indentation margin ps)))
 
--- the parts of an array or object that are left, where none was written
-abbrev pub parts_left : (indentation : Option ℕ) → (margin : ℕ) → Tree → List ℕ
-parts_left indentation margin (array ts) = items_left true indentation margin ts
-parts_left indentation margin (hash ps) = members_left true indentation margin ps
-parts_left indentation margin t = []
+-- the parts of an array or object that are left
+abbrev pub parts_left : (is_first : Bool) → (indentation : Option ℕ) → (margin : ℕ) → Tree → List ℕ
+parts_left is_first indentation margin (array ts) = items_left is_first indentation margin ts
+parts_left is_first indentation margin (hash ps) = members_left is_first indentation margin ps
+parts_left is_first indentation margin t = []
 
 -- how deep its parts nest
 abbrev pub part_nesting : Tree → ℕ

@@ -1,9 +1,12 @@
 pub mod Found
 pub mod Given
 pub mod Left
+pub mod Level
 pub mod Nest
 pub mod Outcome
-pub mod Whole
+pub mod Parts
+pub mod Search
+pub mod Shallow
 pub use Rattle.defs_json.specs.Fault
 pub use Rattle.defs_json.specs.HasJson
 pub use Rattle.defs_json.specs.JsonReal

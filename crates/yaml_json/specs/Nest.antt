@@ -1,20 +1,16 @@
 -- Arrays of one item each, one within the other.
-use Rattle.std.specs.Prelude.{ℕ, ◌≡◌, ◌≤◌, ◌-◌, zero, suc, Option, unwrap_or, List, [], ◌++◌, codes}
+use Rattle.std.specs.Prelude.{ℕ, ◌≡◌, ◌≤◌, zero, suc, Option, List, [], ◌++◌, codes}
 use Rattle.defs_tree.specs.Tree.{Tree, array, no_items, item}
 use Rattle.defs_json.specs.HasJson.{nesting}
 use Rattle.defs_json.specs.JsonText.{new_line, json_text}
 use Rattle.yaml_emitter.specs.Writing.{IsLeft}
 use Rattle.yaml_json.specs.Given.{IsGiven}
-use Rattle.yaml_json.specs.Left.{IsTooWide}
+use Rattle.yaml_json.specs.Left.{IsTooWide, shallower}
 use Rattle.yaml_tree.specs.Depth.{depth}
 
 -- the second tree is an array, and the first its only item
 abbrev pub IsOnlyItem : Tree → Tree → Type 0
 IsOnlyItem t s = s ≡ array (item t no_items)
-
--- the margin one level up
-abbrev pub shallower : (indentation : Option ℕ) → (margin : ℕ) → ℕ
-shallower indentation margin = margin - unwrap_or indentation 0
 
 -- the ends of so many arrays, where what stands in the innermost one has this margin
 abbrev pub nest_end : (indentation : Option ℕ) → (margin levels : ℕ) → List ℕ

@@ -9,8 +9,8 @@ pub enum JsonError {
     /// A node has no JSON text. Nothing was written.
     #[error("{0}")]
     NoJson(NoJson),
-    /// A node below the root is the first without a JSON text, and memory was refused for the path to it. Nothing was
-    /// written.
+    /// Memory was refused: on the way to the first node without a JSON text, which lies below the root, or because each
+    /// node has one and the tree nests more than 128 levels. Nothing was written.
     #[error("out of memory")]
     OutOfMemory,
     /// The writer refused a part of the text, or a line would need 2^64 spaces.

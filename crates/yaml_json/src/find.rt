@@ -1,103 +1,213 @@
-//! The first node that has no JSON text.
-ghost use Rattle.std.specs.Prelude.{◌≡◌, None, chars, if◌then◌else◌, IfOk, OnErr, option_map};
-ghost use Rattle.defs_json.specs.Fault.{here, is_no_number, are_strings, step_of, first_fault};
-ghost use Rattle.defs_json.specs.JsonReal.{is_json_real};
-ghost use Rattle.defs_tree.specs.Tree.{pairs_of};
+//! How deep a tree is, or the first node that has no JSON text.
+ghost use Rattle.std.specs.Prelude.{◌≡◌, ◌∷◌, ◌+◌, ◌≤◌, None, Some, true, false, chars, IfOk, IfErr, IfSome, IfNone};
+ghost use Rattle.defs_json.specs.Fault.{here, are_strings, step_of, first_fault};
+ghost use Rattle.defs_json.specs.HasJson.{nesting};
+ghost use Rattle.defs_tree.specs.Box.{is_block};
+ghost use Rattle.defs_tree.specs.Tree.{real, pairs_of};
 ghost use Rattle.defs_tree.specs.Typing.{is_string};
-ghost use Rattle.yaml_tree.specs.View.{view, array_tree, hash_tree};
-ghost use Rattle.yaml_json.specs.Found.{found_fault, fault_of, reason_view, string_step};
-ghost use Rattle.yaml_json.specs.Outcome.{IsBelowRoot};
+ghost use Rattle.yaml_json.specs.Found.{fault_of, reason_view, step_view, string_step};
+ghost use Rattle.yaml_json.specs.Level.{left_in, tree_left};
+ghost use Rattle.yaml_json.specs.Search.{ArePlain, IsMet, IsSeen, Meets, Names, fault_in, fault_left, last_step, step_in};
+ghost use Rattle.yaml_tree.specs.View.{view};
 
-use crate::error::{NoJson, Reason, Step};
+use crate::error::{JsonError, NoJson, Reason, Step};
+use crate::level::Level;
 use crate::number::is_json_real;
 use std::alloc::{AllocError, Global};
-use yaml_tree::{Array, Hash, Yaml};
+use yaml_emitter::has_parts;
+use yaml_tree::{Hash, Levels, Yaml};
 
-/// A node that has no JSON text, and the steps to it, the last one first.
-#[derive(Drop)]
-struct Found {
-    steps: Vec<Step>,
-    reason: Reason,
-}
-
-/// The first node that has no JSON text. Memory is taken for its path alone, so none for the root.
-pub(crate) fn first_fault(alloc: Global, tree: &Yaml) -> Result<Option<NoJson>, AllocError>
-    ensures found { IfOk result (λ o. option_map fault_of o ≡ first_fault (view tree.now)) }
-    ensures refused { OnErr result (IsBelowRoot (first_fault (view tree.now))) }
+/// How many arrays and hashes with parts stand one in another, or the error that names the first node without a JSON
+/// text. Memory is taken for the path to that node and for the levels that wait, so none where it is the root.
+pub(crate) fn count_levels(alloc: Global, tree: &Yaml) -> Result<usize, JsonError>
+    ensures whole { IfOk result (λ _. first_fault (view tree.now) ≡ None) }
+    ensures no_deeper { IfOk result (λ n. nesting (view tree.now) ≤ n + 1) }
+    ensures no_higher { IfOk result (λ n. n ≤ nesting (view tree.now)) }
+    ensures names { IfErr result (λ e. Names (first_fault (view tree.now)) e) }
 {
-    let Some(Found { mut steps, reason }) = find(alloc, tree)? else {
-        return Ok(None);
-    };
-    steps.reverse();
-    Ok(Some(NoJson {
-        path: steps,
-        reason,
-    }))
+    match look(tree) {
+        Looked::Plain => Ok(0),
+        Looked::Deep => count_levels_in(alloc, tree),
+        Looked::Faulty(reason) => Err(JsonError::NoJson(NoJson {
+            path: Vec::new(alloc),
+            reason,
+        })),
+    }
 }
 
-#[cycle(find)]
-fn find(alloc: Global, node: &Yaml) -> Result<Option<Found>, AllocError>
-    ensures found { IfOk result (λ o. option_map found_fault o ≡ first_fault (view node.now)) }
-    ensures refused { OnErr result (IsBelowRoot (first_fault (view node.now))) }
+fn count_levels_in(alloc: Global, tree: &Yaml) -> Result<usize, JsonError>
+    requires parts { is_block (view tree.now) ≡ true }
+    requires fault { first_fault (view tree.now) ≡ fault_left 0 (view tree.now) }
+    ensures whole { IfOk result (λ _. first_fault (view tree.now) ≡ None) }
+    ensures no_deeper { IfOk result (λ n. nesting (view tree.now) ≤ n + 1) }
+    ensures no_higher { IfOk result (λ n. n ≤ nesting (view tree.now)) }
+    ensures names { IfErr result (λ e. Names (first_fault (view tree.now)) e) }
+{
+    let mut level = Level::of(tree);
+    let mut waiting = Levels::new(alloc, level);
+    let mut depth: usize = 1;
+    let mut deepest: usize = 1;
+    'levels: loop {
+        let Some(met) = next_met(level) else {
+            let Some(outer) = waiting.pop() else {
+                return Ok(deepest);
+            };
+            level = outer;
+            depth -= 1;
+            continue;
+        };
+        level.passed = met.passed;
+        if let Some(reason) = met.reason {
+            return Err(no_json(alloc, waiting, level, reason));
+        }
+        let Some(deeper) = depth.checked_add(1) else {
+            return Err(JsonError::OutOfMemory);
+        };
+        let Ok(()) = waiting.push(level) else {
+            return Err(JsonError::OutOfMemory);
+        };
+        level = Level::of(met.node);
+        depth = deeper;
+        deepest = deepest.max(deeper);
+    }
+}
+
+/// A part of a level that has parts itself, or for this reason no text.
+#[derive(Clone, Copy)]
+struct Met<'a> {
+    node: &'a Yaml,
+    /// How many nodes of the level's row are passed with it.
+    passed: usize,
+    reason: Option<Reason>,
+}
+
+// The next of a level.
+fn next_met(level: Level<'_>) -> Option<Met<'_>>
+    ensures met { IfSome result (λ m. IsMet (view m.node.now) m.reason) }
+    ensures meets { IfSome result (λ m. Meets (tree_left level.entry) level.entry.passed (step_in level.entry.is_hash level.entry.row.now m.passed) (view m.node.now)
+        (left_in level.entry.is_hash level.entry.row.now m.passed) m.passed) }
+    ensures end { IfNone result (ArePlain level.entry.passed (tree_left level.entry)) }
+{
+    if level.is_hash {
+        next_met_value(level.row, level.passed)
+    } else {
+        next_met_item(level.row, level.passed)
+    }
+}
+
+fn next_met_item(row: &[Yaml], passed: usize) -> Option<Met<'_>>
+    ensures met { IfSome result (λ m. IsMet (view m.node.now) m.reason) }
+    ensures meets { IfSome result (λ m. Meets (left_in false row.now passed) passed (step_in false row.now m.passed) (view m.node.now) (left_in false row.now m.passed) m.passed) }
+    ensures end { IfNone result (ArePlain passed (left_in false row.now passed)) }
+{
+    let mut at = passed;
+    'at: while at < row.len() {
+        let node = &row[at];
+        at += 1;
+        match look(node) {
+            Looked::Plain => {}
+            Looked::Deep => {
+                return Some(Met {
+                    node,
+                    passed: at,
+                    reason: None,
+                });
+            }
+            Looked::Faulty(reason) => {
+                return Some(Met {
+                    node,
+                    passed: at,
+                    reason: Some(reason),
+                });
+            }
+        }
+    }
+    None
+}
+
+// The keys are strings, as was seen before.
+fn next_met_value(row: &[Yaml], passed: usize) -> Option<Met<'_>>
+    ensures met { IfSome result (λ m. IsMet (view m.node.now) m.reason) }
+    ensures meets { IfSome result (λ m. Meets (left_in true row.now passed) passed (step_in true row.now m.passed) (view m.node.now) (left_in true row.now m.passed) m.passed) }
+    ensures end { IfNone result (ArePlain passed (left_in true row.now passed)) }
+{
+    let mut at = passed;
+    'at: while at < row.len() {
+        if at + 1 == row.len() {
+            return None;
+        }
+        let value = &row[at + 1];
+        at += 2;
+        match look(value) {
+            Looked::Plain => {}
+            Looked::Deep => {
+                return Some(Met {
+                    node: value,
+                    passed: at,
+                    reason: None,
+                });
+            }
+            Looked::Faulty(reason) => {
+                return Some(Met {
+                    node: value,
+                    passed: at,
+                    reason: Some(reason),
+                });
+            }
+        }
+    }
+    None
+}
+
+/// What a look at a node alone says.
+enum Looked {
+    /// It has a text, and no parts.
+    Plain,
+    /// It has parts, and its faults are theirs.
+    Deep,
+    /// It has no text.
+    Faulty(Reason),
+}
+
+fn look(node: &Yaml) -> Looked
+    ensures { IsSeen (view node.now) result }
 {
     match node {
-        Yaml::Real(text) => Ok(find_in_real(alloc, text.as_str())),
-        Yaml::Array(items) => find_in_items(alloc, items),
-        Yaml::Hash(pairs) => find_in_pairs(alloc, pairs),
-        Yaml::Alias(_) => Ok(node_itself(alloc, Reason::Alias)),
-        Yaml::BadValue => Ok(node_itself(alloc, Reason::BadValue)),
-        Yaml::Integer(_) | Yaml::String(_) | Yaml::Boolean(_) | Yaml::Null => Ok(None),
+        Yaml::Real(text) => look_at_real(text.as_str()),
+        Yaml::Array(_) => look_at_parts(node),
+        Yaml::Hash(pairs) => {
+            if has_string_keys(pairs) {
+                look_at_parts(node)
+            } else {
+                Looked::Faulty(Reason::Key)
+            }
+        }
+        Yaml::Alias(_) => Looked::Faulty(Reason::Alias),
+        Yaml::BadValue => Looked::Faulty(Reason::BadValue),
+        Yaml::Integer(_) | Yaml::String(_) | Yaml::Boolean(_) | Yaml::Null => Looked::Plain,
     }
 }
 
-fn node_itself(alloc: Global, reason: Reason) -> Option<Found>
-    ensures { option_map found_fault result ≡ here (reason_view reason) }
-{
-    Some(Found {
-        steps: Vec::new(alloc),
-        reason,
-    })
-}
-
-fn find_in_real(alloc: Global, text: &str) -> Option<Found>
-    ensures { option_map found_fault result ≡ (if is_json_real (chars text.now) then None else here is_no_number) }
+fn look_at_real(text: &str) -> Looked
+    ensures { IsSeen (real (chars text.now)) result }
 {
     if is_json_real(text) {
-        None
+        Looked::Plain
     } else {
-        node_itself(alloc, Reason::Number)
+        Looked::Faulty(Reason::Number)
     }
 }
 
-#[cycle(find)]
-fn find_in_items(alloc: Global, items: &Array) -> Result<Option<Found>, AllocError>
-    ensures found { IfOk result (λ o. option_map found_fault o ≡ first_fault (array_tree items.now)) }
-    ensures refused { OnErr result (IsBelowRoot (first_fault (array_tree items.now))) }
+// An array, or a hash whose keys are strings.
+fn look_at_parts(node: &Yaml) -> Looked
+    requires { first_fault (view node.now) ≡ fault_left 0 (view node.now) }
+    ensures { IsSeen (view node.now) result }
 {
-    'items: for (index, item) in items.iter().enumerate() {
-        if let Some(mut found) = find(alloc, item)? {
-            found.steps.push(Step::Index(index))?;
-            return Ok(Some(found));
-        }
+    if has_parts(node) {
+        Looked::Deep
+    } else {
+        Looked::Plain
     }
-    Ok(None)
-}
-
-#[cycle(find)]
-fn find_in_pairs(alloc: Global, pairs: &Hash) -> Result<Option<Found>, AllocError>
-    ensures found { IfOk result (λ o. option_map found_fault o ≡ first_fault (hash_tree pairs.now)) }
-    ensures refused { OnErr result (IsBelowRoot (first_fault (hash_tree pairs.now))) }
-{
-    if !has_string_keys(pairs) {
-        return Ok(node_itself(alloc, Reason::Key));
-    }
-    'pairs: for (key, value) in pairs.iter() {
-        if let Some(mut found) = find(alloc, value)? {
-            found.steps.push(Step::Key(text_of(alloc, key)?))?;
-            return Ok(Some(found));
-        }
-    }
-    Ok(None)
 }
 
 fn has_string_keys(pairs: &Hash) -> bool
@@ -115,6 +225,49 @@ pub(crate) fn is_string(node: &Yaml) -> bool
     ensures { result ≡ is_string (view node.now) }
 {
     matches!(node, Yaml::String(_))
+}
+
+// The error that names the last part that was passed in a level, inside those that wait.
+fn no_json(alloc: Global, waiting: Levels<Level<'_>>, level: Level<'_>, reason: Reason) -> JsonError
+    ensures { Names (fault_in (level.entry ∷ waiting.entry) (here (reason_view reason))) result }
+{
+    match fault_at(alloc, waiting, level, reason) {
+        Ok(fault) => JsonError::NoJson(fault),
+        Err(_) => JsonError::OutOfMemory,
+    }
+}
+
+fn fault_at(
+    alloc: Global,
+    mut waiting: Levels<Level<'_>>,
+    level: Level<'_>,
+    reason: Reason,
+) -> Result<NoJson, AllocError>
+    ensures { IfOk result (λ n. fault_in (level.entry ∷ waiting.entry) (here (reason_view reason)) ≡ Some (fault_of n)) }
+{
+    let mut steps = Vec::new(alloc);
+    steps.push(last_step(alloc, level)?)?;
+    'outer: while let Some(outer) = waiting.pop() {
+        steps.push(last_step(alloc, outer)?)?;
+    }
+    steps.reverse();
+    Ok(NoJson {
+        path: steps,
+        reason,
+    })
+}
+
+// The step to the last part that was passed in a level.
+fn last_step(alloc: Global, level: Level<'_>) -> Result<Step, AllocError>
+    ensures { IfOk result (λ s. step_view s ≡ last_step level.entry) }
+{
+    if !level.is_hash {
+        return Ok(Step::Index(level.passed.saturating_sub(1)));
+    }
+    match level.row.get(level.passed.saturating_sub(2)) {
+        Some(key) => Ok(Step::Key(text_of(alloc, key)?)),
+        None => Ok(Step::Key(String::new(alloc))),
+    }
 }
 
 // The text of a key that is a string.

@@ -16,35 +16,41 @@
 //! ```
 #![tactic(auto)]
 
+mod deep;
 mod error;
 mod find;
 mod integer;
 pub mod laws;
+mod level;
 mod nest;
 mod number;
+mod shallow;
 mod value;
 mod white;
-mod whole;
 
-ghost use Rattle.std.specs.Prelude.{◌≡◌, ◌≢◌, ◌*◌, ◌≤◌, ◌^◌, None, Some, OnOk, IfErr};
-ghost use Rattle.defs_json.specs.Fault.{first_fault};
+ghost use Rattle.std.specs.Prelude.{◌*◌, ◌≤◌, ◌^◌, None, Some, OnOk, IfErr};
 ghost use Rattle.defs_json.specs.HasJson.{HasJson, nesting};
 ghost use Rattle.defs_json.specs.JsonText.{json_text};
 ghost use Rattle.yaml_tree.specs.View.{view};
-ghost use Rattle.yaml_json.specs.Outcome.{Leaves, Names};
+ghost use Rattle.yaml_json.specs.Outcome.{Leaves};
 ghost use Rattle.yaml_json.specs.Left.{IsTooWide};
 
-use crate::find::first_fault;
+use crate::deep::write_deep;
+use crate::shallow::is_shallow;
 use crate::value::write_value;
 use crate::white::{Compact, Indented, Spacing};
-use crate::whole::is_whole;
 pub use error::{JsonError, NoJson, Reason, Step};
 use std::alloc::Global;
 use yaml_emitter::Writer;
 use yaml_tree::Yaml;
 
-/// Writes the JSON text of a tree without white space. If a node has none, nothing is written; if the writer refuses a
-/// part of the text, a beginning of it was written. Memory is taken only for the path in an error.
+/// The most levels of arrays and hashes of a tree that is written by a recursion.
+const SHALLOW: usize = 128;
+
+/// Writes the JSON text of a tree without white space. If a node has none, or memory is refused, nothing is written; if
+/// the writer refuses a part of the text, a beginning of it was written. However deep the tree is, it takes no more
+/// stack than one of 128 levels. Memory is taken only for a tree that nests deeper than that, and for the way to a node
+/// without a text.
 pub fn write_json<W: Writer>(alloc: Global, tree: &Yaml, out: &mut W) -> Result<(), JsonError>
     ensures has_json { OnOk result (HasJson (view tree.now)) }
     ensures written { OnOk result (W.calls_give out.old (json_text None 0 (view tree.now)) out.new) }
@@ -69,18 +75,8 @@ pub fn write_json_indented<W: Writer>(
     write_laid_out(alloc, tree, Indented { width }, out)
 }
 
-// The error that names the first node without a JSON text.
-fn no_json(alloc: Global, tree: &Yaml) -> JsonError
-    requires { first_fault (view tree.now) ≢ None }
-    ensures { Names (view tree.now) result }
-{
-    match first_fault(alloc, tree) {
-        Ok(Some(fault)) => JsonError::NoJson(fault),
-        Ok(None) => unreachable!(),
-        Err(_) => JsonError::OutOfMemory,
-    }
-}
-
+// A shallow tree is written by a recursion, which takes no memory. A deep one is written by loops, which take no stack. They
+// also find the first node without a JSON text.
 fn write_laid_out<W: Writer, S: Spacing>(
     alloc: Global,
     tree: &Yaml,
@@ -92,8 +88,8 @@ fn write_laid_out<W: Writer, S: Spacing>(
     ensures err { IfErr result (Leaves W.put_gives W.put_leaves W.calls_leave (IsTooWide (S.indentation spacing) 0 (nesting (view tree.now))) (view tree.now)
         (json_text (S.indentation spacing) 0 (view tree.now)) out.old out.new) }
 {
-    if !is_whole(tree) {
-        return Err(no_json(alloc, tree));
+    if !is_shallow(tree, SHALLOW) {
+        return write_deep(alloc, tree, spacing, out);
     }
     match write_value(out, spacing, 0, tree) {
         Ok(()) => Ok(()),

@@ -87,9 +87,9 @@ fn brackets(node: &Yaml) -> (&'static str, &'static str)
     }
 }
 
-// A scalar, or an array or object that is empty.
+/// Writes a scalar, or an array or object that is empty.
 #[tactic(auto, using(crate::proofs::GivenLemmas::text_given), unfolding(defs_text::specs::Text::string_chars))]
-fn write_flat<W: Writer>(out: &mut W, node: &Yaml) -> fmt::Result
+pub(crate) fn write_flat<W: Writer>(out: &mut W, node: &Yaml) -> fmt::Result
     ensures given { IsFlatGiven (view node.now) }
     ensures text { Writes W.put_gives W.put_leaves out.old result (flat_text (view node.now)) out.new }
 {
@@ -123,7 +123,7 @@ fn write_parts<W: Writer, S: Spacing>(
 ) -> fmt::Result
     requires { is_block (view node.now) ≡ true }
     ensures text { WritesUnless (IsTooWide (S.indentation spacing) margin (part_nesting (view node.now))) W.put_gives W.put_leaves out.old result
-        (parts_left (S.indentation spacing) margin (view node.now)) out.new }
+        (parts_left true (S.indentation spacing) margin (view node.now)) out.new }
     ensures given { OnOk result (IsGiven (view node.now)) }
 {
     match node {
@@ -175,8 +175,9 @@ fn write_members<W: Writer, S: Spacing>(
     Ok(())
 }
 
+/// Writes a key that is a string.
 #[tactic(auto, using(crate::proofs::GivenLemmas::text_given), unfolding(defs_text::specs::Text::string_chars))]
-fn write_key<W: Writer>(out: &mut W, key: &Yaml) -> fmt::Result
+pub(crate) fn write_key<W: Writer>(out: &mut W, key: &Yaml) -> fmt::Result
     ensures given { IsKeyGiven (view key.now) }
     ensures text { Writes W.put_gives W.put_leaves out.old result (key_text (view key.now)) out.new }
 {

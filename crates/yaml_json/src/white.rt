@@ -2,8 +2,7 @@
 ghost use Rattle.std.specs.Prelude.{◌≡◌, ◌≤◌, ◌^◌, ℕ, Option, None, Some, MatchResult};
 ghost use Rattle.defs_json.specs.JsonText.{deeper, new_line, key_end};
 ghost use Rattle.yaml_emitter.specs.Writing.{Writes};
-ghost use Rattle.yaml_json.specs.Left.{before_entry};
-ghost use Rattle.yaml_json.specs.Nest.{shallower};
+ghost use Rattle.yaml_json.specs.Left.{before_entry, shallower};
 
 use std::fmt;
 use yaml_emitter::{Writer, put_ascii, start_line};

@@ -6,7 +6,7 @@ use Rattle.yaml_emitter.proofs.EntryLemmas.{items_text, pairs_text, two_levels}
 use Rattle.yaml_emitter.proofs.ListLemmas.{all_left, rest_left, entry_stopped, none_left, own_no_higher, none_decide, first_within}
 use Rattle.yaml_emitter.proofs.NodeLemmas.{flat_after, block_after, block_writes, item_entries, pair_entries, scalar_pair, complex_pair}
 use Rattle.yaml_emitter.proofs.ValidLemmas.{unless_ok, pair_valid, in_any, flat_valid, valid_as, valid_hash, nodes, nodes_in_pairs}
-use Rattle.yaml_emitter.proofs.WritingLemmas.{wrote_then, writes_late, writes_err, writes_for, writes_as, stopped_early, stopped_late, stopped_for, stopped_here, writes_ok}
+use Rattle.yaml_emitter.proofs.WritingLemmas.{wrote_then, writes_late, writes_err, writes_for, writes_as, stopped_early, stopped_late, stopped_for, writes_ok}
 use Rattle.yaml_emitter.proofs.node.+write.Goals as goal
 
 pub write_value-returns-in_err-put_spaced-clause-text : goal.write_value-returns-in_err-put_spaced-clause-text
@@ -29,10 +29,10 @@ write_value-returns-clause-text g t c =
     writes_as (block_after _ _ c.args.blocks_lower c.args.level (mark_text c.args.mark) (view c.args.node.now) (sym (c.if-not-has_parts.ensures {u = tt})))
     (writes_late (c.in_ok-begin_block.ensures.ok refl) c.write_block.ensures.text)
 
-pub write_block-returns-then-level-ge-DEEPEST-clause-text : goal.write_block-returns-then-level-ge-DEEPEST-clause-text
-write_block-returns-then-level-ge-DEEPEST-clause-text g t c =
+pub write_block-returns-then-level-ge-SHALLOW-clause-text : goal.write_block-returns-then-level-ge-SHALLOW-clause-text
+write_block-returns-then-level-ge-SHALLOW-clause-text g t c =
     let two = two_levels (view c.args.node.now) c.requires.block in
-    writes_err refl (stopped_here _ _ _ _ _ (omega (arith, two)) refl)
+    writes_for (λ _. omega (arith, two, c.if-level-ge-SHALLOW.true)) c.write_deep.ensures.text
 
 pub write_block-returns-in-Array-clause-text : goal.write_block-returns-in-Array-clause-text
 write_block-returns-in-Array-clause-text g t c =

@@ -1,0 +1,21 @@
+use Rattle.std.proofs.Common.{refl, arith}
+use Rattle.yaml_tree.specs.View.{view}
+use Rattle.yaml_emitter.specs.Deep.{rests_text}
+use Rattle.yaml_emitter.proofs.DeepLemmas.{value_left, goes_late, goes_refused}
+use Rattle.yaml_emitter.proofs.WritingLemmas.{left_after}
+use Rattle.yaml_emitter.proofs.deep.write_first.Goals as goal
+
+pub returns-in-Items : goal.returns-in-Items
+returns-in-Items g c = rw c.in-Items.is c.write_item.ensures
+
+pub returns-in-Pairs : goal.returns-in-Pairs
+returns-in-Pairs g c = rw c.in-Pairs.is c.write_pair.ensures
+
+pub returns-in_err-break_line-in-Value : goal.returns-in_err-break_line-in-Value
+returns-in_err-break_line-in-Value g c =
+    rw c.in-Value.is (goes_refused _ c.from_residual.ensures.0 (value_left c.args.settings.now.compact c.args.settings.now.multiline c.in-Value.level (view c.in-Value.node.now) (rests_text c.args.settings.now.compact c.args.settings.now.multiline c.args.outer.now)) (c.in_err-break_line-in-Value.ensures.err refl))
+
+pub returns-in_ok-break_line-in-Value : goal.returns-in_ok-break_line-in-Value
+returns-in_ok-break_line-in-Value g c =
+    rw c.in-Value.is
+    (goes_late (left_after (value_left c.args.settings.now.compact c.args.settings.now.multiline c.in-Value.level (view c.in-Value.node.now) (rests_text c.args.settings.now.compact c.args.settings.now.multiline c.args.outer.now)) (c.in_ok-break_line-in-Value.ensures.ok refl)) (omega arith) (λ f. f) c.begin_value.ensures)

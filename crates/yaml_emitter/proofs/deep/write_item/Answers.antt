@@ -1,0 +1,28 @@
+use Rattle.std.proofs.Common.{refl, ap, arith}
+use Rattle.std.proofs.lemmas.List.{nil_from_length}
+use Rattle.defs_tree.specs.Tree.{items_of}
+use Rattle.yaml_tree.specs.View.{items_view}
+use Rattle.yaml_tree.specs.Weight.{items_nodes}
+use Rattle.yaml_emitter.proofs.DeepLemmas.{item_left, items_end, items_fit, goes_err, goes_late, goes_refused, stopped_there}
+use Rattle.yaml_emitter.proofs.WritingLemmas.{left_after}
+use Rattle.yaml_emitter.proofs.deep.write_item.Goals as goal
+
+pub returns-in_default : goal.returns-in_default
+returns-in_default g c = items_end c.args.is_first c.args.level c.args.outer.now refl (ap items_view (nil_from_length _ c.in_default.ensures.cases))
+
+pub returns-in_err-begin_entry : goal.returns-in_err-begin_entry
+returns-in_err-begin_entry g c =
+    goes_refused _ c.from_residual.ensures.0 (item_left _ _ c.args.is_first c.args.level _ (ap items_view c.in-Some.ensures.cases.0)) (c.in_err-begin_entry.ensures.err refl)
+
+pub returns-in_err-push : goal.returns-in_err-push
+returns-in_err-push g c =
+    goes_err c.from_residual-in_err-push.ensures.0
+    (stopped_there (left_after (item_left _ _ c.args.is_first c.args.level _ (ap items_view c.in-Some.ensures.cases.0)) (c.in_ok-begin_entry.ensures.ok refl)))
+
+pub returns : goal.returns
+returns g c =
+    let items = ap items_view c.in-Some.ensures.cases.0 in
+    goes_late (left_after (item_left _ _ c.args.is_first c.args.level _ items) (c.in_ok-begin_entry.ensures.ok refl))
+    (omega (arith, ap (λ ts. items_nodes (items_of ts)) items))
+    (λ f. (items_fit items f.0 f.1.0, f.1.1))
+    (rw c.in_ok-push.ensures.ok at c.begin_value.ensures)

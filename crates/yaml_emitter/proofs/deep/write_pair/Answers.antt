@@ -1,0 +1,64 @@
+use Rattle.std.proofs.Common.{refl, sym, ap, ◌∙◌, ◌∷◌, arith}
+use Rattle.std.proofs.lemmas.List.{nil_from_length}
+use Rattle.defs_tree.specs.Tree.{pairs_of}
+use Rattle.yaml_tree.specs.View.{pairs_view}
+use Rattle.yaml_tree.specs.Weight.{pairs_nodes}
+use Rattle.yaml_emitter.proofs.DeepLemmas.{pair_left, pairs_end, scalar_key_apart, complex_key_apart, pairs_fit, goes_err, goes_late, goes_refused, stopped_there}
+use Rattle.yaml_emitter.proofs.WritingLemmas.{left_as, left_after}
+use Rattle.yaml_emitter.proofs.deep.write_pair.Goals as goal
+
+pub returns-in_default : goal.returns-in_default
+returns-in_default g c = pairs_end c.args.is_first c.args.level c.args.outer.now refl (ap pairs_view (nil_from_length _ c.in_default.ensures.cases))
+
+pub returns-in_default-split_first : goal.returns-in_default-split_first
+returns-in_default-split_first g c =
+    pairs_end c.args.is_first c.args.level c.args.outer.now refl
+    (ap pairs_view (c.in-Some.ensures.cases.0 ∙ ap (λ ys. c.in-Some.key.now ∷ ys) (nil_from_length _ c.in_default-split_first.ensures.cases)))
+
+pub returns-in_err-begin_entry : goal.returns-in_err-begin_entry
+returns-in_err-begin_entry g c =
+    let pairs = ap pairs_view (c.in-Some.ensures.cases.0 ∙ ap (λ ys. c.in-Some.key.now ∷ ys) c.in-Some-split_first.ensures.cases.0) in
+    goes_refused _ c.from_residual.ensures.0 (pair_left _ _ c.args.is_first c.args.level _ pairs) (c.in_err-begin_entry.ensures.err refl)
+
+pub returns-in_err-push : goal.returns-in_err-push
+returns-in_err-push g c =
+    let pairs = ap pairs_view (c.in-Some.ensures.cases.0 ∙ ap (λ ys. c.in-Some.key.now ∷ ys) c.in-Some-split_first.ensures.cases.0) in
+    goes_err c.from_residual-in_err-push.ensures.0
+    (stopped_there (left_after (pair_left _ _ c.args.is_first c.args.level _ pairs) (c.in_ok-begin_entry.ensures.ok refl)))
+
+pub returns-in_err-write_spelling : goal.returns-in_err-write_spelling
+returns-in_err-write_spelling g c =
+    let pairs = ap pairs_view (c.in-Some.ensures.cases.0 ∙ ap (λ ys. c.in-Some.key.now ∷ ys) c.in-Some-split_first.ensures.cases.0) in
+    goes_refused _ c.from_residual-in_err-write_spelling.ensures.0
+    (left_as (scalar_key_apart _ _ c.args.level _ _ _ (c.if-is_scalar.ensures {u = tt}))
+    (left_after (pair_left _ _ c.args.is_first c.args.level _ pairs) (c.in_ok-begin_entry.ensures.ok refl)))
+    (c.in_err-write_spelling.ensures.text.err refl)
+
+pub returns-then-is_scalar : goal.returns-then-is_scalar
+returns-then-is_scalar g c =
+    let pairs = ap pairs_view (c.in-Some.ensures.cases.0 ∙ ap (λ ys. c.in-Some.key.now ∷ ys) c.in-Some-split_first.ensures.cases.0) in
+    let scalar = c.if-is_scalar.ensures {u = tt} in
+    goes_late
+    (left_after
+    (left_as (scalar_key_apart _ _ c.args.level _ _ _ scalar)
+    (left_after (pair_left _ _ c.args.is_first c.args.level _ pairs) (c.in_ok-begin_entry.ensures.ok refl)))
+    (c.in_ok-write_spelling.ensures.text.ok refl))
+    (omega (arith, ap (λ ps. pairs_nodes (pairs_of ps)) pairs))
+    (λ f. (pairs_fit pairs (c.in_ok-write_spelling.ensures.valid (sym scalar)) f.0 f.1.0, f.1.1))
+    (rw c.in_ok-push.ensures.ok at c.begin_value.ensures)
+
+pub returns-in_err-push-2 : goal.returns-in_err-push-2
+returns-in_err-push-2 g c =
+    let pairs = ap pairs_view (c.in-Some.ensures.cases.0 ∙ ap (λ ys. c.in-Some.key.now ∷ ys) c.in-Some-split_first.ensures.cases.0) in
+    goes_err c.from_residual-in_err-push-2.ensures.0
+    (stopped_there (left_after (pair_left _ _ c.args.is_first c.args.level _ pairs) (c.in_ok-begin_entry.ensures.ok refl)))
+
+pub returns : goal.returns
+returns g c =
+    let pairs = ap pairs_view (c.in-Some.ensures.cases.0 ∙ ap (λ ys. c.in-Some.key.now ∷ ys) c.in-Some-split_first.ensures.cases.0) in
+    goes_late
+    (left_as (complex_key_apart _ _ c.args.level _ _ _ (c.if-is_scalar.ensures {u = tt}))
+    (left_after (pair_left _ _ c.args.is_first c.args.level _ pairs) (c.in_ok-begin_entry.ensures.ok refl)))
+    (omega (arith, ap (λ ps. pairs_nodes (pairs_of ps)) pairs))
+    (λ f. (pairs_fit pairs f.0 f.1.0 f.1.1.0, f.1.1.1))
+    (rw c.in_ok-push.ensures.ok at (rw c.in_ok-push-2.ensures.ok at c.begin_value-2.ensures))

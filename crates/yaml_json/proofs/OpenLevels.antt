@@ -1,0 +1,57 @@
+-- Levels one in another, the innermost first.
+use Rattle.std.proofs.Common.{◌≡◌, ◌≢◌, ℕ, suc, ◌+◌, ◌-◌, ◌*◌, ◌<◌, ◌≤◌, List, [], ◌∷◌, length, get_or, take, true, refl, sym, ap, ◌∙◌, arith, set, reverse, true≢false}
+use Rattle.std.specs.Prelude.{max, map}
+use Rattle.std.proofs.lemmas.Grind.{take-set_at}
+use Rattle.std.proofs.lemmas.List.{take_more, reverse-append, length-map, length-reverse, length-take-le}
+use Rattle.defs_tree.specs.Box.{is_block}
+use Rattle.defs_tree.specs.Tree.{Tree, real, integer, string, boolean, array, hash, alias, null, bad_value}
+use Rattle.yaml_json.specs.Left.{part_nesting}
+use Rattle.yaml_json.specs.Level.{tree_left, part_nodes}
+use Rattle.yaml_json.specs.declared.level.Level.{Level}
+use Rattle.yaml_tree.specs.Weight.{nodes}
+
+-- what is left of levels
+abbrev pub trees : List Level → List Tree
+trees ls = map tree_left ls
+
+-- how deep the deepest part of some levels stands
+abbrev pub reach : List Tree → ℕ
+reach [] = 0
+reach (t ∷ ts) = max (suc (length ts) + part_nesting t) (reach ts)
+
+-- It falls where a part is passed, where a level is opened, and where one is done.
+abbrev pub weight : List Tree → ℕ
+weight [] = 0
+weight (t ∷ ts) = suc (2 * part_nodes t) + weight ts
+
+-- a node that has parts
+pub part_count : (t : Tree) → is_block t ≡ true → nodes t ≡ suc (part_nodes t)
+part_count (array ts) b = refl
+part_count (hash ps) b = refl
+part_count (real s) b = absurd (true≢false (sym b))
+part_count (integer z) b = absurd (true≢false (sym b))
+part_count (string s) b = absurd (true≢false (sym b))
+part_count (boolean x) b = absurd (true≢false (sym b))
+part_count (alias n) b = absurd (true≢false (sym b))
+part_count null b = absurd (true≢false (sym b))
+part_count bad_value b = absurd (true≢false (sym b))
+
+-- ---- levels in places made before
+
+-- the levels that wait in the first places
+abbrev pub waiting : ℕ → List Level → List Level
+waiting n places = reverse (take n places)
+
+pub one_more : (places : List Level) (n q : ℕ) (l : Level) → n < length places → q ≡ n + 1 → waiting q (set places n l) ≡ l ∷ waiting n places
+one_more places n q l h e = ap reverse (take-set_at places n q l e h) ∙ reverse-append (take n places) (l ∷ [])
+
+pub one_less : (places : List Level) (n q : ℕ) (l : Level) → n ≤ length places → n ≢ 0 → q ≡ n - 1 → l ≡ get_or places q l → waiting n places ≡ l ∷ waiting q places
+one_less places n q l h z e is =
+    let up : q + 1 ≡ n = omega arith in
+    ap (λ k. waiting k places) (sym up)
+    ∙ ap reverse (take_more places q l (omega arith))
+    ∙ reverse-append (take q places) (get_or places q l ∷ [])
+    ∙ ap (λ x. x ∷ waiting q places) (sym is)
+
+pub so_many : (places : List Level) (n : ℕ) → n ≤ length places → length (trees (waiting n places)) ≡ n
+so_many places n h = length-map (waiting n places) tree_left ∙ length-reverse (take n places) ∙ length-take-le n places h

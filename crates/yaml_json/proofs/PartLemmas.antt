@@ -1,0 +1,74 @@
+-- What was written of a level's parts.
+use Rattle.std.proofs.Common.{◌≡◌, ℕ, ◌≤◌, List, [], Bool, true, false, refl, sym, ap, ◌∙◌, arith, subst}
+use Rattle.std.specs.Prelude.{Result, Ok, Err, OnErr, Option}
+use Rattle.defs_tree.specs.Box.{is_block}
+use Rattle.defs_tree.specs.Tree.{Tree, array, hash, no_items, no_pairs}
+use Rattle.defs_json.specs.JsonText.{json_text}
+use Rattle.yaml_emitter.specs.Writing.{Wrote, Stopped, IsLeft}
+use Rattle.yaml_emitter.proofs.WritingLemmas.{left_all, left_as, left_after, left_none, left_stopped, stopped_early, stopped_late}
+use Rattle.yaml_json.proofs.GivenLemmas.{flat_text_is}
+use Rattle.yaml_json.proofs.LeftLemmas.{IsNext}
+use Rattle.yaml_json.specs.Given.{IsGiven, ArePartsGiven}
+use Rattle.yaml_json.specs.Left.{parts_left, part_nesting, closing, flat_text}
+use Rattle.yaml_json.specs.Level.{part_nodes}
+use Rattle.yaml_json.specs.Parts.{Ends, Stops}
+
+pub when_err : {A E P : Type 0} (r : Result A E) → P → OnErr r P
+when_err (Ok x) p = tt
+when_err (Err x) p = p
+
+-- a part that has no parts
+pub wrote_flat : {W : Type 0} {gives : W → List ℕ → W → Type 0} {w v : W} (i : Option ℕ) (m : ℕ) (t : Tree) → is_block t ≡ false → Wrote gives w (flat_text t) v → Wrote gives w (json_text i m t) v
+wrote_flat {gives = gives} {w} {v} i m t b p = subst (λ x. Wrote gives w x v) (flat_text_is t i m b) p
+
+-- some parts that have no parts were written
+pub record Goes {W : Type 0} (gives : W → List ℕ → W → Type 0) (i : Option ℕ) (m : ℕ) (w : W) (first : Bool) (t : Tree) (v : W) (now : Bool) (u : Tree) : Type 0 where
+  pub left : IsLeft gives w (parts_left first i m t) v (parts_left now i m u)
+  pub no_higher : part_nesting u ≤ part_nesting t
+  pub fewer : part_nodes u ≤ part_nodes t
+  pub given : ArePartsGiven u → ArePartsGiven t
+  pub same : closing u ≡ closing t
+
+pub goes_none : {W : Type 0} (gives : W → List ℕ → W → Type 0) (i : Option ℕ) (m : ℕ) (w : W) (first : Bool) (t : Tree) → Goes gives i m w first t w first t
+goes_none gives i m w first t = record { left = left_all; no_higher = omega arith; fewer = omega arith; given = λ g. g; same = refl }
+
+module _ {W : Type 0} {gives : W → List ℕ → W → Type 0} {i : Option ℕ} {m : ℕ} {w : W} {first : Bool} {t : Tree} {v : W} {now : Bool} {u : Tree} (h : Goes gives i m w first t v now u) where
+  module _ {before : List ℕ} {K : Type 0} {part x : Tree} (n : IsNext i m now u before K part x) where
+    -- a part without parts
+    pub goes_on : {a b : W} → K → Wrote gives v before a → Wrote gives a (json_text i m part) b → IsGiven part → Goes gives i m w first t b false x
+    goes_on k p q g = record {
+      left = left_after (left_after (left_as n.text h.left) p) q;
+      no_higher = omega (arith, h.no_higher, n.deepest);
+      fewer = omega (arith, h.fewer, n.fewer);
+      given = λ gs. h.given (n.given k g gs);
+      same = n.same ∙ h.same;
+    }
+
+    -- what stands before a part with parts
+    pub goes_in : {a : W} → K → Wrote gives v before a → is_block part ≡ true → Stops gives i m w first t a part x
+    goes_in k p b = record {
+      left = left_after (left_as n.text h.left) p;
+      has_parts = b;
+      no_higher = omega (arith, h.no_higher, n.deepest);
+      fewer = omega (arith, h.fewer, n.fewer);
+      given = λ g gs. h.given (n.given k g gs);
+      same = n.same ∙ h.same;
+    }
+
+    -- a call was refused before the part, or in it
+    pub stopped_before : {leaves : W → List ℕ → W → Type 0} {reason : Type 0} {a : W} → Stopped gives leaves reason v before a → Stopped gives leaves reason w (parts_left first i m t) a
+    stopped_before q = left_stopped (left_as n.text h.left) (stopped_early _ q)
+
+    pub stopped_in : {leaves : W → List ℕ → W → Type 0} {reason : Type 0} {a b : W} → Wrote gives v before a → Stopped gives leaves reason a (json_text i m part) b
+        → Stopped gives leaves reason w (parts_left first i m t) b
+    stopped_in p q = left_stopped (left_as n.text h.left) (stopped_late p (stopped_early _ q))
+
+  -- no part is left
+  goes_to_end : parts_left now i m u ≡ [] → ArePartsGiven u → Ends gives i m w first t v
+  goes_to_end e g = record { wrote = left_none (left_as e h.left); given = h.given g }
+
+  pub items_end : u ≡ array no_items → Ends gives i m w first t v
+  items_end e = goes_to_end (ap (parts_left now i m) e) (subst ArePartsGiven (sym e) tt)
+
+  pub members_end : u ≡ hash no_pairs → Ends gives i m w first t v
+  members_end e = goes_to_end (ap (parts_left now i m) e) (subst ArePartsGiven (sym e) tt)

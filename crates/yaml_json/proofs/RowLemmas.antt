@@ -1,0 +1,42 @@
+-- The first part that is left of a level.
+use Rattle.std.proofs.Common.{◌≡◌, ℕ, ◌+◌, ◌<◌, ◌≤◌, List, [], ◌∷◌, true, false, length, get_or, drop, refl, sym, ap, ◌∙◌, arith}
+use Rattle.std.proofs.Math.ListN.{drop_of_length-le}
+use Rattle.std.proofs.lemmas.List.{drop_more, length-drop, length-map}
+use Rattle.defs_tree.specs.Tree.{Tree, array, hash, no_items, item, no_pairs, pair, items_of, pairs_of}
+use Rattle.yaml_json.specs.Level.{left_in}
+use Rattle.yaml_tree.specs.Flat.{paired}
+use Rattle.yaml_tree.specs.View.{view, items_view, array_tree, hash_tree}
+use Rattle.yaml_tree.specs.declared.yaml.Yaml.{Yaml}
+
+next_node : (ys : List Yaml) (n : ℕ) (y : Yaml) → n < length ys → y ≡ get_or ys n y → items_view (drop n ys) ≡ view y ∷ items_view (drop (n + 1) ys)
+next_node ys n y h is = ap items_view (drop_more ys n y h) ∙ ap (λ x. view x ∷ items_view (drop (n + 1) ys)) (sym is)
+
+-- ---- items
+
+pub item_left : (row : List Yaml) (n q : ℕ) (y : Yaml) → n < length row → y ≡ get_or row n y → q ≡ n + 1
+    → left_in false row n ≡ array (item (view y) (items_of (items_view (drop q row))))
+item_left row n q y h is e = ap array_tree (next_node row n y h is) ∙ ap (λ k. array_tree (view y ∷ items_view (drop k row))) (sym e)
+
+pub no_item_left : (row : List Yaml) (n : ℕ) → length row ≤ n → left_in false row n ≡ array no_items
+no_item_left row n h = ap (λ ys. array_tree (items_view ys)) (drop_of_length-le row h)
+
+-- ---- members
+
+pub member_left : (row : List Yaml) (n q : ℕ) (k v : Yaml) → n + 1 < length row → k ≡ get_or row n k → v ≡ get_or row (n + 1) v → q ≡ n + 2
+    → left_in true row n ≡ hash (pair (view k) (view v) (pairs_of (paired (items_view (drop q row)))))
+member_left row n q k v h ks vs e =
+    let a = next_node row n k (omega arith) ks in
+    let b = next_node row (n + 1) v h vs in
+    let c : n + 1 + 1 ≡ q = omega arith in
+    ap (λ xs. hash_tree (paired xs)) (a ∙ ap (λ xs. view k ∷ xs) (b ∙ ap (λ m. view v ∷ items_view (drop m row)) c))
+
+few_paired : (ts : List Tree) → length ts ≤ 1 → paired ts ≡ []
+few_paired [] h = refl
+few_paired (t ∷ []) h = refl
+few_paired (t ∷ u ∷ ts) h = absurd (omega arith)
+
+-- a key alone has no value
+pub no_member_left : (row : List Yaml) (n : ℕ) → length row ≤ n + 1 → left_in true row n ≡ hash no_pairs
+no_member_left row n h =
+    let e = length-map (drop n row) view ∙ length-drop n row in
+    ap hash_tree (few_paired (items_view (drop n row)) (omega (arith, e)))

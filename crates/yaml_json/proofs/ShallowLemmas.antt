@@ -1,0 +1,124 @@
+-- Shallow trees, each node of which has a JSON text.
+use Rattle.std.proofs.Common.{◌≡◌, ◌≢◌, ℕ, suc, ◌+◌, ◌-◌, ◌<◌, Bool, true, false, refl, sym, ap, ◌∙◌, arith}
+use Rattle.std.specs.Prelude.{Option, Some, None, is_some, max, nat_le, not, ◌&&◌, if◌then◌else◌}
+use Rattle.std.proofs.lemmas.Bool.{and_parts}
+use Rattle.std.proofs.lemmas.Bool.Decides.{nat_tests}
+use Rattle.defs_tree.specs.Tree.{Tree, real, integer, string, boolean, array, hash, alias, null, bad_value, Items, no_items, item, Pairs, no_pairs, pair}
+use Rattle.defs_tree.specs.Typing.{is_string}
+use Rattle.defs_json.specs.JsonReal.{is_json_real}
+use Rattle.defs_json.specs.Fault.{Fault, Step, index, here, below, first_of, step_of, are_strings, is_no_number, has_other_key, first_fault, first_item_fault, first_member_fault}
+use Rattle.defs_json.specs.HasJson.{nesting, item_nesting, member_nesting}
+use Rattle.yaml_json.specs.Nest.{IsOnlyItem}
+use Rattle.yaml_json.specs.Shallow.{is_whole, are_items_whole, are_pairs_whole, is_shallow, are_items_shallow}
+
+-- ---- one node and the rest
+
+real_same : (b : Bool) → b ≡ not (is_some (if b then None else here is_no_number))
+real_same true = refl
+real_same false = refl
+
+item_same : (s : Step) (a b : Bool) (o q : Option Fault) → a ≡ not (is_some o) → b ≡ not (is_some q) → (a && b) ≡ not (is_some (first_of (below s o) q))
+item_same s a b None q h k = ap (λ x. x && b) h ∙ k
+item_same s a b (Some f) q h k = ap (λ x. x && b) h
+
+pair_same : (s : Step) (k strings a b : Bool) (o q : Option Fault) → a ≡ not (is_some o) → b ≡ (strings && not (is_some q))
+    → (k && (a && b)) ≡ ((k && strings) && not (is_some (first_of (below s o) q)))
+pair_same s false strings a b o q h g = refl
+pair_same s true strings a b None q h g = ap (λ x. x && b) h ∙ g
+pair_same s true true a b (Some f) q h g = ap (λ x. x && b) h
+pair_same s true false a b (Some f) q h g = ap (λ x. x && b) h
+
+hash_same : (strings : Bool) (o : Option Fault) → (strings && not (is_some o)) ≡ not (is_some (if strings then o else here has_other_key))
+hash_same true o = refl
+hash_same false o = refl
+
+-- ---- a tree is whole just where it has no fault
+
+mutual
+  whole_same : (t : Tree) → is_whole t ≡ not (is_some (first_fault t))
+  whole_same (real s) = real_same (is_json_real s)
+  whole_same (integer z) = refl
+  whole_same (string s) = refl
+  whole_same (boolean b) = refl
+  whole_same (array ts) = items_same 0 ts
+  whole_same (hash ps) = pairs_same ps ∙ hash_same (are_strings ps) (first_member_fault ps)
+  whole_same (alias n) = refl
+  whole_same null = refl
+  whole_same bad_value = refl
+
+  items_same : (n : ℕ) (ts : Items) → are_items_whole ts ≡ not (is_some (first_item_fault n ts))
+  items_same n no_items = refl
+  items_same n (item t ts) = item_same (index n) (is_whole t) (are_items_whole ts) (first_fault t) (first_item_fault (n + 1) ts) (whole_same t) (items_same (n + 1) ts)
+
+  pairs_same : (ps : Pairs) → are_pairs_whole ps ≡ (are_strings ps && not (is_some (first_member_fault ps)))
+  pairs_same no_pairs = refl
+  pairs_same (pair k v ps) =
+      pair_same (step_of k) (is_string k) (are_strings ps) (is_whole v) (are_pairs_whole ps) (first_fault v) (first_member_fault ps) (whole_same v) (pairs_same ps)
+
+-- ---- what the answer tells
+
+is_none : (o : Option Fault) → not (is_some o) ≡ true → o ≡ None
+is_none None h = refl
+is_none (Some f) h = cc
+
+pub shallow : (n : ℕ) (t : Tree) → is_shallow n t ≡ true → first_fault t ≡ None
+shallow n t h = is_none (first_fault t) (sym (whole_same t) ∙ (and_parts (is_whole t) (nat_le (nesting t) n) h).0)
+
+pub not_shallow : (n : ℕ) (t : Tree) → is_shallow n t ≡ false → first_fault t ≡ None → n < nesting t
+not_shallow n t h e =
+    let whole : is_whole t ≡ true = whole_same t ∙ ap (λ o. not (is_some o)) e in
+    let low : nat_le (nesting t) n ≡ false = sym (ap (λ b. b && nat_le (nesting t) n) whole) ∙ h in
+    grind (arith, nat_tests)
+
+-- ---- part by part
+
+max_within : (a b n : ℕ) → nat_le (max a b) n ≡ (nat_le a n && nat_le b n)
+max_within a b n = grind (arith, nat_tests)
+
+dealt : (a b x y : Bool) → ((a && b) && (x && y)) ≡ ((a && x) && (b && y))
+dealt true true x y = refl
+dealt true false true y = refl
+dealt true false false y = refl
+dealt false b x y = refl
+
+pub next_item : (n : ℕ) (t : Tree) (ts : Items) → are_items_shallow n (item t ts) ≡ (is_shallow n t && are_items_shallow n ts)
+next_item n t ts =
+    ap (λ x. (is_whole t && are_items_whole ts) && x) (max_within (nesting t) (item_nesting ts) n)
+    ∙ dealt (is_whole t) (are_items_whole ts) (nat_le (nesting t) n) (nat_le (item_nesting ts) n)
+
+-- ---- level by level
+
+and_false : (b : Bool) → (b && false) ≡ false
+and_false true = refl
+and_false false = refl
+
+and_true : (b : Bool) → (b && true) ≡ b
+and_true true = refl
+and_true false = refl
+
+-- a scalar has no level
+pub scalar_within : (b : Bool) (n : ℕ) → (b && nat_le 0 n) ≡ b
+scalar_within b n = let low : nat_le 0 n ≡ true = grind (arith, nat_tests) in ap (λ x. b && x) low ∙ and_true b
+
+-- where no level is left
+none_within : (b : Bool) (m n : ℕ) → n ≡ 0 → (b && nat_le (suc m) n) ≡ false
+none_within b m n e = let low : nat_le (suc m) n ≡ false = grind (arith, nat_tests) in ap (λ x. b && x) low ∙ and_false b
+
+pub no_items_within : (n : ℕ) (ts : Items) → n ≡ 0 → is_shallow n (array ts) ≡ false
+no_items_within n ts e = none_within (are_items_whole ts) (item_nesting ts) n e
+
+pub no_pairs_within : (n : ℕ) (ps : Pairs) → n ≡ 0 → is_shallow n (hash ps) ≡ false
+no_pairs_within n ps e = none_within (are_pairs_whole ps) (member_nesting ps) n e
+
+pub nothing_within : (n : ℕ) (t s : Tree) → IsOnlyItem t s → n ≡ 0 → is_shallow n s ≡ false
+nothing_within n t s o e = ap (is_shallow n) o ∙ no_items_within n (item t no_items) e
+
+-- one less for the parts
+one_less : (b : Bool) (m n : ℕ) → n ≢ 0 → (b && nat_le (suc m) n) ≡ (b && nat_le m (n - 1))
+one_less b m n h = let same : nat_le (suc m) n ≡ nat_le m (n - 1) = grind (arith, nat_tests) in ap (λ x. b && x) same
+
+pub items_within : (n : ℕ) (ts : Items) → n ≢ 0 → is_shallow n (array ts) ≡ are_items_shallow (n - 1) ts
+items_within n ts h = one_less (are_items_whole ts) (item_nesting ts) n h
+
+pub only_within : (n : ℕ) (t s : Tree) → IsOnlyItem t s → n ≢ 0 → is_shallow n s ≡ is_shallow (n - 1) t
+only_within n t s o h = ap (is_shallow n) o ∙ items_within n (item t no_items) h ∙ next_item (n - 1) t no_items ∙ ap (λ b. is_shallow (n - 1) t && b) (scalar_within true (n - 1)) ∙ and_true (is_shallow (n - 1) t)

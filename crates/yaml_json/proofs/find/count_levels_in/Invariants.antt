@@ -1,0 +1,11 @@
+use Rattle.std.proofs.Common.{◌∷◌}
+use Rattle.yaml_json.proofs.OpenLevels.{trees, weight}
+use Rattle.yaml_json.proofs.SearchLemmas.{Searches}
+use Rattle.yaml_tree.specs.View.{view}
+use Rattle.yaml_json.proofs.find.count_levels_in.Given as goal
+
+abbrev pub invariant-levels : goal.invariant-levels
+invariant-levels l = Searches (view l.tree) l.waiting l.level l.depth l.deepest
+
+abbrev pub decreases-levels : goal.decreases-levels
+decreases-levels l = weight (trees (l.level ∷ l.waiting))

@@ -1,0 +1,10 @@
+use Rattle.std.proofs.Common.{◌-◌, false, length}
+use Rattle.yaml_json.proofs.SearchLemmas.{Passes}
+use Rattle.yaml_json.specs.Level.{left_in}
+use Rattle.yaml_json.proofs.find.next_met_item.Given as goal
+
+abbrev pub invariant-at : goal.invariant-at
+invariant-at l = Passes (left_in false l.row l.passed) l.passed (left_in false l.row l.at) l.at
+
+abbrev pub decreases-at : goal.decreases-at
+decreases-at l = length l.row - l.at

@@ -1,0 +1,10 @@
+use Rattle.std.proofs.Common.{◌-◌, true, length}
+use Rattle.yaml_json.proofs.SearchLemmas.{Passes}
+use Rattle.yaml_json.specs.Level.{left_in}
+use Rattle.yaml_json.proofs.find.next_met_value.Given as goal
+
+abbrev pub invariant-at : goal.invariant-at
+invariant-at l = Passes (left_in true l.row l.passed) l.passed (left_in true l.row l.at) l.at
+
+abbrev pub decreases-at : goal.decreases-at
+decreases-at l = length l.row - l.at

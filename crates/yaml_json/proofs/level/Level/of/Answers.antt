@@ -1,0 +1,8 @@
+use Rattle.std.proofs.Common.{sym, subst}
+use Rattle.yaml_json.proofs.GivenLemmas.{given_hash}
+use Rattle.yaml_json.specs.Given.{IsGiven, ArePartsGiven}
+use Rattle.yaml_tree.specs.View.{view}
+use Rattle.yaml_json.proofs.level.Level.of.Goals as goal
+
+pub returns-in-Hash-clause-given : goal.returns-in-Hash-clause-given
+returns-in-Hash-clause-given c = subst (λ y. ArePartsGiven (view y) → IsGiven (view y)) (sym c.in-Hash.is) (λ g. given_hash _ c.row.ensures.distinct g)

@@ -1,0 +1,58 @@
+use Rattle.std.proofs.Common.{◌≡◌, ◌&&◌, ap, sym, ◌∙◌, arith}
+use Rattle.std.specs.Prelude.{nat_lt}
+use Rattle.std.specs.Str.{chars}
+use Rattle.defs_json.specs.JsonReal.{is_json_real}
+use Rattle.defs_text.specs.Text.{string_chars}
+use Rattle.defs_tree.specs.Tree.{items_of, pairs_of}
+use Rattle.yaml_json.proofs.ShallowLemmas.{next_item, no_items_within, no_pairs_within, nothing_within, only_within, scalar_within}
+use Rattle.yaml_json.specs.Shallow.{is_shallow, are_items_shallow}
+use Rattle.yaml_tree.specs.Depth.{depth, items_depth}
+use Rattle.yaml_tree.specs.View.{view}
+use Rattle.yaml_json.proofs.shallow.+shallow.Goals as goal
+
+-- ---- a nest
+
+pub is_shallow-returns-then-left-eq0 : goal.is_shallow-returns-then-left-eq0
+is_shallow-returns-then-left-eq0 t c = sym (c.node.invariant.same ∙ nothing_within c.node.left _ _ c.in-Some.ensures c.if-left-eq0.true)
+
+pub is_shallow-node-preserved : goal.is_shallow-node-preserved
+is_shallow-node-preserved t c = record {
+  same = c.node.invariant.same ∙ only_within c.node.left _ _ c.in-Some.ensures c.if-left-eq0.false;
+  no_deeper = omega (arith, ap depth c.in-Some.ensures, c.node.invariant.no_deeper);
+}
+
+-- ---- a node
+
+pub is_shallow-returns-in-Real : goal.is_shallow-returns-in-Real
+unfolding string_chars
+is_shallow-returns-in-Real t c =
+    c.is_json_real.ensures
+    ∙ ap (λ bs. is_json_real (chars bs)) c.as_str.ensures.value
+    ∙ sym (scalar_within _ c.node.left)
+    ∙ ap (λ y. is_shallow c.node.left (view y)) (sym c.in-Real.is)
+    ∙ sym c.node.invariant.same
+
+pub is_shallow-returns-else-left-gt0 : goal.is_shallow-returns-else-left-gt0
+is_shallow-returns-else-left-gt0 t c =
+    let none : c.node.left ≡ 0 = omega (arith, c.if-left-gt0.false) in
+    ap (nat_lt 0) none ∙ sym (c.node.invariant.same ∙ ap (λ y. is_shallow c.node.left (view y)) c.in-Array.is ∙ no_items_within c.node.left (items_of c.in-Array.items) none)
+
+pub is_shallow-returns-else-left-gt0-2 : goal.is_shallow-returns-else-left-gt0-2
+is_shallow-returns-else-left-gt0-2 t c =
+    let none : c.node.left ≡ 0 = omega (arith, c.if-left-gt0-2.false) in
+    ap (nat_lt 0) none ∙ sym (c.node.invariant.same ∙ ap (λ y. is_shallow c.node.left (view y)) c.in-Hash.is ∙ no_pairs_within c.node.left (pairs_of c.in-Hash.pairs) none)
+
+-- ---- the items
+
+pub are_items_shallow-returns-then-not-is_shallow : goal.are_items_shallow-returns-then-not-is_shallow
+are_items_shallow-returns-then-not-is_shallow t c =
+    let rest = ap (λ xs. are_items_shallow c.args.levels (items_of xs)) c.in-Some.ensures.steps ∙ next_item c.args.levels (view c.in-Some.item.now) (items_of c.next.new.self) in
+    sym (c.items.invariant.left ∙ rest ∙ ap (λ b. b && are_items_shallow c.args.levels (items_of c.next.new.self)) (sym c.is_shallow.ensures ∙ c.if-not-is_shallow.true))
+
+pub are_items_shallow-items-preserved : goal.are_items_shallow-items-preserved
+are_items_shallow-items-preserved t c =
+    let rest = ap (λ xs. are_items_shallow c.args.levels (items_of xs)) c.in-Some.ensures.steps ∙ next_item c.args.levels (view c.in-Some.item.now) (items_of c.next.new.self) in
+    record {
+      left = c.items.invariant.left ∙ rest ∙ ap (λ b. b && are_items_shallow c.args.levels (items_of c.next.new.self)) (sym c.is_shallow.ensures ∙ c.if-not-is_shallow.false);
+      no_deeper = omega (arith, ap (λ xs. items_depth (items_of xs)) c.in-Some.ensures.steps, c.items.invariant.no_deeper);
+    }
