@@ -13,10 +13,11 @@ use Rattle.defs_event.specs.Push.{Standing, load, load_from, before_stream, betw
 use Rattle.defs_event.specs.Nested.{nested_stream}
 use Rattle.defs_event.proofs.AllPushed.{all_pushed}
 use Rattle.defs_event.proofs.StreamNests.{stream_nests}
+use Rattle.yaml_scanner.specs.Follows.{AreSettled}
 use Rattle.yaml_scanner.specs.Scanned.{ScansIn, IsRefusal}
 use Rattle.yaml_parser.specs.Parsed.{Parsed, is_stream_end, has_end, read}
 use Rattle.yaml_parser.specs.Blames.{Blames}
-use Rattle.yaml_parser.specs.Follows.{Follows, Refused, IsWhole, Explains}
+use Rattle.yaml_parser.specs.Follows.{Follows, Refused, IsWhole, IsOfScanner, Explains}
 use Rattle.yaml_parser.specs.Loads as loads
 use Rattle.yaml_parser.specs.Loads.{PullsAll, no_call, one_call, Receives, EndsSo}
 use Rattle.proof_loads.specs.TextReadAs.{IsAtStart}
@@ -169,9 +170,13 @@ fault_of text p f scans steady why = elim why [
     says None e h m = cc
     says (Some g) e h m = let same : g ≡ f = cc in ap (λ x. x.text) (sym same) ∙ h (ap (λ x. x.memory) same ∙ m)
 
-    by_scanner : (m : Bool) → f.memory ≡ m → p.scanner.fault ≡ Some f → IsFaultOf p.keep_tags text f
-    by_scanner true m kept = wants_memory (record { memory = m; text = says p.scanner.fault kept scans.wants m })
-    by_scanner false m kept = no_token (refusal p.scanner.fault kept scans.refused m)
+    settled : (o : Option ErrorReport) → o ≡ Some f → IfSome o (λ g. g.memory ≡ false → AreSettled text p.scanner.given) → f.memory ≡ false → AreSettled text p.scanner.given
+    settled None e h m = cc
+    settled (Some g) e h m = let same : g ≡ f = cc in h (ap (λ x. x.memory) same ∙ m)
+
+    by_scanner : (m : Bool) → f.memory ≡ m → IsOfScanner f p → IsFaultOf p.keep_tags text f
+    by_scanner true m k = wants_memory (record { memory = m; text = says p.scanner.fault k.fault scans.wants m })
+    by_scanner false m k = no_token p.scanner.given (read p) (settled p.scanner.fault k.fault (scans.settled (k.settled m)) m) (k.begins steady) (refusal p.scanner.fault k.fault scans.refused m)
 
     by_grammar : Blames f [] p.keep_tags p.scanner.given (read p) → Refused p → IsFaultOf p.keep_tags text f
     by_grammar blames r =

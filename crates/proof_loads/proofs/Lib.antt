@@ -2,6 +2,7 @@ pub mod Answers
 pub mod CutTexts
 pub mod DocumentTrees
 pub mod Dumps
+pub mod FirstTokens
 pub mod InTurn
 pub mod InsideNode
 pub mod JsonNul
@@ -9,6 +10,7 @@ pub mod LayoutNul
 pub mod LayoutTexts
 pub mod Loads
 mod Nul
+pub mod OneFault
 pub mod OneList
 pub mod OneReading
 mod PartsNul

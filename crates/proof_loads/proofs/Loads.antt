@@ -23,7 +23,7 @@ use Rattle.proof_loads.proofs.Answers.{placed_stream, texts_are_answered}
 -- A fault of such a text is out of memory.
 pub memory_is_wanted : (keep_tags : Bool) (text : List ℕ) (trees : List Tree) (f : ErrorReport) → IsReadAs keep_tags text trees → IsFaultOf keep_tags text f → f.memory ≡ true
 memory_is_wanted keep_tags text trees f x (wants_memory wants) = wants.memory
-memory_is_wanted keep_tags text trees f x (no_token r) = absurd (not_refused text x.has.0 r.fault x.has.1 r.refused)
+memory_is_wanted keep_tags text trees f x (no_token given events first begins r) = absurd (not_refused text x.has.0 r.fault x.has.1 r.refused)
 memory_is_wanted keep_tags text trees f x (no_stream before last events first blames begins none) =
     let y = goes_on keep_tags text trees (before ++ last ∷ []) x first in
     absurd (streams_are_not_cut keep_tags (toks (before ++ last ∷ [])) y.more trees y.reads none)

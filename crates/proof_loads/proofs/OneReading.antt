@@ -8,7 +8,6 @@ use Rattle.defs_event.specs.Stream.{IsStream}
 use Rattle.defs_event.specs.Nested.{NestedDocument, nested_stream}
 use Rattle.defs_event.specs.Reading.{reading}
 use Rattle.defs_event.specs.Unfinished.{new_loader, with_events}
-use Rattle.defs_event.specs.Unfinished as unfinished
 use Rattle.defs_event.proofs.OneByOne.{one_by_one}
 use Rattle.defs_event.proofs.OneReading as grammar
 use Rattle.model_scanner.proofs.Runs.{one_list}

@@ -1,5 +1,5 @@
 -- A setting of `keep_tags` that counted from the start on: it names all events.
-use Rattle.std.proofs.Common.{◌≡◌, Bool, List, [], ◌++◌, sym, ◌∙◌, subst}
+use Rattle.std.proofs.Common.{Bool, List, [], ◌++◌, sym, ◌∙◌, subst}
 use Rattle.defs_text.specs.Position.{Position}
 use Rattle.defs_token.specs.Token.{Token}
 use Rattle.yaml_tokens.specs.ErrorReport.{ErrorReport}

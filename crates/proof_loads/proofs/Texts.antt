@@ -43,7 +43,7 @@ scanner_wants_memory o f e h = rw e at h
 pub only_memory_is_wanted : ReadTextsHaveNoFaultButMemory
 only_memory_is_wanted p f text trees x scans steady why =
     elim why [
-      | inl kept ↦ scanner_wants_memory p.scanner.fault f kept (scans.sound x.has.0 x.has.1)
+      | inl kept ↦ scanner_wants_memory p.scanner.fault f kept.fault (scans.sound x.has.0 x.has.1)
       | inr other ↦ elim other [ inl wants ↦ wants.memory | inr cut ↦ absurd (texts_are_not_refused p text trees x scans (cut.refused steady)) ]
     ]
 

@@ -1,5 +1,5 @@
 -- Laws of texts that are read as trees: each is the contract of the function of `src/laws.rt` that its comment names.
-use Rattle.std.specs.Prelude.{◌≡◌, ℕ, Bool, true, Option, List, length, [], ◌∷◌, ◌++◌, Result, Ok}
+use Rattle.std.specs.Prelude.{◌≡◌, ℕ, Bool, true, false, Option, List, length, [], ◌∷◌, ◌++◌, Result, Ok}
 use Rattle.std.specs.Iterator.{AlwaysYields}
 use Rattle.std.specs.Str.{chars, IsUtf8}
 use Rattle.std.specs.Str.Iter.{chars_steps, chars_rest}
@@ -8,6 +8,7 @@ use Rattle.defs_text.specs.Position.{Position}
 use Rattle.yaml_chars.specs.Source.{CameFrom}
 use Rattle.defs_text.specs.Text.{up_to_nul}
 use Rattle.yaml_chars.specs.Reading.{HasNoNul}
+use Rattle.defs_token.specs.Token.{Token}
 use Rattle.defs_tree.specs.Tree.{Tree}
 use Rattle.defs_tree.specs.DumpText.{dump_text}
 use Rattle.defs_layout.specs.Json.{JsonText, IsWellFormed, spell_text, tree_of}
@@ -18,13 +19,16 @@ use Rattle.defs_event.specs.PulledList.{Answer, IsSettled}
 use Rattle.defs_event.specs.Stream.{events_of}
 use Rattle.defs_event.specs.Unfinished.{new_loader, with_events}
 use Rattle.defs_event.specs.Laws.{HasRead}
+use Rattle.model_scanner.specs.State.{ScannerState}
+use Rattle.model_scanner.specs.Run.{Reaches}
+use Rattle.yaml_scanner.specs.Follows.{BeginsWith, IsReached}
 use Rattle.yaml_scanner.specs.Scanned.{Scanned, MayBe, ScansIn, Scans}
 use Rattle.yaml_parser.specs.Parsed.{Parsed, read}
 use Rattle.yaml_parser.specs.Follows.{Follows, Refused, IsWhole, Explains}
 use Rattle.yaml_parser.specs.Loads.{Loads, PullsAll}
 use Rattle.defs_event.specs.ReadAs.{IsAtWork}
 use Rattle.proof_loads.specs.TextReadAs.{IsReadAs, IsAtStart}
-use Rattle.proof_loads.specs.TextEvents.{AnswersText}
+use Rattle.proof_loads.specs.TextEvents.{IsFaultOf, AnswersText}
 use Rattle.proof_loads.specs.LoadsAs.{LoadsAs}
 use Rattle.proof_loads.specs.Spelled.{IsWithoutNul}
 
@@ -33,6 +37,18 @@ use Rattle.proof_loads.specs.Spelled.{IsWithoutNul}
 -- `texts_are_read_in_one_way`
 abbrev pub TextsAreReadInOneWay : Type 0
 TextsAreReadInOneWay = (keep_tags : Bool) (text : List ℕ) (trees others : List Tree) → IsReadAs keep_tags text trees → IsReadAs keep_tags text others → trees ≡ others
+
+-- ---- tokens that are settled
+
+-- `settled_tokens_stay`
+abbrev pub SettledTokensStay : Type 0
+SettledTokensStay = (text : List ℕ) (given : List Token) (r : IsReached text given) (later : ScannerState) → Reaches r.last later → BeginsWith given later.held.tokens
+
+-- ---- faults
+
+-- `one_fault`; two faults, whatever parsers have them, neither of which is refused memory
+abbrev pub OneFault : Type 0
+OneFault = (keep_tags : Bool) (text : List ℕ) (f g : ErrorReport) → IsFaultOf keep_tags text f → IsFaultOf keep_tags text g → f.memory ≡ false → g.memory ≡ false → f ≡ g
 
 -- ---- a parser somewhere in a text
 

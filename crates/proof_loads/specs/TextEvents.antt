@@ -9,7 +9,7 @@ use Rattle.defs_token.specs.Toks.{toks}
 use Rattle.defs_event.specs.Stream.{IsPlacedStream, BeginsPlaced, Foretells, NoneBegins, events_of}
 use Rattle.model_scanner.specs.Run.{HasTokens}
 use Rattle.yaml_scanner.specs.Follows as scan
-use Rattle.yaml_scanner.specs.Follows.{IsReached}
+use Rattle.yaml_scanner.specs.Follows.{IsReached, AreSettled}
 use Rattle.yaml_scanner.specs.Scanned.{IsRefusal}
 use Rattle.yaml_parser.specs.Blames.{Blames, WantsMemory}
 use Rattle.yaml_parser.specs.Follows.{listed}
@@ -38,11 +38,11 @@ pub record BeginsEvents (keep_tags : Bool) (text : List ℕ) (events : List (Ev 
   pub begins : BeginsPlaced keep_tags before events
   pub only : Foretells keep_tags (toks (before ++ listed last)) (events_of events)
 
--- Why a parser has this fault: memory was refused; or the scanner refuses the text so; or a stream begins with the text's
--- first tokens, and none with these and the next, which the fault blames.
+-- Why a parser has this fault: memory was refused; or the scanner refuses the text so, and a stream begins with all tokens that are settled before,
+-- and with these events; or a stream begins with the text's first tokens, and none with these and the next, which the fault blames.
 pub data IsFaultOf (keep_tags : Bool) (text : List ℕ) (f : ErrorReport) : Type 0 where
   wants_memory : WantsMemory f → IsFaultOf keep_tags text f
-  no_token : IsRefusal text f → IsFaultOf keep_tags text f
+  no_token : (given : List Token) (events : List (Ev × Position)) → AreSettled text given → BeginsPlaced keep_tags given events → IsRefusal text f → IsFaultOf keep_tags text f
   no_stream : (before : List Token) (last : Token) (events : List (Ev × Position)) → AreFirst text (before ++ last ∷ []) → Blames f [] keep_tags (before ++ last ∷ []) events
       → BeginsPlaced keep_tags before events → NoneBegins keep_tags (toks (before ++ last ∷ [])) → IsFaultOf keep_tags text f
 

@@ -1,6 +1,6 @@
 //! Laws of texts that are read as trees, each the contract of an empty function.
 
-ghost use Rattle.proof_loads.specs.Laws.{ReadTextsAreNotRefused, ReadTextsHaveNoFaultButMemory, EventsOfReadTextsAreRead, ReadTextsHaveTheirTrees, JsonTextsAreReadAsTheirTree, JsonTextsAreWithoutNul, ReadTextsAreLoaded, JsonTextsAreLoaded, TextsAreReadInOneWay, DumpsAreReadAsTheirTree, TextsAreAnswered, ReadTextsHaveOneListOfEvents, AnswersAreSettled, CharactersAreTheText, StringsAreTheText};
+ghost use Rattle.proof_loads.specs.Laws.{SettledTokensStay, OneFault, ReadTextsAreNotRefused, ReadTextsHaveNoFaultButMemory, EventsOfReadTextsAreRead, ReadTextsHaveTheirTrees, JsonTextsAreReadAsTheirTree, JsonTextsAreWithoutNul, ReadTextsAreLoaded, JsonTextsAreLoaded, TextsAreReadInOneWay, DumpsAreReadAsTheirTree, TextsAreAnswered, ReadTextsHaveOneListOfEvents, AnswersAreSettled, CharactersAreTheText, StringsAreTheText};
 ghost use Rattle.defs_layout.specs.DumpIsInjective.{DumpIsInjective};
 
 use yaml_parser::MarkedEventReceiver;
@@ -8,6 +8,17 @@ use yaml_parser::MarkedEventReceiver;
 /// A text is read as at most one list of trees.
 pub fn texts_are_read_in_one_way()
     ensures { TextsAreReadInOneWay }
+{}
+
+/// Tokens that are settled in a text, as those that a scanner handed out are, come first at each later point of its run.
+pub fn settled_tokens_stay()
+    ensures { SettledTokensStay }
+{}
+
+/// A text has one fault: two calls that answer one, whatever they are, answer the same, with its text and its position, unless
+/// memory was refused.
+pub fn one_fault()
+    ensures { OneFault }
 {}
 
 /// If a text is read as trees, no parser refuses one of its tokens.

@@ -1,11 +1,12 @@
 //! Two programs load the same text, each in its own way: they agree, by the library's public contracts alone.
 
 ghost use Rattle.std.specs.Prelude.{false, chars};
-ghost use Rattle.yaml_rust2.specs.Agreement.{IsOfRow, Agree};
+ghost use Rattle.yaml_rust2.specs.Agreement.{IsOfRow, Agree, SayTheSame};
 ghost use Rattle.yaml_rust2.specs.Text.{up_to_nul};
+ghost use Rattle.yaml_rust2.specs.TextLoads.{LoadsText};
 
 use std::alloc::Global;
-use yaml_rust2::laws::one_answer;
+use yaml_rust2::laws::{one_answer, one_list_of_documents};
 use yaml_rust2::{ScanError, Yaml, YamlLoader};
 
 #[cfg(test)]
@@ -25,22 +26,27 @@ pub struct Answers {
 
 /// One program loads the text.
 pub fn load_at_once(alloc: Global, text: &str) -> Answer
-    ensures { IsOfRow false (up_to_nul (chars text.now)) result }
+    ensures of_row { IsOfRow false (up_to_nul (chars text.now)) result }
+    ensures reads { LoadsText false (up_to_nul (chars text.now)) result }
 {
     YamlLoader::load_from_str(alloc, text)
 }
 
 /// Another program loads its characters, one after the other.
 pub fn load_by_characters(alloc: Global, text: &str) -> Answer
-    ensures { IsOfRow false (up_to_nul (chars text.now)) result }
+    ensures of_row { IsOfRow false (up_to_nul (chars text.now)) result }
+    ensures reads { LoadsText false (up_to_nul (chars text.now)) result }
 {
     YamlLoader::load_from_iter(alloc, text.chars())
 }
 
-/// Loads a text both ways. If both answers are `Ok`, they have the same documents.
+/// Loads a text both ways. The answers say the same, unless memory was refused: the same documents, or the same fault, or that the
+/// same key comes twice.
 pub fn load_both_ways(alloc: Global, text: &str) -> Answers
-    ensures { Agree result.one result.other }
+    ensures documents { Agree result.one result.other }
+    ensures same { SayTheSame result.one result.other }
 {
+    one_list_of_documents();
     one_answer();
     Answers {
         one: load_at_once(alloc, text),

@@ -1,28 +1,42 @@
 -- For one text two answers agree, and two parsers read and push the same events.
-use Rattle.std.proofs.Common.{◌≡◌, ℕ, Bool, List, refl, subst}
+use Rattle.std.proofs.Common.{◌≡◌, ℕ, Bool, true, false, List, [], ◌∷◌, ◌++◌, refl, sym, ap, ◌∙◌, subst, ◌⊎◌, inl, inr}
+use Rattle.std.proofs.lemmas.Bool.{both_ways}
+use Rattle.std.proofs.lemmas.List.{map-append}
 use Rattle.std.specs.Prelude.{Result, Ok, Err}
 use Rattle.defs_text.specs.Position.{Position}
+use Rattle.defs_tree.specs.Tree.{Tree}
 use Rattle.defs_token.specs.Token.{Token}
 use Rattle.defs_token.specs.Toks.{toks}
 use Rattle.defs_event.specs.Event.{Ev}
 use Rattle.defs_event.specs.Stream.{IsStream, IsPlacedStream, events_of}
+use Rattle.defs_event.specs.Reading.{reading}
+use Rattle.defs_event.specs.Unfinished.{new_loader, with_events}
+use Rattle.defs_event.proofs.OneByOne.{one_by_one}
 use Rattle.defs_event.proofs.OneReading as grammar
 use Rattle.yaml_tokens.specs.ErrorReport.{ErrorReport}
 use Rattle.yaml_tree.specs.View.{items_view}
 use Rattle.model_scanner.specs.Run.{HasTokens}
-use Rattle.model_scanner.proofs.Runs.{one_list}
+use Rattle.model_scanner.proofs.Runs.{one_list, not_refused}
 use Rattle.yaml_parser.specs.Parsed.{read}
 use Rattle.yaml_parser.specs.Loads.{Receives}
 use Rattle.proof_meaning.proofs.Meanings.{one_meaning}
-use Rattle.proof_loads.specs.TextEvents.{HasEvents, AnswersText, whole, faulted, refused}
-use Rattle.proof_loads.proofs.Answers.{placed_stream, texts_are_answered}
+use Rattle.proof_loads.specs.TextEvents.{HasEvents, IsFaultOf, wants_memory, no_token, no_stream, AnswersText, whole, faulted, refused}
+use Rattle.proof_loads.specs.TextReadAs.{IsReadAs}
+use Rattle.proof_loads.proofs.Answers.{placed_stream, nested_is_stream, texts_are_answered}
+use Rattle.proof_loads.proofs.Loads.{memory_is_wanted}
+use Rattle.proof_loads.proofs.OneFault.{one_fault}
+use Rattle.proof_loads.proofs.OneReading.{one_reading, texts_are_read_in_one_way}
 use Rattle.proof_loads.proofs.StreamEnds.{all_tokens}
-use Rattle.yaml_loader.specs.Agreement.{OneAnswer, OneListOfPulledEvents, OneListOfPushedEvents}
+use Rattle.yaml_loader.specs.Agreement.{OneAnswer, OneListOfDocuments, OneListOfPulledEvents, OneListOfPushedEvents}
+use Rattle.yaml_loader.specs.Loads.{HasNoted}
+use Rattle.yaml_loader.specs.RepeatedKey.{TellsKey}
+use Rattle.yaml_loader.specs.Unread.{IsUnread, of_parser, repeated_key}
+use Rattle.yaml_loader.proofs.AnyText.{noted_key}
 
-pub one_answer : OneAnswer
-one_answer keep_tags text (Ok ones) (Ok others) m n = one_meaning keep_tags text (items_view ones.items) (items_view others.items) m n
-one_answer keep_tags text (Ok ones) (Err f) m n = tt
-one_answer keep_tags text (Err f) other m n = tt
+pub one_list_of_documents : OneListOfDocuments
+one_list_of_documents keep_tags text (Ok ones) (Ok others) m n = one_meaning keep_tags text (items_view ones.items) (items_view others.items) m n
+one_list_of_documents keep_tags text (Ok ones) (Err f) m n = tt
+one_list_of_documents keep_tags text (Err f) other m n = tt
 
 -- ---- events of the tokens that a text has
 
@@ -37,6 +51,48 @@ one_list_of_pulled_events p q text setting scans scanned x y =
     let has = all_tokens text p.scanner.given x.stream.raws scans.reached x.stream.says in
     let had = all_tokens text q.scanner.given y.stream.raws scanned.reached y.stream.says in
     same_events q.keep_tags text p.scanner.given q.scanner.given (read p) (read q) has had (subst (λ k. IsPlacedStream k p.scanner.given (read p)) setting x.stream) y.stream
+
+-- ---- answers that are faults
+
+-- A text whose tokens are a whole stream is refused by no parser.
+memory_alone : (keep_tags : Bool) (text : List ℕ) (es : List (Ev × Position)) (f : ErrorReport) → HasEvents keep_tags text es → IsFaultOf keep_tags text f → f.memory ≡ true
+memory_alone keep_tags text es f h (wants_memory w) = w.memory
+memory_alone keep_tags text es f h (no_token given events settled begins r) = absurd (not_refused text h.tokens r.fault h.has r.refused)
+memory_alone keep_tags text es f h (no_stream before last events first blames begins none) =
+    let b = first.begins h.tokens h.has in
+    let all : toks h.tokens ≡ toks (before ++ last ∷ []) ++ toks b.more = ap toks b.whole ∙ map-append (λ (t : Token). t.tok) (before ++ last ∷ []) b.more in
+    absurd (none (toks b.more) (events_of es) (subst (λ ts. IsStream keep_tags ts (events_of es)) all (placed_stream keep_tags h.tokens es h.stream)))
+
+-- A text that is read as trees has no key twice.
+no_repeated_key : (keep_tags : Bool) (text : List ℕ) (trees : List Tree) (es : List (Ev × Position)) (key : Tree) → IsReadAs keep_tags text trees → (h : HasEvents keep_tags text es) → reading h.documents ≡ Err key → ⊥
+no_repeated_key keep_tags text trees es key x h repeats = let read = one_reading (toks h.tokens) h.documents (h.tokens, h.has, refl) (nested_is_stream h) x in let no = sym read ∙ repeats in cc
+
+only_memory : (keep_tags : Bool) (text : List ℕ) (trees : List Tree) (f : ErrorReport) → IsReadAs keep_tags text trees → IsUnread keep_tags text f → f.memory ≡ true
+only_memory keep_tags text trees f x (of_parser why) = memory_is_wanted keep_tags text trees f x why
+only_memory keep_tags text trees f x (repeated_key es h key repeats noted tells owned) = absurd (no_repeated_key keep_tags text trees es key x h repeats)
+
+err_same : {a b : Tree} → ◌≡◌ {A = Result (List Tree) Tree} (Err a) (Err b) → a ≡ b
+err_same e = cc
+
+-- Events of one text have the same key twice.
+one_key : (keep_tags : Bool) (text : List ℕ) (es fs : List (Ev × Position)) (key other : Tree) (p : Position) → (h : HasEvents keep_tags text es) → (k : HasEvents keep_tags text fs)
+    → HasNoted (with_events new_loader es) key p → reading k.documents ≡ Err other → key ≡ other
+one_key keep_tags text es fs key other p h k noted repeats =
+    let same = same_events keep_tags text h.tokens k.tokens es fs h.has k.has h.stream k.stream in
+    err_same (sym (noted_key (reading k.documents) (with_events new_loader es) key p (one_by_one k.documents es (same ∙ k.events_are)) noted) ∙ repeats)
+
+faults_agree : (keep_tags : Bool) (text : List ℕ) (f g : ErrorReport) → IsUnread keep_tags text f → IsUnread keep_tags text g → f.memory ≡ false → g.memory ≡ false → (f ≡ g) ⊎ ((key : Tree) × TellsKey key f.text × TellsKey key g.text)
+faults_agree keep_tags text f g (of_parser x) (of_parser y) m n = inl (one_fault keep_tags text f g x y m n)
+faults_agree keep_tags text f g (of_parser x) (repeated_key es h key repeats noted tells owned) m n = absurd (both_ways f.memory m (memory_alone keep_tags text es f h x))
+faults_agree keep_tags text f g (repeated_key es h key repeats noted tells owned) (of_parser y) m n = absurd (both_ways g.memory n (memory_alone keep_tags text es g h y))
+faults_agree keep_tags text f g (repeated_key es h key repeats noted tells owned) (repeated_key fs k other again noted_too tells_too owned_too) m n =
+    inr (key, tells, subst (λ t. TellsKey t g.text) (sym (one_key keep_tags text es fs key other f.position h k noted again)) tells_too)
+
+pub one_answer : OneAnswer
+one_answer keep_tags text (Ok ones) (Ok others) x y = texts_are_read_in_one_way keep_tags text (items_view ones.items) (items_view others.items) x y
+one_answer keep_tags text (Ok ones) (Err g) x y = only_memory keep_tags text (items_view ones.items) g x y
+one_answer keep_tags text (Err f) (Ok others) x y = only_memory keep_tags text (items_view others.items) f y x
+one_answer keep_tags text (Err f) (Err g) x y = λ m n. faults_agree keep_tags text f g x y m n
 
 -- a load that ended well pushed all events of its text
 all_taken : {R : Type 0} {takes : R → Ev → Position → Result (Unit {0}) ErrorReport → R → Type 0} {r s : R} {result : Result (Unit {0}) ErrorReport} {keep_tags : Bool} {text : List ℕ}

@@ -94,7 +94,7 @@ was_read (Err key) (at_work u) documents h has = absurd h
 was_read r (noted d k p) documents h has = absurd has
 was_read r (unfinished.refused d p) documents h has = absurd has
 
-noted_key : (r : Result (List Tree) Tree) (x : Loader) (key : Tree) (p : Position) → HasRead r x → HasNoted x key p → r ≡ Err key
+pub noted_key : (r : Result (List Tree) Tree) (x : Loader) (key : Tree) (p : Position) → HasRead r x → HasNoted x key p → r ≡ Err key
 noted_key r (at_work u) key p h has = absurd has
 noted_key (Ok trees) (noted d k q) key p h has = absurd h
 noted_key (Err other) (noted d k q) key p h has = ap Err (sym h ∙ has.0)

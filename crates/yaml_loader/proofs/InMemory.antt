@@ -32,6 +32,7 @@ told taken done = record {
   given = [];
   waiting = 0;
   fault = None;
+  early = false;
   started = false;
   stopped = false;
   ended = false;

@@ -1,7 +1,8 @@
--- Laws of two loads of one text, and of two parsers of one text: each is the contract of the function of `src/laws.rt` that its comment names.
-use Rattle.std.specs.Prelude.{◌≡◌, ℕ, Bool, true, List, Result, Ok, IfOk, Vec}
+-- Laws of two answers about one text, of two loads of one text, and of two parsers of one text: each is the contract of the function of `src/laws.rt` that its comment names.
+use Rattle.std.specs.Prelude.{◌≡◌, ◌⊎◌, ℕ, Bool, true, false, List, Result, Ok, Err, IfOk, Vec}
 use Rattle.std.specs.declared.alloc.Global.{Global}
 use Rattle.defs_text.specs.Position.{Position}
+use Rattle.defs_tree.specs.Tree.{Tree}
 use Rattle.defs_event.specs.Event.{Ev}
 use Rattle.defs_event.specs.Stream.{events_of}
 use Rattle.yaml_tokens.specs.ErrorReport.{ErrorReport}
@@ -13,6 +14,8 @@ use Rattle.yaml_parser.specs.Follows.{IsWhole}
 use Rattle.yaml_parser.specs.Loads.{Loads, Receives}
 use Rattle.defs_meaning.specs.Meaning.{Means}
 use Rattle.proof_loads.specs.TextReadAs.{IsAtStart}
+use Rattle.yaml_loader.specs.RepeatedKey.{TellsKey}
+use Rattle.yaml_loader.specs.TextLoads.{LoadsText}
 
 -- An answer is of the text's row: if it is `Ok`, its documents are what the text means by the definitions alone. It is the clause `of_row` of a load.
 abbrev pub IsOfRow : (keep_tags : Bool) → (text : List ℕ) → Result (Vec Yaml Global) ErrorReport → Type 0
@@ -23,9 +26,21 @@ abbrev pub Agree : (one other : Result (Vec Yaml Global) ErrorReport) → Type 0
 Agree (Ok ones) (Ok others) = items_view ones.items ≡ items_view others.items
 Agree one other = Unit {0}
 
--- `one_answer`: whoever gave them
+-- `one_list_of_documents`: whoever gave them
+abbrev pub OneListOfDocuments : Type 0
+OneListOfDocuments = (keep_tags : Bool) (text : List ℕ) (one other : Result (Vec Yaml Global) ErrorReport) → IsOfRow keep_tags text one → IsOfRow keep_tags text other → Agree one other
+
+-- Unless memory was refused, both answers say the same: the same trees; or the same fault, with its text and its position; or that the same key comes
+-- twice.
+abbrev pub SayTheSame : (one other : Result (Vec Yaml Global) ErrorReport) → Type 0
+SayTheSame (Ok ones) (Ok others) = items_view ones.items ≡ items_view others.items
+SayTheSame (Ok ones) (Err g) = g.memory ≡ true
+SayTheSame (Err f) (Ok others) = f.memory ≡ true
+SayTheSame (Err f) (Err g) = f.memory ≡ false → g.memory ≡ false → (f ≡ g) ⊎ ((key : Tree) × TellsKey key f.text × TellsKey key g.text)
+
+-- `one_answer`: two answers that keep the clause `reads` of a load, whoever gave them
 abbrev pub OneAnswer : Type 0
-OneAnswer = (keep_tags : Bool) (text : List ℕ) (one other : Result (Vec Yaml Global) ErrorReport) → IsOfRow keep_tags text one → IsOfRow keep_tags text other → Agree one other
+OneAnswer = (keep_tags : Bool) (text : List ℕ) (one other : Result (Vec Yaml Global) ErrorReport) → LoadsText keep_tags text one → LoadsText keep_tags text other → SayTheSame one other
 
 -- `one_list_of_pulled_events`; two parsers that have read a text to its end
 abbrev pub OneListOfPulledEvents : Type 0

@@ -1,6 +1,6 @@
 //! Laws of the definitions, each the contract of an empty function.
 
-ghost use Rattle.yaml_loader.specs.Agreement.{OneAnswer, OneListOfPulledEvents, OneListOfPushedEvents};
+ghost use Rattle.yaml_loader.specs.Agreement.{OneAnswer, OneListOfDocuments, OneListOfPulledEvents, OneListOfPushedEvents};
 ghost use Rattle.yaml_loader.specs.Laws.{AlikeLoadersShowTheSame, AlikeLoadersGoOnAlike, EventsAreReadAsDefined, TakenTextsAreLoaded, TakenEventsAreRead, RefusedTextsWantMemory};
 
 use yaml_parser::MarkedEventReceiver;
@@ -41,6 +41,13 @@ pub fn refused_texts_want_memory()
 
 /// For one text, two answers that keep the clause `of_row` of a load have the same documents if both are `Ok`, whoever
 /// gave them.
+#[tactic(auto, using(crate::proofs::Agreement::one_list_of_documents))]
+pub fn one_list_of_documents()
+    ensures { OneListOfDocuments }
+{}
+
+/// For one text, two answers that keep the clause `reads` of a load say the same, whoever gave them, unless memory was refused: the
+/// same documents, or the same fault at the same position, or that the same key comes twice.
 #[tactic(auto, using(crate::proofs::Agreement::one_answer))]
 pub fn one_answer()
     ensures { OneAnswer }

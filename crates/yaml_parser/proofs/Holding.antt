@@ -41,7 +41,7 @@ use Rattle.yaml_parser.specs.Seen.{fault_seen}
 use Rattle.yaml_parser.specs.Parsed.{Parsed, is_stream_end, has_end, read}
 use Rattle.yaml_parser.specs.Blames.{Blames}
 use Rattle.yaml_parser.specs.Derived.{IsDerived}
-use Rattle.yaml_parser.specs.Follows.{Follows, Derives, IsComplete, Refused, IsWhole, Explains, StandsBeside, listed}
+use Rattle.yaml_parser.specs.Follows.{Follows, Derives, IsComplete, Refused, IsWhole, Explains, IsOfScanner, listed}
 use Rattle.yaml_parser.specs.Halts.{IsHalted}
 use Rattle.yaml_parser.specs.Pulls.{IsSound}
 use Rattle.yaml_parser.specs.View.{fault_kept}
@@ -229,15 +229,15 @@ failed_as {T} {p} {q} es u h x = (x.0, subst (λ r. Faulted r es u) (sym h) x.1)
 
 -- ---- at the beginning
 
-pub begun : {T : Type 0} (p : Reader T) → p.stack ≡ state.StreamStart ∷ [] → p.tokens.peeked ≡ None → p.tokens.taken.items ≡ [] → (scanned p.tokens.scanner).given ≡ [] → (scanned p.tokens.scanner).ended ≡ false → IsNamed p.names no_names
+pub begun : {T : Type 0} (p : Reader T) → p.stack ≡ state.StreamStart ∷ [] → p.tokens.peeked ≡ None → p.tokens.taken.items ≡ [] → (scanned p.tokens.scanner).given ≡ [] → (scanned p.tokens.scanner).ended ≡ false → (scanned p.tokens.scanner).fault ≡ None → IsNamed p.names no_names
     → p.names.keeping.settings.items ≡ [] → IsHeld p [] None
-begun {T} p stack peeked taken given ended code none = record {
+begun {T} p stack peeked taken given ended clear code none = record {
   names = no_names;
   here = record {
     raw = [];
     stands = subst (λ ss. IsOnTrack at.done ss (taken_toks p.tokens) (peeked_tok p.tokens) []) (sym stack) (subst (λ ts. IsOnTrack at.done (state.StreamStart ∷ []) (toks (all_shown ts)) (peeked_tok p.tokens) []) (sym taken) (begins (peeked_tok p.tokens)));
     handed = given ∙ sym (ap (λ ts. all_shown ts ++ shown_list p.tokens.peeked) taken ∙ ap shown_list peeked);
-    awake = λ o. ended ∙ sym (ap ends peeked);
+    awake = λ o. (ended ∙ sym (ap ends peeked), clear);
     over = λ o. peeked;
     count = refl;
     few = subst (λ xs. length xs ≤ 0) (sym none) (omega arith);
@@ -417,11 +417,7 @@ shown_halted {T} p es v s x =
     (subst (λ ts. IsHalted p.names.keeping.settings.items p.names.keeping.tags ts (read v)) (ap (λ z. z.given) (sym s.scanner))
     (subst (IsHalted p.names.keeping.settings.items p.names.keeping.tags (scanned p.tokens.scanner).given) (sym s.events) x)))
 
-pub explains : (f : ErrorReport) (v : Parsed) → StandsBeside f v → Explains f v
-explains f v (inl x) = inl x.0
-explains f v (inr x) = inr x
-
-explained : {T : Type 0} (p : Reader T) (es : List (Ev × Position)) (u : Stop) (m : Position) (f : ErrorReport) → fault_seen u m (scanned p.tokens.scanner).fault ≡ f → Faulted p es u → KnowsSteady p → (v : Parsed) → Shows p es v → StandsBeside f v
+explained : {T : Type 0} (p : Reader T) (es : List (Ev × Position)) (u : Stop) (m : Position) (f : ErrorReport) → fault_seen u m (scanned p.tokens.scanner).fault ≡ f → Faulted p es u → KnowsSteady p → (v : Parsed) → Shows p es v → Explains f v
 explained {T} p es (stop.Own OutOfMemory) m f h x known v s = inr (inl (record { memory = ap (λ z. z.memory) (sym h); text = ap (λ z. z.text) (sym h) }))
 explained {T} p es (stop.Own (fault.At q n)) m f h x known v s =
     inr (inr (record {
@@ -429,13 +425,23 @@ explained {T} p es (stop.Own (fault.At q n)) m f h x known v s =
       steady = shown_steady p es v s known;
       refused = λ steady. blames_refused p es x.blames (known (sym s.steady ∙ steady)) v s;
     }))
-explained {T} p es stop.Scan m f h x known v s = inl (ap (λ z. z.fault) s.scanner ∙ kept_some (scanned p.tokens.scanner).fault _ x.0 h, shown_halted p es v s x.1)
+explained {T} p es stop.Scan m f h x known v s =
+    inl (record {
+      fault = ap (λ z. z.fault) s.scanner ∙ kept_some (scanned p.tokens.scanner).fault _ x.0.0 h;
+      settled = λ wants. ap (λ z. z.early) s.scanner ∙ on_time (scanned p.tokens.scanner).fault (kept_some (scanned p.tokens.scanner).fault _ x.0.0 h) x.0.1 wants;
+      halted = shown_halted p es v s x.1;
+      begins = λ steady. subst (λ ts. BeginsPlaced v.keep_tags ts (read v)) (ap (λ z. z.given) (sym s.scanner)) (derived_begins p v es (scanned p.tokens.scanner).given x.1.raw (known (sym s.steady ∙ steady)) s x.1.derived);
+    })
   where
     kept_some : (o : Option ErrorReport) (d : ErrorReport) {g : ErrorReport} → IsSome o → unwrap_or o d ≡ g → o ≡ Some g
     kept_some None d i e = cc
     kept_some (Some y) d i e = ap Some e
+
+    on_time : (o : Option ErrorReport) → o ≡ Some f → IfSome o (λ g. g.memory ≡ false → (scanned p.tokens.scanner).early ≡ false) → f.memory ≡ false → (scanned p.tokens.scanner).early ≡ false
+    on_time None e k = cc
+    on_time (Some g) e k = let same : g ≡ f = cc in subst (λ d. d.memory ≡ false → (scanned p.tokens.scanner).early ≡ false) same k
 explained {T} p es stop.Ended m f h x known v s = absurd x
 
-pub held_explained : {T : Type 0} (p : Reader T) (es : List (Ev × Position)) (o : Option KeptStop) (f : ErrorReport) → option_map (λ k. fault_seen k.stop k.mark (scanned p.tokens.scanner).fault) o ≡ Some f → IsMet p es o → KnowsSteady p → (v : Parsed) → Shows p es v → StandsBeside f v
+pub held_explained : {T : Type 0} (p : Reader T) (es : List (Ev × Position)) (o : Option KeptStop) (f : ErrorReport) → option_map (λ k. fault_seen k.stop k.mark (scanned p.tokens.scanner).fault) o ≡ Some f → IsMet p es o → KnowsSteady p → (v : Parsed) → Shows p es v → Explains f v
 held_explained {T} p es None f h x known v s = cc
 held_explained {T} p es (Some k) f h x known v s = let e : fault_seen k.stop k.mark (scanned p.tokens.scanner).fault ≡ f = cc in explained p es k.stop k.mark f e x known v s

@@ -1,8 +1,8 @@
 -- Where the next token decides, two different events may come.
-use Rattle.std.proofs.Common.{◌≡◌, ◌≢◌, ◌≤◌, length, List, [], ◌∷◌, ◌++◌, Option, Some, None, false, refl, sym, ap, ◌∙◌, subst, append_assoc, arith, true}
+use Rattle.std.proofs.Common.{◌≡◌, ◌≢◌, List, [], ◌∷◌, ◌++◌, Option, Some, None, false, refl, sym, ap, ◌∙◌, subst, append_assoc, append-nil, true}
 use Rattle.std.proofs.lemmas.Bool.{or_parts}
 use Rattle.std.proofs.lemmas.List.{map-append}
-use Rattle.std.specs.Option.{IsSome, IfSome}
+use Rattle.std.specs.Option.{IfSome}
 use Rattle.defs_text.specs.Position.{Position}
 use Rattle.defs_token.specs.Token as defs
 use Rattle.defs_token.specs.Token.{Style, Tok}
@@ -30,7 +30,7 @@ use Rattle.yaml_parser.specs.declared.reader.Reader.{Reader}
 use Rattle.yaml_parser.specs.Apart.{GoesOnWith, IsOpen}
 use Rattle.yaml_parser.specs.Derived.{IsDerived}
 use Rattle.yaml_parser.specs.Halts.{may_wait, perhaps, IsHalted}
-use Rattle.yaml_parser.specs.Handed.{taken_toks, peeked_tok, shown_list, IsHanded, IsAwake}
+use Rattle.yaml_parser.specs.Handed.{taken_toks, peeked_tok, shown_list, IsHanded, IsAwake, IsStopped}
 use Rattle.yaml_parser.specs.Kinds.{stop_of}
 use Rattle.yaml_parser.specs.At.{At, Faulted, Fails, is_over, is_done, is_idle}
 use Rattle.yaml_parser.proofs.Steps.{look_peeked, begins_peeked}
@@ -130,19 +130,17 @@ ready {T} {g} a (after_one l {e = e} {f = f} waits all one other apart) = record
 -- ---- a look that fails
 
 -- What the events are, where a look at the next token fails.
-halted : {T : Type 0} (p r : Reader T) {g : Goal} {names : Names} {given : List (Ev × Position)} → r.tokens.taken ≡ p.tokens.taken → ((t : Token) → p.tokens.peeked ≡ Some t → r.tokens.peeked ≡ Some t) → IsHanded r.tokens → r.names ≡ p.names
+halted : {T : Type 0} (p r : Reader T) {g : Goal} {names : Names} {given : List (Ev × Position)} → r.tokens.taken ≡ p.tokens.taken → ((t : Token) → p.tokens.peeked ≡ Some t → r.tokens.peeked ≡ Some t) → r.tokens.peeked ≡ None → IsHanded r.tokens → r.names ≡ p.names
     → is_idle g ≡ false → At g p names given → IsHalted r.names.keeping.settings.items r.names.keeping.tags (scanned r.tokens.scanner).given given
-halted {T} p r {g} {names} {given} taken same handed names_same busy a =
+halted {T} p r {g} {names} {given} taken same none handed names_same busy a =
     let o = ready a (opens g p.stack busy) in
     let stands : IsOnTrack g p.stack (taken_toks p.tokens) (peeked_tok r.tokens) a.raw = look_peeked g p.stack (taken_toks p.tokens) p.tokens.peeked r.tokens.peeked a.raw same a.stands in
     let all : (scanned r.tokens.scanner).given ≡ all_shown p.tokens.taken.items ++ shown_list r.tokens.peeked = handed ∙ ap (λ x. all_shown x.items ++ shown_list r.tokens.peeked) taken in
+    let took : (scanned r.tokens.scanner).given ≡ all_shown p.tokens.taken.items = all ∙ ap (λ x. all_shown p.tokens.taken.items ++ shown_list x) none ∙ append-nil (all_shown p.tokens.taken.items) in
     record {
-      before = all_shown p.tokens.taken.items;
-      looked_at = shown_list r.tokens.peeked;
-      at_most_one = few r.tokens.peeked;
-      whole = all;
       raw = a.raw;
-      derived = subst (λ n. IsDerived n.keeping.settings.items n.keeping.tags (all_shown p.tokens.taken.items) a.raw given) (sym names_same) (at_derived g p names given a);
+      derived = subst (λ ts. IsDerived r.names.keeping.settings.items r.names.keeping.tags ts a.raw given) (sym took)
+          (subst (λ n. IsDerived n.keeping.settings.items n.keeping.tags (all_shown p.tokens.taken.items) a.raw given) (sym names_same) (at_derived g p names given a));
       missing = o.missing;
       waits = o.waits;
       certain = λ ts fs d.
@@ -151,15 +149,11 @@ halted {T} p r {g} {names} {given} taken same handed names_same busy a =
           let u = stands.exact (toks (shown_list r.tokens.peeked) ++ ts) fs (begins_peeked r.tokens.peeked ts) (subst (λ us. StreamSays us fs) k d) in
           let v = o.certain (toks (shown_list r.tokens.peeked) ++ ts) u.0 u.2 in
           (v.0, u.1 ∙ ap (λ es. a.raw ++ es) v.1 ∙ sym (append_assoc a.raw (perhaps o.missing) v.0));
-      goes_on = o.goes_on;
+      goes_on = subst (λ ts. IsOpen (toks ts) (a.raw ++ perhaps o.missing)) (sym took) o.goes_on;
     }
-  where
-    few : (x : Option Token) → length (shown_list x) ≤ 1
-    few None = omega arith
-    few (Some t) = omega arith
 
-pub look_fails : {T : Type 0} (p r : Reader T) {s : Stop} {m : Missing} → r.tokens.taken ≡ p.tokens.taken → ((t : Token) → p.tokens.peeked ≡ Some t → r.tokens.peeked ≡ Some t) → (IsHanded p.tokens → IsHanded r.tokens) → r.names ≡ p.names
-    → s ≡ stop_of m → (IsAwake p.tokens → (m ≡ missing.Scan) × IsSome (scanned r.tokens.scanner).fault) → (g : Goal) → is_idle g ≡ false → Fails g p r s
-look_fails {T} p r {s} {m} taken same handed names_same e h = λ g busy names given a.
+pub look_fails : {T : Type 0} (p r : Reader T) {s : Stop} {m : Missing} → r.tokens.taken ≡ p.tokens.taken → ((t : Token) → p.tokens.peeked ≡ Some t → r.tokens.peeked ≡ Some t) → r.tokens.peeked ≡ None → (IsHanded p.tokens → IsHanded r.tokens) → r.names ≡ p.names
+    → s ≡ stop_of m → (IsAwake p.tokens → (m ≡ missing.Scan) × IsStopped (scanned r.tokens.scanner)) → (g : Goal) → is_idle g ≡ false → Fails g p r s
+look_fails {T} p r {s} {m} taken same none handed names_same e h = λ g busy names given a.
     let k = h (a.awake (or_parts (is_over g) (is_done g) busy).0) in
-    subst (Faulted r given) (sym (e ∙ ap stop_of k.0)) (k.1, halted p r taken same (handed a.handed) names_same busy a)
+    subst (Faulted r given) (sym (e ∙ ap stop_of k.0)) (k.1, halted p r taken same none (handed a.handed) names_same busy a)

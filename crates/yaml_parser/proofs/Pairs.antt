@@ -56,7 +56,7 @@ no_token none some = let e : None ≡ Some _ = sym none ∙ some in cc
 -- The next token is looked at.
 looks : {T : Type 0} (p : Reader T) (s : Scanned) (t : Token) {g : Goal} {names : Names} {given : List (Ev × Position)}
     → p.tokens.peeked ≡ None → HandsOut (scanned p.tokens.scanner) (shown t) s → is_over g ≡ false → At g p names given → At g (record p { tokens = looking p.tokens s t }) names given
-looks p s t none h going a = looks_on refl (λ u e. no_token none e) (looking_handed p.tokens t none h) (λ _. h.ended) refl refl going a
+looks p s t none h going a = looks_on refl (λ u e. no_token none e) (looking_handed p.tokens t none h) (λ _. (h.ended, h.fault)) refl refl going a
 
 -- It is taken, and a state more is awaited.
 takes : {T : Type 0} (p : Reader T) (s : Scanned) (t : Token) (x : State)

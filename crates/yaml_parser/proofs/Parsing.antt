@@ -15,7 +15,7 @@ use Rattle.yaml_parser.specs.declared.tokens.KeptStop.{KeptStop}
 use Rattle.yaml_parser.specs.declared.tokens.Stop.{Stop}
 use Rattle.yaml_parser.specs.declared.pull.Pull.{Pull}
 use Rattle.yaml_parser.specs.declared.reader.Reader.{Reader}
-use Rattle.yaml_parser.specs.Follows.{StandsBeside}
+use Rattle.yaml_parser.specs.Follows.{Explains}
 use Rattle.yaml_parser.specs.Settings.{AreAll}
 use Rattle.yaml_parser.specs.Shown.{placed, all_placed, ev_of}
 use Rattle.yaml_parser.specs.Work.{work}
@@ -24,7 +24,7 @@ use Rattle.yaml_parser.specs.Parsed.{Parsed, is_stream_end, is_fresh, stays_stea
 use Rattle.yaml_parser.specs.Pulls.{Waits, Looks, GivesEvent, GivesFault, IsSound}
 use Rattle.yaml_parser.specs.View.{fault_kept, fault_of_all, no_document, events_left}
 use Rattle.yaml_parser.specs.Held.{IsHeld, Notes, Continues, Advances, Holds}
-use Rattle.yaml_parser.proofs.Holding.{Shows, KnowsSteady, closed, keeps, failed_as, set_stands, held_sound, explains, held_explained, has_end_snoc}
+use Rattle.yaml_parser.proofs.Holding.{Shows, KnowsSteady, closed, keeps, failed_as, set_stands, held_sound, held_explained, has_end_snoc}
 use Rattle.yaml_parser.proofs.Since.{all_more}
 
 -- ---- what clauses see
@@ -132,7 +132,6 @@ fault_misplaced {T} pull given current started ended misplaced p h none m =
       noted = refl;
       again = subst (λ o. IfSome o (λ g. (no_document p ≡ g) × (seen pull given current started ended misplaced ≡ seen pull given current started ended misplaced))) (sym f) (refl, refl);
       why = λ b. let no : None ≡ Some (no_document p) = sym b ∙ f in cc;
-      beside = λ b. let no : None ≡ Some (no_document p) = sym b ∙ f in cc;
     }
   where
     not_over : (b : Bool) → (b ≡ true → ⊥) → b ≡ false
@@ -199,15 +198,14 @@ fault_given {T} pull new given current started ended misplaced f h none clear x 
       settings = record { keep_tags = ap (λ k. k.tags) keeping; steady = ap (λ k. k.steady) keeping };
       noted = ap (λ k. k.settings.items) keeping;
       again = subst (λ m. IfSome (fault_of_all m pull) (λ g. (f ≡ g) × (seen new given current started ended misplaced ≡ seen pull given current started ended misplaced))) (sym clear) (again_seen (fault_kept pull) again);
-      why = λ b. explains f (seen new given current started ended misplaced) (beside b);
-      beside = beside;
+      why = why;
     }
   where
     none_kept : fault_kept pull ≡ None → pull.kept ≡ None
     none_kept b = none_before (λ k. fault_seen k.stop k.mark (scanned pull.reader.tokens.scanner).fault) pull.kept b
 
-    beside : (seen pull given current started ended misplaced).fault ≡ None → StandsBeside f (seen new given current started ended misplaced)
-    beside b = held_explained new.reader (read_so given ended (option_map placed current)) new.kept f kept (x.2 (none_kept (ap (λ m. fault_of_all m pull) (sym clear) ∙ b))) (subst IsKnownSteady (sym x.0) h.steady) (seen new given current started ended misplaced)
+    why : (seen pull given current started ended misplaced).fault ≡ None → Explains f (seen new given current started ended misplaced)
+    why b = held_explained new.reader (read_so given ended (option_map placed current)) new.kept f kept (x.2 (none_kept (ap (λ m. fault_of_all m pull) (sym clear) ∙ b))) (subst IsKnownSteady (sym x.0) h.steady) (seen new given current started ended misplaced)
         (shows new given current started ended misplaced (read_so given ended (option_map placed current)) refl)
 
     again_seen : (o : Option ErrorReport) → IfSome o (λ g. (◌≡◌ {A = Result (Event × Position) ErrorReport} (Err f) (Err g)) × (new ≡ pull)) → IfSome o (λ g. (f ≡ g) × (seen new given current started ended misplaced ≡ seen pull given current started ended misplaced))

@@ -57,7 +57,7 @@ skipped_handed {T} {p} {r} {t} here s h =
 
 skipped_awake : {T : Type 0} {p r : Tokens T} {t : Token} → p.peeked ≡ Some t → Skips p t r → is_end (tok_of t.1) ≡ false → IsAwake p → IsAwake r
 skipped_awake {T} {p} {r} {t} here s e a =
-    ap (λ x. (scanned x).ended) s.scanner ∙ a ∙ ap ends here ∙ e ∙ ap ends (sym s.peeked)
+    (ap (λ x. (scanned x).ended) s.scanner ∙ a.0 ∙ ap ends here ∙ e ∙ ap ends (sym s.peeked), ap (λ x. (scanned x).fault) s.scanner ∙ a.1)
 
 skipped_stands : {T : Type 0} {p r : Tokens T} {t : Token} {g g' : Goal} {ss ss' : List State} {raw raw' : List Raw}
     → p.peeked ≡ Some t → Skips p t r → (IsOnTrack g ss (taken_toks p) (Some (tok_of t.1)) raw → IsOnTrack g' ss' (taken_toks p ++ tok_of t.1 ∷ []) None raw')

@@ -26,7 +26,7 @@ use Rattle.yaml_parser.specs.declared.reader.Reader.{Reader}
 use Rattle.yaml_parser.specs.Ahead.{Skips}
 use Rattle.yaml_parser.specs.Blames.{Blames}
 use Rattle.yaml_parser.specs.Halts.{IsHalted}
-use Rattle.yaml_parser.specs.Handed.{taken_toks, peeked_tok, before_next, IsHanded, IsAwake}
+use Rattle.yaml_parser.specs.Handed.{taken_toks, peeked_tok, before_next, IsHanded, IsAwake, IsStopped}
 use Rattle.yaml_parser.specs.Named.{IsNamed}
 use Rattle.yaml_parser.specs.Settings.{named_since, names_since}
 use Rattle.yaml_parser.specs.Shown.{placed, ev_of}
@@ -100,7 +100,7 @@ pub record IsStuck {T : Type 0} (p : Reader T) (given : List (Ev × Position)) (
 abbrev pub Faulted : {T : Type 0} → Reader T → List (Ev × Position) → Stop → Type 0
 Faulted p given (stop.Own OutOfMemory) = Unit {0}
 Faulted p given (stop.Own (fault.At problem mark)) = IsStuck p given problem mark
-Faulted p given stop.Scan = IsSome (scanned p.tokens.scanner).fault × IsHalted p.names.keeping.settings.items p.names.keeping.tags (scanned p.tokens.scanner).given given
+Faulted p given stop.Scan = IsStopped (scanned p.tokens.scanner) × IsHalted p.names.keeping.settings.items p.names.keeping.tags (scanned p.tokens.scanner).given given
 Faulted p given stop.Ended = ⊥
 
 abbrev pub goal_after_event : Ev → Goal

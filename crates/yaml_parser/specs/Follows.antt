@@ -1,5 +1,5 @@
 -- What the tokens that were taken say of the events, and of a fault.
-use Rattle.std.specs.Prelude.{◌≡◌, ◌⊎◌, List, [], ◌∷◌, ◌++◌, true, Option, Some, None}
+use Rattle.std.specs.Prelude.{◌≡◌, ◌⊎◌, List, [], ◌∷◌, ◌++◌, true, false, Option, Some, None}
 use Rattle.defs_token.specs.Token.{Tok, Token}
 use Rattle.yaml_tokens.specs.ErrorReport.{ErrorReport}
 use Rattle.defs_event.specs.Event.{Ev}
@@ -60,10 +60,15 @@ pub record IsRefusedAtLast (f : ErrorReport) (p : Parsed) : Type 0 where
   pub steady : p.steady ≡ true → AreAll p.keep_tags p.settings
   pub refused : p.steady ≡ true → Refused p
 
--- Why a fault comes: it is the scanner's, or memory was refused, or the last token is refused.
-abbrev pub Explains : ErrorReport → Parsed → Type 0
-Explains f p = (p.scanner.fault ≡ Some f) ⊎ (WantsMemory f ⊎ IsRefusedAtLast f p)
+-- The scanner met the fault, after all tokens that are settled before it, unless memory was refused. A stream begins with all tokens that it handed
+-- out, and with the events read: so the parser refuses none of them.
+pub record IsOfScanner (f : ErrorReport) (p : Parsed) : Type 0 where
+  pub fault : p.scanner.fault ≡ Some f
+  pub settled : f.memory ≡ false → p.scanner.early ≡ false
+  pub halted : IsHalted p.settings p.keep_tags p.scanner.given (read p)
+  pub begins : p.steady ≡ true → BeginsPlaced p.keep_tags p.scanner.given (read p)
 
--- What the events beside a fault are: before one of the scanner's, those of the tokens taken; before a refused token, those of the tokens before it.
-abbrev pub StandsBeside : ErrorReport → Parsed → Type 0
-StandsBeside f p = ((p.scanner.fault ≡ Some f) × IsHalted p.settings p.keep_tags p.scanner.given (read p)) ⊎ (WantsMemory f ⊎ IsRefusedAtLast f p)
+-- Why a fault comes, and what the events beside it are: it is the scanner's, and they are those of the tokens taken; or memory was refused; or the last
+-- token is refused, and they are those of the tokens before it.
+abbrev pub Explains : ErrorReport → Parsed → Type 0
+Explains f p = IsOfScanner f p ⊎ (WantsMemory f ⊎ IsRefusedAtLast f p)

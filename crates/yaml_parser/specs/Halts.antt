@@ -1,5 +1,5 @@
 -- What the events are where no further token comes: before a fault of the scanner.
-use Rattle.std.specs.Prelude.{◌≡◌, ◌≤◌, length, List, [], ◌∷◌, ◌++◌, Bool, true, false, Option, None, Some, IfSome}
+use Rattle.std.specs.Prelude.{◌≡◌, List, [], ◌∷◌, ◌++◌, Bool, true, false, Option, None, Some, IfSome}
 use Rattle.defs_text.specs.Position.{Position}
 use Rattle.defs_token.specs.Token.{Token}
 use Rattle.defs_token.specs.Toks.{toks}
@@ -21,17 +21,13 @@ abbrev pub perhaps : Option Raw → List Raw
 perhaps None = []
 perhaps (Some e) = e ∷ []
 
--- These are some tokens before and at most one that was looked at. The events come of those before. Each stream that begins with the
+-- The events come of these tokens, all of which were taken: a stream begins with them and with the events. Each stream that begins with the
 -- tokens begins with these events and with the missing one, if one is missing; and after these, two different events may come. So of the
--- events that the tokens before make certain only one may be missing, which waits for the position of the next token.
+-- events that the tokens make certain only one may be missing, which waits for the position of the next token.
 pub record IsHalted (settings : List Bool) (keep_tags : Bool) (tokens : List Token) (events : List (Ev × Position)) : Type 0 where
-  pub before : List Token
-  pub looked_at : List Token
-  pub at_most_one : length looked_at ≤ 1
-  pub whole : tokens ≡ before ++ looked_at
   pub raw : List Raw
-  pub derived : IsDerived settings keep_tags before raw events
+  pub derived : IsDerived settings keep_tags tokens raw events
   pub missing : Option Raw
   pub waits : IfSome missing (λ e. may_wait e ≡ true)
   pub certain : ForetellsRaw (toks tokens) (raw ++ perhaps missing)
-  pub goes_on : IsOpen (toks before) (raw ++ perhaps missing)
+  pub goes_on : IsOpen (toks tokens) (raw ++ perhaps missing)

@@ -1,11 +1,11 @@
 -- The tokens of a parser, and those that its scanner handed out.
-use Rattle.std.specs.Prelude.{◌≡◌, List, [], ◌∷◌, ◌++◌, Bool, false, Option, Some, None, option_map}
+use Rattle.std.specs.Prelude.{◌≡◌, List, [], ◌∷◌, ◌++◌, Bool, false, Option, Some, None, IsSome, IfSome, option_map}
 use Rattle.defs_text.specs.Position.{Position}
 use Rattle.defs_token.specs.Token as defs
 use Rattle.defs_token.specs.Token.{Tok}
 use Rattle.yaml_tokens.specs.declared.token.Token.{Token}
 use Rattle.yaml_tokens.specs.Shown.{shown, all_shown, tok_of}
-use Rattle.yaml_scanner.specs.Scanned.{scanned}
+use Rattle.yaml_scanner.specs.Scanned.{Scanned, scanned}
 use Rattle.yaml_scanner_state.specs.Tokens.{is_end}
 use Rattle.defs_token.specs.Toks.{toks}
 use Rattle.defs_event.specs.Stream.{Before, nothing_before, past_all}
@@ -37,6 +37,10 @@ abbrev pub ends : Option Token → Bool
 ends None = false
 ends (Some t) = is_end (tok_of t.1)
 
--- The stream's end was handed out only if it was looked at and waits.
+-- The scanner keeps no fault, and the stream's end was handed out only if it was looked at and waits.
 abbrev pub IsAwake : {T : Type 0} → Tokens T → Type 0
-IsAwake p = (scanned p.scanner).ended ≡ ends p.peeked
+IsAwake p = ((scanned p.scanner).ended ≡ ends p.peeked) × ((scanned p.scanner).fault ≡ None)
+
+-- The scanner keeps a fault. Unless memory was refused, all tokens that are settled before it were handed out.
+abbrev pub IsStopped : Scanned → Type 0
+IsStopped s = IsSome s.fault × IfSome s.fault (λ f. f.memory ≡ false → s.early ≡ false)

@@ -11,7 +11,7 @@ use Rattle.yaml_parser.specs.declared.event.Event.{Event}
 use Rattle.yaml_parser.specs.Shown.{ev_of, placed}
 use Rattle.yaml_parser.specs.Parsed.{Parse, Parsed, parsed, is_stream_end, has_end, read, settings_after}
 use Rattle.yaml_parser.specs.Settings.{AreAll}
-use Rattle.yaml_parser.specs.Follows.{Follows, Derives, IsComplete, IsWhole, Explains, StandsBeside}
+use Rattle.yaml_parser.specs.Follows.{Follows, Derives, IsComplete, IsWhole, Explains}
 use Rattle.yaml_parser.specs.Nests.{BeginsNested}
 
 -- The setting stays.
@@ -54,7 +54,6 @@ pub record GivesFault (old : Parsed) (f : ErrorReport) (new : Parsed) : Type 0 w
   pub noted : new.settings ≡ old.settings
   pub again : IfSome old.fault (λ g. (f ≡ g) × (new ≡ old))
   pub why : old.fault ≡ None → Explains f new
-  pub beside : old.fault ≡ None → StandsBeside f new
 
 -- one call of `next_token`
 abbrev pub Pulls : Parsed → Answer ErrorReport → Parsed → Type 0

@@ -6,7 +6,7 @@ ghost use Rattle.yaml_tokens.specs.Shown.{tok_of, style_of};
 ghost use Rattle.yaml_tokens.specs.declared.token.TokenType.TheVariants.{Key, Value};
 ghost use Rattle.yaml_parser.specs.Kinds.{IsOfKind, IsName};
 ghost use Rattle.yaml_parser.specs.Ahead.{left, Skips, SkipsOne, TakesBoth, indicator_of, scalar_of};
-ghost use Rattle.yaml_parser.specs.Handed.{IsHanded, IsAwake};
+ghost use Rattle.yaml_parser.specs.Handed.{IsHanded, IsAwake, IsStopped};
 ghost use Rattle.yaml_parser.specs.declared.tokens.Missing.TheVariants.{Scan};
 ghost use Rattle.model_parser.specs.declared.kind.Kind.TheVariants as kind;
 
@@ -120,7 +120,8 @@ impl<T: Characters> Tokens<T> {
         ensures same { IfSome self.old.peeked (λ t. self.new.peeked ≡ Some t) }
         ensures handed { IsHanded self.old → IsHanded self.new }
         ensures awake { OnOk result (IsAwake self.old → IsAwake self.new) }
-        ensures err { IsAwake self.old → IfErr result (λ m. (m ≡ Scan) × IsSome (scanned self.new.scanner).fault) }
+        ensures err { IsAwake self.old → IfErr result (λ m. (m ≡ Scan) × IsStopped (scanned self.new.scanner)) }
+        ensures none { OnErr result (self.new.peeked ≡ None) }
     {
         if let Some(kind) = self.peeked.kind() {
             return Ok(kind);
@@ -203,8 +204,9 @@ impl<T: Characters> Tokens<T> {
         ensures left { IfOk result (λ o. IfSome o (λ n. left self.new + 2 ≤ left self.old)) }
         ensures none { IfOk result (λ o. IfNone o (self.new ≡ self.old)) }
         ensures start { self.new.scanner.start ≡ self.old.scanner.start }
-        ensures err { IfErr result (λ m. (m ≡ Scan) × IsSome (scanned self.new.scanner).fault) }
+        ensures err { IfErr result (λ m. (m ≡ Scan) × IsStopped (scanned self.new.scanner)) }
         ensures kept { OnErr result ((self.new.taken ≡ self.old.taken) × (self.new.peeked ≡ self.old.peeked) × (IsHanded self.old → IsHanded self.new)) }
+        ensures missing { OnErr result (self.new.peeked ≡ None) }
     {
         if self.peeked.is_there() {
             return Ok(None);
@@ -223,8 +225,9 @@ impl<T: Characters> Tokens<T> {
         ensures left { IfOk result (λ o. IfSome o (λ n. left self.new + 2 ≤ left self.old)) }
         ensures none { IfOk result (λ o. IfNone o (self.new ≡ self.old)) }
         ensures start { self.new.scanner.start ≡ self.old.scanner.start }
-        ensures err { IfErr result (λ m. (m ≡ Scan) × IsSome (scanned self.new.scanner).fault) }
+        ensures err { IfErr result (λ m. (m ≡ Scan) × IsStopped (scanned self.new.scanner)) }
         ensures kept { OnErr result ((self.new.taken ≡ self.old.taken) × (self.new.peeked ≡ self.old.peeked) × (IsHanded self.old → IsHanded self.new)) }
+        ensures missing { OnErr result (self.new.peeked ≡ None) }
     {
         if self.peeked.is_there() {
             return Ok(None);

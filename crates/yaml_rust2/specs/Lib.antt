@@ -63,14 +63,18 @@ pub use Rattle.yaml_emitter.specs.Writing
 pub use Rattle.yaml_scanner.specs.Rowless
 pub use Rattle.yaml_scanner.specs.Scanned
 pub use Rattle.yaml_scanner.specs.Waits
+pub use Rattle.yaml_scanner.specs.Follows as Settled
 pub use Rattle.yaml_scanner.specs.Next
 pub use Rattle.yaml_parser.specs.Apart
 pub use Rattle.yaml_parser.specs.Blames
+pub use Rattle.yaml_parser.specs.Derived
 pub use Rattle.yaml_parser.specs.Parsed
 pub use Rattle.yaml_parser.specs.Follows
+pub use Rattle.yaml_parser.specs.Halts
 pub use Rattle.yaml_parser.specs.Loads
 pub use Rattle.yaml_parser.specs.Nests
 pub use Rattle.yaml_parser.specs.Pulls
+pub use Rattle.yaml_parser.specs.Settings
 pub use Rattle.yaml_parser.specs.Shown
 pub use Rattle.proof_cut.specs.Faults
 pub use Rattle.proof_cut.specs.Positions

@@ -1,9 +1,9 @@
 -- What was fetched and handed out is a run of the model.
-use Rattle.std.proofs.Common.{◌≡◌, ◌≢◌, ℕ, suc, ◌+◌, ◌≤◌, List, [], ◌∷◌, ◌++◌, Bool, true, false, not, ◌&&◌, ◌||◌, ◌==◌, refl, ap, sym, ◌∙◌, arith, Option, Some, None, length, map, take, drop, option_map, subst, inl, inr}
+use Rattle.std.proofs.Common.{◌≡◌, ◌≢◌, ℕ, zero, suc, ◌+◌, ◌-◌, ◌<◌, ◌≤◌, Err, List, [], ◌∷◌, ◌++◌, Bool, true, false, not, ◌&&◌, ◌||◌, ◌==◌, refl, ap, sym, ◌∙◌, arith, Option, Some, None, length, map, take, drop, option_map, subst, inl, inr}
 use Rattle.std.specs.Prelude.{IfSome, codes}
 use Rattle.std.specs.List.{list_any}
-use Rattle.std.proofs.lemmas.Bool.{eqb-true}
-use Rattle.std.proofs.lemmas.List.{take-append-drop, length-take}
+use Rattle.std.proofs.lemmas.Bool.{eqb-true, both_ways}
+use Rattle.std.proofs.lemmas.List.{take-append-drop, length-take, length-drop}
 use Rattle.yaml_chars.proofs.ReadingLemmas.{Possible-taken}
 use Rattle.defs_token.specs.Token.{Tok, Token}
 use Rattle.defs_text.specs.Position.{Position}
@@ -25,10 +25,10 @@ use Rattle.yaml_scanner_state.specs.ImplicitKeys.{seen, is_front, lowered}
 use Rattle.yaml_scanner.specs.Shape.{held, state, Does, Fails}
 use Rattle.yaml_scanner_state.specs.Tokens.{Tokens, handed, is_end, has_end}
 use Rattle.yaml_scanner.specs.Work.{Fetches}
-use Rattle.yaml_scanner.specs.Follows.{BeginsWith, IsReached, FollowsIn, Follows}
+use Rattle.yaml_scanner.specs.Follows.{BeginsWith, AreBehind, IsReached, AreSettled, IsShort, FollowsIn, Follows}
 use Rattle.yaml_scanner.specs.Rowless.{HasNoRow}
 use Rattle.yaml_scanner.specs.Waits.{comes_before}
-use Rattle.yaml_scanner.specs.Scanned.{Scanned, inside, kept_fault, IsRefusal, Scans, LeavesNoRow}
+use Rattle.yaml_scanner.specs.Scanned.{Scanned, inside, kept_fault, is_early, IsRefusal, Scans, LeavesNoRow}
 use Rattle.yaml_scanner_state.proofs.GivenLemmas.{lowered_seen}
 use Rattle.yaml_scanner.proofs.WhereLemmas.{in_text, at_end, not_started, has_started}
 use Rattle.yaml_scanner_state.proofs.QueueLemmas.{has_end_append}
@@ -49,10 +49,11 @@ starts x e n k h o b = λ a p. record {
   run = λ _ _. subst (λ t. Reaches (start a) t) (sym (ap (λ m. state (drop m a) x) n ∙ ap (λ h. record { rest = a; held = h }) e)) here;
   all = λ _ f. let g : x.tokens.ended ≡ false = ap (λ h. h.ended) e in absurd cc;
   done = λ _ f. let g : x.tokens.ended ≡ false = ap (λ h. h.ended) e in absurd cc;
-  reached = record { last = start a; run = here; begins = record { more = []; whole = rw h refl } };
+  reached = record { last = start a; run = here; begins = record { more = []; whole = rw h refl }; behind = λ _. tt };
   begins = λ ts _. record { more = ts; whole = rw h refl };
   whole = λ f. absurd cc;
   refused = rw k tt;
+  settled = rw k tt;
   open_end = λ _. rw h refl;
   backlog = rw b tt;
 }
@@ -70,27 +71,12 @@ fetched_on x y k g f d m n = λ a p.
       begins = λ ts h. rw m.given (old.begins ts h);
       whole = λ o. rw m.given (old.whole (sym m.over ∙ o));
       refused = rw (m.fault, k) tt;
+      settled = rw (m.fault, k) tt;
       open_end = λ o. rw m.given (old.open_end (sym m.over ∙ o));
       backlog = rw m.backlog old.backlog;
     }
 
--- a refusal, which is then kept
-pub stopped : {T : Type 0} (x y : Fetcher T) (e : Fault) (k : KeptFault) → k.fault ≡ e → x.kept ≡ None → x.tokens.ended ≡ false → Follows x → Fails fetch x y e → Fetches x y → Follows (record y { kept = Some k })
-stopped x y e k i n g f d m = λ a p.
-    let old = f a (d.runs.back a p) in
-    record {
-      run = λ c _. absurd cc;
-      all = λ c _. absurd cc;
-      done = λ c _. absurd cc;
-      reached = rw m.given old.reached;
-      begins = λ ts h. rw m.given (old.begins ts h);
-      whole = λ o. rw m.given (old.whole (sym m.over ∙ o));
-      refused = λ q. rw i (record { last = state (drop x.window.at a) x; run = old.run n g; going = g; refused = d.runs.reads a p (λ z. q (i ∙ z)) });
-      open_end = λ o. rw m.given (old.open_end (sym m.over ∙ o));
-      backlog = rw m.backlog old.backlog;
-    }
-
--- ---- tokens that wait
+-- ---- what is settled
 
 -- a key that may come before the next token, by the number of that token
 is_numbered : (given : ℕ) (ks : List (Option ImplicitKey)) → list_any is_front ks ≡ true → list_any (comes_before given) (seen given ks) ≡ true
@@ -107,6 +93,64 @@ is_numbered given (Some k ∷ ks) e = by (k.position == 0) refl e (is_numbered g
     by true z h rest = rw (eqb-true k.position 0 z, same_number given) refl
     by false z h rest = rw (rest h) (or_true_last (given + k.position == given))
 
+length_at_most : (n : ℕ) (xs : List Token) → length (take n xs) ≤ n
+length_at_most n xs = rw (length-take n xs) (omega arith)
+
+keys_behind : (n m : ℕ) (ks : List (Option ImplicitKey)) → n ≤ m → AreBehind n (seen m ks)
+keys_behind n m [] l = tt
+keys_behind n m (None ∷ ks) l = (tt, keys_behind n m ks l)
+keys_behind n m (Some k ∷ ks) l = (omega arith, keys_behind n m ks l)
+
+none_waits : (n : ℕ) (xs : List Token) → drop n xs ≡ [] → take n xs ≡ xs
+none_waits n xs e = sym (append_nil (take n xs)) ∙ ap (λ ys. take n xs ++ ys) (sym e) ∙ take-append-drop n xs
+  where
+    append_nil : (xs : List Token) → xs ++ [] ≡ xs
+    append_nil [] = refl
+    append_nil (x ∷ xs) = ap (λ ys. x ∷ ys) (append_nil xs)
+
+-- all tokens were handed out; or a key may come before the next one
+all_handed : (n : ℕ) (xs : List Token) (ks : List (Option ImplicitKey)) → (0 < length xs - n → list_any is_front ks ≡ true) → list_any (comes_before (length (take n xs))) (seen n ks) ≡ false → xs ≡ take n xs
+all_handed n xs ks short none = by (length xs - n) refl
+  where
+    nothing_left : (ys : List Token) → length ys ≡ 0 → ys ≡ []
+    nothing_left [] e = refl
+    nothing_left (y ∷ ys) e = absurd cc
+
+    by : (k : ℕ) → length xs - n ≡ k → xs ≡ take n xs
+    by zero e = sym (none_waits n xs (nothing_left (drop n xs) (length-drop n xs ∙ e)))
+    by (suc k) e =
+        let count : length (take n xs) ≡ n = length-take n xs ∙ (let z = e in omega (arith, z)) in
+        absurd (both_ways (list_any (comes_before (length (take n xs))) (seen n ks)) none (rw count (is_numbered n ks (short (omega (arith, e))))))
+
+-- what is settled where a fetch refuses a text, and no token waits that could be handed out
+settled_at : {T : Type 0} (x : Fetcher T) (a : List ℕ) (e : Fault) → Reaches (start a) (state (drop x.window.at a) x) → x.tokens.ended ≡ false → fetch (state (drop x.window.at a) x) ≡ Err e → IsShort x → AreSettled a (handed x.tokens)
+settled_at x a e run going refused short = record {
+  fault = e;
+  refused = record { last = state (drop x.window.at a) x; run = run; going = going; refused = refused };
+  begins = record { more = drop x.tokens.given x.tokens.all; whole = sym (take-append-drop x.tokens.given x.tokens.all) };
+  behind = keys_behind (length (handed x.tokens)) x.tokens.given x.keys (length_at_most x.tokens.given x.tokens.all);
+  all = all_handed x.tokens.given x.tokens.all x.keys short;
+}
+
+-- a refusal, which is then kept
+pub stopped : {T : Type 0} (x y : Fetcher T) (e : Fault) (k : KeptFault) → k.fault ≡ e → x.kept ≡ None → x.tokens.ended ≡ false → (k.early ≡ false → IsShort x) → Follows x → Fails fetch x y e → Fetches x y → Follows (record y { kept = Some k })
+stopped x y e k i n g short f d m = λ a p.
+    let old = f a (d.runs.back a p) in
+    record {
+      run = λ c _. absurd cc;
+      all = λ c _. absurd cc;
+      done = λ c _. absurd cc;
+      reached = rw m.given old.reached;
+      begins = λ ts h. rw m.given (old.begins ts h);
+      whole = λ o. rw m.given (old.whole (sym m.over ∙ o));
+      refused = λ q. rw i (record { last = state (drop x.window.at a) x; run = old.run n g; going = g; refused = d.runs.reads a p (λ z. q (i ∙ z)) });
+      settled = λ late q. rw m.given (settled_at x a e (old.run n g) g (d.runs.reads a p (λ z. q (i ∙ z))) (short late));
+      open_end = λ o. rw m.given (old.open_end (sym m.over ∙ o));
+      backlog = rw m.backlog old.backlog;
+    }
+
+-- ---- tokens that wait
+
 -- more tokens wait than there is room for, and the fault is kept
 pub held_up : {T : Type 0} (x : Fetcher T) (b : Backlog) (k : KeptFault) (d : Fault) → x.kept ≡ None → x.tokens.ended ≡ false → Follows x → list_any is_front x.keys ≡ true → x.tokens.given + b.tokens ≡ length x.tokens.all → b.mark ≡ position_of x.window
     → k.fault ≡ OutOfMemory → Follows (record x { backlog = Some b; kept = Some k; fault = d })
@@ -120,6 +164,7 @@ held_up x b k d n g f front count at e = λ a p.
       begins = old.begins;
       whole = old.whole;
       refused = λ q. absurd (q e);
+      settled = λ late q. absurd (q e);
       open_end = old.open_end;
       backlog = record { last = state (drop x.window.at a) x; run = old.run n g; going = g; is_here = sym at; before = x.tokens.given; may = is_numbered x.tokens.given x.keys front; tokens = count };
     }
@@ -128,7 +173,7 @@ held_up x b k d n g f front count at e = λ a p.
 pub with_room : {T : Type 0} (x : Fetcher T) (n : ℕ) → Follows x → Follows (record x { room = n })
 with_room x n f = λ a p.
     let old = f a p in
-    record { run = old.run; all = old.all; done = old.done; reached = old.reached; begins = old.begins; whole = old.whole; refused = old.refused; open_end = old.open_end; backlog = old.backlog }
+    record { run = old.run; all = old.all; done = old.done; reached = old.reached; begins = old.begins; whole = old.whole; refused = old.refused; settled = old.settled; open_end = old.open_end; backlog = old.backlog }
 
 -- ---- a token is handed out
 
@@ -163,9 +208,6 @@ split_at n xs given t e = sym (take-append-drop n xs) ∙ ap (λ ys. ys ++ drop 
     append_one [] t ys = refl
     append_one (x ∷ xs) t ys = ap (λ zs. x ∷ zs) (append_one xs t ys)
 
-length_at_most : (n : ℕ) (xs : List Token) → length (take n xs) ≤ n
-length_at_most n xs = rw (length-take n xs) (omega arith)
-
 keys_lower : (n m : ℕ) (ks : List (Option ImplicitKey)) → n ≤ m → KeysFrom n (seen m ks)
 keys_lower n m [] l = tt
 keys_lower n m (None ∷ ks) l = (tt, keys_lower n m ks l)
@@ -174,13 +216,6 @@ keys_lower n m (Some k ∷ ks) l = (omega arith, keys_lower n m ks l)
 or_true : (b c : Bool) → b ≡ false → (b || c) ≡ true → c ≡ true
 or_true true c e h = absurd cc
 or_true false c e h = h
-
-none_waits : (n : ℕ) (xs : List Token) → drop n xs ≡ [] → take n xs ≡ xs
-none_waits n xs e = sym (append_nil (take n xs)) ∙ ap (λ ys. take n xs ++ ys) (sym e) ∙ take-append-drop n xs
-  where
-    append_nil : (xs : List Token) → xs ++ [] ≡ xs
-    append_nil [] = refl
-    append_nil (x ∷ xs) = ap (λ ys. x ∷ ys) (append_nil xs)
 
 -- the end is still to be handed out
 open_after : (xs : List Token) (t : Token) (o : Bool) → o ≡ false → has_end xs ≡ false → (o || is_end t.tok) ≡ false → has_end (xs ++ t ∷ []) ≡ false
@@ -235,9 +270,19 @@ module _ {T : Type 0} (x : Fetcher T) (a : List ℕ) (t : Token) (old : FollowsI
   reached_after : (b : Bool) → x.tokens.ended ≡ b → (x.tokens.ended ≡ false → list_any is_front x.keys ≡ false) → IsReached a (take count x.tokens.all)
   reached_after true e front =
       let z = (old.all kept e).whole in
-      record { last = z.end; run = z.run; begins = record { more = drop count x.tokens.all; whole = z.tokens ∙ sym (take-append-drop count x.tokens.all) } }
+      record {
+        last = z.end;
+        run = z.run;
+        begins = record { more = drop count x.tokens.all; whole = z.tokens ∙ sym (take-append-drop count x.tokens.all) };
+        behind = λ g. absurd (cc (g, z.ended));
+      }
   reached_after false e front =
-      record { last = state (drop x.window.at a) after; run = run_after e (front e); begins = record { more = drop count x.tokens.all; whole = sym (take-append-drop count x.tokens.all) } }
+      record {
+        last = state (drop x.window.at a) after;
+        run = run_after e (front e);
+        begins = record { more = drop count x.tokens.all; whole = sym (take-append-drop count x.tokens.all) };
+        behind = λ _. keys_behind (length (take count x.tokens.all)) count (map lowered x.keys) (length_at_most count x.tokens.all);
+      }
 
   follows_after : (x.tokens.ended ≡ false → list_any is_front x.keys ≡ false) → take count x.tokens.all ≡ handed x.tokens ++ t ∷ [] → FollowsIn a after
   follows_after front g = record {
@@ -248,6 +293,7 @@ module _ {T : Type 0} (x : Fetcher T) (a : List ℕ) (t : Token) (old : FollowsI
     begins = begins_after x.tokens.ended refl front;
     whole = λ o. whole_after x.tokens.ended refl g (or_true x.tokens.over (is_end t.tok) over o);
     refused = rw kept tt;
+    settled = rw kept tt;
     open_end = λ o. rw g (open_after (handed x.tokens) t x.tokens.over over (old.open_end over) o);
     backlog = old.backlog;
   }
@@ -325,6 +371,14 @@ one_refusal (Some k) a r e i = by k.fault k.mark r
     by OutOfMemory m r n = absurd cc
     by (At q p) m r n = (m, ap (λ d. fault_of d m) (one_fault a (At q p) e (r (λ e. absurd cc)) i))
 
+all_settled : (f : Option KeptFault) (a : List ℕ) (given : List Token) → IfSome f (λ k. k.early ≡ false → k.fault ≢ OutOfMemory → AreSettled a given) → is_early f ≡ false → IfSome (option_map kept_fault f) (λ x. x.memory ≡ false → AreSettled a given)
+all_settled None a given s late = tt
+all_settled (Some k) a given s late = by k.fault k.mark (s late)
+  where
+    by : (e : Fault) (m : Position) → (e ≢ OutOfMemory → AreSettled a given) → (fault_of e m).memory ≡ false → AreSettled a given
+    by OutOfMemory m r n = absurd cc
+    by (At q p) m r n = r (λ e. absurd cc)
+
 none_kept : (f : Option KeptFault) → option_map kept_fault f ≡ None → f ≡ None
 none_kept None e = refl
 none_kept (Some k) e = absurd cc
@@ -348,6 +402,7 @@ scans_from x f = record {
         wants = memory_says x.kept;
         refused = is_refusal x.kept a s.refused;
         same = one_refusal x.kept a s.refused;
+        settled = all_settled x.kept a (handed x.tokens) s.settled;
         waits = s.backlog;
       };
 }

@@ -47,6 +47,7 @@ fetched_twice x y k g f d m n = λ a p.
       begins = λ ts h. rw m.given (old.begins ts h);
       whole = λ o. rw m.given (old.whole (sym m.over ∙ o));
       refused = rw (m.fault, k) tt;
+      settled = rw (m.fault, k) tt;
       open_end = λ o. rw m.given (old.open_end (sym m.over ∙ o));
       backlog = rw m.backlog old.backlog;
     }

@@ -15,7 +15,7 @@ use Rattle.proof_cut.specs.Positions.{IsPositionIn}
 use Rattle.yaml_scanner.specs.declared.fetcher.Backlog.{Backlog}
 use Rattle.yaml_scanner.specs.declared.fetcher.Fetcher.{Fetcher}
 use Rattle.yaml_scanner.specs.declared.fetcher.KeptFault.{KeptFault}
-use Rattle.yaml_scanner.specs.Follows.{BeginsWith, IsReached}
+use Rattle.yaml_scanner.specs.Follows.{BeginsWith, IsReached, AreSettled}
 use Rattle.yaml_scanner.specs.Rowless.{HasNoRow}
 use Rattle.yaml_scanner.specs.Waits.{Waits}
 use Rattle.yaml_scanner_state.specs.Tokens.{handed, waiting, is_end}
@@ -25,8 +25,9 @@ pub record Scanned : Type 0 where
   -- the tokens handed out, and how many were fetched and wait
   pub given : List Token
   pub waiting : ℕ
-  -- the fault that is kept
+  -- the fault that is kept, and whether tokens may wait beside it that could have been handed out before
   pub fault : Option ErrorReport
+  pub early : Bool
   -- whether the stream's start was fetched, and its end
   pub started : Bool
   pub stopped : Bool
@@ -44,11 +45,16 @@ pub record Scanned : Type 0 where
 abbrev pub kept_fault : KeptFault → ErrorReport
 kept_fault k = fault_of k.fault k.mark
 
+abbrev pub is_early : Option KeptFault → Bool
+is_early None = false
+is_early (Some k) = k.early
+
 abbrev pub inside : {T : Type 0} → Fetcher T → Scanned
 inside s = record {
   given = handed s.tokens;
   waiting = waiting s.tokens;
   fault = option_map kept_fault s.kept;
+  early = is_early s.kept;
   started = s.started;
   stopped = s.tokens.ended;
   ended = s.tokens.over;
@@ -110,6 +116,8 @@ pub record ScansIn (a : List ℕ) (s : Scanned) : Type 0 where
   -- a fault other than out of memory is the text's refusal, of which there is one
   pub refused : IfSome s.fault (λ f. f.memory ≡ false → IsRefusal a f)
   pub same : (e : code.Fault) → IsRefused a e → IfSome s.fault (λ f. f.memory ≡ false → (p : Position) × (f ≡ fault_of e p))
+  -- unless it came early, all tokens that are settled before it were handed out, and none else
+  pub settled : s.early ≡ false → IfSome s.fault (λ f. f.memory ≡ false → AreSettled a s.given)
   -- tokens that waited without room wait in the text
   pub waits : IfSome s.backlog (λ b. Waits a b.mark b.tokens)
 

@@ -14,6 +14,8 @@ pub struct KeptFault {
     pub fault: Fault,
     /// Where the scanner stood.
     pub mark: Marker,
+    /// Whether tokens may wait before which no key can come any more.
+    pub early: bool,
 }
 
 /// Where more tokens waited than there was room for.

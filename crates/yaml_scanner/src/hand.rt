@@ -1,9 +1,9 @@
 //! Fetching as far as the next token needs, and handing it out.
-ghost use Rattle.std.specs.Prelude.{◌≡◌, ◌≤◌, ◌<◌, ◌+◌, ◌||◌, OnOk, IfErr, Ok, Some, None, true, false, ◌++◌, ◌∷◌, []};
+ghost use Rattle.std.specs.Prelude.{◌≡◌, ◌≤◌, ◌<◌, ◌+◌, ◌||◌, OnOk, IfErr, Ok, Some, None, Bool, true, false, ◌++◌, ◌∷◌, []};
 ghost use Rattle.std.specs.List.{list_any};
 ghost use Rattle.defs_text.specs.Position.{Position};
 ghost use Rattle.yaml_tokens.specs.Shown.{shown};
-ghost use Rattle.yaml_scanner.specs.Follows.{Follows};
+ghost use Rattle.yaml_scanner.specs.Follows.{Follows, IsShort};
 ghost use Rattle.yaml_scanner_state.specs.ImplicitKeys.{is_front};
 ghost use Rattle.yaml_scanner.specs.Scanned.{inside, kept_fault, HandsOut};
 ghost use Rattle.yaml_scanner_state.specs.Tokens.{waiting, handed, is_end};
@@ -24,12 +24,12 @@ impl KeptFault {
 }
 
 impl<T: Characters> Fetcher<T> {
-    /// Keeps the fault that was met.
+    /// Keeps the fault that was met, and whether tokens may wait that could be handed out.
     #[tactic(auto, using(crate::proofs::PairFollows::memory_kept))]
-    pub(crate) fn keep(&mut self) -> ScanError
-        requires follows { (mark : Position) → Follows (record self.old { kept = Some (record { fault = self.old.fault; mark = mark }) }) }
+    pub(crate) fn keep(&mut self, early: bool) -> ScanError
+        requires follows { (mark : Position) → Follows (record self.old { kept = Some (record { fault = self.old.fault; mark = mark; early = early }) }) }
         ensures kept { (inside self.new).fault ≡ Some result }
-        ensures same { inside self.new ≡ record (inside self.old) { fault = Some result } }
+        ensures same { inside self.new ≡ record (inside self.old) { fault = Some result; early = early } }
         ensures memory { self.old.fault ≡ Fault.OutOfMemory → result.memory ≡ true }
         ensures follows { Follows self.new }
         ensures window { self.new.window ≡ self.old.window }
@@ -38,6 +38,7 @@ impl<T: Characters> Fetcher<T> {
         let kept = KeptFault {
             fault: self.fault,
             mark,
+            early,
         };
         let error = kept.error();
         self.kept = Some(kept);
@@ -53,7 +54,7 @@ impl<T: Characters> Fetcher<T> {
         ensures start { self.new.window.start ≡ self.old.window.start }
         ensures less { OnOk result (work self.new < work self.old) }
         ensures ok { OnOk result (Follows self.new) }
-        ensures err { IfErr result (λ _. (mark : Position) → Follows (record self.new { kept = Some (record { fault = self.new.fault; mark = mark }) })) }
+        ensures err { IfErr result (λ _. (mark : Position) (early : Bool) → (early ≡ false → IsShort self.old) → Follows (record self.new { kept = Some (record { fault = self.new.fault; mark = mark; early = early }) })) }
     {
         self.fetch()?;
         Ok(())
@@ -72,7 +73,7 @@ impl<T: Characters> Fetcher<T> {
         ensures front { OnOk result (self.new.tokens.ended ≡ false → list_any is_front self.new.keys ≡ false) }
         ensures after { self.old.tokens.ended ≡ true → (result ≡ Ok tt) × (self.new ≡ self.old) }
         ensures ok { OnOk result (Follows self.new) }
-        ensures err { IfErr result (λ _. (mark : Position) → Follows (record self.new { kept = Some (record { fault = self.new.fault; mark = mark }) })) }
+        ensures err { IfErr result (λ _. (mark : Position) → Follows (record self.new { kept = Some (record { fault = self.new.fault; mark = mark; early = false }) })) }
     {
         if self.is_ready() {
             return Ok(());
@@ -92,7 +93,7 @@ impl<T: Characters> Fetcher<T> {
         ensures front { OnOk result (self.new.tokens.ended ≡ false → list_any is_front self.new.keys ≡ false) }
         ensures after { self.old.tokens.ended ≡ true → (result ≡ Ok tt) × (self.new ≡ self.old) }
         ensures ok { OnOk result (Follows self.new) }
-        ensures err { IfErr result (λ _. (mark : Position) → Follows (record self.new { kept = Some (record { fault = self.new.fault; mark = mark }) })) }
+        ensures err { IfErr result (λ _. (mark : Position) → Follows (record self.new { kept = Some (record { fault = self.new.fault; mark = mark; early = false }) })) }
     {
         'tokens: while !self.is_ready() {
             if self.tokens.len() > self.room {
@@ -114,7 +115,7 @@ impl<T: Characters> Fetcher<T> {
         requires follows { Follows self.old }
         ensures run { Fills self.old self.new }
         ensures start { self.new.window.start ≡ self.old.window.start }
-        ensures err { (mark : Position) → Follows (record self.new { kept = Some (record { fault = self.new.fault; mark = mark }) }) }
+        ensures err { (mark : Position) → Follows (record self.new { kept = Some (record { fault = self.new.fault; mark = mark; early = false }) }) }
     {
         self.backlog = Some(Backlog {
             mark: self.window.mark(),
@@ -127,7 +128,7 @@ impl<T: Characters> Fetcher<T> {
     /// Whether the next token can be handed out, or the stream's end was fetched.
     fn is_ready(&self) -> bool
         ensures ended { result ≡ false → self.now.tokens.ended ≡ false }
-        ensures waits { result ≡ false → 0 < waiting self.now.tokens → list_any is_front self.now.keys ≡ true }
+        ensures waits { result ≡ false → IsShort self.now }
         ensures some { result ≡ true → self.now.tokens.ended ≡ false → 0 < waiting self.now.tokens }
         ensures front { result ≡ true → self.now.tokens.ended ≡ false → list_any is_front self.now.keys ≡ false }
     {
@@ -136,7 +137,7 @@ impl<T: Characters> Fetcher<T> {
 
     /// Whether the next token may still get a key before it.
     fn needs_more(&self) -> bool
-        ensures waits { result ≡ true → 0 < waiting self.now.tokens → list_any is_front self.now.keys ≡ true }
+        ensures waits { result ≡ true → IsShort self.now }
         ensures some { result ≡ false → 0 < waiting self.now.tokens }
         ensures front { result ≡ false → list_any is_front self.now.keys ≡ false }
     {

@@ -1,5 +1,5 @@
 //! The scanner's public calls.
-ghost use Rattle.std.specs.Prelude.{◌≡◌, ◌≤◌, ◌<◌, ◌^◌, [], OnOk, IfOk, IfErr, IfSome, IfNone, IsNone, IsOk, Ok, Err, Some, None, true, false};
+ghost use Rattle.std.specs.Prelude.{◌≡◌, ◌≤◌, ◌<◌, ◌^◌, [], OnOk, OnErr, IfOk, IfErr, IfSome, IfNone, IsNone, IsOk, Ok, Err, Some, None, true, false};
 ghost use Rattle.std.specs.Iterator.{at_most, IsFinite, size};
 ghost use Rattle.yaml_chars.specs.Source.{CameFrom};
 ghost use Rattle.yaml_chars.specs.Reading.{HasNoNul};
@@ -8,7 +8,6 @@ ghost use Rattle.yaml_scanner.specs.Scanned.{scanned, HandsOut, HandsBoth, Hands
 ghost use Rattle.yaml_scanner.specs.Next.{GivesNext};
 ghost use Rattle.defs_text.specs.Text.{string_chars};
 ghost use Rattle.defs_token.specs.Token.{Style, Tok};
-ghost use Rattle.model_scanner.specs.State.{token};
 
 use crate::fetcher::{Backlog, Fetcher};
 use crate::pairs::PlainNode;
@@ -97,7 +96,7 @@ impl<T: Characters> Scanner<T> {
     ///
     /// # Errors
     ///
-    /// The text's fault, or memory was refused. Either fault is kept.
+    /// The text's fault, or memory was refused. Either fault is kept, and tokens that wait are not handed out any more.
     pub fn fetch_next_token(&mut self) -> ScanResult
         ensures given { (scanned self.new).given ≡ (scanned self.old).given }
         ensures ended { (scanned self.new).ended ≡ (scanned self.old).ended }
@@ -117,7 +116,7 @@ impl<T: Characters> Scanner<T> {
         }
         match self.fetcher.fetch_one() {
             Ok(()) => Ok(()),
-            Err(_) => Err(self.fetcher.keep()),
+            Err(_) => Err(self.fetcher.keep(true)),
         }
     }
 
@@ -143,6 +142,7 @@ impl<T: Characters> Scanner<T> {
         ensures ready { OnOk result ((scanned self.new).stopped ≡ false → 0 < (scanned self.new).waiting) }
         ensures ok { OnOk result (((scanned self.old).fault ≡ None) × ((scanned self.new).fault ≡ None)) }
         ensures err { IfErr result (λ e. (scanned self.new).fault ≡ Some e) }
+        ensures settled { OnErr result ((scanned self.old).fault ≡ None → (scanned self.new).early ≡ false) }
         ensures after { (scanned self.old).fault ≡ None → (scanned self.old).stopped ≡ true → (result ≡ Ok tt) × (self.new ≡ self.old) }
         ensures again { IfSome (scanned self.old).fault (λ f. (result ≡ Err f) × (self.new ≡ self.old)) }
         ensures scans { Scans (scanned self.new) }
@@ -153,7 +153,7 @@ impl<T: Characters> Scanner<T> {
         }
         match self.fetcher.fill() {
             Ok(()) => Ok(()),
-            Err(_) => Err(self.fetcher.keep()),
+            Err(_) => Err(self.fetcher.keep(false)),
         }
     }
 
@@ -165,6 +165,9 @@ impl<T: Characters> Scanner<T> {
     /// that were ready are not handed out any more. Once the stream's end was fetched, no fault comes, and no memory
     /// is taken.
     ///
+    /// A fault that this call meets comes after all tokens that are settled before it (clause `settled`): those before which no key
+    /// may come any more. Where [`fetch_next_token`](Scanner::fetch_next_token) met the fault, some of them may have been left.
+    ///
     /// A text with a fault has no row of tokens, by the definitions alone (clause `rowless`). For most kinds of fault they also say
     /// where and why: a row may begin with all pieces up to a place, and there no piece begins, or the one that begins may not
     /// stand, as the fault says.
@@ -173,6 +176,7 @@ impl<T: Characters> Scanner<T> {
         ensures none { IfOk result (λ o. IsNone o → HandsNothing (scanned self.old) (scanned self.new)) }
         ensures err { IfErr result (λ e. Refuses (scanned self.old) e (scanned self.new)) }
         ensures rowless { IfErr result (λ e. LeavesNoRow (scanned self.new) e) }
+        ensures settled { OnErr result ((scanned self.old).fault ≡ None → (scanned self.new).early ≡ false) }
         ensures over { (scanned self.old).fault ≡ None → (scanned self.old).ended ≡ true → (result ≡ Ok None) × (self.new ≡ self.old) }
         ensures ready { (scanned self.old).fault ≡ None → (scanned self.old).stopped ≡ true → IsOk result }
         ensures again { IfSome (scanned self.old).fault (λ f. (result ≡ Err f) × (self.new ≡ self.old)) }
@@ -192,7 +196,7 @@ impl<T: Characters> Scanner<T> {
         self.fetcher.window.note();
         match filled {
             Ok(()) => Ok(Some(self.fetcher.hand())),
-            Err(_) => Err(self.fetcher.keep()),
+            Err(_) => Err(self.fetcher.keep(false)),
         }
     }
 
@@ -205,7 +209,7 @@ impl<T: Characters> Scanner<T> {
     /// Memory was refused. The fault is kept: each later call is `None`, and [`next_token`](Scanner::next_token) gives the fault
     /// again. Where a fault is kept, and once the stream's end was fetched, no fault comes, and no memory is taken.
     pub fn next_key(&mut self) -> Result<Option<PlainNode>, ScanError>
-        ensures key { IfOk result (λ o. IfSome o (λ n. HandsBoth (scanned self.old) (token n.indicator Tok.key) (token n.mark (Tok.scalar Style.plain (string_chars n.text))) (scanned self.new))) }
+        ensures key { IfOk result (λ o. IfSome o (λ n. HandsBoth (scanned self.old) (record { position = n.indicator; tok = Tok.key }) (record { position = n.mark; tok = Tok.scalar Style.plain (string_chars n.text) }) (scanned self.new))) }
         ensures none { IfOk result (λ o. IfNone o (self.new ≡ self.old)) }
         ensures err { IfErr result (λ e. Refuses (scanned self.old) e (scanned self.new)) }
         ensures memory { IfErr result (λ e. e.memory ≡ true) }
@@ -217,7 +221,7 @@ impl<T: Characters> Scanner<T> {
     {
         match self.fetcher.next_key() {
             Ok(node) => Ok(node),
-            Err(_) => Err(self.fetcher.keep()),
+            Err(_) => Err(self.fetcher.keep(true)),
         }
     }
 
@@ -231,7 +235,7 @@ impl<T: Characters> Scanner<T> {
     /// Memory was refused. The fault is kept: each later call is `None`, and [`next_token`](Scanner::next_token) gives the fault
     /// again. Where a fault is kept, and once the stream's end was fetched, no fault comes, and no memory is taken.
     pub fn next_value(&mut self) -> Result<Option<PlainNode>, ScanError>
-        ensures value { IfOk result (λ o. IfSome o (λ n. HandsBoth (scanned self.old) (token n.indicator Tok.value) (token n.mark (Tok.scalar Style.plain (string_chars n.text))) (scanned self.new))) }
+        ensures value { IfOk result (λ o. IfSome o (λ n. HandsBoth (scanned self.old) (record { position = n.indicator; tok = Tok.value }) (record { position = n.mark; tok = Tok.scalar Style.plain (string_chars n.text) }) (scanned self.new))) }
         ensures none { IfOk result (λ o. IfNone o (self.new ≡ self.old)) }
         ensures err { IfErr result (λ e. Refuses (scanned self.old) e (scanned self.new)) }
         ensures memory { IfErr result (λ e. e.memory ≡ true) }
@@ -243,7 +247,7 @@ impl<T: Characters> Scanner<T> {
     {
         match self.fetcher.next_value() {
             Ok(node) => Ok(node),
-            Err(_) => Err(self.fetcher.keep()),
+            Err(_) => Err(self.fetcher.keep(true)),
         }
     }
 }

@@ -1,3 +1,4 @@
+use Rattle.std.proofs.Common.{true}
 use Rattle.yaml_scanner.proofs.FollowLemmas.{scans_from}
 use Rattle.yaml_scanner.proofs.scanner.Scanner.fetch_next_token.Goals as goal
 
@@ -13,3 +14,6 @@ returns-then-has_ended-clause-scans g c = rw (← c.self.view_is) (scans_from c.
 
 pub returns-in-Ok-clause-scans : goal.returns-in-Ok-clause-scans
 returns-in-Ok-clause-scans g c = scans_from c.fetch_one.new.self c.in-Ok.ensures.ok
+
+pub keep-requires : goal.keep-requires
+keep-requires g c = record { follows = λ mark. c.in-Err.ensures.err mark true (λ late. absurd cc) }

@@ -1,0 +1,94 @@
+-- Tokens that are settled stay, and where a text is refused they are all its first tokens.
+use Rattle.std.proofs.Common.{◌≡◌, ℕ, ◌+◌, ◌==◌, List, [], ◌∷◌, ◌++◌, Bool, true, false, ◌||◌, Option, Some, None, length, refl, sym, ap, ◌∙◌, subst, append-nil, length-append, arith, ◌⊎◌, inl, inr, Err}
+use Rattle.std.specs.List.{list_any}
+use Rattle.std.proofs.lemmas.Bool.{eqb-true}
+use Rattle.defs_token.specs.Token.{Token}
+use Rattle.yaml_tokens.specs.declared.problem.Fault.{Fault}
+use Rattle.model_scanner.specs.State.{Key, ScannerState}
+use Rattle.model_scanner.specs.Fetch.{fetch}
+use Rattle.model_scanner.specs.Run.{Reaches, here, there}
+use Rattle.model_scanner.proofs.Given.{KeysFrom, reached}
+use Rattle.model_scanner.proofs.Runs.{one_run}
+use Rattle.yaml_scanner.specs.Follows.{BeginsWith, AreBehind, IsReached, AreSettled}
+use Rattle.yaml_scanner.specs.Waits.{comes_before}
+use Rattle.proof_loads.specs.Laws.{SettledTokensStay}
+
+keys_from : (n : ℕ) (ks : List (Option Key)) → AreBehind n ks → KeysFrom n ks
+keys_from n [] b = tt
+keys_from n (None ∷ ks) b = (tt, keys_from n ks b.1)
+keys_from n (Some k ∷ ks) b = (b.0, keys_from n ks b.1)
+
+-- These tokens come first at a state, and no key may come before one of them.
+record Stays (given : List Token) (t : ScannerState) : Type 0 where
+  begins : BeginsWith given t.held.tokens
+  keys : t.held.ended ≡ false → KeysFrom (length given) t.held.keys
+
+stays : (given : List Token) (t u : ScannerState) → Reaches t u → BeginsWith given t.held.tokens → (t.held.ended ≡ false → AreBehind (length given) t.held.keys) → Stays given u
+stays given t u here b k = record { begins = b; keys = λ going. keys_from (length given) t.held.keys (k going) }
+stays given t u (there going e run) b k =
+    let s = reached given t u (there going e run) (record { stood = record { more = b.more; tokens = b.whole; keys = keys_from (length given) t.held.keys (k going) } }) in
+    record { begins = record { more = s.stood.more; whole = s.stood.tokens }; keys = λ _. s.stood.keys }
+
+pub settled_stay : SettledTokensStay
+settled_stay text given r later run = (stays given r.last later run r.begins r.behind).begins
+
+-- ---- of two lists that begin a third, one begins the other
+
+pub one_begins : (xs ys zs : List Token) → BeginsWith xs zs → BeginsWith ys zs → BeginsWith xs ys ⊎ BeginsWith ys xs
+one_begins [] ys zs b c = inl (record { more = ys; whole = refl })
+one_begins (x ∷ xs) [] zs b c = inr (record { more = x ∷ xs; whole = refl })
+one_begins (x ∷ xs) (y ∷ ys) zs b c =
+    let h = heads (sym b.whole ∙ c.whole) in
+    elim (one_begins xs ys (xs ++ b.more) (record { more = b.more; whole = refl }) (record { more = c.more; whole = h.1 })) [
+      | inl d ↦ inl (record { more = d.more; whole = ap (λ ts. y ∷ ts) d.whole ∙ ap (λ t. t ∷ xs ++ d.more) (sym h.0) })
+      | inr d ↦ inr (record { more = d.more; whole = ap (λ ts. x ∷ ts) d.whole ∙ ap (λ t. t ∷ ys ++ d.more) h.0 })
+    ]
+  where
+    heads : {t u : Token} {ts us : List Token} → t ∷ ts ≡ u ∷ us → (t ≡ u) × (ts ≡ us)
+    heads e = (cc, cc)
+
+-- Settled tokens of one text, at any two points: one list begins the other.
+pub settled_agree : (text : List ℕ) (xs ys : List Token) → IsReached text xs → IsReached text ys → BeginsWith xs ys ⊎ BeginsWith ys xs
+settled_agree text xs ys r s = elim (one_run r.run s.run) [
+  | inl run ↦ one_begins xs ys s.last.held.tokens (stays xs r.last s.last run r.begins r.behind).begins s.begins
+  | inr run ↦ one_begins xs ys r.last.held.tokens r.begins (stays ys s.last r.last run s.begins s.behind).begins
+]
+
+-- ---- where a text is refused
+
+stops : {t u : ScannerState} {f : Fault} → Reaches t u → fetch t ≡ Err f → u ≡ t
+stops here e = refl
+stops (there d g p) e = absurd cc
+
+-- a key that stands behind more tokens comes before none of these
+none_comes : (n m : ℕ) (ks : List (Option Key)) → KeysFrom (n + 1 + m) ks → list_any (comes_before n) ks ≡ false
+none_comes n m [] k = refl
+none_comes n m (None ∷ ks) k = none_comes n m ks k.1
+none_comes n m (Some x ∷ ks) k = by (x.number == n) refl (none_comes n m ks k.1)
+  where
+    by : (b : Bool) → (x.number == n) ≡ b → list_any (comes_before n) ks ≡ false → (x.number == n || list_any (comes_before n) ks) ≡ false
+    by true e rest = let same = eqb-true x.number n e in let far = k.0 in absurd (omega (arith, same, far))
+    by false e rest = rw (e, rest) refl
+
+-- All settled tokens begin with those that are settled anywhere.
+pub settled_first : (text : List ℕ) (all given : List Token) → AreSettled text all → IsReached text given → BeginsWith given all
+settled_first text all given s r = elim (one_begins given all last.held.tokens there_too.begins s.begins) [ inl b ↦ b | inr b ↦ no_more b.more b.whole ]
+  where
+    last : ScannerState
+    last = s.refused.last
+
+    there_too : Stays given last
+    there_too = elim (one_run r.run s.refused.run) [
+      | inl run ↦ stays given r.last last run r.begins r.behind
+      | inr run ↦ subst (Stays given) (stops run s.refused.refused) (record { begins = r.begins; keys = λ going. keys_from (length given) r.last.held.keys (r.behind going) })
+    ]
+
+    no_more : (more : List Token) → given ≡ all ++ more → BeginsWith given all
+    no_more [] e = record { more = []; whole = sym (append-nil given ∙ e ∙ append-nil all) }
+    no_more (t ∷ more) e =
+        let count : length given ≡ length all + 1 + length more = ap length e ∙ length-append all (t ∷ more) ∙ omega arith in
+        let keys : KeysFrom (length all + 1 + length more) last.held.keys = subst (λ n. KeysFrom n last.held.keys) count (there_too.keys s.refused.going) in
+        let whole : last.held.tokens ≡ all = s.all (none_comes (length all) (length more) last.held.keys keys) in
+        let b = there_too.begins in
+        let too_long : length all ≡ length given + length b.more = ap length (sym whole ∙ b.whole) ∙ length-append given b.more in
+        absurd (omega (arith, count, too_long))
