@@ -20,8 +20,8 @@ use Rattle.model_scanner.specs.Document.{fetch_anchor, fetch_tag, fetch_flow_sca
 use Rattle.model_scanner.specs.Fetch.{is_value, token_by, fetch_token}
 use Rattle.model_scanner.proofs.Holds.{Holds, refused}
 use Rattle.proof_lexers.proofs.Bridges.{same_gap, same_flow}
-use Rattle.proof_lexers.specs.PlainEnds.{is_white}
-use Rattle.proof_lexers.specs.Separations.{begins_separation, begins_token}
+use Rattle.proof_lexers.specs.PlainEnds.{is_white, begins_token}
+use Rattle.proof_lexers.specs.Separations.{begins_separation}
 use Rattle.proof_cut.specs.PiecesRead.{comes_plain}
 use Rattle.proof_cut.specs.Stands.{FaresAt}
 use Rattle.proof_cut.proofs.Heres.{before_again}

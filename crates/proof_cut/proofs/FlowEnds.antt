@@ -9,8 +9,8 @@ use Rattle.defs_text.specs.Classes.{is_break, is_blank, is_nul}
 use Rattle.defs_text.specs.Breaks.{is_at_line_end}
 use Rattle.defs_token.specs.Separation.{is_separation, is_blanks}
 use Rattle.proof_lexers.proofs.Bridges.{same_blank}
-use Rattle.proof_lexers.specs.PlainEnds.{has_break}
-use Rattle.proof_lexers.specs.Separations.{ends_spaces, begins_token}
+use Rattle.proof_lexers.specs.PlainEnds.{has_break, begins_token}
+use Rattle.proof_lexers.specs.Separations.{ends_spaces}
 use Rattle.proof_lexers.proofs.Separation.Separations.{no_hash}
 use Rattle.defs_token.specs.Account.{Level, Account, Before, collection, other, before_past, before_by, is_adjacent, blocks_past, levels_past, is_pair_at, innermost_column}
 use Rattle.defs_token.specs.Piece.{IsPiece, ends_entry}

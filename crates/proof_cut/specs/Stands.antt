@@ -1,5 +1,6 @@
 -- What holds of the scanner's model between two fetches: its tokens are a cut of the text before its position, and what it holds is what the cut says.
 use Rattle.std.specs.Prelude.{◌≡◌, ℕ, suc, ◌+◌, ◌-◌, ◌≤◌, List, [], ◌∷◌, ◌++◌, Bool, true, false, ◌==◌, length, if◌then◌else◌, Option, Some}
+use Rattle.proof_lexers.specs.PlainEnds.{begins_token}
 use Rattle.defs_text.specs.Position.{Position}
 use Rattle.defs_text.specs.Text.{is_empty}
 use Rattle.defs_token.specs.Token.{Token}
@@ -10,7 +11,6 @@ use Rattle.model_scanner.specs.declared.level.Indent.{Indent}
 use Rattle.model_scanner.specs.declared.level.FlowLevel.{FlowLevel}
 use Rattle.model_scanner.specs.declared.level.FlowLevel.TheVariants.{Mapping, Entry, Keyed, Pair}
 use Rattle.model_scanner.specs.State.{Key, ScannerState}
-use Rattle.proof_lexers.specs.Separations.{begins_token}
 use Rattle.proof_cut.specs.Here.{Here, AreOpen}
 
 -- a flow level as the account has it

@@ -9,8 +9,8 @@ use Rattle.yaml_tokens.specs.declared.problem.Problem.TheVariants as problem
 use Rattle.defs_text.specs.Classes.{is_blank, is_break, is_decimal_digit, is_alpha, is_uri, is_at_gap}
 use Rattle.defs_text.specs.Breaks.{is_before_line_feed, is_rest_of_line, has_no_break}
 use Rattle.defs_scalar.specs.FlowScalar.{begins_with}
-use Rattle.defs_scalar.specs.Tags.{UriFault, leading, after, begins_with_mark, decoded}
-use Rattle.defs_scalar.specs.Directives.{Directive, version, tag_declaration, reserved, begins_prefix, handle_and_rest, directive_of}
+use Rattle.defs_scalar.specs.Tags.{UriFault, leading, after, begins_with_mark, is_handle, decoded}
+use Rattle.defs_scalar.specs.Directives.{Directive, version, tag_declaration, reserved, number_of, begins_prefix, handle_and_rest, directive_of}
 use Rattle.model_lexers.specs.Machine.{Read}
 use Rattle.proof_lexers.specs.NameEnds.{further}
 use Rattle.proof_lexers.specs.UriEnds.{problem_of}
@@ -56,14 +56,40 @@ pub data IsNoDeclaration (text : List ℕ) : Problem → Type 0 where
   by_octets : (f : UriFault) → decoded (leading is_uri (after is_blank (handle_and_rest text).1)) ≡ Err f → IsNoDeclaration text (problem_of f)
   goes_on : is_at_gap (after is_uri (after is_blank (handle_and_rest text).1)) ≡ false → IsNoDeclaration text problem.TagDirectiveEnd
 
+-- what stands in a line after a directive's name and blanks
+abbrev pub said : (line : List ℕ) → List ℕ
+said line = after is_blank (after is_alpha line)
+
+-- A line is a version of two numbers with all their digits, and goes on with this text.
+pub record IsVersionBefore (line rest : List ℕ) : Type 0 where
+  pub major : ℕ
+  pub minor : ℕ
+  pub point : List ℕ
+  pub is_version : leading is_alpha line ≡ codes "YAML"
+  pub has_point : after is_decimal_digit (said line) ≡ 46 ∷ point
+  pub is_major : number_of (leading is_decimal_digit (said line)) ≡ Some major
+  pub is_minor : number_of (leading is_decimal_digit point) ≡ Some minor
+  pub is_before : after is_decimal_digit point ≡ rest
+
+-- A line is a handle's declaration with all of its prefix, and goes on with this text.
+pub record IsDeclarationBefore (line rest : List ℕ) : Type 0 where
+  pub prefix : List ℕ
+  pub is_declaration : leading is_alpha line ≡ codes "TAG"
+  pub has_handle : is_handle (handle_and_rest (said line)).0 ≡ true
+  pub has_prefix : begins_prefix (after is_blank (handle_and_rest (said line)).1) ≡ true
+  pub is_prefix : decoded (leading is_uri (after is_blank (handle_and_rest (said line)).1)) ≡ Ok prefix
+  pub is_before : after is_uri (after is_blank (handle_and_rest (said line)).1) ≡ rest
+  pub is_apart : is_at_gap rest ≡ true
+
 -- Why a line after a `%` at a position is refused: it begins with no name; the name goes on with another character; a version or a declaration is none; or after one stands a comment without a blank, or other text.
 pub data IsDirectiveRefusal (start : Position) (line : List ℕ) : Fault → Type 0 where
   no_name : leading is_alpha line ≡ [] → IsDirectiveRefusal start line (At problem.DirectiveName (further 1 start))
   by_name : is_at_gap (after is_alpha line) ≡ false → IsDirectiveRefusal start line (At problem.DirectiveNameEnd (further 1 start))
   by_version : (why : Problem) → leading is_alpha line ≡ codes "YAML" → IsNoVersion (after is_blank (after is_alpha line)) why → IsDirectiveRefusal start line (At why start)
   by_declaration : (why : Problem) → leading is_alpha line ≡ codes "TAG" → IsNoDeclaration (after is_blank (after is_alpha line)) why → IsDirectiveRefusal start line (At why start)
-  by_comment : (before rest : List ℕ) → line ≡ before ++ 35 ∷ rest → IsDirectiveRefusal start line (At problem.CommentNotSeparated (further (suc (length before)) start))
-  by_text : (before rest : List ℕ) → line ≡ before ++ rest → is_rest_of_line rest ≡ false → IsDirectiveRefusal start line (At problem.DirectiveEnd start)
+  by_comment : (before rest : List ℕ) → line ≡ before ++ 35 ∷ rest → IsVersionBefore line (35 ∷ rest) → IsDirectiveRefusal start line (At problem.CommentNotSeparated (further (suc (length before)) start))
+  after_version : (rest : List ℕ) → IsVersionBefore line rest → is_rest_of_line rest ≡ false → begins_with 35 rest ≡ false → IsDirectiveRefusal start line (At problem.DirectiveEnd start)
+  after_declaration : (rest : List ℕ) → IsDeclarationBefore line rest → is_rest_of_line rest ≡ false → IsDirectiveRefusal start line (At problem.DirectiveEnd start)
 
 -- The scan of a text after a `%`: it read the directive that its first line is, and the break after that; or the line is none, and the scan has a fault of which it is the reason.
 pub data DirectiveEndsAs (start : Position) (text : List ℕ) (x : Result (Read Tok) Fault) : Type 0 where

@@ -1,9 +1,10 @@
 -- How the scan of a block scalar's header ends, told by the rest of its line after `|` or `>`. YAML 1.2, section 8.1.1.
-use Rattle.std.specs.Prelude.{◌≡◌, ℕ, List, [], ◌∷◌, ◌++◌, Bool, true, false, ◌&&◌, ◌||◌, ◌==◌, not, Option, Some, None, Result, Ok, Err}
+use Rattle.std.specs.Prelude.{◌≡◌, ℕ, List, [], ◌∷◌, ◌++◌, Bool, true, false, ◌&&◌, ◌||◌, ◌==◌, not, if◌then◌else◌, Option, Some, None, Result, Ok, Err}
 use Rattle.std.specs.List.{list_all}
 use Rattle.defs_text.specs.Position.{Position}
 use Rattle.defs_text.specs.Text.{is_empty}
-use Rattle.defs_text.specs.Classes.{tab, is_break}
+use Rattle.defs_text.specs.Breaks.{is_rest_of_line}
+use Rattle.defs_text.specs.Classes.{tab, is_break, is_between}
 use Rattle.defs_scalar.specs.FlowScalar.{begins_with}
 use Rattle.defs_scalar.specs.BlockScalar as defs
 use Rattle.defs_scalar.specs.BlockScalar.{BlockStyle, literal, folded, strip, clip, keep, sign_of, digit_of, header_of}
@@ -63,6 +64,16 @@ abbrev pub has_zero : List ℕ → Bool
 has_zero [] = false
 has_zero (c ∷ r) = (c == 48) || (is_sign c && begins_with 48 r)
 
+-- a text after its first character, where that is of a class
+abbrev pub past_one : (ℕ → Bool) → List ℕ → List ℕ
+past_one class [] = []
+past_one class (c ∷ r) = (if class c then r else c ∷ r)
+
+-- a header's line after its indicators: a sign and a digit in either order
+abbrev pub past_indicators : List ℕ → List ℕ
+past_indicators [] = []
+past_indicators (c ∷ r) = (if is_sign c then past_one (is_between 49 57) r else (if is_between 49 57 c then past_one is_sign r else c ∷ r))
+
 -- How the scan of a header ends: `start` is the position of its `|` or `>`, and `line` the rest of its line, after which the line's end stands.
 -- It read the header that the line is, if no TAB begins the next line; or the line is none, for a digit 0, a comment right after a header, or other text.
 pub data HeaderEndsAs (start : Position) (style : BlockStyle) (line after : List ℕ) (x : Result (Read Header) Fault) : Type 0 where
@@ -73,4 +84,4 @@ pub data HeaderEndsAs (start : Position) (style : BlockStyle) (line after : List
   zero_digit : header_of (indicator_of style ∷ line) ≡ None → has_zero line ≡ true → x ≡ Err (At problem.BlockScalarZero start) → HeaderEndsAs start style line after x
   comment : (h : defs.Header) (before text : List ℕ) → header_of (indicator_of style ∷ line) ≡ None → header_of (indicator_of style ∷ before) ≡ Some h → line ≡ before ++ 35 ∷ text
       → x ≡ Err (At problem.CommentNotSeparated (along before (past start))) → HeaderEndsAs start style line after x
-  no_header : header_of (indicator_of style ∷ line) ≡ None → x ≡ Err (At problem.BlockScalarHeader start) → HeaderEndsAs start style line after x
+  no_header : header_of (indicator_of style ∷ line) ≡ None → has_zero line ≡ false → is_rest_of_line (past_indicators line) ≡ false → begins_with 35 (past_indicators line) ≡ false → x ≡ Err (At problem.BlockScalarHeader start) → HeaderEndsAs start style line after x

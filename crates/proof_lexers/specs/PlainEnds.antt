@@ -1,5 +1,5 @@
 -- How the scan of a plain scalar ends, told by its text and by what stands around it. YAML 1.2, section 7.3.3.
-use Rattle.std.specs.Prelude.{◌≡◌, ℕ, zero, suc, List, [], ◌∷◌, ◌++◌, Bool, true, false, ◌&&◌, ◌||◌, not, nat_lt, nat_le, Option, Some, None, Result, Ok, Err}
+use Rattle.std.specs.Prelude.{◌≡◌, ℕ, zero, suc, List, [], ◌∷◌, ◌++◌, Bool, true, false, ◌&&◌, ◌||◌, ◌==◌, not, nat_lt, nat_le, Option, Some, None, Result, Ok, Err}
 use Rattle.defs_text.specs.Position.{Position, position_after}
 use Rattle.defs_text.specs.Classes.{is_blank, is_break}
 use Rattle.defs_scalar.specs.FlowScalar.{plain_value}
@@ -36,6 +36,11 @@ abbrev pub begins_solid : List ℕ → Bool
 begins_solid [] = false
 begins_solid (c ∷ r) = not (is_white c)
 
+-- whether a text begins with what is neither a blank, a break nor a comment
+abbrev pub begins_token : List ℕ → Bool
+begins_token [] = false
+begins_token (c ∷ r) = not (is_white c || (c == 35))
+
 -- whether a break stands in a text
 abbrev pub has_break : List ℕ → Bool
 has_break [] = false
@@ -61,13 +66,13 @@ goes_over ctx [] next = true
 goes_over ctx (c ∷ r) next = goes_on ctx.flow (collection_of ctx.indent) inside r next
 
 -- Why a plain scalar at a position is refused: in a flow collection it begins left of the innermost block collection, or at its start or after blanks or breaks in it a dash stands before a
--- flow indicator; or a later line of it begins with a TAB left of the innermost block collection.
+-- flow indicator; or a later line of it begins with a TAB left of the innermost block collection, and holds more than a comment.
 pub data IsPlainRefusal (ctx : Context) (start : Position) (text : List ℕ) : Fault → Type 0 where
   by_column : ctx.flow ≡ true → nat_lt start.col ctx.indent ≡ true → IsPlainRefusal ctx start text (At problem.FlowIndentation start)
   by_dash : (before rest : List ℕ) → ctx.flow ≡ true → text ≡ before ++ 45 ∷ rest → begins_flow rest ≡ true → goes_over ctx before (45 ∷ rest) ≡ true → is_apart (stand_after after_blank before) ≡ true
       → IsPlainRefusal ctx start text (At problem.PlainDashInFlow (position_after start before (45 ∷ rest)))
   by_tab : (before blanks rest : List ℕ) (column : ℕ) → text ≡ before ++ 9 ∷ (blanks ++ rest) → goes_over ctx before (9 ∷ (blanks ++ rest)) ≡ true → stand_after after_blank before ≡ on_line column
-      → nat_lt column ctx.indent ≡ true → is_blanks blanks ≡ true → begins_solid rest ≡ true → IsPlainRefusal ctx start text (At problem.PlainTab start)
+      → nat_lt column ctx.indent ≡ true → is_blanks blanks ≡ true → begins_token rest ≡ true → IsPlainRefusal ctx start text (At problem.PlainTab start)
 
 -- what is left after a plain scalar at a position, its gap, and what stands after that; its value, and whether a break stands in the gap
 abbrev pub after_plain : Position → (piece gap rest value : List ℕ) → Read Plain

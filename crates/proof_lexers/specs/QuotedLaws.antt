@@ -1,8 +1,7 @@
 -- Laws of the exact model and quoted scalars: each is the contract of the function of `src/laws.rt` that its comment names.
-use Rattle.std.specs.Prelude.{◌≡◌, ℕ, List, [], ◌∷◌, ◌++◌, Bool, true, Some}
+use Rattle.std.specs.Prelude.{◌≡◌, ℕ, List, ◌∷◌, ◌++◌, Bool, true, Some}
 use Rattle.std.specs.List.{list_all}
 use Rattle.defs_text.specs.Position.{Position}
-use Rattle.yaml_tokens.specs.declared.problem.Fault.{Fault}
 use Rattle.model_lexers.specs.declared.context.Context.{Context}
 use Rattle.model_lexers.specs.Quoted.{quote_of, quoted}
 use Rattle.proof_lexers.specs.QuotedScan.{value_of, ends_before, is_some, IsRead}

@@ -13,17 +13,12 @@ use Rattle.model_lexers.specs.declared.context.Whitespace.{Whitespace}
 use Rattle.model_lexers.specs.Machine.{Read}
 use Rattle.model_lexers.specs.Space.{are_skipped}
 use Rattle.model_scanner.specs.State.{Held, ScannerState, in_flow}
-use Rattle.proof_lexers.specs.PlainEnds.{is_white, has_break}
+use Rattle.proof_lexers.specs.PlainEnds.{is_white, has_break, begins_token}
 
 -- whether a text begins with a blank, a break or a comment
 abbrev pub begins_separation : List ℕ → Bool
 begins_separation [] = false
 begins_separation (c ∷ r) = is_white c || (c == 35)
-
--- whether a text begins with what is none of these
-abbrev pub begins_token : List ℕ → Bool
-begins_token [] = false
-begins_token (c ∷ r) = not (is_white c || (c == 35))
 
 -- What is held after a separation: its position, and outside flow a key may begin after a break in it. Whether blanks alone stand before that position on its line is said apart.
 abbrev pub after_separation : Held → (leading : Bool) → (separation rest : List ℕ) → ScannerState

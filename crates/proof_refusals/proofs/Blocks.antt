@@ -1,15 +1,15 @@
 -- Faults of block scalars: the line is no header, or what stands after the scalar may not.
-use Rattle.std.proofs.Common.{◌≡◌, ℕ, ◌≤◌, List, [], ◌∷◌, ◌++◌, Bool, true, false, not, ◌==◌, ◌&&◌, ◌||◌, nat_le, nat_lt, if◌then◌else◌, Option, Some, None, Result, Err, refl, ap, sym, ◌∙◌, subst, arith}
+use Rattle.std.proofs.Common.{◌≡◌, ℕ, List, [], ◌∷◌, ◌++◌, Bool, true, false, not, ◌==◌, ◌&&◌, ◌||◌, nat_le, nat_lt, if◌then◌else◌, Option, Some, None, Result, Err, refl, ap, sym, ◌∙◌, subst, arith, append-nil}
 use Rattle.std.proofs.lemmas.Bool.{and_parts, eqb-true}
 use Rattle.std.proofs.lemmas.Bool.Decides.{nat_tests}
 use Rattle.defs_text.specs.Breaks.{split}
-use Rattle.defs_text.specs.Classes.{space, tab, is_break, is_nul, is_at_end}
-use Rattle.defs_text.specs.Position.{Position, position_past, position_after}
+use Rattle.defs_text.specs.Classes.{tab, is_break, is_nul, is_at_end}
+use Rattle.defs_text.specs.Position.{Position, position_after}
 use Rattle.defs_text.specs.Text.{is_empty, has_no_nul}
 use Rattle.defs_scalar.specs.BlockScalar as defs
 use Rattle.defs_scalar.specs.BlockScalar.{BlockStyle, literal, folded, header_of, leading_spaces, body, further_text}
 use Rattle.defs_scalar.specs.FlowScalar.{begins_with}
-use Rattle.defs_token.specs.BlockPiece.{BlockRead, block_read, read_lines, read_body, past_spaces}
+use Rattle.defs_token.specs.BlockPiece.{BlockRead, block_read, read_lines, read_body}
 use Rattle.defs_row.specs.Step.{gives_node}
 use Rattle.defs_row.specs.Account.{site_in}
 use Rattle.defs_row.specs.Column.{innermost}
@@ -35,12 +35,11 @@ use Rattle.proof_lexers.specs.BlockScan.{is_literal_style, is_tabbed, is_shallow
 use Rattle.proof_lexers.specs.PlainEnds.{collection_of}
 use Rattle.proof_lexers.proofs.Blocks.Ends as blocks
 use Rattle.proof_lexers.proofs.Blocks.Positions.{spell_more}
+use Rattle.proof_lexers.proofs.Blocks.Positions.{after_chars}
 use Rattle.proof_lexers.proofs.Blocks.Scans.{style_inner}
 use Rattle.proof_lexers.proofs.Blocks.Written.{Break, feed, carriage, both, Line, put, spell, texts, Fits, AreLines, split_spell}
 use Rattle.proof_cut.proofs.Pieces.Quoted.{some_chars}
-use Rattle.proof_cut.proofs.Positions.{not_before_after}
 use Rattle.proof_cut.proofs.Saved.{saved_keys, saved_is}
-use Rattle.proof_row_sound.specs.Choices.{outside_key}
 use Rattle.proof_row_sound.specs.Arrives.{Arrives}
 use Rattle.proof_row_sound.specs.Stands.{columns}
 use Rattle.proof_row_sound.proofs.Arrivals.{clean_after}
@@ -52,23 +51,17 @@ use Rattle.proof_refusals.specs.NoPiece.{IsBlockFault}
 use Rattle.proof_refusals.specs.Stuck.{IsStuck, no_block, site_at_place}
 use Rattle.proof_refusals.proofs.Faults.{Faults, goes, read}
 use Rattle.proof_refusals.proofs.Nodes.{none_begins, none_here}
-use Rattle.proof_refusals.proofs.Places.{IsCarried, Told, account_by, stuck, in_flow_is}
+use Rattle.proof_refusals.proofs.Places.{Told, account_by, stuck, in_flow_is}
 
 -- ---- texts
 
--- characters of a line stay on it
-along_line : (w : List ℕ) (p : Position) → (headers.along w p).line ≡ p.line
-along_line [] p = refl
-along_line (c ∷ w) p = along_line w (past p)
+inner_first : (a b : List ℕ) → is_in_line (a ++ b) ≡ true → is_in_line a ≡ true
+inner_first [] b h = refl
+inner_first (c ∷ a) b h = let parts = and_parts (not (is_break c)) (is_in_line (a ++ b)) h in rw parts.0 (inner_first a b parts.1)
 
--- spaces too
-past_line : (a : List ℕ) (p : Position) → p.line ≤ (past_spaces p a).line
-past_line [] p = omega arith
-past_line (c ∷ a) p = by (c == space) (past_line a (position_past p c a))
-  where
-    by : (b : Bool) → (position_past p c a).line ≤ (past_spaces (position_past p c a) a).line → p.line ≤ (let q : Position = (if b then past_spaces (position_past p c a) a else p) in q.line)
-    by true later = let first = (not_before_after p (c ∷ []) a).0 in omega (arith, first, later)
-    by false later = omega arith
+-- the position after characters of a line
+along_text : (style : BlockStyle) (before rest : List ℕ) (p : Position) → is_in_line before ≡ true → headers.along before (past p) ≡ position_after p (indicator_of style ∷ before) rest
+along_text style before rest p inner = sym (after_chars (indicator_of style ∷ before) [] rest p (style_inner style before inner)) ∙ ap (λ w. position_after p w rest) (append-nil (indicator_of style ∷ before))
 
 tab_first : (r : List ℕ) → begins_with tab r ≡ true → (m : List ℕ) × (r ≡ tab ∷ m)
 tab_first [] h = absurd (cc h)
@@ -186,7 +179,7 @@ column_fault indent bs here text piece next b least e clean is untabbed low = by
 
 -- ---- the scan
 
-module _ (text : List ℕ) (t : ScannerState) (a : Arrives text t) (some : is_empty t.rest ≡ false) (carried : is_empty t.held.flow ≡ false → IsCarried text (outside_key a.base.entries t.held.keys)) (out : is_empty t.held.flow ≡ true) where
+module _ (text : List ℕ) (t : ScannerState) (a : Arrives text t) (some : is_empty t.rest ≡ false) (out : is_empty t.held.flow ≡ true) where
   abbrev collections : List ℕ
   collections = columns t.held.indent t.held.indents
 
@@ -201,11 +194,11 @@ module _ (text : List ℕ) (t : ScannerState) (a : Arrives text t) (some : is_em
       (closed.is_least.0 ∙ ap innermost (sym closed.same_columns), ap (λ bs. least_column bs true) closed.same_columns ∙ closed.is_least.1)
 
   -- the block scalar that begins here may not stand
-  block_stuck : (why : Problem) (at : Position) → t.held.position.line ≤ at.line → IsBlockFault collections t.held.position t.rest why at → IsStuck text why at
-  block_stuck why at later x =
-      stuck text t a some carried [] why at later (λ c may.
-      let flow_is = in_flow_is text t a some carried c [] in
-      let blocks_are : (site_at_place (account_by text t a some carried c []) t.held.position).blocks ≡ collections = ap (λ b. (site_in b gives_node t.held.position a.base.site).blocks) flow_is ∙ a.blocks_are in
+  block_stuck : (why : Problem) (at : Position) → IsBlockFault collections t.held.position t.rest why at → IsStuck text why at
+  block_stuck why at x =
+      stuck text t a some [] why at (λ c may.
+      let flow_is = in_flow_is text t a some c [] in
+      let blocks_are : (site_at_place (account_by text t a some c []) t.held.position).blocks ≡ collections = ap (λ b. (site_in b gives_node t.held.position a.base.site).blocks) flow_is ∙ a.blocks_are in
       no_block (flow_is ∙ ap not out) (subst (λ bs. IsBlockFault bs t.held.position t.rest why at) (sym blocks_are) x))
 
   -- `|` or `>`
@@ -215,18 +208,20 @@ module _ (text : List ℕ) (t : ScannerState) (a : Arrives text t) (some : is_em
       let same : At problem.BlockScalarTab t.held.position ≡ g = cc j in
       let f : TabAfter after = tab_after after t.held.position ends begins in
       subst (λ f. Told text f) same
-      (λ _. block_stuck problem.BlockScalarTab t.held.position (omega arith)
+      (λ _. block_stuck problem.BlockScalarTab t.held.position
       (tab_fault collections t.held.position t.rest (indicator_of style ∷ line) f.more f.by h (e ∙ ap (λ r. indicator_of style ∷ (line ++ r)) f.is) (style_inner style line inline) is))
   header_told style line after e inline ends g (headers.zero_digit lacks zero j) =
       let same : At problem.BlockScalarZero t.held.position ≡ g = cc j in
-      subst (λ f. Told text f) same (λ _. none_here text t a some carried problem.BlockScalarZero (none.headless style line after problem.BlockScalarZero t.held.position (ap not out) e inline ends lacks (none.by_zero zero)))
+      subst (λ f. Told text f) same (λ _. none_here text t a some problem.BlockScalarZero (none.headless style line after problem.BlockScalarZero t.held.position (ap not out) e inline ends lacks (none.by_zero zero)))
   header_told style line after e inline ends g (headers.comment h before more lacks is cut j) =
-      let same : At problem.CommentNotSeparated (headers.along before (past t.held.position)) ≡ g = cc j in subst (λ f. Told text f) same
-      (λ _. none_begins text t a some carried problem.CommentNotSeparated (headers.along before (past t.held.position)) (let stays = along_line before (past t.held.position) in omega (arith, stays))
-      (none.headless style line after problem.CommentNotSeparated (headers.along before (past t.held.position)) (ap not out) e inline ends lacks (none.by_comment h before more is cut)))
-  header_told style line after e inline ends g (headers.no_header lacks j) =
+      let same : At problem.CommentNotSeparated (headers.along before (past t.held.position)) ≡ g = cc j in
+      let place : headers.along before (past t.held.position) ≡ position_after t.held.position (indicator_of style ∷ before) (35 ∷ more) = along_text style before (35 ∷ more) t.held.position (inner_first before (35 ∷ more) (ap is_in_line (sym cut) ∙ inline)) in
+      subst (λ f. Told text f) same (subst (λ p. Told text (At problem.CommentNotSeparated p)) (sym place)
+      (λ _. none_begins text t a some problem.CommentNotSeparated _
+      (none.headless style line after problem.CommentNotSeparated _ (ap not out) e inline ends lacks (none.by_comment h before more is cut))))
+  header_told style line after e inline ends g (headers.no_header lacks zero more begins j) =
       let same : At problem.BlockScalarHeader t.held.position ≡ g = cc j in
-      subst (λ f. Told text f) same (λ _. none_here text t a some carried problem.BlockScalarHeader (none.headless style line after problem.BlockScalarHeader t.held.position (ap not out) e inline ends lacks none.by_text))
+      subst (λ f. Told text f) same (λ _. none_here text t a some problem.BlockScalarHeader (none.headless style line after problem.BlockScalarHeader t.held.position (ap not out) e inline ends lacks (none.by_text zero more begins)))
 
   block_refused : (style : BlockStyle) (indent : ℕ) (more : List ℕ) → t.rest ≡ indicator_of style ∷ more → IsLeast indent collections → (f : Fault) → block (is_literal_style style) indent t.rest t.held.position ≡ Err f → Told text f
   block_refused style indent more e deep f k =
@@ -242,14 +237,12 @@ module _ (text : List ℕ) (t : ScannerState) (a : Arrives text t) (some : is_em
       by x i (block_ends.scalar piece next b cut is looks (scan.read free deep j)) = absurd (cc (i, j))
       by x i (block_ends.scalar piece next b cut is looks (scan.shallow free low j)) =
           let same : At problem.BlockScalarIndentation (scan.further_position t.held.position piece next) ≡ f = cc (i, j) in
-          let first = (not_before_after t.held.position piece next).0 in
-          let second = past_line next (position_after t.held.position piece next) in
           subst (λ g. Told text g) same
-          (λ _. block_stuck problem.BlockScalarIndentation (scan.further_position t.held.position piece next) (omega (arith, first, second))
+          (λ _. block_stuck problem.BlockScalarIndentation (scan.further_position t.held.position piece next)
           (column_fault indent collections t.held.position t.rest piece next b deep (e ∙ cut) (clean_after piece next (subst (λ r. has_no_nul r ≡ true) (e ∙ cut) a.is_clean)) is free low))
       by x i (block_ends.scalar piece next b cut is looks (scan.tabbed begins j)) =
           let same : At problem.BlockScalarTab t.held.position ≡ f = cc (i, j) in
-          subst (λ g. Told text g) same (λ _. block_stuck problem.BlockScalarTab t.held.position (omega arith) (piece_tab_fault collections (collection_of indent) t.held.position t.rest piece next b (e ∙ cut) is begins))
+          subst (λ g. Told text g) same (λ _. block_stuck problem.BlockScalarTab t.held.position (piece_tab_fault collections (collection_of indent) t.held.position t.rest piece next b (e ∙ cut) is begins))
 
   pub block_told : (literal : Bool) (more : List ℕ) → t.rest ≡ (if literal then 124 else 62) ∷ more → Faults (Told text) (fetch_block_scalar literal t)
   unfolding fetch_block_scalar

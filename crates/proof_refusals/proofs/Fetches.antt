@@ -21,7 +21,6 @@ use Rattle.model_scanner.specs.Fetch.{fetch_token, comes_marker, fetch_indented,
 use Rattle.proof_cut.proofs.Nodes.{IsDeep}
 use Rattle.proof_cut.proofs.Dispatch.{token_holds}
 use Rattle.proof_cut.proofs.Fetched.{begins_with_this, no_marker, is_deep, goes_on_here, Marked, marked}
-use Rattle.proof_row_sound.specs.Choices.{outside_key}
 use Rattle.proof_row_sound.specs.Stands.{AreLevels, columns, has_open_level}
 use Rattle.proof_row_sound.specs.Arrives.{Arrives, site_here}
 use Rattle.proof_row_sound.proofs.Passed.{least_of_levels}
@@ -29,7 +28,7 @@ use Rattle.proof_row_complete.proofs.Around.Levels.{levels_end}
 use Rattle.proof_refusals.specs.Stuck as defs
 use Rattle.proof_refusals.specs.Stuck.{IsStuck, may_not_stand, site_at_place, begins_document_at}
 use Rattle.proof_refusals.proofs.Faults.{Faults, fault, tried, checked, either}
-use Rattle.proof_refusals.proofs.Places.{IsCarried, Told, account_by, not_told, stuck, in_flow_is}
+use Rattle.proof_refusals.proofs.Places.{Told, account_by, not_told, stuck, in_flow_is}
 use Rattle.proof_refusals.proofs.Nodes.{none_here, name_told, tag_told, quoted_told}
 use Rattle.proof_refusals.proofs.Blocks.{block_told}
 use Rattle.proof_refusals.proofs.MarginKeys.{IsMargin}
@@ -37,28 +36,28 @@ use Rattle.proof_refusals.proofs.Plains.{plain_told}
 use Rattle.proof_refusals.proofs.Indicators.{directive_told, marker_told, document_end_told, dash_told, question_told, colon_told, opening_told, closing_told, comma_told}
 use Rattle.proof_refusals.specs.NoPiece as none
 
-module _ (text : List ℕ) (t : ScannerState) (a : Arrives text t) (some : is_empty t.rest ≡ false) (carried : is_empty t.held.flow ≡ false → IsCarried text (outside_key a.base.entries t.held.keys)) (margin : IsMargin t.held) where
+module _ (text : List ℕ) (t : ScannerState) (a : Arrives text t) (some : is_empty t.rest ≡ false) (margin : IsMargin t.held) where
   -- ---- the token by the first character
 
   token_told : IsDeep t.held → ((t.held.position.col == 0) && is_document_marker t.rest) ≡ false → (t.held.position.col ≡ 0 → (peek t.rest == 37) ≡ false) → Faults (Told text) (fetch_token t)
   token_told deep marker percent =
       token_holds (Faults (Told text)) t (is_adjacent (before_past (before_by a.base.site.before) a.separation)) a.is_clean a.is_solid (λ inside. sym (a.is_adjacent_here inside some)) marker (record {
-        anchor = λ alias more e. name_told text t a some carried alias more e;
-        tag = λ more e. tag_told text t a some carried more e;
-        plain = λ comes. plain_told text t a some carried deep comes;
-        quoted = λ single more e. quoted_told text t a some carried deep single more e;
-        block = λ literal more e o. block_told text t a some carried o literal more e;
-        dash = λ more e gap. dash_told text t a some carried margin more e gap;
-        question = λ more e gap. question_told text t a some carried more e gap;
-        colon = λ more e i. colon_told text t a some carried more e;
-        open_bracket = λ more e. opening_told text t a some carried Entry Tok.flow_sequence_start 91 more e (inl refl);
-        open_brace = λ more e. opening_told text t a some carried Mapping Tok.flow_mapping_start 123 more e (inr refl);
-        close_bracket = λ more e. closing_told text t a some carried Tok.flow_sequence_end 93 more e refl;
-        close_brace = λ more e. closing_told text t a some carried Tok.flow_mapping_end 125 more e refl;
-        comma = λ more e. comma_told text t a some carried more e;
-        percent = λ more e. fault {f = At problem.UnexpectedPercent t.held.position} (λ _. none_here text t a some carried problem.UnexpectedPercent (none.percent more e (no_column more e)));
-        at_sign = λ more e. fault {f = At problem.UnexpectedAt t.held.position} (λ _. none_here text t a some carried problem.UnexpectedAt (none.at_sign more e));
-        backtick = λ more e. fault {f = At problem.UnexpectedBacktick t.held.position} (λ _. none_here text t a some carried problem.UnexpectedBacktick (none.backtick more e));
+        anchor = λ alias more e. name_told text t a some alias more e;
+        tag = λ more e. tag_told text t a some more e;
+        plain = λ comes. plain_told text t a some deep comes;
+        quoted = λ single more e. quoted_told text t a some deep single more e;
+        block = λ literal more e o. block_told text t a some o literal more e;
+        dash = λ more e gap. dash_told text t a some margin more e gap;
+        question = λ more e gap. question_told text t a some more e gap;
+        colon = λ more e i. colon_told text t a some more e i;
+        open_bracket = λ more e. opening_told text t a some Entry Tok.flow_sequence_start 91 more e (inl refl);
+        open_brace = λ more e. opening_told text t a some Mapping Tok.flow_mapping_start 123 more e (inr refl);
+        close_bracket = λ more e. closing_told text t a some Tok.flow_sequence_end 93 more e refl;
+        close_brace = λ more e. closing_told text t a some Tok.flow_mapping_end 125 more e refl;
+        comma = λ more e. comma_told text t a some more e;
+        percent = λ more e. fault {f = At problem.UnexpectedPercent t.held.position} (λ _. none_here text t a some problem.UnexpectedPercent (none.percent more e (no_column more e)));
+        at_sign = λ more e. fault {f = At problem.UnexpectedAt t.held.position} (λ _. none_here text t a some problem.UnexpectedAt (none.at_sign more e));
+        backtick = λ more e. fault {f = At problem.UnexpectedBacktick t.held.position} (λ _. none_here text t a some problem.UnexpectedBacktick (none.backtick more e));
       }) some
     where
       no_column : (more : List ℕ) → t.rest ≡ 37 ∷ more → (t.held.position.col == 0) ≡ false
@@ -95,12 +94,12 @@ module _ (text : List ℕ) (t : ScannerState) (a : Arrives text t) (some : is_em
           (subst (λ b. (site_here (not b) t.held.position a.base.site).awaits ≡ has_open_level t.held.indents) e a.awaits_is) in
           absurd (grind (arith, nat_tests, deep, low))
       by false e =
-          stuck text t a some carried [] problem.InvalidIndentation t.held.position (omega arith) (λ c may.
-          let flow_is = in_flow_is text t a some carried c [] in
-          let blocks_are : (site_at_place (account_by text t a some carried c []) t.held.position).blocks ≡ columns t.held.indent t.held.indents = ap (λ b. (site_in b gives_node t.held.position a.base.site).blocks) flow_is ∙ a.blocks_are in
-          let awaits_is : (site_at_place (account_by text t a some carried c []) t.held.position).awaits ≡ has_open_level t.held.indents = ap (λ b. (site_in b gives_node t.held.position a.base.site).awaits) flow_is ∙ a.awaits_is in
+          stuck text t a some [] problem.InvalidIndentation t.held.position (λ c may.
+          let flow_is = in_flow_is text t a some c [] in
+          let blocks_are : (site_at_place (account_by text t a some c []) t.held.position).blocks ≡ columns t.held.indent t.held.indents = ap (λ b. (site_in b gives_node t.held.position a.base.site).blocks) flow_is ∙ a.blocks_are in
+          let awaits_is : (site_at_place (account_by text t a some c []) t.held.position).awaits ≡ has_open_level t.held.indents = ap (λ b. (site_in b gives_node t.held.position a.base.site).awaits) flow_is ∙ a.awaits_is in
           may_not_stand (defs.shallow (flow_is ∙ ap not e) none
-          (ap (λ bs. nat_le (least_column bs (site_at_place (account_by text t a some carried c []) t.held.position).awaits) t.held.position.col) blocks_are ∙
+          (ap (λ bs. nat_le (least_column bs (site_at_place (account_by text t a some c []) t.held.position).awaits) t.held.position.col) blocks_are ∙
           (ap (λ w. nat_le (least_column (columns t.held.indent t.held.indents) w) t.held.position.col) awaits_is ∙ least_here t.held.indent t.held.indents a.are_levels low))))
 
   indented_told : ((t.held.position.col == 0) && is_document_marker t.rest) ≡ false → (t.held.position.col ≡ 0 → (peek t.rest == 37) ≡ false) → Faults (Told text) (fetch_indented t)
@@ -113,9 +112,9 @@ module _ (text : List ℕ) (t : ScannerState) (a : Arrives text t) (some : is_em
   first_told : t.held.position.col ≡ 0 → Faults (Told text) (fetch_first_column t)
   unfolding fetch_first_column
   first_told col =
-      either (peek t.rest == 37) (λ e. directive_told text t a some carried (after t.rest) (begins_with_this t.rest 37 some e) col) (λ n.
-      either (comes_marker 45 t.rest) (λ e. marker_told text t a some carried Tok.document_start) (λ x.
-      either (comes_marker 46 t.rest) (λ e. let m : Marked 46 t.rest = marked 46 t.rest refl e in document_end_told text t a some carried m.more m.is_text m.gap col) (λ y.
+      either (peek t.rest == 37) (λ e. directive_told text t a some (after t.rest) (begins_with_this t.rest 37 some e) col) (λ n.
+      either (comes_marker 45 t.rest) (λ e. marker_told text t a some Tok.document_start) (λ x.
+      either (comes_marker 46 t.rest) (λ e. let m : Marked 46 t.rest = marked 46 t.rest refl e in document_end_told text t a some m.more m.is_text m.gap col) (λ y.
       indented_told (by (t.held.position.col == 0) (no_marker t.rest x y)) (λ _. n))))
     where
       by : (b : Bool) → is_document_marker t.rest ≡ false → (b && is_document_marker t.rest) ≡ false
@@ -136,6 +135,6 @@ unfolding fetch_stream_end
 end_told text t = tried t (ended_told text (record t.held { position = next_line t.held.position }))
 
 -- a token of a text that goes on, or the stream's end
-pub here_told : (text : List ℕ) (t : ScannerState) (a : Arrives text t) → (is_empty t.rest ≡ false → is_empty t.held.flow ≡ false → IsCarried text (outside_key a.base.entries t.held.keys)) → IsMargin t.held → Faults (Told text) (fetch_here t)
+pub here_told : (text : List ℕ) (t : ScannerState) (a : Arrives text t) → IsMargin t.held → Faults (Told text) (fetch_here t)
 unfolding fetch_here
-here_told text t a carried margin = either (peek t.rest == 0) (λ _. end_told text t) (λ e. let some = goes_on_here t.rest e in content_told text t a some (carried some) margin)
+here_told text t a margin = either (peek t.rest == 0) (λ _. end_told text t) (λ e. let some = goes_on_here t.rest e in content_told text t a some margin)

@@ -9,7 +9,10 @@ use Rattle.defs_text.specs.Classes.{is_one_of, is_blank, is_at_gap}
 use Rattle.defs_text.specs.Position.{Position, position_after}
 use Rattle.defs_text.specs.Text.{is_empty}
 use Rattle.defs_scalar.specs.Directives.{directive_of}
+use Rattle.defs_token.specs.Account.{is_adjacent, before_past}
+use Rattle.defs_token.specs.Plain.{is_value_indicator}
 use Rattle.defs_token.specs.Separation.{is_separation}
+use Rattle.defs_row.specs.Account.{before_by}
 use Rattle.defs_token.specs.Token.{Tok}
 use Rattle.defs_scalar.specs.FlowScalar.{begins_with}
 use Rattle.defs_scalar.specs.Tags as tags
@@ -38,6 +41,7 @@ use Rattle.model_scanner.specs.Space.{skip_yaml_whitespace, white}
 use Rattle.model_scanner.specs.Flow.{allow_key, increase_flow_level, deepened_flow, begin_flow, pass_indicator, fetch_flow_collection_start, end_pair, end_flow_pair, decrease_flow_level, ended_flow, end_flow, fetch_flow_collection_end, next_entry, end_entry, fetch_flow_entry}
 use Rattle.model_scanner.specs.Block.{last_property, at_margin, check_block_entry, check_dash, roll_entry, fetch_block_entry, begin_key, check_key_space, fetch_key, check_after_tab, check_value_space, opens_pair, paired, begin_pair, insert_key, begin_keyless_pair, begin_keyless_mapping, begin_keyless_value, value_of, fetch_value}
 use Rattle.model_scanner.specs.Document.{closed_key, begin_line, fetch_directive, fetch_document_marker, check_document_end, fetch_document_end}
+use Rattle.model_scanner.specs.Fetch.{is_value}
 use Rattle.model_scanner.proofs.Holds as holds
 use Rattle.model_scanner.proofs.Holds.{Holds, held_of}
 use Rattle.proof_lexers.specs.DirectiveEnds as directives
@@ -48,31 +52,31 @@ use Rattle.proof_lexers.specs.Separations.{GoesOverAs, misses, SpacesAs, after_s
 use Rattle.proof_lexers.specs.Separations as separations
 use Rattle.proof_lexers.proofs.Directives.Lines.{directives_end}
 use Rattle.proof_lexers.proofs.Separation.WhiteSpace.{white_space_is_passed}
-use Rattle.proof_row_sound.specs.Choices.{outside_key, line_by, entries_by, chosen, entry_by, had_by}
+use Rattle.proof_row_sound.specs.Choices.{outside_key, line_by, entries_by, chosen, entry_by, had_by, MayChoose}
 use Rattle.proof_row_sound.specs.Arrives.{Arrives, IsLineHere}
-use Rattle.proof_row_sound.specs.Stands.{is_free, AreEntries}
+use Rattle.proof_row_sound.specs.Stands.{is_free, AreEntries, IsOpenOutside}
+use Rattle.proof_row_sound.proofs.Arrivals as arrivals
 use Rattle.proof_row_sound.proofs.Stales.{no_entries}
 use Rattle.proof_row_sound.proofs.DocumentLines.{line_begun}
 use Rattle.proof_lexers.proofs.Bridges.{same_alpha}
 use Rattle.proof_lexers.proofs.Separation.Spaces.{spaces_are_passed}
-use Rattle.proof_cut.proofs.Dispatch.{gap_here}
+use Rattle.proof_cut.proofs.Dispatch.{gap_here, value_is}
 use Rattle.proof_cut.proofs.Levels.{one_indents, one_indent, rolled_one_is}
 use Rattle.proof_cut.proofs.Passes.{Spaced, spaced, spaces_skipped}
-use Rattle.proof_cut.proofs.Positions.{not_before_after}
 use Rattle.proof_row_sound.proofs.QuotedEnds.{not_at_end}
 use Rattle.proof_row_sound.proofs.Blanks.{same_in_line, line_rest_in_line, line_rest_cut, line_rest_fills, found_in, spaced_parted}
 use Rattle.proof_row_sound.proofs.Passed.{same_has_break}
 use Rattle.proof_refusals.proofs.TabsAfterColon.{no_space}
 use Rattle.yaml_tokens.specs.declared.problem.Problem.{Problem}
-use Rattle.proof_refusals.proofs.KeptKeys.{rolled_place, removed_is}
+use Rattle.proof_refusals.proofs.Rolled.{rolled_place, removed_is}
 use Rattle.proof_cut.proofs.Saved.{saved_keys, saved_is}
 use Rattle.proof_refusals.specs.NoPiece as none
 use Rattle.proof_refusals.specs.NoPiece.{IsFollowed}
 use Rattle.proof_refusals.specs.Stuck as defs
-use Rattle.proof_refusals.specs.Stuck.{IsStuck, Fails, may_not_stand, MayNotStand, may_begin, is_free_line}
+use Rattle.proof_refusals.specs.Stuck.{IsStuck, Fails, may_not_stand, MayNotStand, is_taken_line, is_taken, is_value_here}
 use Rattle.proof_refusals.proofs.Faults.{Faults, fault, goes, read, in_turn, tried, checked, either}
 use Rattle.proof_refusals.proofs.Spaces.{space_told, spaces_told, no_comment, no_comment_left, solid_past}
-use Rattle.proof_refusals.proofs.Places.{IsCarried, Told, many_levels, stuck, in_flow_is, followed_stuck}
+use Rattle.proof_refusals.proofs.Places.{Told, many_levels, IsAllowed, stuck, in_flow_is, followed_stuck}
 use Rattle.proof_refusals.proofs.MarginKeys.{IsMargin, no_dash_after}
 use Rattle.proof_refusals.proofs.Nodes.{none_begins}
 
@@ -103,25 +107,12 @@ unrolled_position limit s = by (in_flow s) _
 line_stays : (t : ScannerState) → Holds (λ u. (u.rest ≡ t.rest) × (u.held.position ≡ t.held.position)) (try_held begin_line t)
 line_stays t = holds.tried t (begin_line t.held) (line_begun t.held (unroll_indent 0 t.held) refl) (λ s k. (refl, ap (λ h. h.position) k.1 ∙ unrolled_position 0 t.held))
 
--- where a directive's fault is: on its line
-abbrev IsOnLine : Position → Fault → Type 0
-IsOnLine p OutOfMemory = Unit {0}
-IsOnLine p (At why q) = p.line ≤ q.line
-
-refusal_on_line : (p : Position) (line : List ℕ) (f : Fault) → IsDirectiveRefusal p line f → IsOnLine p f
-refusal_on_line p line f (directives.no_name h) = omega arith
-refusal_on_line p line f (directives.by_name h) = omega arith
-refusal_on_line p line f (directives.by_version why h i) = omega arith
-refusal_on_line p line f (directives.by_declaration why h i) = omega arith
-refusal_on_line p line f (directives.by_comment before rest h) = omega arith
-refusal_on_line p line f (directives.by_text before rest h i) = omega arith
-
-module _ (text : List ℕ) (t : ScannerState) (a : Arrives text t) (some : is_empty t.rest ≡ false) (carried : is_empty t.held.flow ≡ false → IsCarried text (outside_key a.base.entries t.held.keys)) where
+module _ (text : List ℕ) (t : ScannerState) (a : Arrives text t) (some : is_empty t.rest ≡ false) where
   -- ---- lines for the document
 
   line_refused : (line next : List ℕ) → t.held.position.col ≡ 0 → t.rest ≡ 37 ∷ (line ++ next) → has_no_break line ≡ true → directives.ends_line next ≡ true → directive_of (37 ∷ line) ≡ None → (f : Fault) → IsDirectiveRefusal t.held.position line f → Told text f
   line_refused line next col e one ends lacks OutOfMemory r = tt
-  line_refused line next col e one ends lacks (At why q) r = λ _. none_begins text t a some carried why q (refusal_on_line t.held.position line (At why q) r) (none.undirected line next why q col e one ends lacks r)
+  line_refused line next col e one ends lacks (At why q) r = λ _. none_begins text t a some why q (none.undirected line next why q col e one ends lacks r)
 
   pub directive_told : (more : List ℕ) → t.rest ≡ 37 ∷ more → t.held.position.col ≡ 0 → Faults (Told text) (fetch_directive t)
   unfolding fetch_directive
@@ -143,9 +134,9 @@ module _ (text : List ℕ) (t : ScannerState) (a : Arrives text t) (some : is_em
   -- ---- what follows
 
   -- a fault at the end of what was passed on the line
-  followed_at : (why : Problem) (q : Position) (p : Position) (passed content : List ℕ) → t.held.position.line ≤ p.line → q ≡ position_after p passed content
+  followed_at : (why : Problem) (q : Position) (p : Position) (passed content : List ℕ) → q ≡ position_after p passed content
       → IsFollowed (in_flow t.held) t.held.position t.rest why (position_after p passed content) → Told text (At why q)
-  followed_at why q p passed content later e x = λ _. subst (λ z. IsStuck text why z) (sym e) (followed_stuck text t a some carried why (position_after p passed content) (let m = not_before_after p passed content in omega (arith, later, m.0)) x)
+  followed_at why q p passed content e x = λ _. subst (λ z. IsStuck text why z) (sym e) (followed_stuck text t a some why (position_after p passed content) x)
 
   three_past : (p : Position) → past (past (past p)) ≡ further 3 p
   three_past p =
@@ -167,7 +158,7 @@ module _ (text : List ℕ) (t : ScannerState) (a : Arrives text t) (some : is_em
       by : (b : Bool) → is_breakz (peek v.rest) ≡ b → Faults (Told text) (if b then Ok v else Err (At problem.ContentAfterDocumentEnd v.held.position))
       by true i = goes
       by false i =
-          fault {f = At problem.ContentAfterDocumentEnd v.held.position} (followed_at problem.ContentAfterDocumentEnd v.held.position (further 3 t.held.position) (s.blanks ++ s.comment) v.rest (omega arith)
+          fault {f = At problem.ContentAfterDocumentEnd v.held.position} (followed_at problem.ContentAfterDocumentEnd v.held.position (further 3 t.held.position) (s.blanks ++ s.comment) v.rest
           (ap (λ h. h.position) s.is_held ∙ ap (λ q. position_after q (s.blanks ++ s.comment) v.rest) m.1)
           (none.after_end more (s.blanks ++ s.comment) v.rest col e gap (record { is_text = sym m.0 ∙ (s.is_rest ∙ sym (append_assoc s.blanks s.comment v.rest)); is_filled = s.is_filled; is_on_line = s.no_break }) (not_at_end v.rest i) (solid_past v.rest s.ends i)))
 
@@ -179,8 +170,9 @@ module _ (text : List ℕ) (t : ScannerState) (a : Arrives text t) (some : is_em
 
   -- ---- what may begin
 
-  not_free : (c : Bool) (cs : List Bool) → is_empty t.held.flow ≡ true → t.held.key_allowed ≡ false → may_begin (chosen c cs t.held.keys a.base) a.separation ≡ false
-  not_free c cs out none = by (outside_key a.base.entries t.held.keys) c (subst (λ b. IsLineHere (not b) t.held.key_allowed t.rest (outside_key a.base.entries t.held.keys) a.line) out a.line_is)
+  line_taken : (c : Bool) (cs : List Bool) → IsAllowed text t a some c → is_empty t.held.flow ≡ true → t.held.key_allowed ≡ false → is_taken (chosen c cs t.held.keys a.base) a.separation ≡ true
+  line_taken c cs may out none =
+      by (outside_key a.base.entries t.held.keys) c (may out) (subst (λ b. IsLineHere (not b) t.held.key_allowed t.rest (outside_key a.base.entries t.held.keys) a.line) out a.line_is) a.is_open
     where
       broken : Bool
       broken = begins_free_line a.base.site.before a.separation
@@ -188,19 +180,26 @@ module _ (text : List ℕ) (t : ScannerState) (a : Arrives text t) (some : is_em
       is_line : line_past_separation false broken a.base.line ≡ Some a.line
       is_line = subst (λ b. line_past_separation (not b) broken a.base.line ≡ Some a.line) out a.is_line
 
-      free_alike : (l : Line) → is_free_line (Some l) ≡ is_free l
-      free_alike free = refl
-      free_alike taken = refl
-      free_alike (waits q) = refl
+      taken_by : (l : Line) → (l ≡ free) ⊎ (l ≡ taken) → is_free l ≡ false → is_taken_line (Some l) ≡ true
+      taken_by l (inl e) h = absurd (cc (h, ap is_free e))
+      taken_by l (inr e) h = ap (λ x. is_taken_line (Some x)) e
 
-      not_waiting : (b : Bool) (q : Position) → is_free_line (line_past_separation false b (waits q)) ≡ false
-      not_waiting true q = refl
-      not_waiting false q = refl
+      on_its_line : (k : Key) → k.position.line ≤ a.base.site.position.line → t.held.position.line ≤ k.position.line → broken ≡ false
+      on_its_line k before here =
+          let line = ap (λ p. p.line) a.position_is in
+          arrivals.not_free a.base.site.before a.separation (arrivals.unbroken a.base.site.position a.separation t.rest some a.is_solid (omega (arith, before, here, line)))
 
-      by : (k : Option Key) (c : Bool) → IsLineHere false t.held.key_allowed t.rest k a.line → is_free_line (line_past_separation false broken (line_by c k a.base.line)) ≡ false
-      by None c h = ap is_free_line is_line ∙ (free_alike a.line ∙ (sym h.1 ∙ none))
-      by (Some k) true h = not_waiting broken k.position
-      by (Some k) false h = ap is_free_line is_line ∙ ap (λ l. is_free_line (Some l)) (h some).0
+      by : (k : Option Key) (c : Bool) → MayChoose c k t.held.position t.rest → IsLineHere false t.held.key_allowed t.rest k a.line → IsOpenOutside k a.base.site.position t.held.position t.rest a.base.site.blocks
+          → is_taken_line (line_past_separation false broken (line_by c k a.base.line)) ≡ true
+      by None c may h open_here = ap is_taken_line is_line ∙ taken_by a.line h.0 (sym h.1 ∙ none)
+      by (Some k) true may h open_here = ap (λ b. is_taken_line (line_past_separation false b (waits k.position))) (on_its_line k open_here.0.0 may.0)
+      by (Some k) false may h open_here = ap is_taken_line is_line ∙ ap (λ l. is_taken_line (Some l)) (h some).0
+
+  -- a colon that the scanner takes as a value's is an indicator
+  value_here : (more : List ℕ) → t.rest ≡ 58 ∷ more → is_value t ≡ true → (c : Bool) (cs : List Bool) → is_value_here (chosen c cs t.held.keys a.base) a.separation more ≡ true
+  value_here more e i c cs =
+      ap (λ b. is_value_indicator b (is_adjacent (before_past (before_by a.base.site.before) a.separation)) more) (in_flow_is text t a some c cs) ∙
+      (sym (value_is t (is_adjacent (before_past (before_by a.base.site.before) a.separation)) more e (λ inside. sym (a.is_adjacent_here inside some))) ∙ i)
 
   is_outside : in_flow t.held ≡ false → is_empty t.held.flow ≡ true
   is_outside e = by (is_empty t.held.flow) e
@@ -228,10 +227,10 @@ module _ (text : List ℕ) (t : ScannerState) (a : Arrives text t) (some : is_em
   unfolding check_block_entry
   entry_checked margin more e gap =
       checked (in_flow t.held) (At problem.BlockEntryInFlow t.held.position)
-      (λ i _. stuck text t a some carried [] problem.BlockEntryInFlow t.held.position (omega arith) (λ c may. may_not_stand (defs.dash_in_flow more e gap (in_flow_is text t a some carried c [] ∙ i)))) (λ o.
+      (λ i _. stuck text t a some [] problem.BlockEntryInFlow t.held.position (λ c may. may_not_stand (defs.dash_in_flow more e gap (in_flow_is text t a some c [] ∙ i)))) (λ o.
       checked (not t.held.key_allowed) (At problem.BlockEntryNotAllowed t.held.position)
-      (λ n _. stuck text t a some carried [] problem.BlockEntryNotAllowed t.held.position (omega arith) (λ c may.
-      may_not_stand (defs.dash_not_free more e gap (in_flow_is text t a some carried c [] ∙ o) (not_free c [] (is_outside o) (is_not t.held.key_allowed n))))) (λ allowed.
+      (λ n _. stuck text t a some [] problem.BlockEntryNotAllowed t.held.position (λ c may.
+      may_not_stand (defs.dash_not_free more e gap (in_flow_is text t a some c [] ∙ o) (line_taken c [] may (is_outside o) (is_not t.held.key_allowed n))))) (λ allowed.
       margin_told margin (is_outside o) (is_allowed t.held.key_allowed allowed) (last_property t.held.tokens) refl))
     where
       is_allowed : (b : Bool) → not b ≡ false → b ≡ true
@@ -263,7 +262,7 @@ module _ (text : List ℕ) (t : ScannerState) (a : Arrives text t) (some : is_em
           let first = and_parts (has 9 blanks) (slice_index rest 0 == 45) second.0 in
           let d = first_after rest 45 first.1 refl in
           let gap2 : is_at_gap d.0 ≡ true = sym (gap_here d.0) ∙ (ap (λ l. is_blank_or_breakz (slice_index l 1)) (sym d.1) ∙ second.1) in
-          followed_at problem.TabAfterDash _ (further 1 t.held.position) (blanks ++ comment) rest (omega arith) (ap (λ q. position_after q (blanks ++ comment) rest) place)
+          followed_at problem.TabAfterDash _ (further 1 t.held.position) (blanks ++ comment) rest (ap (λ q. position_after q (blanks ++ comment) rest) place)
           (none.tab_after_dash more (blanks ++ comment) rest outside e gap (record { is_text = cut ∙ sym (append_assoc blanks comment rest); is_filled = fills; is_on_line = line })
           (has_more blanks comment first.0) (ap begins_entry d.1 ∙ gap2))
 
@@ -312,8 +311,8 @@ module _ (text : List ℕ) (t : ScannerState) (a : Arrives text t) (some : is_em
   key_begun more e gap =
       either (in_flow t.held) (λ _. goes) (λ o.
       checked (not t.held.key_allowed) (At problem.KeyNotAllowed t.held.position)
-      (λ n _. stuck text t a some carried [] problem.KeyNotAllowed t.held.position (omega arith) (λ c may.
-      may_not_stand (defs.question_not_free more e gap (in_flow_is text t a some carried c [] ∙ o) (not_free c [] (is_outside o) (is_not t.held.key_allowed n))))) (λ _. goes))
+      (λ n _. stuck text t a some [] problem.KeyNotAllowed t.held.position (λ c may.
+      may_not_stand (defs.question_not_free more e gap (in_flow_is text t a some c [] ∙ o) (line_taken c [] may (is_outside o) (is_not t.held.key_allowed n))))) (λ _. goes))
 
   key_place : Holds (λ s. s.position ≡ t.held.position) (begin_key t.held)
   unfolding begin_key
@@ -327,7 +326,7 @@ module _ (text : List ℕ) (t : ScannerState) (a : Arrives text t) (some : is_em
       by x (separations.goes leading separation rest cut fills ends j) = subst (λ y. Faults (Told text) y) (sym j) goes
       by x (misses separation rest cut fills begins broken ends j) =
           subst (λ y. Faults (Told text) y) (sym j) (fault {f = At problem.WhitespaceExpected (position_after u.held.position separation rest)}
-          (followed_at problem.WhitespaceExpected (position_after u.held.position separation rest) (further 1 t.held.position) separation rest (omega arith) (ap (λ q. position_after q separation rest) place)
+          (followed_at problem.WhitespaceExpected (position_after u.held.position separation rest) (further 1 t.held.position) separation rest (ap (λ q. position_after q separation rest) place)
           (none.no_space more separation rest e gap (record { is_text = sym left ∙ cut; is_filled = fills; is_on_line = broken }) (ap (λ r. begins_with 32 r) (sym left) ∙ begins) ends)))
 
   space_checked : (more : List ℕ) → t.rest ≡ 63 ∷ more → is_at_gap more ≡ true → (u w : ScannerState) → u.rest ≡ more → u.held.position ≡ past t.held.position → skip_yaml_whitespace u ≡ Ok w → Faults (Told text) (check_key_space w)
@@ -345,7 +344,7 @@ module _ (text : List ℕ) (t : ScannerState) (a : Arrives text t) (some : is_em
       reason : (separation rest : List ℕ) → u.rest ≡ separation ++ rest → is_separation false separation rest ≡ true → (peek rest == 9) ≡ true → Told text (At problem.TabAfterKey (position_after u.held.position separation rest))
       reason separation rest cut fills tab =
           let first = tab_first rest tab in
-          followed_at problem.TabAfterKey (position_after u.held.position separation rest) (further 1 t.held.position) separation (9 ∷ after rest) (omega arith)
+          followed_at problem.TabAfterKey (position_after u.held.position separation rest) (further 1 t.held.position) separation (9 ∷ after rest)
           (ap (λ q. position_after q separation rest) place ∙ ap (λ r. position_after (further 1 t.held.position) separation r) first)
           (none.tab_after_question more separation (after rest) e gap (sym left ∙ (cut ∙ ap (λ r. separation ++ r) first)) (subst (λ r. is_separation false separation r ≡ true) first fills))
 
@@ -394,39 +393,39 @@ module _ (text : List ℕ) (t : ScannerState) (a : Arrives text t) (some : is_em
     had_is = ap (λ z. had_by true z y.had) e;
   }
 
-  misplaced : (more : List ℕ) → t.rest ≡ 58 ∷ more → (k : Key) → top_key t.held.keys ≡ Some k → opens_pair t.held.flow ≡ true → nat_lt k.position.line t.held.position.line ≡ true → Told text (At problem.ColonMisplaced t.held.position)
-  misplaced more e k top opens late = λ _.
+  misplaced : (more : List ℕ) → t.rest ≡ 58 ∷ more → is_value t ≡ true → (k : Key) → top_key t.held.keys ≡ Some k → opens_pair t.held.flow ≡ true → nat_lt k.position.line t.held.position.line ≡ true → Told text (At problem.ColonMisplaced t.held.position)
+  misplaced more e i k top opens late = λ _.
       let s : SingleKey k (entries_by (true ∷ []) t.held.keys a.base.entries) = single_key t.held.key_allowed _ t.held.flow t.held.keys a.base.entries k a.are_entries opens top in
-      stuck text t a some carried (true ∷ []) problem.ColonMisplaced t.held.position (omega arith) (λ c may. may_not_stand (defs.key_on_earlier_line more k.position s.first s.around e s.are s.takes s.had_is (grind (arith, nat_tests, late))))
+      stuck text t a some (true ∷ []) problem.ColonMisplaced t.held.position (λ c may. may_not_stand (defs.key_on_earlier_line more k.position s.first s.around e (value_here more e i c (true ∷ [])) s.are s.takes s.had_is (grind (arith, nat_tests, late))))
 
-  not_allowed : (more : List ℕ) → t.rest ≡ 58 ∷ more → top_key t.held.keys ≡ None → in_flow t.held ≡ false → t.held.key_allowed ≡ false → Told text (At problem.ValueNotAllowed t.held.position)
-  not_allowed more e top o allowed = λ _.
+  not_allowed : (more : List ℕ) → t.rest ≡ 58 ∷ more → is_value t ≡ true → top_key t.held.keys ≡ None → in_flow t.held ≡ false → t.held.key_allowed ≡ false → Told text (At problem.ValueNotAllowed t.held.position)
+  not_allowed more e i top o allowed = λ _.
       let out : is_empty t.held.flow ≡ true = is_outside o in
       let none_in : a.base.entries ≡ [] = no_entries t.held.key_allowed _ t.held.flow t.held.keys a.base.entries out a.are_entries in
       let key_is : outside_key a.base.entries t.held.keys ≡ None = ap (λ es. outside_key es t.held.keys) none_in ∙ top in
-      stuck text t a some carried [] problem.ValueNotAllowed t.held.position (omega arith) (λ c may.
-      may_not_stand (defs.colon_not_free more e (in_flow_is text t a some carried c [] ∙ o) (not_free c [] out allowed) (ap (λ z. is_waiting (line_by c z a.base.line)) key_is ∙ a.no_key)))
+      stuck text t a some [] problem.ValueNotAllowed t.held.position (λ c may.
+      may_not_stand (defs.colon_not_free more e (value_here more e i c []) (in_flow_is text t a some c [] ∙ o) (line_taken c [] may out allowed) (ap (λ z. is_waiting (line_by c z a.base.line)) key_is ∙ a.no_key)))
 
-  pair_told : (more : List ℕ) → t.rest ≡ 58 ∷ more → (k : Key) → top_key t.held.keys ≡ Some k → (pair : Bool) → opens_pair t.held.flow ≡ pair → (s : Held) → Faults (Told text) (begin_pair k t.held.position pair s)
+  pair_told : (more : List ℕ) → t.rest ≡ 58 ∷ more → is_value t ≡ true → (k : Key) → top_key t.held.keys ≡ Some k → (pair : Bool) → opens_pair t.held.flow ≡ pair → (s : Held) → Faults (Told text) (begin_pair k t.held.position pair s)
   unfolding begin_pair
-  pair_told more e k top true opens s = checked (nat_lt k.position.line t.held.position.line) (At problem.ColonMisplaced t.held.position) (λ late. misplaced more e k top opens late) (λ _. goes)
-  pair_told more e k top false opens s = goes
+  pair_told more e i k top true opens s = checked (nat_lt k.position.line t.held.position.line) (At problem.ColonMisplaced t.held.position) (λ late. misplaced more e i k top opens late) (λ _. goes)
+  pair_told more e i k top false opens s = goes
 
-  mapping_told : (more : List ℕ) → t.rest ≡ 58 ∷ more → top_key t.held.keys ≡ None → (s : Held) → in_flow s ≡ in_flow t.held → s.key_allowed ≡ t.held.key_allowed → Faults (Told text) (begin_keyless_mapping t.held.position s)
+  mapping_told : (more : List ℕ) → t.rest ≡ 58 ∷ more → is_value t ≡ true → top_key t.held.keys ≡ None → (s : Held) → in_flow s ≡ in_flow t.held → s.key_allowed ≡ t.held.key_allowed → Faults (Told text) (begin_keyless_mapping t.held.position s)
   unfolding begin_keyless_mapping
-  mapping_told more e top s flow allowed =
-      either (in_flow s) (λ _. goes) (λ o. checked (not s.key_allowed) (At problem.ValueNotAllowed t.held.position) (λ n. not_allowed more e top (sym flow ∙ o) (sym allowed ∙ is_not s.key_allowed n)) (λ _. goes))
+  mapping_told more e i top s flow allowed =
+      either (in_flow s) (λ _. goes) (λ o. checked (not s.key_allowed) (At problem.ValueNotAllowed t.held.position) (λ n. not_allowed more e i top (sym flow ∙ o) (sym allowed ∙ is_not s.key_allowed n)) (λ _. goes))
 
   keyless_alike : (pair : Bool) (s : Held) → (in_flow (begin_keyless_pair pair s) ≡ in_flow s) × ((begin_keyless_pair pair s).key_allowed ≡ s.key_allowed)
   keyless_alike true s = (refl, refl)
   keyless_alike false s = (refl, refl)
 
-  value_told : (more : List ℕ) → t.rest ≡ 58 ∷ more → (o : Option Key) → top_key t.held.keys ≡ o → (s : Held) → in_flow s ≡ in_flow t.held → s.key_allowed ≡ t.held.key_allowed → Faults (Told text) (value_of o t.held.position (opens_pair t.held.flow) s)
+  value_told : (more : List ℕ) → t.rest ≡ 58 ∷ more → is_value t ≡ true → (o : Option Key) → top_key t.held.keys ≡ o → (s : Held) → in_flow s ≡ in_flow t.held → s.key_allowed ≡ t.held.key_allowed → Faults (Told text) (value_of o t.held.position (opens_pair t.held.flow) s)
   unfolding insert_key begin_keyless_value
-  value_told more e None top s flow allowed =
+  value_told more e i None top s flow allowed =
       let k = keyless_alike (opens_pair t.held.flow) s in
-      in_turn (mapping_told more e top (begin_keyless_pair (opens_pair t.held.flow) s) (k.0 ∙ flow) (k.1 ∙ allowed)) (λ u i. goes)
-  value_told more e (Some k) top s flow allowed = in_turn (pair_told more e k top (opens_pair t.held.flow) refl _) (λ u i. goes)
+      in_turn (mapping_told more e i top (begin_keyless_pair (opens_pair t.held.flow) s) (k.0 ∙ flow) (k.1 ∙ allowed)) (λ u j. goes)
+  value_told more e i (Some k) top s flow allowed = in_turn (pair_told more e i k top (opens_pair t.held.flow) refl _) (λ u i. goes)
 
   paired_flow : (fs : List FlowLevel) → is_empty (paired fs) ≡ is_empty fs
   paired_flow [] = refl
@@ -453,7 +452,7 @@ module _ (text : List ℕ) (t : ScannerState) (a : Arrives text t) (some : is_em
 
       found : (is_one_of (leading is_blank more) 32) ≡ false → begins_with_alpha (past_blanks_and_comment more) ≡ true → Told text (At problem.TabAfterColon (past_line_rest h.position more))
       found lacks alpha =
-          followed_at problem.TabAfterColon _ (further 1 t.held.position) (blanks_and_comment more) (past_blanks_and_comment more) (omega arith)
+          followed_at problem.TabAfterColon _ (further 1 t.held.position) (blanks_and_comment more) (past_blanks_and_comment more)
           (same_in_line h.position (blanks_and_comment more) [] (past_blanks_and_comment more) (line_rest_in_line more) ∙ ap (λ q. position_after q (blanks_and_comment more) (past_blanks_and_comment more)) place)
           (none.tab_after_colon more (blanks_and_comment more) (past_blanks_and_comment more) e tab
           (record { is_text = line_rest_cut more; is_filled = line_rest_fills more; is_on_line = same_has_break (blanks_and_comment more) ∙ ap not (line_rest_in_line more) })
@@ -494,16 +493,16 @@ module _ (text : List ℕ) (t : ScannerState) (a : Arrives text t) (some : is_em
       holds.either (peek u.rest == 9) (λ _. holds.read u.held (space Yes u.rest u.held.position) check_after_tab (λ x k.
       holds.checked (not x.value.has_valid_yaml_ws && ((peek x.rest == 45) || is_alpha (peek x.rest))) (At problem.TabAfterColon x.position) (λ _. holds.went refl))) (λ _. holds.went refl)
 
-  pub colon_told : (more : List ℕ) → t.rest ≡ 58 ∷ more → Faults (Told text) (fetch_value t)
+  pub colon_told : (more : List ℕ) → t.rest ≡ 58 ∷ more → is_value t ≡ true → Faults (Told text) (fetch_value t)
   unfolding fetch_value
-  colon_told more e =
+  colon_told more e is =
       let first : ScannerState = skip_indicator (on_held (λ s. record s { flow = paired s.flow }) t) in
       in_turn (value_checked more e first (ap after e) refl) (λ u k.
       let h = held_of u (value_held first) k in
       in_turn (tried u (value_told_by more e u (ap (λ s. s.keys) h) (ap (λ s. not (is_empty s.flow)) h ∙ ap not (paired_flow t.held.flow)) (ap (λ s. s.key_allowed) h))) (λ v i. goes))
     where
       value_told_by : (more : List ℕ) → t.rest ≡ 58 ∷ more → (u : ScannerState) → u.held.keys ≡ t.held.keys → in_flow u.held ≡ in_flow t.held → u.held.key_allowed ≡ t.held.key_allowed → Faults (Told text) (value_of (top_key u.held.keys) t.held.position (opens_pair t.held.flow) u.held)
-      value_told_by more e u keys flow allowed = value_told more e (top_key u.held.keys) (sym (ap top_key keys)) u.held flow allowed
+      value_told_by more e u keys flow allowed = value_told more e is (top_key u.held.keys) (sym (ap top_key keys)) u.held flow allowed
 
   -- ---- brackets and commas
 
@@ -515,7 +514,7 @@ module _ (text : List ℕ) (t : ScannerState) (a : Arrives text t) (some : is_em
   unfolding pass_indicator
   indicator_passed c more e is u h =
       spaces_told text Yes (skip_indicator u) (λ k.
-      followed_at problem.CommentNotSeparated (past u.held.position) (further 1 t.held.position) [] (after u.rest) (omega arith) (ap past h.1)
+      followed_at problem.CommentNotSeparated (past u.held.position) (further 1 t.held.position) [] (after u.rest) (ap past h.1)
       (none.glued c more e is (ap (λ r. begins_with 35 (after r)) (sym e) ∙ (ap (λ r. begins_with 35 (after r)) (sym h.0) ∙ k))))
 
   begun_here : (kind : FlowLevel) → Holds (λ s. s.position ≡ t.held.position) (begin_flow kind t.held)
@@ -549,7 +548,7 @@ module _ (text : List ℕ) (t : ScannerState) (a : Arrives text t) (some : is_em
       subst (λ s. Faults (Told text) (deepened_flow (if nat_le 255 (length s.flow) then Err (At problem.FlowTooDeep s.position) else Ok (record s { keys = None ∷ s.keys; flow = kind ∷ s.flow }))))
       (sym (ap roll_one_col_indent (saved_is t.held) ∙ rolled_one_is (record t.held { keys = saved_keys t.held })))
       (deepened_told (checked (nat_le 255 (length t.held.flow)) (At problem.FlowTooDeep t.held.position) (λ full _.
-      stuck text t a some carried [] problem.FlowTooDeep t.held.position (omega arith) (λ c may.
+      stuck text t a some [] problem.FlowTooDeep t.held.position (λ c may.
       let many : length t.held.flow ≡ length a.base.entries = many_levels t.held.key_allowed _ t.held.flow t.held.keys a.base.entries a.are_entries in
       let own = many_entries [] t.held.keys a.base.entries in
       let room : 255 ≤ length t.held.flow = grind (arith, nat_tests, full) in

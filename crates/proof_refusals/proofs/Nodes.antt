@@ -26,7 +26,6 @@ use Rattle.proof_lexers.proofs.Quoted.ScanEnds.{scans_end}
 use Rattle.proof_cut.proofs.Nodes.{IsDeep}
 use Rattle.proof_cut.proofs.Saved.{saved_is}
 use Rattle.proof_cut.proofs.Pieces.Quoted.{some_chars}
-use Rattle.proof_row_sound.specs.Choices.{outside_key}
 use Rattle.proof_row_sound.specs.Arrives.{Arrives}
 use Rattle.proof_row_sound.proofs.QuotedKeeps.{QuotedAs, quoted_as}
 use Rattle.proof_refusals.specs.NoPiece as none
@@ -34,17 +33,17 @@ use Rattle.proof_refusals.specs.NoPiece.{NoPiece}
 use Rattle.proof_refusals.specs.Stuck.{IsStuck, no_piece}
 use Rattle.proof_refusals.proofs.Faults.{Faults, goes, read, in_turn}
 use Rattle.proof_refusals.proofs.QuotedLines.{is_of_lines}
-use Rattle.proof_refusals.proofs.Quotes.{after_told, lines_told}
+use Rattle.proof_refusals.proofs.Quotes.{none_quoted, after_told, lines_told}
 use Rattle.proof_refusals.proofs.TabsAfterQuoted.{tab_told}
-use Rattle.proof_refusals.proofs.Places.{IsCarried, Told, stuck, in_flow_is}
+use Rattle.proof_refusals.proofs.Places.{Told, stuck, in_flow_is}
 
-module _ (text : List ℕ) (t : ScannerState) (a : Arrives text t) (some : is_empty t.rest ≡ false) (carried : is_empty t.held.flow ≡ false → IsCarried text (outside_key a.base.entries t.held.keys)) where
+module _ (text : List ℕ) (t : ScannerState) (a : Arrives text t) (some : is_empty t.rest ≡ false) where
   -- where no piece begins the text is stuck
-  pub none_begins : (why : Problem) (at : Position) → t.held.position.line ≤ at.line → NoPiece (in_flow t.held) t.held.position t.rest why at → IsStuck text why at
-  none_begins why at later n = stuck text t a some carried [] why at later (λ c may. no_piece (subst (λ b. NoPiece b t.held.position t.rest why at) (sym (in_flow_is text t a some carried c [])) n))
+  pub none_begins : (why : Problem) (at : Position) → NoPiece (in_flow t.held) t.held.position t.rest why at → IsStuck text why at
+  none_begins why at n = stuck text t a some [] why at (λ c may. no_piece (subst (λ b. NoPiece b t.held.position t.rest why at) (sym (in_flow_is text t a some c [])) n))
 
   pub none_here : (why : Problem) → NoPiece (in_flow t.held) t.held.position t.rest why t.held.position → IsStuck text why t.held.position
-  none_here why n = none_begins why t.held.position (omega arith) n
+  none_here why n = none_begins why t.held.position n
 
   -- `*` or `&`
   pub name_told : (alias : Bool) (more : List ℕ) → t.rest ≡ (if alias then 42 else 38) ∷ more → Faults (Told text) (fetch_anchor alias t)
@@ -70,12 +69,21 @@ module _ (text : List ℕ) (t : ScannerState) (a : Arrives text t) (some : is_em
   low_indent : (p : Position) (i : ℕ) → nat_lt (p.col + 1) i ≡ true → 2 ≤ i
   low_indent p i h = grind (arith, nat_tests, h)
 
-  quoted_refused : (single : Bool) (more : List ℕ) → t.rest ≡ none.quote_of single ∷ more → (f : Fault) → IsQuotedRefusal single (context (node_start t.held)) t.held.position more f → (2 ≤ (node_start t.held).indent → is_of_lines f ≡ true → Told text f) → Told text f
-  quoted_refused single more e f (quoted_ends.by_marker body rest cut has marks) low = λ _. none_here problem.QuotedDocumentMarker (none.unquoted single more problem.QuotedDocumentMarker e (none.by_marker body rest cut has marks))
-  quoted_refused single more e f (quoted_ends.by_end has) low = λ _. none_here problem.QuotedEnd (none.unquoted single more problem.QuotedEnd e (none.by_end has))
-  quoted_refused single more e f (quoted_ends.by_escape body rest why double cut has bad) low = λ _. none_here why (none.unquoted single more why e (none.by_escape body rest why double cut has bad))
-  quoted_refused single more e f (quoted_ends.by_column p left) low = low (low_indent p (node_start t.held).indent left) refl
-  quoted_refused single more e f (quoted_ends.by_tab p left) low = low (low_indent p (node_start t.held).indent left) refl
+  none_there : (single : Bool) (more : List ℕ) → t.rest ≡ none.quote_of single ∷ more → (f : Fault) → quoted single (context (node_start t.held)) (none.quote_of single ∷ more) t.held.position ≡ Err f → is_of_lines f ≡ false → none.HasNoQuoted single t.rest
+  none_there single more e f fails other = subst (λ r. none.HasNoQuoted single r) (sym e) (none_quoted single (context (node_start t.held)) more t.held.position f fails other)
+
+  not_of_lines : (text : List ℕ) (why : Problem) → quoted_ends.IsBadEscape text why → is_of_lines (At why t.held.position) ≡ false
+  not_of_lines text why quoted_ends.ends = refl
+  not_of_lines text why (quoted_ends.unknown c r i j k) = refl
+  not_of_lines text why (quoted_ends.no_digit c digits r i j k) = refl
+  not_of_lines text why (quoted_ends.no_character c digits code r i j k l) = refl
+
+  quoted_refused : (single : Bool) (more : List ℕ) → t.rest ≡ none.quote_of single ∷ more → (f : Fault) → quoted single (context (node_start t.held)) (none.quote_of single ∷ more) t.held.position ≡ Err f → IsQuotedRefusal single (context (node_start t.held)) t.held.position more f → (2 ≤ (node_start t.held).indent → is_of_lines f ≡ true → Told text f) → Told text f
+  quoted_refused single more e f fails (quoted_ends.by_marker body rest cut has marks) low = λ _. none_here problem.QuotedDocumentMarker (none.unquoted single more problem.QuotedDocumentMarker e (none_there single more e f fails refl) (none.by_marker body rest cut has marks))
+  quoted_refused single more e f fails (quoted_ends.by_end has) low = λ _. none_here problem.QuotedEnd (none.unquoted single more problem.QuotedEnd e (none_there single more e f fails refl) (none.by_end has))
+  quoted_refused single more e f fails (quoted_ends.by_escape body rest why double cut has bad) low = λ _. none_here why (none.unquoted single more why e (none_there single more e f fails (not_of_lines rest why bad)) (none.by_escape body rest why double cut has bad))
+  quoted_refused single more e f fails (quoted_ends.by_column p left) low = low (low_indent p (node_start t.held).indent left) refl
+  quoted_refused single more e f fails (quoted_ends.by_tab p left) low = low (low_indent p (node_start t.held).indent left) refl
 
   pub quoted_told : IsDeep t.held → (single : Bool) (more : List ℕ) → t.rest ≡ none.quote_of single ∷ more → Faults (Told text) (fetch_flow_scalar single t)
   unfolding fetch_flow_scalar
@@ -84,7 +92,7 @@ module _ (text : List ℕ) (t : ScannerState) (a : Arrives text t) (some : is_em
       (λ f k.
       let fails : quoted single (context (node_start t.held)) (none.quote_of single ∷ more) t.held.position ≡ Err f = ap (λ r. quoted single (context (node_start t.held)) r t.held.position) (sym e) ∙ k in
       by f (quoted single (context (node_start t.held)) (none.quote_of single ∷ more) t.held.position) fails fails (scans_end single (context (node_start t.held)) more t.held.position (some_chars more clean)))
-      (λ x k. in_turn (after_told text t a some carried single (context (node_start t.held)) x (read_as x k)) (λ v i. in_turn (tab_told text t a some carried single (context (node_start t.held)) x (read_as x k) v i) (λ w j. goes)))
+      (λ x k. in_turn (after_told text t a some single (context (node_start t.held)) x (read_as x k)) (λ v i. in_turn (tab_told text t a some single (context (node_start t.held)) x (read_as x k) v i) (λ w j. goes)))
     where
       clean : has_no_nul more ≡ true
       clean = (and_parts (not (is_nul (none.quote_of single))) (has_no_nul more) (subst (λ r. has_no_nul r ≡ true) e a.is_clean)).1
@@ -99,5 +107,5 @@ module _ (text : List ℕ) (t : ScannerState) (a : Arrives text t) (some : is_em
       by f x i fails (quoted_ends.refuses g why j) =
           let same : g ≡ f = cc (i, j) in
           subst (λ h. Told text h) same
-          (quoted_refused single more e g why (λ two told.
-          lines_told text t a some carried deep single (context (node_start t.held)) more (ap (λ h. h.indent) (saved_is t.held)) two e clean g (fails ∙ ap (λ h. Err h) (sym same)) told))
+          (quoted_refused single more e g (fails ∙ ap (λ h. Err h) (sym same)) why (λ two told.
+          lines_told text t a some deep single (context (node_start t.held)) more (ap (λ h. h.indent) (saved_is t.held)) two e clean g (fails ∙ ap (λ h. Err h) (sym same)) told))

@@ -96,10 +96,14 @@ octets_other wrong_trail p = refl
 octets_other no_character p = refl
 
 tag_other : (in_flow : Bool) (text : List ℕ) (why : Problem) (p : Position) → IsTagRefusal in_flow text why → Other (At why p)
-tag_other in_flow text why p (tag_ends.by_octets before uri rest f cut e) = octets_other f p
-tag_other in_flow text why p (tag_ends.unclosed uri rest cut are lacks) = refl
+tag_other in_flow text why p (tag_ends.verbatim_octets rest f cut e) = octets_other f p
+tag_other in_flow text why p (tag_ends.unclosed rest uri cut is lacks) = refl
+tag_other in_flow text why p (tag_ends.verbatim_goes_on rest uri more cut is ends follows) = refl
+tag_other in_flow text why p (tag_ends.suffix_octets name rest f cut are e) = octets_other f p
 tag_other in_flow text why p (tag_ends.no_suffix name rest cut are lacks) = refl
-tag_other in_flow text why p (tag_ends.goes_on piece rest handle suffix cut is follows) = refl
+tag_other in_flow text why p (tag_ends.suffix_goes_on name rest suffix cut are has is follows) = refl
+tag_other in_flow text why p (tag_ends.local_octets f plainly none e) = octets_other f p
+tag_other in_flow text why p (tag_ends.local_goes_on suffix plainly none is follows) = refl
 
 escape_other : (text : List ℕ) (why : Problem) (p : Position) → IsBadEscape text why → Other (At why p)
 escape_other text why p quoted_ends.ends = refl
@@ -124,7 +128,7 @@ header_other p style line after g (headers.reads h is free j) = absurd (cc j)
 header_other p style line after g (headers.tabbed h is begins j) = let same : At problem.BlockScalarTab p ≡ g = cc j in subst (λ f. Other f) same refl
 header_other p style line after g (headers.zero_digit lacks zero j) = let same : At problem.BlockScalarZero p ≡ g = cc j in subst (λ f. Other f) same refl
 header_other p style line after g (headers.comment h before more lacks is cut j) = let same : At problem.CommentNotSeparated (headers.along before (past p)) ≡ g = cc j in subst (λ f. Other f) same refl
-header_other p style line after g (headers.no_header lacks j) = let same : At problem.BlockScalarHeader p ≡ g = cc j in subst (λ f. Other f) same refl
+header_other p style line after g (headers.no_header lacks zero more begins j) = let same : At problem.BlockScalarHeader p ≡ g = cc j in subst (λ f. Other f) same refl
 
 version_other : (text : List ℕ) (why : Problem) (p : Position) → IsNoVersion text why → Other (At why p)
 version_other text why p (directives.no_major e) = refl
@@ -145,8 +149,9 @@ directive_other p line f (directives.no_name e) = refl
 directive_other p line f (directives.by_name e) = refl
 directive_other p line f (directives.by_version why e r) = version_other _ why _ r
 directive_other p line f (directives.by_declaration why e r) = declaration_other _ why _ r
-directive_other p line f (directives.by_comment before rest e) = refl
-directive_other p line f (directives.by_text before rest e g) = refl
+directive_other p line f (directives.by_comment before rest e g) = refl
+directive_other p line f (directives.after_version rest e g h) = refl
+directive_other p line f (directives.after_declaration rest e g) = refl
 
 -- ---- what is passed
 

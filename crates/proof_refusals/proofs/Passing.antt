@@ -26,9 +26,10 @@ use Rattle.proof_row_sound.proofs.Stales.{no_entries}
 use Rattle.proof_row_sound.proofs.ToToken.{is_in}
 use Rattle.proof_refusals.specs.Stuck as defs
 use Rattle.proof_refusals.specs.Stuck.{IsStuck, fails, key_waits, may_not_stand}
-use Rattle.proof_refusals.proofs.Carried.{outside_of, Carries}
+use Rattle.defs_row.specs.Beginning.{BeginsButForKey}
+use Rattle.proof_row_sound.proofs.StreamEnds.{same_flow}
 use Rattle.proof_refusals.proofs.Faults.{Faults, fault, goes}
-use Rattle.proof_refusals.proofs.Places.{Waits, IsCarried, Told, Where, placed, behind, where_is}
+use Rattle.proof_refusals.proofs.Places.{entries_alike, Told, Where, placed, behind, where_is}
 use Rattle.proof_refusals.proofs.Tabs.{TabStands, skip_refused}
 
 -- ---- keys that are near
@@ -81,19 +82,7 @@ far_behind k p h late = by (nat_lt k.line p.line) refl h
     by true e h = cc h
     by false e h = grind (arith, nat_tests, e, late)
 
-module _ (text : List ℕ) (t : ScannerState) (s : Stands text t) (near : HasNear t.held) (carries : Carries text t) where
-  -- where the key outside flow must be one, and began on an earlier line, it waits
-  pub waits_behind : is_empty t.rest ≡ false → (x : Key) → outside_key s.base.entries t.held.keys ≡ Some x → x.required ≡ true → x.position.line < t.held.position.line → Waits text x
-  waits_behind some x e must late = by (is_empty t.held.flow) refl
-    where
-      by : (out : Bool) → is_empty t.held.flow ≡ out → Waits text x
-      by true out =
-          let none : s.base.entries ≡ [] = no_entries t.held.key_allowed (is_renewed s.base.site.before s.separation) t.held.flow t.held.keys s.base.entries out s.are_entries in
-          absurd (far_behind x.position t.held.position (near out x (ap (λ es. outside_key es t.held.keys) (sym none) ∙ e)) late)
-      by false i =
-          let last = outside_of t.held.key_allowed _ t.held.flow t.held.keys s.base.entries s.are_entries s.one_each in
-          (subst (λ o. IsCarried text o) (sym last ∙ e) (carries s.going i some)) must
-
+module _ (text : List ℕ) (t : ScannerState) (s : Stands text t) (near : HasNear t.held) where
   -- a TAB indents the line of what comes next
   tab_stuck : {f : Fault} → TabStands s.base.site.blocks s.base.site.awaits s.base.site.before s.separation t.rest t.held.position f → Told text f
   tab_stuck d = subst (λ g. Told text g) (sym d.is_fault) (λ _. by (where_is (outside_key s.base.entries t.held.keys) t.held.position t.rest d.is_some))
@@ -101,19 +90,33 @@ module _ (text : List ℕ) (t : ScannerState) (s : Stands text t) (near : HasNea
       here : Position
       here = position_after t.held.position d.passed d.rest
 
+      filled : is_separation false (s.separation ++ d.passed) d.rest ≡ true
+      filled = separation_append false s.separation d.passed d.rest (subst (λ r. is_separation false s.separation r ≡ true) d.cut s.is_filled) d.is_filled
+
+      here_is : here ≡ position_after s.base.site.position (s.separation ++ d.passed) d.rest
+      here_is = ap (λ p. position_after p d.passed d.rest) (s.position_is ∙ ap (position_after s.base.site.position s.separation) d.cut) ∙ sym (position_append s.base.site.position s.separation d.passed d.rest)
+
       place : (c : Bool) → MayChoose c (outside_key s.base.entries t.held.keys) t.held.position t.rest → IsPlace text (chosen c [] t.held.keys s.base) (s.separation ++ d.passed) d.rest here
       place c may = record {
         begins = subst (λ r. Begins text r (chosen c [] t.held.keys s.base)) (ap (λ r. s.separation ++ r) d.cut ∙ sym (append_assoc s.separation d.passed d.rest)) (s.completes c [] may).0;
-        is_filled = separation_append false s.separation d.passed d.rest (subst (λ r. is_separation false s.separation r ≡ true) d.cut s.is_filled) d.is_filled;
-        is_here = ap (λ p. position_after p d.passed d.rest) (s.position_is ∙ ap (position_after s.base.site.position s.separation) d.cut) ∙ sym (position_append s.base.site.position s.separation d.passed d.rest);
+        is_filled = filled;
+        is_here = here_is;
       }
 
       by : Where (outside_key s.base.entries t.held.keys) t.held.position t.rest → IsStuck text problem.TabInBlockIndentation here
-      by (placed c may) = fails (chosen c [] t.held.keys s.base) (s.separation ++ d.passed) d.rest here (place c may) d.is_solid (may_not_stand (defs.tab_indents d.is_indented_by_tab))
-      by (behind x e must late) =
-          let w : Waits text x = waits_behind d.is_some x e must late in
-          let later = (not_before_after t.held.position d.passed d.rest).0 in
-          key_waits w.account w.after x.position w.begins w.is_inside w.line_is w.must_be (omega (arith, later, late))
+      by (placed c may) = fails (chosen c [] t.held.keys s.base) (s.separation ++ d.passed) d.rest here (place c may) d.goes_on d.is_solid (may_not_stand (defs.tab_indents d.is_indented_by_tab))
+      by (behind x e must late) = on (is_empty t.held.flow) refl
+        where
+          on : (out : Bool) → is_empty t.held.flow ≡ out → IsStuck text problem.TabInBlockIndentation here
+          on true out =
+              let none : s.base.entries ≡ [] = no_entries t.held.key_allowed (is_renewed s.base.site.before s.separation) t.held.flow t.held.keys s.base.entries out s.are_entries in
+              absurd (far_behind x.position t.held.position (near out x (ap (λ es. outside_key es t.held.keys) (sym none) ∙ e)) late)
+          on false i =
+              let later = (not_before_after t.held.position d.passed d.rest).0 in
+              let inside : is_empty s.base.entries ≡ false = sym (same_flow t.held.key_allowed (is_renewed s.base.site.before s.separation) t.held.flow t.held.keys s.base.entries s.are_entries) ∙ i in
+              key_waits (chosen false [] t.held.keys s.base) (s.separation ++ d.passed) d.rest x.position here
+              (subst (λ r. BeginsButForKey text r x.position (chosen false [] t.held.keys s.base)) (ap (λ r. s.separation ++ r) d.cut ∙ sym (append_assoc s.separation d.passed d.rest)) (s.carries [] x e must inside d.is_some))
+              (ap not (entries_alike [] t.held.keys s.base.entries ∙ inside)) filled here_is (omega (arith, later, late)) d.goes_on d.is_solid (may_not_stand (defs.tab_indents d.is_indented_by_tab))
 
   pub passing_told : Faults (Told text) (skip_to_next_token t)
   passing_told =

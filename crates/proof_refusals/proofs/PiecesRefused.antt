@@ -15,7 +15,7 @@ use Rattle.defs_scalar.specs.Tags.{leading, after}
 use Rattle.defs_token.specs.Separation.{is_separation, is_blanks}
 use Rattle.defs_token.specs.Token.{Tok, document_end, block_entry, value, scalar, single_quoted, double_quoted}
 use Rattle.defs_token.specs.Token as tokens
-use Rattle.defs_row.specs.Step.{Step, act_of, is_marker, spelled, is_on_line, gives_node, gives_block_scalar, gives_marker}
+use Rattle.defs_row.specs.Step.{Step, act_of, is_marker, spelled, gives_node, gives_block_scalar, gives_marker}
 use Rattle.defs_row.specs.Column.{innermost, blocks_at}
 use Rattle.defs_row.specs.FlowEntry.{Entry}
 use Rattle.defs_row.specs.Indentation.{least_column, begins_entry, dash_may_precede, begins_with_alpha, colon_may_precede}
@@ -34,7 +34,7 @@ use Rattle.proof_refusals.specs.NoPiece.{GoesOn, IsQuoted}
 use Rattle.proof_refusals.specs.Stuck.{site_at_place, begins_document_at}
 use Rattle.proof_refusals.proofs.OtherRows.{StepAt}
 
-refused : (x : Option Account) (b : Bool) (ws : List Step) (last : List ℕ) → b ≡ false → IsRowFrom (if b then x else None) ws last → ⊥
+pub refused : (x : Option Account) (b : Bool) (ws : List Step) (last : List ℕ) → b ≡ false → IsRowFrom (if b then x else None) ws last → ⊥
 refused x true ws last e k = absurd (cc e)
 refused x false ws last e k = k
 
@@ -42,7 +42,7 @@ or_first : (x y : Bool) → x ≡ true → (x || y) ≡ true
 or_first true y e = refl
 or_first false y e = absurd (cc e)
 
-and_last : (x y : Bool) → y ≡ false → (x && y) ≡ false
+pub and_last : (x y : Bool) → y ≡ false → (x && y) ≡ false
 and_last true y e = e
 and_last false y e = refl
 
@@ -84,7 +84,7 @@ module _ (a : Account) (separation rest : List ℕ) (here : Position) (s : StepA
   next = spelled s.steps s.last
 
   -- a step of a piece
-  abbrev own : (piece : List ℕ) → Tok → Step
+  abbrev pub own : (piece : List ℕ) → Tok → Step
   own piece t = record { separation = separation; piece = piece; shown = t; key = false }
 
   is_filled : is_separation false separation rest ≡ true
@@ -98,11 +98,17 @@ module _ (a : Account) (separation rest : List ℕ) (here : Position) (s : StepA
       (ap (λ p. may_go s.account s.step.separation p t more) is.0 ∙
       (ap (λ t. may_go s.account s.step.separation s.step.piece t more) is.1 ∙ ap (λ n. may_go s.account s.step.separation s.step.piece s.step.shown n) is.2))))
 
+  -- the row's piece is the one of this token that begins here
+  pub same_step : (piece more : List ℕ) (t : Tok) → rest ≡ piece ++ more → not (is_empty piece) ≡ true → IsPiece (seen a (At a (own piece t) more) separation) piece more None (shown_position (At a (own piece t) more) piece t more) t
+      → (piece ≡ s.step.piece) × (t ≡ s.step.shown) × (more ≡ next)
+  same_step piece more t e some is =
+      let written : IsWritten a (own piece t) more = (ap (λ r. is_separation false separation r) (sym e) ∙ is_filled, (some, is)) in
+      same_piece a s.account (own piece t) s.step more next s.is_like written s.is_row.0 (sym s.separation_is) (sym e ∙ sym s.text_is) (ap has_no_nul (sym e) ∙ s.is_clean)
+
   -- The piece that begins here, of this token, may not stand before what follows it.
   pub no_step : (piece more : List ℕ) (t : Tok) → rest ≡ piece ++ more → not (is_empty piece) ≡ true → IsPiece (seen a (At a (own piece t) more) separation) piece more None (shown_position (At a (own piece t) more) piece t more) t → may_go a separation piece t more ≡ false → ⊥
   no_step piece more t e some is no_more =
-      let written : IsWritten a (own piece t) more = (ap (λ r. is_separation false separation r) (sym e) ∙ is_filled, (some, is)) in
-      let same = same_piece a s.account (own piece t) s.step more next s.is_like written s.is_row.0 (sym s.separation_is) (sym e ∙ sym s.text_is) (ap has_no_nul (sym e) ∙ s.is_clean) in
+      let same = same_step piece more t e some is in
       let stays : may_go s.account s.step.separation s.step.piece s.step.shown next ≡ false = sym (same_go piece more t same) ∙ no_more in
       refused _ (may_stand (is_in_flow s.account.entries) s.account.site (At s.account s.step next) s.step.separation s.step.piece s.step.shown next) s.steps s.last (and_last _ _ stays) s.is_row.1
 
@@ -236,7 +242,7 @@ module _ (a : Account) (separation rest : List ℕ) (here : Position) (s : StepA
 
   -- ---- quoted scalars
 
-  not_nothing : (c : ℕ) (x y : List ℕ) → x ≡ c ∷ y → not (is_empty x) ≡ true
+  pub not_nothing : (c : ℕ) (x y : List ℕ) → x ≡ c ∷ y → not (is_empty x) ≡ true
   not_nothing c x y e = ap (λ z. not (is_empty z)) e
 
   pub no_quoted_end : (single : Bool) (piece more : List ℕ) → rest ≡ piece ++ more → IsQuoted single piece more → quoted_may_end (is_in_flow a.entries) piece more ≡ false → ⊥
@@ -245,7 +251,7 @@ module _ (a : Account) (separation rest : List ℕ) (here : Position) (s : StepA
 
   -- ---- block scalars
 
-  innermost_seen : (bs : List ℕ) → innermost_column (map (λ n. Some n) bs) ≡ innermost bs
+  pub innermost_seen : (bs : List ℕ) → innermost_column (map (λ n. Some n) bs) ≡ innermost bs
   innermost_seen [] = refl
   innermost_seen (n ∷ bs) = refl
 

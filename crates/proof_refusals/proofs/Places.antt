@@ -1,14 +1,12 @@
 -- Where a piece begins, a row of the text may begin with all pieces before it; or a node which must be an implicit key waits there, and its line has ended.
-use Rattle.std.proofs.Common.{◌≡◌, ℕ, suc, ◌<◌, ◌≤◌, List, [], ◌∷◌, Bool, true, false, not, length, if◌then◌else◌, Option, Some, None, Ok, Err, refl, ap, sym, ◌∙◌, subst, arith}
+use Rattle.std.proofs.Common.{◌≡◌, ℕ, suc, ◌<◌, List, [], ◌∷◌, Bool, true, false, not, length, if◌then◌else◌, Option, Some, None, Ok, Err, refl, ap, sym, ◌∙◌, subst, arith}
 use Rattle.std.specs.Prelude.{nat_lt}
 use Rattle.std.proofs.lemmas.Bool.Decides.{nat_tests}
 use Rattle.defs_text.specs.Position.{Position}
 use Rattle.defs_text.specs.Text.{is_empty}
-use Rattle.defs_row.specs.Key.{waits}
-use Rattle.defs_row.specs.Column.{is_in_column}
 use Rattle.defs_row.specs.FlowEntry.{Entry}
 use Rattle.defs_row.specs.Account.{Account, is_in_flow}
-use Rattle.defs_row.specs.Beginning.{Begins, IsPlace}
+use Rattle.defs_row.specs.Beginning.{IsPlace}
 use Rattle.yaml_tokens.specs.declared.problem.Problem.{Problem}
 use Rattle.yaml_tokens.specs.declared.problem.Fault.{Fault}
 use Rattle.yaml_tokens.specs.declared.problem.Fault.TheVariants.{OutOfMemory, At}
@@ -22,20 +20,6 @@ use Rattle.proof_refusals.proofs.Faults.{Faults, fault, goes}
 use Rattle.proof_refusals.specs.NoPiece.{IsFollowed}
 use Rattle.proof_refusals.specs.Stuck.{Fails, IsStuck, fails, followed, key_waits}
 use Rattle.proof_refusals.specs.Told.{is_told}
-
--- A row of the text may begin so that a key waits which must be one.
-pub record Waits (text : List ℕ) (k : Key) : Type 0 where
-  pub account : Account
-  pub after : List ℕ
-  pub begins : Begins text after account
-  pub is_inside : is_in_flow account.entries ≡ true
-  pub line_is : account.line ≡ waits k.position
-  pub must_be : is_in_column k.position.col account.site.blocks ≡ true
-
--- the open key outside flow waits so, if it must be one
-abbrev pub IsCarried : (text : List ℕ) → Option Key → Type 0
-IsCarried text None = Unit {0}
-IsCarried text (Some k) = k.required ≡ true → Waits text k
 
 -- A place where the choice of keys is allowed, or a key that must be one and began on an earlier line.
 pub data Where (k : Option Key) (p : Position) (rest : List ℕ) : Type 0 where
@@ -80,7 +64,7 @@ pub entries_alike : (cs : List Bool) (ks : List (Option Key)) (es : List Entry) 
 entries_alike cs ks [] = refl
 entries_alike cs ks (e ∷ es) = refl
 
-module _ (text : List ℕ) (t : ScannerState) (a : Arrives text t) (some : is_empty t.rest ≡ false) (carried : is_empty t.held.flow ≡ false → IsCarried text (outside_key a.base.entries t.held.keys)) where
+module _ (text : List ℕ) (t : ScannerState) (a : Arrives text t) (some : is_empty t.rest ≡ false) where
   -- the account after the last piece by a choice of keys
   abbrev pub account_by : (c : Bool) (cs : List Bool) → Account
   account_by c cs = chosen c cs t.held.keys a.base
@@ -92,21 +76,24 @@ module _ (text : List ℕ) (t : ScannerState) (a : Arrives text t) (some : is_em
   place : (c : Bool) (cs : List Bool) → MayChoose c (outside_key a.base.entries t.held.keys) t.held.position t.rest → IsPlace text (account_by c cs) a.separation t.rest t.held.position
   place c cs may = record { begins = (a.completes c cs may).0; is_filled = a.is_filled; is_here = a.position_is }
 
+  -- Outside flow a choice of keys is one that is allowed.
+  abbrev pub IsAllowed : Bool → Type 0
+  IsAllowed c = is_empty t.held.flow ≡ true → MayChoose c (outside_key a.base.entries t.held.keys) t.held.position t.rest
+
   -- What fails here, whatever is chosen, is what the text is stuck by.
-  pub stuck : (cs : List Bool) (why : Problem) (at : Position) → t.held.position.line ≤ at.line →
-      ((c : Bool) → MayChoose c (outside_key a.base.entries t.held.keys) t.held.position t.rest → Fails (account_by c cs) a.separation t.held.position t.rest why at) → IsStuck text why at
-  stuck cs why at later h = by (where_is (outside_key a.base.entries t.held.keys) t.held.position t.rest some)
+  pub stuck : (cs : List Bool) (why : Problem) (at : Position) → ((c : Bool) → IsAllowed c → Fails (account_by c cs) a.separation t.held.position t.rest why at) → IsStuck text why at
+  stuck cs why at h = by (where_is (outside_key a.base.entries t.held.keys) t.held.position t.rest some)
     where
       by : Where (outside_key a.base.entries t.held.keys) t.held.position t.rest → IsStuck text why at
-      by (placed c may) = fails (account_by c cs) a.separation t.rest t.held.position (place c cs may) a.is_solid (h c may)
+      by (placed c may) = fails (account_by c cs) a.separation t.rest t.held.position (place c cs may) some a.is_solid (h c (λ _. may))
       by (behind x e must late) = on (is_empty t.held.flow) refl
         where
           on : (out : Bool) → is_empty t.held.flow ≡ out → IsStuck text why at
           on true o = let near : IsNear (Some x) t.held.position = subst (λ k. IsNear k t.held.position) e (a.is_near o) in absurd (omega (arith, near.0, late))
           on false i =
-              let w : Waits text x = (subst (λ k. IsCarried text k) e (carried i)) must in
-              key_waits w.account w.after x.position w.begins w.is_inside w.line_is w.must_be (omega (arith, later, late))
+              let entries : is_empty a.base.entries ≡ false = sym (same_flow t.held.key_allowed _ t.held.flow t.held.keys a.base.entries a.are_entries) ∙ i in
+              key_waits (account_by false cs) a.separation t.rest x.position t.held.position (a.carries cs x e must entries some) (in_flow_is false cs ∙ ap not i) a.is_filled a.position_is late some a.is_solid (h false (λ o. absurd (cc (o, i))))
 
   -- what follows the piece that begins here is what the text is stuck by
-  pub followed_stuck : (why : Problem) (at : Position) → t.held.position.line ≤ at.line → IsFollowed (in_flow t.held) t.held.position t.rest why at → IsStuck text why at
-  followed_stuck why at later x = stuck [] why at later (λ c may. followed (subst (λ b. IsFollowed b t.held.position t.rest why at) (sym (in_flow_is c [])) x))
+  pub followed_stuck : (why : Problem) (at : Position) → IsFollowed (in_flow t.held) t.held.position t.rest why at → IsStuck text why at
+  followed_stuck why at x = stuck [] why at (λ c may. followed (subst (λ b. IsFollowed b t.held.position t.rest why at) (sym (in_flow_is c [])) x))

@@ -1,5 +1,5 @@
 -- Faults of plain scalars.
-use Rattle.std.proofs.Common.{◌≡◌, ℕ, ◌≤◌, List, [], ◌∷◌, ◌++◌, Bool, true, false, ◌||◌, ◌==◌, not, nat_le, nat_lt, Option, Result, Ok, Err, refl, ap, sym, ◌∙◌, subst, arith}
+use Rattle.std.proofs.Common.{◌≡◌, ℕ, List, [], ◌∷◌, ◌++◌, Bool, true, false, ◌||◌, ◌==◌, not, nat_le, nat_lt, Option, Result, Ok, Err, refl, ap, sym, ◌∙◌, subst, arith}
 use Rattle.std.proofs.lemmas.Bool.Decides.{nat_tests}
 use Rattle.defs_text.specs.Position.{Position, position_after}
 use Rattle.defs_text.specs.Text.{is_empty}
@@ -26,9 +26,7 @@ use Rattle.proof_lexers.specs.Separations.{begins_separation}
 use Rattle.proof_lexers.proofs.Plain.Scalars.{scans_end}
 use Rattle.proof_cut.specs.PiecesRead.{comes_plain}
 use Rattle.proof_cut.proofs.Nodes.{IsDeep, less_or}
-use Rattle.proof_cut.proofs.Positions.{not_before_after}
 use Rattle.proof_cut.proofs.Saved.{saved_keys, saved_is}
-use Rattle.proof_row_sound.specs.Choices.{outside_key}
 use Rattle.proof_row_sound.specs.Arrives.{Arrives}
 use Rattle.proof_row_sound.specs.Stands.{columns}
 use Rattle.proof_row_sound.proofs.WithoutOpen.{AreClosed, without_is}
@@ -36,7 +34,7 @@ use Rattle.proof_refusals.specs.NoPiece as none
 use Rattle.proof_refusals.specs.NoPiece.{IsPlainFault, goes_over}
 use Rattle.proof_refusals.specs.Stuck.{IsStuck, no_plain, site_at_place}
 use Rattle.proof_refusals.proofs.Faults.{Faults, goes, read}
-use Rattle.proof_refusals.proofs.Places.{IsCarried, Told, account_by, stuck, in_flow_is}
+use Rattle.proof_refusals.proofs.Places.{Told, account_by, stuck, in_flow_is}
 
 -- ---- texts
 
@@ -54,7 +52,7 @@ solid_text (c ∷ r) some h = by (plains.is_white c) h
 
 -- ---- the scan
 
-module _ (text : List ℕ) (t : ScannerState) (a : Arrives text t) (some : is_empty t.rest ≡ false) (carried : is_empty t.held.flow ≡ false → IsCarried text (outside_key a.base.entries t.held.keys)) (deep : IsDeep t.held)
+module _ (text : List ℕ) (t : ScannerState) (a : Arrives text t) (some : is_empty t.rest ≡ false) (deep : IsDeep t.held)
     (comes : comes_plain (in_flow t.held) (is_adjacent (before_past (before_by a.base.site.before) a.separation)) t.held.position.col t.rest ≡ true) where
   abbrev blocks : List ℕ
   blocks = columns t.held.indent t.held.indents
@@ -73,24 +71,24 @@ module _ (text : List ℕ) (t : ScannerState) (a : Arrives text t) (some : is_em
   collection_is = closed.is_least.0 ∙ ap innermost (sym closed.same_columns)
 
   -- the plain scalar that begins here is none
-  plain_stuck : (why : Problem) (at : Position) → t.held.position.line ≤ at.line → IsPlainFault (in_flow t.held) blocks t.held.position t.rest why at → IsStuck text why at
-  plain_stuck why at later x =
-      stuck text t a some carried [] why at later (λ c may.
-      let flow_is = in_flow_is text t a some carried c [] in
-      let blocks_are : (site_at_place (account_by text t a some carried c []) t.held.position).blocks ≡ blocks = ap (λ b. (site_in b gives_node t.held.position a.base.site).blocks) flow_is ∙ a.blocks_are in
+  plain_stuck : (why : Problem) (at : Position) → IsPlainFault (in_flow t.held) blocks t.held.position t.rest why at → IsStuck text why at
+  plain_stuck why at x =
+      stuck text t a some [] why at (λ c may.
+      let flow_is = in_flow_is text t a some c [] in
+      let blocks_are : (site_at_place (account_by text t a some c []) t.held.position).blocks ≡ blocks = ap (λ b. (site_in b gives_node t.held.position a.base.site).blocks) flow_is ∙ a.blocks_are in
       no_plain (subst (λ b. comes_plain b (is_adjacent (before_past (before_by a.base.site.before) a.separation)) t.held.position.col t.rest ≡ true) (sym flow_is) comes)
-      (subst (λ bs. IsPlainFault (is_in_flow (account_by text t a some carried c []).entries) bs t.held.position t.rest why at) (sym blocks_are)
+      (subst (λ bs. IsPlainFault (is_in_flow (account_by text t a some c []).entries) bs t.held.position t.rest why at) (sym blocks_are)
       (subst (λ b. IsPlainFault b blocks t.held.position t.rest why at) (sym flow_is) x)))
 
   refused : (f : Fault) → IsPlainRefusal ctx t.held.position t.rest f → Told text f
   refused f (plains.by_column flow left) =
       let shallow : nat_le (least_column blocks true) t.held.position.col ≡ false = grind (arith, nat_tests, least_is, left) in
-      λ _. plain_stuck problem.FlowIndentation t.held.position (omega arith) (none.by_column flow shallow)
+      λ _. plain_stuck problem.FlowIndentation t.held.position (none.by_column flow shallow)
   refused f (plains.by_dash before rest flow cut begins over apart) =
-      λ _. plain_stuck problem.PlainDashInFlow (position_after t.held.position before (45 ∷ rest)) (not_before_after t.held.position before (45 ∷ rest)).0
+      λ _. plain_stuck problem.PlainDashInFlow (position_after t.held.position before (45 ∷ rest))
       (none.by_dash before rest flow cut begins (over_alike ctx (innermost blocks) before (45 ∷ rest) collection_is over) apart)
   refused f (plains.by_tab before blanks rest column cut over stands left are solid) =
-      λ _. plain_stuck problem.PlainTab t.held.position (omega arith)
+      λ _. plain_stuck problem.PlainTab t.held.position
       (none.by_tab before blanks rest column cut (over_alike ctx (innermost blocks) before (9 ∷ (blanks ++ rest)) collection_is over) stands (subst (λ n. nat_lt column n ≡ true) (sym least_is) left) are solid)
 
   pub plain_told : Faults (Told text) (fetch_plain_scalar t)

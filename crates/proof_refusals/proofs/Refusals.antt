@@ -1,8 +1,8 @@
 -- Where the scanner's model refuses a text with a fault of a kind that is told, the text is stuck.
-use Rattle.std.proofs.Common.{◌≡◌, ℕ, ◌+◌, List, Bool, true, false, Option, Result, Ok, Err, refl, ap, sym, ◌∙◌, subst, ◌⊎◌, inl, inr}
+use Rattle.std.proofs.Common.{◌≡◌, ℕ, ◌+◌, List, true, false, Option, Result, Ok, Err, refl, ap, sym, ◌∙◌, subst, ◌⊎◌, inl, inr}
 use Rattle.std.specs.Prelude.{map}
 use Rattle.std.specs.List.{list_any}
-use Rattle.defs_text.specs.Text.{is_empty, has_no_nul}
+use Rattle.defs_text.specs.Text.{has_no_nul}
 use Rattle.yaml_tokens.specs.declared.problem.Fault.{Fault}
 use Rattle.yaml_tokens.specs.declared.problem.Fault.TheVariants.{At}
 use Rattle.yaml_tokens.specs.declared.problem.Problem.TheVariants as problem
@@ -22,20 +22,20 @@ use Rattle.proof_row_sound.proofs.Runs.{reached}
 use Rattle.proof_row_sound.proofs.Sound.{each_keeps}
 use Rattle.proof_row_sound.proofs.ToToken.{passed_stands}
 use Rattle.proof_row_sound.specs.Arrives.{Arrives}
-use Rattle.proof_row_sound.specs.Choices.{outside_key}
 use Rattle.proof_refusals.specs.Stuck.{IsStuck}
 use Rattle.proof_refusals.specs.Never.{AnchorIndentationNeverComes}
 use Rattle.proof_refusals.specs.Told.{RefusedTextsAreStuck}
-use Rattle.proof_refusals.proofs.Carried.{Arrived, outside_of, stale_arrives, Carries, carries_on}
+use Rattle.proof_row_sound.proofs.Arriving.{arrives_now, near_key}
+use Rattle.proof_row_sound.proofs.Stales.{stale_stands}
+use Rattle.proof_lexers.specs.Separations.{begins_separation}
 use Rattle.proof_refusals.proofs.Faults as faults
 use Rattle.proof_refusals.proofs.Faults.{Faults, fault_is, in_turn, tried, either}
 use Rattle.proof_refusals.proofs.Fetches.{here_told}
-use Rattle.proof_refusals.proofs.KeptKeys.{last_key}
 use Rattle.proof_refusals.proofs.LastTokens.{HereMarks, here_marks}
 use Rattle.proof_refusals.proofs.MarginKeys.{IsMargin, marks_margin, stale_margin, unrolled_margin}
 use Rattle.proof_refusals.proofs.OtherFaults.{Other, here_other, way_other, stale_other, not_other}
 use Rattle.proof_refusals.proofs.Passing.{HasNear, fetch_near, passing_told}
-use Rattle.proof_refusals.proofs.Places.{IsCarried, Told, not_told}
+use Rattle.proof_refusals.proofs.Places.{Told, not_told}
 
 -- ---- a fetch
 
@@ -63,37 +63,31 @@ margin_first text = λ o q e. absurd (cc e)
 margin_here : (t u : ScannerState) → IsMargin t.held → Passed t u → Holds (λ v. IsMargin (on_held (λ h. unroll_indent (h.position.col + 1) h) v).held) (try_held stale u)
 margin_here t u m p = holds.tried u (stale u.held) (stale_margin u.held (subst (λ h. IsMargin h) (sym p.is_held) m)) (λ h n. unrolled_margin (h.position.col + 1) h n)
 
+-- where a token begins
+stale_arrives : (text : List ℕ) (u : ScannerState) → Stands text u → begins_separation u.rest ≡ false → Holds (λ v. Arrives text (on_held (λ s. unroll_indent (s.position.col + 1) s) v)) (try_held stale u)
+stale_arrives text u s solid = holds.tried u (stale u.held) (stale_stands text u s) (λ h n. arrives_now text (record u { held = h }) n.stands solid (near_key text u h n))
+
 next_margin : (text : List ℕ) (t : ScannerState) → Stands text t → IsMargin t.held → Holds (λ u. (u.held.ended ≡ true) ⊎ IsMargin u.held) (fetch_next t)
 unfolding fetch_next
 next_margin text t s m =
     holds.chained (both_hold (passed_stands text t s) (to_token t)) (λ u a.
-    holds.chained (both_hold (stale_arrives text t u a.0.0 a.0.1 a.1.passed) (margin_here t u m a.1.passed)) (λ v b.
-    holds.chained (here_marks text (on_held (λ h. unroll_indent (h.position.col + 1) h) v) b.0.arrives) (λ w c. after_it (on_held (λ h. unroll_indent (h.position.col + 1) h) v) w b.0.arrives c)))
+    holds.chained (both_hold (stale_arrives text u a.0.0 a.0.1) (margin_here t u m a.1.passed)) (λ v b.
+    holds.chained (here_marks text (on_held (λ h. unroll_indent (h.position.col + 1) h) v) b.0) (λ w c. after_it (on_held (λ h. unroll_indent (h.position.col + 1) h) v) w b.0 c)))
   where
     after_it : (v w : ScannerState) → Arrives text v → HereMarks v w → Holds (λ u. (u.held.ended ≡ true) ⊎ IsMargin u.held) (try_held stale w)
     after_it v w a (inl e) = holds.tried w (stale w.held) (stale_ended w.held) (λ h n. inl (n ∙ e))
     after_it v w a (inr n) = holds.tried w (stale w.held) (stale_margin w.held (marks_margin text v w a n.1 n.0)) (λ h x. inr x)
 
-next_told : (text : List ℕ) (t : ScannerState) → Stands text t → HasNear t.held → IsMargin t.held → Carries text t → Faults (Told text) (fetch_next t)
+next_told : (text : List ℕ) (t : ScannerState) → Stands text t → HasNear t.held → IsMargin t.held → Faults (Told text) (fetch_next t)
 unfolding fetch_next
-next_told text t s near margin carries =
-    in_turn (passing_told text t s near carries) (λ u e.
+next_told text t s near margin =
+    in_turn (passing_told text t s near) (λ u e.
     let a = held_of u (both_hold (passed_stands text t s) (to_token t)) e in
     in_turn (tried u (stale_told text u.held)) (λ v f.
-    let b : Arrived text t (on_held (λ h. unroll_indent (h.position.col + 1) h) v) = held_of v (stale_arrives text t u a.0.0 a.0.1 a.1.passed) f in
-    in_turn (here_told text (on_held (λ h. unroll_indent (h.position.col + 1) h) v) b.arrives (λ left some. carried (on_held (λ h. unroll_indent (h.position.col + 1) h) v) b left some)
+    let b : Arrives text (on_held (λ h. unroll_indent (h.position.col + 1) h) v) = held_of v (stale_arrives text u a.0.0 a.0.1) f in
+    in_turn (here_told text (on_held (λ h. unroll_indent (h.position.col + 1) h) v) b
     (held_of {P = λ z. IsMargin (on_held (λ h. unroll_indent (h.position.col + 1) h) z).held} v (margin_here t u margin a.1.passed) f)) (λ w g.
     tried w (stale_told text w.held))))
-  where
-    carried : (v : ScannerState) (b : Arrived text t v) → is_empty v.rest ≡ false → is_empty v.held.flow ≡ false → IsCarried text (outside_key b.arrives.base.entries v.held.keys)
-    carried v b left some = by (is_empty t.held.flow) refl
-      where
-        last_is : outside_key b.arrives.base.entries v.held.keys ≡ last_key v.held.keys
-        last_is = outside_of v.held.key_allowed _ v.held.flow v.held.keys b.arrives.base.entries b.arrives.are_entries b.arrives.one_each
-
-        by : (f : Bool) → is_empty t.held.flow ≡ f → IsCarried text (outside_key b.arrives.base.entries v.held.keys)
-        by true f = absurd (cc (b.keeps.outside f, some))
-        by false f = subst (λ o. IsCarried text o) (sym (last_is ∙ b.keeps.inside f some)) (carries s.going f (b.cut left))
 
 next_other : (text : List ℕ) (t : ScannerState) → Stands text t → IsMargin t.held → Faults Other (fetch_next t)
 unfolding fetch_next
@@ -101,8 +95,8 @@ next_other text t s margin =
     in_turn (way_other t) (λ u e.
     let a = held_of u (both_hold (passed_stands text t s) (to_token t)) e in
     in_turn (tried u (stale_other u.held)) (λ v f.
-    let b : Arrived text t (on_held (λ h. unroll_indent (h.position.col + 1) h) v) = held_of v (stale_arrives text t u a.0.0 a.0.1 a.1.passed) f in
-    in_turn (here_other text (on_held (λ h. unroll_indent (h.position.col + 1) h) v) b.arrives
+    let b : Arrives text (on_held (λ h. unroll_indent (h.position.col + 1) h) v) = held_of v (stale_arrives text u a.0.0 a.0.1) f in
+    in_turn (here_other text (on_held (λ h. unroll_indent (h.position.col + 1) h) v) b
     (held_of {P = λ z. IsMargin (on_held (λ h. unroll_indent (h.position.col + 1) h) z).held} v (margin_here t u margin a.1.passed) f)) (λ w g.
     tried w (stale_other w.held))))
 
@@ -110,9 +104,9 @@ fetch_other : (text : List ℕ) (t : ScannerState) → Stands text t → IsMargi
 unfolding fetch
 fetch_other text t s margin = either t.held.started (λ _. next_other text t s margin) (λ n. absurd (cc (n, s.started)))
 
-fetch_told : (text : List ℕ) (t : ScannerState) → Stands text t → HasNear t.held → IsMargin t.held → Carries text t → Faults (Told text) (fetch t)
+fetch_told : (text : List ℕ) (t : ScannerState) → Stands text t → HasNear t.held → IsMargin t.held → Faults (Told text) (fetch t)
 unfolding fetch
-fetch_told text t s near margin carries = either t.held.started (λ _. next_told text t s near margin carries) (λ n. absurd (cc (n, s.started)))
+fetch_told text t s near margin = either t.held.started (λ _. next_told text t s near margin) (λ n. absurd (cc (n, s.started)))
 
 -- ---- a run
 
@@ -131,10 +125,6 @@ first_fetch : (text : List ℕ) → fetch (start text) ≡ Ok (fetch_stream_star
 unfolding fetch
 first_fetch text = refl
 
-begins_outside : (text : List ℕ) → is_empty (fetch_stream_start (start text)).held.flow ≡ true
-unfolding fetch_stream_start
-begins_outside text = refl
-
 near_first : (text : List ℕ) → HasNear (fetch_stream_start (start text)).held
 unfolding fetch_stream_start
 near_first text = λ o k e. absurd (cc e)
@@ -145,10 +135,9 @@ record Known (text : List ℕ) (t : ScannerState) : Type 0 where
   fares : Fares text t
   near : HasNear t.held
   margin : t.held.ended ≡ false → IsMargin t.held
-  carries : Carries text t
 
 known_next : (text : List ℕ) → has_no_nul text ≡ true → (t u : ScannerState) → t.held.ended ≡ false → fetch t ≡ Ok u → Known text t → Known text u
-known_next text nul t u going e k = record { comes = came text nul t u (there going e here) k.comes; fares = next; near = near_by k.fares; margin = λ on. margin_by on k.fares; carries = λ on some left. by k.fares next on some left }
+known_next text nul t u going e k = record { comes = came text nul t u (there going e here) k.comes; fares = next; near = near_by k.fares; margin = λ on. margin_by on k.fares }
   where
     next : Fares text u
     next = reached kept text nul t u (there going e here) k.comes k.fares
@@ -169,22 +158,12 @@ known_next text nul t u going e k = record { comes = came text nul t u (there go
     margin_by on (goes s) = fetch_margin text t u s (k.margin going) e on
     margin_by on (over f r) = absurd (cc (going, f))
 
-    by : Fares text t → Fares text u → Carries text u
-    by (begins b) f on some left =
-        let same : Ok (fetch_stream_start (start text)) ≡ Ok u = sym (first_fetch text) ∙ (ap fetch (sym b) ∙ e) in
-        let state : fetch_stream_start (start text) ≡ u = cc same in
-        absurd (cc (some, ap (λ x. is_empty x.held.flow) state, begins_outside text))
-    by (goes s) (goes r) on some left = carries_on text t u s e r k.carries on some left
-    by (goes s) (begins b) on some left = absurd (cc (some, ap (λ x. is_empty x.held.flow) b))
-    by (goes s) (over f r) on some left = absurd (cc (on, f))
-    by (over f r) n on some left = absurd (cc (going, f))
-
 known_on : (text : List ℕ) → has_no_nul text ≡ true → (t u : ScannerState) → Reaches t u → Known text t → Known text u
 known_on text nul t u here k = k
 known_on text nul t u (there {u = v} going e run) k = known_on text nul v u run (known_next text nul t v going e k)
 
 first_known : (text : List ℕ) → Known text (start text)
-first_known text = record { comes = starts refl; fares = begins refl; near = λ o k e. absurd (cc e); margin = λ on o q e. absurd (cc e); carries = λ on some left. absurd (cc some) }
+first_known text = record { comes = starts refl; fares = begins refl; near = λ o k e. absurd (cc e); margin = λ on o q e. absurd (cc e) }
 
 pub refused_texts_are_stuck : RefusedTextsAreStuck
 refused_texts_are_stuck text why at nul r told = by k.fares
@@ -194,7 +173,7 @@ refused_texts_are_stuck text why at nul r told = by k.fares
 
     by : Fares text r.last → IsStuck text why at
     by (begins b) = absurd (cc (sym (first_fetch text) ∙ (ap fetch (sym b) ∙ r.refused)))
-    by (goes s) = (fault_is (At why at) (fetch_told text r.last s k.near (k.margin s.going) k.carries) r.refused) told
+    by (goes s) = (fault_is (At why at) (fetch_told text r.last s k.near (k.margin s.going)) r.refused) told
     by (over f n) = absurd (cc (f, r.going))
 
 pub anchor_indentation_never_comes : AnchorIndentationNeverComes

@@ -15,7 +15,8 @@ use Rattle.defs_row.specs.Indentation.{least_column, has_tab_within, last_line, 
 use Rattle.model_lexers.specs.Machine.{is_cr_lf}
 use Rattle.model_scanner.specs.State.{Held, ScannerState, moved}
 use Rattle.model_scanner.specs.Space.{Gap, between, comment, tab_line, past_line, is_before_indent, skip, skip_to_next_token}
-use Rattle.proof_lexers.specs.Separations.{begins_separation, begins_token, PassesAs, passes, refuses}
+use Rattle.proof_lexers.specs.PlainEnds.{begins_token}
+use Rattle.proof_lexers.specs.Separations.{begins_separation, PassesAs, passes, refuses}
 use Rattle.proof_lexers.proofs.Bridges.{same_break, same_blank}
 use Rattle.proof_lexers.proofs.Separation.Separations.{separations_are_passed, no_hash, fills_blank}
 use Rattle.proof_cut.proofs.Pieces.Separations.{separation_append}
@@ -199,6 +200,7 @@ pub record TabStands (bs : List ℕ) (awaits : Bool) (before : Previous) (separa
   pub is_some : is_empty text ≡ false
   pub cut : text ≡ passed ++ rest
   pub is_filled : is_separation false passed rest ≡ true
+  pub goes_on : is_empty rest ≡ false
   pub is_solid : begins_separation rest ≡ false
   pub is_fault : f ≡ At problem.TabInBlockIndentation (position_after p passed rest)
   pub is_indented_by_tab : is_indented_by_spaces before bs awaits (separation ++ passed) ≡ false
@@ -254,6 +256,10 @@ skip_refused before bs awaits separation t l known = by (begins_separation t.res
     some_text [] h = absurd (cc h)
     some_text (c ∷ a) h = refl
 
+    token_is_text : (a : List ℕ) → begins_token a ≡ true → is_empty a ≡ false
+    token_is_text [] h = absurd (cc h)
+    token_is_text (c ∷ a) h = refl
+
     told : begins_separation t.rest ≡ true → (x : Result ScannerState Fault) → PassesAs t.held t.rest x → Faults (TabbedAt before least separation t.rest t.held) x → Faults Own x
     told begins x p goes = goes
     told begins x (passes leading passed rest cut fills ends e) (fault d) = absurd (cc e)
@@ -272,6 +278,7 @@ skip_refused before bs awaits separation t l known = by (begins_separation t.res
           is_some = some_text t.rest begins;
           cut = whole;
           is_filled = separation_append false first (9 ∷ blanks) rest fills (blanks_fill (9 ∷ blanks) rest are);
+          goes_on = token_is_text rest token;
           is_solid = token_solid rest token;
           is_fault = fault_of e;
           is_indented_by_tab = tabbed_is before bs awaits (separation ++ (first ++ 9 ∷ blanks))

@@ -1,5 +1,5 @@
 -- A TAB after a quoted scalar, on a later line, which would indent the next piece.
-use Rattle.std.proofs.Common.{◌≡◌, ℕ, ◌≤◌, List, [], ◌++◌, Bool, true, false, append_assoc, Result, Ok, refl, ap, sym, ◌∙◌, subst, arith, inr}
+use Rattle.std.proofs.Common.{◌≡◌, ℕ, List, [], ◌++◌, Bool, true, false, append_assoc, Result, Ok, refl, ap, sym, ◌∙◌, subst, inr}
 use Rattle.defs_text.specs.Position.{Position, position_after}
 use Rattle.defs_text.specs.Text.{is_empty, has_no_nul}
 use Rattle.defs_token.specs.Separation.{is_separation}
@@ -16,9 +16,7 @@ use Rattle.model_scanner.specs.Document.{check_after_quoted}
 use Rattle.model_scanner.proofs.Holds.{held_of}
 use Rattle.proof_lexers.proofs.Separation.Positions.{position_append}
 use Rattle.proof_cut.proofs.Pieces.Separations.{separation_append}
-use Rattle.proof_cut.proofs.Positions.{not_before_after}
 use Rattle.proof_cut.proofs.Saved.{saved_is}
-use Rattle.proof_row_sound.specs.Choices.{outside_key}
 use Rattle.proof_row_sound.specs.Arrives.{Arrives}
 use Rattle.proof_row_sound.specs.Stands.{columns, has_open_level}
 use Rattle.proof_row_sound.proofs.Arrivals.{clean_after}
@@ -30,16 +28,16 @@ use Rattle.proof_refusals.specs.NoPiece.{IsQuoted}
 use Rattle.proof_refusals.specs.Stuck as defs
 use Rattle.proof_refusals.specs.Stuck.{IsStuck, may_not_stand, site_at_place}
 use Rattle.proof_refusals.proofs.Faults.{Faults, fault, goes}
-use Rattle.proof_refusals.proofs.Places.{IsCarried, Told, account_by, stuck, in_flow_is}
+use Rattle.proof_refusals.proofs.Places.{Told, account_by, stuck, in_flow_is}
 use Rattle.proof_refusals.proofs.Quotes.{closed, piece, is}
 use Rattle.proof_refusals.proofs.Tabs.{TabStands, skip_refused}
 
-module _ (text : List ℕ) (t : ScannerState) (a : Arrives text t) (some : is_empty t.rest ≡ false) (carried : is_empty t.held.flow ≡ false → IsCarried text (outside_key a.base.entries t.held.keys)) (single : Bool) (ctx : Context) (x : Read (List ℕ)) (q : QuotedAs single ctx t.held.position t.rest x) where
+module _ (text : List ℕ) (t : ScannerState) (a : Arrives text t) (some : is_empty t.rest ≡ false) (single : Bool) (ctx : Context) (x : Read (List ℕ)) (q : QuotedAs single ctx t.held.position t.rest x) where
   abbrev own : ScannerState
-  own = closed text t a some carried single ctx x q
+  own = closed text t a some single ctx x q
 
   abbrev scalar : List ℕ
-  scalar = piece text t a some carried single ctx x q
+  scalar = piece text t a some single ctx x q
 
   abbrev blocks : List ℕ
   blocks = columns t.held.indent t.held.indents
@@ -67,12 +65,12 @@ module _ (text : List ℕ) (t : ScannerState) (a : Arrives text t) (some : is_em
     tab_stuck : {f : Fault} → TabStands blocks awaits quoted_scalar spaces v.rest v.held.position f → Told text f
     tab_stuck d =
         subst (λ g. Told text g) (sym d.is_fault) (λ _. subst (λ p. IsStuck text problem.TabInBlockIndentation p) (sym place)
-        (stuck text t a some carried [] problem.TabInBlockIndentation (position_after end gap d.rest) later (λ k may.
-        let flow_is = in_flow_is text t a some carried k [] in
-        let blocks_are : (site_at_place (account_by text t a some carried k []) t.held.position).blocks ≡ blocks = ap (λ b. (site_in b gives_node t.held.position a.base.site).blocks) flow_is ∙ a.blocks_are in
-        let awaits_is : (site_at_place (account_by text t a some carried k []) t.held.position).awaits ≡ awaits = ap (λ b. (site_in b gives_node t.held.position a.base.site).awaits) flow_is ∙ a.awaits_is in
-        may_not_stand (defs.tab_after_quoted single scalar gap d.rest whole (subst (λ r. defs_quoted r) cut (is text t a some carried single ctx x q)) is_filled d.is_solid
-        (ap (λ bs. is_indented_by_spaces quoted_scalar bs (site_at_place (account_by text t a some carried k []) t.held.position).awaits gap) blocks_are ∙
+        (stuck text t a some [] problem.TabInBlockIndentation (position_after end gap d.rest) (λ k may.
+        let flow_is = in_flow_is text t a some k [] in
+        let blocks_are : (site_at_place (account_by text t a some k []) t.held.position).blocks ≡ blocks = ap (λ b. (site_in b gives_node t.held.position a.base.site).blocks) flow_is ∙ a.blocks_are in
+        let awaits_is : (site_at_place (account_by text t a some k []) t.held.position).awaits ≡ awaits = ap (λ b. (site_in b gives_node t.held.position a.base.site).awaits) flow_is ∙ a.awaits_is in
+        may_not_stand (defs.tab_after_quoted single scalar gap d.rest whole (subst (λ r. defs_quoted r) cut (is text t a some single ctx x q)) is_filled d.goes_on d.is_solid
+        (ap (λ bs. is_indented_by_spaces quoted_scalar bs (site_at_place (account_by text t a some k []) t.held.position).awaits gap) blocks_are ∙
         (ap (λ w. is_indented_by_spaces quoted_scalar blocks w gap) awaits_is ∙ d.is_indented_by_tab))))))
       where
         gap : List ℕ
@@ -97,9 +95,6 @@ module _ (text : List ℕ) (t : ScannerState) (a : Arrives text t) (some : is_em
         place =
             ap (λ p. position_after p d.passed d.rest) (ap (λ h. h.position) c.spaces.is_held ∙ ap (λ r. position_after x.position spaces r) d.cut) ∙
             (sym (position_append x.position spaces d.passed d.rest) ∙ ap (λ p. position_after p gap d.rest) (q.end_is ∙ ap (λ r. position_after t.held.position scalar r) cut))
-
-        later : t.held.position.line ≤ (position_after end gap d.rest).line
-        later = let first = (not_before_after t.held.position scalar (gap ++ d.rest)).0 in let second = (not_before_after end gap d.rest).0 in omega (arith, first, second)
 
     told : Faults (Told text) (skip_to_next_token v)
     told = by (skip_refused quoted_scalar blocks awaits spaces v start_least (λ _. start_in))

@@ -3,11 +3,12 @@ use Rattle.std.specs.Prelude.{◌≡◌, ℕ, List, [], ◌∷◌, ◌++◌, Boo
 use Rattle.defs_text.specs.Classes.{tab}
 use Rattle.defs_text.specs.Position.{Position, position_after}
 use Rattle.defs_scalar.specs.FlowScalar.{Element, content, blank, line_break, escaped_break, elements, begins_with}
+use Rattle.defs_row.specs.Lines.{quoted_lines_fit}
 use Rattle.yaml_tokens.specs.declared.problem.Problem.{Problem}
 use Rattle.yaml_tokens.specs.declared.problem.Problem.TheVariants as problem
 use Rattle.proof_lexers.specs.PlainEnds.{begins_solid}
 use Rattle.proof_lexers.specs.QuotedScan.{element_of}
-use Rattle.proof_refusals.specs.NoPiece.{quote_of}
+use Rattle.proof_refusals.specs.NoPiece.{quote_of, IsQuoted}
 
 -- Where the elements between quotes have come to: within a line; at the start of a further line, after blanks alone; or directly after an escaped break.
 pub data LineStand : Type 0 where
@@ -33,6 +34,10 @@ abbrev pub begins_further : LineStand → (closes : Bool) → Bool
 begins_further within closes = false
 begins_further at_start closes = true
 begins_further past_escaped closes = not closes
+
+-- no quoted scalar with which a text begins has further lines that are all indented to a column
+abbrev pub AreNotIndented : (single : Bool) → (least : ℕ) → (text : List ℕ) → Type 0
+AreNotIndented single least text = (piece next : List ℕ) → text ≡ piece ++ next → IsQuoted single piece next → quoted_lines_fit least (element_of single) piece ≡ false
 
 -- What is wrong with a quoted scalar that begins with a text at a position: a further line begins left of the least column; or a TAB stands there before its first character that is no blank.
 pub data IsQuotedFault (single : Bool) (least : ℕ) (here : Position) (text : List ℕ) : Problem → Position → Type 0 where

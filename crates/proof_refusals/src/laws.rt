@@ -1,6 +1,6 @@
 //! Laws of refused texts, each the contract of an empty function.
 
-ghost use Rattle.proof_refusals.specs.Certain.{FailingPlacesHaveNoRow};
+ghost use Rattle.proof_refusals.specs.Certain.{FailingPlacesHaveNoRow, TextsWithARowAreNotStuck};
 ghost use Rattle.proof_refusals.specs.Never.{AnchorIndentationNeverComes};
 ghost use Rattle.proof_refusals.specs.Told.{RefusedTextsAreStuck};
 
@@ -10,9 +10,14 @@ pub fn refused_texts_are_stuck()
     ensures { RefusedTextsAreStuck }
 {}
 
-/// Where a condition of one of twelve kinds fails, after whatever beginning of a row, the text has no row.
+/// Where a condition of any kind but `ValueNotAllowed` fails, after whatever beginning of a row, the text has no row.
 pub fn failing_places_have_no_row()
     ensures { FailingPlacesHaveNoRow }
+{}
+
+/// A text that has a row is stuck nowhere, for any kind of fault but `ValueNotAllowed`.
+pub fn texts_with_a_row_are_not_stuck()
+    ensures { TextsWithARowAreNotStuck }
 {}
 
 /// The scanner's model refuses no text without NUL for an anchor or a tag in the first column before an entry there.

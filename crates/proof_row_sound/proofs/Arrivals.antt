@@ -24,6 +24,7 @@ use Rattle.proof_row_sound.specs.Choices.{outside_key, chosen, MayChoose}
 use Rattle.proof_row_sound.specs.Completes.{tokens_up_to, Completes}
 use Rattle.proof_row_sound.specs.Stands.{columns, has_open_level, AreCollections, AreLevels, IsTopLevel, AreNumbered}
 use Rattle.proof_row_sound.proofs.Sides.{with_entries, ArrivesBy}
+use Rattle.defs_row.specs.Beginning.{BeginsButForKey}
 
 -- ---- texts
 
@@ -188,3 +189,8 @@ pub completes_at : (text : List ℕ) (t : ScannerState) (fs : List FlowLevel) (k
 completes_at text t fs ks es a r q e f c cs may =
     subst (λ x. Completes text (a.separation ++ x) (chosen c cs ks (with_entries a.site a.line es)) (tokens_up_to (chosen c cs ks (with_entries a.site a.line es)) ks a.tokens)) e
     (a.completes c cs (subst (λ x. MayChoose c (outside_key es ks) x t.rest) (sym f) (subst (λ x. MayChoose c (outside_key es ks) q x) (sym e) may)))
+
+-- the same where a row may begin but for the key outside flow
+pub carried_at : (text : List ℕ) (t : ScannerState) (fs : List FlowLevel) (ks : List (Option Key)) (es : List Entry) (a : ArrivesBy text t fs ks es) (r : List ℕ) → t.rest ≡ r → (k : Key) → outside_key es ks ≡ Some k → k.required ≡ true → is_empty es ≡ false → is_empty t.rest ≡ false →
+    (cs : List Bool) → BeginsButForKey text (a.separation ++ r) k.position (chosen false cs ks (with_entries a.site a.line es))
+carried_at text t fs ks es a r e k key must inside some cs = subst (λ x. BeginsButForKey text (a.separation ++ x) k.position (chosen false cs ks (with_entries a.site a.line es))) e (a.carries cs k key must inside some)

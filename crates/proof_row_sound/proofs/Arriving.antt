@@ -14,7 +14,8 @@ use Rattle.model_scanner.specs.Keys.{stale}
 use Rattle.model_scanner.specs.Indents.{Levels, with_levels, unrolled, unroll_indent}
 use Rattle.model_scanner.specs.Space.{skip_to_next_token}
 use Rattle.model_scanner.proofs.Holds.{Holds, chained, tried, both_hold}
-use Rattle.proof_lexers.specs.Separations.{begins_separation, begins_token}
+use Rattle.proof_lexers.specs.PlainEnds.{begins_token}
+use Rattle.proof_lexers.specs.Separations.{begins_separation}
 use Rattle.proof_cut.proofs.Heres.{before_again}
 use Rattle.proof_cut.specs.Stands.{FaresAt}
 use Rattle.proof_cut.proofs.Documents.{passed_stands as passed_cut}
@@ -156,6 +157,7 @@ arrives_with text v s solid near u blocks awaits levels tokens = record { arrive
       was_adjacent = s.adjacent_before;
       started = s.started;
       going = s.going;
+      carries = s.carries;
       completes = s.completes;
     }
 

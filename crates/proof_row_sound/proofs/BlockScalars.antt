@@ -340,6 +340,7 @@ module _ (text : List ℕ) (t : ScannerState) (k : Option Key) (a : ArrivesBy te
         omega (arith, i, j, same, was);
     started = a.started;
     going = a.going;
+    carries = λ cs x key m inside some. absurd (cc inside);
     completes = λ c cs may. then_rows c cs key_now refl may;
   }
 

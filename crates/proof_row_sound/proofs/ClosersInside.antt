@@ -29,11 +29,11 @@ use Rattle.proof_cut.proofs.FlowEnds.{closed_tokens, entered, adjacent_collectio
 use Rattle.proof_cut.proofs.Positions.{not_before_after, not_before_then, index_after}
 use Rattle.proof_cut.proofs.Nodes.{IsDeep, adjacent_other}
 use Rattle.proof_row_sound.specs.Arrives.{site_here}
-use Rattle.proof_row_sound.specs.Choices.{outside_key, chosen, MayChoose}
+use Rattle.proof_row_sound.specs.Choices.{outside_key, chosen, MayChoose, IsCarriedOn}
 use Rattle.proof_row_sound.specs.Completes.{tokens_up_to, Completes}
 use Rattle.proof_row_sound.specs.Stands.{columns, IsPairOf, HasHadHere, HasHad, IsEntryOf, AreAround, AreEntries, IsReadOn, IsLine, IsTakenBy, is_free, is_fresh, IsOpenOutside, AreNumbered}
 use Rattle.proof_row_sound.proofs.Around.{line_taken, tokens_before, unbroken_around, one_around, may_around, open_around}
-use Rattle.proof_row_sound.proofs.Arrivals.{clean_after, deep_enough, numbered_more, numbered_around, completes_at}
+use Rattle.proof_row_sound.proofs.Arrivals.{clean_after, deep_enough, numbered_more, numbered_around, completes_at, carried_at}
 use Rattle.proof_row_sound.proofs.Blanks.{line_rest_cut, line_rest_fills, is_clear, past_rest_is_clear}
 use Rattle.proof_row_sound.proofs.Closers.{previous_of, IsCloser, no_line_begins, no_break_there, reads_on}
 use Rattle.proof_row_sound.proofs.EntryEnds as ends
@@ -43,6 +43,7 @@ use Rattle.proof_row_sound.proofs.Inserts.{among}
 use Rattle.proof_row_sound.proofs.NodesInside.{not_keyed}
 use Rattle.proof_row_sound.proofs.Standing.{all_true, deep_for}
 use Rattle.proof_row_sound.proofs.Sides.{with_entries, ArrivesBy, ArrivesInside, StandsBy, StandsAt, stands_at}
+use Rattle.defs_row.specs.Beginning.{BeginsButForKey}
 
 -- ---- what the model leaves
 
@@ -242,6 +243,13 @@ module _ (text more : List ℕ) (closes : Bool) (tok : Tok) (c : ℕ) (i : IsClo
       (subst (λ p. Completes text more (past_at p) (tokens_up_to (past_at p) (keys_by closes ks) tokens_after)) (sym place)
       (subst (λ ts. Completes text more (ends.past d b cs) (tokens_up_to (ends.past d b cs) (keys_by closes ks) ts)) tokens_are all))
 
+  carried : IsCarriedOn text (gap ++ left) left (keys_by closes ks) (with_entries (site_after t.held.position) a.line (entries_after closes e es))
+  carried cs key own must inside_flow rest_goes =
+      let past_at : Position → Account = λ p. chosen false cs (keys_by closes ks) (with_entries (site_after p) a.line (entries_after closes e es)) in
+      subst (λ r. BeginsButForKey text r key.position (past_at t.held.position)) (line_rest_cut more)
+      (subst (λ p. BeginsButForKey text more key.position (past_at p)) (sym place)
+      (ends.end_carried text key.position d is_end (line_taken text t f fs k ks e es a) (λ vs. carried_at text t (f ∷ fs) (k ∷ ks) (e ∷ es) a (c ∷ more) cut key (sym (same_key closes e es ks) ∙ own) must refl (ap is_empty cut) vs) cs))
+
   quiet : (begins_line (previous_by tok) gap ≡ false) × (begins_free_line (previous_by tok) gap ≡ false) × (is_renewed (previous_by tok) gap ≡ false)
   quiet = subst (λ b. (begins_line b gap ≡ false) × (begins_free_line b gap ≡ false) × (is_renewed b gap ≡ false)) (sym i.previous) (no_line_begins closes gap (no_break_there more))
 
@@ -294,6 +302,7 @@ module _ (text more : List ℕ) (closes : Bool) (tok : Tok) (c : ℕ) (i : IsClo
     adjacent_before = adjacent_least closes fs t.held.adjacent_value_at end.index (omega (arith, a.was_adjacent, further));
     started = a.started;
     going = a.going;
+    carries = carried;
     completes = rows;
   }
     where

@@ -33,10 +33,10 @@ use Rattle.proof_row_sound.specs.Arrives.{site_here}
 use Rattle.proof_row_sound.specs.Choices.{outside_key, chosen, MayChoose}
 use Rattle.proof_row_sound.specs.Completes.{put_key, tokens_up_to, Completes}
 use Rattle.proof_row_sound.specs.Stands.{columns, IsOpenHere, Stands}
-use Rattle.proof_row_sound.proofs.Arrivals.{unbroken, not_free, all_go_on, numbered_more, numbered_around, completes_at}
+use Rattle.proof_row_sound.proofs.Arrivals.{unbroken, not_free, all_go_on, numbered_more, numbered_around, completes_at, carried_at}
 use Rattle.proof_row_sound.proofs.ColonSpaces.{colon_gap, past_gap, gap_cut, gap_fills, gap_in_line, gap_end}
 use Rattle.proof_row_sound.proofs.Colons.{at_value, value_by, colon_end, valued_entry, single_is, one_line_colon, ends_inside}
-use Rattle.proof_row_sound.proofs.Around.{tokens_before, unbroken_around, one_around, may_around}
+use Rattle.proof_row_sound.proofs.Around.{tokens_before, unbroken_around, one_around, may_around, line_taken}
 use Rattle.proof_row_sound.proofs.EntryPieces.{low_enough, site_inside, base_inside, later_after, read_inside_at}
 use Rattle.proof_row_sound.proofs.Inserts.{among, first_among, key_longer}
 use Rattle.proof_row_sound.proofs.Indicated.{past_one}
@@ -46,6 +46,7 @@ use Rattle.proof_row_sound.proofs.Questions.{pair_level}
 use Rattle.proof_row_sound.proofs.OutsidePieces.{EndsOutside, site_then, ends_outside_at, spaces_in_line}
 use Rattle.proof_row_sound.proofs.Rolled.{RollsTo, rolls_to, OpensOne, opens_one, opens_none, opened_some, some_levels}
 use Rattle.proof_row_sound.proofs.Sides.{with_entries, ArrivesBy, StandsAt}
+use Rattle.defs_row.specs.Beginning.{BeginsButForKey}
 
 -- ---- outside flow
 
@@ -292,6 +293,8 @@ module _ (text more : List ℕ) (t : ScannerState) (f : FlowLevel) (fs : List Fl
       (sym inner_place)
       (subst (λ ts. Completes text more (keyed.inner_past n c cs) (tokens_up_to (keyed.inner_past n c cs) (None ∷ ks) ts)) (sym (inner_alike ∙ ap inner_row inner_place))
       (keyed.inner_completes text n (is_inner on) (λ b bs q. completes_at text t (f ∷ fs) (Some k ∷ ks) (x ∷ es) a (58 ∷ more) (keyed.inner_at n).position e inner_place b bs q) c cs may)))
+      (λ cs key own must inside_flow rest_goes. subst (λ q. BeginsButForKey text more key.position (chosen false cs (None ∷ ks) (with_entries (site_inside (site_in true gives_colon q a.site) (58 ∷ []) Tok.value more) a.line (valued_entry x ∷ es)))) (sym inner_place)
+      (keyed.inner_carried text key.position n (is_inner on) (line_taken text t f fs (Some k) ks x es a) (λ bs. carried_at text t (f ∷ fs) (Some k ∷ ks) (x ∷ es) a (58 ∷ more) e key own must refl inner_some bs) cs))
 
   pub keyed_inside : k.position.line ≤ t.held.position.line → Holds (Stands text) (value_by more t (f ∷ fs) (Some k ∷ ks))
   keyed_inside early =

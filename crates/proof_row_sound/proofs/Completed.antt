@@ -1,14 +1,17 @@
 -- Rows that are begun and completed: where a text begins, over a step, and where it ends.
-use Rattle.std.proofs.Common.{◌≡◌, ℕ, List, [], ◌∷◌, ◌++◌, true, false, Option, Some, None, refl, ap, sym, ◌∙◌, subst, append_assoc}
+use Rattle.std.proofs.Common.{◌≡◌, ℕ, List, [], ◌∷◌, ◌++◌, Bool, true, false, ◌&&◌, Option, Some, None, refl, ap, sym, ◌∙◌, subst, append_assoc}
 use Rattle.defs_text.specs.Text.{up_to_nul}
-use Rattle.defs_text.specs.Position.{first_position, position_after}
+use Rattle.defs_text.specs.Position.{Position, first_position, position_after}
 use Rattle.defs_token.specs.Token.{Token, stream_start}
 use Rattle.defs_token.specs.Separation.{is_separation}
 use Rattle.defs_row.specs.Step.{Step, spelled}
 use Rattle.defs_row.specs.Account.{Account, first_account, account_past, may_end}
 use Rattle.defs_row.specs.Tokens.{put, tokens_of_step, tokens_at_end, tokens_from}
 use Rattle.defs_row.specs.Row.{IsWritten, IsRowFrom, IsRead}
-use Rattle.defs_row.specs.Beginning.{Leads, Begins}
+use Rattle.defs_row.specs.Key.{Line, taken, is_waiting, line_past_separation}
+use Rattle.model_scanner.specs.State.{Key}
+use Rattle.proof_row_sound.specs.Choices.{line_by}
+use Rattle.defs_row.specs.Beginning.{Leads, Begins, BeginsButForKey}
 use Rattle.proof_row_sound.specs.Completes.{Completes}
 
 -- ---- beginnings of rows
@@ -35,6 +38,30 @@ begins_past text after a b w next cut written stands g = record {
   spells = spelled_past g.steps w next ∙ ap (λ x. spelled g.steps x) (sym cut) ∙ g.spells;
   leads = leads_past (Some first_account) g.steps w next a b (subst (λ x. Leads (Some first_account) g.steps x a) cut g.leads) written stands;
 }
+
+-- over a step that may stand, but for the key
+pub but_for_key_past : (text after : List ℕ) (begin : Position) (a b : Account) (w : Step) (next : List ℕ) → after ≡ w.separation ++ (w.piece ++ next) → IsWritten a w next → account_past a w next ≡ Some b → BeginsButForKey text after begin a → BeginsButForKey text next begin b
+but_for_key_past text after begin a b w next cut written stands g = record {
+  account = g.account;
+  steps = g.steps ++ w ∷ [];
+  begins = subst (λ x. Begins text x g.account) (ap (λ x. spelled g.steps x) cut ∙ sym (spelled_past g.steps w next)) g.begins;
+  is_inside = g.is_inside;
+  line_is = g.line_is;
+  must_be = g.must_be;
+  leads = leads_past (Some (record g.account { line = taken })) g.steps w next a b (subst (λ x. Leads (Some (record g.account { line = taken })) g.steps x a) cut g.leads) written stands;
+}
+
+-- in flow, where no key is chosen outside it, breaks do not matter
+pub none_broken : (b : Bool) (k : Option Key) (l : Line) → l ≡ taken → line_past_separation true b (line_by false k l) ≡ Some (line_by false k l)
+none_broken true None l e = ap (λ x. line_past_separation true true x) e ∙ ap (λ x. Some x) (sym e)
+none_broken true (Some k) l e = ap (λ x. line_past_separation true true x) e ∙ ap (λ x. Some x) (sym e)
+none_broken false None l e = refl
+none_broken false (Some k) l e = refl
+
+pub none_waits : (b : Bool) (k : Option Key) (l : Line) → l ≡ taken → (b && is_waiting (line_by false k l)) ≡ false
+none_waits true None l e = ap is_waiting e
+none_waits true (Some k) l e = ap is_waiting e
+none_waits false k l e = refl
 
 -- ---- rows
 

@@ -8,7 +8,7 @@ use Rattle.defs_token.specs.Account.{Level}
 use Rattle.defs_token.specs.Separation.{is_separation}
 use Rattle.defs_token.specs.Piece.{IsPiece}
 use Rattle.defs_row.specs.Step.{Step, spelled, Act, act_of, gives_comma, gives_closing, has_break}
-use Rattle.defs_row.specs.Key.{Line, is_waiting, begins_free_line, line_past_separation}
+use Rattle.defs_row.specs.Key.{Line, is_waiting, begins_free_line, line_past_separation, taken}
 use Rattle.defs_row.specs.FlowEntry.{Had, fresh, filled, waits, settled, Pair, Entry, first_entry, is_keyed, takes_pair, begun_by, is_renewed, entries_past}
 use Rattle.defs_row.specs.Account.{Site, Account, site_in, site_past, may_stand, on_one_line, past_inside, past_piece, past_site, account_past, level_of, seen}
 use Rattle.defs_row.specs.Tokens.{put, pair_position, pair_end, shown_position, Colon, colon_of, key_end, begun_inside, tokens_of_step, tokens_at}
@@ -17,7 +17,8 @@ use Rattle.model_scanner.specs.State.{Key, pop}
 use Rattle.proof_row_sound.specs.Choices.{line_by, had_by, entries_by, outside_key, chosen, MayChoose}
 use Rattle.proof_row_sound.specs.Completes.{with_had, with_keys, tokens_up_to, Completes}
 use Rattle.proof_row_sound.specs.Arrives.{site_here}
-use Rattle.proof_row_sound.proofs.Completed.{completed_past}
+use Rattle.defs_row.specs.Beginning.{BeginsButForKey}
+use Rattle.proof_row_sound.proofs.Completed.{completed_past, but_for_key_past, none_broken, none_waits}
 use Rattle.proof_row_sound.proofs.FlowSteps.{FlowStep, step_of, base, keys, outside}
 use Rattle.proof_row_sound.proofs.Inserts.{AreAmong, first_among, keys_first}
 use Rattle.proof_row_sound.proofs.NodeTokens.{past_step, past_piece as past_piece_at, keys_along}
@@ -116,8 +117,8 @@ same_outside false ks e es = refl
 on_line : (piece : List ℕ) (a : Account) → (has_break piece && is_waiting a.line) ≡ false → on_one_line piece (Some a) ≡ Some a
 on_line piece a e = ap (λ b. if b then None else Some a) e
 
-pub end_account : (d : End) → IsEnd d → (c : Bool) (cs : List Bool) → MayChoose c (outside d.step) d.past d.rest → account_past (before d c cs) (step_of d.step) d.next ≡ Some (past d c cs)
-end_account d n c cs may =
+end_account_by : (d : End) → IsEnd d → (c : Bool) (cs : List Bool) → line_past_separation true (begins_free_line d.site.before d.separation) (line_by c (outside d.step) d.line) ≡ Some (line_by c (outside d.step) d.line) → (has_break d.piece && is_waiting (line_by c (outside d.step) d.line)) ≡ false → account_past (before d c cs) (step_of d.step) d.next ≡ Some (past d c cs)
+end_account_by d n c cs unbroken one_line =
     let w : Step = step_of d.step in
     let l : Line = line_by c (outside d.step) d.line in
     let here : Position = (at d).position in
@@ -137,9 +138,12 @@ end_account d n c cs may =
     ap (λ xs. after l xs) (same_choices d.closes cs d.outer_keys d.entry d.around) ∙
     ap (λ k. after (line_by c k d.line) (entries_by cs (keys_after d) (entries_after d.closes d.entry d.around))) (sym (same_outside d.closes d.outer_keys d.entry d.around)) in
     ap (λ x. past_site true d.site x w d.next l (e ∷ es)) site ∙ (may_be ∙
-    (ap (λ o. on_one_line d.piece (past_piece (at d) d.piece d.tok d.next again false o (e ∷ es))) (n.unbroken c may) ∙
+    (ap (λ o. on_one_line d.piece (past_piece (at d) d.piece d.tok d.next again false o (e ∷ es))) unbroken ∙
     (ap (λ o. on_one_line d.piece (past_inside (at d) d.piece d.tok d.next l o)) entries ∙
-    (on_line d.piece (after l (entries_after d.closes d.entry es)) (n.one_line c may) ∙ ap (λ a. Some a) whole))))
+    (on_line d.piece (after l (entries_after d.closes d.entry es)) one_line ∙ ap (λ a. Some a) whole))))
+
+pub end_account : (d : End) → IsEnd d → (c : Bool) (cs : List Bool) → MayChoose c (outside d.step) d.past d.rest → account_past (before d c cs) (step_of d.step) d.next ≡ Some (past d c cs)
+end_account d n c cs may = end_account_by d n c cs (n.unbroken c may) (n.one_line c may)
 
 -- ---- the tokens after it
 
@@ -221,3 +225,9 @@ pub end_completes : (text : List ℕ) (d : End) → IsEnd d →
 end_completes text d n h c cs may =
     completed_past text (d.separation ++ (d.piece ++ d.next)) (before d c cs) (past d c cs) (tokens_up_to (before d c cs) (keys d.step) d.tokens) (tokens_up_to (past d c cs) (keys_after d) (d.tokens ++ own_tokens d))
     (step_of d.step) d.next refl (seen_written d n c cs) (end_account d n c cs may) (end_tokens d n c cs) (h c (false ∷ choices_by d.closes cs) (n.may_before c may))
+
+-- The same where a row may begin but for the key outside flow.
+pub end_carried : (text : List ℕ) (begin : Position) (d : End) → IsEnd d → d.line ≡ taken → ((cs : List Bool) → BeginsButForKey text (d.separation ++ (d.piece ++ d.next)) begin (chosen false cs (keys d.step) (base d.step))) → (cs : List Bool) → BeginsButForKey text d.next begin (past d false cs)
+end_carried text begin d n line h cs =
+    but_for_key_past text (d.separation ++ (d.piece ++ d.next)) begin (before d false cs) (past d false cs) (step_of d.step) d.next refl (seen_written d n false cs)
+    (end_account_by d n false cs (none_broken (begins_free_line d.site.before d.separation) (outside d.step) d.line line) (none_waits (has_break d.piece) (outside d.step) d.line line)) (h (false ∷ choices_by d.closes cs))

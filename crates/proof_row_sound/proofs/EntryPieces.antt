@@ -1,5 +1,5 @@
 -- A piece in flow with which its entry goes on, and after which no key of the entry is open: what holds where it begins holds between two fetches after it.
-use Rattle.std.proofs.Common.{◌≡◌, ℕ, suc, ◌≤◌, List, [], ◌∷◌, ◌++◌, Bool, true, false, nat_le, length, Option, Some, None, ap, sym, ◌∙◌, subst, arith}
+use Rattle.std.proofs.Common.{◌≡◌, ℕ, suc, ◌≤◌, List, [], ◌∷◌, ◌++◌, Bool, true, false, nat_le, length, Option, Some, None, ap, sym, ◌∙◌, subst, arith, refl}
 use Rattle.defs_text.specs.Position.{Position, position_after}
 use Rattle.defs_text.specs.Text.{is_empty, has_no_nul}
 use Rattle.defs_token.specs.Account.{other, before_past}
@@ -18,16 +18,17 @@ use Rattle.proof_cut.specs.Order.{NotBefore}
 use Rattle.proof_cut.specs.Stands.{IsAdjacent}
 use Rattle.proof_cut.proofs.Positions.{index_after, not_before_after, not_before_then}
 use Rattle.proof_cut.proofs.Nodes.{IsDeep, adjacent_other}
-use Rattle.proof_row_sound.specs.Choices.{outside_key, chosen, MayChoose}
+use Rattle.proof_row_sound.specs.Choices.{outside_key, chosen, MayChoose, IsCarriedOn}
 use Rattle.proof_row_sound.specs.Completes.{tokens_up_to, Completes}
 use Rattle.proof_row_sound.specs.Stands.{columns, has_open_level, AreLevels, HasNoTabs, IsLeading, IsReadOn, HasHadHere, IsEntryOf, AreNumbered, Stands}
-use Rattle.proof_row_sound.proofs.Arrivals.{clean_after, some_rest, deep_enough, completes_at}
+use Rattle.proof_row_sound.proofs.Arrivals.{clean_after, some_rest, deep_enough, completes_at, carried_at}
 use Rattle.proof_row_sound.proofs.Around.{line_taken, unbroken_around, one_around, may_around, open_around}
 use Rattle.proof_row_sound.proofs.Inserts.{among}
 use Rattle.proof_row_sound.proofs.NodeTokens.{past_step}
 use Rattle.proof_row_sound.proofs.NodesInside.{not_keyed}
-use Rattle.proof_row_sound.proofs.StepsInside.{Piece, IsHere, at, past, piece_completes}
+use Rattle.proof_row_sound.proofs.StepsInside.{Piece, IsHere, at, past, piece_completes, piece_carried}
 use Rattle.proof_row_sound.proofs.Sides.{with_entries, ArrivesBy, StandsAt, stands_at}
+use Rattle.defs_row.specs.Beginning.{BeginsButForKey}
 
 -- where a piece begins deep enough, the least column is not right of it
 pub low_enough : (text : List ℕ) (t : ScannerState) (f : FlowLevel) (fs : List FlowLevel) (ks : List (Option Key)) (es : List Entry) (a : ArrivesBy text t (f ∷ fs) ks es) → IsDeep t.held → nat_le (least_column a.site.blocks a.site.awaits) t.held.position.col ≡ true
@@ -74,8 +75,9 @@ pub read_inside_at : (text : List ℕ) (t u : ScannerState) (f g : FlowLevel) (f
     (r : ReadInside text t u f g fs k ks e e2 es a piece next tok) →
     ((c : Bool) (cs : List Bool) → MayChoose c (outside_key es ks) u.held.position u.rest →
     let b : Account = with_entries (site_inside (site_in true (act_of tok) t.held.position a.site) piece tok next) a.line (e2 ∷ es) in Completes text next (chosen c cs (None ∷ ks) b) (tokens_up_to (chosen c cs (None ∷ ks) b) (None ∷ ks) u.held.tokens)) →
+    IsCarriedOn text next u.rest (None ∷ ks) (with_entries (site_inside (site_in true (act_of tok) t.held.position a.site) piece tok next) a.line (e2 ∷ es)) →
     StandsAt text (base_inside tok piece t.held.position a.site next a.line (e2 ∷ es)) r.separation u
-read_inside_at text t u f g fs k ks e e2 es a piece next tok r rows =
+read_inside_at text t u f g fs k ks e e2 es a piece next tok r rows carried =
     let x : Site = site_in true (act_of tok) t.held.position a.site in
     let after : Site = site_inside x piece tok next in
     let i = index_after (position_after t.held.position piece next) r.separation u.rest in
@@ -109,6 +111,7 @@ read_inside_at text t u f g fs k ks e e2 es a piece next tok r rows =
       adjacent_before = omega (arith, i, j, there, was, same);
       started = r.unchanged.1 ∙ a.started;
       going = r.unchanged.2 ∙ a.going;
+      carries = λ cs key own must inside_flow more. subst (λ l. BeginsButForKey text l key.position (chosen false cs (None ∷ ks) (with_entries after a.line (e2 ∷ es)))) r.is_rest (carried cs key own must inside_flow more);
       completes = λ c cs may. subst (λ l. let b : Account = with_entries after a.line (e2 ∷ es) in Completes text l (chosen c cs (None ∷ ks) b) (tokens_up_to (chosen c cs (None ∷ ks) b) (None ∷ ks) u.held.tokens)) r.is_rest (rows c cs may);
     })
   where
@@ -119,8 +122,10 @@ read_inside_at text t u f g fs k ks e e2 es a piece next tok r rows =
 pub read_inside : (text : List ℕ) (t u : ScannerState) (f g : FlowLevel) (fs : List FlowLevel) (k : Option Key) (ks : List (Option Key)) (e e2 : Entry) (es : List Entry) (a : ArrivesBy text t (f ∷ fs) (k ∷ ks) (e ∷ es)) (piece next : List ℕ) (tok : Tok) →
     ReadInside text t u f g fs k ks e e2 es a piece next tok →
     ((c : Bool) (cs : List Bool) → MayChoose c (outside_key es ks) u.held.position u.rest →
-    let b : Account = with_entries (site_inside (site_in true (act_of tok) t.held.position a.site) piece tok next) a.line (e2 ∷ es) in Completes text next (chosen c cs (None ∷ ks) b) (tokens_up_to (chosen c cs (None ∷ ks) b) (None ∷ ks) u.held.tokens)) → Stands text u
-read_inside text t u f g fs k ks e e2 es a piece next tok r rows = (read_inside_at text t u f g fs k ks e e2 es a piece next tok r rows).stands
+    let b : Account = with_entries (site_inside (site_in true (act_of tok) t.held.position a.site) piece tok next) a.line (e2 ∷ es) in Completes text next (chosen c cs (None ∷ ks) b) (tokens_up_to (chosen c cs (None ∷ ks) b) (None ∷ ks) u.held.tokens)) →
+    IsCarriedOn text next u.rest (None ∷ ks) (with_entries (site_inside (site_in true (act_of tok) t.held.position a.site) piece tok next) a.line (e2 ∷ es)) →
+    Stands text u
+read_inside text t u f g fs k ks e e2 es a piece next tok r rows carried = (read_inside_at text t u f g fs k ks e e2 es a piece next tok r rows carried).stands
 
 -- ---- the rows: a piece before which no key of the entry waits
 
@@ -147,6 +152,9 @@ pub goes_inside_at : (text : List ℕ) (t u : ScannerState) (f g : FlowLevel) (f
 goes_inside_at text t u f g fs k ks e e2 es a piece next tok r n = read_inside_at text t u f g fs k ks e e2 es a piece next tok r (λ c cs may.
     subst (λ p. let b : Account = with_entries (site_inside (site_in true (act_of tok) p a.site) piece tok next) a.line (e2 ∷ es) in Completes text next (chosen c cs (None ∷ ks) b) (tokens_up_to (chosen c cs (None ∷ ks) b) (None ∷ ks) u.held.tokens)) (sym place)
     (rows (subst (λ p. GoesInside text t u f fs k ks e e2 es a piece next tok (site_in true (act_of tok) p a.site)) place n) c cs may))
+    (λ cs key own must inside_flow more. subst (λ p. BeginsButForKey text next key.position (chosen false cs (None ∷ ks) (with_entries (site_inside (site_in true (act_of tok) p a.site) piece tok next) a.line (e2 ∷ es)))) (sym place)
+    (piece_carried text key.position d (here (subst (λ p. GoesInside text t u f fs k ks e e2 es a piece next tok (site_in true (act_of tok) p a.site)) place n)) (line_taken text t f fs k ks e es a)
+    (λ bs. carried_at text t (f ∷ fs) (k ∷ ks) (e ∷ es) a (piece ++ next) r.cut key own must refl some bs) cs))
   where
     place : t.held.position ≡ position_after a.site.position a.separation (piece ++ next)
     place = a.position_is ∙ ap (λ x. position_after a.site.position a.separation x) r.cut

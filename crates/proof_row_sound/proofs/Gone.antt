@@ -26,5 +26,6 @@ key_gone text t k a some may = record {
   is_open = tt;
   is_near = λ _. tt;
   are_numbered = (tt, tt);
+  carries = λ cs x key m inside some. absurd (cc inside);
   completes = λ c cs _. none_completes text (a.separation ++ t.rest) (with_entries a.site a.line []) (k ∷ []) a.tokens a.no_key refl (a.completes false [] may);
 }

@@ -16,7 +16,8 @@ use Rattle.model_scanner.specs.State.{Key, pop}
 use Rattle.proof_row_sound.specs.Choices.{line_by, entries_by, outside_key, chosen, MayChoose}
 use Rattle.proof_row_sound.specs.Completes.{put_key, with_line, with_had, with_keys, tokens_up_to, Completes}
 use Rattle.proof_row_sound.specs.Arrives.{site_here}
-use Rattle.proof_row_sound.proofs.Completed.{completed_past}
+use Rattle.defs_row.specs.Beginning.{BeginsButForKey}
+use Rattle.proof_row_sound.proofs.Completed.{completed_past, but_for_key_past, none_broken, none_waits}
 use Rattle.proof_row_sound.proofs.Inserts.{AreAmong, fewer, keys_first, key_longer}
 use Rattle.proof_row_sound.proofs.NodeTokens.{past_step}
 use Rattle.proof_row_sound.proofs.NodesInside.{same_levels}
@@ -159,16 +160,19 @@ key_ends : (again : Bool) (d : Inner) (es : List Entry) → (not (single d) || (
 key_ends true d es e = rw e refl
 key_ends false d es e = rw e refl
 
-pub inner_account : (d : Inner) → IsInner d → (c : Bool) (cs : List Bool) → MayChoose c (outside d) d.past d.rest → account_past (inner_before d c cs) (inner_step d) d.next ≡ Some (inner_past d c cs)
-inner_account d n c cs may =
+inner_account_by : (d : Inner) → IsInner d → (c : Bool) (cs : List Bool) → line_past_separation true (begins_free_line d.site.before d.separation) (line_by c (outside d) d.line) ≡ Some (line_by c (outside d) d.line) → (has_break d.piece && is_waiting (line_by c (outside d) d.line)) ≡ false → account_past (inner_before d c cs) (inner_step d) d.next ≡ Some (inner_past d c cs)
+inner_account_by d n c cs unbroken one_line =
     let l : Line = line_by c (outside d) d.line in
     let again : Bool = is_renewed d.site.before d.separation in
     let e : Entry = record { kind = d.entry.kind; pair = d.entry.pair; had = had_waits d.key.position } in
     let es : List Entry = entries_by (pop cs) d.outer_keys d.around in
     ap (λ b. if b then on_one_line d.piece (past_piece (inner_at d) d.piece value d.next again false (line_past_separation true (begins_free_line d.site.before d.separation) l) (e ∷ es)) else None) n.stands ∙
-    (ap (λ o. on_one_line d.piece (past_piece (inner_at d) d.piece value d.next again false o (e ∷ es))) (n.unbroken c may) ∙
+    (ap (λ o. on_one_line d.piece (past_piece (inner_at d) d.piece value d.next again false o (e ∷ es))) unbroken ∙
     (ap (λ o. on_one_line d.piece (past_inside (inner_at d) d.piece value d.next l o)) (key_ends again d es n.on_line) ∙
-    ap (λ b. if b then None else Some (inner_past d c cs)) (n.one_line c may)))
+    ap (λ b. if b then None else Some (inner_past d c cs)) one_line))
+
+pub inner_account : (d : Inner) → IsInner d → (c : Bool) (cs : List Bool) → MayChoose c (outside d) d.past d.rest → account_past (inner_before d c cs) (inner_step d) d.next ≡ Some (inner_past d c cs)
+inner_account d n c cs may = inner_account_by d n c cs (n.unbroken c may) (n.one_line c may)
 
 abbrev InnerSeen : Inner → List Level → Type 0
 InnerSeen d levels = IsPiece (let a = seen (inner_base d) (inner_at d) d.separation in record a { levels = levels }) d.piece d.next None (inner_at d).position value
@@ -214,3 +218,10 @@ inner_completes text d n h c cs may =
     tokens : (ws : List Step) (last : List ℕ) → spelled ws last ≡ d.next →
         tokens_up_to (inner_before d c cs) (Some d.key ∷ d.outer_keys) d.tokens (inner_step d ∷ ws) last ++ tokens_of_step (inner_before d c cs) (inner_step d) ws last ≡ tokens_up_to (inner_past d c cs) (None ∷ d.outer_keys) (inner_tokens d) ws last
     tokens ws last e = own ws last ∙ ap (λ x. tokens_up_to (inner_past (record d { next = x }) c cs) (None ∷ d.outer_keys) (inner_tokens (record d { next = x })) ws last) e
+
+-- The same where a row may begin but for the key outside flow.
+pub inner_carried : (text : List ℕ) (begin : Position) (d : Inner) → IsInner d → d.line ≡ taken → ((cs : List Bool) → BeginsButForKey text (d.separation ++ (d.piece ++ d.next)) begin (chosen false cs (Some d.key ∷ d.outer_keys) (inner_base d))) → (cs : List Bool) → BeginsButForKey text d.next begin (inner_past d false cs)
+inner_carried text begin d n line h cs =
+    but_for_key_past text (d.separation ++ (d.piece ++ d.next)) begin (inner_before d false cs) (inner_past d false cs) (inner_step d) d.next refl
+    (n.is_filled, (ap not n.is_solid, subst (λ x. InnerSeen d x) (sym (same_levels (true ∷ pop cs) (Some d.key ∷ d.outer_keys) (d.entry ∷ d.around))) n.is_piece))
+    (inner_account_by d n false cs (none_broken (begins_free_line d.site.before d.separation) (outside d) d.line line) (none_waits (has_break d.piece) (outside d) d.line line)) (h (true ∷ pop cs))

@@ -4,7 +4,7 @@ use Rattle.defs_text.specs.Position.{Position}
 use Rattle.defs_token.specs.Token.{Token, flow_mapping_start}
 use Rattle.defs_token.specs.Piece.{IsPiece}
 use Rattle.defs_row.specs.Step.{Step, spelled, act_of, gives_node, has_break}
-use Rattle.defs_row.specs.Key.{Line, is_waiting, begins_free_line, line_past_separation}
+use Rattle.defs_row.specs.Key.{Line, is_waiting, begins_free_line, line_past_separation, taken}
 use Rattle.defs_row.specs.FlowEntry.{Had, fresh, filled, waits, settled, Entry, is_keyed, takes_pair, begun_by, is_renewed, entries_past}
 use Rattle.defs_row.specs.Account.{Site, Account, site_in, site_past, on_one_line, past_inside, past_piece, past_site, account_past, level_of, seen}
 use Rattle.defs_row.specs.Tokens.{put, pair_position, shown_position, Colon, colon_of, key_tokens, tokens_of_step, tokens_at}
@@ -16,7 +16,8 @@ use Rattle.proof_row_sound.specs.Choices.{line_by, had_by, entry_by, entries_by,
 use Rattle.proof_row_sound.specs.Completes.{put_key, with_had, with_keys, tokens_up_to, Completes}
 use Rattle.proof_row_sound.specs.Stands.{HasHadHere}
 use Rattle.proof_row_sound.proofs.Begun.{with_begun, with_no_key, choices_around, depth_begun, begun_before, keys_around_begun}
-use Rattle.proof_row_sound.proofs.Completed.{completed_past}
+use Rattle.defs_row.specs.Beginning.{BeginsButForKey}
+use Rattle.proof_row_sound.proofs.Completed.{completed_past, but_for_key_past, none_broken, none_waits}
 use Rattle.proof_row_sound.proofs.Inserts.{AreAmong, fewer, had_first, had_longer, keys_first, first_among}
 use Rattle.proof_row_sound.proofs.NodeSteps.{saved, choice_before, bit_of, had_past_node, entry_past_node, node_in_entry}
 use Rattle.proof_row_sound.proofs.Parts.{Part, part_site, IsPart}
@@ -91,8 +92,8 @@ on_line piece a e = ap (λ b. if b then None else Some a) e
 
 -- ---- the account after it
 
-pub node_account : (d : Node) → IsNode d → (c : Bool) (cs : List Bool) → MayChoose c (outside d) d.past d.rest → account_past (before d c cs) (step_of d (bit d cs)) d.next ≡ Some (past d c cs)
-node_account d n c cs may =
+node_account_by : (d : Node) → IsNode d → (c : Bool) (cs : List Bool) → line_past_separation true (begins_free_line d.site.before d.separation) (line_by c (outside d) d.line) ≡ Some (line_by c (outside d) d.line) → (has_break d.piece && is_waiting (line_by c (outside d) d.line)) ≡ false → account_past (before d c cs) (step_of d (bit d cs)) d.next ≡ Some (past d c cs)
+node_account_by d n c cs unbroken one_line =
     let w : Step = step_of d (bit d cs) in
     let l : Line = line_by c (outside d) d.line in
     let here : Position = (at d).position in
@@ -105,11 +106,14 @@ node_account d n c cs may =
     ap (λ b. if b then on_one_line d.piece (past_piece (at d) d.piece d.tok d.next again w.key (line_past_separation true (begins_free_line d.site.before d.separation) l) (e ∷ es)) else None) n.stands in
     let lines : on_one_line d.piece (past_piece (at d) d.piece d.tok d.next again w.key (line_past_separation true (begins_free_line d.site.before d.separation) l) (e ∷ es)) ≡
     on_one_line d.piece (past_inside (at d) d.piece d.tok d.next l (entries_past here again (act_of d.tok) (begun_by d.tok) w.key e es)) =
-    ap (λ o. on_one_line d.piece (past_piece (at d) d.piece d.tok d.next again w.key o (e ∷ es))) (n.unbroken c may) in
+    ap (λ o. on_one_line d.piece (past_piece (at d) d.piece d.tok d.next again w.key o (e ∷ es))) unbroken in
     let entries : entries_past here again (act_of d.tok) (begun_by d.tok) w.key e es ≡ Some (past d c cs).entries =
     ap (λ x. entries_past here again x (begun_by d.tok) w.key e es) n.act ∙ (ap (λ x. entries_past here again gives_node x w.key e es) n.begun ∙
     (node_in_entry again d.allowed (first_choice own) d.open_key d.new d.entry here (with_begun d.kind []) es n.has_had n.position_is ∙ ap (λ x. Some x) (begun_before d.kind (entries_after d cs)))) in
-    first ∙ (may_be ∙ (lines ∙ (ap (λ o. on_one_line d.piece (past_inside (at d) d.piece d.tok d.next l o)) entries ∙ on_line d.piece (past d c cs) (n.one_line c may))))
+    first ∙ (may_be ∙ (lines ∙ (ap (λ o. on_one_line d.piece (past_inside (at d) d.piece d.tok d.next l o)) entries ∙ on_line d.piece (past d c cs) one_line)))
+
+pub node_account : (d : Node) → IsNode d → (c : Bool) (cs : List Bool) → MayChoose c (outside d) d.past d.rest → account_past (before d c cs) (step_of d (bit d cs)) d.next ≡ Some (past d c cs)
+node_account d n c cs may = node_account_by d n c cs (n.unbroken c may) (n.one_line c may)
 
 -- ---- the tokens after it
 
@@ -203,3 +207,9 @@ pub node_completes : (text : List ℕ) (d : Node) → IsNode d →
 node_completes text d n h c cs may =
     completed_past text (d.separation ++ (d.piece ++ d.next)) (before d c cs) (past d c cs) (tokens_up_to (before d c cs) (keys d) d.tokens) (tokens_up_to (past d c cs) (keys_after d) (d.tokens ++ (own_token d ∷ [])))
     (step_of d (bit d cs)) d.next refl (seen_written d n c cs (bit d cs)) (node_account d n c cs may) (node_tokens d n c cs) (h c (choices d cs) (n.may_before c may))
+
+-- The same where a row may begin but for the key outside flow.
+pub node_carried : (text : List ℕ) (begin : Position) (d : Node) → IsNode d → d.line ≡ taken → ((cs : List Bool) → BeginsButForKey text (d.separation ++ (d.piece ++ d.next)) begin (chosen false cs (keys d) (base d))) → (cs : List Bool) → BeginsButForKey text d.next begin (past d false cs)
+node_carried text begin d n line h cs =
+    but_for_key_past text (d.separation ++ (d.piece ++ d.next)) begin (before d false cs) (past d false cs) (step_of d (bit d cs)) d.next refl (seen_written d n false cs (bit d cs))
+    (node_account_by d n false cs (none_broken (begins_free_line d.site.before d.separation) (outside d) d.line line) (none_waits (has_break d.piece) (outside d) d.line line)) (h (choices d cs))

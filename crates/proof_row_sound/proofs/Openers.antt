@@ -1,5 +1,5 @@
 -- Opening brackets: what holds where they begin holds between two fetches after them.
-use Rattle.std.proofs.Common.{◌≡◌, ℕ, suc, ◌<◌, List, [], ◌∷◌, ◌++◌, Bool, true, false, not, ◌&&◌, ◌||◌, nat_le, nat_lt, map, ◌⊎◌, inl, inr, length, if◌then◌else◌, Option, Some, None, refl, ap, sym, ◌∙◌, subst, arith}
+use Rattle.std.proofs.Common.{◌≡◌, ℕ, suc, ◌<◌, List, [], ◌∷◌, ◌++◌, Bool, true, false, not, ◌&&◌, ◌||◌, nat_le, nat_lt, map, ◌⊎◌, inl, inr, length, if◌then◌else◌, Option, Some, None, refl, ap, sym, ◌∙◌, subst, arith, ◌≤◌}
 use Rattle.std.proofs.lemmas.Bool.Decides.{nat_tests}
 use Rattle.defs_text.specs.Position.{Position, position_after}
 use Rattle.defs_text.specs.Text.{is_empty, has_no_nul}
@@ -29,13 +29,13 @@ use Rattle.proof_cut.specs.Stands.{IsAdjacent}
 use Rattle.proof_cut.proofs.Flows.{IsOpeningOf, opening_sequence, opening_mapping}
 use Rattle.proof_cut.proofs.Positions.{not_before_after, not_before_then, index_after}
 use Rattle.proof_cut.proofs.Nodes.{IsDeep, adjacent_other}
-use Rattle.proof_row_sound.specs.Arrives.{site_here}
-use Rattle.proof_row_sound.specs.Choices.{outside_key, chosen, MayChoose}
+use Rattle.proof_row_sound.specs.Arrives.{site_here, IsNear}
+use Rattle.proof_row_sound.specs.Choices.{outside_key, chosen, MayChoose, IsCarriedOn, line_by, entries_by}
 use Rattle.proof_row_sound.specs.Completes.{tokens_up_to, Completes}
-use Rattle.proof_row_sound.specs.Stands.{columns, has_open_level, AreLevels, kind_of, IsPairOf, HasHadHere, HasHad, is_fresh, IsEntryOf, AreAround, IsReadOn}
+use Rattle.proof_row_sound.specs.Stands.{columns, has_open_level, AreLevels, kind_of, IsPairOf, HasHadHere, HasHad, is_fresh, IsEntryOf, AreAround, IsReadOn, IsOpenOutside}
 use Rattle.proof_row_sound.proofs.Around.{line_taken, tokens_before, unbroken_around, one_around, may_around, open_around}
-use Rattle.proof_row_sound.proofs.Arrivals.{clean_after, deep_enough, completes_at}
-use Rattle.proof_row_sound.proofs.Blanks.{line_rest_cut, line_rest_fills}
+use Rattle.proof_row_sound.proofs.Arrivals.{clean_after, deep_enough, completes_at, carried_at}
+use Rattle.proof_row_sound.proofs.Blanks.{line_rest_cut, line_rest_fills, line_rest_in_line}
 use Rattle.proof_row_sound.proofs.Closers.{no_break_there}
 use Rattle.proof_row_sound.proofs.Indicated.{indicator_end, none_indents}
 use Rattle.proof_row_sound.proofs.Inserts.{among}
@@ -50,6 +50,9 @@ use Rattle.proof_row_sound.proofs.Passed.{some_columns}
 use Rattle.proof_row_sound.proofs.Rolled.{OpensOne, opens_one, opens_none}
 use Rattle.proof_row_sound.proofs.Standing.{all_true, deep_for}
 use Rattle.proof_row_sound.proofs.Sides.{with_entries, ArrivesBy, ArrivesOutside, ArrivesInside, StandsBy, StandsAt, stands_at}
+use Rattle.defs_row.specs.Beginning.{BeginsButForKey}
+use Rattle.proof_cut.specs.Here.{IsLive}
+use Rattle.proof_lexers.proofs.Separation.Positions.{position_in_line}
 
 -- What is said of an opening bracket.
 pub record IsOpener (lv : FlowLevel) (tok : Tok) (c : ℕ) : Type 0 where
@@ -284,6 +287,28 @@ module _ (text more : List ℕ) (lv : FlowLevel) (tok : Tok) (c : ℕ) (o : IsOp
       (subst (λ p. Completes text more (past_at p) (tokens_up_to (past_at p) (None ∷ y ∷ []) tokens_after)) (sym at_place)
       (subst (λ ts. Completes text more (outside.past n b) (tokens_up_to (outside.past n b) (None ∷ y ∷ []) ts)) tokens all))
 
+  carried_outside : IsCarriedOn text (blanks_and_comment more ++ remains) remains (None ∷ y ∷ []) (with_entries (site_after t.held.position) taken (first_entry (kind_of lv) ∷ []))
+  carried_outside cs key own must inside_flow goes = record {
+    account = chosen true cs (None ∷ y ∷ []) (with_entries (site_after t.held.position) taken (first_entry (kind_of lv) ∷ []));
+    steps = [];
+    begins = (rows true cs (subst (λ o. MayChoose true o stop remains) (sym own) is_live)).0;
+    is_inside = refl;
+    line_is = ap (λ o. line_by true o taken) own;
+    must_be = sym ((subst (λ o. IsOpenOutside o (position_after t.held.position (c ∷ []) more) stop remains (site_here false t.held.position a.site).blocks) own
+        (open_node text t k a out deep some stop remains to_end (position_after t.held.position (c ∷ []) more) (not_before_after t.held.position (c ∷ []) more))).1 is_live).must_be ∙ must;
+    leads = ap (λ l. with_entries (site_after t.held.position) l (entries_by cs (None ∷ y ∷ []) (first_entry (kind_of lv) ∷ []))) (sym (ap (λ o. line_by false o taken) own));
+  }
+    where
+      key_line : (b : Bool) → saved b (new_key t) k ≡ Some key → t.held.position.line ≤ key.position.line
+      key_line true e = let same : new_key t ≡ key = cc e in subst (λ z. t.held.position.line ≤ z.position.line) same (omega arith)
+      key_line false e = (subst (λ o. IsNear o t.held.position) e (a.is_near refl)).0
+
+      stays : stop.line ≡ t.held.position.line
+      stays = ap (λ q. q.line) (sym (position_in_line (past t.held.position) (blanks_and_comment more) [] (line_rest_in_line more)))
+
+      is_live : IsLive key stop remains
+      is_live = let own_line = key_line t.held.key_allowed own in (omega (arith, stays, own_line), goes)
+
   -- What holds between two fetches holds after it.
   opener_stands_outside : columns i ds ≡ columns t.held.indent t.held.indents → AreLevels i ds → has_open_level ds ≡ not (is_empty (columns t.held.indent t.held.indents)) →
       StandsBy text (opened_past lv t tok more (y ∷ []) ds i) (lv ∷ []) (None ∷ y ∷ []) (first_entry (kind_of lv) ∷ [])
@@ -313,6 +338,7 @@ module _ (text more : List ℕ) (lv : FlowLevel) (tok : Tok) (c : ℕ) (o : IsOp
         adjacent_before = let f = further text more lv tok c o t [] (k ∷ []) [] a deep cut in omega (arith, a.was_adjacent, f);
         started = a.started;
         going = a.going;
+        carries = carried_outside;
         completes = rows;
       }
 
@@ -394,6 +420,13 @@ module _ (text more : List ℕ) (lv : FlowLevel) (tok : Tok) (c : ℕ) (o : IsOp
       (subst (λ p. Completes text more (past_at p) (tokens_up_to (past_at p) (None ∷ z ∷ ks) tokens_then)) (sym there)
       (subst (λ ts. Completes text more (inside.past m b cs) (tokens_up_to (inside.past m b cs) (None ∷ z ∷ ks) ts)) tokens all))
 
+  carried_inside : IsCarriedOn text (blanks_and_comment more ++ rest_of) rest_of (None ∷ z ∷ ks) (with_entries (site_then t.held.position) a.line entries_then)
+  carried_inside cs key own must inside_flow rest_goes =
+      let past_at : Position → Account = λ p. chosen false cs (None ∷ z ∷ ks) (with_entries (site_then p) a.line entries_then) in
+      subst (λ r. BeginsButForKey text r key.position (past_at t.held.position)) (line_rest_cut more)
+      (subst (λ p. BeginsButForKey text more key.position (past_at p)) (sym there)
+      (inside.node_carried text key.position m is_inner (line_taken text t f fs k ks e es a) (λ vs. carried_at text t (f ∷ fs) (k ∷ ks) (e ∷ es) a (c ∷ more) cut key own must refl goes vs) cs))
+
   had_kept : (b : Bool) (x : Option Key) (h : Had) → HasHadHere b (is_renewed a.site.before a.separation) x h → HasHad (saved b (new_key t) x) (had_past_node b h)
   had_kept true x h p = refl
   had_kept false (Some x) h p = p.0
@@ -433,6 +466,7 @@ module _ (text more : List ℕ) (lv : FlowLevel) (tok : Tok) (c : ℕ) (o : IsOp
         adjacent_before = let g = further text more lv tok c o t (f ∷ fs) (k ∷ ks) (e ∷ es) a deep cut in omega (arith, a.was_adjacent, g);
         started = a.started;
         going = a.going;
+        carries = carried_inside;
         completes = rows_inside;
       }
 

@@ -88,6 +88,7 @@ ends_outside_at text t u k a piece next tok after x place r rows =
       adjacent_before = let e = r.unchanged.0 in omega (arith, i, j, was, there, e);
       started = r.unchanged.1 ∙ a.started;
       going = r.unchanged.2 ∙ a.going;
+      carries = λ cs x key m inside some. absurd (cc inside);
       completes = λ c cs may. subst (λ y. Completes text y (with_entries (site_then x piece tok next after) after.line []) (λ ws last. u.held.tokens)) r.is_rest rows;
     })
 

@@ -24,7 +24,7 @@ use Rattle.proof_cut.specs.Stands.{IsAdjacent}
 use Rattle.proof_cut.proofs.Positions.{not_before_after, not_before_then}
 use Rattle.proof_cut.proofs.Saved.{saved_keys}
 use Rattle.proof_cut.proofs.Nodes.{IsDeep}
-use Rattle.proof_row_sound.specs.Choices.{line_by, outside_key, chosen, MayChoose}
+use Rattle.proof_row_sound.specs.Choices.{line_by, outside_key, chosen, MayChoose, IsCarriedOn}
 use Rattle.proof_row_sound.specs.Completes.{tokens_up_to, Completes}
 use Rattle.proof_row_sound.specs.Stands.{columns, has_open_level, AreLevels, HasHadHere, is_fresh, HasNoTabs, IsLeading, IsReadOn, Stands}
 use Rattle.proof_row_sound.specs.Arrives.{site_here, Arrives}
@@ -38,7 +38,8 @@ use Rattle.proof_row_sound.proofs.KeyStarts.{new_key, keys_saved, numbered_insid
 use Rattle.proof_row_sound.proofs.Outsides.{must_be_here, numbered_past, unbroken_node, one_node, taken_node, may_node, line_node, same_node, open_node}
 use Rattle.proof_row_sound.proofs.Standing.{all_true}
 use Rattle.proof_row_sound.proofs.Sides.{with_entries, ArrivesBy, ArrivesOutside, ArrivesInside, arrives_side, StandsBy, StandsAt, stands_at}
-use Rattle.proof_row_sound.proofs.Arrivals.{clean_after, some_rest, completes_at}
+use Rattle.proof_row_sound.proofs.Arrivals.{clean_after, some_rest, completes_at, carried_at}
+use Rattle.defs_row.specs.Beginning.{BeginsButForKey}
 
 -- What was read of a node: its token and piece, the separation after it, the text and the position after both, and what the scanner holds then: levels of indentation, its two flags, and where a colon may stand next.
 pub record Read : Type 0 where
@@ -235,6 +236,7 @@ module _ (text : List ℕ) (t : ScannerState) (k : Option Key) (a : ArrivesBy te
     adjacent_before = r.adjacent_before;
     started = a.started;
     going = a.going;
+    carries = λ cs x key m inside some. absurd (cc inside);
     completes = λ c cs may. rows_past c may;
   }
 
@@ -296,6 +298,13 @@ module _ (text : List ℕ) (t : ScannerState) (f : FlowLevel) (fs : List FlowLev
       subst (λ p. Completes text (next_of d) (past p) (tokens_up_to (past p) ys (t.held.tokens ++ (shown_token ∷ [])))) (sym place)
       (subst (λ ts. Completes text (next_of d) (inside.past inner_node c cs) (tokens_up_to (inside.past inner_node c cs) ys ts)) tokens rows)
 
+  carried_inside : IsCarriedOn text (d.gap ++ d.rest) d.rest (saved t.held.key_allowed (new_key t) k ∷ ks) (with_entries (site_then t (f ∷ fs) a.site d) a.line (entry_past_node t.held.key_allowed e ∷ es))
+  carried_inside cs key own must inside_flow more =
+      let ys : List (Option Key) = saved t.held.key_allowed (new_key t) k ∷ ks in
+      let past : Position → Account = λ p. chosen false cs ys (with_entries (site_past true (site_here true p a.site) d.piece d.tok (next_of d) (site_here true p a.site).blocks) a.line (entry_past_node t.held.key_allowed e ∷ es)) in
+      subst (λ p. BeginsButForKey text (next_of d) key.position (past p)) (sym place)
+      (inside.node_carried text key.position inner_node is_inner_node (line_taken text t f fs k ks e es a) (λ bs. carried_at text t (f ∷ fs) (k ∷ ks) (e ∷ es) a (d.piece ++ next_of d) r.cut key own must refl goes bs) cs)
+
   stands_inside : StandsBy text (state_after t d) (f ∷ fs) (saved t.held.key_allowed (new_key t) k ∷ ks) (entry_past_node t.held.key_allowed e ∷ es)
   stands_inside = record {
     site = site_then t (f ∷ fs) a.site d;
@@ -320,6 +329,7 @@ module _ (text : List ℕ) (t : ScannerState) (f : FlowLevel) (fs : List FlowLev
     adjacent_before = r.adjacent_before;
     started = a.started;
     going = a.going;
+    carries = carried_inside;
     completes = rows_inside;
   }
 

@@ -13,7 +13,7 @@ use Rattle.model_scanner.specs.declared.level.FlowLevel.{FlowLevel}
 use Rattle.model_scanner.specs.State.{Key, ScannerState}
 use Rattle.proof_lexers.specs.Separations.{begins_separation}
 use Rattle.proof_cut.specs.Stands.{IsAdjacent}
-use Rattle.proof_row_sound.specs.Choices.{outside_key, chosen, MayChoose}
+use Rattle.proof_row_sound.specs.Choices.{outside_key, chosen, MayChoose, IsCarriedOn}
 use Rattle.proof_row_sound.specs.Completes.{tokens_up_to, Completes}
 use Rattle.proof_row_sound.specs.Stands.{columns, has_open_level, AreLevels, AreEntries, HasNoTabs, IsLeading, IsReadOn, IsLine, IsOpenOutside, AreNumbered, Stands}
 use Rattle.proof_row_sound.specs.Arrives.{site_here, ends_here, IsLineHere, IsNear, Arrives}
@@ -57,6 +57,7 @@ pub record ArrivesBy (text : List ℕ) (t : ScannerState) (fs : List FlowLevel) 
   pub is_open : IsOpenOutside (outside_key es ks) site.position t.held.position t.rest site.blocks
   pub is_near : is_empty fs ≡ true → IsNear (outside_key es ks) t.held.position
   pub are_numbered : AreNumbered (length tokens) ks
+  pub carries : IsCarriedOn text (separation ++ t.rest) t.rest ks (with_entries site line es)
   pub completes : (c : Bool) (cs : List Bool) → MayChoose c (outside_key es ks) t.held.position t.rest →
       Completes text (separation ++ t.rest) (chosen c cs ks (with_entries site line es)) (tokens_up_to (chosen c cs ks (with_entries site line es)) ks tokens)
 
@@ -90,6 +91,7 @@ arrives_by text t a = record {
   is_open = a.is_open;
   is_near = a.is_near;
   are_numbered = a.are_numbered;
+  carries = a.carries;
   completes = a.completes;
 }
 
@@ -151,6 +153,7 @@ pub record StandsBy (text : List ℕ) (t : ScannerState) (fs : List FlowLevel) (
   pub adjacent_before : t.held.adjacent_value_at ≤ t.held.position.index
   pub started : t.held.started ≡ true
   pub going : t.held.ended ≡ false
+  pub carries : IsCarriedOn text (separation ++ t.rest) t.rest ks (with_entries site line es)
   pub completes : (c : Bool) (cs : List Bool) → MayChoose c (outside_key es ks) t.held.position t.rest →
       Completes text (separation ++ t.rest) (chosen c cs ks (with_entries site line es)) (tokens_up_to (chosen c cs ks (with_entries site line es)) ks t.held.tokens)
 
@@ -177,6 +180,7 @@ by_held text t es s = record {
   adjacent_before = s.adjacent_before;
   started = s.started;
   going = s.going;
+  carries = s.carries;
   completes = s.completes;
 }
 

@@ -107,6 +107,7 @@ key_dropped text u s out k only free = record { stands = dropped; base_is = refl
       adjacent_before = s.adjacent_before;
       started = s.started;
       going = s.going;
+      carries = λ cs x key m inside some. absurd (cc (inside, ap is_empty none));
       completes = λ c cs may. subst (λ es. Of c cs (record s.base { entries = es })) (sym none) (own c cs);
     }
 

@@ -36,5 +36,6 @@ stream_started text nul = record {
   adjacent_before = omega arith;
   started = refl;
   going = refl;
+  carries = λ cs x key m inside some. absurd (cc inside);
   completes = λ c cs may. subst (λ x. Completes text x first_account (λ ws last. put first_position stream_start ∷ [])) (whole_text text nul) (completed_at_start text);
 }

@@ -7,14 +7,15 @@ use Rattle.defs_token.specs.Account.{Level}
 use Rattle.defs_token.specs.Separation.{is_separation}
 use Rattle.defs_token.specs.Piece.{IsPiece}
 use Rattle.defs_row.specs.Step.{Step, spelled, Act, act_of, gives_colon, has_break}
-use Rattle.defs_row.specs.Key.{Line, is_waiting, begins_free_line, line_past_separation}
+use Rattle.defs_row.specs.Key.{Line, is_waiting, begins_free_line, line_past_separation, taken}
 use Rattle.defs_row.specs.FlowEntry.{Had, waits, Pair, Entry, is_keyed, takes_pair, begun_by, is_renewed, entries_past}
 use Rattle.defs_row.specs.Account.{Site, Account, site_at, site_past, may_stand, on_one_line, past_inside, past_piece, account_past, seen}
 use Rattle.defs_row.specs.Tokens.{put, pair_position, shown_position, Colon, colon_of, key_end, begun_inside, tokens_of_step}
 use Rattle.model_scanner.specs.State.{pop}
 use Rattle.proof_row_sound.specs.Choices.{line_by, had_by, entries_by, chosen, MayChoose}
 use Rattle.proof_row_sound.specs.Completes.{with_had, with_keys, tokens_up_to, Completes}
-use Rattle.proof_row_sound.proofs.Completed.{completed_past}
+use Rattle.defs_row.specs.Beginning.{BeginsButForKey}
+use Rattle.proof_row_sound.proofs.Completed.{completed_past, but_for_key_past, none_broken, none_waits}
 use Rattle.proof_row_sound.proofs.FlowSteps.{FlowStep, step_of, base, keys, outside}
 use Rattle.proof_row_sound.proofs.Inserts.{AreAmong, first_among, keys_first}
 use Rattle.proof_row_sound.proofs.NodeTokens.{past_step, keys_along}
@@ -65,8 +66,8 @@ pub record IsHere (d : Piece) : Type 0 where
 abbrev With : Entry → Had → Entry
 With e h = record { kind = e.kind; pair = e.pair; had = h }
 
-pub piece_account : (d : Piece) → IsHere d → (c : Bool) (cs : List Bool) → MayChoose c (outside d.step) d.past d.rest → account_past (before d c cs) (step_of d.step) d.next ≡ Some (past d c cs)
-piece_account d n c cs may =
+piece_account_by : (d : Piece) → IsHere d → (c : Bool) (cs : List Bool) → line_past_separation true (begins_free_line d.site.before d.separation) (line_by c (outside d.step) d.line) ≡ Some (line_by c (outside d.step) d.line) → (has_break d.piece && is_waiting (line_by c (outside d.step) d.line)) ≡ false → account_past (before d c cs) (step_of d.step) d.next ≡ Some (past d c cs)
+piece_account_by d n c cs unbroken one_line =
     let l : Line = line_by c (outside d.step) d.line in
     let here : Position = (at d).position in
     let again : Bool = is_renewed d.site.before d.separation in
@@ -75,9 +76,12 @@ piece_account d n c cs may =
     let entries : entries_past here again (act_of d.tok) (begun_by d.tok) false e es ≡ Some (d.entry_after ∷ es) =
     ap (λ x. entries_past here again (act_of d.tok) x false e es) n.begun ∙ (ap (λ h. entries_past here again (act_of d.tok) [] false (With d.entry h) es) (had_as_it_was d.open_key d.entry.had) ∙ n.entry_is es) in
     ap (λ b. if b then on_one_line d.piece (past_piece (at d) d.piece d.tok d.next again false (line_past_separation true (begins_free_line d.site.before d.separation) l) (e ∷ es)) else None) n.stands ∙
-    (ap (λ o. on_one_line d.piece (past_piece (at d) d.piece d.tok d.next again false o (e ∷ es))) (n.unbroken c may) ∙
+    (ap (λ o. on_one_line d.piece (past_piece (at d) d.piece d.tok d.next again false o (e ∷ es))) unbroken ∙
     (ap (λ o. on_one_line d.piece (past_inside (at d) d.piece d.tok d.next l o)) entries ∙
-    ap (λ b. if b then None else Some (past d c cs)) (n.one_line c may)))
+    ap (λ b. if b then None else Some (past d c cs)) one_line))
+
+pub piece_account : (d : Piece) → IsHere d → (c : Bool) (cs : List Bool) → MayChoose c (outside d.step) d.past d.rest → account_past (before d c cs) (step_of d.step) d.next ≡ Some (past d c cs)
+piece_account d n c cs may = piece_account_by d n c cs (n.unbroken c may) (n.one_line c may)
 
 -- where no key begins, it does not matter where a colon stands
 begun_alike : (single : Bool) (pair : Pair) (here p q own : Position) (k : Act) (h : Had) → begun_inside single pair here p own k false h ≡ begun_inside single pair here q own k false h
@@ -129,3 +133,10 @@ piece_completes text d n h c cs may =
     tokens : (ws : List Step) (last : List ℕ) → spelled ws last ≡ d.next →
         tokens_up_to (before d c cs) (keys d.step) d.tokens (step_of d.step ∷ ws) last ++ tokens_of_step (before d c cs) (step_of d.step) ws last ≡ tokens_up_to (past d c cs) (None ∷ d.outer_keys) (d.tokens ++ own_tokens d) ws last
     tokens ws last e = own ws last ∙ ap (λ x. tokens_up_to (past (record d { step = record d.step { next = x } }) c cs) (None ∷ d.outer_keys) (d.tokens ++ own_tokens (record d { step = record d.step { next = x } })) ws last) e
+
+-- The same where a row may begin but for the key outside flow.
+pub piece_carried : (text : List ℕ) (begin : Position) (d : Piece) → IsHere d → d.line ≡ taken → ((cs : List Bool) → BeginsButForKey text (d.separation ++ (d.piece ++ d.next)) begin (chosen false cs (keys d.step) (base d.step))) → (cs : List Bool) → BeginsButForKey text d.next begin (past d false cs)
+piece_carried text begin d n line h cs =
+    but_for_key_past text (d.separation ++ (d.piece ++ d.next)) begin (before d false cs) (past d false cs) (step_of d.step) d.next refl
+    (n.is_filled, (ap not n.is_solid, subst (λ x. SeenWith d x) (sym (same_levels (false ∷ pop cs) (keys d.step) (d.entry ∷ d.around))) n.is_piece))
+    (piece_account_by d n false cs (none_broken (begins_free_line d.site.before d.separation) (outside d.step) d.line line) (none_waits (has_break d.piece) (outside d.step) d.line line)) (h (false ∷ pop cs))

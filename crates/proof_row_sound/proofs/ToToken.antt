@@ -37,7 +37,8 @@ use Rattle.proof_row_sound.proofs.Sides.{StandsAt}
 use Rattle.proof_row_sound.proofs.Arrivals.{unbroken}
 use Rattle.proof_row_sound.proofs.LastLines.{last_whole, at_break, column_after, no_comment_in_last}
 use Rattle.proof_row_sound.proofs.Skips.{Spaced, IsAt, IsIn, Cleared, skip_clears}
-use Rattle.proof_row_sound.proofs.Passed.{skip_stays, Exact, exact, live_before_it, may_before, same_has_break, first_comment, renewed_alike, free_line_append, read_on_append, some_columns, least_is}
+use Rattle.proof_row_sound.proofs.Passed.{skip_stays, Exact, exact, live_before_it, may_before, same_has_break, first_comment, renewed_alike, free_line_append, read_on_append, some_columns, least_is, goes_on}
+use Rattle.defs_row.specs.Beginning.{BeginsButForKey}
 
 -- ---- where the way begins
 
@@ -254,6 +255,7 @@ module _ (text : List ℕ) (t u : ScannerState) (s : Stands text t) (begins : be
     adjacent_before = subst (λ n. t.held.adjacent_value_at ≤ n) (sym (index_after t.held.position e.separation u.rest)) (omega (arith, s.adjacent_before));
     started = s.started;
     going = s.going;
+    carries = λ cs k key m i some. subst (λ r. BeginsButForKey text r k.position (chosen false cs t.held.keys s.base)) (ap (λ r. s.separation ++ r) e.cut ∙ sym (append_assoc s.separation e.separation u.rest)) (s.carries cs k key m i (goes_on e.separation t.rest u.rest e.cut some));
     completes = λ x cs may. subst (λ r. Completes text r (chosen x cs t.held.keys s.base) (tokens_up_to (chosen x cs t.held.keys s.base) t.held.keys t.held.tokens))
         (ap (λ r. s.separation ++ r) e.cut ∙ sym (append_assoc s.separation e.separation u.rest))
         (s.completes x cs (may_before x (outside_key s.base.entries t.held.keys) t.held.position e.separation t.rest u.rest e.cut may));

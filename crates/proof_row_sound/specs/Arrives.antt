@@ -14,7 +14,7 @@ use Rattle.defs_row.specs.Account.{Site, Account, before_by, site_in}
 use Rattle.defs_row.specs.Tokens.{ends_at}
 use Rattle.model_scanner.specs.State.{Key, ScannerState}
 use Rattle.proof_lexers.specs.Separations.{begins_separation}
-use Rattle.proof_row_sound.specs.Choices.{outside_key, chosen, MayChoose}
+use Rattle.proof_row_sound.specs.Choices.{outside_key, chosen, MayChoose, IsCarriedOn}
 use Rattle.proof_row_sound.specs.Completes.{tokens_up_to, Completes}
 use Rattle.proof_row_sound.specs.Stands.{columns, has_open_level, AreLevels, AreEntries, is_free, IsOpenOutside, AreNumbered}
 
@@ -65,5 +65,6 @@ pub record Arrives (text : List ℕ) (t : ScannerState) : Type 0 where
   pub was_adjacent : t.held.adjacent_value_at ≤ t.held.position.index
   pub started : t.held.started ≡ true
   pub going : t.held.ended ≡ false
+  pub carries : IsCarriedOn text (separation ++ t.rest) t.rest t.held.keys base
   pub completes : (c : Bool) (cs : List Bool) → MayChoose c (outside_key base.entries t.held.keys) t.held.position t.rest →
       Completes text (separation ++ t.rest) (chosen c cs t.held.keys base) (tokens_up_to (chosen c cs t.held.keys base) t.held.keys tokens)

@@ -4,6 +4,8 @@ use Rattle.defs_text.specs.Position.{Position}
 use Rattle.defs_row.specs.Key.{Line, waits as waits_on_line}
 use Rattle.defs_row.specs.FlowEntry.{Had, waits, Entry}
 use Rattle.defs_row.specs.Account.{Account}
+use Rattle.defs_row.specs.Beginning.{BeginsButForKey}
+use Rattle.defs_text.specs.Text.{is_empty}
 use Rattle.model_scanner.specs.State.{Key, pop}
 use Rattle.model_scanner.specs.Keys.{top_key}
 use Rattle.proof_cut.specs.Here.{IsLive}
@@ -48,3 +50,8 @@ abbrev pub MayChoose : Bool → Option Key → Position → (rest : List ℕ) �
 MayChoose c None p rest = Unit {0}
 MayChoose true (Some k) p rest = IsLive k p rest
 MayChoose false (Some k) p rest = k.required ≡ false
+
+-- In flow, where the text goes on: the open key outside flow, if it must be one, has begun so that a row may begin so but for this key, whatever is chosen in the entries.
+abbrev pub IsCarriedOn : (text after rest : List ℕ) → List (Option Key) → Account → Type 0
+IsCarriedOn text after rest ks base =
+    (cs : List Bool) (k : Key) → outside_key base.entries ks ≡ Some k → k.required ≡ true → is_empty base.entries ≡ false → is_empty rest ≡ false → BeginsButForKey text after k.position (chosen false cs ks base)

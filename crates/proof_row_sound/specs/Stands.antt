@@ -26,7 +26,7 @@ use Rattle.proof_cut.specs.Here.{IsLive, IsNotRight}
 use Rattle.proof_cut.specs.Order.{NotBefore}
 use Rattle.proof_cut.specs.Stands.{IsAdjacent, FaresAt}
 use Rattle.defs_row.specs.Column.{innermost}
-use Rattle.proof_row_sound.specs.Choices.{outside_key, chosen, MayChoose}
+use Rattle.proof_row_sound.specs.Choices.{outside_key, chosen, MayChoose, IsCarriedOn}
 use Rattle.proof_row_sound.specs.Completes.{tokens_up_to, Completes}
 
 -- ---- levels of indentation
@@ -210,6 +210,7 @@ pub record Stands (text : List ℕ) (t : ScannerState) : Type 0 where
   pub adjacent_before : t.held.adjacent_value_at ≤ t.held.position.index
   pub started : t.held.started ≡ true
   pub going : t.held.ended ≡ false
+  pub carries : IsCarriedOn text (separation ++ t.rest) t.rest t.held.keys base
   pub completes : (c : Bool) (cs : List Bool) → MayChoose c (outside_key base.entries t.held.keys) t.held.position t.rest →
       Completes text (separation ++ t.rest) (chosen c cs t.held.keys base) (tokens_up_to (chosen c cs t.held.keys base) t.held.keys t.held.tokens)
 

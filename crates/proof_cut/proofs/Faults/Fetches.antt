@@ -54,7 +54,7 @@ header_other p style line after f (headers.reads h is no_tab e) = absurd (cc e)
 header_other p style line after f (headers.tabbed h is tab e) = other_by f p _ refl e
 header_other p style line after f (headers.zero_digit is zero e) = other_by f p _ refl e
 header_other p style line after f (headers.comment h before text is was cut e) = other_by f p _ refl e
-header_other p style line after f (headers.no_header is e) = other_by f p _ refl e
+header_other p style line after f (headers.no_header is zero more begins e) = other_by f p _ refl e
 
 block_other : (style : BlockStyle) (indent : ℕ) (more : List ℕ) (p : Position) → has_no_nul more ≡ true → Refuses IsOther (block (is_literal_style style) indent (indicator_of style ∷ more) p)
 block_other style indent more p clean = by (block (is_literal_style style) indent (indicator_of style ∷ more) p) (block_laws.scans_end style indent more p (some_chars more clean))

@@ -56,8 +56,9 @@ line_other start line f (directives.no_name e) = refl
 line_other start line f (directives.by_name e) = refl
 line_other start line f (directives.by_version why e k) = version_other _ why start k
 line_other start line f (directives.by_declaration why e k) = declaration_other _ why start k
-line_other start line f (directives.by_comment before rest e) = refl
-line_other start line f (directives.by_text before rest e k) = refl
+line_other start line f (directives.by_comment before rest e k) = refl
+line_other start line f (directives.after_version rest e k l) = refl
+line_other start line f (directives.after_declaration rest e k) = refl
 
 directive_other : (more : List ℕ) (p : Position) → Refuses IsOther (directive (37 ∷ more) p)
 directive_other more p = by (directive (37 ∷ more) p) (directives_end more p)
@@ -74,10 +75,14 @@ name_other c more p = by (anchor_name (c ∷ more) p) (names_end c more p)
     by x (names.nameless is e) = rw e (this refl)
 
 tag_why_other : (flow : Bool) (t : List ℕ) (why : Problem) (p : Position) → tag_ends.IsTagRefusal flow t why → IsOther (At why p)
-tag_why_other flow t why p (tag_ends.by_octets before uri rest f e k) = octets_other f p
-tag_why_other flow t why p (tag_ends.unclosed uri rest e k l) = refl
+tag_why_other flow t why p (tag_ends.verbatim_octets rest f e k) = octets_other f p
+tag_why_other flow t why p (tag_ends.unclosed rest uri e k l) = refl
+tag_why_other flow t why p (tag_ends.verbatim_goes_on rest uri more e k l m) = refl
+tag_why_other flow t why p (tag_ends.suffix_octets name rest f e k l) = octets_other f p
 tag_why_other flow t why p (tag_ends.no_suffix name rest e k l) = refl
-tag_why_other flow t why p (tag_ends.goes_on piece rest handle suffix e k l) = refl
+tag_why_other flow t why p (tag_ends.suffix_goes_on name rest suffix e k l m n) = refl
+tag_why_other flow t why p (tag_ends.local_octets f e k l) = octets_other f p
+tag_why_other flow t why p (tag_ends.local_goes_on suffix e k l m) = refl
 
 tag_other : (flow : Bool) (more : List ℕ) (p : Position) → Refuses IsOther (tags.tag flow (33 ∷ more) p)
 tag_other flow more p = by (tags.tag flow (33 ∷ more) p) (tags_end flow more p)

@@ -111,8 +111,8 @@ module _ (style : BlockStyle) (indent : ℕ) (p : Position) where
       bad_header line after (At problem.BlockScalarZero p) refl inner at_end (zero_digit f z refl) (header_fails (is_literal_style style) indent (indicator_of style) (line ++ after) p (At problem.BlockScalarZero p) e)
   by_header line after inner at_end (comment g b t f w c e) go =
       bad_header line after (At problem.CommentNotSeparated (along b (past p))) refl inner at_end (comment g b t f w c refl) (header_fails (is_literal_style style) indent (indicator_of style) (line ++ after) p (At problem.CommentNotSeparated (along b (past p))) e)
-  by_header line after inner at_end (no_header f e) go =
-      bad_header line after (At problem.BlockScalarHeader p) refl inner at_end (no_header f refl) (header_fails (is_literal_style style) indent (indicator_of style) (line ++ after) p (At problem.BlockScalarHeader p) e)
+  by_header line after inner at_end (no_header f z m b e) go =
+      bad_header line after (At problem.BlockScalarHeader p) refl inner at_end (no_header f z m b refl) (header_fails (is_literal_style style) indent (indicator_of style) (line ++ after) p (At problem.BlockScalarHeader p) e)
 
   -- a piece that is a block scalar
   found : (text piece next : List ℕ) (h : defs.Header) (line : List ℕ) (b : BlockRead) → header_of (indicator_of style ∷ line) ≡ Some h → h.style ≡ b.style → indicator_of style ∷ text ≡ piece ++ next → list_all is_some next ≡ true

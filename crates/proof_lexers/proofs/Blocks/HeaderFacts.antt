@@ -104,7 +104,7 @@ module _ (h : defs.Header) (line after : List ℕ) (p : Position) (is : header_o
       by (tabbed g f t e) = let no : true ≡ false = sym t ∙ still in cc
       by (zero_digit f z e) = let no : None ≡ Some h = sym f ∙ is in cc
       by (comment g b t f w c e) = let no : None ≡ Some h = sym f ∙ is in cc
-      by (no_header f e) = let no : None ≡ Some h = sym f ∙ is in cc
+      by (no_header f z m b e) = let no : None ≡ Some h = sym f ∙ is in cc
 
   pub header_tabs : is_in_line line ≡ true → ends_line after ≡ true → begins_with tab (linebreak after p).rest ≡ true → header p (line ++ after) (past p) ≡ Err (At problem.BlockScalarTab p)
   header_tabs inner ends still = by (headers_end h.style line after p inner ends)
@@ -114,7 +114,7 @@ module _ (h : defs.Header) (line after : List ℕ) (p : Position) (is : header_o
       by (tabbed g f t e) = e
       by (zero_digit f z e) = let no : None ≡ Some h = sym f ∙ is in cc
       by (comment g b t f w c e) = let no : None ≡ Some h = sym f ∙ is in cc
-      by (no_header f e) = let no : None ≡ Some h = sym f ∙ is in cc
+      by (no_header f z m b e) = let no : None ≡ Some h = sym f ∙ is in cc
 
 pub linebreak_put : (k : Break) (a : List ℕ) (q : Position) → Fits k a → linebreak (put k a) q ≡ record { rest = a; position = after_break k q; value = tt }
 linebreak_put feed a q fits = refl

@@ -20,7 +20,7 @@ use Rattle.model_lexers.specs.Machine.{Read, past, and_then, skip_while}
 use Rattle.model_lexers.specs.Space.{space_from, space, linebreak, is_line}
 use Rattle.model_lexers.specs.Block.{chomping, increment, indicators, late_chomping, with_chomping, header_break, header_end, header, with_indicators}
 use Rattle.proof_lexers.proofs.Bridges.{same_break, same_blank}
-use Rattle.proof_lexers.specs.HeaderEnds.{indicator_of, chomping_of, indicators_of, is_in_line, ends_line, along, is_sign, has_zero, HeaderEndsAs, reads, tabbed, zero_digit, comment, no_header}
+use Rattle.proof_lexers.specs.HeaderEnds.{indicator_of, chomping_of, indicators_of, is_in_line, ends_line, along, is_sign, has_zero, past_indicators, HeaderEndsAs, reads, tabbed, zero_digit, comment, no_header}
 use Rattle.proof_lexers.specs.BlockLaws.{HeadersEndAsTheirLineSays}
 use Rattle.proof_lexers.proofs.Blocks.InLine.{first_inner}
 
@@ -138,7 +138,7 @@ module _ (start : Position) where
   -- why a line is no rest of a header
   data Fails (w : List ℕ) (p : Position) (x : Result (Read Bool) Fault) : Type 0 where
     at_comment : (text : List ℕ) → w ≡ 35 ∷ text → x ≡ Err (At problem.CommentNotSeparated p) → Fails w p x
-    at_other : x ≡ Err (At problem.BlockScalarHeader start) → Fails w p x
+    at_other : begins_with 35 w ≡ false → x ≡ Err (At problem.BlockScalarHeader start) → Fails w p x
 
   hash_fails : (a : List ℕ) (p : Position) → rest_from (35 ∷ a) p false false ≡ Err (At problem.CommentNotSeparated p)
   hash_fails a p = refl
@@ -152,11 +152,11 @@ module _ (start : Position) where
       inner = first_inner c w h
 
       by : (hash blank : Bool) → (c == 35) ≡ hash → is_blank c ≡ blank → Fails (c ∷ w) p (rest_from (c ∷ (w ++ r)) p false false)
-      by hash true f g =
+      by false true f g =
           let more : is_blanks_and_comment w ≡ false = rw (same_blank c, g) at is in
-          at_other (blank_goes c (w ++ r) p false false g ∙ blanks_fail w r (past p) (c == 9) (c == 32) inner.1 more)
-      by true false f g = let so = eqb-true c 35 f in rw so (at_comment w refl (hash_fails (w ++ r) p))
-      by false false f g = at_other (other_fails c (w ++ r) p false false inner.0 g f)
+          at_other f (blank_goes c (w ++ r) p false false g ∙ blanks_fail w r (past p) (c == 9) (c == 32) inner.1 more)
+      by true blank f g = let so = eqb-true c 35 f in rw so (at_comment w refl (hash_fails (w ++ r) p))
+      by false false f g = at_other f (other_fails c (w ++ r) p false false inner.0 g f)
 
 -- ---- after a header's line
 
@@ -244,18 +244,22 @@ module _ (start : Position) (style : BlockStyle) (r : List ℕ) (ends : ends_lin
   abbrev Ends : List ℕ → Type 0
   Ends line = HeaderEndsAs start style line r (header start (line ++ r) (past start))
 
+  -- a line's indicators end before this text, and no `0` stands among them
+  abbrev EndsBefore : List ℕ → List ℕ → Type 0
+  EndsBefore line w = (past_indicators line ≡ w) × (has_zero line ≡ false)
+
   -- after the indicators, before the rest of the line
   finish : (line before w : List ℕ) (h : defs.Header) → line ≡ before ++ w → is_in_line w ≡ true → header_of (indicator_of style ∷ line) ≡ (if is_rest_of_line w then Some h else None)
-      → header_of (indicator_of style ∷ before) ≡ Some h → indicators start (line ++ r) (past start) ≡ Ok (record { rest = w ++ r; position = along before (past start); value = indicators_of h }) → Ends line
+      → header_of (indicator_of style ∷ before) ≡ Some h → indicators start (line ++ r) (past start) ≡ Ok (record { rest = w ++ r; position = along before (past start); value = indicators_of h }) → EndsBefore line w → Ends line
   unfolding header
-  finish line before w h cut inner is own reads_it = by (is_rest_of_line w) refl
+  finish line before w h cut inner is own reads_it before_it = by (is_rest_of_line w) refl
     where
       q : Position
       q = along before (past start)
 
-      refused : Fails start w q (header_end start (w ++ r) q) → header_of (indicator_of style ∷ line) ≡ None → Ends line
-      refused (at_comment text so e) none = comment h before text none own (cut ∙ ap (λ x. before ++ x) so) (rw (reads_it, e) refl)
-      refused (at_other e) none = no_header none (rw (reads_it, e) refl)
+      refused : Fails start w q (header_end start (w ++ r) q) → is_rest_of_line w ≡ false → header_of (indicator_of style ∷ line) ≡ None → Ends line
+      refused (at_comment text so e) more none = comment h before text none own (cut ∙ ap (λ x. before ++ x) so) (rw (reads_it, e) refl)
+      refused (at_other begins e) more none = no_header none before_it.1 (ap is_rest_of_line before_it.0 ∙ more) (ap (begins_with 35) before_it.0 ∙ begins) (rw (reads_it, e) refl)
 
       by : (b : Bool) → is_rest_of_line w ≡ b → Ends line
       by true e =
@@ -264,7 +268,7 @@ module _ (start : Position) (style : BlockStyle) (r : List ℕ) (ends : ends_lin
           rw (reads_it, rest_goes start w r q inner ends e) (at_line_end start style line r h some (along w q) position ends)
       by false e =
           let none : header_of (indicator_of style ∷ line) ≡ None = rw e at is in
-          refused (rest_fails start w r q inner e) none
+          refused (rest_fails start w r q inner e) e none
 
   abbrev made : defs.Chomping → Option ℕ → defs.Header
   made ch d = record { style = style; chomping = ch; digit = d }
@@ -288,6 +292,7 @@ module _ (start : Position) (style : BlockStyle) (r : List ℕ) (ends : ends_lin
     late : (n : Read ℕ) → late_chomping (chomping_of ch) n ≡ record { rest = n.rest; position = n.position; value = record { chomping = chomping_of ch; increment = n.value } }
     said_so : sign_of c ≡ Some ch
     is : is_sign c ≡ true
+    no_zero : (c == 48) ≡ false
 
   module _ (c : ℕ) (ch : defs.Chomping) (sign : IsSign c ch) where
     sign_said : (l : List ℕ) → header_of (indicator_of style ∷ c ∷ l) ≡ after_sign style ch l
@@ -299,18 +304,18 @@ module _ (start : Position) (style : BlockStyle) (r : List ℕ) (ends : ends_lin
     with_digit l a n p e = rw (sign.reads_it, e) (ap Ok (sign.late (record { rest = a; position = p; value = n })))
 
     sign_only : Ends (c ∷ [])
-    sign_only = finish (c ∷ []) (c ∷ []) [] (made ch None) refl refl (sign_said []) (sign_said []) (with_digit [] r 0 (past (past start)) (end_increment start r (past (past start)) ends))
+    sign_only = finish (c ∷ []) (c ∷ []) [] (made ch None) refl refl (sign_said []) (sign_said []) (with_digit [] r 0 (past (past start)) (end_increment start r (past (past start)) ends)) (rw (sign.is) refl, rw (sign.no_zero, sign.is) refl)
 
-    sign_other : (d : ℕ) (m : List ℕ) → is_in_line (d ∷ m) ≡ true → is_digit d ≡ false → classes.is_between 49 57 d ≡ false → Ends (c ∷ d ∷ m)
+    sign_other : (d : ℕ) (m : List ℕ) → is_in_line (d ∷ m) ≡ true → is_digit d ≡ false → (d == 48) ≡ false → classes.is_between 49 57 d ≡ false → Ends (c ∷ d ∷ m)
     unfolding digit_of
-    sign_other d m inner e f =
-        finish (c ∷ d ∷ m) (c ∷ []) (d ∷ m) (made ch None) refl inner (sign_said (d ∷ m) ∙ rw f refl) (sign_said []) (with_digit (d ∷ m) (d ∷ (m ++ r)) 0 (past (past start)) (no_increment start d (m ++ r) (past (past start)) e))
+    sign_other d m inner e z f =
+        finish (c ∷ d ∷ m) (c ∷ []) (d ∷ m) (made ch None) refl inner (sign_said (d ∷ m) ∙ rw f refl) (sign_said []) (with_digit (d ∷ m) (d ∷ (m ++ r)) 0 (past (past start)) (no_increment start d (m ++ r) (past (past start)) e)) (rw (sign.is, f) refl, rw (sign.no_zero, sign.is, z) refl)
 
     sign_digit : (d : ℕ) (m : List ℕ) → is_in_line m ≡ true → is_digit d ≡ true → (d == 48) ≡ false → classes.is_between 49 57 d ≡ true → Ends (c ∷ d ∷ m)
     unfolding digit_of
     sign_digit d m inner e f g =
         finish (c ∷ d ∷ m) (c ∷ d ∷ []) m (made ch (Some (d - 48))) refl inner (sign_said (d ∷ m) ∙ rw g refl) (sign_said (d ∷ []) ∙ rw g refl)
-        (with_digit (d ∷ m) (m ++ r) (d - 48) (past (past (past start))) (some_increment start d (m ++ r) (past (past start)) e f))
+        (with_digit (d ∷ m) (m ++ r) (d - 48) (past (past (past start))) (some_increment start d (m ++ r) (past (past start)) e f)) (rw (sign.is, g) refl, rw (sign.no_zero, sign.is, f) refl)
 
     sign_zero : (m : List ℕ) → Ends (c ∷ 48 ∷ m)
     unfolding digit_of indicators classes.is_blank
@@ -322,11 +327,11 @@ module _ (start : Position) (style : BlockStyle) (r : List ℕ) (ends : ends_lin
 
     sign_then : (d : ℕ) (m : List ℕ) → is_in_line (d ∷ m) ≡ true → Kind d → Ends (c ∷ d ∷ m)
     unfolding is_digit
-    sign_then d m inner (is_minus e) = rw e (sign_other 45 m (rw e at inner) refl refl)
-    sign_then d m inner (is_plus e) = rw e (sign_other 43 m (rw e at inner) refl refl)
+    sign_then d m inner (is_minus e) = rw e (sign_other 45 m (rw e at inner) refl refl refl)
+    sign_then d m inner (is_plus e) = rw e (sign_other 43 m (rw e at inner) refl refl refl)
     sign_then d m inner (is_zero e) = rw e (sign_zero m)
     sign_then d m inner (is_count e f g h k) = sign_digit d m ((first_inner d m inner).1) g h k
-    sign_then d m inner (is_other e f g h k) = sign_other d m inner g k
+    sign_then d m inner (is_other e f g h k) = sign_other d m inner g h k
 
     sign_first : (l : List ℕ) → is_in_line l ≡ true → Ends (c ∷ l)
     sign_first [] inner = sign_only
@@ -334,15 +339,18 @@ module _ (start : Position) (style : BlockStyle) (r : List ℕ) (ends : ends_lin
 
   minus : IsSign 45 strip
   unfolding chomping sign_of
-  minus = record { reads_it = λ a p. refl; late = λ n. refl; said_so = refl; is = refl }
+  minus = record { reads_it = λ a p. refl; late = λ n. refl; said_so = refl; is = refl; no_zero = refl }
 
   plus : IsSign 43 keep
   unfolding chomping sign_of
-  plus = record { reads_it = λ a p. refl; late = λ n. refl; said_so = refl; is = refl }
+  plus = record { reads_it = λ a p. refl; late = λ n. refl; said_so = refl; is = refl; no_zero = refl }
 
   -- ---- a digit first
 
   module _ (c : ℕ) (no_plus : (c == 43) ≡ false) (no_minus : (c == 45) ≡ false) (is_count_digit : is_digit c ≡ true) (no_zero : (c == 48) ≡ false) (counts : classes.is_between 49 57 c ≡ true) where
+    no_sign : is_sign c ≡ false
+    no_sign = rw (no_plus, no_minus) refl
+
     digit_said : (l : List ℕ) → header_of (indicator_of style ∷ c ∷ l) ≡ after_digit style (c - 48) l
     unfolding sign_of digit_of
     digit_said l = said (c ∷ l) ∙ rw (no_minus, no_plus, counts) refl
@@ -353,16 +361,16 @@ module _ (start : Position) (style : BlockStyle) (r : List ℕ) (ends : ends_lin
     with_sign l a ch p e = rw (no_chomping c (l ++ r) (past start) no_plus no_minus, some_increment start c (l ++ r) (past start) is_count_digit no_zero, e) refl
 
     digit_only : Ends (c ∷ [])
-    digit_only = finish (c ∷ []) (c ∷ []) [] (made clip (Some (c - 48))) refl refl (digit_said []) (digit_said []) (with_sign [] r clip (past (past start)) (end_chomping r (past (past start)) ends))
+    digit_only = finish (c ∷ []) (c ∷ []) [] (made clip (Some (c - 48))) refl refl (digit_said []) (digit_said []) (with_sign [] r clip (past (past start)) (end_chomping r (past (past start)) ends)) (rw (no_sign, counts) refl, rw (no_zero, no_sign) refl)
 
     digit_other : (d : ℕ) (m : List ℕ) → is_in_line (d ∷ m) ≡ true → (d == 43) ≡ false → (d == 45) ≡ false → Ends (c ∷ d ∷ m)
     unfolding sign_of
     digit_other d m inner e f =
-        finish (c ∷ d ∷ m) (c ∷ []) (d ∷ m) (made clip (Some (c - 48))) refl inner (digit_said (d ∷ m) ∙ rw (f, e) refl) (digit_said []) (with_sign (d ∷ m) (d ∷ (m ++ r)) clip (past (past start)) (no_chomping d (m ++ r) (past (past start)) e f))
+        finish (c ∷ d ∷ m) (c ∷ []) (d ∷ m) (made clip (Some (c - 48))) refl inner (digit_said (d ∷ m) ∙ rw (f, e) refl) (digit_said []) (with_sign (d ∷ m) (d ∷ (m ++ r)) clip (past (past start)) (no_chomping d (m ++ r) (past (past start)) e f)) (rw (no_sign, counts, e, f) refl, rw (no_zero, no_sign) refl)
 
     digit_sign : (d : ℕ) (ch : defs.Chomping) (m : List ℕ) → is_in_line m ≡ true → IsSign d ch → Ends (c ∷ d ∷ m)
     digit_sign d ch m inner sign =
-        finish (c ∷ d ∷ m) (c ∷ d ∷ []) m (made ch (Some (c - 48))) refl inner (digit_said (d ∷ m) ∙ rw (sign.said_so) refl) (digit_said (d ∷ []) ∙ rw (sign.said_so) refl) (with_sign (d ∷ m) (m ++ r) ch (past (past (past start))) (sign.reads_it (m ++ r) (past (past start))))
+        finish (c ∷ d ∷ m) (c ∷ d ∷ []) m (made ch (Some (c - 48))) refl inner (digit_said (d ∷ m) ∙ rw (sign.said_so) refl) (digit_said (d ∷ []) ∙ rw (sign.said_so) refl) (with_sign (d ∷ m) (m ++ r) ch (past (past (past start))) (sign.reads_it (m ++ r) (past (past start)))) (rw (no_sign, counts, sign.is) refl, rw (no_zero, no_sign) refl)
 
     digit_then : (d : ℕ) (m : List ℕ) → is_in_line (d ∷ m) ≡ true → Kind d → Ends (c ∷ d ∷ m)
     digit_then d m inner (is_minus e) = rw e (digit_sign 45 strip m ((first_inner d m inner).1) minus)
@@ -378,17 +386,17 @@ module _ (start : Position) (style : BlockStyle) (r : List ℕ) (ends : ends_lin
   -- ---- neither
 
   no_indicator : (l : List ℕ) → indicators start (l ++ r) (past start) ≡ Ok (record { rest = l ++ r; position = past start; value = indicators_of (made clip None) })
-      → is_in_line l ≡ true → header_of (indicator_of style ∷ l) ≡ (if is_rest_of_line l then Some (made clip None) else None) → Ends l
-  no_indicator l e inner is = finish l [] l (made clip None) refl inner is (said []) e
+      → is_in_line l ≡ true → header_of (indicator_of style ∷ l) ≡ (if is_rest_of_line l then Some (made clip None) else None) → EndsBefore l l → Ends l
+  no_indicator l e inner is before_it = finish l [] l (made clip None) refl inner is (said []) e before_it
 
   empty_line : Ends []
   unfolding indicators
-  empty_line = no_indicator [] (rw (end_chomping r (past start) ends, end_increment start r (past start) ends) (ap (λ x. Ok (with_chomping 0 x)) (end_chomping r (past start) ends))) refl (said [])
+  empty_line = no_indicator [] (rw (end_chomping r (past start) ends, end_increment start r (past start) ends) (ap (λ x. Ok (with_chomping 0 x)) (end_chomping r (past start) ends))) refl (said []) (refl, refl)
 
-  other_first : (c : ℕ) (l : List ℕ) → is_in_line (c ∷ l) ≡ true → (c == 43) ≡ false → (c == 45) ≡ false → is_digit c ≡ false → classes.is_between 49 57 c ≡ false → Ends (c ∷ l)
+  other_first : (c : ℕ) (l : List ℕ) → is_in_line (c ∷ l) ≡ true → (c == 43) ≡ false → (c == 45) ≡ false → is_digit c ≡ false → (c == 48) ≡ false → classes.is_between 49 57 c ≡ false → Ends (c ∷ l)
   unfolding indicators sign_of digit_of
-  other_first c l inner e f g h =
-      no_indicator (c ∷ l) (rw (no_chomping c (l ++ r) (past start) e f, no_increment start c (l ++ r) (past start) g) (ap (λ x. Ok (with_chomping 0 x)) (no_chomping c (l ++ r) (past start) e f))) inner (said (c ∷ l) ∙ rw (f, e, h) refl)
+  other_first c l inner e f g z h =
+      no_indicator (c ∷ l) (rw (no_chomping c (l ++ r) (past start) e f, no_increment start c (l ++ r) (past start) g) (ap (λ x. Ok (with_chomping 0 x)) (no_chomping c (l ++ r) (past start) e f))) inner (said (c ∷ l) ∙ rw (f, e, h) refl) (rw (e, f, h) refl, rw (z, e, f) refl)
 
   zero_first : (l : List ℕ) → Ends (48 ∷ l)
   unfolding indicators sign_of digit_of classes.is_blank
@@ -399,7 +407,7 @@ module _ (start : Position) (style : BlockStyle) (r : List ℕ) (ends : ends_lin
   line_by c l inner (is_plus e) = rw e (sign_first 43 keep plus l ((first_inner c l inner).1))
   line_by c l inner (is_zero e) = rw e (zero_first l)
   line_by c l inner (is_count e f g h k) = digit_first c e f g h k l ((first_inner c l inner).1)
-  line_by c l inner (is_other e f g h k) = other_first c l inner e f g k
+  line_by c l inner (is_other e f g h k) = other_first c l inner e f g h k
 
   of_line : (l : List ℕ) → is_in_line l ≡ true → Ends l
   of_line [] inner = empty_line

@@ -22,7 +22,7 @@ use Rattle.model_lexers.specs.Directive.{version, tag, unknown, kind, name, numb
 use Rattle.proof_lexers.proofs.Bridges.{same_blank, same_alpha, same_tag}
 use Rattle.proof_lexers.specs.NameEnds.{further}
 use Rattle.proof_lexers.specs.UriEnds.{problem_of, after_class}
-use Rattle.proof_lexers.specs.DirectiveEnds.{token_of, ends_line, first_break, next_line, after_line, IsNoVersion, no_major, long_major, no_point, no_minor, long_minor, IsNoDeclaration, no_mark, open_name, no_prefix, by_octets, goes_on, IsDirectiveRefusal, no_name, by_name, by_version, by_declaration, by_comment, by_text, DirectiveEndsAs, reads, refuses}
+use Rattle.proof_lexers.specs.DirectiveEnds.{token_of, ends_line, first_break, next_line, after_line, IsNoVersion, no_major, long_major, no_point, no_minor, long_minor, IsNoDeclaration, no_mark, open_name, no_prefix, by_octets, goes_on, IsDirectiveRefusal, no_name, by_name, by_version, by_declaration, by_comment, after_version, after_declaration, DirectiveEndsAs, reads, refuses}
 use Rattle.proof_lexers.specs.ScalarLaws.{DirectivesAreRead, DirectivesEndAsTheirTextSays}
 use Rattle.proof_lexers.proofs.Separation.Positions.{position_append, position_in_line}
 use Rattle.proof_lexers.proofs.Properties.Tags.{span_cut}
@@ -83,6 +83,10 @@ no_percent_break : (l : List ℕ) → has_no_break l ≡ true → has_no_break (
 unfolding classes.is_break
 no_percent_break l h = h
 
+no_hash : classes.is_blank_or_end 35 ≡ true → ⊥
+unfolding classes.is_blank_or_end classes.is_blank classes.is_break classes.is_nul
+no_hash h = cc
+
 no_minor_of : (r : List ℕ) → minor_of None r ≡ None
 no_minor_of [] = refl
 no_minor_of (c ∷ r) = by ((c == 46) && is_rest_of_line (after classes.is_decimal_digit r))
@@ -116,8 +120,9 @@ module _ (start : Position) (l n : List ℕ) (line : has_no_break l ≡ true) (e
       ap (λ q. position_after q (first_break n) (next_line n)) here ∙ sym (position_append start (37 ∷ l) (first_break n) (next_line n))
 
   finish : (before m : List ℕ) (d : Directive) (p : Position) → l ≡ before ++ m → p ≡ further (suc (length before)) start → directive_of (37 ∷ l) ≡ (if is_rest_of_line m then Some d else None)
-      → Told start l n (after_value start (record { rest = m ++ n; position = p; value = token_of d }))
-  finish before m d p cut position says = by (line_end start (m ++ n) p) (line_ends start p m n (no_break_after before m (ap has_no_break (sym cut) ∙ line)) ends)
+      → ((k : List ℕ) → m ≡ 35 ∷ k → IsDirectiveRefusal start l (At problem.CommentNotSeparated (further (suc (length before)) start)))
+      → (is_rest_of_line m ≡ false → begins_with 35 m ≡ false → IsDirectiveRefusal start l (At problem.DirectiveEnd start)) → Told start l n (after_value start (record { rest = m ++ n; position = p; value = token_of d }))
+  finish before m d p cut position says by_hash by_other = by (line_end start (m ++ n) p) (line_ends start p m n (no_break_after before m (ap has_no_break (sym cut) ∙ line)) ends)
     where
       v : Read Tok
       v = record { rest = m ++ n; position = p; value = token_of d }
@@ -125,14 +130,14 @@ module _ (start : Position) (l n : List ℕ) (line : has_no_break l ≡ true) (e
       go : Result (Read (Unit {0})) Fault → Result (Read Tok) Fault
       go x = and_then x (λ r. Ok (with_end v r))
 
-      glued : (k : List ℕ) → l ≡ before ++ k → begins_with 35 k ≡ true → IsDirectiveRefusal start l (At problem.CommentNotSeparated (further (suc (length before)) start))
+      glued : (k : List ℕ) → m ≡ k → begins_with 35 k ≡ true → IsDirectiveRefusal start l (At problem.CommentNotSeparated (further (suc (length before)) start))
       glued [] e b = cc
-      glued (c ∷ k) e b = let same : c ≡ 35 = eqb-true c 35 b in by_comment before k (e ∙ ap (λ h. before ++ h ∷ k) same)
+      glued (c ∷ k) e b = let same : c ≡ 35 = eqb-true c 35 b in by_hash k (e ∙ ap (λ h. h ∷ k) same)
 
       by : (x : Result (Read (Unit {0})) Fault) → LineEnds start p m n x → Told start l n (go x)
       by x (ended is e) = is_directive d (says ∙ rw is refl) (ap go e ∙ ap (λ q. Ok (record { rest = next_line n; position = q; value = token_of d })) (last_position before m p cut position))
-      by x (comment begins none e) = refused (At problem.CommentNotSeparated p) (go x) (says ∙ rw none refl) (subst (λ q. IsDirectiveRefusal start l (At problem.CommentNotSeparated q)) (sym position) (glued m cut begins)) (ap go e)
-      by x (text none e) = refused (At problem.DirectiveEnd start) (go x) (says ∙ rw none refl) (by_text before m cut none) (ap go e)
+      by x (comment begins none e) = refused (At problem.CommentNotSeparated p) (go x) (says ∙ rw none refl) (subst (λ q. IsDirectiveRefusal start l (At problem.CommentNotSeparated q)) (sym position) (glued m refl begins)) (ap go e)
+      by x (text none begins e) = refused (At problem.DirectiveEnd start) (go x) (says ∙ rw none refl) (by_other none begins) (ap go e)
 
   -- ---- words
 
@@ -172,7 +177,10 @@ module _ (start : Position) (l n : List ℕ) (line : has_no_break l ≡ true) (e
     -- after the minor number
     version_end : (s minor : List ℕ) (v w : ℕ) → after classes.is_decimal_digit said ≡ 46 ∷ s → leading classes.is_decimal_digit s ≡ minor → number_of major ≡ Some v → number_of minor ≡ Some w
         → Told start l n (after_value start (record { rest = after classes.is_decimal_digit s ++ n; position = further (length minor) (past (further (length major) said_position)); value = Tok.version_directive v w }))
-    version_end s minor v w point lead is is_w = finish before rest (defs.version v w) _ cut position (says_version ∙ rw (point, lead, is, is_w) refl)
+    version_end s minor v w point lead is is_w =
+        finish before rest (defs.version v w) _ cut position (says_version ∙ rw (point, lead, is, is_w) refl)
+        (λ k e. by_comment before k (cut ∙ ap (λ r. before ++ r) e) (record { major = v; minor = w; point = s; is_version = word; has_point = point; is_major = is; is_minor = ap number_of lead ∙ is_w; is_before = e }))
+        (λ none begins. after_version rest (record { major = v; minor = w; point = s; is_version = word; has_point = point; is_major = is; is_minor = ap number_of lead ∙ is_w; is_before = refl }) none begins)
       where
         rest : List ℕ
         rest = after classes.is_decimal_digit s
@@ -276,9 +284,12 @@ module _ (start : Position) (l n : List ℕ) (line : has_no_break l ≡ true) (e
       declares : (cs : List ℕ) → begins_prefix from_prefix ≡ true → decoded prefix_text ≡ Ok cs → declaration_by (handle_and_rest said) ≡ (if is_rest_of_line after_prefix then Some (tag_declaration handle_is cs) else None)
       declares cs begins means = rw (is, begins, means) refl
 
-      declaration_end : (cs : List ℕ) → begins_prefix from_prefix ≡ true → decoded prefix_text ≡ Ok cs
+      declaration_end : (cs : List ℕ) → begins_prefix from_prefix ≡ true → decoded prefix_text ≡ Ok cs → is_at_gap after_prefix ≡ true
           → Told start l n (after_value start (record { rest = after_prefix ++ n; position = further (length prefix_text) prefix_position; value = Tok.tag_directive handle_is cs }))
-      declaration_end cs begins means = finish before after_prefix (tag_declaration handle_is cs) _ cut position (says_declaration ∙ declares cs begins means)
+      declaration_end cs begins means apart =
+          finish before after_prefix (tag_declaration handle_is cs) _ cut position (says_declaration ∙ declares cs begins means)
+          (λ k e. absurd (no_hash (sym (ap is_at_gap e) ∙ apart)))
+          (λ none begins_no. after_declaration after_prefix (record { prefix = cs; is_declaration = word; has_handle = is; has_prefix = begins; is_prefix = means; is_before = refl; is_apart = apart }) none)
         where
           before : List ℕ
           before = leading classes.is_alpha l ++ (leading classes.is_blank after_word ++ (handle_is ++ (leading classes.is_blank after_handle ++ prefix_text)))
@@ -320,7 +331,7 @@ module _ (start : Position) (l n : List ℕ) (line : has_no_break l ≡ true) (e
       characters_read (Ok cs) begins means = by (is_at_gap after_prefix) refl
         where
           by : (b : Bool) → is_at_gap after_prefix ≡ b → Told start l n (and_then (and_then (prefix_result (Ok cs)) (λ q. with_prefix start handle_is q)) (λ t. after_value start t))
-          by true e = rw (gap_is after_prefix n ends, e) (declaration_end cs begins means)
+          by true e = rw (gap_is after_prefix n ends, e) (declaration_end cs begins means e)
           by false e = declaration_refused problem.TagDirectiveEnd _ (declares cs begins means ∙ rw (gap_missing after_prefix e) refl) (goes_on e) (rw (gap_is after_prefix n ends, e) refl)
 
       prefix_read : Told start l n (and_then (prefix_after start handle_is (blanks (after_handle ++ n) handle_position)) (λ t. after_value start t))
@@ -357,7 +368,7 @@ module _ (start : Position) (l n : List ℕ) (line : has_no_break l ≡ true) (e
   ignored c w lead no_version no_tag gap =
       let in_line : has_no_break after_word ≡ true = no_break_after (leading classes.is_alpha l) after_word (ap has_no_break (sym (span_cut classes.is_alpha l)) ∙ line) in
       let says : directive_of (37 ∷ l) ≡ Some reserved = rw (lead, gap, no_version, no_tag) refl in
-      rw (line_skipped after_word n word_position in_line ends) (finish l [] reserved (further (length after_word) word_position) (rw append-nil refl) ignored_position says)
+      rw (line_skipped after_word n word_position in_line ends) (finish l [] reserved (further (length after_word) word_position) (rw append-nil refl) ignored_position says (λ k e. absurd (cc e)) (λ none begins. absurd (cc none)))
 
   -- ---- the directive
 

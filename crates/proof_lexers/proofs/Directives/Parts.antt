@@ -135,7 +135,7 @@ tail_ends (c ∷ m) n h k s = tail_by c m n s (c == 32) (c == 9) (c == 35) refl 
 pub data LineEnds (start p : Position) (m n : List ℕ) (x : Result (Read (Unit {0})) Fault) : Type 0 where
   ended : is_rest_of_line m ≡ true → x ≡ Ok (record { rest = next_line n; position = position_after (further (length m) p) (first_break n) (next_line n); value = tt }) → LineEnds start p m n x
   comment : begins_with 35 m ≡ true → is_rest_of_line m ≡ false → x ≡ Err (At problem.CommentNotSeparated p) → LineEnds start p m n x
-  text : is_rest_of_line m ≡ false → x ≡ Err (At problem.DirectiveEnd start) → LineEnds start p m n x
+  text : is_rest_of_line m ≡ false → begins_with 35 m ≡ false → x ≡ Err (At problem.DirectiveEnd start) → LineEnds start p m n x
 
 feed_is_line : (d : ℕ) (r : List ℕ) (p : Position) → (d == 10) ≡ true → position_past p d r ≡ past_break p
 unfolding classes.is_break
@@ -208,7 +208,7 @@ line_ends start p m n h k = told (goes_to_end (m ++ n) from) (tail_ends m n h k 
     told : (x : Result (Read Whitespace) Fault) → TailEnds m n from x → LineEnds start p m n (go x)
     told x (passes w is lone e) = ended (passed_is_rest m is (alone (begins_with 35 m) lone)) (ap go e ∙ break_passed start (further (length m) p) n k)
     told x (glued begins found e) = comment begins (begun_is_no_rest m begins) (ap go e)
-    told x (more c rest q w solid is begins e) = text (more_is_no_rest m is) (ap go e ∙ text_fails start c (rest ++ n) q solid)
+    told x (more c rest q w solid is begins e) = text (more_is_no_rest m is) begins (ap go e ∙ text_fails start c (rest ++ n) q solid)
 
 -- ---- numbers
 

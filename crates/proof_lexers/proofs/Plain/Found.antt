@@ -13,7 +13,7 @@ use Rattle.model_lexers.specs.declared.context.Context.{Context}
 use Rattle.model_lexers.specs.Machine.{Read}
 use Rattle.model_lexers.specs.Folding.{Folded, with_char, with_blank, with_break, joined}
 use Rattle.model_lexers.specs.Plain.{Plain}
-use Rattle.proof_lexers.specs.PlainEnds.{collection_of, is_white, is_gap, begins_white, begins_solid, has_break, stand_after, is_apart}
+use Rattle.proof_lexers.specs.PlainEnds.{collection_of, is_white, is_gap, begins_white, begins_token, has_break, stand_after, is_apart}
 
 -- ---- the buffers, a character at a time
 
@@ -47,8 +47,8 @@ module _ (ctx : Context) (start : Position) where
     dash : (before rest : List ℕ) → ctx.flow ≡ true → a ≡ before ++ 45 ∷ rest → begins_flow rest ≡ true → goes_on ctx.flow (collection_of ctx.indent) s before (45 ∷ rest) ≡ true → is_apart (stand_after s before) ≡ true
         → Fails tabs s p a (At problem.PlainDashInFlow (position_after p before (45 ∷ rest)))
     tab : (before blanks rest : List ℕ) (column : ℕ) → a ≡ before ++ 9 ∷ (blanks ++ rest) → goes_on ctx.flow (collection_of ctx.indent) s before (9 ∷ (blanks ++ rest)) ≡ true → stand_after s before ≡ on_line column
-        → nat_lt column ctx.indent ≡ true → is_blanks blanks ≡ true → begins_solid rest ≡ true → Fails tabs s p a (At problem.PlainTab start)
-    after_tab : (blanks rest : List ℕ) → tabs ≡ true → a ≡ blanks ++ rest → is_blanks blanks ≡ true → begins_solid rest ≡ true → Fails tabs s p a (At problem.PlainTab start)
+        → nat_lt column ctx.indent ≡ true → is_blanks blanks ≡ true → begins_token rest ≡ true → Fails tabs s p a (At problem.PlainTab start)
+    after_tab : (blanks rest : List ℕ) → tabs ≡ true → a ≡ blanks ++ rest → is_blanks blanks ≡ true → begins_token rest ≡ true → Fails tabs s p a (At problem.PlainTab start)
 
   abbrev pub left : Position → Folded → (more gap rest : List ℕ) → Read Plain
   left p t more gap rest = record { rest = rest; position = position_after p (more ++ gap) rest; value = record { text = (after_text more t).text; leading = leads more t gap } }
@@ -72,7 +72,7 @@ module _ (ctx : Context) (start : Position) where
 
   -- the same refusal, told from one character before; that one is no end of the scalar
   pub further : (c : ℕ) (a : List ℕ) (tabs u : Bool) (s next : Stand) (p : Position) (f : Fault) → past s c ≡ next → (is_white c || not (ends_plain ctx.flow (collection_of ctx.indent) s (c ∷ a))) ≡ true
-      → ((blanks rest : List ℕ) → u ≡ true → a ≡ blanks ++ rest → is_blanks blanks ≡ true → begins_solid rest ≡ true → Fails tabs s p (c ∷ a) (At problem.PlainTab start))
+      → ((blanks rest : List ℕ) → u ≡ true → a ≡ blanks ++ rest → is_blanks blanks ≡ true → begins_token rest ≡ true → Fails tabs s p (c ∷ a) (At problem.PlainTab start))
       → Fails u next (position_past p c a) a f → Fails tabs s p (c ∷ a) f
   further c a tabs u s next p f e on after (dash before rest flow cut begins goes apart) =
       let here : (is_white c || not (ends_plain ctx.flow (collection_of ctx.indent) s (c ∷ (before ++ 45 ∷ rest)))) ≡ true = rw cut at on in

@@ -120,7 +120,7 @@ module _ (ctx : Context) (start : Position) where
   tabs_solid c column a p t false h white plain =
       let break : is_break c ≡ false = not_break c white in
       let blank : is_blank c ≡ false = not_blank c white in
-      fails (At problem.PlainTab start) (after_tab [] (c ∷ a) refl refl refl (rw white refl)) (rw (break, h, blank) refl)
+      fails (At problem.PlainTab start) (after_tab [] (c ∷ a) refl refl refl (rw (white, h) refl)) (rw (break, h, blank) refl)
 
   tabs_by : (c column : ℕ) (a : List ℕ) (p : Position) (t : Folded) → t.leading ≡ true → Scans ctx start a → Kind c → Found ctx start true (on_line column) p t (c ∷ a) (scan ctx start (c ∷ a) tabs p t)
   tabs_by c column a p t lead ih (breaks e) = break_step ctx start c a true tabs (on_line column) p t _ e ih (rw e refl)

@@ -18,7 +18,7 @@ use Rattle.model_lexers.specs.Machine.{Read, past, past_break, is_cr_lf, at_mark
 use Rattle.model_lexers.specs.Folding.{Folded, with_char, with_blank, with_break, joined}
 use Rattle.model_lexers.specs.Plain.{Mode, inside, between, tabs, at_break, can_be_plain, is_shallow, at_dash, at_plain, goes_on, plain_from, Plain}
 use Rattle.proof_lexers.proofs.Bridges.{both, same_break, same_blank, same_gap, same_flow, same_marker}
-use Rattle.proof_lexers.specs.PlainEnds.{collection_of, is_white, begins_white, begins_solid}
+use Rattle.proof_lexers.specs.PlainEnds.{collection_of, is_white, begins_white, begins_token}
 use Rattle.proof_lexers.proofs.Plain.Found.{after_char, Fails, Found, found, found_on, further, after_gap, after_content}
 
 pub or_true : (b : Bool) → (b || true) ≡ true
@@ -191,7 +191,7 @@ module _ (ctx : Context) (start : Position) where
   blank_white c e = rw (same_blank c, e) refl
 
   pub blank_step : (c : ℕ) (a : List ℕ) (u : Bool) (m n : Mode) (s next : Stand) (p : Position) (t : Folded) (x : Result (Read Plain) Fault) → is_break c ≡ false → is_blank c ≡ true → defs.past_blank s ≡ next
-      → ((blanks rest : List ℕ) → is_tabs n ≡ true → a ≡ blanks ++ rest → is_blanks blanks ≡ true → begins_solid rest ≡ true → Fails ctx start u s p (c ∷ a) (At problem.PlainTab start))
+      → ((blanks rest : List ℕ) → is_tabs n ≡ true → a ≡ blanks ++ rest → is_blanks blanks ≡ true → begins_token rest ≡ true → Fails ctx start u s p (c ∷ a) (At problem.PlainTab start))
       → Scans a → IsStanding a (past p) (with_blank c t) n next → x ≡ scan a n (past p) (with_blank c t) → Found ctx start u s p t (c ∷ a) x
   blank_step c a u m n s next p t x e f g tabbed ih stands is =
       found_on ctx start u s p t (c ∷ a) x _ is

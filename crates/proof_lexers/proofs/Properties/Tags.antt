@@ -6,19 +6,18 @@ use Rattle.defs_text.specs.Position.{Position}
 use Rattle.yaml_chars.specs.Class.{is_alphanumeric, is_alpha, is_blank, is_break, is_blank_or_breakz, is_flow, is_uri, is_uri_mark, is_tag}
 use Rattle.defs_text.specs.Text.{is_empty}
 use Rattle.yaml_tokens.specs.declared.problem.Fault.{Fault}
-use Rattle.yaml_tokens.specs.declared.problem.Fault.TheVariants.{At}
 use Rattle.yaml_tokens.specs.declared.problem.Problem.TheVariants as problem
 use Rattle.defs_text.specs.Classes as classes
 use Rattle.defs_text.specs.Classes.{is_at_gap}
+use Rattle.defs_scalar.specs.FlowScalar.{begins_with}
 use Rattle.defs_scalar.specs.Tags as defs
 use Rattle.defs_scalar.specs.Tags.{UriFault, all_of, leading, after, is_same, decoded, decoded_after, uri_character, put_code, tag_by, tag_of_class, written_tag}
 use Rattle.model_lexers.specs.Machine.{Read, past, and_then, take_while}
-use Rattle.model_lexers.specs.Uri.{uri}
 use Rattle.model_lexers.specs.Tag.{Tag, read_tag, verbatim_end, verbatim, some_suffix, named, local, after_name, shorthand, ends_tag, tag_end, tag}
 use Rattle.proof_lexers.proofs.Bridges.{same_gap, same_flow, same_alpha, same_tag}
 use Rattle.proof_lexers.specs.NameEnds.{further}
 use Rattle.proof_lexers.specs.UriEnds.{problem_of, after_class}
-use Rattle.proof_lexers.specs.TagEnds.{may_follow, by_octets, unclosed, no_suffix, goes_on, TagEndsAs, reads, refuses}
+use Rattle.proof_lexers.specs.TagEnds.{may_follow, IsTagRefusal, verbatim_octets, unclosed, verbatim_goes_on, suffix_octets, no_suffix, suffix_goes_on, local_octets, local_goes_on, TagEndsAs, reads, refuses}
 use Rattle.proof_lexers.specs.ScalarLaws.{TagsEndAsTheirTextSays}
 use Rattle.proof_lexers.proofs.Properties.Names.{one_further, none_further}
 use Rattle.proof_lexers.proofs.Properties.Uris.{uris_are_read}
@@ -92,16 +91,12 @@ module _ (flow : Bool) (start : Position) (text : List ℕ) where
 
   -- a tag that stands there
   ended : (piece rest handle suffix : List ℕ) (p : Position) → text ≡ piece ++ rest → written_tag (33 ∷ piece) ≡ Some (record { handle = handle; suffix = suffix }) → p ≡ further (length (33 ∷ piece)) start
-      → TagEndsAs flow start text (tag_end flow start (read_tag rest p handle suffix))
-  ended piece rest handle suffix p cut is position = by (may_follow flow rest) refl
+      → (may_follow flow rest ≡ false → IsTagRefusal flow text problem.TagEnd) → TagEndsAs flow start text (tag_end flow start (read_tag rest p handle suffix))
+  ended piece rest handle suffix p cut is position goes = by (may_follow flow rest) refl
     where
       by : (b : Bool) → may_follow flow rest ≡ b → TagEndsAs flow start text (tag_end flow start (read_tag rest p handle suffix))
       by true e = reads piece rest handle suffix cut is e (rw (same_end flow rest, e, position) refl)
-      by false e = refuses problem.TagEnd (goes_on piece rest handle suffix cut is e) (rw (same_end flow rest, e) refl)
-
-  -- octets that are no characters
-  bad_octets : (before uri rest : List ℕ) (f : UriFault) (x : Result (Read Tag) Fault) → text ≡ before ++ (uri ++ rest) → decoded uri ≡ Err f → x ≡ Err (At (problem_of f) start) → TagEndsAs flow start text x
-  bad_octets before uri rest f x cut bad is = refuses (problem_of f) (by_octets before uri rest f cut bad) is
+      by false e = refuses problem.TagEnd (goes e) (rw (same_end flow rest, e) refl)
 
 -- ---- a verbatim tag
 
@@ -124,19 +119,20 @@ module _ (flow : Bool) (start : Position) (b : List ℕ) where
 
   closing : (cs : List ℕ) (r : List ℕ) → decoded written ≡ Ok cs → after classes.is_uri b ≡ r
       → TagEndsAs flow start (60 ∷ b) (and_then (verbatim_end start cs r (further (length written) (past (past start)))) (λ t. tag_end flow start t))
-  closing cs [] is e = refuses problem.VerbatimTagEnd (unclosed written [] (ap (λ k. 60 ∷ k) (span_cut classes.is_uri b ∙ ap (λ k. written ++ k) e)) (all_leading classes.is_uri b) refl) refl
+  closing cs [] is e = refuses problem.VerbatimTagEnd (unclosed b cs refl is (ap (begins_with 62) e)) refl
   closing cs (c ∷ r) is e = by (c == 62) refl
     where
       by : (closes : Bool) → (c == 62) ≡ closes → TagEndsAs flow start (60 ∷ b) (and_then (verbatim_end start cs (c ∷ r) (further (length written) (past (past start)))) (λ t. tag_end flow start t))
       by true f =
           let same : c ≡ 62 = eqb-true c 62 f in
           let cut : b ≡ (written ++ 62 ∷ []) ++ r = span_cut classes.is_uri b ∙ ap (λ k. written ++ k) (e ∙ ap (λ d. d ∷ r) same) ∙ sym (append_assoc written (62 ∷ []) r) in
-          rw f (ended flow start (60 ∷ b) (60 ∷ (written ++ 62 ∷ [])) r [] cs _ (ap (λ k. 60 ∷ k) cut) (verbatim_written written cs (all_leading classes.is_uri b) is) (closed_position start (length written) _ (length-append written (62 ∷ []))))
-      by false f = refuses problem.VerbatimTagEnd (unclosed written (c ∷ r) (ap (λ k. 60 ∷ k) (span_cut classes.is_uri b ∙ ap (λ k. written ++ k) e)) (all_leading classes.is_uri b) f) (rw f refl)
+          rw f (ended flow start (60 ∷ b) (60 ∷ (written ++ 62 ∷ [])) r [] cs _ (ap (λ k. 60 ∷ k) cut) (verbatim_written written cs (all_leading classes.is_uri b) is) (closed_position start (length written) _ (length-append written (62 ∷ [])))
+          (verbatim_goes_on b cs r refl is (e ∙ ap (λ d. d ∷ r) same)))
+      by false f = refuses problem.VerbatimTagEnd (unclosed b cs refl is (ap (begins_with 62) e ∙ f)) (rw f refl)
 
   verbatim_by : (d : Result (List ℕ) UriFault) → decoded written ≡ d
       → TagEndsAs flow start (60 ∷ b) (and_then (and_then (after_class classes.is_uri start (past (past start)) b [] d) (λ (r : Read (List ℕ)). verbatim_end start r.value r.rest r.position)) (λ t. tag_end flow start t))
-  verbatim_by (Err f) e = bad_octets flow start (60 ∷ b) (60 ∷ []) written (after classes.is_uri b) f _ (ap (λ k. 60 ∷ k) (span_cut classes.is_uri b)) e refl
+  verbatim_by (Err f) e = refuses (problem_of f) (verbatim_octets b f refl e) refl
   verbatim_by (Ok cs) e = closing cs (after classes.is_uri b) e refl
 
   verbatims : TagEndsAs flow start (60 ∷ b) (tag flow (33 ∷ 60 ∷ b) start)
@@ -287,8 +283,7 @@ module _ (flow : Bool) (start : Position) (text name : List ℕ) (all : all_of c
   -- after a name and a second mark
   suffix_by : (s l rest : List ℕ) (d : Result (List ℕ) UriFault) → text ≡ name ++ 33 ∷ (l ++ rest) → leading classes.is_tag s ≡ l → s ≡ l ++ rest → after classes.is_tag s ≡ rest → decoded l ≡ d
       → TagEndsAs flow start text (and_then (and_then (after_class classes.is_tag start (past (further (length name) (past start))) s [] d) (λ r. some_suffix start name r)) (λ t. tag_end flow start t))
-  suffix_by s l rest (Err f) cut lead same b e =
-      bad_octets flow start text (name ++ 33 ∷ []) l rest f _ (cut ∙ sym (append_assoc name (33 ∷ []) (l ++ rest))) e refl
+  suffix_by s l rest (Err f) cut lead same b e = refuses (problem_of f) (suffix_octets name s f (cut ∙ ap (λ r. name ++ 33 ∷ r) (sym same)) all (ap decoded lead ∙ e)) refl
   suffix_by s [] rest (Ok cs) cut lead same b e =
       let none : [] ≡ cs = cc in
       rw (← none) (refuses problem.TagUri (no_suffix name rest cut all (ap (leading classes.is_tag) (sym same) ∙ lead)) refl)
@@ -296,26 +291,31 @@ module _ (flow : Bool) (start : Position) (text name : List ℕ) (all : all_of c
       let some : is_empty cs ≡ false = decoded_some c l cs e in
       let tags : all_of classes.is_tag (c ∷ l) ≡ true = ap (all_of classes.is_tag) (sym lead) ∙ all_leading classes.is_tag s in
       rw (some, b, lead) (ended flow start text (name ++ 33 ∷ c ∷ l) rest ((33 ∷ name) ++ 33 ∷ []) cs _ (cut ∙ sym (append_assoc name (33 ∷ c ∷ l) rest)) (named_written name c l cs all tags e)
-      (named_position start (length name) (length (c ∷ l)) (length (name ++ 33 ∷ c ∷ l)) (length-append name (33 ∷ c ∷ l))))
+      (named_position start (length name) (length (c ∷ l)) (length (name ++ 33 ∷ c ∷ l)) (length-append name (33 ∷ c ∷ l)))
+      (λ g. suffix_goes_on name s cs (cut ∙ ap (λ r. name ++ 33 ∷ r) (sym same)) all (ap is_empty lead) (ap decoded lead ∙ e) (ap (may_follow flow) b ∙ g)))
 
   -- after a word and no mark
-  local_by : (m l rest : List ℕ) (d : Result (List ℕ) UriFault) → text ≡ name ++ (l ++ rest) → begins_in classes.is_alpha l ≡ false → leading classes.is_tag m ≡ l → after classes.is_tag m ≡ rest → decoded l ≡ d
+  local_by : (m l rest : List ℕ) (d : Result (List ℕ) UriFault) → text ≡ name ++ (l ++ rest) → after classes.is_alpha text ≡ m → begins_with 60 text ≡ false → defs.begins_with_mark m ≡ false → begins_in classes.is_alpha l ≡ false → leading classes.is_tag m ≡ l → after classes.is_tag m ≡ rest → decoded l ≡ d
       → TagEndsAs flow start text (and_then (and_then (after_class classes.is_tag start (further (length name) (past start)) m name d) (λ r. Ok (local r))) (λ t. tag_end flow start t))
-  local_by m l rest (Err f) cut begins lead b e = bad_octets flow start text name l rest f _ cut e refl
-  local_by m l rest (Ok cs) cut begins lead b e = by (is_empty (name ++ l)) refl
+  local_by m l rest (Err f) cut ends not_verbatim unmarked begins lead b e = refuses (problem_of f) (local_octets f not_verbatim (ap defs.begins_with_mark ends ∙ unmarked) (ap (λ r. decoded (leading classes.is_tag r)) ends ∙ (ap decoded lead ∙ e))) refl
+  local_by m l rest (Ok cs) cut ends not_verbatim unmarked begins lead b e = by (is_empty (name ++ l)) refl
     where
+      goes : may_follow flow rest ≡ false → IsTagRefusal flow text problem.TagEnd
+      goes g =
+          local_goes_on cs not_verbatim (ap defs.begins_with_mark ends ∙ unmarked) (ap (λ r. decoded (leading classes.is_tag r)) ends ∙ (ap decoded lead ∙ e)) (ap (λ r. may_follow flow (after classes.is_tag r)) ends ∙ (ap (may_follow flow) b ∙ g))
+
       by : (none : Bool) → is_empty (name ++ l) ≡ none → TagEndsAs flow start text (tag_end flow start (local (record { rest = after classes.is_tag m; position = further (length (leading classes.is_tag m)) (further (length name) (past start)); value = name ++ cs })))
       by true f =
           let parts = nil_parts name l f in
           let zeros : 0 ≡ length name + length l = rw (parts.0, parts.1) refl in
           let here : text ≡ rest = cut ∙ rw (parts.0, parts.1) refl in
           let none : is_empty (name ++ cs) ≡ true = still_none name l cs f e in
-          rw (none, b, lead) (ended flow start text [] rest [] (33 ∷ []) _ here refl (local_position start (length name) (length l) 0 zeros))
+          rw (none, b, lead) (ended flow start text [] rest [] (33 ∷ []) _ here refl (local_position start (length name) (length l) 0 zeros) goes)
       by false f =
           let some : is_empty (name ++ cs) ≡ false = still_some name l cs f e in
           let tags : all_of classes.is_tag l ≡ true = ap (all_of classes.is_tag) (sym lead) ∙ all_leading classes.is_tag m in
           rw (some, b, lead) (ended flow start text (name ++ l) rest (33 ∷ []) (name ++ cs) _ (cut ∙ sym (append_assoc name l rest)) (local_written name l cs all tags begins e f)
-          (local_position start (length name) (length l) (length (name ++ l)) (length-append name l)))
+          (local_position start (length name) (length l) (length (name ++ l)) (length-append name l)) goes)
 
   from_mark : (s : List ℕ) → text ≡ name ++ 33 ∷ s → TagEndsAs flow start text (and_then (after_name start name (33 ∷ s) (further (length name) (past start))) (λ t. tag_end flow start t))
   unfolding named
@@ -323,26 +323,34 @@ module _ (flow : Bool) (start : Position) (text name : List ℕ) (all : all_of c
       rw ((uris_are_read start s (past (further (length name) (past start))) []).1)
       (suffix_by s (leading classes.is_tag s) (after classes.is_tag s) (decoded (leading classes.is_tag s)) (cut ∙ ap (λ r. name ++ 33 ∷ r) (span_cut classes.is_tag s)) refl (span_cut classes.is_tag s) refl refl)
 
-  from_word : (m : List ℕ) → text ≡ name ++ m → begins_in classes.is_alpha m ≡ false → (slice_index m 0 == 33) ≡ false → TagEndsAs flow start text (and_then (after_name start name m (further (length name) (past start))) (λ t. tag_end flow start t))
-  from_word m cut begins unmarked =
+  from_word : (m : List ℕ) → text ≡ name ++ m → after classes.is_alpha text ≡ m → begins_with 60 text ≡ false → begins_in classes.is_alpha m ≡ false → (slice_index m 0 == 33) ≡ false → TagEndsAs flow start text (and_then (after_name start name m (further (length name) (past start))) (λ t. tag_end flow start t))
+  from_word m cut ends not_verbatim begins unmarked =
       rw (unmarked, (uris_are_read start m (further (length name) (past start)) name).1)
-      (local_by m (leading classes.is_tag m) (after classes.is_tag m) (decoded (leading classes.is_tag m)) (cut ∙ ap (λ r. name ++ r) (span_cut classes.is_tag m)) (still_no_word m begins) refl refl refl)
+      (local_by m (leading classes.is_tag m) (after classes.is_tag m) (decoded (leading classes.is_tag m)) (cut ∙ ap (λ r. name ++ r) (span_cut classes.is_tag m)) ends not_verbatim (no_mark_at m unmarked) (still_no_word m begins) refl refl refl)
+    where
+      no_mark_at : (r : List ℕ) → (slice_index r 0 == 33) ≡ false → defs.begins_with_mark r ≡ false
+      no_mark_at [] h = refl
+      no_mark_at (c ∷ r) h = h
 
-shorthand_from : (flow : Bool) (start : Position) (a m : List ℕ) → after classes.is_alpha a ≡ m
+shorthand_from : (flow : Bool) (start : Position) (a m : List ℕ) → begins_with 60 a ≡ false → after classes.is_alpha a ≡ m
     → TagEndsAs flow start a (and_then (after_name start (leading classes.is_alpha a) m (further (length (leading classes.is_alpha a)) (past start))) (λ t. tag_end flow start t))
-shorthand_from flow start a [] e = from_word flow start a (leading classes.is_alpha a) (all_leading classes.is_alpha a) [] (span_cut classes.is_alpha a ∙ ap (λ r. leading classes.is_alpha a ++ r) e) refl refl
-shorthand_from flow start a (c ∷ s) e = by (c == 33) refl
+shorthand_from flow start a [] not_verbatim e = from_word flow start a (leading classes.is_alpha a) (all_leading classes.is_alpha a) [] (span_cut classes.is_alpha a ∙ ap (λ r. leading classes.is_alpha a ++ r) e) e not_verbatim refl refl
+shorthand_from flow start a (c ∷ s) not_verbatim e = by (c == 33) refl
   where
     cut : a ≡ leading classes.is_alpha a ++ c ∷ s
     cut = span_cut classes.is_alpha a ∙ ap (λ r. leading classes.is_alpha a ++ r) e
 
     by : (marked : Bool) → (c == 33) ≡ marked → TagEndsAs flow start a (and_then (after_name start (leading classes.is_alpha a) (c ∷ s) (further (length (leading classes.is_alpha a)) (past start))) (λ t. tag_end flow start t))
     by true f = let same : c ≡ 33 = eqb-true c 33 f in rw same (from_mark flow start a (leading classes.is_alpha a) (all_leading classes.is_alpha a) s (cut ∙ ap (λ d. leading classes.is_alpha a ++ d ∷ s) same))
-    by false f = from_word flow start a (leading classes.is_alpha a) (all_leading classes.is_alpha a) (c ∷ s) cut (ap (begins_in classes.is_alpha) (sym e) ∙ ends_after classes.is_alpha a) f
+    by false f = from_word flow start a (leading classes.is_alpha a) (all_leading classes.is_alpha a) (c ∷ s) cut e not_verbatim (ap (begins_in classes.is_alpha) (sym e) ∙ ends_after classes.is_alpha a) f
 
 shorthands : (flow : Bool) (start : Position) (a : List ℕ) → (slice_index a 0 == 60) ≡ false → TagEndsAs flow start a (tag flow (33 ∷ a) start)
 unfolding tag shorthand
-shorthands flow start a e = rw (e, word a (past start) []) (shorthand_from flow start a (after classes.is_alpha a) refl)
+shorthands flow start a e = rw (e, word a (past start) []) (shorthand_from flow start a (after classes.is_alpha a) (no_angle a e) refl)
+  where
+    no_angle : (r : List ℕ) → (slice_index r 0 == 60) ≡ false → begins_with 60 r ≡ false
+    no_angle [] h = refl
+    no_angle (c ∷ r) h = h
 
 tags_by : (flow : Bool) (start : Position) (c : ℕ) (b : List ℕ) (opens : Bool) → (c == 60) ≡ opens → TagEndsAs flow start (c ∷ b) (tag flow (33 ∷ c ∷ b) start)
 tags_by flow start c b true e = let same : c ≡ 60 = eqb-true c 60 e in rw same (verbatims flow start b)

@@ -15,9 +15,9 @@ use Rattle.model_lexers.specs.Machine.{past, past_break, is_cr_lf}
 use Rattle.model_scanner.specs.State.{Held, ScannerState, in_flow, moved}
 use Rattle.model_scanner.specs.Space.{Gap, between, comment, tab_line, is_before_indent, skip}
 use Rattle.proof_lexers.proofs.Bridges.{same_break, same_blank}
-use Rattle.proof_lexers.specs.PlainEnds.{is_white, has_break}
+use Rattle.proof_lexers.specs.PlainEnds.{is_white, has_break, begins_token}
 use Rattle.proof_lexers.specs.ScalarLaws.{SeparationsArePassed}
-use Rattle.proof_lexers.specs.Separations.{begins_separation, begins_token, after_separation, is_left, PassesAs, passes, refuses}
+use Rattle.proof_lexers.specs.Separations.{begins_separation, after_separation, is_left, PassesAs, passes, refuses}
 use Rattle.proof_lexers.proofs.Plain.Turns.{same_feed, in_line_position, line_position, or_true}
 
 abbrev is_comment : Gap → Bool

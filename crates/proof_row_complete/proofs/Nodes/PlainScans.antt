@@ -218,16 +218,16 @@ module _ (ctx : Context) (start : Position) where
 -- ---- the whole scan
 
 -- the gap does not change where the scalar ends
-stops_after : (flow : Bool) (collection : Option ℕ) (s : Stand) (g rest : List ℕ) → is_gap g ≡ true → stops flow collection s (g ++ rest) ≡ true → stops flow collection (stand_after s g) rest ≡ true
+pub stops_after : (flow : Bool) (collection : Option ℕ) (s : Stand) (g rest : List ℕ) → is_gap g ≡ true → stops flow collection s (g ++ rest) ≡ true → stops flow collection (stand_after s g) rest ≡ true
 stops_after flow collection s [] rest w h = h
 stops_after flow collection s (c ∷ g) rest w h = let q = and_parts (is_white c) (is_gap g) w in stops_after flow collection (past s c) g rest q.1 (rw q.0 at h)
 
-stand_over : (s : Stand) (r g : List ℕ) → stand_after s (r ++ g) ≡ stand_after (stand_after s r) g
+pub stand_over : (s : Stand) (r g : List ℕ) → stand_after s (r ++ g) ≡ stand_after (stand_after s r) g
 stand_over s [] g = refl
 stand_over s (c ∷ r) g = stand_over (past s c) r g
 
 -- after content stands content
-stand_content : (s : Stand) (c : ℕ) (r : List ℕ) → ends_with_content c r ≡ true → stand_after (past s c) r ≡ defs.inside
+pub stand_content : (s : Stand) (c : ℕ) (r : List ℕ) → ends_with_content c r ≡ true → stand_after (past s c) r ≡ defs.inside
 stand_content s c [] h = by (classes.is_blank c) (classes.is_break c) h
   where
     by : (x y : Bool) → (not x && not y) ≡ true → (if y then on_line 0 else (if x then past_blank s else defs.inside)) ≡ defs.inside

@@ -55,14 +55,14 @@ use Rattle.proof_row_complete.proofs.Around.Separations.{separation_of, text_aft
 -- ---- the gap after it
 
 -- a text's first blanks and breaks, and what comes after them
-record Gap (text : List ℕ) : Type 0 where
-  gap : List ℕ
-  rest : List ℕ
-  cut : text ≡ gap ++ rest
-  is_white : is_gap gap ≡ true
-  no_more : begins_white rest ≡ false
+pub record Gap (text : List ℕ) : Type 0 where
+  pub gap : List ℕ
+  pub rest : List ℕ
+  pub cut : text ≡ gap ++ rest
+  pub is_white : is_gap gap ≡ true
+  pub no_more : begins_white rest ≡ false
 
-gap_of : (text : List ℕ) → Gap text
+pub gap_of : (text : List ℕ) → Gap text
 gap_of [] = record { gap = []; rest = []; cut = refl; is_white = refl; no_more = refl }
 gap_of (c ∷ r) = by (is_white c) refl (gap_of r)
   where
@@ -75,7 +75,7 @@ pub data After (rest : List ℕ) : Type 0 where
   ended : is_at_comment_or_end rest ≡ true → After rest
   solid : is_empty rest ≡ false → begins_separation rest ≡ false → After rest
 
-after_gap : (rest : List ℕ) → begins_white rest ≡ false → After rest
+pub after_gap : (rest : List ℕ) → begins_white rest ≡ false → After rest
 after_gap [] h = ended refl
 after_gap (c ∷ r) h = by (c == 35) refl
   where
@@ -111,7 +111,7 @@ module _ (a : Account) (w : Step) (ws : List Step) (last text : List ℕ) (shown
   blocks_are : then.after.site.blocks ≡ (At a w (spelled ws last)).blocks
   blocks_are = ap (λ s. s.blocks) then.site_is
 
-  gap_clear : (indent : ℕ) (gap rest : List ℕ) → spelled ws last ≡ gap ++ rest → is_gap gap ≡ true → has_no_nul rest ≡ true → least_column (At a w (spelled ws last)).blocks true ≡ indent → After rest → IsClearGap indent gap rest
+  pub gap_clear : (indent : ℕ) (gap rest : List ℕ) → spelled ws last ≡ gap ++ rest → is_gap gap ≡ true → has_no_nul rest ≡ true → least_column (At a w (spelled ws last)).blocks true ≡ indent → After rest → IsClearGap indent gap rest
   gap_clear indent gap rest cut white nul least (ended h) = inl h
   gap_clear indent gap rest cut white nul least (solid some s) = inr (by ws then.is_row separation_is (subst (λ r. is_empty r ≡ false) rest_is some))
     where
@@ -145,11 +145,11 @@ module _ (a : Account) (w : Step) (ws : List Step) (last text : List ℕ) (shown
 -- ---- where one comes
 
 -- the dispatch looks for a plain scalar: the text begins with one, or with a dash before another thing
-data Comes (fl adjacent : Bool) (column : ℕ) (text : List ℕ) : Type 0 where
+pub data Comes (fl adjacent : Bool) (column : ℕ) (text : List ℕ) : Type 0 where
   comes : kind_at fl adjacent column text ≡ plain_kind → Comes fl adjacent column text
   dashed : kind_at fl adjacent column text ≡ dashes → Comes fl adjacent column text
 
-comes_by : (fl adjacent : Bool) (column : ℕ) (text : List ℕ) → comes_plain fl adjacent column text ≡ true → Comes fl adjacent column text
+pub comes_by : (fl adjacent : Bool) (column : ℕ) (text : List ℕ) → comes_plain fl adjacent column text ≡ true → Comes fl adjacent column text
 comes_by fl adjacent column [] h = absurd (cc h)
 comes_by fl adjacent column (c ∷ r) h = by (c == 45) refl
   where
@@ -180,7 +180,7 @@ comes_by fl adjacent column (c ∷ r) h = by (c == 45) refl
         at_dash_by true i = let begins : may_begin fl adjacent c r ≡ false = may ∙ ap not i in dashed (rw begins kind)
 
 -- the other thing is no document marker
-no_marker : (fl adjacent : Bool) (column : ℕ) (text next : List ℕ) → comes_plain fl adjacent column text ≡ true → (45 ∷ 45 ∷ 45 ∷ next) ≡ text → column ≡ 0 → is_at_gap next ≡ true → ⊥
+pub no_marker : (fl adjacent : Bool) (column : ℕ) (text next : List ℕ) → comes_plain fl adjacent column text ≡ true → (45 ∷ 45 ∷ 45 ∷ next) ≡ text → column ≡ 0 → is_at_gap next ≡ true → ⊥
 unfolding are_marks
 no_marker fl adjacent column text next h e m g =
     let all : comes_plain fl adjacent 0 (45 ∷ 45 ∷ 45 ∷ next) ≡ true = subst (λ n. comes_plain fl adjacent n (45 ∷ 45 ∷ 45 ∷ next) ≡ true) m (subst (λ r. comes_plain fl adjacent column r ≡ true) (sym e) h) in
