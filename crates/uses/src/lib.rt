@@ -28,5 +28,7 @@ pub mod round_trip;
 pub mod rows;
 pub mod settings;
 pub mod strangers;
+pub mod strangers_log;
+pub mod strangers_settings;
 pub mod typed_reads;
 pub mod validator;

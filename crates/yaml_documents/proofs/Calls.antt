@@ -14,10 +14,10 @@ use Rattle.yaml_documents.specs.Reading.{finished, ReadsOne, ReadsAll, Stops, by
 use Rattle.yaml_documents.specs.Stream.{Stream, stream_of, is_last, Adds, Says, Gives}
 use Rattle.yaml_documents.proofs.Texts.{says_document, says_all, says_stop}
 
-not_both : {P : Type 0} → false ≡ true → P
+pub not_both : {P : Type 0} → false ≡ true → P
 not_both h = cc
 
-fault_adds : {old now : Parsed} (f : ErrorReport) → Stops old f now → f.memory ≡ false → finished now ≡ finished old
+pub fault_adds : {old now : Parsed} (f : ErrorReport) → Stops old f now → f.memory ≡ false → finished now ≡ finished old
 fault_adds f (by_parser why plain same) owned = same
 fault_adds f (by_memory wants) owned = let no : true ≡ false = sym wants.memory ∙ owned in cc
 fault_adds f (by_key is_read ends same key has tells mine) owned = same

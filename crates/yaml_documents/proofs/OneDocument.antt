@@ -18,6 +18,7 @@ use Rattle.defs_event.proofs.OneByOne.{one_by_one}
 use Rattle.defs_event.proofs.StreamNests.{stream_nests}
 use Rattle.yaml_tree.specs.View.{view, items_view}
 use Rattle.yaml_tree.specs.declared.yaml.Yaml.{Yaml}
+use Rattle.yaml_parser.specs.Blames.{WantsMemory}
 use Rattle.yaml_parser.specs.Nests.{BeginsNested, opened, is_open}
 use Rattle.yaml_parser.specs.Parsed.{Parsed, is_stream_end, has_end, read}
 use Rattle.yaml_parser.proofs.Nesting.{no_end_inside}
@@ -25,12 +26,13 @@ use Rattle.proof_loads.proofs.Answers.{placed_stream}
 use Rattle.proof_loads.proofs.Pulled.{read_given, has_end_append}
 use Rattle.yaml_loader.specs.Gives.{IsGivenFault}
 use Rattle.yaml_loader.specs.Gives as given
-use Rattle.yaml_loader.specs.Loading.{loader_of, kept_fault}
+use Rattle.yaml_loader.specs.Loading.{loader_of, kept_fault, Takes}
 use Rattle.yaml_loader.specs.Loads.{HasDocuments, HasNoted}
 use Rattle.yaml_loader.proofs.LoadLemmas.{with_last, stands, new_fault, has_documents, has_noted}
 use Rattle.yaml_loader.specs.declared.loader.YamlLoader.{YamlLoader}
-use Rattle.yaml_documents.specs.Reading.{is_end, HasNoEnd, Ended, TakesAll, StopsAt, finished, EndsDocument, IsPlain, IsBetween, IsRead, ReadsOne, ReadsAll, Stops, by_parser, by_memory, by_key, Reads}
-use Rattle.yaml_documents.specs.Reading as reads
+use Rattle.yaml_documents.specs.declared.read.Halt.{Halt}
+use Rattle.yaml_documents.specs.declared.read.Halt.TheVariants as halt
+use Rattle.yaml_documents.specs.Reading.{is_end, HasNoEnd, Ended, TakesAll, Faults, Refuses, fault_in, TakesDocument, finished, EndsDocument, IsPlain, IsBetween, IsRead, ReadsOne, ReadsAll, Stops, by_parser, by_memory, by_key, Reads}
 use Rattle.yaml_documents.proofs.Numbers.{highest, low_at, AreOwn, stream_own, own_first, own_rest}
 use Rattle.yaml_documents.proofs.Beside.{LoaderUpTo, StandBeside, events_up_to, events_beside, begins_beside}
 use Rattle.yaml_documents.proofs.Between.{BeginDocument, BeginSo, begin_at_start, begin_after, over_so_far}
@@ -39,13 +41,13 @@ use Rattle.yaml_documents.proofs.Finishing.{events_append, no_more_documents, en
 -- ---- what came
 
 -- the events that came
-abbrev all_of : {old now : Parsed} → Ended old now → List (Ev × Position)
+abbrev pub all_of : {old now : Parsed} → Ended old now → List (Ev × Position)
 all_of c = c.events ++ (c.last, c.position) ∷ []
 
 plain_after : {old now : Parsed} → IsPlain old → Ended old now → IsPlain now
 plain_after h c = record { keep_tags = c.settings.keep_tags ∙ h.keep_tags; steady = c.settings.steady ∙ h.steady }
 
-is_read : {old now : Parsed} → IsPlain old → Ended old now → IsRead now
+pub is_read : {old now : Parsed} → IsPlain old → Ended old now → IsRead now
 is_read h c = record { plain = plain_after h c; ahead = c.ahead; sound = c.sound }
 
 pub read_is : {p : Parsed} → IsRead p → read p ≡ p.given
@@ -138,7 +140,7 @@ none_popped xs [] (Some y) e h = let same : view y ∷ [] ≡ [] = ap items_view
 none_popped xs (z ∷ ys) (Some y) e h = let same : view z ∷ items_view (ys ++ y ∷ []) ≡ [] = ap items_view (sym e) ∙ h in cc
 
 module _ {old now : Parsed} {r s : YamlLoader} (b : IsBetween old) (new : loader_of r ≡ new_loader) (clear : kept_fault r ≡ None) where
-  reads_one : (t : TakesAll old r now s) → t.came.last ≡ Ev.document_end → (ds : List Tree) → HasDocuments (with_events new_loader (all_of t.came)) ds → (tree : Tree) × (ds ≡ tree ∷ []) × ReadsOne old tree now
+  reads_one : (t : TakesAll Takes old r now s) → t.came.last ≡ Ev.document_end → (ds : List Tree) → HasDocuments (with_events new_loader (all_of t.came)) ds → (tree : Tree) × (ds ≡ tree ∷ []) × ReadsOne old tree now
   reads_one t e ds has =
       let c = t.came in
       let same : all_of c ≡ c.events ++ (Ev.document_end, c.position) ∷ [] = ap (λ v. c.events ++ (v, c.position) ∷ []) e in
@@ -162,7 +164,7 @@ module _ {old now : Parsed} {r s : YamlLoader} (b : IsBetween old) (new : loader
         },
       )
 
-  reads_all : (t : TakesAll old r now s) → t.came.last ≡ Ev.stream_end → (ds : List Tree) → HasDocuments (with_events new_loader (all_of t.came)) ds → (ds ≡ []) × ReadsAll old now
+  reads_all : (t : TakesAll Takes old r now s) → t.came.last ≡ Ev.stream_end → (ds : List Tree) → HasDocuments (with_events new_loader (all_of t.came)) ds → (ds ≡ []) × ReadsAll old now
   reads_all t e ds has =
       let c = t.came in
       let stays : with_events new_loader (all_of c) ≡ with_events new_loader c.events =
@@ -185,7 +187,7 @@ module _ {old now : Parsed} {r s : YamlLoader} (b : IsBetween old) (new : loader
       or_true false = refl
 
   -- What the loader gives is the document, if there was one.
-  pub read_so : (xs ys : List Yaml) (o : Option Yaml) → TakesAll old r now s → HasDocuments (loader_of s) (items_view xs) → xs ≡ ys ++ option_to_list o → (0 < length xs → IsSome o) → Reads old (Ok o) now
+  pub read_so : (xs ys : List Yaml) (o : Option Yaml) → TakesAll Takes old r now s → HasDocuments (loader_of s) (items_view xs) → xs ≡ ys ++ option_to_list o → (0 < length xs → IsSome o) → Reads old (Ok o) now
   read_so xs ys o t has e some =
       let all = all_of t.came in
       let mine : HasDocuments (with_events new_loader all) (items_view xs) = has_documents (with_events new_loader all) (loader_of s) (items_view xs) (stands r new clear t.received).alike has in
@@ -268,7 +270,7 @@ not_refused keep_tags tokens es p begins = by (with_events new_loader es) refl
 
 module _ {old now : Parsed} {r s : YamlLoader} (b : IsBetween old) (new : loader_of r ≡ new_loader) (clear : kept_fault r ≡ None) where
   -- Where the loader has noted a key, the documents are those before.
-  pub stops_by_key : (f : ErrorReport) → TakesAll old r now s → IsGivenFault s f → Stops old f now
+  pub stops_by_key : (f : ErrorReport) → TakesAll Takes old r now s → IsGivenFault s f → Stops old f now
   stops_by_key f t (given.kept is) = let both = sym (stands r new clear t.received).clear ∙ is in cc
   stops_by_key f t (given.repeated_key key has tells owned) =
       let c = t.came in
@@ -285,14 +287,12 @@ module _ {old now : Parsed} {r s : YamlLoader} (b : IsBetween old) (new : loader
         | inr h ↦ absurd (none_noted b c h key f.position mine)
       ]
 
-  -- So does a fault on the way.
-  pub stops_so : (f : ErrorReport) → StopsAt old r f now s → Stops old f now
-  stops_so f (reads.by_parser es none are settings why) =
-      by_parser why (record { keep_tags = settings.keep_tags ∙ b.plain.keep_tags; steady = settings.steady ∙ b.plain.steady })
-      (ap (λ xs. documents_of (with_events new_loader xs)) are ∙ ap documents_of (events_append new_loader old.given es) ∙ no_more_documents (with_events new_loader old.given) es none)
-  stops_so f (reads.by_loader c t took takes) = elim (new_fault r new clear c.last c.position took takes) [
-    | inl wants ↦ by_memory (record { memory = ap (λ g. g.memory) wants; text = ap (λ g. g.text) wants })
+  -- Where the loader refuses an event, memory was refused.
+  pub refused_by_memory : (f : ErrorReport) → Refuses Takes old r f now s → WantsMemory f
+  refused_by_memory f q = elim (new_fault r new clear q.came.last q.came.position q.received q.refuses) [
+    | inl wants ↦ record { memory = ap (λ g. g.memory) wants; text = ap (λ g. g.text) wants }
     | inr nesting ↦
+        let c = q.came in
         let s = stream_begins b.plain c in
         let at : refused_at (with_events new_loader (old.given ++ all_of c)) ≡ Some c.position =
         ap (λ es. refused_at (with_events new_loader es)) (sym c.given)
@@ -300,6 +300,21 @@ module _ {old now : Parsed} {r s : YamlLoader} (b : IsBetween old) (new : loader
         ∙ ap refused_at (with_last new_loader c.events c.last c.position) ∙ nesting.1 in
         absurd (not_refused now.keep_tags s.0 (old.given ++ all_of c) c.position s.1 at)
   ]
+
+-- events without an end finish no document more
+pub none_more : (old : Parsed) (es : List (Ev × Position)) (now : Parsed) → HasNoEnd es → now.given ≡ old.given ++ es → finished now ≡ finished old
+none_more old es now none are =
+    ap (λ xs. documents_of (with_events new_loader xs)) are ∙ ap documents_of (events_append new_loader old.given es) ∙ no_more_documents (with_events new_loader old.given) es none
+
+-- a fault of the parser
+pub stops_by_parser : {old now : Parsed} (f : ErrorReport) → IsBetween old → Faults old f now → Stops old f now
+stops_by_parser {old} {now} f b h =
+    by_parser h.why (record { keep_tags = h.settings.keep_tags ∙ b.plain.keep_tags; steady = h.settings.steady ∙ b.plain.steady }) (none_more old h.events now h.no_end h.given)
+
+-- a halt on the way
+pub stops_so : {old now : Parsed} (r s : YamlLoader) → IsBetween old → loader_of r ≡ new_loader → kept_fault r ≡ None → (h : Halt) → TakesDocument Takes old r (Err h) now s → Stops old (fault_in h) now
+stops_so r s b new clear (halt.Parser f) takes = stops_by_parser f b takes
+stops_so r s b new clear (halt.Receiver f) takes = by_memory (refused_by_memory b new clear f takes)
 
 pub reads_err : {old now : Parsed} (x : Result (Option Yaml) ErrorReport) (f : ErrorReport) → IsErrAnd x (λ e. e ≡ f) → Stops old f now → Reads old x now
 reads_err (Ok u) f h y = absurd h

@@ -1,16 +1,13 @@
 -- The events of one document, one by one.
-use Rattle.std.proofs.Common.{◌≡◌, ◌≢◌, ◌||◌, true, false, if◌then◌else◌, List, [], ◌∷◌, ◌++◌, Ok, Err, refl, sym, ap, ◌∙◌, subst, append_assoc, append-nil, arith}
+use Rattle.std.proofs.Common.{◌≡◌, ◌≢◌, ◌||◌, true, false, if◌then◌else◌, List, [], ◌∷◌, ◌++◌, Ok, Err, refl, sym, ap, ◌∙◌, append_assoc, append-nil, arith}
 use Rattle.std.specs.Prelude.{Result}
-use Rattle.std.specs.Result.{IsErrAnd}
 use Rattle.defs_text.specs.Position.{Position}
 use Rattle.yaml_tokens.specs.ErrorReport.{ErrorReport}
 use Rattle.defs_event.specs.Event.{Ev}
 use Rattle.yaml_parser.specs.Loads.{no_event, one_event}
 use Rattle.yaml_parser.specs.Parsed.{Parsed, is_stream_end}
 use Rattle.yaml_parser.specs.Pulls.{GivesEvent, GivesFault}
-use Rattle.yaml_loader.specs.Loading.{Takes}
-use Rattle.yaml_loader.specs.declared.loader.YamlLoader.{YamlLoader}
-use Rattle.yaml_documents.specs.Reading.{is_end, HasNoEnd, IsGoing, Goes, Ended, TakesAll, StopsAt, by_parser, by_loader, TakesDocument}
+use Rattle.yaml_documents.specs.Reading.{is_end, HasNoEnd, IsGoing, Goes, Ended, TakesAll, Faults, Refuses}
 
 pub is_not_end : (e : Ev) → is_end e ≡ false → e ≢ Ev.stream_end
 is_not_end e h k = let no : true ≡ false = sym (ap is_end k) ∙ h in cc
@@ -19,12 +16,12 @@ no_stream_end : (e : Ev) → is_end e ≡ false → is_stream_end e ≡ false
 no_stream_end Ev.stream_end h = cc
 no_stream_end _ h = refl
 
-no_end_more : (es : List (Ev × Position)) (e : Ev) (p : Position) → HasNoEnd es → is_end e ≡ false → HasNoEnd (es ++ (e, p) ∷ [])
+pub no_end_more : (es : List (Ev × Position)) (e : Ev) (p : Position) → HasNoEnd es → is_end e ≡ false → HasNoEnd (es ++ (e, p) ∷ [])
 no_end_more [] e p h other = (other, tt)
 no_end_more (x ∷ es) e p h other = (h.0, no_end_more es e p h.1 other)
 
-pub begins : (p : Parsed) (l : YamlLoader) → IsGoing p → Goes p l p l
-begins p l h = record {
+pub begins : {R : Type 0} (takes : R → Ev → Position → Result (Unit {0}) ErrorReport → R → Type 0) (p : Parsed) (l : R) → IsGoing p → Goes takes p l p l
+begins takes p l h = record {
   events = [];
   no_end = tt;
   given = sym (append-nil p.given);
@@ -40,13 +37,13 @@ given_more {now} {new} {e} h g = g.given ∙ ap (λ b. now.given ++ (if b then [
 ended_by : {now new : Parsed} {e : Ev × Position} → IsGoing now → GivesEvent now e new → new.ended ≡ is_stream_end e.0
 ended_by {now} {new} {e} h g = g.ended ∙ ap (λ b. b || is_stream_end e.0) h.ended
 
-module _ {old now new : Parsed} {r s : YamlLoader} where
-  more_given : (e : Ev) (p : Position) → (g : Goes old r now s) → GivesEvent now (e, p) new → new.given ≡ old.given ++ (g.events ++ (e, p) ∷ [])
+module _ {R : Type 0} {takes : R → Ev → Position → Result (Unit {0}) ErrorReport → R → Type 0} {old now new : Parsed} {r s : R} where
+  more_given : (e : Ev) (p : Position) → (g : Goes takes old r now s) → GivesEvent now (e, p) new → new.given ≡ old.given ++ (g.events ++ (e, p) ∷ [])
   more_given e p g gives = given_more g.going gives ∙ ap (λ es. es ++ (e, p) ∷ []) g.given ∙ append_assoc old.given g.events ((e, p) ∷ [])
 
-  -- An event is given that is no end, and the loader takes it.
-  pub goes_on : {t : YamlLoader} (e : Ev) (p : Position) → Goes old r now s → GivesEvent now (e, p) new → is_end e ≡ false → Takes s e p (Ok tt) t → Goes old r new t
-  goes_on e p g gives other takes =
+  -- An event is given that is no end, and the receiver takes it.
+  pub goes_on : {t : R} (e : Ev) (p : Position) → Goes takes old r now s → GivesEvent now (e, p) new → is_end e ≡ false → takes s e p (Ok tt) t → Goes takes old r new t
+  goes_on e p g gives other took =
       let less = gives.left (is_not_end e other) in
       let before = g.left in
       record {
@@ -55,11 +52,11 @@ module _ {old now new : Parsed} {r s : YamlLoader} where
         given = more_given e p g gives;
         going = record { fault = gives.sound.fault; ended = ended_by g.going gives ∙ no_stream_end e other };
         settings = record { keep_tags = gives.settings.keep_tags ∙ g.settings.keep_tags; steady = gives.settings.steady ∙ g.settings.steady };
-        received = one_event e p g.received takes;
+        received = one_event e p g.received took;
         left = omega (arith, less, before);
       }
 
-  pub came : (e : Ev) (p : Position) → Goes old r now s → GivesEvent now (e, p) new → Ended old new
+  pub came : (e : Ev) (p : Position) → Goes takes old r now s → GivesEvent now (e, p) new → Ended old new
   came e p g gives = record {
     events = g.events;
     last = e;
@@ -71,27 +68,27 @@ module _ {old now new : Parsed} {r s : YamlLoader} where
     sound = gives.sound;
   }
 
-  pub takes_all : {t : YamlLoader} (e : Ev) (p : Position) → Goes old r now s → GivesEvent now (e, p) new → is_end e ≡ true → Takes s e p (Ok tt) t → TakesAll old r new t
+  pub takes_all : {t : R} (e : Ev) (p : Position) → Goes takes old r now s → GivesEvent now (e, p) new → is_end e ≡ true → takes s e p (Ok tt) t → TakesAll takes old r new t
   unfolding came
-  takes_all e p g gives end takes = record {
+  takes_all e p g gives end took = record {
     came = came e p g gives;
     is_end = end;
     ended = ended_by g.going gives;
-    received = one_event e p g.received takes;
+    received = one_event e p g.received took;
     less = λ h. let less = gives.left h in let before = g.left in omega (arith, less, before);
   }
 
   -- The parser has a fault.
-  pub faults : (f : ErrorReport) → Goes old r now s → GivesFault now f new → StopsAt old r f new s
-  faults f g gives =
-      by_parser g.events g.no_end (gives.given ∙ g.given)
-      (record { keep_tags = gives.settings.keep_tags ∙ g.settings.keep_tags; steady = gives.settings.steady ∙ g.settings.steady }) (gives.why g.going.fault)
+  pub faults : (f : ErrorReport) → Goes takes old r now s → GivesFault now f new → Faults old f new
+  faults f g gives = record {
+    events = g.events;
+    no_end = g.no_end;
+    given = gives.given ∙ g.given;
+    settings = record { keep_tags = gives.settings.keep_tags ∙ g.settings.keep_tags; steady = gives.settings.steady ∙ g.settings.steady };
+    why = gives.why g.going.fault;
+  }
 
-  -- The loader refuses an event.
-  pub refuses : {t : YamlLoader} (e : Ev) (p : Position) (f : ErrorReport) → Goes old r now s → GivesEvent now (e, p) new → Takes s e p (Err f) t → StopsAt old r f new t
+  -- The receiver refuses an event.
+  pub refuses : {t : R} (e : Ev) (p : Position) (f : ErrorReport) → Goes takes old r now s → GivesEvent now (e, p) new → takes s e p (Err f) t → Refuses takes old r f new t
   unfolding came
-  refuses e p f g gives takes = by_loader (came e p g gives) s g.received takes
-
-pub stops_err : {old new : Parsed} {r s : YamlLoader} (x : Result (Unit {0}) ErrorReport) (f : ErrorReport) → IsErrAnd x (λ e. e ≡ f) → StopsAt old r f new s → TakesDocument old r x new s
-stops_err (Ok u) f h y = absurd h
-stops_err {old} {new} {r} {s} (Err e) f h y = subst (λ z. StopsAt old r z new s) (sym h) y
+  refuses e p f g gives took = record { came = came e p g gives; before = s; received = g.received; refuses = took }

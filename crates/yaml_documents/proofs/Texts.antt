@@ -1,6 +1,6 @@
 -- What the readings of one document say of a text.
 use Rattle.std.proofs.Common.{◌≡◌, ℕ, Bool, true, false, List, [], ◌∷◌, ◌++◌, Option, Some, None, Ok, refl, sym, ap, ◌∙◌, subst, inl, inr}
-use Rattle.std.specs.Prelude.{IfSome, codes, map}
+use Rattle.std.specs.Prelude.{map}
 use Rattle.std.proofs.lemmas.List.{map-append}
 use Rattle.defs_text.specs.Position.{Position}
 use Rattle.defs_token.specs.Toks.{toks}
@@ -10,19 +10,17 @@ use Rattle.defs_event.specs.Event.{Ev}
 use Rattle.defs_event.specs.Laws.{HasRead}
 use Rattle.defs_event.specs.Nested.{NestedDocument, IsNested, nested_stream}
 use Rattle.defs_event.specs.Reading.{reading}
-use Rattle.defs_event.specs.Stream.{IsStream, Foretells, NoneBegins, events_of}
+use Rattle.defs_event.specs.Stream.{IsStream, Foretells, events_of}
 use Rattle.defs_event.specs.Unfinished.{Loader, at_work, noted, refused, new_loader, with_events, documents_of}
 use Rattle.defs_event.proofs.OneByOne.{one_by_one}
 use Rattle.defs_event.proofs.StreamNests.{stream_nests}
-use Rattle.yaml_scanner.specs.Scanned.{ScansIn, IsRefusal}
-use Rattle.yaml_parser.specs.Blames.{Blames}
-use Rattle.yaml_parser.specs.Follows.{Refused, Explains}
+use Rattle.yaml_scanner.specs.Scanned.{ScansIn}
+use Rattle.yaml_parser.specs.Follows.{Explains}
 use Rattle.yaml_parser.specs.Parsed.{Parsed, has_end, read}
-use Rattle.proof_loads.specs.TextEvents.{AreFirst, BeginsEvents, IsFaultOf, wants_memory, no_token, no_stream}
+use Rattle.proof_loads.specs.TextEvents.{AreFirst, BeginsEvents, IsFaultOf, wants_memory}
 use Rattle.proof_loads.specs.TextReadAs.{IsReadAs}
-use Rattle.proof_loads.proofs.Answers.{placed_stream}
+use Rattle.proof_loads.proofs.Answers.{placed_stream, fault_of}
 use Rattle.proof_loads.proofs.Loads.{memory_is_wanted}
-use Rattle.proof_loads.proofs.Steady.{blames_steady}
 use Rattle.proof_loads.proofs.StreamEnds.{all_tokens}
 use Rattle.proof_loads.proofs.Texts.{goes_on, first_tokens}
 use Rattle.yaml_loader.specs.Loads.{HasNoted}
@@ -37,7 +35,7 @@ use Rattle.yaml_documents.proofs.OneDocument.{read_is}
 
 -- ---- the text's events begin with those that were read
 
-text_begins : (p : Parsed) (text : List ℕ) → IsRead p → ScansIn text p.scanner → BeginsEvents false text p.given
+pub text_begins : (p : Parsed) (text : List ℕ) → IsRead p → ScansIn text p.scanner → BeginsEvents false text p.given
 text_begins p text h scans =
     let f = h.sound.follows h.plain.steady in
     subst (λ es. BeginsEvents false text es) (read_is h) (subst (λ k. BeginsEvents k text (read p)) h.plain.keep_tags (record {
@@ -105,28 +103,7 @@ says_all {old} {now} text r scans =
 
 -- of a parser's fault
 fault_is : (p : Parsed) (text : List ℕ) (f : ErrorReport) → IsPlain p → ScansIn text p.scanner → Explains f p → IsFaultOf false text f
-fault_is p text f plain scans why = elim why [
-  | inl kept ↦ by_scanner f.memory refl kept
-  | inr other ↦ elim other [ inl wants ↦ wants_memory wants | inr cut ↦ by_grammar (blames_steady (cut.steady plain.steady) cut.blames) (cut.refused plain.steady) ]
-]
-  where
-    refusal : (o : Option ErrorReport) → o ≡ Some f → IfSome o (λ g. g.memory ≡ false → IsRefusal text g) → f.memory ≡ false → IsRefusal text f
-    refusal None e h m = cc
-    refusal (Some g) e h m = let same : g ≡ f = cc in subst (IsRefusal text) same (h (ap (λ x. x.memory) same ∙ m))
-
-    says : (o : Option ErrorReport) → o ≡ Some f → IfSome o (λ g. g.memory ≡ true → g.text ≡ codes "out of memory") → f.memory ≡ true → f.text ≡ codes "out of memory"
-    says None e h m = cc
-    says (Some g) e h m = let same : g ≡ f = cc in ap (λ x. x.text) (sym same) ∙ h (ap (λ x. x.memory) same ∙ m)
-
-    by_scanner : (m : Bool) → f.memory ≡ m → p.scanner.fault ≡ Some f → IsFaultOf false text f
-    by_scanner true m kept = wants_memory (record { memory = m; text = says p.scanner.fault kept scans.wants m })
-    by_scanner false m kept = no_token (refusal p.scanner.fault kept scans.refused m)
-
-    by_grammar : Blames f [] p.keep_tags p.scanner.given (read p) → Refused p → IsFaultOf false text f
-    by_grammar blames r =
-        subst (λ k. IsFaultOf k text f) plain.keep_tags
-        (no_stream r.before r.last (read p) (subst (AreFirst text) r.tokens (first_tokens text p.scanner scans)) (subst (λ ts. Blames f [] p.keep_tags ts (read p)) r.tokens blames) r.begins
-        (subst (λ ts. NoneBegins p.keep_tags (toks ts)) r.tokens r.none))
+fault_is p text f plain scans why = subst (λ k. IsFaultOf k text f) plain.keep_tags (fault_of text p f scans plain.steady why)
 
 -- after a fault
 pub says_stop : {old now : Parsed} (f : ErrorReport) (text : List ℕ) → Stops old f now → ScansIn text now.scanner → IsStopped false text (finished now) f

@@ -13,10 +13,10 @@ use Rattle.yaml_parser.specs.Follows.{Explains}
 use Rattle.yaml_parser.specs.Loads.{Receives}
 use Rattle.yaml_parser.specs.Parsed.{Parsed, is_stream_end, has_end}
 use Rattle.yaml_parser.specs.Pulls.{IsSound, KeepsSettings}
-use Rattle.yaml_loader.specs.Loading.{Takes}
 use Rattle.yaml_loader.specs.Loads.{HasDocuments, HasNoted}
 use Rattle.yaml_loader.specs.RepeatedKey.{TellsKey}
-use Rattle.yaml_loader.specs.declared.loader.YamlLoader.{YamlLoader}
+use Rattle.yaml_documents.specs.declared.read.Halt.{Halt}
+use Rattle.yaml_documents.specs.declared.read.Halt.TheVariants as halt
 
 -- ---- the events of one document
 
@@ -35,14 +35,14 @@ pub record IsGoing (p : Parsed) : Type 0 where
   pub fault : p.fault ≡ None
   pub ended : p.ended ≡ false
 
--- Some events came, none of them an end, and the loader took them.
-pub record Goes (old : Parsed) (r : YamlLoader) (now : Parsed) (s : YamlLoader) : Type 0 where
+-- Some events came, none of them an end, and the receiver took them.
+pub record Goes {R : Type 0} (takes : R → Ev → Position → Result (Unit {0}) ErrorReport → R → Type 0) (old : Parsed) (r : R) (now : Parsed) (s : R) : Type 0 where
   pub events : List (Ev × Position)
   pub no_end : HasNoEnd events
   pub given : now.given ≡ old.given ++ events
   pub going : IsGoing now
   pub settings : KeepsSettings old now
-  pub received : Receives Takes r events s
+  pub received : Receives takes r events s
   pub left : now.left ≤ old.left
 
 -- Some events came, the last of them an end.
@@ -56,22 +56,37 @@ pub record Ended (old : Parsed) (now : Parsed) : Type 0 where
   pub settings : KeepsSettings old now
   pub sound : IsSound now
 
--- The loader took them all.
-pub record TakesAll (old : Parsed) (r : YamlLoader) (now : Parsed) (s : YamlLoader) : Type 0 where
+-- The receiver took them all.
+pub record TakesAll {R : Type 0} (takes : R → Ev → Position → Result (Unit {0}) ErrorReport → R → Type 0) (old : Parsed) (r : R) (now : Parsed) (s : R) : Type 0 where
   pub came : Ended old now
   pub is_end : is_end came.last ≡ true
   pub ended : now.ended ≡ is_stream_end came.last
-  pub received : Receives Takes r (came.events ++ (came.last, came.position) ∷ []) s
+  pub received : Receives takes r (came.events ++ (came.last, came.position) ∷ []) s
   pub less : came.last ≢ Ev.stream_end → now.left < old.left
 
--- The parser has a fault after some events; or the loader refuses the last one that came.
-pub data StopsAt (old : Parsed) (r : YamlLoader) (f : ErrorReport) (now : Parsed) (s : YamlLoader) : Type 0 where
-  by_parser : (events : List (Ev × Position)) → HasNoEnd events → now.given ≡ old.given ++ events → KeepsSettings old now → Explains f now → StopsAt old r f now s
-  by_loader : (came : Ended old now) (t : YamlLoader) → Receives Takes r came.events t → Takes t came.last came.position (Err f) s → StopsAt old r f now s
+-- The parser has a fault after some events, none of them an end.
+pub record Faults (old : Parsed) (f : ErrorReport) (now : Parsed) : Type 0 where
+  pub events : List (Ev × Position)
+  pub no_end : HasNoEnd events
+  pub given : now.given ≡ old.given ++ events
+  pub settings : KeepsSettings old now
+  pub why : Explains f now
 
-abbrev pub TakesDocument : Parsed → YamlLoader → Result (Unit {0}) ErrorReport → Parsed → YamlLoader → Type 0
-TakesDocument old r (Ok u) now s = TakesAll old r now s
-TakesDocument old r (Err f) now s = StopsAt old r f now s
+-- The receiver refuses the last event that came.
+pub record Refuses {R : Type 0} (takes : R → Ev → Position → Result (Unit {0}) ErrorReport → R → Type 0) (old : Parsed) (r : R) (f : ErrorReport) (now : Parsed) (s : R) : Type 0 where
+  pub came : Ended old now
+  pub before : R
+  pub received : Receives takes r came.events before
+  pub refuses : takes before came.last came.position (Err f) s
+
+abbrev pub fault_in : Halt → ErrorReport
+fault_in (halt.Parser f) = f
+fault_in (halt.Receiver f) = f
+
+abbrev pub TakesDocument : {R : Type 0} → (R → Ev → Position → Result (Unit {0}) ErrorReport → R → Type 0) → Parsed → R → Result (Unit {0}) Halt → Parsed → R → Type 0
+TakesDocument takes old r (Ok u) now s = TakesAll takes old r now s
+TakesDocument takes old r (Err (halt.Parser f)) now s = Faults old f now
+TakesDocument takes old r (Err (halt.Receiver f)) now s = Refuses takes old r f now s
 
 -- ---- between two documents
 

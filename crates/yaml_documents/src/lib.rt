@@ -29,6 +29,7 @@
 //! - A tag handle counts in its document alone (section 6.8.2).
 //! - `Documents::new` borrows a text. `Documents::from_iter` takes characters from any iterator.
 //! - After `None` and after a fault no character is asked for.
+//! - [`take_document`] hands the events of one document to a receiver of your own.
 #![tactic(auto)]
 
 mod documents;
@@ -36,3 +37,4 @@ pub mod laws;
 mod read;
 
 pub use documents::Documents;
+pub use read::{Halt, take_document};

@@ -10,6 +10,29 @@ use yaml_parser::{Event, MarkedEventReceiver, Parser};
 use yaml_tokens::ScanError;
 use yaml_tree::Yaml;
 
+/// Why no whole document was taken.
+#[derive(Debug, Drop)]
+pub enum Halt {
+    /// The parser has this fault.
+    Parser(ScanError),
+    /// The receiver refused an event so.
+    Receiver(ScanError),
+}
+
+impl From<Halt> for ScanError {
+    ghost use Rattle.std.specs.Prelude.{◌≡◌};
+    ghost use Rattle.yaml_documents.specs.Reading.{fault_in};
+
+    ghost from_gives = { λ halt fault. fault ≡ fault_in halt };
+
+    fn from(halt: Halt) -> ScanError {
+        match halt {
+            Halt::Parser(fault) => fault,
+            Halt::Receiver(fault) => fault,
+        }
+    }
+}
+
 /// Reads the next document, or to the end of the stream. The loader is a new one: the parser forgets the names of
 /// anchors at the start of a document, so no alias means a node of an earlier one.
 pub fn read_document<T: Iterator<Item = char>>(
@@ -25,18 +48,36 @@ pub fn read_document<T: Iterator<Item = char>>(
     Ok(documents.pop())
 }
 
-// Hands a loader the events up to the end of the next document, or of the stream.
-fn take_document<T: Iterator<Item = char>>(
+/// Hands a receiver the events up to the end of the next document, or of the stream.
+///
+/// # Example
+///
+/// ```
+/// let mut scalars = Scalars { count: 0 };
+/// let mut parser = Parser::new_from_str(rt.alloc(), "[a, b]\n--- c\n");
+/// assert!(rt; take_document(&mut parser, &mut scalars).is_ok());
+/// assert_eq!(rt; scalars.count, 2);
+/// ```
+///
+/// # Errors
+///
+/// The parser's fault, or that with which the receiver refuses an event: no more events are read then.
+pub fn take_document<T: Iterator<Item = char>, R: MarkedEventReceiver>(
     parser: &mut Parser<T>,
-    loader: &mut YamlLoader,
-) -> Result<(), ScanError>
-    ensures takes { IsGoing (parsed parser.old) → TakesDocument (parsed parser.old) loader.old result (parsed parser.new) loader.new }
+    receiver: &mut R,
+) -> Result<(), Halt>
+    ensures takes { IsGoing (parsed parser.old) → TakesDocument R.takes (parsed parser.old) receiver.old result (parsed parser.new) receiver.new }
     ensures start { parser.new.start ≡ parser.old.start }
 {
     'events: loop {
-        let (event, mark) = parser.next_token()?;
+        let (event, mark) = match parser.next_token() {
+            Ok(next) => next,
+            Err(fault) => return Err(Halt::Parser(fault)),
+        };
         let last = is_end(&event);
-        loader.on_event(event, mark)?;
+        if let Err(fault) = receiver.on_event(event, mark) {
+            return Err(Halt::Receiver(fault));
+        }
         if last {
             return Ok(());
         }

@@ -11,7 +11,6 @@ use Rattle.yaml_limits.specs.Extents.{single_node, extent_at}
 use Rattle.yaml_limits.specs.Made.{Made, with_part, with_node, with_kept, with_start, with_end}
 use Rattle.yaml_limits.specs.declared.count.Count.{Count}
 use Rattle.yaml_limits.specs.declared.count.Excess.{Excess}
-use Rattle.yaml_limits.specs.declared.count.Excess.TheVariants as excess
 use Rattle.yaml_limits.specs.declared.count.Opened.{Opened}
 use Rattle.yaml_limits.specs.declared.extent.Extent.{Extent}
 

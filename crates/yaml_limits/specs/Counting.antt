@@ -1,11 +1,10 @@
 -- What the count of a load stands for, and how it goes on with an event.
-use Rattle.std.specs.Prelude.{◌≡◌, ◌⊎◌, ℕ, ◌+◌, ◌^◌, ◌≤◌, ◌<◌, List, [], ◌∷◌, length, Option, Some, Result, Ok, Err, OnOk, IfErr}
+use Rattle.std.specs.Prelude.{◌≡◌, ◌⊎◌, ℕ, ◌+◌, ◌^◌, ◌≤◌, ◌<◌, List, [], ◌∷◌, length, Some, None, Result, OnOk, IfErr}
 use Rattle.defs_text.specs.Position.{Position}
 use Rattle.defs_event.specs.Event.{Ev}
 use Rattle.yaml_tokens.specs.ErrorReport.{ErrorReport}
-use Rattle.yaml_loader.specs.Loading.{Takes}
 use Rattle.yaml_limits.specs.Extents.{extent_at}
-use Rattle.yaml_limits.specs.Made.{Made, made_by, IsWithin}
+use Rattle.yaml_limits.specs.Made.{Made, nothing_made, made_by, IsWithin}
 use Rattle.yaml_limits.specs.declared.count.Count.{Count}
 use Rattle.yaml_limits.specs.declared.count.Excess.{Excess}
 use Rattle.yaml_limits.specs.declared.count.Excess.TheVariants as excess
@@ -52,12 +51,17 @@ pub record Counted (old : Count) (step : Made → Made) (result : Result (Unit {
   pub err : (m : Made) → Counts old m → IfErr result (λ x. IsExcess x old.limits (step m))
   pub limits : new.limits ≡ old.limits
 
--- What a guard does with an event: it counts what a load would make of it, and hands it to its loader; or it stops, before the loader
--- has it, where that would exceed the limits.
-pub record Guards (before : Guard) (e : Ev) (p : Position) (result : Result (Unit {0}) ErrorReport) (after : Guard) : Type 0 where
+-- A guard that was handed no event.
+pub record IsNew {R : Type 0} (g : Guard R) : Type 0 where
+  pub counts : Counts g.count nothing_made
+  pub goes_on : g.stopped ≡ None
+
+-- What a guard does with an event: it counts what a load would make of it, and hands it to its receiver, which does this with it; or it
+-- stops, before the receiver has it, where that would exceed the limits.
+pub record Guards {R : Type 0} (takes : R → Ev → Position → Result (Unit {0}) ErrorReport → R → Type 0) (before : Guard R) (e : Ev) (p : Position) (result : Result (Unit {0}) ErrorReport) (after : Guard R) : Type 0 where
   pub counts : (m : Made) → Counts before.count m → OnOk result (Counts after.count (made_by m e))
-  pub loads : OnOk result (Takes before.loader e p result after.loader)
+  pub hands_on : OnOk result (takes before.receiver e p result after.receiver)
   pub goes_on : OnOk result (after.stopped ≡ before.stopped)
-  pub refuses : IfErr result (λ f. ((after.stopped ≡ before.stopped) × Takes before.loader e p result after.loader)
-      ⊎ ((x : Excess) × (after.stopped ≡ Some (x, p)) × (after.loader ≡ before.loader) × ((m : Made) → Counts before.count m → IsExcess x before.count.limits (made_by m e))))
+  pub refuses : IfErr result (λ f. ((after.stopped ≡ before.stopped) × takes before.receiver e p result after.receiver)
+      ⊎ ((x : Excess) × (after.stopped ≡ Some (x, p)) × (after.receiver ≡ before.receiver) × ((m : Made) → Counts before.count m → IsExcess x before.count.limits (made_by m e))))
   pub limits : after.count.limits ≡ before.count.limits

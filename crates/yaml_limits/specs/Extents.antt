@@ -1,5 +1,5 @@
 -- How large nodes and tags are. YAML 1.2, sections 3.2.1 (nodes) and 6.8.2 (prefixes of tag handles).
-use Rattle.std.specs.Prelude.{ℕ, suc, ◌+◌, max, nat_eq, if◌then◌else◌, List, [], ◌∷◌, length}
+use Rattle.std.specs.Prelude.{ℕ, ◌+◌, max, nat_eq, if◌then◌else◌, List, [], ◌∷◌, length}
 use Rattle.std.specs.Str.{encode_utf8_all}
 use Rattle.defs_event.specs.Event.{Tag}
 use Rattle.yaml_limits.specs.declared.extent.Extent.{Extent}

@@ -1,6 +1,6 @@
 //! Why a text is not loaded within limits.
 ghost use Rattle.std.specs.Prelude.{◌≡◌};
-ghost use Rattle.yaml_limits.specs.Limited.{error_of};
+ghost use Rattle.yaml_limits.specs.Handing.{error_of};
 
 use crate::count::Excess;
 use std::error::Error;

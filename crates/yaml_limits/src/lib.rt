@@ -27,15 +27,43 @@
 //! characters each `!e!a` copies as many. The numbers are exact: a count that does not fit in 64 bits is over every limit.
 //!
 //! `Ok` is what `YamlLoader::load_from_str` gives for the text. [`LimitsError`] tells the text's fault from a limit.
+//!
+//! [`load_marked_with_limits`] loads the same with the position of each node, in one load:
+//!
+//! ```
+//! let documents = load_marked_with_limits(alloc, text, Limits::for_text(text))?;
+//! let document = documents.first().ok_or("no document")?;
+//! let port = document.get_key("port").ok_or("no port")?;
+//! assert_eq!(rt; (port.marker().line(), port.marker().col()), (2, 6));
+//! ```
+//!
+//! [`LimitedDocuments`] gives the documents one by one, each within the limits on its own:
+//!
+//! ```
+//! let mut errors = 0_u64;
+//! for document in LimitedDocuments::new(alloc, "level: info\n---\nlevel: error\n", limits) {
+//!     let document = document?;
+//!     let level = document.get_key("level").and_then(|level| level.as_str());
+//!     if level == Some("error") {
+//!         errors = errors.saturating_add(1);
+//!     }
+//! }
+//! assert_eq!(rt; errors, 1);
+//! ```
 #![tactic(auto)]
 
 mod count;
+mod documents;
 mod error;
 mod extent;
 mod guard;
 mod limits;
 mod load;
+mod marked;
+mod one;
 
+pub use documents::LimitedDocuments;
 pub use error::LimitsError;
 pub use limits::Limits;
 pub use load::load_with_limits;
+pub use marked::load_marked_with_limits;

@@ -2,7 +2,7 @@
 ghost use Rattle.std.specs.Prelude.{◌≡◌, ◌≤◌, ◌<◌, ◌+◌, ◌-◌, ◌*◌, ◌^◌, min, length, IfSome};
 ghost use Rattle.defs_text.specs.Position.{Position};
 ghost use Rattle.yaml_limits.specs.Made.{Made, IsWithin};
-ghost use Rattle.yaml_limits.specs.Limited.{HoldsBack};
+ghost use Rattle.yaml_limits.specs.Handing.{HoldsBack};
 
 use yaml_chars::Marker;
 use yaml_scanner::Backlog;

@@ -1,6 +1,6 @@
 -- What a load with positions answers of a text.
 use Rattle.std.proofs.Common.{◌≡◌, ℕ, Bool, false, List, [], ◌∷◌, ◌++◌, refl, sym, ap, ◌∙◌, subst, inl, inr}
-use Rattle.std.specs.Prelude.{None, Result, Ok, Err, Vec}
+use Rattle.std.specs.Prelude.{Result, Ok, Err, Vec}
 use Rattle.std.specs.declared.alloc.Global.{Global}
 use Rattle.defs_text.specs.Position.{Position}
 use Rattle.defs_tree.specs.Tree.{Tree}
@@ -14,25 +14,25 @@ use Rattle.yaml_tree.specs.View.{items_view}
 use Rattle.yaml_tree.specs.declared.yaml.Yaml.{Yaml}
 use Rattle.yaml_parser.specs.Blames.{WantsMemory}
 use Rattle.yaml_parser.specs.Loads.{Receives, no_event, one_event}
-use Rattle.proof_loads.specs.TextEvents.{IsFaultOf, wants_memory, AnswersText, whole, faulted, refused}
+use Rattle.proof_loads.specs.TextEvents.{BeginsEvents, IsFaultOf, wants_memory, AnswersText, whole, faulted, refused}
 use Rattle.yaml_loader.specs.Alike.{StandAlike}
 use Rattle.yaml_loader.specs.Gives.{Gives}
 use Rattle.yaml_loader.specs.Laws.{EventsAreReadAsDefined, RefusedTextsWantMemory, TakenTextsAreLoaded}
-use Rattle.yaml_loader.specs.Loading.{loader_of, kept_fault, Takes, want_of_memory}
+use Rattle.yaml_loader.specs.Loading.{loader_of, Takes, want_of_memory}
 use Rattle.yaml_loader.specs.Loads.{HasDocuments}
 use Rattle.yaml_loader.specs.Reached.{Reaches, here, after}
 use Rattle.yaml_loader.specs.TextLoads.{LoadsText}
 use Rattle.yaml_loader.specs.declared.loader.YamlLoader.{YamlLoader}
 use Rattle.defs_marked.specs.Laws.{MarksFitTheirTrees}
 use Rattle.yaml_marked.specs.Loading.{AreMarksOf}
-use Rattle.yaml_marked.specs.Receiving.{TakesMarked, HasTaken}
+use Rattle.yaml_marked.specs.Receiving.{TakesMarked, IsEmpty, HasTaken}
 use Rattle.yaml_marked.specs.Standing.{HasStanding}
 use Rattle.yaml_marked.specs.Table.{AllHaveMarks, all_shown}
 use Rattle.yaml_marked.proofs.Seen.{all_seen}
 use Rattle.yaml_marked.specs.declared.receiver.MarkedLoader.{MarkedLoader}
 
 -- the loader inside takes the same events
-inside : {r s : MarkedLoader} {es : List (Ev × Position)} → Receives TakesMarked r es s → Receives Takes r.loader es s.loader
+pub inside : {r s : MarkedLoader} {es : List (Ev × Position)} → Receives TakesMarked r es s → Receives Takes r.loader es s.loader
 inside no_event = no_event
 inside (one_event e p before last) = one_event e p (inside before) last.loads
 
@@ -53,17 +53,20 @@ abbrev pub Leaves : List ℕ → Result (Unit {0}) ErrorReport → MarkedLoader 
 Leaves text (Ok u) s = HasTaken text s
 Leaves text (Err f) s = IsFaultOf false text f
 
-left_by : {text : List ℕ} {r s : MarkedLoader} {result : Result (Unit {0}) ErrorReport} → RefusedTextsWantMemory → loader_of r.loader ≡ new_loader → kept_fault r.loader ≡ None → HasStanding r.marking nothing_marked
-    → AnswersText TakesMarked false text r result s → Leaves text result s
-left_by {r = r} law new clear nothing (whole es has received) =
-    record { events = es; has = has; before = r.loader; is_new = new; is_clear = clear; took = inside received; marks = marked nothing_marked received nothing }
-left_by law new clear nothing (faulted es why received) = why
-left_by {text} {r} law new clear nothing (refused {s = s} {t = t} {f = f} es e p begins received takes) =
-    wants_memory (elim takes.reason [ inl w ↦ wants w | inr k ↦ law false text es e p r.loader s.loader t.loader f new clear begins (inside received) k ])
+-- an empty loader refuses an event of a text only if memory was refused
+pub only_memory : (text : List ℕ) (es : List (Ev × Position)) (e : Ev) (p : Position) (r s t : MarkedLoader) (f : ErrorReport) → RefusedTextsWantMemory → IsEmpty r
+    → BeginsEvents false text (es ++ (e, p) ∷ []) → Receives TakesMarked r es s → TakesMarked s e p (Err f) t → WantsMemory f
+only_memory text es e p r s t f law empty begins received takes =
+    elim takes.reason [ inl w ↦ wants w | inr k ↦ law false text es e p r.loader s.loader t.loader f empty.loader empty.no_fault begins (inside received) k ]
 
-pub leaves : {text : List ℕ} {r s : MarkedLoader} {result : Result (Unit {0}) ErrorReport} {keep_tags : Bool} → RefusedTextsWantMemory → loader_of r.loader ≡ new_loader → kept_fault r.loader ≡ None → HasStanding r.marking nothing_marked
-    → keep_tags ≡ false → AnswersText TakesMarked keep_tags text r result s → Leaves text result s
-leaves {text} {r} {s} {result} law new clear nothing keep answered = left_by law new clear nothing (subst (λ k. AnswersText TakesMarked k text r result s) keep answered)
+left_by : {text : List ℕ} {r s : MarkedLoader} {result : Result (Unit {0}) ErrorReport} → RefusedTextsWantMemory → IsEmpty r → AnswersText TakesMarked false text r result s → Leaves text result s
+left_by {r = r} law empty (whole es has received) = record { events = es; has = has; before = r; is_empty = empty; took = received }
+left_by law empty (faulted es why received) = why
+left_by {text} {r} law empty (refused {s = s} {t = t} {f = f} es e p begins received takes) = wants_memory (only_memory text es e p r s t f law empty begins received takes)
+
+pub leaves : {text : List ℕ} {r s : MarkedLoader} {result : Result (Unit {0}) ErrorReport} {keep_tags : Bool} → RefusedTextsWantMemory → IsEmpty r → keep_tags ≡ false → AnswersText TakesMarked keep_tags text r result s
+    → Leaves text result s
+leaves {text} {r} {s} {result} law empty keep answered = left_by law empty (subst (λ k. AnswersText TakesMarked k text r result s) keep answered)
 
 -- ---- the trees and their marks
 
@@ -89,11 +92,12 @@ pub gives_marks : {text : List ℕ} {s : MarkedLoader} (documents : Vec Yaml Glo
     × AreMarksOf false text (all_shown s.marking.table.items (items_view documents.items) s.marking.documents.items)
 gives_marks {text} {s} documents law fit left gives =
     let es = left.events in
-    let w = at_work_alike (with_events new_loader es) (loader_of s.loader) (items_view documents.items) (law left.before s.loader es left.is_new (reaches left.took)) gives in
+    let w = at_work_alike (with_events new_loader es) (loader_of s.loader) (items_view documents.items) (law left.before.loader s.loader es left.is_empty.loader (reaches (inside left.took))) gives in
     let fits : AllFit (items_view documents.items) (marked_documents es) = subst (λ ts. AllFit ts (marked_documents es)) w.1.1 (fit es w.0 w.1.0) in
-    let seen = all_seen s.marking.table.items (items_view documents.items) s.marking.documents.items (marked_documents es) left.marks.of_documents fits in
+    let stands = marked nothing_marked left.took left.is_empty.marks in
+    let seen = all_seen s.marking.table.items (items_view documents.items) s.marking.documents.items (marked_documents es) stands.of_documents fits in
     (seen.0, (es, left.has, sym seen.1))
 
 -- what the loader gives is what a load gives
 pub gives_documents : {text : List ℕ} {s : MarkedLoader} (result : Result (Vec Yaml Global) ErrorReport) → TakenTextsAreLoaded → HasTaken text s → Gives s.loader result → LoadsText false text result
-gives_documents {text} {s} result law left gives = law false text left.events left.before s.loader result left.is_new left.is_clear left.has left.took gives
+gives_documents {text} {s} result law left gives = law false text left.events left.before.loader s.loader result left.is_empty.loader left.is_empty.no_fault left.has (inside left.took) gives

@@ -3,12 +3,11 @@ use Rattle.std.specs.Prelude.{◌≡◌, ◌⊎◌, ℕ, List, false, None, Resu
 use Rattle.defs_text.specs.Position.{Position}
 use Rattle.defs_event.specs.Event.{Ev}
 use Rattle.defs_event.specs.Unfinished.{new_loader}
-use Rattle.defs_marked.specs.Marking.{with_event_marked, with_events_marked, nothing_marked}
+use Rattle.defs_marked.specs.Marking.{with_event_marked, nothing_marked}
 use Rattle.yaml_tokens.specs.ErrorReport.{ErrorReport}
 use Rattle.yaml_parser.specs.Loads as parser
 use Rattle.proof_loads.specs.TextEvents.{HasEvents, IsFaultOf}
 use Rattle.yaml_loader.specs.Loading.{Takes, want_of_memory, loader_of, kept_fault}
-use Rattle.yaml_loader.specs.declared.loader.YamlLoader.{YamlLoader}
 use Rattle.yaml_marked.specs.Standing.{Goes, HasStanding}
 use Rattle.yaml_marked.specs.declared.receiver.MarkedLoader.{MarkedLoader}
 
@@ -18,15 +17,19 @@ pub record TakesMarked (old : MarkedLoader) (e : Ev) (position : Position) (resu
   pub marks : OnOk result (Goes old.marking (λ x. with_event_marked x e position) new.marking)
   pub reason : IfErr result (λ f. (f ≡ want_of_memory position) ⊎ Takes old.loader e position (Err f) new.loader)
 
--- The receiver took all events of the text, each with `Ok`: its loader was an empty one before them.
+-- It has taken nothing.
+pub record IsEmpty (s : MarkedLoader) : Type 0 where
+  pub loader : loader_of s.loader ≡ new_loader
+  pub no_fault : kept_fault s.loader ≡ None
+  pub marks : HasStanding s.marking nothing_marked
+
+-- It took all events of the text, each with `Ok`, and was empty before them.
 pub record HasTaken (text : List ℕ) (s : MarkedLoader) : Type 0 where
   pub events : List (Ev × Position)
   pub has : HasEvents false text events
-  pub before : YamlLoader
-  pub is_new : loader_of before ≡ new_loader
-  pub is_clear : kept_fault before ≡ None
-  pub took : parser.Receives Takes before events s.loader
-  pub marks : HasStanding s.marking (with_events_marked nothing_marked events)
+  pub before : MarkedLoader
+  pub is_empty : IsEmpty before
+  pub took : parser.Receives TakesMarked before events s
 
 abbrev pub Receives : List ℕ → Result MarkedLoader ErrorReport → Type 0
 Receives text (Ok s) = HasTaken text s

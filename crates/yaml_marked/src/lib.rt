@@ -23,6 +23,8 @@
 //! An alias is a copy of a tree. It has the alias's own position (`marker`), beside that of the tree (`tree_marker`); its
 //! parts have the positions of the tree's parts.
 //!
+//! [`MarkedLoader`] is what takes the events, for a receiver of your own that wraps it.
+//!
 //! Lines count from 1 and columns from 0, in characters. Positions take memory of their own, about as much as the trees.
 //! The depth of a tree needs no more stack.
 #![tactic(auto)]
@@ -41,3 +43,4 @@ pub use documents::MarkedDocuments;
 pub use load::load_marked;
 pub use node::Marked;
 pub use parts::{Items, Pairs};
+pub use receiver::MarkedLoader;

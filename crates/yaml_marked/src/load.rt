@@ -7,9 +7,8 @@ ghost use Rattle.yaml_marked.specs.Loading.{plain, AreMarksOf};
 
 use crate::documents::MarkedDocuments;
 use crate::receiver::MarkedLoader;
-use defs_marked::laws::marks_fit_their_trees;
 use std::alloc::Global;
-use yaml_loader::laws::{events_are_read_as_defined, taken_texts_are_loaded};
+use yaml_loader::laws::taken_texts_are_loaded;
 use yaml_tokens::ScanError;
 
 /// Loads all documents of a text, each node with the position where it begins.
@@ -32,13 +31,6 @@ pub fn load_marked(alloc: Global, text: &str) -> Result<MarkedDocuments, ScanErr
     ensures marks { IfOk result (λ d. AreMarksOf false (up_to_nul (chars text.now)) (marks_of_all d)) }
 {
     taken_texts_are_loaded();
-    events_are_read_as_defined();
-    marks_fit_their_trees();
-    let MarkedLoader { loader, marking } = MarkedLoader::of_text(alloc, text)?;
-    let documents = loader.into_documents()?;
-    Ok(MarkedDocuments {
-        documents,
-        table: marking.table,
-        roots: marking.documents,
-    })
+    let loader = MarkedLoader::of_text(alloc, text)?;
+    loader.into_documents()
 }

@@ -1,4 +1,5 @@
 use std::test::Fail;
+use yaml_documents::take_document;
 use yaml_rust2::ScanError;
 use yaml_rust2::parser::{Event, EventReceiver, Parser};
 
@@ -43,6 +44,19 @@ impl EventReceiver for Scalars {
         }
         Ok(())
     }
+}
+
+#[test]
+fn events_of_one_document_are_taken(rt: HostRuntime) -> Result<(), Fail> {
+    let mut scalars = Scalars { count: 0 };
+    let mut parser = Parser::new_from_str(rt.alloc(), "[a, b]\n--- c\n");
+    assert!(rt; take_document(&mut parser, &mut scalars).is_ok());
+    assert_eq!(rt; scalars.count, 2);
+    assert!(rt; take_document(&mut parser, &mut scalars).is_ok());
+    assert_eq!(rt; scalars.count, 3);
+    assert!(rt; take_document(&mut parser, &mut scalars).is_ok()); // the stream's end
+    assert_eq!(rt; scalars.count, 3);
+    Ok(())
 }
 
 #[test]

@@ -105,14 +105,15 @@ fn note_levels(
     Ok(())
 }
 
-// Sixteen levels wait without memory.
+// Up to 128 levels are written by a recursion, more by loops.
 #[test]
 fn many_levels_are_written(rt: HostRuntime) -> Result<(), Fail> {
     let alloc = rt.alloc();
     let mut report = Report::new(alloc);
     for row in LEVELS {
-        note_levels(alloc, &mut report, row, 16)?;
         note_levels(alloc, &mut report, row, 17)?;
+        note_levels(alloc, &mut report, row, 128)?;
+        note_levels(alloc, &mut report, row, 129)?;
         note_levels(alloc, &mut report, row, 200)?;
     }
     assert!(rt; report.is_empty(), "{report}");

@@ -1,11 +1,12 @@
 use Rattle.std.proofs.Common.{arith}
+use Rattle.yaml_documents.specs.Reading.{fault_in}
 use Rattle.yaml_documents.proofs.OneDocument.{read_so, stops_by_key, stops_so, reads_err}
 use Rattle.yaml_documents.proofs.read.read_document.Goals as goal
 
 pub returns-in_err-take_document-clause-reads : goal.returns-in_err-take_document-clause-reads
 returns-in_err-take_document-clause-reads g c = λ h.
-    reads_err c.from_residual.result c.in_err-take_document.field-0.0 c.from_residual.ensures.1
-    (stops_so h c.default-loader.ensures.empty c.default-loader.ensures.no_fault c.in_err-take_document.field-0.0 (c.in_err-take_document.ensures.takes h.going))
+    reads_err c.from_residual.result (fault_in c.in_err-take_document.field-0.0) c.from_residual.ensures.1
+    (stops_so c.default-loader.result c.take_document.new.receiver h c.default-loader.ensures.empty c.default-loader.ensures.no_fault c.in_err-take_document.field-0.0 (c.in_err-take_document.ensures.takes h.going))
 
 pub returns-in_err-documents-clause-reads : goal.returns-in_err-documents-clause-reads
 returns-in_err-documents-clause-reads g c = λ h.

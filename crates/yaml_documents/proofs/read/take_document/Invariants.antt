@@ -5,7 +5,7 @@ use Rattle.yaml_documents.proofs.read.take_document.Given as goal
 
 abbrev pub invariant-events : goal.invariant-events
 invariant-events g l = record {
-  goes : IsGoing (parsed l.fn.parser) → Goes (parsed l.fn.parser) l.fn.loader (parsed l.parser) l.loader;
+  goes : IsGoing (parsed l.fn.parser) → Goes g.R.MarkedEventReceiver.takes (parsed l.fn.parser) l.fn.receiver (parsed l.parser) l.receiver;
   start : l.parser.start ≡ l.fn.parser.start;
 }
 

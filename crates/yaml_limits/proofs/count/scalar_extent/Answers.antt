@@ -1,4 +1,3 @@
-use Rattle.std.proofs.Common.{sym, ap, ◌∙◌, ◌+◌}
 use Rattle.yaml_limits.proofs.CountLemmas.{content_size}
 use Rattle.yaml_limits.proofs.count.scalar_extent.Goals as goal
 

@@ -1,4 +1,3 @@
-use Rattle.std.proofs.Common.{◌+◌}
 use Rattle.yaml_limits.proofs.CountLemmas.{content_size}
 use Rattle.yaml_limits.proofs.count.tag_size.Goals as goal
 

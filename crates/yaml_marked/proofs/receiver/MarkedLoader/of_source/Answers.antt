@@ -16,7 +16,7 @@ returns-in_err-outcome g c =
     begins_given g.S.Characters.next_gives c.args.source c.load-outcome.new.self.start new.scanner (l.start ∙ e.start) c.note.ensures.came c.note.ensures.no_nul
     (λ text may.
     let answered = c.texts_are_answered.ensures _ _ _ _ _ text at_start (c.note.ensures.scans.scans text may) l.loads in
-    let left = leaves c.refused_texts_want_memory.ensures c.default-loader.ensures.empty c.default-loader.ensures.no_fault c.new-marking.ensures e.keep_tags answered in
+    let left = leaves c.refused_texts_want_memory.ensures c.new-receiver.ensures e.keep_tags answered in
     rw (p.1, p.2) (rw (c.in_err-outcome.was {u = tt}) at left))
 
 pub returns : goal.returns
@@ -28,5 +28,5 @@ returns g c =
     begins_given g.S.Characters.next_gives c.args.source c.load-outcome.new.self.start new.scanner (l.start ∙ e.start) c.note.ensures.came c.note.ensures.no_nul
     (λ text may.
     let answered = c.texts_are_answered.ensures _ _ _ _ _ text at_start (c.note.ensures.scans.scans text may) l.loads in
-    let left = leaves c.refused_texts_want_memory.ensures c.default-loader.ensures.empty c.default-loader.ensures.no_fault c.new-marking.ensures e.keep_tags answered in
+    let left = leaves c.refused_texts_want_memory.ensures c.new-receiver.ensures e.keep_tags answered in
     rw (c.in_ok-outcome.was {u = tt}) at left)

@@ -1,0 +1,15 @@
+use Rattle.std.proofs.Common.{false, sym, ap, ◌∙◌, subst}
+use Rattle.std.specs.Str.Iter.{chars_rest}
+use Rattle.yaml_chars.proofs.SpelledLemmas.{Chars-spelled}
+use Rattle.yaml_parser.specs.Parsed.{parsed}
+use Rattle.yaml_documents.specs.Reading.{IsReady}
+use Rattle.yaml_limits.proofs.Calls.{ready_at_start}
+use Rattle.yaml_limits.proofs.documents.LimitedDocuments+Chars.new.Goals as goal
+
+pub invariant_of-result : goal.invariant_of-result
+invariant_of-result c =
+    let e = c.new_from_str-parser.ensures in
+    subst (λ p. IsReady (parsed p) false) (sym c.set_room.ensures) (ready_at_start (parsed c.new_from_str-parser.result) e.given e.fault e.ended e.keep_tags e.steady)
+
+pub returns-clause-text : goal.returns-clause-text
+returns-clause-text c = Chars-spelled c.set_room.new.self.start c.args.text.now c.utf8.text (ap (λ p. chars_rest p.start) c.set_room.ensures ∙ c.new_from_str-parser.ensures.source)

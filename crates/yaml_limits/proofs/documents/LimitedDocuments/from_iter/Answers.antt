@@ -1,0 +1,10 @@
+use Rattle.std.proofs.Common.{false, sym, subst}
+use Rattle.yaml_parser.specs.Parsed.{parsed}
+use Rattle.yaml_documents.specs.Reading.{IsReady}
+use Rattle.yaml_limits.proofs.Calls.{ready_at_start}
+use Rattle.yaml_limits.proofs.documents.LimitedDocuments.from_iter.Goals as goal
+
+pub invariant_of-result : goal.invariant_of-result
+invariant_of-result g c =
+    let e = c.new-parser.ensures in
+    subst (λ p. IsReady (parsed p) false) (sym c.set_room.ensures) (ready_at_start (parsed c.new-parser.result) e.given e.fault e.ended e.keep_tags e.steady)
