@@ -1,12 +1,18 @@
-//! What the command line programs share: their arguments, the texts of their files, and how they end.
+//! What the command line programs share: their options, as a table declares them, their help, the bytes of their files, and how
+//! they end.
 #![tactic(auto)]
 
+mod bounds;
 mod failure;
+mod file_program;
 mod files;
-mod printer;
+mod option;
 mod program;
+mod words;
 
-pub use failure::{Failure, Tell};
-pub use files::{read, read_bytes, read_input, without_byte_order_mark};
-pub use printer::Printer;
+pub use bounds::{Bounds, MAX_LEVELS, MAX_SIZE, NO_LIMITS};
+pub use failure::{Failure, Refusal, Tell};
+pub use file_program::FileProgram;
+pub use files::{read, without_byte_order_mark};
+pub use option::ProgramOption;
 pub use program::{Program, arguments, begin};

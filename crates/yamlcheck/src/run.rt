@@ -1,103 +1,113 @@
-//! The program over any files and writers.
-use crate::command::{Command, command_of};
+//! The program over any files, input and writers.
+ghost use Rattle.std.specs.Prelude.{◌≡◌, length};
+ghost use Rattle.yamlcheck.specs.Checked.{limits_of};
+
 use crate::failure::{Failure, Trouble};
 use std::alloc::Global;
 use std::io;
-use std::io::{Read, Write};
-use std::rt::Files;
+use std::io::Write;
 use yaml_chars::Marker;
 use yaml_encoding::{Stop, YAMLDecodingTrap, text_of};
 use yaml_excerpt::Excerpt;
 use yaml_limits::{Limits, LimitsError, load_with_limits};
-use yaml_programs::{Program, begin, read_bytes, read_input};
+use yaml_programs::{Bounds, FileProgram, MAX_LEVELS, MAX_SIZE, NO_LIMITS, Program};
 
 const PROGRAM: Program = Program {
     name: "yamlcheck",
-    usage: "usage: yamlcheck [--max-levels N] [--max-size N] FILE...",
+    about: "tells the first fault of each YAML file, with its line",
+    usage: "usage: yamlcheck [OPTION]... [FILE]...",
+    options: &[MAX_LEVELS, MAX_SIZE, NO_LIMITS],
+    notes: "Without a FILE, and for the FILE -, the standard input is read. Options and files
+may stand in any order; after -- each word is a FILE. Files are in UTF-8 or UTF-16.
+
+A fault is printed as FILE:LINE:COLUMN: TEXT, and below it its line with a caret.
+Lines and columns count from 1, and columns are characters. A file over a limit has
+a fault where it goes over it: the limits are for files of strangers, so that none
+takes more memory or stack than a file of its length should.
+
+The status is 0 if each file loads, 1 if one does not or cannot be read, and 2 if the
+arguments are not taken.
+",
 };
 
-const STANDARD_INPUT: &str = "-";
+const USUAL: YamlCheck = YamlCheck {
+    bounds: Bounds::USUAL,
+};
 
-/// Runs the program on its arguments and its output, if these could be had, and gives its exit status. An argument
-/// that is not UTF-8 gives the usage; any other failure to get them is refused memory.
-pub fn start<R: Files, I: Read, O: Write + Drop, E: Write>(
-    rt: &R,
-    alloc: Global,
-    args: io::Result<Vec<String>>,
-    input: &mut I,
-    out: io::Result<O>,
-    err: &mut E,
-) -> u8 {
-    match begin(args, out) {
-        Ok((args, mut out)) => run(rt, alloc, args.as_slice(), input, &mut out, err),
-        Err(failure) => PROGRAM.end(err, Err::<(), Failure>(failure)),
-    }
+/// The program, with its settings.
+#[derive(Clone, Copy)]
+pub struct YamlCheck {
+    bounds: Bounds,
 }
 
-/// Runs the program on its arguments (its own name left out), and gives its exit status: 0 if each file was loaded, or
-/// 1, or 2 with the usage. A file that cannot be read, or whose bytes are no text, is told in a line in `err`.
-pub fn run<R: Files, I: Read, O: Write, E: Write>(
-    rt: &R,
-    alloc: Global,
-    args: &[String],
-    input: &mut I,
-    out: &mut O,
-    err: &mut E,
-) -> u8 {
-    let Some(command) = command_of(args) else {
-        return PROGRAM.end(err, Err::<(), Failure>(Failure::Usage));
-    };
-    let mut status = 0;
-    for path in command.paths {
-        let path = path.as_str();
-        match check(rt, alloc, command, path, input, out) {
-            Ok(true) => {}
-            Ok(false) => status = 1,
-            Err(failure) => status = PROGRAM.end(err, Err::<(), Failure>(failure)),
+impl FileProgram for YamlCheck {
+    ghost use Rattle.yaml_programs.specs.Bounds.{IsBoundSet, limit_options};
+    ghost use Rattle.yamlcheck.specs.Checked.{IsChecked};
+    ghost use Rattle.yamlcheck.specs.declared.run.TheConstants as constants;
+
+    type Trouble = Trouble;
+
+    const USUAL: YamlCheck = USUAL;
+
+    ghost USUAL = { constants.USUAL };
+
+    ghost options = { limit_options };
+
+    ghost sets = { λ p name value is_taken q. IsBoundSet p.bounds name value is_taken q.bounds };
+
+    ghost works = { IsChecked };
+
+    fn program() -> Program {
+        PROGRAM
+    }
+
+    fn set(&mut self, name: &str, value: &str) -> bool {
+        self.bounds.set(name, value)
+    }
+
+    fn file<'a, O: Write>(
+        self,
+        alloc: Global,
+        path: &'a str,
+        bytes: Vec<u8>,
+        out: &mut O,
+    ) -> Result<(), Failure<'a>> {
+        let text = match text_of(alloc, bytes.as_slice(), YAMLDecodingTrap::Strict) {
+            Ok(text) => text,
+            Err(Stop::Message(message)) => return Err(Failure::Other(
+                path,
+                Trouble::NoText(message),
+            )),
+            Err(Stop::OutOfMemory) => return Err(Failure::OutOfMemory),
+        };
+        let text = text.as_str();
+        match load_with_limits(alloc, text, limits(self.bounds, text)) {
+            Ok(_) => Ok(()),
+            Err(error) => Err(tell_error(out, path, text, &error)),
         }
     }
-    if out.flush().is_err() {
-        return PROGRAM.end(err, Err::<(), Failure>(Failure::CannotWrite));
-    }
-    status
 }
 
-// Whether a file is loaded. Its first fault is told.
-fn check<'a, R: Files, I: Read, O: Write>(
-    rt: &R,
-    alloc: Global,
-    command: Command<'a>,
-    path: &'a str,
-    input: &mut I,
-    out: &mut O,
-) -> Result<bool, Failure<'a>> {
-    let bytes = if path == STANDARD_INPUT {
-        read_input(alloc, input, path)?
-    } else {
-        read_bytes(rt, alloc, path)?
-    };
-    let text = match text_of(alloc, bytes.as_slice(), YAMLDecodingTrap::Strict) {
-        Ok(text) => text,
-        Err(Stop::Message(message)) => return Err(Failure::Other(path, Trouble::NoText(message))),
-        Err(Stop::OutOfMemory) => return Err(Failure::OutOfMemory),
-    };
-    let text = text.as_str();
-    match load_with_limits(alloc, text, limits(command, text)) {
-        Ok(_) => Ok(true),
-        Err(error) => tell_error(out, path, text, &error),
+fn limits(bounds: Bounds, text: &str) -> Limits
+    ensures { result ≡ limits_of bounds (length text.now) }
+{
+    let usual = Limits::for_text(text);
+    Limits {
+        levels: bounds.levels(usual.levels),
+        size: bounds.size(usual.size),
     }
 }
 
 fn tell_error<'a, O: Write>(
     out: &mut O,
-    path: &'a str,
+    path: &str,
     text: &str,
     error: &LimitsError,
-) -> Result<bool, Failure<'a>> {
+) -> Failure<'a> {
     let told = match error {
         LimitsError::Scan(fault) => {
             if fault.is_out_of_memory() {
-                return Err(Failure::OutOfMemory);
+                return Failure::OutOfMemory;
             }
             tell(out, path, text, *fault.marker(), fault.info())
         }
@@ -105,16 +115,8 @@ fn tell_error<'a, O: Write>(
         LimitsError::Size(mark) => tell(out, path, text, *mark, "too large"),
     };
     match told {
-        Ok(()) => Ok(false),
-        Err(_) => Err(Failure::CannotWrite),
-    }
-}
-
-fn limits(command: Command<'_>, text: &str) -> Limits {
-    let usual = Limits::for_text(text);
-    Limits {
-        levels: command.levels.unwrap_or(usual.levels),
-        size: command.size.unwrap_or(usual.size),
+        Ok(()) => Failure::Told,
+        Err(error) => Failure::of_output(error),
     }
 }
 

@@ -1,15 +1,15 @@
 use std::io;
 use std::io::Write;
+use yaml_limits::LimitsError;
 use yaml_programs::Tell;
-use yaml_tokens::ScanError;
 
 /// What only this program meets.
 #[derive(Drop)]
 pub enum Trouble {
     /// The file holds this number of documents, and one is needed.
     Documents(usize),
-    /// The fault of a file's text.
-    Fault(ScanError),
+    /// The fault of a file's text, or a limit that it goes over.
+    Fault(LimitsError),
 }
 
 pub type Failure<'a> = yaml_programs::Failure<'a, Trouble>;

@@ -7,11 +7,12 @@ mod failure;
 pub mod run;
 #[cfg(test)]
 mod tests;
+mod text;
 
 use run::YamlTool;
 use std::io;
 use std::process::ExitCode;
-use yaml_programs::{Printer, arguments};
+use yaml_programs::arguments;
 
 fn main(rt: HostRuntime) -> ExitCode {
     let alloc = rt.alloc();

@@ -7,7 +7,6 @@ use std::rt::{Env, Files};
 use std::test::Fail;
 use std::{env, fs, io};
 use test_rows::Report;
-use yaml_programs::Printer;
 
 const USAGE: &str =
     "usage: yamltool events FILE | dump [--spread] [--multiline] FILE | overlay A B\n";
@@ -38,19 +37,26 @@ impl Write for Failing {
     }
 }
 
-// Files that find no memory.
-struct NoMemory;
+// Files that find no memory, but for the standard input, which is the file at this path.
+#[derive(Clone, Copy)]
+struct OnlyInput<'a> {
+    rt: &'a HostRuntime,
+    path: &'a str,
+}
 
 fn refused<T>() -> io::Result<T> {
     Err(io::Error::from(ErrorKind::OutOfMemory))
 }
 
-impl Files for NoMemory {
+impl Files for OnlyInput<'_> {
     type File = File;
 
     type Dir = File;
 
-    fn open_file(&self, _how: &OpenOptions, _path: &str) -> io::Result<File> {
+    fn open_file(&self, how: &OpenOptions, path: &str) -> io::Result<File> {
+        if path == "/dev/stdin" {
+            return self.rt.open_file(how, self.path);
+        }
         refused()
     }
 
@@ -140,7 +146,7 @@ type Row = (
     &'static str,
 );
 
-const ROWS: [Row; 10] = [
+const ROWS: [Row; 13] = [
     (
         "events with lines and columns",
         EVENTS,
@@ -152,6 +158,24 @@ const ROWS: [Row; 10] = [
         EVENTS,
         b"\xEF\xBB\xBF[1, 2]",
         "StreamStart 1:0\nDocumentStart 1:0\nSequenceStart 1:0\nScalar 1:1 plain \"1\"\nScalar 1:4 plain \"2\"\nSequenceEnd 1:5\nDocumentEnd 2:0\nStreamEnd 2:0\n0",
+    ),
+    (
+        "UTF-16, little endian",
+        EVENTS,
+        b"\xFF\xFE\xE9\x00",
+        "StreamStart 1:0\nDocumentStart 1:0\nScalar 1:0 plain \"\u{E9}\"\nDocumentEnd 2:0\nStreamEnd 2:0\n0",
+    ),
+    (
+        "UTF-16, big endian",
+        DUMP,
+        b"\xFE\xFF\x00a\x00:\x00 \x001",
+        "---\na: 1\n0",
+    ),
+    (
+        "UTF-16 that ends within a unit",
+        DUMP,
+        b"\xFE\xFF\x00a\x00",
+        "yamltool: FILE is not UTF-8\n1",
     ),
     (
         "a tag and an anchor",
@@ -297,6 +321,30 @@ fn files_are_laid_over_each_other(rt: HostRuntime) -> Result<(), Fail> {
     Ok(())
 }
 
+// What a dump of 300 levels prints, and what it says with the status, for these words before the command: more levels than the limit,
+// and no more than `--no-limits` allows.
+fn deep_dump(rt: &HostRuntime, before: &[&str]) -> Result<(String, String), Fail> {
+    let alloc = rt.alloc();
+    let path = env::temp_dir(rt)?.join(alloc, "yamltool-deep.yaml")?;
+    let text = "- ".repeat(alloc, 300)?;
+    fs::write(rt, path.as_path(), text.as_str().as_bytes())?;
+    let mut args = words(alloc, before)?;
+    args.push(String::from_str(alloc, "dump")?)?;
+    args.push(String::from_str(alloc, path.as_path().to_str().unwrap_or(""))?)?;
+    ran(rt, args.as_slice())
+}
+
+#[test]
+fn limits_can_be_lifted(rt: HostRuntime) -> Result<(), Fail> {
+    let (printed, said) = deep_dump(&rt, &[])?;
+    assert!(rt; printed.is_empty());
+    assert_eq!(rt; said.as_str(), "too many levels at line 1 column 513\n1");
+    let (printed, said) = deep_dump(&rt, &["--no-limits"])?;
+    assert!(rt; printed.starts_with("---\n- - - "), "{printed}");
+    assert_eq!(rt; said.as_str(), "0");
+    Ok(())
+}
+
 #[test]
 fn files_that_cannot_be_read_are_told(rt: HostRuntime) -> Result<(), Fail> {
     let alloc = rt.alloc();
@@ -306,10 +354,30 @@ fn files_that_cannot_be_read_are_told(rt: HostRuntime) -> Result<(), Fail> {
     assert!(rt; printed.is_empty());
     let mut out = Vec::new(alloc);
     let mut err = Vec::new(alloc);
-    let status = YamlTool::run(&NoMemory, alloc, args.as_slice(), &mut out, &mut err);
+    let files = OnlyInput { rt: &rt, path: "" };
+    let status = YamlTool::run(&files, alloc, args.as_slice(), &mut out, &mut err);
     assert_eq!(rt; status, 1);
     assert_eq!(rt; err.as_slice(), WANT.as_bytes());
     assert!(rt; out.is_empty());
+    Ok(())
+}
+
+#[test]
+fn a_dash_is_the_standard_input(rt: HostRuntime) -> Result<(), Fail> {
+    let alloc = rt.alloc();
+    let path = env::temp_dir(&rt)?.join(alloc, "yamltool-input.yaml")?;
+    fs::write(&rt, path.as_path(), b"{a: 1}")?;
+    let files = OnlyInput {
+        rt: &rt,
+        path: path.as_path().to_str().unwrap_or(""),
+    };
+    let args = words(alloc, &["dump", "-"])?;
+    let mut out = Vec::new(alloc);
+    let mut err = Vec::new(alloc);
+    let status = YamlTool::run(&files, alloc, args.as_slice(), &mut out, &mut err);
+    assert_eq!(rt; out.as_slice(), b"---\na: 1\n".as_slice());
+    assert!(rt; err.is_empty());
+    assert_eq!(rt; status, 0);
     Ok(())
 }
 
@@ -379,12 +447,25 @@ fn outputs_that_fail_are_told(rt: HostRuntime) -> Result<(), Fail> {
 // What it shows, and the arguments.
 type Arguments = (&'static str, &'static [&'static str]);
 
-const UNKNOWN: [Arguments; 7] = [
+const UNKNOWN: [Arguments; 11] = [
     ("no command", &[]),
     ("events without a file", &["events"]),
     ("events with an option", &["events", "--spread", "x"]),
     ("a dump without a file", &["dump"]),
     ("an unknown option", &["dump", "--wide", "x"]),
+    (
+        "an option behind two dashes",
+        &["dump", "--", "--spread", "x"],
+    ),
+    (
+        "an option for limits behind a command",
+        &["dump", "--no-limits", "x"],
+    ),
+    ("an option without a command", &["--no-limits"]),
+    (
+        "an option twice",
+        &["--no-limits", "--no-limits", "dump", "x"],
+    ),
     ("an overlay of one file", &["overlay", "a"]),
     ("an overlay of three files", &["overlay", "a", "b", "c"]),
 ];
@@ -405,6 +486,76 @@ fn failed_arguments(rt: &HostRuntime, want: &str, rows: &[Arguments]) -> Result<
 fn other_arguments_give_the_usage(rt: HostRuntime) -> Result<(), Fail> {
     let want = format!(in rt.alloc(); "{USAGE}2")?;
     let report = failed_arguments(&rt, want.as_str(), &UNKNOWN)?;
+    assert!(rt; report.is_empty(), "{report}");
+    Ok(())
+}
+
+// What it shows, the arguments, and what is printed and said. Only a first word asks for the help or the version.
+type Call = (&'static str, &'static [&'static str], &'static str);
+
+const CALLS: [Call; 4] = [
+    ("the version", &["--version"], "yamltool 0.1.0\n0"),
+    (
+        "a file behind a command",
+        &["events", "--help"],
+        "yamltool: cannot read --help\n1",
+    ),
+    ("a directory", &["dump", "."], "yamltool: cannot read .\n1"),
+    (
+        "a file that is called as an option",
+        &["dump", "--spread"],
+        "yamltool: cannot read --spread\n1",
+    ),
+];
+
+// The rows of which something else is printed.
+fn failed_calls(rt: &HostRuntime, rows: &[Call]) -> Result<Report, Fail> {
+    let alloc = rt.alloc();
+    let mut report = Report::new(alloc);
+    for (name, list, want) in rows {
+        let args = words(alloc, list)?;
+        let (printed, said) = ran(rt, args.as_slice())?;
+        let found = format!(in alloc; "{printed}{said}")?;
+        report.compare(name, "printed", found.as_str(), want)?;
+    }
+    Ok(report)
+}
+
+#[test]
+fn other_words_are_files(rt: HostRuntime) -> Result<(), Fail> {
+    let report = failed_calls(&rt, &CALLS)?;
+    assert!(rt; report.is_empty(), "{report}");
+    Ok(())
+}
+
+const HELP: &[&str] = &[
+    USAGE,
+    "\n  --spread ",
+    "\n  --multiline ",
+    "\n  --no-limits ",
+    "\n  -h, --help ",
+    "\n  --version ",
+    "columns from 0",
+    "called a byte is a character",
+];
+
+// The parts that the help lacks, or what is said beside it.
+fn missing(rt: &HostRuntime, word: &str, parts: &[&str]) -> Result<Report, Fail> {
+    let args = words(rt.alloc(), &[word])?;
+    let (help, said) = ran(rt, args.as_slice())?;
+    let mut report = Report::new(rt.alloc());
+    report.compare(word, "said", said.as_str(), "0")?;
+    for part in parts {
+        report.check(part, "in the help", help.as_str().contains(*part))?;
+    }
+    Ok(report)
+}
+
+#[test]
+fn the_help_has_all_options(rt: HostRuntime) -> Result<(), Fail> {
+    let report = missing(&rt, "--help", HELP)?;
+    assert!(rt; report.is_empty(), "{report}");
+    let report = missing(&rt, "-h", HELP)?;
     assert!(rt; report.is_empty(), "{report}");
     Ok(())
 }

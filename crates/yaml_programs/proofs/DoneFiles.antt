@@ -1,0 +1,24 @@
+-- The files that were done so far.
+use Rattle.std.proofs.Common.{ℕ, ◌+◌, ◌<◌, ◌≤◌, List, [], ◌∷◌, length, get_or, map, take, sym, subst}
+use Rattle.std.specs.Prelude.{Result, Ok, Err, IsOk, IfOk}
+use Rattle.std.specs.List.{All}
+use Rattle.std.specs.Borrow.{Bor}
+use Rattle.std.proofs.lemmas.List.{map-append, take_more, take_all}
+use Rattle.std.proofs.lemmas.List.Elements.{All-push}
+use Rattle.yaml_programs.specs.Arguments.{Text}
+use Rattle.yaml_programs.specs.Reading.{text_view}
+
+pub done_more : (W : Text → Type 0) (files : List (Bor Text)) (i : ℕ) (d : Bor Text) → i < length files → W (get_or files i d).now
+    → All W (map text_view (take i files)) → All W (map text_view (take (i + 1) files))
+done_more W files i d below done before =
+    let file = get_or files i d in
+    subst (λ l. All W (map text_view l)) (sym (take_more files i d below))
+    (subst (All W) (sym (map-append text_view (take i files) (file ∷ []))) (All-push W (map text_view (take i files)) file.now before done))
+
+pub all_done : (W : Text → Type 0) (files : List (Bor Text)) (i : ℕ) → length files ≤ i
+    → All W (map text_view (take i files)) → All W (map text_view files)
+all_done W files i past done = subst (λ l. All W (map text_view l)) (take_all i files past) done
+
+pub of_ok : {A E : Type 0} (P : Type 0) (r : Result A E) → IfOk r (λ _. P) → IsOk r → P
+of_ok P (Ok a) h ok = h
+of_ok P (Err e) h ok = cc

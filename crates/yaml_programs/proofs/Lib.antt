@@ -1,0 +1,4 @@
+pub mod Asks
+pub mod DoneFiles
+pub mod Places
+mod Rows

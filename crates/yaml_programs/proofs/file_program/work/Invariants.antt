@@ -1,0 +1,9 @@
+use Rattle.std.proofs.Common.{◌≡◌, map, take}
+use Rattle.std.specs.List.{All}
+use Rattle.yaml_programs.specs.Done.{IsDoneWith}
+use Rattle.yaml_programs.specs.Reading.{text_view}
+use Rattle.yaml_programs.proofs.file_program.work.Given as goal
+
+abbrev pub invariant-files : goal.invariant-files
+invariant-files g l =
+    l.status ≡ 0 → All (IsDoneWith g.P.FileProgram.works l.program) (map text_view (take l.path-index l.path-items))

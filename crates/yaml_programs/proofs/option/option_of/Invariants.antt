@@ -1,0 +1,7 @@
+use Rattle.std.proofs.Common.{◌≡◌, map, drop}
+use Rattle.yaml_programs.specs.Arguments.{option_named}
+use Rattle.yaml_programs.specs.Reading.{row}
+use Rattle.yaml_programs.proofs.option.option_of.Given as goal
+
+abbrev pub invariant-loop-option : goal.invariant-loop-option
+invariant-loop-option l = option_named (map row (drop l.option-index l.options)) l.name ≡ option_named (map row l.options) l.name

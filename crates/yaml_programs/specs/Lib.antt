@@ -1,0 +1,6 @@
+pub mod Arguments
+pub mod Bounds
+pub mod Done
+pub mod Failing
+pub mod Marked
+pub mod Reading
