@@ -1,4 +1,6 @@
 //! A module for each subject.
+mod at_limits;
+mod before_faults;
 mod blocks;
 mod decoding;
 mod documents;

@@ -1,5 +1,5 @@
 //! Texts that are refused.
-use super::reading::{Row, pulled, rows_hold};
+use super::reading::{Row, parser, pulled, rows_hold};
 use std::alloc::Global;
 use std::process::Abort;
 use std::test::Fail;
@@ -420,7 +420,7 @@ const MALFORMED: [Row; 32] = [
 
 // Whether the events that are pulled end in a fault.
 fn ends_in(alloc: Global, text: &str, fault: &str) -> Result<bool, Fail> {
-    let events = pulled(alloc, text, false)?;
+    let events = pulled(alloc, parser(alloc, text, false), false)?;
     Ok(events.as_str().trim_end().ends_with(fault))
 }
 

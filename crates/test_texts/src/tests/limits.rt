@@ -8,8 +8,8 @@ use test_rows::Report;
 use yaml_rust2::YamlLoader;
 use yaml_rust2::yaml::{Array, Yaml};
 
-// So many times a beginning, a middle, and as many times an end.
-fn nested(
+/// So many times a beginning, a middle, and as many times an end.
+pub(crate) fn nested(
     alloc: Global,
     levels: usize,
     begin: &str,
@@ -123,8 +123,13 @@ fn deep_trees_are_dropped(rt: HostRuntime) -> Result<(), Fail> {
     Ok(())
 }
 
-// A text with this number of letters in it.
-fn with_letters(alloc: Global, begin: &str, letters: usize, end: &str) -> Result<String, Fail> {
+/// A text with this number of letters in it.
+pub(crate) fn with_letters(
+    alloc: Global,
+    begin: &str,
+    letters: usize,
+    end: &str,
+) -> Result<String, Fail> {
     let mut text = String::from_str(alloc, begin)?;
     for _ in 0..letters {
         text.push('a')?;
@@ -221,8 +226,8 @@ fn longer_keys_are_refused(rt: HostRuntime) -> Result<(), Fail> {
     longer_keys_hold(&rt, &LONGER_KEYS)
 }
 
-// The tree of a key with this number of letters.
-fn of_long_key(alloc: Global, letters: usize) -> Result<Yaml, Fail> {
+/// The tree of a hash with the value 1, whose key has this number of letters.
+pub(crate) fn of_long_key(alloc: Global, letters: usize) -> Result<Yaml, Fail> {
     let text = with_letters(alloc, "{", letters, ": 1}")?;
     tree(alloc, text.as_str())
 }

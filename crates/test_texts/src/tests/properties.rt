@@ -1,8 +1,12 @@
 //! Tags, anchors and aliases (YAML 1.2, sections 6.9 and 7.1).
-use super::reading::{Row, loaded_with_tags, rows_hold};
+use super::reading::{Row, loaded_with_tags, note_events, rows_hold};
 use std::process::Abort;
 use std::test::Fail;
 use test_rows::Report;
+
+// Three documents with a handle that the first one declares.
+const THREE_DOCUMENTS: &str =
+    "%TAG !prefix! tag:example.com,2011:\n--- !prefix!A\na: b\n--- !prefix!B\nc: d\n--- !prefix!C\ne: f";
 
 // What it shows, a text, and the trees that it loads as.
 const PROPERTIES: [Row; 9] = [
@@ -54,7 +58,7 @@ fn properties_are_read(rt: HostRuntime) -> Result<(), Fail> {
 const KEPT: [Row; 4] = [
     (
         "a handle that is kept for three documents",
-        "%TAG !prefix! tag:example.com,2011:\n--- !prefix!A\na: b\n--- !prefix!B\nc: d\n--- !prefix!C\ne: f",
+        THREE_DOCUMENTS,
         "[Hash({String(\"a\"): String(\"b\")}), Hash({String(\"c\"): String(\"d\")}), Hash({String(\"e\"): String(\"f\")})]",
     ),
     (
@@ -88,4 +92,37 @@ fn kept_hold(rt: &(impl Abort + AllocGlobal), rows: &[Row]) -> Result<(), Fail> 
 #[test]
 fn declared_handles_may_be_kept(rt: HostRuntime) -> Result<(), Fail> {
     kept_hold(&rt, &KEPT)
+}
+
+// What it shows, whether declared handles are kept, and the events of the three documents, with index, line and column.
+type Events = (&'static str, bool, &'static str);
+
+const HANDLE_EVENTS: [Events; 2] = [
+    (
+        "a handle of the first document alone",
+        false,
+        "StreamStart 0 1 0\nDocumentStart 36 2 0\nMappingStart(0, Some(Tag { handle: \"tag:example.com,2011:\", suffix: \"A\" })) 51 3 1\nScalar(\"a\", Plain, 0, None) 50 3 0\nScalar(\"b\", Plain, 0, None) 53 3 3\nMappingEnd 55 4 0\nDocumentEnd 55 4 0\nDocumentStart 55 4 0\nthe handle wasn't declared at byte 59 line 4 column 5\n",
+    ),
+    (
+        "a handle that is kept",
+        true,
+        "StreamStart 0 1 0\nDocumentStart 36 2 0\nMappingStart(0, Some(Tag { handle: \"tag:example.com,2011:\", suffix: \"A\" })) 51 3 1\nScalar(\"a\", Plain, 0, None) 50 3 0\nScalar(\"b\", Plain, 0, None) 53 3 3\nMappingEnd 55 4 0\nDocumentEnd 55 4 0\nDocumentStart 55 4 0\nMappingStart(0, Some(Tag { handle: \"tag:example.com,2011:\", suffix: \"B\" })) 70 5 1\nScalar(\"c\", Plain, 0, None) 69 5 0\nScalar(\"d\", Plain, 0, None) 72 5 3\nMappingEnd 74 6 0\nDocumentEnd 74 6 0\nDocumentStart 74 6 0\nMappingStart(0, Some(Tag { handle: \"tag:example.com,2011:\", suffix: \"C\" })) 89 7 1\nScalar(\"e\", Plain, 0, None) 88 7 0\nScalar(\"f\", Plain, 0, None) 91 7 3\nMappingEnd 92 8 0\nDocumentEnd 92 8 0\nStreamEnd 92 8 0\n",
+    ),
+];
+
+#[test]
+fn events_have_kept_handles(rt: HostRuntime) -> Result<(), Fail> {
+    let mut report = Report::new(rt.alloc());
+    for (name, keep_tags, want) in &HANDLE_EVENTS {
+        note_events(
+            &mut report,
+            rt.alloc(),
+            name,
+            THREE_DOCUMENTS,
+            *keep_tags,
+            want,
+        )?;
+    }
+    assert!(rt; report.is_empty(), "{report}");
+    Ok(())
 }

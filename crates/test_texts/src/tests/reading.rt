@@ -61,9 +61,13 @@ fn line_of(alloc: Global, event: &Event, mark: Marker) -> Result<String, AllocEr
     format!(in alloc; "{event:?} {index} {line} {col}\n")
 }
 
-/// The events that are pushed, with their places, a line each, and the fault where one comes.
-fn pushed(alloc: Global, text: &str) -> Result<String, Fail> {
-    let mut parser = Parser::new_from_str(alloc, text);
+/// A parser of a text, which may keep declared handles.
+pub(crate) fn parser(alloc: Global, text: &str, keep_tags: bool) -> Parser<Chars<'_>> {
+    Parser::new_from_str(alloc, text).keep_tags(keep_tags)
+}
+
+// The events that are pushed, with their places, a line each, and the fault where one comes.
+fn pushed(alloc: Global, mut parser: Parser<Chars<'_>>) -> Result<String, Fail> {
     let mut lines = Lines {
         alloc,
         text: String::new(alloc),
@@ -85,15 +89,37 @@ fn pull(alloc: Global, parser: &mut Parser<Chars<'_>>) -> Result<(String, bool),
     }
 }
 
+// The line of the event that a look shows.
+fn look(alloc: Global, parser: &mut Parser<Chars<'_>>) -> Result<String, Fail> {
+    match parser.peek() {
+        Ok(shown) => Ok(line_of(alloc, &shown.0, shown.1)?),
+        Err(fault) => Ok(format!(in alloc; "{fault}\n")?),
+    }
+}
+
+// The same as a pull, after a look. If the look shows something else, its line comes first.
+fn look_and_pull(alloc: Global, parser: &mut Parser<Chars<'_>>) -> Result<(String, bool), Fail> {
+    let shown = look(alloc, parser)?;
+    let (line, is_last) = pull(alloc, parser)?;
+    if shown == line {
+        return Ok((line, is_last));
+    }
+    Ok((format!(in alloc; "{shown}{line}")?, is_last))
+}
+
 /// The same events, pulled, each after a look where `peeks`.
-pub(crate) fn pulled(alloc: Global, text: &str, peeks: bool) -> Result<String, Fail> {
-    let mut parser = Parser::new_from_str(alloc, text);
+pub(crate) fn pulled(
+    alloc: Global,
+    mut parser: Parser<Chars<'_>>,
+    peeks: bool,
+) -> Result<String, Fail> {
     let mut lines = String::new(alloc);
     for _ in 0..10000 {
-        if peeks {
-            let _ = parser.peek();
-        }
-        let (line, is_last) = pull(alloc, &mut parser)?;
+        let (line, is_last) = if peeks {
+            look_and_pull(alloc, &mut parser)?
+        } else {
+            pull(alloc, &mut parser)?
+        };
         lines.push_str(line.as_str())?;
         if is_last {
             break;
@@ -121,9 +147,14 @@ fn are_beginnings_answered(alloc: Global, text: &str) -> bool {
     true
 }
 
-// Notes where a row's text does not load as it says, from a `&str` and from an iterator.
-fn note_trees(report: &mut Report, alloc: Global, row: &Row) -> Result<(), Fail> {
-    let (name, text, want) = row;
+/// Notes where a text does not load as wanted, from a `&str` and from an iterator.
+pub(crate) fn note_trees(
+    report: &mut Report,
+    alloc: Global,
+    name: &str,
+    text: &str,
+    want: &str,
+) -> Result<(), Fail> {
     let from_str = loaded(alloc, text)?;
     report.compare(name, "loaded", from_str.as_str(), want)?;
     let from_iter = loaded_from_iter(alloc, text)?;
@@ -131,28 +162,46 @@ fn note_trees(report: &mut Report, alloc: Global, row: &Row) -> Result<(), Fail>
     Ok(())
 }
 
-// Notes where a row's events are not the same pushed, pulled, and pulled after a look each.
-fn note_events(report: &mut Report, alloc: Global, row: &Row) -> Result<(), Fail> {
-    let (name, text, _) = row;
-    let events = pulled(alloc, text, false)?;
-    let looked_at = pulled(alloc, text, true)?;
-    report.compare(name, "after looks", looked_at.as_str(), events.as_str())?;
-    let pushed = pushed(alloc, text)?;
-    report.compare(name, "pushed", pushed.as_str(), events.as_str())?;
+/// Notes where a text's events are not those wanted, a line each, pulled, pulled after a look each, and pushed.
+pub(crate) fn note_events(
+    report: &mut Report,
+    alloc: Global,
+    name: &str,
+    text: &str,
+    keep_tags: bool,
+    want: &str,
+) -> Result<(), Fail> {
+    let events = pulled(alloc, parser(alloc, text, keep_tags), false)?;
+    report.compare(name, "pulled", events.as_str(), want)?;
+    let looked_at = pulled(alloc, parser(alloc, text, keep_tags), true)?;
+    report.compare(name, "after looks", looked_at.as_str(), want)?;
+    let pushed = pushed(alloc, parser(alloc, text, keep_tags))?;
+    report.compare(name, "pushed", pushed.as_str(), want)?;
     Ok(())
+}
+
+// Notes where a text's events are not the same in these three ways.
+fn note_same_events(
+    report: &mut Report,
+    alloc: Global,
+    name: &str,
+    text: &str,
+) -> Result<(), Fail> {
+    let events = pulled(alloc, parser(alloc, text, false), false)?;
+    note_events(report, alloc, name, text, false, events.as_str())
 }
 
 /// Every row's text loads as it says, from a `&str` and from an iterator; its events are the same pushed, pulled, and
 /// pulled after a look each; and every beginning of it is answered. All rows that fail are told.
 pub(crate) fn rows_hold(rt: &(impl Abort + AllocGlobal), rows: &[Row]) -> Result<(), Fail> {
     let mut report = Report::new(rt.alloc());
-    for row in rows {
-        note_trees(&mut report, rt.alloc(), row)?;
-        note_events(&mut report, rt.alloc(), row)?;
+    for (name, text, want) in rows {
+        note_trees(&mut report, rt.alloc(), name, text, want)?;
+        note_same_events(&mut report, rt.alloc(), name, text)?;
         report.check(
-            row.0,
+            name,
             "its beginnings",
-            are_beginnings_answered(rt.alloc(), row.1),
+            are_beginnings_answered(rt.alloc(), text),
         )?;
     }
     assert!(rt; report.is_empty(), "{report}");
