@@ -14,9 +14,10 @@ pub passing : (p : YamlCheck) (path bytes input : List ℕ) (s : String Global) 
     (documents : Vec Yaml Global) → input ≡ bytes → text (string_chars s) ≡ strict (parts input) → utf8 ≡ string_bytes s
     → l ≡ limits_of p.bounds (length utf8) → Answers l (up_to_nul (chars utf8)) r → r ≡ Ok documents → IsChecked p path bytes
 passing p path bytes input s utf8 l r documents same decoded spelled limits answers loaded = (
-    s,
-    subst (λ b. text (string_chars s) ≡ strict (parts b)) same decoded,
-    documents,
-    subst (λ u. Answers (limits_of p.bounds (length u)) (up_to_nul (chars u)) (Ok documents)) spelled
-        (subst (λ x. Answers (limits_of p.bounds (length utf8)) (up_to_nul (chars utf8)) x) loaded
-            (subst (λ m. Answers m (up_to_nul (chars utf8)) r) limits answers)))
+  s,
+  subst (λ b. text (string_chars s) ≡ strict (parts b)) same decoded,
+  documents,
+  subst (λ u. Answers (limits_of p.bounds (length u)) (up_to_nul (chars u)) (Ok documents)) spelled
+      (subst (λ x. Answers (limits_of p.bounds (length utf8)) (up_to_nul (chars utf8)) x) loaded
+      (subst (λ m. Answers m (up_to_nul (chars utf8)) r) limits answers)),
+)
