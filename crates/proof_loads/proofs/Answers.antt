@@ -20,8 +20,9 @@ use Rattle.yaml_parser.specs.Blames.{Blames}
 use Rattle.yaml_parser.specs.Follows.{Follows, Refused, IsWhole, IsOfScanner, Explains}
 use Rattle.yaml_parser.specs.Loads as loads
 use Rattle.yaml_parser.specs.Loads.{PullsAll, no_call, one_call, Receives, EndsSo}
-use Rattle.proof_loads.specs.TextReadAs.{IsAtStart}
-use Rattle.proof_loads.specs.TextEvents.{HasEvents, AreFirst, BeginsEvents, IsFaultOf, wants_memory, no_token, no_stream, AnswersText, whole, faulted, refused}
+use Rattle.proof_loads.specs.AtStart.{IsAtStart}
+use Rattle.proof_loads.specs.PlacedEvents.{HasEvents}
+use Rattle.proof_loads.specs.TextEvents.{AreFirst, BeginsEvents, IsFaultOf, wants_memory, no_token, no_stream, AnswersText, whole, faulted, refused}
 use Rattle.proof_loads.specs.Laws.{TextsAreAnswered}
 use Rattle.proof_loads.proofs.Pulled.{Noted, noted, read_given, explained, settings_stay, events_are_clear, has_end_append}
 use Rattle.proof_loads.proofs.Texts.{first_tokens, foretells_beginning}
@@ -133,7 +134,7 @@ has_all_events text p scans s =
     let nested = stream_nests p.keep_tags (toks p.scanner.given) (events_of p.given) stream in
     record {
       tokens = p.scanner.given;
-      has = all_tokens text p.scanner.given s.raws scans.reached s.says;
+      has = all_tokens text p.scanner.given s.raws scans.no_nul scans.reached s.says;
       stream = s;
       documents = nested.0;
       events_are = sym nested.1;

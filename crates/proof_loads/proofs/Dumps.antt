@@ -1,20 +1,20 @@
--- The texts that are written for trees are read as these trees.
+-- The texts that are written for trees mean these trees.
 use Rattle.std.proofs.Common.{◌≡◌, [], ◌∷◌, true, sym, subst}
 use Rattle.defs_tree.specs.Tree.{Tree}
 use Rattle.defs_tree.specs.DumpText.{dump_text}
 use Rattle.defs_layout.specs.Layout.{trees_of}
 use Rattle.defs_layout.specs.DumpIsInjective.{DumpIsInjective}
 use Rattle.proof_dumps.proofs.Whole.{dump_is_laid_out}
-use Rattle.proof_loads.specs.TextReadAs.{IsReadAs}
-use Rattle.proof_loads.specs.Laws.{DumpsAreReadAsTheirTree}
+use Rattle.defs_meaning.specs.Meaning.{Means}
+use Rattle.proof_loads.specs.Laws.{DumpsMeanTheirTree}
 use Rattle.proof_loads.proofs.LayoutTexts.{layouts_are_read}
-use Rattle.proof_loads.proofs.OneReading.{texts_are_read_in_one_way}
+use Rattle.proof_meaning.proofs.Meanings.{one_meaning}
 
-pub dumps_are_read : DumpsAreReadAsTheirTree
+pub dumps_are_read : DumpsMeanTheirTree
 dumps_are_read keep_tags compact multiline t is =
     let laid = dump_is_laid_out compact multiline t is.0 is.1 is.2 in
-    let text = subst (λ s. IsReadAs keep_tags s (trees_of laid.0.documents)) laid.3 (layouts_are_read keep_tags laid.0 laid.1) in
-    subst (λ ts. IsReadAs keep_tags (dump_text compact multiline t) ts) laid.4 text
+    let text = subst (λ s. Means keep_tags s (trees_of laid.0.documents)) laid.3 (layouts_are_read keep_tags laid.0 laid.1) in
+    subst (λ ts. Means keep_tags (dump_text compact multiline t) ts) laid.4 text
 
 one_tree : {t u : Tree} → t ∷ [] ≡ u ∷ [] → t ≡ u
 one_tree e = cc
@@ -22,5 +22,5 @@ one_tree e = cc
 pub dump_is_injective : DumpIsInjective
 dump_is_injective compact multiline t u is_t is_u same =
     let read_t = dumps_are_read true compact multiline t is_t in
-    let read_u = subst (λ s. IsReadAs true s (u ∷ [])) (sym same) (dumps_are_read true compact multiline u is_u) in
-    one_tree (texts_are_read_in_one_way true (dump_text compact multiline t) (t ∷ []) (u ∷ []) read_t read_u)
+    let read_u = subst (λ s. Means true s (u ∷ [])) (sym same) (dumps_are_read true compact multiline u is_u) in
+    one_tree (one_meaning true (dump_text compact multiline t) (t ∷ []) (u ∷ []) read_t read_u)

@@ -1,7 +1,8 @@
--- Layouts one after another are read as their trees, and have no NUL.
+-- Layouts one after another mean their trees, and have no NUL.
 use Rattle.std.proofs.Common.{Bool, [], ◌∷◌, refl, sym, ap, ◌∙◌, subst}
 use Rattle.defs_token.specs.Token.{Tok}
 use Rattle.defs_layout.specs.DumpsInTurn.{dump_texts}
+use Rattle.defs_layout.specs.Layout.{trees_of}
 use Rattle.defs_layout.specs.LayoutTokens.{layout_tokens}
 use Rattle.proof_grammar.proofs.Streams.{stream_by}
 use Rattle.proof_dumps.proofs.Whole.{dumps_are_laid_out_in_turn}
@@ -9,25 +10,23 @@ use Rattle.proof_layout_trees.proofs.Layouts.Documents.{tokens_read_as_their_tre
 use Rattle.proof_layout_tokens.proofs.Documents.{nothing_has_its_tokens}
 use Rattle.proof_layout_tokens.proofs.InTurn.{layouts_in_turn_have_their_tokens}
 use Rattle.defs_text.specs.Text.{up_to_nul}
-use Rattle.proof_loads.specs.TextReadAs.{IsReadAs}
+use Rattle.defs_meaning.specs.Meaning.{Means}
 use Rattle.proof_loads.specs.Spelled.{IsWithoutNul}
-use Rattle.proof_loads.specs.InTurn.{LayoutsInTurnAreReadAsTheirTrees, LayoutsInTurnAreWithoutNul, DumpsInTurnAreReadAsTheirTrees}
+use Rattle.proof_loads.specs.InTurn.{LayoutsInTurnMeanTheirTrees, LayoutsInTurnAreWithoutNul, DumpsInTurnMeanTheirTrees}
 use Rattle.proof_loads.proofs.LayoutNul.{layouts_have_no_nul}
+use Rattle.proof_loads.proofs.RowTexts.{means}
 
-nothing_is_read : (keep_tags : Bool) → IsReadAs keep_tags [] []
-nothing_is_read keep_tags = record {
-  tokens = Tok.stream_start ∷ Tok.stream_end ∷ [];
-  has = nothing_has_its_tokens;
-  read = record { documents = []; stream = stream_by refl refl; trees_are = refl };
-}
+nothing_is_read : (keep_tags : Bool) → Means keep_tags [] []
+nothing_is_read keep_tags = means keep_tags [] (Tok.stream_start ∷ Tok.stream_end ∷ []) [] refl nothing_has_its_tokens (record { documents = []; stream = stream_by refl refl; trees_are = refl })
 
-pub layouts_in_turn_are_read : LayoutsInTurnAreReadAsTheirTrees
-layouts_in_turn_are_read keep_tags [] text none = subst (λ a. IsReadAs keep_tags a []) (sym none) (nothing_is_read keep_tags)
+pub layouts_in_turn_are_read : LayoutsInTurnMeanTheirTrees
+layouts_in_turn_are_read keep_tags [] text none = subst (λ a. Means keep_tags a []) (sym none) (nothing_is_read keep_tags)
 layouts_in_turn_are_read keep_tags (t ∷ ts) text laid =
     let z = layouts_in_turn_have_their_tokens t ts text laid in
-    subst (λ trees. IsReadAs keep_tags text trees) z.3 (record { tokens = layout_tokens z.0; has = z.4; read = tokens_read_as_their_trees keep_tags z.0 z.1 })
+    let without = subst IsWithoutNul z.2 (layouts_have_no_nul z.0 z.1) in
+    subst (λ trees. Means keep_tags text trees) z.3 (means keep_tags text (layout_tokens z.0) (trees_of z.0.documents) without z.4 (tokens_read_as_their_trees keep_tags z.0 z.1))
 
-pub dumps_in_turn_are_read : DumpsInTurnAreReadAsTheirTrees
+pub dumps_in_turn_are_read : DumpsInTurnMeanTheirTrees
 dumps_in_turn_are_read keep_tags compact multiline ts can = layouts_in_turn_are_read keep_tags ts (dump_texts compact multiline ts) (dumps_are_laid_out_in_turn compact multiline ts can)
 
 -- ---- no NUL

@@ -1,5 +1,5 @@
--- A load of a text that is read as trees.
-use Rattle.std.proofs.Common.{◌≡◌, ℕ, true, Bool, List, ◌∷◌, [], ◌++◌, ap, ◌∙◌, subst}
+-- A load of a text that means trees.
+use Rattle.std.proofs.Common.{◌≡◌, ℕ, true, Bool, List, ◌∷◌, [], ◌++◌, ap, subst}
 use Rattle.std.specs.Prelude.{Result}
 use Rattle.defs_text.specs.Position.{Position}
 use Rattle.defs_tree.specs.Tree.{Tree}
@@ -7,11 +7,12 @@ use Rattle.yaml_tokens.specs.ErrorReport.{ErrorReport}
 use Rattle.defs_event.specs.Event.{Ev}
 use Rattle.defs_token.specs.Toks.{toks}
 use Rattle.defs_event.specs.Stream.{IsStream, events_of}
-use Rattle.model_scanner.proofs.Runs.{one_list, not_refused}
+use Rattle.proof_row.proofs.OneRow.{one_reading}
 use Rattle.defs_layout.specs.Json.{spell_text, tree_of}
 use Rattle.proof_layout_trees.proofs.Loads.{streams_are_loaded, foretold_are_not_refused, streams_are_not_cut}
-use Rattle.proof_loads.specs.TextReadAs.{IsReadAs}
-use Rattle.proof_loads.specs.TextEvents.{HasEvents, IsFaultOf, wants_memory, no_token, no_stream, AnswersText}
+use Rattle.defs_meaning.specs.Meaning.{Means}
+use Rattle.proof_loads.specs.PlacedEvents.{HasEvents}
+use Rattle.proof_loads.specs.TextEvents.{IsFaultOf, wants_memory, no_token, no_stream, AnswersText}
 use Rattle.proof_loads.specs.TextEvents as answers
 use Rattle.proof_loads.specs.LoadsAs.{LoadsAs, well, refused}
 use Rattle.proof_loads.specs.LoadsAs as loads
@@ -21,21 +22,21 @@ use Rattle.proof_loads.proofs.Spelled.{json_texts_are_read}
 use Rattle.proof_loads.proofs.Answers.{placed_stream, texts_are_answered}
 
 -- A fault of such a text is out of memory.
-pub memory_is_wanted : (keep_tags : Bool) (text : List ℕ) (trees : List Tree) (f : ErrorReport) → IsReadAs keep_tags text trees → IsFaultOf keep_tags text f → f.memory ≡ true
+pub memory_is_wanted : (keep_tags : Bool) (text : List ℕ) (trees : List Tree) (f : ErrorReport) → Means keep_tags text trees → IsFaultOf keep_tags text f → f.memory ≡ true
 memory_is_wanted keep_tags text trees f x (wants_memory wants) = wants.memory
-memory_is_wanted keep_tags text trees f x (no_token given events first begins r) = absurd (not_refused text x.has.0 r.fault x.has.1 r.refused)
+memory_is_wanted keep_tags text trees f x (no_token given events first begins r) = absurd (r.rowless.rowless x.tokens x.has)
 memory_is_wanted keep_tags text trees f x (no_stream before last events first blames begins none) =
     let y = goes_on keep_tags text trees (before ++ last ∷ []) x first in
     absurd (streams_are_not_cut keep_tags (toks (before ++ last ∷ [])) y.more trees y.reads none)
 
-same_tokens : (keep_tags : Bool) (text : List ℕ) (trees : List Tree) (es : List (Ev × Position)) (x : IsReadAs keep_tags text trees) (h : HasEvents keep_tags text es) → toks h.tokens ≡ x.tokens
-same_tokens keep_tags text trees es x h = ap toks (one_list text h.tokens x.has.0 h.has x.has.1) ∙ x.has.2
+same_tokens : (keep_tags : Bool) (text : List ℕ) (trees : List Tree) (es : List (Ev × Position)) (x : Means keep_tags text trees) (h : HasEvents keep_tags text es) → toks h.tokens ≡ toks x.tokens
+same_tokens keep_tags text trees es x h = ap toks (one_reading text h.tokens x.tokens h.has x.has)
 
 loads_as : {R : Type 0} {takes : R → Ev → Position → Result (Unit {0}) ErrorReport → R → Type 0} {r s : R} {keep_tags : Bool} {text : List ℕ} {trees : List Tree} {result : Result (Unit {0}) ErrorReport}
-    → IsReadAs keep_tags text trees → AnswersText takes keep_tags text r result s → LoadsAs takes trees r result s
+    → Means keep_tags text trees → AnswersText takes keep_tags text r result s → LoadsAs takes trees r result s
 loads_as {keep_tags = keep_tags} {text = text} {trees = trees} x (answers.whole es h received) =
     let same = same_tokens keep_tags text trees es x h in
-    well es received (streams_are_loaded keep_tags x.tokens trees es x.read (subst (λ ts. IsStream keep_tags ts (events_of es)) same (placed_stream keep_tags h.tokens es h.stream)))
+    well es received (streams_are_loaded keep_tags (toks x.tokens) trees es x.read (subst (λ ts. IsStream keep_tags ts (events_of es)) same (placed_stream keep_tags h.tokens es h.stream)))
 loads_as {keep_tags = keep_tags} {text = text} {trees = trees} x (answers.faulted {f = f} es why received) = loads.wants_memory es received (memory_is_wanted keep_tags text trees f x why)
 loads_as {keep_tags = keep_tags} {text = text} {trees = trees} x (answers.refused es e p b received takes) =
     let y = goes_on keep_tags text trees _ x b.first in

@@ -1,4 +1,4 @@
--- Two parsers of a text that is read as trees.
+-- Two parsers of a text that means trees.
 use Rattle.std.proofs.Common.{◌≡◌, ℕ, Bool, List, [], ◌∷◌, ◌++◌, length, refl, sym, ap, ◌∙◌, subst, arith}
 use Rattle.std.proofs.lemmas.List.{map-append}
 use Rattle.defs_text.specs.Position.{Position}
@@ -11,15 +11,15 @@ use Rattle.defs_event.specs.Stream.{IsStream, events_of}
 use Rattle.yaml_scanner.specs.Scanned.{ScansIn}
 use Rattle.yaml_parser.specs.Parsed.{Parsed, read}
 use Rattle.yaml_parser.specs.Follows.{Follows}
-use Rattle.proof_loads.specs.TextReadAs.{IsReadAs}
+use Rattle.defs_meaning.specs.Meaning.{Means}
 use Rattle.proof_loads.specs.Laws.{ReadTextsHaveOneListOfEvents}
 use Rattle.proof_loads.proofs.Texts.{first_tokens}
 
 -- The text's events begin with those that were read.
-begins_all : (p : Parsed) (keep_tags : Bool) (text : List ℕ) (trees : List Tree) → (x : IsReadAs keep_tags text trees) → p.keep_tags ≡ keep_tags → ScansIn text p.scanner → Follows p → (more : List Ev) × (nested_stream x.read.documents ≡ events_of (read p) ++ more)
+begins_all : (p : Parsed) (keep_tags : Bool) (text : List ℕ) (trees : List Tree) → (x : Means keep_tags text trees) → p.keep_tags ≡ keep_tags → ScansIn text p.scanner → Follows p → (more : List Ev) × (nested_stream x.read.documents ≡ events_of (read p) ++ more)
 begins_all p keep_tags text trees x same_setting scans follows =
-    let b = (first_tokens text p.scanner scans).begins x.has.0 x.has.1 in
-    let same : x.tokens ≡ toks p.scanner.given ++ toks b.more = sym x.has.2 ∙ ap toks b.whole ∙ map-append (λ (t : Token). t.tok) p.scanner.given b.more in
+    let b = (first_tokens text p.scanner scans).begins x.tokens x.has in
+    let same : toks x.tokens ≡ toks p.scanner.given ++ toks b.more = ap toks b.whole ∙ map-append (λ (t : Token). t.tok) p.scanner.given b.more in
     let all = nested_stream x.read.documents in
     follows.only (toks b.more) all (subst (λ k. IsStream k (toks p.scanner.given ++ toks b.more) all) (sym same_setting) (subst (λ ts. IsStream keep_tags ts all) same x.read.stream))
 

@@ -9,7 +9,7 @@ use Rattle.yaml_parser.specs.Parsed.{Parsed, is_stream_end, has_end, read_so}
 use Rattle.yaml_parser.specs.Follows.{Explains}
 use Rattle.yaml_parser.specs.Pulls.{GivesEvent, KeepsSettings}
 use Rattle.yaml_parser.specs.Loads.{PullsAll, no_call, one_call}
-use Rattle.proof_loads.specs.TextReadAs.{IsAtStart}
+use Rattle.proof_loads.specs.AtStart.{IsAtStart}
 use Rattle.proof_loads.proofs.Runs.{given_append}
 
 -- ---- what was pulled

@@ -1,8 +1,9 @@
--- A text that is one quoted scalar is read as one string, and has no NUL.
+-- A text that is one quoted scalar has no NUL, and means one string.
 use Rattle.std.proofs.Common.{◌≡◌, ◌≢◌, ℕ, zero, suc, List, [], ◌∷◌, ◌++◌, true, false, Some, refl, subst, arith, replicate}
 use Rattle.std.specs.List.{list_all}
 use Rattle.defs_token.specs.Token.{Tok}
-use Rattle.defs_layout.specs.QuotedText.{Quotes, QuotedText, IsQuoted, HasQuotedTokens, spell, quote_of, style_of, body_value}
+use Rattle.defs_tree.specs.Tree.{Tree}
+use Rattle.defs_layout.specs.QuotedText.{Quotes, QuotedText, HasQuotedTokens, quote_of, style_of, body_value}
 use Rattle.defs_layout.specs.QuotedText as laid
 use Rattle.proof_layout_trees.proofs.Quoted.{quoted_read_as_their_string}
 use Rattle.proof_lexers.specs.QuotedScan.{is_some}
@@ -11,16 +12,9 @@ use Rattle.proof_lexers.proofs.Quoted.Values.{parts}
 use Rattle.proof_layout_tokens.proofs.Quoted.Tokens.{quoted_texts_have_their_tokens}
 use Rattle.defs_text.specs.Classes.{is_nul}
 use Rattle.proof_loads.specs.Spelled.{IsWithoutNul}
-use Rattle.proof_loads.specs.QuotedTexts.{QuotedTextsAreReadAsTheirString, QuotedTextsAreWithoutNul}
+use Rattle.proof_loads.specs.QuotedTexts.{QuotedTextsMeanTheirString, QuotedTextsAreWithoutNul}
 use Rattle.proof_loads.proofs.Nul.{character, characters}
-
-abbrev tokens_of : QuotedText → List ℕ → List Tok
-tokens_of w value = Tok.stream_start ∷ Tok.scalar (style_of w.quotes) value ∷ Tok.stream_end ∷ []
-
-pub quoted_texts_are_read : QuotedTextsAreReadAsTheirString
-quoted_texts_are_read keep_tags text value (w, spelt, is) =
-    let q : HasQuotedTokens text (tokens_of w value) = (w, value, spelt, is, refl) in
-    record { tokens = tokens_of w value; has = quoted_texts_have_their_tokens text (tokens_of w value) q; read = quoted_read_as_their_string keep_tags text (tokens_of w value) q }
+use Rattle.proof_loads.proofs.RowTexts.{means}
 
 -- ---- no NUL
 
@@ -44,3 +38,14 @@ quoted_texts_have_no_nul text value (w, spelt, is) =
     let after = character (quote_of w.quotes) (replicate w.breaks 10) q (no_feed_nul w.breaks) in
     let within = characters is_some refl w.body (quote_of w.quotes ∷ replicate w.breaks 10) (no_body_nul w.quotes w.body value is) after in
     subst IsWithoutNul spelt (character (quote_of w.quotes) (w.body ++ quote_of w.quotes ∷ replicate w.breaks 10) q within)
+
+-- ---- its meaning
+
+abbrev tokens_of : QuotedText → List ℕ → List Tok
+tokens_of w value = Tok.stream_start ∷ Tok.scalar (style_of w.quotes) value ∷ Tok.stream_end ∷ []
+
+pub quoted_texts_are_read : QuotedTextsMeanTheirString
+quoted_texts_are_read keep_tags text value (w, spelt, is) =
+    let q : HasQuotedTokens text (tokens_of w value) = (w, value, spelt, is, refl) in
+    means keep_tags text (tokens_of w value) (Tree.string value ∷ []) (quoted_texts_have_no_nul text value (w, spelt, is)) (quoted_texts_have_their_tokens text (tokens_of w value) q)
+    (quoted_read_as_their_string keep_tags text (tokens_of w value) q)

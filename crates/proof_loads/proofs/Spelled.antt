@@ -1,23 +1,28 @@
 -- Texts as their iterators give them, and as they are read.
 use Rattle.yaml_chars.proofs.SpelledLemmas.{Begins-spelled, Chars-spelled}
-use Rattle.std.specs.Prelude.{ℕ, Option}
+use Rattle.std.specs.Prelude.{◌≡◌, ℕ, Option, [], ◌∷◌, true}
 use Rattle.std.specs.Str.{chars}
 use Rattle.std.specs.Str.Iter.{chars_steps}
 use Rattle.yaml_scanner.specs.Scanned.{MayBe}
 use Rattle.proof_layout_tokens.proofs.Json.Texts.{json_text_has_its_tokens}
+use Rattle.defs_layout.specs.Json.{spell_text, tree_of}
 use Rattle.defs_layout.specs.JsonTokens.{json_text_tokens}
 use Rattle.proof_layout_trees.proofs.Json.Reading as json
-use Rattle.proof_loads.specs.Laws.{JsonTextsAreReadAsTheirTree, CharactersAreTheText, StringsAreTheText}
+use Rattle.proof_loads.specs.Laws.{JsonTextsMeanTheirTree, CharactersAreTheText, StringsAreTheText}
 use Rattle.proof_loads.specs.Rows.{TextsWithAFaultHaveNoRow}
-use Rattle.proof_loads.proofs.CutTexts.{none_before}
+use Rattle.defs_text.specs.Text.{has_no_nul}
+use Rattle.proof_ends.proofs.Pieces.{clean_up_to_end}
+use Rattle.proof_loads.proofs.JsonNul.{json_texts_have_no_nul}
+use Rattle.proof_loads.proofs.RowTexts.{means}
 
 pub characters_are_the_text : {S : Type 0} (steps : S → Option ℕ → S → Type 0) → CharactersAreTheText steps
 characters_are_the_text steps start all s always came no_nul =
-    Begins-spelled steps {P = λ a. MayBe s a} all start always
-    (record { taken = s.taken; done = s.done; came = came; no_nul = no_nul; holds = λ a begins ends. record { begins = begins; ends = ends } })
+    Begins-spelled steps {P = λ a. has_no_nul a ≡ true → MayBe s a} all start always
+    (record { taken = s.taken; done = s.done; came = came; no_nul = no_nul; holds = λ a begins ends none. record { no_nul = none; begins = begins; ends = ends } }) (clean_up_to_end all)
 
-pub json_texts_are_read : JsonTextsAreReadAsTheirTree
-json_texts_are_read keep_tags w is = record { tokens = json_text_tokens w; has = json_text_has_its_tokens w is; read = json.tokens_read_as_their_tree keep_tags w is }
+pub json_texts_are_read : JsonTextsMeanTheirTree
+json_texts_are_read keep_tags w is =
+    means keep_tags (spell_text w) (json_text_tokens w) (tree_of w.value ∷ []) (json_texts_have_no_nul w is) (json_text_has_its_tokens w is) (json.tokens_read_as_their_tree keep_tags w is)
 
 pub strings_are_the_text : StringsAreTheText
 strings_are_the_text start bytes s utf8 rest came no_nul scans =
@@ -25,4 +30,4 @@ strings_are_the_text start bytes s utf8 rest came no_nul scans =
 
 pub faults_leave_no_row : TextsWithAFaultHaveNoRow
 faults_leave_no_row start bytes s f utf8 rest came no_nul leaves memory =
-    leaves memory _ (characters_are_the_text chars_steps start (chars bytes) s (Chars-spelled start bytes utf8 rest) came no_nul) (none_before (chars bytes))
+    leaves memory _ (characters_are_the_text chars_steps start (chars bytes) s (Chars-spelled start bytes utf8 rest) came no_nul)

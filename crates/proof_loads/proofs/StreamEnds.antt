@@ -8,8 +8,10 @@ use Rattle.defs_event.specs.Table.{Part, read, keep, hold, say, show, empty, Row
 use Rattle.defs_event.specs.Grammar.{Held, Goal, stream, documents, directives, explicit_document, document_end, cases, grammar}
 use Rattle.defs_event.specs.Stream.{whole_stream, StreamSays}
 use Rattle.defs_token.specs.Toks.{toks}
-use Rattle.model_scanner.specs.Run.{HasTokens}
+use Rattle.defs_row.specs.Row.{IsRead}
+use Rattle.defs_text.specs.Text.{has_no_nul}
 use Rattle.model_scanner.proofs.Ends.{end_is_last}
+use Rattle.proof_row_sound.proofs.Sound.{tokens_are_of_a_row}
 use Rattle.yaml_scanner.specs.Follows.{IsReached}
 
 -- The stream's end is among these.
@@ -117,17 +119,17 @@ nothing_after : (xs ys : List Token) → xs ++ ys ≡ [] → ys ≡ []
 nothing_after [] ys h = h
 nothing_after (x ∷ xs) ys h = cc
 
--- A text's first tokens that are a stream's are all its tokens.
-pub all_tokens : (text : List ℕ) (given : List Token) (es : List Raw) → IsReached text given → StreamSays (toks given) es → HasTokens text given
-all_tokens text given es reached d =
+-- A text whose first tokens are a stream's is read as these.
+pub all_tokens : (text : List ℕ) (given : List Token) (es : List Raw) → has_no_nul text ≡ true → IsReached text given → StreamSays (toks given) es → IsRead text given
+all_tokens text given es nul reached d =
     let among = end_among given (toks given) (ends_at whole_stream (toks given) es d refl) refl in
     let more = reached.begins.more in
     let at : reached.last.held.tokens ≡ among.before ++ among.end ∷ (among.more ++ more) =
     reached.begins.whole ∙ ap (λ xs. xs ++ more) among.whole ∙ append_assoc among.before (among.end ∷ among.more) more in
     let last = end_is_last text reached.last among.before (among.more ++ more) among.end reached.run at among.is_end in
-    record {
+    tokens_are_of_a_row text given nul (record {
       end = reached.last;
       run = reached.run;
       ended = last.0;
       tokens = reached.begins.whole ∙ ap (λ xs. given ++ xs) (nothing_after among.more more last.1) ∙ append-nil given;
-    }
+    })

@@ -1,5 +1,5 @@
--- A parser somewhere in a text that is read as trees.
-use Rattle.std.proofs.Common.{◌≡◌, ℕ, true, Bool, List, ◌++◌, Some, sym, ap, ◌∙◌, subst, append_assoc, inl, inr}
+-- A parser somewhere in a text that means trees.
+use Rattle.std.proofs.Common.{◌≡◌, ℕ, true, Bool, List, ◌++◌, Some, ap, ◌∙◌, subst, append_assoc, inl, inr}
 use Rattle.std.specs.Prelude.{IfSome, Option}
 use Rattle.std.proofs.lemmas.List.{map-append}
 use Rattle.defs_text.specs.Position.{Position}
@@ -14,7 +14,7 @@ use Rattle.yaml_scanner.specs.Scanned.{Scanned, ScansIn}
 use Rattle.yaml_parser.specs.Parsed.{read}
 use Rattle.defs_event.specs.ReadAs.{ReadAs, IsAtWork}
 use Rattle.proof_layout_trees.proofs.Loads.{streams_are_loaded, foretold_are_not_refused, streams_are_not_cut}
-use Rattle.proof_loads.specs.TextReadAs.{IsReadAs}
+use Rattle.defs_meaning.specs.Meaning.{Means}
 use Rattle.proof_loads.specs.TextEvents.{AreFirst}
 use Rattle.proof_loads.specs.Laws.{ReadTextsAreNotRefused, ReadTextsHaveNoFaultButMemory, EventsOfReadTextsAreRead, ReadTextsHaveTheirTrees}
 
@@ -23,10 +23,10 @@ pub record GoesOn (keep_tags : Bool) (given : List Token) (trees : List Tree) : 
   pub more : List Tok
   pub reads : ReadAs keep_tags (toks given ++ more) trees
 
-pub goes_on : (keep_tags : Bool) (text : List ℕ) (trees : List Tree) (given : List Token) → IsReadAs keep_tags text trees → AreFirst text given → GoesOn keep_tags given trees
+pub goes_on : (keep_tags : Bool) (text : List ℕ) (trees : List Tree) (given : List Token) → Means keep_tags text trees → AreFirst text given → GoesOn keep_tags given trees
 goes_on keep_tags text trees given x first =
-    let b = first.begins x.has.0 x.has.1 in
-    let same : x.tokens ≡ toks given ++ toks b.more = sym x.has.2 ∙ ap toks b.whole ∙ map-append (λ (t : Token). t.tok) given b.more in
+    let b = first.begins x.tokens x.has in
+    let same : toks x.tokens ≡ toks given ++ toks b.more = ap toks b.whole ∙ map-append (λ (t : Token). t.tok) given b.more in
     record { more = toks b.more; reads = subst (λ ts. ReadAs keep_tags ts trees) same x.read }
 
 pub first_tokens : (text : List ℕ) (s : Scanned) → ScansIn text s → AreFirst text s.given
@@ -43,7 +43,7 @@ scanner_wants_memory o f e h = rw e at h
 pub only_memory_is_wanted : ReadTextsHaveNoFaultButMemory
 only_memory_is_wanted p f text trees x scans steady why =
     elim why [
-      | inl kept ↦ scanner_wants_memory p.scanner.fault f kept.fault (scans.sound x.has.0 x.has.1)
+      | inl kept ↦ scanner_wants_memory p.scanner.fault f kept.fault (scans.sound x.tokens x.has)
       | inr other ↦ elim other [ inl wants ↦ wants.memory | inr cut ↦ absurd (texts_are_not_refused p text trees x scans (cut.refused steady)) ]
     ]
 

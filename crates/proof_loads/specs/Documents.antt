@@ -8,13 +8,13 @@ use Rattle.defs_tree.specs.Writable.{IsWritable}
 use Rattle.defs_event.specs.Event.{Ev}
 use Rattle.defs_event.specs.Stream.{IsStream, events_of}
 use Rattle.defs_event.specs.Unfinished.{Opened, opened_sequence, opened_mapping, Unfinished, new_loader, at_work, with_events, with_event, with_tree}
-use Rattle.proof_loads.specs.TextReadAs.{IsReadAs}
+use Rattle.defs_meaning.specs.Meaning.{Means}
 
 -- `read_documents_come_back`, in each setting; with and without `keep_tags`, for either text
 abbrev pub ReadDocumentsComeBack : Type 0
 ReadDocumentsComeBack =
-    (keep_tags again compact multiline : Bool) (text : List ℕ) (trees : List Tree) → IsReadAs keep_tags text trees
-    → All (λ t. IsWritable t → IsReadAs again (dump_text compact multiline t) (t ∷ [])) trees
+    (keep_tags again compact multiline : Bool) (text : List ℕ) (trees : List Tree) → Means keep_tags text trees
+    → All (λ t. IsWritable t → Means again (dump_text compact multiline t) (t ∷ [])) trees
 
 -- a collection with this anchor is open
 abbrev pub IsOpen : ℕ → List Opened → Type 0

@@ -1,4 +1,4 @@
--- Laws of texts that are read as trees: each is the contract of the function of `src/laws.rt` that its comment names.
+-- Laws of what texts mean, and of what is read of them: each is the contract of the function of `src/laws.rt` that its comment names.
 use Rattle.std.specs.Prelude.{◌≡◌, ℕ, Bool, true, false, Option, List, length, [], ◌∷◌, ◌++◌, Result, Ok}
 use Rattle.std.specs.Iterator.{AlwaysYields}
 use Rattle.std.specs.Str.{chars, IsUtf8}
@@ -27,16 +27,11 @@ use Rattle.yaml_parser.specs.Parsed.{Parsed, read}
 use Rattle.yaml_parser.specs.Follows.{Follows, Refused, IsWhole, Explains}
 use Rattle.yaml_parser.specs.Loads.{Loads, PullsAll}
 use Rattle.defs_event.specs.ReadAs.{IsAtWork}
-use Rattle.proof_loads.specs.TextReadAs.{IsReadAs, IsAtStart}
+use Rattle.defs_meaning.specs.Meaning.{Means}
+use Rattle.proof_loads.specs.AtStart.{IsAtStart}
 use Rattle.proof_loads.specs.TextEvents.{IsFaultOf, AnswersText}
 use Rattle.proof_loads.specs.LoadsAs.{LoadsAs}
 use Rattle.proof_loads.specs.Spelled.{IsWithoutNul}
-
--- ---- texts that are read as trees
-
--- `texts_are_read_in_one_way`
-abbrev pub TextsAreReadInOneWay : Type 0
-TextsAreReadInOneWay = (keep_tags : Bool) (text : List ℕ) (trees others : List Tree) → IsReadAs keep_tags text trees → IsReadAs keep_tags text others → trees ≡ others
 
 -- ---- tokens that are settled
 
@@ -54,24 +49,24 @@ OneFault = (keep_tags : Bool) (text : List ℕ) (f g : ErrorReport) → IsFaultO
 
 -- `read_texts_are_not_refused`
 abbrev pub ReadTextsAreNotRefused : Type 0
-ReadTextsAreNotRefused = (p : Parsed) (text : List ℕ) (trees : List Tree) → IsReadAs p.keep_tags text trees → ScansIn text p.scanner → Refused p → ⊥
+ReadTextsAreNotRefused = (p : Parsed) (text : List ℕ) (trees : List Tree) → Means p.keep_tags text trees → ScansIn text p.scanner → Refused p → ⊥
 
 -- `read_texts_have_no_fault_but_memory`
 abbrev pub ReadTextsHaveNoFaultButMemory : Type 0
 ReadTextsHaveNoFaultButMemory =
-    (p : Parsed) (f : ErrorReport) (text : List ℕ) (trees : List Tree) → IsReadAs p.keep_tags text trees → ScansIn text p.scanner → p.steady ≡ true → Explains f p
+    (p : Parsed) (f : ErrorReport) (text : List ℕ) (trees : List Tree) → Means p.keep_tags text trees → ScansIn text p.scanner → p.steady ≡ true → Explains f p
     → f.memory ≡ true
 
 -- `events_of_read_texts_are_read`; `es` are a beginning of the events
 abbrev pub EventsOfReadTextsAreRead : Type 0
 EventsOfReadTextsAreRead =
-    (p : Parsed) (text : List ℕ) (trees : List Tree) (es more : List (Ev × Position)) → IsReadAs p.keep_tags text trees → ScansIn text p.scanner → Follows p
+    (p : Parsed) (text : List ℕ) (trees : List Tree) (es more : List (Ev × Position)) → Means p.keep_tags text trees → ScansIn text p.scanner → Follows p
     → read p ≡ es ++ more → IsAtWork (with_events new_loader es)
 
 -- `read_texts_have_their_trees`
 abbrev pub ReadTextsHaveTheirTrees : Type 0
 ReadTextsHaveTheirTrees =
-    (p : Parsed) (text : List ℕ) (trees : List Tree) → IsReadAs p.keep_tags text trees → ScansIn text p.scanner → IsWhole p
+    (p : Parsed) (text : List ℕ) (trees : List Tree) → Means p.keep_tags text trees → ScansIn text p.scanner → IsWhole p
     → HasRead (Ok trees) (with_events new_loader (read p))
 
 -- ---- a load
@@ -79,7 +74,7 @@ ReadTextsHaveTheirTrees =
 -- `read_texts_have_one_list_of_events`; two parsers that have read as many events of the text
 abbrev pub ReadTextsHaveOneListOfEvents : Type 0
 ReadTextsHaveOneListOfEvents =
-    (p q : Parsed) (text : List ℕ) (trees : List Tree) → IsReadAs p.keep_tags text trees → q.keep_tags ≡ p.keep_tags → ScansIn text p.scanner → ScansIn text q.scanner → Follows p → Follows q
+    (p q : Parsed) (text : List ℕ) (trees : List Tree) → Means p.keep_tags text trees → q.keep_tags ≡ p.keep_tags → ScansIn text p.scanner → ScansIn text q.scanner → Follows p → Follows q
     → length (read p) ≡ length (read q) → events_of (read p) ≡ events_of (read q)
 
 -- `answers_are_settled`; the answers of calls of `next_token`, one after the other
@@ -96,13 +91,13 @@ TextsAreAnswered {R} takes =
 abbrev pub ReadTextsAreLoaded : {R : Type 0} → (R → Ev → Position → Result (Unit {0}) ErrorReport → R → Type 0) → Type 0
 ReadTextsAreLoaded {R} takes =
     (old new : Parsed) (r s : R) (result : Result (Unit {0}) ErrorReport) (text : List ℕ) (trees : List Tree)
-    → IsAtStart old → IsReadAs old.keep_tags text trees → ScansIn text new.scanner → Loads takes true old r result new s → LoadsAs takes trees r result s
+    → IsAtStart old → Means old.keep_tags text trees → ScansIn text new.scanner → Loads takes true old r result new s → LoadsAs takes trees r result s
 
 -- ---- JSON texts
 
--- `json_texts_are_read_as_their_tree`
-abbrev pub JsonTextsAreReadAsTheirTree : Type 0
-JsonTextsAreReadAsTheirTree = (keep_tags : Bool) (w : JsonText) → IsWellFormed w → IsReadAs keep_tags (spell_text w) (tree_of w.value ∷ [])
+-- `json_texts_mean_their_tree`
+abbrev pub JsonTextsMeanTheirTree : Type 0
+JsonTextsMeanTheirTree = (keep_tags : Bool) (w : JsonText) → IsWellFormed w → Means keep_tags (spell_text w) (tree_of w.value ∷ [])
 
 -- `json_texts_are_loaded`, for each kind of receiver
 abbrev pub JsonTextsAreLoaded : {R : Type 0} → (R → Ev → Position → Result (Unit {0}) ErrorReport → R → Type 0) → Type 0
@@ -116,9 +111,9 @@ JsonTextsAreWithoutNul = (w : JsonText) → IsWellFormed w → IsWithoutNul (spe
 
 -- ---- dumps
 
--- `dumps_are_read_as_their_tree`, in each setting
-abbrev pub DumpsAreReadAsTheirTree : Type 0
-DumpsAreReadAsTheirTree = (keep_tags compact multiline : Bool) (t : Tree) → CanBeWritten t → IsReadAs keep_tags (dump_text compact multiline t) (t ∷ [])
+-- `dumps_mean_their_tree`, in each setting
+abbrev pub DumpsMeanTheirTree : Type 0
+DumpsMeanTheirTree = (keep_tags compact multiline : Bool) (t : Tree) → CanBeWritten t → Means keep_tags (dump_text compact multiline t) (t ∷ [])
 
 -- ---- the text after an iterator
 

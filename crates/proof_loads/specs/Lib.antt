@@ -1,11 +1,12 @@
+pub mod AtStart
 pub mod Cuts
 pub mod Documents
 pub mod InTurn
 pub mod Laws
 pub mod LayoutTexts
 pub mod LoadsAs
+pub mod PlacedEvents
 pub mod QuotedTexts
 pub mod Rows
 pub mod Spelled
 pub mod TextEvents
-pub mod TextReadAs

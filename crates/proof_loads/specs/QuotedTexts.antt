@@ -2,12 +2,12 @@
 use Rattle.std.specs.Prelude.{ℕ, Bool, List, [], ◌∷◌}
 use Rattle.defs_tree.specs.Tree.{Tree}
 use Rattle.defs_layout.specs.QuotedText.{IsQuoted}
-use Rattle.proof_loads.specs.TextReadAs.{IsReadAs}
+use Rattle.defs_meaning.specs.Meaning.{Means}
 use Rattle.proof_loads.specs.Spelled.{IsWithoutNul}
 
--- `quoted_texts_are_read_as_their_string`
-abbrev pub QuotedTextsAreReadAsTheirString : Type 0
-QuotedTextsAreReadAsTheirString = (keep_tags : Bool) (text value : List ℕ) → IsQuoted value text → IsReadAs keep_tags text (Tree.string value ∷ [])
+-- `quoted_texts_mean_their_string`
+abbrev pub QuotedTextsMeanTheirString : Type 0
+QuotedTextsMeanTheirString = (keep_tags : Bool) (text value : List ℕ) → IsQuoted value text → Means keep_tags text (Tree.string value ∷ [])
 
 -- `quoted_texts_are_without_nul`
 abbrev pub QuotedTextsAreWithoutNul : Type 0

@@ -1,4 +1,4 @@
--- What a text is read as comes from its row, and a text whose row is read as trees is read so: each law is the contract of the function of `src/rows.rt` that its comment names.
+-- Refused texts have no row, and the events of a text come from its row: each law is the contract of the function of `src/rows.rt` that its comment names.
 use Rattle.std.specs.Prelude.{◌≡◌, ℕ, Bool, false, List}
 use Rattle.std.specs.Str.{chars, IsUtf8}
 use Rattle.std.specs.Str.Iter.{chars_steps, chars_rest}
@@ -7,7 +7,6 @@ use Rattle.defs_text.specs.Position.{Position}
 use Rattle.defs_text.specs.Text.{up_to_nul}
 use Rattle.yaml_chars.specs.Reading.{HasNoNul}
 use Rattle.yaml_chars.specs.Source.{CameFrom}
-use Rattle.defs_tree.specs.Tree.{Tree}
 use Rattle.defs_token.specs.Token.{Token}
 use Rattle.defs_row.specs.Row.{IsRead}
 use Rattle.defs_event.specs.Event.{Ev}
@@ -18,18 +17,8 @@ use Rattle.model_scanner.specs.Run.{IsRefused}
 use Rattle.yaml_scanner.specs.Rowless.{HasNoRow}
 use Rattle.yaml_scanner.specs.Scanned.{Scanned, LeavesNoRow}
 use Rattle.defs_meaning.specs.Meaning as meaning
-use Rattle.defs_meaning.specs.Meaning.{Means}
-use Rattle.proof_loads.specs.TextReadAs.{IsReadAs}
-use Rattle.proof_loads.specs.TextEvents.{HasEvents}
+use Rattle.proof_loads.specs.PlacedEvents.{HasEvents}
 use Rattle.proof_loads.specs.Spelled.{IsWithoutNul}
-
--- `read_texts_mean_their_trees`
-abbrev pub ReadTextsMeanTheirTrees : Type 0
-ReadTextsMeanTheirTrees = (keep_tags : Bool) (text : List ℕ) (trees : List Tree) → IsWithoutNul text → IsReadAs keep_tags text trees → Means keep_tags text trees
-
--- `meant_trees_are_read`
-abbrev pub MeantTreesAreRead : Type 0
-MeantTreesAreRead = (keep_tags : Bool) (text : List ℕ) (trees : List Tree) → IsWithoutNul text → Means keep_tags text trees → IsReadAs keep_tags text trees
 
 -- `refused_texts_have_no_row`
 abbrev pub RefusedTextsHaveNoRow : Type 0
@@ -44,4 +33,4 @@ TextsWithAFaultHaveNoRow =
 -- `events_are_of_the_row`
 abbrev pub EventsAreOfTheRow : Type 0
 EventsAreOfTheRow =
-    (keep_tags : Bool) (text : List ℕ) (events : List (Ev × Position)) → IsWithoutNul text → HasEvents keep_tags text events → meaning.HasEvents keep_tags text (events_of events)
+    (keep_tags : Bool) (text : List ℕ) (events : List (Ev × Position)) → HasEvents keep_tags text events → meaning.HasEvents keep_tags text (events_of events)

@@ -1,33 +1,24 @@
 -- Any text against what a parser that is at its start pushes of it.
-use Rattle.std.specs.Prelude.{◌≡◌, ℕ, Bool, List, [], ◌∷◌, ◌++◌, Option, Result, Ok, Err}
+use Rattle.std.specs.Prelude.{ℕ, Bool, List, [], ◌∷◌, ◌++◌, Option, Result, Ok, Err}
 use Rattle.defs_text.specs.Position.{Position}
 use Rattle.defs_token.specs.Token.{Token}
 use Rattle.yaml_tokens.specs.ErrorReport.{ErrorReport}
 use Rattle.defs_event.specs.Event.{Ev}
-use Rattle.defs_event.specs.Nested.{NestedDocument, nested_stream}
 use Rattle.defs_token.specs.Toks.{toks}
-use Rattle.defs_event.specs.Stream.{IsPlacedStream, BeginsPlaced, Foretells, NoneBegins, events_of}
-use Rattle.model_scanner.specs.Run.{HasTokens}
+use Rattle.defs_event.specs.Stream.{BeginsPlaced, Foretells, NoneBegins, events_of}
+use Rattle.defs_row.specs.Row.{IsRead}
 use Rattle.yaml_scanner.specs.Follows as scan
 use Rattle.yaml_scanner.specs.Follows.{IsReached, AreSettled}
 use Rattle.yaml_scanner.specs.Scanned.{IsRefusal}
 use Rattle.yaml_parser.specs.Blames.{Blames, WantsMemory}
 use Rattle.yaml_parser.specs.Follows.{listed}
 use Rattle.yaml_parser.specs.Loads.{Receives}
+use Rattle.proof_loads.specs.PlacedEvents.{HasEvents}
 
--- The text has tokens, these are a stream's, and these are its events: those with a token of their own stand at its position, the
--- other positions are the parser's own. The events are nested.
-pub record HasEvents (keep_tags : Bool) (text : List ℕ) (events : List (Ev × Position)) : Type 0 where
-  pub tokens : List Token
-  pub has : HasTokens text tokens
-  pub stream : IsPlacedStream keep_tags tokens events
-  pub documents : List NestedDocument
-  pub events_are : events_of events ≡ nested_stream documents
-
--- These are the text's first tokens: those that it has first at some point of a run, and in the end.
+-- These are the text's first tokens: they are settled, and what the text is read as begins with them.
 pub record AreFirst (text : List ℕ) (given : List Token) : Type 0 where
   pub reached : IsReached text given
-  pub begins : (ts : List Token) → HasTokens text ts → scan.BeginsWith given ts
+  pub begins : (ts : List Token) → IsRead text ts → scan.BeginsWith given ts
 
 -- The text's events begin with these, as far as its first tokens tell: a stream begins with these tokens but for the last, and with
 -- these events at their positions, and each stream that begins with these tokens begins with these events.

@@ -2,7 +2,7 @@
 
 ghost use Rattle.proof_loads.specs.Documents.{ReadDocumentsComeBack, AliasesInsideTheirNodeAreBadValues};
 
-/// If a document can be written, its dump is read as that one document, in each setting, whatever text the document
+/// If a document can be written, its dump means that one document, in each setting, whatever text the document
 /// was read from.
 #[tactic(auto, using(crate::proofs::DocumentTrees::documents_come_back))]
 pub fn read_documents_come_back()

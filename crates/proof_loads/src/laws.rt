@@ -1,14 +1,9 @@
-//! Laws of texts that are read as trees, each the contract of an empty function.
+//! Laws of what texts mean, and of what is read of them, each the contract of an empty function.
 
-ghost use Rattle.proof_loads.specs.Laws.{SettledTokensStay, OneFault, ReadTextsAreNotRefused, ReadTextsHaveNoFaultButMemory, EventsOfReadTextsAreRead, ReadTextsHaveTheirTrees, JsonTextsAreReadAsTheirTree, JsonTextsAreWithoutNul, ReadTextsAreLoaded, JsonTextsAreLoaded, TextsAreReadInOneWay, DumpsAreReadAsTheirTree, TextsAreAnswered, ReadTextsHaveOneListOfEvents, AnswersAreSettled, CharactersAreTheText, StringsAreTheText};
+ghost use Rattle.proof_loads.specs.Laws.{SettledTokensStay, OneFault, ReadTextsAreNotRefused, ReadTextsHaveNoFaultButMemory, EventsOfReadTextsAreRead, ReadTextsHaveTheirTrees, JsonTextsMeanTheirTree, JsonTextsAreWithoutNul, ReadTextsAreLoaded, JsonTextsAreLoaded, DumpsMeanTheirTree, TextsAreAnswered, ReadTextsHaveOneListOfEvents, AnswersAreSettled, CharactersAreTheText, StringsAreTheText};
 ghost use Rattle.defs_layout.specs.DumpIsInjective.{DumpIsInjective};
 
 use yaml_parser::MarkedEventReceiver;
-
-/// A text is read as at most one list of trees.
-pub fn texts_are_read_in_one_way()
-    ensures { TextsAreReadInOneWay }
-{}
 
 /// Tokens that are settled in a text, as those that a scanner handed out are, come first at each later point of its run.
 pub fn settled_tokens_stay()
@@ -21,31 +16,31 @@ pub fn one_fault()
     ensures { OneFault }
 {}
 
-/// If a text is read as trees, no parser refuses one of its tokens.
+/// If a text means trees, no parser refuses one of its tokens.
 pub fn read_texts_are_not_refused()
     ensures { ReadTextsAreNotRefused }
 {}
 
-/// If a text is read as trees, the only fault of its scanner and its parser is refused memory.
+/// If a text means trees, the only fault of its scanner and its parser is refused memory.
 pub fn read_texts_have_no_fault_but_memory()
     ensures { ReadTextsHaveNoFaultButMemory }
 {}
 
-/// If a text is read as trees, a loader is at work after every beginning of its events: no key came twice, and no
+/// If a text means trees, a loader is at work after every beginning of its events: no key came twice, and no
 /// event stood out of nesting.
 pub fn events_of_read_texts_are_read()
     ensures { EventsOfReadTextsAreRead }
 {}
 
-/// If a text is read as trees, a loader that took all of its events has just these trees as documents.
+/// If a text means trees, a loader that took all of its events has just these trees as documents.
 pub fn read_texts_have_their_trees()
     ensures { ReadTextsHaveTheirTrees }
 {}
 
-/// Each JSON text is read as its tree.
+/// Each JSON text means its tree.
 #[tactic(auto, using(crate::proofs::Spelled::json_texts_are_read))]
-pub fn json_texts_are_read_as_their_tree()
-    ensures { JsonTextsAreReadAsTheirTree }
+pub fn json_texts_mean_their_tree()
+    ensures { JsonTextsMeanTheirTree }
 {}
 
 /// No JSON text has a NUL.
@@ -54,10 +49,10 @@ pub fn json_texts_are_without_nul()
     ensures { JsonTextsAreWithoutNul }
 {}
 
-/// If a tree can be written, its dump is read as that one tree, in each setting.
+/// If a tree can be written, its dump means that one tree, in each setting.
 #[tactic(auto, using(crate::proofs::Dumps::dumps_are_read))]
-pub fn dumps_are_read_as_their_tree()
-    ensures { DumpsAreReadAsTheirTree }
+pub fn dumps_mean_their_tree()
+    ensures { DumpsMeanTheirTree }
 {}
 
 /// In each setting, no two trees that can be written have the same text.
@@ -66,7 +61,7 @@ pub fn dumps_are_injective()
     ensures { DumpIsInjective }
 {}
 
-/// If a text is read as trees, two parsers that have read as many of its events have read the same events.
+/// If a text means trees, two parsers that have read as many of its events have read the same events.
 pub fn read_texts_have_one_list_of_events()
     ensures { ReadTextsHaveOneListOfEvents }
 {}
@@ -83,7 +78,7 @@ pub fn texts_are_answered<R: MarkedEventReceiver>()
     ensures { TextsAreAnswered R.takes }
 {}
 
-/// A load of a text that is read as trees, by a parser at its start, has these trees as documents; or memory was
+/// A load of a text that means trees, by a parser at its start, has these trees as documents; or memory was
 /// refused; or the receiver refused an event after which a loader is at work.
 pub fn read_texts_are_loaded<R: MarkedEventReceiver>()
     ensures { ReadTextsAreLoaded R.takes }

@@ -1,11 +1,11 @@
 //! Laws of layouts. Each law is the contract of an empty function.
 
-ghost use Rattle.proof_loads.specs.LayoutTexts.{LayoutsAreReadAsTheirTrees, LayoutsAreWithoutNul};
+ghost use Rattle.proof_loads.specs.LayoutTexts.{LayoutsMeanTheirTrees, LayoutsAreWithoutNul};
 
-/// A layout is read as its trees, one for each document, in order.
+/// A layout means its trees, one for each document, in order.
 #[tactic(auto, using(crate::proofs::LayoutTexts::layouts_are_read))]
-pub fn layouts_are_read_as_their_trees()
-    ensures { LayoutsAreReadAsTheirTrees }
+pub fn layouts_mean_their_trees()
+    ensures { LayoutsMeanTheirTrees }
 {}
 
 /// No layout has a NUL.

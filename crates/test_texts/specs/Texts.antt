@@ -8,6 +8,7 @@ pub use Rattle.yaml_rust2.specs.Loading.{Takes, kept_fault, loader_of}
 pub use Rattle.yaml_rust2.specs.Source.{CameFrom}
 pub use Rattle.yaml_rust2.specs.Strings.{HasBegun, HasGrown, HasStayed, stopped_at_string, wrote_to_string}
 pub use Rattle.yaml_rust2.specs.Text.{string_chars, up_to_nul}
-pub use Rattle.yaml_rust2.specs.TextLoads.{Answers, LoadsOnly, LoadsText, OfBasic, OfGiven, OfJson, OfLayout, OfMeaning, OfQuoted, OfText, OfTexts}
+pub use Rattle.yaml_rust2.specs.Meant.{LoadsOnly, OfBasic, OfGiven, OfJson, OfLayout, OfMeaning, OfQuoted}
+pub use Rattle.yaml_rust2.specs.TextLoads.{Answers, LoadsText, OfTexts}
 pub use Rattle.yaml_rust2.specs.Unfinished.{documents_of, new_loader}
 pub use Rattle.yaml_rust2.specs.Writing.{Stopped, WritesUnless, Wrote}

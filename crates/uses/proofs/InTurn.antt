@@ -8,7 +8,7 @@ use Rattle.yaml_rust2.specs.Text.{up_to_nul, string_chars}
 use Rattle.yaml_rust2.specs.DumpIsInjective.{CanBeWritten}
 use Rattle.yaml_rust2.specs.DumpText.{dump_text}
 use Rattle.yaml_rust2.specs.DumpsInTurn.{dump_texts}
-use Rattle.yaml_rust2.specs.TextReadAs.{IsReadAs}
+use Rattle.yaml_rust2.specs.Meaning.{Means}
 use Rattle.yaml_rust2.specs.Tree.{Tree}
 use Rattle.yaml_rust2.specs.ValidTree.{IsValid}
 use Rattle.yaml_rust2.specs.Writable.{IsWritable}
@@ -78,7 +78,7 @@ all_can (t ∷ ts) v w =
 
 -- ---- the text that is loaded
 
-pub read_as : {A : Type 0} (ts : List Tree) (text : String A) (bytes want : List ℕ) → bytes ≡ string_bytes text → string_chars text ≡ want → up_to_nul want ≡ want → IsReadAs false want ts
-    → IsReadAs false (up_to_nul (chars bytes)) ts
+pub read_as : {A : Type 0} (ts : List Tree) (text : String A) (bytes want : List ℕ) → bytes ≡ string_bytes text → string_chars text ≡ want → up_to_nul want ≡ want → Means false want ts
+    → Means false (up_to_nul (chars bytes)) ts
 unfolding string_chars
-read_as ts text bytes want e same free read = subst (λ a. IsReadAs false (up_to_nul a) ts) (sym (ap chars e ∙ same)) (subst (λ a. IsReadAs false a ts) (sym free) read)
+read_as ts text bytes want e same free read = subst (λ a. Means false (up_to_nul a) ts) (sym (ap chars e ∙ same)) (subst (λ a. Means false a ts) (sym free) read)

@@ -7,10 +7,11 @@ use Rattle.yaml_rust2.specs.ErrorReport.{ErrorReport}
 use Rattle.yaml_rust2.specs.Loads.{Receives}
 use Rattle.yaml_rust2.specs.Position.{Position}
 use Rattle.yaml_rust2.specs.TextLoads.{LoadsText}
-use Rattle.yaml_rust2.specs.TextReadAs.{IsReadAs}
+use Rattle.yaml_rust2.specs.Meaning.{Means}
 use Rattle.yaml_rust2.specs.View.{items_view}
 use Rattle.yaml_rust2.specs.declared.Yaml.{Yaml}
-use Rattle.yaml_rust2.specs.TextEvents.{HasEvents, AnswersText, whole, faulted, refused}
+use Rattle.yaml_rust2.specs.PlacedEvents.{HasEvents}
+use Rattle.yaml_rust2.specs.TextEvents.{AnswersText, whole, faulted, refused}
 
 not_ok : (f : ErrorReport) (result : Result (Unit {0}) ErrorReport) → result ≡ Err f → result ≡ Ok tt → ⊥
 not_ok f result is ok = cc

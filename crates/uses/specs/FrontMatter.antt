@@ -1,7 +1,7 @@
 -- A page that begins with front matter: a line `---`, settings, a further line `---`, and the rest.
 use Rattle.std.specs.Prelude.{ℕ, ◌≡◌, ◌≤◌, false, List, ◌++◌, length, codes}
 use Rattle.yaml_rust2.specs.Text.{up_to_nul}
-use Rattle.yaml_rust2.specs.TextReadAs.{IsReadAs}
+use Rattle.yaml_rust2.specs.Meaning.{Means}
 use Rattle.yaml_rust2.specs.Tree.{Tree}
 
 -- How a line `---` ends.
@@ -40,7 +40,7 @@ pub record IsSplitAs (page : List ℕ) (documents : List Tree) (rest : List ℕ)
   pub opens : Opens page
   pub front : List ℕ
   pub cut : IsCutAs page front rest
-  pub read : IsReadAs false (up_to_nul front) documents
+  pub read : Means false (up_to_nul front) documents
 
 -- The page has no front matter: if its first line is `---`, there is no further such line.
 abbrev pub IsWhole : List ℕ → Type 0

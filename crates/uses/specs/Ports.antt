@@ -5,7 +5,7 @@ use Rattle.uses.specs.declared.validator.Invalid.TheVariants as invalid
 use Rattle.yaml_marked.specs.Loading.{AreMarksOf}
 use Rattle.yaml_marked.specs.Marks.{Marks, node_at_text, own_position}
 use Rattle.yaml_rust2.specs.Node.{integer_of}
-use Rattle.yaml_rust2.specs.TextReadAs.{IsReadAs}
+use Rattle.yaml_rust2.specs.Meaning.{Means}
 use Rattle.yaml_rust2.specs.Tree.{Tree}
 use Rattle.yaml_rust2.specs.Unread.{IsUnread}
 
@@ -36,7 +36,7 @@ first_port ts ms = option_and_then (λ t. option_and_then (λ m. node_at_text (c
 pub record JudgesFirst (text : List ℕ) (result : Result ℤ Invalid) : Type 0 where
   pub trees : List Tree
   pub marks : List Marks
-  pub read : IsReadAs false text trees
+  pub read : Means false text trees
   pub marked : AreMarksOf false text marks
   pub judged : JudgesNode (first_port trees marks) result
 

@@ -4,7 +4,7 @@ ghost use Rattle.yaml_rust2.specs.Text.{up_to_nul};
 ghost use Rattle.yaml_rust2.specs.Event.{Ev};
 ghost use Rattle.yaml_rust2.specs.Position.{Position};
 ghost use Rattle.yaml_rust2.specs.Shown.{ev_of};
-ghost use Rattle.yaml_rust2.specs.TextEvents.{HasEvents};
+ghost use Rattle.yaml_rust2.specs.PlacedEvents.{HasEvents};
 ghost use Rattle.uses.specs.Anchors.{listed, number_of, anchors_in};
 
 use std::alloc::Global;

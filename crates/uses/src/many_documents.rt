@@ -13,8 +13,7 @@ ghost use Rattle.yaml_rust2.specs.Writable.{IsWritable};
 use crate::round_trip::NotBack;
 use std::alloc::Global;
 use yaml_rust2::laws::{
-    dumps_in_turn_are_laid_out, layouts_in_turn_are_read_as_their_trees,
-    layouts_in_turn_are_without_nul,
+    dumps_in_turn_are_laid_out, layouts_in_turn_are_without_nul, layouts_in_turn_mean_their_trees,
 };
 use yaml_rust2::{Yaml, YamlEmitter, YamlLoader};
 
@@ -89,7 +88,7 @@ pub fn round_trip_in_turn(
 {
     let text = dumped_in_turn(alloc, trees, compact, multiline)?;
     dumps_in_turn_are_laid_out();
-    layouts_in_turn_are_read_as_their_trees();
+    layouts_in_turn_mean_their_trees();
     layouts_in_turn_are_without_nul();
     match YamlLoader::load_from_str(alloc, text.as_str()) {
         Ok(documents) => Ok(documents),

@@ -3,7 +3,7 @@ ghost use Rattle.std.specs.Prelude.{◌≡◌, false, chars, IfErr, IfOk, List};
 ghost use Rattle.uses.specs.Tables.{has_other};
 ghost use Rattle.yaml_documents.specs.First.{IsStopped};
 ghost use Rattle.yaml_rust2.specs.Text.{up_to_nul};
-ghost use Rattle.yaml_rust2.specs.TextReadAs.{IsReadAs};
+ghost use Rattle.yaml_rust2.specs.Meaning.{Means};
 ghost use Rattle.yaml_rust2.specs.Tree.{Tree};
 
 use std::alloc::Global;
@@ -19,7 +19,7 @@ mod tests;
 ///
 /// The fault that stops the log. The documents before it were read.
 pub fn has_other_than_mappings(alloc: Global, log: &str) -> Result<bool, ScanError>
-    ensures all { IfOk result (λ other. (documents : List Tree) × IsReadAs false (up_to_nul (chars log.now)) documents × (other ≡ has_other documents)) }
+    ensures all { IfOk result (λ other. (documents : List Tree) × Means false (up_to_nul (chars log.now)) documents × (other ≡ has_other documents)) }
     ensures stopped { IfErr result (λ fault. (documents : List Tree) × IsStopped false (up_to_nul (chars log.now)) documents fault) }
 {
     let mut other = false;

@@ -9,10 +9,7 @@ ghost use Rattle.yaml_rust2.specs.Text.{up_to_nul};
 
 use std::alloc::Global;
 use yaml_rust2::ScanError;
-use yaml_rust2::laws::{
-    strings_are_the_text, texts_up_to_their_end_have_no_nul, texts_with_a_fault_have_no_row,
-    tokens_are_of_a_row,
-};
+use yaml_rust2::laws::{strings_are_the_text, texts_with_a_fault_have_no_row};
 use yaml_rust2::scanner::Scanner;
 
 #[cfg(test)]
@@ -23,9 +20,7 @@ pub fn has_row(alloc: Global, text: &str) -> Result<bool, ScanError>
     ensures { Tells (up_to_nul (chars text.now)) result }
 {
     strings_are_the_text();
-    texts_up_to_their_end_have_no_nul();
     texts_with_a_fault_have_no_row();
-    tokens_are_of_a_row();
     let mut scanner = Scanner::new(alloc, text.chars());
     match take_all(&mut scanner) {
         Ok(()) => Ok(true),

@@ -3,7 +3,7 @@
 ghost use Rattle.std.specs.Prelude.{false, IfOk, chars};
 ghost use Rattle.yaml_limits.specs.Sizes.{AreNoDeeper};
 ghost use Rattle.yaml_rust2.specs.Text.{up_to_nul};
-ghost use Rattle.yaml_rust2.specs.TextReadAs.{IsReadAs};
+ghost use Rattle.yaml_rust2.specs.Meaning.{Means};
 ghost use Rattle.yaml_rust2.specs.View.{items_view};
 
 use std::alloc::Global;
@@ -20,7 +20,7 @@ pub fn load_from_stranger(
     text: &str,
     levels: usize,
 ) -> Result<Vec<Yaml>, LimitsError>
-    ensures reads { IfOk result (λ documents. IsReadAs false (up_to_nul (chars text.now)) (items_view documents.items)) }
+    ensures reads { IfOk result (λ documents. Means false (up_to_nul (chars text.now)) (items_view documents.items)) }
     ensures levels { IfOk result (λ documents. AreNoDeeper levels (items_view documents.items)) }
 {
     let Limits { size, .. } = Limits::for_text(text);

@@ -3,7 +3,7 @@ ghost use Rattle.std.specs.Prelude.{◌≡◌, false, chars, IfErr, IfOk, List};
 ghost use Rattle.uses.specs.Tables.{has_other};
 ghost use Rattle.yaml_limits.specs.OneByOne.{IsStoppedWithin};
 ghost use Rattle.yaml_rust2.specs.Text.{up_to_nul};
-ghost use Rattle.yaml_rust2.specs.TextReadAs.{IsReadAs};
+ghost use Rattle.yaml_rust2.specs.Meaning.{Means};
 ghost use Rattle.yaml_rust2.specs.Tree.{Tree};
 
 use std::alloc::Global;
@@ -22,7 +22,7 @@ pub fn has_other_than_mappings(
     log: &str,
     limits: Limits,
 ) -> Result<bool, LimitsError>
-    ensures all { IfOk result (λ other. (documents : List Tree) × IsReadAs false (up_to_nul (chars log.now)) documents × (other ≡ has_other documents)) }
+    ensures all { IfOk result (λ other. (documents : List Tree) × Means false (up_to_nul (chars log.now)) documents × (other ≡ has_other documents)) }
     ensures stopped { IfErr result (λ error. (documents : List Tree) × IsStoppedWithin limits (up_to_nul (chars log.now)) documents error) }
 {
     let mut other = false;

@@ -4,7 +4,7 @@ ghost use Rattle.yaml_limits.specs.Sizes.{AreNoDeeper};
 ghost use Rattle.yaml_marked.specs.Documents.{trees_of, marks_of_all};
 ghost use Rattle.yaml_marked.specs.Loading.{AreMarksOf};
 ghost use Rattle.yaml_rust2.specs.Text.{up_to_nul};
-ghost use Rattle.yaml_rust2.specs.TextReadAs.{IsReadAs};
+ghost use Rattle.yaml_rust2.specs.Meaning.{Means};
 
 use std::alloc::Global;
 use yaml_limits::{Limits, LimitsError, load_marked_with_limits};
@@ -20,7 +20,7 @@ pub fn load_marked_from_stranger(
     text: &str,
     levels: usize,
 ) -> Result<MarkedDocuments, LimitsError>
-    ensures reads { IfOk result (λ d. IsReadAs false (up_to_nul (chars text.now)) (trees_of d)) }
+    ensures reads { IfOk result (λ d. Means false (up_to_nul (chars text.now)) (trees_of d)) }
     ensures marks { IfOk result (λ d. AreMarksOf false (up_to_nul (chars text.now)) (marks_of_all d)) }
     ensures levels { IfOk result (λ d. AreNoDeeper levels (trees_of d)) }
 {

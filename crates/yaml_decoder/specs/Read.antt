@@ -7,8 +7,8 @@ use Rattle.std.specs.declared.io.ErrorKind.{ErrorKind}
 use Rattle.std.specs.declared.io.ErrorKind.TheVariants.{OutOfMemory, Interrupted}
 use Rattle.defs_text.specs.Text.{string_chars, up_to_nul}
 use Rattle.yaml_tree.specs.declared.yaml.Yaml.{Yaml}
-use Rattle.yaml_tree.specs.View.{items_view}
 use Rattle.defs_meaning.specs.Meaning.{Means}
+use Rattle.yaml_tree.specs.View.{items_view}
 use Rattle.yaml_loader.specs.TextLoads.{LoadsText}
 use Rattle.yaml_encoding.specs.Decoding.{Outcome, text, stopped}
 use Rattle.yaml_decoder.specs.declared.decoder.LoadError.{LoadError}
@@ -39,9 +39,9 @@ WhereDecoded (Err (Decode m)) P = P
 WhereDecoded (Err (Scan f)) P = P
 WhereDecoded (Err (IO e)) P = ⊤
 
--- a load of a text: the documents that it is read as up to a NUL, which it means by the definitions alone, or a fault that has its reason in it, or out of memory
+-- a load of a text: the documents that it means up to a NUL, or a fault that has its reason in it, or out of memory
 abbrev pub Loads : List ℕ → Result (Vec Yaml Global) LoadError → Type 0
-Loads characters (Ok documents) = LoadsText false (up_to_nul characters) (Ok documents) × Means false (up_to_nul characters) (items_view documents.items)
+Loads characters (Ok documents) = Means false (up_to_nul characters) (items_view documents.items)
 Loads characters (Err (Scan f)) = LoadsText false (up_to_nul characters) (Err f)
 Loads characters (Err (Decode m)) = ⊥
 Loads characters (Err (IO e)) = ⊥

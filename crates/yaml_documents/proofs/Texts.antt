@@ -18,7 +18,7 @@ use Rattle.yaml_scanner.specs.Scanned.{ScansIn}
 use Rattle.yaml_parser.specs.Follows.{Explains}
 use Rattle.yaml_parser.specs.Parsed.{Parsed, has_end, read}
 use Rattle.proof_loads.specs.TextEvents.{AreFirst, BeginsEvents, IsFaultOf, wants_memory}
-use Rattle.proof_loads.specs.TextReadAs.{IsReadAs}
+use Rattle.defs_meaning.specs.Meaning.{Means}
 use Rattle.proof_loads.proofs.Answers.{placed_stream, fault_of}
 use Rattle.proof_loads.proofs.Loads.{memory_is_wanted}
 use Rattle.proof_loads.proofs.StreamEnds.{all_tokens}
@@ -83,7 +83,7 @@ says_document {old} {now} t text r scans =
     }
 
 -- after all of them
-pub says_all : {old now : Parsed} (text : List ℕ) → ReadsAll old now → ScansIn text now.scanner → IsReadAs false text (finished now)
+pub says_all : {old now : Parsed} (text : List ℕ) → ReadsAll old now → ScansIn text now.scanner → Means false text (finished now)
 says_all {old} {now} text r scans =
     let h = r.is_read in
     let whole = h.sound.whole h.plain.steady (ap has_end (read_is h) ∙ r.ended) in
@@ -92,8 +92,8 @@ says_all {old} {now} text r scans =
     let nested = stream_nests now.keep_tags (toks tokens) (events_of (read now)) stream in
     let was = one_by_one nested.0 (read now) (sym nested.1) in
     record {
-      tokens = toks tokens;
-      has = (tokens, all_tokens text tokens whole.stream.raws scans.reached whole.stream.says, refl);
+      tokens = tokens;
+      has = all_tokens text tokens whole.stream.raws scans.no_nul scans.reached whole.stream.says;
       read = record {
         documents = nested.0;
         stream = subst (λ k. IsStream k (toks tokens) (nested_stream nested.0)) h.plain.keep_tags (subst (IsStream now.keep_tags (toks tokens)) (sym nested.1) stream);
@@ -122,8 +122,8 @@ back : (vs : List Ev) → events_of (placed_here vs) ≡ vs
 back [] = refl
 back (v ∷ vs) = ap (λ ws. v ∷ ws) (back vs)
 
--- A text that is read as trees goes on from the events that begin it, to where a loader has these trees.
-goes_to : (keep_tags : Bool) (text : List ℕ) (all : List Tree) (es : List (Ev × Position)) → IsReadAs keep_tags text all → BeginsEvents keep_tags text es → (more : List (Ev × Position)) × HasRead (Ok all) (with_events (with_events new_loader es) more)
+-- A text that means trees goes on from the events that begin it, to where a loader has these trees.
+goes_to : (keep_tags : Bool) (text : List ℕ) (all : List Tree) (es : List (Ev × Position)) → Means keep_tags text all → BeginsEvents keep_tags text es → (more : List (Ev × Position)) × HasRead (Ok all) (with_events (with_events new_loader es) more)
 goes_to keep_tags text all es x b =
     let y = goes_on keep_tags text all _ x b.first in
     let o = b.only y.more (nested_stream y.reads.documents) y.reads.stream in

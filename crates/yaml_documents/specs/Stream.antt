@@ -9,8 +9,8 @@ use Rattle.defs_event.specs.Unfinished.{new_loader, with_events, documents_of}
 use Rattle.yaml_tree.specs.View.{view}
 use Rattle.yaml_tree.specs.declared.yaml.Yaml.{Yaml}
 use Rattle.yaml_parser.specs.Parsed.{Parse, parsed}
-use Rattle.proof_loads.specs.TextReadAs.{IsReadAs}
-use Rattle.yaml_loader.specs.TextLoads.{OfGiven}
+use Rattle.defs_meaning.specs.Meaning.{Means}
+use Rattle.yaml_loader.specs.Meant.{OfGiven}
 use Rattle.yaml_documents.specs.First.{BeginsAs, IsStopped}
 
 pub record Stream (T : Type 0) : Type 0 where
@@ -43,10 +43,10 @@ Adds old None new = new ≡ old
 Adds old (Some (Ok t)) new = new ≡ old ++ view t ∷ []
 Adds old (Some (Err f)) new = f.memory ≡ false → new ≡ old
 
--- What an answer says of the text, after which these documents were given: they are its first; after `None` they are all that it is read
--- as; and a fault has its reason in the text.
+-- What an answer says of the text, after which these documents were given: they are its first; after `None` the text means
+-- them; and a fault has its reason in the text.
 abbrev pub Says : List ℕ → List Tree → Option (Result Yaml ErrorReport) → Type 0
-Says text trees None = IsReadAs false text trees
+Says text trees None = Means false text trees
 Says text trees (Some (Ok t)) = BeginsAs false text trees
 Says text trees (Some (Err f)) = IsStopped false text trees f
 

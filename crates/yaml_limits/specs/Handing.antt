@@ -6,7 +6,8 @@ use Rattle.yaml_tokens.specs.ErrorReport.{ErrorReport}
 use Rattle.yaml_scanner.specs.Waits.{Waits}
 use Rattle.yaml_scanner.specs.declared.fetcher.Backlog.{Backlog}
 use Rattle.yaml_parser.specs.Loads.{Receives}
-use Rattle.proof_loads.specs.TextEvents.{HasEvents, BeginsEvents, IsFaultOf}
+use Rattle.proof_loads.specs.PlacedEvents.{HasEvents}
+use Rattle.proof_loads.specs.TextEvents.{BeginsEvents, IsFaultOf}
 use Rattle.yaml_loader.specs.Loading.{want_of_memory}
 use Rattle.yaml_limits.specs.Made.{made, IsWithin}
 use Rattle.yaml_limits.specs.declared.count.Excess.{Excess}

@@ -6,8 +6,8 @@ use Rattle.defs_event.specs.Event.{Ev}
 use Rattle.yaml_tokens.specs.ErrorReport.{ErrorReport}
 use Rattle.yaml_tree.specs.View.{items_view}
 use Rattle.yaml_tree.specs.declared.yaml.Yaml.{Yaml}
-use Rattle.proof_loads.specs.TextReadAs.{IsReadAs}
-use Rattle.proof_loads.specs.TextEvents.{HasEvents}
+use Rattle.defs_meaning.specs.Meaning.{Means}
+use Rattle.proof_loads.specs.PlacedEvents.{HasEvents}
 use Rattle.yaml_loader.specs.Gives.{Gives}
 use Rattle.yaml_loader.specs.Unread.{IsUnread}
 use Rattle.yaml_loader.specs.declared.loader.YamlLoader.{YamlLoader}
@@ -30,7 +30,7 @@ pub data IsNotLoaded (limits : Limits) (text : List ℕ) : LimitsError → Type 
 -- What a load of the text gives: the documents that a load without limits gives, if what it makes is within the limits, and then they are
 -- within them too; or why not.
 pub record Answers (limits : Limits) (text : List ℕ) (result : Result (Vec Yaml Global) LimitsError) : Type 0 where
-  pub reads : IfOk result (λ documents. IsReadAs false text (items_view documents.items))
+  pub reads : IfOk result (λ documents. Means false text (items_view documents.items))
   pub within : IfOk result (λ documents. IsMadeWithin limits text)
   pub documents : IfOk result (λ documents. AreWithin limits (items_view documents.items))
   pub fault : IfErr result (λ e. IsNotLoaded limits text e)

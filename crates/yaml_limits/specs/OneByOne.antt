@@ -12,8 +12,8 @@ use Rattle.yaml_tree.specs.View.{view}
 use Rattle.yaml_tree.specs.declared.yaml.Yaml.{Yaml}
 use Rattle.yaml_scanner.specs.Waits.{Waits}
 use Rattle.proof_loads.specs.TextEvents.{BeginsEvents}
-use Rattle.proof_loads.specs.TextReadAs.{IsReadAs}
-use Rattle.yaml_loader.specs.TextLoads.{OfGiven}
+use Rattle.defs_meaning.specs.Meaning.{Means}
+use Rattle.yaml_loader.specs.Meant.{OfGiven}
 use Rattle.yaml_documents.specs.First.{BeginsAs, IsStopped}
 use Rattle.yaml_documents.specs.Reading.{HasNoEnd}
 use Rattle.yaml_documents.specs.Stream.{Stream, given}
@@ -68,10 +68,10 @@ Adds old (Some (Err (error.Scan f))) new = f.memory ≡ false → new ≡ old
 Adds old (Some (Err (error.Levels p))) new = new ≡ old
 Adds old (Some (Err (error.Size p))) new = new ≡ old
 
--- What an answer says of the text, before and after which these documents were given: they are its first; after `None` they are all that
--- it is read as; the one that is answered is within the limits; and an error has its reason in the text.
+-- What an answer says of the text, before and after which these documents were given: they are its first; after `None` the text
+-- means them; the one that is answered is within the limits; and an error has its reason in the text.
 abbrev pub Says : Limits → List ℕ → List Tree → Option (Result Yaml LimitsError) → List Tree → Type 0
-Says limits text old None new = IsReadAs false text new
+Says limits text old None new = Means false text new
 Says limits text old (Some (Ok t)) new = BeginsAs false text new × IsDocumentWithin limits text old (view t)
 Says limits text old (Some (Err e)) new = IsStoppedWithin limits text new e
 

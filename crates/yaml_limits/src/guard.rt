@@ -1,5 +1,6 @@
 //! A receiver that is handed no event by which a load would make more than the limits allow.
-ghost use Rattle.std.specs.Prelude.{◌≡◌, ◌<◌, ◌^◌, None};
+ghost use Rattle.std.specs.Prelude.{◌≡◌, ◌<◌, ◌^◌, true, None};
+ghost use Rattle.defs_text.specs.Text.{has_no_nul};
 ghost use Rattle.std.specs.Iterator.{IsFinite, size};
 ghost use Rattle.yaml_chars.specs.Reading.{BeginsText};
 ghost use Rattle.yaml_limits.specs.Counting.{Counts, IsNew};
@@ -60,7 +61,7 @@ impl<R: MarkedEventReceiver> Guard<R> {
         requires can { S.can_next source }
         requires finite { IsFinite (S.remaining source) }
         requires few { size (S.remaining source) < 2 ^ 63 }
-        ensures { BeginsText S.next_gives source (λ text. IsNew self.old → Hands R.takes self.old.count.limits text self.old.receiver result self.new.receiver) }
+        ensures { BeginsText S.next_gives source (λ text. has_no_nul text ≡ true → IsNew self.old → Hands R.takes self.old.count.limits text self.old.receiver result self.new.receiver) }
     {
         let limits = self.count.limits;
         let mut parser = Parser::new(alloc, source);

@@ -15,17 +15,18 @@ use Rattle.defs_event.proofs.OneByOne.{one_by_one}
 use Rattle.defs_event.proofs.OneReading as grammar
 use Rattle.yaml_tokens.specs.ErrorReport.{ErrorReport}
 use Rattle.yaml_tree.specs.View.{items_view}
-use Rattle.model_scanner.specs.Run.{HasTokens}
-use Rattle.model_scanner.proofs.Runs.{one_list, not_refused}
+use Rattle.defs_row.specs.Row.{IsRead}
+use Rattle.proof_row.proofs.OneRow as row
 use Rattle.yaml_parser.specs.Parsed.{read}
 use Rattle.yaml_parser.specs.Loads.{Receives}
 use Rattle.proof_meaning.proofs.Meanings.{one_meaning}
-use Rattle.proof_loads.specs.TextEvents.{HasEvents, IsFaultOf, wants_memory, no_token, no_stream, AnswersText, whole, faulted, refused}
-use Rattle.proof_loads.specs.TextReadAs.{IsReadAs}
+use Rattle.proof_loads.specs.PlacedEvents.{HasEvents}
+use Rattle.proof_loads.specs.TextEvents.{IsFaultOf, wants_memory, no_token, no_stream, AnswersText, whole, faulted, refused}
+use Rattle.defs_meaning.specs.Meaning.{Means}
 use Rattle.proof_loads.proofs.Answers.{placed_stream, nested_is_stream, texts_are_answered}
 use Rattle.proof_loads.proofs.Loads.{memory_is_wanted}
 use Rattle.proof_loads.proofs.OneFault.{one_fault}
-use Rattle.proof_loads.proofs.OneReading.{one_reading, texts_are_read_in_one_way}
+use Rattle.proof_loads.proofs.OneReading.{one_reading}
 use Rattle.proof_loads.proofs.StreamEnds.{all_tokens}
 use Rattle.yaml_loader.specs.Agreement.{OneAnswer, OneListOfDocuments, OneListOfPulledEvents, OneListOfPushedEvents}
 use Rattle.yaml_loader.specs.Loads.{HasNoted}
@@ -38,18 +39,18 @@ one_list_of_documents keep_tags text (Ok ones) (Ok others) m n = one_meaning kee
 one_list_of_documents keep_tags text (Ok ones) (Err f) m n = tt
 one_list_of_documents keep_tags text (Err f) other m n = tt
 
--- ---- events of the tokens that a text has
+-- ---- events of the tokens that a text is read as
 
-same_events : (keep_tags : Bool) (text : List ℕ) (ts us : List Token) (es fs : List (Ev × Position)) → HasTokens text ts → HasTokens text us → IsPlacedStream keep_tags ts es → IsPlacedStream keep_tags us fs
+same_events : (keep_tags : Bool) (text : List ℕ) (ts us : List Token) (es fs : List (Ev × Position)) → IsRead text ts → IsRead text us → IsPlacedStream keep_tags ts es → IsPlacedStream keep_tags us fs
     → events_of es ≡ events_of fs
 same_events keep_tags text ts us es fs h k x y =
-    let other : IsStream keep_tags (toks ts) (events_of fs) = subst (λ vs. IsStream keep_tags (toks vs) (events_of fs)) (one_list text us ts k h) (placed_stream keep_tags us fs y) in
+    let other : IsStream keep_tags (toks ts) (events_of fs) = subst (λ vs. IsStream keep_tags (toks vs) (events_of fs)) (row.one_reading text us ts k h) (placed_stream keep_tags us fs y) in
     grammar.one_list keep_tags (toks ts) (events_of es) (events_of fs) (placed_stream keep_tags ts es x) other
 
 pub one_list_of_pulled_events : OneListOfPulledEvents
 one_list_of_pulled_events p q text setting scans scanned x y =
-    let has = all_tokens text p.scanner.given x.stream.raws scans.reached x.stream.says in
-    let had = all_tokens text q.scanner.given y.stream.raws scanned.reached y.stream.says in
+    let has = all_tokens text p.scanner.given x.stream.raws scans.no_nul scans.reached x.stream.says in
+    let had = all_tokens text q.scanner.given y.stream.raws scanned.no_nul scanned.reached y.stream.says in
     same_events q.keep_tags text p.scanner.given q.scanner.given (read p) (read q) has had (subst (λ k. IsPlacedStream k p.scanner.given (read p)) setting x.stream) y.stream
 
 -- ---- answers that are faults
@@ -57,17 +58,17 @@ one_list_of_pulled_events p q text setting scans scanned x y =
 -- A text whose tokens are a whole stream is refused by no parser.
 memory_alone : (keep_tags : Bool) (text : List ℕ) (es : List (Ev × Position)) (f : ErrorReport) → HasEvents keep_tags text es → IsFaultOf keep_tags text f → f.memory ≡ true
 memory_alone keep_tags text es f h (wants_memory w) = w.memory
-memory_alone keep_tags text es f h (no_token given events settled begins r) = absurd (not_refused text h.tokens r.fault h.has r.refused)
+memory_alone keep_tags text es f h (no_token given events settled begins r) = absurd (r.rowless.rowless h.tokens h.has)
 memory_alone keep_tags text es f h (no_stream before last events first blames begins none) =
     let b = first.begins h.tokens h.has in
     let all : toks h.tokens ≡ toks (before ++ last ∷ []) ++ toks b.more = ap toks b.whole ∙ map-append (λ (t : Token). t.tok) (before ++ last ∷ []) b.more in
     absurd (none (toks b.more) (events_of es) (subst (λ ts. IsStream keep_tags ts (events_of es)) all (placed_stream keep_tags h.tokens es h.stream)))
 
--- A text that is read as trees has no key twice.
-no_repeated_key : (keep_tags : Bool) (text : List ℕ) (trees : List Tree) (es : List (Ev × Position)) (key : Tree) → IsReadAs keep_tags text trees → (h : HasEvents keep_tags text es) → reading h.documents ≡ Err key → ⊥
-no_repeated_key keep_tags text trees es key x h repeats = let read = one_reading (toks h.tokens) h.documents (h.tokens, h.has, refl) (nested_is_stream h) x in let no = sym read ∙ repeats in cc
+-- A text that means trees has no key twice.
+no_repeated_key : (keep_tags : Bool) (text : List ℕ) (trees : List Tree) (es : List (Ev × Position)) (key : Tree) → Means keep_tags text trees → (h : HasEvents keep_tags text es) → reading h.documents ≡ Err key → ⊥
+no_repeated_key keep_tags text trees es key x h repeats = let read = one_reading h.tokens h.documents h.has (nested_is_stream h) x in let no = sym read ∙ repeats in cc
 
-only_memory : (keep_tags : Bool) (text : List ℕ) (trees : List Tree) (f : ErrorReport) → IsReadAs keep_tags text trees → IsUnread keep_tags text f → f.memory ≡ true
+only_memory : (keep_tags : Bool) (text : List ℕ) (trees : List Tree) (f : ErrorReport) → Means keep_tags text trees → IsUnread keep_tags text f → f.memory ≡ true
 only_memory keep_tags text trees f x (of_parser why) = memory_is_wanted keep_tags text trees f x why
 only_memory keep_tags text trees f x (repeated_key es h key repeats noted tells owned) = absurd (no_repeated_key keep_tags text trees es key x h repeats)
 
@@ -89,7 +90,7 @@ faults_agree keep_tags text f g (repeated_key es h key repeats noted tells owned
     inr (key, tells, subst (λ t. TellsKey t g.text) (sym (one_key keep_tags text es fs key other f.position h k noted again)) tells_too)
 
 pub one_answer : OneAnswer
-one_answer keep_tags text (Ok ones) (Ok others) x y = texts_are_read_in_one_way keep_tags text (items_view ones.items) (items_view others.items) x y
+one_answer keep_tags text (Ok ones) (Ok others) x y = one_meaning keep_tags text (items_view ones.items) (items_view others.items) x y
 one_answer keep_tags text (Ok ones) (Err g) x y = only_memory keep_tags text (items_view ones.items) g x y
 one_answer keep_tags text (Err f) (Ok others) x y = only_memory keep_tags text (items_view others.items) f y x
 one_answer keep_tags text (Err f) (Err g) x y = λ m n. faults_agree keep_tags text f g x y m n

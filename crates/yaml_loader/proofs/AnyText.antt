@@ -21,7 +21,8 @@ use Rattle.yaml_parser.specs.Parsed.{Parsed}
 use Rattle.yaml_parser.specs.Loads.{Loads, Receives}
 use Rattle.yaml_tree.specs.View.{items_view}
 use Rattle.yaml_tree.specs.declared.yaml.Yaml.{Yaml}
-use Rattle.proof_loads.specs.TextEvents.{HasEvents, BeginsEvents, IsFaultOf, wants_memory, AnswersText, whole, faulted, refused}
+use Rattle.proof_loads.specs.PlacedEvents.{HasEvents}
+use Rattle.proof_loads.specs.TextEvents.{BeginsEvents, IsFaultOf, wants_memory, AnswersText, whole, faulted, refused}
 use Rattle.proof_loads.proofs.Answers.{placed_stream, nested_is_stream, texts_are_answered}
 use Rattle.yaml_loader.specs.declared.loader.YamlLoader.{YamlLoader}
 use Rattle.yaml_loader.specs.Gives as given
@@ -106,8 +107,8 @@ text_given : {keep_tags : Bool} {text : List ℕ} (es : List (Ev × Position)) (
 text_given es l (Ok documents) h after has =
     let x = with_events new_loader es in
     record {
-      tokens = toks h.tokens;
-      has = (h.tokens, h.has, refl);
+      tokens = h.tokens;
+      has = h.has;
       read = record {
         documents = h.documents;
         stream = nested_is_stream h;

@@ -5,7 +5,7 @@ use Rattle.std.specs.Iterator.{Yields}
 use Rattle.std.specs.Str.Iter.{chars_steps}
 use Rattle.std.specs.Str.{chars, IsUtf8}
 use Rattle.defs_text.specs.Position.{first_position}
-use Rattle.defs_text.specs.Text.{up_to_nul}
+use Rattle.defs_text.specs.Text.{up_to_nul, has_no_nul}
 use Rattle.yaml_chars.specs.InMemory.{text_rest}
 use Rattle.yaml_chars.specs.Reading.{BeginsText}
 use Rattle.yaml_chars.specs.Source.{CameFrom}
@@ -44,7 +44,7 @@ told taken done = record {
 }
 
 -- what holds of each text that begins with what came from a text in memory holds of that text
-pub of_memory : {P : List ℕ → Type 0} (source : TextInMemory) (bytes : List ℕ) → IsUtf8 bytes → text_rest source ≡ bytes → BeginsText steps source P → P (up_to_nul (chars bytes))
+pub of_memory : {P : List ℕ → Type 0} (source : TextInMemory) (bytes : List ℕ) → IsUtf8 bytes → text_rest source ≡ bytes → BeginsText steps source (λ a. has_no_nul a ≡ true → P a) → P (up_to_nul (chars bytes))
 of_memory source bytes utf8 rest begun =
     let may = string_may_be source.chars bytes (told begun.taken begun.done) utf8 rest (came_in_memory source begun.taken begun.done begun.came) begun.no_nul in
-    begun.holds _ may.begins may.ends
+    begun.holds _ may.begins may.ends may.no_nul

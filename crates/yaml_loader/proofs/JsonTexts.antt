@@ -14,7 +14,7 @@ use Rattle.yaml_tokens.specs.ErrorReport.{ErrorReport}
 use Rattle.yaml_tree.specs.View.{items_view}
 use Rattle.yaml_tree.specs.declared.yaml.Yaml.{Yaml}
 use Rattle.yaml_parser.specs.Blames.{WantsMemory}
-use Rattle.proof_loads.specs.TextReadAs.{IsReadAs}
+use Rattle.defs_meaning.specs.Meaning.{Means}
 use Rattle.proof_loads.specs.TextEvents.{wants_memory}
 use Rattle.proof_loads.proofs.Spelled.{json_texts_are_read}
 use Rattle.proof_loads.proofs.JsonNul.{json_texts_have_no_nul}
@@ -55,10 +55,10 @@ mutual
 -- ---- what a load answers
 
 -- the one tree, or out of memory
-one_read : (text : List ℕ) (tree : Tree) (documents : List Tree) → IsJsonText tree text → documents ≡ tree ∷ [] → IsReadAs false (up_to_nul text) documents
+one_read : (text : List ℕ) (tree : Tree) (documents : List Tree) → IsJsonText tree text → documents ≡ tree ∷ [] → Means false (up_to_nul text) documents
 one_read text tree documents (w, is, e, same) shown =
-    subst (IsReadAs false (up_to_nul text)) (ap (λ t. t ∷ []) same ∙ sym shown)
-    (subst (λ a. IsReadAs false a (tree_of w.value ∷ [])) (sym (json_texts_have_no_nul w is) ∙ ap up_to_nul e) (json_texts_are_read false w is))
+    subst (Means false (up_to_nul text)) (ap (λ t. t ∷ []) same ∙ sym shown)
+    (subst (λ a. Means false a (tree_of w.value ∷ [])) (sym (json_texts_have_no_nul w is) ∙ ap up_to_nul e) (json_texts_are_read false w is))
 
 pub json_reads : (text : List ℕ) (tree : Tree) (result : Result (Vec Yaml Global) ErrorReport) → IsJsonText tree text → IfOk result (λ documents. items_view documents.items ≡ tree ∷ []) → IfErr result (λ f. WantsMemory f)
     → LoadsText false (up_to_nul text) result

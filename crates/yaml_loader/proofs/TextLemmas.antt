@@ -1,29 +1,26 @@
--- What a load answers of a text that is read as trees.
-use Rattle.std.proofs.Common.{◌≡◌, ℕ, Bool, List, [], ◌∷◌, false, refl, sym, ap, ◌∙◌, subst}
+-- What a load answers of a text that means trees.
+use Rattle.std.proofs.Common.{◌≡◌, ℕ, Bool, List, [], ◌∷◌, true, false, refl, sym, ap, ◌∙◌, subst}
 use Rattle.std.specs.Prelude.{Option, Result, Ok, Err, Vec, IfOk}
 use Rattle.std.specs.declared.alloc.Global.{Global}
 use Rattle.std.specs.Str.{chars, IsUtf8}
 use Rattle.std.specs.Str.Iter.{chars_steps, chars_rest}
 use Rattle.std.specs.declared.str.Chars.{Chars}
 use Rattle.yaml_chars.specs.Source.{CameFrom}
-use Rattle.defs_text.specs.Text.{up_to_nul}
+use Rattle.defs_text.specs.Text.{up_to_nul, has_no_nul}
 use Rattle.yaml_chars.specs.Reading.{HasNoNul, BeginsText}
 use Rattle.yaml_chars.proofs.SpelledLemmas.{Chars-spelled}
 use Rattle.defs_tree.specs.Tree.{Tree}
 use Rattle.defs_layout.specs.Json.{spell_text, tree_of}
 use Rattle.defs_layout.specs.Layout as layout
-use Rattle.defs_token.specs.Toks.{toks}
 use Rattle.yaml_tokens.specs.ErrorReport.{ErrorReport}
 use Rattle.yaml_tree.specs.View.{items_view}
 use Rattle.yaml_tree.specs.declared.yaml.Yaml.{Yaml}
 use Rattle.yaml_scanner.specs.Scanned.{Scanned, MayBe}
 use Rattle.yaml_parser.specs.Parsed.{Parsed}
-use Rattle.proof_loads.specs.TextReadAs.{IsReadAs, IsAtStart}
+use Rattle.proof_loads.specs.AtStart.{IsAtStart}
 use Rattle.proof_loads.specs.Spelled.{IsWithoutNul}
-use Rattle.proof_loads.specs.Cuts.{IsReadOfCut}
 use Rattle.defs_meaning.specs.Meaning.{Means}
-use Rattle.proof_loads.proofs.CutTexts.{of_a_cut, none_before}
-use Rattle.proof_loads.proofs.RowTexts.{means, means_its_trees, is_read, meant_are_read, without_nul}
+use Rattle.proof_meaning.proofs.Meanings.{one_meaning}
 use Rattle.proof_loads.proofs.Loads.{memory_is_wanted}
 use Rattle.proof_loads.proofs.Answers.{nested_is_stream}
 use Rattle.proof_loads.proofs.OneReading.{one_reading}
@@ -32,15 +29,16 @@ use Rattle.proof_loads.proofs.JsonNul.{json_texts_have_no_nul}
 use Rattle.proof_loads.proofs.LayoutNul.{layouts_have_no_nul}
 use Rattle.proof_loads.proofs.LayoutTexts.{layouts_are_read}
 use Rattle.proof_loads.proofs.QuotedTexts.{quoted_texts_are_read, quoted_texts_have_no_nul}
-use Rattle.yaml_loader.specs.TextLoads.{LoadsText, LoadsOnly, OfTexts, OfText, OfMeaning, OfGiven, OfJson, OfBasic, OfLayout, OfQuoted, Answers}
+use Rattle.yaml_loader.specs.Meant.{LoadsOnly, OfMeaning, OfGiven, OfJson, OfBasic, OfLayout, OfQuoted}
+use Rattle.yaml_loader.specs.TextLoads.{LoadsText, OfTexts, Answers}
 use Rattle.yaml_loader.specs.Unread.{of_parser}
 use Rattle.yaml_loader.specs.Unread as unread
 
--- So a load of a text that is read as trees answers just these.
-loads_only : {text : List ℕ} {trees : List Tree} (result : Result (Vec Yaml Global) ErrorReport) → LoadsText false text result → IsReadAs false text trees → LoadsOnly result trees
-loads_only (Ok documents) h x = let same = one_reading h.tokens h.read.documents h.has h.read.stream x in let both = sym h.read.trees_are ∙ same in cc
+-- A load of a text that means trees answers just these.
+loads_only : {text : List ℕ} {trees : List Tree} (result : Result (Vec Yaml Global) ErrorReport) → LoadsText false text result → Means false text trees → LoadsOnly result trees
+loads_only {text} {trees} (Ok documents) h x = one_meaning false text (items_view documents.items) trees h x
 loads_only {text} {trees} (Err f) (of_parser why) x = memory_is_wanted false text trees f x why
-loads_only (Err f) (unread.repeated_key es h key twice at tells owned) x = let same = one_reading (toks h.tokens) h.documents (h.tokens, h.has, refl) (nested_is_stream h) x in cc
+loads_only (Err f) (unread.repeated_key es h key twice at tells owned) x = let same = one_reading h.tokens h.documents h.has (nested_is_stream h) x in cc
 
 -- ---- the text after an iterator
 
@@ -50,8 +48,8 @@ string_may_be start bytes s utf8 rest came no_nul = characters_are_the_text char
 pub of_texts : (old new : Parsed) (text : List ℕ) (P : Bool → List ℕ → Type 0) → IsAtStart old → old.keep_tags ≡ false → MayBe new.scanner text → OfTexts old new (P old.keep_tags) → P false text
 of_texts old new text P start keep may h = subst (λ b. P b text) keep (h start text may)
 
-pub of_text : (text : List ℕ) (result : Result (Vec Yaml Global) ErrorReport) → LoadsText false text result → OfText text (LoadsOnly result)
-of_text text result h = λ trees x. loads_only result h x
+pub of_meaning : (text : List ℕ) (result : Result (Vec Yaml Global) ErrorReport) → LoadsText false text result → OfMeaning text (LoadsOnly result)
+of_meaning text result h = λ trees x. loads_only result h x
 
 pub given_may_be : {S : Type 0} (steps : S → Option ℕ → S → Type 0) (source start : S) (s : Scanned) → start ≡ source → CameFrom steps start s.taken s.done → HasNoNul s.taken
     → OfGiven steps source (λ text. MayBe s (up_to_nul text))
@@ -59,84 +57,61 @@ given_may_be steps source start s same came no_nul = λ all always. characters_a
 
 -- What the iterator gave is the beginning of a text, of which P holds.
 pub begins_given : {S : Type 0} {P : List ℕ → Type 0} (steps : S → Option ℕ → S → Type 0) (source start : S) (s : Scanned) → start ≡ source → CameFrom steps start s.taken s.done → HasNoNul s.taken
-    → ((text : List ℕ) → MayBe s text → P text) → BeginsText steps source P
+    → ((text : List ℕ) → MayBe s text → P text) → BeginsText steps source (λ text. has_no_nul text ≡ true → P text)
 begins_given steps source start s same came no_nul holds = record {
   taken = s.taken;
   done = s.done;
   came = subst (λ i. CameFrom steps i s.taken s.done) same came;
   no_nul = no_nul;
-  holds = λ text begins ends. holds text (record { begins = begins; ends = ends });
+  holds = λ text begins ends none. holds text (record { no_nul = none; begins = begins; ends = ends });
 }
 
 -- ---- texts whose one tree is known
 
--- P of the tree that a text without NUL is read as
-of_one : (spelt text : List ℕ) (t tree : Tree) (P : List Tree → Type 0) → IsWithoutNul spelt → IsReadAs false spelt (t ∷ []) → spelt ≡ text → t ≡ tree → OfText (up_to_nul text) P → P (tree ∷ [])
-of_one spelt text t tree P free reads e same h = subst (λ u. P (u ∷ [])) same (h (t ∷ []) (subst (λ a. IsReadAs false a (t ∷ [])) (sym free ∙ ap up_to_nul e) reads))
+-- P of the tree that a text without NUL means
+of_one : (spelt text : List ℕ) (t tree : Tree) (P : List Tree → Type 0) → IsWithoutNul spelt → Means false spelt (t ∷ []) → spelt ≡ text → t ≡ tree → OfMeaning (up_to_nul text) P → P (tree ∷ [])
+of_one spelt text t tree P free reads e same h = subst (λ u. P (u ∷ [])) same (h (t ∷ []) (subst (λ a. Means false a (t ∷ [])) (sym free ∙ ap up_to_nul e) reads))
 
-pub of_json : (text : List ℕ) (P : List Tree → Type 0) → OfText (up_to_nul text) P → OfJson text P
+pub of_json : (text : List ℕ) (P : List Tree → Type 0) → OfMeaning (up_to_nul text) P → OfJson text P
 of_json text P h tree (w, is, e, same) = of_one (spell_text w) text (tree_of w.value) tree P (json_texts_have_no_nul w is) (json_texts_are_read false w is) e same h
 
-pub of_layout : (text : List ℕ) (P : List Tree → Type 0) → OfText (up_to_nul text) P → OfLayout text P
+pub of_layout : (text : List ℕ) (P : List Tree → Type 0) → OfMeaning (up_to_nul text) P → OfLayout text P
 of_layout text P h trees (w, is, e, same) =
     let stand = layout.trees_of w.documents in
-    subst P same (h stand (subst (λ a. IsReadAs false a stand) (sym (layouts_have_no_nul w is) ∙ ap up_to_nul e) (layouts_are_read false w is)))
+    subst P same (h stand (subst (λ a. Means false a stand) (sym (layouts_have_no_nul w is) ∙ ap up_to_nul e) (layouts_are_read false w is)))
 
-pub of_basic : (text : List ℕ) (P : List Tree → Type 0) → OfText (up_to_nul text) P → OfBasic text P
+pub of_basic : (text : List ℕ) (P : List Tree → Type 0) → OfMeaning (up_to_nul text) P → OfBasic text P
 of_basic text P h tree (w, is, basic, e, same) = of_layout text P h (tree ∷ []) (w, is, e, same)
 
-pub of_quoted : (text : List ℕ) (P : List Tree → Type 0) → OfText (up_to_nul text) P → OfQuoted text P
+pub of_quoted : (text : List ℕ) (P : List Tree → Type 0) → OfMeaning (up_to_nul text) P → OfQuoted text P
 of_quoted text P h value is =
     of_one text text (Tree.string value) (Tree.string value) P (quoted_texts_have_no_nul text value is) (quoted_texts_are_read false text value is) refl refl h
 
 -- the same of a text that ends before a NUL
-of_first : (spelt text : List ℕ) (t tree : Tree) (P : List Tree → Type 0) → IsReadAs false spelt (t ∷ []) → spelt ≡ text → t ≡ tree → OfText text P → P (tree ∷ [])
-of_first spelt text t tree P reads e same h = subst (λ u. P (u ∷ [])) same (h (t ∷ []) (subst (λ a. IsReadAs false a (t ∷ [])) e reads))
+of_first : (spelt text : List ℕ) (t tree : Tree) (P : List Tree → Type 0) → Means false spelt (t ∷ []) → spelt ≡ text → t ≡ tree → OfMeaning text P → P (tree ∷ [])
+of_first spelt text t tree P reads e same h = subst (λ u. P (u ∷ [])) same (h (t ∷ []) (subst (λ a. Means false a (t ∷ [])) e reads))
 
-pub of_first_json : (text : List ℕ) (P : List Tree → Type 0) → OfText text P → OfJson text P
+pub of_first_json : (text : List ℕ) (P : List Tree → Type 0) → OfMeaning text P → OfJson text P
 of_first_json text P h tree (w, is, e, same) = of_first (spell_text w) text (tree_of w.value) tree P (json_texts_are_read false w is) e same h
 
-pub of_first_layout : (text : List ℕ) (P : List Tree → Type 0) → OfText text P → OfLayout text P
+pub of_first_layout : (text : List ℕ) (P : List Tree → Type 0) → OfMeaning text P → OfLayout text P
 of_first_layout text P h trees (w, is, e, same) =
     let stand = layout.trees_of w.documents in
-    subst P same (h stand (subst (λ a. IsReadAs false a stand) e (layouts_are_read false w is)))
+    subst P same (h stand (subst (λ a. Means false a stand) e (layouts_are_read false w is)))
 
-pub of_first_basic : (text : List ℕ) (P : List Tree → Type 0) → OfText text P → OfBasic text P
+pub of_first_basic : (text : List ℕ) (P : List Tree → Type 0) → OfMeaning text P → OfBasic text P
 of_first_basic text P h tree (w, is, basic, e, same) = of_first_layout text P h (tree ∷ []) (w, is, e, same)
 
-pub of_first_quoted : (text : List ℕ) (P : List Tree → Type 0) → OfText text P → OfQuoted text P
+pub of_first_quoted : (text : List ℕ) (P : List Tree → Type 0) → OfMeaning text P → OfQuoted text P
 of_first_quoted text P h value is = h (Tree.string value ∷ []) (quoted_texts_are_read false text value is)
 
 -- the documents are what the text means
-of_row_without : (text : List ℕ) (result : Result (Vec Yaml Global) ErrorReport) → LoadsText false text result → IsWithoutNul text → IfOk result (λ documents. Means false text (items_view documents.items))
-of_row_without text (Ok documents) h without = means_its_trees false text (items_view documents.items) without h
-of_row_without text (Err f) h without = tt
-
-pub of_row : (text : List ℕ) (result : Result (Vec Yaml Global) ErrorReport) → LoadsText false (up_to_nul text) result
-    → IfOk result (λ documents. Means false (up_to_nul text) (items_view documents.items))
-of_row text (Ok documents) h = means false (up_to_nul text) (items_view documents.items) (none_before text) h
+pub of_row : (text : List ℕ) (result : Result (Vec Yaml Global) ErrorReport) → LoadsText false text result → IfOk result (λ documents. Means false text (items_view documents.items))
+of_row text (Ok documents) h = h
 of_row text (Err f) h = tt
-
--- the documents are what a cut of the text is read as
-pub of_cut : (text : List ℕ) (result : Result (Vec Yaml Global) ErrorReport) → LoadsText false (up_to_nul text) result
-    → IfOk result (λ documents. IsReadOfCut false (up_to_nul text) (items_view documents.items))
-of_cut text (Ok documents) h = of_a_cut false (up_to_nul text) (items_view documents.items) (none_before text) h
-of_cut text (Err f) h = tt
-
-of_cut_without : (text : List ℕ) (result : Result (Vec Yaml Global) ErrorReport) → LoadsText false text result → IsWithoutNul text
-    → IfOk result (λ documents. IsReadOfCut false text (items_view documents.items))
-of_cut_without text (Ok documents) h without = of_a_cut false text (items_view documents.items) (without_nul text without) h
-of_cut_without text (Err f) h without = tt
-
--- what a text means is what it is read as
-pub of_meaning : (text : List ℕ) (P : List Tree → Type 0) → OfText (up_to_nul text) P → OfMeaning (up_to_nul text) P
-of_meaning text P h trees m = h trees (is_read false (up_to_nul text) trees (none_before text) m)
-
-of_meaning_without : (text : List ℕ) (P : List Tree → Type 0) → OfText text P → IsWithoutNul text → OfMeaning text P
-of_meaning_without text P h without trees m = h trees (meant_are_read false text trees without m)
 
 -- all that a load answers of a text
 pub answers : (text : List ℕ) (result : Result (Vec Yaml Global) ErrorReport) → LoadsText false text result → Answers text result
 answers text result h =
-    let texts = of_text text result h in
-    record { reads = h; of_row = of_row_without text result h; of_cut = of_cut_without text result h; texts = texts; meant = of_meaning_without text (LoadsOnly result) texts; json = of_first_json text (LoadsOnly result) texts; basic = of_first_basic text (LoadsOnly result) texts; laid_out = of_first_layout text (LoadsOnly result) texts; quoted = of_first_quoted text (LoadsOnly result) texts }
+    let meant = of_meaning text result h in
+    record { reads = h; meant = meant; json = of_first_json text (LoadsOnly result) meant; basic = of_first_basic text (LoadsOnly result) meant; laid_out = of_first_layout text (LoadsOnly result) meant; quoted = of_first_quoted text (LoadsOnly result) meant }

@@ -13,7 +13,7 @@ use Rattle.yaml_parser.specs.Parsed.{Parsed, read}
 use Rattle.yaml_parser.specs.Follows.{IsWhole}
 use Rattle.yaml_parser.specs.Loads.{Loads, Receives}
 use Rattle.defs_meaning.specs.Meaning.{Means}
-use Rattle.proof_loads.specs.TextReadAs.{IsAtStart}
+use Rattle.proof_loads.specs.AtStart.{IsAtStart}
 use Rattle.yaml_loader.specs.RepeatedKey.{TellsKey}
 use Rattle.yaml_loader.specs.TextLoads.{LoadsText}
 

@@ -9,7 +9,8 @@ use Rattle.yaml_tokens.specs.ErrorReport.{ErrorReport}
 use Rattle.yaml_tree.specs.declared.yaml.Yaml.{Yaml}
 use Rattle.yaml_parser.specs.Blames.{WantsMemory}
 use Rattle.yaml_parser.specs.Loads.{Receives}
-use Rattle.proof_loads.specs.TextEvents.{HasEvents, BeginsEvents}
+use Rattle.proof_loads.specs.PlacedEvents.{HasEvents}
+use Rattle.proof_loads.specs.TextEvents.{BeginsEvents}
 use Rattle.yaml_loader.specs.declared.loader.YamlLoader.{YamlLoader}
 use Rattle.yaml_loader.specs.Alike.{StandAlike}
 use Rattle.yaml_loader.specs.Gives.{Gives}

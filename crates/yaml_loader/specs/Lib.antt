@@ -5,6 +5,7 @@ pub mod Laws
 pub mod Loading
 pub mod Loads
 pub mod Reached
+pub mod Meant
 pub mod RepeatedKey
 pub mod TextLoads
 pub mod Unread

@@ -8,7 +8,8 @@ use Rattle.defs_event.specs.Reading.{reading}
 use Rattle.defs_event.specs.Unfinished.{new_loader, with_events}
 use Rattle.yaml_loader.specs.Loads.{HasNoted}
 use Rattle.yaml_loader.specs.RepeatedKey.{TellsKey}
-use Rattle.proof_loads.specs.TextEvents.{HasEvents, IsFaultOf}
+use Rattle.proof_loads.specs.PlacedEvents.{HasEvents}
+use Rattle.proof_loads.specs.TextEvents.{IsFaultOf}
 
 pub data IsUnread (keep_tags : Bool) (text : List ℕ) (f : ErrorReport) : Type 0 where
   -- Memory was refused; or it is the scanner's refusal of the text; or no stream begins with the text's first tokens, and the fault is

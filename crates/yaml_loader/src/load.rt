@@ -1,17 +1,17 @@
 //! Texts, read as trees.
-ghost use Rattle.std.specs.Prelude.{◌≡◌, ◌^◌, ◌<◌, [], ◌∷◌, false, None, IfOk, OnOk, IfErr, All, chars};
+ghost use Rattle.std.specs.Prelude.{◌≡◌, ◌^◌, ◌<◌, [], ◌∷◌, true, false, None, IfOk, OnOk, IfErr, All, chars};
 ghost use Rattle.std.specs.Iterator.{IsFinite, size};
 ghost use Rattle.defs_event.specs.NoAlias.{HasNoAlias};
 ghost use Rattle.yaml_tree.specs.View.{view, items_view};
-ghost use Rattle.defs_text.specs.Text.{up_to_nul};
+ghost use Rattle.defs_text.specs.Text.{up_to_nul, has_no_nul};
 ghost use Rattle.yaml_chars.specs.Reading.{HasNoNul, BeginsText};
 ghost use Rattle.yaml_chars.specs.Source.{CameFrom};
 ghost use Rattle.yaml_parser.specs.Parsed.{parsed};
 ghost use Rattle.defs_meaning.specs.Meaning.{Means};
 ghost use Rattle.yaml_parser.specs.Blames.{WantsMemory};
-ghost use Rattle.proof_loads.specs.Cuts.{IsReadOfCut};
 ghost use Rattle.yaml_loader.specs.Loads.{AreLoaded, IsLoadFault};
-ghost use Rattle.yaml_loader.specs.TextLoads.{LoadsText, LoadsOnly, OfTexts, OfText, OfMeaning, OfGiven, OfJson, OfBasic, OfLayout, OfQuoted, Answers};
+ghost use Rattle.yaml_loader.specs.Meant.{LoadsOnly, OfMeaning, OfGiven, OfJson, OfBasic, OfLayout, OfQuoted};
+ghost use Rattle.yaml_loader.specs.TextLoads.{LoadsText, OfTexts, Answers};
 
 use crate::loader::YamlLoader;
 use defs_event::laws::loaded_trees_have_no_alias;
@@ -27,7 +27,7 @@ fn load_known<S: Characters>(alloc: Global, source: S) -> Result<Vec<Yaml>, Scan
     requires can { S.can_next source }
     requires finite { IsFinite (S.remaining source) }
     requires few { size (S.remaining source) < 2 ^ 63 }
-    ensures reads { BeginsText S.next_gives source (λ text. LoadsText false text result) }
+    ensures reads { BeginsText S.next_gives source (λ text. has_no_nul text ≡ true → LoadsText false text result) }
     ensures no_alias { IfOk result (λ documents. All HasNoAlias (items_view documents.items)) }
 {
     let mut known = Parser::new(alloc, source);
@@ -48,8 +48,8 @@ impl YamlLoader {
     /// ```
     ///
     /// The documents are what the text means by the definitions alone: a text has at most one row of tokens, and means at
-    /// most one list of trees (clause `of_row`). A text that means trees loads as them, unless memory is refused (clause
-    /// `meant`). So the definitions say of each text whether it loads, and as what.
+    /// most one list of trees (clauses `reads` and `of_row`). A text that means trees loads as them, unless memory is refused
+    /// (clause `meant`). So the definitions say of each text whether it loads, and as what.
     ///
     /// # Errors
     ///
@@ -75,9 +75,7 @@ impl YamlLoader {
     pub fn load_from_str(alloc: Global, source: &str) -> Result<Vec<Yaml>, ScanError>
         ensures reads { LoadsText false (up_to_nul (chars source.now)) result }
         ensures of_row { IfOk result (λ documents. Means false (up_to_nul (chars source.now)) (items_view documents.items)) }
-        ensures of_cut { IfOk result (λ documents. IsReadOfCut false (up_to_nul (chars source.now)) (items_view documents.items)) }
         ensures no_alias { IfOk result (λ documents. All HasNoAlias (items_view documents.items)) }
-        ensures texts { OfText (up_to_nul (chars source.now)) (LoadsOnly result) }
         ensures meant { OfMeaning (up_to_nul (chars source.now)) (LoadsOnly result) }
         ensures json { OfJson (chars source.now) (LoadsOnly result) }
         ensures basic { OfBasic (chars source.now) (LoadsOnly result) }
@@ -117,12 +115,10 @@ impl YamlLoader {
         requires few { size (I.remaining source) < 2 ^ 63 }
         // For every iterator: the clauses hold of each text that begins with the characters that it gave, or that is
         // just these if they end with the iterator or a NUL.
-        ensures given { BeginsText I.next_gives source (λ text. Answers text result) }
+        ensures given { BeginsText I.next_gives source (λ text. has_no_nul text ≡ true → Answers text result) }
         ensures reads { OfGiven I.next_gives source (λ text. LoadsText false (up_to_nul text) result) }
         ensures of_row { OfGiven I.next_gives source (λ text. IfOk result (λ documents. Means false (up_to_nul text) (items_view documents.items))) }
-        ensures of_cut { OfGiven I.next_gives source (λ text. IfOk result (λ documents. IsReadOfCut false (up_to_nul text) (items_view documents.items))) }
         ensures no_alias { IfOk result (λ documents. All HasNoAlias (items_view documents.items)) }
-        ensures texts { OfGiven I.next_gives source (λ text. OfText (up_to_nul text) (LoadsOnly result)) }
         ensures meant { OfGiven I.next_gives source (λ text. OfMeaning (up_to_nul text) (LoadsOnly result)) }
         ensures json { OfGiven I.next_gives source (λ text. OfJson text (LoadsOnly result)) }
         ensures basic { OfGiven I.next_gives source (λ text. OfBasic text (LoadsOnly result)) }

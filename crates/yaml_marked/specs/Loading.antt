@@ -7,7 +7,7 @@ use Rattle.defs_marked.specs.Marking.{marked_documents}
 use Rattle.defs_marked.specs.Marks.{Marks}
 use Rattle.yaml_tokens.specs.ErrorReport.{ErrorReport}
 use Rattle.yaml_tree.specs.declared.yaml.Yaml.{Yaml}
-use Rattle.proof_loads.specs.TextEvents.{HasEvents}
+use Rattle.proof_loads.specs.PlacedEvents.{HasEvents}
 use Rattle.yaml_marked.specs.declared.documents.MarkedDocuments.{MarkedDocuments}
 
 -- the result without positions

@@ -6,7 +6,8 @@ use Rattle.defs_event.specs.Unfinished.{new_loader}
 use Rattle.defs_marked.specs.Marking.{with_event_marked, nothing_marked}
 use Rattle.yaml_tokens.specs.ErrorReport.{ErrorReport}
 use Rattle.yaml_parser.specs.Loads as parser
-use Rattle.proof_loads.specs.TextEvents.{HasEvents, IsFaultOf}
+use Rattle.proof_loads.specs.PlacedEvents.{HasEvents}
+use Rattle.proof_loads.specs.TextEvents.{IsFaultOf}
 use Rattle.yaml_loader.specs.Loading.{Takes, want_of_memory, loader_of, kept_fault}
 use Rattle.yaml_marked.specs.Standing.{Goes, HasStanding}
 use Rattle.yaml_marked.specs.declared.receiver.MarkedLoader.{MarkedLoader}

@@ -1,7 +1,7 @@
 //! A loader that also takes the positions of nodes.
-ghost use Rattle.std.specs.Prelude.{◌<◌, ◌^◌, ℕ, List, false, IfOk, chars};
+ghost use Rattle.std.specs.Prelude.{◌≡◌, ◌<◌, ◌^◌, ℕ, List, true, false, IfOk, chars};
 ghost use Rattle.std.specs.Iterator.{IsFinite, size};
-ghost use Rattle.defs_text.specs.Text.{up_to_nul};
+ghost use Rattle.defs_text.specs.Text.{up_to_nul, has_no_nul};
 ghost use Rattle.yaml_chars.specs.Reading.{BeginsText};
 ghost use Rattle.yaml_loader.specs.Gives.{Gives};
 ghost use Rattle.yaml_marked.specs.Documents.{marks_of_all};
@@ -95,7 +95,7 @@ impl MarkedLoader {
         requires can { S.can_next source }
         requires finite { IsFinite (S.remaining source) }
         requires few { size (S.remaining source) < 2 ^ 63 }
-        ensures { BeginsText S.next_gives source (λ text. Receives text result) }
+        ensures { BeginsText S.next_gives source (λ text. has_no_nul text ≡ true → Receives text result) }
     {
         let mut receiver = MarkedLoader::new(alloc);
         let mut parser = Parser::new(alloc, source);

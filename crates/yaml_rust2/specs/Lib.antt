@@ -84,13 +84,15 @@ pub use Rattle.proof_refusals.specs.Stuck
 pub use Rattle.proof_refusals.specs.Told
 pub use Rattle.defs_meaning.specs.Meaning
 pub use Rattle.proof_loads.specs.Cuts
+pub use Rattle.proof_loads.specs.PlacedEvents
 pub use Rattle.proof_loads.specs.Spelled
-pub use Rattle.proof_loads.specs.TextReadAs
+pub use Rattle.proof_loads.specs.AtStart
 pub use Rattle.proof_loads.specs.TextEvents
 pub use Rattle.yaml_loader.specs.Agreement
 pub use Rattle.yaml_loader.specs.Loading
 pub use Rattle.yaml_loader.specs.Gives
 pub use Rattle.yaml_loader.specs.Loads as DocumentsLoaded
+pub use Rattle.yaml_loader.specs.Meant
 pub use Rattle.yaml_loader.specs.RepeatedKey
 pub use Rattle.yaml_loader.specs.TextLoads
 pub use Rattle.yaml_loader.specs.Unread

@@ -32,14 +32,14 @@ use Rattle.yaml_scanner.specs.Scanned.{Scanned, inside, kept_fault, is_early, Is
 use Rattle.yaml_scanner_state.proofs.GivenLemmas.{lowered_seen}
 use Rattle.yaml_scanner.proofs.WhereLemmas.{in_text, at_end, not_started, has_started}
 use Rattle.yaml_scanner_state.proofs.QueueLemmas.{has_end_append}
-use Rattle.yaml_chars.specs.Reading.{HasNoNul, position_of}
-use Rattle.defs_text.specs.Classes.{is_nul}
+use Rattle.yaml_chars.specs.Reading.{position_of}
 use Rattle.defs_token.specs.Cut.{IsCut, IsCutOfBeginning, tokens_of, end_token}
 use Rattle.defs_text.specs.Text.{has_no_nul}
-use Rattle.proof_cut.proofs.Fetched.{tokens_are_cut}
 use Rattle.proof_cut.proofs.Scalars.{same_number}
 use Rattle.proof_cut.proofs.Faults.Fetches.{faults_stand}
 use Rattle.proof_cut.proofs.Beginnings.{first_tokens_are_cut}
+use Rattle.defs_row.specs.Row.{IsRead}
+use Rattle.proof_row_sound.proofs.Sound.{tokens_are_of_a_row}
 use Rattle.proof_row_complete.proofs.Complete.{texts_with_a_row_are_read}
 use Rattle.proof_refusals.proofs.Refusals.{refused_texts_are_stuck}
 
@@ -305,16 +305,6 @@ handed_on x q ks t k o front e g i f = λ a p. rw (e, i) (follows_after x a t (f
 
 -- ---- as callers see it
 
--- the two ways to say that no character is NUL
-no_nul : (a : List ℕ) → HasNoNul a → has_no_nul a ≡ true
-unfolding is_nul
-no_nul [] h = refl
-no_nul (c ∷ a) h = by (c == 0) refl (no_nul a (λ k l e. h (suc k) (omega (arith, l)) e))
-  where
-    by : (b : Bool) → (c == 0) ≡ b → has_no_nul a ≡ true → (not b && has_no_nul a) ≡ true
-    by true e rest = absurd (h 0 (omega arith) (eqb-true c 0 e))
-    by false e rest = rest
-
 -- a cut has the stream's end
 cut_has_end : (ts : List Token) (a : List ℕ) → IsCut ts a → has_end ts ≡ true
 cut_has_end ts a c = rw (c.are_tokens, has_end_append (tokens_of c.row) (end_token c.end ∷ [])) (always (has_end (tokens_of c.row)))
@@ -323,8 +313,8 @@ cut_has_end ts a c = rw (c.are_tokens, has_end_append (tokens_of c.row) (end_tok
     always true = refl
     always false = refl
 
-begun_cut : (ts : List Token) (a : List ℕ) → IsReached a ts → has_end ts ≡ false → HasNoNul a → IsCutOfBeginning ts a
-begun_cut ts a r e n = elim (first_tokens_are_cut a ts r.begins.more r.last (no_nul a n) r.run r.begins.whole) [
+begun_cut : (ts : List Token) (a : List ℕ) → IsReached a ts → has_end ts ≡ false → has_no_nul a ≡ true → IsCutOfBeginning ts a
+begun_cut ts a r e n = elim (first_tokens_are_cut a ts r.begins.more r.last n r.run r.begins.whole) [
   | inl c ↦ absurd (cc (e, cut_has_end ts a c))
   | inr c ↦ c
 ]
@@ -355,13 +345,13 @@ has_no_row a why at m n r = record {
   stuck = refused_texts_are_stuck a why at n r;
 }
 
-is_refusal : (f : Option KeptFault) (a : List ℕ) → IfSome f (λ k. k.fault ≢ OutOfMemory → IsRefused a k.fault) → IfSome (option_map kept_fault f) (λ x. x.memory ≡ false → IsRefusal a x)
-is_refusal None a r = tt
-is_refusal (Some k) a r = by k.fault k.mark r
+is_refusal : (f : Option KeptFault) (a : List ℕ) → has_no_nul a ≡ true → IfSome f (λ k. k.fault ≢ OutOfMemory → IsRefused a k.fault) → IfSome (option_map kept_fault f) (λ x. x.memory ≡ false → IsRefusal a x)
+is_refusal None a n r = tt
+is_refusal (Some k) a n r = by k.fault k.mark r
   where
     by : (e : Fault) (m : Position) → (e ≢ OutOfMemory → IsRefused a e) → (fault_of e m).memory ≡ false → IsRefusal a (fault_of e m)
-    by OutOfMemory m r n = absurd cc
-    by (At q p) m r n = record { fault = At q p; position = m; refused = r (λ e. absurd cc); shown = refl; stands = λ n s. faults_stand a (At q p) (no_nul a n) (r (λ e. absurd cc)) s; rowless = λ n. has_no_row a q p m n (r (λ e. absurd cc)) }
+    by OutOfMemory m r none = absurd cc
+    by (At q p) m r none = record { fault = At q p; position = m; refused = r (λ e. absurd cc); shown = refl; stands = λ s. faults_stand a (At q p) n (r (λ e. absurd cc)) s; rowless = has_no_row a q p m n (r (λ e. absurd cc)) }
 
 one_refusal : (f : Option KeptFault) (a : List ℕ) → IfSome f (λ k. k.fault ≢ OutOfMemory → IsRefused a k.fault) → (e : Fault) → IsRefused a e → IfSome (option_map kept_fault f) (λ x. x.memory ≡ false → (p : Position) × (x ≡ fault_of e p))
 one_refusal None a r e i = tt
@@ -388,19 +378,20 @@ scans_from x f = record {
   done = λ k e. (f x.window.taken (Possible-taken x.window)).done (none_kept x.kept k) e;
   scans = λ a m.
       let s = f a (record { begins = m.begins; ends = m.ends }) in
+      let read : (ts : List Token) → IsRead a ts → HasTokens a ts = λ ts row. texts_with_a_row_are_read a ts m.no_nul row in
       record {
+        no_nul = m.no_nul;
         reached = s.reached;
-        begins = s.begins;
-        whole = s.whole;
-        begun = λ o n. begun_cut (handed x.tokens) a s.reached (s.open_end o) n;
-        cut = λ o n. tokens_are_cut a (handed x.tokens) (no_nul a n) (s.whole o);
-        position = λ k e n. in_text x a s (none_kept x.kept k) (no_nul a n) e;
-        end = λ k e n. at_end x a s (none_kept x.kept k) (no_nul a n) e;
-        none = λ k n b. not_started x a s (none_kept x.kept k) (no_nul a n) b;
-        some = λ k n b. has_started x a s (none_kept x.kept k) (no_nul a n) b;
-        sound = memory_sound x.kept a s.refused;
+        begins = λ ts row. s.begins ts (read ts row);
+        whole = λ o. tokens_are_of_a_row a (handed x.tokens) m.no_nul (s.whole o);
+        begun = λ o. begun_cut (handed x.tokens) a s.reached (s.open_end o) m.no_nul;
+        position = λ k e. in_text x a s (none_kept x.kept k) m.no_nul e;
+        end = λ k e. at_end x a s (none_kept x.kept k) m.no_nul e;
+        none = λ k b. not_started x a s (none_kept x.kept k) m.no_nul b;
+        some = λ k b. has_started x a s (none_kept x.kept k) m.no_nul b;
+        sound = λ ts row. memory_sound x.kept a s.refused ts (read ts row);
         wants = memory_says x.kept;
-        refused = is_refusal x.kept a s.refused;
+        refused = is_refusal x.kept a m.no_nul s.refused;
         same = one_refusal x.kept a s.refused;
         settled = all_settled x.kept a (handed x.tokens) s.settled;
         waits = s.backlog;
@@ -409,8 +400,8 @@ scans_from x f = record {
 
 -- what a scanner has of a fault that it keeps
 pub leaves_no_row : (s : Scanned) (f : ErrorReport) → Scans s → s.fault ≡ Some f → LeavesNoRow s f
-leaves_no_row s f scans kept m a may n = by s.fault kept (scans.scans a may).refused
+leaves_no_row s f scans kept m a may = by s.fault kept (scans.scans a may).refused
   where
     by : (o : Option ErrorReport) → o ≡ Some f → IfSome o (λ g. g.memory ≡ false → IsRefusal a g) → HasNoRow a f
     by None e h = absurd cc
-    by (Some g) e h = let same : g ≡ f = cc in subst (HasNoRow a) same ((h (ap (λ x. x.memory) same ∙ m)).rowless n)
+    by (Some g) e h = let same : g ≡ f = cc in subst (HasNoRow a) same (h (ap (λ x. x.memory) same ∙ m)).rowless

@@ -2,14 +2,15 @@
 use Rattle.std.specs.Prelude.{◌≡◌, ℕ, ◌+◌, ◌<◌, List, [], ◌∷◌, ◌++◌, length, take, drop, Bool, true, false, Option, Some, None, IfSome, option_map, codes}
 use Rattle.defs_text.specs.Position.{Position, first_position, position_after}
 use Rattle.defs_text.specs.Text.{has_no_nul}
-use Rattle.yaml_chars.specs.Reading.{position_of, HasNoNul}
+use Rattle.yaml_chars.specs.Reading.{position_of}
 use Rattle.defs_token.specs.Token.{Token}
 use Rattle.yaml_tokens.specs.ErrorReport.{ErrorReport}
 use Rattle.yaml_tokens.specs.Problem.{fault_of}
 use Rattle.yaml_tokens.specs.declared.problem.Fault as code
-use Rattle.defs_token.specs.Cut.{IsCut, IsCutOfBeginning}
+use Rattle.defs_token.specs.Cut.{IsCutOfBeginning}
+use Rattle.defs_row.specs.Row.{IsRead}
 use Rattle.model_scanner.specs.Document.{next_line}
-use Rattle.model_scanner.specs.Run.{HasTokens, IsRefused}
+use Rattle.model_scanner.specs.Run.{IsRefused}
 use Rattle.proof_cut.specs.Faults.{IsThere, is_shown}
 use Rattle.proof_cut.specs.Positions.{IsPositionIn}
 use Rattle.yaml_scanner.specs.declared.fetcher.Backlog.{Backlog}
@@ -76,8 +77,9 @@ scanned s = s.so_far
 abbrev pub scan_of : {T : Type 0} → Fetcher T → Scan T
 scan_of s = record { start = s.window.start; so_far = inside s }
 
--- a may be the whole text
+-- a may be the whole text, which ends before a NUL
 pub record MayBe (s : Scanned) (a : List ℕ) : Type 0 where
+  pub no_nul : has_no_nul a ≡ true
   pub begins : take (length s.taken) a ≡ s.taken
   pub ends : s.done ≡ true → a ≡ s.taken
 
@@ -88,29 +90,29 @@ pub record IsRefusal (a : List ℕ) (f : ErrorReport) : Type 0 where
   pub refused : IsRefused a fault
   pub shown : f ≡ fault_of fault position
   -- a fault that stands in a text by itself stands in this one: a bad escape, the end or a document marker inside a quoted scalar, a flow collection too deep, a dash in flow
-  pub stands : HasNoNul a → is_shown fault ≡ true → IsThere a fault
+  pub stands : is_shown fault ≡ true → IsThere a fault
   -- the definitions of rows alone say that the text has none, and where it is stuck
-  pub rowless : has_no_nul a ≡ true → HasNoRow a f
+  pub rowless : HasNoRow a f
 
 -- What was handed out, and the fault, where a is the text.
 pub record ScansIn (a : List ℕ) (s : Scanned) : Type 0 where
-  -- the tokens are those that the model has first
+  pub no_nul : has_no_nul a ≡ true
+  -- the tokens are settled in the text
   pub reached : IsReached a s.given
-  -- where the text has tokens, they are a beginning of these
-  pub begins : (ts : List Token) → HasTokens a ts → BeginsWith s.given ts
-  -- once the stream's end was handed out, they are all tokens of the text
-  pub whole : s.ended ≡ true → HasTokens a s.given
-  -- the tokens are a cut of a beginning of the text; with the stream's end they are a cut of the whole text
-  pub begun : s.ended ≡ false → HasNoNul a → IsCutOfBeginning s.given a
-  pub cut : s.ended ≡ true → HasNoNul a → IsCut s.given a
+  -- where the text is read as tokens, they are a beginning of these
+  pub begins : (ts : List Token) → IsRead a ts → BeginsWith s.given ts
+  -- once the stream's end was handed out, the text is read as these tokens
+  pub whole : s.ended ≡ true → IsRead a s.given
+  -- before that they are a cut of a beginning of the text
+  pub begun : s.ended ≡ false → IsCutOfBeginning s.given a
   -- where no fault is kept, the position is that after so many characters; after the stream's end, it is where a line begins after the text
-  pub position : s.fault ≡ None → s.stopped ≡ false → HasNoNul a → IsPositionIn a (drop s.position.index a) s.position
-  pub end : s.fault ≡ None → s.stopped ≡ true → HasNoNul a → s.position ≡ next_line (position_after first_position a [])
+  pub position : s.fault ≡ None → s.stopped ≡ false → IsPositionIn a (drop s.position.index a) s.position
+  pub end : s.fault ≡ None → s.stopped ≡ true → s.position ≡ next_line (position_after first_position a [])
   -- where no fault is kept, the stream's start was fetched just where some token was
-  pub none : s.fault ≡ None → HasNoNul a → s.started ≡ false → (s.given ≡ []) × (s.waiting ≡ 0)
-  pub some : s.fault ≡ None → HasNoNul a → s.started ≡ true → 0 < length s.given + s.waiting
-  -- a text with tokens has no fault but out of memory
-  pub sound : (ts : List Token) → HasTokens a ts → IfSome s.fault (λ f. f.memory ≡ true)
+  pub none : s.fault ≡ None → s.started ≡ false → (s.given ≡ []) × (s.waiting ≡ 0)
+  pub some : s.fault ≡ None → s.started ≡ true → 0 < length s.given + s.waiting
+  -- a text with a row has no fault but out of memory
+  pub sound : (ts : List Token) → IsRead a ts → IfSome s.fault (λ f. f.memory ≡ true)
   -- out of memory has its text
   pub wants : IfSome s.fault (λ f. f.memory ≡ true → f.text ≡ codes "out of memory")
   -- a fault other than out of memory is the text's refusal, of which there is one
@@ -129,7 +131,7 @@ pub record Scans (s : Scanned) : Type 0 where
 
 -- The same of a fault, whatever the text is: unless memory was refused, it has no row.
 abbrev pub LeavesNoRow : Scanned → ErrorReport → Type 0
-LeavesNoRow s f = f.memory ≡ false → (a : List ℕ) → MayBe s a → has_no_nul a ≡ true → HasNoRow a f
+LeavesNoRow s f = f.memory ≡ false → (a : List ℕ) → MayBe s a → HasNoRow a f
 
 -- a token more is handed out
 pub record HandsOut (old : Scanned) (t : Token) (new : Scanned) : Type 0 where

@@ -3,7 +3,7 @@ use Rattle.std.specs.Str.Iter.{chars_rest}
 use Rattle.std.specs.Str.{chars}
 use Rattle.yaml_rust2.specs.Text.{up_to_nul}
 use Rattle.yaml_rust2.specs.Parsed.{parsed}
-use Rattle.yaml_rust2.specs.TextReadAs.{IsAtStart}
+use Rattle.yaml_rust2.specs.AtStart.{IsAtStart}
 use Rattle.uses.specs.Anchors.{anchors_in}
 use Rattle.uses.proofs.Collected.{all_noted}
 use Rattle.uses.proofs.Taken.{all_taken}

@@ -1,5 +1,4 @@
 use Rattle.std.proofs.Common.{sym, ap, ◌∙◌}
-use Rattle.std.specs.Str.{chars}
 use Rattle.std.specs.Str.Iter.{chars_rest}
 use Rattle.yaml_rust2.specs.Scanned.{scanned}
 use Rattle.uses.proofs.rows.has_row.Goals as goal
@@ -9,7 +8,7 @@ returns-in-Ok c =
     let rest = ap chars_rest (c.take_all.ensures.start ∙ c.new-scanner.ensures.start) ∙ c.chars.ensures.rest in
     let all = c.strings_are_the_text.ensures _ _ (scanned c.take_all.new.scanner) c.utf8.text rest c.take_all.ensures.came c.take_all.ensures.no_nul c.take_all.ensures.scans in
     let tokens = (scanned c.take_all.new.scanner).given in
-    (tokens, c.tokens_are_of_a_row.ensures _ tokens (c.texts_up_to_their_end_have_no_nul.ensures (chars c.args.text.now)) (all.whole c.in-Ok.ensures.ended))
+    (tokens, all.whole c.in-Ok.ensures.ended)
 
 pub returns : goal.returns
 returns c = λ tokens is.

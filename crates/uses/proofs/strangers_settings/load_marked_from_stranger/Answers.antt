@@ -3,7 +3,7 @@ use Rattle.std.specs.Prelude.{Result, Ok, Err, IfOk, chars}
 use Rattle.yaml_limits.specs.Sizes.{AreNoDeeper, AreWithin}
 use Rattle.yaml_limits.specs.declared.limits.Limits.{Limits}
 use Rattle.yaml_rust2.specs.Text.{up_to_nul}
-use Rattle.yaml_rust2.specs.TextReadAs.{IsReadAs}
+use Rattle.yaml_rust2.specs.Meaning.{Means}
 use Rattle.yaml_limits.specs.Marked.{without_positions}
 use Rattle.yaml_limits.specs.declared.error.LimitsError.{LimitsError}
 use Rattle.yaml_marked.specs.declared.documents.MarkedDocuments.{MarkedDocuments}
@@ -21,7 +21,7 @@ no_deeper (Ok d) limits h = h.levels
 no_deeper (Err e) limits h = tt
 
 pub returns-clause-reads : goal.returns-clause-reads
-returns-clause-reads c = with_positions (IsReadAs false (up_to_nul (chars c.args.text.now))) c.load_marked_with_limits.result c.load_marked_with_limits.ensures.loads.reads
+returns-clause-reads c = with_positions (Means false (up_to_nul (chars c.args.text.now))) c.load_marked_with_limits.result c.load_marked_with_limits.ensures.loads.reads
 
 pub returns-clause-levels : goal.returns-clause-levels
 returns-clause-levels c = no_deeper c.load_marked_with_limits.result _ c.load_marked_with_limits.ensures.loads.documents

@@ -2,7 +2,7 @@ use Rattle.std.proofs.Common.{◌≡◌, ◌∙◌, false, sym, ap, subst}
 use Rattle.std.specs.Prelude.{IfSome}
 use Rattle.yaml_scanner.specs.Waits.{Waits}
 use Rattle.yaml_parser.specs.Parsed.{parsed}
-use Rattle.proof_loads.specs.TextReadAs.{IsAtStart}
+use Rattle.proof_loads.specs.AtStart.{IsAtStart}
 use Rattle.proof_loads.specs.TextEvents.{AnswersText}
 use Rattle.yaml_loader.proofs.TextLemmas.{begins_given}
 use Rattle.yaml_limits.specs.Counting.{Guards}

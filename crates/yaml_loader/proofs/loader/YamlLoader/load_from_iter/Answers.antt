@@ -1,8 +1,9 @@
 use Rattle.std.proofs.Common.{◌∙◌}
 use Rattle.defs_text.specs.Text.{up_to_nul}
 use Rattle.yaml_parser.specs.Parsed.{parsed}
-use Rattle.yaml_loader.specs.TextLoads.{LoadsText, LoadsOnly}
-use Rattle.yaml_loader.proofs.TextLemmas.{given_may_be, begins_given, answers, of_texts, of_text, of_cut, of_row, of_meaning, of_json, of_basic, of_layout, of_quoted}
+use Rattle.yaml_loader.specs.Meant.{LoadsOnly}
+use Rattle.yaml_loader.specs.TextLoads.{LoadsText}
+use Rattle.yaml_loader.proofs.TextLemmas.{given_may_be, begins_given, answers, of_texts, of_row, of_meaning, of_json, of_basic, of_layout, of_quoted}
 use Rattle.yaml_loader.proofs.loader.YamlLoader.load_from_iter.Goals as goal
 
 pub returns-clause-reads : goal.returns-clause-reads
@@ -15,29 +16,23 @@ returns-clause-reads g c =
     λ text always. of_texts old new (up_to_nul text) (λ keep a. LoadsText keep a c.load_from_parser.result)
     (record { given = e.given; fault = e.fault; started = e.started; ended = e.ended; steady = e.steady }) e.keep_tags (may text always) p.reads
 
-pub returns-clause-of_cut : goal.returns-clause-of_cut
-returns-clause-of_cut g c = λ text always. of_cut text c.load_from_parser.result (returns-clause-reads g c text always)
-
 pub returns-clause-of_row : goal.returns-clause-of_row
-returns-clause-of_row g c = λ text always. of_row text c.load_from_parser.result (returns-clause-reads g c text always)
-
-pub returns-clause-texts : goal.returns-clause-texts
-returns-clause-texts g c = λ text always. of_text (up_to_nul text) c.load_from_parser.result (returns-clause-reads g c text always)
+returns-clause-of_row g c = λ text always. of_row (up_to_nul text) c.load_from_parser.result (returns-clause-reads g c text always)
 
 pub returns-clause-meant : goal.returns-clause-meant
-returns-clause-meant g c = λ text always. of_meaning text (LoadsOnly c.load_from_parser.result) (returns-clause-texts g c text always)
+returns-clause-meant g c = λ text always. of_meaning (up_to_nul text) c.load_from_parser.result (returns-clause-reads g c text always)
 
 pub returns-clause-json : goal.returns-clause-json
-returns-clause-json g c = λ text always. of_json text (LoadsOnly c.load_from_parser.result) (returns-clause-texts g c text always)
+returns-clause-json g c = λ text always. of_json text (LoadsOnly c.load_from_parser.result) (returns-clause-meant g c text always)
 
 pub returns-clause-basic : goal.returns-clause-basic
-returns-clause-basic g c = λ text always. of_basic text (LoadsOnly c.load_from_parser.result) (returns-clause-texts g c text always)
+returns-clause-basic g c = λ text always. of_basic text (LoadsOnly c.load_from_parser.result) (returns-clause-meant g c text always)
 
 pub returns-clause-laid_out : goal.returns-clause-laid_out
-returns-clause-laid_out g c = λ text always. of_layout text (LoadsOnly c.load_from_parser.result) (returns-clause-texts g c text always)
+returns-clause-laid_out g c = λ text always. of_layout text (LoadsOnly c.load_from_parser.result) (returns-clause-meant g c text always)
 
 pub returns-clause-quoted : goal.returns-clause-quoted
-returns-clause-quoted g c = λ text always. of_quoted text (LoadsOnly c.load_from_parser.result) (returns-clause-texts g c text always)
+returns-clause-quoted g c = λ text always. of_quoted text (LoadsOnly c.load_from_parser.result) (returns-clause-meant g c text always)
 
 pub returns-clause-given : goal.returns-clause-given
 returns-clause-given g c =
