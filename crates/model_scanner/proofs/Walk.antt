@@ -29,7 +29,7 @@ use Rattle.model_lexers.specs.Tag.{tag}
 use Rattle.model_scanner.specs.declared.class.Class.{Class}
 use Rattle.model_scanner.specs.declared.class.Class.TheVariants as class
 use Rattle.model_scanner.specs.Class.{class_of}
-use Rattle.model_scanner.specs.Block.{last_property, at_margin, check_block_entry, check_dash, roll_entry, fetch_block_entry, begin_key, check_key_space, fetch_key, check_after_tab, check_value_space, opens_pair, paired, begin_pair, insert_key, begin_keyless_pair, begin_keyless_mapping, begin_keyless_value, value_of, fetch_value}
+use Rattle.model_scanner.specs.Block.{check_block_entry, check_dash, roll_entry, fetch_block_entry, begin_key, check_key_space, fetch_key, check_after_tab, check_value_space, opens_pair, paired, begin_pair, insert_key, begin_keyless_pair, begin_keyless_mapping, begin_keyless_value, value_of, fetch_value}
 use Rattle.model_scanner.specs.Document.{begin_stream, fetch_stream_start, next_line, end_stream, fetch_stream_end, closed_key, begin_line, fetch_directive, fetch_document_marker, check_document_end, fetch_document_end, node_start, fetch_anchor, fetch_tag, fetch_block_scalar, context, check_after_quoted, unled, fetch_flow_scalar, fetch_plain_scalar}
 use Rattle.model_scanner.specs.Fetch.{token_by, fetch_token, fetch_indented, fetch_first_column, fetch_content, fetch_here, fetch_next, fetch}
 use Rattle.model_scanner.specs.Run.{Reaches, here, there}
@@ -344,13 +344,9 @@ module _ (w : Watched) (kept : IsKept w) where
 
   -- ---- block collections
 
-  margin_checked : (q : Option Position) (p : Position) (h : Held) → Stands w h → Holds (Stands w) (at_margin q p h)
-  margin_checked None p h s = went s
-  margin_checked (Some q) p h s = passes _ _ (went s)
-
   entry_checked : (h : Held) → Stands w h → Holds (Stands w) (check_block_entry h)
   unfolding check_block_entry
-  entry_checked h s = passes (in_flow h) (At problem.BlockEntryInFlow h.position) (passes (not h.key_allowed) (At problem.BlockEntryNotAllowed h.position) (margin_checked (last_property h.tokens) h.position h s))
+  entry_checked h s = passes (in_flow h) (At problem.BlockEntryInFlow h.position) (passes (not h.key_allowed) (At problem.BlockEntryNotAllowed h.position) (went s))
 
   dash_checked : (x : Whitespace) (t : ScannerState) → Stands w t.held → Holds (StandsAt w) (check_dash x t)
   unfolding check_dash

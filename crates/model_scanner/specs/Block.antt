@@ -17,27 +17,11 @@ use Rattle.model_scanner.specs.Indents.{roll_indent, roll_one_col_indent}
 use Rattle.model_scanner.specs.Space.{skip_spaces, skip_yaml_whitespace}
 use Rattle.model_scanner.specs.Flow.{allow_key}
 
-abbrev pub property_position : Tok → Position → Option Position
-property_position (Tok.anchor name) p = Some p
-property_position (Tok.tag handle suffix) p = Some p
-property_position _ p = None
-
--- the position of the last token, where that is an anchor or a tag
-abbrev pub last_property : List Token → Option Position
-last_property [] = None
-last_property (t ∷ []) = property_position t.tok t.position
-last_property (t ∷ u ∷ ts) = last_property (u ∷ ts)
-
--- an anchor or a tag at the first column, which must not belong to an entry there
-abbrev pub at_margin : Option Position → Position → Held → Result Held Fault
-at_margin None p s = Ok s
-at_margin (Some q) p s = (if (p.col == 0) && (q.col == 0) && nat_lt 0 s.indent then Err (At problem.AnchorIndentation q) else Ok s)
-
 -- Whether an entry of a block sequence may stand here.
 unfoldable pub check_block_entry : Held → Result Held Fault
 check_block_entry s =
     (if in_flow s then Err (At problem.BlockEntryInFlow s.position) else
-    (if not s.key_allowed then Err (At problem.BlockEntryNotAllowed s.position) else at_margin (last_property s.tokens) s.position s))
+    (if not s.key_allowed then Err (At problem.BlockEntryNotAllowed s.position) else Ok s))
 
 -- A TAB must not stand between two dashes that are indicators.
 unfoldable pub check_dash : Whitespace → ScannerState → Result ScannerState Fault

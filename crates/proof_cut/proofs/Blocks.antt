@@ -22,7 +22,7 @@ use Rattle.model_lexers.specs.Space.{space}
 use Rattle.model_lexers.specs.Machine.{past}
 use Rattle.model_scanner.specs.Indents.{roll_indent, roll_one_col_indent}
 use Rattle.model_scanner.specs.Flow.{allow_key}
-use Rattle.model_scanner.specs.Block.{last_property, at_margin, check_block_entry, check_dash, roll_entry, fetch_block_entry}
+use Rattle.model_scanner.specs.Block.{check_block_entry, check_dash, roll_entry, fetch_block_entry}
 use Rattle.model_scanner.proofs.Holds.{Holds, went, weakened, chained, passes, checked, tried}
 use Rattle.proof_cut.specs.PiecesRead.{ReadAs}
 use Rattle.proof_cut.specs.Here.{AreOpen}
@@ -116,11 +116,7 @@ roll_stood text c more start mark f m h u before out p at at2 v g r s = by r
 
 entry_checked : (s : Held) → Holds (λ u. (u ≡ s) × (in_flow s ≡ false)) (check_block_entry s)
 unfolding check_block_entry
-entry_checked s = checked (in_flow s) (At problem.BlockEntryInFlow s.position) (λ e. passes (not s.key_allowed) (At problem.BlockEntryNotAllowed s.position) (by (last_property s.tokens) e))
-  where
-    by : (q : Option Position) → in_flow s ≡ false → Holds (λ u. (u ≡ s) × (in_flow s ≡ false)) (at_margin q s.position s)
-    by None e = went (refl, e)
-    by (Some q) e = passes _ _ (went (refl, e))
+entry_checked s = checked (in_flow s) (At problem.BlockEntryInFlow s.position) (λ e. passes (not s.key_allowed) (At problem.BlockEntryNotAllowed s.position) (went (refl, e)))
 
 dash_checked : (w : Whitespace) (t : ScannerState) → Holds (λ u. u ≡ t) (check_dash w t)
 unfolding check_dash

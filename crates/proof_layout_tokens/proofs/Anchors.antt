@@ -17,7 +17,6 @@ use Rattle.model_scanner.specs.State.{Key, ScannerState, token}
 use Rattle.model_scanner.specs.Class.{class_of}
 use Rattle.model_scanner.specs.Keys.{still, save_implicit_key}
 use Rattle.model_scanner.specs.Indents.{level}
-use Rattle.model_scanner.specs.Block.{last_property, property_position}
 use Rattle.model_scanner.specs.Document.{anchor_token, fetch_anchor}
 use Rattle.model_scanner.specs.Fetch.{token_by, comes_marker}
 use Rattle.model_scanner.specs.Run.{Reaches}
@@ -91,7 +90,6 @@ pub record Named (is_alias : Bool) (name : List ℕ) (from : ScannerState) (x : 
   pub loose : IsLoose parts
   pub not_allowed : parts.allowed ≡ false
   pub deep : i ≤ parts.position.col
-  pub last : last_property parts.tokens ≡ property_position (anchor_token is_alias name) start
   pub told : Tells parts.tokens (λ o. want (anchor_token is_alias name ∷ o))
 
 pub named : (is_alias : Bool) (name r : List ℕ) (from : ScannerState) (col : ℕ) (b : Bool) (i : ℕ) (is : List Indent) (allowed : Bool) (want : List Tok → List Tok) → is_name name ≡ true → ends_while is_anchor r ≡ true → i ≤ col
@@ -114,7 +112,6 @@ named is_alias name r from col b i is allowed want name_is ends deep u =
       loose = (Levels.still_loose q.position k.key k.loose, still_lies q.position k.key q.position.line (rw (along_line name (past p.position)) k.lies));
       not_allowed = refl;
       deep = omega (arith, more, inside);
-      last = Levels.last_pushed p.tokens (token p.position (anchor_token is_alias name));
       told = Levels.push_tells p.tokens p.position (anchor_token is_alias name) want u.told;
     }
 
@@ -134,7 +131,7 @@ alias_after t from name col b i is allowed want name_is trail low deep u =
     let v : Before from (42 ∷ (name ++ spell_white (trail_white t) (rest_of t))) col (opened_indent b i) (opened b i is) allowed want = rw (trail_is t) at u in
     let z = named true name (spell_white (trail_white t) (rest_of t)) from col b i is allowed want name_is (no_name_after t) deep v in
     left_open t from b i is (λ o. want (Tok.alias name ∷ o)) low
-    (leaf_after t from (trail_white t) (opened_indent b i) (opened b i is) z.parts z.parts.position _ z.run (trail_are_white t trail) refl (rw (z.not_allowed) (trail_allows t)) z.loose.0 z.loose.1 z.last z.told)
+    (leaf_after t from (trail_white t) (opened_indent b i) (opened b i is) z.parts z.parts.position _ z.run (trail_are_white t trail) refl (rw (z.not_allowed) (trail_allows t)) z.loose.0 z.loose.1 z.told)
 
 -- ---- an anchor
 
@@ -187,7 +184,6 @@ marked_below name from k g column y b c i is want line gap deep solid z =
     let level_line = comment_line k z.parts.position in
     let gone : IsOld p.key p.position = old p.key z.parts.position.line p.position z.loose.0 z.loose.1 (omega (arith, later, same, level_line)) in
     let low : j ≤ p.position.col + 1 = low_enough b (c + 1) p.position.col (omega (arith, deep, col)) in
-    let inner : (p.position.col == 0) ≡ false = ne_eqb p.position.col 0 (λ e. omega (arith, e, col, deep)) in
     record {
       is_open = b;
       before = record {
@@ -200,7 +196,6 @@ marked_below name from k g column y b c i is want line gap deep solid z =
         column = col;
         free = refl;
         allows = allowed_comment k (line_feed ∷ w) z.parts.allowed ∙ gap_allows g column;
-        no_property = λ e. let no : false ≡ true = sym inner ∙ e in cc;
         told = z.told;
       };
     }

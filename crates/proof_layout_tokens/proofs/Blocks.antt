@@ -75,7 +75,7 @@ block_done s t from a text col b i is want deep shut u z =
     let run = fetched_ahead from y col (opened_indent b i) (opened b i is) want _ _ u takes (Levels.aged x i is q k.loose) in
     let lies : Lies (still z.position k.key) z.end_position.line = still_lies z.position k.key z.end_position.line (lies_later k.key p.position.line z.end_position.line z.up k.lies) in
     leaf_after t from z.white i is (record q { key = still z.position k.key }) z.end_position _ run z.are z.same (block_allows t z.white)
-    (Levels.still_loose z.position k.key k.loose) lies (Levels.last_pushed p.tokens (token z.start tok)) (Levels.push_tells p.tokens z.start tok want u.told)
+    (Levels.still_loose z.position k.key k.loose) lies (Levels.push_tells p.tokens z.start tok want u.told)
 
 -- ---- a block that is a value
 

@@ -10,7 +10,6 @@ use Rattle.model_scanner.specs.declared.level.Indent.{Indent}
 use Rattle.model_scanner.specs.State.{ScannerState, token, try_held}
 use Rattle.model_scanner.specs.Keys.{stale, drop_stale, still, is_required, remove_implicit_key}
 use Rattle.model_scanner.specs.Indents.{unroll_indent}
-use Rattle.model_scanner.specs.Block.{last_property}
 use Rattle.model_scanner.specs.Document.{next_line, fetch_stream_start, fetch_stream_end, begin_line, fetch_document_marker}
 use Rattle.model_scanner.specs.Fetch.{comes_marker, fetch_first_column, fetch_content, fetch_here, fetch}
 use Rattle.model_scanner.specs.Run.{Reaches, here, there, start}
@@ -51,7 +50,6 @@ pub record Opened (from : ScannerState) (a : List ℕ) (want : List Tok → List
   pub parts : Parts
   pub run : Reaches from (stands (10 ∷ a) 0 [] parts)
   pub free : parts.key ≡ None
-  pub no_property : last_property parts.tokens ≡ None
   pub told : Tells parts.tokens want
 
 opened_at : (from : ScannerState) (a : List ℕ) (p : Position) (ts : List Token) (adjacent : ℕ) (want : List Tok → List Tok) → Tells ts want → Reaches from (stands (10 ∷ a) 0 [] (opened p ts adjacent))
@@ -60,7 +58,6 @@ opened_at from a p ts adjacent want told run = record {
   parts = opened p ts adjacent;
   run = run;
   free = refl;
-  no_property = Levels.last_pushed ts (token p Tok.document_start);
   told = Levels.push_tells ts p Tok.document_start want told;
 }
 

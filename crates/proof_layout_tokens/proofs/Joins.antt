@@ -9,7 +9,6 @@ use Rattle.model_scanner.specs.declared.level.Indent.{Indent}
 use Rattle.model_scanner.specs.State.{Key, ScannerState, ◌>>=◌, try_held}
 use Rattle.model_scanner.specs.Keys.{stale, is_far, is_required, save_implicit_key, must_be_key}
 use Rattle.model_scanner.specs.Indents.{level, unroll_indent}
-use Rattle.model_scanner.specs.Block.{last_property}
 use Rattle.model_scanner.specs.Fetch.{fetch_here, fetch}
 use Rattle.model_scanner.specs.Run.{Reaches, here, there}
 use Rattle.model_scanner.proofs.Runs.{reaches_then}
@@ -31,8 +30,8 @@ fetched from x c i is b want s u w e f = reaches_then w.run (there w.going (w.fe
 
 -- in front of the next token of a line, or of a line below
 pub before_white : (from : ScannerState) (g : List White) (y : List ℕ) (i : ℕ) (is : List Indent) (q : Parts) (want : List Tok → List Tok) → Reaches from (stands (spell_white g y) i is q) → AreWhite g y → q.key ≡ None
-    → i ≤ (beyond g q.position).col + 1 → last_property q.tokens ≡ None → Tells q.tokens want → Before from y ((beyond g q.position).col) i is (allowed_beyond g q.allowed) want
-before_white from g y i is q want run white free deep no_property told =
+    → i ≤ (beyond g q.position).col + 1 → Tells q.tokens want → Before from y ((beyond g q.position).col) i is (allowed_beyond g q.allowed) want
+before_white from g y i is q want run white free deep told =
     let p = passed g q in
     record {
       state = stands (spell_white g y) i is q;
@@ -43,7 +42,6 @@ before_white from g y i is q want run white free deep no_property told =
       column = refl;
       free = free;
       allows = refl;
-      no_property = λ e. no_property;
       told = told;
     }
 
@@ -115,9 +113,9 @@ settled (end g) p e position allows loose lies = loose
 
 -- The scanner is after a leaf that ends at e, or within the white space after it.
 pub leaf_after : (t : Trail) (from : ScannerState) (g : List White) (i : ℕ) (is : List Indent) (q : Parts) (e : Position) (want : List Tok → List Tok) → Reaches from (stands (spell_white g (rest_of t)) i is q) → AreWhite g (rest_of t)
-    → beyond g q.position ≡ beyond (trail_white t) e → Allows t (allowed_beyond g q.allowed) → is_required q.key ≡ false → Lies q.key e.line → last_property q.tokens ≡ None → Tells q.tokens want
+    → beyond g q.position ≡ beyond (trail_white t) e → Allows t (allowed_beyond g q.allowed) → is_required q.key ≡ false → Lies q.key e.line → Tells q.tokens want
     → After from t i is want
-leaf_after t from g i is q e want run white position allows loose lies no_property told = record {
+leaf_after t from g i is q e want run white position allows loose lies told = record {
   text = spell_white g (rest_of t);
   first = q;
   indent = i;
@@ -127,7 +125,6 @@ leaf_after t from g i is q e want run white position allows loose lies no_proper
   skips = next_token i is g (rest_of t) q white;
   settles = settled t (passed g q) e position allows loose lies;
   same = refl;
-  no_property = no_property;
   told = λ o. told (ends (limit_of t) i is o);
 }
 
@@ -203,7 +200,6 @@ with_levels t from i j is js want more e f u = record {
   skips = u.skips;
   settles = u.settles;
   same = u.same ∙ e;
-  no_property = u.no_property;
   told = λ o. u.told o ∙ f o;
 }
 
@@ -255,14 +251,13 @@ before_next from g c i is r want u =
       column = column;
       free = refl;
       allows = u.settles.1;
-      no_property = λ e. z.no_property u.no_property;
       told = λ o. z.told o ∙ u.told o ∙ ap want (no_ends c i is o);
     }
 
 -- The first entry of an array at the column of the key that it is the value of: the level after the key's `:` ends.
 pub before_entry : (from : ScannerState) (g : List White) (c i : ℕ) (is : List Indent) (y : List ℕ) (q : Parts) (want : List Tok → List Tok) → Reaches from (stands (spell_white g y) (c + 1 + 1) (level (c + 1) false ∷ level i true ∷ is) q) → AreWhite g y
-    → q.key ≡ None → (beyond g q.position).col ≡ c → allowed_beyond g q.allowed ≡ true → last_property q.tokens ≡ None → Tells q.tokens want → Before from y c (c + 1) (level i true ∷ is) true want
-before_entry from g c i is y q want run white free column allows no_property told =
+    → q.key ≡ None → (beyond g q.position).col ≡ c → allowed_beyond g q.allowed ≡ true → Tells q.tokens want → Before from y c (c + 1) (level i true ∷ is) true want
+before_entry from g c i is y q want run white free column allows told =
     let js = level i true ∷ is in
     let ks = level (c + 1) false ∷ js in
     let p = passed g q in
@@ -280,6 +275,5 @@ before_entry from g c i is y q want run white free column allows no_property tol
       column = column;
       free = free;
       allows = allows;
-      no_property = λ e. z.no_property no_property;
       told = λ o. z.told o ∙ ap (λ e. toks q.tokens ++ e) (none o) ∙ told o;
     }

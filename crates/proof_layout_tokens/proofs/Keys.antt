@@ -16,7 +16,7 @@ use Rattle.model_scanner.specs.declared.level.Indent.{Indent}
 use Rattle.model_scanner.specs.State.{Key, Held, ScannerState, token}
 use Rattle.model_scanner.specs.Keys.{is_far, save_implicit_key, must_be_key}
 use Rattle.model_scanner.specs.Indents.{level, unroll_non_block_indents, without_open}
-use Rattle.model_scanner.specs.Block.{last_property, begin_pair, insert_key, fetch_value}
+use Rattle.model_scanner.specs.Block.{begin_pair, insert_key, fetch_value}
 use Rattle.model_lexers.specs.Quoted.{quote_of}
 use Rattle.model_scanner.specs.Document.{quoted_style, may_follow_quoted, check_after_quoted, fetch_flow_scalar, fetch_plain_scalar}
 use Rattle.model_scanner.specs.Run.{Reaches, here, there}
@@ -108,7 +108,6 @@ pub record Taken (from : ScannerState) (x : List ℕ) (c i : ℕ) (is : List Ind
   pub run : Reaches from (stands x (c + 1 + 1) (level (c + 1) false ∷ level i true ∷ is) parts)
   pub free : parts.key ≡ None
   pub allows : parts.allowed ≡ false
-  pub no_property : last_property parts.tokens ≡ None
   pub told : Tells parts.tokens want
 
 -- its value
@@ -119,7 +118,7 @@ valued from w y c i is want way solid z =
       at = z.colon.col;
       deep = deep;
       marked = marked_before from (way_white w) y (way_column z.colon.col w) c i is true z.parts (allowed_beyond (way_white w) false) want z.run (way_are_white c w y way solid) z.free
-          (ap (λ p. (beyond (way_white w) p).col) z.after ∙ way_ends w z.colon.col z.colon refl) deep (ap (allowed_beyond (way_white w)) z.allows) z.no_property z.told;
+          (ap (λ p. (beyond (way_white w) p).col) z.after ∙ way_ends w z.colon.col z.colon refl) deep (ap (allowed_beyond (way_white w)) z.allows) z.told;
     }
 
 -- its value is an array at its column
@@ -128,7 +127,7 @@ pub at_entry : (from : ScannerState) (k : Comment) (g : List GapLine) (y : List 
 at_entry from k g y c i is want line gap solid z =
     let w = line_feed ∷ gap_white g (blanks c) in
     before_entry from (comment_white k w) c i is y z.parts want z.run (comment_are_white k w y line tt (gap_are_white g (blanks c) y gap (blanks_white c y solid))) z.free
-    (ap (λ p. p.col) (beyond_comment k w z.parts.position) ∙ gap_col g c (past_break (comment_position k z.parts.position)) refl) (allowed_comment k w z.parts.allowed ∙ gap_allows g c) z.no_property z.told
+    (ap (λ p. p.col) (beyond_comment k w z.parts.position) ∙ gap_col g c (past_break (comment_position k z.parts.position)) refl) (allowed_comment k w z.parts.allowed ∙ gap_allows g c) z.told
 
 -- the `:` after a key
 colon_after : (from : ScannerState) (w : Way) (y : List ℕ) (s : Stand) (c i : ℕ) (is : List Indent) (tok : Tok) (ts : List Token) (want : List Tok → List Tok) → i ≤ c → IsClosed i is → Tells ts want
@@ -161,7 +160,6 @@ colon_after from w y s c i is tok ts want low shut told z =
       run = run;
       free = refl;
       allows = refl;
-      no_property = Levels.last_pushed us (token p.position Tok.value);
       told = Levels.push_tells us p.position Tok.value (λ o. want (starts s Tok.block_mapping_start (Tok.key ∷ tok ∷ o))) (λ o. ap (λ l. toks l ++ o) tokens ∙ tells o);
     }
 

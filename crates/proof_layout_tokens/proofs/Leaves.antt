@@ -177,7 +177,7 @@ plain_done k t from c w a col b i is want u deep opens by z =
     let at = comment_position k (along (c ∷ w) p.position) in
     let lies : Lies (still z.position z.key) at.line = still_lies z.position z.key at.line (rw (comment_line k (along (c ∷ w) p.position), along_line (c ∷ w) p.position) z.lies) in
     leaf_after t from z.white i is (record q { key = still z.position z.key }) at _ run z.are (z.same ∙ beyond_comment k (trail_white t) (along (c ∷ w) p.position)) z.allows
-    (Levels.still_loose z.position z.key z.loose) lies (Levels.last_pushed p.tokens (token p.position (Tok.scalar Style.plain (c ∷ w)))) (Levels.push_tells p.tokens p.position (Tok.scalar Style.plain (c ∷ w)) want u.told)
+    (Levels.still_loose z.position z.key z.loose) lies (Levels.push_tells p.tokens p.position (Tok.scalar Style.plain (c ∷ w)) want u.told)
 
 plain_lines : (t : Trail) (g : List White) (from : ScannerState) (c : ℕ) (w : List ℕ) (col : ℕ) (b : Bool) (i : ℕ) (is : List Indent) (want : List Tok → List Tok) → trail_white t ≡ line_feed ∷ g → IsTrail t → limit_of t ≤ i
     → is_first c ≡ true → is_second c w ≡ true → are_plain w ≡ true → closes false w ≡ true → i ≤ col → IsClosed i is
@@ -326,4 +326,4 @@ quoted_after single body w is_quoted n t from col b i is want line trail low dee
     let lies : Lies (still q.position k.key) at.line = still_lies q.position k.key at.line (rw (comment_line n (along (quote_of single ∷ body) p.position), along_line (quote_of single ∷ body) p.position) k.lies) in
     left_open t from b i is (λ o. want (tok ∷ o)) low
     (leaf_after t from [] (opened_indent b i) (opened b i is) (record q { key = still q.position k.key }) at _ run (rest_solid t trail) refl (trail_allows t)
-    (Levels.still_loose q.position k.key k.loose) lies (Levels.last_pushed p.tokens (token p.position tok)) (Levels.push_tells p.tokens p.position tok want u.told))
+    (Levels.still_loose q.position k.key k.loose) lies (Levels.push_tells p.tokens p.position tok want u.told))

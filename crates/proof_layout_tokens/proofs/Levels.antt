@@ -10,7 +10,6 @@ use Rattle.model_scanner.specs.Class.{class_of}
 use Rattle.model_scanner.specs.Keys.{stale, drop_stale, still, is_far, is_overdue, is_required}
 use Rattle.model_scanner.specs.Indents.{unroll_indent, unrolled}
 use Rattle.model_scanner.specs.Space.{skip_to_next_token}
-use Rattle.model_scanner.specs.Block.{last_property, property_position}
 use Rattle.model_scanner.specs.Fetch.{token_by, fetch_token, fetch_indented, fetch_first_column, fetch_content, fetch_here, fetch_next, fetch}
 use Rattle.defs_token.specs.Toks.{toks}
 use Rattle.proof_lexers.proofs.Bridges.{and_false}
@@ -20,18 +19,12 @@ use Rattle.proof_layout_tokens.proofs.Whites.{content}
 
 -- ---- tokens
 
-pub last_pushed : (ts : List Token) (t : Token) → last_property (ts ++ t ∷ []) ≡ property_position t.tok t.position
-last_pushed [] t = refl
-last_pushed (u ∷ []) t = refl
-last_pushed (u ∷ v ∷ ts) t = last_pushed (v ∷ ts) t
-
 -- ---- unrolling
 
 -- the levels that stay, and the ends of the others after the tokens
 pub record Unrolled (limit : ℕ) (p : Position) (i : ℕ) (is : List Indent) (ts : List Token) : Type 0 where
   pub tokens : List Token
   pub now : unrolled limit p i is ts ≡ record { indent = (left limit i is).indent; indents = (left limit i is).indents; tokens = tokens }
-  pub no_property : last_property ts ≡ None → last_property tokens ≡ None
   pub told : (o : List Tok) → toks tokens ++ o ≡ toks ts ++ ends limit i is o
 
 unroll_by : (limit : ℕ) (p : Position) (i : ℕ) (d : Indent) (ds : List Indent) (ts : List Token) (b e : Bool) → nat_lt limit i ≡ b → d.needs_block_end ≡ e
@@ -40,7 +33,6 @@ unfolding unrolled
 unroll_by limit p i d ds ts false e h f go = record {
   tokens = ts;
   now = rw h refl;
-  no_property = λ n. n;
   told = λ o. rw h refl;
 }
 unroll_by limit p i d ds ts true false h f go =
@@ -48,7 +40,6 @@ unroll_by limit p i d ds ts true false h f go =
     record {
       tokens = z.tokens;
       now = rw (h, f) z.now;
-      no_property = z.no_property;
       told = λ o. rw (h, f) (z.told o);
     }
 unroll_by limit p i d ds ts true true h f go =
@@ -56,13 +47,12 @@ unroll_by limit p i d ds ts true true h f go =
     record {
       tokens = z.tokens;
       now = rw (h, f) z.now;
-      no_property = λ n. z.no_property (last_pushed ts (token p Tok.block_end));
       told = λ o. rw (h, f) (z.told o ∙ toks_push ts (token p Tok.block_end) (ends limit d.indent ds o));
     }
 
 pub unroll : (limit : ℕ) (p : Position) (i : ℕ) (is : List Indent) (ts : List Token) → Unrolled limit p i is ts
 unfolding unrolled
-unroll limit p i [] ts = record { tokens = ts; now = refl; no_property = λ n. n; told = λ o. refl }
+unroll limit p i [] ts = record { tokens = ts; now = refl; told = λ o. refl }
 unroll limit p i (d ∷ ds) ts = unroll_by limit p i d ds ts (nat_lt limit i) d.needs_block_end refl refl (λ us. unroll limit p d.indent ds us)
 
 unrolls_by : (limit : ℕ) (x : List ℕ) (i : ℕ) (is : List Indent) (p : Parts) (z : Unrolled limit p.position i is p.tokens)

@@ -21,10 +21,10 @@ use Rattle.model_scanner.specs.Class.{class_of}
 use Rattle.model_scanner.specs.Keys.{remove_implicit_key}
 use Rattle.model_scanner.specs.Indents.{level, placed, roll_indent, drop_open_level, deepen, roll_one_col_indent, in_block}
 use Rattle.model_scanner.specs.Space.{white, skip_yaml_whitespace, skip_spaces}
-use Rattle.model_scanner.specs.Block.{last_property, at_margin, check_block_entry, check_dash, roll_entry, fetch_block_entry, begin_key, check_key_space, fetch_key, check_value_space, begin_keyless_mapping, begin_keyless_value, fetch_value}
+use Rattle.model_scanner.specs.Block.{check_block_entry, check_dash, roll_entry, fetch_block_entry, begin_key, check_key_space, fetch_key, check_value_space, begin_keyless_mapping, begin_keyless_value, fetch_value}
 use Rattle.model_scanner.specs.Flow.{allow_key}
 use Rattle.model_scanner.specs.Fetch.{token_by, fetch_here, is_value, comes_marker}
-use Rattle.proof_layout_tokens.proofs.Layouts.States.{Parts, stands, is_content, is_solid, Opens, opened, opened_indent, IsClosed, Tells, HasNoProperty, Before}
+use Rattle.proof_layout_tokens.proofs.Layouts.States.{Parts, stands, is_content, is_solid, Opens, opened, opened_indent, IsClosed, Tells, Before}
 use Rattle.proof_layout_tokens.proofs.Whites.{White, space, line_feed, remark, spell_white, beyond, allowed_beyond, EndsLine, AreWhite, content, in_line, blanks, blanks_col, blanks_white, gap_white, gap_are_white, blanks_allow, gap_allows}
 use Rattle.proof_lexers.specs.HeaderEnds.{along}
 use Rattle.proof_layout_tokens.proofs.Levels
@@ -149,14 +149,9 @@ solid_spaces tabs y i is p h = rw (solid_stops tabs y p.position (record { found
 
 -- ---- `-`
 
-at_margin_goes : (b : Bool) (q : Option Position) (p : Position) (s : Held) → (p.col == 0) ≡ b → (b ≡ true → q ≡ None) → at_margin q p s ≡ Ok s
-at_margin_goes b None p s e none = refl
-at_margin_goes true (Some q) p s e none = let no : Some q ≡ None = none refl in cc
-at_margin_goes false (Some q) p s e none = rw e refl
-
-may_stand : (x : List ℕ) (i : ℕ) (is : List Indent) (p : Parts) → p.allowed ≡ true → HasNoProperty p → try_held check_block_entry (stands x i is p) ≡ Ok (stands x i is p)
+may_stand : (x : List ℕ) (i : ℕ) (is : List Indent) (p : Parts) → p.allowed ≡ true → try_held check_block_entry (stands x i is p) ≡ Ok (stands x i is p)
 unfolding check_block_entry
-may_stand x i is p allowed none = rw (at_margin_goes (p.position.col == 0) (last_property p.tokens) p.position (stands x i is p).held refl none, allowed) refl
+may_stand x i is p allowed = rw allowed refl
 
 -- after the dash, the rest of the fetch
 abbrev after_dash : ScannerState → Result ScannerState Fault
@@ -215,13 +210,13 @@ unfolding scalar_space.space check_dash skip_spaces roll_entry is_break roll_one
 dash_below no_comment w y j i is p line free = rw free refl
 dash_below (comment more text) w y j i is p line free = rw (comment_passes more text (10 ∷ spell_white w y) (line_feed ∷ w) y p.position line refl at_feed, free) refl
 
-dash_at : (a : List ℕ) (s : Stand) (c i : ℕ) (is : List Indent) (p : Parts) → p.position.col ≡ c → i ≤ c → IsClosed i is → p.allowed ≡ true → HasNoProperty p
+dash_at : (a : List ℕ) (s : Stand) (c i : ℕ) (is : List Indent) (p : Parts) → p.position.col ≡ c → i ≤ c → IsClosed i is → p.allowed ≡ true
     → fetch_block_entry (stands (45 ∷ a) (indent_at s c i) (indents_at s i is) p)
     ≡ after_dash (stands a (c + 1) (level i true ∷ is) (record p { position = past p.position; tokens = started s None (token p.position Tok.block_sequence_start) p.tokens; leading = false }))
 unfolding fetch_block_entry
-dash_at a s c i is p col low closed allowed none =
+dash_at a s c i is p col low closed allowed =
     rw (
-      may_stand (45 ∷ a) (indent_at s c i) (indents_at s i is) p allowed none,
+      may_stand (45 ∷ a) (indent_at s c i) (indents_at s i is) p allowed,
       rolled_at a s c i is (record p { position = past p.position; leading = false }) None Tok.block_sequence_start p.position p.position.col col low closed,
     ) refl
 
@@ -251,9 +246,9 @@ opened_low false c col h = omega (arith, h)
 -- a mark was taken, and white space stands in front of its value
 pub marked_before : (from : ScannerState) (g : List White) (y : List ℕ) (col c i : ℕ) (is : List Indent) (b : Bool) (q : Parts) (allowed : Bool) (want : List Tok → List Tok)
     → Reaches from (stands (spell_white g y) (opened_indent b (c + 1)) (opened b (c + 1) (level i true ∷ is)) q) → AreWhite g y → q.key ≡ None → (beyond g q.position).col ≡ col → c + 1 ≤ col → allowed_beyond g q.allowed ≡ allowed
-    → last_property q.tokens ≡ None → Tells q.tokens want → Marked from y col c i is allowed want
-marked_before from g y col c i is b q allowed want run white free ends deep allows none told =
-    let u = before_white from g y (opened_indent b (c + 1)) (opened b (c + 1) (level i true ∷ is)) q want run white free (rw ends (opened_low b c col deep)) none told in
+    → Tells q.tokens want → Marked from y col c i is allowed want
+marked_before from g y col c i is b q allowed want run white free ends deep allows told =
+    let u = before_white from g y (opened_indent b (c + 1)) (opened b (c + 1) (level i true ∷ is)) q want run white free (rw ends (opened_low b c col deep)) told in
     record { is_open = b; before = rw ends at rw allows at u }
 
 -- the indentation of an entry
@@ -280,9 +275,9 @@ dash_run from (beside more) y s c i is want low closed way solid u =
     let at = beyond (blanks (suc more)) q.position in
     let r = marked at (q.tokens ++ token at Tok.block_entry ∷ []) true false p.adjacent in
     let e = arrived from 45 x s c i is want low u (opens_mark 45 (beside more) y refl refl) in
-    let d = by_dash (beside more) y (indent_at s c i) (indents_at s i is) p ∙ dash_at x s c i is p u.column low closed u.allows u.no_property ∙ dash_beside (suc more) y (c + 1) i is q solid u.free in
+    let d = by_dash (beside more) y (indent_at s c i) (indents_at s i is) p ∙ dash_at x s c i is p u.column low closed u.allows ∙ dash_beside (suc more) y (c + 1) i is q solid u.free in
     let run = fetched from (45 ∷ x) c (indent_at s c i) (indents_at s i is) true want _ _ u (e ∙ d) (Levels.not_stale y (opened_indent b (c + 1)) (opened b (c + 1) js) r refl) in
-    marked_before from [] y (c + 2 + more) c i is b r true _ run solid refl (way_ends (beside more) c p.position u.column) (omega arith) refl (Levels.last_pushed q.tokens (token at Tok.block_entry))
+    marked_before from [] y (c + 2 + more) c i is b r true _ run solid refl (way_ends (beside more) c p.position u.column) (omega arith) refl
     (Levels.push_tells q.tokens at Tok.block_entry _ (started_tells s p.tokens p.position Tok.block_sequence_start want u.told))
 dash_run from (below k g d) y s c i is want low closed way solid u =
     let p = u.parts in
@@ -293,10 +288,10 @@ dash_run from (below k g d) y s c i is want low closed way solid u =
     let at = comment_position k q.position in
     let r = marked at (q.tokens ++ token at Tok.block_entry ∷ []) true false p.adjacent in
     let e = arrived from 45 x s c i is want low u (opens_mark 45 (below k g d) y refl refl) in
-    let f = by_dash (below k g d) y (indent_at s c i) (indents_at s i is) p ∙ dash_at x s c i is p u.column low closed u.allows u.no_property ∙ dash_below k w y (c + 1) i is q way.1 u.free in
+    let f = by_dash (below k g d) y (indent_at s c i) (indents_at s i is) p ∙ dash_at x s c i is p u.column low closed u.allows ∙ dash_below k w y (c + 1) i is q way.1 u.free in
     let run = fetched from (45 ∷ x) c (indent_at s c i) (indents_at s i is) true want _ _ u (e ∙ f) (Levels.not_stale (spell_white (line_feed ∷ w) y) (c + 1 + 1) (level (c + 1) false ∷ js) r refl) in
     let h = way.0 in
-    marked_before from (line_feed ∷ w) y d c i is true r true _ run (gap_are_white g (blanks d) y way.2 (blanks_white d y solid)) refl (gap_col g d (past_break at) refl) (omega (arith, h)) (gap_allows g d) (Levels.last_pushed q.tokens (token at Tok.block_entry))
+    marked_before from (line_feed ∷ w) y d c i is true r true _ run (gap_are_white g (blanks d) y way.2 (blanks_white d y solid)) refl (gap_col g d (past_break at) refl) (omega (arith, h)) (gap_allows g d)
     (Levels.push_tells q.tokens at Tok.block_entry _ (started_tells s p.tokens p.position Tok.block_sequence_start want u.told))
 
 -- ---- `?`
@@ -398,7 +393,7 @@ question_run from w y s c i is want low closed way solid u =
     let r = marked (beyond (way_white w) (past p.position)) (ts ++ token p.position Tok.key ∷ []) (allowed_beyond (way_white w) true) (leading_after (way_white w) false) p.adjacent in
     let e = arrived from 63 x s c i is want low u (opens_mark 63 w y refl refl) ∙ by_question w y (indent_at s c i) (indents_at s i is) p ∙ question_at w y s c i is p u.column low closed u.allows u.free are solid in
     let run = fetched from (63 ∷ x) c (indent_at s c i) (indents_at s i is) true want _ _ u e (Levels.not_stale y (c + 1) (level i true ∷ is) r refl) in
-    marked_before from [] y (way_column c w) c i is false r true _ run solid refl (way_ends w c p.position u.column) (way_deep w c way) (way_allows w) (Levels.last_pushed ts (token p.position Tok.key))
+    marked_before from [] y (way_column c w) c i is false r true _ run solid refl (way_ends w c p.position u.column) (way_deep w c way) (way_allows w)
     (Levels.push_tells ts p.position Tok.key _ (started_tells s p.tokens p.position Tok.block_mapping_start want u.told))
 
 -- ---- the `:` of a key after `?`
@@ -441,5 +436,5 @@ colon_run from w y c i is want low closed way solid u =
     let r = marked (past p.position) (p.tokens ++ token p.position Tok.value ∷ []) true false p.adjacent in
     let e = arrived from 58 x later c i is want low u (opens_mark 58 w y refl refl) ∙ by_colon w y (c + 1) (level i true ∷ is) p ∙ colon_at w y c i is p u.column low closed u.allows u.free in
     let run = fetched from (58 ∷ x) c (c + 1) (level i true ∷ is) true want _ _ u e (Levels.not_stale x (c + 1 + 1) js r refl) in
-    marked_before from (way_white w) y (way_column c w) c i is true r true _ run (way_are_white c w y way solid) refl (way_ends w c p.position u.column) (way_deep w c way) (way_allows w) (Levels.last_pushed p.tokens (token p.position Tok.value))
+    marked_before from (way_white w) y (way_column c w) c i is true r true _ run (way_are_white c w y way solid) refl (way_ends w c p.position u.column) (way_deep w c way) (way_allows w)
     (Levels.push_tells p.tokens p.position Tok.value want u.told)

@@ -31,12 +31,12 @@ use Rattle.proof_refusals.proofs.Faults.{Faults, fault, tried, checked, either}
 use Rattle.proof_refusals.proofs.Places.{Told, account_by, not_told, stuck, in_flow_is}
 use Rattle.proof_refusals.proofs.Nodes.{none_here, name_told, tag_told, quoted_told}
 use Rattle.proof_refusals.proofs.Blocks.{block_told}
-use Rattle.proof_refusals.proofs.MarginKeys.{IsMargin}
 use Rattle.proof_refusals.proofs.Plains.{plain_told}
 use Rattle.proof_refusals.proofs.Indicators.{directive_told, marker_told, document_end_told, dash_told, question_told, colon_told, opening_told, closing_told, comma_told}
+use Rattle.proof_refusals.proofs.Waiting.{NoneWaits}
 use Rattle.proof_refusals.specs.NoPiece as none
 
-module _ (text : List ℕ) (t : ScannerState) (a : Arrives text t) (some : is_empty t.rest ≡ false) (margin : IsMargin t.held) where
+module _ (text : List ℕ) (t : ScannerState) (a : Arrives text t) (some : is_empty t.rest ≡ false) (waits : NoneWaits text t a) where
   -- ---- the token by the first character
 
   token_told : IsDeep t.held → ((t.held.position.col == 0) && is_document_marker t.rest) ≡ false → (t.held.position.col ≡ 0 → (peek t.rest == 37) ≡ false) → Faults (Told text) (fetch_token t)
@@ -47,9 +47,9 @@ module _ (text : List ℕ) (t : ScannerState) (a : Arrives text t) (some : is_em
         plain = λ comes. plain_told text t a some deep comes;
         quoted = λ single more e. quoted_told text t a some deep single more e;
         block = λ literal more e o. block_told text t a some o literal more e;
-        dash = λ more e gap. dash_told text t a some margin more e gap;
+        dash = λ more e gap. dash_told text t a some more e gap;
         question = λ more e gap. question_told text t a some more e gap;
-        colon = λ more e i. colon_told text t a some more e i;
+        colon = λ more e i. colon_told text t a some waits more e i;
         open_bracket = λ more e. opening_told text t a some Entry Tok.flow_sequence_start 91 more e (inl refl);
         open_brace = λ more e. opening_told text t a some Mapping Tok.flow_mapping_start 123 more e (inr refl);
         close_bracket = λ more e. closing_told text t a some Tok.flow_sequence_end 93 more e refl;
@@ -135,6 +135,6 @@ unfolding fetch_stream_end
 end_told text t = tried t (ended_told text (record t.held { position = next_line t.held.position }))
 
 -- a token of a text that goes on, or the stream's end
-pub here_told : (text : List ℕ) (t : ScannerState) (a : Arrives text t) → IsMargin t.held → Faults (Told text) (fetch_here t)
+pub here_told : (text : List ℕ) (t : ScannerState) (a : Arrives text t) → NoneWaits text t a → Faults (Told text) (fetch_here t)
 unfolding fetch_here
-here_told text t a margin = either (peek t.rest == 0) (λ _. end_told text t) (λ e. let some = goes_on_here t.rest e in content_told text t a some margin)
+here_told text t a waits = either (peek t.rest == 0) (λ _. end_told text t) (λ e. let some = goes_on_here t.rest e in content_told text t a some waits)

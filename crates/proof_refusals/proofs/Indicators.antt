@@ -13,6 +13,7 @@ use Rattle.defs_token.specs.Account.{is_adjacent, before_past}
 use Rattle.defs_token.specs.Plain.{is_value_indicator}
 use Rattle.defs_token.specs.Separation.{is_separation}
 use Rattle.defs_row.specs.Account.{before_by}
+use Rattle.defs_row.specs.Beginning.{IsPlace}
 use Rattle.defs_token.specs.Token.{Tok}
 use Rattle.defs_scalar.specs.FlowScalar.{begins_with}
 use Rattle.defs_scalar.specs.Tags as tags
@@ -39,7 +40,7 @@ use Rattle.model_scanner.specs.Keys.{is_required, top_key, remove_implicit_key}
 use Rattle.model_scanner.specs.Indents.{unroll_indent, roll_indent, roll_one_col_indent, with_levels, Levels}
 use Rattle.model_scanner.specs.Space.{skip_yaml_whitespace, white}
 use Rattle.model_scanner.specs.Flow.{allow_key, increase_flow_level, deepened_flow, begin_flow, pass_indicator, fetch_flow_collection_start, end_pair, end_flow_pair, decrease_flow_level, ended_flow, end_flow, fetch_flow_collection_end, next_entry, end_entry, fetch_flow_entry}
-use Rattle.model_scanner.specs.Block.{last_property, at_margin, check_block_entry, check_dash, roll_entry, fetch_block_entry, begin_key, check_key_space, fetch_key, check_after_tab, check_value_space, opens_pair, paired, begin_pair, insert_key, begin_keyless_pair, begin_keyless_mapping, begin_keyless_value, value_of, fetch_value}
+use Rattle.model_scanner.specs.Block.{check_block_entry, check_dash, roll_entry, fetch_block_entry, begin_key, check_key_space, fetch_key, check_after_tab, check_value_space, opens_pair, paired, begin_pair, insert_key, begin_keyless_pair, begin_keyless_mapping, begin_keyless_value, value_of, fetch_value}
 use Rattle.model_scanner.specs.Document.{closed_key, begin_line, fetch_directive, fetch_document_marker, check_document_end, fetch_document_end}
 use Rattle.model_scanner.specs.Fetch.{is_value}
 use Rattle.model_scanner.proofs.Holds as holds
@@ -73,12 +74,12 @@ use Rattle.proof_cut.proofs.Saved.{saved_keys, saved_is}
 use Rattle.proof_refusals.specs.NoPiece as none
 use Rattle.proof_refusals.specs.NoPiece.{IsFollowed}
 use Rattle.proof_refusals.specs.Stuck as defs
-use Rattle.proof_refusals.specs.Stuck.{IsStuck, Fails, may_not_stand, MayNotStand, is_taken_line, is_taken, is_value_here}
+use Rattle.proof_refusals.specs.Stuck.{IsStuck, HasNoKey, no_key, Fails, may_not_stand, MayNotStand, is_taken_line, is_taken, is_value_here}
 use Rattle.proof_refusals.proofs.Faults.{Faults, fault, goes, read, in_turn, tried, checked, either}
 use Rattle.proof_refusals.proofs.Spaces.{space_told, spaces_told, no_comment, no_comment_left, solid_past}
-use Rattle.proof_refusals.proofs.Places.{Told, many_levels, IsAllowed, stuck, in_flow_is, followed_stuck}
-use Rattle.proof_refusals.proofs.MarginKeys.{IsMargin, no_dash_after}
+use Rattle.proof_refusals.proofs.Places.{Told, account_by, place, many_levels, IsAllowed, stuck, in_flow_is, followed_stuck}
 use Rattle.proof_refusals.proofs.Nodes.{none_begins}
+use Rattle.proof_refusals.proofs.Waiting.{NoneWaits}
 
 -- ---- keys that must be one
 
@@ -214,28 +215,14 @@ module _ (text : List ℕ) (t : ScannerState) (a : Arrives text t) (some : is_em
 
   -- ---- `-`, `?` and `:`
 
-  -- no property in the first column stands before a dash there
-  margin_told : IsMargin t.held → is_empty t.held.flow ≡ true → t.held.key_allowed ≡ true → (o : Option Position) → last_property t.held.tokens ≡ o → Faults (Told text) (at_margin o t.held.position t.held)
-  margin_told margin out allowed None e = goes
-  margin_told margin out allowed (Some q) e =
-      checked ((t.held.position.col == 0) && (q.col == 0) && nat_lt 0 t.held.indent) (At problem.AnchorIndentation q) (λ all.
-      let parts = and_parts ((t.held.position.col == 0) && (q.col == 0)) (nat_lt 0 t.held.indent) all in
-      let columns = and_parts (t.held.position.col == 0) (q.col == 0) parts.0 in
-      absurd (no_dash_after text t a some out columns.0 parts.1 (margin out q e columns.1 parts.1) allowed)) (λ _. goes)
-
-  entry_checked : IsMargin t.held → (more : List ℕ) → t.rest ≡ 45 ∷ more → is_at_gap more ≡ true → Faults (Told text) (check_block_entry t.held)
+  entry_checked : (more : List ℕ) → t.rest ≡ 45 ∷ more → is_at_gap more ≡ true → Faults (Told text) (check_block_entry t.held)
   unfolding check_block_entry
-  entry_checked margin more e gap =
+  entry_checked more e gap =
       checked (in_flow t.held) (At problem.BlockEntryInFlow t.held.position)
       (λ i _. stuck text t a some [] problem.BlockEntryInFlow t.held.position (λ c may. may_not_stand (defs.dash_in_flow more e gap (in_flow_is text t a some c [] ∙ i)))) (λ o.
       checked (not t.held.key_allowed) (At problem.BlockEntryNotAllowed t.held.position)
       (λ n _. stuck text t a some [] problem.BlockEntryNotAllowed t.held.position (λ c may.
-      may_not_stand (defs.dash_not_free more e gap (in_flow_is text t a some c [] ∙ o) (line_taken c [] may (is_outside o) (is_not t.held.key_allowed n))))) (λ allowed.
-      margin_told margin (is_outside o) (is_allowed t.held.key_allowed allowed) (last_property t.held.tokens) refl))
-    where
-      is_allowed : (b : Bool) → not b ≡ false → b ≡ true
-      is_allowed true e = refl
-      is_allowed false e = absurd (cc e)
+      may_not_stand (defs.dash_not_free more e gap (in_flow_is text t a some c [] ∙ o) (line_taken c [] may (is_outside o) (is_not t.held.key_allowed n))))) (λ _. goes))
 
   -- a character of a text stands in it with more after it
   has_more : (b c : List ℕ) → has 9 b ≡ true → has 9 (b ++ c) ≡ true
@@ -280,11 +267,7 @@ module _ (text : List ℕ) (t : ScannerState) (a : Arrives text t) (some : is_em
 
   entry_outside : Holds (λ s. (in_flow t.held ≡ false) × (s ≡ t.held)) (check_block_entry t.held)
   unfolding check_block_entry
-  entry_outside = holds.checked (in_flow t.held) (At problem.BlockEntryInFlow t.held.position) (λ o. holds.checked (not t.held.key_allowed) (At problem.BlockEntryNotAllowed t.held.position) (λ _. margin o (last_property t.held.tokens)))
-    where
-      margin : in_flow t.held ≡ false → (o : Option Position) → Holds (λ s. (in_flow t.held ≡ false) × (s ≡ t.held)) (at_margin o t.held.position t.held)
-      margin f None = holds.went (f, refl)
-      margin f (Some q) = holds.checked ((t.held.position.col == 0) && (q.col == 0) && nat_lt 0 t.held.indent) (At problem.AnchorIndentation q) (λ _. holds.went (f, refl))
+  entry_outside = holds.checked (in_flow t.held) (At problem.BlockEntryInFlow t.held.position) (λ o. holds.checked (not t.held.key_allowed) (At problem.BlockEntryNotAllowed t.held.position) (λ _. holds.went (o, refl)))
 
   -- no comment stands after what was passed behind a dash
   dash_spaced : (u : ScannerState) → Holds (λ v. begins_with 35 v.rest ≡ false) (lexed (space Yes u.rest u.held.position) u.held check_dash)
@@ -293,10 +276,10 @@ module _ (text : List ℕ) (t : ScannerState) (a : Arrives text t) (some : is_em
       spaced Yes u check_dash (λ v. begins_with 35 v.rest ≡ false) (λ w v s.
       holds.checked (w.found_tabs && (slice_index v.rest 0 == 45) && is_blank_or_breakz (slice_index v.rest 1)) (At problem.TabAfterDash v.held.position) (λ _. holds.went (no_comment_left Yes v.rest s.ends)))
 
-  pub dash_told : IsMargin t.held → (more : List ℕ) → t.rest ≡ 45 ∷ more → is_at_gap more ≡ true → Faults (Told text) (fetch_block_entry t)
+  pub dash_told : (more : List ℕ) → t.rest ≡ 45 ∷ more → is_at_gap more ≡ true → Faults (Told text) (fetch_block_entry t)
   unfolding fetch_block_entry
-  dash_told margin more e gap =
-      in_turn (tried t (entry_checked margin more e gap)) (λ u i.
+  dash_told more e gap =
+      in_turn (tried t (entry_checked more e gap)) (λ u i.
       let was : (u.rest ≡ t.rest) × (in_flow t.held ≡ false) × (u.held ≡ t.held) = held_of {P = λ v. (v.rest ≡ t.rest) × (in_flow t.held ≡ false) × (v.held ≡ t.held)} u (holds.tried t (check_block_entry t.held) entry_outside (λ s k. (refl, k.0, k.1))) i in
       let rolled : ScannerState = on_held (roll_indent t.held.position.col None Tok.block_sequence_start t.held.position) (skip_indicator u) in
       let place : rolled.held.position ≡ past t.held.position = rolled_place t.held.position.col None Tok.block_sequence_start t.held.position (skip_indicator u).held ∙ ap (λ h. past h.position) was.2 in
@@ -398,34 +381,35 @@ module _ (text : List ℕ) (t : ScannerState) (a : Arrives text t) (some : is_em
       let s : SingleKey k (entries_by (true ∷ []) t.held.keys a.base.entries) = single_key t.held.key_allowed _ t.held.flow t.held.keys a.base.entries k a.are_entries opens top in
       stuck text t a some (true ∷ []) problem.ColonMisplaced t.held.position (λ c may. may_not_stand (defs.key_on_earlier_line more k.position s.first s.around e (value_here more e i c (true ∷ [])) s.are s.takes s.had_is (grind (arith, nat_tests, late))))
 
-  not_allowed : (more : List ℕ) → t.rest ≡ 58 ∷ more → is_value t ≡ true → top_key t.held.keys ≡ None → in_flow t.held ≡ false → t.held.key_allowed ≡ false → Told text (At problem.ValueNotAllowed t.held.position)
-  not_allowed more e i top o allowed = λ _.
+  not_allowed : NoneWaits text t a → (more : List ℕ) → t.rest ≡ 58 ∷ more → is_value t ≡ true → top_key t.held.keys ≡ None → in_flow t.held ≡ false → t.held.key_allowed ≡ false → Told text (At problem.ValueNotAllowed t.held.position)
+  not_allowed unwaited more e i top o allowed = λ _.
       let out : is_empty t.held.flow ≡ true = is_outside o in
       let none_in : a.base.entries ≡ [] = no_entries t.held.key_allowed _ t.held.flow t.held.keys a.base.entries out a.are_entries in
       let key_is : outside_key a.base.entries t.held.keys ≡ None = ap (λ es. outside_key es t.held.keys) none_in ∙ top in
-      stuck text t a some [] problem.ValueNotAllowed t.held.position (λ c may.
-      may_not_stand (defs.colon_not_free more e (value_here more e i c []) (in_flow_is text t a some c [] ∙ o) (line_taken c [] may out allowed) (ap (λ z. is_waiting (line_by c z a.base.line)) key_is ∙ a.no_key)))
+      let may : MayChoose false (outside_key a.base.entries t.held.keys) t.held.position t.rest = subst (λ k. MayChoose false k t.held.position t.rest) (sym key_is) tt in
+      no_key (account_by text t a some false []) a.separation more t.held.position (subst (λ r. IsPlace text (account_by text t a some false []) a.separation r t.held.position) e (place text t a some false [] may)) (value_here more e i false []) (in_flow_is text t a some false [] ∙ o)
+      (line_taken false [] (λ _. may) out allowed) (subst (λ r. HasNoKey text a.separation r t.held.position) e (unwaited some top o))
 
   pair_told : (more : List ℕ) → t.rest ≡ 58 ∷ more → is_value t ≡ true → (k : Key) → top_key t.held.keys ≡ Some k → (pair : Bool) → opens_pair t.held.flow ≡ pair → (s : Held) → Faults (Told text) (begin_pair k t.held.position pair s)
   unfolding begin_pair
   pair_told more e i k top true opens s = checked (nat_lt k.position.line t.held.position.line) (At problem.ColonMisplaced t.held.position) (λ late. misplaced more e i k top opens late) (λ _. goes)
   pair_told more e i k top false opens s = goes
 
-  mapping_told : (more : List ℕ) → t.rest ≡ 58 ∷ more → is_value t ≡ true → top_key t.held.keys ≡ None → (s : Held) → in_flow s ≡ in_flow t.held → s.key_allowed ≡ t.held.key_allowed → Faults (Told text) (begin_keyless_mapping t.held.position s)
+  mapping_told : NoneWaits text t a → (more : List ℕ) → t.rest ≡ 58 ∷ more → is_value t ≡ true → top_key t.held.keys ≡ None → (s : Held) → in_flow s ≡ in_flow t.held → s.key_allowed ≡ t.held.key_allowed → Faults (Told text) (begin_keyless_mapping t.held.position s)
   unfolding begin_keyless_mapping
-  mapping_told more e i top s flow allowed =
-      either (in_flow s) (λ _. goes) (λ o. checked (not s.key_allowed) (At problem.ValueNotAllowed t.held.position) (λ n. not_allowed more e i top (sym flow ∙ o) (sym allowed ∙ is_not s.key_allowed n)) (λ _. goes))
+  mapping_told unwaited more e i top s flow allowed =
+      either (in_flow s) (λ _. goes) (λ o. checked (not s.key_allowed) (At problem.ValueNotAllowed t.held.position) (λ n. not_allowed unwaited more e i top (sym flow ∙ o) (sym allowed ∙ is_not s.key_allowed n)) (λ _. goes))
 
   keyless_alike : (pair : Bool) (s : Held) → (in_flow (begin_keyless_pair pair s) ≡ in_flow s) × ((begin_keyless_pair pair s).key_allowed ≡ s.key_allowed)
   keyless_alike true s = (refl, refl)
   keyless_alike false s = (refl, refl)
 
-  value_told : (more : List ℕ) → t.rest ≡ 58 ∷ more → is_value t ≡ true → (o : Option Key) → top_key t.held.keys ≡ o → (s : Held) → in_flow s ≡ in_flow t.held → s.key_allowed ≡ t.held.key_allowed → Faults (Told text) (value_of o t.held.position (opens_pair t.held.flow) s)
+  value_told : NoneWaits text t a → (more : List ℕ) → t.rest ≡ 58 ∷ more → is_value t ≡ true → (o : Option Key) → top_key t.held.keys ≡ o → (s : Held) → in_flow s ≡ in_flow t.held → s.key_allowed ≡ t.held.key_allowed → Faults (Told text) (value_of o t.held.position (opens_pair t.held.flow) s)
   unfolding insert_key begin_keyless_value
-  value_told more e i None top s flow allowed =
+  value_told unwaited more e i None top s flow allowed =
       let k = keyless_alike (opens_pair t.held.flow) s in
-      in_turn (mapping_told more e i top (begin_keyless_pair (opens_pair t.held.flow) s) (k.0 ∙ flow) (k.1 ∙ allowed)) (λ u j. goes)
-  value_told more e i (Some k) top s flow allowed = in_turn (pair_told more e i k top (opens_pair t.held.flow) refl _) (λ u i. goes)
+      in_turn (mapping_told unwaited more e i top (begin_keyless_pair (opens_pair t.held.flow) s) (k.0 ∙ flow) (k.1 ∙ allowed)) (λ u j. goes)
+  value_told unwaited more e i (Some k) top s flow allowed = in_turn (pair_told more e i k top (opens_pair t.held.flow) refl _) (λ u i. goes)
 
   paired_flow : (fs : List FlowLevel) → is_empty (paired fs) ≡ is_empty fs
   paired_flow [] = refl
@@ -493,16 +477,16 @@ module _ (text : List ℕ) (t : ScannerState) (a : Arrives text t) (some : is_em
       holds.either (peek u.rest == 9) (λ _. holds.read u.held (space Yes u.rest u.held.position) check_after_tab (λ x k.
       holds.checked (not x.value.has_valid_yaml_ws && ((peek x.rest == 45) || is_alpha (peek x.rest))) (At problem.TabAfterColon x.position) (λ _. holds.went refl))) (λ _. holds.went refl)
 
-  pub colon_told : (more : List ℕ) → t.rest ≡ 58 ∷ more → is_value t ≡ true → Faults (Told text) (fetch_value t)
+  pub colon_told : NoneWaits text t a → (more : List ℕ) → t.rest ≡ 58 ∷ more → is_value t ≡ true → Faults (Told text) (fetch_value t)
   unfolding fetch_value
-  colon_told more e is =
+  colon_told unwaited more e is =
       let first : ScannerState = skip_indicator (on_held (λ s. record s { flow = paired s.flow }) t) in
       in_turn (value_checked more e first (ap after e) refl) (λ u k.
       let h = held_of u (value_held first) k in
       in_turn (tried u (value_told_by more e u (ap (λ s. s.keys) h) (ap (λ s. not (is_empty s.flow)) h ∙ ap not (paired_flow t.held.flow)) (ap (λ s. s.key_allowed) h))) (λ v i. goes))
     where
       value_told_by : (more : List ℕ) → t.rest ≡ 58 ∷ more → (u : ScannerState) → u.held.keys ≡ t.held.keys → in_flow u.held ≡ in_flow t.held → u.held.key_allowed ≡ t.held.key_allowed → Faults (Told text) (value_of (top_key u.held.keys) t.held.position (opens_pair t.held.flow) u.held)
-      value_told_by more e u keys flow allowed = value_told more e is (top_key u.held.keys) (sym (ap top_key keys)) u.held flow allowed
+      value_told_by more e u keys flow allowed = value_told unwaited more e is (top_key u.held.keys) (sym (ap top_key keys)) u.held flow allowed
 
   -- ---- brackets and commas
 

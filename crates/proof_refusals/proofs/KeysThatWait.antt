@@ -11,7 +11,7 @@ use Rattle.defs_row.specs.Column.{not_ended, blocks_at, is_in_column, opened}
 use Rattle.defs_row.specs.Key.{Line, free, taken, waits, is_waiting, begins_free_line, line_past_separation, Outside, is_near, line_past}
 use Rattle.defs_row.specs.FlowEntry.{Entry, begun_by, is_renewed, entries_past}
 use Rattle.defs_row.specs.Account.{Site, Account, first_account, is_in_flow, site_at, site_past, may_stand, on_one_line, past_outside, past_inside, past_piece, account_past}
-use Rattle.defs_row.specs.Row.{IsWritten, IsRowFrom, HasRow}
+use Rattle.defs_row.specs.Row.{IsWritten, HasRow}
 use Rattle.defs_row.specs.Beginning.{BeginsButForKey}
 use Rattle.proof_ends.proofs.Texts.{no_nul_after}
 use Rattle.proof_lexers.specs.Separations.{begins_separation}
@@ -20,14 +20,15 @@ use Rattle.proof_row.proofs.Accounts.{same_flow}
 use Rattle.proof_row.proofs.Like.{LikeLine, LikeEntries, Stepped}
 use Rattle.proof_row.proofs.Lines.{separation_step}
 use Rattle.proof_row_sound.proofs.Sides.{with_entries}
+use Rattle.proof_row_complete.specs.Ways.{spelled_to, LeadsTo}
 use Rattle.proof_row_complete.proofs.Around.Markers.{marker_begins}
 use Rattle.proof_row_complete.proofs.Around.Asks.{waiting_goes_on}
 use Rattle.proof_row_complete.proofs.Nodes.Choices.{same_of}
 use Rattle.proof_row_complete.proofs.Steps.{step_here}
-use Rattle.proof_row_complete.proofs.WaitingKeys.{none_at_end}
+use Rattle.proof_row_complete.proofs.WaitingKeys.{near_stop}
 use Rattle.proof_refusals.specs.Certain.{TextsWithARowAreNotStuck}
-use Rattle.proof_refusals.specs.Stuck.{fails, key_waits}
-use Rattle.proof_refusals.proofs.NoRows.{failing_places_have_no_row}
+use Rattle.proof_refusals.specs.Stuck.{fails, no_key, key_waits}
+use Rattle.proof_refusals.proofs.NoRows.{failing_places_have_no_row, no_keyless_colon}
 use Rattle.proof_refusals.proofs.OtherRows.{With, Walked, Keeps, walk, row_walks}
 
 -- ---- columns
@@ -532,14 +533,14 @@ apart_after s ds es w c next a b q j e1 e2 = by (made s taken ds w next a e1) (m
 
 -- ---- as far as a beginning leads
 
-together_keeps : Keeps Together
+together_keeps : Keeps (λ x y _. Together x y)
 together_keeps x y a b v c next i p k e f = record {
   falls = falls_after x.site x.line x.entries v next a p.falls e;
   below = below_after x.site x.line y.line x.entries y.entries v c next a b i.1 i.2 p.falls p.below e (subst (λ s. account_past (with_entries s y.line y.entries) (With v c) next ≡ Some b) (sym i.0) f);
   on = waiting_past y.site y.line y.entries (With v c) next b p.on k f;
 }
 
-apart_keeps : (q : Position) → Keeps (Apart q)
+apart_keeps : (q : Position) → Keeps (λ x y _. Apart q x y)
 apart_keeps q x y a b v c next i p k e f =
     let lines : (a.line ≡ taken) × (b.line ≡ waits q) = apart_after x.site x.entries y.entries v c next a b q i.2
     (subst (λ l. account_past (with_entries x.site l x.entries) v next ≡ Some a) p.none e)
@@ -563,8 +564,8 @@ key_on_its_line text separation rest begin here a r g filled here_is late some s
     after : List ℕ
     after = separation ++ rest
 
-    first : Walked Together g.account (spelled g.steps after)
-    first = row_walks Together together_keeps first_together text (spelled g.steps after) g.account r g.begins row
+    first : Walked (λ x y _. Together x y) g.account (spelled g.steps after)
+    first = row_walks (λ x y _. Together x y) together_keeps text (spelled g.steps after) g.account r first_together g.begins row
 
     like : LikeLine (waits begin) first.account.line
     like = subst (λ l. LikeLine l first.account.line) g.line_is first.is_like.1
@@ -580,22 +581,23 @@ key_on_its_line text separation rest begin here a r g filled here_is late some s
         none : Account
         none = record { site = g.account.site; line = taken; entries = g.account.entries }
 
-        second : Walked (Apart q) a after
-        second = walk (Apart q) (apart_keeps q) g.steps first.steps after first.last none first.account a (first.is_like.0, subst (λ l. LikeLine taken l) (sym e) tt, first.is_like.2)
+        second : Walked (λ x y _. Apart q x y) a after
+        second = walk (λ x y _. Apart q x y) (apart_keeps q) g.steps first.steps after first.stop none first.account a first.is_over (first.is_like.0, subst (λ l. LikeLine taken l) (sym e) tt, first.is_like.2)
             (record { none = refl; one = e; on = first.holds.on q e }) g.leads first.is_row (sym first.spells) first.is_clean
 
         z : Account
         z = second.account
 
-        ends : (ws : List Step) → IsRowFrom (Some z) ws second.last → spelled ws second.last ≡ after → ⊥
-        ends [] k f = none_at_end z second.last q second.holds.one k
+        ends : (ws : List Step) → LeadsTo (Some z) ws second.stop → spelled_to ws second.stop ≡ after → ⊥
+        ends [] k f = absurd (cc (second.is_over, (near_stop z second.stop q second.holds.one k).goes_on))
         ends (w ∷ ws) k f =
-            let at : (w.separation ≡ separation) × (w.piece ++ spelled ws second.last ≡ rest) = step_here z w ws second.last separation rest k f filled solid (no_nul_after separation rest second.is_clean) in
-            let unbroken : begins_free_line z.site.before separation ≡ false = subst (λ x. begins_free_line z.site.before x ≡ false) at.0 (waiting_goes_on z (w ∷ ws) second.last q second.holds.one k).1 in
+            let at : (w.separation ≡ separation) × (w.piece ++ spelled_to ws second.stop ≡ rest) = step_here z w (spelled_to ws second.stop) separation rest k.0 f filled solid (no_nul_after separation rest second.is_clean) in
+            let unbroken : begins_free_line z.site.before separation ≡ false = subst (λ x. begins_free_line z.site.before x ≡ false) at.0 (waiting_goes_on z (w ∷ ws) second.stop q second.holds.one k).1 in
             let line : here.line ≡ q.line = ap (λ (p : Position). p.line) here_is ∙ (ap (λ (s : Site). (position_after s.position separation rest).line) second.is_like.0 ∙ (here_on q z.site separation rest second.holds.on unbroken).0) in
             let own : begin.line ≡ q.line = ap (λ (p : Position). p.line) begin_is in
             omega (arith, late, line, own)
 
 pub texts_with_a_row_are_not_stuck : TextsWithARowAreNotStuck
-texts_with_a_row_are_not_stuck text why at r row certain (fails a separation rest here place some solid f) = failing_places_have_no_row text separation rest a here at why r place solid some f certain row
-texts_with_a_row_are_not_stuck text why at r row certain (key_waits a separation rest begin here g flowing filled here_is late some solid f) = key_on_its_line text separation rest begin here a r g filled here_is late some solid row
+texts_with_a_row_are_not_stuck text why at r row (fails a separation rest why2 here at2 place some solid f) = failing_places_have_no_row text separation rest a here at why r place solid some f row
+texts_with_a_row_are_not_stuck text why at r row (no_key a separation more here place is out line none) = no_keyless_colon text separation more a here r place is out line none row
+texts_with_a_row_are_not_stuck text why at r row (key_waits a separation rest why2 begin here at2 g flowing filled here_is late some solid f) = key_on_its_line text separation rest begin here a r g filled here_is late some solid row

@@ -3,9 +3,6 @@ pub mod Faults
 pub mod Fetches
 pub mod Indicators
 pub mod KeysThatWait
-pub mod LastTokens
-pub mod MarginKeys
-pub mod Margins
 pub mod NoRows
 pub mod Nodes
 pub mod OtherFaults
@@ -21,9 +18,11 @@ pub mod Quotes
 pub mod Refusals
 pub mod Rolled
 pub mod Rows
+pub mod Shortens
 pub mod Spaces
 pub mod StandsRefused
 pub mod Tabs
 pub mod TabsAfterQuoted
 pub mod TabsAfterColon
 pub mod TextsRefused
+pub mod Waiting

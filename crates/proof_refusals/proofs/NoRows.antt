@@ -1,24 +1,28 @@
 -- Where a condition of these kinds fails no row of the text goes on.
-use Rattle.std.proofs.Common.{◌≡◌, ℕ, List, ◌∷◌, ◌++◌, Bool, true, false}
+use Rattle.std.proofs.Common.{◌≡◌, ℕ, List, ◌∷◌, ◌++◌, Bool, true, false, refl, ap, ◌∙◌}
+use Rattle.defs_text.specs.Classes as classes
 use Rattle.defs_text.specs.Classes.{tab}
-use Rattle.defs_text.specs.Position.{Position}
+use Rattle.defs_text.specs.Position.{Position, position_after}
 use Rattle.defs_token.specs.Account.{is_adjacent, before_past}
+use Rattle.defs_row.specs.Step.{Row}
+use Rattle.defs_row.specs.Beginning.{IsPlace}
+use Rattle.defs_row.specs.Row.{HasRow}
 use Rattle.defs_row.specs.Indentation.{least_column}
 use Rattle.proof_cut.specs.PiecesRead.{comes_plain}
-use Rattle.defs_row.specs.Account.{Account, before_by, is_in_flow}
+use Rattle.defs_row.specs.Account.{Site, Account, before_by, is_in_flow}
 use Rattle.yaml_tokens.specs.declared.problem.Problem.{Problem}
-use Rattle.proof_refusals.specs.Certain.{is_certain, FailingPlacesHaveNoRow}
+use Rattle.proof_refusals.specs.Certain.{FailingPlacesHaveNoRow}
 use Rattle.proof_refusals.specs.NoPiece as none
 use Rattle.proof_refusals.specs.QuotedLines as quoted_lines
 use Rattle.proof_refusals.specs.QuotedLines.{AreNotIndented, IsQuotedFault}
 use Rattle.proof_refusals.specs.NoPiece.{NoPiece, IsNotQuoted, IsNoHeader, IsPlainFault, IsBlockFault, IsFollowed}
 use Rattle.proof_refusals.specs.Stuck as defs
-use Rattle.proof_refusals.specs.Stuck.{MayNotStand, Fails, site_at_place}
-use Rattle.proof_refusals.proofs.OtherRows.{StepAt, step_at}
+use Rattle.proof_refusals.specs.Stuck.{MayNotStand, Fails, HasNoKey, site_at_place, is_taken, is_value_here}
+use Rattle.proof_refusals.proofs.OtherRows.{StepAt, RowAt, row_at}
 use Rattle.proof_refusals.proofs.PiecesHere.{no_at_sign, no_backtick, no_percent, no_name, no_dash, no_bracket}
 use Rattle.proof_refusals.proofs.PlainsRefused.{no_column, no_dash as no_plain_dash, no_tab}
 use Rattle.proof_refusals.proofs.TextsRefused.{no_block_tab, no_tag, no_directive, no_block_header, no_quoted_text, no_quoted_lines}
-use Rattle.proof_refusals.proofs.StandsRefused.{no_tab_after_quoted, no_tabbed_line, no_dash_here, no_question_here, no_space_after, no_tab_after, no_late_colon, no_glued, no_glued_quoted}
+use Rattle.proof_refusals.proofs.StandsRefused.{no_tab_after_quoted, no_tabbed_line, no_dash_here, no_question_here, no_space_after, no_tab_after, no_colon_here, spaces_indent, no_late_colon, no_glued, no_glued_quoted}
 use Rattle.proof_refusals.proofs.PiecesRefused.{no_shallow, no_tabbed_dash, no_tabbed_colon, no_document_end, no_quoted_end, no_block_end}
 
 -- ---- kinds
@@ -57,22 +61,34 @@ none_other a separation rest here s why at (none.unquoted single more why2 e lac
 none_other a separation rest here s why at (none.headless style line after why2 at2 out e one ends lacks r) = no_block_header a separation rest here s style line after out e one ends lacks
 none_other a separation rest here s why at (none.undirected line after why2 at2 col e one ends lacks r) = no_directive a separation rest here s line after e one ends lacks
 
-stands_other : (a : Account) (separation rest : List ℕ) (here : Position) (s : StepAt a separation rest here) (why : Problem) (at : Position) → MayNotStand a separation here rest why at → is_certain why ≡ true → ⊥
-stands_other a separation rest here s why at (defs.shallow inside line left) h = no_shallow a separation rest here s inside line left
-stands_other a separation rest here s why at (defs.too_deep bracket more e is many) h = no_bracket a separation rest here s bracket more e is many
-stands_other a separation rest here s why at (defs.dash_in_flow more e gap inside) h = no_dash a separation rest here s more e gap inside
-stands_other a separation rest here s why at (defs.dash_not_free more e gap out line) h = no_dash_here a separation rest here s more e gap out line
-stands_other a separation rest here s why at (defs.colon_not_free more e is out line waits) h = cc h
-stands_other a separation rest here s why at (defs.key_on_earlier_line more begin x xs e is are takes had late) h = no_late_colon a separation rest here s more begin x xs e is are takes had late
-stands_other a separation rest here s why at (defs.tab_indents tab) h = no_tabbed_line a separation rest here s tab
-stands_other a separation rest here s why at (defs.tab_after_quoted single piece gap content e is fills goes_on solid tab) h = no_tab_after_quoted a separation rest here s single piece gap content e is fills goes_on solid tab
-stands_other a separation rest here s why at (defs.question_not_free more e gap out line) h = no_question_here a separation rest here s more e gap out line
+stands_other : (a : Account) (separation rest : List ℕ) (here : Position) (s : StepAt a separation rest here) (why : Problem) (at : Position) → MayNotStand a separation here rest why at → ⊥
+stands_other a separation rest here s why at (defs.shallow inside line left) = no_shallow a separation rest here s inside line left
+stands_other a separation rest here s why at (defs.too_deep bracket more e is many) = no_bracket a separation rest here s bracket more e is many
+stands_other a separation rest here s why at (defs.dash_in_flow more e gap inside) = no_dash a separation rest here s more e gap inside
+stands_other a separation rest here s why at (defs.dash_not_free more e gap out line) = no_dash_here a separation rest here s more e gap out line
+stands_other a separation rest here s why at (defs.key_on_earlier_line more begin x xs e is are takes had late) = no_late_colon a separation rest here s more begin x xs e is are takes had late
+stands_other a separation rest here s why at (defs.tab_indents tab) = no_tabbed_line a separation rest here s tab
+stands_other a separation rest here s why at (defs.tab_after_quoted single piece gap content e is fills goes_on solid tab) = no_tab_after_quoted a separation rest here s single piece gap content e is fills goes_on solid tab
+stands_other a separation rest here s why at (defs.question_not_free more e gap out line) = no_question_here a separation rest here s more e gap out line
+
+-- no row goes on at a colon for which no key waits, whatever begins one before
+pub no_keyless_colon : (text separation more : List ℕ) (a : Account) (here : Position) (r : Row) → IsPlace text a separation (58 ∷ more) here → is_value_here a separation more ≡ true → is_in_flow a.entries ≡ false → is_taken a separation ≡ true → HasNoKey text separation (58 ∷ more) here → HasRow text r → ⊥
+unfolding classes.is_blank classes.is_break
+no_keyless_colon text separation more a here r p is out line none row =
+    no_colon_here a separation (58 ∷ more) here s more refl is out line (λ q waits unbroken near.
+    none s.account q (record { begins = at.begins; is_filled = p.is_filled; is_here = p.is_here ∙ ap (λ (x : Site). position_after x.position separation (58 ∷ more)) s.is_like.0 }) waits unbroken near (spaces_indent a separation (58 ∷ more) here s))
+  where
+    at : RowAt text a separation (58 ∷ more) here
+    at = row_at text separation (58 ∷ more) a here r p refl refl row
+
+    s : StepAt a separation (58 ∷ more) here
+    s = at.step_at
 
 pub failing_places_have_no_row : FailingPlacesHaveNoRow
-failing_places_have_no_row text separation rest a here at why r p solid some f certain row = by f
+failing_places_have_no_row text separation rest a here at why r p solid some f row = by f
   where
     s : StepAt a separation rest here
-    s = step_at text separation rest a here r p solid some row
+    s = (row_at text separation rest a here r p solid some row).step_at
 
     by : Fails a separation here rest why at → ⊥
     by (defs.no_piece n) = none_other a separation rest here s why at n
@@ -80,4 +96,4 @@ failing_places_have_no_row text separation rest a here at why r p solid some f c
     by (defs.no_quoted single lacks n) = lines_other a separation rest here s single why at lacks n
     by (defs.no_block out n) = block_other a separation rest here s why at out n
     by (defs.followed n) = followed_other a separation rest here s why at n
-    by (defs.may_not_stand n) = stands_other a separation rest here s why at n certain
+    by (defs.may_not_stand n) = stands_other a separation rest here s why at n

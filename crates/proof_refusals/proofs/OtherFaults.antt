@@ -34,7 +34,7 @@ use Rattle.model_scanner.specs.Keys.{is_overdue, still, drop_stale, with_keys, s
 use Rattle.model_scanner.specs.Indents.{without_open, unroll_indent, unroll_non_block_indents, roll_indent, roll_one_col_indent}
 use Rattle.model_scanner.specs.Space.{between, skip, skip_to_next_token, skip_spaces, skip_yaml_whitespace, white}
 use Rattle.model_scanner.specs.Flow.{allow_key, increase_flow_level, deepened_flow, begin_flow, pass_indicator, fetch_flow_collection_start, ended_flow, end_flow, fetch_flow_collection_end, next_entry, end_entry, fetch_flow_entry}
-use Rattle.model_scanner.specs.Block.{last_property, at_margin, check_block_entry, check_dash, roll_entry, fetch_block_entry, begin_key, check_key_space, fetch_key, check_after_tab, check_value_space, opens_pair, paired, begin_pair, insert_key, begin_keyless_pair, begin_keyless_mapping, begin_keyless_value, value_of, fetch_value}
+use Rattle.model_scanner.specs.Block.{check_block_entry, check_dash, roll_entry, fetch_block_entry, begin_key, check_key_space, fetch_key, check_after_tab, check_value_space, opens_pair, paired, begin_pair, insert_key, begin_keyless_pair, begin_keyless_mapping, begin_keyless_value, value_of, fetch_value}
 use Rattle.model_scanner.specs.Document.{next_line, end_stream, fetch_stream_end, closed_key, begin_line, node_start, unled, context, after_plain, may_follow_quoted, check_after_quoted, fetch_directive, fetch_document_marker, check_document_end, fetch_document_end, fetch_anchor, fetch_tag, fetch_block_scalar, fetch_flow_scalar, fetch_plain_scalar}
 use Rattle.model_scanner.specs.Fetch.{fetch_token, comes_marker, fetch_indented, fetch_first_column, fetch_content, fetch_here}
 use Rattle.model_scanner.proofs.Holds as holds
@@ -76,8 +76,7 @@ use Rattle.proof_row_sound.specs.Arrives.{Arrives}
 use Rattle.proof_row_sound.proofs.WithoutOpen.{AreClosed, without_is}
 use Rattle.proof_refusals.specs.NoPiece as none
 use Rattle.proof_refusals.proofs.Faults.{Faults, fault, goes, read, in_turn, tried, checked, either}
-use Rattle.proof_refusals.proofs.LastTokens.{anything}
-use Rattle.proof_refusals.proofs.MarginKeys.{IsMargin, no_dash_after}
+use Rattle.proof_refusals.proofs.Passing.{anything}
 
 -- whether a fault is that one
 abbrev is_margin_fault : Fault → Bool
@@ -210,7 +209,7 @@ stale_other s = either (in_flow s) (λ _. goes) (λ _. by (list_any (is_overdue 
 
 -- ---- a token
 
-module _ (text : List ℕ) (t : ScannerState) (a : Arrives text t) (some : is_empty t.rest ≡ false) (margin : IsMargin t.held) where
+module _ (text : List ℕ) (t : ScannerState) (a : Arrives text t) (some : is_empty t.rest ≡ false) where
   clean_more : (c : ℕ) (more : List ℕ) → t.rest ≡ c ∷ more → has_no_nul more ≡ true
   clean_more c more e = (and_parts (not (is_nul c)) (has_no_nul more) (subst (λ r. has_no_nul r ≡ true) e a.is_clean)).1
 
@@ -298,21 +297,7 @@ module _ (text : List ℕ) (t : ScannerState) (a : Arrives text t) (some : is_em
 
   entry_never : Faults Other (check_block_entry t.held)
   unfolding check_block_entry
-  entry_never =
-      checked (in_flow t.held) (At problem.BlockEntryInFlow t.held.position) (λ _. refl) (λ o.
-      checked (not t.held.key_allowed) (At problem.BlockEntryNotAllowed t.held.position) (λ _. refl) (λ allowed. by (last_property t.held.tokens) refl (yes (is_empty t.held.flow) o) (yes t.held.key_allowed allowed)))
-    where
-      yes : (b : Bool) → not b ≡ false → b ≡ true
-      yes true e = refl
-      yes false e = absurd (cc e)
-
-      by : (o : Option Position) → last_property t.held.tokens ≡ o → is_empty t.held.flow ≡ true → t.held.key_allowed ≡ true → Faults Other (at_margin o t.held.position t.held)
-      by None e out allowed = goes
-      by (Some q) e out allowed =
-          checked ((t.held.position.col == 0) && (q.col == 0) && nat_lt 0 t.held.indent) (At problem.AnchorIndentation q) (λ all.
-          let parts = and_parts ((t.held.position.col == 0) && (q.col == 0)) (nat_lt 0 t.held.indent) all in
-          let columns = and_parts (t.held.position.col == 0) (q.col == 0) parts.0 in
-          absurd (no_dash_after text t a some out columns.0 parts.1 (margin out q e columns.1 parts.1) allowed)) (λ _. goes)
+  entry_never = checked (in_flow t.held) (At problem.BlockEntryInFlow t.held.position) (λ _. refl) (λ _. checked (not t.held.key_allowed) (At problem.BlockEntryNotAllowed t.held.position) (λ _. refl) (λ _. goes))
 
   dash_checked : (x : Whitespace) (u : ScannerState) → Faults Other (check_dash x u)
   unfolding check_dash
@@ -479,9 +464,9 @@ module _ (text : List ℕ) (t : ScannerState) (a : Arrives text t) (some : is_em
 
 -- ---- a fetch
 
-pub here_other : (text : List ℕ) (t : ScannerState) → Arrives text t → IsMargin t.held → Faults Other (fetch_here t)
+pub here_other : (text : List ℕ) (t : ScannerState) → Arrives text t → Faults Other (fetch_here t)
 unfolding fetch_here fetch_stream_end
-here_other text t a margin = either (peek t.rest == 0) (λ _. tried t (ended (record t.held { position = next_line t.held.position }))) (λ e. content_never text t a (goes_on_here t.rest e) margin)
+here_other text t a = either (peek t.rest == 0) (λ _. tried t (ended (record t.held { position = next_line t.held.position }))) (λ e. content_never text t a (goes_on_here t.rest e))
   where
     ended : (s : Held) → Faults Other (end_stream s)
     ended s = check_other (has_required s.keys) problem.KeyExpected s.position _ refl

@@ -58,7 +58,7 @@ stale_near s = either (in_flow s) (λ i. went (λ o. absurd (cc (o, ap not o, i)
     by true = refused
     by false = went (λ o k e. first s.keys k e)
 
-anything : {A : Type 0} (r : Result A Fault) → Holds (λ x. Unit {0}) r
+pub anything : {A : Type 0} (r : Result A Fault) → Holds (λ x. Unit {0}) r
 anything (Ok x) = went tt
 anything (Err f) = refused
 
@@ -104,7 +104,7 @@ module _ (text : List ℕ) (t : ScannerState) (s : Stands text t) (near : HasNea
       }
 
       by : Where (outside_key s.base.entries t.held.keys) t.held.position t.rest → IsStuck text problem.TabInBlockIndentation here
-      by (placed c may) = fails (chosen c [] t.held.keys s.base) (s.separation ++ d.passed) d.rest here (place c may) d.goes_on d.is_solid (may_not_stand (defs.tab_indents d.is_indented_by_tab))
+      by (placed c may) = fails (chosen c [] t.held.keys s.base) (s.separation ++ d.passed) d.rest problem.TabInBlockIndentation here here (place c may) d.goes_on d.is_solid (may_not_stand (defs.tab_indents d.is_indented_by_tab))
       by (behind x e must late) = on (is_empty t.held.flow) refl
         where
           on : (out : Bool) → is_empty t.held.flow ≡ out → IsStuck text problem.TabInBlockIndentation here
@@ -114,7 +114,7 @@ module _ (text : List ℕ) (t : ScannerState) (s : Stands text t) (near : HasNea
           on false i =
               let later = (not_before_after t.held.position d.passed d.rest).0 in
               let inside : is_empty s.base.entries ≡ false = sym (same_flow t.held.key_allowed (is_renewed s.base.site.before s.separation) t.held.flow t.held.keys s.base.entries s.are_entries) ∙ i in
-              key_waits (chosen false [] t.held.keys s.base) (s.separation ++ d.passed) d.rest x.position here
+              key_waits (chosen false [] t.held.keys s.base) (s.separation ++ d.passed) d.rest problem.TabInBlockIndentation x.position here here
               (subst (λ r. BeginsButForKey text r x.position (chosen false [] t.held.keys s.base)) (ap (λ r. s.separation ++ r) d.cut ∙ sym (append_assoc s.separation d.passed d.rest)) (s.carries [] x e must inside d.is_some))
               (ap not (entries_alike [] t.held.keys s.base.entries ∙ inside)) filled here_is (omega (arith, later, late)) d.goes_on d.is_solid (may_not_stand (defs.tab_indents d.is_indented_by_tab))
 

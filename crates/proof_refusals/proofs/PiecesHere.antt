@@ -12,7 +12,7 @@ use Rattle.defs_token.specs.Account.{is_adjacent}
 use Rattle.defs_token.specs.Account as pieces
 use Rattle.defs_token.specs.Piece.{IsPiece, is_name, goes_on_with_name}
 use Rattle.defs_token.specs.Token.{block_entry, flow_sequence_start, flow_mapping_start}
-use Rattle.defs_row.specs.Step.{act_of, is_marker, spelled}
+use Rattle.defs_row.specs.Step.{act_of, is_marker}
 use Rattle.defs_row.specs.FlowEntry.{Entry}
 use Rattle.defs_row.specs.Account.{Account, is_in_flow, level_of, seen}
 use Rattle.defs_row.specs.Tokens.{shown_position}
@@ -21,6 +21,7 @@ use Rattle.proof_ends.proofs.Begins.{Whole, context_of, directive_token}
 use Rattle.proof_row.proofs.Like.{LikeEntries}
 use Rattle.proof_row.proofs.Written as written
 use Rattle.proof_row.proofs.Written.{not_empty}
+use Rattle.proof_row_complete.specs.Ways.{spelled_to}
 use Rattle.proof_row_complete.proofs.Around.Markers.{marker_begins}
 use Rattle.proof_row_complete.proofs.KindsOfPieces.{kind_is}
 use Rattle.proof_refusals.specs.NoPiece as none
@@ -40,7 +41,7 @@ many_levels (e ∷ es) = ap suc (many_levels es)
 
 module _ (a : Account) (separation rest : List ℕ) (here : Position) (s : StepAt a separation rest here) where
   abbrev pub next : List ℕ
-  next = spelled s.steps s.last
+  next = spelled_to s.steps s.stop
 
   -- the account with which the piece is looked at
   abbrev pub acct : pieces.Account

@@ -15,16 +15,17 @@ use Rattle.defs_scalar.specs.Tags.{leading, after}
 use Rattle.defs_token.specs.Separation.{is_separation, is_blanks}
 use Rattle.defs_token.specs.Token.{Tok, document_end, block_entry, value, scalar, single_quoted, double_quoted}
 use Rattle.defs_token.specs.Token as tokens
-use Rattle.defs_row.specs.Step.{Step, act_of, is_marker, spelled, gives_node, gives_block_scalar, gives_marker}
+use Rattle.defs_row.specs.Step.{Step, act_of, is_marker, gives_node, gives_block_scalar, gives_marker}
 use Rattle.defs_row.specs.Column.{innermost, blocks_at}
 use Rattle.defs_row.specs.FlowEntry.{Entry}
 use Rattle.defs_row.specs.Indentation.{least_column, begins_entry, dash_may_precede, begins_with_alpha, colon_may_precede}
 use Rattle.defs_row.specs.Following.{line_is_done, are_empty, quoted_may_end, block_may_end, read_may_end, lines_may_end, may_precede}
 use Rattle.defs_row.specs.Account.{Site, Account, is_in_flow, site_in, site_at, level_of, seen, least_for, is_deep_enough, may_stand}
-use Rattle.defs_row.specs.Row.{IsWritten, IsRowFrom}
+use Rattle.defs_row.specs.Row.{IsWritten}
 use Rattle.defs_row.specs.Tokens.{content_position, shown_position}
 use Rattle.proof_lexers.specs.PlainEnds.{is_white}
 use Rattle.proof_lexers.specs.Separations.{begins_separation, has}
+use Rattle.proof_row_complete.specs.Ways.{Stop, spelled_to, LeadsTo}
 use Rattle.proof_row_complete.proofs.Around.Markers.{begins_document, BeginsLine, marker_begins}
 use Rattle.proof_row_complete.proofs.Scalars.AfterQuoted.{not_done}
 use Rattle.proof_row_sound.proofs.QuotedEnds.{blanks_alone, after_blanks}
@@ -34,9 +35,9 @@ use Rattle.proof_refusals.specs.NoPiece.{GoesOn, IsQuoted}
 use Rattle.proof_refusals.specs.Stuck.{site_at_place, begins_document_at}
 use Rattle.proof_refusals.proofs.OtherRows.{StepAt}
 
-pub refused : (x : Option Account) (b : Bool) (ws : List Step) (last : List ℕ) → b ≡ false → IsRowFrom (if b then x else None) ws last → ⊥
-refused x true ws last e k = absurd (cc e)
-refused x false ws last e k = k
+pub refused : (x : Option Account) (b : Bool) (ws : List Step) (stop : Stop) → b ≡ false → LeadsTo (if b then x else None) ws stop → ⊥
+refused x true ws stop e k = absurd (cc e)
+refused x false ws stop e k = k
 
 or_first : (x y : Bool) → x ≡ true → (x || y) ≡ true
 or_first true y e = refl
@@ -81,7 +82,7 @@ may_go a separation piece t next = may_precede (is_in_flow a.entries) (site_at (
 
 module _ (a : Account) (separation rest : List ℕ) (here : Position) (s : StepAt a separation rest here) where
   abbrev next : List ℕ
-  next = spelled s.steps s.last
+  next = spelled_to s.steps s.stop
 
   -- a step of a piece
   abbrev pub own : (piece : List ℕ) → Tok → Step
@@ -110,7 +111,7 @@ module _ (a : Account) (separation rest : List ℕ) (here : Position) (s : StepA
   no_step piece more t e some is no_more =
       let same = same_step piece more t e some is in
       let stays : may_go s.account s.step.separation s.step.piece s.step.shown next ≡ false = sym (same_go piece more t same) ∙ no_more in
-      refused _ (may_stand (is_in_flow s.account.entries) s.account.site (At s.account s.step next) s.step.separation s.step.piece s.step.shown next) s.steps s.last (and_last _ _ stays) s.is_row.1
+      refused _ (may_stand (is_in_flow s.account.entries) s.account.site (At s.account s.step next) s.step.separation s.step.piece s.step.shown next) s.steps s.stop (and_last _ _ stays) s.is_row.1
 
   flow_seen : (es : List Entry) → is_in_flow es ≡ false → not (is_empty (map level_of es)) ≡ false
   flow_seen [] h = refl
@@ -155,7 +156,7 @@ module _ (a : Account) (separation rest : List ℕ) (here : Position) (s : StepA
   too_shallow t x e f = ap (λ b. b || nat_le (least_for t x) x.position.col) e ∙ (let up = least_at_most t x in grind (arith, nat_tests, up, f))
 
   pub no_shallow : is_in_flow a.entries ≡ true → begins_document_at here rest ≡ false → nat_le (least_column (site_at_place a here).blocks (site_at_place a here).awaits) here.col ≡ false → ⊥
-  no_shallow inside none left = refused _ (may_stand (is_in_flow s.account.entries) s.account.site there s.step.separation s.step.piece s.step.shown next) s.steps s.last (stands_not _ _ _ _ deep) s.is_row.1
+  no_shallow inside none left = refused _ (may_stand (is_in_flow s.account.entries) s.account.site there s.step.separation s.step.piece s.step.shown next) s.steps s.stop (stands_not _ _ _ _ deep) s.is_row.1
     where
       inside_there : is_in_flow s.account.entries ≡ true
       inside_there = sym (same_flow a.entries s.account.entries s.is_like.2) ∙ inside

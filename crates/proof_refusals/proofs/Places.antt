@@ -73,7 +73,7 @@ module _ (text : List ℕ) (t : ScannerState) (a : Arrives text t) (some : is_em
   pub in_flow_is : (c : Bool) (cs : List Bool) → is_in_flow (account_by c cs).entries ≡ in_flow t.held
   in_flow_is c cs = ap not (entries_alike cs t.held.keys a.base.entries ∙ sym (same_flow t.held.key_allowed _ t.held.flow t.held.keys a.base.entries a.are_entries))
 
-  place : (c : Bool) (cs : List Bool) → MayChoose c (outside_key a.base.entries t.held.keys) t.held.position t.rest → IsPlace text (account_by c cs) a.separation t.rest t.held.position
+  pub place : (c : Bool) (cs : List Bool) → MayChoose c (outside_key a.base.entries t.held.keys) t.held.position t.rest → IsPlace text (account_by c cs) a.separation t.rest t.held.position
   place c cs may = record { begins = (a.completes c cs may).0; is_filled = a.is_filled; is_here = a.position_is }
 
   -- Outside flow a choice of keys is one that is allowed.
@@ -85,14 +85,14 @@ module _ (text : List ℕ) (t : ScannerState) (a : Arrives text t) (some : is_em
   stuck cs why at h = by (where_is (outside_key a.base.entries t.held.keys) t.held.position t.rest some)
     where
       by : Where (outside_key a.base.entries t.held.keys) t.held.position t.rest → IsStuck text why at
-      by (placed c may) = fails (account_by c cs) a.separation t.rest t.held.position (place c cs may) some a.is_solid (h c (λ _. may))
+      by (placed c may) = fails (account_by c cs) a.separation t.rest why t.held.position at (place c cs may) some a.is_solid (h c (λ _. may))
       by (behind x e must late) = on (is_empty t.held.flow) refl
         where
           on : (out : Bool) → is_empty t.held.flow ≡ out → IsStuck text why at
           on true o = let near : IsNear (Some x) t.held.position = subst (λ k. IsNear k t.held.position) e (a.is_near o) in absurd (omega (arith, near.0, late))
           on false i =
               let entries : is_empty a.base.entries ≡ false = sym (same_flow t.held.key_allowed _ t.held.flow t.held.keys a.base.entries a.are_entries) ∙ i in
-              key_waits (account_by false cs) a.separation t.rest x.position t.held.position (a.carries cs x e must entries some) (in_flow_is false cs ∙ ap not i) a.is_filled a.position_is late some a.is_solid (h false (λ o. absurd (cc (o, i))))
+              key_waits (account_by false cs) a.separation t.rest why x.position t.held.position at (a.carries cs x e must entries some) (in_flow_is false cs ∙ ap not i) a.is_filled a.position_is late some a.is_solid (h false (λ o. absurd (cc (o, i))))
 
   -- what follows the piece that begins here is what the text is stuck by
   pub followed_stuck : (why : Problem) (at : Position) → IsFollowed (in_flow t.held) t.held.position t.rest why at → IsStuck text why at

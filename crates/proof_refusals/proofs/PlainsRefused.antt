@@ -11,7 +11,7 @@ use Rattle.defs_token.specs.Plain.{Stand, inside, after_blank, on_line, past, pa
 use Rattle.defs_token.specs.Separation.{is_blanks}
 use Rattle.defs_token.specs.Token.{Tok, scalar}
 use Rattle.defs_token.specs.Token as tokens
-use Rattle.defs_row.specs.Step.{spelled, act_of}
+use Rattle.defs_row.specs.Step.{act_of}
 use Rattle.defs_row.specs.Column.{innermost}
 use Rattle.defs_row.specs.Indentation.{least_column}
 use Rattle.defs_row.specs.Lines.{plain_lines_fit, ends_with_dash, has_dash_before_flow}
@@ -29,6 +29,7 @@ use Rattle.proof_row.proofs.Accounts.{same_flow}
 use Rattle.proof_row.proofs.Written.{At}
 use Rattle.proof_row_sound.specs.Stands.{is_at_comment_or_end}
 use Rattle.proof_row_sound.proofs.PlainLines.{Spot, in_text, at, tabbed, spot_past, past_spot, may_go, tabs_fit}
+use Rattle.proof_row_complete.specs.Ways.{spelled_to}
 use Rattle.proof_row_complete.proofs.Nodes.Plains.{Gap, gap_of, after_gap, gap_clear, Comes, comes, dashed, comes_by, no_marker}
 use Rattle.proof_row_complete.proofs.Nodes.PlainScans.{stops_after, stand_over, stand_content}
 use Rattle.proof_row_complete.proofs.Nodes.PlainTexts.{IsClearGap, plain_tabs}
@@ -243,7 +244,7 @@ module _ (column : ℕ) (left : List ℕ) (solid : begins_white left ≡ false) 
 
 module _ (a : Account) (separation rest : List ℕ) (here : Position) (s : StepAt a separation rest here) (comes_here : comes_plain (is_in_flow a.entries) (is_adjacent (before_past (before_by a.site.before) separation)) here.col rest ≡ true) where
   abbrev next : List ℕ
-  next = spelled s.steps s.last
+  next = spelled_to s.steps s.stop
 
   abbrev seen_here : pieces.Account
   seen_here = acct a separation rest here s
@@ -343,7 +344,7 @@ module _ (a : Account) (separation rest : List ℕ) (here : Position) (s : StepA
           on false e = absurd (no_lines a separation rest here s (scalar tokens.plain plain_here.0) plain_here.2 refl e)
 
       clear : IsClearGap least g.gap g.rest
-      clear = gap_clear s.account s.step s.steps s.last plain_here.0 plain_here.2 s.is_row.1 least g.gap g.rest g.cut g.is_white clean (ap (λ (x : Site). least_column x.blocks true) site_is) (after_gap g.rest g.no_more)
+      clear = gap_clear s.account s.step s.steps s.stop plain_here.0 plain_here.2 s.is_row.1 least g.gap g.rest g.cut g.is_white clean (ap (λ (x : Site). least_column x.blocks true) site_is) (after_gap g.rest g.no_more)
 
       -- its first character is neither a blank nor a break
       solid_first : (d : ℕ) (r : List ℕ) → s.step.piece ≡ d ∷ r → (classes.is_blank d ≡ false) × (classes.is_break d ≡ false)

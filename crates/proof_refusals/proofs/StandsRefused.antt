@@ -12,15 +12,14 @@ use Rattle.defs_token.specs.Piece.{begins_with_space_or_break}
 use Rattle.defs_token.specs.Plain.{is_value_indicator}
 use Rattle.defs_token.specs.Separation.{is_separation}
 use Rattle.defs_token.specs.Token.{Tok, scalar, single_quoted, double_quoted, flow_sequence_start, flow_sequence_end, flow_mapping_start, flow_mapping_end, flow_entry}
-use Rattle.defs_row.specs.Step.{Step, gives_node, gives_dash, gives_question, gives_colon, act_of, spelled, quoted_scalar, previous_by}
-use Rattle.defs_row.specs.Column.{is_in_column}
+use Rattle.defs_row.specs.Step.{Step, gives_node, gives_dash, gives_question, gives_colon, act_of, quoted_scalar, previous_by}
+use Rattle.defs_row.specs.Column.{is_in_column, opened}
 use Rattle.defs_row.specs.FlowEntry as entry
 use Rattle.defs_row.specs.FlowEntry.{Entry, takes_pair, is_renewed, entries_past}
 use Rattle.defs_row.specs.Indentation.{awaits_past, is_indented_by_spaces, has_tab_before_piece}
 use Rattle.defs_row.specs.Following.{quoted_may_end, may_precede}
-use Rattle.defs_row.specs.Key.{Line, free, taken, waits, begins_free_line, line_past_separation, line_past}
+use Rattle.defs_row.specs.Key.{Line, free, taken, waits, begins_free_line, line_past_separation, is_near, line_past}
 use Rattle.defs_row.specs.Account.{Site, Account, before_by, is_in_flow, level_of, site_in, least_for, is_deep_enough, may_stand, on_one_line, past_outside, past_inside, past_piece}
-use Rattle.defs_row.specs.Row.{IsRowFrom}
 use Rattle.defs_row.specs.Lines.{further_lines_stand}
 use Rattle.proof_ends.specs.Ends.{Kind, kind_at, question, colon, dash, sequence_opening, sequence_closing, mapping_opening, mapping_closing, comma}
 use Rattle.proof_ends.proofs.Begins.{Whole, context_of}
@@ -31,6 +30,7 @@ use Rattle.proof_lexers.specs.Separations.{begins_separation, begins_white_space
 use Rattle.proof_row.proofs.Accounts.{same_flow}
 use Rattle.proof_row.proofs.Like.{LikeLine, LikeHad, LikeEntries}
 use Rattle.proof_row.proofs.Written.{At}
+use Rattle.proof_row_complete.specs.Ways.{Stop, spelled_to, LeadsTo}
 use Rattle.proof_row_complete.proofs.Nodes.Past.{NodePast, node_past}
 use Rattle.proof_row_complete.proofs.Steps.{ends_before, step_here}
 use Rattle.proof_refusals.specs.NoPiece.{GoesOn, IsQuoted, is_flow_indicator}
@@ -85,13 +85,39 @@ none_begins x piece t next again is_key (Some (waits q)) is h = by is
     by (inl e) = ap (λ k. past_outside x piece t next (line_past (is_in_column x.position.col x.blocks) x.position x.blocks k is_key (waits q))) e ∙ ap (past_outside x piece t next) (dash_key is_key)
     by (inr e) = ap (λ k. past_outside x piece t next (line_past (is_in_column x.position.col x.blocks) x.position x.blocks k is_key (waits q))) e ∙ ap (past_outside x piece t next) (question_key is_key)
 
+-- a colon on a line that is taken ends a key that waits, if that is near
+none_ends : (x : Site) (piece : List ℕ) (t : Tok) (next : List ℕ) (again is_key : Bool) (o : Option Line) → act_of t ≡ gives_colon → is_taken_line o ≡ true → ((q : Position) → o ≡ Some (waits q) → is_near q x.position ≡ true → ⊥) → past_piece x piece t next again is_key o [] ≡ None
+none_ends x piece t next again is_key None is h none = absurd (cc h)
+none_ends x piece t next again is_key (Some free) is h none = absurd (cc h)
+none_ends x piece t next again is_key (Some taken) is h none = ap (λ k. past_outside x piece t next (line_past (is_in_column x.position.col x.blocks) x.position x.blocks k is_key taken)) is ∙ ap (past_outside x piece t next) (colon_key is_key)
+  where
+    colon_key : (k : Bool) → line_past (is_in_column x.position.col x.blocks) x.position x.blocks gives_colon k taken ≡ None
+    colon_key true = refl
+    colon_key false = refl
+none_ends x piece t next again is_key (Some (waits q)) is h none = ap (λ k. past_outside x piece t next (line_past (is_in_column x.position.col x.blocks) x.position x.blocks k is_key (waits q))) is ∙ ap (past_outside x piece t next) (colon_key is_key)
+  where
+    far : (b : Bool) → is_near q x.position ≡ b → b ≡ false
+    far true e = absurd (none q refl e)
+    far false e = refl
+
+    colon_key : (k : Bool) → line_past (is_in_column x.position.col x.blocks) x.position x.blocks gives_colon k (waits q) ≡ None
+    colon_key true = refl
+    colon_key false = ap (λ b. if b then Some (record { line = taken; blocks = opened q.col x.blocks }) else None) (far (is_near q x.position) refl)
+
+-- a key that waits after a separation waited before it, and no line ends there
+still_waits : (b : Bool) (l : Line) (q : Position) → line_past_separation false b l ≡ Some (waits q) → (l ≡ waits q) × (b ≡ false)
+still_waits false l q e = (cc e, refl)
+still_waits true free q e = absurd (cc e)
+still_waits true taken q e = absurd (cc e)
+still_waits true (waits p) q e = absurd (cc e)
+
 none_out : (es : List Entry) → is_in_flow es ≡ false → es ≡ []
 none_out [] h = refl
 none_out (e ∷ es) h = absurd (cc h)
 
-gone : (b : Bool) (piece : List ℕ) (x : Option Account) (ws : List Step) (last : List ℕ) → x ≡ None → IsRowFrom (if b then on_one_line piece x else None) ws last → ⊥
-gone true piece x ws last e k = subst (λ o. IsRowFrom (on_one_line piece o) ws last) e k
-gone false piece x ws last e k = k
+gone : (b : Bool) (piece : List ℕ) (x : Option Account) (ws : List Step) (stop : Stop) → x ≡ None → LeadsTo (if b then on_one_line piece x else None) ws stop → ⊥
+gone true piece x ws stop e k = subst (λ o. LeadsTo (on_one_line piece o) ws stop) e k
+gone false piece x ws stop e k = k
 
 first_fails : (x y z w : Bool) → x ≡ false → (x && y && z && w) ≡ false
 first_fails true y z w e = absurd (cc e)
@@ -152,13 +178,13 @@ quoted_token false value = scalar double_quoted value
 
 module _ (a : Account) (separation rest : List ℕ) (here : Position) (s : StepAt a separation rest here) where
   abbrev next : List ℕ
-  next = spelled s.steps s.last
+  next = spelled_to s.steps s.stop
 
   abbrev there : Site
   there = At s.account s.step next
 
   pub stands_not : may_stand (is_in_flow s.account.entries) s.account.site there s.step.separation s.step.piece s.step.shown next ≡ false → ⊥
-  stands_not e = refused _ (may_stand (is_in_flow s.account.entries) s.account.site there s.step.separation s.step.piece s.step.shown next) s.steps s.last e s.is_row.1
+  stands_not e = refused _ (may_stand (is_in_flow s.account.entries) s.account.site there s.step.separation s.step.piece s.step.shown next) s.steps s.stop e s.is_row.1
 
   third_fails : (x y z w : Bool) → z ≡ false → (x && y && z && w) ≡ false
   third_fails true true z w e = ap (λ b. b && w) e
@@ -216,7 +242,7 @@ module _ (a : Account) (separation rest : List ℕ) (here : Position) (s : StepA
 
   none_on_line : is_in_flow a.entries ≡ false → is_taken a separation ≡ true → (act_of s.step.shown ≡ gives_dash) ⊎ (act_of s.step.shown ≡ gives_question) → ⊥
   none_on_line out line is =
-      gone (may_stand (is_in_flow s.account.entries) s.account.site there s.step.separation s.step.piece s.step.shown next) s.step.piece _ s.steps s.last
+      gone (may_stand (is_in_flow s.account.entries) s.account.site there s.step.separation s.step.piece s.step.shown next) s.step.piece _ s.steps s.stop
       (ap (λ es. past_piece there s.step.piece s.step.shown next (is_renewed s.account.site.before s.step.separation) s.step.key (line_past_separation (is_in_flow es) (begins_free_line s.account.site.before s.step.separation) s.account.line) es) (no_entries out) ∙
       none_begins there s.step.piece s.step.shown next (is_renewed s.account.site.before s.step.separation) s.step.key _ is (taken_there line)) s.is_row.1
 
@@ -300,6 +326,25 @@ module _ (a : Account) (separation rest : List ℕ) (here : Position) (s : StepA
       colon_kind : (fl adjacent : Bool) (column : ℕ) → is_value_indicator fl adjacent more ≡ true → kind_at fl adjacent column (58 ∷ more) ≡ colon
       colon_kind fl adjacent column h = rw h refl
 
+  -- no colon stands on a line that is taken, where no key waits for it
+  pub no_colon_here : (more : List ℕ) → rest ≡ 58 ∷ more → is_value_here a separation more ≡ true → is_in_flow a.entries ≡ false → is_taken a separation ≡ true
+      → ((q : Position) → s.account.line ≡ waits q → begins_free_line s.account.site.before separation ≡ false → is_near q here ≡ true → ⊥) → ⊥
+  no_colon_here more e is out line none =
+      let w : Here colon = colon_here more e is in
+      gone (may_stand (is_in_flow s.account.entries) s.account.site there s.step.separation s.step.piece s.step.shown next) s.step.piece _ s.steps s.stop
+      (ap (λ es. past_piece there s.step.piece s.step.shown next (is_renewed s.account.site.before s.step.separation) s.step.key (line_past_separation (is_in_flow es) (begins_free_line s.account.site.before s.step.separation) s.account.line) es) (no_entries out) ∙
+      none_ends there s.step.piece s.step.shown next (is_renewed s.account.site.before s.step.separation) s.step.key _ (ap act_of w.2) (taken_there line) (λ q i near.
+      let waited = still_waits (begins_free_line s.account.site.before s.step.separation) s.account.line q i in
+      none q waited.0 (subst (λ f. begins_free_line s.account.site.before f ≡ false) s.separation_is waited.1) (subst (λ p. is_near q p ≡ true) s.position_is near))) s.is_row.1
+
+  -- no TAB indents the line of the row's piece
+  pub spaces_indent : is_indented_by_spaces s.account.site.before s.account.site.blocks s.account.site.awaits separation ≡ true
+  spaces_indent = by (is_indented_by_spaces a.site.before a.site.blocks a.site.awaits separation) refl
+    where
+      by : (b : Bool) → is_indented_by_spaces a.site.before a.site.blocks a.site.awaits separation ≡ b → is_indented_by_spaces s.account.site.before s.account.site.blocks s.account.site.awaits separation ≡ true
+      by true e = ap (λ (x : Site). is_indented_by_spaces x.before x.blocks x.awaits separation) (sym s.is_like.0) ∙ e
+      by false e = absurd (no_tabbed_line e)
+
   pub no_late_colon : (more : List ℕ) (begin : Position) (e : Entry) (es : List Entry) → rest ≡ 58 ∷ more → is_value_here a separation more ≡ true → a.entries ≡ e ∷ es → takes_pair e.kind e.pair ≡ true → e.had ≡ entry.waits begin → begin.line < here.line → ⊥
   no_late_colon more begin e es cut is are takes had late = by s.account.entries refl (subst (λ ds. LikeEntries ds s.account.entries) are s.is_like.2)
     where
@@ -315,7 +360,7 @@ module _ (a : Account) (separation rest : List ℕ) (here : Position) (s : StepA
       by : (fs : List Entry) → s.account.entries ≡ fs → LikeEntries (e ∷ es) fs → ⊥
       by [] i like = like
       by (d ∷ ds) i like =
-          gone (may_stand (is_in_flow s.account.entries) s.account.site there s.step.separation s.step.piece s.step.shown next) s.step.piece _ s.steps s.last
+          gone (may_stand (is_in_flow s.account.entries) s.account.site there s.step.separation s.step.piece s.step.shown next) s.step.piece _ s.steps s.stop
           (ap (λ z. past_piece there s.step.piece s.step.shown next (is_renewed s.account.site.before s.step.separation) s.step.key (line_past_separation (is_in_flow z) (begins_free_line s.account.site.before s.step.separation) s.account.line) z) i ∙
           none_past (line_past_separation true (begins_free_line s.account.site.before s.step.separation) s.account.line)) s.is_row.1
         where
@@ -414,8 +459,8 @@ module _ (a : Account) (separation rest : List ℕ) (here : Position) (s : StepA
       act : act_of s.step.shown ≡ gives_node
       act = ap act_of (sym same.0) ∙ (node_token single (value_of single piece (gap ++ content) is)).0
 
-      then : NodePast s.account s.step next s.steps s.last
-      then = node_past s.account s.step s.steps s.last act s.is_row.1
+      then : NodePast s.account s.step next s.steps s.stop
+      then = node_past s.account s.step s.steps s.stop act s.is_row.1
 
       clean : has_no_nul content ≡ true
       clean = no_nul_after gap content (no_nul_after piece (gap ++ content) (ap has_no_nul (sym e) ∙ s.is_clean))
@@ -436,11 +481,11 @@ module _ (a : Account) (separation rest : List ℕ) (here : Position) (s : StepA
           ap (λ b. is_indented_by_spaces b then.after.site.blocks then.after.site.awaits gap) before_is ∙ (ap (λ bs. is_indented_by_spaces quoted_scalar bs then.after.site.awaits gap) blocks_are ∙
           (ap (λ w. is_indented_by_spaces quoted_scalar (site_at_place a here).blocks w gap) awaits_is ∙ tabbed_there))
 
-      by : (ws : List Step) → IsRowFrom (Some then.after) ws s.last → spelled ws s.last ≡ gap ++ content → ⊥
+      by : (ws : List Step) → LeadsTo (Some then.after) ws s.stop → spelled_to ws s.stop ≡ gap ++ content → ⊥
       by [] row cut =
-          let ends = separations s.last gap [] content (row.0, refl) (fills, ends_before content solid clean) (append-nil s.last ∙ cut) in
-          cc (some, ap is_empty ends.1)
+          let ends = separations s.stop.separation gap s.stop.rest content (s.stop.is_filled, s.stop.is_solid) (fills, ends_before content solid clean) cut in
+          cc (some, ap is_empty ends.1, s.is_over)
       by (v ∷ vs) row cut =
-          let there_is = step_here then.after v vs s.last gap content row cut fills solid clean in
-          refused _ (may_stand (is_in_flow then.after.entries) then.after.site (At then.after v (spelled vs s.last)) v.separation v.piece v.shown (spelled vs s.last)) vs s.last
+          let there_is = step_here then.after v (spelled_to vs s.stop) gap content row.0 cut fills solid clean in
+          refused _ (may_stand (is_in_flow then.after.entries) then.after.site (At then.after v (spelled_to vs s.stop)) v.separation v.piece v.shown (spelled_to vs s.stop)) vs s.stop
           (first_fails (is_indented_by_spaces then.after.site.before then.after.site.blocks then.after.site.awaits v.separation) _ _ _ (ap (λ f. is_indented_by_spaces then.after.site.before then.after.site.blocks then.after.site.awaits f) there_is.0 ∙ tabbed_then)) row.1

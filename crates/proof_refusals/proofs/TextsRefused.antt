@@ -16,7 +16,6 @@ use Rattle.defs_token.specs.Account as pieces
 use Rattle.defs_token.specs.Account.{is_adjacent}
 use Rattle.defs_token.specs.Plain.{begins_flow}
 use Rattle.defs_token.specs.Token.{scalar, single_quoted, double_quoted}
-use Rattle.defs_row.specs.Step.{spelled}
 use Rattle.defs_row.specs.Column.{innermost}
 use Rattle.defs_row.specs.Following.{lines_may_end, read_may_end, block_may_end, may_precede}
 use Rattle.defs_row.specs.Indentation.{least_column}
@@ -42,6 +41,7 @@ use Rattle.proof_lexers.proofs.Properties.TagReads.{tags_are_read}
 use Rattle.proof_lexers.proofs.Properties.Tags.{word, leading_all, same_end, alpha_starts, decoded_some}
 use Rattle.proof_lexers.proofs.Properties.Uris.{uris_are_read}
 use Rattle.proof_row.proofs.Written as written
+use Rattle.proof_row_complete.specs.Ways.{spelled_to}
 use Rattle.proof_refusals.specs.NoPiece.{quote_of, HasNoQuoted}
 use Rattle.proof_refusals.specs.QuotedLines.{AreNotIndented}
 use Rattle.proof_refusals.specs.Stuck.{site_at_place}
@@ -274,7 +274,7 @@ unbroken folded = refl
 
 module _ (a : Account) (separation rest : List ℕ) (here : Position) (s : StepAt a separation rest here) where
   abbrev next : List ℕ
-  next = spelled s.steps s.last
+  next = spelled_to s.steps s.stop
 
   abbrev Here : Kind → Type 0
   Here k = Whole k (context_of (acct a separation rest here s)) s.step.piece next s.step.shown

@@ -1,5 +1,5 @@
 -- Places where no row of the text goes on, by the definitions alone.
-use Rattle.std.specs.Prelude.{◌≡◌, ℕ, List, Bool, true, false}
+use Rattle.std.specs.Prelude.{◌≡◌, ℕ, List, false}
 use Rattle.defs_text.specs.Position.{Position}
 use Rattle.defs_text.specs.Text.{is_empty}
 use Rattle.defs_row.specs.Step.{Row}
@@ -7,21 +7,14 @@ use Rattle.defs_row.specs.Account.{Account}
 use Rattle.defs_row.specs.Row.{HasRow}
 use Rattle.defs_row.specs.Beginning.{IsPlace}
 use Rattle.yaml_tokens.specs.declared.problem.Problem.{Problem}
-use Rattle.yaml_tokens.specs.declared.problem.Problem.TheVariants as problem
 use Rattle.proof_lexers.specs.Separations.{begins_separation}
 use Rattle.proof_refusals.specs.Stuck.{Fails, IsStuck}
-
--- Whether it is proved of a kind that no row goes on where it fails: of all but this one. An empty key may not begin on a line that a node has taken; but the node may be the key that the colon ends.
-abbrev pub is_certain : Problem → Bool
-is_certain problem.ValueNotAllowed = false
-is_certain _ = true
 
 -- `failing_places_have_no_row`: whatever beginning of a row led to the place
 abbrev pub FailingPlacesHaveNoRow : Type 0
 FailingPlacesHaveNoRow =
-    (text separation rest : List ℕ) (a : Account) (here at : Position) (why : Problem) (r : Row) → IsPlace text a separation rest here → begins_separation rest ≡ false → is_empty rest ≡ false → Fails a separation here rest why at → is_certain why ≡ true
-    → HasRow text r → ⊥
+    (text separation rest : List ℕ) (a : Account) (here at : Position) (why : Problem) (r : Row) → IsPlace text a separation rest here → begins_separation rest ≡ false → is_empty rest ≡ false → Fails a separation here rest why at → HasRow text r → ⊥
 
 -- `texts_with_a_row_are_not_stuck`
 abbrev pub TextsWithARowAreNotStuck : Type 0
-TextsWithARowAreNotStuck = (text : List ℕ) (why : Problem) (at : Position) (r : Row) → HasRow text r → is_certain why ≡ true → IsStuck text why at → ⊥
+TextsWithARowAreNotStuck = (text : List ℕ) (why : Problem) (at : Position) (r : Row) → HasRow text r → IsStuck text why at → ⊥

@@ -9,7 +9,7 @@ use Rattle.defs_token.specs.Account.{is_adjacent, before_past}
 use Rattle.defs_token.specs.Plain.{is_value_indicator}
 use Rattle.defs_row.specs.Step.{gives_node, quoted_scalar}
 use Rattle.defs_row.specs.Indentation.{least_column, is_indented_by_spaces}
-use Rattle.defs_row.specs.Key.{Line, taken, waits, is_waiting, begins_free_line, line_past_separation}
+use Rattle.defs_row.specs.Key.{Line, taken, waits, is_near, begins_free_line, line_past_separation}
 use Rattle.defs_row.specs.FlowEntry.{Entry}
 use Rattle.defs_row.specs.FlowEntry as entry
 use Rattle.defs_row.specs.Account.{Site, Account, before_by, is_in_flow, site_in}
@@ -57,8 +57,6 @@ pub data MayNotStand (a : Account) (separation : List ℕ) (here : Position) (re
   dash_in_flow : (more : List ℕ) → rest ≡ 45 ∷ more → is_at_gap more ≡ true → is_in_flow a.entries ≡ true → MayNotStand a separation here rest problem.BlockEntryInFlow here
   -- outside flow entries and explicit keys do not begin on a line that is taken
   dash_not_free : (more : List ℕ) → rest ≡ 45 ∷ more → is_at_gap more ≡ true → is_in_flow a.entries ≡ false → is_taken a separation ≡ true → MayNotStand a separation here rest problem.BlockEntryNotAllowed here
-  -- nor does an empty key, where no key waits for the colon
-  colon_not_free : (more : List ℕ) → rest ≡ 58 ∷ more → is_value_here a separation more ≡ true → is_in_flow a.entries ≡ false → is_taken a separation ≡ true → is_waiting a.line ≡ false → MayNotStand a separation here rest problem.ValueNotAllowed here
   -- the key of a single pair begins on the line of its colon
   key_on_earlier_line : (more : List ℕ) (begin : Position) (e : Entry) (es : List Entry) → rest ≡ 58 ∷ more → is_value_here a separation more ≡ true → a.entries ≡ e ∷ es → entry.takes_pair e.kind e.pair ≡ true → e.had ≡ entry.waits begin → begin.line < here.line
       → MayNotStand a separation here rest problem.ColonMisplaced here
@@ -80,8 +78,16 @@ pub data Fails (a : Account) (separation : List ℕ) (here : Position) (rest : L
   followed : IsFollowed (is_in_flow a.entries) here rest why at → Fails a separation here rest why at
   may_not_stand : MayNotStand a separation here rest why at → Fails a separation here rest why at
 
+-- Whether no key waits at a place: of no beginning up to there one that is on this line and near, where no TAB indents what comes.
+abbrev pub HasNoKey : (text separation rest : List ℕ) → (here : Position) → Type 0
+HasNoKey text separation rest here =
+    (b : Account) (begin : Position) → IsPlace text b separation rest here → b.line ≡ waits begin → begins_free_line b.site.before separation ≡ false → is_near begin here ≡ true → is_indented_by_spaces b.site.before b.site.blocks b.site.awaits separation ≡ true → ⊥
+
 -- A text is stuck: a row may begin with all pieces up to a place, and what stands there fails. Or a row may begin so but for a key that must be one, inside a flow collection that has gone on to a later line, and what stands there fails.
-pub data IsStuck (text : List ℕ) (why : Problem) (at : Position) : Type 0 where
-  fails : (a : Account) (separation rest : List ℕ) (here : Position) → IsPlace text a separation rest here → is_empty rest ≡ false → begins_separation rest ≡ false → Fails a separation here rest why at → IsStuck text why at
-  key_waits : (a : Account) (separation rest : List ℕ) (begin here : Position) → BeginsButForKey text (separation ++ rest) begin a → is_in_flow a.entries ≡ true → is_separation false separation rest ≡ true → here ≡ position_after a.site.position separation rest → begin.line < here.line
+pub data IsStuck (text : List ℕ) : Problem → Position → Type 0 where
+  fails : (a : Account) (separation rest : List ℕ) (why : Problem) (here at : Position) → IsPlace text a separation rest here → is_empty rest ≡ false → begins_separation rest ≡ false → Fails a separation here rest why at → IsStuck text why at
+  -- or outside flow a colon stands on a line that is taken, so that no empty key begins there, and no key waits for it, whatever begins one before
+  no_key : (a : Account) (separation more : List ℕ) (here : Position) → IsPlace text a separation (58 ∷ more) here → is_value_here a separation more ≡ true → is_in_flow a.entries ≡ false → is_taken a separation ≡ true → HasNoKey text separation (58 ∷ more) here
+      → IsStuck text problem.ValueNotAllowed here
+  key_waits : (a : Account) (separation rest : List ℕ) (why : Problem) (begin here at : Position) → BeginsButForKey text (separation ++ rest) begin a → is_in_flow a.entries ≡ true → is_separation false separation rest ≡ true → here ≡ position_after a.site.position separation rest → begin.line < here.line
       → is_empty rest ≡ false → begins_separation rest ≡ false → Fails a separation here rest why at → IsStuck text why at

@@ -10,12 +10,12 @@ pub fn refused_texts_are_stuck()
     ensures { RefusedTextsAreStuck }
 {}
 
-/// Where a condition of any kind but `ValueNotAllowed` fails, after whatever beginning of a row, the text has no row.
+/// Where a condition fails, after whatever beginning of a row, the text has no row.
 pub fn failing_places_have_no_row()
     ensures { FailingPlacesHaveNoRow }
 {}
 
-/// A text that has a row is stuck nowhere, for any kind of fault but `ValueNotAllowed`.
+/// A text that has a row is stuck nowhere.
 pub fn texts_with_a_row_are_not_stuck()
     ensures { TextsWithARowAreNotStuck }
 {}

@@ -9,6 +9,7 @@ use Rattle.model_scanner.specs.Space.{skip_to_next_token}
 use Rattle.model_scanner.specs.Document.{fetch_stream_start}
 use Rattle.model_scanner.specs.Fetch.{fetch_here, fetch_next, fetch}
 use Rattle.proof_cut.specs.Stands.{FaresAt}
+use Rattle.proof_row_complete.specs.Ways.{Stop}
 use Rattle.proof_row_complete.specs.Goes.{Succeeds, Goes, GoesHere, FetchReads, IsComplete}
 use Rattle.proof_row_complete.specs.EachReads.{EachReads}
 use Rattle.proof_row_complete.proofs.Runs.{read_by_row}
@@ -19,7 +20,7 @@ use Rattle.proof_row_complete.proofs.Around.Choosing.{chooses}
 use Rattle.proof_row_complete.proofs.Around.Ending.{ends, stays_over}
 use Rattle.proof_row_complete.proofs.Documents.Marks.{document_start_reads, document_end_reads, directive_reads}
 use Rattle.proof_row_complete.proofs.Indicators.Colons.{colon_reads}
-use Rattle.proof_row_complete.proofs.Indicators.Margins.{dash_reads}
+use Rattle.proof_row_complete.proofs.Indicators.Dashes.{dash_reads}
 use Rattle.proof_row_complete.proofs.Indicators.FlowMarks.{comma_reads, close_bracket_reads, close_brace_reads}
 use Rattle.proof_row_complete.proofs.Indicators.Openings.{open_bracket_reads, open_brace_reads}
 use Rattle.proof_row_complete.proofs.Indicators.Questions.{question_reads}
@@ -38,18 +39,18 @@ then_on {B = B} (Ok u) s f k = by (s u)
     by (Err e) = refl
 
 -- a fetch, if what it does at the next piece goes on so
-fetched : (text : List ℕ) (ws : List Step) (last : List ℕ) (t : ScannerState) (P : ScannerState → Type 0) → FaresAt text t → Goes text ws last t → ((v : ScannerState) → FaresAt text v → GoesHere text ws last v → Succeeds P (fetch_here v >>= λ w. try_held stale w)) → Succeeds P (fetch t)
+fetched : (text : List ℕ) (ws : List Step) (stop : Stop) (t : ScannerState) (P : ScannerState → Type 0) → FaresAt text t → Goes text ws stop t → ((v : ScannerState) → FaresAt text v → GoesHere text ws stop v → Succeeds P (fetch_here v >>= λ w. try_held stale w)) → Succeeds P (fetch t)
 unfolding fetch fetch_next
-fetched text ws last t P k g go =
+fetched text ws stop t P k g go =
     subst (λ b. Succeeds P (if b then fetch_next t else Ok (fetch_stream_start t))) (sym g.stands.started)
     (subst (λ r. Succeeds P r) (sym (then_on (skip_to_next_token t) (λ u. try_held stale u) (λ v. on_held (λ s. unroll_indent (s.position.col + 1) s) v) (λ v. fetch_here v >>= λ w. try_held stale w)))
-    (and_then (arrives text ws last t k g) (λ v a. go v a.0 a.1)))
+    (and_then (arrives text ws stop t k g) (λ v a. go v a.0 a.1)))
 
 -- Each fetch reads a step of the row, if the function of each token does.
 fetch_reads : EachReads → FetchReads
 fetch_reads each = record {
-  reads = λ text w ws last t nul k g. fetched text (w ∷ ws) last t (Goes text ws last) k g (λ v c h. and_then (chooses each text w ws last v c h) (λ u x. leaves text ws last u x));
-  ends = λ text last t nul k g. fetched text [] last t (λ u. u.held.ended ≡ true) k g (λ v c h. and_then (ends text last v h) (λ u x. stays_over u x));
+  reads = λ text w ws stop t nul k g. fetched text (w ∷ ws) stop t (Goes text ws stop) k g (λ v c h. and_then (chooses each text w ws stop v c h) (λ u x. leaves text ws stop u x));
+  ends = λ text stop t over nul k g. fetched text [] stop t (λ u. u.held.ended ≡ true) k g (λ v c h. and_then (ends text stop v h over) (λ u x. stays_over u x));
 }
 
 -- ---- the functions of the tokens
@@ -74,6 +75,10 @@ each_reads = record {
   plain = plain_reads;
 }
 
+-- Each fetch reads a step.
+pub each_fetch_reads : FetchReads
+each_fetch_reads = fetch_reads each_reads
+
 -- So a text without NUL that has a row has the row's tokens by the model: it is not refused.
 pub texts_with_a_row_are_read : IsComplete
-texts_with_a_row_are_read = read_by_row (fetch_reads each_reads)
+texts_with_a_row_are_read = read_by_row each_fetch_reads

@@ -2,9 +2,6 @@ pub mod Colons
 pub mod Dashes
 pub mod FlowMarks
 pub mod FreeLines
-pub mod MarginSteps
-pub mod MarginTokens
-pub mod Margins
 pub mod Openings
 pub mod Passed
 pub mod Questions

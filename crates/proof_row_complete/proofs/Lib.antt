@@ -11,3 +11,4 @@ pub mod Sides
 pub mod Steps
 pub mod WaitingKeys
 pub mod Waits
+pub mod WholeRows

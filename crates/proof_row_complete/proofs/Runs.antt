@@ -1,13 +1,14 @@
--- If each fetch reads a step of the row, the model gives a text that has a row the row's tokens.
-use Rattle.std.proofs.Common.{◌≡◌, ℕ, List, [], ◌∷◌, true, false, Result, Ok, refl, ap, ◌∙◌}
-use Rattle.defs_row.specs.Step.{Step, Row}
+-- If each fetch reads a step, the model reads steps with which a text begins, and gives a text that has a row the row's tokens.
+use Rattle.std.proofs.Common.{◌≡◌, ℕ, List, [], ◌∷◌, true, false, Some, Result, Ok, refl, ap, ◌∙◌}
+use Rattle.defs_row.specs.Step.{Step, Row, spelled}
+use Rattle.defs_row.specs.Account.{first_account}
 use Rattle.defs_row.specs.Row.{HasRow, IsRead}
 use Rattle.yaml_tokens.specs.declared.problem.Fault.{Fault}
 use Rattle.model_scanner.specs.State.{ScannerState}
 use Rattle.model_scanner.specs.Document.{fetch_stream_start}
 use Rattle.model_scanner.specs.Fetch.{fetch}
 use Rattle.model_scanner.specs.Run.{start, Reaches, here, there}
-use Rattle.defs_text.specs.Text.{has_no_nul}
+use Rattle.defs_text.specs.Text.{has_no_nul, up_to_nul}
 use Rattle.proof_cut.specs.Stands.{FaresAt}
 use Rattle.proof_cut.proofs.Documents.{whole_text}
 use Rattle.proof_cut.proofs.Fetched as cut
@@ -16,7 +17,9 @@ use Rattle.proof_row.proofs.OneRow.{one_reading}
 use Rattle.proof_row_sound.specs.Stands.{Stands}
 use Rattle.proof_row_sound.proofs.Starts.{stream_started}
 use Rattle.proof_row_sound.proofs.Sound.{tokens_are_of_a_row}
+use Rattle.proof_row_complete.specs.Ways.{Stop, spelled_to, LeadsTo}
 use Rattle.proof_row_complete.specs.Goes.{Succeeds, went, Goes, FetchReads, IsComplete}
+use Rattle.proof_row_complete.proofs.WholeRows.{RowWay, row_way}
 
 -- a step that succeeds, and what it leaves
 pub record Left {A : Type 0} (P : A → Type 0) (r : Result A Fault) : Type 0 where
@@ -30,51 +33,69 @@ left (went {x = x} p) = record { value = x; is = refl; holds = p }
 -- ---- within a stream
 
 -- within a stream the tokens so far are a cut of the text
-cut_there : (text : List ℕ) (t : ScannerState) → Stands text t → Came text t → FaresAt text t
+pub cut_there : (text : List ℕ) (t : ScannerState) → Stands text t → Came text t → FaresAt text t
 cut_there text t s (starts e) = absurd (cc (s.started, ap (λ y. y.held.started) e))
 cut_there text t s (fares (cut.goes f g)) = f
 cut_there text t s (fares (cut.over c e n)) = absurd (cc (s.going, e))
 
--- a run to a state after the stream's end
-pub record Ends (t : ScannerState) : Type 0 where
-  pub end : ScannerState
-  pub run : Reaches t end
-  pub ended : end.held.ended ≡ true
+-- A run to the state where steps stop.
+pub record Stops (text : List ℕ) (stop : Stop) (t : ScannerState) : Type 0 where
+  pub state : ScannerState
+  pub run : Reaches t state
+  pub comes : Came text state
+  pub goes : Goes text [] stop state
 
-one_more : (t u : ScannerState) → t.held.ended ≡ false → fetch t ≡ Ok u → Ends u → Ends t
-one_more t u going e n = record { end = n.end; run = there going e n.run; ended = n.ended }
-
--- the steps of the row are read one by one, and then the stream ends
-read_on : FetchReads → (text : List ℕ) → has_no_nul text ≡ true → (ws : List Step) (last : List ℕ) (t : ScannerState) → Came text t → Goes text ws last t → Ends t
-read_on each text nul [] last t c g =
-    let u = left (each.ends text last t nul (cut_there text t g.stands c) g) in
-    one_more t u.value g.stands.going u.is (record { end = u.value; run = here; ended = u.holds })
-read_on each text nul (w ∷ ws) last t c g =
-    let u = left (each.reads text w ws last t nul (cut_there text t g.stands c) g) in
-    one_more t u.value g.stands.going u.is (read_on each text nul ws last u.value (came text nul t u.value (there g.stands.going u.is here) c) u.holds)
+-- Steps that lead on are read one by one.
+read_on : FetchReads → (text : List ℕ) → has_no_nul text ≡ true → (ws : List Step) (stop : Stop) (t : ScannerState) → Came text t → Goes text ws stop t → Stops text stop t
+read_on each text nul [] stop t c g = record { state = t; run = here; comes = c; goes = g }
+read_on each text nul (w ∷ ws) stop t c g =
+    let u = left (each.reads text w ws stop t nul (cut_there text t g.stands c) g) in
+    let on = read_on each text nul ws stop u.value (came text nul t u.value (there g.stands.going u.is here) c) u.holds in
+    record { state = on.state; run = there g.stands.going u.is on.run; comes = on.comes; goes = on.goes }
 
 -- ---- from the start
 
 -- after the stream's start
-row_begins : (text : List ℕ) → has_no_nul text ≡ true → (r : Row) → HasRow text r → Goes text r.steps r.last (fetch_stream_start (start text))
+way_begins : (text : List ℕ) → has_no_nul text ≡ true → (ws : List Step) (stop : Stop) → spelled_to ws stop ≡ up_to_nul text → LeadsTo (Some first_account) ws stop → Goes text ws stop (fetch_stream_start (start text))
 unfolding fetch_stream_start stream_started
-row_begins text nul r h = record {
+way_begins text nul ws stop spells leads = record {
   stands = stream_started text nul;
   outside = false;
   inside = [];
   may = tt;
-  is_spelled = h.0 ∙ whole_text text nul;
-  is_row = h.1;
+  is_spelled = spells ∙ whole_text text nul;
+  is_row = leads;
 }
 
 first_fetch : (text : List ℕ) → fetch (start text) ≡ Ok (fetch_stream_start (start text))
 unfolding fetch
 first_fetch text = refl
 
+-- If each fetch reads a step, the model reads steps with which a text begins up to where they stop.
+pub read_to_stop : FetchReads → (text : List ℕ) → has_no_nul text ≡ true → (ws : List Step) (stop : Stop) → spelled_to ws stop ≡ up_to_nul text → LeadsTo (Some first_account) ws stop → Stops text stop (start text)
+read_to_stop each text nul ws stop spells leads =
+    let first : ScannerState = fetch_stream_start (start text) in
+    let on = read_on each text nul ws stop first (came text nul (start text) first (there refl (first_fetch text) here) (starts refl)) (way_begins text nul ws stop spells leads) in
+    record { state = on.state; run = there refl (first_fetch text) on.run; comes = on.comes; goes = on.goes }
+
+-- a run to a state after the stream's end
+record Ends (t : ScannerState) : Type 0 where
+  end : ScannerState
+  run : Reaches t end
+  ended : end.held.ended ≡ true
+
+-- one run after another
+run_on : (t u v : ScannerState) → Reaches t u → Reaches u v → Reaches t v
+run_on t u v here r = r
+run_on t u v (there {u = x} going e q) r = there going e (run_on x u v q r)
+
 all_read : FetchReads → (text : List ℕ) → has_no_nul text ≡ true → (r : Row) → HasRow text r → Ends (start text)
 all_read each text nul r h =
-    one_more (start text) (fetch_stream_start (start text)) refl (first_fetch text)
-    (read_on each text nul r.steps r.last (fetch_stream_start (start text)) (came text nul (start text) (fetch_stream_start (start text)) (there refl (first_fetch text) here) (starts refl)) (row_begins text nul r h))
+    let way : RowWay (Some first_account) r.steps r.last = row_way (Some first_account) r.steps r.last h.1 in
+    let stops : Stops text way.stop (start text) = read_to_stop each text nul r.steps way.stop (ap (λ x. spelled r.steps x) way.text_is ∙ h.0) way.leads in
+    let g : Goes text [] way.stop stops.state = stops.goes in
+    let last = left (each.ends text way.stop stops.state way.at_end nul (cut_there text stops.state g.stands stops.comes) g) in
+    record { end = last.value; run = run_on (start text) stops.state last.value stops.run (there g.stands.going last.is here); ended = last.holds }
 
 -- If each fetch reads a step of the row, the model does not refuse a text that has a row, and its tokens are the row's.
 pub read_by_row : FetchReads → IsComplete

@@ -1,15 +1,16 @@
 -- A key that waits outside flow is near as long as a row goes on: its colon is still to come, at most 1024 characters after its start.
-use Rattle.std.proofs.Common.{◌≡◌, ℕ, ◌+◌, ◌≤◌, List, [], ◌∷◌, ◌++◌, Bool, true, false, not, ◌&&◌, if◌then◌else◌, Option, Some, None, refl, sym, subst, arith}
+use Rattle.std.proofs.Common.{◌≡◌, ℕ, ◌+◌, ◌≤◌, List, [], ◌∷◌, ◌++◌, Bool, true, false, not, ◌&&◌, if◌then◌else◌, Option, Some, None, refl, ap, sym, ◌∙◌, subst, arith}
 use Rattle.std.proofs.lemmas.Bool.Decides.{nat_tests}
-use Rattle.defs_text.specs.Position.{Position}
+use Rattle.defs_text.specs.Position.{Position, position_after}
+use Rattle.defs_text.specs.Text.{is_empty}
 use Rattle.defs_token.specs.Token.{Tok}
-use Rattle.defs_row.specs.Step.{Step, spelled, Act, gives_node, gives_colon, act_of, has_break}
+use Rattle.defs_row.specs.Step.{Step, Act, gives_node, gives_colon, act_of, has_break}
 use Rattle.defs_row.specs.Column.{is_in_column, opened}
 use Rattle.defs_row.specs.Key.{Line, free, taken, waits, is_waiting, is_near, begins_free_line, line_past_separation, line_past}
 use Rattle.defs_row.specs.FlowEntry.{Entry, begun_by, is_renewed, entries_past}
 use Rattle.defs_row.specs.Account.{Site, Account, is_in_flow, have_no_key, site_at, may_stand, account_past, past_site, past_piece, past_outside, past_inside, on_one_line}
-use Rattle.defs_row.specs.Row.{IsRowFrom}
 use Rattle.proof_cut.proofs.Positions.{index_after}
+use Rattle.proof_row_complete.specs.Ways.{Stop, spelled_to, LeadsTo}
 
 -- after a step a key waits still, or the step's piece was its colon and near
 pub data Waited (begin here : Position) : Option Account → Type 0 where
@@ -81,26 +82,41 @@ not_both (waits p) b begin e h = absurd (cc h)
 not_both free b begin e h = absurd (cc e)
 not_both taken b begin e h = absurd (cc e)
 
-near_by : (ws : List Step) (last : List ℕ) (begin here : Position) (b : Option Account) → ((c : Account) → c.line ≡ waits begin → IsRowFrom (Some c) ws last → c.site.position.index ≤ begin.index + 1024) →
-    Waited begin here b → IsRowFrom b ws last → here.index ≤ begin.index + 1024
-near_by ws last begin here None further none row = absurd row
-near_by ws last begin here (Some b) further (still on after) row = omega (arith, after, further b on row)
-near_by ws last begin here (Some b) further (ended near) row = near
+near_by : (ws : List Step) (stop : Stop) (begin here : Position) (b : Option Account) → ((c : Account) → c.line ≡ waits begin → LeadsTo (Some c) ws stop → c.site.position.index ≤ begin.index + 1024) →
+    Waited begin here b → LeadsTo b ws stop → here.index ≤ begin.index + 1024
+near_by ws stop begin here None further none row = absurd row
+near_by ws stop begin here (Some b) further (still on after) row = omega (arith, after, further b on row)
+near_by ws stop begin here (Some b) further (ended near) row = near
 
--- no row ends while a key waits
-pub none_at_end : (a : Account) (last : List ℕ) (begin : Position) → a.line ≡ waits begin → IsRowFrom (Some a) [] last → ⊥
-none_at_end a last begin e r = not_both a.line (have_no_key a.entries) begin e r.1
+-- Where steps stop while a key waits, the text goes on; the key is on its line and near.
+pub record NearStop (a : Account) (begin : Position) (stop : Stop) : Type 0 where
+  pub goes_on : is_empty stop.rest ≡ false
+  pub unbroken : begins_free_line a.site.before stop.separation ≡ false
+  pub near : (position_after a.site.position stop.separation stop.rest).index ≤ begin.index + 1024
+
+pub near_stop : (a : Account) (stop : Stop) (begin : Position) → a.line ≡ waits begin → LeadsTo (Some a) [] stop → NearStop a begin stop
+near_stop a stop begin e r = subst (λ b. NearStop b begin stop) (sym r) (by (is_empty stop.rest) refl)
+  where
+    waits_there : stop.account.line ≡ waits begin
+    waits_there = ap (λ b. b.line) (sym r) ∙ e
+
+    by : (b : Bool) → is_empty stop.rest ≡ b → NearStop stop.account begin stop
+    by true i = absurd (not_both stop.account.line (have_no_key stop.account.entries) begin waits_there (stop.may_be_end i))
+    by false i = let n = stop.is_near begin waits_there i in record { goes_on = i; unbroken = n.0; near = n.1 }
 
 -- While a key waits the last piece ends at most 1024 characters after the key's start.
-pub waiting_near : (ws : List Step) (last : List ℕ) (a : Account) (begin : Position) → a.line ≡ waits begin → IsRowFrom (Some a) ws last → a.site.position.index ≤ begin.index + 1024
-waiting_near [] last a begin e r = absurd (none_at_end a last begin e r)
-waiting_near (w ∷ ws) last a begin e r =
+pub waiting_near : (ws : List Step) (stop : Stop) (a : Account) (begin : Position) → a.line ≡ waits begin → LeadsTo (Some a) ws stop → a.site.position.index ≤ begin.index + 1024
+waiting_near [] stop a begin e r =
+    let n = (near_stop a stop begin e r).near in
+    let here = index_after a.site.position stop.separation stop.rest in
+    omega (arith, n, here)
+waiting_near (w ∷ ws) stop a begin e r =
     omega (
       arith,
-      near_by ws last begin (piece_begins a w (spelled ws last)) (account_past a w (spelled ws last)) (λ b. waiting_near ws last b begin) (step_by begin a w (spelled ws last) e) r.1,
-      index_after a.site.position w.separation (w.piece ++ spelled ws last),
+      near_by ws stop begin (piece_begins a w (spelled_to ws stop)) (account_past a w (spelled_to ws stop)) (λ b. waiting_near ws stop b begin) (step_by begin a w (spelled_to ws stop) e) r.1,
+      index_after a.site.position w.separation (w.piece ++ spelled_to ws stop),
     )
 
 -- And so begins the next piece.
-pub next_near : (w : Step) (ws : List Step) (last : List ℕ) (a : Account) (begin : Position) → a.line ≡ waits begin → IsRowFrom (Some a) (w ∷ ws) last → (piece_begins a w (spelled ws last)).index ≤ begin.index + 1024
-next_near w ws last a begin e r = near_by ws last begin (piece_begins a w (spelled ws last)) (account_past a w (spelled ws last)) (λ b. waiting_near ws last b begin) (step_by begin a w (spelled ws last) e) r.1
+pub next_near : (w : Step) (ws : List Step) (stop : Stop) (a : Account) (begin : Position) → a.line ≡ waits begin → LeadsTo (Some a) (w ∷ ws) stop → (piece_begins a w (spelled_to ws stop)).index ≤ begin.index + 1024
+next_near w ws stop a begin e r = near_by ws stop begin (piece_begins a w (spelled_to ws stop)) (account_past a w (spelled_to ws stop)) (λ b. waiting_near ws stop b begin) (step_by begin a w (spelled_to ws stop) e) r.1

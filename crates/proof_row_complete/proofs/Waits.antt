@@ -7,12 +7,12 @@ use Rattle.defs_text.specs.Position.{Position, position_after}
 use Rattle.defs_text.specs.Text.{is_empty}
 use Rattle.defs_token.specs.Separation.{is_separation}
 use Rattle.defs_token.specs.Token.{Tok, version_directive, tag_directive, scalar, plain}
-use Rattle.defs_row.specs.Step.{Step, spelled, act_of, gives_node, previous_by, has_break}
+use Rattle.defs_row.specs.Step.{Step, act_of, gives_node, previous_by, has_break}
 use Rattle.defs_row.specs.Key.{waits, begins_free_line}
 use Rattle.defs_row.specs.Account.{Account}
-use Rattle.defs_row.specs.Row.{IsRowFrom}
 use Rattle.proof_lexers.proofs.Separation.Positions.{position_in_line}
 use Rattle.proof_row_sound.proofs.Passed.{goes_on}
+use Rattle.proof_row_complete.specs.Ways.{Stop, spelled_to, LeadsTo}
 use Rattle.proof_row_complete.proofs.Around.Separations.{separation_of, text_after, BeginsWith, row_begins}
 use Rattle.proof_row_complete.proofs.Around.Asks.{waiting_goes_on}
 
@@ -39,13 +39,13 @@ on_its_line p text next h = ap (λ q. q.line) (sym (position_in_line p text next
 -- ---- a key that waits
 
 -- From an account in which a key waits the row goes on on the key's line: no break stands in what is read on over, and there is more text. (After a directive none waits.)
-pub waits_on : (ws : List Step) (last : List ℕ) (b : Account) (begin : Position) (gap rest : List ℕ) → IsRowFrom (Some b) ws last → b.line ≡ waits begin → ((f : List ℕ) → begins_free_line b.site.before f ≡ has_break f) →
-    spelled ws last ≡ gap ++ rest → is_separation false gap rest ≡ true → (has_break gap ≡ false) × (is_empty rest ≡ false)
-waits_on ws last b begin gap rest row e unmarked text g =
-    let on : (is_empty (text_after ws last) ≡ false) × (begins_free_line b.site.before (separation_of ws last) ≡ false) = waiting_goes_on b ws last begin e row in
-    let part : BeginsWith (separation_of ws last) gap (text_after ws last) rest = row_begins b ws last gap rest row text g in
-    let whole : has_break (separation_of ws last) ≡ false = sym (unmarked (separation_of ws last)) ∙ on.1 in
-    (unbroken_part gap part.more (subst (λ x. has_break x ≡ false) part.whole_is whole), goes_on part.more rest (text_after ws last) part.rest_is on.0)
+pub waits_on : (ws : List Step) (stop : Stop) (b : Account) (begin : Position) (gap rest : List ℕ) → LeadsTo (Some b) ws stop → b.line ≡ waits begin → ((f : List ℕ) → begins_free_line b.site.before f ≡ has_break f) →
+    spelled_to ws stop ≡ gap ++ rest → is_separation false gap rest ≡ true → (has_break gap ≡ false) × (is_empty rest ≡ false)
+waits_on ws stop b begin gap rest row e unmarked text g =
+    let on : (is_empty (text_after ws stop) ≡ false) × (begins_free_line b.site.before (separation_of ws stop) ≡ false) = waiting_goes_on b ws stop begin e row in
+    let part : BeginsWith (separation_of ws stop) gap (text_after ws stop) rest = row_begins b ws stop gap rest row text g in
+    let whole : has_break (separation_of ws stop) ≡ false = sym (unmarked (separation_of ws stop)) ∙ on.1 in
+    (unbroken_part gap part.more (subst (λ x. has_break x ≡ false) part.whole_is whole), goes_on part.more rest (text_after ws stop) part.rest_is on.0)
 
 -- a part of a node is no directive
 pub node_before : (t : Tok) → act_of t ≡ gives_node → (f : List ℕ) → begins_free_line (previous_by t) f ≡ has_break f

@@ -1,2 +1,3 @@
 pub mod EachReads
 pub mod Goes
+pub mod Ways

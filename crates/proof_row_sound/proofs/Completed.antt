@@ -16,7 +16,7 @@ use Rattle.proof_row_sound.specs.Completes.{Completes}
 
 -- ---- beginnings of rows
 
-begins_at_start : (text : List ℕ) → Begins text (up_to_nul text) first_account
+pub begins_at_start : (text : List ℕ) → Begins text (up_to_nul text) first_account
 begins_at_start text = record { steps = []; spells = refl; leads = refl }
 
 spelled_past : (ws : List Step) (w : Step) (next : List ℕ) → spelled (ws ++ w ∷ []) next ≡ spelled ws (w.separation ++ (w.piece ++ next))
@@ -32,7 +32,7 @@ leads_past (Some x) (v ∷ ws) w next a b h written stands =
     (h.0, leads_past (account_past x v (spelled ws (w.separation ++ (w.piece ++ next)))) ws w next a b h.1 written stands)
 
 -- over a step that may stand
-begins_past : (text after : List ℕ) (a b : Account) (w : Step) (next : List ℕ) → after ≡ w.separation ++ (w.piece ++ next) → IsWritten a w next → account_past a w next ≡ Some b → Begins text after a → Begins text next b
+pub begins_past : (text after : List ℕ) (a b : Account) (w : Step) (next : List ℕ) → after ≡ w.separation ++ (w.piece ++ next) → IsWritten a w next → account_past a w next ≡ Some b → Begins text after a → Begins text next b
 begins_past text after a b w next cut written stands g = record {
   steps = g.steps ++ w ∷ [];
   spells = spelled_past g.steps w next ∙ ap (λ x. spelled g.steps x) (sym cut) ∙ g.spells;

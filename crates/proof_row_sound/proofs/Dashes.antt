@@ -24,7 +24,7 @@ use Rattle.model_scanner.specs.Keys.{top_needs_block_end, remove_implicit_key}
 use Rattle.model_scanner.specs.Indents.{placed, roll_indent, roll_one_col_indent}
 use Rattle.model_scanner.specs.Space.{skip_spaces}
 use Rattle.model_scanner.specs.Flow.{allow_key}
-use Rattle.model_scanner.specs.Block.{last_property, at_margin, check_block_entry, check_dash, roll_entry, fetch_block_entry}
+use Rattle.model_scanner.specs.Block.{check_block_entry, check_dash, roll_entry, fetch_block_entry}
 use Rattle.model_scanner.proofs.Holds.{Holds, went, chained, checked, passes, tried}
 use Rattle.proof_lexers.proofs.Bridges.{same_break, same_flow}
 use Rattle.proof_cut.proofs.Dispatch.{gap_here}
@@ -44,15 +44,11 @@ use Rattle.proof_row_sound.proofs.Sides.{ArrivesBy, ArrivesOutside, ArrivesInsid
 -- an entry stands outside flow, where a key may begin
 entry_checked : (s : Held) → Holds (λ u. (u ≡ s) × (in_flow s ≡ false) × (s.key_allowed ≡ true)) (check_block_entry s)
 unfolding check_block_entry
-entry_checked s = checked (in_flow s) (At problem.BlockEntryInFlow s.position) (λ e. checked (not s.key_allowed) (At problem.BlockEntryNotAllowed s.position) (λ f. by (last_property s.tokens) e (allowed s.key_allowed f)))
+entry_checked s = checked (in_flow s) (At problem.BlockEntryInFlow s.position) (λ e. checked (not s.key_allowed) (At problem.BlockEntryNotAllowed s.position) (λ f. went (refl, e, allowed s.key_allowed f)))
   where
     allowed : (b : Bool) → not b ≡ false → b ≡ true
     allowed true f = refl
     allowed false f = absurd (cc f)
-
-    by : (q : Option Position) → in_flow s ≡ false → s.key_allowed ≡ true → Holds (λ u. (u ≡ s) × (in_flow s ≡ false) × (s.key_allowed ≡ true)) (at_margin q s.position s)
-    by None e f = went (refl, e, f)
-    by (Some q) e f = passes _ _ (went (refl, e, f))
 
 -- no dash stands after a TAB
 dash_checked : (more : List ℕ) (t : ScannerState) → t.rest ≡ past_blanks_and_comment more → Holds (λ u. (u ≡ t) × (dash_may_precede more ≡ true)) (check_dash (found_in (leading is_blank more)) t)

@@ -1,12 +1,12 @@
 //! Block collections (YAML 1.2, section 8.2), keys and values.
-ghost use Rattle.std.specs.Prelude.{◌≡◌, ◌≢◌, ◌<◌, ◌≤◌, ◌+◌, ◌==◌, ◌&&◌, ◌||◌, not, OnOk, IfErr, Ok, Err, nat_lt, slice_index};
+ghost use Rattle.std.specs.Prelude.{◌≡◌, ◌≢◌, ◌<◌, ◌≤◌, ◌+◌, ◌==◌, ◌&&◌, ◌||◌, not, OnOk, IfErr, Ok, Err, slice_index};
 ghost use Rattle.yaml_chars.specs.Class.{is_alpha, is_blank_or_breakz, is_break, is_flow};
 ghost use Rattle.yaml_chars.specs.Reading.{HasChar, Sees};
 ghost use Rattle.yaml_tokens.specs.Shown.{tok_of};
 ghost use Rattle.model_scanner.specs.State.{put};
 ghost use Rattle.model_scanner.specs.Keys.{top_key};
 ghost use Rattle.model_scanner.specs.Space.{skip_spaces};
-ghost use Rattle.model_scanner.specs.Block.{at_margin, last_property, check_block_entry, check_dash, fetch_block_entry, keyed, begin_key, check_key_space, fetch_key, check_after_tab, check_value_space, opens_pair, paired, begin_pair, insert_key, begin_keyless_pair, begin_keyless_mapping, begin_keyless_value, value_of, fetch_value};
+ghost use Rattle.model_scanner.specs.Block.{check_block_entry, check_dash, fetch_block_entry, keyed, begin_key, check_key_space, fetch_key, check_after_tab, check_value_space, opens_pair, paired, begin_pair, insert_key, begin_keyless_pair, begin_keyless_mapping, begin_keyless_value, value_of, fetch_value};
 ghost use Rattle.yaml_scanner.specs.Blocks.{pass_dash, entry_level, begin_entry, pass_key, pass_tab};
 ghost use Rattle.yaml_scanner.specs.Shape.{held, Does, Fails};
 ghost use Rattle.yaml_scanner_state.specs.ImplicitKeys.{keyed_by};
@@ -68,31 +68,7 @@ impl<T: Characters> Fetcher<T> {
         if !self.key_allowed {
             return Err(self.fail_here(Problem::BlockEntryNotAllowed));
         }
-        self.check_margin()?;
         Ok(())
-    }
-
-    /// Refuses an entry at the first column after an anchor or a tag at the first column.
-    fn check_margin(&mut self) -> Result<(), Failed>
-        ensures ok { OnOk result (at_margin (last_property (held self.old).tokens) (held self.old).position (held self.old) ≡ Ok (held self.new)) }
-        ensures fault { IfErr result (λ _. at_margin (last_property (held self.old).tokens) (held self.old).position (held self.old) ≡ Err self.new.fault) }
-        ensures moves { Moves self.old self.new 0 0 }
-        ensures window { self.new.window ≡ self.old.window }
-    {
-        let Some(position) = self.tokens.property() else {
-            return Ok(());
-        };
-        if self.is_at_margin(position) {
-            return Err(self.fail(Fault::At(Problem::AnchorIndentation, position)));
-        }
-        Ok(())
-    }
-
-    /// Whether an entry here and an anchor or a tag both stand at the first column, inside a collection.
-    fn is_at_margin(&self, position: Marker) -> bool
-        ensures { result ≡ (((held self.now).position.col == 0) && (position.col == 0) && nat_lt 0 (held self.now).indent) }
-    {
-        self.window.mark().col() == 0 && position.col() == 0 && self.levels.indent() > 0
     }
 
     /// Steps over spaces and TABs after a `-`.

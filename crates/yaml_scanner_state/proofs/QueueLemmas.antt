@@ -8,7 +8,6 @@ use Rattle.yaml_tokens.specs.Shown.{shown, tok_of}
 use Rattle.yaml_scanner_state.specs.Tokens.{is_end, has_end, end_at}
 use Rattle.defs_text.specs.Position.{Position}
 use Rattle.defs_token.specs.Token as seen
-use Rattle.model_scanner.specs.Block.{property_position, last_property}
 
 length_shown : (w : List Token) → length (map shown w) ≡ length w
 length_shown [] = refl
@@ -72,34 +71,6 @@ end_waits w v t p end e =
     let last : is_end (tok_of t.1) ≡ true = ap (λ (s : seen.Token). is_end s.tok) end in
     rw (e, map-append shown w (t ∷ []), has_end_append (map shown w) (map shown (t ∷ [])), last) (or_true (has_end (map shown w)))
 
-last_after : (xs : List seen.Token) (y : seen.Token) (ys : List seen.Token) → last_property (xs ++ y ∷ ys) ≡ last_property (y ∷ ys)
-last_after [] y ys = refl
-last_after (x ∷ []) y ys = refl
-last_after (x ∷ z ∷ xs) y ys = last_after (z ∷ xs) y ys
-
--- a token after all is the last
-pub push_last : (g w v : List Token) (t : Token) → v ≡ w ++ t ∷ [] → property_position (shown t).tok (shown t).position ≡ last_property (map shown g ++ map shown v)
-push_last g w v t e = sym (ap last_property (push_shown g w v t e) ∙ last_after (map shown g ++ map shown w) (shown t) [])
-
-after_last : (xs zs : List seen.Token) (x y : seen.Token) (ys : List seen.Token) → zs ≡ y ∷ ys → last_property (xs ++ x ∷ zs) ≡ last_property (xs ++ zs)
-after_last xs zs x y ys e = rw e (last_after xs x (y ∷ ys) ∙ sym (last_after xs y ys))
-
-insert_by : (xs zs : List seen.Token) (x : seen.Token) → 0 < length zs → last_property (xs ++ x ∷ zs) ≡ last_property (xs ++ zs)
-insert_by xs [] x h = absurd (omega arith)
-insert_by xs (y ∷ ys) x h = after_last xs (y ∷ ys) x y ys refl
-
--- a token before others leaves the last one
-pub insert_last : (g w v : List Token) (i : ℕ) (t : Token) → v ≡ insert w i t → i < length w → last_property (map shown g ++ map shown v) ≡ last_property (map shown g ++ map shown w)
-insert_last g w v i t e h =
-    let n : 0 < length (drop i (map shown w)) = simp (length-drop, length_shown) (omega arith) in
-    let split : take i (map shown w) ++ drop i (map shown w) ≡ map shown w = take-append-drop i (map shown w) in
-    rw (e, map_insert w i t) (ap last_property (sym (append_assoc (map shown g) (take i (map shown w)) (shown t ∷ drop i (map shown w))))
-    ∙ insert_by (map shown g ++ take i (map shown w)) (drop i (map shown w)) (shown t) n
-    ∙ ap last_property (append_assoc (map shown g) (take i (map shown w)) (drop i (map shown w)) ∙ ap (λ xs. map shown g ++ xs) split))
-
-pub end_last : (g w v : List Token) (t : Token) (p : Position) → shown t ≡ end_at p → v ≡ w ++ t ∷ [] → ◌≡◌ {A = Option Position} None (last_property (map shown g ++ map shown v))
-end_last g w v t p end e = ap (λ (s : seen.Token). property_position s.tok s.position) (sym end) ∙ push_last g w v t e
-
 -- a position after all is the end
 insert_past : (w : List Token) (i : ℕ) (t : Token) → length w ≤ i → insert w i t ≡ w ++ t ∷ []
 insert_past w i t h = rw (take_all i w h, drop_all i w h) refl
@@ -114,10 +85,6 @@ front_shown g w v i t e z = rw z (insert_shown g w v 0 t e)
 
 pub front_keeps : (w v : List Token) (t : Token) → v ≡ t ∷ w → has_end (map shown w) ≡ true → has_end (map shown v) ≡ true
 front_keeps w v t e h = insert_keeps w v 0 t e h
-
--- and it leaves the last one
-pub front_last : (g w v : List Token) (t : Token) → v ≡ t ∷ w → 0 < length w → last_property (map shown g ++ map shown v) ≡ last_property (map shown g ++ map shown w)
-front_last g w v t e h = insert_last g w v 0 t e h
 
 -- ---- two tokens are handed out at once
 
@@ -148,11 +115,3 @@ alone_shown g w t e = rw (take_given g w, e) refl
 
 pub waits_alone : (g w : List Token) (x : seen.Token) → map shown g ++ map shown w ≡ take (length g) (map shown g ++ map shown w) ++ x ∷ [] → map shown w ≡ x ∷ []
 waits_alone g w x e = cancel (map shown g) (map shown w) (x ∷ []) (e ∙ ap (λ xs. xs ++ x ∷ []) (take_given g w))
-
--- nothing waits after it
-none_after : (w v : List Token) (t : Token) (x : seen.Token) → w ≡ t ∷ v → map shown w ≡ x ∷ [] → map shown v ≡ []
-none_after w v t x e f = let g : shown t ∷ map shown v ≡ x ∷ [] = rw e at f in cc
-
--- once it and a scalar were handed out, the scalar is the last
-pub scalar_last : (k : List seen.Token) (s w v : List Token) (t : Token) (x y : seen.Token) → w ≡ t ∷ v → map shown w ≡ x ∷ [] → map shown s ≡ k ++ y ∷ [] → property_position y.tok y.position ≡ last_property (map shown s ++ map shown v)
-scalar_last k s w v t x y e f h = rw (none_after w v t x e f, h, append-nil) (sym (last_after k y []))

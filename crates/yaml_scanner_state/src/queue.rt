@@ -1,7 +1,6 @@
 ghost use Rattle.std.specs.Prelude.{◌≡◌, ◌≤◌, ◌+◌, ◌∷◌, [], ◌++◌, OnOk, OnErr, IfOk, IfSome, IsNone, IsSome, true, false, ◌||◌, length, map, List, ℕ};
 ghost use Rattle.std.specs.List.{insert};
 ghost use Rattle.yaml_tokens.specs.Shown.{shown, tok_of};
-ghost use Rattle.model_scanner.specs.Block.{last_property, property_position};
 ghost use Rattle.yaml_scanner_state.specs.Tokens.{handed, waiting, is_end, end_at, key_tokens};
 ghost use Rattle.defs_text.specs.Position.{Position};
 ghost use Rattle.defs_text.specs.Text.{string_chars};
@@ -20,8 +19,6 @@ use yaml_tokens::{TScalarStyle, Token, TokenType};
 pub struct Queue {
     given: History<Token>,
     waiting: VecDeque<Token>,
-    // The position of the last token so far, where that is an anchor or a tag.
-    property: Option<Marker>,
     ended: bool,
     over: bool,
 }
@@ -31,14 +28,13 @@ impl Model for Queue {
     ghost use Rattle.std.specs.Prelude.{length as list_len};
     ghost use Rattle.yaml_scanner_state.specs.Tokens.{Tokens, has_end};
     ghost use Rattle.yaml_tokens.specs.Shown.{shown};
-    ghost use Rattle.model_scanner.specs.Block.{last_property};
 
     ghost Value = { Tokens };
 
     ghost view = { λ q. record { all = map shown q.given.items ++ map shown q.waiting.items; given = list_len q.given.items; ended = q.ended; over = q.over } };
 
     // While the stream's end was not handed out, it waits.
-    ghost invariant = { λ q. (q.ended ≡ true → q.over ≡ false → has_end (map shown q.waiting.items) ≡ true) × (q.property ≡ last_property (map shown q.given.items ++ map shown q.waiting.items)) };
+    ghost invariant = { λ q. q.ended ≡ true → q.over ≡ false → has_end (map shown q.waiting.items) ≡ true };
 }
 
 impl Queue {
@@ -49,7 +45,6 @@ impl Queue {
         Queue {
             given: History::new(),
             waiting: VecDeque::new(alloc),
-            property: None,
             ended: false,
             over: false,
         }
@@ -64,13 +59,6 @@ impl Queue {
         self.waiting.len()
     }
 
-    /// The position of the last token so far, where that is an anchor or a tag.
-    pub fn property(&self) -> Option<Marker>
-        ensures { result ≡ last_property self.now.all }
-    {
-        self.property
-    }
-
     /// An `Err` changes nothing.
     #[inline(always)]
     #[tactic(auto, using(crate::proofs::QueueLemmas::push_shown, crate::proofs::QueueLemmas::push_keeps))]
@@ -81,14 +69,13 @@ impl Queue {
         ensures more { waiting self.new ≤ waiting self.old + 1 }
     {
         self.waiting.try_reserve(1)?;
-        self.property = property_of(&token);
         self.waiting.push_back_reserved(token);
         Ok(())
     }
 
     /// Inserts a token before that many that wait. An `Err` changes nothing.
     #[inline(always)]
-    #[tactic(auto, using(crate::proofs::QueueLemmas::insert_shown, crate::proofs::QueueLemmas::past_shown, crate::proofs::QueueLemmas::front_shown, crate::proofs::QueueLemmas::insert_keeps, crate::proofs::QueueLemmas::front_keeps))]
+    #[tactic(auto, using(crate::proofs::QueueLemmas::insert_shown, crate::proofs::QueueLemmas::past_shown, crate::proofs::QueueLemmas::front_shown, crate::proofs::QueueLemmas::insert_keeps, crate::proofs::QueueLemmas::front_keeps, crate::proofs::QueueLemmas::push_keeps))]
     pub fn insert(&mut self, position: usize, token: Token) -> Result<(), AllocError>
         ensures ok { OnOk result (self.new ≡ record self.old { all = insert self.old.all (self.old.given + position) (shown token) }) }
         ensures err { OnErr result (self.new ≡ self.old) }
@@ -98,7 +85,6 @@ impl Queue {
         self.waiting.try_reserve(1)?;
         let last = self.waiting.len();
         if position >= last {
-            self.property = property_of(&token);
             self.waiting.push_back_reserved(token);
             return Ok(());
         }
@@ -115,7 +101,7 @@ impl Queue {
     /// Where no token waits, hands out a `Key` and a plain scalar, which stand at the same position, and lets the `Value`
     /// after them wait. The result is the scalar's text. An `Err` changes nothing.
     #[inline(always)]
-    #[tactic(auto, using(crate::proofs::QueueLemmas::key_shown, crate::proofs::QueueLemmas::two_more, crate::proofs::QueueLemmas::waiting_len))]
+    #[tactic(auto, using(crate::proofs::QueueLemmas::key_shown, crate::proofs::QueueLemmas::two_more, crate::proofs::QueueLemmas::waiting_len, crate::proofs::QueueLemmas::push_keeps))]
     pub fn pass_key(
         &mut self,
         mark: Marker,
@@ -132,7 +118,6 @@ impl Queue {
         let text = pass_scalar(&mut self.given, mark, text);
         self.waiting
             .push_back_reserved(Token(colon, TokenType::Value));
-        self.property = None;
         Ok(text)
     }
 
@@ -163,7 +148,6 @@ impl Queue {
             unreachable!()
         };
         self.given.push(&value);
-        self.property = None;
         pass_scalar(&mut self.given, mark, text)
     }
 
@@ -177,7 +161,6 @@ impl Queue {
     {
         self.waiting.try_reserve(1)?;
         self.waiting.push_back_reserved(stream_end(mark));
-        self.property = None;
         self.ended = true;
         Ok(())
     }
@@ -211,16 +194,6 @@ impl Queue {
             self.over = true;
         }
         Some(token)
-    }
-}
-
-#[inline(always)]
-fn property_of(token: &Token) -> Option<Marker>
-    ensures { result ≡ property_position (shown token.now).tok (shown token.now).position }
-{
-    match token.1 {
-        TokenType::Anchor(_) | TokenType::Tag(_, _) => Some(token.0),
-        _ => None,
     }
 }
 

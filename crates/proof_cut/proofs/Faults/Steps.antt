@@ -17,7 +17,7 @@ use Rattle.model_scanner.specs.State.{Key, Held, ScannerState, peek, in_flow, wi
 use Rattle.model_scanner.specs.Keys.{has_required, top_key}
 use Rattle.model_scanner.specs.Indents.{unroll_indent, roll_indent}
 use Rattle.model_scanner.specs.Flow.{pass_indicator, ended_flow, end_flow, next_entry, end_entry, fetch_flow_collection_end, fetch_flow_entry}
-use Rattle.model_scanner.specs.Block.{paired, opens_pair, roll_entry, at_margin, check_dash, check_key_space, begin_key, fetch_key, check_after_tab, check_value_space, begin_pair, insert_key, begin_keyless_mapping, begin_keyless_value, value_of, fetch_value}
+use Rattle.model_scanner.specs.Block.{paired, opens_pair, roll_entry, check_dash, check_key_space, begin_key, fetch_key, check_after_tab, check_value_space, begin_pair, insert_key, begin_keyless_mapping, begin_keyless_value, value_of, fetch_value}
 use Rattle.model_scanner.specs.Document.{fetch_stream_end, closed_key, begin_line, fetch_directive, fetch_document_marker, check_document_end, fetch_document_end, node_start, fetch_anchor, fetch_tag}
 use Rattle.proof_lexers.specs.UriEnds.{problem_of}
 use Rattle.proof_lexers.specs.NameEnds as names
@@ -193,10 +193,6 @@ value_other t =
 dash_other : (w : Whitespace) (t : ScannerState) → Refuses IsOther (check_dash w t)
 unfolding check_dash
 dash_other w t = chosen (w.found_tabs && (slice_index t.rest 0 == 45) && is_blank_or_breakz (slice_index t.rest 1)) (λ e. this refl) (λ e. none)
-
-pub margin_other : (o : Option Position) (p : Position) (s : Held) → Refuses IsOther (at_margin o p s)
-margin_other None p s = none
-margin_other (Some q) p s = chosen ((p.col == 0) && (q.col == 0) && nat_lt 0 s.indent) (λ e. this refl) (λ e. none)
 
 -- after the check that no flow collection is open
 pub block_entry_other : (t u : ScannerState) → Refuses IsOther (entry_from t u)

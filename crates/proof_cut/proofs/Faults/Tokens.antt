@@ -20,7 +20,7 @@ use Rattle.model_scanner.specs.State.{Held, ScannerState, peek, in_flow, push, o
 use Rattle.model_scanner.specs.Keys.{save_implicit_key}
 use Rattle.model_scanner.specs.Indents.{Levels, without_open, roll_one_col_indent, unroll_non_block_indents}
 use Rattle.model_scanner.specs.Flow.{allow_key, increase_flow_level, deepened_flow, begin_flow, fetch_flow_collection_start}
-use Rattle.model_scanner.specs.Block.{last_property, at_margin, check_block_entry, fetch_block_entry}
+use Rattle.model_scanner.specs.Block.{check_block_entry, fetch_block_entry}
 use Rattle.model_scanner.specs.Document.{after_plain, context, node_start, may_follow_quoted, check_after_quoted, fetch_flow_scalar, fetch_plain_scalar}
 use Rattle.proof_lexers.specs.QuotedEnds as quoted_ends
 use Rattle.proof_lexers.specs.QuotedEnds.{IsBadEscape}
@@ -36,7 +36,7 @@ use Rattle.proof_cut.proofs.Levels.{one_indents, one_indent, rolled_one_is, with
 use Rattle.proof_cut.proofs.Nodes.{account_now, same_flow, clean_more, IsDeep}
 use Rattle.proof_cut.proofs.Documents.{whole_text}
 use Rattle.proof_cut.proofs.Faults.Shown.{Refuses, none, this, IsOther, IsTold, bound, chosen, on_holding, lexes, other_told, skip_other, spaces_other}
-use Rattle.proof_cut.proofs.Faults.Steps.{indicator_other, margin_other, block_entry_other}
+use Rattle.proof_cut.proofs.Faults.Steps.{indicator_other, block_entry_other}
 
 -- where the scanner's model stands is a position after a row of pieces
 pub spot_of : (text : List ℕ) (t : ScannerState) → has_no_nul text ≡ true → (s : FaresAt text t) → IsSpot text t.rest (account_now text t s)
@@ -96,10 +96,10 @@ module _ (text : List ℕ) (t : ScannerState) (nul : has_no_nul text ≡ true) (
       bound (on_holding t (by (is_empty t.held.flow) refl)) (λ u k. other_told text (block_entry_other t u))
     where
       checks : Bool → Result Held Fault
-      checks flow = (if flow then Err (At problem.BlockEntryInFlow t.held.position) else (if not t.held.key_allowed then Err (At problem.BlockEntryNotAllowed t.held.position) else at_margin (last_property t.held.tokens) t.held.position t.held))
+      checks flow = (if flow then Err (At problem.BlockEntryInFlow t.held.position) else (if not t.held.key_allowed then Err (At problem.BlockEntryNotAllowed t.held.position) else Ok t.held))
 
       by : (out : Bool) → is_empty t.held.flow ≡ out → Refuses (IsTold text) (checks (not out))
-      by true o = other_told text (chosen (not t.held.key_allowed) (λ l. this refl) (λ l. margin_other (last_property t.held.tokens) t.held.position t.held))
+      by true o = other_told text (chosen (not t.held.key_allowed) (λ l. this refl) (λ l. none))
       by false o = this (λ _. entry_in_flow (account_now text t s) rest (spot (45 ∷ rest) e) gap (same_flow t.held.flow ∙ ap not o))
 
   -- ---- quoted scalars

@@ -16,7 +16,6 @@ use Rattle.model_scanner.specs.Class.{class_of}
 use Rattle.model_scanner.specs.Keys.{still, stale, is_required, save_implicit_key}
 use Rattle.model_scanner.specs.Indents.{roll_one_col_indent, in_block}
 use Rattle.model_scanner.specs.Flow.{increase_flow_level, begin_flow, pass_indicator, fetch_flow_collection_start, decrease_flow_level, adjacent_in_flow, end_flow, fetch_flow_collection_end}
-use Rattle.model_scanner.specs.Block.{property_position}
 use Rattle.model_scanner.specs.Fetch.{token_by, comes_marker}
 use Rattle.model_scanner.specs.Run.{here, there}
 use Rattle.model_scanner.proofs.Runs.{reaches_then}
@@ -138,10 +137,6 @@ unfolding class_of
 by_closing true t = refl
 by_closing false t = refl
 
-no_property : (h : Bool) (p : Position) → property_position (closing h) p ≡ None
-no_property true p = refl
-no_property false p = refl
-
 closing_fetched : (h : Bool) {d : Around} (g : List Blank) (a : List ℕ) (ks : List (Option Key)) (p : json.Parts d) → MayStand d g → Fits d p.position → is_required p.key ≡ false
     → json_fetches.Fetched (json.stands (spell_gap g (closing_bracket h ∷ a)) (level_of h ∷ []) ks p) (closing_bracket h) a (level_of h ∷ []) ks p
 unfolding comes_marker
@@ -162,7 +157,7 @@ ends h n t from i is line shut k want remark trail low loose lies u =
     let on_line : Lies (still r.position k) r.position.line = still_lies r.position k r.position.line (rw same lies) in
     left_open t from o i is (λ o. want (closing h ∷ o)) low
     (leaf_after t from (trail_white t) (opened_indent o i) (opened o i is) (record r { key = still r.position k }) r.position _ (reaches_then u.run (there refl e here)) (trail_are_white t trail) refl (trail_allows t)
-    (Levels.still_loose r.position k loose) on_line (Levels.last_pushed q.tokens (token q.position (closing h)) ∙ no_property h q.position) (Levels.push_tells q.tokens q.position (closing h) want u.told))
+    (Levels.still_loose r.position k loose) on_line (Levels.push_tells q.tokens q.position (closing h) want u.told))
 
 -- ---- whole values
 

@@ -7,7 +7,6 @@ use Rattle.model_scanner.specs.declared.level.Indent.{Indent}
 use Rattle.model_scanner.specs.State.{Key, ScannerState, ◌>>=◌, try_held}
 use Rattle.model_scanner.specs.Keys.{stale, still, is_required}
 use Rattle.model_scanner.specs.Space.{skip_to_next_token}
-use Rattle.model_scanner.specs.Block.{last_property}
 use Rattle.model_scanner.specs.Fetch.{fetch_here, comes_marker, fetch}
 use Rattle.model_scanner.specs.Run.{Reaches}
 use Rattle.defs_token.specs.Toks.{toks}
@@ -113,10 +112,6 @@ IsTrail (end g) = IsGap g
 
 -- ---- what is known of a run
 
--- at a line's first column, the last token is no anchor and no tag
-abbrev pub HasNoProperty : Parts → Type 0
-HasNoProperty p = (p.position.col == 0) ≡ true → last_property p.tokens ≡ None
-
 -- The next fetch finds a text here, on a column, outside its levels' ends; no key is open.
 pub record Before (from : ScannerState) (x : List ℕ) (c : ℕ) (i : ℕ) (is : List Indent) (allowed : Bool) (want : List Tok → List Tok) : Type 0 where
   pub state : ScannerState
@@ -127,7 +122,6 @@ pub record Before (from : ScannerState) (x : List ℕ) (c : ℕ) (i : ℕ) (is :
   pub column : parts.position.col ≡ c
   pub free : parts.key ≡ None
   pub allows : parts.allowed ≡ allowed
-  pub no_property : HasNoProperty parts
   pub told : Tells parts.tokens want
 
 -- a key that is none at this position
@@ -152,5 +146,4 @@ pub record After (from : ScannerState) (t : Trail) (i : ℕ) (is : List Indent) 
   pub skips : skip_to_next_token (stands text indent indents first) ≡ Ok (stands (rest_of t) indent indents parts)
   pub settles : Settles t parts
   pub same : left (limit_of t) indent indents ≡ left (limit_of t) i is
-  pub no_property : last_property parts.tokens ≡ None
   pub told : (o : List Tok) → toks parts.tokens ++ ends (limit_of t) indent indents o ≡ want (ends (limit_of t) i is o)

@@ -79,7 +79,7 @@ root_opens from d r want gap is o =
     let y = body_of d.root r in
     let g = line_feed ∷ gap_white d.gap (blanks c) in
     let run : Reaches from (stands (spell_white g y) 0 [] o.parts) = subst (λ a. Reaches from (stands a 0 [] o.parts)) (ap (λ a. 10 ∷ spell_gap d.gap a) (root_text d.root r) ∙ next_line_is c d.gap y) o.run in
-    let u = before_white from g y 0 [] o.parts want run (gap_are_white d.gap (blanks c) y gap (blanks_white c y (body_solid d.root r is))) o.free (omega arith) o.no_property o.told in
+    let u = before_white from g y 0 [] o.parts want run (gap_are_white d.gap (blanks c) y gap (blanks_white c y (body_solid d.root r is))) o.free (omega arith) o.told in
     rw (gap_col d.gap c (past_break o.parts.position) refl) at rw (gap_allows d.gap c) at u
 
 -- at the start of the text
@@ -92,7 +92,7 @@ root_begins d r gap is =
     let text = spell_gap d.gap (spell_root d.root r) in
     let e = ap (spell_gap d.gap) (root_text d.root r ∙ spaces_are c y) ∙ gap_is d.gap (blanks c) y in
     let run : Reaches (start text) (stands (spell_white g y) 0 [] begun) = subst (λ a. Reaches (start text) (stands a 0 [] begun)) e (stream_begins text) in
-    let u = before_white (start text) g y 0 [] begun (λ o. Tok.stream_start ∷ o) run (gap_are_white d.gap (blanks c) y gap (blanks_white c y (body_solid d.root r is))) refl (omega arith) refl (λ o. refl) in
+    let u = before_white (start text) g y 0 [] begun (λ o. Tok.stream_start ∷ o) run (gap_are_white d.gap (blanks c) y gap (blanks_white c y (body_solid d.root r is))) refl (omega arith) (λ o. refl) in
     rw (gap_col d.gap c origin refl) at rw (gap_allows d.gap c) at u
 
 -- ---- documents

@@ -8,7 +8,7 @@ use Rattle.defs_text.specs.Classes.{is_blank, is_break, is_nul, is_blank_or_end,
 use Rattle.defs_text.specs.Text.{is_empty, has_no_nul}
 use Rattle.defs_scalar.specs.Directives.{Directive, version, tag_declaration, reserved}
 use Rattle.defs_token.specs.Account.{is_adjacent}
-use Rattle.defs_row.specs.Step.{Step, spelled, act_of, is_marker}
+use Rattle.defs_row.specs.Step.{Step, act_of, is_marker}
 use Rattle.defs_row.specs.Indentation.{is_indented_by_spaces}
 use Rattle.defs_row.specs.Lines.{further_lines_stand}
 use Rattle.defs_row.specs.Following.{may_precede}
@@ -26,6 +26,7 @@ use Rattle.proof_cut.proofs.Fetched.{begins_with_this, Marked, marked, no_marker
 use Rattle.proof_row_sound.specs.Stands.{columns, has_open_level}
 use Rattle.proof_row_sound.specs.Arrives.{site_here, Arrives}
 use Rattle.proof_row_sound.proofs.KeysBefore.{keys_before}
+use Rattle.proof_row_complete.specs.Ways.{Stop, spelled_to}
 use Rattle.proof_row_complete.specs.Goes.{Succeeds, Goes, GoesHere}
 use Rattle.proof_row_complete.specs.EachReads.{before_here, EachReads}
 use Rattle.proof_row_complete.proofs.Pieces.{account_here, context_here, PieceHere, piece_here}
@@ -42,17 +43,17 @@ not_nul (c ∷ r) n h = by (c == 0) (and_parts (not (c == 0)) (has_no_nul r) n).
     by true e = absurd (cc e)
     by false e = refl
 
-module _ (each : EachReads) (text : List ℕ) (w : Step) (ws : List Step) (last : List ℕ) (t : ScannerState) (k : FaresAt text t) (g : GoesHere text (w ∷ ws) last t) where
+module _ (each : EachReads) (text : List ℕ) (w : Step) (ws : List Step) (stop : Stop) (t : ScannerState) (k : FaresAt text t) (g : GoesHere text (w ∷ ws) stop t) where
   abbrev next : List ℕ
-  next = spelled ws last
+  next = spelled_to ws stop
 
   -- the site where the step's piece stands
   abbrev site : Site
-  site = SiteAt (account_here text w ws last t g) w next
+  site = SiteAt (account_here text w ws stop t g) w next
 
   -- the step's piece stands here
-  here : PieceHere text w ws last t g
-  here = piece_here text w ws last t g
+  here : PieceHere text w ws stop t g
+  here = piece_here text w ws stop t g
 
   some : is_empty t.rest ≡ false
   some = by w.piece (not_empty w.piece g.is_row.0.1.0) here.text_is
@@ -64,8 +65,8 @@ module _ (each : EachReads) (text : List ℕ) (w : Step) (ws : List Step) (last 
   -- ---- what the row says of the piece
 
   -- the text's first character says its kind
-  whole_by : (c : ℕ) (more : List ℕ) → t.rest ≡ c ∷ more → Whole (kind_at (in_flow t.held) (is_adjacent (before_here text (w ∷ ws) last t g)) t.held.position.col (c ∷ more)) (context_here text w ws last t g) w.piece next w.shown
-  whole_by c more e = subst (λ r. Whole (kind_at (in_flow t.held) (is_adjacent (before_here text (w ∷ ws) last t g)) t.held.position.col r) (context_here text w ws last t g) w.piece next w.shown) e here.whole
+  whole_by : (c : ℕ) (more : List ℕ) → t.rest ≡ c ∷ more → Whole (kind_at (in_flow t.held) (is_adjacent (before_here text (w ∷ ws) stop t g)) t.held.position.col (c ∷ more)) (context_here text w ws stop t g) w.piece next w.shown
+  whole_by c more e = subst (λ r. Whole (kind_at (in_flow t.held) (is_adjacent (before_here text (w ∷ ws) stop t g)) t.held.position.col r) (context_here text w ws stop t g) w.piece next w.shown) e here.whole
 
   -- where no line for the document begins, it is no piece for the document
   no_line : ((t.held.position.col == 0) && begins_document t.rest) ≡ false → is_marker (act_of w.shown) ≡ false
@@ -74,7 +75,7 @@ module _ (each : EachReads) (text : List ℕ) (w : Step) (ws : List Step) (last 
       by : (b : Bool) → is_marker (act_of w.shown) ≡ b → b ≡ false
       by false e = refl
       by true e =
-          let line : BeginsLine site.position.col (w.piece ++ next) = marker_begins (seen (account_here text w ws last t g) site w.separation) w.piece next None (shown_position site w.piece w.shown next) w.shown g.is_row.0.1.1 e in
+          let line : BeginsLine site.position.col (w.piece ++ next) = marker_begins (seen (account_here text w ws stop t g) site w.separation) w.piece next None (shown_position site w.piece w.shown next) w.shown g.is_row.0.1.1 e in
           let zero : (t.held.position.col == 0) ≡ true = ap (λ p. p.col == 0) (sym here.position_is) ∙ ap (λ n. n == 0) line.column in
           let begins : begins_document t.rest ≡ true = ap begins_document (sym here.text_is) ∙ line.text_is in
           absurd (both (t.held.position.col == 0) (begins_document t.rest) zero begins none)
@@ -86,9 +87,9 @@ module _ (each : EachReads) (text : List ℕ) (w : Step) (ws : List Step) (last 
 
   -- ---- levels of indentation
 
-  deep_enough : is_deep_enough (is_in_flow (account_here text w ws last t g).entries) w.shown site ≡ true
+  deep_enough : is_deep_enough (is_in_flow (account_here text w ws stop t g).entries) w.shown site ≡ true
   deep_enough =
-      let fl : Bool = is_in_flow (account_here text w ws last t g).entries in
+      let fl : Bool = is_in_flow (account_here text w ws stop t g).entries in
       let s : Site = g.arrives.base.site in
       let first : Bool = is_indented_by_spaces s.before s.blocks s.awaits w.separation in
       let second : Bool = is_deep_enough fl w.shown site in
@@ -108,7 +109,7 @@ module _ (each : EachReads) (text : List ℕ) (w : Step) (ws : List Step) (last 
           (subst (λ b. (site_here (not b) t.held.position a.base.site).blocks ≡ columns t.held.indent t.held.indents) e a.blocks_are)
           (subst (λ b. (site_here (not b) t.held.position a.base.site).awaits ≡ has_open_level t.held.indents) e a.awaits_is)
       by false e =
-          let inside : is_in_flow (account_here text w ws last t g).entries ≡ true = here.in_flow_is ∙ ap not e in
+          let inside : is_in_flow (account_here text w ws stop t g).entries ≡ true = here.in_flow_is ∙ ap not e in
           let test : is_deep_enough true w.shown (site_at true a.base.site w.separation w.piece w.shown next) ≡ true =
           subst (λ b. is_deep_enough b w.shown (site_at b a.base.site w.separation w.piece w.shown next) ≡ true) inside deep_enough in
           subst (λ p. t.held.indent ≤ p.col + 1) here.position_is
@@ -121,7 +122,7 @@ module _ (each : EachReads) (text : List ℕ) (w : Step) (ws : List Step) (last 
   no_percent : ((t.held.position.col == 0) && begins_document t.rest) ≡ false → (more : List ℕ) → t.rest ≡ 37 ∷ more → ⊥
   unfolding is_blank_or_end is_blank is_break is_nul is_flow
   no_percent none more e =
-      let line : Whole directive_line (context_here text w ws last t g) w.piece next w.shown = whole_by 37 more e in
+      let line : Whole directive_line (context_here text w ws stop t g) w.piece next w.shown = whole_by 37 more e in
       cc (no_line none, ap (λ k. is_marker (act_of k)) line.4 ∙ is_line line.0)
     where
       is_line : (d : Directive) → is_marker (act_of (directive_token d)) ≡ true
@@ -137,23 +138,23 @@ module _ (each : EachReads) (text : List ℕ) (w : Step) (ws : List Step) (last 
   unfolding is_blank_or_end is_blank is_break is_nul is_flow
   no_backtick more e = whole_by 96 more e
 
-  token_goes : ((t.held.position.col == 0) && begins_document t.rest) ≡ false → Succeeds (Goes text ws last) (fetch_token t)
+  token_goes : ((t.held.position.col == 0) && begins_document t.rest) ≡ false → Succeeds (Goes text ws stop) (fetch_token t)
   token_goes none =
-      token_holds (Succeeds (Goes text ws last)) t (is_adjacent (before_here text (w ∷ ws) last t g)) g.arrives.is_clean g.arrives.is_solid (λ inside. sym (g.arrives.is_adjacent_here inside some))
+      token_holds (Succeeds (Goes text ws stop)) t (is_adjacent (before_here text (w ∷ ws) stop t g)) g.arrives.is_clean g.arrives.is_solid (λ inside. sym (g.arrives.is_adjacent_here inside some))
       (no_dots (t.held.position.col == 0) (peek t.rest == 37) (is_document_marker t.rest) none) (record {
-        anchor = λ alias more e. each.anchor text w ws last t alias more e (deep none) g;
-        tag = λ more e. each.tag text w ws last t more e (deep none) g;
-        plain = λ comes. each.plain text w ws last t g (deep none) comes;
-        quoted = λ single more e. each.quoted text w ws last t single more e (deep none) g;
-        block = λ literal more e o. each.block text w ws last t literal more e o (deep none) g;
-        dash = λ more e gap. each.dash text w ws last t more e gap (deep none) g;
-        question = λ more e gap. each.question text w ws last t more e gap (deep none) g;
-        colon = λ more e i. each.colon text w ws last t more (keys_before text t k) e i (deep none) g;
-        open_bracket = λ more e. each.open_bracket text w ws last t more e (deep none) g;
-        open_brace = λ more e. each.open_brace text w ws last t more e (deep none) g;
-        close_bracket = λ more e. each.close_bracket text w ws last t more e (deep none) g;
-        close_brace = λ more e. each.close_brace text w ws last t more e (deep none) g;
-        comma = λ more e. each.comma text w ws last t more e (deep none) g;
+        anchor = λ alias more e. each.anchor text w ws stop t alias more e (deep none) g;
+        tag = λ more e. each.tag text w ws stop t more e (deep none) g;
+        plain = λ comes. each.plain text w ws stop t g (deep none) comes;
+        quoted = λ single more e. each.quoted text w ws stop t single more e (deep none) g;
+        block = λ literal more e o. each.block text w ws stop t literal more e o (deep none) g;
+        dash = λ more e gap. each.dash text w ws stop t more e gap (deep none) g;
+        question = λ more e gap. each.question text w ws stop t more e gap (deep none) g;
+        colon = λ more e i. each.colon text w ws stop t more (keys_before text t k) e i (deep none) g;
+        open_bracket = λ more e. each.open_bracket text w ws stop t more e (deep none) g;
+        open_brace = λ more e. each.open_brace text w ws stop t more e (deep none) g;
+        close_bracket = λ more e. each.close_bracket text w ws stop t more e (deep none) g;
+        close_brace = λ more e. each.close_brace text w ws stop t more e (deep none) g;
+        comma = λ more e. each.comma text w ws stop t more e (deep none) g;
         percent = λ more e. absurd (no_percent none more e);
         at_sign = λ more e. absurd (no_at_sign more e);
         backtick = λ more e. absurd (no_backtick more e);
@@ -166,19 +167,19 @@ module _ (each : EachReads) (text : List ℕ) (w : Step) (ws : List Step) (last 
 
   -- ---- where it stands
 
-  indented_goes : ((t.held.position.col == 0) && begins_document t.rest) ≡ false → Succeeds (Goes text ws last) (fetch_indented t)
+  indented_goes : ((t.held.position.col == 0) && begins_document t.rest) ≡ false → Succeeds (Goes text ws stop) (fetch_indented t)
   unfolding fetch_indented
   indented_goes none = checked (nat_lt (t.held.position.col + 1) t.held.indent) (At problem.InvalidIndentation t.held.position) (not_less (t.held.position.col + 1) t.held.indent (deep none)) (token_goes none)
     where
       not_less : (m n : ℕ) → n ≤ m → nat_lt m n ≡ false
       not_less m n h = grind (arith, nat_tests)
 
-  first_goes : t.held.position.col ≡ 0 → Succeeds (Goes text ws last) (fetch_first_column t)
+  first_goes : t.held.position.col ≡ 0 → Succeeds (Goes text ws stop) (fetch_first_column t)
   unfolding fetch_first_column
   first_goes col =
-      either (peek t.rest == 37) (λ e. each.directive text w ws last t (after t.rest) k (begins_with_this t.rest 37 some e) col g) (λ n.
-      either (comes_marker 45 t.rest) (λ e. let m : Marked 45 t.rest = marked 45 t.rest refl e in each.document_start text w ws last t m.more m.is_text m.gap col g) (λ x.
-      either (comes_marker 46 t.rest) (λ e. let m : Marked 46 t.rest = marked 46 t.rest refl e in each.document_end text w ws last t m.more m.is_text m.gap col g) (λ y.
+      either (peek t.rest == 37) (λ e. each.directive text w ws stop t (after t.rest) k (begins_with_this t.rest 37 some e) col g) (λ n.
+      either (comes_marker 45 t.rest) (λ e. let m : Marked 45 t.rest = marked 45 t.rest refl e in each.document_start text w ws stop t m.more m.is_text m.gap col g) (λ x.
+      either (comes_marker 46 t.rest) (λ e. let m : Marked 46 t.rest = marked 46 t.rest refl e in each.document_end text w ws stop t m.more m.is_text m.gap col g) (λ y.
       indented_goes (by (t.held.position.col == 0) (peek t.rest == 37) (is_document_marker t.rest) n (no_marker t.rest x y)))))
     where
       by : (b x y : Bool) → x ≡ false → y ≡ false → (b && (x || y)) ≡ false
@@ -186,11 +187,11 @@ module _ (each : EachReads) (text : List ℕ) (w : Step) (ws : List Step) (last 
       by true true y e f = absurd (cc e)
       by true false y e f = f
 
-  content_goes : Succeeds (Goes text ws last) (fetch_content t)
+  content_goes : Succeeds (Goes text ws stop) (fetch_content t)
   unfolding fetch_content
   content_goes = either (t.held.position.col == 0) (λ e. first_goes (eqb-true t.held.position.col 0 e)) (λ e. indented_goes (rw e refl))
 
   -- If the function of each token reads the step, the next token does.
-  pub chooses : Succeeds (Goes text ws last) (fetch_here t)
+  pub chooses : Succeeds (Goes text ws stop) (fetch_here t)
   unfolding fetch_here
   chooses = rw (not_nul t.rest g.arrives.is_clean some) content_goes

@@ -1,6 +1,7 @@
 -- At the text's end the stream ends: no key must still come to its colon.
-use Rattle.std.proofs.Common.{◌≡◌, ℕ, suc, List, [], ◌∷◌, Bool, true, false, ◌==◌, if◌then◌else◌, length, Option, Some, None, Ok, refl, ap, sym, ◌∙◌, subst, append-nil, arith}
+use Rattle.std.proofs.Common.{◌≡◌, ℕ, suc, List, [], ◌∷◌, Bool, true, false, ◌==◌, if◌then◌else◌, length, Option, Some, None, Ok, refl, ap, sym, ◌∙◌, subst, arith}
 use Rattle.defs_text.specs.Position.{Position}
+use Rattle.defs_text.specs.Text.{is_empty}
 use Rattle.yaml_tokens.specs.declared.problem.Fault.TheVariants.{At}
 use Rattle.yaml_tokens.specs.declared.problem.Problem.TheVariants as problem
 use Rattle.defs_row.specs.FlowEntry.{Entry, is_renewed}
@@ -16,8 +17,9 @@ use Rattle.proof_row_sound.specs.Choices.{outside_key, chosen, MayChoose}
 use Rattle.proof_row_sound.specs.Stands.{IsFreeKey, AreAround, AreEntries}
 use Rattle.proof_row_sound.specs.Arrives.{Arrives}
 use Rattle.proof_row_complete.specs.Goes.{Succeeds, went, GoesHere}
+use Rattle.proof_row_complete.specs.Ways.{Stop}
 use Rattle.proof_row_complete.proofs.Steps.{ends_before}
-use Rattle.proof_row_complete.proofs.WaitingKeys.{none_at_end}
+use Rattle.proof_row_complete.proofs.WaitingKeys.{near_stop}
 use Rattle.proof_row_complete.proofs.Around.Succeeds.{tried, checked}
 
 -- ---- keys
@@ -43,17 +45,21 @@ entries_free allowed again [] ks (e ∷ es) n a h = absurd a
 entries_free allowed again (f ∷ fs) [] es n a h = absurd a
 entries_free allowed again (f ∷ fs) (k ∷ ks) [] n a h = absurd a
 
-module _ (text last : List ℕ) (t : ScannerState) (g : GoesHere text [] last t) where
+module _ (text : List ℕ) (stop : Stop) (t : ScannerState) (g : GoesHere text [] stop t) (over : is_empty stop.rest ≡ true) where
   -- the last separation was passed
   nothing_left : t.rest ≡ []
   nothing_left =
       let a : Arrives text t = g.arrives in
-      sym (separations last a.separation [] t.rest (g.is_row.0, refl) (a.is_filled, ends_before t.rest a.is_solid a.is_clean) (append-nil last ∙ g.is_spelled)).1
+      sym (separations stop.separation a.separation stop.rest t.rest (stop.is_filled, stop.is_solid) (a.is_filled, ends_before t.rest a.is_solid a.is_clean) g.is_spelled).1 ∙ nothing stop.rest over
+    where
+      nothing : (r : List ℕ) → is_empty r ≡ true → r ≡ []
+      nothing [] h = refl
+      nothing (c ∷ r) h = absurd (cc h)
 
   -- no key waits where a row ends
   free_outside : (c : Bool) (k : Option Key) → g.outside ≡ c → outside_key g.arrives.base.entries t.held.keys ≡ k → MayChoose c k t.held.position t.rest → is_required k ≡ false
   free_outside c None e f m = refl
-  free_outside true (Some k) e f m = absurd (none_at_end (chosen g.outside g.inside t.held.keys g.arrives.base) last k.position (rw (e, f) refl) g.is_row)
+  free_outside true (Some k) e f m = absurd (cc (over, (near_stop (chosen g.outside g.inside t.held.keys g.arrives.base) stop k.position (rw (e, f) refl) g.is_row).goes_on))
   free_outside false (Some k) e f m = m
 
   none_required : has_required t.held.keys ≡ false
@@ -78,13 +84,13 @@ unrolled_keys limit s = by (in_flow s) (unrolled limit s.position s.indent s.ind
     by false u = refl
 
 -- No key must still come to its colon, and so the stream ends.
-pub ends : (text last : List ℕ) (t : ScannerState) → GoesHere text [] last t → Succeeds Over (fetch_here t)
+pub ends : (text : List ℕ) (stop : Stop) (t : ScannerState) → GoesHere text [] stop t → is_empty stop.rest ≡ true → Succeeds Over (fetch_here t)
 unfolding fetch_here fetch_stream_end
-ends text last t g =
-    let zero : (peek t.rest == 0) ≡ true = ap (λ r. peek r == 0) (nothing_left text last t g) in
+ends text stop t g at_end =
+    let zero : (peek t.rest == 0) ≡ true = ap (λ r. peek r == 0) (nothing_left text stop t g at_end) in
     subst (λ b. Succeeds Over (if b then fetch_stream_end t else fetch_content t)) (sym zero)
     (tried {P = λ h. Over (record t { held = h })} t (end_stream (record t.held { position = next_line t.held.position }))
-    (checked {r = Ok (ended_at (unroll_indent 0 before))} (has_required t.held.keys) (At problem.KeyExpected (next_line t.held.position)) (none_required text last t g) (went over)) (λ h o. o))
+    (checked {r = Ok (ended_at (unroll_indent 0 before))} (has_required t.held.keys) (At problem.KeyExpected (next_line t.held.position)) (none_required text stop t g at_end) (went over)) (λ h o. o))
   where
     before : Held
     before = record t.held { position = next_line t.held.position; keys = cleared t.held.keys }

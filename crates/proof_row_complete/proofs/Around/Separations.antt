@@ -1,38 +1,38 @@
 -- The separation with which the rest of a row begins, and what of it is still to come.
-use Rattle.std.proofs.Common.{◌≡◌, ℕ, List, [], ◌∷◌, ◌++◌, Bool, true, false, not, ◌&&◌, ◌||◌, ◌==◌, Some, refl, ap, sym, ◌∙◌, subst, append-nil, arith}
+use Rattle.std.proofs.Common.{◌≡◌, ℕ, List, [], ◌∷◌, ◌++◌, Bool, true, false, not, ◌&&◌, ◌||◌, ◌==◌, Some, refl, ap, sym, ◌∙◌, subst, arith}
 use Rattle.std.proofs.lemmas.Bool.{and_parts}
 use Rattle.defs_text.specs.Classes.{is_blank, is_break, is_nul}
 use Rattle.defs_text.specs.Breaks.{is_at_line_end}
 use Rattle.defs_token.specs.Separation.{is_separation}
-use Rattle.defs_row.specs.Step.{Step, spelled}
+use Rattle.defs_row.specs.Step.{Step}
 use Rattle.defs_row.specs.Account.{Account}
-use Rattle.defs_row.specs.Row.{IsRowFrom}
 use Rattle.defs_text.specs.Text.{has_no_nul}
 use Rattle.proof_ends.specs.Ends.{ends_separation}
 use Rattle.proof_ends.proofs.Runs.{same_head, longer}
 use Rattle.proof_ends.proofs.Separations.{over}
+use Rattle.proof_row_complete.specs.Ways.{Stop, spelled_to, LeadsTo}
 use Rattle.proof_row_complete.proofs.Steps.{piece_ends}
 
 -- ---- the text of a row
 
 -- the separation with which a row begins
-abbrev pub separation_of : List Step → (last : List ℕ) → List ℕ
-separation_of [] last = last
-separation_of (w ∷ ws) last = w.separation
+abbrev pub separation_of : List Step → (stop : Stop) → List ℕ
+separation_of [] stop = stop.separation
+separation_of (w ∷ ws) stop = w.separation
 
 -- the text after it
-abbrev pub text_after : List Step → (last : List ℕ) → List ℕ
-text_after [] last = []
-text_after (w ∷ ws) last = w.piece ++ spelled ws last
+abbrev pub text_after : List Step → (stop : Stop) → List ℕ
+text_after [] stop = stop.rest
+text_after (w ∷ ws) stop = w.piece ++ spelled_to ws stop
 
-pub spelled_apart : (ws : List Step) (last : List ℕ) → spelled ws last ≡ separation_of ws last ++ text_after ws last
-spelled_apart [] last = sym (append-nil last)
-spelled_apart (w ∷ ws) last = refl
+pub spelled_apart : (ws : List Step) (stop : Stop) → spelled_to ws stop ≡ separation_of ws stop ++ text_after ws stop
+spelled_apart [] stop = refl
+spelled_apart (w ∷ ws) stop = refl
 
 -- it is a separation, and whole
-pub is_whole : (a : Account) (ws : List Step) (last : List ℕ) → IsRowFrom (Some a) ws last → (is_separation false (separation_of ws last) (text_after ws last) ≡ true) × (ends_separation (text_after ws last) ≡ true)
-is_whole a [] last r = (r.0, refl)
-is_whole a (w ∷ ws) last r = (r.0.0, piece_ends a w (spelled ws last) r.0)
+pub is_whole : (a : Account) (ws : List Step) (stop : Stop) → LeadsTo (Some a) ws stop → (is_separation false (separation_of ws stop) (text_after ws stop) ≡ true) × (ends_separation (text_after ws stop) ≡ true)
+is_whole a [] stop r = (stop.is_filled, stop.is_solid)
+is_whole a (w ∷ ws) stop r = (r.0.0, piece_ends a w (spelled_to ws stop) r.0)
 
 -- ---- separations
 
@@ -98,17 +98,17 @@ pub record RestOf (part rest whole next : List ℕ) : Type 0 where
   pub is_filled : is_separation false more next ≡ true
 
 -- the separation with which the rest of the row begins goes on from a part that was passed
-pub row_begins : (a : Account) (ws : List Step) (last f rest : List ℕ) → IsRowFrom (Some a) ws last → spelled ws last ≡ f ++ rest → is_separation false f rest ≡ true → BeginsWith (separation_of ws last) f (text_after ws last) rest
-row_begins a ws last f rest row spells fills = let whole = is_whole a ws last row in begins_with_part false (separation_of ws last) f (text_after ws last) rest whole.0 fills whole.1 (sym (spelled_apart ws last) ∙ spells)
+pub row_begins : (a : Account) (ws : List Step) (stop : Stop) (f rest : List ℕ) → LeadsTo (Some a) ws stop → spelled_to ws stop ≡ f ++ rest → is_separation false f rest ≡ true → BeginsWith (separation_of ws stop) f (text_after ws stop) rest
+row_begins a ws stop f rest row spells fills = let whole = is_whole a ws stop row in begins_with_part false (separation_of ws stop) f (text_after ws stop) rest whole.0 fills whole.1 (sym (spelled_apart ws stop) ∙ spells)
 
 -- A separation that was passed is a part of the one with which the rest of the row begins.
-pub rest_of : (a : Account) (ws : List Step) (last f rest : List ℕ) → IsRowFrom (Some a) ws last → spelled ws last ≡ f ++ rest → has_no_nul rest ≡ true → is_separation false f rest ≡ true → RestOf f rest (separation_of ws last) (text_after ws last)
-rest_of a ws last f rest row spells clean fills =
-    let next : List ℕ = text_after ws last in
-    let b : BeginsWith (separation_of ws last) f next rest = row_begins a ws last f rest row spells fills in
+pub rest_of : (a : Account) (ws : List Step) (stop : Stop) (f rest : List ℕ) → LeadsTo (Some a) ws stop → spelled_to ws stop ≡ f ++ rest → has_no_nul rest ≡ true → is_separation false f rest ≡ true → RestOf f rest (separation_of ws stop) (text_after ws stop)
+rest_of a ws stop f rest row spells clean fills =
+    let next : List ℕ = text_after ws stop in
+    let b : BeginsWith (separation_of ws stop) f next rest = row_begins a ws stop f rest row spells fills in
     record {
       more = b.more;
       is_whole = b.whole_is;
       is_rest = b.rest_is;
-      is_filled = filled_on false f b.more next (subst (λ x. has_no_nul x ≡ true) b.rest_is clean) (subst (λ x. is_separation false x next ≡ true) b.whole_is (is_whole a ws last row).0) (subst (λ x. is_separation false f x ≡ true) b.rest_is fills);
+      is_filled = filled_on false f b.more next (subst (λ x. has_no_nul x ≡ true) b.rest_is clean) (subst (λ x. is_separation false x next ≡ true) b.whole_is (is_whole a ws stop row).0) (subst (λ x. is_separation false f x ≡ true) b.rest_is fills);
     }

@@ -8,12 +8,12 @@ use Rattle.yaml_tokens.specs.declared.problem.Fault.TheVariants.{At}
 use Rattle.yaml_tokens.specs.declared.problem.Problem.TheVariants as problem
 use Rattle.defs_row.specs.Step.{Step}
 use Rattle.defs_row.specs.FlowEntry.{is_renewed}
-use Rattle.defs_row.specs.Row.{IsRowFrom}
 use Rattle.model_scanner.specs.State.{Key, Held, ScannerState, try_held}
 use Rattle.model_scanner.specs.Keys.{is_far, is_overdue, still, drop_stale, with_keys, stale}
 use Rattle.proof_row_sound.specs.Choices.{outside_key, chosen, MayChoose}
 use Rattle.proof_row_sound.specs.Stands.{Stands}
 use Rattle.proof_row_sound.proofs.Stales.{no_entries, one_key, key_dropped}
+use Rattle.proof_row_complete.specs.Ways.{Stop, LeadsTo}
 use Rattle.proof_row_complete.specs.Goes.{Succeeds, went, Goes}
 use Rattle.proof_row_complete.proofs.Sides.{goes_on}
 use Rattle.proof_row_complete.proofs.Around.Succeeds.{tried}
@@ -27,10 +27,10 @@ is_near k p h i = rw (not_less k.line p.line h, not_less (k.index + 1024) p.inde
     not_less : (m n : ℕ) → n ≤ m → nat_lt m n ≡ false
     not_less m n h = grind (arith, nat_tests)
 
-module _ (text : List ℕ) (ws : List Step) (last : List ℕ) (u : ScannerState) (g : Goes text ws last u) where
+module _ (text : List ℕ) (ws : List Step) (stop : Stop) (u : ScannerState) (g : Goes text ws stop u) where
   -- after stale keys are dropped
   abbrev pub GoesWith : Held → Type 0
-  GoesWith h = Goes text ws last (record u { held = h })
+  GoesWith h = Goes text ws stop (record u { held = h })
 
   -- an open key that is chosen is near
   chosen_near : (k : Key) → outside_key g.stands.base.entries u.held.keys ≡ Some k → g.outside ≡ true → is_far k.position u.held.position ≡ false
@@ -38,7 +38,7 @@ module _ (text : List ℕ) (ws : List Step) (last : List ℕ) (u : ScannerState)
       let s : Stands text u = g.stands in
       let live : MayChoose true (Some k) u.held.position u.rest = subst (λ x. MayChoose x (Some k) u.held.position u.rest) c (subst (λ x. MayChoose g.outside x u.held.position u.rest) e g.may) in
       let near : (position_after s.base.site.position s.separation u.rest).index ≤ k.position.index + 1024 =
-      part_near (chosen g.outside g.inside u.held.keys s.base) ws last s.separation u.rest k.position (rw (e, c) refl) g.is_row (to_come text ws last u g) in
+      part_near (chosen g.outside g.inside u.held.keys s.base) ws stop s.separation u.rest k.position (rw (e, c) refl) g.is_row (to_come text ws stop u g) in
       is_near k.position u.held.position live.0 (subst (λ p. p.index ≤ k.position.index + 1024) (sym s.position_is) near)
 
   -- outside flow
@@ -52,7 +52,7 @@ module _ (text : List ℕ) (ws : List Step) (last : List ℕ) (u : ScannerState)
     -- a key that is dropped is none
     without_key : (k : Key) → u.held.keys ≡ Some k ∷ [] → is_far k.position u.held.position ≡ true → (c : Bool) → g.outside ≡ c → (k.required ≡ false) × GoesWith (record u.held { keys = None ∷ [] })
     without_key k only far true e = absurd (cc (far, chosen_near k (key_is (Some k) only) e))
-    without_key k only far false e = (free, goes_on text ws last (record u { held = record u.held { keys = None ∷ [] } }) s.base (None ∷ []) s.separation (key_dropped text u s out k only free) refl false [] may g.is_spelled row)
+    without_key k only far false e = (free, goes_on text ws stop (record u { held = record u.held { keys = None ∷ [] } }) s.base (None ∷ []) s.separation (key_dropped text u s out k only free) refl false [] may g.is_spelled row)
       where
         s : Stands text u
         s = g.stands
@@ -68,8 +68,8 @@ module _ (text : List ℕ) (ws : List Step) (last : List ℕ) (u : ScannerState)
             ap (λ c. chosen c g.inside u.held.keys s.base) e ∙ (ap (λ es. chosen false g.inside u.held.keys (record s.base { entries = es })) none ∙
             (ap (λ ks. chosen false g.inside ks (record s.base { entries = [] })) only ∙ sym (ap (λ es. chosen false [] (None ∷ []) (record s.base { entries = es })) none)))
 
-        row : IsRowFrom (Some (chosen false [] (None ∷ []) s.base)) ws last
-        row = subst (λ a. IsRowFrom (Some a) ws last) same g.is_row
+        row : LeadsTo (Some (chosen false [] (None ∷ []) s.base)) ws stop
+        row = subst (λ a. LeadsTo (Some a) ws stop) same g.is_row
 
     -- the keys as they are
     kept : (k : Option Key) → u.held.keys ≡ k ∷ [] → GoesWith (record u.held { keys = k ∷ [] })
@@ -95,5 +95,5 @@ module _ (text : List ℕ) (ws : List Step) (last : List ℕ) (u : ScannerState)
           subst (λ ks. Succeeds GoesWith (with_keys u.held (if list_any (is_overdue u.held.position) ks then Err (At problem.KeyWithoutColon u.held.position) else Ok (map (still u.held.position) ks)))) (sym k.1) (dropped e k.0 k.1)
 
   -- So a fetch ends.
-  pub leaves : Succeeds (Goes text ws last) (try_held stale u)
+  pub leaves : Succeeds (Goes text ws stop) (try_held stale u)
   leaves = tried u (stale u.held) stale_goes (λ h x. x)

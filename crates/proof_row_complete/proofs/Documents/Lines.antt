@@ -4,13 +4,12 @@ use Rattle.defs_text.specs.Position.{Position, position_after}
 use Rattle.defs_text.specs.Text.{is_empty, has_no_nul}
 use Rattle.defs_token.specs.Piece.{IsPiece}
 use Rattle.defs_token.specs.Separation.{is_separation}
-use Rattle.defs_row.specs.Step.{Step, Act, spelled, gives_marker, previous_by, has_break}
+use Rattle.defs_row.specs.Step.{Step, Act, gives_marker, previous_by, has_break}
 use Rattle.defs_row.specs.Column.{is_in_column}
 use Rattle.defs_row.specs.Key.{Line, free, taken, waits, is_waiting, begins_free_line, Outside, line_past as line_of_piece}
 use Rattle.defs_row.specs.FlowEntry.{Had, fresh, filled, waits as had_waits, settled, Pair, Entry, takes_pair, pair_past, had_past, had_after, renewed, with_had, begun_by, is_renewed, entries_past}
 use Rattle.defs_row.specs.Account.{Site, Account, site_at, site_in, site_past, seen}
 use Rattle.defs_row.specs.Tokens.{shown_position}
-use Rattle.defs_row.specs.Row.{IsRowFrom}
 use Rattle.model_scanner.specs.State.{Key, Held, ScannerState, pop, with_top}
 use Rattle.model_scanner.specs.Keys.{is_required, top_key}
 use Rattle.model_scanner.specs.Document.{begin_line}
@@ -20,6 +19,7 @@ use Rattle.proof_row_sound.specs.Stands.{IsFreeKey}
 use Rattle.proof_row_sound.proofs.Arrivals.{some_rest}
 use Rattle.proof_row_sound.proofs.DocumentLines.{Read, next_of, IsRead, line_past, begun_from, line_begins, all_ended, unrolled_outside, unrolled_inside, line_base, entry_settled, line_base_inside, outside_at, inside_at}
 use Rattle.proof_row_sound.proofs.Sides.{with_entries}
+use Rattle.proof_row_complete.specs.Ways.{Stop, spelled_to, LeadsTo}
 use Rattle.proof_row_complete.specs.Goes.{Goes, GoesHere}
 use Rattle.proof_row_complete.proofs.Indicators.Passed.{same_value, line_inside, not_required}
 use Rattle.proof_row_complete.proofs.Sides.{GoesOutside, GoesInside, goes_side, goes_on, line_out, account_out, line_in, entry_in, around_in, account_in}
@@ -72,7 +72,7 @@ marker_entries here again key e es xs h = by (had_past here single gives_marker 
 
 -- ---- the step
 
-module _ (text : List ℕ) (w : Step) (ws : List Step) (last : List ℕ) (t : ScannerState) (d : Read) (r : IsRead t d) where
+module _ (text : List ℕ) (w : Step) (ws : List Step) (stop : Stop) (t : ScannerState) (d : Read) (r : IsRead t d) where
   abbrev step : List ℕ → Step
   step f = record { separation = f; piece = d.piece; shown = d.tok; key = false }
 
@@ -97,12 +97,12 @@ module _ (text : List ℕ) (w : Step) (ws : List Step) (last : List ℕ) (t : Sc
   -- outside flow
   pub record PastOutside : Type 0 where
     pub need : is_required (top_key t.held.keys) ≡ false
-    pub goes : Goes text ws last (line_past t (begun_from (all_ended t.held)) d)
+    pub goes : Goes text ws stop (line_past t (begun_from (all_ended t.held)) d)
 
-  pub past_outside : GoesOutside text (w ∷ ws) last t → PastOutside
+  pub past_outside : GoesOutside text (w ∷ ws) stop t → PastOutside
   past_outside g = record {
     need = need;
-    goes = goes_on text ws last (line_past t (begun_from (all_ended t.held)) d) (line_base d t.held.position s) (None ∷ []) d.gap (outside_at text t g.side some need d r) (ap (with_top None) g.side.keys_are) false [] tt n.is_spelled row;
+    goes = goes_on text ws stop (line_past t (begun_from (all_ended t.held)) d) (line_base d t.held.position s) (None ∷ []) d.gap (outside_at text t g.side some need d r) (ap (with_top None) g.side.keys_are) false [] tt n.is_spelled row;
   }
     where
       s : Site
@@ -114,14 +114,14 @@ module _ (text : List ℕ) (w : Step) (ws : List Step) (last : List ℕ) (t : Sc
       x : Site
       x = site_at false s f d.piece d.tok (next_of d)
 
-      n : GoesPast (account_out g) (step f) (next_of d) ws last
-      n = step_read (account_out g) w ws last (step f) (next_of d) g.is_row (g.is_spelled ∙ ap (λ y. f ++ y) r.cut) (
+      n : GoesPast (account_out g) (step f) (next_of d) ws stop
+      n = step_read (account_out g) w ws stop (step f) (next_of d) g.is_row (g.is_spelled ∙ ap (λ y. f ++ y) r.cut) (
         subst (λ y. is_separation false f y ≡ true) r.cut g.side.here.is_filled,
         (solid, written (account_out g) x (site_in false gives_marker t.held.position s) f (place false s f g.side.here.position_is) (r.is_piece (seen (account_out g) (site_in false gives_marker t.held.position s) f) r.at_margin refl)),
       ) (clean g.side.here.is_clean)
 
-      y : WentOutside s (line_out g) (with_key (step f) n.key) (next_of d) ws last
-      y = went_outside s (line_out g) (with_key (step f) n.key) (next_of d) ws last n.is_row
+      y : WentOutside s (line_out g) (with_key (step f) n.key) (next_of d) ws stop
+      y = went_outside s (line_out g) (with_key (step f) n.key) (next_of d) ws stop n.is_row
 
       then : (y.after ≡ record { line = taken; blocks = x.blocks }) × (is_waiting y.line_here ≡ false)
       then = marker_after (is_in_column x.position.col x.blocks) x.position x.blocks n.key y.line_here y.after (ap (λ a. line_of_piece (is_in_column x.position.col x.blocks) x.position x.blocks a n.key y.line_here) (sym r.token.act) ∙ y.after_is)
@@ -130,24 +130,24 @@ module _ (text : List ℕ) (w : Step) (ws : List Step) (last : List ℕ) (t : Sc
       need = ap (λ ks. is_required (top_key ks)) g.side.keys_are ∙ not_required g.outside g.side.key (begins_free_line s.before f) g.side.here.line y.line_here t.held.position t.rest y.line_is then.1 g.may
 
       At : Site → Outside → List Entry → Type 0
-      At z o es = IsRowFrom (Some (record { site = site_past false z d.piece d.tok (next_of d) o.blocks; line = o.line; entries = es })) ws last
+      At z o es = LeadsTo (Some (record { site = site_past false z d.piece d.tok (next_of d) o.blocks; line = o.line; entries = es })) ws stop
 
       row : At (site_in false gives_marker t.held.position s) (record { line = taken; blocks = [] }) []
       row = subst (λ z. At z (record { line = taken; blocks = z.blocks }) []) (place false s f g.side.here.position_is) (subst (λ o. At x o []) then.0 (subst (λ es. At x y.after es) r.token.begun y.is_row))
 
   -- the key outside flow that waits over it is live after it
   abbrev pub StaysLive : Type 0
-  StaysLive = (k : Key) (b : Account) → ((es : List Entry) × (outside_key es t.held.keys ≡ Some k)) → IsLive k t.held.position t.rest → spelled ws last ≡ next_of d → IsRowFrom (Some b) ws last → b.line ≡ waits k.position → b.site.before ≡ previous_by d.tok → IsLive k d.end d.rest
+  StaysLive = (k : Key) (b : Account) → ((es : List Entry) × (outside_key es t.held.keys ≡ Some k)) → IsLive k t.held.position t.rest → spelled_to ws stop ≡ next_of d → LeadsTo (Some b) ws stop → b.line ≡ waits k.position → b.site.before ≡ previous_by d.tok → IsLive k d.end d.rest
 
   -- in flow
   pub record PastInside : Type 0 where
     pub need_in : is_required (top_key t.held.keys) ≡ false
-    pub goes_in : Goes text ws last (line_past t (begun_from t.held) d)
+    pub goes_in : Goes text ws stop (line_past t (begun_from t.held) d)
 
-  pub past_inside : StaysLive → GoesInside text (w ∷ ws) last t → PastInside
+  pub past_inside : StaysLive → GoesInside text (w ∷ ws) stop t → PastInside
   past_inside live g = record {
     need_in = ap (λ ks. is_required (top_key ks)) g.side.keys_are ∙ free_key g.side.key g.side.here.are_entries.0.key_is;
-    goes_in = goes_on text ws last (line_past t (begun_from t.held) d) (line_base_inside d t.held.position s g.side.here.line g.side.entry g.side.entries) (None ∷ g.side.keys) d.gap (inside_at text t g.side d r) (ap (with_top None) g.side.keys_are) g.outside (false ∷ pop g.inside)
+    goes_in = goes_on text ws stop (line_past t (begun_from t.held) d) (line_base_inside d t.held.position s g.side.here.line g.side.entry g.side.entries) (None ∷ g.side.keys) d.gap (inside_at text t g.side d r) (ap (with_top None) g.side.keys_are) g.outside (false ∷ pop g.inside)
         (kept g.outside (outside_key g.side.entries g.side.keys) refl refl g.may) n.is_spelled row;
   }
     where
@@ -164,17 +164,17 @@ module _ (text : List ℕ) (w : Step) (ws : List Step) (last : List ℕ) (t : Sc
       x : Site
       x = site_at true s f d.piece d.tok (next_of d)
 
-      n : GoesPast (account_in g) (step f) (next_of d) ws last
-      n = step_read (account_in g) w ws last (step f) (next_of d) g.is_row (g.is_spelled ∙ ap (λ y. f ++ y) r.cut) (
+      n : GoesPast (account_in g) (step f) (next_of d) ws stop
+      n = step_read (account_in g) w ws stop (step f) (next_of d) g.is_row (g.is_spelled ∙ ap (λ y. f ++ y) r.cut) (
         subst (λ y. is_separation false f y ≡ true) r.cut g.side.here.is_filled,
         (solid, written (account_in g) x (site_in true gives_marker t.held.position s) f (place true s f g.side.here.position_is) (r.is_piece (seen (account_in g) (site_in true gives_marker t.held.position s) f) r.at_margin refl)),
       ) (clean g.side.here.is_clean)
 
-      y : WentInside s (line_in g) (entry_in g) (around_in g) (with_key (step f) n.key) (next_of d) ws last
-      y = went_inside s (line_in g) (entry_in g) (around_in g) (with_key (step f) n.key) (next_of d) ws last n.is_row
+      y : WentInside s (line_in g) (entry_in g) (around_in g) (with_key (step f) n.key) (next_of d) ws stop
+      y = went_inside s (line_in g) (entry_in g) (around_in g) (with_key (step f) n.key) (next_of d) ws stop n.is_row
 
       At : Site → Line → List Entry → Type 0
-      At z m xs = IsRowFrom (Some (with_entries (site_past true z d.piece d.tok (next_of d) z.blocks) m xs)) ws last
+      At z m xs = LeadsTo (Some (with_entries (site_past true z d.piece d.tok (next_of d) z.blocks) m xs)) ws stop
 
       past : List Entry → Act → List Entry → Type 0
       past begun a xs = entries_past x.position (is_renewed s.before f) a begun n.key (entry_in g) (around_in g) ≡ Some xs
@@ -195,7 +195,7 @@ module _ (text : List ℕ) (w : Step) (ws : List Step) (last : List ℕ) (t : Sc
   -- It does, if that is so of its token: where its line has no break, the key's line goes on after it.
   pub stays_live : ((f : List ℕ) → begins_free_line (previous_by d.tok) f ≡ has_break f) → StaysLive
   stays_live unmarked k b is_open l spells row line_is before =
-      let on : (has_break d.gap ≡ false) × (is_empty d.rest ≡ false) = waits_on ws last b k.position d.gap d.rest row line_is (λ f. ap (λ x. begins_free_line x f) before ∙ unmarked f) spells r.is_filled in
+      let on : (has_break d.gap ≡ false) × (is_empty d.rest ≡ false) = waits_on ws stop b k.position d.gap d.rest row line_is (λ f. ap (λ x. begins_free_line x f) before ∙ unmarked f) spells r.is_filled in
       let line : d.end.line ≡ t.held.position.line = ap (λ p. p.line) r.end_is ∙ (on_its_line (position_after t.held.position d.piece (next_of d)) d.gap d.rest on.0 ∙ on_its_line t.held.position d.piece (next_of d) r.in_line) in
       (subst (λ n. n ≤ k.position.line) (sym line) l.0, on.1)
 
@@ -206,12 +206,12 @@ module _ (text : List ℕ) (w : Step) (ws : List Step) (last : List ℕ) (t : Sc
     pub held : Held
     pub begun : begin_line t.held ≡ Ok (begun_from held)
     pub same_position : held.position ≡ t.held.position
-    pub goes : Goes text ws last (line_past t (begun_from held) d)
+    pub goes : Goes text ws stop (line_past t (begun_from held) d)
 
-  pub line_goes : StaysLive → GoesHere text (w ∷ ws) last t → LineGoes
-  line_goes live g = by (goes_side text (w ∷ ws) last t g)
+  pub line_goes : StaysLive → GoesHere text (w ∷ ws) stop t → LineGoes
+  line_goes live g = by (goes_side text (w ∷ ws) stop t g)
     where
-      by : GoesOutside text (w ∷ ws) last t ⊎ GoesInside text (w ∷ ws) last t → LineGoes
+      by : GoesOutside text (w ∷ ws) stop t ⊎ GoesInside text (w ∷ ws) stop t → LineGoes
       by (inl o) =
           let n : PastOutside = past_outside o in
           record { held = all_ended t.held; begun = line_begins t.held (all_ended t.held) (unrolled_outside t.held (ap (λ fs. not (is_empty fs)) o.side.flow_is) o.side.here.are_levels) n.need; same_position = refl; goes = n.goes }

@@ -15,7 +15,7 @@ use Rattle.defs_scalar.specs.Tags.{leading, after}
 use Rattle.defs_token.specs.Token.{Tok}
 use Rattle.defs_token.specs.Account.{is_adjacent, innermost_column}
 use Rattle.defs_token.specs.Cut.{Written, spelled as spelled_row}
-use Rattle.defs_row.specs.Step.{Step, spelled, is_on_line, past_comment, past_blanks_and_comment}
+use Rattle.defs_row.specs.Step.{Step, is_on_line, past_comment, past_blanks_and_comment}
 use Rattle.defs_row.specs.Indentation.{is_indented_by_spaces}
 use Rattle.defs_row.specs.Lines.{further_lines_stand}
 use Rattle.defs_row.specs.Following.{line_is_done, may_precede}
@@ -43,6 +43,7 @@ use Rattle.proof_row_sound.proofs.Arrivals.{clean_after}
 use Rattle.proof_row_sound.proofs.Blanks.{line_rest_cut, spaced_parted, past_rest}
 use Rattle.proof_row_sound.proofs.DocumentLines.{Read, IsRead, begun_from, line_past}
 use Rattle.proof_row_sound.proofs.DocumentMarks.{start_read, start_is_read, end_read, end_is_read, directive_read, directive_is_read}
+use Rattle.proof_row_complete.specs.Ways.{Stop, spelled_to}
 use Rattle.proof_row_complete.specs.Goes.{Succeeds, went, Goes, GoesHere}
 use Rattle.proof_row_complete.specs.EachReads.{before_here, Reads}
 use Rattle.proof_row_complete.proofs.Indicators.Passed.{last_of}
@@ -63,11 +64,11 @@ marker_is tok t h c more begun place e =
     (ap (λ r. Ok (marked_at tok t h h.position (state.after (state.after (state.after r))))) e ∙ ap (λ p. Ok (marked_at tok t h p more)) place)
 
 -- `---`
-pub document_start_reads : (text : List ℕ) (w : Step) (ws : List Step) (last : List ℕ) (t : ScannerState) (more : List ℕ) → t.rest ≡ 45 ∷ 45 ∷ 45 ∷ more → is_at_gap more ≡ true → t.held.position.col ≡ 0 → Reads text w ws last t (fetch_document_marker Tok.document_start)
-document_start_reads text w ws last t more e gap col g =
+pub document_start_reads : (text : List ℕ) (w : Step) (ws : List Step) (stop : Stop) (t : ScannerState) (more : List ℕ) → t.rest ≡ 45 ∷ 45 ∷ 45 ∷ more → is_at_gap more ≡ true → t.held.position.col ≡ 0 → Reads text w ws stop t (fetch_document_marker Tok.document_start)
+document_start_reads text w ws stop t more e gap col g =
     let r : IsRead t (start_read more t.held.position) = start_is_read t more t.held.position refl e gap col in
-    let n : LineGoes text w ws last t (start_read more t.held.position) r = line_goes text w ws last t (start_read more t.held.position) r (stays_live text w ws last t (start_read more t.held.position) r (λ f. refl)) g in
-    subst (λ x. Succeeds (Goes text ws last) x) (sym (marker_is Tok.document_start t n.held 45 more n.begun n.same_position e)) (went n.goes)
+    let n : LineGoes text w ws stop t (start_read more t.held.position) r = line_goes text w ws stop t (start_read more t.held.position) r (stays_live text w ws stop t (start_read more t.held.position) r (λ f. refl)) g in
+    subst (λ x. Succeeds (Goes text ws stop) x) (sym (marker_is Tok.document_start t n.held 45 more n.begun n.same_position e)) (went n.goes)
 
 -- ---- `...`, after which the line holds no more
 
@@ -125,16 +126,16 @@ dots_there : (fl adjacent : Bool) (column : ℕ) (more : List ℕ) → column �
 dots_there fl adjacent column more col gap = rw (marked (record { in_flow = fl; adjacent = adjacent; column = column; collection = None }) 46 more dot_marks col gap) refl
 
 -- the row says that the line holds no more
-done_here : (text : List ℕ) (w : Step) (ws : List Step) (last : List ℕ) (t : ScannerState) (g : GoesHere text (w ∷ ws) last t) (more : List ℕ) → t.rest ≡ 46 ∷ 46 ∷ 46 ∷ more → is_at_gap more ≡ true → t.held.position.col ≡ 0 → line_is_done more ≡ true
-done_here text w ws last t g more e gap col =
-    let h : PieceHere text w ws last t g = piece_here text w ws last t g in
-    let next : List ℕ = spelled ws last in
-    let kind : kind_at (in_flow t.held) (is_adjacent (before_here text (w ∷ ws) last t g)) t.held.position.col t.rest ≡ dots =
-    ap (λ r. kind_at (in_flow t.held) (is_adjacent (before_here text (w ∷ ws) last t g)) t.held.position.col r) e ∙ dots_there (in_flow t.held) (is_adjacent (before_here text (w ∷ ws) last t g)) t.held.position.col more col gap in
-    let whole : Whole dots (context_here text w ws last t g) w.piece next w.shown = subst (λ k. Whole k (context_here text w ws last t g) w.piece next w.shown) kind h.whole in
+done_here : (text : List ℕ) (w : Step) (ws : List Step) (stop : Stop) (t : ScannerState) (g : GoesHere text (w ∷ ws) stop t) (more : List ℕ) → t.rest ≡ 46 ∷ 46 ∷ 46 ∷ more → is_at_gap more ≡ true → t.held.position.col ≡ 0 → line_is_done more ≡ true
+done_here text w ws stop t g more e gap col =
+    let h : PieceHere text w ws stop t g = piece_here text w ws stop t g in
+    let next : List ℕ = spelled_to ws stop in
+    let kind : kind_at (in_flow t.held) (is_adjacent (before_here text (w ∷ ws) stop t g)) t.held.position.col t.rest ≡ dots =
+    ap (λ r. kind_at (in_flow t.held) (is_adjacent (before_here text (w ∷ ws) stop t g)) t.held.position.col r) e ∙ dots_there (in_flow t.held) (is_adjacent (before_here text (w ∷ ws) stop t g)) t.held.position.col more col gap in
+    let whole : Whole dots (context_here text w ws stop t g) w.piece next w.shown = subst (λ k. Whole k (context_here text w ws stop t g) w.piece next w.shown) kind h.whole in
     let text_is : 46 ∷ 46 ∷ 46 ∷ next ≡ 46 ∷ 46 ∷ 46 ∷ more = ap (λ p. p ++ next) (sym whole.0.0) ∙ (h.text_is ∙ e) in
     let same : next ≡ more = cc text_is in
-    let a = account_here text w ws last t g in
+    let a = account_here text w ws stop t g in
     let s = SiteAt a w next in
     let fl : Bool = is_in_flow a.entries in
     let precedes : may_precede fl s.blocks w.shown w.piece next ≡ true = last_of (is_indented_by_spaces g.arrives.base.site.before g.arrives.base.site.blocks g.arrives.base.site.awaits w.separation) (is_deep_enough fl w.shown s) (further_lines_stand (least_for w.shown s) w.shown w.piece) (may_precede fl s.blocks w.shown w.piece next) h.stands in
@@ -149,12 +150,12 @@ end_is t h more begun place e none ends =
     (ap (λ x. lexed x m.held (λ w u. Ok u) >>= λ v. check_document_end v) (spaced_parted more m.held.position none) ∙
     ap (λ b. if b then Ok (past_rest m) else Err (At problem.ContentAfterDocumentEnd (past_rest m).held.position)) ends)
 
-pub document_end_reads : (text : List ℕ) (w : Step) (ws : List Step) (last : List ℕ) (t : ScannerState) (more : List ℕ) → t.rest ≡ 46 ∷ 46 ∷ 46 ∷ more → is_at_gap more ≡ true → t.held.position.col ≡ 0 → Reads text w ws last t fetch_document_end
-document_end_reads text w ws last t more e gap col g =
-    let done : line_is_done more ≡ true = done_here text w ws last t g more e gap col in
+pub document_end_reads : (text : List ℕ) (w : Step) (ws : List Step) (stop : Stop) (t : ScannerState) (more : List ℕ) → t.rest ≡ 46 ∷ 46 ∷ 46 ∷ more → is_at_gap more ≡ true → t.held.position.col ≡ 0 → Reads text w ws stop t fetch_document_end
+document_end_reads text w ws stop t more e gap col g =
+    let done : line_is_done more ≡ true = done_here text w ws stop t g more e gap col in
     let r : IsRead t (end_read more t.held.position) = end_is_read t more t.held.position refl e gap col (subst (λ l. line_is_done l ≡ true) (line_rest_cut more) done) in
-    let n : LineGoes text w ws last t (end_read more t.held.position) r = line_goes text w ws last t (end_read more t.held.position) r (stays_live text w ws last t (end_read more t.held.position) r (λ f. refl)) g in
-    subst (λ x. Succeeds (Goes text ws last) x) (sym (end_is t n.held more n.begun n.same_position e (no_comment more gap) (done_ends more done))) (went n.goes)
+    let n : LineGoes text w ws stop t (end_read more t.held.position) r = line_goes text w ws stop t (end_read more t.held.position) r (stays_live text w ws stop t (end_read more t.held.position) r (λ f. refl)) g in
+    subst (λ x. Succeeds (Goes text ws stop) x) (sym (end_is t n.held more n.begun n.same_position e (no_comment more gap) (done_ends more done))) (went n.goes)
 
 -- ---- directives
 
@@ -189,13 +190,13 @@ directive_is t h line next d begun place e no_break ends is =
     ap (λ r. with_held t r >>= λ u. lexed (directive u.rest u.held.position) u.held go) begun ∙
     ap (λ x. lexed x (begun_from h) go) (ap (λ r. directive r h.position) e ∙ (ap (λ p. directive (37 ∷ (line ++ next)) p) place ∙ directives_are_read line next d t.held.position no_break ends is))
 
-pub directive_reads : (text : List ℕ) (w : Step) (ws : List Step) (last : List ℕ) (t : ScannerState) (more : List ℕ) → FaresAt text t → t.rest ≡ 37 ∷ more → t.held.position.col ≡ 0 → Reads text w ws last t fetch_directive
-directive_reads text w ws last t more k e col g =
-    let h : PieceHere text w ws last t g = piece_here text w ws last t g in
-    let next : List ℕ = spelled ws last in
-    let kind : kind_at (in_flow t.held) (is_adjacent (before_here text (w ∷ ws) last t g)) t.held.position.col t.rest ≡ directive_line =
-    ap (λ r. kind_at (in_flow t.held) (is_adjacent (before_here text (w ∷ ws) last t g)) t.held.position.col r) e ∙ directive_there (in_flow t.held) (is_adjacent (before_here text (w ∷ ws) last t g)) t.held.position.col more in
-    let whole : Whole directive_line (context_here text w ws last t g) w.piece next w.shown = subst (λ k. Whole k (context_here text w ws last t g) w.piece next w.shown) kind h.whole in
+pub directive_reads : (text : List ℕ) (w : Step) (ws : List Step) (stop : Stop) (t : ScannerState) (more : List ℕ) → FaresAt text t → t.rest ≡ 37 ∷ more → t.held.position.col ≡ 0 → Reads text w ws stop t fetch_directive
+directive_reads text w ws stop t more k e col g =
+    let h : PieceHere text w ws stop t g = piece_here text w ws stop t g in
+    let next : List ℕ = spelled_to ws stop in
+    let kind : kind_at (in_flow t.held) (is_adjacent (before_here text (w ∷ ws) stop t g)) t.held.position.col t.rest ≡ directive_line =
+    ap (λ r. kind_at (in_flow t.held) (is_adjacent (before_here text (w ∷ ws) stop t g)) t.held.position.col r) e ∙ directive_there (in_flow t.held) (is_adjacent (before_here text (w ∷ ws) stop t g)) t.held.position.col more in
+    let whole : Whole directive_line (context_here text w ws stop t g) w.piece next w.shown = subst (λ k. Whole k (context_here text w ws stop t g) w.piece next w.shown) kind h.whole in
     let begins : (line : List ℕ) × (w.piece ≡ 37 ∷ line) = directive_begins w.piece whole.0 whole.1 in
     let line : List ℕ = begins.0 in
     let d : Directive = whole.0 in
@@ -205,11 +206,11 @@ directive_reads text w ws last t more k e col g =
     let ends : ends_line next ≡ true = at_line_end next clean whole.3 in
     let is : directive_of (37 ∷ line) ≡ Some d = ap directive_of (sym begins.1) ∙ whole.1 in
     let r : IsRead t (directive_read line next d t.held.position) = directive_is_read t line next d cut no_break ends is col in
-    let n : LineGoes text w ws last t (directive_read line next d t.held.position) r = line_goes text w ws last t (directive_read line next d t.held.position) r (none (directive_read line next d t.held.position) r) g in
-    subst (λ x. Succeeds (Goes text ws last) x) (sym (directive_is t n.held line next d n.begun n.same_position cut no_break ends is)) (went n.goes)
+    let n : LineGoes text w ws stop t (directive_read line next d t.held.position) r = line_goes text w ws stop t (directive_read line next d t.held.position) r (none (directive_read line next d t.held.position) r) g in
+    subst (λ x. Succeeds (Goes text ws stop) x) (sym (directive_is t n.held line next d n.begun n.same_position cut no_break ends is)) (went n.goes)
   where
     -- no key can begin before column 0
-    none : (d : Read) (r : IsRead t d) → StaysLive text w ws last t d r
+    none : (d : Read) (r : IsRead t d) → StaysLive text w ws stop t d r
     none d r x b is_open live spells row line_is before =
         let after = outside_after is_open.0 0 k.stood.row k.stood.after t.held.position t.rest (innermost_column (columns t.held.indent t.held.indents)) t.held.keys x k.stood.are_open is_open.1 in
         absurd (omega (arith, after.1 live.0, col))

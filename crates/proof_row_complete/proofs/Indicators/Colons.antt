@@ -16,7 +16,7 @@ use Rattle.defs_token.specs.Account.{is_adjacent, before_past}
 use Rattle.defs_token.specs.Plain.{is_value_indicator}
 use Rattle.defs_token.specs.Separation.{is_separation}
 use Rattle.defs_token.specs.Token.{Tok, Token}
-use Rattle.defs_row.specs.Step.{Step, spelled, gives_colon, is_on_line, past_comment, has_break, past_blanks_and_comment}
+use Rattle.defs_row.specs.Step.{Step, gives_colon, is_on_line, past_comment, has_break, past_blanks_and_comment}
 use Rattle.defs_row.specs.Column.{is_in_column, opened}
 use Rattle.defs_row.specs.Indentation.{is_indented_by_spaces, begins_with_alpha, colon_may_precede}
 use Rattle.defs_row.specs.Following.{may_precede}
@@ -24,7 +24,6 @@ use Rattle.defs_row.specs.Key.{Line, free, taken, waits as waits_on_line, is_nea
 use Rattle.defs_row.specs.FlowEntry.{Had, filled, waits, settled, Entry, takes_pair, is_renewed, renewed, had_after, pair_past, with_had, entries_past}
 use Rattle.defs_row.specs.Account.{Site, site_at, site_in, may_stand, is_deep_enough, before_by}
 use Rattle.defs_row.specs.Tokens.{put, pair_position, past_line_rest}
-use Rattle.defs_row.specs.Row.{IsRowFrom}
 use Rattle.model_lexers.specs.Machine.{past}
 use Rattle.model_lexers.specs.Space.{space}
 use Rattle.model_lexers.specs.declared.context.SkipTabs.TheVariants.{Yes}
@@ -53,6 +52,7 @@ use Rattle.proof_row_sound.proofs.OutsidePieces.{base_past}
 use Rattle.proof_row_sound.proofs.Questions.{with_mapping, pair_level}
 use Rattle.proof_row_sound.proofs.Rolled.{opens_none}
 use Rattle.proof_row_sound.proofs.Sides.{with_entries, ArrivesBy, StandsAt}
+use Rattle.proof_row_complete.specs.Ways.{Stop, spelled_to, LeadsTo}
 use Rattle.proof_row_complete.specs.Goes.{Succeeds, went, Goes}
 use Rattle.proof_row_complete.specs.EachReads.{Reads}
 use Rattle.proof_row_complete.proofs.Indicators.FreeLines.{step as mark_step, at as mark_at, mark_read, mark_asks, mark_row, mark_line}
@@ -166,7 +166,7 @@ keyed_past must here begin bs false x e = by (is_near begin here) e
     by true e = same_value x (record { line = taken; blocks = opened begin.col bs }) (sym e)
     by false e = absurd (cc e)
 
-module _ (text more : List ℕ) (w : Step) (ws : List Step) (last : List ℕ) (t : ScannerState) (e : t.rest ≡ 58 ∷ more) (deep : IsDeep t.held) where
+module _ (text more : List ℕ) (w : Step) (ws : List Step) (stop : Stop) (t : ScannerState) (e : t.rest ≡ 58 ∷ more) (deep : IsDeep t.held) where
   -- what may follow it
   followed : (fl : Bool) (s x : Site) (f : List ℕ) → may_stand fl s x f (58 ∷ []) Tok.value more ≡ true → colon_may_precede more ≡ true
   followed fl s x f h = last_of (is_indented_by_spaces s.before s.blocks s.awaits f) (is_deep_enough fl Tok.value x) true (may_precede fl x.blocks Tok.value (58 ∷ []) more) h
@@ -174,21 +174,21 @@ module _ (text more : List ℕ) (w : Step) (ws : List Step) (last : List ℕ) (t
   -- ---- outside flow
 
   -- no key is open
-  keyless : (a : ArrivesBy text t [] (None ∷ []) []) → t.held.flow ≡ [] → t.held.keys ≡ None ∷ [] → spelled (w ∷ ws) last ≡ a.separation ++ t.rest → IsRowFrom (Some (Outer a.site a.line)) (w ∷ ws) last → is_value t ≡ true → Succeeds (Goes text ws last) (fetch_value t)
+  keyless : (a : ArrivesBy text t [] (None ∷ []) []) → t.held.flow ≡ [] → t.held.keys ≡ None ∷ [] → spelled_to (w ∷ ws) stop ≡ a.separation ++ t.rest → LeadsTo (Some (Outer a.site a.line)) (w ∷ ws) stop → is_value t ≡ true → Succeeds (Goes text ws stop) (fetch_value t)
   unfolding begin_keyless_value begin_keyless_mapping
   keyless a flow keys spells row indicates =
-      subst (λ q. Succeeds (Goes text ws last) q) (sym (value_is more t [] (None ∷ []) e flow keys apart ∙ is)) (went (goes_on text ws last (colon_end t more k.level.indents k.level.indent (with_mapping t) true [] (None ∷ []))
+      subst (λ q. Succeeds (Goes text ws stop) q) (sym (value_is more t [] (None ∷ []) e flow keys apart ∙ is)) (went (goes_on text ws stop (colon_end t more k.level.indents k.level.indent (with_mapping t) true [] (None ∷ []))
       (base_past Tok.value (58 ∷ []) t.held.position a.site more (after_colon t.held.position a.site.blocks)) (None ∷ []) (colon_gap more)
       (keyless_stands text more t a e allowed apart ind k.level.indent k.level.indents (k.level.columns_are ∙ k.mapping.columns_are) k.level.are_levels k.level.awaits) refl false [] tt (p.is_spelled ∙ gap_cut more) row_after))
     where
       ind : is_value_indicator false (is_adjacent (before_past (before_by a.site.before) a.separation)) more ≡ true
       ind = value_here text more t [] (None ∷ []) [] a flow e indicates
 
-      p : GoesPast (Outer a.site a.line) (mark_step text more w ws last Tok.value 58 t e None a a.line spells row) more ws last
-      p = mark_read text more w ws last Tok.value 58 t e None a a.line spells row (refl, ind)
+      p : GoesPast (Outer a.site a.line) (mark_step text more w ws stop Tok.value 58 t e None a a.line spells row) more ws stop
+      p = mark_read text more w ws stop Tok.value 58 t e None a a.line spells row (refl, ind)
 
-      v : WentOutside a.site a.line (with_key (mark_step text more w ws last Tok.value 58 t e None a a.line spells row) p.key) more ws last
-      v = mark_asks text more w ws last Tok.value 58 t e None a a.line spells row p
+      v : WentOutside a.site a.line (with_key (mark_step text more w ws stop Tok.value 58 t e None a a.line spells row) p.key) more ws stop
+      v = mark_asks text more w ws stop Tok.value 58 t e None a a.line spells row p
 
       x : Site
       x = site_in false gives_colon t.held.position a.site
@@ -197,16 +197,16 @@ module _ (text more : List ℕ) (w : Step) (ws : List Step) (last : List ℕ) (t
       line = separated_by false (begins_free_line a.site.before a.separation) false None a.line a.line_here v.line_here a.is_line v.line_is
 
       here : (v.line_here ≡ free) × (v.after ≡ record { line = free; blocks = opened t.held.position.col x.blocks })
-      here = keyless_past (is_in_column x.position.col x.blocks) x.position x.blocks p.key v.line_here v.after (subst (λ l. (l ≡ free) ⊎ (l ≡ taken)) (sym line) a.line_is.0) (mark_line text more w ws last Tok.value 58 t e None a a.line spells row p)
+      here = keyless_past (is_in_column x.position.col x.blocks) x.position x.blocks p.key v.line_here v.after (subst (λ l. (l ≡ free) ⊎ (l ≡ taken)) (sym line) a.line_is.0) (mark_line text more w ws stop Tok.value 58 t e None a a.line spells row p)
 
       allowed : t.held.key_allowed ≡ true
       allowed = a.line_is.1 ∙ ap is_free (sym line ∙ here.0)
 
       apart : colon_may_precede more ≡ true
-      apart = followed false a.site (mark_at text more w ws last Tok.value 58 t e None a a.line spells row) a.separation v.stands
+      apart = followed false a.site (mark_at text more w ws stop Tok.value 58 t e None a a.line spells row) a.separation v.stands
 
-      row_after : IsRowFrom (Some (base_past Tok.value (58 ∷ []) t.held.position a.site more (after_colon t.held.position a.site.blocks))) ws last
-      row_after = mark_row text more w ws last Tok.value 58 t e None a a.line spells row p (after_colon t.held.position a.site.blocks) here.1
+      row_after : LeadsTo (Some (base_past Tok.value (58 ∷ []) t.held.position a.site more (after_colon t.held.position a.site.blocks))) ws stop
+      row_after = mark_row text more w ws stop Tok.value 58 t e None a a.line spells row p (after_colon t.held.position a.site.blocks) here.1
 
       h : Held
       h = at_value more t [] (None ∷ [])
@@ -224,11 +224,11 @@ module _ (text more : List ℕ) (w : Step) (ws : List Step) (last : List ℕ) (t
           ap (λ z. with_held (record { rest = past_gap more; held = h }) (Ok (allow_key (not (in_flow z)) z)) >>= λ y. Ok (on_held (push t.held.position Tok.value) y)) k.level.is_held)
 
   -- a key is open, which the row has waiting
-  keyed_by : (k : Key) (a : ArrivesBy text t [] (Some k ∷ []) []) → t.held.flow ≡ [] → t.held.keys ≡ Some k ∷ [] → (c : Bool) → spelled (w ∷ ws) last ≡ a.separation ++ t.rest → IsRowFrom (Some (Outer a.site (line_by c (Some k) a.line))) (w ∷ ws) last → is_value t ≡ true →
-      Succeeds (Goes text ws last) (fetch_value t)
+  keyed_by : (k : Key) (a : ArrivesBy text t [] (Some k ∷ []) []) → t.held.flow ≡ [] → t.held.keys ≡ Some k ∷ [] → (c : Bool) → spelled_to (w ∷ ws) stop ≡ a.separation ++ t.rest → LeadsTo (Some (Outer a.site (line_by c (Some k) a.line))) (w ∷ ws) stop → is_value t ≡ true →
+      Succeeds (Goes text ws stop) (fetch_value t)
   keyed_by k a flow keys c spells row indicates =
-      subst (λ q. Succeeds (Goes text ws last) q) (sym (value_is more t [] (Some k ∷ []) e flow keys apart ∙ keyed_is text more t k a e apart ind))
-      (went (goes_on text ws last (keyed.after text more t k a e apart ind) (keyed_base text more t k a e apart ind) (None ∷ []) (colon_gap more) (keyed_stands text more t k a e apart ind) refl false [] tt (p.is_spelled ∙ gap_cut more) row_after))
+      subst (λ q. Succeeds (Goes text ws stop) q) (sym (value_is more t [] (Some k ∷ []) e flow keys apart ∙ keyed_is text more t k a e apart ind))
+      (went (goes_on text ws stop (keyed.after text more t k a e apart ind) (keyed_base text more t k a e apart ind) (None ∷ []) (colon_gap more) (keyed_stands text more t k a e apart ind) refl false [] tt (p.is_spelled ∙ gap_cut more) row_after))
     where
       l : Line
       l = line_by c (Some k) a.line
@@ -236,33 +236,33 @@ module _ (text more : List ℕ) (w : Step) (ws : List Step) (last : List ℕ) (t
       ind : is_value_indicator false (is_adjacent (before_past (before_by a.site.before) a.separation)) more ≡ true
       ind = value_here text more t [] (Some k ∷ []) [] a flow e indicates
 
-      p : GoesPast (Outer a.site l) (mark_step text more w ws last Tok.value 58 t e (Some k) a l spells row) more ws last
-      p = mark_read text more w ws last Tok.value 58 t e (Some k) a l spells row (refl, ind)
+      p : GoesPast (Outer a.site l) (mark_step text more w ws stop Tok.value 58 t e (Some k) a l spells row) more ws stop
+      p = mark_read text more w ws stop Tok.value 58 t e (Some k) a l spells row (refl, ind)
 
-      v : WentOutside a.site l (with_key (mark_step text more w ws last Tok.value 58 t e (Some k) a l spells row) p.key) more ws last
-      v = mark_asks text more w ws last Tok.value 58 t e (Some k) a l spells row p
+      v : WentOutside a.site l (with_key (mark_step text more w ws stop Tok.value 58 t e (Some k) a l spells row) p.key) more ws stop
+      v = mark_asks text more w ws stop Tok.value 58 t e (Some k) a l spells row p
 
       x : Site
       x = site_in false gives_colon t.held.position a.site
 
       apart : colon_may_precede more ≡ true
-      apart = followed false a.site (mark_at text more w ws last Tok.value 58 t e (Some k) a l spells row) a.separation v.stands
+      apart = followed false a.site (mark_at text more w ws stop Tok.value 58 t e (Some k) a l spells row) a.separation v.stands
 
       Past : Line → Type 0
       Past m = line_past (is_in_column x.position.col x.blocks) x.position x.blocks gives_colon p.key m ≡ Some v.after
 
       of : (b : Bool) → v.line_here ≡ line_by b (Some k) a.line_here → v.after ≡ outside_after text more t k a e apart ind t.held.position
-      of true q = keyed_past (is_in_column x.position.col x.blocks) x.position k.position x.blocks p.key v.after (subst Past q (mark_line text more w ws last Tok.value 58 t e (Some k) a l spells row p))
-      of false q = absurd (none_taken (is_in_column x.position.col x.blocks) x.position x.blocks p.key v.after (subst Past (q ∙ (a.line_is (ap is_empty e)).0) (mark_line text more w ws last Tok.value 58 t e (Some k) a l spells row p)))
+      of true q = keyed_past (is_in_column x.position.col x.blocks) x.position k.position x.blocks p.key v.after (subst Past q (mark_line text more w ws stop Tok.value 58 t e (Some k) a l spells row p))
+      of false q = absurd (none_taken (is_in_column x.position.col x.blocks) x.position x.blocks p.key v.after (subst Past (q ∙ (a.line_is (ap is_empty e)).0) (mark_line text more w ws stop Tok.value 58 t e (Some k) a l spells row p)))
 
-      row_after : IsRowFrom (Some (keyed_base text more t k a e apart ind)) ws last
-      row_after = mark_row text more w ws last Tok.value 58 t e (Some k) a l spells row p (outside_after text more t k a e apart ind t.held.position)
+      row_after : LeadsTo (Some (keyed_base text more t k a e apart ind)) ws stop
+      row_after = mark_row text more w ws stop Tok.value 58 t e (Some k) a l spells row p (outside_after text more t k a e apart ind t.held.position)
           (of c (separated_by false (begins_free_line a.site.before a.separation) c (Some k) a.line a.line_here v.line_here a.is_line v.line_is))
 
-  reads_outside : GoesOutside text (w ∷ ws) last t → is_value t ≡ true → Succeeds (Goes text ws last) (fetch_value t)
+  reads_outside : GoesOutside text (w ∷ ws) stop t → is_value t ≡ true → Succeeds (Goes text ws stop) (fetch_value t)
   reads_outside g indicates = by g.side.key g.side.here g.side.keys_are g.is_spelled g.is_row
     where
-      by : (k : Option Key) (a : ArrivesBy text t [] (k ∷ []) []) → t.held.keys ≡ k ∷ [] → spelled (w ∷ ws) last ≡ a.separation ++ t.rest → IsRowFrom (Some (Outer a.site (line_by g.outside k a.line))) (w ∷ ws) last → Succeeds (Goes text ws last) (fetch_value t)
+      by : (k : Option Key) (a : ArrivesBy text t [] (k ∷ []) []) → t.held.keys ≡ k ∷ [] → spelled_to (w ∷ ws) stop ≡ a.separation ++ t.rest → LeadsTo (Some (Outer a.site (line_by g.outside k a.line))) (w ∷ ws) stop → Succeeds (Goes text ws stop) (fetch_value t)
       by None a keys spells row = keyless a g.side.flow_is keys spells row indicates
       by (Some k) a keys spells row = keyed_by k a g.side.flow_is keys g.outside spells row indicates
 
@@ -355,7 +355,7 @@ keyed_goes more t fs k ks f on = by f on
 
 -- ---- in flow
 
-module _ (text more : List ℕ) (w : Step) (ws : List Step) (last : List ℕ) (t : ScannerState) (e : t.rest ≡ 58 ∷ more) (deep : IsDeep t.held) (g : GoesInside text (w ∷ ws) last t) (indicates : is_value t ≡ true) where
+module _ (text more : List ℕ) (w : Step) (ws : List Step) (stop : Stop) (t : ScannerState) (e : t.rest ≡ 58 ∷ more) (deep : IsDeep t.held) (g : GoesInside text (w ∷ ws) stop t) (indicates : is_value t ≡ true) where
   abbrev s : Site
   s = g.side.here.site
 
@@ -389,20 +389,20 @@ module _ (text more : List ℕ) (w : Step) (ws : List Step) (last : List ℕ) (t
   place : x ≡ z
   place = ap (λ q. site_in true gives_colon q s) (sym (g.side.here.position_is ∙ ap (λ r. position_after s.position f r) e))
 
-  p : GoesPast (with_entries s l (y ∷ ys)) step more ws last
-  p = step_read (with_entries s l (y ∷ ys)) w ws last step more g.is_row (g.is_spelled ∙ ap (λ r. f ++ r) e) (subst (λ r. is_separation false f r ≡ true) e g.side.here.is_filled, (refl, (refl, ind))) (subst (λ r. has_no_nul r ≡ true) e g.side.here.is_clean)
+  p : GoesPast (with_entries s l (y ∷ ys)) step more ws stop
+  p = step_read (with_entries s l (y ∷ ys)) w ws stop step more g.is_row (g.is_spelled ∙ ap (λ r. f ++ r) e) (subst (λ r. is_separation false f r ≡ true) e g.side.here.is_filled, (refl, (refl, ind))) (subst (λ r. has_no_nul r ≡ true) e g.side.here.is_clean)
 
-  v : WentInside s l y ys (with_key step p.key) more ws last
-  v = went_inside s l y ys (with_key step p.key) more ws last p.is_row
+  v : WentInside s l y ys (with_key step p.key) more ws stop
+  v = went_inside s l y ys (with_key step p.key) more ws stop p.is_row
 
   apart : colon_may_precede more ≡ true
-  apart = followed text more w ws last t e deep true s x f v.stands
+  apart = followed text more w ws stop t e deep true s x f v.stands
 
   valued : (v.after ≡ valued_entry g.side.entry ∷ ys) × (y.had ≡ filled → ⊥) × OnLine z.position (takes_pair y.kind y.pair) y.had
   valued = valued_after z.position (is_renewed s.before f) p.key y ys v.after (subst (λ q. entries_past q.position (is_renewed s.before f) gives_colon [] p.key y ys ≡ Some v.after) place v.after_is)
 
   abbrev Row : Site → Line → List Entry → Type 0
-  Row q m xs = IsRowFrom (Some (with_entries (site_inside q (58 ∷ []) Tok.value more) m xs)) ws last
+  Row q m xs = LeadsTo (Some (with_entries (site_inside q (58 ∷ []) Tok.value more) m xs)) ws stop
 
   row : Row z l (valued_entry g.side.entry ∷ ys)
   row = subst (λ q. Row q l (valued_entry g.side.entry ∷ ys)) place (subst (λ m. Row x m (valued_entry g.side.entry ∷ ys)) (line_inside (begins_free_line s.before f) l v.line_here v.line_is) (subst (λ xs. Row x v.line_here xs) valued.0 v.is_row))
@@ -411,42 +411,42 @@ module _ (text more : List ℕ) (w : Step) (ws : List Step) (last : List ℕ) (t
   end_line h = ap (λ q. q.line) (gap_end t.held.position more) ∙ (on_its_line (position_after t.held.position (58 ∷ []) more) (colon_gap more) (past_gap more) h ∙ on_its_line t.held.position (58 ∷ []) more one_line_colon)
 
   kept : MayChoose g.outside (outside_key g.side.entries g.side.keys) end (past_gap more)
-  kept = may_on ws last (with_entries (site_inside z (58 ∷ []) Tok.value more) l (valued_entry g.side.entry ∷ ys)) g.outside (outside_key g.side.entries g.side.keys) g.side.here.line t.held.position end t.rest (colon_gap more) (past_gap more) row refl
+  kept = may_on ws stop (with_entries (site_inside z (58 ∷ []) Tok.value more) l (valued_entry g.side.entry ∷ ys)) g.outside (outside_key g.side.entries g.side.keys) g.side.here.line t.held.position end t.rest (colon_gap more) (past_gap more) row refl
       (λ q. refl) (p.is_spelled ∙ gap_cut more) (gap_fills more) end_line g.may
 
   -- from what stands after it
-  goes_then : (u : ScannerState) → StandsAt text (base_inside Tok.value (58 ∷ []) t.held.position s more g.side.here.line (valued_entry g.side.entry ∷ g.side.entries)) (colon_gap more) u → u.held.keys ≡ None ∷ g.side.keys → u.held.position ≡ end → u.rest ≡ past_gap more → Goes text ws last u
+  goes_then : (u : ScannerState) → StandsAt text (base_inside Tok.value (58 ∷ []) t.held.position s more g.side.here.line (valued_entry g.side.entry ∷ g.side.entries)) (colon_gap more) u → u.held.keys ≡ None ∷ g.side.keys → u.held.position ≡ end → u.rest ≡ past_gap more → Goes text ws stop u
   goes_then u h k q r =
-      goes_on text ws last u (base_inside Tok.value (58 ∷ []) t.held.position s more g.side.here.line (valued_entry g.side.entry ∷ g.side.entries)) (None ∷ g.side.keys) (colon_gap more) h k g.outside (false ∷ pop g.inside)
+      goes_on text ws stop u (base_inside Tok.value (58 ∷ []) t.held.position s more g.side.here.line (valued_entry g.side.entry ∷ g.side.entries)) (None ∷ g.side.keys) (colon_gap more) h k g.outside (false ∷ pop g.inside)
       (subst (λ b. MayChoose g.outside (outside_key g.side.entries g.side.keys) b u.rest) (sym q) (subst (λ b. MayChoose g.outside (outside_key g.side.entries g.side.keys) end b) (sym r) kept))
       (p.is_spelled ∙ (gap_cut more ∙ ap (λ b. colon_gap more ++ b) (sym r))) row
 
-  reads_inside : Succeeds (Goes text ws last) (fetch_value t)
+  reads_inside : Succeeds (Goes text ws stop) (fetch_value t)
   reads_inside = by g.side.key g.side.keys_are g.side.here (valued.1, valued.2) ind goes_then
     where
       Goal : Option Key → Type 0
-      Goal k = Succeeds (Goes text ws last) (fetch_value t)
+      Goal k = Succeeds (Goes text ws stop) (fetch_value t)
 
       by : (k : Option Key) → t.held.keys ≡ k ∷ g.side.keys → (a : ArrivesBy text t (g.side.level ∷ g.side.levels) (k ∷ g.side.keys) (g.side.entry ∷ g.side.entries)) →
           ((entry_by (first_choice g.inside) k g.side.entry).had ≡ filled → ⊥) × OnLine z.position (takes_pair g.side.entry.kind g.side.entry.pair) (entry_by (first_choice g.inside) k g.side.entry).had →
           is_value_indicator true (is_adjacent (before_past (before_by a.site.before) a.separation)) more ≡ true →
-          ((u : ScannerState) → StandsAt text (base_inside Tok.value (58 ∷ []) t.held.position a.site more a.line (valued_entry g.side.entry ∷ g.side.entries)) (colon_gap more) u → u.held.keys ≡ None ∷ g.side.keys → u.held.position ≡ end → u.rest ≡ past_gap more → Goes text ws last u) → Goal k
+          ((u : ScannerState) → StandsAt text (base_inside Tok.value (58 ∷ []) t.held.position a.site more a.line (valued_entry g.side.entry ∷ g.side.entries)) (colon_gap more) u → u.held.keys ≡ None ∷ g.side.keys → u.held.position ≡ end → u.rest ≡ past_gap more → Goes text ws stop u) → Goal k
       by None keys a h ind goes =
-          subst (λ q. Succeeds (Goes text ws last) q) (sym (value_is more t (g.side.level ∷ g.side.levels) (None ∷ g.side.keys) e g.side.flow_is keys apart ∙ keyless_goes more t g.side.levels g.side.keys g.side.level))
+          subst (λ q. Succeeds (Goes text ws stop) q) (sym (value_is more t (g.side.level ∷ g.side.levels) (None ∷ g.side.keys) e g.side.flow_is keys apart ∙ keyless_goes more t g.side.levels g.side.keys g.side.level))
           (went (goes (colon_end t more t.held.indents t.held.indent (with_pair (opens_pair (g.side.level ∷ g.side.levels)) more t) false (pair_level InPair g.side.level ∷ g.side.levels) (None ∷ g.side.keys))
           (keyless_within text more t g.side.level g.side.levels g.side.keys g.side.entry g.side.entries a e apart ind deep) refl refl refl))
       by (Some k) keys a h ind goes =
           let on : (not (opens_pair (g.side.level ∷ g.side.levels)) || (k.position.line == t.held.position.line)) ≡ true =
           ap (λ b. not b || (k.position.line == t.held.position.line)) (sym (single_is g.side.level g.side.levels (Some k) g.side.entry a.are_entries.0)) ∙
           is_chosen (first_choice g.inside) k g.side.entry (is_renewed a.site.before a.separation) t.held.key_allowed z.position (takes_pair g.side.entry.kind g.side.entry.pair) a.are_entries.1 h.0 h.1 in
-          subst (λ q. Succeeds (Goes text ws last) q) (sym (value_is more t (g.side.level ∷ g.side.levels) (Some k ∷ g.side.keys) e g.side.flow_is keys apart ∙ keyed_goes more t g.side.levels k g.side.keys g.side.level on))
+          subst (λ q. Succeeds (Goes text ws stop) q) (sym (value_is more t (g.side.level ∷ g.side.levels) (Some k ∷ g.side.keys) e g.side.flow_is keys apart ∙ keyed_goes more t g.side.levels k g.side.keys g.side.level on))
           (went (goes (colon_end t more t.held.indents t.held.indent (in_pair t more k (opens_pair (g.side.level ∷ g.side.levels))) false (pair_level InPair g.side.level ∷ g.side.levels) (None ∷ g.side.keys))
           (inner_stands text more t g.side.level g.side.levels k g.side.keys g.side.entry g.side.entries a e apart ind deep on) refl refl refl))
 
 -- `:`
-pub colon_reads : (text : List ℕ) (w : Step) (ws : List Step) (last : List ℕ) (t : ScannerState) (more : List ℕ) → KeysBefore t.held.position t.held.keys → t.rest ≡ 58 ∷ more → is_value t ≡ true → IsDeep t.held → Reads text w ws last t fetch_value
-colon_reads text w ws last t more early e indicates deep g = by (goes_side text (w ∷ ws) last t g)
+pub colon_reads : (text : List ℕ) (w : Step) (ws : List Step) (stop : Stop) (t : ScannerState) (more : List ℕ) → KeysBefore t.held.position t.held.keys → t.rest ≡ 58 ∷ more → is_value t ≡ true → IsDeep t.held → Reads text w ws stop t fetch_value
+colon_reads text w ws stop t more early e indicates deep g = by (goes_side text (w ∷ ws) stop t g)
   where
-    by : GoesOutside text (w ∷ ws) last t ⊎ GoesInside text (w ∷ ws) last t → Succeeds (Goes text ws last) (fetch_value t)
-    by (inl o) = reads_outside text more w ws last t e deep o indicates
-    by (inr i) = reads_inside text more w ws last t e deep i indicates
+    by : GoesOutside text (w ∷ ws) stop t ⊎ GoesInside text (w ∷ ws) stop t → Succeeds (Goes text ws stop) (fetch_value t)
+    by (inl o) = reads_outside text more w ws stop t e deep o indicates
+    by (inr i) = reads_inside text more w ws stop t e deep i indicates

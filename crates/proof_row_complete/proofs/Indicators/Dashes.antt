@@ -12,21 +12,20 @@ use Rattle.defs_scalar.specs.Tags.{leading, after}
 use Rattle.defs_token.specs.Account.{is_adjacent}
 use Rattle.defs_token.specs.Token.{Tok}
 use Rattle.defs_token.specs.Piece.{IsPiece}
-use Rattle.defs_row.specs.Step.{Step, spelled, gives_dash, is_on_line, past_comment, blanks_and_comment, past_blanks_and_comment}
+use Rattle.defs_row.specs.Step.{Step, gives_dash, is_on_line, past_comment, blanks_and_comment, past_blanks_and_comment}
 use Rattle.defs_row.specs.Column.{is_in_column, opened}
 use Rattle.defs_row.specs.Indentation.{is_indented_by_spaces, begins_entry, dash_may_precede}
 use Rattle.defs_row.specs.Following.{may_precede}
 use Rattle.defs_row.specs.Key.{Line, free, taken, waits, begins_free_line, Outside, line_past}
 use Rattle.defs_row.specs.Account.{Site, site_in, is_deep_enough, seen}
 use Rattle.defs_row.specs.Tokens.{shown_position}
-use Rattle.defs_row.specs.Row.{IsRowFrom}
 use Rattle.model_lexers.specs.declared.context.SkipTabs.TheVariants.{No}
 use Rattle.model_scanner.specs.State.{Held, ScannerState, ◌>>=◌, in_flow, push, after as after_first, with_top, token, on_held, with_held, try_held, lexed, skip_indicator}
 use Rattle.model_scanner.specs.Keys.{is_required, top_key, remove_implicit_key}
 use Rattle.model_scanner.specs.Indents.{roll_indent}
 use Rattle.model_scanner.specs.Space.{skip_spaces}
 use Rattle.model_scanner.specs.Flow.{allow_key}
-use Rattle.model_scanner.specs.Block.{last_property, at_margin, check_block_entry, check_dash, roll_entry, fetch_block_entry}
+use Rattle.model_scanner.specs.Block.{check_block_entry, check_dash, roll_entry, fetch_block_entry}
 use Rattle.proof_ends.specs.Ends.{dash, kind_at}
 use Rattle.proof_ends.proofs.Begins.{Whole}
 use Rattle.proof_cut.proofs.Blocks.{entry_from}
@@ -41,6 +40,7 @@ use Rattle.proof_row_sound.proofs.NodesOutside.{Outer}
 use Rattle.proof_row_sound.proofs.OutsidePieces.{base_past}
 use Rattle.proof_row_sound.proofs.Rolled.{RollsTo, rolls_to}
 use Rattle.proof_row_sound.proofs.Sides.{ArrivesBy}
+use Rattle.proof_row_complete.specs.Ways.{Stop, spelled_to, LeadsTo}
 use Rattle.proof_row_complete.specs.Goes.{Succeeds, went, Goes, GoesHere}
 use Rattle.proof_row_complete.specs.EachReads.{Reads, before_here}
 use Rattle.proof_row_complete.proofs.Indicators.FreeLines.{free_here, NoneOpen, none_open, step as mark_step, at as mark_at, mark_read, mark_asks, mark_row, mark_line}
@@ -95,15 +95,11 @@ dash_goes more t e h =
     ap (λ b. if b then Err (At problem.TabAfterDash t.held.position) else Ok t)
     (ap (λ r. is_one_of (leading is_blank more) 9 && (slice_index r 0 == 45) && is_blank_or_breakz (slice_index r 1)) e ∙ apart_here (is_one_of (leading is_blank more) 9) (after is_blank more) h)
 
-entry_goes : (s : Held) → in_flow s ≡ false → s.key_allowed ≡ true → at_margin (last_property s.tokens) s.position s ≡ Ok s → check_block_entry s ≡ Ok s
+entry_goes : (s : Held) → in_flow s ≡ false → s.key_allowed ≡ true → check_block_entry s ≡ Ok s
 unfolding check_block_entry
-entry_goes s out allowed margin =
-    ap (λ b. if b then Err (At problem.BlockEntryInFlow s.position) else (if not s.key_allowed then Err (At problem.BlockEntryNotAllowed s.position) else at_margin (last_property s.tokens) s.position s)) out ∙
-    (ap (λ b. if not b then Err (At problem.BlockEntryNotAllowed s.position) else at_margin (last_property s.tokens) s.position s) allowed ∙ margin)
-
--- No property stands before a dash in the first column, where a collection is open there.
-abbrev pub IsClearOfMargin : ScannerState → Type 0
-IsClearOfMargin t = at_margin (last_property t.held.tokens) t.held.position t.held ≡ Ok t.held
+entry_goes s out allowed =
+    ap (λ b. if b then Err (At problem.BlockEntryInFlow s.position) else (if not s.key_allowed then Err (At problem.BlockEntryNotAllowed s.position) else Ok s)) out ∙
+    (ap (λ b. if not b then Err (At problem.BlockEntryNotAllowed s.position) else Ok s) allowed)
 
 -- ---- what the row says
 
@@ -116,43 +112,43 @@ dash_free must here bs false free x e = (refl, same_value x (record { line = fre
 dash_free must here bs false taken x e = absurd (cc e)
 dash_free must here bs false (waits b) x e = absurd (cc e)
 
-module _ (text more : List ℕ) (w : Step) (ws : List Step) (last : List ℕ) (t : ScannerState) (e : t.rest ≡ 45 ∷ more) (gap : is_at_gap more ≡ true) where
+module _ (text more : List ℕ) (w : Step) (ws : List Step) (stop : Stop) (t : ScannerState) (e : t.rest ≡ 45 ∷ more) (gap : is_at_gap more ≡ true) where
   -- no key is open, and one may begin
-  none_here : (g : GoesOutside text (w ∷ ws) last t) → (g.side.key ≡ None) × (t.held.key_allowed ≡ true)
+  none_here : (g : GoesOutside text (w ∷ ws) stop t) → (g.side.key ≡ None) × (t.held.key_allowed ≡ true)
   none_here g =
       let a = g.side.here in
       let l : Line = line_by g.outside g.side.key a.line in
-      let r = mark_read text more w ws last Tok.block_entry 45 t e g.side.key a l g.is_spelled g.is_row (refl, gap, refl) in
-      let v = mark_asks text more w ws last Tok.block_entry 45 t e g.side.key a l g.is_spelled g.is_row r in
-      let x : Site = mark_at text more w ws last Tok.block_entry 45 t e g.side.key a l g.is_spelled g.is_row in
+      let r = mark_read text more w ws stop Tok.block_entry 45 t e g.side.key a l g.is_spelled g.is_row (refl, gap, refl) in
+      let v = mark_asks text more w ws stop Tok.block_entry 45 t e g.side.key a l g.is_spelled g.is_row r in
+      let x : Site = mark_at text more w ws stop Tok.block_entry 45 t e g.side.key a l g.is_spelled g.is_row in
       let line : v.line_here ≡ line_by g.outside g.side.key a.line_here = separated_by false (begins_free_line a.site.before a.separation) g.outside g.side.key a.line a.line_here v.line_here a.is_line v.line_is in
       free_here g.outside t.held.key_allowed g.side.key t.rest a.line_here (ap is_empty e) a.line_is (sym line ∙ (dash_free (is_in_column x.position.col x.blocks) x.position x.blocks r.key v.line_here v.after v.after_is).0)
 
-  reads_outside : IsDeep t.held → NoneOpen text (w ∷ ws) last t → t.held.key_allowed ≡ true → IsClearOfMargin t → Succeeds (Goes text ws last) (fetch_block_entry t)
+  reads_outside : IsDeep t.held → NoneOpen text (w ∷ ws) stop t → t.held.key_allowed ≡ true → Succeeds (Goes text ws stop) (fetch_block_entry t)
   unfolding fetch_block_entry
-  reads_outside deep n allowed margin =
-      subst (λ q. Succeeds (Goes text ws last) q) (sym is) (went (goes_on text ws last (dash_end t more m.indents m.indent (with_sequence t)) (base_past Tok.block_entry (45 ∷ []) t.held.position a.site more (after_dash t.held.position a.site.blocks)) (None ∷ []) (blanks_and_comment more)
+  reads_outside deep n allowed =
+      subst (λ q. Succeeds (Goes text ws stop) q) (sym is) (went (goes_on text ws stop (dash_end t more m.indents m.indent (with_sequence t)) (base_past Tok.block_entry (45 ∷ []) t.held.position a.site more (after_dash t.held.position a.site.blocks)) (None ∷ []) (blanks_and_comment more)
       (dash_stands text more t a n.flow_is n.keys_are e gap allowed apart m.indent m.indents (m.columns_are ∙ r.columns_are) m.are_levels m.awaits) (ap (with_top None) n.keys_are) false [] tt (p.is_spelled ∙ line_rest_cut more) row))
     where
       a : ArrivesBy text t [] (None ∷ []) []
       a = n.here
 
-      p : GoesPast (Outer a.site a.line) (mark_step text more w ws last Tok.block_entry 45 t e None a a.line n.is_spelled n.is_row) more ws last
-      p = mark_read text more w ws last Tok.block_entry 45 t e None a a.line n.is_spelled n.is_row (refl, gap, refl)
+      p : GoesPast (Outer a.site a.line) (mark_step text more w ws stop Tok.block_entry 45 t e None a a.line n.is_spelled n.is_row) more ws stop
+      p = mark_read text more w ws stop Tok.block_entry 45 t e None a a.line n.is_spelled n.is_row (refl, gap, refl)
 
-      v : WentOutside a.site a.line (with_key (mark_step text more w ws last Tok.block_entry 45 t e None a a.line n.is_spelled n.is_row) p.key) more ws last
-      v = mark_asks text more w ws last Tok.block_entry 45 t e None a a.line n.is_spelled n.is_row p
+      v : WentOutside a.site a.line (with_key (mark_step text more w ws stop Tok.block_entry 45 t e None a a.line n.is_spelled n.is_row) p.key) more ws stop
+      v = mark_asks text more w ws stop Tok.block_entry 45 t e None a a.line n.is_spelled n.is_row p
 
       x : Site
       x = site_in false gives_dash t.held.position a.site
 
-      row : IsRowFrom (Some (base_past Tok.block_entry (45 ∷ []) t.held.position a.site more (after_dash t.held.position a.site.blocks))) ws last
-      row = mark_row text more w ws last Tok.block_entry 45 t e None a a.line n.is_spelled n.is_row p (after_dash t.held.position a.site.blocks)
-          (dash_free (is_in_column x.position.col x.blocks) x.position x.blocks p.key v.line_here v.after (mark_line text more w ws last Tok.block_entry 45 t e None a a.line n.is_spelled n.is_row p)).1
+      row : LeadsTo (Some (base_past Tok.block_entry (45 ∷ []) t.held.position a.site more (after_dash t.held.position a.site.blocks))) ws stop
+      row = mark_row text more w ws stop Tok.block_entry 45 t e None a a.line n.is_spelled n.is_row p (after_dash t.held.position a.site.blocks)
+          (dash_free (is_in_column x.position.col x.blocks) x.position x.blocks p.key v.line_here v.after (mark_line text more w ws stop Tok.block_entry 45 t e None a a.line n.is_spelled n.is_row p)).1
 
       apart : dash_may_precede more ≡ true
       apart =
-          let y : Site = mark_at text more w ws last Tok.block_entry 45 t e None a a.line n.is_spelled n.is_row in
+          let y : Site = mark_at text more w ws stop Tok.block_entry 45 t e None a a.line n.is_spelled n.is_row in
           last_of (is_indented_by_spaces a.site.before a.site.blocks a.site.awaits a.separation) (is_deep_enough false Tok.block_entry y) true (may_precede false y.blocks Tok.block_entry (45 ∷ []) more) v.stands
 
       h : Held
@@ -181,7 +177,7 @@ module _ (text more : List ℕ) (w : Step) (ws : List Step) (last : List ℕ) (t
 
       is : fetch_block_entry t ≡ Ok (dash_end t more m.indents m.indent (with_sequence t))
       is =
-          ap (λ q. with_held t q >>= λ u. entry_from t u) (entry_goes t.held out allowed margin) ∙
+          ap (λ q. with_held t q >>= λ u. entry_from t u) (entry_goes t.held out allowed) ∙
           (ap entry_on is_y ∙
           (ap (λ q. lexed q y.held check_dash >>= λ w. skip_spaces No w >>= entry_then) (spaced_parted more y.held.position (gap_first more gap)) ∙
           (ap (λ q. q >>= λ w. skip_spaces No w >>= entry_then) (dash_goes more z refl apart) ∙
@@ -190,28 +186,26 @@ module _ (text more : List ℕ) (w : Step) (ws : List Step) (last : List ℕ) (t
           ap (λ q. with_held (record z { held = record z.held { indents = m.indents; indent = m.indent } }) q >>= λ w. Ok (on_held last_part w)) (removed (record z.held { indents = m.indents; indent = m.indent }) (ap (λ ks. is_required (top_key ks)) n.keys_are)))))))
 
 -- in flow stands no dash
-no_dash_inside : (text more : List ℕ) (w : Step) (ws : List Step) (last : List ℕ) (t : ScannerState) (g : GoesHere text (w ∷ ws) last t) → t.rest ≡ 45 ∷ more → is_at_gap more ≡ true → in_flow t.held ≡ true → ⊥
-no_dash_inside text more w ws last t g e gap within =
-    let h : PieceHere text w ws last t g = piece_here text w ws last t g in
-    let adjacent : Bool = is_adjacent (before_here text (w ∷ ws) last t g) in
+no_dash_inside : (text more : List ℕ) (w : Step) (ws : List Step) (stop : Stop) (t : ScannerState) (g : GoesHere text (w ∷ ws) stop t) → t.rest ≡ 45 ∷ more → is_at_gap more ≡ true → in_flow t.held ≡ true → ⊥
+no_dash_inside text more w ws stop t g e gap within =
+    let h : PieceHere text w ws stop t g = piece_here text w ws stop t g in
+    let adjacent : Bool = is_adjacent (before_here text (w ∷ ws) stop t g) in
     let kind : kind_at (in_flow t.held) adjacent t.held.position.col t.rest ≡ dash = ap (λ r. kind_at (in_flow t.held) adjacent t.held.position.col r) e ∙ there (in_flow t.held) adjacent t.held.position.col in
-    let whole : Whole dash (context_here text w ws last t g) w.piece (spelled ws last) w.shown = subst (λ k. Whole k (context_here text w ws last t g) w.piece (spelled ws last) w.shown) kind h.whole in
-    let at : Site = site_of (account_here text w ws last t g) w (spelled ws last) in
-    let own : IsPiece (seen (account_here text w ws last t g) at w.separation) w.piece (spelled ws last) None (shown_position at w.piece w.shown (spelled ws last)) Tok.block_entry =
-    subst (λ y. IsPiece (seen (account_here text w ws last t g) at w.separation) w.piece (spelled ws last) None (shown_position at w.piece w.shown (spelled ws last)) y) whole.2 g.is_row.0.1.1 in
+    let whole : Whole dash (context_here text w ws stop t g) w.piece (spelled_to ws stop) w.shown = subst (λ k. Whole k (context_here text w ws stop t g) w.piece (spelled_to ws stop) w.shown) kind h.whole in
+    let at : Site = site_of (account_here text w ws stop t g) w (spelled_to ws stop) in
+    let own : IsPiece (seen (account_here text w ws stop t g) at w.separation) w.piece (spelled_to ws stop) None (shown_position at w.piece w.shown (spelled_to ws stop)) Tok.block_entry =
+    subst (λ y. IsPiece (seen (account_here text w ws stop t g) at w.separation) w.piece (spelled_to ws stop) None (shown_position at w.piece w.shown (spelled_to ws stop)) y) whole.2 g.is_row.0.1.1 in
     absurd (cc (sym own.2 ∙ (h.flow_is ∙ within)))
   where
     there : (fl adjacent : Bool) (column : ℕ) → kind_at fl adjacent column (45 ∷ more) ≡ dash
     there fl adjacent column = rw gap refl
 
--- `-`, where the model's tokens so far are clear of the margin
-pub dash_reads_if : (text : List ℕ) (w : Step) (ws : List Step) (last : List ℕ) (t : ScannerState) (more : List ℕ) → t.rest ≡ 45 ∷ more → is_at_gap more ≡ true → IsDeep t.held → (NoneOpen text (w ∷ ws) last t → IsClearOfMargin t) →
-    Reads text w ws last t fetch_block_entry
-dash_reads_if text w ws last t more e gap deep clear g = by (goes_side text (w ∷ ws) last t g)
+-- `-`
+pub dash_reads : (text : List ℕ) (w : Step) (ws : List Step) (stop : Stop) (t : ScannerState) (more : List ℕ) → t.rest ≡ 45 ∷ more → is_at_gap more ≡ true → IsDeep t.held → Reads text w ws stop t fetch_block_entry
+dash_reads text w ws stop t more e gap deep g = by (goes_side text (w ∷ ws) stop t g)
   where
-    by : GoesOutside text (w ∷ ws) last t ⊎ GoesInside text (w ∷ ws) last t → Succeeds (Goes text ws last) (fetch_block_entry t)
+    by : GoesOutside text (w ∷ ws) stop t ⊎ GoesInside text (w ∷ ws) stop t → Succeeds (Goes text ws stop) (fetch_block_entry t)
     by (inl o) =
-        let free = none_here text more w ws last t e gap o in
-        let none : NoneOpen text (w ∷ ws) last t = none_open text (w ∷ ws) last t o free.0 in
-        reads_outside text more w ws last t e gap deep none free.1 (clear none)
-    by (inr i) = absurd (no_dash_inside text more w ws last t g e gap (ap (λ fs. not (is_empty fs)) i.side.flow_is))
+        let free = none_here text more w ws stop t e gap o in
+        reads_outside text more w ws stop t e gap deep (none_open text (w ∷ ws) stop t o free.0) free.1
+    by (inr i) = absurd (no_dash_inside text more w ws stop t g e gap (ap (λ fs. not (is_empty fs)) i.side.flow_is))

@@ -13,7 +13,6 @@ use Rattle.defs_row.specs.Key.{Line, free, taken, waits, is_waiting, begins_free
 use Rattle.defs_row.specs.FlowEntry.{Had, fresh, filled, waits as had_waits, settled, Entry, is_renewed, begun_by, entries_past, past_end, first_entry}
 use Rattle.defs_row.specs.Account.{Site, Account, site_at, site_in, site_past, seen}
 use Rattle.defs_row.specs.Tokens.{shown_position, past_line_rest}
-use Rattle.defs_row.specs.Row.{IsRowFrom}
 use Rattle.model_lexers.specs.Machine.{past}
 use Rattle.model_scanner.specs.State.{Held, ScannerState, ◌>>=◌, push, pop, with_top, after, on_held, with_held}
 use Rattle.model_scanner.specs.Keys.{is_required, top_key, remove_implicit_key}
@@ -30,6 +29,7 @@ use Rattle.proof_row_sound.proofs.EntryEnds.{act_by, entries_after, keys_by}
 use Rattle.proof_row_sound.proofs.FlowMarks.{stray_outside, after_comma, adjacent_is, after_closing}
 use Rattle.proof_row_sound.proofs.Indicated.{past_it}
 use Rattle.proof_row_sound.proofs.Sides.{with_entries, ArrivesInside}
+use Rattle.proof_row_complete.specs.Ways.{Stop, LeadsTo}
 use Rattle.proof_row_complete.specs.Goes.{Succeeds, went, Goes}
 use Rattle.proof_row_complete.specs.EachReads.{Reads}
 use Rattle.proof_row_complete.proofs.Indicators.Passed.{passed, no_comment, free_key, same_value, line_inside, not_required, may_on}
@@ -101,7 +101,7 @@ choices_then false cs = false ∷ pop cs
 
 -- ---- the step
 
-module _ (text more : List ℕ) (w : Step) (ws : List Step) (last : List ℕ) (closes : Bool) (tok : Tok) (c : ℕ) (k : IsCloser closes tok c) (t : ScannerState) (cut : t.rest ≡ c ∷ more) where
+module _ (text more : List ℕ) (w : Step) (ws : List Step) (stop : Stop) (closes : Bool) (tok : Tok) (c : ℕ) (k : IsCloser closes tok c) (t : ScannerState) (cut : t.rest ≡ c ∷ more) where
   abbrev step : List ℕ → Step
   step f = record { separation = f; piece = c ∷ []; shown = tok; key = false }
 
@@ -119,13 +119,13 @@ module _ (text more : List ℕ) (w : Step) (ws : List Step) (last : List ℕ) (c
   record Stray : Type 0 where
     need : is_required (top_key t.held.keys) ≡ false
     hash : begins_with 35 more ≡ false
-    goes : Goes text ws last (stray_past closes t tok more)
+    goes : Goes text ws stop (stray_past closes t tok more)
 
-  stray : GoesOutside text (w ∷ ws) last t → Stray
+  stray : GoesOutside text (w ∷ ws) stop t → Stray
   stray g = record {
     need = need;
     hash = hash;
-    goes = goes_on text ws last (stray_past closes t tok more) (stray_base closes tok c t.held.position s more) (None ∷ []) (blanks_and_comment more) (stray_outside text more closes tok c k t g.side cut hash need)
+    goes = goes_on text ws stop (stray_past closes t tok more) (stray_base closes tok c t.held.position s more) (None ∷ []) (blanks_and_comment more) (stray_outside text more closes tok c k t g.side cut hash need)
         (ap (with_top None) g.side.keys_are) false [] tt (r.is_spelled ∙ line_rest_cut more) row;
   }
     where
@@ -138,12 +138,12 @@ module _ (text more : List ℕ) (w : Step) (ws : List Step) (last : List ℕ) (c
       x : Site
       x = site_at false s f (c ∷ []) tok more
 
-      r : GoesPast (account_out g) (step f) more ws last
-      r = step_read (account_out g) w ws last (step f) more g.is_row (g.is_spelled ∙ ap (λ y. f ++ y) cut)
+      r : GoesPast (account_out g) (step f) more ws stop
+      r = step_read (account_out g) w ws stop (step f) more g.is_row (g.is_spelled ∙ ap (λ y. f ++ y) cut)
           (subst (λ y. is_separation false f y ≡ true) cut g.side.here.is_filled, (refl, written (account_out g) x f (k.is_end.piece (seen (account_out g) x f) more None refl))) (clean g.side.here.is_clean)
 
-      y : WentOutside s (line_out g) (with_key (step f) r.key) more ws last
-      y = went_outside s (line_out g) (with_key (step f) r.key) more ws last r.is_row
+      y : WentOutside s (line_out g) (with_key (step f) r.key) more ws stop
+      y = went_outside s (line_out g) (with_key (step f) r.key) more ws stop r.is_row
 
       then : (y.after ≡ record { line = line_then closes; blocks = x.blocks }) × (is_waiting y.line_here ≡ false)
       then = stray_after closes (is_in_column x.position.col x.blocks) x.position x.blocks r.key y.line_here y.after (ap (λ z. line_past (is_in_column x.position.col x.blocks) x.position x.blocks z r.key y.line_here) (sym k.act) ∙ y.after_is)
@@ -155,7 +155,7 @@ module _ (text more : List ℕ) (w : Step) (ws : List Step) (last : List ℕ) (c
       hash = no_comment false s x f (c ∷ []) tok more (k.precedes false x.blocks (c ∷ []) more) y.stands
 
       At : Site → Outside → List Entry → Type 0
-      At z o es = IsRowFrom (Some (record { site = site_past false z (c ∷ []) tok more o.blocks; line = o.line; entries = es })) ws last
+      At z o es = LeadsTo (Some (record { site = site_past false z (c ∷ []) tok more o.blocks; line = o.line; entries = es })) ws stop
 
       row : At (site_here false t.held.position s) (record { line = line_then closes; blocks = (site_here false t.held.position s).blocks }) []
       row = subst (λ z. At z (record { line = line_then closes; blocks = z.blocks }) []) (place false s f g.side.here.position_is) (subst (λ o. At x o []) then.0 (subst (λ es. At x y.after es) k.begun y.is_row))
@@ -164,13 +164,13 @@ module _ (text more : List ℕ) (w : Step) (ws : List Step) (last : List ℕ) (c
   record Closed (i : ArrivesInside text t) : Type 0 where
     need_in : is_required (top_key t.held.keys) ≡ false
     hash_in : begins_with 35 more ≡ false
-    goes_in : Goes text ws last (closed_past closes t tok more i.level i.levels i.keys)
+    goes_in : Goes text ws stop (closed_past closes t tok more i.level i.levels i.keys)
 
-  closed : IsDeep t.held → (g : GoesInside text (w ∷ ws) last t) → Closed g.side
+  closed : IsDeep t.held → (g : GoesInside text (w ∷ ws) stop t) → Closed g.side
   closed deep g = record {
     need_in = ap (λ ks. is_required (top_key ks)) g.side.keys_are ∙ free_key g.side.key g.side.here.are_entries.0.key_is;
     hash_in = hash;
-    goes_in = goes_on text ws last (closed_past closes t tok more g.side.level g.side.levels g.side.keys) (closed_base closes tok c t.held.position s g.side.here.line g.side.entry g.side.entries more) (keys_by closes g.side.keys) (blanks_and_comment more)
+    goes_in = goes_on text ws stop (closed_past closes t tok more g.side.level g.side.levels g.side.keys) (closed_base closes tok c t.held.position s g.side.here.line g.side.entry g.side.entries more) (keys_by closes g.side.keys) (blanks_and_comment more)
         (closed_inside text more closes tok c k t g.side cut hash deep) refl g.outside (choices_then closes g.inside) (may closes) (r.is_spelled ∙ line_rest_cut more) (row closes rows);
   }
     where
@@ -183,25 +183,25 @@ module _ (text more : List ℕ) (w : Step) (ws : List Step) (last : List ℕ) (c
       x : Site
       x = site_at true s f (c ∷ []) tok more
 
-      r : GoesPast (account_in g) (step f) more ws last
-      r = step_read (account_in g) w ws last (step f) more g.is_row (g.is_spelled ∙ ap (λ y. f ++ y) cut)
+      r : GoesPast (account_in g) (step f) more ws stop
+      r = step_read (account_in g) w ws stop (step f) more g.is_row (g.is_spelled ∙ ap (λ y. f ++ y) cut)
           (subst (λ y. is_separation false f y ≡ true) cut g.side.here.is_filled, (refl, written (account_in g) x f (k.is_end.piece (seen (account_in g) x f) more None refl))) (clean g.side.here.is_clean)
 
-      y : WentInside s (line_in g) (entry_in g) (around_in g) (with_key (step f) r.key) more ws last
-      y = went_inside s (line_in g) (entry_in g) (around_in g) (with_key (step f) r.key) more ws last r.is_row
+      y : WentInside s (line_in g) (entry_in g) (around_in g) (with_key (step f) r.key) more ws stop
+      y = went_inside s (line_in g) (entry_in g) (around_in g) (with_key (step f) r.key) more ws stop r.is_row
 
       hash : begins_with 35 more ≡ false
       hash = no_comment true s x f (c ∷ []) tok more (k.precedes true x.blocks (c ∷ []) more) y.stands
 
       At : Site → Line → List Entry → Type 0
-      At z m xs = IsRowFrom (Some (with_entries (site_past true z (c ∷ []) tok more z.blocks) m xs)) ws last
+      At z m xs = LeadsTo (Some (with_entries (site_past true z (c ∷ []) tok more z.blocks) m xs)) ws stop
 
       rows : At (site_here true t.held.position s) (line_in g) (entries_after closes (entry_in g) (around_in g))
       rows = subst (λ z. At z (line_in g) (entries_after closes (entry_in g) (around_in g))) (place true s f g.side.here.position_is)
           (subst (λ m. At x m (entries_after closes (entry_in g) (around_in g))) (line_inside (begins_free_line s.before f) (line_in g) y.line_here y.line_is)
           (subst (λ xs. At x y.line_here xs) (closed_after closes x.position (is_renewed s.before f) (begun_by tok) r.key (entry_in g) (around_in g) y.after (ap (λ z. entries_past x.position (is_renewed s.before f) z (begun_by tok) r.key (entry_in g) (around_in g)) (sym k.act) ∙ y.after_is)) y.is_row))
 
-      row : (b : Bool) → At (site_here true t.held.position s) (line_in g) (entries_after b (entry_in g) (around_in g)) → IsRowFrom (Some (chosen g.outside (choices_then b g.inside) (keys_by b g.side.keys) (with_entries (site_past true (site_here true t.held.position s) (c ∷ []) tok more s.blocks) g.side.here.line (entries_after b g.side.entry g.side.entries)))) ws last
+      row : (b : Bool) → At (site_here true t.held.position s) (line_in g) (entries_after b (entry_in g) (around_in g)) → LeadsTo (Some (chosen g.outside (choices_then b g.inside) (keys_by b g.side.keys) (with_entries (site_past true (site_here true t.held.position s) (c ∷ []) tok more s.blocks) g.side.here.line (entries_after b g.side.entry g.side.entries)))) ws stop
       row true h = h
       row false h = h
 
@@ -209,7 +209,7 @@ module _ (text more : List ℕ) (w : Step) (ws : List Step) (last : List ℕ) (c
       end = past_line_rest (past t.held.position) more
 
       kept : MayChoose g.outside (outside_key g.side.entries g.side.keys) end (past_blanks_and_comment more)
-      kept = may_on ws last (with_entries (site_past true (site_here true t.held.position s) (c ∷ []) tok more s.blocks) (line_in g) (entries_after closes (entry_in g) (around_in g))) g.outside (outside_key g.side.entries g.side.keys) g.side.here.line t.held.position end t.rest (blanks_and_comment more) (past_blanks_and_comment more)
+      kept = may_on ws stop (with_entries (site_past true (site_here true t.held.position s) (c ∷ []) tok more s.blocks) (line_in g) (entries_after closes (entry_in g) (around_in g))) g.outside (outside_key g.side.entries g.side.keys) g.side.here.line t.held.position end t.rest (blanks_and_comment more) (past_blanks_and_comment more)
           rows refl (λ z. ap (λ b. begins_free_line b z) k.previous ∙ no_directive closes z) (r.is_spelled ∙ line_rest_cut more) (line_rest_fills more) (λ z. on_its_line (past t.held.position) (blanks_and_comment more) [] z) g.may
 
       may : (b : Bool) → MayChoose g.outside (outside_key (entries_after b g.side.entry g.side.entries) (keys_by b g.side.keys)) end (past_blanks_and_comment more)
@@ -219,40 +219,40 @@ module _ (text more : List ℕ) (w : Step) (ws : List Step) (last : List ℕ) (c
 -- ---- the functions
 
 -- `,`
-pub comma_reads : (text : List ℕ) (w : Step) (ws : List Step) (last : List ℕ) (t : ScannerState) (more : List ℕ) → t.rest ≡ 44 ∷ more → IsDeep t.held → Reads text w ws last t fetch_flow_entry
-comma_reads text w ws last t more e deep g = by (goes_side text (w ∷ ws) last t g)
+pub comma_reads : (text : List ℕ) (w : Step) (ws : List Step) (stop : Stop) (t : ScannerState) (more : List ℕ) → t.rest ≡ 44 ∷ more → IsDeep t.held → Reads text w ws stop t fetch_flow_entry
+comma_reads text w ws stop t more e deep g = by (goes_side text (w ∷ ws) stop t g)
   where
-    by : GoesOutside text (w ∷ ws) last t ⊎ GoesInside text (w ∷ ws) last t → Succeeds (Goes text ws last) (fetch_flow_entry t)
+    by : GoesOutside text (w ∷ ws) stop t ⊎ GoesInside text (w ∷ ws) stop t → Succeeds (Goes text ws stop) (fetch_flow_entry t)
     by (inl o) =
-        let s = stray text more w ws last false Tok.flow_entry 44 comma t e o in
-        subst (λ r. Succeeds (Goes text ws last) r) (sym (comma_is t more e s.hash s.need))
-        (went (subst (λ fs. Goes text ws last (after_comma fs (with_top None t.held.keys) t more)) (sym o.side.flow_is) s.goes))
+        let s = stray text more w ws stop false Tok.flow_entry 44 comma t e o in
+        subst (λ r. Succeeds (Goes text ws stop) r) (sym (comma_is t more e s.hash s.need))
+        (went (subst (λ fs. Goes text ws stop (after_comma fs (with_top None t.held.keys) t more)) (sym o.side.flow_is) s.goes))
     by (inr i) =
-        let s = closed text more w ws last false Tok.flow_entry 44 comma t e deep i in
-        subst (λ r. Succeeds (Goes text ws last) r) (sym (comma_is t more e s.hash_in s.need_in))
-        (went (subst (λ fs. Goes text ws last (after_comma fs (with_top None t.held.keys) t more)) (sym i.side.flow_is)
-        (subst (λ ks. Goes text ws last (after_comma (i.side.level ∷ i.side.levels) ks t more)) (sym (ap (with_top None) i.side.keys_are)) s.goes_in)))
+        let s = closed text more w ws stop false Tok.flow_entry 44 comma t e deep i in
+        subst (λ r. Succeeds (Goes text ws stop) r) (sym (comma_is t more e s.hash_in s.need_in))
+        (went (subst (λ fs. Goes text ws stop (after_comma fs (with_top None t.held.keys) t more)) (sym i.side.flow_is)
+        (subst (λ ks. Goes text ws stop (after_comma (i.side.level ∷ i.side.levels) ks t more)) (sym (ap (with_top None) i.side.keys_are)) s.goes_in)))
 
 -- `]` or `}`
-closing_reads : (text : List ℕ) (w : Step) (ws : List Step) (last : List ℕ) (t : ScannerState) (more : List ℕ) (tok : Tok) (c : ℕ) → IsCloser true tok c → t.rest ≡ c ∷ more → IsDeep t.held → Reads text w ws last t (fetch_flow_collection_end tok)
+closing_reads : (text : List ℕ) (w : Step) (ws : List Step) (stop : Stop) (t : ScannerState) (more : List ℕ) (tok : Tok) (c : ℕ) → IsCloser true tok c → t.rest ≡ c ∷ more → IsDeep t.held → Reads text w ws stop t (fetch_flow_collection_end tok)
 unfolding adjacent_in_flow
-closing_reads text w ws last t more tok c k e deep g = by (goes_side text (w ∷ ws) last t g)
+closing_reads text w ws stop t more tok c k e deep g = by (goes_side text (w ∷ ws) stop t g)
   where
-    by : GoesOutside text (w ∷ ws) last t ⊎ GoesInside text (w ∷ ws) last t → Succeeds (Goes text ws last) (fetch_flow_collection_end tok t)
+    by : GoesOutside text (w ∷ ws) stop t ⊎ GoesInside text (w ∷ ws) stop t → Succeeds (Goes text ws stop) (fetch_flow_collection_end tok t)
     by (inl o) =
-        let s = stray text more w ws last true tok c k t e o in
-        subst (λ r. Succeeds (Goes text ws last) r) (sym (closing_is tok c t more e s.hash s.need))
-        (went (subst (λ fs. Goes text ws last (after_closing tok fs (higher_keys fs t.held.keys) t more)) (sym o.side.flow_is) s.goes))
+        let s = stray text more w ws stop true tok c k t e o in
+        subst (λ r. Succeeds (Goes text ws stop) r) (sym (closing_is tok c t more e s.hash s.need))
+        (went (subst (λ fs. Goes text ws stop (after_closing tok fs (higher_keys fs t.held.keys) t more)) (sym o.side.flow_is) s.goes))
     by (inr i) =
-        let s = closed text more w ws last true tok c k t e deep i in
+        let s = closed text more w ws stop true tok c k t e deep i in
         let now : ScannerState = past_it (record t { held = record (ended_now (i.side.level ∷ i.side.levels) t.held) { keys = i.side.keys } }) more in
-        subst (λ r. Succeeds (Goes text ws last) r) (sym (closing_is tok c t more e s.hash_in s.need_in))
-        (went (subst (λ fs. Goes text ws last (after_closing tok fs (higher_keys fs t.held.keys) t more)) (sym i.side.flow_is)
-        (subst (λ ks. Goes text ws last (after_closing tok (i.side.level ∷ i.side.levels) (pop (with_top None ks)) t more)) (sym i.side.keys_are)
-        (subst (λ h. Goes text ws last (record now { held = push t.held.position tok h })) (sym (adjacent_is now.held i.side.levels)) s.goes_in))))
+        subst (λ r. Succeeds (Goes text ws stop) r) (sym (closing_is tok c t more e s.hash_in s.need_in))
+        (went (subst (λ fs. Goes text ws stop (after_closing tok fs (higher_keys fs t.held.keys) t more)) (sym i.side.flow_is)
+        (subst (λ ks. Goes text ws stop (after_closing tok (i.side.level ∷ i.side.levels) (pop (with_top None ks)) t more)) (sym i.side.keys_are)
+        (subst (λ h. Goes text ws stop (record now { held = push t.held.position tok h })) (sym (adjacent_is now.held i.side.levels)) s.goes_in))))
 
-pub close_bracket_reads : (text : List ℕ) (w : Step) (ws : List Step) (last : List ℕ) (t : ScannerState) (more : List ℕ) → t.rest ≡ 93 ∷ more → IsDeep t.held → Reads text w ws last t (fetch_flow_collection_end Tok.flow_sequence_end)
-close_bracket_reads text w ws last t more e deep = closing_reads text w ws last t more Tok.flow_sequence_end 93 closing_bracket e deep
+pub close_bracket_reads : (text : List ℕ) (w : Step) (ws : List Step) (stop : Stop) (t : ScannerState) (more : List ℕ) → t.rest ≡ 93 ∷ more → IsDeep t.held → Reads text w ws stop t (fetch_flow_collection_end Tok.flow_sequence_end)
+close_bracket_reads text w ws stop t more e deep = closing_reads text w ws stop t more Tok.flow_sequence_end 93 closing_bracket e deep
 
-pub close_brace_reads : (text : List ℕ) (w : Step) (ws : List Step) (last : List ℕ) (t : ScannerState) (more : List ℕ) → t.rest ≡ 125 ∷ more → IsDeep t.held → Reads text w ws last t (fetch_flow_collection_end Tok.flow_mapping_end)
-close_brace_reads text w ws last t more e deep = closing_reads text w ws last t more Tok.flow_mapping_end 125 closing_brace e deep
+pub close_brace_reads : (text : List ℕ) (w : Step) (ws : List Step) (stop : Stop) (t : ScannerState) (more : List ℕ) → t.rest ≡ 125 ∷ more → IsDeep t.held → Reads text w ws stop t (fetch_flow_collection_end Tok.flow_mapping_end)
+close_brace_reads text w ws stop t more e deep = closing_reads text w ws stop t more Tok.flow_mapping_end 125 closing_brace e deep

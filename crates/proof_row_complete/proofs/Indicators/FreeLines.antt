@@ -5,13 +5,12 @@ use Rattle.defs_text.specs.Text.{is_empty, has_no_nul}
 use Rattle.defs_token.specs.Piece.{IsPiece}
 use Rattle.defs_token.specs.Separation.{is_separation}
 use Rattle.defs_token.specs.Token.{Tok}
-use Rattle.defs_row.specs.Step.{Step, spelled, act_of}
+use Rattle.defs_row.specs.Step.{Step, act_of}
 use Rattle.defs_row.specs.Column.{is_in_column}
 use Rattle.defs_row.specs.Key.{Line, free, Outside, line_past}
 use Rattle.defs_row.specs.FlowEntry.{begun_by}
 use Rattle.defs_row.specs.Account.{Site, site_at, site_in, seen}
 use Rattle.defs_row.specs.Tokens.{shown_position}
-use Rattle.defs_row.specs.Row.{IsRowFrom}
 use Rattle.model_scanner.specs.State.{Key, ScannerState}
 use Rattle.proof_row_sound.specs.Arrives.{IsLineHere}
 use Rattle.proof_row_sound.specs.Choices.{line_by}
@@ -19,6 +18,7 @@ use Rattle.proof_row_sound.specs.Stands.{is_free}
 use Rattle.proof_row_sound.proofs.NodesOutside.{Outer}
 use Rattle.proof_row_sound.proofs.OutsidePieces.{site_then}
 use Rattle.proof_row_sound.proofs.Sides.{ArrivesBy}
+use Rattle.proof_row_complete.specs.Ways.{Stop, spelled_to, LeadsTo}
 use Rattle.proof_row_complete.proofs.Sides.{GoesOutside}
 use Rattle.proof_row_complete.proofs.Steps.{with_key, GoesPast, step_read, WentOutside, went_outside}
 
@@ -29,24 +29,24 @@ free_here true allowed (Some k) rest m some h e = absurd (cc e)
 free_here false allowed (Some k) rest m some h e = absurd (cc ((h some).0, e))
 
 -- What is known where a piece begins outside flow and no key is open.
-pub record NoneOpen (text : List ℕ) (ws : List Step) (last : List ℕ) (t : ScannerState) : Type 0 where
+pub record NoneOpen (text : List ℕ) (ws : List Step) (stop : Stop) (t : ScannerState) : Type 0 where
   pub here : ArrivesBy text t [] (None ∷ []) []
   pub flow_is : t.held.flow ≡ []
   pub keys_are : t.held.keys ≡ None ∷ []
-  pub is_spelled : spelled ws last ≡ here.separation ++ t.rest
-  pub is_row : IsRowFrom (Some (Outer here.site here.line)) ws last
+  pub is_spelled : spelled_to ws stop ≡ here.separation ++ t.rest
+  pub is_row : LeadsTo (Some (Outer here.site here.line)) ws stop
 
-pub none_open : (text : List ℕ) (ws : List Step) (last : List ℕ) (t : ScannerState) (g : GoesOutside text ws last t) → g.side.key ≡ None → NoneOpen text ws last t
-none_open text ws last t g e = by g.side.key g.side.here g.side.keys_are g.is_spelled g.is_row e
+pub none_open : (text : List ℕ) (ws : List Step) (stop : Stop) (t : ScannerState) (g : GoesOutside text ws stop t) → g.side.key ≡ None → NoneOpen text ws stop t
+none_open text ws stop t g e = by g.side.key g.side.here g.side.keys_are g.is_spelled g.is_row e
   where
-    by : (k : Option Key) (a : ArrivesBy text t [] (k ∷ []) []) → t.held.keys ≡ k ∷ [] → spelled ws last ≡ a.separation ++ t.rest → IsRowFrom (Some (Outer a.site (line_by g.outside k a.line))) ws last → k ≡ None → NoneOpen text ws last t
+    by : (k : Option Key) (a : ArrivesBy text t [] (k ∷ []) []) → t.held.keys ≡ k ∷ [] → spelled_to ws stop ≡ a.separation ++ t.rest → LeadsTo (Some (Outer a.site (line_by g.outside k a.line))) ws stop → k ≡ None → NoneOpen text ws stop t
     by None a keys spells row e = record { here = a; flow_is = g.side.flow_is; keys_are = keys; is_spelled = spells; is_row = row }
     by (Some k) a keys spells row e = absurd (cc e)
 
 -- ---- an indicator of one character
 
-module _ (text more : List ℕ) (w : Step) (ws : List Step) (last : List ℕ) (tok : Tok) (c : ℕ) (t : ScannerState) (cut : t.rest ≡ c ∷ more) (k : Option Key) (a : ArrivesBy text t [] (k ∷ []) []) (l : Line)
-    (spells : spelled (w ∷ ws) last ≡ a.separation ++ t.rest) (row : IsRowFrom (Some (Outer a.site l)) (w ∷ ws) last) where
+module _ (text more : List ℕ) (w : Step) (ws : List Step) (stop : Stop) (tok : Tok) (c : ℕ) (t : ScannerState) (cut : t.rest ≡ c ∷ more) (k : Option Key) (a : ArrivesBy text t [] (k ∷ []) []) (l : Line)
+    (spells : spelled_to (w ∷ ws) stop ≡ a.separation ++ t.rest) (row : LeadsTo (Some (Outer a.site l)) (w ∷ ws) stop) where
   abbrev pub step : Step
   step = record { separation = a.separation; piece = c ∷ []; shown = tok; key = false }
 
@@ -58,22 +58,22 @@ module _ (text more : List ℕ) (w : Step) (ws : List Step) (last : List ℕ) (t
   IsMark = IsPiece (seen (Outer a.site l) at a.separation) (c ∷ []) more None (shown_position at (c ∷ []) tok more) tok
 
   -- the row reads it
-  pub mark_read : IsMark → GoesPast (Outer a.site l) step more ws last
-  mark_read h = step_read (Outer a.site l) w ws last step more row (spells ∙ ap (λ y. a.separation ++ y) cut) (subst (λ y. is_separation false a.separation y ≡ true) cut a.is_filled, (refl, h)) (subst (λ r. has_no_nul r ≡ true) cut a.is_clean)
+  pub mark_read : IsMark → GoesPast (Outer a.site l) step more ws stop
+  mark_read h = step_read (Outer a.site l) w ws stop step more row (spells ∙ ap (λ y. a.separation ++ y) cut) (subst (λ y. is_separation false a.separation y ≡ true) cut a.is_filled, (refl, h)) (subst (λ r. has_no_nul r ≡ true) cut a.is_clean)
 
-  pub mark_asks : (r : GoesPast (Outer a.site l) step more ws last) → WentOutside a.site l (with_key step r.key) more ws last
-  mark_asks r = went_outside a.site l (with_key step r.key) more ws last r.is_row
+  pub mark_asks : (r : GoesPast (Outer a.site l) step more ws stop) → WentOutside a.site l (with_key step r.key) more ws stop
+  mark_asks r = went_outside a.site l (with_key step r.key) more ws stop r.is_row
 
   pub mark_place : at ≡ site_in false (act_of tok) t.held.position a.site
   mark_place = ap (λ q. site_in false (act_of tok) q a.site) (sym (a.position_is ∙ ap (λ r. position_after a.site.position a.separation r) cut))
 
   -- the row after it, where it stands
-  pub mark_row : (r : GoesPast (Outer a.site l) step more ws last) (after : Outside) → (mark_asks r).after ≡ after →
-      IsRowFrom (Some (record { site = site_then (site_in false (act_of tok) t.held.position a.site) (c ∷ []) tok more after; line = after.line; entries = begun_by tok })) ws last
+  pub mark_row : (r : GoesPast (Outer a.site l) step more ws stop) (after : Outside) → (mark_asks r).after ≡ after →
+      LeadsTo (Some (record { site = site_then (site_in false (act_of tok) t.held.position a.site) (c ∷ []) tok more after; line = after.line; entries = begun_by tok })) ws stop
   mark_row r after e =
-      subst (λ x. IsRowFrom (Some (record { site = site_then x (c ∷ []) tok more after; line = after.line; entries = begun_by tok })) ws last) mark_place
-      (subst (λ o. IsRowFrom (Some (record { site = site_then at (c ∷ []) tok more o; line = o.line; entries = begun_by tok })) ws last) e (mark_asks r).is_row)
+      subst (λ x. LeadsTo (Some (record { site = site_then x (c ∷ []) tok more after; line = after.line; entries = begun_by tok })) ws stop) mark_place
+      (subst (λ o. LeadsTo (Some (record { site = site_then at (c ∷ []) tok more o; line = o.line; entries = begun_by tok })) ws stop) e (mark_asks r).is_row)
 
   -- what it asks of the line, where it stands
-  pub mark_line : (r : GoesPast (Outer a.site l) step more ws last) → let x : Site = site_in false (act_of tok) t.held.position a.site in line_past (is_in_column x.position.col x.blocks) x.position x.blocks (act_of tok) r.key (mark_asks r).line_here ≡ Some (mark_asks r).after
+  pub mark_line : (r : GoesPast (Outer a.site l) step more ws stop) → let x : Site = site_in false (act_of tok) t.held.position a.site in line_past (is_in_column x.position.col x.blocks) x.position x.blocks (act_of tok) r.key (mark_asks r).line_here ≡ Some (mark_asks r).after
   mark_line r = subst (λ x. line_past (is_in_column x.position.col x.blocks) x.position x.blocks (act_of tok) r.key (mark_asks r).line_here ≡ Some (mark_asks r).after) mark_place (mark_asks r).after_is

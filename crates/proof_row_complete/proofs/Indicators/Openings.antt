@@ -11,13 +11,12 @@ use Rattle.defs_token.specs.Account.{Account as PieceAccount, FlowKind, has_room
 use Rattle.defs_token.specs.Token.{Tok}
 use Rattle.defs_token.specs.Piece.{IsPiece}
 use Rattle.defs_token.specs.Separation.{is_separation}
-use Rattle.defs_row.specs.Step.{Step, spelled, Act, act_of, gives_node, previous_by, has_break, blanks_and_comment, past_blanks_and_comment}
+use Rattle.defs_row.specs.Step.{Step, Act, act_of, gives_node, previous_by, has_break, blanks_and_comment, past_blanks_and_comment}
 use Rattle.defs_row.specs.Column.{is_in_column}
 use Rattle.defs_row.specs.Key.{Line, taken, waits, begins_free_line, Outside, line_past}
 use Rattle.defs_row.specs.FlowEntry.{Pair, Had, Entry, takes_pair, is_renewed, renewed, had_after, pair_past, begun_by, with_had, entries_past, first_entry}
 use Rattle.defs_row.specs.Account.{Site, Account, site_at, site_in, site_past, level_of, seen}
 use Rattle.defs_row.specs.Tokens.{shown_position, past_line_rest}
-use Rattle.defs_row.specs.Row.{IsRowFrom}
 use Rattle.model_lexers.specs.Machine.{past}
 use Rattle.model_scanner.specs.declared.level.Indent.{Indent}
 use Rattle.model_scanner.specs.declared.level.FlowLevel.{FlowLevel}
@@ -41,6 +40,7 @@ use Rattle.proof_row_sound.proofs.Openers.{IsOpener, opening_bracket, opening_br
 use Rattle.proof_row_sound.proofs.Outsides.{must_be_here}
 use Rattle.proof_row_sound.proofs.Rolled.{opens_none}
 use Rattle.proof_row_sound.proofs.Sides.{with_entries}
+use Rattle.proof_row_complete.specs.Ways.{Stop, spelled_to, LeadsTo}
 use Rattle.proof_row_complete.specs.Goes.{Succeeds, went, Goes}
 use Rattle.proof_row_complete.specs.EachReads.{Reads}
 use Rattle.proof_row_complete.proofs.Indicators.Passed.{passed, no_comment, same_value, line_inside, may_on}
@@ -108,7 +108,7 @@ few_of m n e h = grind (arith, nat_tests)
 
 -- ---- the step
 
-module _ (text more : List ℕ) (w : Step) (ws : List Step) (last : List ℕ) (lv : FlowLevel) (tok : Tok) (c : ℕ) (o : IsOpener lv tok c) (opens : HasRoom c) (t : ScannerState) (cut : t.rest ≡ c ∷ more) (deep : IsDeep t.held) where
+module _ (text more : List ℕ) (w : Step) (ws : List Step) (stop : Stop) (lv : FlowLevel) (tok : Tok) (c : ℕ) (o : IsOpener lv tok c) (opens : HasRoom c) (t : ScannerState) (cut : t.rest ≡ c ∷ more) (deep : IsDeep t.held) where
   abbrev step : List ℕ → Step
   step f = record { separation = f; piece = c ∷ []; shown = tok; key = false }
 
@@ -137,12 +137,12 @@ module _ (text more : List ℕ) (w : Step) (ws : List Step) (last : List ℕ) (l
   -- outside flow
   record OpenedOutside (ds : List Indent) (i : ℕ) (ks : List (Option Key)) : Type 0 where
     hash : begins_with 35 more ≡ false
-    goes : Goes text ws last (opened_past lv t tok more ks ds i)
+    goes : Goes text ws stop (opened_past lv t tok more ks ds i)
 
-  opens_outside : (g : GoesOutside text (w ∷ ws) last t) → OpenedOutside (levels_outside text t g.side).indents (levels_outside text t g.side).indent (saved t.held.key_allowed own g.side.key ∷ [])
+  opens_outside : (g : GoesOutside text (w ∷ ws) stop t) → OpenedOutside (levels_outside text t g.side).indents (levels_outside text t g.side).indent (saved t.held.key_allowed own g.side.key ∷ [])
   opens_outside g = record {
     hash = hash;
-    goes = goes_on text ws last (opened_past lv t tok more (y ∷ []) (levels_outside text t g.side).indents (levels_outside text t g.side).indent) (opened_base lv tok c t.held.position s more) (None ∷ y ∷ []) (blanks_and_comment more)
+    goes = goes_on text ws stop (opened_past lv t tok more (y ∷ []) (levels_outside text t g.side).indents (levels_outside text t g.side).indent) (opened_base lv tok c t.held.position s more) (None ∷ y ∷ []) (blanks_and_comment more)
         (opened_outside text more lv tok c o t g.side cut deep hash) refl chose.choice [] (chose.may end (past_blanks_and_comment more) live) (r.is_spelled ∙ line_rest_cut more) row;
   }
     where
@@ -161,12 +161,12 @@ module _ (text more : List ℕ) (w : Step) (ws : List Step) (last : List ℕ) (l
       y : Option Key
       y = saved t.held.key_allowed own g.side.key
 
-      r : GoesPast (account_out g) (step f) more ws last
-      r = step_read (account_out g) w ws last (step f) more g.is_row (g.is_spelled ∙ ap (λ y. f ++ y) cut)
+      r : GoesPast (account_out g) (step f) more ws stop
+      r = step_read (account_out g) w ws stop (step f) more g.is_row (g.is_spelled ∙ ap (λ y. f ++ y) cut)
           (subst (λ y. is_separation false f y ≡ true) cut g.side.here.is_filled, (refl, written (account_out g) x f (o.is_opening.piece (seen (account_out g) x f) more None refl))) (clean g.side.here.is_clean)
 
-      v : WentOutside s (line_out g) (with_key (step f) r.key) more ws last
-      v = went_outside s (line_out g) (with_key (step f) r.key) more ws last r.is_row
+      v : WentOutside s (line_out g) (with_key (step f) r.key) more ws stop
+      v = went_outside s (line_out g) (with_key (step f) r.key) more ws stop r.is_row
 
       hash : begins_with 35 more ≡ false
       hash = no_comment false s x f (c ∷ []) tok more (o.precedes false x.blocks (c ∷ []) more) v.stands
@@ -190,7 +190,7 @@ module _ (text more : List ℕ) (w : Step) (ws : List Step) (last : List ℕ) (l
           (must_be_here text t g.side.key g.side.here g.side.flow_is deep) g.may past_here
 
       At : Site → Outside → List Entry → Type 0
-      At q m es = IsRowFrom (Some (record { site = site_past false q (c ∷ []) tok more m.blocks; line = m.line; entries = es })) ws last
+      At q m es = LeadsTo (Some (record { site = site_past false q (c ∷ []) tok more m.blocks; line = m.line; entries = es })) ws stop
 
       row : At z (record { line = line_by chose.choice y taken; blocks = z.blocks }) (first_entry (kind_by lv) ∷ [])
       row = subst (λ m. At z m (first_entry (kind_by lv) ∷ [])) chose.is (subst (λ q. At q v.after (first_entry (kind_by lv) ∷ [])) (place false s f g.side.here.position_is) (subst (λ es. At x v.after es) o.begun v.is_row))
@@ -198,7 +198,7 @@ module _ (text more : List ℕ) (w : Step) (ws : List Step) (last : List ℕ) (l
       live : (k : Key) → y ≡ Some k → chose.choice ≡ true → t.held.position.line ≤ k.position.line → IsLive k end (past_blanks_and_comment more)
       live k e b before =
           let line : line_by chose.choice y taken ≡ waits k.position = ap (λ q. line_by chose.choice q taken) e ∙ ap (λ q. line_by q (Some k) taken) b in
-          let on = waits_on ws last (record { site = site_past false z (c ∷ []) tok more z.blocks; line = line_by chose.choice y taken; entries = first_entry (kind_by lv) ∷ [] }) k.position (blanks_and_comment more) (past_blanks_and_comment more) row line unmarked
+          let on = waits_on ws stop (record { site = site_past false z (c ∷ []) tok more z.blocks; line = line_by chose.choice y taken; entries = first_entry (kind_by lv) ∷ [] }) k.position (blanks_and_comment more) (past_blanks_and_comment more) row line unmarked
           (r.is_spelled ∙ line_rest_cut more) (line_rest_fills more) in
           (subst (λ n. n ≤ k.position.line) (sym (end_line on.0)) before, on.1)
 
@@ -206,13 +206,13 @@ module _ (text more : List ℕ) (w : Step) (ws : List Step) (last : List ℕ) (l
   record OpenedInside (ks : List (Option Key)) : Type 0 where
     hash_in : begins_with 35 more ≡ false
     few : nat_le 255 (length t.held.flow) ≡ false
-    goes_in : Goes text ws last (opened_past lv t tok more ks t.held.indents t.held.indent)
+    goes_in : Goes text ws stop (opened_past lv t tok more ks t.held.indents t.held.indent)
 
-  opens_inside : (g : GoesInside text (w ∷ ws) last t) → OpenedInside (saved t.held.key_allowed own g.side.key ∷ g.side.keys)
+  opens_inside : (g : GoesInside text (w ∷ ws) stop t) → OpenedInside (saved t.held.key_allowed own g.side.key ∷ g.side.keys)
   opens_inside g = record {
     hash_in = hash;
     few = few;
-    goes_in = goes_on text ws last (opened_past lv t tok more (y ∷ g.side.keys) t.held.indents t.held.indent) (opened_base_inside lv tok c t.held.position t.held.key_allowed s g.side.here.line g.side.entry g.side.entries more) (None ∷ y ∷ g.side.keys)
+    goes_in = goes_on text ws stop (opened_past lv t tok more (y ∷ g.side.keys) t.held.indents t.held.indent) (opened_base_inside lv tok c t.held.position t.held.key_allowed s g.side.here.line g.side.entry g.side.entries more) (None ∷ y ∷ g.side.keys)
         (blanks_and_comment more) (opened_inside text more lv tok c o t g.side deep cut hash few) refl g.outside (false ∷ chose.choice ∷ pop g.inside) kept (r.is_spelled ∙ line_rest_cut more) row;
   }
     where
@@ -234,22 +234,22 @@ module _ (text more : List ℕ) (w : Step) (ws : List Step) (last : List ℕ) (l
       y : Option Key
       y = saved t.held.key_allowed own g.side.key
 
-      here : (w.separation ≡ f) × (w.piece ++ spelled ws last ≡ t.rest)
-      here = step_here a w ws last f t.rest g.is_row g.is_spelled g.side.here.is_filled g.side.here.is_solid g.side.here.is_clean
+      here : (w.separation ≡ f) × (w.piece ++ spelled_to ws stop ≡ t.rest)
+      here = step_here a w (spelled_to ws stop) f t.rest g.is_row.0 g.is_spelled g.side.here.is_filled g.side.here.is_solid g.side.here.is_clean
 
       room : has_room (seen a x f) ≡ true
-      room = opens (seen a (site_at true s w.separation w.piece w.shown (spelled ws last)) w.separation) w.piece (spelled ws last) more (shown_position (site_at true s w.separation w.piece w.shown (spelled ws last)) w.piece w.shown (spelled ws last)) w.shown
+      room = opens (seen a (site_at true s w.separation w.piece w.shown (spelled_to ws stop)) w.separation) w.piece (spelled_to ws stop) more (shown_position (site_at true s w.separation w.piece w.shown (spelled_to ws stop)) w.piece w.shown (spelled_to ws stop)) w.shown
           (not_empty w.piece g.is_row.0.1.0) g.is_row.0.1.1 (here.1 ∙ cut)
 
       few : nat_le 255 (length t.held.flow) ≡ false
       few = few_of (length t.held.flow) (length (map level_of (entry_in g ∷ around_in g))) (ap length g.side.flow_is ∙ ap suc (flow_many (pop g.inside) g.side.levels g.side.keys g.side.entries g.side.here.are_entries.2)) room
 
-      r : GoesPast a (step f) more ws last
-      r = step_read a w ws last (step f) more g.is_row (g.is_spelled ∙ ap (λ y. f ++ y) cut)
+      r : GoesPast a (step f) more ws stop
+      r = step_read a w ws stop (step f) more g.is_row (g.is_spelled ∙ ap (λ y. f ++ y) cut)
           (subst (λ y. is_separation false f y ≡ true) cut g.side.here.is_filled, (refl, written a x f (o.is_opening.piece (seen a x f) more None room))) (clean g.side.here.is_clean)
 
-      v : WentInside s (line_in g) (entry_in g) (around_in g) (with_key (step f) r.key) more ws last
-      v = went_inside s (line_in g) (entry_in g) (around_in g) (with_key (step f) r.key) more ws last r.is_row
+      v : WentInside s (line_in g) (entry_in g) (around_in g) (with_key (step f) r.key) more ws stop
+      v = went_inside s (line_in g) (entry_in g) (around_in g) (with_key (step f) r.key) more ws stop r.is_row
 
       hash : begins_with 35 more ≡ false
       hash = no_comment true s x f (c ∷ []) tok more (o.precedes true x.blocks (c ∷ []) more) v.stands
@@ -268,7 +268,7 @@ module _ (text more : List ℕ) (w : Step) (ws : List Step) (last : List ℕ) (l
       chose = chosen_inside (is_renewed s.before f) t.held.key_allowed (first_choice g.inside) r.key g.side.key own g.side.entry t.held.position (around_in g) inner.inner g.side.here.are_entries.1 refl inner.is_inner
 
       At : Site → Line → List Entry → Type 0
-      At q m xs = IsRowFrom (Some (with_entries (site_past true q (c ∷ []) tok more q.blocks) m xs)) ws last
+      At q m xs = LeadsTo (Some (with_entries (site_past true q (c ∷ []) tok more q.blocks) m xs)) ws stop
 
       entries : List Entry
       entries = first_entry (kind_by lv) ∷ (entry_by chose.choice y (entry_past_node t.held.key_allowed g.side.entry) ∷ around_in g)
@@ -278,25 +278,25 @@ module _ (text more : List ℕ) (w : Step) (ws : List Step) (last : List ℕ) (l
           (subst (λ xs. At x v.line_here xs) (inner.is ∙ ap (λ xs. first_entry (kind_by lv) ∷ xs) chose.is) v.is_row))
 
       kept : MayChoose g.outside (outside_key g.side.entries g.side.keys) end (past_blanks_and_comment more)
-      kept = may_on ws last (with_entries (site_past true z (c ∷ []) tok more z.blocks) (line_in g) entries) g.outside (outside_key g.side.entries g.side.keys) g.side.here.line t.held.position end t.rest (blanks_and_comment more) (past_blanks_and_comment more) row refl unmarked
+      kept = may_on ws stop (with_entries (site_past true z (c ∷ []) tok more z.blocks) (line_in g) entries) g.outside (outside_key g.side.entries g.side.keys) g.side.here.line t.held.position end t.rest (blanks_and_comment more) (past_blanks_and_comment more) row refl unmarked
           (r.is_spelled ∙ line_rest_cut more) (line_rest_fills more) end_line g.may
 
-  opening_reads : Reads text w ws last t (fetch_flow_collection_start lv tok)
-  opening_reads g = by (goes_side text (w ∷ ws) last t g)
+  opening_reads : Reads text w ws stop t (fetch_flow_collection_start lv tok)
+  opening_reads g = by (goes_side text (w ∷ ws) stop t g)
     where
-      by : GoesOutside text (w ∷ ws) last t ⊎ GoesInside text (w ∷ ws) last t → Succeeds (Goes text ws last) (fetch_flow_collection_start lv tok t)
+      by : GoesOutside text (w ∷ ws) stop t ⊎ GoesInside text (w ∷ ws) stop t → Succeeds (Goes text ws stop) (fetch_flow_collection_start lv tok t)
       by (inl g) =
           let n = opens_outside g in
           let r = levels_outside text t g.side in
-          subst (λ q. Succeeds (Goes text ws last) q) (sym (opening_is lv tok c t more r.indents r.indent cut n.hash r.is_held (ap (λ fs. nat_le 255 (length fs)) g.side.flow_is)))
-          (went (subst (λ ks. Goes text ws last (opened_past lv t tok more ks r.indents r.indent)) (sym (keys_saved t g.side.key [] g.side.keys_are)) n.goes))
+          subst (λ q. Succeeds (Goes text ws stop) q) (sym (opening_is lv tok c t more r.indents r.indent cut n.hash r.is_held (ap (λ fs. nat_le 255 (length fs)) g.side.flow_is)))
+          (went (subst (λ ks. Goes text ws stop (opened_past lv t tok more ks r.indents r.indent)) (sym (keys_saved t g.side.key [] g.side.keys_are)) n.goes))
       by (inr g) =
           let n = opens_inside g in
-          subst (λ q. Succeeds (Goes text ws last) q) (sym (opening_is lv tok c t more t.held.indents t.held.indent cut n.hash_in (opens_none (key_saved t.held) (ap (λ fs. not (is_empty fs)) g.side.flow_is)) n.few))
-          (went (subst (λ ks. Goes text ws last (opened_past lv t tok more ks t.held.indents t.held.indent)) (sym (keys_saved t g.side.key g.side.keys g.side.keys_are)) n.goes_in))
+          subst (λ q. Succeeds (Goes text ws stop) q) (sym (opening_is lv tok c t more t.held.indents t.held.indent cut n.hash_in (opens_none (key_saved t.held) (ap (λ fs. not (is_empty fs)) g.side.flow_is)) n.few))
+          (went (subst (λ ks. Goes text ws stop (opened_past lv t tok more ks t.held.indents t.held.indent)) (sym (keys_saved t g.side.key g.side.keys g.side.keys_are)) n.goes_in))
 
-pub open_bracket_reads : (text : List ℕ) (w : Step) (ws : List Step) (last : List ℕ) (t : ScannerState) (more : List ℕ) → t.rest ≡ 91 ∷ more → IsDeep t.held → Reads text w ws last t (fetch_flow_collection_start InEntry Tok.flow_sequence_start)
-open_bracket_reads text w ws last t more e deep = opening_reads text more w ws last InEntry Tok.flow_sequence_start 91 opening_bracket bracket_room t e deep
+pub open_bracket_reads : (text : List ℕ) (w : Step) (ws : List Step) (stop : Stop) (t : ScannerState) (more : List ℕ) → t.rest ≡ 91 ∷ more → IsDeep t.held → Reads text w ws stop t (fetch_flow_collection_start InEntry Tok.flow_sequence_start)
+open_bracket_reads text w ws stop t more e deep = opening_reads text more w ws stop InEntry Tok.flow_sequence_start 91 opening_bracket bracket_room t e deep
 
-pub open_brace_reads : (text : List ℕ) (w : Step) (ws : List Step) (last : List ℕ) (t : ScannerState) (more : List ℕ) → t.rest ≡ 123 ∷ more → IsDeep t.held → Reads text w ws last t (fetch_flow_collection_start Mapping Tok.flow_mapping_start)
-open_brace_reads text w ws last t more e deep = opening_reads text more w ws last Mapping Tok.flow_mapping_start 123 opening_brace brace_room t e deep
+pub open_brace_reads : (text : List ℕ) (w : Step) (ws : List Step) (stop : Stop) (t : ScannerState) (more : List ℕ) → t.rest ≡ 123 ∷ more → IsDeep t.held → Reads text w ws stop t (fetch_flow_collection_start Mapping Tok.flow_mapping_start)
+open_brace_reads text w ws stop t more e deep = opening_reads text more w ws stop Mapping Tok.flow_mapping_start 123 opening_brace brace_room t e deep

@@ -7,13 +7,12 @@ use Rattle.defs_text.specs.Text.{is_empty}
 use Rattle.defs_scalar.specs.FlowScalar.{begins_with}
 use Rattle.defs_token.specs.Separation.{is_separation}
 use Rattle.defs_token.specs.Token.{Tok}
-use Rattle.defs_row.specs.Step.{Step, spelled, has_break}
+use Rattle.defs_row.specs.Step.{Step, has_break}
 use Rattle.defs_row.specs.Indentation.{is_indented_by_spaces}
 use Rattle.defs_row.specs.Lines.{further_lines_stand}
 use Rattle.defs_row.specs.Following.{may_precede}
 use Rattle.defs_row.specs.Key.{Line, free, taken, waits, is_waiting, begins_free_line, line_past_separation}
 use Rattle.defs_row.specs.Account.{Site, Account, least_for, is_deep_enough, may_stand}
-use Rattle.defs_row.specs.Row.{IsRowFrom}
 use Rattle.model_lexers.specs.Machine.{past}
 use Rattle.model_lexers.specs.Space.{space}
 use Rattle.model_lexers.specs.declared.context.SkipTabs.TheVariants.{Yes}
@@ -25,6 +24,7 @@ use Rattle.proof_row_sound.specs.Choices.{line_by, MayChoose}
 use Rattle.proof_row_sound.specs.Stands.{IsFreeKey}
 use Rattle.proof_row_sound.proofs.Blanks.{spaced_parted}
 use Rattle.proof_row_sound.proofs.Indicated.{past_it}
+use Rattle.proof_row_complete.specs.Ways.{Stop, spelled_to, LeadsTo}
 use Rattle.proof_row_complete.proofs.Waits.{waits_on}
 
 -- ---- what the model reads
@@ -85,10 +85,10 @@ free_key None h = refl
 free_key (Some k) h = h
 
 -- Where the row goes on after a piece, the choice may stay as it was: a key that waits is on this line, and the text goes on.
-pub may_on : (ws : List Step) (last : List ℕ) (b : Account) (c : Bool) (k : Option Key) (l : Line) (p q : Position) (rest gap rest2 : List ℕ) → IsRowFrom (Some b) ws last → b.line ≡ line_by c k l →
-    ((f : List ℕ) → begins_free_line b.site.before f ≡ has_break f) → spelled ws last ≡ gap ++ rest2 → is_separation false gap rest2 ≡ true → (has_break gap ≡ false → q.line ≡ p.line) → MayChoose c k p rest → MayChoose c k q rest2
-may_on ws last b c None l p q rest gap rest2 row e plain text g same may = tt
-may_on ws last b false (Some k) l p q rest gap rest2 row e plain text g same may = may
-may_on ws last b true (Some k) l p q rest gap rest2 row e plain text g same may =
-    let on : (has_break gap ≡ false) × (is_empty rest2 ≡ false) = waits_on ws last b k.position gap rest2 row e plain text g in
+pub may_on : (ws : List Step) (stop : Stop) (b : Account) (c : Bool) (k : Option Key) (l : Line) (p q : Position) (rest gap rest2 : List ℕ) → LeadsTo (Some b) ws stop → b.line ≡ line_by c k l →
+    ((f : List ℕ) → begins_free_line b.site.before f ≡ has_break f) → spelled_to ws stop ≡ gap ++ rest2 → is_separation false gap rest2 ≡ true → (has_break gap ≡ false → q.line ≡ p.line) → MayChoose c k p rest → MayChoose c k q rest2
+may_on ws stop b c None l p q rest gap rest2 row e plain text g same may = tt
+may_on ws stop b false (Some k) l p q rest gap rest2 row e plain text g same may = may
+may_on ws stop b true (Some k) l p q rest gap rest2 row e plain text g same may =
+    let on : (has_break gap ≡ false) × (is_empty rest2 ≡ false) = waits_on ws stop b k.position gap rest2 row e plain text g in
     (subst (λ n. n ≤ k.position.line) (sym (same on.0)) may.0, on.1)

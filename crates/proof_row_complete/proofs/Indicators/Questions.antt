@@ -12,14 +12,13 @@ use Rattle.defs_token.specs.Account.{is_adjacent}
 use Rattle.defs_token.specs.Token.{Tok}
 use Rattle.defs_token.specs.Piece.{begins_with_space_or_break}
 use Rattle.defs_token.specs.Separation.{is_separation}
-use Rattle.defs_row.specs.Step.{Step, spelled, gives_question}
+use Rattle.defs_row.specs.Step.{Step, gives_question}
 use Rattle.defs_row.specs.Column.{is_in_column, opened}
 use Rattle.defs_row.specs.Indentation.{is_indented_by_spaces, has_tab_before_piece}
 use Rattle.defs_row.specs.Following.{may_precede}
 use Rattle.defs_row.specs.Key.{Line, free, taken, waits as waits_on_line, begins_free_line, Outside, line_past}
 use Rattle.defs_row.specs.FlowEntry.{Had, waits, Entry, takes_pair, is_renewed, renewed, had_after, pair_past, with_had, entries_past}
 use Rattle.defs_row.specs.Account.{Site, site_at, site_in, may_stand, is_deep_enough}
-use Rattle.defs_row.specs.Row.{IsRowFrom}
 use Rattle.model_lexers.specs.Machine.{past}
 use Rattle.model_scanner.specs.State.{Held, ScannerState, ◌>>=◌, peek, in_flow, push, pop, after, with_top, token, on_held, with_held, try_held}
 use Rattle.model_scanner.specs.Keys.{is_required, top_key, remove_implicit_key}
@@ -42,6 +41,7 @@ use Rattle.proof_row_sound.proofs.Questions.{question_end, with_mapping, after_q
 use Rattle.proof_row_sound.proofs.Rolled.{RollsTo, rolls_to, top_closed}
 use Rattle.proof_row_sound.proofs.Sides.{with_entries, ArrivesBy}
 use Rattle.proof_row_sound.proofs.WhiteSpaces.{white_of, past_white, white_cut, goes_over, past_white_space, white_exactly}
+use Rattle.proof_row_complete.specs.Ways.{Stop, spelled_to, LeadsTo}
 use Rattle.proof_row_complete.specs.Goes.{Succeeds, went, Goes, GoesHere}
 use Rattle.proof_row_complete.specs.EachReads.{Reads, before_here}
 use Rattle.proof_row_complete.proofs.Indicators.FreeLines.{free_here, NoneOpen, none_open, step as mark_step, at as mark_at, mark_read, mark_asks, mark_row, mark_line}
@@ -125,14 +125,14 @@ begin_inside s within = ap (λ b. if b then Ok (record s { flow = keyed s.flow }
 -- ---- what the row says
 
 -- a space or a break stands after it
-begins_here : (text more : List ℕ) (w : Step) (ws : List Step) (last : List ℕ) (t : ScannerState) (g : GoesHere text (w ∷ ws) last t) → t.rest ≡ 63 ∷ more → is_at_gap more ≡ true → begins_with_space_or_break more ≡ true
-begins_here text more w ws last t g e gap =
-    let h : PieceHere text w ws last t g = piece_here text w ws last t g in
+begins_here : (text more : List ℕ) (w : Step) (ws : List Step) (stop : Stop) (t : ScannerState) (g : GoesHere text (w ∷ ws) stop t) → t.rest ≡ 63 ∷ more → is_at_gap more ≡ true → begins_with_space_or_break more ≡ true
+begins_here text more w ws stop t g e gap =
+    let h : PieceHere text w ws stop t g = piece_here text w ws stop t g in
     let fl : Bool = in_flow t.held in
-    let adjacent : Bool = is_adjacent (before_here text (w ∷ ws) last t g) in
+    let adjacent : Bool = is_adjacent (before_here text (w ∷ ws) stop t g) in
     let kind : kind_at fl adjacent t.held.position.col t.rest ≡ question = ap (λ r. kind_at fl adjacent t.held.position.col r) e ∙ there fl adjacent t.held.position.col in
-    let whole : Whole question (context_here text w ws last t g) w.piece (spelled ws last) w.shown = subst (λ k. Whole k (context_here text w ws last t g) w.piece (spelled ws last) w.shown) kind h.whole in
-    let own : 63 ∷ spelled ws last ≡ 63 ∷ more = ap (λ p. p ++ spelled ws last) (sym whole.0) ∙ (h.text_is ∙ e) in
+    let whole : Whole question (context_here text w ws stop t g) w.piece (spelled_to ws stop) w.shown = subst (λ k. Whole k (context_here text w ws stop t g) w.piece (spelled_to ws stop) w.shown) kind h.whole in
+    let own : 63 ∷ spelled_to ws stop ≡ 63 ∷ more = ap (λ p. p ++ spelled_to ws stop) (sym whole.0) ∙ (h.text_is ∙ e) in
     subst (λ r. begins_with_space_or_break r ≡ true) (ap after own) whole.1
   where
     there : (fl adjacent : Bool) (column : ℕ) → kind_at fl adjacent column (63 ∷ more) ≡ question
@@ -173,7 +173,7 @@ asked_after here again key e es xs h = by key e.had (as_it_was again h)
 
 -- ---- outside flow
 
-module _ (text more : List ℕ) (w : Step) (ws : List Step) (last : List ℕ) (t : ScannerState) (e : t.rest ≡ 63 ∷ more) (begins : begins_with_space_or_break more ≡ true) where
+module _ (text more : List ℕ) (w : Step) (ws : List Step) (stop : Stop) (t : ScannerState) (e : t.rest ≡ 63 ∷ more) (begins : begins_with_space_or_break more ≡ true) where
   no_tab : (fl : Bool) (s x : Site) (f : List ℕ) → may_stand fl s x f (63 ∷ []) Tok.key more ≡ true → has_tab_before_piece false more ≡ false
   no_tab fl s x f h = none (has_tab_before_piece false more) (last_of (is_indented_by_spaces s.before s.blocks s.awaits f) (is_deep_enough fl Tok.key x) true (may_precede fl x.blocks Tok.key (63 ∷ []) more) h)
     where
@@ -182,39 +182,39 @@ module _ (text more : List ℕ) (w : Step) (ws : List Step) (last : List ℕ) (t
       none false h = refl
 
   -- no key is open, and one may begin
-  none_here : (g : GoesOutside text (w ∷ ws) last t) → (g.side.key ≡ None) × (t.held.key_allowed ≡ true)
+  none_here : (g : GoesOutside text (w ∷ ws) stop t) → (g.side.key ≡ None) × (t.held.key_allowed ≡ true)
   none_here g =
       let a = g.side.here in
       let l : Line = line_by g.outside g.side.key a.line in
-      let r = mark_read text more w ws last Tok.key 63 t e g.side.key a l g.is_spelled g.is_row (inl (refl, begins)) in
-      let v = mark_asks text more w ws last Tok.key 63 t e g.side.key a l g.is_spelled g.is_row r in
-      let x : Site = mark_at text more w ws last Tok.key 63 t e g.side.key a l g.is_spelled g.is_row in
+      let r = mark_read text more w ws stop Tok.key 63 t e g.side.key a l g.is_spelled g.is_row (inl (refl, begins)) in
+      let v = mark_asks text more w ws stop Tok.key 63 t e g.side.key a l g.is_spelled g.is_row r in
+      let x : Site = mark_at text more w ws stop Tok.key 63 t e g.side.key a l g.is_spelled g.is_row in
       let line : v.line_here ≡ line_by g.outside g.side.key a.line_here = separated_by false (begins_free_line a.site.before a.separation) g.outside g.side.key a.line a.line_here v.line_here a.is_line v.line_is in
       free_here g.outside t.held.key_allowed g.side.key t.rest a.line_here (ap is_empty e) a.line_is (sym line ∙ asked_free (is_in_column x.position.col x.blocks) x.position x.blocks r.key v.line_here v.after v.after_is)
 
-  reads_outside : IsDeep t.held → NoneOpen text (w ∷ ws) last t → t.held.key_allowed ≡ true → Succeeds (Goes text ws last) (fetch_key t)
+  reads_outside : IsDeep t.held → NoneOpen text (w ∷ ws) stop t → t.held.key_allowed ≡ true → Succeeds (Goes text ws stop) (fetch_key t)
   reads_outside deep n allowed =
-      subst (λ q. Succeeds (Goes text ws last) q) (sym is) (went (goes_on text ws last (question_end t more r.indents r.indent (with_mapping t)) (base_past Tok.key (63 ∷ []) t.held.position a.site more (after_question t.held.position a.site.blocks)) (None ∷ []) (white_of false more)
+      subst (λ q. Succeeds (Goes text ws stop) q) (sym is) (went (goes_on text ws stop (question_end t more r.indents r.indent (with_mapping t)) (base_past Tok.key (63 ∷ []) t.held.position a.site more (after_question t.held.position a.site.blocks)) (None ∷ []) (white_of false more)
       (question_stands text more t a n.flow_is n.keys_are e allowed begins apart fills r.indent r.indents r.columns_are r.are_levels (top_closed r.indents (r.is_top deep)).1) (ap (with_top None) n.keys_are) false [] tt (p.is_spelled ∙ white_cut false more) row))
     where
       a : ArrivesBy text t [] (None ∷ []) []
       a = n.here
 
-      p : GoesPast (Outer a.site a.line) (mark_step text more w ws last Tok.key 63 t e None a a.line n.is_spelled n.is_row) more ws last
-      p = mark_read text more w ws last Tok.key 63 t e None a a.line n.is_spelled n.is_row (inl (refl, begins))
+      p : GoesPast (Outer a.site a.line) (mark_step text more w ws stop Tok.key 63 t e None a a.line n.is_spelled n.is_row) more ws stop
+      p = mark_read text more w ws stop Tok.key 63 t e None a a.line n.is_spelled n.is_row (inl (refl, begins))
 
-      v : WentOutside a.site a.line (with_key (mark_step text more w ws last Tok.key 63 t e None a a.line n.is_spelled n.is_row) p.key) more ws last
-      v = mark_asks text more w ws last Tok.key 63 t e None a a.line n.is_spelled n.is_row p
+      v : WentOutside a.site a.line (with_key (mark_step text more w ws stop Tok.key 63 t e None a a.line n.is_spelled n.is_row) p.key) more ws stop
+      v = mark_asks text more w ws stop Tok.key 63 t e None a a.line n.is_spelled n.is_row p
 
       x : Site
       x = site_in false gives_question t.held.position a.site
 
-      row : IsRowFrom (Some (base_past Tok.key (63 ∷ []) t.held.position a.site more (after_question t.held.position a.site.blocks))) ws last
-      row = mark_row text more w ws last Tok.key 63 t e None a a.line n.is_spelled n.is_row p (after_question t.held.position a.site.blocks)
-          (asked_past (is_in_column x.position.col x.blocks) x.position x.blocks p.key v.line_here v.after (mark_line text more w ws last Tok.key 63 t e None a a.line n.is_spelled n.is_row p))
+      row : LeadsTo (Some (base_past Tok.key (63 ∷ []) t.held.position a.site more (after_question t.held.position a.site.blocks))) ws stop
+      row = mark_row text more w ws stop Tok.key 63 t e None a a.line n.is_spelled n.is_row p (after_question t.held.position a.site.blocks)
+          (asked_past (is_in_column x.position.col x.blocks) x.position x.blocks p.key v.line_here v.after (mark_line text more w ws stop Tok.key 63 t e None a a.line n.is_spelled n.is_row p))
 
       apart : has_tab_before_piece false more ≡ false
-      apart = no_tab false a.site (mark_at text more w ws last Tok.key 63 t e None a a.line n.is_spelled n.is_row) a.separation v.stands
+      apart = no_tab false a.site (mark_at text more w ws stop Tok.key 63 t e None a a.line n.is_spelled n.is_row) a.separation v.stands
 
       fills : is_separation false (white_of false more) (past_white false more) ≡ true
       fills = white_fills (record { rest = more; held = t.held }) begins
@@ -230,9 +230,9 @@ module _ (text more : List ℕ) (w : Step) (ws : List Step) (last : List ℕ) (t
 
   -- ---- in flow
 
-  reads_inside : IsDeep t.held → GoesInside text (w ∷ ws) last t → Succeeds (Goes text ws last) (fetch_key t)
+  reads_inside : IsDeep t.held → GoesInside text (w ∷ ws) stop t → Succeeds (Goes text ws stop) (fetch_key t)
   reads_inside deep g =
-      subst (λ q. Succeeds (Goes text ws last) q) (sym is) (went (goes_on text ws last (question_within t more) (base_inside Tok.key (63 ∷ []) t.held.position s more g.side.here.line (asked_entry g.side.entry ∷ g.side.entries)) (None ∷ g.side.keys) (white_of false more)
+      subst (λ q. Succeeds (Goes text ws stop) q) (sym is) (went (goes_on text ws stop (question_within t more) (base_inside Tok.key (63 ∷ []) t.held.position s more g.side.here.line (asked_entry g.side.entry ∷ g.side.entries)) (None ∷ g.side.keys) (white_of false more)
       (question_inside text more t g.side.level g.side.levels g.side.key g.side.keys g.side.entry g.side.entries g.side.here g.side.flow_is g.side.keys_are e deep begins apart fills) (ap (with_top None) g.side.keys_are) g.outside (false ∷ pop g.inside) kept
       (p.is_spelled ∙ white_cut false more) row))
     where
@@ -263,12 +263,12 @@ module _ (text more : List ℕ) (w : Step) (ws : List Step) (last : List ℕ) (t
       place : x ≡ z
       place = ap (λ q. site_in true gives_question q s) (sym (g.side.here.position_is ∙ ap (λ r. position_after s.position f r) e))
 
-      p : GoesPast (with_entries s l (y ∷ ys)) step more ws last
-      p = step_read (with_entries s l (y ∷ ys)) w ws last step more g.is_row (g.is_spelled ∙ ap (λ r. f ++ r) e) (subst (λ r. is_separation false f r ≡ true) e g.side.here.is_filled, (refl, inl (refl, begins)))
+      p : GoesPast (with_entries s l (y ∷ ys)) step more ws stop
+      p = step_read (with_entries s l (y ∷ ys)) w ws stop step more g.is_row (g.is_spelled ∙ ap (λ r. f ++ r) e) (subst (λ r. is_separation false f r ≡ true) e g.side.here.is_filled, (refl, inl (refl, begins)))
           (subst (λ r. has_no_nul r ≡ true) e g.side.here.is_clean)
 
-      v : WentInside s l y ys (with_key step p.key) more ws last
-      v = went_inside s l y ys (with_key step p.key) more ws last p.is_row
+      v : WentInside s l y ys (with_key step p.key) more ws stop
+      v = went_inside s l y ys (with_key step p.key) more ws stop p.is_row
 
       apart : has_tab_before_piece false more ≡ false
       apart = no_tab true s x f v.stands
@@ -277,7 +277,7 @@ module _ (text more : List ℕ) (w : Step) (ws : List Step) (last : List ℕ) (t
       fills = white_fills (record { rest = more; held = t.held }) begins
 
       At : Site → Line → List Entry → Type 0
-      At q m xs = IsRowFrom (Some (with_entries (site_inside q (63 ∷ []) Tok.key more) m xs)) ws last
+      At q m xs = LeadsTo (Some (with_entries (site_inside q (63 ∷ []) Tok.key more) m xs)) ws stop
 
       row : At z l (asked_entry g.side.entry ∷ ys)
       row = subst (λ q. At q l (asked_entry g.side.entry ∷ ys)) place (subst (λ m. At x m (asked_entry g.side.entry ∷ ys)) (line_inside (begins_free_line s.before f) l v.line_here v.line_is)
@@ -287,7 +287,7 @@ module _ (text more : List ℕ) (w : Step) (ws : List Step) (last : List ℕ) (t
       end = position_after (past t.held.position) (white_of false more) (past_white false more)
 
       kept : MayChoose g.outside (outside_key g.side.entries g.side.keys) end (past_white false more)
-      kept = may_on ws last (with_entries (site_inside z (63 ∷ []) Tok.key more) l (asked_entry g.side.entry ∷ ys)) g.outside (outside_key g.side.entries g.side.keys) g.side.here.line t.held.position end t.rest (white_of false more) (past_white false more) row refl
+      kept = may_on ws stop (with_entries (site_inside z (63 ∷ []) Tok.key more) l (asked_entry g.side.entry ∷ ys)) g.outside (outside_key g.side.entries g.side.keys) g.side.here.line t.held.position end t.rest (white_of false more) (past_white false more) row refl
           (λ q. refl) (p.is_spelled ∙ white_cut false more) fills (λ h. on_its_line (past t.held.position) (white_of false more) (past_white false more) h) g.may
 
       need : is_required (top_key t.held.keys) ≡ false
@@ -297,12 +297,12 @@ module _ (text more : List ℕ) (w : Step) (ws : List Step) (last : List ℕ) (t
       is = key_is t more (record t.held { flow = keyed t.held.flow }) e (begin_inside t.held (ap (λ fs. not (is_empty fs)) g.side.flow_is)) need begins apart
 
 -- `?`
-pub question_reads : (text : List ℕ) (w : Step) (ws : List Step) (last : List ℕ) (t : ScannerState) (more : List ℕ) → t.rest ≡ 63 ∷ more → is_at_gap more ≡ true → IsDeep t.held → Reads text w ws last t fetch_key
-question_reads text w ws last t more e gap deep g = by (goes_side text (w ∷ ws) last t g)
+pub question_reads : (text : List ℕ) (w : Step) (ws : List Step) (stop : Stop) (t : ScannerState) (more : List ℕ) → t.rest ≡ 63 ∷ more → is_at_gap more ≡ true → IsDeep t.held → Reads text w ws stop t fetch_key
+question_reads text w ws stop t more e gap deep g = by (goes_side text (w ∷ ws) stop t g)
   where
     begins : begins_with_space_or_break more ≡ true
-    begins = begins_here text more w ws last t g e gap
+    begins = begins_here text more w ws stop t g e gap
 
-    by : GoesOutside text (w ∷ ws) last t ⊎ GoesInside text (w ∷ ws) last t → Succeeds (Goes text ws last) (fetch_key t)
-    by (inl o) = let n = none_here text more w ws last t e begins o in reads_outside text more w ws last t e begins deep (none_open text (w ∷ ws) last t o n.0) n.1
-    by (inr i) = reads_inside text more w ws last t e begins deep i
+    by : GoesOutside text (w ∷ ws) stop t ⊎ GoesInside text (w ∷ ws) stop t → Succeeds (Goes text ws stop) (fetch_key t)
+    by (inl o) = let n = none_here text more w ws stop t e begins o in reads_outside text more w ws stop t e begins deep (none_open text (w ∷ ws) stop t o n.0) n.1
+    by (inr i) = reads_inside text more w ws stop t e begins deep i

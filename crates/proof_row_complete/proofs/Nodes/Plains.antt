@@ -12,13 +12,12 @@ use Rattle.defs_token.specs.Account.{is_adjacent}
 use Rattle.defs_token.specs.Plain as defs
 use Rattle.defs_token.specs.Plain.{begins_flow, may_begin, begins_plain, is_whole_plain, goes_on, ends_with_content, stops}
 use Rattle.defs_token.specs.Separation.{is_separation}
-use Rattle.defs_row.specs.Step.{Step, spelled, act_of, gives_node, previous_by, has_break, plain_scalar}
+use Rattle.defs_row.specs.Step.{Step, act_of, gives_node, previous_by, has_break, plain_scalar}
 use Rattle.defs_row.specs.Column.{blocks_at, innermost}
 use Rattle.defs_row.specs.Indentation.{least_column, last_line, has_tab_within, is_indented_by_spaces}
 use Rattle.defs_row.specs.Lines.{further_lines_stand, plain_lines_fit, has_dash_before_flow}
 use Rattle.defs_row.specs.Following.{may_precede}
 use Rattle.defs_row.specs.Account.{Site, Account, is_in_flow, least_for, is_deep_enough, may_stand, account_past}
-use Rattle.defs_row.specs.Row.{IsRowFrom}
 use Rattle.model_lexers.specs.Machine as machine
 use Rattle.model_lexers.specs.Plain.{Plain, plain, at_dash}
 use Rattle.model_lexers.specs.declared.context.Context.{Context}
@@ -41,6 +40,7 @@ use Rattle.proof_row_sound.proofs.PlainKeeps.{no_comment, same_innermost, gone, 
 use Rattle.proof_row_sound.proofs.PlainLines.{dash_is}
 use Rattle.proof_row_sound.proofs.ReadNodes.{state_after}
 use Rattle.proof_row_sound.proofs.WithoutOpen.{AreClosed}
+use Rattle.proof_row_complete.specs.Ways.{Stop, spelled_to, LeadsTo}
 use Rattle.proof_row_complete.specs.Goes.{Succeeds, went, Goes, GoesHere}
 use Rattle.proof_row_complete.specs.EachReads.{before_here}
 use Rattle.proof_row_complete.proofs.Nodes.Past.{NodePast, node_past}
@@ -88,8 +88,8 @@ after_gap (c ∷ r) h = by (c == 35) refl
     by false e = solid refl (rw (h, e) refl)
 
 -- No TAB indents what comes after the gap, if a piece does: the next step of the row asks for that.
-next_clear : (w : Step) (indent : ℕ) (bs gap : List ℕ) (aw : Bool) → is_gap gap ≡ true → least_column bs true ≡ indent → is_indented_by_spaces plain_scalar bs aw gap ≡ true → has_break gap ≡ true → has_tab_within indent (last_line gap) ≡ false
-next_clear w indent bs gap aw white least h broken =
+next_clear : (indent : ℕ) (bs gap : List ℕ) (aw : Bool) → is_gap gap ≡ true → least_column bs true ≡ indent → is_indented_by_spaces plain_scalar bs aw gap ≡ true → has_break gap ≡ true → has_tab_within indent (last_line gap) ≡ false
+next_clear indent bs gap aw white least h broken =
     let value : (aw || not (is_one_of gap 35)) ≡ true = ap (λ b. aw || not b) (no_comment gap white).0 ∙ or-true aw in
     let column : least_column bs (aw || not (is_one_of gap 35)) ≡ indent = ap (λ b. least_column bs b) value ∙ least in
     let tab : not (has_tab_within (least_column bs (aw || not (is_one_of gap 35))) (last_line gap)) ≡ true = rw broken at h in
@@ -101,42 +101,47 @@ no_separation [] next rest e h s = refl
 no_separation (c ∷ more) next rest e h s =
     absurd (cc ((and_parts (classes.is_blank c || classes.is_break c || (c == 35)) (is_separation (c == 35) more next) h).0, subst (λ r. begins_separation r ≡ false) e s))
 
-module _ (a : Account) (w : Step) (ws : List Step) (last text : List ℕ) (shown_is : w.shown ≡ Tok.scalar Style.plain text) (row : IsRowFrom (account_past a w (spelled ws last)) ws last) where
-  abbrev then : NodePast a w (spelled ws last) ws last
-  then = node_past a w ws last (ap act_of shown_is) row
+module _ (a : Account) (w : Step) (ws : List Step) (stop : Stop) (text : List ℕ) (shown_is : w.shown ≡ Tok.scalar Style.plain text) (row : LeadsTo (account_past a w (spelled_to ws stop)) ws stop) where
+  abbrev then : NodePast a w (spelled_to ws stop) ws stop
+  then = node_past a w ws stop (ap act_of shown_is) row
 
   before_is : then.after.site.before ≡ plain_scalar
   before_is = ap (λ s. s.before) then.site_is ∙ ap previous_by shown_is
 
-  blocks_are : then.after.site.blocks ≡ (At a w (spelled ws last)).blocks
+  blocks_are : then.after.site.blocks ≡ (At a w (spelled_to ws stop)).blocks
   blocks_are = ap (λ s. s.blocks) then.site_is
 
-  pub gap_clear : (indent : ℕ) (gap rest : List ℕ) → spelled ws last ≡ gap ++ rest → is_gap gap ≡ true → has_no_nul rest ≡ true → least_column (At a w (spelled ws last)).blocks true ≡ indent → After rest → IsClearGap indent gap rest
+  pub gap_clear : (indent : ℕ) (gap rest : List ℕ) → spelled_to ws stop ≡ gap ++ rest → is_gap gap ≡ true → has_no_nul rest ≡ true → least_column (At a w (spelled_to ws stop)).blocks true ≡ indent → After rest → IsClearGap indent gap rest
   gap_clear indent gap rest cut white nul least (ended h) = inl h
   gap_clear indent gap rest cut white nul least (solid some s) = inr (by ws then.is_row separation_is (subst (λ r. is_empty r ≡ false) rest_is some))
     where
-      to_come : RestOf gap rest (separation_of ws last) (text_after ws last)
-      to_come = rest_of then.after ws last gap rest then.is_row cut nul (gap_is_separation gap rest white)
+      to_come : RestOf gap rest (separation_of ws stop) (text_after ws stop)
+      to_come = rest_of then.after ws stop gap rest then.is_row cut nul (gap_is_separation gap rest white)
 
       none : to_come.more ≡ []
-      none = no_separation to_come.more (text_after ws last) rest to_come.is_rest to_come.is_filled s
+      none = no_separation to_come.more (text_after ws stop) rest to_come.is_rest to_come.is_filled s
 
-      separation_is : separation_of ws last ≡ gap
+      separation_is : separation_of ws stop ≡ gap
       separation_is = to_come.is_whole ∙ (ap (λ m. gap ++ m) none ∙ append-nil gap)
 
-      rest_is : rest ≡ text_after ws last
-      rest_is = to_come.is_rest ∙ ap (λ m. m ++ text_after ws last) none
+      rest_is : rest ≡ text_after ws stop
+      rest_is = to_come.is_rest ∙ ap (λ m. m ++ text_after ws stop) none
 
-      by : (vs : List Step) → IsRowFrom (Some then.after) vs last → separation_of vs last ≡ gap → is_empty (text_after vs last) ≡ false → has_break gap ≡ true → has_tab_within indent (last_line gap) ≡ false
-      by [] r i n broken = absurd (cc n)
+      cleared : (f : List ℕ) → f ≡ gap → is_indented_by_spaces then.after.site.before then.after.site.blocks then.after.site.awaits f ≡ true → has_break gap ≡ true → has_tab_within indent (last_line gap) ≡ false
+      cleared f i spaces broken =
+          let b : Account = then.after in
+          next_clear indent b.site.blocks gap b.site.awaits white (ap (λ bs. least_column bs true) blocks_are ∙ least)
+          (subst (λ y. is_indented_by_spaces y b.site.blocks b.site.awaits gap ≡ true) before_is (subst (λ g. is_indented_by_spaces b.site.before b.site.blocks b.site.awaits g ≡ true) i spaces)) broken
+
+      by : (vs : List Step) → LeadsTo (Some then.after) vs stop → separation_of vs stop ≡ gap → is_empty (text_after vs stop) ≡ false → has_break gap ≡ true → has_tab_within indent (last_line gap) ≡ false
+      by [] r i n broken = cleared stop.separation i (subst (λ (b : Account). is_indented_by_spaces b.site.before b.site.blocks b.site.awaits stop.separation ≡ true) (sym r) (stop.has_no_tabs n)) broken
       by (z ∷ vs) r i n broken =
           let b : Account = then.after in
-          let all : may_stand (is_in_flow b.entries) b.site (At b z (spelled vs last)) z.separation z.piece z.shown (spelled vs last) ≡ true = (asks b z vs last r).stands in
+          let all : may_stand (is_in_flow b.entries) b.site (At b z (spelled_to vs stop)) z.separation z.piece z.shown (spelled_to vs stop) ≡ true = (asks b z vs stop r).stands in
           let spaces : is_indented_by_spaces b.site.before b.site.blocks b.site.awaits z.separation ≡ true =
-          first_of_four (is_indented_by_spaces b.site.before b.site.blocks b.site.awaits z.separation) (is_deep_enough (is_in_flow b.entries) z.shown (At b z (spelled vs last)))
-          (further_lines_stand (least_for z.shown (At b z (spelled vs last))) z.shown z.piece) (may_precede (is_in_flow b.entries) (At b z (spelled vs last)).blocks z.shown z.piece (spelled vs last)) all in
-          next_clear z indent b.site.blocks gap b.site.awaits white (ap (λ bs. least_column bs true) blocks_are ∙ least)
-          (subst (λ y. is_indented_by_spaces y b.site.blocks b.site.awaits gap ≡ true) before_is (subst (λ f. is_indented_by_spaces b.site.before b.site.blocks b.site.awaits f ≡ true) i spaces)) broken
+          first_of_four (is_indented_by_spaces b.site.before b.site.blocks b.site.awaits z.separation) (is_deep_enough (is_in_flow b.entries) z.shown (At b z (spelled_to vs stop)))
+          (further_lines_stand (least_for z.shown (At b z (spelled_to vs stop))) z.shown z.piece) (may_precede (is_in_flow b.entries) (At b z (spelled_to vs stop)).blocks z.shown z.piece (spelled_to vs stop)) all in
+          cleared z.separation i spaces broken
         where
           first_of_four : (x y u v : Bool) → (((x && y) && u) && v) ≡ true → x ≡ true
           first_of_four true y u v h = refl
@@ -209,7 +214,7 @@ no_first_dash fl adjacent column c a indent p h = sym (dash_is (record { flow = 
 
 -- ---- the step
 
-module _ (text : List ℕ) (w : Step) (ws : List Step) (last : List ℕ) (t : ScannerState) (g : GoesHere text (w ∷ ws) last t) (deep : IsDeep t.held) (comes_here : comes_plain (in_flow t.held) (is_adjacent (before_here text (w ∷ ws) last t g)) t.held.position.col t.rest ≡ true) where
+module _ (text : List ℕ) (w : Step) (ws : List Step) (stop : Stop) (t : ScannerState) (g : GoesHere text (w ∷ ws) stop t) (deep : IsDeep t.held) (comes_here : comes_plain (in_flow t.held) (is_adjacent (before_here text (w ∷ ws) stop t g)) t.held.position.col t.rest ≡ true) where
   abbrev held : comes_plain (in_flow t.held) (t.held.position.index == t.held.adjacent_value_at) t.held.position.col t.rest ≡ true
   held = comes_as_held text t g.arrives comes_here
 
@@ -222,24 +227,24 @@ module _ (text : List ℕ) (w : Step) (ws : List Step) (last : List ℕ) (t : Sc
   abbrev where_read : Context
   where_read = ctx text t g.arrives deep held
 
-  here : PieceHere text w ws last t g
-  here = piece_here text w ws last t g
+  here : PieceHere text w ws stop t g
+  here = piece_here text w ws stop t g
 
   abbrev next : List ℕ
-  next = spelled ws last
+  next = spelled_to ws stop
 
   abbrev site : Site
-  site = At (account_here text w ws last t g) w next
+  site = At (account_here text w ws stop t g) w next
 
   -- the row's piece is a plain scalar
-  whole : Whole plain_kind (context_here text w ws last t g) w.piece next w.shown
-  whole = by (comes_by (in_flow t.held) (is_adjacent (before_here text (w ∷ ws) last t g)) t.held.position.col t.rest comes_here)
+  whole : Whole plain_kind (context_here text w ws stop t g) w.piece next w.shown
+  whole = by (comes_by (in_flow t.held) (is_adjacent (before_here text (w ∷ ws) stop t g)) t.held.position.col t.rest comes_here)
     where
-      by : Comes (in_flow t.held) (is_adjacent (before_here text (w ∷ ws) last t g)) t.held.position.col t.rest → Whole plain_kind (context_here text w ws last t g) w.piece next w.shown
-      by (comes k) = subst (λ x. Whole x (context_here text w ws last t g) w.piece next w.shown) k here.whole
+      by : Comes (in_flow t.held) (is_adjacent (before_here text (w ∷ ws) stop t g)) t.held.position.col t.rest → Whole plain_kind (context_here text w ws stop t g) w.piece next w.shown
+      by (comes k) = subst (λ x. Whole x (context_here text w ws stop t g) w.piece next w.shown) k here.whole
       by (dashed k) =
-          let m : Whole dashes (context_here text w ws last t g) w.piece next w.shown = subst (λ x. Whole x (context_here text w ws last t g) w.piece next w.shown) k here.whole in
-          absurd (no_marker (in_flow t.held) (is_adjacent (before_here text (w ∷ ws) last t g)) t.held.position.col t.rest next comes_here (ap (λ p. p ++ next) (sym m.0.0) ∙ here.text_is)
+          let m : Whole dashes (context_here text w ws stop t g) w.piece next w.shown = subst (λ x. Whole x (context_here text w ws stop t g) w.piece next w.shown) k here.whole in
+          absurd (no_marker (in_flow t.held) (is_adjacent (before_here text (w ∷ ws) stop t g)) t.held.position.col t.rest next comes_here (ap (λ p. p ++ next) (sym m.0.0) ∙ here.text_is)
           (ap (λ p. p.col) (sym here.position_is) ∙ m.0.1) m.0.2)
 
   shown_is : w.shown ≡ Tok.scalar Style.plain whole.0
@@ -253,7 +258,7 @@ module _ (text : List ℕ) (w : Step) (ws : List Step) (last : List ℕ) (t : Sc
       (ap (λ k. blocks_at (in_flow t.held) (act_of k) site.position.col base.blocks) shown_is ∙
       (ap (λ p. blocks_at (in_flow t.held) gives_node p.col base.blocks) here.position_is ∙ (g.arrives.blocks_are ∙ are_closed.same_columns)))
 
-  collection_is : (context_here text w ws last t g).collection ≡ collection_of levels.indent
+  collection_is : (context_here text w ws stop t g).collection ≡ collection_of levels.indent
   collection_is = same_innermost site.blocks ∙ (ap innermost blocks_here ∙ sym are_closed.is_least.0)
 
   least_is : least_column site.blocks true ≡ levels.indent
@@ -264,7 +269,7 @@ module _ (text : List ℕ) (w : Step) (ws : List Step) (last : List ℕ) (t : Sc
   Asked fl tok = may_stand fl g.arrives.base.site site w.separation w.piece tok next ≡ true
 
   asked : Asked (in_flow t.held) (Tok.scalar Style.plain whole.0)
-  asked = subst (λ f. Asked f (Tok.scalar Style.plain whole.0)) here.in_flow_is (subst (λ k. Asked (is_in_flow (account_here text w ws last t g).entries) k) shown_is here.stands)
+  asked = subst (λ f. Asked f (Tok.scalar Style.plain whole.0)) here.in_flow_is (subst (λ k. Asked (is_in_flow (account_here text w ws stop t g).entries) k) shown_is here.stands)
 
   parts : (is_deep_enough (in_flow t.held) (Tok.scalar Style.plain whole.0) site ≡ true) × (plain_lines_fit (least_column site.blocks true) w.piece ≡ true) × (not (in_flow t.held && has_dash_before_flow w.piece next) ≡ true)
   parts = last_three (is_indented_by_spaces g.arrives.base.site.before g.arrives.base.site.blocks g.arrives.base.site.awaits w.separation) (is_deep_enough (in_flow t.held) (Tok.scalar Style.plain whole.0) site)
@@ -297,13 +302,13 @@ module _ (text : List ℕ) (w : Step) (ws : List Step) (last : List ℕ) (t : Sc
       full : (piece : List ℕ) → w.piece ≡ piece → is_whole_plain (in_flow t.held) (collection_of levels.indent) piece (gap_here.gap ++ gap_here.rest) ≡ true
       full piece e =
           subst (λ n. is_whole_plain (in_flow t.held) (collection_of levels.indent) piece n ≡ true) gap_here.cut (subst (λ x. is_whole_plain (in_flow t.held) (collection_of levels.indent) x next ≡ true) e
-          (subst (λ k. is_whole_plain (in_flow t.held) k w.piece next ≡ true) collection_is (subst (λ f. is_whole_plain f (context_here text w ws last t g).collection w.piece next ≡ true) here.flow_is whole.1.1)))
+          (subst (λ k. is_whole_plain (in_flow t.held) k w.piece next ≡ true) collection_is (subst (λ f. is_whole_plain f (context_here text w ws stop t g).collection w.piece next ≡ true) here.flow_is whole.1.1)))
 
-      begins : (piece : List ℕ) → w.piece ≡ piece → begins_plain (in_flow t.held) (context_here text w ws last t g).adjacent site.position.col (piece ++ (gap_here.gap ++ gap_here.rest)) ≡ true
+      begins : (piece : List ℕ) → w.piece ≡ piece → begins_plain (in_flow t.held) (context_here text w ws stop t g).adjacent site.position.col (piece ++ (gap_here.gap ++ gap_here.rest)) ≡ true
       begins piece e =
-          subst (λ n. begins_plain (in_flow t.held) (context_here text w ws last t g).adjacent site.position.col (piece ++ n) ≡ true) gap_here.cut
-          (subst (λ x. begins_plain (in_flow t.held) (context_here text w ws last t g).adjacent site.position.col (x ++ next) ≡ true) e
-          (subst (λ f. begins_plain f (context_here text w ws last t g).adjacent site.position.col (w.piece ++ next) ≡ true) here.flow_is whole.1.0))
+          subst (λ n. begins_plain (in_flow t.held) (context_here text w ws stop t g).adjacent site.position.col (piece ++ n) ≡ true) gap_here.cut
+          (subst (λ x. begins_plain (in_flow t.held) (context_here text w ws stop t g).adjacent site.position.col (x ++ next) ≡ true) e
+          (subst (λ f. begins_plain f (context_here text w ws stop t g).adjacent site.position.col (w.piece ++ next) ≡ true) here.flow_is whole.1.0))
 
       solid_first : (c : ℕ) (r : List ℕ) → t.rest ≡ c ∷ r → is_white c ≡ false
       solid_first c r e = by (is_white c) (subst (λ x. begins_separation x ≡ false) e g.arrives.is_solid)
@@ -328,24 +333,24 @@ module _ (text : List ℕ) (w : Step) (ws : List Step) (last : List ℕ) (t : Sc
             no_more = gap_here.no_more;
             is_clean = clean;
             deep = deep_here;
-            first_dash = no_first_dash (in_flow t.held) (context_here text w ws last t g).adjacent site.position.col c (r ++ (gap ++ rest)) levels.indent t.held.position (begins (c ∷ r) e);
+            first_dash = no_first_dash (in_flow t.held) (context_here text w ws stop t g).adjacent site.position.col c (r ++ (gap ++ rest)) levels.indent t.held.position (begins (c ∷ r) e);
             dash = not-true (in_flow t.held && has_dash_before_flow (c ∷ r) (gap ++ rest)) (subst (λ n. not (in_flow t.held && has_dash_before_flow (c ∷ r) n) ≡ true) gap_here.cut (subst (λ y. not (in_flow t.held && has_dash_before_flow y next) ≡ true) e parts.2));
             lines = subst (λ y. plain_lines_fit levels.indent y ≡ true) e (subst (λ n. plain_lines_fit n w.piece ≡ true) least_is parts.1);
-            is_clear = gap_clear (account_here text w ws last t g) w ws last whole.0 shown_is g.is_row.1 levels.indent gap rest gap_here.cut gap_here.is_white clean least_is (after_gap rest gap_here.no_more);
+            is_clear = gap_clear (account_here text w ws stop t g) w ws stop whole.0 shown_is g.is_row.1 levels.indent gap rest gap_here.cut gap_here.is_white clean least_is (after_gap rest gap_here.no_more);
           }) in
           (x.0, ap (λ y. plain where_read y t.held.position) (rest_is_piece (c ∷ r) e) ∙ x.1)
 
-  plain_goes : (x : machine.Read Plain) (s : plain where_read t.rest t.held.position ≡ Ok x) → Goes text ws last (record { rest = x.rest; held = push t.held.position (Tok.scalar Style.plain x.value.text) (after_plain x.value.leading (scalar_held text t g.arrives deep held x s)) })
+  plain_goes : (x : machine.Read Plain) (s : plain where_read t.rest t.held.position ≡ Ok x) → Goes text ws stop (record { rest = x.rest; held = push t.held.position (Tok.scalar Style.plain x.value.text) (after_plain x.value.leading (scalar_held text t g.arrives deep held x s)) })
   plain_goes x s =
-      let own : Goes text ws last (state_after t (d text t g.arrives deep held x s)) = node_goes text w ws last t (d text t g.arrives deep held x s) deep g (λ fs ks es f r. is_read text t g.arrives deep held x s fs ks es f r) in
-      subst (λ ts. Goes text ws last (record { rest = x.rest; held = push t.held.position (Tok.scalar Style.plain x.value.text) (after_plain x.value.leading (record (scalar_held text t g.arrives deep held x s) { tokens = ts })) })) (sym are_closed.same_tokens) own
+      let own : Goes text ws stop (state_after t (d text t g.arrives deep held x s)) = node_goes text w ws stop t (d text t g.arrives deep held x s) deep g (λ fs ks es f r. is_read text t g.arrives deep held x s fs ks es f r) in
+      subst (λ ts. Goes text ws stop (record { rest = x.rest; held = push t.held.position (Tok.scalar Style.plain x.value.text) (after_plain x.value.leading (record (scalar_held text t g.arrives deep held x s) { tokens = ts })) })) (sym are_closed.same_tokens) own
 
 -- a plain scalar
-pub plain_reads : (text : List ℕ) (w : Step) (ws : List Step) (last : List ℕ) (t : ScannerState) (g : GoesHere text (w ∷ ws) last t) → IsDeep t.held →
-    comes_plain (in_flow t.held) (is_adjacent (before_here text (w ∷ ws) last t g)) t.held.position.col t.rest ≡ true → Succeeds (Goes text ws last) (fetch_plain_scalar t)
+pub plain_reads : (text : List ℕ) (w : Step) (ws : List Step) (stop : Stop) (t : ScannerState) (g : GoesHere text (w ∷ ws) stop t) → IsDeep t.held →
+    comes_plain (in_flow t.held) (is_adjacent (before_here text (w ∷ ws) stop t g)) t.held.position.col t.rest ≡ true → Succeeds (Goes text ws stop) (fetch_plain_scalar t)
 unfolding fetch_plain_scalar unroll_non_block_indents
-plain_reads text w ws last t g deep comes_here =
-    let x : (x : machine.Read Plain) × (plain (where_read text w ws last t g deep comes_here) t.rest t.held.position ≡ Ok x) = scanned text w ws last t g deep comes_here in
-    subst (λ h. Succeeds (Goes text ws last) (lexed (plain (context (unroll_non_block_indents (allow_key false h))) t.rest t.held.position) (unroll_non_block_indents (allow_key false h))
+plain_reads text w ws stop t g deep comes_here =
+    let x : (x : machine.Read Plain) × (plain (where_read text w ws stop t g deep comes_here) t.rest t.held.position ≡ Ok x) = scanned text w ws stop t g deep comes_here in
+    subst (λ h. Succeeds (Goes text ws stop) (lexed (plain (context (unroll_non_block_indents (allow_key false h))) t.rest t.held.position) (unroll_non_block_indents (allow_key false h))
     (λ r u. Ok (on_held (λ v. push t.held.position (Tok.scalar Style.plain r.text) (after_plain r.leading v)) u)))) (sym (saved_is t.held))
-    (read_on (unroll_non_block_indents (allow_key false (record t.held { keys = saved_keys t.held }))) (plain (where_read text w ws last t g deep comes_here) t.rest t.held.position) _ x.0 x.1 (went (plain_goes text w ws last t g deep comes_here x.0 x.1)))
+    (read_on (unroll_non_block_indents (allow_key false (record t.held { keys = saved_keys t.held }))) (plain (where_read text w ws stop t g deep comes_here) t.rest t.held.position) _ x.0 x.1 (went (plain_goes text w ws stop t g deep comes_here x.0 x.1)))

@@ -2,12 +2,11 @@
 use Rattle.std.proofs.Common.{◌≡◌, ℕ, ◌≤◌, List, [], ◌∷◌, ◌++◌, Bool, true, false, ◌&&◌, Option, Some, None, refl, ap, sym, ◌∙◌, subst, arith, ◌⊎◌, inl, inr}
 use Rattle.defs_text.specs.Position.{Position, position_after}
 use Rattle.defs_text.specs.Text.{is_empty, has_no_nul}
-use Rattle.defs_row.specs.Step.{Step, spelled, Act, act_of, gives_node, has_break}
+use Rattle.defs_row.specs.Step.{Step, Act, act_of, gives_node, has_break}
 use Rattle.defs_row.specs.Column.{is_in_column}
 use Rattle.defs_row.specs.Key.{Line, taken, is_waiting, begins_free_line, Outside, line_past}
 use Rattle.defs_row.specs.FlowEntry.{Entry, begun_by, is_renewed, entries_past}
 use Rattle.defs_row.specs.Account.{Site, Account, site_in, site_past}
-use Rattle.defs_row.specs.Row.{IsRowFrom}
 use Rattle.model_scanner.specs.declared.level.FlowLevel.{FlowLevel}
 use Rattle.model_scanner.specs.State.{Key, ScannerState, pop}
 use Rattle.proof_cut.specs.Here.{IsLive}
@@ -22,6 +21,7 @@ use Rattle.proof_row_sound.proofs.NodesOutside.{Outer}
 use Rattle.proof_row_sound.proofs.Outsides.{must_be_here}
 use Rattle.proof_row_sound.proofs.ReadNodes.{Read, next_of, state_after, site_then, IsRead, here_is, outer_node, is_outer_node, inner_node, is_inner_node, base_outside, base_inside, node_outside, node_inside}
 use Rattle.proof_row_sound.proofs.Sides.{with_entries, ArrivesBy}
+use Rattle.proof_row_complete.specs.Ways.{Stop, spelled_to, LeadsTo}
 use Rattle.proof_row_complete.specs.Goes.{Goes, GoesHere}
 use Rattle.proof_row_complete.proofs.Nodes.Choices.{separated_by, ChosenOutside, chosen_outside, ChosenInside, chosen_inside}
 use Rattle.proof_row_complete.proofs.Sides.{GoesOutside, GoesInside, goes_side, goes_on}
@@ -36,10 +36,10 @@ no_break_in false waiting h e = refl
 
 module _ (text : List ℕ) (t : ScannerState) (fs : List FlowLevel) (ks : List (Option Key)) (es : List Entry) (a : ArrivesBy text t fs ks es) (d : Read) (r : IsRead t fs a.site a.line es a.separation d) where
   -- A key that waits after the piece and began on its line is live: nothing up to there has a break, and there is more text.
-  pub live_then : (ws : List Step) (last : List ℕ) (b : Account) (k : Key) → IsRowFrom (Some b) ws last → (e : b.line ≡ line_by true (Some k) taken) → ((f : List ℕ) → begins_free_line b.site.before f ≡ has_break f) → (has_break d.piece && is_waiting b.line) ≡ false →
-      spelled ws last ≡ next_of d → t.held.position.line ≤ k.position.line → IsLive k d.end d.rest
-  live_then ws last b k row e unmarked one text before =
-      let on : (has_break d.gap ≡ false) × (is_empty d.rest ≡ false) = waits_on ws last b k.position d.gap d.rest row e unmarked text r.is_filled in
+  pub live_then : (ws : List Step) (stop : Stop) (b : Account) (k : Key) → LeadsTo (Some b) ws stop → (e : b.line ≡ line_by true (Some k) taken) → ((f : List ℕ) → begins_free_line b.site.before f ≡ has_break f) → (has_break d.piece && is_waiting b.line) ≡ false →
+      spelled_to ws stop ≡ next_of d → t.held.position.line ≤ k.position.line → IsLive k d.end d.rest
+  live_then ws stop b k row e unmarked one text before =
+      let on : (has_break d.gap ≡ false) × (is_empty d.rest ≡ false) = waits_on ws stop b k.position d.gap d.rest row e unmarked text r.is_filled in
       let piece : has_break d.piece ≡ false = no_break_in (has_break d.piece) (is_waiting b.line) one (ap is_waiting e) in
       let past : Position = position_after t.held.position d.piece (next_of d) in
       let first : past.line ≡ t.held.position.line = on_its_line t.held.position d.piece (next_of d) piece in
@@ -48,7 +48,7 @@ module _ (text : List ℕ) (t : ScannerState) (fs : List FlowLevel) (ks : List (
 
 -- ---- outside flow
 
-module _ (text : List ℕ) (w : Step) (ws : List Step) (last : List ℕ) (t : ScannerState) (d : Read) (deep : IsDeep t.held) (g : GoesOutside text (w ∷ ws) last t) (r : IsRead t [] g.side.here.site g.side.here.line [] g.side.here.separation d) where
+module _ (text : List ℕ) (w : Step) (ws : List Step) (stop : Stop) (t : ScannerState) (d : Read) (deep : IsDeep t.held) (g : GoesOutside text (w ∷ ws) stop t) (r : IsRead t [] g.side.here.site g.side.here.line [] g.side.here.separation d) where
   abbrev a : ArrivesBy text t [] (g.side.key ∷ []) []
   a = g.side.here
 
@@ -71,10 +71,10 @@ module _ (text : List ℕ) (w : Step) (ws : List Step) (last : List ℕ) (t : Sc
   same_place : t.held.position ≡ (outside.at n).position
   same_place = here_is text t [] (g.side.key ∷ []) [] a d r
 
-  step : GoesPast (Outer a.site line_before) (outside.step_of n false) (next_of d) ws last
-  step = step_read (Outer a.site line_before) w ws last (outside.step_of n false) (next_of d) g.is_row (g.is_spelled ∙ ap (λ x. a.separation ++ x) r.cut) (outside.seen_written n is_n false false) (subst (λ x. has_no_nul x ≡ true) r.cut a.is_clean)
+  step : GoesPast (Outer a.site line_before) (outside.step_of n false) (next_of d) ws stop
+  step = step_read (Outer a.site line_before) w ws stop (outside.step_of n false) (next_of d) g.is_row (g.is_spelled ∙ ap (λ x. a.separation ++ x) r.cut) (outside.seen_written n is_n false false) (subst (λ x. has_no_nul x ≡ true) r.cut a.is_clean)
 
-  module _ (x : WentOutside a.site line_before (outside.step_of n step.key) (next_of d) ws last) where
+  module _ (x : WentOutside a.site line_before (outside.step_of n step.key) (next_of d) ws stop) where
     line_here_is : x.line_here ≡ line_by g.outside g.side.key a.line_here
     line_here_is = separated_by false (begins_free_line a.site.before a.separation) g.outside g.side.key a.line a.line_here x.line_here a.is_line x.line_is
 
@@ -97,24 +97,24 @@ module _ (text : List ℕ) (w : Step) (ws : List Step) (last : List ℕ) (t : Sc
     account_is = ap (λ act. Own act (outside.at n).position x.after (begun_by d.tok)) r.act ∙ (ap (λ p. Own gives_node p x.after (begun_by d.tok)) (sym same_place) ∙
         (ap (λ y. Own gives_node t.held.position y (begun_by d.tok)) chose.is ∙ ap (λ es. Own gives_node t.held.position (record { line = line_by chose.choice key_then taken; blocks = at.blocks }) es) r.begun))
 
-    row : IsRowFrom (Some (Outer (site_then t [] a.site d) (line_by chose.choice key_then taken))) ws last
-    row = subst (λ b. IsRowFrom (Some b) ws last) account_is x.is_row
+    row : LeadsTo (Some (Outer (site_then t [] a.site d) (line_by chose.choice key_then taken))) ws stop
+    row = subst (λ b. LeadsTo (Some b) ws stop) account_is x.is_row
 
     live : (k : Key) → key_then ≡ Some k → chose.choice ≡ true → t.held.position.line ≤ k.position.line → IsLive k d.end d.rest
     live k e c before =
         let line : line_by chose.choice key_then taken ≡ line_by true (Some k) taken = ap (λ y. line_by chose.choice y taken) e ∙ ap (λ y. line_by y (Some k) taken) c in
-        live_then text t [] (g.side.key ∷ []) [] a d r ws last (Outer (site_then t [] a.site d) (line_by chose.choice key_then taken)) k row line (node_before d.tok r.act)
+        live_then text t [] (g.side.key ∷ []) [] a d r ws stop (Outer (site_then t [] a.site d) (line_by chose.choice key_then taken)) k row line (node_before d.tok r.act)
         (subst (λ y. (has_break d.piece && is_waiting y.line) ≡ false) chose.is x.one_line) step.is_spelled before
 
-    goes : Goes text ws last (state_after t d)
-    goes = goes_on text ws last (state_after t d) (base_outside text t g.side d) (key_then ∷ []) d.gap (node_outside text t d deep g.side r) (keys_saved t g.side.key [] g.side.keys_are) chose.choice [] (chose.may d.end d.rest live) step.is_spelled row
+    goes : Goes text ws stop (state_after t d)
+    goes = goes_on text ws stop (state_after t d) (base_outside text t g.side d) (key_then ∷ []) d.gap (node_outside text t d deep g.side r) (keys_saved t g.side.key [] g.side.keys_are) chose.choice [] (chose.may d.end d.rest live) step.is_spelled row
 
-  pub node_goes_outside : Goes text ws last (state_after t d)
-  node_goes_outside = goes (went_outside a.site line_before (outside.step_of n step.key) (next_of d) ws last step.is_row)
+  pub node_goes_outside : Goes text ws stop (state_after t d)
+  node_goes_outside = goes (went_outside a.site line_before (outside.step_of n step.key) (next_of d) ws stop step.is_row)
 
 -- ---- in flow
 
-module _ (text : List ℕ) (w : Step) (ws : List Step) (last : List ℕ) (t : ScannerState) (d : Read) (g : GoesInside text (w ∷ ws) last t)
+module _ (text : List ℕ) (w : Step) (ws : List Step) (stop : Stop) (t : ScannerState) (d : Read) (g : GoesInside text (w ∷ ws) stop t)
     (r : IsRead t (g.side.level ∷ g.side.levels) g.side.here.site g.side.here.line (g.side.entry ∷ g.side.entries) g.side.here.separation d) where
   abbrev here : ArrivesBy text t (g.side.level ∷ g.side.levels) (g.side.key ∷ g.side.keys) (g.side.entry ∷ g.side.entries)
   here = g.side.here
@@ -145,10 +145,10 @@ module _ (text : List ℕ) (w : Step) (ws : List Step) (last : List ℕ) (t : Sc
   place : t.held.position ≡ (inside.at m).position
   place = here_is text t (g.side.level ∷ g.side.levels) (g.side.key ∷ g.side.keys) (g.side.entry ∷ g.side.entries) here d r
 
-  stepped : GoesPast (with_entries here.site outer_line (entry ∷ around)) (inside.step_of m false) (next_of d) ws last
-  stepped = step_read (with_entries here.site outer_line (entry ∷ around)) w ws last (inside.step_of m false) (next_of d) g.is_row (g.is_spelled ∙ ap (λ x. here.separation ++ x) r.cut) (inside.seen_written m is_m g.outside g.inside false) (subst (λ x. has_no_nul x ≡ true) r.cut here.is_clean)
+  stepped : GoesPast (with_entries here.site outer_line (entry ∷ around)) (inside.step_of m false) (next_of d) ws stop
+  stepped = step_read (with_entries here.site outer_line (entry ∷ around)) w ws stop (inside.step_of m false) (next_of d) g.is_row (g.is_spelled ∙ ap (λ x. here.separation ++ x) r.cut) (inside.seen_written m is_m g.outside g.inside false) (subst (λ x. has_no_nul x ≡ true) r.cut here.is_clean)
 
-  module _ (x : WentInside here.site outer_line entry around (inside.step_of m stepped.key) (next_of d) ws last) where
+  module _ (x : WentInside here.site outer_line entry around (inside.step_of m stepped.key) (next_of d) ws stop) where
     line_is : x.line_here ≡ outer_line
     line_is = separated_by true (begins_free_line here.site.before here.separation) g.outside outer_key here.line here.line x.line_here (line_through text t g.side.level g.side.levels g.side.key g.side.keys g.side.entry g.side.entries here) x.line_is
 
@@ -175,8 +175,8 @@ module _ (text : List ℕ) (w : Step) (ws : List Step) (last : List ℕ) (t : Sc
     whole_is = ap (λ act. Whole act (inside.at m).position x.line_here x.after) r.act ∙ (ap (λ p. Whole gives_node p x.line_here x.after) (sym place) ∙
         (ap (λ l. Whole gives_node t.held.position l x.after) line_is ∙ ap (λ es. Whole gives_node t.held.position outer_line es) chose_inside.is))
 
-    row_inside : IsRowFrom (Some (chosen g.outside choices (own_key ∷ g.side.keys) base)) ws last
-    row_inside = subst (λ b. IsRowFrom (Some b) ws last) whole_is x.is_row
+    row_inside : LeadsTo (Some (chosen g.outside choices (own_key ∷ g.side.keys) base)) ws stop
+    row_inside = subst (λ b. LeadsTo (Some b) ws stop) whole_is x.is_row
 
     one_inside : (has_break d.piece && is_waiting outer_line) ≡ false
     one_inside = subst (λ l. (has_break d.piece && is_waiting l) ≡ false) line_is x.one_line
@@ -186,7 +186,7 @@ module _ (text : List ℕ) (w : Step) (ws : List Step) (last : List ℕ) (t : Sc
     may_then = by g.outside outer_key refl refl g.may
       where
         live : (k : Key) → line_by g.outside outer_key here.line ≡ line_by true (Some k) taken → t.held.position.line ≤ k.position.line → IsLive k d.end d.rest
-        live k e before = live_then text t (g.side.level ∷ g.side.levels) (g.side.key ∷ g.side.keys) (g.side.entry ∷ g.side.entries) here d r ws last (chosen g.outside choices (own_key ∷ g.side.keys) base) k row_inside e (node_before d.tok r.act)
+        live k e before = live_then text t (g.side.level ∷ g.side.levels) (g.side.key ∷ g.side.keys) (g.side.entry ∷ g.side.entries) here d r ws stop (chosen g.outside choices (own_key ∷ g.side.keys) base) k row_inside e (node_before d.tok r.act)
             one_inside stepped.is_spelled before
 
         by : (c : Bool) (y : Option Key) → g.outside ≡ c → outer_key ≡ y → MayChoose c y t.held.position t.rest → MayChoose c y d.end d.rest
@@ -194,19 +194,19 @@ module _ (text : List ℕ) (w : Step) (ws : List Step) (last : List ℕ) (t : Sc
         by false (Some k) i j may = may
         by true (Some k) i j may = live k (ap (λ c. line_by c outer_key here.line) i ∙ ap (λ y. line_by true y here.line) j) may.0
 
-    goes_in : Goes text ws last (state_after t d)
-    goes_in = goes_on text ws last (state_after t d) base (own_key ∷ g.side.keys) d.gap (node_inside text t d g.side r) (keys_saved t g.side.key g.side.keys g.side.keys_are) g.outside choices may_then stepped.is_spelled row_inside
+    goes_in : Goes text ws stop (state_after t d)
+    goes_in = goes_on text ws stop (state_after t d) base (own_key ∷ g.side.keys) d.gap (node_inside text t d g.side r) (keys_saved t g.side.key g.side.keys g.side.keys_are) g.outside choices may_then stepped.is_spelled row_inside
 
-  pub node_goes_inside : Goes text ws last (state_after t d)
-  node_goes_inside = goes_in (went_inside here.site outer_line entry around (inside.step_of m stepped.key) (next_of d) ws last stepped.is_row)
+  pub node_goes_inside : Goes text ws stop (state_after t d)
+  node_goes_inside = goes_in (went_inside here.site outer_line entry around (inside.step_of m stepped.key) (next_of d) ws stop stepped.is_row)
 
 -- ---- both
 
 -- Where a piece begins and the row goes on, a part of a node that is no collection was read: the row goes on after it.
-pub node_goes : (text : List ℕ) (w : Step) (ws : List Step) (last : List ℕ) (t : ScannerState) (d : Read) → IsDeep t.held → GoesHere text (w ∷ ws) last t →
-    ((fs : List FlowLevel) (ks : List (Option Key)) (es : List Entry) → t.held.flow ≡ fs → (a : ArrivesBy text t fs ks es) → IsRead t fs a.site a.line es a.separation d) → Goes text ws last (state_after t d)
-node_goes text w ws last t d deep here known = by (goes_side text (w ∷ ws) last t here)
+pub node_goes : (text : List ℕ) (w : Step) (ws : List Step) (stop : Stop) (t : ScannerState) (d : Read) → IsDeep t.held → GoesHere text (w ∷ ws) stop t →
+    ((fs : List FlowLevel) (ks : List (Option Key)) (es : List Entry) → t.held.flow ≡ fs → (a : ArrivesBy text t fs ks es) → IsRead t fs a.site a.line es a.separation d) → Goes text ws stop (state_after t d)
+node_goes text w ws stop t d deep here known = by (goes_side text (w ∷ ws) stop t here)
   where
-    by : GoesOutside text (w ∷ ws) last t ⊎ GoesInside text (w ∷ ws) last t → Goes text ws last (state_after t d)
-    by (inl g) = node_goes_outside text w ws last t d deep g (known [] (g.side.key ∷ []) [] g.side.flow_is g.side.here)
-    by (inr g) = node_goes_inside text w ws last t d g (known (g.side.level ∷ g.side.levels) (g.side.key ∷ g.side.keys) (g.side.entry ∷ g.side.entries) g.side.flow_is g.side.here)
+    by : GoesOutside text (w ∷ ws) stop t ⊎ GoesInside text (w ∷ ws) stop t → Goes text ws stop (state_after t d)
+    by (inl g) = node_goes_outside text w ws stop t d deep g (known [] (g.side.key ∷ []) [] g.side.flow_is g.side.here)
+    by (inr g) = node_goes_inside text w ws stop t d g (known (g.side.level ∷ g.side.levels) (g.side.key ∷ g.side.keys) (g.side.entry ∷ g.side.entries) g.side.flow_is g.side.here)

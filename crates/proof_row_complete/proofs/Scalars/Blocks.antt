@@ -16,10 +16,10 @@ use Rattle.defs_row.specs.FlowEntry.{begun_by}
 use Rattle.defs_row.specs.Indentation.{is_indented_by_spaces}
 use Rattle.defs_row.specs.Key.{Line, free, taken, waits, is_waiting, begins_free_line, line_past_separation, Outside, line_past}
 use Rattle.defs_row.specs.Lines.{further_lines_stand}
-use Rattle.defs_row.specs.Step.{Step, spelled, gives_block_scalar}
+use Rattle.defs_row.specs.Step.{Step, gives_block_scalar}
 use Rattle.defs_row.specs.Account.{Site, Account, site_in, site_at, site_past, least_for, is_deep_enough, seen}
 use Rattle.defs_row.specs.Tokens.{content_position, shown_position}
-use Rattle.defs_row.specs.Row.{IsWritten, IsRowFrom}
+use Rattle.defs_row.specs.Row.{IsWritten}
 use Rattle.model_lexers.specs.Machine.{Read}
 use Rattle.model_lexers.specs.Block.{Block, block}
 use Rattle.model_scanner.specs.State.{Key, ScannerState, on_held, push, lexed}
@@ -51,6 +51,7 @@ use Rattle.proof_row_sound.proofs.OutsidePieces.{line_free, none_open}
 use Rattle.proof_row_sound.proofs.Outsides.{must_be_here}
 use Rattle.proof_row_sound.proofs.Sides.{ArrivesBy, ArrivesOutside, StandsAt}
 use Rattle.proof_row_sound.proofs.WithoutOpen.{AreClosed, without_is}
+use Rattle.proof_row_complete.specs.Ways.{Stop, spelled_to, LeadsTo}
 use Rattle.proof_row_complete.specs.Goes.{Succeeds, went, Goes}
 use Rattle.proof_row_complete.specs.EachReads.{Reads}
 use Rattle.proof_row_complete.proofs.KindsOfPieces.{kind_of_token}
@@ -128,7 +129,7 @@ none_chosen (Some k) l = refl
 
 -- ---- the step
 
-module _ (text : List ℕ) (w : Step) (ws : List Step) (last : List ℕ) (t : ScannerState) (style : BlockStyle) (more : List ℕ) (e : t.rest ≡ indicator_of style ∷ more) (deep : IsDeep t.held) (g : GoesOutside text (w ∷ ws) last t) where
+module _ (text : List ℕ) (w : Step) (ws : List Step) (stop : Stop) (t : ScannerState) (style : BlockStyle) (more : List ℕ) (e : t.rest ≡ indicator_of style ∷ more) (deep : IsDeep t.held) (g : GoesOutside text (w ∷ ws) stop t) where
   abbrev o : ArrivesOutside text t
   o = g.side
 
@@ -146,7 +147,7 @@ module _ (text : List ℕ) (w : Step) (ws : List Step) (last : List ℕ) (t : Sc
   from = Outer a.site line
 
   abbrev next : List ℕ
-  next = spelled ws last
+  next = spelled_to ws stop
 
   abbrev here : Site
   here = site_here false p a.site
@@ -155,7 +156,7 @@ module _ (text : List ℕ) (w : Step) (ws : List Step) (last : List ℕ) (t : Sc
   there = At from w next
 
   first : (w.separation ≡ a.separation) × (w.piece ++ next ≡ t.rest)
-  first = step_here from w ws last a.separation t.rest g.is_row g.is_spelled a.is_filled a.is_solid a.is_clean
+  first = step_here from w (spelled_to ws stop) a.separation t.rest g.is_row.0 g.is_spelled a.is_filled a.is_solid a.is_clean
 
   clean : has_no_nul (w.piece ++ next) ≡ true
   clean = subst (λ r. has_no_nul r ≡ true) (sym first.1) a.is_clean
@@ -236,11 +237,11 @@ module _ (text : List ℕ) (w : Step) (ws : List Step) (last : List ℕ) (t : Sc
     (g.is_row.0.1.0, subst (λ y. IsPiece (seen from y a.separation) w.piece next None (shown_position y w.piece tok next) tok) (sym at_is) piece_here),
   )
 
-  step : GoesPast from v next ws last
-  step = step_read from w ws last v next g.is_row (g.is_spelled ∙ ap (λ r. a.separation ++ r) (sym first.1)) written clean
+  step : GoesPast from v next ws stop
+  step = step_read from w ws stop v next g.is_row (g.is_spelled ∙ ap (λ r. a.separation ++ r) (sym first.1)) written clean
 
-  went_past : WentOutside a.site line (with_key v step.key) next ws last
-  went_past = went_outside a.site line (with_key v step.key) next ws last step.is_row
+  went_past : WentOutside a.site line (with_key v step.key) next ws stop
+  went_past = went_outside a.site line (with_key v step.key) next ws stop step.is_row
 
   may_end : block_may_end here.blocks w.piece next ≡ true
   may_end =
@@ -305,12 +306,12 @@ module _ (text : List ℕ) (w : Step) (ws : List Step) (last : List ℕ) (t : Sc
       (block_line (is_in_column at_v.position.col at_v.blocks) at_v.position at_v.blocks step.key went_past.line_here went_past.after
       (ap (λ k. line_past (is_in_column at_v.position.col at_v.blocks) at_v.position at_v.blocks k step.key went_past.line_here) (sym token.act) ∙ went_past.after_is))
 
-  row_then : (k : Option Key) → IsRowFrom (Some (record { site = base.site; line = line_by false k free; entries = [] })) ws last
+  row_then : (k : Option Key) → LeadsTo (Some (record { site = base.site; line = line_by false k free; entries = [] })) ws stop
   row_then k =
-      subst (λ l. IsRowFrom (Some (record { site = base.site; line = l; entries = [] })) ws last) (sym (none_chosen k free))
-      (subst (λ es. IsRowFrom (Some (record { site = base.site; line = free; entries = es })) ws last) token.begun
-      (subst (λ y. IsRowFrom (Some (record { site = site_past false here w.piece tok next y.blocks; line = y.line; entries = begun_by tok })) ws last) after_it.after_is
-      (subst (λ s. IsRowFrom (Some (record { site = site_past false s w.piece tok next went_past.after.blocks; line = went_past.after.line; entries = begun_by tok })) ws last) at_is went_past.is_row)))
+      subst (λ l. LeadsTo (Some (record { site = base.site; line = l; entries = [] })) ws stop) (sym (none_chosen k free))
+      (subst (λ es. LeadsTo (Some (record { site = base.site; line = free; entries = es })) ws stop) token.begun
+      (subst (λ y. LeadsTo (Some (record { site = site_past false here w.piece tok next y.blocks; line = y.line; entries = begun_by tok })) ws stop) after_it.after_is
+      (subst (λ s. LeadsTo (Some (record { site = site_past false s w.piece tok next went_past.after.blocks; line = went_past.after.line; entries = begun_by tok })) ws stop) at_is went_past.is_row)))
 
   abbrev key_then : Option Key
   key_then = saved t.held.key_allowed (new_key t) o.key
@@ -351,25 +352,25 @@ module _ (text : List ℕ) (w : Step) (ws : List Step) (last : List ℕ) (t : Sc
       by false f None i = tt
       by false f (Some k) i = ap is_required (sym i) ∙ none_required
 
-  goes : Goes text ws last (read_state t levels style x)
-  goes = goes_on text ws last (read_state t levels style x) base (key_then ∷ []) (spaces_of next) stands (keys_saved t o.key [] o.keys_are) false [] (may_then x.position x.rest) (spaces_cut next) (row_then key_then)
+  goes : Goes text ws stop (read_state t levels style x)
+  goes = goes_on text ws stop (read_state t levels style x) base (key_then ∷ []) (spaces_of next) stands (keys_saved t o.key [] o.keys_are) false [] (may_then x.position x.rest) (spaces_cut next) (row_then key_then)
 
 -- ---- the function
 
-fetched : (text : List ℕ) (w : Step) (ws : List Step) (last : List ℕ) (t : ScannerState) (style : BlockStyle) (more : List ℕ) → t.rest ≡ indicator_of style ∷ more → IsDeep t.held → GoesOutside text (w ∷ ws) last t → Succeeds (Goes text ws last) (fetch_block_scalar (is_literal_style style) t)
+fetched : (text : List ℕ) (w : Step) (ws : List Step) (stop : Stop) (t : ScannerState) (style : BlockStyle) (more : List ℕ) → t.rest ≡ indicator_of style ∷ more → IsDeep t.held → GoesOutside text (w ∷ ws) stop t → Succeeds (Goes text ws stop) (fetch_block_scalar (is_literal_style style) t)
 unfolding fetch_block_scalar unroll_non_block_indents
-fetched text w ws last t style more e deep g =
-    subst (λ h. Succeeds (Goes text ws last) (lexed (block (is_literal_style style) (unroll_non_block_indents (allow_key true h)).indent t.rest t.held.position) (unroll_non_block_indents (allow_key true h))
+fetched text w ws stop t style more e deep g =
+    subst (λ h. Succeeds (Goes text ws stop) (lexed (block (is_literal_style style) (unroll_non_block_indents (allow_key true h)).indent t.rest t.held.position) (unroll_non_block_indents (allow_key true h))
     (λ b u. Ok (on_held (λ y. push b.position (Tok.scalar (block_style (is_literal_style style)) b.text) (record y { leading = true })) u)))) (sym (saved_is t.held))
-    (subst (λ y. Succeeds (Goes text ws last) (lexed y (unroll_non_block_indents (allow_key true (record t.held { keys = saved_keys t.held })))
-    (λ b u. Ok (on_held (λ y. push b.position (Tok.scalar (block_style (is_literal_style style)) b.text) (record y { leading = true })) u)))) (sym (scan_is text w ws last t style more e deep g))
-    (went (goes text w ws last t style more e deep g)))
+    (subst (λ y. Succeeds (Goes text ws stop) (lexed y (unroll_non_block_indents (allow_key true (record t.held { keys = saved_keys t.held })))
+    (λ b u. Ok (on_held (λ y. push b.position (Tok.scalar (block_style (is_literal_style style)) b.text) (record y { leading = true })) u)))) (sym (scan_is text w ws stop t style more e deep g))
+    (went (goes text w ws stop t style more e deep g)))
 
 -- The function of block scalars reads the step, if the row goes on here.
-pub block_reads : (text : List ℕ) (w : Step) (ws : List Step) (last : List ℕ) (t : ScannerState) (lit : Bool) (more : List ℕ) → t.rest ≡ (if lit then 124 else 62) ∷ more → is_empty t.held.flow ≡ true → IsDeep t.held → Reads text w ws last t (fetch_block_scalar lit)
-block_reads text w ws last t lit more e out deep g = by lit e (goes_side text (w ∷ ws) last t g)
+pub block_reads : (text : List ℕ) (w : Step) (ws : List Step) (stop : Stop) (t : ScannerState) (lit : Bool) (more : List ℕ) → t.rest ≡ (if lit then 124 else 62) ∷ more → is_empty t.held.flow ≡ true → IsDeep t.held → Reads text w ws stop t (fetch_block_scalar lit)
+block_reads text w ws stop t lit more e out deep g = by lit e (goes_side text (w ∷ ws) stop t g)
   where
-    by : (lit : Bool) → t.rest ≡ (if lit then 124 else 62) ∷ more → GoesOutside text (w ∷ ws) last t ⊎ GoesInside text (w ∷ ws) last t → Succeeds (Goes text ws last) (fetch_block_scalar lit t)
+    by : (lit : Bool) → t.rest ≡ (if lit then 124 else 62) ∷ more → GoesOutside text (w ∷ ws) stop t ⊎ GoesInside text (w ∷ ws) stop t → Succeeds (Goes text ws stop) (fetch_block_scalar lit t)
     by lit e (inr inside) = absurd (cc (out, ap is_empty inside.side.flow_is))
-    by true e (inl o) = fetched text w ws last t literal more e deep o
-    by false e (inl o) = fetched text w ws last t folded more e deep o
+    by true e (inl o) = fetched text w ws stop t literal more e deep o
+    by false e (inl o) = fetched text w ws stop t folded more e deep o

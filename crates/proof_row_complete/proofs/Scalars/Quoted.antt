@@ -8,14 +8,14 @@ use Rattle.defs_text.specs.Text.{is_empty, has_no_nul}
 use Rattle.defs_token.specs.Token.{Tok}
 use Rattle.defs_token.specs.Account as pieces
 use Rattle.defs_token.specs.Piece.{IsSingleQuoted, IsDoubleQuoted}
-use Rattle.defs_row.specs.Step.{Step, spelled, act_of, gives_node, quoted_scalar}
+use Rattle.defs_row.specs.Step.{Step, act_of, gives_node, quoted_scalar}
 use Rattle.defs_row.specs.Indentation.{least_column, is_indented_by_spaces}
 use Rattle.defs_row.specs.Lines.{quoted_lines_fit, further_lines_stand}
 use Rattle.defs_row.specs.Following.{quoted_may_end, may_precede}
 use Rattle.defs_row.specs.FlowEntry.{Entry}
 use Rattle.defs_row.specs.Account.{Site, Account, is_in_flow, site_in, least_for, is_deep_enough, seen}
 use Rattle.defs_row.specs.Tokens.{shown_position}
-use Rattle.defs_row.specs.Row.{IsWritten, IsRowFrom}
+use Rattle.defs_row.specs.Row.{IsWritten}
 use Rattle.model_lexers.specs.Machine as machine
 use Rattle.model_lexers.specs.Quoted.{quoted, quote_of}
 use Rattle.model_scanner.specs.declared.level.FlowLevel.{FlowLevel}
@@ -36,6 +36,7 @@ use Rattle.proof_row_sound.proofs.Arrivals.{clean_after}
 use Rattle.proof_row_sound.proofs.Skips.{Spaced}
 use Rattle.proof_row_sound.proofs.QuotedEnds.{Checked, quoted_checked}
 use Rattle.proof_row_sound.proofs.QuotedKeeps.{ReadNode, piece_of, QuotedAs, quoted_as, in_line, IsQuotedToken, quoted_token, least_is_less, closed, rest_is_clean, start_at, start_least, after_body, quoted_node}
+use Rattle.proof_row_complete.specs.Ways.{Stop, spelled_to, LeadsTo}
 use Rattle.proof_row_complete.specs.Goes.{Succeeds, went, Goes, GoesHere}
 use Rattle.proof_row_complete.specs.EachReads.{Reads}
 use Rattle.proof_row_complete.proofs.Runs.{Left, left}
@@ -91,13 +92,13 @@ last_two true true y z h = and_parts y z h
 last_two true false y z h = absurd (cc h)
 last_two false x y z h = absurd (cc h)
 
-module _ (text : List ℕ) (w : Step) (ws : List Step) (last : List ℕ) (t : ScannerState) (single : Bool) (more : List ℕ) (e : t.rest ≡ quote_of single ∷ more) (deep : IsDeep t.held) (g : GoesHere text (w ∷ ws) last t) where
+module _ (text : List ℕ) (w : Step) (ws : List Step) (stop : Stop) (t : ScannerState) (single : Bool) (more : List ℕ) (e : t.rest ≡ quote_of single ∷ more) (deep : IsDeep t.held) (g : GoesHere text (w ∷ ws) stop t) where
   -- the account from which the row goes on
   abbrev from : Account
   from = chosen g.outside g.inside t.held.keys g.arrives.base
 
   abbrev after_it : List ℕ
-  after_it = spelled ws last
+  after_it = spelled_to ws stop
 
   abbrev there : Site
   there = At from w after_it
@@ -106,7 +107,7 @@ module _ (text : List ℕ) (w : Step) (ws : List Step) (last : List ℕ) (t : Sc
   here = site_here (in_flow t.held) t.held.position g.arrives.base.site
 
   first : (w.separation ≡ g.arrives.separation) × (w.piece ++ after_it ≡ t.rest)
-  first = step_here from w ws last g.arrives.separation t.rest g.is_row g.is_spelled g.arrives.is_filled g.arrives.is_solid g.arrives.is_clean
+  first = step_here from w (spelled_to ws stop) g.arrives.separation t.rest g.is_row.0 g.is_spelled g.arrives.is_filled g.arrives.is_solid g.arrives.is_clean
 
   own : RowQuoted single w.piece after_it w.shown
   own = row_quoted single from w after_it more g.is_row.0 (first.1 ∙ e)
@@ -136,7 +137,7 @@ module _ (text : List ℕ) (w : Step) (ws : List Step) (last : List ℕ) (t : Sc
   asked : (further_lines_stand (least_for w.shown there) w.shown w.piece ≡ true) × (may_precede (is_in_flow from.entries) there.blocks w.shown w.piece after_it ≡ true)
   asked =
       last_two (is_indented_by_spaces from.site.before from.site.blocks from.site.awaits w.separation) (is_deep_enough (is_in_flow from.entries) w.shown there) (further_lines_stand (least_for w.shown there) w.shown w.piece)
-      (may_precede (is_in_flow from.entries) there.blocks w.shown w.piece after_it) (asks from w ws last g.is_row).stands
+      (may_precede (is_in_flow from.entries) there.blocks w.shown w.piece after_it) (asks from w ws stop g.is_row).stands
 
   fits : quoted_lines_fit (t.held.indent - 1) (element_of single) (piece_of single own.body) ≡ true
   fits =
@@ -181,8 +182,8 @@ module _ (text : List ℕ) (w : Step) (ws : List Step) (last : List ℕ) (t : Sc
   checks : IsFine (check_after_quoted t.held.position.line quote_closed)
   checks = check_passes t.held.position (piece_of single read_as.body) quote_closed read_as.end_is (subst (λ p. quoted_may_end (in_flow t.held) p after_it ≡ true) same_piece may_end)
 
-  past : NodePast from w after_it ws last
-  past = node_past from w ws last token.act g.is_row.1
+  past : NodePast from w after_it ws stop
+  past = node_past from w ws stop token.act g.is_row.1
 
   least_past : least_column past.after.site.blocks past.after.site.awaits ≡ least
   least_past = ap (λ s. least_column s.blocks s.awaits) past.site_is ∙ (ap (λ y. least_column there.blocks y) (token.awaits (is_in_flow from.entries) there.blocks there.awaits after_it) ∙ least_there)
@@ -198,10 +199,10 @@ module _ (text : List ℕ) (w : Step) (ws : List Step) (last : List ℕ) (t : Sc
     clean = clean_after blanks v.rest (subst (λ r. has_no_nul r ≡ true) blanks_cut (rest_is_clean text single t g.arrives deep x read_as))
 
     -- what of the row's next separation is still to come
-    to_come : RestOf blanks v.rest (separation_of ws last) (text_after ws last)
-    to_come = rest_of past.after ws last blanks v.rest past.is_row blanks_cut clean c.spaces.is_filled
+    to_come : RestOf blanks v.rest (separation_of ws stop) (text_after ws stop)
+    to_come = rest_of past.after ws stop blanks v.rest past.is_row blanks_cut clean c.spaces.is_filled
 
-    spaced_next : is_empty (text_after ws last) ≡ false → Spaced quoted_scalar least (blanks ++ to_come.more)
+    spaced_next : is_empty (text_after ws stop) ≡ false → Spaced quoted_scalar least (blanks ++ to_come.more)
     spaced_next some = by ws some past.is_row to_come.is_whole
       where
         s : Site
@@ -210,13 +211,15 @@ module _ (text : List ℕ) (w : Step) (ws : List Step) (last : List ℕ) (t : Sc
         before_is : s.before ≡ quoted_scalar
         before_is = ap (λ y. y.before) past.site_is ∙ token.before
 
-        by : (vs : List Step) → is_empty (text_after vs last) ≡ false → IsRowFrom (Some past.after) vs last → separation_of vs last ≡ blanks ++ to_come.more → Spaced quoted_scalar least (blanks ++ to_come.more)
-        by [] n r i = absurd (cc n)
-        by (z ∷ vs) n r i =
-            let tabs : is_indented_by_spaces s.before s.blocks s.awaits z.separation ≡ true = first_of_four _ _ _ _ (asks past.after z vs last r).stands in
+        spaced : (f : List ℕ) → f ≡ blanks ++ to_come.more → is_indented_by_spaces s.before s.blocks s.awaits f ≡ true → Spaced quoted_scalar least (blanks ++ to_come.more)
+        spaced f i tabs =
             subst (λ n. Spaced quoted_scalar n (blanks ++ to_come.more)) least_past
             (subst (λ b. Spaced b (least_column s.blocks s.awaits) (blanks ++ to_come.more)) before_is
             (is_spaced s.before s.blocks s.awaits (blanks ++ to_come.more) (subst (λ f. is_indented_by_spaces s.before s.blocks s.awaits f ≡ true) i tabs)))
+
+        by : (vs : List Step) → is_empty (text_after vs stop) ≡ false → LeadsTo (Some past.after) vs stop → separation_of vs stop ≡ blanks ++ to_come.more → Spaced quoted_scalar least (blanks ++ to_come.more)
+        by [] n r i = spaced stop.separation i (subst (λ (b : Account). is_indented_by_spaces b.site.before b.site.blocks b.site.awaits stop.separation ≡ true) (sym r) (stop.has_no_tabs n))
+        by (z ∷ vs) n r i = spaced z.separation i (first_of_four _ _ _ _ (asks past.after z vs stop r).stands)
           where
             first_of_four : (w x y z : Bool) → (w && x && y && z) ≡ true → w ≡ true
             first_of_four true x y z h = refl
@@ -225,11 +228,11 @@ module _ (text : List ℕ) (w : Step) (ws : List Step) (last : List ℕ) (t : Sc
     skips : IsFine (skip_to_next_token v)
     unfolding skip_to_next_token
     skips =
-        let next : List ℕ = text_after ws last in
+        let next : List ℕ = text_after ws stop in
         let rest_cut : v.rest ≡ to_come.more ++ next = to_come.is_rest in
         let next_clean : has_no_nul next ≡ true = clean_after to_come.more next (subst (λ r. has_no_nul r ≡ true) rest_cut clean) in
         subst (λ r. IsFine (skip between r v.held)) (sym rest_cut)
-        (separation_skipped quoted_scalar least to_come.more next next_clean (begins_none next (is_whole past.after ws last past.is_row).1) between blanks v.held to_come.is_filled (start_least text single t g.arrives deep x read_as v c)
+        (separation_skipped quoted_scalar least to_come.more next next_clean (begins_none next (is_whole past.after ws stop past.is_row).1) between blanks v.held to_come.is_filled (start_least text single t g.arrives deep x read_as v c)
         (inr (start_at text single t g.arrives deep x read_as v c)) spaced_next)
 
   -- ---- the function
@@ -248,11 +251,11 @@ module _ (text : List ℕ) (w : Step) (ws : List Step) (last : List ℕ) (t : Sc
           subst (λ y. IsFine (y >>= λ z. skip_to_next_token z >>= λ u. Ok (on_held (λ s. push t.held.position (Tok.scalar (quoted_style single) own.value) (adjacent_here s)) u))) (sym v.is) (and_then (skips v.value c) (λ u _. went tt))
 
 -- The function of quoted scalars reads the step, if the row goes on here.
-pub quoted_reads : (text : List ℕ) (w : Step) (ws : List Step) (last : List ℕ) (t : ScannerState) (single : Bool) (more : List ℕ) → t.rest ≡ quote_of single ∷ more → IsDeep t.held → Reads text w ws last t (fetch_flow_scalar single)
-quoted_reads text w ws last t single more e deep g =
-    by (left (fine_holds (fine text w ws last t single more e deep g) (quoted_node text single t more e deep g.arrives)))
+pub quoted_reads : (text : List ℕ) (w : Step) (ws : List Step) (stop : Stop) (t : ScannerState) (single : Bool) (more : List ℕ) → t.rest ≡ quote_of single ∷ more → IsDeep t.held → Reads text w ws stop t (fetch_flow_scalar single)
+quoted_reads text w ws stop t single more e deep g =
+    by (left (fine_holds (fine text w ws stop t single more e deep g) (quoted_node text single t more e deep g.arrives)))
   where
-    by : Left (ReadNode text t) (fetch_flow_scalar single t) → Succeeds (Goes text ws last) (fetch_flow_scalar single t)
+    by : Left (ReadNode text t) (fetch_flow_scalar single t) → Succeeds (Goes text ws stop) (fetch_flow_scalar single t)
     by n =
-        subst (λ y. Succeeds (Goes text ws last) y) (sym n.is)
-        (went (subst (λ u. Goes text ws last u) (sym n.holds.is) (node_goes text w ws last t n.holds.read deep g n.holds.known)))
+        subst (λ y. Succeeds (Goes text ws stop) y) (sym n.is)
+        (went (subst (λ u. Goes text ws stop u) (sym n.holds.is) (node_goes text w ws stop t n.holds.read deep g n.holds.known)))

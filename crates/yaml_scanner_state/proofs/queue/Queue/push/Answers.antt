@@ -1,9 +1,0 @@
-use Rattle.std.proofs.Common.{rules, ◌∙◌}
-use Rattle.yaml_scanner_state.proofs.QueueLemmas.{push_keeps, push_last}
-use Rattle.yaml_scanner_state.proofs.queue.Queue.push.Goals as goal
-
-pub invariant_of-self-2 : goal.invariant_of-self-2
-invariant_of-self-2 c = (
-  λ e o. push_keeps c.self.inside.waiting.items c.push_back_reserved.new.self.items c.args.token (search rules) (c.self.invariant.0 e o),
-  c.property_of-self-inside.ensures ∙ push_last c.self.inside.given.items c.self.inside.waiting.items c.push_back_reserved.new.self.items c.args.token (search rules),
-)
