@@ -95,7 +95,10 @@ WRONG = {
         SINGLE_PAIR,
         SINGLE_PAIR.tokens[:2] + [SINGLE_PAIR.tokens[3], SINGLE_PAIR.tokens[2]] + SINGLE_PAIR.tokens[4:],
         "Block.antt",
-        [("Ok (put k.number s.position Tok.flow_mapping_start s)", "Ok (put (k.number + 1) s.position Tok.flow_mapping_start s)")],
+        [
+            ("Prelude.{List,", "Prelude.{◌+◌, List,"),
+            ("Ok (put k.number s.position Tok.flow_mapping_start s)", "Ok (put (k.number + 1) s.position Tok.flow_mapping_start s)"),
+        ],
     ),
     "pair_around_an_entry": Wrong(
         "`[a, b]` has a pair around `a`",

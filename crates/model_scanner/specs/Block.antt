@@ -1,8 +1,8 @@
 -- Block collections (YAML 1.2, section 8.2), keys and values.
-use Rattle.std.specs.Prelude.{ℕ, ◌+◌, List, [], ◌∷◌, Bool, true, false, not, ◌==◌, ◌&&◌, ◌||◌, nat_lt, if◌then◌else◌, slice_index, Option, Some, None, Result, Ok, Err}
+use Rattle.std.specs.Prelude.{List, ◌∷◌, Bool, true, false, not, ◌==◌, ◌&&◌, ◌||◌, nat_lt, if◌then◌else◌, slice_index, Option, Some, None, Result, Ok, Err}
 use Rattle.defs_text.specs.Position.{Position}
 use Rattle.yaml_chars.specs.Class.{is_alpha, is_blank_or_breakz, is_break, is_flow}
-use Rattle.defs_token.specs.Token.{Tok, Token}
+use Rattle.defs_token.specs.Token.{Tok}
 use Rattle.yaml_tokens.specs.declared.problem.Fault.{Fault}
 use Rattle.yaml_tokens.specs.declared.problem.Fault.TheVariants.{At}
 use Rattle.yaml_tokens.specs.declared.problem.Problem.TheVariants as problem
@@ -10,7 +10,7 @@ use Rattle.model_lexers.specs.declared.context.SkipTabs.TheVariants.{Yes, No}
 use Rattle.model_lexers.specs.declared.context.Whitespace.{Whitespace}
 use Rattle.model_lexers.specs.Space.{space}
 use Rattle.model_scanner.specs.declared.level.FlowLevel.{FlowLevel}
-use Rattle.model_scanner.specs.declared.level.FlowLevel.TheVariants.{Mapping, Entry, Keyed, Pair}
+use Rattle.model_scanner.specs.declared.level.FlowLevel.TheVariants.{Entry, Keyed, Pair}
 use Rattle.model_scanner.specs.State.{Key, Held, ScannerState, ◌>>=◌, peek, in_flow, push, put, with_top, on_held, try_held, lexed, skip_indicator}
 use Rattle.model_scanner.specs.Keys.{top_key, remove_implicit_key}
 use Rattle.model_scanner.specs.Indents.{roll_indent, roll_one_col_indent}

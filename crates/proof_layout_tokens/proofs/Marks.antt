@@ -1,5 +1,5 @@
 -- What a fetch does at `-`, at `?`, and at the `:` of a key after `?`.
-use Rattle.std.proofs.Common.{◌≡◌, ℕ, zero, suc, ◌+◌, ◌<◌, ◌≤◌, List, [], ◌∷◌, ◌++◌, Bool, true, false, ◌==◌, Option, Some, None, Result, Ok, refl, ap, ◌∙◌, arith}
+use Rattle.std.proofs.Common.{◌≡◌, ℕ, zero, suc, ◌+◌, ◌<◌, ◌≤◌, List, [], ◌∷◌, ◌++◌, Bool, true, false, ◌==◌, Option, None, Result, Ok, refl, ap, ◌∙◌, arith}
 use Rattle.std.specs.List.{list_all}
 use Rattle.std.proofs.lemmas.Bool.{and_parts, le-ltb, lt-ltb, le-leb}
 use Rattle.defs_text.specs.Position.{Position}
@@ -16,7 +16,7 @@ use Rattle.model_lexers.specs.declared.context.Whitespace.{Whitespace}
 use Rattle.model_lexers.specs.Machine.{past, past_break}
 use Rattle.model_lexers.specs.Space as scalar_space
 use Rattle.model_scanner.specs.declared.level.Indent.{Indent}
-use Rattle.model_scanner.specs.State.{Held, ScannerState, ◌>>=◌, peek, push, token, on_held, try_held, lexed}
+use Rattle.model_scanner.specs.State.{ScannerState, ◌>>=◌, peek, push, token, on_held, try_held, lexed}
 use Rattle.model_scanner.specs.Class.{class_of}
 use Rattle.model_scanner.specs.Keys.{remove_implicit_key}
 use Rattle.model_scanner.specs.Indents.{level, placed, roll_indent, drop_open_level, deepen, roll_one_col_indent, in_block}

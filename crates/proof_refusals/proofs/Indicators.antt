@@ -21,7 +21,7 @@ use Rattle.defs_scalar.specs.Tags.{leading}
 use Rattle.defs_row.specs.Step.{blanks_and_comment, past_blanks_and_comment}
 use Rattle.defs_row.specs.Tokens.{past_line_rest}
 use Rattle.defs_row.specs.Indentation.{begins_entry, begins_with_alpha}
-use Rattle.defs_row.specs.Key.{Line, free, taken, waits, is_waiting, begins_free_line, line_past_separation}
+use Rattle.defs_row.specs.Key.{Line, free, taken, waits, begins_free_line, line_past_separation}
 use Rattle.defs_row.specs.FlowEntry as entry
 use Rattle.defs_row.specs.FlowEntry.{Entry, has_no_pair, takes_pair}
 use Rattle.yaml_tokens.specs.declared.problem.Fault.{Fault}
@@ -74,7 +74,7 @@ use Rattle.proof_cut.proofs.Saved.{saved_keys, saved_is}
 use Rattle.proof_refusals.specs.NoPiece as none
 use Rattle.proof_refusals.specs.NoPiece.{IsFollowed}
 use Rattle.proof_refusals.specs.Stuck as defs
-use Rattle.proof_refusals.specs.Stuck.{IsStuck, HasNoKey, no_key, Fails, may_not_stand, MayNotStand, is_taken_line, is_taken, is_value_here}
+use Rattle.proof_refusals.specs.Stuck.{IsStuck, HasNoKey, no_key, may_not_stand, is_taken_line, is_taken, is_value_here}
 use Rattle.proof_refusals.proofs.Faults.{Faults, fault, goes, read, in_turn, tried, checked, either}
 use Rattle.proof_refusals.proofs.Spaces.{space_told, spaces_told, no_comment, no_comment_left, solid_past}
 use Rattle.proof_refusals.proofs.Places.{Told, account_by, place, many_levels, IsAllowed, stuck, in_flow_is, followed_stuck}

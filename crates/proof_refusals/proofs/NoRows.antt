@@ -15,7 +15,7 @@ use Rattle.proof_refusals.specs.Certain.{FailingPlacesHaveNoRow}
 use Rattle.proof_refusals.specs.NoPiece as none
 use Rattle.proof_refusals.specs.QuotedLines as quoted_lines
 use Rattle.proof_refusals.specs.QuotedLines.{AreNotIndented, IsQuotedFault}
-use Rattle.proof_refusals.specs.NoPiece.{NoPiece, IsNotQuoted, IsNoHeader, IsPlainFault, IsBlockFault, IsFollowed}
+use Rattle.proof_refusals.specs.NoPiece.{NoPiece, IsPlainFault, IsBlockFault, IsFollowed}
 use Rattle.proof_refusals.specs.Stuck as defs
 use Rattle.proof_refusals.specs.Stuck.{MayNotStand, Fails, HasNoKey, site_at_place, is_taken, is_value_here}
 use Rattle.proof_refusals.proofs.OtherRows.{StepAt, RowAt, row_at}

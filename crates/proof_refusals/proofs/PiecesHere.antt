@@ -25,7 +25,6 @@ use Rattle.proof_row_complete.specs.Ways.{spelled_to}
 use Rattle.proof_row_complete.proofs.Around.Markers.{marker_begins}
 use Rattle.proof_row_complete.proofs.KindsOfPieces.{kind_is}
 use Rattle.proof_refusals.specs.NoPiece as none
-use Rattle.proof_refusals.specs.NoPiece.{NoPiece, IsNotQuoted, IsNoHeader, IsPlainFault, IsBlockFault, IsFollowed}
 use Rattle.proof_refusals.proofs.OtherRows.{StepAt}
 
 -- entries that are alike are as many

@@ -9,7 +9,7 @@ use Rattle.defs_token.specs.Account as pieces
 use Rattle.defs_token.specs.Account.{is_adjacent, before_past}
 use Rattle.defs_token.specs.Plain.{Stand, inside, after_blank, on_line, past, past_blank, begins_flow, may_begin, begins_plain, ends_at_colon, ends_at_comment, ends_at_line, ends_plain, goes_on, stops, ends_with_content, is_whole_plain}
 use Rattle.defs_token.specs.Separation.{is_blanks}
-use Rattle.defs_token.specs.Token.{Tok, scalar}
+use Rattle.defs_token.specs.Token.{scalar}
 use Rattle.defs_token.specs.Token as tokens
 use Rattle.defs_row.specs.Step.{act_of}
 use Rattle.defs_row.specs.Column.{innermost}

@@ -1,5 +1,5 @@
 -- Where the scanner's model refuses a text with a fault of a kind that is told, the text is stuck.
-use Rattle.std.proofs.Common.{◌≡◌, ℕ, ◌+◌, List, ◌++◌, true, false, Option, Result, Ok, Err, refl, ap, sym, ◌∙◌, subst, ◌⊎◌, inl, inr}
+use Rattle.std.proofs.Common.{◌≡◌, ℕ, ◌+◌, List, ◌++◌, true, false, Option, Result, Ok, refl, ap, sym, ◌∙◌, subst}
 use Rattle.std.specs.Prelude.{map}
 use Rattle.std.specs.List.{list_any}
 use Rattle.defs_text.specs.Text.{has_no_nul}
@@ -14,9 +14,9 @@ use Rattle.model_scanner.specs.Document.{fetch_stream_start}
 use Rattle.model_scanner.specs.Fetch.{fetch_next, fetch}
 use Rattle.model_scanner.specs.Run.{start, Reaches, here, there}
 use Rattle.model_scanner.proofs.Holds as holds
-use Rattle.model_scanner.proofs.Holds.{Holds, held_of, both_hold}
+use Rattle.model_scanner.proofs.Holds.{held_of, both_hold}
 use Rattle.proof_cut.proofs.Fetched.{Came, starts, came}
-use Rattle.proof_cut.proofs.Passes.{Passed, to_token}
+use Rattle.proof_cut.proofs.Passes.{to_token}
 use Rattle.proof_row_sound.specs.Stands.{Stands, Fares, begins, goes, over, FetchKeeps}
 use Rattle.proof_row_sound.proofs.Fetches.{fetch_keeps}
 use Rattle.proof_row_sound.proofs.Runs.{reached}

@@ -1,5 +1,5 @@
 -- Each fetch reads on: where a piece begins, less text is left after it.
-use Rattle.std.proofs.Common.{◌≡◌, ℕ, suc, ◌+◌, ◌<◌, ◌≤◌, List, [], ◌∷◌, ◌++◌, Bool, true, false, not, ◌==◌, ◌&&◌, ◌||◌, nat_lt, slice_index, length, if◌then◌else◌, Option, Some, None, Result, Ok, Err, refl, ap, sym, ◌∙◌, subst, arith}
+use Rattle.std.proofs.Common.{◌≡◌, ℕ, ◌+◌, ◌<◌, ◌≤◌, List, [], ◌∷◌, ◌++◌, Bool, true, false, not, ◌==◌, ◌&&◌, ◌||◌, nat_lt, length, if◌then◌else◌, Option, Some, None, Result, Ok, Err, refl, ap, sym, ◌∙◌, subst, arith}
 use Rattle.std.proofs.lemmas.Bool.{and_parts}
 use Rattle.std.proofs.lemmas.List.{length-append}
 use Rattle.defs_text.specs.Classes.{is_nul, is_document_marker}
@@ -9,28 +9,25 @@ use Rattle.defs_token.specs.Account.{Account, Before, other, sequence, is_in_flo
 use Rattle.defs_token.specs.Separation.{is_separation}
 use Rattle.defs_token.specs.Token.{Tok, Style}
 use Rattle.defs_row.specs.Account.{before_by}
-use Rattle.yaml_chars.specs.Class.{is_blank_or_breakz, is_break, is_breakz, is_flow}
+use Rattle.yaml_chars.specs.Class.{is_break, is_breakz, is_flow}
 use Rattle.yaml_tokens.specs.declared.problem.Fault.{Fault}
 use Rattle.yaml_tokens.specs.declared.problem.Fault.TheVariants.{At}
 use Rattle.yaml_tokens.specs.declared.problem.Problem.TheVariants as problem
 use Rattle.model_lexers.specs.declared.context.Context.{Context}
 use Rattle.model_lexers.specs.declared.context.SkipTabs.{SkipTabs}
 use Rattle.model_lexers.specs.declared.context.SkipTabs.TheVariants.{Yes, No}
-use Rattle.model_lexers.specs.declared.context.Whitespace.{Whitespace}
 use Rattle.model_lexers.specs.Machine.{Read}
 use Rattle.model_lexers.specs.Anchor.{anchor_name}
 use Rattle.model_lexers.specs.Block.{block}
 use Rattle.model_lexers.specs.Directive.{directive}
 use Rattle.model_lexers.specs.Plain.{plain}
 use Rattle.model_lexers.specs.Quoted.{quoted, quote_of}
-use Rattle.model_lexers.specs.Space.{space}
 use Rattle.model_lexers.specs.Tag as tags
 use Rattle.model_scanner.specs.declared.level.FlowLevel.{FlowLevel}
 use Rattle.model_scanner.specs.declared.level.FlowLevel.TheVariants.{Mapping, Entry}
 use Rattle.model_scanner.specs.State.{Held, ScannerState, ◌>>=◌, peek, after, in_flow, on_held, try_held, lexed, go_on, skip_indicator, push}
 use Rattle.model_scanner.specs.Keys.{top_key, stale, save_implicit_key, remove_implicit_key}
 use Rattle.model_scanner.specs.Indents.{without_open, unroll_indent, unroll_non_block_indents, roll_indent, roll_one_col_indent}
-use Rattle.model_scanner.specs.Space.{skip_to_next_token, skip_spaces}
 use Rattle.model_scanner.specs.Flow.{allow_key, begin_flow, pass_indicator, fetch_flow_collection_start, end_flow, fetch_flow_collection_end, end_entry, fetch_flow_entry}
 use Rattle.model_scanner.specs.Block.{check_block_entry, check_dash, roll_entry, fetch_block_entry, begin_key, check_key_space, fetch_key, check_after_tab, check_value_space, opens_pair, paired, value_of, fetch_value}
 use Rattle.model_scanner.specs.Document.{next_line, end_stream, fetch_stream_start, fetch_stream_end, begin_stream, begin_line, node_start, unled, context, after_plain, may_follow_quoted, check_after_quoted, fetch_directive, fetch_document_marker, check_document_end, fetch_document_end, fetch_anchor, fetch_tag, fetch_block_scalar, fetch_flow_scalar, fetch_plain_scalar}
@@ -45,9 +42,9 @@ use Rattle.proof_lexers.proofs.Directives.Lines.{directives_end}
 use Rattle.proof_ends.specs.Ends.{ends_separation}
 use Rattle.proof_cut.specs.PiecesRead.{ReadAs, comes_plain}
 use Rattle.proof_cut.proofs.Dispatch.{token_holds}
-use Rattle.proof_cut.proofs.Fetched.{Came, came, begins_with_this, no_marker, is_deep, goes_on_here}
+use Rattle.proof_cut.proofs.Fetched.{Came, came, begins_with_this, no_marker, is_deep}
 use Rattle.proof_cut.proofs.Nodes.{IsDeep, less_or}
-use Rattle.proof_cut.proofs.Passes.{Passed, PassedAll, to_token, white_passed, Spaced, spaced, spaces_skipped, passed_spaces}
+use Rattle.proof_cut.proofs.Passes.{Passed, to_token, white_passed, Spaced, spaced, spaces_skipped, passed_spaces}
 use Rattle.proof_cut.proofs.Pieces.Directives.{break_cut}
 use Rattle.proof_cut.proofs.Pieces.Read.{pieces_are_read}
 use Rattle.proof_cut.proofs.Saved.{saved_keys, saved_is}

@@ -25,7 +25,7 @@ use Rattle.yaml_tokens.specs.declared.problem.Problem.{Problem}
 use Rattle.yaml_tokens.specs.declared.problem.Problem.TheVariants as problem
 use Rattle.model_lexers.specs.Machine.{past}
 use Rattle.model_lexers.specs.Tag as tags
-use Rattle.model_lexers.specs.Tag.{Tag, read_tag, verbatim_end, verbatim, named, shorthand, tag_end, tag}
+use Rattle.model_lexers.specs.Tag.{verbatim_end, verbatim, named, shorthand, tag_end, tag}
 use Rattle.proof_ends.specs.Ends.{Kind, kind_at, tag_text, directive_line, block_scalar, in_single_quotes, in_double_quotes}
 use Rattle.proof_ends.proofs.Begins.{block_token, Whole, context_of, directive_begins}
 use Rattle.proof_ends.proofs.Blocks.{has_header}

@@ -1,5 +1,5 @@
 -- Where the scanner's model has no open key outside flow, no key waits: whatever beginning of a row has come as far, the model has read it step by step.
-use Rattle.std.proofs.Common.{◌≡◌, ℕ, ◌+◌, ◌<◌, ◌≤◌, List, [], ◌∷◌, ◌++◌, Bool, true, false, not, if◌then◌else◌, length, Option, Some, None, Result, Ok, Err, refl, ap, sym, ◌∙◌, subst, arith}
+use Rattle.std.proofs.Common.{◌≡◌, ℕ, ◌+◌, ◌<◌, ◌≤◌, List, [], ◌++◌, Bool, true, false, not, if◌then◌else◌, length, None, Result, Ok, refl, ap, sym, ◌∙◌, subst, arith}
 use Rattle.std.proofs.lemmas.Bool.Decides.{nat_tests}
 use Rattle.std.proofs.lemmas.List.{length-append}
 use Rattle.defs_text.specs.Position.{Position, position_after}
@@ -7,11 +7,11 @@ use Rattle.defs_text.specs.Text.{is_empty, has_no_nul}
 use Rattle.defs_token.specs.Separation.{is_separation}
 use Rattle.defs_row.specs.FlowEntry.{is_renewed}
 use Rattle.defs_row.specs.Indentation.{is_indented_by_spaces}
-use Rattle.defs_row.specs.Key.{Line, waits, is_waiting, is_near, begins_free_line}
+use Rattle.defs_row.specs.Key.{waits, is_waiting, is_near, begins_free_line}
 use Rattle.defs_row.specs.Account.{Account}
 use Rattle.defs_row.specs.Beginning.{IsPlace}
 use Rattle.yaml_tokens.specs.declared.problem.Fault.{Fault}
-use Rattle.model_scanner.specs.State.{Key, ScannerState, ◌>>=◌, in_flow, on_held, try_held}
+use Rattle.model_scanner.specs.State.{ScannerState, ◌>>=◌, in_flow, on_held, try_held}
 use Rattle.model_scanner.specs.Keys.{top_key, stale}
 use Rattle.model_scanner.specs.Indents.{unroll_indent}
 use Rattle.model_scanner.specs.Space.{skip_to_next_token}
@@ -19,10 +19,9 @@ use Rattle.model_scanner.specs.Fetch.{fetch}
 use Rattle.model_scanner.specs.Run.{start, Reaches, here, there}
 use Rattle.model_scanner.proofs.Holds.{held_of}
 use Rattle.proof_ends.proofs.Separations.{separations}
-use Rattle.proof_cut.specs.Stands.{FaresAt}
 use Rattle.proof_cut.proofs.Fetched.{Came, came}
-use Rattle.proof_row_sound.specs.Choices.{line_by, outside_key, chosen}
-use Rattle.proof_row_sound.specs.Stands.{Stands, Fares, goes}
+use Rattle.proof_row_sound.specs.Choices.{line_by, outside_key}
+use Rattle.proof_row_sound.specs.Stands.{Stands, goes}
 use Rattle.proof_row_sound.specs.Arrives.{Arrives}
 use Rattle.proof_row_sound.proofs.Fetches.{fetch_keeps}
 use Rattle.proof_row_sound.proofs.Runs.{reached}

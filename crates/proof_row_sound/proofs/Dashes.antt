@@ -1,5 +1,5 @@
 -- The function of the model that reads a dash: what holds where it begins holds between two fetches after it.
-use Rattle.std.proofs.Common.{◌≡◌, ℕ, List, [], ◌∷◌, ◌++◌, Bool, true, false, not, ◌&&◌, ◌||◌, ◌==◌, ◌⊎◌, inl, inr, if◌then◌else◌, slice_index, Option, Some, None, Result, Ok, refl, ap, sym, ◌∙◌, subst}
+use Rattle.std.proofs.Common.{◌≡◌, ℕ, List, [], ◌∷◌, ◌++◌, Bool, true, false, not, ◌&&◌, ◌||◌, ◌==◌, ◌⊎◌, inl, inr, if◌then◌else◌, slice_index, None, Result, Ok, refl, ap, sym, ◌∙◌, subst}
 use Rattle.std.proofs.lemmas.Bool.{eqb-true}
 use Rattle.yaml_chars.specs.Class.{is_blank_or_breakz, is_break as is_break_here, is_flow as is_flow_here}
 use Rattle.defs_text.specs.Position.{Position, position_after}
@@ -25,7 +25,7 @@ use Rattle.model_scanner.specs.Indents.{placed, roll_indent, roll_one_col_indent
 use Rattle.model_scanner.specs.Space.{skip_spaces}
 use Rattle.model_scanner.specs.Flow.{allow_key}
 use Rattle.model_scanner.specs.Block.{check_block_entry, check_dash, roll_entry, fetch_block_entry}
-use Rattle.model_scanner.proofs.Holds.{Holds, went, chained, checked, passes, tried}
+use Rattle.model_scanner.proofs.Holds.{Holds, went, chained, checked, tried}
 use Rattle.proof_lexers.proofs.Bridges.{same_break, same_flow}
 use Rattle.proof_cut.proofs.Dispatch.{gap_here}
 use Rattle.proof_cut.proofs.Nodes.{IsDeep}

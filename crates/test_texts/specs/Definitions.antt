@@ -3,7 +3,6 @@ pub use Rattle.yaml_rust2.specs.Anchored.{Anchor, last_tree, with_end}
 pub use Rattle.yaml_rust2.specs.Basic.{IsBasic, IsBasicLayout}
 pub use Rattle.yaml_rust2.specs.Beginning.{Begins, IsPlace}
 pub use Rattle.yaml_rust2.specs.BlockLines.{AreLines, contents}
-pub use Rattle.yaml_rust2.specs.Certain.{is_certain}
 pub use Rattle.yaml_rust2.specs.Cut.{IsCut, IsCutOfBeginning}
 pub use Rattle.yaml_rust2.specs.Cuts.{IsReadOfCut}
 pub use Rattle.yaml_rust2.specs.DumpIsLaidOut.{IsDumpLaidOut}

@@ -23,7 +23,6 @@ use Rattle.model_scanner.specs.Flow.{allow_key, increase_flow_level, deepened_fl
 use Rattle.model_scanner.specs.Block.{check_block_entry, fetch_block_entry}
 use Rattle.model_scanner.specs.Document.{after_plain, context, node_start, may_follow_quoted, check_after_quoted, fetch_flow_scalar, fetch_plain_scalar}
 use Rattle.proof_lexers.specs.QuotedEnds as quoted_ends
-use Rattle.proof_lexers.specs.QuotedEnds.{IsBadEscape}
 use Rattle.proof_lexers.proofs.Quoted.ScanEnds.{scans_end}
 use Rattle.proof_lexers.specs.PlainEnds as plain_ends
 use Rattle.proof_lexers.specs.Separations.{begins_separation}

@@ -4,7 +4,7 @@ use Rattle.std.proofs.Math.Bool.{or-true}
 use Rattle.std.proofs.lemmas.Bool.{and_parts, eqb-true, not-true}
 use Rattle.std.proofs.lemmas.Bool.Decides.{nat_tests}
 use Rattle.defs_text.specs.Classes as classes
-use Rattle.defs_text.specs.Classes.{is_one_of, is_blank_or_end, is_nul, is_at_gap, are_marks, is_document_marker}
+use Rattle.defs_text.specs.Classes.{is_one_of, is_at_gap, are_marks, is_document_marker}
 use Rattle.defs_text.specs.Position.{Position}
 use Rattle.defs_text.specs.Text.{is_empty, has_no_nul}
 use Rattle.defs_token.specs.Token.{Style, Tok}
