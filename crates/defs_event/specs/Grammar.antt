@@ -40,7 +40,7 @@ event_of h Tok.flow_mapping_end = Raw.flow_mapping_end
 event_of h Tok.block_sequence_start = Raw.sequence_start h.anchor h.tag
 event_of h Tok.block_mapping_start = Raw.mapping_start h.anchor h.tag
 -- a sequence without indentation has no token for its start: its first entry has the event
-event_of h Tok.block_entry = Raw.sequence_start h.anchor h.tag
+event_of h Tok.block_entry = Raw.indentless_sequence_start h.anchor h.tag
 -- no row shows another token
 event_of h _ = nothing_written
 
@@ -172,7 +172,7 @@ cases block_sequence_entries =
     ∷ []
 cases (indentless_sequence_entries s) =
     on is_block_entry (takes (read (node in_block) ∷ read (indentless_sequence_entries s) ∷ []))
-    ∷ otherwise (leaves (say Raw.sequence_end ∷ then_in_pair s))
+    ∷ otherwise (leaves (say Raw.indentless_sequence_end ∷ then_in_pair s))
     ∷ []
 cases block_mapping_entries =
     on is_key (takes (read (node (in_pair key)) ∷ []))
@@ -186,7 +186,7 @@ cases block_mapping_value =
 -- flow collections (chapter 7); a pair in a flow sequence is a mapping of its own
 cases flow_sequence_entries =
     on begins_flow_node (leaves (read (node in_flow) ∷ read flow_sequence_comma ∷ []))
-    ∷ on is_key (takes (say Raw.pair_start ∷ read (node in_flow) ∷ read flow_value ∷ say Raw.mapping_end ∷ read flow_sequence_comma ∷ []))
+    ∷ on is_key (takes (say Raw.pair_start ∷ read (node in_flow) ∷ read flow_value ∷ say Raw.pair_end ∷ read flow_sequence_comma ∷ []))
     ∷ on is_flow_sequence_end (takes (show ∷ []))
     ∷ []
 cases flow_sequence_comma =

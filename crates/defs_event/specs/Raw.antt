@@ -9,8 +9,9 @@ pub data Directive : Type 0 where
   version : (major minor : ℕ) → Directive
   tag : (handle prefix : List ℕ) → Directive
 
--- An event that has a token of its own is distinguished from one of its kind that has none: a scalar from an empty one, a flow
--- collection's start and end from those of a block collection, and the start of a single pair in a flow sequence from both.
+-- An event that has a token of its own is distinguished from one of its kind that has none: a scalar from an empty one; a flow
+-- collection's start and end from those of a block collection, and both from those of a sequence without indentation and of a
+-- single pair in a flow sequence.
 pub data Raw : Type 0 where
   stream_start : Raw
   stream_end : Raw
@@ -23,10 +24,14 @@ pub data Raw : Type 0 where
   sequence_start : (anchor : Option (List ℕ)) → Option Tag → Raw
   flow_sequence_end : Raw
   sequence_end : Raw
+  -- of a sequence without indentation, whose start is its first `-`; it ends where no other comes
+  indentless_sequence_start : (anchor : Option (List ℕ)) → Option Tag → Raw
+  indentless_sequence_end : Raw
   flow_mapping_start : (anchor : Option (List ℕ)) → Option Tag → Raw
   mapping_start : (anchor : Option (List ℕ)) → Option Tag → Raw
-  -- of a pair in a flow sequence that begins with `?`; it has no properties, and its end is a `mapping_end`
+  -- of a pair in a flow sequence that begins with `?`; it has no properties, and ends after its value
   pair_start : Raw
+  pair_end : Raw
   flow_mapping_end : Raw
   mapping_end : Raw
 

@@ -43,10 +43,12 @@ NoneBegins keep_tags tokens = (ts : List Tok) (es : List Ev) → IsStream keep_t
 
 -- ---- positions
 
--- Scalars, aliases, and starts and ends of flow collections have the position of a token of their own. So has the start of a single pair
+-- Scalars, aliases, and starts and ends of collections have the position of a token of their own. So has the start of a single pair
 -- in a flow sequence that begins with `?`: it has that of this key. (A single pair without `?` has tokens for its start and its end, as a
 -- flow mapping has.) Where a comma stands right before the end of a flow mapping, that event has the comma's position. Each of these tokens
--- gives one such event, in order; so the positions are those of these tokens, in order. No position is promised for other events.
+-- gives one such event, in order; so the positions are those of these tokens, in order. No position is promised for other events: scalars
+-- that are not written, starts and ends of the stream, of documents and of sequences without indentation, and the end of a single pair that
+-- begins with `?`.
 
 -- an open flow collection
 pub data Flow : Type 0 where
@@ -96,6 +98,9 @@ gives_position fs Tok.flow_sequence_start = true
 gives_position fs Tok.flow_sequence_end = true
 gives_position fs Tok.flow_mapping_start = true
 gives_position fs Tok.flow_mapping_end = true
+gives_position fs Tok.block_sequence_start = true
+gives_position fs Tok.block_mapping_start = true
+gives_position fs Tok.block_end = true
 gives_position fs Tok.key = is_in_sequence fs
 gives_position fs _ = false
 
@@ -111,6 +116,10 @@ has_position (Raw.flow_sequence_start anchor tag) = true
 has_position Raw.flow_sequence_end = true
 has_position (Raw.flow_mapping_start anchor tag) = true
 has_position Raw.flow_mapping_end = true
+has_position (Raw.sequence_start anchor tag) = true
+has_position Raw.sequence_end = true
+has_position (Raw.mapping_start anchor tag) = true
+has_position Raw.mapping_end = true
 has_position Raw.pair_start = true
 has_position _ = false
 

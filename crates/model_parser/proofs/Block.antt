@@ -55,17 +55,17 @@ entry_node ss t a b = leaves_so 0 (λ n f. ((f, n), (refl, refl))) (λ f. refl) 
 pub dashes_dash : (ss : List State) → Takes at.dashes ss Tok.block_entry None at.dashed ss
 dashes_dash ss = takes_so (λ n f. (n, f)) (λ f. (refl, (λ k. refl), by_row _ refl refl)) refl (λ f. refl) (λ f. refl)
 
-dashes_from : (ss : List State) (u : Tok) → is_in_mapping ss ≡ true → refuses 9 u (works ss) ≡ false → Leads 2 at.dashes ss (Some Raw.sequence_end) at.done ss u
+dashes_from : (ss : List State) (u : Tok) → is_in_mapping ss ≡ true → refuses 9 u (works ss) ≡ false → Leads 2 at.dashes ss (Some Raw.indentless_sequence_end) at.done ss u
 dashes_from (state.BlockMappingKey ∷ ss) Tok.block_entry f r = cc
 dashes_from (state.BlockMappingValue ∷ ss) Tok.block_entry f r = cc
 dashes_from ss u f r = cc
 
-dashes_on : (ss : List State) (t : Tok) → is_in_mapping ss ≡ true → kind_of t ≢ kind.BlockEntry → Leads 2 at.dashes ss (Some Raw.sequence_end) at.done ss t
+dashes_on : (ss : List State) (t : Tok) → is_in_mapping ss ≡ true → kind_of t ≢ kind.BlockEntry → Leads 2 at.dashes ss (Some Raw.indentless_sequence_end) at.done ss t
 dashes_on (state.BlockMappingKey ∷ ss) Tok.block_entry f a = absurd (a refl)
 dashes_on (state.BlockMappingValue ∷ ss) Tok.block_entry f a = absurd (a refl)
 dashes_on ss t f a = cc
 
-pub dashes_end : (ss : List State) (t : Tok) → kind_of t ≢ kind.BlockEntry → Leaves at.dashes ss (Some t) (Some Raw.sequence_end) at.done ss
+pub dashes_end : (ss : List State) (t : Tok) → kind_of t ≢ kind.BlockEntry → Leaves at.dashes ss (Some t) (Some Raw.indentless_sequence_end) at.done ss
 dashes_end ss t a = leaves_so 2 (λ n f. (n, under_goes ss (mapping_under ss f))) (λ f. under_reads ss (mapping_under ss f)) (λ f u r m. dashes_from ss u f (r 9)) (λ f r m. dashes_on ss t f a) refl
     (λ f. alike (under_other ss (mapping_under ss f)) refl) (λ f h. absurd (both_ways (is_past_directives at.done ss) (under_past ss (mapping_under ss f)) h))
 

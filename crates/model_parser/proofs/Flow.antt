@@ -112,7 +112,7 @@ pair_valued_node_on ss t a r = cc
 pub pair_valued_node : (ss : List State) (t : Tok) → ends_item (kind_of t) ≡ false → Leaves at.pair_valued ss (Some t) None (at.node context.Flow) (state.FlowSequenceEntryMappingEnd ∷ ss)
 pair_valued_node ss t a = leaves_so 0 (λ n f. ((f, n), (refl, refl))) (λ f. refl) (λ f u r m. cc m) (λ f r m. pair_valued_node_on ss t a (r 9)) refl (λ f. alike refl refl) (λ f h. inl h)
 
-pub pair_ends : (ss : List State) (p : Option Tok) → Leaves at.pair_end ss p (Some Raw.mapping_end) at.done (state.FlowSequenceEntry ∷ ss)
+pub pair_ends : (ss : List State) (p : Option Tok) → Leaves at.pair_end ss p (Some Raw.pair_end) at.done (state.FlowSequenceEntry ∷ ss)
 pair_ends ss p = says_so (λ n f. ((f, n), tt)) refl (λ k. refl) (λ k. refl) refl (λ f. alike refl refl) (λ f h. inl h)
 
 -- ---- a flow mapping

@@ -135,12 +135,12 @@ in_mapping (state.BlockMappingKey ∷ ss) h = refl
 in_mapping ss h = cc
 
 dash_reads : (ss : List State) (o : Option Properties) → narrows context.Part (context_at (place_of ss)) ≡ true
-    → Reads (work_of (at.after_properties context.Part o) ss) Tok.block_entry (Some (Raw.sequence_start (perhaps_anchor_of o) (perhaps_tag_of o))) (work_of at.done (state.IndentlessSequenceItem ∷ ss))
+    → Reads (work_of (at.after_properties context.Part o) ss) Tok.block_entry (Some (Raw.indentless_sequence_start (perhaps_anchor_of o) (perhaps_tag_of o))) (work_of at.done (state.IndentlessSequenceItem ∷ ss))
 dash_reads (state.BlockMappingKey ∷ ss) o h = by_row _ refl refl
 dash_reads (state.BlockMappingValue ∷ ss) o h = by_row _ refl refl
 dash_reads ss o h = cc
 
-pub after_dash : (ss : List State) (o : Option Properties) → Takes (at.after_properties context.Part o) ss Tok.block_entry (Some (Raw.sequence_start (perhaps_anchor_of o) (perhaps_tag_of o))) at.done (state.IndentlessSequenceItem ∷ ss)
+pub after_dash : (ss : List State) (o : Option Properties) → Takes (at.after_properties context.Part o) ss Tok.block_entry (Some (Raw.indentless_sequence_start (perhaps_anchor_of o) (perhaps_tag_of o))) at.done (state.IndentlessSequenceItem ∷ ss)
 after_dash ss o = takes_so (λ n f. ((in_mapping ss f.1, n), tt)) (λ f. (own_begins context.Part o _ kind.BlockEntry refl, (λ k. refl), dash_reads ss o f.1)) refl (λ f. refl) (λ f. refl)
 
 part_is_block : (c : NodeContext) → narrows context.Part c ≡ true → narrows context.Block c ≡ true

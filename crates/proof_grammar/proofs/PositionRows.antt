@@ -64,17 +64,18 @@ given_in_a_sequence = refl
 given_at_a_comma : given_positions (token_at 0 Tok.flow_mapping_start ∷ token_at 1 (word (codes "a")) ∷ token_at 2 Tok.flow_entry ∷ token_at 4 Tok.flow_mapping_end ∷ []) ≡ cols (0 ∷ 1 ∷ 2 ∷ [])
 given_at_a_comma = refl
 
--- tokens outside flow give none
-none_given : given_positions
+-- outside flow, those that begin and end a collection; keys, dashes, colons and properties give none
+given_in_blocks : given_positions
     (token_at 0 Tok.block_mapping_start ∷ token_at 1 Tok.key ∷ token_at 2 (Tok.anchor (codes "a")) ∷ token_at 3 Tok.value
-    ∷ token_at 4 Tok.block_sequence_start ∷ token_at 5 Tok.block_entry ∷ token_at 6 Tok.block_end ∷ []) ≡ []
-none_given = refl
+    ∷ token_at 4 Tok.block_sequence_start ∷ token_at 5 Tok.block_entry ∷ token_at 6 Tok.block_end ∷ []) ≡ cols (0 ∷ 4 ∷ 6 ∷ [])
+given_in_blocks = refl
 
 -- ---- the events that have them
 
 taken : taken_positions
-    (Raw.flow_sequence_start None None ∷ Raw.alias (codes "a") ∷ Raw.pair_start ∷ plain_raw (codes "b") ∷ nothing_written ∷ Raw.mapping_end
+    (Raw.flow_sequence_start None None ∷ Raw.alias (codes "a") ∷ Raw.pair_start ∷ plain_raw (codes "b") ∷ nothing_written ∷ Raw.pair_end
     ∷ Raw.flow_mapping_start None None ∷ Raw.flow_mapping_end ∷ Raw.flow_sequence_end
-    ∷ Raw.sequence_start None None ∷ Raw.sequence_end ∷ Raw.mapping_start None None ∷ Raw.document_end ∷ [])
-    (cols (0 ∷ 1 ∷ 2 ∷ 3 ∷ 4 ∷ 5 ∷ 6 ∷ 7 ∷ 8 ∷ 9 ∷ 10 ∷ 11 ∷ 12 ∷ [])) ≡ cols (0 ∷ 1 ∷ 2 ∷ 3 ∷ 6 ∷ 7 ∷ 8 ∷ [])
+    ∷ Raw.sequence_start None None ∷ Raw.sequence_end ∷ Raw.mapping_start None None ∷ Raw.indentless_sequence_start None None ∷ Raw.indentless_sequence_end
+    ∷ Raw.mapping_end ∷ Raw.document_end ∷ [])
+    (cols (0 ∷ 1 ∷ 2 ∷ 3 ∷ 4 ∷ 5 ∷ 6 ∷ 7 ∷ 8 ∷ 9 ∷ 10 ∷ 11 ∷ 12 ∷ 13 ∷ 14 ∷ 15 ∷ [])) ≡ cols (0 ∷ 1 ∷ 2 ∷ 3 ∷ 6 ∷ 7 ∷ 8 ∷ 9 ∷ 10 ∷ 11 ∷ 14 ∷ [])
 taken = refl

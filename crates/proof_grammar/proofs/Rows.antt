@@ -94,9 +94,9 @@ single_pairs : DocumentSays
     (Tok.flow_sequence_start ∷ Tok.key ∷ Tok.flow_entry ∷ Tok.key ∷ word (codes "a") ∷ Tok.flow_entry
     ∷ Tok.key ∷ word (codes "b") ∷ Tok.value ∷ word (codes "c") ∷ Tok.flow_sequence_end ∷ [])
     (Raw.flow_sequence_start None None
-    ∷ Raw.pair_start ∷ nothing_written ∷ nothing_written ∷ Raw.mapping_end
-    ∷ Raw.pair_start ∷ plain_raw (codes "a") ∷ nothing_written ∷ Raw.mapping_end
-    ∷ Raw.pair_start ∷ plain_raw (codes "b") ∷ plain_raw (codes "c") ∷ Raw.mapping_end ∷ Raw.flow_sequence_end ∷ [])
+    ∷ Raw.pair_start ∷ nothing_written ∷ nothing_written ∷ Raw.pair_end
+    ∷ Raw.pair_start ∷ plain_raw (codes "a") ∷ nothing_written ∷ Raw.pair_end
+    ∷ Raw.pair_start ∷ plain_raw (codes "b") ∷ plain_raw (codes "c") ∷ Raw.pair_end ∷ Raw.flow_sequence_end ∷ [])
 single_pairs = says_by refl
 
 -- `{a, b: c, : d, ? , &e {f: }, }`: a single node, a pair, one without key, one without both, and a node in its place
@@ -140,7 +140,7 @@ values : DocumentSays
     ∷ plain_raw (codes "f") ∷ Raw.flow_mapping_start None None ∷ Raw.flow_mapping_end
     ∷ plain_raw (codes "g") ∷ Raw.sequence_start None None ∷ Raw.sequence_end
     ∷ plain_raw (codes "h") ∷ Raw.mapping_start None None ∷ Raw.mapping_end
-    ∷ plain_raw (codes "i") ∷ Raw.sequence_start None None ∷ plain_raw (codes "j") ∷ nothing_written ∷ Raw.sequence_end
+    ∷ plain_raw (codes "i") ∷ Raw.indentless_sequence_start None None ∷ plain_raw (codes "j") ∷ nothing_written ∷ Raw.indentless_sequence_end
     ∷ plain_raw (codes "k") ∷ nothing_written ∷ nothing_written ∷ plain_raw (codes "l") ∷ Raw.mapping_end ∷ [])
 values = says_by refl
 
@@ -150,7 +150,7 @@ keys : DocumentSays
     ∷ Tok.key ∷ Tok.flow_sequence_start ∷ Tok.flow_sequence_end ∷ Tok.key ∷ Tok.flow_mapping_start ∷ Tok.flow_mapping_end
     ∷ Tok.key ∷ Tok.block_sequence_start ∷ Tok.block_end ∷ Tok.key ∷ Tok.block_mapping_start ∷ Tok.block_end ∷ Tok.key ∷ Tok.value ∷ Tok.key ∷ Tok.block_end
     ∷ [])
-    (Raw.mapping_start None None ∷ Raw.sequence_start None None ∷ plain_raw (codes "a") ∷ nothing_written ∷ Raw.sequence_end ∷ plain_raw (codes "b")
+    (Raw.mapping_start None None ∷ Raw.indentless_sequence_start None None ∷ plain_raw (codes "a") ∷ nothing_written ∷ Raw.indentless_sequence_end ∷ plain_raw (codes "b")
     ∷ plain_raw (codes "c") ∷ nothing_written ∷ Raw.alias (codes "d") ∷ nothing_written
     ∷ Raw.flow_sequence_start None None ∷ Raw.flow_sequence_end ∷ nothing_written ∷ Raw.flow_mapping_start None None ∷ Raw.flow_mapping_end ∷ nothing_written
     ∷ Raw.sequence_start None None ∷ Raw.sequence_end ∷ nothing_written ∷ Raw.mapping_start None None ∷ Raw.mapping_end ∷ nothing_written
@@ -161,8 +161,8 @@ keys = says_by refl
 indentless_of_properties : DocumentSays
     (Tok.block_mapping_start ∷ Tok.key ∷ word (codes "k") ∷ Tok.value ∷ tagged (codes "t") ∷ anchored (codes "x")
     ∷ Tok.block_entry ∷ anchored (codes "y") ∷ Tok.block_entry ∷ word (codes "b") ∷ Tok.block_end ∷ [])
-    (Raw.mapping_start None None ∷ plain_raw (codes "k") ∷ Raw.sequence_start (Some (codes "x")) (Some (tag_of_text (codes "!") (codes "t")))
-    ∷ properties_said (codes "y") ∷ plain_raw (codes "b") ∷ Raw.sequence_end ∷ Raw.mapping_end ∷ [])
+    (Raw.mapping_start None None ∷ plain_raw (codes "k") ∷ Raw.indentless_sequence_start (Some (codes "x")) (Some (tag_of_text (codes "!") (codes "t")))
+    ∷ properties_said (codes "y") ∷ plain_raw (codes "b") ∷ Raw.indentless_sequence_end ∷ Raw.mapping_end ∷ [])
 indentless_of_properties = says_by refl
 
 -- ---- names in a stream

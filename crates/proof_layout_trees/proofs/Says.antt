@@ -126,18 +126,18 @@ indentless_sequence {w = w} {ts = ts} side x =
 
 -- It ends where the mapping goes on: no entry stands there.
 no_entry : (t : Tok) (r : Row Goal Raw) → row_of (cases at.block_mapping_entries) t ≡ Some r
-    → row_of (cases (at.indentless_sequence_entries at.value)) t ≡ Some (leaves (say Raw.sequence_end ∷ read at.block_mapping_entries ∷ []))
+    → row_of (cases (at.indentless_sequence_entries at.value)) t ≡ Some (leaves (say Raw.indentless_sequence_end ∷ read at.block_mapping_entries ∷ []))
 no_entry Tok.block_entry r h = cc
 no_entry _ r h = refl
 
 entries_left : (w : Works) (ts : List Tok) (raws : List Raw) → Derives grammar (goal_and at.block_mapping_entries w) ts raws
-    → Derives grammar (goal_and (at.indentless_sequence_entries at.value) w) ts (Raw.sequence_end ∷ raws)
+    → Derives grammar (goal_and (at.indentless_sequence_entries at.value) w) ts (Raw.indentless_sequence_end ∷ raws)
 entries_left w _ raws (by_taking {t = t} ps row d) = by_leaving _ (no_entry t (takes ps) row) (says (by_taking ps row d))
 entries_left w _ raws (by_leaving {t = t} ps row d) = by_leaving _ (no_entry t (leaves ps) row) (says (by_leaving ps row d))
 
 pub entries_end : {keep_tags : Bool} {s : Names} {w : Works} {ts : List Tok} {es : List Ev} → Says keep_tags s (goal_and at.block_mapping_entries w) ts es
     → Says keep_tags s (goal_and (at.indentless_sequence_entries at.value) w) ts (Ev.sequence_end ∷ es)
-entries_end {w = w} {ts = ts} x = record { raws = Raw.sequence_end ∷ x.raws; derived = entries_left w ts x.raws x.derived; names = rw x.names refl }
+entries_end {w = w} {ts = ts} x = record { raws = Raw.indentless_sequence_end ∷ x.raws; derived = entries_left w ts x.raws x.derived; names = rw x.names refl }
 
 -- ---- the stream
 

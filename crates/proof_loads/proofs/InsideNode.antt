@@ -206,11 +206,14 @@ numbered k s (Raw.scalar text style a t) = mapped (Follows s.count (with_anchor 
 numbered k s (Raw.empty_scalar a t) = mapped (Follows s.count (with_anchor s a).count) (λ u. Ev.scalar [] Style.plain (number s a) u) (perhaps_resolved s.handles t) (λ u. is_next s a)
 numbered k s (Raw.flow_sequence_start a t) = mapped (Follows s.count (with_anchor s a).count) (λ u. Ev.sequence_start (number s a) u) (perhaps_resolved s.handles t) (λ u. is_next s a)
 numbered k s (Raw.sequence_start a t) = mapped (Follows s.count (with_anchor s a).count) (λ u. Ev.sequence_start (number s a) u) (perhaps_resolved s.handles t) (λ u. is_next s a)
+numbered k s (Raw.indentless_sequence_start a t) = mapped (Follows s.count (with_anchor s a).count) (λ u. Ev.sequence_start (number s a) u) (perhaps_resolved s.handles t) (λ u. is_next s a)
 numbered k s Raw.flow_sequence_end = refl
 numbered k s Raw.sequence_end = refl
+numbered k s Raw.indentless_sequence_end = refl
 numbered k s (Raw.flow_mapping_start a t) = mapped (Follows s.count (with_anchor s a).count) (λ u. Ev.mapping_start (number s a) u) (perhaps_resolved s.handles t) (λ u. is_next s a)
 numbered k s (Raw.mapping_start a t) = mapped (Follows s.count (with_anchor s a).count) (λ u. Ev.mapping_start (number s a) u) (perhaps_resolved s.handles t) (λ u. is_next s a)
 numbered k s Raw.pair_start = is_next s None
+numbered k s Raw.pair_end = refl
 numbered k s Raw.flow_mapping_end = refl
 numbered k s Raw.mapping_end = refl
 

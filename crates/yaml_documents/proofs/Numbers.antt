@@ -97,7 +97,9 @@ module _ (keep_tags : Bool) (s : Names) (low : ℕ) (h : low ≤ s.count) (o : A
   leaves Raw.document_end v r = subst (Leaves keep_tags s low Raw.document_end) (some_is r) (same_names Raw.document_end Ev.document_end refl tt refl refl)
   leaves Raw.flow_sequence_end v r = subst (Leaves keep_tags s low Raw.flow_sequence_end) (some_is r) (same_names Raw.flow_sequence_end Ev.sequence_end refl tt refl refl)
   leaves Raw.sequence_end v r = subst (Leaves keep_tags s low Raw.sequence_end) (some_is r) (same_names Raw.sequence_end Ev.sequence_end refl tt refl refl)
+  leaves Raw.indentless_sequence_end v r = subst (Leaves keep_tags s low Raw.indentless_sequence_end) (some_is r) (same_names Raw.indentless_sequence_end Ev.sequence_end refl tt refl refl)
   leaves Raw.pair_start v r = subst (Leaves keep_tags s low Raw.pair_start) (some_is r) (same_names Raw.pair_start (Ev.mapping_start 0 None) refl tt refl refl)
+  leaves Raw.pair_end v r = subst (Leaves keep_tags s low Raw.pair_end) (some_is r) (same_names Raw.pair_end Ev.mapping_end refl tt refl refl)
   leaves Raw.flow_mapping_end v r = subst (Leaves keep_tags s low Raw.flow_mapping_end) (some_is r) (same_names Raw.flow_mapping_end Ev.mapping_end refl tt refl refl)
   leaves Raw.mapping_end v r = subst (Leaves keep_tags s low Raw.mapping_end) (some_is r) (same_names Raw.mapping_end Ev.mapping_end refl tt refl refl)
   leaves (Raw.document_start ds) v r = by (are_allowed ds) r
@@ -122,6 +124,9 @@ module _ (keep_tags : Bool) (s : Names) (low : ℕ) (h : low ≤ s.count) (o : A
       (λ u. record { over = tt; anchors = with_over s low a h o; count = with_count s a; under = with_low s low a h })
   leaves (Raw.sequence_start a t) v r =
       of_mapped _ (perhaps_resolved s.handles t) v (Leaves keep_tags s low (Raw.sequence_start a t)) r
+      (λ u. record { over = tt; anchors = with_over s low a h o; count = with_count s a; under = with_low s low a h })
+  leaves (Raw.indentless_sequence_start a t) v r =
+      of_mapped _ (perhaps_resolved s.handles t) v (Leaves keep_tags s low (Raw.indentless_sequence_start a t)) r
       (λ u. record { over = tt; anchors = with_over s low a h o; count = with_count s a; under = with_low s low a h })
   leaves (Raw.flow_mapping_start a t) v r =
       of_mapped _ (perhaps_resolved s.handles t) v (Leaves keep_tags s low (Raw.flow_mapping_start a t)) r

@@ -269,8 +269,8 @@ impl Blocks {
     }
 
     /// Puts an entry at a spot. An `Err` comes only where memory was refused, or there are as many entries as can be
-    /// counted, and then all is as it was. Memory is asked for before anything changes: where a block is made two,
-    /// both have room for the entry.
+    /// counted, and then the entries are as they were. They need not lie in the same blocks: one may have been made
+    /// two, each with room for the entry.
     pub fn insert(&mut self, spot: Spot, entry: Entry) -> Result<(), AllocError>
         requires { IsSpot self.old spot }
         ensures ok { OnOk result (joined self.new ≡ insert (joined self.old) (rank_of self.old spot) entry) }

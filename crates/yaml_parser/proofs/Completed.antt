@@ -52,6 +52,7 @@ is_free (Raw.scalar x y a t) = is_untagged t
 is_free (Raw.empty_scalar a t) = is_untagged t
 is_free (Raw.flow_sequence_start a t) = false
 is_free (Raw.sequence_start a t) = false
+is_free (Raw.indentless_sequence_start a t) = false
 is_free (Raw.flow_mapping_start a t) = false
 is_free (Raw.mapping_start a t) = false
 is_free _ = true
@@ -69,7 +70,9 @@ free_resolves s Raw.stream_end h = (_, refl)
 free_resolves s Raw.document_end h = (_, refl)
 free_resolves s Raw.flow_sequence_end h = (_, refl)
 free_resolves s Raw.sequence_end h = (_, refl)
+free_resolves s Raw.indentless_sequence_end h = (_, refl)
 free_resolves s Raw.pair_start h = (_, refl)
+free_resolves s Raw.pair_end h = (_, refl)
 free_resolves s Raw.flow_mapping_end h = (_, refl)
 free_resolves s Raw.mapping_end h = (_, refl)
 free_resolves s e h = cc
@@ -82,7 +85,7 @@ free_named keep (e ∷ es) h s =
 
 -- Of work on a stack all holds nothing, and what is said has no position.
 abbrev is_quiet : Raw → Bool
-is_quiet Raw.mapping_end = true
+is_quiet Raw.pair_end = true
 is_quiet (Raw.empty_scalar None None) = true
 is_quiet _ = false
 
@@ -92,7 +95,7 @@ is_plain (saying e ∷ w) = is_quiet e && is_plain w
 is_plain (reading g h ∷ w) = is_untagged h.tag && (is_none h.directives && is_plain w)
 
 quiet_free : (e : Raw) → is_quiet e ≡ true → is_free e ≡ true
-quiet_free Raw.mapping_end h = refl
+quiet_free Raw.pair_end h = refl
 quiet_free (Raw.empty_scalar None None) h = refl
 quiet_free _ h = cc
 
@@ -217,8 +220,8 @@ minds (reading g h ∷ w) = minds_comma g
 after_even : (p : Place) (es : List Raw) (ts : List Tok) → Even es ts → Even (after_text_events p ++ es) (after_text p ++ ts)
 after_even in_flow es ts i b c = i b c
 after_even in_block es ts i b c = i b c
-after_even (in_pair key) es ts i b c = i _ refl
-after_even (in_pair value) es ts i b c = i _ refl
+after_even (in_pair key) es ts i b c = one_each (i _ refl)
+after_even (in_pair value) es ts i b c = one_each (i _ refl)
 
 text_even : (p : Place) (h : Held) (es : List Raw) (ts : List Tok) → Even es ts → (b : Before) → AreEven b (text_event h ∷ (after_text_events p ++ es)) (text ∷ (after_text p ++ ts))
 text_even p h es ts i b = one_each (after_even p es ts i _ refl)
@@ -234,12 +237,15 @@ goal_even table.flow_sequence_comma h es ts i b c = one_each (i _ refl)
 goal_even table.flow_value h es ts i b c = one_each (i _ refl)
 goal_even table.flow_mapping_entries h es ts i b c = at_bracket b (c refl) (i _ refl)
 goal_even table.flow_mapping_comma h es ts i b c = at_bracket b (c refl) (i _ refl)
-goal_even (table.indentless_sequence_entries key) h es ts i b c = i _ refl
-goal_even (table.indentless_sequence_entries value) h es ts i b c = i _ refl
+goal_even table.block_sequence_entries h es ts i b c = one_each (i _ refl)
+goal_even (table.indentless_sequence_entries key) h es ts i b c = one_each (i _ refl)
+goal_even (table.indentless_sequence_entries value) h es ts i b c = one_each (i _ refl)
+goal_even table.block_mapping_entries h es ts i b c = one_each (i _ refl)
+goal_even table.block_mapping_value h es ts i b c = one_each (i _ refl)
 goal_even g h es ts i b c = i _ refl
 
 quiet_even : (e : Raw) (es : List Raw) (ts : List Tok) (b : Before) → is_quiet e ≡ true → AreEven b es ts → AreEven b (e ∷ es) ts
-quiet_even Raw.mapping_end es ts b h i = i
+quiet_even Raw.pair_end es ts b h i = i
 quiet_even (Raw.empty_scalar None None) es ts b h i = i
 quiet_even _ es ts b h i = cc
 

@@ -1,5 +1,6 @@
 -- The arms of brackets, of commas before them, and of keys: with the collections around them.
-use Rattle.std.proofs.Common.{◌≡◌, List, [], ◌∷◌, ◌++◌, Some, None, true, false, refl, sym, ap, ◌∙◌}
+use Rattle.std.proofs.Common.{◌≡◌, List, [], ◌∷◌, ◌++◌, Some, None, true, false, ◌||◌, refl, sym, ap, ◌∙◌}
+use Rattle.std.proofs.lemmas.Bool.{or_parts}
 use Rattle.std.specs.Option.{IfSome}
 use Rattle.defs_text.specs.Position.{Position}
 use Rattle.defs_token.specs.Token as defs
@@ -10,10 +11,12 @@ use Rattle.yaml_tokens.specs.Shown.{all_shown, tok_of}
 use Rattle.defs_event.specs.Event.{Ev}
 use Rattle.defs_event.specs.Raw.{Raw}
 use Rattle.defs_event.specs.Names.{Names}
-use Rattle.defs_event.specs.Stream.{Before, nothing_before, past, past_all, is_comma, is_in_sequence, place_of, gives_position}
+use Rattle.yaml_scanner_state.specs.Tokens.{is_end}
+use Rattle.defs_event.specs.Stream.{Flow, Before, nothing_before, past, past_all, is_comma, is_in_sequence, place_of, has_position, gives_position}
 use Rattle.model_parser.specs.declared.kind.Kind.{Kind}
 use Rattle.model_parser.specs.declared.kind.Kind.TheVariants as kind
 use Rattle.model_parser.specs.declared.state.State.{State}
+use Rattle.model_parser.specs.Kinds.{tok_of_kind, HasNoText}
 use Rattle.model_parser.specs.Goal as at
 use Rattle.model_parser.specs.Goal.{Goal}
 use Rattle.model_parser.proofs.Endings.{goes_so}
@@ -25,9 +28,9 @@ use Rattle.yaml_parser.specs.declared.reader.Reader.{Reader}
 use Rattle.yaml_parser.specs.Handed.{taken_toks, before_next, IsAfterComma}
 use Rattle.yaml_parser.specs.Kinds.{IsOfKind}
 use Rattle.yaml_parser.specs.At.{At, is_over, may_follow_comma, names_at}
-use Rattle.yaml_parser.proofs.Positions.{comma_more}
+use Rattle.yaml_parser.proofs.Positions.{ends_mapping, own_place, is_irregular, comma_more}
 use Rattle.yaml_parser.proofs.Steps.{looked, if_some_at}
-use Rattle.yaml_parser.proofs.Arms.{Skipped, gives_at}
+use Rattle.yaml_parser.proofs.Arms.{Skipped, Bare, gives_at}
 
 -- ---- keys
 
@@ -64,18 +67,33 @@ pair_starts {T} m {p} o h mark s turn a =
 
 -- ---- brackets
 
--- A flow sequence ends at its bracket.
+-- A collection ends at the token that ends it.
+ends_at : {T : Type 0} (m : Position) {g : Goal} {p r : Reader T} {k k' : Kind} {e : Raw} {v : Ev} {names : Names} {given : List (Ev × Position)}
+    → IsOfKind k' p.tokens.peeked → k' ≡ k → HasNoText k → is_irregular (tok_of_kind k) ≡ false → ((fs : List Flow) → has_position e ≡ gives_position fs (tok_of_kind k))
+    → IfSome p.tokens.peeked (λ t. t.0 ≡ m) → Skipped p r p.stack → Takes g p.stack (tok_of_kind k) (Some e) at.done p.stack
+    → Bare g p names e v → is_over g ≡ false → At g p names given → (names' : Names) × At at.done r names' (given ++ (v, m) ∷ [])
+ends_at {T} m {g} {p} {r} {k} o h plain end alike mark s turn y over a =
+    let one_end = or_parts (is_end (tok_of_kind k)) (is_comma (tok_of_kind k) || ends_mapping (tok_of_kind k)) end in
+    let others = or_parts (is_comma (tok_of_kind k)) (ends_mapping (tok_of_kind k)) one_end.1 in
+    gives_at m o h plain s turn y over one_end.0
+    (λ t here same. record {
+      alike = alike _ ∙ sym (ap (gives_position (before_next p.tokens).around) same);
+      here = λ b. sym (if_some_at (λ (u : Token). u.0 ≡ m) mark here) ∙ sym (own_place (tok_of t.1) (before_next p.tokens).comma t.0 (ap ends_mapping same ∙ others.1));
+      other = ap is_comma same ∙ others.0;
+    })
+    a
+
+-- A flow sequence ends at its bracket,
 pub sequence_ends : {T : Type 0} (m : Position) {g : Goal} {p r : Reader T} {k : Kind} {names : Names} {given : List (Ev × Position)}
     → IsOfKind k p.tokens.peeked → k ≡ kind.FlowSequenceEnd → IfSome p.tokens.peeked (λ t. t.0 ≡ m) → Skipped p r p.stack → Takes g p.stack Tok.flow_sequence_end (Some Raw.flow_sequence_end) at.done p.stack
     → names_at p.names.keeping.tags g names ≡ names → is_over g ≡ false → At g p names given → (names' : Names) × At at.done r names' (given ++ (Ev.sequence_end, m) ∷ [])
-sequence_ends {T} m {g} {p} o h mark s turn seen over a =
-    gives_at m o h refl s turn (record { resolves = refl; after_it = refl; seen = seen }) over refl
-    (λ t here same. record {
-      alike = sym (ap (gives_position (before_next p.tokens).around) same);
-      here = λ b. sym (if_some_at (λ (u : Token). u.0 ≡ m) mark here) ∙ sym (ap (λ u. place_of u (before_next p.tokens).comma t.0) same);
-      other = ap is_comma same;
-    })
-    a
+sequence_ends {T} m o h mark s turn seen over a = ends_at m o h refl refl (λ fs. refl) mark s turn (record { resolves = refl; after_it = refl; seen = seen }) over a
+
+-- and a block sequence and a block mapping where the scanner says that it ends.
+pub block_ends : {T : Type 0} (m : Position) {g : Goal} {p r : Reader T} {k : Kind} {e : Raw} {v : Ev} {names : Names} {given : List (Ev × Position)}
+    → IsOfKind k p.tokens.peeked → k ≡ kind.BlockEnd → IfSome p.tokens.peeked (λ t. t.0 ≡ m) → Skipped p r p.stack → Takes g p.stack Tok.block_end (Some e) at.done p.stack
+    → has_position e ≡ true → Bare g p names e v → is_over g ≡ false → At g p names given → (names' : Names) × At at.done r names' (given ++ (v, m) ∷ [])
+block_ends {T} m o h mark s turn shows y over a = ends_at m o h refl refl (λ fs. shows) mark s turn y over a
 
 -- A flow mapping ends at this position: that of the comma before its bracket, or of the bracket where there is none.
 mapping_ends_at : {T : Type 0} {m : Position} {g : Goal} {p r : Reader T} {k : Kind} {names : Names} {given : List (Ev × Position)}

@@ -58,7 +58,7 @@ use Rattle.yaml_parser.specs.Named.{IsNamed}
 use Rattle.yaml_parser.specs.Properties.{Has, Registers, name_of, kept_tag}
 use Rattle.yaml_parser.specs.Shown.{placed}
 use Rattle.yaml_parser.specs.At.{At, Answers, Faulted, answered, named_by, names_by, goal_after_event, IsPending}
-use Rattle.yaml_parser.proofs.Positions.{ends_mapping, own_place}
+use Rattle.yaml_parser.proofs.Positions.{ends_mapping, own_place, is_irregular}
 use Rattle.yaml_parser.proofs.Steps.{looked, took, took_on, left, Named, breaks, map_snoc, if_some_at}
 use Rattle.yaml_parser.proofs.Arms.{Skipped, stays, stay, not_as, faulted_as}
 use Rattle.yaml_parser.proofs.Ends.{at_derived}
@@ -95,13 +95,9 @@ made_named {T} {p} {r} {mk} {f} {s} {o} {x} k h keep code = record {
   pending = tt;
 }
 
--- whether a token is the stream's end, a comma, or the end of a flow mapping
-abbrev pub is_startless : Tok → Bool
-is_startless t = is_end t || (is_comma t || ends_mapping t)
-
 -- The start of a collection is taken, and its properties are registered.
 pub starts : {T E : Type 0} (m : Position) {p q : Reader T} (r : Reader T) {k k' : Kind} {w : positions.NodeContext} {o : Option written.Properties} {x : Option Properties} {ss : List State} (mk : Option (List ℕ) → Option event.Tag → Raw) (f : ℕ → Option event.Tag → Ev) {s : Names} {given : List (Ev × Position)} (res : Result (Unit {0}) E) (slot : Slot)
-    → Makes mk f → IsOfKind k' p.tokens.peeked → k' ≡ k → HasNoText k → is_startless (tok_of_kind k) ≡ false
+    → Makes mk f → IsOfKind k' p.tokens.peeked → k' ≡ k → HasNoText k → is_irregular (tok_of_kind k) ≡ false
     → ((a : Option (List ℕ)) (t : Option event.Tag) → has_position (mk a t) ≡ gives_position (before_next p.tokens).around (tok_of_kind k)) → IfSome p.tokens.peeked (λ t. t.0 ≡ m) → Skipped p q ss
     → Takes (at.after_properties w o) p.stack (tok_of_kind k) (Some (mk (perhaps_anchor_of o) (perhaps_tag_of o))) at.done ss
     → ((names : Names) → IsNamed q.names names → OnOk res (Registers q x names (λ a t. placed slot.next ≡ (f a t, m)) r)) → OnErr res (slot.stop ≡ stop.Own OutOfMemory)

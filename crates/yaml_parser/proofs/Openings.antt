@@ -52,7 +52,7 @@ end_says ss [] es a = absurd (needs_tokens (work_of at.after ss) es refl a.0)
 end_says ss (Tok.document_end ∷ ts) es a = let s = said _ _ ts es (row_taken table.document_end nothing_held (works ss) Tok.document_end ts es _ refl a.0) in (s.0, s.1)
 end_says ss (t ∷ ts) es a = let s = said _ _ (t ∷ ts) es (row_left table.document_end nothing_held (works ss) t ts es _ refl a.0) in (s.0, s.1)
 
-pair_says : (ss : List State) (ts : List Tok) (es : List Raw) → Awaits at.pair_end ss ts es → (fs : List Raw) × (es ≡ Raw.mapping_end ∷ fs)
+pair_says : (ss : List State) (ts : List Tok) (es : List Raw) → Awaits at.pair_end ss ts es → (fs : List Raw) × (es ≡ Raw.pair_end ∷ fs)
 pair_says ss ts es a = let s = said _ _ ts es a.0 in (s.0, s.1)
 
 empty_says : (ss : List State) (ts : List Tok) (es : List Raw) → Awaits at.flow_empty ss ts es → (fs : List Raw) × (es ≡ nothing_written ∷ fs)
@@ -87,7 +87,7 @@ opens at.more_items ss h = at_once (way at.more_items ss Tok.flow_sequence_end [
 opens at.pair_key ss h = at_once (way at.pair_key ss text [] _ _ refl refl refl) (way at.pair_key ss Tok.flow_sequence_start [] _ _ refl refl refl) (λ e. cc)
 opens at.pair_value ss h = at_once (way at.pair_value ss Tok.value [] _ _ refl refl refl) (way at.pair_value ss Tok.flow_sequence_end [] _ _ refl refl refl) (λ e. cc)
 opens at.pair_valued ss h = at_once (way at.pair_valued ss text [] _ _ refl refl refl) (way at.pair_valued ss Tok.flow_sequence_start [] _ _ refl refl refl) (λ e. cc)
-opens at.pair_end ss h = after_one Raw.mapping_end refl (pair_says ss) (way at.pair_end ss Tok.flow_sequence_end [] _ _ refl refl refl) (way at.pair_end ss Tok.flow_entry (text ∷ []) _ _ refl refl refl) (λ e. cc)
+opens at.pair_end ss h = after_one Raw.pair_end refl (pair_says ss) (way at.pair_end ss Tok.flow_sequence_end [] _ _ refl refl refl) (way at.pair_end ss Tok.flow_entry (text ∷ []) _ _ refl refl refl) (λ e. cc)
 opens at.flow_pairs ss h = at_once (way at.flow_pairs ss text [] _ _ refl refl refl) (way at.flow_pairs ss Tok.flow_sequence_start [] _ _ refl refl refl) (λ e. cc)
 opens at.comma_flow_pairs ss h = at_once (way at.comma_flow_pairs ss text [] _ _ refl refl refl) (way at.comma_flow_pairs ss Tok.flow_sequence_start [] _ _ refl refl refl) (λ e. cc)
 opens at.flow_pair ss h = at_once (way at.flow_pair ss text [] _ _ refl refl refl) (way at.flow_pair ss Tok.flow_sequence_start [] _ _ refl refl refl) (λ e. cc)

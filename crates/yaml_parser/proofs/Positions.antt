@@ -1,11 +1,12 @@
 -- The positions of events and of tokens, side by side.
-use Rattle.std.proofs.Common.{◌≡◌, ◌+◌, List, [], ◌∷◌, ◌++◌, length, Option, Some, None, Bool, true, false, if◌then◌else◌, refl, sym, ap, ◌∙◌, append-nil, arith}
+use Rattle.std.proofs.Common.{◌≡◌, ◌+◌, List, [], ◌∷◌, ◌++◌, length, Option, Some, None, Bool, true, false, ◌||◌, if◌then◌else◌, refl, sym, ap, ◌∙◌, append-nil, arith}
 use Rattle.std.proofs.lemmas.List.{length-append, map-append}
 use Rattle.defs_text.specs.Position.{Position}
 use Rattle.defs_token.specs.Token as defs
 use Rattle.defs_token.specs.Token.{Tok}
 use Rattle.yaml_tokens.specs.declared.token.Token.{Token}
 use Rattle.yaml_tokens.specs.Shown.{shown, all_shown, tok_of}
+use Rattle.yaml_scanner_state.specs.Tokens.{is_end}
 use Rattle.defs_event.specs.Event.{Ev}
 use Rattle.defs_event.specs.Raw.{Raw}
 use Rattle.defs_event.specs.Stream.{Flow, Before, nothing_before, past, past_all, is_comma, place_of, gives_position, has_position, position_if, given_after, given_positions, taken_positions, positions_of}
@@ -26,6 +27,10 @@ abbrev pub ends_mapping : Tok → Bool
 ends_mapping Tok.flow_mapping_end = true
 ends_mapping _ = false
 
+-- whether a token is the stream's end, a comma, or the end of a flow mapping
+abbrev pub is_irregular : Tok → Bool
+is_irregular t = is_end t || (is_comma t || ends_mapping t)
+
 pub own_place : (t : Tok) (before : Option Position) (p : Position) → ends_mapping t ≡ false → place_of t before p ≡ p
 own_place Tok.flow_mapping_end before p h = cc
 own_place _ before p h = refl
@@ -37,6 +42,9 @@ gives_none fs Tok.flow_sequence_start h = cc
 gives_none fs Tok.flow_sequence_end h = cc
 gives_none fs Tok.flow_mapping_start h = cc
 gives_none fs Tok.flow_mapping_end h = cc
+gives_none fs Tok.block_sequence_start h = cc
+gives_none fs Tok.block_mapping_start h = cc
+gives_none fs Tok.block_end h = cc
 gives_none fs Tok.key h = cc
 gives_none fs _ h = refl
 

@@ -13,7 +13,7 @@ use Rattle.yaml_parser.specs.Derived.{IsDerived, ForetellsRaw}
 abbrev pub may_wait : Raw → Bool
 may_wait Raw.stream_start = true
 may_wait Raw.document_end = true
-may_wait Raw.mapping_end = true
+may_wait Raw.pair_end = true
 may_wait (Raw.empty_scalar None None) = true
 may_wait _ = false
 

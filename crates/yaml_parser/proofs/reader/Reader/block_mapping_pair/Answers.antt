@@ -1,7 +1,7 @@
 use Rattle.std.proofs.Common.{refl}
 use Rattle.model_parser.proofs.Block as turn
-use Rattle.yaml_parser.proofs.Arms.{gives, plain, push_after, not_as, goes_on, faulted_as, wrote_event}
-use Rattle.yaml_parser.proofs.InFlow.{key_in_block}
+use Rattle.yaml_parser.proofs.Arms.{push_after, not_as, goes_on, faulted_as, wrote_event}
+use Rattle.yaml_parser.proofs.InFlow.{block_ends, key_in_block}
 use Rattle.yaml_parser.proofs.Ends.{refuses}
 use Rattle.yaml_parser.proofs.Ways.{goes_apart, key_pairs_ways}
 use Rattle.defs_event.specs.Place.{block_mapping}
@@ -11,7 +11,7 @@ use Rattle.yaml_tokens.specs.declared.problem.Problem.TheVariants.{BlockMappingK
 use Rattle.yaml_parser.proofs.reader.Reader.block_mapping_pair.Goals as goal
 
 pub returns-in-BlockEnd-clause-answers : goal.returns-in-BlockEnd-clause-answers
-returns-in-BlockEnd-clause-answers g c = λ names given h. wrote_event _ given c.end_mapping.new.slot.next c.end_mapping.ensures.event (gives _ c.requires c.in-BlockEnd.is refl c.end_mapping.ensures.took (turn.key_pairs_end _) (plain refl refl refl refl) refl refl h)
+returns-in-BlockEnd-clause-answers g c = λ names given h. wrote_event _ given c.end_mapping.new.slot.next c.end_mapping.ensures.event (block_ends _ c.requires c.in-BlockEnd.is c.end_mapping.ensures.mark c.end_mapping.ensures.took (turn.key_pairs_end _) refl (record { resolves = refl; after_it = refl; seen = refl }) refl h)
 
 pub returns-in_ok-push-in-Key-clause-answers : goal.returns-in_ok-push-in-Key-clause-answers
 returns-in_ok-push-in-Key-clause-answers g c = λ names given h. c.block_mapping_part.ensures.answers names given (goes_on c.requires c.in-Key.is refl (push_after c.skip.ensures.took c.in_ok-push-in-Key.ensures.stayed) (turn.key_pairs_key _) refl tt refl refl (key_in_block h) (λ f. refl) h)

@@ -1,7 +1,8 @@
 use Rattle.std.proofs.Common.{refl}
 use Rattle.model_parser.specs.Goal as at
 use Rattle.model_parser.proofs.Block as turn
-use Rattle.yaml_parser.proofs.Arms.{gives, goes, plain, answers_err, not_as, faulted_as, wrote_event}
+use Rattle.yaml_parser.proofs.Arms.{goes, answers_err, not_as, faulted_as, wrote_event}
+use Rattle.yaml_parser.proofs.InFlow.{block_ends}
 use Rattle.yaml_parser.proofs.Ends.{refuses}
 use Rattle.yaml_parser.proofs.Ways.{goes_apart, entries_ways}
 use Rattle.defs_event.specs.Place.{block_sequence}
@@ -14,7 +15,7 @@ pub returns-in_err-next-clause-answers : goal.returns-in_err-next-clause-answers
 returns-in_err-next-clause-answers g c = λ names given h. answers_err c.peek.new.self given c.from_residual.result _ c.peek.new.slot c.from_residual.ensures.1 (c.in_err-next.ensures.err at.entries refl names given h)
 
 pub returns-in-BlockEnd-clause-answers : goal.returns-in-BlockEnd-clause-answers
-returns-in-BlockEnd-clause-answers g c = λ names given h. wrote_event _ given c.end_sequence.new.slot.next c.end_sequence.ensures.event (gives _ c.in_ok-next.ensures.peeked c.in-BlockEnd.is refl c.end_sequence.ensures.took (turn.entries_end _) (plain refl refl refl refl) refl refl (c.in_ok-next.ensures.at at.entries refl names given h))
+returns-in-BlockEnd-clause-answers g c = λ names given h. wrote_event _ given c.end_sequence.new.slot.next c.end_sequence.ensures.event (block_ends _ c.in_ok-next.ensures.peeked c.in-BlockEnd.is c.end_sequence.ensures.mark c.end_sequence.ensures.took (turn.entries_end _) refl (record { resolves = refl; after_it = refl; seen = refl }) refl (c.in_ok-next.ensures.at at.entries refl names given h))
 
 pub returns-in-BlockEntry-clause-answers : goal.returns-in-BlockEntry-clause-answers
 returns-in-BlockEntry-clause-answers g c = λ names given h. c.block_sequence_item.ensures.answers names given (goes c.in_ok-next.ensures.peeked c.in-BlockEntry.is refl c.skip.ensures.took (turn.entries_dash _) refl tt refl refl (c.in_ok-next.ensures.at at.entries refl names given h))
