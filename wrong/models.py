@@ -13,7 +13,7 @@ import argparse, os, re, shutil, subprocess, sys, tempfile
 
 TOP = os.path.dirname(os.path.dirname(os.path.abspath(__file__)))
 SPECS = "crates/model_scanner/specs/"
-LINE = "refuted: defs_text defs_scalar defs_token defs_row yaml_chars yaml_tokens model_lexers model_scanner proof_row\n"
+LINE = "refuted: defs_text defs_token yaml_chars yaml_tokens model_scanner proof_row\n"
 # What stays of the model's proofs: the words with which it is computed.
 LEMMAS = "OnLiterals"
 
@@ -146,7 +146,7 @@ STATED = """-- The law `tokens_are_of_a_row`, and that it is false of this model
 use Rattle.std.specs.Prelude.{◌≡◌, ℕ, List, true}
 use Rattle.defs_text.specs.Text.{has_no_nul}
 use Rattle.defs_token.specs.Token.{Token}
-use Rattle.defs_row.specs.Row.{IsRead}
+use Rattle.defs_token.specs.Row.{IsRead}
 use Rattle.model_scanner.specs.Run.{HasTokens}
 
 abbrev pub TokensAreOfARow : Type 0
@@ -172,15 +172,15 @@ PROOF = """-- The tokens of a text by the definition of a row, those that the mo
 use Rattle.std.proofs.Common.{◌≡◌, ℕ, ◌==◌, List, [], ◌∷◌, Bool, true, false, ◌&&◌, refl, ap}
 use Rattle.std.specs.Prelude.{codes}
 use Rattle.defs_text.specs.Classes.{%(classes)s}
-use Rattle.defs_scalar.specs.FlowScalar.{%(scalars)s}
-use Rattle.defs_scalar.specs.BlockScalar.{%(blocks)s}
-use Rattle.defs_scalar.specs.Tags.{%(tags)s}
-use Rattle.defs_scalar.specs.Directives.{directive_of}
+use Rattle.defs_text.specs.FlowScalar.{%(scalars)s}
+use Rattle.defs_text.specs.BlockScalar.{%(blocks)s}
+use Rattle.defs_text.specs.Tags.{%(tags)s}
+use Rattle.defs_text.specs.Directives.{directive_of}
 use Rattle.defs_token.specs.Token.{Token, stream_start, stream_end, block_mapping_start, block_end, flow_sequence_start, flow_sequence_end, flow_mapping_start, flow_mapping_end, flow_entry, key, value, scalar, plain}
-use Rattle.defs_row.specs.Step.{Row}
-use Rattle.defs_row.specs.Tokens.{put}
-use Rattle.defs_row.specs.Row.{IsRead}
-use Rattle.defs_row.proofs.Shown.{position, step}
+use Rattle.defs_token.specs.Step.{Row}
+use Rattle.defs_token.specs.Tokens.{put}
+use Rattle.defs_token.specs.Row.{IsRead}
+use Rattle.defs_token.proofs.RowShown.{position, step}
 use Rattle.model_scanner.specs.Run.{HasTokens, here, there}
 use Rattle.model_scanner.proofs.OnLiterals.{scan_on_literals}
 use Rattle.proof_row.proofs.OneRow.{one_reading}

@@ -26,7 +26,9 @@ Shaped (Raw.flow_mapping_start a t ∷ r) es = (n : ℕ) × (u : Option Tag) × 
 Shaped (Raw.mapping_start a t ∷ r) es = (n : ℕ) × (u : Option Tag) × (vs : List Ev) × (es ≡ Ev.mapping_start n u ∷ vs) × Shaped r vs
 Shaped (Raw.pair_start ∷ r) es = (vs : List Ev) × (es ≡ Ev.mapping_start 0 None ∷ vs) × Shaped r vs
 Shaped (Raw.pair_end ∷ r) es = (vs : List Ev) × (es ≡ Ev.mapping_end ∷ vs) × Shaped r vs
+Shaped (Raw.unwritten_value ∷ r) es = (vs : List Ev) × (es ≡ Ev.scalar [] Style.plain 0 None ∷ vs) × Shaped r vs
 Shaped (Raw.flow_mapping_end ∷ r) es = (vs : List Ev) × (es ≡ Ev.mapping_end ∷ vs) × Shaped r vs
+Shaped (Raw.flow_mapping_end_at_comma ∷ r) es = (vs : List Ev) × (es ≡ Ev.mapping_end ∷ vs) × Shaped r vs
 Shaped (Raw.mapping_end ∷ r) es = (vs : List Ev) × (es ≡ Ev.mapping_end ∷ vs) × Shaped r vs
 
 -- with a number and a tag

@@ -7,7 +7,7 @@ use Rattle.defs_event.specs.Raw.{Raw}
 use Rattle.defs_event.specs.Names.{no_names}
 use Rattle.defs_event.specs.Nested.{IsNested, Open, in_stream, after_node, in_sequence, at_key, at_value, with_child, child_then, open_after, there_and, closes, is_nested}
 use Rattle.defs_event.specs.Table.{Part, read, show, Row, takes, leaves, row_of, Work, reading, saying, part_work, before, Derives, nothing_left, says, by_taking, by_leaving}
-use Rattle.defs_event.specs.Grammar.{Held, Side, key, value, Place, in_flow, in_block, in_pair, Goal, documents, directives, explicit_document, document_end, node, after_anchor, after_tag, content, block_sequence_entries, indentless_sequence_entries, block_mapping_entries, block_mapping_value, flow_sequence_entries, flow_sequence_comma, flow_mapping_entries, flow_mapping_comma, flow_value, then_in, nothing_held, cases, grammar}
+use Rattle.defs_event.specs.Grammar.{Held, Side, key, value, Place, in_flow, in_block, in_pair, Goal, documents, directives, explicit_document, document_end, node, after_anchor, after_tag, content, block_sequence_entries, indentless_sequence_entries, block_mapping_entries, block_mapping_value, flow_sequence_entries, flow_sequence_comma, after_brace, after_comma, flow_mapping_entries, flow_mapping_comma, flow_mapping_value, flow_mapping_valued, no_flow_mapping_value, flow_value, then_in, nothing_held, cases, grammar}
 use Rattle.defs_event.specs.Stream.{StreamSays, IsStream}
 use Rattle.defs_event.proofs.Shaped.{Shaped, named_shaped}
 use Rattle.defs_event.proofs.NestedTest.{test_is_exact}
@@ -33,7 +33,9 @@ shape_of (Raw.flow_mapping_start a t) = Ev.mapping_start 0 None
 shape_of (Raw.mapping_start a t) = Ev.mapping_start 0 None
 shape_of Raw.pair_start = Ev.mapping_start 0 None
 shape_of Raw.pair_end = Ev.mapping_end
+shape_of Raw.unwritten_value = Ev.scalar [] Style.plain 0 None
 shape_of Raw.flow_mapping_end = Ev.mapping_end
+shape_of Raw.flow_mapping_end_at_comma = Ev.mapping_end
 shape_of Raw.mapping_end = Ev.mapping_end
 
 -- after what comes after a key, or after a value
@@ -65,8 +67,11 @@ after_goal block_mapping_entries os = after_side value os
 after_goal block_mapping_value os = after_side key os
 after_goal flow_sequence_entries (in_sequence ∷ os) = Some os
 after_goal flow_sequence_comma (in_sequence ∷ os) = Some os
-after_goal flow_mapping_entries (at_key ∷ os) = Some os
+after_goal (flow_mapping_entries s) (at_key ∷ os) = Some os
 after_goal flow_mapping_comma (at_key ∷ os) = Some os
+after_goal flow_mapping_value os = after_node_at in_flow os
+after_goal flow_mapping_valued os = after_node_at in_flow os
+after_goal no_flow_mapping_value (at_value ∷ os) = Some os
 after_goal flow_value os = after_node_at in_flow os
 after_goal _ os = None
 
@@ -130,8 +135,19 @@ row_too block_mapping_entries (at_key ∷ os) Tok.key h = refl
 row_too block_mapping_value (at_value ∷ os) Tok.key h = refl
 row_too flow_sequence_entries (in_sequence ∷ os) Tok.key h = refl
 row_too flow_sequence_comma (in_sequence ∷ os) Tok.key h = refl
-row_too flow_mapping_entries (at_key ∷ os) Tok.key h = refl
+row_too (flow_mapping_entries after_brace) (at_key ∷ os) Tok.key h = refl
+row_too (flow_mapping_entries after_comma) (at_key ∷ os) Tok.key h = refl
 row_too flow_mapping_comma (at_key ∷ os) Tok.key h = refl
+row_too flow_mapping_value os Tok.value h = same _
+row_too flow_mapping_value (o ∷ os) t h = child (with_child o) _ os _ _ (λ o. refl)
+row_too flow_mapping_valued os (Tok.alias n) h = same _
+row_too flow_mapping_valued os (Tok.anchor n) h = same _
+row_too flow_mapping_valued os (Tok.tag x y) h = same _
+row_too flow_mapping_valued os (Tok.scalar y x) h = same _
+row_too flow_mapping_valued os Tok.flow_sequence_start h = same _
+row_too flow_mapping_valued os Tok.flow_mapping_start h = same _
+row_too flow_mapping_valued (o ∷ os) t h = child (with_child o) _ os _ _ (λ o. refl)
+row_too no_flow_mapping_value (at_value ∷ os) t h = refl
 row_too flow_value os Tok.value h = same _
 row_too flow_value (o ∷ os) t h = child (with_child o) _ os _ _ (λ o. refl)
 row_too g os t h = refl

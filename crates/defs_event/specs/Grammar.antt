@@ -36,7 +36,6 @@ event_of h (Tok.scalar style text) = Raw.scalar text style h.anchor h.tag
 event_of h Tok.flow_sequence_start = Raw.flow_sequence_start h.anchor h.tag
 event_of h Tok.flow_sequence_end = Raw.flow_sequence_end
 event_of h Tok.flow_mapping_start = Raw.flow_mapping_start h.anchor h.tag
-event_of h Tok.flow_mapping_end = Raw.flow_mapping_end
 event_of h Tok.block_sequence_start = Raw.sequence_start h.anchor h.tag
 event_of h Tok.block_mapping_start = Raw.mapping_start h.anchor h.tag
 -- a sequence without indentation has no token for its start: its first entry has the event
@@ -62,6 +61,11 @@ pub data Place : Type 0 where
   in_block : Place
   -- a key or a value of a block mapping
   in_pair : Side → Place
+
+-- what stands before a pair of a flow mapping
+pub data Start : Type 0 where
+  after_brace : Start
+  after_comma : Start
 
 pub data Goal : Type 0 where
   stream : Goal
@@ -89,9 +93,13 @@ pub data Goal : Type 0 where
   flow_sequence_entries : Goal
   flow_sequence_comma : Goal
   -- after `{` or a comma, and after an entry
-  flow_mapping_entries : Goal
+  flow_mapping_entries : Start → Goal
   flow_mapping_comma : Goal
-  -- after a key in flow
+  -- after a key of a flow mapping, after its `:`, and after a node that is a key without value
+  flow_mapping_value : Goal
+  flow_mapping_valued : Goal
+  no_flow_mapping_value : Goal
+  -- after the key of a pair in a flow sequence
   flow_value : Goal
 
 -- ---- the table
@@ -121,6 +129,10 @@ block_contents (in_pair s) =
     ∷ on is_block_entry (takes (show ∷ read (node in_block) ∷ read (indentless_sequence_entries s) ∷ []))
     ∷ otherwise (leaves (empty ∷ then_in_pair s))
     ∷ []
+
+abbrev pub flow_mapping_end_after : Start → Raw
+flow_mapping_end_after after_brace = Raw.flow_mapping_end
+flow_mapping_end_after after_comma = Raw.flow_mapping_end_at_comma
 
 abbrev pub cases : Goal → List (Case Goal Tok Raw)
 -- documents (chapter 9)
@@ -163,7 +175,7 @@ cases (after_tag p) =
 cases (content p) =
     on is_scalar (takes (show ∷ then_in p))
     ∷ on is_flow_sequence_start (takes (show ∷ read flow_sequence_entries ∷ then_in p))
-    ∷ on is_flow_mapping_start (takes (show ∷ read flow_mapping_entries ∷ then_in p))
+    ∷ on is_flow_mapping_start (takes (show ∷ read (flow_mapping_entries after_brace) ∷ then_in p))
     ∷ block_contents p
 -- block collections (chapter 8)
 cases block_sequence_entries =
@@ -193,15 +205,26 @@ cases flow_sequence_comma =
     on is_flow_entry (takes (read flow_sequence_entries ∷ []))
     ∷ on is_flow_sequence_end (takes (show ∷ []))
     ∷ []
-cases flow_mapping_entries =
-    on begins_flow_node (leaves (read (node in_flow) ∷ say nothing_written ∷ read flow_mapping_comma ∷ []))
-    ∷ on is_key (takes (read (node in_flow) ∷ read flow_value ∷ read flow_mapping_comma ∷ []))
-    ∷ on is_value (takes (say nothing_written ∷ read (node in_flow) ∷ read flow_mapping_comma ∷ []))
-    ∷ on is_flow_mapping_end (takes (show ∷ []))
+cases (flow_mapping_entries s) =
+    on begins_flow_node (leaves (read (node in_flow) ∷ read no_flow_mapping_value ∷ []))
+    ∷ on is_key (takes (read (node in_flow) ∷ read flow_mapping_value ∷ read flow_mapping_comma ∷ []))
+    ∷ on is_value (takes (say nothing_written ∷ read flow_mapping_valued ∷ read flow_mapping_comma ∷ []))
+    ∷ on is_flow_mapping_end (takes (say (flow_mapping_end_after s) ∷ []))
     ∷ []
 cases flow_mapping_comma =
-    on is_flow_entry (takes (read flow_mapping_entries ∷ []))
-    ∷ on is_flow_mapping_end (takes (show ∷ []))
+    on is_flow_entry (takes (read (flow_mapping_entries after_comma) ∷ []))
+    ∷ on is_flow_mapping_end (takes (say Raw.flow_mapping_end ∷ []))
+    ∷ []
+cases flow_mapping_value =
+    on is_value (takes (read flow_mapping_valued ∷ []))
+    ∷ otherwise (leaves (say nothing_written ∷ []))
+    ∷ []
+cases flow_mapping_valued =
+    on begins_flow_node (leaves (read (node in_flow) ∷ []))
+    ∷ otherwise (leaves (say Raw.unwritten_value ∷ []))
+    ∷ []
+cases no_flow_mapping_value =
+    otherwise (leaves (say nothing_written ∷ read flow_mapping_comma ∷ []))
     ∷ []
 cases flow_value =
     on is_value (takes (read (node in_flow) ∷ []))

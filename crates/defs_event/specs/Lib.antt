@@ -1,11 +1,18 @@
 pub mod Anchors
 pub mod Event
+pub mod Fits
 pub mod Grammar
+pub mod Kinds
 pub mod Laws
+pub mod MarkLaws
+pub mod Marking
+pub mod Marks
+pub mod Meaning
 pub mod Names
 pub mod Nested
 pub mod NoAlias
 pub mod Place
+pub mod Properties
 pub mod PulledList
 pub mod Push
 pub mod Raw
@@ -13,7 +20,5 @@ pub mod ReadAs
 pub mod Reading
 pub mod Scalar
 pub mod Stream
-pub mod Unfinished
-pub mod Properties
 pub mod Table
-pub mod Kinds
+pub mod Unfinished

@@ -127,7 +127,9 @@ resolved_event s (Raw.flow_mapping_start a t) = option_map (λ u. Ev.mapping_sta
 resolved_event s (Raw.mapping_start a t) = option_map (λ u. Ev.mapping_start (number s a) u) (perhaps_resolved s.handles t)
 resolved_event s Raw.pair_start = Some (Ev.mapping_start 0 None)
 resolved_event s Raw.pair_end = Some Ev.mapping_end
+resolved_event s Raw.unwritten_value = Some (Ev.scalar [] Style.plain 0 None)
 resolved_event s Raw.flow_mapping_end = Some Ev.mapping_end
+resolved_event s Raw.flow_mapping_end_at_comma = Some Ev.mapping_end
 resolved_event s Raw.mapping_end = Some Ev.mapping_end
 
 abbrev pub both : Option Ev → Option (List Ev) → Option (List Ev)

@@ -9,9 +9,9 @@ pub data Directive : Type 0 where
   version : (major minor : ℕ) → Directive
   tag : (handle prefix : List ℕ) → Directive
 
--- An event that has a token of its own is distinguished from one of its kind that has none: a scalar from an empty one; a flow
--- collection's start and end from those of a block collection, and both from those of a sequence without indentation and of a
--- single pair in a flow sequence.
+-- Events of one kind are told apart by where they stand and by what they are ends of: a scalar from an empty one, and this from a value
+-- that is not written in a flow mapping; a flow collection's start and end from those of a block collection, and both from those of a
+-- sequence without indentation and of a single pair in a flow sequence.
 pub data Raw : Type 0 where
   stream_start : Raw
   stream_end : Raw
@@ -32,7 +32,11 @@ pub data Raw : Type 0 where
   -- of a pair in a flow sequence that begins with `?`; it has no properties, and ends after its value
   pair_start : Raw
   pair_end : Raw
+  -- the value of a pair in a flow mapping that has only its `:`
+  unwritten_value : Raw
   flow_mapping_end : Raw
+  -- right after a comma
+  flow_mapping_end_at_comma : Raw
   mapping_end : Raw
 
 -- a scalar that is not written: plain and empty, without anchor and tag

@@ -1,11 +1,10 @@
 -- Which tokens are a stream's, and which events it has.
-use Rattle.std.specs.Prelude.{◌≡◌, Bool, true, false, List, [], ◌∷◌, ◌++◌, Option, Some, None, map, if◌then◌else◌}
+use Rattle.std.specs.Prelude.{◌≡◌, ◌≢◌, Bool, List, [], ◌∷◌, ◌++◌, Option, Some, None, IfSome, map}
 use Rattle.defs_text.specs.Position.{Position}
 use Rattle.defs_token.specs.Token.{Tok, Token}
-use Rattle.defs_token.specs.Toks.{toks}
 use Rattle.defs_event.specs.Event.{Ev}
 use Rattle.defs_event.specs.Raw.{Raw}
-use Rattle.defs_event.specs.Table.{Work, reading, Derives}
+use Rattle.defs_event.specs.Table.{Part, takes, leaves, row_of, Work, reading, saying, before, Derives}
 use Rattle.defs_event.specs.Grammar as table
 use Rattle.defs_event.specs.Names.{named, no_names}
 
@@ -43,104 +42,59 @@ NoneBegins keep_tags tokens = (ts : List Tok) (es : List Ev) → IsStream keep_t
 
 -- ---- positions
 
--- Scalars, aliases, and starts and ends of collections have the position of a token of their own. So has the start of a single pair
--- in a flow sequence that begins with `?`: it has that of this key. (A single pair without `?` has tokens for its start and its end, as a
--- flow mapping has.) Where a comma stands right before the end of a flow mapping, that event has the comma's position. Each of these tokens
--- gives one such event, in order; so the positions are those of these tokens, in order. No position is promised for other events: scalars
--- that are not written, starts and ends of the stream, of documents and of sequences without indentation, and the end of a single pair that
--- begins with `?`.
+-- An event stands at the token by which its row is chosen: at its own token, if it has one; at the `:` of a pair whose key is not written;
+-- else at the token after it. A flow mapping that ends right after a comma ends at the comma, and a value that is not written, of a pair of
+-- a flow mapping that has only its `:`, stands at the `:`: at the token before. Of the end of a single pair that begins with `?` no position
+-- is promised.
+abbrev pub position_at : Token → (before : Option Position) → Raw → Option Position
+position_at t before Raw.flow_mapping_end_at_comma = before
+position_at t before Raw.unwritten_value = before
+position_at t before Raw.pair_end = None
+position_at t before _ = Some t.position
 
--- an open flow collection
-pub data Flow : Type 0 where
-  in_sequence : Flow
-  in_mapping : Flow
+-- work of which each event to be said has the position that is promised
+abbrev pub PlacedWork : Type 0
+PlacedWork = List (Work table.Goal (Raw × Option Position) table.Held)
 
--- what stands before a token: the flow collections around it, the innermost first, and where a comma right before it stands
-pub record Before : Type 0 where
-  pub around : List Flow
-  pub comma : Option Position
+abbrev pub placed_by : (Raw → Option Position) → List (Work table.Goal Raw table.Held) → PlacedWork
+placed_by f [] = []
+placed_by f (reading g h ∷ w) = reading g h ∷ placed_by f w
+placed_by f (saying e ∷ w) = saying (e, f e) ∷ placed_by f w
 
-abbrev pub nothing_before : Before
-nothing_before = record { around = []; comma = None }
+-- the parts of a row at its token, before other work
+abbrev pub placed_before : Token → (before : Option Position) → table.Held → List (Part table.Goal Raw) → PlacedWork → PlacedWork
+placed_before t b h ps w = placed_by (position_at t b) (before table.grammar h t.tok ps []) ++ w
 
-abbrev pub without_innermost : List Flow → List Flow
-without_innermost [] = []
-without_innermost (f ∷ fs) = fs
+-- How far tokens are read: to the end of the work; up to the next token, which is wanted; or up to the last of them, which the next row
+-- takes.
+pub data Extent : Type 0 where
+  to_end : Extent
+  to_next : Extent
+  to_last : Extent
 
-abbrev pub around_after : Tok → List Flow → List Flow
-around_after Tok.flow_sequence_start fs = in_sequence ∷ fs
-around_after Tok.flow_mapping_start fs = in_mapping ∷ fs
-around_after Tok.flow_sequence_end fs = without_innermost fs
-around_after Tok.flow_mapping_end fs = without_innermost fs
-around_after _ fs = fs
+-- This work reads these tokens so far, and says these events at these positions. The token before them stands there.
+pub data Places : Extent → (before : Option Position) → PlacedWork → List Token → List (Raw × Position) → Type 0 where
+  nothing_left : {b : Option Position} → Places to_end b [] [] []
+  wants_token : {b : Option Position} {g : table.Goal} {h : table.Held} {w : PlacedWork} → Places to_next b (reading g h ∷ w) [] []
+  takes_last : {b : Option Position} {g : table.Goal} {h : table.Held} {w : PlacedWork} {t : Token} (ps : List (Part table.Goal Raw))
+      → row_of (table.cases g) t.tok ≡ Some (takes ps) → Places to_last b (reading g h ∷ w) (t ∷ []) []
+  says : {x : Extent} {b : Option Position} {e : Raw} {o : Option Position} {m : Position} {w : PlacedWork} {ts : List Token} {es : List (Raw × Position)}
+      → IfSome o (λ p. m ≡ p) → Places x b w ts es → Places x b (saying (e, o) ∷ w) ts ((e, m) ∷ es)
+  by_taking : {x : Extent} {b : Option Position} {g : table.Goal} {h : table.Held} {w : PlacedWork} {t : Token} {ts : List Token} {es : List (Raw × Position)} (ps : List (Part table.Goal Raw))
+      → row_of (table.cases g) t.tok ≡ Some (takes ps) → Places x (Some t.position) (placed_before t b h ps w) ts es → Places x b (reading g h ∷ w) (t ∷ ts) es
+  by_leaving : {x : Extent} {b : Option Position} {g : table.Goal} {h : table.Held} {w : PlacedWork} {t : Token} {ts : List Token} {es : List (Raw × Position)} (ps : List (Part table.Goal Raw))
+      → row_of (table.cases g) t.tok ≡ Some (leaves ps) → Places x b (placed_before t b h ps w) (t ∷ ts) es → Places x b (reading g h ∷ w) (t ∷ ts) es
 
-abbrev pub is_comma : Tok → Bool
-is_comma Tok.flow_entry = true
-is_comma _ = false
+-- A stream's tokens, read so far, say these events, before names are resolved, at these positions.
+abbrev pub StreamPlacesTo : Extent → List Token → List (Raw × Position) → Type 0
+StreamPlacesTo x tokens events = Places x None (reading table.stream table.nothing_held ∷ []) tokens events
 
--- what stands before the token after it
-abbrev pub past : Before → Token → Before
-past b t = record { around = around_after t.tok b.around; comma = if is_comma t.tok then Some t.position else None }
+-- These tokens are a stream, and it says these events, before names are resolved, at these positions.
+abbrev pub StreamPlaces : List Token → List (Raw × Position) → Type 0
+StreamPlaces tokens events = StreamPlacesTo to_end tokens events
 
-abbrev pub past_all : Before → List Token → Before
-past_all b [] = b
-past_all b (t ∷ ts) = past_all (past b t) ts
-
-abbrev pub is_in_sequence : List Flow → Bool
-is_in_sequence (in_sequence ∷ fs) = true
-is_in_sequence _ = false
-
--- whether a token gives a position to an event, with these flow collections around it
-abbrev pub gives_position : List Flow → Tok → Bool
-gives_position fs (Tok.alias name) = true
-gives_position fs (Tok.scalar style text) = true
-gives_position fs Tok.flow_sequence_start = true
-gives_position fs Tok.flow_sequence_end = true
-gives_position fs Tok.flow_mapping_start = true
-gives_position fs Tok.flow_mapping_end = true
-gives_position fs Tok.block_sequence_start = true
-gives_position fs Tok.block_mapping_start = true
-gives_position fs Tok.block_end = true
-gives_position fs Tok.key = is_in_sequence fs
-gives_position fs _ = false
-
--- the position that it gives: its own, or that of the comma before the end of a flow mapping
-abbrev pub place_of : Tok → Option Position → Position → Position
-place_of Tok.flow_mapping_end (Some comma) p = comma
-place_of _ before p = p
-
-abbrev pub has_position : Raw → Bool
-has_position (Raw.alias name) = true
-has_position (Raw.scalar text style anchor tag) = true
-has_position (Raw.flow_sequence_start anchor tag) = true
-has_position Raw.flow_sequence_end = true
-has_position (Raw.flow_mapping_start anchor tag) = true
-has_position Raw.flow_mapping_end = true
-has_position (Raw.sequence_start anchor tag) = true
-has_position Raw.sequence_end = true
-has_position (Raw.mapping_start anchor tag) = true
-has_position Raw.mapping_end = true
-has_position Raw.pair_start = true
-has_position _ = false
-
-abbrev pub position_if : Bool → Position → List Position → List Position
-position_if true p ps = p ∷ ps
-position_if false p ps = ps
-
--- the positions that these tokens give to events, after what stands before them
-abbrev pub given_after : Before → List Token → List Position
-given_after b [] = []
-given_after b (t ∷ ts) = position_if (gives_position b.around t.tok) (place_of t.tok b.comma t.position) (given_after (past b t) ts)
-
--- the positions that the tokens of a stream give to events
-abbrev pub given_positions : List Token → List Position
-given_positions ts = given_after nothing_before ts
-
--- the positions, out of one for each event, of the events that have their token's
-abbrev pub taken_positions : List Raw → List Position → List Position
-taken_positions [] ps = []
-taken_positions (e ∷ es) [] = []
-taken_positions (e ∷ es) (p ∷ ps) = position_if (has_position e) p (taken_positions es ps)
+abbrev pub raws_of : List (Raw × Position) → List Raw
+raws_of es = map (λ e. e.0) es
 
 abbrev pub events_of : List (Ev × Position) → List Ev
 events_of es = map (λ e. e.0) es
@@ -150,10 +104,23 @@ positions_of es = map (λ e. e.1) es
 
 -- These are the tokens of a stream and its events, with their positions.
 pub record IsPlacedStream (keep_tags : Bool) (tokens : List Token) (events : List (Ev × Position)) : Type 0 where
-  pub raws : List Raw
-  pub says : StreamSays (toks tokens) raws
-  pub has_events : named keep_tags no_names raws ≡ Some (events_of events)
-  pub has_positions : taken_positions raws (positions_of events) ≡ given_positions tokens
+  pub raws : List (Raw × Position)
+  pub says : StreamPlaces tokens raws
+  pub has_events : named keep_tags no_names (raws_of raws) ≡ Some (events_of events)
+  pub has_positions : map (λ e. e.1) raws ≡ positions_of events
+
+-- The same events, each at the same position but for ends of mappings.
+abbrev pub AgreeAt : List (Ev × Position) → List (Ev × Position) → Type 0
+AgreeAt [] [] = Unit {0}
+AgreeAt (e ∷ es) (f ∷ fs) = (e.0 ≡ f.0) × (e.0 ≢ Ev.mapping_end → e.1 ≡ f.1) × AgreeAt es fs
+AgreeAt es fs = ⊥
+
+-- A stream's tokens, read so far, have these events, with their positions.
+pub record HasPlacedTo (x : Extent) (keep_tags : Bool) (tokens : List Token) (events : List (Ev × Position)) : Type 0 where
+  pub raws : List (Raw × Position)
+  pub says : StreamPlacesTo x tokens raws
+  pub has_events : named keep_tags no_names (raws_of raws) ≡ Some (events_of events)
+  pub has_positions : map (λ e. e.1) raws ≡ positions_of events
 
 -- A stream begins with these tokens and events, at these positions.
 pub record BeginsPlaced (keep_tags : Bool) (tokens : List Token) (events : List (Ev × Position)) : Type 0 where

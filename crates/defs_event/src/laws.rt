@@ -1,6 +1,7 @@
-//! Laws of the definitions, each the contract of an empty function.
+//! Laws of the definitions and of the positions of nodes, each the contract of an empty function.
 
 ghost use Rattle.defs_event.specs.Laws.{TokensAreReadInOneWay, StreamsHaveOneReading, NestingTestIsExact, StreamEventsAreNested, NestedEventsAreReadOneByOne, MultiLoadPushesAllEvents, LoadedTreesHaveNoAlias, LoadedTreesHaveDistinctKeys, LoadedIntegersHave64Bits};
+ghost use Rattle.defs_event.specs.MarkLaws.{MarksFitTheirTrees};
 
 /// The token grammar reads a list of tokens in at most one way.
 #[tactic(auto, using(crate::proofs::OneReading::read_in_one_way))]
@@ -49,4 +50,10 @@ pub fn nested_events_are_read_one_by_one()
 /// With `multi`, one call of `load` pushes all events of a finished run, each once and in order.
 pub fn multi_load_pushes_all_events()
     ensures { MultiLoadPushesAllEvents }
+{}
+
+/// The marks that events give have the parts that the trees have which the same events are read as.
+#[tactic(auto, using(crate::proofs::InStep::marks_fit))]
+pub fn marks_fit_their_trees()
+    ensures { MarksFitTheirTrees }
 {}

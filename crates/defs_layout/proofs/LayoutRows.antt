@@ -6,7 +6,7 @@ use Rattle.defs_tree.specs.Tree.{Tree, items_of, pairs_of}
 use Rattle.defs_tree.specs.Quoting.{is_quoted, is_unfit_for_plain}
 use Rattle.defs_tree.specs.Typing.{typing, is_decimal}
 use Rattle.defs_tree.specs.Literal.{is_literal_text, is_root_literal, is_literal_character}
-use Rattle.defs_scalar.specs.BlockScalar.{row_of, is_empty_line, is_content_line}
+use Rattle.defs_text.specs.BlockScalar.{row_of, is_empty_line, is_content_line}
 use Rattle.defs_text.specs.Classes.{is_blank}
 use Rattle.defs_layout.specs.Gap.{empty_line, comment_line, is_line_character}
 use Rattle.defs_layout.specs.BlockLines.{full, blank}

@@ -1,9 +1,17 @@
 mod Appended
+mod Back
 mod BasicRows
 mod Differ
-pub mod InTurn
+mod Integers
 mod JsonRows
+mod JsonTextRows
 mod LayoutRows
+mod Numbers
 mod Soundness
+mod Strings
+mod Written
+pub mod Faults
+pub mod InTurn
+pub mod Reading
 pub mod TokenRows
 pub mod WholeNumbers

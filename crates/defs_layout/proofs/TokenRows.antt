@@ -10,7 +10,7 @@ use Rattle.defs_layout.specs.JsonTokens.{json_text_tokens}
 use Rattle.defs_layout.specs.LayoutTokens.{layout_tokens}
 use Rattle.defs_layout.specs.QuotedText.{single, double, HasQuotedTokens}
 use Rattle.defs_text.specs.Classes.{is_blank, is_break, is_nul, are_marks}
-use Rattle.defs_scalar.specs.FlowScalar.{plain_element, single_quoted_element, double_quoted_element, is_character_code, numeric_escape, escape, begins_with_marker, single_quoted_value, double_quoted_value}
+use Rattle.defs_text.specs.FlowScalar.{plain_element, single_quoted_element, double_quoted_element, is_character_code, numeric_escape, escape, begins_with_marker, single_quoted_value, double_quoted_value}
 
 -- `{"a":[true,{}]}`
 object : json_text_tokens (record {

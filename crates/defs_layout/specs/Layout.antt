@@ -13,7 +13,7 @@ use Rattle.defs_tree.specs.Escapes.{double_quoted}
 use Rattle.defs_tree.specs.Spelling.{spelling}
 use Rattle.defs_tree.specs.Lines.{lines_of}
 use Rattle.defs_tree.specs.Literal.{is_literal_text, is_root_literal, literal_header}
-use Rattle.defs_scalar.specs.BlockScalar.{BlockStyle, Chomping, Header, Body, Ending, block_value}
+use Rattle.defs_text.specs.BlockScalar.{BlockStyle, Chomping, Header, Body, Ending, block_value}
 use Rattle.defs_layout.specs.Marks.{ampersand, asterisk, carriage_return, colon, dash, line_feed, number_sign, question_mark, single_quote, space, tab}
 use Rattle.defs_layout.specs.Gap.{spaces, GapLine, spell_gap, next_line, spell_ending, IsLineText, IsGap, AreEmptyLines}
 use Rattle.defs_layout.specs.BlockLines.{Line, full, blank, contents, spell_line, spell_lines, AreLines}

@@ -4,12 +4,17 @@ pub mod BlockLines
 pub mod DumpIsInjective
 pub mod DumpIsLaidOut
 pub mod DumpsInTurn
+pub mod Fault
 pub mod Gap
+pub mod HasJson
 pub mod InTurn
 pub mod Json
 pub mod JsonGap
+pub mod JsonLaws
 pub mod JsonNumber
+pub mod JsonReal
 pub mod JsonString
+pub mod JsonText
 pub mod JsonTokens
 pub mod Laws
 pub mod Layout

@@ -1,7 +1,7 @@
 -- Texts that are one quoted scalar with line feeds alone after it, and their tokens. YAML 1.2, sections 7.3.1 and 7.3.2.
 use Rattle.std.specs.Prelude.{◌≡◌, ℕ, List, [], ◌∷◌, ◌++◌, Option, Some, replicate}
 use Rattle.defs_token.specs.Token.{Tok, Style}
-use Rattle.defs_scalar.specs.FlowScalar.{single_quoted_value, double_quoted_value}
+use Rattle.defs_text.specs.FlowScalar.{single_quoted_value, double_quoted_value}
 
 -- the quotes that were written
 pub data Quotes : Type 0 where

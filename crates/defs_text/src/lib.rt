@@ -1,2 +1,2 @@
-//! Definitions of characters, their classes, line breaks, and positions in a text. There is no code.
+//! Definitions of characters, line breaks and positions in a text, and of scalars, tags and directives, from their text alone. There is no code.
 #![tactic(auto)]

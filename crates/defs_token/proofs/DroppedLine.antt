@@ -3,7 +3,7 @@ use Rattle.std.proofs.Common.{◌≡◌, ℕ, zero, suc, List, [], ◌∷◌, �
 use Rattle.std.specs.Prelude.{codes}
 use Rattle.std.proofs.Math.Seq.{take-append_seam, drop-append_seam}
 use Rattle.defs_text.specs.Classes.{is_blank, is_break, is_nul, is_blank_or_end, is_flow, are_marks}
-use Rattle.defs_scalar.specs.FlowScalar.{plain_element, begins_with_marker, plain_value}
+use Rattle.defs_text.specs.FlowScalar.{plain_element, begins_with_marker, plain_value}
 use Rattle.defs_text.specs.Position.{Position}
 use Rattle.defs_token.specs.Token.{Tok, Token, stream_end, scalar, plain}
 use Rattle.defs_text.specs.Text.{up_to_nul}

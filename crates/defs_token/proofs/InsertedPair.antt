@@ -3,7 +3,7 @@ use Rattle.std.proofs.Common.{◌≡◌, ℕ, suc, List, [], ◌∷◌, ◌++◌
 use Rattle.std.specs.Prelude.{codes}
 use Rattle.std.proofs.lemmas.Bool.{eqb-true}
 use Rattle.defs_text.specs.Classes.{is_one_of, is_blank, is_break, is_nul, is_blank_or_end, is_flow, is_at_gap, is_document_marker}
-use Rattle.defs_scalar.specs.Tags.{Tag, written_tag, after_mark}
+use Rattle.defs_text.specs.Tags.{Tag, written_tag, after_mark}
 use Rattle.defs_text.specs.Position.{Position}
 use Rattle.defs_token.specs.Token.{Tok, Token, flow_sequence_start, flow_sequence_end, flow_mapping_start, flow_mapping_end, flow_entry, key, value, alias, anchor, tag, scalar, plain, single_quoted, double_quoted}
 use Rattle.defs_token.specs.Separation.{past_separation}

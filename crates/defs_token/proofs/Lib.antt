@@ -1,12 +1,18 @@
-pub mod Append
-pub mod CutRows
 mod DroppedLine
-pub mod Inserted
-pub mod InsertedPair
 mod Limits
 mod LongDirective
+mod MoreNoRows
 mod MoreRows
-pub mod OnLiterals
-pub mod Shown
+mod NoRows
+mod RowLimits
 mod WrongPair
 mod WrongStart
+pub mod Append
+pub mod CutRows
+pub mod Inserted
+pub mod InsertedPair
+pub mod MoreRowSteps
+pub mod OnLiterals
+pub mod RowShown
+pub mod Rows
+pub mod Shown

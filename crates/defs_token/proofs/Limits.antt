@@ -1,7 +1,7 @@
 -- The conditions of a cut at their limits, by computing: what is allowed and what is not.
 use Rattle.std.proofs.Common.{◌≡◌, [], ◌∷◌, ◌++◌, true, false, Some, None, replicate, refl}
 use Rattle.std.specs.Prelude.{codes}
-use Rattle.defs_scalar.specs.BlockScalar.{BlockStyle}
+use Rattle.defs_text.specs.BlockScalar.{BlockStyle}
 use Rattle.defs_token.specs.Token.{flow_entry, flow_sequence_end, stream_end, value, anchor}
 use Rattle.defs_text.specs.Text.{up_to_nul}
 use Rattle.defs_text.specs.Position.{position_after}

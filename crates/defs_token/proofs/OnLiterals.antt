@@ -4,10 +4,10 @@ use Rattle.std.specs.Prelude.{⊤}
 use Rattle.defs_text.specs.Classes.{single_quote, double_quote, is_blank, is_break, is_nul, is_blank_or_end, is_flow, is_decimal_digit, is_letter, is_alpha, is_uri, is_tag, is_anchor_name, are_marks}
 use Rattle.defs_text.specs.Position.{Position}
 use Rattle.defs_text.specs.Text.{up_to_nul}
-use Rattle.defs_scalar.specs.FlowScalar.{begins_with, plain_element, single_quoted_element, double_quoted_element, is_character_code, numeric_escape, escape, begins_with_marker, plain_value, single_quoted_value, double_quoted_value}
-use Rattle.defs_scalar.specs.BlockScalar.{BlockStyle, sign_of, digit_of, is_empty_line, is_content_line, row_of}
-use Rattle.defs_scalar.specs.Tags.{octet_at, lead_of, is_trail, escaped_character, uri_character}
-use Rattle.defs_scalar.specs.Directives.{directive_of}
+use Rattle.defs_text.specs.FlowScalar.{begins_with, plain_element, single_quoted_element, double_quoted_element, is_character_code, numeric_escape, escape, begins_with_marker, plain_value, single_quoted_value, double_quoted_value}
+use Rattle.defs_text.specs.BlockScalar.{BlockStyle, sign_of, digit_of, is_empty_line, is_content_line, row_of}
+use Rattle.defs_text.specs.Tags.{octet_at, lead_of, is_trail, escaped_character, uri_character}
+use Rattle.defs_text.specs.Directives.{directive_of}
 use Rattle.defs_token.specs.Token.{stream_end}
 use Rattle.defs_token.specs.Separation.{is_separation}
 use Rattle.defs_token.specs.BlockPiece.{BlockRead, block_read, block_position}

@@ -2,7 +2,7 @@
 use Rattle.std.proofs.Common.{◌≡◌, ℕ, zero, suc, List, [], ◌∷◌, ◌++◌, Bool, true, false, ◌&&◌, ◌==◌, not, Some, sym, ap, subst, ◌∙◌, inl, inr, refl}
 use Rattle.std.specs.Prelude.{codes}
 use Rattle.defs_text.specs.Classes.{is_nul}
-use Rattle.defs_scalar.specs.Tags.{all_of}
+use Rattle.defs_text.specs.Tags.{all_of}
 use Rattle.defs_text.specs.Position.{Position}
 use Rattle.defs_token.specs.Token.{Tok, Token, stream_end, flow_sequence_start, flow_sequence_end, flow_mapping_start, flow_mapping_end, flow_entry, key, value, scalar, plain}
 use Rattle.defs_text.specs.Text.{up_to_nul}

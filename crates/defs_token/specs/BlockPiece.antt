@@ -2,7 +2,7 @@
 use Rattle.std.specs.Prelude.{ℕ, List, [], ◌∷◌, Bool, true, false, ◌&&◌, ◌||◌, ◌==◌, not, nat_lt, if◌then◌else◌, Option, Some, None}
 use Rattle.defs_text.specs.Classes.{space, is_break, is_at_end}
 use Rattle.defs_text.specs.Breaks.{Split, split, ends_line}
-use Rattle.defs_scalar.specs.BlockScalar.{BlockStyle, Header, header_of, Body, body, input_ends, further_text, unbroken, content_column, block_value, is_further_text}
+use Rattle.defs_text.specs.BlockScalar.{BlockStyle, Header, header_of, Body, body, input_ends, further_text, unbroken, content_column, block_value, is_further_text}
 use Rattle.defs_text.specs.Position.{Position, position_past, position_after}
 
 -- a block scalar as read: its style, its content column, and its value

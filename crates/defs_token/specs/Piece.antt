@@ -2,10 +2,10 @@
 -- YAML 1.2, sections 6.8 (directives), 6.9 (properties), 7 (flow styles), 8 (block styles) and 9.1 (documents).
 use Rattle.std.specs.Prelude.{◌≡◌, ℕ, ◌⊎◌, List, [], ◌∷◌, ◌++◌, Bool, true, false, ◌&&◌, ◌||◌, ◌==◌, Option, Some, None, codes}
 use Rattle.defs_text.specs.Classes.{space, single_quote, double_quote, is_break, is_anchor_name, is_at_gap}
-use Rattle.defs_scalar.specs.FlowScalar.{begins_with, plain_value, single_quoted_value, double_quoted_value}
-use Rattle.defs_scalar.specs.BlockScalar.{BlockStyle}
-use Rattle.defs_scalar.specs.Tags.{all_of, written_tag}
-use Rattle.defs_scalar.specs.Directives.{Directive, version, tag_declaration, reserved, directive_of}
+use Rattle.defs_text.specs.FlowScalar.{begins_with, plain_value, single_quoted_value, double_quoted_value}
+use Rattle.defs_text.specs.BlockScalar.{BlockStyle}
+use Rattle.defs_text.specs.Tags.{all_of, written_tag}
+use Rattle.defs_text.specs.Directives.{Directive, version, tag_declaration, reserved, directive_of}
 use Rattle.defs_text.specs.Position.{Position}
 use Rattle.defs_token.specs.Token.{Tok, stream_start, stream_end, version_directive, tag_directive, document_start, document_end, block_sequence_start, block_mapping_start, block_end, flow_sequence_start, flow_sequence_end, flow_mapping_start, flow_mapping_end, block_entry, flow_entry, key, value, alias, anchor, tag, scalar, plain, single_quoted, double_quoted, literal, folded}
 use Rattle.defs_text.specs.Breaks.{is_at_line_end, has_no_break}

@@ -1,3 +1,5 @@
+mod MergeRows
+mod Unmergeable
 pub mod BoxLaws
 pub mod DecimalReading
 pub mod DigitsLaws
@@ -5,6 +7,7 @@ pub mod Examples
 pub mod GrammarLaws
 pub mod Letters
 pub mod LinesLaws
+pub mod Merging
 pub mod OrderLaws
 pub mod OverlayLaws
 pub mod PairsLaws

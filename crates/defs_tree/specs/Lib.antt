@@ -7,9 +7,13 @@ pub mod Laws
 pub mod Lines
 pub mod Lists
 pub mod Literal
+pub mod Merge
+pub mod MergeFault
+pub mod MergeLaws
 pub mod Order
 pub mod Overlay
 pub mod Pairs
+pub mod Path
 pub mod Quoting
 pub mod Spelling
 pub mod Tree

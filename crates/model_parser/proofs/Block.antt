@@ -7,13 +7,13 @@ use Rattle.model_parser.specs.declared.kind.Kind.TheVariants as kind
 use Rattle.model_parser.specs.declared.context.NodeContext.TheVariants as context
 use Rattle.model_parser.specs.declared.state.State.{State}
 use Rattle.model_parser.specs.declared.state.State.TheVariants as state
-use Rattle.model_parser.specs.Kinds.{kind_of, ends_part, ends_entry, ends_dashed}
+use Rattle.model_parser.specs.Kinds.{kind_of, ends_part, ends_entry, ends_indentless_entry}
 use Rattle.model_parser.specs.Goal as at
 use Rattle.model_parser.specs.Place.{is_node, is_over_document, is_past_directives}
 use Rattle.model_parser.specs.Rest.{work_of, works, may_begin, is_in_mapping, IsUnder}
 use Rattle.model_parser.specs.Turn.{Takes, Leaves, Refuses, alike, without_node}
-use Rattle.model_parser.proofs.Rows.{by_row, takes_so, refuses, not_refused, Leads, leaves_so, refuses_so}
-use Rattle.model_parser.proofs.Settling.{under_goes, under_other, under_past, under_any, mapping_no_document, mapping_under, under_reads, entry_comes, part_comes, dashed_comes}
+use Rattle.model_parser.proofs.StepRows.{by_row, takes_so, refuses, not_refused, Leads, leaves_so, refuses_so}
+use Rattle.model_parser.proofs.Settling.{under_goes, under_other, under_past, under_any, mapping_no_document, mapping_under, under_reads, entry_comes, part_comes, indentless_entry_comes}
 
 -- ---- a block sequence
 
@@ -52,43 +52,43 @@ entry_node ss t a b = leaves_so 0 (λ n f. ((f, n), (refl, refl))) (λ f. refl) 
 
 -- ---- a sequence without indentation
 
-pub dashes_dash : (ss : List State) → Takes at.dashes ss Tok.block_entry None at.dashed ss
-dashes_dash ss = takes_so (λ n f. (n, f)) (λ f. (refl, (λ k. refl), by_row _ refl refl)) refl (λ f. refl) (λ f. refl)
+pub indentless_entries_dash : (ss : List State) → Takes at.indentless_entries ss Tok.block_entry None at.indentless_entry ss
+indentless_entries_dash ss = takes_so (λ n f. (n, f)) (λ f. (refl, (λ k. refl), by_row _ refl refl)) refl (λ f. refl) (λ f. refl)
 
-dashes_from : (ss : List State) (u : Tok) → is_in_mapping ss ≡ true → refuses 9 u (works ss) ≡ false → Leads 2 at.dashes ss (Some Raw.indentless_sequence_end) at.done ss u
-dashes_from (state.BlockMappingKey ∷ ss) Tok.block_entry f r = cc
-dashes_from (state.BlockMappingValue ∷ ss) Tok.block_entry f r = cc
-dashes_from ss u f r = cc
+indentless_entries_from : (ss : List State) (u : Tok) → is_in_mapping ss ≡ true → refuses 9 u (works ss) ≡ false → Leads 2 at.indentless_entries ss (Some Raw.indentless_sequence_end) at.done ss u
+indentless_entries_from (state.BlockMappingKey ∷ ss) Tok.block_entry f r = cc
+indentless_entries_from (state.BlockMappingValue ∷ ss) Tok.block_entry f r = cc
+indentless_entries_from ss u f r = cc
 
-dashes_on : (ss : List State) (t : Tok) → is_in_mapping ss ≡ true → kind_of t ≢ kind.BlockEntry → Leads 2 at.dashes ss (Some Raw.indentless_sequence_end) at.done ss t
-dashes_on (state.BlockMappingKey ∷ ss) Tok.block_entry f a = absurd (a refl)
-dashes_on (state.BlockMappingValue ∷ ss) Tok.block_entry f a = absurd (a refl)
-dashes_on ss t f a = cc
+indentless_entries_on : (ss : List State) (t : Tok) → is_in_mapping ss ≡ true → kind_of t ≢ kind.BlockEntry → Leads 2 at.indentless_entries ss (Some Raw.indentless_sequence_end) at.done ss t
+indentless_entries_on (state.BlockMappingKey ∷ ss) Tok.block_entry f a = absurd (a refl)
+indentless_entries_on (state.BlockMappingValue ∷ ss) Tok.block_entry f a = absurd (a refl)
+indentless_entries_on ss t f a = cc
 
-pub dashes_end : (ss : List State) (t : Tok) → kind_of t ≢ kind.BlockEntry → Leaves at.dashes ss (Some t) (Some Raw.indentless_sequence_end) at.done ss
-dashes_end ss t a = leaves_so 2 (λ n f. (n, under_goes ss (mapping_under ss f))) (λ f. under_reads ss (mapping_under ss f)) (λ f u r m. dashes_from ss u f (r 9)) (λ f r m. dashes_on ss t f a) refl
+pub indentless_entries_end : (ss : List State) (t : Tok) → kind_of t ≢ kind.BlockEntry → Leaves at.indentless_entries ss (Some t) (Some Raw.indentless_sequence_end) at.done ss
+indentless_entries_end ss t a = leaves_so 2 (λ n f. (n, under_goes ss (mapping_under ss f))) (λ f. under_reads ss (mapping_under ss f)) (λ f u r m. indentless_entries_from ss u f (r 9)) (λ f r m. indentless_entries_on ss t f a) refl
     (λ f. alike (under_other ss (mapping_under ss f)) refl) (λ f h. absurd (both_ways (is_past_directives at.done ss) (under_past ss (mapping_under ss f)) h))
 
-dashed_from : (ss : List State) (u : Tok) → is_in_mapping ss ≡ true → refuses 9 u (work_of at.dashes ss) ≡ false → Leads 3 at.dashed ss (Some nothing_written) at.done (state.IndentlessSequenceEntry ∷ ss) u
-dashed_from (state.BlockMappingKey ∷ ss) Tok.block_entry f r = cc
-dashed_from (state.BlockMappingValue ∷ ss) Tok.block_entry f r = cc
-dashed_from ss u f r = cc
+indentless_entry_from : (ss : List State) (u : Tok) → is_in_mapping ss ≡ true → refuses 9 u (work_of at.indentless_entries ss) ≡ false → Leads 3 at.indentless_entry ss (Some nothing_written) at.done (state.IndentlessSequenceEntry ∷ ss) u
+indentless_entry_from (state.BlockMappingKey ∷ ss) Tok.block_entry f r = cc
+indentless_entry_from (state.BlockMappingValue ∷ ss) Tok.block_entry f r = cc
+indentless_entry_from ss u f r = cc
 
-dashed_on : (ss : List State) (t : Tok) → ends_dashed (kind_of t) ≡ true → Leads 3 at.dashed ss (Some nothing_written) at.done (state.IndentlessSequenceEntry ∷ ss) t
-dashed_on ss Tok.block_entry a = refl
-dashed_on ss t a = cc
+indentless_entry_on : (ss : List State) (t : Tok) → ends_indentless_entry (kind_of t) ≡ true → Leads 3 at.indentless_entry ss (Some nothing_written) at.done (state.IndentlessSequenceEntry ∷ ss) t
+indentless_entry_on ss Tok.block_entry a = refl
+indentless_entry_on ss t a = cc
 
-pub dashed_empty : (ss : List State) (t : Tok) → ends_dashed (kind_of t) ≡ true → Leaves at.dashed ss (Some t) (Some nothing_written) at.done (state.IndentlessSequenceEntry ∷ ss)
-dashed_empty ss t a = leaves_so 3 (λ n f. ((f, n), tt)) (λ f. refl) (λ f u r m. dashed_from ss u f (r 9)) (λ f r m. dashed_on ss t a) refl (λ f. without_node refl (dashed_comes ss t f a)) (λ f h. inl h)
+pub indentless_entry_empty : (ss : List State) (t : Tok) → ends_indentless_entry (kind_of t) ≡ true → Leaves at.indentless_entry ss (Some t) (Some nothing_written) at.done (state.IndentlessSequenceEntry ∷ ss)
+indentless_entry_empty ss t a = leaves_so 3 (λ n f. ((f, n), tt)) (λ f. refl) (λ f u r m. indentless_entry_from ss u f (r 9)) (λ f r m. indentless_entry_on ss t a) refl (λ f. without_node refl (indentless_entry_comes ss t f a)) (λ f h. inl h)
 
-dashed_node_on : (ss : List State) (t : Tok) → is_in_mapping ss ≡ true → kind_of t ≢ kind.BlockEntry → ends_part (kind_of t) ≡ false → refuses 9 t (work_of at.dashed ss) ≡ false
-    → Leads 0 at.dashed ss None (at.node context.Block) (state.IndentlessSequenceEntry ∷ ss) t
-dashed_node_on (state.BlockMappingKey ∷ ss) Tok.block_entry f a b r = absurd (a refl)
-dashed_node_on (state.BlockMappingValue ∷ ss) Tok.block_entry f a b r = absurd (a refl)
-dashed_node_on ss t f a b r = cc
+indentless_entry_node_on : (ss : List State) (t : Tok) → is_in_mapping ss ≡ true → kind_of t ≢ kind.BlockEntry → ends_part (kind_of t) ≡ false → refuses 9 t (work_of at.indentless_entry ss) ≡ false
+    → Leads 0 at.indentless_entry ss None (at.node context.Block) (state.IndentlessSequenceEntry ∷ ss) t
+indentless_entry_node_on (state.BlockMappingKey ∷ ss) Tok.block_entry f a b r = absurd (a refl)
+indentless_entry_node_on (state.BlockMappingValue ∷ ss) Tok.block_entry f a b r = absurd (a refl)
+indentless_entry_node_on ss t f a b r = cc
 
-pub dashed_node : (ss : List State) (t : Tok) → kind_of t ≢ kind.BlockEntry → ends_part (kind_of t) ≡ false → Leaves at.dashed ss (Some t) None (at.node context.Block) (state.IndentlessSequenceEntry ∷ ss)
-dashed_node ss t a b = leaves_so 0 (λ n f. ((f, n), (f, refl))) (λ f. refl) (λ f u r m. cc m) (λ f r m. dashed_node_on ss t f a b (r 9)) refl (λ f. alike refl refl) (λ f h. inl h)
+pub indentless_entry_node : (ss : List State) (t : Tok) → kind_of t ≢ kind.BlockEntry → ends_part (kind_of t) ≡ false → Leaves at.indentless_entry ss (Some t) None (at.node context.Block) (state.IndentlessSequenceEntry ∷ ss)
+indentless_entry_node ss t a b = leaves_so 0 (λ n f. ((f, n), (f, refl))) (λ f. refl) (λ f u r m. cc m) (λ f r m. indentless_entry_node_on ss t f a b (r 9)) refl (λ f. alike refl refl) (λ f h. inl h)
 
 -- ---- a block mapping
 

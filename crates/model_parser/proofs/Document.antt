@@ -1,18 +1,24 @@
 -- The turns between documents.
-use Rattle.std.proofs.Common.{inl, inr, ◌≡◌, ◌≢◌, List, [], ◌∷◌, ◌++◌, Some, None, true, false, refl, ap, ◌∙◌}
-use Rattle.defs_token.specs.Token.{Tok}
+use Rattle.std.proofs.Common.{inl, inr, ◌≡◌, ◌≢◌, List, [], ◌∷◌, ◌++◌, Option, Some, None, true, false, refl, ap, ◌∙◌}
+use Rattle.defs_text.specs.Position.{Position}
+use Rattle.defs_token.specs.Token.{Tok, Token}
 use Rattle.defs_event.specs.Raw.{Raw, Directive, nothing_written}
 use Rattle.defs_event.specs.Properties.{directive_token}
+use Rattle.defs_event.specs.Table as part
+use Rattle.defs_event.specs.Table.{row_of}
+use Rattle.defs_event.specs.Grammar as table
+use Rattle.defs_event.specs.Stream as places
+use Rattle.defs_event.specs.Stream.{Extent, Places}
 use Rattle.model_parser.specs.declared.kind.Kind.TheVariants as kind
 use Rattle.model_parser.specs.declared.context.NodeContext.TheVariants as context
 use Rattle.model_parser.specs.declared.state.State.{State}
 use Rattle.model_parser.specs.declared.state.State.TheVariants as state
 use Rattle.model_parser.specs.Kinds.{kind_of, begins_node, ends_document, ends_content, is_directive}
 use Rattle.model_parser.specs.Goal as at
-use Rattle.model_parser.specs.Rest.{work_of, Awaits}
+use Rattle.model_parser.specs.Rest.{work_of, works, placed, Awaits, AwaitsAt}
 use Rattle.model_parser.specs.Stands.{IsNext}
-use Rattle.model_parser.specs.Turn.{Then, Takes, Leaves, Refuses, alike, alike_after, without_node}
-use Rattle.model_parser.proofs.Rows.{by_row, takes_so, Stays, by_steps, alike_reads, after_steps, refuses, not_refused, needs_tokens, Leads, leaves_so, refuses_so}
+use Rattle.model_parser.specs.Turn.{Then, IsThere, Takes, Leaves, Refuses, alike, alike_after, without_node}
+use Rattle.model_parser.proofs.StepRows.{by_row, takes_so, Stays, by_steps, alike_reads, after_steps, refuses, not_refused, reads_first, placed_alike, needs_tokens, Leads, leaves_so, refuses_so}
 use Rattle.model_parser.proofs.Settling.{no_directive, content_settles, explicit_comes, directive_comes}
 
 pub start_takes : (ss : List State) → Takes at.start ss Tok.stream_start (Some Raw.stream_start) at.done (state.ImplicitDocumentStart ∷ ss)
@@ -62,16 +68,35 @@ both_read ss Tok.document_start r =
     after_steps (by_steps 1 Tok.document_start (work_of at.documents ss)) (alike_reads {w = work_of at.explicit ss} {x = work_of at.content ss} {e = Some (Raw.document_start [])} (by_row _ refl refl) (by_row _ refl refl))
 both_read ss u r = cc
 
+both_place : (ss : List State) (x : Extent) (b : Option Position) (k : Token) (u : Tok) → k.tok ≡ u → refuses 9 u (work_of (at.directed []) ss) ≡ false → (ts : List Token) (es : List (Raw × Position))
+    → Places x b (placed (work_of (at.directed []) ss)) (k ∷ ts) es → Places x b (placed (work_of at.documents ss)) (k ∷ ts) es
+both_place ss x b k (Tok.version_directive m n) e r ts es d =
+    placed_alike table.directives table.documents table.nothing_held (placed (works ss)) x b k ts es (part.hold table.directives ∷ [])
+    (ap (λ u. row_of (table.cases table.directives) u) e) (ap (λ u. row_of (table.cases table.documents) u) e) d
+both_place ss x b k (Tok.tag_directive y z) e r ts es d =
+    placed_alike table.directives table.documents table.nothing_held (placed (works ss)) x b k ts es (part.hold table.directives ∷ [])
+    (ap (λ u. row_of (table.cases table.directives) u) e) (ap (λ u. row_of (table.cases table.documents) u) e) d
+both_place ss x b k Tok.document_start e r ts es d =
+    places.by_leaving (part.read table.explicit_document ∷ []) (ap (λ u. row_of (table.cases table.documents) u) e)
+    (placed_alike table.directives table.explicit_document table.nothing_held (placed (works ss)) x b k ts es (part.show ∷ part.read (table.node table.in_block) ∷ part.read table.document_end ∷ [])
+    (ap (λ u. row_of (table.cases table.directives) u) e) (ap (λ u. row_of (table.cases table.explicit_document) u) e) d)
+both_place ss x b k u e r ts es d = cc
+
 pub documents_directives : (ss : List State) (t : Tok) → is_directive (kind_of t) ≡ true → begins_node context.Block (kind_of t) ≡ false → Leaves at.documents ss (Some t) None (at.directed []) ss
 documents_directives ss t e b = record {
   nested = λ n f. (n, f);
   comes = λ n f ts es a. come ts es a;
   goes = λ n f ts es k a. go ts es k a;
+  places = λ n f x c m ts there p es a. place x c ts there es a;
   opened = refl;
   settles = λ f. without_node refl (directive_comes ss t e);
   past = λ f h. inl h;
 }
   where
+    place : (x : Extent) (c : Option Position) (ts : List Token) → IsThere (Some t) ts → (es : List (Raw × Position)) → AwaitsAt x c (at.directed []) ss ts es → AwaitsAt x c at.documents ss ts es
+    place x c [] there es a = absurd there
+    place x c (k ∷ ts) there es a = (both_place ss x c k k.tok refl (reads_first 9 x c k (work_of (at.directed []) ss) ts es a.0) ts es a.0, refl)
+
     come : (ts : List Tok) (es : List Raw) → Awaits (at.directed []) ss ts es → Awaits at.documents ss ts es
     come [] es a = absurd (needs_tokens (work_of (at.directed []) ss) es refl a.0)
     come (u ∷ us) es a = ((both_read ss u (not_refused 9 u (work_of (at.directed []) ss) us es a.0)).0 us es a.0, refl)

@@ -3,12 +3,12 @@ use Rattle.std.proofs.Common.{◌≡◌, List, [], ◌∷◌, ◌++◌, Option, 
 use Rattle.defs_token.specs.Token.{Tok}
 use Rattle.defs_event.specs.Raw.{Raw}
 use Rattle.defs_event.specs.Table.{reading, saying, Derives, nothing_left, says}
-use Rattle.defs_grammar.specs.Machine.{Turned, goes, refused, step}
+use Rattle.model_parser.specs.Machine.{Turned, goes, refused, step}
 use Rattle.defs_event.specs.Grammar as table
 use Rattle.defs_event.specs.Grammar.{Held, grammar}
-use Rattle.proof_grammar.proofs.Completions.{along}
-use Rattle.proof_grammar.proofs.Falls.{shortest, shortest_events, ends}
-use Rattle.proof_grammar.proofs.Steps.{Sound, step_sound}
+use Rattle.model_parser.proofs.Completions.{along}
+use Rattle.model_parser.proofs.Falls.{shortest, shortest_events, ends}
+use Rattle.model_parser.proofs.Steps.{Sound, step_sound}
 use Rattle.model_parser.specs.declared.state.State.{State}
 use Rattle.model_parser.specs.Kinds.{kind_of}
 use Rattle.model_parser.specs.Goal.{Goal}

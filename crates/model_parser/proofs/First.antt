@@ -5,7 +5,7 @@ use Rattle.model_parser.specs.declared.kind.Kind.{Kind}
 use Rattle.model_parser.specs.declared.kind.Kind.TheVariants as kind
 use Rattle.model_parser.specs.declared.context.NodeContext.{NodeContext}
 use Rattle.model_parser.specs.declared.context.NodeContext.TheVariants as context
-use Rattle.model_parser.specs.Kinds.{kind_of, begins_node, ends_part, ends_document, ends_content, ends_entry, ends_dashed, or_value, ends_item, ends_item_key, ends_flow_pair, ends_flow_key, tok_of_kind, HasNoText}
+use Rattle.model_parser.specs.Kinds.{kind_of, begins_node, ends_part, ends_document, ends_content, ends_entry, ends_indentless_entry, or_value, ends_item, ends_item_key, ends_flow_pair, ends_flow_key, tok_of_kind, HasNoText}
 
 -- a token without texts is known by its kind
 plain_tok : (t : Tok) → HasNoText (kind_of t) → tok_of_kind (kind_of t) ≡ t
@@ -48,9 +48,9 @@ pub entry_no_node : (k : Kind) → ends_entry k ≡ true → begins_node context
 entry_no_node kind.BlockEntry h = refl
 entry_no_node k h = cc
 
-pub dashed_no_node : (k : Kind) → ends_dashed k ≡ true → begins_node context.Block k ≡ false
-dashed_no_node kind.BlockEntry h = refl
-dashed_no_node k h = cc
+pub indentless_entry_no_node : (k : Kind) → ends_indentless_entry k ≡ true → begins_node context.Block k ≡ false
+indentless_entry_no_node kind.BlockEntry h = refl
+indentless_entry_no_node k h = cc
 
 -- ---- a kind that is none of several
 

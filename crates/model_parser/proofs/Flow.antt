@@ -8,10 +8,11 @@ use Rattle.model_parser.specs.declared.context.NodeContext.TheVariants as contex
 use Rattle.model_parser.specs.declared.state.State.{State}
 use Rattle.model_parser.specs.declared.state.State.TheVariants as state
 use Rattle.model_parser.specs.Kinds.{kind_of, ends_item, ends_item_key, ends_flow_pair, ends_flow_key}
+use Rattle.defs_event.specs.Grammar as table
 use Rattle.model_parser.specs.Goal as at
 use Rattle.model_parser.specs.Rest.{work_of, may_begin}
 use Rattle.model_parser.specs.Turn.{Takes, Leaves, Refuses, alike, without_node}
-use Rattle.model_parser.proofs.Rows.{by_row, takes_so, refuses, Leads, leaves_so, says_so, refuses_so}
+use Rattle.model_parser.proofs.StepRows.{by_row, takes_so, refuses, Leads, leaves_so, says_so, refuses_so}
 use Rattle.model_parser.proofs.Settling.{under_goes, under_other, under_past, under_any, pair_key_comes, pair_valued_comes, flow_key_comes, flow_valued_comes}
 
 -- ---- a flow sequence
@@ -120,12 +121,12 @@ pair_ends ss p = says_so (λ n f. ((f, n), tt)) refl (λ k. refl) (λ k. refl) r
 pub flow_pairs_end : (ss : List State) → Takes at.flow_pairs ss Tok.flow_mapping_end (Some Raw.flow_mapping_end) at.done ss
 flow_pairs_end ss = takes_so (λ n f. (n, under_goes ss f)) (λ f. (refl, under_any ss f, by_row _ refl refl)) refl (under_other ss) (under_past ss)
 
-no_mapping_end : (ss : List State) (t : Tok) → kind_of t ≢ kind.FlowMappingEnd → may_begin at.flow_pair ss (kind_of t) ≡ true
-no_mapping_end ss Tok.flow_mapping_end a = absurd (a refl)
-no_mapping_end ss t a = refl
+no_mapping_end : (s : table.Start) (ss : List State) (t : Tok) → kind_of t ≢ kind.FlowMappingEnd → may_begin (at.flow_pair s) ss (kind_of t) ≡ true
+no_mapping_end s ss Tok.flow_mapping_end a = absurd (a refl)
+no_mapping_end s ss t a = refl
 
-pub flow_pairs_pair : (ss : List State) (t : Tok) → kind_of t ≢ kind.FlowMappingEnd → Leaves at.flow_pairs ss (Some t) None at.flow_pair ss
-flow_pairs_pair ss t a = leaves_so 0 (λ n f. (n, f)) (λ f. refl) (λ f u r m. cc m) (λ f r m. cc (no_mapping_end ss t a)) refl (λ f. alike refl refl) (λ f h. inl h)
+pub flow_pairs_pair : (ss : List State) (t : Tok) → kind_of t ≢ kind.FlowMappingEnd → Leaves at.flow_pairs ss (Some t) None (at.flow_pair table.after_brace) ss
+flow_pairs_pair ss t a = leaves_so 0 (λ n f. (n, f)) (λ f. refl) (λ f u r m. cc m) (λ f r m. cc (no_mapping_end table.after_brace ss t a)) refl (λ f. alike refl refl) (λ f h. inl h)
 
 pub more_flow_end : (ss : List State) → Takes at.more_flow_pairs ss Tok.flow_mapping_end (Some Raw.flow_mapping_end) at.done ss
 more_flow_end ss = takes_so (λ n f. (n, under_goes ss f)) (λ f. (refl, under_any ss f, by_row _ refl refl)) refl (under_other ss) (under_past ss)
@@ -141,30 +142,30 @@ more_flow_refuses ss t a b = refuses_so at.more_flow_pairs ss t 9 (λ f. by t a 
     by Tok.flow_entry a b = absurd (b refl)
     by t a b = refl
 
-pub comma_flow_end : (ss : List State) → Takes at.comma_flow_pairs ss Tok.flow_mapping_end (Some Raw.flow_mapping_end) at.done ss
+pub comma_flow_end : (ss : List State) → Takes at.comma_flow_pairs ss Tok.flow_mapping_end (Some Raw.flow_mapping_end_at_comma) at.done ss
 comma_flow_end ss = takes_so (λ n f. (n, under_goes ss f)) (λ f. (refl, under_any ss f, by_row _ refl refl)) refl (under_other ss) (under_past ss)
 
-pub comma_flow_has_pair : (ss : List State) (t : Tok) → kind_of t ≢ kind.FlowMappingEnd → Leaves at.comma_flow_pairs ss (Some t) None at.flow_pair ss
-comma_flow_has_pair ss t a = leaves_so 0 (λ n f. (n, f)) (λ f. refl) (λ f u r m. cc m) (λ f r m. cc (no_mapping_end ss t a)) refl (λ f. alike refl refl) (λ f h. inl h)
+pub comma_flow_has_pair : (ss : List State) (t : Tok) → kind_of t ≢ kind.FlowMappingEnd → Leaves at.comma_flow_pairs ss (Some t) None (at.flow_pair table.after_comma) ss
+comma_flow_has_pair ss t a = leaves_so 0 (λ n f. (n, f)) (λ f. refl) (λ f u r m. cc m) (λ f r m. cc (no_mapping_end table.after_comma ss t a)) refl (λ f. alike refl refl) (λ f h. inl h)
 
-pub flow_pair_key : (ss : List State) → Takes at.flow_pair ss Tok.key None at.flow_key ss
-flow_pair_key ss = takes_so (λ n f. (n, f)) (λ f. (refl, (λ k. refl), by_row _ refl refl)) refl (λ f. refl) (λ f. refl)
+pub flow_pair_key : (s : table.Start) (ss : List State) → Takes (at.flow_pair s) ss Tok.key None at.flow_key ss
+flow_pair_key s ss = takes_so (λ n f. (n, f)) (λ f. (refl, (λ k. refl), by_row _ refl refl)) refl (λ f. refl) (λ f. refl)
 
-pub flow_pair_value : (ss : List State) (colon : chars.Position) → Takes at.flow_pair ss Tok.value (Some nothing_written) at.done (state.FlowMappingPart colon ∷ ss)
-flow_pair_value ss colon = takes_so (λ n f. ((f, n), tt)) (λ f. (refl, (λ k. refl), by_row _ refl refl)) refl (λ f. refl) (λ f. refl)
+pub flow_pair_value : (s : table.Start) (ss : List State) (colon : chars.Position) → Takes (at.flow_pair s) ss Tok.value (Some nothing_written) at.done (state.FlowMappingPart colon ∷ ss)
+flow_pair_value s ss colon = takes_so (λ n f. ((f, n), tt)) (λ f. (refl, (λ k. refl), by_row _ refl refl)) refl (λ f. refl) (λ f. refl)
 
-pair_from : (ss : List State) (u : Tok) → may_begin (at.node context.Flow) (state.FlowMappingEmptyValue ∷ ss) (kind_of u) ≡ true → Leads 1 at.flow_pair ss None (at.node context.Flow) (state.FlowMappingEmptyValue ∷ ss) u
-pair_from ss Tok.flow_sequence_start m = refl
-pair_from ss u m = cc
+pair_from : (s : table.Start) (ss : List State) (u : Tok) → may_begin (at.node context.Flow) (state.FlowMappingEmptyValue ∷ ss) (kind_of u) ≡ true → Leads 1 (at.flow_pair s) ss None (at.node context.Flow) (state.FlowMappingEmptyValue ∷ ss) u
+pair_from s ss Tok.flow_sequence_start m = refl
+pair_from s ss u m = cc
 
-pair_on : (ss : List State) (t : Tok) → kind_of t ≢ kind.Key → kind_of t ≢ kind.Value → may_begin at.flow_pair ss (kind_of t) ≡ true → refuses 9 t (work_of at.flow_pair ss) ≡ false
-    → Leads 1 at.flow_pair ss None (at.node context.Flow) (state.FlowMappingEmptyValue ∷ ss) t
-pair_on ss Tok.key a b m r = absurd (a refl)
-pair_on ss Tok.value a b m r = absurd (b refl)
-pair_on ss t a b m r = cc
+pair_on : (s : table.Start) (ss : List State) (t : Tok) → kind_of t ≢ kind.Key → kind_of t ≢ kind.Value → may_begin (at.flow_pair s) ss (kind_of t) ≡ true → refuses 9 t (work_of (at.flow_pair s) ss) ≡ false
+    → Leads 1 (at.flow_pair s) ss None (at.node context.Flow) (state.FlowMappingEmptyValue ∷ ss) t
+pair_on s ss Tok.key a b m r = absurd (a refl)
+pair_on s ss Tok.value a b m r = absurd (b refl)
+pair_on s ss t a b m r = cc
 
-pub flow_pair_node : (ss : List State) (t : Tok) → kind_of t ≢ kind.Key → kind_of t ≢ kind.Value → Leaves at.flow_pair ss (Some t) None (at.node context.Flow) (state.FlowMappingEmptyValue ∷ ss)
-flow_pair_node ss t a b = leaves_so 1 (λ n f. ((f, n), (refl, refl))) (λ f. refl) (λ f u r m. pair_from ss u m) (λ f r m. pair_on ss t a b m (r 9)) refl (λ f. alike refl refl) (λ f h. inl h)
+pub flow_pair_node : (s : table.Start) (ss : List State) (t : Tok) → kind_of t ≢ kind.Key → kind_of t ≢ kind.Value → Leaves (at.flow_pair s) ss (Some t) None (at.node context.Flow) (state.FlowMappingEmptyValue ∷ ss)
+flow_pair_node s ss t a b = leaves_so 1 (λ n f. ((f, n), (refl, refl))) (λ f. refl) (λ f u r m. pair_from s ss u m) (λ f r m. pair_on s ss t a b m (r 9)) refl (λ f. alike refl refl) (λ f h. inl h)
 
 flow_key_empty_from : (ss : List State) (u : Tok) → refuses 9 u (work_of at.done (state.FlowMappingValue ∷ ss)) ≡ false → Leads 3 at.flow_key ss (Some nothing_written) at.done (state.FlowMappingValue ∷ ss) u
 flow_key_empty_from ss Tok.value r = refl
@@ -184,8 +185,8 @@ flow_key_node_on ss t a r = cc
 pub flow_key_node : (ss : List State) (t : Tok) → ends_flow_key (kind_of t) ≡ false → Leaves at.flow_key ss (Some t) None (at.node context.Flow) (state.FlowMappingValue ∷ ss)
 flow_key_node ss t a = leaves_so 0 (λ n f. ((f, n), (refl, refl))) (λ f. refl) (λ f u r m. cc m) (λ f r m. flow_key_node_on ss t a (r 9)) refl (λ f. alike refl refl) (λ f h. inl h)
 
-pub flow_after_value : (ss : List State) → Takes at.flow_after_key ss Tok.value None at.flow_valued ss
-flow_after_value ss = takes_so (λ n f. (n, f)) (λ f. (refl, (λ k. refl), by_row _ refl refl)) refl (λ f. refl) (λ f. refl)
+pub flow_after_value : (ss : List State) (m : chars.Position) → Takes at.flow_after_key ss Tok.value None (at.flow_valued m) ss
+flow_after_value ss m = takes_so (λ n f. (n, f)) (λ f. (refl, (λ k. refl), by_row _ refl refl)) refl (λ f. refl) (λ f. refl)
 
 flow_after_empty_from : (ss : List State) (u : Tok) → refuses 9 u (work_of at.done (state.FlowMappingKey ∷ ss)) ≡ false → Leads 2 at.flow_after_key ss (Some nothing_written) at.done (state.FlowMappingKey ∷ ss) u
 flow_after_empty_from ss Tok.flow_entry r = refl
@@ -198,23 +199,27 @@ flow_after_empty_on ss t a = refl
 pub flow_after_empty : (ss : List State) (t : Tok) → kind_of t ≢ kind.Value → Leaves at.flow_after_key ss (Some t) (Some nothing_written) at.done (state.FlowMappingKey ∷ ss)
 flow_after_empty ss t a = leaves_so 2 (λ n f. ((f, n), tt)) (λ f. refl) (λ f u r m. flow_after_empty_from ss u (r 9)) (λ f r m. flow_after_empty_on ss t a) refl (λ f. alike refl refl) (λ f h. inl h)
 
-flow_valued_empty_from : (ss : List State) (u : Tok) → refuses 9 u (work_of at.done (state.FlowMappingKey ∷ ss)) ≡ false → Leads 3 at.flow_valued ss (Some nothing_written) at.done (state.FlowMappingKey ∷ ss) u
-flow_valued_empty_from ss Tok.flow_entry r = refl
-flow_valued_empty_from ss u r = cc
+flow_valued_empty_from : (m : chars.Position) (ss : List State) (u : Tok) → refuses 9 u (work_of at.done (state.FlowMappingKey ∷ ss)) ≡ false → Leads 2 (at.flow_valued m) ss (Some Raw.unwritten_value) at.done (state.FlowMappingKey ∷ ss) u
+flow_valued_empty_from m ss Tok.flow_entry r = refl
+flow_valued_empty_from m ss u r = cc
 
-flow_valued_empty_on : (ss : List State) (t : Tok) → ends_flow_pair (kind_of t) ≡ true → Leads 3 at.flow_valued ss (Some nothing_written) at.done (state.FlowMappingKey ∷ ss) t
-flow_valued_empty_on ss Tok.flow_entry a = refl
-flow_valued_empty_on ss t a = cc
+flow_valued_empty_on : (m : chars.Position) (ss : List State) (t : Tok) → ends_flow_pair (kind_of t) ≡ true → Leads 2 (at.flow_valued m) ss (Some Raw.unwritten_value) at.done (state.FlowMappingKey ∷ ss) t
+flow_valued_empty_on m ss Tok.flow_entry a = refl
+flow_valued_empty_on m ss t a = cc
 
-pub flow_valued_empty : (ss : List State) (t : Tok) → ends_flow_pair (kind_of t) ≡ true → Leaves at.flow_valued ss (Some t) (Some nothing_written) at.done (state.FlowMappingKey ∷ ss)
-flow_valued_empty ss t a = leaves_so 3 (λ n f. ((f, n), tt)) (λ f. refl) (λ f u r m. flow_valued_empty_from ss u (r 9)) (λ f r m. flow_valued_empty_on ss t a) refl (λ f. without_node refl (flow_valued_comes ss t a)) (λ f h. inl h)
+pub flow_valued_empty : (m : chars.Position) (ss : List State) (t : Tok) → ends_flow_pair (kind_of t) ≡ true → Leaves (at.flow_valued m) ss (Some t) (Some Raw.unwritten_value) at.done (state.FlowMappingKey ∷ ss)
+flow_valued_empty c ss t a = leaves_so 2 (λ n f. ((f, n), tt)) (λ f. refl) (λ f u r m. flow_valued_empty_from c ss u (r 9)) (λ f r m. flow_valued_empty_on c ss t a) refl (λ f. without_node refl (flow_valued_comes c ss t a)) (λ f h. inl h)
 
-flow_valued_node_on : (ss : List State) (t : Tok) → ends_flow_pair (kind_of t) ≡ false → refuses 9 t (work_of at.flow_valued ss) ≡ false → Leads 0 at.flow_valued ss None (at.node context.Flow) (state.FlowMappingKey ∷ ss) t
-flow_valued_node_on ss Tok.flow_entry a r = cc
-flow_valued_node_on ss t a r = cc
+flow_valued_node_from : (m : chars.Position) (ss : List State) (u : Tok) → may_begin (at.node context.Flow) (state.FlowMappingKey ∷ ss) (kind_of u) ≡ true → Leads 1 (at.flow_valued m) ss None (at.node context.Flow) (state.FlowMappingKey ∷ ss) u
+flow_valued_node_from m ss Tok.flow_sequence_start b = refl
+flow_valued_node_from m ss u b = cc
 
-pub flow_valued_node : (ss : List State) (t : Tok) → ends_flow_pair (kind_of t) ≡ false → Leaves at.flow_valued ss (Some t) None (at.node context.Flow) (state.FlowMappingKey ∷ ss)
-flow_valued_node ss t a = leaves_so 0 (λ n f. ((f, n), (refl, refl))) (λ f. refl) (λ f u r m. cc m) (λ f r m. flow_valued_node_on ss t a (r 9)) refl (λ f. alike refl refl) (λ f h. inl h)
+flow_valued_node_on : (m : chars.Position) (ss : List State) (t : Tok) → ends_flow_pair (kind_of t) ≡ false → refuses 9 t (work_of (at.flow_valued m) ss) ≡ false → Leads 1 (at.flow_valued m) ss None (at.node context.Flow) (state.FlowMappingKey ∷ ss) t
+flow_valued_node_on m ss Tok.flow_sequence_start a r = refl
+flow_valued_node_on m ss t a r = cc
 
-pub flow_empties : (ss : List State) (p : Option Tok) → Leaves at.flow_empty ss p (Some nothing_written) at.done (state.FlowMappingKey ∷ ss)
-flow_empties ss p = says_so (λ n f. ((f, n), tt)) refl (λ k. refl) (λ k. refl) refl (λ f. alike refl refl) (λ f h. inl h)
+pub flow_valued_node : (m : chars.Position) (ss : List State) (t : Tok) → ends_flow_pair (kind_of t) ≡ false → Leaves (at.flow_valued m) ss (Some t) None (at.node context.Flow) (state.FlowMappingKey ∷ ss)
+flow_valued_node c ss t a = leaves_so 1 (λ n f. ((f, n), (refl, refl))) (λ f. refl) (λ f u r m. flow_valued_node_from c ss u m) (λ f r m. flow_valued_node_on c ss t a (r 9)) refl (λ f. alike refl refl) (λ f h. inl h)
+
+pub flow_empties : (ss : List State) (t : Tok) → Leaves at.flow_empty ss (Some t) (Some nothing_written) at.done (state.FlowMappingKey ∷ ss)
+flow_empties ss t = leaves_so 2 (λ n f. ((f, n), tt)) (λ f. refl) (λ f u r m. refl) (λ f r m. refl) refl (λ f. alike refl refl) (λ f h. inl h)

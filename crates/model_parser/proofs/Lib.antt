@@ -1,13 +1,26 @@
-pub mod First
-pub mod Rows
-pub mod Settling
-pub mod Orderly
+mod PositionRows
+mod RefusedRows
+mod TrackRows
 pub mod Apart
-pub mod Around
-pub mod Carry
-pub mod Document
 pub mod Block
-pub mod Flow
-pub mod Nodes
-pub mod Standing
+pub mod CameBy
+pub mod Carry
+pub mod Completions
+pub mod Document
 pub mod Endings
+pub mod Falls
+pub mod First
+pub mod Flow
+pub mod Mended
+pub mod Nodes
+pub mod OnePlacing
+pub mod Orderly
+pub mod Places
+pub mod Quiet
+pub mod Runs
+pub mod Settling
+pub mod Standing
+pub mod StepRows
+pub mod Steps
+pub mod Streams
+pub mod Track

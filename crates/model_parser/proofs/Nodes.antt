@@ -19,7 +19,7 @@ use Rattle.model_parser.specs.Goal as at
 use Rattle.model_parser.specs.Place.{is_past_directives}
 use Rattle.model_parser.specs.Rest.{Works, place_of, context_at, past, works, work_of, goal_and, with_properties, may_begin_content, may_begin, is_in_mapping, is_under, narrows}
 use Rattle.model_parser.specs.Turn.{Takes, Leaves, Refuses, alike}
-use Rattle.model_parser.proofs.Rows.{Reads, by_row, takes_so, refuses, Leads, leaves_so}
+use Rattle.model_parser.proofs.StepRows.{Reads, by_row, takes_so, refuses, Leads, leaves_so}
 use Rattle.model_parser.proofs.Settling.{under_goes, under_other, under_past, under_any, under_reads, past_alike, next_alike}
 
 -- after a node, what goes on with these
@@ -207,7 +207,7 @@ pub after_brackets : (ss : List State) (o : Option Properties) → Takes (at.aft
 after_brackets ss o = takes_so (λ n f. ((f.0, n), tt)) (λ f. (own_begins context.Flow o _ kind.FlowSequenceStart refl, (λ k. refl), by_row _ refl (shows_and ss (with_properties o) Tok.flow_sequence_start table.flow_sequence_entries))) refl (λ f. refl) (λ f. refl)
 
 pub after_braces : (ss : List State) (o : Option Properties) → Takes (at.after_properties context.Flow o) ss Tok.flow_mapping_start (Some (Raw.flow_mapping_start (perhaps_anchor_of o) (perhaps_tag_of o))) at.done (state.FlowMappingFirstKey ∷ ss)
-after_braces ss o = takes_so (λ n f. ((f.0, n), tt)) (λ f. (own_begins context.Flow o _ kind.FlowMappingStart refl, (λ k. refl), by_row _ refl (shows_and ss (with_properties o) Tok.flow_mapping_start table.flow_mapping_entries))) refl (λ f. refl) (λ f. refl)
+after_braces ss o = takes_so (λ n f. ((f.0, n), tt)) (λ f. (own_begins context.Flow o _ kind.FlowMappingStart refl, (λ k. refl), by_row _ refl (shows_and ss (with_properties o) Tok.flow_mapping_start (table.flow_mapping_entries table.after_brace)))) refl (λ f. refl) (λ f. refl)
 
 only_from : (ss : List State) (o : Properties) (u : Tok) → is_under ss ≡ true → refuses 9 u (works ss) ≡ false → Leads 2 (at.after_properties context.Flow (Some o)) ss (Some (Raw.empty_scalar (anchor_of o) (tag_of o))) at.done ss u
 only_from (state.DocumentEnd ∷ ss) o Tok.document_end f r = refl

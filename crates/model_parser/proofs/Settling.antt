@@ -1,24 +1,25 @@
 -- What is read next, and what may come there.
 use Rattle.std.proofs.Common.{◌≡◌, List, [], ◌∷◌, Option, Some, None, true, false, ◌&&◌, refl}
 use Rattle.std.proofs.lemmas.Bool.{and_parts}
+use Rattle.defs_text.specs.Position.{Position}
 use Rattle.defs_token.specs.Token.{Tok}
 use Rattle.defs_event.specs.Raw.{Directive}
 use Rattle.defs_event.specs.Properties.{Properties, directive_token}
-use Rattle.defs_grammar.specs.Machine.{step}
+use Rattle.model_parser.specs.Machine.{step}
 use Rattle.defs_event.specs.Grammar.{grammar}
 use Rattle.model_parser.specs.declared.kind.Kind.{Kind}
 use Rattle.model_parser.specs.declared.kind.Kind.TheVariants as kind
 use Rattle.model_parser.specs.declared.context.NodeContext.{NodeContext}
 use Rattle.model_parser.specs.declared.state.State.{State}
 use Rattle.model_parser.specs.declared.state.State.TheVariants as state
-use Rattle.model_parser.specs.Kinds.{kind_of, ends_entry, ends_dashed, ends_part, ends_item, ends_item_key, ends_flow_pair, ends_flow_key, ends_document, ends_content, is_directive}
+use Rattle.model_parser.specs.Kinds.{kind_of, ends_entry, ends_indentless_entry, ends_part, ends_item, ends_item_key, ends_flow_pair, ends_flow_key, ends_document, ends_content, is_directive}
 use Rattle.model_parser.specs.Goal as at
 use Rattle.model_parser.specs.Goal.{Goal}
 use Rattle.defs_event.specs.Place.{Collection, open_past, directive_next, other_next, next_past}
 use Rattle.model_parser.specs.Place.{next_in, next_at, is_over_document, is_past_directives}
 use Rattle.model_parser.specs.Rest.{work_of, works, may_begin, is_in_mapping, is_under, IsGoing}
 use Rattle.model_parser.specs.Turn.{MayCome, Settles, without_node, before_directive}
-use Rattle.model_parser.proofs.Rows.{has_goal, is_going, may_come}
+use Rattle.model_parser.proofs.StepRows.{has_goal, is_going, may_come}
 
 -- ---- under a node
 
@@ -85,10 +86,10 @@ part_goes (state.BlockMappingKey ∷ ss) Tok.block_end f h = refl
 part_goes (state.BlockMappingValue ∷ ss) Tok.block_end f h = refl
 part_goes ss t f h = cc
 
-dashed_goes : (ss : List State) (t : Tok) → is_in_mapping ss ≡ true → ends_dashed (kind_of t) ≡ true → GoesFrom at.dashed ss t
-dashed_goes (state.BlockMappingKey ∷ ss) Tok.block_end f h = refl
-dashed_goes (state.BlockMappingValue ∷ ss) Tok.block_end f h = refl
-dashed_goes ss t f h = cc
+indentless_entry_goes : (ss : List State) (t : Tok) → is_in_mapping ss ≡ true → ends_indentless_entry (kind_of t) ≡ true → GoesFrom at.indentless_entry ss t
+indentless_entry_goes (state.BlockMappingKey ∷ ss) Tok.block_end f h = refl
+indentless_entry_goes (state.BlockMappingValue ∷ ss) Tok.block_end f h = refl
+indentless_entry_goes ss t f h = cc
 
 pair_key_goes : (ss : List State) (t : Tok) → ends_item_key (kind_of t) ≡ true → GoesFrom at.pair_key ss t
 pair_key_goes ss Tok.value h = refl
@@ -102,9 +103,9 @@ flow_key_goes : (ss : List State) (t : Tok) → ends_flow_key (kind_of t) ≡ tr
 flow_key_goes ss Tok.value h = refl
 flow_key_goes ss t h = cc
 
-flow_valued_goes : (ss : List State) (t : Tok) → ends_flow_pair (kind_of t) ≡ true → GoesFrom at.flow_valued ss t
-flow_valued_goes ss Tok.flow_entry h = refl
-flow_valued_goes ss t h = cc
+flow_valued_goes : (m : Position) (ss : List State) (t : Tok) → ends_flow_pair (kind_of t) ≡ true → GoesFrom (at.flow_valued m) ss t
+flow_valued_goes m ss Tok.flow_entry h = refl
+flow_valued_goes m ss t h = cc
 
 content_goes : (ss : List State) (t : Tok) → ends_document (kind_of t) ≡ true → GoesFrom at.content ss t
 content_goes ss Tok.stream_end h = refl
@@ -124,8 +125,8 @@ entry_comes ss t h = comes_so at.entry ss t (entry_goes ss t h)
 pub part_comes : (ss : List State) (t : Tok) → is_in_mapping ss ≡ true → ends_part (kind_of t) ≡ true → MayCome at.part ss (Some t)
 part_comes ss t f h = comes_so at.part ss t (part_goes ss t f h)
 
-pub dashed_comes : (ss : List State) (t : Tok) → is_in_mapping ss ≡ true → ends_dashed (kind_of t) ≡ true → MayCome at.dashed ss (Some t)
-dashed_comes ss t f h = comes_so at.dashed ss t (dashed_goes ss t f h)
+pub indentless_entry_comes : (ss : List State) (t : Tok) → is_in_mapping ss ≡ true → ends_indentless_entry (kind_of t) ≡ true → MayCome at.indentless_entry ss (Some t)
+indentless_entry_comes ss t f h = comes_so at.indentless_entry ss t (indentless_entry_goes ss t f h)
 
 pub pair_key_comes : (ss : List State) (t : Tok) → ends_item_key (kind_of t) ≡ true → MayCome at.pair_key ss (Some t)
 pair_key_comes ss t h = comes_so at.pair_key ss t (pair_key_goes ss t h)
@@ -136,8 +137,8 @@ pair_valued_comes ss t h = comes_so at.pair_valued ss t (pair_valued_goes ss t h
 pub flow_key_comes : (ss : List State) (t : Tok) → ends_flow_key (kind_of t) ≡ true → MayCome at.flow_key ss (Some t)
 flow_key_comes ss t h = comes_so at.flow_key ss t (flow_key_goes ss t h)
 
-pub flow_valued_comes : (ss : List State) (t : Tok) → ends_flow_pair (kind_of t) ≡ true → MayCome at.flow_valued ss (Some t)
-flow_valued_comes ss t h = comes_so at.flow_valued ss t (flow_valued_goes ss t h)
+pub flow_valued_comes : (m : Position) (ss : List State) (t : Tok) → ends_flow_pair (kind_of t) ≡ true → MayCome (at.flow_valued m) ss (Some t)
+flow_valued_comes m ss t h = comes_so (at.flow_valued m) ss t (flow_valued_goes m ss t h)
 
 -- ---- between documents
 

@@ -13,7 +13,7 @@ use Rattle.model_parser.specs.Goal.{Goal}
 use Rattle.model_parser.specs.Place.{next_in, top, is_node, is_after, is_past_in, is_past_directives}
 use Rattle.model_parser.specs.Rest.{goal_of, may_begin, first_may}
 use Rattle.model_parser.specs.Stands.{IsOnTrack, IsSettled, as_tokens, goes_on, at_directive}
-use Rattle.model_parser.proofs.Rows.{first_any}
+use Rattle.model_parser.proofs.StepRows.{first_any}
 
 pub begins : (p : Option Tok) → IsOnTrack at.done (state.StreamStart ∷ []) [] p []
 begins p = record {
@@ -44,7 +44,7 @@ looks {g} {ss} {taken} o s = record {
     by (at_directive h d) = cc
 
 -- What a state reads is read next.
-top_of : (s : State) (ss : List State) → top (goal_of s) ss ≡ goal_of s
+pub top_of : (s : State) (ss : List State) → top (goal_of s) ss ≡ goal_of s
 top_of state.StreamStart ss = refl
 top_of s ss = refl
 
@@ -56,7 +56,7 @@ may_of : (s : State) (ss : List State) (k : Kind) → may_begin at.done (s ∷ s
 may_of state.StreamStart ss k = refl
 may_of s ss k = refl
 
-first_of : (s : State) (ss : List State) (ts : List Tok) → first_may at.done (s ∷ ss) ts ≡ first_may (goal_of s) ss ts
+pub first_of : (s : State) (ss : List State) (ts : List Tok) → first_may at.done (s ∷ ss) ts ≡ first_may (goal_of s) ss ts
 first_of s ss [] = refl
 first_of s ss (t ∷ ts) = may_of s ss _
 

@@ -1,8 +1,10 @@
 -- Where a parser stands in the token grammar.
 use Rattle.std.specs.Prelude.{ℕ, List, Option}
+use Rattle.defs_text.specs.Position.{Position}
 use Rattle.defs_event.specs.Event.{Tag}
 use Rattle.defs_event.specs.Raw.{Directive}
 use Rattle.defs_event.specs.Properties.{Properties}
+use Rattle.defs_event.specs.Grammar.{Start}
 use Rattle.model_parser.specs.declared.context.NodeContext.{NodeContext}
 
 -- What the parser reads now.
@@ -27,8 +29,8 @@ pub data Goal : Type 0 where
   entries : Goal
   -- after `-`
   entry : Goal
-  dashes : Goal
-  dashed : Goal
+  indentless_entries : Goal
+  indentless_entry : Goal
   part : Goal
   pairs : Goal
   key_pairs : Goal
@@ -46,10 +48,10 @@ pub data Goal : Type 0 where
   flow_pairs : Goal
   more_flow_pairs : Goal
   comma_flow_pairs : Goal
-  flow_pair : Goal
-  -- a key after `?`, what stands after it, and what stands after its `:`
+  flow_pair : Start → Goal
+  -- a key after `?`, what stands after it, and what stands after its `:`, which stands there
   flow_key : Goal
   flow_after_key : Goal
-  flow_valued : Goal
+  flow_valued : Position → Goal
   -- after a key that has no value
   flow_empty : Goal

@@ -94,9 +94,9 @@ abbrev pub ends_flow_key : Kind → Bool
 ends_flow_key = or_value ends_flow_pair
 
 -- what stands after an item of a sequence without indentation
-abbrev pub ends_dashed : Kind → Bool
-ends_dashed kind.BlockEntry = true
-ends_dashed k = ends_part k
+abbrev pub ends_indentless_entry : Kind → Bool
+ends_indentless_entry kind.BlockEntry = true
+ends_indentless_entry k = ends_part k
 
 -- a directive
 abbrev pub is_directive : Kind → Bool

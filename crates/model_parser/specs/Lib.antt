@@ -1,6 +1,11 @@
-pub mod Kinds
-pub mod Place
 pub mod Goal
+pub mod Kinds
+pub mod Laws
+pub mod Machine
+pub mod Outcome
+pub mod Place
+pub mod Reader
 pub mod Rest
 pub mod Stands
+pub mod Track
 pub mod Turn

@@ -27,10 +27,10 @@ open_in at.pair_end cs = flow_sequence ∷ cs
 open_in at.flow_pairs cs = flow_mapping ∷ cs
 open_in at.more_flow_pairs cs = flow_mapping ∷ cs
 open_in at.comma_flow_pairs cs = flow_mapping ∷ cs
-open_in at.flow_pair cs = flow_mapping ∷ cs
+open_in (at.flow_pair s) cs = flow_mapping ∷ cs
 open_in at.flow_key cs = flow_mapping ∷ cs
 open_in at.flow_after_key cs = flow_mapping ∷ cs
-open_in at.flow_valued cs = flow_mapping ∷ cs
+open_in (at.flow_valued m) cs = flow_mapping ∷ cs
 open_in at.flow_empty cs = flow_mapping ∷ cs
 open_in _ cs = cs
 
@@ -49,7 +49,7 @@ next_in at.content = node_next
 next_in (at.node p) = node_next
 next_in (at.after_properties p None) = node_next
 next_in at.entry = node_next
-next_in at.dashed = node_next
+next_in at.indentless_entry = node_next
 next_in at.part = node_next
 next_in at.items = node_next
 next_in at.comma_items = node_next
@@ -58,9 +58,9 @@ next_in at.pair_key = node_next
 next_in at.pair_valued = node_next
 next_in at.flow_pairs = node_next
 next_in at.comma_flow_pairs = node_next
-next_in at.flow_pair = node_next
+next_in (at.flow_pair s) = node_next
 next_in at.flow_key = node_next
-next_in at.flow_valued = node_next
+next_in (at.flow_valued m) = node_next
 next_in _ = other_next
 
 -- what is read next: between two events, what the stack has on top

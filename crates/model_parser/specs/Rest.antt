@@ -1,9 +1,12 @@
 -- What a parser still has to read, as work of the grammar's table; and what may stand under what.
 use Rattle.std.specs.Prelude.{◌≡◌, List, [], ◌∷◌, Option, Some, None, Bool, true, false, not, ◌||◌}
-use Rattle.defs_token.specs.Token.{Tok}
-use Rattle.defs_event.specs.Raw.{Raw, Directive, nothing_written}
+use Rattle.defs_text.specs.Position.{Position}
+use Rattle.defs_token.specs.Token.{Tok, Token}
+use Rattle.defs_token.specs.Toks.{toks}
+use Rattle.defs_event.specs.Raw.{Raw, Directive}
 use Rattle.defs_event.specs.Properties.{Properties, anchored, tagged, perhaps_anchor_of, perhaps_tag_of}
 use Rattle.defs_event.specs.Table.{Work, reading, saying, Derives}
+use Rattle.defs_event.specs.Stream.{PlacedWork, placed_by, Extent, Places}
 use Rattle.defs_event.specs.Grammar as table
 use Rattle.defs_event.specs.Grammar.{Held, nothing_held, Side, Place, in_flow, in_block, in_pair, grammar}
 use Rattle.model_parser.specs.declared.kind.Kind.{Kind}
@@ -24,8 +27,8 @@ goal_of state.DocumentContent = at.content
 goal_of state.DocumentEnd = at.after
 goal_of state.BlockNode = at.node context.Block
 goal_of state.BlockSequenceEntry = at.entries
-goal_of state.IndentlessSequenceEntry = at.dashes
-goal_of state.IndentlessSequenceItem = at.dashed
+goal_of state.IndentlessSequenceEntry = at.indentless_entries
+goal_of state.IndentlessSequenceItem = at.indentless_entry
 goal_of state.BlockMappingKey = at.pairs
 goal_of state.BlockMappingNextKey = at.key_pairs
 goal_of state.BlockMappingValue = at.after_key
@@ -38,7 +41,7 @@ goal_of state.FlowSequenceEntryMappingEnd = at.pair_end
 goal_of state.FlowMappingFirstKey = at.flow_pairs
 goal_of state.FlowMappingKey = at.more_flow_pairs
 goal_of state.FlowMappingValue = at.flow_after_key
-goal_of (state.FlowMappingPart m) = at.flow_valued
+goal_of (state.FlowMappingPart m) = at.flow_valued m
 goal_of state.FlowMappingEmptyValue = at.flow_empty
 
 -- ---- where a node stands, by what goes on after it
@@ -104,8 +107,8 @@ goal_work (at.after_tag p t) ss w = reading (table.after_tag (place_of ss)) (wit
 goal_work (at.after_properties p o) ss w = reading (table.content (place_of ss)) (with_properties o) ∷ past ss w
 goal_work at.entries ss w = goal_and table.block_sequence_entries w
 goal_work at.entry ss w = goal_and (table.node in_block) (goal_and table.block_sequence_entries w)
-goal_work at.dashes ss w = goal_and (table.indentless_sequence_entries (side_of ss)) (past ss w)
-goal_work at.dashed ss w = goal_and (table.node in_block) (goal_and (table.indentless_sequence_entries (side_of ss)) (past ss w))
+goal_work at.indentless_entries ss w = goal_and (table.indentless_sequence_entries (side_of ss)) (past ss w)
+goal_work at.indentless_entry ss w = goal_and (table.node in_block) (goal_and (table.indentless_sequence_entries (side_of ss)) (past ss w))
 goal_work at.part ss w = goal_and (table.node (place_of ss)) (past ss w)
 goal_work at.pairs ss w = goal_and table.block_mapping_entries w
 goal_work at.key_pairs ss w = goal_and table.block_mapping_entries w
@@ -118,14 +121,14 @@ goal_work at.pair_key ss w = goal_and (table.node in_flow) (goal_and table.flow_
 goal_work at.pair_value ss w = goal_and table.flow_value (saying Raw.pair_end ∷ goal_and table.flow_sequence_comma w)
 goal_work at.pair_valued ss w = goal_and (table.node in_flow) (saying Raw.pair_end ∷ goal_and table.flow_sequence_comma w)
 goal_work at.pair_end ss w = saying Raw.pair_end ∷ goal_and table.flow_sequence_comma w
-goal_work at.flow_pairs ss w = goal_and table.flow_mapping_entries w
+goal_work at.flow_pairs ss w = goal_and (table.flow_mapping_entries table.after_brace) w
 goal_work at.more_flow_pairs ss w = goal_and table.flow_mapping_comma w
-goal_work at.comma_flow_pairs ss w = goal_and table.flow_mapping_entries w
-goal_work at.flow_pair ss w = goal_and table.flow_mapping_entries w
-goal_work at.flow_key ss w = goal_and (table.node in_flow) (goal_and table.flow_value (goal_and table.flow_mapping_comma w))
-goal_work at.flow_after_key ss w = goal_and table.flow_value (goal_and table.flow_mapping_comma w)
-goal_work at.flow_valued ss w = goal_and (table.node in_flow) (goal_and table.flow_mapping_comma w)
-goal_work at.flow_empty ss w = saying nothing_written ∷ goal_and table.flow_mapping_comma w
+goal_work at.comma_flow_pairs ss w = goal_and (table.flow_mapping_entries table.after_comma) w
+goal_work (at.flow_pair s) ss w = goal_and (table.flow_mapping_entries s) w
+goal_work at.flow_key ss w = goal_and (table.node in_flow) (goal_and table.flow_mapping_value (goal_and table.flow_mapping_comma w))
+goal_work at.flow_after_key ss w = goal_and table.flow_mapping_value (goal_and table.flow_mapping_comma w)
+goal_work (at.flow_valued m) ss w = goal_and table.flow_mapping_valued (goal_and table.flow_mapping_comma w)
+goal_work at.flow_empty ss w = goal_and table.no_flow_mapping_value w
 
 abbrev pub works : List State → Works
 works [] = []
@@ -147,7 +150,7 @@ may_begin (at.node p) ss k = begins_node p k
 may_begin (at.after_properties p o) ss k = may_begin_content p o (context_at (place_of ss)) k
 may_begin at.key_pairs ss kind.Value = false
 may_begin at.item ss kind.FlowSequenceEnd = false
-may_begin at.flow_pair ss kind.FlowMappingEnd = false
+may_begin (at.flow_pair s) ss kind.FlowMappingEnd = false
 may_begin at.done (state.BlockNode ∷ ss) k = begins_node context.Block k
 may_begin at.done (state.BlockMappingNextKey ∷ ss) kind.Value = false
 may_begin g ss k = true
@@ -159,6 +162,16 @@ first_may g ss (t ∷ ts) = may_begin g ss (kind_of t)
 -- What is awaited reads these tokens, all of them, and says these events.
 abbrev pub Awaits : Goal → List State → List Tok → List Raw → Type 0
 Awaits g ss ts es = Derives grammar (work_of g ss) ts es × (first_may g ss ts ≡ true)
+
+-- ---- and where
+
+-- work of which no position is promised of an event that is due
+abbrev pub placed : Works → PlacedWork
+placed w = placed_by (λ e. None) w
+
+-- What is awaited reads these tokens so far, and says these events at these positions. The token before them stands there.
+abbrev pub AwaitsAt : Extent → (before : Option Position) → Goal → List State → List Token → List (Raw × Position) → Type 0
+AwaitsAt x b g ss ts es = Places x b (placed (work_of g ss)) ts es × (first_may g ss (toks ts) ≡ true)
 
 -- ---- what stands under what
 
@@ -218,8 +231,8 @@ IsFor (at.node p) ss = IsUnder p ss
 IsFor (at.after_anchor p a) ss = IsUnder p ss
 IsFor (at.after_tag p t) ss = IsUnder p ss
 IsFor (at.after_properties p o) ss = (is_under ss ≡ true) × (narrows p (context_at (place_of ss)) ≡ true)
-IsFor at.dashes ss = is_in_mapping ss ≡ true
-IsFor at.dashed ss = is_in_mapping ss ≡ true
+IsFor at.indentless_entries ss = is_in_mapping ss ≡ true
+IsFor at.indentless_entry ss = is_in_mapping ss ≡ true
 IsFor at.part ss = is_in_mapping ss ≡ true
 IsFor _ ss = is_under ss ≡ true
 

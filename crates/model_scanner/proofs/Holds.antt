@@ -1,7 +1,7 @@
 -- What holds of what a step leaves, unless it refuses: rules for the forms that the model's functions are made of.
 use Rattle.std.proofs.Common.{◌≡◌, Bool, true, false, if◌then◌else◌, Result, Ok, Err, refl, ap, subst}
 use Rattle.yaml_tokens.specs.declared.problem.Fault.{Fault}
-use Rattle.model_lexers.specs.Machine.{Read}
+use Rattle.model_scanner.specs.Machine.{Read}
 use Rattle.model_scanner.specs.State.{Held, ScannerState, ◌>>=◌, with_held, go_on, lexed}
 
 -- P holds of what is left, unless it is a fault

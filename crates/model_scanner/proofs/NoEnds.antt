@@ -4,11 +4,11 @@ use Rattle.defs_text.specs.Position.{Position}
 use Rattle.yaml_chars.specs.Class.{is_blank_or_breakz}
 use Rattle.defs_token.specs.Token.{Tok}
 use Rattle.yaml_tokens.specs.declared.problem.Fault.{Fault}
-use Rattle.model_lexers.specs.Machine.{Read, and_then, past}
-use Rattle.model_lexers.specs.Space.{blanks}
-use Rattle.model_lexers.specs.Tag.{handle, prefix}
-use Rattle.model_lexers.specs.Directive.{Kind, version, unknown, name, number, with_minor, after_major, version_value, with_prefix, prefix_after, tag_value, value, line_end, with_end, after_value, after_name, directive}
-use Rattle.model_lexers.specs.Directive as kind
+use Rattle.model_scanner.specs.Machine.{Read, and_then, past}
+use Rattle.model_scanner.specs.Blanks.{blanks}
+use Rattle.model_scanner.specs.Tag.{handle, prefix}
+use Rattle.model_scanner.specs.Directive.{Kind, version, unknown, name, number, with_minor, after_major, version_value, with_prefix, prefix_after, tag_value, value, line_end, with_end, after_value, after_name, directive}
+use Rattle.model_scanner.specs.Directive as kind
 use Rattle.model_scanner.specs.Document.{anchor_token}
 use Rattle.model_scanner.proofs.Holds.{Holds, went, refused, choice}
 

@@ -1,14 +1,14 @@
 -- What computes the scanner's model on a text that is written out: one word for a proof's `unfolding`.
 use Rattle.std.specs.Prelude.{⊤}
 use Rattle.yaml_chars.specs.Class.{is_break, is_blank, is_flow, is_alpha, is_alphanumeric, is_anchor, is_digit, is_hex, is_uri, is_uri_mark, is_tag}
-use Rattle.model_lexers.specs.Machine.{is_marker, at_marker}
-use Rattle.model_lexers.specs.Space.{space}
-use Rattle.model_lexers.specs.Plain.{plain, can_be_plain, goes_on, is_shallow, at_dash, at_plain, starts}
-use Rattle.model_lexers.specs.Quoted.{quoted, escape_of, is_scalar, refused}
-use Rattle.model_lexers.specs.Anchor.{anchor_name}
-use Rattle.model_lexers.specs.Block.{chomping, increment, indicators, header_break, header_end, header, content, between, begins, tail, empty_text, block}
-use Rattle.model_lexers.specs.Directive.{kind, name, number, version_value, tag_value, directive_break, line_end, directive}
-use Rattle.model_lexers.specs.Tag.{verbatim, named, shorthand, ends_tag, tag, handle, prefix}
+use Rattle.model_scanner.specs.Machine.{is_marker, at_marker}
+use Rattle.model_scanner.specs.Blanks.{space}
+use Rattle.model_scanner.specs.Plain.{plain, can_be_plain, goes_on, is_shallow, at_dash, at_plain, starts}
+use Rattle.model_scanner.specs.Quoted.{quoted, escape_of, is_scalar, refused}
+use Rattle.model_scanner.specs.Anchor.{anchor_name}
+use Rattle.model_scanner.specs.BlockScalar.{chomping, increment, indicators, header_break, header_end, header, content, between, begins, tail, empty_text, block}
+use Rattle.model_scanner.specs.Directive.{kind, name, number, version_value, tag_value, directive_break, line_end, directive}
+use Rattle.model_scanner.specs.Tag.{verbatim, named, shorthand, ends_tag, tag, handle, prefix}
 use Rattle.model_scanner.specs.Class.{class_of}
 use Rattle.model_scanner.specs.Keys.{is_far, drop_stale, stale, must_be_key, save_implicit_key, remove_implicit_key}
 use Rattle.model_scanner.specs.Indents.{drop_open_level, deepen, roll_indent, in_block, roll_one_col_indent, unrolled, unroll_indent, without_open, unroll_non_block_indents}

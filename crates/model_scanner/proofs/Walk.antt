@@ -6,8 +6,8 @@ use Rattle.defs_token.specs.Token.{Tok, Token}
 use Rattle.yaml_tokens.specs.declared.problem.Fault.{Fault}
 use Rattle.yaml_tokens.specs.declared.problem.Fault.TheVariants.{At}
 use Rattle.yaml_tokens.specs.declared.problem.Problem.TheVariants as problem
-use Rattle.model_lexers.specs.Machine.{Read, is_cr_lf}
-use Rattle.model_lexers.specs.Space.{space}
+use Rattle.model_scanner.specs.Machine.{Read, is_cr_lf}
+use Rattle.model_scanner.specs.Blanks.{space}
 use Rattle.model_scanner.specs.declared.level.Indent.{Indent}
 use Rattle.model_scanner.specs.declared.level.FlowLevel.{FlowLevel}
 use Rattle.model_scanner.specs.declared.level.FlowLevel.TheVariants.{Mapping, Entry, Keyed, Pair}
@@ -15,17 +15,17 @@ use Rattle.model_scanner.specs.State.{Key, Held, ScannerState, peek, in_flow, to
 use Rattle.model_scanner.specs.Keys.{is_far, still, drop_stale, with_keys, stale, cleared, top_key, save_implicit_key, remove_implicit_key}
 use Rattle.yaml_chars.specs.Class.{is_break, is_flow}
 use Rattle.defs_text.specs.Text.{is_empty}
-use Rattle.model_lexers.specs.declared.context.SkipTabs.{SkipTabs}
-use Rattle.model_lexers.specs.declared.context.SkipTabs.TheVariants.{Yes, No}
-use Rattle.model_lexers.specs.declared.context.Whitespace.{Whitespace}
+use Rattle.model_scanner.specs.declared.context.SkipTabs.{SkipTabs}
+use Rattle.model_scanner.specs.declared.context.SkipTabs.TheVariants.{Yes, No}
+use Rattle.model_scanner.specs.declared.context.Whitespace.{Whitespace}
 use Rattle.model_scanner.specs.Space.{Gap, between, comment, tab_line, at_break, in_line, skip, skip_to_next_token, skip_spaces, white_end, white, skip_yaml_whitespace}
 use Rattle.model_scanner.specs.Flow.{increase_flow_level, allow_key, deepened_flow, begin_flow, pass_indicator, end_pair, end_flow_pair, decrease_flow_level, adjacent_in_flow, ended_flow, end_flow, next_entry, end_entry, fetch_flow_collection_start, fetch_flow_collection_end, fetch_flow_entry}
-use Rattle.model_lexers.specs.Anchor.{anchor_name}
-use Rattle.model_lexers.specs.Block.{block}
-use Rattle.model_lexers.specs.Directive.{directive}
-use Rattle.model_lexers.specs.Plain.{plain}
-use Rattle.model_lexers.specs.Quoted.{quoted}
-use Rattle.model_lexers.specs.Tag.{tag}
+use Rattle.model_scanner.specs.Anchor.{anchor_name}
+use Rattle.model_scanner.specs.BlockScalar.{block}
+use Rattle.model_scanner.specs.Directive.{directive}
+use Rattle.model_scanner.specs.Plain.{plain}
+use Rattle.model_scanner.specs.Quoted.{quoted}
+use Rattle.model_scanner.specs.Tag.{tag}
 use Rattle.model_scanner.specs.declared.class.Class.{Class}
 use Rattle.model_scanner.specs.declared.class.Class.TheVariants as class
 use Rattle.model_scanner.specs.Class.{class_of}

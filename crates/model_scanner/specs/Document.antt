@@ -6,15 +6,15 @@ use Rattle.defs_token.specs.Token.{Style, Tok}
 use Rattle.yaml_tokens.specs.declared.problem.Fault.{Fault}
 use Rattle.yaml_tokens.specs.declared.problem.Fault.TheVariants.{At}
 use Rattle.yaml_tokens.specs.declared.problem.Problem.TheVariants as problem
-use Rattle.model_lexers.specs.declared.context.Context.{Context}
-use Rattle.model_lexers.specs.declared.context.SkipTabs.TheVariants.{Yes}
-use Rattle.model_lexers.specs.Machine.{Read}
-use Rattle.model_lexers.specs.Plain.{Plain, plain}
-use Rattle.model_lexers.specs.Quoted.{quoted}
-use Rattle.model_lexers.specs.Anchor.{anchor_name}
-use Rattle.model_lexers.specs.Block.{Block, block}
-use Rattle.model_lexers.specs.Directive.{directive}
-use Rattle.model_lexers.specs.Tag.{Tag, tag}
+use Rattle.model_scanner.specs.declared.context.Context.{Context}
+use Rattle.model_scanner.specs.declared.context.SkipTabs.TheVariants.{Yes}
+use Rattle.model_scanner.specs.Machine.{Read}
+use Rattle.model_scanner.specs.Plain.{Plain, plain}
+use Rattle.model_scanner.specs.Quoted.{quoted}
+use Rattle.model_scanner.specs.Anchor.{anchor_name}
+use Rattle.model_scanner.specs.BlockScalar.{Block, block}
+use Rattle.model_scanner.specs.Directive.{directive}
+use Rattle.model_scanner.specs.Tag.{Tag, tag}
 use Rattle.model_scanner.specs.State.{Held, ScannerState, ◌>>=◌, peek, in_flow, push, on_held, try_held, lexed, skip_indicator}
 use Rattle.model_scanner.specs.Keys.{cleared, has_required, save_implicit_key, remove_implicit_key}
 use Rattle.model_scanner.specs.Indents.{unroll_indent, unroll_non_block_indents}

@@ -5,7 +5,7 @@ use Rattle.defs_token.specs.Token.{Tok}
 use Rattle.yaml_tokens.specs.declared.problem.Fault.{Fault}
 use Rattle.yaml_tokens.specs.declared.problem.Fault.TheVariants.{At}
 use Rattle.yaml_tokens.specs.declared.problem.Problem.TheVariants as problem
-use Rattle.model_lexers.specs.declared.context.SkipTabs.TheVariants.{Yes}
+use Rattle.model_scanner.specs.declared.context.SkipTabs.TheVariants.{Yes}
 use Rattle.model_scanner.specs.declared.level.FlowLevel.{FlowLevel}
 use Rattle.model_scanner.specs.declared.level.FlowLevel.TheVariants.{Mapping, Entry, Keyed, Pair}
 use Rattle.model_scanner.specs.State.{Held, ScannerState, ◌>>=◌, in_flow, push, pop, on_held, try_held, skip_indicator}

@@ -1,11 +1,22 @@
+mod Rows
+pub mod Anchor
+pub mod Blanks
 pub mod Block
+pub mod BlockScalar
 pub mod Class
+pub mod Directive
 pub mod Document
 pub mod Fetch
 pub mod Flow
+pub mod Folding
 pub mod Indents
 pub mod Keys
+pub mod Machine
+pub mod Plain
+pub mod Quoted
 pub mod Run
 pub mod Space
 pub mod State
+pub mod Tag
 pub mod TextTokens
+pub mod Uri

@@ -6,9 +6,9 @@ use Rattle.defs_text.specs.Text.{is_empty}
 use Rattle.yaml_tokens.specs.declared.problem.Fault.{Fault}
 use Rattle.yaml_tokens.specs.declared.problem.Fault.TheVariants.{At}
 use Rattle.yaml_tokens.specs.declared.problem.Problem.TheVariants as problem
-use Rattle.model_lexers.specs.declared.context.SkipTabs.{SkipTabs}
-use Rattle.model_lexers.specs.Machine.{past_break, is_cr_lf}
-use Rattle.model_lexers.specs.Space.{space}
+use Rattle.model_scanner.specs.declared.context.SkipTabs.{SkipTabs}
+use Rattle.model_scanner.specs.Machine.{past_break, is_cr_lf}
+use Rattle.model_scanner.specs.Blanks.{space}
 use Rattle.model_scanner.specs.State.{Held, ScannerState, in_flow, moved, lexed}
 
 -- what is stepped over: what stands between tokens, a comment, or a line that begins with a TAB in the indentation of a block collection

@@ -7,7 +7,7 @@ use Rattle.defs_token.specs.Token.{Tok, Token}
 use Rattle.yaml_tokens.specs.declared.problem.Fault.{Fault}
 use Rattle.model_scanner.specs.declared.level.Indent.{Indent}
 use Rattle.model_scanner.specs.declared.level.FlowLevel.{FlowLevel}
-use Rattle.model_lexers.specs.Machine.{Read, past, past_break}
+use Rattle.model_scanner.specs.Machine.{Read, past, past_break}
 
 -- a token that may turn out to be a key: whether it must be one, how many tokens stand before it, and its position
 pub record Key : Type 0 where

@@ -1,9 +1,11 @@
-//! The exact model of the scanner: functions on its state and on the characters that come. And the small types that
-//! the model shares with the code.
+//! The exact model of the scanner and of its lexing functions: functions on its state and on lists of characters. And the small types that the
+//! model shares with the code.
 #![tactic(auto)]
 
 pub mod class;
+pub mod context;
 pub mod level;
 
 pub use class::{Class, class_of};
+pub use context::{Context, SkipTabs, Whitespace};
 pub use level::{FlowLevel, Indent};

@@ -10,8 +10,8 @@ use Rattle.defs_token.specs.Token.{Tok}
 use Rattle.defs_layout.specs.Anchored.{is_name}
 use Rattle.defs_layout.specs.Gap.{GapLine, IsGap}
 use Rattle.defs_layout.specs.Layout.{Comment, no_comment, comment, IsComment}
-use Rattle.model_lexers.specs.Machine.{past, past_break, take_while, ends_while}
-use Rattle.model_lexers.specs.Anchor.{anchor_name}
+use Rattle.model_scanner.specs.Machine.{past, past_break, take_while, ends_while}
+use Rattle.model_scanner.specs.Anchor.{anchor_name}
 use Rattle.model_scanner.specs.declared.level.Indent.{Indent}
 use Rattle.model_scanner.specs.State.{Key, ScannerState, token}
 use Rattle.model_scanner.specs.Class.{class_of}

@@ -7,15 +7,15 @@ use Rattle.defs_text.specs.Position.{Position, position_after}
 use Rattle.yaml_tokens.specs.declared.problem.Fault.{Fault}
 use Rattle.defs_text.specs.Classes as classes
 use Rattle.defs_text.specs.Classes.{is_at_end, is_document_marker, tab}
-use Rattle.defs_scalar.specs.FlowScalar.{begins_with}
-use Rattle.defs_scalar.specs.BlockScalar.{BlockStyle, literal, folded, Row, body, further_text, unbroken, header_of, sign_of, digit_of, row_of, rows_of, column_by, least_column, starts_with_tab, has_content, value_before_text, value_before_end, block_value, is_outside, is_further_text}
+use Rattle.defs_text.specs.FlowScalar.{begins_with}
+use Rattle.defs_text.specs.BlockScalar.{BlockStyle, literal, folded, Row, body, further_text, unbroken, header_of, sign_of, digit_of, row_of, rows_of, column_by, least_column, starts_with_tab, has_content, value_before_text, value_before_end, block_value, is_outside, is_further_text}
 use Rattle.defs_token.specs.BlockPiece as cut
 use Rattle.defs_token.specs.BlockPiece.{read_body, past_spaces, block_position}
 use Rattle.defs_layout.specs.Gap.{GapLine, empty_line, comment_line, spaces, IsGap, AreEmptyLines, IsLineText, is_line_character}
 use Rattle.defs_layout.specs.BlockLines.{Line, full, blank, spell_line, spell_lines, AreLines}
 use Rattle.defs_layout.specs.Layout.{indented_lines, BeginsWithText, EndsInText, AreLineTexts}
-use Rattle.model_lexers.specs.Machine.{Read, past, past_break}
-use Rattle.model_lexers.specs.Block.{Block, block}
+use Rattle.model_scanner.specs.Machine.{Read, past, past_break}
+use Rattle.model_scanner.specs.BlockScalar.{Block, block}
 use Rattle.proof_lexers.proofs.Bridges.{and_false}
 use Rattle.proof_lexers.specs.HeaderEnds.{indicator_of, is_in_line, along}
 use Rattle.proof_lexers.specs.BlockScan.{is_literal_style, IsRead, read, shallow, tabbed, is_tabbed, is_shallow, read_block, without_spaces, further_position}

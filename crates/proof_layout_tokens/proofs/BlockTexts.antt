@@ -3,7 +3,7 @@ use Rattle.std.proofs.Common.{◌≡◌, ◌≢◌, ℕ, zero, suc, ◌+◌, ◌
 use Rattle.std.proofs.lemmas.Bool.{ne_eqb}
 use Rattle.std.proofs.lemmas.Bool.Decides.{nat_tests}
 use Rattle.defs_text.specs.Classes.{is_document_marker}
-use Rattle.defs_scalar.specs.BlockScalar.{BlockStyle, Chomping, Header, Row, empty_row, content_row, row_of, rows_of, is_empty_line, is_content_line, is_spaces, leading_spaces, deepest_start, has_content, text_of, text_after, with_content, value_before_text, value_before_end}
+use Rattle.defs_text.specs.BlockScalar.{BlockStyle, Chomping, Header, Row, empty_row, content_row, row_of, rows_of, is_empty_line, is_content_line, is_spaces, leading_spaces, deepest_start, has_content, text_of, text_after, with_content, value_before_text, value_before_end}
 use Rattle.defs_layout.specs.Gap.{spaces}
 use Rattle.defs_layout.specs.BlockLines.{Line, full, blank, spell_line, spell_lines, AreLines}
 use Rattle.defs_layout.specs.Layout.{indented_lines, BeginsWithText, EndsInText}

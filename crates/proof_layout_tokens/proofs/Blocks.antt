@@ -3,10 +3,10 @@ use Rattle.std.proofs.Common.{◌≡◌, ℕ, suc, ◌+◌, ◌<◌, ◌≤◌, 
 use Rattle.defs_text.specs.Position.{Position}
 use Rattle.defs_token.specs.Token.{Tok, Style}
 use Rattle.defs_tree.specs.Literal.{is_literal_text as may_be_literal, is_root_literal}
-use Rattle.defs_scalar.specs.BlockScalar.{BlockStyle, literal, folded}
+use Rattle.defs_text.specs.BlockScalar.{BlockStyle, literal, folded}
 use Rattle.defs_layout.specs.BlockLines.{Line, spell_lines}
 use Rattle.defs_layout.specs.Layout.{folded_header, AreFoldedLines, spell_literal, AreLinesOf}
-use Rattle.model_lexers.specs.Block.{block}
+use Rattle.model_scanner.specs.BlockScalar.{block}
 use Rattle.model_scanner.specs.declared.level.Indent.{Indent}
 use Rattle.model_scanner.specs.State.{Key, ScannerState, token}
 use Rattle.model_scanner.specs.Class.{class_of}

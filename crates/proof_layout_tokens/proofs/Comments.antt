@@ -6,10 +6,10 @@ use Rattle.defs_text.specs.Position.{Position}
 use Rattle.yaml_chars.specs.Class.{is_break}
 use Rattle.defs_layout.specs.Gap.{spaces, IsLineText, is_line_character}
 use Rattle.defs_layout.specs.Layout.{Comment, no_comment, comment, spell_comment, IsComment}
-use Rattle.model_lexers.specs.declared.context.SkipTabs.TheVariants.{Yes}
-use Rattle.model_lexers.specs.declared.context.Whitespace.{Whitespace}
-use Rattle.model_lexers.specs.Machine.{past}
-use Rattle.model_lexers.specs.Space as scalar_space
+use Rattle.model_scanner.specs.declared.context.SkipTabs.TheVariants.{Yes}
+use Rattle.model_scanner.specs.declared.context.Whitespace.{Whitespace}
+use Rattle.model_scanner.specs.Machine.{past}
+use Rattle.model_scanner.specs.Blanks as scalar_space
 use Rattle.proof_layout_tokens.proofs.Whites.{White, space, remark, spell_white, beyond, allowed_beyond, EndsLine, AreWhite, in_line, blanks}
 use Rattle.proof_lexers.specs.HeaderEnds.{along}
 use Rattle.proof_lexers.proofs.Along.{along_line}

@@ -5,7 +5,7 @@ use Rattle.defs_text.specs.Position.{Position}
 use Rattle.yaml_chars.specs.Class.{is_break, is_blank}
 use Rattle.defs_token.specs.Token.{Tok, Token}
 use Rattle.defs_layout.specs.Gap.{GapLine}
-use Rattle.model_lexers.specs.Machine.{past}
+use Rattle.model_scanner.specs.Machine.{past}
 use Rattle.model_scanner.specs.declared.level.Indent.{Indent}
 use Rattle.model_scanner.specs.State.{ScannerState, token, try_held}
 use Rattle.model_scanner.specs.Keys.{stale, drop_stale, still, is_required, remove_implicit_key}

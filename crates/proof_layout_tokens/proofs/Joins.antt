@@ -4,7 +4,7 @@ use Rattle.std.proofs.lemmas.Bool.{ne_eqb, lt-ltb, le-ltb}
 use Rattle.defs_text.specs.Position.{Position}
 use Rattle.defs_token.specs.Token.{Tok}
 use Rattle.defs_layout.specs.Gap.{GapLine, empty_line, comment_line}
-use Rattle.model_lexers.specs.Machine.{past, past_break}
+use Rattle.model_scanner.specs.Machine.{past, past_break}
 use Rattle.model_scanner.specs.declared.level.Indent.{Indent}
 use Rattle.model_scanner.specs.State.{Key, ScannerState, ◌>>=◌, try_held}
 use Rattle.model_scanner.specs.Keys.{stale, is_far, is_required, save_implicit_key, must_be_key}

@@ -9,15 +9,15 @@ use Rattle.defs_token.specs.Token.{Tok, Style, Token}
 use Rattle.defs_layout.specs.Gap.{GapLine, IsGap}
 use Rattle.defs_layout.specs.Layout.{Comment, no_comment, comment, IsComment}
 use Rattle.proof_layout_tokens.proofs.Comments.{spaced, comment_white, comment_position, comment_are_white, beyond_comment, allowed_comment}
-use Rattle.model_lexers.specs.declared.context.SkipTabs.TheVariants.{Yes}
-use Rattle.model_lexers.specs.Machine.{past, past_break}
-use Rattle.model_lexers.specs.Plain.{plain}
+use Rattle.model_scanner.specs.declared.context.SkipTabs.TheVariants.{Yes}
+use Rattle.model_scanner.specs.Machine.{past, past_break}
+use Rattle.model_scanner.specs.Plain.{plain}
 use Rattle.model_scanner.specs.declared.level.Indent.{Indent}
 use Rattle.model_scanner.specs.State.{Key, Held, ScannerState, token}
 use Rattle.model_scanner.specs.Keys.{is_far, save_implicit_key, must_be_key}
 use Rattle.model_scanner.specs.Indents.{level, unroll_non_block_indents, without_open}
 use Rattle.model_scanner.specs.Block.{begin_pair, insert_key, fetch_value}
-use Rattle.model_lexers.specs.Quoted.{quote_of}
+use Rattle.model_scanner.specs.Quoted.{quote_of}
 use Rattle.model_scanner.specs.Document.{quoted_style, may_follow_quoted, check_after_quoted, fetch_flow_scalar, fetch_plain_scalar}
 use Rattle.model_scanner.specs.Run.{Reaches, here, there}
 use Rattle.model_scanner.proofs.Runs.{reaches_then}

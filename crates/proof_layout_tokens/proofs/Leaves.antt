@@ -5,16 +5,16 @@ use Rattle.defs_text.specs.Position.{Position}
 use Rattle.yaml_chars.specs.Class.{is_break, is_blank}
 use Rattle.defs_token.specs.Token.{Tok, Style}
 use Rattle.yaml_tokens.specs.declared.problem.Fault.{Fault}
-use Rattle.model_lexers.specs.declared.context.SkipTabs.TheVariants.{Yes}
-use Rattle.model_lexers.specs.Machine.{past, past_break, is_marker, at_marker}
-use Rattle.model_lexers.specs.Space as scalar_space
+use Rattle.model_scanner.specs.declared.context.SkipTabs.TheVariants.{Yes}
+use Rattle.model_scanner.specs.Machine.{past, past_break, is_marker, at_marker}
+use Rattle.model_scanner.specs.Blanks as scalar_space
 use Rattle.model_scanner.specs.declared.level.Indent.{Indent}
 use Rattle.model_scanner.specs.State.{Key, ScannerState, peek, token}
 use Rattle.model_scanner.specs.Class.{class_of}
 use Rattle.model_scanner.specs.Keys.{still, is_required, is_far, save_implicit_key}
 use Rattle.model_scanner.specs.Indents.{unroll_non_block_indents, without_open}
 use Rattle.model_scanner.specs.Space.{skip_spaces}
-use Rattle.model_lexers.specs.Quoted.{quote_of}
+use Rattle.model_scanner.specs.Quoted.{quote_of}
 use Rattle.model_scanner.specs.Document.{quoted_style, may_follow_quoted, check_after_quoted, fetch_flow_scalar, fetch_plain_scalar}
 use Rattle.model_scanner.specs.Fetch.{fetch_here, token_by, comes_marker}
 use Rattle.proof_layout_tokens.proofs.Layouts.States.{Parts, stands, is_solid, Opens, opened, opened_indent, IsClosed, Trail, next, marker, end, marker_text, trail_text, rest_of, limit_of, IsTrail, Before, After}

@@ -12,7 +12,7 @@ use Rattle.defs_tree.specs.Literal.{is_literal_text, is_root_literal, is_literal
 use Rattle.defs_tree.specs.Literal as literal_defs
 use Rattle.defs_tree.proofs.LinesLaws.{lines_of_ended}
 use Rattle.defs_text.specs.Classes.{are_marks, is_blank, is_break, is_nul, is_blank_or_end, is_document_marker}
-use Rattle.defs_scalar.specs.BlockScalar.{BlockStyle, Row, empty_row, content_row, rows_of, starts_with_tab, has_content, breaks, text_after, text_of, value_before_text}
+use Rattle.defs_text.specs.BlockScalar.{BlockStyle, Row, empty_row, content_row, rows_of, starts_with_tab, has_content, breaks, text_after, text_of, value_before_text}
 use Rattle.defs_layout.specs.Gap.{IsLineText, is_line_character}
 use Rattle.defs_layout.specs.BlockLines.{Line, full, blank, content, contents, AreLines}
 use Rattle.defs_layout.specs.Layout.{indented_lines, BeginsWithText, EndsInText, AreLineTexts, AreLinesOf}

@@ -10,11 +10,11 @@ use Rattle.defs_layout.specs.Gap.{GapLine, IsGap, IsLineText, is_line_character}
 use Rattle.defs_layout.specs.Layout.{Comment, no_comment, comment, IsComment}
 use Rattle.proof_lexers.proofs.Bridges.{and_false}
 use Rattle.proof_layout_tokens.proofs.Comments.{spaced, comment_white, comment_position, at_feed, comment_are_white, beyond_comment, allowed_comment, comment_passes}
-use Rattle.model_lexers.specs.declared.context.SkipTabs.{SkipTabs}
-use Rattle.model_lexers.specs.declared.context.SkipTabs.TheVariants.{Yes, No}
-use Rattle.model_lexers.specs.declared.context.Whitespace.{Whitespace}
-use Rattle.model_lexers.specs.Machine.{past, past_break}
-use Rattle.model_lexers.specs.Space as scalar_space
+use Rattle.model_scanner.specs.declared.context.SkipTabs.{SkipTabs}
+use Rattle.model_scanner.specs.declared.context.SkipTabs.TheVariants.{Yes, No}
+use Rattle.model_scanner.specs.declared.context.Whitespace.{Whitespace}
+use Rattle.model_scanner.specs.Machine.{past, past_break}
+use Rattle.model_scanner.specs.Blanks as scalar_space
 use Rattle.model_scanner.specs.declared.level.Indent.{Indent}
 use Rattle.model_scanner.specs.State.{ScannerState, ◌>>=◌, peek, push, token, on_held, try_held, lexed}
 use Rattle.model_scanner.specs.Class.{class_of}

@@ -9,8 +9,8 @@ use Rattle.yaml_chars.specs.Class.{is_break, is_blank, is_hex}
 use Rattle.defs_tree.specs.Escapes.{hexadecimal_digit, escaped_code, written_character, written_escapes}
 use Rattle.defs_layout.specs.Gap.{IsLineText, is_line_character}
 use Rattle.defs_layout.specs.Layout.{doubled}
-use Rattle.model_lexers.specs.Quoted.{quote_of, quoted, escape_of, is_scalar}
-use Rattle.model_lexers.specs.Quoted
+use Rattle.model_scanner.specs.Quoted.{quote_of, quoted, escape_of, is_scalar}
+use Rattle.model_scanner.specs.Quoted
 use Rattle.proof_lexers.proofs.Bridges.{and_false}
 use Rattle.proof_layout_tokens.proofs.Whites.{in_line}
 use Rattle.proof_lexers.specs.HeaderEnds.{along}

@@ -6,7 +6,7 @@ use Rattle.std.proofs.lemmas.Bool.Decides.{nat_tests}
 use Rattle.defs_text.specs.Position.{Position}
 use Rattle.yaml_chars.specs.Class.{is_break, is_blank}
 use Rattle.defs_layout.specs.Gap.{spaces, GapLine, empty_line, comment_line, spell_gap, next_line, spell_ending, IsGap, IsLineText, is_line_character}
-use Rattle.model_lexers.specs.Machine.{past, past_break}
+use Rattle.model_scanner.specs.Machine.{past, past_break}
 use Rattle.model_scanner.specs.declared.level.Indent.{Indent}
 use Rattle.model_scanner.specs.State.{Held}
 use Rattle.model_scanner.specs.Space.{between, comment, skip, skip_to_next_token}

@@ -12,8 +12,8 @@ use Rattle.defs_layout.specs.InTurn.{AreLaidOutInTurn}
 use Rattle.defs_layout.specs.JsonTokens.{json_text_tokens}
 use Rattle.defs_layout.specs.LayoutTokens.{layout_tokens}
 use Rattle.defs_layout.specs.QuotedText.{HasQuotedTokens}
-use Rattle.model_lexers.specs.declared.context.Context.{Context}
-use Rattle.model_lexers.specs.Quoted.{quote_of, quoted}
+use Rattle.model_scanner.specs.declared.context.Context.{Context}
+use Rattle.model_scanner.specs.Quoted.{quote_of, quoted}
 use Rattle.model_scanner.specs.Run.{HasTokens, IsRefused}
 use Rattle.model_scanner.specs.TextTokens.{HasToks}
 use Rattle.proof_lexers.specs.QuotedScan.{value_of, ends_before, is_some, IsRead}

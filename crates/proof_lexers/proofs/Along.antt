@@ -1,7 +1,7 @@
 -- The position after characters of a line.
 use Rattle.std.proofs.Common.{◌≡◌, ℕ, ◌≤◌, List, [], ◌∷◌, ◌++◌, refl, arith}
 use Rattle.defs_text.specs.Position.{Position}
-use Rattle.model_lexers.specs.Machine.{past}
+use Rattle.model_scanner.specs.Machine.{past}
 use Rattle.proof_lexers.specs.HeaderEnds.{along}
 
 pub along_append : (a b : List ℕ) (p : Position) → along (a ++ b) p ≡ along b (along a p)

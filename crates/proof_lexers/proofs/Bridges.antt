@@ -5,9 +5,9 @@ use Rattle.std.proofs.lemmas.Bool.{eqb-true}
 use Rattle.std.proofs.lemmas.Bool.Decides.{nat_tests}
 use Rattle.yaml_chars.specs.Class.{is_break, is_blank, is_blank_or_breakz, is_flow, is_hex, is_alphanumeric, is_alpha, is_uri_mark, is_uri, is_tag}
 use Rattle.defs_text.specs.Classes as classes
-use Rattle.defs_scalar.specs.FlowScalar.{lookup, escapes, numeric_escapes, is_character_code}
-use Rattle.model_lexers.specs.Machine.{is_marker, at_marker}
-use Rattle.model_lexers.specs.Quoted.{Escape, escape_of, is_scalar}
+use Rattle.defs_text.specs.FlowScalar.{lookup, escapes, numeric_escapes, is_character_code}
+use Rattle.model_scanner.specs.Machine.{is_marker, at_marker}
+use Rattle.model_scanner.specs.Quoted.{Escape, escape_of, is_scalar}
 
 pub same_break : (c : ℕ) → classes.is_break c ≡ is_break c
 unfolding classes.is_break is_break

@@ -2,8 +2,8 @@
 use Rattle.std.proofs.Common.{◌≡◌, ℕ, zero, suc, List, [], ◌∷◌, ◌++◌, Bool, true, false, not, ◌&&◌, if◌then◌else◌, replicate, refl, ap, sym, ◌∙◌, append_assoc, append-nil}
 use Rattle.defs_text.specs.Text.{is_empty}
 use Rattle.defs_text.specs.Classes.{line_feed, space}
-use Rattle.defs_scalar.specs.FlowScalar.{Element, content, blank, line_break, escaped_break, Lines, last_line, line, lines_of, begun_with, without_trailing_blanks, before_break, trimmed, trimmed_after, text_of, folded_break, folded_after, folded}
-use Rattle.model_lexers.specs.Folding.{Folded, with_char, with_escaped_break, joined}
+use Rattle.defs_text.specs.FlowScalar.{Element, content, blank, line_break, escaped_break, Lines, last_line, line, lines_of, begun_with, without_trailing_blanks, before_break, trimmed, trimmed_after, text_of, folded_break, folded_after, folded}
+use Rattle.model_scanner.specs.Folding.{Folded, with_char, with_escaped_break, joined}
 use Rattle.proof_lexers.specs.Buffers.{after_elements}
 use Rattle.proof_lexers.specs.BufferLaws.{BuffersJoinFoldedLines}
 

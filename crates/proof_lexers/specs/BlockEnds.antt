@@ -1,11 +1,11 @@
 -- How the scan of a block scalar ends, told by the text after its `|` or `>`.
 use Rattle.std.specs.Prelude.{◌≡◌, ℕ, List, ◌∷◌, ◌++◌, true, Some, Result, Err}
 use Rattle.defs_text.specs.Position.{Position}
-use Rattle.defs_scalar.specs.BlockScalar.{BlockStyle}
+use Rattle.defs_text.specs.BlockScalar.{BlockStyle}
 use Rattle.defs_token.specs.BlockPiece.{BlockRead, block_read}
 use Rattle.yaml_tokens.specs.declared.problem.Fault.{Fault}
-use Rattle.model_lexers.specs.Machine.{Read}
-use Rattle.model_lexers.specs.Block.{Block}
+use Rattle.model_scanner.specs.Machine.{Read}
+use Rattle.model_scanner.specs.BlockScalar.{Block}
 use Rattle.proof_lexers.specs.HeaderEnds as header_ends
 use Rattle.proof_lexers.specs.HeaderEnds.{indicator_of, is_in_line, ends_line}
 use Rattle.proof_lexers.specs.BlockScan.{IsRead}

@@ -3,10 +3,10 @@ use Rattle.std.specs.Prelude.{◌≡◌, ℕ, List, ◌∷◌, ◌++◌, true, S
 use Rattle.std.specs.List.{list_all}
 use Rattle.defs_text.specs.Position.{Position}
 use Rattle.defs_text.specs.Breaks.{split}
-use Rattle.defs_scalar.specs.BlockScalar.{BlockStyle, unbroken, all_lines, column_by}
+use Rattle.defs_text.specs.BlockScalar.{BlockStyle, unbroken, all_lines, column_by}
 use Rattle.defs_token.specs.BlockPiece.{BlockRead, block_read}
-use Rattle.model_lexers.specs.Machine.{past}
-use Rattle.model_lexers.specs.Block.{header, content, block}
+use Rattle.model_scanner.specs.Machine.{past}
+use Rattle.model_scanner.specs.BlockScalar.{header, content, block}
 use Rattle.proof_lexers.specs.HeaderEnds as header_ends
 use Rattle.proof_lexers.specs.HeaderEnds.{indicator_of, is_in_line, ends_line}
 use Rattle.proof_lexers.specs.BlockEnds as block_ends

@@ -3,14 +3,14 @@ use Rattle.std.specs.Prelude.{◌≡◌, ℕ, zero, suc, List, [], ◌∷◌, Bo
 use Rattle.defs_text.specs.Position.{Position, position_after}
 use Rattle.defs_text.specs.Classes.{space, tab, is_at_end}
 use Rattle.defs_text.specs.Breaks.{split}
-use Rattle.defs_scalar.specs.FlowScalar.{begins_with}
-use Rattle.defs_scalar.specs.BlockScalar.{BlockStyle, literal, folded}
+use Rattle.defs_text.specs.FlowScalar.{begins_with}
+use Rattle.defs_text.specs.BlockScalar.{BlockStyle, literal, folded}
 use Rattle.defs_token.specs.BlockPiece.{BlockRead, first_content, past_spaces, block_position}
 use Rattle.yaml_tokens.specs.declared.problem.Fault.{Fault}
 use Rattle.yaml_tokens.specs.declared.problem.Fault.TheVariants.{At}
 use Rattle.yaml_tokens.specs.declared.problem.Problem.TheVariants as problem
-use Rattle.model_lexers.specs.Machine.{Read}
-use Rattle.model_lexers.specs.Block.{Block}
+use Rattle.model_scanner.specs.Machine.{Read}
+use Rattle.model_scanner.specs.BlockScalar.{Block}
 
 -- a header's digit; the scanner keeps 0 where there is none
 abbrev pub digit_by : (increment : ℕ) → Option ℕ

@@ -1,7 +1,7 @@
 -- Laws of the model's buffers: each is the contract of the function of `src/laws.rt` that its comment names.
 use Rattle.std.specs.Prelude.{◌≡◌, List}
-use Rattle.defs_scalar.specs.FlowScalar.{Element, lines_of, trimmed, folded}
-use Rattle.model_lexers.specs.Folding.{nothing, joined}
+use Rattle.defs_text.specs.FlowScalar.{Element, lines_of, trimmed, folded}
+use Rattle.model_scanner.specs.Folding.{nothing, joined}
 use Rattle.proof_lexers.specs.Buffers.{after_elements}
 
 -- `buffers_join_folded_lines`

@@ -1,7 +1,7 @@
 -- What the scan of a flow scalar does with its body's elements, one by one.
 use Rattle.std.specs.Prelude.{List, [], ◌∷◌}
-use Rattle.defs_scalar.specs.FlowScalar.{Element, content, blank, line_break, escaped_break}
-use Rattle.model_lexers.specs.Folding.{Folded, with_char, with_blank, with_break, with_escaped_break, joined}
+use Rattle.defs_text.specs.FlowScalar.{Element, content, blank, line_break, escaped_break}
+use Rattle.model_scanner.specs.Folding.{Folded, with_char, with_blank, with_break, with_escaped_break, joined}
 
 -- after an element: content and an escaped break take the gap before them into the text
 abbrev pub after_element : Element → Folded → Folded

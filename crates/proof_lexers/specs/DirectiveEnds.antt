@@ -8,10 +8,10 @@ use Rattle.yaml_tokens.specs.declared.problem.Problem.{Problem}
 use Rattle.yaml_tokens.specs.declared.problem.Problem.TheVariants as problem
 use Rattle.defs_text.specs.Classes.{is_blank, is_break, is_decimal_digit, is_alpha, is_uri, is_at_gap}
 use Rattle.defs_text.specs.Breaks.{is_before_line_feed, is_rest_of_line, has_no_break}
-use Rattle.defs_scalar.specs.FlowScalar.{begins_with}
-use Rattle.defs_scalar.specs.Tags.{UriFault, leading, after, begins_with_mark, is_handle, decoded}
-use Rattle.defs_scalar.specs.Directives.{Directive, version, tag_declaration, reserved, number_of, begins_prefix, handle_and_rest, directive_of}
-use Rattle.model_lexers.specs.Machine.{Read}
+use Rattle.defs_text.specs.FlowScalar.{begins_with}
+use Rattle.defs_text.specs.Tags.{UriFault, leading, after, begins_with_mark, is_handle, decoded}
+use Rattle.defs_text.specs.Directives.{Directive, version, tag_declaration, reserved, number_of, begins_prefix, handle_and_rest, directive_of}
+use Rattle.model_scanner.specs.Machine.{Read}
 use Rattle.proof_lexers.specs.NameEnds.{further}
 use Rattle.proof_lexers.specs.UriEnds.{problem_of}
 

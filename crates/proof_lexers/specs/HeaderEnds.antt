@@ -5,17 +5,17 @@ use Rattle.defs_text.specs.Position.{Position}
 use Rattle.defs_text.specs.Text.{is_empty}
 use Rattle.defs_text.specs.Breaks.{is_rest_of_line}
 use Rattle.defs_text.specs.Classes.{tab, is_break, is_between}
-use Rattle.defs_scalar.specs.FlowScalar.{begins_with}
-use Rattle.defs_scalar.specs.BlockScalar as defs
-use Rattle.defs_scalar.specs.BlockScalar.{BlockStyle, literal, folded, strip, clip, keep, sign_of, digit_of, header_of}
+use Rattle.defs_text.specs.FlowScalar.{begins_with}
+use Rattle.defs_text.specs.BlockScalar as defs
+use Rattle.defs_text.specs.BlockScalar.{BlockStyle, literal, folded, strip, clip, keep, sign_of, digit_of, header_of}
 use Rattle.yaml_tokens.specs.declared.problem.Fault.{Fault}
 use Rattle.yaml_tokens.specs.declared.problem.Fault.TheVariants.{At}
 use Rattle.yaml_tokens.specs.declared.problem.Problem.TheVariants as problem
 use Rattle.yaml_tokens.specs.declared.token.Chomping.{Chomping}
 use Rattle.yaml_tokens.specs.declared.token.Chomping.TheVariants.{Strip, Clip, Keep}
-use Rattle.model_lexers.specs.Machine.{Read, past}
-use Rattle.model_lexers.specs.Space.{linebreak}
-use Rattle.model_lexers.specs.Block.{Indicators, Header}
+use Rattle.model_scanner.specs.Machine.{Read, past}
+use Rattle.model_scanner.specs.Blanks.{linebreak}
+use Rattle.model_scanner.specs.BlockScalar.{Indicators, Header}
 
 -- the character that begins a block scalar
 abbrev pub indicator_of : BlockStyle → ℕ

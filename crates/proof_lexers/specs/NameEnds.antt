@@ -4,7 +4,7 @@ use Rattle.defs_text.specs.Position.{Position}
 use Rattle.yaml_tokens.specs.declared.problem.Fault.{Fault}
 use Rattle.yaml_tokens.specs.declared.problem.Fault.TheVariants.{At}
 use Rattle.yaml_tokens.specs.declared.problem.Problem.TheVariants as problem
-use Rattle.model_lexers.specs.Machine.{Read}
+use Rattle.model_scanner.specs.Machine.{Read}
 use Rattle.defs_token.specs.Piece.{is_name, goes_on_with_name}
 
 -- the position so many characters further in a line

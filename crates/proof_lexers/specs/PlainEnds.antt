@@ -2,15 +2,15 @@
 use Rattle.std.specs.Prelude.{◌≡◌, ℕ, zero, suc, List, [], ◌∷◌, ◌++◌, Bool, true, false, ◌&&◌, ◌||◌, ◌==◌, not, nat_lt, nat_le, Option, Some, None, Result, Ok, Err}
 use Rattle.defs_text.specs.Position.{Position, position_after}
 use Rattle.defs_text.specs.Classes.{is_blank, is_break}
-use Rattle.defs_scalar.specs.FlowScalar.{plain_value}
+use Rattle.defs_text.specs.FlowScalar.{plain_value}
 use Rattle.defs_token.specs.Separation.{is_blanks}
 use Rattle.defs_token.specs.Plain.{Stand, inside, after_blank, on_line, past, begins_flow, goes_on, is_whole_plain}
 use Rattle.yaml_tokens.specs.declared.problem.Fault.{Fault}
 use Rattle.yaml_tokens.specs.declared.problem.Fault.TheVariants.{At}
 use Rattle.yaml_tokens.specs.declared.problem.Problem.TheVariants as problem
-use Rattle.model_lexers.specs.declared.context.Context.{Context}
-use Rattle.model_lexers.specs.Machine.{Read}
-use Rattle.model_lexers.specs.Plain.{Plain}
+use Rattle.model_scanner.specs.declared.context.Context.{Context}
+use Rattle.model_scanner.specs.Machine.{Read}
+use Rattle.model_scanner.specs.Plain.{Plain}
 
 -- the column of the innermost block collection, from one that is counted from 1
 abbrev pub collection_of : ℕ → Option ℕ

@@ -2,14 +2,14 @@
 use Rattle.std.specs.Prelude.{◌≡◌, ℕ, ◌+◌, List, [], ◌∷◌, ◌++◌, Bool, true, false, ◌==◌, nat_lt, if◌then◌else◌, take, length, Option, Some, None, Result, Ok, Err}
 use Rattle.defs_text.specs.Position.{Position}
 use Rattle.defs_text.specs.Classes.{is_break}
-use Rattle.defs_scalar.specs.FlowScalar.{Element, elements, lookup, escapes, numeric_escapes, hexadecimal, is_character_code}
+use Rattle.defs_text.specs.FlowScalar.{Element, elements, lookup, escapes, numeric_escapes, hexadecimal, is_character_code}
 use Rattle.yaml_tokens.specs.declared.problem.Fault.{Fault}
 use Rattle.yaml_tokens.specs.declared.problem.Fault.TheVariants.{At}
 use Rattle.yaml_tokens.specs.declared.problem.Problem.{Problem}
 use Rattle.yaml_tokens.specs.declared.problem.Problem.TheVariants as problem
-use Rattle.model_lexers.specs.declared.context.Context.{Context}
-use Rattle.model_lexers.specs.Machine.{Read}
-use Rattle.model_lexers.specs.Quoted.{quote_of}
+use Rattle.model_scanner.specs.declared.context.Context.{Context}
+use Rattle.model_scanner.specs.Machine.{Read}
+use Rattle.model_scanner.specs.Quoted.{quote_of}
 use Rattle.proof_lexers.specs.QuotedScan.{element_of, value_of, has_marker, ends_before}
 
 -- a text between quotes is made of elements

@@ -2,8 +2,8 @@
 use Rattle.std.specs.Prelude.{◌≡◌, ℕ, List, ◌∷◌, ◌++◌, Bool, true, Some}
 use Rattle.std.specs.List.{list_all}
 use Rattle.defs_text.specs.Position.{Position}
-use Rattle.model_lexers.specs.declared.context.Context.{Context}
-use Rattle.model_lexers.specs.Quoted.{quote_of, quoted}
+use Rattle.model_scanner.specs.declared.context.Context.{Context}
+use Rattle.model_scanner.specs.Quoted.{quote_of, quoted}
 use Rattle.proof_lexers.specs.QuotedScan.{value_of, ends_before, is_some, IsRead}
 use Rattle.proof_lexers.specs.QuotedEnds.{QuotedEndsAs}
 

@@ -2,12 +2,12 @@
 use Rattle.std.specs.Prelude.{◌≡◌, ℕ, ◌+◌, List, [], ◌∷◌, ◌++◌, Bool, true, false, ◌&&◌, ◌||◌, ◌==◌, not, nat_lt, Option, Result, Ok, Err}
 use Rattle.defs_text.specs.Position.{Position}
 use Rattle.defs_text.specs.Classes.{is_break, is_document_marker}
-use Rattle.defs_scalar.specs.FlowScalar.{Spelled, single_quoted_element, double_quoted_element, single_quoted_value, double_quoted_value, begins_with}
+use Rattle.defs_text.specs.FlowScalar.{Spelled, single_quoted_element, double_quoted_element, single_quoted_value, double_quoted_value, begins_with}
 use Rattle.yaml_tokens.specs.declared.problem.Fault.{Fault}
 use Rattle.yaml_tokens.specs.declared.problem.Fault.TheVariants.{At}
 use Rattle.yaml_tokens.specs.declared.problem.Problem.TheVariants as problem
-use Rattle.model_lexers.specs.declared.context.Context.{Context}
-use Rattle.model_lexers.specs.Machine.{Read}
+use Rattle.model_scanner.specs.declared.context.Context.{Context}
+use Rattle.model_scanner.specs.Machine.{Read}
 
 -- an element of a body in single or double quotes
 abbrev pub element_of : (single : Bool) → ℕ → List ℕ → Option Spelled

@@ -1,29 +1,29 @@
 -- Laws of the scanner's model and the texts of single tokens: each is the contract of the function of `src/laws.rt` that its comment names.
 use Rattle.std.specs.Prelude.{◌≡◌, ℕ, List, ◌∷◌, ◌++◌, Bool, true, false, Some, Ok}
 use Rattle.defs_text.specs.Position.{Position}
-use Rattle.defs_scalar.specs.FlowScalar.{plain_value}
-use Rattle.model_lexers.specs.declared.context.Context.{Context}
-use Rattle.model_lexers.specs.Anchor.{anchor_name}
-use Rattle.model_lexers.specs.Plain.{plain}
+use Rattle.defs_text.specs.FlowScalar.{plain_value}
+use Rattle.model_scanner.specs.declared.context.Context.{Context}
+use Rattle.model_scanner.specs.Anchor.{anchor_name}
+use Rattle.model_scanner.specs.Plain.{plain}
 use Rattle.defs_token.specs.Piece.{is_name, goes_on_with_name}
 use Rattle.defs_token.specs.Plain.{is_whole_plain}
 use Rattle.proof_lexers.specs.NameEnds.{after_name, NameEndsAs}
-use Rattle.model_lexers.specs.declared.context.SkipTabs.{SkipTabs}
-use Rattle.model_lexers.specs.Space.{space}
+use Rattle.model_scanner.specs.declared.context.SkipTabs.{SkipTabs}
+use Rattle.model_scanner.specs.Blanks.{space}
 use Rattle.model_scanner.specs.State.{Held}
 use Rattle.model_scanner.specs.Space.{between, skip, white}
 use Rattle.defs_token.specs.Separation.{is_separation}
 use Rattle.proof_lexers.specs.Separations.{begins_separation, PassesAs, IsPassed, GoesOverAs, SpacesAs}
 use Rattle.yaml_chars.specs.Class.{is_uri, is_tag}
 use Rattle.defs_text.specs.Classes as classes
-use Rattle.model_lexers.specs.Uri.{uri}
-use Rattle.model_lexers.specs.Tag.{tag}
+use Rattle.model_scanner.specs.Uri.{uri}
+use Rattle.model_scanner.specs.Tag.{tag}
 use Rattle.proof_lexers.specs.UriEnds.{uri_read}
 use Rattle.proof_lexers.specs.TagEnds as tags
-use Rattle.defs_scalar.specs.Tags.{written_tag}
-use Rattle.defs_scalar.specs.Directives.{Directive, directive_of}
+use Rattle.defs_text.specs.Tags.{written_tag}
+use Rattle.defs_text.specs.Directives.{Directive, directive_of}
 use Rattle.defs_text.specs.Breaks.{has_no_break}
-use Rattle.model_lexers.specs.Directive.{directive}
+use Rattle.model_scanner.specs.Directive.{directive}
 use Rattle.proof_lexers.specs.DirectiveEnds as directives
 use Rattle.defs_text.specs.Text.{has_no_nul}
 use Rattle.proof_lexers.specs.PlainEnds.{collection_of, begins_solid, is_indented, IsRead}

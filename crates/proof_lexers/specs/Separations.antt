@@ -3,15 +3,15 @@ use Rattle.std.specs.Prelude.{◌≡◌, ℕ, suc, List, [], ◌∷◌, ◌++◌
 use Rattle.defs_text.specs.Position.{Position, position_after}
 use Rattle.defs_text.specs.Text.{is_empty}
 use Rattle.defs_text.specs.Classes.{is_break}
-use Rattle.defs_scalar.specs.FlowScalar.{begins_with}
+use Rattle.defs_text.specs.FlowScalar.{begins_with}
 use Rattle.defs_token.specs.Separation.{is_separation, is_blanks}
 use Rattle.yaml_tokens.specs.declared.problem.Fault.{Fault}
 use Rattle.yaml_tokens.specs.declared.problem.Fault.TheVariants.{At}
 use Rattle.yaml_tokens.specs.declared.problem.Problem.TheVariants as problem
-use Rattle.model_lexers.specs.declared.context.SkipTabs.{SkipTabs}
-use Rattle.model_lexers.specs.declared.context.Whitespace.{Whitespace}
-use Rattle.model_lexers.specs.Machine.{Read}
-use Rattle.model_lexers.specs.Space.{are_skipped}
+use Rattle.model_scanner.specs.declared.context.SkipTabs.{SkipTabs}
+use Rattle.model_scanner.specs.declared.context.Whitespace.{Whitespace}
+use Rattle.model_scanner.specs.Machine.{Read}
+use Rattle.model_scanner.specs.Blanks.{are_skipped}
 use Rattle.model_scanner.specs.State.{Held, ScannerState, in_flow}
 use Rattle.proof_lexers.specs.PlainEnds.{is_white, has_break, begins_token}
 

@@ -2,16 +2,16 @@
 use Rattle.std.specs.Prelude.{◌≡◌, ℕ, List, [], ◌∷◌, ◌++◌, Bool, true, false, ◌&&◌, ◌||◌, length, Some, Result, Ok, Err}
 use Rattle.defs_text.specs.Position.{Position}
 use Rattle.defs_text.specs.Classes.{is_alpha, is_uri, is_tag, is_at_gap}
-use Rattle.defs_scalar.specs.FlowScalar.{begins_with}
+use Rattle.defs_text.specs.FlowScalar.{begins_with}
 use Rattle.defs_text.specs.Text.{is_empty}
-use Rattle.defs_scalar.specs.Tags.{UriFault, all_of, leading, after, begins_with_mark, decoded, written_tag}
+use Rattle.defs_text.specs.Tags.{UriFault, all_of, leading, after, begins_with_mark, decoded, written_tag}
 use Rattle.defs_token.specs.Plain.{begins_flow}
 use Rattle.yaml_tokens.specs.declared.problem.Fault.{Fault}
 use Rattle.yaml_tokens.specs.declared.problem.Fault.TheVariants.{At}
 use Rattle.yaml_tokens.specs.declared.problem.Problem.{Problem}
 use Rattle.yaml_tokens.specs.declared.problem.Problem.TheVariants as problem
-use Rattle.model_lexers.specs.Machine.{Read}
-use Rattle.model_lexers.specs.Tag.{Tag}
+use Rattle.model_scanner.specs.Machine.{Read}
+use Rattle.model_scanner.specs.Tag.{Tag}
 use Rattle.proof_lexers.specs.NameEnds.{further}
 use Rattle.proof_lexers.specs.UriEnds.{problem_of}
 

@@ -1,12 +1,12 @@
 -- How the scan of a URI's characters ends, told by its text. YAML 1.2, section 5.6; RFC 3629, section 3 (UTF-8).
 use Rattle.std.specs.Prelude.{ℕ, Bool, List, ◌++◌, length, Result, Ok, Err}
 use Rattle.defs_text.specs.Position.{Position}
-use Rattle.defs_scalar.specs.Tags.{leading, after, UriFault, no_octet, wrong_lead, wrong_trail, no_character, decoded}
+use Rattle.defs_text.specs.Tags.{leading, after, UriFault, no_octet, wrong_lead, wrong_trail, no_character, decoded}
 use Rattle.yaml_tokens.specs.declared.problem.Fault.{Fault}
 use Rattle.yaml_tokens.specs.declared.problem.Fault.TheVariants.{At}
 use Rattle.yaml_tokens.specs.declared.problem.Problem.{Problem}
 use Rattle.yaml_tokens.specs.declared.problem.Problem.TheVariants as problem
-use Rattle.model_lexers.specs.Machine.{Read}
+use Rattle.model_scanner.specs.Machine.{Read}
 use Rattle.proof_lexers.specs.NameEnds.{further}
 
 -- what is said of a text whose octets are no characters

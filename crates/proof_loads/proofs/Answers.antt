@@ -1,12 +1,12 @@
 -- What a load answers of any text, by a parser that is at its start.
-use Rattle.std.proofs.Common.{◌≡◌, ℕ, true, false, Bool, List, [], ◌∷◌, ◌++◌, length, Some, None, Ok, refl, sym, ap, ◌∙◌, subst, append_assoc, append-nil, inl, inr}
+use Rattle.std.proofs.Common.{◌≡◌, ℕ, true, false, Bool, List, [], ◌∷◌, ◌++◌, length, Some, None, Ok, Err, refl, sym, ap, ◌∙◌, subst, append_assoc, append-nil, inl, inr}
 use Rattle.std.specs.Prelude.{Option, IfSome, Result, ◌||◌, codes}
 use Rattle.defs_text.specs.Position.{Position}
 use Rattle.defs_token.specs.Token.{Tok, Token}
 use Rattle.yaml_tokens.specs.ErrorReport.{ErrorReport}
 use Rattle.defs_event.specs.Event.{Ev}
 use Rattle.defs_token.specs.Toks.{toks}
-use Rattle.defs_event.specs.Stream.{IsStream, IsPlacedStream, BeginsPlaced, Foretells, NoneBegins, events_of}
+use Rattle.defs_event.specs.Stream.{IsStream, IsPlacedStream, BeginsPlaced, Foretells, NoneBegins, raws_of, events_of}
 use Rattle.defs_event.specs.PulledList.{Answer, event, fault, given}
 use Rattle.defs_event.specs.Push as run
 use Rattle.defs_event.specs.Push.{Standing, load, load_from, before_stream, between, inside}
@@ -19,16 +19,17 @@ use Rattle.yaml_parser.specs.Parsed.{Parsed, is_stream_end, has_end, read}
 use Rattle.yaml_parser.specs.Blames.{Blames}
 use Rattle.yaml_parser.specs.Follows.{Follows, Refused, IsWhole, IsOfScanner, Explains}
 use Rattle.yaml_parser.specs.Loads as loads
-use Rattle.yaml_parser.specs.Loads.{PullsAll, no_call, one_call, Receives, EndsSo}
+use Rattle.yaml_parser.specs.Loads.{PullsAll, no_call, one_call, Receives, EndsSo, Loads}
 use Rattle.proof_loads.specs.AtStart.{IsAtStart}
 use Rattle.proof_loads.specs.PlacedEvents.{HasEvents}
-use Rattle.proof_loads.specs.TextEvents.{AreFirst, BeginsEvents, IsFaultOf, wants_memory, no_token, no_stream, AnswersText, whole, faulted, refused}
+use Rattle.proof_loads.specs.TextEvents.{AreFirst, BeginsEvents, IsFaultOf, wants_memory, no_token, no_stream, ComesAfter, AnswersText, whole, faulted, refused}
 use Rattle.proof_loads.specs.Laws.{TextsAreAnswered}
-use Rattle.proof_loads.proofs.Pulled.{Noted, noted, read_given, explained, settings_stay, events_are_clear, has_end_append}
+use Rattle.proof_loads.proofs.Pulled.{Noted, noted, NotedFault, noted_fault, read_given, explained, settings_stay, events_are_clear, has_end_append}
 use Rattle.proof_loads.proofs.Texts.{first_tokens, foretells_beginning}
-use Rattle.proof_loads.proofs.Runs.{IsOver, pushes, misplaced_events, PushesAll, ended_within, ended_after, given_append}
+use Rattle.proof_loads.proofs.Runs.{IsOver, pushes, faulted_pushes, misplaced_events, PushesAll, ended_within, ended_after, given_append}
 use Rattle.proof_loads.proofs.Steady.{blames_steady}
 use Rattle.proof_loads.proofs.StreamEnds.{all_tokens}
+use Rattle.model_parser.proofs.Places.{without_positions}
 
 -- what a call does with these answers
 abbrev so : List (Answer ErrorReport) → run.Loaded ErrorReport
@@ -76,7 +77,7 @@ all_are_pushed keep_tags tokens es stream =
 
 -- the same without positions
 pub placed_stream : (keep_tags : Bool) (tokens : List Token) (es : List (Ev × Position)) → IsPlacedStream keep_tags tokens es → IsStream keep_tags (toks tokens) (events_of es)
-placed_stream keep_tags tokens es s = record { raws = s.raws; says = s.says; has_events = s.has_events }
+placed_stream keep_tags tokens es s = record { raws = raws_of s.raws; says = without_positions s.says; has_events = s.has_events }
 
 -- The text's tokens are a stream, with its nested events.
 pub nested_is_stream : {keep_tags : Bool} {text : List ℕ} {es : List (Ev × Position)} (h : HasEvents keep_tags text es) → IsStream keep_tags (toks h.tokens) (nested_stream h.documents)
@@ -134,7 +135,7 @@ has_all_events text p scans s =
     let nested = stream_nests p.keep_tags (toks p.scanner.given) (events_of p.given) stream in
     record {
       tokens = p.scanner.given;
-      has = all_tokens text p.scanner.given s.raws scans.no_nul scans.reached s.says;
+      has = all_tokens text p.scanner.given stream.raws scans.no_nul scans.reached stream.says;
       stream = s;
       documents = nested.0;
       events_are = sym nested.1;
@@ -149,6 +150,7 @@ record After (text : List ℕ) (answers : List (Answer ErrorReport)) (p : Parsed
   steady : p.steady ≡ true
   explained : (f : ErrorReport) → p.fault ≡ Some f → Explains f p
   clear : (es : List (Ev × Position)) → answers ≡ given ErrorReport es → p.fault ≡ None
+  all_pushed : (f : ErrorReport) → p.fault ≡ Some f → (so answers).ending ≡ run.faulted f → (so answers).pushed ≡ read p
 
 ends_whole : {R : Type 0} {takes : R → Ev → Position → Result (Unit {0}) ErrorReport → R → Type 0} {r s : R} {text : List ℕ} (answers : List (Answer ErrorReport)) (p : Parsed) → After text answers p → p.fault ≡ None
     → has_end (so answers).pushed ≡ true → Receives takes r (so answers).pushed s → AnswersText takes p.keep_tags text r (Ok tt) s
@@ -156,11 +158,15 @@ ends_whole {takes = takes} {r = r} {s = s} {text = text} answers p b clear h rec
     let all = ended_all answers p (b.noted clear) (b.followed clear) (end_was_given answers p (b.noted clear) (b.followed clear) h) in
     whole p.given (has_all_events text p b.scans all.is_whole) (subst (λ es. Receives takes r es s) all.pushed.0 received)
 
--- A parser's fault is one of the text.
-pub fault_of : (text : List ℕ) (p : Parsed) (f : ErrorReport) → ScansIn text p.scanner → p.steady ≡ true → Explains f p → IsFaultOf p.keep_tags text f
-fault_of text p f scans steady why = elim why [
+-- A parser's fault is one of the text, after the events that were read.
+pub record FaultAfter (keep_tags : Bool) (text : List ℕ) (f : ErrorReport) (es : List (Ev × Position)) : Type 0 where
+  pub why : IsFaultOf keep_tags text f
+  pub after : ComesAfter why es
+
+pub fault_after : (text : List ℕ) (p : Parsed) (f : ErrorReport) → ScansIn text p.scanner → p.steady ≡ true → Explains f p → FaultAfter p.keep_tags text f (read p)
+fault_after text p f scans steady why = elim why [
   | inl kept ↦ by_scanner f.memory refl kept
-  | inr other ↦ elim other [ inl wants ↦ wants_memory wants | inr cut ↦ by_grammar (blames_steady (cut.steady steady) cut.blames) (cut.refused steady) ]
+  | inr other ↦ elim other [ inl wants ↦ record { why = wants_memory wants; after = tt } | inr cut ↦ by_grammar (blames_steady (cut.steady steady) cut.blames) (cut.refused steady) ]
 ]
   where
     refusal : (o : Option ErrorReport) → o ≡ Some f → IfSome o (λ g. g.memory ≡ false → IsRefusal text g) → f.memory ≡ false → IsRefusal text f
@@ -175,14 +181,22 @@ fault_of text p f scans steady why = elim why [
     settled None e h m = cc
     settled (Some g) e h m = let same : g ≡ f = cc in h (ap (λ x. x.memory) same ∙ m)
 
-    by_scanner : (m : Bool) → f.memory ≡ m → IsOfScanner f p → IsFaultOf p.keep_tags text f
-    by_scanner true m k = wants_memory (record { memory = m; text = says p.scanner.fault k.fault scans.wants m })
-    by_scanner false m k = no_token p.scanner.given (read p) (settled p.scanner.fault k.fault (scans.settled (k.settled m)) m) (k.begins steady) (refusal p.scanner.fault k.fault scans.refused m)
+    by_scanner : (m : Bool) → f.memory ≡ m → IsOfScanner f p → FaultAfter p.keep_tags text f (read p)
+    by_scanner true m k = record { why = wants_memory (record { memory = m; text = says p.scanner.fault k.fault scans.wants m }); after = tt }
+    by_scanner false m k = record {
+      why = no_token p.scanner.given (read p) (settled p.scanner.fault k.fault (scans.settled (k.settled m)) m) (k.begins steady) (k.so_far steady) (refusal p.scanner.fault k.fault scans.refused m);
+      after = refl;
+    }
 
-    by_grammar : Blames f [] p.keep_tags p.scanner.given (read p) → Refused p → IsFaultOf p.keep_tags text f
-    by_grammar blames r =
-        no_stream r.before r.last (read p) (subst (AreFirst text) r.tokens (first_tokens text p.scanner scans)) (subst (λ ts. Blames f [] p.keep_tags ts (read p)) r.tokens blames) r.begins
-        (subst (λ ts. NoneBegins p.keep_tags (toks ts)) r.tokens r.none)
+    by_grammar : Blames f [] p.keep_tags p.scanner.given (read p) → Refused p → FaultAfter p.keep_tags text f (read p)
+    by_grammar blames r = record {
+      why = no_stream r.before r.last (read p) (subst (AreFirst text) r.tokens (first_tokens text p.scanner scans)) (subst (λ ts. Blames f [] p.keep_tags ts (read p)) r.tokens blames) r.begins
+          (subst (λ ts. NoneBegins p.keep_tags (toks ts)) r.tokens r.none);
+      after = refl;
+    }
+
+pub fault_of : (text : List ℕ) (p : Parsed) (f : ErrorReport) → ScansIn text p.scanner → p.steady ≡ true → Explains f p → IsFaultOf p.keep_tags text f
+fault_of text p f scans steady why = (fault_after text p f scans steady why).why
 
 -- An event that is no document's start never stands between documents.
 not_misplaced : (text : List ℕ) (answers : List (Answer ErrorReport)) (p : Parsed) (q : Position) → After text answers p → (so answers).ending ≡ run.no_document q → (so answers).taken ≡ length answers → ⊥
@@ -237,7 +251,9 @@ begins_text text answers p es e b clear pushed = by (b.followed clear)
 ends_so : {R : Type 0} {takes : R → Ev → Position → Result (Unit {0}) ErrorReport → R → Type 0} {r s : R} {text : List ℕ} {result : Result (Unit {0}) ErrorReport} {new : Parsed} (answers : List (Answer ErrorReport)) (p : Parsed)
     → After text answers p → (so answers).taken ≡ length answers → EndsSo takes r (so answers) p result new s → AnswersText takes p.keep_tags text r result s
 ends_so answers p b taken (loads.well e clear received) = ends_whole answers p b clear (end_was_pushed before_stream answers e) received
-ends_so {text = text} answers p b taken (loads.faulted {f = f} e kept received) = faulted (so answers).pushed (fault_of text p f b.scans b.steady (b.explained f kept)) received
+ends_so {text = text} answers p b taken (loads.faulted {f = f} e kept received) =
+    let x = fault_after text p f b.scans b.steady (b.explained f kept) in
+    faulted (so answers).pushed x.why (subst (ComesAfter x.why) (sym (b.all_pushed f kept e)) x.after) received
 ends_so {text = text} answers p b taken (loads.misplaced q e received) = absurd (not_misplaced text answers p q b e taken)
 ends_so {text = text} answers p b taken (loads.refused {es = es} e q pushed clear received takes) = refused es e q (begins_text text answers p es (e, q) b clear pushed) received takes
 
@@ -247,6 +263,11 @@ scanner_stays (loads.well e clear received) = refl
 scanner_stays (loads.faulted e kept received) = refl
 scanner_stays (loads.misplaced q e received) = refl
 scanner_stays (loads.refused e q pushed clear received takes) = refl
+
+-- Before a fault all events that were read are pushed.
+before_fault : (answers : List (Answer ErrorReport)) (p : Parsed) (f : ErrorReport) → NotedFault answers p → (so answers).ending ≡ run.faulted f → (so answers).pushed ≡ read p
+before_fault answers p f n e =
+    ap (λ bs. (so bs).pushed) n.answers_are ∙ faulted_pushes ErrorReport before_stream p.given f n.first n.rest (sym (ap (λ bs. (so bs).ending) n.answers_are) ∙ e) ∙ sym (read_given p.given p.ended p.ahead n.ahead)
 
 known : {old p : Parsed} {answers : List (Answer ErrorReport)} (text : List ℕ) → IsAtStart old → ScansIn text p.scanner → PullsAll old answers p → After text answers p
 known {old} {p} {answers} text start scans calls =
@@ -258,6 +279,7 @@ known {old} {p} {answers} text start scans calls =
       steady = steady;
       explained = λ f kept. explained f start.fault calls kept;
       clear = λ es e. events_are_clear es start.fault calls e;
+      all_pushed = λ f kept e. before_fault answers p f (noted_fault f start calls kept) e;
     }
 
 pub texts_are_answered : {R : Type 0} (takes : R → Ev → Position → Result (Unit {0}) ErrorReport → R → Type 0) → TextsAreAnswered takes
@@ -267,3 +289,26 @@ texts_are_answered takes old new r s result text start scans l =
     let b = known text start (subst (λ u. ScansIn text u) (scanner_stays l.ends) scans) l.pulled in
     let ends : EndsSo takes r (so l.answers) p result new s = subst (λ u. EndsSo takes r u p result new s) from_start l.ends in
     subst (λ k. AnswersText takes k text r result s) (settings_stay l.pulled).keep_tags (ends_so l.answers p b (sym (ap (λ u. u.taken) from_start) ∙ l.taken) ends)
+
+-- Where a fault is kept after a load: the receiver took the events before it.
+pub record FaultTaken {R : Type 0} (takes : R → Ev → Position → Result (Unit {0}) ErrorReport → R → Type 0) (keep_tags : Bool) (text : List ℕ) (f : ErrorReport) (r s : R) : Type 0 where
+  pub events : List (Ev × Position)
+  pub took : Receives takes r events s
+  pub why : FaultAfter keep_tags text f events
+
+fault_ends : {R : Type 0} {takes : R → Ev → Position → Result (Unit {0}) ErrorReport → R → Type 0} {r s : R} {text : List ℕ} {f : ErrorReport} {new : Parsed} (answers : List (Answer ErrorReport)) (p : Parsed)
+    → After text answers p → (so answers).taken ≡ length answers → EndsSo takes r (so answers) p (Err f) new s → new.fault ≡ Some f → FaultTaken takes p.keep_tags text f r s
+fault_ends {text = text} answers p b taken (loads.faulted {f = f} e kept received) h =
+    let x = fault_after text p f b.scans b.steady (b.explained f kept) in
+    record { events = (so answers).pushed; took = received; why = record { why = x.why; after = subst (ComesAfter x.why) (sym (b.all_pushed f kept e)) x.after } }
+fault_ends {text = text} answers p b taken (loads.misplaced q e received) h = absurd (not_misplaced text answers p q b e taken)
+fault_ends {f = f} answers p b taken (loads.refused e q pushed clear received takes) h = let no : None ≡ Some f = sym clear ∙ h in cc
+
+pub fault_taken : {R : Type 0} (takes : R → Ev → Position → Result (Unit {0}) ErrorReport → R → Type 0) (old new : Parsed) (r s : R) (f : ErrorReport) (text : List ℕ) → IsAtStart old → ScansIn text new.scanner
+    → Loads takes true old r (Err f) new s → new.fault ≡ Some f → FaultTaken takes old.keep_tags text f r s
+fault_taken takes old new r s f text start scans l kept =
+    let from_start : (load old.started true l.answers) ≡ so l.answers = rw start.started refl in
+    let p = l.after in
+    let b = known text start (subst (λ u. ScansIn text u) (scanner_stays l.ends) scans) l.pulled in
+    let ends : EndsSo takes r (so l.answers) p (Err f) new s = subst (λ u. EndsSo takes r u p (Err f) new s) from_start l.ends in
+    subst (λ k. FaultTaken takes k text f r s) (settings_stay l.pulled).keep_tags (fault_ends l.answers p b (sym (ap (λ u. u.taken) from_start) ∙ l.taken) ends kept)

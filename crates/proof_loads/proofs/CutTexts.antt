@@ -1,7 +1,7 @@
 -- The row of a text is a cut of it, and so what a text means is read of a cut.
-use Rattle.proof_ends.proofs.Pieces.{clean_up_to_end}
-use Rattle.proof_cut.proofs.Fetched.{tokens_are_cut}
-use Rattle.proof_row_complete.proofs.Complete.{texts_with_a_row_are_read}
+use Rattle.proof_row.proofs.Pieces.{clean_up_to_end}
+use Rattle.proof_scanner.proofs.Cut.Fetched.{tokens_are_cut}
+use Rattle.proof_scanner.proofs.Complete.Complete.{texts_with_a_row_are_read}
 use Rattle.proof_loads.specs.Cuts.{RowsAreCuts, MeantTreesAreReadOfACut}
 
 pub rows_are_cut : RowsAreCuts

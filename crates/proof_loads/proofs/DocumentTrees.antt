@@ -13,7 +13,7 @@ use Rattle.defs_event.proofs.Kept.{loaded_kept, distinct_kept, fits_kept}
 use Rattle.defs_event.proofs.OneByOne.{one_by_one}
 use Rattle.proof_loads.specs.Documents.{ReadDocumentsComeBack}
 use Rattle.proof_loads.proofs.Dumps.{dumps_are_read}
-use Rattle.proof_meaning.proofs.Meanings.{somewhere, with_somewhere}
+use Rattle.proof_row.proofs.Meanings.{somewhere, with_somewhere}
 
 documents_read : (trees : List Tree) (l : Loader) → HasRead (Ok trees) l → documents_of l ≡ trees
 documents_read trees (at_work u) h = h.0

@@ -4,11 +4,11 @@ use Rattle.defs_tree.specs.Tree.{Tree}
 use Rattle.defs_tree.specs.DumpText.{dump_text}
 use Rattle.defs_layout.specs.Layout.{trees_of}
 use Rattle.defs_layout.specs.DumpIsInjective.{DumpIsInjective}
-use Rattle.proof_dumps.proofs.Whole.{dump_is_laid_out}
-use Rattle.defs_meaning.specs.Meaning.{Means}
+use Rattle.proof_layouts.proofs.Whole.{dump_is_laid_out}
+use Rattle.defs_event.specs.Meaning.{Means}
 use Rattle.proof_loads.specs.Laws.{DumpsMeanTheirTree}
 use Rattle.proof_loads.proofs.LayoutTexts.{layouts_are_read}
-use Rattle.proof_meaning.proofs.Meanings.{one_meaning}
+use Rattle.proof_row.proofs.Meanings.{one_meaning}
 
 pub dumps_are_read : DumpsMeanTheirTree
 dumps_are_read keep_tags compact multiline t is =

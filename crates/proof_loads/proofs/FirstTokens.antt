@@ -19,11 +19,11 @@ keys_from n (None ∷ ks) b = (tt, keys_from n ks b.1)
 keys_from n (Some k ∷ ks) b = (b.0, keys_from n ks b.1)
 
 -- These tokens come first at a state, and no key may come before one of them.
-record Stays (given : List Token) (t : ScannerState) : Type 0 where
-  begins : BeginsWith given t.held.tokens
-  keys : t.held.ended ≡ false → KeysFrom (length given) t.held.keys
+pub record Stays (given : List Token) (t : ScannerState) : Type 0 where
+  pub begins : BeginsWith given t.held.tokens
+  pub keys : t.held.ended ≡ false → KeysFrom (length given) t.held.keys
 
-stays : (given : List Token) (t u : ScannerState) → Reaches t u → BeginsWith given t.held.tokens → (t.held.ended ≡ false → AreBehind (length given) t.held.keys) → Stays given u
+pub stays : (given : List Token) (t u : ScannerState) → Reaches t u → BeginsWith given t.held.tokens → (t.held.ended ≡ false → AreBehind (length given) t.held.keys) → Stays given u
 stays given t u here b k = record { begins = b; keys = λ going. keys_from (length given) t.held.keys (k going) }
 stays given t u (there going e run) b k =
     let s = reached given t u (there going e run) (record { stood = record { more = b.more; tokens = b.whole; keys = keys_from (length given) t.held.keys (k going) } }) in

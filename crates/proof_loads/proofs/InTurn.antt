@@ -4,13 +4,13 @@ use Rattle.defs_token.specs.Token.{Tok}
 use Rattle.defs_layout.specs.DumpsInTurn.{dump_texts}
 use Rattle.defs_layout.specs.Layout.{trees_of}
 use Rattle.defs_layout.specs.LayoutTokens.{layout_tokens}
-use Rattle.proof_grammar.proofs.Streams.{stream_by}
-use Rattle.proof_dumps.proofs.Whole.{dumps_are_laid_out_in_turn}
-use Rattle.proof_layout_trees.proofs.Layouts.Documents.{tokens_read_as_their_trees}
+use Rattle.model_parser.proofs.Streams.{stream_by}
+use Rattle.proof_layouts.proofs.Whole.{dumps_are_laid_out_in_turn}
+use Rattle.proof_layouts.proofs.Layouts.Documents.{tokens_read_as_their_trees}
 use Rattle.proof_layout_tokens.proofs.Documents.{nothing_has_its_tokens}
 use Rattle.proof_layout_tokens.proofs.InTurn.{layouts_in_turn_have_their_tokens}
 use Rattle.defs_text.specs.Text.{up_to_nul}
-use Rattle.defs_meaning.specs.Meaning.{Means}
+use Rattle.defs_event.specs.Meaning.{Means}
 use Rattle.proof_loads.specs.Spelled.{IsWithoutNul}
 use Rattle.proof_loads.specs.InTurn.{LayoutsInTurnMeanTheirTrees, LayoutsInTurnAreWithoutNul, DumpsInTurnMeanTheirTrees}
 use Rattle.proof_loads.proofs.LayoutNul.{layouts_have_no_nul}

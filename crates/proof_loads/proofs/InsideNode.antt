@@ -214,7 +214,9 @@ numbered k s (Raw.flow_mapping_start a t) = mapped (Follows s.count (with_anchor
 numbered k s (Raw.mapping_start a t) = mapped (Follows s.count (with_anchor s a).count) (λ u. Ev.mapping_start (number s a) u) (perhaps_resolved s.handles t) (λ u. is_next s a)
 numbered k s Raw.pair_start = is_next s None
 numbered k s Raw.pair_end = refl
+numbered k s Raw.unwritten_value = is_next s None
 numbered k s Raw.flow_mapping_end = refl
+numbered k s Raw.flow_mapping_end_at_comma = refl
 numbered k s Raw.mapping_end = refl
 
 -- ---- loaders

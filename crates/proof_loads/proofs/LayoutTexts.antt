@@ -2,7 +2,7 @@
 use Rattle.std.proofs.Common.{[]}
 use Rattle.defs_layout.specs.Layout.{spell, trees_of}
 use Rattle.defs_layout.specs.LayoutTokens.{layout_tokens}
-use Rattle.proof_layout_trees.proofs.Layouts.Documents.{tokens_read_as_their_trees}
+use Rattle.proof_layouts.proofs.Layouts.Documents.{tokens_read_as_their_trees}
 use Rattle.proof_layout_tokens.proofs.Layouts.Texts.{layouts_have_their_tokens}
 use Rattle.proof_loads.specs.LayoutTexts.{LayoutsMeanTheirTrees}
 use Rattle.proof_loads.proofs.LayoutNul.{layouts_have_no_nul}

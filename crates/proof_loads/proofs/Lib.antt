@@ -9,9 +9,11 @@ pub mod JsonNul
 pub mod LayoutNul
 pub mod LayoutTexts
 pub mod Loads
+mod MeaningRows
 mod Nul
 pub mod OneFault
 pub mod OneList
+pub mod OneListBefore
 pub mod OneReading
 mod PartsNul
 pub mod Pulled

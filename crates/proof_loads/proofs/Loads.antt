@@ -9,8 +9,8 @@ use Rattle.defs_token.specs.Toks.{toks}
 use Rattle.defs_event.specs.Stream.{IsStream, events_of}
 use Rattle.proof_row.proofs.OneRow.{one_reading}
 use Rattle.defs_layout.specs.Json.{spell_text, tree_of}
-use Rattle.proof_layout_trees.proofs.Loads.{streams_are_loaded, foretold_are_not_refused, streams_are_not_cut}
-use Rattle.defs_meaning.specs.Meaning.{Means}
+use Rattle.proof_layouts.proofs.Loads.{streams_are_loaded, foretold_are_not_refused, streams_are_not_cut}
+use Rattle.defs_event.specs.Meaning.{Means}
 use Rattle.proof_loads.specs.PlacedEvents.{HasEvents}
 use Rattle.proof_loads.specs.TextEvents.{IsFaultOf, wants_memory, no_token, no_stream, AnswersText}
 use Rattle.proof_loads.specs.TextEvents as answers
@@ -24,7 +24,7 @@ use Rattle.proof_loads.proofs.Answers.{placed_stream, texts_are_answered}
 -- A fault of such a text is out of memory.
 pub memory_is_wanted : (keep_tags : Bool) (text : List ℕ) (trees : List Tree) (f : ErrorReport) → Means keep_tags text trees → IsFaultOf keep_tags text f → f.memory ≡ true
 memory_is_wanted keep_tags text trees f x (wants_memory wants) = wants.memory
-memory_is_wanted keep_tags text trees f x (no_token given events first begins r) = absurd (r.rowless.rowless x.tokens x.has)
+memory_is_wanted keep_tags text trees f x (no_token given events settled begins has r) = absurd (r.rowless.rowless x.tokens x.has)
 memory_is_wanted keep_tags text trees f x (no_stream before last events first blames begins none) =
     let y = goes_on keep_tags text trees (before ++ last ∷ []) x first in
     absurd (streams_are_not_cut keep_tags (toks (before ++ last ∷ [])) y.more trees y.reads none)
@@ -37,7 +37,7 @@ loads_as : {R : Type 0} {takes : R → Ev → Position → Result (Unit {0}) Err
 loads_as {keep_tags = keep_tags} {text = text} {trees = trees} x (answers.whole es h received) =
     let same = same_tokens keep_tags text trees es x h in
     well es received (streams_are_loaded keep_tags (toks x.tokens) trees es x.read (subst (λ ts. IsStream keep_tags ts (events_of es)) same (placed_stream keep_tags h.tokens es h.stream)))
-loads_as {keep_tags = keep_tags} {text = text} {trees = trees} x (answers.faulted {f = f} es why received) = loads.wants_memory es received (memory_is_wanted keep_tags text trees f x why)
+loads_as {keep_tags = keep_tags} {text = text} {trees = trees} x (answers.faulted {f = f} es why after received) = loads.wants_memory es received (memory_is_wanted keep_tags text trees f x why)
 loads_as {keep_tags = keep_tags} {text = text} {trees = trees} x (answers.refused es e p b received takes) =
     let y = goes_on keep_tags text trees _ x b.first in
     refused es e p received takes (foretold_are_not_refused keep_tags _ y.more trees (es ++ (e, p) ∷ []) y.reads b.only)

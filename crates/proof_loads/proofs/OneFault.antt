@@ -6,7 +6,8 @@ use Rattle.defs_text.specs.Position.{Position}
 use Rattle.defs_token.specs.Token.{Token}
 use Rattle.defs_token.specs.Toks.{toks}
 use Rattle.defs_event.specs.Event.{Ev}
-use Rattle.defs_event.specs.Stream.{BeginsPlaced, NoneBegins, IsStream, events_of}
+use Rattle.defs_event.specs.Stream.{BeginsPlaced, NoneBegins, IsStream, raws_of, events_of}
+use Rattle.model_parser.proofs.Places.{without_positions}
 use Rattle.yaml_tokens.specs.ErrorReport.{ErrorReport}
 use Rattle.yaml_tokens.specs.Problem.{fault_of}
 use Rattle.yaml_tokens.specs.declared.problem.Fault.{Fault}
@@ -62,7 +63,7 @@ begins_first keep_tags first more events b none =
     let rest = toks more ++ toks b.more_tokens in
     let all : toks ((first ++ more) ++ b.more_tokens) ≡ toks first ++ rest =
     map-append (λ (t : Token). t.tok) (first ++ more) b.more_tokens ∙ ap (λ ts. ts ++ toks b.more_tokens) (map-append (λ (t : Token). t.tok) first more) ∙ append_assoc (toks first) (toks more) (toks b.more_tokens) in
-    none rest (events_of (events ++ b.more_events)) (subst (λ ts. IsStream keep_tags ts (events_of (events ++ b.more_events))) all (record { raws = s.raws; says = s.says; has_events = s.has_events }))
+    none rest (events_of (events ++ b.more_events)) (subst (λ ts. IsStream keep_tags ts (events_of (events ++ b.more_events))) all (record { raws = raws_of s.raws; says = without_positions s.says; has_events = s.has_events }))
 
 -- the kind of a token says which problem of names it may have
 abbrev name_problem : Kind → Problem
@@ -91,15 +92,11 @@ one_place p before last x y s u = elim s [
     anchors : EndsInAnchor before x → EndsInAnchor before y → x ≡ y
     anchors a b = a.at ∙ ap (λ t. t.position) (last_of a.before b.before a.anchor b.anchor (sym a.whole ∙ b.whole)).1 ∙ sym b.at
 
--- Two faults that refuse the same token are the same.
-pub one_blame : (keep_tags : Bool) (tokens : List Token) (es fs : List (Ev × Position)) (f g : ErrorReport) → Blames f [] keep_tags tokens es → Blames g [] keep_tags tokens fs → f ≡ g
-one_blame keep_tags tokens es fs f g a b =
+-- Two faults that refuse the same token are of one problem,
+pub same_blame : (keep_tags : Bool) (tokens : List Token) (es fs : List (Ev × Position)) (f g : ErrorReport) (a : Blames f [] keep_tags tokens es) (b : Blames g [] keep_tags tokens fs) → (a.before ≡ b.before) × (a.last ≡ b.last) × (a.problem ≡ b.problem)
+same_blame keep_tags tokens es fs f g a b =
     let same = last_of a.before b.before a.last b.last (sym a.whole ∙ b.whole) in
-    let problem_is : a.problem ≡ b.problem = problems (is_of_names a.problem) (is_of_names b.problem) refl refl same in
-    let stands : StandsAt a.problem g.position a.before a.last =
-    subst (λ p. StandsAt p g.position a.before a.last) (sym problem_is) (subst (λ ts. StandsAt b.problem g.position ts a.last) (sym same.0) (subst (StandsAt b.problem g.position b.before) (sym same.1) b.stands)) in
-    let place : f.position ≡ g.position = one_place a.problem a.before a.last f.position g.position a.stands stands in
-    a.shown ∙ ap (λ p. fault_of (At p f.position) f.position) problem_is ∙ ap (λ x. fault_of (At b.problem x) x) place ∙ sym b.shown
+    (same.0, same.1, problems (is_of_names a.problem) (is_of_names b.problem) refl refl same)
   where
     problems : (m n : Bool) → is_of_names a.problem ≡ m → is_of_names b.problem ≡ n → (a.before ≡ b.before) × (a.last ≡ b.last) → a.problem ≡ b.problem
     problems true true c d same =
@@ -108,6 +105,15 @@ one_blame keep_tags tokens es fs f g a b =
     problems false true c d same = let s = b.some d in absurd (a.none c s.0 s.1 s.2)
     problems false false c d same = a.says c ∙ ap (λ ts. problem_of (toks ts) a.last.tok) same.0 ∙ ap (λ (t : Token). problem_of (toks b.before) t.tok) same.1 ∙ sym (b.says d)
 
+-- and are the same.
+pub one_blame : (keep_tags : Bool) (tokens : List Token) (es fs : List (Ev × Position)) (f g : ErrorReport) → Blames f [] keep_tags tokens es → Blames g [] keep_tags tokens fs → f ≡ g
+one_blame keep_tags tokens es fs f g a b =
+    let same = same_blame keep_tags tokens es fs f g a b in
+    let stands : StandsAt a.problem g.position a.before a.last =
+    subst (λ p. StandsAt p g.position a.before a.last) (sym same.2) (subst (λ ts. StandsAt b.problem g.position ts a.last) (sym same.0) (subst (StandsAt b.problem g.position b.before) (sym same.1) b.stands)) in
+    let place : f.position ≡ g.position = one_place a.problem a.before a.last f.position g.position a.stands stands in
+    a.shown ∙ ap (λ p. fault_of (At p f.position) f.position) same.2 ∙ ap (λ x. fault_of (At b.problem x) x) place ∙ sym b.shown
+
 -- ---- of both
 
 -- where a token is refused, no stream begins with more tokens
@@ -115,7 +121,7 @@ pub refused_first : (keep_tags : Bool) (before ts : List Token) (last : Token) (
 refused_first keep_tags before ts last events none b w = begins_first keep_tags (before ++ last ∷ []) w.more events (subst (λ us. BeginsPlaced keep_tags us events) w.whole b) none
 
 -- a list that begins another one with a last token begins what stands before it, or is all
-last_or_before : (xs ys more : List Token) (u : Token) → ys ++ u ∷ [] ≡ xs ++ more → (xs ≡ ys ++ u ∷ []) ⊎ BeginsWith xs ys
+pub last_or_before : (xs ys more : List Token) (u : Token) → ys ++ u ∷ [] ≡ xs ++ more → (xs ≡ ys ++ u ∷ []) ⊎ BeginsWith xs ys
 last_or_before xs ys [] u e = inl (sym (e ∙ append-nil xs))
 last_or_before xs ys (t ∷ more) u e = inr (by more t e)
   where
@@ -138,10 +144,10 @@ same_token keep_tags f g bs cs t u es fs none a begins b w = elim (last_or_befor
 pub one_fault : OneFault
 one_fault keep_tags text f g (wants_memory w) y m n = absurd (both_ways f.memory m w.memory)
 one_fault keep_tags text f g x (wants_memory w) m n = absurd (both_ways g.memory n w.memory)
-one_fault keep_tags text f g (no_token given es settled begins r) (no_token given' fs settled' begins' s) m n = one_refusal text f g r s m
-one_fault keep_tags text f g (no_token given es settled begins r) (no_stream before last fs first b begins' none) m n =
+one_fault keep_tags text f g (no_token given es settled begins has r) (no_token given' fs settled' begins' had s) m n = one_refusal text f g r s m
+one_fault keep_tags text f g (no_token given es settled begins has r) (no_stream before last fs first b begins' none) m n =
     absurd (refused_first keep_tags before given last es none begins (settled_first text given (before ++ last ∷ []) settled first.reached))
-one_fault keep_tags text f g (no_stream before last es first a begins none) (no_token given fs settled begins' r) m n =
+one_fault keep_tags text f g (no_stream before last es first a begins none) (no_token given fs settled begins' has r) m n =
     absurd (refused_first keep_tags before given last fs none begins' (settled_first text given (before ++ last ∷ []) settled first.reached))
 one_fault keep_tags text f g (no_stream bs t es first a begins none) (no_stream cs u fs first' b begins' none') m n =
     elim (settled_agree text (bs ++ t ∷ []) (cs ++ u ∷ []) first.reached first'.reached) [

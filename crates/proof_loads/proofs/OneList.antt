@@ -11,7 +11,7 @@ use Rattle.defs_event.specs.Stream.{IsStream, events_of}
 use Rattle.yaml_scanner.specs.Scanned.{ScansIn}
 use Rattle.yaml_parser.specs.Parsed.{Parsed, read}
 use Rattle.yaml_parser.specs.Follows.{Follows}
-use Rattle.defs_meaning.specs.Meaning.{Means}
+use Rattle.defs_event.specs.Meaning.{Means}
 use Rattle.proof_loads.specs.Laws.{ReadTextsHaveOneListOfEvents}
 use Rattle.proof_loads.proofs.Texts.{first_tokens}
 

@@ -4,16 +4,16 @@ use Rattle.std.specs.Prelude.{Ok, map}
 use Rattle.defs_token.specs.Token.{Token}
 use Rattle.defs_tree.specs.Tree.{Tree}
 use Rattle.defs_token.specs.Toks.{toks}
-use Rattle.defs_row.specs.Row.{IsRead}
+use Rattle.defs_token.specs.Row.{IsRead}
 use Rattle.defs_event.specs.Stream.{IsStream}
 use Rattle.defs_event.specs.Nested.{NestedDocument, nested_stream}
 use Rattle.defs_event.specs.Reading.{reading}
 use Rattle.defs_event.specs.Unfinished.{new_loader, with_events}
 use Rattle.defs_event.proofs.OneByOne.{one_by_one}
 use Rattle.defs_event.proofs.OneReading as grammar
-use Rattle.defs_meaning.specs.Meaning.{Means}
+use Rattle.defs_event.specs.Meaning.{Means}
 use Rattle.proof_row.proofs.OneRow as row
-use Rattle.proof_meaning.proofs.Meanings.{somewhere, with_somewhere, read_again}
+use Rattle.proof_row.proofs.Meanings.{somewhere, with_somewhere, read_again}
 
 -- Documents whose events the text has are read as the trees that it means.
 pub one_reading : {keep_tags : Bool} {text : List ℕ} {trees : List Tree} (tokens : List Token) (documents : List NestedDocument) → IsRead text tokens → IsStream keep_tags (toks tokens) (nested_stream documents)

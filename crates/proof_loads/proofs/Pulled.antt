@@ -111,3 +111,33 @@ pub events_are_clear : {p q : Parsed} {answers : List (Answer ErrorReport)} (es 
 events_are_clear es clear no_call h = clear
 events_are_clear es clear (one_call (event e p) calls gives) h = gives.sound.fault
 events_are_clear es clear (one_call {answers = answers} (fault f) calls gives) h = absurd (last_is_event answers f es h)
+
+-- Where a fault is kept: the events that were given are all that were answered before the first fault.
+pub record NotedFault (answers : List (Answer ErrorReport)) (p : Parsed) : Type 0 where
+  pub first : ErrorReport
+  pub rest : List (Answer ErrorReport)
+  pub answers_are : answers ≡ given ErrorReport p.given ++ fault first ∷ rest
+  pub ahead : p.ahead ≡ None
+
+pub noted_fault : {p q : Parsed} {answers : List (Answer ErrorReport)} (f : ErrorReport) → IsAtStart p → PullsAll p answers q → q.fault ≡ Some f → NotedFault answers q
+noted_fault f start no_call h = let clear = start.fault in cc
+noted_fault f start (one_call (event e p) calls gives) h = let none = gives.sound.fault in cc
+noted_fault f start (one_call {q = q} {r = r} {answers = answers} (fault g) calls gives) h = by q.fault refl (λ k. noted_fault k start calls)
+  where
+    by : (o : Option ErrorReport) → q.fault ≡ o → ((k : ErrorReport) → q.fault ≡ Some k → NotedFault answers q) → NotedFault (answers ++ fault g ∷ []) r
+    by None e before =
+        let n = noted start calls e in
+        record {
+          first = g;
+          rest = [];
+          answers_are = ap (λ bs. bs ++ fault g ∷ []) (n.answers_are ∙ ap (λ bs. given ErrorReport q.given ++ bs) (n.none gives.ended.0) ∙ append-nil (given ErrorReport q.given)) ∙ ap (λ es. given ErrorReport es ++ fault g ∷ []) (sym gives.given);
+          ahead = gives.ahead.1;
+        }
+    by (Some k) e before =
+        let n = before k e in
+        record {
+          first = n.first;
+          rest = n.rest ++ fault g ∷ [];
+          answers_are = ap (λ bs. bs ++ fault g ∷ []) n.answers_are ∙ append_assoc (given ErrorReport q.given) (fault n.first ∷ n.rest) (fault g ∷ []) ∙ ap (λ es. given ErrorReport es ++ fault n.first ∷ (n.rest ++ fault g ∷ [])) (sym gives.given);
+          ahead = gives.ahead.1;
+        }

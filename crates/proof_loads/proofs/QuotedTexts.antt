@@ -5,7 +5,7 @@ use Rattle.defs_token.specs.Token.{Tok}
 use Rattle.defs_tree.specs.Tree.{Tree}
 use Rattle.defs_layout.specs.QuotedText.{Quotes, QuotedText, HasQuotedTokens, quote_of, style_of, body_value}
 use Rattle.defs_layout.specs.QuotedText as laid
-use Rattle.proof_layout_trees.proofs.Quoted.{quoted_read_as_their_string}
+use Rattle.proof_layouts.proofs.Quoted.{quoted_read_as_their_string}
 use Rattle.proof_lexers.specs.QuotedScan.{is_some}
 use Rattle.proof_lexers.proofs.Quoted.NoNul.{has_none}
 use Rattle.proof_lexers.proofs.Quoted.Values.{parts}

@@ -1,15 +1,17 @@
 -- The tokens that the scanner's model gives a text are those of its row, and so a text with these tokens means what they are read as.
 use Rattle.std.proofs.Common.{◌≡◌, ℕ, Bool, true, List, sym, subst}
 use Rattle.defs_text.specs.Text.{has_no_nul}
-use Rattle.proof_ends.proofs.Pieces.{clean_up_to_end}
+use Rattle.proof_row.proofs.Pieces.{clean_up_to_end}
 use Rattle.defs_token.specs.Token.{Tok}
 use Rattle.defs_tree.specs.Tree.{Tree}
 use Rattle.defs_event.specs.ReadAs.{ReadAs}
-use Rattle.defs_meaning.specs.Meaning.{Means}
+use Rattle.defs_event.specs.Stream.{raws_of}
+use Rattle.model_parser.proofs.Places.{without_positions}
+use Rattle.defs_event.specs.Meaning.{Means}
 use Rattle.model_scanner.proofs.Runs.{not_refused}
 use Rattle.model_scanner.specs.TextTokens.{HasToks}
-use Rattle.proof_row_sound.proofs.Sound.{tokens_are_of_a_row}
-use Rattle.proof_row_complete.proofs.Complete.{texts_with_a_row_are_read}
+use Rattle.proof_scanner.proofs.Sound.Sound.{tokens_are_of_a_row}
+use Rattle.proof_scanner.proofs.Complete.Complete.{texts_with_a_row_are_read}
 use Rattle.proof_loads.specs.Spelled.{IsWithoutNul}
 use Rattle.proof_loads.specs.Rows.{RefusedTextsHaveNoRow, EventsAreOfTheRow}
 
@@ -27,4 +29,4 @@ no_row text f tokens without refused row = not_refused text tokens f (texts_with
 pub of_the_row : EventsAreOfTheRow
 of_the_row keep_tags text events h =
     let stream = h.stream in
-    record { tokens = h.tokens; has = h.has; stream = record { raws = stream.raws; says = stream.says; has_events = stream.has_events } }
+    record { tokens = h.tokens; has = h.has; stream = record { raws = raws_of stream.raws; says = without_positions stream.says; has_events = stream.has_events } }

@@ -3,7 +3,7 @@ use Rattle.std.proofs.Common.{◌≡◌, ◌+◌, true, List, [], ◌∷◌, ◌
 use Rattle.defs_text.specs.Position.{Position}
 use Rattle.defs_event.specs.Event.{Ev}
 use Rattle.defs_event.specs.PulledList.{Answer, event, fault, given}
-use Rattle.defs_event.specs.Push.{Standing, before_stream, between, inside, Ending, well, no_document, unfinished, Loaded, ends, push, load_from}
+use Rattle.defs_event.specs.Push.{Standing, before_stream, between, inside, Ending, well, faulted, no_document, unfinished, Loaded, ends, push, load_from}
 
 -- The call has come to its end.
 abbrev pub IsOver : {F : Type 0} → Ending F → Type 0
@@ -98,3 +98,14 @@ ended_after F es answers rest all e =
 pub given_append : (F : Type 0) (es fs : List (Ev × Position)) → given F (es ++ fs) ≡ given F es ++ given F fs
 given_append F [] fs = refl
 given_append F (e ∷ es) fs = ap (λ bs. event e.0 e.1 ∷ bs) (given_append F es fs)
+
+-- Before a fault all events are pushed.
+pub faulted_pushes : (F : Type 0) (s : Standing) (es : List (Ev × Position)) (f g : F) (rest : List (Answer F)) → (load_from s true (given F es ++ fault g ∷ rest)).ending ≡ faulted f
+    → (load_from s true (given F es ++ fault g ∷ rest)).pushed ≡ es
+faulted_pushes F s [] f g rest h = refl
+faulted_pushes F before_stream (e ∷ es) f g rest h = ap (λ xs. e ∷ xs) (faulted_pushes F between es f g rest h)
+faulted_pushes F between ((Ev.stream_end, p) ∷ es) f g rest h = cc
+faulted_pushes F between ((Ev.document_start, p) ∷ es) f g rest h = ap (λ xs. (Ev.document_start, p) ∷ xs) (faulted_pushes F inside es f g rest h)
+faulted_pushes F between ((e, p) ∷ es) f g rest h = cc
+faulted_pushes F inside ((Ev.document_end, p) ∷ es) f g rest h = ap (λ xs. (Ev.document_end, p) ∷ xs) (faulted_pushes F between es f g rest h)
+faulted_pushes F inside ((e, p) ∷ es) f g rest h = ap (λ xs. (e, p) ∷ xs) (faulted_pushes F inside es f g rest h)

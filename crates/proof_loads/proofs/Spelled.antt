@@ -7,11 +7,11 @@ use Rattle.yaml_scanner.specs.Scanned.{MayBe}
 use Rattle.proof_layout_tokens.proofs.Json.Texts.{json_text_has_its_tokens}
 use Rattle.defs_layout.specs.Json.{spell_text, tree_of}
 use Rattle.defs_layout.specs.JsonTokens.{json_text_tokens}
-use Rattle.proof_layout_trees.proofs.Json.Reading as json
+use Rattle.proof_layouts.proofs.Json.Reading as json
 use Rattle.proof_loads.specs.Laws.{JsonTextsMeanTheirTree, CharactersAreTheText, StringsAreTheText}
 use Rattle.proof_loads.specs.Rows.{TextsWithAFaultHaveNoRow}
 use Rattle.defs_text.specs.Text.{has_no_nul}
-use Rattle.proof_ends.proofs.Pieces.{clean_up_to_end}
+use Rattle.proof_row.proofs.Pieces.{clean_up_to_end}
 use Rattle.proof_loads.proofs.JsonNul.{json_texts_have_no_nul}
 use Rattle.proof_loads.proofs.RowTexts.{means}
 

@@ -21,10 +21,9 @@ derived_steady {settings} {keep_tags} {tokens} {raw} {events} all d = record {
   stream = record {
     says = d.stream.says;
     has_events = sym (since_same settings keep_tags no_names (raw ++ d.more_raw) all) ∙ d.stream.has_events;
-    has_positions = d.stream.has_positions;
+    places = d.stream.places;
   };
   named = sym (since_same settings keep_tags no_names raw all) ∙ d.named;
-  positions = d.positions;
 }
 
 pub blames_steady : {f : ErrorReport} {settings : List Bool} {keep_tags : Bool} {tokens : List Token} {events : List (Ev × Position)} → AreAll keep_tags settings → Blames f settings keep_tags tokens events → Blames f [] keep_tags tokens events
@@ -42,6 +41,7 @@ blames_steady {f} {settings} {keep_tags} {tokens} {events} all b = record {
   cause = subst (λ names. IsCause b.problem names (events_of events) (toks b.before) b.last.tok) (names_same settings keep_tags no_names b.raw all) b.cause;
   stands = b.stands;
   apart = b.apart;
+  beside = b.beside;
   none = b.none;
   some = b.some;
 }

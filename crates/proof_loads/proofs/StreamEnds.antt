@@ -8,10 +8,10 @@ use Rattle.defs_event.specs.Table.{Part, read, keep, hold, say, show, empty, Row
 use Rattle.defs_event.specs.Grammar.{Held, Goal, stream, documents, directives, explicit_document, document_end, cases, grammar}
 use Rattle.defs_event.specs.Stream.{whole_stream, StreamSays}
 use Rattle.defs_token.specs.Toks.{toks}
-use Rattle.defs_row.specs.Row.{IsRead}
+use Rattle.defs_token.specs.Row.{IsRead}
 use Rattle.defs_text.specs.Text.{has_no_nul}
 use Rattle.model_scanner.proofs.Ends.{end_is_last}
-use Rattle.proof_row_sound.proofs.Sound.{tokens_are_of_a_row}
+use Rattle.proof_scanner.proofs.Sound.Sound.{tokens_are_of_a_row}
 use Rattle.yaml_scanner.specs.Follows.{IsReached}
 
 -- The stream's end is among these.

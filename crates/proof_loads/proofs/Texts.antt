@@ -13,8 +13,8 @@ use Rattle.defs_event.specs.Unfinished.{new_loader, with_events}
 use Rattle.yaml_scanner.specs.Scanned.{Scanned, ScansIn}
 use Rattle.yaml_parser.specs.Parsed.{read}
 use Rattle.defs_event.specs.ReadAs.{ReadAs, IsAtWork}
-use Rattle.proof_layout_trees.proofs.Loads.{streams_are_loaded, foretold_are_not_refused, streams_are_not_cut}
-use Rattle.defs_meaning.specs.Meaning.{Means}
+use Rattle.proof_layouts.proofs.Loads.{streams_are_loaded, foretold_are_not_refused, streams_are_not_cut}
+use Rattle.defs_event.specs.Meaning.{Means}
 use Rattle.proof_loads.specs.TextEvents.{AreFirst}
 use Rattle.proof_loads.specs.Laws.{ReadTextsAreNotRefused, ReadTextsHaveNoFaultButMemory, EventsOfReadTextsAreRead, ReadTextsHaveTheirTrees}
 

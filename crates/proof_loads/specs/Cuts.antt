@@ -5,9 +5,9 @@ use Rattle.defs_token.specs.Token.{Token}
 use Rattle.defs_tree.specs.Tree.{Tree}
 use Rattle.defs_token.specs.Cut.{IsCut}
 use Rattle.defs_token.specs.Toks.{toks}
-use Rattle.defs_row.specs.Row.{IsRead}
+use Rattle.defs_token.specs.Row.{IsRead}
 use Rattle.defs_event.specs.ReadAs.{ReadAs}
-use Rattle.defs_meaning.specs.Meaning.{Means}
+use Rattle.defs_event.specs.Meaning.{Means}
 
 -- A cut of the text: its tokens are a stream's, whose events are read as these trees.
 pub record IsReadOfCut (keep_tags : Bool) (text : List ℕ) (trees : List Tree) : Type 0 where

@@ -8,7 +8,7 @@ use Rattle.defs_tree.specs.Writable.{IsWritable}
 use Rattle.defs_event.specs.Event.{Ev}
 use Rattle.defs_event.specs.Stream.{IsStream, events_of}
 use Rattle.defs_event.specs.Unfinished.{Opened, opened_sequence, opened_mapping, Unfinished, new_loader, at_work, with_events, with_event, with_tree}
-use Rattle.defs_meaning.specs.Meaning.{Means}
+use Rattle.defs_event.specs.Meaning.{Means}
 
 -- `read_documents_come_back`, in each setting; with and without `keep_tags`, for either text
 abbrev pub ReadDocumentsComeBack : Type 0

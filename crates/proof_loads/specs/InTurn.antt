@@ -4,7 +4,7 @@ use Rattle.defs_tree.specs.Tree.{Tree}
 use Rattle.defs_layout.specs.InTurn.{AreLaidOutInTurn}
 use Rattle.defs_layout.specs.DumpIsInjective.{CanBeWritten}
 use Rattle.defs_layout.specs.DumpsInTurn.{dump_texts}
-use Rattle.defs_meaning.specs.Meaning.{Means}
+use Rattle.defs_event.specs.Meaning.{Means}
 use Rattle.proof_loads.specs.Spelled.{IsWithoutNul}
 
 -- `layouts_in_turn_mean_their_trees`

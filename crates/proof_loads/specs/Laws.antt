@@ -1,5 +1,5 @@
 -- Laws of what texts mean, and of what is read of them: each is the contract of the function of `src/laws.rt` that its comment names.
-use Rattle.std.specs.Prelude.{◌≡◌, ℕ, Bool, true, false, Option, List, length, [], ◌∷◌, ◌++◌, Result, Ok}
+use Rattle.std.specs.Prelude.{◌≡◌, ℕ, Bool, true, false, Option, List, length, [], ◌∷◌, ◌++◌, Result, Ok, Err, Some}
 use Rattle.std.specs.Iterator.{AlwaysYields}
 use Rattle.std.specs.Str.{chars, IsUtf8}
 use Rattle.std.specs.Str.Iter.{chars_steps, chars_rest}
@@ -7,7 +7,7 @@ use Rattle.std.specs.declared.str.Chars.{Chars}
 use Rattle.defs_text.specs.Position.{Position}
 use Rattle.yaml_chars.specs.Source.{CameFrom}
 use Rattle.defs_text.specs.Text.{up_to_nul}
-use Rattle.yaml_chars.specs.Reading.{HasNoNul}
+use Rattle.yaml_chars.specs.WindowView.{HasNoNul}
 use Rattle.defs_token.specs.Token.{Token}
 use Rattle.defs_tree.specs.Tree.{Tree}
 use Rattle.defs_tree.specs.DumpText.{dump_text}
@@ -16,7 +16,7 @@ use Rattle.defs_layout.specs.DumpIsInjective.{CanBeWritten}
 use Rattle.yaml_tokens.specs.ErrorReport.{ErrorReport}
 use Rattle.defs_event.specs.Event.{Ev}
 use Rattle.defs_event.specs.PulledList.{Answer, IsSettled}
-use Rattle.defs_event.specs.Stream.{events_of}
+use Rattle.defs_event.specs.Stream.{events_of, AgreeAt}
 use Rattle.defs_event.specs.Unfinished.{new_loader, with_events}
 use Rattle.defs_event.specs.Laws.{HasRead}
 use Rattle.model_scanner.specs.State.{ScannerState}
@@ -25,11 +25,11 @@ use Rattle.yaml_scanner.specs.Follows.{BeginsWith, IsReached}
 use Rattle.yaml_scanner.specs.Scanned.{Scanned, MayBe, ScansIn, Scans}
 use Rattle.yaml_parser.specs.Parsed.{Parsed, read}
 use Rattle.yaml_parser.specs.Follows.{Follows, Refused, IsWhole, Explains}
-use Rattle.yaml_parser.specs.Loads.{Loads, PullsAll}
+use Rattle.yaml_parser.specs.Loads.{Loads, PullsAll, Receives}
 use Rattle.defs_event.specs.ReadAs.{IsAtWork}
-use Rattle.defs_meaning.specs.Meaning.{Means}
+use Rattle.defs_event.specs.Meaning.{Means}
 use Rattle.proof_loads.specs.AtStart.{IsAtStart}
-use Rattle.proof_loads.specs.TextEvents.{IsFaultOf, AnswersText}
+use Rattle.proof_loads.specs.TextEvents.{IsFaultOf, ComesAfter, AnswersText}
 use Rattle.proof_loads.specs.LoadsAs.{LoadsAs}
 use Rattle.proof_loads.specs.Spelled.{IsWithoutNul}
 
@@ -44,6 +44,33 @@ SettledTokensStay = (text : List ℕ) (given : List Token) (r : IsReached text g
 -- `one_fault`; two faults, whatever parsers have them, neither of which is refused memory
 abbrev pub OneFault : Type 0
 OneFault = (keep_tags : Bool) (text : List ℕ) (f g : ErrorReport) → IsFaultOf keep_tags text f → IsFaultOf keep_tags text g → f.memory ≡ false → g.memory ≡ false → f ≡ g
+
+-- `one_list_of_events_before_a_fault`; the events before two faults, neither of which is refused memory
+abbrev pub OneListOfEventsBefore : Type 0
+OneListOfEventsBefore =
+    (keep_tags : Bool) (text : List ℕ) (f g : ErrorReport) (es fs : List (Ev × Position)) (why : IsFaultOf keep_tags text f) (other : IsFaultOf keep_tags text g) → f.memory ≡ false → g.memory ≡ false
+    → ComesAfter why es → ComesAfter other fs → AgreeAt es fs
+
+-- `one_list_of_events_pulled_before_a_fault`; two parsers that keep a fault, neither of which is refused memory
+abbrev pub OneListOfPulledEventsBefore : Type 0
+OneListOfPulledEventsBefore =
+    (p q : Parsed) (text : List ℕ) (f g : ErrorReport) → p.keep_tags ≡ q.keep_tags → p.steady ≡ true → q.steady ≡ true → ScansIn text p.scanner → ScansIn text q.scanner → Explains f p → Explains g q
+    → f.memory ≡ false → g.memory ≡ false → AgreeAt (read p) (read q)
+
+-- Two receivers took events, and these are the same.
+pub record TookTheSameBefore {R S : Type 0} (takes : R → Ev → Position → Result (Unit {0}) ErrorReport → R → Type 0) (r r' : R) (others : S → Ev → Position → Result (Unit {0}) ErrorReport → S → Type 0) (s s' : S) : Type 0 where
+  pub events : List (Ev × Position)
+  pub other_events : List (Ev × Position)
+  pub took : Receives takes r events r'
+  pub other_took : Receives others s other_events s'
+  pub agree : AgreeAt events other_events
+
+-- `one_list_of_events_pushed_before_a_fault`, for each two kinds of receivers: two loads of a text by parsers at their start, which keep a fault
+-- then, neither of which is refused memory
+abbrev pub OneListOfPushedEventsBefore : {R S : Type 0} → (R → Ev → Position → Result (Unit {0}) ErrorReport → R → Type 0) → (S → Ev → Position → Result (Unit {0}) ErrorReport → S → Type 0) → Type 0
+OneListOfPushedEventsBefore {R} {S} takes others =
+    (p p' q q' : Parsed) (r r' : R) (s s' : S) (text : List ℕ) (f g : ErrorReport) → IsAtStart p → IsAtStart q → p.keep_tags ≡ q.keep_tags → ScansIn text p'.scanner → ScansIn text q'.scanner
+    → Loads takes true p r (Err f) p' r' → Loads others true q s (Err g) q' s' → p'.fault ≡ Some f → q'.fault ≡ Some g → f.memory ≡ false → g.memory ≡ false → TookTheSameBefore takes r r' others s s'
 
 -- ---- a parser somewhere in a text
 

@@ -1,7 +1,7 @@
 -- Laws of layouts: each is the contract of the function of `src/layouts.rt` that its comment names.
 use Rattle.std.specs.Prelude.{Bool, []}
 use Rattle.defs_layout.specs.Layout.{Layout, IsLayout, spell, trees_of}
-use Rattle.defs_meaning.specs.Meaning.{Means}
+use Rattle.defs_event.specs.Meaning.{Means}
 use Rattle.proof_loads.specs.Spelled.{IsWithoutNul}
 
 -- `layouts_mean_their_trees`

@@ -2,13 +2,12 @@
 use Rattle.std.specs.Prelude.{◌≡◌, ℕ, Bool, List}
 use Rattle.defs_text.specs.Position.{Position}
 use Rattle.defs_token.specs.Token.{Token}
-use Rattle.defs_row.specs.Row.{IsRead}
+use Rattle.defs_token.specs.Row.{IsRead}
 use Rattle.defs_event.specs.Event.{Ev}
 use Rattle.defs_event.specs.Nested.{NestedDocument, nested_stream}
 use Rattle.defs_event.specs.Stream.{IsPlacedStream, events_of}
 
--- The text is read as tokens, these are a stream's, and these are its events: those with a token of their own stand at its position, the
--- other positions are the parser's own. The events are nested.
+-- The text is read as tokens, these are a stream's, and these are its events, each at its position. The events are nested.
 pub record HasEvents (keep_tags : Bool) (text : List ℕ) (events : List (Ev × Position)) : Type 0 where
   pub tokens : List Token
   pub has : IsRead text tokens

@@ -2,7 +2,7 @@
 use Rattle.std.specs.Prelude.{ℕ, Bool, List, [], ◌∷◌}
 use Rattle.defs_tree.specs.Tree.{Tree}
 use Rattle.defs_layout.specs.QuotedText.{IsQuoted}
-use Rattle.defs_meaning.specs.Meaning.{Means}
+use Rattle.defs_event.specs.Meaning.{Means}
 use Rattle.proof_loads.specs.Spelled.{IsWithoutNul}
 
 -- `quoted_texts_mean_their_string`

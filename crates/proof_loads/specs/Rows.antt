@@ -5,10 +5,10 @@ use Rattle.std.specs.Str.Iter.{chars_steps, chars_rest}
 use Rattle.std.specs.declared.str.Chars.{Chars}
 use Rattle.defs_text.specs.Position.{Position}
 use Rattle.defs_text.specs.Text.{up_to_nul}
-use Rattle.yaml_chars.specs.Reading.{HasNoNul}
+use Rattle.yaml_chars.specs.WindowView.{HasNoNul}
 use Rattle.yaml_chars.specs.Source.{CameFrom}
 use Rattle.defs_token.specs.Token.{Token}
-use Rattle.defs_row.specs.Row.{IsRead}
+use Rattle.defs_token.specs.Row.{IsRead}
 use Rattle.defs_event.specs.Event.{Ev}
 use Rattle.defs_event.specs.Stream.{events_of}
 use Rattle.yaml_tokens.specs.ErrorReport.{ErrorReport}
@@ -16,7 +16,7 @@ use Rattle.yaml_tokens.specs.declared.problem.Fault.{Fault}
 use Rattle.model_scanner.specs.Run.{IsRefused}
 use Rattle.yaml_scanner.specs.Rowless.{HasNoRow}
 use Rattle.yaml_scanner.specs.Scanned.{Scanned, LeavesNoRow}
-use Rattle.defs_meaning.specs.Meaning as meaning
+use Rattle.defs_event.specs.Meaning as meaning
 use Rattle.proof_loads.specs.PlacedEvents.{HasEvents}
 use Rattle.proof_loads.specs.Spelled.{IsWithoutNul}
 

@@ -1,6 +1,6 @@
 //! Laws of what texts mean, and of what is read of them, each the contract of an empty function.
 
-ghost use Rattle.proof_loads.specs.Laws.{SettledTokensStay, OneFault, ReadTextsAreNotRefused, ReadTextsHaveNoFaultButMemory, EventsOfReadTextsAreRead, ReadTextsHaveTheirTrees, JsonTextsMeanTheirTree, JsonTextsAreWithoutNul, ReadTextsAreLoaded, JsonTextsAreLoaded, DumpsMeanTheirTree, TextsAreAnswered, ReadTextsHaveOneListOfEvents, AnswersAreSettled, CharactersAreTheText, StringsAreTheText};
+ghost use Rattle.proof_loads.specs.Laws.{SettledTokensStay, OneFault, OneListOfEventsBefore, OneListOfPulledEventsBefore, OneListOfPushedEventsBefore, ReadTextsAreNotRefused, ReadTextsHaveNoFaultButMemory, EventsOfReadTextsAreRead, ReadTextsHaveTheirTrees, JsonTextsMeanTheirTree, JsonTextsAreWithoutNul, ReadTextsAreLoaded, JsonTextsAreLoaded, DumpsMeanTheirTree, TextsAreAnswered, ReadTextsHaveOneListOfEvents, AnswersAreSettled, CharactersAreTheText, StringsAreTheText};
 ghost use Rattle.defs_layout.specs.DumpIsInjective.{DumpIsInjective};
 
 use yaml_parser::MarkedEventReceiver;
@@ -14,6 +14,25 @@ pub fn settled_tokens_stay()
 /// memory was refused.
 pub fn one_fault()
     ensures { OneFault }
+{}
+
+/// The events before a fault of a text are one list, each at its position but for the ends of mappings: two loads that answer a
+/// fault have pushed the same ones before it, unless memory was refused.
+#[tactic(auto, using(crate::proofs::OneListBefore::one_list_before))]
+pub fn one_list_of_events_before_a_fault()
+    ensures { OneListOfEventsBefore }
+{}
+
+/// Two parsers of the same text, with the same setting, that keep a fault have read the same events before it, each at its position but
+/// for the ends of mappings, unless memory was refused.
+pub fn one_list_of_events_pulled_before_a_fault()
+    ensures { OneListOfPulledEventsBefore }
+{}
+
+/// Two loads of the same text by parsers at their start, with the same setting, that keep a fault then have pushed the same events
+/// before it, each at its position but for the ends of mappings, unless memory was refused, whatever their receivers are.
+pub fn one_list_of_events_pushed_before_a_fault<R: MarkedEventReceiver, S: MarkedEventReceiver>()
+    ensures { OneListOfPushedEventsBefore R.takes S.takes }
 {}
 
 /// If a text means trees, no parser refuses one of its tokens.

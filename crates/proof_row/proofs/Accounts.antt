@@ -1,13 +1,13 @@
 -- Like accounts stay like over a step with the same text; and where they are equal after it, they were, and so were the steps.
 use Rattle.std.proofs.Common.{◌≡◌, ℕ, List, [], ◌∷◌, Bool, true, false, not, ◌&&◌, Option, Some, None, ap, subst, ◌∙◌, refl}
 use Rattle.defs_token.specs.Token.{Tok}
-use Rattle.defs_row.specs.Step.{Step, act_of, has_break}
-use Rattle.defs_row.specs.Column.{is_in_column}
-use Rattle.defs_row.specs.Key.{Line, free, taken, waits, is_waiting, begins_free_line, Outside}
-use Rattle.defs_row.specs.FlowEntry.{Had, fresh, filled, settled, Had.waits as had_waits, Entry, is_keyed, begun_by, is_renewed}
-use Rattle.defs_row.specs.Account.{Site, Account, is_in_flow, site_at, site_past, may_stand, on_one_line, past_outside, past_inside, past_piece, past_site, account_past, have_no_key, may_end}
+use Rattle.defs_token.specs.Step.{Step, act_of, has_break}
+use Rattle.defs_token.specs.Column.{is_in_column}
+use Rattle.defs_token.specs.Key.{Line, free, taken, waits, is_waiting, begins_free_line, Outside}
+use Rattle.defs_token.specs.FlowEntry.{Had, fresh, filled, settled, Had.waits as had_waits, Entry, is_keyed, begun_by, is_renewed}
+use Rattle.defs_token.specs.RowAccount.{Site, Account, is_in_flow, site_at, site_past, may_stand, on_one_line, past_outside, past_inside, past_piece, past_site, account_past, have_no_key, may_end}
 use Rattle.proof_row.proofs.Like.{LikeLine, LikeHad, LikeEntries, IsLike, LikeOutside, entries_themselves, Stepped, none_second, weaker, unless, where_both, both, same_entry}
-use Rattle.proof_row.proofs.Lines.{separation_step, line_step}
+use Rattle.proof_row.proofs.RowLines.{separation_step, line_step}
 use Rattle.proof_row.proofs.Entries.{entries_step}
 
 -- ---- after a piece

@@ -1,6 +1,22 @@
+mod Rows
 pub mod Accounts
+pub mod Begins
+pub mod Blocks
+pub mod Columns
+pub mod Directives
 pub mod Entries
 pub mod Like
 pub mod Lines
+pub mod Meanings
+pub mod Names
 pub mod OneRow
+pub mod Pieces
+pub mod Plains
+pub mod Quotes
+pub mod RowLines
+pub mod Runs
+pub mod Separations
+pub mod Splits
+pub mod TagEnds
+pub mod Texts
 pub mod Written

@@ -1,8 +1,8 @@
 -- Accounts that are alike but for keys that wait, and what a step makes of two like things.
 use Rattle.std.proofs.Common.{◌≡◌, List, [], ◌∷◌, ◌++◌, Bool, true, false, if◌then◌else◌, Option, Some, None, ap, ◌∙◌, refl}
-use Rattle.defs_row.specs.Key.{Line, free, taken, waits, Outside}
-use Rattle.defs_row.specs.FlowEntry.{Had, fresh, filled, settled, Had.waits as had_waits, Entry}
-use Rattle.defs_row.specs.Account.{Account}
+use Rattle.defs_token.specs.Key.{Line, free, taken, waits, Outside}
+use Rattle.defs_token.specs.FlowEntry.{Had, fresh, filled, settled, Had.waits as had_waits, Entry}
+use Rattle.defs_token.specs.RowAccount.{Account}
 
 -- ---- the relation
 

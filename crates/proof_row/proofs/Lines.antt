@@ -1,122 +1,113 @@
--- Like lines stay like: over a separation, and over a piece outside flow.
-use Rattle.std.proofs.Common.{◌≡◌, ℕ, List, Bool, true, false, if◌then◌else◌, Option, Some, None, ap, subst, refl}
-use Rattle.defs_text.specs.Position.{Position}
-use Rattle.defs_row.specs.Step.{Act, gives_node, gives_block_scalar, gives_dash, gives_question, gives_colon, gives_comma, gives_closing, gives_marker, gives_nothing}
-use Rattle.defs_row.specs.Column.{opened}
-use Rattle.defs_row.specs.Key.{Line, free, taken, waits, line_past_separation, Outside, is_near, keyed, line_past}
-use Rattle.proof_row.proofs.Like.{LikeLine, LikeOutside, Stepped, none_second}
+-- The lines of a text after another one, and a text's first line.
+use Rattle.std.proofs.Common.{◌≡◌, ℕ, List, [], ◌∷◌, ◌++◌, Bool, true, false, ◌&&◌, ◌==◌, if◌then◌else◌, sym, ap, subst, ◌∙◌, refl}
+use Rattle.std.proofs.lemmas.Bool.{eqb-true}
+use Rattle.defs_text.specs.Classes.{is_break}
+use Rattle.defs_text.specs.Breaks.{Split, put_first, with_first, with_empty_line, is_before_line_feed, split_by, split}
+use Rattle.defs_text.specs.FlowScalar.{begins_with}
+use Rattle.proof_row.proofs.Runs.{both}
 
-pub separation_step : (fl broken : Bool) (l m : Line) → LikeLine l m → Stepped LikeLine (l ≡ m) (line_past_separation fl broken l) (line_past_separation fl broken m)
-separation_step fl false l m i = (i, λ h. h)
-separation_step true true free free i = (tt, λ h. refl)
-separation_step false true free free i = (tt, λ h. refl)
-separation_step true true taken taken i = (tt, λ h. refl)
-separation_step false true taken taken i = (tt, λ h. refl)
-separation_step fl true (waits p) m i = tt
-separation_step fl true l (waits q) i = none_second LikeLine (l ≡ waits q) (line_past_separation fl true l)
-separation_step fl true free taken i = absurd i
-separation_step fl true taken free i = absurd i
+abbrev pub of_lines : (complete : List (List ℕ)) → (last : List ℕ) → Split
+of_lines ls l = record { complete = ls; last = l }
 
-abbrev pub LineStep : Act → Type 0
-LineStep k = (must : Bool) (here : Position) (bs : List ℕ) (b c : Bool) (l m : Line) → LikeLine l m →
-    Stepped LikeOutside ((l ≡ m) × (b ≡ c)) (line_past must here bs k b l) (line_past must here bs k c m)
+-- ---- the lines of two texts
 
-abbrev Outer : Line → List ℕ → Outside
-Outer l bs = record { line = l; blocks = bs }
+-- the lines of a text after complete ones
+abbrev pub lines_after : List (List ℕ) → Split → Split
+lines_after ls s = of_lines (ls ++ s.complete) (s.last)
 
-line_of : (l m : Line) (bs cs : List ℕ) → Outer l bs ≡ Outer m cs → l ≡ m
-line_of l m bs cs h = ap (λ x. x.line) h
-
-node_step : LineStep gives_node
-node_step must here bs true true free free i = ((refl, refl), λ h. (refl, refl))
-node_step true here bs true false free free i = tt
-node_step false here bs true false free free i = ((tt, refl), λ h. absurd (cc (line_of (waits here) taken bs bs h)))
-node_step true here bs false true free free i = tt
-node_step false here bs false true free free i = ((tt, refl), λ h. absurd (cc (line_of taken (waits here) bs bs h)))
-node_step true here bs false false free free i = tt
-node_step false here bs false false free free i = ((tt, refl), λ h. (refl, refl))
-node_step must here bs false false taken taken i = ((tt, refl), λ h. (refl, refl))
-node_step must here bs false false taken (waits q) i = ((tt, refl), λ h. (line_of taken (waits q) bs bs h, refl))
-node_step must here bs false false (waits p) taken i = ((tt, refl), λ h. (line_of (waits p) taken bs bs h, refl))
-node_step must here bs false false (waits p) (waits q) i = ((i, refl), λ h. (ap waits i, refl))
-node_step must here bs true c taken m i = tt
-node_step must here bs true c (waits p) m i = tt
-node_step must here bs b true l taken i = none_second LikeOutside ((l ≡ taken) × (b ≡ true)) (line_past must here bs gives_node b l)
-node_step must here bs b true l (waits q) i = none_second LikeOutside ((l ≡ waits q) × (b ≡ true)) (line_past must here bs gives_node b l)
-node_step must here bs _ _ _ _ i = absurd i
-
-block_scalar_step : LineStep gives_block_scalar
-block_scalar_step true here bs false false free free i = tt
-block_scalar_step false here bs false false free free i = ((tt, refl), λ h. (refl, refl))
-block_scalar_step must here bs false false taken taken i = ((tt, refl), λ h. (refl, refl))
-block_scalar_step must here bs true c l m i = tt
-block_scalar_step must here bs false true l m i = none_second LikeOutside ((l ≡ m) × (false ≡ true)) (line_past must here bs gives_block_scalar false l)
-block_scalar_step must here bs false false (waits p) m i = tt
-block_scalar_step must here bs false false l (waits q) i = none_second LikeOutside ((l ≡ waits q) × (false ≡ false)) (line_past must here bs gives_block_scalar false l)
-block_scalar_step must here bs false false _ _ i = absurd i
-
-dash_step : LineStep gives_dash
-dash_step must here bs false false free free i = ((tt, refl), λ h. (refl, refl))
-dash_step must here bs true c l m i = tt
-dash_step must here bs false true l m i = none_second LikeOutside ((l ≡ m) × (false ≡ true)) (line_past must here bs gives_dash false l)
-dash_step must here bs false false taken m i = tt
-dash_step must here bs false false (waits p) m i = tt
-dash_step must here bs false false free _ i = absurd i
-
-question_step : LineStep gives_question
-question_step must here bs false false free free i = ((tt, refl), λ h. (refl, refl))
-question_step must here bs true c l m i = tt
-question_step must here bs false true l m i = none_second LikeOutside ((l ≡ m) × (false ≡ true)) (line_past must here bs gives_question false l)
-question_step must here bs false false taken m i = tt
-question_step must here bs false false (waits p) m i = tt
-question_step must here bs false false free _ i = absurd i
-
--- a colon ends one key in both
-keyed_step : (p q here : Position) (bs : List ℕ) → p ≡ q → Stepped LikeOutside ((waits p ≡ waits q) × (false ≡ false)) (keyed p here bs) (keyed q here bs)
-keyed_step p q here bs i =
-    subst (λ x. Stepped LikeOutside ((waits p ≡ waits x) × (false ≡ false)) (keyed p here bs) (keyed x here bs)) i (by (is_near p here) (opened p.col bs))
+-- more text that does not begin with a line feed does not change whether one follows
+before_same : (c : ℕ) (r z : List ℕ) → begins_with 10 z ≡ false → is_before_line_feed c (r ++ z) ≡ is_before_line_feed c r
+before_same c [] [] h = refl
+before_same c [] (d ∷ z) h = by (c == 13) (d == 10) h
   where
-    by : (n : Bool) (cs : List ℕ) → Stepped LikeOutside ((waits p ≡ waits p) × (false ≡ false)) (if n then Some (Outer taken cs) else None) (if n then Some (Outer taken cs) else None)
-    by true cs = ((tt, refl), λ h. (refl, refl))
-    by false cs = tt
+    by : (a b : Bool) → b ≡ false → (a && b) ≡ false
+    by true b f = f
+    by false b f = refl
+before_same c (d ∷ r) z h = refl
 
-colon_step : LineStep gives_colon
-colon_step must here bs false false free free i = ((tt, refl), λ h. (refl, refl))
-colon_step must here bs false false (waits p) (waits q) i = keyed_step p q here bs i
-colon_step must here bs true c l m i = tt
-colon_step must here bs false true l m i = none_second LikeOutside ((l ≡ m) × (false ≡ true)) (line_past must here bs gives_colon false l)
-colon_step must here bs false false taken m i = tt
-colon_step must here bs false false (waits p) taken i = none_second LikeOutside ((waits p ≡ taken) × (false ≡ false)) (keyed p here bs)
-colon_step must here bs false false _ _ i = absurd i
+-- a text whose last line is complete, and one after it that does not go on with a line feed
+pub split_append : (p z : List ℕ) (ls : List (List ℕ)) → split p ≡ of_lines ls [] → begins_with 10 z ≡ false → split (p ++ z) ≡ lines_after ls (split z)
+split_append [] z ls e h = ap (λ s. lines_after (s.complete) (split z)) e
+split_append (c ∷ p) z ls e h =
+    ap (λ b. split_by (is_break c) b c (split (p ++ z))) (before_same c p z h) ∙ by (is_break c) (is_before_line_feed c p) (split p) refl (λ ls e. split_append p z ls e h) e
+  where
+    kept : (complete : List (List ℕ)) (last : List ℕ) → put_first c complete last ≡ of_lines ls [] → ((ls : List (List ℕ)) → of_lines complete last ≡ of_lines ls [] → split (p ++ z) ≡ lines_after ls (split z)) →
+        with_first c (split (p ++ z)) ≡ lines_after ls (split z)
+    kept [] last e f = absurd (cc (ap (λ s. s.last) e))
+    kept (l ∷ complete) last e f =
+        let ended : last ≡ [] = ap (λ s. s.last) e in
+        let lines : (c ∷ l) ∷ complete ≡ ls = ap (λ s. s.complete) e in
+        ap (λ s. with_first c s) (f (l ∷ complete) (ap (λ x. of_lines (l ∷ complete) x) ended)) ∙ ap (λ x. lines_after x (split z)) lines
 
--- A piece that is no key, and after which the same is so wherever no key waits.
-settled : (f : (key : Bool) → Line → Option Outside) (x : Outside) → LikeOutside x x → f false free ≡ Some x → f false taken ≡ Some x → ((p : Position) → f false (waits p) ≡ None) → ((l : Line) → f true l ≡ None)
-    → (b c : Bool) (l m : Line) → LikeLine l m → Stepped LikeOutside ((l ≡ m) × (b ≡ c)) (f b l) (f c m)
-settled f x s of_free of_taken waiting key false false free free i = rw of_free (s, λ h. (refl, refl))
-settled f x s of_free of_taken waiting key false false taken taken i = rw of_taken (s, λ h. (refl, refl))
-settled f x s of_free of_taken waiting key true c l m i = rw (key l) tt
-settled f x s of_free of_taken waiting key false true l m i = rw (key m) (none_second LikeOutside ((l ≡ m) × (false ≡ true)) (f false l))
-settled f x s of_free of_taken waiting key false false (waits p) m i = rw (waiting p) tt
-settled f x s of_free of_taken waiting key false false l (waits q) i = rw (waiting q) (none_second LikeOutside ((l ≡ waits q) × (false ≡ false)) (f false l))
-settled f x s of_free of_taken waiting key false false _ _ i = absurd i
+    by : (break two : Bool) (s : Split) → split p ≡ s → ((ls : List (List ℕ)) → s ≡ of_lines ls [] → split (p ++ z) ≡ lines_after ls (split z)) → split_by break two c s ≡ of_lines ls [] →
+        split_by break two c (split (p ++ z)) ≡ lines_after ls (split z)
+    by true true s i f e = f ls e
+    by true false s i f e =
+        let ended : s.last ≡ [] = ap (λ s. s.last) e in
+        let lines : [] ∷ s.complete ≡ ls = ap (λ s. s.complete) e in
+        ap with_empty_line (f (s.complete) (ap (λ x. of_lines (s.complete) x) ended)) ∙ ap (λ x. lines_after x (split z)) lines
+    by false two s i f e = kept (s.complete) (s.last) e f
 
-comma_step : LineStep gives_comma
-comma_step must here bs = settled (line_past must here bs gives_comma) (Outer free bs) (tt, refl) refl refl (λ p. refl) (λ l. refl)
+-- ---- the first line
 
-closing_step : LineStep gives_closing
-closing_step must here bs = settled (line_past must here bs gives_closing) (Outer taken bs) (tt, refl) refl refl (λ p. refl) (λ l. refl)
+-- the characters before the first break
+abbrev pub up_to_break : List ℕ → List ℕ
+up_to_break [] = []
+up_to_break (c ∷ r) = (if is_break c then [] else c ∷ up_to_break r)
 
-marker_step : LineStep gives_marker
-marker_step must here bs = settled (line_past must here bs gives_marker) (Outer taken bs) (tt, refl) refl refl (λ p. refl) (λ l. refl)
+-- the first of lines
+abbrev pub first_line : (complete : List (List ℕ)) → (last : List ℕ) → List ℕ
+first_line [] last = last
+first_line (l ∷ ls) last = l
 
--- Like lines are like again after a piece outside flow.
-pub line_step : (k : Act) → LineStep k
-line_step gives_node = node_step
-line_step gives_block_scalar = block_scalar_step
-line_step gives_dash = dash_step
-line_step gives_question = question_step
-line_step gives_colon = colon_step
-line_step gives_comma = comma_step
-line_step gives_closing = closing_step
-line_step gives_marker = marker_step
-line_step gives_nothing = λ must here bs b c l m i. tt
+-- the first line of a text
+abbrev pub line_of : List ℕ → List ℕ
+line_of z = first_line ((split z).complete) ((split z).last)
+
+first_kept : (c : ℕ) (complete : List (List ℕ)) (last : List ℕ) → first_line ((put_first c complete last).complete) ((put_first c complete last).last) ≡ c ∷ first_line complete last
+first_kept c [] last = refl
+first_kept c (l ∷ ls) last = refl
+
+line_feed_breaks : (c : ℕ) (r : List ℕ) → is_before_line_feed c r ≡ true → up_to_break r ≡ []
+unfolding is_break
+line_feed_breaks c [] h = refl
+line_feed_breaks c (d ∷ r) h = subst (λ z. up_to_break (z ∷ r) ≡ []) (sym (eqb-true d 10 (both _ _ h).1)) refl
+
+-- it goes up to the first break
+pub line_is : (z : List ℕ) → line_of z ≡ up_to_break z
+line_is [] = refl
+line_is (c ∷ r) = by (is_break c) (is_before_line_feed c r) refl (line_is r)
+  where
+    by : (break two : Bool) → is_before_line_feed c r ≡ two → line_of r ≡ up_to_break r →
+        first_line ((split_by break two c (split r)).complete) ((split_by break two c (split r)).last) ≡ (if break then [] else c ∷ up_to_break r)
+    by true true f h = h ∙ line_feed_breaks c r f
+    by true false f h = refl
+    by false two f h = first_kept c ((split r).complete) ((split r).last) ∙ ap (λ x. c ∷ x) h
+
+-- the first line of a longer text is that of its beginning, if this has a complete line
+pub line_more : (z : List ℕ) → ((split z).complete ≡ [] → ⊥) → (y : List ℕ) → up_to_break (z ++ y) ≡ up_to_break z
+line_more [] h y = absurd (h refl)
+line_more (c ∷ r) h y = by (is_break c) (is_before_line_feed c r) (λ f. line_more r f y) h
+  where
+    by : (break two : Bool) → (((split r).complete ≡ [] → ⊥) → up_to_break (r ++ y) ≡ up_to_break r) → ((split_by break two c (split r)).complete ≡ [] → ⊥) →
+        (if break then [] else c ∷ up_to_break (r ++ y)) ≡ (if break then [] else c ∷ up_to_break r)
+    by true two f g = refl
+    by false two f g = ap (λ x. c ∷ x) (f (λ e. g (none ((split r).complete) ((split r).last) e)))
+      where
+        none : (complete : List (List ℕ)) (last : List ℕ) → complete ≡ [] → (put_first c complete last).complete ≡ []
+        none [] last e = refl
+        none (l ∷ ls) last e = absurd (cc e)
+
+-- a text without lines is empty
+pub no_lines : (z : List ℕ) → split z ≡ of_lines [] [] → z ≡ []
+no_lines [] e = refl
+no_lines (c ∷ r) e = absurd (by (is_break c) (is_before_line_feed c r) refl (λ f. no_lines r f) e)
+  where
+    kept : (complete : List (List ℕ)) (last : List ℕ) → put_first c complete last ≡ of_lines [] [] → ⊥
+    kept [] last e = cc (ap (λ s. s.last) e)
+    kept (l ∷ ls) last e = let lines : (c ∷ l) ∷ ls ≡ [] = ap (λ s. s.complete) e in cc lines
+
+    by : (break two : Bool) → is_before_line_feed c r ≡ two → (split r ≡ of_lines [] [] → r ≡ []) → split_by break two c (split r) ≡ of_lines [] [] → ⊥
+    by true true f g e = let two : false ≡ true = subst (λ z. is_before_line_feed c z ≡ true) (g e) f in cc two
+    by true false f g e = let lines : [] ∷ (split r).complete ≡ [] = ap (λ s. s.complete) e in cc lines
+    by false two f g e = kept ((split r).complete) ((split r).last) e

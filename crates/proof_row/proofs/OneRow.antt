@@ -2,12 +2,12 @@
 use Rattle.std.proofs.Common.{◌≡◌, ℕ, List, [], ◌∷◌, ◌++◌, false, Option, Some, None, sym, ap, subst, ◌∙◌, refl}
 use Rattle.defs_token.specs.Piece.{Holds}
 use Rattle.defs_text.specs.Text.{has_no_nul}
-use Rattle.proof_ends.proofs.Texts.{no_nul_after}
-use Rattle.proof_ends.proofs.Pieces.{no_piece_at_end, clean_up_to_end}
-use Rattle.defs_row.specs.Step.{Step, Row, spelled}
-use Rattle.defs_row.specs.Account.{Account, first_account, seen, account_past}
-use Rattle.defs_row.specs.Tokens.{shown_position, tokens_of_row}
-use Rattle.defs_row.specs.Row.{IsWritten, IsRowFrom, OneRow, OneReading}
+use Rattle.proof_row.proofs.Texts.{no_nul_after}
+use Rattle.proof_row.proofs.Pieces.{no_piece_at_end, clean_up_to_end}
+use Rattle.defs_token.specs.Step.{Step, Row, spelled}
+use Rattle.defs_token.specs.RowAccount.{Account, first_account, seen, account_past}
+use Rattle.defs_token.specs.Tokens.{shown_position, tokens_of_row}
+use Rattle.defs_token.specs.Row.{IsWritten, IsRowFrom, OneRow, OneReading}
 use Rattle.defs_token.specs.Separation.{is_separation}
 use Rattle.proof_row.proofs.Like.{IsLike, Stepped}
 use Rattle.proof_row.proofs.Accounts.{account_step, same_at_end}

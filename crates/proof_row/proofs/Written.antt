@@ -5,15 +5,15 @@ use Rattle.defs_text.specs.Position.{position_after}
 use Rattle.defs_token.specs.Account.{innermost_column, is_adjacent, before_past}
 use Rattle.defs_text.specs.Text.{is_empty, has_no_nul}
 use Rattle.defs_token.specs.Piece.{Holds}
-use Rattle.proof_ends.specs.Ends.{Kind, directive_line, dashes, dots, kind_of, IsSeenAlike}
-use Rattle.proof_ends.proofs.Texts.{no_nul_after}
-use Rattle.proof_ends.proofs.Pieces.{pieces_seen_alike, separations_before}
-use Rattle.defs_row.specs.Step.{Step, Act, act_of, is_marker}
-use Rattle.defs_row.specs.Column.{blocks_at, not_ended}
-use Rattle.defs_row.specs.FlowEntry.{Entry}
-use Rattle.defs_row.specs.Account.{Site, Account, is_in_flow, site_at, before_by, level_of, seen}
-use Rattle.defs_row.specs.Tokens.{shown_position}
-use Rattle.defs_row.specs.Row.{IsWritten}
+use Rattle.proof_row.specs.Ends.{Kind, directive_line, dashes, dots, kind_of, IsSeenAlike}
+use Rattle.proof_row.proofs.Texts.{no_nul_after}
+use Rattle.proof_row.proofs.Pieces.{pieces_seen_alike, separations_before}
+use Rattle.defs_token.specs.Step.{Step, Act, act_of, is_marker}
+use Rattle.defs_token.specs.Column.{blocks_at, not_ended}
+use Rattle.defs_token.specs.FlowEntry.{Entry}
+use Rattle.defs_token.specs.RowAccount.{Site, Account, is_in_flow, site_at, before_by, level_of, seen}
+use Rattle.defs_token.specs.Tokens.{shown_position}
+use Rattle.defs_token.specs.Row.{IsWritten}
 use Rattle.proof_row.proofs.Like.{LikeEntries, IsLike}
 use Rattle.proof_row.proofs.Accounts.{same_flow}
 

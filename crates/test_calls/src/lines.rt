@@ -6,7 +6,7 @@ use std::alloc::{AllocError, Global};
 use std::process::Abort;
 use std::test::Fail;
 use test_rows::Report;
-use yaml_chars::{Characters, Node, Text, TextInMemory, Window};
+use yaml_chars::{BlockLine, Characters, TextBuilder, TextInMemory, Window};
 
 /// What it shows, a text, and what is taken of its first line: each text, with the index, line and column after it.
 type Row = (&'static str, &'static str, &'static str);
@@ -94,7 +94,7 @@ const NODES: [Row; 12] = [
 fn shown<T: Characters>(
     alloc: Global,
     window: &Window<T>,
-    taken: Option<Text>,
+    taken: Option<TextBuilder>,
 ) -> Result<String, AllocError> {
     let mark = window.mark();
     match taken {
@@ -135,8 +135,8 @@ fn node_taken<T: Characters>(alloc: Global, source: T) -> Result<String, Fail>
     let mut window = Window::new(source);
     window.lookahead(1);
     let (kind, text) = match window.take_node(alloc, 4)? {
-        Some(Node::Key(text)) => ("key ", Some(text)),
-        Some(Node::Scalar(text)) => ("scalar ", Some(text)),
+        Some(BlockLine::Key(text)) => ("key ", Some(text)),
+        Some(BlockLine::Scalar(text)) => ("scalar ", Some(text)),
         None => ("", None),
     };
     let node = shown(alloc, &window, text)?;

@@ -1,7 +1,7 @@
 -- Where settings say what, and what is assumed where they say nothing.
 use Rattle.std.specs.Prelude.{List, [], ◌∷◌, pos, false, codes}
 use Rattle.uses.specs.declared.defaults.Server.{Server}
-use Rattle.yaml_json.specs.Fault.{Step, key}
+use Rattle.yaml_json.specs.Path.{Step, key}
 use Rattle.yaml_paths.specs.Optional.{IsReadOr}
 use Rattle.yaml_rust2.specs.Text.{string_chars}
 use Rattle.yaml_rust2.specs.Tree.{Tree, integer, string, boolean}

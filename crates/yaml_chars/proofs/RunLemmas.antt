@@ -1,13 +1,13 @@
 -- Lemmas about runs that are taken from a source.
 use Rattle.std.proofs.Common.{◌≡◌, ◌≢◌, ℕ, ◌+◌, Bool, false, true, List, [], ◌∷◌, ◌++◌, length, slice_index, arith, refl, ◌∙◌, length-append}
 use Rattle.defs_text.specs.Position.{Position}
-use Rattle.yaml_chars.specs.Reading.{Reading, Reads, Fills}
+use Rattle.yaml_chars.specs.WindowView.{WindowView, Reads, Fills}
 use Rattle.yaml_chars.specs.Source.{Pulled, Pulls}
 use Rattle.yaml_chars.specs.Run.{stops, ran, bare, GoesOn, GoesOver}
 use Rattle.yaml_chars.specs.Class.{is_blank, is_break}
 use Rattle.yaml_chars.specs.declared.run.Run.{Run}
 use Rattle.yaml_chars.specs.declared.run.Run.TheVariants.{Line, Quoted, Plain}
-use Rattle.yaml_chars.proofs.ReadingLemmas.{Reads-then, Fills-more, Possible-pulls, left-pulls, left-taken, front-pulls, next-pulls}
+use Rattle.yaml_chars.proofs.WindowViewLemmas.{Reads-then, Fills-more, Possible-pulls, left-pulls, left-taken, front-pulls, next-pulls}
 
 module _ {T : Type 0} (s : Pulled T) (at line col c : ℕ) (next : Pulled T) (fills : Fills s [] at line col) (pulls : Pulls s c next) (some : c ≢ 0) where
   -- a character came, and was taken at once
@@ -90,7 +90,7 @@ GoesOver-ended run s t done none = record {
 pub true_is_not_false : true ≡ false → ⊥
 true_is_not_false h = cc
 
-pub Reads-map : {T : Type 0} {P Q : List ℕ → List ℕ → Type 0} (old new : Reading T) → Reads old new P → ((a b : List ℕ) → P a b → Q a b) → Reads old new Q
+pub Reads-map : {T : Type 0} {P Q : List ℕ → List ℕ → Type 0} (old new : WindowView T) → Reads old new P → ((a b : List ℕ) → P a b → Q a b) → Reads old new Q
 Reads-map old new run gives = record {
   start = run.start;
   at = run.at;

@@ -10,7 +10,7 @@ use Rattle.std.specs.Iterator.{AlwaysYields, Yields, YieldsThen}
 use Rattle.yaml_chars.specs.Source.{IsEnd, CameFrom}
 use Rattle.defs_text.specs.Classes.{is_nul}
 use Rattle.defs_text.specs.Text.{up_to_nul}
-use Rattle.yaml_chars.specs.Reading.{HasNoNul, IsText, BeginsText}
+use Rattle.yaml_chars.specs.WindowView.{HasNoNul, IsText, BeginsText}
 
 up_to_nul-stop : (c : ℕ) (cs : List ℕ) → c ≡ 0 → up_to_nul (c ∷ cs) ≡ []
 unfolding is_nul

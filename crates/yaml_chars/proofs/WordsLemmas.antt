@@ -13,7 +13,7 @@ use lib.Utf8.{encode, encodes}
 use Rattle.std.proofs.lemmas.Str.{encode_ascii, encodes-chars, chars_past_char, char_from_byte, byte_from_char, length-encode, len_utf8_bounds, IsUtf8-past_char, IsUtf8-take, IsCharBoundary-before_ascii, IsCharBoundary-after_ascii, IsCharBoundary-start, IsCharBoundary-end}
 use Rattle.defs_text.specs.Position.{Position}
 use Rattle.yaml_chars.specs.Class.{is_blank, is_break, is_flow}
-use Rattle.yaml_chars.specs.Reading.{Reads, Fills, HasNoNul}
+use Rattle.yaml_chars.specs.WindowView.{Reads, Fills, HasNoNul}
 use Rattle.yaml_chars.specs.Run.{stops, bare}
 use Rattle.yaml_chars.specs.Source.{Pulled, IterStands}
 use Rattle.yaml_chars.specs.Words.{begins_word, is_in_words, are_words, stops_beyond, stops_byte, begins_byte, is_word_byte, AreWordsUpTo, AreWordsBetween, IsWordBetween, AreAscii, EndsAtAscii, halts, halts_line, Goes, LanesGo, GivesWords, TakesWords}

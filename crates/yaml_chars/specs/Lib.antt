@@ -1,8 +1,8 @@
 pub mod Class
 pub mod InMemory
-pub mod Pairs
+pub mod BlockLines
 pub mod Queue
-pub mod Reading
+pub mod WindowView
 pub mod Run
 pub mod Source
 pub mod Words

@@ -1,7 +1,7 @@
 -- Where a run of ordinary characters of one line ends, and what it leaves.
 use Rattle.std.specs.Prelude.{◌≡◌, ℕ, ◌+◌, ◌-◌, ◌≤◌, List, [], ◌∷◌, ◌++◌, length, Bool, true, false, ◌==◌, ◌||◌, ◌&&◌, if◌then◌else◌}
 use Rattle.defs_text.specs.Position.{Position}
-use Rattle.yaml_chars.specs.Reading.{Reading, Reads, Fills}
+use Rattle.yaml_chars.specs.WindowView.{WindowView, Reads, Fills}
 use Rattle.yaml_chars.specs.Source.{Pulled, Pulls}
 use Rattle.yaml_chars.specs.Class.{is_breakz, is_blank_or_breakz, is_flow}
 use Rattle.yaml_chars.specs.declared.run.Run.{Run}
@@ -25,7 +25,7 @@ ran run (c ∷ a) p t =
     else ran run a (record { index = p.index + 1; line = p.line; col = p.col + 1 }) (t ++ c ∷ []))
 
 -- a source as a window sees it that is empty, at a position
-abbrev pub bare : {T : Type 0} → Pulled T → ℕ → ℕ → ℕ → Reading T
+abbrev pub bare : {T : Type 0} → Pulled T → ℕ → ℕ → ℕ → WindowView T
 bare s at line col = record { start = s.start; taken = s.taken; done = s.done; at = at; ahead = 0; left = (length s.taken - at) + s.left; line = line; col = col }
 
 -- so many characters of a run came, and went into a text

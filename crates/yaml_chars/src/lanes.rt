@@ -1,6 +1,6 @@
 //! Sixteen bytes at a time.
 ghost use Rattle.std.specs.Prelude.{◌≡◌, ℕ, ◌+◌, ◌<◌, ◌≤◌, length, slice_index, false, map};
-ghost use Rattle.yaml_chars.specs.Pairs.{halts_simple};
+ghost use Rattle.yaml_chars.specs.BlockLines.{halts_simple};
 ghost use Rattle.std.specs.List.{count_by};
 ghost use Rattle.yaml_chars.specs.Words.{halts, halts_line, is_beyond, is_first_byte, pairs};
 ghost use lib.Lanes.{chunk, mask_l};

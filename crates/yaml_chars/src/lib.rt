@@ -2,23 +2,23 @@
 //! iterator of characters.
 #![tactic(auto)]
 
+mod block_line;
 pub mod characters;
 pub mod class;
 mod count;
-pub mod history;
+pub mod ghost_list;
 mod lanes;
 mod looks;
 pub mod marker;
-mod pairs;
 mod ring;
 mod run;
 pub mod source;
-pub mod text;
+pub mod text_builder;
 pub mod window;
 
+pub use block_line::{BlockLine, opens_simple};
 pub use characters::{Characters, TextInMemory};
 pub use marker::Marker;
-pub use pairs::{Node, opens_simple};
 pub use run::Run;
-pub use text::Text;
+pub use text_builder::TextBuilder;
 pub use window::Window;

@@ -1,19 +1,19 @@
 ghost use Rattle.std.specs.Prelude.{◌≡◌, ◌≢◌, ◌<◌, ◌≤◌, ◌^◌, [], ◌∷◌, ◌++◌, true, false, IfOk, IfSome, IfNone, OnErr};
 ghost use Rattle.std.specs.Iterator.{IsFinite, size};
-ghost use Rattle.yaml_chars.specs.declared.pairs.Part.TheVariants as part;
-ghost use Rattle.yaml_chars.specs.Pairs.{GivesPart};
+ghost use Rattle.yaml_chars.specs.declared.block_line.LineKind.TheVariants as part;
+ghost use Rattle.yaml_chars.specs.BlockLines.{GivesPart};
 ghost use Rattle.yaml_chars.specs.Run.{GoesOver};
 ghost use Rattle.yaml_chars.specs.Source.{Pulls, Came};
 ghost use Rattle.yaml_chars.specs.Words.{GivesWords, HasGiven};
 
+use crate::block_line::{FoundLine, LineKind, given, joined};
 use crate::characters::Characters;
 use crate::count::character_count;
-use crate::history::History;
+use crate::ghost_list::GhostList;
 use crate::looks::Looks;
-use crate::pairs::{Part, Piece, given, joined};
 use crate::ring::Ring;
 use crate::run::Run;
-use crate::text::Text;
+use crate::text_builder::TextBuilder;
 use std::alloc::{AllocError, Global};
 use std::marker::Model;
 use std::snapshot::Snapshot;
@@ -24,14 +24,14 @@ const WORTH: usize = 8;
 /// A run, and the text that its characters go into.
 pub(crate) struct Filling {
     pub run: Run,
-    pub text: Text,
+    pub text: TextBuilder,
 }
 
 /// How many characters of a run went into a text, the one after them, and whether memory was
 /// refused for that.
 #[derive(Drop)]
 pub(crate) struct Ran {
-    pub text: Text,
+    pub text: TextBuilder,
     pub count: usize,
     pub after: char,
     pub refused: bool,
@@ -45,7 +45,7 @@ pub(crate) struct Met {
     pub refused: bool,
 }
 
-fn ended(text: Text, count: usize, after: char, refused: bool) -> Ran
+fn ended(text: TextBuilder, count: usize, after: char, refused: bool) -> Ran
     ensures { result ≡ record { text = text; count = count; after = after; refused = refused } }
 {
     Ran {
@@ -71,7 +71,7 @@ fn word_ended(count: usize, after: char, refused: bool) -> Met
 pub struct Source<T: Characters> {
     iter: T,
     start: Snapshot<T>,
-    taken: History<char>,
+    taken: GhostList<char>,
     done: bool,
     // Looks for words, and for scalars of a line.
     words: Looks,
@@ -99,7 +99,7 @@ impl<T: Characters> Source<T> {
         Source {
             start: Snapshot::of(&iter),
             iter,
-            taken: History::new(),
+            taken: GhostList::new(),
             done: false,
             words: Looks::new(),
             nodes: Looks::new(),
@@ -145,7 +145,7 @@ impl<T: Characters> Source<T> {
     /// Takes words that are known to come, and lone blanks between them, into a text, and says how many characters
     /// they have: none, where looks for them did not pay. An `Err` changes nothing.
     #[inline(always)]
-    pub(crate) fn words_on(&mut self, run: Run, text: &mut Text) -> Result<usize, AllocError>
+    pub(crate) fn words_on(&mut self, run: Run, text: &mut TextBuilder) -> Result<usize, AllocError>
         ensures ok { IfOk result (λ count. GivesWords run self.old self.new count text.old text.new) }
         ensures err { OnErr result ((self.new ≡ self.old) × (text.new ≡ text.old)) }
     {
@@ -159,7 +159,7 @@ impl<T: Characters> Source<T> {
 
     // The same, whether looks paid or not.
     #[inline(always)]
-    fn known_words_on(&mut self, run: Run, text: &mut Text) -> Result<usize, AllocError>
+    fn known_words_on(&mut self, run: Run, text: &mut TextBuilder) -> Result<usize, AllocError>
         ensures ok { IfOk result (λ count. GivesWords run self.old self.new count text.old text.new) }
         ensures err { OnErr result ((self.new ≡ self.old) × (text.new ≡ text.old)) }
     {
@@ -206,7 +206,7 @@ impl<T: Characters> Source<T> {
         limit: usize,
         held: &Ring,
         alloc: Global,
-    ) -> Result<Option<Piece>, AllocError>
+    ) -> Result<Option<FoundLine>, AllocError>
         ensures some { IfOk result (λ o. IfSome o (λ p. GivesPart (part.Node limit) held.now self.old self.new p.end p.broken p.spaces p.next p.text)) }
         ensures none { IfOk result (λ o. IfNone o (self.new ≡ self.old)) }
         ensures err { OnErr result (self.new ≡ self.old) }
@@ -214,7 +214,7 @@ impl<T: Characters> Source<T> {
         if !self.nodes.is_due() {
             return Ok(None);
         }
-        let found = self.part_on(Part::Node(limit), held, alloc)?;
+        let found = self.part_on(LineKind::Node(limit), held, alloc)?;
         self.nodes.note(found.is_some());
         Ok(found)
     }
@@ -224,10 +224,10 @@ impl<T: Characters> Source<T> {
     #[inline(always)]
     pub(crate) fn part_on(
         &mut self,
-        part: Part,
+        part: LineKind,
         held: &Ring,
         alloc: Global,
-    ) -> Result<Option<Piece>, AllocError>
+    ) -> Result<Option<FoundLine>, AllocError>
         ensures some { IfOk result (λ o. IfSome o (λ p. GivesPart part held.now self.old self.new p.end p.broken p.spaces p.next p.text)) }
         ensures none { IfOk result (λ o. IfNone o (self.new ≡ self.old)) }
         ensures err { OnErr result (self.new ≡ self.old) }
@@ -278,7 +278,7 @@ impl<T: Characters> Source<T> {
 
     /// The same for a word. Nothing is moved: a word's few characters would not pay for that.
     #[inline(always)]
-    pub(crate) fn word_on(&mut self, run: Run, text: &mut Text) -> Met
+    pub(crate) fn word_on(&mut self, run: Run, text: &mut TextBuilder) -> Met
         requires { self.old.left < 2 ^ 63 }
         ensures { GoesOver run self.old self.new result.count result.after result.refused text.old text.new }
     {

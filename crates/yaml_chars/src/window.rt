@@ -3,14 +3,14 @@ ghost use Rattle.std.specs.Iterator.{IsFinite, size};
 ghost use Rattle.yaml_chars.specs.Run.{stops, ran};
 ghost use Rattle.yaml_chars.specs.Source.{CameFrom};
 ghost use Rattle.yaml_chars.specs.Words.{TakesWords, PassesWords};
-ghost use Rattle.yaml_chars.specs.Reading.{position_of, Reads, Sees, HasChar, SamePosition, OneOn, after_char, after_break, after_line, HasNoNul};
+ghost use Rattle.yaml_chars.specs.WindowView.{position_of, Reads, Sees, HasChar, SamePosition, OneOn, after_char, after_break, after_line, HasNoNul};
 
 use crate::characters::Characters;
 use crate::marker::Marker;
 use crate::ring::Ring;
 use crate::run::Run;
 use crate::source::{Filling, Ran, Source};
-use crate::text::Text;
+use crate::text_builder::TextBuilder;
 use core::mem;
 use std::alloc::AllocError;
 use std::marker::Model;
@@ -28,9 +28,9 @@ pub struct Window<T: Characters> {
 impl<T: Characters> Model for Window<T> {
     ghost use Rattle.std.specs.Prelude.{◌+◌, ◌-◌};
     ghost use Rattle.std.specs.Prelude.{length as list_len};
-    ghost use Rattle.yaml_chars.specs.Reading.{Reading, Fills};
+    ghost use Rattle.yaml_chars.specs.WindowView.{WindowView, Fills};
 
-    ghost Value = { Reading T };
+    ghost Value = { WindowView T };
 
     ghost view = { λ s. record {
       start = s.source.start;
@@ -248,7 +248,7 @@ impl<T: Characters> Window<T> {
     /// Takes the characters of a run into a text. The one that ends it stays. Worth its while where
     /// runs are long, as a line is; words are taken faster by `take_word`.
     #[inline(always)]
-    pub fn take_run(&mut self, run: Run, text: &mut Text) -> Result<(), AllocError>
+    pub fn take_run(&mut self, run: Run, text: &mut TextBuilder) -> Result<(), AllocError>
         ensures ok { OnOk result (Reads self.old self.new (λ a b. ran run a (position_of self.old) text.old ≡ record { rest = b; position = position_of self.new; text = text.new })) }
         ensures err { OnErr result (Reads self.old self.new (λ _ _. Unit {0})) }
     {
@@ -263,7 +263,7 @@ impl<T: Characters> Window<T> {
 
     // The same, where nothing is in the window.
     #[inline(always)]
-    fn run_from_source(&mut self, run: Run, text: &mut Text) -> Result<(), AllocError>
+    fn run_from_source(&mut self, run: Run, text: &mut TextBuilder) -> Result<(), AllocError>
         requires { self.old.ahead ≡ 0 }
         ensures ok { OnOk result (Reads self.old self.new (λ a b. ran run a (position_of self.old) text.old ≡ record { rest = b; position = position_of self.new; text = text.new })) }
         ensures err { OnErr result (Reads self.old self.new (λ _ _. Unit {0})) }
@@ -298,7 +298,7 @@ impl<T: Characters> Window<T> {
 
     /// The same for a word.
     #[inline(always)]
-    pub fn take_word(&mut self, run: Run, text: &mut Text) -> Result<(), AllocError>
+    pub fn take_word(&mut self, run: Run, text: &mut TextBuilder) -> Result<(), AllocError>
         ensures ok { OnOk result (Reads self.old self.new (λ a b. ran run a (position_of self.old) text.old ≡ record { rest = b; position = position_of self.new; text = text.new })) }
         ensures err { OnErr result (Reads self.old self.new (λ _ _. Unit {0})) }
     {
@@ -313,7 +313,7 @@ impl<T: Characters> Window<T> {
 
     // The same, where nothing is in the window.
     #[inline(always)]
-    fn word_from_source(&mut self, run: Run, text: &mut Text) -> Result<(), AllocError>
+    fn word_from_source(&mut self, run: Run, text: &mut TextBuilder) -> Result<(), AllocError>
         requires { self.old.ahead ≡ 0 }
         ensures ok { OnOk result (Reads self.old self.new (λ a b. ran run a (position_of self.old) text.old ≡ record { rest = b; position = position_of self.new; text = text.new })) }
         ensures err { OnErr result (Reads self.old self.new (λ _ _. Unit {0})) }
@@ -333,7 +333,7 @@ impl<T: Characters> Window<T> {
     /// Takes words, and lone blanks between them, into a text, as far as they are in the window or known to come. It may
     /// take none. The result is whether some were known.
     #[inline(always)]
-    pub fn take_words(&mut self, run: Run, text: &mut Text) -> Result<bool, AllocError>
+    pub fn take_words(&mut self, run: Run, text: &mut TextBuilder) -> Result<bool, AllocError>
         ensures ok { OnOk result (Reads self.old self.new (λ a b. TakesWords run a b (position_of self.old) (position_of self.new) text.old text.new)) }
         ensures err { OnErr result (Reads self.old self.new (λ _ _. Unit {0})) }
     {
@@ -348,7 +348,7 @@ impl<T: Characters> Window<T> {
 
     // The same, where nothing is in the window.
     #[inline(always)]
-    fn words_from_source(&mut self, run: Run, text: &mut Text) -> Result<bool, AllocError>
+    fn words_from_source(&mut self, run: Run, text: &mut TextBuilder) -> Result<bool, AllocError>
         requires { self.old.ahead ≡ 0 }
         ensures ok { OnOk result (Reads self.old self.new (λ a b. TakesWords run a b (position_of self.old) (position_of self.new) text.old text.new)) }
         ensures err { OnErr result (Reads self.old self.new (λ _ _. Unit {0})) }

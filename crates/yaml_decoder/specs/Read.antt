@@ -7,7 +7,7 @@ use Rattle.std.specs.declared.io.ErrorKind.{ErrorKind}
 use Rattle.std.specs.declared.io.ErrorKind.TheVariants.{OutOfMemory, Interrupted}
 use Rattle.defs_text.specs.Text.{string_chars, up_to_nul}
 use Rattle.yaml_tree.specs.declared.yaml.Yaml.{Yaml}
-use Rattle.defs_meaning.specs.Meaning.{Means}
+use Rattle.defs_event.specs.Meaning.{Means}
 use Rattle.yaml_tree.specs.View.{items_view}
 use Rattle.yaml_loader.specs.TextLoads.{LoadsText}
 use Rattle.yaml_encoding.specs.Decoding.{Outcome, text, stopped}

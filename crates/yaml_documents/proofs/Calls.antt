@@ -2,7 +2,7 @@
 use Rattle.std.proofs.Common.{◌≡◌, ℕ, Bool, true, false, List, Option, Some, None, Ok, Err, refl, sym, ap, ◌∙◌, subst}
 use Rattle.std.specs.Prelude.{Result}
 use Rattle.defs_text.specs.Text.{up_to_nul}
-use Rattle.yaml_chars.specs.Reading.{HasNoNul}
+use Rattle.yaml_chars.specs.WindowView.{HasNoNul}
 use Rattle.yaml_chars.specs.Source.{CameFrom}
 use Rattle.yaml_tokens.specs.ErrorReport.{ErrorReport}
 use Rattle.yaml_tree.specs.View.{view}

@@ -3,6 +3,7 @@ use Rattle.std.proofs.Common.{◌≡◌, ℕ, ◌+◌, ◌<◌, ◌≤◌, Bool,
 use Rattle.std.specs.Prelude.{max, bytes_eq}
 use Rattle.std.proofs.Math.Nat.{le-max_right, max-le, max-zero}
 use Rattle.defs_event.specs.Event.{Ev}
+use Rattle.defs_token.specs.Token.{Style}
 use Rattle.defs_event.specs.Raw.{Raw}
 use Rattle.defs_event.specs.Names.{Names, under_name, are_allowed, perhaps_resolved, number, with_anchor, named, names_after, resolved_event}
 use Rattle.defs_event.proofs.NameLemmas.{both_some}
@@ -101,6 +102,8 @@ module _ (keep_tags : Bool) (s : Names) (low : ℕ) (h : low ≤ s.count) (o : A
   leaves Raw.pair_start v r = subst (Leaves keep_tags s low Raw.pair_start) (some_is r) (same_names Raw.pair_start (Ev.mapping_start 0 None) refl tt refl refl)
   leaves Raw.pair_end v r = subst (Leaves keep_tags s low Raw.pair_end) (some_is r) (same_names Raw.pair_end Ev.mapping_end refl tt refl refl)
   leaves Raw.flow_mapping_end v r = subst (Leaves keep_tags s low Raw.flow_mapping_end) (some_is r) (same_names Raw.flow_mapping_end Ev.mapping_end refl tt refl refl)
+  leaves Raw.flow_mapping_end_at_comma v r = subst (Leaves keep_tags s low Raw.flow_mapping_end_at_comma) (some_is r) (same_names Raw.flow_mapping_end_at_comma Ev.mapping_end refl tt refl refl)
+  leaves Raw.unwritten_value v r = subst (Leaves keep_tags s low Raw.unwritten_value) (some_is r) (same_names Raw.unwritten_value (Ev.scalar [] Style.plain 0 None) refl tt refl refl)
   leaves Raw.mapping_end v r = subst (Leaves keep_tags s low Raw.mapping_end) (some_is r) (same_names Raw.mapping_end Ev.mapping_end refl tt refl refl)
   leaves (Raw.document_start ds) v r = by (are_allowed ds) r
     where

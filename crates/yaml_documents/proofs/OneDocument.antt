@@ -12,7 +12,7 @@ use Rattle.defs_event.specs.Event.{Ev}
 use Rattle.defs_event.specs.Laws.{HasRead}
 use Rattle.defs_event.specs.Nested.{IsNested}
 use Rattle.defs_event.specs.Reading.{reading}
-use Rattle.defs_event.specs.Stream.{BeginsPlaced, events_of}
+use Rattle.defs_event.specs.Stream.{BeginsPlaced, raws_of, events_of}
 use Rattle.defs_event.specs.Unfinished.{Loader, at_work, noted, refused, new_loader, with_event_at, with_events, documents_of, refused_at}
 use Rattle.defs_event.proofs.OneByOne.{one_by_one}
 use Rattle.defs_event.proofs.StreamNests.{stream_nests}
@@ -74,7 +74,7 @@ module _ {old now : Parsed} (b : IsBetween old) (c : Ended old now) where
   its_aliases =
       let s = stream_begins b.plain c in
       let more = s.1.more_events in
-      let all : AreOwn 0 0 (events_of ((old.given ++ all_of c) ++ more)) = stream_own now.keep_tags s.1.stream.raws (events_of ((old.given ++ all_of c) ++ more)) s.1.stream.has_events in
+      let all : AreOwn 0 0 (events_of ((old.given ++ all_of c) ++ more)) = stream_own now.keep_tags (raws_of s.1.stream.raws) (events_of ((old.given ++ all_of c) ++ more)) s.1.stream.has_events in
       let first : AreOwn 0 0 (events_of (old.given ++ all_of c)) =
       own_first 0 0 (events_of (old.given ++ all_of c)) (events_of more) (subst (AreOwn 0 0) (parts (old.given ++ all_of c) more) all) in
       own_rest 0 0 (events_of old.given) (events_of (all_of c)) (subst (AreOwn 0 0) (parts old.given (all_of c)) first)

@@ -1,5 +1,5 @@
 -- What the readings of one document say of a text.
-use Rattle.std.proofs.Common.{◌≡◌, ℕ, Bool, true, false, List, [], ◌∷◌, ◌++◌, Option, Some, None, Ok, refl, sym, ap, ◌∙◌, subst, inl, inr}
+use Rattle.std.proofs.Common.{◌≡◌, ℕ, Bool, false, List, [], ◌∷◌, ◌++◌, Ok, refl, sym, ap, ◌∙◌, subst}
 use Rattle.std.specs.Prelude.{map}
 use Rattle.std.proofs.lemmas.List.{map-append}
 use Rattle.defs_text.specs.Position.{Position}
@@ -18,7 +18,7 @@ use Rattle.yaml_scanner.specs.Scanned.{ScansIn}
 use Rattle.yaml_parser.specs.Follows.{Explains}
 use Rattle.yaml_parser.specs.Parsed.{Parsed, has_end, read}
 use Rattle.proof_loads.specs.TextEvents.{AreFirst, BeginsEvents, IsFaultOf, wants_memory}
-use Rattle.defs_meaning.specs.Meaning.{Means}
+use Rattle.defs_event.specs.Meaning.{Means}
 use Rattle.proof_loads.proofs.Answers.{placed_stream, fault_of}
 use Rattle.proof_loads.proofs.Loads.{memory_is_wanted}
 use Rattle.proof_loads.proofs.StreamEnds.{all_tokens}
@@ -93,7 +93,7 @@ says_all {old} {now} text r scans =
     let was = one_by_one nested.0 (read now) (sym nested.1) in
     record {
       tokens = tokens;
-      has = all_tokens text tokens whole.stream.raws scans.no_nul scans.reached whole.stream.says;
+      has = all_tokens text tokens stream.raws scans.no_nul scans.reached stream.says;
       read = record {
         documents = nested.0;
         stream = subst (λ k. IsStream k (toks tokens) (nested_stream nested.0)) h.plain.keep_tags (subst (IsStream now.keep_tags (toks tokens)) (sym nested.1) stream);

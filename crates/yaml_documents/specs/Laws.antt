@@ -2,7 +2,7 @@
 use Rattle.std.specs.Prelude.{◌≡◌, ℕ, Bool, true, List, ◌++◌}
 use Rattle.defs_tree.specs.Tree.{Tree}
 use Rattle.yaml_tokens.specs.ErrorReport.{ErrorReport}
-use Rattle.defs_meaning.specs.Meaning.{Means}
+use Rattle.defs_event.specs.Meaning.{Means}
 use Rattle.yaml_documents.specs.First.{BeginsAs, IsStopped}
 
 -- `given_documents_are_the_first`

@@ -9,7 +9,7 @@ use Rattle.defs_event.specs.Unfinished.{new_loader, with_events, documents_of}
 use Rattle.yaml_tree.specs.View.{view}
 use Rattle.yaml_tree.specs.declared.yaml.Yaml.{Yaml}
 use Rattle.yaml_parser.specs.Parsed.{Parse, parsed}
-use Rattle.defs_meaning.specs.Meaning.{Means}
+use Rattle.defs_event.specs.Meaning.{Means}
 use Rattle.yaml_loader.specs.Meant.{OfGiven}
 use Rattle.yaml_documents.specs.First.{BeginsAs, IsStopped}
 

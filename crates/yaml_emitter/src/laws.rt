@@ -4,7 +4,7 @@ ghost use Rattle.defs_layout.specs.DumpIsLaidOut.{IsDumpLaidOut};
 ghost use Rattle.yaml_tree.specs.View.{view};
 
 use crate::walk::look;
-use proof_dumps::laws::dumps_are_laid_out;
+use proof_layouts::laws::dumps_are_laid_out;
 use yaml_tree::Yaml;
 
 /// If the tree can be written, the text that is written for it in these settings is a basic layout of it. The law

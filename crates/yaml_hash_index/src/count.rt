@@ -2,12 +2,12 @@
 ghost use Rattle.std.specs.Prelude.{◌≡◌, ◌+◌, nat_lt};
 
 use std::marker::Model;
-use yaml_chars::history::History;
+use yaml_chars::ghost_list::GhostList;
 
 /// A count of comparisons, which only contracts see. It takes no bytes.
 #[derive(Drop)]
 pub struct Count {
-    counted: History<()>,
+    counted: GhostList<()>,
 }
 
 impl Model for Count {
@@ -24,7 +24,7 @@ impl Count {
         ensures { result ≡ 0 }
     {
         Count {
-            counted: History::new(),
+            counted: GhostList::new(),
         }
     }
 

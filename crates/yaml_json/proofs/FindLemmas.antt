@@ -4,8 +4,8 @@ use Rattle.std.specs.Prelude.{Some, String, map, reverse}
 use Rattle.std.proofs.Math.ListN.{get_or-eq_default, get_or-map}
 use Rattle.std.proofs.lemmas.List.{reverse-append}
 use Rattle.defs_tree.specs.Tree.{null}
-use Rattle.defs_json.specs.Fault as fault
-use Rattle.defs_json.specs.Fault.{Fault, step_of}
+use Rattle.defs_tree.specs.Path as tree_path
+use Rattle.defs_layout.specs.Fault.{Fault, step_of}
 use Rattle.yaml_json.specs.Found.{step_view}
 use Rattle.yaml_json.specs.Search.{IsSoundAtRoot, fault_in, last_step}
 use Rattle.yaml_json.specs.declared.error.Step.{Step}
@@ -23,7 +23,7 @@ is_below [] f h = h
 is_below (l ∷ ls) f h = is_below ls (record { path = last_step l ∷ f.path; reason = f.reason }) (λ e. cc)
 
 -- the step to the value of a key that is no string
-pub other_step : (y : Yaml) → ((x : String Global) → y ≡ yamls.String x → ⊥) → step_of (view y) ≡ fault.key []
+pub other_step : (y : Yaml) → ((x : String Global) → y ≡ yamls.String x → ⊥) → step_of (view y) ≡ tree_path.key []
 other_step (yamls.Real s) h = refl
 other_step (yamls.Integer z) h = refl
 other_step (yamls.String s) h = absurd (h s refl)
@@ -35,5 +35,5 @@ other_step yamls.Null h = refl
 other_step yamls.BadValue h = refl
 
 -- where there is no such key
-pub no_step : (row : List Yaml) (n m : ℕ) → m ≡ n → length row ≤ m → step_of (get_or (items_view row) n null) ≡ fault.key []
+pub no_step : (row : List Yaml) (n m : ℕ) → m ≡ n → length row ≤ m → step_of (get_or (items_view row) n null) ≡ tree_path.key []
 no_step row n m e h = ap step_of (get_or-map view row n yamls.Null ∙ ap view (get_or-eq_default row yamls.Null {n = n} (omega (arith, e, h))))

@@ -10,13 +10,14 @@ use Rattle.defs_tree.specs.Box.{is_block}
 use Rattle.defs_tree.specs.Tree.{Tree, real, integer, string, boolean, array, hash, alias, null, bad_value, Items, no_items, item, Pairs, no_pairs, pair, pairs_of, pair_list_of}
 use Rattle.defs_tree.specs.Pairs.{AreDistinct}
 use Rattle.defs_tree.specs.Typing.{is_string}
-use Rattle.defs_json.specs.JsonReal.{is_json_real}
-use Rattle.defs_json.specs.HasJson.{HasJson, AllHaveJson, AreMembers, IsKey, is_character, are_characters}
-use Rattle.defs_json.specs.Fault.{Fault, Step, index, here, below, first_of, step_of, are_strings, is_no_number, has_other_key, first_fault, first_item_fault, first_member_fault}
+use Rattle.defs_layout.specs.JsonReal.{is_json_real}
+use Rattle.defs_layout.specs.HasJson.{HasJson, AllHaveJson, AreMembers, IsKey, is_character, are_characters}
+use Rattle.defs_tree.specs.Path.{Step, index}
+use Rattle.defs_layout.specs.Fault.{Fault, here, below, first_of, step_of, are_strings, is_no_number, has_other_key, first_fault, first_item_fault, first_member_fault}
 use Rattle.yaml_tree.specs.View.{hash_tree}
 use Rattle.yaml_json.specs.Given.{IsGiven, AreGiven, ArePairsGiven, IsKeyGiven, IsFlatGiven}
 use Rattle.yaml_json.specs.Left.{flat_text}
-use Rattle.defs_json.specs.JsonText.{json_text}
+use Rattle.defs_layout.specs.JsonText.{json_text}
 
 -- ---- texts
 

@@ -4,8 +4,8 @@ use Rattle.std.specs.Prelude.{Option, unwrap_or, max}
 use Rattle.std.proofs.Math.Nat.{mul-le-mul_left}
 use Rattle.defs_tree.specs.Box.{is_block}
 use Rattle.defs_tree.specs.Tree.{Tree, real, integer, string, boolean, array, hash, alias, null, bad_value, Items, no_items, item, Pairs, no_pairs, pair, items_of, pairs_of}
-use Rattle.defs_json.specs.HasJson.{nesting, item_nesting, member_nesting}
-use Rattle.defs_json.specs.JsonText.{deeper, new_line, key_end, key_text, json_text, more_items, more_members}
+use Rattle.defs_layout.specs.HasJson.{nesting, item_nesting, member_nesting}
+use Rattle.defs_layout.specs.JsonText.{deeper, new_line, key_end, key_text, json_text, more_items, more_members}
 use Rattle.yaml_tree.specs.Depth.{depth, items_depth, pairs_depth}
 use Rattle.yaml_emitter.specs.At.{is_low}
 use Rattle.yaml_emitter.proofs.ListLemmas.{Entries}

@@ -5,8 +5,8 @@ use Rattle.std.proofs.Math.Nat.{mul-le-mul_left}
 use Rattle.std.proofs.lemmas.List.{length-set}
 use Rattle.defs_tree.specs.Box.{is_block}
 use Rattle.defs_tree.specs.Tree.{Tree}
-use Rattle.defs_json.specs.HasJson.{nesting}
-use Rattle.defs_json.specs.JsonText.{deeper, new_line, json_text}
+use Rattle.defs_layout.specs.HasJson.{nesting}
+use Rattle.defs_layout.specs.JsonText.{deeper, new_line, json_text}
 use Rattle.yaml_emitter.specs.Writing.{Wrote, Stopped, IsLeft}
 use Rattle.yaml_emitter.proofs.WritingLemmas.{wrote_then, left_all, left_as, left_after, left_none, left_stopped, stopped_as, stopped_early, stopped_for}
 use Rattle.yaml_json.proofs.LeftLemmas.{in_brackets, part_wide}

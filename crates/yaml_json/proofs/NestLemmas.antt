@@ -2,8 +2,8 @@
 use Rattle.std.proofs.Common.{◌≡◌, ℕ, zero, suc, ◌+◌, ◌-◌, ◌≤◌, ◌<◌, ◌^◌, List, [], ◌++◌, refl, sym, ap, subst, ◌∙◌, arith, append_assoc, append-nil}
 use Rattle.std.specs.Prelude.{codes, Option}
 use Rattle.defs_tree.specs.Tree.{Tree, array, no_items, item}
-use Rattle.defs_json.specs.HasJson.{nesting}
-use Rattle.defs_json.specs.JsonText.{deeper, new_line, json_text}
+use Rattle.defs_layout.specs.HasJson.{nesting}
+use Rattle.defs_layout.specs.JsonText.{deeper, new_line, json_text}
 use Rattle.yaml_emitter.specs.Writing.{Wrote, Stopped, IsLeft}
 use Rattle.yaml_emitter.proofs.WritingLemmas.{left_all, left_as, left_after, left_stopped, stopped_early, stopped_for, stopped_here}
 use Rattle.yaml_json.specs.Given.{IsGiven}

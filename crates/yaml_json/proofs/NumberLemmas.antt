@@ -10,8 +10,8 @@ use Rattle.defs_tree.specs.Grammar.{one, at_least_one, optional, in_order}
 use Rattle.defs_tree.specs.Typing.{is_minus, is_exponent, is_exponent_mark, is_sign, signed_decimal}
 use Rattle.defs_tree.proofs.GrammarLaws.{IsWithin, IsWithin-followed_by, IsWithin-empty, IsWithin-one, IsWithin-at_least_one, IsWithin-optional, list_all-more}
 use Rattle.defs_layout.specs.JsonNumber.{is_whole, are_digits}
-use Rattle.defs_json.proofs.Reading.{reads_number, is_json_number-read}
-use Rattle.defs_json.specs.JsonReal.{is_frac, is_json_number, is_json_real}
+use Rattle.defs_layout.proofs.Reading.{reads_number, is_json_number-read}
+use Rattle.defs_layout.specs.JsonReal.{is_frac, is_json_number, is_json_real}
 use Rattle.yaml_typing.proofs.WideTexts.{low_at}
 
 abbrev is_low : ℕ → Bool

@@ -3,7 +3,7 @@ use Rattle.std.proofs.Common.{◌≡◌, ℕ, ◌≤◌, List, [], Bool, true, f
 use Rattle.std.specs.Prelude.{Result, Ok, Err, OnErr, Option}
 use Rattle.defs_tree.specs.Box.{is_block}
 use Rattle.defs_tree.specs.Tree.{Tree, array, hash, no_items, no_pairs}
-use Rattle.defs_json.specs.JsonText.{json_text}
+use Rattle.defs_layout.specs.JsonText.{json_text}
 use Rattle.yaml_emitter.specs.Writing.{Wrote, Stopped, IsLeft}
 use Rattle.yaml_emitter.proofs.WritingLemmas.{left_all, left_as, left_after, left_none, left_stopped, stopped_early, stopped_late}
 use Rattle.yaml_json.proofs.GivenLemmas.{flat_text_is}

@@ -4,9 +4,10 @@ use Rattle.std.specs.Prelude.{Option, Some, None, max}
 use Rattle.std.proofs.lemmas.List.{get_or-map, get_or_default}
 use Rattle.defs_tree.specs.Box.{is_block}
 use Rattle.defs_tree.specs.Tree.{Tree, real, integer, string, boolean, array, hash, alias, null, bad_value, Items, no_items, item, Pairs, no_pairs, pair, items_of, pairs_of}
-use Rattle.defs_json.specs.Fault as fault
-use Rattle.defs_json.specs.Fault.{Fault, index, here, below, first_of, step_of, first_fault, first_item_fault, first_member_fault}
-use Rattle.defs_json.specs.HasJson.{nesting}
+use Rattle.defs_tree.specs.Path as tree_path
+use Rattle.defs_tree.specs.Path.{index}
+use Rattle.defs_layout.specs.Fault.{Fault, here, below, first_of, step_of, first_fault, first_item_fault, first_member_fault}
+use Rattle.defs_layout.specs.HasJson.{nesting}
 use Rattle.yaml_json.proofs.LeftLemmas.{part_wide}
 use Rattle.yaml_json.proofs.OpenLevels.{trees, reach, weight, part_count}
 use Rattle.yaml_json.proofs.RowLemmas.{item_left, member_left}
@@ -25,7 +26,7 @@ use Rattle.yaml_tree.specs.declared.yaml.Yaml.{Yaml}
 -- ---- one part
 
 -- the first part of what is left, the step to it, and what is left after it
-pub record IsPart (t : Tree) (passed : ℕ) (s : fault.Step) (part : Tree) (u : Tree) (more : ℕ) : Type 0 where
+pub record IsPart (t : Tree) (passed : ℕ) (s : tree_path.Step) (part : Tree) (u : Tree) (more : ℕ) : Type 0 where
   pub fault : fault_left passed t ≡ first_of (below s (first_fault part)) (fault_left more u)
   pub deepest : part_nesting t ≡ max (nesting part) (part_nesting u)
   pub fewer : nodes part + part_nodes u ≤ part_nodes t
@@ -45,7 +46,7 @@ pub item_part : (row : List Yaml) (n q : ℕ) (y : Yaml) → n < length row → 
 item_part row n q y h is e =
     subst (λ t. IsPart t n (step_in false row q) (view y) (left_in false row q) q) (sym (item_left row n q y h is e)) (item_is_part n q (view y) (items_of (items_view (drop q row))) e)
 
-member_is_part : (n q : ℕ) (s : fault.Step) (k v : Tree) (ps : Pairs) → s ≡ step_of k → IsPart (hash (pair k v ps)) n s v (hash ps) q
+member_is_part : (n q : ℕ) (s : tree_path.Step) (k v : Tree) (ps : Pairs) → s ≡ step_of k → IsPart (hash (pair k v ps)) n s v (hash ps) q
 member_is_part n q s k v ps e = record {
   fault = ap (λ x. first_of (below x (first_fault v)) (first_member_fault ps)) (sym e);
   deepest = refl;
@@ -88,7 +89,7 @@ pub passes_none : (t : Tree) (p : ℕ) → Passes t p t p
 passes_none t p = record { fault = refl; no_deeper = omega arith; no_higher = omega arith; fewer = omega arith }
 
 module _ {t u : Tree} {p q : ℕ} (a : Passes t p u q) where
-  pub passes_more : {part x : Tree} {s : fault.Step} {r : ℕ} → IsPart u q s part x r → (first_fault part ≡ None) × (is_block part ≡ false) → Passes t p x r
+  pub passes_more : {part x : Tree} {s : tree_path.Step} {r : ℕ} → IsPart u q s part x r → (first_fault part ≡ None) × (is_block part ≡ false) → Passes t p x r
   passes_more {part} {x} {s} {r} b f = record {
     fault = a.fault ∙ b.fault ∙ ap (λ o. first_of (below s o) (fault_left r x)) f.0;
     no_deeper = omega (arith, a.no_deeper, b.deepest, flat_nesting part f.1);
@@ -96,7 +97,7 @@ module _ {t u : Tree} {p q : ℕ} (a : Passes t p u q) where
     fewer = omega (arith, a.fewer, b.fewer);
   }
 
-  pub meets : {part x : Tree} {s : fault.Step} {r : ℕ} → IsPart u q s part x r → Meets t p s part x r
+  pub meets : {part x : Tree} {s : tree_path.Step} {r : ℕ} → IsPart u q s part x r → Meets t p s part x r
   meets b = record {
     fault = a.fault ∙ b.fault;
     no_deeper = omega (arith, a.no_deeper, b.deepest);
@@ -119,7 +120,7 @@ has_parts_met t None n h = h
 has_parts_met t (Some r) n h = absurd (n r refl)
 
 -- a fault of the parts lies below the node
-below_sound : (s : fault.Step) (o q : Option Fault) → IsSoundAtRoot q → IsSoundAtRoot (first_of (below s o) q)
+below_sound : (s : tree_path.Step) (o q : Option Fault) → IsSoundAtRoot q → IsSoundAtRoot (first_of (below s o) q)
 below_sound s None q h = h
 below_sound s (Some f) q h = λ e. cc
 

@@ -5,9 +5,10 @@ use Rattle.std.proofs.lemmas.Bool.{and_parts}
 use Rattle.std.proofs.lemmas.Bool.Decides.{nat_tests}
 use Rattle.defs_tree.specs.Tree.{Tree, real, integer, string, boolean, array, hash, alias, null, bad_value, Items, no_items, item, Pairs, no_pairs, pair}
 use Rattle.defs_tree.specs.Typing.{is_string}
-use Rattle.defs_json.specs.JsonReal.{is_json_real}
-use Rattle.defs_json.specs.Fault.{Fault, Step, index, here, below, first_of, step_of, are_strings, is_no_number, has_other_key, first_fault, first_item_fault, first_member_fault}
-use Rattle.defs_json.specs.HasJson.{nesting, item_nesting, member_nesting}
+use Rattle.defs_layout.specs.JsonReal.{is_json_real}
+use Rattle.defs_tree.specs.Path.{Step, index}
+use Rattle.defs_layout.specs.Fault.{Fault, here, below, first_of, step_of, are_strings, is_no_number, has_other_key, first_fault, first_item_fault, first_member_fault}
+use Rattle.defs_layout.specs.HasJson.{nesting, item_nesting, member_nesting}
 use Rattle.yaml_json.specs.Nest.{IsOnlyItem}
 use Rattle.yaml_json.specs.Shallow.{is_whole, are_items_whole, are_pairs_whole, is_shallow, are_items_shallow}
 

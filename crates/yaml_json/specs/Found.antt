@@ -1,8 +1,9 @@
 -- A node that has no JSON text, as the code holds it, and as clauses see it.
 use Rattle.std.specs.Prelude.{String, map}
 use Rattle.defs_text.specs.Text.{string_chars}
-use Rattle.defs_json.specs.Fault as fault
-use Rattle.defs_json.specs.Fault.{Fault}
+use Rattle.defs_tree.specs.Path as tree_path
+use Rattle.defs_layout.specs.Fault as fault
+use Rattle.defs_layout.specs.Fault.{Fault}
 use Rattle.yaml_json.specs.declared.error.Step.{Step}
 use Rattle.yaml_json.specs.declared.error.Step.TheVariants as steps
 use Rattle.yaml_json.specs.declared.error.Reason.{Reason}
@@ -10,13 +11,13 @@ use Rattle.yaml_json.specs.declared.error.Reason.TheVariants as reasons
 use Rattle.yaml_json.specs.declared.error.NoJson.{NoJson}
 
 -- a step
-abbrev pub step_view : Step → fault.Step
-step_view (steps.Index n) = fault.index n
-step_view (steps.Key s) = fault.key (string_chars s)
+abbrev pub step_view : Step → tree_path.Step
+step_view (steps.Index n) = tree_path.index n
+step_view (steps.Key s) = tree_path.key (string_chars s)
 
 -- the step to the value of this key
-abbrev pub string_step : {A : Type 0} → String A → fault.Step
-string_step s = fault.key (string_chars s)
+abbrev pub string_step : {A : Type 0} → String A → tree_path.Step
+string_step s = tree_path.key (string_chars s)
 
 -- a reason
 abbrev pub reason_view : Reason → fault.Reason

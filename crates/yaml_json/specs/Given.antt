@@ -4,7 +4,7 @@ use Rattle.std.specs.Prelude.{IsTrue}
 use Rattle.defs_tree.specs.Tree.{Tree, integer, string, array, hash, Items, no_items, item, Pairs, no_pairs, pair, pair_list_of}
 use Rattle.defs_tree.specs.Pairs.{AreDistinct}
 use Rattle.defs_tree.specs.Typing.{fits_i64}
-use Rattle.defs_json.specs.HasJson.{are_characters}
+use Rattle.defs_layout.specs.HasJson.{are_characters}
 
 -- a key
 abbrev pub IsKeyGiven : Tree → Type 0

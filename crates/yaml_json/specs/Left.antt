@@ -1,8 +1,8 @@
 -- What is left to write of an array and an object, and the text of a node that has no parts.
 use Rattle.std.specs.Prelude.{ℕ, ◌+◌, ◌-◌, ◌*◌, ◌^◌, ◌≤◌, Bool, if◌then◌else◌, Option, None, unwrap_or, List, [], ◌++◌, codes}
 use Rattle.defs_tree.specs.Tree.{Tree, array, hash, Items, no_items, item, Pairs, no_pairs, pair}
-use Rattle.defs_json.specs.HasJson.{item_nesting, member_nesting}
-use Rattle.defs_json.specs.JsonText.{new_line, key_end, key_text, json_text, more_items, more_members}
+use Rattle.defs_layout.specs.HasJson.{item_nesting, member_nesting}
+use Rattle.defs_layout.specs.JsonText.{new_line, key_end, key_text, json_text, more_items, more_members}
 
 -- a line would need 2^64 spaces
 abbrev pub IsTooWide : (indentation : Option ℕ) → (margin levels : ℕ) → Type 0

@@ -1,8 +1,8 @@
 -- Arrays of one item each, one within the other.
 use Rattle.std.specs.Prelude.{ℕ, ◌≡◌, ◌≤◌, zero, suc, Option, List, [], ◌++◌, codes}
 use Rattle.defs_tree.specs.Tree.{Tree, array, no_items, item}
-use Rattle.defs_json.specs.HasJson.{nesting}
-use Rattle.defs_json.specs.JsonText.{new_line, json_text}
+use Rattle.defs_layout.specs.HasJson.{nesting}
+use Rattle.defs_layout.specs.JsonText.{new_line, json_text}
 use Rattle.yaml_emitter.specs.Writing.{IsLeft}
 use Rattle.yaml_json.specs.Given.{IsGiven}
 use Rattle.yaml_json.specs.Left.{IsTooWide, shallower}

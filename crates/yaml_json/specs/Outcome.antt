@@ -1,8 +1,8 @@
 -- What an error says of the tree and of the writer.
 use Rattle.std.specs.Prelude.{◌≡◌, ◌≢◌, ◌<◌, ◌⊎◌, ℕ, Option, Some, None, List, []}
 use Rattle.defs_tree.specs.Tree.{Tree}
-use Rattle.defs_json.specs.Fault.{Fault, first_fault}
-use Rattle.defs_json.specs.HasJson.{nesting}
+use Rattle.defs_layout.specs.Fault.{Fault, first_fault}
+use Rattle.defs_layout.specs.HasJson.{nesting}
 use Rattle.yaml_emitter.specs.Writing.{Stopped}
 use Rattle.yaml_json.specs.Found.{fault_of}
 use Rattle.yaml_json.specs.declared.error.JsonError.{JsonError}

@@ -2,8 +2,8 @@
 use Rattle.std.specs.Prelude.{◌≡◌, ℕ, ◌+◌, ◌≤◌, max, Bool, true, false, Option, List, ◌++◌}
 use Rattle.defs_tree.specs.Box.{is_block}
 use Rattle.defs_tree.specs.Tree.{Tree}
-use Rattle.defs_json.specs.HasJson.{nesting}
-use Rattle.defs_json.specs.JsonText.{json_text}
+use Rattle.defs_layout.specs.HasJson.{nesting}
+use Rattle.defs_layout.specs.JsonText.{json_text}
 use Rattle.yaml_emitter.specs.Writing.{Wrote, IsLeft}
 use Rattle.yaml_json.specs.Given.{IsGiven, ArePartsGiven}
 use Rattle.yaml_json.specs.Left.{parts_left, part_nesting, closing}

@@ -2,8 +2,9 @@
 use Rattle.std.specs.Prelude.{◌≡◌, ◌≢◌, ℕ, ◌+◌, ◌-◌, ◌≤◌, max, Bool, true, false, if◌then◌else◌, Option, Some, None, List, [], ◌∷◌, get_or}
 use Rattle.defs_tree.specs.Box.{is_block}
 use Rattle.defs_tree.specs.Tree.{Tree, array, hash, null}
-use Rattle.defs_json.specs.Fault.{Fault, Step, index, here, below, first_of, step_of, first_fault, first_item_fault, first_member_fault}
-use Rattle.defs_json.specs.HasJson.{nesting}
+use Rattle.defs_tree.specs.Path.{Step, index}
+use Rattle.defs_layout.specs.Fault.{Fault, here, below, first_of, step_of, first_fault, first_item_fault, first_member_fault}
+use Rattle.defs_layout.specs.HasJson.{nesting}
 use Rattle.yaml_json.specs.Found.{fault_of, reason_view}
 use Rattle.yaml_json.specs.Left.{part_nesting}
 use Rattle.yaml_json.specs.Level.{tree_left, part_nodes}

@@ -3,8 +3,8 @@
 use Rattle.std.specs.Prelude.{ℕ, Bool, true, false, ◌&&◌, nat_le}
 use Rattle.defs_tree.specs.Tree.{Tree, real, array, hash, alias, bad_value, Items, no_items, item, Pairs, no_pairs, pair}
 use Rattle.defs_tree.specs.Typing.{is_string}
-use Rattle.defs_json.specs.HasJson.{nesting, item_nesting, member_nesting}
-use Rattle.defs_json.specs.JsonReal.{is_json_real}
+use Rattle.defs_layout.specs.HasJson.{nesting, item_nesting, member_nesting}
+use Rattle.defs_layout.specs.JsonReal.{is_json_real}
 
 abbrev mutual
   -- each node of a tree has one

@@ -1,8 +1,8 @@
 //! Deep trees by loops, which take no stack for a level.
 ghost use Rattle.std.specs.Prelude.{◌≡◌, ◌+◌, ◌^◌, ◌≤◌, ◌++◌, None, true, false, length, IfOk, IfErr, IfSome, IfNone, OnOk, OnErr};
-ghost use Rattle.defs_json.specs.Fault.{first_fault};
-ghost use Rattle.defs_json.specs.HasJson.{HasJson, nesting};
-ghost use Rattle.defs_json.specs.JsonText.{deeper, new_line, json_text};
+ghost use Rattle.defs_layout.specs.Fault.{first_fault};
+ghost use Rattle.defs_layout.specs.HasJson.{HasJson, nesting};
+ghost use Rattle.defs_layout.specs.JsonText.{deeper, new_line, json_text};
 ghost use Rattle.defs_tree.specs.Box.{is_block};
 ghost use Rattle.yaml_emitter.specs.Writing.{Stopped, WritesUnless, Wrote};
 ghost use Rattle.yaml_json.specs.Given.{IsGiven};

@@ -1,7 +1,7 @@
 //! How deep a tree is, or the first node that has no JSON text.
 ghost use Rattle.std.specs.Prelude.{◌≡◌, ◌∷◌, ◌+◌, ◌≤◌, None, Some, true, false, chars, IfOk, IfErr, IfSome, IfNone};
-ghost use Rattle.defs_json.specs.Fault.{here, are_strings, step_of, first_fault};
-ghost use Rattle.defs_json.specs.HasJson.{nesting};
+ghost use Rattle.defs_layout.specs.Fault.{here, are_strings, step_of, first_fault};
+ghost use Rattle.defs_layout.specs.HasJson.{nesting};
 ghost use Rattle.defs_tree.specs.Box.{is_block};
 ghost use Rattle.defs_tree.specs.Tree.{real, pairs_of};
 ghost use Rattle.defs_tree.specs.Typing.{is_string};

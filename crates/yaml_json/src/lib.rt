@@ -29,8 +29,8 @@ mod value;
 mod white;
 
 ghost use Rattle.std.specs.Prelude.{◌*◌, ◌≤◌, ◌^◌, None, Some, OnOk, IfErr};
-ghost use Rattle.defs_json.specs.HasJson.{HasJson, nesting};
-ghost use Rattle.defs_json.specs.JsonText.{json_text};
+ghost use Rattle.defs_layout.specs.HasJson.{HasJson, nesting};
+ghost use Rattle.defs_layout.specs.JsonText.{json_text};
 ghost use Rattle.yaml_tree.specs.View.{view};
 ghost use Rattle.yaml_json.specs.Outcome.{Leaves};
 ghost use Rattle.yaml_json.specs.Left.{IsTooWide};

@@ -1,7 +1,7 @@
 //! Nests: arrays of one item each, one within the other (RFC 8259, section 5).
 ghost use Rattle.std.specs.Prelude.{IfSome, IfOk, OnErr};
-ghost use Rattle.defs_json.specs.HasJson.{nesting};
-ghost use Rattle.defs_json.specs.JsonText.{json_text};
+ghost use Rattle.defs_layout.specs.HasJson.{nesting};
+ghost use Rattle.defs_layout.specs.JsonText.{json_text};
 ghost use Rattle.yaml_emitter.specs.Writing.{Stopped, Writes};
 ghost use Rattle.yaml_json.specs.Left.{IsTooWide};
 ghost use Rattle.yaml_json.specs.Nest.{IsOnlyItem, Opens, nest_end};

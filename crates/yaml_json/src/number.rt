@@ -1,7 +1,7 @@
 //! The reals that JSON can write (RFC 8259, section 6).
 ghost use Rattle.std.specs.Prelude.{◌≡◌, chars};
-ghost use Rattle.defs_json.specs.JsonReal.{is_json_real};
-ghost use Rattle.defs_json.proofs.Reading.{reads_number, reads_unsigned, reads_end};
+ghost use Rattle.defs_layout.specs.JsonReal.{is_json_real};
+ghost use Rattle.defs_layout.proofs.Reading.{reads_number, reads_unsigned, reads_end};
 
 use yaml_typing::decimal::{after_digits, begins_with_digit, is_exponent};
 

@@ -1,7 +1,7 @@
 //! Values (RFC 8259, sections 3 to 6).
 ghost use Rattle.std.specs.Prelude.{◌≡◌, true, chars, OnOk};
-ghost use Rattle.defs_json.specs.HasJson.{nesting, item_nesting, member_nesting};
-ghost use Rattle.defs_json.specs.JsonText.{json_text, key_text};
+ghost use Rattle.defs_layout.specs.HasJson.{nesting, item_nesting, member_nesting};
+ghost use Rattle.defs_layout.specs.JsonText.{json_text, key_text};
 ghost use Rattle.defs_tree.specs.Box.{is_block};
 ghost use Rattle.defs_tree.specs.Spelling.{boolean_spelling};
 ghost use Rattle.defs_tree.specs.Tree.{items_of, pairs_of};

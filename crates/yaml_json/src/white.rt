@@ -1,6 +1,6 @@
 //! White space and commas between items and members (RFC 8259, section 2).
 ghost use Rattle.std.specs.Prelude.{◌≡◌, ◌≤◌, ◌^◌, ℕ, Option, None, Some, MatchResult};
-ghost use Rattle.defs_json.specs.JsonText.{deeper, new_line, key_end};
+ghost use Rattle.defs_layout.specs.JsonText.{deeper, new_line, key_end};
 ghost use Rattle.yaml_emitter.specs.Writing.{Writes};
 ghost use Rattle.yaml_json.specs.Left.{before_entry, shallower};
 

@@ -16,7 +16,7 @@ use Rattle.defs_tree.proofs.GrammarLaws.{after_all}
 use Rattle.defs_tree.proofs.DecimalReading.{begins_in}
 use Rattle.defs_layout.specs.JsonNumber.{Number, Fraction, Exponent, Sign, no_sign, plus, minus, no_fraction, fraction, no_exponent, exponent, number, letter_e, spell_number, spell_minus, spell_fraction, spell_sign, spell_exponent, is_number, is_whole, is_fraction, is_exponent, are_digits}
 use Rattle.defs_layout.specs.Json as json
-use Rattle.proof_layout_trees.proofs.Numbers.{numbers_stand_for_their_trees}
+use Rattle.proof_layouts.proofs.Numbers.{numbers_stand_for_their_trees}
 use Rattle.yaml_json_reader.specs.Reads.{IsNumber, IsValue}
 use Rattle.yaml_json_reader.proofs.TextLemmas.{first_byte}
 use Rattle.yaml_json_reader.specs.Runs.{is_ascii}

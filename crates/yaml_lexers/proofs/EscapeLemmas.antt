@@ -3,12 +3,12 @@ use Rattle.std.proofs.Common.{◌≡◌, ◌≤◌, ◌<◌, ◌+◌, ◌*◌, �
 use Rattle.std.proofs.Math.Nat.{pow-succ', pow-le-pow_right}
 use Rattle.defs_text.specs.Position.{Position}
 use Rattle.yaml_chars.specs.Class.{is_break, is_blank}
-use Rattle.yaml_chars.specs.Reading.{Reading, Reads, Sees, position_of, after_char}
-use Rattle.yaml_chars.proofs.ReadingLemmas.{Reads-saw, Sees-both}
-use Rattle.model_lexers.specs.declared.context.Context.{Context}
-use Rattle.model_lexers.specs.Machine.{past}
-use Rattle.model_lexers.specs.Folding.{Folded}
-use Rattle.model_lexers.specs.Quoted.{quoted_from, digits_from, inside, breaking, named}
+use Rattle.yaml_chars.specs.WindowView.{WindowView, Reads, Sees, position_of, after_char}
+use Rattle.yaml_chars.proofs.WindowViewLemmas.{Reads-saw, Sees-both}
+use Rattle.model_scanner.specs.declared.context.Context.{Context}
+use Rattle.model_scanner.specs.Machine.{past}
+use Rattle.model_scanner.specs.Folding.{Folded}
+use Rattle.model_scanner.specs.Quoted.{quoted_from, digits_from, inside, breaking, named}
 use Rattle.yaml_lexers.specs.ShownQuoted.{at_folded}
 
 backslash : (ctx : Context) (start : Position) (a : List ℕ) (p : Position) (t : Folded)
@@ -18,7 +18,7 @@ unfolding is_break is_blank
 backslash ctx start a p t = refl
 
 -- after a backslash stands a break or what it names
-pub backslash_read : {T : Type 0} (old new : Reading T) (d : ℕ) (breaks : Bool)
+pub backslash_read : {T : Type 0} (old new : WindowView T) (d : ℕ) (breaks : Bool)
     → Sees old (λ a. 92 ≡ slice_index a 0) → Sees old (λ a. d ≡ slice_index a 1) → breaks ≡ is_break d
     → new ≡ after_char old → Reads old new (λ a b. a ≡ slice_index a 0 ∷ b)
     → Reads old new (λ a b. (context : Context) (start : Position) (t : Folded) →

@@ -2,10 +2,10 @@
 use Rattle.std.proofs.Common.{◌≡◌, ℕ, List, Bool, true, false, ◌||◌, ◌&&◌, ◌==◌, refl, slice_index, Ok}
 use Rattle.defs_text.specs.Position.{Position}
 use Rattle.yaml_chars.specs.Class.{is_blank}
-use Rattle.model_lexers.specs.declared.context.SkipTabs.{SkipTabs}
-use Rattle.model_lexers.specs.declared.context.Whitespace.{Whitespace}
-use Rattle.model_lexers.specs.Space.{space_from, are_skipped}
-use Rattle.model_lexers.proofs.SpaceLemmas.{spaces_stop}
+use Rattle.model_scanner.specs.declared.context.SkipTabs.{SkipTabs}
+use Rattle.model_scanner.specs.declared.context.Whitespace.{Whitespace}
+use Rattle.model_scanner.specs.Blanks.{space_from, are_skipped}
+use Rattle.model_scanner.proofs.SpaceLemmas.{spaces_stop}
 
 first_of : (b d : Bool) → b || d ≡ false → b ≡ false
 first_of true d h = h

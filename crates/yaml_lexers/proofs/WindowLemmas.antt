@@ -1,17 +1,17 @@
 -- Lemmas about a window.
 use Rattle.std.proofs.Common.{◌≡◌, ◌≢◌, ℕ, Bool, false, List, length, length-take, arith, ap}
 use Rattle.yaml_chars.specs.Class.{is_blank, is_break, is_blank_or_breakz}
-use Rattle.yaml_chars.specs.Reading.{Reading, Reads, HasChar, SamePosition, position_of}
-use Rattle.yaml_chars.proofs.ReadingLemmas.{Possible-taken}
+use Rattle.yaml_chars.specs.WindowView.{WindowView, Reads, HasChar, SamePosition, position_of}
+use Rattle.yaml_chars.proofs.WindowViewLemmas.{Possible-taken}
 
 -- a character that stands at the front stays there
-pub has_kept : {T : Type 0} {P : List ℕ → List ℕ → Type 0} (old new : Reading T) → Reads old new P → new.at ≡ old.at → HasChar old → HasChar new
+pub has_kept : {T : Type 0} {P : List ℕ → List ℕ → Type 0} (old new : WindowView T) → Reads old new P → new.at ≡ old.at → HasChar old → HasChar new
 has_kept old new reads same has =
     let p = reads.back new.taken (Possible-taken new) in
     let e = length-take (length old.taken) new.taken in
     omega (arith, e, ap length p.begins)
 
-pub position_kept : {T : Type 0} (old new : Reading T) → SamePosition old new → position_of old ≡ position_of new
+pub position_kept : {T : Type 0} (old new : WindowView T) → SamePosition old new → position_of old ≡ position_of new
 position_kept old new same = let i : new.at ≡ old.at = same.at in let l : new.line ≡ old.line = same.line in let c : new.col ≡ old.col = same.col in cc
 
 -- what is no blank and no break, and does not stand for the end, is a character

@@ -5,7 +5,7 @@ use Rattle.std.proofs.lemmas.Bool.{and_parts}
 use Rattle.std.proofs.lemmas.Bool.Decides.{nat_tests}
 use Rattle.defs_text.specs.Position.{Position}
 use Rattle.yaml_chars.specs.Class.{is_break, is_blank}
-use Rattle.yaml_chars.specs.Reading.{Reading, Reads, position_of}
+use Rattle.yaml_chars.specs.WindowView.{WindowView, Reads, position_of}
 use Rattle.yaml_chars.specs.Run.{stops}
 use Rattle.yaml_chars.specs.Words.{begins_word, is_in_words, are_words, TakesWords, PassesWords}
 use Rattle.yaml_chars.specs.declared.run.Run.{Run}
@@ -13,17 +13,17 @@ use Rattle.yaml_chars.specs.declared.run.Run.TheVariants as kind
 use Rattle.yaml_chars.proofs.RunLemmas.{stops_nul, Reads-map}
 use Rattle.yaml_chars.proofs.WordsLemmas.{begins_goes}
 use Rattle.yaml_lexers.specs.Shown.{AddsWords, none, some}
-use Rattle.model_lexers.specs.declared.context.Context.{Context}
-use Rattle.model_lexers.specs.Machine.{past}
-use Rattle.model_lexers.specs.Space.{comment}
-use Rattle.model_lexers.specs.Folding as folding
-use Rattle.model_lexers.specs.Plain as plain
-use Rattle.model_lexers.specs.Quoted as quoted
-use Rattle.model_lexers.specs.Block as block
-use Rattle.model_lexers.proofs.RunLemmas.{plain_run, quoted_run, block_run}
-use Rattle.model_lexers.proofs.PlainLemmas as in_plain
-use Rattle.model_lexers.proofs.QuotedLemmas as in_quotes
-use Rattle.model_lexers.proofs.SpaceLemmas.{comment_on}
+use Rattle.model_scanner.specs.declared.context.Context.{Context}
+use Rattle.model_scanner.specs.Machine.{past}
+use Rattle.model_scanner.specs.Blanks.{comment}
+use Rattle.model_scanner.specs.Folding as folding
+use Rattle.model_scanner.specs.Plain as plain
+use Rattle.model_scanner.specs.Quoted as quoted
+use Rattle.model_scanner.specs.BlockScalar as block
+use Rattle.model_scanner.proofs.RunLemmas.{plain_run, quoted_run, block_run}
+use Rattle.model_scanner.proofs.PlainLemmas as in_plain
+use Rattle.model_scanner.proofs.QuotedLemmas as in_quotes
+use Rattle.model_scanner.proofs.SpaceLemmas.{comment_on}
 
 true_is_not_false : true ≡ false → ⊥
 true_is_not_false h = cc
@@ -90,7 +90,7 @@ plain_words ctx start a b p q t u deep (some gap leading escaped took same) =
     a b p q t.text u.text deep took
     ∙ ap (λ v. plain.plain_from ctx start b (record { mode = plain.inside; position = q; folded = v })) (sym same)
 
-pub plain_read : {T : Type 0} (ctx : Context) (old new : Reading T) (t u : folding.Folded)
+pub plain_read : {T : Type 0} (ctx : Context) (old new : WindowView T) (t u : folding.Folded)
     → plain.is_shallow ctx old.col ≡ false → Reads old new (λ a b. AddsWords (kind.Plain ctx.flow) a b (position_of old) (position_of new) t u)
     → Reads old new (λ a b. (start : Position) → plain.plain_from ctx start a (record { mode = plain.inside; position = position_of old; folded = t })
     ≡ plain.plain_from ctx start b (record { mode = plain.inside; position = position_of new; folded = u }))
@@ -116,7 +116,7 @@ quoted_words single ctx start a b p q t u deep (some gap leading escaped took sa
     a b p q t.text u.text deep took
     ∙ ap (λ v. quoted.quoted_from single ctx start b (record { mode = quoted.inside; position = q; folded = v })) (sym same)
 
-pub quoted_read : {T : Type 0} (single : Bool) (ctx : Context) (start : Position) (quote : ℕ) (old new : Reading T) (t u : folding.Folded)
+pub quoted_read : {T : Type 0} (single : Bool) (ctx : Context) (start : Position) (quote : ℕ) (old new : WindowView T) (t u : folding.Folded)
     → quote ≡ quoted.quote_of single → ctx.indent ≤ old.col + 1 → Reads old new (λ a b. AddsWords (kind.Quoted quote) a b (position_of old) (position_of new) t u)
     → Reads old new (λ a b. quoted.quoted_from single ctx start a (record { mode = quoted.inside; position = position_of old; folded = t })
     ≡ quoted.quoted_from single ctx start b (record { mode = quoted.inside; position = position_of new; folded = u }))

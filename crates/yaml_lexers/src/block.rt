@@ -1,10 +1,10 @@
 //! Block scalars (YAML 1.2, section 8.1).
 ghost use Rattle.std.specs.Prelude.{◌≡◌, ◌≢◌, ◌≤◌, ◌<◌, ◌^◌, ◌++◌, ◌==◌, ◌&&◌, not, slice_index, [], ℕ, Bool, true, false, Ok, Err, OnOk, OnErr, IfOk, IfErr};
-ghost use Rattle.yaml_chars.specs.Reading.{Reads, Sees, HasChar, SamePosition, position_of};
+ghost use Rattle.yaml_chars.specs.WindowView.{Reads, Sees, HasChar, SamePosition, position_of};
 ghost use Rattle.yaml_chars.specs.Words.{TakesWords};
 ghost use Rattle.yaml_chars.specs.declared.run.Run.TheVariants as run;
 ghost use Rattle.defs_text.specs.Text.{string_chars};
-ghost use Rattle.model_lexers.specs.Block.{margin, line, lines_from, begins, begun, with_char, tail, ends_indent, indent_from, first_indent, content, empty_text, body, after_header, block};
+ghost use Rattle.model_scanner.specs.BlockScalar.{margin, line, lines_from, begins, begun, with_char, tail, ends_indent, indent_from, first_indent, content, empty_text, body, after_header, block};
 ghost use Rattle.yaml_lexers.specs.Shown.{Lexes, Refuses, read};
 ghost use Rattle.yaml_lexers.specs.ShownBlock.{lines, at, column_shown, header_shown};
 
@@ -12,7 +12,7 @@ use crate::header::{Header, read_header};
 use crate::plain::at_marker;
 use std::alloc::{AllocError, Global};
 use yaml_chars::class::{is_blank, is_break, is_breakz};
-use yaml_chars::{Characters, Marker, Run, Text, Window};
+use yaml_chars::{Characters, Marker, Run, TextBuilder, Window};
 use yaml_tokens::{Chomping, Fault, Problem};
 
 /// A block scalar's `|` or `>`: whether it is the literal one, its position, and the column of the
@@ -28,8 +28,8 @@ struct Indicator {
 /// that line's own, whether it has one, and whether it starts with a blank.
 #[derive(Drop)]
 struct Lines {
-    text: Text,
-    breaks: Text,
+    text: TextBuilder,
+    breaks: TextBuilder,
     broken: bool,
     blank: bool,
 }
@@ -39,8 +39,8 @@ impl Lines {
         ensures { lines result ≡ record { text = []; breaks = []; broken = false; blank = false } }
     {
         Lines {
-            text: Text::new(alloc),
-            breaks: Text::new(alloc),
+            text: TextBuilder::new(alloc),
+            breaks: TextBuilder::new(alloc),
             broken: false,
             blank: false,
         }
@@ -55,7 +55,7 @@ impl Lines {
     }
 
     /// Begins a content line with `c`, after what stands between it and the last one.
-    #[tactic(auto, unfolding(model_lexers::specs::Block::between))]
+    #[tactic(auto, unfolding(model_scanner::specs::BlockScalar::between))]
     fn begin(&mut self, literal: bool, c: char) -> Result<(), AllocError>
         ensures { OnOk result (lines self.new ≡ with_char c (begun literal c (lines self.old))) }
     {
@@ -99,7 +99,7 @@ fn comes_cr_lf<T: Characters>(window: &mut Window<T>) -> bool
 
 /// Steps over the spaces and empty lines before the first content line. The answer is the most
 /// spaces that a line of these begins with.
-#[tactic(auto, using(model_lexers::proofs::BlockLemmas::first_stop))]
+#[tactic(auto, using(model_scanner::proofs::BlockLemmas::first_stop))]
 fn read_first_indent<T: Characters>(
     window: &mut Window<T>,
     block: &mut Lines,
@@ -132,7 +132,7 @@ fn read_first_indent<T: Characters>(
 }
 
 /// Steps over indentation and empty lines.
-#[tactic(auto, using(model_lexers::proofs::BlockLemmas::indent_stop, crate::proofs::BlockLemmas::indent_ends))]
+#[tactic(auto, using(model_scanner::proofs::BlockLemmas::indent_stop, crate::proofs::BlockLemmas::indent_ends))]
 fn read_indent<T: Characters>(
     window: &mut Window<T>,
     column: usize,
@@ -163,7 +163,10 @@ fn read_indent<T: Characters>(
 
 /// Takes words of a line, and lone blanks between them, as far as the text is known. Where nothing is known, the next three
 /// characters of a line are in the window then. A fault of memory stands after the one of these that it was refused for.
-fn take_known<T: Characters>(window: &mut Window<T>, text: &mut Text) -> Result<(), AllocError>
+fn take_known<T: Characters>(
+    window: &mut Window<T>,
+    text: &mut TextBuilder,
+) -> Result<(), AllocError>
     ensures ok { OnOk result (Reads window.old window.new (λ a b. TakesWords run.Line a b (position_of window.old) (position_of window.new) text.old text.new)) }
     ensures err { OnErr result (Reads window.old window.new (λ _ _. Unit {0})) }
 {
@@ -215,7 +218,7 @@ fn read_line<T: Characters>(window: &mut Window<T>, block: &mut Lines) -> Result
 }
 
 /// Whether a content line begins here.
-#[tactic(auto, unfolding(model_lexers::specs::Block::begins))]
+#[tactic(auto, unfolding(model_scanner::specs::BlockScalar::begins))]
 fn begins<T: Characters>(window: &Window<T>, column: usize) -> bool
     requires ahead { 0 < window.now.ahead }
     requires marker { column ≡ 0 → 4 ≤ window.now.ahead }
@@ -229,7 +232,7 @@ fn begins<T: Characters>(window: &Window<T>, column: usize) -> bool
 }
 
 /// Reads the content line that begins here.
-#[tactic(auto, using(model_lexers::proofs::BlockLemmas::begin_lines))]
+#[tactic(auto, using(model_scanner::proofs::BlockLemmas::begin_lines))]
 fn read_content<T: Characters>(
     window: &mut Window<T>,
     literal: bool,
@@ -251,7 +254,7 @@ fn read_content<T: Characters>(
 }
 
 /// Reads the lines of a block scalar whose content stands at a column, from the first one on.
-#[tactic(auto, using(model_lexers::proofs::BlockLemmas::stop_lines))]
+#[tactic(auto, using(model_scanner::proofs::BlockLemmas::stop_lines))]
 fn read_lines<T: Characters>(
     window: &mut Window<T>,
     literal: bool,
@@ -274,7 +277,7 @@ fn read_lines<T: Characters>(
 }
 
 /// Puts what the chomping leaves of the tail.
-#[tactic(auto, unfolding(model_lexers::specs::Block::tail))]
+#[tactic(auto, unfolding(model_scanner::specs::BlockScalar::tail))]
 fn chomp(block: &mut Lines, chomping: Chomping, unbroken: bool) -> Result<(), AllocError>
     ensures { OnOk result (block.new.text ≡ block.old.text ++ tail chomping unbroken (lines block.old)) }
 {
@@ -294,8 +297,8 @@ fn chomp(block: &mut Lines, chomping: Chomping, unbroken: bool) -> Result<(), Al
 }
 
 /// The text of a scalar without a content line at the end of the text.
-#[tactic(auto, unfolding(model_lexers::specs::Block::empty_text))]
-fn take_empty(chomping: Chomping, broken: bool, block: Lines) -> Result<Text, AllocError>
+#[tactic(auto, unfolding(model_scanner::specs::BlockScalar::empty_text))]
+fn take_empty(chomping: Chomping, broken: bool, block: Lines) -> Result<TextBuilder, AllocError>
     requires { (lines block).text ≡ [] }
     ensures { IfOk result (λ t. t ≡ empty_text chomping broken (lines block).breaks) }
 {
@@ -319,7 +322,7 @@ fn take_empty(chomping: Chomping, broken: bool, block: Lines) -> Result<Text, Al
 }
 
 /// Steps to the first content line, and answers the column where content stands.
-#[tactic(auto, unfolding(model_lexers::specs::Block::content))]
+#[tactic(auto, unfolding(model_scanner::specs::BlockScalar::content))]
 fn read_column<T: Characters>(
     window: &mut Window<T>,
     indent: usize,
@@ -395,7 +398,7 @@ fn read_after<T: Characters>(
 
 /// Reads a block scalar, from its `|` or `>` on. `indent` is the innermost block collection's
 /// column counted from 1, 0 where none is open. The answer is the token's position and the text.
-#[tactic(auto, unfolding(model_lexers::specs::Block::block))]
+#[tactic(auto, unfolding(model_scanner::specs::BlockScalar::block))]
 pub fn read_block_scalar<T: Characters>(
     alloc: Global,
     window: &mut Window<T>,

@@ -1,20 +1,20 @@
 //! Directives (YAML 1.2, section 6.8).
 ghost use Rattle.std.specs.Prelude.{◌≡◌, ◌≢◌, ◌≤◌, ◌<◌, ◌+◌, ◌-◌, ◌*◌, true, Ok, Err, OnOk, IfOk, IfErr};
 ghost use Rattle.yaml_chars.specs.Class.{is_alpha, is_digit};
-ghost use Rattle.yaml_chars.specs.Reading.{Reads, Sees, HasChar, position_of};
+ghost use Rattle.yaml_chars.specs.WindowView.{Reads, Sees, HasChar, position_of};
 ghost use Rattle.yaml_tokens.specs.Shown.{tok_of};
-ghost use Rattle.model_lexers.specs.Machine.{skip_while};
-ghost use Rattle.model_lexers.specs.Space.{blanks};
-ghost use Rattle.model_lexers.specs.Directive.{kind, name, number, version_value, tag_value, after_major, prefix_after, after_name, value, directive_break, line_end, directive};
+ghost use Rattle.model_scanner.specs.Machine.{skip_while};
+ghost use Rattle.model_scanner.specs.Blanks.{blanks};
+ghost use Rattle.model_scanner.specs.Directive.{kind, name, number, version_value, tag_value, after_major, prefix_after, after_name, value, directive_break, line_end, directive};
 ghost use Rattle.yaml_lexers.specs.Shown.{Lexes, Refuses, read};
 ghost use Rattle.yaml_lexers.specs.ShownTag.{kind_shown};
 
 use crate::space::{skip_blanks, skip_comment, skip_linebreak, skip_ws_to_eol};
 use crate::tag::{read_handle, read_prefix};
-use model_lexers::SkipTabs;
+use model_scanner::SkipTabs;
 use std::alloc::Global;
 use yaml_chars::class::{is_alpha, is_blank_or_breakz, is_break, is_digit};
-use yaml_chars::{Characters, Marker, Text, Window};
+use yaml_chars::{Characters, Marker, TextBuilder, Window};
 use yaml_tokens::{Fault, Problem, TokenType};
 
 /// What a directive is by its name.
@@ -26,7 +26,7 @@ enum Directive {
 }
 
 /// The directive whose name stands here.
-#[tactic(auto, unfolding(model_lexers::specs::Directive::kind))]
+#[tactic(auto, unfolding(model_scanner::specs::Directive::kind))]
 fn directive_here<T: Characters>(window: &Window<T>) -> Directive
     requires { 5 ≤ window.now.ahead }
     ensures { Sees window.now (λ a. kind_shown result ≡ kind a) }
@@ -43,7 +43,7 @@ fn directive_here<T: Characters>(window: &Window<T>) -> Directive
 }
 
 /// Steps over ASCII letters, digits, `_` and `-`.
-#[tactic(auto, using(model_lexers::proofs::SpaceLemmas::skip_end))]
+#[tactic(auto, using(model_scanner::proofs::SpaceLemmas::skip_end))]
 fn skip_word<T: Characters>(window: &mut Window<T>)
     ensures reads { Reads window.old window.new (λ a b. skip_while is_alpha a (position_of window.old) ≡ read b window.new tt) }
     ensures ahead { 0 < window.new.ahead }
@@ -57,7 +57,7 @@ fn skip_word<T: Characters>(window: &mut Window<T>)
 }
 
 /// Steps over a directive's name.
-#[tactic(auto, unfolding(model_lexers::specs::Directive::name))]
+#[tactic(auto, unfolding(model_scanner::specs::Directive::name))]
 fn skip_name<T: Characters>(window: &mut Window<T>) -> Result<Directive, Fault>
     ensures ok { IfOk result (λ k. Lexes name window.old window.new (kind_shown k)) }
     ensures err { IfErr result (λ e. Refuses name window.old window.new e) }
@@ -87,7 +87,7 @@ fn with_digit(value: u32, c: char) -> u32
 }
 
 /// Reads a number of a version, of at most nine digits.
-#[tactic(auto, using(model_lexers::proofs::DirectiveLemmas::digits_stop, model_lexers::proofs::DirectiveLemmas::too_long), unfolding(model_lexers::specs::Directive::number))]
+#[tactic(auto, using(model_scanner::proofs::DirectiveLemmas::digits_stop, model_scanner::proofs::DirectiveLemmas::too_long), unfolding(model_scanner::specs::Directive::number))]
 fn read_number<T: Characters>(window: &mut Window<T>, start: Marker) -> Result<u32, Fault>
     ensures ok { IfOk result (λ n. Lexes (number start) window.old window.new n) }
     ensures err { IfErr result (λ e. Refuses (number start) window.old window.new e) }
@@ -129,7 +129,7 @@ fn read_minor<T: Characters>(
 }
 
 /// Reads the two numbers of a version.
-#[tactic(auto, unfolding(model_lexers::specs::Directive::version_value))]
+#[tactic(auto, unfolding(model_scanner::specs::Directive::version_value))]
 fn read_version<T: Characters>(window: &mut Window<T>, start: Marker) -> Result<TokenType, Fault>
     ensures ok { IfOk result (λ t. Lexes (version_value start) window.old window.new (tok_of t)) }
     ensures err { IfErr result (λ e. Refuses (version_value start) window.old window.new e) }
@@ -144,7 +144,7 @@ fn read_tag_prefix<T: Characters>(
     alloc: Global,
     window: &mut Window<T>,
     start: Marker,
-    handle: Text,
+    handle: TextBuilder,
 ) -> Result<TokenType, Fault>
     ensures ok { IfOk result (λ t. Reads window.old window.new (λ a b. prefix_after start handle (blanks a (position_of window.old)) ≡ Ok (read b window.new (tok_of t)))) }
     ensures err { IfErr result (λ e. Reads window.old window.new (λ a b. e ≢ Fault.OutOfMemory → prefix_after start handle (blanks a (position_of window.old)) ≡ Err e)) }
@@ -158,7 +158,7 @@ fn read_tag_prefix<T: Characters>(
 }
 
 /// Reads a handle and its prefix.
-#[tactic(auto, unfolding(model_lexers::specs::Directive::tag_value))]
+#[tactic(auto, unfolding(model_scanner::specs::Directive::tag_value))]
 fn read_tag_directive<T: Characters>(
     alloc: Global,
     window: &mut Window<T>,
@@ -187,14 +187,14 @@ fn read_value<T: Characters>(
         Directive::Tag => read_tag_directive(alloc, window, start),
         Directive::Unknown => {
             skip_comment(window);
-            let (handle, prefix) = (Text::new(alloc), Text::new(alloc));
+            let (handle, prefix) = (TextBuilder::new(alloc), TextBuilder::new(alloc));
             Ok(TokenType::TagDirective(handle.into_string(), prefix.into_string()))
         }
     }
 }
 
 /// Steps over the break after a directive, if one stands here.
-#[tactic(auto, using(model_lexers::proofs::DirectiveLemmas::break_stands, model_lexers::proofs::DirectiveLemmas::break_fails), unfolding(model_lexers::specs::Directive::directive_break))]
+#[tactic(auto, using(model_scanner::proofs::DirectiveLemmas::break_stands, model_scanner::proofs::DirectiveLemmas::break_fails), unfolding(model_scanner::specs::Directive::directive_break))]
 fn skip_directive_break<T: Characters>(window: &mut Window<T>, start: Marker) -> Result<(), Fault>
     ensures ok { IfOk result (λ _. Lexes (directive_break start) window.old window.new tt) }
     ensures err { IfErr result (λ e. Refuses (directive_break start) window.old window.new e) }
@@ -211,7 +211,7 @@ fn skip_directive_break<T: Characters>(window: &mut Window<T>, start: Marker) ->
 }
 
 /// Steps over a directive's line from after its value on, with its break.
-#[tactic(auto, unfolding(model_lexers::specs::Directive::line_end))]
+#[tactic(auto, unfolding(model_scanner::specs::Directive::line_end))]
 fn skip_line_end<T: Characters>(window: &mut Window<T>, start: Marker) -> Result<(), Fault>
     ensures ok { IfOk result (λ _. Lexes (line_end start) window.old window.new tt) }
     ensures err { IfErr result (λ e. Refuses (line_end start) window.old window.new e) }
@@ -237,7 +237,7 @@ fn read_named<T: Characters>(
 
 /// Reads a directive, from the `%` to after its line's break. One of an unknown name is a tag
 /// directive of two empty texts.
-#[tactic(auto, unfolding(model_lexers::specs::Directive::directive))]
+#[tactic(auto, unfolding(model_scanner::specs::Directive::directive))]
 pub fn read_directive<T: Characters>(
     alloc: Global,
     window: &mut Window<T>,

@@ -1,10 +1,10 @@
 //! Escapes of double-quoted scalars (YAML 1.2, section 5.7).
 ghost use Rattle.std.specs.Prelude.{◌≡◌, ◌≢◌, ◌≤◌, ◌<◌, ◌+◌, ◌*◌, ℕ, zero, suc, Bool, true, false, Ok, Err, OnOk, IfOk, IfErr, slice_index, MatchOption, if◌then◌else◌};
 ghost use Rattle.defs_text.specs.Position.{Position};
-ghost use Rattle.yaml_chars.specs.Reading.{Reads, Sees, HasChar, SamePosition, position_of};
-ghost use Rattle.model_lexers.specs.declared.context.Context.{Context};
-ghost use Rattle.model_lexers.specs.Folding.{Folded};
-ghost use Rattle.model_lexers.specs.Quoted.{escape_of, is_scalar, digits_from, quoted_from, inside, breaking, named};
+ghost use Rattle.yaml_chars.specs.WindowView.{Reads, Sees, HasChar, SamePosition, position_of};
+ghost use Rattle.model_scanner.specs.declared.context.Context.{Context};
+ghost use Rattle.model_scanner.specs.Folding.{Folded};
+ghost use Rattle.model_scanner.specs.Quoted.{escape_of, is_scalar, digits_from, quoted_from, inside, breaking, named};
 ghost use Rattle.yaml_lexers.specs.ShownQuoted.{at, at_folded, mode_of, escape_shown, count_of, ReadsOn, Shows};
 ghost use Rattle.yaml_lexers.specs.Shown.{folded};
 
@@ -42,7 +42,7 @@ enum Escape {
     Unknown,
 }
 
-#[tactic(auto, unfolding(model_lexers::specs::Quoted::escape_of))]
+#[tactic(auto, unfolding(model_scanner::specs::Quoted::escape_of))]
 fn escape_of(c: char) -> Escape
     ensures value { escape_shown result ≡ escape_of c }
     ensures some { result ≢ Escape.Unknown → c ≢ 0 }
@@ -71,7 +71,7 @@ fn escape_of(c: char) -> Escape
 
 /// Reads a hexadecimal digit.
 #[inline(always)]
-#[tactic(auto, using(model_lexers::proofs::QuotedLemmas::digit_turn, model_lexers::proofs::QuotedLemmas::digit_fails))]
+#[tactic(auto, using(model_scanner::proofs::QuotedLemmas::digit_turn, model_scanner::proofs::QuotedLemmas::digit_fails))]
 fn read_digit<T: Characters>(window: &mut Window<T>, start: Marker) -> Result<u32, Fault>
     ensures ok { IfOk result (λ n. Reads window.old window.new (λ a b. (single : Bool) (context : Context) (more value : ℕ) (t : Folded) →
         digits_from single context start (suc more) value a (position_of window.old) t ≡ digits_from single context start more (value * 16 + n) b (position_of window.new) t)) }
@@ -88,7 +88,7 @@ fn read_digit<T: Characters>(window: &mut Window<T>, start: Marker) -> Result<u3
 }
 
 /// The character of a code, if it is one's.
-#[tactic(auto, unfolding(model_lexers::specs::Quoted::is_scalar))]
+#[tactic(auto, unfolding(model_scanner::specs::Quoted::is_scalar))]
 fn char_of(code: u32) -> Option<char>
     ensures { MatchOption result (is_scalar code ≡ false) (λ c. (c ≡ code) × (is_scalar code ≡ true)) }
 {
@@ -117,7 +117,7 @@ fn read_code<T: Characters>(
 }
 
 /// Reads a code's digits. The code has to be a character's.
-#[tactic(auto, using(model_lexers::proofs::QuotedLemmas::coded, model_lexers::proofs::QuotedLemmas::coded_fails))]
+#[tactic(auto, using(model_scanner::proofs::QuotedLemmas::coded, model_scanner::proofs::QuotedLemmas::coded_fails))]
 fn read_coded<T: Characters>(
     window: &mut Window<T>,
     quote: &Quote,
@@ -139,7 +139,7 @@ fn read_coded<T: Characters>(
 
 /// Reads what a backslash names.
 #[inline(always)]
-#[tactic(auto, using(model_lexers::proofs::QuotedLemmas::named_char, model_lexers::proofs::QuotedLemmas::named_code, model_lexers::proofs::QuotedLemmas::named_unknown))]
+#[tactic(auto, using(model_scanner::proofs::QuotedLemmas::named_char, model_scanner::proofs::QuotedLemmas::named_code, model_scanner::proofs::QuotedLemmas::named_unknown))]
 fn read_named<T: Characters>(
     window: &mut Window<T>,
     quote: &Quote,

@@ -1,18 +1,18 @@
 //! Lines of a flow scalar, folded.
 ghost use Rattle.std.specs.Prelude.{◌≡◌, OnOk, OnErr, true, false, []};
-ghost use Rattle.yaml_chars.specs.Reading.{Reads, position_of};
-ghost use Rattle.model_lexers.specs.Folding.{nothing, with_char, with_blank, with_break, with_escaped_break, joined};
+ghost use Rattle.yaml_chars.specs.WindowView.{Reads, position_of};
+ghost use Rattle.model_scanner.specs.Folding.{nothing, with_char, with_blank, with_break, with_escaped_break, joined};
 ghost use Rattle.yaml_lexers.specs.Shown.{folded, AddsWords};
 
 use std::alloc::{AllocError, Global};
-use yaml_chars::{Characters, Run, Text, Window};
+use yaml_chars::{Characters, Run, TextBuilder, Window};
 
 /// A text that is being folded, and what stands between it and the next character: blanks, or
 /// after a break the breaks after that.
 #[derive(Drop)]
 pub(crate) struct Folding {
-    pub text: Text,
-    pub gap: Text,
+    pub text: TextBuilder,
+    pub gap: TextBuilder,
     // Whether a break stands in the gap, and whether that was an escaped one.
     pub leading: bool,
     pub escaped: bool,
@@ -32,8 +32,8 @@ impl Folding {
         ensures { folded result ≡ nothing }
     {
         Folding {
-            text: Text::new(alloc),
-            gap: Text::new(alloc),
+            text: TextBuilder::new(alloc),
+            gap: TextBuilder::new(alloc),
             leading: false,
             escaped: false,
             looks: LOOKS,

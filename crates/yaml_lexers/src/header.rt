@@ -1,12 +1,12 @@
 //! Headers of block scalars (YAML 1.2, section 8.1.1).
 ghost use Rattle.std.specs.Prelude.{◌≡◌, ◌<◌, true, false, Ok, Err, IfOk, IfErr};
-ghost use Rattle.yaml_chars.specs.Reading.{Reads, position_of};
-ghost use Rattle.model_lexers.specs.Block.{chomping, increment, indicators, header_break, header_end, header};
+ghost use Rattle.yaml_chars.specs.WindowView.{Reads, position_of};
+ghost use Rattle.model_scanner.specs.BlockScalar.{chomping, increment, indicators, header_break, header_end, header};
 ghost use Rattle.yaml_lexers.specs.Shown.{read};
 ghost use Rattle.yaml_lexers.specs.ShownBlock.{indicators_shown, header_shown};
 
 use crate::space::{skip_linebreak, skip_ws_to_eol};
-use model_lexers::SkipTabs;
+use model_scanner::SkipTabs;
 use yaml_chars::class::{hex_value, is_break, is_digit};
 use yaml_chars::{Characters, Marker, Window};
 use yaml_tokens::{Chomping, Fault, Problem};
@@ -21,7 +21,7 @@ pub(crate) struct Header {
 }
 
 /// Reads a chomping indicator, if one stands here, else it is `Clip`.
-#[tactic(auto, using(model_lexers::proofs::BlockLemmas::no_chomping), unfolding(model_lexers::specs::Block::chomping))]
+#[tactic(auto, using(model_scanner::proofs::BlockLemmas::no_chomping), unfolding(model_scanner::specs::BlockScalar::chomping))]
 fn read_chomping<T: Characters>(window: &mut Window<T>) -> Chomping
     ensures { Reads window.old window.new (λ a b. chomping a (position_of window.old) ≡ read b window.new result) }
 {
@@ -39,7 +39,7 @@ fn read_chomping<T: Characters>(window: &mut Window<T>) -> Chomping
 }
 
 /// Reads an indentation indicator, if one stands here, else it is 0.
-#[tactic(auto, using(model_lexers::proofs::BlockLemmas::no_increment), unfolding(yaml_chars::specs::Class::is_digit, model_lexers::specs::Block::increment))]
+#[tactic(auto, using(model_scanner::proofs::BlockLemmas::no_increment), unfolding(yaml_chars::specs::Class::is_digit, model_scanner::specs::BlockScalar::increment))]
 fn read_increment<T: Characters>(window: &mut Window<T>, start: Marker) -> Result<usize, Fault>
     ensures ok { IfOk result (λ n. Reads window.old window.new (λ a b. increment start a (position_of window.old) ≡ Ok (read b window.new n))) }
     ensures err { IfErr result (λ e. Reads window.old window.new (λ a b. increment start a (position_of window.old) ≡ Err e)) }
@@ -57,7 +57,7 @@ fn read_increment<T: Characters>(window: &mut Window<T>, start: Marker) -> Resul
 }
 
 /// Reads the chomping and the indentation indicator, in either order.
-#[tactic(auto, unfolding(model_lexers::specs::Block::indicators))]
+#[tactic(auto, unfolding(model_scanner::specs::BlockScalar::indicators))]
 fn read_indicators<T: Characters>(
     window: &mut Window<T>,
     start: Marker,
@@ -76,7 +76,7 @@ fn read_indicators<T: Characters>(
 }
 
 /// Steps over the break after a header, if one stands here. The answer is whether it did.
-#[tactic(auto, using(model_lexers::proofs::BlockLemmas::break_stands, model_lexers::proofs::BlockLemmas::header_fails), unfolding(model_lexers::specs::Block::header_break))]
+#[tactic(auto, using(model_scanner::proofs::BlockLemmas::break_stands, model_scanner::proofs::BlockLemmas::header_fails), unfolding(model_scanner::specs::BlockScalar::header_break))]
 fn end_line<T: Characters>(window: &mut Window<T>, start: Marker) -> Result<bool, Fault>
     ensures ok { IfOk result (λ broken. Reads window.old window.new (λ a b. header_break start a (position_of window.old) ≡ Ok (read b window.new broken))) }
     ensures err { IfErr result (λ e. Reads window.old window.new (λ a b. header_break start a (position_of window.old) ≡ Err e)) }
@@ -96,7 +96,7 @@ fn end_line<T: Characters>(window: &mut Window<T>, start: Marker) -> Result<bool
 }
 
 /// Steps over the rest of a header's line. The answer is whether a break ended it.
-#[tactic(auto, unfolding(model_lexers::specs::Block::header_end))]
+#[tactic(auto, unfolding(model_scanner::specs::BlockScalar::header_end))]
 fn end_header<T: Characters>(window: &mut Window<T>, start: Marker) -> Result<bool, Fault>
     ensures ok { IfOk result (λ broken. Reads window.old window.new (λ a b. header_end start a (position_of window.old) ≡ Ok (read b window.new broken))) }
     ensures err { IfErr result (λ e. Reads window.old window.new (λ a b. header_end start a (position_of window.old) ≡ Err e)) }
@@ -106,7 +106,7 @@ fn end_header<T: Characters>(window: &mut Window<T>, start: Marker) -> Result<bo
 }
 
 /// Reads a header from after the `|` or `>` on, with its line's break.
-#[tactic(auto, unfolding(model_lexers::specs::Block::header))]
+#[tactic(auto, unfolding(model_scanner::specs::BlockScalar::header))]
 pub(crate) fn read_header<T: Characters>(
     window: &mut Window<T>,
     start: Marker,

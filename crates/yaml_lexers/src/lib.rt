@@ -16,7 +16,7 @@ mod uri;
 pub use anchor::read_anchor_name;
 pub use block::read_block_scalar;
 pub use directive::read_directive;
-pub use model_lexers::{Context, SkipTabs, Whitespace};
+pub use model_scanner::{Context, SkipTabs, Whitespace};
 pub use plain::{Plain, read_plain};
 pub use quoted::read_quoted;
 pub use space::{skip_comment, skip_linebreak, skip_ws_to_eol};

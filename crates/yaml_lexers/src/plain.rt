@@ -1,16 +1,16 @@
 //! Plain scalars (YAML 1.2, section 7.3.3).
 ghost use Rattle.std.specs.Prelude.{◌≡◌, ◌≢◌, ◌≤◌, ◌<◌, true, false, Ok, Err, OnOk, OnErr, IfOk, IfErr, slice_index};
 ghost use Rattle.defs_text.specs.Position.{Position};
-ghost use Rattle.yaml_chars.specs.Reading.{Reads, Sees, HasChar, SamePosition, position_of};
+ghost use Rattle.yaml_chars.specs.WindowView.{Reads, Sees, HasChar, SamePosition, position_of};
 ghost use Rattle.yaml_chars.specs.Words.{begins_word};
-ghost use Rattle.model_lexers.specs.declared.context.Context.{Context};
-ghost use Rattle.model_lexers.specs.Folding.{Folded};
-ghost use Rattle.model_lexers.specs.Machine.{is_marker, at_marker};
-ghost use Rattle.model_lexers.specs.Plain.{can_be_plain, is_shallow, at_dash, at_plain, goes_on, starts, plain, plain_from, first, inside, between, ends_gap};
+ghost use Rattle.model_scanner.specs.declared.context.Context.{Context};
+ghost use Rattle.model_scanner.specs.Folding.{Folded};
+ghost use Rattle.model_scanner.specs.Machine.{is_marker, at_marker};
+ghost use Rattle.model_scanner.specs.Plain.{can_be_plain, is_shallow, at_dash, at_plain, goes_on, starts, plain, plain_from, first, inside, between, ends_gap};
 ghost use Rattle.yaml_lexers.specs.Shown.{Lexes, Refuses, at, at_folded, plain_shown, EndsHere};
 
 use crate::folding::{FEW, Folding};
-use model_lexers::Context;
+use model_scanner::Context;
 use std::alloc::{AllocError, Global};
 use yaml_chars::class::{is_blank, is_blank_or_breakz, is_break, is_breakz, is_flow};
 use yaml_chars::{Characters, Marker, Run, Window};
@@ -25,7 +25,7 @@ pub struct Plain {
     pub leading: bool,
 }
 
-#[tactic(auto, unfolding(model_lexers::specs::Plain::can_be_plain))]
+#[tactic(auto, unfolding(model_scanner::specs::Plain::can_be_plain))]
 fn can_be_plain(flow: bool, c: char, next: char) -> bool
     ensures { result ≡ can_be_plain flow c next }
 {
@@ -227,7 +227,7 @@ fn read_piece<T: Characters>(
 
 /// Reads the characters up to a blank, a break, the end, or what ends a plain scalar. The result is whether a gap may
 /// come: without one the scalar ends here.
-#[tactic(auto, using(model_lexers::proofs::PlainLemmas::run_end))]
+#[tactic(auto, using(model_scanner::proofs::PlainLemmas::run_end))]
 fn read_run<T: Characters>(
     window: &mut Window<T>,
     context: Context,
@@ -257,7 +257,7 @@ fn read_run<T: Characters>(
     }
 }
 
-#[tactic(auto, unfolding(model_lexers::specs::Machine::is_marker))]
+#[tactic(auto, unfolding(model_scanner::specs::Machine::is_marker))]
 fn is_marker(c: char, d: char, e: char, f: char) -> bool
     ensures { result ≡ is_marker c d e f }
 {
@@ -278,7 +278,7 @@ pub(crate) fn look_ahead<T: Characters>(window: &mut Window<T>)
 }
 
 /// Whether a document marker stands here.
-#[tactic(auto, unfolding(model_lexers::specs::Machine::at_marker))]
+#[tactic(auto, unfolding(model_scanner::specs::Machine::at_marker))]
 pub(crate) fn at_marker<T: Characters>(window: &Window<T>) -> bool
     requires { window.now.col ≡ 0 → 4 ≤ window.now.ahead }
     ensures { Sees window.now (λ a. result ≡ at_marker window.now.col a) }
@@ -295,7 +295,7 @@ pub(crate) fn at_marker<T: Characters>(window: &Window<T>) -> bool
 }
 
 /// Whether a dash stands here that no plain scalar may begin with.
-#[tactic(auto, unfolding(model_lexers::specs::Plain::at_dash))]
+#[tactic(auto, unfolding(model_scanner::specs::Plain::at_dash))]
 fn at_dash<T: Characters>(window: &Window<T>, flow: bool) -> bool
     requires { 2 ≤ window.now.ahead }
     ensures { Sees window.now (λ a. result ≡ at_dash flow a) }
@@ -304,7 +304,7 @@ fn at_dash<T: Characters>(window: &Window<T>, flow: bool) -> bool
 }
 
 /// Whether a character stands here that may be one of a plain scalar.
-#[tactic(auto, unfolding(model_lexers::specs::Plain::at_plain))]
+#[tactic(auto, unfolding(model_scanner::specs::Plain::at_plain))]
 fn at_plain<T: Characters>(window: &Window<T>, flow: bool) -> bool
     requires { 2 ≤ window.now.ahead }
     ensures sees { Sees window.now (λ a. result ≡ at_plain flow a) }
@@ -314,7 +314,7 @@ fn at_plain<T: Characters>(window: &Window<T>, flow: bool) -> bool
     !is_blank_or_breakz(c) && can_be_plain(flow, c, window.peek(1))
 }
 
-#[tactic(auto, unfolding(model_lexers::specs::Plain::is_shallow))]
+#[tactic(auto, unfolding(model_scanner::specs::Plain::is_shallow))]
 fn is_shallow(context: Context, col: usize) -> bool
     ensures { result ≡ is_shallow context col }
 {
@@ -322,7 +322,7 @@ fn is_shallow(context: Context, col: usize) -> bool
 }
 
 /// Whether a scalar goes on at a character after a gap.
-#[tactic(auto, unfolding(model_lexers::specs::Plain::goes_on))]
+#[tactic(auto, unfolding(model_scanner::specs::Plain::goes_on))]
 fn goes_on<T: Characters>(window: &mut Window<T>, context: Context) -> Result<bool, Fault>
     ensures reads { Reads window.old window.new (λ a b. (b ≡ a) × (result ≡ goes_on context a (position_of window.old))) }
     ensures position { SamePosition window.old window.new }
@@ -345,7 +345,7 @@ fn goes_on<T: Characters>(window: &mut Window<T>, context: Context) -> Result<bo
 
 /// Steps over a TAB at the indentation's position and the blanks after it, up to the end of the
 /// line or a comment.
-#[tactic(auto, using(model_lexers::proofs::PlainLemmas::tabs_end))]
+#[tactic(auto, using(model_scanner::proofs::PlainLemmas::tabs_end))]
 fn skip_tabs<T: Characters>(window: &mut Window<T>, start: Marker) -> Result<(), Fault>
     requires tab { Sees window.old (λ a. slice_index a 0 ≡ 9) }
     requires has { HasChar window.old }
@@ -371,7 +371,7 @@ fn skip_tabs<T: Characters>(window: &mut Window<T>, start: Marker) -> Result<(),
 
 /// Steps over spaces after a break.
 #[inline(always)]
-#[tactic(auto, using(model_lexers::proofs::RunLemmas::space_run))]
+#[tactic(auto, using(model_scanner::proofs::RunLemmas::space_run))]
 fn skip_spaces<T: Characters>(window: &mut Window<T>)
     ensures { Reads window.old window.new (λ a b. (context : Context) (start : Position) (t : Folded) → t.leading ≡ true →
         plain_from context start a (at_folded between window.old t) ≡ plain_from context start b (at_folded between window.new t)) }
@@ -416,7 +416,7 @@ fn read_gap<T: Characters>(
 }
 
 /// Whether a plain scalar may begin here.
-#[tactic(auto, unfolding(model_lexers::specs::Plain::starts))]
+#[tactic(auto, unfolding(model_scanner::specs::Plain::starts))]
 fn check_start<T: Characters>(window: &Window<T>, context: Context) -> Result<(), Fault>
     requires { 2 ≤ window.now.ahead }
     ensures { Sees window.now (λ a. result ≡ starts context a (position_of window.now)) }
@@ -469,7 +469,7 @@ fn ended(scalar: Folding) -> Plain
 }
 
 /// Reads a plain scalar, which may go on over lines, from its first character on.
-#[tactic(auto, using(model_lexers::proofs::PlainLemmas::go_on, model_lexers::proofs::PlainLemmas::stop_here, model_lexers::proofs::PlainLemmas::fail_here), unfolding(model_lexers::specs::Plain::plain))]
+#[tactic(auto, using(model_scanner::proofs::PlainLemmas::go_on, model_scanner::proofs::PlainLemmas::stop_here, model_scanner::proofs::PlainLemmas::fail_here), unfolding(model_scanner::specs::Plain::plain))]
 pub fn read_plain<T: Characters>(
     alloc: Global,
     window: &mut Window<T>,

@@ -1,17 +1,17 @@
 //! Quoted scalars (YAML 1.2, sections 7.3.1 and 7.3.2).
 ghost use Rattle.std.specs.Prelude.{◌≡◌, ◌≢◌, ◌≤◌, ◌<◌, ◌^◌, ◌+◌, ◌==◌, ◌||◌, true, false, Ok, Err, OnOk, OnErr, IfOk, IfErr};
 ghost use Rattle.yaml_chars.specs.Class.{is_blank, is_break};
-ghost use Rattle.yaml_chars.specs.Reading.{Reads, Sees, HasChar, position_of};
+ghost use Rattle.yaml_chars.specs.WindowView.{Reads, Sees, HasChar, position_of};
 ghost use Rattle.defs_text.specs.Text.{string_chars};
-ghost use Rattle.model_lexers.specs.Quoted.{quote_of, refused, quoted, quoted_from, first, inside, gap, breaking, after, doubled, closed};
-ghost use Rattle.model_lexers.specs.Folding.{Folded, nothing};
+ghost use Rattle.model_scanner.specs.Quoted.{quote_of, refused, quoted, quoted_from, first, inside, gap, breaking, after, doubled, closed};
+ghost use Rattle.model_scanner.specs.Folding.{Folded, nothing};
 ghost use Rattle.yaml_lexers.specs.Shown.{Lexes, Refuses, folded};
 ghost use Rattle.yaml_lexers.specs.ShownQuoted.{mode_of, at_folded, GoesOn, AllGoOn, IsRefused, ReadsOn, Shows};
 
 use crate::escape::read_escapes;
 use crate::folding::{FEW, Folding};
 use crate::plain::{at_marker, look_ahead};
-use model_lexers::Context;
+use model_scanner::Context;
 use std::alloc::{AllocError, Global};
 use yaml_chars::class::{is_blank, is_blank_or_breakz, is_break};
 use yaml_chars::{Characters, Marker, Run, Window};
@@ -47,7 +47,7 @@ fn quote_of(single: bool) -> char
 }
 
 /// Refuses a document marker and a line that stands too far left.
-#[tactic(auto, unfolding(model_lexers::specs::Quoted::refused))]
+#[tactic(auto, unfolding(model_scanner::specs::Quoted::refused))]
 fn check_line<T: Characters>(window: &Window<T>, quote: &Quote) -> Result<(), Fault>
     requires { window.now.col ≡ 0 → 4 ≤ window.now.ahead }
     ensures { Sees window.now (λ a. result ≡ refused quote.now.context quote.now.start a (position_of window.now)) }
@@ -116,7 +116,7 @@ fn read_inside<T: Characters>(
 
 /// Reads a character of a line.
 #[inline(always)]
-#[tactic(auto, using(model_lexers::proofs::QuotedLemmas::inside_gap))]
+#[tactic(auto, using(model_scanner::proofs::QuotedLemmas::inside_gap))]
 fn read_in_line<T: Characters>(
     window: &mut Window<T>,
     quote: &Quote,
@@ -135,7 +135,7 @@ fn read_in_line<T: Characters>(
 
 /// Reads the first character of a line, or one after a gap.
 #[inline(always)]
-#[tactic(auto, using(model_lexers::proofs::QuotedLemmas::line_inside, model_lexers::proofs::QuotedLemmas::line_fails))]
+#[tactic(auto, using(model_scanner::proofs::QuotedLemmas::line_inside, model_scanner::proofs::QuotedLemmas::line_fails))]
 fn read_line<T: Characters>(
     window: &mut Window<T>,
     quote: &Quote,
@@ -153,7 +153,7 @@ fn read_line<T: Characters>(
 }
 
 /// Reads a character in a gap, or the one after it.
-#[tactic(auto, using(model_lexers::proofs::QuotedLemmas::gap_line))]
+#[tactic(auto, using(model_scanner::proofs::QuotedLemmas::gap_line))]
 fn read_in_gap<T: Characters>(
     window: &mut Window<T>,
     quote: &Quote,
@@ -173,7 +173,7 @@ fn read_in_gap<T: Characters>(
 }
 
 /// Reads a character after an escaped break.
-#[tactic(auto, using(model_lexers::proofs::QuotedLemmas::after_quote, model_lexers::proofs::QuotedLemmas::after_gap))]
+#[tactic(auto, using(model_scanner::proofs::QuotedLemmas::after_quote, model_scanner::proofs::QuotedLemmas::after_gap))]
 fn read_after<T: Characters>(
     window: &mut Window<T>,
     quote: &Quote,
@@ -522,7 +522,7 @@ fn read_parts<T: Characters>(
 }
 
 /// Reads a quoted scalar, from the opening quote to after the closing one.
-#[tactic(auto, using(model_lexers::proofs::QuotedLemmas::quoted_starts, model_lexers::proofs::QuotedLemmas::closed_end), unfolding(model_lexers::specs::Quoted::quoted))]
+#[tactic(auto, using(model_scanner::proofs::QuotedLemmas::quoted_starts, model_scanner::proofs::QuotedLemmas::closed_end), unfolding(model_scanner::specs::Quoted::quoted))]
 pub fn read_quoted<T: Characters>(
     alloc: Global,
     window: &mut Window<T>,

@@ -1,11 +1,11 @@
 //! Spaces, comments and line breaks.
 ghost use Rattle.std.specs.Prelude.{◌≡◌, ◌<◌, true, false, Ok, Err, IfOk, IfErr};
-ghost use Rattle.yaml_chars.specs.Reading.{Reads, HasChar, position_of};
-ghost use Rattle.model_lexers.specs.Space.{linebreak, comment, blanks, space};
+ghost use Rattle.yaml_chars.specs.WindowView.{Reads, HasChar, position_of};
+ghost use Rattle.model_scanner.specs.Blanks.{linebreak, comment, blanks, space};
 ghost use Rattle.yaml_lexers.specs.Shown.{read};
 
 use crate::folding::FEW;
-use model_lexers::{SkipTabs, Whitespace};
+use model_scanner::{SkipTabs, Whitespace};
 use yaml_chars::class::{is_blank, is_breakz};
 use yaml_chars::{Characters, Run, Window};
 use yaml_tokens::{Fault, Problem};
@@ -28,7 +28,7 @@ pub fn skip_linebreak<T: Characters>(window: &mut Window<T>)
 /// Steps over the next few characters of a comment. The result is whether it may have more: without more, its line ends here,
 /// and what stands here is in the window.
 #[inline(always)]
-#[tactic(auto, using(model_lexers::proofs::SpaceLemmas::skip_end))]
+#[tactic(auto, using(model_scanner::proofs::SpaceLemmas::skip_end))]
 fn pass_few<T: Characters>(window: &mut Window<T>) -> bool
     ensures more { result ≡ true → Reads window.old window.new (λ a b. comment a (position_of window.old) ≡ comment b (position_of window.new)) }
     ensures over { result ≡ false → Reads window.old window.new (λ a b. comment a (position_of window.old) ≡ read b window.new tt) }
@@ -55,7 +55,7 @@ fn pass_known<T: Characters>(window: &mut Window<T>)
 
 /// Steps to the end of a line of more than a few characters. What stands there is then in the window.
 #[inline(never)]
-#[tactic(auto, using(model_lexers::proofs::SpaceLemmas::comment_on, model_lexers::proofs::SpaceLemmas::comment_end))]
+#[tactic(auto, using(model_scanner::proofs::SpaceLemmas::comment_on, model_scanner::proofs::SpaceLemmas::comment_end))]
 fn pass_rest<T: Characters>(window: &mut Window<T>)
     ensures reads { Reads window.old window.new (λ a b. comment a (position_of window.old) ≡ read b window.new tt) }
     ensures ahead { 0 < window.new.ahead }
@@ -79,7 +79,7 @@ pub fn skip_comment<T: Characters>(window: &mut Window<T>)
 /// Steps over spaces, TABs where these are to be skipped, and a comment, up to the end of the
 /// line. What stands after them is then in the window.
 #[inline(always)]
-#[tactic(auto, using(crate::proofs::SpaceLemmas::no_space), unfolding(model_lexers::specs::Space::space))]
+#[tactic(auto, using(crate::proofs::SpaceLemmas::no_space), unfolding(model_scanner::specs::Blanks::space))]
 pub fn skip_ws_to_eol<T: Characters>(
     window: &mut Window<T>,
     tabs: SkipTabs,
@@ -100,7 +100,7 @@ pub fn skip_ws_to_eol<T: Characters>(
 
 // The same, where a blank or a comment stands here.
 #[inline(never)]
-#[tactic(auto, using(model_lexers::proofs::SpaceLemmas::spaces_stop, model_lexers::proofs::SpaceLemmas::at_comment), unfolding(model_lexers::specs::Space::space))]
+#[tactic(auto, using(model_scanner::proofs::SpaceLemmas::spaces_stop, model_scanner::proofs::SpaceLemmas::at_comment), unfolding(model_scanner::specs::Blanks::space))]
 fn skip_spaces<T: Characters>(window: &mut Window<T>, tabs: SkipTabs) -> Result<Whitespace, Fault>
     ensures ok { IfOk result (λ w. Reads window.old window.new (λ a b. space tabs a (position_of window.old) ≡ Ok (read b window.new w))) }
     ensures err { IfErr result (λ e. Reads window.old window.new (λ a b. space tabs a (position_of window.old) ≡ Err e)) }
@@ -130,7 +130,7 @@ fn skip_spaces<T: Characters>(window: &mut Window<T>, tabs: SkipTabs) -> Result<
 }
 
 /// Steps over spaces and TABs.
-#[tactic(auto, using(model_lexers::proofs::SpaceLemmas::skip_end))]
+#[tactic(auto, using(model_scanner::proofs::SpaceLemmas::skip_end))]
 pub(crate) fn skip_blanks<T: Characters>(window: &mut Window<T>)
     ensures reads { Reads window.old window.new (λ a b. blanks a (position_of window.old) ≡ read b window.new tt) }
     ensures ahead { 0 < window.new.ahead }

@@ -1,22 +1,25 @@
 //! Tags (YAML 1.2, sections 6.8.2 and 6.9.1).
 ghost use Rattle.std.specs.Prelude.{◌≡◌, ◌<◌, Ok, Err, OnOk, OnErr, IfOk, IfErr};
 ghost use Rattle.yaml_chars.specs.Class.{is_alpha};
-ghost use Rattle.yaml_chars.specs.Reading.{Reads, HasChar, position_of};
+ghost use Rattle.yaml_chars.specs.WindowView.{Reads, HasChar, position_of};
 ghost use Rattle.defs_text.specs.Text.{string_chars};
-ghost use Rattle.model_lexers.specs.Machine.{take_while};
-ghost use Rattle.model_lexers.specs.Tag.{verbatim, named, local_tag, shorthand, tag_here, ends_tag, tag, handle_end, handle, prefix};
+ghost use Rattle.model_scanner.specs.Machine.{take_while};
+ghost use Rattle.model_scanner.specs.Tag.{verbatim, named, local_tag, shorthand, tag_here, ends_tag, tag, handle_end, handle, prefix};
 ghost use Rattle.yaml_lexers.specs.Shown.{Lexes, Refuses, read};
 ghost use Rattle.yaml_lexers.specs.ShownTag.{tag_shown};
 
 use crate::uri::{read_suffix, read_uri};
 use std::alloc::{AllocError, Global};
 use yaml_chars::class::{is_alpha, is_blank_or_breakz, is_flow, is_tag};
-use yaml_chars::{Characters, Marker, Text, Window};
+use yaml_chars::{Characters, Marker, TextBuilder, Window};
 use yaml_tokens::{Fault, Problem};
 
 /// Reads ASCII letters, digits, `_` and `-`.
-#[tactic(auto, using(model_lexers::proofs::SpaceLemmas::take_end))]
-fn read_word<T: Characters>(window: &mut Window<T>, text: &mut Text) -> Result<(), AllocError>
+#[tactic(auto, using(model_scanner::proofs::SpaceLemmas::take_end))]
+fn read_word<T: Characters>(
+    window: &mut Window<T>,
+    text: &mut TextBuilder,
+) -> Result<(), AllocError>
     ensures ok { OnOk result (Reads window.old window.new (λ a b. take_while is_alpha a (position_of window.old) text.old ≡ read b window.new text.new)) }
     ensures err { OnErr result (Reads window.old window.new (λ _ _. Unit {0})) }
     ensures ahead { OnOk result (0 < window.new.ahead) }
@@ -32,7 +35,7 @@ fn read_word<T: Characters>(window: &mut Window<T>, text: &mut Text) -> Result<(
 }
 
 /// Reads a tag after its `!<`.
-#[tactic(auto, using(model_lexers::proofs::TagLemmas::verbatim_closes, model_lexers::proofs::TagLemmas::verbatim_fails), unfolding(model_lexers::specs::Tag::verbatim))]
+#[tactic(auto, using(model_scanner::proofs::TagLemmas::verbatim_closes, model_scanner::proofs::TagLemmas::verbatim_fails), unfolding(model_scanner::specs::Tag::verbatim))]
 fn read_verbatim<T: Characters>(
     alloc: Global,
     window: &mut Window<T>,
@@ -41,8 +44,8 @@ fn read_verbatim<T: Characters>(
     ensures ok { IfOk result (λ s. Lexes (verbatim start) window.old window.new (tag_shown (string_chars s.0) (string_chars s.1))) }
     ensures err { IfErr result (λ e. Refuses (verbatim start) window.old window.new e) }
 {
-    let handle = Text::new(alloc);
-    let mut uri = Text::new(alloc);
+    let handle = TextBuilder::new(alloc);
+    let mut uri = TextBuilder::new(alloc);
     read_uri(window, start, &mut uri)?;
     if window.look_ch() != '>' {
         return Err(Fault::At(Problem::VerbatimTagEnd, start));
@@ -52,21 +55,21 @@ fn read_verbatim<T: Characters>(
 }
 
 /// Reads the suffix after a handle `!name!`.
-#[tactic(auto, unfolding(model_lexers::specs::Tag::named))]
+#[tactic(auto, unfolding(model_scanner::specs::Tag::named))]
 fn read_named<T: Characters>(
     alloc: Global,
     window: &mut Window<T>,
     start: Marker,
-    name: Text,
+    name: TextBuilder,
 ) -> Result<(String, String), Fault>
     ensures ok { IfOk result (λ s. Lexes (named start name) window.old window.new (tag_shown (string_chars s.0) (string_chars s.1))) }
     ensures err { IfErr result (λ e. Refuses (named start name) window.old window.new e) }
 {
-    let mut handle = Text::new(alloc);
+    let mut handle = TextBuilder::new(alloc);
     handle.push('!')?;
     handle.append(&name)?;
     handle.push('!')?;
-    let mut suffix = Text::new(alloc);
+    let mut suffix = TextBuilder::new(alloc);
     read_suffix(window, start, &mut suffix)?;
     if suffix.is_empty() {
         return Err(Fault::At(Problem::TagUri, start));
@@ -79,13 +82,13 @@ fn read_local<T: Characters>(
     alloc: Global,
     window: &mut Window<T>,
     start: Marker,
-    mut name: Text,
+    mut name: TextBuilder,
 ) -> Result<(String, String), Fault>
     ensures ok { IfOk result (λ s. Lexes (local_tag start name) window.old window.new (tag_shown (string_chars s.0) (string_chars s.1))) }
     ensures err { IfErr result (λ e. Refuses (local_tag start name) window.old window.new e) }
 {
     read_suffix(window, start, &mut name)?;
-    let mut exclamation = Text::new(alloc);
+    let mut exclamation = TextBuilder::new(alloc);
     exclamation.push('!')?;
     if name.is_empty() {
         return Ok((name.into_string(), exclamation.into_string()));
@@ -94,7 +97,7 @@ fn read_local<T: Characters>(
 }
 
 /// Reads a tag `!`, `!suffix`, `!!suffix` or `!name!suffix` after its first `!`.
-#[tactic(auto, unfolding(model_lexers::specs::Tag::shorthand))]
+#[tactic(auto, unfolding(model_scanner::specs::Tag::shorthand))]
 fn read_shorthand<T: Characters>(
     alloc: Global,
     window: &mut Window<T>,
@@ -103,7 +106,7 @@ fn read_shorthand<T: Characters>(
     ensures ok { IfOk result (λ s. Lexes (shorthand start) window.old window.new (tag_shown (string_chars s.0) (string_chars s.1))) }
     ensures err { IfErr result (λ e. Refuses (shorthand start) window.old window.new e) }
 {
-    let mut name = Text::new(alloc);
+    let mut name = TextBuilder::new(alloc);
     read_word(window, &mut name)?;
     if window.look_ch() == '!' {
         window.skip();
@@ -128,7 +131,7 @@ fn read_here<T: Characters>(
     read_shorthand(alloc, window, start)
 }
 
-#[tactic(auto, unfolding(model_lexers::specs::Tag::ends_tag))]
+#[tactic(auto, unfolding(model_scanner::specs::Tag::ends_tag))]
 fn ends_tag(flow: bool, c: char) -> bool
     ensures { result ≡ ends_tag flow c }
 {
@@ -136,7 +139,7 @@ fn ends_tag(flow: bool, c: char) -> bool
 }
 
 /// Reads a tag from its `!` on: its handle and its suffix.
-#[tactic(auto, unfolding(model_lexers::specs::Tag::tag))]
+#[tactic(auto, unfolding(model_scanner::specs::Tag::tag))]
 pub fn read_tag<T: Characters>(
     alloc: Global,
     window: &mut Window<T>,
@@ -162,8 +165,8 @@ fn end_handle<T: Characters>(
     window: &mut Window<T>,
     start: Marker,
     bare: bool,
-    mut handle: Text,
-) -> Result<Text, Fault>
+    mut handle: TextBuilder,
+) -> Result<TextBuilder, Fault>
     ensures ok { IfOk result (λ h. Lexes (handle_end start bare handle) window.old window.new h) }
     ensures err { IfErr result (λ e. Refuses (handle_end start bare handle) window.old window.new e) }
 {
@@ -179,12 +182,12 @@ fn end_handle<T: Characters>(
 }
 
 /// Reads the handle of a tag directive: `!`, `!!` or `!name!`.
-#[tactic(auto, unfolding(model_lexers::specs::Tag::handle))]
+#[tactic(auto, unfolding(model_scanner::specs::Tag::handle))]
 pub(crate) fn read_handle<T: Characters>(
     alloc: Global,
     window: &mut Window<T>,
     start: Marker,
-) -> Result<Text, Fault>
+) -> Result<TextBuilder, Fault>
     ensures ok { IfOk result (λ h. Lexes (handle start) window.old window.new h) }
     ensures err { IfErr result (λ e. Refuses (handle start) window.old window.new e) }
 {
@@ -192,7 +195,7 @@ pub(crate) fn read_handle<T: Characters>(
         return Err(Fault::At(Problem::TagStart, start));
     }
     window.skip();
-    let mut handle = Text::new(alloc);
+    let mut handle = TextBuilder::new(alloc);
     handle.push('!')?;
     let bare = !is_alpha(window.look_ch());
     read_word(window, &mut handle)?;
@@ -200,17 +203,17 @@ pub(crate) fn read_handle<T: Characters>(
 }
 
 /// Reads the prefix of a tag directive: a `!` or a character of a tag, and characters of a URI.
-#[tactic(auto, unfolding(model_lexers::specs::Tag::prefix))]
+#[tactic(auto, unfolding(model_scanner::specs::Tag::prefix))]
 pub(crate) fn read_prefix<T: Characters>(
     alloc: Global,
     window: &mut Window<T>,
     start: Marker,
-) -> Result<Text, Fault>
+) -> Result<TextBuilder, Fault>
     ensures ok { IfOk result (λ h. Lexes (prefix start) window.old window.new h) }
     ensures err { IfErr result (λ e. Refuses (prefix start) window.old window.new e) }
 {
     let c = window.look_ch();
-    let mut prefix = Text::new(alloc);
+    let mut prefix = TextBuilder::new(alloc);
     if c != '!' && !is_tag(c) {
         return Err(Fault::At(Problem::GlobalTagCharacter, start));
     }

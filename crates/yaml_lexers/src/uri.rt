@@ -2,18 +2,18 @@
 ghost use Rattle.std.specs.Prelude.{◌≡◌, ◌≢◌, ◌≤◌, ◌<◌, ◌+◌, ◌*◌, ◌^◌, ◌++◌, ℕ, zero, suc, List, [], ◌∷◌, Bool, true, Ok, Err, OnOk, IfOk, IfErr, slice_index, IfSome, IfNone};
 ghost use Rattle.yaml_chars.specs.Class.{is_uri, is_tag};
 ghost use Rattle.defs_text.specs.Position.{Position};
-ghost use Rattle.yaml_chars.specs.Reading.{Reads, Sees, HasChar, position_of};
-ghost use Rattle.model_lexers.specs.Quoted.{is_scalar};
-ghost use Rattle.model_lexers.specs.Uri.{Octet, lead, plain, percent, low, uri, uri_from, octet_from, trails_from, at_octet, at_trail};
+ghost use Rattle.yaml_chars.specs.WindowView.{Reads, Sees, HasChar, position_of};
+ghost use Rattle.model_scanner.specs.Quoted.{is_scalar};
+ghost use Rattle.model_scanner.specs.Uri.{Octet, lead, plain, percent, low, uri, uri_from, octet_from, trails_from, at_octet, at_trail};
 ghost use Rattle.yaml_lexers.specs.Shown.{read};
 ghost use Rattle.yaml_lexers.specs.ShownTag.{at};
 
 use yaml_chars::class::{hex_value, is_hex, is_tag, is_uri};
-use yaml_chars::{Characters, Marker, Text, Window};
+use yaml_chars::{Characters, Marker, TextBuilder, Window};
 use yaml_tokens::{Fault, Problem};
 
 /// Reads a `%` and a hexadecimal digit.
-#[tactic(auto, using(model_lexers::proofs::UriLemmas::percent_fails, model_lexers::proofs::UriLemmas::high_fails))]
+#[tactic(auto, using(model_scanner::proofs::UriLemmas::percent_fails, model_scanner::proofs::UriLemmas::high_fails))]
 fn read_high<T: Characters>(window: &mut Window<T>, start: Marker) -> Result<u32, Fault>
     ensures ok { IfOk result (λ n. Reads window.old window.new (λ a b. (test : ℕ → Bool) (o : Octet) (t : List ℕ) →
         uri_from test start a (at (percent o) window.old t) ≡ uri_from test start b (at (low o n) window.new t))) }
@@ -35,7 +35,7 @@ fn read_high<T: Characters>(window: &mut Window<T>, start: Marker) -> Result<u32
 }
 
 /// Reads a `%` and two hexadecimal digits.
-#[tactic(auto, using(model_lexers::proofs::UriLemmas::low_fails, model_lexers::proofs::UriLemmas::low_turn))]
+#[tactic(auto, using(model_scanner::proofs::UriLemmas::low_fails, model_scanner::proofs::UriLemmas::low_turn))]
 fn read_octet<T: Characters>(window: &mut Window<T>, start: Marker) -> Result<u32, Fault>
     ensures ok { IfOk result (λ n. Reads window.old window.new (λ a b. (test : ℕ → Bool) (o : Octet) (t : List ℕ) →
         uri_from test start a (at (percent o) window.old t) ≡ octet_from test start o n b (position_of window.new) t)) }
@@ -130,7 +130,7 @@ fn read_trails<T: Characters>(
 }
 
 /// The character of a code of at least `least`: a smaller one is overlong.
-#[tactic(auto, unfolding(model_lexers::specs::Quoted::is_scalar))]
+#[tactic(auto, unfolding(model_scanner::specs::Quoted::is_scalar))]
 fn decoded(code: u32, least: u32, start: Marker) -> Result<char, Fault>
     ensures ok { IfOk result (λ c. (p : Position) (t : List ℕ) → at_trail start zero code least p t ≡ Ok (record { mode = plain; position = p; text = t ++ c ∷ [] })) }
     ensures err { IfErr result (λ e. (p : Position) (t : List ℕ) → at_trail start zero code least p t ≡ Err e) }
@@ -161,12 +161,12 @@ fn read_uri_escape<T: Characters>(window: &mut Window<T>, start: Marker) -> Resu
 }
 
 /// Reads a character of a URI, which may be an escaped one.
-#[tactic(auto, using(model_lexers::proofs::UriLemmas::percent_lead))]
+#[tactic(auto, using(model_scanner::proofs::UriLemmas::percent_lead))]
 fn read_uri_char<T: Characters>(
     window: &mut Window<T>,
     start: Marker,
     c: char,
-    text: &mut Text,
+    text: &mut TextBuilder,
 ) -> Result<(), Fault>
     requires here { Sees window.old (λ a. c ≡ slice_index a 0) }
     requires has { HasChar window.old }
@@ -188,11 +188,11 @@ fn read_uri_char<T: Characters>(
 }
 
 /// Reads the characters of a URI.
-#[tactic(auto, using(model_lexers::proofs::UriLemmas::uri_end))]
+#[tactic(auto, using(model_scanner::proofs::UriLemmas::uri_end))]
 pub(crate) fn read_uri<T: Characters>(
     window: &mut Window<T>,
     start: Marker,
-    text: &mut Text,
+    text: &mut TextBuilder,
 ) -> Result<(), Fault>
     ensures ok { OnOk result (Reads window.old window.new (λ a b. uri is_uri start a (position_of window.old) text.old ≡ Ok (read b window.new text.new))) }
     ensures err { IfErr result (λ e. Reads window.old window.new (λ a b. e ≢ Fault.OutOfMemory → uri is_uri start a (position_of window.old) text.old ≡ Err e)) }
@@ -208,11 +208,11 @@ pub(crate) fn read_uri<T: Characters>(
 }
 
 /// Reads the characters of a tag's suffix.
-#[tactic(auto, using(model_lexers::proofs::UriLemmas::uri_end))]
+#[tactic(auto, using(model_scanner::proofs::UriLemmas::uri_end))]
 pub(crate) fn read_suffix<T: Characters>(
     window: &mut Window<T>,
     start: Marker,
-    text: &mut Text,
+    text: &mut TextBuilder,
 ) -> Result<(), Fault>
     ensures ok { OnOk result (Reads window.old window.new (λ a b. uri is_tag start a (position_of window.old) text.old ≡ Ok (read b window.new text.new))) }
     ensures err { IfErr result (λ e. Reads window.old window.new (λ a b. e ≢ Fault.OutOfMemory → uri is_tag start a (position_of window.old) text.old ≡ Err e)) }

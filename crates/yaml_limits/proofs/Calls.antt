@@ -6,7 +6,7 @@ use Rattle.defs_text.specs.Text.{up_to_nul}
 use Rattle.defs_event.specs.Event.{Ev}
 use Rattle.defs_event.specs.Laws.{HasRead}
 use Rattle.defs_event.specs.Unfinished.{new_loader, with_events, documents_of}
-use Rattle.yaml_chars.specs.Reading.{HasNoNul}
+use Rattle.yaml_chars.specs.WindowView.{HasNoNul}
 use Rattle.yaml_chars.specs.Source.{CameFrom}
 use Rattle.yaml_tree.specs.View.{view}
 use Rattle.yaml_tree.specs.declared.yaml.Yaml.{Yaml}

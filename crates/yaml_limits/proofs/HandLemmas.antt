@@ -66,7 +66,7 @@ module _ {R : Type 0} (takes : R → Ev → Position → Result (Unit {0}) Error
   handed text g new (whole es has received) =
       let t = took new.counts received in
       record { events = es; has = has; received = t.received; within = took_within es t }
-  handed text g new (faulted {f = f} es why received) =
+  handed text g new (faulted {f = f} es why after received) =
       let t = took new.counts received in
       subst (λ s. IsNotHanded takes g.count.limits text g.receiver (error_by s f)) (sym (t.goes_on ∙ new.goes_on)) (by_parser f why)
   handed text g new (refused {s = s} {f = f} es e p begins received last) =

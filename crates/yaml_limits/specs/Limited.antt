@@ -6,7 +6,7 @@ use Rattle.defs_event.specs.Event.{Ev}
 use Rattle.yaml_tokens.specs.ErrorReport.{ErrorReport}
 use Rattle.yaml_tree.specs.View.{items_view}
 use Rattle.yaml_tree.specs.declared.yaml.Yaml.{Yaml}
-use Rattle.defs_meaning.specs.Meaning.{Means}
+use Rattle.defs_event.specs.Meaning.{Means}
 use Rattle.proof_loads.specs.PlacedEvents.{HasEvents}
 use Rattle.yaml_loader.specs.Gives.{Gives}
 use Rattle.yaml_loader.specs.Unread.{IsUnread}

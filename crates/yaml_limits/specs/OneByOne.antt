@@ -12,7 +12,7 @@ use Rattle.yaml_tree.specs.View.{view}
 use Rattle.yaml_tree.specs.declared.yaml.Yaml.{Yaml}
 use Rattle.yaml_scanner.specs.Waits.{Waits}
 use Rattle.proof_loads.specs.TextEvents.{BeginsEvents}
-use Rattle.defs_meaning.specs.Meaning.{Means}
+use Rattle.defs_event.specs.Meaning.{Means}
 use Rattle.yaml_loader.specs.Meant.{OfGiven}
 use Rattle.yaml_documents.specs.First.{BeginsAs, IsStopped}
 use Rattle.yaml_documents.specs.Reading.{HasNoEnd}

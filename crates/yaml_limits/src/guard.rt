@@ -2,7 +2,7 @@
 ghost use Rattle.std.specs.Prelude.{◌≡◌, ◌<◌, ◌^◌, true, None};
 ghost use Rattle.defs_text.specs.Text.{has_no_nul};
 ghost use Rattle.std.specs.Iterator.{IsFinite, size};
-ghost use Rattle.yaml_chars.specs.Reading.{BeginsText};
+ghost use Rattle.yaml_chars.specs.WindowView.{BeginsText};
 ghost use Rattle.yaml_limits.specs.Counting.{Counts, IsNew};
 ghost use Rattle.yaml_limits.specs.Handing.{error_by, outcome_by, Hands};
 ghost use Rattle.yaml_limits.specs.Made.{nothing_made};

@@ -15,14 +15,14 @@ use Rattle.defs_event.proofs.OneByOne.{one_by_one}
 use Rattle.defs_event.proofs.OneReading as grammar
 use Rattle.yaml_tokens.specs.ErrorReport.{ErrorReport}
 use Rattle.yaml_tree.specs.View.{items_view}
-use Rattle.defs_row.specs.Row.{IsRead}
+use Rattle.defs_token.specs.Row.{IsRead}
 use Rattle.proof_row.proofs.OneRow as row
 use Rattle.yaml_parser.specs.Parsed.{read}
 use Rattle.yaml_parser.specs.Loads.{Receives}
-use Rattle.proof_meaning.proofs.Meanings.{one_meaning}
+use Rattle.proof_row.proofs.Meanings.{one_meaning}
 use Rattle.proof_loads.specs.PlacedEvents.{HasEvents}
 use Rattle.proof_loads.specs.TextEvents.{IsFaultOf, wants_memory, no_token, no_stream, AnswersText, whole, faulted, refused}
-use Rattle.defs_meaning.specs.Meaning.{Means}
+use Rattle.defs_event.specs.Meaning.{Means}
 use Rattle.proof_loads.proofs.Answers.{placed_stream, nested_is_stream, texts_are_answered}
 use Rattle.proof_loads.proofs.Loads.{memory_is_wanted}
 use Rattle.proof_loads.proofs.OneFault.{one_fault}
@@ -49,8 +49,10 @@ same_events keep_tags text ts us es fs h k x y =
 
 pub one_list_of_pulled_events : OneListOfPulledEvents
 one_list_of_pulled_events p q text setting scans scanned x y =
-    let has = all_tokens text p.scanner.given x.stream.raws scans.no_nul scans.reached x.stream.says in
-    let had = all_tokens text q.scanner.given y.stream.raws scanned.no_nul scanned.reached y.stream.says in
+    let one = placed_stream p.keep_tags p.scanner.given (read p) x.stream in
+    let other = placed_stream q.keep_tags q.scanner.given (read q) y.stream in
+    let has = all_tokens text p.scanner.given one.raws scans.no_nul scans.reached one.says in
+    let had = all_tokens text q.scanner.given other.raws scanned.no_nul scanned.reached other.says in
     same_events q.keep_tags text p.scanner.given q.scanner.given (read p) (read q) has had (subst (λ k. IsPlacedStream k p.scanner.given (read p)) setting x.stream) y.stream
 
 -- ---- answers that are faults
@@ -58,7 +60,7 @@ one_list_of_pulled_events p q text setting scans scanned x y =
 -- A text whose tokens are a whole stream is refused by no parser.
 memory_alone : (keep_tags : Bool) (text : List ℕ) (es : List (Ev × Position)) (f : ErrorReport) → HasEvents keep_tags text es → IsFaultOf keep_tags text f → f.memory ≡ true
 memory_alone keep_tags text es f h (wants_memory w) = w.memory
-memory_alone keep_tags text es f h (no_token given events settled begins r) = absurd (r.rowless.rowless h.tokens h.has)
+memory_alone keep_tags text es f h (no_token given events settled begins has r) = absurd (r.rowless.rowless h.tokens h.has)
 memory_alone keep_tags text es f h (no_stream before last events first blames begins none) =
     let b = first.begins h.tokens h.has in
     let all : toks h.tokens ≡ toks (before ++ last ∷ []) ++ toks b.more = ap toks b.whole ∙ map-append (λ (t : Token). t.tok) (before ++ last ∷ []) b.more in
@@ -99,7 +101,7 @@ one_answer keep_tags text (Err f) (Err g) x y = λ m n. faults_agree keep_tags t
 all_taken : {R : Type 0} {takes : R → Ev → Position → Result (Unit {0}) ErrorReport → R → Type 0} {r s : R} {result : Result (Unit {0}) ErrorReport} {keep_tags : Bool} {text : List ℕ}
     → AnswersText takes keep_tags text r result s → result ≡ Ok tt → (es : List (Ev × Position)) × HasEvents keep_tags text es × Receives takes r es s
 all_taken (whole es has received) ok = (es, has, received)
-all_taken (faulted es why received) ok = cc
+all_taken (faulted es why after received) ok = cc
 all_taken (refused es last p begins received takes) ok = cc
 
 pub one_list_of_pushed_events : {R S : Type 0} (takes : R → Ev → Position → Result (Unit {0}) ErrorReport → R → Type 0) (others : S → Ev → Position → Result (Unit {0}) ErrorReport → S → Type 0)

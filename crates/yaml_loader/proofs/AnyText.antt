@@ -79,7 +79,7 @@ refuses_for_memory {keep_tags} es e p f why b = elim why [
 
 left_by : {l n : YamlLoader} {keep_tags : Bool} {text : List ℕ} {result : Result (Unit {0}) ErrorReport} → loader_of l ≡ new_loader → kept_fault l ≡ None → AnswersText Takes keep_tags text l result n → LeftBy keep_tags text result n
 left_by {l} new clear (whole es h took) = (es, h, stands l new clear took)
-left_by new clear (faulted es why took) = why
+left_by new clear (faulted es why after took) = why
 left_by {l} new clear (refused {f = f} es e p begins took takes) = wants_memory (refuses_for_memory es e p f (new_fault l new clear e p took takes) begins)
 
 -- A load by an empty loader, of a parser that was at its start.

@@ -7,7 +7,7 @@ use Rattle.std.specs.Str.{chars, IsUtf8}
 use Rattle.defs_text.specs.Position.{first_position}
 use Rattle.defs_text.specs.Text.{up_to_nul, has_no_nul}
 use Rattle.yaml_chars.specs.InMemory.{text_rest}
-use Rattle.yaml_chars.specs.Reading.{BeginsText}
+use Rattle.yaml_chars.specs.WindowView.{BeginsText}
 use Rattle.yaml_chars.specs.Source.{CameFrom}
 use Rattle.yaml_scanner.specs.Scanned.{Scanned}
 use Rattle.yaml_loader.proofs.TextLemmas.{string_may_be}

@@ -14,7 +14,7 @@ use Rattle.yaml_tokens.specs.ErrorReport.{ErrorReport}
 use Rattle.yaml_tree.specs.View.{items_view}
 use Rattle.yaml_tree.specs.declared.yaml.Yaml.{Yaml}
 use Rattle.yaml_parser.specs.Blames.{WantsMemory}
-use Rattle.defs_meaning.specs.Meaning.{Means}
+use Rattle.defs_event.specs.Meaning.{Means}
 use Rattle.proof_loads.specs.TextEvents.{wants_memory}
 use Rattle.proof_loads.proofs.Spelled.{json_texts_are_read}
 use Rattle.proof_loads.proofs.JsonNul.{json_texts_have_no_nul}

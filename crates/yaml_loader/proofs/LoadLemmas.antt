@@ -17,8 +17,8 @@ use Rattle.yaml_parser.specs.Loads as loads
 use Rattle.yaml_parser.specs.Loads.{PullsAll, Receives, no_event, one_event, EndsSo, Loads}
 use Rattle.yaml_tree.specs.View.{items_view}
 use Rattle.yaml_tree.specs.declared.yaml.Yaml.{Yaml}
-use Rattle.yaml_loader.specs.declared.loader.Course.{Course}
-use Rattle.yaml_loader.specs.declared.loader.Course.TheVariants as course
+use Rattle.yaml_loader.specs.declared.loader.LoaderState.{LoaderState}
+use Rattle.yaml_loader.specs.declared.loader.LoaderState.TheVariants as state
 use Rattle.yaml_loader.specs.declared.loader.YamlLoader.{YamlLoader}
 use Rattle.yaml_loader.specs.Alike.{StandAlike}
 use Rattle.yaml_loader.specs.View.{unfinished_of, repeated_key}
@@ -41,11 +41,11 @@ pub record StandsAfter (es : List (Ev × Position)) (l : YamlLoader) : Type 0 wh
   pub tells : TellsNotedKey l
 
 -- a loader that is at work has noted no key
-nothing_noted : (l : YamlLoader) → (d : Course) → loader_by d (unfinished_of l.reading) ≡ new_loader → TellsBy d (unfinished_of l.reading).opened
-nothing_noted l course.Reading e = tt
-nothing_noted l (course.RepeatedKey position text) e = cc
-nothing_noted l (course.OutOfNesting position) e = tt
-nothing_noted l (course.OutOfMemory position) e = tt
+nothing_noted : (l : YamlLoader) → (d : LoaderState) → loader_by d (unfinished_of l.reading) ≡ new_loader → TellsBy d (unfinished_of l.reading).opened
+nothing_noted l state.Reading e = tt
+nothing_noted l (state.RepeatedKey position text) e = cc
+nothing_noted l (state.OutOfNesting position) e = tt
+nothing_noted l (state.OutOfMemory position) e = tt
 
 -- what stands after a load that went well
 abbrev pub Went : Parsed → Parsed → YamlLoader → Type 0
@@ -62,7 +62,7 @@ pushes {old} {after} {new} {answers} pulled taken ends = record { answers = answ
 
 module _ (l : YamlLoader) (empty : loader_of l ≡ new_loader) (clear : kept_fault l ≡ None) where
   pub stands : {n : YamlLoader} {es : List (Ev × Position)} → Receives Takes l es n → StandsAfter es n
-  stands no_event = record { alike = subst (λ x. StandAlike new_loader x) (sym empty) (record { documents = refl; opened = refl; root = refl; aliases = λ n. refl }); clear = clear; tells = nothing_noted l l.course empty }
+  stands no_event = record { alike = subst (λ x. StandAlike new_loader x) (sym empty) (record { documents = refl; opened = refl; root = refl; aliases = λ n. refl }); clear = clear; tells = nothing_noted l l.state empty }
   stands (one_event {r} {s} {t} {es} e p h takes) =
       let before = stands h in
       record {
@@ -105,7 +105,7 @@ module _ (l : YamlLoader) (empty : loader_of l ≡ new_loader) (clear : kept_fau
 -- ---- what the loader gives then
 
 -- the fault of a loader that has noted a key that came twice
-pub note_given : (l : YamlLoader) (p : Position) (text : String Global) (f : ErrorReport) → l.course ≡ course.RepeatedKey p text → f ≡ owned_at p (string_bytes text) → IsGivenFault l f
+pub note_given : (l : YamlLoader) (p : Position) (text : String Global) (f : ErrorReport) → l.state ≡ state.RepeatedKey p text → f ≡ owned_at p (string_bytes text) → IsGivenFault l f
 note_given l p text f e is =
     let u = unfinished_of l.reading in
     let key = repeated_key u.opened in

@@ -7,7 +7,7 @@ use Rattle.std.specs.Str.Iter.{chars_steps, chars_rest}
 use Rattle.std.specs.declared.str.Chars.{Chars}
 use Rattle.yaml_chars.specs.Source.{CameFrom}
 use Rattle.defs_text.specs.Text.{up_to_nul, has_no_nul}
-use Rattle.yaml_chars.specs.Reading.{HasNoNul, BeginsText}
+use Rattle.yaml_chars.specs.WindowView.{HasNoNul, BeginsText}
 use Rattle.yaml_chars.proofs.SpelledLemmas.{Chars-spelled}
 use Rattle.defs_tree.specs.Tree.{Tree}
 use Rattle.defs_layout.specs.Json.{spell_text, tree_of}
@@ -19,8 +19,8 @@ use Rattle.yaml_scanner.specs.Scanned.{Scanned, MayBe}
 use Rattle.yaml_parser.specs.Parsed.{Parsed}
 use Rattle.proof_loads.specs.AtStart.{IsAtStart}
 use Rattle.proof_loads.specs.Spelled.{IsWithoutNul}
-use Rattle.defs_meaning.specs.Meaning.{Means}
-use Rattle.proof_meaning.proofs.Meanings.{one_meaning}
+use Rattle.defs_event.specs.Meaning.{Means}
+use Rattle.proof_row.proofs.Meanings.{one_meaning}
 use Rattle.proof_loads.proofs.Loads.{memory_is_wanted}
 use Rattle.proof_loads.proofs.Answers.{nested_is_stream}
 use Rattle.proof_loads.proofs.OneReading.{one_reading}

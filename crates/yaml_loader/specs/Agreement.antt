@@ -12,7 +12,7 @@ use Rattle.yaml_scanner.specs.Scanned.{ScansIn}
 use Rattle.yaml_parser.specs.Parsed.{Parsed, read}
 use Rattle.yaml_parser.specs.Follows.{IsWhole}
 use Rattle.yaml_parser.specs.Loads.{Loads, Receives}
-use Rattle.defs_meaning.specs.Meaning.{Means}
+use Rattle.defs_event.specs.Meaning.{Means}
 use Rattle.proof_loads.specs.AtStart.{IsAtStart}
 use Rattle.yaml_loader.specs.RepeatedKey.{TellsKey}
 use Rattle.yaml_loader.specs.TextLoads.{LoadsText}

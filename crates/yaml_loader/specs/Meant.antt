@@ -7,7 +7,7 @@ use Rattle.defs_layout.specs.Json.{IsJsonText}
 use Rattle.defs_layout.specs.Basic.{IsBasicLayout}
 use Rattle.defs_layout.specs.Layout.{AreLaidOut}
 use Rattle.defs_layout.specs.QuotedText.{IsQuoted}
-use Rattle.defs_meaning.specs.Meaning.{Means}
+use Rattle.defs_event.specs.Meaning.{Means}
 use Rattle.yaml_tokens.specs.ErrorReport.{ErrorReport}
 use Rattle.yaml_tree.specs.View.{items_view}
 use Rattle.yaml_tree.specs.declared.yaml.Yaml.{Yaml}

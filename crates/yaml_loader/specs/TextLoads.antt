@@ -6,7 +6,7 @@ use Rattle.yaml_tree.specs.View.{items_view}
 use Rattle.yaml_tree.specs.declared.yaml.Yaml.{Yaml}
 use Rattle.yaml_scanner.specs.Scanned.{MayBe}
 use Rattle.yaml_parser.specs.Parsed.{Parsed}
-use Rattle.defs_meaning.specs.Meaning.{Means}
+use Rattle.defs_event.specs.Meaning.{Means}
 use Rattle.proof_loads.specs.AtStart.{IsAtStart}
 use Rattle.yaml_loader.specs.Meant.{LoadsOnly, OfMeaning, OfJson, OfBasic, OfLayout, OfQuoted}
 use Rattle.yaml_loader.specs.Unread.{IsUnread}

@@ -10,7 +10,7 @@ use Rattle.yaml_tree.specs.declared.yaml.Yaml.{Yaml}
 use Rattle.yaml_loader.specs.Alike.{ReadsTo}
 use Rattle.yaml_loader.specs.declared.reading.Open.{Open}
 use Rattle.yaml_loader.specs.declared.reading.Open.TheVariants as collection
-use Rattle.yaml_loader.specs.declared.reading.Reading.{Reading}
+use Rattle.yaml_loader.specs.declared.reading.TreeBuilder.{TreeBuilder}
 use Rattle.yaml_loader.specs.declared.reading.Refusal.{Refusal}
 use Rattle.yaml_loader.specs.declared.reading.Refusal.TheVariants as refusal
 
@@ -29,7 +29,7 @@ abbrev pub anchors_of : List (ℕ × Yaml) → Anchors
 anchors_of es = map (λ e. (e.0, view e.1)) es
 
 -- a reading that is not at its end
-abbrev pub unfinished_of : Reading → Unfinished
+abbrev pub unfinished_of : TreeBuilder → Unfinished
 unfinished_of r = record { documents = items_view r.documents.items; opened = all_opened r.opened.items []; root = option_map view r.root; anchors = anchors_of r.anchors.entries }
 
 -- the key of the last pair
@@ -70,13 +70,13 @@ IsNoInsert refusal.RepeatedKey old t new = Repeats old t new
 -- ---- what a function on a reading answers and leaves, where this is the step of the definitions
 
 -- Where the answer is good, the step reads, to a reading like the new one.
-abbrev pub Reads : Step → Result (Unit {0}) Refusal → Reading → Type 0
+abbrev pub Reads : Step → Result (Unit {0}) Refusal → TreeBuilder → Type 0
 Reads s result new = OnOk result (ReadsTo s (unfinished_of new))
 
 -- A refusal is the step's, but for out of memory.
-abbrev pub Refuses : Step → Result (Unit {0}) Refusal → Reading → Type 0
+abbrev pub Refuses : Step → Result (Unit {0}) Refusal → TreeBuilder → Type 0
 Refuses s result new = IfErr result (λ r. IsRefusedBy r s (unfinished_of new).opened)
 
 -- After a refusal the documents are as they were.
-abbrev pub KeepsDocuments : Reading → Result (Unit {0}) Refusal → Reading → Type 0
+abbrev pub KeepsDocuments : TreeBuilder → Result (Unit {0}) Refusal → TreeBuilder → Type 0
 KeepsDocuments old result new = OnErr result ((unfinished_of new).documents ≡ (unfinished_of old).documents)

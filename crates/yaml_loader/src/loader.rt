@@ -6,7 +6,7 @@ ghost use Rattle.yaml_parser.specs.Shown.{ev_of};
 ghost use Rattle.yaml_loader.specs.Gives.{Gives};
 ghost use Rattle.yaml_loader.specs.Loading.{loader_of, kept_fault, want_of_memory, event_out_of_nesting, Takes, Stops};
 
-use crate::reading::{Reading, Refusal};
+use crate::reading::{Refusal, TreeBuilder};
 use std::alloc::Global;
 use yaml_chars::Marker;
 use yaml_parser::{Event, MarkedEventReceiver};
@@ -15,7 +15,7 @@ use yaml_tree::Yaml;
 
 // What a loader does with the next event.
 #[derive(Drop)]
-pub(crate) enum Course {
+pub(crate) enum LoaderState {
     Reading,
     // A key came twice: the position of its second value, and the text of the fault. Every later event is ignored.
     RepeatedKey(Marker, String),
@@ -48,8 +48,8 @@ pub(crate) enum Course {
 /// ```
 #[derive(Drop)]
 pub struct YamlLoader {
-    pub(crate) reading: Reading,
-    pub(crate) course: Course,
+    pub(crate) reading: TreeBuilder,
+    pub(crate) state: LoaderState,
 }
 
 impl YamlLoader {
@@ -59,8 +59,8 @@ impl YamlLoader {
         ensures no_fault { kept_fault result ≡ None }
     {
         YamlLoader {
-            reading: Reading::new(alloc),
-            course: Course::Reading,
+            reading: TreeBuilder::new(alloc),
+            state: LoaderState::Reading,
         }
     }
 
@@ -82,12 +82,12 @@ impl YamlLoader {
     pub fn into_documents(self) -> Result<Vec<Yaml>, ScanError>
         ensures { Gives self result }
     {
-        let YamlLoader { reading, course } = self;
-        match course {
-            Course::Reading => Ok(reading.documents),
-            Course::RepeatedKey(mark, text) => Err(ScanError::new_string(mark, text)),
-            Course::OutOfNesting(mark) => Err(out_of_nesting(mark)),
-            Course::OutOfMemory(mark) => Err(ScanError::memory(mark)),
+        let YamlLoader { reading, state } = self;
+        match state {
+            LoaderState::Reading => Ok(reading.documents),
+            LoaderState::RepeatedKey(mark, text) => Err(ScanError::new_string(mark, text)),
+            LoaderState::OutOfNesting(mark) => Err(out_of_nesting(mark)),
+            LoaderState::OutOfMemory(mark) => Err(ScanError::memory(mark)),
         }
     }
 
@@ -100,20 +100,20 @@ impl YamlLoader {
         match refusal {
             Refusal::RepeatedKey => match self.reading.repeated_key_text() {
                 Ok(text) => {
-                    self.course = Course::RepeatedKey(mark, text);
+                    self.state = LoaderState::RepeatedKey(mark, text);
                     Ok(())
                 }
                 Err(_) => {
-                    self.course = Course::OutOfMemory(mark);
+                    self.state = LoaderState::OutOfMemory(mark);
                     Err(ScanError::memory(mark))
                 }
             },
             Refusal::OutOfNesting => {
-                self.course = Course::OutOfNesting(mark);
+                self.state = LoaderState::OutOfNesting(mark);
                 Err(out_of_nesting(mark))
             }
             Refusal::OutOfMemory => {
-                self.course = Course::OutOfMemory(mark);
+                self.state = LoaderState::OutOfMemory(mark);
                 Err(ScanError::memory(mark))
             }
         }
@@ -157,11 +157,11 @@ impl MarkedEventReceiver for YamlLoader {
     fn on_event(&mut self, ev: Event, mark: Marker) -> Result<(), ScanError>
         ensures { Takes self.old (ev_of ev) mark result self.new }
     {
-        match &self.course {
-            Course::Reading => {}
-            Course::RepeatedKey(_, _) => return Ok(()),
-            Course::OutOfNesting(position) => return refuse_nesting(*position),
-            Course::OutOfMemory(position) => return refuse_memory(*position),
+        match &self.state {
+            LoaderState::Reading => {}
+            LoaderState::RepeatedKey(_, _) => return Ok(()),
+            LoaderState::OutOfNesting(position) => return refuse_nesting(*position),
+            LoaderState::OutOfMemory(position) => return refuse_memory(*position),
         }
         if let Err(refusal) = self.reading.take(ev) {
             return self.stop(refusal, mark);

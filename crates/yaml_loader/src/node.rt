@@ -11,14 +11,14 @@ ghost use Rattle.yaml_parser.specs.Shown.{ev_of, perhaps_tag_of};
 ghost use Rattle.yaml_loader.specs.View.{opened_of, unfinished_of, Inserts, IsNoInsert, Reads, Refuses, KeepsDocuments, repeated_key};
 ghost use Rattle.yaml_loader.specs.RepeatedKey.{TellsKey, shown_key};
 
-use crate::reading::{Open, Reading, Refusal};
+use crate::reading::{Open, Refusal, TreeBuilder};
 use crate::scalar::scalar_tree;
 use std::alloc::{AllocError, Global};
 use yaml_parser::{Event, Tag};
 use yaml_tokens::TScalarStyle;
 use yaml_tree::{Array, Hash, Yaml};
 
-impl Reading {
+impl TreeBuilder {
     /// Adds one more event. After a refusal only the documents count; after a repeated key also the mapping that has
     /// it.
     #[inline(always)]

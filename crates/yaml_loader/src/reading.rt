@@ -18,7 +18,7 @@ pub enum Open {
 
 /// What was read so far.
 #[derive(Drop)]
-pub struct Reading {
+pub struct TreeBuilder {
     pub(crate) alloc: Global,
     pub(crate) documents: Vec<Yaml>,
     // The innermost is the last.
@@ -51,12 +51,12 @@ impl From<AllocError> for Refusal {
     }
 }
 
-impl Reading {
+impl TreeBuilder {
     /// Nothing was read. It takes no memory.
-    pub fn new(alloc: Global) -> Reading
+    pub fn new(alloc: Global) -> TreeBuilder
         ensures { unfinished_of result ≡ nothing_read }
     {
-        Reading {
+        TreeBuilder {
             alloc,
             documents: Vec::new(alloc),
             opened: Vec::new(alloc),

@@ -2,14 +2,14 @@
 use Rattle.std.proofs.Common.{◌≡◌, ℕ, ◌+◌, ◌≤◌, List, [], ◌∷◌, ◌++◌, length, take, drop, sym, ap, ◌∙◌, subst, arith, length-append, length-drop}
 use Rattle.std.specs.Prelude.{Option, Some, None}
 use Rattle.std.proofs.lemmas.List.{take-append-le, drop-append-le}
-use Rattle.defs_marked.specs.Marking.{MarkedAnchors, aliased_marks}
-use Rattle.defs_marked.specs.Marks.{Marks, marks, Parts, no_parts, part, parts_of}
+use Rattle.defs_event.specs.Marking.{MarkedAnchors, aliased_marks}
+use Rattle.defs_event.specs.Marks.{Marks, marks, Parts, no_parts, part, parts_of}
 use Rattle.yaml_marked.specs.Leaf.{alias_mark}
 use Rattle.yaml_marked.specs.Standing.{Stands, PartsStand, PerhapsStands, AllOpenStand, AnchorsStand, mark_under}
 use Rattle.yaml_marked.specs.Table.{parts_at}
 use Rattle.yaml_marked.specs.declared.mark.Mark.{Mark}
 use Rattle.yaml_marked.specs.declared.marking.Begun.{Begun}
-use Rattle.defs_marked.specs.Marking.{OpenMarks}
+use Rattle.defs_event.specs.Marking.{OpenMarks}
 
 module _ (table more : List Mark) where
   same_parts : (m : Mark) → m.first + m.count ≤ length table → parts_at (table ++ more) m ≡ parts_at table m

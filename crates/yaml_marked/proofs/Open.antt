@@ -1,8 +1,8 @@
 -- Marks in a row, and those of open collections.
 use Rattle.std.proofs.Common.{◌≡◌, ◌≤◌, List, [], ◌∷◌, ◌++◌, length, take, drop, refl, sym, ap, ◌∙◌, subst, arith, length-append, append_assoc, append-nil}
 use Rattle.std.proofs.Math.Seq.{drop-append_seam, take-append_seam, take-length}
-use Rattle.defs_marked.specs.Marking.{OpenMarks}
-use Rattle.defs_marked.specs.Marks.{Marks, marks, Parts}
+use Rattle.defs_event.specs.Marking.{OpenMarks}
+use Rattle.defs_event.specs.Marks.{Marks, marks, Parts}
 use Rattle.yaml_marked.specs.Standing.{Stands, PartsStand, AllStand, AllOpenStand}
 use Rattle.yaml_marked.specs.Table.{parts_at}
 use Rattle.yaml_marked.specs.declared.mark.Mark.{Mark}

@@ -11,8 +11,8 @@ use Rattle.std.proofs.lemmas.Option.{slice_get_past}
 use Rattle.defs_tree.specs.Order.{tree_eq}
 use Rattle.defs_tree.specs.Pairs.{lookup}
 use Rattle.defs_tree.specs.Tree.{Tree, real, integer, string, boolean, array, hash, alias, null, bad_value, Items, no_items, item, Pairs, no_pairs, pair, items_of, pairs_of}
-use Rattle.defs_marked.specs.Fits.{Fits, ItemsFit, PairsFit, AllFit}
-use Rattle.defs_marked.specs.Marks.{Marks, marks, Parts, no_parts, part, list_of_parts, beside, pairs_beside, pair_with, marked_items, marked_pairs, node_at_place}
+use Rattle.defs_event.specs.Fits.{Fits, ItemsFit, PairsFit, AllFit}
+use Rattle.defs_event.specs.Marks.{Marks, marks, Parts, no_parts, part, list_of_parts, beside, pairs_beside, pair_with, marked_items, marked_pairs, node_at_place}
 use Rattle.yaml_tree.specs.View.{view, items_view}
 use Rattle.yaml_tree.specs.declared.yaml.Yaml.{Yaml}
 use Rattle.yaml_tree.proofs.ItemsLemmas.{get_items_view, list_of_items, pair_list_of_pairs}

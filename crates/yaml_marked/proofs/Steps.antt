@@ -9,9 +9,9 @@ use Rattle.std.proofs.lemmas.List.{reverse-append, reverse-reverse}
 use Rattle.std.proofs.Math.Seq.{take-length}
 use Rattle.defs_text.specs.Position.{Position}
 use Rattle.defs_event.specs.Event.{Ev}
-use Rattle.defs_marked.specs.Marking as defs
-use Rattle.defs_marked.specs.Marking.{OpenMarks, MarkedAnchors, alias_of, aliased_marks, finished_marks}
-use Rattle.defs_marked.specs.Marks.{Marks, marks, leaf, parts_of}
+use Rattle.defs_event.specs.Marking as defs
+use Rattle.defs_event.specs.Marking.{OpenMarks, MarkedAnchors, alias_of, aliased_marks, finished_marks}
+use Rattle.defs_event.specs.Marks.{Marks, marks, leaf, parts_of}
 use Rattle.yaml_marked.specs.Leaf.{leaf_mark, alias_mark}
 use Rattle.yaml_marked.specs.Standing.{Stands, PerhapsStands, AllOpenStand, AnchorsStand, IsUnder, mark_under, Holds, HasStanding, Goes, GoesWith}
 use Rattle.yaml_marked.specs.declared.mark.Mark.{Mark}

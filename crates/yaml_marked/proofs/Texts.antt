@@ -6,9 +6,9 @@ use Rattle.defs_text.specs.Position.{Position}
 use Rattle.defs_tree.specs.Tree.{Tree}
 use Rattle.defs_event.specs.Event.{Ev}
 use Rattle.defs_event.specs.Unfinished.{Loader, at_work, noted, refused as stopped, Unfinished, new_loader, with_events}
-use Rattle.defs_marked.specs.Fits.{AllFit}
-use Rattle.defs_marked.specs.Marking as defs
-use Rattle.defs_marked.specs.Marking.{with_event_marked, with_events_marked, marked_documents, nothing_marked}
+use Rattle.defs_event.specs.Fits.{AllFit}
+use Rattle.defs_event.specs.Marking as defs
+use Rattle.defs_event.specs.Marking.{with_event_marked, with_events_marked, marked_documents, nothing_marked}
 use Rattle.yaml_tokens.specs.ErrorReport.{ErrorReport}
 use Rattle.yaml_tree.specs.View.{items_view}
 use Rattle.yaml_tree.specs.declared.yaml.Yaml.{Yaml}
@@ -23,7 +23,7 @@ use Rattle.yaml_loader.specs.Loads.{HasDocuments}
 use Rattle.yaml_loader.specs.Reached.{Reaches, here, after}
 use Rattle.yaml_loader.specs.TextLoads.{LoadsText}
 use Rattle.yaml_loader.specs.declared.loader.YamlLoader.{YamlLoader}
-use Rattle.defs_marked.specs.Laws.{MarksFitTheirTrees}
+use Rattle.defs_event.specs.MarkLaws.{MarksFitTheirTrees}
 use Rattle.yaml_marked.specs.Loading.{AreMarksOf}
 use Rattle.yaml_marked.specs.Receiving.{TakesMarked, IsEmpty, HasTaken}
 use Rattle.yaml_marked.specs.Standing.{HasStanding}
@@ -61,7 +61,7 @@ only_memory text es e p r s t f law empty begins received takes =
 
 left_by : {text : List ℕ} {r s : MarkedLoader} {result : Result (Unit {0}) ErrorReport} → RefusedTextsWantMemory → IsEmpty r → AnswersText TakesMarked false text r result s → Leaves text result s
 left_by {r = r} law empty (whole es has received) = record { events = es; has = has; before = r; is_empty = empty; took = received }
-left_by law empty (faulted es why received) = why
+left_by law empty (faulted es why comes received) = why
 left_by {text} {r} law empty (refused {s = s} {t = t} {f = f} es e p begins received takes) = wants_memory (only_memory text es e p r s t f law empty begins received takes)
 
 pub leaves : {text : List ℕ} {r s : MarkedLoader} {result : Result (Unit {0}) ErrorReport} {keep_tags : Bool} → RefusedTextsWantMemory → IsEmpty r → keep_tags ≡ false → AnswersText TakesMarked keep_tags text r result s

@@ -1,7 +1,7 @@
 -- What clauses see of documents with positions: the trees, and the marks of their nodes.
 use Rattle.std.specs.Prelude.{List}
 use Rattle.defs_tree.specs.Tree.{Tree}
-use Rattle.defs_marked.specs.Marks.{Marks}
+use Rattle.defs_event.specs.Marks.{Marks}
 use Rattle.yaml_tree.specs.View.{items_view}
 use Rattle.yaml_marked.specs.Table.{all_shown}
 use Rattle.yaml_marked.specs.declared.documents.MarkedDocuments.{MarkedDocuments}

@@ -6,6 +6,6 @@ pub mod Parts
 pub mod Receiving
 pub mod Standing
 pub mod Table
-pub use Rattle.defs_marked.specs.Fits
-pub use Rattle.defs_marked.specs.Marking
-pub use Rattle.defs_marked.specs.Marks
+pub use Rattle.defs_event.specs.Fits
+pub use Rattle.defs_event.specs.Marking
+pub use Rattle.defs_event.specs.Marks

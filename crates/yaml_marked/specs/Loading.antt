@@ -3,8 +3,8 @@ use Rattle.std.specs.Prelude.{◌≡◌, ℕ, Bool, List, Result, Ok, Err, Vec}
 use Rattle.std.specs.declared.alloc.Global.{Global}
 use Rattle.defs_text.specs.Position.{Position}
 use Rattle.defs_event.specs.Event.{Ev}
-use Rattle.defs_marked.specs.Marking.{marked_documents}
-use Rattle.defs_marked.specs.Marks.{Marks}
+use Rattle.defs_event.specs.Marking.{marked_documents}
+use Rattle.defs_event.specs.Marks.{Marks}
 use Rattle.yaml_tokens.specs.ErrorReport.{ErrorReport}
 use Rattle.yaml_tree.specs.declared.yaml.Yaml.{Yaml}
 use Rattle.proof_loads.specs.PlacedEvents.{HasEvents}

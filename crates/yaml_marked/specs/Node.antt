@@ -1,6 +1,6 @@
 -- What clauses see of a node: its tree, and the marks of it and of its parts.
 use Rattle.defs_tree.specs.Tree.{Tree}
-use Rattle.defs_marked.specs.Marks.{Marks}
+use Rattle.defs_event.specs.Marks.{Marks}
 use Rattle.yaml_tree.specs.View.{view}
 use Rattle.yaml_marked.specs.Table.{shown_marks}
 use Rattle.yaml_marked.specs.declared.node.Marked.{Marked}

@@ -1,7 +1,7 @@
 -- What an iterator over the parts of a node has left.
 use Rattle.std.specs.Prelude.{List}
 use Rattle.defs_tree.specs.Tree.{Tree}
-use Rattle.defs_marked.specs.Marks.{Marks, beside, pairs_beside}
+use Rattle.defs_event.specs.Marks.{Marks, beside, pairs_beside}
 use Rattle.yaml_tree.specs.View.{items_view}
 use Rattle.yaml_marked.specs.Table.{all_shown, pairs_shown}
 use Rattle.yaml_marked.specs.declared.parts.Items.{Items}

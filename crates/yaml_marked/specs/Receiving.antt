@@ -3,7 +3,7 @@ use Rattle.std.specs.Prelude.{◌≡◌, ◌⊎◌, ℕ, List, false, None, Resu
 use Rattle.defs_text.specs.Position.{Position}
 use Rattle.defs_event.specs.Event.{Ev}
 use Rattle.defs_event.specs.Unfinished.{new_loader}
-use Rattle.defs_marked.specs.Marking.{with_event_marked, nothing_marked}
+use Rattle.defs_event.specs.Marking.{with_event_marked, nothing_marked}
 use Rattle.yaml_tokens.specs.ErrorReport.{ErrorReport}
 use Rattle.yaml_parser.specs.Loads as parser
 use Rattle.proof_loads.specs.PlacedEvents.{HasEvents}

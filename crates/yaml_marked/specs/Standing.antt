@@ -4,9 +4,9 @@ use Rattle.std.specs.BTreeMap.{is_at}
 use Rattle.std.specs.Map.{lookup}
 use Rattle.std.specs.Ordering.{nat_cmp}
 use Rattle.defs_text.specs.Position.{Position}
-use Rattle.defs_marked.specs.Marking as defs
-use Rattle.defs_marked.specs.Marking.{OpenMarks, MarkedAnchors, aliased_marks}
-use Rattle.defs_marked.specs.Marks.{Marks, marks, Parts, no_parts, part, parts_of}
+use Rattle.defs_event.specs.Marking as defs
+use Rattle.defs_event.specs.Marking.{OpenMarks, MarkedAnchors, aliased_marks}
+use Rattle.defs_event.specs.Marks.{Marks, marks, Parts, no_parts, part, parts_of}
 use Rattle.yaml_marked.specs.Leaf.{alias_mark}
 use Rattle.yaml_marked.specs.Table.{parts_at}
 use Rattle.yaml_marked.specs.declared.mark.Mark.{Mark}

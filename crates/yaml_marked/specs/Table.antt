@@ -2,7 +2,7 @@
 use Rattle.std.specs.Prelude.{◌+◌, ◌≤◌, List, [], ◌∷◌, length, take, drop, ⊤}
 use Rattle.std.specs.Coded.{×_prop, Unit-prop, le_prop}
 use Rattle.defs_tree.specs.Tree.{Tree, real, integer, string, boolean, array, hash, alias, null, bad_value, Items, no_items, item, Pairs, no_pairs, pair}
-use Rattle.defs_marked.specs.Marks.{Marks, marks, Parts, no_parts, part}
+use Rattle.defs_event.specs.Marks.{Marks, marks, Parts, no_parts, part}
 use Rattle.yaml_marked.specs.declared.mark.Mark.{Mark}
 
 -- the marks of the parts

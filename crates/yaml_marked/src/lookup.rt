@@ -1,6 +1,6 @@
 //! The parts of a node: all of them, the item at a place, and the pair of a key.
 ghost use Rattle.std.specs.Prelude.{◌≡◌, ◌+◌, ◌≤◌, length, chars, option_map};
-ghost use Rattle.defs_marked.specs.Marks.{marked_items, marked_pairs, node_at_place, node_at_text, pair_at_text};
+ghost use Rattle.defs_event.specs.Marks.{marked_items, marked_pairs, node_at_place, node_at_text, pair_at_text};
 ghost use Rattle.defs_tree.specs.Order.{tree_eq};
 ghost use Rattle.defs_tree.specs.Tree.{string};
 ghost use Rattle.yaml_tree.specs.Node.{value_at_text};

@@ -1,7 +1,7 @@
 //! The marks of a text's nodes, taken from its events one by one.
 ghost use Rattle.std.specs.Prelude.{◌≡◌, OnOk};
 ghost use Rattle.defs_event.specs.Event.{Ev};
-ghost use Rattle.defs_marked.specs.Marking as defs;
+ghost use Rattle.defs_event.specs.Marking as defs;
 ghost use Rattle.yaml_parser.specs.Shown.{ev_of};
 ghost use Rattle.yaml_marked.specs.Leaf.{alias_mark};
 ghost use Rattle.yaml_marked.specs.Standing.{Goes, GoesWith, IsUnder, mark_under, HasStanding};

@@ -1,6 +1,6 @@
 //! A node of a document, with its position.
 ghost use Rattle.std.specs.Prelude.{◌≡◌, option_map, chars};
-ghost use Rattle.defs_marked.specs.Marks.{own_position, tree_position};
+ghost use Rattle.defs_event.specs.Marks.{own_position, tree_position};
 ghost use Rattle.yaml_tree.specs.Node.{boolean_of, integer_of, text_of};
 ghost use Rattle.yaml_tree.specs.View.{view};
 ghost use Rattle.yaml_marked.specs.Table.{HasMarks, HasMarks-prop};

@@ -2,14 +2,14 @@
 ghost use Rattle.std.specs.Prelude.{◌≡◌, ◌<◌, ◌^◌, ℕ, List, true, false, IfOk, chars};
 ghost use Rattle.std.specs.Iterator.{IsFinite, size};
 ghost use Rattle.defs_text.specs.Text.{up_to_nul, has_no_nul};
-ghost use Rattle.yaml_chars.specs.Reading.{BeginsText};
+ghost use Rattle.yaml_chars.specs.WindowView.{BeginsText};
 ghost use Rattle.yaml_loader.specs.Gives.{Gives};
 ghost use Rattle.yaml_marked.specs.Documents.{marks_of_all};
 ghost use Rattle.yaml_marked.specs.Loading.{plain, AreMarksOf};
 
 use crate::documents::MarkedDocuments;
 use crate::marking::Marking;
-use defs_marked::laws::marks_fit_their_trees;
+use defs_event::laws::marks_fit_their_trees;
 use proof_loads::laws::texts_are_answered;
 use std::alloc::Global;
 use yaml_chars::{Characters, Marker, TextInMemory};

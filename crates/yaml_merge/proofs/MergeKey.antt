@@ -5,7 +5,7 @@ use Rattle.std.specs.Str.{chars, encode_utf8_all}
 use Rattle.std.proofs.lemmas.Bool.Decides.{same_from_decides}
 use Rattle.std.proofs.lemmas.Slice.Eq.{bytes_eq-Decides}
 use Rattle.std.proofs.lemmas.Str.{encodes-chars, IsUtf8-string_bytes}
-use Rattle.defs_merge.specs.Merge.{merge_key}
+use Rattle.defs_tree.specs.Merge.{merge_key}
 use Rattle.defs_text.specs.Text.{string_chars}
 use Rattle.defs_tree.proofs.OrderLaws.{tree_eq_decides}
 use Rattle.defs_tree.specs.Order.{tree_eq}

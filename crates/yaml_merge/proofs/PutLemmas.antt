@@ -6,8 +6,8 @@ use Rattle.defs_tree.specs.Tree.{Tree, item, items_of, hash, pairs_of}
 use Rattle.defs_tree.specs.Pairs.{lookup, has_key, without, insert, Lacks, AreDistinct}
 use Rattle.defs_tree.proofs.OverlayLaws.{list_of_pairs}
 use Rattle.defs_tree.proofs.PairsLaws.{tree_eq-other}
-use Rattle.defs_merge.specs.Merge.{with_new_pair, with_new_pairs, merge_key, pairs_of_mappings, brought, merged, merged_pairs, merged_values}
-use Rattle.defs_merge.proofs.Merging.{lacks_key, values_distinct}
+use Rattle.defs_tree.specs.Merge.{with_new_pair, with_new_pairs, merge_key, pairs_of_mappings, brought, merged, merged_pairs, merged_values}
+use Rattle.defs_tree.proofs.Merging.{lacks_key, values_distinct}
 use Rattle.yaml_tree.specs.Depth.{pairs_depth}
 use Rattle.yaml_tree.specs.View.{view}
 use Rattle.yaml_tree.specs.declared.yaml.Yaml.{Yaml}

@@ -4,8 +4,8 @@ use Rattle.std.specs.Prelude.{◌^◌}
 use Rattle.defs_tree.specs.Tree.{Tree, array, hash, Items, no_items, item, Pairs, no_pairs, pair, items_of, pairs_of, pair_list_of}
 use Rattle.defs_tree.specs.Writable.{levels, item_levels, pair_levels, IsShortKey, HasText, AllHaveText, AllPairsHaveText, IsWritable}
 use Rattle.defs_tree.proofs.OverlayLaws.{Each}
-use Rattle.defs_merge.specs.Merge.{merged, merged_items, merged_values, merged_pairs}
-use Rattle.defs_merge.proofs.Merging.{EachItem, Opens, each_merged}
+use Rattle.defs_tree.specs.Merge.{merged, merged_items, merged_values, merged_pairs}
+use Rattle.defs_tree.proofs.Merging.{EachItem, Opens, each_merged}
 
 -- ---- levels
 

@@ -1,5 +1,5 @@
 pub mod Found
 pub mod Outcome
-pub use Rattle.defs_merge.specs.Fault
-pub use Rattle.defs_merge.specs.Laws
-pub use Rattle.defs_merge.specs.Merge
+pub use Rattle.defs_tree.specs.MergeFault as Fault
+pub use Rattle.defs_tree.specs.MergeLaws as Laws
+pub use Rattle.defs_tree.specs.Merge

@@ -1,6 +1,6 @@
 -- What an error says of the tree.
 use Rattle.std.specs.Prelude.{◌≡◌, true, Some}
-use Rattle.defs_merge.specs.Fault.{any_node, first_fault}
+use Rattle.defs_tree.specs.MergeFault.{any_node, first_fault}
 use Rattle.defs_tree.specs.Tree.{Tree}
 use Rattle.yaml_merge.specs.Found.{path_of}
 use Rattle.yaml_merge.specs.declared.error.MergeError.{MergeError}

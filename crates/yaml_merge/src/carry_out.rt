@@ -1,6 +1,6 @@
 //! Merge keys, carried out.
 ghost use Rattle.std.specs.Prelude.{◌≡◌, ◌≢◌, true, Some, IfOk, OnOk, OnErr};
-ghost use Rattle.defs_merge.specs.Merge.{merged, merged_items, merged_values, merged_pairs, brought, with_new_pairs, pairs_of_mappings};
+ghost use Rattle.defs_tree.specs.Merge.{merged, merged_items, merged_values, merged_pairs, brought, with_new_pairs, pairs_of_mappings};
 ghost use Rattle.defs_tree.specs.Pairs.{insert};
 ghost use Rattle.defs_tree.specs.Tree.{items_of, pairs_of};
 ghost use Rattle.yaml_tree.specs.Node.{takes_memory};

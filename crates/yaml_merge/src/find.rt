@@ -1,7 +1,7 @@
 //! The first node that is to be merged and is no mapping.
 ghost use Rattle.std.specs.Prelude.{◌≡◌, ◌≢◌, ℕ, None, IfOk, OnErr, option_map};
-ghost use Rattle.defs_merge.specs.Fault as fault;
-ghost use Rattle.defs_merge.specs.Merge.{merge_key};
+ghost use Rattle.defs_tree.specs.MergeFault as fault;
+ghost use Rattle.defs_tree.specs.Merge.{merge_key};
 ghost use Rattle.defs_tree.specs.Order.{tree_eq};
 ghost use Rattle.defs_tree.specs.Tree.{items_of, pairs_of};
 ghost use Rattle.yaml_json.specs.Found.{step_view};

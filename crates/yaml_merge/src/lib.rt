@@ -19,8 +19,8 @@
 #![tactic(auto)]
 
 ghost use Rattle.std.specs.Prelude.{◌≡◌, None, IfOk, OnOk, IfErr};
-ghost use Rattle.defs_merge.specs.Fault.{any_node, first_fault};
-ghost use Rattle.defs_merge.specs.Merge.{merged};
+ghost use Rattle.defs_tree.specs.MergeFault.{any_node, first_fault};
+ghost use Rattle.defs_tree.specs.Merge.{merged};
 ghost use Rattle.defs_tree.specs.Writable.{IsWritable};
 ghost use Rattle.yaml_merge.specs.Outcome.{Says};
 ghost use Rattle.yaml_tree.specs.View.{view};

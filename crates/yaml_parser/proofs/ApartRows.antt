@@ -2,7 +2,7 @@
 use Rattle.std.proofs.Common.{◌≡◌, List, [], ◌∷◌, None, refl}
 use Rattle.defs_token.specs.Token.{Style, Tok}
 use Rattle.defs_event.specs.Raw.{Raw, nothing_written}
-use Rattle.proof_grammar.proofs.Streams.{says_by}
+use Rattle.model_parser.proofs.Streams.{says_by}
 use Rattle.yaml_tokens.specs.declared.problem.Problem.TheVariants.{NodeContent, FlowMappingEntry}
 use Rattle.defs_event.specs.Place.{block_mapping, flow_mapping as in_braces, open_after, node_next, directive_next, other_next, next_after}
 use Rattle.yaml_parser.specs.Apart.{StandsApart}

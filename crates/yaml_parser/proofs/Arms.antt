@@ -1,35 +1,38 @@
 -- The arms of the productions.
-use Rattle.std.proofs.Common.{◌≡◌, ◌≢◌, List, [], ◌∷◌, ◌++◌, Some, None, option_map, Bool, true, false, not, ◌||◌, ◌&&◌, Result, Ok, Err, refl, sym, ap, ◌∙◌, subst, ◌⊎◌, inl, inr}
+use Rattle.std.proofs.Common.{◌≡◌, ◌≢◌, List, [], ◌∷◌, ◌++◌, Option, Some, None, option_map, Bool, true, false, Result, Ok, Err, refl, sym, ap, ◌∙◌, subst, ◌⊎◌, inl, inr}
 use Rattle.std.specs.Result.{IsErrAnd, OnErr}
-use Rattle.std.proofs.lemmas.Bool.{or_parts, both_ways}
+use Rattle.std.specs.Option.{IfSome}
 use Rattle.defs_text.specs.Position.{Position}
+use Rattle.defs_token.specs.Token as defs
 use Rattle.defs_token.specs.Token.{Tok}
 use Rattle.yaml_tokens.specs.declared.token.Token.{Token}
-use Rattle.yaml_tokens.specs.Shown.{tok_of}
+use Rattle.yaml_tokens.specs.Shown.{shown, tok_of}
 use Rattle.yaml_scanner_state.specs.Tokens.{is_end}
 use Rattle.defs_event.specs.Event.{Ev}
 use Rattle.defs_event.specs.Raw.{Raw}
 use Rattle.defs_event.specs.Names.{Names, names_after, resolved_event}
-use Rattle.defs_event.specs.Stream.{Before, has_position, gives_position, is_comma}
+use Rattle.defs_event.specs.Stream.{position_at}
 use Rattle.model_parser.specs.declared.kind.Kind.{Kind}
 use Rattle.model_parser.specs.declared.state.State.{State}
+use Rattle.model_parser.specs.declared.state.State.TheVariants as state
 use Rattle.model_parser.specs.Kinds.{kind_of, tok_of_kind, HasNoText}
 use Rattle.model_parser.specs.Goal as at
 use Rattle.model_parser.specs.Goal.{Goal}
-use Rattle.model_parser.specs.Turn.{Takes, Leaves}
+use Rattle.model_parser.specs.Place.{top}
+use Rattle.model_parser.specs.Rest.{is_under}
+use Rattle.model_parser.specs.Turn.{Takes, Leaves, IsAt}
 use Rattle.model_parser.proofs.First.{tok_is}
 use Rattle.yaml_parser.specs.declared.event.Event.{Event}
 use Rattle.yaml_parser.specs.declared.tokens.Stop.{Stop}
 use Rattle.yaml_parser.specs.declared.reader.Reader.{Reader}
-use Rattle.yaml_parser.specs.declared.slot.Slot.{Slot}
+use Rattle.yaml_parser.specs.declared.slot.EventSlot.{EventSlot}
 use Rattle.yaml_parser.specs.Ahead.{Skips}
-use Rattle.yaml_parser.specs.Handed.{peeked_tok, before_next}
+use Rattle.yaml_parser.specs.Handed.{peeked_tok, last_position, BeginAt}
 use Rattle.yaml_parser.specs.Kinds.{IsOfKind}
 use Rattle.yaml_parser.specs.Named.{IsNamed}
 use Rattle.yaml_parser.specs.Shown.{placed}
-use Rattle.yaml_parser.specs.At.{At, Answers, answered, Took, Stayed, Faulted, goal_after_event, is_over, may_follow_comma, names_at, IsPending}
-use Rattle.yaml_parser.proofs.Positions.{IsPlaced, may_give, gives_none}
-use Rattle.yaml_parser.proofs.Steps.{looked, took, took_on, left, left_on, Named, breaks, kept}
+use Rattle.yaml_parser.specs.At.{At, Answers, answered, Took, Stayed, Faulted, goal_after_event, IsPastColon, is_over, names_at, IsPending}
+use Rattle.yaml_parser.proofs.Steps.{looked, took, took_on, left, left_on, Named, breaks, if_some_at}
 
 -- the token at hand is taken, and this is what there is after it
 abbrev pub Skipped : {T : Type 0} → Reader T → Reader T → List State → Type 0
@@ -55,11 +58,6 @@ pub record Bare {T : Type 0} (g : Goal) (p : Reader T) (names : Names) (e : Raw)
   pub after_it : names_after p.names.keeping.tags names e ≡ names
   pub seen : names_at p.names.keeping.tags g names ≡ names
 
--- and has no token's position
-pub record Plain {T : Type 0} (g : Goal) (p : Reader T) (names : Names) (e : Raw) (v : Ev) : Type 0 where
-  pub bare : Bare g p names e v
-  pub no_position : has_position e ≡ false
-
 plain_named : {T : Type 0} {g : Goal} {p r : Reader T} {names : Names} {e : Raw} {v : Ev} {given : List (Ev × Position)} → Bare g p names e v → r.names ≡ p.names → At g p names given → Named p r at.done names e v names
 plain_named {T} {g} {p} {r} {names} {e} {v} {given} y same a = record {
   resolves = y.resolves;
@@ -69,20 +67,23 @@ plain_named {T} {g} {p} {r} {names} {e} {v} {given} y same a = record {
   pending = tt;
 }
 
--- whether a token may give a position to an event, or is a comma
-abbrev pub counts : Tok → Bool
-counts t = may_give t || is_comma t
+-- ---- where it stands
 
-pub no_positions : {b : Before} {e : Raw} {t : Token} (m : Position) → has_position e ≡ false → counts (tok_of t.1) ≡ false → IsPlaced b e t m
-no_positions {b} {e} {t} m h k =
-    let parts = or_parts (may_give (tok_of t.1)) (is_comma (tok_of t.1)) k in
-    let none = gives_none b.around (tok_of t.1) parts.0 in
-    record { alike = h ∙ sym none; here = λ y. absurd (both_ways (gives_position b.around (tok_of t.1)) none y); other = parts.1 }
+-- The event stands at the token by which its row is chosen.
+abbrev pub StandsHere : Raw → Type 0
+StandsHere e = (b : Option Position) (k : defs.Token) → position_at k b e ≡ Some k.position
 
--- The token is taken, and an event is given, which has the position that the token gives, if it gives one.
+pub here_at : (b : Option Position) (e : Raw) (k : defs.Token) (m : Position) → StandsHere e → k.position ≡ m → IsAt b k (Some e) m
+here_at b e k m here same = subst (λ o. IfSome o (λ p. m ≡ p)) (sym (here b k)) (sym same)
+
+-- No value whose `:` was just taken is next.
+abbrev pub HasNoColon : Goal → List State → Type 0
+HasNoColon g ss = (o : Option Position) → IsPastColon (top g ss) o
+
+-- The token is taken, and an event is given, which stands there.
 pub gives_at : {T : Type 0} (m : Position) {g : Goal} {p r : Reader T} {k k' : Kind} {ss : List State} {e : Raw} {v : Ev} {names : Names} {given : List (Ev × Position)}
     → IsOfKind k' p.tokens.peeked → k' ≡ k → HasNoText k → Skipped p r ss → Takes g p.stack (tok_of_kind k) (Some e) at.done ss
-    → Bare g p names e v → is_over g ≡ false → is_end (tok_of_kind k) ≡ false → ((t : Token) → p.tokens.peeked ≡ Some t → tok_of t.1 ≡ tok_of_kind k → IsPlaced (before_next p.tokens) e t m)
+    → Bare g p names e v → is_over g ≡ false → is_end (tok_of_kind k) ≡ false → ((t : Token) → p.tokens.peeked ≡ Some t → IsAt (last_position p.tokens) (shown t) (Some e) m × IsPastColon (top at.done ss) (Some t.0))
     → At g p names given → (names' : Names) × At at.done r names' (given ++ (v, m) ∷ [])
 gives_at {T} m {g} {p} {r} {k} {k'} {ss} {e} {v} {names} {given} o h plain s turn y over end places a =
     let l = looked k' p.tokens.peeked o in
@@ -90,66 +91,74 @@ gives_at {T} m {g} {p} {r} {k} {k'} {ss} {e} {v} {names} {given} o h plain s tur
     let x = s t l.1 in
     let same : tok_of t.1 ≡ tok_of_kind k = tok_is (l.2 ∙ h) plain in (
       names,
-      took m l.1 x.tokens x.stack (subst (λ u. Takes g p.stack u (Some e) at.done ss) (sym same) turn) (plain_named y x.names a) (λ w. (over, ap is_end same ∙ end)) (places t l.1 same) a,
+      took m l.1 x.tokens x.stack (subst (λ u. Takes g p.stack u (Some e) at.done ss) (sym same) turn) (plain_named y x.names a) (λ w. (over, ap is_end same ∙ end)) (places t l.1).0 (places t l.1).1 a,
     )
 
--- The token is taken, which gives no position, and an event is given.
+-- It stands at the token, which may be the `:` of a value that is next.
+pub gives_past : {T : Type 0} (m : Position) {g : Goal} {p r : Reader T} {k k' : Kind} {ss : List State} {e : Raw} {v : Ev} {names : Names} {given : List (Ev × Position)}
+    → IsOfKind k' p.tokens.peeked → k' ≡ k → HasNoText k → IfSome p.tokens.peeked (λ t. t.0 ≡ m) → Skipped p r ss → Takes g p.stack (tok_of_kind k) (Some e) at.done ss
+    → Bare g p names e v → StandsHere e → ((t : Token) → t.0 ≡ m → IsPastColon (top at.done ss) (Some t.0)) → is_over g ≡ false → is_end (tok_of_kind k) ≡ false → At g p names given → (names' : Names) × At at.done r names' (given ++ (v, m) ∷ [])
+gives_past {T} m {p = p} {e = e} o h plain mark s turn y here colon over end a =
+    gives_at m o h plain s turn y over end (λ t is. let there = if_some_at (λ (u : Token). u.0 ≡ m) mark is in (here_at (last_position p.tokens) e (shown t) m here there, colon t there)) a
+
+-- No value is next whose `:` was just taken.
 pub gives : {T : Type 0} (m : Position) {g : Goal} {p r : Reader T} {k k' : Kind} {ss : List State} {e : Raw} {v : Ev} {names : Names} {given : List (Ev × Position)}
-    → IsOfKind k' p.tokens.peeked → k' ≡ k → HasNoText k → Skipped p r ss → Takes g p.stack (tok_of_kind k) (Some e) at.done ss
-    → Plain g p names e v → is_over g ≡ false → (is_end (tok_of_kind k) || counts (tok_of_kind k)) ≡ false → At g p names given → (names' : Names) × At at.done r names' (given ++ (v, m) ∷ [])
-gives {T} m {g} {p} {r} {k} {k'} {ss} {e} {v} {names} {given} o h plain s turn y over end a =
-    let parts = or_parts (is_end (tok_of_kind k)) (counts (tok_of_kind k)) end in
-    gives_at m o h plain s turn y.bare over parts.0 (λ t here same. no_positions {e = e} {t = t} m y.no_position (ap counts same ∙ parts.1)) a
+    → IsOfKind k' p.tokens.peeked → k' ≡ k → HasNoText k → IfSome p.tokens.peeked (λ t. t.0 ≡ m) → Skipped p r ss → Takes g p.stack (tok_of_kind k) (Some e) at.done ss
+    → Bare g p names e v → StandsHere e → HasNoColon at.done ss → is_over g ≡ false → is_end (tok_of_kind k) ≡ false → At g p names given → (names' : Names) × At at.done r names' (given ++ (v, m) ∷ [])
+gives {T} m o h plain mark s turn y here colon over end a = gives_past m o h plain mark s turn y here (λ t there. colon (Some t.0)) over end a
 
--- whether a token is the stream's end, or may give a position, or is a comma before what follows none
-abbrev pub stands_out : Tok → Goal → Bool
-stands_out t g = is_end t || (may_give t || (is_comma t && not (may_follow_comma g)))
-
--- The token is taken, and it goes on; with these flow collections around it, it gives no position.
-pub goes_on : {T : Type 0} {g g' : Goal} {p r : Reader T} {k k' : Kind} {ss : List State} {names : Names} {given : List (Ev × Position)}
+-- The token is taken, and it goes on.
+pub goes : {T : Type 0} {g g' : Goal} {p r : Reader T} {k k' : Kind} {ss : List State} {names : Names} {given : List (Ev × Position)}
     → IsOfKind k' p.tokens.peeked → k' ≡ k → HasNoText k → Skipped p r ss → Takes g p.stack (tok_of_kind k) None g' ss
     → names_at p.names.keeping.tags g' names ≡ names_at p.names.keeping.tags g names → IsPending names g' → is_over g ≡ false → is_end (tok_of_kind k) ≡ false
-    → gives_position (before_next p.tokens).around (tok_of_kind k) ≡ false → (may_follow_comma g' ≡ false → is_comma (tok_of_kind k) ≡ false) → At g p names given → At g' r names given
-goes_on {T} {g} {g'} {p} {r} {k} {k'} {ss} {names} {given} o h plain s turn seen pending over end spot other a =
+    → ((t : Token) → p.tokens.peeked ≡ Some t → IsPastColon (top g' ss) (Some t.0)) → At g p names given → At g' r names given
+goes {T} {g} {g'} {p} {r} {k} {k'} {ss} {names} {given} o h plain s turn seen pending over end past a =
     let l = looked k' p.tokens.peeked o in
     let t = l.0 in
     let x = s t l.1 in
     let same : tok_of t.1 ≡ tok_of_kind k = tok_is (l.2 ∙ h) plain in
     took_on l.1 x.tokens x.stack (subst (λ u. Takes g p.stack u None g' ss) (sym same) turn) (ap (λ n. n.keeping) x.names)
-    (subst (λ n. IsNamed n (names_at n.keeping.tags g' names)) (sym x.names) (subst (IsNamed p.names) (sym seen) a.code)) pending (λ w. (over, ap is_end same ∙ end))
-    (ap (gives_position (before_next p.tokens).around) same ∙ spot) (λ f. ap is_comma same ∙ other f) a
+    (subst (λ n. IsNamed n (names_at n.keeping.tags g' names)) (sym x.names) (subst (IsNamed p.names) (sym seen) a.code)) pending (λ w. (over, ap is_end same ∙ end)) (past t l.1) a
 
--- The token is taken, which gives no position, and it goes on.
-pub goes : {T : Type 0} {g g' : Goal} {p r : Reader T} {k k' : Kind} {ss : List State} {names : Names} {given : List (Ev × Position)}
-    → IsOfKind k' p.tokens.peeked → k' ≡ k → HasNoText k → Skipped p r ss → Takes g p.stack (tok_of_kind k) None g' ss
-    → names_at p.names.keeping.tags g' names ≡ names_at p.names.keeping.tags g names → IsPending names g' → is_over g ≡ false → stands_out (tok_of_kind k) g' ≡ false → At g p names given → At g' r names given
-goes {T} {g} {g'} {p} {r} {k} {k'} {ss} {names} {given} o h plain s turn seen pending over end a =
-    let t = tok_of_kind k in
-    let one = or_parts (is_end t) (may_give t || (is_comma t && not (may_follow_comma g'))) end in
-    let two = or_parts (may_give t) (is_comma t && not (may_follow_comma g')) one.1 in
-    goes_on o h plain s turn seen pending over one.0 (gives_none (before_next p.tokens).around t two.0) (kept (is_comma t) (may_follow_comma g') two.1) a
+-- The token stays, and an event is given, which stands somewhere.
+pub leaves_at : {T : Type 0} (m : Position) {g : Goal} {p r : Reader T} {k : Kind} {ss : List State} {e : Raw} {v : Ev} {names : Names} {given : List (Ev × Position)}
+    → IsOfKind k p.tokens.peeked → Stayed p r ss → ((t : Tok) → kind_of t ≡ k → Leaves g p.stack (Some t) (Some e) at.done ss)
+    → Bare g p names e v → ((k : defs.Token) → BeginAt p.tokens.peeked (k ∷ []) → IsAt (last_position p.tokens) k (Some e) m) → HasNoColon at.done ss → breaks g at.done ≡ false
+    → At g p names given → (names' : Names) × At at.done r names' (given ++ (v, m) ∷ [])
+leaves_at {T} m {g} {p} {r} {k} {ss} {e} {v} {names} {given} o s turn y spot colon over a =
+    let l = looked k p.tokens.peeked o in
+    (names, left m (ap (option_map (λ (x : Token). tok_of x.1)) l.1) s.tokens s.stack (turn (tok_of l.0.1) l.2) (plain_named y s.names a) over spot (colon (last_position p.tokens)) a)
 
--- The token stays, and an event is given.
+-- It stands at the token.
 pub leaves : {T : Type 0} (m : Position) {g : Goal} {p r : Reader T} {k : Kind} {ss : List State} {e : Raw} {v : Ev} {names : Names} {given : List (Ev × Position)}
     → IsOfKind k p.tokens.peeked → Stayed p r ss → ((t : Tok) → kind_of t ≡ k → Leaves g p.stack (Some t) (Some e) at.done ss)
-    → Plain g p names e v → breaks g at.done ≡ false → At g p names given → (names' : Names) × At at.done r names' (given ++ (v, m) ∷ [])
-leaves {T} m {g} {p} {r} {k} {ss} {e} {v} {names} {given} o s turn y over a =
+    → Bare g p names e v → StandsHere e → IfSome r.tokens.peeked (λ t. t.0 ≡ m) → HasNoColon at.done ss → breaks g at.done ≡ false
+    → At g p names given → (names' : Names) × At at.done r names' (given ++ (v, m) ∷ [])
+leaves {T} m {g} {p} {r} {k} {ss} {e} {v} {names} {given} o s turn y here mark colon over a =
     let l = looked k p.tokens.peeked o in
-    (names, left m (ap (option_map (λ (x : Token). tok_of x.1)) l.1) s.tokens s.stack (turn (tok_of l.0.1) l.2) (plain_named y.bare s.names a) over y.no_position a)
+    let there : l.0.0 ≡ m = if_some_at (λ (u : Token). u.0 ≡ m) (subst (λ x. IfSome x.peeked (λ t. t.0 ≡ m)) s.tokens mark) l.1 in
+    leaves_at m o s turn y (λ j begins. here_at (last_position p.tokens) e j m here (subst (λ q. BeginAt q (j ∷ [])) l.1 begins ∙ there)) colon over a
 
 -- The token stays, and it goes on.
 pub stays : {T : Type 0} {g g' : Goal} {p r : Reader T} {k : Kind} {ss : List State} {names : Names} {given : List (Ev × Position)}
     → IsOfKind k p.tokens.peeked → Stayed p r ss → ((t : Tok) → kind_of t ≡ k → Leaves g p.stack (Some t) None g' ss)
-    → names_at p.names.keeping.tags g' names ≡ names_at p.names.keeping.tags g names → IsPending names g' → breaks g g' ≡ false → At g p names given → At g' r names given
-stays {T} {g} {g'} {p} {r} {k} {ss} {names} {given} o s turn seen pending over a =
+    → names_at p.names.keeping.tags g' names ≡ names_at p.names.keeping.tags g names → IsPending names g' → HasNoColon g' ss → breaks g g' ≡ false → At g p names given → At g' r names given
+stays {T} {g} {g'} {p} {r} {k} {ss} {names} {given} o s turn seen pending colon over a =
     let l = looked k p.tokens.peeked o in
-    left_on (ap (option_map (λ (x : Token). tok_of x.1)) l.1) s.tokens s.stack (turn (tok_of l.0.1) l.2) s.names seen pending over a
+    left_on (ap (option_map (λ (x : Token). tok_of x.1)) l.1) s.tokens s.stack (turn (tok_of l.0.1) l.2) s.names seen pending over (colon (last_position p.tokens)) a
 
--- No token is looked at, and an event is given.
+-- No token is looked at, and an event is given whose position is not promised.
 pub went : {T : Type 0} (m : Position) {g : Goal} {p r : Reader T} {ss : List State} {e : Raw} {v : Ev} {names : Names} {given : List (Ev × Position)}
-    → Stayed p r ss → Leaves g p.stack (peeked_tok p.tokens) (Some e) at.done ss → Plain g p names e v → breaks g at.done ≡ false → At g p names given → (names' : Names) × At at.done r names' (given ++ (v, m) ∷ [])
-went {T} m {g} {p} {r} {ss} {e} {v} {names} {given} s turn y over a =
-    (names, left m refl s.tokens s.stack turn (plain_named y.bare s.names a) over y.no_position a)
+    → Stayed p r ss → Leaves g p.stack (peeked_tok p.tokens) (Some e) at.done ss → Bare g p names e v → ((b : Option Position) (k : defs.Token) → position_at k b e ≡ None) → HasNoColon at.done ss → breaks g at.done ≡ false
+    → At g p names given → (names' : Names) × At at.done r names' (given ++ (v, m) ∷ [])
+went {T} m {g} {p} {r} {ss} {e} {v} {names} {given} s turn y anywhere colon over a =
+    (names, left m refl s.tokens s.stack turn (plain_named y s.names a) over (λ k begins. subst (λ o. IfSome o (λ q. m ≡ q)) (sym (anywhere (last_position p.tokens) k)) tt) (colon (last_position p.tokens)) a)
+
+-- after a node none is
+pub under_no_colon : (ss : List State) → is_under ss ≡ true → HasNoColon at.done ss
+under_no_colon [] h o = cc
+under_no_colon (state.FlowMappingPart m ∷ ss) h o = cc
+under_no_colon (s ∷ ss) h o = tt
 
 -- ---- what is answered
 
@@ -157,7 +166,7 @@ pub on_err : {A E : Type 0} (P : Type 0) (r : Result A E) → P → OnErr r P
 on_err P (Ok e) f = tt
 on_err P (Err e) f = f
 
-pub answers_err : {T E : Type 0} (p : Reader T) (given : List (Ev × Position)) (r : Result (Unit {0}) E) (x : E) (slot : Slot) → IsErrAnd r (λ e. e ≡ x) → Faulted p given slot.stop → Answers p given (answered r slot)
+pub answers_err : {T E : Type 0} (p : Reader T) (given : List (Ev × Position)) (r : Result (Unit {0}) E) (x : E) (slot : EventSlot) → IsErrAnd r (λ e. e ≡ x) → Faulted p given slot.stop → Answers p given (answered r slot)
 answers_err {T} p given (Ok u) x slot h f = absurd h
 answers_err {T} p given (Err e) x slot h f = f
 
@@ -198,5 +207,5 @@ as_kind test e h = ap test h ∙ e
 pub not_as : {k k' x : Kind} → k ≢ x → k' ≡ k → k' ≢ x
 not_as a h e = a (sym h ∙ e)
 
-pub plain : {T : Type 0} {g : Goal} {p : Reader T} {names : Names} {e : Raw} {v : Ev} → resolved_event names e ≡ Some v → names_after p.names.keeping.tags names e ≡ names → names_at p.names.keeping.tags g names ≡ names → has_position e ≡ false → Plain g p names e v
-plain a b c d = record { bare = record { resolves = a; after_it = b; seen = c }; no_position = d }
+pub names_nothing : {T : Type 0} {g : Goal} {p : Reader T} {names : Names} {e : Raw} {v : Ev} → resolved_event names e ≡ Some v → names_after p.names.keeping.tags names e ≡ names → names_at p.names.keeping.tags g names ≡ names → Bare g p names e v
+names_nothing a b c = record { resolves = a; after_it = b; seen = c }

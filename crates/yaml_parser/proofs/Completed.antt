@@ -1,19 +1,16 @@
--- What is awaited goes on to an end whose events can be named and placed: so no fault is late.
-use Rattle.std.proofs.Common.{◌≡◌, List, [], ◌∷◌, ◌++◌, Option, Some, None, option_map, Bool, true, false, ◌&&◌, refl, sym, ap, ◌∙◌, if◌then◌else◌, map}
+-- What is awaited goes on to an end whose events can be named: so no fault is late.
+use Rattle.std.proofs.Common.{◌≡◌, List, [], ◌∷◌, ◌++◌, Option, Some, None, option_map, Bool, true, false, ◌&&◌, refl, ap, ◌∙◌, if◌then◌else◌}
 use Rattle.std.proofs.lemmas.Bool.{and_parts, and_from}
 use Rattle.std.specs.Option.{IsSome}
-use Rattle.defs_text.specs.Position.{Position}
-use Rattle.defs_token.specs.Token as defs
 use Rattle.defs_token.specs.Token.{Style, Tok}
 use Rattle.defs_event.specs.Event.{Ev}
 use Rattle.defs_event.specs.Raw.{Raw, Directive}
 use Rattle.defs_event.specs.Properties.{anchor_of, tag_of}
 use Rattle.defs_event.specs.Names.{Names, number, named, both, names_after, resolved_event, resolved, perhaps_resolved}
-use Rattle.defs_event.specs.Stream.{Before, place_of, taken_positions, given_after}
 use Rattle.defs_event.specs.Table.{reading, saying}
 use Rattle.defs_event.specs.Grammar as table
 use Rattle.defs_event.specs.Grammar.{Held, nothing_held, key, value, Place, in_flow, in_block, in_pair}
-use Rattle.proof_grammar.proofs.Falls.{text, after_text, shortest, text_event, after_text_events, shortest_events}
+use Rattle.model_parser.proofs.Falls.{text, text_event, after_text_events, shortest_events}
 use Rattle.model_parser.specs.declared.kind.Kind.TheVariants as kind
 use Rattle.model_parser.specs.declared.context.NodeContext.TheVariants as context
 use Rattle.model_parser.specs.declared.state.State.{State}
@@ -21,9 +18,9 @@ use Rattle.model_parser.specs.declared.state.State.TheVariants as state
 use Rattle.model_parser.specs.Goal as at
 use Rattle.model_parser.specs.Goal.{Goal}
 use Rattle.model_parser.specs.Rest.{Works, place_of as where_it_stands, past, works, work_of, may_begin, first_may, Awaits}
-use Rattle.model_parser.proofs.Rows.{first_any}
+use Rattle.model_parser.proofs.StepRows.{first_any}
 use Rattle.model_parser.proofs.Endings.{end_tokens, end_events, ends_so, past_tokens, goes_so}
-use Rattle.yaml_parser.specs.At.{IsPending, may_follow_comma}
+use Rattle.yaml_parser.specs.At.{IsPending}
 
 -- ---- it can be named
 
@@ -73,7 +70,9 @@ free_resolves s Raw.sequence_end h = (_, refl)
 free_resolves s Raw.indentless_sequence_end h = (_, refl)
 free_resolves s Raw.pair_start h = (_, refl)
 free_resolves s Raw.pair_end h = (_, refl)
+free_resolves s Raw.unwritten_value h = (_, refl)
 free_resolves s Raw.flow_mapping_end h = (_, refl)
+free_resolves s Raw.flow_mapping_end_at_comma h = (_, refl)
 free_resolves s Raw.mapping_end h = (_, refl)
 free_resolves s e h = cc
 
@@ -83,10 +82,9 @@ free_named keep (e ∷ es) h s =
     let p = and_parts (is_free e) (are_free es) h in
     name_one keep s e es (free_resolves s e p.0).1 (free_named keep es p.1)
 
--- Of work on a stack all holds nothing, and what is said has no position.
+-- Of work on a stack all holds nothing, and what is said is the end of a pair.
 abbrev is_quiet : Raw → Bool
 is_quiet Raw.pair_end = true
-is_quiet (Raw.empty_scalar None None) = true
 is_quiet _ = false
 
 abbrev pub is_plain : Works → Bool
@@ -96,7 +94,6 @@ is_plain (reading g h ∷ w) = is_untagged h.tag && (is_none h.directives && is_
 
 quiet_free : (e : Raw) → is_quiet e ≡ true → is_free e ≡ true
 quiet_free Raw.pair_end h = refl
-quiet_free (Raw.empty_scalar None None) h = refl
 quiet_free _ h = cc
 
 after_free : (p : Place) (es : List Raw) → are_free es ≡ true → are_free (after_text_events p ++ es) ≡ true
@@ -115,6 +112,8 @@ goal_free (table.after_anchor p) h es t d i = text_free p h es t i
 goal_free (table.after_tag p) h es t d i = text_free p h es t i
 goal_free (table.content p) h es t d i = text_free p h es t i
 goal_free (table.indentless_sequence_entries s) h es t d i = after_free (in_pair s) es i
+goal_free (table.flow_mapping_entries table.after_brace) h es t d i = i
+goal_free (table.flow_mapping_entries table.after_comma) h es t d i = i
 goal_free _ h es t d i = i
 
 pub plain_free : (w : Works) → is_plain w ≡ true → are_free (end_events w) ≡ true
@@ -173,116 +172,24 @@ goal_named (at.after_tag q t) ss keep s p = text_named ss keep s (record { ancho
 goal_named (at.after_properties q None) ss keep s p = text_named ss keep s nothing_held refl
 goal_named (at.after_properties q (Some o)) ss keep s p = text_named ss keep s (record { anchor = anchor_of o; tag = tag_of o; directives = [] }) p
 goal_named at.part ss keep s p = text_named ss keep s nothing_held refl
-goal_named at.dashes ss keep s p = free_named keep (end_events (work_of at.dashes ss)) (plain_free (work_of at.dashes ss) (past_plain ss (works_plain ss))) s
-goal_named at.dashed ss keep s p = free_named keep (end_events (work_of at.dashed ss)) (plain_free (work_of at.dashed ss) (past_plain ss (works_plain ss))) s
+goal_named at.indentless_entries ss keep s p = free_named keep (end_events (work_of at.indentless_entries ss)) (plain_free (work_of at.indentless_entries ss) (past_plain ss (works_plain ss))) s
+goal_named at.indentless_entry ss keep s p = free_named keep (end_events (work_of at.indentless_entry ss)) (plain_free (work_of at.indentless_entry ss) (past_plain ss (works_plain ss))) s
+goal_named (at.flow_pair table.after_brace) ss keep s p = free_named keep (end_events (work_of (at.flow_pair table.after_brace) ss)) (works_free ss) s
+goal_named (at.flow_pair table.after_comma) ss keep s p = free_named keep (end_events (work_of (at.flow_pair table.after_comma) ss)) (works_free ss) s
 goal_named g ss keep s p = free_named keep (end_events (work_of g ss)) (works_free ss) s
 
--- ---- and placed
-
--- where no position is known
-abbrev pub token_nowhere : Tok → defs.Token
-token_nowhere t = record { position = record { index = 0; line = 1; col = 0 }; tok = t }
-
-abbrev pub event_nowhere : Ev → Ev × Position
-event_nowhere v = (v, record { index = 0; line = 1; col = 0 })
-
-abbrev pub position_nowhere : Raw → Position
-position_nowhere e = record { index = 0; line = 1; col = 0 }
-
--- as many events with a position as tokens
-abbrev pub AreEven : Before → List Raw → List Tok → Type 0
-AreEven b es ts = taken_positions es (map position_nowhere es) ≡ given_after b (map token_nowhere ts)
-
--- where no comma stands right before them
-abbrev Even : List Raw → List Tok → Type 0
-Even es ts = (b : Before) → b.comma ≡ None → AreEven b es ts
-
-abbrev nowhere : Position
-nowhere = position_nowhere Raw.stream_start
-
-one_each : {ps qs : List Position} → ps ≡ qs → nowhere ∷ ps ≡ nowhere ∷ qs
-one_each h = ap (λ ps. nowhere ∷ ps) h
-
-at_bracket : (b : Before) {ps qs : List Position} → b.comma ≡ None → ps ≡ qs → nowhere ∷ ps ≡ place_of Tok.flow_mapping_end b.comma nowhere ∷ qs
-at_bracket b {ps} {qs} e h = one_each h ∙ ap (λ c. place_of Tok.flow_mapping_end c nowhere ∷ qs) (sym e)
-
--- whether a goal's shortest way begins with `}`, whose event would have the position of a comma
-abbrev minds_comma : table.Goal → Bool
-minds_comma table.flow_mapping_entries = true
-minds_comma table.flow_mapping_comma = true
-minds_comma _ = false
-
-abbrev minds : Works → Bool
-minds [] = true
-minds (saying e ∷ w) = minds w
-minds (reading g h ∷ w) = minds_comma g
-
-after_even : (p : Place) (es : List Raw) (ts : List Tok) → Even es ts → Even (after_text_events p ++ es) (after_text p ++ ts)
-after_even in_flow es ts i b c = i b c
-after_even in_block es ts i b c = i b c
-after_even (in_pair key) es ts i b c = one_each (i _ refl)
-after_even (in_pair value) es ts i b c = one_each (i _ refl)
-
-text_even : (p : Place) (h : Held) (es : List Raw) (ts : List Tok) → Even es ts → (b : Before) → AreEven b (text_event h ∷ (after_text_events p ++ es)) (text ∷ (after_text p ++ ts))
-text_even p h es ts i b = one_each (after_even p es ts i _ refl)
-
-goal_even : (g : table.Goal) (h : Held) (es : List Raw) (ts : List Tok) → Even es ts → (b : Before) → (minds_comma g ≡ true → b.comma ≡ None) → AreEven b (shortest_events g h ++ es) (shortest g ++ ts)
-goal_even (table.node p) h es ts i b c = text_even p h es ts i b
-goal_even (table.after_anchor p) h es ts i b c = text_even p h es ts i b
-goal_even (table.after_tag p) h es ts i b c = text_even p h es ts i b
-goal_even (table.content p) h es ts i b c = text_even p h es ts i b
-goal_even table.directives h es ts i b c = one_each (i _ refl)
-goal_even table.flow_sequence_entries h es ts i b c = one_each (i _ refl)
-goal_even table.flow_sequence_comma h es ts i b c = one_each (i _ refl)
-goal_even table.flow_value h es ts i b c = one_each (i _ refl)
-goal_even table.flow_mapping_entries h es ts i b c = at_bracket b (c refl) (i _ refl)
-goal_even table.flow_mapping_comma h es ts i b c = at_bracket b (c refl) (i _ refl)
-goal_even table.block_sequence_entries h es ts i b c = one_each (i _ refl)
-goal_even (table.indentless_sequence_entries key) h es ts i b c = one_each (i _ refl)
-goal_even (table.indentless_sequence_entries value) h es ts i b c = one_each (i _ refl)
-goal_even table.block_mapping_entries h es ts i b c = one_each (i _ refl)
-goal_even table.block_mapping_value h es ts i b c = one_each (i _ refl)
-goal_even g h es ts i b c = i _ refl
-
-quiet_even : (e : Raw) (es : List Raw) (ts : List Tok) (b : Before) → is_quiet e ≡ true → AreEven b es ts → AreEven b (e ∷ es) ts
-quiet_even Raw.pair_end es ts b h i = i
-quiet_even (Raw.empty_scalar None None) es ts b h i = i
-quiet_even _ es ts b h i = cc
-
-pub plain_even : (w : Works) → is_plain w ≡ true → (b : Before) → (minds w ≡ true → b.comma ≡ None) → AreEven b (end_events w) (end_tokens w)
-plain_even [] h b c = refl
-plain_even (saying e ∷ w) h b c = let p = and_parts (is_quiet e) (is_plain w) h in quiet_even e (end_events w) (end_tokens w) b p.0 (plain_even w p.1 b c)
-plain_even (reading g x ∷ w) h b c =
-    let p = and_parts (is_untagged x.tag) (is_none x.directives && is_plain w) h in
-    let q = and_parts (is_none x.directives) (is_plain w) p.1 in
-    goal_even g x (end_events w) (end_tokens w) (λ d e. plain_even w q.1 d (λ m. e)) b c
-
--- by what was held it goes on alike
-goal_places : (g : Goal) (ss : List State) (b : Before) → (minds (work_of g ss) ≡ true → b.comma ≡ None) → AreEven b (end_events (work_of g ss)) (end_tokens (work_of g ss))
-goal_places (at.directed ds) ss b c = goal_even table.directives nothing_held (end_events (works ss)) (end_tokens (works ss)) (λ d e. plain_even (works ss) (works_plain ss) d (λ m. e)) b c
-goal_places (at.node p) ss b c = text_even (where_it_stands ss) nothing_held (end_events (past ss (works ss))) (end_tokens (past ss (works ss))) (λ d e. plain_even (past ss (works ss)) (past_plain ss (works_plain ss)) d (λ m. e)) b
-goal_places (at.after_anchor p a) ss b c = text_even (where_it_stands ss) nothing_held (end_events (past ss (works ss))) (end_tokens (past ss (works ss))) (λ d e. plain_even (past ss (works ss)) (past_plain ss (works_plain ss)) d (λ m. e)) b
-goal_places (at.after_tag p t) ss b c = text_even (where_it_stands ss) nothing_held (end_events (past ss (works ss))) (end_tokens (past ss (works ss))) (λ d e. plain_even (past ss (works ss)) (past_plain ss (works_plain ss)) d (λ m. e)) b
-goal_places (at.after_properties p o) ss b c = text_even (where_it_stands ss) nothing_held (end_events (past ss (works ss))) (end_tokens (past ss (works ss))) (λ d e. plain_even (past ss (works ss)) (past_plain ss (works_plain ss)) d (λ m. e)) b
-goal_places at.part ss b c = plain_even (work_of at.part ss) (past_plain ss (works_plain ss)) b c
-goal_places at.dashes ss b c = plain_even (work_of at.dashes ss) (past_plain ss (works_plain ss)) b c
-goal_places at.dashed ss b c = plain_even (work_of at.dashed ss) (past_plain ss (works_plain ss)) b c
-goal_places g ss b c = plain_even (work_of g ss) (works_plain ss) b c
-
--- ---- both
+-- ---- all
 
 pub record Completed (g : Goal) (ss : List State) : Type 0 where
   pub tokens : List Tok
   pub events : List Raw
   pub awaits : Awaits g ss tokens events
   pub nameable : (keep : Bool) (s : Names) → IsPending s g → Nameable keep s events
-  pub even : (b : Before) → (may_follow_comma g ≡ false → b.comma ≡ None) → AreEven b events tokens
 
--- where the shortest way may not be gone, since the token with which it begins was seen not to come, or has the place of a comma
+-- where the shortest way may not be gone, since the token with which it begins was seen not to come
 abbrev is_barred : Goal → Bool
 is_barred at.item = true
-is_barred at.comma_flow_pairs = true
-is_barred at.flow_pair = true
+is_barred (at.flow_pair s) = true
 is_barred _ = false
 
 may_end : (g : Goal) (ss : List State) → is_barred g ≡ false → first_may g ss (end_tokens (work_of g ss)) ≡ true
@@ -297,17 +204,12 @@ may_end (at.after_properties context.Block (Some o)) ss h = refl
 may_end (at.after_properties context.Part (Some o)) ss h = refl
 may_end at.key_pairs ss h = refl
 may_end at.item ss h = cc
-may_end at.comma_flow_pairs ss h = cc
-may_end at.flow_pair ss h = cc
+may_end (at.flow_pair s) ss h = cc
 may_end at.done [] h = refl
 may_end at.done (state.BlockNode ∷ ss) h = refl
 may_end at.done (state.BlockMappingNextKey ∷ ss) h = refl
 may_end at.done (s ∷ ss) h = first_any at.done (s ∷ ss) (end_tokens (works (s ∷ ss))) (λ k. refl)
 may_end g ss h = first_any g ss (end_tokens (work_of g ss)) (λ k. refl)
-
-comma_free : (g : Goal) (ss : List State) → is_barred g ≡ false → minds (work_of g ss) ≡ true → may_follow_comma g ≡ false
-comma_free at.done ss h m = refl
-comma_free g ss h m = cc
 
 on_the_shortest : (g : Goal) (ss : List State) → is_barred g ≡ false → Completed g ss
 on_the_shortest g ss h = record {
@@ -315,7 +217,6 @@ on_the_shortest g ss h = record {
   events = end_events (work_of g ss);
   awaits = (ends_so (work_of g ss), may_end g ss h);
   nameable = λ keep s p. goal_named g ss keep s p;
-  even = λ b c. goal_places g ss b (λ m. c (comma_free g ss h m));
 }
 
 -- by a scalar first
@@ -325,11 +226,9 @@ by_text g ss v h m p = record {
   events = text_event nothing_held ∷ end_events v;
   awaits = goes_so g ss text [] h m;
   nameable = λ keep s q. name_one keep s (text_event nothing_held) (end_events v) refl (free_named keep (end_events v) (plain_free v p));
-  even = λ b c. one_each (plain_even v p _ (λ m. refl));
 }
 
 pub completed : (g : Goal) (ss : List State) → Completed g ss
 completed at.item ss = by_text at.item ss _ refl refl (works_plain ss)
-completed at.comma_flow_pairs ss = by_text at.comma_flow_pairs ss _ refl refl (works_plain ss)
-completed at.flow_pair ss = by_text at.flow_pair ss _ refl refl (works_plain ss)
+completed (at.flow_pair s) ss = by_text (at.flow_pair s) ss _ refl refl (works_plain ss)
 completed g ss = on_the_shortest g ss refl

@@ -9,16 +9,16 @@ use Rattle.yaml_tokens.specs.declared.problem.Fault.TheVariants.{OutOfMemory}
 use Rattle.yaml_tokens.specs.declared.problem.Fault.TheVariants as fault
 use Rattle.yaml_tokens.specs.declared.problem.Problem.{Problem}
 use Rattle.yaml_tokens.specs.declared.problem.Problem.TheVariants.{SecondVersion, RepeatedHandle, UndeclaredHandle}
-use Rattle.yaml_tokens.specs.Shown.{all_shown, tok_of}
+use Rattle.yaml_tokens.specs.Shown.{shown, all_shown, tok_of}
 use Rattle.yaml_scanner_state.specs.Tokens.{is_end}
 use Rattle.defs_event.specs.Event.{Ev}
 use Rattle.defs_event.specs.Raw as raw
 use Rattle.defs_event.specs.Raw.{Raw, Directive}
 use Rattle.defs_event.specs.Properties.{directive_token, directives_tokens}
 use Rattle.defs_event.specs.Names as defs
-use Rattle.defs_event.specs.Names.{named, declared, versions, is_each_once, are_allowed, at_document, under_name}
+use Rattle.defs_event.specs.Names.{named, declared, versions, is_each_once, are_allowed, at_document}
 use Rattle.defs_token.specs.Toks.{toks}
-use Rattle.defs_event.specs.Stream.{events_of, gives_position, is_comma}
+use Rattle.defs_event.specs.Stream.{events_of}
 use Rattle.model_parser.specs.declared.kind.Kind.{Kind}
 use Rattle.model_parser.specs.declared.kind.Kind.TheVariants as kind
 use Rattle.model_parser.specs.declared.context.NodeContext.TheVariants as context
@@ -29,7 +29,7 @@ use Rattle.model_parser.specs.Rest.{Works, works, with_directives}
 use Rattle.defs_event.specs.Table.{reading, Derives}
 use Rattle.defs_event.specs.Grammar as table
 use Rattle.defs_event.specs.Grammar.{grammar}
-use Rattle.model_parser.proofs.Rows.{row_taken, no_row, said, needs_tokens}
+use Rattle.model_parser.proofs.StepRows.{row_taken, no_row, said, needs_tokens}
 use Rattle.model_parser.specs.Turn.{Takes, Leaves}
 use Rattle.model_parser.proofs.First.{tok_is}
 use Rattle.model_parser.proofs.Document as turn
@@ -39,7 +39,7 @@ use Rattle.yaml_parser.specs.declared.names.Names.{Names}
 use Rattle.yaml_parser.specs.declared.reader.Reader.{Reader}
 use Rattle.yaml_parser.specs.declared.tokens.Tokens.{Tokens}
 use Rattle.yaml_parser.specs.Ahead.{Skips}
-use Rattle.yaml_parser.specs.Handed.{taken_toks}
+use Rattle.yaml_parser.specs.Handed.{taken_toks, last_position, BeginAt}
 use Rattle.yaml_parser.specs.Kinds.{IsOfKind}
 use Rattle.yaml_parser.specs.Named.{IsNamed, IsOwn}
 use Rattle.yaml_parser.specs.Declares.{HasRead, Declares}
@@ -47,10 +47,10 @@ use Rattle.yaml_parser.specs.Directing.{Directing, DirectsTo, IsAfter}
 use Rattle.yaml_parser.specs.Blames.{fits, is_of_names, IsCause, SpoilsDirectives}
 use Rattle.yaml_parser.specs.At.{At, Stayed, Faulted, Carries, is_over}
 use Rattle.yaml_parser.proofs.Steps.{looked, taken_snoc, took, took_on, left, left_as, if_some_at}
-use Rattle.yaml_parser.proofs.Arms.{Skipped, no_positions, counts, faulted_as}
+use Rattle.yaml_parser.proofs.Arms.{Skipped, here_at, faulted_as}
 use Rattle.yaml_parser.proofs.NodeArms.{unnamed_at, unnameable_first}
+use Rattle.yaml_parser.proofs.Ends.{StandsBeside}
 use Rattle.yaml_parser.proofs.Ways.{apart_as, directed_ways}
-use Rattle.yaml_parser.specs.Apart.{StandsApart}
 use Rattle.yaml_parser.proofs.DirectiveLemmas.{named_alike, own_alike, version_ignored, version_snoc, tag_snoc, versions_append}
 
 -- ---- a document's start
@@ -61,22 +61,22 @@ Starts old new = (names : defs.Names) → IsNamed old names → IsNamed new (at_
 
 -- A document that does without `---` begins at a token that stays.
 pub bare_begins : {T : Type 0} (m : Position) {p q r : Reader T} {k : Kind} {names : defs.Names} {given : List (Ev × Position)}
-    → IsOfKind k p.tokens.peeked → ((t : Tok) → kind_of t ≡ k → Leaves at.documents p.stack (Some t) (Some (Raw.document_start [])) at.done (state.BlockNode ∷ state.DocumentEnd ∷ p.stack))
+    → IsOfKind k p.tokens.peeked → IfSome r.tokens.peeked (λ t. t.0 ≡ m) → ((t : Tok) → kind_of t ≡ k → Leaves at.documents p.stack (Some t) (Some (Raw.document_start [])) at.done (state.BlockNode ∷ state.DocumentEnd ∷ p.stack))
     → q.tokens ≡ p.tokens → q.names.keeping ≡ p.names.keeping → Starts p.names q.names → Stayed q r (state.BlockNode ∷ state.DocumentEnd ∷ p.stack)
     → At at.documents p names given → (names' : defs.Names) × At at.done r names' (given ++ (Ev.document_start, m) ∷ [])
-bare_begins {T} m {p} {q} {r} {k} {names} {given} here turn tokens keep starts stayed a =
+bare_begins {T} m {p} {q} {r} {k} {names} {given} here mark turn tokens keep starts stayed a =
     let l = looked k p.tokens.peeked here in (
       at_document p.names.keeping.tags names [],
       left m (ap (option_map (λ (x : Token). tok_of x.1)) l.1) (stayed.tokens ∙ tokens) stayed.stack (turn (tok_of l.0.1) l.2)
           (record { resolves = refl; after_it = refl; keep = ap (λ n. n.keeping) stayed.names ∙ keep; code = subst (λ n. IsNamed n (at_document p.names.keeping.tags names [])) (sym stayed.names) (starts names a.code); pending = tt })
-          refl refl a,
+          refl (λ j begins. here_at (last_position p.tokens) (Raw.document_start []) j m (λ b k. refl) (subst (λ o. BeginAt o (j ∷ [])) l.1 begins ∙ if_some_at (λ (u : Token). u.0 ≡ m) (subst (λ x. IfSome x.peeked (λ u. u.0 ≡ m)) (stayed.tokens ∙ tokens) mark) l.1)) tt a,
     )
 
 -- A document begins with `---`.
 pub explicit_begins : {T : Type 0} (m : Position) {p q r : Reader T} {k : Kind} {names : defs.Names} {given : List (Ev × Position)}
-    → IsOfKind k p.tokens.peeked → k ≡ kind.DocumentStart → q.tokens ≡ p.tokens → q.stack ≡ p.stack → q.names.keeping ≡ p.names.keeping → Starts p.names q.names → Skipped q r (state.DocumentContent ∷ q.stack)
+    → IsOfKind k p.tokens.peeked → k ≡ kind.DocumentStart → IfSome p.tokens.peeked (λ t. t.0 ≡ m) → q.tokens ≡ p.tokens → q.stack ≡ p.stack → q.names.keeping ≡ p.names.keeping → Starts p.names q.names → Skipped q r (state.DocumentContent ∷ q.stack)
     → At at.explicit p names given → (names' : defs.Names) × At at.done r names' (given ++ (Ev.document_start, m) ∷ [])
-explicit_begins {T} m {p} {q} {r} {k} {names} {given} here h tokens stack keep starts skip a =
+explicit_begins {T} m {p} {q} {r} {k} {names} {given} here h mark tokens stack keep starts skip a =
     let l = looked k p.tokens.peeked here in
     let t = l.0 in
     let x = skip t (ap (λ y. y.peeked) tokens ∙ l.1) in
@@ -85,13 +85,13 @@ explicit_begins {T} m {p} {q} {r} {k} {names} {given} here h tokens stack keep s
       took m l.1 (subst (λ y. Skips y t r.tokens) tokens x.tokens) (x.stack ∙ ap (λ ss. state.DocumentContent ∷ ss) stack)
           (subst (λ u. Takes at.explicit p.stack u (Some (Raw.document_start [])) at.done (state.DocumentContent ∷ p.stack)) (sym same) (turn.explicit_start p.stack))
           (record { resolves = refl; after_it = refl; keep = ap (λ n. n.keeping) x.names ∙ keep; code = subst (λ n. IsNamed n (at_document p.names.keeping.tags names [])) (sym x.names) (starts names a.code); pending = tt })
-          (λ b. (refl, ap is_end same)) (no_positions m refl (ap counts same)) a,
+          (λ b. (refl, ap is_end same)) (here_at (last_position p.tokens) (Raw.document_start []) (shown t) m (λ b k. refl) (if_some_at (λ (u : Token). u.0 ≡ m) mark l.1)) tt a,
     )
 
 -- The stream ends.
 pub stream_ends : {T : Type 0} (m : Position) {p r : Reader T} {k : Kind} {names : defs.Names} {given : List (Ev × Position)}
-    → IsOfKind k p.tokens.peeked → k ≡ kind.StreamEnd → Skipped p r p.stack → At at.explicit p names given → (names' : defs.Names) × At at.ended r names' (given ++ (Ev.stream_end, m) ∷ [])
-stream_ends {T} m {p} {r} {k} {names} {given} here h skip a =
+    → IsOfKind k p.tokens.peeked → k ≡ kind.StreamEnd → IfSome p.tokens.peeked (λ t. t.0 ≡ m) → Skipped p r p.stack → At at.explicit p names given → (names' : defs.Names) × At at.ended r names' (given ++ (Ev.stream_end, m) ∷ [])
+stream_ends {T} m {p} {r} {k} {names} {given} here h mark skip a =
     let l = looked k p.tokens.peeked here in
     let t = l.0 in
     let x = skip t l.1 in
@@ -99,14 +99,14 @@ stream_ends {T} m {p} {r} {k} {names} {given} here h skip a =
       names,
       took m l.1 x.tokens x.stack (subst (λ u. Takes at.explicit p.stack u (Some Raw.stream_end) at.ended p.stack) (sym same) (turn.explicit_end p.stack))
           (record { resolves = refl; after_it = refl; keep = ap (λ n. n.keeping) x.names; code = subst (λ n. IsNamed n names) (sym x.names) a.code; pending = tt })
-          (λ b. let no : true ≡ false = b in cc) (no_positions m refl (ap counts same)) a,
+          (λ b. let no : true ≡ false = b in cc) (here_at (last_position p.tokens) Raw.stream_end (shown t) m (λ b k. refl) (if_some_at (λ (u : Token). u.0 ≡ m) mark l.1)) tt a,
     )
 
 -- The start of a document stands after its directives.
 pub directed_begins : {T : Type 0} (m : Position) {p r : Reader T} {k : Kind} {read : List Directive} {names : defs.Names} {given : List (Ev × Position)}
-    → IsOfKind k p.tokens.peeked → k ≡ kind.DocumentStart → Skipped p r (state.DocumentContent ∷ p.stack)
+    → IsOfKind k p.tokens.peeked → k ≡ kind.DocumentStart → IfSome p.tokens.peeked (λ t. t.0 ≡ m) → Skipped p r (state.DocumentContent ∷ p.stack)
     → At (at.directed read) p names given → (names' : defs.Names) × At at.done r names' (given ++ (Ev.document_start, m) ∷ [])
-directed_begins {T} m {p} {r} {k} {read} {names} {given} here h skip a =
+directed_begins {T} m {p} {r} {k} {read} {names} {given} here h mark skip a =
     let l = looked k p.tokens.peeked here in
     let t = l.0 in
     let x = skip t l.1 in
@@ -120,7 +120,7 @@ directed_begins {T} m {p} {r} {k} {read} {names} {given} here h skip a =
             code = subst (λ n. IsNamed n (at_document p.names.keeping.tags names read)) (sym x.names) a.code;
             pending = tt;
           })
-          (λ b. (refl, ap is_end same)) (no_positions m refl (ap counts same)) a,
+          (λ b. (refl, ap is_end same)) (here_at (last_position p.tokens) (Raw.document_start read) (shown t) m (λ b k. refl) (if_some_at (λ (u : Token). u.0 ≡ m) mark l.1)) tt a,
     )
 
 -- ---- directives
@@ -144,7 +144,7 @@ directives_begin {T} {p} {q} k {names} {given} here h tokens stack keep starts o
     record {
       read = [];
       here = left_as (ap (option_map (λ (x : Token). tok_of x.1)) l.1) tokens stack (turn.documents_directives p.stack (tok_of l.0.1) e (no_node _ e)) keep
-          (subst (λ b. IsNamed q.names (at_document b.tags names [])) (sym keep) (starts names a.code)) refl refl a;
+          (subst (λ b. IsNamed q.names (at_document b.tags names [])) (sym keep) (starts names a.code)) refl refl tt a;
       own = own names a.code;
       version = refl;
       taken = (taken_toks q.tokens, sym (append-nil (taken_toks q.tokens)));
@@ -199,7 +199,7 @@ version_taken {T} {p} {r} {names} {given} here skip d =
       read = read;
       here = took_on l.1 x.tokens x.stack (subst (λ u. Takes (at.directed d.read) p.stack u None (at.directed read) p.stack) (sym v.2) (turn.directed_more p.stack d.read (raw.version v.0 v.1)))
           (ap (λ n. n.keeping) x.names) (subst (λ n. IsNamed n (at_document n.keeping.tags names read)) (sym x.names) (named_alike p.names.keeping.tags names d.read read same d.here.code))
-          (allowed_version d.read v.0 v.1 d.here.pending d.version) (λ b. (refl, ap is_end v.2)) (ap (gives_position _) v.2) (λ f. ap is_comma v.2) d.here;
+          (allowed_version d.read v.0 v.1 d.here.pending d.version) (λ b. (refl, ap is_end v.2)) tt d.here;
       own = subst (λ n. IsOwn n read) (sym x.names) (own_alike d.read read same d.own);
       version = version_snoc d.read v.0 v.1 ∙ ap (λ n. n + 1) d.version;
       taken = read_more d.read (raw.version v.0 v.1) x.tokens v.2 d.taken;
@@ -229,7 +229,7 @@ directives_say ds w (t ∷ ts) es d = absurd (no_row table.directives (with_dire
 -- Directives that are not allowed are refused with the last one.
 refused_directive : {T : Type 0} {p r : Reader T} {t : Token} {m : Position} (q : Problem) (read : List Directive) (d : Directive) {names : defs.Names} {given : List (Ev × Position)}
     → fits q (kind_of (directive_token d)) ≡ true → is_of_names q ≡ true → (q ≡ UndeclaredHandle → ⊥) → t.0 ≡ m → p.tokens.peeked ≡ Some t → Skips p.tokens t r.tokens → r.names.keeping ≡ p.names.keeping → tok_of t.1 ≡ directive_token d → ((more : List Directive) → are_allowed ((read ++ d ∷ []) ++ more) ≡ false)
-    → IsAfter read (taken_toks p.tokens) → ((before : List Tok) (last : Tok) → SpoilsDirectives before last → IsCause q names (events_of given) before last) → ((b : At (at.directed read) p names given) → StandsApart q (taken_toks p.tokens) b.raw)
+    → IsAfter read (taken_toks p.tokens) → ((before : List Tok) (last : Tok) → SpoilsDirectives before last → IsCause q names (events_of given) before last) → ((b : At (at.directed read) p names given) → StandsBeside q b)
     → At (at.directed read) p names given → Faulted r given (stop.Own (fault.At q m))
 refused_directive {T} {p} {r} {t} {m} q read d {names} {given} fit of_names other mark here skips keep tok bad taken cause apart a =
     unnamed_at q (ap (λ u. fits q (kind_of u)) tok ∙ fit) of_names (inl (sym mark, λ e. absurd (other e))) here skips keep (subst (λ u. Takes (at.directed read) p.stack u None (at.directed (read ++ d ∷ [])) p.stack) (sym tok) (turn.directed_more p.stack read d))
@@ -259,7 +259,7 @@ tag_directive_taken {T} {p} r {t} m {h} {x} {versioned} {names} {given} (Ok u) m
     record {
       read = read;
       here = took_on here skips stack (subst (λ u. Takes (at.directed d.read) p.stack u None (at.directed read) p.stack) (sym tok) (turn.directed_more p.stack d.read (raw.tag h x)))
-          keep (subst (λ b. IsNamed r.names (at_document b.tags names read)) (sym keep) k.0.named) (allowed_tag d.read h x d.here.pending k.1) (λ b. (refl, ap is_end tok)) (ap (gives_position _) tok) (λ f. ap is_comma tok) d.here;
+          keep (subst (λ b. IsNamed r.names (at_document b.tags names read)) (sym keep) k.0.named) (allowed_tag d.read h x d.here.pending k.1) (λ b. (refl, ap is_end tok)) tt d.here;
       own = k.0.own;
       version = tag_snoc d.read h x ∙ d.version;
       taken = read_more d.read (raw.tag h x) skips tok d.taken;

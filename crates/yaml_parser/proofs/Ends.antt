@@ -1,21 +1,24 @@
 -- The shortest way to the end from each position: so no fault is late.
-use Rattle.std.proofs.Common.{◌≡◌, List, [], ◌∷◌, ◌++◌, Some, option_map, Bool, true, false, refl, sym, ap, ◌∙◌, subst, append_assoc, map, inl}
+use Rattle.std.proofs.Common.{◌≡◌, List, [], ◌∷◌, ◌++◌, Option, Some, None, option_map, Bool, true, false, refl, sym, ap, ◌∙◌, subst, append_assoc, inl}
 use Rattle.std.proofs.lemmas.Bool.{both_ways}
 use Rattle.std.proofs.lemmas.List.{map-append}
 use Rattle.std.specs.Option.{IfSome}
 use Rattle.defs_text.specs.Position.{Position}
-use Rattle.defs_token.specs.Token.{Style, Tok}
+use Rattle.defs_token.specs.Token.{Tok}
 use Rattle.defs_event.specs.Event.{Ev}
 use Rattle.defs_event.specs.Raw.{Raw}
 use Rattle.defs_event.specs.Names.{Names, named, names_after, resolved_event, no_names}
 use Rattle.defs_event.proofs.NameLemmas.{both_some}
-use Rattle.defs_event.specs.Stream.{nothing_before, events_of, positions_of, taken_positions, given_positions, StreamSays}
+use Rattle.defs_event.specs.Stream.{events_of, raws_of, to_end, StreamPlaces, StreamSays}
 use Rattle.model_parser.specs.declared.state.State.{State}
 use Rattle.model_parser.specs.declared.state.State.TheVariants as state
+use Rattle.defs_event.specs.Table.{Derives}
+use Rattle.defs_event.specs.Grammar.{grammar}
+use Rattle.model_parser.specs.Goal as at
 use Rattle.model_parser.specs.Goal.{Goal}
-use Rattle.model_parser.specs.Rest.{goal_of}
+use Rattle.model_parser.specs.Rest.{goal_of, work_of, first_may, placed, IsFor}
 use Rattle.yaml_parser.specs.declared.reader.Reader.{Reader}
-use Rattle.yaml_parser.proofs.Completed.{token_nowhere, event_nowhere, position_nowhere, completed}
+use Rattle.yaml_parser.proofs.Completed.{completed}
 use Rattle.defs_token.specs.Token as defs
 use Rattle.yaml_tokens.specs.declared.token.Token.{Token}
 use Rattle.yaml_tokens.specs.Shown.{shown, all_shown, tok_of}
@@ -29,12 +32,16 @@ use Rattle.model_parser.specs.Stands.{IsNext as Begins1, GoesOn, IsSettled, as_t
 use Rattle.model_parser.specs.Turn.{Refuses}
 use Rattle.yaml_parser.specs.Kinds.{IsOfKind}
 use Rattle.yaml_parser.proofs.Steps.{map_snoc, looked, if_some_at}
-use Rattle.yaml_parser.proofs.Positions.{taken_positions_append, given_after_append, positions_length}
-use Rattle.yaml_parser.specs.Handed.{taken_toks, peeked_tok, before_next, shown_list}
-use Rattle.yaml_parser.specs.At.{At, Faulted, IsPending, names_by}
+use Rattle.yaml_parser.proofs.Positions.{stood_over}
+use Rattle.model_parser.proofs.Places.{nowhere, with_positions}
+use Rattle.model_parser.proofs.Quiet.{plain_placed}
+use Rattle.model_parser.proofs.StepRows.{has_goal, needs_tokens}
+use Rattle.yaml_parser.specs.Derived.{stood}
+use Rattle.yaml_parser.specs.Handed.{taken_toks, peeked_tok, last_position, BeginAt, shown_list}
+use Rattle.yaml_parser.specs.At.{At, Faulted, IsPending, is_over, names_by}
 use Rattle.yaml_parser.specs.Blames.{fits, problem_of, is_of_names, IsCause}
 use Rattle.yaml_parser.proofs.Since.{since_append}
-use Rattle.yaml_parser.specs.Apart.{StandsApart}
+use Rattle.yaml_parser.specs.Apart.{StandsApart, token_at, StandsBefore}
 use Rattle.yaml_parser.specs.Derived.{IsDerived}
 use Rattle.yaml_parser.specs.declared.tokens.Stop.TheVariants as stop
 use Rattle.yaml_tokens.specs.declared.problem.Problem.{Problem}
@@ -46,19 +53,56 @@ pub state_pending : (s : State) (names : Names) → IsPending names (goal_of s)
 state_pending state.StreamStart n = tt
 state_pending _ n = tt
 
-named_length : (keep : Bool) (s : Names) (es : List Raw) (vs : List Ev) → named keep s es ≡ Some vs → positions_of (map event_nowhere vs) ≡ map position_nowhere es
-named_length keep s [] vs h = let x : vs ≡ [] = cc in ap (λ ws. positions_of (map event_nowhere ws)) x
-named_length keep s (e ∷ es) vs h =
-    let f = both_some (resolved_event s e) (named keep (names_after keep s e) es) vs h in
-    ap (λ ws. positions_of (map event_nowhere ws)) f.whole ∙ ap (λ ps. position_nowhere e ∷ ps) (named_length keep (names_after keep s e) es f.more f.are_more)
+-- events that were not given, at positions
+abbrev at_places : List Ev → List (Raw × Position) → List (Ev × Position)
+at_places [] ps = []
+at_places (v ∷ vs) [] = []
+at_places (v ∷ vs) (p ∷ ps) = (v, p.1) ∷ at_places vs ps
 
-events_nowhere : (vs : List Ev) → events_of (map event_nowhere vs) ≡ vs
-events_nowhere [] = refl
-events_nowhere (v ∷ vs) = ap (λ ws. v ∷ ws) (events_nowhere vs)
+-- as many as there are events before names are resolved
+at_all : (keep : Bool) (s : Names) (ps : List (Raw × Position)) (vs : List Ev) → named keep s (raws_of ps) ≡ Some vs → (events_of (at_places vs ps) ≡ vs) × (stood (raws_of ps) (at_places vs ps) ≡ ps)
+at_all keep s [] vs h = let x : vs ≡ [] = cc in (ap (λ us. events_of (at_places us [])) x ∙ sym x, refl)
+at_all keep s (p ∷ ps) vs h =
+    let f = both_some (resolved_event s p.0) (named keep (names_after keep s p.0) (raws_of ps)) vs h in
+    let i = at_all keep (names_after keep s p.0) ps f.more f.are_more in
+    (ap (λ us. events_of (at_places us (p ∷ ps))) f.whole ∙ ap (λ us. f.event ∷ us) i.0 ∙ sym f.whole, ap (λ us. stood (raws_of (p ∷ ps)) (at_places us (p ∷ ps))) f.whole ∙ ap (λ l. p ∷ l) i.1)
 
-toks_nowhere : (ts : List Tok) → toks (map token_nowhere ts) ≡ ts
-toks_nowhere [] = refl
-toks_nowhere (t ∷ ts) = ap (λ us. t ∷ us) (toks_nowhere ts)
+-- tokens that all stand where the one does that was looked at
+abbrev place_ahead : Option Token → Position
+place_ahead None = nowhere
+place_ahead (Some t) = t.0
+
+abbrev all_at : Position → List Tok → List defs.Token
+all_at m [] = []
+all_at m (t ∷ ts) = record { position = m; tok = t } ∷ all_at m ts
+
+toks_at : (m : Position) (ts : List Tok) → toks (all_at m ts) ≡ ts
+toks_at m [] = refl
+toks_at m (t ∷ ts) = ap (λ us. t ∷ us) (toks_at m ts)
+
+-- something is still to be read where a token was looked at
+state_reads : (s : State) (ss : List State) → has_goal (work_of at.done (s ∷ ss)) ≡ true
+state_reads state.StreamStart ss = refl
+state_reads _ ss = refl
+
+reads_on : (g : Goal) (ss : List State) → is_over g ≡ false → IsFor g ss → has_goal (work_of g ss) ≡ true
+reads_on at.done [] o f = absurd f
+reads_on at.done (s ∷ ss) o f = state_reads s ss
+reads_on at.ended ss o f = cc
+reads_on g ss o f = refl
+
+begin_ahead : {T : Type 0} (p : Reader T) (g : Goal) (names : Names) (given : List (Ev × Position)) (ts : List Tok) (es : List Raw) → At g p names given → Derives grammar (work_of g p.stack) ts es
+    → BeginAt p.tokens.peeked (all_at (place_ahead p.tokens.peeked) ts)
+begin_ahead {T} p g names given ts es a d = by p.tokens.peeked refl ts d
+  where
+    by : (o : Option Token) → p.tokens.peeked ≡ o → (ts : List Tok) → Derives grammar (work_of g p.stack) ts es → BeginAt o (all_at (place_ahead o) ts)
+    by None h ts d = tt
+    by (Some t) h (u ∷ ts) d = refl
+    by (Some t) h [] d = over_or (is_over g) refl
+      where
+        over_or : (b : Bool) → is_over g ≡ b → ⊥
+        over_or true e = let clash : None ≡ Some t = sym (a.over e) ∙ h in cc
+        over_or false e = needs_tokens (work_of g p.stack) es (reads_on g p.stack e a.stands.fits) d
 
 -- What was given comes of what was taken.
 pub at_derived : {T : Type 0} (g : Goal) (p : Reader T) (names : Names) (given : List (Ev × Position)) → (a : At g p names given)
@@ -68,24 +112,25 @@ at_derived {T} g p names given a =
     let keep = p.names.keeping.tags in
     let c = completed g p.stack in
     let es = c.events in
-    let ts = c.tokens in
+    let us = all_at (place_ahead p.tokens.peeked) c.tokens in
     let n = c.nameable keep names a.pending in
+    let x = with_positions c.awaits.0 (last_position p.tokens) (placed (work_of g p.stack)) us (plain_placed (λ e. None) (work_of g p.stack)) (toks_at (place_ahead p.tokens.peeked) c.tokens) in
+    let y = at_all keep names x.0 n.0 (ap (named keep names) x.1 ∙ n.1) in
+    let more = at_places n.0 x.0 in
     let all = since_append ks keep no_names a.raw es (events_of given) n.0 a.few a.events (ap (λ s. named keep s es) a.names_are ∙ n.1) in
+    let may : first_may g p.stack (toks us) ≡ true = ap (first_may g p.stack) (toks_at (place_ahead p.tokens.peeked) c.tokens) ∙ c.awaits.1 in
     record {
-      more_tokens = map token_nowhere ts;
+      more_tokens = us;
       more_raw = es;
-      more_events = map event_nowhere n.0;
+      more_events = more;
       stream = record {
-        says = subst (λ us. StreamSays us (a.raw ++ es)) (ap (λ us. taken_toks p.tokens ++ us) (sym (toks_nowhere ts)) ∙ sym (map-append (λ (t : defs.Token). t.tok) (all_shown p.tokens.taken.items) (map token_nowhere ts))) (a.stands.sound ts es c.awaits);
-        has_events = all ∙ ap (λ vs. Some (events_of given ++ vs)) (sym (events_nowhere n.0)) ∙ ap Some (sym (map-append (λ (e : Ev × Position). e.0) given (map event_nowhere n.0)));
-        has_positions = ap (taken_positions (a.raw ++ es)) (map-append (λ (e : Ev × Position). e.1) given (map event_nowhere n.0))
-            ∙ taken_positions_append a.raw es (positions_of given) (positions_of (map event_nowhere n.0)) (a.count ∙ sym (positions_length given))
-            ∙ ap (λ ps. ps ++ taken_positions es (positions_of (map event_nowhere n.0))) a.positions
-            ∙ ap (λ ps. given_positions (all_shown p.tokens.taken.items) ++ ps) (ap (taken_positions es) (named_length keep names es n.0 n.1) ∙ c.even (before_next p.tokens) a.comma)
-            ∙ sym (given_after_append nothing_before (all_shown p.tokens.taken.items) (map token_nowhere ts));
+        says = subst (λ vs. StreamSays vs (a.raw ++ es)) (ap (λ vs. taken_toks p.tokens ++ vs) (sym (toks_at (place_ahead p.tokens.peeked) c.tokens)) ∙ sym (map-append (λ (t : defs.Token). t.tok) (all_shown p.tokens.taken.items) us)) (a.stands.sound c.tokens es c.awaits);
+        has_events = all ∙ ap (λ vs. Some (events_of given ++ vs)) (sym y.0) ∙ ap Some (sym (map-append (λ (e : Ev × Position). e.0) given more));
+        places = subst (λ ps. StreamPlaces (all_shown p.tokens.taken.items ++ us) ps)
+            (ap (λ l. stood a.raw given ++ l) (sym y.1 ∙ ap (λ rs. stood rs more) x.1) ∙ sym (stood_over a.raw es given more a.count))
+            (a.places to_end us x.0 (begin_ahead p g names given c.tokens es a c.awaits.0) (x.2, may));
       };
       named = a.events;
-      positions = a.positions;
     }
 
 -- ---- a refused token
@@ -127,6 +172,14 @@ cut {T} {g} {p} {t} {names} {given} here turn a ts es d =
     ap (λ xs. toks xs ++ ts) (handed_with here a) ∙ ap (λ xs. xs ++ ts) (map_snoc (λ (x : defs.Token). x.tok) (all_shown p.tokens.taken.items) (shown t)) ∙ append_assoc (taken_toks p.tokens) (tok_of t.1 ∷ []) ts in
     never here turn a ts es (subst (λ us. StreamSays us es) h d)
 
+-- What stands beside a refused token, and at its place.
+abbrev pub StandsBeside : {T : Type 0} {g : Goal} {p : Reader T} {names : Names} {given : List (Ev × Position)} → Problem → At g p names given → Type 0
+StandsBeside {T} {g} {p} {names} {given} q a =
+    StandsApart q (taken_toks p.tokens) a.raw × ((m : Position) → ((x : Tok) → BeginAt p.tokens.peeked (token_at m x ∷ [])) → StandsBefore q (all_shown p.tokens.taken.items) m (stood a.raw given))
+
+pub at_peeked : {o : Option Token} {t : Token} → o ≡ Some t → (x : Tok) → BeginAt o (token_at t.0 x ∷ [])
+at_peeked {o} {t} here x = subst (λ q. BeginAt q (token_at t.0 x ∷ [])) (sym here) refl
+
 -- the problem has no cause but that the grammar goes on with no such token
 abbrev pub HasNoCause : Problem → Type 0
 HasNoCause q = (names : Names) (events : List Ev) (before : List Tok) (last : Tok) → IsCause q names events before last
@@ -139,7 +192,7 @@ Says q k g p names given = At g p names given → IsKnown g p → (t : Tok) → 
 pub refuses_for : {T : Type 0} {g : Goal} {p : Reader T} {k : Kind} {m : Position} {names : Names} {given : List (Ev × Position)} (q : Problem)
     → is_of_names q ≡ false → fits q k ≡ true → IfSome p.tokens.peeked (λ t. t.0 ≡ m) → IsOfKind k p.tokens.peeked → ((t : Tok) → kind_of t ≡ k → Refuses g p.stack t)
     → ((a : At g p names given) (t : Tok) → kind_of t ≡ k → IsCause q (names_by p.names.keeping a.raw) (events_of given) (taken_toks p.tokens) t)
-    → ((a : At g p names given) → (taken_toks p.tokens ≡ [] → ⊥) → IsKnown g p → StandsApart q (taken_toks p.tokens) a.raw) → Says q k g p names given → At g p names given
+    → ((a : At g p names given) → (taken_toks p.tokens ≡ [] → ⊥) → IsKnown g p → StandsBeside q a) → Says q k g p names given → At g p names given
     → Faulted p given (stop.Own (fault.At q m))
 refuses_for {T} {g} {p} {k} {m} {names} {given} q free fit mark o turn cause apart says a =
     let l = looked k p.tokens.peeked o in
@@ -157,7 +210,8 @@ refuses_for {T} {g} {p} {k} {m} {names} {given} q free fit mark o turn cause apa
         shown = refl;
         fits_it = ap (fits q) l.2 ∙ fit;
         says = λ e. says a (known l.1 no a) (tok_of t.1) (ap (option_map (λ (x : Token). tok_of x.1)) l.1) l.2;
-        apart = λ more. apart a more (known l.1 no a);
+        apart = λ more. (apart a more (known l.1 no a)).0;
+        beside = λ more. (apart a more (known l.1 no a)).1 t.0 (at_peeked l.1);
         cause = cause a (tok_of t.1) l.2;
         stands = inl (sym (if_some_at (λ (x : Token). x.0 ≡ m) mark l.1), λ e. absurd (both_ways (is_of_names q) free (ap is_of_names e)));
         none = λ e. cut l.1 no a;
@@ -167,6 +221,6 @@ refuses_for {T} {g} {p} {k} {m} {names} {given} q free fit mark o turn cause apa
 
 -- the same where the grammar is the only cause
 pub refuses : {T : Type 0} {g : Goal} {p : Reader T} {k : Kind} {m : Position} {names : Names} {given : List (Ev × Position)} (q : Problem)
-    → is_of_names q ≡ false → fits q k ≡ true → IfSome p.tokens.peeked (λ t. t.0 ≡ m) → IsOfKind k p.tokens.peeked → ((t : Tok) → kind_of t ≡ k → Refuses g p.stack t) → HasNoCause q → ((a : At g p names given) → IsKnown g p → StandsApart q (taken_toks p.tokens) a.raw) → Says q k g p names given → At g p names given
+    → is_of_names q ≡ false → fits q k ≡ true → IfSome p.tokens.peeked (λ t. t.0 ≡ m) → IsOfKind k p.tokens.peeked → ((t : Tok) → kind_of t ≡ k → Refuses g p.stack t) → HasNoCause q → ((a : At g p names given) → IsKnown g p → StandsBeside q a) → Says q k g p names given → At g p names given
     → Faulted p given (stop.Own (fault.At q m))
 refuses q free fit mark o turn none apart says a = refuses_for q free fit mark o turn (λ b t h. none _ _ _ t) (λ b h. apart b) says a

@@ -17,39 +17,42 @@ use Rattle.defs_event.specs.Event.{Ev}
 use Rattle.defs_event.specs.Raw.{Raw}
 use Rattle.defs_event.specs.Names.{Names, named, no_names}
 use Rattle.defs_token.specs.Toks.{toks}
-use Rattle.defs_event.specs.Stream.{BeginsPlaced, events_of, positions_of, taken_positions, given_positions, nothing_before, past_all, StreamSays}
+use Rattle.defs_event.specs.Stream.{BeginsPlaced, HasPlacedTo, events_of, positions_of, to_end, to_next, Places, StreamPlaces, StreamPlacesTo, nothing_left, StreamSays}
 use Rattle.defs_event.proofs.NameLemmas.{named_append}
 use Rattle.model_parser.specs.declared.state.State.{State}
 use Rattle.model_parser.specs.declared.state.State.TheVariants as state
 use Rattle.model_parser.specs.Goal as at
 use Rattle.model_parser.specs.Goal.{Goal}
-use Rattle.model_parser.specs.Rest.{goal_of, IsBottom, IsGoing}
+use Rattle.model_parser.specs.Rest.{goal_of, work_of, placed as placed_work, IsBottom, IsGoing}
+use Rattle.model_parser.specs.Place.{top}
 use Rattle.model_parser.specs.Stands.{IsOnTrack}
-use Rattle.model_parser.proofs.Standing.{begins, pops, ends as read_whole}
+use Rattle.model_parser.proofs.Standing.{begins, pops, first_of, top_of, ends as read_whole}
 use Rattle.yaml_parser.specs.declared.event.Event.{Event}
 use Rattle.yaml_parser.specs.declared.tokens.KeptStop.{KeptStop}
-use Rattle.yaml_parser.specs.declared.slot.Slot.{Slot}
+use Rattle.yaml_parser.specs.declared.slot.EventSlot.{EventSlot}
 use Rattle.yaml_parser.specs.declared.tokens.Stop.{Stop}
 use Rattle.yaml_parser.specs.declared.tokens.Stop.TheVariants as stop
-use Rattle.yaml_parser.specs.declared.pull.Pull.{Pull}
+use Rattle.yaml_parser.specs.declared.pull.EventReader.{EventReader}
 use Rattle.yaml_parser.specs.declared.reader.Reader.{Reader}
-use Rattle.yaml_parser.specs.Handed.{taken_toks, peeked_tok, shown_list, ends}
+use Rattle.yaml_parser.specs.Handed.{taken_toks, peeked_tok, behind, last_position, shown_list, ends}
 use Rattle.yaml_parser.specs.Named.{IsNamed}
 use Rattle.yaml_parser.specs.Shown.{placed, ev_of}
 use Rattle.yaml_parser.specs.Work.{Moves, work, weight, weights}
 use Rattle.yaml_parser.specs.Seen.{fault_seen}
 use Rattle.yaml_parser.specs.Parsed.{Parsed, is_stream_end, has_end, read}
 use Rattle.yaml_parser.specs.Blames.{Blames}
-use Rattle.yaml_parser.specs.Derived.{IsDerived}
-use Rattle.yaml_parser.specs.Follows.{Follows, Derives, IsComplete, Refused, IsWhole, Explains, IsOfScanner, listed}
+use Rattle.yaml_parser.specs.Derived.{stood, IsDerived}
+use Rattle.yaml_parser.proofs.Positions.{stood_raws, stood_positions}
+use Rattle.yaml_parser.proofs.Placing.{StandsSo}
+use Rattle.yaml_parser.specs.Follows.{Follows, Derives, IsComplete, Refused, IsWhole, Explains, listed}
 use Rattle.yaml_parser.specs.Halts.{IsHalted}
 use Rattle.yaml_parser.specs.Pulls.{IsSound}
 use Rattle.yaml_parser.specs.View.{fault_kept}
-use Rattle.yaml_parser.specs.At.{At, Answers, Reads, Fails, answered, Faulted, is_over, names_at, named_by, names_by, goal_after_event}
+use Rattle.yaml_parser.specs.At.{At, IsPastColon, Answers, Reads, Fails, answered, Faulted, is_over, names_at, named_by, names_by, goal_after_event}
 use Rattle.yaml_parser.specs.declared.names.Keeping.{Keeping}
 use Rattle.yaml_parser.specs.Settings.{named_since, names_since, AreAll}
 use Rattle.yaml_parser.specs.Held.{Advances, IsHeld, IsMet, Stands, Notes, goal_after}
-use Rattle.yaml_parser.proofs.Since.{since_noted, names_noted, since_other, names_other, since_same}
+use Rattle.yaml_parser.proofs.Since.{since_length, since_noted, names_noted, since_other, names_other, since_same}
 use Rattle.yaml_parser.specs.Nests.{BeginsNested}
 use Rattle.yaml_parser.proofs.Ends.{state_pending, at_derived}
 use Rattle.yaml_parser.proofs.Steps.{begins_peeked}
@@ -74,8 +77,9 @@ popped {T} p s ss {names} {given} h a = record {
   over = λ o. absurd (both_ways (is_over (goal_of s)) (state_going s) o);
   count = a.count;
   few = a.few;
-  positions = a.positions;
-  comma = λ f. a.comma refl;
+  places = λ x ts es begins y.
+      subst (λ zs. StandsSo (all_shown p.tokens.taken.items) p.tokens.peeked (last_position p.tokens) at.done zs (stood a.raw given)) h a.places x ts es begins (y.0, first_of s ss (toks ts) ∙ y.1);
+  colon = subst (λ g. IsPastColon g (last_position p.tokens)) (sym (top_of s ss)) (subst (λ zs. IsPastColon (top at.done zs) (last_position p.tokens)) h a.colon);
   events = a.events;
   names_are = a.names_are;
   code = subst (IsNamed p.names) (sym (state_seen s p.names.keeping.tags names)) a.code;
@@ -123,8 +127,8 @@ at_settings {T} {g} {p} {names} {es} k seen a few named names_same = record {
   over = a.over;
   count = a.count;
   few = few;
-  positions = a.positions;
-  comma = a.comma;
+  places = a.places;
+  colon = a.colon;
   events = named ∙ a.events;
   names_are = names_same ∙ a.names_are;
   code = subst (IsNamed (record (p.names) { keeping = k })) (sym seen) (record { count = a.code.count; anchors = a.code.anchors; handles = a.code.handles; numbers = a.code.numbers });
@@ -183,15 +187,15 @@ closed_at {T} false p h a = absurd (subst IsGoing h a.stands.fits)
 pub closed : {T : Type 0} (p : Reader T) (es : List (Ev × Position)) → p.stack ≡ [] → IsHeld p es None → has_end es ≡ true
 closed {T} p es h x = closed_at (has_end es) p h x.here
 
-pub pulled : {T E : Type 0} (p r : Reader T) (s : State) (ss : List State) (es : List (Ev × Position)) (slot : Slot) (k : Keeping)
+pub pulled : {T E : Type 0} (p r : Reader T) (s : State) (ss : List State) (es : List (Ev × Position)) (slot : EventSlot) (k : Keeping)
     → p.stack ≡ s ∷ ss → IsHeld p es None → Reads {E = E} (goal_of s) (record p { stack = ss }) r (Ok (tt {0})) slot → Moves {E = E} (weight s) 1 (record p { stack = ss }) r (Ok (tt {0})) → Notes r.names.keeping k
     → (has_end es ≡ false) × (work r < work p) × Notes p.names.keeping k × IsHeld (record r { names = record (r.names) { keeping = k } }) (es ++ placed slot.next ∷ []) None
-pulled {T} p r s ss es slot k h x reads moves notes =
+pulled {T} p r s ss es slot k h x reads bounds notes =
     let e = slot.next in
     let o = open_at (has_end es) p s ss h x.here in
     let a = answered_at r es e o.0 (reads x.names es (popped p s ss h o.1)) in
-    let keep : r.names.keeping ≡ p.names.keeping = moves.input.keeping in
-    let less : work r + 1 ≤ work (record p { stack = ss }) + weight s = moves.bound in
+    let keep : r.names.keeping ≡ p.names.keeping = bounds.input.keeping in
+    let less : work r + 1 ≤ work (record p { stack = ss }) + weight s = bounds.bound in
     let popped_is = popped_work p s ss h in
     let each : length r.names.keeping.settings.items + 1 ≡ length (es ++ placed e ∷ []) = ap (λ q. length q.settings.items + 1) keep ∙ ap (λ n. n + 1) x.each ∙ sym (length-append es (placed e ∷ [])) in
     (o.0, omega (arith, less, popped_is), subst (λ q. Notes q k) keep notes, noted_stands r k (es ++ placed e ∷ []) a.0 notes a.1 each)
@@ -202,11 +206,11 @@ failed {T} p r s ss es u h x reads =
     let o = open_at (has_end es) p s ss h x.here in
     (o.0, reads x.names es (popped p s ss h o.1))
 
-pub advances_err : {T E : Type 0} (old new : Pull T) (es : List (Ev × Position)) (r : Result (Unit {0}) E) (x : E) (slot : Slot) → IsErrAnd r (λ e. e ≡ x) → Advances old es (Err slot.stop) new → Advances old es (answered r slot) new
+pub advances_err : {T E : Type 0} (old new : EventReader T) (es : List (Ev × Position)) (r : Result (Unit {0}) E) (x : E) (slot : EventSlot) → IsErrAnd r (λ e. e ≡ x) → Advances old es (Err slot.stop) new → Advances old es (answered r slot) new
 advances_err old new es (Ok u) x slot h a = absurd h
 advances_err old new es (Err e) x slot h a = a
 
-pub keeps : {T : Type 0} (p : Pull T) (es : List (Ev × Position)) (u : Stop) {f : ErrorReport} → fault_kept p ≡ Some f → IfSome p.kept (λ k. k.stop ≡ u) → (has_end es ≡ false) × Faulted p.reader es u → IsHeld p.reader es p.kept × IsMet p.reader es p.kept
+pub keeps : {T : Type 0} (p : EventReader T) (es : List (Ev × Position)) (u : Stop) {f : ErrorReport} → fault_kept p ≡ Some f → IfSome p.kept (λ k. k.stop ≡ u) → (has_end es ≡ false) × Faulted p.reader es u → IsHeld p.reader es p.kept × IsMet p.reader es p.kept
 keeps {T} p es u {f} h k x = kept_at p.reader es u p.kept is_kept k x
   where
     kept_at : (r : Reader T) (es : List (Ev × Position)) (u : Stop) (o : Option KeptStop) → IsSome o → IfSome o (λ k. k.stop ≡ u) → (has_end es ≡ false) × Faulted r es u → IsHeld r es o × IsMet r es o
@@ -241,8 +245,9 @@ begun {T} p stack peeked taken given ended clear code none = record {
     over = λ o. peeked;
     count = refl;
     few = subst (λ xs. length xs ≤ 0) (sym none) (omega arith);
-    positions = sym (ap (λ ts. given_positions (all_shown ts)) taken);
-    comma = λ f. ap (λ ts. (past_all nothing_before (all_shown ts)).comma) taken;
+    places = λ x ts es begins y. subst (λ us. StreamPlacesTo x (all_shown us ++ ts) es) (sym taken)
+        (subst (λ ss. Places x None (placed_work (work_of at.done ss)) ts es) stack (subst (λ us. Places x (behind None (all_shown us)) (placed_work (work_of at.done p.stack)) ts es) taken y.0));
+    colon = subst (λ ss. IsPastColon (top at.done ss) (last_position p.tokens)) (sym stack) tt;
     events = ap (λ xs. named_since xs p.names.keeping.tags no_names []) none;
     names_are = ap (λ xs. names_since xs p.names.keeping.tags no_names []) none;
     code = code;
@@ -282,6 +287,18 @@ named_steady : {T : Type 0} (p : Reader T) (v : Parsed) (es : List (Ev × Positi
 named_steady {T} p v es raw vs steady s h =
     ap (λ k. named k no_names raw) s.keep_tags ∙ sym (since_same p.names.keeping.settings.items p.names.keeping.tags no_names raw steady) ∙ h
 
+events_length : (es : List (Ev × Position)) → length (events_of es) ≡ length es
+events_length [] = refl
+events_length (e ∷ es) = omega (arith, events_length es)
+
+-- as many events as there are before names are resolved
+pub many : (ks : List Bool) (k : Bool) (raw : List Raw) (es : List (Ev × Position)) → named_since ks k no_names raw ≡ Some (events_of es) → length raw ≡ length es
+many ks k raw es h = since_length ks k no_names raw (events_of es) h ∙ events_length es
+
+bottom : (ss : List State) → IsBottom ss → ss ≡ []
+bottom [] b = refl
+bottom (s ∷ ss) b = absurd b
+
 -- Events that come of tokens, where all settings were the same.
 derived_begins : {T : Type 0} (p : Reader T) (v : Parsed) (es : List (Ev × Position)) (before : List defs.Token) (raw : List Raw) → IsSteady p → Shows p es v
     → IsDerived p.names.keeping.settings.items p.names.keeping.tags before raw es → BeginsPlaced v.keep_tags before (read v)
@@ -289,12 +306,23 @@ derived_begins {T} p v es before raw steady s d = subst (BeginsPlaced v.keep_tag
   more_tokens = d.more_tokens;
   more_events = d.more_events;
   stream = record {
-    raws = raw ++ d.more_raw;
-    says = d.stream.says;
-    has_events = named_steady p v es (raw ++ d.more_raw) _ steady s d.stream.has_events;
-    has_positions = d.stream.has_positions;
+    raws = stood (raw ++ d.more_raw) (es ++ d.more_events);
+    says = d.stream.places;
+    has_events = ap (named v.keep_tags no_names) (stood_raws (raw ++ d.more_raw) (es ++ d.more_events) (many p.names.keeping.settings.items p.names.keeping.tags (raw ++ d.more_raw) (es ++ d.more_events) d.stream.has_events)) ∙ named_steady p v es (raw ++ d.more_raw) _ steady s d.stream.has_events;
+    has_positions = stood_positions (raw ++ d.more_raw) (es ++ d.more_events) (many p.names.keeping.settings.items p.names.keeping.tags (raw ++ d.more_raw) (es ++ d.more_events) d.stream.has_events);
   };
 })
+
+-- Events of all tokens that were taken, where all settings were the same.
+halted_has : {T : Type 0} (p : Reader T) (v : Parsed) (es : List (Ev × Position)) (ts : List defs.Token) → IsSteady p → Shows p es v → IsHalted p.names.keeping.settings.items p.names.keeping.tags ts es → HasPlacedTo to_next v.keep_tags ts (read v)
+halted_has {T} p v es ts steady s x =
+    let count = many p.names.keeping.settings.items p.names.keeping.tags x.raw es x.derived.named in
+    subst (HasPlacedTo to_next v.keep_tags ts) (sym s.events) (record {
+      raws = stood x.raw es;
+      says = x.so_far;
+      has_events = ap (named v.keep_tags no_names) (stood_raws x.raw es count) ∙ named_steady p v es x.raw (events_of es) steady s x.derived.named;
+      has_positions = stood_positions x.raw es count;
+    })
 
 at_follows : {T : Type 0} {g : Goal} (p : Reader T) (names : Names) (es : List (Ev × Position)) → At g p names es → IsSteady p → (v : Parsed) → Shows p es v → Follows v
 at_follows {T} {g} p names es a steady v s =
@@ -315,6 +343,15 @@ at_follows {T} {g} p names es a steady v s =
 shown_named : {T : Type 0} (p : Reader T) (v : Parsed) (es : List (Ev × Position)) (raw : List Raw) (vs : List Ev) → Shows p es v → named_by p.names.keeping raw ≡ Some vs → named_since v.settings v.keep_tags no_names raw ≡ Some vs
 shown_named {T} p v es raw vs s h = ap (λ ks. named_since ks v.keep_tags no_names raw) s.settings ∙ ap (λ k. named_since p.names.keeping.settings.items k no_names raw) s.keep_tags ∙ h
 
+-- At the stream's end nothing is awaited any more.
+all_placed : {T : Type 0} (p : Reader T) (names : Names) (es : List (Ev × Position)) → (a : At at.ended p names es) → StreamPlaces (all_shown p.tokens.taken.items) (stood a.raw es)
+all_placed {T} p names es a =
+    let none : p.stack ≡ [] = bottom p.stack a.stands.fits in
+    let all : StandsSo (all_shown p.tokens.taken.items) None (last_position p.tokens) at.ended [] (stood a.raw es) =
+    subst (λ ss. StandsSo (all_shown p.tokens.taken.items) None (last_position p.tokens) at.ended ss (stood a.raw es)) none
+    (subst (λ o. StandsSo (all_shown p.tokens.taken.items) o (last_position p.tokens) at.ended p.stack (stood a.raw es)) (a.over refl) a.places) in
+    subst (λ ts. StreamPlaces ts (stood a.raw es)) (append-nil (all_shown p.tokens.taken.items)) (subst (λ xs. StreamPlaces (all_shown p.tokens.taken.items ++ []) xs) (append-nil (stood a.raw es)) (all to_end [] [] tt (nothing_left, refl)))
+
 at_complete : {T : Type 0} (p : Reader T) (names : Names) (es : List (Ev × Position)) → At at.ended p names es → (v : Parsed) → Shows p es v → IsComplete v
 at_complete {T} p names es a v s =
     let taken : v.scanner.given ≡ all_shown p.tokens.taken.items = ap (λ x. x.given) s.scanner ∙ a.handed ∙ ap (λ o. all_shown p.tokens.taken.items ++ shown_list o) (a.over refl) ∙ append-nil (all_shown p.tokens.taken.items) in
@@ -324,7 +361,7 @@ at_complete {T} p names es a v s =
       stream = record {
         says = subst (λ ts. StreamSays ts a.raw) (ap toks (sym taken)) o.0;
         has_events = shown_named p v es a.raw (events_of es) s a.events ∙ ap (λ x. Some (events_of x)) (sym s.events);
-        has_positions = ap (λ x. taken_positions a.raw (positions_of x)) s.events ∙ a.positions ∙ ap given_positions (sym taken);
+        places = subst (λ x. StreamPlaces v.scanner.given (stood a.raw x)) (sym s.events) (subst (λ ts. StreamPlaces ts (stood a.raw es)) (sym taken) (all_placed p names es a));
       };
       only = λ ts fs d. (o.1 ts fs (subst (λ us. StreamSays us fs) (ap (λ z. toks z ++ ts) taken) d)).0;
     }
@@ -336,10 +373,10 @@ at_whole {T} p names es a steady v s =
     let events : named v.keep_tags no_names a.raw ≡ Some (events_of (read v)) = named_steady p v es a.raw (events_of es) steady s a.events ∙ ap (λ x. Some (events_of x)) (sym s.events) in
     record {
       stream = record {
-        raws = a.raw;
-        says = subst (λ ts. StreamSays ts a.raw) (ap toks (sym taken)) o.0;
-        has_events = events;
-        has_positions = ap (λ x. taken_positions a.raw (positions_of x)) s.events ∙ a.positions ∙ ap given_positions (sym taken);
+        raws = stood a.raw es;
+        says = subst (λ ts. StreamPlaces ts (stood a.raw es)) (sym taken) (all_placed p names es a);
+        has_events = ap (named v.keep_tags no_names) (stood_raws a.raw es a.count) ∙ events;
+        has_positions = stood_positions a.raw es a.count ∙ ap positions_of (sym s.events);
       };
       only = λ ts fs x.
           let u = o.1 ts x.raws (subst (λ us. StreamSays us x.raws) (ap (λ z. toks z ++ ts) taken) x.says) in
@@ -431,6 +468,7 @@ explained {T} p es stop.Scan m f h x known v s =
       settled = λ wants. ap (λ z. z.early) s.scanner ∙ on_time (scanned p.tokens.scanner).fault (kept_some (scanned p.tokens.scanner).fault _ x.0.0 h) x.0.1 wants;
       halted = shown_halted p es v s x.1;
       begins = λ steady. subst (λ ts. BeginsPlaced v.keep_tags ts (read v)) (ap (λ z. z.given) (sym s.scanner)) (derived_begins p v es (scanned p.tokens.scanner).given x.1.raw (known (sym s.steady ∙ steady)) s x.1.derived);
+      so_far = λ steady. subst (λ ts. HasPlacedTo to_next v.keep_tags ts (read v)) (ap (λ z. z.given) (sym s.scanner)) (halted_has p v es (scanned p.tokens.scanner).given (known (sym s.steady ∙ steady)) s x.1);
     })
   where
     kept_some : (o : Option ErrorReport) (d : ErrorReport) {g : ErrorReport} → IsSome o → unwrap_or o d ≡ g → o ≡ Some g

@@ -12,7 +12,7 @@ use Rattle.defs_event.proofs.Shaped.{Shaped, named_shaped}
 use Rattle.defs_event.proofs.StreamNests.{shaped_nests}
 use Rattle.model_parser.specs.Goal.{Goal}
 use Rattle.model_parser.specs.Rest.{works, Awaits}
-use Rattle.model_parser.proofs.Rows.{row_taken, row_left, no_row, said, needs_tokens, steps, by_steps, refuses, not_refused}
+use Rattle.model_parser.proofs.StepRows.{row_taken, row_left, no_row, said, needs_tokens, steps, by_steps, refuses, not_refused}
 use Rattle.model_parser.proofs.Endings.{end_tokens, end_events, goes_so}
 use Rattle.defs_event.specs.Names.{Names, no_names, named, both, names_after, resolved_event}
 use Rattle.defs_event.specs.Raw.{Raw, Directive}

@@ -1,8 +1,8 @@
 -- The arms of the productions of nodes.
-use Rattle.std.proofs.Common.{◌≡◌, ◌≢◌, ℕ, List, [], ◌∷◌, ◌++◌, Option, Some, None, option_map, is_some, Bool, true, false, ◌||◌, Result, Ok, Err, refl, sym, ap, ◌∙◌, subst, append_assoc, ◌⊎◌, inl, inr}
+use Rattle.std.proofs.Common.{◌≡◌, ◌≢◌, ℕ, List, [], ◌∷◌, ◌++◌, Option, Some, None, option_map, is_some, Bool, true, false, Result, Ok, Err, refl, sym, ap, ◌∙◌, subst, append_assoc, ◌⊎◌, inl, inr}
 use Rattle.std.specs.Result.{OnOk, OnErr}
 use Rattle.std.specs.Option.{IsSome, IfSome}
-use Rattle.std.proofs.lemmas.Bool.{or_parts, both_ways}
+use Rattle.std.proofs.lemmas.Bool.{both_ways}
 use Rattle.defs_text.specs.Position.{Position}
 use Rattle.defs_token.specs.Token as defs
 use Rattle.defs_token.specs.Token.{Tok, Style}
@@ -21,7 +21,7 @@ use Rattle.defs_event.specs.Properties as written
 use Rattle.defs_event.specs.Properties.{perhaps_anchor_of, perhaps_tag_of}
 use Rattle.defs_event.specs.Names.{Names, number, with_anchor, names_after, both, named, no_names, resolved_event, perhaps_resolved, resolved, under_name, prefix_of}
 use Rattle.defs_token.specs.Toks.{toks}
-use Rattle.defs_event.specs.Stream.{StreamSays, events_of, is_comma, place_of, has_position, gives_position}
+use Rattle.defs_event.specs.Stream.{StreamSays, events_of}
 use Rattle.model_parser.specs.declared.kind.Kind.{Kind}
 use Rattle.model_parser.specs.declared.context.NodeContext as positions
 use Rattle.model_parser.specs.declared.context.NodeContext.TheVariants as context
@@ -36,8 +36,8 @@ use Rattle.model_parser.specs.Rest.{Works, works, past, place_of as where_it_sta
 use Rattle.defs_event.specs.Table.{show, empty, Row, takes, leaves, row_of, reading, Derives}
 use Rattle.defs_event.specs.Grammar as table
 use Rattle.defs_event.specs.Grammar.{Held, Place, event_of, empty_event, cases, grammar}
-use Rattle.proof_grammar.proofs.Falls.{text, after_text}
-use Rattle.model_parser.proofs.Rows.{row_taken, row_left, said, needs_tokens}
+use Rattle.model_parser.proofs.Falls.{text, after_text}
+use Rattle.model_parser.proofs.StepRows.{row_taken, row_left, said, needs_tokens}
 use Rattle.model_parser.proofs.Endings.{end_tokens, end_events, goes_so}
 use Rattle.model_parser.specs.Stands.{IsNext as Starts}
 use Rattle.model_parser.specs.Turn.{Takes, Leaves, event_then}
@@ -46,26 +46,24 @@ use Rattle.model_parser.proofs.Apart.{no_two_anchors}
 use Rattle.yaml_parser.specs.declared.node.Properties.{Properties}
 use Rattle.yaml_parser.specs.declared.tokens.Stop.{Stop}
 use Rattle.yaml_parser.specs.declared.tokens.Stop.TheVariants as stop
-use Rattle.yaml_parser.specs.declared.slot.Slot.{Slot}
+use Rattle.yaml_parser.specs.declared.slot.EventSlot.{EventSlot}
 use Rattle.yaml_parser.specs.declared.reader.Reader.{Reader}
 use Rattle.yaml_parser.specs.declared.tokens.Tokens.{Tokens}
 use Rattle.yaml_parser.specs.Ahead.{Skips, SkipsOne}
 use Rattle.yaml_parser.specs.Blames.{fits, is_of_names, IsCause, HasUnknownAnchor, HasUndeclaredHandle, StandsAt, EndsInAnchor}
 use Rattle.yaml_parser.specs.Derived.{IsDerived}
-use Rattle.yaml_parser.specs.Handed.{taken_toks, peeked_tok, before_next, shown_list}
+use Rattle.yaml_parser.specs.Handed.{taken_toks, peeked_tok, last_position, BeginAt, shown_list}
 use Rattle.yaml_parser.specs.Kinds.{IsOfKind}
 use Rattle.yaml_parser.specs.Named.{IsNamed}
 use Rattle.yaml_parser.specs.Properties.{Has, Registers, name_of, kept_tag}
 use Rattle.yaml_parser.specs.Shown.{placed}
 use Rattle.yaml_parser.specs.At.{At, Answers, Faulted, answered, named_by, names_by, goal_after_event, IsPending}
-use Rattle.yaml_parser.proofs.Positions.{ends_mapping, own_place, is_irregular}
 use Rattle.yaml_parser.proofs.Steps.{looked, took, took_on, left, Named, breaks, map_snoc, if_some_at}
-use Rattle.yaml_parser.proofs.Arms.{Skipped, stays, stay, not_as, faulted_as}
-use Rattle.yaml_parser.proofs.Ends.{at_derived}
+use Rattle.yaml_parser.proofs.Arms.{StandsHere, HasNoColon, here_at, under_no_colon, Skipped, stays, stay, not_as, faulted_as}
+use Rattle.yaml_parser.proofs.Ends.{at_derived, StandsBeside, at_peeked}
 use Rattle.yaml_parser.proofs.Completed.{completed}
 use Rattle.yaml_parser.proofs.Since.{since_stops}
 use Rattle.yaml_parser.proofs.Ways.{apart_as, node_apart, node_ways, anchored_ways}
-use Rattle.yaml_parser.specs.Apart.{StandsApart}
 
 -- ---- an event with properties
 
@@ -96,32 +94,25 @@ made_named {T} {p} {r} {mk} {f} {s} {o} {x} k h keep code = record {
 }
 
 -- The start of a collection is taken, and its properties are registered.
-pub starts : {T E : Type 0} (m : Position) {p q : Reader T} (r : Reader T) {k k' : Kind} {w : positions.NodeContext} {o : Option written.Properties} {x : Option Properties} {ss : List State} (mk : Option (List ℕ) → Option event.Tag → Raw) (f : ℕ → Option event.Tag → Ev) {s : Names} {given : List (Ev × Position)} (res : Result (Unit {0}) E) (slot : Slot)
-    → Makes mk f → IsOfKind k' p.tokens.peeked → k' ≡ k → HasNoText k → is_irregular (tok_of_kind k) ≡ false
-    → ((a : Option (List ℕ)) (t : Option event.Tag) → has_position (mk a t) ≡ gives_position (before_next p.tokens).around (tok_of_kind k)) → IfSome p.tokens.peeked (λ t. t.0 ≡ m) → Skipped p q ss
+pub starts : {T E : Type 0} (m : Position) {p q : Reader T} (r : Reader T) {k k' : Kind} {w : positions.NodeContext} {o : Option written.Properties} {x : Option Properties} {ss : List State} (mk : Option (List ℕ) → Option event.Tag → Raw) (f : ℕ → Option event.Tag → Ev) {s : Names} {given : List (Ev × Position)} (res : Result (Unit {0}) E) (slot : EventSlot)
+    → Makes mk f → IsOfKind k' p.tokens.peeked → k' ≡ k → HasNoText k → is_end (tok_of_kind k) ≡ false
+    → ((a : Option (List ℕ)) (t : Option event.Tag) → StandsHere (mk a t)) → HasNoColon at.done ss → IfSome p.tokens.peeked (λ t. t.0 ≡ m) → Skipped p q ss
     → Takes (at.after_properties w o) p.stack (tok_of_kind k) (Some (mk (perhaps_anchor_of o) (perhaps_tag_of o))) at.done ss
     → ((names : Names) → IsNamed q.names names → OnOk res (Registers q x names (λ a t. placed slot.next ≡ (f a t, m)) r)) → OnErr res (slot.stop ≡ stop.Own OutOfMemory)
     → ((a : ℕ) (t : Option event.Tag) → goal_after_event (f a t) ≡ at.done)
     → Has s o x → At (at.after_properties w o) p s given → Answers r given (answered res slot)
-starts {T} {E} m {p} {q} r {k} {k'} {w} {o} {x} {ss} mk f {s} {given} (Err u) slot makes here h plain end alike mark skip turn registers err no_end has a = subst (Faulted r given) (sym err) tt
-starts {T} {E} m {p} {q} r {k} {k'} {w} {o} {x} {ss} mk f {s} {given} (Ok e) slot makes here h plain end alike mark skip turn registers err no_end has a =
+starts {T} {E} m {p} {q} r {k} {k'} {w} {o} {x} {ss} mk f {s} {given} (Err u) slot makes here h plain end alike colon mark skip turn registers err no_end has a = subst (Faulted r given) (sym err) tt
+starts {T} {E} m {p} {q} r {k} {k'} {w} {o} {x} {ss} mk f {s} {given} (Ok e) slot makes here h plain end alike colon mark skip turn registers err no_end has a =
     let l = looked k' p.tokens.peeked here in
     let t = l.0 in
     let y = skip t l.1 in
     let g = registers s (subst (λ n. IsNamed n s) (sym y.names) a.code) in
     let same : tok_of t.1 ≡ tok_of_kind k = tok_is (l.2 ∙ h) plain in
-    let one_end = or_parts (is_end (tok_of_kind k)) (is_comma (tok_of_kind k) || ends_mapping (tok_of_kind k)) end in
-    let others = or_parts (is_comma (tok_of_kind k)) (ends_mapping (tok_of_kind k)) one_end.1 in
     let v : Ev × Position = (f (number s (name_of x)) (kept_tag x), m) in
     let one : At at.done r (with_anchor s (name_of x)) (given ++ v ∷ []) =
     took m l.1 (subst (λ u. Skips p.tokens t u) (sym g.tokens) y.tokens) (g.stack ∙ y.stack) (subst (λ u. Takes (at.after_properties w o) p.stack u (Some (mk (perhaps_anchor_of o) (perhaps_tag_of o))) at.done ss) (sym same) turn)
-    (made_named makes has (g.keep ∙ ap (λ n. n.keeping) y.names) g.code) (λ b. (refl, ap is_end same ∙ one_end.0))
-    (record {
-      alike = alike _ _ ∙ sym (ap (gives_position (before_next p.tokens).around) same);
-      here = λ b. sym (if_some_at (λ (z : Token). z.0 ≡ m) mark l.1) ∙ sym (own_place (tok_of t.1) (before_next p.tokens).comma t.0 (ap ends_mapping same ∙ others.1));
-      other = ap is_comma same ∙ others.0;
-    })
-    a in
+    (made_named makes has (g.keep ∙ ap (λ n. n.keeping) y.names) g.code) (λ b. (refl, ap is_end same ∙ end))
+    (here_at (last_position p.tokens) (mk (perhaps_anchor_of o) (perhaps_tag_of o)) (shown t) m (alike (perhaps_anchor_of o) (perhaps_tag_of o)) (if_some_at (λ (z : Token). z.0 ≡ m) mark l.1)) (colon (Some t.0)) a in
     let two : (names : Names) × At (goal_after_event v.0) r names (given ++ v ∷ []) = (with_anchor s (name_of x), subst (λ g. At g r (with_anchor s (name_of x)) (given ++ v ∷ [])) (sym (no_end _ _)) one) in
     subst (λ z. (names : Names) × At (goal_after_event z.0) r names (given ++ z ∷ [])) (sym g.value) two
 
@@ -129,9 +120,9 @@ starts {T} {E} m {p} {q} r {k} {k'} {w} {o} {x} {ss} mk f {s} {given} (Ok e) slo
 pub scalar_taken : {T : Type 0} (m : Position) {p q r : Reader T} {y : Style} {v : List ℕ} {n : ℕ} {u : Option event.Tag} {w : positions.NodeContext} {o : Option written.Properties} {x : Option Properties} {ss : List State} {s : Names} {given : List (Ev × Position)}
     → {t : Token} → p.tokens.peeked ≡ Some t → t.0 ≡ m → Skips p.tokens t q.tokens → q.stack ≡ ss → q.names ≡ p.names → tok_of t.1 ≡ Tok.scalar y v
     → Takes (at.after_properties w o) p.stack (Tok.scalar y v) (Some (Raw.scalar v y (perhaps_anchor_of o) (perhaps_tag_of o))) at.done ss
-    → ((names : Names) → IsNamed q.names names → Registers q x names (λ a b. (n ≡ a) × (u ≡ b)) r)
+    → ((names : Names) → IsNamed q.names names → Registers q x names (λ a b. (n ≡ a) × (u ≡ b)) r) → HasNoColon at.done ss
     → Has s o x → At (at.after_properties w o) p s given → (names : Names) × At at.done r names (given ++ (Ev.scalar v y n u, m) ∷ [])
-scalar_taken {T} m {p} {q} {r} {y} {v} {n} {u} {w} {o} {x} {ss} {s} {given} {t} here mark skips stack names_same tok turn registers has a =
+scalar_taken {T} m {p} {q} {r} {y} {v} {n} {u} {w} {o} {x} {ss} {s} {given} {t} here mark skips stack names_same tok turn registers colon has a =
     let g = registers s (subst (λ z. IsNamed z s) (sym names_same) a.code) in
     let e : Ev.scalar v y (number s (name_of x)) (kept_tag x) ≡ Ev.scalar v y n u = ap (λ z. Ev.scalar v y z (kept_tag x)) (sym g.value.0) ∙ ap (λ z. Ev.scalar v y n z) (sym g.value.1) in
     let makes : Makes (λ a b. Raw.scalar v y a b) (λ a b. Ev.scalar v y a b) = record { resolves = λ s a b. refl; after_it = λ k s a b. refl } in (
@@ -139,23 +130,25 @@ scalar_taken {T} m {p} {q} {r} {y} {v} {n} {u} {w} {o} {x} {ss} {s} {given} {t} 
       subst (λ z. At at.done r (with_anchor s (name_of x)) (given ++ (z, m) ∷ [])) e
           (took m here (subst (λ z. Skips p.tokens t z) (sym g.tokens) skips) (g.stack ∙ stack) (subst (λ z. Takes (at.after_properties w o) p.stack z (Some (Raw.scalar v y (perhaps_anchor_of o) (perhaps_tag_of o))) at.done ss) (sym tok) turn)
           (made_named makes has (g.keep ∙ ap (λ z. z.keeping) names_same) g.code) (λ b. (refl, ap is_end tok))
-          (record { alike = sym (ap (gives_position _) tok); here = λ b. sym mark ∙ sym (ap (λ z. place_of z (before_next p.tokens).comma t.0) tok); other = ap is_comma tok }) a),
+          (here_at (last_position p.tokens) (Raw.scalar v y (perhaps_anchor_of o) (perhaps_tag_of o)) (shown t) m (λ b k. refl) mark) (colon (Some t.0)) a),
     )
 
 -- Properties alone are registered, and the token stays.
 pub properties_left : {T : Type 0} (m : Position) {p r : Reader T} {k : Kind} {n : ℕ} {u : Option event.Tag} (o : Option written.Properties) {x : Properties} {s : Names} {given : List (Ev × Position)}
-    → IsOfKind k p.tokens.peeked → ((o' : written.Properties) (t : Tok) → kind_of t ≡ k → Leaves (at.after_properties context.Flow (Some o')) p.stack (Some t) (Some (Raw.empty_scalar (written.anchor_of o') (written.tag_of o'))) at.done p.stack)
+    → IsOfKind k p.tokens.peeked → IfSome p.tokens.peeked (λ t. t.0 ≡ m) → ((o' : written.Properties) (t : Tok) → kind_of t ≡ k → Leaves (at.after_properties context.Flow (Some o')) p.stack (Some t) (Some (Raw.empty_scalar (written.anchor_of o') (written.tag_of o'))) at.done p.stack)
     → ((names : Names) → IsNamed p.names names → Registers p (Some x) names (λ a b. (n ≡ a) × (u ≡ b)) r)
     → Has s o (Some x) → At (at.after_properties context.Flow o) p s given → (names : Names) × At at.done r names (given ++ (Ev.scalar [] Style.plain n u, m) ∷ [])
-properties_left {T} m {p} {r} {k} {n} {u} None {x} {s} {given} here turn registers has a = let b : false ≡ true = has.both in cc
-properties_left {T} m {p} {r} {k} {n} {u} (Some o) {x} {s} {given} here turn registers has a =
+properties_left {T} m {p} {r} {k} {n} {u} None {x} {s} {given} here mark turn registers has a = let b : false ≡ true = has.both in cc
+properties_left {T} m {p} {r} {k} {n} {u} (Some o) {x} {s} {given} here mark turn registers has a =
     let l = looked k p.tokens.peeked here in
     let g = registers s a.code in
     let e : Ev.scalar [] Style.plain (number s (name_of (Some x))) (kept_tag (Some x)) ≡ Ev.scalar [] Style.plain n u = ap (λ z. Ev.scalar [] Style.plain z (kept_tag (Some x))) (sym g.value.0) ∙ ap (λ z. Ev.scalar [] Style.plain n z) (sym g.value.1) in
     let makes : Makes (λ a b. Raw.empty_scalar a b) (λ a b. Ev.scalar [] Style.plain a b) = record { resolves = λ s a b. refl; after_it = λ k s a b. refl } in (
       with_anchor s (name_of (Some x)),
       subst (λ z. At at.done r (with_anchor s (name_of (Some x))) (given ++ (z, m) ∷ [])) e
-          (left m (ap (option_map (λ (z : Token). tok_of z.1)) l.1) g.tokens g.stack (turn o (tok_of l.0.1) l.2) (made_named makes has g.keep g.code) refl refl a),
+          (left m (ap (option_map (λ (z : Token). tok_of z.1)) l.1) g.tokens g.stack (turn o (tok_of l.0.1) l.2) (made_named makes has g.keep g.code) refl
+          (λ j begins. here_at (last_position p.tokens) (Raw.empty_scalar (written.anchor_of o) (written.tag_of o)) j m (λ b k. refl) (subst (λ q. BeginAt q (j ∷ [])) l.1 begins ∙ if_some_at (λ (z : Token). z.0 ≡ m) mark l.1))
+          (under_no_colon p.stack a.stands.fits.0 (last_position p.tokens)) a),
     )
 
 -- ---- a name that stands for nothing
@@ -171,7 +164,7 @@ pub unnamed_at : {T : Type 0} {g g' : Goal} {p r : Reader T} {t : Token} {m : Po
     → fits q (kind_of (tok_of t.1)) ≡ true → is_of_names q ≡ true → StandsAt q m (all_shown p.tokens.taken.items) (shown t)
     → p.tokens.peeked ≡ Some t → Skips p.tokens t r.tokens → r.names.keeping ≡ p.names.keeping → Takes g p.stack (tok_of t.1) e g' ss
     → ((ts : List Tok) (es : List Raw) → Awaits g' ss ts es → Unnameable p.names.keeping.tags names (event_then e es))
-    → IsCause q names (events_of given) (taken_toks p.tokens) (tok_of t.1) → ((a : At g p names given) → StandsApart q (taken_toks p.tokens) a.raw)
+    → IsCause q names (events_of given) (taken_toks p.tokens) (tok_of t.1) → ((a : At g p names given) → StandsBeside q a)
     → At g p names given → Faulted r given (stop.Own (fault.At q m))
 unnamed_at {T} {g} {g'} {p} {r} {t} {m} {ss} {e} {names} {given} q fit of_names stands here skips keep turn bad cause apart a =
     let handed : (scanned r.tokens.scanner).given ≡ all_shown p.tokens.taken.items ++ shown t ∷ [] =
@@ -199,7 +192,8 @@ unnamed_at {T} {g} {g'} {p} {r} {t} {m} {ss} {e} {names} {given} q fit of_names 
         shown = refl;
         fits_it = fit;
         says = λ e. absurd (both_ways (is_of_names q) e of_names);
-        apart = λ h. apart a;
+        apart = λ h. (apart a).0;
+        beside = λ h. (apart a).1 t.0 (at_peeked here);
         cause = subst (λ z. IsCause q z (events_of given) (taken_toks p.tokens) (tok_of t.1)) (sym (ap (λ k. names_by k a.raw) keep ∙ a.names_are)) cause;
         stands = stands;
         none = λ e. absurd (both_ways (is_of_names q) e of_names);
@@ -242,7 +236,7 @@ block_mapping_alone = record { alias = λ e. cc; anchor = λ e. cc; tag = λ e. 
 -- a node without properties
 pub bare : {T : Type 0} {p : Reader T} {k : Kind} (w : positions.NodeContext) {names : Names} {given : List (Ev × Position)} → IsOfKind k p.tokens.peeked → HasNoProperties k
     → At (at.node w) p names given → At (at.after_properties w None) p names given
-bare w here plain a = stays here stay (λ t h. turn.node_content _ _ t (not_as plain.alias h) (not_as plain.anchor h) (not_as plain.tag h)) refl tt refl a
+bare w here plain a = stays here stay (λ t h. turn.node_content _ _ t (not_as plain.alias h) (not_as plain.anchor h) (not_as plain.tag h)) refl tt (λ o. tt) refl a
 
 -- what begins no block collection
 pub record BeginsNoBlock (k : Kind) : Type 0 where
@@ -252,14 +246,14 @@ pub record BeginsNoBlock (k : Kind) : Type 0 where
 
 block_in_flow : {T : Type 0} {p : Reader T} {k : Kind} (o : Option written.Properties) {names : Names} {given : List (Ev × Position)} → IsOfKind k p.tokens.peeked → BeginsNoBlock k
     → At (at.after_properties context.Block o) p names given → At (at.after_properties context.Flow o) p names given
-block_in_flow o {names} here none a = stays here stay (λ t e. turn.block_flow _ o t (not_as none.sequence e) (not_as none.mapping e)) refl (pending_same context.Block context.Flow names o a.pending) (breaks_none context.Block context.Flow o) a
+block_in_flow o {names} here none a = stays here stay (λ t e. turn.block_flow _ o t (not_as none.sequence e) (not_as none.mapping e)) refl (pending_same context.Block context.Flow names o a.pending) (λ z. tt) (breaks_none context.Block context.Flow o) a
 
 -- What begins no block collection is flow content, wherever it stands.
 pub in_flow : {T : Type 0} {p : Reader T} {k : Kind} (w : positions.NodeContext) (o : Option written.Properties) {names : Names} {given : List (Ev × Position)} → IsOfKind k p.tokens.peeked → BeginsNoBlock k
     → At (at.after_properties w o) p names given → At (at.after_properties context.Flow o) p names given
 in_flow context.Flow o here none a = a
 in_flow context.Block o here none a = block_in_flow o here none a
-in_flow context.Part o {names} here none a = block_in_flow o here none (stays here stay (λ t e. turn.part_block _ o t (not_as none.entry e)) refl (pending_same context.Part context.Block names o a.pending) (breaks_none context.Part context.Block o) a)
+in_flow context.Part o {names} here none a = block_in_flow o here none (stays here stay (λ t e. turn.part_block _ o t (not_as none.entry e)) refl (pending_same context.Part context.Block names o a.pending) (λ o. tt) (breaks_none context.Part context.Block o) a)
 
 pub taken_with : {T : Type 0} {p q : Tokens T} {t : Token} → SkipsOne p q → p.peeked ≡ Some t → Skips p t q
 taken_with {T} {p} {q} {t} h e = if_some_at (λ u. Skips p u q) h.token e
@@ -288,7 +282,7 @@ alias_taken {T} m {p} {r} {t} {w} {x} {n} {names} {given} here mark skips stack 
   names,
   took m here skips stack (subst (λ u. Takes (at.node w) p.stack u (Some (Raw.alias x)) at.done p.stack) (sym tok) (turn.node_alias w p.stack x))
       (record { resolves = ap (option_map Ev.alias) found; after_it = refl; keep = ap (λ z. z.keeping) same; code = subst (λ z. IsNamed z names) (sym same) a.code; pending = tt })
-      (λ b. (refl, ap is_end tok)) (record { alike = sym (ap (gives_position _) tok); here = λ b. sym mark ∙ sym (ap (λ z. place_of z (before_next p.tokens).comma t.0) tok); other = ap is_comma tok }) a,
+      (λ b. (refl, ap is_end tok)) (here_at (last_position p.tokens) (Raw.alias x) (shown t) m (λ b k. refl) mark) (under_no_colon p.stack a.stands.fits.0 (Some t.0)) a,
 )
 
 unknown_is_other : UnknownAnchor ≡ UndeclaredHandle → ⊥
@@ -304,25 +298,25 @@ pub anchor_taken : {T : Type 0} {p r : Reader T} {t : Token} {w : positions.Node
     → p.tokens.peeked ≡ Some t → Skips p.tokens t r.tokens → r.stack ≡ p.stack → r.names ≡ p.names → tok_of t.1 ≡ Tok.anchor x → At (at.node w) p names given → At (at.after_anchor w x) r names given
 anchor_taken {T} {p} {r} {t} {w} {x} {names} {given} here skips stack same tok a =
     took_on here skips stack (subst (λ u. Takes (at.node w) p.stack u None (at.after_anchor w x) p.stack) (sym tok) (turn.node_anchor w p.stack x))
-    (ap (λ z. z.keeping) same) (subst (λ z. IsNamed z names) (sym same) a.code) tt (λ b. (refl, ap is_end tok)) (ap (gives_position _) tok) (λ f. ap is_comma tok) a
+    (ap (λ z. z.keeping) same) (subst (λ z. IsNamed z names) (sym same) a.code) tt (λ b. (refl, ap is_end tok)) tt a
 
 pub tag_taken : {T : Type 0} {p r : Reader T} {t : Token} {w : positions.NodeContext} {x : event.Tag} {u : event.Tag} {names : Names} {given : List (Ev × Position)}
     → p.tokens.peeked ≡ Some t → Skips p.tokens t r.tokens → r.stack ≡ p.stack → r.names ≡ p.names → tok_of t.1 ≡ written.tag_token x → resolved names.handles x ≡ Some u → At (at.node w) p names given → At (at.after_tag w x) r names given
 tag_taken {T} {p} {r} {t} {w} {x} {u} {names} {given} here skips stack same tok known a =
     took_on here skips stack (subst (λ z. Takes (at.node w) p.stack z None (at.after_tag w x) p.stack) (sym tok) (turn.node_tag w p.stack x))
-    (ap (λ z. z.keeping) same) (subst (λ z. IsNamed z names) (sym same) a.code) (is_some_of known) (λ b. (refl, ap is_end tok)) (ap (gives_position _) tok) (λ f. ap is_comma tok) a
+    (ap (λ z. z.keeping) same) (subst (λ z. IsNamed z names) (sym same) a.code) (is_some_of known) (λ b. (refl, ap is_end tok)) tt a
 
 pub tag_after_anchor : {T : Type 0} {p r : Reader T} {t : Token} {w : positions.NodeContext} {y : List ℕ} {x : event.Tag} {u : event.Tag} {names : Names} {given : List (Ev × Position)}
     → p.tokens.peeked ≡ Some t → Skips p.tokens t r.tokens → r.stack ≡ p.stack → r.names ≡ p.names → tok_of t.1 ≡ written.tag_token x → resolved names.handles x ≡ Some u → At (at.after_anchor w y) p names given → At (at.after_properties w (Some (written.anchored_tagged y x))) r names given
 tag_after_anchor {T} {p} {r} {t} {w} {y} {x} {u} {names} {given} here skips stack same tok known a =
     took_on here skips stack (subst (λ z. Takes (at.after_anchor w y) p.stack z None (at.after_properties w (Some (written.anchored_tagged y x))) p.stack) (sym tok) (turn.anchor_tag w p.stack y x))
-    (ap (λ z. z.keeping) same) (subst (λ z. IsNamed z names) (sym same) a.code) (is_some_of (ap (option_map Some) known)) (λ b. (refl, ap is_end tok)) (ap (gives_position _) tok) (λ f. ap is_comma tok) a
+    (ap (λ z. z.keeping) same) (subst (λ z. IsNamed z names) (sym same) a.code) (is_some_of (ap (option_map Some) known)) (λ b. (refl, ap is_end tok)) tt a
 
 pub anchor_after_tag : {T : Type 0} {p r : Reader T} {t : Token} {w : positions.NodeContext} {y : List ℕ} {x : event.Tag} {u : event.Tag} {names : Names} {given : List (Ev × Position)}
     → p.tokens.peeked ≡ Some t → Skips p.tokens t r.tokens → r.stack ≡ p.stack → r.names ≡ p.names → tok_of t.1 ≡ Tok.anchor y → resolved names.handles x ≡ Some u → At (at.after_tag w x) p names given → At (at.after_properties w (Some (written.tagged_anchored x y))) r names given
 anchor_after_tag {T} {p} {r} {t} {w} {y} {x} {u} {names} {given} here skips stack same tok known a =
     took_on here skips stack (subst (λ z. Takes (at.after_tag w x) p.stack z None (at.after_properties w (Some (written.tagged_anchored x y))) p.stack) (sym tok) (turn.tag_anchor w p.stack x y))
-    (ap (λ z. z.keeping) same) (subst (λ z. IsNamed z names) (sym same) a.code) (is_some_of (ap (option_map Some) known)) (λ b. (refl, ap is_end tok)) (ap (gives_position _) tok) (λ f. ap is_comma tok) a
+    (ap (λ z. z.keeping) same) (subst (λ z. IsNamed z names) (sym same) a.code) (is_some_of (ap (option_map Some) known)) (λ b. (refl, ap is_end tok)) tt a
 
 -- ---- a node whose tag stands for nothing
 

@@ -1,15 +1,15 @@
 -- Where the next token decides, two different events may come.
-use Rattle.std.proofs.Common.{◌≡◌, ◌≢◌, List, [], ◌∷◌, ◌++◌, Option, Some, None, false, refl, sym, ap, ◌∙◌, subst, append_assoc, append-nil, true}
+use Rattle.std.proofs.Common.{◌≡◌, ◌≢◌, List, [], ◌∷◌, ◌++◌, Option, Some, None, false, ◌||◌, refl, sym, ap, ◌∙◌, subst, append_assoc, append-nil, true}
 use Rattle.std.proofs.lemmas.Bool.{or_parts}
 use Rattle.std.proofs.lemmas.List.{map-append}
 use Rattle.std.specs.Option.{IfSome}
 use Rattle.defs_text.specs.Position.{Position}
 use Rattle.defs_token.specs.Token as defs
-use Rattle.defs_token.specs.Token.{Style, Tok}
+use Rattle.defs_token.specs.Token.{Tok}
 use Rattle.defs_token.specs.Toks.{toks}
 use Rattle.defs_event.specs.Event.{Ev}
 use Rattle.defs_event.specs.Raw.{Raw, Directive, nothing_written}
-use Rattle.defs_event.specs.Stream.{StreamSays}
+use Rattle.defs_event.specs.Stream.{StreamSays, to_next, Places, wants_token, StreamPlacesTo}
 use Rattle.defs_event.specs.Names.{Names}
 use Rattle.yaml_tokens.specs.declared.token.Token.{Token}
 use Rattle.yaml_tokens.specs.Shown.{all_shown}
@@ -17,22 +17,22 @@ use Rattle.yaml_scanner.specs.Scanned.{scanned}
 use Rattle.model_parser.specs.Goal as at
 use Rattle.model_parser.specs.Goal.{Goal}
 use Rattle.model_parser.specs.declared.state.State.{State}
-use Rattle.model_parser.specs.Rest.{works, work_of, Awaits}
+use Rattle.model_parser.specs.Rest.{works, work_of, Awaits, placed}
 use Rattle.defs_event.specs.Grammar as table
 use Rattle.defs_event.specs.Grammar.{nothing_held}
-use Rattle.proof_grammar.proofs.Falls.{text}
-use Rattle.model_parser.proofs.Rows.{row_taken, row_left, no_row, said, needs_tokens}
+use Rattle.model_parser.proofs.Falls.{text}
+use Rattle.model_parser.proofs.StepRows.{row_taken, row_left, no_row, said, needs_tokens}
 use Rattle.model_parser.specs.Stands.{IsOnTrack}
-use Rattle.yaml_parser.specs.declared.tokens.Missing.{Missing}
-use Rattle.yaml_parser.specs.declared.tokens.Missing.TheVariants as missing
+use Rattle.yaml_parser.specs.declared.tokens.TokenFault.{TokenFault}
+use Rattle.yaml_parser.specs.declared.tokens.TokenFault.TheVariants as missing
 use Rattle.yaml_parser.specs.declared.tokens.Stop.{Stop}
 use Rattle.yaml_parser.specs.declared.reader.Reader.{Reader}
 use Rattle.yaml_parser.specs.Apart.{GoesOnWith, IsOpen}
-use Rattle.yaml_parser.specs.Derived.{IsDerived}
+use Rattle.yaml_parser.specs.Derived.{IsDerived, stood}
 use Rattle.yaml_parser.specs.Halts.{may_wait, perhaps, IsHalted}
-use Rattle.yaml_parser.specs.Handed.{taken_toks, peeked_tok, shown_list, IsHanded, IsAwake, IsStopped}
+use Rattle.yaml_parser.specs.Handed.{taken_toks, peeked_tok, last_position, BeginAt, shown_list, IsHanded, IsAwake, IsStopped}
 use Rattle.yaml_parser.specs.Kinds.{stop_of}
-use Rattle.yaml_parser.specs.At.{At, Faulted, Fails, is_over, is_done, is_idle}
+use Rattle.yaml_parser.specs.At.{At, Faulted, Fails, is_over, is_done, is_pair_end, is_idle}
 use Rattle.yaml_parser.proofs.Steps.{look_peeked, begins_peeked}
 use Rattle.yaml_parser.proofs.Ends.{at_derived}
 use Rattle.yaml_parser.proofs.Ways.{Way, way, longer}
@@ -52,11 +52,9 @@ end_says ss [] es a = absurd (needs_tokens (work_of at.after ss) es refl a.0)
 end_says ss (Tok.document_end ∷ ts) es a = let s = said _ _ ts es (row_taken table.document_end nothing_held (works ss) Tok.document_end ts es _ refl a.0) in (s.0, s.1)
 end_says ss (t ∷ ts) es a = let s = said _ _ (t ∷ ts) es (row_left table.document_end nothing_held (works ss) t ts es _ refl a.0) in (s.0, s.1)
 
-pair_says : (ss : List State) (ts : List Tok) (es : List Raw) → Awaits at.pair_end ss ts es → (fs : List Raw) × (es ≡ Raw.pair_end ∷ fs)
-pair_says ss ts es a = let s = said _ _ ts es a.0 in (s.0, s.1)
-
 empty_says : (ss : List State) (ts : List Tok) (es : List Raw) → Awaits at.flow_empty ss ts es → (fs : List Raw) × (es ≡ nothing_written ∷ fs)
-empty_says ss ts es a = let s = said _ _ ts es a.0 in (s.0, s.1)
+empty_says ss [] es a = absurd (needs_tokens (work_of at.flow_empty ss) es refl a.0)
+empty_says ss (t ∷ ts) es a = let s = said _ _ (t ∷ ts) es (row_left table.no_flow_mapping_value nothing_held (works ss) t ts es _ refl a.0) in (s.0, s.1)
 
 opens : (g : Goal) (ss : List State) → is_idle g ≡ false → Opens g ss
 opens at.done ss h = cc
@@ -74,8 +72,8 @@ opens (at.after_properties c None) ss h = at_once (way (at.after_properties c No
 opens (at.after_properties c (Some o)) ss h = at_once (way (at.after_properties c (Some o)) ss text [] _ _ refl refl refl) (way (at.after_properties c (Some o)) ss Tok.flow_sequence_start [] _ _ refl refl refl) (λ e. cc)
 opens at.entries ss h = at_once (way at.entries ss Tok.block_end [] _ _ refl refl refl) (way at.entries ss Tok.block_entry [] _ _ refl refl refl) (λ e. cc)
 opens at.entry ss h = at_once (way at.entry ss text [] _ _ refl refl refl) (way at.entry ss Tok.flow_sequence_start [] _ _ refl refl refl) (λ e. cc)
-opens at.dashes ss h = at_once (way at.dashes ss Tok.block_entry [] _ _ refl refl refl) (way at.dashes ss Tok.block_entry (Tok.flow_sequence_start ∷ []) _ _ refl refl refl) (λ e. cc)
-opens at.dashed ss h = at_once (way at.dashed ss text [] _ _ refl refl refl) (way at.dashed ss Tok.flow_sequence_start [] _ _ refl refl refl) (λ e. cc)
+opens at.indentless_entries ss h = at_once (way at.indentless_entries ss Tok.block_entry [] _ _ refl refl refl) (way at.indentless_entries ss Tok.block_entry (Tok.flow_sequence_start ∷ []) _ _ refl refl refl) (λ e. cc)
+opens at.indentless_entry ss h = at_once (way at.indentless_entry ss text [] _ _ refl refl refl) (way at.indentless_entry ss Tok.flow_sequence_start [] _ _ refl refl refl) (λ e. cc)
 opens at.part ss h = at_once (way at.part ss text [] _ _ refl refl refl) (way at.part ss Tok.flow_sequence_start [] _ _ refl refl refl) (λ e. cc)
 opens at.pairs ss h = at_once (way at.pairs ss Tok.block_end [] _ _ refl refl refl) (way at.pairs ss Tok.key [] _ _ refl refl refl) (λ e. cc)
 opens at.key_pairs ss h = at_once (way at.key_pairs ss Tok.block_end [] _ _ refl refl refl) (way at.key_pairs ss Tok.key [] _ _ refl refl refl) (λ e. cc)
@@ -87,14 +85,14 @@ opens at.more_items ss h = at_once (way at.more_items ss Tok.flow_sequence_end [
 opens at.pair_key ss h = at_once (way at.pair_key ss text [] _ _ refl refl refl) (way at.pair_key ss Tok.flow_sequence_start [] _ _ refl refl refl) (λ e. cc)
 opens at.pair_value ss h = at_once (way at.pair_value ss Tok.value [] _ _ refl refl refl) (way at.pair_value ss Tok.flow_sequence_end [] _ _ refl refl refl) (λ e. cc)
 opens at.pair_valued ss h = at_once (way at.pair_valued ss text [] _ _ refl refl refl) (way at.pair_valued ss Tok.flow_sequence_start [] _ _ refl refl refl) (λ e. cc)
-opens at.pair_end ss h = after_one Raw.pair_end refl (pair_says ss) (way at.pair_end ss Tok.flow_sequence_end [] _ _ refl refl refl) (way at.pair_end ss Tok.flow_entry (text ∷ []) _ _ refl refl refl) (λ e. cc)
+opens at.pair_end ss h = cc
 opens at.flow_pairs ss h = at_once (way at.flow_pairs ss text [] _ _ refl refl refl) (way at.flow_pairs ss Tok.flow_sequence_start [] _ _ refl refl refl) (λ e. cc)
 opens at.comma_flow_pairs ss h = at_once (way at.comma_flow_pairs ss text [] _ _ refl refl refl) (way at.comma_flow_pairs ss Tok.flow_sequence_start [] _ _ refl refl refl) (λ e. cc)
-opens at.flow_pair ss h = at_once (way at.flow_pair ss text [] _ _ refl refl refl) (way at.flow_pair ss Tok.flow_sequence_start [] _ _ refl refl refl) (λ e. cc)
+opens (at.flow_pair s) ss h = at_once (way (at.flow_pair s) ss text [] _ _ refl refl refl) (way (at.flow_pair s) ss Tok.flow_sequence_start [] _ _ refl refl refl) (λ e. cc)
 opens at.more_flow_pairs ss h = at_once (way at.more_flow_pairs ss Tok.flow_mapping_end [] _ _ refl refl refl) (way at.more_flow_pairs ss Tok.flow_entry (text ∷ []) _ _ refl refl refl) (λ e. cc)
 opens at.flow_key ss h = at_once (way at.flow_key ss text [] _ _ refl refl refl) (way at.flow_key ss Tok.flow_sequence_start [] _ _ refl refl refl) (λ e. cc)
 opens at.flow_after_key ss h = at_once (way at.flow_after_key ss Tok.value [] _ _ refl refl refl) (way at.flow_after_key ss Tok.flow_mapping_end [] _ _ refl refl refl) (λ e. cc)
-opens at.flow_valued ss h = at_once (way at.flow_valued ss text [] _ _ refl refl refl) (way at.flow_valued ss Tok.flow_sequence_start [] _ _ refl refl refl) (λ e. cc)
+opens (at.flow_valued m) ss h = at_once (way (at.flow_valued m) ss text [] _ _ refl refl refl) (way (at.flow_valued m) ss Tok.flow_sequence_start [] _ _ refl refl refl) (λ e. cc)
 opens at.flow_empty ss h = after_one nothing_written refl (empty_says ss) (way at.flow_empty ss Tok.flow_mapping_end [] _ _ refl refl refl) (way at.flow_empty ss Tok.flow_entry (text ∷ []) _ _ refl refl refl) (λ e. cc)
 
 -- ---- where a parser stands
@@ -129,6 +127,18 @@ ready {T} {g} a (after_one l {e = e} {f = f} waits all one other apart) = record
 
 -- ---- a look that fails
 
+-- The next token is wanted.
+wants_next : (g : Goal) (ss : List State) (b : Option Position) → is_idle g ≡ false → Places to_next b (placed (work_of g ss)) [] []
+wants_next at.done ss b h = cc
+wants_next at.ended ss b h = cc
+wants_next at.pair_end ss b h = cc
+wants_next g ss b h = wants_token
+
+-- None was looked at before.
+nothing_ahead : (o q : Option Token) → ((t : Token) → o ≡ Some t → q ≡ Some t) → q ≡ None → o ≡ None
+nothing_ahead None q f h = refl
+nothing_ahead (Some t) q f h = let no : None ≡ Some t = sym h ∙ f t refl in cc
+
 -- What the events are, where a look at the next token fails.
 halted : {T : Type 0} (p r : Reader T) {g : Goal} {names : Names} {given : List (Ev × Position)} → r.tokens.taken ≡ p.tokens.taken → ((t : Token) → p.tokens.peeked ≡ Some t → r.tokens.peeked ≡ Some t) → r.tokens.peeked ≡ None → IsHanded r.tokens → r.names ≡ p.names
     → is_idle g ≡ false → At g p names given → IsHalted r.names.keeping.settings.items r.names.keeping.tags (scanned r.tokens.scanner).given given
@@ -141,6 +151,9 @@ halted {T} p r {g} {names} {given} taken same none handed names_same busy a =
       raw = a.raw;
       derived = subst (λ ts. IsDerived r.names.keeping.settings.items r.names.keeping.tags ts a.raw given) (sym took)
           (subst (λ n. IsDerived n.keeping.settings.items n.keeping.tags (all_shown p.tokens.taken.items) a.raw given) (sym names_same) (at_derived g p names given a));
+      so_far = subst (λ ts. StreamPlacesTo to_next ts (stood a.raw given)) (append-nil (all_shown p.tokens.taken.items) ∙ sym took)
+          (subst (StreamPlacesTo to_next (all_shown p.tokens.taken.items ++ [])) (append-nil (stood a.raw given))
+          (a.places to_next [] [] (subst (λ o. BeginAt o []) (sym (nothing_ahead p.tokens.peeked r.tokens.peeked same none)) tt) (wants_next g p.stack (last_position p.tokens) busy, refl)));
       missing = o.missing;
       waits = o.waits;
       certain = λ ts fs d.
@@ -152,8 +165,8 @@ halted {T} p r {g} {names} {given} taken same none handed names_same busy a =
       goes_on = subst (λ ts. IsOpen (toks ts) (a.raw ++ perhaps o.missing)) (sym took) o.goes_on;
     }
 
-pub look_fails : {T : Type 0} (p r : Reader T) {s : Stop} {m : Missing} → r.tokens.taken ≡ p.tokens.taken → ((t : Token) → p.tokens.peeked ≡ Some t → r.tokens.peeked ≡ Some t) → r.tokens.peeked ≡ None → (IsHanded p.tokens → IsHanded r.tokens) → r.names ≡ p.names
+pub look_fails : {T : Type 0} (p r : Reader T) {s : Stop} {m : TokenFault} → r.tokens.taken ≡ p.tokens.taken → ((t : Token) → p.tokens.peeked ≡ Some t → r.tokens.peeked ≡ Some t) → r.tokens.peeked ≡ None → (IsHanded p.tokens → IsHanded r.tokens) → r.names ≡ p.names
     → s ≡ stop_of m → (IsAwake p.tokens → (m ≡ missing.Scan) × IsStopped (scanned r.tokens.scanner)) → (g : Goal) → is_idle g ≡ false → Fails g p r s
 look_fails {T} p r {s} {m} taken same none handed names_same e h = λ g busy names given a.
-    let k = h (a.awake (or_parts (is_over g) (is_done g) busy).0) in
+    let k = h (a.awake (or_parts (is_over g) (is_done g || is_pair_end g) busy).0) in
     subst (Faulted r given) (sym (e ∙ ap stop_of k.0)) (k.1, halted p r taken same none (handed a.handed) names_same busy a)

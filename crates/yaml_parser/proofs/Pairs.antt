@@ -11,7 +11,7 @@ use Rattle.yaml_tokens.specs.declared.token.TokenType.TheVariants as token
 use Rattle.yaml_tokens.specs.declared.problem.Fault.TheVariants.{OutOfMemory}
 use Rattle.yaml_tokens.specs.Shown.{shown, all_shown}
 use Rattle.yaml_scanner.specs.Scanned.{Scanned, scanned, HandsOut}
-use Rattle.yaml_scanner.specs.declared.pairs.PlainNode.{PlainNode}
+use Rattle.yaml_scanner.specs.declared.key_value.PlainNode.{PlainNode}
 use Rattle.defs_event.specs.Event.{Ev}
 use Rattle.defs_event.specs.Names.{Names}
 use Rattle.model_parser.specs.Goal as at
@@ -26,13 +26,13 @@ use Rattle.model_parser.proofs.Nodes as node
 use Rattle.yaml_parser.specs.declared.tokens.Tokens.{Tokens}
 use Rattle.yaml_parser.specs.declared.tokens.Stop.TheVariants as stop
 use Rattle.yaml_parser.specs.declared.reader.Reader.{Reader}
-use Rattle.yaml_parser.specs.declared.slot.Slot.{Slot}
+use Rattle.yaml_parser.specs.declared.slot.EventSlot.{EventSlot}
 use Rattle.yaml_parser.specs.Ahead.{Skips, TakesBoth, indicator_of, scalar_of}
 use Rattle.yaml_parser.specs.At.{At, Answers, Faulted, answered, Stayed, is_over}
 use Rattle.yaml_parser.specs.Handed.{IsHanded, shown_list}
 use Rattle.yaml_parser.specs.Shown.{placed}
-use Rattle.yaml_parser.proofs.Arms.{Skipped, stays, stay, goes, goes_on, as_kind, not_as, answers_written}
-use Rattle.yaml_parser.proofs.InFlow.{key_in_block}
+use Rattle.yaml_parser.proofs.Arms.{Skipped, stays, stay, goes, goes, as_kind, not_as, answers_written, under_no_colon}
+use Rattle.model_parser.proofs.Settling.{mapping_under}
 use Rattle.yaml_parser.proofs.NodeArms.{scalar_taken, bare, in_flow}
 use Rattle.yaml_parser.proofs.Steps.{looks_on, if_some_at}
 
@@ -72,10 +72,10 @@ part_scalar : {T : Type 0} (p r : Reader T) (s : Scanned) (n : PlainNode) {names
 part_scalar {T} p r s n {names} {given} none h skips stack same a =
     let q : Reader T = record p { tokens = looking p.tokens s (scalar_of n) } in
     let one : At at.part q names given = looks p s (scalar_of n) none h refl a in
-    let two : At (at.node context.Part) q names given = stays {k = kind.Scalar} refl stay (λ t e. block.part_has_node _ t (as_kind ends_part refl e)) refl tt refl one in
+    let two : At (at.node context.Part) q names given = stays {k = kind.Scalar} refl stay (λ t e. block.part_has_node _ t (as_kind ends_part refl e)) refl tt (λ o. tt) refl one in
     let three = in_flow {k = kind.Scalar} context.Part None refl (record { entry = λ e. cc; sequence = λ e. cc; mapping = λ e. cc }) (bare {k = kind.Scalar} context.Part refl (record { alias = λ e. cc; anchor = λ e. cc; tag = λ e. cc }) two) in
     scalar_taken n.mark {p = q} {q = r} {r = r} {x = None} refl refl skips stack same refl (node.after_scalar _ None _ _)
-    (λ _ c. record { value = (refl, refl); tokens = refl; stack = refl; keep = refl; code = c }) (record { both = refl; anchor = refl; tag = refl }) three
+    (λ _ c. record { value = (refl, refl); tokens = refl; stack = refl; keep = refl; code = c }) (under_no_colon p.stack (mapping_under p.stack a.stands.fits)) (record { both = refl; anchor = refl; tag = refl }) three
 
 -- ---- both
 
@@ -109,9 +109,9 @@ pub key_taken : {T : Type 0} {p q r : Reader T} {n : PlainNode} {names : Names} 
 key_taken {T} {p} {q} {r} {n} {names} {given} b stack same s a =
     let l : Reader T = record p { tokens = looking p.tokens b.hands.between (indicator_of token.Key n) } in
     let one : At at.pairs l names given = looks p b.hands.between (indicator_of token.Key n) b.none b.hands.first refl a in
-    let two : At at.key_pairs l names given = stays {k = kind.Key} refl stay (λ t e. block.pairs_key _ t (not_as key_no_value e)) refl tt refl one in
+    let two : At at.key_pairs l names given = stays {k = kind.Key} refl stay (λ t e. block.pairs_key _ t (not_as key_no_value e)) refl tt (λ o. tt) refl one in
     both p q r state.BlockMappingValue b stack same s
-    (goes_on {k = kind.Key} refl refl refl (takes p b.hands.between (indicator_of token.Key n) state.BlockMappingValue) (block.key_pairs_key _) refl tt refl refl (key_in_block two) (λ f. refl) two)
+    (goes {k = kind.Key} refl refl refl (takes p b.hands.between (indicator_of token.Key n) state.BlockMappingValue) (block.key_pairs_key _) refl tt refl refl (λ t i. tt) two)
 
 pub value_taken : {T : Type 0} {p q r : Reader T} {n : PlainNode} {names : Names} {given : List (Ev × Position)} → TakesBoth p.tokens token.Value n q.tokens
     → q.stack ≡ p.stack → q.names ≡ p.names → Stayed q r (state.BlockMappingKey ∷ q.stack) → At at.after_key p names given
@@ -120,7 +120,7 @@ value_taken {T} {p} {q} {r} {n} {names} {given} b stack same s a =
     let l : Reader T = record p { tokens = looking p.tokens b.hands.between (indicator_of token.Value n) } in
     let one : At at.after_key l names given = looks p b.hands.between (indicator_of token.Value n) b.none b.hands.first refl a in
     both p q r state.BlockMappingKey b stack same s
-    (goes {k = kind.Value} refl refl refl (takes p b.hands.between (indicator_of token.Value n) state.BlockMappingKey) (block.after_key_value _) refl tt refl refl one)
+    (goes {k = kind.Value} refl refl refl (takes p b.hands.between (indicator_of token.Value n) state.BlockMappingKey) (block.after_key_value _) refl tt refl refl (λ t i. tt) one)
 
 -- ---- what is answered
 
@@ -131,7 +131,7 @@ pub at_same : {T : Type 0} {p q : Reader T} {g : Goal} {names : Names} {given : 
 at_same {g = g} {names} {given} same a = subst (λ r. At g r names given) (sym same) a
 
 -- The scalar is written, and a state more is awaited; or memory was refused.
-pub answers_plain : {T E : Type 0} {q : Reader T} (r : Reader T) {x : State} (n : PlainNode) (given : List (Ev × Position)) (res : Result (Unit {0}) E) (slot : Slot)
+pub answers_plain : {T E : Type 0} {q : Reader T} (r : Reader T) {x : State} (n : PlainNode) (given : List (Ev × Position)) (res : Result (Unit {0}) E) (slot : EventSlot)
     → OnOk res (placed slot.next ≡ (Ev.scalar (string_chars n.text) Style.plain 0 None, n.mark)) → OnOk res (Stayed q r (x ∷ q.stack)) → OnErr res (slot.stop ≡ stop.Own OutOfMemory)
     → (Stayed q r (x ∷ q.stack) → (names : Names) × At at.done r names (given ++ (Ev.scalar (string_chars n.text) Style.plain 0 None, n.mark) ∷ [])) → Answers r given (answered res slot)
 answers_plain r n given (Ok u) slot event stayed err f = answers_written r given slot.next event (f stayed)

@@ -13,7 +13,7 @@ use Rattle.yaml_parser.specs.declared.event.Event.{Event}
 use Rattle.yaml_parser.specs.declared.names.Keeping.{Keeping}
 use Rattle.yaml_parser.specs.declared.tokens.KeptStop.{KeptStop}
 use Rattle.yaml_parser.specs.declared.tokens.Stop.{Stop}
-use Rattle.yaml_parser.specs.declared.pull.Pull.{Pull}
+use Rattle.yaml_parser.specs.declared.pull.EventReader.{EventReader}
 use Rattle.yaml_parser.specs.declared.reader.Reader.{Reader}
 use Rattle.yaml_parser.specs.Follows.{Explains}
 use Rattle.yaml_parser.specs.Settings.{AreAll}
@@ -30,7 +30,7 @@ use Rattle.yaml_parser.proofs.Since.{all_more}
 -- ---- what clauses see
 
 -- as the parser's view is made of its parts
-abbrev pub seen : {T : Type 0} → Pull T → List (Ev × Position) → Option (Event × Position) → Bool → Bool → Option Position → Parsed
+abbrev pub seen : {T : Type 0} → EventReader T → List (Ev × Position) → Option (Event × Position) → Bool → Bool → Option Position → Parsed
 seen pull given current started ended misplaced = record {
   scanner = scanned pull.reader.tokens.scanner;
   given = given;
@@ -52,21 +52,21 @@ read_next : (given : List (Ev × Position)) (b : Bool) (e : Ev × Position) → 
 read_next given true e = sym (append-nil given)
 read_next given false e = refl
 
-no_fault : {T : Type 0} (pull : Pull T) (misplaced : Option Position) → pull.kept ≡ None → misplaced ≡ None → fault_of_all misplaced pull ≡ None
+no_fault : {T : Type 0} (pull : EventReader T) (misplaced : Option Position) → pull.kept ≡ None → misplaced ≡ None → fault_of_all misplaced pull ≡ None
 no_fault {T} pull misplaced h k = ap (λ m. fault_of_all m pull) k ∙ ap (option_map (λ x. fault_seen x.stop x.mark (scanned pull.reader.tokens.scanner).fault)) h
 
-shows : {T : Type 0} (pull : Pull T) (given : List (Ev × Position)) (current : Option (Event × Position)) (started ended : Bool) (misplaced : Option Position) (es : List (Ev × Position))
+shows : {T : Type 0} (pull : EventReader T) (given : List (Ev × Position)) (current : Option (Event × Position)) (started ended : Bool) (misplaced : Option Position) (es : List (Ev × Position))
     → read_so given ended (option_map placed current) ≡ es → Shows pull.reader es (seen pull given current started ended misplaced)
 shows {T} pull given current started ended misplaced es h = record { scanner = refl; keep_tags = refl; steady = refl; settings = refl; events = h }
 
-sound : {T : Type 0} (pull : Pull T) (given : List (Ev × Position)) (current : Option (Event × Position)) (started ended : Bool) (misplaced : Option Position)
+sound : {T : Type 0} (pull : EventReader T) (given : List (Ev × Position)) (current : Option (Event × Position)) (started ended : Bool) (misplaced : Option Position)
     → pull.kept ≡ None → misplaced ≡ None → IsHeld pull.reader (read_so given ended (option_map placed current)) pull.kept → KnowsSteady pull.reader → IsSound (seen pull given current started ended misplaced)
 sound {T} pull given current started ended misplaced h k x known =
     held_sound pull.reader (read_so given ended (option_map placed current)) (subst (IsHeld pull.reader (read_so given ended (option_map placed current))) h x) known (seen pull given current started ended misplaced) (no_fault pull misplaced h k) (shows pull given current started ended misplaced (read_so given ended (option_map placed current)) refl)
 
 -- ---- at the beginning
 
-pub fresh_holds : {T : Type 0} (pull : Pull T) (given : List (Ev × Position)) → IsHeld pull.reader [] None → pull.kept ≡ None → pull.reader.names.keeping.settings.items ≡ [] → given ≡ [] → Holds pull given None false false None
+pub fresh_holds : {T : Type 0} (pull : EventReader T) (given : List (Ev × Position)) → IsHeld pull.reader [] None → pull.kept ≡ None → pull.reader.names.keeping.settings.items ≡ [] → given ≡ [] → Holds pull given None false false None
 fresh_holds {T} pull given x kept none h = record {
   steady = λ b. subst (AreAll pull.reader.names.keeping.tags) (sym none) tt;
   held = subst (λ o. IsHeld pull.reader given o) (sym kept) (subst (λ es. IsHeld pull.reader es None) (sym h) x);
@@ -87,7 +87,7 @@ settings_if true c x y h = refl
 settings_if false c x y h = cc
 
 -- One waits already.
-pub waits_still : {T : Type 0} (pull : Pull T) (given : List (Ev × Position)) (current : Option (Event × Position)) (started ended : Bool) (misplaced : Option Position)
+pub waits_still : {T : Type 0} (pull : EventReader T) (given : List (Ev × Position)) (current : Option (Event × Position)) (started ended : Bool) (misplaced : Option Position)
     → Holds pull given (option_map placed current) started ended misplaced → is_some current ≡ true → Waits (seen pull given current started ended misplaced) (seen pull given current started ended misplaced)
 waits_still {T} pull given current started ended misplaced h some =
     let there = some_map placed current some in
@@ -115,7 +115,7 @@ none_if None h = refl
 none_if (Some x) h = cc
 
 -- `load` met another event than a document's start.
-pub fault_misplaced : {T : Type 0} (pull : Pull T) (given : List (Ev × Position)) (current : Option (Event × Position)) (started ended : Bool) (misplaced : Option Position) (p : Position)
+pub fault_misplaced : {T : Type 0} (pull : EventReader T) (given : List (Ev × Position)) (current : Option (Event × Position)) (started ended : Bool) (misplaced : Option Position) (p : Position)
     → Holds pull given (option_map placed current) started ended misplaced → is_some current ≡ false → misplaced ≡ Some p
     → GivesFault (seen pull given current started ended misplaced) (no_document p) (seen pull given current started ended misplaced)
 fault_misplaced {T} pull given current started ended misplaced p h none m =
@@ -158,7 +158,7 @@ abbrev IsKnownSteady : Keeping → Type 0
 IsKnownSteady k = k.steady ≡ true → AreAll k.tags k.settings.items
 
 -- A fault is met.
-pub fault_holds : {T : Type 0} (pull new : Pull T) (given : List (Ev × Position)) (current : Option (Event × Position)) (started ended : Bool) (misplaced : Option Position) {f : ErrorReport}
+pub fault_holds : {T : Type 0} (pull new : EventReader T) (given : List (Ev × Position)) (current : Option (Event × Position)) (started ended : Bool) (misplaced : Option Position) {f : ErrorReport}
     → Holds pull given (option_map placed current) started ended misplaced → is_some current ≡ false
     → Continues pull (read_so given ended (option_map placed current)) (Err f) new → fault_kept new ≡ Some f → Holds new given (option_map placed current) started ended misplaced
 fault_holds {T} pull new given current started ended misplaced {f} h none x kept =
@@ -179,7 +179,7 @@ none_before : {A B : Type 0} (f : A → B) (o : Option A) → option_map f o ≡
 none_before f None h = refl
 none_before f (Some x) h = cc
 
-pub fault_given : {T : Type 0} (pull new : Pull T) (given : List (Ev × Position)) (current : Option (Event × Position)) (started ended : Bool) (misplaced : Option Position) (f : ErrorReport)
+pub fault_given : {T : Type 0} (pull new : EventReader T) (given : List (Ev × Position)) (current : Option (Event × Position)) (started ended : Bool) (misplaced : Option Position) (f : ErrorReport)
     → Holds pull given (option_map placed current) started ended misplaced → is_some current ≡ false → misplaced ≡ None
     → Continues pull (read_so given ended (option_map placed current)) (Err f) new → fault_kept new ≡ Some f
     → IfSome (fault_kept pull) (λ g. (◌≡◌ {A = Result (Event × Position) ErrorReport} (Err f) (Err g)) × (new ≡ pull))
@@ -217,7 +217,7 @@ looks_err old new (Ok u) f h x = absurd h
 looks_err old new (Err e) f h x = subst (λ y. GivesFault old y new) (sym h) x
 
 -- An event is read.
-record Next {T : Type 0} (pull new : Pull T) (given : List (Ev × Position)) (started ended : Bool) (e : Event × Position) : Type 0 where
+record Next {T : Type 0} (pull new : EventReader T) (given : List (Ev × Position)) (started ended : Bool) (e : Event × Position) : Type 0 where
   pub held : IsHeld new.reader (read_so given ended (Some (placed e))) new.kept
   pub over : ended ≡ true → ev_of e.0 ≡ Ev.stream_end
   pub less : ev_of e.0 ≢ Ev.stream_end → work new.reader < work pull.reader
@@ -231,7 +231,7 @@ record Next {T : Type 0} (pull new : Pull T) (given : List (Ev × Position)) (st
 more_known : (old new : Keeping) → Notes old new → IsKnownSteady old → IsKnownSteady new
 more_known old new n known b = subst (AreAll new.tags) (sym n.settings) (subst (λ k. AreAll k (old.settings.items ++ old.tags ∷ [])) (sym n.tags) (all_more old.tags old.settings.items (known (sym n.steady ∙ b))))
 
-next_held : {T : Type 0} (pull new : Pull T) (given : List (Ev × Position)) (current : Option (Event × Position)) (started ended : Bool) (e : Event × Position)
+next_held : {T : Type 0} (pull new : EventReader T) (given : List (Ev × Position)) (current : Option (Event × Position)) (started ended : Bool) (e : Event × Position)
     → ended ≡ has_end given → IsHeld pull.reader (read_so given ended (option_map placed current)) pull.kept → is_some current ≡ false
     → Continues pull (read_so given ended (option_map placed current)) (Ok e) new → Next pull new given started ended e
 next_held {T} pull new given current started ended e end held none (k, l, inl a) =
@@ -267,7 +267,7 @@ next_held {T} pull new given current started ended e end held none (k, l, inr b)
       known = more_known pull.reader.names.keeping new.reader.names.keeping b.2;
     }
 
-pub next_holds : {T : Type 0} (pull new : Pull T) (given : List (Ev × Position)) (current : Option (Event × Position)) (started ended : Bool) (misplaced : Option Position) (e : Event × Position)
+pub next_holds : {T : Type 0} (pull new : EventReader T) (given : List (Ev × Position)) (current : Option (Event × Position)) (started ended : Bool) (misplaced : Option Position) (e : Event × Position)
     → Holds pull given (option_map placed current) started ended misplaced → is_some current ≡ false → misplaced ≡ None
     → Continues pull (read_so given ended (option_map placed current)) (Ok e) new → Holds new given (Some (placed e)) started ended misplaced
 next_holds {T} pull new given current started ended misplaced e h none clear x =
@@ -281,7 +281,7 @@ next_holds {T} pull new given current started ended misplaced e h none clear x =
       over = λ b. (n.after, clear, n.over b);
     }
 
-pub next_waits : {T : Type 0} (pull new : Pull T) (given : List (Ev × Position)) (current : Option (Event × Position)) (started ended : Bool) (misplaced : Option Position) (e : Event × Position)
+pub next_waits : {T : Type 0} (pull new : EventReader T) (given : List (Ev × Position)) (current : Option (Event × Position)) (started ended : Bool) (misplaced : Option Position) (e : Event × Position)
     → Holds pull given (option_map placed current) started ended misplaced → is_some current ≡ false → misplaced ≡ None
     → Continues pull (read_so given ended (option_map placed current)) (Ok e) new → Waits (seen pull given current started ended misplaced) (seen new given (Some e) started ended misplaced)
 next_waits {T} pull new given current started ended misplaced e h none clear x =
@@ -304,7 +304,7 @@ next_waits {T} pull new given current started ended misplaced e h none clear x =
 
 -- ---- an event is given
 
-pub given_holds : {T : Type 0} (pull : Pull T) (given new : List (Ev × Position)) (e : Ev × Position) (started ended ended' : Bool) (misplaced : Option Position)
+pub given_holds : {T : Type 0} (pull : EventReader T) (given new : List (Ev × Position)) (e : Ev × Position) (started ended ended' : Bool) (misplaced : Option Position)
     → Holds pull given (Some e) started ended misplaced → new ≡ given ++ (if ended then [] else e ∷ []) → ended' ≡ ended || is_stream_end e.0
     → Holds pull new None true ended' misplaced
 given_holds {T} pull given new e started ended ended' misplaced h more end =
@@ -322,7 +322,7 @@ given_holds {T} pull given new e started ended ended' misplaced h more end =
     ends_alike true k = k ∙ ap has_end (sym (append-nil given))
     ends_alike false k = ap (λ b. b || is_stream_end e.0) k ∙ sym (has_end_snoc given e)
 
-pub event_given : {T : Type 0} (pull : Pull T) (given new : List (Ev × Position)) (e : Event × Position) (started ended ended' : Bool) (misplaced : Option Position)
+pub event_given : {T : Type 0} (pull : EventReader T) (given new : List (Ev × Position)) (e : Event × Position) (started ended ended' : Bool) (misplaced : Option Position)
     → Holds pull given (Some (placed e)) started ended misplaced → new ≡ given ++ (if ended then [] else placed e ∷ []) → ended' ≡ ended || is_stream_end (ev_of e.0)
     → GivesEvent (seen pull given (Some e) started ended misplaced) (placed e) (seen pull new None true ended' misplaced)
 event_given {T} pull given new e started ended ended' misplaced h more end =
@@ -347,7 +347,7 @@ none_waits None h = h
 none_waits (Some e) h = h
 
 -- An event is read, and given at once.
-pub given_at_once : {T : Type 0} (pull new : Pull T) (given more : List (Ev × Position)) (current : Option (Event × Position)) (started ended ended' : Bool) (misplaced : Option Position) (e : Event × Position)
+pub given_at_once : {T : Type 0} (pull new : EventReader T) (given more : List (Ev × Position)) (current : Option (Event × Position)) (started ended ended' : Bool) (misplaced : Option Position) (e : Event × Position)
     → Holds pull given (option_map placed current) started ended misplaced → is_some current ≡ false → misplaced ≡ None
     → Continues pull (read_so given ended (option_map placed current)) (Ok e) new
     → more ≡ given ++ (if ended then [] else placed e ∷ []) → ended' ≡ ended || is_stream_end (ev_of e.0)
@@ -380,12 +380,12 @@ all_noted xs ys x false h = ap all_placed h ∙ map-append placed xs (x ∷ [])
 
 -- ---- inside a document
 
-clear_parts : {T : Type 0} (pull : Pull T) (misplaced : Option Position) → fault_of_all misplaced pull ≡ None → (pull.kept ≡ None) × (misplaced ≡ None)
+clear_parts : {T : Type 0} (pull : EventReader T) (misplaced : Option Position) → fault_of_all misplaced pull ≡ None → (pull.kept ≡ None) × (misplaced ≡ None)
 clear_parts {T} pull None h = (none_before (λ k. fault_seen k.stop k.mark (scanned pull.reader.tokens.scanner).fault) pull.kept h, refl)
 clear_parts {T} pull (Some p) h = cc
 
 -- Before the stream's end something is awaited.
-pub not_closed : {T : Type 0} (pull : Pull T) (given : List (Ev × Position)) (current : Option (Event × Position)) (started ended : Bool) (misplaced : Option Position)
+pub not_closed : {T : Type 0} (pull : EventReader T) (given : List (Ev × Position)) (current : Option (Event × Position)) (started ended : Bool) (misplaced : Option Position)
     → Holds pull given (option_map placed current) started ended misplaced → option_map placed current ≡ None → fault_of_all misplaced pull ≡ None → ended ≡ false → pull.reader.stack ≢ []
 not_closed {T} pull given current started ended misplaced h ahead fault going =
     λ s.
@@ -397,7 +397,7 @@ not_closed {T} pull given current started ended misplaced h ahead fault going =
     cc
 
 -- An event is read, and given at once.
-pub advanced : {T : Type 0} (pull new : Pull T) (given more : List (Ev × Position)) (current : Option (Event × Position)) (started ended ended' : Bool) (misplaced : Option Position) (e : Event × Position)
+pub advanced : {T : Type 0} (pull new : EventReader T) (given more : List (Ev × Position)) (current : Option (Event × Position)) (started ended ended' : Bool) (misplaced : Option Position) (e : Event × Position)
     → Holds pull given (option_map placed current) started ended misplaced → option_map placed current ≡ None → fault_of_all misplaced pull ≡ None
     → ((es : List (Ev × Position)) → IsHeld pull.reader es None → Advances pull es (Ok e) new) → new.kept ≡ pull.kept
     → more ≡ given ++ (if ended then [] else placed e ∷ []) → ended' ≡ ended || is_stream_end (ev_of e.0)
@@ -409,7 +409,7 @@ advanced {T} pull new given more current started ended ended' misplaced e h ahea
     given_at_once pull new given more current started ended ended' misplaced e h (none_waits current (ap is_some ahead)) c.1 (c.0, same ∙ c.0, inr x) noted end
 
 -- A fault is met, and kept at once.
-pub stopped : {T : Type 0} (pull mid new : Pull T) (given : List (Ev × Position)) (current : Option (Event × Position)) (started ended : Bool) (misplaced : Option Position) (s : Stop) (f : ErrorReport)
+pub stopped : {T : Type 0} (pull mid new : EventReader T) (given : List (Ev × Position)) (current : Option (Event × Position)) (started ended : Bool) (misplaced : Option Position) (s : Stop) (f : ErrorReport)
     → Holds pull given (option_map placed current) started ended misplaced → option_map placed current ≡ None → fault_of_all misplaced pull ≡ None
     → ((es : List (Ev × Position)) → IsHeld pull.reader es None → Advances pull es (Err s) mid)
     → fault_kept new ≡ Some f → IfSome new.kept (λ k. k.stop ≡ s) → new.reader ≡ mid.reader
@@ -449,7 +449,7 @@ same_bool true false h = cc
 same_bool false true h = cc
 
 -- A setting that counts from the start on was made where nothing was read, or is what it was.
-pub settings_hold : {T : Type 0} (pull : Pull T) (given : List (Ev × Position)) (current : Option (Event × Position)) (started ended : Bool) (misplaced : Option Position) (k : Keeping)
+pub settings_hold : {T : Type 0} (pull : EventReader T) (given : List (Ev × Position)) (current : Option (Event × Position)) (started ended : Bool) (misplaced : Option Position) (k : Keeping)
     → Holds pull given (option_map placed current) started ended misplaced
     → k.steady ≡ stays_steady (seen pull given current started ended misplaced) k.tags → k.settings ≡ pull.reader.names.keeping.settings
     → Holds (record pull { reader = record (pull.reader) { names = record (pull.reader.names) { keeping = k } } }) given (option_map placed current) started ended misplaced
@@ -489,7 +489,7 @@ settings_hold {T} pull given current started ended misplaced k h steady same = r
 
 -- ---- an event stands where a document must start
 
-pub misplaced_holds : {T : Type 0} (pull : Pull T) (given : List (Ev × Position)) (ahead : Option (Ev × Position)) (started ended : Bool) (misplaced : Option Position) (p : Position)
+pub misplaced_holds : {T : Type 0} (pull : EventReader T) (given : List (Ev × Position)) (ahead : Option (Ev × Position)) (started ended : Bool) (misplaced : Option Position) (p : Position)
     → Holds pull given ahead started ended misplaced → ahead ≡ None → ended ≡ false → Holds pull given ahead started ended (Some p)
 misplaced_holds {T} pull given ahead started ended misplaced p h none going = record {
   held = h.held;

@@ -29,7 +29,9 @@ one_more (Raw.flow_mapping_start a t) v rs vs h k = (h.0, h.1, vs, cc, k)
 one_more (Raw.mapping_start a t) v rs vs h k = (h.0, h.1, vs, cc, k)
 one_more Raw.pair_start v rs vs h k = (vs, cc, k)
 one_more Raw.pair_end v rs vs h k = (vs, cc, k)
+one_more Raw.unwritten_value v rs vs h k = (vs, cc, k)
 one_more Raw.flow_mapping_end v rs vs h k = (vs, cc, k)
+one_more Raw.flow_mapping_end_at_comma v rs vs h k = (vs, cc, k)
 one_more Raw.mapping_end v rs vs h k = (vs, cc, k)
 
 -- the first event, and the shape of the others

@@ -19,7 +19,7 @@ use Rattle.model_parser.specs.Goal.{Goal}
 use Rattle.defs_event.specs.Place.{Collection, block_sequence, block_mapping, flow_sequence, flow_mapping, open_after, Next, node_next, directive_next, other_next, next_after}
 use Rattle.model_parser.specs.Place.{open_under, open_at, next_at, top, is_after, is_over_document, IsNoDirective}
 use Rattle.model_parser.specs.Rest.{is_in_mapping, IsNested, is_under, IsBottom}
-use Rattle.model_parser.proofs.Rows.{no_row}
+use Rattle.model_parser.proofs.StepRows.{no_row}
 use Rattle.model_parser.proofs.Endings.{goes_so}
 use Rattle.yaml_parser.specs.declared.reader.Reader.{Reader}
 use Rattle.yaml_parser.specs.Blames.{problem_in, problem_at, problem_for, problem_of}

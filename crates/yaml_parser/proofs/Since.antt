@@ -16,6 +16,16 @@ named_stops : (keep : Bool) (s : Names) (es fs : List Raw) → named keep (names
 named_stops keep s [] fs h = h
 named_stops keep s (e ∷ es) fs h = ap (both (resolved_event s e)) (named_stops keep (names_after keep s e) es fs h) ∙ both_none (resolved_event s e)
 
+pub since_length : (ks : List Bool) (k : Bool) (s : Names) (es : List Raw) (vs : List Ev) → named_since ks k s es ≡ Some vs → length es ≡ length vs
+since_length [] k s [] vs h = let x : vs ≡ [] = cc in sym (ap length x)
+since_length [] k s (e ∷ es) vs h =
+    let f = both_some (resolved_event s e) (named k (names_after k s e) es) vs h in
+    omega (arith, since_length [] k (names_after k s e) es f.more f.are_more, ap length f.whole)
+since_length (c ∷ ks) k s [] vs h = let x : vs ≡ [] = cc in sym (ap length x)
+since_length (c ∷ ks) k s (e ∷ es) vs h =
+    let f = both_some (resolved_event s e) (named_since ks k (names_after c s e) es) vs h in
+    omega (arith, since_length ks k (names_after c s e) es f.more f.are_more, ap length f.whole)
+
 pub since_append : (ks : List Bool) (k : Bool) (s : Names) (es fs : List Raw) (vs ws : List Ev) → length ks ≤ length es → named_since ks k s es ≡ Some vs → named k (names_since ks k s es) fs ≡ Some ws
     → named_since ks k s (es ++ fs) ≡ Some (vs ++ ws)
 since_append [] k s es fs vs ws few h n = append_named k s es fs vs ws h n

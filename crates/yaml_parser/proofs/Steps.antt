@@ -1,10 +1,10 @@
 -- The turns over the code's state.
-use Rattle.std.proofs.Common.{◌≡◌, ℕ, ◌≤◌, length, List, [], ◌∷◌, ◌++◌, Option, Some, None, option_map, Bool, true, false, not, ◌||◌, ◌&&◌, refl, sym, ap, ◌∙◌, subst, append-nil, map, arith}
+use Rattle.std.proofs.Common.{◌≡◌, ℕ, ◌≤◌, length, List, [], ◌∷◌, ◌++◌, Option, Some, None, option_map, Bool, false, ◌||◌, refl, sym, ap, ◌∙◌, subst, append-nil, map, arith}
 use Rattle.std.proofs.lemmas.List.{length-append}
 use Rattle.std.proofs.lemmas.Bool.{or_parts, both_ways}
 use Rattle.defs_text.specs.Position.{Position}
 use Rattle.defs_token.specs.Token as defs
-use Rattle.defs_token.specs.Token.{Tok, Style}
+use Rattle.defs_token.specs.Token.{Tok}
 use Rattle.yaml_tokens.specs.declared.token.Token.{Token}
 use Rattle.yaml_tokens.specs.Shown.{shown, all_shown, tok_of}
 use Rattle.yaml_scanner.specs.Scanned.{scanned}
@@ -13,26 +13,30 @@ use Rattle.defs_event.specs.Event.{Ev}
 use Rattle.defs_event.specs.Raw.{Raw}
 use Rattle.defs_event.specs.Names.{Names, no_names, named, both, names_after, resolved_event}
 use Rattle.defs_token.specs.Toks.{toks}
-use Rattle.defs_event.specs.Stream.{events_of, given_positions, has_position, gives_position, nothing_before, past_all, is_comma}
+use Rattle.defs_event.specs.Stream.{events_of}
 use Rattle.model_parser.specs.declared.kind.Kind.{Kind}
 use Rattle.model_parser.specs.declared.state.State.{State}
 use Rattle.model_parser.specs.Kinds.{kind_of}
 use Rattle.model_parser.specs.Goal.{Goal}
+use Rattle.model_parser.specs.Place.{top}
 use Rattle.model_parser.specs.Stands.{IsOnTrack, IsNext}
-use Rattle.model_parser.specs.Turn.{Takes, Leaves}
+use Rattle.model_parser.specs.Turn.{Takes, Leaves, IsAt}
 use Rattle.model_parser.proofs.Carry.{stands_take, stands_leave}
 use Rattle.model_parser.proofs.Standing.{looks}
 use Rattle.yaml_parser.specs.declared.names.Keeping.{Keeping}
 use Rattle.yaml_parser.specs.declared.tokens.Tokens.{Tokens}
 use Rattle.yaml_parser.specs.declared.reader.Reader.{Reader}
 use Rattle.yaml_parser.specs.Ahead.{Skips}
-use Rattle.yaml_parser.specs.Handed.{taken_toks, peeked_tok, before_next, IsHanded, IsAwake, shown_list, ends}
+use Rattle.yaml_parser.specs.Handed.{taken_toks, peeked_tok, behind, last_position, BeginAt, IsHanded, IsAwake, shown_list, ends}
 use Rattle.yaml_parser.specs.Kinds.{IsOfKind}
 use Rattle.yaml_parser.specs.Named.{IsNamed}
 use Rattle.std.specs.Option.{IfSome}
-use Rattle.yaml_parser.proofs.Positions.{IsPlaced, count_more, no_comma_more, positions_took, positions_took_on, positions_left}
+use Rattle.yaml_parser.specs.Derived.{stood}
+use Rattle.yaml_parser.proofs.Positions.{count_more, behind_more}
+use Rattle.yaml_parser.proofs.Placing.{StandsSo, placed_took, placed_took_on, placed_left, placed_left_on}
+use Rattle.model_parser.proofs.Places.{nowhere}
 use Rattle.yaml_parser.proofs.Since.{since_append, since_after}
-use Rattle.yaml_parser.specs.At.{At, is_over, may_follow_comma, names_at, named_by, names_by, IsPending}
+use Rattle.yaml_parser.specs.At.{At, IsPastColon, is_over, names_at, named_by, names_by, IsPending}
 
 -- ---- lists
 
@@ -66,6 +70,26 @@ skipped_stands {T} {p} {r} {t} {g} {g'} {ss} {ss'} {raw} {raw'} here s f h =
     let one = f (subst (λ o. IsOnTrack g ss (taken_toks p) (option_map (λ (x : Token). tok_of x.1) o) raw) here h) in
     let two = subst (λ ts. IsOnTrack g' ss' ts None raw') (sym (ap (λ xs. toks (all_shown xs)) s.taken ∙ taken_snoc p.taken.items t)) one in
     subst (λ o. IsOnTrack g' ss' (taken_toks r) (option_map (λ (x : Token). tok_of x.1) o) raw') (sym s.peeked) two
+
+-- ---- places
+
+placed_after : {T : Type 0} {p r : Tokens T} {t : Token} (g : Goal) {ss us : List State} (stands : List (Raw × Position))
+    → Skips p t r → us ≡ ss → StandsSo (all_shown p.taken.items ++ shown t ∷ []) None (Some t.0) g ss stands → StandsSo (all_shown r.taken.items) r.peeked (last_position r) g us stands
+placed_after {T} {p} {r} {t} g {ss} {us} stands s to x =
+    let one = subst (λ ts. StandsSo ts None (Some t.0) g ss stands) (sym (ap all_shown s.taken ∙ map_snoc shown p.taken.items t)) x in
+    let two = subst (λ o. StandsSo (all_shown r.taken.items) o (Some t.0) g ss stands) (sym s.peeked) one in
+    let three = subst (λ b. StandsSo (all_shown r.taken.items) r.peeked b g ss stands) (sym (behind_more p.taken.items t r.taken.items s.taken)) two in
+    subst (λ zs. StandsSo (all_shown r.taken.items) r.peeked (last_position r) g zs stands) (sym to) three
+
+placed_same : {T : Type 0} {p r : Tokens T} (g : Goal) {ss us : List State} (stands : List (Raw × Position))
+    → r ≡ p → us ≡ ss → StandsSo (all_shown p.taken.items) p.peeked (last_position p) g ss stands → StandsSo (all_shown r.taken.items) r.peeked (last_position r) g us stands
+placed_same {T} {p} {r} g {ss} {us} stands same to x =
+    subst (λ zs. StandsSo (all_shown r.taken.items) r.peeked (last_position r) g zs stands) (sym to)
+    (subst (λ y. StandsSo (all_shown y.taken.items) y.peeked (last_position y) g ss stands) (sym same) x)
+
+colon_after : {T : Type 0} {p r : Tokens T} {t : Token} (g : Goal) {ss us : List State} → Skips p t r → us ≡ ss → IsPastColon (top g ss) (Some t.0) → IsPastColon (top g us) (last_position r)
+colon_after {T} {p} {r} {t} g {ss} {us} s to x =
+    subst (λ zs. IsPastColon (top g zs) (last_position r)) (sym to) (subst (IsPastColon (top g ss)) (sym (behind_more p.taken.items t r.taken.items s.taken)) x)
 
 -- ---- one turn
 
@@ -101,9 +125,9 @@ few_kept {j} {k} raw keep h = subst (λ k. length k.settings.items ≤ length ra
 -- The token is taken, and an event is given.
 pub took : {T : Type 0} (m : Position) {g g' : Goal} {p r : Reader T} {t : Token} {ss' : List State} {e : Raw} {v : Ev} {names names' : Names} {given : List (Ev × Position)}
     → p.tokens.peeked ≡ Some t → Skips p.tokens t r.tokens → r.stack ≡ ss' → Takes g p.stack (tok_of t.1) (Some e) g' ss'
-    → Named p r g' names e v names' → (is_over g' ≡ false → (is_over g ≡ false) × (is_end (tok_of t.1) ≡ false)) → IsPlaced (before_next p.tokens) e t m
+    → Named p r g' names e v names' → (is_over g' ≡ false → (is_over g ≡ false) × (is_end (tok_of t.1) ≡ false)) → IsAt (last_position p.tokens) (shown t) (Some e) m → IsPastColon (top g' ss') (Some t.0)
     → At g p names given → At g' r names' (given ++ (v, m) ∷ [])
-took {T} m {g} {g'} {p} {r} {t} {ss'} {e} {v} {names} {names'} {given} here s to turn n wakes spot a =
+took {T} m {g} {g'} {p} {r} {t} {ss'} {e} {v} {names} {names'} {given} here s to turn n wakes spot past a =
     record {
       raw = a.raw ++ e ∷ [];
       stands = subst (λ ss. IsOnTrack g' ss (taken_toks r.tokens) (peeked_tok r.tokens) (a.raw ++ e ∷ [])) (sym to)
@@ -113,8 +137,9 @@ took {T} m {g} {g'} {p} {r} {t} {ss'} {e} {v} {names} {names'} {given} here s to
       over = λ o. s.peeked;
       count = count_more m a.raw e v given a.count;
       few = few_kept (a.raw ++ e ∷ []) n.keep (few_more (length p.names.keeping.settings.items) a.raw e a.few);
-      positions = positions_took m a.raw e v given p.tokens.taken.items t r.tokens.taken.items s.taken a.count spot a.positions;
-      comma = λ f. no_comma_more p.tokens.taken.items t r.tokens.taken.items s.taken spot.other;
+      places = placed_after g' (stood (a.raw ++ e ∷ []) (given ++ (v, m) ∷ [])) s to (placed_took t (all_shown p.tokens.taken.items) a.raw m v given turn a.stands.fits spot a.count
+          (subst (λ o. StandsSo (all_shown p.tokens.taken.items) o (last_position p.tokens) g p.stack (stood a.raw given)) here a.places));
+      colon = colon_after g' s to past;
       events = events_more m n a;
       names_are = names_more n a;
       code = n.code;
@@ -124,9 +149,9 @@ took {T} m {g} {g'} {p} {r} {t} {ss'} {e} {v} {names} {names'} {given} here s to
 -- The token is taken, and no event is given.
 pub took_on : {T : Type 0} {g g' : Goal} {p r : Reader T} {t : Token} {ss' : List State} {names : Names} {given : List (Ev × Position)}
     → p.tokens.peeked ≡ Some t → Skips p.tokens t r.tokens → r.stack ≡ ss' → Takes g p.stack (tok_of t.1) None g' ss'
-    → r.names.keeping ≡ p.names.keeping → IsNamed r.names (names_at r.names.keeping.tags g' names) → IsPending names g' → (is_over g' ≡ false → (is_over g ≡ false) × (is_end (tok_of t.1) ≡ false)) → gives_position (before_next p.tokens).around (tok_of t.1) ≡ false
-    → (may_follow_comma g' ≡ false → is_comma (tok_of t.1) ≡ false) → At g p names given → At g' r names given
-took_on {T} {g} {g'} {p} {r} {t} {ss'} {names} {given} here s to turn keep code pending wakes spot other a =
+    → r.names.keeping ≡ p.names.keeping → IsNamed r.names (names_at r.names.keeping.tags g' names) → IsPending names g' → (is_over g' ≡ false → (is_over g ≡ false) × (is_end (tok_of t.1) ≡ false)) → IsPastColon (top g' ss') (Some t.0)
+    → At g p names given → At g' r names given
+took_on {T} {g} {g'} {p} {r} {t} {ss'} {names} {given} here s to turn keep code pending wakes past a =
     record {
       raw = a.raw;
       stands = subst (λ ss. IsOnTrack g' ss (taken_toks r.tokens) (peeked_tok r.tokens) a.raw) (sym to)
@@ -136,35 +161,28 @@ took_on {T} {g} {g'} {p} {r} {t} {ss'} {names} {given} here s to turn keep code 
       over = λ o. s.peeked;
       count = a.count;
       few = few_kept a.raw keep a.few;
-      positions = positions_took_on a.raw given p.tokens.taken.items t r.tokens.taken.items s.taken spot a.positions;
-      comma = λ f. no_comma_more p.tokens.taken.items t r.tokens.taken.items s.taken (other f);
+      places = placed_after g' (stood a.raw given) s to (placed_took_on t (all_shown p.tokens.taken.items) (stood a.raw given) turn a.stands.fits
+          (subst (λ o. StandsSo (all_shown p.tokens.taken.items) o (last_position p.tokens) g p.stack (stood a.raw given)) here a.places));
+      colon = colon_after g' s to past;
       events = ap (λ k. named_by k a.raw) keep ∙ a.events;
       names_are = ap (λ k. names_by k a.raw) keep ∙ a.names_are;
       code = code;
       pending = pending;
     }
 
--- whether a step over no token leads from or to where nothing is read, or from behind a comma to where none stands
+-- whether a step over no token leads from or to where nothing is read
 abbrev pub breaks : Goal → Goal → Bool
-breaks g g' = is_over g || (is_over g' || (may_follow_comma g && not (may_follow_comma g')))
+breaks g g' = is_over g || is_over g'
 
-pub kept : (a b : Bool) → (a && not b) ≡ false → b ≡ false → a ≡ false
-kept false b h k = refl
-kept true true h k = cc
-kept true false h k = cc
-
-unbroken : (g g' : Goal) → breaks g g' ≡ false → (is_over g ≡ false) × (is_over g' ≡ false) × (may_follow_comma g' ≡ false → may_follow_comma g ≡ false)
-unbroken g g' h =
-    let one = or_parts (is_over g) (is_over g' || (may_follow_comma g && not (may_follow_comma g'))) h in
-    let two = or_parts (is_over g') (may_follow_comma g && not (may_follow_comma g')) one.1 in
-    (one.0, two.0, kept (may_follow_comma g) (may_follow_comma g') two.1)
+unbroken : (g g' : Goal) → breaks g g' ≡ false → (is_over g ≡ false) × (is_over g' ≡ false)
+unbroken g g' h = or_parts (is_over g) (is_over g') h
 
 -- The token stays, and an event is given.
 pub left : {T : Type 0} (m : Position) {g g' : Goal} {p r : Reader T} {o : Option Tok} {ss' : List State} {e : Raw} {v : Ev} {names names' : Names} {given : List (Ev × Position)}
     → peeked_tok p.tokens ≡ o → r.tokens ≡ p.tokens → r.stack ≡ ss' → Leaves g p.stack o (Some e) g' ss'
-    → Named p r g' names e v names' → breaks g g' ≡ false → has_position e ≡ false
-    → At g p names given → At g' r names' (given ++ (v, m) ∷ [])
-left {T} m {g} {g'} {p} {r} {o} {ss'} {e} {v} {names} {names'} {given} here same to turn n wakes spot a =
+    → Named p r g' names e v names' → breaks g g' ≡ false → ((k : defs.Token) → BeginAt p.tokens.peeked (k ∷ []) → IsAt (last_position p.tokens) k (Some e) m)
+    → IsPastColon (top g' ss') (last_position p.tokens) → At g p names given → At g' r names' (given ++ (v, m) ∷ [])
+left {T} m {g} {g'} {p} {r} {o} {ss'} {e} {v} {names} {names'} {given} here same to turn n wakes spot past a =
     let one = stands_leave g p.stack o (Some e) g' ss' (taken_toks p.tokens) a.raw turn (subst (λ x. IsOnTrack g p.stack (taken_toks p.tokens) x a.raw) here a.stands) in
     let two : IsOnTrack g' ss' (taken_toks p.tokens) (peeked_tok p.tokens) (a.raw ++ e ∷ []) = subst (λ x. IsOnTrack g' ss' (taken_toks p.tokens) x (a.raw ++ e ∷ [])) (sym here) one in
     let three : IsOnTrack g' r.stack (taken_toks p.tokens) (peeked_tok p.tokens) (a.raw ++ e ∷ []) = subst (λ ss. IsOnTrack g' ss (taken_toks p.tokens) (peeked_tok p.tokens) (a.raw ++ e ∷ [])) (sym to) two in
@@ -174,10 +192,10 @@ left {T} m {g} {g'} {p} {r} {o} {ss'} {e} {v} {names} {names'} {given} here same
       handed = subst IsHanded (sym same) a.handed;
       awake = λ w. subst IsAwake (sym same) (a.awake (unbroken g g' wakes).0);
       over = λ w. absurd (both_ways (is_over g') (unbroken g g' wakes).1 w);
-      comma = λ f. ap (λ x. (before_next x).comma) same ∙ a.comma ((unbroken g g' wakes).2 f);
+      colon = subst (λ x. IsPastColon (top g' r.stack) (last_position x)) (sym same) (subst (λ ss. IsPastColon (top g' ss) (last_position p.tokens)) (sym to) past);
       count = count_more m a.raw e v given a.count;
       few = few_kept (a.raw ++ e ∷ []) n.keep (few_more (length p.names.keeping.settings.items) a.raw e a.few);
-      positions = positions_left m a.raw e v given (all_shown p.tokens.taken.items) (all_shown r.tokens.taken.items) (ap (λ x. all_shown x.taken.items) same) a.count spot a.positions;
+      places = placed_same g' (stood (a.raw ++ e ∷ []) (given ++ (v, m) ∷ [])) same to (placed_left p.tokens.peeked (all_shown p.tokens.taken.items) a.raw m v given here turn a.stands.nested a.stands.fits spot a.count a.places);
       events = events_more m n a;
       names_are = names_more n a;
       code = n.code;
@@ -188,8 +206,8 @@ left {T} m {g} {g'} {p} {r} {o} {ss'} {e} {v} {names} {names'} {given} here same
 pub left_as : {T : Type 0} {g g' : Goal} {p r : Reader T} {o : Option Tok} {ss' : List State} {names : Names} {given : List (Ev × Position)}
     → peeked_tok p.tokens ≡ o → r.tokens ≡ p.tokens → r.stack ≡ ss' → Leaves g p.stack o None g' ss'
     → r.names.keeping ≡ p.names.keeping → IsNamed r.names (names_at r.names.keeping.tags g' names) → IsPending names g' → breaks g g' ≡ false
-    → At g p names given → At g' r names given
-left_as {T} {g} {g'} {p} {r} {o} {ss'} {names} {given} here same to turn keep code pending wakes a =
+    → IsPastColon (top g' ss') (last_position p.tokens) → At g p names given → At g' r names given
+left_as {T} {g} {g'} {p} {r} {o} {ss'} {names} {given} here same to turn keep code pending wakes past a =
     let one = stands_leave g p.stack o None g' ss' (taken_toks p.tokens) a.raw turn (subst (λ x. IsOnTrack g p.stack (taken_toks p.tokens) x a.raw) here a.stands) in
     let two : IsOnTrack g' ss' (taken_toks p.tokens) (peeked_tok p.tokens) a.raw = subst (λ x. IsOnTrack g' ss' (taken_toks p.tokens) x a.raw) (sym here) one in
     let three : IsOnTrack g' r.stack (taken_toks p.tokens) (peeked_tok p.tokens) a.raw = subst (λ ss. IsOnTrack g' ss (taken_toks p.tokens) (peeked_tok p.tokens) a.raw) (sym to) two in
@@ -199,10 +217,10 @@ left_as {T} {g} {g'} {p} {r} {o} {ss'} {names} {given} here same to turn keep co
       handed = subst IsHanded (sym same) a.handed;
       awake = λ w. subst IsAwake (sym same) (a.awake (unbroken g g' wakes).0);
       over = λ w. absurd (both_ways (is_over g') (unbroken g g' wakes).1 w);
-      comma = λ f. ap (λ x. (before_next x).comma) same ∙ a.comma ((unbroken g g' wakes).2 f);
+      colon = subst (λ x. IsPastColon (top g' r.stack) (last_position x)) (sym same) (subst (λ ss. IsPastColon (top g' ss) (last_position p.tokens)) (sym to) past);
       count = a.count;
       few = few_kept a.raw keep a.few;
-      positions = a.positions ∙ sym (ap (λ x. given_positions (all_shown x.taken.items)) same);
+      places = placed_same g' (stood a.raw given) same to (placed_left_on p.tokens.peeked (all_shown p.tokens.taken.items) (stood a.raw given) nowhere here turn a.stands.nested a.stands.fits a.places);
       events = ap (λ k. named_by k a.raw) keep ∙ a.events;
       names_are = ap (λ k. names_by k a.raw) keep ∙ a.names_are;
       code = code;
@@ -213,10 +231,10 @@ left_as {T} {g} {g'} {p} {r} {o} {ss'} {names} {given} here same to turn keep co
 pub left_on : {T : Type 0} {g g' : Goal} {p r : Reader T} {o : Option Tok} {ss' : List State} {names : Names} {given : List (Ev × Position)}
     → peeked_tok p.tokens ≡ o → r.tokens ≡ p.tokens → r.stack ≡ ss' → Leaves g p.stack o None g' ss'
     → r.names ≡ p.names → names_at p.names.keeping.tags g' names ≡ names_at p.names.keeping.tags g names → IsPending names g' → breaks g g' ≡ false
-    → At g p names given → At g' r names given
-left_on {T} {g} {g'} {p} {r} {o} {ss'} {names} {given} here same to turn names_same seen pending wakes a =
+    → IsPastColon (top g' ss') (last_position p.tokens) → At g p names given → At g' r names given
+left_on {T} {g} {g'} {p} {r} {o} {ss'} {names} {given} here same to turn names_same seen pending wakes past a =
     left_as here same to turn (ap (λ n. n.keeping) names_same)
-    (subst (λ n. IsNamed n (names_at n.keeping.tags g' names)) (sym names_same) (subst (IsNamed p.names) (sym seen) a.code)) pending wakes a
+    (subst (λ n. IsNamed n (names_at n.keeping.tags g' names)) (sym names_same) (subst (IsNamed p.names) (sym seen) a.code)) pending wakes past a
 
 -- ---- a look
 
@@ -224,6 +242,18 @@ pub look_peeked : (g : Goal) (ss : List State) (taken : List Tok) (o q : Option 
     → IsOnTrack g ss taken (option_map (λ (x : Token). tok_of x.1) o) raw → IsOnTrack g ss taken (option_map (λ (x : Token). tok_of x.1) q) raw
 look_peeked g ss taken None q raw f s = looks _ s
 look_peeked g ss taken (Some t) q raw f s = subst (λ x. IsOnTrack g ss taken (option_map (λ (y : Token). tok_of y.1) x) raw) (sym (f t refl)) s
+
+-- what begins where the token stands that is looked at now, begins where that stood which was looked at before
+begins_before : (o q : Option Token) → ((t : Token) → o ≡ Some t → q ≡ Some t) → (ts : List defs.Token) → BeginAt q ts → BeginAt o ts
+begins_before None q f ts h = tt
+begins_before (Some t) q f ts h = subst (λ x. BeginAt x ts) (f t refl) h
+
+looked_places : {T : Type 0} (p r : Reader T) (g : Goal) (stands : List (Raw × Position)) → r.tokens.taken ≡ p.tokens.taken → r.stack ≡ p.stack → ((t : Token) → p.tokens.peeked ≡ Some t → r.tokens.peeked ≡ Some t)
+    → StandsSo (all_shown p.tokens.taken.items) p.tokens.peeked (last_position p.tokens) g p.stack stands → StandsSo (all_shown r.tokens.taken.items) r.tokens.peeked (last_position r.tokens) g r.stack stands
+looked_places {T} p r g stands taken stack same x =
+    let one : StandsSo (all_shown p.tokens.taken.items) r.tokens.peeked (last_position p.tokens) g p.stack stands = λ y ts es h a. x y ts es (begins_before p.tokens.peeked r.tokens.peeked same ts h) a in
+    let two = subst (λ y. StandsSo (all_shown y.items) r.tokens.peeked (behind None (all_shown y.items)) g p.stack stands) (sym taken) one in
+    subst (λ zs. StandsSo (all_shown r.tokens.taken.items) r.tokens.peeked (last_position r.tokens) g zs stands) (sym stack) two
 
 -- the next token is the one that was looked at, where one was
 pub begins_peeked : (o : Option Token) (ts : List Tok) → IsNext (option_map (λ (t : Token). tok_of t.1) o) (toks (shown_list o) ++ ts)
@@ -242,8 +272,8 @@ looks_on {T} {p} {r} taken same handed awake stack names_same {g} {names} {given
       over = λ o. absurd (both_ways (is_over g) going o);
       count = a.count;
       few = few_kept a.raw (ap (λ n. n.keeping) names_same) a.few;
-      positions = a.positions ∙ sym (ap (λ x. given_positions (all_shown x.items)) taken);
-      comma = λ f. ap (λ x. (past_all nothing_before (all_shown x.items)).comma) taken ∙ a.comma f;
+      places = looked_places p r g (stood a.raw given) taken stack same a.places;
+      colon = subst (λ ss. IsPastColon (top g ss) (last_position r.tokens)) (sym stack) (subst (λ x. IsPastColon (top g p.stack) (behind None (all_shown x.items))) (sym taken) a.colon);
       events = ap (λ n. named_by n.keeping a.raw) names_same ∙ a.events;
       names_are = ap (λ n. names_by n.keeping a.raw) names_same ∙ a.names_are;
       code = subst (λ n. IsNamed n (names_at n.keeping.tags g names)) (sym names_same) a.code;

@@ -6,7 +6,7 @@ use Rattle.yaml_tokens.specs.declared.token.TokenType.{TokenType}
 use Rattle.yaml_tokens.specs.declared.token.TokenType.TheVariants as token
 use Rattle.yaml_tokens.specs.declared.token.TScalarStyle.TheVariants.{Plain}
 use Rattle.yaml_scanner.specs.Scanned.{scanned, HandsBoth}
-use Rattle.yaml_scanner.specs.declared.pairs.PlainNode.{PlainNode}
+use Rattle.yaml_scanner.specs.declared.key_value.PlainNode.{PlainNode}
 use Rattle.yaml_parser.specs.declared.tokens.Tokens.{Tokens}
 
 -- one where it was looked at

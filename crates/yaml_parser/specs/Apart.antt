@@ -1,8 +1,10 @@
 -- After the same tokens and events, streams go on in two ways, or with two events.
 use Rattle.std.specs.Prelude.{◌≢◌, List, [], ◌∷◌, ◌++◌}
-use Rattle.defs_token.specs.Token.{Style, Tok}
+use Rattle.defs_text.specs.Position.{Position}
+use Rattle.defs_token.specs.Token.{Style, Tok, Token}
+use Rattle.defs_token.specs.Toks.{toks}
 use Rattle.defs_event.specs.Raw.{Raw}
-use Rattle.defs_event.specs.Stream.{StreamSays}
+use Rattle.defs_event.specs.Stream.{StreamSays, to_last, StreamPlacesTo}
 use Rattle.yaml_tokens.specs.declared.problem.Problem.{Problem}
 use Rattle.yaml_tokens.specs.declared.problem.Problem.TheVariants as problem
 use Rattle.defs_event.specs.Place.{Collection, block_sequence, block_mapping, flow_sequence, flow_mapping, open_after, Next, node_next, directive_next, other_next, next_after}
@@ -63,3 +65,20 @@ StandsApart problem.UndeclaredHandle tokens raw = GoesApart (two_that_come node_
 StandsApart problem.SecondVersion tokens raw = GoesApart (two_that_come directive_next []) tokens raw
 StandsApart problem.RepeatedHandle tokens raw = GoesApart (two_that_come directive_next []) tokens raw
 StandsApart p tokens raw = GoesApart (two_that_come (next_after other_next tokens) (open_after [] tokens)) tokens raw
+
+-- ---- which these are, with their positions
+
+abbrev pub token_at : Position → Tok → Token
+token_at m t = record { position = m; tok = t }
+
+-- These are the events that the tokens say, each at its position, before the first of the two comes, at this place.
+abbrev pub SaysBefore : Tok × Tok → List Token → Position → List (Raw × Position) → Type 0
+SaysBefore two tokens place events = StreamPlacesTo to_last (tokens ++ token_at place two.0 ∷ []) events
+
+-- So of the same tokens and the same problem they are one list.
+abbrev pub StandsBefore : Problem → List Token → Position → List (Raw × Position) → Type 0
+StandsBefore problem.DirectiveWithoutDocumentEnd tokens place events = SaysBefore (end_and_entry []) tokens place (events ++ (Raw.document_end, place) ∷ [])
+StandsBefore problem.UndeclaredHandle tokens place events = SaysBefore (two_that_come node_next []) tokens place events
+StandsBefore problem.SecondVersion tokens place events = SaysBefore (two_that_come directive_next []) tokens place events
+StandsBefore problem.RepeatedHandle tokens place events = SaysBefore (two_that_come directive_next []) tokens place events
+StandsBefore p tokens place events = SaysBefore (two_that_come (next_after other_next (toks tokens)) (open_after [] (toks tokens))) tokens place events

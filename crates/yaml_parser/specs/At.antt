@@ -1,6 +1,7 @@
 -- Where the productions stand.
 use Rattle.std.specs.Prelude.{◌≡◌, ◌≤◌, ◌||◌, length, List, Option, [], ◌∷◌, ◌++◌, Bool, true, false, Some, None, IsSome, Result, Ok, Err}
 use Rattle.defs_text.specs.Position.{Position}
+use Rattle.defs_token.specs.Token as defs
 use Rattle.yaml_tokens.specs.declared.token.Token.{Token}
 use Rattle.yaml_tokens.specs.declared.problem.Fault.TheVariants.{OutOfMemory}
 use Rattle.yaml_tokens.specs.declared.problem.Fault.TheVariants as fault
@@ -12,21 +13,24 @@ use Rattle.defs_event.specs.Event.{Ev}
 use Rattle.defs_event.specs.Raw.{Raw}
 use Rattle.defs_event.specs.Properties.{tag_of}
 use Rattle.defs_event.specs.Names.{Names, no_names, at_document, are_allowed, resolved, perhaps_resolved}
-use Rattle.defs_event.specs.Stream.{events_of, positions_of, taken_positions, given_positions}
+use Rattle.defs_event.specs.Stream.{Extent, StreamPlacesTo, events_of}
 use Rattle.model_parser.specs.Goal as at
 use Rattle.model_parser.specs.Goal.{Goal}
+use Rattle.model_parser.specs.Place.{top}
+use Rattle.model_parser.specs.Rest.{AwaitsAt}
 use Rattle.model_parser.specs.Stands.{IsOnTrack}
 use Rattle.model_parser.specs.declared.state.State.{State}
 use Rattle.yaml_parser.specs.declared.event.Event.{Event}
 use Rattle.yaml_parser.specs.declared.names.Keeping.{Keeping}
-use Rattle.yaml_parser.specs.declared.slot.Slot.{Slot}
+use Rattle.yaml_parser.specs.declared.slot.EventSlot.{EventSlot}
 use Rattle.yaml_parser.specs.declared.tokens.Stop.{Stop}
 use Rattle.yaml_parser.specs.declared.tokens.Stop.TheVariants as stop
 use Rattle.yaml_parser.specs.declared.reader.Reader.{Reader}
 use Rattle.yaml_parser.specs.Ahead.{Skips}
 use Rattle.yaml_parser.specs.Blames.{Blames}
+use Rattle.yaml_parser.specs.Derived.{stood}
 use Rattle.yaml_parser.specs.Halts.{IsHalted}
-use Rattle.yaml_parser.specs.Handed.{taken_toks, peeked_tok, before_next, IsHanded, IsAwake, IsStopped}
+use Rattle.yaml_parser.specs.Handed.{taken_toks, peeked_tok, last_position, BeginAt, IsHanded, IsAwake, IsStopped}
 use Rattle.yaml_parser.specs.Named.{IsNamed}
 use Rattle.yaml_parser.specs.Settings.{named_since, names_since}
 use Rattle.yaml_parser.specs.Shown.{placed, ev_of}
@@ -39,19 +43,18 @@ abbrev pub is_done : Goal → Bool
 is_done at.done = true
 is_done _ = false
 
--- whether it reads nothing here
-abbrev pub is_idle : Goal → Bool
-is_idle g = is_over g || is_done g
+abbrev pub is_pair_end : Goal → Bool
+is_pair_end at.pair_end = true
+is_pair_end _ = false
 
--- whether a comma may stand right before it
-abbrev pub may_follow_comma : Goal → Bool
-may_follow_comma at.comma_items = true
-may_follow_comma at.item = true
-may_follow_comma at.comma_flow_pairs = true
-may_follow_comma at.flow_pair = true
-may_follow_comma (at.node c) = true
-may_follow_comma (at.after_properties c None) = true
-may_follow_comma _ = false
+-- whether it looks at no token here
+abbrev pub is_idle : Goal → Bool
+is_idle g = is_over g || (is_done g || is_pair_end g)
+
+-- Where a value is read, or is next, whose `:` stands there, this was the last token.
+abbrev pub IsPastColon : Goal → Option Position → Type 0
+IsPastColon (at.flow_valued m) last = last ≡ Some m
+IsPastColon g last = Unit {0}
 
 -- ---- names
 
@@ -86,8 +89,9 @@ pub record At {T : Type 0} (g : Goal) (p : Reader T) (names : Names) (given : Li
   pub over : is_over g ≡ true → p.tokens.peeked ≡ None
   pub count : length raw ≡ length given
   pub few : length p.names.keeping.settings.items ≤ length raw
-  pub positions : taken_positions raw (positions_of given) ≡ given_positions (all_shown p.tokens.taken.items)
-  pub comma : may_follow_comma g ≡ false → (before_next p.tokens).comma ≡ None
+  pub places : (x : Extent) (ts : List defs.Token) (es : List (Raw × Position)) → BeginAt p.tokens.peeked ts → AwaitsAt x (last_position p.tokens) g p.stack ts es
+      → StreamPlacesTo x (all_shown p.tokens.taken.items ++ ts) (stood raw given ++ es)
+  pub colon : IsPastColon (top g p.stack) (last_position p.tokens)
   pub events : named_by p.names.keeping raw ≡ Some (events_of given)
   pub names_are : names_by p.names.keeping raw ≡ names
   pub code : IsNamed p.names (names_at p.names.keeping.tags g names)
@@ -113,17 +117,17 @@ Answers p given (Ok e) = (names : Names) × At (goal_after_event (ev_of e.0)) p 
 Answers p given (Err s) = Faulted p given s
 
 -- what a slot holds after this answer
-abbrev pub answered : {E : Type 0} → Result (Unit {0}) E → Slot → Result (Event × Position) Stop
+abbrev pub answered : {E : Type 0} → Result (Unit {0}) E → EventSlot → Result (Event × Position) Stop
 answered (Ok u) slot = Ok slot.next
 answered (Err e) slot = Err slot.stop
 
 -- the same of what is no event
-abbrev pub with_stop : {A E : Type 0} → Result A E → Slot → Result A Stop
+abbrev pub with_stop : {A E : Type 0} → Result A E → EventSlot → Result A Stop
 with_stop (Ok x) slot = Ok x
 with_stop (Err e) slot = Err slot.stop
 
 -- what a production comes to
-abbrev pub Reads : {T E : Type 0} → Goal → Reader T → Reader T → Result (Unit {0}) E → Slot → Type 0
+abbrev pub Reads : {T E : Type 0} → Goal → Reader T → Reader T → Result (Unit {0}) E → EventSlot → Type 0
 Reads g old new result slot = (names : Names) (given : List (Ev × Position)) → At g old names given → Answers new given (answered result slot)
 
 abbrev pub Carries : {T : Type 0} → Goal → Reader T → Reader T → Type 0

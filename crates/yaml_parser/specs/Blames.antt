@@ -18,8 +18,8 @@ use Rattle.model_parser.specs.declared.kind.Kind.TheVariants as kind
 use Rattle.model_parser.specs.declared.context.NodeContext.TheVariants as context
 use Rattle.model_parser.specs.Kinds.{kind_of, is_directive, begins_content, ends_item, ends_flow_pair}
 use Rattle.defs_event.specs.Place.{Collection, block_sequence, block_mapping, flow_sequence, flow_mapping, open_after, Next, node_next, directive_next, other_next, next_after}
-use Rattle.yaml_parser.specs.Apart.{StandsApart}
-use Rattle.yaml_parser.specs.Derived.{IsDerived, NoneIsNamed}
+use Rattle.yaml_parser.specs.Apart.{StandsApart, StandsBefore}
+use Rattle.yaml_parser.specs.Derived.{IsDerived, NoneIsNamed, stood}
 use Rattle.yaml_parser.specs.Nests.{is_open}
 use Rattle.yaml_parser.specs.Settings.{names_since}
 
@@ -148,6 +148,8 @@ pub record Blames (f : ErrorReport) (settings : List Bool) (keep_tags : Bool) (t
   pub stands : StandsAt problem f.position before last
   -- But at the stream's start, the events are those that the tokens before make certain.
   pub apart : (toks before ≡ [] → ⊥) → StandsApart problem (toks before) raw
+  -- They are those that the tokens before it say before another token comes in its place.
+  pub beside : (toks before ≡ [] → ⊥) → StandsBefore problem before last.position (stood raw events)
   -- But for a problem of names, the token grammar has no stream that begins so, whatever names mean.
   pub none : is_of_names problem ≡ false → (ts : List Tok) (es : List Raw) → StreamSays (toks tokens ++ ts) es → ⊥
   -- For one of names, it has such a stream.

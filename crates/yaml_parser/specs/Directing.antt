@@ -8,7 +8,7 @@ use Rattle.defs_token.specs.Token.{Tok}
 use Rattle.defs_event.specs.Names.{Names, versions}
 use Rattle.model_parser.specs.Goal as at
 use Rattle.yaml_parser.specs.declared.tokens.Stop.{Stop}
-use Rattle.yaml_parser.specs.declared.slot.Slot.{Slot}
+use Rattle.yaml_parser.specs.declared.slot.EventSlot.{EventSlot}
 use Rattle.yaml_parser.specs.declared.reader.Reader.{Reader}
 use Rattle.yaml_parser.specs.Handed.{taken_toks}
 use Rattle.yaml_parser.specs.Named.{IsOwn}
@@ -31,7 +31,7 @@ abbrev pub DirectsTo : {T : Type 0} → Reader T → Names → List (Ev × Posit
 DirectsTo p names given versioned (Ok u) = Directing p names given versioned
 DirectsTo p names given versioned (Err s) = Faulted p given s
 
-abbrev pub Directs : {T E : Type 0} → Bool → Bool → Reader T → Reader T → Result (Unit {0}) E → Slot → Type 0
+abbrev pub Directs : {T E : Type 0} → Bool → Bool → Reader T → Reader T → Result (Unit {0}) E → EventSlot → Type 0
 Directs before after old new result slot = (names : Names) (given : List (Ev × Position)) → Directing old names given before → DirectsTo new names given after (with_stop result slot)
 
 -- All directives of a document are read.

@@ -5,7 +5,7 @@ use Rattle.yaml_tokens.specs.ErrorReport.{ErrorReport}
 use Rattle.defs_event.specs.Event.{Ev}
 use Rattle.defs_event.specs.Raw.{Raw}
 use Rattle.defs_token.specs.Toks.{toks}
-use Rattle.defs_event.specs.Stream.{StreamSays, IsStream, IsPlacedStream, BeginsPlaced, Foretells, NoneBegins, events_of}
+use Rattle.defs_event.specs.Stream.{StreamSays, IsStream, IsPlacedStream, to_next, HasPlacedTo, BeginsPlaced, Foretells, NoneBegins, events_of}
 use Rattle.yaml_parser.specs.Blames.{Blames, WantsMemory}
 use Rattle.yaml_parser.specs.Derived.{IsDerived, IsStreamSince, ForetellsRaw}
 use Rattle.yaml_parser.specs.Halts.{IsHalted}
@@ -61,12 +61,14 @@ pub record IsRefusedAtLast (f : ErrorReport) (p : Parsed) : Type 0 where
   pub refused : p.steady ≡ true → Refused p
 
 -- The scanner met the fault, after all tokens that are settled before it, unless memory was refused. A stream begins with all tokens that it handed
--- out, and with the events read: so the parser refuses none of them.
+-- out, and with the events read: so the parser refuses none of them. The events read are those that these tokens say where the next one is
+-- wanted, each at its position.
 pub record IsOfScanner (f : ErrorReport) (p : Parsed) : Type 0 where
   pub fault : p.scanner.fault ≡ Some f
   pub settled : f.memory ≡ false → p.scanner.early ≡ false
   pub halted : IsHalted p.settings p.keep_tags p.scanner.given (read p)
   pub begins : p.steady ≡ true → BeginsPlaced p.keep_tags p.scanner.given (read p)
+  pub so_far : p.steady ≡ true → HasPlacedTo to_next p.keep_tags p.scanner.given (read p)
 
 -- Why a fault comes, and what the events beside it are: it is the scanner's, and they are those of the tokens taken; or memory was refused; or the last
 -- token is refused, and they are those of the tokens before it.

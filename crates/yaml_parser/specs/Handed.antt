@@ -8,7 +8,6 @@ use Rattle.yaml_tokens.specs.Shown.{shown, all_shown, tok_of}
 use Rattle.yaml_scanner.specs.Scanned.{Scanned, scanned}
 use Rattle.yaml_scanner_state.specs.Tokens.{is_end}
 use Rattle.defs_token.specs.Toks.{toks}
-use Rattle.defs_event.specs.Stream.{Before, nothing_before, past_all}
 use Rattle.yaml_parser.specs.declared.tokens.Tokens.{Tokens}
 
 abbrev pub shown_list : Option Token → List defs.Token
@@ -21,13 +20,24 @@ taken_toks p = toks (all_shown p.taken.items)
 abbrev pub peeked_tok : {T : Type 0} → Tokens T → Option Tok
 peeked_tok p = option_map (λ (t : Token). tok_of t.1) p.peeked
 
--- what stands before the next token
-abbrev pub before_next : {T : Type 0} → Tokens T → Before
-before_next p = past_all nothing_before (all_shown p.taken.items)
+-- where the last of these tokens stands, or what is before them
+abbrev pub behind : Option Position → List defs.Token → Option Position
+behind b [] = b
+behind b (t ∷ ts) = behind (Some t.position) ts
 
--- A comma was taken last, at this position.
-abbrev pub IsAfterComma : {T : Type 0} → Position → Tokens T → Type 0
-IsAfterComma comma p = (before_next p).comma ≡ Some comma
+-- where the token stands that was taken last
+abbrev pub last_position : {T : Type 0} → Tokens T → Option Position
+last_position p = behind None (all_shown p.taken.items)
+
+-- The token that was taken last stands there.
+abbrev pub IsRightAfter : {T : Type 0} → Position → Tokens T → Type 0
+IsRightAfter m p = last_position p ≡ Some m
+
+-- The first of these tokens stands where the one does that was looked at, if one was.
+abbrev pub BeginAt : Option Token → List defs.Token → Type 0
+BeginAt None ts = Unit {0}
+BeginAt (Some t) [] = ⊥
+BeginAt (Some t) (k ∷ ts) = k.position ≡ t.0
 
 -- The scanner handed out what was taken, and what was looked at.
 abbrev pub IsHanded : {T : Type 0} → Tokens T → Type 0

@@ -10,7 +10,7 @@ use Rattle.yaml_parser.specs.declared.event.Event.{Event}
 use Rattle.yaml_parser.specs.declared.names.Keeping.{Keeping}
 use Rattle.yaml_parser.specs.declared.tokens.KeptStop.{KeptStop}
 use Rattle.yaml_parser.specs.declared.tokens.Stop.{Stop}
-use Rattle.yaml_parser.specs.declared.pull.Pull.{Pull}
+use Rattle.yaml_parser.specs.declared.pull.EventReader.{EventReader}
 use Rattle.yaml_parser.specs.declared.reader.Reader.{Reader}
 use Rattle.yaml_parser.specs.Parsed.{has_end, read_so}
 use Rattle.yaml_parser.specs.Settings.{AreAll}
@@ -44,7 +44,7 @@ abbrev pub IsMet : {T : Type 0} → Reader T → List (Ev × Position) → Optio
 IsMet p read o = IfSome o (λ k. Faulted p read k.stop)
 
 -- An event more is read; the stream's end comes again, and nothing changes; or a fault is met.
-abbrev pub Continues : {T : Type 0} → Pull T → List (Ev × Position) → Result (Event × Position) ErrorReport → Pull T → Type 0
+abbrev pub Continues : {T : Type 0} → EventReader T → List (Ev × Position) → Result (Event × Position) ErrorReport → EventReader T → Type 0
 Continues old read (Ok e) new =
     (old.kept ≡ None) × (new.kept ≡ None)
     × (((has_end read ≡ true) × (new ≡ old) × (ev_of e.0 ≡ Ev.stream_end))
@@ -52,12 +52,12 @@ Continues old read (Ok e) new =
 Continues old read (Err f) new = (new.reader.names.keeping ≡ old.reader.names.keeping) × IsHeld new.reader read new.kept × (old.kept ≡ None → IsMet new.reader read new.kept)
 
 -- The same before the stream's end, where no fault is kept.
-abbrev pub Advances : {T : Type 0} → Pull T → List (Ev × Position) → Result (Event × Position) Stop → Pull T → Type 0
+abbrev pub Advances : {T : Type 0} → EventReader T → List (Ev × Position) → Result (Event × Position) Stop → EventReader T → Type 0
 Advances old read (Ok e) new = (has_end read ≡ false) × (work new.reader < work old.reader) × Notes old.reader.names.keeping new.reader.names.keeping × IsHeld new.reader (read ++ placed e ∷ []) None
 Advances old read (Err s) new = (new.reader.names.keeping ≡ old.reader.names.keeping) × (has_end read ≡ false) × Faulted new.reader read s
 
 -- What is known of a parser.
-pub record Holds {T : Type 0} (pull : Pull T) (given : List (Ev × Position)) (ahead : Option (Ev × Position)) (started ended : Bool) (misplaced : Option Position) : Type 0 where
+pub record Holds {T : Type 0} (pull : EventReader T) (given : List (Ev × Position)) (ahead : Option (Ev × Position)) (started ended : Bool) (misplaced : Option Position) : Type 0 where
   pub held : IsHeld pull.reader (read_so given ended ahead) pull.kept
   -- whether the settings were all this one
   pub steady : pull.reader.names.keeping.steady ≡ true → AreAll pull.reader.names.keeping.tags pull.reader.names.keeping.settings.items

@@ -5,12 +5,11 @@ use Rattle.defs_text.specs.Text.{string_chars}
 use Rattle.defs_event.specs.Event as defs
 use Rattle.defs_event.specs.Event.{Ev}
 use Rattle.defs_event.specs.Properties as written
-use Rattle.defs_event.specs.Properties.{anchor_of, tag_of}
 use Rattle.defs_event.specs.Names.{Names, number, with_anchor, perhaps_resolved}
 use Rattle.model_parser.specs.declared.context.NodeContext.{NodeContext}
 use Rattle.model_parser.specs.Goal as at
 use Rattle.yaml_parser.specs.declared.node.Properties.{Properties}
-use Rattle.yaml_parser.specs.declared.slot.Slot.{Slot}
+use Rattle.yaml_parser.specs.declared.slot.EventSlot.{EventSlot}
 use Rattle.yaml_parser.specs.declared.reader.Reader.{Reader}
 use Rattle.yaml_parser.specs.Named.{IsNamed}
 use Rattle.yaml_parser.specs.Shown as shown
@@ -32,7 +31,7 @@ pub record Has (names : Names) (o : Option written.Properties) (p : Option Prope
   pub tag : perhaps_resolved names.handles (written.perhaps_tag_of o) ≡ Some (kept_tag p)
 
 -- what a content comes to, after these properties
-abbrev pub ReadsAfter : {T E : Type 0} → NodeContext → Option Properties → Reader T → Reader T → Result (Unit {0}) E → Slot → Type 0
+abbrev pub ReadsAfter : {T E : Type 0} → NodeContext → Option Properties → Reader T → Reader T → Result (Unit {0}) E → EventSlot → Type 0
 ReadsAfter p properties old new result slot =
     (o : Option written.Properties) (names : Names) (given : List (Ev × chars.Position)) → Has names o properties → At (at.after_properties p o) old names given → Answers new given (answered result slot)
 

@@ -6,12 +6,12 @@ use Rattle.yaml_tokens.specs.Problem.{fault_of}
 use Rattle.yaml_tokens.specs.declared.problem.Fault.TheVariants as fault
 use Rattle.yaml_tokens.specs.declared.problem.Problem.TheVariants.{DocumentStartEvent}
 use Rattle.yaml_scanner.specs.Scanned.{scanned}
-use Rattle.yaml_parser.specs.declared.pull.Pull.{Pull}
+use Rattle.yaml_parser.specs.declared.pull.EventReader.{EventReader}
 use Rattle.yaml_parser.specs.declared.reader.Reader.{Reader}
 use Rattle.yaml_parser.specs.Seen.{fault_seen}
 use Rattle.yaml_parser.specs.Work.{work}
 
-abbrev pub fault_kept : {T : Type 0} → Pull T → Option ErrorReport
+abbrev pub fault_kept : {T : Type 0} → EventReader T → Option ErrorReport
 fault_kept p = option_map (λ k. fault_seen k.stop k.mark (scanned p.reader.tokens.scanner).fault) p.kept
 
 abbrev pub one_if_some : {A : Type 0} → Option A → ℕ
@@ -26,6 +26,6 @@ abbrev pub no_document : Position → ErrorReport
 no_document p = fault_of (fault.At DocumentStartEvent p) p
 
 -- the fault that is kept: that of `load` where no document started, or that of the pulls
-abbrev pub fault_of_all : {T : Type 0} → Option Position → Pull T → Option ErrorReport
+abbrev pub fault_of_all : {T : Type 0} → Option Position → EventReader T → Option ErrorReport
 fault_of_all (Some p) pull = Some (no_document p)
 fault_of_all None pull = fault_kept pull

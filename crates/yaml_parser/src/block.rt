@@ -6,7 +6,7 @@ ghost use Rattle.yaml_parser.specs.Kinds.{IsOfKind};
 
 use crate::event::Event;
 use crate::reader::Reader;
-use crate::slot::{Answer, Slot};
+use crate::slot::{Answer, EventSlot};
 use crate::tokens::Stop;
 use model_parser::{Kind, NodeContext, State};
 use yaml_chars::Characters;
@@ -14,9 +14,9 @@ use yaml_tokens::{Fault, Problem};
 
 impl<T: Characters> Reader<T> {
     #[inline(always)]
-    pub(crate) fn block_sequence_entry(&mut self, slot: &mut Slot) -> Answer
+    pub(crate) fn block_sequence_entry(&mut self, slot: &mut EventSlot) -> Answer
         ensures answers { Reads at.entries self.old self.new result slot.new }
-        ensures moves { Moves 1 1 self.old self.new result }
+        ensures bounds { Moves 1 1 self.old self.new result }
     {
         let next = self.peek(slot)?;
         match next {
@@ -34,9 +34,9 @@ impl<T: Characters> Reader<T> {
 
     /// After a `-`.
     #[inline(always)]
-    fn block_sequence_item(&mut self, slot: &mut Slot) -> Answer
+    fn block_sequence_item(&mut self, slot: &mut EventSlot) -> Answer
         ensures answers { Reads at.entry self.old self.new result slot.new }
-        ensures moves { Moves 3 1 self.old self.new result }
+        ensures bounds { Moves 3 1 self.old self.new result }
     {
         let next = self.peek(slot)?;
         self.push(slot, State::BlockSequenceEntry)?;
@@ -49,9 +49,9 @@ impl<T: Characters> Reader<T> {
         }
     }
 
-    pub(crate) fn indentless_sequence_entry(&mut self, slot: &mut Slot) -> Answer
-        ensures answers { Reads at.dashes self.old self.new result slot.new }
-        ensures moves { Moves 1 1 self.old self.new result }
+    pub(crate) fn indentless_sequence_entry(&mut self, slot: &mut EventSlot) -> Answer
+        ensures answers { Reads at.indentless_entries self.old self.new result slot.new }
+        ensures bounds { Moves 1 1 self.old self.new result }
     {
         let next = self.peek(slot)?;
         match next {
@@ -68,9 +68,9 @@ impl<T: Characters> Reader<T> {
 
     /// After a `-`.
     #[inline(always)]
-    pub(crate) fn indentless_sequence_item(&mut self, slot: &mut Slot) -> Answer
-        ensures answers { Reads at.dashed self.old self.new result slot.new }
-        ensures moves { Moves 2 1 self.old self.new result }
+    pub(crate) fn indentless_sequence_item(&mut self, slot: &mut EventSlot) -> Answer
+        ensures answers { Reads at.indentless_entry self.old self.new result slot.new }
+        ensures bounds { Moves 2 1 self.old self.new result }
     {
         let next = self.peek(slot)?;
         self.push(slot, State::IndentlessSequenceEntry)?;
@@ -84,9 +84,9 @@ impl<T: Characters> Reader<T> {
     }
 
     #[inline(always)]
-    pub(crate) fn block_mapping_key(&mut self, slot: &mut Slot) -> Answer
+    pub(crate) fn block_mapping_key(&mut self, slot: &mut EventSlot) -> Answer
         ensures answers { Reads at.pairs self.old self.new result slot.new }
-        ensures moves { Moves 1 1 self.old self.new result }
+        ensures bounds { Moves 1 1 self.old self.new result }
     {
         if let Some(key) = self.next_key(slot)? {
             return self.plain(slot, key, State::BlockMappingValue);
@@ -105,9 +105,9 @@ impl<T: Characters> Reader<T> {
     }
 
     /// Where a `:` would be a value of the key before.
-    pub(crate) fn block_mapping_next_key(&mut self, slot: &mut Slot) -> Answer
+    pub(crate) fn block_mapping_next_key(&mut self, slot: &mut EventSlot) -> Answer
         ensures answers { Reads at.key_pairs self.old self.new result slot.new }
-        ensures moves { Moves 1 1 self.old self.new result }
+        ensures bounds { Moves 1 1 self.old self.new result }
     {
         let next = self.peek(slot)?;
         self.block_mapping_pair(slot, next)
@@ -115,10 +115,10 @@ impl<T: Characters> Reader<T> {
 
     /// A pair that begins with a key, or the mapping's end. `next` was looked at.
     #[inline(always)]
-    fn block_mapping_pair(&mut self, slot: &mut Slot, next: Kind) -> Answer
+    fn block_mapping_pair(&mut self, slot: &mut EventSlot, next: Kind) -> Answer
         requires { IsOfKind next self.old.tokens.peeked }
         ensures answers { Reads at.key_pairs self.old self.new result slot.new }
-        ensures moves { Moves 1 1 self.old self.new result }
+        ensures bounds { Moves 1 1 self.old self.new result }
     {
         match next {
             Kind::BlockEnd => {
@@ -136,9 +136,9 @@ impl<T: Characters> Reader<T> {
 
     /// After a key.
     #[inline(always)]
-    pub(crate) fn block_mapping_value(&mut self, slot: &mut Slot) -> Answer
+    pub(crate) fn block_mapping_value(&mut self, slot: &mut EventSlot) -> Answer
         ensures answers { Reads at.after_key self.old self.new result slot.new }
-        ensures moves { Moves 2 1 self.old self.new result }
+        ensures bounds { Moves 2 1 self.old self.new result }
     {
         if let Some(value) = self.next_value(slot)? {
             return self.plain(slot, value, State::BlockMappingKey);
@@ -160,9 +160,9 @@ impl<T: Characters> Reader<T> {
 
     /// A key or a value, which may be missing.
     #[inline(always)]
-    pub(crate) fn block_mapping_part(&mut self, slot: &mut Slot) -> Answer
+    pub(crate) fn block_mapping_part(&mut self, slot: &mut EventSlot) -> Answer
         ensures answers { Reads at.part self.old self.new result slot.new }
-        ensures moves { Moves 1 1 self.old self.new result }
+        ensures bounds { Moves 1 1 self.old self.new result }
     {
         let next = self.peek(slot)?;
         match next {

@@ -10,16 +10,16 @@ ghost use Rattle.yaml_parser.specs.Kinds.{IsOfKind};
 
 use crate::event::Event;
 use crate::reader::Reader;
-use crate::slot::{Answer, Halted, Slot};
+use crate::slot::{Answer, EventSlot, Stopped};
 use crate::tokens::Stop;
 use model_parser::{Kind, NodeContext, State};
 use yaml_chars::Characters;
 use yaml_tokens::{Fault, Problem};
 
 impl<T: Characters> Reader<T> {
-    pub(crate) fn stream_start(&mut self, slot: &mut Slot) -> Answer
+    pub(crate) fn stream_start(&mut self, slot: &mut EventSlot) -> Answer
         ensures answers { Reads at.start self.old self.new result slot.new }
-        ensures moves { Moves 1 1 self.old self.new result }
+        ensures bounds { Moves 1 1 self.old self.new result }
     {
         let next = self.peek(slot)?;
         match next {
@@ -34,9 +34,9 @@ impl<T: Characters> Reader<T> {
     }
 
     /// The first token that is no `...`.
-    fn skip_document_ends(&mut self, slot: &mut Slot) -> Result<Kind, Halted>
+    fn skip_document_ends(&mut self, slot: &mut EventSlot) -> Result<Kind, Stopped>
         ensures peeked { IfOk result (λ n. IsOfKind n self.new.tokens.peeked × (n ≢ kind.DocumentEnd)) }
-        ensures moves { Moves 0 0 self.old self.new result }
+        ensures bounds { Moves 0 0 self.old self.new result }
         ensures at { OnOk result (Carries at.documents self.old self.new) }
         ensures err { OnErr result (Fails at.documents self.old self.new slot.new.stop) }
     {
@@ -49,9 +49,9 @@ impl<T: Characters> Reader<T> {
     }
 
     /// After the stream's start or `...`.
-    pub(crate) fn document(&mut self, slot: &mut Slot) -> Answer
+    pub(crate) fn document(&mut self, slot: &mut EventSlot) -> Answer
         ensures answers { Reads at.documents self.old self.new result slot.new }
-        ensures moves { Moves 4 1 self.old self.new result }
+        ensures bounds { Moves 4 1 self.old self.new result }
     {
         let next = self.skip_document_ends(slot)?;
         match next {
@@ -68,19 +68,19 @@ impl<T: Characters> Reader<T> {
     }
 
     /// After a document without `...`.
-    pub(crate) fn explicit_document(&mut self, slot: &mut Slot) -> Answer
+    pub(crate) fn explicit_document(&mut self, slot: &mut EventSlot) -> Answer
         ensures answers { Reads at.explicit self.old self.new result slot.new }
-        ensures moves { Moves 1 1 self.old self.new result }
+        ensures bounds { Moves 1 1 self.old self.new result }
     {
         let next = self.peek(slot)?;
         self.end_or_document(slot, next)
     }
 
     /// The stream's end, or a document that begins with `---`. `next` was looked at.
-    fn end_or_document(&mut self, slot: &mut Slot, next: Kind) -> Answer
+    fn end_or_document(&mut self, slot: &mut EventSlot, next: Kind) -> Answer
         requires { IsOfKind next self.old.tokens.peeked }
         ensures answers { Reads at.explicit self.old self.new result slot.new }
-        ensures moves { Moves 1 1 self.old self.new result }
+        ensures bounds { Moves 1 1 self.old self.new result }
     {
         match next {
             Kind::StreamEnd => {
@@ -99,11 +99,11 @@ impl<T: Characters> Reader<T> {
     }
 
     /// A document with directives. The first directive was looked at.
-    fn directed_document(&mut self, slot: &mut Slot, kind: Kind) -> Answer
+    fn directed_document(&mut self, slot: &mut EventSlot, kind: Kind) -> Answer
         requires looks { IsOfKind kind self.old.tokens.peeked }
         requires directive { is_directive kind ≡ true }
         ensures answers { Reads at.documents self.old self.new result slot.new }
-        ensures moves { Moves 1 1 self.old self.new result }
+        ensures bounds { Moves 1 1 self.old self.new result }
     {
         self.names.start_document();
         let next = self.directives(slot)?;
@@ -119,9 +119,9 @@ impl<T: Characters> Reader<T> {
     }
 
     /// Reads directives, and gives the first token that is none.
-    fn directives(&mut self, slot: &mut Slot) -> Result<Kind, Halted>
+    fn directives(&mut self, slot: &mut EventSlot) -> Result<Kind, Stopped>
         ensures peeked { IfOk result (λ n. IsOfKind n self.new.tokens.peeked × (n ≢ kind.VersionDirective) × (n ≢ kind.TagDirective)) }
-        ensures moves { Moves 0 0 self.old self.new result }
+        ensures bounds { Moves 0 0 self.old self.new result }
         ensures at { OnOk result (AreRead self.old self.new) }
         ensures err { OnErr result (DirectivesFail self.old self.new slot.new.stop) }
     {
@@ -140,10 +140,10 @@ impl<T: Characters> Reader<T> {
     }
 
     /// Takes a version. A document may have one.
-    fn version(&mut self, slot: &mut Slot, versioned: bool) -> Result<(), Halted>
+    fn version(&mut self, slot: &mut EventSlot, versioned: bool) -> Result<(), Stopped>
         requires { IsOfKind kind.VersionDirective self.old.tokens.peeked }
         ensures directs { Directs versioned true self.old self.new result slot.new }
-        ensures moves { Moves 0 1 self.old self.new result }
+        ensures bounds { Moves 0 1 self.old self.new result }
     {
         let mark = self.skip();
         if versioned {
@@ -153,10 +153,10 @@ impl<T: Characters> Reader<T> {
     }
 
     /// Takes a `%TAG` directive, or one of another name.
-    fn tag_directive(&mut self, slot: &mut Slot) -> Result<(), Halted>
+    fn tag_directive(&mut self, slot: &mut EventSlot) -> Result<(), Stopped>
         requires { IsOfKind kind.TagDirective self.old.tokens.peeked }
         ensures directs { (versioned : Bool) → Directs versioned versioned self.old self.new result slot.new }
-        ensures moves { Moves 0 1 self.old self.new result }
+        ensures bounds { Moves 0 1 self.old self.new result }
     {
         let mark = self.mark();
         let (handle, prefix) = self.tokens.take_tag_directive();
@@ -167,9 +167,9 @@ impl<T: Characters> Reader<T> {
     }
 
     /// After `---`.
-    pub(crate) fn document_content(&mut self, slot: &mut Slot) -> Answer
+    pub(crate) fn document_content(&mut self, slot: &mut EventSlot) -> Answer
         ensures answers { Reads at.content self.old self.new result slot.new }
-        ensures moves { Moves 3 1 self.old self.new result }
+        ensures bounds { Moves 3 1 self.old self.new result }
     {
         let next = self.peek(slot)?;
         self.push(slot, State::DocumentEnd)?;
@@ -187,9 +187,9 @@ impl<T: Characters> Reader<T> {
     }
 
     /// After a document's node.
-    pub(crate) fn document_end(&mut self, slot: &mut Slot) -> Answer
+    pub(crate) fn document_end(&mut self, slot: &mut EventSlot) -> Answer
         ensures answers { Reads at.after self.old self.new result slot.new }
-        ensures moves { Moves 2 1 self.old self.new result }
+        ensures bounds { Moves 2 1 self.old self.new result }
     {
         let next = self.peek(slot)?;
         match next {

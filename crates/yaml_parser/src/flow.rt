@@ -1,14 +1,15 @@
 //! Flow collections (YAML 1.2, section 7.4).
+ghost use Rattle.defs_event.specs.Grammar.{Start};
 ghost use Rattle.model_parser.specs.Goal as at;
 ghost use Rattle.model_parser.specs.declared.kind.Kind.TheVariants as kind;
 ghost use Rattle.yaml_parser.specs.At.{Reads};
-ghost use Rattle.yaml_parser.specs.Handed.{IsAfterComma};
+ghost use Rattle.yaml_parser.specs.Handed.{IsRightAfter};
 ghost use Rattle.yaml_parser.specs.Work.{Moves};
 ghost use Rattle.yaml_parser.specs.Kinds.{IsOfKind};
 
 use crate::event::Event;
 use crate::reader::Reader;
-use crate::slot::{Answer, Slot};
+use crate::slot::{Answer, EventSlot};
 use crate::tokens::Stop;
 use model_parser::{Kind, NodeContext, State};
 use yaml_chars::{Characters, Marker};
@@ -16,9 +17,9 @@ use yaml_tokens::{Fault, Problem};
 
 impl<T: Characters> Reader<T> {
     #[inline(always)]
-    pub(crate) fn flow_sequence_first_entry(&mut self, slot: &mut Slot) -> Answer
+    pub(crate) fn flow_sequence_first_entry(&mut self, slot: &mut EventSlot) -> Answer
         ensures answers { Reads at.items self.old self.new result slot.new }
-        ensures moves { Moves 1 1 self.old self.new result }
+        ensures bounds { Moves 1 1 self.old self.new result }
     {
         let next = self.peek(slot)?;
         match next {
@@ -32,9 +33,9 @@ impl<T: Characters> Reader<T> {
 
     /// After an item.
     #[inline(always)]
-    pub(crate) fn flow_sequence_entry(&mut self, slot: &mut Slot) -> Answer
+    pub(crate) fn flow_sequence_entry(&mut self, slot: &mut EventSlot) -> Answer
         ensures answers { Reads at.more_items self.old self.new result slot.new }
-        ensures moves { Moves 1 1 self.old self.new result }
+        ensures bounds { Moves 1 1 self.old self.new result }
     {
         let next = self.peek(slot)?;
         match next {
@@ -52,9 +53,9 @@ impl<T: Characters> Reader<T> {
 
     /// After a comma.
     #[inline(always)]
-    fn flow_sequence_next(&mut self, slot: &mut Slot) -> Answer
+    fn flow_sequence_next(&mut self, slot: &mut EventSlot) -> Answer
         ensures answers { Reads at.comma_items self.old self.new result slot.new }
-        ensures moves { Moves 2 1 self.old self.new result }
+        ensures bounds { Moves 2 1 self.old self.new result }
     {
         let next = self.peek(slot)?;
         match next {
@@ -68,10 +69,10 @@ impl<T: Characters> Reader<T> {
 
     /// An item: a node, or a pair that begins with `?`. `next` was looked at.
     #[inline(always)]
-    fn flow_sequence_item(&mut self, slot: &mut Slot, next: Kind) -> Answer
+    fn flow_sequence_item(&mut self, slot: &mut EventSlot, next: Kind) -> Answer
         requires { IsOfKind next self.old.tokens.peeked }
         ensures answers { Reads at.item self.old self.new result slot.new }
-        ensures moves { Moves 1 1 self.old self.new result }
+        ensures bounds { Moves 1 1 self.old self.new result }
     {
         match next {
             Kind::Key => self.flow_pair(slot),
@@ -84,10 +85,10 @@ impl<T: Characters> Reader<T> {
 
     /// A pair that is an item. Its `?` was looked at.
     #[inline(always)]
-    fn flow_pair(&mut self, slot: &mut Slot) -> Answer
+    fn flow_pair(&mut self, slot: &mut EventSlot) -> Answer
         requires { IsOfKind kind.Key self.old.tokens.peeked }
         ensures answers { Reads at.item self.old self.new result slot.new }
-        ensures moves { Moves 1 1 self.old self.new result }
+        ensures bounds { Moves 1 1 self.old self.new result }
     {
         let mark = self.skip();
         self.push(slot, State::FlowSequenceEntryMappingKey)?;
@@ -96,9 +97,9 @@ impl<T: Characters> Reader<T> {
     }
 
     /// The key of a pair that is an item.
-    pub(crate) fn flow_pair_key(&mut self, slot: &mut Slot) -> Answer
+    pub(crate) fn flow_pair_key(&mut self, slot: &mut EventSlot) -> Answer
         ensures answers { Reads at.pair_key self.old self.new result slot.new }
-        ensures moves { Moves 4 1 self.old self.new result }
+        ensures bounds { Moves 4 1 self.old self.new result }
     {
         let next = self.peek(slot)?;
         self.push(slot, State::FlowSequenceEntryMappingValue)?;
@@ -112,9 +113,9 @@ impl<T: Characters> Reader<T> {
     }
 
     /// After the key of a pair that is an item.
-    pub(crate) fn flow_pair_value(&mut self, slot: &mut Slot) -> Answer
+    pub(crate) fn flow_pair_value(&mut self, slot: &mut EventSlot) -> Answer
         ensures answers { Reads at.pair_value self.old self.new result slot.new }
-        ensures moves { Moves 3 1 self.old self.new result }
+        ensures bounds { Moves 3 1 self.old self.new result }
     {
         let next = self.peek(slot)?;
         match next {
@@ -132,9 +133,9 @@ impl<T: Characters> Reader<T> {
 
     /// After its `:`.
     #[inline(always)]
-    fn flow_pair_valued(&mut self, slot: &mut Slot) -> Answer
+    fn flow_pair_valued(&mut self, slot: &mut EventSlot) -> Answer
         ensures answers { Reads at.pair_valued self.old self.new result slot.new }
-        ensures moves { Moves 3 1 self.old self.new result }
+        ensures bounds { Moves 3 1 self.old self.new result }
     {
         let next = self.peek(slot)?;
         self.push(slot, State::FlowSequenceEntryMappingEnd)?;
@@ -148,9 +149,9 @@ impl<T: Characters> Reader<T> {
     }
 
     /// The end of a pair that is an item.
-    pub(crate) fn flow_pair_end(&mut self, slot: &mut Slot) -> Answer
+    pub(crate) fn flow_pair_end(&mut self, slot: &mut EventSlot) -> Answer
         ensures answers { Reads at.pair_end self.old self.new result slot.new }
-        ensures moves { Moves 2 1 self.old self.new result }
+        ensures bounds { Moves 2 1 self.old self.new result }
     {
         self.push(slot, State::FlowSequenceEntry)?;
         slot.write(Event::MappingEnd, self.tokens.scanner.mark());
@@ -158,9 +159,9 @@ impl<T: Characters> Reader<T> {
     }
 
     #[inline(always)]
-    pub(crate) fn flow_mapping_first_key(&mut self, slot: &mut Slot) -> Answer
+    pub(crate) fn flow_mapping_first_key(&mut self, slot: &mut EventSlot) -> Answer
         ensures answers { Reads at.flow_pairs self.old self.new result slot.new }
-        ensures moves { Moves 1 1 self.old self.new result }
+        ensures bounds { Moves 1 1 self.old self.new result }
     {
         let next = self.peek(slot)?;
         match next {
@@ -174,9 +175,9 @@ impl<T: Characters> Reader<T> {
 
     /// After a pair.
     #[inline(always)]
-    pub(crate) fn flow_mapping_key(&mut self, slot: &mut Slot) -> Answer
+    pub(crate) fn flow_mapping_key(&mut self, slot: &mut EventSlot) -> Answer
         ensures answers { Reads at.more_flow_pairs self.old self.new result slot.new }
-        ensures moves { Moves 1 1 self.old self.new result }
+        ensures bounds { Moves 1 1 self.old self.new result }
     {
         let next = self.peek(slot)?;
         match next {
@@ -194,9 +195,9 @@ impl<T: Characters> Reader<T> {
 
     /// After a comma, which stands here.
     #[inline(always)]
-    fn flow_mapping_next(&mut self, slot: &mut Slot, comma: Marker) -> Answer
-        ensures answers { IsAfterComma comma self.old.tokens → Reads at.comma_flow_pairs self.old self.new result slot.new }
-        ensures moves { Moves 2 1 self.old self.new result }
+    fn flow_mapping_next(&mut self, slot: &mut EventSlot, comma: Marker) -> Answer
+        ensures answers { IsRightAfter comma self.old.tokens → Reads at.comma_flow_pairs self.old self.new result slot.new }
+        ensures bounds { Moves 2 1 self.old self.new result }
     {
         let next = self.peek(slot)?;
         match next {
@@ -211,10 +212,10 @@ impl<T: Characters> Reader<T> {
 
     /// A pair: with a key, with a value alone, or a node that is a key without value. `next` was looked at.
     #[inline(always)]
-    fn flow_mapping_pair(&mut self, slot: &mut Slot, next: Kind) -> Answer
+    fn flow_mapping_pair(&mut self, slot: &mut EventSlot, next: Kind) -> Answer
         requires { IsOfKind next self.old.tokens.peeked }
-        ensures answers { Reads at.flow_pair self.old self.new result slot.new }
-        ensures moves { Moves 1 1 self.old self.new result }
+        ensures answers { (s : Start) → Reads (at.flow_pair s) self.old self.new result slot.new }
+        ensures bounds { Moves 1 1 self.old self.new result }
     {
         match next {
             Kind::Key => {
@@ -236,9 +237,9 @@ impl<T: Characters> Reader<T> {
 
     /// A key after its `?`, or after what stands for it.
     #[inline(always)]
-    fn flow_mapping_keyed(&mut self, slot: &mut Slot) -> Answer
+    fn flow_mapping_keyed(&mut self, slot: &mut EventSlot) -> Answer
         ensures answers { Reads at.flow_key self.old self.new result slot.new }
-        ensures moves { Moves 4 1 self.old self.new result }
+        ensures bounds { Moves 4 1 self.old self.new result }
     {
         let next = self.peek(slot)?;
         self.push(slot, State::FlowMappingValue)?;
@@ -253,9 +254,9 @@ impl<T: Characters> Reader<T> {
 
     /// After a key.
     #[inline(always)]
-    pub(crate) fn flow_mapping_value(&mut self, slot: &mut Slot) -> Answer
+    pub(crate) fn flow_mapping_value(&mut self, slot: &mut EventSlot) -> Answer
         ensures answers { Reads at.flow_after_key self.old self.new result slot.new }
-        ensures moves { Moves 2 1 self.old self.new result }
+        ensures bounds { Moves 2 1 self.old self.new result }
     {
         let next = self.peek(slot)?;
         match next {
@@ -273,9 +274,9 @@ impl<T: Characters> Reader<T> {
 
     /// After a `:`, which stands here.
     #[inline(always)]
-    pub(crate) fn flow_mapping_valued(&mut self, slot: &mut Slot, colon: Marker) -> Answer
-        ensures answers { Reads at.flow_valued self.old self.new result slot.new }
-        ensures moves { Moves 2 1 self.old self.new result }
+    pub(crate) fn flow_mapping_valued(&mut self, slot: &mut EventSlot, colon: Marker) -> Answer
+        ensures answers { Reads (at.flow_valued colon) self.old self.new result slot.new }
+        ensures bounds { Moves 2 1 self.old self.new result }
     {
         let next = self.peek(slot)?;
         self.push(slot, State::FlowMappingKey)?;
@@ -289,9 +290,9 @@ impl<T: Characters> Reader<T> {
     }
 
     /// After a node that is a key without value.
-    pub(crate) fn flow_mapping_empty_value(&mut self, slot: &mut Slot) -> Answer
+    pub(crate) fn flow_mapping_empty_value(&mut self, slot: &mut EventSlot) -> Answer
         ensures answers { Reads at.flow_empty self.old self.new result slot.new }
-        ensures moves { Moves 2 1 self.old self.new result }
+        ensures bounds { Moves 2 1 self.old self.new result }
     {
         self.peek(slot)?;
         self.push(slot, State::FlowMappingKey)?;

@@ -19,7 +19,7 @@ use crate::tokens::Stop;
 use std::alloc::{AllocError, Global};
 use std::collections::BTreeMap;
 use yaml_chars::Marker;
-use yaml_chars::history::History;
+use yaml_chars::ghost_list::GhostList;
 use yaml_tokens::{Fault, Problem};
 
 // What `!!` stands for where it is not declared (YAML 1.2, section 6.8.2.1).
@@ -56,7 +56,7 @@ pub struct Keeping {
     /// Whether this was so from the stream's start on.
     pub steady: bool,
     /// With what the events were read, one by one.
-    pub settings: History<bool>,
+    pub settings: GhostList<bool>,
 }
 
 impl Keeping {
@@ -121,7 +121,7 @@ impl Names {
             keeping: Keeping {
                 tags: false,
                 steady: true,
-                settings: History::new(),
+                settings: GhostList::new(),
             },
         }
     }

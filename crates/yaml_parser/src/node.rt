@@ -16,7 +16,7 @@ ghost use Rattle.model_parser.specs.declared.kind.Kind.TheVariants as kind;
 
 use crate::event::{Event, Tag};
 use crate::reader::Reader;
-use crate::slot::{Answer, Halted, Slot};
+use crate::slot::{Answer, EventSlot, Stopped};
 use crate::tokens::Stop;
 use model_parser::{Kind, NodeContext, State};
 use yaml_chars::{Characters, Marker};
@@ -34,9 +34,9 @@ pub struct Properties {
 
 impl<T: Characters> Reader<T> {
     /// The node of a document without `---`.
-    pub(crate) fn block_node(&mut self, slot: &mut Slot) -> Answer
+    pub(crate) fn block_node(&mut self, slot: &mut EventSlot) -> Answer
         ensures answers { Reads (at.node context.Block) self.old self.new result slot.new }
-        ensures moves { Moves 0 2 self.old self.new result }
+        ensures bounds { Moves 0 2 self.old self.new result }
     {
         let next = self.peek(slot)?;
         self.node(slot, NodeContext::Block, next)
@@ -44,10 +44,10 @@ impl<T: Characters> Reader<T> {
 
     /// A node that stands here. `next`, its first token, was looked at.
     #[inline(always)]
-    pub(crate) fn node(&mut self, slot: &mut Slot, context: NodeContext, next: Kind) -> Answer
+    pub(crate) fn node(&mut self, slot: &mut EventSlot, context: NodeContext, next: Kind) -> Answer
         requires { IsOfKind next self.old.tokens.peeked }
         ensures answers { Reads (at.node context) self.old self.new result slot.new }
-        ensures moves { Moves 0 2 self.old self.new result }
+        ensures bounds { Moves 0 2 self.old self.new result }
     {
         match next {
             Kind::Alias => self.alias(slot),
@@ -60,10 +60,10 @@ impl<T: Characters> Reader<T> {
         }
     }
 
-    fn alias(&mut self, slot: &mut Slot) -> Answer
+    fn alias(&mut self, slot: &mut EventSlot) -> Answer
         requires { IsOfKind kind.Alias self.old.tokens.peeked }
         ensures answers { (context : NodeContext) → Reads (at.node context) self.old self.new result slot.new }
-        ensures moves { Moves 0 2 self.old self.new result }
+        ensures bounds { Moves 0 2 self.old self.new result }
     {
         let mark = self.mark();
         let name = self.tokens.take_name();
@@ -76,10 +76,10 @@ impl<T: Characters> Reader<T> {
     }
 
     /// A node that begins with an anchor.
-    fn anchored(&mut self, slot: &mut Slot, context: NodeContext) -> Answer
+    fn anchored(&mut self, slot: &mut EventSlot, context: NodeContext) -> Answer
         requires { IsOfKind kind.Anchor self.old.tokens.peeked }
         ensures answers { Reads (at.node context) self.old self.new result slot.new }
-        ensures moves { Moves 0 2 self.old self.new result }
+        ensures bounds { Moves 0 2 self.old self.new result }
     {
         let mark = self.mark();
         let name = self.tokens.take_name();
@@ -106,10 +106,10 @@ impl<T: Characters> Reader<T> {
     }
 
     /// A node that begins with a tag.
-    fn tagged(&mut self, slot: &mut Slot, context: NodeContext) -> Answer
+    fn tagged(&mut self, slot: &mut EventSlot, context: NodeContext) -> Answer
         requires { IsOfKind kind.Tag self.old.tokens.peeked }
         ensures answers { Reads (at.node context) self.old self.new result slot.new }
-        ensures moves { Moves 0 2 self.old self.new result }
+        ensures bounds { Moves 0 2 self.old self.new result }
     {
         let mark = self.mark();
         let (handle, suffix) = self.tokens.take_tag();
@@ -139,13 +139,13 @@ impl<T: Characters> Reader<T> {
     #[inline(never)]
     fn content_after(
         &mut self,
-        slot: &mut Slot,
+        slot: &mut EventSlot,
         context: NodeContext,
         anchor: String,
         tag: Tag,
     ) -> Answer
         ensures answers { ReadsAfter context (Some (record { anchor = Some anchor; tag = Some tag })) self.old self.new result slot.new }
-        ensures moves { Moves 0 0 self.old self.new result }
+        ensures bounds { Moves 0 0 self.old self.new result }
     {
         let next = self.peek(slot)?;
         let properties = Properties {
@@ -159,14 +159,14 @@ impl<T: Characters> Reader<T> {
     #[inline(always)]
     fn content(
         &mut self,
-        slot: &mut Slot,
+        slot: &mut EventSlot,
         context: NodeContext,
         properties: Option<Properties>,
         next: Kind,
     ) -> Answer
         requires { IsOfKind next self.old.tokens.peeked }
         ensures answers { ReadsAfter context properties self.old self.new result slot.new }
-        ensures moves { Moves 0 (owed properties) self.old self.new result }
+        ensures bounds { Moves 0 (owed properties) self.old self.new result }
     {
         match context {
             NodeContext::Flow => self.flow_content(slot, properties, next),
@@ -178,13 +178,13 @@ impl<T: Characters> Reader<T> {
     #[inline(always)]
     fn part_content(
         &mut self,
-        slot: &mut Slot,
+        slot: &mut EventSlot,
         properties: Option<Properties>,
         next: Kind,
     ) -> Answer
         requires { IsOfKind next self.old.tokens.peeked }
         ensures answers { ReadsAfter context.Part properties self.old self.new result slot.new }
-        ensures moves { Moves 0 (owed properties) self.old self.new result }
+        ensures bounds { Moves 0 (owed properties) self.old self.new result }
     {
         match next {
             Kind::BlockEntry => self.indentless_sequence(slot, properties),
@@ -195,13 +195,13 @@ impl<T: Characters> Reader<T> {
     #[inline(always)]
     fn block_content(
         &mut self,
-        slot: &mut Slot,
+        slot: &mut EventSlot,
         properties: Option<Properties>,
         next: Kind,
     ) -> Answer
         requires { IsOfKind next self.old.tokens.peeked }
         ensures answers { ReadsAfter context.Block properties self.old self.new result slot.new }
-        ensures moves { Moves 0 (owed properties) self.old self.new result }
+        ensures bounds { Moves 0 (owed properties) self.old self.new result }
     {
         match next {
             Kind::BlockSequenceStart => self.block_sequence(slot, properties),
@@ -213,13 +213,13 @@ impl<T: Characters> Reader<T> {
     #[inline(always)]
     fn flow_content(
         &mut self,
-        slot: &mut Slot,
+        slot: &mut EventSlot,
         properties: Option<Properties>,
         next: Kind,
     ) -> Answer
         requires { IsOfKind next self.old.tokens.peeked }
         ensures answers { ReadsAfter context.Flow properties self.old self.new result slot.new }
-        ensures moves { Moves 0 (owed properties) self.old self.new result }
+        ensures bounds { Moves 0 (owed properties) self.old self.new result }
     {
         match next {
             Kind::Scalar => self.scalar(slot, properties),
@@ -231,10 +231,10 @@ impl<T: Characters> Reader<T> {
 
     /// A scalar. Its token was looked at.
     #[inline(always)]
-    fn scalar(&mut self, slot: &mut Slot, properties: Option<Properties>) -> Answer
+    fn scalar(&mut self, slot: &mut EventSlot, properties: Option<Properties>) -> Answer
         requires { IsOfKind kind.Scalar self.old.tokens.peeked }
         ensures answers { ReadsAfter context.Flow properties self.old self.new result slot.new }
-        ensures moves { Moves 0 (owed properties) self.old self.new result }
+        ensures bounds { Moves 0 (owed properties) self.old self.new result }
     {
         let mark = self.mark();
         let (style, text) = self.tokens.take_scalar();
@@ -245,10 +245,10 @@ impl<T: Characters> Reader<T> {
 
     /// A flow sequence. Its bracket was looked at.
     #[inline(always)]
-    fn flow_sequence(&mut self, slot: &mut Slot, properties: Option<Properties>) -> Answer
+    fn flow_sequence(&mut self, slot: &mut EventSlot, properties: Option<Properties>) -> Answer
         requires { IsOfKind kind.FlowSequenceStart self.old.tokens.peeked }
         ensures answers { ReadsAfter context.Flow properties self.old self.new result slot.new }
-        ensures moves { Moves 0 (owed properties) self.old self.new result }
+        ensures bounds { Moves 0 (owed properties) self.old self.new result }
     {
         let mark = self.skip();
         self.push(slot, State::FlowSequenceFirstEntry)?;
@@ -257,10 +257,10 @@ impl<T: Characters> Reader<T> {
 
     /// A flow mapping. Its brace was looked at.
     #[inline(always)]
-    fn flow_mapping(&mut self, slot: &mut Slot, properties: Option<Properties>) -> Answer
+    fn flow_mapping(&mut self, slot: &mut EventSlot, properties: Option<Properties>) -> Answer
         requires { IsOfKind kind.FlowMappingStart self.old.tokens.peeked }
         ensures answers { ReadsAfter context.Flow properties self.old self.new result slot.new }
-        ensures moves { Moves 0 (owed properties) self.old self.new result }
+        ensures bounds { Moves 0 (owed properties) self.old self.new result }
     {
         let mark = self.skip();
         self.push(slot, State::FlowMappingFirstKey)?;
@@ -269,10 +269,10 @@ impl<T: Characters> Reader<T> {
 
     /// A block sequence. Its start was looked at.
     #[inline(always)]
-    fn block_sequence(&mut self, slot: &mut Slot, properties: Option<Properties>) -> Answer
+    fn block_sequence(&mut self, slot: &mut EventSlot, properties: Option<Properties>) -> Answer
         requires { IsOfKind kind.BlockSequenceStart self.old.tokens.peeked }
         ensures answers { ReadsAfter context.Block properties self.old self.new result slot.new }
-        ensures moves { Moves 0 (owed properties) self.old self.new result }
+        ensures bounds { Moves 0 (owed properties) self.old self.new result }
     {
         let mark = self.skip();
         self.push(slot, State::BlockSequenceEntry)?;
@@ -281,10 +281,10 @@ impl<T: Characters> Reader<T> {
 
     /// A block mapping. Its start was looked at.
     #[inline(always)]
-    fn block_mapping(&mut self, slot: &mut Slot, properties: Option<Properties>) -> Answer
+    fn block_mapping(&mut self, slot: &mut EventSlot, properties: Option<Properties>) -> Answer
         requires { IsOfKind kind.BlockMappingStart self.old.tokens.peeked }
         ensures answers { ReadsAfter context.Block properties self.old self.new result slot.new }
-        ensures moves { Moves 0 (owed properties) self.old self.new result }
+        ensures bounds { Moves 0 (owed properties) self.old self.new result }
     {
         let mark = self.skip();
         self.push(slot, State::BlockMappingKey)?;
@@ -293,10 +293,14 @@ impl<T: Characters> Reader<T> {
 
     /// A block sequence at the column of its key. Its first `-` was looked at.
     #[inline(always)]
-    fn indentless_sequence(&mut self, slot: &mut Slot, properties: Option<Properties>) -> Answer
+    fn indentless_sequence(
+        &mut self,
+        slot: &mut EventSlot,
+        properties: Option<Properties>,
+    ) -> Answer
         requires { IsOfKind kind.BlockEntry self.old.tokens.peeked }
         ensures answers { ReadsAfter context.Part properties self.old self.new result slot.new }
-        ensures moves { Moves 0 (owed properties) self.old self.new result }
+        ensures bounds { Moves 0 (owed properties) self.old self.new result }
     {
         let mark = self.skip();
         self.push(slot, State::IndentlessSequenceItem)?;
@@ -305,11 +309,16 @@ impl<T: Characters> Reader<T> {
 
     /// Properties alone are a node. `next` was looked at.
     #[inline(never)]
-    fn no_content(&mut self, slot: &mut Slot, properties: Option<Properties>, next: Kind) -> Answer
+    fn no_content(
+        &mut self,
+        slot: &mut EventSlot,
+        properties: Option<Properties>,
+        next: Kind,
+    ) -> Answer
         requires looks { IsOfKind next self.old.tokens.peeked }
         requires none { begins_content context.Flow next ≡ false }
         ensures answers { ReadsAfter context.Flow properties self.old self.new result slot.new }
-        ensures moves { Moves 0 (owed properties) self.old self.new result }
+        ensures bounds { Moves 0 (owed properties) self.old self.new result }
     {
         let mark = self.mark();
         match properties {
@@ -326,7 +335,7 @@ impl<T: Characters> Reader<T> {
     #[inline(always)]
     fn start(
         &mut self,
-        slot: &mut Slot,
+        slot: &mut EventSlot,
         collection: Collection,
         properties: Option<Properties>,
         mark: Marker,
@@ -348,9 +357,9 @@ impl<T: Characters> Reader<T> {
     #[inline(always)]
     fn registered(
         &mut self,
-        slot: &mut Slot,
+        slot: &mut EventSlot,
         properties: Option<Properties>,
-    ) -> Result<(usize, Option<Tag>), Halted>
+    ) -> Result<(usize, Option<Tag>), Stopped>
         ensures work { OnOk result (work self.new ≡ work self.old) }
         ensures input { KeepsInput self.old self.new }
         ensures registers { (names : Names) → IsNamed self.old.names names → IfOk result (λ r. Registers self.old properties names (λ a t. (r.0 ≡ a) × (perhaps_tag_of r.1 ≡ t)) self.new) }

@@ -3,7 +3,7 @@ ghost use Rattle.std.specs.Borrow.{sem};
 ghost use Rattle.std.specs.Io.BufRead.{Rests};
 ghost use Rattle.std.specs.Iterator.{IsFinite, size};
 ghost use Rattle.std.specs.Str.Iter.{chars_rest};
-ghost use Rattle.yaml_chars.specs.Reading.{HasNoNul};
+ghost use Rattle.yaml_chars.specs.WindowView.{HasNoNul};
 ghost use Rattle.yaml_chars.specs.Source.{CameFrom};
 ghost use Rattle.yaml_scanner.specs.Scanned.{Scans};
 ghost use Rattle.yaml_parser.specs.Loads.{PushesNext};
@@ -14,20 +14,20 @@ ghost use Rattle.yaml_parser.specs.Shown.{placed, ev_of};
 ghost use Rattle.yaml_parser.specs.View.{no_document};
 
 use crate::event::{Event, ParseResult};
-use crate::pull::Pull;
+use crate::pull::EventReader;
 use crate::receiver::MarkedEventReceiver;
-use crate::slot::Slot;
+use crate::slot::EventSlot;
 use std::alloc::Global;
 use std::marker::Model;
 use std::mem;
 use std::str::Chars;
-use yaml_chars::history::History;
+use yaml_chars::ghost_list::GhostList;
 use yaml_chars::{Characters, Marker};
 use yaml_scanner::Backlog;
 use yaml_tokens::{Fault, Problem, ScanError};
 
 /// Notes an event, unless the stream's end was given before.
-fn note(given: &mut History<(Event, Marker)>, next: &(Event, Marker), ended: bool)
+fn note(given: &mut GhostList<(Event, Marker)>, next: &(Event, Marker), ended: bool)
     ensures { given.new.items ≡ given.old.items ++ (if ended then [] else next.now ∷ []) }
 {
     if !ended {
@@ -76,9 +76,9 @@ fn is_document_end(event: &Event) -> bool
 /// ```
 #[derive(Drop)]
 pub struct Parser<T: Characters> {
-    pull: Pull<T>,
+    pull: EventReader<T>,
     current: Option<(Event, Marker)>,
-    given: History<(Event, Marker)>,
+    given: GhostList<(Event, Marker)>,
     started: bool,
     ended: bool,
     // The position where `load` met an event other than a document's start: a fault that is kept.
@@ -139,9 +139,9 @@ impl<T: Characters> Parser<T> {
         ensures start { result.start ≡ src }
     {
         Parser {
-            pull: Pull::new(alloc, src),
+            pull: EventReader::new(alloc, src),
             current: None,
-            given: History::new(),
+            given: GhostList::new(),
             started: false,
             ended: false,
             misplaced: None,
@@ -245,6 +245,11 @@ impl<T: Characters> Parser<T> {
 
     /// Gives the next event and its position. After the end of the stream it gives that end again.
     ///
+    /// An event stands at its token. One without a token of its own stands at the token after it: a node that is not written, the end of a
+    /// sequence without indentation, and starts and ends of documents without `---` and `...`. But a key that is not written stands at
+    /// its `:`, and so does the value of a pair of a flow mapping that has only its `:`; a flow mapping that ends right after a comma
+    /// ends at the comma; and of the end of a pair that begins with `?` in a flow sequence no position is promised.
+    ///
     /// # Errors
     ///
     /// The first fault of the text, at its position. The events before it were given. Or memory was refused
@@ -285,7 +290,7 @@ impl<T: Characters> Parser<T> {
     pub(crate) fn push_next<R: MarkedEventReceiver>(
         &mut self,
         recv: &mut R,
-        slot: &mut Slot,
+        slot: &mut EventSlot,
     ) -> Result<bool, ScanError>
         requires inside { IsInside (parsed self.old) }
         requires none { (parsed self.old).ahead ≡ None }
@@ -358,8 +363,8 @@ impl<T: Characters> Parser<T> {
     }
 
     /// A slot for the events to come.
-    pub(crate) fn slot(&self) -> Slot {
-        Slot::new(self.pull.reader.tokens.scanner.mark())
+    pub(crate) fn slot(&self) -> EventSlot {
+        EventSlot::new(self.pull.reader.tokens.scanner.mark())
     }
 
     /// Whether an event was given.

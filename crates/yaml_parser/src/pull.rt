@@ -12,7 +12,7 @@ ghost use Rattle.yaml_parser.specs.View.{fault_kept};
 use crate::event::{Event, ParseResult};
 use crate::names::Names;
 use crate::reader::Reader;
-use crate::slot::{Answer, Slot};
+use crate::slot::{Answer, EventSlot};
 use crate::stack::Stack;
 use crate::tokens::{KeptStop, Stop, Tokens};
 use std::alloc::Global;
@@ -22,16 +22,16 @@ use yaml_tokens::ScanError;
 
 /// Reads events one by one, and keeps a fault.
 #[derive(Drop)]
-pub struct Pull<T: Characters> {
+pub struct EventReader<T: Characters> {
     /// What reads the events.
     pub reader: Reader<T>,
     /// The fault that is kept, if there is one.
     pub kept: Option<KeptStop>,
 }
 
-impl<T: Characters> Pull<T> {
+impl<T: Characters> EventReader<T> {
     /// Nothing was read yet. It takes no memory.
-    pub fn new(alloc: Global, src: T) -> Pull<T>
+    pub fn new(alloc: Global, src: T) -> EventReader<T>
         requires can { T.can_next src }
         requires finite { IsFinite (T.remaining src) }
         requires few { size (T.remaining src) < 2 ^ 63 }
@@ -44,7 +44,7 @@ impl<T: Characters> Pull<T> {
         ensures stack { result.reader.stack ≡ StreamStart ∷ [] }
         ensures start { result.reader.tokens.scanner.start ≡ src }
     {
-        Pull {
+        EventReader {
             reader: Reader {
                 alloc,
                 tokens: Tokens::new(Scanner::new(alloc, src)),
@@ -69,7 +69,7 @@ impl<T: Characters> Pull<T> {
         if self.reader.stack.is_empty() {
             return Ok((Event::StreamEnd, self.reader.tokens.scanner.mark()));
         }
-        let mut slot = Slot::new(self.reader.tokens.scanner.mark());
+        let mut slot = EventSlot::new(self.reader.tokens.scanner.mark());
         match self.reader.next(&mut slot) {
             Ok(()) => {
                 self.reader.names.keeping.note();
@@ -79,9 +79,9 @@ impl<T: Characters> Pull<T> {
         }
     }
 
-    /// The next event, before the stream's end. A fault is not kept yet: see [`keep`](Pull::keep).
+    /// The next event, before the stream's end. A fault is not kept yet: see [`keep`](EventReader::keep).
     #[inline(always)]
-    pub fn advance(&mut self, slot: &mut Slot) -> Answer
+    pub fn advance(&mut self, slot: &mut EventSlot) -> Answer
         requires { self.old.reader.stack ≢ [] }
         ensures advances { (read : List (Ev × Position)) → IsHeld self.old.reader read None → Advances self.old read (answered result slot.new) self.new }
         ensures kept { self.new.kept ≡ self.old.kept }

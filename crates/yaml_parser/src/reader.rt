@@ -20,7 +20,7 @@ ghost use Rattle.yaml_parser.specs.Top.{ReadsTop};
 
 use crate::event::Event;
 use crate::names::Names;
-use crate::slot::{Answer, Halted, Slot};
+use crate::slot::{Answer, EventSlot, Stopped};
 use crate::stack::Stack;
 use crate::tokens::{KeptStop, Stop, Tokens};
 use model_parser::{Kind, State};
@@ -45,11 +45,11 @@ pub struct Reader<T: Characters> {
 impl<T: Characters> Reader<T> {
     /// What the next token is, which stays.
     #[inline(always)]
-    pub(crate) fn peek(&mut self, slot: &mut Slot) -> Result<Kind, Halted>
+    pub(crate) fn peek(&mut self, slot: &mut EventSlot) -> Result<Kind, Stopped>
         ensures peeked { IfOk result (λ k. IsOfKind k self.new.tokens.peeked) }
         ensures names { self.new.names ≡ self.old.names }
         ensures taken { self.new.tokens.taken ≡ self.old.tokens.taken }
-        ensures moves { Moves 0 0 self.old self.new result }
+        ensures bounds { Moves 0 0 self.old self.new result }
         ensures at { OnOk result ((g : Goal) → is_over g ≡ false → Carries g self.old self.new) }
         ensures err { OnErr result ((g : Goal) → is_idle g ≡ false → Fails g self.old self.new slot.new.stop) }
     {
@@ -82,7 +82,7 @@ impl<T: Characters> Reader<T> {
     }
 
     #[inline(always)]
-    pub(crate) fn push(&mut self, slot: &mut Slot, state: State) -> Result<(), Halted>
+    pub(crate) fn push(&mut self, slot: &mut EventSlot, state: State) -> Result<(), Stopped>
         ensures work { OnOk result (work self.new ≡ work self.old + weight state) }
         ensures names { self.new.names ≡ self.old.names }
         ensures tokens { self.new.tokens ≡ self.old.tokens }
@@ -97,7 +97,7 @@ impl<T: Characters> Reader<T> {
 
     /// Takes a `Key` and the plain scalar after it at once, or gives `None` and changes nothing.
     #[inline(always)]
-    pub(crate) fn next_key(&mut self, slot: &mut Slot) -> Result<Option<PlainNode>, Halted>
+    pub(crate) fn next_key(&mut self, slot: &mut EventSlot) -> Result<Option<PlainNode>, Stopped>
         ensures key { IfOk result (λ o. IfSome o (λ n. TakesBoth self.old.tokens Key n self.new.tokens)) }
         ensures work { IfOk result (λ o. IfSome o (λ n. work self.new + 8 ≤ work self.old)) }
         ensures none { IfOk result (λ o. IfNone o (self.new ≡ self.old)) }
@@ -114,7 +114,7 @@ impl<T: Characters> Reader<T> {
 
     /// Takes a `Value` and the plain scalar after it at once, or gives `None` and changes nothing.
     #[inline(always)]
-    pub(crate) fn next_value(&mut self, slot: &mut Slot) -> Result<Option<PlainNode>, Halted>
+    pub(crate) fn next_value(&mut self, slot: &mut EventSlot) -> Result<Option<PlainNode>, Stopped>
         ensures value { IfOk result (λ o. IfSome o (λ n. TakesBoth self.old.tokens Value n self.new.tokens)) }
         ensures work { IfOk result (λ o. IfSome o (λ n. work self.new + 8 ≤ work self.old)) }
         ensures none { IfOk result (λ o. IfNone o (self.new ≡ self.old)) }
@@ -131,7 +131,7 @@ impl<T: Characters> Reader<T> {
 
     /// A plain scalar that was taken. `state` is awaited after it.
     #[inline(always)]
-    pub(crate) fn plain(&mut self, slot: &mut Slot, node: PlainNode, state: State) -> Answer
+    pub(crate) fn plain(&mut self, slot: &mut EventSlot, node: PlainNode, state: State) -> Answer
         ensures event { OnOk result (placed slot.new.next ≡ (Ev.scalar (string_chars node.text) Style.plain 0 None, node.mark)) }
         ensures work { OnOk result (work self.new ≡ work self.old + weight state) }
         ensures names { self.new.names ≡ self.old.names }
@@ -149,7 +149,7 @@ impl<T: Characters> Reader<T> {
 
     /// Takes the token that was looked at, where a sequence ends.
     #[inline(always)]
-    pub(crate) fn end_sequence(&mut self, slot: &mut Slot)
+    pub(crate) fn end_sequence(&mut self, slot: &mut EventSlot)
         requires { IsSome self.old.tokens.peeked }
         ensures event { slot.new.next.0 ≡ SequenceEnd }
         ensures mark { IfSome self.old.tokens.peeked (λ t. t.0 ≡ slot.new.next.1) }
@@ -163,7 +163,7 @@ impl<T: Characters> Reader<T> {
 
     /// Takes the token that was looked at, where a mapping ends.
     #[inline(always)]
-    pub(crate) fn end_mapping(&mut self, slot: &mut Slot)
+    pub(crate) fn end_mapping(&mut self, slot: &mut EventSlot)
         requires { IsSome self.old.tokens.peeked }
         ensures event { slot.new.next.0 ≡ MappingEnd }
         ensures mark { IfSome self.old.tokens.peeked (λ t. t.0 ≡ slot.new.next.1) }
@@ -177,7 +177,7 @@ impl<T: Characters> Reader<T> {
 
     /// A scalar that is not written.
     #[inline(always)]
-    pub(crate) fn nothing_written(&self, slot: &mut Slot, mark: Marker)
+    pub(crate) fn nothing_written(&self, slot: &mut EventSlot, mark: Marker)
         ensures { placed slot.new.next ≡ (Ev.scalar [] Style.plain 0 None, mark) }
     {
         slot.write(Event::empty_with(self.alloc, 0, None), mark);
@@ -200,7 +200,7 @@ impl<T: Characters> Reader<T> {
 
     /// The next event. A state is awaited.
     #[inline(never)]
-    pub fn next(&mut self, slot: &mut Slot) -> Answer
+    pub fn next(&mut self, slot: &mut EventSlot) -> Answer
         requires { self.old.stack ≢ [] }
         ensures { ReadsTop self.old self.new result slot.new }
     {
@@ -212,9 +212,9 @@ impl<T: Characters> Reader<T> {
 
     /// The next event, where this state was on top.
     #[inline(always)]
-    fn read(&mut self, slot: &mut Slot, state: State) -> Answer
+    fn read(&mut self, slot: &mut EventSlot, state: State) -> Answer
         ensures answers { Reads (goal_of state) self.old self.new result slot.new }
-        ensures moves { Moves (weight state) 1 self.old self.new result }
+        ensures bounds { Moves (weight state) 1 self.old self.new result }
     {
         match state {
             State::StreamStart => self.stream_start(slot),

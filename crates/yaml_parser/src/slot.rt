@@ -7,25 +7,25 @@ use yaml_chars::Marker;
 
 /// No event comes: the slot says why.
 #[derive(Clone, Copy)]
-pub struct Halted;
+pub struct Stopped;
 
 /// Whether an event was written into the slot.
-pub type Answer = Result<(), Halted>;
+pub type Answer = Result<(), Stopped>;
 
 /// Where productions write.
 #[derive(Drop)]
-pub struct Slot {
+pub struct EventSlot {
     /// The event that was written, and its position.
     pub next: (Event, Marker),
     /// Why no event comes.
     pub stop: Stop,
 }
 
-impl Slot {
+impl EventSlot {
     /// A slot before the first event.
     #[inline(always)]
     pub fn new(mark: Marker) -> Self {
-        Slot {
+        EventSlot {
             next: (Event::Nothing, mark),
             stop: Stop::Ended,
         }
@@ -41,10 +41,10 @@ impl Slot {
 
     /// Writes why no event comes.
     #[inline(never)]
-    pub(crate) fn halt(&mut self, stop: Stop) -> Halted
+    pub(crate) fn halt(&mut self, stop: Stop) -> Stopped
         ensures { self.new.stop ≡ stop }
     {
         self.stop = stop;
-        Halted
+        Stopped
     }
 }

@@ -7,13 +7,13 @@ ghost use Rattle.yaml_tokens.specs.declared.token.TokenType.TheVariants.{Key, Va
 ghost use Rattle.yaml_parser.specs.Kinds.{IsOfKind, IsName};
 ghost use Rattle.yaml_parser.specs.Ahead.{left, Skips, SkipsOne, TakesBoth, indicator_of, scalar_of};
 ghost use Rattle.yaml_parser.specs.Handed.{IsHanded, IsAwake, IsStopped};
-ghost use Rattle.yaml_parser.specs.declared.tokens.Missing.TheVariants.{Scan};
+ghost use Rattle.yaml_parser.specs.declared.tokens.TokenFault.TheVariants.{Scan};
 ghost use Rattle.model_parser.specs.declared.kind.Kind.TheVariants as kind;
 
 use crate::looked::Looked;
 use model_parser::Kind;
 use std::alloc::AllocError;
-use yaml_chars::history::History;
+use yaml_chars::ghost_list::GhostList;
 use yaml_chars::{Characters, Marker};
 use yaml_scanner::{PlainNode, Scanner};
 use yaml_tokens::{Fault, TScalarStyle, Token, TokenType};
@@ -54,23 +54,23 @@ impl From<AllocError> for Stop {
 
 /// Why no token comes.
 #[derive(Clone, Copy, Debug, PartialEq, Eq)]
-pub enum Missing {
+pub enum TokenFault {
     /// The scanner's fault, which the scanner keeps.
     Scan,
     /// The scanner has no more tokens: this never comes.
     Ended,
 }
 
-impl From<Missing> for Stop {
+impl From<TokenFault> for Stop {
     ghost use Rattle.std.specs.Prelude.{◌≡◌};
     ghost use Rattle.yaml_parser.specs.Kinds.{stop_of};
 
     ghost from_gives = { λ m stop. stop ≡ stop_of m };
 
-    fn from(missing: Missing) -> Stop {
+    fn from(missing: TokenFault) -> Stop {
         match missing {
-            Missing::Scan => Stop::Scan,
-            Missing::Ended => Stop::Ended,
+            TokenFault::Scan => Stop::Scan,
+            TokenFault::Ended => Stop::Ended,
         }
     }
 }
@@ -92,7 +92,7 @@ pub struct Tokens<T: Characters> {
     /// The token that was looked at, if there is one.
     pub peeked: Looked,
     /// The tokens that were taken, for clauses alone.
-    pub taken: History<Token>,
+    pub taken: GhostList<Token>,
 }
 
 impl<T: Characters> Tokens<T> {
@@ -106,13 +106,13 @@ impl<T: Characters> Tokens<T> {
         Tokens {
             scanner,
             peeked: Looked::new(mark),
-            taken: History::new(),
+            taken: GhostList::new(),
         }
     }
 
     /// What the next token is, which stays.
     #[inline(never)]
-    pub fn peek(&mut self) -> Result<Kind, Missing>
+    pub fn peek(&mut self) -> Result<Kind, TokenFault>
         ensures looks { IfOk result (λ k. IsOfKind k self.new.peeked) }
         ensures left { OnOk result (left self.new ≤ left self.old) }
         ensures taken { self.new.taken ≡ self.old.taken }
@@ -128,8 +128,8 @@ impl<T: Characters> Tokens<T> {
         }
         match self.scanner.next_token() {
             Ok(Some(token)) => Ok(self.peeked.put(token)),
-            Ok(None) => Err(Missing::Ended),
-            Err(_) => Err(Missing::Scan),
+            Ok(None) => Err(TokenFault::Ended),
+            Err(_) => Err(TokenFault::Scan),
         }
     }
 
@@ -199,7 +199,7 @@ impl<T: Characters> Tokens<T> {
 
     /// Takes a `Key` and the plain scalar after it at once, or gives `None` and changes nothing.
     #[inline(always)]
-    pub fn next_key(&mut self) -> Result<Option<PlainNode>, Missing>
+    pub fn next_key(&mut self) -> Result<Option<PlainNode>, TokenFault>
         ensures key { IfOk result (λ o. IfSome o (λ n. TakesBoth self.old Key n self.new)) }
         ensures left { IfOk result (λ o. IfSome o (λ n. left self.new + 2 ≤ left self.old)) }
         ensures none { IfOk result (λ o. IfNone o (self.new ≡ self.old)) }
@@ -214,13 +214,13 @@ impl<T: Characters> Tokens<T> {
         match self.scanner.next_key() {
             Ok(Some(node)) => Ok(Some(self.note(TokenType::Key, node))),
             Ok(None) => Ok(None),
-            Err(_) => Err(Missing::Scan),
+            Err(_) => Err(TokenFault::Scan),
         }
     }
 
     /// Takes a `Value` and the plain scalar after it at once, or gives `None` and changes nothing.
     #[inline(always)]
-    pub fn next_value(&mut self) -> Result<Option<PlainNode>, Missing>
+    pub fn next_value(&mut self) -> Result<Option<PlainNode>, TokenFault>
         ensures value { IfOk result (λ o. IfSome o (λ n. TakesBoth self.old Value n self.new)) }
         ensures left { IfOk result (λ o. IfSome o (λ n. left self.new + 2 ≤ left self.old)) }
         ensures none { IfOk result (λ o. IfNone o (self.new ≡ self.old)) }
@@ -235,7 +235,7 @@ impl<T: Characters> Tokens<T> {
         match self.scanner.next_value() {
             Ok(Some(node)) => Ok(Some(self.note(TokenType::Value, node))),
             Ok(None) => Ok(None),
-            Err(_) => Err(Missing::Scan),
+            Err(_) => Err(TokenFault::Scan),
         }
     }
 

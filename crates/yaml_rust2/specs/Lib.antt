@@ -27,10 +27,10 @@ pub use Rattle.defs_layout.specs.QuotedText
 pub use Rattle.defs_token.specs.Token
 pub use Rattle.defs_token.specs.Toks
 pub use Rattle.defs_token.specs.Cut
-pub use Rattle.defs_row.specs.Beginning
-pub use Rattle.defs_row.specs.Step
-pub use Rattle.defs_row.specs.Tokens
-pub use Rattle.defs_row.specs.Row
+pub use Rattle.defs_token.specs.Beginning
+pub use Rattle.defs_token.specs.Step
+pub use Rattle.defs_token.specs.Tokens
+pub use Rattle.defs_token.specs.Row
 pub use Rattle.defs_event.specs.Event
 pub use Rattle.defs_event.specs.Nested
 pub use Rattle.defs_event.specs.Place
@@ -42,7 +42,7 @@ pub use Rattle.defs_event.specs.ReadAs
 pub use Rattle.defs_event.specs.Unfinished
 pub use Rattle.defs_event.specs.NoAlias
 pub use Rattle.defs_text.specs.Position
-pub use Rattle.yaml_chars.specs.Reading as CharactersRead
+pub use Rattle.yaml_chars.specs.WindowView as CharactersRead
 pub use Rattle.yaml_chars.specs.Source
 pub use Rattle.defs_text.specs.Text
 pub use Rattle.yaml_tokens.specs.ErrorReport
@@ -76,13 +76,13 @@ pub use Rattle.yaml_parser.specs.Nests
 pub use Rattle.yaml_parser.specs.Pulls
 pub use Rattle.yaml_parser.specs.Settings
 pub use Rattle.yaml_parser.specs.Shown
-pub use Rattle.proof_cut.specs.Faults
-pub use Rattle.proof_cut.specs.Positions
-pub use Rattle.proof_refusals.specs.Certain
-pub use Rattle.proof_refusals.specs.NoPiece
-pub use Rattle.proof_refusals.specs.Stuck
-pub use Rattle.proof_refusals.specs.Told
-pub use Rattle.defs_meaning.specs.Meaning
+pub use Rattle.proof_scanner.specs.Faults
+pub use Rattle.proof_scanner.specs.Positions
+pub use Rattle.proof_scanner.specs.Certain
+pub use Rattle.proof_scanner.specs.NoPiece
+pub use Rattle.proof_scanner.specs.Stuck
+pub use Rattle.proof_scanner.specs.Told
+pub use Rattle.defs_event.specs.Meaning
 pub use Rattle.proof_loads.specs.Cuts
 pub use Rattle.proof_loads.specs.PlacedEvents
 pub use Rattle.proof_loads.specs.Spelled

@@ -2,12 +2,12 @@
 use Rattle.std.proofs.Common.{◌≡◌, ◌≢◌, ℕ, List, [], ◌∷◌, Bool, true, false, not, ◌&&◌, ◌||◌, ◌==◌, refl, ap, ◌∙◌, Option, Some, None, Result, Ok, Err, slice_index}
 use Rattle.std.proofs.lemmas.Bool.{ne_eqb}
 use Rattle.defs_text.specs.Position.{Position}
-use Rattle.yaml_chars.specs.Reading.{Reading, Reads, SamePosition, after_char}
-use Rattle.yaml_chars.proofs.ReadingLemmas.{Reads-then}
+use Rattle.yaml_chars.specs.WindowView.{WindowView, Reads, SamePosition, after_char}
+use Rattle.yaml_chars.proofs.WindowViewLemmas.{Reads-then}
 use Rattle.yaml_tokens.specs.declared.problem.Fault.{Fault}
 use Rattle.yaml_tokens.specs.declared.problem.Fault.TheVariants.{At, OutOfMemory}
 use Rattle.yaml_tokens.specs.declared.problem.Problem.TheVariants as problem
-use Rattle.model_lexers.specs.declared.context.Whitespace.{Whitespace}
+use Rattle.model_scanner.specs.declared.context.Whitespace.{Whitespace}
 use Rattle.yaml_chars.specs.Class.{is_alpha, is_blank_or_breakz, is_break, is_flow}
 use Rattle.defs_token.specs.Token.{Tok}
 use Rattle.model_scanner.specs.State.{Key, Held, ScannerState, ◌>>=◌, peek, put, in_flow, with_top, on_held, try_held, skip_indicator}
@@ -102,7 +102,7 @@ unfolding roll_entry
 entry_apart a c b h u e f n q = let t : is_break (peek a) || is_flow (peek a) ≡ true = rw (← peek_is a, ← e, ← f) n in rw (t, q) refl
 
 -- after a look at the next character
-pub looked : {T : Type 0} (x : Fetcher T) (w : Reading T) → SamePosition x.window w → held (record x { window = w }) ≡ held x
+pub looked : {T : Type 0} (x : Fetcher T) (w : WindowView T) → SamePosition x.window w → held (record x { window = w }) ≡ held x
 looked x w same = ap (λ p. record (held x) { position = p }) (same_position _ _ same)
 
 pub after_look : (f : ScannerState → Result ScannerState Fault) (a b : List ℕ) (h u : Held) → b ≡ a → u ≡ h → f (record { rest = b; held = h }) ≡ Ok (record { rest = b; held = h }) → f (record { rest = a; held = h }) ≡ Ok (record { rest = b; held = u })

@@ -3,7 +3,7 @@ use Rattle.std.proofs.Common.{◌≡◌, ◌≢◌, ℕ, ◌+◌, ◌<◌, ◌�
 use Rattle.std.proofs.lemmas.Bool.Decides.{nat_tests}
 use Rattle.std.specs.Prelude.{OnOk, IfErr}
 use Rattle.defs_text.specs.Position.{Position}
-use Rattle.yaml_chars.specs.Reading.{Sees}
+use Rattle.yaml_chars.specs.WindowView.{Sees}
 use Rattle.defs_token.specs.Token.{Tok}
 use Rattle.yaml_tokens.specs.declared.problem.Fault.{Fault}
 use Rattle.yaml_tokens.specs.declared.problem.Fault.TheVariants.{At}
@@ -22,7 +22,7 @@ use Rattle.yaml_scanner.specs.declared.fetcher.Fetcher.{Fetcher}
 use Rattle.yaml_scanner.specs.Shape.{held, state, Does, Fails}
 use Rattle.yaml_scanner.specs.Steps.{fetch_bar, scalar_by}
 use Rattle.yaml_scanner.proofs.DoesLemmas.{Reads-along, Reads-map, fails_held}
-use Rattle.yaml_chars.proofs.ReadingLemmas.{Reads-then}
+use Rattle.yaml_chars.proofs.WindowViewLemmas.{Reads-then}
 use Rattle.yaml_scanner.proofs.FetchLemmas.{peek_first, does_as, fails_as, sees_map}
 
 -- a refusal after steps that look at characters

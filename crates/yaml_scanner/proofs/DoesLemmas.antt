@@ -1,22 +1,22 @@
 -- How the steps of the code compose.
 use Rattle.std.proofs.Common.{◌≡◌, ◌≢◌, ℕ, List, refl, sym, arith, Result, Ok, Err}
 use Rattle.std.specs.Prelude.{IfErr, IsErrAnd, OnOk}
-use Rattle.yaml_chars.specs.Reading.{Reading, Reads, SamePosition, position_of}
-use Rattle.yaml_chars.proofs.ReadingLemmas.{Reads-then}
+use Rattle.yaml_chars.specs.WindowView.{WindowView, Reads, SamePosition, position_of}
+use Rattle.yaml_chars.proofs.WindowViewLemmas.{Reads-then}
 use Rattle.yaml_tokens.specs.declared.problem.Fault.{Fault}
 use Rattle.yaml_tokens.specs.declared.problem.Fault.TheVariants.{OutOfMemory}
 use Rattle.model_scanner.specs.State.{ScannerState}
 use Rattle.yaml_scanner.specs.declared.fetcher.Fetcher.{Fetcher}
 use Rattle.yaml_scanner.specs.Shape.{state, Does, Fails}
 
-pub Reads-map : {T : Type 0} {P R : List ℕ → List ℕ → Type 0} (old new : Reading T) → Reads old new P → ((a b : List ℕ) → P a b → R a b) → Reads old new R
+pub Reads-map : {T : Type 0} {P R : List ℕ → List ℕ → Type 0} (old new : WindowView T) → Reads old new P → ((a b : List ℕ) → P a b → R a b) → Reads old new R
 Reads-map old new run f = record { start = run.start; at = run.at; left = run.left; back = run.back; reads = λ w p. f _ _ (run.reads w p) }
 
 -- between readings that are equal to these
-pub Reads-along : {T : Type 0} {P : List ℕ → List ℕ → Type 0} (old new x y : Reading T) → x ≡ old → y ≡ new → Reads old new P → Reads x y P
+pub Reads-along : {T : Type 0} {P : List ℕ → List ℕ → Type 0} (old new x y : WindowView T) → x ≡ old → y ≡ new → Reads old new P → Reads x y P
 Reads-along old new x y e f run = rw (e, f) run
 
-pub same_position : {T : Type 0} (old new : Reading T) → SamePosition old new → position_of new ≡ position_of old
+pub same_position : {T : Type 0} (old new : WindowView T) → SamePosition old new → position_of new ≡ position_of old
 same_position old new same = let a = same.at in let l = same.line in let c = same.col in cc
 
 -- a step that looks at no character around one that does
@@ -38,7 +38,7 @@ pub fails_then : {T : Type 0} {f k h : ScannerState → Result ScannerState Faul
 fails_then x0 x1 y1 x2 y2 y0 x e f i d1 d2 both = record { runs = Reads-along _ _ _ _ (sym e) i (Reads-then _ _ _ d1.runs (Reads-along _ _ _ _ (sym f) refl d2.runs) (λ a b d p q n. both a b p (q n))) }
 
 -- nothing was read
-pub Reads-none : {T : Type 0} (s : Reading T) → Reads s s (λ a b. b ≡ a)
+pub Reads-none : {T : Type 0} (s : WindowView T) → Reads s s (λ a b. b ≡ a)
 Reads-none s = record { start = refl; at = omega arith; left = omega arith; back = λ w p. p; reads = λ w p. refl }
 
 -- a refusal that looks at no character
@@ -46,7 +46,7 @@ pub fails_held : {T : Type 0} {h : ScannerState → Result ScannerState Fault} (
 fails_held x0 y0 x e f = record { runs = Reads-along _ _ _ _ refl e (Reads-map _ _ (Reads-none x0.window) (λ a b p n. f a n)) }
 
 -- a refusal that is held once it was met
-pub fails_kept : {T : Type 0} {h : ScannerState → Result ScannerState Fault} {w : Reading T} (x z : Fetcher T) (e : Fault) → z.window ≡ w → z.fault ≡ e → Reads x.window w (λ a b. e ≢ OutOfMemory → h (state a x) ≡ Err e) → Fails h x z z.fault
+pub fails_kept : {T : Type 0} {h : ScannerState → Result ScannerState Fault} {w : WindowView T} (x z : Fetcher T) (e : Fault) → z.window ≡ w → z.fault ≡ e → Reads x.window w (λ a b. e ≢ OutOfMemory → h (state a x) ≡ Err e) → Fails h x z z.fault
 fails_kept x z e v f run = rw f (record { runs = Reads-along _ _ _ _ refl v run })
 
 -- a fault that is passed on

@@ -2,22 +2,22 @@
 use Rattle.std.proofs.Common.{◌≡◌, ℕ, List, [], ◌∷◌, Bool, true, false, ◌==◌, ◌&&◌, refl, ap, sym, ◌∙◌, Result, Ok, Err, slice_index}
 use Rattle.std.specs.Prelude.{OnOk, IfErr}
 use Rattle.defs_text.specs.Position.{Position}
-use Rattle.yaml_chars.specs.Reading.{Reading, Reads, Sees, SamePosition}
-use Rattle.yaml_chars.proofs.ReadingLemmas.{Reads-then, Reads-see, Reads-saw}
+use Rattle.yaml_chars.specs.WindowView.{WindowView, Reads, Sees, SamePosition}
+use Rattle.yaml_chars.proofs.WindowViewLemmas.{Reads-then, Reads-see, Reads-saw}
 use Rattle.yaml_tokens.specs.declared.problem.Fault.{Fault}
 use Rattle.yaml_tokens.specs.declared.problem.Fault.TheVariants.{At}
 use Rattle.yaml_tokens.specs.declared.problem.Problem.TheVariants as problem
-use Rattle.model_lexers.specs.declared.context.SkipTabs.{SkipTabs}
-use Rattle.model_lexers.specs.declared.context.SkipTabs.TheVariants.{Yes}
-use Rattle.model_lexers.specs.declared.context.Whitespace.{Whitespace}
-use Rattle.model_lexers.specs.Space.{space}
+use Rattle.model_scanner.specs.declared.context.SkipTabs.{SkipTabs}
+use Rattle.model_scanner.specs.declared.context.SkipTabs.TheVariants.{Yes}
+use Rattle.model_scanner.specs.declared.context.Whitespace.{Whitespace}
+use Rattle.model_scanner.specs.Blanks.{space}
 use Rattle.model_scanner.specs.State.{Held, ScannerState, peek, in_flow, ◌>>=◌, on_held, push}
 use Rattle.model_scanner.specs.Space.{skip_spaces, skip_to_next_token}
 use Rattle.model_scanner.specs.Document.{fetch_document_marker, check_document_end, fetch_document_end, context, quoted_style, adjacent_here, may_follow_quoted, check_after_quoted, fetch_flow_scalar}
 use Rattle.yaml_chars.specs.Class.{is_breakz, is_blank_or_breakz}
 use Rattle.defs_token.specs.Token.{Tok, Style}
-use Rattle.model_lexers.specs.declared.context.Context.{Context}
-use Rattle.model_lexers.specs.Quoted.{quoted}
+use Rattle.model_scanner.specs.declared.context.Context.{Context}
+use Rattle.model_scanner.specs.Quoted.{quoted}
 use Rattle.model_scanner.specs.Keys.{save_implicit_key}
 use Rattle.yaml_scanner.specs.Steps.{end_quoted}
 use Rattle.yaml_scanner.proofs.DoesLemmas.{Reads-along, Reads-map, Reads-none, same_position}
@@ -90,15 +90,15 @@ pub marker_none : (c : ℕ) (a : List ℕ) (x y z : ℕ) (t : Bool) → x ≡ sl
 unfolding comes_marker
 marker_none c a x y z t e f g i j = j ∙ sym (thrice (slice_index a 0 == c) (slice_index a 1 == c) (slice_index a 2 == c) (is_blank_or_breakz (slice_index a 3)) false (rw (← e, ← f, ← g) (sym i ∙ j)))
 
-pub sees_marker : {T : Type 0} (s : Reading T) (c x y z w : ℕ) (t b : Bool) → Sees s (λ a. x ≡ slice_index a 0) → Sees s (λ a. y ≡ slice_index a 1) → Sees s (λ a. z ≡ slice_index a 2) → Sees s (λ a. w ≡ slice_index a 3)
+pub sees_marker : {T : Type 0} (s : WindowView T) (c x y z w : ℕ) (t b : Bool) → Sees s (λ a. x ≡ slice_index a 0) → Sees s (λ a. y ≡ slice_index a 1) → Sees s (λ a. z ≡ slice_index a 2) → Sees s (λ a. w ≡ slice_index a 3)
     → t ≡ ((x == c) && (y == c) && (z == c)) → t ≡ true → b ≡ is_blank_or_breakz w → Sees s (λ a. b ≡ comes_marker c a)
 sees_marker s c x y z w t b e f g h i j k = record { sees = λ v p. marker_at c _ x y z w t b (e.sees v p) (f.sees v p) (g.sees v p) (h.sees v p) i j k }
 
-pub sees_none : {T : Type 0} (s : Reading T) (c x y z : ℕ) (t : Bool) → Sees s (λ a. x ≡ slice_index a 0) → Sees s (λ a. y ≡ slice_index a 1) → Sees s (λ a. z ≡ slice_index a 2)
+pub sees_none : {T : Type 0} (s : WindowView T) (c x y z : ℕ) (t : Bool) → Sees s (λ a. x ≡ slice_index a 0) → Sees s (λ a. y ≡ slice_index a 1) → Sees s (λ a. z ≡ slice_index a 2)
     → t ≡ ((x == c) && (y == c) && (z == c)) → t ≡ false → Sees s (λ a. t ≡ comes_marker c a)
 sees_none s c x y z t e f g i j = record { sees = λ v p. marker_none c _ x y z t (e.sees v p) (f.sees v p) (g.sees v p) i j }
 
-pub sees_map : {T : Type 0} {P Q : List ℕ → Type 0} (s : Reading T) → Sees s P → ((a : List ℕ) → P a → Q a) → Sees s Q
+pub sees_map : {T : Type 0} {P Q : List ℕ → Type 0} (s : WindowView T) → Sees s P → ((a : List ℕ) → P a → Q a) → Sees s Q
 sees_map s see f = record { sees = λ w p. f _ (see.sees w p) }
 
 pub on_ok_map : {X E : Type 0} (r : Result X E) (P Q : Type 0) → OnOk r P → (P → Q) → OnOk r Q
@@ -109,7 +109,7 @@ pub does_held : {T : Type 0} {h : ScannerState → Result ScannerState Fault} (x
 does_held x y e f = record { runs = Reads-along _ _ _ _ refl e (Reads-map _ _ (Reads-none x.window) (λ a b p. rw p (f a))) }
 
 -- what is held stays where more of the text was looked at
-pub held_same : {T : Type 0} (x y : Fetcher T) (w : Reading T) → SamePosition x.window w → y ≡ record x { window = w } → held y ≡ held x
+pub held_same : {T : Type 0} (x y : Fetcher T) (w : WindowView T) → SamePosition x.window w → y ≡ record x { window = w } → held y ≡ held x
 held_same x y w same e = ap held e ∙ ap (λ p. record (held x) { position = p }) (same_position x.window w same)
 
 -- quoted scalars
@@ -190,5 +190,5 @@ pub no_space_after : (a b : List ℕ) (h u : Held) (x : Fault) → fetch_documen
 unfolding fetch_document_end
 no_space_after a b h u x e f = rw (e, f) refl
 
-pub Reads-both : {T : Type 0} {P : List ℕ → List ℕ → Type 0} {Q : List ℕ → Type 0} (old new : Reading T) → Reads old new P → Sees new Q → Reads old new (λ a b. P a b × Q b)
+pub Reads-both : {T : Type 0} {P : List ℕ → List ℕ → Type 0} {Q : List ℕ → Type 0} (old new : WindowView T) → Reads old new P → Sees new Q → Reads old new (λ a b. P a b × Q b)
 Reads-both old new run sight = Reads-see old new run sight (λ a b p q. (p, q))

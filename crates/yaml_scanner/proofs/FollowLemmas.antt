@@ -4,7 +4,7 @@ use Rattle.std.specs.Prelude.{IfSome, codes}
 use Rattle.std.specs.List.{list_any}
 use Rattle.std.proofs.lemmas.Bool.{eqb-true, both_ways}
 use Rattle.std.proofs.lemmas.List.{take-append-drop, length-take, length-drop}
-use Rattle.yaml_chars.proofs.ReadingLemmas.{Possible-taken}
+use Rattle.yaml_chars.proofs.WindowViewLemmas.{Possible-taken}
 use Rattle.defs_token.specs.Token.{Tok, Token}
 use Rattle.defs_text.specs.Position.{Position}
 use Rattle.yaml_tokens.specs.Problem.{fault_of}
@@ -32,16 +32,16 @@ use Rattle.yaml_scanner.specs.Scanned.{Scanned, inside, kept_fault, is_early, Is
 use Rattle.yaml_scanner_state.proofs.GivenLemmas.{lowered_seen}
 use Rattle.yaml_scanner.proofs.WhereLemmas.{in_text, at_end, not_started, has_started}
 use Rattle.yaml_scanner_state.proofs.QueueLemmas.{has_end_append}
-use Rattle.yaml_chars.specs.Reading.{position_of}
+use Rattle.yaml_chars.specs.WindowView.{position_of}
 use Rattle.defs_token.specs.Cut.{IsCut, IsCutOfBeginning, tokens_of, end_token}
 use Rattle.defs_text.specs.Text.{has_no_nul}
-use Rattle.proof_cut.proofs.Scalars.{same_number}
-use Rattle.proof_cut.proofs.Faults.Fetches.{faults_stand}
-use Rattle.proof_cut.proofs.Beginnings.{first_tokens_are_cut}
-use Rattle.defs_row.specs.Row.{IsRead}
-use Rattle.proof_row_sound.proofs.Sound.{tokens_are_of_a_row}
-use Rattle.proof_row_complete.proofs.Complete.{texts_with_a_row_are_read}
-use Rattle.proof_refusals.proofs.Refusals.{refused_texts_are_stuck}
+use Rattle.proof_scanner.proofs.Cut.Scalars.{same_number}
+use Rattle.proof_scanner.proofs.Cut.Faults.Fetches.{faults_stand}
+use Rattle.proof_scanner.proofs.Cut.Beginnings.{first_tokens_are_cut}
+use Rattle.defs_token.specs.Row.{IsRead}
+use Rattle.proof_scanner.proofs.Sound.Sound.{tokens_are_of_a_row}
+use Rattle.proof_scanner.proofs.Complete.Complete.{texts_with_a_row_are_read}
+use Rattle.proof_scanner.proofs.Refusals.Refusals.{refused_texts_are_stuck}
 
 -- before a text
 pub starts : {T : Type 0} (x : Fetcher T) → held x ≡ nothing_held → x.window.at ≡ 0 → x.kept ≡ None → handed x.tokens ≡ [] → x.tokens.over ≡ false → x.backlog ≡ None → Follows x

@@ -5,7 +5,7 @@ use Rattle.std.proofs.lemmas.Bool.{lt-ltb, ltb-false}
 use Rattle.defs_text.specs.Position.{Position}
 use Rattle.yaml_chars.specs.Class.{is_break, is_blank, is_blank_or_breakz}
 use Rattle.defs_token.specs.Token.{Tok, Style, Token}
-use Rattle.model_lexers.specs.Machine.{past}
+use Rattle.model_scanner.specs.Machine.{past}
 use Rattle.model_scanner.specs.declared.level.Indent.{Indent}
 use Rattle.model_scanner.specs.State.{Key, Held, token}
 use Rattle.model_scanner.specs.Keys.{is_far, drop_stale, stale, cleared, save_implicit_key, must_be_key, top_needs_block_end}
@@ -16,7 +16,7 @@ use Rattle.model_scanner.specs.Fetch.{fetch, fetch_here}
 use Rattle.proof_lexers.specs.HeaderEnds.{along}
 use Rattle.yaml_scanner_state.specs.Levels.{ends_open}
 use Rattle.yaml_scanner_state.specs.Tokens.{key_tokens}
-use Rattle.yaml_chars.specs.Pairs.{IsSimpleText, indented}
+use Rattle.yaml_chars.specs.BlockLines.{IsSimpleText, indented}
 use Rattle.yaml_scanner.specs.Fetched.{RunsTwice, fetch_rest, before as before_position, with_key, with_line}
 use Rattle.yaml_scanner.proofs.PairTexts.{Simple, simple_text, same_place, along_is, plain_key, plain_value}
 use Rattle.yaml_scanner.proofs.PairFetches.{at, in_mapping, fetched, none_overdue, none_stale, near_stale, none_end, solid_here, plain_here, value_here, one_deeper, follows_blank, follows_visible, insert_key_token, near_along}

@@ -4,13 +4,13 @@ use Rattle.std.specs.Prelude.{IfSome, OnOk}
 use Rattle.std.proofs.lemmas.Bool.{ne_eqb}
 use Rattle.defs_text.specs.Position.{Position}
 use Rattle.defs_token.specs.Token.{Token}
-use Rattle.yaml_chars.specs.Reading.{Reading, Sees, position_of}
-use Rattle.yaml_chars.proofs.ReadingLemmas.{Reads-then, Reads-saw}
+use Rattle.yaml_chars.specs.WindowView.{WindowView, Sees, position_of}
+use Rattle.yaml_chars.proofs.WindowViewLemmas.{Reads-then, Reads-saw}
 use Rattle.yaml_tokens.specs.declared.problem.Fault.{Fault}
-use Rattle.yaml_chars.specs.Pairs.{TakesKey, TakesLine, TakesNode}
-use Rattle.yaml_chars.specs.declared.pairs.Node.{Node}
-use Rattle.yaml_chars.specs.declared.pairs.Node.TheVariants as taken
-use Rattle.model_lexers.specs.Machine.{past}
+use Rattle.yaml_chars.specs.BlockLines.{TakesKey, TakesLine, TakesNode}
+use Rattle.yaml_chars.specs.declared.block_line.BlockLine.{BlockLine}
+use Rattle.yaml_chars.specs.declared.block_line.BlockLine.TheVariants as taken
+use Rattle.model_scanner.specs.Machine.{past}
 use Rattle.model_scanner.specs.declared.level.Indent.{Indent}
 use Rattle.model_scanner.specs.State.{Key, Held, ScannerState}
 use Rattle.model_scanner.specs.Keys.{cleared, must_be_key, stale, top_needs_block_end}
@@ -20,7 +20,7 @@ use Rattle.model_scanner.specs.Fetch.{fetch, fetch_next}
 use Rattle.proof_lexers.specs.HeaderEnds.{along}
 use Rattle.yaml_scanner.specs.declared.fetcher.Fetcher.{Fetcher}
 use Rattle.yaml_scanner_state.specs.ImplicitKeys.{seen}
-use Rattle.yaml_scanner_state.specs.Levels.{Columns, ends_open, lone_open}
+use Rattle.yaml_scanner_state.specs.Levels.{Columns, ends_open, value_level}
 use Rattle.yaml_scanner.specs.Awaits.{Stands, AwaitsNode}
 use Rattle.yaml_scanner.specs.Fetched.{Fetched, once, twice, RunsTwice, fetch_rest, with_key, with_line}
 use Rattle.yaml_scanner.specs.Follows.{Follows}
@@ -85,7 +85,7 @@ stands_outside col l none left = record {
     by i ts = refl
 
 -- inside a level that opens no collection
-pub stands_open : (col limit : ℕ) (l : Columns) → lone_open l.indents ≡ Some limit → l.indent ≤ col + 1 → limit < col + 1 → Stands col l limit
+pub stands_open : (col limit : ℕ) (l : Columns) → value_level l.indents ≡ Some limit → l.indent ≤ col + 1 → limit < col + 1 → Stands col l limit
 unfolding without_open
 stands_open col limit l lone low left =
     let s = levels_split l.indents limit lone in
@@ -108,13 +108,13 @@ stands_open col limit l lone low left =
 
 -- ---- a node
 
-pub took_key : {T : Type 0} (limit : ℕ) (x w : Reading T) (o : Option Node) (n : Node) (key : List ℕ) → o ≡ Some n → n ≡ taken.Key key → IfSome o (λ n. TakesNode limit x w n) → TakesKey x w key
+pub took_key : {T : Type 0} (limit : ℕ) (x w : WindowView T) (o : Option BlockLine) (n : BlockLine) (key : List ℕ) → o ≡ Some n → n ≡ taken.Key key → IfSome o (λ n. TakesNode limit x w n) → TakesKey x w key
 took_key limit x w o n key e f h = subst (λ n. TakesNode limit x w n) f (subst (λ o. IfSome o (λ n. TakesNode limit x w n)) e h)
 
-pub took_line : {T : Type 0} (limit : ℕ) (x w : Reading T) (o : Option Node) (n : Node) (text : List ℕ) → o ≡ Some n → n ≡ taken.Scalar text → IfSome o (λ n. TakesNode limit x w n) → TakesLine [] limit x w text
+pub took_line : {T : Type 0} (limit : ℕ) (x w : WindowView T) (o : Option BlockLine) (n : BlockLine) (text : List ℕ) → o ≡ Some n → n ≡ taken.Scalar text → IfSome o (λ n. TakesNode limit x w n) → TakesLine [] limit x w text
 took_line limit x w o n text e f h = subst (λ n. TakesNode limit x w n) f (subst (λ o. IfSome o (λ n. TakesNode limit x w n)) e h)
 
-module _ {T : Type 0} (x y : Fetcher T) (w : Reading T) (limit : ℕ) (z : AwaitsNode x limit) (started : x.started ≡ true) (going : x.tokens.ended ≡ false) (window : y.window ≡ w) where
+module _ {T : Type 0} (x y : Fetcher T) (w : WindowView T) (limit : ℕ) (z : AwaitsNode x limit) (started : x.started ≡ true) (going : x.tokens.ended ≡ false) (window : y.window ≡ w) where
   abbrev p : Position
   p = position_of x.window
 
@@ -160,12 +160,12 @@ module _ {T : Type 0} (x y : Fetcher T) (w : Reading T) (limit : ℕ) (z : Await
 
   pub key_does : (key : List ℕ) → TakesKey x.window w key → held y ≡ with_key p key (held (record x { window = w })) → Fetched fetch_rest x y
   key_does key t new =
-      let split = keys_split x.keys z.free z.level in
+      let split = keys_split x.keys z.no_open_key z.level in
       key_steps (seen x.tokens.given split.0) (seen_free x.tokens.given split.0 split.2) (ap (seen x.tokens.given) split.1) key t new
 
   pub line_does : (text : List ℕ) → TakesLine [] limit x.window w text → held y ≡ with_line p text (held (record x { window = w })) → Fetched fetch_rest x y
   line_does text t new =
-      let split = keys_split x.keys z.free z.level in
+      let split = keys_split x.keys z.no_open_key z.level in
       line_steps (seen x.tokens.given split.0) (seen_free x.tokens.given split.0 split.2) (ap (seen x.tokens.given) split.1) text t new
 
 -- ---- a fetch

@@ -2,19 +2,19 @@
 use Rattle.std.proofs.Common.{◌≡◌, ℕ, ◌+◌, List, Bool, true, false, refl, ap, sym, ◌∙◌, Ok, Err, Option, if◌then◌else◌, ◌==◌}
 use Rattle.defs_text.specs.Position.{Position}
 use Rattle.defs_token.specs.Token.{Tok, Style}
-use Rattle.model_lexers.specs.declared.context.Context.{Context}
-use Rattle.model_lexers.specs.Plain.{plain}
-use Rattle.model_lexers.specs.Block.{block}
+use Rattle.model_scanner.specs.declared.context.Context.{Context}
+use Rattle.model_scanner.specs.Plain.{plain}
+use Rattle.model_scanner.specs.BlockScalar.{block}
 use Rattle.yaml_tokens.specs.declared.problem.Fault.{Fault}
-use Rattle.model_lexers.specs.Anchor.{anchor_name}
-use Rattle.model_lexers.specs.Directive.{directive}
-use Rattle.model_lexers.specs.Tag.{tag}
-use Rattle.yaml_chars.specs.Reading.{Reading, after_line, position_of}
+use Rattle.model_scanner.specs.Anchor.{anchor_name}
+use Rattle.model_scanner.specs.Directive.{directive}
+use Rattle.model_scanner.specs.Tag.{tag}
+use Rattle.yaml_chars.specs.WindowView.{WindowView, after_line, position_of}
 use Rattle.yaml_tokens.specs.declared.problem.Fault.TheVariants.{At}
 use Rattle.yaml_tokens.specs.declared.problem.Problem.TheVariants as problem
 use Rattle.model_scanner.specs.Keys.{has_required, cleared, save_implicit_key, remove_implicit_key}
 use Rattle.model_scanner.specs.State.{Key, Held, in_flow, push, after}
-use Rattle.model_lexers.specs.Machine.{past}
+use Rattle.model_scanner.specs.Machine.{past}
 use Rattle.model_scanner.specs.Indents.{unroll_indent, unroll_non_block_indents}
 use Rattle.model_scanner.specs.Document.{next_line, fetch_stream_end, fetch_document_marker, begin_line, anchor_token, block_style, context, fetch_directive, fetch_anchor, fetch_tag, fetch_block_scalar, fetch_plain_scalar}
 
@@ -88,11 +88,11 @@ pub not_marked : (t : Tok) (a : List ℕ) (h : Held) (x : Fault) → begin_line 
 unfolding fetch_document_marker
 not_marked t a h x e = rw e refl
 
-line_position : {T : Type 0} (s : Reading T) (t : Bool) → (s.col == 0) ≡ t → position_of (if t then s else record s { line = s.line + 1; col = 0 }) ≡ (if t then position_of s else record (position_of s) { line = s.line + 1; col = 0 })
+line_position : {T : Type 0} (s : WindowView T) (t : Bool) → (s.col == 0) ≡ t → position_of (if t then s else record s { line = s.line + 1; col = 0 }) ≡ (if t then position_of s else record (position_of s) { line = s.line + 1; col = 0 })
 line_position s true e = refl
 line_position s false e = refl
 
-pub next_position : {T : Type 0} (s u : Reading T) → u ≡ after_line s → position_of u ≡ next_line (position_of s)
+pub next_position : {T : Type 0} (s u : WindowView T) → u ≡ after_line s → position_of u ≡ next_line (position_of s)
 next_position s u e = ap position_of e ∙ line_position s (s.col == 0) refl
 
 pub stream_ended : (a : List ℕ) (h u v w : Held) (b : Bool) (ks : List (Option Key)) (p m : Position) → p ≡ next_line h.position → b ≡ has_required h.keys → b ≡ false → ks ≡ cleared h.keys → u ≡ record h { position = p; keys = ks } → v ≡ unroll_indent 0 u → m ≡ v.position

@@ -6,7 +6,7 @@ use Rattle.std.proofs.lemmas.Bool.Decides.{nat_tests}
 use Rattle.defs_text.specs.Position.{Position}
 use Rattle.yaml_chars.specs.Class.{is_break, is_blank, is_blank_or_breakz}
 use Rattle.defs_token.specs.Token.{Tok, Style, Token}
-use Rattle.model_lexers.specs.Machine.{past}
+use Rattle.model_scanner.specs.Machine.{past}
 use Rattle.model_scanner.specs.declared.level.Indent.{Indent}
 use Rattle.model_scanner.specs.State.{Key, Held, ScannerState, token, moved}
 use Rattle.model_scanner.specs.Class.{class_of}
@@ -18,7 +18,7 @@ use Rattle.model_scanner.specs.Document.{fetch_plain_scalar}
 use Rattle.model_scanner.specs.Fetch.{fetch, fetch_next, fetch_here, fetch_content, fetch_first_column, fetch_indented, fetch_token, comes_marker, is_value}
 use Rattle.proof_lexers.specs.HeaderEnds.{along}
 use Rattle.yaml_scanner_state.specs.Tokens.{key_tokens}
-use Rattle.yaml_chars.specs.Pairs.{IsSimpleText, indented}
+use Rattle.yaml_chars.specs.BlockLines.{IsSimpleText, indented}
 use Rattle.yaml_scanner.specs.Fetched.{FetchesTwice}
 use Rattle.yaml_scanner.proofs.PairTexts.{Opener, Simple, simple_text, along_is, plain_key, plain_value}
 

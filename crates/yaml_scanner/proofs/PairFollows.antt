@@ -1,11 +1,11 @@
 -- Two tokens that are handed out at once, against the model's runs.
 use Rattle.std.proofs.Common.{◌≡◌, ℕ, suc, ◌+◌, ◌-◌, ◌<◌, ◌≤◌, List, [], ◌∷◌, ◌++◌, Bool, true, false, ◌||◌, refl, ap, sym, ◌∙◌, arith, Option, Some, None, length, length-append, map, take, drop, option_map, subst, append_assoc, Ok}
 use Rattle.defs_text.specs.Position.{Position}
-use Rattle.yaml_chars.specs.Reading.{Reading, Reads, position_of}
+use Rattle.yaml_chars.specs.WindowView.{WindowView, Reads, position_of}
 use Rattle.defs_token.specs.Token.{Tok, Style, Token}
 use Rattle.yaml_tokens.specs.ErrorReport.{ErrorReport}
 use Rattle.yaml_tokens.specs.declared.problem.Fault.TheVariants.{OutOfMemory}
-use Rattle.model_lexers.specs.Machine.{past}
+use Rattle.model_scanner.specs.Machine.{past}
 use Rattle.model_scanner.specs.declared.level.Indent.{Indent}
 use Rattle.model_scanner.specs.State.{Key, token}
 use Rattle.model_scanner.specs.Keys.{cleared, top_needs_block_end}
@@ -18,13 +18,13 @@ use Rattle.yaml_scanner.specs.declared.fetcher.Fetcher.{Fetcher}
 use Rattle.yaml_scanner.specs.declared.fetcher.KeptFault.{KeptFault}
 use Rattle.yaml_scanner_state.specs.declared.keys.ImplicitKey.{ImplicitKey}
 use Rattle.yaml_scanner_state.specs.ImplicitKeys.{seen, no_implicit}
-use Rattle.yaml_scanner_state.specs.Levels.{Columns, lone_open}
+use Rattle.yaml_scanner_state.specs.Levels.{Columns, value_level}
 use Rattle.yaml_scanner_state.specs.Tokens.{Tokens, handed, is_end, key_tokens}
 use Rattle.yaml_scanner_state.proofs.KeyLemmas.{none_front, none_lowered}
 use Rattle.yaml_scanner.specs.Awaits.{StandsAt, levels_after, AwaitsKey, AwaitsValue}
 use Rattle.yaml_scanner.specs.Fetched.{FetchesTwice}
 use Rattle.yaml_scanner.specs.Follows.{Follows}
-use Rattle.yaml_chars.specs.Pairs.{TakesKey, TakesValue}
+use Rattle.yaml_chars.specs.BlockLines.{TakesKey, TakesValue}
 use Rattle.yaml_scanner.specs.Scanned.{Scanned, inside, kept_fault, HandsBoth}
 use Rattle.yaml_scanner.specs.Shape.{held, state}
 use Rattle.yaml_scanner.specs.Work.{Fetches, work}
@@ -130,7 +130,7 @@ seen_free g (Some k ∷ js) e = absurd cc
 
 -- ---- levels
 
-pub levels_split : (ds : List Indent) (limit : ℕ) → lone_open ds ≡ Some limit → (es : List Indent) × (ds ≡ level limit false ∷ es) × (top_needs_block_end es ≡ true)
+pub levels_split : (ds : List Indent) (limit : ℕ) → value_level ds ≡ Some limit → (es : List Indent) × (ds ≡ level limit false ∷ es) × (top_needs_block_end es ≡ true)
 levels_split [] limit e = absurd cc
 levels_split (d ∷ []) limit e = absurd cc
 levels_split (d ∷ g ∷ ds) limit e = by d.needs_block_end g.needs_block_end refl refl
@@ -172,7 +172,7 @@ levels_more false l = omega arith
 
 -- ---- a key
 
-module _ {T : Type 0} (x : Fetcher T) (w : Reading T) (key : List ℕ) (colon : Position) (opens : Bool) (z : AwaitsKey x opens) (t : TakesKey x.window w key) (at : colon ≡ record { index = w.at - 1; line = w.line; col = w.col - 1 }) where
+module _ {T : Type 0} (x : Fetcher T) (w : WindowView T) (key : List ℕ) (colon : Position) (opens : Bool) (z : AwaitsKey x opens) (t : TakesKey x.window w key) (at : colon ≡ record { index = w.at - 1; line = w.line; col = w.col - 1 }) where
   abbrev p : Position
   p = position_of x.window
 
@@ -211,7 +211,7 @@ module _ {T : Type 0} (x : Fetcher T) (w : Reading T) (key : List ℕ) (colon : 
   key_fetches : Follows x → Follows (key_fetcher x.tokens.given)
   key_fetches f =
       let s = z.settled in
-      let split = keys_split x.keys s.free s.level in
+      let split = keys_split x.keys s.no_open_key s.level in
       let ks = seen x.tokens.given split.0 in
       let free = seen_free x.tokens.given split.0 split.2 in
       let keys : seen x.tokens.given x.keys ≡ None ∷ ks = ap (seen x.tokens.given) split.1 in
@@ -229,7 +229,7 @@ module _ {T : Type 0} (x : Fetcher T) (w : Reading T) (key : List ℕ) (colon : 
   pub key_follows : Follows x → Follows (key_fetcher (x.tokens.given + 2))
   key_follows f =
       let s = z.settled in
-      both_handed (key_fetcher x.tokens.given) x.tokens.all (token colon Tok.value ∷ []) (token p Tok.key) (token p (Tok.scalar Style.plain key)) s.kept s.over s.free refl z.waits refl refl (key_fetches f)
+      both_handed (key_fetcher x.tokens.given) x.tokens.all (token colon Tok.value ∷ []) (token p Tok.key) (token p (Tok.scalar Style.plain key)) s.kept s.over s.no_open_key refl z.waits refl refl (key_fetches f)
 
   key_less : (n : ℕ) → length (levels_after opens x.levels).indents ≡ n → n ≤ length x.levels.indents + 1 → work (key_fetcher (x.tokens.given + 2)) + 1 < work x
   key_less n e low =
@@ -249,7 +249,7 @@ module _ {T : Type 0} (x : Fetcher T) (w : Reading T) (key : List ℕ) (colon : 
 
 -- ---- a value
 
-popped_is : (ds : List Indent) (limit : ℕ) (l : Columns) → lone_open ds ≡ Some limit → ds ≡ level l.indent false ∷ l.indents → (l.indent ≡ limit) × (top_needs_block_end l.indents ≡ true)
+popped_is : (ds : List Indent) (limit : ℕ) (l : Columns) → value_level ds ≡ Some limit → ds ≡ level l.indent false ∷ l.indents → (l.indent ≡ limit) × (top_needs_block_end l.indents ≡ true)
 popped_is ds limit l e f =
     let s = levels_split ds limit e in
     let same : level l.indent false ∷ l.indents ≡ level limit false ∷ s.0 = sym f ∙ s.1 in
@@ -257,7 +257,7 @@ popped_is ds limit l e f =
     let rest : l.indents ≡ s.0 = cc in
     (ap (λ (i : Indent). i.indent) top, ap top_needs_block_end rest ∙ s.2)
 
-module _ {T : Type 0} (x : Fetcher T) (w : Reading T) (value : List ℕ) (at : Position) (limit : ℕ) (mark : Position) (l : Columns) (z : AwaitsValue x at limit) (t : TakesValue limit x.window w value) (is : mark ≡ past (position_of x.window)) (popped : x.levels.indents ≡ level l.indent false ∷ l.indents) where
+module _ {T : Type 0} (x : Fetcher T) (w : WindowView T) (value : List ℕ) (at : Position) (limit : ℕ) (mark : Position) (l : Columns) (z : AwaitsValue x at limit) (t : TakesValue limit x.window w value) (is : mark ≡ past (position_of x.window)) (popped : x.levels.indents ≡ level l.indent false ∷ l.indents) where
   abbrev q : Position
   q = position_of x.window
 
@@ -293,7 +293,7 @@ module _ {T : Type 0} (x : Fetcher T) (w : Reading T) (value : List ℕ) (at : P
   value_fetches f =
       let s = z.settled in
       let ks = seen x.tokens.given x.keys in
-      let free = seen_free x.tokens.given x.keys s.free in
+      let free = seen_free x.tokens.given x.keys s.no_open_key in
       let split = popped_is x.levels.indents limit l z.opened popped in
       let y = value_fetcher x.tokens.given in
       let indents : x.levels.indents ≡ level limit false ∷ l.indents = popped ∙ ap (λ i. level i false ∷ l.indents) split.0 in
@@ -313,7 +313,7 @@ module _ {T : Type 0} (x : Fetcher T) (w : Reading T) (value : List ℕ) (at : P
   pub value_follows : Follows x → Follows (value_fetcher (x.tokens.given + 2))
   value_follows f =
       let s = z.settled in
-      both_handed (value_fetcher x.tokens.given) (handed x.tokens) [] (token at Tok.value) scalar s.kept s.over s.free tokens_are gone refl refl (value_fetches f)
+      both_handed (value_fetcher x.tokens.given) (handed x.tokens) [] (token at Tok.value) scalar s.kept s.over s.no_open_key tokens_are gone refl refl (value_fetches f)
 
   pub value_handed : HandsBoth (inside x) (token at Tok.value) scalar (inside (value_fetcher (x.tokens.given + 2)))
   value_handed =

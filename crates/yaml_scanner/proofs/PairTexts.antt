@@ -5,13 +5,13 @@ use Rattle.std.proofs.lemmas.Bool.Decides.{nat_tests}
 use Rattle.defs_text.specs.Position.{Position}
 use Rattle.yaml_chars.specs.Class.{is_break, is_blank, is_blank_or_breakz, is_alphanumeric}
 use Rattle.yaml_tokens.specs.declared.problem.Fault.{Fault}
-use Rattle.model_lexers.specs.declared.context.Context.{Context}
-use Rattle.model_lexers.specs.Machine.{Read, past, at_marker}
-use Rattle.model_lexers.specs.Plain.{PlainState, Plain, inside, between, plain, plain_from, can_be_plain, starts, at_dash, at_plain, goes_on, is_shallow}
+use Rattle.model_scanner.specs.declared.context.Context.{Context}
+use Rattle.model_scanner.specs.Machine.{Read, past, at_marker}
+use Rattle.model_scanner.specs.Plain.{PlainState, Plain, inside, between, plain, plain_from, can_be_plain, starts, at_dash, at_plain, goes_on, is_shallow}
 use Rattle.model_scanner.specs.declared.class.Class.TheVariants.{Other}
 use Rattle.model_scanner.specs.Class.{class_of}
 use Rattle.proof_lexers.specs.HeaderEnds.{along}
-use Rattle.yaml_chars.specs.Pairs.{is_simple, opens_simple, IsSimpleText, indented}
+use Rattle.yaml_chars.specs.BlockLines.{is_simple, opens_simple, IsSimpleText, indented}
 
 -- ---- simple texts
 

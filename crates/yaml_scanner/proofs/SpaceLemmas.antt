@@ -5,8 +5,8 @@ use Rattle.defs_text.specs.Position.{Position}
 use Rattle.yaml_chars.specs.Class.{is_break, is_blank}
 use Rattle.yaml_tokens.specs.declared.problem.Fault.TheVariants.{At}
 use Rattle.yaml_tokens.specs.declared.problem.Problem.TheVariants as problem
-use Rattle.model_lexers.specs.Machine.{Read, past, past_break}
-use Rattle.model_lexers.specs.Space as lex
+use Rattle.model_scanner.specs.Machine.{Read, past, past_break}
+use Rattle.model_scanner.specs.Blanks as lex
 use Rattle.model_scanner.specs.State.{Held, in_flow, moved}
 use Rattle.model_scanner.specs.Space.{between, comment, tab_line, is_before_indent, skip, white}
 

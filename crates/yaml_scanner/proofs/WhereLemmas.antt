@@ -2,12 +2,12 @@
 use Rattle.std.proofs.Common.{◌≡◌, ℕ, zero, suc, ◌+◌, ◌-◌, ◌<◌, List, [], ◌∷◌, Bool, true, false, refl, ap, sym, ◌∙◌, arith, None, length, take, drop}
 use Rattle.std.proofs.lemmas.List.{length-take}
 use Rattle.defs_token.specs.Token.{Token}
-use Rattle.yaml_chars.specs.Reading.{position_of}
+use Rattle.yaml_chars.specs.WindowView.{position_of}
 use Rattle.defs_text.specs.Text.{is_empty, has_no_nul}
 use Rattle.defs_text.specs.Position.{first_position, position_after}
 use Rattle.model_scanner.specs.Document.{next_line}
-use Rattle.proof_cut.specs.Positions.{IsPositionIn}
-use Rattle.proof_cut.proofs.Reached.{run_is_where}
+use Rattle.proof_scanner.specs.Positions.{IsPositionIn}
+use Rattle.proof_scanner.proofs.Cut.Reached.{run_is_where}
 use Rattle.yaml_scanner.specs.declared.fetcher.Fetcher.{Fetcher}
 use Rattle.yaml_scanner.specs.Shape.{state}
 use Rattle.yaml_scanner_state.specs.Tokens.{handed, waiting}

@@ -6,7 +6,7 @@ use Rattle.model_scanner.specs.State.{token}
 use Rattle.model_scanner.specs.Keys.{top_needs_block_end}
 use Rattle.yaml_scanner_state.specs.ImplicitKeys.{no_implicit}
 use Rattle.model_scanner.specs.Indents.{level, without_open}
-use Rattle.yaml_scanner_state.specs.Levels.{Columns, ends_open, lone_open}
+use Rattle.yaml_scanner_state.specs.Levels.{Columns, ends_open, value_level}
 use Rattle.yaml_scanner_state.specs.Tokens.{handed, waiting}
 use Rattle.yaml_scanner.specs.declared.fetcher.Fetcher.{Fetcher}
 
@@ -17,13 +17,13 @@ pub record IsSettled {T : Type 0} (s : Fetcher T) : Type 0 where
   pub ended : s.tokens.ended ≡ false
   pub over : s.tokens.over ≡ false
   pub flow : s.flow ≡ []
-  pub free : map no_implicit s.keys ≡ s.keys
+  pub no_open_key : map no_implicit s.keys ≡ s.keys
   pub level : 0 < length s.keys
 
 -- The innermost block collection stands at a column. Its key opens a level for the value, or the value before has left such a level open.
 abbrev pub StandsAt : ℕ → (opens : Bool) → Columns → Type 0
 StandsAt col true l = (l.indent ≡ col + 1) × (top_needs_block_end l.indents ≡ true)
-StandsAt col false l = (l.indent ≡ col + 2) × (lone_open l.indents ≡ Some (col + 1))
+StandsAt col false l = (l.indent ≡ col + 2) × (value_level l.indents ≡ Some (col + 1))
 
 -- the levels after such a key and its `:`
 abbrev pub levels_after : (opens : Bool) → Columns → Columns
@@ -43,7 +43,7 @@ pub record AwaitsValue {T : Type 0} (s : Fetcher T) (value : Position) (limit : 
   pub waits : s.tokens.all ≡ handed s.tokens ++ token value Tok.value ∷ []
   pub count : s.tokens.given + 1 ≡ length s.tokens.all
   pub allowed : s.key_allowed ≡ false
-  pub opened : lone_open s.levels.indents ≡ Some limit
+  pub opened : value_level s.levels.indents ≡ Some limit
   pub deep : s.levels.indent ≤ s.window.col + 2
   pub off : limit ≤ s.window.col + 2
 
@@ -63,7 +63,7 @@ pub record Stands (col : ℕ) (l : Columns) (limit : ℕ) : Type 0 where
 pub record AwaitsNode {T : Type 0} (s : Fetcher T) (limit : ℕ) : Type 0 where
   pub flow : s.flow ≡ []
   pub allowed : s.key_allowed ≡ true
-  pub free : map no_implicit s.keys ≡ s.keys
+  pub no_open_key : map no_implicit s.keys ≡ s.keys
   pub level : 0 < length s.keys
   pub waits : waiting s.tokens ≤ 1
   pub behind : 0 < waiting s.tokens → StandsAt s.window.col true s.levels

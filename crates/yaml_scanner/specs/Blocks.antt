@@ -2,8 +2,8 @@
 use Rattle.std.specs.Prelude.{true, Result, Ok}
 use Rattle.defs_token.specs.Token.{Tok}
 use Rattle.yaml_tokens.specs.declared.problem.Fault.{Fault}
-use Rattle.model_lexers.specs.declared.context.SkipTabs.TheVariants.{Yes, No}
-use Rattle.model_lexers.specs.Space.{space}
+use Rattle.model_scanner.specs.declared.context.SkipTabs.TheVariants.{Yes, No}
+use Rattle.model_scanner.specs.Blanks.{space}
 use Rattle.model_scanner.specs.State.{Held, ScannerState, ◌>>=◌, push, on_held, try_held, lexed, skip_indicator}
 use Rattle.model_scanner.specs.Keys.{remove_implicit_key}
 use Rattle.model_scanner.specs.Space.{skip_spaces, skip_yaml_whitespace}

@@ -2,7 +2,7 @@
 use Rattle.std.specs.Prelude.{◌≡◌, ◌-◌, List, ℕ, true, false, Result, Ok, None}
 use Rattle.defs_text.specs.Position.{Position}
 use Rattle.defs_token.specs.Token.{Tok, Style}
-use Rattle.yaml_chars.specs.Reading.{Reads}
+use Rattle.yaml_chars.specs.WindowView.{Reads}
 use Rattle.yaml_tokens.specs.declared.problem.Fault.{Fault}
 use Rattle.model_scanner.specs.State.{Held, ScannerState, ◌>>=◌, try_held, push}
 use Rattle.model_scanner.specs.Keys.{stale}

@@ -2,17 +2,17 @@
 use Rattle.std.specs.Prelude.{◌≡◌, ℕ, ◌+◌, ◌<◌, List, [], ◌∷◌, ◌++◌, length, take, drop, Bool, true, false, Option, Some, None, IfSome, option_map, codes}
 use Rattle.defs_text.specs.Position.{Position, first_position, position_after}
 use Rattle.defs_text.specs.Text.{has_no_nul}
-use Rattle.yaml_chars.specs.Reading.{position_of}
+use Rattle.yaml_chars.specs.WindowView.{position_of}
 use Rattle.defs_token.specs.Token.{Token}
 use Rattle.yaml_tokens.specs.ErrorReport.{ErrorReport}
 use Rattle.yaml_tokens.specs.Problem.{fault_of}
 use Rattle.yaml_tokens.specs.declared.problem.Fault as code
 use Rattle.defs_token.specs.Cut.{IsCutOfBeginning}
-use Rattle.defs_row.specs.Row.{IsRead}
+use Rattle.defs_token.specs.Row.{IsRead}
 use Rattle.model_scanner.specs.Document.{next_line}
 use Rattle.model_scanner.specs.Run.{IsRefused}
-use Rattle.proof_cut.specs.Faults.{IsThere, is_shown}
-use Rattle.proof_cut.specs.Positions.{IsPositionIn}
+use Rattle.proof_scanner.specs.Faults.{IsThere, is_shown}
+use Rattle.proof_scanner.specs.Positions.{IsPositionIn}
 use Rattle.yaml_scanner.specs.declared.fetcher.Backlog.{Backlog}
 use Rattle.yaml_scanner.specs.declared.fetcher.Fetcher.{Fetcher}
 use Rattle.yaml_scanner.specs.declared.fetcher.KeptFault.{KeptFault}

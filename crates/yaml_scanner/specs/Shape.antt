@@ -1,6 +1,6 @@
 -- The code's scanner as the model's state, and what the code's functions do to it.
 use Rattle.std.specs.Prelude.{◌≡◌, ◌≢◌, ℕ, List, Result, Ok, Err}
-use Rattle.yaml_chars.specs.Reading.{Reads, position_of}
+use Rattle.yaml_chars.specs.WindowView.{Reads, position_of}
 use Rattle.yaml_tokens.specs.declared.problem.Fault.{Fault}
 use Rattle.yaml_tokens.specs.declared.problem.Fault.TheVariants.{OutOfMemory}
 use Rattle.model_scanner.specs.State.{Held, ScannerState}

@@ -1,7 +1,7 @@
 -- A bound on the tokens that may still be handed out: those that wait, an end for each level of indentation, and
 -- what the characters to come may bring.
 use Rattle.std.specs.Prelude.{◌≡◌, ℕ, ◌+◌, ◌*◌, ◌≤◌, Bool, length, if◌then◌else◌}
-use Rattle.yaml_chars.specs.Reading.{Reading}
+use Rattle.yaml_chars.specs.WindowView.{WindowView}
 use Rattle.yaml_scanner_state.specs.Tokens.{waiting, handed}
 use Rattle.yaml_scanner.specs.declared.fetcher.Fetcher.{Fetcher}
 
@@ -35,5 +35,5 @@ pub record Fills {T : Type 0} (old new : Fetcher T) : Type 0 where
   pub fault : new.kept ≡ old.kept
 
 -- so many characters of the text come
-abbrev pub HasChars : {T : Type 0} → ℕ → Reading T → Type 0
+abbrev pub HasChars : {T : Type 0} → ℕ → WindowView T → Type 0
 HasChars n s = s.at + n ≤ length s.taken

@@ -1,7 +1,7 @@
 //! Block collections (YAML 1.2, section 8.2), keys and values.
 ghost use Rattle.std.specs.Prelude.{◌≡◌, ◌≢◌, ◌<◌, ◌≤◌, ◌+◌, ◌==◌, ◌&&◌, ◌||◌, not, OnOk, IfErr, Ok, Err, slice_index};
 ghost use Rattle.yaml_chars.specs.Class.{is_alpha, is_blank_or_breakz, is_break, is_flow};
-ghost use Rattle.yaml_chars.specs.Reading.{HasChar, Sees};
+ghost use Rattle.yaml_chars.specs.WindowView.{HasChar, Sees};
 ghost use Rattle.yaml_tokens.specs.Shown.{tok_of};
 ghost use Rattle.model_scanner.specs.State.{put};
 ghost use Rattle.model_scanner.specs.Keys.{top_key};
@@ -43,7 +43,7 @@ impl<T: Characters> Fetcher<T> {
         ensures does { OnOk result (Does fetch_block_entry self.old self.new) }
         ensures fails { IfErr result (λ _. Fails fetch_block_entry self.old self.new self.new.fault) }
         ensures run { Fetches self.old self.new }
-        ensures moves { OnOk result (Moves self.old self.new 4 8) }
+        ensures bounds { OnOk result (Moves self.old self.new 4 8) }
     {
         let mark = self.window.mark();
         self.check_block_entry()?;
@@ -59,7 +59,7 @@ impl<T: Characters> Fetcher<T> {
     fn check_block_entry(&mut self) -> Result<(), Failed>
         ensures ok { OnOk result (check_block_entry (held self.old) ≡ Ok (held self.new)) }
         ensures fault { IfErr result (λ _. check_block_entry (held self.old) ≡ Err self.new.fault) }
-        ensures moves { Moves self.old self.new 0 0 }
+        ensures bounds { Moves self.old self.new 0 0 }
         ensures window { self.new.window ≡ self.old.window }
     {
         if self.in_flow() {
@@ -76,7 +76,7 @@ impl<T: Characters> Fetcher<T> {
         ensures does { OnOk result (Does pass_dash self.old self.new) }
         ensures fails { IfErr result (λ _. Fails pass_dash self.old self.new self.new.fault) }
         ensures run { Fetches self.old self.new }
-        ensures moves { OnOk result (Moves self.old self.new 0 0) }
+        ensures bounds { OnOk result (Moves self.old self.new 0 0) }
     {
         let found = self.skip_spaces(SkipTabs::Yes)?;
         self.check_dash(found)?;
@@ -87,7 +87,7 @@ impl<T: Characters> Fetcher<T> {
     fn check_dash(&mut self, found: Whitespace) -> Result<(), Failed>
         ensures does { OnOk result (Does (check_dash found) self.old self.new) }
         ensures fails { IfErr result (λ _. Fails (check_dash found) self.old self.new self.new.fault) }
-        ensures moves { Moves self.old self.new 0 0 }
+        ensures bounds { Moves self.old self.new 0 0 }
     {
         self.window.lookahead(2);
         if self.is_tab_before_dash(found) {
@@ -109,7 +109,7 @@ impl<T: Characters> Fetcher<T> {
         ensures does { OnOk result (Does begin_entry self.old self.new) }
         ensures fails { IfErr result (λ _. Fails begin_entry self.old self.new self.new.fault) }
         ensures run { Fetches self.old self.new }
-        ensures moves { OnOk result (Moves self.old self.new 2 0) }
+        ensures bounds { OnOk result (Moves self.old self.new 2 0) }
     {
         self.pass_spaces(SkipTabs::No)?;
         self.roll_entry()?;
@@ -126,7 +126,7 @@ impl<T: Characters> Fetcher<T> {
         ensures does { OnOk result (Does entry_level self.old self.new) }
         ensures fails { IfErr result (λ _. Fails entry_level self.old self.new self.new.fault) }
         ensures run { Fetches self.old self.new }
-        ensures moves { OnOk result (Moves self.old self.new 1 0) }
+        ensures bounds { OnOk result (Moves self.old self.new 1 0) }
     {
         let c = self.window.look_ch();
         if !begins_apart(c) {
@@ -144,7 +144,7 @@ impl<T: Characters> Fetcher<T> {
         ensures does { OnOk result (Does fetch_key self.old self.new) }
         ensures fails { IfErr result (λ _. Fails fetch_key self.old self.new self.new.fault) }
         ensures run { Fetches self.old self.new }
-        ensures moves { OnOk result (Moves self.old self.new 3 8) }
+        ensures bounds { OnOk result (Moves self.old self.new 3 8) }
     {
         let mark = self.window.mark();
         self.begin_key()?;
@@ -161,7 +161,7 @@ impl<T: Characters> Fetcher<T> {
     fn begin_key(&mut self) -> Result<(), Failed>
         ensures held { OnOk result (begin_key (held self.old) ≡ Ok (held self.new)) }
         ensures fault { IfErr result (λ _. self.new.fault ≢ Fault.OutOfMemory → begin_key (held self.old) ≡ Err self.new.fault) }
-        ensures moves { Moves self.old self.new 2 0 }
+        ensures bounds { Moves self.old self.new 2 0 }
         ensures window { self.new.window ≡ self.old.window }
     {
         if self.in_flow() {
@@ -179,7 +179,7 @@ impl<T: Characters> Fetcher<T> {
     /// Notes that an entry of a flow sequence has a key with `?`.
     fn key_entry(&mut self)
         ensures held { held self.new ≡ record (held self.old) { flow = keyed (held self.old).flow } }
-        ensures moves { Moves self.old self.new 0 0 }
+        ensures bounds { Moves self.old self.new 0 0 }
         ensures window { self.new.window ≡ self.old.window }
     {
         if let Some(FlowLevel::Entry) = self.flow_entry() {
@@ -194,7 +194,7 @@ impl<T: Characters> Fetcher<T> {
         ensures does { OnOk result (Does pass_key self.old self.new) }
         ensures fails { IfErr result (λ _. Fails pass_key self.old self.new self.new.fault) }
         ensures run { Fetches self.old self.new }
-        ensures moves { OnOk result (Moves self.old self.new 0 8) }
+        ensures bounds { OnOk result (Moves self.old self.new 0 8) }
         ensures ahead { OnOk result (0 < self.new.window.ahead) }
     {
         self.skip_indicator();
@@ -207,7 +207,7 @@ impl<T: Characters> Fetcher<T> {
         requires { 0 < self.old.window.ahead }
         ensures does { OnOk result (Does check_key_space self.old self.new) }
         ensures fails { IfErr result (λ _. Fails check_key_space self.old self.new self.new.fault) }
-        ensures moves { Moves self.old self.new 0 0 }
+        ensures bounds { Moves self.old self.new 0 0 }
     {
         if self.window.ch() == '\t' {
             return Err(self.fail_here(Problem::TabAfterKey));
@@ -223,7 +223,7 @@ impl<T: Characters> Fetcher<T> {
         ensures does { OnOk result (Does fetch_value self.old self.new) }
         ensures fails { IfErr result (λ _. Fails fetch_value self.old self.new self.new.fault) }
         ensures run { Fetches self.old self.new }
-        ensures moves { OnOk result (Moves self.old self.new 7 8) }
+        ensures bounds { OnOk result (Moves self.old self.new 7 8) }
     {
         let mark = self.window.mark();
         let opens_pair = self.open_pair();
@@ -238,7 +238,7 @@ impl<T: Characters> Fetcher<T> {
     fn open_pair(&mut self) -> bool
         ensures value { result ≡ opens_pair (held self.old).flow }
         ensures held { held self.new ≡ record (held self.old) { flow = paired (held self.old).flow } }
-        ensures moves { Moves self.old self.new 0 0 }
+        ensures bounds { Moves self.old self.new 0 0 }
         ensures window { self.new.window ≡ self.old.window }
     {
         match self.flow_entry() {
@@ -255,7 +255,7 @@ impl<T: Characters> Fetcher<T> {
         ensures does { OnOk result (Does check_value_space self.old self.new) }
         ensures fails { IfErr result (λ _. Fails check_value_space self.old self.new self.new.fault) }
         ensures run { Fetches self.old self.new }
-        ensures moves { OnOk result (Moves self.old self.new 0 0) }
+        ensures bounds { OnOk result (Moves self.old self.new 0 0) }
     {
         if self.window.look_ch() != '\t' {
             return Ok(());
@@ -269,7 +269,7 @@ impl<T: Characters> Fetcher<T> {
         ensures does { OnOk result (Does pass_tab self.old self.new) }
         ensures fails { IfErr result (λ _. Fails pass_tab self.old self.new self.new.fault) }
         ensures run { Fetches self.old self.new }
-        ensures moves { OnOk result (Moves self.old self.new 0 0) }
+        ensures bounds { OnOk result (Moves self.old self.new 0 0) }
     {
         let found = self.skip_spaces(SkipTabs::Yes)?;
         self.check_after_tab(found)?;
@@ -281,7 +281,7 @@ impl<T: Characters> Fetcher<T> {
         requires { 0 < self.old.window.ahead }
         ensures does { OnOk result (Does (check_after_tab found) self.old self.new) }
         ensures fails { IfErr result (λ _. Fails (check_after_tab found) self.old self.new self.new.fault) }
-        ensures moves { Moves self.old self.new 0 0 }
+        ensures bounds { Moves self.old self.new 0 0 }
     {
         if self.is_word_after_tab(found) {
             return Err(self.fail_here(Problem::TabAfterColon));
@@ -301,7 +301,7 @@ impl<T: Characters> Fetcher<T> {
     fn begin_value(&mut self, mark: Marker, opens_pair: bool) -> Result<(), Failed>
         ensures held { OnOk result (value_of (top_key (held self.old).keys) mark opens_pair (held self.old) ≡ Ok (held self.new)) }
         ensures fault { IfErr result (λ _. self.new.fault ≢ Fault.OutOfMemory → value_of (top_key (held self.old).keys) mark opens_pair (held self.old) ≡ Err self.new.fault) }
-        ensures moves { Moves self.old self.new 5 0 }
+        ensures bounds { Moves self.old self.new 5 0 }
         ensures window { self.new.window ≡ self.old.window }
     {
         match self.keys.top() {
@@ -315,7 +315,7 @@ impl<T: Characters> Fetcher<T> {
     fn insert_key(&mut self, key: ImplicitKey, mark: Marker, opens_pair: bool) -> Result<(), Failed>
         ensures held { OnOk result (insert_key (keyed_by self.old.tokens.given key) mark opens_pair (held self.old) ≡ Ok (held self.new)) }
         ensures fault { IfErr result (λ _. self.new.fault ≢ Fault.OutOfMemory → insert_key (keyed_by self.old.tokens.given key) mark opens_pair (held self.old) ≡ Err self.new.fault) }
-        ensures moves { Moves self.old self.new 5 0 }
+        ensures bounds { Moves self.old self.new 5 0 }
         ensures window { self.new.window ≡ self.old.window }
     {
         self.put_token(key.position, key.mark, TokenType::Key)?;
@@ -339,7 +339,7 @@ impl<T: Characters> Fetcher<T> {
         ensures held { OnOk result (held self.new ≡ put (self.old.tokens.given + position) mark (tok_of kind) (held self.old)) }
         ensures given { OnOk result (self.new.tokens.given ≡ self.old.tokens.given) }
         ensures err { IfErr result (λ _. self.new.fault ≡ Fault.OutOfMemory) }
-        ensures moves { Moves self.old self.new 1 0 }
+        ensures bounds { Moves self.old self.new 1 0 }
         ensures window { self.new.window ≡ self.old.window }
     {
         if let Err(_) = self.tokens.insert(position, Token(mark, kind)) {
@@ -354,7 +354,7 @@ impl<T: Characters> Fetcher<T> {
         ensures held { OnOk result (begin_pair (keyed_by self.old.tokens.given key) mark opens_pair (held self.old) ≡ Ok (held self.new)) }
         ensures fault { IfErr result (λ _. self.new.fault ≢ Fault.OutOfMemory → begin_pair (keyed_by self.old.tokens.given key) mark opens_pair (held self.old) ≡ Err self.new.fault) }
         ensures given { OnOk result (self.new.tokens.given ≡ self.old.tokens.given) }
-        ensures moves { Moves self.old self.new 1 0 }
+        ensures bounds { Moves self.old self.new 1 0 }
         ensures window { self.new.window ≡ self.old.window }
     {
         if !opens_pair {
@@ -372,7 +372,7 @@ impl<T: Characters> Fetcher<T> {
     fn begin_keyless_value(&mut self, mark: Marker, opens_pair: bool) -> Result<(), Failed>
         ensures held { OnOk result (begin_keyless_value mark opens_pair (held self.old) ≡ Ok (held self.new)) }
         ensures fault { IfErr result (λ _. self.new.fault ≢ Fault.OutOfMemory → begin_keyless_value mark opens_pair (held self.old) ≡ Err self.new.fault) }
-        ensures moves { Moves self.old self.new 4 0 }
+        ensures bounds { Moves self.old self.new 4 0 }
         ensures window { self.new.window ≡ self.old.window }
     {
         self.begin_keyless_pair(opens_pair)?;
@@ -386,7 +386,7 @@ impl<T: Characters> Fetcher<T> {
     fn begin_keyless_pair(&mut self, opens_pair: bool) -> Result<(), Failed>
         ensures held { OnOk result (held self.new ≡ begin_keyless_pair opens_pair (held self.old)) }
         ensures err { IfErr result (λ _. self.new.fault ≡ Fault.OutOfMemory) }
-        ensures moves { Moves self.old self.new 1 0 }
+        ensures bounds { Moves self.old self.new 1 0 }
         ensures window { self.new.window ≡ self.old.window }
     {
         if !opens_pair {
@@ -402,7 +402,7 @@ impl<T: Characters> Fetcher<T> {
     fn begin_keyless_mapping(&mut self, mark: Marker) -> Result<(), Failed>
         ensures held { OnOk result (begin_keyless_mapping mark (held self.old) ≡ Ok (held self.new)) }
         ensures fault { IfErr result (λ _. self.new.fault ≢ Fault.OutOfMemory → begin_keyless_mapping mark (held self.old) ≡ Err self.new.fault) }
-        ensures moves { Moves self.old self.new 2 0 }
+        ensures bounds { Moves self.old self.new 2 0 }
         ensures window { self.new.window ≡ self.old.window }
     {
         if self.in_flow() {

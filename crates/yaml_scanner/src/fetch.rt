@@ -1,8 +1,8 @@
 //! The next token, by its first characters.
 ghost use Rattle.std.specs.Prelude.{◌≡◌, ◌≢◌, ◌≤◌, ◌<◌, ◌==◌, ◌&&◌, ℕ, List, OnOk, IfErr, Ok, Err, true, false, slice_index};
-ghost use Rattle.yaml_chars.specs.Reading.{HasChar, Reads, Sees};
+ghost use Rattle.yaml_chars.specs.WindowView.{HasChar, Reads, Sees};
 ghost use Rattle.model_scanner.specs.State.{after};
-ghost use Rattle.model_lexers.specs.Machine.{past};
+ghost use Rattle.model_scanner.specs.Machine.{past};
 ghost use Rattle.yaml_tokens.specs.Shown.{tok_of};
 ghost use Rattle.model_scanner.specs.Space.{skip_spaces};
 ghost use Rattle.model_scanner.specs.Document.{begin_stream, fetch_stream_end, fetch_document_marker, fetch_document_end, begin_line, context, may_follow_quoted, check_after_quoted, fetch_directive, fetch_anchor, fetch_tag, fetch_block_scalar, fetch_flow_scalar, fetch_plain_scalar};
@@ -73,7 +73,7 @@ impl<T: Characters> Fetcher<T> {
         if let Err(fault) = self.skip_to_next_token() {
             return Err(fault);
         }
-        let free = self.is_free();
+        let no_open_key = self.has_no_open_key();
         if let Err(fault) = self.drop_stale() {
             return Err(fault);
         }
@@ -81,7 +81,7 @@ impl<T: Characters> Fetcher<T> {
         if let Err(fault) = self.unroll_indent(limit) {
             return Err(fault);
         }
-        match self.fetch_node(free) {
+        match self.fetch_node(no_open_key) {
             Ok(true) => return Ok(()),
             Ok(false) => {}
             Err(fault) => return Err(fault),
@@ -160,7 +160,7 @@ impl<T: Characters> Fetcher<T> {
         ensures does { OnOk result (Does fetch_content self.old self.new) }
         ensures fails { IfErr result (λ _. Fails fetch_content self.old self.new self.new.fault) }
         ensures run { Fetches self.old self.new }
-        ensures moves { OnOk result (Moves self.old self.new 7 8) }
+        ensures bounds { OnOk result (Moves self.old self.new 7 8) }
     {
         if self.window.mark().col() == 0 {
             return self.fetch_first_column();
@@ -174,7 +174,7 @@ impl<T: Characters> Fetcher<T> {
         ensures does { OnOk result (Does fetch_first_column self.old self.new) }
         ensures fails { IfErr result (λ _. Fails fetch_first_column self.old self.new self.new.fault) }
         ensures run { Fetches self.old self.new }
-        ensures moves { OnOk result (Moves self.old self.new 7 8) }
+        ensures bounds { OnOk result (Moves self.old self.new 7 8) }
     {
         if self.window.ch() == '%' {
             return self.fetch_directive();
@@ -209,7 +209,7 @@ impl<T: Characters> Fetcher<T> {
         ensures does { OnOk result (Does fetch_indented self.old self.new) }
         ensures fails { IfErr result (λ _. Fails fetch_indented self.old self.new self.new.fault) }
         ensures run { Fetches self.old self.new }
-        ensures moves { OnOk result (Moves self.old self.new 7 8) }
+        ensures bounds { OnOk result (Moves self.old self.new 7 8) }
     {
         let mark = self.window.mark();
         if mark.col() + 1 < self.levels.indent() {
@@ -225,7 +225,7 @@ impl<T: Characters> Fetcher<T> {
         ensures does { OnOk result (Does fetch_token self.old self.new) }
         ensures fails { IfErr result (λ _. Fails fetch_token self.old self.new self.new.fault) }
         ensures run { Fetches self.old self.new }
-        ensures moves { OnOk result (Moves self.old self.new 7 8) }
+        ensures bounds { OnOk result (Moves self.old self.new 7 8) }
     {
         match class_of(self.window.ch()) {
             Class::OpenBracket => self.fetch_flow_collection_start(Collection::Sequence),
@@ -250,7 +250,7 @@ impl<T: Characters> Fetcher<T> {
         ensures does { OnOk result (Does (token_by Class.Dash) self.old self.new) }
         ensures fails { IfErr result (λ _. Fails (token_by Class.Dash) self.old self.new self.new.fault) }
         ensures run { Fetches self.old self.new }
-        ensures moves { OnOk result (Moves self.old self.new 7 8) }
+        ensures bounds { OnOk result (Moves self.old self.new 7 8) }
     {
         if is_blank_or_breakz(self.window.peek(1)) {
             return self.fetch_block_entry();
@@ -265,7 +265,7 @@ impl<T: Characters> Fetcher<T> {
         ensures does { OnOk result (Does (token_by Class.Question) self.old self.new) }
         ensures fails { IfErr result (λ _. Fails (token_by Class.Question) self.old self.new self.new.fault) }
         ensures run { Fetches self.old self.new }
-        ensures moves { OnOk result (Moves self.old self.new 7 8) }
+        ensures bounds { OnOk result (Moves self.old self.new 7 8) }
     {
         if is_blank_or_breakz(self.window.peek(1)) {
             return self.fetch_key();
@@ -280,7 +280,7 @@ impl<T: Characters> Fetcher<T> {
         ensures does { OnOk result (Does (token_by Class.Colon) self.old self.new) }
         ensures fails { IfErr result (λ _. Fails (token_by Class.Colon) self.old self.new self.new.fault) }
         ensures run { Fetches self.old self.new }
-        ensures moves { OnOk result (Moves self.old self.new 7 8) }
+        ensures bounds { OnOk result (Moves self.old self.new 7 8) }
     {
         if self.is_value(self.window.peek(1)) {
             return self.fetch_value();
@@ -305,7 +305,7 @@ impl<T: Characters> Fetcher<T> {
         ensures does { OnOk result (Does (scalar_by class) self.old self.new) }
         ensures fails { IfErr result (λ _. Fails (scalar_by class) self.old self.new self.new.fault) }
         ensures run { Fetches self.old self.new }
-        ensures moves { OnOk result (Moves self.old self.new 7 8) }
+        ensures bounds { OnOk result (Moves self.old self.new 7 8) }
     {
         match class {
             Class::Bar => self.fetch_bar(BlockStyle::Literal),
@@ -326,7 +326,7 @@ impl<T: Characters> Fetcher<T> {
         ensures does { OnOk result (Does (fetch_bar (is_literal_style style)) self.old self.new) }
         ensures fails { IfErr result (λ _. Fails (fetch_bar (is_literal_style style)) self.old self.new self.new.fault) }
         ensures run { Fetches self.old self.new }
-        ensures moves { OnOk result (Moves self.old self.new 7 8) }
+        ensures bounds { OnOk result (Moves self.old self.new 7 8) }
     {
         if self.in_flow() {
             return self.fetch_plain_scalar();
@@ -338,7 +338,7 @@ impl<T: Characters> Fetcher<T> {
     fn begin_line(&mut self) -> Result<(), Failed>
         ensures held { OnOk result (begin_line (held self.old) ≡ Ok (held self.new)) }
         ensures fault { IfErr result (λ _. self.new.fault ≢ Fault.OutOfMemory → begin_line (held self.old) ≡ Err self.new.fault) }
-        ensures moves { Moves self.old self.new 0 0 }
+        ensures bounds { Moves self.old self.new 0 0 }
         ensures window { self.new.window ≡ self.old.window }
     {
         self.unroll_indent(0)?;
@@ -354,7 +354,7 @@ impl<T: Characters> Fetcher<T> {
         ensures does { OnOk result (Does fetch_directive self.old self.new) }
         ensures fails { IfErr result (λ _. Fails fetch_directive self.old self.new self.new.fault) }
         ensures run { Fetches self.old self.new }
-        ensures moves { OnOk result (Moves self.old self.new 1 8) }
+        ensures bounds { OnOk result (Moves self.old self.new 1 8) }
     {
         let mark = self.window.mark();
         self.begin_line()?;
@@ -373,7 +373,7 @@ impl<T: Characters> Fetcher<T> {
         requires has { HasChars 3 self.old.window }
         ensures held { held self.new ≡ record (held self.old) { position = past (past (past (held self.old).position)); leading = false } }
         ensures reads { Reads self.old.window self.new.window (λ a b. after (after (after a)) ≡ b) }
-        ensures moves { Moves self.old self.new 0 8 }
+        ensures bounds { Moves self.old self.new 0 8 }
     {
         self.window.skip();
         self.window.skip();
@@ -389,7 +389,7 @@ impl<T: Characters> Fetcher<T> {
         ensures does { OnOk result (Does (fetch_document_marker (tok_of marker)) self.old self.new) }
         ensures fails { IfErr result (λ _. Fails (fetch_document_marker (tok_of marker)) self.old self.new self.new.fault) }
         ensures run { Fetches self.old self.new }
-        ensures moves { OnOk result (Moves self.old self.new 1 8) }
+        ensures bounds { OnOk result (Moves self.old self.new 1 8) }
     {
         let mark = self.window.mark();
         self.begin_line()?;
@@ -405,7 +405,7 @@ impl<T: Characters> Fetcher<T> {
         ensures does { OnOk result (Does fetch_document_end self.old self.new) }
         ensures fails { IfErr result (λ _. Fails fetch_document_end self.old self.new self.new.fault) }
         ensures run { Fetches self.old self.new }
-        ensures moves { OnOk result (Moves self.old self.new 1 8) }
+        ensures bounds { OnOk result (Moves self.old self.new 1 8) }
     {
         self.fetch_document_marker(TokenType::DocumentEnd)?;
         self.pass_spaces(SkipTabs::Yes)?;
@@ -423,7 +423,7 @@ impl<T: Characters> Fetcher<T> {
         ensures does { OnOk result (Does (fetch_anchor (is_alias kind)) self.old self.new) }
         ensures fails { IfErr result (λ _. Fails (fetch_anchor (is_alias kind)) self.old self.new self.new.fault) }
         ensures run { Fetches self.old self.new }
-        ensures moves { OnOk result (Moves self.old self.new 1 8) }
+        ensures bounds { OnOk result (Moves self.old self.new 1 8) }
     {
         let mark = self.window.mark();
         self.save_implicit_key();
@@ -444,7 +444,7 @@ impl<T: Characters> Fetcher<T> {
         ensures does { OnOk result (Does fetch_tag self.old self.new) }
         ensures fails { IfErr result (λ _. Fails fetch_tag self.old self.new self.new.fault) }
         ensures run { Fetches self.old self.new }
-        ensures moves { OnOk result (Moves self.old self.new 1 8) }
+        ensures bounds { OnOk result (Moves self.old self.new 1 8) }
     {
         let mark = self.window.mark();
         let in_flow = self.in_flow();
@@ -475,7 +475,7 @@ impl<T: Characters> Fetcher<T> {
         ensures does { OnOk result (Does (fetch_block_scalar (is_literal_style style)) self.old self.new) }
         ensures fails { IfErr result (λ _. Fails (fetch_block_scalar (is_literal_style style)) self.old self.new self.new.fault) }
         ensures run { Fetches self.old self.new }
-        ensures moves { OnOk result (Moves self.old self.new 1 8) }
+        ensures bounds { OnOk result (Moves self.old self.new 1 8) }
     {
         self.save_implicit_key();
         self.key_allowed = true;
@@ -499,7 +499,7 @@ impl<T: Characters> Fetcher<T> {
         ensures does { OnOk result (Does (fetch_flow_scalar (are_single quotes)) self.old self.new) }
         ensures fails { IfErr result (λ _. Fails (fetch_flow_scalar (are_single quotes)) self.old self.new self.new.fault) }
         ensures run { Fetches self.old self.new }
-        ensures moves { OnOk result (Moves self.old self.new 1 8) }
+        ensures bounds { OnOk result (Moves self.old self.new 1 8) }
     {
         let mark = self.window.mark();
         self.save_implicit_key();
@@ -521,7 +521,7 @@ impl<T: Characters> Fetcher<T> {
     fn end_quoted(&mut self, line: usize) -> Result<(), Failed>
         ensures does { OnOk result (Does (end_quoted line) self.old self.new) }
         ensures fails { IfErr result (λ _. Fails (end_quoted line) self.old self.new self.new.fault) }
-        ensures moves { Moves self.old self.new 0 0 }
+        ensures bounds { Moves self.old self.new 0 0 }
     {
         self.check_after_quoted(line)?;
         self.skip_to_next_token()?;
@@ -534,7 +534,7 @@ impl<T: Characters> Fetcher<T> {
     fn check_after_quoted(&mut self, line: usize) -> Result<(), Failed>
         ensures does { OnOk result (Does (check_after_quoted line) self.old self.new) }
         ensures fails { IfErr result (λ _. Fails (check_after_quoted line) self.old self.new self.new.fault) }
-        ensures moves { Moves self.old self.new 0 0 }
+        ensures bounds { Moves self.old self.new 0 0 }
     {
         self.pass_spaces(SkipTabs::Yes)?;
         let mark = self.window.mark();
@@ -552,7 +552,7 @@ impl<T: Characters> Fetcher<T> {
         ensures does { OnOk result (Does fetch_plain_scalar self.old self.new) }
         ensures fails { IfErr result (λ _. Fails fetch_plain_scalar self.old self.new self.new.fault) }
         ensures run { Fetches self.old self.new }
-        ensures moves { OnOk result (Moves self.old self.new 1 8) }
+        ensures bounds { OnOk result (Moves self.old self.new 1 8) }
     {
         let mark = self.window.mark();
         self.save_implicit_key();

@@ -62,7 +62,7 @@ impl<T: Characters> Fetcher<T> {
     ghost use Rattle.yaml_scanner_state.specs.Tokens.{handed};
     ghost use Rattle.yaml_scanner.specs.Follows.{Follows};
     ghost use Rattle.yaml_scanner.specs.Work.{Moves};
-    ghost use Rattle.yaml_chars.specs.Reading.{position_of};
+    ghost use Rattle.yaml_chars.specs.WindowView.{position_of};
     ghost use Rattle.yaml_tokens.specs.declared.problem.Fault.TheVariants.{At};
 
     /// A fetcher of the characters of an iterator, up to its end or to a NUL.
@@ -102,7 +102,7 @@ impl<T: Characters> Fetcher<T> {
         ensures fault { self.new.fault ≡ fault }
         ensures held { held self.new ≡ held self.old }
         ensures tokens { self.new.tokens ≡ self.old.tokens }
-        ensures moves { Moves self.old self.new 0 0 }
+        ensures bounds { Moves self.old self.new 0 0 }
         ensures window { self.new.window ≡ self.old.window }
     {
         self.fault = fault;
@@ -115,7 +115,7 @@ impl<T: Characters> Fetcher<T> {
         ensures fault { self.new.fault ≡ At problem (position_of self.old.window) }
         ensures held { held self.new ≡ held self.old }
         ensures tokens { self.new.tokens ≡ self.old.tokens }
-        ensures moves { Moves self.old self.new 0 0 }
+        ensures bounds { Moves self.old self.new 0 0 }
         ensures window { self.new.window ≡ self.old.window }
     {
         let mark = self.window.mark();

@@ -1,6 +1,6 @@
 //! Flow collections (YAML 1.2, section 7.4).
 ghost use Rattle.std.specs.Prelude.{◌≡◌, ◌<◌, ◌∷◌, [], OnOk, IfErr, Ok, Err, true, false, ◌≢◌, slice_index};
-ghost use Rattle.yaml_chars.specs.Reading.{HasChar, Reads, position_of, after_char};
+ghost use Rattle.yaml_chars.specs.WindowView.{HasChar, Reads, position_of, after_char};
 ghost use Rattle.defs_token.specs.Token.{Tok};
 ghost use Rattle.yaml_tokens.specs.Shown.{tok_of};
 ghost use Rattle.model_scanner.specs.State.{push, with_top, top};
@@ -27,7 +27,7 @@ impl<T: Characters> Fetcher<T> {
         requires has { HasChar self.old.window }
         ensures state { self.new ≡ record self.old { window = after_char self.old.window; leading = false } }
         ensures reads { Reads self.old.window self.new.window (λ a b. a ≡ slice_index a 0 ∷ b) }
-        ensures moves { Moves self.old self.new 0 8 }
+        ensures bounds { Moves self.old self.new 0 8 }
     {
         self.window.skip();
         self.leading = false;
@@ -41,7 +41,7 @@ impl<T: Characters> Fetcher<T> {
         ensures does { OnOk result (Does pass_indicator self.old self.new) }
         ensures fails { IfErr result (λ _. Fails pass_indicator self.old self.new self.new.fault) }
         ensures run { Fetches self.old self.new }
-        ensures moves { OnOk result (Moves self.old self.new 0 8) }
+        ensures bounds { OnOk result (Moves self.old self.new 0 8) }
     {
         self.skip_indicator();
         self.pass_spaces(SkipTabs::Yes)?;
@@ -53,7 +53,7 @@ impl<T: Characters> Fetcher<T> {
     pub(crate) fn push_token(&mut self, mark: Marker, kind: TokenType) -> Result<(), Failed>
         ensures held { OnOk result (held self.new ≡ push mark (tok_of kind) (held self.old)) }
         ensures err { IfErr result (λ _. self.new.fault ≡ Fault.OutOfMemory) }
-        ensures moves { Moves self.old self.new 1 0 }
+        ensures bounds { Moves self.old self.new 1 0 }
         ensures window { self.new.window ≡ self.old.window }
     {
         if let Err(_) = self.tokens.push(Token(mark, kind)) {
@@ -70,7 +70,7 @@ impl<T: Characters> Fetcher<T> {
         ensures does { OnOk result (Does (fetch_flow_collection_start (level_of kind) (flow_start kind)) self.old self.new) }
         ensures fails { IfErr result (λ _. Fails (fetch_flow_collection_start (level_of kind) (flow_start kind)) self.old self.new self.new.fault) }
         ensures run { Fetches self.old self.new }
-        ensures moves { OnOk result (Moves self.old self.new 2 8) }
+        ensures bounds { OnOk result (Moves self.old self.new 2 8) }
     {
         let mark = self.window.mark();
         self.begin_flow(kind)?;
@@ -83,7 +83,7 @@ impl<T: Characters> Fetcher<T> {
     fn begin_flow(&mut self, kind: Collection) -> Result<(), Failed>
         ensures held { OnOk result (begin_flow (level_of kind) (held self.old) ≡ Ok (held self.new)) }
         ensures fault { IfErr result (λ _. self.new.fault ≢ Fault.OutOfMemory → begin_flow (level_of kind) (held self.old) ≡ Err self.new.fault) }
-        ensures moves { Moves self.old self.new 1 0 }
+        ensures bounds { Moves self.old self.new 1 0 }
         ensures window { self.new.window ≡ self.old.window }
     {
         self.save_implicit_key();
@@ -96,7 +96,7 @@ impl<T: Characters> Fetcher<T> {
     fn increase_flow_level(&mut self, kind: Collection) -> Result<(), Failed>
         ensures held { OnOk result (increase_flow_level (level_of kind) (held self.old) ≡ Ok (held self.new)) }
         ensures fault { IfErr result (λ _. self.new.fault ≢ Fault.OutOfMemory → increase_flow_level (level_of kind) (held self.old) ≡ Err self.new.fault) }
-        ensures moves { Moves self.old self.new 0 0 }
+        ensures bounds { Moves self.old self.new 0 0 }
         ensures window { self.new.window ≡ self.old.window }
     {
         if self.flow.len() >= DEEPEST_FLOW {
@@ -119,7 +119,7 @@ impl<T: Characters> Fetcher<T> {
         ensures does { OnOk result (Does (fetch_flow_collection_end (flow_end kind)) self.old self.new) }
         ensures fails { IfErr result (λ _. Fails (fetch_flow_collection_end (flow_end kind)) self.old self.new self.new.fault) }
         ensures run { Fetches self.old self.new }
-        ensures moves { OnOk result (Moves self.old self.new 2 8) }
+        ensures bounds { OnOk result (Moves self.old self.new 2 8) }
     {
         let mark = self.window.mark();
         self.end_flow()?;
@@ -133,7 +133,7 @@ impl<T: Characters> Fetcher<T> {
     fn end_flow(&mut self) -> Result<(), Failed>
         ensures held { OnOk result (end_flow (held self.old) ≡ Ok (held self.new)) }
         ensures fault { IfErr result (λ _. self.new.fault ≢ Fault.OutOfMemory → end_flow (held self.old) ≡ Err self.new.fault) }
-        ensures moves { Moves self.old self.new 1 0 }
+        ensures bounds { Moves self.old self.new 1 0 }
         ensures window { self.new.window ≡ self.old.window }
     {
         self.remove_implicit_key()?;
@@ -145,7 +145,7 @@ impl<T: Characters> Fetcher<T> {
 
     fn decrease_flow_level(&mut self)
         ensures held { held self.new ≡ decrease_flow_level (held self.old) }
-        ensures moves { Moves self.old self.new 0 0 }
+        ensures bounds { Moves self.old self.new 0 0 }
         ensures window { self.new.window ≡ self.old.window }
     {
         let Some(_) = self.flow.pop() else {
@@ -157,7 +157,7 @@ impl<T: Characters> Fetcher<T> {
     /// A `:` may stand right after a flow collection that is a key.
     fn adjacent_in_flow(&mut self)
         ensures held { held self.new ≡ adjacent_in_flow (held self.old) }
-        ensures moves { Moves self.old self.new 0 0 }
+        ensures bounds { Moves self.old self.new 0 0 }
         ensures window { self.new.window ≡ self.old.window }
     {
         if self.in_flow() {
@@ -173,7 +173,7 @@ impl<T: Characters> Fetcher<T> {
         ensures does { OnOk result (Does fetch_flow_entry self.old self.new) }
         ensures fails { IfErr result (λ _. Fails fetch_flow_entry self.old self.new self.new.fault) }
         ensures run { Fetches self.old self.new }
-        ensures moves { OnOk result (Moves self.old self.new 2 8) }
+        ensures bounds { OnOk result (Moves self.old self.new 2 8) }
     {
         let mark = self.window.mark();
         self.end_entry()?;
@@ -186,7 +186,7 @@ impl<T: Characters> Fetcher<T> {
     fn end_entry(&mut self) -> Result<(), Failed>
         ensures held { OnOk result (end_entry (held self.old) ≡ Ok (held self.new)) }
         ensures fault { IfErr result (λ _. self.new.fault ≢ Fault.OutOfMemory → end_entry (held self.old) ≡ Err self.new.fault) }
-        ensures moves { Moves self.old self.new 1 0 }
+        ensures bounds { Moves self.old self.new 1 0 }
         ensures window { self.new.window ≡ self.old.window }
     {
         self.remove_implicit_key()?;
@@ -200,7 +200,7 @@ impl<T: Characters> Fetcher<T> {
     fn end_flow_pair(&mut self) -> Result<(), Failed>
         ensures held { OnOk result (held self.new ≡ end_flow_pair (held self.old)) }
         ensures err { IfErr result (λ _. self.new.fault ≡ Fault.OutOfMemory) }
-        ensures moves { Moves self.old self.new 1 0 }
+        ensures bounds { Moves self.old self.new 1 0 }
         ensures window { self.new.window ≡ self.old.window }
     {
         match self.flow_entry() {
@@ -230,7 +230,7 @@ impl<T: Characters> Fetcher<T> {
 
     pub(crate) fn set_flow_entry(&mut self, entry: FlowLevel)
         ensures held { held self.new ≡ record (held self.old) { flow = with_top entry self.old.flow } }
-        ensures moves { Moves self.old self.new 0 0 }
+        ensures bounds { Moves self.old self.new 0 0 }
         ensures window { self.new.window ≡ self.old.window }
     {
         self.flow.set_top(entry);

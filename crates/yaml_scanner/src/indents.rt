@@ -35,7 +35,7 @@ impl<T: Characters> Fetcher<T> {
     #[inline(always)]
     pub(crate) fn save_implicit_key(&mut self)
         ensures held { held self.new ≡ save_implicit_key (held self.old) }
-        ensures moves { Moves self.old self.new 0 0 }
+        ensures bounds { Moves self.old self.new 0 0 }
         ensures window { self.new.window ≡ self.old.window }
     {
         if self.key_allowed {
@@ -53,7 +53,7 @@ impl<T: Characters> Fetcher<T> {
     pub(crate) fn remove_implicit_key(&mut self) -> Result<(), Failed>
         ensures held { OnOk result (remove_implicit_key (held self.old) ≡ Ok (held self.new)) }
         ensures fault { IfErr result (λ _. remove_implicit_key (held self.old) ≡ Err self.new.fault) }
-        ensures moves { Moves self.old self.new 0 0 }
+        ensures bounds { Moves self.old self.new 0 0 }
         ensures window { self.new.window ≡ self.old.window }
     {
         if self.keys.top_is_required() {
@@ -70,7 +70,7 @@ impl<T: Characters> Fetcher<T> {
         ensures held { OnOk result (stale (held self.old) ≡ Ok (held self.new)) }
         ensures fault { IfErr result (λ _. stale (held self.old) ≡ Err self.new.fault) }
         ensures tokens { self.new.tokens ≡ self.old.tokens }
-        ensures moves { Moves self.old self.new 0 0 }
+        ensures bounds { Moves self.old self.new 0 0 }
         ensures window { self.new.window ≡ self.old.window }
     {
         if self.in_flow() {
@@ -96,7 +96,7 @@ impl<T: Characters> Fetcher<T> {
         requires { col < 2 ^ 63 }
         ensures held { OnOk result (held self.new ≡ roll_indent col (number_of self.old.tokens.given position) (block_start kind) mark (held self.old)) }
         ensures err { IfErr result (λ _. self.new.fault ≡ Fault.OutOfMemory) }
-        ensures moves { Moves self.old self.new 2 0 }
+        ensures bounds { Moves self.old self.new 2 0 }
         ensures window { self.new.window ≡ self.old.window }
     {
         if self.in_flow() {
@@ -119,7 +119,7 @@ impl<T: Characters> Fetcher<T> {
         requires { col < 2 ^ 63 }
         ensures held { OnOk result (held self.new ≡ deepen col (number_of self.old.tokens.given position) (token mark (block_start kind)) (held self.old)) }
         ensures err { IfErr result (λ _. self.new.fault ≡ Fault.OutOfMemory) }
-        ensures moves { Moves self.old self.new 2 0 }
+        ensures bounds { Moves self.old self.new 2 0 }
         ensures window { self.new.window ≡ self.old.window }
     {
         if !self.is_left_of(col) {
@@ -149,7 +149,7 @@ impl<T: Characters> Fetcher<T> {
     ) -> Result<(), Failed>
         ensures err { IfErr result (λ _. self.new.fault ≡ Fault.OutOfMemory) }
         ensures held { OnOk result (held self.new ≡ record (held self.old) { tokens = placed (number_of self.old.tokens.given position) (token mark (block_start kind)) (held self.old).tokens }) }
-        ensures moves { Moves self.old self.new 1 0 }
+        ensures bounds { Moves self.old self.new 1 0 }
         ensures window { self.new.window ≡ self.old.window }
     {
         match position {
@@ -164,7 +164,7 @@ impl<T: Characters> Fetcher<T> {
         requires { col < 2 ^ 63 }
         ensures held { held self.new ≡ drop_open_level col (held self.old) }
         ensures tokens { self.new.tokens ≡ self.old.tokens }
-        ensures moves { Moves self.old self.new 0 0 }
+        ensures bounds { Moves self.old self.new 0 0 }
         ensures window { self.new.window ≡ self.old.window }
     {
         if self.levels.is_open() {
@@ -188,7 +188,7 @@ impl<T: Characters> Fetcher<T> {
     pub(crate) fn roll_one_col_indent(&mut self) -> Result<(), Failed>
         ensures err { IfErr result (λ _. self.new.fault ≡ Fault.OutOfMemory) }
         ensures held { OnOk result (held self.new ≡ roll_one_col_indent (held self.old)) }
-        ensures moves { Moves self.old self.new 1 0 }
+        ensures bounds { Moves self.old self.new 1 0 }
         ensures window { self.new.window ≡ self.old.window }
     {
         if !self.in_block() {
@@ -205,7 +205,7 @@ impl<T: Characters> Fetcher<T> {
     pub(crate) fn unroll_indent(&mut self, limit: usize) -> Result<(), Failed>
         ensures err { IfErr result (λ _. self.new.fault ≡ Fault.OutOfMemory) }
         ensures held { OnOk result (held self.new ≡ unroll_indent limit (held self.old)) }
-        ensures moves { Moves self.old self.new 0 0 }
+        ensures bounds { Moves self.old self.new 0 0 }
         ensures window { self.new.window ≡ self.old.window }
     {
         if self.levels.indent() <= limit {
@@ -219,7 +219,7 @@ impl<T: Characters> Fetcher<T> {
     fn end_levels(&mut self, limit: usize) -> Result<(), Failed>
         ensures err { IfErr result (λ _. self.new.fault ≡ Fault.OutOfMemory) }
         ensures held { OnOk result (held self.new ≡ unroll_indent limit (held self.old)) }
-        ensures moves { Moves self.old self.new 0 0 }
+        ensures bounds { Moves self.old self.new 0 0 }
         ensures window { self.new.window ≡ self.old.window }
     {
         if self.in_flow() {
@@ -243,7 +243,7 @@ impl<T: Characters> Fetcher<T> {
     pub(crate) fn unroll_non_block_indents(&mut self)
         ensures held { held self.new ≡ unroll_non_block_indents (held self.old) }
         ensures block { ends_open self.new.levels.indents ≡ false }
-        ensures moves { Moves self.old self.new 0 0 }
+        ensures bounds { Moves self.old self.new 0 0 }
         ensures window { self.new.window ≡ self.old.window }
     {
         'levels: while self.levels.is_open() {

@@ -4,15 +4,15 @@
 mod block;
 mod fetch;
 mod fetcher;
+mod fill;
 mod flow;
-mod hand;
 mod indents;
-mod nodes;
-mod pairs;
+mod key_value;
 mod public;
 mod scanner;
 mod space;
+mod whole_line;
 
 pub use fetcher::Backlog;
-pub use pairs::PlainNode;
+pub use key_value::PlainNode;
 pub use scanner::Scanner;

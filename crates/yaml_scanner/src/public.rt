@@ -2,7 +2,7 @@
 ghost use Rattle.std.specs.Prelude.{◌≡◌, ◌≤◌, ◌<◌, ◌^◌, [], OnOk, OnErr, IfOk, IfErr, IfSome, IfNone, IsNone, IsOk, Ok, Err, Some, None, true, false};
 ghost use Rattle.std.specs.Iterator.{at_most, IsFinite, size};
 ghost use Rattle.yaml_chars.specs.Source.{CameFrom};
-ghost use Rattle.yaml_chars.specs.Reading.{HasNoNul};
+ghost use Rattle.yaml_chars.specs.WindowView.{HasNoNul};
 ghost use Rattle.yaml_tokens.specs.Shown.{shown};
 ghost use Rattle.yaml_scanner.specs.Scanned.{scanned, HandsOut, HandsBoth, HandsNothing, LeavesNoRow, Refuses, Scans};
 ghost use Rattle.yaml_scanner.specs.Next.{GivesNext};
@@ -10,7 +10,7 @@ ghost use Rattle.defs_text.specs.Text.{string_chars};
 ghost use Rattle.defs_token.specs.Token.{Style, Tok};
 
 use crate::fetcher::{Backlog, Fetcher};
-use crate::pairs::PlainNode;
+use crate::key_value::PlainNode;
 use crate::scanner::Scanner;
 use std::alloc::Global;
 use yaml_chars::{Characters, Marker};
@@ -195,7 +195,7 @@ impl<T: Characters> Scanner<T> {
         let filled = self.fetcher.fill();
         self.fetcher.window.note();
         match filled {
-            Ok(()) => Ok(Some(self.fetcher.hand())),
+            Ok(()) => Ok(Some(self.fetcher.pop_token())),
             Err(_) => Err(self.fetcher.keep(false)),
         }
     }

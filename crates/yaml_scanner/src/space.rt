@@ -1,8 +1,8 @@
 //! What stands between two tokens: blanks, line breaks and comments (YAML 1.2, chapter 6).
 ghost use Rattle.std.specs.Prelude.{◌≡◌, ◌≢◌, ◌<◌, ◌≤◌, ℕ, OnOk, IfOk, IfErr, Ok, Err, true, false, Bool, slice_index, ◌==◌, ◌&&◌, ◌||◌, not};
 ghost use Rattle.yaml_chars.specs.Class.{is_break, is_blank};
-ghost use Rattle.yaml_chars.specs.Reading.{HasChar, Reads, position_of};
-ghost use Rattle.model_lexers.specs.Space.{space};
+ghost use Rattle.yaml_chars.specs.WindowView.{HasChar, Reads, position_of};
+ghost use Rattle.model_scanner.specs.Blanks.{space};
 ghost use Rattle.model_scanner.specs.State.{in_flow};
 ghost use Rattle.model_scanner.specs.Space.{skip, between, tab_line, white, is_before_indent, skip_spaces, skip_to_next_token, skip_yaml_whitespace};
 ghost use Rattle.yaml_lexers.specs.Shown.{read};
@@ -22,7 +22,7 @@ impl<T: Characters> Fetcher<T> {
         requires { HasChar self.old.window }
         ensures gap { Reads self.old.window self.new.window (λ a b. is_break (slice_index a 0) ≡ true → skip between a (held self.old) ≡ skip between b (held self.new)) }
         ensures white { Reads self.old.window self.new.window (λ a b. is_break (slice_index a 0) ≡ true → (f : Bool) → white false f a (held self.old) ≡ white false true b (held self.new)) }
-        ensures moves { Moves self.old self.new 0 8 }
+        ensures bounds { Moves self.old self.new 0 8 }
         ensures less { self.new.window.left < self.old.window.left }
     {
         let key_allowed = self.allows_key();
@@ -38,7 +38,7 @@ impl<T: Characters> Fetcher<T> {
         requires ahead { 0 < self.old.window.ahead }
         requires has { HasChar self.old.window }
         ensures gap { Reads self.old.window self.new.window (λ a b. slice_index a 0 ≡ 32 → skip between a (held self.old) ≡ skip between b (held self.new)) }
-        ensures moves { Moves self.old self.new 0 0 }
+        ensures bounds { Moves self.old self.new 0 0 }
         ensures less { self.new.window.left < self.old.window.left }
     {
         self.window.skip();
@@ -50,7 +50,7 @@ impl<T: Characters> Fetcher<T> {
     #[tactic(auto, using(crate::proofs::SpaceLemmas::gap_space))]
     fn pass_more_spaces(&mut self)
         ensures gap { Reads self.old.window self.new.window (λ a b. skip between a (held self.old) ≡ skip between b (held self.new)) }
-        ensures moves { Moves self.old self.new 0 0 }
+        ensures bounds { Moves self.old self.new 0 0 }
         ensures less { self.new.window.left ≤ self.old.window.left }
     {
         'spaces: while self.window.take_space() {}
@@ -70,7 +70,7 @@ impl<T: Characters> Fetcher<T> {
     pub(crate) fn skip_to_next_token(&mut self) -> Result<(), Failed>
         ensures does { OnOk result (Does skip_to_next_token self.old self.new) }
         ensures fails { IfErr result (λ _. Fails skip_to_next_token self.old self.new self.new.fault) }
-        ensures moves { Moves self.old self.new 0 0 }
+        ensures bounds { Moves self.old self.new 0 0 }
         ensures ahead { OnOk result (0 < self.new.window.ahead) }
     {
         let c = self.window.look_ch();
@@ -86,7 +86,7 @@ impl<T: Characters> Fetcher<T> {
     fn skip_gap(&mut self) -> Result<(), Failed>
         ensures does { OnOk result (Does skip_to_next_token self.old self.new) }
         ensures fails { IfErr result (λ _. Fails skip_to_next_token self.old self.new self.new.fault) }
-        ensures moves { Moves self.old self.new 0 0 }
+        ensures bounds { Moves self.old self.new 0 0 }
         ensures ahead { OnOk result (0 < self.new.window.ahead) }
     {
         'space: loop {
@@ -132,7 +132,7 @@ impl<T: Characters> Fetcher<T> {
         requires ahead { 0 < self.old.window.ahead }
         requires has { HasChar self.old.window }
         ensures gap { Reads self.old.window self.new.window (λ a b. slice_index a 0 ≡ 35 → skip between a (held self.old) ≡ skip between b (held self.new)) }
-        ensures moves { Moves self.old self.new 0 8 }
+        ensures bounds { Moves self.old self.new 0 8 }
         ensures less { self.new.window.left < self.old.window.left }
     {
         self.window.skip();
@@ -147,7 +147,7 @@ impl<T: Characters> Fetcher<T> {
         requires has { HasChar self.old.window }
         ensures gap { OnOk result (Reads self.old.window self.new.window (λ a b. slice_index a 0 ≡ 9 → is_before_indent (held self.old) ≡ true → skip between a (held self.old) ≡ skip between b (held self.new))) }
         ensures fault { IfErr result (λ _. Reads self.old.window self.new.window (λ a b. slice_index a 0 ≡ 9 → is_before_indent (held self.old) ≡ true → skip between a (held self.old) ≡ Err self.new.fault)) }
-        ensures moves { Moves self.old self.new 0 8 }
+        ensures bounds { Moves self.old self.new 0 8 }
         ensures less { self.new.window.left < self.old.window.left }
     {
         self.window.skip();
@@ -171,7 +171,7 @@ impl<T: Characters> Fetcher<T> {
         requires ahead { 0 < self.old.window.ahead }
         requires has { HasChar self.old.window }
         ensures gap { Reads self.old.window self.new.window (λ a b. slice_index a 0 ≡ 35 → skip tab_line a (held self.old) ≡ skip between b (held self.new)) }
-        ensures moves { Moves self.old self.new 0 8 }
+        ensures bounds { Moves self.old self.new 0 8 }
         ensures less { self.new.window.left < self.old.window.left }
     {
         self.window.skip();
@@ -184,7 +184,7 @@ impl<T: Characters> Fetcher<T> {
         ensures held { held self.new ≡ record (held self.old) { position = position_of self.new.window } }
         ensures reads { IfOk result (λ w. Reads self.old.window self.new.window (λ a b. space tabs a (position_of self.old.window) ≡ Ok (read b self.new.window w))) }
         ensures fault { IfErr result (λ _. Reads self.old.window self.new.window (λ a b. space tabs a (position_of self.old.window) ≡ Err self.new.fault)) }
-        ensures moves { Moves self.old self.new 0 0 }
+        ensures bounds { Moves self.old self.new 0 0 }
         ensures ahead { OnOk result (0 < self.new.window.ahead) }
         ensures less { self.new.window.left ≤ self.old.window.left }
     {
@@ -199,7 +199,7 @@ impl<T: Characters> Fetcher<T> {
     pub(crate) fn pass_spaces(&mut self, tabs: SkipTabs) -> Result<(), Failed>
         ensures does { OnOk result (Does (skip_spaces tabs) self.old self.new) }
         ensures fails { IfErr result (λ _. Fails (skip_spaces tabs) self.old self.new self.new.fault) }
-        ensures moves { Moves self.old self.new 0 0 }
+        ensures bounds { Moves self.old self.new 0 0 }
         ensures ahead { OnOk result (0 < self.new.window.ahead) }
     {
         self.skip_spaces(tabs)?;
@@ -211,7 +211,7 @@ impl<T: Characters> Fetcher<T> {
         requires ahead { 0 < self.old.window.ahead }
         requires has { HasChar self.old.window }
         ensures white { Reads self.old.window self.new.window (λ a b. slice_index a 0 ≡ 35 → (f : Bool) → white false f a (held self.old) ≡ white false f b (held self.new)) }
-        ensures moves { Moves self.old self.new 0 8 }
+        ensures bounds { Moves self.old self.new 0 8 }
         ensures less { self.new.window.left < self.old.window.left }
     {
         self.window.skip();
@@ -223,7 +223,7 @@ impl<T: Characters> Fetcher<T> {
     pub(crate) fn skip_yaml_whitespace(&mut self) -> Result<(), Failed>
         ensures does { OnOk result (Does skip_yaml_whitespace self.old self.new) }
         ensures fails { IfErr result (λ _. Fails skip_yaml_whitespace self.old self.new self.new.fault) }
-        ensures moves { Moves self.old self.new 0 0 }
+        ensures bounds { Moves self.old self.new 0 0 }
         ensures ahead { OnOk result (0 < self.new.window.ahead) }
     {
         let mut found = false;

@@ -13,10 +13,10 @@ ends_open [] = false
 ends_open (d ∷ ds) = not d.needs_block_end
 
 -- where the innermost level opens no collection and the one outside it is a block collection: the column of that one
-abbrev pub lone_open : List Indent → Option ℕ
-lone_open [] = None
-lone_open (d ∷ []) = None
-lone_open (d ∷ e ∷ ds) = (if d.needs_block_end || not e.needs_block_end then None else Some d.indent)
+abbrev pub value_level : List Indent → Option ℕ
+value_level [] = None
+value_level (d ∷ []) = None
+value_level (d ∷ e ∷ ds) = (if d.needs_block_end || not e.needs_block_end then None else Some d.indent)
 
 -- the greatest column that a level may have
 abbrev pub deepest : List Indent → ℕ

@@ -1,7 +1,7 @@
 ghost use Rattle.std.specs.Prelude.{◌≡◌, ◌<◌, ◌≤◌, ◌^◌, ◌+◌, ◌∷◌, [], OnOk, OnErr, MatchOption, true, false};
 ghost use Rattle.model_scanner.specs.Keys.{top_needs_block_end};
 ghost use Rattle.model_scanner.specs.Indents.{level};
-ghost use Rattle.yaml_scanner_state.specs.Levels.{ends_open, lone_open};
+ghost use Rattle.yaml_scanner_state.specs.Levels.{ends_open, value_level};
 ghost use Rattle.defs_text.specs.Text.{is_empty};
 
 use crate::stack::Stack;
@@ -75,8 +75,8 @@ impl Levels {
 
     /// Where the innermost level opens no collection and the one outside it is a block collection: the column of that one.
     #[tactic(auto)]
-    pub fn lone_open(&self) -> Option<usize>
-        ensures { result ≡ lone_open self.now.indents }
+    pub fn value_level(&self) -> Option<usize>
+        ensures { result ≡ value_level self.now.indents }
     {
         let inner = self.indents.top()?;
         let outer = self.indents.under()?;

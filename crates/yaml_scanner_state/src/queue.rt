@@ -11,13 +11,13 @@ use std::alloc::{AllocError, Global};
 use std::collections::VecDeque;
 use std::marker::Model;
 use yaml_chars::Marker;
-use yaml_chars::history::History;
+use yaml_chars::ghost_list::GhostList;
 use yaml_tokens::{TScalarStyle, Token, TokenType};
 
 /// The tokens that wait to be handed out. Clauses see all tokens so far, also those handed out.
 #[derive(Drop)]
 pub struct Queue {
-    given: History<Token>,
+    given: GhostList<Token>,
     waiting: VecDeque<Token>,
     ended: bool,
     over: bool,
@@ -43,7 +43,7 @@ impl Queue {
         ensures { result ≡ record { all = []; given = 0; ended = false; over = false } }
     {
         Queue {
-            given: History::new(),
+            given: GhostList::new(),
             waiting: VecDeque::new(alloc),
             ended: false,
             over: false,
@@ -206,7 +206,7 @@ fn stream_end(mark: Marker) -> Token
 /// A plain scalar came. The result is its text.
 #[inline(always)]
 #[tactic(auto, using(crate::proofs::QueueLemmas::one_shown, crate::proofs::QueueLemmas::give_len))]
-fn pass_scalar(given: &mut History<Token>, mark: Marker, text: String) -> String
+fn pass_scalar(given: &mut GhostList<Token>, mark: Marker, text: String) -> String
     ensures items { map shown given.new.items ≡ map shown given.old.items ++ token mark (Tok.scalar Style.plain (string_chars text)) ∷ [] }
     ensures more { length given.new.items ≡ length given.old.items + 1 }
     ensures text { string_chars result ≡ string_chars text }

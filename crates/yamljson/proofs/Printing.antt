@@ -4,7 +4,7 @@ use Rattle.std.specs.Prelude.{Result, Ok, Vec, String, chars}
 use Rattle.std.proofs.lemmas.List.{take_more}
 use Rattle.std.proofs.lemmas.List.Elements.{All-push}
 use Rattle.defs_text.specs.Text.{up_to_nul}
-use Rattle.defs_json.specs.HasJson.{HasJson}
+use Rattle.defs_layout.specs.HasJson.{HasJson}
 use Rattle.yaml_tree.specs.View.{view}
 use Rattle.yaml_tree.specs.declared.yaml.Yaml.{Yaml}
 use Rattle.yaml_limits.specs.Limited.{Answers}

@@ -3,7 +3,7 @@ use Rattle.std.specs.Prelude.{◌≡◌, ℕ, ◌+◌, ◌-◌, ◌*◌, ◌^◌
 use Rattle.std.specs.List.{All}
 use Rattle.std.specs.declared.alloc.Global.{Global}
 use Rattle.defs_text.specs.Text.{string_chars, up_to_nul}
-use Rattle.defs_json.specs.HasJson.{HasJson}
+use Rattle.defs_layout.specs.HasJson.{HasJson}
 use Rattle.yaml_encoding.specs.Decoding.{text, strict, parts}
 use Rattle.yaml_tree.specs.View.{view}
 use Rattle.yaml_tree.specs.declared.yaml.Yaml.{Yaml}

@@ -1,6 +1,6 @@
 //! The program over any files, input and writers.
 ghost use Rattle.std.specs.Prelude.{◌≡◌, length, IfOk};
-ghost use Rattle.defs_json.specs.HasJson.{HasJson};
+ghost use Rattle.defs_layout.specs.HasJson.{HasJson};
 ghost use Rattle.yaml_tree.specs.View.{view};
 ghost use Rattle.yamljson.specs.Printed.{IsText, IsLoaded, HaveJson, IsPrinted, limits_of};
 

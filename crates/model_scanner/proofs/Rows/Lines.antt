@@ -5,7 +5,7 @@ use Rattle.yaml_tokens.specs.declared.problem.Fault.{Fault}
 use Rattle.yaml_tokens.specs.declared.problem.Fault.TheVariants.{At}
 use Rattle.yaml_tokens.specs.declared.problem.Problem.{Problem}
 use Rattle.yaml_tokens.specs.declared.problem.Problem.TheVariants as problem
-use Rattle.model_lexers.specs.Block.{header}
+use Rattle.model_scanner.specs.BlockScalar.{header}
 use Rattle.model_scanner.specs.State.{token}
 use Rattle.model_scanner.specs.Run.{scan}
 use Rattle.model_scanner.proofs.OnLiterals.{scan_on_literals}

@@ -6,10 +6,10 @@ use Rattle.yaml_chars.specs.Class.{is_break, is_blank}
 use Rattle.defs_text.specs.Text.{is_empty}
 use Rattle.yaml_tokens.specs.declared.problem.Fault.{Fault}
 use Rattle.defs_layout.specs.JsonGap.{Blank, space, tab, line_feed, carriage_return, spell_gap}
-use Rattle.model_lexers.specs.declared.context.SkipTabs.TheVariants.{Yes}
-use Rattle.model_lexers.specs.declared.context.Whitespace.{Whitespace}
-use Rattle.model_lexers.specs.Machine.{past, past_break}
-use Rattle.model_lexers.specs.Space as scalar_space
+use Rattle.model_scanner.specs.declared.context.SkipTabs.TheVariants.{Yes}
+use Rattle.model_scanner.specs.declared.context.Whitespace.{Whitespace}
+use Rattle.model_scanner.specs.Machine.{past, past_break}
+use Rattle.model_scanner.specs.Blanks as scalar_space
 use Rattle.model_scanner.specs.declared.level.FlowLevel.{FlowLevel}
 use Rattle.model_scanner.specs.State.{Key, ScannerState}
 use Rattle.model_scanner.specs.Space.{between, skip, is_before_indent, skip_spaces, skip_to_next_token}

@@ -2,7 +2,7 @@
 use Rattle.std.proofs.Common.{◌≡◌, ℕ, ◌+◌, ◌≤◌, Bool, true, false, nat_lt, arith}
 use Rattle.std.proofs.lemmas.Bool.{le-ltb}
 use Rattle.defs_text.specs.Position.{Position}
-use Rattle.model_lexers.specs.Machine.{past, past_break}
+use Rattle.model_scanner.specs.Machine.{past, past_break}
 use Rattle.proof_lexers.proofs.Quoted.NoNul.{no_less}
 use Rattle.proof_layout_tokens.proofs.Json.States.{Around, nothing, block, opened_indent, indent_of, IsLine, Fits}
 

@@ -8,7 +8,7 @@ use Rattle.defs_layout.specs.JsonGap.{Blank, spell_gap}
 use Rattle.defs_layout.specs.Json.{Json, false_word, null_word, true_word, number, string, empty_array, array, empty_object, object, spell, spell_elements, spell_members, levels, IsJson}
 use Rattle.defs_layout.specs.Layout.{Comment, spell_comment, IsComment, IsJsonCollection}
 use Rattle.defs_layout.specs.JsonTokens.{json_tokens}
-use Rattle.model_lexers.specs.Machine.{past}
+use Rattle.model_scanner.specs.Machine.{past}
 use Rattle.model_scanner.specs.declared.level.Indent.{Indent}
 use Rattle.model_scanner.specs.declared.level.FlowLevel.{FlowLevel}
 use Rattle.model_scanner.specs.State.{Key, ScannerState, token, try_held}

@@ -9,8 +9,8 @@ use Rattle.defs_token.specs.Token.{Tok, Style, Token}
 use Rattle.yaml_tokens.specs.declared.problem.Fault.{Fault}
 use Rattle.defs_layout.specs.JsonGap.{Blank, space, tab, line_feed, carriage_return, spell_gap}
 use Rattle.defs_layout.specs.JsonString.{Piece, spell_pieces, spell_string, are_pieces, unescaped}
-use Rattle.model_lexers.specs.Machine.{past}
-use Rattle.model_lexers.specs.Quoted.{quote_of, quoted}
+use Rattle.model_scanner.specs.Machine.{past}
+use Rattle.model_scanner.specs.Quoted.{quote_of, quoted}
 use Rattle.model_scanner.specs.declared.level.FlowLevel.{FlowLevel}
 use Rattle.model_scanner.specs.declared.level.FlowLevel.TheVariants.{Mapping}
 use Rattle.model_scanner.specs.State.{Key, ScannerState, token, peek, try_held}

@@ -5,7 +5,7 @@ use Rattle.defs_text.specs.Position.{Position}
 use Rattle.defs_token.specs.Token.{Tok, Token}
 use Rattle.yaml_tokens.specs.declared.problem.Fault.{Fault}
 use Rattle.defs_layout.specs.JsonGap.{Blank, spell_gap}
-use Rattle.model_lexers.specs.Machine.{past}
+use Rattle.model_scanner.specs.Machine.{past}
 use Rattle.model_scanner.specs.declared.level.FlowLevel.{FlowLevel}
 use Rattle.model_scanner.specs.declared.level.FlowLevel.TheVariants.{Mapping, Entry}
 use Rattle.model_scanner.specs.State.{Key, ScannerState, ◌>>=◌, token, try_held}

@@ -8,9 +8,9 @@ use Rattle.yaml_chars.specs.Class.{is_break, is_blank, is_hex}
 use Rattle.yaml_tokens.specs.declared.problem.Fault.{Fault}
 use Rattle.defs_layout.specs.JsonString.{Piece, itself, short, unicode, Short, letter_of, character_of, spell_pieces, value_of, unescaped, four_digits, is_unescaped, is_hex_digit, is_surrogate, is_piece, are_pieces}
 use Rattle.defs_layout.specs.JsonString as string
-use Rattle.model_lexers.specs.declared.context.Context.{Context}
-use Rattle.model_lexers.specs.Machine.{Read, past}
-use Rattle.model_lexers.specs.Quoted.{quoted, escape_of, is_scalar}
+use Rattle.model_scanner.specs.declared.context.Context.{Context}
+use Rattle.model_scanner.specs.Machine.{Read, past}
+use Rattle.model_scanner.specs.Quoted.{quoted, escape_of, is_scalar}
 use Rattle.model_scanner.specs.declared.level.FlowLevel.{FlowLevel}
 use Rattle.proof_layout_tokens.proofs.Json.States.{Around, nothing, block, indent_of, Fits}
 use Rattle.proof_layout_tokens.proofs.Json.Levels.{fits_past, low_enough}

@@ -7,11 +7,11 @@ use Rattle.yaml_chars.specs.Class.{is_break, is_blank, is_flow}
 use Rattle.defs_text.specs.Text.{is_empty}
 use Rattle.yaml_tokens.specs.declared.problem.Fault.{Fault}
 use Rattle.defs_layout.specs.JsonGap.{Blank, space, tab, line_feed, carriage_return, spell_gap}
-use Rattle.model_lexers.specs.declared.context.Context.{Context}
-use Rattle.model_lexers.specs.Machine.{Read, past, past_break, at_marker, is_marker}
-use Rattle.model_lexers.specs.Folding.{Folded}
-use Rattle.model_lexers.specs.Plain.{PlainState, Plain, inside, between, plain, plain_from, can_be_plain, starts, at_dash, at_plain, goes_on, is_shallow, ends_run}
-use Rattle.model_lexers.proofs.PlainLemmas.{run_end}
+use Rattle.model_scanner.specs.declared.context.Context.{Context}
+use Rattle.model_scanner.specs.Machine.{Read, past, past_break, at_marker, is_marker}
+use Rattle.model_scanner.specs.Folding.{Folded}
+use Rattle.model_scanner.specs.Plain.{PlainState, Plain, inside, between, plain, plain_from, can_be_plain, starts, at_dash, at_plain, goes_on, is_shallow, ends_run}
+use Rattle.model_scanner.proofs.PlainLemmas.{run_end}
 use Rattle.model_scanner.specs.declared.class.Class.TheVariants.{Other}
 use Rattle.model_scanner.specs.declared.level.FlowLevel.{FlowLevel}
 use Rattle.model_scanner.specs.Class.{class_of}

@@ -4,7 +4,7 @@ use Rattle.defs_token.specs.Token.{Tok}
 use Rattle.defs_layout.specs.Gap.{GapLine, spell_gap, spaces, IsGap}
 use Rattle.defs_layout.specs.Layout.{no_comment, spell, Root, block, inline, literal, Document, Documents, last_document, document, spell_mark, spell_documents, spell_root, spell_inline, spell_block, IsRoot, IsAfterRoot, AreDocuments, spell_literal}
 use Rattle.defs_layout.specs.LayoutTokens.{root_tokens, documents_tokens, marked, layout_tokens}
-use Rattle.model_lexers.specs.Machine.{past_break}
+use Rattle.model_scanner.specs.Machine.{past_break}
 use Rattle.model_scanner.specs.State.{ScannerState}
 use Rattle.model_scanner.specs.Run.{Reaches, start}
 use Rattle.model_scanner.specs.TextTokens.{HasToks}

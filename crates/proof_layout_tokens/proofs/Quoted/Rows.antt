@@ -2,7 +2,7 @@
 use Rattle.std.proofs.Common.{[], ◌∷◌, codes, refl}
 use Rattle.defs_token.specs.Token.{Tok, Style}
 use Rattle.defs_text.specs.Classes.{is_blank, is_break, is_nul, are_marks}
-use Rattle.defs_scalar.specs.FlowScalar.{plain_element, single_quoted_element, double_quoted_element, is_character_code, numeric_escape, escape, begins_with_marker, single_quoted_value, double_quoted_value}
+use Rattle.defs_text.specs.FlowScalar.{plain_element, single_quoted_element, double_quoted_element, is_character_code, numeric_escape, escape, begins_with_marker, single_quoted_value, double_quoted_value}
 use Rattle.yaml_tokens.specs.declared.problem.Problem.TheVariants as problem
 use Rattle.defs_layout.specs.QuotedText.{single, double}
 use Rattle.model_scanner.specs.TextTokens.{HasToks}

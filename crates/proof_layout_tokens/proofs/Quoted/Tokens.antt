@@ -6,8 +6,8 @@ use Rattle.yaml_tokens.specs.declared.problem.Fault.{Fault}
 use Rattle.defs_layout.specs.JsonGap.{line_feed, spell_gap}
 use Rattle.defs_layout.specs.QuotedText.{Quotes, QuotedText, HasQuotedTokens, spell, body_value, style_of}
 use Rattle.defs_layout.specs.QuotedText as laid
-use Rattle.model_lexers.specs.Machine.{Read}
-use Rattle.model_lexers.specs.Quoted.{quote_of}
+use Rattle.model_scanner.specs.Machine.{Read}
+use Rattle.model_scanner.specs.Quoted.{quote_of}
 use Rattle.model_scanner.specs.State.{token}
 use Rattle.model_scanner.specs.Run.{start, here, there}
 use Rattle.model_scanner.specs.TextTokens.{HasToks}

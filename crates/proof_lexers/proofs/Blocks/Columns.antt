@@ -5,7 +5,7 @@ use Rattle.std.proofs.lemmas.Bool.{and_parts, not-false}
 use Rattle.std.proofs.lemmas.Bool.Decides.{nat_tests}
 use Rattle.defs_text.specs.Classes as classes
 use Rattle.defs_text.specs.Classes.{is_document_marker}
-use Rattle.defs_scalar.specs.BlockScalar.{empty_row, is_spaces, leading_spaces, deepest_start, is_empty_line, is_content_line, row_of, is_outside, is_further_text}
+use Rattle.defs_text.specs.BlockScalar.{empty_row, is_spaces, leading_spaces, deepest_start, is_empty_line, is_content_line, row_of, is_outside, is_further_text}
 use Rattle.proof_lexers.proofs.Bridges.{same_break}
 use Rattle.proof_lexers.specs.HeaderEnds.{is_in_line, ends_line}
 use Rattle.proof_lexers.specs.BlockScan.{is_some}

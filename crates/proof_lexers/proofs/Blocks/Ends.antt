@@ -7,13 +7,13 @@ use Rattle.yaml_tokens.specs.declared.problem.Fault.{Fault}
 use Rattle.yaml_tokens.specs.declared.problem.Fault.TheVariants.{At}
 use Rattle.yaml_tokens.specs.declared.problem.Problem.TheVariants as problem
 use Rattle.defs_text.specs.Classes.{tab, is_at_end}
-use Rattle.defs_scalar.specs.FlowScalar.{begins_with}
-use Rattle.defs_scalar.specs.BlockScalar as defs
-use Rattle.defs_scalar.specs.BlockScalar.{BlockStyle, Row, rows_of, row_of, deepest_start, least_column, column_by, header_of, starts_with_tab, is_further_text, further_text, unbroken, body, input_ends, value_before_text, value_before_end}
+use Rattle.defs_text.specs.FlowScalar.{begins_with}
+use Rattle.defs_text.specs.BlockScalar as defs
+use Rattle.defs_text.specs.BlockScalar.{BlockStyle, Row, rows_of, row_of, deepest_start, least_column, column_by, header_of, starts_with_tab, is_further_text, further_text, unbroken, body, input_ends, value_before_text, value_before_end}
 use Rattle.defs_token.specs.BlockPiece.{BlockRead, read_body, read_lines, read_split, block_read}
-use Rattle.model_lexers.specs.Machine.{Read, past}
-use Rattle.model_lexers.specs.Space.{linebreak}
-use Rattle.model_lexers.specs.Block.{block, header}
+use Rattle.model_scanner.specs.Machine.{Read, past}
+use Rattle.model_scanner.specs.Blanks.{linebreak}
+use Rattle.model_scanner.specs.BlockScalar.{block, header}
 use Rattle.proof_lexers.specs.HeaderEnds as header_ends
 use Rattle.proof_lexers.specs.HeaderEnds.{indicator_of, is_in_line, ends_line, along, read_header, reads, tabbed, zero_digit, comment, no_header}
 use Rattle.proof_lexers.specs.BlockScan.{is_literal_style, is_some, IsRead}

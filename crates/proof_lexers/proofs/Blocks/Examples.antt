@@ -2,7 +2,7 @@
 use Rattle.std.specs.Prelude.{◌≡◌, refl, [], true, false, Some, codes}
 use Rattle.defs_text.specs.Position.{Position}
 use Rattle.defs_text.specs.Classes.{is_blank, is_break, is_nul, is_blank_or_end, are_marks}
-use Rattle.defs_scalar.specs.BlockScalar.{literal, folded, sign_of, digit_of, is_empty_line, is_content_line, row_of}
+use Rattle.defs_text.specs.BlockScalar.{literal, folded, sign_of, digit_of, is_empty_line, is_content_line, row_of}
 use Rattle.defs_token.specs.BlockPiece.{block_read}
 use Rattle.proof_lexers.specs.BlockScan.{is_tabbed, is_shallow, read_block}
 

@@ -4,9 +4,9 @@ use Rattle.std.proofs.lemmas.Bool.{and_parts, lt-ltb}
 use Rattle.defs_text.specs.Position.{Position}
 use Rattle.yaml_chars.specs.Class.{is_break}
 use Rattle.defs_text.specs.Breaks.{split, Split}
-use Rattle.defs_scalar.specs.BlockScalar.{is_spaces, leading_spaces, deepest_start, column_by, least_column, digit_base, unbroken, all_lines}
-use Rattle.model_lexers.specs.Machine.{Read, past}
-use Rattle.model_lexers.specs.Block.{Column, First, first_indent, indent_from, content, at_least}
+use Rattle.defs_text.specs.BlockScalar.{is_spaces, leading_spaces, deepest_start, column_by, least_column, digit_base, unbroken, all_lines}
+use Rattle.model_scanner.specs.Machine.{Read, past}
+use Rattle.model_scanner.specs.BlockScalar.{Column, First, first_indent, indent_from, content, at_least}
 use Rattle.proof_lexers.specs.HeaderEnds.{is_in_line, along}
 use Rattle.proof_lexers.specs.BlockScan.{digit_by}
 use Rattle.proof_lexers.specs.PlainEnds.{collection_of}

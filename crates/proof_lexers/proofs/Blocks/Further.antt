@@ -6,10 +6,10 @@ use Rattle.defs_text.specs.Position.{Position, position_past}
 use Rattle.yaml_chars.specs.Class.{is_break}
 use Rattle.defs_text.specs.Classes as classes
 use Rattle.defs_text.specs.Classes.{is_document_marker}
-use Rattle.defs_scalar.specs.BlockScalar.{is_outside, is_further_text}
+use Rattle.defs_text.specs.BlockScalar.{is_outside, is_further_text}
 use Rattle.defs_token.specs.BlockPiece.{past_spaces}
-use Rattle.model_lexers.specs.Machine.{past}
-use Rattle.model_lexers.specs.Block.{indent_from, Lines, begins}
+use Rattle.model_scanner.specs.Machine.{past}
+use Rattle.model_scanner.specs.BlockScalar.{indent_from, Lines, begins}
 use Rattle.proof_lexers.proofs.Bridges.{same_break}
 use Rattle.proof_lexers.specs.BlockScan.{without_spaces}
 use Rattle.proof_lexers.proofs.Blocks.Margins.{at}

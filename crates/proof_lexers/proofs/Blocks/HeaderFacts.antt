@@ -8,12 +8,12 @@ use Rattle.yaml_tokens.specs.declared.problem.Problem.TheVariants as problem
 use Rattle.defs_text.specs.Classes as classes
 use Rattle.defs_text.specs.Classes.{tab}
 use Rattle.defs_text.specs.Breaks.{is_rest_of_line}
-use Rattle.defs_scalar.specs.FlowScalar.{begins_with}
-use Rattle.defs_scalar.specs.BlockScalar as defs
-use Rattle.defs_scalar.specs.BlockScalar.{BlockStyle, literal, folded, clip, sign_of, digit_of, header_of, ended, after_style, first_indicator, after_sign, digit_or_end, after_digit, sign_or_end}
-use Rattle.model_lexers.specs.Machine.{past}
-use Rattle.model_lexers.specs.Space.{linebreak}
-use Rattle.model_lexers.specs.Block.{header}
+use Rattle.defs_text.specs.FlowScalar.{begins_with}
+use Rattle.defs_text.specs.BlockScalar as defs
+use Rattle.defs_text.specs.BlockScalar.{BlockStyle, literal, folded, clip, sign_of, digit_of, header_of, ended, after_style, first_indicator, after_sign, digit_or_end, after_digit, sign_or_end}
+use Rattle.model_scanner.specs.Machine.{past}
+use Rattle.model_scanner.specs.Blanks.{linebreak}
+use Rattle.model_scanner.specs.BlockScalar.{header}
 use Rattle.proof_lexers.specs.HeaderEnds.{indicator_of, digit_or_zero, is_in_line, ends_line, along, read_header, HeaderEndsAs, reads, tabbed, zero_digit, comment, no_header}
 use Rattle.proof_lexers.specs.BlockScan.{digit_by}
 use Rattle.proof_lexers.proofs.Blocks.Headers.{headers_end}

@@ -11,14 +11,14 @@ use Rattle.yaml_tokens.specs.declared.token.Chomping.TheVariants.{Clip}
 use Rattle.defs_text.specs.Classes as classes
 use Rattle.defs_text.specs.Classes.{tab}
 use Rattle.defs_text.specs.Breaks.{is_blanks_and_comment, is_rest_of_line}
-use Rattle.defs_scalar.specs.FlowScalar.{begins_with}
-use Rattle.defs_scalar.specs.BlockScalar as defs
-use Rattle.defs_scalar.specs.BlockScalar.{BlockStyle, literal, folded, strip, clip, keep, sign_of, digit_of, header_of, after_style, first_indicator, after_sign, digit_or_end, after_digit, sign_or_end}
-use Rattle.model_lexers.specs.declared.context.SkipTabs.TheVariants.{Yes}
-use Rattle.model_lexers.specs.declared.context.Whitespace.{Whitespace}
-use Rattle.model_lexers.specs.Machine.{Read, past, and_then, skip_while}
-use Rattle.model_lexers.specs.Space.{space_from, space, linebreak, is_line}
-use Rattle.model_lexers.specs.Block.{chomping, increment, indicators, late_chomping, with_chomping, header_break, header_end, header, with_indicators}
+use Rattle.defs_text.specs.FlowScalar.{begins_with}
+use Rattle.defs_text.specs.BlockScalar as defs
+use Rattle.defs_text.specs.BlockScalar.{BlockStyle, literal, folded, strip, clip, keep, sign_of, digit_of, header_of, after_style, first_indicator, after_sign, digit_or_end, after_digit, sign_or_end}
+use Rattle.model_scanner.specs.declared.context.SkipTabs.TheVariants.{Yes}
+use Rattle.model_scanner.specs.declared.context.Whitespace.{Whitespace}
+use Rattle.model_scanner.specs.Machine.{Read, past, and_then, skip_while}
+use Rattle.model_scanner.specs.Blanks.{space_from, space, linebreak, is_line}
+use Rattle.model_scanner.specs.BlockScalar.{chomping, increment, indicators, late_chomping, with_chomping, header_break, header_end, header, with_indicators}
 use Rattle.proof_lexers.proofs.Bridges.{same_break, same_blank}
 use Rattle.proof_lexers.specs.HeaderEnds.{indicator_of, chomping_of, indicators_of, is_in_line, ends_line, along, is_sign, has_zero, past_indicators, HeaderEndsAs, reads, tabbed, zero_digit, comment, no_header}
 use Rattle.proof_lexers.specs.BlockLaws.{HeadersEndAsTheirLineSays}

@@ -3,9 +3,9 @@ use Rattle.std.proofs.Common.{◌≡◌, ◌≤◌, ℕ, suc, ◌+◌, List, [],
 use Rattle.std.proofs.lemmas.Bool.{and_parts, lt-ltb}
 use Rattle.defs_text.specs.Position.{Position}
 use Rattle.yaml_chars.specs.Class.{is_break}
-use Rattle.defs_scalar.specs.BlockScalar.{is_spaces}
-use Rattle.model_lexers.specs.Machine.{Read, past, past_break, is_cr_lf}
-use Rattle.model_lexers.specs.Block.{Column, Margin, indent_from, Lines, BlockState, margin, lines_from}
+use Rattle.defs_text.specs.BlockScalar.{is_spaces}
+use Rattle.model_scanner.specs.Machine.{Read, past, past_break, is_cr_lf}
+use Rattle.model_scanner.specs.BlockScalar.{Column, Margin, indent_from, Lines, BlockState, margin, lines_from}
 use Rattle.proof_lexers.specs.HeaderEnds.{along}
 use Rattle.proof_lexers.proofs.Blocks.Written.{Break, feed, carriage, both, Line, put, Fits}
 

@@ -4,7 +4,7 @@ use Rattle.std.proofs.lemmas.Bool.Decides.{nat_tests}
 use Rattle.yaml_chars.specs.Class.{is_blank, is_break}
 use Rattle.defs_text.specs.Classes as classes
 use Rattle.defs_text.specs.Classes.{is_document_marker}
-use Rattle.model_lexers.specs.Machine.{is_marker, at_marker}
+use Rattle.model_scanner.specs.Machine.{is_marker, at_marker}
 use Rattle.proof_lexers.proofs.Bridges.{and_false}
 use Rattle.proof_lexers.specs.HeaderEnds.{ends_line}
 

@@ -7,11 +7,11 @@ use Rattle.defs_text.specs.Position.{Position}
 use Rattle.defs_text.specs.Classes as classes
 use Rattle.defs_text.specs.Classes.{tab, is_at_end, is_document_marker}
 use Rattle.defs_text.specs.Breaks.{split, Split}
-use Rattle.defs_scalar.specs.FlowScalar.{begins_with}
-use Rattle.defs_scalar.specs.BlockScalar as defs
-use Rattle.defs_scalar.specs.BlockScalar.{Row, rows_of, row_of, deepest_start, least_column, column_by, header_of, starts_with_tab, is_outside, is_further_text, further_text, unbroken, body, input_ends, Body, value_at_text, value_at_end, block_value, value_before_text, value_before_end}
+use Rattle.defs_text.specs.FlowScalar.{begins_with}
+use Rattle.defs_text.specs.BlockScalar as defs
+use Rattle.defs_text.specs.BlockScalar.{Row, rows_of, row_of, deepest_start, least_column, column_by, header_of, starts_with_tab, is_outside, is_further_text, further_text, unbroken, body, input_ends, Body, value_at_text, value_at_end, block_value, value_before_text, value_before_end}
 use Rattle.defs_token.specs.BlockPiece.{BlockRead, read_body, read_lines, read_split}
-use Rattle.model_lexers.specs.Block.{block, indent_from}
+use Rattle.model_scanner.specs.BlockScalar.{block, indent_from}
 use Rattle.proof_lexers.specs.HeaderEnds.{indicator_of, digit_or_zero, is_in_line}
 use Rattle.proof_lexers.specs.BlockScan.{digit_by, is_literal_style, is_some, IsRead, tabbed, is_tabbed, is_single}
 use Rattle.proof_lexers.specs.PlainEnds.{collection_of}

@@ -4,10 +4,10 @@ use Rattle.std.proofs.lemmas.Bool.{and_parts, eqb-true, lt-ltb}
 use Rattle.defs_text.specs.Position.{Position, position_past, position_after}
 use Rattle.yaml_chars.specs.Class.{is_break}
 use Rattle.defs_text.specs.Classes as classes
-use Rattle.defs_scalar.specs.BlockScalar.{is_spaces}
+use Rattle.defs_text.specs.BlockScalar.{is_spaces}
 use Rattle.defs_text.specs.Breaks as cut
 use Rattle.defs_token.specs.BlockPiece.{first_content}
-use Rattle.model_lexers.specs.Machine.{past, past_break}
+use Rattle.model_scanner.specs.Machine.{past, past_break}
 use Rattle.proof_lexers.proofs.Bridges.{same_break}
 use Rattle.proof_lexers.specs.HeaderEnds.{is_in_line, along}
 use Rattle.proof_lexers.proofs.Blocks.InLine.{first_inner}

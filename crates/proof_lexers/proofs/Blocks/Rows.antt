@@ -7,9 +7,9 @@ use Rattle.yaml_chars.specs.Class.{is_break, is_blank}
 use Rattle.yaml_tokens.specs.declared.problem.Fault.{Fault}
 use Rattle.defs_text.specs.Classes as classes
 use Rattle.defs_text.specs.Classes.{is_document_marker}
-use Rattle.defs_scalar.specs.BlockScalar.{Row, empty_row, content_row, is_spaces, leading_spaces, is_empty_line, is_content_line, row_of, rows_of, put_row}
-use Rattle.model_lexers.specs.Machine.{Read, past, at_marker}
-use Rattle.model_lexers.specs.Block.{Column, indent_from, Lines, BlockState, margin, line, lines_from, between, begins, begun, with_char}
+use Rattle.defs_text.specs.BlockScalar.{Row, empty_row, content_row, is_spaces, leading_spaces, is_empty_line, is_content_line, row_of, rows_of, put_row}
+use Rattle.model_scanner.specs.Machine.{Read, past, at_marker}
+use Rattle.model_scanner.specs.BlockScalar.{Column, indent_from, Lines, BlockState, margin, line, lines_from, between, begins, begun, with_char}
 use Rattle.proof_lexers.proofs.Bridges.{same_break, and_false}
 use Rattle.proof_lexers.specs.HeaderEnds.{is_in_line, ends_line, along}
 use Rattle.proof_lexers.proofs.Blocks.InLine.{first_inner}

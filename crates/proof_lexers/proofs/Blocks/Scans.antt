@@ -9,13 +9,13 @@ use Rattle.yaml_tokens.specs.declared.problem.Fault.TheVariants.{At}
 use Rattle.yaml_tokens.specs.declared.problem.Problem.TheVariants as problem
 use Rattle.defs_text.specs.Classes as classes
 use Rattle.defs_text.specs.Classes.{tab, is_at_end}
-use Rattle.defs_scalar.specs.FlowScalar.{begins_with}
-use Rattle.defs_scalar.specs.BlockScalar as defs
-use Rattle.defs_scalar.specs.BlockScalar.{Row, empty_row, content_row, breaks, is_spaces, rows_of, row_of, has_content, column_by, header_of, starts_with_tab, is_further_text, value_before_text, value_before_end, with_content}
+use Rattle.defs_text.specs.FlowScalar.{begins_with}
+use Rattle.defs_text.specs.BlockScalar as defs
+use Rattle.defs_text.specs.BlockScalar.{Row, empty_row, content_row, breaks, is_spaces, rows_of, row_of, has_content, column_by, header_of, starts_with_tab, is_further_text, value_before_text, value_before_end, with_content}
 use Rattle.defs_token.specs.BlockPiece.{BlockRead, first_content, past_spaces, position_or, block_position}
-use Rattle.model_lexers.specs.Machine.{Read, past, and_then}
-use Rattle.model_lexers.specs.Space.{linebreak}
-use Rattle.model_lexers.specs.Block.{Header, Column, Lines, lines_from, indent_from, content, header, Block, block, after_header, is_open, tail, empty_text}
+use Rattle.model_scanner.specs.Machine.{Read, past, and_then}
+use Rattle.model_scanner.specs.Blanks.{linebreak}
+use Rattle.model_scanner.specs.BlockScalar.{Header, Column, Lines, lines_from, indent_from, content, header, Block, block, after_header, is_open, tail, empty_text}
 use Rattle.proof_lexers.proofs.Bridges.{and_false}
 use Rattle.proof_lexers.specs.HeaderEnds.{indicator_of, chomping_of, digit_or_zero, indicators_of, is_in_line, along, read_header}
 use Rattle.proof_lexers.specs.BlockScan.{digit_by, is_literal_style, without_spaces, further_position, IsRead, read, shallow, is_none, is_tabbed, is_shallow}

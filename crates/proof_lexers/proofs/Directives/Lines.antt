@@ -11,14 +11,14 @@ use Rattle.yaml_tokens.specs.declared.problem.Problem.TheVariants as problem
 use Rattle.defs_text.specs.Classes as classes
 use Rattle.defs_text.specs.Classes.{is_at_gap}
 use Rattle.defs_text.specs.Breaks.{is_rest_of_line, has_no_break}
-use Rattle.defs_scalar.specs.FlowScalar.{begins_with}
-use Rattle.defs_scalar.specs.Tags.{UriFault, leading, after, is_same, decoded, is_handle}
-use Rattle.defs_scalar.specs.Directives as defs
-use Rattle.defs_scalar.specs.Directives.{Directive, tag_declaration, reserved, number_of, version_by, minor_of, version_of, prefix_by, begins_prefix, prefix_of, handle_and_rest, declaration_by, declaration_of, directive_by, directive_of}
-use Rattle.model_lexers.specs.Machine.{Read, past, and_then, skip_while}
-use Rattle.model_lexers.specs.Space.{blanks}
-use Rattle.model_lexers.specs.Tag.{handle, prefix}
-use Rattle.model_lexers.specs.Directive.{version, tag, unknown, kind, name, number, with_minor, after_major, version_value, with_prefix, prefix_after, tag_value, value, line_end, with_end, after_value, after_name, directive}
+use Rattle.defs_text.specs.FlowScalar.{begins_with}
+use Rattle.defs_text.specs.Tags.{UriFault, leading, after, is_same, decoded, is_handle}
+use Rattle.defs_text.specs.Directives as defs
+use Rattle.defs_text.specs.Directives.{Directive, tag_declaration, reserved, number_of, version_by, minor_of, version_of, prefix_by, begins_prefix, prefix_of, handle_and_rest, declaration_by, declaration_of, directive_by, directive_of}
+use Rattle.model_scanner.specs.Machine.{Read, past, and_then, skip_while}
+use Rattle.model_scanner.specs.Blanks.{blanks}
+use Rattle.model_scanner.specs.Tag.{handle, prefix}
+use Rattle.model_scanner.specs.Directive.{version, tag, unknown, kind, name, number, with_minor, after_major, version_value, with_prefix, prefix_after, tag_value, value, line_end, with_end, after_value, after_name, directive}
 use Rattle.proof_lexers.proofs.Bridges.{same_blank, same_alpha, same_tag}
 use Rattle.proof_lexers.specs.NameEnds.{further}
 use Rattle.proof_lexers.specs.UriEnds.{problem_of, after_class}

@@ -11,14 +11,14 @@ use Rattle.yaml_tokens.specs.declared.problem.Problem.TheVariants as problem
 use Rattle.defs_text.specs.Classes as classes
 use Rattle.defs_text.specs.Classes.{is_at_gap}
 use Rattle.defs_text.specs.Breaks.{is_before_line_feed, is_blanks_and_comment, is_rest_of_line, has_no_break}
-use Rattle.defs_scalar.specs.FlowScalar.{begins_with}
-use Rattle.defs_scalar.specs.Tags.{all_of, leading, after, is_same}
-use Rattle.defs_scalar.specs.Directives.{decimal_value}
-use Rattle.model_lexers.specs.declared.context.SkipTabs.TheVariants.{Yes}
-use Rattle.model_lexers.specs.declared.context.Whitespace.{Whitespace}
-use Rattle.model_lexers.specs.Machine.{Stop, run, walk, Read, and_then, past, past_break, is_cr_lf, skip_while}
-use Rattle.model_lexers.specs.Space.{is_line, Spaces, space_step, spaces_end, with_found, space}
-use Rattle.model_lexers.specs.Directive.{version, tag, unknown, kind, Digits, digit_turn, digits_end, number, directive_break, line_end}
+use Rattle.defs_text.specs.FlowScalar.{begins_with}
+use Rattle.defs_text.specs.Tags.{all_of, leading, after, is_same}
+use Rattle.defs_text.specs.Directives.{decimal_value}
+use Rattle.model_scanner.specs.declared.context.SkipTabs.TheVariants.{Yes}
+use Rattle.model_scanner.specs.declared.context.Whitespace.{Whitespace}
+use Rattle.model_scanner.specs.Machine.{Stop, run, walk, Read, and_then, past, past_break, is_cr_lf, skip_while}
+use Rattle.model_scanner.specs.Blanks.{is_line, Spaces, space_step, spaces_end, with_found, space}
+use Rattle.model_scanner.specs.Directive.{version, tag, unknown, kind, Digits, digit_turn, digits_end, number, directive_break, line_end}
 use Rattle.proof_lexers.proofs.Bridges.{same_break, same_gap, same_alpha}
 use Rattle.proof_lexers.specs.NameEnds.{further}
 use Rattle.proof_lexers.specs.DirectiveEnds.{ends_line, first_break, next_line}

@@ -7,11 +7,11 @@ use Rattle.yaml_tokens.specs.declared.problem.Fault.{Fault}
 use Rattle.yaml_tokens.specs.declared.problem.Fault.TheVariants.{At}
 use Rattle.yaml_tokens.specs.declared.problem.Problem.TheVariants as problem
 use Rattle.defs_text.specs.Classes as classes
-use Rattle.defs_scalar.specs.Tags.{all_of, leading, after, is_same, begins_with_mark, is_marked_name, is_handle}
-use Rattle.defs_scalar.specs.Directives.{decimal_value, number_of, name_and_mark, handle_and_rest}
-use Rattle.model_lexers.specs.Machine.{Read, past}
-use Rattle.model_lexers.specs.Tag.{handle_end, handle}
-use Rattle.model_lexers.specs.Directive.{number}
+use Rattle.defs_text.specs.Tags.{all_of, leading, after, is_same, begins_with_mark, is_marked_name, is_handle}
+use Rattle.defs_text.specs.Directives.{decimal_value, number_of, name_and_mark, handle_and_rest}
+use Rattle.model_scanner.specs.Machine.{Read, past}
+use Rattle.model_scanner.specs.Tag.{handle_end, handle}
+use Rattle.model_scanner.specs.Directive.{number}
 use Rattle.proof_lexers.specs.NameEnds.{further}
 use Rattle.proof_lexers.specs.DirectiveEnds.{ends_line}
 use Rattle.proof_lexers.proofs.Properties.Tags.{begins_in, span_cut, all_leading, word}

@@ -9,10 +9,10 @@ use Rattle.defs_text.specs.Classes.{is_blank, is_break}
 use Rattle.defs_text.specs.Breaks.{is_before_line_feed}
 use Rattle.defs_token.specs.Separation.{is_blanks}
 use Rattle.defs_token.specs.Plain.{Stand, inside, on_line, past, begins_flow, ends_plain, goes_on, stops, ends_with_content}
-use Rattle.model_lexers.specs.declared.context.Context.{Context}
-use Rattle.model_lexers.specs.Machine.{Read}
-use Rattle.model_lexers.specs.Folding.{Folded, with_char, with_blank, with_break, joined}
-use Rattle.model_lexers.specs.Plain.{Plain}
+use Rattle.model_scanner.specs.declared.context.Context.{Context}
+use Rattle.model_scanner.specs.Machine.{Read}
+use Rattle.model_scanner.specs.Folding.{Folded, with_char, with_blank, with_break, joined}
+use Rattle.model_scanner.specs.Plain.{Plain}
 use Rattle.proof_lexers.specs.PlainEnds.{collection_of, is_white, is_gap, begins_white, begins_token, has_break, stand_after, is_apart}
 
 -- ---- the buffers, a character at a time

@@ -4,9 +4,9 @@ use Rattle.defs_text.specs.Position.{Position}
 use Rattle.yaml_tokens.specs.declared.problem.Problem.TheVariants as problem
 use Rattle.yaml_tokens.specs.declared.problem.Fault.TheVariants.{At}
 use Rattle.defs_text.specs.Classes.{is_blank, is_break, is_nul, is_blank_or_end, is_flow, are_marks}
-use Rattle.defs_scalar.specs.FlowScalar.{plain_element, begins_with_marker, plain_value}
-use Rattle.model_lexers.specs.declared.context.Context.{Context}
-use Rattle.model_lexers.specs.Plain.{plain}
+use Rattle.defs_text.specs.FlowScalar.{plain_element, begins_with_marker, plain_value}
+use Rattle.model_scanner.specs.declared.context.Context.{Context}
+use Rattle.model_scanner.specs.Plain.{plain}
 use Rattle.proof_lexers.specs.PlainEnds.{IsRead, IsPlainRefusal, by_dash, by_tab}
 use Rattle.proof_lexers.proofs.Plain.Scalars.{scalars_read}
 

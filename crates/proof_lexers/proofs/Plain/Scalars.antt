@@ -7,14 +7,14 @@ use Rattle.yaml_tokens.specs.declared.problem.Fault.{Fault}
 use Rattle.yaml_tokens.specs.declared.problem.Fault.TheVariants.{At}
 use Rattle.yaml_tokens.specs.declared.problem.Problem.TheVariants as problem
 use Rattle.defs_text.specs.Classes.{is_blank, is_break}
-use Rattle.defs_scalar.specs.FlowScalar.{has_document_marker, plain_value}
+use Rattle.defs_text.specs.FlowScalar.{has_document_marker, plain_value}
 use Rattle.defs_token.specs.Plain.{Stand, past, begins_flow, ends_plain, goes_on, stops, ends_with_content, is_whole_plain}
 use Rattle.defs_token.specs.Plain as defs
-use Rattle.model_lexers.specs.declared.context.Context.{Context}
-use Rattle.model_lexers.specs.Machine as machine
-use Rattle.model_lexers.specs.Machine.{Read}
-use Rattle.model_lexers.specs.Folding.{Folded, nothing, with_char, joined}
-use Rattle.model_lexers.specs.Plain.{inside, first, is_shallow, at_dash, plain_from, plain, starts, Plain}
+use Rattle.model_scanner.specs.declared.context.Context.{Context}
+use Rattle.model_scanner.specs.Machine as machine
+use Rattle.model_scanner.specs.Machine.{Read}
+use Rattle.model_scanner.specs.Folding.{Folded, nothing, with_char, joined}
+use Rattle.model_scanner.specs.Plain.{inside, first, is_shallow, at_dash, plain_from, plain, starts, Plain}
 use Rattle.defs_text.specs.Text.{has_no_nul}
 use Rattle.proof_lexers.specs.PlainEnds.{collection_of, is_white, begins_solid, is_indented, IsPlainRefusal, by_column, by_dash, by_tab, PlainEndsAs, reads, refuses, IsRead, read, refused}
 use Rattle.proof_lexers.specs.ScalarLaws.{PlainScalarsAreRead, PlainScansEndAsTheirTextSays}

@@ -10,10 +10,10 @@ use Rattle.yaml_tokens.specs.declared.problem.Problem.TheVariants as problem
 use Rattle.defs_text.specs.Classes as classes
 use Rattle.defs_token.specs.Plain.{Stand, on_line, after_blank, begins_flow, ends_at_colon, ends_plain, stops}
 use Rattle.defs_token.specs.Plain as defs
-use Rattle.model_lexers.specs.declared.context.Context.{Context}
-use Rattle.model_lexers.specs.Machine.{Read, at_marker}
-use Rattle.model_lexers.specs.Folding.{Folded}
-use Rattle.model_lexers.specs.Plain.{inside, between, tabs, can_be_plain, is_shallow, Plain}
+use Rattle.model_scanner.specs.declared.context.Context.{Context}
+use Rattle.model_scanner.specs.Machine.{Read, at_marker}
+use Rattle.model_scanner.specs.Folding.{Folded}
+use Rattle.model_scanner.specs.Plain.{inside, between, tabs, can_be_plain, is_shallow, Plain}
 use Rattle.proof_lexers.proofs.Bridges.{same_break, same_blank}
 use Rattle.defs_text.specs.Text.{has_no_nul}
 use Rattle.proof_lexers.specs.PlainEnds.{collection_of, is_white, is_apart}

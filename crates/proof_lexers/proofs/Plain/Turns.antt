@@ -13,10 +13,10 @@ use Rattle.defs_text.specs.Breaks.{is_before_line_feed}
 use Rattle.defs_token.specs.Separation.{is_blanks}
 use Rattle.defs_token.specs.Plain.{Stand, on_line, after_blank, begins_flow, is_value_indicator, ends_at_colon, ends_at_comment, is_deeper, ends_at_line, ends_plain, stops}
 use Rattle.defs_token.specs.Plain as defs
-use Rattle.model_lexers.specs.declared.context.Context.{Context}
-use Rattle.model_lexers.specs.Machine.{Read, past, past_break, is_cr_lf, at_marker}
-use Rattle.model_lexers.specs.Folding.{Folded, with_char, with_blank, with_break, joined}
-use Rattle.model_lexers.specs.Plain.{Mode, inside, between, tabs, at_break, can_be_plain, is_shallow, at_dash, at_plain, goes_on, plain_from, Plain}
+use Rattle.model_scanner.specs.declared.context.Context.{Context}
+use Rattle.model_scanner.specs.Machine.{Read, past, past_break, is_cr_lf, at_marker}
+use Rattle.model_scanner.specs.Folding.{Folded, with_char, with_blank, with_break, joined}
+use Rattle.model_scanner.specs.Plain.{Mode, inside, between, tabs, at_break, can_be_plain, is_shallow, at_dash, at_plain, goes_on, plain_from, Plain}
 use Rattle.proof_lexers.proofs.Bridges.{both, same_break, same_blank, same_gap, same_flow, same_marker}
 use Rattle.proof_lexers.specs.PlainEnds.{collection_of, is_white, begins_white, begins_token}
 use Rattle.proof_lexers.proofs.Plain.Found.{after_char, Fails, Found, found, found_on, further, after_gap, after_content}

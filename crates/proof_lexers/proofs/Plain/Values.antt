@@ -3,9 +3,9 @@ use Rattle.std.proofs.Common.{◌≡◌, ℕ, zero, suc, List, [], ◌∷◌, �
 use Rattle.std.proofs.lemmas.Bool.{and_parts, eqb-true}
 use Rattle.defs_text.specs.Classes.{is_blank, is_break, is_blank_or_end, is_nul, are_marks, is_document_marker}
 use Rattle.defs_text.specs.Breaks.{is_before_line_feed}
-use Rattle.defs_scalar.specs.FlowScalar.{Element, content, blank, line_break, Spelled, break_further, plain_element, elements, begins_with_marker, has_document_marker, plain_value}
+use Rattle.defs_text.specs.FlowScalar.{Element, content, blank, line_break, Spelled, break_further, plain_element, elements, begins_with_marker, has_document_marker, plain_value}
 use Rattle.defs_token.specs.Plain.{Stand, on_line, past, begins_flow, ends_at_colon, goes_on, ends_plain, ends_with_content}
-use Rattle.model_lexers.specs.Folding.{Folded, nothing, with_break, joined}
+use Rattle.model_scanner.specs.Folding.{Folded, nothing, with_break, joined}
 use Rattle.proof_lexers.specs.Buffers.{after_element, after_elements}
 use Rattle.proof_lexers.proofs.Fold.{buffers_join}
 use Rattle.proof_lexers.specs.PlainEnds.{is_white}

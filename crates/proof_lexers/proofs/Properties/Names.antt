@@ -4,9 +4,9 @@ use Rattle.std.proofs.lemmas.Bool.{and_parts}
 use Rattle.defs_text.specs.Position.{Position}
 use Rattle.yaml_chars.specs.Class.{is_anchor}
 use Rattle.defs_text.specs.Classes.{is_anchor_name}
-use Rattle.defs_scalar.specs.Tags.{all_of}
-use Rattle.model_lexers.specs.Machine.{past, take_while}
-use Rattle.model_lexers.specs.Anchor.{some_name, anchor_name}
+use Rattle.defs_text.specs.Tags.{all_of}
+use Rattle.model_scanner.specs.Machine.{past, take_while}
+use Rattle.model_scanner.specs.Anchor.{some_name, anchor_name}
 use Rattle.defs_token.specs.Piece.{goes_on_with_name}
 use Rattle.proof_lexers.proofs.Bridges.{same_flow, same_gap}
 use Rattle.proof_lexers.specs.NameEnds.{further, NameEndsAs, named, nameless}

@@ -4,14 +4,14 @@ use Rattle.std.proofs.lemmas.Bool.{and_parts, eqb-true}
 use Rattle.defs_text.specs.Position.{Position}
 use Rattle.yaml_chars.specs.Class.{is_uri, is_tag}
 use Rattle.defs_text.specs.Text.{is_empty}
-use Rattle.model_lexers.specs.Uri.{uri}
+use Rattle.model_scanner.specs.Uri.{uri}
 use Rattle.yaml_tokens.specs.declared.problem.Fault.{Fault}
 use Rattle.defs_text.specs.Classes as classes
 use Rattle.defs_text.specs.Classes.{is_at_gap}
-use Rattle.defs_scalar.specs.Tags as defs
-use Rattle.defs_scalar.specs.Tags.{UriFault, all_of, leading, after, is_same, uri_character, decoded, tag_by, tag_of_class, written_tag}
-use Rattle.model_lexers.specs.Machine.{Read, past, and_then}
-use Rattle.model_lexers.specs.Tag.{Tag, read_tag, verbatim_end, verbatim, some_suffix, named, local, after_name, shorthand, tag_end, tag}
+use Rattle.defs_text.specs.Tags as defs
+use Rattle.defs_text.specs.Tags.{UriFault, all_of, leading, after, is_same, uri_character, decoded, tag_by, tag_of_class, written_tag}
+use Rattle.model_scanner.specs.Machine.{Read, past, and_then}
+use Rattle.model_scanner.specs.Tag.{Tag, read_tag, verbatim_end, verbatim, some_suffix, named, local, after_name, shorthand, tag_end, tag}
 use Rattle.proof_lexers.specs.NameEnds.{further}
 use Rattle.proof_lexers.specs.UriEnds.{after_class}
 use Rattle.proof_lexers.specs.TagEnds.{may_follow, after_tag}

@@ -9,11 +9,11 @@ use Rattle.yaml_tokens.specs.declared.problem.Fault.{Fault}
 use Rattle.yaml_tokens.specs.declared.problem.Problem.TheVariants as problem
 use Rattle.defs_text.specs.Classes as classes
 use Rattle.defs_text.specs.Classes.{is_at_gap}
-use Rattle.defs_scalar.specs.FlowScalar.{begins_with}
-use Rattle.defs_scalar.specs.Tags as defs
-use Rattle.defs_scalar.specs.Tags.{UriFault, all_of, leading, after, is_same, decoded, decoded_after, uri_character, put_code, tag_by, tag_of_class, written_tag}
-use Rattle.model_lexers.specs.Machine.{Read, past, and_then, take_while}
-use Rattle.model_lexers.specs.Tag.{Tag, read_tag, verbatim_end, verbatim, some_suffix, named, local, after_name, shorthand, ends_tag, tag_end, tag}
+use Rattle.defs_text.specs.FlowScalar.{begins_with}
+use Rattle.defs_text.specs.Tags as defs
+use Rattle.defs_text.specs.Tags.{UriFault, all_of, leading, after, is_same, decoded, decoded_after, uri_character, put_code, tag_by, tag_of_class, written_tag}
+use Rattle.model_scanner.specs.Machine.{Read, past, and_then, take_while}
+use Rattle.model_scanner.specs.Tag.{Tag, read_tag, verbatim_end, verbatim, some_suffix, named, local, after_name, shorthand, ends_tag, tag_end, tag}
 use Rattle.proof_lexers.proofs.Bridges.{same_gap, same_flow, same_alpha, same_tag}
 use Rattle.proof_lexers.specs.NameEnds.{further}
 use Rattle.proof_lexers.specs.UriEnds.{problem_of, after_class}

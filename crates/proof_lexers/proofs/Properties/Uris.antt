@@ -10,11 +10,11 @@ use Rattle.yaml_tokens.specs.declared.problem.Fault.TheVariants.{At}
 use Rattle.yaml_tokens.specs.declared.problem.Problem.TheVariants as problem
 use Rattle.defs_text.specs.Classes as classes
 use Rattle.defs_text.specs.Classes.{is_between}
-use Rattle.defs_scalar.specs.FlowScalar.{is_character_code}
-use Rattle.defs_scalar.specs.Tags.{leading, after, UriFault, wrong_trail, no_character, octet_at, Lead, lead_of, is_trail, trail_by, trails, checked, led_by, escaped_character, uri_character, put_code, code_followed, decoded_after, decoded}
-use Rattle.model_lexers.specs.Machine.{Read, past, and_then}
-use Rattle.model_lexers.specs.Uri.{Octet, lead, trail, plain, high, UriState, at_trail, at_octet, uri_from, octet_from, trails_from}
-use Rattle.model_lexers.proofs.UriLemmas.{low_turn}
+use Rattle.defs_text.specs.FlowScalar.{is_character_code}
+use Rattle.defs_text.specs.Tags.{leading, after, UriFault, wrong_trail, no_character, octet_at, Lead, lead_of, is_trail, trail_by, trails, checked, led_by, escaped_character, uri_character, put_code, code_followed, decoded_after, decoded}
+use Rattle.model_scanner.specs.Machine.{Read, past, and_then}
+use Rattle.model_scanner.specs.Uri.{Octet, lead, trail, plain, high, UriState, at_trail, at_octet, uri_from, octet_from, trails_from}
+use Rattle.model_scanner.proofs.UriLemmas.{low_turn}
 use Rattle.proof_lexers.proofs.Bridges.{same_digit, same_code, same_uri, same_tag, both}
 use Rattle.proof_lexers.specs.NameEnds.{further}
 use Rattle.proof_lexers.specs.ScalarLaws.{UrisAreRead}

@@ -9,12 +9,12 @@ use Rattle.yaml_tokens.specs.declared.problem.Fault.TheVariants.{At}
 use Rattle.yaml_tokens.specs.declared.problem.Problem.TheVariants as problem
 use Rattle.defs_text.specs.Classes as classes
 use Rattle.defs_text.specs.Classes.{is_document_marker}
-use Rattle.defs_scalar.specs.FlowScalar.{Element, Spelled, elements, followed, put_before, double_quoted_element}
-use Rattle.model_lexers.specs.declared.context.Context.{Context}
-use Rattle.model_lexers.specs.Machine.{Read, past, at_marker}
-use Rattle.model_lexers.specs.Folding.{Folded, nothing, joined}
-use Rattle.model_lexers.specs.Quoted.{Mode, first, gap, inside, closed, quote_of, refused}
-use Rattle.model_lexers.proofs.QuotedLemmas.{after_gap, after_quote, closed_end}
+use Rattle.defs_text.specs.FlowScalar.{Element, Spelled, elements, followed, put_before, double_quoted_element}
+use Rattle.model_scanner.specs.declared.context.Context.{Context}
+use Rattle.model_scanner.specs.Machine.{Read, past, at_marker}
+use Rattle.model_scanner.specs.Folding.{Folded, nothing, joined}
+use Rattle.model_scanner.specs.Quoted.{Mode, first, gap, inside, closed, quote_of, refused}
+use Rattle.model_scanner.proofs.QuotedLemmas.{after_gap, after_quote, closed_end}
 use Rattle.proof_lexers.specs.Buffers.{after_element, after_elements}
 use Rattle.proof_lexers.specs.QuotedScan.{element_of, has_marker, ends_before, IsShallow, by_line, by_tab, IsRead, read, shallow}
 use Rattle.proof_lexers.proofs.Quoted.Turns.{no_marker, off_margin, Ready, in_gap, after_escaped, scan, Begun, begun, marked, begins, Step, steps, is_marked, is_shallow, StepOf, inside_is_gap, may_stand}

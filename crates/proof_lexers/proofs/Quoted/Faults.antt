@@ -8,12 +8,12 @@ use Rattle.yaml_tokens.specs.declared.problem.Fault.TheVariants.{At}
 use Rattle.yaml_tokens.specs.declared.problem.Problem.{Problem}
 use Rattle.yaml_tokens.specs.declared.problem.Problem.TheVariants as problem
 use Rattle.defs_text.specs.Classes as classes
-use Rattle.defs_scalar.specs.FlowScalar.{content, escaped_break, break_further, lookup, escapes, numeric_escapes, hexadecimal, is_character_code, numbered, numeric_escape, escape_by, escape}
-use Rattle.model_lexers.specs.declared.context.Context.{Context}
-use Rattle.model_lexers.specs.Machine.{past}
-use Rattle.model_lexers.specs.Folding.{Folded}
-use Rattle.model_lexers.specs.Quoted.{inside, named, digits_from}
-use Rattle.model_lexers.proofs.QuotedLemmas.{named_code, named_unknown, digit_turn, digit_fails, coded_fails}
+use Rattle.defs_text.specs.FlowScalar.{content, escaped_break, break_further, lookup, escapes, numeric_escapes, hexadecimal, is_character_code, numbered, numeric_escape, escape_by, escape}
+use Rattle.model_scanner.specs.declared.context.Context.{Context}
+use Rattle.model_scanner.specs.Machine.{past}
+use Rattle.model_scanner.specs.Folding.{Folded}
+use Rattle.model_scanner.specs.Quoted.{inside, named, digits_from}
+use Rattle.model_scanner.proofs.QuotedLemmas.{named_code, named_unknown, digit_turn, digit_fails, coded_fails}
 use Rattle.proof_lexers.specs.QuotedEnds.{number_at, IsBadEscape, ends, unknown, no_digit, no_character}
 use Rattle.proof_lexers.proofs.Bridges.{same_break, same_digit, same_code, same_escape}
 use Rattle.proof_lexers.proofs.Quoted.Turns.{scan, spelled}

@@ -5,12 +5,12 @@ use Rattle.std.proofs.lemmas.Bool.{ne_eqb, le-ltb}
 use Rattle.defs_text.specs.Position.{Position}
 use Rattle.yaml_chars.specs.Class.{is_break, is_blank, is_hex}
 use Rattle.yaml_tokens.specs.declared.problem.Fault.{Fault}
-use Rattle.model_lexers.specs.declared.context.Context.{Context}
-use Rattle.model_lexers.specs.Machine.{Read, past, at_marker}
-use Rattle.model_lexers.specs.Folding.{Folded, nothing}
-use Rattle.model_lexers.specs.Quoted.{QuotedState, inside, gap, quote_of, quoted, quoted_from, digits_from, refused, escape_of, is_scalar}
-use Rattle.model_lexers.specs.Quoted
-use Rattle.model_lexers.proofs.QuotedLemmas.{digit_turn, closed_end, coded}
+use Rattle.model_scanner.specs.declared.context.Context.{Context}
+use Rattle.model_scanner.specs.Machine.{Read, past, at_marker}
+use Rattle.model_scanner.specs.Folding.{Folded, nothing}
+use Rattle.model_scanner.specs.Quoted.{QuotedState, inside, gap, quote_of, quoted, quoted_from, digits_from, refused, escape_of, is_scalar}
+use Rattle.model_scanner.specs.Quoted
+use Rattle.model_scanner.proofs.QuotedLemmas.{digit_turn, closed_end, coded}
 use Rattle.proof_lexers.specs.HeaderEnds.{along}
 use Rattle.proof_lexers.proofs.Along.{along_append, along_more}
 

@@ -3,7 +3,7 @@ use Rattle.std.proofs.Common.{◌≡◌, ℕ, zero, suc, List, [], ◌∷◌, �
 use Rattle.std.proofs.lemmas.Bool.{eqb-true}
 use Rattle.std.proofs.lemmas.List.{take_at}
 use Rattle.defs_text.specs.Classes as classes
-use Rattle.defs_scalar.specs.FlowScalar.{content, line_break, escaped_break, Spelled, break_further, plain_element, single_quoted_element, double_quoted_element, begins_with, lookup, escapes, numeric_escapes, hexadecimal, is_character_code, numbered, numeric_escape, escape_by, escape, elements}
+use Rattle.defs_text.specs.FlowScalar.{content, line_break, escaped_break, Spelled, break_further, plain_element, single_quoted_element, double_quoted_element, begins_with, lookup, escapes, numeric_escapes, hexadecimal, is_character_code, numbered, numeric_escape, escape_by, escape, elements}
 use Rattle.proof_lexers.specs.QuotedScan.{element_of}
 use Rattle.proof_lexers.proofs.Quoted.Turns.{spelled}
 

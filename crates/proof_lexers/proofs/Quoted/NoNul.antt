@@ -5,10 +5,10 @@ use Rattle.std.proofs.lemmas.Bool.{and_parts, not-true, le-ltb}
 use Rattle.defs_text.specs.Position.{Position}
 use Rattle.defs_text.specs.Classes as classes
 use Rattle.defs_text.specs.Classes.{is_document_marker}
-use Rattle.defs_scalar.specs.FlowScalar.{Element, Spelled, elements, followed, put_before, begins_with_marker, has_document_marker}
-use Rattle.model_lexers.specs.declared.context.Context.{Context}
-use Rattle.model_lexers.specs.Folding.{nothing}
-use Rattle.model_lexers.specs.Quoted.{quote_of}
+use Rattle.defs_text.specs.FlowScalar.{Element, Spelled, elements, followed, put_before, begins_with_marker, has_document_marker}
+use Rattle.model_scanner.specs.declared.context.Context.{Context}
+use Rattle.model_scanner.specs.Folding.{nothing}
+use Rattle.model_scanner.specs.Quoted.{quote_of}
 use Rattle.proof_lexers.proofs.Bridges.{and_false, or_false}
 use Rattle.proof_lexers.specs.QuotedScan.{element_of, is_some, has_marker, by_line, by_tab}
 use Rattle.proof_lexers.proofs.Quoted.Turns.{no_marker, Step, steps, is_marked, is_shallow, StepOf}

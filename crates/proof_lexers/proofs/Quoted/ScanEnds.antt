@@ -6,12 +6,12 @@ use Rattle.yaml_tokens.specs.declared.problem.Fault.{Fault}
 use Rattle.yaml_tokens.specs.declared.problem.Fault.TheVariants.{At}
 use Rattle.yaml_tokens.specs.declared.problem.Problem.TheVariants as problem
 use Rattle.defs_text.specs.Classes.{is_document_marker}
-use Rattle.defs_scalar.specs.FlowScalar.{escape}
-use Rattle.model_lexers.specs.declared.context.Context.{Context}
-use Rattle.model_lexers.specs.Machine.{Read, past}
-use Rattle.model_lexers.specs.Folding.{Folded, nothing, joined}
-use Rattle.model_lexers.specs.Quoted.{Mode, first, gap, quote_of, quoted}
-use Rattle.model_lexers.proofs.QuotedLemmas.{after_gap}
+use Rattle.defs_text.specs.FlowScalar.{escape}
+use Rattle.model_scanner.specs.declared.context.Context.{Context}
+use Rattle.model_scanner.specs.Machine.{Read, past}
+use Rattle.model_scanner.specs.Folding.{Folded, nothing, joined}
+use Rattle.model_scanner.specs.Quoted.{Mode, first, gap, quote_of, quoted}
+use Rattle.model_scanner.proofs.QuotedLemmas.{after_gap}
 use Rattle.proof_lexers.specs.Buffers.{after_elements}
 use Rattle.proof_lexers.specs.QuotedScan.{value_of, has_marker, ends_before, IsShallow, by_line, IsRead, read, shallow}
 use Rattle.proof_lexers.specs.QuotedScan as scans

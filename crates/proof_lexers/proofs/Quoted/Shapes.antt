@@ -4,8 +4,8 @@ use Rattle.std.specs.List.{list_all}
 use Rattle.std.proofs.lemmas.Bool.{and_parts, eqb-true, not-true}
 use Rattle.std.proofs.lemmas.List.{take-append-drop}
 use Rattle.defs_text.specs.Classes as classes
-use Rattle.defs_scalar.specs.FlowScalar.{content, blank, line_break, Spelled, begins_with, break_further, plain_element, single_quoted_element, double_quoted_element, escape, elements}
-use Rattle.model_lexers.specs.Quoted.{quote_of}
+use Rattle.defs_text.specs.FlowScalar.{content, blank, line_break, Spelled, begins_with, break_further, plain_element, single_quoted_element, double_quoted_element, escape, elements}
+use Rattle.model_scanner.specs.Quoted.{quote_of}
 use Rattle.proof_lexers.specs.QuotedScan.{element_of, ends_before, is_some}
 use Rattle.proof_lexers.specs.QuotedEnds.{HasElements}
 use Rattle.proof_lexers.proofs.Quoted.Turns.{spelled}

@@ -10,11 +10,11 @@ use Rattle.yaml_tokens.specs.declared.problem.Fault.TheVariants.{At}
 use Rattle.yaml_tokens.specs.declared.problem.Problem.TheVariants as problem
 use Rattle.defs_text.specs.Classes as classes
 use Rattle.defs_text.specs.Classes.{is_document_marker}
-use Rattle.defs_scalar.specs.FlowScalar.{Element, content, blank, line_break, Spelled, break_further, plain_element}
-use Rattle.model_lexers.specs.declared.context.Context.{Context}
-use Rattle.model_lexers.specs.Machine.{Read, past, past_break, at_marker}
-use Rattle.model_lexers.specs.Folding.{Folded, with_char, joined}
-use Rattle.model_lexers.specs.Quoted.{Mode, inside, gap, after, quoted_from, quote_of, refused}
+use Rattle.defs_text.specs.FlowScalar.{Element, content, blank, line_break, Spelled, break_further, plain_element}
+use Rattle.model_scanner.specs.declared.context.Context.{Context}
+use Rattle.model_scanner.specs.Machine.{Read, past, past_break, at_marker}
+use Rattle.model_scanner.specs.Folding.{Folded, with_char, joined}
+use Rattle.model_scanner.specs.Quoted.{Mode, inside, gap, after, quoted_from, quote_of, refused}
 use Rattle.proof_lexers.specs.Buffers.{after_element}
 use Rattle.proof_lexers.specs.QuotedScan.{is_some, has_marker, IsShallow, by_line, by_tab}
 use Rattle.proof_lexers.proofs.Bridges.{same_break, same_blank, same_marker, and_false}

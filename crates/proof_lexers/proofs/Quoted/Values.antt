@@ -2,11 +2,11 @@
 use Rattle.std.proofs.Common.{◌≡◌, ℕ, ◌+◌, List, ◌∷◌, ◌++◌, Bool, true, false, ◌||◌, ◌&&◌, ◌==◌, if◌then◌else◌, Option, Some, None, Result, refl, ◌∙◌}
 use Rattle.defs_text.specs.Position.{Position}
 use Rattle.yaml_tokens.specs.declared.problem.Fault.{Fault}
-use Rattle.defs_scalar.specs.FlowScalar.{Element, elements, folded_elements, has_document_marker, single_quoted_value, double_quoted_value, lines_of, trimmed, folded}
-use Rattle.model_lexers.specs.declared.context.Context.{Context}
-use Rattle.model_lexers.specs.Machine.{Read, past}
-use Rattle.model_lexers.specs.Folding.{nothing, joined}
-use Rattle.model_lexers.specs.Quoted.{first, gap, quote_of, quoted}
+use Rattle.defs_text.specs.FlowScalar.{Element, elements, folded_elements, has_document_marker, single_quoted_value, double_quoted_value, lines_of, trimmed, folded}
+use Rattle.model_scanner.specs.declared.context.Context.{Context}
+use Rattle.model_scanner.specs.Machine.{Read, past}
+use Rattle.model_scanner.specs.Folding.{nothing, joined}
+use Rattle.model_scanner.specs.Quoted.{first, gap, quote_of, quoted}
 use Rattle.proof_lexers.specs.Buffers.{after_elements}
 use Rattle.proof_lexers.specs.QuotedScan.{element_of, value_of, has_marker, ends_before, by_line, by_tab, IsRead, read, shallow}
 use Rattle.proof_lexers.specs.QuotedLaws.{QuotedBodiesAreRead}

@@ -4,7 +4,7 @@ use Rattle.std.proofs.lemmas.Bool.{and_parts}
 use Rattle.defs_text.specs.Position.{Position, position_past, position_after}
 use Rattle.defs_text.specs.Classes.{is_break}
 use Rattle.defs_text.specs.Breaks.{has_no_break}
-use Rattle.model_lexers.specs.Machine.{past}
+use Rattle.model_scanner.specs.Machine.{past}
 use Rattle.proof_lexers.specs.NameEnds.{further}
 use Rattle.proof_lexers.proofs.Plain.Turns.{in_line_position}
 use Rattle.proof_lexers.proofs.Properties.Names.{one_further, none_further}

@@ -11,7 +11,7 @@ use Rattle.yaml_tokens.specs.declared.problem.Problem.TheVariants as problem
 use Rattle.defs_text.specs.Classes as classes
 use Rattle.defs_text.specs.Breaks.{is_before_line_feed}
 use Rattle.defs_token.specs.Separation.{is_separation, is_blanks}
-use Rattle.model_lexers.specs.Machine.{past, past_break, is_cr_lf}
+use Rattle.model_scanner.specs.Machine.{past, past_break, is_cr_lf}
 use Rattle.model_scanner.specs.State.{Held, ScannerState, in_flow, moved}
 use Rattle.model_scanner.specs.Space.{Gap, between, comment, tab_line, is_before_indent, skip}
 use Rattle.proof_lexers.proofs.Bridges.{same_break, same_blank}

@@ -8,9 +8,9 @@ use Rattle.yaml_tokens.specs.declared.problem.Fault.TheVariants.{At}
 use Rattle.yaml_tokens.specs.declared.problem.Problem.TheVariants as problem
 use Rattle.defs_text.specs.Classes as classes
 use Rattle.defs_text.specs.Breaks.{is_before_line_feed}
-use Rattle.defs_scalar.specs.FlowScalar.{begins_with}
+use Rattle.defs_text.specs.FlowScalar.{begins_with}
 use Rattle.defs_token.specs.Separation.{is_separation}
-use Rattle.model_lexers.specs.Machine.{past, past_break, is_cr_lf}
+use Rattle.model_scanner.specs.Machine.{past, past_break, is_cr_lf}
 use Rattle.model_scanner.specs.State.{Held, ScannerState, in_flow, moved}
 use Rattle.model_scanner.specs.Space.{white, white_end}
 use Rattle.proof_lexers.proofs.Bridges.{same_break}

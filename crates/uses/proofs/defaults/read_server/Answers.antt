@@ -4,7 +4,7 @@ use Rattle.std.proofs.Common.{◌≡◌, ℕ, ℤ, List, inl, inr, sym, ap, subs
 use Rattle.std.proofs.Math.Facts.{to_z-of_z}
 use Rattle.std.specs.Prelude.{String, string_bytes, codes, pos}
 use Rattle.std.specs.Str.{chars}
-use Rattle.yaml_json.specs.Fault.{Step}
+use Rattle.yaml_json.specs.Path.{Step}
 use Rattle.yaml_paths.specs.Optional.{IsReadOr}
 use Rattle.yaml_rust2.specs.Text.{string_chars}
 use Rattle.yaml_rust2.specs.Tree.{Tree, integer, string}

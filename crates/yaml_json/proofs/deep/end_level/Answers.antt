@@ -1,5 +1,5 @@
 use Rattle.std.proofs.Common.{◌++◌, refl, ap, subst}
-use Rattle.defs_json.specs.JsonText.{new_line}
+use Rattle.defs_layout.specs.JsonText.{new_line}
 use Rattle.yaml_emitter.proofs.WritingLemmas.{stopped_as, stopped_early, stopped_late, wrote_then}
 use Rattle.yaml_emitter.specs.Writing.{Wrote}
 use Rattle.yaml_json.proofs.PartLemmas.{when_err}

@@ -1,7 +1,7 @@
 use Rattle.std.proofs.Common.{◌≡◌, ◌&&◌, ap, sym, ◌∙◌, arith}
 use Rattle.std.specs.Prelude.{nat_lt}
 use Rattle.std.specs.Str.{chars}
-use Rattle.defs_json.specs.JsonReal.{is_json_real}
+use Rattle.defs_layout.specs.JsonReal.{is_json_real}
 use Rattle.defs_text.specs.Text.{string_chars}
 use Rattle.defs_tree.specs.Tree.{items_of, pairs_of}
 use Rattle.yaml_json.proofs.ShallowLemmas.{next_item, no_items_within, no_pairs_within, nothing_within, only_within, scalar_within}

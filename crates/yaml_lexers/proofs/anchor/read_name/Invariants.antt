@@ -1,7 +1,7 @@
 use Rattle.std.proofs.Common.{◌≡◌}
 use Rattle.yaml_chars.specs.Class.{is_anchor}
-use Rattle.yaml_chars.specs.Reading.{Reads, position_of}
-use Rattle.model_lexers.specs.Machine.{take_while}
+use Rattle.yaml_chars.specs.WindowView.{Reads, position_of}
+use Rattle.model_scanner.specs.Machine.{take_while}
 use Rattle.yaml_lexers.proofs.anchor.read_name.Given as goal
 
 abbrev pub invariant-name : goal.invariant-name

@@ -1,8 +1,8 @@
 use Rattle.std.proofs.Common.{◌≡◌, slice_index, ◌∷◌, ◌∙◌, ap, sym}
-use Rattle.yaml_chars.specs.Reading.{position_of}
-use Rattle.yaml_chars.proofs.ReadingLemmas.{Reads-saw, Reads-then}
-use Rattle.model_lexers.specs.Block.{lines_from, line, begun, with_char, Lines}
-use Rattle.model_lexers.proofs.BlockLemmas.{begin_lines}
+use Rattle.yaml_chars.specs.WindowView.{position_of}
+use Rattle.yaml_chars.proofs.WindowViewLemmas.{Reads-saw, Reads-then}
+use Rattle.model_scanner.specs.BlockScalar.{lines_from, line, begun, with_char, Lines}
+use Rattle.model_scanner.proofs.BlockLemmas.{begin_lines}
 use Rattle.yaml_lexers.specs.ShownBlock.{lines}
 use Rattle.yaml_lexers.proofs.block.read_content.Goals as goal
 

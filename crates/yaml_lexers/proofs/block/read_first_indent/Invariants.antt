@@ -1,6 +1,6 @@
 use Rattle.std.proofs.Common.{◌≡◌}
-use Rattle.yaml_chars.specs.Reading.{Reads, position_of}
-use Rattle.model_lexers.specs.Block.{first_indent}
+use Rattle.yaml_chars.specs.WindowView.{Reads, position_of}
+use Rattle.model_scanner.specs.BlockScalar.{first_indent}
 use Rattle.yaml_lexers.specs.ShownBlock.{lines}
 use Rattle.yaml_lexers.proofs.block.read_first_indent.Given as goal
 

@@ -1,6 +1,6 @@
 use Rattle.std.proofs.Common.{◌≡◌, Bool}
-use Rattle.yaml_chars.specs.Reading.{Reads, position_of}
-use Rattle.model_lexers.specs.Block.{margin, lines_from, indent_from}
+use Rattle.yaml_chars.specs.WindowView.{Reads, position_of}
+use Rattle.model_scanner.specs.BlockScalar.{margin, lines_from, indent_from}
 use Rattle.yaml_lexers.specs.ShownBlock.{at, lines}
 use Rattle.yaml_lexers.proofs.block.read_indent.Given as goal
 

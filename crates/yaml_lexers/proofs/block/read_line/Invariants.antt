@@ -1,6 +1,6 @@
 use Rattle.std.proofs.Common.{◌≡◌, ℕ, Bool}
-use Rattle.yaml_chars.specs.Reading.{Reads}
-use Rattle.model_lexers.specs.Block.{line, lines_from}
+use Rattle.yaml_chars.specs.WindowView.{Reads}
+use Rattle.model_scanner.specs.BlockScalar.{line, lines_from}
 use Rattle.yaml_lexers.specs.ShownBlock.{at}
 use Rattle.yaml_lexers.proofs.block.read_line.Given as goal
 

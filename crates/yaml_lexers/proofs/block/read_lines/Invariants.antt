@@ -1,6 +1,6 @@
 use Rattle.std.proofs.Common.{◌≡◌}
-use Rattle.yaml_chars.specs.Reading.{Reads}
-use Rattle.model_lexers.specs.Block.{margin, lines_from}
+use Rattle.yaml_chars.specs.WindowView.{Reads}
+use Rattle.model_scanner.specs.BlockScalar.{margin, lines_from}
 use Rattle.yaml_lexers.specs.ShownBlock.{at}
 use Rattle.yaml_lexers.proofs.block.read_lines.Given as goal
 

@@ -1,7 +1,7 @@
 use Rattle.std.proofs.Common.{◌∙◌}
 use Rattle.std.proofs.lemmas.Result.{on_ok_weaker}
-use Rattle.yaml_chars.proofs.ReadingLemmas.{Reads-then}
-use Rattle.model_lexers.proofs.RunLemmas.{block_ran}
+use Rattle.yaml_chars.proofs.WindowViewLemmas.{Reads-then}
+use Rattle.model_scanner.proofs.RunLemmas.{block_ran}
 use Rattle.yaml_lexers.proofs.WordsLemmas.{block_words}
 use Rattle.yaml_lexers.proofs.block.read_run.Goals as goal
 

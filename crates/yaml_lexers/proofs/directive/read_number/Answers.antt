@@ -1,4 +1,4 @@
-use Rattle.model_lexers.proofs.DirectiveLemmas.{nine_digits}
+use Rattle.model_scanner.proofs.DirectiveLemmas.{nine_digits}
 use Rattle.yaml_lexers.proofs.directive.read_number.Goals as goal
 
 pub with_digit-value-requires-clause-small : goal.with_digit-value-requires-clause-small

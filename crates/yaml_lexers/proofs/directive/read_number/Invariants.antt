@@ -1,6 +1,6 @@
 use Rattle.std.proofs.Common.{◌≡◌, ◌≤◌, ◌<◌, ◌^◌}
-use Rattle.yaml_chars.specs.Reading.{Reads, position_of}
-use Rattle.model_lexers.specs.Directive.{number, number_from}
+use Rattle.yaml_chars.specs.WindowView.{Reads, position_of}
+use Rattle.model_scanner.specs.Directive.{number, number_from}
 use Rattle.yaml_lexers.proofs.directive.read_number.Given as goal
 
 abbrev pub invariant-digits : goal.invariant-digits

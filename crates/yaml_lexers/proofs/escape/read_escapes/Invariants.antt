@@ -1,5 +1,5 @@
 use Rattle.std.proofs.Common.{◌≤◌}
-use Rattle.model_lexers.specs.Quoted.{inside}
+use Rattle.model_scanner.specs.Quoted.{inside}
 use Rattle.yaml_lexers.specs.ShownQuoted.{GoesOn, Shows}
 use Rattle.yaml_lexers.proofs.escape.read_escapes.Given as goal
 

@@ -1,7 +1,7 @@
 use Rattle.std.proofs.Common.{◌∷◌, ◌∙◌, ap, sym}
-use Rattle.yaml_chars.proofs.ReadingLemmas.{Reads-then}
-use Rattle.model_lexers.specs.Plain.{plain_from, inside}
-use Rattle.model_lexers.proofs.RunLemmas.{plain_run}
+use Rattle.yaml_chars.proofs.WindowViewLemmas.{Reads-then}
+use Rattle.model_scanner.specs.Plain.{plain_from, inside}
+use Rattle.model_scanner.proofs.RunLemmas.{plain_run}
 use Rattle.yaml_lexers.specs.Shown.{at}
 use Rattle.yaml_lexers.proofs.plain.begin_word.Goals as goal
 

@@ -1,7 +1,7 @@
 use Rattle.std.proofs.Common.{◌≡◌}
 use Rattle.defs_text.specs.Position.{Position}
-use Rattle.yaml_chars.specs.Reading.{Reads}
-use Rattle.model_lexers.specs.Plain.{plain_from, inside}
+use Rattle.yaml_chars.specs.WindowView.{Reads}
+use Rattle.model_scanner.specs.Plain.{plain_from, inside}
 use Rattle.yaml_lexers.specs.Shown.{at}
 use Rattle.yaml_lexers.proofs.plain.read_each.Given as goal
 

@@ -1,6 +1,6 @@
 use Rattle.std.proofs.Common.{◌∙◌}
-use Rattle.yaml_chars.proofs.ReadingLemmas.{Reads-then}
-use Rattle.model_lexers.proofs.RunLemmas.{plain_run}
+use Rattle.yaml_chars.proofs.WindowViewLemmas.{Reads-then}
+use Rattle.model_scanner.proofs.RunLemmas.{plain_run}
 use Rattle.yaml_lexers.proofs.plain.read_few.Goals as goal
 
 pub few-preserved : goal.few-preserved

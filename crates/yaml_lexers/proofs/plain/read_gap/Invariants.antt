@@ -1,6 +1,6 @@
 use Rattle.std.proofs.Common.{◌≡◌}
-use Rattle.yaml_chars.specs.Reading.{Reads}
-use Rattle.model_lexers.specs.Plain.{plain_from, between}
+use Rattle.yaml_chars.specs.WindowView.{Reads}
+use Rattle.model_scanner.specs.Plain.{plain_from, between}
 use Rattle.yaml_lexers.specs.Shown.{at}
 use Rattle.yaml_lexers.proofs.plain.read_gap.Given as goal
 

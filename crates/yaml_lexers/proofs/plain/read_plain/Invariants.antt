@@ -1,6 +1,6 @@
 use Rattle.std.proofs.Common.{◌≡◌, ◌<◌}
-use Rattle.yaml_chars.specs.Reading.{Reads, HasChar, position_of}
-use Rattle.model_lexers.specs.Plain.{plain, plain_from, first}
+use Rattle.yaml_chars.specs.WindowView.{Reads, HasChar, position_of}
+use Rattle.model_scanner.specs.Plain.{plain, plain_from, first}
 use Rattle.yaml_lexers.specs.Shown.{at}
 use Rattle.yaml_lexers.proofs.plain.read_plain.Given as goal
 

@@ -1,10 +1,10 @@
 use Rattle.std.proofs.Common.{◌≡◌, ◌≢◌, ◌∙◌, ap, sym, slice_index, false}
 use Rattle.defs_text.specs.Position.{Position}
-use Rattle.yaml_chars.specs.Reading.{Reads, position_of}
-use Rattle.yaml_chars.proofs.ReadingLemmas.{Reads-then, Reads-see}
+use Rattle.yaml_chars.specs.WindowView.{Reads, position_of}
+use Rattle.yaml_chars.proofs.WindowViewLemmas.{Reads-then, Reads-see}
 use Rattle.yaml_chars.specs.Class.{is_blank_or_breakz}
-use Rattle.model_lexers.specs.Plain.{plain_from, can_be_plain, inside}
-use Rattle.model_lexers.proofs.PlainLemmas.{run_end, ends_here}
+use Rattle.model_scanner.specs.Plain.{plain_from, can_be_plain, inside}
+use Rattle.model_scanner.proofs.PlainLemmas.{run_end, ends_here}
 use Rattle.yaml_lexers.specs.Shown.{at, folded}
 use Rattle.yaml_lexers.proofs.PlainLemmas.{runs_out}
 use Rattle.yaml_lexers.proofs.WindowLemmas.{has_kept, is_some, position_kept}

@@ -1,8 +1,8 @@
 use Rattle.std.proofs.Common.{◌≡◌, ◌<◌, true}
-use Rattle.yaml_chars.specs.Reading.{Reads}
-use Rattle.model_lexers.specs.declared.context.Context.{Context}
-use Rattle.model_lexers.specs.Folding.{Folded}
-use Rattle.model_lexers.specs.Plain.{plain_from, between, tabs}
+use Rattle.yaml_chars.specs.WindowView.{Reads}
+use Rattle.model_scanner.specs.declared.context.Context.{Context}
+use Rattle.model_scanner.specs.Folding.{Folded}
+use Rattle.model_scanner.specs.Plain.{plain_from, between, tabs}
 use Rattle.yaml_lexers.specs.Shown.{at_folded}
 use Rattle.yaml_lexers.proofs.plain.skip_tabs.Given as goal
 

@@ -1,9 +1,9 @@
 use Rattle.std.proofs.Common.{◌≡◌, ◌∷◌, ◌+◌, true, ◌∙◌, ap, sym, arith, slice_index}
 use Rattle.yaml_chars.specs.Class.{is_blank}
-use Rattle.yaml_chars.specs.Reading.{Reads}
-use Rattle.yaml_chars.proofs.ReadingLemmas.{Reads-then, Reads-saw}
-use Rattle.model_lexers.specs.Plain.{is_shallow}
-use Rattle.model_lexers.proofs.PlainLemmas.{lone_blank}
+use Rattle.yaml_chars.specs.WindowView.{Reads}
+use Rattle.yaml_chars.proofs.WindowViewLemmas.{Reads-then, Reads-saw}
+use Rattle.model_scanner.specs.Plain.{is_shallow}
+use Rattle.model_scanner.proofs.PlainLemmas.{lone_blank}
 use Rattle.yaml_lexers.proofs.WindowLemmas.{has_kept}
 use Rattle.yaml_lexers.proofs.plain.take_lone_blank.Goals as goal
 

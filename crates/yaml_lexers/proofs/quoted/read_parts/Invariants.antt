@@ -1,5 +1,5 @@
 use Rattle.std.proofs.Common.{◌≤◌}
-use Rattle.model_lexers.specs.Quoted.{first}
+use Rattle.model_scanner.specs.Quoted.{first}
 use Rattle.yaml_lexers.specs.ShownQuoted.{mode_of, GoesOn}
 use Rattle.yaml_lexers.proofs.quoted.read_parts.Given as goal
 

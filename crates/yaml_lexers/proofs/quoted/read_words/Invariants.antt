@@ -1,5 +1,5 @@
 use Rattle.std.proofs.Common.{◌≤◌}
-use Rattle.model_lexers.specs.Quoted.{inside}
+use Rattle.model_scanner.specs.Quoted.{inside}
 use Rattle.yaml_lexers.specs.ShownQuoted.{GoesOn}
 use Rattle.yaml_lexers.proofs.quoted.read_words.Given as goal
 

@@ -1,6 +1,6 @@
 use Rattle.std.proofs.Common.{◌≡◌}
-use Rattle.yaml_chars.specs.Reading.{Reads, position_of}
-use Rattle.model_lexers.specs.Space.{comment}
+use Rattle.yaml_chars.specs.WindowView.{Reads, position_of}
+use Rattle.model_scanner.specs.Blanks.{comment}
 use Rattle.yaml_lexers.proofs.space.pass_rest.Given as goal
 
 abbrev pub invariant-comment : goal.invariant-comment

@@ -1,6 +1,6 @@
 use Rattle.std.proofs.Common.{◌≡◌}
-use Rattle.yaml_chars.specs.Reading.{Reads, position_of}
-use Rattle.model_lexers.specs.Space.{space, space_from}
+use Rattle.yaml_chars.specs.WindowView.{Reads, position_of}
+use Rattle.model_scanner.specs.Blanks.{space, space_from}
 use Rattle.yaml_lexers.proofs.space.skip_spaces.Given as goal
 
 abbrev pub invariant-space : goal.invariant-space

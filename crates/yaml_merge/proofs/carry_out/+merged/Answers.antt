@@ -1,5 +1,5 @@
 use Rattle.std.proofs.Common.{◌++◌, ap, ◌∙◌}
-use Rattle.defs_merge.specs.Merge.{merged_values}
+use Rattle.defs_tree.specs.Merge.{merged_values}
 use Rattle.defs_tree.specs.Pairs.{insert}
 use Rattle.defs_tree.specs.Tree.{pairs_of}
 use Rattle.yaml_tree.specs.View.{view}

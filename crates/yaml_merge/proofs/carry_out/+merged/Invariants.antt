@@ -1,5 +1,5 @@
 use Rattle.std.proofs.Common.{◌+◌, ◌*◌, ◌≤◌, ◌≡◌, ◌++◌}
-use Rattle.defs_merge.specs.Merge.{merged_items, merged_values}
+use Rattle.defs_tree.specs.Merge.{merged_items, merged_values}
 use Rattle.defs_tree.specs.Tree.{items_of, pairs_of}
 use Rattle.yaml_tree.specs.Depth.{depth, items_depth, pairs_depth}
 use Rattle.yaml_tree.specs.View.{view}

@@ -1,6 +1,6 @@
 use Rattle.std.proofs.Common.{◌≡◌, sym, ap, subst}
 use Rattle.std.specs.Prelude.{OnOk}
-use Rattle.defs_merge.specs.Merge.{with_new_pairs}
+use Rattle.defs_tree.specs.Merge.{with_new_pairs}
 use Rattle.yaml_tree.specs.View.{view}
 use Rattle.yaml_merge.proofs.PutLemmas.{mapping_brings}
 use Rattle.yaml_merge.proofs.carry_out.add_brought.Goals as goal

@@ -1,5 +1,5 @@
 use Rattle.std.proofs.Common.{◌∷◌, ap, ◌∙◌}
-use Rattle.defs_merge.specs.Merge.{with_new_pairs, pairs_of_mappings}
+use Rattle.defs_tree.specs.Merge.{with_new_pairs, pairs_of_mappings}
 use Rattle.defs_tree.specs.Tree.{items_of}
 use Rattle.yaml_tree.specs.View.{view}
 use Rattle.yaml_merge.proofs.PutLemmas.{mapping_put, other_left_out}

@@ -1,5 +1,5 @@
 use Rattle.std.proofs.Common.{◌≡◌}
-use Rattle.defs_merge.specs.Merge.{pairs_of_mappings, with_new_pairs}
+use Rattle.defs_tree.specs.Merge.{pairs_of_mappings, with_new_pairs}
 use Rattle.defs_tree.specs.Tree.{items_of}
 use Rattle.yaml_merge.proofs.carry_out.add_mappings.Given as goal
 

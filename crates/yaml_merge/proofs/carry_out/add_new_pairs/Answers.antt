@@ -1,5 +1,5 @@
 use Rattle.std.proofs.Common.{ap, ◌∙◌}
-use Rattle.defs_merge.specs.Merge.{with_new_pairs}
+use Rattle.defs_tree.specs.Merge.{with_new_pairs}
 use Rattle.yaml_merge.proofs.PutLemmas.{pair_put, not_found}
 use Rattle.yaml_merge.proofs.carry_out.add_new_pairs.Goals as goal
 

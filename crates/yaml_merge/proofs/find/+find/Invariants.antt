@@ -1,5 +1,5 @@
 use Rattle.std.proofs.Common.{◌≡◌, ◌+◌, ◌*◌, ◌≤◌, drop, length}
-use Rattle.defs_merge.specs.Fault.{first_item_fault, first_pair_fault}
+use Rattle.defs_tree.specs.MergeFault.{first_item_fault, first_pair_fault}
 use Rattle.defs_tree.specs.Tree.{items_of, pairs_of}
 use Rattle.yaml_merge.specs.Found.{wanted_view}
 use Rattle.yaml_tree.specs.Depth.{depth, items_depth, pairs_depth}

@@ -1,6 +1,6 @@
 use Rattle.std.proofs.Common.{sym, ap, ◌∙◌}
 use Rattle.std.specs.Prelude.{bytes_eq, codes}
-use Rattle.defs_merge.specs.Merge.{merge_key}
+use Rattle.defs_tree.specs.Merge.{merge_key}
 use Rattle.defs_tree.specs.Order.{tree_eq}
 use Rattle.yaml_tree.specs.View.{view}
 use Rattle.yaml_merge.proofs.MergeKey.{is_the_key}

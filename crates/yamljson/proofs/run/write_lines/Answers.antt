@@ -1,6 +1,6 @@
 use Rattle.std.proofs.Common.{subst}
 use Rattle.std.proofs.lemmas.List.{take_all}
-use Rattle.defs_json.specs.HasJson.{HasJson}
+use Rattle.defs_layout.specs.HasJson.{HasJson}
 use Rattle.yaml_tree.specs.View.{view}
 use Rattle.yamljson.specs.Printed.{HaveJson}
 use Rattle.yamljson.proofs.Printing.{written_more}

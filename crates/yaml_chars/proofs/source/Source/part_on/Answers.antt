@@ -2,9 +2,9 @@ use Rattle.std.proofs.Common.{false, ◌≡◌, ◌==◌, ◌++◌, take, drop, 
 use Rattle.std.proofs.lemmas.List.{drop-append-le}
 use Rattle.std.specs.Prelude.{chars, slice_index}
 use Rattle.std.specs.Str.{IsCharBoundary}
-use Rattle.yaml_chars.specs.Pairs.{begin, Ends}
+use Rattle.yaml_chars.specs.BlockLines.{begin, Ends}
 use Rattle.yaml_chars.specs.Source.{IterStands}
-use Rattle.yaml_chars.proofs.PairsLemmas.{plain_part, plain_front, text_part, boundary_front, chars_front}
+use Rattle.yaml_chars.proofs.BlockLineLemmas.{plain_part, plain_front, text_part, boundary_front, chars_front}
 use Rattle.yaml_chars.proofs.WordsLemmas.{Stands-on, front_range, true_is_not_false}
 use Rattle.yaml_chars.proofs.source.Source.part_on.Goals as goal
 

@@ -1,5 +1,5 @@
 use Rattle.std.proofs.Common.{refl, arith}
-use Rattle.yaml_chars.proofs.ReadingLemmas.{Possible-pulls, left-pulls, Fills-more}
+use Rattle.yaml_chars.proofs.WindowViewLemmas.{Possible-pulls, left-pulls, Fills-more}
 use Rattle.yaml_chars.proofs.window.Window.fill_one.Goals as goal
 
 pub invariant_of-self : goal.invariant_of-self

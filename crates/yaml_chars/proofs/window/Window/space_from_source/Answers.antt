@@ -1,5 +1,5 @@
 use Rattle.std.proofs.Common.{refl, arith, sym, ◌∙◌}
-use Rattle.yaml_chars.proofs.ReadingLemmas.{Possible-pulls, left-pulls, left-taken, front-pulls, next-pulls}
+use Rattle.yaml_chars.proofs.WindowViewLemmas.{Possible-pulls, left-pulls, left-taken, front-pulls, next-pulls}
 use Rattle.yaml_chars.proofs.window.Window.space_from_source.Goals as goal
 
 pub returns-then-c-ne32-clause-stays : goal.returns-then-c-ne32-clause-stays

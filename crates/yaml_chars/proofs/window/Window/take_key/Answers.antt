@@ -1,5 +1,5 @@
 use Rattle.std.proofs.Common.{sym}
-use Rattle.yaml_chars.proofs.PairsLemmas.{Fills-key, takes_key}
+use Rattle.yaml_chars.proofs.BlockLineLemmas.{Fills-key, takes_key}
 use Rattle.yaml_chars.proofs.window.Window.take_key.Goals as goal
 
 pub invariant_of-self-2 : goal.invariant_of-self-2

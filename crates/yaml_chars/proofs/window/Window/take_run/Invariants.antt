@@ -1,5 +1,5 @@
 use Rattle.std.proofs.Common.{◌≡◌}
-use Rattle.yaml_chars.specs.Reading.{Reads, position_of}
+use Rattle.yaml_chars.specs.WindowView.{Reads, position_of}
 use Rattle.yaml_chars.specs.Run.{ran}
 use Rattle.yaml_chars.proofs.window.Window.take_run.Given as goal
 

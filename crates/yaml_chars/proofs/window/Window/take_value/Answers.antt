@@ -1,5 +1,5 @@
 use Rattle.std.proofs.Common.{[], ◌∷◌}
-use Rattle.yaml_chars.proofs.PairsLemmas.{Fills-line, takes_line, value_stands}
+use Rattle.yaml_chars.proofs.BlockLineLemmas.{Fills-line, takes_line, value_stands}
 use Rattle.yaml_chars.proofs.window.Window.take_value.Goals as goal
 
 pub invariant_of-self-2 : goal.invariant_of-self-2

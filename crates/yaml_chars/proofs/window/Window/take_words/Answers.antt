@@ -1,7 +1,7 @@
 use Rattle.std.specs.Prelude.{Bool, Result, Ok, Err, OnOk}
-use Rattle.yaml_chars.specs.Reading.{Reads, position_of}
+use Rattle.yaml_chars.specs.WindowView.{Reads, position_of}
 use Rattle.yaml_chars.specs.Words.{TakesWords}
-use Rattle.yaml_chars.proofs.ReadingLemmas.{Reads-then}
+use Rattle.yaml_chars.proofs.WindowViewLemmas.{Reads-then}
 use Rattle.yaml_chars.proofs.WordsLemmas.{takes_then, takes_one}
 use Rattle.yaml_chars.proofs.window.Window.take_words.Goals as goal
 

@@ -1,4 +1,4 @@
-use Rattle.yaml_chars.specs.Reading.{Reads, position_of}
+use Rattle.yaml_chars.specs.WindowView.{Reads, position_of}
 use Rattle.yaml_chars.specs.Words.{TakesWords}
 use Rattle.yaml_chars.proofs.window.Window.take_words.Given as goal
 

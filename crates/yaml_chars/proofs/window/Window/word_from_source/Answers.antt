@@ -1,4 +1,4 @@
-use Rattle.yaml_chars.proofs.ReadingLemmas.{Reads-then}
+use Rattle.yaml_chars.proofs.WindowViewLemmas.{Reads-then}
 use Rattle.yaml_chars.proofs.RunLemmas.{Fills-over, Reads-over, Ran-over}
 use Rattle.yaml_chars.proofs.window.Window.word_from_source.Goals as goal
 

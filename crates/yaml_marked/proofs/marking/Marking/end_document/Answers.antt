@@ -1,7 +1,7 @@
 use Rattle.std.proofs.Common.{◌≡◌, [], ◌∷◌, ◌++◌, sym, ◌∙◌, subst}
 use Rattle.std.specs.Prelude.{unwrap_or}
 use Rattle.defs_event.specs.Event.{Ev}
-use Rattle.defs_marked.specs.Marking as defs
+use Rattle.defs_event.specs.Marking as defs
 use Rattle.yaml_marked.specs.Leaf.{leaf_mark}
 use Rattle.yaml_marked.specs.Standing.{Holds}
 use Rattle.yaml_marked.proofs.Steps.{document_holds}

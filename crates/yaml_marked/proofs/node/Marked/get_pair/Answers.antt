@@ -1,6 +1,6 @@
 use Rattle.std.proofs.Common.{cond, sym, ap, ◌∙◌}
 use Rattle.std.specs.Prelude.{Some, chars, option_and_then}
-use Rattle.defs_marked.specs.Marks.{pair_with}
+use Rattle.defs_event.specs.Marks.{pair_with}
 use Rattle.defs_tree.specs.Tree.{string}
 use Rattle.yaml_marked.specs.Node.{pair_of}
 use Rattle.yaml_marked.specs.Parts.{pairs_left}

@@ -1,5 +1,5 @@
 use Rattle.std.proofs.Common.{◌≡◌, chars}
-use Rattle.defs_marked.specs.Marks.{pair_with, pair_at_text}
+use Rattle.defs_event.specs.Marks.{pair_with, pair_at_text}
 use Rattle.defs_tree.specs.Tree.{string}
 use Rattle.yaml_marked.specs.Node.{tree_of, marks_of}
 use Rattle.yaml_marked.specs.Parts.{pairs_left}

@@ -1,6 +1,6 @@
 use Rattle.std.proofs.Common.{ap, ◌∙◌}
 use Rattle.std.specs.Prelude.{Some}
-use Rattle.defs_marked.specs.Marks.{pairs_beside}
+use Rattle.defs_event.specs.Marks.{pairs_beside}
 use Rattle.yaml_marked.specs.Table.{pairs_shown}
 use Rattle.yaml_marked.proofs.Seen.{pairs_are}
 use Rattle.yaml_tree.specs.View.{view}

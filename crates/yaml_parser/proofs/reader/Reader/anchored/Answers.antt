@@ -20,4 +20,4 @@ pub returns-in-Ok-clause-answers : goal.returns-in-Ok-clause-answers
 returns-in-Ok-clause-answers g c = λ names given h. let l = looked _ _ c.requires in let k = looked _ _ c.in_ok-next.ensures.peeked in let a = (c.in_ok-next.ensures.at (at.after_anchor c.args.context (string_chars c.take_name-name.result)) refl names given (anchor_taken l.1 (taken_with c.take_name-name.ensures.skips l.1) refl refl (anchor_text l.2 (if_some_at (λ t. (tok_of t.1 ≡ Tok.alias (string_chars c.take_name-name.result)) ⊎ (tok_of t.1 ≡ Tok.anchor (string_chars c.take_name-name.result))) c.take_name-name.ensures.name l.1)) h)) in let known = c.in-Ok.ensures names a.code in c.content_after.ensures.answers (Some (written.anchored_tagged (string_chars c.take_name-name.result) (record { handle = string_chars c.take_tag-handle.result.0; suffix = string_chars c.take_tag-handle.result.1 }))) names given (record { both = refl; anchor = refl; tag = ap (option_map Some) known }) (tag_after_anchor k.1 (taken_with c.take_tag-handle.ensures.skips k.1) refl refl (if_some_at (λ t. tok_of t.1 ≡ written.tag_token (record { handle = string_chars c.take_tag-handle.result.0; suffix = string_chars c.take_tag-handle.result.1 })) c.take_tag-handle.ensures.texts k.1) known a)
 
 pub returns-in_default-clause-answers : goal.returns-in_default-clause-answers
-returns-in_default-clause-answers g c = λ names given h. let l = looked _ _ c.requires in c.content.ensures.answers (Some (written.anchored (string_chars c.take_name-name.result))) names given (record { both = refl; anchor = refl; tag = refl }) (stays c.in_ok-next.ensures.peeked stay (λ t e. turn.anchor_alone _ _ _ t (not_as c.in_default.not-Tag e)) refl refl refl (c.in_ok-next.ensures.at (at.after_anchor c.args.context (string_chars c.take_name-name.result)) refl names given (anchor_taken l.1 (taken_with c.take_name-name.ensures.skips l.1) refl refl (anchor_text l.2 (if_some_at (λ t. (tok_of t.1 ≡ Tok.alias (string_chars c.take_name-name.result)) ⊎ (tok_of t.1 ≡ Tok.anchor (string_chars c.take_name-name.result))) c.take_name-name.ensures.name l.1)) h)))
+returns-in_default-clause-answers g c = λ names given h. let l = looked _ _ c.requires in c.content.ensures.answers (Some (written.anchored (string_chars c.take_name-name.result))) names given (record { both = refl; anchor = refl; tag = refl }) (stays c.in_ok-next.ensures.peeked stay (λ t e. turn.anchor_alone _ _ _ t (not_as c.in_default.not-Tag e)) refl refl (λ o. tt) refl (c.in_ok-next.ensures.at (at.after_anchor c.args.context (string_chars c.take_name-name.result)) refl names given (anchor_taken l.1 (taken_with c.take_name-name.ensures.skips l.1) refl refl (anchor_text l.2 (if_some_at (λ t. (tok_of t.1 ≡ Tok.alias (string_chars c.take_name-name.result)) ⊎ (tok_of t.1 ≡ Tok.anchor (string_chars c.take_name-name.result))) c.take_name-name.ensures.name l.1)) h)))

@@ -12,4 +12,4 @@ pub returns-in-BlockMappingStart-clause-answers : goal.returns-in-BlockMappingSt
 returns-in-BlockMappingStart-clause-answers g c = λ o names given has h. c.block_mapping.ensures.answers o names given has h
 
 pub returns-in_default-clause-answers : goal.returns-in_default-clause-answers
-returns-in_default-clause-answers g c = λ o names given has h. c.flow_content.ensures.answers o names given has (stays c.requires stay (λ t e. turn.block_flow _ o t (not_as c.in_default.not-BlockSequenceStart e) (not_as c.in_default.not-BlockMappingStart e)) refl (pending_same context.Block context.Flow names o h.pending) (breaks_none context.Block context.Flow o) h)
+returns-in_default-clause-answers g c = λ o names given has h. c.flow_content.ensures.answers o names given has (stays c.requires stay (λ t e. turn.block_flow _ o t (not_as c.in_default.not-BlockSequenceStart e) (not_as c.in_default.not-BlockMappingStart e)) refl (pending_same context.Block context.Flow names o h.pending) (λ o. tt) (breaks_none context.Block context.Flow o) h)

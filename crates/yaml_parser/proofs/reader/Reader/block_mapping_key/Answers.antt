@@ -1,7 +1,7 @@
 use Rattle.std.proofs.Common.{refl}
 use Rattle.model_parser.specs.Goal as at
 use Rattle.model_parser.proofs.Block as turn
-use Rattle.yaml_parser.proofs.Arms.{gives, stays, plain, stay, push_after, answers_written, answers_err, not_as}
+use Rattle.yaml_parser.proofs.Arms.{gives, stays, stay, push_after, answers_written, answers_err, not_as, names_nothing}
 use Rattle.yaml_parser.proofs.Pairs.{key_taken, answers_plain, at_same, if_none}
 use Rattle.yaml_parser.proofs.Steps.{if_some_at}
 use Rattle.yaml_parser.specs.Ahead.{TakesBoth}
@@ -18,7 +18,7 @@ pub returns-in_err-next-clause-answers : goal.returns-in_err-next-clause-answers
 returns-in_err-next-clause-answers g c = λ names given h. answers_err c.peek.new.self given c.from_residual-in_err-next.result _ c.peek.new.slot c.from_residual-in_err-next.ensures.1 (c.in_err-next.ensures.err at.pairs refl names given (at_same (if_none c.in_ok-key.ensures.none c.in_default.is) h))
 
 pub returns-in_ok-push-in-Value-2-clause-answers : goal.returns-in_ok-push-in-Value-2-clause-answers
-returns-in_ok-push-in-Value-2-clause-answers g c = λ names given h. answers_written _ given c.nothing_written.new.slot.next c.nothing_written.ensures (gives _ c.in_ok-next.ensures.peeked c.in-Value.is refl (push_after (push_after c.skip-mark.ensures.took c.in_ok-push-in-Value.ensures.stayed) c.in_ok-push-in-Value-2.ensures.stayed) (turn.pairs_value _) (plain refl refl refl refl) refl refl (c.in_ok-next.ensures.at at.pairs refl names given (at_same (if_none c.in_ok-key.ensures.none c.in_default.is) h)))
+returns-in_ok-push-in-Value-2-clause-answers g c = λ names given h. answers_written _ given c.nothing_written.new.slot.next c.nothing_written.ensures (gives _ c.in_ok-next.ensures.peeked c.in-Value.is refl c.skip-mark.ensures.mark (push_after (push_after c.skip-mark.ensures.took c.in_ok-push-in-Value.ensures.stayed) c.in_ok-push-in-Value-2.ensures.stayed) (turn.pairs_value _) (names_nothing refl refl refl) (λ b k. refl) (λ o. tt) refl refl (c.in_ok-next.ensures.at at.pairs refl names given (at_same (if_none c.in_ok-key.ensures.none c.in_default.is) h)))
 
 pub returns-in_default-next-clause-answers : goal.returns-in_default-next-clause-answers
-returns-in_default-next-clause-answers g c = λ names given h. c.block_mapping_pair.ensures.answers names given (stays c.in_ok-next.ensures.peeked stay (λ t e. turn.pairs_key _ t (not_as c.in_default-next.not-Value e)) refl tt refl (c.in_ok-next.ensures.at at.pairs refl names given (at_same (if_none c.in_ok-key.ensures.none c.in_default.is) h)))
+returns-in_default-next-clause-answers g c = λ names given h. c.block_mapping_pair.ensures.answers names given (stays c.in_ok-next.ensures.peeked stay (λ t e. turn.pairs_key _ t (not_as c.in_default-next.not-Value e)) refl tt (λ o. tt) refl (c.in_ok-next.ensures.at at.pairs refl names given (at_same (if_none c.in_ok-key.ensures.none c.in_default.is) h)))

@@ -16,7 +16,7 @@ returns-in_err-next-clause-answers g c = λ names given h. answers_err c.directi
 pub returns-in_ok-push-in-DocumentStart-clause-answers : goal.returns-in_ok-push-in-DocumentStart-clause-answers
 returns-in_ok-push-in-DocumentStart-clause-answers g c = λ names given h.
     let d = c.in_ok-next.ensures.at names given (directives_begin c.args.kind c.requires.looks c.requires.directive refl refl c.start_document.ensures.keep c.start_document.ensures.named c.start_document.ensures.own h) in
-    wrote _ given c.write.ensures (directed_begins _ c.in_ok-next.ensures.peeked.0 c.in-DocumentStart.is (push_after c.skip-mark.ensures.took c.in_ok-push-in-DocumentStart.ensures.stayed) d.1)
+    wrote _ given c.write.ensures (directed_begins _ c.in_ok-next.ensures.peeked.0 c.in-DocumentStart.is c.skip-mark.ensures.mark (push_after c.skip-mark.ensures.took c.in_ok-push-in-DocumentStart.ensures.stayed) d.1)
 
 pub returns-in_default-clause-answers : goal.returns-in_default-clause-answers
 returns-in_default-clause-answers g c = λ names given h.

@@ -14,14 +14,14 @@ returns-in_err-version-in-VersionDirective-clause-err g c = on_err _ c.from_resi
 
 pub directives-preserved-in-VersionDirective : goal.directives-preserved-in-VersionDirective
 directives-preserved-in-VersionDirective g c = record {
-  work = omega (arith, c.in_ok-version-in-VersionDirective.ensures.moves.bound, c.in_ok-next.ensures.moves.bound, c.directives.invariant.work);
+  work = omega (arith, c.in_ok-version-in-VersionDirective.ensures.bounds.bound, c.in_ok-next.ensures.bounds.bound, c.directives.invariant.work);
   input = record { keeping = cc; start = cc };
   at = λ names given h. c.in_ok-version-in-VersionDirective.ensures.directs names given (directing_on c.in_ok-next.ensures.at c.in_ok-next.ensures.names c.in_ok-next.ensures.taken (c.directives.invariant.at names given h));
 }
 
 pub directives-preserved : goal.directives-preserved
 directives-preserved g c = record {
-  work = omega (arith, c.in_ok-tag_directive-in-TagDirective.ensures.moves.bound, c.in_ok-next.ensures.moves.bound, c.directives.invariant.work);
+  work = omega (arith, c.in_ok-tag_directive-in-TagDirective.ensures.bounds.bound, c.in_ok-next.ensures.bounds.bound, c.directives.invariant.work);
   input = record { keeping = cc; start = cc };
   at = λ names given h. c.in_ok-tag_directive-in-TagDirective.ensures.directs c.directives.versioned names given (directing_on c.in_ok-next.ensures.at c.in_ok-next.ensures.names c.in_ok-next.ensures.taken (c.directives.invariant.at names given h));
 }
@@ -33,7 +33,7 @@ returns-in_err-tag_directive-in-TagDirective-clause-err g c = on_err _ c.from_re
 pub returns-in_default : goal.returns-in_default
 returns-in_default g c = record {
   peeked = (c.in_ok-next.ensures.peeked, c.in_default.not-VersionDirective, c.in_default.not-TagDirective);
-  moves = record { input = record { keeping = cc; start = cc }; bound = omega (arith, c.in_ok-next.ensures.moves.bound, c.directives.invariant.work) };
+  bounds = record { input = record { keeping = cc; start = cc }; bound = omega (arith, c.in_ok-next.ensures.bounds.bound, c.directives.invariant.work) };
   at = λ names given h. let d = c.directives.invariant.at names given h in (d.read, c.in_ok-next.ensures.at (at.directed d.read) refl names given d.here);
   err = tt;
 }

@@ -14,7 +14,7 @@ pub returns-in-StreamEnd-clause-answers : goal.returns-in-StreamEnd-clause-answe
 returns-in-StreamEnd-clause-answers g c = λ names given h.
     c.end_or_document.ensures.answers names given (stays c.in_ok-next.ensures.peeked.0 stay
     (λ t e. turn.documents_explicit _ t (as_kind ends_document (either (λ k. ends_document k ≡ true) refl refl c.in-StreamEnd.is) e) (not_as c.in_ok-next.ensures.peeked.1 e) (as_kind (begins_node context.Block) (either (λ k. begins_node context.Block k ≡ false) refl refl c.in-StreamEnd.is) e))
-    refl tt refl (c.in_ok-next.ensures.at names given h))
+    refl tt (λ o. tt) refl (c.in_ok-next.ensures.at names given h))
 
 pub returns-in-VersionDirective-clause-answers : goal.returns-in-VersionDirective-clause-answers
 returns-in-VersionDirective-clause-answers g c = λ names given h. c.directed_document.ensures.answers names given (c.in_ok-next.ensures.at names given h)
@@ -22,7 +22,7 @@ returns-in-VersionDirective-clause-answers g c = λ names given h. c.directed_do
 pub returns-in_ok-push-in_default-2-clause-answers : goal.returns-in_ok-push-in_default-2-clause-answers
 returns-in_ok-push-in_default-2-clause-answers g c = λ names given h.
     let a = c.in_ok-next.ensures.at names given h in
-    wrote _ given c.write.ensures (bare_begins _ c.in_ok-next.ensures.peeked.0
+    wrote _ given c.write.ensures (bare_begins _ c.in_ok-next.ensures.peeked.0 c.mark.ensures
     (λ t e. turn.documents_bare _ t
     (as_kind ends_document (first.not_document _ c.in_default.not-DocumentStart c.in_ok-next.ensures.peeked.1 c.in_default.not-StreamEnd) e)
     (as_kind is_directive (not_directive _ c.in_default.not-VersionDirective c.in_default.not-TagDirective) e))

@@ -11,11 +11,11 @@ use Rattle.yaml_parser.proofs.DocumentArms.{explicit_begins, stream_ends}
 use Rattle.yaml_parser.proofs.reader.Reader.end_or_document.Goals as goal
 
 pub returns-in-StreamEnd-clause-answers : goal.returns-in-StreamEnd-clause-answers
-returns-in-StreamEnd-clause-answers g c = λ names given h. wrote _ given c.write.ensures (stream_ends _ c.requires c.in-StreamEnd.is c.skip.ensures.took h)
+returns-in-StreamEnd-clause-answers g c = λ names given h. wrote _ given c.write.ensures (stream_ends _ c.requires c.in-StreamEnd.is c.skip.ensures.mark c.skip.ensures.took h)
 
 pub returns-in_ok-push-in-DocumentStart-clause-answers : goal.returns-in_ok-push-in-DocumentStart-clause-answers
 returns-in_ok-push-in-DocumentStart-clause-answers g c = λ names given h.
-    wrote _ given c.write-in-DocumentStart.ensures (explicit_begins _ c.requires c.in-DocumentStart.is refl refl c.start_document.ensures.keep c.start_document.ensures.named (push_after c.skip-mark.ensures.took c.in_ok-push-in-DocumentStart.ensures.stayed) h)
+    wrote _ given c.write-in-DocumentStart.ensures (explicit_begins _ c.requires c.in-DocumentStart.is c.skip-mark.ensures.mark refl refl c.start_document.ensures.keep c.start_document.ensures.named (push_after c.skip-mark.ensures.took c.in_ok-push-in-DocumentStart.ensures.stayed) h)
 
 pub returns-in_default-clause-answers : goal.returns-in_default-clause-answers
 returns-in_default-clause-answers g c = λ names given h.

@@ -7,4 +7,4 @@ pub returns-in-Key-clause-answers : goal.returns-in-Key-clause-answers
 returns-in-Key-clause-answers g c = λ names given h. c.flow_pair.ensures.answers names given h
 
 pub returns-in_ok-push-in_default-clause-answers : goal.returns-in_ok-push-in_default-clause-answers
-returns-in_ok-push-in_default-clause-answers g c = λ names given h. c.node.ensures.answers names given (stays c.requires (stay_push stay c.in_ok-push-in_default.ensures.stayed) (λ t e. turn.item_node _ t (not_as c.in_default.not-Key e)) refl tt refl h)
+returns-in_ok-push-in_default-clause-answers g c = λ names given h. c.node.ensures.answers names given (stays c.requires (stay_push stay c.in_ok-push-in_default.ensures.stayed) (λ t e. turn.item_node _ t (not_as c.in_default.not-Key e)) refl tt (λ o. tt) refl h)

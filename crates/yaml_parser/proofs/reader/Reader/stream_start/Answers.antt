@@ -1,7 +1,7 @@
 use Rattle.std.proofs.Common.{refl, ap, false}
 use Rattle.model_parser.specs.Goal as at
 use Rattle.model_parser.proofs.Document as turn
-use Rattle.yaml_parser.proofs.Arms.{gives, plain, push_after, answers_err, not_as, wrote, faulted_as}
+use Rattle.yaml_parser.proofs.Arms.{gives, push_after, answers_err, not_as, wrote, faulted_as, names_nothing}
 use Rattle.yaml_parser.proofs.Ends.{refuses_for}
 use Rattle.yaml_parser.proofs.Says.{says_start}
 use Rattle.yaml_parser.proofs.Nesting.{nothing_given, nothing_taken}
@@ -13,7 +13,7 @@ pub returns-in_err-next-clause-answers : goal.returns-in_err-next-clause-answers
 returns-in_err-next-clause-answers g c = λ names given h. answers_err c.peek.new.self given c.from_residual.result _ c.peek.new.slot c.from_residual.ensures.1 (c.in_err-next.ensures.err at.start refl names given h)
 
 pub returns-in_ok-push-in-StreamStart-clause-answers : goal.returns-in_ok-push-in-StreamStart-clause-answers
-returns-in_ok-push-in-StreamStart-clause-answers g c = λ names given h. wrote _ given c.write.ensures (gives _ c.in_ok-next.ensures.peeked c.in-StreamStart.is refl (push_after c.skip-mark.ensures.took c.in_ok-push-in-StreamStart.ensures.stayed) (turn.start_takes _) (plain refl refl refl refl) refl refl (c.in_ok-next.ensures.at at.start refl names given h))
+returns-in_ok-push-in-StreamStart-clause-answers g c = λ names given h. wrote _ given c.write.ensures (gives _ c.in_ok-next.ensures.peeked c.in-StreamStart.is refl c.skip-mark.ensures.mark (push_after c.skip-mark.ensures.took c.in_ok-push-in-StreamStart.ensures.stayed) (turn.start_takes _) (names_nothing refl refl refl) (λ b k. refl) (λ o. tt) refl refl (c.in_ok-next.ensures.at at.start refl names given h))
 
 pub returns-in_default-clause-answers : goal.returns-in_default-clause-answers
 returns-in_default-clause-answers g c = λ names given h.

@@ -20,4 +20,4 @@ pub returns-in-Anchor-clause-answers : goal.returns-in-Anchor-clause-answers
 returns-in-Anchor-clause-answers g c = λ names given h. let l = looked _ _ c.requires in let known = c.in-Ok.ensures names h.code in let k = looked _ _ c.in_ok-next.ensures.peeked in c.content_after.ensures.answers (Some (written.tagged_anchored (record { handle = string_chars c.take_tag-handle.result.0; suffix = string_chars c.take_tag-handle.result.1 }) (string_chars c.take_name-name.result))) names given (record { both = refl; anchor = refl; tag = ap (option_map Some) known }) (anchor_after_tag k.1 (taken_with c.take_name-name.ensures.skips k.1) refl refl (anchor_text (k.2 ∙ c.in-Anchor.is) (if_some_at (λ t. (tok_of t.1 ≡ Tok.alias (string_chars c.take_name-name.result)) ⊎ (tok_of t.1 ≡ Tok.anchor (string_chars c.take_name-name.result))) c.take_name-name.ensures.name k.1)) known (c.in_ok-next.ensures.at (at.after_tag c.args.context (record { handle = string_chars c.take_tag-handle.result.0; suffix = string_chars c.take_tag-handle.result.1 })) refl names given (tag_taken l.1 (taken_with c.take_tag-handle.ensures.skips l.1) refl refl (if_some_at (λ t. tok_of t.1 ≡ written.tag_token (record { handle = string_chars c.take_tag-handle.result.0; suffix = string_chars c.take_tag-handle.result.1 })) c.take_tag-handle.ensures.texts l.1) known h)))
 
 pub returns-in_default-clause-answers : goal.returns-in_default-clause-answers
-returns-in_default-clause-answers g c = λ names given h. let l = looked _ _ c.requires in let known = c.in-Ok.ensures names h.code in c.content.ensures.answers (Some (written.tagged (record { handle = string_chars c.take_tag-handle.result.0; suffix = string_chars c.take_tag-handle.result.1 }))) names given (record { both = refl; anchor = refl; tag = ap (option_map Some) known }) (stays c.in_ok-next.ensures.peeked stay (λ t e. turn.tag_alone _ _ _ t (not_as c.in_default.not-Anchor e)) refl (ap is_some (ap (option_map Some) known)) refl (c.in_ok-next.ensures.at (at.after_tag c.args.context (record { handle = string_chars c.take_tag-handle.result.0; suffix = string_chars c.take_tag-handle.result.1 })) refl names given (tag_taken l.1 (taken_with c.take_tag-handle.ensures.skips l.1) refl refl (if_some_at (λ t. tok_of t.1 ≡ written.tag_token (record { handle = string_chars c.take_tag-handle.result.0; suffix = string_chars c.take_tag-handle.result.1 })) c.take_tag-handle.ensures.texts l.1) known h)))
+returns-in_default-clause-answers g c = λ names given h. let l = looked _ _ c.requires in let known = c.in-Ok.ensures names h.code in c.content.ensures.answers (Some (written.tagged (record { handle = string_chars c.take_tag-handle.result.0; suffix = string_chars c.take_tag-handle.result.1 }))) names given (record { both = refl; anchor = refl; tag = ap (option_map Some) known }) (stays c.in_ok-next.ensures.peeked stay (λ t e. turn.tag_alone _ _ _ t (not_as c.in_default.not-Anchor e)) refl (ap is_some (ap (option_map Some) known)) (λ o. tt) refl (c.in_ok-next.ensures.at (at.after_tag c.args.context (record { handle = string_chars c.take_tag-handle.result.0; suffix = string_chars c.take_tag-handle.result.1 })) refl names given (tag_taken l.1 (taken_with c.take_tag-handle.ensures.skips l.1) refl refl (if_some_at (λ t. tok_of t.1 ≡ written.tag_token (record { handle = string_chars c.take_tag-handle.result.0; suffix = string_chars c.take_tag-handle.result.1 })) c.take_tag-handle.ensures.texts l.1) known h)))

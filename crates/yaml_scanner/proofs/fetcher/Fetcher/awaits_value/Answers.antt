@@ -7,7 +7,7 @@ returns g c = record {
   waits = c.in_ok-value.ensures.value;
   count = c.lone_value.ensures.count (rw c.in_ok-value.was refl);
   allowed = c.if-self.false;
-  opened = sym c.lone_open.ensures ∙ c.in_ok-limit.was;
+  opened = sym c.value_level.ensures ∙ c.in_ok-limit.was;
   deep = search rules;
   off = search rules;
 }

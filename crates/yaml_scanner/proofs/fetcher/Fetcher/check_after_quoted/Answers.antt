@@ -1,5 +1,5 @@
 use Rattle.std.proofs.Common.{refl, ap, ◌==◌}
-use Rattle.yaml_chars.proofs.ReadingLemmas.{Reads-see}
+use Rattle.yaml_chars.proofs.WindowViewLemmas.{Reads-see}
 use Rattle.yaml_scanner.specs.Shape.{held}
 use Rattle.yaml_scanner.proofs.DoesLemmas.{exits, fails_kept, fails_in}
 use Rattle.yaml_scanner.proofs.FetchLemmas.{may_follow, may_not_follow, nothing_follows}

@@ -1,4 +1,4 @@
-use Rattle.yaml_chars.proofs.ReadingLemmas.{Reads-see}
+use Rattle.yaml_chars.proofs.WindowViewLemmas.{Reads-see}
 use Rattle.model_scanner.specs.Block.{check_dash}
 use Rattle.yaml_scanner.specs.Shape.{held}
 use Rattle.yaml_scanner.proofs.DoesLemmas.{fails_kept, same_position}

@@ -1,5 +1,5 @@
 use Rattle.std.proofs.Common.{refl}
-use Rattle.yaml_chars.proofs.ReadingLemmas.{Reads-see}
+use Rattle.yaml_chars.proofs.WindowViewLemmas.{Reads-see}
 use Rattle.model_scanner.specs.Block.{check_key_space}
 use Rattle.yaml_scanner.specs.Shape.{held}
 use Rattle.yaml_scanner.proofs.DoesLemmas.{fails_kept, Reads-none}

@@ -1,6 +1,6 @@
 use Rattle.std.proofs.Common.{◌≡◌, refl, ap, ◌∙◌, ◌++◌, ◌∷◌, [], rules}
 use Rattle.yaml_scanner.specs.Shape.{held}
-use Rattle.yaml_chars.specs.Reading.{position_of}
+use Rattle.yaml_chars.specs.WindowView.{position_of}
 use Rattle.defs_token.specs.Token.{Tok}
 use Rattle.model_scanner.specs.State.{token}
 use Rattle.model_scanner.specs.Indents.{Levels, with_levels, level}
@@ -23,7 +23,7 @@ levels-preserved g c =
       state = ap (λ h. with_levels h u) c.levels.invariant.state;
       levels = c.levels.invariant.levels ∙ unrolled_more _ _ _ _ _ (level c.pop.new.self.indent c.in-Some.needs_block_end) c.pop.new.self.indents c.in-Some.ensures (rw (← c.indent.ensures.value) c.levels-test.true) ∙ rw c.if-needs_block_end.false refl;
       flow = c.levels.invariant.flow;
-      moves = search rules;
+      bounds = search rules;
       window = c.levels.invariant.window;
     }
 
@@ -35,6 +35,6 @@ levels-preserved-in_default-push g c =
       state = ap (λ h. with_levels h u) c.levels.invariant.state;
       levels = c.levels.invariant.levels ∙ unrolled_more _ _ _ _ _ (level c.pop.new.self.indent c.in-Some.needs_block_end) c.pop.new.self.indents c.in-Some.ensures (rw (← c.indent.ensures.value) c.levels-test.true) ∙ rw (c.if-needs_block_end.true, here) refl;
       flow = c.levels.invariant.flow;
-      moves = search rules;
+      bounds = search rules;
       window = c.levels.invariant.window;
     }

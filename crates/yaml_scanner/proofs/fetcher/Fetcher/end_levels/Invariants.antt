@@ -1,5 +1,5 @@
 use Rattle.std.proofs.Common.{◌≡◌, length, false}
-use Rattle.yaml_chars.specs.Reading.{position_of}
+use Rattle.yaml_chars.specs.WindowView.{position_of}
 use Rattle.model_scanner.specs.State.{in_flow}
 use Rattle.model_scanner.specs.Indents.{unrolled, with_levels}
 use Rattle.yaml_scanner.specs.Shape.{held}
@@ -11,7 +11,7 @@ invariant-levels g l = record {
   state : held l.self ≡ with_levels (held l.fn.self) (record { indent = l.self.levels.indent; indents = l.self.levels.indents; tokens = l.self.tokens.all });
   levels : unrolled l.fn.limit (position_of l.fn.self.window) l.fn.self.levels.indent l.fn.self.levels.indents l.fn.self.tokens.all ≡ unrolled l.fn.limit (position_of l.fn.self.window) l.self.levels.indent l.self.levels.indents l.self.tokens.all;
   flow : in_flow (held l.fn.self) ≡ false;
-  moves : Moves l.fn.self l.self 0 0;
+  bounds : Moves l.fn.self l.self 0 0;
   window : l.self.window ≡ l.fn.self.window;
 }
 

@@ -1,5 +1,5 @@
 use Rattle.std.proofs.Common.{ap, refl, sym}
-use Rattle.yaml_chars.specs.Reading.{position_of}
+use Rattle.yaml_chars.specs.WindowView.{position_of}
 use Rattle.yaml_scanner.specs.Shape.{held}
 use Rattle.yaml_scanner_state.specs.Styles.{is_alias}
 use Rattle.yaml_scanner.proofs.DoesLemmas.{fails_kept, Reads-along, Reads-map}

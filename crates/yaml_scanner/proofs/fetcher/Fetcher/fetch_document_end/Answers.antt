@@ -1,5 +1,5 @@
 use Rattle.std.proofs.Common.{refl}
-use Rattle.yaml_chars.proofs.ReadingLemmas.{Reads-then}
+use Rattle.yaml_chars.proofs.WindowViewLemmas.{Reads-then}
 use Rattle.yaml_scanner.specs.Shape.{held}
 use Rattle.yaml_scanner.proofs.DoesLemmas.{exits, fails_kept, fails_in, fails_then}
 use Rattle.yaml_scanner.proofs.FetchLemmas.{Reads-both, document_ended, content_after, not_marked_end, no_space_after}

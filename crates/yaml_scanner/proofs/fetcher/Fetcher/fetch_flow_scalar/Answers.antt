@@ -1,6 +1,6 @@
 use Rattle.std.proofs.Common.{ap, refl, sym}
-use Rattle.yaml_chars.specs.Reading.{position_of}
-use Rattle.yaml_chars.proofs.ReadingLemmas.{Reads-then}
+use Rattle.yaml_chars.specs.WindowView.{position_of}
+use Rattle.yaml_chars.proofs.WindowViewLemmas.{Reads-then}
 use Rattle.yaml_scanner.specs.Shape.{held}
 use Rattle.yaml_scanner_state.specs.Styles.{are_single}
 use Rattle.yaml_scanner.proofs.DoesLemmas.{exits, fails_kept, Reads-along, Reads-map}

@@ -1,5 +1,5 @@
 use Rattle.std.proofs.Common.{refl, ap, not, Ok, ◌∙◌}
-use Rattle.yaml_chars.specs.Reading.{position_of}
+use Rattle.yaml_chars.specs.WindowView.{position_of}
 use Rattle.defs_token.specs.Token.{Tok}
 use Rattle.model_scanner.specs.State.{◌>>=◌, in_flow, push, on_held}
 use Rattle.model_scanner.specs.Keys.{remove_implicit_key}

@@ -1,5 +1,5 @@
 use Rattle.std.proofs.Common.{◌∙◌, ap, sym, true, false}
-use Rattle.yaml_chars.specs.Reading.{position_of}
+use Rattle.yaml_chars.specs.WindowView.{position_of}
 use Rattle.model_scanner.specs.Space.{skip, between, white}
 use Rattle.yaml_scanner.specs.Shape.{held}
 use Rattle.yaml_scanner.proofs.DoesLemmas.{Reads-map}

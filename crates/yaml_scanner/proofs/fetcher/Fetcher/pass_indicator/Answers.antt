@@ -1,5 +1,5 @@
 use Rattle.std.proofs.Common.{◌∙◌}
-use Rattle.yaml_chars.proofs.ReadingLemmas.{Reads-then}
+use Rattle.yaml_chars.proofs.WindowViewLemmas.{Reads-then}
 use Rattle.yaml_scanner.proofs.DoesLemmas.{exits}
 use Rattle.yaml_scanner.proofs.FlowLemmas.{indicator_passed}
 use Rattle.yaml_scanner.proofs.fetcher.Fetcher.pass_indicator.Goals as goal

@@ -1,5 +1,5 @@
 use Rattle.std.proofs.Common.{◌≡◌, ◌<◌, slice_index, true}
-use Rattle.yaml_chars.specs.Reading.{Reads}
+use Rattle.yaml_chars.specs.WindowView.{Reads}
 use Rattle.model_scanner.specs.Space.{skip, between, tab_line, is_before_indent}
 use Rattle.yaml_scanner.specs.Shape.{held}
 use Rattle.yaml_scanner.specs.Work.{Moves}
@@ -8,7 +8,7 @@ use Rattle.yaml_scanner.proofs.fetcher.Fetcher.skip_tab_line.Given as goal
 abbrev pub invariant-tabs : goal.invariant-tabs
 invariant-tabs g l = record {
   gap : Reads l.fn.self.window l.self.window (λ a b. slice_index a 0 ≡ 9 → is_before_indent (held l.fn.self) ≡ true → skip between a (held l.fn.self) ≡ skip tab_line b (held l.self));
-  moves : Moves l.fn.self l.self 0 8;
+  bounds : Moves l.fn.self l.self 0 8;
   less : l.self.window.left < l.fn.self.window.left;
 }
 

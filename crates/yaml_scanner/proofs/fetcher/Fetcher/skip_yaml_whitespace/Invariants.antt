@@ -1,5 +1,5 @@
 use Rattle.std.proofs.Common.{◌≡◌, false}
-use Rattle.yaml_chars.specs.Reading.{Reads}
+use Rattle.yaml_chars.specs.WindowView.{Reads}
 use Rattle.model_scanner.specs.Space.{white}
 use Rattle.yaml_scanner.specs.Shape.{held}
 use Rattle.yaml_scanner.specs.Work.{Moves}
@@ -8,7 +8,7 @@ use Rattle.yaml_scanner.proofs.fetcher.Fetcher.skip_yaml_whitespace.Given as goa
 abbrev pub invariant-space : goal.invariant-space
 invariant-space g l = record {
   white : Reads l.fn.self.window l.self.window (λ a b. white false false a (held l.fn.self) ≡ white false l.found b (held l.self));
-  moves : Moves l.fn.self l.self 0 0;
+  bounds : Moves l.fn.self l.self 0 0;
 }
 
 abbrev pub decreases-space : goal.decreases-space

@@ -13,6 +13,6 @@ levels-preserved g c =
     record {
       state = ap (λ h. with_levels h u) c.levels.invariant.state;
       levels = c.levels.invariant.levels ∙ without_more _ _ _ _ _ (open_popped _ _ _ (sym c.is_open.ensures ∙ c.levels-test.true) c.pop.ensures);
-      moves = search rules;
+      bounds = search rules;
       window = c.levels.invariant.window;
     }

@@ -8,7 +8,7 @@ abbrev pub invariant-levels : goal.invariant-levels
 invariant-levels g l = record {
   state : held l.self ≡ with_levels (held l.fn.self) (record { indent = l.self.levels.indent; indents = l.self.levels.indents; tokens = l.self.tokens.all });
   levels : without_open l.fn.self.levels.indent l.fn.self.levels.indents l.fn.self.tokens.all ≡ without_open l.self.levels.indent l.self.levels.indents l.self.tokens.all;
-  moves : Moves l.fn.self l.self 0 0;
+  bounds : Moves l.fn.self l.self 0 0;
   window : l.self.window ≡ l.fn.self.window;
 }
 

@@ -1,5 +1,0 @@
-pub mod Fault
-pub mod HasJson
-pub mod JsonReal
-pub mod JsonText
-pub mod Laws

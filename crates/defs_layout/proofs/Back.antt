@@ -1,0 +1,124 @@
+-- The value of a JSON text has a JSON text, and nests as the text does.
+use Rattle.std.proofs.Common.{◌≡◌, ◌≤◌, ◌<◌, ℕ, suc, List, [], ◌∷◌, Bool, true, false, ◌&&◌, refl, sym, ap, subst, arith}
+use Rattle.std.specs.Prelude.{max, if◌then◌else◌}
+use Rattle.std.specs.Char.{digit_value}
+use Rattle.std.proofs.lemmas.Bool.{and_parts, and_from, ltb-true}
+use Rattle.std.proofs.lemmas.Bool.Decides.{nat_tests}
+use Rattle.defs_tree.specs.Tree.{Tree, integer, real, pairs_of, pair_list_of}
+use Rattle.defs_tree.specs.Pairs.{AreDistinct}
+use Rattle.defs_tree.specs.Typing.{fits_i64}
+use Rattle.defs_layout.specs.JsonNumber.{Number, number, no_fraction, fraction, no_exponent, exponent, is_number, number_tree, integer_value, spell_number}
+use Rattle.defs_layout.specs.JsonString.{Piece, itself, short, unicode, Short, quotation_mark, reverse_solidus, solidus, backspace, form_feed, new_line, return, tabulator, character_of, value_of, unescaped, is_unescaped, is_hex_digit, four_digits, is_piece, are_pieces}
+use Rattle.defs_layout.specs.Json as json
+use Rattle.defs_layout.specs.Json.{Json, Elements, last_element, element, Members, last_member, member, IsJson, AreElements, IsJsonText, tree_of, items, pair_list, levels, element_levels, member_levels}
+use Rattle.defs_layout.specs.HasJson.{HasJson, AllHaveJson, AreMembers, is_character, are_characters, nesting, item_nesting, member_nesting}
+use Rattle.defs_layout.specs.JsonLaws.{ValuesHaveJson}
+use Rattle.defs_layout.proofs.Numbers.{real_from}
+
+-- ---- strings
+
+low_is : (c : ℕ) → is_unescaped c ≡ true → is_character c ≡ true
+unfolding is_unescaped
+low_is c h = grind (arith, nat_tests)
+
+short_is : (s : Short) → is_character (character_of s) ≡ true
+short_is quotation_mark = refl
+short_is reverse_solidus = refl
+short_is solidus = refl
+short_is backspace = refl
+short_is form_feed = refl
+short_is new_line = refl
+short_is return = refl
+short_is tabulator = refl
+
+code_is : (n : ℕ) → n ≤ 0xFFFF → is_character n ≡ true
+code_is n h = grind (arith, nat_tests)
+
+piece_is : (p : Piece) → is_piece p ≡ true → is_character (value_of p) ≡ true
+piece_is (itself c) h = low_is c h
+piece_is (short s) h = short_is s
+piece_is (unicode a b c d) h =
+    let v = and_parts (is_hex_digit a && is_hex_digit b && is_hex_digit c && is_hex_digit d) _ h in
+    let w = and_parts (is_hex_digit a && is_hex_digit b && is_hex_digit c) (is_hex_digit d) v.0 in
+    let x = and_parts (is_hex_digit a && is_hex_digit b) (is_hex_digit c) w.0 in
+    let y = and_parts (is_hex_digit a) (is_hex_digit b) x.0 in
+    let i : digit_value a < 16 = ltb-true _ 16 y.0 in
+    let j : digit_value b < 16 = ltb-true _ 16 y.1 in
+    let k : digit_value c < 16 = ltb-true _ 16 x.1 in
+    let l : digit_value d < 16 = ltb-true _ 16 w.1 in
+    code_is (four_digits a b c d) (omega arith)
+
+pieces_are : (ps : List Piece) → are_pieces ps ≡ true → are_characters (unescaped ps) ≡ true
+pieces_are [] h = refl
+pieces_are (p ∷ ps) h = let q = and_parts (is_piece p) (are_pieces ps) h in and_from _ _ (piece_is p q.0) (pieces_are ps q.1)
+
+-- ---- numbers
+
+number_has : (n : Number) → is_number n ≡ true → HasJson (number_tree n)
+number_has (number m w no_fraction no_exponent) h = by (fits_i64 (integer_value m w)) refl
+  where
+    by : (b : Bool) → fits_i64 (integer_value m w) ≡ b → HasJson (if b then integer (integer_value m w) else real (spell_number (number m w no_fraction no_exponent) []))
+    by true e = e
+    by false e = real_from (number m w no_fraction no_exponent) _ h (ap (λ b. if b then integer (integer_value m w) else real (spell_number (number m w no_fraction no_exponent) [])) e)
+number_has (number m w no_fraction (exponent b s d)) h = real_from (number m w no_fraction (exponent b s d)) _ h refl
+number_has (number m w (fraction d) e) h = real_from (number m w (fraction d) e) _ h refl
+
+number_flat : (n : Number) → nesting (number_tree n) ≡ 0
+number_flat (number m w no_fraction no_exponent) = by (fits_i64 (integer_value m w))
+  where
+    by : (b : Bool) → nesting (if b then integer (integer_value m w) else real (spell_number (number m w no_fraction no_exponent) [])) ≡ 0
+    by true = refl
+    by false = refl
+number_flat (number m w no_fraction (exponent b s d)) = refl
+number_flat (number m w (fraction d) e) = refl
+
+-- ---- values
+
+pairs_back : (ps : List (Tree × Tree)) → pair_list_of (pairs_of ps) ≡ ps
+pairs_back [] = refl
+pairs_back (p ∷ ps) = ap (λ qs. p ∷ qs) (pairs_back ps)
+
+mutual
+  has : (v : Json) → IsJson v → HasJson (tree_of v)
+  has json.false_word h = tt
+  has json.null_word h = tt
+  has json.true_word h = tt
+  has (json.number n) h = number_has n h
+  has (json.string ps) h = pieces_are ps h
+  has (json.empty_array g) h = tt
+  has (json.array g es) h = all_have es h.1
+  has (json.empty_object g) h = (tt, tt)
+  has (json.object g ms) h = (subst AreDistinct (sym (pairs_back (pair_list ms))) h.2, are_members ms h.1)
+
+  all_have : (es : Elements) → AreElements es → AllHaveJson (items es)
+  all_have (last_element v a) h = (has v h.0, tt)
+  all_have (element v a b es) h = (has v h.0, all_have es h.3)
+
+  are_members : (ms : Members) → json.AreMembers ms → AreMembers (pairs_of (pair_list ms))
+  are_members (last_member k g q v a) h = (pieces_are k h.0, has v h.3, tt)
+  are_members (member k g q v a b ms) h = (pieces_are k h.0, has v h.3, are_members ms h.6)
+
+mutual
+  nests : (v : Json) → nesting (tree_of v) ≡ levels v
+  nests json.false_word = refl
+  nests json.null_word = refl
+  nests json.true_word = refl
+  nests (json.number n) = number_flat n
+  nests (json.string ps) = refl
+  nests (json.empty_array g) = refl
+  nests (json.array g es) = ap suc (items_nest es)
+  nests (json.empty_object g) = refl
+  nests (json.object g ms) = ap suc (members_nest ms)
+
+  items_nest : (es : Elements) → item_nesting (items es) ≡ element_levels es
+  items_nest (last_element v a) = omega (arith, nests v)
+  items_nest (element v a b es) = (λ i. max (nests v i) (items_nest es i))
+
+  members_nest : (ms : Members) → member_nesting (pairs_of (pair_list ms)) ≡ member_levels ms
+  members_nest (last_member k g q v a) = omega (arith, nests v)
+  members_nest (member k g q v a b ms) = (λ i. max (nests v i) (members_nest ms i))
+
+pub values_have_json : ValuesHaveJson
+values_have_json t text h =
+    let v = h.0.value in
+    (subst HasJson h.3 (has v h.1.value), omega (arith, nests v, h.1.depth, ap nesting h.3))

@@ -1,0 +1,37 @@
+-- A tree that has a JSON text has no node that has none.
+use Rattle.std.proofs.Common.{◌≡◌, ℕ, ◌+◌, true, None, refl, ap, ◌∙◌}
+use Rattle.std.specs.Prelude.{if◌then◌else◌}
+use Rattle.std.proofs.lemmas.Bool.{and_from}
+use Rattle.defs_tree.specs.Tree.{Tree, real, integer, string, boolean, array, hash, alias, null, bad_value, Items, no_items, item, Pairs, no_pairs, pair}
+use Rattle.defs_tree.specs.Typing.{is_string}
+use Rattle.defs_layout.specs.HasJson.{HasJson, AllHaveJson, AreMembers, IsKey}
+use Rattle.defs_tree.specs.Path.{index}
+use Rattle.defs_layout.specs.Fault.{here, below, first_of, step_of, are_strings, is_no_number, has_other_key, first_fault, first_item_fault, first_member_fault}
+
+key_is_string : (k : Tree) → IsKey k → is_string k ≡ true
+key_is_string (string s) h = refl
+key_is_string _ h = absurd h
+
+keys_are_strings : (ps : Pairs) → AreMembers ps → are_strings ps ≡ true
+keys_are_strings no_pairs h = refl
+keys_are_strings (pair k v ps) h = and_from _ _ (key_is_string k h.0) (keys_are_strings ps h.2)
+
+mutual
+  pub no_fault : (t : Tree) → HasJson t → first_fault t ≡ None
+  no_fault (real s) h = ap (λ b. if b then None else here is_no_number) h
+  no_fault (integer z) h = refl
+  no_fault (string s) h = refl
+  no_fault (boolean b) h = refl
+  no_fault (array ts) h = no_item_fault 0 ts h
+  no_fault (hash ps) h = ap (λ b. if b then first_member_fault ps else here has_other_key) (keys_are_strings ps h.1) ∙ no_member_fault ps h.1
+  no_fault (alias n) h = absurd h
+  no_fault null h = refl
+  no_fault bad_value h = absurd h
+
+  no_item_fault : (n : ℕ) (ts : Items) → AllHaveJson ts → first_item_fault n ts ≡ None
+  no_item_fault n no_items h = refl
+  no_item_fault n (item t ts) h = ap (λ o. first_of (below (index n) o) (first_item_fault (n + 1) ts)) (no_fault t h.0) ∙ no_item_fault (n + 1) ts h.1
+
+  no_member_fault : (ps : Pairs) → AreMembers ps → first_member_fault ps ≡ None
+  no_member_fault no_pairs h = refl
+  no_member_fault (pair k v ps) h = ap (λ o. first_of (below (step_of k) o) (first_member_fault ps)) (no_fault v h.1) ∙ no_member_fault ps h.2

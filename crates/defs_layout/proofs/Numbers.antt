@@ -1,0 +1,251 @@
+-- The reals that JSON can write are the texts of its numbers whose value is a real.
+use Rattle.std.proofs.Common.{◌≡◌, ◌⊎◌, inl, inr, ℕ, List, [], ◌∷◌, ◌++◌, Bool, true, false, not, ◌&&◌, Some, None, refl, sym, ap, ◌∙◌, subst, append_assoc, append-nil, true≢false, arith}
+use Rattle.std.specs.Prelude.{◌==◌, is_none, if◌then◌else◌}
+use Rattle.std.specs.Char.{is_ascii_digit}
+use Rattle.std.specs.List.{list_all}
+use Rattle.std.proofs.lemmas.Bool.{and_parts, and_from, or_cases, eqb-true}
+use Rattle.std.proofs.lemmas.Bool.Decides.{nat_tests}
+use Rattle.defs_tree.specs.Tree.{integer, real}
+use Rattle.defs_text.specs.Text.{is_empty}
+use Rattle.defs_tree.specs.Grammar.{one, at_least_one, optional, followed_by, in_order}
+use Rattle.defs_tree.specs.Typing.{is_minus, is_sign, is_exponent, is_exponent_mark, is_digit, signed_decimal, fits_i64}
+use Rattle.defs_tree.proofs.GrammarLaws.{cut_from, cut_to, followed_by-empty}
+use Rattle.defs_tree.proofs.DecimalReading.{begins_in}
+use Rattle.defs_layout.specs.JsonNumber as json
+use Rattle.defs_layout.specs.JsonNumber.{Number, Fraction, no_fraction, fraction, Sign, no_sign, plus, minus, Exponent, no_exponent, exponent, spell_number, spell_minus, spell_fraction, spell_sign, spell_exponent, are_digits, is_whole, is_fraction, is_number, integer_value, number_tree}
+use Rattle.defs_layout.proofs.WholeNumbers.{fitted, signed_text, IsOther, no_digits}
+use Rattle.defs_layout.specs.JsonReal.{is_frac, is_json_number, is_json_real}
+
+-- ---- parts of a number, by their texts
+
+record IsPart (P : Type 0) (fits : P → Bool) (spell : P → List ℕ → List ℕ) (t : List ℕ) : Type 0 where
+  part : P
+  fit : fits part ≡ true
+  spelt : (r : List ℕ) → spell part r ≡ t ++ r
+
+-- one character of a class
+record IsOne (p : ℕ → Bool) (t : List ℕ) : Type 0 where
+  character : ℕ
+  whole : t ≡ character ∷ []
+  fits : p character ≡ true
+
+nothing_is : (t : List ℕ) → is_empty t ≡ true → t ≡ []
+nothing_is [] h = refl
+nothing_is (c ∷ t) h = cc
+
+one_is : (p : ℕ → Bool) (t : List ℕ) → one p t ≡ true → IsOne p t
+one_is p [] h = cc
+one_is p (c ∷ t) h = let parts = and_parts (p c) (is_empty t) h in record { character = c; whole = ap (λ u. c ∷ u) (nothing_is t parts.1); fits = parts.0 }
+
+digits_are : (t : List ℕ) → at_least_one is_ascii_digit t ≡ are_digits t
+digits_are [] = refl
+digits_are (c ∷ t) = refl
+
+minus_part : (t : List ℕ) → optional (one is_minus) t ≡ true → IsPart Bool (λ b. true) spell_minus t
+minus_part [] h = record { part = false; fit = refl; spelt = λ r. refl }
+minus_part (c ∷ t) h =
+    let o = one_is is_minus (c ∷ t) h in
+    record { part = true; fit = refl; spelt = λ r. ap (λ u. u ++ r) (ap (λ d. d ∷ []) (sym (eqb-true _ 45 o.fits)) ∙ sym o.whole) }
+
+frac_part : (t : List ℕ) → optional is_frac t ≡ true → IsPart Fraction is_fraction spell_fraction t
+frac_part [] h = record { part = no_fraction; fit = refl; spelt = λ r. refl }
+frac_part (c ∷ w) h =
+    let parts = and_parts (c == 46) (are_digits w) h in
+    record { part = fraction w; fit = parts.1; spelt = λ r. ap (λ d. d ∷ (w ++ r)) (sym (eqb-true c 46 parts.0)) }
+
+sign_part : (t : List ℕ) → optional (one is_sign) t ≡ true → IsPart Sign (λ s. true) spell_sign t
+sign_part [] h = record { part = no_sign; fit = refl; spelt = λ r. refl }
+sign_part (c ∷ t) h =
+    let o = one_is is_sign (c ∷ t) h in
+    by (or_cases (o.character == 43) (o.character == 45) o.fits)
+    λ d e r. ap (λ u. u ++ r) (ap (λ d. d ∷ []) (sym e) ∙ sym o.whole)
+  where
+    by : {a : ℕ} → ((a == 43) ≡ true) ⊎ ((a == 45) ≡ true) → ((d : ℕ) → a ≡ d → (r : List ℕ) → d ∷ r ≡ (c ∷ t) ++ r) → IsPart Sign (λ s. true) spell_sign (c ∷ t)
+    by (inl e) f = record { part = plus; fit = refl; spelt = f 43 (eqb-true _ 43 e) }
+    by (inr e) f = record { part = minus; fit = refl; spelt = f 45 (eqb-true _ 45 e) }
+
+-- `e` is no capital
+letter_part : (c : ℕ) → is_exponent_mark c ≡ true → (b : Bool) × (json.letter_e b ≡ c)
+letter_part c h = by (or_cases (c == 101) (c == 69) h)
+  where
+    by : ((c == 101) ≡ true) ⊎ ((c == 69) ≡ true) → (b : Bool) × (json.letter_e b ≡ c)
+    by (inl e) = (false, sym (eqb-true c 101 e))
+    by (inr e) = (true, sym (eqb-true c 69 e))
+
+some_exponent : (t : List ℕ) → is_exponent t ≡ true → IsPart Exponent json.is_exponent spell_exponent t
+some_exponent t h =
+    let first = cut_from (one is_exponent_mark) (in_order (optional (one is_sign) ∷ at_least_one is_ascii_digit ∷ [])) t h in
+    let mark = one_is is_exponent_mark first.before first.is_first in
+    let letter = letter_part mark.character mark.fits in
+    let second = cut_from (optional (one is_sign)) (in_order (at_least_one is_ascii_digit ∷ [])) first.after first.is_second in
+    let sign = sign_part second.before second.is_first in
+    let digits : are_digits second.after ≡ true = sym (digits_are second.after) ∙ sym (followed_by-empty (at_least_one is_ascii_digit) second.after) ∙ second.is_second in
+    record {
+      part = exponent letter.0 sign.part second.after;
+      fit = digits;
+      spelt = λ r.
+          (λ i. letter.1 i ∷ sign.spelt (second.after ++ r) i)
+          ∙ ap (λ u. mark.character ∷ u) (sym (append_assoc second.before second.after r) ∙ ap (λ u. u ++ r) second.whole)
+          ∙ ap (λ u. u ++ (first.after ++ r)) (sym mark.whole)
+          ∙ sym (append_assoc first.before first.after r) ∙ ap (λ u. u ++ r) first.whole;
+    }
+
+exponent_part : (t : List ℕ) → optional is_exponent t ≡ true → IsPart Exponent json.is_exponent spell_exponent t
+exponent_part [] h = record { part = no_exponent; fit = refl; spelt = λ r. refl }
+exponent_part (c ∷ t) h = some_exponent (c ∷ t) h
+
+-- ---- a number, by its text
+
+pub record IsNumberText (s : List ℕ) : Type 0 where
+  pub written : Number
+  pub fits : is_number written ≡ true
+  pub spelt : (r : List ℕ) → spell_number written r ≡ s ++ r
+
+pub number_text : (s : List ℕ) → is_json_number s ≡ true → IsNumberText s
+unfolding is_json_number
+number_text s h =
+    let a = cut_from (optional (one is_minus)) (in_order (is_whole ∷ optional is_frac ∷ optional is_exponent ∷ [])) s h in
+    let b = cut_from is_whole (in_order (optional is_frac ∷ optional is_exponent ∷ [])) a.after a.is_second in
+    let d = cut_from (optional is_frac) (in_order (optional is_exponent ∷ [])) b.after b.is_second in
+    let m = minus_part a.before a.is_first in
+    let f = frac_part d.before d.is_first in
+    let e = exponent_part d.after (sym (followed_by-empty (optional is_exponent) d.after) ∙ d.is_second) in
+    record {
+      written = json.number m.part b.before f.part e.part;
+      fits = and_from _ _ (and_from _ _ b.is_first f.fit) e.fit;
+      spelt = λ r.
+          m.spelt (b.before ++ spell_fraction f.part (spell_exponent e.part r))
+          ∙ ap (λ u. a.before ++ (b.before ++ u)) (f.spelt (spell_exponent e.part r) ∙ ap (λ u. d.before ++ u) (e.spelt r) ∙ sym (append_assoc d.before d.after r) ∙ ap (λ u. u ++ r) d.whole)
+          ∙ ap (λ u. a.before ++ u) (sym (append_assoc b.before b.after r) ∙ ap (λ u. u ++ r) b.whole)
+          ∙ sym (append_assoc a.before a.after r) ∙ ap (λ u. u ++ r) a.whole;
+    }
+
+-- ---- as integers
+
+digit_test : (c : ℕ) → is_ascii_digit c ≡ true → is_digit 10 c ≡ true
+digit_test c h = grind (arith, nat_tests)
+
+all_digits : (w : List ℕ) → list_all is_ascii_digit w ≡ true → list_all (is_digit 10) w ≡ true
+all_digits [] h = refl
+all_digits (c ∷ w) h = let q = and_parts (is_ascii_digit c) (list_all is_ascii_digit w) h in and_from _ _ (digit_test c q.0) (all_digits w q.1)
+
+whole_digits : (w : List ℕ) → is_whole w ≡ true → are_digits w ≡ true
+whole_digits [] h = h
+whole_digits (c ∷ []) h = and_from (is_ascii_digit c) true h refl
+whole_digits (c ∷ d ∷ w) h = (and_parts (not (c == 48)) (are_digits (c ∷ d ∷ w)) h).1
+
+some_digits : (w : List ℕ) → are_digits w ≡ true → at_least_one (is_digit 10) w ≡ true
+some_digits [] h = cc
+some_digits (c ∷ w) h = all_digits (c ∷ w) h
+
+whole_begins : (w r : List ℕ) → are_digits w ≡ true → begins_in is_ascii_digit (w ++ r) ≡ true
+whole_begins [] r h = cc
+whole_begins (c ∷ w) r h = (and_parts (is_ascii_digit c) (list_all is_ascii_digit w) h).0
+
+-- a whole number's text
+plain_text : (m : Bool) (w : List ℕ) → is_whole w ≡ true → signed_decimal (spell_minus m (w ++ [])) ≡ fitted true (integer_value m w)
+plain_text m w h =
+    let d = whole_digits w h in
+    ap (λ t. signed_decimal (spell_minus m t)) (append-nil w)
+    ∙ signed_text m w (subst (λ t. begins_in is_ascii_digit t ≡ true) (append-nil w) (whole_begins w [] d))
+    ∙ ap (λ b. fitted b (integer_value m w)) (some_digits w d)
+
+other_text : (m : Bool) (w r : List ℕ) → is_whole w ≡ true → IsOther r → signed_decimal (spell_minus m (w ++ r)) ≡ None
+other_text m w r h o = signed_text m (w ++ r) (whole_begins w r (whole_digits w h)) ∙ ap (λ b. fitted b (integer_value m (w ++ r))) (no_digits w r o)
+
+exponent_other : (b : Bool) (s : Sign) (w r : List ℕ) → IsOther (spell_exponent (exponent b s w) r)
+exponent_other true s w r = refl
+exponent_other false s w r = refl
+
+-- ---- the value of a number
+
+whole_of : (m : Bool) (w : List ℕ) (f : Fraction) (e : Exponent) → is_number (json.number m w f e) ≡ true → is_whole w ≡ true
+whole_of m w f e h = (and_parts (is_whole w) (is_fraction f) (and_parts (is_whole w && is_fraction f) (json.is_exponent e) h).0).0
+
+-- a number whose text is no integer is a real
+real_value : (n : Number) → is_number n ≡ true → is_none (signed_decimal (spell_number n [])) ≡ true → number_tree n ≡ real (spell_number n [])
+real_value (json.number m w no_fraction no_exponent) h none = by (fits_i64 (integer_value m w)) refl
+  where
+    by : (b : Bool) → fits_i64 (integer_value m w) ≡ b → (if b then integer (integer_value m w) else real (spell_minus m (w ++ []))) ≡ real (spell_minus m (w ++ []))
+    by false e = refl
+    by true e = absurd (true≢false (sym none ∙ ap is_none (plain_text m w (whole_of m w no_fraction no_exponent h)) ∙ ap (λ b. is_none (if b then Some (integer_value m w) else None)) e))
+real_value (json.number m w no_fraction (exponent b s d)) h none = refl
+real_value (json.number m w (fraction d) e) h none = refl
+
+-- and the other way
+no_integer : (n : Number) (s : List ℕ) → is_number n ≡ true → number_tree n ≡ real s → (is_none (signed_decimal (spell_number n [])) ≡ true) × (spell_number n [] ≡ s)
+no_integer (json.number m w no_fraction no_exponent) s h e = by (fits_i64 (integer_value m w)) refl e
+  where
+    by : (b : Bool) → fits_i64 (integer_value m w) ≡ b → (if b then integer (integer_value m w) else real (spell_minus m (w ++ []))) ≡ real s
+        → (is_none (signed_decimal (spell_minus m (w ++ []))) ≡ true) × (spell_minus m (w ++ []) ≡ s)
+    by true f g = cc
+    by false f g = (ap is_none (plain_text m w (whole_of m w no_fraction no_exponent h)) ∙ ap (λ b. is_none (if b then Some (integer_value m w) else None)) f, cc)
+no_integer (json.number m w no_fraction (exponent b x d)) s h e = (ap is_none (other_text m w _ (whole_of m w no_fraction (exponent b x d) h) (exponent_other b x d [])), cc)
+no_integer (json.number m w (fraction d) x) s h e = (ap is_none (other_text m w (spell_fraction (fraction d) (spell_exponent x [])) (whole_of m w (fraction d) x h) refl), cc)
+
+-- ---- the reals
+
+pub record IsReal (s : List ℕ) : Type 0 where
+  pub written : Number
+  pub fits : is_number written ≡ true
+  pub spelt : (r : List ℕ) → spell_number written r ≡ s ++ r
+  pub value : number_tree written ≡ real s
+
+pub real_written : (s : List ℕ) → is_json_real s ≡ true → IsReal s
+real_written s h =
+    let parts = and_parts (is_json_number s) (is_none (signed_decimal s)) h in
+    let n = number_text s parts.0 in
+    let whole : spell_number n.written [] ≡ s = n.spelt [] ∙ append-nil s in
+    record {
+      written = n.written;
+      fits = n.fits;
+      spelt = n.spelt;
+      value = real_value n.written n.fits (ap (λ t. is_none (signed_decimal t)) whole ∙ parts.1) ∙ ap real whole;
+    }
+
+cut : (f g : List ℕ → Bool) (a b : List ℕ) → f a ≡ true → g b ≡ true → followed_by f g (a ++ b) ≡ true
+cut f g a b h k = cut_to f g (a ++ b) (record { before = a; after = b; whole = refl; is_first = h; is_second = k })
+
+frac_text : (f : Fraction) (r : List ℕ) → is_fraction f ≡ true → (a : List ℕ) × (optional is_frac a ≡ true) × (spell_fraction f r ≡ a ++ r)
+frac_text no_fraction r h = ([], refl, refl)
+frac_text (fraction w) r h = (46 ∷ w, h, refl)
+
+sign_text : (s : Sign) (r : List ℕ) → (a : List ℕ) × (optional (one is_sign) a ≡ true) × (spell_sign s r ≡ a ++ r)
+sign_text no_sign r = ([], refl, refl)
+sign_text plus r = (43 ∷ [], refl, refl)
+sign_text minus r = (45 ∷ [], refl, refl)
+
+exponent_text : (e : Exponent) → json.is_exponent e ≡ true → optional is_exponent (spell_exponent e []) ≡ true
+exponent_text no_exponent h = refl
+exponent_text (exponent b s w) h =
+    let sign = sign_text s (w ++ []) in
+    let digits = followed_by-empty (at_least_one is_ascii_digit) (w ++ []) ∙ digits_are (w ++ []) ∙ ap are_digits (append-nil w) ∙ h in
+    let all = cut (one is_exponent_mark) (in_order (optional (one is_sign) ∷ at_least_one is_ascii_digit ∷ [])) (json.letter_e b ∷ []) _ (mark b)
+    (subst (λ t. in_order (optional (one is_sign) ∷ at_least_one is_ascii_digit ∷ []) t ≡ true) (sym sign.2) (cut (optional (one is_sign)) (in_order (at_least_one is_ascii_digit ∷ [])) sign.0 (w ++ []) sign.1 digits)) in
+    all
+  where
+    mark : (b : Bool) → one is_exponent_mark (json.letter_e b ∷ []) ≡ true
+    mark true = refl
+    mark false = refl
+
+minus_text : (m : Bool) (r : List ℕ) → (a : List ℕ) × (optional (one is_minus) a ≡ true) × (spell_minus m r ≡ a ++ r)
+minus_text true r = (45 ∷ [], refl, refl)
+minus_text false r = ([], refl, refl)
+
+text_of_number : (n : Number) → is_number n ≡ true → is_json_number (spell_number n []) ≡ true
+unfolding is_json_number
+text_of_number (json.number m w f e) h =
+    let q = and_parts (is_whole w && is_fraction f) (json.is_exponent e) h in
+    let p = and_parts (is_whole w) (is_fraction f) q.0 in
+    let exp = followed_by-empty (optional is_exponent) (spell_exponent e []) ∙ exponent_text e q.1 in
+    let frac = frac_text f (spell_exponent e []) p.1 in
+    let rest = subst (λ t. in_order (optional is_frac ∷ optional is_exponent ∷ []) t ≡ true) (sym frac.2) (cut (optional is_frac) (in_order (optional is_exponent ∷ [])) frac.0 (spell_exponent e []) frac.1 exp) in
+    let body = cut is_whole (in_order (optional is_frac ∷ optional is_exponent ∷ [])) w _ p.0 rest in
+    let sign = minus_text m (w ++ spell_fraction f (spell_exponent e [])) in
+    subst (λ t. in_order (optional (one is_minus) ∷ is_whole ∷ optional is_frac ∷ optional is_exponent ∷ []) t ≡ true) (sym sign.2)
+    (cut (optional (one is_minus)) (in_order (is_whole ∷ optional is_frac ∷ optional is_exponent ∷ [])) sign.0 _ sign.1 body)
+
+pub real_from : (n : Number) (s : List ℕ) → is_number n ≡ true → number_tree n ≡ real s → is_json_real s ≡ true
+real_from n s h e =
+    let o = no_integer n s h e in
+    subst (λ t. is_json_real t ≡ true) o.1 (and_from _ _ (text_of_number n h) o.0)

@@ -1,0 +1,150 @@
+-- A JSON number read from left to right: a minus, the whole part, a fraction, an exponent. For code that reads so.
+use Rattle.std.proofs.Common.{◌≡◌, ℕ, List, [], ◌∷◌, Bool, true, false, not, ◌&&◌, ◌||◌, refl, ap, sym, ◌∙◌, arith}
+use Rattle.std.specs.Prelude.{◌==◌, if◌then◌else◌}
+use Rattle.std.specs.Char.{is_ascii_digit}
+use Rattle.std.specs.List.{list_all}
+use Rattle.std.proofs.lemmas.Bool.Decides.{nat_tests}
+use Rattle.defs_text.specs.Text.{is_empty}
+use Rattle.defs_tree.specs.Grammar.{any_number, at_least_one, optional, followed_by, in_order}
+use Rattle.defs_tree.specs.Typing.{is_minus, is_exponent, is_exponent_mark}
+use Rattle.defs_tree.proofs.GrammarLaws.{Rejects, after_all, after_one, any-after, at_least-after, optional_one-after, optional-then, empty-followed_by, followed_by-and, followed_by-or, or-false}
+use Rattle.defs_tree.proofs.DecimalReading.{begins_in, reads_exponent, exponent_read}
+use Rattle.defs_layout.specs.JsonNumber.{are_digits, is_whole}
+use Rattle.defs_layout.specs.JsonReal.{is_frac, is_json_number}
+
+-- what follows the whole part
+abbrev pub reads_end : List ℕ → Bool
+reads_end [] = true
+reads_end (c ∷ cs) = if c == 46 then begins_in is_ascii_digit cs && reads_exponent (after_all is_ascii_digit cs) else reads_exponent (c ∷ cs)
+
+-- what follows the minus
+abbrev pub reads_unsigned : List ℕ → Bool
+reads_unsigned [] = false
+reads_unsigned (c ∷ cs) = if c == 48 then reads_end cs else is_ascii_digit c && reads_end (after_all is_ascii_digit cs)
+
+-- the whole number
+abbrev pub reads_number : List ℕ → Bool
+reads_number t = reads_unsigned (after_one is_minus t)
+
+-- ---- classes
+
+digit_no_mark : (c : ℕ) → is_ascii_digit c ≡ true → is_exponent_mark c ≡ false
+digit_no_mark c h = grind (arith, nat_tests)
+
+digit_no_point : (c : ℕ) → is_ascii_digit c ≡ true → (c == 46) ≡ false
+digit_no_point c h = grind (arith, nat_tests)
+
+minus_no_digit : (c : ℕ) → is_minus c ≡ true → is_ascii_digit c ≡ false
+minus_no_digit c h = grind (arith, nat_tests)
+
+minus_no_zero : (c : ℕ) → is_minus c ≡ true → (c == 48) ≡ false
+minus_no_zero c h = grind (arith, nat_tests)
+
+point_no_mark : (c : ℕ) → (c == 46) ≡ true → is_exponent_mark c ≡ false
+point_no_mark c h = grind (arith, nat_tests)
+
+zero_is_digit : (c : ℕ) → (c == 48) ≡ true → is_ascii_digit c ≡ true
+zero_is_digit c h = grind (arith, nat_tests)
+
+exponent_rejects_digit : Rejects is_ascii_digit reads_exponent
+exponent_rejects_digit c cs h = rw (digit_no_mark c h) refl
+
+end_rejects_digit : Rejects is_ascii_digit reads_end
+end_rejects_digit c cs h = rw (digit_no_point c h, digit_no_mark c h) refl
+
+-- ---- a fraction and an exponent
+
+digits_are : (t : List ℕ) → are_digits t ≡ at_least_one is_ascii_digit t
+digits_are [] = refl
+digits_are (c ∷ t) = refl
+
+digits_read : (t : List ℕ) → followed_by are_digits reads_exponent t ≡ (begins_in is_ascii_digit t && reads_exponent (after_all is_ascii_digit t))
+digits_read [] = refl
+digits_read (c ∷ cs) =
+    (λ i. followed_by (λ b. digits_are b i) reads_exponent (c ∷ cs)) ∙ at_least-after is_ascii_digit reads_exponent exponent_rejects_digit c cs ∙ by (is_ascii_digit c)
+  where
+    by : (b : Bool) → (b && reads_exponent (after_all is_ascii_digit cs)) ≡ (b && reads_exponent (if b then after_all is_ascii_digit cs else c ∷ cs))
+    by true = refl
+    by false = refl
+
+frac_read : (c : ℕ) (cs : List ℕ) → followed_by is_frac reads_exponent (c ∷ cs) ≡ ((c == 46) && (begins_in is_ascii_digit cs && reads_exponent (after_all is_ascii_digit cs)))
+frac_read c cs = followed_by-and (c == 46) are_digits reads_exponent cs ∙ ap (λ b. (c == 46) && b) (digits_read cs)
+
+abbrev end_part : List ℕ → Bool
+end_part t = in_order (optional is_frac ∷ optional is_exponent ∷ []) t
+
+end_read : (t : List ℕ) → end_part t ≡ reads_end t
+end_read t = (λ i. followed_by (optional is_frac) (λ b. exponent_read b i) t) ∙ optional-then is_frac reads_exponent t ∙ by t
+  where
+    chosen : (c : ℕ) (cs : List ℕ) (b : Bool) → (c == 46) ≡ b → (x : Bool) → (reads_exponent (c ∷ cs) || (b && x)) ≡ (if b then x else reads_exponent (c ∷ cs))
+    chosen c cs true e x = rw (point_no_mark c e) refl
+    chosen c cs false e x = or-false (reads_exponent (c ∷ cs))
+
+    by : (t : List ℕ) → (reads_exponent t || followed_by is_frac reads_exponent t) ≡ reads_end t
+    by [] = refl
+    by (c ∷ cs) = ap (λ b. reads_exponent (c ∷ cs) || b) (frac_read c cs) ∙ chosen c cs (c == 46) refl _
+
+-- ---- the whole part
+
+whole_parts : (c : ℕ) (b : List ℕ) → is_whole (c ∷ b) ≡ ((is_ascii_digit c && is_empty b) || ((not (c == 48) && is_ascii_digit c) && any_number is_ascii_digit b))
+whole_parts c [] = by (is_ascii_digit c) (not (c == 48))
+  where
+    by : (d n : Bool) → d ≡ ((d && true) || ((n && d) && true))
+    by true n = refl
+    by false true = refl
+    by false false = refl
+whole_parts c (d ∷ w) = by (is_ascii_digit c) (not (c == 48)) (list_all is_ascii_digit (d ∷ w))
+  where
+    by : (e n x : Bool) → (n && (e && x)) ≡ ((e && false) || ((n && e) && x))
+    by true true x = refl
+    by true false x = refl
+    by false true x = refl
+    by false false x = refl
+
+-- where digits are passed over, nothing is lost
+passed : (g : List ℕ → Bool) → Rejects is_ascii_digit g → (t : List ℕ) → (g t || g (after_all is_ascii_digit t)) ≡ g (after_all is_ascii_digit t)
+passed g r [] = twice (g [])
+  where
+    twice : (b : Bool) → (b || b) ≡ b
+    twice true = refl
+    twice false = refl
+passed g r (c ∷ cs) = by (is_ascii_digit c) refl
+  where
+    twice : (b : Bool) → (b || b) ≡ b
+    twice true = refl
+    twice false = refl
+
+    by : (b : Bool) → is_ascii_digit c ≡ b → (g (c ∷ cs) || g (if b then after_all is_ascii_digit cs else c ∷ cs)) ≡ g (if b then after_all is_ascii_digit cs else c ∷ cs)
+    by true e = ap (λ x. x || g (after_all is_ascii_digit cs)) (r c cs e)
+    by false e = twice (g (c ∷ cs))
+
+whole_read : (g : List ℕ → Bool) → Rejects is_ascii_digit g → (c : ℕ) (cs : List ℕ)
+    → followed_by is_whole g (c ∷ cs) ≡ (if c == 48 then g cs else is_ascii_digit c && g (after_all is_ascii_digit cs))
+whole_read g r c cs =
+    (λ i. followed_by (λ b. whole_parts c b i) g cs)
+    ∙ followed_by-or (λ b. is_ascii_digit c && is_empty b) (λ b. (not (c == 48) && is_ascii_digit c) && any_number is_ascii_digit b) g cs
+    ∙ (λ i. (followed_by-and (is_ascii_digit c) is_empty g cs i) || (followed_by-and (not (c == 48) && is_ascii_digit c) (any_number is_ascii_digit) g cs i))
+    ∙ (λ i. (is_ascii_digit c && empty-followed_by g cs i) || ((not (c == 48) && is_ascii_digit c) && any-after is_ascii_digit g r cs i))
+    ∙ by (c == 48) refl (is_ascii_digit c) refl
+  where
+    by : (z : Bool) → (c == 48) ≡ z → (d : Bool) → is_ascii_digit c ≡ d
+        → ((d && g cs) || ((not z && d) && g (after_all is_ascii_digit cs))) ≡ (if z then g cs else d && g (after_all is_ascii_digit cs))
+    by true e true f = or-false (g cs)
+    by true e false f = let no : true ≡ false = sym (zero_is_digit c e) ∙ f in cc
+    by false e true f = passed g r cs
+    by false e false f = refl
+
+unsigned_read : (t : List ℕ) → followed_by is_whole end_part t ≡ reads_unsigned t
+unsigned_read t = (λ i. followed_by is_whole (λ b. end_read b i) t) ∙ by t
+  where
+    by : (t : List ℕ) → followed_by is_whole reads_end t ≡ reads_unsigned t
+    by [] = refl
+    by (c ∷ cs) = whole_read reads_end end_rejects_digit c cs
+
+unsigned_rejects_minus : Rejects is_minus (λ t. followed_by is_whole end_part t)
+unsigned_rejects_minus c cs h = unsigned_read (c ∷ cs) ∙ rw (minus_no_zero c h, minus_no_digit c h) refl
+
+-- a number is what is read from left to right
+pub is_json_number-read : (t : List ℕ) → is_json_number t ≡ reads_number t
+unfolding is_json_number
+is_json_number-read t = optional_one-after is_minus (λ b. followed_by is_whole end_part b) unsigned_rejects_minus t ∙ unsigned_read (after_one is_minus t)

@@ -1,0 +1,127 @@
+-- The text of a string is a string of JSON, and its value is the string.
+use Rattle.std.proofs.Common.{◌≡◌, ◌<◌, ℕ, List, [], ◌∷◌, ◌++◌, Bool, true, false, not, refl, sym, ap, ◌∙◌, arith, append_assoc, subst}
+use Rattle.std.specs.Prelude.{◌+◌, ◌/◌, ◌%◌, ◌==◌, ◌||◌, nat_lt, if◌then◌else◌}
+use Rattle.std.specs.Char.{digit_value}
+use Rattle.std.proofs.lemmas.Bool.{eqb-true, lt-ltb, and_parts, and_from, or_parts}
+use Rattle.std.proofs.lemmas.Bool.Decides.{nat_tests}
+use Rattle.defs_tree.specs.Escapes.{escaped_code, hexadecimal_digit, written_character, written_escapes, double_quoted}
+use Rattle.defs_layout.specs.JsonString.{is_surrogate, four_digits, is_hex_digit, Piece, itself, short, unicode, Short, quotation_mark, reverse_solidus, backspace, form_feed, new_line, return, tabulator, spell_piece, spell_pieces, spell_string, letter_of, character_of, value_of, unescaped, is_unescaped, is_piece, are_pieces}
+use Rattle.defs_layout.specs.Marks.{backslash}
+use Rattle.defs_layout.specs.HasJson.{is_character, are_characters}
+
+-- how a character is written
+piece_of : ℕ → Piece
+piece_of c =
+    if c == 34 then short quotation_mark
+    else (if c == 92 then short reverse_solidus
+    else (if c == 8 then short backspace
+    else (if c == 9 then short tabulator
+    else (if c == 10 then short new_line
+    else (if c == 12 then short form_feed
+    else (if c == 13 then short return
+    else (if nat_lt c 32 || (c == 127) then unicode 48 48 (hexadecimal_digit (c / 16)) (hexadecimal_digit (c % 16))
+    else itself c)))))))
+
+-- its text, its value, and that it is one
+record IsWritten (p : Piece) (text : List ℕ) (c : ℕ) : Type 0 where
+  spelt : (r : List ℕ) → spell_piece p r ≡ text ++ r
+  value : value_of p ≡ c
+  fits : is_piece p ≡ true
+
+-- ---- the digits of a code
+
+low_digit : (n : ℕ) → n < 16 → nat_lt n 10 ≡ true → digit_value (48 + n) ≡ n
+low_digit n h e = grind (arith, nat_tests)
+
+high_digit : (n : ℕ) → n < 16 → nat_lt n 10 ≡ false → digit_value (87 + n) ≡ n
+high_digit n h e = grind (arith, nat_tests)
+
+digit_back : (n : ℕ) → n < 16 → digit_value (hexadecimal_digit n) ≡ n
+digit_back n h = by (nat_lt n 10) refl
+  where
+    by : (b : Bool) → nat_lt n 10 ≡ b → digit_value (if b then 48 + n else 87 + n) ≡ n
+    by true e = low_digit n h e
+    by false e = high_digit n h e
+
+digit_fits : (n : ℕ) → n < 16 → is_hex_digit (hexadecimal_digit n) ≡ true
+digit_fits n h = ap (λ d. nat_lt d 16) (digit_back n h) ∙ lt-ltb n 16 h
+
+low_no_surrogate : (c : ℕ) → c < 256 → not (is_surrogate c) ≡ true
+low_no_surrogate c h = grind (arith, nat_tests)
+
+control : (c : ℕ) → c < 256 → IsWritten (unicode 48 48 (hexadecimal_digit (c / 16)) (hexadecimal_digit (c % 16))) (escaped_code c) c
+control c h =
+    let high : c / 16 < 16 = omega arith in
+    let low : c % 16 < 16 = omega arith in
+    let value : four_digits 48 48 (hexadecimal_digit (c / 16)) (hexadecimal_digit (c % 16)) ≡ c = rw (digit_back (c / 16) high, digit_back (c % 16) low) (omega arith) in
+    record {
+      spelt = λ r. refl;
+      value = value;
+      fits = and_from _ _ (and_from _ _ (digit_fits (c / 16) high) (digit_fits (c % 16) low)) (ap (λ n. not (is_surrogate n)) value ∙ low_no_surrogate c h);
+    }
+
+itself_written : (c : ℕ) → (c == 34) ≡ false → (c == 92) ≡ false → nat_lt c 32 ≡ false → is_character c ≡ true → IsWritten (itself c) (c ∷ []) c
+unfolding is_unescaped
+itself_written c a b low high = record { spelt = λ r. refl; value = refl; fits = grind (arith, nat_tests) }
+
+-- ---- each character
+
+-- one choice in both tables
+chosen : (c d : ℕ) (p q : Piece) (text other : List ℕ) → IsWritten p text d → ((c == d) ≡ false → IsWritten q other c) → IsWritten (if c == d then p else q) (if c == d then text else other) c
+chosen c d p q text other is later = by (c == d) refl
+  where
+    by : (b : Bool) → (c == d) ≡ b → IsWritten (if b then p else q) (if b then text else other) c
+    by true e = subst (IsWritten p text) (sym (eqb-true c d e)) is
+    by false e = later e
+
+short_written : (s : Short) → IsWritten (short s) (backslash ∷ letter_of s ∷ []) (character_of s)
+short_written s = record { spelt = λ r. refl; value = refl; fits = refl }
+
+written : (c : ℕ) → is_character c ≡ true → IsWritten (piece_of c) (written_character c) c
+unfolding piece_of written_character
+written c h =
+    chosen c 34 _ _ _ _ (short_written quotation_mark)
+    λ a. chosen c 92 _ _ _ _ (short_written reverse_solidus)
+    λ b. chosen c 8 _ _ _ _ (short_written backspace)
+    λ _. chosen c 9 _ _ _ _ (short_written tabulator)
+    λ _. chosen c 10 _ _ _ _ (short_written new_line)
+    λ _. chosen c 12 _ _ _ _ (short_written form_feed)
+    λ _. chosen c 13 _ _ _ _ (short_written return)
+    λ _. by a b (nat_lt c 32 || (c == 127)) refl
+  where
+    small : (nat_lt c 32 || (c == 127)) ≡ true → c < 256
+    small e = grind (arith, nat_tests)
+
+    by : (c == 34) ≡ false → (c == 92) ≡ false → (t : Bool) → (nat_lt c 32 || (c == 127)) ≡ t
+        → IsWritten (if t then unicode 48 48 (hexadecimal_digit (c / 16)) (hexadecimal_digit (c % 16)) else itself c) (if t then escaped_code c else c ∷ []) c
+    by a b true e = control c (small e)
+    by a b false e = itself_written c a b (or_parts (nat_lt c 32) (c == 127) e).0 h
+
+-- ---- a text
+
+pub pieces_of : List ℕ → List Piece
+pieces_of [] = []
+pieces_of (c ∷ s) = piece_of c ∷ pieces_of s
+
+pub record AreWritten (s : List ℕ) : Type 0 where
+  pub spelt : (r : List ℕ) → spell_pieces (pieces_of s) r ≡ written_escapes s ++ r
+  pub value : unescaped (pieces_of s) ≡ s
+  pub fit : are_pieces (pieces_of s) ≡ true
+
+pub all_written : (s : List ℕ) → are_characters s ≡ true → AreWritten s
+unfolding pieces_of
+all_written [] h = record { spelt = λ r. refl; value = refl; fit = refl }
+all_written (c ∷ s) h =
+    let parts = and_parts (is_character c) (are_characters s) h in
+    let one = written c parts.0 in
+    let rest = all_written s parts.1 in
+    record {
+      spelt = λ r. one.spelt (spell_pieces (pieces_of s) r) ∙ ap (λ t. written_character c ++ t) (rest.spelt r) ∙ sym (append_assoc (written_character c) (written_escapes s) r);
+      value = (λ i. one.value i ∷ rest.value i);
+      fit = and_from _ _ one.fits rest.fit;
+    }
+
+-- between quotation marks
+pub string_spelt : (s r : List ℕ) → are_characters s ≡ true → spell_string (pieces_of s) r ≡ double_quoted s ++ r
+string_spelt s r h =
+    ap (λ t. 34 ∷ t) ((all_written s h).spelt (34 ∷ r) ∙ sym (append_assoc (written_escapes s) (34 ∷ []) r))

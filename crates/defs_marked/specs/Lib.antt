@@ -1,4 +1,0 @@
-pub mod Fits
-pub mod Laws
-pub mod Marking
-pub mod Marks

@@ -1,3 +1,0 @@
-pub mod Merging
-mod Rows
-mod Unmergeable

@@ -1,6 +1,0 @@
-mod Limits
-mod MoreNoRows
-pub mod MoreRows
-mod NoRows
-pub mod Rows
-pub mod Shown

@@ -1,4 +1,0 @@
-pub mod BlockScalar
-pub mod Directives
-pub mod FlowScalar
-pub mod Tags

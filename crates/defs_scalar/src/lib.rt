@@ -1,2 +1,0 @@
-//! Definitions of scalars, tags and directives, from their text alone. There is no code.
-#![tactic(auto)]

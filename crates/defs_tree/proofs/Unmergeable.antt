@@ -1,0 +1,28 @@
+-- Without merge keys there is nothing that cannot be merged.
+use Rattle.std.proofs.Common.{◌≡◌, ◌≢◌, ℕ, ◌+◌, None, refl, ap, ◌∙◌}
+use Rattle.std.specs.Prelude.{if◌then◌else◌}
+use Rattle.std.specs.Option.{option_or}
+use Rattle.defs_tree.specs.Tree.{Tree, array, hash, Items, no_items, item, Pairs, no_pairs, pair, pair_list_of}
+use Rattle.defs_tree.specs.Pairs.{Lacks}
+use Rattle.defs_tree.proofs.PairsLaws.{tree_eq-other}
+use Rattle.defs_tree.specs.Path.{index}
+use Rattle.defs_tree.specs.Merge.{merge_key, LacksMergeKeys, AllLackMergeKeys, ValuesLackMergeKeys}
+use Rattle.defs_tree.specs.MergeFault.{any_node, mappings, wanted_at, step_to, below, first_fault, first_item_fault, first_pair_fault}
+
+any_is_wanted : (k : Tree) → merge_key ≢ k → wanted_at k ≡ any_node
+any_is_wanted k n = ap (λ b. if b then mappings else any_node) (tree_eq-other merge_key k n)
+
+mutual
+  pub no_fault : (t : Tree) → LacksMergeKeys t → first_fault any_node t ≡ None
+  no_fault (array ts) h = no_item_fault 0 ts h
+  no_fault (hash ps) h = no_pair_fault 0 ps h.0 h.1
+  no_fault t h = refl
+
+  no_item_fault : (n : ℕ) (ts : Items) → AllLackMergeKeys ts → first_item_fault any_node n ts ≡ None
+  no_item_fault n no_items h = refl
+  no_item_fault n (item t ts) h = ap (λ o. option_or (below (index n) o) (first_item_fault any_node (n + 1) ts)) (no_fault t h.0) ∙ no_item_fault (n + 1) ts h.1
+
+  no_pair_fault : (n : ℕ) (ps : Pairs) → Lacks merge_key (pair_list_of ps) → ValuesLackMergeKeys ps → first_pair_fault n ps ≡ None
+  no_pair_fault n no_pairs h g = refl
+  no_pair_fault n (pair k v ps) h g =
+      ap (λ o. option_or (below (step_to n k) o) (first_pair_fault (n + 1) ps)) (ap (λ w. first_fault w v) (any_is_wanted k h.0) ∙ no_fault v g.0) ∙ no_pair_fault (n + 1) ps h.1 g.1

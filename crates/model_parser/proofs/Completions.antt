@@ -1,0 +1,31 @@
+-- Where each goal of a table can be read to an end, all work can.
+use Rattle.std.proofs.Common.{◌≡◌, List, [], ◌∷◌, ◌++◌, refl, ap, subst}
+use Rattle.defs_event.specs.Table.{Part, Table, Work, reading, saying, part_work, before, Derives, nothing_left, says, by_taking, by_leaving}
+use Rattle.model_parser.specs.Outcome.{Begins}
+
+pub before_along : {G T E H : Type 0} (a : Table G T E H) (h : H) (t : T) (ps : List (Part G E)) (w v : List (Work G E H)) → before a h t ps w ++ v ≡ before a h t ps (w ++ v)
+before_along a h t [] w v = refl
+before_along a h t (p ∷ ps) w v = ap (λ l. part_work a h t p ∷ l) (before_along a h t ps w v)
+
+-- Work after work reads tokens after tokens.
+pub along : {G T E H : Type 0} (a : Table G T E H) (w v : List (Work G E H)) (ts us : List T) (es fs : List E) → Derives a w ts es → Derives a v us fs → Derives a (w ++ v) (ts ++ us) (es ++ fs)
+along a [] v [] us _ fs nothing_left c = c
+along a [] v (t ∷ ts) us es fs d c = elim d [ ]
+along a (saying e ∷ w) v ts us _ fs (says {es = es} d) c = says (along a w v ts us es fs d c)
+along a (reading g h ∷ w) v [] us es fs d c = elim d [ ]
+along a (reading g h ∷ w) v (t ∷ ts) us es fs (by_taking ps p d) c =
+    by_taking ps p (subst (λ l. Derives a l (ts ++ us) (es ++ fs)) (before_along a h t ps w v) (along a (before a h t ps w) v ts us es fs d c))
+along a (reading g h ∷ w) v (t ∷ ts) us es fs (by_leaving ps p d) c =
+    by_leaving ps p (subst (λ l. Derives a l (t ∷ (ts ++ us)) (es ++ fs)) (before_along a h t ps w v) (along a (before a h t ps w) v (t ∷ ts) us es fs d c))
+
+-- each goal has tokens that it reads to their end
+abbrev pub Completes : {G T E H : Type 0} → Table G T E H → Type 0
+Completes {G = G} {T = T} {E = E} {H = H} a = (g : G) (h : H) → (ts : List T) × (es : List E) × Derives a (reading g h ∷ []) ts es
+
+pub all_complete : {G T E H : Type 0} (a : Table G T E H) → Completes a → (w : List (Work G E H)) → Begins a w [] []
+all_complete a c [] = ([], [], nothing_left)
+all_complete a c (saying e ∷ w) = let r = all_complete a c w in (r.0, e ∷ r.1, says r.2)
+all_complete a c (reading g h ∷ w) =
+    let r = all_complete a c w in
+    let k = c g h in
+    (k.0 ++ r.0, k.1 ++ r.1, along a (reading g h ∷ []) w k.0 r.0 k.1 r.1 k.2 r.2)

@@ -1,0 +1,73 @@
+-- What a parser still has to read has no event that is due at a place: that of the end of a single pair is promised nowhere.
+use Rattle.std.proofs.Common.{◌≡◌, List, [], ◌∷◌, ◌++◌, Option, None, Bool, true, false, refl, ap, ◌∙◌}
+use Rattle.defs_text.specs.Position.{Position}
+use Rattle.defs_token.specs.Token.{Token}
+use Rattle.defs_event.specs.Raw.{Raw}
+use Rattle.defs_event.specs.Table.{Part, reading, saying, before}
+use Rattle.defs_event.specs.Grammar.{Held, Goal as Read, grammar}
+use Rattle.defs_event.specs.Stream.{placed_by, position_at, placed_before}
+use Rattle.model_parser.proofs.Places.{plain_work, before_other}
+use Rattle.model_parser.specs.declared.state.State.{State}
+use Rattle.model_parser.specs.declared.state.State.TheVariants as state
+use Rattle.model_parser.specs.Goal as at
+use Rattle.model_parser.specs.Goal.{Goal}
+use Rattle.model_parser.specs.Rest.{Works, past, works, work_of, placed}
+
+abbrev pub is_quiet : Works → Bool
+is_quiet [] = true
+is_quiet (reading g h ∷ w) = is_quiet w
+is_quiet (saying Raw.pair_end ∷ w) = is_quiet w
+is_quiet (saying e ∷ w) = false
+
+past_quiet : (ss : List State) (w : Works) → is_quiet w ≡ true → is_quiet (past ss w) ≡ true
+past_quiet (state.BlockMappingKey ∷ ss) [] q = q
+past_quiet (state.BlockMappingKey ∷ ss) (reading g h ∷ w) q = q
+past_quiet (state.BlockMappingKey ∷ ss) (saying Raw.pair_end ∷ w) q = q
+past_quiet (state.BlockMappingKey ∷ ss) (saying e ∷ w) q = cc
+past_quiet (state.BlockMappingValue ∷ ss) [] q = q
+past_quiet (state.BlockMappingValue ∷ ss) (reading g h ∷ w) q = q
+past_quiet (state.BlockMappingValue ∷ ss) (saying Raw.pair_end ∷ w) q = q
+past_quiet (state.BlockMappingValue ∷ ss) (saying e ∷ w) q = cc
+past_quiet ss w q = q
+
+state_quiet : (s : State) (ss : List State) → is_quiet (works ss) ≡ true → is_quiet (works (s ∷ ss)) ≡ true
+state_quiet state.BlockNode ss q = past_quiet ss (works ss) q
+state_quiet state.IndentlessSequenceEntry ss q = past_quiet ss (works ss) q
+state_quiet state.IndentlessSequenceItem ss q = past_quiet ss (works ss) q
+state_quiet state.BlockMappingPart ss q = past_quiet ss (works ss) q
+state_quiet s ss q = q
+
+works_quiet : (ss : List State) → is_quiet (works ss) ≡ true
+works_quiet [] = refl
+works_quiet (s ∷ ss) = state_quiet s ss (works_quiet ss)
+
+pub work_quiet : (g : Goal) (ss : List State) → is_quiet (work_of g ss) ≡ true
+work_quiet (at.node p) ss = past_quiet ss (works ss) (works_quiet ss)
+work_quiet (at.after_anchor p a) ss = past_quiet ss (works ss) (works_quiet ss)
+work_quiet (at.after_tag p t) ss = past_quiet ss (works ss) (works_quiet ss)
+work_quiet (at.after_properties p o) ss = past_quiet ss (works ss) (works_quiet ss)
+work_quiet at.indentless_entries ss = past_quiet ss (works ss) (works_quiet ss)
+work_quiet at.indentless_entry ss = past_quiet ss (works ss) (works_quiet ss)
+work_quiet at.part ss = past_quiet ss (works ss) (works_quiet ss)
+work_quiet g ss = works_quiet ss
+
+-- So it is the same wherever its events would stand.
+pub quiet_placed : (k : Token) (b : Option Position) (w : Works) → is_quiet w ≡ true → placed_by (position_at k b) w ≡ placed w
+quiet_placed k b [] q = refl
+quiet_placed k b (reading g h ∷ w) q = ap (λ v. reading g h ∷ v) (quiet_placed k b w q)
+quiet_placed k b (saying Raw.pair_end ∷ w) q = ap (λ v. saying (Raw.pair_end, None) ∷ v) (quiet_placed k b w q)
+quiet_placed k b (saying e ∷ w) q = cc
+
+pub plain_placed : (f : Raw → Option Position) (w : Works) → plain_work (placed_by f w) ≡ w
+plain_placed f [] = refl
+plain_placed f (reading g h ∷ w) = ap (λ v. reading g h ∷ v) (plain_placed f w)
+plain_placed f (saying e ∷ w) = ap (λ v. saying e ∷ v) (plain_placed f w)
+
+placed_over : (f : Raw → Option Position) (v w : Works) → placed_by f v ++ placed_by f w ≡ placed_by f (v ++ w)
+placed_over f [] w = refl
+placed_over f (reading g h ∷ v) w = ap (λ x. reading g h ∷ x) (placed_over f v w)
+placed_over f (saying e ∷ v) w = ap (λ x. saying (e, f e) ∷ x) (placed_over f v w)
+
+-- a row's parts at its token, before other work
+pub placed_row : (k : Token) (b : Option Position) (h : Held) (ps : List (Part Read Raw)) (w : Works) → placed_before k b h ps (placed_by (position_at k b) w) ≡ placed_by (position_at k b) (before grammar h k.tok ps w)
+placed_row k b h ps w = placed_over (position_at k b) (before grammar h k.tok ps []) w ∙ ap (placed_by (position_at k b)) (before_other h k.tok ps w)

@@ -1,0 +1,341 @@
+-- A turn of the parser by the rows of the grammar's table.
+use Rattle.std.proofs.Common.{◌≡◌, ◌⊎◌, ℕ, zero, suc, List, [], ◌∷◌, ◌++◌, Option, Some, None, Bool, true, false, refl, sym, ap, ◌∙◌, subst}
+use Rattle.std.specs.Option.{IfSome}
+use Rattle.defs_text.specs.Position.{Position}
+use Rattle.defs_token.specs.Token.{Tok, Token}
+use Rattle.defs_token.specs.Toks.{toks}
+use Rattle.defs_event.specs.Raw.{Raw}
+use Rattle.defs_event.specs.Table.{Part, Row, takes, leaves, row_of, reading, saying, before, Derives, says, by_taking, by_leaving}
+use Rattle.model_parser.specs.Machine.{Turned, goes, refused, step}
+use Rattle.defs_event.specs.Stream as places
+use Rattle.defs_event.specs.Stream.{PlacedWork, placed_by, position_at, placed_before, Extent, Places}
+use Rattle.defs_event.specs.Grammar as table
+use Rattle.defs_event.specs.Grammar.{Held, cases, grammar}
+use Rattle.model_parser.proofs.Completions.{all_complete}
+use Rattle.model_parser.proofs.Falls.{grammar_completes}
+use Rattle.model_parser.proofs.Steps.{Sound, step_sound}
+use Rattle.model_parser.proofs.Places.{plain_work, plain_before}
+use Rattle.model_parser.specs.declared.kind.Kind.{Kind}
+use Rattle.model_parser.specs.declared.state.State.{State}
+use Rattle.model_parser.specs.Kinds.{kind_of}
+use Rattle.model_parser.specs.Goal.{Goal}
+use Rattle.defs_event.specs.Place.{open_past, next_past}
+use Rattle.model_parser.specs.Place.{open_at, next_at, is_past_directives, IsNoDirective}
+use Rattle.model_parser.specs.Rest.{Works, work_of, may_begin, first_may, Awaits, placed, AwaitsAt, IsNested, IsFor}
+use Rattle.model_parser.specs.Stands.{IsNext}
+use Rattle.model_parser.specs.Turn.{event_then, Then, IsAt, IsAtFirst, IsThere, event_at, Takes, Leaves, Settles, Refuses}
+use Rattle.model_parser.proofs.Quiet.{is_quiet, work_quiet, quiet_placed, plain_placed, placed_row}
+
+-- ---- what a derivation came by
+
+pub row_taken : (g : table.Goal) (h : Held) (w : Works) (t : Tok) (ts : List Tok) (es : List Raw) (ps : List (Part table.Goal Raw)) → row_of (cases g) t ≡ Some (takes ps)
+    → Derives grammar (reading g h ∷ w) (t ∷ ts) es → Derives grammar (before grammar h t ps w) ts es
+row_taken g h w t ts es ps r (by_taking qs q d) = let same : qs ≡ ps = cc (q, r) in subst (λ l. Derives grammar (before grammar h t l w) ts es) same d
+row_taken g h w t ts es ps r (by_leaving qs q d) = cc
+
+pub row_left : (g : table.Goal) (h : Held) (w : Works) (t : Tok) (ts : List Tok) (es : List Raw) (ps : List (Part table.Goal Raw)) → row_of (cases g) t ≡ Some (leaves ps)
+    → Derives grammar (reading g h ∷ w) (t ∷ ts) es → Derives grammar (before grammar h t ps w) (t ∷ ts) es
+row_left g h w t ts es ps r (by_taking qs q d) = cc
+row_left g h w t ts es ps r (by_leaving qs q d) = let same : qs ≡ ps = cc (q, r) in subst (λ l. Derives grammar (before grammar h t l w) (t ∷ ts) es) same d
+
+pub no_row : (g : table.Goal) (h : Held) (w : Works) (t : Tok) (ts : List Tok) (es : List Raw) → row_of (cases g) t ≡ None → Derives grammar (reading g h ∷ w) (t ∷ ts) es → ⊥
+no_row g h w t ts es r (by_taking qs q d) = cc
+no_row g h w t ts es r (by_leaving qs q d) = cc
+
+pub said : (e : Raw) (w : Works) (ts : List Tok) (es : List Raw) → Derives grammar (saying e ∷ w) ts es → (fs : List Raw) × (es ≡ e ∷ fs) × Derives grammar w ts fs
+said e w ts _ (says {es = es} d) = (es, refl, d)
+
+-- ---- a turn that takes the token
+
+abbrev pub and_saying : Option Raw → Works → Works
+and_saying None w = w
+and_saying (Some e) w = saying e ∷ w
+
+saying_on : (e : Option Raw) (w : Works) (ts : List Tok) (es : List Raw) → Derives grammar w ts es → Derives grammar (and_saying e w) ts (event_then e es)
+saying_on None w ts es d = d
+saying_on (Some x) w ts es d = says d
+
+said_on : (e : Option Raw) (w : Works) (ts : List Tok) (es : List Raw) → Derives grammar (and_saying e w) ts es → (fs : List Raw) × (es ≡ event_then e fs) × Derives grammar w ts fs
+said_on None w ts es d = (es, refl, d)
+said_on (Some x) w ts es d = said x w ts es d
+
+-- Work takes a token, and says this event or none before other work.
+pub record Reads (w : Works) (t : Tok) (e : Option Raw) (w' : Works) : Type 0 where
+  pub back : (ts : List Tok) (es : List Raw) → Derives grammar w' ts es → Derives grammar w (t ∷ ts) (event_then e es)
+  pub on : (ts : List Tok) (es : List Raw) → Derives grammar w (t ∷ ts) es → (fs : List Raw) × (es ≡ event_then e fs) × Derives grammar w' ts fs
+  pub places : is_quiet w ≡ true → is_quiet w' ≡ true → (x : Extent) (b : Option Position) (k : Token) (m : Position) → k.tok ≡ t → IsAt b k e m
+      → (ts : List Token) (es : List (Raw × Position)) → Places x (Some k.position) (placed w') ts es → Places x b (placed w) (k ∷ ts) (event_at e m es)
+
+saying_at : (e : Option Raw) (w : Works) (b : Option Position) (k : Token) (m : Position) → IsAt b k e m → is_quiet w ≡ true → (x : Extent) (c : Option Position) (ts : List Token) (es : List (Raw × Position))
+    → Places x c (placed w) ts es → Places x c (placed_by (position_at k b) (and_saying e w)) ts (event_at e m es)
+saying_at None w b k m at q x c ts es d = subst (λ v. Places x c v ts es) (sym (quiet_placed k b w q)) d
+saying_at (Some y) w b k m at q x c ts es d = places.says at (subst (λ v. Places x c v ts es) (sym (quiet_placed k b w q)) d)
+
+-- A row takes it.
+pub by_row : {g : table.Goal} {h : Held} {w : Works} {t : Tok} {e : Option Raw} {w' : Works} (ps : List (Part table.Goal Raw))
+    → row_of (cases g) t ≡ Some (takes ps) → before grammar h t ps w ≡ and_saying e w' → Reads (reading g h ∷ w) t e w'
+by_row {g} {h} {w} {t} {e} {w'} ps r b = record {
+  back = λ ts es d. by_taking ps r (subst (λ v. Derives grammar v ts (event_then e es)) (sym b) (saying_on e w' ts es d));
+  on = λ ts es d. said_on e w' ts es (subst (λ v. Derives grammar v ts es) b (row_taken g h w t ts es ps r d));
+  places = λ q q' x c k m same at ts es d.
+      let there : placed_before k c h ps (placed w) ≡ placed_by (position_at k c) (and_saying e w') =
+      ap (placed_before k c h ps) (sym (quiet_placed k c w q)) ∙ placed_row k c h ps w ∙ ap (λ u. placed_by (position_at k c) (before grammar h u ps w)) same ∙ ap (placed_by (position_at k c)) b in
+      places.by_taking {es = event_at e m es} ps (ap (λ u. row_of (cases g) u) same ∙ r)
+      (subst (λ v. Places x (Some k.position) v ts (event_at e m es)) (sym there) (saying_at e w' c k m at q' x (Some k.position) ts es d));
+}
+
+pub first_any : (g : Goal) (ss : List State) (ts : List Tok) → ((k : Kind) → may_begin g ss k ≡ true) → first_may g ss ts ≡ true
+first_any g ss [] f = refl
+first_any g ss (t ∷ ts) f = f (kind_of t)
+
+first_placed : (g : Goal) (ss : List State) (k : Token) (e : Option Raw) (m : Position) (ts : List Token) (es : List (Raw × Position)) → may_begin g ss (kind_of k.tok) ≡ true → first_may g ss (toks (k ∷ ts)) ≡ true
+first_placed g ss k e m ts es h = h
+
+-- Anything may come after the token.
+pub takes_so : {g : Goal} {ss : List State} {t : Tok} {e : Option Raw} {g' : Goal} {ss' : List State}
+    → (IsNested ss → IsFor g ss → IsNested ss' × IsFor g' ss')
+    → (IsFor g ss → (may_begin g ss (kind_of t) ≡ true) × ((k : Kind) → may_begin g' ss' k ≡ true) × Reads (work_of g ss) t e (work_of g' ss'))
+    → open_past t (open_at g ss) ≡ open_at g' ss' → (IsFor g ss → next_past t ≡ next_at g' ss') → (IsFor g ss → is_past_directives g' ss' ≡ false) → Takes g ss t e g' ss'
+takes_so {g} {ss} {t} {e} {g'} {ss'} nested reads opened next past = record {
+  nested = nested;
+  comes = λ f ts es a. ((reads f).2.back ts es a.0, (reads f).0);
+  goes = λ f ts es a. let x = (reads f).2.on ts es a.0 in (x.0, x.1, (x.2, first_any g' ss' ts (reads f).1));
+  places = λ f x b k m same at ts es a.
+      ((reads f).2.places (work_quiet g ss) (work_quiet g' ss') x b k m same at ts es a.0, first_placed g ss k e m ts es (ap (λ u. may_begin g ss (kind_of u)) same ∙ (reads f).0));
+  opened = opened;
+  next = next;
+  past = past;
+}
+
+-- ---- a turn that leaves it
+
+-- what is said, and what stands first, after so many rows that leave the token
+abbrev leave_row : Held → Tok → table.Goal → Works → (Works → List Raw × Works) → Option (Row table.Goal Raw) → List Raw × Works
+leave_row h t g w again (Some (leaves ps)) = again (before grammar h t ps w)
+leave_row h t g w again _ = ([], reading g h ∷ w)
+
+abbrev pub steps : ℕ → Tok → Works → List Raw × Works
+steps zero t w = ([], w)
+steps (suc n) t [] = ([], [])
+steps (suc n) t (saying e ∷ w) = (e ∷ (steps n t w).0, (steps n t w).1)
+steps (suc n) t (reading g h ∷ w) = leave_row h t g w (λ v. steps n t v) (row_of (cases g) t)
+
+-- With that token, one work says these events and goes on as the other.
+abbrev pub Stays : Tok → Works → List Raw → Works → Type 0
+Stays t w es w' =
+    ((ts : List Tok) (fs : List Raw) → Derives grammar w' (t ∷ ts) fs → Derives grammar w (t ∷ ts) (es ++ fs))
+    × ((ts : List Tok) (gs : List Raw) → Derives grammar w (t ∷ ts) gs → (fs : List Raw) × (gs ≡ es ++ fs) × Derives grammar w' (t ∷ ts) fs)
+
+pub by_steps : (n : ℕ) (t : Tok) (w : Works) → Stays t w (steps n t w).0 (steps n t w).1
+by_steps zero t w = (λ ts fs d. d, λ ts gs d. (gs, refl, d))
+by_steps (suc n) t [] = (λ ts fs d. d, λ ts gs d. (gs, refl, d))
+by_steps (suc n) t (saying e ∷ w) =
+    let i = by_steps n t w in
+    (λ ts fs d. says (i.0 ts fs d), λ ts gs d. let s = said e w (t ∷ ts) gs d in let y = i.1 ts s.0 s.2 in (y.0, s.1 ∙ ap (λ l. e ∷ l) y.1, y.2))
+by_steps (suc n) t (reading g h ∷ w) = by (row_of (cases g) t) refl (λ v. by_steps n t v)
+  where
+    by : (r : Option (Row table.Goal Raw)) → row_of (cases g) t ≡ r → ((v : Works) → Stays t v (steps n t v).0 (steps n t v).1)
+        → Stays t (reading g h ∷ w) (leave_row h t g w (λ v. steps n t v) r).0 (leave_row h t g w (λ v. steps n t v) r).1
+    by (Some (leaves ps)) q again = let i = again (before grammar h t ps w) in (λ ts fs d. by_leaving ps q (i.0 ts fs d), λ ts gs d. i.1 ts gs (row_left g h w t ts gs ps q d))
+    by (Some (takes ps)) q again = (λ ts fs d. d, λ ts gs d. (gs, refl, d))
+    by None q again = (λ ts fs d. d, λ ts gs d. (gs, refl, d))
+
+-- ---- and where its events stand
+
+abbrev pub event_list : Option Raw → List Raw
+event_list None = []
+event_list (Some e) = e ∷ []
+
+abbrev or_at : Position → Option Position → Position
+or_at m None = m
+or_at m (Some p) = p
+
+or_at_own : (m : Position) (o : Option Position) → IfSome o (λ p. or_at m o ≡ p)
+or_at_own m None = tt
+or_at_own m (Some p) = refl
+
+abbrev each_at : (Raw → Position) → List Raw → List (Raw × Position) → List (Raw × Position)
+each_at f [] fs = fs
+each_at f (e ∷ es) fs = (e, f e) ∷ each_at f es fs
+
+abbrev StaysAt : Extent → Option Position → Token → Position → Works → List Raw × Works → Type 0
+StaysAt x b k m w y =
+    (ts : List Token) (fs : List (Raw × Position)) → Places x b (placed_by (position_at k b) y.1) (k ∷ ts) fs → Places x b (placed_by (position_at k b) w) (k ∷ ts) (each_at (λ e. or_at m (position_at k b e)) y.0 fs)
+
+steps_at : (n : ℕ) (x : Extent) (b : Option Position) (k : Token) (m : Position) (w : Works) → StaysAt x b k m w (steps n k.tok w)
+steps_at zero x b k m w = λ ts fs d. d
+steps_at (suc n) x b k m [] = λ ts fs d. d
+steps_at (suc n) x b k m (saying e ∷ w) = λ ts fs d. places.says (or_at_own m (position_at k b e)) (steps_at n x b k m w ts fs d)
+steps_at (suc n) x b k m (reading g h ∷ w) = by (row_of (cases g) k.tok) refl (λ v. steps_at n x b k m v)
+  where
+    by : (r : Option (Row table.Goal Raw)) → row_of (cases g) k.tok ≡ r → ((v : Works) → StaysAt x b k m v (steps n k.tok v)) → StaysAt x b k m (reading g h ∷ w) (leave_row h k.tok g w (λ v. steps n k.tok v) r)
+    by (Some (leaves ps)) q again = λ ts fs d. places.by_leaving ps q (subst (λ v. Places x b v (k ∷ ts) (each_at (λ e. or_at m (position_at k b e)) (steps n k.tok (before grammar h k.tok ps w)).0 fs)) (sym (placed_row k b h ps w)) (again (before grammar h k.tok ps w) ts fs d))
+    by (Some (takes ps)) q again = λ ts fs d. d
+    by None q again = λ ts fs d. d
+
+each_one : (b : Option Position) (k : Token) (e : Option Raw) (m : Position) (fs : List (Raw × Position)) → IsAt b k e m → each_at (λ x. or_at m (position_at k b x)) (event_list e) fs ≡ event_at e m fs
+each_one b k None m fs at = refl
+each_one b k (Some e) m fs at = by (position_at k b e) at
+  where
+    by : (o : Option Position) → IfSome o (λ p. m ≡ p) → (e, or_at m o) ∷ fs ≡ (e, m) ∷ fs
+    by None h = refl
+    by (Some p) h = ap (λ x. (e, x) ∷ fs) (sym h)
+
+pub leads_at : (n : ℕ) (w : Works) (e : Option Raw) (w' : Works) (x : Extent) (b : Option Position) (k : Token) (m : Position) → is_quiet w ≡ true → is_quiet w' ≡ true → IsAt b k e m → steps n k.tok w ≡ (event_list e, w')
+    → (ts : List Token) (fs : List (Raw × Position)) → Places x b (placed w') (k ∷ ts) fs → Places x b (placed w) (k ∷ ts) (event_at e m fs)
+leads_at n w e w' x b k m q q' at h ts fs d =
+    let y = subst (StaysAt x b k m w) h (steps_at n x b k m w) ts fs (subst (λ v. Places x b v (k ∷ ts) fs) (sym (quiet_placed k b w' q')) d) in
+    subst (λ v. Places x b v (k ∷ ts) (event_at e m fs)) (quiet_placed k b w q) (subst (λ es. Places x b (placed_by (position_at k b) w) (k ∷ ts) es) (each_one b k e m fs at) y)
+
+-- Two goals of which the same row takes the token read it alike.
+pub placed_alike : (g g' : table.Goal) (h : Held) (w : PlacedWork) (x : Extent) (b : Option Position) (k : Token) (ts : List Token) (es : List (Raw × Position)) (ps : List (Part table.Goal Raw)) → row_of (cases g) k.tok ≡ Some (takes ps)
+    → row_of (cases g') k.tok ≡ Some (takes ps) → Places x b (reading g h ∷ w) (k ∷ ts) es → Places x b (reading g' h ∷ w) (k ∷ ts) es
+placed_alike g g' h w x b k ts es ps r r' (places.by_taking qs q d) = let same : qs ≡ ps = cc (q, r) in places.by_taking qs (r' ∙ ap (λ l. Some (takes l)) (sym same)) d
+placed_alike g g' h w x b k ts es ps r r' (places.by_leaving qs q d) = cc
+placed_alike g g' h w x b k ts es ps r r' (places.takes_last qs q) = places.takes_last ps r'
+
+-- Two works that take the token alike.
+pub alike_reads : {w v x : Works} {t : Tok} {e : Option Raw} → Reads w t e x → Reads v t e x → Stays t w [] v
+alike_reads {w} {v} {x} {t} r s = (
+  λ ts fs d. let y = s.on ts fs d in subst (λ es. Derives grammar w (t ∷ ts) es) (sym y.1) (r.back ts y.0 y.2),
+  λ ts gs d. let y = r.on ts gs d in (gs, refl, subst (λ es. Derives grammar v (t ∷ ts) es) (sym y.1) (s.back ts y.0 y.2)),
+)
+
+pub after_steps : {w v x : Works} {t : Tok} → Stays t w [] v → Stays t v [] x → Stays t w [] x
+after_steps r s = (λ ts fs d. r.0 ts fs (s.0 ts fs d), λ ts gs d. let y = r.1 ts gs d in let z = s.1 ts y.0 y.2 in (z.0, y.1 ∙ z.1, z.2))
+
+-- whether work refuses a token within so many rows that leave it
+abbrev refuse_row : Held → Tok → Works → (Works → Bool) → Option (Row table.Goal Raw) → Bool
+refuse_row h t w again None = true
+refuse_row h t w again (Some (takes ps)) = false
+refuse_row h t w again (Some (leaves ps)) = again (before grammar h t ps w)
+
+abbrev pub refuses : ℕ → Tok → Works → Bool
+refuses zero t w = false
+refuses (suc n) t [] = true
+refuses (suc n) t (saying e ∷ w) = refuses n t w
+refuses (suc n) t (reading g h ∷ w) = refuse_row h t w (λ v. refuses n t v) (row_of (cases g) t)
+
+pub not_refused : (n : ℕ) (t : Tok) (w : Works) (ts : List Tok) (es : List Raw) → Derives grammar w (t ∷ ts) es → refuses n t w ≡ false
+not_refused zero t w ts es d = refl
+not_refused (suc n) t [] ts es d = elim d [ ]
+not_refused (suc n) t (saying e ∷ w) ts es d = let s = said e w (t ∷ ts) es d in not_refused n t w ts s.0 s.2
+not_refused (suc n) t (reading g h ∷ w) ts es d = by (row_of (cases g) t) refl (λ v x. not_refused n t v ts es x)
+  where
+    by : (r : Option (Row table.Goal Raw)) → row_of (cases g) t ≡ r → ((v : Works) → Derives grammar v (t ∷ ts) es → refuses n t v ≡ false) → refuse_row h t w (λ v. refuses n t v) r ≡ false
+    by (Some (leaves ps)) q again = again (before grammar h t ps w) (row_left g h w t ts es ps q d)
+    by (Some (takes ps)) q again = refl
+    by None q again = absurd (no_row g h w t ts es q d)
+
+-- nor is one that is read with positions
+placed_admits : (n : ℕ) (x : Extent) (b : Option Position) (k : Token) (v : PlacedWork) (ts : List Token) (es : List (Raw × Position)) → Places x b v (k ∷ ts) es → refuses n k.tok (plain_work v) ≡ false
+placed_admits zero x b k v ts es d = refl
+placed_admits (suc n) x b k [] ts es d = elim d [ ]
+placed_admits (suc n) x b k (saying y ∷ v) ts _ (places.says {es = es} o d) = placed_admits n x b k v ts es d
+placed_admits (suc n) x b k (reading g h ∷ v) ts es (places.by_taking ps q d) = ap (refuse_row h k.tok (plain_work v) (λ u. refuses n k.tok u)) q
+placed_admits (suc n) x b k (reading g h ∷ v) ts es (places.takes_last ps q) = ap (refuse_row h k.tok (plain_work v) (λ u. refuses n k.tok u)) q
+placed_admits (suc n) x b k (reading g h ∷ v) ts es (places.by_leaving ps q d) =
+    ap (refuse_row h k.tok (plain_work v) (λ u. refuses n k.tok u)) q ∙ ap (refuses n k.tok) (sym (plain_before k b h ps v)) ∙ placed_admits n x b k (placed_before k b h ps v) ts es d
+
+pub reads_first : (n : ℕ) (x : Extent) (b : Option Position) (k : Token) (w : Works) (ts : List Token) (es : List (Raw × Position)) → Places x b (placed w) (k ∷ ts) es → refuses n k.tok w ≡ false
+reads_first n x b k w ts es d = subst (λ u. refuses n k.tok u ≡ false) (plain_placed (λ e. None) w) (placed_admits n x b k (placed w) ts es d)
+
+in_list : (e : Option Raw) (es : List Raw) → event_list e ++ es ≡ event_then e es
+in_list None es = refl
+in_list (Some e) es = refl
+
+-- something is still to be read
+abbrev pub has_goal : Works → Bool
+has_goal [] = false
+has_goal (saying e ∷ w) = has_goal w
+has_goal (reading g h ∷ w) = true
+
+pub needs_tokens : (w : Works) (es : List Raw) → has_goal w ≡ true → Derives grammar w [] es → ⊥
+needs_tokens [] es h d = cc
+needs_tokens (saying e ∷ w) es h d = let s = said e w [] es d in needs_tokens w s.0 h s.2
+needs_tokens (reading g k ∷ w) es h d = elim d [ ]
+
+-- where the token leads, and whether it may come in both places
+abbrev pub leading : ℕ → (g : Goal) (ss : List State) → (g' : Goal) (ss' : List State) → Tok → (List Raw × Works) × Bool × Bool
+leading n g ss g' ss' t = (steps n t (work_of g ss), may_begin g ss (kind_of t), may_begin g' ss' (kind_of t))
+
+abbrev pub led : Option Raw → (g' : Goal) (ss' : List State) → (List Raw × Works) × Bool × Bool
+led e g' ss' = ((event_list e, work_of g' ss'), true, true)
+
+abbrev pub Leads : ℕ → (g : Goal) (ss : List State) → Option Raw → (g' : Goal) (ss' : List State) → Tok → Type 0
+Leads n g ss e g' ss' t = leading n g ss g' ss' t ≡ led e g' ss'
+
+-- One that does not refuse the token.
+abbrev pub Admits : Works → Tok → Type 0
+Admits w t = (m : ℕ) → refuses m t w ≡ false
+
+leads_stay : (n : ℕ) (w : Works) (e : Option Raw) (w' : Works) (t : Tok) → steps n t w ≡ (event_list e, w') → Stays t w (event_list e) w'
+leads_stay n w e w' t h = subst (λ x. Stays t w x.0 x.1) h (by_steps n t w)
+
+-- What leads there, and where the token leads.
+pub leaves_so : {g : Goal} {ss : List State} {t : Tok} {e : Option Raw} {g' : Goal} {ss' : List State} (n : ℕ)
+    → (IsNested ss → IsFor g ss → IsNested ss' × IsFor g' ss')
+    → (IsFor g ss → has_goal (work_of g' ss') ≡ true)
+    → (IsFor g ss → (u : Tok) → Admits (work_of g' ss') u → may_begin g' ss' (kind_of u) ≡ true → Leads n g ss e g' ss' u)
+    → (IsFor g ss → Admits (work_of g ss) t → may_begin g ss (kind_of t) ≡ true → Leads n g ss e g' ss' t)
+    → open_at g ss ≡ open_at g' ss' → (IsFor g ss → Settles g ss (Some t) g' ss') → (IsFor g ss → is_past_directives g' ss' ≡ true → (is_past_directives g ss ≡ true) ⊎ IsNoDirective (Some t)) → Leaves g ss (Some t) e g' ss'
+leaves_so {g} {ss} {t} {e} {g'} {ss'} n nested goal back on opened settles past = record {
+  nested = nested;
+  comes = λ m f ts es a. come f ts es a;
+  goes = λ m f ts es k a. go f ts es k a;
+  places = λ i f x b m ts there at es a. place f x b m ts there at es a;
+  opened = opened;
+  settles = settles;
+  past = past;
+}
+  where
+    place : IsFor g ss → (x : Extent) (b : Option Position) (m : Position) (ts : List Token) → IsThere (Some t) ts → IsAtFirst b ts e m
+        → (es : List (Raw × Position)) → AwaitsAt x b g' ss' ts es → AwaitsAt x b g ss ts (event_at e m es)
+    place f x b m [] there at es a = absurd there
+    place f x b m (k ∷ ts) there at es a =
+        let l = back f k.tok (λ i. reads_first i x b k (work_of g' ss') ts es a.0) a.1 in
+        (leads_at n (work_of g ss) e (work_of g' ss') x b k m (work_quiet g ss) (work_quiet g' ss') at (ap (λ x. x.0) l) ts es a.0, ap (λ x. x.1) l)
+
+    come : IsFor g ss → (ts : List Tok) (es : List Raw) → Awaits g' ss' ts es → Awaits g ss ts (event_then e es)
+    come f [] es a = absurd (needs_tokens (work_of g' ss') es (goal f) a.0)
+    come f (u ∷ us) es a =
+        let l = back f u (λ m. not_refused m u (work_of g' ss') us es a.0) a.1 in
+        (subst (λ x. Derives grammar (work_of g ss) (u ∷ us) x) (in_list e es) ((leads_stay n (work_of g ss) e (work_of g' ss') u (ap (λ x. x.0) l)).0 us es a.0), ap (λ x. x.1) l)
+
+    go : IsFor g ss → (ts : List Tok) (es : List Raw) → IsNext (Some t) ts → Awaits g ss ts es → Then e g' ss' ts es
+    go f [] es k a = absurd k
+    go f (u ∷ us) es k a =
+        let b = subst (λ x. Awaits g ss (x ∷ us) es) k a in
+        let l = on f (λ m. not_refused m t (work_of g ss) us es b.0) b.1 in
+        let x = (leads_stay n (work_of g ss) e (work_of g' ss') t (ap (λ x. x.0) l)).1 us es b.0 in
+        (x.0, x.1 ∙ in_list e x.0, subst (λ y. Awaits g' ss' (y ∷ us) x.0) (sym k) (x.2, ap (λ x. x.2) l))
+
+-- An event is due, whatever comes.
+pub says_so : {g : Goal} {ss : List State} {p : Option Tok} {e : Raw} {g' : Goal} {ss' : List State}
+    → (IsNested ss → IsFor g ss → IsNested ss' × IsFor g' ss') → work_of g ss ≡ saying e ∷ work_of g' ss' → ((k : Kind) → may_begin g ss k ≡ true) → ((k : Kind) → may_begin g' ss' k ≡ true)
+    → open_at g ss ≡ open_at g' ss' → (IsFor g ss → Settles g ss p g' ss') → (IsFor g ss → is_past_directives g' ss' ≡ true → (is_past_directives g ss ≡ true) ⊎ IsNoDirective p) → Leaves g ss p (Some e) g' ss'
+says_so {g} {ss} {p} {e} {g'} {ss'} nested same any any' opened settles past = record {
+  nested = nested;
+  comes = λ n f ts es a. (subst (λ w. Derives grammar w ts (e ∷ es)) (sym same) (says a.0), first_any g ss ts any);
+  goes = λ n f ts es k a. let s = said e (work_of g' ss') ts es (subst (λ w. Derives grammar w ts es) same a.0) in (s.0, s.1, (s.2, first_any g' ss' ts any'));
+  places = λ n f x b m ts there at es a. (subst (λ w. Places x b (placed w) ts ((e, m) ∷ es)) (sym same) (places.says tt a.0), first_any g ss (toks ts) any);
+  opened = opened;
+  settles = settles;
+  past = past;
+}
+
+-- ---- refusals, and what may come
+
+pub refuses_so : (g : Goal) (ss : List State) (t : Tok) (n : ℕ) → (IsFor g ss → refuses n t (work_of g ss) ≡ true) → Refuses g ss t
+refuses_so g ss t n h m f ts es a = let no : true ≡ false = sym (h f) ∙ not_refused n t (work_of g ss) ts es a.0 in cc
+
+abbrev pub is_going : Turned table.Goal Raw Held → Bool
+is_going (goes es w) = true
+is_going (refused es) = false
+
+pub may_come : (n : ℕ) (t : Tok) (w : Works) → is_going (step grammar n w t) ≡ true → (ts : List Tok) × (es : List Raw) × Derives grammar w (t ∷ ts) es
+may_come n t w h = by (step grammar n w t) (step_sound grammar n w t) h
+  where
+    by : (o : Turned table.Goal Raw Held) → Sound grammar w t o → is_going o ≡ true → (ts : List Tok) × (es : List Raw) × Derives grammar w (t ∷ ts) es
+    by (goes es v) s h = let k = all_complete grammar grammar_completes v in (k.0, es ++ k.1, s k.0 k.1 k.2)
+    by (refused es) s h = cc

@@ -1,0 +1,50 @@
+-- A machine's turn at one token, over any table.
+use Rattle.std.proofs.Common.{◌≡◌, ℕ, zero, suc, ◌+◌, ◌<◌, List, [], ◌∷◌, ◌++◌, Option, Some, None, refl, arith}
+use Rattle.defs_event.specs.Table.{Part, read, keep, hold, say, show, empty, Row, takes, leaves, Table, row_of, Work, reading, saying, part_work, before, Derives, says, by_taking, by_leaving}
+use Rattle.model_parser.specs.Machine.{part_weight, parts_weight, work_weight, Turned, goes, refused, and_before, by_row, step}
+
+-- ---- what the machine reads, the table reads
+
+-- What goes on after a turn goes on from here.
+abbrev pub Sound : {G T E H : Type 0} → Table G T E H → List (Work G E H) → T → Turned G E H → Type 0
+Sound {T = T} {E = E} a w t (goes es v) = (ts : List T) (fs : List E) → Derives a v ts fs → Derives a w (t ∷ ts) (es ++ fs)
+Sound a w t (refused es) = Unit {0}
+
+sound_saying : {G T E H : Type 0} (a : Table G T E H) (e : E) (w : List (Work G E H)) (t : T) (o : Turned G E H) → Sound a w t o → Sound a (saying e ∷ w) t (and_before e o)
+sound_saying a e w t (goes es v) s = λ ts fs d. says (s ts fs d)
+sound_saying a e w t (refused es) s = tt
+
+sound_leaving : {G T E H : Type 0} (a : Table G T E H) (g : G) (h : H) (w : List (Work G E H)) (t : T) (ps : List (Part G E)) (o : Turned G E H)
+    → row_of (a.cases g) t ≡ Some (leaves ps) → Sound a (before a h t ps w) t o → Sound a (reading g h ∷ w) t o
+sound_leaving a g h w t ps (goes es v) p s = λ ts fs d. by_leaving ps p (s ts fs d)
+sound_leaving a g h w t ps (refused es) p s = tt
+
+sound_row : {G T E H : Type 0} (a : Table G T E H) (g : G) (h : H) (w : List (Work G E H)) (t : T) (again : List (Work G E H) → Turned G E H) (r : Option (Row G E))
+    → row_of (a.cases g) t ≡ r → ((v : List (Work G E H)) → Sound a v t (again v)) → Sound a (reading g h ∷ w) t (by_row a h t w again r)
+sound_row a g h w t again (Some (takes ps)) p s = λ ts fs d. by_taking ps p d
+sound_row a g h w t again (Some (leaves ps)) p s = sound_leaving a g h w t ps (again (before a h t ps w)) p (s (before a h t ps w))
+sound_row a g h w t again None p s = tt
+
+pub step_sound : {G T E H : Type 0} (a : Table G T E H) (n : ℕ) (w : List (Work G E H)) (t : T) → Sound a w t (step a n w t)
+step_sound a zero w t = tt
+step_sound a (suc n) [] t = tt
+step_sound a (suc n) (saying e ∷ w) t = sound_saying a e w t (step a n w t) (step_sound a n w t)
+step_sound a (suc n) (reading g h ∷ w) t = sound_row a g h w t (λ v. step a n v t) (row_of (a.cases g) t) refl (λ v. step_sound a n v t)
+
+-- ---- weights
+
+-- each row that leaves its token weighs less than its goal
+abbrev pub Falls : {G T E H : Type 0} → Table G T E H → (G → ℕ) → Type 0
+Falls {G = G} {T = T} {E = E} a m = (g : G) (t : T) (ps : List (Part G E)) → row_of (a.cases g) t ≡ Some (leaves ps) → parts_weight m ps < m g
+
+part_weighs : {G T E H : Type 0} (a : Table G T E H) (m : G → ℕ) (h : H) (t : T) (p : Part G E) (w : List (Work G E H)) → work_weight m (part_work a h t p ∷ w) ≡ part_weight m p + work_weight m w
+part_weighs a m h t (read g) w = refl
+part_weighs a m h t (keep g) w = refl
+part_weighs a m h t (hold g) w = refl
+part_weighs a m h t (say e) w = omega arith
+part_weighs a m h t show w = omega arith
+part_weighs a m h t empty w = omega arith
+
+pub parts_weigh : {G T E H : Type 0} (a : Table G T E H) (m : G → ℕ) (h : H) (t : T) (ps : List (Part G E)) (w : List (Work G E H)) → work_weight m (before a h t ps w) ≡ parts_weight m ps + work_weight m w
+parts_weigh a m h t [] w = omega arith
+parts_weigh a m h t (p ∷ ps) w = let i = parts_weigh a m h t ps w in let j = part_weighs a m h t p (before a h t ps w) in omega (arith, i, j)

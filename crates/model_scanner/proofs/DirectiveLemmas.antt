@@ -1,0 +1,49 @@
+-- Lemmas about the scan of a directive.
+use Rattle.std.proofs.Common.{◌≡◌, ◌≢◌, ℕ, ◌+◌, ◌*◌, ◌^◌, ◌<◌, ◌≤◌, List, [], ◌∷◌, true, false, Ok, Err, refl, slice_index, arith, add-one, lit<}
+use Rattle.std.proofs.Math.Nat.{pow-succ', pow-le-pow_right}
+use Rattle.defs_text.specs.Position.{Position}
+use Rattle.yaml_chars.specs.Class.{is_break, is_digit}
+use Rattle.yaml_tokens.specs.declared.problem.Fault.TheVariants.{At}
+use Rattle.yaml_tokens.specs.declared.problem.Problem.TheVariants as problem
+use Rattle.model_scanner.specs.Blanks.{linebreak}
+use Rattle.model_scanner.specs.Directive.{Digits, number_from, digits_end, directive_break}
+
+-- one digit more
+pub ten_more : (v n d : ℕ) → v < 10 ^ n → d < 10 → v * 10 + d < 10 ^ (n + 1)
+ten_more v n d h small = let e : 10 ^ (n + 1) ≡ 10 * 10 ^ n = rw add-one (pow-succ' 10 n) in omega arith
+
+-- at most eight digits are a small number
+pub nine_digits : (v n : ℕ) → v < 10 ^ n → n ≤ 9 → n ≢ 9 → v < 100000000
+nine_digits v n h few other =
+    let fewer : n ≤ 8 = omega arith in
+    let positive : 0 < 10 = lit< tt in
+    let most : 10 ^ n ≤ 10 ^ 8 = pow-le-pow_right {n = 10} positive fewer in
+    let big : 10 ^ 8 ≡ 100000000 = refl in
+    omega arith
+
+-- where no digit stands
+pub digits_stop : (start : Position) (c : ℕ) (a : List ℕ) (s : Digits) → c ≡ slice_index a 0 → is_digit c ≡ false
+    → number_from start a s ≡ digits_end start (Ok (record { rest = a; state = s }))
+digits_stop start c [] s e h = refl
+digits_stop start c (d ∷ a) s e h = let g : is_digit d ≡ false = rw e at h in rw g refl
+
+-- where a tenth digit stands
+pub too_long : (start : Position) (c : ℕ) (a : List ℕ) (s : Digits) → c ≡ slice_index a 0 → c ≢ 0 → is_digit c ≡ true → s.length ≡ 9
+    → number_from start a s ≡ Err (At problem.VersionTooLong start)
+too_long start c [] s e some h nine = absurd (some e)
+too_long start c (d ∷ a) s e some h nine = let g : is_digit d ≡ true = rw e at h in rw (g, nine) refl
+
+no_break_here : (c : ℕ) (a : List ℕ) → c ≡ slice_index a 0 → is_break c ≡ true → a ≢ []
+unfolding is_break
+no_break_here c [] e h = let z : is_break 0 ≡ true = rw e at h in cc
+no_break_here c (d ∷ a) e h = λ n. cc
+
+pub break_stands : (start : Position) (c : ℕ) (a : List ℕ) (p : Position) → c ≡ slice_index a 0 → is_break c ≡ true → directive_break start a p ≡ Ok (linebreak a p)
+unfolding directive_break
+break_stands start c [] p e h = absurd (no_break_here c [] e h refl)
+break_stands start c (d ∷ a) p e h = let g : is_break d ≡ true = rw e at h in rw g refl
+
+pub break_fails : (start : Position) (c : ℕ) (a : List ℕ) (p : Position) → c ≡ slice_index a 0 → c ≢ 0 → is_break c ≡ false → directive_break start a p ≡ Err (At problem.DirectiveEnd start)
+unfolding directive_break
+break_fails start c [] p e some h = absurd (some e)
+break_fails start c (d ∷ a) p e some h = let g : is_break d ≡ false = rw e at h in rw g refl

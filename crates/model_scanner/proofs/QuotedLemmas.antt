@@ -1,0 +1,152 @@
+-- Lemmas about the scan of a quoted scalar.
+use Rattle.std.proofs.Common.{◌≡◌, ◌≢◌, ℕ, zero, suc, ◌+◌, ◌*◌, List, [], ◌∷◌, Bool, true, false, ◌||◌, ◌&&◌, not, ◌==◌, refl, slice_index, ap, sym, ◌∙◌, Ok, Err, ◌<◌, ◌≤◌, nat_lt, arith, inl, inr}
+use Rattle.std.proofs.lemmas.Bool.Decides.{nat_tests}
+use Rattle.std.proofs.lemmas.Bool.{eqb-true, cases_Bool}
+use Rattle.std.specs.Char.{digit_value}
+use Rattle.defs_text.specs.Position.{Position}
+use Rattle.yaml_chars.specs.Class.{is_break, is_blank, is_hex}
+use Rattle.yaml_tokens.specs.declared.problem.Fault.{Fault}
+use Rattle.yaml_tokens.specs.declared.problem.Fault.TheVariants.{At}
+use Rattle.yaml_tokens.specs.declared.problem.Problem.TheVariants as problem
+use Rattle.model_scanner.specs.declared.context.Context.{Context}
+use Rattle.model_scanner.specs.Machine.{past, at_marker}
+use Rattle.model_scanner.specs.Folding.{Folded, nothing, with_char, with_blank, joined}
+use Rattle.model_scanner.specs.Quoted.{quoted, quoted_from, digits_from, quote_of, Escape, escape_of, is_scalar, refused, first, inside, gap, after, named, digits, closed}
+
+module _ (single : Bool) (ctx : Context) (start : Position) where
+  -- a blank or a break of a line begins a gap
+  pub inside_gap : (c : ℕ) (a : List ℕ) (p : Position) (t : Folded) → c ≡ slice_index a 0 → (is_break c || is_blank c) ≡ true
+      → quoted_from single ctx start a (record { mode = inside; position = p; folded = t }) ≡ quoted_from single ctx start a (record { mode = gap; position = p; folded = t })
+  inside_gap c [] p t e h = refl
+  inside_gap c (d ∷ a) p t e h = let g : (is_break d || is_blank d) ≡ true = rw e at h in rw g refl
+
+  -- a line begins after a gap
+  pub gap_line : (c : ℕ) (a : List ℕ) (p : Position) (t : Folded) → c ≡ slice_index a 0 → (is_break c || is_blank c) ≡ false
+      → quoted_from single ctx start a (record { mode = gap; position = p; folded = t }) ≡ quoted_from single ctx start a (record { mode = first; position = p; folded = t })
+  gap_line c [] p t e h = refl
+  gap_line c (d ∷ a) p t e h = let g : (is_break d || is_blank d) ≡ false = rw e at h in rw g refl
+
+  -- a line that may stand here goes on
+  pub line_inside : (a : List ℕ) (p : Position) (t : Folded) → refused ctx start a p ≡ Ok tt
+      → quoted_from single ctx start a (record { mode = first; position = p; folded = t }) ≡ quoted_from single ctx start a (record { mode = inside; position = p; folded = joined t })
+  line_inside [] p t h = refl
+  line_inside (d ∷ a) p t h = rw h refl
+
+  pub line_fails : (c : ℕ) (a : List ℕ) (p : Position) (t : Folded) (f : Fault) → c ≡ slice_index a 0 → c ≢ 0 → refused ctx start a p ≡ Err f
+      → quoted_from single ctx start a (record { mode = first; position = p; folded = t }) ≡ Err f
+  line_fails c [] p t f e some h = absurd (some e)
+  line_fails c (d ∷ a) p t f e some h = rw h refl
+
+  -- after an escaped break the closing quote may stand anywhere, and else a gap goes on
+  pub after_gap : (c : ℕ) (a : List ℕ) (p : Position) (t : Folded) → c ≡ slice_index a 0 → (c == quote_of single) ≡ false
+      → quoted_from single ctx start a (record { mode = after; position = p; folded = t }) ≡ quoted_from single ctx start a (record { mode = gap; position = p; folded = t })
+  after_gap c [] p t e h = refl
+  after_gap c (d ∷ a) p t e h = let g : (d == quote_of single) ≡ false = rw e at h in rw g refl
+
+  pub named_char : (c d : ℕ) (a b : List ℕ) (p : Position) (t : Folded) → escape_of c ≡ Escape.char d → a ≡ c ∷ b
+      → quoted_from single ctx start a (record { mode = named; position = p; folded = t }) ≡ quoted_from single ctx start b (record { mode = inside; position = past p; folded = with_char d t })
+  named_char c d a b p t h e = rw (e, h) refl
+
+  pub named_code : (c more : ℕ) (a b : List ℕ) (p : Position) (t : Folded) → escape_of c ≡ Escape.code more → a ≡ c ∷ b
+      → quoted_from single ctx start a (record { mode = named; position = p; folded = t }) ≡ digits_from single ctx start (suc more) 0 b (past p) t
+  named_code c more a b p t h e = rw (e, h) refl
+
+  pub named_unknown : (c : ℕ) (a : List ℕ) (p : Position) (t : Folded) → escape_of c ≡ Escape.unknown → c ≡ slice_index a 0
+      → quoted_from single ctx start a (record { mode = named; position = p; folded = t }) ≡ Err (At problem.UnknownEscape start)
+  named_unknown c [] p t h e = refl
+  named_unknown c (d ∷ a) p t h e = let g : escape_of d ≡ Escape.unknown = rw e at h in rw g refl
+
+  pub digit_turn : (more value c : ℕ) (a b : List ℕ) (p : Position) (t : Folded) → is_hex c ≡ true → a ≡ c ∷ b
+      → digits_from single ctx start (suc more) value a p t ≡ digits_from single ctx start more (value * 16 + digit_value c) b (past p) t
+  digit_turn zero value c a b p t h e = ap (λ x. digits_from single ctx start (suc zero) value x p t) e ∙ last (is_scalar (value * 16 + digit_value c)) refl
+    where
+      last : (ok : Bool) → is_scalar (value * 16 + digit_value c) ≡ ok
+          → quoted_from single ctx start (c ∷ b) (record { mode = digits zero value; position = p; folded = t }) ≡ digits_from single ctx start zero (value * 16 + digit_value c) b (past p) t
+      last true ok = rw (h, ok) refl
+      last false ok = rw (h, ok) refl
+  digit_turn (suc more) value c a b p t h e = rw (e, h) refl
+
+  pub digit_fails : (more value c : ℕ) (a : List ℕ) (p : Position) (t : Folded) → is_hex c ≡ false → c ≡ slice_index a 0
+      → digits_from single ctx start (suc more) value a p t ≡ Err (At problem.HexadecimalDigit start)
+  digit_fails more value c [] p t h e = refl
+  digit_fails more value c (d ∷ a) p t h e = let g : is_hex d ≡ false = rw e at h in rw g refl
+
+  pub coded : (value : ℕ) (a : List ℕ) (p : Position) (t : Folded) → is_scalar value ≡ true
+      → digits_from single ctx start zero value a p t ≡ quoted_from single ctx start a (record { mode = inside; position = p; folded = with_char value t })
+  coded value a p t h = rw h refl
+
+  pub coded_fails : (value : ℕ) (a : List ℕ) (p : Position) (t : Folded) → is_scalar value ≡ false
+      → digits_from single ctx start zero value a p t ≡ Err (At problem.EscapedCode start)
+  coded_fails value a p t h = rw h refl
+
+-- after the closing quote the scan is over
+pub closed_end : (single : Bool) (ctx : Context) (start : Position) (a : List ℕ) (p : Position) (t : Folded)
+    → quoted_from single ctx start a (record { mode = closed; position = p; folded = t }) ≡ Ok (record { rest = a; position = p; value = t.text })
+closed_end single ctx start [] p t = refl
+closed_end single ctx start (c ∷ a) p t = refl
+
+quote_no_blank : (single : Bool) → (is_break (quote_of single) || is_blank (quote_of single)) ≡ false
+unfolding is_break is_blank
+quote_no_blank true = refl
+quote_no_blank false = refl
+
+quote_no_backslash : (single : Bool) → ((quote_of single == 92) && not single) ≡ false
+quote_no_backslash true = refl
+quote_no_backslash false = refl
+
+quote_self : (single : Bool) → (quote_of single == quote_of single) ≡ true
+quote_self true = refl
+quote_self false = refl
+
+after_quote_at : (single : Bool) (ctx : Context) (start : Position) (d : ℕ) (a : List ℕ) (p : Position) (t : Folded) → d ≡ quote_of single
+    → quoted_from single ctx start (d ∷ a) (record { mode = after; position = p; folded = t }) ≡ quoted_from single ctx start (d ∷ a) (record { mode = inside; position = p; folded = t })
+after_quote_at single ctx start d a p t h = rw (h, quote_no_blank single, quote_no_backslash single, quote_self single) refl
+
+pub after_quote : (single : Bool) (ctx : Context) (start : Position) (c : ℕ) (a : List ℕ) (p : Position) (t : Folded) → c ≡ slice_index a 0 → c ≡ quote_of single
+    → quoted_from single ctx start a (record { mode = after; position = p; folded = t }) ≡ quoted_from single ctx start a (record { mode = inside; position = p; folded = t })
+after_quote single ctx start c [] p t e h = refl
+after_quote single ctx start c (d ∷ a) p t e h = after_quote_at single ctx start d a p t (sym e ∙ h)
+
+pub quoted_starts : (single : Bool) (ctx : Context) (a b : List ℕ) (p : Position) → a ≡ slice_index a 0 ∷ b
+    → quoted single ctx a p ≡ quoted_from single ctx p b (record { mode = first; position = past p; folded = nothing })
+unfolding quoted
+quoted_starts single ctx a b p e = rw e refl
+
+-- in a line's second column or after that no document marker stands
+pub in_line_goes_on : (ctx : Context) (start : Position) (a : List ℕ) (p : Position) → 0 < p.col → ctx.indent ≤ p.col + 1 → refused ctx start a p ≡ Ok tt
+unfolding refused at_marker
+in_line_goes_on ctx start a p right deep =
+    let column : (p.col == 0) ≡ false = grind (arith, nat_tests) in
+    let indent : nat_lt (p.col + 1) ctx.indent ≡ false = grind (arith, nat_tests) in
+    rw (column, indent) refl
+
+pub blank_no_break : (c : ℕ) → is_blank c ≡ true → is_break c ≡ false
+unfolding is_blank is_break
+blank_no_break c h = elim (cases_Bool (c == 32)) [
+  | inl space ↦ let e : c ≡ 32 = eqb-true c 32 space in rw e refl
+  | inr other ↦ let e : c ≡ 9 = eqb-true c 9 (rw other at h) in rw e refl
+]
+
+blank_turn : (single : Bool) (ctx : Context) (start : Position) (c : ℕ) (a : List ℕ) (p : Position) (t : Folded) → is_blank c ≡ true → t.leading ≡ false
+    → quoted_from single ctx start (c ∷ a) (record { mode = inside; position = p; folded = t }) ≡ quoted_from single ctx start a (record { mode = gap; position = past p; folded = with_blank c t })
+blank_turn single ctx start c a p t blank leading = rw (blank_no_break c blank, blank, leading) refl
+
+-- a blank that stands alone between two characters of a line belongs to the text as it stands
+pub lone_blank : (single : Bool) (ctx : Context) (start : Position) (c d : ℕ) (a b : List ℕ) (p : Position) (t : Folded)
+    → a ≡ c ∷ b → d ≡ slice_index b 0 → is_blank c ≡ true → (is_break d || is_blank d) ≡ false → t.gap ≡ [] → t.leading ≡ false → t.escaped ≡ false → refused ctx start b (past p) ≡ Ok tt
+    → quoted_from single ctx start a (record { mode = inside; position = p; folded = t }) ≡ quoted_from single ctx start b (record { mode = inside; position = past p; folded = with_char c t })
+lone_blank single ctx start c d a b p t e next blank other none leading escaped goes =
+    ap (λ x. quoted_from single ctx start x (record { mode = inside; position = p; folded = t })) e
+    ∙ blank_turn single ctx start c b p t blank leading
+    ∙ gap_line single ctx start d b (past p) (with_blank c t) next other
+    ∙ line_inside single ctx start b (past p) (with_blank c t) goes
+    ∙ ap (λ x. quoted_from single ctx start b (record { mode = inside; position = past p; folded = x })) same
+  where
+    same : joined (with_blank c t) ≡ with_char c t
+    same = rw (none, leading, escaped) refl
+
+-- the closing quote
+pub closing : (ctx : Context) (start : Position) (a b : List ℕ) (p : Position) (t : Folded) → a ≡ 34 ∷ b
+    → quoted_from false ctx start a (record { mode = inside; position = p; folded = t }) ≡ quoted_from false ctx start b (record { mode = closed; position = past p; folded = t })
+unfolding is_break is_blank
+closing ctx start a b p t e = rw e refl

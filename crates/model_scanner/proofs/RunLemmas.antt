@@ -1,0 +1,100 @@
+-- A run of ordinary characters of one line belongs to a scalar's text as it stands.
+use Rattle.std.proofs.Common.{◌≡◌, ℕ, List, [], ◌∷◌, ◌++◌, ◌∙◌, ap, Bool, true, false, ◌||◌, ◌&&◌, ◌==◌, refl, slice_index}
+use Rattle.defs_text.specs.Position.{Position}
+use Rattle.yaml_chars.specs.Class.{is_break, is_blank, is_breakz, is_flow}
+use Rattle.yaml_chars.specs.Run.{Ran, stops, ran}
+use Rattle.yaml_chars.specs.declared.run.Run.{Run}
+use Rattle.yaml_chars.specs.declared.run.Run.TheVariants as kind
+use Rattle.model_scanner.specs.declared.context.Context.{Context}
+use Rattle.model_scanner.specs.Machine.{past}
+use Rattle.model_scanner.specs.Folding as folding
+use Rattle.model_scanner.specs.Plain as plain
+use Rattle.model_scanner.specs.Quoted as quoted
+use Rattle.model_scanner.specs.BlockScalar as block
+
+first_of : (b c : Bool) → (b || c) ≡ false → b ≡ false
+first_of true c h = h
+first_of false c h = refl
+
+second_of : (b c : Bool) → (b || c) ≡ false → c ≡ false
+second_of true c h = cc
+second_of false c h = h
+
+pub no_break : (c : ℕ) → is_breakz c ≡ false → is_break c ≡ false
+no_break c h = first_of (is_break c) _ h
+
+pub no_gap : (c : ℕ) → (is_blank c || is_breakz c) ≡ false → (is_break c || is_blank c) ≡ false
+no_gap c h = let b = first_of (is_blank c) _ h in let d = no_break c (second_of (is_blank c) _ h) in rw (d, b) refl
+
+-- of a line of a block scalar
+pub block_run : (literal : Bool) (column c : ℕ) (a : List ℕ) (p : Position) (t : block.Lines) → stops kind.Line c ≡ false
+    → block.lines_from literal column (c ∷ a) (record { mode = block.line; position = p; lines = t })
+    ≡ block.lines_from literal column a (record { mode = block.line; position = past p; lines = block.with_char c t })
+unfolding stops
+block_run literal column c a p t h = let b = no_break c h in rw b refl
+
+-- of a quoted scalar
+pub quoted_run : (single : Bool) (ctx : Context) (start : Position) (c : ℕ) (a : List ℕ) (p : Position) (t : folding.Folded) → stops (kind.Quoted (quoted.quote_of single)) c ≡ false
+    → quoted.quoted_from single ctx start (c ∷ a) (record { mode = quoted.inside; position = p; folded = t })
+    ≡ quoted.quoted_from single ctx start a (record { mode = quoted.inside; position = past p; folded = folding.with_char c t })
+unfolding stops
+quoted_run single ctx start c a p t h =
+    let front = first_of _ (c == 92) h in
+    let gap = no_gap c (first_of _ (c == quoted.quote_of single) front) in
+    let quote = second_of _ (c == quoted.quote_of single) front in
+    let slash = second_of _ (c == 92) h in
+    rw (gap, quote, slash) (elim single [ true ↦ refl | false ↦ refl ])
+
+plain_char : (flow : Bool) (c d : ℕ) → (c == 58) ≡ false → (flow && is_flow c) ≡ false → plain.can_be_plain flow c d ≡ true
+unfolding plain.can_be_plain
+plain_char flow c d colon indicator = rw (colon, indicator) refl
+
+-- of a plain scalar
+pub plain_run : (ctx : Context) (start : Position) (c : ℕ) (a : List ℕ) (p : Position) (t : folding.Folded) → stops (kind.Plain ctx.flow) c ≡ false
+    → plain.plain_from ctx start (c ∷ a) (record { mode = plain.inside; position = p; folded = t })
+    ≡ plain.plain_from ctx start a (record { mode = plain.inside; position = past p; folded = folding.with_char c t })
+unfolding stops
+plain_run ctx start c a p t h =
+    let front = first_of _ (ctx.flow && is_flow c) h in
+    let gap = no_gap c (first_of _ (c == 58) front) in
+    let goes = plain_char ctx.flow c (slice_index a 0) (second_of _ (c == 58) front) (second_of _ (ctx.flow && is_flow c) h) in
+    rw (gap, goes) refl
+
+-- what takes a run's characters one by one takes the whole run
+pub through_run : {A : Type 0} (run : Run) (f : List ℕ → Position → List ℕ → A)
+    → ((c : ℕ) (a : List ℕ) (p : Position) (t : List ℕ) → stops run c ≡ false → f (c ∷ a) p t ≡ f a (past p) (t ++ c ∷ []))
+    → (a b : List ℕ) (p q : Position) (t u : List ℕ) → ran run a p t ≡ record { rest = b; position = q; text = u } → f a p t ≡ f b q u
+through_run run f step [] b p q t u h = ap (λ (r : Ran). f r.rest r.position r.text) h
+through_run run f step (c ∷ a) b p q t u h = turn (stops run c) refl (through_run run f step a b (past p) q (t ++ c ∷ []) u)
+  where
+    turn : (ends : Bool) → stops run c ≡ ends → (ran run a (past p) (t ++ c ∷ []) ≡ record { rest = b; position = q; text = u } → f a (past p) (t ++ c ∷ []) ≡ f b q u) → f (c ∷ a) p t ≡ f b q u
+    turn true e more = let here : record { rest = c ∷ a; position = p; text = t } ≡ record { rest = b; position = q; text = u } = rw e at h in ap (λ (r : Ran). f r.rest r.position r.text) here
+    turn false e more = step c a p t e ∙ more (rw e at h)
+
+pub block_ran : (literal : Bool) (column : ℕ) (a b : List ℕ) (p q : Position) (l : block.Lines) (u : List ℕ) → ran kind.Line a p l.text ≡ record { rest = b; position = q; text = u }
+    → block.lines_from literal column a (record { mode = block.line; position = p; lines = l })
+    ≡ block.lines_from literal column b (record { mode = block.line; position = q; lines = record l { text = u } })
+block_ran literal column a b p q l u h =
+    through_run kind.Line (λ d r t. block.lines_from literal column d (record { mode = block.line; position = r; lines = record l { text = t } }))
+    (λ c d r t e. block_run literal column c d r (record l { text = t }) e) a b p q l.text u h
+
+pub quoted_ran : (single : Bool) (ctx : Context) (start : Position) (a b : List ℕ) (p q : Position) (t : folding.Folded) (u : List ℕ) → ran (kind.Quoted (quoted.quote_of single)) a p t.text ≡ record { rest = b; position = q; text = u }
+    → quoted.quoted_from single ctx start a (record { mode = quoted.inside; position = p; folded = t })
+    ≡ quoted.quoted_from single ctx start b (record { mode = quoted.inside; position = q; folded = record t { text = u } })
+quoted_ran single ctx start a b p q t u h =
+    through_run (kind.Quoted (quoted.quote_of single)) (λ d r v. quoted.quoted_from single ctx start d (record { mode = quoted.inside; position = r; folded = record t { text = v } }))
+    (λ c d r v e. quoted_run single ctx start c d r (record t { text = v }) e) a b p q t.text u h
+
+pub plain_ran : (ctx : Context) (start : Position) (a b : List ℕ) (p q : Position) (t : folding.Folded) (u : List ℕ) → ran (kind.Plain ctx.flow) a p t.text ≡ record { rest = b; position = q; text = u }
+    → plain.plain_from ctx start a (record { mode = plain.inside; position = p; folded = t })
+    ≡ plain.plain_from ctx start b (record { mode = plain.inside; position = q; folded = record t { text = u } })
+plain_ran ctx start a b p q t u h =
+    through_run (kind.Plain ctx.flow) (λ d r v. plain.plain_from ctx start d (record { mode = plain.inside; position = r; folded = record t { text = v } }))
+    (λ c d r v e. plain_run ctx start c d r (record t { text = v }) e) a b p q t.text u h
+
+-- a space of an indentation is no text
+pub space_run : (ctx : Context) (start : Position) (a b : List ℕ) (p : Position) (t : folding.Folded) → a ≡ 32 ∷ b → t.leading ≡ true
+    → plain.plain_from ctx start a (record { mode = plain.between; position = p; folded = t })
+    ≡ plain.plain_from ctx start b (record { mode = plain.between; position = past p; folded = t })
+unfolding is_break is_blank
+space_run ctx start a b p t e leading = rw (e, leading) refl

@@ -1,5 +1,0 @@
-use Rattle.proof_ends.proofs.TagEnds.{tags}
-use Rattle.proof_ends.proofs.laws.tags_have_one_end.Goals as goal
-
-pub returns : goal.returns
-returns c = tags

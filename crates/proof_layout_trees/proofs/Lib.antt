@@ -1,9 +1,0 @@
-pub mod Basic
-pub mod Held
-pub mod Json
-pub mod Layouts
-pub mod Loads
-pub mod Numbered
-pub mod Numbers
-pub mod Quoted
-pub mod Says

@@ -1,5 +1,0 @@
-use Rattle.proof_layout_trees.proofs.Loads.{foretold_are_not_refused}
-use Rattle.proof_layout_trees.proofs.laws.foretold_events_are_not_refused.Goals as goal
-
-pub returns : goal.returns
-returns c = foretold_are_not_refused

@@ -1,5 +1,0 @@
-use Rattle.proof_layout_trees.proofs.Json.Reading.{events_are_loaded}
-use Rattle.proof_layout_trees.proofs.laws.json_events_are_loaded.Goals as goal
-
-pub returns : goal.returns
-returns c = events_are_loaded

@@ -1,5 +1,0 @@
-use Rattle.proof_layout_trees.proofs.Layouts.Documents.{events_are_loaded}
-use Rattle.proof_layout_trees.proofs.laws.layout_events_are_loaded.Goals as goal
-
-pub returns : goal.returns
-returns c = events_are_loaded

@@ -1,5 +1,0 @@
-use Rattle.proof_layout_trees.proofs.Loads.{streams_are_not_refused}
-use Rattle.proof_layout_trees.proofs.laws.read_streams_are_not_refused.Goals as goal
-
-pub returns : goal.returns
-returns c = streams_are_not_refused

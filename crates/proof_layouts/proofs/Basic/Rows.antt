@@ -1,0 +1,98 @@
+-- Basic layouts, their events and what these are read as, computed.
+use Rattle.std.specs.Prelude.{◌≡◌, pos, [], ◌∷◌, true, None, Ok, Err, codes, refl}
+use Rattle.std.specs.Fmt.{digits}
+use Rattle.defs_token.specs.Token.{Style}
+use Rattle.defs_tree.specs.Tree.{Tree, items_of, pairs_of}
+use Rattle.defs_tree.specs.Typing.{typing, is_decimal}
+use Rattle.defs_tree.specs.Escapes.{written_character}
+use Rattle.defs_tree.specs.Quoting.{is_unfit_for_plain, is_quoted}
+use Rattle.defs_layout.specs.Layout.{Layout, Scalar, Inline, no_comment, Block, Value, Entries, Field, Fields, Root, last_document, below, spell}
+use Rattle.defs_layout.specs.Basic.{IsBasic}
+use Rattle.defs_layout.specs.BlockLines.{full}
+use Rattle.defs_event.specs.Event.{Ev}
+use Rattle.defs_event.specs.Nested.{nested_stream}
+use Rattle.defs_event.specs.Reading.{reading}
+use Rattle.proof_layouts.specs.BasicNest.{basic_documents}
+
+abbrev text_of : Tree → Inline
+text_of t = Inline.scalar (Scalar.plain t)
+
+-- a value after one space
+abbrev beside : Inline → Value
+beside i = Value.beside 0 i no_comment
+
+-- a document without gaps, whose root is a block at column 0
+abbrev plainly : Block → Layout
+plainly b = record { is_marked = true; documents = last_document (record { gap = []; root = Root.block 0 b }) [] }
+
+-- ---- `---`, `"k":`, `  - ~`, `  - []`
+
+abbrev list_below : Layout
+list_below =
+    plainly (Block.hash (Fields.last_field (Field.implicit (Scalar.quoted (codes "k"))
+    (below no_comment [] 2 (Block.array (Entries.entry (beside (text_of Tree.null)) [] (Entries.last_entry (beside Inline.empty_array))))))))
+
+list_below_basic : IsBasic list_below
+list_below_basic = search
+
+list_below_text : spell list_below [] ≡ codes "---\n\"k\":\n  - ~\n  - []"
+unfolding written_character
+list_below_text = refl
+
+list_below_events : nested_stream (basic_documents list_below list_below_basic) ≡
+    Ev.stream_start ∷ Ev.document_start ∷ Ev.mapping_start 0 None ∷ Ev.scalar (codes "k") Style.double_quoted 0 None
+    ∷ Ev.sequence_start 0 None ∷ Ev.scalar (codes "~") Style.plain 0 None ∷ Ev.sequence_start 0 None ∷ Ev.sequence_end ∷ Ev.sequence_end
+    ∷ Ev.mapping_end ∷ Ev.document_end ∷ Ev.stream_end ∷ []
+list_below_events = refl
+
+list_below_read : reading (basic_documents list_below list_below_basic) ≡ Ok (Tree.hash (pairs_of (
+    (Tree.string (codes "k"), Tree.array (items_of (Tree.null ∷ Tree.array (items_of []) ∷ []))) ∷ [])) ∷ [])
+unfolding typing is_decimal
+list_below_read = refl
+
+-- ---- `---`, `? - 12`, `: |-`, `  12`: the key's is a number, the literal block is a string
+
+abbrev key_of_lines : Layout
+key_of_lines =
+    plainly (Block.hash (Fields.last_field (Field.explicit
+    (Value.compact 0 (Block.array (Entries.last_entry (beside (text_of (Tree.integer (pos 12)))))))
+    [] (Value.literal 0 2 (codes "12") (full (codes "12") ∷ [])))))
+
+key_of_lines_basic : IsBasic key_of_lines
+key_of_lines_basic = search
+
+key_of_lines_text : spell key_of_lines [] ≡ codes "---\n? - 12\n: |-\n  12"
+unfolding digits
+key_of_lines_text = refl
+
+key_of_lines_read : reading (basic_documents key_of_lines key_of_lines_basic) ≡ Ok (Tree.hash (pairs_of (
+    (Tree.array (items_of (Tree.integer (pos 12) ∷ [])), Tree.string (codes "12")) ∷ [])) ∷ [])
+unfolding typing is_decimal digits
+key_of_lines_read = refl
+
+-- ---- `---`, `"a": 1`, `a: 2`: the keys are one
+
+abbrev repeated : Layout
+repeated =
+    plainly (Block.hash (Fields.field (Field.implicit (Scalar.quoted (codes "a")) (beside (text_of (Tree.integer (pos 1))))) []
+    (Fields.last_field (Field.implicit (Scalar.plain (Tree.string (codes "a"))) (beside (text_of (Tree.integer (pos 2))))))))
+
+repeated_basic : IsBasic repeated
+repeated_basic = search
+
+repeated_read : reading (basic_documents repeated repeated_basic) ≡ Err (Tree.string (codes "a"))
+unfolding typing is_decimal is_quoted is_unfit_for_plain digits
+repeated_read = refl
+
+-- ---- `---`, `- true`, spelt as a real that is none: it is read as a boolean
+
+abbrev unquoted : Layout
+unquoted =
+    plainly (Block.array (Entries.last_entry (beside (text_of (Tree.real (codes "true"))))))
+
+unquoted_basic : IsBasic unquoted
+unquoted_basic = search
+
+unquoted_read : reading (basic_documents unquoted unquoted_basic) ≡ Ok (Tree.array (items_of (Tree.boolean true ∷ [])) ∷ [])
+unfolding typing is_decimal
+unquoted_read = refl

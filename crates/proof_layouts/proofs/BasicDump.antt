@@ -1,0 +1,102 @@
+-- A dump's layout is a basic one.
+use Rattle.std.proofs.Common.{ℕ, ◌+◌, List, [], ◌∷◌, Bool, true, false, not, ◌&&◌, refl}
+use Rattle.std.specs.Prelude.{if◌then◌else◌}
+use Rattle.defs_tree.specs.Tree.{Tree, Items, no_items, item, Pairs, no_pairs, pair}
+use Rattle.defs_tree.specs.Quoting.{is_quoted}
+use Rattle.defs_tree.specs.Spelling.{is_scalar}
+use Rattle.defs_layout.specs.Layout.{Scalar, Value, Field}
+use Rattle.defs_layout.specs.Basic.{IsBasicScalar, IsBasicInline, IsBasicBlock, IsBasicValue, AreBasicEntries, IsBasicField, AreBasicFields, IsBasicRoot, IsBasic}
+use Rattle.proof_layouts.proofs.DumpLayout.{Node, may_be_literal, value_of, root_of, string_scalar, scalar_of, string_node, entries_of, fields_of, array_node, hash_node, field_of, node_of, values_of, all_fields_of, layout_of}
+use Rattle.proof_layouts.proofs.Validity.{AreAll}
+
+-- A node is basic.
+abbrev IsBasicNode : Node → Type 0
+IsBasicNode (Node.inline i) = IsBasicInline i
+IsBasicNode (Node.literal text) = Unit {0}
+IsBasicNode (Node.block b) = IsBasicBlock b
+
+-- So is the value that it is after a mark.
+value_of_basic : (lower : Bool) (c : ℕ) (n : Node) → IsBasicNode n → IsBasicValue (value_of lower c n)
+value_of_basic lower c (Node.inline i) h = (h, tt)
+value_of_basic lower c (Node.literal text) h = tt
+value_of_basic true c (Node.block b) h = (tt, h)
+value_of_basic false c (Node.block b) h = h
+
+-- And the root.
+root_of_basic : (n : Node) → IsBasicNode n → IsBasicRoot (root_of n)
+root_of_basic (Node.inline i) h = h
+root_of_basic (Node.literal text) h = tt
+root_of_basic (Node.block b) h = h
+
+-- A string is plain or in double quotes.
+string_scalar_basic : (s : List ℕ) → IsBasicScalar (string_scalar s)
+string_scalar_basic s = by (is_quoted s)
+  where
+    by : (b : Bool) → IsBasicScalar (if b then Scalar.quoted s else Scalar.plain (Tree.string s))
+    by true = tt
+    by false = tt
+
+-- So is each scalar.
+scalar_of_basic : (t : Tree) → IsBasicScalar (scalar_of t)
+scalar_of_basic (Tree.string s) = string_scalar_basic s
+scalar_of_basic t = tt
+
+-- A string's node is basic.
+string_node_basic : (as_literal : Bool) (s : List ℕ) → IsBasicNode (string_node as_literal s)
+string_node_basic true s = tt
+string_node_basic false s = string_scalar_basic s
+
+-- Basic values are basic entries.
+entries_basic : (v : Value) (vs : List Value) → IsBasicValue v → AreAll IsBasicValue vs → AreBasicEntries (entries_of v vs)
+entries_basic v [] h hs = h
+entries_basic v (w ∷ vs) h hs = (h, entries_basic w vs hs.0 hs.1)
+
+-- Basic entries of a hash are basic together.
+fields_basic : (f : Field) (fs : List Field) → IsBasicField f → AreAll IsBasicField fs → AreBasicFields (fields_of f fs)
+fields_basic f [] h hs = h
+fields_basic f (g ∷ fs) h hs = (h, fields_basic g fs hs.0 hs.1)
+
+-- The node of basic values is basic.
+array_node_basic : (vs : List Value) → AreAll IsBasicValue vs → IsBasicNode (array_node vs)
+array_node_basic [] h = tt
+array_node_basic (v ∷ vs) h = entries_basic v vs h.0 h.1
+
+-- So is that of basic entries.
+hash_node_basic : (fs : List Field) → AreAll IsBasicField fs → IsBasicNode (hash_node fs)
+hash_node_basic [] h = tt
+hash_node_basic (f ∷ fs) h = fields_basic f fs h.0 h.1
+
+-- An entry of a hash is basic, with a scalar before the colon or a node after the question mark.
+field_of_basic : (compact : Bool) (c : ℕ) (k : Tree) (key value : Node) → IsBasicNode key → IsBasicNode value → IsBasicField (field_of compact c k key value)
+field_of_basic compact c k key value g h = by (is_scalar k)
+  where
+    by : (b : Bool) → IsBasicField (if b then Field.implicit (scalar_of k) (value_of true c value) else Field.explicit (value_of (not compact) c key) [] (value_of (not compact) c value))
+    by true = (scalar_of_basic k, value_of_basic true c value h)
+    by false = (value_of_basic (not compact) c key g, value_of_basic (not compact) c value h)
+
+mutual
+  -- The node of any tree is basic.
+  node_of_basic : (compact multiline at_root : Bool) (c : ℕ) (t : Tree) → IsBasicNode (node_of compact multiline at_root c t)
+  node_of_basic compact multiline at_root c (Tree.string s) = string_node_basic (multiline && may_be_literal at_root s) s
+  node_of_basic compact multiline at_root c (Tree.array ts) = array_node_basic (values_of compact multiline c ts) (values_of_basic compact multiline c ts)
+  node_of_basic compact multiline at_root c (Tree.hash ps) = hash_node_basic (all_fields_of compact multiline c ps) (all_fields_basic compact multiline c ps)
+  node_of_basic compact multiline at_root c t = tt
+
+  -- The values of an array are basic.
+  values_of_basic : (compact multiline : Bool) (c : ℕ) (ts : Items) → AreAll IsBasicValue (values_of compact multiline c ts)
+  values_of_basic compact multiline c no_items = tt
+  values_of_basic compact multiline c (item t ts) =
+      (value_of_basic (not compact) c (node_of compact multiline false (c + 2) t) (node_of_basic compact multiline false (c + 2) t), values_of_basic compact multiline c ts)
+
+  -- The entries of a hash are basic.
+  all_fields_basic : (compact multiline : Bool) (c : ℕ) (ps : Pairs) → AreAll IsBasicField (all_fields_of compact multiline c ps)
+  all_fields_basic compact multiline c no_pairs = tt
+  all_fields_basic compact multiline c (pair k v ps) = (
+    field_of_basic compact c k (node_of compact multiline false (c + 2) k) (node_of compact multiline false (c + 2) v)
+        (node_of_basic compact multiline false (c + 2) k) (node_of_basic compact multiline false (c + 2) v),
+    all_fields_basic compact multiline c ps,
+  )
+
+-- The layout is basic.
+pub layout_of_basic : (compact multiline : Bool) (t : Tree) → IsBasic (layout_of compact multiline t)
+layout_of_basic compact multiline t = (refl, root_of_basic (node_of compact multiline true 0 t) (node_of_basic compact multiline true 0 t))

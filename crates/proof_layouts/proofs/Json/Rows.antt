@@ -1,0 +1,83 @@
+-- JSON texts, their events and what these are read as, computed.
+use Rattle.std.specs.Prelude.{◌≡◌, ℕ, pos, List, [], ◌∷◌, true, false, None, Ok, Err, codes, map, refl}
+use Rattle.defs_tree.specs.Tree.{Tree, items_of, pairs_of}
+use Rattle.defs_tree.specs.Typing.{typing, is_decimal}
+use Rattle.defs_token.specs.Token.{Style}
+use Rattle.defs_layout.specs.JsonGap.{space}
+use Rattle.defs_layout.specs.JsonNumber.{number, no_fraction, fraction, plus, no_exponent, exponent}
+use Rattle.defs_layout.specs.JsonString.{Piece, itself, unicode}
+use Rattle.defs_layout.specs.Json.{Json, Elements, Members, JsonText, spell_text}
+use Rattle.defs_event.specs.Event.{Ev}
+use Rattle.defs_event.specs.Nested.{nested_stream}
+use Rattle.defs_event.specs.Reading.{reading}
+use Rattle.proof_layouts.specs.JsonNest.{json_documents}
+
+abbrev raw : List ℕ → List Piece
+raw w = map itself w
+
+abbrev whole : List ℕ → Json
+whole w = Json.number (number false w no_fraction no_exponent)
+
+abbrev alone : Json → JsonText
+alone v = record { before = []; value = v; after = [] }
+
+-- ---- `{"a":[true, "true"],"b":{}}`
+
+abbrev object : JsonText
+object = alone (Json.object [] (Members.member (raw (codes "a")) [] []
+    (Json.array [] (Elements.element Json.true_word [] (space ∷ []) (Elements.last_element (Json.string (raw (codes "true"))) []))) [] []
+    (Members.last_member (raw (codes "b")) [] [] (Json.empty_object []) [])))
+
+object_text : spell_text object ≡ codes "{\"a\":[true, \"true\"],\"b\":{}}"
+object_text = refl
+
+object_events : nested_stream (json_documents object) ≡
+    Ev.stream_start ∷ Ev.document_start ∷ Ev.mapping_start 0 None
+    ∷ Ev.scalar (codes "a") Style.double_quoted 0 None
+    ∷ Ev.sequence_start 0 None ∷ Ev.scalar (codes "true") Style.plain 0 None ∷ Ev.scalar (codes "true") Style.double_quoted 0 None ∷ Ev.sequence_end
+    ∷ Ev.scalar (codes "b") Style.double_quoted 0 None ∷ Ev.mapping_start 0 None ∷ Ev.mapping_end
+    ∷ Ev.mapping_end ∷ Ev.document_end ∷ Ev.stream_end ∷ []
+object_events = refl
+
+-- the word is a boolean, the string is not
+object_read : reading (json_documents object) ≡ Ok (Tree.hash (pairs_of (
+    (Tree.string (codes "a"), Tree.array (items_of (Tree.boolean true ∷ Tree.string (codes "true") ∷ [])))
+    ∷ (Tree.string (codes "b"), Tree.hash (pairs_of [])) ∷ [])) ∷ [])
+unfolding typing is_decimal
+object_read = refl
+
+-- ---- `[1, -0, 9223372036854775808, 1.50, null]`: the third has no 64 bits, and a real keeps its text
+
+abbrev numbers : JsonText
+numbers = alone (Json.array [] (Elements.element (whole (codes "1")) [] (space ∷ [])
+    (Elements.element (Json.number (number true (codes "0") no_fraction no_exponent)) [] (space ∷ [])
+    (Elements.element (whole (codes "9223372036854775808")) [] (space ∷ [])
+    (Elements.element (Json.number (number false (codes "1") (fraction (codes "50")) no_exponent)) [] (space ∷ [])
+    (Elements.last_element Json.null_word []))))))
+
+numbers_text : spell_text numbers ≡ codes "[1, -0, 9223372036854775808, 1.50, null]"
+numbers_text = refl
+
+numbers_read : reading (json_documents numbers) ≡ Ok (Tree.array (items_of (
+    Tree.integer (pos 1) ∷ Tree.integer (pos 0) ∷ Tree.real (codes "9223372036854775808") ∷ Tree.real (codes "1.50") ∷ Tree.null ∷ [])) ∷ [])
+unfolding typing is_decimal
+numbers_read = refl
+
+-- ---- `-12E+07`, a text of one number
+
+abbrev power : JsonText
+power = alone (Json.number (number true (codes "12") no_fraction (exponent true plus (codes "07"))))
+
+power_read : reading (json_documents power) ≡ Ok (Tree.real (codes "-12E+07") ∷ [])
+unfolding typing is_decimal
+power_read = refl
+
+-- ---- `{"a":1,"\u0061":2}`: the keys are one, and the reading is not the tree
+
+abbrev repeated : JsonText
+repeated = alone (Json.object [] (Members.member (raw (codes "a")) [] [] (whole (codes "1")) [] []
+    (Members.last_member (unicode 48 48 54 49 ∷ []) [] [] (whole (codes "2")) [])))
+
+repeated_read : reading (json_documents repeated) ≡ Err (Tree.string (codes "a"))
+unfolding typing is_decimal
+repeated_read = refl

@@ -1,0 +1,243 @@
+-- What the texts of numbers stand for.
+use Rattle.std.proofs.Common.{◌≡◌, ℕ, zero, suc, ◌<◌, ◌^◌, List, [], ◌∷◌, ◌++◌, Bool, true, false, not, ◌&&◌, Option, None, refl, sym, ap, ◌∙◌, length, get_or, append-nil, true≢false, arith}
+use Rattle.std.specs.Prelude.{ℤ, pos, negsuc, neg_ℤ, ◌==◌, unwrap_or, if◌then◌else◌, codes}
+use Rattle.std.specs.Char.{is_ascii_digit, digit_value}
+use Rattle.std.specs.List.{list_all}
+use Rattle.std.specs.Str.Parse.{AllDigits, digits_value}
+use Rattle.std.specs.Fmt.{decimal}
+use Rattle.std.proofs.lemmas.Fmt.{decimal-digits_value}
+use Rattle.std.proofs.lemmas.Str.Parse.{IsNumeralModel}
+use Rattle.std.proofs.lemmas.Bool.{and_parts, and_from, ltb-true, ne_eqb}
+use Rattle.std.proofs.lemmas.Bool.Decides.{nat_tests}
+use Rattle.defs_tree.specs.Tree.{Tree, real, integer}
+use Rattle.defs_tree.specs.Grammar.{at_least_one, is_among}
+use Rattle.defs_tree.specs.Typing.{typing, signed_decimal, after_prefix, fits_i64, is_digit, is_sign, is_decimal, null_words, true_words, false_words, special_words, where_true}
+use Rattle.defs_tree.proofs.GrammarLaws.{after_all, after_one}
+use Rattle.defs_tree.proofs.DecimalReading.{begins_in, reads_exponent, reads_on, reads_unsigned, is_decimal-read}
+use Rattle.defs_tree.proofs.ReadBack.{integer_back}
+use Rattle.defs_tree.proofs.RealTexts.{is_real_character, decimal-characters}
+use Rattle.defs_layout.specs.JsonNumber as json
+use Rattle.defs_layout.specs.JsonNumber.{Fraction, no_fraction, fraction, Sign, no_sign, plus, minus, Exponent, no_exponent, exponent, spell_number, spell_minus, spell_fraction, spell_sign, spell_exponent, are_digits, is_whole, is_fraction, is_number, integer_value}
+use Rattle.defs_layout.proofs.WholeNumbers.{fitted, signed_text, IsOther, no_digits}
+use Rattle.proof_layouts.specs.Laws.{JsonNumbersStandForTheirTrees}
+
+-- ---- digits
+
+digit_no_sign : (c : ℕ) → is_ascii_digit c ≡ true → is_sign c ≡ false
+digit_no_sign c h = grind (arith, nat_tests)
+
+digits_no_sign : (w r : List ℕ) → are_digits w ≡ true → after_one is_sign (w ++ r) ≡ w ++ r
+digits_no_sign [] r h = cc
+digits_no_sign (c ∷ w) r h = rw (digit_no_sign c ((and_parts (is_ascii_digit c) (list_all is_ascii_digit w) h).0)) refl
+
+digits_first : (w r : List ℕ) → are_digits w ≡ true → begins_in is_ascii_digit (w ++ r) ≡ true
+digits_first [] r h = cc
+digits_first (c ∷ w) r h = (and_parts (is_ascii_digit c) (list_all is_ascii_digit w) h).0
+
+all_digits : (w : List ℕ) → are_digits w ≡ true → list_all is_ascii_digit w ≡ true
+all_digits [] h = refl
+all_digits (c ∷ w) h = h
+
+after_digits : (w r : List ℕ) → list_all is_ascii_digit w ≡ true → begins_in is_ascii_digit r ≡ false → after_all is_ascii_digit (w ++ r) ≡ r
+after_digits [] [] h stops = refl
+after_digits [] (c ∷ r) h stops = rw stops refl
+after_digits (c ∷ w) r h stops = let q = and_parts (is_ascii_digit c) (list_all is_ascii_digit w) h in rw (q.0) (after_digits w r q.1 stops)
+
+whole_digits : (w : List ℕ) → is_whole w ≡ true → are_digits w ≡ true
+whole_digits [] h = h
+whole_digits (c ∷ []) h = and_from (is_ascii_digit c) true h refl
+whole_digits (c ∷ d ∷ w) h = (and_parts (not (c == 48)) (are_digits (c ∷ d ∷ w)) h).1
+
+-- ---- numbers are decimal
+
+signed_digits : (s : Sign) (w : List ℕ) → are_digits w ≡ true → after_one is_sign (spell_sign s (w ++ [])) ≡ w ++ []
+signed_digits no_sign w h = digits_no_sign w [] h
+signed_digits plus w h = refl
+signed_digits minus w h = refl
+
+some_digits : (w : List ℕ) → are_digits w ≡ true → at_least_one is_ascii_digit (w ++ []) ≡ true
+some_digits [] h = cc
+some_digits (c ∷ w) h = ap (at_least_one is_ascii_digit) (append-nil (c ∷ w)) ∙ h
+
+exponent_reads : (e : Exponent) → json.is_exponent e ≡ true → reads_exponent (spell_exponent e []) ≡ true
+exponent_reads no_exponent h = refl
+exponent_reads (exponent true s digits) h = rw (signed_digits s digits h) (some_digits digits h)
+exponent_reads (exponent false s digits) h = rw (signed_digits s digits h) (some_digits digits h)
+
+exponent_stops : (e : Exponent) → begins_in is_ascii_digit (spell_exponent e []) ≡ false
+exponent_stops no_exponent = refl
+exponent_stops (exponent true s digits) = refl
+exponent_stops (exponent false s digits) = refl
+
+rest_stops : (f : Fraction) (e : Exponent) → begins_in is_ascii_digit (spell_fraction f (spell_exponent e [])) ≡ false
+rest_stops no_fraction e = exponent_stops e
+rest_stops (fraction digits) e = refl
+
+rest_reads : (f : Fraction) (e : Exponent) → is_fraction f ≡ true → json.is_exponent e ≡ true → reads_on true (spell_fraction f (spell_exponent e [])) ≡ true
+rest_reads no_fraction no_exponent h i = refl
+rest_reads no_fraction (exponent true s digits) h i = exponent_reads (exponent true s digits) i
+rest_reads no_fraction (exponent false s digits) h i = exponent_reads (exponent false s digits) i
+rest_reads (fraction digits) e h i = rw (after_digits digits (spell_exponent e []) (all_digits digits h) (exponent_stops e)) (exponent_reads e i)
+
+-- the parts of a number
+record Parts (m : Bool) (w : List ℕ) (f : Fraction) (e : Exponent) : Type 0 where
+  whole : is_whole w ≡ true
+  digits : are_digits w ≡ true
+  fraction : is_fraction f ≡ true
+  exponent : json.is_exponent e ≡ true
+
+parts : (m : Bool) (w : List ℕ) (f : Fraction) (e : Exponent) → is_number (json.number m w f e) ≡ true → Parts m w f e
+parts m w f e h =
+    let q = and_parts (is_whole w && is_fraction f) (json.is_exponent e) h in
+    let r = and_parts (is_whole w) (is_fraction f) q.0 in
+    record { whole = r.0; digits = whole_digits w r.0; fraction = r.1; exponent = q.1 }
+
+unsigned : (w r : List ℕ) → are_digits w ≡ true → begins_in is_ascii_digit r ≡ false → reads_on true r ≡ true → reads_unsigned (w ++ r) ≡ true
+unsigned w r h stops reads = rw (digits_first w r h, after_digits w r (all_digits w h) stops) reads
+
+decimal_number : (m : Bool) (w : List ℕ) (f : Fraction) (e : Exponent) → Parts m w f e → is_decimal (spell_number (json.number m w f e) []) ≡ true
+decimal_number true w f e p = is_decimal-read _ ∙ unsigned w _ p.digits (rest_stops f e) (rest_reads f e p.fraction p.exponent)
+decimal_number false w f e p = is_decimal-read _ ∙ rw (digits_no_sign w (spell_fraction f (spell_exponent e [])) p.digits) (unsigned w _ p.digits (rest_stops f e) (rest_reads f e p.fraction p.exponent))
+
+-- ---- as integers
+
+numerals : IsNumeralModel (AllDigits 10) (digits_value 10)
+numerals = record { to = λ ds h. h; from = λ ds h. h; same = λ ds h. refl }
+
+digit_fits : (c : ℕ) → is_ascii_digit c ≡ true → digit_value c < 10
+digit_fits c h = grind (arith, nat_tests)
+
+fitting_digits : (w : List ℕ) → list_all is_ascii_digit w ≡ true → AllDigits 10 w
+fitting_digits [] h = tt
+fitting_digits (c ∷ w) h = let q = and_parts (is_ascii_digit c) (list_all is_ascii_digit w) h in (digit_fits c q.0, fitting_digits w q.1)
+
+some_length : (w : List ℕ) → are_digits w ≡ true → 0 < length w
+some_length [] h = cc
+some_length (c ∷ w) h = omega arith
+
+-- a zero is the first of one digit
+zero_alone : (w : List ℕ) → is_whole w ≡ true → get_or w 0 0 ≡ 48 → length w ≡ 1
+zero_alone [] h e = cc
+zero_alone (c ∷ []) h e = refl
+zero_alone (c ∷ d ∷ w) h e = let q = and_parts (not (c == 48)) (are_digits (c ∷ d ∷ w)) h in let z : not (48 == 48) ≡ true = rw e at q.0 in cc
+
+whole_again : (w : List ℕ) → is_whole w ≡ true → digits_value 10 w < 2 ^ 64 → decimal (digits_value 10 w) ≡ w
+whole_again w h small =
+    let d = whole_digits w h in decimal-digits_value numerals w (fitting_digits w (all_digits w d)) (some_length w d) (zero_alone w h) small
+
+small_value : (m : Bool) (n : ℕ) → fits_i64 (if m then neg_ℤ (pos n) else pos n) ≡ true → n < 2 ^ 64
+small_value true zero h = omega arith
+small_value true (suc n) h = let low : n < 2 ^ 63 = ltb-true n (2 ^ 63) h in omega arith
+small_value false n h = let low : n < 2 ^ 63 = ltb-true n (2 ^ 63) h in omega arith
+
+minus_back : (n : ℕ) → fits_i64 (neg_ℤ (pos n)) ≡ true → typing (45 ∷ decimal n) ≡ integer (neg_ℤ (pos n))
+unfolding typing
+minus_back zero h = ap (λ t. typing (45 ∷ t)) (whole_again (48 ∷ []) refl (omega arith)) ∙ refl
+minus_back (suc n) h = integer_back (negsuc n) h
+
+integer_number : (m : Bool) (w : List ℕ) → is_whole w ≡ true → fits_i64 (integer_value m w) ≡ true → typing (spell_minus m (w ++ [])) ≡ integer (integer_value m w)
+integer_number true w h fits = ap (λ t. typing (45 ∷ t)) (append-nil w) ∙ (ap (λ t. typing (45 ∷ t)) (sym (whole_again w h (small_value true (digits_value 10 w) fits))) ∙ minus_back (digits_value 10 w) fits)
+integer_number false w h fits = ap typing (append-nil w) ∙ (ap typing (sym (whole_again w h (small_value false (digits_value 10 w) fits))) ∙ integer_back (pos (digits_value 10 w)) fits)
+
+-- ---- as no integers
+
+unfit : (are : Bool) (z : ℤ) → fits_i64 z ≡ false → fitted are z ≡ None
+unfit true z h = rw h refl
+unfit false z h = refl
+
+-- ---- as reals
+
+-- not one of the rows above the reals'
+record IsEarly (c : ℕ) : Type 0 where
+  plus : (43 == c) ≡ false
+  tilde : (126 == c) ≡ false
+  letter_n : (110 == c) ≡ false
+  letter_t : (116 == c) ≡ false
+  capital_t : (84 == c) ≡ false
+  letter_f : (102 == c) ≡ false
+  capital_f : (70 == c) ≡ false
+
+digit_early : (c : ℕ) → is_ascii_digit c ≡ true → IsEarly c
+digit_early c h = record {
+  plus = grind (arith, nat_tests);
+  tilde = grind (arith, nat_tests);
+  letter_n = grind (arith, nat_tests);
+  letter_t = grind (arith, nat_tests);
+  capital_t = grind (arith, nat_tests);
+  letter_f = grind (arith, nat_tests);
+  capital_f = grind (arith, nat_tests);
+}
+
+other_letter : (x d : ℕ) → is_real_character x ≡ false → is_real_character d ≡ true → (x == d) ≡ false
+other_letter x d h e = ne_eqb x d (λ same. true≢false (sym e ∙ ap is_real_character (sym same) ∙ h))
+
+neither : (b : Bool) (o : Option (List ℕ)) → o ≡ None → (if b then o else None) ≡ None
+neither true o h = h
+neither false o h = refl
+
+no_prefix : (x c : ℕ) (t : List ℕ) → is_real_character x ≡ false → list_all is_real_character t ≡ true → after_prefix (48 ∷ x ∷ []) (c ∷ t) ≡ None
+no_prefix x c [] h are = neither (48 == c) (after_prefix (x ∷ []) []) refl
+no_prefix x c (d ∷ t) h are =
+    let first = (and_parts (is_real_character d) (list_all is_real_character t) are).0 in
+    neither (48 == c) (after_prefix (x ∷ []) (d ∷ t)) (rw (other_letter x d h first) refl)
+
+either : (b : Bool) (t : Tree) → unwrap_or (where_true b t) t ≡ t
+either true t = refl
+either false t = refl
+
+-- the rows above the reals' do not fit
+record IsUnfit (c : ℕ) (t : List ℕ) : Type 0 where
+  hexadecimal : after_prefix (codes "0x") (c ∷ t) ≡ None
+  octal : after_prefix (codes "0o") (c ∷ t) ≡ None
+  plus : after_prefix (codes "+") (c ∷ t) ≡ None
+  null : is_among null_words (c ∷ t) ≡ false
+  yes : is_among true_words (c ∷ t) ≡ false
+  no : is_among false_words (c ∷ t) ≡ false
+
+unfit_rows : (c : ℕ) (t : List ℕ) → IsEarly c → list_all is_real_character t ≡ true → IsUnfit c t
+unfit_rows c t early are = record {
+  hexadecimal = no_prefix 120 c t refl are;
+  octal = no_prefix 111 c t refl are;
+  plus = rw early.plus refl;
+  null = rw (early.tilde, early.letter_n) refl;
+  yes = rw (early.letter_t, early.capital_t) refl;
+  no = rw (early.letter_f, early.capital_f) refl;
+}
+
+decimal_is_real : (c : ℕ) (t : List ℕ) → IsEarly c → is_decimal (c ∷ t) ≡ true → signed_decimal (c ∷ t) ≡ None → typing (c ∷ t) ≡ real (c ∷ t)
+unfolding typing
+decimal_is_real c t early is none =
+    let u = unfit_rows c t early ((and_parts (is_real_character c) (list_all is_real_character t) (decimal-characters (c ∷ t) is)).1) in
+    rw (u.hexadecimal, u.octal, u.plus, u.null, u.yes, u.no, none, is) (either (is_among special_words (c ∷ t)) (real (c ∷ t)))
+
+minus_early : IsEarly 45
+minus_early = record { plus = refl; tilde = refl; letter_n = refl; letter_t = refl; capital_t = refl; letter_f = refl; capital_f = refl }
+
+real_text : (m : Bool) (t : List ℕ) → begins_in is_ascii_digit t ≡ true → is_decimal (spell_minus m t) ≡ true → fitted (at_least_one (is_digit 10) t) (integer_value m t) ≡ None → typing (spell_minus m t) ≡ real (spell_minus m t)
+real_text true t h is none = decimal_is_real 45 t minus_early is (signed_text true t h ∙ none)
+real_text false [] h is none = cc
+real_text false (c ∷ t) h is none = decimal_is_real c t (digit_early c h) is (signed_text false (c ∷ t) h ∙ none)
+
+-- ---- all
+
+chosen : (b : Bool) (m : Bool) (w : List ℕ) → fits_i64 (integer_value m w) ≡ b → Parts m w no_fraction no_exponent
+    → typing (spell_minus m (w ++ [])) ≡ (if b then integer (integer_value m w) else real (spell_minus m (w ++ [])))
+chosen true m w fits p = integer_number m w p.whole fits
+chosen false m w fits p =
+    let t = w ++ [] in
+    real_text m t (digits_first w [] p.digits) (decimal_number m w no_fraction no_exponent p)
+    (unfit (at_least_one (is_digit 10) t) (integer_value m t) (ap (λ t. fits_i64 (integer_value m t)) (append-nil w) ∙ fits))
+
+not_whole : (m : Bool) (w : List ℕ) (f : Fraction) (e : Exponent) → is_number (json.number m w f e) ≡ true → IsOther (spell_fraction f (spell_exponent e []))
+    → typing (spell_number (json.number m w f e) []) ≡ real (spell_number (json.number m w f e) [])
+not_whole m w f e h other =
+    let p = parts m w f e h in
+    let r = spell_fraction f (spell_exponent e []) in
+    real_text m (w ++ r) (digits_first w r p.digits) (decimal_number m w f e p) (ap (λ b. fitted b (integer_value m (w ++ r))) (no_digits w r other))
+
+pub numbers_stand_for_their_trees : JsonNumbersStandForTheirTrees
+numbers_stand_for_their_trees (json.number m w no_fraction no_exponent) h =
+    chosen (fits_i64 (integer_value m w)) m w refl (parts m w no_fraction no_exponent h)
+numbers_stand_for_their_trees (json.number m w no_fraction (exponent true s digits)) h = not_whole m w no_fraction (exponent true s digits) h refl
+numbers_stand_for_their_trees (json.number m w no_fraction (exponent false s digits)) h = not_whole m w no_fraction (exponent false s digits) h refl
+numbers_stand_for_their_trees (json.number m w (fraction digits) e) h = not_whole m w (fraction digits) e h refl

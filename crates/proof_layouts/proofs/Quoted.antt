@@ -1,0 +1,25 @@
+-- The tokens of one quoted scalar are a stream, and are read as a string.
+use Rattle.std.proofs.Common.{◌≡◌, ℕ, Bool, List, [], ◌∷◌, None, Ok, refl}
+use Rattle.defs_token.specs.Token.{Tok}
+use Rattle.defs_tree.specs.Tree.{Tree}
+use Rattle.defs_layout.specs.QuotedText.{Quotes, single, double, style_of}
+use Rattle.defs_event.specs.Grammar.{in_block}
+use Rattle.defs_event.specs.Nested.{nested_scalar, with_node}
+use Rattle.defs_event.specs.Reading.{reading}
+use Rattle.defs_event.specs.ReadAs.{ReadAs}
+use Rattle.proof_layouts.specs.Laws.{QuotedTokensReadAsTheirString}
+use Rattle.proof_layouts.proofs.Says.{taken, left, said, scalar, stream_ends, stream_said}
+
+one_scalar : (keep_tags : Bool) (quotes : Quotes) (value : List ℕ) → ReadAs keep_tags (Tok.stream_start ∷ Tok.scalar (style_of quotes) value ∷ Tok.stream_end ∷ []) (Tree.string value ∷ [])
+one_scalar keep_tags quotes value = record {
+  documents = with_node (nested_scalar value (style_of quotes) 0 None) ∷ [];
+  stream = stream_said (taken _ refl (said _ refl (left _ refl (said _ refl (scalar None in_block (style_of quotes) value stream_ends)))));
+  trees_are = by quotes;
+}
+  where
+    by : (q : Quotes) → reading (with_node (nested_scalar value (style_of q) 0 None) ∷ []) ≡ Ok (Tree.string value ∷ [])
+    by single = refl
+    by double = refl
+
+pub quoted_read_as_their_string : QuotedTokensReadAsTheirString
+quoted_read_as_their_string keep_tags text tokens q = rw (q.4) (one_scalar keep_tags q.0.quotes q.1)

@@ -1,0 +1,41 @@
+-- What short texts mean, by the definitions alone: from characters to trees, by computing.
+use Rattle.std.proofs.Common.{ℕ, List, [], ◌∷◌, true, None, refl}
+use Rattle.std.specs.Prelude.{codes}
+use Rattle.defs_tree.specs.Tree.{string, array, hash, items_of, pairs_of}
+use Rattle.defs_tree.specs.Typing.{typing, is_decimal}
+use Rattle.defs_token.specs.Token.{Style}
+use Rattle.model_parser.proofs.Streams.{stream_by}
+use Rattle.defs_event.specs.Nested.{Nest, nested_scalar, nested_sequence, nested_mapping, no_nests, nest, no_nest_pairs, nest_pair, with_node}
+use Rattle.defs_event.specs.Meaning.{Means}
+use Rattle.defs_token.proofs.Rows.{one_pair, at_key_column}
+
+abbrev leaf : List ℕ → Nest
+leaf text = nested_scalar text Style.plain 0 None
+
+-- a mapping of one pair
+pair_means : Means true (codes "a: b\n") (hash (pairs_of ((string (codes "a"), string (codes "b")) ∷ [])) ∷ [])
+unfolding typing is_decimal
+pair_means = record {
+  tokens = _;
+  has = one_pair;
+  read = record {
+    documents = with_node (nested_mapping 0 None (nest_pair (leaf (codes "a")) (leaf (codes "b")) no_nest_pairs)) ∷ [];
+    stream = stream_by refl refl;
+    trees_are = refl;
+  };
+}
+
+-- a sequence at the column of its key
+sequence_means : Means true (codes "a:\n- b\nc: d\n")
+    (hash (pairs_of ((string (codes "a"), array (items_of (string (codes "b") ∷ []))) ∷ (string (codes "c"), string (codes "d")) ∷ [])) ∷ [])
+unfolding typing is_decimal
+sequence_means = record {
+  tokens = _;
+  has = at_key_column;
+  read = record {
+    documents = with_node (nested_mapping 0 None (nest_pair (leaf (codes "a")) (nested_sequence 0 None (nest (leaf (codes "b")) no_nests))
+        (nest_pair (leaf (codes "c")) (leaf (codes "d")) no_nest_pairs))) ∷ [];
+    stream = stream_by refl refl;
+    trees_are = refl;
+  };
+}

@@ -1,0 +1,168 @@
+-- The events before a fault of a text are one list.
+use Rattle.std.proofs.Common.{◌≡◌, ℕ, ◌+◌, List, [], ◌∷◌, ◌++◌, Bool, false, length, refl, sym, ap, ◌∙◌, subst, append-nil, length-append, arith, inl, inr, Ok}
+use Rattle.std.specs.Prelude.{Result}
+use Rattle.std.proofs.lemmas.Bool.{both_ways}
+use Rattle.defs_text.specs.Position.{Position}
+use Rattle.defs_token.specs.Token.{Tok, Token}
+use Rattle.defs_token.specs.Toks.{toks}
+use Rattle.defs_event.specs.Event.{Ev}
+use Rattle.defs_event.specs.Raw.{Raw}
+use Rattle.defs_event.specs.Names.{no_names, named}
+use Rattle.defs_event.specs.Stream.{IsStream, NoneBegins, BeginsPlaced, to_next, HasPlacedTo, AgreeAt}
+use Rattle.model_parser.proofs.OnePlacing.{AreSame, one_stream, same_events, one_list_so_far}
+use Rattle.model_parser.proofs.Streams.{stream_by}
+use Rattle.yaml_tokens.specs.ErrorReport.{ErrorReport}
+use Rattle.yaml_tokens.specs.declared.problem.Problem.{Problem}
+use Rattle.yaml_tokens.specs.declared.problem.Problem.TheVariants as problem
+use Rattle.model_scanner.specs.State.{ScannerState}
+use Rattle.model_scanner.specs.Document.{fetch_stream_start}
+use Rattle.model_scanner.specs.Fetch.{fetch}
+use Rattle.model_scanner.specs.Run.{Reaches, here, there, start}
+use Rattle.yaml_scanner.specs.Follows.{BeginsWith, IsReached, AreSettled}
+use Rattle.yaml_parser.specs.Apart.{StandsBefore}
+use Rattle.yaml_parser.specs.Blames.{Blames}
+use Rattle.yaml_parser.specs.Derived.{stood}
+use Rattle.yaml_parser.specs.Parsed.{read}
+use Rattle.yaml_parser.proofs.Holding.{many}
+use Rattle.yaml_parser.proofs.Positions.{stood_raws, stood_positions}
+use Rattle.proof_loads.specs.Laws.{OneListOfEventsBefore, OneListOfPulledEventsBefore, OneListOfPushedEventsBefore}
+use Rattle.proof_loads.specs.TextEvents.{AreFirst, wants_memory, no_token, no_stream}
+use Rattle.proof_loads.proofs.Answers.{FaultAfter, fault_after, fault_taken}
+use Rattle.proof_loads.proofs.FirstTokens.{stays, settled_agree, settled_first}
+use Rattle.proof_loads.proofs.OneFault.{same_blame, refused_first, last_or_before}
+
+-- ---- of the scanner
+
+both_begin : (xs ys : List Token) → BeginsWith xs ys → BeginsWith ys xs → xs ≡ ys
+both_begin xs ys b c = by b.more b.whole
+  where
+    by : (more : List Token) → ys ≡ xs ++ more → xs ≡ ys
+    by [] e = sym (e ∙ append-nil xs)
+    by (t ∷ more) e =
+        let one : length ys ≡ length xs + length (t ∷ more) = ap length e ∙ length-append xs (t ∷ more) in
+        let other : length xs ≡ length ys + length c.more = ap length c.whole ∙ length-append ys c.more in
+        absurd (omega (arith, one, other))
+
+reached_all : (text : List ℕ) (given : List Token) → AreSettled text given → IsReached text given
+reached_all text given s = record { last = s.refused.last; run = s.refused.run; begins = s.begins; behind = λ going. s.behind }
+
+-- The tokens that are settled where a text is refused are one list.
+one_settled : (text : List ℕ) (xs ys : List Token) → AreSettled text xs → AreSettled text ys → xs ≡ ys
+one_settled text xs ys s r = both_begin xs ys (settled_first text ys xs r (reached_all text xs s)) (settled_first text xs ys s (reached_all text ys r))
+
+-- The first token is the stream's start.
+first_fetch : (text : List ℕ) (u : ScannerState) → fetch (start text) ≡ Ok u → u ≡ fetch_stream_start (start text)
+unfolding fetch
+first_fetch text u e = cc
+
+first_is_start : (text : List ℕ) (t : Token) → IsReached text (t ∷ []) → t.tok ≡ Tok.stream_start
+unfolding fetch_stream_start
+first_is_start text t r = by r.last r.run r.begins
+  where
+    heads : {a b : Token} {ts us : List Token} → a ∷ ts ≡ b ∷ us → a ≡ b
+    heads e = cc
+
+    by : (last : ScannerState) → Reaches (start text) last → BeginsWith (t ∷ []) last.held.tokens → t.tok ≡ Tok.stream_start
+    by _ here b = let no : [] ≡ t ∷ b.more = b.whole in cc
+    by last (there {u = u} going e run) b =
+        let is : u ≡ fetch_stream_start (start text) = first_fetch text u e in
+        let first : Token = record { position = record { index = 0; line = 1; col = 0 }; tok = Tok.stream_start } in
+        let s = stays (first ∷ []) (fetch_stream_start (start text)) last (subst (λ v. Reaches v last) is run) (record { more = []; whole = refl }) (λ _. (tt, tt)) in
+        ap (λ (x : Token). x.tok) (heads (sym b.whole ∙ s.begins.whole))
+
+-- ---- of the parser
+
+-- A stream begins so: it is not refused.
+not_first : (keep_tags : Bool) (t : Token) → t.tok ≡ Tok.stream_start → NoneBegins keep_tags (toks (t ∷ [])) → ⊥
+not_first keep_tags t is none =
+    let stream : IsStream keep_tags (Tok.stream_start ∷ Tok.stream_end ∷ []) (Ev.stream_start ∷ Ev.stream_end ∷ []) = stream_by refl refl in
+    none (Tok.stream_end ∷ []) (Ev.stream_start ∷ Ev.stream_end ∷ []) (subst (λ u. IsStream keep_tags (u ∷ Tok.stream_end ∷ []) (Ev.stream_start ∷ Ev.stream_end ∷ [])) (sym is) stream)
+
+without_last : (xs ys : List (Raw × Position)) (e : Raw × Position) → AreSame (xs ++ e ∷ []) (ys ++ e ∷ []) → AreSame xs ys
+without_last [] [] e a = tt
+without_last [] (y ∷ []) e a = absurd a.2
+without_last [] (y ∷ z ∷ ys) e a = absurd a.2
+without_last (x ∷ []) [] e a = absurd a.2
+without_last (x ∷ z ∷ xs) [] e a = absurd a.2
+without_last (x ∷ xs) (y ∷ ys) e a = (a.0, a.1, without_last xs ys e a.2)
+
+-- What the same tokens say before the same problem is one list.
+one_beside : (q : Problem) (tokens : List Token) (place : Position) (xs ys : List (Raw × Position)) → StandsBefore q tokens place xs → StandsBefore q tokens place ys → AreSame xs ys
+one_beside problem.DirectiveWithoutDocumentEnd tokens place xs ys s r = without_last xs ys (Raw.document_end, place) (one_stream s r)
+one_beside problem.UndeclaredHandle tokens place xs ys s r = one_stream s r
+one_beside problem.SecondVersion tokens place xs ys s r = one_stream s r
+one_beside problem.RepeatedHandle tokens place xs ys s r = one_stream s r
+one_beside q tokens place xs ys s r = one_stream s r
+
+beside_one : (keep_tags : Bool) (text : List ℕ) (tokens : List Token) (es fs : List (Ev × Position)) (f g : ErrorReport) → AreFirst text tokens → NoneBegins keep_tags (toks tokens) → Blames f [] keep_tags tokens es → Blames g [] keep_tags tokens fs → AgreeAt es fs
+beside_one keep_tags text tokens es fs f g first none a b =
+    let same = same_blame keep_tags tokens es fs f g a b in
+    let going : toks b.before ≡ [] → ⊥ = λ nothing. alone b.before nothing b.whole in
+    let one : StandsBefore b.problem b.before b.last.position (stood a.raw es) =
+    subst (λ q. StandsBefore q b.before b.last.position (stood a.raw es)) same.2
+    (subst (λ ts. StandsBefore a.problem ts b.last.position (stood a.raw es)) same.0
+    (subst (λ (t : Token). StandsBefore a.problem a.before t.position (stood a.raw es)) same.1 (a.beside (λ nothing. going (ap toks (sym same.0) ∙ nothing))))) in
+    let count = many [] keep_tags a.raw es a.derived.named in
+    let other_count = many [] keep_tags b.raw fs b.derived.named in
+    same_events keep_tags no_names (stood a.raw es) (stood b.raw fs) es fs (one_beside b.problem b.before b.last.position (stood a.raw es) (stood b.raw fs) one (b.beside going))
+    (ap (named keep_tags no_names) (stood_raws a.raw es count) ∙ a.derived.named) (stood_positions a.raw es count)
+    (ap (named keep_tags no_names) (stood_raws b.raw fs other_count) ∙ b.derived.named) (stood_positions b.raw fs other_count)
+  where
+    alone : (before : List Token) → toks before ≡ [] → tokens ≡ before ++ b.last ∷ [] → ⊥
+    alone [] nothing whole =
+        not_first keep_tags b.last (first_is_start text b.last (subst (IsReached text) whole first.reached)) (subst (λ ts. NoneBegins keep_tags (toks ts)) whole none)
+    alone (t ∷ ts) nothing whole = cc nothing
+
+same_tokens : (keep_tags : Bool) (text : List ℕ) (f g : ErrorReport) (bs cs : List Token) (t u : Token) (es fs : List (Ev × Position)) → AreFirst text (cs ++ u ∷ []) → NoneBegins keep_tags (toks (bs ++ t ∷ [])) → NoneBegins keep_tags (toks (cs ++ u ∷ []))
+    → Blames f [] keep_tags (bs ++ t ∷ []) es → BeginsPlaced keep_tags cs fs → Blames g [] keep_tags (cs ++ u ∷ []) fs → BeginsWith (bs ++ t ∷ []) (cs ++ u ∷ []) → AgreeAt es fs
+same_tokens keep_tags text f g bs cs t u es fs first none other_none a begins b w = elim (last_or_before (bs ++ t ∷ []) cs w.more u w.whole) [
+  | inl same ↦ beside_one keep_tags text (cs ++ u ∷ []) es fs f g first other_none (subst (λ ts. Blames f [] keep_tags ts es) same a) b
+  | inr x ↦ absurd (refused_first keep_tags bs cs t fs none begins x)
+]
+
+agree_back : (es fs : List (Ev × Position)) → AgreeAt es fs → AgreeAt fs es
+agree_back [] [] a = tt
+agree_back [] (f ∷ fs) a = absurd a
+agree_back (e ∷ es) [] a = absurd a
+agree_back (e ∷ es) (f ∷ fs) a = (sym a.0, λ no_end. sym (a.1 (λ is. no_end (sym a.0 ∙ is))), agree_back es fs a.2)
+
+-- ---- of both
+
+pub one_list_before : OneListOfEventsBefore
+one_list_before keep_tags text f g xs ys (wants_memory w) y m n x z = absurd (both_ways f.memory m w.memory)
+one_list_before keep_tags text f g xs ys x (wants_memory w) m n z y = absurd (both_ways g.memory n w.memory)
+one_list_before keep_tags text f g xs ys (no_token given es settled begins has r) (no_token given' fs settled' begins' had s) m n x y =
+    let same : given ≡ given' = one_settled text given given' settled settled' in
+    subst (λ l. AgreeAt l ys) (sym x) (subst (AgreeAt es) (sym y) (one_list_so_far to_next keep_tags given' es fs (subst (λ ts. HasPlacedTo to_next keep_tags ts es) same has) had))
+one_list_before keep_tags text f g xs ys (no_token given es settled begins has r) (no_stream before last fs first b begins' none) m n x y =
+    absurd (refused_first keep_tags before given last es none begins (settled_first text given (before ++ last ∷ []) settled first.reached))
+one_list_before keep_tags text f g xs ys (no_stream before last es first a begins none) (no_token given fs settled begins' has r) m n x y =
+    absurd (refused_first keep_tags before given last fs none begins' (settled_first text given (before ++ last ∷ []) settled first.reached))
+one_list_before keep_tags text f g xs ys (no_stream bs t es first a begins none) (no_stream cs u fs first' b begins' none') m n x y =
+    subst (λ l. AgreeAt l ys) (sym x) (subst (AgreeAt es) (sym y) (elim (settled_agree text (bs ++ t ∷ []) (cs ++ u ∷ []) first.reached first'.reached) [
+      | inl w ↦ same_tokens keep_tags text f g bs cs t u es fs first' none none' a begins' b w
+      | inr w ↦ agree_back fs es (same_tokens keep_tags text g f cs bs u t fs es first none' none b begins a w)
+    ]))
+
+-- the same of two parsers
+agree_before : (k c : Bool) (text : List ℕ) (f g : ErrorReport) (es fs : List (Ev × Position)) → k ≡ c → FaultAfter k text f es → FaultAfter c text g fs → f.memory ≡ false → g.memory ≡ false → AgreeAt es fs
+agree_before k c text f g es fs same x y m n =
+    let z = subst (λ b. FaultAfter b text f es) same x in
+    one_list_before c text f g es fs z.why y.why m n z.after y.after
+
+pub one_pulled_list_before : OneListOfPulledEventsBefore
+one_pulled_list_before p q text f g setting steady other_steady scans scanned why other m n =
+    agree_before p.keep_tags q.keep_tags text f g (read p) (read q) setting (fault_after text p f scans steady why) (fault_after text q g scanned other_steady other) m n
+
+pub one_pushed_list_before : {R S : Type 0} (takes : R → Ev → Position → Result (Unit {0}) ErrorReport → R → Type 0) (others : S → Ev → Position → Result (Unit {0}) ErrorReport → S → Type 0)
+    → OneListOfPushedEventsBefore takes others
+one_pushed_list_before takes others p p' q q' r r' s s' text f g start began setting scans scanned one other kept held m n =
+    let x = fault_taken takes p p' r r' f text start scans one kept in
+    let y = fault_taken others q q' s s' g text began scanned other held in
+    record {
+      events = x.events;
+      other_events = y.events;
+      took = x.took;
+      other_took = y.took;
+      agree = agree_before p.keep_tags q.keep_tags text f g x.events y.events setting x.why y.why m n;
+    }

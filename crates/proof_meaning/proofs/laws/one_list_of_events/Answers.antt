@@ -1,5 +1,0 @@
-use Rattle.proof_meaning.proofs.Meanings.{one_list_of_events}
-use Rattle.proof_meaning.proofs.laws.one_list_of_events.Goals as goal
-
-pub returns : goal.returns
-returns c = one_list_of_events

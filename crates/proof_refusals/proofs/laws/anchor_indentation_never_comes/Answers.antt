@@ -1,5 +1,0 @@
-use Rattle.proof_refusals.proofs.Refusals.{anchor_indentation_never_comes}
-use Rattle.proof_refusals.proofs.laws.anchor_indentation_never_comes.Goals as goal
-
-pub returns : goal.returns
-returns c = anchor_indentation_never_comes

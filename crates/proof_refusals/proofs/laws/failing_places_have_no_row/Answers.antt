@@ -1,5 +1,0 @@
-use Rattle.proof_refusals.proofs.NoRows.{failing_places_have_no_row}
-use Rattle.proof_refusals.proofs.laws.failing_places_have_no_row.Goals as goal
-
-pub returns : goal.returns
-returns c = failing_places_have_no_row

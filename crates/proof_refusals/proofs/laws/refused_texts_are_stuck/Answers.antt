@@ -1,5 +1,0 @@
-use Rattle.proof_refusals.proofs.Refusals.{refused_texts_are_stuck}
-use Rattle.proof_refusals.proofs.laws.refused_texts_are_stuck.Goals as goal
-
-pub returns : goal.returns
-returns c = refused_texts_are_stuck

@@ -1,5 +1,0 @@
-use Rattle.proof_refusals.proofs.KeysThatWait.{texts_with_a_row_are_not_stuck}
-use Rattle.proof_refusals.proofs.laws.texts_with_a_row_are_not_stuck.Goals as goal
-
-pub returns : goal.returns
-returns c = texts_with_a_row_are_not_stuck

@@ -1,0 +1,239 @@
+-- The text says which kind of piece begins.
+use Rattle.std.proofs.Common.{◌≡◌, ◌≢◌, ℕ, List, [], ◌∷◌, ◌++◌, Bool, true, false, not, ◌&&◌, ◌||◌, ◌==◌, if◌then◌else◌, Option, Some, None, ◌⊎◌, inl, inr, codes, sym, ap, subst, ◌∙◌, refl}
+use Rattle.std.proofs.lemmas.Bool.{eqb-true}
+use Rattle.defs_text.specs.Classes.{is_blank, is_break, is_nul, is_blank_or_end, is_flow, is_alpha, is_at_gap, are_marks, is_document_marker}
+use Rattle.defs_text.specs.FlowScalar.{plain_value}
+use Rattle.defs_text.specs.BlockScalar.{BlockStyle}
+use Rattle.defs_text.specs.Tags.{leading, after, Tag, after_mark, written_tag}
+use Rattle.defs_text.specs.Directives.{Directive, version, tag_declaration, reserved, directive_by, directive_of}
+use Rattle.defs_text.specs.Position.{Position}
+use Rattle.defs_token.specs.Token.{Tok, stream_start, stream_end, version_directive, tag_directive, document_start, document_end, block_sequence_start, block_mapping_start, block_end, flow_sequence_start, flow_sequence_end, flow_mapping_start, flow_mapping_end, block_entry, flow_entry, key, value, alias, anchor, tag, scalar, plain, single_quoted, double_quoted, literal, folded}
+use Rattle.defs_text.specs.Breaks.{is_at_line_end, has_no_break}
+use Rattle.defs_token.specs.Plain.{begins_flow, is_value_indicator, may_begin, begins_plain, is_whole_plain}
+use Rattle.defs_token.specs.BlockPiece.{BlockRead, block_read}
+use Rattle.defs_token.specs.Account.{Account, is_in_flow, collection_column, is_adjacent}
+use Rattle.defs_token.specs.Piece.{Holds, begins_with_space_or_break, IsDirective, IsNamed, IsSingleQuoted, IsDoubleQuoted, IsPiece}
+use Rattle.proof_row.specs.Ends.{ends_separation, Kind, nothing, plain_scalar, sequence_opening, sequence_closing, mapping_opening, mapping_closing, comma, question, colon, dash, dashes, dots, directive_line, alias_name, anchor_name, tag_text, in_single_quotes, in_double_quotes, block_scalar, kind_by, kind_at, kind_of, TextsBeginWithOneKind, SeparationsEndBeforePieces}
+use Rattle.proof_row.proofs.Runs.{joined}
+use Rattle.proof_row.proofs.TagEnds.{mark_is_first}
+use Rattle.proof_row.proofs.Blocks.{begins_block, block_begins}
+use Rattle.proof_row.proofs.Texts.{gaps}
+
+-- ---- a piece and its token
+
+abbrev pub directive_token : Directive → Tok
+directive_token (version major minor) = version_directive major minor
+directive_token (tag_declaration handle prefix) = tag_directive handle prefix
+directive_token reserved = tag_directive [] []
+
+abbrev pub block_token : BlockStyle → List ℕ → Tok
+block_token BlockStyle.literal text = scalar literal text
+block_token BlockStyle.folded text = scalar folded text
+
+-- what of an account a piece asks: whether it is in flow, whether a colon may stand next to what stands before, its column, and that of the innermost block collection
+pub record Context : Type 0 where
+  pub in_flow : Bool
+  pub adjacent : Bool
+  pub column : ℕ
+  pub collection : Option ℕ
+
+abbrev pub context_of : Account → Context
+context_of a = record { in_flow = is_in_flow a; adjacent = is_adjacent a.before; column = a.position.col; collection = collection_column a }
+
+abbrev IsPlainIn : Context → (piece next text : List ℕ) → Type 0
+IsPlainIn a p x text = Holds (begins_plain a.in_flow a.adjacent a.column (p ++ x)) × Holds (is_whole_plain a.in_flow a.collection p x) × (plain_value p ≡ Some text)
+
+abbrev IsMarkerIn : Context → (piece next marker : List ℕ) → Type 0
+IsMarkerIn a p x marker = (p ≡ marker) × (a.column ≡ 0) × Holds (is_at_gap x)
+
+-- a piece of a kind, and its token
+abbrev pub Whole : Kind → Context → (piece next : List ℕ) → Tok → Type 0
+Whole nothing a p x t = ⊥
+Whole plain_scalar a p x t = (text : List ℕ) × IsPlainIn a p x text × (t ≡ scalar plain text)
+Whole sequence_opening a p x t = (p ≡ codes "[") × (t ≡ flow_sequence_start)
+Whole sequence_closing a p x t = (p ≡ codes "]") × (t ≡ flow_sequence_end)
+Whole mapping_opening a p x t = (p ≡ codes "{") × (t ≡ flow_mapping_start)
+Whole mapping_closing a p x t = (p ≡ codes "}") × (t ≡ flow_mapping_end)
+Whole comma a p x t = (p ≡ codes ",") × (t ≡ flow_entry)
+Whole question a p x t = (p ≡ codes "?") × Holds (begins_with_space_or_break x) × (t ≡ key)
+Whole colon a p x t = (p ≡ codes ":") × Holds (is_value_indicator a.in_flow a.adjacent x) × (t ≡ value)
+Whole dash a p x t = (p ≡ codes "-") × Holds (is_at_gap x) × (t ≡ block_entry)
+Whole dashes a p x t = IsMarkerIn a p x (codes "---") × (t ≡ document_start)
+Whole dots a p x t = IsMarkerIn a p x (codes "...") × (t ≡ document_end)
+Whole directive_line a p x t = (d : Directive) × (directive_of p ≡ Some d) × Holds (has_no_break p) × Holds (is_at_line_end x) × (t ≡ directive_token d)
+Whole alias_name a p x t = (name : List ℕ) × IsNamed 42 p x name × (t ≡ alias name)
+Whole anchor_name a p x t = (name : List ℕ) × IsNamed 38 p x name × (t ≡ anchor name)
+Whole tag_text a p x t = (w : Tag) × (written_tag p ≡ Some w) × Holds (is_at_gap x || (a.in_flow && begins_flow x)) × (t ≡ tag w.handle w.suffix)
+Whole in_single_quotes a p x t = (text : List ℕ) × IsSingleQuoted p x text × (t ≡ scalar single_quoted text)
+Whole in_double_quotes a p x t = (text : List ℕ) × IsDoubleQuoted p x text × (t ≡ scalar double_quoted text)
+Whole block_scalar a p x t = (r : BlockRead) × (block_read a.collection p x ≡ Some r) × (a.in_flow ≡ false) × (t ≡ block_token r.style r.text)
+
+-- a piece of a token is one of the token's kind
+pub piece_of : (a : Account) (p x : List ℕ) (f : Option Tok) (m : Position) (t : Tok) → p ≢ [] → IsPiece a p x f m t → Whole (kind_of t) (context_of a) p x t
+piece_of a p x f m stream_start n h = absurd h
+piece_of a p x f m stream_end n h = absurd h
+piece_of a p x f m (version_directive major minor) n h = (version major minor, h.0.0, h.0.1, h.0.3, refl)
+piece_of a p x f m (tag_directive handle prefix) n h = by h.0
+  where
+    by : IsDirective a p x (tag_declaration handle prefix) ⊎ ((handle ≡ []) × (prefix ≡ []) × IsDirective a p x reserved) → Whole directive_line (context_of a) p x (tag_directive handle prefix)
+    by (inl d) = (tag_declaration handle prefix, d.0, d.1, d.3, refl)
+    by (inr d) = (reserved, d.2.0, d.2.1, d.2.3, cc (d.0, d.1))
+piece_of a p x f m document_start n h = ((h.0.0, h.0.1, h.0.2), refl)
+piece_of a p x f m document_end n h = ((h.0.0, h.0.1, h.0.2), refl)
+piece_of a p x f m block_sequence_start n h = absurd (n h.0)
+piece_of a p x f m block_mapping_start n h = absurd (n h.0)
+piece_of a p x f m block_end n h = absurd (n h.0)
+piece_of a p x f m flow_sequence_start n h = (h.0.0, refl)
+piece_of a p x f m flow_sequence_end n h = (h.0.0, refl)
+piece_of a p x f m flow_mapping_start n (inl h) = (h.0.0, refl)
+piece_of a p x f m flow_mapping_start n (inr h) = absurd (n h.0)
+piece_of a p x f m flow_mapping_end n (inl h) = (h.0.0, refl)
+piece_of a p x f m flow_mapping_end n (inr h) = absurd (n h.0)
+piece_of a p x f m block_entry n h = (h.0, h.1, refl)
+piece_of a p x f m flow_entry n h = (h.0.0, refl)
+piece_of a p x f m key n (inl h) = (h.0, h.1, refl)
+piece_of a p x f m key n (inr h) = absurd (n h.0)
+piece_of a p x f m value n h = (h.0, h.1, refl)
+piece_of a p x f m (alias name) n h = (name, h.0, refl)
+piece_of a p x f m (anchor name) n h = (name, h.0, refl)
+piece_of a p x f m (tag handle suffix) n h = (record { handle = handle; suffix = suffix }, h.0.0, h.0.1, refl)
+piece_of a p x f m (scalar plain text) n h = (text, h.0, refl)
+piece_of a p x f m (scalar single_quoted text) n h = (text, h.0, refl)
+piece_of a p x f m (scalar double_quoted text) n h = (text, h.0, refl)
+piece_of a p x f m (scalar literal text) n h = (record { style = BlockStyle.literal; column = h.1.0; text = text }, h.1.1, h.0, refl)
+piece_of a p x f m (scalar folded text) n h = (record { style = BlockStyle.folded; column = h.1.0; text = text }, h.1.1, h.0, refl)
+
+-- ---- the kind at a text
+
+there : (fl adj : Bool) (col c : ℕ) (r : List ℕ) → begins_plain fl adj col (c ∷ r) ≡ false → kind_at fl adj col (c ∷ r) ≡ kind_by c r
+there fl adj col c r h = rw h refl
+
+neither_plain : (a b : Bool) → b ≡ true → (a && not b) ≡ false
+neither_plain true b h = ap not h
+neither_plain false b h = refl
+
+unplain : (a b : Bool) → a ≡ false → (a && b) ≡ false
+unplain a b h = rw h refl
+
+space_is_gap : (x : List ℕ) → begins_with_space_or_break x ≡ true → is_at_gap x ≡ true
+unfolding is_blank_or_end is_blank
+space_is_gap [] h = absurd (cc h)
+space_is_gap (c ∷ x) h = by (c == 32) (c == 9) (is_break c) (is_nul c) h
+  where
+    by : (a b d e : Bool) → (a || d) ≡ true → (((a || b) || d) || e) ≡ true
+    by true b d e f = refl
+    by false true true e f = refl
+    by false true false e f = refl
+    by false false true e f = refl
+    by false false false e f = absurd (cc f)
+
+dash_kind : (x : List ℕ) → is_at_gap x ≡ true → kind_by 45 x ≡ dash
+dash_kind x h = rw h refl
+
+pub directive_begins : (p : List ℕ) (d : Directive) → directive_of p ≡ Some d → (r : List ℕ) × (p ≡ 37 ∷ r)
+unfolding directive_of
+directive_begins [] d e = absurd (cc e)
+directive_begins (c ∷ r) d e = by (c == 37) refl e
+  where
+    by : (b : Bool) → (c == 37) ≡ b → (if b then directive_by (leading is_alpha r) (after is_alpha r) else None) ≡ Some d → (s : List ℕ) × (c ∷ r ≡ 37 ∷ s)
+    by true f g = (r, ap (λ z. z ∷ r) (eqb-true c 37 f))
+    by false f g = absurd (cc g)
+
+-- at a document marker
+pub marked : (a : Context) (c : ℕ) (x : List ℕ) → are_marks c c c ≡ true → a.column ≡ 0 → is_at_gap x ≡ true → begins_plain a.in_flow a.adjacent a.column (c ∷ c ∷ c ∷ x) ≡ false
+marked a c x m f g =
+    let marker : is_document_marker (c ∷ c ∷ c ∷ x) ≡ true = joined _ _ m g in
+    neither_plain (may_begin a.in_flow a.adjacent c (c ∷ c ∷ x)) ((a.column == 0) && is_document_marker (c ∷ c ∷ c ∷ x)) (joined (a.column == 0) _ (ap (λ z. z == 0) f) marker)
+
+pub dash_marks : are_marks 45 45 45 ≡ true
+unfolding are_marks
+dash_marks = refl
+
+pub dot_marks : are_marks 46 46 46 ≡ true
+unfolding are_marks
+dot_marks = refl
+
+abbrev IsThere : Context → (text : List ℕ) → Kind → Type 0
+IsThere a text k = kind_at a.in_flow a.adjacent a.column text ≡ k
+
+-- at an indicator
+here : (a : Context) (c : ℕ) (r : List ℕ) → begins_plain a.in_flow a.adjacent a.column (c ∷ r) ≡ false → IsThere a (c ∷ r) (kind_by c r)
+here a c r h = there a.in_flow a.adjacent a.column c r h
+
+-- at a piece whose first character is known
+known : (a : Context) (p r x : List ℕ) (k : Kind) → p ≡ r → IsThere a (r ++ x) k → IsThere a (p ++ x) k
+known a p r x k e h = subst (λ z. IsThere a (z ++ x) k) (sym e) h
+
+block_there : (a : Context) (p x : List ℕ) → a.in_flow ≡ false → begins_block p ≡ true → IsThere a (p ++ x) block_scalar
+block_there a [] x o h = absurd (cc h)
+block_there a (c ∷ r) x o h = by (c == 124) (c == 62) refl refl h
+  where
+    at : (c : ℕ) → may_begin false a.adjacent c (r ++ x) ≡ false → kind_by c (r ++ x) ≡ block_scalar → IsThere a (c ∷ (r ++ x)) block_scalar
+    at c f g = rw o (there false a.adjacent a.column c (r ++ x) (unplain _ _ f) ∙ g)
+
+    by : (b d : Bool) → (c == 124) ≡ b → (c == 62) ≡ d → (b || d) ≡ true → IsThere a (c ∷ (r ++ x)) block_scalar
+    by true d f g h = subst (λ z. IsThere a (z ∷ (r ++ x)) block_scalar) (sym (eqb-true c 124 f)) (at 124 refl refl)
+    by false true f g h = subst (λ z. IsThere a (z ∷ (r ++ x)) block_scalar) (sym (eqb-true c 62 g)) (at 62 refl refl)
+    by false false f g h = absurd (cc h)
+
+plain_there : (a : Context) (p x text : List ℕ) → IsPlainIn a p x text → IsThere a (p ++ x) plain_scalar
+plain_there a [] x text h = absurd (cc h.1)
+plain_there a (c ∷ p) x text h = rw h.0 refl
+
+-- the text at a piece says the piece's kind
+pub kind_there : (k : Kind) (a : Context) (p x : List ℕ) (t : Tok) → Whole k a p x t → IsThere a (p ++ x) k
+unfolding is_blank_or_end is_blank is_break is_nul is_flow
+kind_there nothing a p x t h = absurd h
+kind_there plain_scalar a p x t h = plain_there a p x h.0 h.1
+kind_there sequence_opening a p x t h = known a p (codes "[") x _ h.0 (here a 91 x refl)
+kind_there sequence_closing a p x t h = known a p (codes "]") x _ h.0 (here a 93 x refl)
+kind_there mapping_opening a p x t h = known a p (codes "{") x _ h.0 (here a 123 x refl)
+kind_there mapping_closing a p x t h = known a p (codes "}") x _ h.0 (here a 125 x refl)
+kind_there comma a p x t h = known a p (codes ",") x _ h.0 (here a 44 x refl)
+kind_there question a p x t h = known a p (codes "?") x _ h.0 (here a 63 x (unplain _ _ (ap not (space_is_gap x h.1))))
+kind_there colon a p x t h = known a p (codes ":") x _ h.0 (here a 58 x (unplain _ _ (ap not h.1)))
+kind_there dash a p x t h = known a p (codes "-") x _ h.0 (here a 45 x (unplain _ _ (unplain _ _ (ap not h.1))) ∙ dash_kind x h.1)
+kind_there dashes a p x t h = known a p (codes "---") x _ h.0.0 (here a 45 (45 ∷ 45 ∷ x) (marked a 45 x dash_marks h.0.1 h.0.2))
+kind_there dots a p x t h = known a p (codes "...") x _ h.0.0 (here a 46 (46 ∷ 46 ∷ x) (marked a 46 x dot_marks h.0.1 h.0.2))
+kind_there directive_line a p x t h =
+    let r : (r : List ℕ) × (p ≡ 37 ∷ r) = directive_begins p h.0 h.1 in
+    known a p (37 ∷ r.0) x _ r.1 (here a 37 (r.0 ++ x) refl)
+kind_there alias_name a p x t h = known a p (42 ∷ h.0) x _ h.1.0 (here a 42 (h.0 ++ x) refl)
+kind_there anchor_name a p x t h = known a p (38 ∷ h.0) x _ h.1.0 (here a 38 (h.0 ++ x) refl)
+kind_there tag_text a p x t h =
+    let r : (r : List ℕ) × (p ≡ 33 ∷ r) × (after_mark r ≡ Some h.0) = mark_is_first p h.0 h.1 in
+    known a p (33 ∷ r.0) x _ r.1 (here a 33 (r.0 ++ x) refl)
+kind_there in_single_quotes a p x t h = known a p (39 ∷ (h.1.0 ++ (39 ∷ []))) x _ h.1.1 (here a 39 ((h.1.0 ++ (39 ∷ [])) ++ x) refl)
+kind_there in_double_quotes a p x t h = known a p (34 ∷ (h.1.0 ++ (34 ∷ []))) x _ h.1.1 (here a 34 ((h.1.0 ++ (34 ∷ [])) ++ x) refl)
+kind_there block_scalar a p x t h = block_there a p x h.2 (block_begins a.collection p x h.0 h.1)
+
+-- what begins a piece is no separation
+nothing_there : (a : Context) (c : ℕ) (r : List ℕ) → is_blank_or_end c ≡ true → IsThere a (c ∷ r) nothing
+unfolding is_blank_or_end is_blank is_break is_nul is_flow
+nothing_there a c r h = gaps (λ z. IsThere a (z ∷ r) nothing) c h refl refl refl refl refl
+
+comment_there : (a : Context) (r : List ℕ) → IsThere a (35 ∷ r) nothing
+unfolding is_blank_or_end is_blank is_break is_nul is_flow
+comment_there a r = refl
+
+-- and no separation goes on over it
+pub separations_end : (k : Kind) (a : Context) (p x : List ℕ) (t : Tok) → Whole k a p x t → ends_separation (p ++ x) ≡ true
+separations_end k a p x t h = of_kind (p ++ x) (kind_there k a p x t h)
+  where
+    none : k ≡ nothing → ⊥
+    none e = subst (λ z. Whole z a p x t) e h
+
+    of_kind : (text : List ℕ) → IsThere a text k → ends_separation text ≡ true
+    of_kind [] i = refl
+    of_kind (c ∷ r) i = by (is_blank_or_end c) (c == 35) refl refl
+      where
+        by : (gap mark : Bool) → is_blank_or_end c ≡ gap → (c == 35) ≡ mark → (not gap && not mark) ≡ true
+        by true mark f g = absurd (none (sym i ∙ nothing_there a c r f))
+        by false true f g = absurd (none (sym i ∙ subst (λ z. IsThere a (z ∷ r) nothing) (sym (eqb-true c 35 g)) (comment_there a r)))
+        by false false f g = refl
+
+pub texts_begin : TextsBeginWithOneKind
+texts_begin a p x f m t n h = kind_there (kind_of t) (context_of a) p x t (piece_of a p x f m t n h)
+
+pub separations_end_before : SeparationsEndBeforePieces
+separations_end_before a p x f m t n h = separations_end (kind_of t) (context_of a) p x t (piece_of a p x f m t n h)

@@ -1,0 +1,212 @@
+-- A block scalar has one end.
+use Rattle.std.proofs.Common.{◌≡◌, ℕ, List, [], ◌∷◌, ◌++◌, Bool, true, false, ◌||◌, ◌==◌, if◌then◌else◌, Option, Some, None, ◌⊎◌, inl, inr, append_assoc, append-nil, sym, ap, subst, ◌∙◌, refl}
+use Rattle.std.proofs.lemmas.Bool.{eqb-true}
+use Rattle.defs_text.specs.Classes.{is_break, is_nul, is_at_end}
+use Rattle.defs_text.specs.Breaks.{Split, split}
+use Rattle.defs_text.specs.FlowScalar.{begins_with}
+use Rattle.defs_text.specs.BlockScalar.{literal, folded, Header, header_of, after_style, Body, body, input_ends, Ending, further_text, unbroken, column_by, all_lines, content_column, Row, row_of, rows_of, value_at_end, value_at_text, value_by, starts_with_tab, block_value, is_further_text}
+use Rattle.defs_token.specs.BlockPiece.{BlockRead, with_value, is_past, read_body, read_lines, read_split, block_read}
+use Rattle.defs_text.specs.Text.{has_no_nul}
+use Rattle.proof_row.specs.Ends.{BlockScalarsHaveOneEnd}
+use Rattle.proof_row.proofs.Runs.{both, untrue, contrary}
+use Rattle.proof_row.proofs.Splits.{More, splits}
+use Rattle.proof_row.proofs.Texts.{no_nul_after}
+use Rattle.proof_row.proofs.Lines.{of_lines, lines_after, split_append, up_to_break, first_line, line_of, line_is, line_more, no_lines}
+use Rattle.proof_row.proofs.Columns.{column_same, IsBefore, further, further_is_no_break, no_rows}
+
+-- ---- its first character
+
+headed : (collection : Option ℕ) (h : Option Header) (b : Body) (next : List ℕ) (r : BlockRead) → read_body h collection b next ≡ Some r → h ≡ None → ⊥
+headed collection None b next r e f = cc e
+headed collection (Some h) b next r e f = cc f
+
+-- a block scalar has a header
+pub has_header : (collection : Option ℕ) (lines : List (List ℕ)) (last next : List ℕ) (at_end : Bool) (r : BlockRead) → read_lines collection lines last next at_end ≡ Some r → header_of (first_line lines last) ≡ None → ⊥
+has_header collection [] last next true r e f = headed collection (header_of last) input_ends next r e f
+has_header collection (h ∷ ls) last next true r e f = headed collection (header_of h) (body ls (unbroken last)) next r e f
+has_header collection (h ∷ ls) [] next false r e f = headed collection (header_of h) (body ls further_text) next r e f
+has_header collection [] last next false r e f = cc e
+has_header collection (h ∷ ls) (c ∷ last) next false r e f = cc e
+
+-- whether a text begins with the indicator of a block scalar
+abbrev pub begins_block : List ℕ → Bool
+begins_block [] = false
+begins_block (c ∷ r) = (c == 124) || (c == 62)
+
+no_header : (l : List ℕ) → begins_block l ≡ false → header_of l ≡ None
+no_header [] h = refl
+no_header (c ∷ r) h = by (c == 124) (c == 62) h
+  where
+    by : (a b : Bool) → (a || b) ≡ false → (if a then after_style literal r else (if b then after_style folded r else None)) ≡ None
+    by true b f = absurd (cc f)
+    by false true f = absurd (cc f)
+    by false false f = refl
+
+break_is_none : (c : ℕ) (r : List ℕ) → is_break c ≡ true → begins_block (c ∷ r) ≡ false
+unfolding is_break
+break_is_none c r h = by (c == 10) (c == 13) refl refl h
+  where
+    by : (a b : Bool) → (c == 10) ≡ a → (c == 13) ≡ b → (a || b) ≡ true → ((c == 124) || (c == 62)) ≡ false
+    by true b f g h = subst (λ z. ((z == 124) || (z == 62)) ≡ false) (sym (eqb-true c 10 f)) refl
+    by false true f g h = subst (λ z. ((z == 124) || (z == 62)) ≡ false) (sym (eqb-true c 13 g)) refl
+    by false false f g h = absurd (cc h)
+
+line_begins : (p : List ℕ) → begins_block (up_to_break p) ≡ begins_block p
+line_begins [] = refl
+line_begins (c ∷ r) = by (is_break c) refl
+  where
+    by : (break : Bool) → is_break c ≡ break → begins_block (if break then [] else c ∷ up_to_break r) ≡ begins_block (c ∷ r)
+    by true f = sym (break_is_none c r f)
+    by false f = refl
+
+-- A block scalar begins with `|` or `>`.
+pub block_begins : (collection : Option ℕ) (p x : List ℕ) (r : BlockRead) → block_read collection p x ≡ Some r → begins_block p ≡ true
+block_begins collection p x r e = by (begins_block p) refl
+  where
+    by : (b : Bool) → begins_block p ≡ b → b ≡ true
+    by true f = refl
+    by false f = absurd (has_header collection ((split p).complete) ((split p).last) x (is_at_end x) r e (no_header (line_of p) (ap begins_block (line_is p) ∙ (line_begins p ∙ f))))
+
+-- ---- before further text
+
+-- a block scalar before further text: its header, and lines that all have their breaks
+record BeforeText (collection : Option ℕ) (s : Split) (next : List ℕ) : Type 0 where
+  pub head : List ℕ
+  pub lines : List (List ℕ)
+  pub header : Header
+  pub is_split : s ≡ of_lines (head ∷ lines) []
+  pub is_header : header_of head ≡ Some header
+  pub is_further : is_further_text (column_by header.digit collection lines) next ≡ true
+
+before_text : (collection : Option ℕ) (complete : List (List ℕ)) (last next : List ℕ) (r : BlockRead) → is_at_end next ≡ false → read_lines collection complete last next false ≡ Some r →
+    BeforeText collection (of_lines complete last) next
+before_text collection [] last next r i e = absurd (cc e)
+before_text collection (h ∷ ls) (c ∷ last) next r i e = absurd (cc e)
+before_text collection (h ∷ ls) [] next r i e = by (header_of h) refl e
+  where
+    past : (at_end further : Bool) (o : Option BlockRead) → at_end ≡ false → (if at_end || further then o else None) ≡ Some r → further ≡ true
+    past true further o i e = absurd (cc i)
+    past false true o i e = refl
+    past false false o i e = absurd (cc e)
+
+    by : (o : Option Header) → header_of h ≡ o → read_body o collection (body ls further_text) next ≡ Some r → BeforeText collection (of_lines (h ∷ ls) []) next
+    by None f e = absurd (cc e)
+    by (Some d) f e = record {
+      head = h;
+      lines = ls;
+      header = d;
+      is_split = refl;
+      is_header = f;
+      is_further = past (is_at_end next) (is_further_text (column_by d.digit collection ls) next) (with_value d (column_by d.digit collection ls) (block_value d collection (body ls further_text))) i e;
+    }
+
+-- ---- lines after it have no value
+
+no_text : (h : Header) (collection : Option ℕ) (ls : List (List ℕ)) (l : List ℕ) (more : List (List ℕ)) → IsBefore (column_by h.digit collection ls) l →
+    value_by h (content_column h collection (ls ++ (l ∷ more)) further_text) (ls ++ (l ∷ more)) further_text ≡ None
+no_text h collection ls l more b =
+    let column : column_by h.digit collection (ls ++ (l ∷ more)) ≡ column_by h.digit collection ls = column_same h.digit collection ls l more b.written b.start in
+    let row : row_of (column_by h.digit collection (ls ++ (l ∷ more))) l ≡ None = ap (λ n. row_of n l) column ∙ b.none in
+    ap (λ o. value_at_text h o) (no_rows (column_by h.digit collection (ls ++ (l ∷ more))) ls l more row)
+
+-- the column of all lines, the last of which has no break
+columns : (digit collection : Option ℕ) (ls zs : List (List ℕ)) (last : List ℕ) → IsBefore (column_by digit collection ls) (first_line zs last) →
+    column_by digit collection ((ls ++ zs) ++ (last ∷ [])) ≡ column_by digit collection ls
+columns digit collection ls [] last b = ap (λ x. column_by digit collection (x ++ (last ∷ []))) (append-nil ls) ∙ column_same digit collection ls last [] b.written b.start
+columns digit collection ls (l ∷ zs) last b =
+    ap (λ x. column_by digit collection x) (append_assoc ls (l ∷ zs) (last ∷ [])) ∙ column_same digit collection ls l (zs ++ (last ∷ [])) b.written b.start
+
+no_end : (h : Header) (collection : Option ℕ) (ls zs : List (List ℕ)) (last : List ℕ) → IsBefore (column_by h.digit collection ls) (first_line zs last) →
+    value_by h (content_column h collection (ls ++ zs) (unbroken last)) (ls ++ zs) (unbroken last) ≡ None
+no_end h collection ls zs last b = by zs b (columns h.digit collection ls zs last b)
+  where
+    end_none : (n : ℕ) (o : Option (List Row)) → value_at_end h n last o None ≡ None
+    end_none n None = refl
+    end_none n (Some rows) = refl
+
+    by : (zs : List (List ℕ)) → IsBefore (column_by h.digit collection ls) (first_line zs last) →
+        column_by h.digit collection ((ls ++ zs) ++ (last ∷ [])) ≡ column_by h.digit collection ls →
+        value_by h (content_column h collection (ls ++ zs) (unbroken last)) (ls ++ zs) (unbroken last) ≡ None
+    by [] b e =
+        let n : ℕ = column_by h.digit collection ((ls ++ []) ++ (last ∷ [])) in
+        let row : row_of n last ≡ None = ap (λ k. row_of k last) e ∙ b.none in
+        ap (λ o. value_at_end h n last (rows_of n (ls ++ [])) o) row ∙ end_none n (rows_of n (ls ++ []))
+    by (l ∷ zs) b e =
+        let n : ℕ = column_by h.digit collection ((ls ++ (l ∷ zs)) ++ (last ∷ [])) in
+        let row : row_of n l ≡ None = ap (λ k. row_of k l) e ∙ b.none in
+        ap (λ o. value_at_end h n last o (row_of n last)) (no_rows n ls l zs row)
+
+-- what has no value is not read
+unread : (h : Header) (collection : Option ℕ) (lines : List (List ℕ)) (ending : Ending) (next : List ℕ) (r : BlockRead) → value_by h (content_column h collection lines ending) lines ending ≡ None →
+    read_body (Some h) collection (body lines ending) next ≡ Some r → ⊥
+unread h collection lines ending next r e f =
+    by (is_past (content_column h collection lines ending) next) (block_value h collection (body lines ending))
+    (tabbed (starts_with_tab (all_lines lines ending)) (value_by h (content_column h collection lines ending) lines ending) e) f
+  where
+    tabbed : (b : Bool) (o : Option (List ℕ)) → o ≡ None → (if b then None else o) ≡ None
+    tabbed true o e = refl
+    tabbed false o e = e
+
+    by : (b : Bool) (o : Option (List ℕ)) → o ≡ None → (if b then with_value h (content_column h collection lines ending) o else None) ≡ Some r → ⊥
+    by true None e f = cc f
+    by true (Some t) e f = cc e
+    by false o e f = cc f
+
+-- ---- two block scalars
+
+not_at_end : (z y : List ℕ) → (z ≡ [] → ⊥) → has_no_nul (z ++ y) ≡ true → is_at_end (z ++ y) ≡ false
+not_at_end [] y n c = absurd (n refl)
+not_at_end (d ∷ z) y n c = untrue _ (both _ _ c).0
+
+at_end : (y : List ℕ) → has_no_nul y ≡ true → is_at_end y ≡ true → y ≡ []
+at_end [] c e = refl
+at_end (d ∷ y) c e = absurd (contrary (is_nul d) e (untrue _ (both _ _ c).0))
+
+begins_not : (z y : List ℕ) → begins_with 10 (z ++ y) ≡ false → begins_with 10 z ≡ false
+begins_not [] y h = refl
+begins_not (d ∷ z) y h = h
+
+-- The lines of a longer scalar, of which the first after the shorter one is further text.
+longer_lines : (collection : Option ℕ) (head : List ℕ) (ls : List (List ℕ)) (h : Header) (z y : List ℕ) (zs : List (List ℕ)) (last : List ℕ) (s : BlockRead) → header_of head ≡ Some h →
+    split z ≡ of_lines zs last → is_further_text (column_by h.digit collection ls) (z ++ y) ≡ true → (z ≡ [] → ⊥) → has_no_nul y ≡ true →
+    (at_end : Bool) → is_at_end y ≡ at_end → read_lines collection (head ∷ (ls ++ zs)) last y at_end ≡ Some s → ⊥
+longer_lines collection head ls h z y zs last s i j k n c true e f =
+    let ended : y ≡ [] = at_end y c e in
+    let first : up_to_break (z ++ y) ≡ first_line zs last =
+    ap (λ x. up_to_break (z ++ x)) ended ∙ (ap up_to_break (append-nil z) ∙ (sym (line_is z) ∙ ap (λ x. first_line (x.complete) (x.last)) j)) in
+    let b : IsBefore (column_by h.digit collection ls) (first_line zs last) = subst (λ l. IsBefore (column_by h.digit collection ls) l) first (further _ _ k) in
+    unread h collection (ls ++ zs) (unbroken last) y s (no_end h collection ls zs last b) (ap (λ o. read_body o collection (body (ls ++ zs) (unbroken last)) y) (sym i) ∙ f)
+longer_lines collection head ls h z y zs (d ∷ last) s i j k n c false e f = cc f
+longer_lines collection head ls h z y [] [] s i j k n c false e f = n (no_lines z j)
+longer_lines collection head ls h z y (l ∷ zs) [] s i j k n c false e f =
+    let lines : (split z).complete ≡ [] → ⊥ = λ g. absurd (two_lines (sym (ap (λ x. x.complete) j) ∙ g)) in
+    let first : up_to_break (z ++ y) ≡ l = line_more z lines y ∙ (sym (line_is z) ∙ ap (λ x. first_line (x.complete) (x.last)) j) in
+    let b : IsBefore (column_by h.digit collection ls) l = subst (λ l. IsBefore (column_by h.digit collection ls) l) first (further _ _ k) in
+    unread h collection (ls ++ (l ∷ zs)) further_text y s (no_text h collection ls l zs b) (ap (λ o. read_body o collection (body (ls ++ (l ∷ zs)) further_text) y) (sym i) ∙ f)
+  where
+    two_lines : l ∷ zs ≡ [] → ⊥
+    two_lines g = cc g
+
+-- A block scalar does not go on over further text.
+over : (collection : Option ℕ) (p z y : List ℕ) (r s : BlockRead) → block_read collection p (z ++ y) ≡ Some r → block_read collection (p ++ z) y ≡ Some s → (z ≡ [] → ⊥) → has_no_nul (z ++ y) ≡ true → ⊥
+over collection p z y r s e f n c =
+    let goes : is_at_end (z ++ y) ≡ false = not_at_end z y n c in
+    let part : BeforeText collection (of_lines ((split p).complete) ((split p).last)) (z ++ y) =
+    before_text collection ((split p).complete) ((split p).last) (z ++ y) r goes (ap (λ b. read_lines collection ((split p).complete) ((split p).last) (z ++ y) b) (sym goes) ∙ e) in
+    let whole : split (p ++ z) ≡ lines_after (part.head ∷ part.lines) (split z) =
+    split_append p z (part.head ∷ part.lines) part.is_split (begins_not z y (further_is_no_break (column_by part.header.digit collection part.lines) (z ++ y) part.is_further)) in
+    longer_lines collection part.head part.lines part.header z y ((split z).complete) ((split z).last) s part.is_header refl part.is_further n (no_nul_after z y c) (is_at_end y) refl
+    (ap (λ x. read_split collection x y) (sym whole) ∙ f)
+
+pub blocks : BlockScalarsHaveOneEnd
+blocks collection p q x y h k e = by (splits p q x y e)
+  where
+    longer : (p q x y : List ℕ) (r s : BlockRead) → block_read collection p x ≡ Some r → block_read collection q y ≡ Some s → has_no_nul (p ++ x) ≡ true → (more : List ℕ) → q ≡ p ++ more → x ≡ more ++ y → (p ≡ q) × (x ≡ y)
+    longer p q x y r s h k c [] f g = (sym (f ∙ append-nil p), g)
+    longer p q x y r s h k c (d ∷ z) f g =
+        absurd (over collection p (d ∷ z) y r s (ap (λ t. block_read collection p t) (sym g) ∙ h) (ap (λ t. block_read collection t y) (sym f) ∙ k) (λ i. cc i)
+        (subst (λ t. has_no_nul t ≡ true) g (no_nul_after p x c)))
+
+    by : More p q x y ⊎ More q p y x → (p ≡ q) × (x ≡ y)
+    by (inl m) = longer p q x y h.0 k.0 h.1 k.1 h.2 m.more m.longer m.rest
+    by (inr m) = let same : (q ≡ p) × (y ≡ x) = longer q p y x k.0 h.0 k.1 h.1 k.2 m.more m.longer m.rest in (sym same.0, sym same.1)

@@ -1,0 +1,167 @@
+-- The content column of a block scalar is fixed by its lines up to the first content line; and further text is no line of it.
+use Rattle.std.proofs.Common.{◌≡◌, ℕ, zero, suc, ◌<◌, ◌≤◌, max, List, [], ◌∷◌, ◌++◌, Bool, true, false, not, ◌&&◌, ◌||◌, ◌==◌, if◌then◌else◌, Option, Some, None, nat_le, length, arith, sym, ap, subst, refl}
+use Rattle.std.proofs.lemmas.Bool.{eqb-true, lt-leb}
+use Rattle.defs_text.specs.Classes.{space, is_break, is_nul, is_at_gap, are_marks, is_document_marker}
+use Rattle.defs_text.specs.FlowScalar.{begins_with}
+use Rattle.defs_text.specs.BlockScalar.{leading_spaces, is_spaces, deepest_start, column_by, Row, is_empty_line, is_content_line, row_of, put_row, rows_of, is_outside, is_further_text}
+use Rattle.proof_row.proofs.Runs.{both, contrary}
+use Rattle.proof_row.proofs.Lines.{up_to_break}
+
+-- ---- the column
+
+-- further lines do not lower the greatest number of leading spaces
+deepest_low : (ls more : List (List ℕ)) → deepest_start ls ≤ deepest_start (ls ++ more)
+deepest_low [] more = omega arith
+deepest_low (l ∷ ls) more = by (is_spaces l) (deepest_low ls more)
+  where
+    by : (b : Bool) → deepest_start ls ≤ deepest_start (ls ++ more) →
+        (if b then max (leading_spaces l) (deepest_start ls) else leading_spaces l) ≤ (if b then max (leading_spaces l) (deepest_start (ls ++ more)) else leading_spaces l)
+    by true h = omega (arith, h)
+    by false h = omega arith
+
+-- and one that is not of spaces alone raises it at most to its own
+deepest_high : (ls : List (List ℕ)) (l : List ℕ) (more : List (List ℕ)) → is_spaces l ≡ false → deepest_start (ls ++ (l ∷ more)) ≤ max (deepest_start ls) (leading_spaces l)
+deepest_high [] l more h = rw h (omega arith)
+deepest_high (k ∷ ls) l more h = by (is_spaces k) (deepest_high ls l more h)
+  where
+    by : (b : Bool) → deepest_start (ls ++ (l ∷ more)) ≤ max (deepest_start ls) (leading_spaces l) →
+        (if b then max (leading_spaces k) (deepest_start (ls ++ (l ∷ more))) else leading_spaces k) ≤ max (if b then max (leading_spaces k) (deepest_start ls) else leading_spaces k) (leading_spaces l)
+    by true h = omega (arith, h)
+    by false h = omega arith
+
+-- A line that is not deeper than the content column, and not of spaces alone, leaves the column as it is; so do the lines after it.
+pub column_same : (digit collection : Option ℕ) (ls : List (List ℕ)) (l : List ℕ) (more : List (List ℕ)) → is_spaces l ≡ false → leading_spaces l ≤ column_by digit collection ls →
+    column_by digit collection (ls ++ (l ∷ more)) ≡ column_by digit collection ls
+column_same (Some d) collection ls l more h k = refl
+column_same None collection ls l more h k = omega (arith, k, deepest_low ls (l ∷ more), deepest_high ls l more h)
+
+-- ---- further text
+
+-- a line that is not of spaces alone, begins before a column or with a marker, and is no line of a scalar with this content column
+pub record IsBefore (column : ℕ) (l : List ℕ) : Type 0 where
+  pub written : is_spaces l ≡ false
+  pub start : leading_spaces l ≤ column
+  pub none : row_of column l ≡ None
+
+-- a line that begins before a column, and not of spaces alone
+abbrev Outside : ℕ → List ℕ → Type 0
+Outside n l = (is_spaces l ≡ false) × (leading_spaces l < n)
+
+-- a space is no break
+unbroken : (c : ℕ) → (c == 32) ≡ true → is_break c ≡ false
+unfolding is_break
+unbroken c e = subst (λ z. is_break z ≡ false) (sym (eqb-true c 32 e)) refl
+
+outside : (n : ℕ) (t : List ℕ) → is_outside n t ≡ true → Outside n (up_to_break t)
+outside zero t h = absurd (cc h)
+outside (suc n) [] h = absurd (cc h)
+outside (suc n) (c ∷ r) h = by (c == space) (is_break c) refl refl h (λ f. outside n r f)
+  where
+    spaced : (c : ℕ) (l : List ℕ) → (c == 32) ≡ true → Outside n l → Outside (suc n) (c ∷ l)
+    spaced c l e f = rw e (f.0, omega (arith, f.1))
+
+    unspaced : (c : ℕ) (l : List ℕ) → (c == 32) ≡ false → Outside (suc n) (c ∷ l)
+    unspaced c l e = rw e (refl, omega arith)
+
+    by : (blank break : Bool) → (c == 32) ≡ blank → is_break c ≡ break → (if blank then is_outside n r else (not break && not (is_nul c))) ≡ true → (is_outside n r ≡ true → Outside n (up_to_break r)) →
+        Outside (suc n) (if break then [] else c ∷ up_to_break r)
+    by true true e f g k = absurd (contrary (is_break c) f (unbroken c e))
+    by true false e f g k = spaced c (up_to_break r) e (k g)
+    by false true e f g k = absurd (cc g)
+    by false false e f g k = unspaced c (up_to_break r) e
+
+-- a line that is neither of spaces alone nor content
+no_row : (column : ℕ) (l : List ℕ) → is_spaces l ≡ false → is_content_line column l ≡ false → row_of column l ≡ None
+unfolding row_of is_empty_line
+no_row column l h k = rw (h, k) refl
+
+-- a line that begins before the column is no content
+shallow : (column : ℕ) (l : List ℕ) → leading_spaces l < column → is_content_line column l ≡ false
+unfolding is_content_line
+shallow column l h = rw (lt-leb column (leading_spaces l) h) refl
+
+and_false : (a b : Bool) → b ≡ false → (a && b) ≡ false
+and_false true b h = h
+and_false false b h = refl
+
+-- a document marker in column 0 is no content
+unmarked : (l : List ℕ) → is_document_marker l ≡ true → is_content_line 0 l ≡ false
+unfolding is_content_line
+unmarked l h = and_false (nat_le 0 (leading_spaces l) && nat_le 1 (length l)) (not (is_document_marker l)) (ap not h)
+
+-- what holds of the two document markers
+marks : (P : ℕ → ℕ → ℕ → Type 0) (a b c : ℕ) → are_marks a b c ≡ true → P 45 45 45 → P 46 46 46 → P a b c
+unfolding are_marks
+marks P a b c h p45 p46 = by ((a == 45) && (b == 45) && (c == 45)) ((a == 46) && (b == 46) && (c == 46)) refl refl h
+  where
+    at : (n : ℕ) → ((a == n) && (b == n) && (c == n)) ≡ true → P n n n → P a b c
+    at n e p =
+        let front : ((a == n) && (b == n)) ≡ true = (both ((a == n) && (b == n)) (c == n) e).0 in
+        let a_is : a ≡ n = eqb-true a n (both (a == n) (b == n) front).0 in
+        let b_is : b ≡ n = eqb-true b n (both (a == n) (b == n) front).1 in
+        let c_is : c ≡ n = eqb-true c n (both ((a == n) && (b == n)) (c == n) e).1 in
+        subst (λ x. P x b c) (sym a_is) (subst (λ x. P n x c) (sym b_is) (subst (λ x. P n n x) (sym c_is) p))
+
+    by : (d e : Bool) → ((a == 45) && (b == 45) && (c == 45)) ≡ d → ((a == 46) && (b == 46) && (c == 46)) ≡ e → (d || e) ≡ true → P a b c
+    by true e f g h = at 45 f p45
+    by false true f g h = at 46 g p46
+    by false false f g h = absurd (cc h)
+
+-- a text at a gap, cut at its first break, is still at one
+gap_kept : (r : List ℕ) → is_at_gap r ≡ true → is_at_gap (up_to_break r) ≡ true
+gap_kept [] h = refl
+gap_kept (c ∷ r) h = by (is_break c)
+  where
+    by : (b : Bool) → is_at_gap (if b then [] else c ∷ up_to_break r) ≡ true
+    by true = refl
+    by false = h
+
+abbrev Marked : ℕ → ℕ → ℕ → List ℕ → Type 0
+Marked a b c r = IsBefore 0 (up_to_break (a ∷ b ∷ c ∷ r))
+
+dashes : (r : List ℕ) → is_at_gap r ≡ true → Marked 45 45 45 r
+unfolding is_break are_marks
+dashes r h = record { written = refl; start = omega arith; none = no_row 0 (45 ∷ 45 ∷ 45 ∷ up_to_break r) refl (unmarked (45 ∷ 45 ∷ 45 ∷ up_to_break r) (gap_kept r h)) }
+
+dots : (r : List ℕ) → is_at_gap r ≡ true → Marked 46 46 46 r
+unfolding is_break are_marks
+dots r h = record { written = refl; start = omega arith; none = no_row 0 (46 ∷ 46 ∷ 46 ∷ up_to_break r) refl (unmarked (46 ∷ 46 ∷ 46 ∷ up_to_break r) (gap_kept r h)) }
+
+marker : (t : List ℕ) → is_document_marker t ≡ true → IsBefore 0 (up_to_break t)
+marker [] h = absurd (cc h)
+marker (a ∷ []) h = absurd (cc h)
+marker (a ∷ b ∷ []) h = absurd (cc h)
+marker (a ∷ b ∷ c ∷ r) h = marks (λ a b c. Marked a b c r) a b c (both _ _ h).0 (dashes r (both _ _ h).1) (dots r (both _ _ h).1)
+
+-- Further text's first line is no line of the scalar before it.
+pub further : (column : ℕ) (t : List ℕ) → is_further_text column t ≡ true → IsBefore column (up_to_break t)
+further zero t h = marker t h
+further (suc n) t h =
+    let o : Outside (suc n) (up_to_break t) = outside (suc n) t h in
+    record { written = o.0; start = omega (arith, o.1); none = no_row (suc n) (up_to_break t) o.0 (shallow (suc n) (up_to_break t) o.1) }
+
+-- Further text does not begin with a line feed.
+pub further_is_no_break : (column : ℕ) (t : List ℕ) → is_further_text column t ≡ true → begins_with 10 t ≡ false
+unfolding is_break are_marks
+further_is_no_break column [] h = refl
+further_is_no_break column (c ∷ r) h = by (c == 10) refl
+  where
+    not_here : (column : ℕ) (r : List ℕ) → is_further_text column (10 ∷ r) ≡ true → ⊥
+    not_here zero [] h = cc h
+    not_here zero (b ∷ []) h = cc h
+    not_here zero (b ∷ d ∷ r) h = cc h
+    not_here (suc n) r h = cc h
+
+    by : (b : Bool) → (c == 10) ≡ b → b ≡ false
+    by false e = refl
+    by true e = absurd (not_here column r (subst (λ z. is_further_text column (z ∷ r) ≡ true) (eqb-true c 10 e) h))
+
+-- ---- lines of which one is none of the scalar's
+
+pub no_rows : (column : ℕ) (ls : List (List ℕ)) (l : List ℕ) (more : List (List ℕ)) → row_of column l ≡ None → rows_of column (ls ++ (l ∷ more)) ≡ None
+no_rows column [] l more h = rw h refl
+no_rows column (k ∷ ls) l more h = by (row_of column k) (rows_of column (ls ++ (l ∷ more))) (no_rows column ls l more h)
+  where
+    by : (r : Option Row) (rs : Option (List Row)) → rs ≡ None → put_row r rs ≡ None
+    by None rs e = refl
+    by (Some r) rs e = ap (λ z. put_row (Some r) z) e

@@ -1,0 +1,29 @@
+-- A directive has one end: its line's.
+use Rattle.std.proofs.Common.{◌≡◌, ℕ, List, [], ◌∷◌, Bool, true, false, not, ◌||◌, refl}
+use Rattle.defs_text.specs.Classes.{is_break, is_nul}
+use Rattle.defs_text.specs.Tags.{all_of}
+use Rattle.defs_text.specs.Breaks.{has_no_break, is_at_line_end}
+use Rattle.defs_text.specs.Text.{has_no_nul}
+use Rattle.proof_row.specs.Ends.{DirectivesHaveOneEnd}
+use Rattle.proof_row.proofs.Runs.{both, joined, untrue, ends_run, runs}
+use Rattle.proof_row.proofs.Texts.{no_nul_after}
+
+abbrev is_in_line : ℕ → Bool
+is_in_line c = not (is_break c)
+
+in_line : (p : List ℕ) → has_no_break p ≡ true → all_of is_in_line p ≡ true
+in_line [] h = refl
+in_line (c ∷ p) h = joined _ _ (both _ _ h).0 (in_line p (both _ _ h).1)
+
+ended : (x : List ℕ) → is_at_line_end x ≡ true → has_no_nul x ≡ true → ends_run is_in_line x ≡ true
+ended [] h k = refl
+ended (c ∷ x) h k = by (is_break c) (is_nul c) h (untrue _ (both _ _ k).0)
+  where
+    by : (break nul : Bool) → (break || nul) ≡ true → nul ≡ false → not (not break) ≡ true
+    by true nul f g = refl
+    by false true f g = absurd (cc g)
+    by false false f g = f
+
+pub directives : DirectivesHaveOneEnd
+directives p q x y h k e =
+    runs is_in_line p q x y (in_line p h.2) (in_line q k.2) (ended x h.3 (no_nul_after p x h.4)) (ended y k.3 (no_nul_after q y k.4)) e

@@ -1,0 +1,210 @@
+-- A scalar in quotes has one end: no quote that would end it stands inside a body that has a value.
+use Rattle.std.proofs.Common.{◌≡◌, ℕ, zero, suc, ◌≤◌, List, [], ◌∷◌, ◌++◌, Bool, true, false, ◌&&◌, ◌==◌, if◌then◌else◌, Option, Some, None, ◌⊎◌, inl, inr, take, length, append_assoc, append-nil, arith, sym, ap, subst, ◌∙◌, refl}
+use Rattle.std.proofs.lemmas.Bool.{eqb-true}
+use Rattle.std.proofs.lemmas.List.{take-append-le, length-take}
+use Rattle.defs_text.specs.Classes.{single_quote, double_quote, backslash, is_blank, is_break, is_nul}
+use Rattle.defs_text.specs.FlowScalar.{Element, Spelled, content, line_break, escaped_break, begins_with, break_further, plain_element, single_quoted_element, double_quoted_element, lookup, escapes, numeric_escapes, hexadecimal, is_character_code, numbered, numeric_escape, escape_by, escape, put_before, followed, elements, has_document_marker, folded_elements, single_quoted_value, double_quoted_value}
+use Rattle.defs_token.specs.Piece.{IsSingleQuoted, IsDoubleQuoted}
+use Rattle.proof_row.specs.Ends.{SingleQuotedScalarsHaveOneEnd, DoubleQuotedScalarsHaveOneEnd}
+use Rattle.proof_row.proofs.Runs.{contrary, same_head}
+use Rattle.proof_row.proofs.Splits.{More, splits}
+
+-- ---- an element is its own characters
+
+-- What is found before a text, if it is found, lies in that text, and is found before a longer text too.
+abbrev Onward : List ℕ → (here longer : Option Spelled) → Type 0
+Onward r None o = Unit {0}
+Onward r (Some s) o = (s.further ≤ length r) × (o ≡ Some s)
+
+abbrev IsOnward : (ℕ → List ℕ → Option Spelled) → Type 0
+IsOnward at = (c : ℕ) (r z : List ℕ) → begins_with 10 z ≡ false → Onward r (at c r) (at c (r ++ z))
+
+abbrev spelled : Element → ℕ → Spelled
+spelled e n = record { element = e; further = n }
+
+further_fits : (c : ℕ) (r : List ℕ) → break_further c r ≤ length r
+further_fits c [] = omega arith
+further_fits c (d ∷ r) = by ((c == 13) && (d == 10))
+  where
+    by : (two : Bool) → (if two then 1 else 0) ≤ suc (length r)
+    by true = omega arith
+    by false = omega arith
+
+further_same : (c : ℕ) (r z : List ℕ) → begins_with 10 z ≡ false → break_further c (r ++ z) ≡ break_further c r
+further_same c [] [] h = refl
+further_same c [] (d ∷ z) h = by (c == 13) (d == 10) h
+  where
+    by : (a b : Bool) → b ≡ false → ◌≡◌ {A = ℕ} (if a && b then 1 else 0) 0
+    by true false f = refl
+    by false false f = refl
+    by a true f = absurd (cc f)
+further_same c (d ∷ r) z h = refl
+
+plain_onward : IsOnward plain_element
+unfolding plain_element
+plain_onward c r z h = by (is_break c) (is_blank c)
+  where
+    by : (break blank : Bool) →
+        Onward r (if break then Some (spelled line_break (break_further c r)) else (if blank then Some (spelled (Element.blank c) 0) else Some (spelled (content c) 0)))
+        (if break then Some (spelled line_break (break_further c (r ++ z))) else (if blank then Some (spelled (Element.blank c) 0) else Some (spelled (content c) 0)))
+    by true blank = (further_fits c r, ap (λ n. Some (spelled line_break n)) (further_same c r z h))
+    by false true = (omega arith, refl)
+    by false false = (omega arith, refl)
+
+-- ---- single quotes
+
+abbrev doubled : List ℕ → Option Spelled
+doubled r = (if begins_with single_quote r then Some (spelled (content single_quote) 1) else None)
+
+doubled_onward : (r z : List ℕ) → Onward r (doubled r) (doubled (r ++ z))
+doubled_onward [] z = tt
+doubled_onward (d ∷ r) z = by (d == 39)
+  where
+    by : (two : Bool) → Onward (d ∷ r) (if two then Some (spelled (content 39) 1) else None) (if two then Some (spelled (content 39) 1) else None)
+    by true = (omega arith, refl)
+    by false = tt
+
+single_onward : IsOnward single_quoted_element
+unfolding single_quoted_element
+single_onward c r z h = by (is_nul c) (c == single_quote)
+  where
+    by : (nul quote : Bool) → Onward r (if nul then None else (if quote then doubled r else plain_element c r)) (if nul then None else (if quote then doubled (r ++ z) else plain_element c (r ++ z)))
+    by true quote = tt
+    by false true = doubled_onward r z
+    by false false = plain_onward c r z h
+
+-- ---- double quotes
+
+numbered_onward : (n d : ℕ) (r : List ℕ) (o : Option ℕ) → n ≤ length r → Onward (d ∷ r) (numbered n o) (numbered n o)
+numbered_onward n d r None l = tt
+numbered_onward n d r (Some code) l = by (is_character_code code)
+  where
+    by : (valid : Bool) → Onward (d ∷ r) (if valid then Some (spelled (content code) (suc n)) else None) (if valid then Some (spelled (content code) (suc n)) else None)
+    by true = (omega (arith, l), refl)
+    by false = tt
+
+numeric_onward : (n d : ℕ) (r z : List ℕ) → Onward (d ∷ r) (numeric_escape n r) (numeric_escape n (r ++ z))
+unfolding numeric_escape
+numeric_onward n d r z = by (length (take n r) == n) refl
+  where
+    by : (many : Bool) → (length (take n r) == n) ≡ many →
+        Onward (d ∷ r) (if many then numbered n (hexadecimal 0 (take n r)) else None) (if length (take n (r ++ z)) == n then numbered n (hexadecimal 0 (take n (r ++ z))) else None)
+    by false e = tt
+    by true e =
+        let fits : n ≤ length r = omega (arith, eqb-true (length (take n r)) n e, length-take n r) in
+        rw (take-append-le n r z fits, e) (numbered_onward n d r (hexadecimal 0 (take n r)) fits)
+
+escape_onward : (r z : List ℕ) → begins_with 10 z ≡ false → Onward r (escape r) (escape (r ++ z))
+unfolding escape
+escape_onward [] z h = tt
+escape_onward (d ∷ r) z h = by (is_break d) (lookup d escapes) (lookup d numeric_escapes)
+  where
+    by : (break : Bool) (named number : Option ℕ) →
+        Onward (d ∷ r) (if break then Some (spelled escaped_break (suc (break_further d r))) else escape_by named number r)
+        (if break then Some (spelled escaped_break (suc (break_further d (r ++ z)))) else escape_by named number (r ++ z))
+    by true named number = (omega (arith, further_fits d r), ap (λ n. Some (spelled escaped_break (suc n))) (further_same d r z h))
+    by false (Some code) number = (omega arith, refl)
+    by false None (Some n) = numeric_onward n d r z
+    by false None None = tt
+
+double_onward : IsOnward double_quoted_element
+unfolding double_quoted_element
+double_onward c r z h = by (is_nul c) (c == double_quote) (c == backslash)
+  where
+    by : (nul quote slash : Bool) → Onward r (if nul then None else (if quote then None else (if slash then escape r else plain_element c r)))
+        (if nul then None else (if quote then None else (if slash then escape (r ++ z) else plain_element c (r ++ z))))
+    by true quote slash = tt
+    by false true slash = tt
+    by false false true = escape_onward r z h
+    by false false false = plain_onward c r z h
+
+-- ---- a body
+
+abbrev is_read : Option (List Element) → Bool
+is_read None = false
+is_read (Some es) = true
+
+rest_read : (e : Element) (o : Option (List Element)) → is_read (put_before e o) ≡ true → is_read o ≡ true
+rest_read e None h = h
+rest_read e (Some es) h = refl
+
+-- If a text is read, and also with more after it, the more is read.
+reads : (at : ℕ → List ℕ → Option Spelled) → IsOnward at → (n : ℕ) (b z : List ℕ) → n ≤ length b → begins_with 10 z ≡ false →
+    is_read (elements at n b) ≡ true → is_read (elements at n (b ++ z)) ≡ true → is_read (elements at 0 z) ≡ true
+reads at f zero [] z l h i j = j
+reads at f (suc n) [] z l h i j = absurd (omega arith)
+reads at f (suc n) (c ∷ b) z l h i j = reads at f n b z (omega (arith, l)) h i j
+reads at f zero (c ∷ b) z l h i j = by (at c b) (at c (b ++ z)) (f c b z h) i j (λ n l i j. reads at f n b z l h i j)
+  where
+    by : (o more : Option Spelled) → Onward b o more → is_read (followed o (λ n. elements at n b)) ≡ true → is_read (followed more (λ n. elements at n (b ++ z))) ≡ true →
+        ((n : ℕ) → n ≤ length b → is_read (elements at n b) ≡ true → is_read (elements at n (b ++ z)) ≡ true → is_read (elements at 0 z) ≡ true) → is_read (elements at 0 z) ≡ true
+    by None more g i j on = absurd (cc i)
+    by (Some s) more g i j on =
+        on s.further g.0 (rest_read s.element (elements at s.further b) i)
+        (rest_read s.element (elements at s.further (b ++ z)) (subst (λ o. is_read (followed o (λ n. elements at n (b ++ z))) ≡ true) g.1 j))
+
+-- ---- two bodies
+
+read_elements : (marked : Bool) (o : Option (List Element)) (text : List ℕ) → (if marked then None else folded_elements o) ≡ Some text → is_read o ≡ true
+read_elements true o text h = absurd (cc h)
+read_elements false None text h = absurd (cc h)
+read_elements false (Some es) text h = refl
+
+-- Of two bodies, each with its quote after it, none goes on over the quote of the other. A test of the text after a quote says where a quote is none that ends.
+bodies : (at : ℕ → List ℕ → Option Spelled) → IsOnward at → (quote : ℕ) → (quote == 10) ≡ false → (again : List ℕ → Bool) →
+    ((z y : List ℕ) → again (z ++ (quote ∷ y)) ≡ false → is_read (elements at 0 (quote ∷ z)) ≡ false) →
+    (b d x y : List ℕ) → is_read (elements at 0 b) ≡ true → is_read (elements at 0 d) ≡ true → again x ≡ false → again y ≡ false → b ++ (quote ∷ x) ≡ d ++ (quote ∷ y) → (b ≡ d) × (x ≡ y)
+bodies at f quote lf again stop b d x y h k i j e = by (splits b d (quote ∷ x) (quote ∷ y) e)
+  where
+    over : (b d x y more : List ℕ) → d ≡ b ++ more → quote ∷ x ≡ more ++ (quote ∷ y) → is_read (elements at 0 b) ≡ true → is_read (elements at 0 d) ≡ true → again x ≡ false → (b ≡ d) × (x ≡ y)
+    over b d x y [] g l h k i = (sym (g ∙ append-nil b), (same_head quote quote x y l).1)
+    over b d x y (c ∷ more) g l h k i =
+        let heads : (quote ≡ c) × (x ≡ more ++ (quote ∷ y)) = same_head quote c x (more ++ (quote ∷ y)) l in
+        let whole : d ≡ b ++ (quote ∷ more) = g ∙ ap (λ z. b ++ (z ∷ more)) (sym heads.0) in
+        absurd (contrary _ (reads at f 0 b (quote ∷ more) (omega arith) lf h (subst (λ z. is_read (elements at 0 z) ≡ true) whole k)) (stop more y (subst (λ z. again z ≡ false) heads.1 i)))
+
+    by : More b d (quote ∷ x) (quote ∷ y) ⊎ More d b (quote ∷ y) (quote ∷ x) → (b ≡ d) × (x ≡ y)
+    by (inl m) = over b d x y m.more m.longer m.rest h k i
+    by (inr m) = let same : (d ≡ b) × (y ≡ x) = over d b y x m.more m.longer m.rest k h j in (sym same.0, sym same.1)
+
+-- two pieces that are a body between quotes
+between : (quote : ℕ) (p q b d x y : List ℕ) → p ≡ quote ∷ (b ++ (quote ∷ [])) → q ≡ quote ∷ (d ++ (quote ∷ [])) → p ++ x ≡ q ++ y → b ++ (quote ∷ x) ≡ d ++ (quote ∷ y)
+between quote p q b d x y f g e =
+    let whole : (quote ∷ (b ++ (quote ∷ []))) ++ x ≡ (quote ∷ (d ++ (quote ∷ []))) ++ y = ap (λ z. z ++ x) (sym f) ∙ (e ∙ ap (λ z. z ++ y) g) in
+    let tails : (b ++ (quote ∷ [])) ++ x ≡ (d ++ (quote ∷ [])) ++ y = (same_head quote quote _ _ whole).1 in
+    sym (append_assoc b (quote ∷ []) x) ∙ (tails ∙ append_assoc d (quote ∷ []) y)
+
+single_stops : (z y : List ℕ) → begins_with single_quote (z ++ (single_quote ∷ y)) ≡ false → is_read (elements single_quoted_element 0 (single_quote ∷ z)) ≡ false
+unfolding single_quoted_element is_nul
+single_stops [] y h = refl
+single_stops (c ∷ z) y h = rw h refl
+
+double_stops : (z y : List ℕ) → false ≡ false → is_read (elements double_quoted_element 0 (double_quote ∷ z)) ≡ false
+unfolding double_quoted_element is_nul
+double_stops z y h = refl
+
+-- The bodies of two scalars in single quotes, and what follows these.
+pub single_bodies : (p q x y s t : List ℕ) → (h : IsSingleQuoted p x s) → (k : IsSingleQuoted q y t) → p ++ x ≡ q ++ y → (h.0 ≡ k.0) × (x ≡ y)
+unfolding single_quoted_value
+single_bodies p q x y s t h k e =
+    bodies single_quoted_element single_onward single_quote refl (begins_with single_quote) single_stops h.0 k.0 x y
+    (read_elements (has_document_marker h.0) (elements single_quoted_element 0 h.0) s h.2) (read_elements (has_document_marker k.0) (elements single_quoted_element 0 k.0) t k.2)
+    h.3 k.3 (between single_quote p q h.0 k.0 x y h.1 k.1 e)
+
+pub singles : SingleQuotedScalarsHaveOneEnd
+singles p q x y h k e =
+    let same : (h.1.0 ≡ k.1.0) × (x ≡ y) = single_bodies p q x y h.0 k.0 h.1 k.1 e in
+    (h.1.1 ∙ (ap (λ z. single_quote ∷ (z ++ (single_quote ∷ []))) same.0 ∙ sym k.1.1), same.1)
+
+-- The bodies of two scalars in double quotes, and what follows these.
+pub double_bodies : (p q x y s t : List ℕ) → (h : IsDoubleQuoted p x s) → (k : IsDoubleQuoted q y t) → p ++ x ≡ q ++ y → (h.0 ≡ k.0) × (x ≡ y)
+unfolding double_quoted_value
+double_bodies p q x y s t h k e =
+    bodies double_quoted_element double_onward double_quote refl (λ z. false) double_stops h.0 k.0 x y
+    (read_elements (has_document_marker h.0) (elements double_quoted_element 0 h.0) s h.2) (read_elements (has_document_marker k.0) (elements double_quoted_element 0 k.0) t k.2)
+    refl refl (between double_quote p q h.0 k.0 x y h.1 k.1 e)
+
+pub doubles : DoubleQuotedScalarsHaveOneEnd
+doubles p q x y h k e =
+    let same : (h.1.0 ≡ k.1.0) × (x ≡ y) = double_bodies p q x y h.0 k.0 h.1 k.1 e in
+    (h.1.1 ∙ (ap (λ z. double_quote ∷ (z ++ (double_quote ∷ []))) same.0 ∙ sym k.1.1), same.1)

@@ -1,0 +1,146 @@
+-- A tag has one end: a verbatim one its `>`, another one the first gap or flow indicator.
+use Rattle.std.proofs.Common.{◌≡◌, ℕ, List, [], ◌∷◌, ◌++◌, Bool, true, false, not, ◌&&◌, ◌||◌, ◌==◌, if◌then◌else◌, Some, None, ◌⊎◌, inl, inr, append_assoc, sym, ap, subst, ◌∙◌, refl}
+use Rattle.std.proofs.lemmas.Bool.{eqb-true}
+use Rattle.defs_text.specs.Classes.{is_blank, is_break, is_nul, is_blank_or_end, is_flow, is_decimal_digit, is_letter, is_alpha, is_uri, is_tag, is_at_gap}
+use Rattle.defs_text.specs.FlowScalar.{begins_with}
+use Rattle.defs_text.specs.Tags.{all_of, leading, after, is_same, decoded, is_tag_mark, Tag, tag_by, tag_of_class, verbatim, begins_with_mark, named, shorthand, after_mark, written_tag}
+use Rattle.defs_token.specs.Plain.{begins_flow}
+use Rattle.proof_row.specs.Ends.{TagsHaveOneEnd}
+use Rattle.proof_row.proofs.Runs.{both, joined, contrary, same_head, ends_run, runs}
+use Rattle.proof_row.proofs.Texts.{gaps, flows, leading_after, all_leading, all_weaker, all_append}
+
+-- ---- the characters of a shorthand
+
+-- neither a gap's character nor a flow indicator
+abbrev goes_on : ℕ → Bool
+goes_on c = not (is_blank_or_end c) && not (is_flow c)
+
+going : (class : ℕ → Bool) (c : ℕ) → (is_blank_or_end c ≡ true → class c ≡ false) → (is_flow c ≡ true → class c ≡ false) → class c ≡ true → goes_on c ≡ true
+going class c f g h = by (is_blank_or_end c) (is_flow c) f g
+  where
+    by : (gap flow : Bool) → (gap ≡ true → class c ≡ false) → (flow ≡ true → class c ≡ false) → (not gap && not flow) ≡ true
+    by true flow f g = absurd (contrary (class c) h (f refl))
+    by false true f g = absurd (contrary (class c) h (g refl))
+    by false false f g = refl
+
+alpha_goes_on : (c : ℕ) → is_alpha c ≡ true → goes_on c ≡ true
+unfolding is_alpha is_decimal_digit is_letter
+alpha_goes_on c h =
+    going is_alpha c (λ f. gaps (λ z. is_alpha z ≡ false) c f refl refl refl refl refl) (λ f. flows (λ z. is_alpha z ≡ false) c f refl refl refl refl refl) h
+
+tag_goes_on : (c : ℕ) → is_tag c ≡ true → goes_on c ≡ true
+unfolding is_tag is_uri is_flow is_decimal_digit is_letter
+tag_goes_on c h =
+    going is_tag c (λ f. gaps (λ z. is_tag z ≡ false) c f refl refl refl refl refl) (λ f. flows (λ z. is_tag z ≡ false) c f refl refl refl refl refl) h
+
+mark_goes_on : (c : ℕ) → is_tag_mark c ≡ true → goes_on c ≡ true
+unfolding is_blank_or_end is_blank is_break is_nul is_flow
+mark_goes_on c h = subst (λ z. goes_on z ≡ true) (sym (eqb-true c 33 h)) refl
+
+ended : (fl : Bool) (x : List ℕ) → (is_at_gap x || (fl && begins_flow x)) ≡ true → ends_run goes_on x ≡ true
+ended fl [] h = refl
+ended fl (c ∷ x) h = by fl (is_blank_or_end c) (is_flow c) h
+  where
+    by : (fl gap flow : Bool) → (gap || (fl && flow)) ≡ true → not (not gap && not flow) ≡ true
+    by fl true flow h = refl
+    by fl false true h = refl
+    by true false false h = absurd (cc h)
+    by false false false h = absurd (cc h)
+
+-- ---- the two shapes of a tag, after its mark
+
+abbrev IsVerbatim : List ℕ → Type 0
+IsVerbatim r = (u : List ℕ) × (r ≡ 60 ∷ (u ++ (62 ∷ []))) × (all_of is_uri u ≡ true)
+
+abbrev IsShorthand : List ℕ → Type 0
+IsShorthand r = (all_of goes_on r ≡ true) × (begins_with 60 r ≡ false)
+
+of_class : (class : ℕ → Bool) (h r : List ℕ) (t : Tag) → tag_of_class class h r ≡ Some t → all_of class r ≡ true
+of_class class h r t e = by (all_of class r) e
+  where
+    by : (b : Bool) → (if b then tag_by h (decoded r) else None) ≡ Some t → b ≡ true
+    by true f = refl
+    by false f = absurd (cc f)
+
+of_named : (name r : List ℕ) (t : Tag) → begins_with_mark r ≡ true → named name r ≡ Some t → all_of goes_on r ≡ true
+of_named name [] t m e = absurd (cc e)
+of_named name (c ∷ []) t m e = absurd (cc e)
+of_named name (c ∷ d ∷ r) t m e = joined _ _ (mark_goes_on c m) (all_weaker is_tag goes_on tag_goes_on (d ∷ r) (of_class is_tag _ (d ∷ r) t e))
+
+of_shorthand : (c : ℕ) (r : List ℕ) (t : Tag) → shorthand (c ∷ r) ≡ Some t → all_of goes_on (c ∷ r) ≡ true
+of_shorthand c r t e = by (begins_with_mark (after is_alpha (c ∷ r))) refl e
+  where
+    by : (b : Bool) → begins_with_mark (after is_alpha (c ∷ r)) ≡ b →
+        (if b then named (leading is_alpha (c ∷ r)) (after is_alpha (c ∷ r)) else tag_of_class is_tag (33 ∷ []) (c ∷ r)) ≡ Some t → all_of goes_on (c ∷ r) ≡ true
+    by true m f =
+        subst (λ z. all_of goes_on z ≡ true) (leading_after is_alpha (c ∷ r))
+        (all_append goes_on (leading is_alpha (c ∷ r)) (after is_alpha (c ∷ r)) (all_weaker is_alpha goes_on alpha_goes_on _ (all_leading is_alpha (c ∷ r)))
+        (of_named (leading is_alpha (c ∷ r)) (after is_alpha (c ∷ r)) t m f))
+    by false m f = all_weaker is_tag goes_on tag_goes_on (c ∷ r) (of_class is_tag _ (c ∷ r) t f)
+
+same_one : (r : List ℕ) → is_same r (62 ∷ []) ≡ true → r ≡ 62 ∷ []
+same_one [] h = absurd (cc h)
+same_one (c ∷ []) h = ap (λ z. z ∷ []) (eqb-true c 62 (both _ _ h).0)
+same_one (c ∷ d ∷ r) h = absurd (cc (both (c == 62) false h).1)
+
+of_verbatim : (r : List ℕ) (t : Tag) → verbatim r ≡ Some t → IsVerbatim (60 ∷ r)
+of_verbatim r t e = by (is_same (after is_uri r) (62 ∷ [])) refl e
+  where
+    by : (b : Bool) → is_same (after is_uri r) (62 ∷ []) ≡ b → (if b then tag_of_class is_uri [] (leading is_uri r) else None) ≡ Some t → IsVerbatim (60 ∷ r)
+    by true s f = (leading is_uri r, ap (λ z. 60 ∷ z) (sym (leading_after is_uri r) ∙ ap (λ z. leading is_uri r ++ z) (same_one _ s)), all_leading is_uri r)
+    by false s f = absurd (cc f)
+
+shape : (r : List ℕ) (t : Tag) → after_mark r ≡ Some t → IsVerbatim r ⊎ IsShorthand r
+shape [] t e = inr (refl, refl)
+shape (c ∷ r) t e = by (c == 60) refl e
+  where
+    by : (b : Bool) → (c == 60) ≡ b → (if b then verbatim r else shorthand (c ∷ r)) ≡ Some t → IsVerbatim (c ∷ r) ⊎ IsShorthand (c ∷ r)
+    by true i f = inl (subst (λ z. IsVerbatim (z ∷ r)) (sym (eqb-true c 60 i)) (of_verbatim r t f))
+    by false i f = inr (of_shorthand c r t f, i)
+
+-- ---- two tags
+
+verbatims : (r s x y : List ℕ) → IsVerbatim r → IsVerbatim s → r ++ x ≡ s ++ y → (r ≡ s) × (x ≡ y)
+unfolding is_uri is_decimal_digit is_letter
+verbatims r s x y h k e =
+    let whole : (60 ∷ (h.0 ++ (62 ∷ []))) ++ x ≡ (60 ∷ (k.0 ++ (62 ∷ []))) ++ y = ap (λ z. z ++ x) (sym h.1) ∙ (e ∙ ap (λ z. z ++ y) k.1) in
+    let tails : h.0 ++ (62 ∷ x) ≡ k.0 ++ (62 ∷ y) =
+    sym (append_assoc h.0 (62 ∷ []) x) ∙ ((same_head 60 60 _ _ whole).1 ∙ append_assoc k.0 (62 ∷ []) y) in
+    let same : (h.0 ≡ k.0) × (62 ∷ x ≡ 62 ∷ y) = runs is_uri h.0 k.0 (62 ∷ x) (62 ∷ y) h.2 k.2 refl refl tails in
+    (h.1 ∙ (ap (λ z. 60 ∷ (z ++ (62 ∷ []))) same.0 ∙ sym k.1), (same_head 62 62 x y same.1).1)
+
+-- a verbatim tag's `<` is no part of a shorthand, and ends none
+apart : (r s x y : List ℕ) → IsVerbatim r → IsShorthand s → ends_run goes_on y ≡ true → r ++ x ≡ s ++ y → ⊥
+unfolding is_blank_or_end is_blank is_break is_nul is_flow
+apart r [] x y h k g e =
+    let whole : 60 ∷ ((h.0 ++ (62 ∷ [])) ++ x) ≡ y = ap (λ z. z ++ x) (sym h.1) ∙ e in
+    let ends : ends_run goes_on (60 ∷ ((h.0 ++ (62 ∷ [])) ++ x)) ≡ true = subst (λ z. ends_run goes_on z ≡ true) (sym whole) g in
+    cc ends
+apart r (c ∷ s) x y h k g e =
+    let whole : 60 ∷ ((h.0 ++ (62 ∷ [])) ++ x) ≡ c ∷ (s ++ y) = ap (λ z. z ++ x) (sym h.1) ∙ e in
+    let other : (60 == 60) ≡ false = subst (λ z. (z == 60) ≡ false) (sym (same_head 60 c _ _ whole).0) k.1 in
+    cc other
+
+pub mark_is_first : (p : List ℕ) (t : Tag) → written_tag p ≡ Some t → (r : List ℕ) × (p ≡ 33 ∷ r) × (after_mark r ≡ Some t)
+mark_is_first [] t e = absurd (cc e)
+mark_is_first (c ∷ r) t e = by (is_tag_mark c) refl e
+  where
+    by : (b : Bool) → (c == 33) ≡ b → (if b then after_mark r else None) ≡ Some t → (s : List ℕ) × (c ∷ r ≡ 33 ∷ s) × (after_mark s ≡ Some t)
+    by true i f = (r, ap (λ z. z ∷ r) (eqb-true c 33 i), f)
+    by false i f = absurd (cc f)
+
+shapes : (r s x y : List ℕ) → IsVerbatim r ⊎ IsShorthand r → IsVerbatim s ⊎ IsShorthand s → ends_run goes_on x ≡ true → ends_run goes_on y ≡ true → r ++ x ≡ s ++ y → (r ≡ s) × (x ≡ y)
+shapes r s x y (inl h) (inl k) f g e = verbatims r s x y h k e
+shapes r s x y (inl h) (inr k) f g e = absurd (apart r s x y h k g e)
+shapes r s x y (inr h) (inl k) f g e = absurd (apart s r y x k h f (sym e))
+shapes r s x y (inr h) (inr k) f g e = runs goes_on r s x y h.0 k.0 f g e
+
+pub tags : TagsHaveOneEnd
+tags fl p q x y h k e = by (mark_is_first p h.0 h.1) (mark_is_first q k.0 k.1)
+  where
+    by : (r : List ℕ) × (p ≡ 33 ∷ r) × (after_mark r ≡ Some h.0) → (s : List ℕ) × (q ≡ 33 ∷ s) × (after_mark s ≡ Some k.0) → (p ≡ q) × (x ≡ y)
+    by m n =
+        let whole : (33 ∷ m.0) ++ x ≡ (33 ∷ n.0) ++ y = ap (λ z. z ++ x) (sym m.1) ∙ (e ∙ ap (λ z. z ++ y) n.1) in
+        let same : (m.0 ≡ n.0) × (x ≡ y) =
+        shapes m.0 n.0 x y (shape m.0 h.0 m.2) (shape n.0 k.0 n.2) (ended fl x h.2) (ended fl y k.2) (same_head 33 33 (m.0 ++ x) (n.0 ++ y) whole).1 in
+        (m.1 ∙ (ap (λ z. 33 ∷ z) same.0 ∙ sym n.1), same.1)

@@ -1,3 +1,0 @@
-pub mod EachReads
-pub mod Goes
-pub mod Ways

@@ -1,4 +1,0 @@
-pub mod Arrives
-pub mod Choices
-pub mod Completes
-pub mod Stands

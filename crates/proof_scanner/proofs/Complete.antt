@@ -1,0 +1,15 @@
+pub mod Around
+pub mod Complete
+pub mod Documents
+pub mod EachReads
+pub mod Indicators
+pub mod KindsOfPieces
+pub mod Nodes
+pub mod Pieces
+pub mod Runs
+pub mod Scalars
+pub mod Sides
+pub mod Steps
+pub mod WaitingKeys
+pub mod Waits
+pub mod WholeRows

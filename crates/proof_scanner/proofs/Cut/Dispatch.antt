@@ -1,0 +1,260 @@
+-- The next token by its first characters: what holds between fetches holds after it.
+use Rattle.std.proofs.Common.{◌≡◌, ℕ, ◌+◌, List, [], ◌∷◌, Bool, true, false, not, ◌==◌, ◌&&◌, ◌||◌, if◌then◌else◌, slice_index, Result, Err, refl, ap, sym, ◌∙◌, arith}
+use Rattle.yaml_chars.specs.Class.{is_blank, is_break, is_blank_or_breakz, is_flow}
+use Rattle.defs_text.specs.Text.{is_empty, has_no_nul}
+use Rattle.defs_token.specs.Token.{Tok}
+use Rattle.defs_text.specs.Classes as classes
+use Rattle.defs_text.specs.Classes.{is_one_of, is_at_gap, is_document_marker}
+use Rattle.defs_token.specs.Plain.{begins_flow, is_value_indicator, may_begin}
+use Rattle.defs_token.specs.Account.{is_adjacent}
+use Rattle.yaml_tokens.specs.declared.problem.Fault.{Fault}
+use Rattle.yaml_tokens.specs.declared.problem.Fault.TheVariants.{At}
+use Rattle.yaml_tokens.specs.declared.problem.Problem.TheVariants as problem
+use Rattle.model_scanner.specs.declared.level.FlowLevel.TheVariants.{Mapping, Entry}
+use Rattle.model_scanner.specs.State.{ScannerState, peek, in_flow}
+use Rattle.model_scanner.specs.Class.{class_of}
+use Rattle.model_scanner.specs.Block.{fetch_block_entry, fetch_key, fetch_value}
+use Rattle.model_scanner.specs.Quoted.{quote_of}
+use Rattle.model_scanner.specs.Flow.{fetch_flow_collection_start, fetch_flow_collection_end, fetch_flow_entry}
+use Rattle.model_scanner.specs.Document.{fetch_anchor, fetch_tag, fetch_flow_scalar, fetch_block_scalar, fetch_plain_scalar}
+use Rattle.model_scanner.specs.Fetch.{is_value, token_by, fetch_token}
+use Rattle.model_scanner.proofs.Holds.{Holds, refused}
+use Rattle.proof_lexers.proofs.Bridges.{same_gap, same_flow}
+use Rattle.proof_lexers.specs.PlainEnds.{is_white, begins_token}
+use Rattle.proof_lexers.specs.Separations.{begins_separation}
+use Rattle.proof_scanner.specs.PiecesRead.{comes_plain}
+use Rattle.proof_scanner.specs.Stands.{FaresAt}
+use Rattle.proof_scanner.proofs.Cut.Heres.{before_again}
+use Rattle.proof_scanner.proofs.Cut.Characters.{Ordinary, of_all}
+use Rattle.proof_scanner.proofs.Cut.Nodes.{Ready, IsDeep, anchor_fetched, tag_fetched, plain_fetched}
+use Rattle.proof_scanner.proofs.Cut.Scalars.{flow_scalar_fetched, block_fetched}
+use Rattle.proof_scanner.proofs.Cut.Flows.{opening_sequence, opening_mapping, flow_started}
+use Rattle.proof_scanner.proofs.Cut.FlowEnds.{closing_sequence, closing_mapping, flow_ended, entry_passed}
+use Rattle.proof_scanner.proofs.Cut.Blocks.{block_entry}
+use Rattle.proof_scanner.proofs.Cut.Keys.{key_fetched}
+use Rattle.proof_scanner.proofs.Cut.ValuesFetched.{value_fetched}
+
+-- ---- characters
+
+pub gap_here : (m : List ℕ) → is_blank_or_breakz (slice_index m 0) ≡ is_at_gap m
+unfolding is_blank is_break
+gap_here [] = refl
+gap_here (c ∷ r) = sym (same_gap c)
+
+flow_here : (m : List ℕ) → is_flow (slice_index m 0) ≡ begins_flow m
+unfolding is_flow
+flow_here [] = refl
+flow_here (c ∷ r) = sym (same_flow c)
+
+-- every other character begins a plain scalar
+other_begins : (fl adjacent : Bool) (c : ℕ) (more : List ℕ) → Ordinary c → (if c == 45 then not (is_at_gap more) else may_begin fl adjacent c more) ≡ true
+unfolding classes.is_blank_or_end classes.is_blank classes.is_break classes.is_nul classes.is_flow
+other_begins fl adjacent c more o =
+    rw (o.e45, o.e63, o.e58, o.e124, o.e62, o.e32, o.e9, o.e10, o.e13, o.e0, o.e44, o.e91, o.e93, o.e123, o.e125, o.e35, o.e38, o.e42, o.e33, o.e37, o.e64, o.e96, o.e39, o.e34) refl
+
+-- What is so of what the function of each token gives, where it is called, and of the three refusals; whether a colon may stand next to what stands before is known.
+pub record TokensHold (Q : Result ScannerState Fault → Type 0) (t : ScannerState) (adjacent : Bool) : Type 0 where
+  pub anchor : (alias : Bool) (more : List ℕ) → t.rest ≡ (if alias then 42 else 38) ∷ more → Q (fetch_anchor alias t)
+  pub tag : (more : List ℕ) → t.rest ≡ 33 ∷ more → Q (fetch_tag t)
+  pub plain : comes_plain (in_flow t.held) adjacent t.held.position.col t.rest ≡ true → Q (fetch_plain_scalar t)
+  pub quoted : (single : Bool) (more : List ℕ) → t.rest ≡ quote_of single ∷ more → Q (fetch_flow_scalar single t)
+  pub block : (literal : Bool) (more : List ℕ) → t.rest ≡ (if literal then 124 else 62) ∷ more → is_empty t.held.flow ≡ true → Q (fetch_block_scalar literal t)
+  pub dash : (more : List ℕ) → t.rest ≡ 45 ∷ more → is_at_gap more ≡ true → Q (fetch_block_entry t)
+  pub question : (more : List ℕ) → t.rest ≡ 63 ∷ more → is_at_gap more ≡ true → Q (fetch_key t)
+  pub colon : (more : List ℕ) → t.rest ≡ 58 ∷ more → is_value t ≡ true → Q (fetch_value t)
+  pub open_bracket : (more : List ℕ) → t.rest ≡ 91 ∷ more → Q (fetch_flow_collection_start Entry Tok.flow_sequence_start t)
+  pub open_brace : (more : List ℕ) → t.rest ≡ 123 ∷ more → Q (fetch_flow_collection_start Mapping Tok.flow_mapping_start t)
+  pub close_bracket : (more : List ℕ) → t.rest ≡ 93 ∷ more → Q (fetch_flow_collection_end Tok.flow_sequence_end t)
+  pub close_brace : (more : List ℕ) → t.rest ≡ 125 ∷ more → Q (fetch_flow_collection_end Tok.flow_mapping_end t)
+  pub comma : (more : List ℕ) → t.rest ≡ 44 ∷ more → Q (fetch_flow_entry t)
+  pub percent : (more : List ℕ) → t.rest ≡ 37 ∷ more → Q (Err (At problem.UnexpectedPercent t.held.position))
+  pub at_sign : (more : List ℕ) → t.rest ≡ 64 ∷ more → Q (Err (At problem.UnexpectedAt t.held.position))
+  pub backtick : (more : List ℕ) → t.rest ≡ 96 ∷ more → Q (Err (At problem.UnexpectedBacktick t.held.position))
+
+gap_after : (t : ScannerState) (c : ℕ) (more : List ℕ) (gap : Bool) → t.rest ≡ c ∷ more → is_at_gap more ≡ gap → is_blank_or_breakz (slice_index t.rest 1) ≡ gap
+gap_after t c more gap e g = ap (λ l. is_blank_or_breakz (slice_index l 1)) e ∙ gap_here more ∙ g
+
+-- whether a colon is the indicator of a value, the model and the definition say alike
+pub value_is : (t : ScannerState) (adjacent : Bool) (more : List ℕ) → t.rest ≡ 58 ∷ more → (is_empty t.held.flow ≡ false → (t.held.position.index == t.held.adjacent_value_at) ≡ adjacent) → is_value t ≡ is_value_indicator (not (is_empty t.held.flow)) adjacent more
+unfolding is_value
+value_is t adjacent more e now = by (is_empty t.held.flow) refl
+  where
+    gap : is_blank_or_breakz (slice_index t.rest 1) ≡ is_at_gap more
+    gap = gap_after t 58 more (is_at_gap more) e refl
+
+    flows : is_flow (slice_index t.rest 1) ≡ begins_flow more
+    flows = ap (λ l. is_flow (slice_index l 1)) e ∙ flow_here more
+
+    by : (out : Bool) → is_empty t.held.flow ≡ out →
+        (is_blank_or_breakz (slice_index t.rest 1) || (not out && (is_flow (slice_index t.rest 1) || (t.held.position.index == t.held.adjacent_value_at)))) ≡ (is_at_gap more || (not out && (begins_flow more || adjacent)))
+    by true o = ap (λ b. b || false) gap
+    by false o = ap (λ b. b || (is_flow (slice_index t.rest 1) || (t.held.position.index == t.held.adjacent_value_at))) gap ∙ ap (λ b. is_at_gap more || (b || (t.held.position.index == t.held.adjacent_value_at))) flows ∙
+        ap (λ b. is_at_gap more || (begins_flow more || b)) (now o)
+
+-- ---- the token by its first character
+
+module _ (Q : Result ScannerState Fault → Type 0) (t : ScannerState) (adjacent : Bool) (clean : has_no_nul t.rest ≡ true) (solid : begins_separation t.rest ≡ false) (now : is_empty t.held.flow ≡ false → (t.held.position.index == t.held.adjacent_value_at) ≡ adjacent)
+    (marker : ((t.held.position.col == 0) && is_document_marker t.rest) ≡ false) (h : TokensHold Q t adjacent) where
+  -- a token that begins with a character
+  abbrev Reads : ℕ → Type 0
+  Reads c = (more : List ℕ) → t.rest ≡ c ∷ more → Q (token_by (class_of c) t)
+
+  plain_here : (c : ℕ) (more : List ℕ) → t.rest ≡ c ∷ more → (if c == 45 then not (is_at_gap more) else may_begin (in_flow t.held) adjacent c more) ≡ true → Q (fetch_plain_scalar t)
+  plain_here c more e g =
+      let none : ((t.held.position.col == 0) && is_document_marker (c ∷ more)) ≡ false = ap (λ l. (t.held.position.col == 0) && is_document_marker l) (sym e) ∙ marker in
+      h.plain (ap (comes_plain (in_flow t.held) adjacent t.held.position.col) e ∙ rw (g, none) refl)
+
+  -- ---- characters that begin no token
+
+  no_separation : (c : ℕ) → (is_white c || (c == 35)) ≡ true → Reads c
+  no_separation c h more e = absurd (cc (h, ap begins_separation (sym e) ∙ solid))
+
+  no_nul : Reads 0
+  unfolding classes.is_nul
+  no_nul more e = let none : has_no_nul (0 ∷ more) ≡ true = ap has_no_nul (sym e) ∙ clean in absurd (cc none)
+
+  -- ---- indicators
+
+  dash : Reads 45
+  unfolding class_of
+  dash more e = by (is_at_gap more) refl
+    where
+      by : (gap : Bool) → is_at_gap more ≡ gap → Q (if is_blank_or_breakz (slice_index t.rest 1) then fetch_block_entry t else fetch_plain_scalar t)
+      by true g = rw (gap_after t 45 more true e g) (h.dash more e g)
+      by false g = rw (gap_after t 45 more false e g) (plain_here 45 more e (rw g refl))
+
+  question : Reads 63
+  unfolding class_of
+  question more e = by (is_at_gap more) refl
+    where
+      by : (gap : Bool) → is_at_gap more ≡ gap → Q (if is_blank_or_breakz (slice_index t.rest 1) then fetch_key t else fetch_plain_scalar t)
+      by true g = rw (gap_after t 63 more true e g) (h.question more e g)
+      by false g = rw (gap_after t 63 more false e g) (plain_here 63 more e (rw g refl))
+
+  colon : Reads 58
+  unfolding class_of
+  colon more e = by (is_value t) refl
+    where
+      by : (b : Bool) → is_value t ≡ b → Q (if b then fetch_value t else fetch_plain_scalar t)
+      by true i = h.colon more e i
+      by false i = plain_here 58 more e (rw (sym (value_is t adjacent more e now) ∙ i) refl)
+
+  -- an indicator outside flow, which in flow begins a plain scalar
+  block_or_plain : (literal : Bool) (c : ℕ) (more : List ℕ) → t.rest ≡ c ∷ more → c ≡ (if literal then 124 else 62)
+      → (in_flow t.held ≡ true → (if c == 45 then not (is_at_gap more) else may_begin (in_flow t.held) adjacent c more) ≡ true)
+      → Q (if in_flow t.held then fetch_plain_scalar t else fetch_block_scalar literal t)
+  block_or_plain literal c more e is may = by (is_empty t.held.flow) refl
+    where
+      by : (out : Bool) → is_empty t.held.flow ≡ out → Q (if not out then fetch_plain_scalar t else fetch_block_scalar literal t)
+      by true o = h.block literal more (e ∙ ap (λ k. k ∷ more) is) o
+      by false o = plain_here c more e (may (ap not o))
+
+  bar : Reads 124
+  unfolding class_of
+  bar more e = block_or_plain true 124 more e refl (λ f. f)
+
+  greater : Reads 62
+  unfolding class_of
+  greater more e = block_or_plain false 62 more e refl (λ f. f)
+
+  -- ---- all characters
+
+  white : (c : ℕ) → is_white c ≡ true → Reads c
+  white c h = no_separation c (rw h refl)
+
+  space : Reads 32
+  unfolding classes.is_blank
+  space = white 32 refl
+
+  tab : Reads 9
+  unfolding classes.is_blank
+  tab = white 9 refl
+
+  feed : Reads 10
+  unfolding classes.is_break classes.is_blank
+  feed = white 10 refl
+
+  carriage : Reads 13
+  unfolding classes.is_break classes.is_blank
+  carriage = white 13 refl
+
+  hash : Reads 35
+  unfolding classes.is_break classes.is_blank
+  hash = no_separation 35 refl
+
+  other : (c : ℕ) → Ordinary c → Reads c
+  unfolding class_of
+  other c o more e =
+      rw (o.e0, o.e32, o.e9, o.e10, o.e13, o.e35, o.e45, o.e63, o.e58, o.e44, o.e91, o.e93, o.e123, o.e125, o.e42, o.e38, o.e33, o.e124, o.e62, o.e39, o.e34, o.e37, o.e64, o.e96)
+      (plain_here c more e (other_begins (in_flow t.held) adjacent c more o))
+
+  each : (c : ℕ) → Reads c
+  unfolding class_of
+  each c = of_all Reads (record {
+    nul = no_nul;
+    space = space;
+    tab = tab;
+    feed = feed;
+    carriage = carriage;
+    hash = hash;
+    dash = dash;
+    question = question;
+    colon = colon;
+    comma = h.comma;
+    open_bracket = h.open_bracket;
+    close_bracket = h.close_bracket;
+    open_brace = h.open_brace;
+    close_brace = h.close_brace;
+    asterisk = h.anchor true;
+    ampersand = h.anchor false;
+    exclamation = h.tag;
+    bar = bar;
+    greater = greater;
+    single_quote = h.quoted true;
+    double_quote = h.quoted false;
+    percent = h.percent;
+    at_sign = h.at_sign;
+    backtick = h.backtick;
+    other = other;
+  }) c
+
+  pub token_holds : is_empty t.rest ≡ false → Q (fetch_token t)
+  unfolding fetch_token
+  token_holds some = by t.rest refl some
+    where
+      by : (l : List ℕ) → t.rest ≡ l → is_empty l ≡ false → Q (token_by (class_of (peek t.rest)) t)
+      by [] e n = absurd (cc n)
+      by (c ∷ more) e n = rw (ap peek e) (each c more e)
+
+-- ---- what holds between fetches
+
+pub token_fetched : (text : List ℕ) (t : ScannerState) → Ready text t → IsDeep t.held → ((t.held.position.col == 0) && is_document_marker t.rest) ≡ false → Holds (FaresAt text) (fetch_token t)
+token_fetched text t r deep marker =
+    token_holds (Holds (FaresAt text)) t (is_adjacent r.stands.before) r.stands.stood.here.is_clean r.solid now marker (record {
+      anchor = λ alias more e. anchor_fetched text alias t more e r.stands deep;
+      tag = λ more e. tag_fetched text t more e r.stands deep;
+      plain = plain_fetched text t r.stands deep;
+      quoted = λ single more e. flow_scalar_fetched text single t more e r.stands deep;
+      block = λ literal more e o. block_fetched text literal t more e o r.stands deep;
+      dash = λ more e g. block_entry text more t e g r.stands;
+      question = λ more e g. key_fetched text more t e g r.stands;
+      colon = λ more e i. value_fetched text more t e r.stands (sym (value_is t (is_adjacent r.stands.before) more e now) ∙ i) r.near;
+      open_bracket = λ more e. flow_started text Entry Tok.flow_sequence_start 91 more opening_sequence t e r.stands deep;
+      open_brace = λ more e. flow_started text Mapping Tok.flow_mapping_start 123 more opening_mapping t e r.stands deep;
+      close_bracket = λ more e. flow_ended text Tok.flow_sequence_end 93 more closing_sequence t e r.stands;
+      close_brace = λ more e. flow_ended text Tok.flow_mapping_end 125 more closing_mapping t e r.stands;
+      comma = λ more e. entry_passed text more t e r.stands;
+      percent = λ more e. refused;
+      at_sign = λ more e. refused;
+      backtick = λ more e. refused;
+    }) r.some
+  where
+    begins : (l : List ℕ) → is_empty l ≡ false → begins_separation l ≡ false → begins_token l ≡ true
+    begins [] n s = absurd (cc n)
+    begins (c ∷ l) n s = ap not s
+
+    -- in flow, whether a colon may stand here is what the account says
+    now : is_empty t.held.flow ≡ false → (t.held.position.index == t.held.adjacent_value_at) ≡ is_adjacent r.stands.before
+    now inside =
+        let no_more : t.held.position.index + 0 ≡ t.held.position.index = omega arith in
+        sym (ap is_adjacent (sym (before_again r.stands.before)) ∙ r.stands.is_adjacent_here inside [] t.rest refl refl (begins t.rest r.some r.solid) ∙ ap (λ n. n == t.held.adjacent_value_at) no_more)

@@ -1,0 +1,245 @@
+-- What the scan of a block scalar reads is its piece.
+use Rattle.std.proofs.Common.{◌≡◌, ℕ, zero, suc, ◌<◌, ◌≤◌, List, [], ◌∷◌, ◌++◌, Bool, true, false, ◌&&◌, ◌==◌, ◌⊎◌, inl, inr, not, nat_lt, if◌then◌else◌, Option, Some, None, Result, Ok, refl, ap, subst, ◌∙◌, arith}
+use Rattle.std.proofs.lemmas.Bool.{and_parts, eqb-true}
+use Rattle.std.proofs.lemmas.Bool.Decides.{nat_tests}
+use Rattle.defs_text.specs.Position.{Position, position_past, position_after}
+use Rattle.defs_text.specs.Text.{is_empty, has_no_nul}
+use Rattle.defs_token.specs.Token.{Tok, Style, scalar}
+use Rattle.yaml_tokens.specs.declared.problem.Fault.{Fault}
+use Rattle.defs_text.specs.Classes.{space, is_blank, is_break, is_nul, is_at_end, are_marks, is_document_marker}
+use Rattle.defs_text.specs.Breaks.{split, split_by, put_first, is_before_line_feed, ends_line}
+use Rattle.defs_text.specs.FlowScalar.{begins_with}
+use Rattle.defs_text.specs.BlockScalar.{BlockStyle, literal, folded, Header, header_of, body, further_text, block_value, is_outside, is_further_text}
+use Rattle.defs_token.specs.Separation.{is_separation}
+use Rattle.defs_token.specs.BlockPiece.{BlockRead, column_of, with_value, is_past, read_body, read_lines, block_read, past_spaces, block_position}
+use Rattle.defs_token.specs.Account.{Account, is_in_flow, collection_column}
+use Rattle.defs_token.specs.Piece.{IsPiece, IsBlockScalar}
+use Rattle.model_scanner.specs.Machine.{Read}
+use Rattle.model_scanner.specs.BlockScalar.{Block, block}
+use Rattle.proof_lexers.specs.BlockScan.{is_literal_style, without_spaces, further_position, read_block, read, shallow, tabbed}
+use Rattle.proof_lexers.specs.PlainEnds.{collection_of}
+use Rattle.proof_lexers.specs.BlockEnds.{BlockEndsAs, bad_header}
+use Rattle.proof_lexers.specs.BlockEnds as ends
+use Rattle.proof_lexers.specs.HeaderEnds.{indicator_of}
+use Rattle.proof_lexers.proofs.Blocks.Ends.{scans_end}
+use Rattle.proof_lexers.proofs.Separation.EachSeparation.{no_nul_after}
+use Rattle.proof_scanner.specs.PiecesRead.{ReadAs, BlockIsRead}
+use Rattle.proof_scanner.proofs.Cut.Pieces.Quoted.{some_chars}
+
+-- ---- the spaces after a piece
+
+-- the spaces that a text begins with
+abbrev pub spaces_of : List ℕ → List ℕ
+spaces_of [] = []
+spaces_of (c ∷ r) = (if c == space then c ∷ spaces_of r else [])
+
+pub spaces_cut : (t : List ℕ) → t ≡ spaces_of t ++ without_spaces t
+spaces_cut [] = refl
+spaces_cut (c ∷ r) = by (c == space) (spaces_cut r)
+  where
+    by : (b : Bool) → r ≡ spaces_of r ++ without_spaces r → c ∷ r ≡ (if b then c ∷ spaces_of r else []) ++ (if b then without_spaces r else c ∷ r)
+    by true e = ap (λ l. c ∷ l) e
+    by false e = refl
+
+pub spaces_fill : (t rest : List ℕ) → is_separation false (spaces_of t) rest ≡ true
+unfolding is_blank
+spaces_fill [] rest = refl
+spaces_fill (c ∷ r) rest = by (c == space) refl (spaces_fill r rest)
+  where
+    by : (b : Bool) → (c == space) ≡ b → is_separation false (spaces_of r) rest ≡ true → is_separation false (if b then c ∷ spaces_of r else []) rest ≡ true
+    by true e h = let same : c ≡ 32 = eqb-true c 32 e in rw same h
+    by false e h = refl
+
+pub spaces_position : (p : Position) (t : List ℕ) → past_spaces p t ≡ position_after p (spaces_of t) (without_spaces t)
+spaces_position p [] = refl
+spaces_position p (c ∷ r) = by (c == space) (spaces_position (position_past p c r) r)
+  where
+    by : (b : Bool) → past_spaces (position_past p c r) r ≡ position_after (position_past p c r) (spaces_of r) (without_spaces r)
+        → (if b then past_spaces (position_past p c r) r else p) ≡ position_after p (if b then c ∷ spaces_of r else []) (if b then without_spaces r else c ∷ r)
+    by true e = e ∙ ap (λ l. position_after (position_past p c l) (spaces_of r) (without_spaces r)) (spaces_cut r)
+    by false e = refl
+
+-- ---- lines
+
+step_up : (p : Position) (c : ℕ) (r : List ℕ) → p.line ≤ (position_past p c r).line
+step_up p c r = by (ends_line c r)
+  where
+    line_of : Position → ℕ
+    line_of q = q.line
+
+    by : (b : Bool) → p.line ≤ line_of (if b then record { index = suc p.index; line = suc p.line; col = 0 } else record { index = suc p.index; line = p.line; col = suc p.col })
+    by true = omega arith
+    by false = omega arith
+
+line_up : (p : Position) (t next : List ℕ) → p.line ≤ (position_after p t next).line
+line_up p [] next = omega arith
+line_up p (c ∷ t) next =
+    let h = step_up p c (t ++ next) in
+    let k = line_up (position_past p c (t ++ next)) t next in omega (arith, h, k)
+
+break_up : (p : Position) (c : ℕ) (r : List ℕ) → ends_line c r ≡ true → (position_past p c r).line ≡ suc p.line
+break_up p c r h = rw h refl
+
+no_feed : (c : ℕ) (r : List ℕ) → begins_with 10 r ≡ false → is_before_line_feed c r ≡ false
+no_feed c [] h = refl
+no_feed c (d ∷ r) h = rw h (by (c == 13))
+  where
+    by : (b : Bool) → (b && false) ≡ false
+    by true = refl
+    by false = refl
+
+-- a text with a whole line ends on a later one
+lines_up : (p : Position) (t next : List ℕ) → is_empty (split t).complete ≡ false → begins_with 10 next ≡ false → p.line < (position_after p t next).line
+lines_up p [] next h f = cc
+lines_up p (c ∷ t) next h f = by (is_break c) (is_before_line_feed c t) refl refl h (λ k. lines_up (position_past p c (t ++ next)) t next k f)
+  where
+    feed_next : (r : List ℕ) → is_before_line_feed c r ≡ false → is_before_line_feed c (r ++ next) ≡ false
+    feed_next [] e = no_feed c next f
+    feed_next (d ∷ r) e = e
+
+    by : (b l : Bool) → is_break c ≡ b → is_before_line_feed c t ≡ l → is_empty (split_by b l c (split t)).complete ≡ false
+        → (is_empty (split t).complete ≡ false → (position_past p c (t ++ next)).line < (position_after (position_past p c (t ++ next)) t next).line) → p.line < (position_after (position_past p c (t ++ next)) t next).line
+    by true true e g h ih = let k = step_up p c (t ++ next) in let j = ih h in omega (arith, k, j)
+    by true false e g h ih =
+        let here = break_up p c (t ++ next) (rw (e, feed_next t g) refl) in
+        let k = line_up (position_past p c (t ++ next)) t next in omega (arith, here, k)
+    by false l e g h ih = let k = step_up p c (t ++ next) in let j = ih (still (split t).complete h) in omega (arith, k, j)
+      where
+        still : (ls : List (List ℕ)) → is_empty (put_first c ls (split t).last).complete ≡ false → is_empty ls ≡ false
+        still [] h = cc
+        still (l ∷ ls) h = refl
+
+-- ---- what a piece shows
+
+pub some_piece : (collection : Option ℕ) (piece next : List ℕ) (b : BlockRead) → block_read collection piece next ≡ Some b → is_empty piece ≡ false
+some_piece collection [] next b h = by (is_at_end next) h
+  where
+    by : (e : Bool) → read_lines collection [] [] next e ≡ Some b → is_empty {A = ℕ} [] ≡ false
+    by true h = cc
+    by false h = cc
+some_piece collection (c ∷ piece) next b h = refl
+
+-- after the last line stands no line feed
+outside_no_feed : (n : ℕ) (r : List ℕ) → is_outside n r ≡ true → begins_with 10 r ≡ false
+unfolding is_break
+outside_no_feed zero r h = cc
+outside_no_feed (suc n) [] h = cc
+outside_no_feed (suc n) (c ∷ r) h = by (c == 10) refl
+  where
+    by : (b : Bool) → (c == 10) ≡ b → b ≡ false
+    by true e = let same : c ≡ 10 = eqb-true c 10 e in absurd (cc (rw same at h))
+    by false e = refl
+
+marker_no_feed : (r : List ℕ) → is_document_marker r ≡ true → begins_with 10 r ≡ false
+unfolding are_marks
+marker_no_feed [] h = refl
+marker_no_feed (c ∷ []) h = cc
+marker_no_feed (c ∷ d ∷ []) h = cc
+marker_no_feed (c ∷ d ∷ e ∷ r) h = by (c == 10) refl
+  where
+    by : (b : Bool) → (c == 10) ≡ b → b ≡ false
+    by true f = let same : c ≡ 10 = eqb-true c 10 f in absurd (cc (rw same at h))
+    by false f = refl
+
+further_no_feed : (column : ℕ) (r : List ℕ) → is_further_text column r ≡ true → begins_with 10 r ≡ false
+further_no_feed zero r h = marker_no_feed r h
+further_no_feed (suc n) r h = outside_no_feed (suc n) r h
+
+past_text : (column : ℕ) (next : List ℕ) → is_at_end next ≡ false → is_past column next ≡ true → begins_with 10 next ≡ false
+past_text column next e h = further_no_feed column next (rw e at h)
+
+body_past : (collection : Option ℕ) (h : Option Header) (ls : List (List ℕ)) (next : List ℕ) (b : BlockRead) → is_at_end next ≡ false → read_body h collection (body ls further_text) next ≡ Some b → begins_with 10 next ≡ false
+body_past collection None ls next b e k = cc
+body_past collection (Some h) ls next b e k = by (is_past (column_of h collection (body ls further_text)) next) refl k
+  where
+    by : (x : Bool) → is_past (column_of h collection (body ls further_text)) next ≡ x
+        → (if x then with_value h (column_of h collection (body ls further_text)) (block_value h collection (body ls further_text)) else None) ≡ Some b → begins_with 10 next ≡ false
+    by true f k = past_text (column_of h collection (body ls further_text)) next e f
+    by false f k = cc
+
+-- before further text a piece has a whole line
+whole_line : (collection : Option ℕ) (ls : List (List ℕ)) (last next : List ℕ) (b : BlockRead) → is_at_end next ≡ false → read_lines collection ls last next false ≡ Some b → (is_empty ls ≡ false) × (begins_with 10 next ≡ false)
+whole_line collection [] last next b e h = cc
+whole_line collection (l ∷ ls) [] next b e h = (refl, body_past collection (header_of l) ls next b e h)
+whole_line collection (l ∷ ls) (c ∷ last) next b e h = cc
+
+pub piece_has_line : (collection : Option ℕ) (piece next : List ℕ) (b : BlockRead) → is_at_end next ≡ false → block_read collection piece next ≡ Some b → (is_empty (split piece).complete ≡ false) × (begins_with 10 next ≡ false)
+piece_has_line collection piece next b e h = whole_line collection (split piece).complete (split piece).last next b e (rw e at h)
+
+-- ---- the piece
+
+same_collection : (indent : ℕ) → collection_of indent ≡ collection_of indent
+same_collection zero = refl
+same_collection (suc n) = refl
+
+-- a block scalar's token
+abbrev pub token_of : BlockStyle → List ℕ → Tok
+token_of literal text = scalar Style.literal text
+token_of folded text = scalar Style.folded text
+
+pub piece_of : (a : Account) (style : BlockStyle) (piece next text : List ℕ) (p : Position) (following : Option Tok) → IsBlockScalar a piece next style text p → IsPiece a piece next following p (token_of style text)
+piece_of a literal piece next text p following h = h
+piece_of a folded piece next text p following h = h
+
+-- the scan ended on a later line, or at the text's end
+abbrev pub IsBelow : (start end : Position) → (rest : List ℕ) → Type 0
+IsBelow start end rest = (rest ≡ []) ⊎ (nat_lt start.line end.line ≡ true)
+
+end_no_text : (t : List ℕ) → has_no_nul t ≡ true → is_at_end t ≡ true → t ≡ []
+end_no_text [] h e = refl
+end_no_text (c ∷ t) h e = let q = and_parts (not (is_nul c)) (has_no_nul t) h in absurd (cc (q.0, e))
+
+module _ (a : Account) (indent : ℕ) (outside : is_in_flow a ≡ false) (column : collection_column a ≡ collection_of indent) where
+  same_column : collection_column a ≡ collection_of indent
+  same_column = column ∙ same_collection indent
+
+  pub below : (c : ℕ) (piece next : List ℕ) (b : BlockRead) → has_no_nul next ≡ true → block_read (collection_of indent) (c ∷ piece) next ≡ Some b → IsBelow a.position (further_position a.position (c ∷ piece) next) (without_spaces next)
+  below c piece next b nul is = by (is_at_end next) refl
+    where
+      by : (e : Bool) → is_at_end next ≡ e → IsBelow a.position (further_position a.position (c ∷ piece) next) (without_spaces next)
+      by true e = inl (ap without_spaces (end_no_text next nul e))
+      by false e =
+          let q = piece_has_line (collection_of indent) (c ∷ piece) next b e is in
+          let up = lines_up a.position (c ∷ piece) next q.0 q.1 in
+          let stays = line_up (position_after a.position (c ∷ piece) next) (spaces_of next) (without_spaces next) in
+          let here = ap (λ (z : Position). z.line) (spaces_position (position_after a.position (c ∷ piece) next) next) in
+          inr (grind (arith, nat_tests, up, stays, here))
+
+  found : (style : BlockStyle) (text piece next : List ℕ) (b : BlockRead) → has_no_nul next ≡ true → text ≡ piece ++ next → block_read (collection_of indent) piece next ≡ Some b → b.style ≡ style
+      → ReadAs a text (token_of style b.text) (block_position b.column a.position piece next) (without_spaces next) (further_position a.position piece next) × IsBelow a.position (further_position a.position piece next) (without_spaces next)
+  found style text [] next b nul cut is looks = absurd (cc (some_piece (collection_of indent) [] next b is))
+  found style text (c ∷ piece) next b nul cut is looks = (
+    record {
+      first = c;
+      more = piece;
+      separation = spaces_of next;
+      is_text = cut ∙ ap (λ l. (c ∷ piece) ++ l) (spaces_cut next);
+      is_filled = spaces_fill next (without_spaces next);
+      is_piece = λ following. subst (λ l. IsPiece a (c ∷ piece) l following (block_position b.column a.position (c ∷ piece) next) (token_of style b.text)) (spaces_cut next)
+          (piece_of a style (c ∷ piece) next b.text (block_position b.column a.position (c ∷ piece) next) following (outside, (b.column, read_is, refl)));
+      is_end = spaces_position (position_after a.position (c ∷ piece) next) next ∙ ap (λ l. position_after (position_after a.position (c ∷ piece) l) (spaces_of next) (without_spaces next)) (spaces_cut next);
+    },
+    below c piece next b nul is,
+  )
+    where
+      read_is : block_read (collection_column a) (c ∷ piece) next ≡ Some (record { style = style; column = b.column; text = b.text })
+      read_is = rw same_column (is ∙ ap (λ z. Some (record { style = z; column = b.column; text = b.text })) looks)
+
+  by_style : (style : BlockStyle) (more : List ℕ) (r : Read Block) → has_no_nul (indicator_of style ∷ more) ≡ true → has_no_nul more ≡ true → block (is_literal_style style) indent (indicator_of style ∷ more) a.position ≡ Ok r
+      → ReadAs a (indicator_of style ∷ more) (token_of style r.value.text) r.value.position r.rest r.position × IsBelow a.position r.position r.rest
+  by_style style more r all nul e = by (block (is_literal_style style) indent (indicator_of style ∷ more) a.position) e (scans_end style indent more a.position (some_chars more nul))
+    where
+      by : (x : Result (Read Block) Fault) → x ≡ Ok r → BlockEndsAs style indent a.position more x → ReadAs a (indicator_of style ∷ more) (token_of style r.value.text) r.value.position r.rest r.position × IsBelow a.position r.position r.rest
+      by x e (bad_header line after f cut in_line at why k) = absurd (cc (e, k))
+      by x e (ends.scalar piece next b cut is looks (shallow free low k)) = absurd (cc (e, k))
+      by x e (ends.scalar piece next b cut is looks (tabbed tab k)) = absurd (cc (e, k))
+      by x e (ends.scalar piece next b cut is looks (read free deep k)) =
+          let same : read_block a.position b piece next ≡ r = cc in
+          let none : has_no_nul next ≡ true = no_nul_after piece next (subst (λ l. has_no_nul l ≡ true) cut all) in
+          rw (← same) (found style (indicator_of style ∷ more) piece next b none cut is looks)
+
+-- a block scalar that was read is the piece of its token, and after it spaces were passed
+pub block_is_read : BlockIsRead
+unfolding is_nul
+block_is_read a true indent more r nul outside column e = by_style a indent outside column literal more r nul nul e
+block_is_read a false indent more r nul outside column e = by_style a indent outside column folded more r nul nul e

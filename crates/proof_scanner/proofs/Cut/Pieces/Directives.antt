@@ -1,0 +1,92 @@
+-- What the scan of a directive reads is its piece.
+use Rattle.std.proofs.Common.{◌≡◌, ℕ, List, [], ◌∷◌, ◌++◌, Bool, true, false, ◌||◌, ◌==◌, inl, inr, if◌then◌else◌, take, drop, Option, Result, Ok, refl, ap, subst, ◌∙◌}
+use Rattle.std.proofs.lemmas.Bool.{and_parts, eqb-true}
+use Rattle.defs_token.specs.Token.{Tok}
+use Rattle.yaml_tokens.specs.declared.problem.Fault.{Fault}
+use Rattle.defs_text.specs.Classes.{is_blank, is_break}
+use Rattle.defs_text.specs.Breaks.{is_before_line_feed, is_at_line_end, has_no_break}
+use Rattle.defs_text.specs.Directives.{Directive, version, tag_declaration, reserved}
+use Rattle.defs_token.specs.Separation.{is_separation}
+use Rattle.defs_token.specs.Account.{Account}
+use Rattle.defs_token.specs.Piece.{IsPiece, IsDirective}
+use Rattle.model_scanner.specs.Machine.{Read}
+use Rattle.model_scanner.specs.Directive.{directive}
+use Rattle.proof_lexers.specs.DirectiveEnds.{token_of, ends_line, first_break, next_line, after_line, DirectiveEndsAs, reads, refuses}
+use Rattle.proof_lexers.proofs.Directives.Lines.{directives_end}
+use Rattle.proof_lexers.proofs.Separation.Positions.{position_append}
+use Rattle.proof_scanner.specs.PiecesRead.{ReadAs, is_directive_token, DirectiveIsRead}
+
+-- ---- the break after a directive
+
+pub break_cut : (next : List ℕ) → next ≡ first_break next ++ next_line next
+break_cut [] = refl
+break_cut (c ∷ r) = by (is_before_line_feed c r) r
+  where
+    by : (b : Bool) (k : List ℕ) → c ∷ k ≡ (if b then c ∷ take 1 k else c ∷ []) ++ (if b then drop 1 k else k)
+    by true [] = refl
+    by true (d ∷ k) = refl
+    by false k = refl
+
+break_fills : (c : ℕ) (f rest : List ℕ) → is_break c ≡ true → is_separation false f rest ≡ true → is_separation false (c ∷ f) rest ≡ true
+unfolding is_blank is_break
+break_fills c f rest h k = by (c == 10) (c == 13) refl refl h
+  where
+    by : (x y : Bool) → (c == 10) ≡ x → (c == 13) ≡ y → (x || y) ≡ true → is_separation false (c ∷ f) rest ≡ true
+    by true y e g h = let same : c ≡ 10 = eqb-true c 10 e in rw same k
+    by false true e g h = let same : c ≡ 13 = eqb-true c 13 g in rw same k
+    by false false e g h = cc
+
+feed_fills : (c : ℕ) (r rest : List ℕ) → is_before_line_feed c r ≡ true → is_separation false (take 1 r) rest ≡ true
+unfolding is_break
+feed_fills c [] rest h = cc
+feed_fills c (d ∷ r) rest h = let q = and_parts (c == 13) (d == 10) h in let same : d ≡ 10 = eqb-true d 10 q.1 in rw same (break_fills 10 [] rest refl refl)
+
+pub break_is_separation : (next : List ℕ) → ends_line next ≡ true → is_separation false (first_break next) (next_line next) ≡ true
+break_is_separation [] h = refl
+break_is_separation (c ∷ r) h = by (is_before_line_feed c r) refl
+  where
+    by : (b : Bool) → is_before_line_feed c r ≡ b → is_separation false (if b then c ∷ take 1 r else c ∷ []) (if b then drop 1 r else r) ≡ true
+    by true e = break_fills c (take 1 r) (drop 1 r) h (feed_fills c r (drop 1 r) e)
+    by false e = break_fills c [] r h refl
+
+pub line_end_there : (next : List ℕ) → ends_line next ≡ true → is_at_line_end next ≡ true
+line_end_there [] h = refl
+line_end_there (c ∷ r) h = rw h refl
+
+-- ---- the piece
+
+pub piece_of : (a : Account) (piece next : List ℕ) (d : Directive) (following : Option Tok) → IsDirective a piece next d → IsPiece a piece next following a.position (token_of d)
+piece_of a piece next (version major minor) following h = (h, refl)
+piece_of a piece next (tag_declaration handle prefix) following h = (inl h, refl)
+piece_of a piece next reserved following h = (inr (refl, refl, h), refl)
+
+pub token_is : (d : Directive) → is_directive_token (token_of d) ≡ true
+token_is (version major minor) = refl
+token_is (tag_declaration handle prefix) = refl
+token_is reserved = refl
+
+pub percent_in_line : (l : List ℕ) → has_no_break l ≡ true → has_no_break (37 ∷ l) ≡ true
+unfolding is_break
+percent_in_line l h = h
+
+-- a directive that was read is the piece of its token, and after it the break of its line was passed
+pub directive_is_read : DirectiveIsRead
+directive_is_read a more r nul column closed e = by (directive (37 ∷ more) a.position) e (directives_end more a.position)
+  where
+    by : (x : Result (Read Tok) Fault) → x ≡ Ok r → DirectiveEndsAs a.position more x → ReadAs a (37 ∷ more) r.value a.position r.rest r.position × (is_directive_token r.value ≡ true)
+    by x e (refuses line next f cut no_break ends none why k) = absurd (cc (e, k))
+    by x e (reads line next d cut no_break ends is k) =
+        let same : after_line a.position (37 ∷ line) next (token_of d) ≡ r = cc in
+        rw (← same) (
+          record {
+            first = 37;
+            more = line;
+            separation = first_break next;
+            is_text = ap (λ l. 37 ∷ l) (cut ∙ ap (λ l. line ++ l) (break_cut next));
+            is_filled = break_is_separation next ends;
+            is_piece = λ following. subst (λ l. IsPiece a (37 ∷ line) l following a.position (token_of d)) (break_cut next)
+                (piece_of a (37 ∷ line) next d following (is, percent_in_line line no_break, column, line_end_there next ends, closed));
+            is_end = position_append a.position (37 ∷ line) (first_break next) (next_line next);
+          },
+          token_is d,
+        )

@@ -1,0 +1,124 @@
+-- What the scan of a plain scalar reads is its piece.
+use Rattle.std.proofs.Common.{◌≡◌, ℕ, List, [], ◌∷◌, ◌++◌, Bool, true, false, ◌&&◌, ◌||◌, ◌==◌, not, nat_lt, if◌then◌else◌, Some, Result, Ok, slice_index, refl, ap, sym, subst, ◌∙◌}
+use Rattle.std.specs.Prelude.{codes}
+use Rattle.std.proofs.lemmas.Bool.{and_parts, eqb-true}
+use Rattle.defs_text.specs.Position.{Position, position_after}
+use Rattle.yaml_chars.specs.Class as model_classes
+use Rattle.defs_token.specs.Token.{scalar, plain}
+use Rattle.yaml_tokens.specs.declared.problem.Fault.{Fault}
+use Rattle.defs_text.specs.Classes.{is_one_of, is_blank, is_break, is_nul, is_blank_or_end, is_flow, is_at_gap, is_document_marker}
+use Rattle.defs_text.specs.FlowScalar.{plain_value}
+use Rattle.defs_token.specs.Separation.{is_separation}
+use Rattle.defs_token.specs.Plain.{is_value_indicator, begins_flow, may_begin, begins_plain, is_whole_plain}
+use Rattle.defs_token.specs.Account.{Account, is_in_flow, is_adjacent, collection_column}
+use Rattle.model_scanner.specs.declared.context.Context.{Context}
+use Rattle.model_scanner.specs.Machine.{Read}
+use Rattle.model_scanner.specs.Plain.{Plain, at_dash, starts, plain_from}
+use Rattle.model_scanner.specs.Plain as models
+use Rattle.proof_lexers.proofs.Bridges.{same_flow}
+use Rattle.proof_lexers.specs.PlainEnds.{collection_of, begins_solid, is_white, after_plain, PlainEndsAs, reads, refuses}
+use Rattle.proof_lexers.proofs.Plain.Scalars.{scans_end}
+use Rattle.proof_lexers.proofs.Separation.Positions.{position_append}
+use Rattle.proof_scanner.specs.PiecesRead.{ReadAs, comes_plain, PlainIsRead}
+use Rattle.proof_scanner.proofs.Cut.Pieces.Separations.{gap_is_separation}
+
+-- ---- a plain scalar begins with content
+
+-- a character that isn't white
+abbrev IsSolid : ℕ → Type 0
+IsSolid c = not (is_white c) ≡ true
+
+solid_at : (c k : ℕ) → (c == k) ≡ true → IsSolid k → IsSolid c
+solid_at c k e h = let same : c ≡ k = eqb-true c k e in rw same h
+
+solid_start : (fl adjacent : Bool) (c : ℕ) (r : List ℕ) → may_begin fl adjacent c r ≡ true → IsSolid c
+unfolding is_blank is_break is_blank_or_end
+solid_start fl adjacent c r h =
+    by (c == 45) (c == 63) (c == 58) (c == 124) (c == 62) refl refl refl refl refl h
+  where
+    other : (w l n f o : Bool) → not ((w || l || n) || f || o) ≡ true → not (w || l) ≡ true
+    other false false n f o h = refl
+    other true l n f o h = cc
+    other false true n f o h = cc
+
+    by : (x y z u v : Bool) → (c == 45) ≡ x → (c == 63) ≡ y → (c == 58) ≡ z → (c == 124) ≡ u → (c == 62) ≡ v →
+        (if x then not (is_at_gap r) && not (fl && begins_flow r) else (if y then not (is_at_gap r) else (if z then not (is_value_indicator fl adjacent r) else
+        (if u || (v || false) then fl else not (is_blank_or_end c || is_flow c || is_one_of (codes "#&*!%@`'\"") c))))) ≡ true → IsSolid c
+    by true y z u v e1 e2 e3 e4 e5 h = solid_at c 45 e1 refl
+    by false true z u v e1 e2 e3 e4 e5 h = solid_at c 63 e2 refl
+    by false false true u v e1 e2 e3 e4 e5 h = solid_at c 58 e3 refl
+    by false false false true v e1 e2 e3 e4 e5 h = solid_at c 124 e4 refl
+    by false false false false true e1 e2 e3 e4 e5 h = solid_at c 62 e5 refl
+    by false false false false false e1 e2 e3 e4 e5 h = other (is_blank c) (is_break c) (is_nul c) (is_flow c) (is_one_of (codes "#&*!%@`'\"") c) h
+
+begins_solid_with : (fl adjacent : Bool) (col : ℕ) (t : List ℕ) → begins_plain fl adjacent col t ≡ true → begins_solid t ≡ true
+begins_solid_with fl adjacent col [] h = cc
+begins_solid_with fl adjacent col (c ∷ r) h = solid_start fl adjacent c r (and_parts (may_begin fl adjacent c r) (not ((col == 0) && is_document_marker (c ∷ r))) h).0
+
+-- ---- in flow a dash before a flow indicator is refused
+
+same_flow_start : (r : List ℕ) → model_classes.is_flow (slice_index r 0) ≡ begins_flow r
+unfolding model_classes.is_flow
+same_flow_start [] = refl
+same_flow_start (d ∷ r) = sym (same_flow d)
+
+dash_refused : (ctx : Context) (text : List ℕ) (p : Position) (r : Read Plain) → at_dash ctx.flow text ≡ true → models.plain ctx text p ≡ Ok r → ⊥
+unfolding models.plain starts
+dash_refused ctx text p r d e = by (ctx.flow && nat_lt p.col ctx.indent) refl
+  where
+    by : (left : Bool) → (ctx.flow && nat_lt p.col ctx.indent) ≡ left → ⊥
+    by true f = cc (rw f at e)
+    by false f = cc (rw (f, d) at e)
+
+between : (x y : Bool) → (x && y) ≡ true → (x && true && y) ≡ true
+between true y h = h
+between false y h = cc
+
+-- what is read began as a plain scalar may
+begins_as_read : (ctx : Context) (adjacent : Bool) (text : List ℕ) (p : Position) (r : Read Plain) → comes_plain ctx.flow adjacent p.col text ≡ true → models.plain ctx text p ≡ Ok r → begins_plain ctx.flow adjacent p.col text ≡ true
+unfolding at_dash
+begins_as_read ctx adjacent [] p r h e = cc
+begins_as_read ctx adjacent (c ∷ t) p r h e = by_dash (c == 45) refl
+  where
+    by_dash : (dash : Bool) → (c == 45) ≡ dash → begins_plain ctx.flow adjacent p.col (c ∷ t) ≡ true
+    by_dash false d = rw d (rw d at h)
+    by_dash true d = by (ctx.flow && begins_flow t) refl
+      where
+        by : (refused : Bool) → (ctx.flow && begins_flow t) ≡ refused → begins_plain ctx.flow adjacent p.col (c ∷ t) ≡ true
+        by true f = absurd (dash_refused ctx (c ∷ t) p r (rw (d, same_flow_start t) (between ctx.flow (begins_flow t) f)) e)
+        by false f =
+            let q = and_parts (not (is_at_gap t)) (not ((p.col == 0) && is_document_marker (c ∷ t))) (rw d at h) in
+            rw (d, f, q.0) q.1
+
+-- ---- the piece
+
+module _ (a : Account) (ctx : Context) (text : List ℕ) (r : Read Plain) (flows : is_in_flow a ≡ ctx.flow) (column : collection_column a ≡ collection_of ctx.indent)
+    (begins : begins_plain (is_in_flow a) (is_adjacent a.before) a.position.col text ≡ true) where
+  found : (piece gap rest value : List ℕ) → text ≡ piece ++ (gap ++ rest) → is_whole_plain (is_in_flow a) (collection_column a) piece (gap ++ rest) ≡ true → is_separation false gap rest ≡ true
+      → plain_value piece ≡ Some value → ReadAs a text (scalar plain value) a.position rest (position_after a.position (piece ++ gap) rest)
+  found [] gap rest value cut whole filled is = absurd (cc whole)
+  found (c ∷ piece) gap rest value cut whole filled is = record {
+    first = c;
+    more = piece;
+    separation = gap;
+    is_text = cut;
+    is_piece = λ following. ((begins_text cut, whole, is), refl);
+    is_filled = filled;
+    is_end = position_append a.position (c ∷ piece) gap rest;
+  }
+    where
+      begins_text : {t : List ℕ} → text ≡ t → begins_plain (is_in_flow a) (is_adjacent a.before) a.position.col t ≡ true
+      begins_text e = sym (ap (begins_plain (is_in_flow a) (is_adjacent a.before) a.position.col) e) ∙ begins
+
+  by : (x : Result (Read Plain) Fault) → x ≡ Ok r → PlainEndsAs ctx a.position text x → ReadAs a text (scalar plain r.value.text) a.position r.rest r.position
+  by x e (refuses f why is) = absurd (cc (e, is))
+  by x e (reads piece gap rest value cut whole white ends is read) =
+      let same : after_plain a.position piece gap rest value ≡ r = cc in
+      let here : is_whole_plain (is_in_flow a) (collection_column a) piece (gap ++ rest) ≡ true = rw (flows, column) whole in
+      subst (λ (q : Read Plain). ReadAs a text (scalar plain q.value.text) a.position q.rest q.position) same (found piece gap rest value cut here (gap_is_separation gap rest white) is)
+
+-- a plain scalar that was read is the piece of its token, and after it blanks and breaks were passed
+pub plain_is_read : PlainIsRead
+plain_is_read a ctx text r nul flows column comes indented is =
+    let begins : begins_plain (is_in_flow a) (is_adjacent a.before) a.position.col text ≡ true = rw flows (begins_as_read ctx (is_adjacent a.before) text a.position r comes is) in
+    by a ctx text r flows column begins (models.plain ctx text a.position) is (scans_end ctx text a.position nul (begins_solid_with (is_in_flow a) (is_adjacent a.before) a.position.col text begins) indented)

@@ -1,0 +1,112 @@
+-- What the scan of a tag reads is its piece.
+use Rattle.std.proofs.Common.{◌≡◌, ℕ, List, [], ◌∷◌, ◌++◌, Bool, true, false, ◌||◌, ◌==◌, if◌then◌else◌, Some, None, Result, Ok, codes, refl, ap}
+use Rattle.std.proofs.lemmas.Bool.{and_parts, eqb-true}
+use Rattle.defs_token.specs.Token.{Tok}
+use Rattle.yaml_tokens.specs.declared.problem.Fault.{Fault}
+use Rattle.defs_text.specs.Classes.{is_break, is_alpha, is_uri, is_tag, is_decimal_digit, is_letter}
+use Rattle.defs_text.specs.Tags.{Tag, all_of, leading, after, is_same, decoded, tag_by, tag_of_class, verbatim, begins_with_mark, named, shorthand, written_tag}
+use Rattle.defs_text.specs.Breaks.{has_no_break}
+use Rattle.defs_token.specs.Account.{is_in_flow}
+use Rattle.model_scanner.specs.Machine.{Read}
+use Rattle.model_scanner.specs.Tag as models
+use Rattle.proof_lexers.specs.TagEnds.{may_follow, after_tag, TagEndsAs, reads, refuses}
+use Rattle.proof_lexers.proofs.Properties.Tags.{span_cut, all_leading, tags_end}
+use Rattle.proof_lexers.proofs.Separation.Positions.{position_in_line}
+use Rattle.proof_scanner.specs.PiecesRead.{ReadAs, TagIsRead}
+use Rattle.proof_scanner.proofs.Cut.Pieces.Separations.{no_break_append}
+use Rattle.proof_scanner.proofs.Cut.Pieces.Names.{all_in_line}
+
+-- ---- no break stands in a tag
+
+-- a class without the two breaks
+pub without_breaks : (class : ℕ → Bool) → class 10 ≡ false → class 13 ≡ false → (c : ℕ) → class c ≡ true → is_break c ≡ false
+unfolding is_break
+without_breaks class lf cr c h = by (c == 10) (c == 13) refl refl
+  where
+    by : (x y : Bool) → (c == 10) ≡ x → (c == 13) ≡ y → (x || y) ≡ false
+    by true y e f = let same : c ≡ 10 = eqb-true c 10 e in absurd (cc (lf, rw same at h))
+    by false true e f = let same : c ≡ 13 = eqb-true c 13 f in absurd (cc (cr, rw same at h))
+    by false false e f = refl
+
+pub uri_has_none : (c : ℕ) → is_uri c ≡ true → is_break c ≡ false
+unfolding is_uri is_decimal_digit is_letter
+uri_has_none c h = without_breaks is_uri refl refl c h
+
+pub tag_has_none : (c : ℕ) → is_tag c ≡ true → is_break c ≡ false
+unfolding is_tag is_uri is_decimal_digit is_letter
+tag_has_none c h = without_breaks is_tag refl refl c h
+
+pub alpha_has_none : (c : ℕ) → is_alpha c ≡ true → is_break c ≡ false
+unfolding is_alpha is_decimal_digit is_letter
+alpha_has_none c h = without_breaks is_alpha refl refl c h
+
+-- what stands before in the line, and what stands after it
+spanned : (class : ℕ → Bool) → ((c : ℕ) → class c ≡ true → is_break c ≡ false) → (t : List ℕ) → has_no_break (after class t) ≡ true → has_no_break t ≡ true
+spanned class none t h = rw (span_cut class t) (no_break_append (leading class t) (after class t) (all_in_line class none (leading class t) (all_leading class t)) h)
+
+of_class : (class : ℕ → Bool) → ((c : ℕ) → class c ≡ true → is_break c ≡ false) → (handle t : List ℕ) (g : Tag) → tag_of_class class handle t ≡ Some g → has_no_break t ≡ true
+of_class class none handle t g h = by (all_of class t) refl h
+  where
+    by : (b : Bool) → all_of class t ≡ b → (if b then tag_by handle (decoded t) else None) ≡ Some g → has_no_break t ≡ true
+    by true e h = all_in_line class none t e
+    by false e h = cc
+
+closed_in_line : (t : List ℕ) → is_same t (codes ">") ≡ true → has_no_break t ≡ true
+unfolding is_break
+closed_in_line [] h = cc
+closed_in_line (c ∷ []) h = let q = and_parts (c == 62) true h in let same : c ≡ 62 = eqb-true c 62 q.0 in rw same refl
+closed_in_line (c ∷ d ∷ t) h = let q = and_parts (c == 62) false h in cc
+
+verbatim_in_line : (t : List ℕ) (g : Tag) → verbatim t ≡ Some g → has_no_break t ≡ true
+verbatim_in_line t g h = by (is_same (after is_uri t) (codes ">")) refl h
+  where
+    by : (b : Bool) → is_same (after is_uri t) (codes ">") ≡ b → (if b then tag_of_class is_uri [] (leading is_uri t) else None) ≡ Some g → has_no_break t ≡ true
+    by true e h = spanned is_uri uri_has_none t (closed_in_line (after is_uri t) e)
+    by false e h = cc
+
+named_in_line : (name from : List ℕ) (g : Tag) → begins_with_mark from ≡ true → named name from ≡ Some g → has_no_break from ≡ true
+unfolding is_break
+named_in_line name [] g m h = cc
+named_in_line name (c ∷ []) g m h = cc
+named_in_line name (c ∷ d ∷ suffix) g m h =
+    let same : c ≡ 33 = eqb-true c 33 m in
+    rw same (of_class is_tag tag_has_none (codes "!" ++ name ++ codes "!") (d ∷ suffix) g h)
+
+shorthand_in_line : (t : List ℕ) (g : Tag) → shorthand t ≡ Some g → has_no_break t ≡ true
+shorthand_in_line [] g h = refl
+shorthand_in_line (c ∷ t) g h = by (begins_with_mark (after is_alpha (c ∷ t))) refl h
+  where
+    by : (b : Bool) → begins_with_mark (after is_alpha (c ∷ t)) ≡ b
+        → (if b then named (leading is_alpha (c ∷ t)) (after is_alpha (c ∷ t)) else tag_of_class is_tag (codes "!") (c ∷ t)) ≡ Some g → has_no_break (c ∷ t) ≡ true
+    by true e h = spanned is_alpha alpha_has_none (c ∷ t) (named_in_line (leading is_alpha (c ∷ t)) (after is_alpha (c ∷ t)) g e h)
+    by false e h = of_class is_tag tag_has_none (codes "!") (c ∷ t) g h
+
+pub written_in_line : (t : List ℕ) (g : Tag) → written_tag (33 ∷ t) ≡ Some g → has_no_break (33 ∷ t) ≡ true
+unfolding is_break
+written_in_line [] g h = refl
+written_in_line (c ∷ t) g h = by (c == 60) refl h
+  where
+    by : (b : Bool) → (c == 60) ≡ b → (if b then verbatim t else shorthand (c ∷ t)) ≡ Some g → has_no_break (33 ∷ c ∷ t) ≡ true
+    by true e h = let same : c ≡ 60 = eqb-true c 60 e in rw same (verbatim_in_line t g h)
+    by false e h = shorthand_in_line (c ∷ t) g h
+
+-- ---- the piece
+
+-- a tag that was read is the piece of its token
+pub tag_is_read : TagIsRead
+tag_is_read a in_flow more r nul flows e = by (models.tag in_flow (33 ∷ more) a.position) e (tags_end in_flow more a.position)
+  where
+    by : (x : Result (Read models.Tag) Fault) → x ≡ Ok r → TagEndsAs in_flow a.position more x → ReadAs a (33 ∷ more) (Tok.tag r.value.handle r.value.suffix) a.position r.rest r.position
+    by x e (refuses why reason k) = absurd (cc (e, k))
+    by x e (reads piece rest handle suffix cut is follows k) =
+        let same : after_tag a.position (33 ∷ piece) rest handle suffix ≡ r = cc in
+        let may : may_follow (is_in_flow a) rest ≡ true = rw flows follows in
+        rw (← same) (record {
+          first = 33;
+          more = piece;
+          separation = [];
+          is_text = ap (λ l. 33 ∷ l) cut;
+          is_filled = refl;
+          is_piece = λ following. ((is, may), refl);
+          is_end = position_in_line a.position (33 ∷ piece) rest (written_in_line piece (record { handle = handle; suffix = suffix }) is);
+        })

@@ -1,0 +1,47 @@
+-- Positions after texts.
+use Rattle.std.proofs.Common.{◌≡◌, ℕ, suc, ◌+◌, List, [], ◌∷◌, ◌++◌, Bool, true, false, if◌then◌else◌, length, refl, arith}
+use Rattle.defs_text.specs.Position.{Position, position_past, position_after}
+use Rattle.defs_text.specs.Breaks.{ends_line}
+use Rattle.proof_scanner.specs.Order.{NotBefore, After}
+
+pub not_before_same : (p : Position) → NotBefore p p
+not_before_same p = (omega arith, λ h. omega arith)
+
+pub not_before_then : (p q r : Position) → NotBefore p q → NotBefore q r → NotBefore p r
+not_before_then p q r a b = (omega (arith, a.0, b.0), λ h. omega (arith, a.1 (omega (arith, h, b.0)), b.1 (omega (arith, h, a.0))))
+
+pub after_then : (p q r : Position) → After p q → NotBefore q r → After p r
+after_then p q r a b = (omega (arith, a.0, b.0), λ h. omega (arith, a.1 (omega (arith, h, b.0)), b.1 (omega (arith, h, a.0))))
+
+past_after : (p : Position) (c : ℕ) (next : List ℕ) → After p (position_past p c next)
+past_after p c next = by (ends_line c next)
+  where
+    by : (b : Bool) → After p (if b then record { index = suc p.index; line = suc p.line; col = 0 } else record { index = suc p.index; line = p.line; col = suc p.col })
+    by true = (omega arith, λ h. omega (arith, h))
+    by false = (omega arith, λ h. omega arith)
+
+pub weaker : (p q : Position) → After p q → NotBefore p q
+weaker p q a = (a.0, λ h. omega (arith, a.1 h))
+
+pub not_before_after : (p : Position) (a next : List ℕ) → NotBefore p (position_after p a next)
+not_before_after p [] next = not_before_same p
+not_before_after p (c ∷ a) next =
+    let q : Position = position_past p c (a ++ next) in
+    not_before_then p q (position_after q a next) (weaker p q (past_after p c (a ++ next))) (not_before_after q a next)
+
+pub is_after : (p : Position) (c : ℕ) (a next : List ℕ) → After p (position_after p (c ∷ a) next)
+is_after p c a next =
+    let q : Position = position_past p c (a ++ next) in
+    after_then p q (position_after q a next) (past_after p c (a ++ next)) (not_before_after q a next)
+
+index_past : (p : Position) (c : ℕ) (next : List ℕ) → (position_past p c next).index ≡ suc p.index
+index_past p c next = by (ends_line c next)
+  where
+    by : (b : Bool) → (let q : Position = (if b then record { index = suc p.index; line = suc p.line; col = 0 } else record { index = suc p.index; line = p.line; col = suc p.col }) in q.index) ≡ suc p.index
+    by true = refl
+    by false = refl
+
+-- the index counts characters
+pub index_after : (p : Position) (a next : List ℕ) → (position_after p a next).index ≡ p.index + length a
+index_after p [] next = omega arith
+index_after p (c ∷ a) next = omega (arith, index_after (position_past p c (a ++ next)) a next, index_past p c (a ++ next))

@@ -1,0 +1,4 @@
+pub mod Complete
+pub mod Cut
+pub mod Refusals
+pub mod Sound

@@ -1,0 +1,250 @@
+-- Faults of block scalars: the line is no header, or what stands after the scalar may not.
+use Rattle.std.proofs.Common.{◌≡◌, ℕ, List, [], ◌∷◌, ◌++◌, Bool, true, false, not, ◌==◌, ◌&&◌, ◌||◌, nat_le, nat_lt, if◌then◌else◌, Option, Some, None, Result, Err, refl, ap, sym, ◌∙◌, subst, arith, append-nil}
+use Rattle.std.proofs.lemmas.Bool.{and_parts, eqb-true}
+use Rattle.std.proofs.lemmas.Bool.Decides.{nat_tests}
+use Rattle.defs_text.specs.Breaks.{split}
+use Rattle.defs_text.specs.Classes.{tab, is_break, is_nul, is_at_end}
+use Rattle.defs_text.specs.Position.{Position, position_after}
+use Rattle.defs_text.specs.Text.{is_empty, has_no_nul}
+use Rattle.defs_text.specs.BlockScalar as defs
+use Rattle.defs_text.specs.BlockScalar.{BlockStyle, literal, folded, header_of, leading_spaces, body, further_text}
+use Rattle.defs_text.specs.FlowScalar.{begins_with}
+use Rattle.defs_token.specs.BlockPiece.{BlockRead, block_read, read_lines, read_body}
+use Rattle.defs_token.specs.Step.{gives_node}
+use Rattle.defs_token.specs.RowAccount.{site_in}
+use Rattle.defs_token.specs.Column.{innermost}
+use Rattle.defs_token.specs.Indentation.{least_column}
+use Rattle.defs_token.specs.Following.{are_empty, lines_may_end, read_may_end, block_may_end}
+use Rattle.yaml_tokens.specs.declared.problem.Fault.{Fault}
+use Rattle.yaml_tokens.specs.declared.problem.Fault.TheVariants.{At}
+use Rattle.yaml_tokens.specs.declared.problem.Problem.{Problem}
+use Rattle.yaml_tokens.specs.declared.problem.Problem.TheVariants as problem
+use Rattle.model_scanner.specs.Machine.{Read, past}
+use Rattle.model_scanner.specs.Blanks.{linebreak}
+use Rattle.model_scanner.specs.BlockScalar.{Block, block}
+use Rattle.model_scanner.specs.State.{Held, ScannerState}
+use Rattle.model_scanner.specs.Flow.{allow_key}
+use Rattle.model_scanner.specs.Indents.{without_open, unroll_non_block_indents}
+use Rattle.model_scanner.specs.Document.{fetch_block_scalar}
+use Rattle.proof_lexers.specs.HeaderEnds as headers
+use Rattle.proof_lexers.specs.HeaderEnds.{HeaderEndsAs, indicator_of, is_in_line}
+use Rattle.proof_lexers.specs.BlockEnds as block_ends
+use Rattle.proof_lexers.specs.BlockEnds.{BlockEndsAs}
+use Rattle.proof_lexers.specs.BlockScan as scan
+use Rattle.proof_lexers.specs.BlockScan.{is_literal_style, is_tabbed, is_shallow}
+use Rattle.proof_lexers.specs.PlainEnds.{collection_of}
+use Rattle.proof_lexers.proofs.Blocks.Ends as blocks
+use Rattle.proof_lexers.proofs.Blocks.Positions.{spell_more}
+use Rattle.proof_lexers.proofs.Blocks.Positions.{after_chars}
+use Rattle.proof_lexers.proofs.Blocks.Scans.{style_inner}
+use Rattle.proof_lexers.proofs.Blocks.Written.{Break, feed, carriage, both, Line, put, spell, texts, Fits, AreLines, split_spell}
+use Rattle.proof_scanner.proofs.Cut.Pieces.Quoted.{some_chars}
+use Rattle.proof_scanner.proofs.Cut.Saved.{saved_keys, saved_is}
+use Rattle.proof_scanner.specs.Arrives.{Arrives}
+use Rattle.proof_scanner.specs.StandsInRow.{columns}
+use Rattle.proof_scanner.proofs.Sound.Arrivals.{clean_after}
+use Rattle.proof_scanner.proofs.Sound.BlockEnds.{IsLeast, Written, written}
+use Rattle.proof_scanner.proofs.Sound.WithoutOpen.{AreClosed, without_is}
+use Rattle.proof_scanner.proofs.Complete.Scalars.AfterBlocks.{block_is_clear, lines_asked, lines_written}
+use Rattle.proof_scanner.specs.NoPiece as none
+use Rattle.proof_scanner.specs.NoPiece.{IsBlockFault}
+use Rattle.proof_scanner.specs.Stuck.{IsStuck, no_block, site_at_place}
+use Rattle.proof_scanner.proofs.Refusals.Faults.{Faults, goes, read}
+use Rattle.proof_scanner.proofs.Refusals.Nodes.{none_begins, none_here}
+use Rattle.proof_scanner.proofs.Refusals.Places.{Told, account_by, stuck, in_flow_is}
+
+-- ---- texts
+
+inner_first : (a b : List ℕ) → is_in_line (a ++ b) ≡ true → is_in_line a ≡ true
+inner_first [] b h = refl
+inner_first (c ∷ a) b h = let parts = and_parts (not (is_break c)) (is_in_line (a ++ b)) h in rw parts.0 (inner_first a b parts.1)
+
+-- the position after characters of a line
+along_text : (style : BlockStyle) (before rest : List ℕ) (p : Position) → is_in_line before ≡ true → headers.along before (past p) ≡ position_after p (indicator_of style ∷ before) rest
+along_text style before rest p inner = sym (after_chars (indicator_of style ∷ before) [] rest p (style_inner style before inner)) ∙ ap (λ w. position_after p w rest) (append-nil (indicator_of style ∷ before))
+
+tab_first : (r : List ℕ) → begins_with tab r ≡ true → (m : List ℕ) × (r ≡ tab ∷ m)
+tab_first [] h = absurd (cc h)
+tab_first (c ∷ m) h = (m, ap (λ x. x ∷ m) (eqb-true c tab h))
+
+-- a break, and a TAB after it
+record TabAfter (after : List ℕ) : Type 0 where
+  by : Break
+  more : List ℕ
+  is : after ≡ put by (tab ∷ more)
+
+tab_after_return : (a : List ℕ) (p : Position) → begins_with tab (linebreak (13 ∷ a) p).rest ≡ true → TabAfter (13 ∷ a)
+tab_after_return [] p h = absurd (cc h)
+tab_after_return (d ∷ m) p h = by (d == 10) refl
+  where
+    by : (b : Bool) → (d == 10) ≡ b → TabAfter (13 ∷ d ∷ m)
+    by true e = let k : begins_with tab m ≡ true = rw e at h in let f = tab_first m k in record { by = both; more = f.0; is = ap (λ x. 13 ∷ x ∷ m) (eqb-true d 10 e) ∙ ap (λ r. 13 ∷ 10 ∷ r) f.1 }
+    by false e = let k : begins_with tab (d ∷ m) ≡ true = rw e at h in let f = tab_first (d ∷ m) k in record { by = carriage; more = f.0; is = ap (λ r. 13 ∷ r) f.1 }
+
+tab_after : (after : List ℕ) (p : Position) → headers.ends_line after ≡ true → begins_with tab (linebreak after p).rest ≡ true → TabAfter after
+unfolding is_break
+tab_after [] p e h = absurd (cc h)
+tab_after (c ∷ a) p e h = by (c == 10) (c == 13) refl refl e
+  where
+    by : (f r : Bool) → (c == 10) ≡ f → (c == 13) ≡ r → (f || r) ≡ true → TabAfter (c ∷ a)
+    by true r g k i =
+        let same : c ≡ 10 = eqb-true c 10 g in
+        let m = tab_first a (subst (λ x. begins_with tab (linebreak (x ∷ a) p).rest ≡ true) same h) in
+        record { by = feed; more = m.0; is = ap (λ x. x ∷ a) same ∙ ap (λ x. 10 ∷ x) m.1 }
+    by false true g k i =
+        let same : c ≡ 13 = eqb-true c 13 k in
+        subst (λ x. TabAfter (x ∷ a)) (sym same) (tab_after_return a p (subst (λ x. begins_with tab (linebreak (x ∷ a) p).rest ≡ true) same h))
+    by false false g k i = absurd (cc i)
+
+fits_alone : (k : Break) → Fits k []
+fits_alone feed = tt
+fits_alone carriage = refl
+fits_alone both = tt
+
+-- ---- a TAB at the start of the line after a header
+
+tab_fault : (collection : List ℕ) (here : Position) (text header next : List ℕ) (k : Break) (h : defs.Header) → text ≡ header ++ put k (tab ∷ next) → is_in_line header ≡ true → header_of header ≡ Some h → IsBlockFault collection here text problem.BlockScalarTab here
+tab_fault collection here text header next k h e inner is =
+    let ls : List Line = record { text = header; by = k } ∷ [] in
+    none.by_tab (spell ls []) header next h (e ∙ sym (spell_more ls [] (tab ∷ next))) (split_spell ls [] (inner, fits_alone k, tt) refl) is
+
+-- the same by the piece that is the header
+piece_tab_fault : (collection : List ℕ) (o : Option ℕ) (here : Position) (text piece next : List ℕ) (b : BlockRead) → text ≡ piece ++ next → block_read o piece next ≡ Some b → is_tabbed piece next ≡ true → IsBlockFault collection here text problem.BlockScalarTab here
+unfolding is_nul
+piece_tab_fault collection o here text piece next b e is tabbed =
+    let q = and_parts (scan.is_single (split piece).complete) (begins_with tab next) tabbed in
+    by (tab_first next q.1) q.0
+  where
+    by : (m : List ℕ) × (next ≡ tab ∷ m) → scan.is_single (split piece).complete ≡ true → IsBlockFault collection here text problem.BlockScalarTab here
+    by m single = from w.header w.lines w.is w.are
+      where
+        further : is_at_end next ≡ false
+        further = ap is_at_end m.1
+
+        w : Written piece next
+        w = written o piece next b is further
+
+        from : (l : Line) (ls : List Line) → piece ≡ spell (l ∷ ls) [] → AreLines (l ∷ ls) [] → IsBlockFault collection here text problem.BlockScalarTab here
+        from l (x ∷ ls) is_piece are =
+            absurd (cc (single, ap (λ y. scan.is_single (split y).complete) is_piece, ap (λ y. scan.is_single y.complete) (split_spell (l ∷ x ∷ ls) [] are refl)))
+        from l [] is_piece are = alone (header_of l.text) refl
+          where
+            lines_are : split piece ≡ record { complete = l.text ∷ []; last = [] }
+            lines_are = ap split is_piece ∙ split_spell (l ∷ []) [] are refl
+
+            read_is : read_body (header_of l.text) o (body [] further_text) next ≡ Some b
+            read_is = ap (λ x. read_lines o (l.text ∷ []) [] next x) (sym further) ∙ (ap (λ s. read_lines o s.complete s.last next (is_at_end next)) (sym lines_are) ∙ is)
+
+            alone : (y : Option defs.Header) → header_of l.text ≡ y → IsBlockFault collection here text problem.BlockScalarTab here
+            alone None i = absurd (cc (read_is, ap (λ y. read_body y o (body [] further_text) next) i))
+            alone (Some h) i = none.by_tab piece l.text m.0 h (e ∙ ap (λ r. piece ++ r) m.1) lines_are i
+
+-- ---- what stands after a scalar without content
+
+column_fault : (indent : ℕ) (bs : List ℕ) (here : Position) (text piece next : List ℕ) (b : BlockRead) → IsLeast indent bs → text ≡ piece ++ next → has_no_nul next ≡ true → block_read (collection_of indent) piece next ≡ Some b → is_tabbed piece next ≡ false → is_shallow indent here b piece next ≡ true
+    → IsBlockFault bs here text problem.BlockScalarIndentation (scan.further_position here piece next)
+column_fault indent bs here text piece next b least e clean is untabbed low = by (is_at_end next) refl (refused (block_may_end bs piece next) refl)
+  where
+    refused : (x : Bool) → block_may_end bs piece next ≡ x → block_may_end bs piece next ≡ false
+    refused false i = i
+    refused true i = absurd (cc ((block_is_clear indent here b piece next bs least is clean i).deep, low))
+
+    by : (x : Bool) → is_at_end next ≡ x → (x || read_may_end bs (block_read (innermost bs) piece next) piece next) ≡ false → IsBlockFault bs here text problem.BlockScalarIndentation (scan.further_position here piece next)
+    by true further k = absurd (cc k)
+    by false further k = parts (not (is_empty (texts w.lines) && begins_with tab next)) (are_empty b.column (texts w.lines)) (nat_lt (leading_spaces next) (least_column bs true)) (nat_le b.column (leading_spaces next)) refl refl refl refl asked
+      where
+        w : Written piece next
+        w = written (collection_of indent) piece next b is further
+
+        read_here : block_read (innermost bs) piece next ≡ Some b
+        read_here = ap (λ c. block_read c piece next) (sym least.0) ∙ is
+
+        asked : lines_may_end bs b.column (w.header.text ∷ texts w.lines) next ≡ false
+        asked = lines_asked indent b piece next bs least is w ∙ k
+
+        untabbed_by : (h : List ℕ) (ls : List (List ℕ)) (t : Bool) → (scan.is_single (h ∷ ls) && t) ≡ false → not (is_empty ls && t) ≡ true
+        untabbed_by h [] t i = ap not i
+        untabbed_by h (l ∷ ls) t i = refl
+
+        no_tab : not (is_empty (texts w.lines) && begins_with tab next) ≡ true
+        no_tab = untabbed_by w.header.text (texts w.lines) (begins_with tab next) (ap (λ x. scan.is_single x && begins_with tab next) (sym (lines_written piece next w)) ∙ untabbed)
+
+        parts : (t y l d : Bool) → not (is_empty (texts w.lines) && begins_with tab next) ≡ t → are_empty b.column (texts w.lines) ≡ y → nat_lt (leading_spaces next) (least_column bs true) ≡ l → nat_le b.column (leading_spaces next) ≡ d → (t && (not y || l || d)) ≡ false
+            → IsBlockFault bs here text problem.BlockScalarIndentation (scan.further_position here piece next)
+        parts false y l d f g i j k = absurd (cc (f, no_tab))
+        parts true false l d f g i j k = absurd (cc k)
+        parts true true true d f g i j k = absurd (cc k)
+        parts true true false true f g i j k = absurd (cc k)
+        parts true true false false f g i j k = none.by_column piece w.header.text next (texts w.lines) b e read_here further (lines_written piece next w) g (grind (arith, nat_tests, i)) (grind (arith, nat_tests, j))
+
+-- ---- the scan
+
+module _ (text : List ℕ) (t : ScannerState) (a : Arrives text t) (some : is_empty t.rest ≡ false) (out : is_empty t.held.flow ≡ true) where
+  abbrev collections : List ℕ
+  collections = columns t.held.indent t.held.indents
+
+  -- the levels without those that open no collection
+  closed : AreClosed t.held.indent t.held.indents t.held.tokens (without_open t.held.indent t.held.indents t.held.tokens)
+  closed = without_is t.held.indent t.held.indents t.held.tokens a.are_levels
+
+  least : (s : Held) → s ≡ record t.held { keys = saved_keys t.held } → IsLeast (unroll_non_block_indents (allow_key true s)).indent collections
+  unfolding unroll_non_block_indents
+  least s e =
+      subst (λ h. IsLeast (unroll_non_block_indents (allow_key true h)).indent collections) (sym e)
+      (closed.is_least.0 ∙ ap innermost (sym closed.same_columns), ap (λ bs. least_column bs true) closed.same_columns ∙ closed.is_least.1)
+
+  -- the block scalar that begins here may not stand
+  block_stuck : (why : Problem) (at : Position) → IsBlockFault collections t.held.position t.rest why at → IsStuck text why at
+  block_stuck why at x =
+      stuck text t a some [] why at (λ c may.
+      let flow_is = in_flow_is text t a some c [] in
+      let blocks_are : (site_at_place (account_by text t a some c []) t.held.position).blocks ≡ collections = ap (λ b. (site_in b gives_node t.held.position a.base.site).blocks) flow_is ∙ a.blocks_are in
+      no_block (flow_is ∙ ap not out) (subst (λ bs. IsBlockFault bs t.held.position t.rest why at) (sym blocks_are) x))
+
+  -- `|` or `>`
+  header_told : (style : BlockStyle) (line after : List ℕ) → t.rest ≡ indicator_of style ∷ (line ++ after) → is_in_line line ≡ true → headers.ends_line after ≡ true → (g : Fault) → HeaderEndsAs t.held.position style line after (Err g) → Told text g
+  header_told style line after e inline ends g (headers.reads h is free j) = absurd (cc j)
+  header_told style line after e inline ends g (headers.tabbed h is begins j) =
+      let same : At problem.BlockScalarTab t.held.position ≡ g = cc j in
+      let f : TabAfter after = tab_after after t.held.position ends begins in
+      subst (λ f. Told text f) same
+      (λ _. block_stuck problem.BlockScalarTab t.held.position
+      (tab_fault collections t.held.position t.rest (indicator_of style ∷ line) f.more f.by h (e ∙ ap (λ r. indicator_of style ∷ (line ++ r)) f.is) (style_inner style line inline) is))
+  header_told style line after e inline ends g (headers.zero_digit lacks zero j) =
+      let same : At problem.BlockScalarZero t.held.position ≡ g = cc j in
+      subst (λ f. Told text f) same (λ _. none_here text t a some problem.BlockScalarZero (none.headless style line after problem.BlockScalarZero t.held.position (ap not out) e inline ends lacks (none.by_zero zero)))
+  header_told style line after e inline ends g (headers.comment h before more lacks is cut j) =
+      let same : At problem.CommentNotSeparated (headers.along before (past t.held.position)) ≡ g = cc j in
+      let place : headers.along before (past t.held.position) ≡ position_after t.held.position (indicator_of style ∷ before) (35 ∷ more) = along_text style before (35 ∷ more) t.held.position (inner_first before (35 ∷ more) (ap is_in_line (sym cut) ∙ inline)) in
+      subst (λ f. Told text f) same (subst (λ p. Told text (At problem.CommentNotSeparated p)) (sym place)
+      (λ _. none_begins text t a some problem.CommentNotSeparated _
+      (none.headless style line after problem.CommentNotSeparated _ (ap not out) e inline ends lacks (none.by_comment h before more is cut))))
+  header_told style line after e inline ends g (headers.no_header lacks zero more begins j) =
+      let same : At problem.BlockScalarHeader t.held.position ≡ g = cc j in
+      subst (λ f. Told text f) same (λ _. none_here text t a some problem.BlockScalarHeader (none.headless style line after problem.BlockScalarHeader t.held.position (ap not out) e inline ends lacks (none.by_text zero more begins)))
+
+  block_refused : (style : BlockStyle) (indent : ℕ) (more : List ℕ) → t.rest ≡ indicator_of style ∷ more → IsLeast indent collections → (f : Fault) → block (is_literal_style style) indent t.rest t.held.position ≡ Err f → Told text f
+  block_refused style indent more e deep f k =
+      by (block (is_literal_style style) indent (indicator_of style ∷ more) t.held.position) (ap (λ r. block (is_literal_style style) indent r t.held.position) (sym e) ∙ k) (blocks.scans_end style indent more t.held.position (some_chars more clean))
+    where
+      clean : has_no_nul more ≡ true
+      clean = (and_parts (not (is_nul (indicator_of style))) (has_no_nul more) (subst (λ r. has_no_nul r ≡ true) e a.is_clean)).1
+
+      by : (x : Result (Read Block) Fault) → x ≡ Err f → BlockEndsAs style indent t.held.position more x → Told text f
+      by x i (block_ends.bad_header line after g cut inline ends why j) =
+          let same : g ≡ f = cc (i, j) in
+          subst (λ h. Told text h) same (header_told style line after (e ∙ ap (λ r. indicator_of style ∷ r) cut) inline ends g why)
+      by x i (block_ends.scalar piece next b cut is looks (scan.read free deep j)) = absurd (cc (i, j))
+      by x i (block_ends.scalar piece next b cut is looks (scan.shallow free low j)) =
+          let same : At problem.BlockScalarIndentation (scan.further_position t.held.position piece next) ≡ f = cc (i, j) in
+          subst (λ g. Told text g) same
+          (λ _. block_stuck problem.BlockScalarIndentation (scan.further_position t.held.position piece next)
+          (column_fault indent collections t.held.position t.rest piece next b deep (e ∙ cut) (clean_after piece next (subst (λ r. has_no_nul r ≡ true) (e ∙ cut) a.is_clean)) is free low))
+      by x i (block_ends.scalar piece next b cut is looks (scan.tabbed begins j)) =
+          let same : At problem.BlockScalarTab t.held.position ≡ f = cc (i, j) in
+          subst (λ g. Told text g) same (λ _. block_stuck problem.BlockScalarTab t.held.position (piece_tab_fault collections (collection_of indent) t.held.position t.rest piece next b (e ∙ cut) is begins))
+
+  pub block_told : (literal : Bool) (more : List ℕ) → t.rest ≡ (if literal then 124 else 62) ∷ more → Faults (Told text) (fetch_block_scalar literal t)
+  unfolding fetch_block_scalar
+  block_told true more e = read _ (block true _ t.rest t.held.position) _ (λ f k. block_refused literal _ more e (least _ (saved_is t.held)) f k) (λ x k. goes)
+  block_told false more e = read _ (block false _ t.rest t.held.position) _ (λ f k. block_refused folded _ more e (least _ (saved_is t.held)) f k) (λ x k. goes)

@@ -1,0 +1,34 @@
+-- What holds of the fault of a step, if it has one: rules for the forms that the model's functions are made of.
+use Rattle.std.proofs.Common.{◌≡◌, Bool, true, false, if◌then◌else◌, Result, Ok, Err, refl, subst}
+use Rattle.yaml_tokens.specs.declared.problem.Fault.{Fault}
+use Rattle.model_scanner.specs.Machine.{Read}
+use Rattle.model_scanner.specs.State.{Held, ScannerState, ◌>>=◌, with_held, go_on, lexed}
+
+-- F holds of the fault, if there is one
+pub data Faults (F : Fault → Type 0) {A : Type 0} : Result A Fault → Type 0 where
+  fault : {f : Fault} → F f → Faults F (Err f)
+  goes : {x : A} → Faults F (Ok x)
+
+pub fault_is : {F : Fault → Type 0} {A : Type 0} {r : Result A Fault} (f : Fault) → Faults F r → r ≡ Err f → F f
+fault_is {F = F} f (fault {f = g} p) e = let same : g ≡ f = cc e in subst F same p
+fault_is f goes e = absurd (cc)
+
+pub in_turn : {F : Fault → Type 0} {A B : Type 0} {r : Result A Fault} {k : A → Result B Fault} → Faults F r → ((x : A) → r ≡ Ok x → Faults F (k x)) → Faults F (r >>= k)
+in_turn (fault p) h = fault p
+in_turn goes h = h _ refl
+
+pub tried : {F : Fault → Type 0} (t : ScannerState) {r : Result Held Fault} → Faults F r → Faults F (with_held t r)
+tried t (fault p) = fault p
+tried t goes = goes
+
+pub read : {F : Fault → Type 0} {A : Type 0} (h : Held) (r : Result (Read A) Fault) (go : A → ScannerState → Result ScannerState Fault) → ((f : Fault) → r ≡ Err f → F f) → ((x : Read A) → r ≡ Ok x → Faults F (go x.value (go_on x h))) → Faults F (lexed r h go)
+read h (Ok x) go n f = f x refl
+read h (Err e) go n f = fault (n e refl)
+
+pub checked : {F : Fault → Type 0} {A : Type 0} {r : Result A Fault} (b : Bool) (f : Fault) → (b ≡ true → F f) → (b ≡ false → Faults F r) → Faults F (if b then Err f else r)
+checked true f p h = fault (p refl)
+checked false f p h = h refl
+
+pub either : {F : Fault → Type 0} {A : Type 0} {r q : Result A Fault} (b : Bool) → (b ≡ true → Faults F r) → (b ≡ false → Faults F q) → Faults F (if b then r else q)
+either true h g = h refl
+either false h g = g refl

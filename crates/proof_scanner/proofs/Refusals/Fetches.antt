@@ -1,0 +1,140 @@
+-- The faults of a fetch: each of a kind that is told is one by which the text is stuck.
+use Rattle.std.proofs.Common.{◌≡◌, ℕ, ◌+◌, ◌≤◌, List, [], ◌∷◌, Bool, true, false, not, ◌==◌, ◌&&◌, ◌||◌, nat_le, nat_lt, refl, ap, sym, ◌∙◌, subst, arith, inl, inr}
+use Rattle.std.proofs.lemmas.Bool.{eqb-true}
+use Rattle.std.proofs.lemmas.Bool.Decides.{nat_tests}
+use Rattle.defs_text.specs.Classes.{is_document_marker}
+use Rattle.defs_text.specs.Text.{is_empty}
+use Rattle.defs_text.specs.FlowScalar.{begins_with}
+use Rattle.defs_token.specs.Account.{is_adjacent, before_past}
+use Rattle.defs_token.specs.Token.{Tok}
+use Rattle.defs_token.specs.Step.{gives_node}
+use Rattle.defs_token.specs.Indentation.{least_column}
+use Rattle.defs_token.specs.RowAccount.{before_by, site_in}
+use Rattle.yaml_tokens.specs.declared.problem.Fault.TheVariants.{At}
+use Rattle.yaml_tokens.specs.declared.problem.Problem.TheVariants as problem
+use Rattle.model_scanner.specs.declared.level.FlowLevel.TheVariants.{Mapping, Entry}
+use Rattle.model_scanner.specs.declared.level.Indent.{Indent}
+use Rattle.model_scanner.specs.State.{Held, ScannerState, peek, after}
+use Rattle.model_scanner.specs.Keys.{has_required}
+use Rattle.model_scanner.specs.Document.{next_line, end_stream, fetch_stream_end}
+use Rattle.model_scanner.specs.Fetch.{fetch_token, comes_marker, fetch_indented, fetch_first_column, fetch_content, fetch_here}
+use Rattle.proof_scanner.proofs.Cut.Nodes.{IsDeep}
+use Rattle.proof_scanner.proofs.Cut.Dispatch.{token_holds}
+use Rattle.proof_scanner.proofs.Cut.Fetched.{begins_with_this, no_marker, is_deep, goes_on_here, Marked, marked}
+use Rattle.proof_scanner.specs.StandsInRow.{AreLevels, columns, has_open_level}
+use Rattle.proof_scanner.specs.Arrives.{Arrives, site_here}
+use Rattle.proof_scanner.proofs.Sound.Passed.{least_of_levels}
+use Rattle.proof_scanner.proofs.Complete.Around.Levels.{levels_end}
+use Rattle.proof_scanner.specs.Stuck as defs
+use Rattle.proof_scanner.specs.Stuck.{IsStuck, may_not_stand, site_at_place, begins_document_at}
+use Rattle.proof_scanner.proofs.Refusals.Faults.{Faults, fault, tried, checked, either}
+use Rattle.proof_scanner.proofs.Refusals.Places.{Told, account_by, not_told, stuck, in_flow_is}
+use Rattle.proof_scanner.proofs.Refusals.Nodes.{none_here, name_told, tag_told, quoted_told}
+use Rattle.proof_scanner.proofs.Refusals.Blocks.{block_told}
+use Rattle.proof_scanner.proofs.Refusals.Plains.{plain_told}
+use Rattle.proof_scanner.proofs.Refusals.Indicators.{directive_told, marker_told, document_end_told, dash_told, question_told, colon_told, opening_told, closing_told, comma_told}
+use Rattle.proof_scanner.proofs.Refusals.Waiting.{NoneWaits}
+use Rattle.proof_scanner.specs.NoPiece as none
+
+module _ (text : List ℕ) (t : ScannerState) (a : Arrives text t) (some : is_empty t.rest ≡ false) (waits : NoneWaits text t a) where
+  -- ---- the token by the first character
+
+  token_told : IsDeep t.held → ((t.held.position.col == 0) && is_document_marker t.rest) ≡ false → (t.held.position.col ≡ 0 → (peek t.rest == 37) ≡ false) → Faults (Told text) (fetch_token t)
+  token_told deep marker percent =
+      token_holds (Faults (Told text)) t (is_adjacent (before_past (before_by a.base.site.before) a.separation)) a.is_clean a.is_solid (λ inside. sym (a.is_adjacent_here inside some)) marker (record {
+        anchor = λ alias more e. name_told text t a some alias more e;
+        tag = λ more e. tag_told text t a some more e;
+        plain = λ comes. plain_told text t a some deep comes;
+        quoted = λ single more e. quoted_told text t a some deep single more e;
+        block = λ literal more e o. block_told text t a some o literal more e;
+        dash = λ more e gap. dash_told text t a some more e gap;
+        question = λ more e gap. question_told text t a some more e gap;
+        colon = λ more e i. colon_told text t a some waits more e i;
+        open_bracket = λ more e. opening_told text t a some Entry Tok.flow_sequence_start 91 more e (inl refl);
+        open_brace = λ more e. opening_told text t a some Mapping Tok.flow_mapping_start 123 more e (inr refl);
+        close_bracket = λ more e. closing_told text t a some Tok.flow_sequence_end 93 more e refl;
+        close_brace = λ more e. closing_told text t a some Tok.flow_mapping_end 125 more e refl;
+        comma = λ more e. comma_told text t a some more e;
+        percent = λ more e. fault {f = At problem.UnexpectedPercent t.held.position} (λ _. none_here text t a some problem.UnexpectedPercent (none.percent more e (no_column more e)));
+        at_sign = λ more e. fault {f = At problem.UnexpectedAt t.held.position} (λ _. none_here text t a some problem.UnexpectedAt (none.at_sign more e));
+        backtick = λ more e. fault {f = At problem.UnexpectedBacktick t.held.position} (λ _. none_here text t a some problem.UnexpectedBacktick (none.backtick more e));
+      }) some
+    where
+      no_column : (more : List ℕ) → t.rest ≡ 37 ∷ more → (t.held.position.col == 0) ≡ false
+      no_column more e = by (t.held.position.col == 0) refl
+        where
+          by : (b : Bool) → (t.held.position.col == 0) ≡ b → b ≡ false
+          by false i = refl
+          by true i = absurd (cc (percent (eqb-true t.held.position.col 0 i), ap (λ r. peek r == 37) e))
+
+  -- ---- columns
+
+  least_here : (i : ℕ) (ds : List Indent) → AreLevels i ds → nat_lt (t.held.position.col + 1) i ≡ true → nat_le (least_column (columns i ds) (has_open_level ds)) t.held.position.col ≡ false
+  least_here i [] l low = grind (arith, nat_tests, l, low)
+  least_here i (d ∷ ds) l low = grind (arith, nat_tests, low, least_of_levels i (d ∷ ds) l refl)
+
+  no_line : ((t.held.position.col == 0) && is_document_marker t.rest) ≡ false → (t.held.position.col ≡ 0 → (peek t.rest == 37) ≡ false) → begins_document_at t.held.position t.rest ≡ false
+  no_line none percent = by (t.held.position.col == 0) refl none
+    where
+      other : (r : List ℕ) → (peek r == 37) ≡ false → begins_with 37 r ≡ false
+      other [] h = refl
+      other (c ∷ r) h = h
+
+      by : (b : Bool) → (t.held.position.col == 0) ≡ b → (b && is_document_marker t.rest) ≡ false → (b && (begins_with 37 t.rest || is_document_marker t.rest)) ≡ false
+      by false e m = refl
+      by true e m = ap (λ x. x || is_document_marker t.rest) (other t.rest (percent (eqb-true t.held.position.col 0 e))) ∙ m
+
+  shallow : begins_document_at t.held.position t.rest ≡ false → nat_lt (t.held.position.col + 1) t.held.indent ≡ true → IsStuck text problem.InvalidIndentation t.held.position
+  shallow none low = by (is_empty t.held.flow) refl
+    where
+      by : (out : Bool) → is_empty t.held.flow ≡ out → IsStuck text problem.InvalidIndentation t.held.position
+      by true e =
+          let deep : t.held.indent ≤ t.held.position.col + 1 = levels_end t.held.position.col a.base.site.blocks a.base.site.awaits t.held.indent t.held.indents a.are_levels
+          (subst (λ b. (site_here (not b) t.held.position a.base.site).blocks ≡ columns t.held.indent t.held.indents) e a.blocks_are)
+          (subst (λ b. (site_here (not b) t.held.position a.base.site).awaits ≡ has_open_level t.held.indents) e a.awaits_is) in
+          absurd (grind (arith, nat_tests, deep, low))
+      by false e =
+          stuck text t a some [] problem.InvalidIndentation t.held.position (λ c may.
+          let flow_is = in_flow_is text t a some c [] in
+          let blocks_are : (site_at_place (account_by text t a some c []) t.held.position).blocks ≡ columns t.held.indent t.held.indents = ap (λ b. (site_in b gives_node t.held.position a.base.site).blocks) flow_is ∙ a.blocks_are in
+          let awaits_is : (site_at_place (account_by text t a some c []) t.held.position).awaits ≡ has_open_level t.held.indents = ap (λ b. (site_in b gives_node t.held.position a.base.site).awaits) flow_is ∙ a.awaits_is in
+          may_not_stand (defs.shallow (flow_is ∙ ap not e) none
+          (ap (λ bs. nat_le (least_column bs (site_at_place (account_by text t a some c []) t.held.position).awaits) t.held.position.col) blocks_are ∙
+          (ap (λ w. nat_le (least_column (columns t.held.indent t.held.indents) w) t.held.position.col) awaits_is ∙ least_here t.held.indent t.held.indents a.are_levels low))))
+
+  indented_told : ((t.held.position.col == 0) && is_document_marker t.rest) ≡ false → (t.held.position.col ≡ 0 → (peek t.rest == 37) ≡ false) → Faults (Told text) (fetch_indented t)
+  unfolding fetch_indented
+  indented_told none percent =
+      checked (nat_lt (t.held.position.col + 1) t.held.indent) (At problem.InvalidIndentation t.held.position) (λ low _. shallow (no_line none percent) low) (λ e. token_told (is_deep t.held.position.col t.held.indent e) none percent)
+
+  -- ---- markers
+
+  first_told : t.held.position.col ≡ 0 → Faults (Told text) (fetch_first_column t)
+  unfolding fetch_first_column
+  first_told col =
+      either (peek t.rest == 37) (λ e. directive_told text t a some (after t.rest) (begins_with_this t.rest 37 some e) col) (λ n.
+      either (comes_marker 45 t.rest) (λ e. marker_told text t a some Tok.document_start) (λ x.
+      either (comes_marker 46 t.rest) (λ e. let m : Marked 46 t.rest = marked 46 t.rest refl e in document_end_told text t a some m.more m.is_text m.gap col) (λ y.
+      indented_told (by (t.held.position.col == 0) (no_marker t.rest x y)) (λ _. n))))
+    where
+      by : (b : Bool) → is_document_marker t.rest ≡ false → (b && is_document_marker t.rest) ≡ false
+      by true e = e
+      by false e = refl
+
+  content_told : Faults (Told text) (fetch_content t)
+  unfolding fetch_content
+  content_told = either (t.held.position.col == 0) (λ e. first_told (eqb-true t.held.position.col 0 e)) (λ e. indented_told (rw e refl) (λ col. absurd (grind (arith, e, col))))
+
+-- ---- the text's end
+
+ended_told : (text : List ℕ) (s : Held) → Faults (Told text) (end_stream s)
+ended_told text s = not_told text (has_required s.keys) problem.KeyExpected s.position _ refl
+
+end_told : (text : List ℕ) (t : ScannerState) → Faults (Told text) (fetch_stream_end t)
+unfolding fetch_stream_end
+end_told text t = tried t (ended_told text (record t.held { position = next_line t.held.position }))
+
+-- a token of a text that goes on, or the stream's end
+pub here_told : (text : List ℕ) (t : ScannerState) (a : Arrives text t) → NoneWaits text t a → Faults (Told text) (fetch_here t)
+unfolding fetch_here
+here_told text t a waits = either (peek t.rest == 0) (λ _. end_told text t) (λ e. let some = goes_on_here t.rest e in content_told text t a some waits)

@@ -1,0 +1,596 @@
+-- Faults of indicators, markers and directives.
+use Rattle.std.proofs.Common.{◌≡◌, ℕ, suc, ◌≤◌, List, [], ◌∷◌, ◌++◌, Bool, true, false, not, ◌==◌, ◌&&◌, ◌||◌, nat_le, nat_lt, slice_index, append_assoc, length, if◌then◌else◌, Option, Some, None, Result, Ok, Err, refl, ap, sym, ◌∙◌, subst, arith, ◌+◌}
+use Rattle.std.specs.Prelude.{◌⊎◌}
+use Rattle.std.proofs.Common.{inl, inr}
+use Rattle.std.proofs.lemmas.Bool.{and_parts, eqb-true}
+use Rattle.std.proofs.lemmas.Bool.Decides.{nat_tests}
+use Rattle.defs_text.specs.Breaks.{has_no_break}
+use Rattle.defs_text.specs.Classes.{is_one_of, is_blank, is_at_gap}
+use Rattle.defs_text.specs.Position.{Position, position_after}
+use Rattle.defs_text.specs.Text.{is_empty}
+use Rattle.defs_text.specs.Directives.{directive_of}
+use Rattle.defs_token.specs.Account.{is_adjacent, before_past}
+use Rattle.defs_token.specs.Plain.{is_value_indicator}
+use Rattle.defs_token.specs.Separation.{is_separation}
+use Rattle.defs_token.specs.RowAccount.{before_by}
+use Rattle.defs_token.specs.Beginning.{IsPlace}
+use Rattle.defs_token.specs.Token.{Tok}
+use Rattle.defs_text.specs.FlowScalar.{begins_with}
+use Rattle.defs_text.specs.Tags as tags
+use Rattle.defs_text.specs.Tags.{leading}
+use Rattle.defs_token.specs.Step.{blanks_and_comment, past_blanks_and_comment}
+use Rattle.defs_token.specs.Tokens.{past_line_rest}
+use Rattle.defs_token.specs.Indentation.{begins_entry, begins_with_alpha}
+use Rattle.defs_token.specs.Key.{Line, free, taken, waits, begins_free_line, line_past_separation}
+use Rattle.defs_token.specs.FlowEntry as entry
+use Rattle.defs_token.specs.FlowEntry.{Entry, has_no_pair, takes_pair}
+use Rattle.yaml_tokens.specs.declared.problem.Fault.{Fault}
+use Rattle.yaml_tokens.specs.declared.problem.Fault.TheVariants.{OutOfMemory, At}
+use Rattle.yaml_tokens.specs.declared.problem.Problem.TheVariants as problem
+use Rattle.model_scanner.specs.declared.context.SkipTabs.TheVariants.{Yes, No}
+use Rattle.yaml_chars.specs.Class.{is_alpha, is_alphanumeric, is_blank_or_breakz, is_breakz}
+use Rattle.model_scanner.specs.declared.context.Whitespace.{Whitespace}
+use Rattle.model_scanner.specs.Machine.{Read, past}
+use Rattle.model_scanner.specs.Blanks.{space}
+use Rattle.model_scanner.specs.Directive.{directive}
+use Rattle.model_scanner.specs.declared.level.FlowLevel.{FlowLevel}
+use Rattle.model_scanner.specs.declared.level.FlowLevel.TheVariants as level
+use Rattle.model_scanner.specs.State.{Key, Held, ScannerState, peek, after, pop, with_top, go_on, lexed, skip_indicator, in_flow, try_held, on_held}
+use Rattle.model_scanner.specs.Keys.{is_required, top_key, remove_implicit_key}
+use Rattle.model_scanner.specs.Indents.{unroll_indent, roll_indent, roll_one_col_indent, with_levels, Levels}
+use Rattle.model_scanner.specs.Space.{skip_yaml_whitespace, white}
+use Rattle.model_scanner.specs.Flow.{allow_key, increase_flow_level, deepened_flow, begin_flow, pass_indicator, fetch_flow_collection_start, end_pair, end_flow_pair, decrease_flow_level, ended_flow, end_flow, fetch_flow_collection_end, next_entry, end_entry, fetch_flow_entry}
+use Rattle.model_scanner.specs.Block.{check_block_entry, check_dash, roll_entry, fetch_block_entry, begin_key, check_key_space, fetch_key, check_after_tab, check_value_space, opens_pair, paired, begin_pair, insert_key, begin_keyless_pair, begin_keyless_mapping, begin_keyless_value, value_of, fetch_value}
+use Rattle.model_scanner.specs.Document.{closed_key, begin_line, fetch_directive, fetch_document_marker, check_document_end, fetch_document_end}
+use Rattle.model_scanner.specs.Fetch.{is_value}
+use Rattle.model_scanner.proofs.Holds as holds
+use Rattle.model_scanner.proofs.Holds.{Holds, held_of}
+use Rattle.proof_lexers.specs.DirectiveEnds as directives
+use Rattle.proof_lexers.specs.DirectiveEnds.{DirectiveEndsAs, IsDirectiveRefusal}
+use Rattle.proof_lexers.specs.NameEnds.{further}
+use Rattle.proof_lexers.specs.PlainEnds as plain_ends
+use Rattle.proof_lexers.specs.Separations.{GoesOverAs, misses, SpacesAs, after_separation, after_space, has}
+use Rattle.proof_lexers.specs.Separations as separations
+use Rattle.proof_lexers.proofs.Directives.Lines.{directives_end}
+use Rattle.proof_lexers.proofs.Separation.WhiteSpace.{white_space_is_passed}
+use Rattle.proof_scanner.specs.Choices.{outside_key, line_by, entries_by, chosen, entry_by, had_by, MayChoose}
+use Rattle.proof_scanner.specs.Arrives.{Arrives, IsLineHere}
+use Rattle.proof_scanner.specs.StandsInRow.{is_free, AreEntries, IsOpenOutside}
+use Rattle.proof_scanner.proofs.Sound.Arrivals as arrivals
+use Rattle.proof_scanner.proofs.Sound.Stales.{no_entries}
+use Rattle.proof_scanner.proofs.Sound.DocumentLines.{line_begun}
+use Rattle.proof_lexers.proofs.Bridges.{same_alpha}
+use Rattle.proof_lexers.proofs.Separation.Spaces.{spaces_are_passed}
+use Rattle.proof_scanner.proofs.Cut.Dispatch.{gap_here, value_is}
+use Rattle.proof_scanner.proofs.Cut.Levels.{one_indents, one_indent, rolled_one_is}
+use Rattle.proof_scanner.proofs.Cut.Passes.{Spaced, spaced, spaces_skipped}
+use Rattle.proof_scanner.proofs.Sound.QuotedEnds.{not_at_end}
+use Rattle.proof_scanner.proofs.Sound.Blanks.{same_in_line, line_rest_in_line, line_rest_cut, line_rest_fills, found_in, spaced_parted}
+use Rattle.proof_scanner.proofs.Sound.Passed.{same_has_break}
+use Rattle.proof_scanner.proofs.Refusals.TabsAfterColon.{no_space}
+use Rattle.yaml_tokens.specs.declared.problem.Problem.{Problem}
+use Rattle.proof_scanner.proofs.Refusals.Rolled.{rolled_place, removed_is}
+use Rattle.proof_scanner.proofs.Cut.Saved.{saved_keys, saved_is}
+use Rattle.proof_scanner.specs.NoPiece as none
+use Rattle.proof_scanner.specs.NoPiece.{IsFollowed}
+use Rattle.proof_scanner.specs.Stuck as defs
+use Rattle.proof_scanner.specs.Stuck.{IsStuck, HasNoKey, no_key, may_not_stand, is_taken_line, is_taken, is_value_here}
+use Rattle.proof_scanner.proofs.Refusals.Faults.{Faults, fault, goes, read, in_turn, tried, checked, either}
+use Rattle.proof_scanner.proofs.Refusals.Spaces.{space_told, spaces_told, no_comment, no_comment_left, solid_past}
+use Rattle.proof_scanner.proofs.Refusals.Places.{Told, account_by, place, many_levels, IsAllowed, stuck, in_flow_is, followed_stuck}
+use Rattle.proof_scanner.proofs.Refusals.Nodes.{none_begins}
+use Rattle.proof_scanner.proofs.Refusals.Waiting.{NoneWaits}
+
+-- ---- keys that must be one
+
+pub remove_told : (text : List ℕ) (s : Held) → Faults (Told text) (remove_implicit_key s)
+unfolding remove_implicit_key
+remove_told text s = checked (is_required (top_key s.keys)) (At problem.KeyExpected s.position) (λ _ h. absurd (cc h)) (λ _. goes)
+
+closed_told : {text : List ℕ} {r : Result Held Fault} → Faults (Told text) r → Faults (Told text) (closed_key r)
+closed_told (fault p) = fault p
+closed_told goes = goes
+
+pub line_told : (text : List ℕ) (s : Held) → Faults (Told text) (begin_line s)
+unfolding begin_line
+line_told text s = closed_told (remove_told text (unroll_indent 0 s))
+
+-- ---- positions
+
+unrolled_position : (limit : ℕ) (s : Held) → (unroll_indent limit s).position ≡ s.position
+unfolding unroll_indent
+unrolled_position limit s = by (in_flow s) _
+  where
+    by : (b : Bool) (u : Levels) → (if b then s else with_levels s u).position ≡ s.position
+    by true u = refl
+    by false u = refl
+
+line_stays : (t : ScannerState) → Holds (λ u. (u.rest ≡ t.rest) × (u.held.position ≡ t.held.position)) (try_held begin_line t)
+line_stays t = holds.tried t (begin_line t.held) (line_begun t.held (unroll_indent 0 t.held) refl) (λ s k. (refl, ap (λ h. h.position) k.1 ∙ unrolled_position 0 t.held))
+
+module _ (text : List ℕ) (t : ScannerState) (a : Arrives text t) (some : is_empty t.rest ≡ false) where
+  -- ---- lines for the document
+
+  line_refused : (line next : List ℕ) → t.held.position.col ≡ 0 → t.rest ≡ 37 ∷ (line ++ next) → has_no_break line ≡ true → directives.ends_line next ≡ true → directive_of (37 ∷ line) ≡ None → (f : Fault) → IsDirectiveRefusal t.held.position line f → Told text f
+  line_refused line next col e one ends lacks OutOfMemory r = tt
+  line_refused line next col e one ends lacks (At why q) r = λ _. none_begins text t a some why q (none.undirected line next why q col e one ends lacks r)
+
+  pub directive_told : (more : List ℕ) → t.rest ≡ 37 ∷ more → t.held.position.col ≡ 0 → Faults (Told text) (fetch_directive t)
+  unfolding fetch_directive
+  directive_told more e col =
+      in_turn (tried t (line_told text t.held)) (λ u k.
+      let s : (u.rest ≡ t.rest) × (u.held.position ≡ t.held.position) = held_of u (line_stays t) k in
+      read u.held (directive u.rest u.held.position) _
+      (λ f j. by f (directive (37 ∷ more) t.held.position) (ap (λ r. directive r t.held.position) (sym (s.0 ∙ e)) ∙ (ap (λ q. directive u.rest q) (sym s.1) ∙ j)) (directives_end more t.held.position)) (λ x j. goes))
+    where
+      by : (f : Fault) (x : Result (Read Tok) Fault) → x ≡ Err f → DirectiveEndsAs t.held.position more x → Told text f
+      by f x i (directives.reads line next d cut one ends is j) = absurd (cc (i, j))
+      by f x i (directives.refuses line next g cut one ends lacks why j) =
+          let same : g ≡ f = cc (i, j) in subst (λ h. Told text h) same (line_refused line next col (e ∙ ap (λ r. 37 ∷ r) cut) one ends lacks g why)
+
+  pub marker_told : (tok : Tok) → Faults (Told text) (fetch_document_marker tok t)
+  unfolding fetch_document_marker
+  marker_told tok = in_turn (tried t (line_told text t.held)) (λ u e. goes)
+
+  -- ---- what follows
+
+  -- a fault at the end of what was passed on the line
+  followed_at : (why : Problem) (q : Position) (p : Position) (passed content : List ℕ) → q ≡ position_after p passed content
+      → IsFollowed (in_flow t.held) t.held.position t.rest why (position_after p passed content) → Told text (At why q)
+  followed_at why q p passed content e x = λ _. subst (λ z. IsStuck text why z) (sym e) (followed_stuck text t a some why (position_after p passed content) x)
+
+  three_past : (p : Position) → past (past (past p)) ≡ further 3 p
+  three_past p =
+      let i : ((p.index + 1) + 1) + 1 ≡ p.index + 3 = omega arith in
+      let c : ((p.col + 1) + 1) + 1 ≡ p.col + 3 = omega arith in
+      ap (λ x. let q : Position = record { index = x; line = p.line; col = ((p.col + 1) + 1) + 1 } in q) i ∙ ap (λ y. let q : Position = record { index = p.index + 3; line = p.line; col = y } in q) c
+
+  marked_state : (tok : Tok) (c : ℕ) (more : List ℕ) → t.rest ≡ c ∷ c ∷ c ∷ more → Holds (λ u. (u.rest ≡ more) × (u.held.position ≡ further 3 t.held.position)) (fetch_document_marker tok t)
+  unfolding fetch_document_marker
+  marked_state tok c more e = holds.chained (line_stays t) (λ u s. holds.went (ap (λ r. after (after (after r))) (s.0 ∙ e), ap (λ p. past (past (past p))) s.1 ∙ three_past t.held.position))
+
+  end_checked : (u v : ScannerState) (more : List ℕ) → t.rest ≡ 46 ∷ 46 ∷ 46 ∷ more → is_at_gap more ≡ true → t.held.position.col ≡ 0 → (u.rest ≡ more) × (u.held.position ≡ further 3 t.held.position) → Spaced Yes u v → Faults (Told text) (check_document_end v)
+  unfolding check_document_end
+  end_checked u v more e gap col m s = by (is_breakz (peek v.rest)) refl
+    where
+      passed : List ℕ
+      passed = s.blanks ++ s.comment
+
+      by : (b : Bool) → is_breakz (peek v.rest) ≡ b → Faults (Told text) (if b then Ok v else Err (At problem.ContentAfterDocumentEnd v.held.position))
+      by true i = goes
+      by false i =
+          fault {f = At problem.ContentAfterDocumentEnd v.held.position} (followed_at problem.ContentAfterDocumentEnd v.held.position (further 3 t.held.position) (s.blanks ++ s.comment) v.rest
+          (ap (λ h. h.position) s.is_held ∙ ap (λ q. position_after q (s.blanks ++ s.comment) v.rest) m.1)
+          (none.after_end more (s.blanks ++ s.comment) v.rest col e gap (record { is_text = sym m.0 ∙ (s.is_rest ∙ sym (append_assoc s.blanks s.comment v.rest)); is_filled = s.is_filled; is_on_line = s.no_break }) (not_at_end v.rest i) (solid_past v.rest s.ends i)))
+
+  pub document_end_told : (more : List ℕ) → t.rest ≡ 46 ∷ 46 ∷ 46 ∷ more → is_at_gap more ≡ true → t.held.position.col ≡ 0 → Faults (Told text) (fetch_document_end t)
+  unfolding fetch_document_end
+  document_end_told more e gap col =
+      in_turn (marker_told Tok.document_end) (λ u k. in_turn (spaces_told text Yes u (λ h. absurd (cc (h, ap (λ r. begins_with 35 r) (held_of u (marked_state Tok.document_end 46 more e) k).0, no_comment more gap)))) (λ v i.
+      end_checked u v more e gap col (held_of u (marked_state Tok.document_end 46 more e) k) (held_of v (spaces_skipped Yes u) i)))
+
+  -- ---- what may begin
+
+  line_taken : (c : Bool) (cs : List Bool) → IsAllowed text t a some c → is_empty t.held.flow ≡ true → t.held.key_allowed ≡ false → is_taken (chosen c cs t.held.keys a.base) a.separation ≡ true
+  line_taken c cs may out none =
+      by (outside_key a.base.entries t.held.keys) c (may out) (subst (λ b. IsLineHere (not b) t.held.key_allowed t.rest (outside_key a.base.entries t.held.keys) a.line) out a.line_is) a.is_open
+    where
+      broken : Bool
+      broken = begins_free_line a.base.site.before a.separation
+
+      is_line : line_past_separation false broken a.base.line ≡ Some a.line
+      is_line = subst (λ b. line_past_separation (not b) broken a.base.line ≡ Some a.line) out a.is_line
+
+      taken_by : (l : Line) → (l ≡ free) ⊎ (l ≡ taken) → is_free l ≡ false → is_taken_line (Some l) ≡ true
+      taken_by l (inl e) h = absurd (cc (h, ap is_free e))
+      taken_by l (inr e) h = ap (λ x. is_taken_line (Some x)) e
+
+      on_its_line : (k : Key) → k.position.line ≤ a.base.site.position.line → t.held.position.line ≤ k.position.line → broken ≡ false
+      on_its_line k before here =
+          let line = ap (λ p. p.line) a.position_is in
+          arrivals.not_free a.base.site.before a.separation (arrivals.unbroken a.base.site.position a.separation t.rest some a.is_solid (omega (arith, before, here, line)))
+
+      by : (k : Option Key) (c : Bool) → MayChoose c k t.held.position t.rest → IsLineHere false t.held.key_allowed t.rest k a.line → IsOpenOutside k a.base.site.position t.held.position t.rest a.base.site.blocks
+          → is_taken_line (line_past_separation false broken (line_by c k a.base.line)) ≡ true
+      by None c may h open_here = ap is_taken_line is_line ∙ taken_by a.line h.0 (sym h.1 ∙ none)
+      by (Some k) true may h open_here = ap (λ b. is_taken_line (line_past_separation false b (waits k.position))) (on_its_line k open_here.0.0 may.0)
+      by (Some k) false may h open_here = ap is_taken_line is_line ∙ ap (λ l. is_taken_line (Some l)) (h some).0
+
+  -- a colon that the scanner takes as a value's is an indicator
+  value_here : (more : List ℕ) → t.rest ≡ 58 ∷ more → is_value t ≡ true → (c : Bool) (cs : List Bool) → is_value_here (chosen c cs t.held.keys a.base) a.separation more ≡ true
+  value_here more e i c cs =
+      ap (λ b. is_value_indicator b (is_adjacent (before_past (before_by a.base.site.before) a.separation)) more) (in_flow_is text t a some c cs) ∙
+      (sym (value_is t (is_adjacent (before_past (before_by a.base.site.before) a.separation)) more e (λ inside. sym (a.is_adjacent_here inside some))) ∙ i)
+
+  is_outside : in_flow t.held ≡ false → is_empty t.held.flow ≡ true
+  is_outside e = by (is_empty t.held.flow) e
+    where
+      by : (b : Bool) → not b ≡ false → b ≡ true
+      by true e = refl
+      by false e = absurd (cc e)
+
+  is_not : (b : Bool) → not b ≡ true → b ≡ false
+  is_not true e = absurd (cc e)
+  is_not false e = refl
+
+  -- ---- `-`, `?` and `:`
+
+  entry_checked : (more : List ℕ) → t.rest ≡ 45 ∷ more → is_at_gap more ≡ true → Faults (Told text) (check_block_entry t.held)
+  unfolding check_block_entry
+  entry_checked more e gap =
+      checked (in_flow t.held) (At problem.BlockEntryInFlow t.held.position)
+      (λ i _. stuck text t a some [] problem.BlockEntryInFlow t.held.position (λ c may. may_not_stand (defs.dash_in_flow more e gap (in_flow_is text t a some c [] ∙ i)))) (λ o.
+      checked (not t.held.key_allowed) (At problem.BlockEntryNotAllowed t.held.position)
+      (λ n _. stuck text t a some [] problem.BlockEntryNotAllowed t.held.position (λ c may.
+      may_not_stand (defs.dash_not_free more e gap (in_flow_is text t a some c [] ∙ o) (line_taken c [] may (is_outside o) (is_not t.held.key_allowed n))))) (λ _. goes))
+
+  -- a character of a text stands in it with more after it
+  has_more : (b c : List ℕ) → has 9 b ≡ true → has 9 (b ++ c) ≡ true
+  has_more [] c h = absurd (cc h)
+  has_more (d ∷ b) c h = by (d == 9) h (has_more b c)
+    where
+      by : (y : Bool) → (y || has 9 b) ≡ true → (has 9 b ≡ true → has 9 (b ++ c) ≡ true) → (y || has 9 (b ++ c)) ≡ true
+      by true h more = refl
+      by false h more = more h
+
+  -- what a check of the line after an indicator sees
+  first_after : (r : List ℕ) (c : ℕ) → (slice_index r 0 == c) ≡ true → (0 == c) ≡ false → (m : List ℕ) × (r ≡ c ∷ m)
+  first_after [] c h n = absurd (cc (h, n))
+  first_after (d ∷ m) c h n = (m, ap (λ x. x ∷ m) (eqb-true d c h))
+
+  dash_checked : (more : List ℕ) → t.rest ≡ 45 ∷ more → is_at_gap more ≡ true → in_flow t.held ≡ false → (h : Held) → h.position ≡ past t.held.position → (x : Read Whitespace) → space Yes more h.position ≡ Ok x → Faults (Told text) (check_dash x.value (go_on x h))
+  unfolding check_dash
+  dash_checked more e gap outside h place x k = by (space Yes more h.position) k (spaces_are_passed Yes more h.position)
+    where
+      reason : (blanks comment rest : List ℕ) → more ≡ blanks ++ (comment ++ rest) → is_separation false (blanks ++ comment) rest ≡ true → plain_ends.has_break (blanks ++ comment) ≡ false
+          → (has 9 blanks && (slice_index rest 0 == 45) && is_blank_or_breakz (slice_index rest 1)) ≡ true → Told text (At problem.TabAfterDash (position_after h.position (blanks ++ comment) rest))
+      reason blanks comment rest cut fills line all =
+          let second = and_parts (has 9 blanks && (slice_index rest 0 == 45)) (is_blank_or_breakz (slice_index rest 1)) all in
+          let first = and_parts (has 9 blanks) (slice_index rest 0 == 45) second.0 in
+          let d = first_after rest 45 first.1 refl in
+          let gap2 : is_at_gap d.0 ≡ true = sym (gap_here d.0) ∙ (ap (λ l. is_blank_or_breakz (slice_index l 1)) (sym d.1) ∙ second.1) in
+          followed_at problem.TabAfterDash _ (further 1 t.held.position) (blanks ++ comment) rest (ap (λ q. position_after q (blanks ++ comment) rest) place)
+          (none.tab_after_dash more (blanks ++ comment) rest outside e gap (record { is_text = cut ∙ sym (append_assoc blanks comment rest); is_filled = fills; is_on_line = line })
+          (has_more blanks comment first.0) (ap begins_entry d.1 ∙ gap2))
+
+      checked_by : (b : Bool) (q : Position) (u : ScannerState) → (b ≡ true → Told text (At problem.TabAfterDash q)) → Faults (Told text) (if b then Err (At problem.TabAfterDash q) else Ok u)
+      checked_by true q u why = fault {f = At problem.TabAfterDash q} (why refl)
+      checked_by false q u why = goes
+
+      by : (y : Result (Read Whitespace) Fault) → y ≡ Ok x → SpacesAs Yes h.position more y
+          → Faults (Told text) (if x.value.found_tabs && (slice_index x.rest 0 == 45) && is_blank_or_breakz (slice_index x.rest 1) then Err (At problem.TabAfterDash x.position) else Ok (go_on x h))
+      by y i (separations.glued begins j) = absurd (cc (i, j))
+      by y i (separations.spaces blanks comment rest cut are fills line ends j) =
+          let same : after_space h.position (blanks ++ comment) rest (record { found_tabs = has 9 blanks; has_valid_yaml_ws = has 32 blanks }) ≡ x = cc (i, j) in
+          subst (λ (z : Read Whitespace). Faults (Told text) (if z.value.found_tabs && (slice_index z.rest 0 == 45) && is_blank_or_breakz (slice_index z.rest 1) then Err (At problem.TabAfterDash z.position) else Ok (go_on z h))) same
+          (checked_by (has 9 blanks && (slice_index rest 0 == 45) && is_blank_or_breakz (slice_index rest 1)) (position_after h.position (blanks ++ comment) rest) _ (reason blanks comment rest cut fills line))
+
+  entry_outside : Holds (λ s. (in_flow t.held ≡ false) × (s ≡ t.held)) (check_block_entry t.held)
+  unfolding check_block_entry
+  entry_outside = holds.checked (in_flow t.held) (At problem.BlockEntryInFlow t.held.position) (λ o. holds.checked (not t.held.key_allowed) (At problem.BlockEntryNotAllowed t.held.position) (λ _. holds.went (o, refl)))
+
+  -- no comment stands after what was passed behind a dash
+  dash_spaced : (u : ScannerState) → Holds (λ v. begins_with 35 v.rest ≡ false) (lexed (space Yes u.rest u.held.position) u.held check_dash)
+  unfolding check_dash
+  dash_spaced u =
+      spaced Yes u check_dash (λ v. begins_with 35 v.rest ≡ false) (λ w v s.
+      holds.checked (w.found_tabs && (slice_index v.rest 0 == 45) && is_blank_or_breakz (slice_index v.rest 1)) (At problem.TabAfterDash v.held.position) (λ _. holds.went (no_comment_left Yes v.rest s.ends)))
+
+  pub dash_told : (more : List ℕ) → t.rest ≡ 45 ∷ more → is_at_gap more ≡ true → Faults (Told text) (fetch_block_entry t)
+  unfolding fetch_block_entry
+  dash_told more e gap =
+      in_turn (tried t (entry_checked more e gap)) (λ u i.
+      let was : (u.rest ≡ t.rest) × (in_flow t.held ≡ false) × (u.held ≡ t.held) = held_of {P = λ v. (v.rest ≡ t.rest) × (in_flow t.held ≡ false) × (v.held ≡ t.held)} u (holds.tried t (check_block_entry t.held) entry_outside (λ s k. (refl, k.0, k.1))) i in
+      let rolled : ScannerState = on_held (roll_indent t.held.position.col None Tok.block_sequence_start t.held.position) (skip_indicator u) in
+      let place : rolled.held.position ≡ past t.held.position = rolled_place t.held.position.col None Tok.block_sequence_start t.held.position (skip_indicator u).held ∙ ap (λ h. past h.position) was.2 in
+      let left : rolled.rest ≡ more = ap after (was.0 ∙ e) in
+      in_turn (read rolled.held (space Yes rolled.rest rolled.held.position) check_dash (λ f k. space_told text Yes rolled.rest rolled.held.position (λ h. absurd (cc (h, ap (λ r. begins_with 35 r) left, no_comment more gap))) f k)
+      (λ x k. dash_checked more e gap was.1 rolled.held place x (ap (λ r. space Yes r rolled.held.position) (sym left) ∙ k))) (λ v j.
+      in_turn (spaces_told text No v (λ h. absurd (cc (h, held_of v (dash_spaced rolled) j)))) (λ w k.
+      in_turn (tried (roll_entry w) (remove_told text (roll_entry w).held)) (λ x l. goes))))
+
+  key_begun : (more : List ℕ) → t.rest ≡ 63 ∷ more → is_at_gap more ≡ true → Faults (Told text) (begin_key t.held)
+  unfolding begin_key
+  key_begun more e gap =
+      either (in_flow t.held) (λ _. goes) (λ o.
+      checked (not t.held.key_allowed) (At problem.KeyNotAllowed t.held.position)
+      (λ n _. stuck text t a some [] problem.KeyNotAllowed t.held.position (λ c may.
+      may_not_stand (defs.question_not_free more e gap (in_flow_is text t a some c [] ∙ o) (line_taken c [] may (is_outside o) (is_not t.held.key_allowed n))))) (λ _. goes))
+
+  key_place : Holds (λ s. s.position ≡ t.held.position) (begin_key t.held)
+  unfolding begin_key
+  key_place = holds.either (in_flow t.held) (λ _. holds.went refl) (λ _. holds.checked (not t.held.key_allowed) (At problem.KeyNotAllowed t.held.position) (λ _. holds.went (rolled_place t.held.position.col None Tok.block_mapping_start t.held.position t.held)))
+
+  white_told : (more : List ℕ) → t.rest ≡ 63 ∷ more → is_at_gap more ≡ true → (u : ScannerState) → u.rest ≡ more → u.held.position ≡ past t.held.position → Faults (Told text) (skip_yaml_whitespace u)
+  unfolding skip_yaml_whitespace
+  white_told more e gap u left place = by (white false false u.rest u.held) (white_space_is_passed u.held u.rest)
+    where
+      by : (x : Result ScannerState Fault) → GoesOverAs u.held u.rest x → Faults (Told text) x
+      by x (separations.goes leading separation rest cut fills ends j) = subst (λ y. Faults (Told text) y) (sym j) goes
+      by x (misses separation rest cut fills begins broken ends j) =
+          subst (λ y. Faults (Told text) y) (sym j) (fault {f = At problem.WhitespaceExpected (position_after u.held.position separation rest)}
+          (followed_at problem.WhitespaceExpected (position_after u.held.position separation rest) (further 1 t.held.position) separation rest (ap (λ q. position_after q separation rest) place)
+          (none.no_space more separation rest e gap (record { is_text = sym left ∙ cut; is_filled = fills; is_on_line = broken }) (ap (λ r. begins_with 32 r) (sym left) ∙ begins) ends)))
+
+  space_checked : (more : List ℕ) → t.rest ≡ 63 ∷ more → is_at_gap more ≡ true → (u w : ScannerState) → u.rest ≡ more → u.held.position ≡ past t.held.position → skip_yaml_whitespace u ≡ Ok w → Faults (Told text) (check_key_space w)
+  unfolding skip_yaml_whitespace check_key_space
+  space_checked more e gap u w left place k = by (white false false u.rest u.held) k (white_space_is_passed u.held u.rest)
+    where
+      tab_first : (r : List ℕ) → (peek r == 9) ≡ true → r ≡ 9 ∷ after r
+      tab_first [] h = absurd (cc h)
+      tab_first (c ∷ r) h = ap (λ x. x ∷ r) (eqb-true c 9 h)
+
+      checked_by : (b : Bool) (q : Position) (v : ScannerState) → (b ≡ true → Told text (At problem.TabAfterKey q)) → Faults (Told text) (if b then Err (At problem.TabAfterKey q) else Ok v)
+      checked_by true q v why = fault {f = At problem.TabAfterKey q} (why refl)
+      checked_by false q v why = goes
+
+      reason : (separation rest : List ℕ) → u.rest ≡ separation ++ rest → is_separation false separation rest ≡ true → (peek rest == 9) ≡ true → Told text (At problem.TabAfterKey (position_after u.held.position separation rest))
+      reason separation rest cut fills tab =
+          let first = tab_first rest tab in
+          followed_at problem.TabAfterKey (position_after u.held.position separation rest) (further 1 t.held.position) separation (9 ∷ after rest)
+          (ap (λ q. position_after q separation rest) place ∙ ap (λ r. position_after (further 1 t.held.position) separation r) first)
+          (none.tab_after_question more separation (after rest) e gap (sym left ∙ (cut ∙ ap (λ r. separation ++ r) first)) (subst (λ r. is_separation false separation r ≡ true) first fills))
+
+      by : (y : Result ScannerState Fault) → y ≡ Ok w → GoesOverAs u.held u.rest y → Faults (Told text) (if peek w.rest == 9 then Err (At problem.TabAfterKey w.held.position) else Ok w)
+      by y i (misses separation rest cut fills begins broken ends j) = absurd (cc (i, j))
+      by y i (separations.goes leading separation rest cut fills ends j) =
+          let same : after_separation u.held leading separation rest ≡ w = cc (i, j) in
+          subst (λ (z : ScannerState). Faults (Told text) (if peek z.rest == 9 then Err (At problem.TabAfterKey z.held.position) else Ok z)) same
+          (checked_by (peek rest == 9) (position_after u.held.position separation rest) _ (reason separation rest cut fills))
+
+  pub question_told : (more : List ℕ) → t.rest ≡ 63 ∷ more → is_at_gap more ≡ true → Faults (Told text) (fetch_key t)
+  unfolding fetch_key
+  question_told more e gap =
+      in_turn (tried t (key_begun more e gap)) (λ u i.
+      let first : (u.rest ≡ t.rest) × (u.held.position ≡ t.held.position) = held_of {P = λ v. (v.rest ≡ t.rest) × (v.held.position ≡ t.held.position)} u (holds.tried t (begin_key t.held) key_place (λ s k. (refl, k))) i in
+      in_turn (tried u (remove_told text u.held)) (λ v j.
+      let second : (v.rest ≡ u.rest) × (v.held.position ≡ u.held.position) = held_of {P = λ x. (x.rest ≡ u.rest) × (x.held.position ≡ u.held.position)} v (holds.tried u (remove_implicit_key u.held) (removed_is u.held) (λ s k. (refl, ap (λ h. h.position) k))) j in
+      let here : ScannerState = skip_indicator (on_held (λ s. allow_key (not (in_flow s)) s) v) in
+      let left : here.rest ≡ more = ap after (second.0 ∙ (first.0 ∙ e)) in
+      let place : here.held.position ≡ past t.held.position = ap past (second.1 ∙ first.1) in
+      in_turn (white_told more e gap here left place) (λ w k.
+      in_turn (space_checked more e gap here w left place k) (λ x l. goes))))
+
+  -- ---- `:`
+
+  -- the key of an entry of a sequence that may be a single pair, if it is chosen to be one
+  record SingleKey (k : Key) (es : List Entry) : Type 0 where
+    first : Entry
+    around : List Entry
+    are : es ≡ first ∷ around
+    takes : takes_pair first.kind first.pair ≡ true
+    had_is : first.had ≡ entry.waits k.position
+
+  single_key : (allowed again : Bool) (fs : List FlowLevel) (ks : List (Option Key)) (es : List Entry) (k : Key) → AreEntries allowed again fs ks es → opens_pair fs ≡ true → top_key ks ≡ Some k → SingleKey k (entries_by (true ∷ []) ks es)
+  single_key allowed again [] ks es k h o e = absurd (cc o)
+  single_key allowed again (level.Mapping ∷ fs) ks es k h o e = absurd (cc o)
+  single_key allowed again (level.Keyed ∷ fs) ks es k h o e = absurd (cc o)
+  single_key allowed again (level.Pair ∷ fs) ks es k h o e = absurd (cc o)
+  single_key allowed again (level.Entry ∷ fs) [] es k h o e = absurd h
+  single_key allowed again (level.Entry ∷ fs) (x ∷ ks) [] k h o e = absurd h
+  single_key allowed again (level.Entry ∷ fs) (x ∷ ks) (y ∷ es) k h o e = record {
+    first = entry_by true x y;
+    around = _;
+    are = refl;
+    takes = ap (λ z. takes_pair z y.pair) h.0.kind_is ∙ ap (λ z. has_no_pair z) h.0.pair_is;
+    had_is = ap (λ z. had_by true z y.had) e;
+  }
+
+  misplaced : (more : List ℕ) → t.rest ≡ 58 ∷ more → is_value t ≡ true → (k : Key) → top_key t.held.keys ≡ Some k → opens_pair t.held.flow ≡ true → nat_lt k.position.line t.held.position.line ≡ true → Told text (At problem.ColonMisplaced t.held.position)
+  misplaced more e i k top opens late = λ _.
+      let s : SingleKey k (entries_by (true ∷ []) t.held.keys a.base.entries) = single_key t.held.key_allowed _ t.held.flow t.held.keys a.base.entries k a.are_entries opens top in
+      stuck text t a some (true ∷ []) problem.ColonMisplaced t.held.position (λ c may. may_not_stand (defs.key_on_earlier_line more k.position s.first s.around e (value_here more e i c (true ∷ [])) s.are s.takes s.had_is (grind (arith, nat_tests, late))))
+
+  not_allowed : NoneWaits text t a → (more : List ℕ) → t.rest ≡ 58 ∷ more → is_value t ≡ true → top_key t.held.keys ≡ None → in_flow t.held ≡ false → t.held.key_allowed ≡ false → Told text (At problem.ValueNotAllowed t.held.position)
+  not_allowed unwaited more e i top o allowed = λ _.
+      let out : is_empty t.held.flow ≡ true = is_outside o in
+      let none_in : a.base.entries ≡ [] = no_entries t.held.key_allowed _ t.held.flow t.held.keys a.base.entries out a.are_entries in
+      let key_is : outside_key a.base.entries t.held.keys ≡ None = ap (λ es. outside_key es t.held.keys) none_in ∙ top in
+      let may : MayChoose false (outside_key a.base.entries t.held.keys) t.held.position t.rest = subst (λ k. MayChoose false k t.held.position t.rest) (sym key_is) tt in
+      no_key (account_by text t a some false []) a.separation more t.held.position (subst (λ r. IsPlace text (account_by text t a some false []) a.separation r t.held.position) e (place text t a some false [] may)) (value_here more e i false []) (in_flow_is text t a some false [] ∙ o)
+      (line_taken false [] (λ _. may) out allowed) (subst (λ r. HasNoKey text a.separation r t.held.position) e (unwaited some top o))
+
+  pair_told : (more : List ℕ) → t.rest ≡ 58 ∷ more → is_value t ≡ true → (k : Key) → top_key t.held.keys ≡ Some k → (pair : Bool) → opens_pair t.held.flow ≡ pair → (s : Held) → Faults (Told text) (begin_pair k t.held.position pair s)
+  unfolding begin_pair
+  pair_told more e i k top true opens s = checked (nat_lt k.position.line t.held.position.line) (At problem.ColonMisplaced t.held.position) (λ late. misplaced more e i k top opens late) (λ _. goes)
+  pair_told more e i k top false opens s = goes
+
+  mapping_told : NoneWaits text t a → (more : List ℕ) → t.rest ≡ 58 ∷ more → is_value t ≡ true → top_key t.held.keys ≡ None → (s : Held) → in_flow s ≡ in_flow t.held → s.key_allowed ≡ t.held.key_allowed → Faults (Told text) (begin_keyless_mapping t.held.position s)
+  unfolding begin_keyless_mapping
+  mapping_told unwaited more e i top s flow allowed =
+      either (in_flow s) (λ _. goes) (λ o. checked (not s.key_allowed) (At problem.ValueNotAllowed t.held.position) (λ n. not_allowed unwaited more e i top (sym flow ∙ o) (sym allowed ∙ is_not s.key_allowed n)) (λ _. goes))
+
+  keyless_alike : (pair : Bool) (s : Held) → (in_flow (begin_keyless_pair pair s) ≡ in_flow s) × ((begin_keyless_pair pair s).key_allowed ≡ s.key_allowed)
+  keyless_alike true s = (refl, refl)
+  keyless_alike false s = (refl, refl)
+
+  value_told : NoneWaits text t a → (more : List ℕ) → t.rest ≡ 58 ∷ more → is_value t ≡ true → (o : Option Key) → top_key t.held.keys ≡ o → (s : Held) → in_flow s ≡ in_flow t.held → s.key_allowed ≡ t.held.key_allowed → Faults (Told text) (value_of o t.held.position (opens_pair t.held.flow) s)
+  unfolding insert_key begin_keyless_value
+  value_told unwaited more e i None top s flow allowed =
+      let k = keyless_alike (opens_pair t.held.flow) s in
+      in_turn (mapping_told unwaited more e i top (begin_keyless_pair (opens_pair t.held.flow) s) (k.0 ∙ flow) (k.1 ∙ allowed)) (λ u j. goes)
+  value_told unwaited more e i (Some k) top s flow allowed = in_turn (pair_told more e i k top (opens_pair t.held.flow) refl _) (λ u i. goes)
+
+  paired_flow : (fs : List FlowLevel) → is_empty (paired fs) ≡ is_empty fs
+  paired_flow [] = refl
+  paired_flow (level.Mapping ∷ fs) = refl
+  paired_flow (level.Entry ∷ fs) = refl
+  paired_flow (level.Keyed ∷ fs) = refl
+  paired_flow (level.Pair ∷ fs) = refl
+
+  tab_checked : (more : List ℕ) → t.rest ≡ 58 ∷ more → begins_with 9 more ≡ true → (h : Held) → h.position ≡ past t.held.position → (x : Read Whitespace) → space Yes more h.position ≡ Ok x → Faults (Told text) (check_after_tab x.value (go_on x h))
+  unfolding check_after_tab is_alpha is_alphanumeric
+  tab_checked more e tab h place x k = by (let exact = spaced_parted more h.position (no_hash more tab) in cc (exact, k))
+    where
+      no_hash : (l : List ℕ) → begins_with 9 l ≡ true → begins_with 35 l ≡ false
+      no_hash [] h = refl
+      no_hash (c ∷ r) h = let same : c ≡ 9 = eqb-true c 9 h in rw same refl
+
+      letter : (r : List ℕ) → ((peek r == 45) || is_alpha (peek r)) ≡ true → begins_with_alpha r ≡ true
+      letter [] h = absurd (cc h)
+      letter (c ∷ r) h = same_alpha c ∙ on (c == 45) refl h
+        where
+          on : (y : Bool) → (c == 45) ≡ y → (y || is_alpha c) ≡ true → is_alpha c ≡ true
+          on true i h = ap is_alpha (eqb-true c 45 i)
+          on false i h = h
+
+      found : (is_one_of (leading is_blank more) 32) ≡ false → begins_with_alpha (past_blanks_and_comment more) ≡ true → Told text (At problem.TabAfterColon (past_line_rest h.position more))
+      found lacks alpha =
+          followed_at problem.TabAfterColon _ (further 1 t.held.position) (blanks_and_comment more) (past_blanks_and_comment more)
+          (same_in_line h.position (blanks_and_comment more) [] (past_blanks_and_comment more) (line_rest_in_line more) ∙ ap (λ q. position_after q (blanks_and_comment more) (past_blanks_and_comment more)) place)
+          (none.tab_after_colon more (blanks_and_comment more) (past_blanks_and_comment more) e tab
+          (record { is_text = line_rest_cut more; is_filled = line_rest_fills more; is_on_line = same_has_break (blanks_and_comment more) ∙ ap not (line_rest_in_line more) })
+          (no_space (leading is_blank more) (tags.after is_blank more) lacks alpha) alpha)
+
+      checked_by : (b : Bool) (q : Position) (u : ScannerState) → (b ≡ true → Told text (At problem.TabAfterColon q)) → Faults (Told text) (if b then Err (At problem.TabAfterColon q) else Ok u)
+      checked_by true q u why = fault {f = At problem.TabAfterColon q} (why refl)
+      checked_by false q u why = goes
+
+      exactly : Read Whitespace
+      exactly = record { rest = past_blanks_and_comment more; position = past_line_rest h.position more; value = found_in (leading is_blank more) }
+
+      by : exactly ≡ x → Faults (Told text) (if not x.value.has_valid_yaml_ws && ((peek x.rest == 45) || is_alpha (peek x.rest)) then Err (At problem.TabAfterColon x.position) else Ok (go_on x h))
+      by same =
+          subst (λ (z : Read Whitespace). Faults (Told text) (if not z.value.has_valid_yaml_ws && ((peek z.rest == 45) || is_alpha (peek z.rest)) then Err (At problem.TabAfterColon z.position) else Ok (go_on z h))) same
+          (checked_by (not (is_one_of (leading is_blank more) 32) && ((peek (past_blanks_and_comment more) == 45) || is_alpha (peek (past_blanks_and_comment more)))) (past_line_rest h.position more) _ (λ all.
+          let first = and_parts (not (is_one_of (leading is_blank more) 32)) ((peek (past_blanks_and_comment more) == 45) || is_alpha (peek (past_blanks_and_comment more))) all in
+          found (is_not (is_one_of (leading is_blank more) 32) first.0) (letter (past_blanks_and_comment more) first.1)))
+
+  value_checked : (more : List ℕ) → t.rest ≡ 58 ∷ more → (u : ScannerState) → u.rest ≡ more → u.held.position ≡ past t.held.position → Faults (Told text) (check_value_space u)
+  unfolding check_value_space
+  value_checked more e u left place =
+      either (peek u.rest == 9) (λ tab. read u.held (space Yes u.rest u.held.position) check_after_tab (λ f k. space_told text Yes u.rest u.held.position (λ h. absurd (not_both u.rest tab h)) f k)
+      (λ x k. tab_checked more e (tab_first more (ap (λ r. peek r == 9) (sym left) ∙ tab)) u.held place x (ap (λ r. space Yes r u.held.position) (sym left) ∙ k))) (λ _. goes)
+    where
+      tab_first : (r : List ℕ) → (peek r == 9) ≡ true → begins_with 9 r ≡ true
+      tab_first [] h = absurd (cc h)
+      tab_first (c ∷ r) h = h
+
+      not_both : (r : List ℕ) → (peek r == 9) ≡ true → begins_with 35 r ≡ true → ⊥
+      not_both [] h i = cc h
+      not_both (c ∷ r) h i = let first : c ≡ 9 = eqb-true c 9 h in let second : c ≡ 35 = eqb-true c 35 i in omega (arith, first, second)
+
+  -- only the position is another
+  value_held : (u : ScannerState) → Holds (λ w. w.held ≡ record u.held { position = w.held.position }) (check_value_space u)
+  unfolding check_value_space check_after_tab
+  value_held u =
+      holds.either (peek u.rest == 9) (λ _. holds.read u.held (space Yes u.rest u.held.position) check_after_tab (λ x k.
+      holds.checked (not x.value.has_valid_yaml_ws && ((peek x.rest == 45) || is_alpha (peek x.rest))) (At problem.TabAfterColon x.position) (λ _. holds.went refl))) (λ _. holds.went refl)
+
+  pub colon_told : NoneWaits text t a → (more : List ℕ) → t.rest ≡ 58 ∷ more → is_value t ≡ true → Faults (Told text) (fetch_value t)
+  unfolding fetch_value
+  colon_told unwaited more e is =
+      let first : ScannerState = skip_indicator (on_held (λ s. record s { flow = paired s.flow }) t) in
+      in_turn (value_checked more e first (ap after e) refl) (λ u k.
+      let h = held_of u (value_held first) k in
+      in_turn (tried u (value_told_by more e u (ap (λ s. s.keys) h) (ap (λ s. not (is_empty s.flow)) h ∙ ap not (paired_flow t.held.flow)) (ap (λ s. s.key_allowed) h))) (λ v i. goes))
+    where
+      value_told_by : (more : List ℕ) → t.rest ≡ 58 ∷ more → (u : ScannerState) → u.held.keys ≡ t.held.keys → in_flow u.held ≡ in_flow t.held → u.held.key_allowed ≡ t.held.key_allowed → Faults (Told text) (value_of (top_key u.held.keys) t.held.position (opens_pair t.held.flow) u.held)
+      value_told_by more e u keys flow allowed = value_told unwaited more e is (top_key u.held.keys) (sym (ap top_key keys)) u.held flow allowed
+
+  -- ---- brackets and commas
+
+  -- a state where nothing was passed yet
+  abbrev IsHere : ScannerState → Type 0
+  IsHere u = (u.rest ≡ t.rest) × (u.held.position ≡ t.held.position)
+
+  indicator_passed : (c : ℕ) (more : List ℕ) → t.rest ≡ c ∷ more → none.is_flow_indicator c ≡ true → (u : ScannerState) → IsHere u → Faults (Told text) (pass_indicator u)
+  unfolding pass_indicator
+  indicator_passed c more e is u h =
+      spaces_told text Yes (skip_indicator u) (λ k.
+      followed_at problem.CommentNotSeparated (past u.held.position) (further 1 t.held.position) [] (after u.rest) (ap past h.1)
+      (none.glued c more e is (ap (λ r. begins_with 35 (after r)) (sym e) ∙ (ap (λ r. begins_with 35 (after r)) (sym h.0) ∙ k))))
+
+  begun_here : (kind : FlowLevel) → Holds (λ s. s.position ≡ t.held.position) (begin_flow kind t.held)
+  unfolding begin_flow increase_flow_level
+  begun_here kind =
+      subst (λ s. Holds (λ v. v.position ≡ t.held.position) (deepened_flow (if nat_le 255 (length s.flow) then Err (At problem.FlowTooDeep s.position) else Ok (record s { keys = None ∷ s.keys; flow = kind ∷ s.flow }))))
+      (sym (ap roll_one_col_indent (saved_is t.held) ∙ rolled_one_is (record t.held { keys = saved_keys t.held })))
+      (by (nat_le 255 (length t.held.flow)) rolled refl)
+    where
+      rolled : Held
+      rolled = record t.held { keys = saved_keys t.held; indents = one_indents (record t.held { keys = saved_keys t.held }); indent = one_indent (record t.held { keys = saved_keys t.held }) }
+
+      by : (b : Bool) (s : Held) → s.position ≡ t.held.position → Holds (λ v. v.position ≡ t.held.position) (deepened_flow (if b then Err (At problem.FlowTooDeep s.position) else Ok (record s { keys = None ∷ s.keys; flow = kind ∷ s.flow })))
+      by true s e = holds.refused
+      by false s e = holds.went e
+
+  is_here : (f : Held → Result Held Fault) (u : ScannerState) → Holds (λ s. s.position ≡ t.held.position) (f t.held) → try_held f t ≡ Ok u → IsHere u
+  is_here f u h i = held_of {P = IsHere} u (holds.tried t (f t.held) h (λ s k. (refl, k))) i
+
+  many_entries : (cs : List Bool) (ks : List (Option Key)) (es : List Entry) → length (entries_by cs ks es) ≡ length es
+  many_entries cs ks [] = refl
+  many_entries cs ks (e ∷ es) = ap suc (many_entries _ _ es)
+
+  deepened_told : {r : Result Held Fault} → Faults (Told text) r → Faults (Told text) (deepened_flow r)
+  deepened_told (fault p) = fault p
+  deepened_told goes = goes
+
+  flow_begun : (kind : FlowLevel) (bracket : ℕ) (more : List ℕ) → t.rest ≡ bracket ∷ more → (bracket ≡ 91) ⊎ (bracket ≡ 123) → Faults (Told text) (begin_flow kind t.held)
+  unfolding begin_flow increase_flow_level
+  flow_begun kind bracket more e is =
+      subst (λ s. Faults (Told text) (deepened_flow (if nat_le 255 (length s.flow) then Err (At problem.FlowTooDeep s.position) else Ok (record s { keys = None ∷ s.keys; flow = kind ∷ s.flow }))))
+      (sym (ap roll_one_col_indent (saved_is t.held) ∙ rolled_one_is (record t.held { keys = saved_keys t.held })))
+      (deepened_told (checked (nat_le 255 (length t.held.flow)) (At problem.FlowTooDeep t.held.position) (λ full _.
+      stuck text t a some [] problem.FlowTooDeep t.held.position (λ c may.
+      let many : length t.held.flow ≡ length a.base.entries = many_levels t.held.key_allowed _ t.held.flow t.held.keys a.base.entries a.are_entries in
+      let own = many_entries [] t.held.keys a.base.entries in
+      let room : 255 ≤ length t.held.flow = grind (arith, nat_tests, full) in
+      may_not_stand (defs.too_deep bracket more e is (omega (arith, many, own, room))))) (λ _. goes)))
+
+  pub opening_told : (kind : FlowLevel) (tok : Tok) (bracket : ℕ) (more : List ℕ) → t.rest ≡ bracket ∷ more → (bracket ≡ 91) ⊎ (bracket ≡ 123) → Faults (Told text) (fetch_flow_collection_start kind tok t)
+  unfolding fetch_flow_collection_start
+  opening_told kind tok bracket more e is = in_turn (tried t (flow_begun kind bracket more e is)) (λ u i. in_turn (indicator_passed bracket more e (by bracket is) u (is_here (begin_flow kind) u (begun_here kind) i)) (λ v j. goes))
+    where
+      by : (c : ℕ) → (c ≡ 91) ⊎ (c ≡ 123) → none.is_flow_indicator c ≡ true
+      by c (inl h) = rw h refl
+      by c (inr h) = rw h refl
+
+  ended_told : {r : Result Held Fault} → Faults (Told text) r → Faults (Told text) (ended_flow r)
+  ended_told (fault p) = fault p
+  ended_told goes = goes
+
+  pair_ended : (fs : List FlowLevel) (s : Held) → (end_pair fs s).position ≡ s.position
+  pair_ended [] s = refl
+  pair_ended (level.Mapping ∷ fs) s = refl
+  pair_ended (level.Entry ∷ fs) s = refl
+  pair_ended (level.Keyed ∷ fs) s = refl
+  pair_ended (level.Pair ∷ fs) s = refl
+
+  ended_here : Holds (λ s. s.position ≡ t.held.position) (end_flow t.held)
+  unfolding end_flow end_flow_pair decrease_flow_level remove_implicit_key
+  ended_here = by (is_required (top_key t.held.keys))
+    where
+      decreased : (b : Bool) (s : Held) → (if b then s else record s { flow = pop s.flow; keys = pop s.keys }).position ≡ s.position
+      decreased true s = refl
+      decreased false s = refl
+
+      left : Held
+      left = record t.held { keys = with_top None t.held.keys }
+
+      by : (b : Bool) → Holds (λ s. s.position ≡ t.held.position) (ended_flow (if b then Err (At problem.KeyExpected t.held.position) else Ok left))
+      by true = holds.refused
+      by false = holds.went (decreased (is_empty (end_pair left.flow left).flow) (end_pair left.flow left) ∙ pair_ended left.flow left)
+
+  pub closing_told : (tok : Tok) (c : ℕ) (more : List ℕ) → t.rest ≡ c ∷ more → none.is_flow_indicator c ≡ true → Faults (Told text) (fetch_flow_collection_end tok t)
+  unfolding fetch_flow_collection_end end_flow
+  closing_told tok c more e is = in_turn (tried t (ended_told (remove_told text t.held))) (λ u i. in_turn (indicator_passed c more e is u (is_here end_flow u ended_here i)) (λ v j. goes))
+
+  next_told : {r : Result Held Fault} → Faults (Told text) r → Faults (Told text) (next_entry r)
+  next_told (fault p) = fault p
+  next_told goes = goes
+
+  next_here : Holds (λ s. s.position ≡ t.held.position) (end_entry t.held)
+  unfolding end_entry end_flow_pair remove_implicit_key
+  next_here = by (is_required (top_key t.held.keys))
+    where
+      left : Held
+      left = record t.held { keys = with_top None t.held.keys; key_allowed = true }
+
+      by : (b : Bool) → Holds (λ s. s.position ≡ t.held.position) (next_entry (if b then Err (At problem.KeyExpected t.held.position) else Ok (record t.held { keys = with_top None t.held.keys })))
+      by true = holds.refused
+      by false = holds.went (pair_ended left.flow left)
+
+  pub comma_told : (more : List ℕ) → t.rest ≡ 44 ∷ more → Faults (Told text) (fetch_flow_entry t)
+  unfolding fetch_flow_entry end_entry
+  comma_told more e = in_turn (tried t (next_told (remove_told text t.held))) (λ u i. in_turn (indicator_passed 44 more e refl u (is_here end_entry u next_here i)) (λ v j. goes))

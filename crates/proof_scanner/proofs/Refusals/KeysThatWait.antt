@@ -1,0 +1,603 @@
+-- A key that must be one waits in each row of the text; and while it waits no line ends. So no row goes on where a beginning has only gone on over a line's end by making no key of it.
+use Rattle.std.proofs.Common.{◌≡◌, ℕ, ◌+◌, ◌<◌, ◌≤◌, List, [], ◌∷◌, ◌++◌, Bool, true, false, not, ◌&&◌, nat_lt, if◌then◌else◌, length, Option, Some, None, ◌⊎◌, inl, inr, refl, ap, sym, ◌∙◌, subst, arith}
+use Rattle.std.proofs.lemmas.Bool.Decides.{nat_tests}
+use Rattle.defs_text.specs.Breaks.{has_no_break}
+use Rattle.defs_text.specs.Position.{Position, position_after}
+use Rattle.defs_text.specs.Text.{is_empty}
+use Rattle.defs_token.specs.Separation.{is_separation}
+use Rattle.defs_token.specs.Token.{Tok, version_directive, tag_directive, scalar, plain, single_quoted, double_quoted, literal, folded}
+use Rattle.defs_token.specs.Step.{Step, Row, Act, gives_node, gives_block_scalar, gives_dash, gives_question, gives_colon, gives_comma, gives_closing, gives_marker, gives_nothing, act_of, is_marker, previous_by, has_break, spelled}
+use Rattle.defs_token.specs.Column.{not_ended, blocks_at, is_in_column, opened}
+use Rattle.defs_token.specs.Key.{Line, free, taken, waits, is_waiting, begins_free_line, line_past_separation, Outside, is_near, line_past}
+use Rattle.defs_token.specs.FlowEntry.{Entry, begun_by, is_renewed, entries_past}
+use Rattle.defs_token.specs.RowAccount.{Site, Account, first_account, is_in_flow, site_at, site_past, may_stand, on_one_line, past_outside, past_inside, past_piece, account_past}
+use Rattle.defs_token.specs.Row.{IsWritten, HasRow}
+use Rattle.defs_token.specs.Beginning.{BeginsButForKey}
+use Rattle.proof_row.proofs.Texts.{no_nul_after}
+use Rattle.proof_lexers.specs.Separations.{begins_separation}
+use Rattle.proof_lexers.proofs.Separation.Positions.{position_in_line}
+use Rattle.proof_row.proofs.Accounts.{same_flow}
+use Rattle.proof_row.proofs.Like.{LikeLine, LikeEntries, Stepped}
+use Rattle.proof_row.proofs.RowLines.{separation_step}
+use Rattle.proof_scanner.proofs.Sound.Sides.{with_entries}
+use Rattle.proof_scanner.specs.Ways.{spelled_to, LeadsTo}
+use Rattle.proof_scanner.proofs.Complete.Around.Markers.{marker_begins}
+use Rattle.proof_scanner.proofs.Complete.Around.Asks.{waiting_goes_on}
+use Rattle.proof_scanner.proofs.Complete.Nodes.Choices.{same_of}
+use Rattle.proof_scanner.proofs.Complete.Steps.{step_here}
+use Rattle.proof_scanner.proofs.Complete.WaitingKeys.{near_stop}
+use Rattle.proof_scanner.specs.Certain.{TextsWithARowAreNotStuck}
+use Rattle.proof_scanner.specs.Stuck.{fails, no_key, key_waits}
+use Rattle.proof_scanner.proofs.Refusals.NoRows.{failing_places_have_no_row, no_keyless_colon}
+use Rattle.proof_scanner.proofs.Refusals.OtherRows.{With, Walked, Keeps, walk, row_walks}
+
+-- ---- columns
+
+-- all collections lie in columns before this one
+abbrev pub AllBelow : (column : ℕ) → List ℕ → Type 0
+AllBelow q [] = Unit {0}
+AllBelow q (n ∷ ns) = (n < q) × AllBelow q ns
+
+-- each collection lies deeper than those around it
+abbrev pub Falls : List ℕ → Type 0
+Falls [] = Unit {0}
+Falls (n ∷ ns) = AllBelow n ns × Falls ns
+
+more_below : (p q : ℕ) (ns : List ℕ) → p ≤ q → AllBelow p ns → AllBelow q ns
+more_below p q [] h b = tt
+more_below p q (n ∷ ns) h b = let first : n < p = b.0 in (omega (arith, first, h), more_below p q ns h b.1)
+
+below_kept : (q c : ℕ) (ns : List ℕ) → AllBelow q ns → AllBelow q (not_ended c ns)
+below_kept q c [] b = tt
+below_kept q c (n ∷ ns) b = by (nat_lt c n) (below_kept q c ns b.1)
+  where
+    by : (d : Bool) → AllBelow q (not_ended c ns) → AllBelow q (if d then not_ended c ns else n ∷ ns)
+    by true k = k
+    by false k = b
+
+falls_kept : (c : ℕ) (ns : List ℕ) → Falls ns → Falls (not_ended c ns)
+falls_kept c [] f = tt
+falls_kept c (n ∷ ns) f = by (nat_lt c n) (falls_kept c ns f.1)
+  where
+    by : (d : Bool) → Falls (not_ended c ns) → Falls (if d then not_ended c ns else n ∷ ns)
+    by true k = k
+    by false k = f
+
+falls_opened : (c : ℕ) (ns : List ℕ) → Falls ns → Falls (opened c ns)
+falls_opened c [] f = (tt, tt)
+falls_opened c (n ∷ ns) f = by (nat_lt n c) refl
+  where
+    by : (d : Bool) → nat_lt n c ≡ d → Falls (if d then c ∷ n ∷ ns else n ∷ ns)
+    by true e = let less : n < c = grind (arith, nat_tests, e) in let most : n ≤ c = omega (arith, less) in ((less, more_below n c ns most f.0), f)
+    by false e = f
+
+-- where the innermost collection that goes on has another column, all have columns before it
+below_here : (c : ℕ) (ns : List ℕ) → Falls ns → is_in_column c (not_ended c ns) ≡ false → AllBelow c (not_ended c ns)
+below_here c [] f h = tt
+below_here c (n ∷ ns) f h = by (nat_lt c n) refl (λ k. below_here c ns f.1 k) h
+  where
+    by : (d : Bool) → nat_lt c n ≡ d → (is_in_column c (not_ended c ns) ≡ false → AllBelow c (not_ended c ns)) → is_in_column c (if d then not_ended c ns else n ∷ ns) ≡ false → AllBelow c (if d then not_ended c ns else n ∷ ns)
+    by true e later h = later h
+    by false e later h = let less : n < c = grind (arith, nat_tests, e, h) in let most : n ≤ c = omega (arith, less) in (less, more_below n c ns most f.0)
+
+not_below : (q : ℕ) (ns : List ℕ) → is_in_column q ns ≡ true → AllBelow q ns → ⊥
+not_below q [] h b = cc h
+not_below q (n ∷ ns) h b = let less : n < q = b.0 in grind (arith, nat_tests, h, less)
+
+falls_at : (fl : Bool) (k : Act) (c : ℕ) (ns : List ℕ) → Falls ns → Falls (blocks_at fl k c ns)
+falls_at true k c ns f = f
+falls_at false k c ns f = by (is_marker k)
+  where
+    by : (d : Bool) → Falls (if d then [] else not_ended c ns)
+    by true = tt
+    by false = falls_kept c ns f
+
+below_at : (q : ℕ) (fl : Bool) (k : Act) (c : ℕ) (ns : List ℕ) → AllBelow q ns → AllBelow q (blocks_at fl k c ns)
+below_at q true k c ns f = f
+below_at q false k c ns f = by (is_marker k)
+  where
+    by : (d : Bool) → AllBelow q (if d then [] else not_ended c ns)
+    by true = tt
+    by false = below_kept q c ns f
+
+-- ---- a piece outside flow
+
+falls_past : (must : Bool) (here : Position) (bs : List ℕ) (k : Act) (key : Bool) (l : Line) (o : Outside) → line_past must here bs k key l ≡ Some o → Falls bs → Falls o.blocks
+falls_past must here bs k key l o e f = by k key l must e
+  where
+    same : (cs : List ℕ) (m : Line) → Falls cs → Some (let x : Outside = record { line = m; blocks = cs } in x) ≡ Some o → Falls o.blocks
+    same cs m g e = subst (λ (x : Outside). Falls x.blocks) (same_of _ o e) g
+
+    near : (begin : Position) (n : Bool) → (if n then Some (let x : Outside = record { line = taken; blocks = opened begin.col bs } in x) else None) ≡ Some o → Falls o.blocks
+    near begin true e = same (opened begin.col bs) taken (falls_opened begin.col bs f) e
+    near begin false e = absurd (cc e)
+
+    by : (k : Act) (key : Bool) (l : Line) (must : Bool) → line_past must here bs k key l ≡ Some o → Falls o.blocks
+    by gives_node true free must e = same bs (waits here) f e
+    by gives_node false free true e = absurd (cc e)
+    by gives_node false free false e = same bs taken f e
+    by gives_node false taken must e = same bs taken f e
+    by gives_node false (waits p) must e = same bs (waits p) f e
+    by gives_node true taken must e = absurd (cc e)
+    by gives_node true (waits p) must e = absurd (cc e)
+    by gives_block_scalar true l must e = absurd (cc e)
+    by gives_block_scalar false free true e = absurd (cc e)
+    by gives_block_scalar false free false e = same bs free f e
+    by gives_block_scalar false taken must e = same bs free f e
+    by gives_block_scalar false (waits p) must e = absurd (cc e)
+    by gives_dash true l must e = absurd (cc e)
+    by gives_dash false free must e = same (opened here.col bs) free (falls_opened here.col bs f) e
+    by gives_dash false taken must e = absurd (cc e)
+    by gives_dash false (waits p) must e = absurd (cc e)
+    by gives_question true l must e = absurd (cc e)
+    by gives_question false free must e = same (opened here.col bs) free (falls_opened here.col bs f) e
+    by gives_question false taken must e = absurd (cc e)
+    by gives_question false (waits p) must e = absurd (cc e)
+    by gives_colon true l must e = absurd (cc e)
+    by gives_colon false free must e = same (opened here.col bs) free (falls_opened here.col bs f) e
+    by gives_colon false taken must e = absurd (cc e)
+    by gives_colon false (waits p) must e = near p (is_near p here) e
+    by gives_comma true l must e = absurd (cc e)
+    by gives_comma false free must e = same bs free f e
+    by gives_comma false taken must e = same bs free f e
+    by gives_comma false (waits p) must e = absurd (cc e)
+    by gives_closing true l must e = absurd (cc e)
+    by gives_closing false free must e = same bs taken f e
+    by gives_closing false taken must e = same bs taken f e
+    by gives_closing false (waits p) must e = absurd (cc e)
+    by gives_marker true l must e = absurd (cc e)
+    by gives_marker false free must e = same bs taken f e
+    by gives_marker false taken must e = same bs taken f e
+    by gives_marker false (waits p) must e = absurd (cc e)
+    by gives_nothing key l must e = absurd (cc e)
+
+-- A key waits after a piece outside flow: it has begun with it, or it waited before.
+data Waits (must : Bool) (here : Position) (bs : List ℕ) (k : Act) (l : Line) (o : Outside) (q : Position) : Type 0 where
+  begun : k ≡ gives_node → l ≡ free → here ≡ q → o.blocks ≡ bs → Waits must here bs k l o q
+  kept : k ≡ gives_node → l ≡ waits q → o.blocks ≡ bs → Waits must here bs k l o q
+
+waits_past : (must : Bool) (here : Position) (bs : List ℕ) (k : Act) (key : Bool) (l : Line) (o : Outside) (q : Position) → line_past must here bs k key l ≡ Some o → o.line ≡ waits q → Waits must here bs k l o q
+waits_past must here bs k key l o q e w = by k key l must e
+  where
+    other : (cs : List ℕ) (m : Line) → is_waiting m ≡ false → Some (let x : Outside = record { line = m; blocks = cs } in x) ≡ Some o → ⊥
+    other cs m n e = cc (n, ap is_waiting (ap (λ (x : Outside). x.line) (same_of _ o e) ∙ w))
+
+    near : (begin : Position) (n : Bool) → (if n then Some (let x : Outside = record { line = taken; blocks = opened begin.col bs } in x) else None) ≡ Some o → ⊥
+    near begin true e = other (opened begin.col bs) taken refl e
+    near begin false e = cc e
+
+    place : (p : Position) → waits p ≡ waits q → p ≡ q
+    place p e = cc e
+
+    blocks : (m : Line) → Some (let x : Outside = record { line = m; blocks = bs } in x) ≡ Some o → o.blocks ≡ bs
+    blocks m e = ap (λ (x : Outside). x.blocks) (sym (same_of _ o e))
+
+    line : (m : Line) → Some (let x : Outside = record { line = m; blocks = bs } in x) ≡ Some o → m ≡ waits q
+    line m e = ap (λ (x : Outside). x.line) (same_of _ o e) ∙ w
+
+    by : (k : Act) (key : Bool) (l : Line) (must : Bool) → line_past must here bs k key l ≡ Some o → Waits must here bs k l o q
+    by gives_node true free must e = begun refl refl (place here (line (waits here) e)) (blocks (waits here) e)
+    by gives_node false free true e = absurd (cc e)
+    by gives_node false free false e = absurd (other bs taken refl e)
+    by gives_node false taken must e = absurd (other bs taken refl e)
+    by gives_node false (waits p) must e = kept refl (line (waits p) e) (blocks (waits p) e)
+    by gives_node true taken must e = absurd (cc e)
+    by gives_node true (waits p) must e = absurd (cc e)
+    by gives_block_scalar true l must e = absurd (cc e)
+    by gives_block_scalar false free true e = absurd (cc e)
+    by gives_block_scalar false free false e = absurd (other bs free refl e)
+    by gives_block_scalar false taken must e = absurd (other bs free refl e)
+    by gives_block_scalar false (waits p) must e = absurd (cc e)
+    by gives_dash true l must e = absurd (cc e)
+    by gives_dash false free must e = absurd (other (opened here.col bs) free refl e)
+    by gives_dash false taken must e = absurd (cc e)
+    by gives_dash false (waits p) must e = absurd (cc e)
+    by gives_question true l must e = absurd (cc e)
+    by gives_question false free must e = absurd (other (opened here.col bs) free refl e)
+    by gives_question false taken must e = absurd (cc e)
+    by gives_question false (waits p) must e = absurd (cc e)
+    by gives_colon true l must e = absurd (cc e)
+    by gives_colon false free must e = absurd (other (opened here.col bs) free refl e)
+    by gives_colon false taken must e = absurd (cc e)
+    by gives_colon false (waits p) must e = absurd (near p (is_near p here) e)
+    by gives_comma true l must e = absurd (cc e)
+    by gives_comma false free must e = absurd (other bs free refl e)
+    by gives_comma false taken must e = absurd (other bs free refl e)
+    by gives_comma false (waits p) must e = absurd (cc e)
+    by gives_closing true l must e = absurd (cc e)
+    by gives_closing false free must e = absurd (other bs taken refl e)
+    by gives_closing false taken must e = absurd (other bs taken refl e)
+    by gives_closing false (waits p) must e = absurd (cc e)
+    by gives_marker true l must e = absurd (cc e)
+    by gives_marker false free must e = absurd (other bs taken refl e)
+    by gives_marker false taken must e = absurd (other bs taken refl e)
+    by gives_marker false (waits p) must e = absurd (cc e)
+    by gives_nothing key l must e = absurd (cc e)
+
+-- a node with which no key begins where one may is in no column of the innermost collection
+no_must : (must key : Bool) (here : Position) (bs : List ℕ) (o : Outside) → line_past must here bs gives_node key free ≡ Some o → o.line ≡ taken → must ≡ false
+no_must true true here bs o e t = absurd (cc (ap (λ (x : Outside). x.line) (same_of _ o e) ∙ t))
+no_must true false here bs o e t = absurd (cc e)
+no_must false key here bs o e t = refl
+
+-- while a key waits a piece outside flow is a part of a node, after which it still waits, or the colon; and where none waits on a line that is taken, no colon comes
+still : (must : Bool) (here : Position) (bs : List ℕ) (k : Act) (b c : Bool) (q : Position) (o u : Outside) → line_past must here bs k b taken ≡ Some o → line_past must here bs k c (waits q) ≡ Some u → (o.line ≡ taken) × (u.line ≡ waits q)
+still must here bs k b c q o u e f = by k b c e f
+  where
+    by : (k : Act) (b c : Bool) → line_past must here bs k b taken ≡ Some o → line_past must here bs k c (waits q) ≡ Some u → (o.line ≡ taken) × (u.line ≡ waits q)
+    by gives_node false false e f = (ap (λ (x : Outside). x.line) (sym (same_of _ o e)), ap (λ (x : Outside). x.line) (sym (same_of _ u f)))
+    by gives_node true c e f = absurd (cc e)
+    by gives_node b true e f = absurd (cc f)
+    by gives_block_scalar b true e f = absurd (cc f)
+    by gives_block_scalar b false e f = absurd (cc f)
+    by gives_dash b true e f = absurd (cc f)
+    by gives_dash b false e f = absurd (cc f)
+    by gives_question b true e f = absurd (cc f)
+    by gives_question b false e f = absurd (cc f)
+    by gives_colon true c e f = absurd (cc e)
+    by gives_colon false c e f = absurd (cc e)
+    by gives_comma b true e f = absurd (cc f)
+    by gives_comma b false e f = absurd (cc f)
+    by gives_closing b true e f = absurd (cc f)
+    by gives_closing b false e f = absurd (cc f)
+    by gives_marker b true e f = absurd (cc f)
+    by gives_marker b false e f = absurd (cc f)
+    by gives_nothing b c e f = absurd (cc e)
+
+-- ---- what a step makes
+
+-- what comes of an account by a step, outside flow or in flow
+data Made (s : Site) (l : Line) (es : List Entry) (w : Step) (next : List ℕ) (b : Account) : Type 0 where
+  outside : (m : Line) (o : Outside) → es ≡ [] → line_past_separation false (begins_free_line s.before w.separation) l ≡ Some m
+      → (let at : Site = site_at false s w.separation w.piece w.shown next in line_past (is_in_column at.position.col at.blocks) at.position at.blocks (act_of w.shown) w.key m) ≡ Some o
+      → b.line ≡ o.line → b.site ≡ (let at : Site = site_at false s w.separation w.piece w.shown next in site_past false at w.piece w.shown next o.blocks) → (has_break w.piece && is_waiting b.line) ≡ false → Made s l es w next b
+  inside : is_in_flow es ≡ true → line_past_separation true (begins_free_line s.before w.separation) l ≡ Some b.line
+      → b.site ≡ (let at : Site = site_at true s w.separation w.piece w.shown next in site_past true at w.piece w.shown next s.blocks) → (has_break w.piece && is_waiting b.line) ≡ false → Made s l es w next b
+
+made : (s : Site) (l : Line) (es : List Entry) (w : Step) (next : List ℕ) (b : Account) → account_past (with_entries s l es) w next ≡ Some b → Made s l es w next b
+made s l [] w next b e = by (may_stand false s at w.separation w.piece w.shown next) (line_past_separation false (begins_free_line s.before w.separation) l) refl e
+  where
+    at : Site
+    at = site_at false s w.separation w.piece w.shown next
+
+    by : (c : Bool) (m : Option Line) → line_past_separation false (begins_free_line s.before w.separation) l ≡ m
+        → (if c then on_one_line w.piece (past_piece at w.piece w.shown next (is_renewed s.before w.separation) w.key m []) else None) ≡ Some b → Made s l [] w next b
+    by false m f e = absurd (cc e)
+    by true None f e = absurd (cc e)
+    by true (Some m) f e = to (line_past (is_in_column at.position.col at.blocks) at.position at.blocks (act_of w.shown) w.key m) refl e
+      where
+        to : (o : Option Outside) → line_past (is_in_column at.position.col at.blocks) at.position at.blocks (act_of w.shown) w.key m ≡ o → on_one_line w.piece (past_outside at w.piece w.shown next o) ≡ Some b → Made s l [] w next b
+        to None g e = absurd (cc e)
+        to (Some o) g e = last (has_break w.piece && is_waiting o.line) refl e
+          where
+            past : Account
+            past = record { site = site_past false at w.piece w.shown next o.blocks; line = o.line; entries = begun_by w.shown }
+
+            last : (d : Bool) → (has_break w.piece && is_waiting o.line) ≡ d → (if d then None else Some past) ≡ Some b → Made s l [] w next b
+            last true h e = absurd (cc e)
+            last false h e = let same : past ≡ b = same_of past b e in
+                outside m o refl f g (ap (λ (a : Account). a.line) (sym same)) (ap (λ (a : Account). a.site) (sym same)) (ap (λ (a : Account). has_break w.piece && is_waiting a.line) (sym same) ∙ h)
+made s l (d ∷ ds) w next b e = by (may_stand true s at w.separation w.piece w.shown next) (line_past_separation true (begins_free_line s.before w.separation) l) refl e
+  where
+    at : Site
+    at = site_at true s w.separation w.piece w.shown next
+
+    by : (c : Bool) (m : Option Line) → line_past_separation true (begins_free_line s.before w.separation) l ≡ m
+        → (if c then on_one_line w.piece (past_piece at w.piece w.shown next (is_renewed s.before w.separation) w.key m (d ∷ ds)) else None) ≡ Some b → Made s l (d ∷ ds) w next b
+    by false m f e = absurd (cc e)
+    by true None f e = absurd (cc e)
+    by true (Some m) f e = to (entries_past at.position (is_renewed s.before w.separation) (act_of w.shown) (begun_by w.shown) w.key d ds) e
+      where
+        to : (o : Option (List Entry)) → on_one_line w.piece (past_inside at w.piece w.shown next m o) ≡ Some b → Made s l (d ∷ ds) w next b
+        to None e = absurd (cc e)
+        to (Some es) e = last (has_break w.piece && is_waiting m) refl e
+          where
+            past : Account
+            past = record { site = site_past true at w.piece w.shown next at.blocks; line = m; entries = es }
+
+            last : (n : Bool) → (has_break w.piece && is_waiting m) ≡ n → (if n then None else Some past) ≡ Some b → Made s l (d ∷ ds) w next b
+            last true h e = absurd (cc e)
+            last false h e = let same : past ≡ b = same_of past b e in
+                inside refl (f ∙ ap (λ (a : Account). Some a.line) same) (ap (λ (a : Account). a.site) (sym same)) (ap (λ (a : Account). has_break w.piece && is_waiting a.line) (sym same) ∙ h)
+
+-- ---- the line of a key
+
+-- a site on the line of a key that waits, after a piece there that is no directive
+record OnLine (q : Position) (s : Site) : Type 0 where
+  unmarked : (f : List ℕ) → begins_free_line s.before f ≡ has_break f
+  line_is : s.position.line ≡ q.line
+  further : 1 ≤ s.position.col
+
+unbroken_is : (text : List ℕ) → has_break text ≡ false → has_no_break text ≡ true
+unbroken_is text h = by (has_no_break text) h
+  where
+    by : (b : Bool) → not b ≡ false → b ≡ true
+    by true h = refl
+    by false h = absurd (cc h)
+
+stays : (p : Position) (text next : List ℕ) → has_break text ≡ false → ((position_after p text next).line ≡ p.line) × ((position_after p text next).col ≡ p.col + length text)
+stays p text next h = let same = sym (position_in_line p text next (unbroken_is text h)) in (ap (λ (q : Position). q.line) same, ap (λ (q : Position). q.col) same)
+
+unmarked_by : (t : Tok) → is_marker (act_of t) ≡ false → (f : List ℕ) → begins_free_line (previous_by t) f ≡ has_break f
+unmarked_by (version_directive major minor) h f = absurd (cc h)
+unmarked_by (tag_directive handle prefix) h f = absurd (cc h)
+unmarked_by (scalar plain text) h f = refl
+unmarked_by (scalar single_quoted text) h f = refl
+unmarked_by (scalar double_quoted text) h f = refl
+unmarked_by (scalar literal text) h f = refl
+unmarked_by (scalar folded text) h f = refl
+unmarked_by _ h f = refl
+
+some_length : (piece : List ℕ) → not (is_empty piece) ≡ true → 1 ≤ length piece
+some_length [] h = absurd (cc h)
+some_length (c ∷ piece) h = omega arith
+
+-- after a piece on the line of a key that waits
+line_after : (q here : Position) (piece : List ℕ) (t : Tok) (next : List ℕ) (s : Site) → s.position ≡ position_after here piece next → s.before ≡ previous_by t → here.line ≡ q.line → not (is_empty piece) ≡ true → has_break piece ≡ false → is_marker (act_of t) ≡ false → OnLine q s
+line_after q here piece t next s p b l some none m = let on = stays here piece next none in let many = some_length piece some in let col : s.position.col ≡ here.col + length piece = ap (λ (x : Position). x.col) p ∙ on.1 in record {
+  unmarked = λ f. ap (λ x. begins_free_line x f) b ∙ unmarked_by t m f;
+  line_is = ap (λ (x : Position). x.line) p ∙ (on.0 ∙ l);
+  further = omega (arith, col, many);
+}
+
+not_broken : (p : List ℕ) (l : Line) (q : Position) → l ≡ waits q → (has_break p && is_waiting l) ≡ false → has_break p ≡ false
+not_broken p l q w h = by (has_break p) (ap (λ x. has_break p && is_waiting x) (sym w) ∙ h)
+  where
+    by : (b : Bool) → (b && true) ≡ false → b ≡ false
+    by true h = absurd (cc h)
+    by false h = refl
+
+-- over a separation a key waits that has waited, and no line ends
+waited : (fl broken : Bool) (l m : Line) (q : Position) → line_past_separation fl broken l ≡ Some m → m ≡ waits q → (l ≡ waits q) × (broken ≡ false)
+waited fl false l m q h w = (same_of l m h ∙ w, refl)
+waited true true free m q h w = absurd (cc (ap is_waiting (same_of free m h ∙ w)))
+waited true true taken m q h w = absurd (cc (ap is_waiting (same_of taken m h ∙ w)))
+waited false true free m q h w = absurd (cc (ap is_waiting (same_of free m h ∙ w)))
+waited false true taken m q h w = absurd (cc (ap is_waiting (same_of free m h ∙ w)))
+waited fl true (waits p) m q h w = absurd (cc h)
+
+-- a site is on the line of the key that waits
+abbrev Waiting : Line → Site → Type 0
+Waiting l s = (q : Position) → l ≡ waits q → OnLine q s
+
+here_on : (q : Position) (s : Site) (sep more : List ℕ) → OnLine q s → begins_free_line s.before sep ≡ false → ((position_after s.position sep more).line ≡ q.line) × (1 ≤ (position_after s.position sep more).col)
+here_on q s sep more on f = let st = stays s.position sep more (sym (on.unmarked sep) ∙ f) in let far = on.further in let col = st.1 in (st.0 ∙ on.line_is, omega (arith, far, col))
+
+node_no_marker : (k : Act) → k ≡ gives_node → is_marker k ≡ false
+node_no_marker k e = ap is_marker e
+
+waiting_past : (s : Site) (l : Line) (es : List Entry) (w : Step) (next : List ℕ) (b : Account) → Waiting l s → IsWritten (with_entries s l es) w next → account_past (with_entries s l es) w next ≡ Some b → Waiting b.line b.site
+waiting_past s l es w next b on is e q wt = by (made s l es w next b e)
+  where
+    here : Position
+    here = position_after s.position w.separation (w.piece ++ next)
+
+    by : Made s l es w next b → OnLine q b.site
+    by (outside m o none sep past line site one) = to (waits_past _ _ _ _ w.key m o q past (sym line ∙ wt))
+      where
+        unbroken : has_break w.piece ≡ false
+        unbroken = not_broken w.piece b.line q wt one
+
+        to : Waits (is_in_column here.col (site_at false s w.separation w.piece w.shown next).blocks) here (site_at false s w.separation w.piece w.shown next).blocks (act_of w.shown) m o q → OnLine q b.site
+        to (begun k f h bs) = line_after q here w.piece w.shown next b.site (ap (λ (x : Site). x.position) site) (ap (λ (x : Site). x.before) site) (ap (λ (x : Position). x.line) h) is.1.0 unbroken (node_no_marker _ k)
+        to (kept k f bs) =
+            let was = waited false (begins_free_line s.before w.separation) l m q sep f in
+            line_after q here w.piece w.shown next b.site (ap (λ (x : Site). x.position) site) (ap (λ (x : Site). x.before) site) (here_on q s w.separation (w.piece ++ next) (on q was.0) was.1).0 is.1.0 unbroken (node_no_marker _ k)
+    by (inside some sep site one) =
+        let was = waited true (begins_free_line s.before w.separation) l b.line q sep wt in
+        let far = here_on q s w.separation (w.piece ++ next) (on q was.0) was.1 in
+        line_after q here w.piece w.shown next b.site (ap (λ (x : Site). x.position) site) (ap (λ (x : Site). x.before) site) far.0 is.1.0 (not_broken w.piece b.line q wt one) (unmarked (is_marker (act_of w.shown)) refl far.1)
+      where
+        unmarked : (c : Bool) → is_marker (act_of w.shown) ≡ c → 1 ≤ here.col → is_marker (act_of w.shown) ≡ false
+        unmarked false m far = m
+        unmarked true m far = let zero : here.col ≡ 0 = (marker_begins _ w.piece next None _ w.shown is.1.1 m).column in absurd (omega (arith, far, zero))
+
+-- ---- a beginning and a row
+
+-- What is so of a beginning and a row that has come as far: the collections fall; where a key waits in the beginning and none in the row, the key lies deeper than all of them; and the row is on the line of its own key that waits.
+record Together (x y : Account) : Type 0 where
+  falls : Falls x.site.blocks
+  below : (q : Position) → x.line ≡ waits q → y.line ≡ taken → AllBelow q.col x.site.blocks
+  on : Waiting y.line y.site
+
+-- A key of a beginning is made none: none waits in it, and in the row one waits.
+record Apart (q : Position) (x y : Account) : Type 0 where
+  none : x.line ≡ taken
+  one : y.line ≡ waits q
+  on : OnLine q y.site
+
+not_free : (l m : Line) → LikeLine l m → l ≡ free → m ≡ taken → ⊥
+not_free free free i h k = cc k
+not_free free taken i h k = i
+not_free free (waits q) i h k = i
+not_free taken m i h k = cc h
+not_free (waits p) m i h k = cc h
+
+-- like lines are like after a separation
+like_past : (fl broken : Bool) (l m n o : Line) → LikeLine l m → line_past_separation fl broken l ≡ Some n → line_past_separation fl broken m ≡ Some o → LikeLine n o
+like_past fl broken l m n o i e f = by (line_past_separation fl broken l) (line_past_separation fl broken m) e f (separation_step fl broken l m i)
+  where
+    by : (x y : Option Line) → x ≡ Some n → y ≡ Some o → Stepped LikeLine (l ≡ m) x y → LikeLine n o
+    by None y e f s = absurd (cc e)
+    by (Some x) None e f s = absurd (cc f)
+    by (Some x) (Some y) e f s = subst (λ z. LikeLine n z) (same_of y o f) (subst (λ z. LikeLine z y) (same_of x n e) s.0)
+
+-- after a node none waits on a line that is taken, where none waited or began
+taken_past : (must : Bool) (here : Position) (bs : List ℕ) (key : Bool) (l : Line) (o : Outside) → line_past must here bs gives_node key l ≡ Some o → o.line ≡ taken → ((l ≡ free) × (must ≡ false)) ⊎ (l ≡ taken)
+taken_past must here bs key free o e t = inl (refl, no_must must key here bs o e t)
+taken_past must here bs key taken o e t = inr refl
+taken_past must here bs true (waits p) o e t = absurd (cc e)
+taken_past must here bs false (waits p) o e t = absurd (cc (ap is_waiting (ap (λ (x : Outside). x.line) (same_of _ o e) ∙ t)))
+
+-- where a line is taken after a separation in which no line ends, it was so before
+was_taken : (fl : Bool) (l m : Line) → line_past_separation fl false l ≡ Some m → m ≡ taken → l ≡ taken
+was_taken fl l m e t = same_of l m e ∙ t
+
+was_taken_inside : (broken : Bool) (l m : Line) → line_past_separation true broken l ≡ Some m → m ≡ taken → l ≡ taken
+was_taken_inside false l m e t = same_of l m e ∙ t
+was_taken_inside true free m e t = same_of free m e ∙ t
+was_taken_inside true taken m e t = refl
+was_taken_inside true (waits p) m e t = absurd (cc e)
+
+-- the columns after a step
+falls_after : (s : Site) (l : Line) (es : List Entry) (w : Step) (next : List ℕ) (b : Account) → Falls s.blocks → account_past (with_entries s l es) w next ≡ Some b → Falls b.site.blocks
+falls_after s l es w next b f e = by (made s l es w next b e)
+  where
+    by : Made s l es w next b → Falls b.site.blocks
+    by (outside m o none sep past line site one) = subst (λ (x : Site). Falls x.blocks) (sym site) (falls_past _ _ _ (act_of w.shown) w.key m o past (falls_at false (act_of w.shown) (position_after s.position w.separation (w.piece ++ next)).col s.blocks f))
+    by (inside some sep site one) = subst (λ (x : Site). Falls x.blocks) (sym site) f
+
+below_after : (s : Site) (l m : Line) (ds es : List Entry) (w : Step) (c : Bool) (next : List ℕ) (a b : Account) → LikeLine l m → LikeEntries ds es → Falls s.blocks → ((q : Position) → l ≡ waits q → m ≡ taken → AllBelow q.col s.blocks)
+    → account_past (with_entries s l ds) w next ≡ Some a → account_past (with_entries s m es) (With w c) next ≡ Some b → (q : Position) → a.line ≡ waits q → b.line ≡ taken → AllBelow q.col a.site.blocks
+below_after s l m ds es w c next a b i j f below e1 e2 q wt tk = by (made s l ds w next a e1) (made s m es (With w c) next b e2)
+  where
+    at : Site
+    at = site_at false s w.separation w.piece w.shown next
+
+    broken : Bool
+    broken = begins_free_line s.before w.separation
+
+    flows : is_in_flow ds ≡ is_in_flow es
+    flows = same_flow ds es j
+
+    both : (n o : Line) (u v : Outside) → LikeLine n o → line_past_separation false broken l ≡ Some n → line_past_separation false broken m ≡ Some o
+        → line_past (is_in_column at.position.col at.blocks) at.position at.blocks (act_of w.shown) c o ≡ Some v → v.line ≡ taken → Waits (is_in_column at.position.col at.blocks) at.position at.blocks (act_of w.shown) n u q → AllBelow q.col u.blocks
+    both n o u v k sep1 sep2 past tk (begun act fr h bs) = to (taken_past _ _ _ c o v (ap (λ x. line_past (is_in_column at.position.col at.blocks) at.position at.blocks x c o) (sym act) ∙ past) tk)
+      where
+        to : ((o ≡ free) × (is_in_column at.position.col at.blocks ≡ false)) ⊎ (o ≡ taken) → AllBelow q.col u.blocks
+        to (inl p) = subst (λ x. AllBelow q.col x) (sym bs) (subst (λ (x : Position). AllBelow x.col at.blocks) h (here_below (is_marker (act_of w.shown)) refl p.1))
+          where
+            here_below : (d : Bool) → is_marker (act_of w.shown) ≡ d → is_in_column at.position.col at.blocks ≡ false → AllBelow at.position.col at.blocks
+            here_below true z g = absurd (cc (node_no_marker (act_of w.shown) act, z))
+            here_below false z g = subst (λ d. AllBelow at.position.col (if d then [] else not_ended at.position.col s.blocks)) (sym z)
+                (below_here at.position.col s.blocks f (subst (λ d. is_in_column at.position.col (if d then [] else not_ended at.position.col s.blocks) ≡ false) z g))
+        to (inr t) = absurd (not_free n o k fr t)
+    both n o u v k sep1 sep2 past tk (kept act is bs) = to (taken_past _ _ _ c o v (ap (λ x. line_past (is_in_column at.position.col at.blocks) at.position at.blocks x c o) (sym act) ∙ past) tk)
+      where
+        was : (l ≡ waits q) × (broken ≡ false)
+        was = waited false broken l n q sep1 is
+
+        never : (x y : Line) → LikeLine x y → x ≡ waits q → y ≡ free → ⊥
+        never free y k h g = cc h
+        never taken y k h g = cc h
+        never (waits p) free k h g = k
+        never (waits p) taken k h g = cc g
+        never (waits p) (waits z) k h g = cc g
+
+        to : ((o ≡ free) × (is_in_column at.position.col at.blocks ≡ false)) ⊎ (o ≡ taken) → AllBelow q.col u.blocks
+        to (inl p) = absurd (never n o k is p.0)
+        to (inr t) = subst (λ x. AllBelow q.col x) (sym bs) (below_at q.col false (act_of w.shown) at.position.col s.blocks
+            (below q was.0 (was_taken false m o (subst (λ x. line_past_separation false x m ≡ Some o) was.1 sep2) t)))
+
+    by : Made s l ds w next a → Made s m es (With w c) next b → AllBelow q.col a.site.blocks
+    by (outside n u n1 sep1 past1 line1 site1 one1) (outside o v n2 sep2 past2 line2 site2 one2) =
+        subst (λ (x : Site). AllBelow q.col x.blocks) (sym site1) (both n o u v (like_past false broken l m n o i sep1 sep2) sep1 sep2 past2 (sym line2 ∙ tk) (waits_past _ _ _ (act_of w.shown) w.key n u q past1 (sym line1 ∙ wt)))
+    by (outside n u n1 sep1 past1 line1 site1 one1) (inside some sep2 site2 one2) = absurd (cc (sym (ap is_in_flow n1) ∙ flows ∙ some))
+    by (inside some sep1 site1 one1) (outside o v n2 sep2 past2 line2 site2 one2) = absurd (cc (sym some ∙ flows ∙ ap is_in_flow n2))
+    by (inside some1 sep1 site1 one1) (inside some2 sep2 site2 one2) =
+        subst (λ (x : Site). AllBelow q.col x.blocks) (sym site1) (below q (waited true broken l a.line q sep1 wt).0 (was_taken_inside broken m b.line sep2 tk))
+
+-- while none waits in the beginning and one in the row, this stays so
+apart_after : (s : Site) (ds es : List Entry) (w : Step) (c : Bool) (next : List ℕ) (a b : Account) (q : Position) → LikeEntries ds es → account_past (with_entries s taken ds) w next ≡ Some a → account_past (with_entries s (waits q) es) (With w c) next ≡ Some b
+    → (a.line ≡ taken) × (b.line ≡ waits q)
+apart_after s ds es w c next a b q j e1 e2 = by (made s taken ds w next a e1) (made s (waits q) es (With w c) next b e2)
+  where
+    at : Site
+    at = site_at false s w.separation w.piece w.shown next
+
+    flows : is_in_flow ds ≡ is_in_flow es
+    flows = same_flow ds es j
+
+    kept_line : (fl broken : Bool) (m : Line) → line_past_separation fl broken (waits q) ≡ Some m → (m ≡ waits q) × (broken ≡ false)
+    kept_line fl false m e = (sym (same_of (waits q) m e), refl)
+    kept_line fl true m e = absurd (cc e)
+
+    inside_line : (broken : Bool) (m : Line) → line_past_separation true broken taken ≡ Some m → m ≡ taken
+    inside_line false m e = sym (same_of taken m e)
+    inside_line true m e = sym (same_of taken m e)
+
+    both : (n o : Line) (u v : Outside) → n ≡ taken → o ≡ waits q → line_past (is_in_column at.position.col at.blocks) at.position at.blocks (act_of w.shown) w.key n ≡ Some u
+        → line_past (is_in_column at.position.col at.blocks) at.position at.blocks (act_of w.shown) c o ≡ Some v → (u.line ≡ taken) × (v.line ≡ waits q)
+    both n o u v nt ow p1 p2 = still (is_in_column at.position.col at.blocks) at.position at.blocks (act_of w.shown) w.key c q u v
+        (subst (λ x. line_past (is_in_column at.position.col at.blocks) at.position at.blocks (act_of w.shown) w.key x ≡ Some u) nt p1)
+        (subst (λ x. line_past (is_in_column at.position.col at.blocks) at.position at.blocks (act_of w.shown) c x ≡ Some v) ow p2)
+
+    by : Made s taken ds w next a → Made s (waits q) es (With w c) next b → (a.line ≡ taken) × (b.line ≡ waits q)
+    by (outside n u n1 sep1 past1 line1 site1 one1) (outside o v n2 sep2 past2 line2 site2 one2) =
+        let was = kept_line false (begins_free_line s.before w.separation) o sep2 in
+        let n_is : n ≡ taken = sym (same_of taken n (subst (λ x. line_past_separation false x taken ≡ Some n) was.1 sep1)) in
+        let r = both n o u v n_is was.0 past1 past2 in (line1 ∙ r.0, line2 ∙ r.1)
+    by (outside n u n1 sep1 past1 line1 site1 one1) (inside some sep2 site2 one2) = absurd (cc (sym (ap is_in_flow n1) ∙ flows ∙ some))
+    by (inside some sep1 site1 one1) (outside o v n2 sep2 past2 line2 site2 one2) = absurd (cc (sym some ∙ flows ∙ ap is_in_flow n2))
+    by (inside some1 sep1 site1 one1) (inside some2 sep2 site2 one2) = (inside_line (begins_free_line s.before w.separation) a.line sep1, (kept_line true (begins_free_line s.before w.separation) b.line sep2).0)
+
+-- ---- as far as a beginning leads
+
+together_keeps : Keeps (λ x y _. Together x y)
+together_keeps x y a b v c next i p k e f = record {
+  falls = falls_after x.site x.line x.entries v next a p.falls e;
+  below = below_after x.site x.line y.line x.entries y.entries v c next a b i.1 i.2 p.falls p.below e (subst (λ s. account_past (with_entries s y.line y.entries) (With v c) next ≡ Some b) (sym i.0) f);
+  on = waiting_past y.site y.line y.entries (With v c) next b p.on k f;
+}
+
+apart_keeps : (q : Position) → Keeps (λ x y _. Apart q x y)
+apart_keeps q x y a b v c next i p k e f =
+    let lines : (a.line ≡ taken) × (b.line ≡ waits q) = apart_after x.site x.entries y.entries v c next a b q i.2
+    (subst (λ l. account_past (with_entries x.site l x.entries) v next ≡ Some a) p.none e)
+    (subst (λ l. account_past (with_entries x.site l y.entries) (With v c) next ≡ Some b) p.one (subst (λ s. account_past (with_entries s y.line y.entries) (With v c) next ≡ Some b) (sym i.0) f)) in
+    record { none = lines.0; one = lines.1; on = waiting_past y.site y.line y.entries (With v c) next b own k f q lines.1 }
+  where
+    place : (z : Position) → waits q ≡ waits z → q ≡ z
+    place z e = cc e
+
+    own : Waiting y.line y.site
+    own z e = subst (λ u. OnLine u y.site) (place z (sym p.one ∙ e)) p.on
+
+first_together : Together first_account first_account
+first_together = record { falls = tt; below = λ q h t. absurd (cc h); on = λ q h. absurd (cc h) }
+
+-- Where a key that must be one waits in a beginning, no line ends before a place to which steps lead without it.
+pub key_on_its_line : (text separation rest : List ℕ) (begin here : Position) (a : Account) (r : Row) → BeginsButForKey text (separation ++ rest) begin a → is_separation false separation rest ≡ true → here ≡ position_after a.site.position separation rest → begin.line < here.line
+    → is_empty rest ≡ false → begins_separation rest ≡ false → HasRow text r → ⊥
+key_on_its_line text separation rest begin here a r g filled here_is late some solid row = by first.account.line refl
+  where
+    after : List ℕ
+    after = separation ++ rest
+
+    first : Walked (λ x y _. Together x y) g.account (spelled g.steps after)
+    first = row_walks (λ x y _. Together x y) together_keeps text (spelled g.steps after) g.account r first_together g.begins row
+
+    like : LikeLine (waits begin) first.account.line
+    like = subst (λ l. LikeLine l first.account.line) g.line_is first.is_like.1
+
+    by : (l : Line) → first.account.line ≡ l → ⊥
+    by free e = subst (λ l. LikeLine (waits begin) l) e like
+    by taken e = not_below begin.col g.account.site.blocks g.must_be (first.holds.below begin g.line_is e)
+    by (waits q) e = ends second.steps second.is_row second.spells
+      where
+        begin_is : begin ≡ q
+        begin_is = subst (λ l. LikeLine (waits begin) l) e like
+
+        none : Account
+        none = record { site = g.account.site; line = taken; entries = g.account.entries }
+
+        second : Walked (λ x y _. Apart q x y) a after
+        second = walk (λ x y _. Apart q x y) (apart_keeps q) g.steps first.steps after first.stop none first.account a first.is_over (first.is_like.0, subst (λ l. LikeLine taken l) (sym e) tt, first.is_like.2)
+            (record { none = refl; one = e; on = first.holds.on q e }) g.leads first.is_row (sym first.spells) first.is_clean
+
+        z : Account
+        z = second.account
+
+        ends : (ws : List Step) → LeadsTo (Some z) ws second.stop → spelled_to ws second.stop ≡ after → ⊥
+        ends [] k f = absurd (cc (second.is_over, (near_stop z second.stop q second.holds.one k).goes_on))
+        ends (w ∷ ws) k f =
+            let at : (w.separation ≡ separation) × (w.piece ++ spelled_to ws second.stop ≡ rest) = step_here z w (spelled_to ws second.stop) separation rest k.0 f filled solid (no_nul_after separation rest second.is_clean) in
+            let unbroken : begins_free_line z.site.before separation ≡ false = subst (λ x. begins_free_line z.site.before x ≡ false) at.0 (waiting_goes_on z (w ∷ ws) second.stop q second.holds.one k).1 in
+            let line : here.line ≡ q.line = ap (λ (p : Position). p.line) here_is ∙ (ap (λ (s : Site). (position_after s.position separation rest).line) second.is_like.0 ∙ (here_on q z.site separation rest second.holds.on unbroken).0) in
+            let own : begin.line ≡ q.line = ap (λ (p : Position). p.line) begin_is in
+            omega (arith, late, line, own)
+
+pub texts_with_a_row_are_not_stuck : TextsWithARowAreNotStuck
+texts_with_a_row_are_not_stuck text why at r row (fails a separation rest why2 here at2 place some solid f) = failing_places_have_no_row text separation rest a here at why r place solid some f row
+texts_with_a_row_are_not_stuck text why at r row (no_key a separation more here place is out line none) = no_keyless_colon text separation more a here r place is out line none row
+texts_with_a_row_are_not_stuck text why at r row (key_waits a separation rest why2 begin here at2 g flowing filled here_is late some solid f) = key_on_its_line text separation rest begin here a r g filled here_is late some solid row

@@ -1,0 +1,99 @@
+-- Where a condition of these kinds fails no row of the text goes on.
+use Rattle.std.proofs.Common.{◌≡◌, ℕ, List, ◌∷◌, ◌++◌, Bool, true, false, refl, ap, ◌∙◌}
+use Rattle.defs_text.specs.Classes as classes
+use Rattle.defs_text.specs.Classes.{tab}
+use Rattle.defs_text.specs.Position.{Position, position_after}
+use Rattle.defs_token.specs.Account.{is_adjacent, before_past}
+use Rattle.defs_token.specs.Step.{Row}
+use Rattle.defs_token.specs.Beginning.{IsPlace}
+use Rattle.defs_token.specs.Row.{HasRow}
+use Rattle.defs_token.specs.Indentation.{least_column}
+use Rattle.proof_scanner.specs.PiecesRead.{comes_plain}
+use Rattle.defs_token.specs.RowAccount.{Site, Account, before_by, is_in_flow}
+use Rattle.yaml_tokens.specs.declared.problem.Problem.{Problem}
+use Rattle.proof_scanner.specs.Certain.{FailingPlacesHaveNoRow}
+use Rattle.proof_scanner.specs.NoPiece as none
+use Rattle.proof_scanner.specs.QuotedLines as quoted_lines
+use Rattle.proof_scanner.specs.QuotedLines.{AreNotIndented, IsQuotedFault}
+use Rattle.proof_scanner.specs.NoPiece.{NoPiece, IsPlainFault, IsBlockFault, IsFollowed}
+use Rattle.proof_scanner.specs.Stuck as defs
+use Rattle.proof_scanner.specs.Stuck.{MayNotStand, Fails, HasNoKey, site_at_place, is_taken, is_value_here}
+use Rattle.proof_scanner.proofs.Refusals.OtherRows.{StepAt, RowAt, row_at}
+use Rattle.proof_scanner.proofs.Refusals.PiecesHere.{no_at_sign, no_backtick, no_percent, no_name, no_dash, no_bracket}
+use Rattle.proof_scanner.proofs.Refusals.PlainsRefused.{no_column, no_dash as no_plain_dash, no_tab}
+use Rattle.proof_scanner.proofs.Refusals.TextsRefused.{no_block_tab, no_tag, no_directive, no_block_header, no_quoted_text, no_quoted_lines}
+use Rattle.proof_scanner.proofs.Refusals.StandsRefused.{no_tab_after_quoted, no_tabbed_line, no_dash_here, no_question_here, no_space_after, no_tab_after, no_colon_here, spaces_indent, no_late_colon, no_glued, no_glued_quoted}
+use Rattle.proof_scanner.proofs.Refusals.PiecesRefused.{no_shallow, no_tabbed_dash, no_tabbed_colon, no_document_end, no_quoted_end, no_block_end}
+
+-- ---- kinds
+
+plain_other : (a : Account) (separation rest : List ℕ) (here : Position) (s : StepAt a separation rest here) (why : Problem) (at : Position) → comes_plain (is_in_flow a.entries) (is_adjacent (before_past (before_by a.site.before) separation)) here.col rest ≡ true
+    → IsPlainFault (is_in_flow a.entries) (site_at_place a here).blocks here rest why at → ⊥
+plain_other a separation rest here s why at comes (none.by_column flow left) = no_column a separation rest here s comes flow left
+plain_other a separation rest here s why at comes (none.by_dash before more flow cut begins over apart) = no_plain_dash a separation rest here s comes before more flow cut begins over apart
+plain_other a separation rest here s why at comes (none.by_tab before blanks more column cut over stands left are token) = no_tab a separation rest here s comes before blanks more column cut over stands left are token
+
+lines_other : (a : Account) (separation rest : List ℕ) (here : Position) (s : StepAt a separation rest here) (single : Bool) (why : Problem) (at : Position) → AreNotIndented single (least_column (site_at_place a here).blocks (site_at_place a here).awaits) rest → IsQuotedFault single (least_column (site_at_place a here).blocks (site_at_place a here).awaits) here rest why at → ⊥
+lines_other a separation rest here s single why at none (quoted_lines.by_column body more es cut has solid further low) = no_quoted_lines a separation rest here s single (body ++ more) cut none
+lines_other a separation rest here s single why at none (quoted_lines.by_tab body more es cut has further low) = no_quoted_lines a separation rest here s single (body ++ tab ∷ more) cut none
+
+block_other : (a : Account) (separation rest : List ℕ) (here : Position) (s : StepAt a separation rest here) (why : Problem) (at : Position) → is_in_flow a.entries ≡ false → IsBlockFault (site_at_place a here).blocks here rest why at → ⊥
+block_other a separation rest here s why at out (none.by_tab piece header more h cut one is) = no_block_tab a separation rest here s piece header more h out cut one is
+block_other a separation rest here s why at out (none.by_column piece header more lines b cut is further lines_are empty deep left) = no_block_end a separation rest here s piece header more lines b out cut is further lines_are empty deep left
+
+followed_other : (a : Account) (separation rest : List ℕ) (here : Position) (s : StepAt a separation rest here) (why : Problem) (at : Position) → IsFollowed (is_in_flow a.entries) here rest why at → ⊥
+followed_other a separation rest here s why at (none.glued c more e is begins) = no_glued a separation rest here s c more e is begins
+followed_other a separation rest here s why at (none.glued_to_quoted single piece more e is begins) = no_glued_quoted a separation rest here s single piece more e is begins
+followed_other a separation rest here s why at (none.after_quoted single piece more passed content e is ends on solid) = no_quoted_end a separation rest here s single piece more e is ends
+followed_other a separation rest here s why at (none.after_end more passed content col e gap on ends solid) = no_document_end a separation rest here s more passed content col e gap on ends solid
+followed_other a separation rest here s why at (none.tab_after_dash more passed content out e gap on tab begins) = no_tabbed_dash a separation rest here s more passed content out e gap on tab begins
+followed_other a separation rest here s why at (none.no_space more passed content e gap on begins ends) = no_space_after a separation rest here s more passed content e gap on begins ends
+followed_other a separation rest here s why at (none.tab_after_question more passed content e gap cut fills) = no_tab_after a separation rest here s more passed content e gap cut fills
+followed_other a separation rest here s why at (none.tab_after_colon more passed content e tab on lacks letter) = no_tabbed_colon a separation rest here s more passed content e tab on lacks letter
+
+none_other : (a : Account) (separation rest : List ℕ) (here : Position) (s : StepAt a separation rest here) (why : Problem) (at : Position) → NoPiece (is_in_flow a.entries) here rest why at → ⊥
+none_other a separation rest here s why at (none.percent more e col) = no_percent a separation rest here s more e col
+none_other a separation rest here s why at (none.at_sign more e) = no_at_sign a separation rest here s more e
+none_other a separation rest here s why at (none.backtick more e) = no_backtick a separation rest here s more e
+none_other a separation rest here s why at (none.nameless is_alias more e lacks) = no_name a separation rest here s is_alias more e lacks
+none_other a separation rest here s why at (none.tagless more why2 e r) = no_tag a separation rest here s more why e r
+none_other a separation rest here s why at (none.unquoted single more why2 e lacks r) = no_quoted_text a separation rest here s single more e lacks
+none_other a separation rest here s why at (none.headless style line after why2 at2 out e one ends lacks r) = no_block_header a separation rest here s style line after out e one ends lacks
+none_other a separation rest here s why at (none.undirected line after why2 at2 col e one ends lacks r) = no_directive a separation rest here s line after e one ends lacks
+
+stands_other : (a : Account) (separation rest : List ℕ) (here : Position) (s : StepAt a separation rest here) (why : Problem) (at : Position) → MayNotStand a separation here rest why at → ⊥
+stands_other a separation rest here s why at (defs.shallow inside line left) = no_shallow a separation rest here s inside line left
+stands_other a separation rest here s why at (defs.too_deep bracket more e is many) = no_bracket a separation rest here s bracket more e is many
+stands_other a separation rest here s why at (defs.dash_in_flow more e gap inside) = no_dash a separation rest here s more e gap inside
+stands_other a separation rest here s why at (defs.dash_not_free more e gap out line) = no_dash_here a separation rest here s more e gap out line
+stands_other a separation rest here s why at (defs.key_on_earlier_line more begin x xs e is are takes had late) = no_late_colon a separation rest here s more begin x xs e is are takes had late
+stands_other a separation rest here s why at (defs.tab_indents tab) = no_tabbed_line a separation rest here s tab
+stands_other a separation rest here s why at (defs.tab_after_quoted single piece gap content e is fills goes_on solid tab) = no_tab_after_quoted a separation rest here s single piece gap content e is fills goes_on solid tab
+stands_other a separation rest here s why at (defs.question_not_free more e gap out line) = no_question_here a separation rest here s more e gap out line
+
+-- no row goes on at a colon for which no key waits, whatever begins one before
+pub no_keyless_colon : (text separation more : List ℕ) (a : Account) (here : Position) (r : Row) → IsPlace text a separation (58 ∷ more) here → is_value_here a separation more ≡ true → is_in_flow a.entries ≡ false → is_taken a separation ≡ true → HasNoKey text separation (58 ∷ more) here → HasRow text r → ⊥
+unfolding classes.is_blank classes.is_break
+no_keyless_colon text separation more a here r p is out line none row =
+    no_colon_here a separation (58 ∷ more) here s more refl is out line (λ q waits unbroken near.
+    none s.account q (record { begins = at.begins; is_filled = p.is_filled; is_here = p.is_here ∙ ap (λ (x : Site). position_after x.position separation (58 ∷ more)) s.is_like.0 }) waits unbroken near (spaces_indent a separation (58 ∷ more) here s))
+  where
+    at : RowAt text a separation (58 ∷ more) here
+    at = row_at text separation (58 ∷ more) a here r p refl refl row
+
+    s : StepAt a separation (58 ∷ more) here
+    s = at.step_at
+
+pub failing_places_have_no_row : FailingPlacesHaveNoRow
+failing_places_have_no_row text separation rest a here at why r p solid some f row = by f
+  where
+    s : StepAt a separation rest here
+    s = (row_at text separation rest a here r p solid some row).step_at
+
+    by : Fails a separation here rest why at → ⊥
+    by (defs.no_piece n) = none_other a separation rest here s why at n
+    by (defs.no_plain comes n) = plain_other a separation rest here s why at comes n
+    by (defs.no_quoted single lacks n) = lines_other a separation rest here s single why at lacks n
+    by (defs.no_block out n) = block_other a separation rest here s why at out n
+    by (defs.followed n) = followed_other a separation rest here s why at n
+    by (defs.may_not_stand n) = stands_other a separation rest here s why at n

@@ -1,0 +1,127 @@
+-- Faults on the way to the next token, from a state between two fetches.
+use Rattle.std.proofs.Common.{◌≡◌, ℕ, ◌+◌, ◌<◌, List, [], ◌∷◌, ◌++◌, Bool, true, false, not, ◌||◌, nat_lt, map, if◌then◌else◌, append_assoc, Option, Some, None, Result, Ok, Err, refl, ap, sym, ◌∙◌, subst, arith}
+use Rattle.std.specs.List.{list_any}
+use Rattle.std.proofs.lemmas.Bool.Decides.{nat_tests}
+use Rattle.defs_text.specs.Position.{Position, position_after}
+use Rattle.defs_text.specs.Text.{is_empty}
+use Rattle.defs_token.specs.Separation.{is_separation}
+use Rattle.defs_token.specs.Beginning.{Begins, IsPlace}
+use Rattle.defs_token.specs.FlowEntry.{is_renewed}
+use Rattle.yaml_tokens.specs.declared.problem.Fault.{Fault}
+use Rattle.yaml_tokens.specs.declared.problem.Fault.TheVariants.{At}
+use Rattle.yaml_tokens.specs.declared.problem.Problem.TheVariants as problem
+use Rattle.model_scanner.specs.State.{Key, Held, ScannerState, in_flow, on_held}
+use Rattle.model_scanner.specs.Indents.{unroll_indent}
+use Rattle.model_scanner.specs.Keys.{is_far, is_overdue, still, drop_stale, with_keys, stale, top_key}
+use Rattle.model_scanner.specs.Space.{skip_to_next_token}
+use Rattle.model_scanner.specs.Fetch.{fetch_here, fetch_next, fetch}
+use Rattle.model_scanner.proofs.Holds.{Holds, went, refused, chained, tried, either}
+use Rattle.proof_lexers.proofs.Separation.Positions.{position_append}
+use Rattle.proof_scanner.proofs.Cut.Pieces.Separations.{separation_append}
+use Rattle.proof_scanner.proofs.Cut.Positions.{not_before_after}
+use Rattle.proof_scanner.specs.Choices.{outside_key, chosen, MayChoose}
+use Rattle.proof_scanner.specs.StandsInRow.{Stands}
+use Rattle.proof_scanner.proofs.Sound.Passed.{least_is}
+use Rattle.proof_scanner.proofs.Sound.Stales.{no_entries}
+use Rattle.proof_scanner.proofs.Sound.ToToken.{is_in}
+use Rattle.proof_scanner.specs.Stuck as defs
+use Rattle.proof_scanner.specs.Stuck.{IsStuck, fails, key_waits, may_not_stand}
+use Rattle.defs_token.specs.Beginning.{BeginsButForKey}
+use Rattle.proof_scanner.proofs.Sound.StreamEnds.{same_flow}
+use Rattle.proof_scanner.proofs.Refusals.Faults.{Faults, fault, goes}
+use Rattle.proof_scanner.proofs.Refusals.Places.{entries_alike, Told, Where, placed, behind, where_is}
+use Rattle.proof_scanner.proofs.Refusals.Tabs.{TabStands, skip_refused}
+
+-- ---- keys that are near
+
+-- outside flow the open key is near
+abbrev pub HasNear : Held → Type 0
+HasNear s = is_empty s.flow ≡ true → (k : Key) → top_key s.keys ≡ Some k → is_far k.position s.position ≡ false
+
+stale_near : (s : Held) → Holds HasNear (stale s)
+unfolding stale drop_stale
+stale_near s = either (in_flow s) (λ i. went (λ o. absurd (cc (o, ap not o, i)))) (λ _. by (list_any (is_overdue s.position) s.keys))
+  where
+    kept : (o : Option Key) (k : Key) → still s.position o ≡ Some k → is_far k.position s.position ≡ false
+    kept None k e = absurd (cc e)
+    kept (Some x) k e = on (is_far x.position s.position) refl e
+      where
+        on : (b : Bool) → is_far x.position s.position ≡ b → (if b then None else Some x) ≡ Some k → is_far k.position s.position ≡ false
+        on true f e = absurd (cc e)
+        on false f e = let same : x ≡ k = cc e in subst (λ y. is_far y.position s.position ≡ false) same f
+
+    first : (ks : List (Option Key)) (k : Key) → top_key (map (still s.position) ks) ≡ Some k → is_far k.position s.position ≡ false
+    first [] k e = absurd (cc e)
+    first (o ∷ ks) k e = kept o k e
+
+    by : (b : Bool) → Holds HasNear (with_keys s (if b then Err (At problem.KeyWithoutColon s.position) else Ok (map (still s.position) s.keys)))
+    by true = refused
+    by false = went (λ o k e. first s.keys k e)
+
+pub anything : {A : Type 0} (r : Result A Fault) → Holds (λ x. Unit {0}) r
+anything (Ok x) = went tt
+anything (Err f) = refused
+
+next_near : (t : ScannerState) → Holds (λ u. HasNear u.held) (fetch_next t)
+unfolding fetch_next
+next_near t = chained (anything (skip_to_next_token t)) (λ u a. chained (anything _) (λ v b. chained (anything (fetch_here (on_held (λ s. unroll_indent (s.position.col + 1) s) v))) (λ w c. tried w (stale w.held) (stale_near w.held) (λ h n. n))))
+
+-- after a fetch
+pub fetch_near : (t : ScannerState) → t.held.started ≡ true → Holds (λ u. HasNear u.held) (fetch t)
+unfolding fetch
+fetch_near t started = either t.held.started (λ _. next_near t) (λ n. absurd (cc (n, started)))
+
+-- ---- TABs
+
+-- no key waits behind where it is near
+far_behind : (k p : Position) → is_far k p ≡ false → k.line < p.line → ⊥
+unfolding is_far
+far_behind k p h late = by (nat_lt k.line p.line) refl h
+  where
+    by : (b : Bool) → nat_lt k.line p.line ≡ b → (b || nat_lt (k.index + 1024) p.index) ≡ false → ⊥
+    by true e h = cc h
+    by false e h = grind (arith, nat_tests, e, late)
+
+module _ (text : List ℕ) (t : ScannerState) (s : Stands text t) (near : HasNear t.held) where
+  -- a TAB indents the line of what comes next
+  tab_stuck : {f : Fault} → TabStands s.base.site.blocks s.base.site.awaits s.base.site.before s.separation t.rest t.held.position f → Told text f
+  tab_stuck d = subst (λ g. Told text g) (sym d.is_fault) (λ _. by (where_is (outside_key s.base.entries t.held.keys) t.held.position t.rest d.is_some))
+    where
+      here : Position
+      here = position_after t.held.position d.passed d.rest
+
+      filled : is_separation false (s.separation ++ d.passed) d.rest ≡ true
+      filled = separation_append false s.separation d.passed d.rest (subst (λ r. is_separation false s.separation r ≡ true) d.cut s.is_filled) d.is_filled
+
+      here_is : here ≡ position_after s.base.site.position (s.separation ++ d.passed) d.rest
+      here_is = ap (λ p. position_after p d.passed d.rest) (s.position_is ∙ ap (position_after s.base.site.position s.separation) d.cut) ∙ sym (position_append s.base.site.position s.separation d.passed d.rest)
+
+      place : (c : Bool) → MayChoose c (outside_key s.base.entries t.held.keys) t.held.position t.rest → IsPlace text (chosen c [] t.held.keys s.base) (s.separation ++ d.passed) d.rest here
+      place c may = record {
+        begins = subst (λ r. Begins text r (chosen c [] t.held.keys s.base)) (ap (λ r. s.separation ++ r) d.cut ∙ sym (append_assoc s.separation d.passed d.rest)) (s.completes c [] may).0;
+        is_filled = filled;
+        is_here = here_is;
+      }
+
+      by : Where (outside_key s.base.entries t.held.keys) t.held.position t.rest → IsStuck text problem.TabInBlockIndentation here
+      by (placed c may) = fails (chosen c [] t.held.keys s.base) (s.separation ++ d.passed) d.rest problem.TabInBlockIndentation here here (place c may) d.goes_on d.is_solid (may_not_stand (defs.tab_indents d.is_indented_by_tab))
+      by (behind x e must late) = on (is_empty t.held.flow) refl
+        where
+          on : (out : Bool) → is_empty t.held.flow ≡ out → IsStuck text problem.TabInBlockIndentation here
+          on true out =
+              let none : s.base.entries ≡ [] = no_entries t.held.key_allowed (is_renewed s.base.site.before s.separation) t.held.flow t.held.keys s.base.entries out s.are_entries in
+              absurd (far_behind x.position t.held.position (near out x (ap (λ es. outside_key es t.held.keys) (sym none) ∙ e)) late)
+          on false i =
+              let later = (not_before_after t.held.position d.passed d.rest).0 in
+              let inside : is_empty s.base.entries ≡ false = sym (same_flow t.held.key_allowed (is_renewed s.base.site.before s.separation) t.held.flow t.held.keys s.base.entries s.are_entries) ∙ i in
+              key_waits (chosen false [] t.held.keys s.base) (s.separation ++ d.passed) d.rest problem.TabInBlockIndentation x.position here here
+              (subst (λ r. BeginsButForKey text r x.position (chosen false [] t.held.keys s.base)) (ap (λ r. s.separation ++ r) d.cut ∙ sym (append_assoc s.separation d.passed d.rest)) (s.carries [] x e must inside d.is_some))
+              (ap not (entries_alike [] t.held.keys s.base.entries ∙ inside)) filled here_is (omega (arith, later, late)) d.goes_on d.is_solid (may_not_stand (defs.tab_indents d.is_indented_by_tab))
+
+  pub passing_told : Faults (Told text) (skip_to_next_token t)
+  passing_told =
+      by (skip_refused s.base.site.before s.base.site.blocks s.base.site.awaits s.separation t (least_is s.base.site.blocks s.base.site.awaits t.held s.blocks_are s.awaits_is s.are_levels) (λ h. is_in text t s h))
+    where
+      by : {r : Result ScannerState Fault} → Faults (TabStands s.base.site.blocks s.base.site.awaits s.base.site.before s.separation t.rest t.held.position) r → Faults (Told text) r
+      by (fault d) = fault (tab_stuck d)
+      by goes = goes

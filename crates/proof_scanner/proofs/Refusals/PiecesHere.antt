@@ -1,0 +1,137 @@
+-- What a row's piece at a place is, by the text there; and texts with which no piece begins.
+use Rattle.std.proofs.Common.{◌≡◌, ℕ, suc, ◌≤◌, List, [], ◌∷◌, ◌++◌, Bool, true, false, not, ◌==◌, nat_lt, length, None, refl, ap, sym, ◌∙◌, subst, arith, inl, inr, map}
+use Rattle.std.specs.Prelude.{◌⊎◌}
+use Rattle.std.proofs.lemmas.Bool.Decides.{nat_tests}
+use Rattle.std.proofs.lemmas.Bool.{and_parts}
+use Rattle.defs_text.specs.Classes.{is_anchor_name, is_nul, is_blank, is_break, is_flow, is_blank_or_end, is_at_gap}
+use Rattle.defs_text.specs.Directives.{Directive, version, tag_declaration, reserved}
+use Rattle.defs_text.specs.Tags.{all_of}
+use Rattle.defs_text.specs.Position.{Position}
+use Rattle.defs_text.specs.Text.{is_empty}
+use Rattle.defs_token.specs.Account.{is_adjacent}
+use Rattle.defs_token.specs.Account as pieces
+use Rattle.defs_token.specs.Piece.{IsPiece, is_name, goes_on_with_name}
+use Rattle.defs_token.specs.Token.{block_entry, flow_sequence_start, flow_mapping_start}
+use Rattle.defs_token.specs.Step.{act_of, is_marker}
+use Rattle.defs_token.specs.FlowEntry.{Entry}
+use Rattle.defs_token.specs.RowAccount.{Account, is_in_flow, level_of, seen}
+use Rattle.defs_token.specs.Tokens.{shown_position}
+use Rattle.proof_row.specs.Ends.{kind_at, dash, directive_line, alias_name, anchor_name, sequence_opening, mapping_opening}
+use Rattle.proof_row.proofs.Begins.{Whole, context_of, directive_token}
+use Rattle.proof_row.proofs.Like.{LikeEntries}
+use Rattle.proof_row.proofs.Written as written
+use Rattle.proof_row.proofs.Written.{not_empty}
+use Rattle.proof_scanner.specs.Ways.{spelled_to}
+use Rattle.proof_scanner.proofs.Complete.Around.Markers.{marker_begins}
+use Rattle.proof_scanner.proofs.Complete.KindsOfPieces.{kind_is}
+use Rattle.proof_scanner.specs.NoPiece as none
+use Rattle.proof_scanner.proofs.Refusals.OtherRows.{StepAt}
+
+-- entries that are alike are as many
+many_alike : (ds es : List Entry) → LikeEntries ds es → length ds ≡ length es
+many_alike [] [] h = refl
+many_alike [] (e ∷ es) h = absurd h
+many_alike (d ∷ ds) [] h = absurd h
+many_alike (d ∷ ds) (e ∷ es) h = ap suc (many_alike ds es h.1)
+
+many_levels : (es : List Entry) → length (map level_of es) ≡ length es
+many_levels [] = refl
+many_levels (e ∷ es) = ap suc (many_levels es)
+
+module _ (a : Account) (separation rest : List ℕ) (here : Position) (s : StepAt a separation rest here) where
+  abbrev pub next : List ℕ
+  next = spelled_to s.steps s.stop
+
+  -- the account with which the piece is looked at
+  abbrev pub acct : pieces.Account
+  acct = seen s.account (written.At s.account s.step next) s.step.separation
+
+  abbrev pub spot : Position
+  spot = shown_position (written.At s.account s.step next) s.step.piece s.step.shown next
+
+  pub is_piece : IsPiece acct s.step.piece next None spot s.step.shown
+  is_piece = s.is_row.0.1.1
+
+  -- the text says the piece's kind
+  pub whole_at : Whole (kind_at (pieces.is_in_flow acct) (is_adjacent acct.before) acct.position.col rest) (context_of acct) s.step.piece next s.step.shown
+  whole_at = kind_is (kind_at (pieces.is_in_flow acct) (is_adjacent acct.before) acct.position.col rest) acct s.step.piece next rest spot s.step.shown (not_empty s.step.piece s.is_row.0.1.0) is_piece s.text_is refl
+
+  -- the text's first character says the piece's kind
+  pub whole_by : (c : ℕ) (more : List ℕ) → rest ≡ c ∷ more → Whole (kind_at (pieces.is_in_flow acct) (is_adjacent acct.before) acct.position.col (c ∷ more)) (context_of acct) s.step.piece next s.step.shown
+  whole_by c more e = kind_is (kind_at (pieces.is_in_flow acct) (is_adjacent acct.before) acct.position.col (c ∷ more)) acct s.step.piece next (c ∷ more) spot s.step.shown (not_empty s.step.piece s.is_row.0.1.0) is_piece (s.text_is ∙ e) refl
+
+  levels_are : length acct.levels ≡ length a.entries
+  levels_are = many_levels s.account.entries ∙ sym (many_alike a.entries s.account.entries s.is_like.2)
+
+  pub no_at_sign : (more : List ℕ) → rest ≡ 64 ∷ more → ⊥
+  unfolding is_blank_or_end is_blank is_break is_nul is_flow
+  no_at_sign more e = whole_by 64 more e
+
+  pub no_backtick : (more : List ℕ) → rest ≡ 96 ∷ more → ⊥
+  unfolding is_blank_or_end is_blank is_break is_nul is_flow
+  no_backtick more e = whole_by 96 more e
+
+  pub no_percent : (more : List ℕ) → rest ≡ 37 ∷ more → (here.col == 0) ≡ false → ⊥
+  unfolding is_blank_or_end is_blank is_break is_nul is_flow
+  no_percent more e other =
+      let line : Whole directive_line (context_of acct) s.step.piece next s.step.shown = whole_by 37 more e in
+      let marker : is_marker (act_of s.step.shown) ≡ true = ap (λ t. is_marker (act_of t)) line.4 ∙ is_line line.0 in
+      let begins = marker_begins acct s.step.piece next None spot s.step.shown is_piece marker in
+      let zero : here.col ≡ 0 = ap (λ p. p.col) (sym s.position_is) ∙ begins.column in
+      cc (other, ap (λ n. n == 0) zero)
+    where
+      is_line : (d : Directive) → is_marker (act_of (directive_token d)) ≡ true
+      is_line (version major minor) = refl
+      is_line (tag_declaration handle prefix) = refl
+      is_line reserved = refl
+
+  name_goes_on : (name more : List ℕ) → is_name name ≡ true → name ++ next ≡ more → goes_on_with_name more ≡ true
+  name_goes_on [] more h e = absurd (cc h)
+  name_goes_on (c ∷ r) more h e = sym (ap goes_on_with_name e) ∙ (and_parts (is_anchor_name c) (all_of is_anchor_name r) h).0
+
+  pub rest_of : (c : ℕ) (name more : List ℕ) → s.step.piece ≡ c ∷ name → rest ≡ c ∷ more → name ++ next ≡ more
+  rest_of c name more p e = let both : c ∷ (name ++ next) ≡ c ∷ more = ap (λ z. z ++ next) (sym p) ∙ (s.text_is ∙ e) in cc both
+
+  pub no_name : (is_alias : Bool) (more : List ℕ) → rest ≡ none.name_mark is_alias ∷ more → goes_on_with_name more ≡ false → ⊥
+  unfolding is_blank_or_end is_blank is_break is_nul is_flow
+  no_name true more e lacks =
+      let named : Whole alias_name (context_of acct) s.step.piece next s.step.shown = whole_by 42 more e in
+      cc (lacks, name_goes_on named.0 more named.1.1 (rest_of 42 named.0 more named.1.0 e))
+  no_name false more e lacks =
+      let named : Whole anchor_name (context_of acct) s.step.piece next s.step.shown = whole_by 38 more e in
+      cc (lacks, name_goes_on named.0 more named.1.1 (rest_of 38 named.0 more named.1.0 e))
+
+  dash_kind : (fl adjacent : Bool) (column : ℕ) (more : List ℕ) → is_at_gap more ≡ true → kind_at fl adjacent column (45 ∷ more) ≡ dash
+  unfolding is_blank_or_end is_blank is_break is_nul is_flow
+  dash_kind fl adjacent column more gap = rw gap refl
+
+  many_none : {A : Type 0} (xs : List A) → not (is_empty xs) ≡ false → length xs ≡ 0
+  many_none [] h = refl
+  many_none (x ∷ xs) h = absurd (cc h)
+
+  many_some : (es : List Entry) → not (is_empty es) ≡ true → length es ≡ 0 → ⊥
+  many_some [] h n = cc h
+  many_some (e ∷ es) h n = omega (arith, n)
+
+  pub no_dash : (more : List ℕ) → rest ≡ 45 ∷ more → is_at_gap more ≡ true → is_in_flow a.entries ≡ true → ⊥
+  no_dash more e gap inside =
+      let own : Whole dash (context_of acct) s.step.piece next s.step.shown = subst (λ k. Whole k (context_of acct) s.step.piece next s.step.shown) (dash_kind (pieces.is_in_flow acct) (is_adjacent acct.before) acct.position.col more gap) (whole_by 45 more e) in
+      let piece : IsPiece acct s.step.piece next None spot block_entry = subst (λ t. IsPiece acct s.step.piece next None spot t) own.2 is_piece in
+      many_some a.entries inside (sym levels_are ∙ many_none acct.levels piece.2)
+
+  pub no_room : 255 ≤ length a.entries → nat_lt (length acct.levels) 255 ≡ true → ⊥
+  no_room many room = grind (arith, nat_tests, many, room, levels_are)
+
+  pub no_bracket : (c : ℕ) (more : List ℕ) → rest ≡ c ∷ more → (c ≡ 91) ⊎ (c ≡ 123) → 255 ≤ length a.entries → ⊥
+  unfolding is_blank_or_end is_blank is_break is_nul is_flow
+  no_bracket c more e (inl is) many =
+      let own : Whole sequence_opening (context_of acct) s.step.piece next s.step.shown = whole_by 91 more (e ∙ ap (λ x. x ∷ more) is) in
+      let piece : IsPiece acct s.step.piece next None spot flow_sequence_start = subst (λ t. IsPiece acct s.step.piece next None spot t) own.1 is_piece in
+      no_room many piece.0.1
+  no_bracket c more e (inr is) many =
+      let own : Whole mapping_opening (context_of acct) s.step.piece next s.step.shown = whole_by 123 more (e ∙ ap (λ x. x ∷ more) is) in
+      by (subst (λ t. IsPiece acct s.step.piece next None spot t) own.1 is_piece)
+    where
+      by : IsPiece acct s.step.piece next None spot flow_mapping_start → ⊥
+      by (inl opens) = no_room many opens.0.1
+      by (inr start) = not_empty s.step.piece s.is_row.0.1.0 start.0

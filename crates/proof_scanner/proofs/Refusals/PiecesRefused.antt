@@ -1,0 +1,302 @@
+-- Where a piece may not stand at its column, or before what follows it, no row of the text goes on.
+use Rattle.std.proofs.Common.{◌≡◌, ◌≤◌, List, [], ◌∷◌, ◌++◌, ℕ, Bool, true, false, not, ◌==◌, ◌&&◌, ◌||◌, nat_le, nat_lt, if◌then◌else◌, map, Option, Some, None, refl, ap, sym, ◌∙◌, arith}
+use Rattle.std.proofs.lemmas.Bool.{and_parts, eqb-true}
+use Rattle.std.proofs.lemmas.Bool.Decides.{nat_tests}
+use Rattle.defs_text.specs.Breaks.{split, is_at_line_end}
+use Rattle.defs_text.specs.Classes.{tab, is_one_of, is_blank, is_break, is_nul, is_blank_or_end, is_alpha, is_decimal_digit, is_letter, is_at_end, is_at_gap, is_document_marker}
+use Rattle.defs_text.specs.Position.{Position, position_after}
+use Rattle.defs_text.specs.Text.{is_empty, has_no_nul}
+use Rattle.defs_text.specs.BlockScalar.{BlockStyle, literal, folded, leading_spaces}
+use Rattle.defs_text.specs.FlowScalar.{begins_with}
+use Rattle.defs_token.specs.Account.{innermost_column}
+use Rattle.defs_token.specs.BlockPiece.{BlockRead, block_read, block_position}
+use Rattle.defs_token.specs.Piece.{IsPiece}
+use Rattle.defs_text.specs.Tags.{leading, after}
+use Rattle.defs_token.specs.Separation.{is_separation, is_blanks}
+use Rattle.defs_token.specs.Token.{Tok, document_end, block_entry, value, scalar, single_quoted, double_quoted}
+use Rattle.defs_token.specs.Token as tokens
+use Rattle.defs_token.specs.Step.{Step, act_of, is_marker, gives_node, gives_block_scalar, gives_marker}
+use Rattle.defs_token.specs.Column.{innermost, blocks_at}
+use Rattle.defs_token.specs.FlowEntry.{Entry}
+use Rattle.defs_token.specs.Indentation.{least_column, begins_entry, dash_may_precede, begins_with_alpha, colon_may_precede}
+use Rattle.defs_token.specs.Following.{line_is_done, are_empty, quoted_may_end, block_may_end, read_may_end, lines_may_end, may_precede}
+use Rattle.defs_token.specs.RowAccount.{Site, Account, is_in_flow, site_in, site_at, level_of, seen, least_for, is_deep_enough, may_stand}
+use Rattle.defs_token.specs.Row.{IsWritten}
+use Rattle.defs_token.specs.Tokens.{content_position, shown_position}
+use Rattle.proof_lexers.specs.PlainEnds.{is_white}
+use Rattle.proof_lexers.specs.Separations.{begins_separation, has}
+use Rattle.proof_scanner.specs.Ways.{Stop, spelled_to, LeadsTo}
+use Rattle.proof_scanner.proofs.Complete.Around.Markers.{begins_document, BeginsLine, marker_begins}
+use Rattle.proof_scanner.proofs.Complete.Scalars.AfterQuoted.{not_done}
+use Rattle.proof_scanner.proofs.Sound.QuotedEnds.{blanks_alone, after_blanks}
+use Rattle.proof_row.proofs.Accounts.{same_flow}
+use Rattle.proof_row.proofs.Written.{At, same_piece}
+use Rattle.proof_scanner.specs.NoPiece.{GoesOn, IsQuoted}
+use Rattle.proof_scanner.specs.Stuck.{site_at_place, begins_document_at}
+use Rattle.proof_scanner.proofs.Refusals.OtherRows.{StepAt}
+
+pub refused : (x : Option Account) (b : Bool) (ws : List Step) (stop : Stop) → b ≡ false → LeadsTo (if b then x else None) ws stop → ⊥
+refused x true ws stop e k = absurd (cc e)
+refused x false ws stop e k = k
+
+or_first : (x y : Bool) → x ≡ true → (x || y) ≡ true
+or_first true y e = refl
+or_first false y e = absurd (cc e)
+
+pub and_last : (x y : Bool) → y ≡ false → (x && y) ≡ false
+and_last true y e = e
+and_last false y e = refl
+
+both_false : (x y : Bool) → (x || y) ≡ false → (x ≡ false) × (y ≡ false)
+both_false true y e = absurd (cc e)
+both_false false y e = (refl, e)
+
+leading_blanks : (s : List ℕ) (d : ℕ) (r : List ℕ) → is_blanks s ≡ true → is_blank d ≡ false → leading is_blank (s ++ d ∷ r) ≡ s
+leading_blanks [] d r b f = rw f refl
+leading_blanks (c ∷ s) d r b f = let p = and_parts (is_blank c) (is_blanks s) b in rw p.0 (ap (λ l. c ∷ l) (leading_blanks s d r p.1 f))
+
+tab_among : (l : List ℕ) → has 9 l ≡ true → is_one_of l tab ≡ true
+tab_among [] h = absurd (cc h)
+tab_among (c ∷ l) h = by (c == 9) refl h (λ k. tab_among l k)
+  where
+    other : (x : Bool) → (x || true) ≡ true
+    other true = refl
+    other false = refl
+
+    by : (b : Bool) → (c == 9) ≡ b → (b || has 9 l) ≡ true → (has 9 l ≡ true → is_one_of l tab ≡ true) → ((tab == c) || is_one_of l tab) ≡ true
+    by true e h later = let same : c ≡ 9 = eqb-true c 9 e in rw same refl
+    by false e h later = ap (λ x. (tab == c) || x) (later h) ∙ other (tab == c)
+
+space_among : (l : List ℕ) → has 32 l ≡ false → is_one_of l 32 ≡ false
+space_among [] h = refl
+space_among (c ∷ l) h = by (32 == c) (c == 32) refl refl h (λ k. space_among l k)
+  where
+    by : (x y : Bool) → (32 == c) ≡ x → (c == 32) ≡ y → (y || has 32 l) ≡ false → (has 32 l ≡ false → is_one_of l 32 ≡ false) → (x || is_one_of l 32) ≡ false
+    by x true e f g later = absurd (cc g)
+    by true false e f g later = absurd (grind (arith, nat_tests, e, f))
+    by false false e f g later = later g
+
+-- what may follow a piece at an account
+abbrev may_go : Account → (separation piece : List ℕ) → Tok → (next : List ℕ) → Bool
+may_go a separation piece t next = may_precede (is_in_flow a.entries) (site_at (is_in_flow a.entries) a.site separation piece t next).blocks t piece next
+
+module _ (a : Account) (separation rest : List ℕ) (here : Position) (s : StepAt a separation rest here) where
+  abbrev next : List ℕ
+  next = spelled_to s.steps s.stop
+
+  -- a step of a piece
+  abbrev pub own : (piece : List ℕ) → Tok → Step
+  own piece t = record { separation = separation; piece = piece; shown = t; key = false }
+
+  is_filled : is_separation false separation rest ≡ true
+  is_filled = ap (λ f. is_separation false f rest) (sym s.separation_is) ∙ (ap (λ r. is_separation false s.step.separation r) (sym s.text_is) ∙ s.is_row.0.0)
+
+  same_go : (piece more : List ℕ) (t : Tok) → (piece ≡ s.step.piece) × (t ≡ s.step.shown) × (more ≡ next) → may_go a separation piece t more ≡ may_go s.account s.step.separation s.step.piece s.step.shown next
+  same_go piece more t is =
+      ap (λ fl. may_precede fl (site_at fl a.site separation piece t more).blocks t piece more) (same_flow a.entries s.account.entries s.is_like.2) ∙
+      (ap (λ x. may_precede (is_in_flow s.account.entries) (site_at (is_in_flow s.account.entries) x separation piece t more).blocks t piece more) s.is_like.0 ∙
+      (ap (λ f. may_go s.account f piece t more) (sym s.separation_is) ∙
+      (ap (λ p. may_go s.account s.step.separation p t more) is.0 ∙
+      (ap (λ t. may_go s.account s.step.separation s.step.piece t more) is.1 ∙ ap (λ n. may_go s.account s.step.separation s.step.piece s.step.shown n) is.2))))
+
+  -- the row's piece is the one of this token that begins here
+  pub same_step : (piece more : List ℕ) (t : Tok) → rest ≡ piece ++ more → not (is_empty piece) ≡ true → IsPiece (seen a (At a (own piece t) more) separation) piece more None (shown_position (At a (own piece t) more) piece t more) t
+      → (piece ≡ s.step.piece) × (t ≡ s.step.shown) × (more ≡ next)
+  same_step piece more t e some is =
+      let written : IsWritten a (own piece t) more = (ap (λ r. is_separation false separation r) (sym e) ∙ is_filled, (some, is)) in
+      same_piece a s.account (own piece t) s.step more next s.is_like written s.is_row.0 (sym s.separation_is) (sym e ∙ sym s.text_is) (ap has_no_nul (sym e) ∙ s.is_clean)
+
+  -- The piece that begins here, of this token, may not stand before what follows it.
+  pub no_step : (piece more : List ℕ) (t : Tok) → rest ≡ piece ++ more → not (is_empty piece) ≡ true → IsPiece (seen a (At a (own piece t) more) separation) piece more None (shown_position (At a (own piece t) more) piece t more) t → may_go a separation piece t more ≡ false → ⊥
+  no_step piece more t e some is no_more =
+      let same = same_step piece more t e some is in
+      let stays : may_go s.account s.step.separation s.step.piece s.step.shown next ≡ false = sym (same_go piece more t same) ∙ no_more in
+      refused _ (may_stand (is_in_flow s.account.entries) s.account.site (At s.account s.step next) s.step.separation s.step.piece s.step.shown next) s.steps s.stop (and_last _ _ stays) s.is_row.1
+
+  flow_seen : (es : List Entry) → is_in_flow es ≡ false → not (is_empty (map level_of es)) ≡ false
+  flow_seen [] h = refl
+  flow_seen (e ∷ es) h = h
+
+  -- ---- columns
+
+  -- the site of the row's piece
+  abbrev there : Site
+  there = At s.account s.step next
+
+  both_true : (x y : Bool) → x ≡ true → y ≡ true → (x && y) ≡ false → ⊥
+  both_true true true e f h = cc h
+  both_true true false e f h = cc f
+  both_true false y e f h = cc e
+
+  no_line : begins_document_at here rest ≡ false → is_marker (act_of s.step.shown) ≡ false
+  no_line none = by (is_marker (act_of s.step.shown)) refl
+    where
+      alike : (r : List ℕ) → begins_document r ≡ (begins_with 37 r || is_document_marker r)
+      alike [] = refl
+      alike (c ∷ r) = refl
+
+      by : (b : Bool) → is_marker (act_of s.step.shown) ≡ b → b ≡ false
+      by false e = refl
+      by true e =
+          let line : BeginsLine there.position.col (s.step.piece ++ next) = marker_begins (seen s.account there s.step.separation) s.step.piece next None (shown_position there s.step.piece s.step.shown next) s.step.shown s.is_row.0.1.1 e in
+          let zero : (here.col == 0) ≡ true = ap (λ p. p.col == 0) (sym s.position_is) ∙ ap (λ n. n == 0) line.column in
+          let begins : (begins_with 37 rest || is_document_marker rest) ≡ true = sym (alike rest) ∙ (ap begins_document (sym s.text_is) ∙ line.text_is) in
+          absurd (both_true (here.col == 0) (begins_with 37 rest || is_document_marker rest) zero begins none)
+
+  least_more : (bs : List ℕ) (awaits : Bool) → least_column bs awaits ≤ least_column bs true
+  least_more [] awaits = omega arith
+  least_more (n ∷ bs) true = omega arith
+  least_more (n ∷ bs) false = omega arith
+
+  least_at_most : (t : Tok) (x : Site) → least_column x.blocks x.awaits ≤ least_for t x
+  least_at_most (scalar tokens.plain text) x = least_more x.blocks x.awaits
+  least_at_most t x = omega arith
+
+  too_shallow : (t : Tok) (x : Site) → is_marker (act_of t) ≡ false → nat_le (least_column x.blocks x.awaits) x.position.col ≡ false → (is_marker (act_of t) || nat_le (least_for t x) x.position.col) ≡ false
+  too_shallow t x e f = ap (λ b. b || nat_le (least_for t x) x.position.col) e ∙ (let up = least_at_most t x in grind (arith, nat_tests, up, f))
+
+  pub no_shallow : is_in_flow a.entries ≡ true → begins_document_at here rest ≡ false → nat_le (least_column (site_at_place a here).blocks (site_at_place a here).awaits) here.col ≡ false → ⊥
+  no_shallow inside none left = refused _ (may_stand (is_in_flow s.account.entries) s.account.site there s.step.separation s.step.piece s.step.shown next) s.steps s.stop (stands_not _ _ _ _ deep) s.is_row.1
+    where
+      inside_there : is_in_flow s.account.entries ≡ true
+      inside_there = sym (same_flow a.entries s.account.entries s.is_like.2) ∙ inside
+
+      in_flow : Site
+      in_flow = site_at true s.account.site s.step.separation s.step.piece s.step.shown next
+
+      place : in_flow.position ≡ here
+      place = s.position_is
+
+      same_site : least_column (site_at_place a here).blocks (site_at_place a here).awaits ≡ least_column s.account.site.blocks s.account.site.awaits
+      same_site =
+          ap (λ fl. least_column (site_in fl gives_node here a.site).blocks (site_in fl gives_node here a.site).awaits) inside ∙ ap (λ x. least_column x.blocks x.awaits) s.is_like.0
+
+      low : nat_le (least_column s.account.site.blocks s.account.site.awaits) in_flow.position.col ≡ false
+      low = ap (λ (q : Position). nat_le (least_column s.account.site.blocks s.account.site.awaits) q.col) place ∙ (ap (λ n. nat_le n here.col) (sym same_site) ∙ left)
+
+      deep : is_deep_enough (is_in_flow s.account.entries) s.step.shown there ≡ false
+      deep = ap (λ fl. is_deep_enough fl s.step.shown (site_at fl s.account.site s.step.separation s.step.piece s.step.shown next)) inside_there ∙ too_shallow s.step.shown in_flow (no_line none) low
+
+      stands_not : (x y z w : Bool) → y ≡ false → (x && y && z && w) ≡ false
+      stands_not true y z w e = ap (λ b. b && z && w) e
+      stands_not false y z w e = refl
+
+  -- ---- a dash
+
+  no_tab_before : (more passed content : List ℕ) → GoesOn more passed content → has 9 passed ≡ true → begins_entry content ≡ true → dash_may_precede more ≡ false
+  unfolding is_blank is_break is_nul
+  no_tab_before more passed [] on tab_there begins = absurd (cc begins)
+  no_tab_before more passed (d ∷ r) on tab_there begins =
+      let first : d ≡ 45 = eqb-true d 45 (and_parts (d == 45) (is_at_gap r) begins).0 in
+      let goes_on : is_at_line_end (d ∷ r) ≡ false = rw first refl in
+      let none : is_blank d ≡ false = rw first refl in
+      let blanks = (blanks_alone false passed (d ∷ r) on.is_filled on.is_on_line goes_on).1 in
+      let left : after is_blank (passed ++ d ∷ r) ≡ d ∷ r = after_blanks passed (d ∷ r) blanks ∙ rw none refl in
+      ap dash_may_precede on.is_text ∙
+      (ap (λ l. not (is_one_of l tab && begins_entry (after is_blank (passed ++ d ∷ r)))) (leading_blanks passed d r blanks none) ∙
+      (ap (λ x. not (is_one_of passed tab && begins_entry x)) left ∙ rw (tab_among passed tab_there, begins) refl))
+
+  pub no_tabbed_dash : (more passed content : List ℕ) → is_in_flow a.entries ≡ false → rest ≡ 45 ∷ more → is_at_gap more ≡ true → GoesOn more passed content → has 9 passed ≡ true → begins_entry content ≡ true → ⊥
+  no_tabbed_dash more passed content out e gap on tab_there begins = no_step (45 ∷ []) more block_entry e refl (refl, gap, flow_seen a.entries out) (no_tab_before more passed content on tab_there begins)
+
+  -- ---- a colon
+
+  no_colon_before : (more passed content : List ℕ) → begins_with 9 more ≡ true → GoesOn more passed content → has 32 passed ≡ false → begins_with_alpha content ≡ true → colon_may_precede more ≡ false
+  unfolding is_blank is_break is_nul is_alpha is_decimal_digit is_letter
+  no_colon_before more passed [] tab_there on lacks letter = absurd (cc letter)
+  no_colon_before more passed (d ∷ r) tab_there on lacks letter =
+      let goes_on : is_at_line_end (d ∷ r) ≡ false = grind (arith, nat_tests, letter) in
+      let none : is_blank d ≡ false = grind (arith, nat_tests, letter) in
+      let blanks = (blanks_alone false passed (d ∷ r) on.is_filled on.is_on_line goes_on).1 in
+      let left : after is_blank (passed ++ d ∷ r) ≡ d ∷ r = after_blanks passed (d ∷ r) blanks ∙ rw none refl in
+      ap (λ y. not (y && not (is_one_of (leading is_blank more) 32) && begins_with_alpha (after is_blank more))) tab_there ∙
+      (ap (λ m. not (not (is_one_of (leading is_blank m) 32) && begins_with_alpha (after is_blank m))) on.is_text ∙
+      (ap (λ l. not (not (is_one_of l 32) && begins_with_alpha (after is_blank (passed ++ d ∷ r)))) (leading_blanks passed d r blanks none) ∙
+      (ap (λ x. not (not (is_one_of passed 32) && begins_with_alpha x)) left ∙ ap (λ y. not (not y && begins_with_alpha (d ∷ r))) (space_among passed lacks) ∙ ap not letter)))
+
+  tab_gap : (more : List ℕ) → begins_with 9 more ≡ true → is_at_gap more ≡ true
+  unfolding is_blank_or_end is_blank is_break is_nul
+  tab_gap [] h = refl
+  tab_gap (c ∷ r) h = let same : c ≡ 9 = eqb-true c 9 h in rw same refl
+
+  pub no_tabbed_colon : (more passed content : List ℕ) → rest ≡ 58 ∷ more → begins_with 9 more ≡ true → GoesOn more passed content → has 32 passed ≡ false → begins_with_alpha content ≡ true → ⊥
+  no_tabbed_colon more passed content e tab_there on lacks letter =
+      no_step (58 ∷ []) more value e refl (refl, or_first (is_at_gap more) _ (tab_gap more tab_there)) (no_colon_before more passed content tab_there on lacks letter)
+
+  -- ---- the end of a document
+
+  closed : (es : List Entry) (column : ℕ) (bs : List ℕ) → (if not (is_empty (map level_of es)) then true else not (not (is_empty (map (λ n. Some n) (blocks_at (is_in_flow es) gives_marker column bs))))) ≡ true
+  closed [] column bs = refl
+  closed (e ∷ es) column bs = refl
+
+  holds_more : (more passed content : List ℕ) → GoesOn more passed content → is_at_line_end content ≡ false → begins_separation content ≡ false → line_is_done more ≡ false
+  holds_more more passed [] on ends solid = absurd (cc ends)
+  holds_more more passed (d ∷ r) on ends solid =
+      let white = both_false (is_white d) (d == 35) solid in
+      let blank = both_false (is_blank d) (is_break d) white.0 in
+      ap line_is_done on.is_text ∙ not_done passed d r (blanks_alone false passed (d ∷ r) on.is_filled on.is_on_line ends).1 blank.1 blank.0 white.1
+
+  pub no_document_end : (more passed content : List ℕ) → here.col ≡ 0 → rest ≡ 46 ∷ 46 ∷ 46 ∷ more → is_at_gap more ≡ true → GoesOn more passed content → is_at_line_end content ≡ false → begins_separation content ≡ false → ⊥
+  no_document_end more passed content col e gap on ends solid =
+      let place : position_after a.site.position separation (46 ∷ 46 ∷ 46 ∷ more) ≡ here = ap (λ r. position_after a.site.position separation r) (sym e) ∙ sym s.here_is in
+      no_step (46 ∷ 46 ∷ 46 ∷ []) more document_end e refl ((refl, ap (λ (p : Position). p.col) place ∙ col, gap, closed a.entries (position_after a.site.position separation (46 ∷ 46 ∷ 46 ∷ more)).col a.site.blocks), refl) (holds_more more passed content on ends solid)
+
+  -- ---- quoted scalars
+
+  pub not_nothing : (c : ℕ) (x y : List ℕ) → x ≡ c ∷ y → not (is_empty x) ≡ true
+  not_nothing c x y e = ap (λ z. not (is_empty z)) e
+
+  pub no_quoted_end : (single : Bool) (piece more : List ℕ) → rest ≡ piece ++ more → IsQuoted single piece more → quoted_may_end (is_in_flow a.entries) piece more ≡ false → ⊥
+  no_quoted_end true piece more e is ends = no_step piece more (scalar single_quoted is.0) e (not_nothing _ piece _ is.1.1) (is.1, refl) ends
+  no_quoted_end false piece more e is ends = no_step piece more (scalar double_quoted is.0) e (not_nothing _ piece _ is.1.1) (is.1, refl) ends
+
+  -- ---- block scalars
+
+  pub innermost_seen : (bs : List ℕ) → innermost_column (map (λ n. Some n) bs) ≡ innermost bs
+  innermost_seen [] = refl
+  innermost_seen (n ∷ bs) = refl
+
+  some_piece : (piece header : List ℕ) (lines : List (List ℕ)) → (split piece).complete ≡ header ∷ lines → not (is_empty piece) ≡ true
+  some_piece [] header lines e = absurd (cc e)
+  some_piece (c ∷ r) header lines e = refl
+
+  module _ (piece header more : List ℕ) (lines : List (List ℕ)) (b : BlockRead) (out : is_in_flow a.entries ≡ false) (cut : rest ≡ piece ++ more) (is : block_read (innermost (site_at_place a here).blocks) piece more ≡ Some b) (further : is_at_end more ≡ false)
+      (lines_are : (split piece).complete ≡ header ∷ lines) (empty : are_empty b.column lines ≡ true) (deep : nat_le (least_column (site_at_place a here).blocks true) (leading_spaces more) ≡ true) (left : nat_lt (leading_spaces more) b.column ≡ true) where
+    abbrev place : Position
+    place = position_after a.site.position separation (piece ++ more)
+
+    -- the block collections that go on at the piece
+    abbrev going : List ℕ
+    going = blocks_at (is_in_flow a.entries) gives_block_scalar place.col a.site.blocks
+
+    going_are : going ≡ (site_at_place a here).blocks
+    going_are =
+        ap (λ fl. blocks_at fl gives_block_scalar place.col a.site.blocks) out ∙
+        (ap (λ (q : Position). blocks_at false gives_node q.col a.site.blocks) (ap (λ r. position_after a.site.position separation r) (sym cut) ∙ sym s.here_is) ∙ ap (λ fl. blocks_at fl gives_node here.col a.site.blocks) (sym out))
+
+    read_going : block_read (innermost going) piece more ≡ Some b
+    read_going = ap (λ bs. block_read (innermost bs) piece more) going_are ∙ is
+
+    may_not : block_may_end going piece more ≡ false
+    may_not =
+        ap (λ x. x || read_may_end going (block_read (innermost going) piece more) piece more) further ∙
+        (ap (λ o. read_may_end going o piece more) read_going ∙
+        (ap (λ ls. lines_may_end going b.column ls more) lines_are ∙ and_last (not (is_empty lines && begins_with tab more)) _
+        (by (are_empty b.column lines) (nat_lt (leading_spaces more) (least_column going true)) (nat_le b.column (leading_spaces more)) empty
+        (ap (λ bs. nat_lt (leading_spaces more) (least_column bs true)) going_are ∙ grind (arith, nat_tests, deep)) (grind (arith, nat_tests, left)))))
+      where
+        by : (x y z : Bool) → x ≡ true → y ≡ false → z ≡ false → (not x || y || z) ≡ false
+        by x y z e f g = rw (e, f, g) refl
+
+    in_style : (style : BlockStyle) → b.style ≡ style → block_read (innermost_column (map (λ n. Some n) going)) piece more ≡ Some (record { style = style; column = b.column; text = b.text })
+    in_style style e = ap (λ o. block_read o piece more) (innermost_seen going) ∙ (read_going ∙ ap (λ st. Some (record { style = st; column = b.column; text = b.text })) e)
+
+    shown_at : content_position (block_read (innermost going) piece more) place piece more ≡ block_position b.column place piece more
+    shown_at = ap (λ o. content_position o place piece more) read_going
+
+    by_style : (style : BlockStyle) → b.style ≡ style → ⊥
+    by_style literal e = no_step piece more (scalar tokens.literal b.text) cut (some_piece piece header lines lines_are) (flow_seen a.entries out, (b.column, in_style literal e, shown_at)) may_not
+    by_style folded e = no_step piece more (scalar tokens.folded b.text) cut (some_piece piece header lines lines_are) (flow_seen a.entries out, (b.column, in_style folded e, shown_at)) may_not
+
+    pub no_block_end : ⊥
+    no_block_end = by_style b.style refl

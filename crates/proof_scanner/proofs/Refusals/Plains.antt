@@ -1,0 +1,104 @@
+-- Faults of plain scalars.
+use Rattle.std.proofs.Common.{◌≡◌, ℕ, List, [], ◌∷◌, ◌++◌, Bool, true, false, ◌||◌, ◌==◌, not, nat_le, nat_lt, Option, Result, Ok, Err, refl, ap, sym, ◌∙◌, subst, arith}
+use Rattle.std.proofs.lemmas.Bool.Decides.{nat_tests}
+use Rattle.defs_text.specs.Position.{Position, position_after}
+use Rattle.defs_text.specs.Text.{is_empty}
+use Rattle.defs_token.specs.Account.{is_adjacent, before_past}
+use Rattle.defs_token.specs.Plain.{inside, goes_on}
+use Rattle.defs_token.specs.Token.{Tok, Style}
+use Rattle.defs_token.specs.Step.{gives_node}
+use Rattle.defs_token.specs.Column.{innermost}
+use Rattle.defs_token.specs.Indentation.{least_column}
+use Rattle.defs_token.specs.RowAccount.{before_by, is_in_flow, site_in}
+use Rattle.yaml_tokens.specs.declared.problem.Fault.{Fault}
+use Rattle.yaml_tokens.specs.declared.problem.Problem.{Problem}
+use Rattle.yaml_tokens.specs.declared.problem.Problem.TheVariants as problem
+use Rattle.model_scanner.specs.declared.context.Context.{Context}
+use Rattle.model_scanner.specs.Machine.{Read}
+use Rattle.model_scanner.specs.Plain.{Plain, plain}
+use Rattle.model_scanner.specs.State.{ScannerState, in_flow, lexed, on_held, push}
+use Rattle.model_scanner.specs.Flow.{allow_key}
+use Rattle.model_scanner.specs.Indents.{without_open, unroll_non_block_indents}
+use Rattle.model_scanner.specs.Document.{context, after_plain, fetch_plain_scalar}
+use Rattle.proof_lexers.specs.PlainEnds as plains
+use Rattle.proof_lexers.specs.PlainEnds.{collection_of, is_indented, PlainEndsAs, IsPlainRefusal}
+use Rattle.proof_lexers.specs.Separations.{begins_separation}
+use Rattle.proof_lexers.proofs.Plain.Scalars.{scans_end}
+use Rattle.proof_scanner.specs.PiecesRead.{comes_plain}
+use Rattle.proof_scanner.proofs.Cut.Nodes.{IsDeep, less_or}
+use Rattle.proof_scanner.proofs.Cut.Saved.{saved_keys, saved_is}
+use Rattle.proof_scanner.specs.Arrives.{Arrives}
+use Rattle.proof_scanner.specs.StandsInRow.{columns}
+use Rattle.proof_scanner.proofs.Sound.WithoutOpen.{AreClosed, without_is}
+use Rattle.proof_scanner.specs.NoPiece as none
+use Rattle.proof_scanner.specs.NoPiece.{IsPlainFault, goes_over}
+use Rattle.proof_scanner.specs.Stuck.{IsStuck, no_plain, site_at_place}
+use Rattle.proof_scanner.proofs.Refusals.Faults.{Faults, goes, read}
+use Rattle.proof_scanner.proofs.Refusals.Places.{Told, account_by, stuck, in_flow_is}
+
+-- ---- texts
+
+over_alike : (c : Context) (collection : Option ℕ) (text next : List ℕ) → collection_of c.indent ≡ collection → plains.goes_over c text next ≡ true → goes_over c.flow collection text next ≡ true
+over_alike c collection [] next e h = refl
+over_alike c collection (x ∷ r) next e h = subst (λ o. goes_on c.flow o inside r next ≡ true) e h
+
+solid_text : (text : List ℕ) → is_empty text ≡ false → begins_separation text ≡ false → plains.begins_solid text ≡ true
+solid_text [] some h = absurd (cc some)
+solid_text (c ∷ r) some h = by (plains.is_white c) h
+  where
+    by : (w : Bool) → (w || (c == 35)) ≡ false → not w ≡ true
+    by true h = absurd (cc h)
+    by false h = refl
+
+-- ---- the scan
+
+module _ (text : List ℕ) (t : ScannerState) (a : Arrives text t) (some : is_empty t.rest ≡ false) (deep : IsDeep t.held)
+    (comes : comes_plain (in_flow t.held) (is_adjacent (before_past (before_by a.base.site.before) a.separation)) t.held.position.col t.rest ≡ true) where
+  abbrev blocks : List ℕ
+  blocks = columns t.held.indent t.held.indents
+
+  -- the levels without those that open no collection
+  closed : AreClosed t.held.indent t.held.indents t.held.tokens (without_open t.held.indent t.held.indents t.held.tokens)
+  closed = without_is t.held.indent t.held.indents t.held.tokens a.are_levels
+
+  abbrev ctx : Context
+  ctx = record { flow = in_flow t.held; indent = (without_open t.held.indent t.held.indents t.held.tokens).indent }
+
+  least_is : least_column blocks true ≡ ctx.indent
+  least_is = ap (λ bs. least_column bs true) closed.same_columns ∙ closed.is_least.1
+
+  collection_is : collection_of ctx.indent ≡ innermost blocks
+  collection_is = closed.is_least.0 ∙ ap innermost (sym closed.same_columns)
+
+  -- the plain scalar that begins here is none
+  plain_stuck : (why : Problem) (at : Position) → IsPlainFault (in_flow t.held) blocks t.held.position t.rest why at → IsStuck text why at
+  plain_stuck why at x =
+      stuck text t a some [] why at (λ c may.
+      let flow_is = in_flow_is text t a some c [] in
+      let blocks_are : (site_at_place (account_by text t a some c []) t.held.position).blocks ≡ blocks = ap (λ b. (site_in b gives_node t.held.position a.base.site).blocks) flow_is ∙ a.blocks_are in
+      no_plain (subst (λ b. comes_plain b (is_adjacent (before_past (before_by a.base.site.before) a.separation)) t.held.position.col t.rest ≡ true) (sym flow_is) comes)
+      (subst (λ bs. IsPlainFault (is_in_flow (account_by text t a some c []).entries) bs t.held.position t.rest why at) (sym blocks_are)
+      (subst (λ b. IsPlainFault b blocks t.held.position t.rest why at) (sym flow_is) x)))
+
+  refused : (f : Fault) → IsPlainRefusal ctx t.held.position t.rest f → Told text f
+  refused f (plains.by_column flow left) =
+      let shallow : nat_le (least_column blocks true) t.held.position.col ≡ false = grind (arith, nat_tests, least_is, left) in
+      λ _. plain_stuck problem.FlowIndentation t.held.position (none.by_column flow shallow)
+  refused f (plains.by_dash before rest flow cut begins over apart) =
+      λ _. plain_stuck problem.PlainDashInFlow (position_after t.held.position before (45 ∷ rest))
+      (none.by_dash before rest flow cut begins (over_alike ctx (innermost blocks) before (45 ∷ rest) collection_is over) apart)
+  refused f (plains.by_tab before blanks rest column cut over stands left are solid) =
+      λ _. plain_stuck problem.PlainTab t.held.position
+      (none.by_tab before blanks rest column cut (over_alike ctx (innermost blocks) before (9 ∷ (blanks ++ rest)) collection_is over) stands (subst (λ n. nat_lt column n ≡ true) (sym least_is) left) are solid)
+
+  pub plain_told : Faults (Told text) (fetch_plain_scalar t)
+  unfolding fetch_plain_scalar unroll_non_block_indents
+  plain_told =
+      subst (λ h. Faults (Told text) (lexed (plain (context (unroll_non_block_indents (allow_key false h))) t.rest t.held.position) (unroll_non_block_indents (allow_key false h))
+      (λ r u. Ok (on_held (λ v. push t.held.position (Tok.scalar Style.plain r.text) (after_plain r.leading v)) u)))) (sym (saved_is t.held))
+      (read (unroll_non_block_indents (allow_key false (record t.held { keys = saved_keys t.held }))) (plain ctx t.rest t.held.position) _ (λ f k. by f (plain ctx t.rest t.held.position) k
+      (scans_end ctx t.rest t.held.position a.is_clean (solid_text t.rest some a.is_solid) (less_or (in_flow t.held) ctx.indent t.held.position.col (omega (arith, deep, closed.not_deeper))))) (λ x k. goes))
+    where
+      by : (f : Fault) (x : Result (Read Plain) Fault) → x ≡ Err f → PlainEndsAs ctx t.held.position t.rest x → Told text f
+      by f x i (plains.reads piece gap rest value cut whole white ends is j) = absurd (cc (i, j))
+      by f x i (plains.refuses g why j) = let same : g ≡ f = cc (i, j) in subst (λ h. Told text h) same (refused g why)

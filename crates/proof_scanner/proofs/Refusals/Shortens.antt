@@ -1,0 +1,409 @@
+-- Each fetch reads on: where a piece begins, less text is left after it.
+use Rattle.std.proofs.Common.{◌≡◌, ℕ, ◌+◌, ◌<◌, ◌≤◌, List, [], ◌∷◌, ◌++◌, Bool, true, false, not, ◌==◌, ◌&&◌, ◌||◌, nat_lt, length, if◌then◌else◌, Option, Some, None, Result, Ok, Err, refl, ap, sym, ◌∙◌, subst, arith}
+use Rattle.std.proofs.lemmas.Bool.{and_parts}
+use Rattle.std.proofs.lemmas.List.{length-append}
+use Rattle.defs_text.specs.Classes.{is_nul, is_document_marker}
+use Rattle.defs_text.specs.Position.{Position}
+use Rattle.defs_text.specs.Text.{is_empty, has_no_nul}
+use Rattle.defs_token.specs.Account.{Account, Before, other, sequence, is_in_flow, collection_column, is_adjacent, before_past}
+use Rattle.defs_token.specs.Separation.{is_separation}
+use Rattle.defs_token.specs.Token.{Tok, Style}
+use Rattle.defs_token.specs.RowAccount.{before_by}
+use Rattle.yaml_chars.specs.Class.{is_break, is_breakz, is_flow}
+use Rattle.yaml_tokens.specs.declared.problem.Fault.{Fault}
+use Rattle.yaml_tokens.specs.declared.problem.Fault.TheVariants.{At}
+use Rattle.yaml_tokens.specs.declared.problem.Problem.TheVariants as problem
+use Rattle.model_scanner.specs.declared.context.Context.{Context}
+use Rattle.model_scanner.specs.declared.context.SkipTabs.{SkipTabs}
+use Rattle.model_scanner.specs.declared.context.SkipTabs.TheVariants.{Yes, No}
+use Rattle.model_scanner.specs.Machine.{Read}
+use Rattle.model_scanner.specs.Anchor.{anchor_name}
+use Rattle.model_scanner.specs.BlockScalar.{block}
+use Rattle.model_scanner.specs.Directive.{directive}
+use Rattle.model_scanner.specs.Plain.{plain}
+use Rattle.model_scanner.specs.Quoted.{quoted, quote_of}
+use Rattle.model_scanner.specs.Tag as tags
+use Rattle.model_scanner.specs.declared.level.FlowLevel.{FlowLevel}
+use Rattle.model_scanner.specs.declared.level.FlowLevel.TheVariants.{Mapping, Entry}
+use Rattle.model_scanner.specs.State.{Held, ScannerState, ◌>>=◌, peek, after, in_flow, on_held, try_held, lexed, go_on, skip_indicator, push}
+use Rattle.model_scanner.specs.Keys.{top_key, stale, save_implicit_key, remove_implicit_key}
+use Rattle.model_scanner.specs.Indents.{without_open, unroll_indent, unroll_non_block_indents, roll_indent, roll_one_col_indent}
+use Rattle.model_scanner.specs.Flow.{allow_key, begin_flow, pass_indicator, fetch_flow_collection_start, end_flow, fetch_flow_collection_end, end_entry, fetch_flow_entry}
+use Rattle.model_scanner.specs.Block.{check_block_entry, check_dash, roll_entry, fetch_block_entry, begin_key, check_key_space, fetch_key, check_after_tab, check_value_space, opens_pair, paired, value_of, fetch_value}
+use Rattle.model_scanner.specs.Document.{next_line, end_stream, fetch_stream_start, fetch_stream_end, begin_stream, begin_line, node_start, unled, context, after_plain, may_follow_quoted, check_after_quoted, fetch_directive, fetch_document_marker, check_document_end, fetch_document_end, fetch_anchor, fetch_tag, fetch_block_scalar, fetch_flow_scalar, fetch_plain_scalar}
+use Rattle.model_scanner.specs.Fetch.{fetch_token, comes_marker, fetch_indented, fetch_first_column, fetch_content, fetch_here, fetch_next, fetch}
+use Rattle.model_scanner.specs.Run.{start, Reaches, here, there}
+use Rattle.model_scanner.proofs.Holds.{Holds, went, refused, held_of, chained, tried, checked, either, passes, read, weakened, both_hold}
+use Rattle.proof_lexers.specs.DirectiveEnds as directives
+use Rattle.proof_lexers.specs.DirectiveEnds.{DirectiveEndsAs}
+use Rattle.proof_lexers.specs.PlainEnds.{collection_of}
+use Rattle.proof_lexers.specs.Separations.{begins_separation}
+use Rattle.proof_lexers.proofs.Directives.Lines.{directives_end}
+use Rattle.proof_row.specs.Ends.{ends_separation}
+use Rattle.proof_scanner.specs.PiecesRead.{ReadAs, comes_plain}
+use Rattle.proof_scanner.proofs.Cut.Dispatch.{token_holds}
+use Rattle.proof_scanner.proofs.Cut.Fetched.{Came, came, begins_with_this, no_marker, is_deep}
+use Rattle.proof_scanner.proofs.Cut.Nodes.{IsDeep, less_or}
+use Rattle.proof_scanner.proofs.Cut.Passes.{Passed, to_token, white_passed, Spaced, spaced, spaces_skipped, passed_spaces}
+use Rattle.proof_scanner.proofs.Cut.Pieces.Directives.{break_cut}
+use Rattle.proof_scanner.proofs.Cut.Pieces.Read.{pieces_are_read}
+use Rattle.proof_scanner.proofs.Cut.Saved.{saved_keys, saved_is}
+use Rattle.proof_scanner.specs.Arrives.{Arrives}
+use Rattle.proof_scanner.specs.StandsInRow.{Stands, Fares, begins, goes, over, FetchKeeps}
+use Rattle.proof_scanner.proofs.Sound.Arriving.{arrives_now, near_key}
+use Rattle.proof_scanner.proofs.Sound.Fetches.{fetch_keeps}
+use Rattle.proof_scanner.proofs.Sound.Runs.{reached}
+use Rattle.proof_scanner.proofs.Sound.Sound.{each_keeps}
+use Rattle.proof_scanner.proofs.Sound.Stales.{stale_stands}
+use Rattle.proof_scanner.proofs.Sound.ToToken.{passed_stands}
+use Rattle.proof_scanner.proofs.Sound.WithoutOpen.{AreClosed, without_is}
+use Rattle.proof_scanner.proofs.Complete.Steps.{ends_before}
+use Rattle.proof_scanner.proofs.Refusals.Passing.{anything}
+
+-- ---- lengths
+
+after_shorter : (r : List ℕ) → is_empty r ≡ false → length (after r) < length r
+after_shorter [] some = absurd (cc some)
+after_shorter (c ∷ r) some = omega arith
+
+after_no_longer : (r : List ℕ) → length (after r) ≤ length r
+after_no_longer [] = omega arith
+after_no_longer (c ∷ r) = omega arith
+
+passed_no_longer : (t u : ScannerState) → Passed t u → length u.rest ≤ length t.rest
+passed_no_longer t u p = let e = ap length p.is_rest in let n = length-append p.separation u.rest in omega (arith, e, n)
+
+spaced_no_longer : (tabs : SkipTabs) (t u : ScannerState) → Spaced tabs t u → length u.rest ≤ length t.rest
+spaced_no_longer tabs t u s = passed_no_longer t u (passed_spaces tabs t u s)
+
+read_shorter : (a : Account) (text : List ℕ) (tok : Tok) (p : Position) (rest : List ℕ) (end : Position) → ReadAs a text tok p rest end → length rest < length text
+read_shorter a text tok p rest end r =
+    let e = ap length r.is_text in
+    let n = length-append r.more (r.separation ++ rest) in
+    let m = length-append r.separation rest in
+    omega (arith, e, n, m)
+
+-- an account that a lexing function asks for
+abbrev asked : Position → (flow : Bool) → (column : Option ℕ) → Before → Account
+asked p flow column before = record { position = p; blocks = column ∷ []; levels = (if flow then record { kind = sequence; pair = false } ∷ [] else []); before = before }
+
+asked_flow : (p : Position) (flow : Bool) (column : Option ℕ) (before : Before) → is_in_flow (asked p flow column before) ≡ flow
+asked_flow p true column before = refl
+asked_flow p false column before = refl
+
+asked_column : (p : Position) (flow : Bool) (column : Option ℕ) (before : Before) → collection_column (asked p flow column before) ≡ column
+asked_column p flow None before = refl
+asked_column p flow (Some n) before = refl
+
+-- ---- where a piece begins
+
+module _ (text : List ℕ) (t : ScannerState) (a : Arrives text t) (some : is_empty t.rest ≡ false) where
+  abbrev Shorter : ScannerState → Type 0
+  Shorter u = length u.rest < length t.rest
+
+  clean_more : (c : ℕ) (more : List ℕ) → t.rest ≡ c ∷ more → has_no_nul more ≡ true
+  clean_more c more e = (and_parts (not (is_nul c)) (has_no_nul more) (subst (λ r. has_no_nul r ≡ true) e a.is_clean)).1
+
+  name_shortens : (alias : Bool) (more : List ℕ) → t.rest ≡ (if alias then 42 else 38) ∷ more → Holds Shorter (fetch_anchor alias t)
+  unfolding fetch_anchor
+  name_shortens alias more e =
+      read (node_start t.held) (anchor_name t.rest t.held.position) _ (λ x k.
+      went (subst (λ r. length x.rest < length r) (sym e) (read_shorter _ _ _ _ _ _ (pieces_are_read.name (asked t.held.position false None other) alias more x (clean_more _ more e) (ap (λ r. anchor_name r t.held.position) (sym e) ∙ k)))))
+
+  tag_shortens : (more : List ℕ) → t.rest ≡ 33 ∷ more → Holds Shorter (fetch_tag t)
+  unfolding fetch_tag
+  tag_shortens more e =
+      read (node_start t.held) (tags.tag (in_flow t.held) t.rest t.held.position) _ (λ x k.
+      went (subst (λ r. length x.rest < length r) (sym e) (read_shorter _ _ _ _ _ _
+      (pieces_are_read.tag (asked t.held.position (in_flow t.held) None other) (in_flow t.held) more x (clean_more _ more e) (asked_flow t.held.position (in_flow t.held) None other) (ap (λ r. tags.tag (in_flow t.held) r t.held.position) (sym e) ∙ k)))))
+
+  after_quoted : (line : ℕ) (u : ScannerState) → Holds (λ v. length v.rest ≤ length u.rest) (check_after_quoted line u)
+  unfolding check_after_quoted
+  after_quoted line u = chained (spaces_skipped Yes u) (λ v s. by v (may_follow_quoted (in_flow v.held) (line == v.held.position.line) (peek v.rest)) (spaced_no_longer Yes u v s))
+    where
+      by : (v : ScannerState) (b : Bool) → length v.rest ≤ length u.rest → Holds (λ w. length w.rest ≤ length u.rest) (if b then Ok v else Err (At problem.ContentAfterQuoted v.held.position))
+      by v true n = went n
+      by v false n = refused
+
+  quoted_shortens : (single : Bool) (more : List ℕ) → t.rest ≡ quote_of single ∷ more → Holds Shorter (fetch_flow_scalar single t)
+  unfolding fetch_flow_scalar
+  quoted_shortens single more e =
+      read (node_start t.held) (quoted single (context (node_start t.held)) t.rest t.held.position) _ (λ x k.
+      let less : length x.rest < length t.rest = subst (λ r. length x.rest < length r) (sym e) (read_shorter _ _ _ _ _ _
+      (pieces_are_read.quoted (asked t.held.position false None other) single (context (node_start t.held)) more x (clean_more _ more e) (ap (λ r. quoted single (context (node_start t.held)) r t.held.position) (sym e) ∙ k))) in
+      chained (after_quoted t.held.position.line (on_held unled (go_on x (node_start t.held)))) (λ v n. chained (to_token v) (λ w p.
+      let m = passed_no_longer v w p.passed in went (omega (arith, less, n, m)))))
+
+  -- what the start of a block scalar leaves
+  abbrev saved : Held
+  saved = unroll_non_block_indents (allow_key true (save_implicit_key t.held))
+
+  block_shortens : (literal : Bool) (more : List ℕ) → t.rest ≡ (if literal then 124 else 62) ∷ more → Holds Shorter (fetch_block_scalar literal t)
+  unfolding fetch_block_scalar
+  block_shortens literal more e =
+      read saved (block literal saved.indent t.rest t.held.position) _ (λ x k.
+      went (subst (λ r. length x.rest < length r) (sym e) (read_shorter _ _ _ _ _ _
+      (pieces_are_read.block (asked t.held.position false (collection_of saved.indent) other) literal saved.indent more x (clean_more _ more e) refl (asked_column t.held.position false (collection_of saved.indent) other) (ap (λ r. block literal saved.indent r t.held.position) (sym e) ∙ k)).0)))
+
+  -- the levels without those that open no collection
+  closed : AreClosed t.held.indent t.held.indents t.held.tokens (without_open t.held.indent t.held.indents t.held.tokens)
+  closed = without_is t.held.indent t.held.indents t.held.tokens a.are_levels
+
+  abbrev ctx : Context
+  ctx = record { flow = in_flow t.held; indent = (without_open t.held.indent t.held.indents t.held.tokens).indent }
+
+  abbrev before_here : Before
+  before_here = before_past (before_by a.base.site.before) a.separation
+
+  plain_shortens : IsDeep t.held → comes_plain (in_flow t.held) (is_adjacent before_here) t.held.position.col t.rest ≡ true → Holds Shorter (fetch_plain_scalar t)
+  unfolding fetch_plain_scalar unroll_non_block_indents
+  plain_shortens deep comes =
+      subst (λ h. Holds Shorter (lexed (plain (context (unroll_non_block_indents (allow_key false h))) t.rest t.held.position) (unroll_non_block_indents (allow_key false h))
+      (λ r u. Ok (on_held (λ v. push t.held.position (Tok.scalar Style.plain r.text) (after_plain r.leading v)) u)))) (sym (saved_is t.held))
+      (read (unroll_non_block_indents (allow_key false (record t.held { keys = saved_keys t.held }))) (plain ctx t.rest t.held.position) _ (λ x k.
+      let b : Account = asked t.held.position (in_flow t.held) (collection_of ctx.indent) before_here in
+      went (read_shorter b t.rest _ _ _ _ (pieces_are_read.plain b ctx t.rest x a.is_clean (asked_flow t.held.position (in_flow t.held) (collection_of ctx.indent) before_here) (asked_column t.held.position (in_flow t.held) (collection_of ctx.indent) before_here)
+      comes (less_or (in_flow t.held) ctx.indent t.held.position.col (omega (arith, deep, closed.not_deeper))) k))))
+
+  -- ---- indicators
+
+  stays : (f : Held → Result Held Fault) → Holds (λ u. u.rest ≡ t.rest) (try_held f t)
+  stays f = tried {P = λ s. Unit {0}} t (f t.held) (anything (f t.held)) (λ s k. refl)
+
+  one_read : (u : ScannerState) → u.rest ≡ t.rest → length (after u.rest) < length t.rest
+  one_read u e = subst (λ r. length (after r) < length t.rest) (sym e) (after_shorter t.rest some)
+
+  indicator_passed : (u : ScannerState) → u.rest ≡ t.rest → Holds Shorter (pass_indicator u)
+  unfolding pass_indicator
+  indicator_passed u e = weakened (λ v s. let n = one_read u e in let m = spaced_no_longer Yes (skip_indicator u) v s in omega (arith, n, m)) (spaces_skipped Yes (skip_indicator u))
+
+  opening_shortens : (kind : FlowLevel) (tok : Tok) → Holds Shorter (fetch_flow_collection_start kind tok t)
+  unfolding fetch_flow_collection_start
+  opening_shortens kind tok = chained (stays (begin_flow kind)) (λ u e. chained (indicator_passed u e) (λ v n. went n))
+
+  closing_shortens : (tok : Tok) → Holds Shorter (fetch_flow_collection_end tok t)
+  unfolding fetch_flow_collection_end
+  closing_shortens tok = chained (stays end_flow) (λ u e. chained (indicator_passed u e) (λ v n. went n))
+
+  comma_shortens : Holds Shorter (fetch_flow_entry t)
+  unfolding fetch_flow_entry
+  comma_shortens = chained (stays end_entry) (λ u e. chained (indicator_passed u e) (λ v n. went n))
+
+  rolled_rest : (u : ScannerState) → (roll_entry u).rest ≡ u.rest
+  unfolding roll_entry
+  rolled_rest u = by (is_break (peek u.rest) || is_flow (peek u.rest))
+    where
+      by : (b : Bool) → (if b then on_held roll_one_col_indent u else u).rest ≡ u.rest
+      by true = refl
+      by false = refl
+
+  dash_shortens : Holds Shorter (fetch_block_entry t)
+  unfolding fetch_block_entry check_dash
+  dash_shortens =
+      chained (stays check_block_entry) (λ u e.
+      let v : ScannerState = on_held (roll_indent t.held.position.col None Tok.block_sequence_start t.held.position) (skip_indicator u) in
+      chained {P = λ w. length w.rest < length t.rest} (spaced Yes v check_dash (λ w. length w.rest < length t.rest) (λ x w s. let n = one_read u e in let m = spaced_no_longer Yes v w s in passes _ _ (went (omega (arith, n, m))))) (λ w n.
+      chained (spaces_skipped No w) (λ x s.
+      tried_on x (let m = spaced_no_longer No w x s in subst (λ r. length r < length t.rest) (sym (rolled_rest x)) (omega (arith, n, m))))))
+    where
+      tried_on : (x : ScannerState) → length (roll_entry x).rest < length t.rest → Holds Shorter (try_held remove_implicit_key (roll_entry x) >>= λ y. Ok (on_held (λ s. push s.position Tok.block_entry (allow_key true s)) y))
+      tried_on x n = chained {P = Shorter} (tried {P = λ s. Unit {0}} (roll_entry x) (remove_implicit_key (roll_entry x).held) (anything (remove_implicit_key (roll_entry x).held)) (λ s k. n)) (λ y m. went m)
+
+  key_spaced : (w : ScannerState) → length w.rest < length t.rest → Holds Shorter (check_key_space w)
+  unfolding check_key_space
+  key_spaced w n = passes (peek w.rest == 9) (At problem.TabAfterKey w.held.position) (went n)
+
+  question_shortens : Holds Shorter (fetch_key t)
+  unfolding fetch_key
+  question_shortens =
+      chained (stays begin_key) (λ u e.
+      chained {P = λ v. v.rest ≡ t.rest} (tried {P = λ s. Unit {0}} u (remove_implicit_key u.held) (anything (remove_implicit_key u.held)) (λ s k. e)) (λ v f.
+      chained (white_passed (skip_indicator (on_held (λ s. allow_key (not (in_flow s)) s) v))) (λ w p.
+      let n = one_read v f in
+      let m = passed_no_longer (skip_indicator (on_held (λ s. allow_key (not (in_flow s)) s) v)) w p in
+      chained (key_spaced w (omega (arith, n, m))) (λ x k. went k))))
+
+  value_spaced : (u : ScannerState) → Holds (λ v. length v.rest ≤ length u.rest) (check_value_space u)
+  unfolding check_value_space check_after_tab
+  value_spaced u = either (peek u.rest == 9) (λ _. spaced Yes u check_after_tab (λ v. length v.rest ≤ length u.rest) (λ x v s. passes _ _ (went (spaced_no_longer Yes u v s)))) (λ _. went (omega arith))
+
+  colon_shortens : Holds Shorter (fetch_value t)
+  unfolding fetch_value
+  colon_shortens =
+      let v : ScannerState = skip_indicator (on_held (λ s. record s { flow = paired s.flow }) t) in
+      chained (value_spaced v) (λ u n.
+      let m = after_shorter t.rest some in
+      chained {P = Shorter} (tried {P = λ s. Unit {0}} u (value_of (top_key u.held.keys) t.held.position (opens_pair t.held.flow) u.held) (anything _) (λ s k. omega (arith, n, m))) (λ w k. went k))
+
+  -- ---- lines for the document
+
+  directive_shortens : (more : List ℕ) → t.rest ≡ 37 ∷ more → Holds Shorter (fetch_directive t)
+  unfolding fetch_directive
+  directive_shortens more e =
+      chained (stays begin_line) (λ u s.
+      read u.held (directive u.rest u.held.position) _ (λ x k. went (by u.held.position x (directive (37 ∷ more) u.held.position) (ap (λ r. directive r u.held.position) (sym (s ∙ e)) ∙ k) (directives_end more u.held.position))))
+    where
+      by : (q : Position) (x : Read Tok) (y : Result (Read Tok) Fault) → y ≡ Ok x → DirectiveEndsAs q more y → length x.rest < length t.rest
+      by q x y i (directives.reads line next d cut one ends is j) =
+          let same : directives.after_line q (37 ∷ line) next (directives.token_of d) ≡ x = cc (i, j) in
+          let all = ap length e in
+          let parts = ap length cut in
+          let n = length-append line next in
+          let break = ap length (break_cut next) in
+          let m = length-append (directives.first_break next) (directives.next_line next) in
+          subst (λ (z : Read Tok). length z.rest < length t.rest) same (omega (arith, all, parts, n, break, m))
+      by q x y i (directives.refuses line next g cut one ends lacks why j) = absurd (cc (i, j))
+
+  marker_shortens : (tok : Tok) → Holds Shorter (fetch_document_marker tok t)
+  unfolding fetch_document_marker
+  marker_shortens tok =
+      chained (stays begin_line) (λ u e.
+      let n = one_read u e in
+      let m = after_no_longer (after u.rest) in
+      let k = after_no_longer (after (after u.rest)) in
+      went (omega (arith, n, m, k)))
+
+  end_checked : (v : ScannerState) → length v.rest < length t.rest → Holds Shorter (check_document_end v)
+  unfolding check_document_end
+  end_checked v n = by (is_breakz (peek v.rest))
+    where
+      by : (b : Bool) → Holds Shorter (if b then Ok v else Err (At problem.ContentAfterDocumentEnd v.held.position))
+      by true = went n
+      by false = refused
+
+  end_shortens : Holds Shorter (fetch_document_end t)
+  unfolding fetch_document_end
+  end_shortens = chained (marker_shortens Tok.document_end) (λ u n. chained (spaces_skipped Yes u) (λ v s. let m = spaced_no_longer Yes u v s in end_checked v (omega (arith, n, m))))
+
+  -- ---- by the first character
+
+  token_shortens : IsDeep t.held → ((t.held.position.col == 0) && is_document_marker t.rest) ≡ false → Holds Shorter (fetch_token t)
+  token_shortens deep marker =
+      token_holds (Holds Shorter) t (is_adjacent before_here) a.is_clean a.is_solid (λ inside. sym (a.is_adjacent_here inside some)) marker (record {
+        anchor = λ alias more e. name_shortens alias more e;
+        tag = λ more e. tag_shortens more e;
+        plain = λ comes. plain_shortens deep comes;
+        quoted = λ single more e. quoted_shortens single more e;
+        block = λ literal more e o. block_shortens literal more e;
+        dash = λ more e gap. dash_shortens;
+        question = λ more e gap. question_shortens;
+        colon = λ more e i. colon_shortens;
+        open_bracket = λ more e. opening_shortens Entry Tok.flow_sequence_start;
+        open_brace = λ more e. opening_shortens Mapping Tok.flow_mapping_start;
+        close_bracket = λ more e. closing_shortens Tok.flow_sequence_end;
+        close_brace = λ more e. closing_shortens Tok.flow_mapping_end;
+        comma = λ more e. comma_shortens;
+        percent = λ more e. refused;
+        at_sign = λ more e. refused;
+        backtick = λ more e. refused;
+      }) some
+
+  indented_shortens : ((t.held.position.col == 0) && is_document_marker t.rest) ≡ false → Holds Shorter (fetch_indented t)
+  unfolding fetch_indented
+  indented_shortens none = checked (nat_lt (t.held.position.col + 1) t.held.indent) (At problem.InvalidIndentation t.held.position) (λ e. token_shortens (is_deep t.held.position.col t.held.indent e) none)
+
+  first_shortens : Holds Shorter (fetch_first_column t)
+  unfolding fetch_first_column
+  first_shortens =
+      either (peek t.rest == 37) (λ e. directive_shortens (after t.rest) (begins_with_this t.rest 37 some e)) (λ _.
+      either (comes_marker 45 t.rest) (λ _. marker_shortens Tok.document_start) (λ x.
+      either (comes_marker 46 t.rest) (λ _. end_shortens) (λ y. indented_shortens (by (t.held.position.col == 0) (no_marker t.rest x y)))))
+    where
+      by : (b : Bool) → is_document_marker t.rest ≡ false → (b && is_document_marker t.rest) ≡ false
+      by true e = e
+      by false e = refl
+
+  content_shortens : Holds Shorter (fetch_content t)
+  unfolding fetch_content
+  content_shortens = either (t.held.position.col == 0) (λ _. first_shortens) (λ e. indented_shortens (rw e refl))
+
+-- where a piece begins less text is left; at the text's end none is
+here_shortens : (text : List ℕ) (t : ScannerState) → Arrives text t → Holds (λ u. (is_empty t.rest ≡ false → length u.rest < length t.rest) × (length u.rest ≤ length t.rest)) (fetch_here t)
+unfolding fetch_here fetch_stream_end is_nul
+here_shortens text t a = by (is_empty t.rest) refl
+  where
+    Both : ScannerState → Type 0
+    Both u = (is_empty t.rest ≡ false → length u.rest < length t.rest) × (length u.rest ≤ length t.rest)
+
+    ended : (b : Bool) → is_empty t.rest ≡ true → (peek t.rest == 0) ≡ b → Holds Both (if b then try_held (λ s. end_stream (record s { position = next_line s.position })) t else fetch_content t)
+    ended true e z = tried {P = λ s. Unit {0}} t (end_stream (record t.held { position = next_line t.held.position })) (anything _) (λ s k. ((λ n. absurd (cc (e, n))), omega arith))
+    ended false e z = absurd (cc (z, ap (λ b. b) (nothing t.rest e)))
+      where
+        nothing : (r : List ℕ) → is_empty r ≡ true → (peek r == 0) ≡ true
+        nothing [] h = refl
+        nothing (c ∷ r) h = absurd (cc h)
+
+    goes_on_by : (b : Bool) → is_empty t.rest ≡ false → (peek t.rest == 0) ≡ b → Holds Both (if b then try_held (λ s. end_stream (record s { position = next_line s.position })) t else fetch_content t)
+    goes_on_by true e z = tried {P = λ s. Unit {0}} t (end_stream (record t.held { position = next_line t.held.position })) (anything _) (λ s k. absurd (no_end t.rest a.is_clean e z))
+      where
+        no_end : (r : List ℕ) → has_no_nul r ≡ true → is_empty r ≡ false → (peek r == 0) ≡ true → ⊥
+        no_end [] n h z = cc h
+        no_end (c ∷ r) n h z = let first = and_parts (not (is_nul c)) (has_no_nul r) n in cc (first.0, z)
+    goes_on_by false e z = weakened (λ u n. ((λ _. n), omega (arith, n))) (content_shortens text t a e)
+
+    by : (b : Bool) → is_empty t.rest ≡ b → Holds Both (if peek t.rest == 0 then try_held (λ s. end_stream (record s { position = next_line s.position })) t else fetch_content t)
+    by true e = ended (peek t.rest == 0) e refl
+    by false e = goes_on_by (peek t.rest == 0) e refl
+
+-- ---- a fetch
+
+-- where a token begins
+pub stale_arrives : (text : List ℕ) (u : ScannerState) → Stands text u → begins_separation u.rest ≡ false → Holds (λ v. Arrives text (on_held (λ s. unroll_indent (s.position.col + 1) s) v)) (try_held stale u)
+stale_arrives text u s solid = tried u (stale u.held) (stale_stands text u s) (λ h n. arrives_now text (record u { held = h }) n.stands solid (near_key text u h n))
+
+-- A fetch passes a separation; where the text goes on it reads more.
+pub record ReadsOn (t u : ScannerState) : Type 0 where
+  pub passed : List ℕ
+  pub rest : List ℕ
+  pub cut : t.rest ≡ passed ++ rest
+  pub is_filled : is_separation false passed rest ≡ true
+  pub is_solid : ends_separation rest ≡ true
+  pub shorter : is_empty rest ≡ false → length u.rest < length rest
+  pub no_longer : length u.rest ≤ length t.rest
+
+next_reads_on : (text : List ℕ) (t : ScannerState) → Stands text t → Holds (ReadsOn t) (fetch_next t)
+unfolding fetch_next
+next_reads_on text t s =
+    chained (both_hold (passed_stands text t s) (to_token t)) (λ u p.
+    chained {P = λ v. Arrives text (on_held (λ h. unroll_indent (h.position.col + 1) h) v) × (v.rest ≡ u.rest)}
+    (both_hold (stale_arrives text u p.0.0 p.0.1) (tried {P = λ h. Unit {0}} u (stale u.held) (anything (stale u.held)) (λ h k. refl))) (λ v a.
+    chained (here_shortens text (on_held (λ h. unroll_indent (h.position.col + 1) h) v) a.0) (λ w n.
+    tried {P = λ h. Unit {0}} w (stale w.held) (anything (stale w.held)) (λ h k.
+    let e = ap length a.1 in
+    let m = passed_no_longer t u p.1.passed in
+    let left = n.1 in
+    record {
+      passed = p.1.passed.separation;
+      rest = u.rest;
+      cut = p.1.passed.is_rest;
+      is_filled = p.1.passed.is_filled;
+      is_solid = ends_before u.rest p.1.solid p.0.0.is_clean;
+      shorter = λ some. subst (λ r. length w.rest < length r) a.1 (n.0 (ap is_empty a.1 ∙ some));
+      no_longer = omega (arith, e, m, left);
+    }))))
+
+pub fetch_reads_on : (text : List ℕ) (t : ScannerState) → Stands text t → Holds (ReadsOn t) (fetch t)
+unfolding fetch
+fetch_reads_on text t s = either t.held.started (λ _. next_reads_on text t s) (λ n. absurd (cc (n, s.started)))
+
+-- ---- a run
+
+kept : FetchKeeps
+kept = fetch_keeps each_keeps
+
+first_rest : (text : List ℕ) (u : ScannerState) → fetch (start text) ≡ Ok u → length u.rest ≤ length text
+unfolding fetch fetch_stream_start
+first_rest text u e = let same : on_held begin_stream (start text) ≡ u = cc e in subst (λ (x : ScannerState). length x.rest ≤ length text) same (omega arith)
+
+-- A run leaves no more text than there was.
+pub run_reads_on : (text : List ℕ) → has_no_nul text ≡ true → (t u : ScannerState) → Reaches t u → Came text t → Fares text t → length u.rest ≤ length t.rest
+run_reads_on text nul t u here c s = omega arith
+run_reads_on text nul t u (there {u = v} going e run) c s =
+    let more = run_reads_on text nul v u run (came text nul t v (there going e here) c) (reached kept text nul t v (there going e here) c s) in
+    let first = by s in
+    omega (arith, more, first)
+  where
+    by : Fares text t → length v.rest ≤ length t.rest
+    by (begins b) = subst (λ (x : ScannerState). length v.rest ≤ length x.rest) (sym b) (first_rest text v (ap fetch (sym b) ∙ e))
+    by (goes z) = (held_of v (fetch_reads_on text t z) e).no_longer
+    by (over f r) = absurd (cc (going, f))

@@ -1,0 +1,491 @@
+-- Where a piece may not stand for what stands before or after it, no row of the text goes on.
+use Rattle.std.proofs.Common.{◌≡◌, ◌<◌, List, [], ◌∷◌, ◌++◌, ℕ, Bool, true, false, not, ◌==◌, ◌&&◌, ◌||◌, if◌then◌else◌, map, Option, Some, None, ◌⊎◌, inl, inr, refl, ap, sym, ◌∙◌, subst, arith}
+use Rattle.std.proofs.lemmas.Bool.{eqb-true}
+use Rattle.std.proofs.lemmas.Bool.Decides.{nat_tests}
+use Rattle.defs_text.specs.Classes.{is_blank, is_break, is_nul, is_flow, is_blank_or_end, is_at_gap}
+use Rattle.defs_text.specs.Position.{Position}
+use Rattle.defs_text.specs.Text.{is_empty, has_no_nul}
+use Rattle.defs_text.specs.FlowScalar.{begins_with}
+use Rattle.defs_token.specs.Account.{is_adjacent, before_past}
+use Rattle.defs_token.specs.Account as pieces
+use Rattle.defs_token.specs.Piece.{begins_with_space_or_break}
+use Rattle.defs_token.specs.Plain.{is_value_indicator}
+use Rattle.defs_token.specs.Separation.{is_separation}
+use Rattle.defs_token.specs.Token.{Tok, scalar, single_quoted, double_quoted, flow_sequence_start, flow_sequence_end, flow_mapping_start, flow_mapping_end, flow_entry}
+use Rattle.defs_token.specs.Step.{Step, gives_node, gives_dash, gives_question, gives_colon, act_of, quoted_scalar, previous_by}
+use Rattle.defs_token.specs.Column.{is_in_column, opened}
+use Rattle.defs_token.specs.FlowEntry as entry
+use Rattle.defs_token.specs.FlowEntry.{Entry, takes_pair, is_renewed, entries_past}
+use Rattle.defs_token.specs.Indentation.{awaits_past, is_indented_by_spaces, has_tab_before_piece}
+use Rattle.defs_token.specs.Following.{quoted_may_end, may_precede}
+use Rattle.defs_token.specs.Key.{Line, free, taken, waits, begins_free_line, line_past_separation, is_near, line_past}
+use Rattle.defs_token.specs.RowAccount.{Site, Account, before_by, is_in_flow, level_of, site_in, least_for, is_deep_enough, may_stand, on_one_line, past_outside, past_inside, past_piece}
+use Rattle.defs_token.specs.Lines.{further_lines_stand}
+use Rattle.proof_row.specs.Ends.{Kind, kind_at, question, colon, dash, sequence_opening, sequence_closing, mapping_opening, mapping_closing, comma}
+use Rattle.proof_row.proofs.Begins.{Whole, context_of}
+use Rattle.proof_row.proofs.Separations.{separations}
+use Rattle.proof_row.proofs.Texts.{no_nul_after}
+use Rattle.proof_lexers.specs.PlainEnds.{has_break}
+use Rattle.proof_lexers.specs.Separations.{begins_separation, begins_white_space}
+use Rattle.proof_row.proofs.Accounts.{same_flow}
+use Rattle.proof_row.proofs.Like.{LikeLine, LikeHad, LikeEntries}
+use Rattle.proof_row.proofs.Written.{At}
+use Rattle.proof_scanner.specs.Ways.{Stop, spelled_to, LeadsTo}
+use Rattle.proof_scanner.proofs.Complete.Nodes.Past.{NodePast, node_past}
+use Rattle.proof_scanner.proofs.Complete.Steps.{ends_before, step_here}
+use Rattle.proof_scanner.specs.NoPiece.{GoesOn, IsQuoted, is_flow_indicator}
+use Rattle.proof_scanner.specs.Stuck.{site_at_place, is_taken_line, is_taken, is_value_here}
+use Rattle.proof_scanner.proofs.Refusals.OtherRows.{StepAt}
+use Rattle.proof_scanner.proofs.Refusals.PiecesHere.{acct, whole_by, rest_of}
+use Rattle.proof_scanner.proofs.Refusals.PiecesRefused.{refused, and_last, same_step, no_step, not_nothing}
+
+-- ---- lines and accounts
+
+-- a line that is taken is so at like accounts
+taken_alike : (broken : Bool) (l m : Line) → LikeLine l m → is_taken_line (line_past_separation false broken l) ≡ true → is_taken_line (line_past_separation false broken m) ≡ true
+taken_alike true free m i h = absurd (cc h)
+taken_alike true taken m i h = absurd (cc h)
+taken_alike true (waits p) m i h = absurd (cc h)
+taken_alike false free m i h = absurd (cc h)
+taken_alike false taken free i h = absurd i
+taken_alike false taken taken i h = refl
+taken_alike false taken (waits q) i h = refl
+taken_alike false (waits p) free i h = absurd i
+taken_alike false (waits p) taken i h = refl
+taken_alike false (waits p) (waits q) i h = refl
+
+-- on such a line no entry and no `?` begins
+none_begins : (x : Site) (piece : List ℕ) (t : Tok) (next : List ℕ) (again is_key : Bool) (o : Option Line) → (act_of t ≡ gives_dash) ⊎ (act_of t ≡ gives_question) → is_taken_line o ≡ true → past_piece x piece t next again is_key o [] ≡ None
+none_begins x piece t next again is_key None is h = absurd (cc h)
+none_begins x piece t next again is_key (Some free) is h = absurd (cc h)
+none_begins x piece t next again is_key (Some taken) is h = by is
+  where
+    dash_key : (k : Bool) → line_past (is_in_column x.position.col x.blocks) x.position x.blocks gives_dash k taken ≡ None
+    dash_key true = refl
+    dash_key false = refl
+
+    question_key : (k : Bool) → line_past (is_in_column x.position.col x.blocks) x.position x.blocks gives_question k taken ≡ None
+    question_key true = refl
+    question_key false = refl
+
+    by : (act_of t ≡ gives_dash) ⊎ (act_of t ≡ gives_question) → past_outside x piece t next (line_past (is_in_column x.position.col x.blocks) x.position x.blocks (act_of t) is_key taken) ≡ None
+    by (inl e) = ap (λ k. past_outside x piece t next (line_past (is_in_column x.position.col x.blocks) x.position x.blocks k is_key taken)) e ∙ ap (past_outside x piece t next) (dash_key is_key)
+    by (inr e) = ap (λ k. past_outside x piece t next (line_past (is_in_column x.position.col x.blocks) x.position x.blocks k is_key taken)) e ∙ ap (past_outside x piece t next) (question_key is_key)
+none_begins x piece t next again is_key (Some (waits q)) is h = by is
+  where
+    dash_key : (k : Bool) → line_past (is_in_column x.position.col x.blocks) x.position x.blocks gives_dash k (waits q) ≡ None
+    dash_key true = refl
+    dash_key false = refl
+
+    question_key : (k : Bool) → line_past (is_in_column x.position.col x.blocks) x.position x.blocks gives_question k (waits q) ≡ None
+    question_key true = refl
+    question_key false = refl
+
+    by : (act_of t ≡ gives_dash) ⊎ (act_of t ≡ gives_question) → past_outside x piece t next (line_past (is_in_column x.position.col x.blocks) x.position x.blocks (act_of t) is_key (waits q)) ≡ None
+    by (inl e) = ap (λ k. past_outside x piece t next (line_past (is_in_column x.position.col x.blocks) x.position x.blocks k is_key (waits q))) e ∙ ap (past_outside x piece t next) (dash_key is_key)
+    by (inr e) = ap (λ k. past_outside x piece t next (line_past (is_in_column x.position.col x.blocks) x.position x.blocks k is_key (waits q))) e ∙ ap (past_outside x piece t next) (question_key is_key)
+
+-- a colon on a line that is taken ends a key that waits, if that is near
+none_ends : (x : Site) (piece : List ℕ) (t : Tok) (next : List ℕ) (again is_key : Bool) (o : Option Line) → act_of t ≡ gives_colon → is_taken_line o ≡ true → ((q : Position) → o ≡ Some (waits q) → is_near q x.position ≡ true → ⊥) → past_piece x piece t next again is_key o [] ≡ None
+none_ends x piece t next again is_key None is h none = absurd (cc h)
+none_ends x piece t next again is_key (Some free) is h none = absurd (cc h)
+none_ends x piece t next again is_key (Some taken) is h none = ap (λ k. past_outside x piece t next (line_past (is_in_column x.position.col x.blocks) x.position x.blocks k is_key taken)) is ∙ ap (past_outside x piece t next) (colon_key is_key)
+  where
+    colon_key : (k : Bool) → line_past (is_in_column x.position.col x.blocks) x.position x.blocks gives_colon k taken ≡ None
+    colon_key true = refl
+    colon_key false = refl
+none_ends x piece t next again is_key (Some (waits q)) is h none = ap (λ k. past_outside x piece t next (line_past (is_in_column x.position.col x.blocks) x.position x.blocks k is_key (waits q))) is ∙ ap (past_outside x piece t next) (colon_key is_key)
+  where
+    far : (b : Bool) → is_near q x.position ≡ b → b ≡ false
+    far true e = absurd (none q refl e)
+    far false e = refl
+
+    colon_key : (k : Bool) → line_past (is_in_column x.position.col x.blocks) x.position x.blocks gives_colon k (waits q) ≡ None
+    colon_key true = refl
+    colon_key false = ap (λ b. if b then Some (record { line = taken; blocks = opened q.col x.blocks }) else None) (far (is_near q x.position) refl)
+
+-- a key that waits after a separation waited before it, and no line ends there
+still_waits : (b : Bool) (l : Line) (q : Position) → line_past_separation false b l ≡ Some (waits q) → (l ≡ waits q) × (b ≡ false)
+still_waits false l q e = (cc e, refl)
+still_waits true free q e = absurd (cc e)
+still_waits true taken q e = absurd (cc e)
+still_waits true (waits p) q e = absurd (cc e)
+
+none_out : (es : List Entry) → is_in_flow es ≡ false → es ≡ []
+none_out [] h = refl
+none_out (e ∷ es) h = absurd (cc h)
+
+gone : (b : Bool) (piece : List ℕ) (x : Option Account) (ws : List Step) (stop : Stop) → x ≡ None → LeadsTo (if b then on_one_line piece x else None) ws stop → ⊥
+gone true piece x ws stop e k = subst (λ o. LeadsTo (on_one_line piece o) ws stop) e k
+gone false piece x ws stop e k = k
+
+first_fails : (x y z w : Bool) → x ≡ false → (x && y && z && w) ≡ false
+first_fails true y z w e = absurd (cc e)
+first_fails false y z w e = refl
+
+-- ---- entries in flow
+
+-- no colon comes to an entry whose key waits on an earlier line, nor to one that has had a node that is no key
+none_had : (p begin : Position) (again is_key : Bool) (h : entry.Had) → LikeHad (entry.waits begin) h → begin.line < p.line → entry.had_after p true gives_colon is_key (entry.renewed again gives_colon h) ≡ None
+none_had p begin true true h i late = by h i
+  where
+    by : (h : entry.Had) → LikeHad (entry.waits begin) h → entry.had_after p true gives_colon true (entry.renewed true gives_colon h) ≡ None
+    by entry.fresh i = absurd i
+    by entry.filled i = refl
+    by (entry.waits q) i = refl
+    by entry.settled i = absurd i
+none_had p begin false true h i late = by h i
+  where
+    by : (h : entry.Had) → LikeHad (entry.waits begin) h → entry.had_after p true gives_colon true (entry.renewed false gives_colon h) ≡ None
+    by entry.fresh i = absurd i
+    by entry.filled i = refl
+    by (entry.waits q) i = refl
+    by entry.settled i = absurd i
+none_had p begin again false h i late = by again h i
+  where
+    earlier : (q : Position) → begin ≡ q → (q.line == p.line) ≡ false
+    earlier q e = let same = ap (λ x. x.line) e in grind (arith, nat_tests, late, same)
+
+    by : (again : Bool) (h : entry.Had) → LikeHad (entry.waits begin) h → entry.had_after p true gives_colon false (entry.renewed again gives_colon h) ≡ None
+    by again entry.fresh i = absurd i
+    by true entry.filled i = refl
+    by false entry.filled i = refl
+    by true (entry.waits q) i = ap (λ b. if b then Some entry.settled else None) (earlier q i)
+    by false (entry.waits q) i = ap (λ b. if b then Some entry.settled else None) (earlier q i)
+    by again entry.settled i = absurd i
+
+-- ---- TABs after `?`
+
+tabbed : (in_comment : Bool) (passed content : List ℕ) → is_separation in_comment passed (9 ∷ content) ≡ true → has_tab_before_piece in_comment (passed ++ 9 ∷ content) ≡ true
+unfolding is_blank is_break is_nul
+tabbed true [] content h = absurd (cc h)
+tabbed false [] content h = refl
+tabbed true (c ∷ r) content h = tabbed (not (is_break c)) r content h
+tabbed false (c ∷ r) content h = by (c == 32) (c == 9) (is_break c) (c == 35) refl h (tabbed (c == 35) r content)
+  where
+    by : (s t b k : Bool) → (c == 35) ≡ k → (((s || t) || b || k) && is_separation (c == 35) r (9 ∷ content)) ≡ true → (is_separation (c == 35) r (9 ∷ content) ≡ true → has_tab_before_piece (c == 35) (r ++ 9 ∷ content) ≡ true)
+        → (t || ((s || b || k) && has_tab_before_piece (c == 35) (r ++ 9 ∷ content))) ≡ true
+    by s true b k e h more = refl
+    by true false b k e h more = more h
+    by false false true k e h more = more h
+    by false false false true e h more = more h
+    by false false false false e h more = absurd (cc h)
+
+-- the token of a quoted scalar
+abbrev quoted_token : (single : Bool) → List ℕ → Tok
+quoted_token true value = scalar single_quoted value
+quoted_token false value = scalar double_quoted value
+
+module _ (a : Account) (separation rest : List ℕ) (here : Position) (s : StepAt a separation rest here) where
+  abbrev next : List ℕ
+  next = spelled_to s.steps s.stop
+
+  abbrev there : Site
+  there = At s.account s.step next
+
+  pub stands_not : may_stand (is_in_flow s.account.entries) s.account.site there s.step.separation s.step.piece s.step.shown next ≡ false → ⊥
+  stands_not e = refused _ (may_stand (is_in_flow s.account.entries) s.account.site there s.step.separation s.step.piece s.step.shown next) s.steps s.stop e s.is_row.1
+
+  third_fails : (x y z w : Bool) → z ≡ false → (x && y && z && w) ≡ false
+  third_fails true true z w e = ap (λ b. b && w) e
+  third_fails true false z w e = refl
+  third_fails false y z w e = refl
+
+  -- the site of a node's piece here
+  pub node_site : act_of s.step.shown ≡ gives_node → there ≡ site_at_place a here
+  node_site is =
+      ap (λ k. site_in (is_in_flow s.account.entries) k there.position s.account.site) is ∙
+      (ap (λ p. site_in (is_in_flow s.account.entries) gives_node p s.account.site) s.position_is ∙
+      (ap (λ b. site_in b gives_node here s.account.site) (sym (same_flow a.entries s.account.entries s.is_like.2)) ∙ ap (λ x. site_in (is_in_flow a.entries) gives_node here x) (sym s.is_like.0)))
+
+  second_fails : (x y z w : Bool) → y ≡ false → (x && y && z && w) ≡ false
+  second_fails true y z w e = ap (λ b. b && z && w) e
+  second_fails false y z w e = refl
+
+  -- a node's piece does not lie deep enough
+  pub no_depth : (t : Tok) → s.step.shown ≡ t → act_of t ≡ gives_node → is_deep_enough (is_in_flow a.entries) t (site_at_place a here) ≡ false → ⊥
+  no_depth t is node e =
+      let site : there ≡ site_at_place a here = node_site (ap act_of is ∙ node) in
+      let fails : is_deep_enough (is_in_flow s.account.entries) s.step.shown there ≡ false =
+      ap (λ b. is_deep_enough b s.step.shown there) (sym (same_flow a.entries s.account.entries s.is_like.2)) ∙ (ap (λ u. is_deep_enough (is_in_flow a.entries) u there) is ∙ (ap (λ x. is_deep_enough (is_in_flow a.entries) t x) site ∙ e)) in
+      stands_not (second_fails (is_indented_by_spaces s.account.site.before s.account.site.blocks s.account.site.awaits s.step.separation) _ _ _ fails)
+
+  -- the further lines of a scalar are not indented
+  pub no_lines : (t : Tok) → s.step.shown ≡ t → act_of t ≡ gives_node → further_lines_stand (least_for t (site_at_place a here)) t s.step.piece ≡ false → ⊥
+  no_lines t is node e =
+      let site : there ≡ site_at_place a here = node_site (ap act_of is ∙ node) in
+      let fails : further_lines_stand (least_for s.step.shown there) s.step.shown s.step.piece ≡ false =
+      ap (λ u. further_lines_stand (least_for u there) u s.step.piece) is ∙ (ap (λ x. further_lines_stand (least_for t x) t s.step.piece) site ∙ e) in
+      stands_not (third_fails (is_indented_by_spaces s.account.site.before s.account.site.blocks s.account.site.awaits s.step.separation) (is_deep_enough (is_in_flow s.account.entries) s.step.shown there) _ _ fails)
+
+  -- the row's piece may not stand before what follows it
+  pub no_end : may_precede (is_in_flow s.account.entries) there.blocks s.step.shown s.step.piece next ≡ false → ⊥
+  no_end e = stands_not (and_last _ _ e)
+
+  -- ---- the line of a piece
+
+  pub no_tabbed_line : is_indented_by_spaces a.site.before a.site.blocks a.site.awaits separation ≡ false → ⊥
+  no_tabbed_line e =
+      stands_not (first_fails (is_indented_by_spaces s.account.site.before s.account.site.blocks s.account.site.awaits s.step.separation) _ _ _
+      (ap (λ (x : Site). is_indented_by_spaces x.before x.blocks x.awaits s.step.separation) (sym s.is_like.0) ∙ (ap (λ f. is_indented_by_spaces a.site.before a.site.blocks a.site.awaits f) s.separation_is ∙ e)))
+
+  -- ---- entries, `?`
+
+  no_entries : is_in_flow a.entries ≡ false → s.account.entries ≡ []
+  no_entries out = none_out s.account.entries (sym (same_flow a.entries s.account.entries s.is_like.2) ∙ out)
+
+  taken_there : is_taken a separation ≡ true → is_taken_line (line_past_separation false (begins_free_line s.account.site.before s.step.separation) s.account.line) ≡ true
+  taken_there h =
+      ap (λ f. is_taken_line (line_past_separation false (begins_free_line s.account.site.before f) s.account.line)) s.separation_is ∙
+      (ap (λ (x : Site). is_taken_line (line_past_separation false (begins_free_line x.before separation) s.account.line)) (sym s.is_like.0) ∙
+      taken_alike (begins_free_line a.site.before separation) a.line s.account.line s.is_like.1 h)
+
+  none_on_line : is_in_flow a.entries ≡ false → is_taken a separation ≡ true → (act_of s.step.shown ≡ gives_dash) ⊎ (act_of s.step.shown ≡ gives_question) → ⊥
+  none_on_line out line is =
+      gone (may_stand (is_in_flow s.account.entries) s.account.site there s.step.separation s.step.piece s.step.shown next) s.step.piece _ s.steps s.stop
+      (ap (λ es. past_piece there s.step.piece s.step.shown next (is_renewed s.account.site.before s.step.separation) s.step.key (line_past_separation (is_in_flow es) (begins_free_line s.account.site.before s.step.separation) s.account.line) es) (no_entries out) ∙
+      none_begins there s.step.piece s.step.shown next (is_renewed s.account.site.before s.step.separation) s.step.key _ is (taken_there line)) s.is_row.1
+
+  abbrev Here : Kind → Type 0
+  Here k = Whole k (context_of (acct a separation rest here s)) s.step.piece next s.step.shown
+
+  pub no_dash_here : (more : List ℕ) → rest ≡ 45 ∷ more → is_at_gap more ≡ true → is_in_flow a.entries ≡ false → is_taken a separation ≡ true → ⊥
+  unfolding is_blank_or_end is_blank is_break is_nul is_flow
+  no_dash_here more e gap out line =
+      let w : Here dash = subst Here (dash_kind (pieces.is_in_flow (acct a separation rest here s)) (is_adjacent (acct a separation rest here s).before) (acct a separation rest here s).position.col) (whole_by a separation rest here s 45 more e) in
+      none_on_line out line (inl (ap act_of w.2))
+    where
+      dash_kind : (fl adjacent : Bool) (column : ℕ) → kind_at fl adjacent column (45 ∷ more) ≡ dash
+      dash_kind fl adjacent column = rw gap refl
+
+  question_here : (more : List ℕ) → rest ≡ 63 ∷ more → is_at_gap more ≡ true → Here question
+  unfolding is_blank_or_end is_blank is_break is_nul is_flow
+  question_here more e gap = subst Here (question_kind (pieces.is_in_flow (acct a separation rest here s)) (is_adjacent (acct a separation rest here s).before) (acct a separation rest here s).position.col) (whole_by a separation rest here s 63 more e)
+    where
+      question_kind : (fl adjacent : Bool) (column : ℕ) → kind_at fl adjacent column (63 ∷ more) ≡ question
+      question_kind fl adjacent column = rw gap refl
+
+  pub no_question_here : (more : List ℕ) → rest ≡ 63 ∷ more → is_at_gap more ≡ true → is_in_flow a.entries ≡ false → is_taken a separation ≡ true → ⊥
+  no_question_here more e gap out line = none_on_line out line (inr (ap act_of (question_here more e gap).2))
+
+  -- what stands after a piece of one character
+  after_one : (c : ℕ) (more : List ℕ) → rest ≡ c ∷ more → s.step.piece ≡ c ∷ [] → next ≡ more
+  after_one c more e p = rest_of a separation rest here s c [] more p e
+
+  pub no_space_after : (more passed content : List ℕ) → rest ≡ 63 ∷ more → is_at_gap more ≡ true → GoesOn more passed content → begins_with 32 more ≡ false → begins_white_space content ≡ false → ⊥
+  no_space_after more passed content e gap on none ends =
+      let w : Here question = question_here more e gap in
+      by passed content more on.is_text on.is_on_line none ends (sym (ap begins_with_space_or_break (after_one 63 more e w.0)) ∙ w.1)
+    where
+      by : (passed content more : List ℕ) → more ≡ passed ++ content → has_break passed ≡ false → begins_with 32 more ≡ false → begins_white_space content ≡ false → begins_with_space_or_break more ≡ true → ⊥
+      by [] [] [] cut line none ends h = cc h
+      by [] [] (d ∷ m) cut line none ends h = cc cut
+      by [] (c ∷ r) [] cut line none ends h = cc cut
+      by [] (c ∷ r) (d ∷ m) cut line none ends h = let same : d ≡ c = cc cut in first (d == 32) (is_break d) (c == 32) (is_break c) (c == 35) none h (ap (λ x. x == 32) same) (ap is_break same) ends
+        where
+          first : (x y u v w : Bool) → x ≡ false → (x || y) ≡ true → x ≡ u → y ≡ v → (u || v || w) ≡ false → ⊥
+          first true y u v w e h i j k = cc e
+          first false true u true w e h i j k = by2 u k
+            where
+              by2 : (u : Bool) → (u || true || w) ≡ false → ⊥
+              by2 true k = cc k
+              by2 false k = cc k
+          first false true u false w e h i j k = cc j
+          first false false u v w e h i j k = cc h
+      by (c ∷ p) content [] cut line none ends h = cc h
+      by (c ∷ p) content (d ∷ m) cut line none ends h = let same : d ≡ c = cc cut in first (d == 32) (is_break d) (is_break c) (has_break p) none h (ap is_break same) line
+        where
+          first : (x y v w : Bool) → x ≡ false → (x || y) ≡ true → y ≡ v → (v || w) ≡ false → ⊥
+          first true y v w e h j k = cc e
+          first false true true w e h j k = cc k
+          first false true false w e h j k = cc j
+          first false false v w e h j k = cc h
+
+  pub no_tab_after : (more passed content : List ℕ) → rest ≡ 63 ∷ more → is_at_gap more ≡ true → more ≡ passed ++ 9 ∷ content → is_separation false passed (9 ∷ content) ≡ true → ⊥
+  no_tab_after more passed content e gap cut fills =
+      let w : Here question = question_here more e gap in
+      no_end (ap (λ t. may_precede (is_in_flow s.account.entries) there.blocks t s.step.piece next) w.2 ∙
+      ap (λ r. not (has_tab_before_piece false r)) (after_one 63 more e w.0 ∙ cut) ∙ ap not (tabbed false passed content fills))
+
+  -- ---- colons
+
+  levels_flow : (es : List Entry) → not (is_empty (map level_of es)) ≡ is_in_flow es
+  levels_flow [] = refl
+  levels_flow (e ∷ es) = refl
+
+  pub flow_is : pieces.is_in_flow (acct a separation rest here s) ≡ is_in_flow a.entries
+  flow_is = levels_flow s.account.entries ∙ sym (same_flow a.entries s.account.entries s.is_like.2)
+
+  pub adjacent_is : is_adjacent (acct a separation rest here s).before ≡ is_adjacent (before_past (before_by a.site.before) separation)
+  adjacent_is = ap (λ f. is_adjacent (before_past (before_by s.account.site.before) f)) s.separation_is ∙ ap (λ (x : Site). is_adjacent (before_past (before_by x.before) separation)) (sym s.is_like.0)
+
+  colon_here : (more : List ℕ) → rest ≡ 58 ∷ more → is_value_here a separation more ≡ true → Here colon
+  unfolding is_blank_or_end is_blank is_break is_nul is_flow
+  colon_here more e is = subst Here (colon_kind (pieces.is_in_flow (acct a separation rest here s)) (is_adjacent (acct a separation rest here s).before) (acct a separation rest here s).position.col (ap (λ b. is_value_indicator b (is_adjacent (acct a separation rest here s).before) more) flow_is ∙ (ap (λ b. is_value_indicator (is_in_flow a.entries) b more) adjacent_is ∙ is))) (whole_by a separation rest here s 58 more e)
+    where
+      colon_kind : (fl adjacent : Bool) (column : ℕ) → is_value_indicator fl adjacent more ≡ true → kind_at fl adjacent column (58 ∷ more) ≡ colon
+      colon_kind fl adjacent column h = rw h refl
+
+  -- no colon stands on a line that is taken, where no key waits for it
+  pub no_colon_here : (more : List ℕ) → rest ≡ 58 ∷ more → is_value_here a separation more ≡ true → is_in_flow a.entries ≡ false → is_taken a separation ≡ true
+      → ((q : Position) → s.account.line ≡ waits q → begins_free_line s.account.site.before separation ≡ false → is_near q here ≡ true → ⊥) → ⊥
+  no_colon_here more e is out line none =
+      let w : Here colon = colon_here more e is in
+      gone (may_stand (is_in_flow s.account.entries) s.account.site there s.step.separation s.step.piece s.step.shown next) s.step.piece _ s.steps s.stop
+      (ap (λ es. past_piece there s.step.piece s.step.shown next (is_renewed s.account.site.before s.step.separation) s.step.key (line_past_separation (is_in_flow es) (begins_free_line s.account.site.before s.step.separation) s.account.line) es) (no_entries out) ∙
+      none_ends there s.step.piece s.step.shown next (is_renewed s.account.site.before s.step.separation) s.step.key _ (ap act_of w.2) (taken_there line) (λ q i near.
+      let waited = still_waits (begins_free_line s.account.site.before s.step.separation) s.account.line q i in
+      none q waited.0 (subst (λ f. begins_free_line s.account.site.before f ≡ false) s.separation_is waited.1) (subst (λ p. is_near q p ≡ true) s.position_is near))) s.is_row.1
+
+  -- no TAB indents the line of the row's piece
+  pub spaces_indent : is_indented_by_spaces s.account.site.before s.account.site.blocks s.account.site.awaits separation ≡ true
+  spaces_indent = by (is_indented_by_spaces a.site.before a.site.blocks a.site.awaits separation) refl
+    where
+      by : (b : Bool) → is_indented_by_spaces a.site.before a.site.blocks a.site.awaits separation ≡ b → is_indented_by_spaces s.account.site.before s.account.site.blocks s.account.site.awaits separation ≡ true
+      by true e = ap (λ (x : Site). is_indented_by_spaces x.before x.blocks x.awaits separation) (sym s.is_like.0) ∙ e
+      by false e = absurd (no_tabbed_line e)
+
+  pub no_late_colon : (more : List ℕ) (begin : Position) (e : Entry) (es : List Entry) → rest ≡ 58 ∷ more → is_value_here a separation more ≡ true → a.entries ≡ e ∷ es → takes_pair e.kind e.pair ≡ true → e.had ≡ entry.waits begin → begin.line < here.line → ⊥
+  no_late_colon more begin e es cut is are takes had late = by s.account.entries refl (subst (λ ds. LikeEntries ds s.account.entries) are s.is_like.2)
+    where
+      w : Here colon
+      w = colon_here more cut is
+
+      late_there : begin.line < there.position.line
+      late_there = subst (λ (p : Position). begin.line < p.line) (sym s.position_is) late
+
+      flowing : (fs : List Entry) → s.account.entries ≡ fs → may_stand (is_in_flow fs) s.account.site (At s.account s.step next) s.step.separation s.step.piece s.step.shown next ≡ may_stand (is_in_flow s.account.entries) s.account.site there s.step.separation s.step.piece s.step.shown next
+      flowing fs i = ap (λ z. may_stand (is_in_flow z) s.account.site there s.step.separation s.step.piece s.step.shown next) (sym i)
+
+      by : (fs : List Entry) → s.account.entries ≡ fs → LikeEntries (e ∷ es) fs → ⊥
+      by [] i like = like
+      by (d ∷ ds) i like =
+          gone (may_stand (is_in_flow s.account.entries) s.account.site there s.step.separation s.step.piece s.step.shown next) s.step.piece _ s.steps s.stop
+          (ap (λ z. past_piece there s.step.piece s.step.shown next (is_renewed s.account.site.before s.step.separation) s.step.key (line_past_separation (is_in_flow z) (begins_free_line s.account.site.before s.step.separation) s.account.line) z) i ∙
+          none_past (line_past_separation true (begins_free_line s.account.site.before s.step.separation) s.account.line)) s.is_row.1
+        where
+          single : takes_pair d.kind d.pair ≡ true
+          single = ap (λ k. takes_pair k d.pair) (sym like.0.0) ∙ (ap (λ p. takes_pair e.kind p) (sym like.0.1) ∙ takes)
+
+          no_had : entry.had_after there.position (takes_pair d.kind d.pair) gives_colon s.step.key (entry.renewed (is_renewed s.account.site.before s.step.separation) gives_colon d.had) ≡ None
+          no_had =
+              ap (λ b. entry.had_after there.position b gives_colon s.step.key (entry.renewed (is_renewed s.account.site.before s.step.separation) gives_colon d.had)) single ∙
+              none_had there.position begin (is_renewed s.account.site.before s.step.separation) s.step.key d.had (subst (λ h. LikeHad h d.had) had like.0.2) late_there
+
+          none_past : (o : Option Line) → past_piece there s.step.piece s.step.shown next (is_renewed s.account.site.before s.step.separation) s.step.key o (d ∷ ds) ≡ None
+          none_past None = refl
+          none_past (Some l) =
+              ap (λ t. past_inside there s.step.piece s.step.shown next l (entries_past there.position (is_renewed s.account.site.before s.step.separation) (act_of t) (entry.begun_by t) s.step.key d ds)) w.2 ∙
+              ap (λ h. past_inside there s.step.piece s.step.shown next l (entry.with_had d.kind (entry.pair_past (takes_pair d.kind d.pair) gives_colon d.pair) [] ds h)) no_had
+
+  -- ---- comments right after a piece
+
+  begun_glued : (t : Tok) (more : List ℕ) → s.step.shown ≡ t → next ≡ more → may_precede (is_in_flow s.account.entries) there.blocks t s.step.piece more ≡ false → ⊥
+  begun_glued t more is left e = no_end (ap (λ t. may_precede (is_in_flow s.account.entries) there.blocks t s.step.piece next) is ∙ (ap (λ r. may_precede (is_in_flow s.account.entries) there.blocks t s.step.piece r) left ∙ e))
+
+  glued_at : (c : ℕ) (more : List ℕ) → rest ≡ c ∷ more → begins_with 35 more ≡ true → (c == 91) ≡ true ⊎ ((c == 93) ≡ true ⊎ ((c == 123) ≡ true ⊎ ((c == 125) ≡ true ⊎ ((c == 44) ≡ true)))) → ⊥
+  unfolding is_blank_or_end is_blank is_break is_nul is_flow
+  glued_at c more e hash (inl i) =
+      let at : rest ≡ 91 ∷ more = e ∙ ap (λ x. x ∷ more) (eqb-true c 91 i) in
+      let w : Here sequence_opening = whole_by a separation rest here s 91 more at in
+      begun_glued flow_sequence_start more w.1 (after_one 91 more at w.0) (ap not hash)
+  glued_at c more e hash (inr (inl i)) =
+      let at : rest ≡ 93 ∷ more = e ∙ ap (λ x. x ∷ more) (eqb-true c 93 i) in
+      let w : Here sequence_closing = whole_by a separation rest here s 93 more at in
+      begun_glued flow_sequence_end more w.1 (after_one 93 more at w.0) (ap not hash)
+  glued_at c more e hash (inr (inr (inl i))) =
+      let at : rest ≡ 123 ∷ more = e ∙ ap (λ x. x ∷ more) (eqb-true c 123 i) in
+      let w : Here mapping_opening = whole_by a separation rest here s 123 more at in
+      begun_glued flow_mapping_start more w.1 (after_one 123 more at w.0) (ap not hash)
+  glued_at c more e hash (inr (inr (inr (inl i)))) =
+      let at : rest ≡ 125 ∷ more = e ∙ ap (λ x. x ∷ more) (eqb-true c 125 i) in
+      let w : Here mapping_closing = whole_by a separation rest here s 125 more at in
+      begun_glued flow_mapping_end more w.1 (after_one 125 more at w.0) (ap not hash)
+  glued_at c more e hash (inr (inr (inr (inr i)))) =
+      let at : rest ≡ 44 ∷ more = e ∙ ap (λ x. x ∷ more) (eqb-true c 44 i) in
+      let w : Here comma = whole_by a separation rest here s 44 more at in
+      begun_glued flow_entry more w.1 (after_one 44 more at w.0) (ap not hash)
+
+  pub no_glued : (c : ℕ) (more : List ℕ) → rest ≡ c ∷ more → is_flow_indicator c ≡ true → begins_with 35 more ≡ true → ⊥
+  no_glued c more e is hash = by (c == 91) (c == 93) (c == 123) (c == 125) (c == 44) refl refl refl refl refl is
+    where
+      by : (v w x y z : Bool) → (c == 91) ≡ v → (c == 93) ≡ w → (c == 123) ≡ x → (c == 125) ≡ y → (c == 44) ≡ z → (v || (w || (x || (y || (z || false))))) ≡ true → ⊥
+      by true w x y z i j k l m h = glued_at c more e hash (inl i)
+      by false true x y z i j k l m h = glued_at c more e hash (inr (inl j))
+      by false false true y z i j k l m h = glued_at c more e hash (inr (inr (inl k)))
+      by false false false true z i j k l m h = glued_at c more e hash (inr (inr (inr (inl l))))
+      by false false false false true i j k l m h = glued_at c more e hash (inr (inr (inr (inr m))))
+      by false false false false false i j k l m h = cc h
+
+  hash_holds : (in_flow : Bool) (piece more : List ℕ) → begins_with 35 more ≡ true → quoted_may_end in_flow piece more ≡ false
+  unfolding is_blank is_break
+  hash_holds in_flow piece [] h = absurd (cc h)
+  hash_holds true piece (c ∷ r) h = let same : c ≡ 35 = eqb-true c 35 h in rw same refl
+  hash_holds false piece (c ∷ r) h = let same : c ≡ 35 = eqb-true c 35 h in rw same refl
+
+  pub no_glued_quoted : (single : Bool) (piece more : List ℕ) → rest ≡ piece ++ more → IsQuoted single piece more → begins_with 35 more ≡ true → ⊥
+  no_glued_quoted true piece more e is hash = no_step a separation rest here s piece more (scalar single_quoted is.0) e (not_nothing a separation rest here s _ piece _ is.1.1) (is.1, refl) (hash_holds (is_in_flow a.entries) piece more hash)
+  no_glued_quoted false piece more e is hash = no_step a separation rest here s piece more (scalar double_quoted is.0) e (not_nothing a separation rest here s _ piece _ is.1.1) (is.1, refl) (hash_holds (is_in_flow a.entries) piece more hash)
+
+  -- ---- TABs after a quoted scalar
+
+  awaits_stay : (fl single : Bool) (value : List ℕ) (bs : List ℕ) (w : Bool) (more : List ℕ) → awaits_past fl (quoted_token single value) bs w more ≡ w
+  awaits_stay true true value bs w more = refl
+  awaits_stay true false value bs w more = refl
+  awaits_stay false true value bs true more = refl
+  awaits_stay false true value bs false more = refl
+  awaits_stay false false value bs true more = refl
+  awaits_stay false false value bs false more = refl
+
+  abbrev value_of : (single : Bool) (piece more : List ℕ) → IsQuoted single piece more → List ℕ
+  value_of true piece more is = is.0
+  value_of false piece more is = is.0
+
+  same_quoted_value : (single : Bool) (piece more : List ℕ) → rest ≡ piece ++ more → (is : IsQuoted single piece more) → (quoted_token single (value_of single piece more is) ≡ s.step.shown) × (more ≡ next)
+  same_quoted_value true piece more e is = let same = same_step a separation rest here s piece more (scalar single_quoted is.0) e (not_nothing a separation rest here s _ piece _ is.1.1) (is.1, refl) in (same.1, same.2)
+  same_quoted_value false piece more e is = let same = same_step a separation rest here s piece more (scalar double_quoted is.0) e (not_nothing a separation rest here s _ piece _ is.1.1) (is.1, refl) in (same.1, same.2)
+
+  node_token : (single : Bool) (value : List ℕ) → (act_of (quoted_token single value) ≡ gives_node) × (previous_by (quoted_token single value) ≡ quoted_scalar)
+  node_token true value = (refl, refl)
+  node_token false value = (refl, refl)
+
+  pub no_tab_after_quoted : (single : Bool) (piece gap content : List ℕ) → rest ≡ piece ++ (gap ++ content) → IsQuoted single piece (gap ++ content) → is_separation false gap content ≡ true → is_empty content ≡ false → begins_separation content ≡ false
+      → is_indented_by_spaces quoted_scalar (site_at_place a here).blocks (site_at_place a here).awaits gap ≡ false → ⊥
+  no_tab_after_quoted single piece gap content e is fills some solid tabbed_there = by s.steps then.is_row (sym same.1)
+    where
+      same : (quoted_token single (value_of single piece (gap ++ content) is) ≡ s.step.shown) × (gap ++ content ≡ next)
+      same = same_quoted_value single piece (gap ++ content) e is
+
+      act : act_of s.step.shown ≡ gives_node
+      act = ap act_of (sym same.0) ∙ (node_token single (value_of single piece (gap ++ content) is)).0
+
+      then : NodePast s.account s.step next s.steps s.stop
+      then = node_past s.account s.step s.steps s.stop act s.is_row.1
+
+      clean : has_no_nul content ≡ true
+      clean = no_nul_after gap content (no_nul_after piece (gap ++ content) (ap has_no_nul (sym e) ∙ s.is_clean))
+
+      before_is : then.after.site.before ≡ quoted_scalar
+      before_is = ap (λ (x : Site). x.before) then.site_is ∙ (ap previous_by (sym same.0) ∙ (node_token single (value_of single piece (gap ++ content) is)).1)
+
+      blocks_are : then.after.site.blocks ≡ (site_at_place a here).blocks
+      blocks_are = ap (λ (x : Site). x.blocks) then.site_is ∙ ap (λ (x : Site). x.blocks) (node_site act)
+
+      awaits_is : then.after.site.awaits ≡ (site_at_place a here).awaits
+      awaits_is =
+          ap (λ (x : Site). x.awaits) then.site_is ∙ (ap (λ t. awaits_past (is_in_flow s.account.entries) t there.blocks there.awaits next) (sym same.0) ∙
+          (awaits_stay (is_in_flow s.account.entries) single (value_of single piece (gap ++ content) is) there.blocks there.awaits next ∙ ap (λ (x : Site). x.awaits) (node_site act)))
+
+      tabbed_then : is_indented_by_spaces then.after.site.before then.after.site.blocks then.after.site.awaits gap ≡ false
+      tabbed_then =
+          ap (λ b. is_indented_by_spaces b then.after.site.blocks then.after.site.awaits gap) before_is ∙ (ap (λ bs. is_indented_by_spaces quoted_scalar bs then.after.site.awaits gap) blocks_are ∙
+          (ap (λ w. is_indented_by_spaces quoted_scalar (site_at_place a here).blocks w gap) awaits_is ∙ tabbed_there))
+
+      by : (ws : List Step) → LeadsTo (Some then.after) ws s.stop → spelled_to ws s.stop ≡ gap ++ content → ⊥
+      by [] row cut =
+          let ends = separations s.stop.separation gap s.stop.rest content (s.stop.is_filled, s.stop.is_solid) (fills, ends_before content solid clean) cut in
+          cc (some, ap is_empty ends.1, s.is_over)
+      by (v ∷ vs) row cut =
+          let there_is = step_here then.after v (spelled_to vs s.stop) gap content row.0 cut fills solid clean in
+          refused _ (may_stand (is_in_flow then.after.entries) then.after.site (At then.after v (spelled_to vs s.stop)) v.separation v.piece v.shown (spelled_to vs s.stop)) vs s.stop
+          (first_fails (is_indented_by_spaces then.after.site.before then.after.site.blocks then.after.site.awaits v.separation) _ _ _ (ap (λ f. is_indented_by_spaces then.after.site.before then.after.site.blocks then.after.site.awaits f) there_is.0 ∙ tabbed_then)) row.1

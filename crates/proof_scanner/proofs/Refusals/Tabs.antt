@@ -1,0 +1,293 @@
+-- A TAB that indents a line: where the way to the next token is refused, the line of what comes next is not indented by spaces.
+use Rattle.std.proofs.Common.{◌≡◌, ℕ, zero, suc, ◌+◌, ◌≤◌, ◌<◌, List, [], ◌∷◌, ◌++◌, Bool, true, false, not, ◌&&◌, ◌||◌, ◌==◌, inl, inr, nat_lt, if◌then◌else◌, length, Result, Ok, Err, refl, ap, sym, ◌∙◌, subst, append_assoc, arith}
+use Rattle.std.proofs.lemmas.Bool.{and_parts, eqb-true}
+use Rattle.std.proofs.lemmas.Bool.Decides.{nat_tests}
+use Rattle.yaml_chars.specs.Class.{is_break, is_blank}
+use Rattle.yaml_tokens.specs.declared.problem.Fault.{Fault}
+use Rattle.yaml_tokens.specs.declared.problem.Fault.TheVariants.{At}
+use Rattle.yaml_tokens.specs.declared.problem.Problem.TheVariants as problem
+use Rattle.defs_text.specs.Classes as classes
+use Rattle.defs_text.specs.Position.{Position, position_after}
+use Rattle.defs_text.specs.Text.{is_empty}
+use Rattle.defs_token.specs.Separation.{is_separation, is_blanks}
+use Rattle.defs_token.specs.Step.{Previous}
+use Rattle.defs_token.specs.Indentation.{least_column, has_tab_within, last_line, begins_line, follows_plain, is_indented_by_spaces}
+use Rattle.model_scanner.specs.Machine.{is_cr_lf}
+use Rattle.model_scanner.specs.State.{Held, ScannerState, moved}
+use Rattle.model_scanner.specs.Space.{Gap, between, comment, tab_line, past_line, is_before_indent, skip, skip_to_next_token}
+use Rattle.proof_lexers.specs.PlainEnds.{begins_token}
+use Rattle.proof_lexers.specs.Separations.{begins_separation, PassesAs, passes, refuses}
+use Rattle.proof_lexers.proofs.Bridges.{same_break, same_blank}
+use Rattle.proof_lexers.proofs.Separation.Separations.{separations_are_passed, no_hash, fills_blank}
+use Rattle.proof_scanner.proofs.Cut.Pieces.Separations.{separation_append}
+use Rattle.proof_scanner.proofs.Cut.Positions.{index_after}
+use Rattle.proof_scanner.proofs.Sound.LastLines.{last_more}
+use Rattle.proof_scanner.proofs.Sound.Passed.{skip_stays}
+use Rattle.proof_scanner.proofs.Sound.Skips.{line_more, IsLeast, IsAt, IsIn, feed_next, at_line, at_blank, no_end}
+use Rattle.proof_scanner.proofs.Refusals.Faults.{Faults, fault, goes}
+
+-- ---- a TAB within columns
+
+-- among more columns, and in a longer line
+within_more : (n m : ℕ) (l r : List ℕ) → n ≤ m → has_tab_within n l ≡ true → has_tab_within m (l ++ r) ≡ true
+within_more zero m l r less h = absurd (cc h)
+within_more (suc n) m [] r less h = absurd (cc h)
+within_more (suc n) zero (c ∷ l) r less h = absurd (omega (arith, less))
+within_more (suc n) (suc m) (c ∷ l) r less h = by (9 == c) h (within_more n m l r (omega (arith, less)))
+  where
+    by : (b : Bool) → (b || has_tab_within n l) ≡ true → (has_tab_within n l ≡ true → has_tab_within m (l ++ r) ≡ true) → (b || has_tab_within m (l ++ r)) ≡ true
+    by true h more = refl
+    by false h more = more h
+
+-- at the end of a line that is shorter
+within_end : (n : ℕ) (l : List ℕ) → length l < n → has_tab_within n (l ++ 9 ∷ []) ≡ true
+within_end zero l less = absurd (omega (arith, less))
+within_end (suc n) [] less = refl
+within_end (suc n) (c ∷ l) less = by (9 == c) (within_end n l (omega (arith, less)))
+  where
+    by : (b : Bool) → has_tab_within n (l ++ 9 ∷ []) ≡ true → (b || has_tab_within n (l ++ 9 ∷ [])) ≡ true
+    by true h = refl
+    by false h = h
+
+-- ---- the way to the next token
+
+module _ (before : Previous) (least : ℕ) where
+  -- a line begins in a separation, and a TAB stands in it before the least column
+  abbrev IsTabbed : List ℕ → Type 0
+  IsTabbed g = (begins_line before g ≡ true) × (has_tab_within least (last_line g) ≡ true)
+
+  -- where a separation was read so
+  abbrev IsRead : Gap → List ℕ → Held → List ℕ → Type 0
+  IsRead between g s a = IsIn before least between g s a
+  IsRead comment g s a = Unit {0}
+  IsRead tab_line g s a = IsTabbed g
+
+  -- What was passed before the fault.
+  record TabbedAt (g a : List ℕ) (s : Held) (f : Fault) : Type 0 where
+    passed : List ℕ
+    rest : List ℕ
+    place : Position
+    cut : a ≡ passed ++ rest
+    is_fault : f ≡ At problem.TabInBlockIndentation place
+    index_is : place.index ≡ s.position.index + length passed
+    tabbed : IsTabbed (g ++ passed)
+
+  abbrev Tells : List ℕ → Type 0
+  Tells a = (m : Gap) (g : List ℕ) (s : Held) → IsLeast before least s → IsRead m g s a → Faults (TabbedAt g a s) (skip m a s)
+
+  one_more : (g a : List ℕ) (c : ℕ) (s u : Held) (r : Result ScannerState Fault) → u.position.index ≡ suc s.position.index → Faults (TabbedAt (g ++ c ∷ []) a u) r → Faults (TabbedAt g (c ∷ a) s) r
+  one_more g a c s u r next (fault x) = fault (record {
+    passed = c ∷ x.passed;
+    rest = x.rest;
+    place = x.place;
+    cut = ap (λ y. c ∷ y) x.cut;
+    is_fault = x.is_fault;
+    index_is = let i = x.index_is in omega (arith, i, next);
+    tabbed = subst (λ y. IsTabbed y) (append_assoc g (c ∷ []) x.passed) x.tabbed;
+  })
+  one_more g a c s u r next goes = goes
+
+  next_index : (s : Held) → (moved s).position.index ≡ suc s.position.index
+  next_index s = omega arith
+
+  broken : (m : Gap) (g a : List ℕ) (c : ℕ) (s : Held) → is_break c ≡ true → IsLeast before least s → Tells a → Faults (TabbedAt g (c ∷ a) s) (skip m (c ∷ a) s)
+  unfolding skip
+  broken m g a c s e l ih = rw e (by (is_cr_lf c a) refl)
+    where
+      by : (b : Bool) → is_cr_lf c a ≡ b → Faults (TabbedAt g (c ∷ a) s) (skip between a (if b then moved s else past_line s))
+      by true f = one_more g a c s (moved s) _ (omega arith) (ih between (g ++ c ∷ []) (moved s) l (inl (feed_next before least c a f)))
+      by false f = one_more g a c s (past_line s) _ (omega arith) (ih between (g ++ c ∷ []) (past_line s) l (inr (at_line before least g c s e)))
+
+  -- a TAB left of the innermost level
+  tab_here : (g : List ℕ) (c : ℕ) (s : Held) → is_break c ≡ false → ((c == 9) && is_before_indent s) ≡ true → IsLeast before least s → IsAt before least g s → IsTabbed (g ++ c ∷ [])
+  unfolding is_before_indent
+  tab_here g c s e f l h =
+      let q = and_parts (c == 9) (not (is_empty s.indents) && s.leading && nat_lt (s.position.col + 1) s.indent) f in
+      let z = and_parts (not (is_empty s.indents) && s.leading) (nat_lt (s.position.col + 1) s.indent) q.1 in
+      let y = and_parts (not (is_empty s.indents)) s.leading z.0 in
+      let some : is_empty s.indents ≡ false = is_not (is_empty s.indents) y.0 in
+      let begins : begins_line before g ≡ true = sym (h.leading_is some) ∙ y.1 in
+      let no_break : classes.is_break c ≡ false = same_break c ∙ e in
+      let left : s.position.col + 1 < s.indent = grind (arith, nat_tests, z.1) in
+      let level : s.indent ≡ suc least = l.1 some in
+      let col : s.position.col ≡ length (last_line g) = h.col_is begins in (
+        line_more before g c ∙ ap (λ b. b || classes.is_break c) begins,
+        ap (λ x. has_tab_within least x) (last_more g c ∙ (ap (λ b. if b then [] else last_line g ++ c ∷ []) no_break ∙ ap (λ d. last_line g ++ d ∷ []) (eqb-true c 9 q.0))) ∙ within_end least (last_line g) (omega (arith, left, level, col)),
+      )
+    where
+      is_not : (b : Bool) → not b ≡ true → b ≡ false
+      is_not true e = absurd (cc e)
+      is_not false e = refl
+
+  -- a blank more in its line
+  blank_after : (g : List ℕ) (c : ℕ) → is_break c ≡ false → IsTabbed g → IsTabbed (g ++ c ∷ [])
+  blank_after g c e h =
+      let no_break : classes.is_break c ≡ false = same_break c ∙ e in (
+        line_more before g c ∙ ap (λ b. b || classes.is_break c) h.0,
+        ap (λ x. has_tab_within least x) (last_more g c ∙ ap (λ b. if b then [] else last_line g ++ c ∷ []) no_break) ∙ within_more least least (last_line g) (c ∷ []) (omega arith) h.1,
+      )
+
+  between_by : (g a : List ℕ) (c : ℕ) (s : Held) → is_break c ≡ false → IsLeast before least s → IsIn before least between g s (c ∷ a) → Tells a → Faults (TabbedAt g (c ∷ a) s) (skip between (c ∷ a) s)
+  unfolding skip
+  between_by g a c s e l h ih = rw e (by ((c == 9) && is_before_indent s) refl)
+    where
+      no_break : classes.is_break c ≡ false
+      no_break = same_break c ∙ e
+
+      at : (c == 35) ≡ false → IsAt before least g s
+      at f = from h
+        where
+          from : IsIn before least between g s (c ∷ a) → IsAt before least g s
+          from (inl x) = absurd (cc (x, no_end before least c a e f))
+          from (inr x) = x
+
+      no_tab : (c == 9) ≡ true → (c == 35) ≡ false
+      no_tab h = let i : c ≡ 9 = eqb-true c 9 h in rw i refl
+
+      later : (b : Bool) → is_blank c ≡ b → ((c == 9) && is_before_indent s) ≡ false → Faults (TabbedAt g (c ∷ a) s)
+          (if b then skip between a (moved s) else (if c == 35 then skip comment a (record (moved s) { leading = false }) else Ok (record { rest = c ∷ a; held = s })))
+      later true b f = one_more g a c s (moved s) _ (omega arith) (ih between (g ++ c ∷ []) (moved s) l (inr (at_blank before least g c s no_break f l (at (no_hash c b)))))
+      later false b f = last (c == 35) refl
+        where
+          last : (x : Bool) → (c == 35) ≡ x → Faults (TabbedAt g (c ∷ a) s) (if x then skip comment a (record (moved s) { leading = false }) else Ok (record { rest = c ∷ a; held = s }))
+          last true x = one_more g a c s (record (moved s) { leading = false }) _ (omega arith) (ih comment (g ++ c ∷ []) (record (moved s) { leading = false }) l tt)
+          last false x = goes
+
+      by : (t : Bool) → ((c == 9) && is_before_indent s) ≡ t → Faults (TabbedAt g (c ∷ a) s)
+          (if t then skip tab_line a (moved s) else (if is_blank c then skip between a (moved s) else (if c == 35 then skip comment a (record (moved s) { leading = false }) else Ok (record { rest = c ∷ a; held = s }))))
+      by true t =
+          let q = and_parts (c == 9) (is_before_indent s) t in
+          one_more g a c s (moved s) _ (omega arith) (ih tab_line (g ++ c ∷ []) (moved s) l (tab_here g c s e t l (at (no_tab q.0))))
+      by false t = later (is_blank c) refl t
+
+  comment_by : (g a : List ℕ) (c : ℕ) (s : Held) → is_break c ≡ false → IsLeast before least s → Tells a → Faults (TabbedAt g (c ∷ a) s) (skip comment (c ∷ a) s)
+  unfolding skip
+  comment_by g a c s e l ih = rw e (one_more g a c s (moved s) _ (omega arith) (ih comment (g ++ c ∷ []) (moved s) l tt))
+
+  tab_by : (g a : List ℕ) (c : ℕ) (s : Held) → is_break c ≡ false → IsLeast before least s → IsTabbed g → Tells a → Faults (TabbedAt g (c ∷ a) s) (skip tab_line (c ∷ a) s)
+  unfolding skip
+  tab_by g a c s e l h ih = rw e (by (is_blank c) refl (c == 35) refl)
+    where
+      here : TabbedAt g (c ∷ a) s (At problem.TabInBlockIndentation s.position)
+      here = record { passed = []; rest = c ∷ a; place = s.position; cut = refl; is_fault = refl; index_is = omega arith; tabbed = subst (λ y. IsTabbed y) (nothing g) h }
+        where
+          nothing : (g : List ℕ) → g ≡ g ++ []
+          nothing [] = refl
+          nothing (d ∷ g) = ap (λ y. d ∷ y) (nothing g)
+
+      by : (b : Bool) → is_blank c ≡ b → (x : Bool) → (c == 35) ≡ x → Faults (TabbedAt g (c ∷ a) s) (if b then skip tab_line a (moved s) else (if x then skip comment a (moved s) else Err (At problem.TabInBlockIndentation s.position)))
+      by true b x y = one_more g a c s (moved s) _ (omega arith) (ih tab_line (g ++ c ∷ []) (moved s) l (blank_after g c e h))
+      by false b true y = one_more g a c s (moved s) _ (omega arith) (ih comment (g ++ c ∷ []) (moved s) l tt)
+      by false b false y = fault here
+
+  one_by : (m : Gap) (g a : List ℕ) (c : ℕ) (s : Held) (b : Bool) → is_break c ≡ b → IsLeast before least s → IsRead m g s (c ∷ a) → Tells a → Faults (TabbedAt g (c ∷ a) s) (skip m (c ∷ a) s)
+  one_by m g a c s true e l h ih = broken m g a c s e l ih
+  one_by between g a c s false e l h ih = between_by g a c s e l h ih
+  one_by comment g a c s false e l h ih = comment_by g a c s e l ih
+  one_by tab_line g a c s false e l h ih = tab_by g a c s e l h ih
+
+  skip_tells : (a : List ℕ) → Tells a
+  unfolding skip
+  skip_tells [] m g s l h = goes
+  skip_tells (c ∷ a) m g s l h = one_by m g a c s (is_break c) refl l h (skip_tells a)
+
+-- ---- what is said of it
+
+-- A separation before which the way to the next token is refused: the position there, and a TAB that indents the line.
+pub record TabStands (bs : List ℕ) (awaits : Bool) (before : Previous) (separation text : List ℕ) (p : Position) (f : Fault) : Type 0 where
+  pub passed : List ℕ
+  pub rest : List ℕ
+  pub is_some : is_empty text ≡ false
+  pub cut : text ≡ passed ++ rest
+  pub is_filled : is_separation false passed rest ≡ true
+  pub goes_on : is_empty rest ≡ false
+  pub is_solid : begins_separation rest ≡ false
+  pub is_fault : f ≡ At problem.TabInBlockIndentation (position_after p passed rest)
+  pub is_indented_by_tab : is_indented_by_spaces before bs awaits (separation ++ passed) ≡ false
+
+-- two beginnings of a text that are equally long are the same
+same_length : (a b r s : List ℕ) → a ++ r ≡ b ++ s → length a ≡ length b → a ≡ b
+same_length [] [] r s e n = refl
+same_length [] (d ∷ b) r s e n = absurd (omega (arith, n))
+same_length (c ∷ a) [] r s e n = absurd (omega (arith, n))
+same_length (c ∷ a) (d ∷ b) r s e n = let h : c ≡ d = cc e in let t : a ++ r ≡ b ++ s = cc e in ap (λ x. x ∷ a) h ∙ ap (λ y. d ∷ y) (same_length a b r s t (omega (arith, n)))
+
+blanks_fill : (bs rest : List ℕ) → is_blanks bs ≡ true → is_separation false bs rest ≡ true
+blanks_fill [] rest h = refl
+blanks_fill (c ∷ bs) rest h = let q = and_parts (classes.is_blank c) (is_blanks bs) h in fills_blank c bs rest (sym (same_blank c) ∙ q.0) (blanks_fill bs rest q.1)
+
+token_solid : (rest : List ℕ) → begins_token rest ≡ true → begins_separation rest ≡ false
+token_solid [] h = refl
+token_solid (c ∷ r) h = is_not _ h
+  where
+    is_not : (b : Bool) → not b ≡ true → b ≡ false
+    is_not true e = absurd (cc e)
+    is_not false e = refl
+
+-- the least column is not less where a value may be awaited
+least_less : (bs : List ℕ) (a b : Bool) → least_column bs a ≤ least_column bs (a || b)
+least_less [] a b = omega arith
+least_less (n ∷ ns) true b = omega arith
+least_less (n ∷ ns) false true = omega arith
+least_less (n ∷ ns) false false = omega arith
+
+tabbed_is : (before : Previous) (bs : List ℕ) (awaits : Bool) (g : List ℕ) → begins_line before g ≡ true → has_tab_within (least_column bs awaits) (last_line g) ≡ true → is_indented_by_spaces before bs awaits g ≡ false
+tabbed_is before bs awaits g b h =
+    let more : has_tab_within (least_column bs (awaits || follows_plain before g)) (last_line g ++ []) ≡ true = within_more (least_column bs awaits) (least_column bs (awaits || follows_plain before g)) (last_line g) [] (least_less bs awaits (follows_plain before g)) h in
+    ap (λ x. not x || not (has_tab_within (least_column bs (awaits || follows_plain before g)) (last_line g))) b ∙ ap (λ x. not (has_tab_within (least_column bs (awaits || follows_plain before g)) x)) (nothing (last_line g)) ∙ ap not more
+  where
+    nothing : (g : List ℕ) → g ≡ g ++ []
+    nothing [] = refl
+    nothing (d ∷ g) = ap (λ y. d ∷ y) (nothing g)
+
+-- Where the way to the next token is refused, after a separation that was read so.
+pub skip_refused : (before : Previous) (bs : List ℕ) (awaits : Bool) (separation : List ℕ) (t : ScannerState) → IsLeast before (least_column bs awaits) t.held →
+    (begins_separation t.rest ≡ true → IsIn before (least_column bs awaits) between separation t.held t.rest) → Faults (TabStands bs awaits before separation t.rest t.held.position) (skip_to_next_token t)
+unfolding skip_to_next_token classes.is_blank
+skip_refused before bs awaits separation t l known = by (begins_separation t.rest) refl
+  where
+    least : ℕ
+    least = least_column bs awaits
+
+    Own : Fault → Type 0
+    Own f = TabStands bs awaits before separation t.rest t.held.position f
+
+    some_text : (a : List ℕ) → begins_separation a ≡ true → is_empty a ≡ false
+    some_text [] h = absurd (cc h)
+    some_text (c ∷ a) h = refl
+
+    token_is_text : (a : List ℕ) → begins_token a ≡ true → is_empty a ≡ false
+    token_is_text [] h = absurd (cc h)
+    token_is_text (c ∷ a) h = refl
+
+    told : begins_separation t.rest ≡ true → (x : Result ScannerState Fault) → PassesAs t.held t.rest x → Faults (TabbedAt before least separation t.rest t.held) x → Faults Own x
+    told begins x p goes = goes
+    told begins x (passes leading passed rest cut fills ends e) (fault d) = absurd (cc e)
+    told begins x (refuses first blanks rest cut fills left are token e) (fault {f = f} d) =
+        let q : Position = position_after t.held.position (first ++ 9 ∷ blanks) rest in
+        let same : At problem.TabInBlockIndentation d.place ≡ At problem.TabInBlockIndentation q = sym d.is_fault ∙ fault_of e in
+        let place : d.place ≡ q = cc same in
+        let i : q.index ≡ t.held.position.index + length (first ++ 9 ∷ blanks) = index_after t.held.position (first ++ 9 ∷ blanks) rest in
+        let j : d.place.index ≡ q.index = ap (λ y. y.index) place in
+        let k : d.place.index ≡ t.held.position.index + length d.passed = d.index_is in
+        let whole : t.rest ≡ (first ++ 9 ∷ blanks) ++ rest = cut ∙ sym (append_assoc first (9 ∷ blanks) rest) in
+        let passed_is : d.passed ≡ first ++ 9 ∷ blanks = same_length d.passed (first ++ 9 ∷ blanks) d.rest rest (sym d.cut ∙ whole) (omega (arith, i, j, k)) in
+        fault (record {
+          passed = first ++ 9 ∷ blanks;
+          rest = rest;
+          is_some = some_text t.rest begins;
+          cut = whole;
+          is_filled = separation_append false first (9 ∷ blanks) rest fills (blanks_fill (9 ∷ blanks) rest are);
+          goes_on = token_is_text rest token;
+          is_solid = token_solid rest token;
+          is_fault = fault_of e;
+          is_indented_by_tab = tabbed_is before bs awaits (separation ++ (first ++ 9 ∷ blanks))
+              (subst (λ y. begins_line before (separation ++ y) ≡ true) passed_is d.tabbed.0) (subst (λ y. has_tab_within least (last_line (separation ++ y)) ≡ true) passed_is d.tabbed.1);
+        })
+      where
+        fault_of : {g : Fault} → ◌≡◌ {A = Result ScannerState Fault} (Err f) (Err g) → f ≡ g
+        fault_of e = cc e
+
+    by : (b : Bool) → begins_separation t.rest ≡ b → Faults Own (skip between t.rest t.held)
+    by false h = subst (λ r. Faults Own r) (sym (skip_stays t.rest t.held h)) goes
+    by true h = told h (skip between t.rest t.held) (separations_are_passed t.held t.rest) (skip_tells before least t.rest between separation t.held l (known h))

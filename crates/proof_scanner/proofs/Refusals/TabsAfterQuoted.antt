@@ -1,0 +1,111 @@
+-- A TAB after a quoted scalar, on a later line, which would indent the next piece.
+use Rattle.std.proofs.Common.{◌≡◌, ℕ, List, [], ◌++◌, Bool, true, false, append_assoc, Result, Ok, refl, ap, sym, ◌∙◌, subst, inr}
+use Rattle.defs_text.specs.Position.{Position, position_after}
+use Rattle.defs_text.specs.Text.{is_empty, has_no_nul}
+use Rattle.defs_token.specs.Separation.{is_separation}
+use Rattle.defs_token.specs.Step.{gives_node, quoted_scalar, has_break}
+use Rattle.defs_token.specs.Indentation.{least_column, is_indented_by_spaces}
+use Rattle.defs_token.specs.RowAccount.{site_in}
+use Rattle.yaml_tokens.specs.declared.problem.Fault.{Fault}
+use Rattle.yaml_tokens.specs.declared.problem.Problem.TheVariants as problem
+use Rattle.model_scanner.specs.declared.context.Context.{Context}
+use Rattle.model_scanner.specs.Machine.{Read}
+use Rattle.model_scanner.specs.State.{ScannerState}
+use Rattle.model_scanner.specs.Space.{between, skip_to_next_token}
+use Rattle.model_scanner.specs.Document.{check_after_quoted}
+use Rattle.model_scanner.proofs.Holds.{held_of}
+use Rattle.proof_lexers.proofs.Separation.Positions.{position_append}
+use Rattle.proof_scanner.proofs.Cut.Pieces.Separations.{separation_append}
+use Rattle.proof_scanner.proofs.Cut.Saved.{saved_is}
+use Rattle.proof_scanner.specs.Arrives.{Arrives}
+use Rattle.proof_scanner.specs.StandsInRow.{columns, has_open_level}
+use Rattle.proof_scanner.proofs.Sound.Arrivals.{clean_after}
+use Rattle.proof_scanner.proofs.Sound.Passed.{least_is, same_has_break}
+use Rattle.proof_scanner.proofs.Sound.QuotedEnds.{Checked, quoted_checked}
+use Rattle.proof_scanner.proofs.Sound.QuotedKeeps.{QuotedAs, in_line}
+use Rattle.proof_scanner.proofs.Sound.Skips.{IsLeast, IsIn}
+use Rattle.proof_scanner.specs.NoPiece.{IsQuoted}
+use Rattle.proof_scanner.specs.Stuck as defs
+use Rattle.proof_scanner.specs.Stuck.{IsStuck, may_not_stand, site_at_place}
+use Rattle.proof_scanner.proofs.Refusals.Faults.{Faults, fault, goes}
+use Rattle.proof_scanner.proofs.Refusals.Places.{Told, account_by, stuck, in_flow_is}
+use Rattle.proof_scanner.proofs.Refusals.Quotes.{closed, piece, is}
+use Rattle.proof_scanner.proofs.Refusals.Tabs.{TabStands, skip_refused}
+
+module _ (text : List ℕ) (t : ScannerState) (a : Arrives text t) (some : is_empty t.rest ≡ false) (single : Bool) (ctx : Context) (x : Read (List ℕ)) (q : QuotedAs single ctx t.held.position t.rest x) where
+  abbrev own : ScannerState
+  own = closed text t a some single ctx x q
+
+  abbrev scalar : List ℕ
+  scalar = piece text t a some single ctx x q
+
+  abbrev blocks : List ℕ
+  blocks = columns t.held.indent t.held.indents
+
+  abbrev awaits : Bool
+  awaits = has_open_level t.held.indents
+
+  module _ (v : ScannerState) (c : Checked scalar own v) where
+    abbrev spaces : List ℕ
+    spaces = c.spaces.blanks ++ c.spaces.comment
+
+    no_break : has_break spaces ≡ false
+    no_break = sym (same_has_break spaces) ∙ c.spaces.no_break
+
+    start_least : IsLeast quoted_scalar (least_column blocks awaits) v.held
+    start_least =
+        let l = least_is blocks awaits t.held refl refl a.are_levels in
+        let levels : v.held.indents ≡ t.held.indents = ap (λ h. h.indents) c.spaces.is_held ∙ ap (λ h. h.indents) (saved_is t.held) in
+        let level : v.held.indent ≡ t.held.indent = ap (λ h. h.indent) c.spaces.is_held ∙ ap (λ h. h.indent) (saved_is t.held) in
+        (λ e. l.0 (ap is_empty (sym levels) ∙ e), λ e. level ∙ l.1 (ap is_empty (sym levels) ∙ e))
+
+    start_in : IsIn quoted_scalar (least_column blocks awaits) between spaces v.held v.rest
+    start_in = inr (record { leading_is = λ i. ap (λ h. h.leading) c.spaces.is_held ∙ sym no_break; col_is = λ b. absurd (cc (b, no_break)); spaced = λ b. absurd (cc (b, no_break)) })
+
+    tab_stuck : {f : Fault} → TabStands blocks awaits quoted_scalar spaces v.rest v.held.position f → Told text f
+    tab_stuck d =
+        subst (λ g. Told text g) (sym d.is_fault) (λ _. subst (λ p. IsStuck text problem.TabInBlockIndentation p) (sym place)
+        (stuck text t a some [] problem.TabInBlockIndentation (position_after end gap d.rest) (λ k may.
+        let flow_is = in_flow_is text t a some k [] in
+        let blocks_are : (site_at_place (account_by text t a some k []) t.held.position).blocks ≡ blocks = ap (λ b. (site_in b gives_node t.held.position a.base.site).blocks) flow_is ∙ a.blocks_are in
+        let awaits_is : (site_at_place (account_by text t a some k []) t.held.position).awaits ≡ awaits = ap (λ b. (site_in b gives_node t.held.position a.base.site).awaits) flow_is ∙ a.awaits_is in
+        may_not_stand (defs.tab_after_quoted single scalar gap d.rest whole (subst (λ r. defs_quoted r) cut (is text t a some single ctx x q)) is_filled d.goes_on d.is_solid
+        (ap (λ bs. is_indented_by_spaces quoted_scalar bs (site_at_place (account_by text t a some k []) t.held.position).awaits gap) blocks_are ∙
+        (ap (λ w. is_indented_by_spaces quoted_scalar blocks w gap) awaits_is ∙ d.is_indented_by_tab))))))
+      where
+        gap : List ℕ
+        gap = spaces ++ d.passed
+
+        cut : x.rest ≡ gap ++ d.rest
+        cut = c.spaces.is_rest ∙ (sym (append_assoc c.spaces.blanks c.spaces.comment v.rest) ∙ (ap (λ r. spaces ++ r) d.cut ∙ sym (append_assoc spaces d.passed d.rest)))
+
+        whole : t.rest ≡ scalar ++ (gap ++ d.rest)
+        whole = q.cut ∙ ap (λ r. scalar ++ r) cut
+
+        defs_quoted : List ℕ → Type 0
+        defs_quoted r = IsQuoted single scalar r
+
+        is_filled : is_separation false gap d.rest ≡ true
+        is_filled = separation_append false spaces d.passed d.rest (subst (λ r. is_separation false spaces r ≡ true) d.cut c.spaces.is_filled) d.is_filled
+
+        end : Position
+        end = position_after t.held.position scalar (gap ++ d.rest)
+
+        place : position_after v.held.position d.passed d.rest ≡ position_after end gap d.rest
+        place =
+            ap (λ p. position_after p d.passed d.rest) (ap (λ h. h.position) c.spaces.is_held ∙ ap (λ r. position_after x.position spaces r) d.cut) ∙
+            (sym (position_append x.position spaces d.passed d.rest) ∙ ap (λ p. position_after p gap d.rest) (q.end_is ∙ ap (λ r. position_after t.held.position scalar r) cut))
+
+    told : Faults (Told text) (skip_to_next_token v)
+    told = by (skip_refused quoted_scalar blocks awaits spaces v start_least (λ _. start_in))
+      where
+        by : {r : Result ScannerState Fault} → Faults (TabStands blocks awaits quoted_scalar spaces v.rest v.held.position) r → Faults (Told text) r
+        by (fault d) = fault (tab_stuck d)
+        by goes = goes
+
+  -- what stands on the way to the next token after a quoted scalar
+  pub tab_told : (v : ScannerState) → check_after_quoted t.held.position.line own ≡ Ok v → Faults (Told text) (skip_to_next_token v)
+  tab_told v e = told v (held_of v (quoted_checked t.held.position scalar own (in_line single q.body) clean q.end_is) e)
+    where
+      clean : has_no_nul x.rest ≡ true
+      clean = clean_after scalar x.rest (subst (λ r. has_no_nul r ≡ true) q.cut a.is_clean)

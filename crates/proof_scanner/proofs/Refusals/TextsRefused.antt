@@ -1,0 +1,367 @@
+-- Where a tag, a directive or a block scalar's header is none, no row of the text goes on.
+use Rattle.std.proofs.Common.{◌≡◌, ℕ, zero, suc, ◌⊎◌, inl, inr, List, [], ◌∷◌, ◌++◌, Bool, true, false, not, ◌==◌, ◌&&◌, ◌||◌, if◌then◌else◌, Option, Some, None, Ok, Err, slice_index, length, refl, ap, sym, ◌∙◌, subst, append-nil}
+use Rattle.std.proofs.lemmas.Bool.{and_parts, eqb-true}
+use Rattle.defs_text.specs.Breaks.{put_first, split, has_no_break, is_at_line_end}
+use Rattle.defs_text.specs.Classes.{is_blank, is_break, is_nul, is_flow, is_blank_or_end, is_at_gap, is_at_end, is_alpha, is_decimal_digit, is_letter, is_uri, is_tag, are_marks}
+use Rattle.defs_text.specs.Position.{Position}
+use Rattle.defs_text.specs.Text.{is_empty, has_no_nul}
+use Rattle.defs_text.specs.BlockScalar.{BlockStyle, literal, folded, Header, header_of, Body, body, Ending, further_text, all_lines, starts_with_tab, block_value, is_further_text}
+use Rattle.defs_text.specs.BlockScalar as block
+use Rattle.defs_text.specs.BlockScalar.{unbroken as unbroken_line}
+use Rattle.defs_text.specs.Directives.{directive_of}
+use Rattle.defs_text.specs.FlowScalar.{begins_with}
+use Rattle.defs_text.specs.Tags.{all_of, leading, after, begins_with_mark, decoded, written_tag}
+use Rattle.defs_token.specs.BlockPiece.{BlockRead, column_of, with_value, is_past, read_body, read_lines, block_read}
+use Rattle.defs_token.specs.Account as pieces
+use Rattle.defs_token.specs.Account.{is_adjacent}
+use Rattle.defs_token.specs.Plain.{begins_flow}
+use Rattle.defs_token.specs.Token.{scalar, single_quoted, double_quoted}
+use Rattle.defs_token.specs.Column.{innermost}
+use Rattle.defs_token.specs.Following.{lines_may_end, read_may_end, block_may_end, may_precede}
+use Rattle.defs_token.specs.Indentation.{least_column}
+use Rattle.defs_token.specs.RowAccount.{Account, is_in_flow}
+use Rattle.yaml_tokens.specs.declared.problem.Fault.TheVariants.{At}
+use Rattle.yaml_tokens.specs.declared.problem.Problem.{Problem}
+use Rattle.yaml_tokens.specs.declared.problem.Problem.TheVariants as problem
+use Rattle.model_scanner.specs.Machine.{past}
+use Rattle.model_scanner.specs.Tag as tags
+use Rattle.model_scanner.specs.Tag.{verbatim_end, verbatim, named, shorthand, tag_end, tag}
+use Rattle.proof_row.specs.Ends.{Kind, kind_at, tag_text, directive_line, block_scalar, in_single_quotes, in_double_quotes}
+use Rattle.proof_row.proofs.Begins.{block_token, Whole, context_of, directive_begins}
+use Rattle.proof_row.proofs.Blocks.{has_header}
+use Rattle.proof_row.proofs.Lines.{of_lines, lines_after, split_append, up_to_break, first_line, line_is, line_more, no_lines}
+use Rattle.proof_row.proofs.Splits.{More, splits}
+use Rattle.proof_row.proofs.TagEnds.{mark_is_first}
+use Rattle.proof_row.proofs.Texts.{no_nul_after}
+use Rattle.proof_lexers.specs.DirectiveEnds as directives
+use Rattle.proof_lexers.specs.HeaderEnds.{indicator_of, is_in_line, ends_line}
+use Rattle.proof_lexers.specs.NameEnds.{further}
+use Rattle.proof_lexers.specs.TagEnds.{may_follow, IsTagRefusal, verbatim_octets, unclosed, verbatim_goes_on, suffix_octets, no_suffix, suffix_goes_on, local_octets, local_goes_on}
+use Rattle.proof_lexers.proofs.Properties.TagReads.{tags_are_read}
+use Rattle.proof_lexers.proofs.Properties.Tags.{word, leading_all, same_end, alpha_starts, decoded_some}
+use Rattle.proof_lexers.proofs.Properties.Uris.{uris_are_read}
+use Rattle.proof_row.proofs.Written as written
+use Rattle.proof_scanner.specs.Ways.{spelled_to}
+use Rattle.proof_scanner.specs.NoPiece.{quote_of, HasNoQuoted}
+use Rattle.proof_scanner.specs.QuotedLines.{AreNotIndented}
+use Rattle.proof_scanner.specs.Stuck.{site_at_place}
+use Rattle.proof_scanner.proofs.Refusals.OtherRows.{StepAt}
+use Rattle.proof_scanner.proofs.Refusals.PiecesHere.{acct, whole_by, rest_of}
+use Rattle.proof_scanner.proofs.Refusals.StandsRefused.{flow_is, no_lines as no_lines_there, no_end as no_end_here}
+
+-- ---- tags
+
+no_mark : is_alpha 33 ≡ false
+unfolding is_alpha is_decimal_digit is_letter
+no_mark = refl
+
+closes_not : (start p : Position) (uri r : List ℕ) → begins_with 62 r ≡ false → verbatim_end start uri r p ≡ Err (At problem.VerbatimTagEnd start)
+closes_not start p uri [] h = refl
+closes_not start p uri (c ∷ r) h = rw h refl
+
+-- a word and a second mark begin no verbatim tag
+no_angle : (name rest : List ℕ) → all_of is_alpha name ≡ true → (slice_index (name ++ 33 ∷ rest) 0 == 60) ≡ false
+no_angle [] rest h = refl
+no_angle (c ∷ name) rest h = (alpha_starts c (and_parts (is_alpha c) (all_of is_alpha name) h).0).0
+
+plainly : (text : List ℕ) → begins_with 60 text ≡ false → (slice_index text 0 == 60) ≡ false
+plainly [] h = refl
+plainly (c ∷ r) h = h
+
+unmarked : (text : List ℕ) → begins_with_mark text ≡ false → (slice_index text 0 == 33) ≡ false
+unmarked [] h = refl
+unmarked (c ∷ r) h = h
+
+suffix_given : (l suffix : List ℕ) → is_empty l ≡ false → decoded l ≡ Ok suffix → is_empty suffix ≡ false
+suffix_given [] suffix h e = absurd (cc h)
+suffix_given (c ∷ l) suffix h e = decoded_some c l suffix e
+
+-- The scan refuses a text after `!` for each of these reasons.
+pub refusal_fails : (flow : Bool) (text : List ℕ) (why : Problem) (p : Position) → IsTagRefusal flow text why → tag flow (33 ∷ text) p ≡ Err (At why p)
+unfolding tag verbatim shorthand named
+refusal_fails flow text why p (verbatim_octets rest f cut e) = rw (cut, (uris_are_read p rest (past (past p)) []).0, e) refl
+refusal_fails flow text why p (unclosed rest uri cut e lacks) = rw (cut, (uris_are_read p rest (past (past p)) []).0, e, closes_not p (further (length (leading is_uri rest)) (past (past p))) uri (after is_uri rest) lacks) refl
+refusal_fails flow text why p (verbatim_goes_on rest uri more cut e ends goes) = rw (cut, (uris_are_read p rest (past (past p)) []).0, e, ends, same_end flow more, goes) refl
+refusal_fails flow text why p (suffix_octets name rest f cut all e) =
+    let z = leading_all is_alpha name (33 ∷ rest) all no_mark in
+    rw (cut, no_angle name rest all, word (name ++ 33 ∷ rest) (past p) [], z.0, z.1, (uris_are_read p rest (past (further (length name) (past p))) []).1, e) refl
+refusal_fails flow text why p (no_suffix name rest cut all none) =
+    let z = leading_all is_alpha name (33 ∷ rest) all no_mark in
+    rw (cut, no_angle name rest all, word (name ++ 33 ∷ rest) (past p) [], z.0, z.1, (uris_are_read p rest (past (further (length name) (past p))) []).1, none) refl
+refusal_fails flow text why p (suffix_goes_on name rest suffix cut all some e goes) =
+    let z = leading_all is_alpha name (33 ∷ rest) all no_mark in
+    let given : is_empty suffix ≡ false = suffix_given (leading is_tag rest) suffix some e in
+    rw (cut, no_angle name rest all, word (name ++ 33 ∷ rest) (past p) [], z.0, z.1, (uris_are_read p rest (past (further (length name) (past p))) []).1, e, given, same_end flow (after is_tag rest), goes) refl
+refusal_fails flow text why p (local_octets f no_verbatim none e) =
+    rw (plainly text no_verbatim, word text (past p) [], unmarked (after is_alpha text) none, (uris_are_read p (after is_alpha text) (further (length (leading is_alpha text)) (past p)) (leading is_alpha text)).1, e) refl
+refusal_fails flow text why p (local_goes_on suffix no_verbatim none e goes) =
+    rw (plainly text no_verbatim, word text (past p) [], unmarked (after is_alpha text) none, (uris_are_read p (after is_alpha text) (further (length (leading is_alpha text)) (past p)) (leading is_alpha text)).1, e)
+    (by (is_empty (leading is_alpha text ++ suffix)) refl)
+  where
+    by : (b : Bool) → is_empty (leading is_alpha text ++ suffix) ≡ b → tag_end flow p (tags.local (record { rest = after is_tag (after is_alpha text); position = further (length (leading is_tag (after is_alpha text))) (further (length (leading is_alpha text)) (past p)); value = leading is_alpha text ++ suffix })) ≡ Err (At problem.TagEnd p)
+    by true i = rw (i, same_end flow (after is_tag (after is_alpha text)), goes) refl
+    by false i = rw (i, same_end flow (after is_tag (after is_alpha text)), goes) refl
+
+-- ---- lines
+
+-- two lines of one text are the same
+same_line : (a b x y : List ℕ) → has_no_break a ≡ true → has_no_break b ≡ true → is_at_line_end x ≡ true → directives.ends_line y ≡ true → has_no_nul (a ++ x) ≡ true → a ++ x ≡ b ++ y → a ≡ b
+same_line [] [] x y h k i j n e = refl
+same_line [] (d ∷ b) [] y h k i j n e = absurd (cc e)
+same_line [] (d ∷ b) (c ∷ x) y h k i j n e = let same : c ≡ d = cc e in absurd (by (is_break c) (is_nul c) (is_break d) i (ap is_break same) (and_parts (not (is_break d)) (has_no_break b) k).0 (and_parts (not (is_nul c)) (has_no_nul x) n).0)
+  where
+    by : (b n d : Bool) → (b || n) ≡ true → b ≡ d → not d ≡ true → not n ≡ true → ⊥
+    by true n true h e i j = cc i
+    by true n false h e i j = cc e
+    by false true d h e i j = cc j
+    by false false d h e i j = cc h
+same_line (c ∷ a) [] x [] h k i j n e = absurd (cc e)
+same_line (c ∷ a) [] x (d ∷ y) h k i j n e = let same : c ≡ d = cc e in absurd (by (is_break c) (is_break d) (and_parts (not (is_break c)) (has_no_break a) h).0 (ap is_break same) j)
+  where
+    by : (b d : Bool) → not b ≡ true → b ≡ d → d ≡ true → ⊥
+    by true d h e j = cc h
+    by false d h e j = cc (e, j)
+same_line (c ∷ a) (d ∷ b) x y h k i j n e =
+    let first : c ≡ d = cc e in
+    let others : a ++ x ≡ b ++ y = cc e in
+    rw first (ap (λ r. d ∷ r) (same_line a b x y (and_parts (not (is_break c)) (has_no_break a) h).1 (and_parts (not (is_break d)) (has_no_break b) k).1 i j (and_parts (not (is_nul c)) (has_no_nul (a ++ x)) n).1 others))
+
+-- a text's first line
+first_of : (line after : List ℕ) → is_in_line line ≡ true → ends_line after ≡ true → up_to_break (line ++ after) ≡ line
+first_of [] [] h e = refl
+first_of [] (c ∷ r) h e = rw e refl
+first_of (c ∷ line) after h e = let parts = and_parts (not (is_break c)) (is_in_line line) h in rw (still (is_break c) parts.0) (ap (λ r. c ∷ r) (first_of line after parts.1 e))
+  where
+    still : (b : Bool) → not b ≡ true → b ≡ false
+    still true h = absurd (cc h)
+    still false h = refl
+
+no_end : (r : List ℕ) → has_no_nul r ≡ true → is_at_end r ≡ true → r ≡ []
+no_end [] h e = refl
+no_end (c ∷ r) h e = absurd (by (is_nul c) (and_parts (not (is_nul c)) (has_no_nul r) h).0 e)
+  where
+    by : (b : Bool) → not b ≡ true → b ≡ true → ⊥
+    by true h e = cc h
+    by false h e = cc e
+
+-- a block scalar's piece has the first line of the text
+piece_line : (collection : Option ℕ) (piece next : List ℕ) (r : BlockRead) → has_no_nul next ≡ true → block_read collection piece next ≡ Some r → up_to_break (piece ++ next) ≡ up_to_break piece
+piece_line collection piece next r clean is = by ((split piece).complete) refl
+  where
+    at_end : (ended : Bool) → read_lines collection [] ((split piece).last) next ended ≡ Some r → ended ≡ true
+    at_end true e = refl
+    at_end false e = absurd (cc e)
+
+    by : (ls : List (List ℕ)) → (split piece).complete ≡ ls → up_to_break (piece ++ next) ≡ up_to_break piece
+    by [] e =
+        let ends : is_at_end next ≡ true = at_end (is_at_end next) (ap (λ l. read_lines collection l ((split piece).last) next (is_at_end next)) (sym e) ∙ is) in
+        ap (λ z. up_to_break (piece ++ z)) (no_end next clean ends) ∙ ap up_to_break (append-nil piece)
+    by (l ∷ ls) e = line_more piece (λ none. absurd (cc (none, e))) next
+
+-- ---- a TAB after a header
+
+-- a block scalar that was read ends before the text after it
+ended_body : (collection : Option ℕ) (h : Option Header) (b : Body) (next : List ℕ) (r : BlockRead) → read_body h collection b next ≡ Some r → (column : ℕ) × (is_past column next ≡ true)
+ended_body collection None b next r e = absurd (cc e)
+ended_body collection (Some h) b next r e = (column_of h collection b, by (is_past (column_of h collection b) next) e)
+  where
+    by : (x : Bool) → (if x then with_value h (column_of h collection b) (block_value h collection b) else None) ≡ Some r → x ≡ true
+    by true e = refl
+    by false e = absurd (cc e)
+
+-- its first line does not begin with a TAB
+untabbed_body : (collection : Option ℕ) (h : Option Header) (ls : List (List ℕ)) (ending : Ending) (next : List ℕ) (r : BlockRead) → read_body h collection (body ls ending) next ≡ Some r → starts_with_tab (all_lines ls ending) ≡ true → ⊥
+untabbed_body collection None ls ending next r e tabs = cc e
+untabbed_body collection (Some h) ls ending next r e tabs = by (is_past (column_of h collection (body ls ending)) next) e
+  where
+    by : (x : Bool) → (if x then with_value h (column_of h collection (body ls ending)) (block_value h collection (body ls ending)) else None) ≡ Some r → ⊥
+    by true e = let none : block_value h collection (body ls ending) ≡ None = rw tabs refl in cc (e, ap (with_value h (column_of h collection (body ls ending))) none)
+    by false e = cc e
+
+tab_is_text : is_at_end (9 ∷ []) ≡ false
+unfolding is_nul
+tab_is_text = refl
+
+not_past : (column : ℕ) (r : List ℕ) → is_further_text column (10 ∷ r) ≡ false
+unfolding is_break are_marks
+not_past zero [] = refl
+not_past zero (d ∷ []) = refl
+not_past zero (d ∷ e ∷ r) = refl
+not_past (suc n) r = refl
+
+module _ (collection : Option ℕ) (header more : List ℕ) where
+  -- a piece that goes on after its header with a TAB
+  longer : (own q next : List ℕ) (r : BlockRead) → split own ≡ of_lines (header ∷ []) [] → block_read collection (own ++ 9 ∷ q) next ≡ Some r → ⊥
+  unfolding is_break
+  longer own q next r one is =
+      let lines : split (own ++ 9 ∷ q) ≡ lines_after (header ∷ []) (split (9 ∷ q)) = split_append own (9 ∷ q) (header ∷ []) one refl in
+      by ((split q).complete) ((split q).last) (is_at_end next) (ap (λ z. read_lines collection z.complete z.last next (is_at_end next)) (sym lines) ∙ is)
+    where
+      by : (complete : List (List ℕ)) (last : List ℕ) (ended : Bool) → read_lines collection (header ∷ (put_first 9 complete last).complete) ((put_first 9 complete last).last) next ended ≡ Some r → ⊥
+      by [] last true e = untabbed_body collection (header_of header) [] (unbroken_line (9 ∷ last)) next r e refl
+      by [] last false e = cc e
+      by (l ∷ ls) last true e = untabbed_body collection (header_of header) ((9 ∷ l) ∷ ls) (unbroken_line last) next r e refl
+      by (l ∷ ls) [] false e = untabbed_body collection (header_of header) ((9 ∷ l) ∷ ls) further_text next r e refl
+      by (l ∷ ls) (c ∷ last) false e = cc e
+
+  -- a piece that ends before the header's break does
+  shorter : (own : List ℕ) (d : ℕ) (q next : List ℕ) (r : BlockRead) → split (own ++ d ∷ q) ≡ of_lines (header ∷ []) [] → has_no_nul (d ∷ next) ≡ true → block_read collection own (d ∷ next) ≡ Some r → ⊥
+  shorter own d q next r one clean is = by ((split own).complete) ((split own).last) (is_at_end (d ∷ next)) refl refl refl is
+    where
+      some : is_at_end (d ∷ next) ≡ true → ⊥
+      some e = let none : d ∷ next ≡ [] = no_end (d ∷ next) clean e in cc none
+
+      two : (l : List ℕ) (ls : List (List ℕ)) → split own ≡ of_lines (l ∷ ls) [] → (d == 10) ≡ false → ⊥
+      two l ls e other =
+          let all : of_lines ((l ∷ ls) ++ (split (d ∷ q)).complete) ((split (d ∷ q)).last) ≡ of_lines (header ∷ []) [] = sym (split_append own (d ∷ q) (l ∷ ls) e other) ∙ one in
+          let lines : (l ∷ ls) ++ (split (d ∷ q)).complete ≡ header ∷ [] = ap (λ z. z.complete) all in
+          let last : (split (d ∷ q)).last ≡ [] = ap (λ z. z.last) all in
+          let none : d ∷ q ≡ [] = no_lines (d ∷ q) (no_more ls ((split (d ∷ q)).complete) ((split (d ∷ q)).last) (cc lines) last) in
+          cc none
+        where
+          no_more : (ls complete : List (List ℕ)) (last : List ℕ) → ls ++ complete ≡ [] → last ≡ [] → of_lines complete last ≡ of_lines [] []
+          no_more [] complete last e f = rw (e, f) refl
+          no_more (k ∷ ls) complete last e f = absurd (cc e)
+
+      as_read : (complete : List (List ℕ)) (last : List ℕ) (ended : Bool) → (split own).complete ≡ complete → (split own).last ≡ last → is_at_end (d ∷ next) ≡ ended
+          → read_lines collection ((split own).complete) ((split own).last) (d ∷ next) (is_at_end (d ∷ next)) ≡ read_lines collection complete last (d ∷ next) ended
+      as_read complete last ended e f g =
+          ap (λ x. read_lines collection x ((split own).last) (d ∷ next) (is_at_end (d ∷ next))) e ∙ (ap (λ x. read_lines collection complete x (d ∷ next) (is_at_end (d ∷ next))) f ∙ ap (λ b. read_lines collection complete last (d ∷ next) b) g)
+
+      by : (complete : List (List ℕ)) (last : List ℕ) (ended : Bool) → (split own).complete ≡ complete → (split own).last ≡ last → is_at_end (d ∷ next) ≡ ended → read_lines collection ((split own).complete) ((split own).last) (d ∷ next) (is_at_end (d ∷ next)) ≡ Some r → ⊥
+      by complete last true e f g k = some g
+      by [] last false e f g k = let none : read_lines collection [] last (d ∷ next) false ≡ Some r = sym (as_read [] last false e f g) ∙ k in cc none
+      by (l ∷ ls) (c ∷ last) false e f g k = let none : read_lines collection (l ∷ ls) (c ∷ last) (d ∷ next) false ≡ Some r = sym (as_read (l ∷ ls) (c ∷ last) false e f g) ∙ k in cc none
+      by (l ∷ ls) [] false e f g k =
+          let read : read_body (header_of l) collection (body ls further_text) (d ∷ next) ≡ Some r = sym (as_read (l ∷ ls) [] false e f g) ∙ k in
+          let past = ended_body collection (header_of l) (body ls further_text) (d ∷ next) r read in
+          on (d == 10) refl past.0 past.1
+        where
+          on : (b : Bool) → (d == 10) ≡ b → (column : ℕ) → (is_at_end (d ∷ next) || is_further_text column (d ∷ next)) ≡ true → ⊥
+          on true i column p = let same : d ≡ 10 = eqb-true d 10 i in cc (p, g, ap (λ x. is_further_text column (x ∷ next)) same, not_past column next)
+          on false i column p = two l ls (ap (λ x. of_lines x ((split own).last)) e ∙ ap (λ x. of_lines (l ∷ ls) x) f) i
+
+  -- No block scalar has this header, if a TAB begins the next line; but one that may not end there.
+  tab_follows : (own piece next : List ℕ) (bs : List ℕ) (r : BlockRead) → piece ++ next ≡ own ++ 9 ∷ more → split own ≡ of_lines (header ∷ []) [] → has_no_nul next ≡ true → block_read collection piece next ≡ Some r → block_may_end bs piece next ≡ false
+  tab_follows own piece next bs r cut one clean is = by (splits piece own next (9 ∷ more) cut)
+    where
+      tabbed_end : (o : Option BlockRead) → read_may_end bs o own (9 ∷ more) ≡ false
+      tabbed_end None = refl
+      tabbed_end (Some b) = ap (λ z. lines_may_end bs b.column z.complete (9 ∷ more)) one
+
+      own_end : (p n : List ℕ) → p ≡ own → n ≡ 9 ∷ more → block_may_end bs p n ≡ false
+      own_end p n e f = ap (λ x. block_may_end bs x n) e ∙ (ap (block_may_end bs own) f ∙ (ap (λ b. b || read_may_end bs (block_read (innermost bs) own (9 ∷ more)) own (9 ∷ more)) tab_is_text ∙ tabbed_end (block_read (innermost bs) own (9 ∷ more))))
+
+      by : More piece own next (9 ∷ more) ⊎ More own piece (9 ∷ more) next → block_may_end bs piece next ≡ false
+      by (inl m) = on m.more m.longer m.rest
+        where
+          on : (q : List ℕ) → own ≡ piece ++ q → next ≡ q ++ 9 ∷ more → block_may_end bs piece next ≡ false
+          on [] e f = own_end piece next (sym (append-nil piece) ∙ sym e) f
+          on (d ∷ q) e f =
+              absurd (shorter piece d q (q ++ 9 ∷ more) r (ap split (sym e) ∙ one) (ap has_no_nul (sym f) ∙ clean) (ap (block_read collection piece) (sym f) ∙ is))
+      by (inr m) = on m.more m.longer m.rest
+        where
+          on : (q : List ℕ) → piece ≡ own ++ q → 9 ∷ more ≡ q ++ next → block_may_end bs piece next ≡ false
+          on [] e f = own_end piece next (e ∙ append-nil own) (sym f)
+          on (d ∷ q) e f =
+              let same : 9 ≡ d = cc f in
+              absurd (longer own q next r one (ap (λ x. block_read collection x next) (ap (λ x. own ++ x ∷ q) same ∙ sym e) ∙ is))
+
+unbroken : (style : BlockStyle) → is_break (indicator_of style) ≡ false
+unfolding is_break
+unbroken literal = refl
+unbroken folded = refl
+
+module _ (a : Account) (separation rest : List ℕ) (here : Position) (s : StepAt a separation rest here) where
+  abbrev next : List ℕ
+  next = spelled_to s.steps s.stop
+
+  abbrev Here : Kind → Type 0
+  Here k = Whole k (context_of (acct a separation rest here s)) s.step.piece next s.step.shown
+
+  pub no_tag : (more : List ℕ) (why : Problem) → rest ≡ 33 ∷ more → IsTagRefusal (is_in_flow a.entries) more why → ⊥
+  unfolding is_blank_or_end is_blank is_break is_nul is_flow
+  no_tag more why e reason =
+      let w : Here tag_text = whole_by a separation rest here s 33 more e in
+      let first = mark_is_first s.step.piece w.0 w.1 in
+      let left : first.0 ++ next ≡ more = rest_of a separation rest here s 33 first.0 more first.1 e in
+      let follows : may_follow (is_in_flow a.entries) next ≡ true = ap (λ b. is_at_gap next || (b && begins_flow next)) (sym (flow_is a separation rest here s)) ∙ w.2 in
+      let reads = tags_are_read (is_in_flow a.entries) first.0 next w.0.handle w.0.suffix here (ap written_tag (sym first.1) ∙ w.1) follows in
+      let fails = refusal_fails (is_in_flow a.entries) more why here reason in
+      cc (reads, fails, ap (λ r. tag (is_in_flow a.entries) (33 ∷ r) here) left)
+
+  pub no_directive : (line after : List ℕ) → rest ≡ 37 ∷ (line ++ after) → has_no_break line ≡ true → directives.ends_line after ≡ true → directive_of (37 ∷ line) ≡ None → ⊥
+  unfolding is_blank_or_end is_blank is_break is_nul is_flow
+  no_directive line after e one ends none =
+      let w : Here directive_line = whole_by a separation rest here s 37 (line ++ after) e in
+      let first = directive_begins s.step.piece w.0 w.1 in
+      let left : first.0 ++ next ≡ line ++ after = rest_of a separation rest here s 37 first.0 (line ++ after) first.1 e in
+      let clean : has_no_nul (first.0 ++ next) ≡ true = ap has_no_nul left ∙ no_nul_more (line ++ after) (sym (ap has_no_nul e) ∙ s.is_clean) in
+      let same : first.0 ≡ line = same_line first.0 line next after (inner first.0 (sym (ap has_no_break first.1) ∙ w.2)) one w.3 ends clean left in
+      cc (none, ap (λ r. directive_of (37 ∷ r)) (sym same), ap directive_of (sym first.1), w.1)
+    where
+      no_nul_more : (r : List ℕ) → has_no_nul (37 ∷ r) ≡ true → has_no_nul r ≡ true
+      no_nul_more r h = (and_parts (not (is_nul 37)) (has_no_nul r) h).1
+
+      inner : (r : List ℕ) → has_no_break (37 ∷ r) ≡ true → has_no_break r ≡ true
+      inner r h = (and_parts (not (is_break 37)) (has_no_break r) h).1
+
+  block_here : (style : BlockStyle) (more : List ℕ) → is_in_flow a.entries ≡ false → rest ≡ indicator_of style ∷ more → Here block_scalar
+  unfolding is_blank_or_end is_blank is_break is_nul is_flow
+  block_here style more out e = subst Here (block_kind style (pieces.is_in_flow (acct a separation rest here s)) (is_adjacent (acct a separation rest here s).before) (acct a separation rest here s).position.col (flow_is a separation rest here s ∙ out)) (whole_by a separation rest here s (indicator_of style) more e)
+    where
+      block_kind : (style : BlockStyle) (fl adjacent : Bool) (column : ℕ) → fl ≡ false → kind_at fl adjacent column (indicator_of style ∷ more) ≡ block_scalar
+      block_kind literal fl adjacent column h = rw h refl
+      block_kind folded fl adjacent column h = rw h refl
+
+  pub no_block_header : (style : BlockStyle) (line after : List ℕ) → is_in_flow a.entries ≡ false → rest ≡ indicator_of style ∷ (line ++ after) → is_in_line line ≡ true → ends_line after ≡ true → header_of (indicator_of style ∷ line) ≡ None → ⊥
+  no_block_header style line after out e inner ends none =
+      let w : Here block_scalar = block_here style (line ++ after) out e in
+      let clean : has_no_nul next ≡ true = no_nul_after s.step.piece next (ap has_no_nul s.text_is ∙ s.is_clean) in
+      let own : up_to_break s.step.piece ≡ indicator_of style ∷ line =
+      sym (piece_line (pieces.collection_column (acct a separation rest here s)) s.step.piece next w.0 clean w.1) ∙ (ap up_to_break (s.text_is ∙ e) ∙ (ap (λ b. if b then [] else indicator_of style ∷ up_to_break (line ++ after)) (unbroken style) ∙ ap (λ r. indicator_of style ∷ r) (first_of line after inner ends))) in
+      has_header (pieces.collection_column (acct a separation rest here s)) ((split s.step.piece).complete) ((split s.step.piece).last) next (is_at_end next) w.0 w.1 (ap header_of (line_is s.step.piece ∙ own) ∙ none)
+
+  first_char : (own header : List ℕ) (h : Header) → up_to_break own ≡ header → header_of header ≡ Some h → (style : BlockStyle) × (p : List ℕ) × (own ≡ indicator_of style ∷ p)
+  first_char [] header h e is = absurd (cc (is, ap header_of (sym e)))
+  first_char (d ∷ p) header h e is = by (is_break d) (ap header_of e ∙ is)
+    where
+      by : (b : Bool) → header_of (if b then [] else d ∷ up_to_break p) ≡ Some h → (style : BlockStyle) × (q : List ℕ) × (d ∷ p ≡ indicator_of style ∷ q)
+      by true k = absurd (cc k)
+      by false k = on (d == 124) (d == 62) refl refl k
+        where
+          on : (x y : Bool) → (d == 124) ≡ x → (d == 62) ≡ y → (if x then block.after_style literal (up_to_break p) else (if y then block.after_style folded (up_to_break p) else None)) ≡ Some h → (style : BlockStyle) × (q : List ℕ) × (d ∷ p ≡ indicator_of style ∷ q)
+          on true y e f k = (literal, p, ap (λ z. z ∷ p) (eqb-true d 124 e))
+          on false true e f k = (folded, p, ap (λ z. z ∷ p) (eqb-true d 62 f))
+          on false false e f k = absurd (cc k)
+
+  -- a TAB begins the line after the header
+  pub no_block_tab : (own header more : List ℕ) (h : Header) → is_in_flow a.entries ≡ false → rest ≡ own ++ 9 ∷ more → split own ≡ of_lines (header ∷ []) [] → header_of header ≡ Some h → ⊥
+  no_block_tab own header more h out e one is =
+      let first = first_char own header h (sym (line_is own) ∙ ap (λ z. first_line z.complete z.last) one) is in
+      let w : Here block_scalar = block_here first.0 (first.1 ++ 9 ∷ more) out (e ∙ ap (λ p. p ++ 9 ∷ more) first.2) in
+      let clean : has_no_nul next ≡ true = no_nul_after s.step.piece next (ap has_no_nul s.text_is ∙ s.is_clean) in
+      no_end_here a separation rest here s (ap (λ t. may_precede (is_in_flow s.account.entries) (written.At s.account s.step next).blocks t s.step.piece next) w.3 ∙
+      (same_end_by w.0.style w.0.text ∙ tab_follows (pieces.collection_column (acct a separation rest here s)) header more own s.step.piece next (written.At s.account s.step next).blocks w.0 (s.text_is ∙ e) one clean w.1))
+    where
+      same_end_by : (style : BlockStyle) (text : List ℕ) → may_precede (is_in_flow s.account.entries) (written.At s.account s.step next).blocks (block_token style text) s.step.piece next ≡ block_may_end (written.At s.account s.step next).blocks s.step.piece next
+      same_end_by literal text = refl
+      same_end_by folded text = refl
+
+  -- ---- quoted scalars
+
+  single_here : (more : List ℕ) → rest ≡ 39 ∷ more → Here in_single_quotes
+  unfolding is_blank_or_end is_blank is_break is_nul is_flow
+  single_here more e = whole_by a separation rest here s 39 more e
+
+  double_here : (more : List ℕ) → rest ≡ 34 ∷ more → Here in_double_quotes
+  unfolding is_blank_or_end is_blank is_break is_nul is_flow
+  double_here more e = whole_by a separation rest here s 34 more e
+
+  pub no_quoted_text : (single : Bool) (more : List ℕ) → rest ≡ quote_of single ∷ more → HasNoQuoted single rest → ⊥
+  no_quoted_text true more e none = let w = single_here more e in none s.step.piece next (sym s.text_is) (w.0, w.1)
+  no_quoted_text false more e none = let w = double_here more e in none s.step.piece next (sym s.text_is) (w.0, w.1)
+
+  pub no_quoted_lines : (single : Bool) (more : List ℕ) → rest ≡ quote_of single ∷ more → AreNotIndented single (least_column (site_at_place a here).blocks (site_at_place a here).awaits) rest → ⊥
+  no_quoted_lines true more e none = let w = single_here more e in no_lines_there a separation rest here s (scalar single_quoted w.0) w.2 refl (none s.step.piece next (sym s.text_is) (w.0, w.1))
+  no_quoted_lines false more e none = let w = double_here more e in no_lines_there a separation rest here s (scalar double_quoted w.0) w.2 refl (none s.step.piece next (sym s.text_is) (w.0, w.1))

@@ -1,0 +1,206 @@
+-- What stands after a block scalar that the scanner reads: it stands clear of the scalar.
+use Rattle.std.proofs.Common.{◌≡◌, ℕ, suc, ◌+◌, ◌≤◌, List, [], ◌∷◌, ◌++◌, Bool, true, false, not, ◌&&◌, ◌||◌, ◌==◌, nat_lt, nat_le, slice_index, if◌then◌else◌, length, Option, Some, None, Result, Ok, Err, refl, ap, sym, ◌∙◌, arith}
+use Rattle.std.proofs.lemmas.Bool.{and_parts, eqb-true}
+use Rattle.std.proofs.lemmas.Bool.Decides.{nat_tests}
+use Rattle.defs_text.specs.Position.{Position, position_past, position_after}
+use Rattle.defs_text.specs.Text.{is_empty, has_no_nul}
+use Rattle.defs_text.specs.Classes.{space, tab, is_at_end}
+use Rattle.defs_text.specs.Breaks.{split}
+use Rattle.defs_text.specs.FlowScalar.{begins_with}
+use Rattle.defs_text.specs.BlockScalar.{BlockStyle, is_spaces, leading_spaces, is_empty_line}
+use Rattle.defs_token.specs.BlockPiece.{BlockRead, read_lines, block_read, first_content, past_spaces}
+use Rattle.defs_token.specs.Column.{innermost}
+use Rattle.defs_token.specs.Indentation.{least_column}
+use Rattle.defs_token.specs.Following.{are_empty, lines_may_end, read_may_end, block_may_end}
+use Rattle.yaml_tokens.specs.declared.problem.Fault.{Fault}
+use Rattle.model_scanner.specs.Machine.{Read}
+use Rattle.model_scanner.specs.BlockScalar.{Block, block}
+use Rattle.proof_lexers.specs.HeaderEnds.{along, indicator_of}
+use Rattle.proof_lexers.specs.BlockScan.{is_none, is_single, is_tabbed, is_shallow, is_literal_style, further_position, read_block, read, shallow, tabbed}
+use Rattle.proof_lexers.specs.BlockEnds.{BlockEndsAs, bad_header}
+use Rattle.proof_lexers.specs.BlockEnds as ends
+use Rattle.proof_lexers.proofs.Blocks.Ends.{scans_end}
+use Rattle.proof_scanner.proofs.Cut.Pieces.Blocks.{piece_has_line}
+use Rattle.proof_scanner.proofs.Cut.Pieces.Quoted.{some_chars}
+use Rattle.proof_lexers.specs.PlainEnds.{collection_of}
+use Rattle.proof_lexers.proofs.Blocks.Margins.{after_break, after_line, after_lines}
+use Rattle.proof_lexers.proofs.Blocks.Positions.{space_past, after_spell, first_empty, first_header}
+use Rattle.proof_lexers.proofs.Blocks.Written.{Break, feed, carriage, both, Line, put, spell, texts, Fits, AreLines, Lined, lined, split_spell}
+
+-- ---- the lines of a piece before further text
+
+-- a piece is its header's line and others, each with its break
+pub record Written (piece next : List ℕ) : Type 0 where
+  pub header : Line
+  pub lines : List Line
+  pub is : piece ≡ spell (header ∷ lines) []
+  pub are : AreLines (header ∷ lines) []
+  pub no_feed : (slice_index next 0 == 10) ≡ false
+
+written_by : (collection : Option ℕ) (piece next : List ℕ) (b : BlockRead) (z : Lined piece) → read_lines collection (texts z.lines) z.last next false ≡ Some b → (slice_index next 0 == 10) ≡ false → Written piece next
+written_by collection piece next b z h none = by z.lines z.last z.is z.are h
+  where
+    by : (ls : List Line) (last : List ℕ) → piece ≡ spell ls last → AreLines ls last → read_lines collection (texts ls) last next false ≡ Some b → Written piece next
+    by [] last is are h = absurd (cc h)
+    by (l ∷ ls) (c ∷ last) is are h = absurd (cc h)
+    by (l ∷ ls) [] is are h = record { header = l; lines = ls; is = is; are = are; no_feed = none }
+
+split_is : (piece : List ℕ) (z : Lined piece) → split piece ≡ record { complete = texts z.lines; last = z.last }
+split_is piece z = ap split z.is ∙ split_spell z.lines z.last z.are z.inner
+
+pub written : (collection : Option ℕ) (piece next : List ℕ) (b : BlockRead) → block_read collection piece next ≡ Some b → is_at_end next ≡ false → Written piece next
+written collection piece next b h e =
+    let z : Lined piece = lined piece in
+    let none : (slice_index next 0 == 10) ≡ false = first_is next ∙ (piece_has_line collection piece next b e h).1 in
+    written_by collection piece next b z (ap (λ s. read_lines collection s.complete s.last next false) (sym (split_is piece z)) ∙ (ap (λ x. read_lines collection (split piece).complete (split piece).last next x) (sym e) ∙ h)) none
+  where
+    first_is : (r : List ℕ) → (slice_index r 0 == 10) ≡ begins_with 10 r
+    first_is [] = refl
+    first_is (c ∷ r) = refl
+
+-- ---- positions
+
+first_of : (w : List ℕ) (k : Break) (a b : List ℕ) → (slice_index (w ++ put k a) 0 == 10) ≡ (slice_index (w ++ put k b) 0 == 10)
+first_of [] feed a b = refl
+first_of [] carriage a b = refl
+first_of [] both a b = refl
+first_of (c ∷ w) k a b = refl
+
+-- the lines are so before further text too
+before_text : (ls : List Line) (next : List ℕ) → AreLines ls [] → (slice_index next 0 == 10) ≡ false → AreLines ls next
+before_text [] next a h = tt
+before_text (l ∷ ls) next a h = (a.0, fits l.by a.1, before_text ls next a.2 h)
+  where
+    same : (ls : List Line) → (slice_index (spell ls []) 0 == 10) ≡ false → (slice_index (spell ls next) 0 == 10) ≡ false
+    same [] k = h
+    same (l ∷ ls) k = first_of l.text l.by (spell ls next) (spell ls []) ∙ k
+
+    fits : (k : Break) → Fits k (spell ls []) → Fits k (spell ls next)
+    fits feed f = tt
+    fits carriage f = same ls f
+    fits both f = tt
+
+margin_col : (ls : List Line) (p : Position) → p.col ≡ 0 → (after_lines ls p).col ≡ 0
+margin_col [] p h = h
+margin_col (l ∷ ls) p h = margin_col ls (after_line l p) refl
+
+-- before further text a piece ends where a line begins
+pub ends_at_margin : (collection : Option ℕ) (piece next : List ℕ) (b : BlockRead) (p : Position) → block_read collection piece next ≡ Some b → is_at_end next ≡ false → (position_after p piece next).col ≡ 0
+ends_at_margin collection piece next b p h e =
+    let w : Written piece next = written collection piece next b h e in
+    let ls : List Line = w.header ∷ w.lines in
+    ap (λ x. (position_after p x next).col) w.is ∙ (ap (λ (q : Position). q.col) (after_spell ls [] next p (before_text ls next w.are w.no_feed)) ∙ margin_col w.lines (after_line w.header p) refl)
+
+pub spaces_col : (p : Position) (a : List ℕ) → (past_spaces p a).col ≡ p.col + leading_spaces a
+spaces_col p [] = omega arith
+spaces_col p (c ∷ a) = by (c == space) refl (spaces_col (position_past p c a) a)
+  where
+    by : (b : Bool) → (c == space) ≡ b → (past_spaces (position_past p c a) a).col ≡ (position_past p c a).col + leading_spaces a →
+        (let q : Position = (if b then past_spaces (position_past p c a) a else p) in q.col) ≡ p.col + (if b then suc (leading_spaces a) else 0)
+    by true e h =
+        let same : c ≡ 32 = eqb-true c space e in
+        let one : (position_past p c a).col ≡ p.col + 1 = ap (λ x. (position_past p x a).col) same ∙ ap (λ (q : Position). q.col) (space_past p a) in
+        omega (arith, h, one)
+    by false e h = omega arith
+
+-- ---- a scalar without content
+
+none_from : (column : ℕ) (ls : List Line) (p : Position) → AreLines ls [] → are_empty column (texts ls) ≡ true → p.col ≡ 0 → first_content column false p (spell ls []) ≡ None
+unfolding is_empty_line
+none_from column [] p a h z = refl
+none_from column (l ∷ ls) p a h z =
+    let q = and_parts (is_spaces l.text && nat_le (length l.text) column) (are_empty column (texts ls)) h in
+    let r = and_parts (is_spaces l.text) (nat_le (length l.text) column) q.0 in
+    let short : length l.text ≤ column = grind (arith, nat_tests, r.1) in
+    first_empty column l (spell ls []) p r.0 (omega (arith, short, z)) a.1 ∙ none_from column ls (after_line l p) a.2 q.1 refl
+
+no_content : (column : ℕ) (piece next : List ℕ) (p : Position) (w : Written piece next) → are_empty column (texts w.lines) ≡ true → first_content column true p piece ≡ None
+no_content column piece next p w h =
+    ap (λ x. first_content column true p x) w.is ∙
+    (first_header column w.header.text w.header.by (spell w.lines []) p w.are.0 w.are.1 ∙ none_from column w.lines (after_break w.header.by (along w.header.text p)) w.are.2 h refl)
+
+-- ---- what follows
+
+-- the scan is told the least column of a value as its indentation
+abbrev pub IsLeast : (indent : ℕ) → List ℕ → Type 0
+IsLeast indent bs = (collection_of indent ≡ innermost bs) × (least_column bs true ≡ indent)
+
+module _ (indent column : ℕ) (p : Position) (b : BlockRead) (piece next : List ℕ) (bs : List ℕ) where
+  clear_by : (empty : Bool) → (k : ℕ) → least_column bs true ≡ indent → (empty ≡ true → (nat_le indent k && nat_lt k column) ≡ false) → (not empty || nat_lt k (least_column bs true) || nat_le column k) ≡ true
+  clear_by false k l h = refl
+  clear_by true k l h = by (nat_lt k (least_column bs true)) (nat_le column k) (nat_le indent k) (nat_lt k column) refl refl refl refl (h refl)
+    where
+      by : (w x y z : Bool) → nat_lt k (least_column bs true) ≡ w → nat_le column k ≡ x → nat_le indent k ≡ y → nat_lt k column ≡ z → (y && z) ≡ false → (w || x) ≡ true
+      by true x y z e f g i h = refl
+      by false true y z e f g i h = refl
+      by false false true true e f g i h = absurd (cc h)
+      by false false false z e f g i h = absurd (grind (arith, nat_tests, e, g, l))
+      by false false true false e f g i h = absurd (grind (arith, nat_tests, f, i))
+
+  -- before further text
+  read_clear : IsLeast indent bs → block_read (collection_of indent) piece next ≡ Some b → is_at_end next ≡ false → is_tabbed piece next ≡ false → is_shallow indent p b piece next ≡ false → b.column ≡ column → read_may_end bs (block_read (innermost bs) piece next) piece next ≡ true
+  read_clear l h e untabbed clear same =
+      let w : Written piece next = written (collection_of indent) piece next b h e in
+      let ls : List (List ℕ) = texts w.lines in
+      let lines : (split piece).complete ≡ w.header.text ∷ ls = ap (λ x. (split x).complete) w.is ∙ ap (λ x. x.complete) (split_spell (w.header ∷ w.lines) [] w.are refl) in
+      let here : block_read (innermost bs) piece next ≡ Some b = ap (λ c. block_read c piece next) (sym l.0) ∙ h in
+      let margin : (position_after p piece next).col ≡ 0 = ends_at_margin (collection_of indent) piece next b p h e in
+      let spaces : (further_position p piece next).col ≡ (position_after p piece next).col + leading_spaces next = spaces_col (position_after p piece next) next in
+      let at : (further_position p piece next).col ≡ leading_spaces next = omega (arith, margin, spaces) in
+      let not_shallow : are_empty column ls ≡ true → (nat_le indent (leading_spaces next) && nat_lt (leading_spaces next) column) ≡ false =
+      λ empty.
+      let none : first_content b.column true p piece ≡ None = no_content b.column piece next p w (ap (λ c. are_empty c ls) same ∙ empty) in
+      ap (λ c. nat_le indent (leading_spaces next) && nat_lt (leading_spaces next) c) (sym same) ∙
+      (ap (λ k. nat_le indent k && nat_lt k b.column) (sym at) ∙
+      (ap (λ o. ((not false && is_none o) && nat_le indent (further_position p piece next).col) && nat_lt (further_position p piece next).col b.column) (sym none) ∙
+      (ap (λ x. ((not x && is_none (first_content b.column true p piece)) && nat_le indent (further_position p piece next).col) && nat_lt (further_position p piece next).col b.column) (sym e) ∙ clear))) in
+      ap (λ o. read_may_end bs o piece next) here ∙
+      (ap (λ x. lines_may_end bs b.column x next) lines ∙
+      (ap (λ c. lines_may_end bs c (w.header.text ∷ ls) next) same ∙
+      both_hold (not (is_empty ls && begins_with tab next)) (not (are_empty column ls) || nat_lt (leading_spaces next) (least_column bs true) || nat_le column (leading_spaces next))
+      (no_tab w.header.text ls (begins_with tab next) (ap (λ x. is_single x && begins_with tab next) (sym lines) ∙ untabbed)) (clear_by (are_empty column ls) (leading_spaces next) l.1 not_shallow)))
+    where
+      both_hold : (x y : Bool) → x ≡ true → y ≡ true → (x && y) ≡ true
+      both_hold x y e f = rw (e, f) refl
+
+      no_tab : (h : List ℕ) (ls : List (List ℕ)) (t : Bool) → (is_single (h ∷ ls) && t) ≡ false → not (is_empty ls && t) ≡ true
+      no_tab h [] t e = ap not e
+      no_tab h (l ∷ ls) t e = refl
+
+-- A block scalar that was read, and was not refused for what stands after it, may end there.
+pub block_clear : (indent : ℕ) (p : Position) (b : BlockRead) (piece next bs : List ℕ) → IsLeast indent bs → block_read (collection_of indent) piece next ≡ Some b → is_tabbed piece next ≡ false → is_shallow indent p b piece next ≡ false → block_may_end bs piece next ≡ true
+block_clear indent p b piece next bs l h untabbed clear = by (is_at_end next) refl
+  where
+    by : (e : Bool) → is_at_end next ≡ e → (e || read_may_end bs (block_read (innermost bs) piece next) piece next) ≡ true
+    by true e = refl
+    by false e = read_clear indent b.column p b piece next bs l h e untabbed clear refl
+
+-- ---- a scalar as it was read
+
+-- What the scan of a block scalar read at a position: its piece, and the text after it.
+pub record BlockAs (style : BlockStyle) (indent : ℕ) (p : Position) (text : List ℕ) (r : Read Block) : Type 0 where
+  pub piece : List ℕ
+  pub next : List ℕ
+  pub scalar : BlockRead
+  pub is_text : text ≡ piece ++ next
+  pub is_read : block_read (collection_of indent) piece next ≡ Some scalar
+  pub style_is : scalar.style ≡ style
+  pub may_end : (bs : List ℕ) → IsLeast indent bs → block_may_end bs piece next ≡ true
+  pub is : r ≡ read_block p scalar piece next
+
+pub block_as : (style : BlockStyle) (indent : ℕ) (more : List ℕ) (p : Position) (r : Read Block) → has_no_nul more ≡ true → block (is_literal_style style) indent (indicator_of style ∷ more) p ≡ Ok r → BlockAs style indent p (indicator_of style ∷ more) r
+block_as style indent more p r none e = by (block (is_literal_style style) indent (indicator_of style ∷ more) p) e (scans_end style indent more p (some_chars more none))
+  where
+    same : (x y : Read Block) → ◌≡◌ {A = Result (Read Block) Fault} (Ok x) (Ok y) → x ≡ y
+    same x y h = ap (λ z. value_or x z) h
+      where
+        value_or : Read Block → Result (Read Block) Fault → Read Block
+        value_or d (Ok w) = w
+        value_or d (Err f) = d
+
+    by : (x : Result (Read Block) Fault) → x ≡ Ok r → BlockEndsAs style indent p more x → BlockAs style indent p (indicator_of style ∷ more) r
+    by x e (bad_header line after f cut in_line at why k) = absurd (cc (e, k))
+    by x e (ends.scalar piece next b cut is looks (shallow free low k)) = absurd (cc (e, k))
+    by x e (ends.scalar piece next b cut is looks (tabbed t k)) = absurd (cc (e, k))
+    by x e (ends.scalar piece next b cut is looks (read free clear k)) =
+        record { piece = piece; next = next; scalar = b; is_text = cut; is_read = is; style_is = looks; may_end = λ bs l. block_clear indent p b piece next bs l is free clear; is = same r (read_block p b piece next) (sym e ∙ k) }

@@ -1,0 +1,413 @@
+-- Block scalars: what holds where one begins holds between two fetches after it. No key waits over it, and after it a key may begin.
+use Rattle.std.proofs.Common.{◌≡◌, ℕ, zero, suc, ◌≤◌, List, [], ◌∷◌, ◌++◌, Bool, true, false, not, ◌&&◌, ◌||◌, ◌==◌, ◌⊎◌, inl, inr, nat_lt, if◌then◌else◌, map, take, Option, Some, None, Ok, refl, ap, sym, ◌∙◌, subst, append_assoc, append-nil, arith}
+use Rattle.std.proofs.lemmas.Bool.{eqb-true}
+use Rattle.std.proofs.lemmas.Bool.Decides.{nat_tests}
+use Rattle.defs_text.specs.Classes.{space, is_break, is_nul, is_at_end, is_one_of}
+use Rattle.defs_text.specs.Position.{Position, position_after}
+use Rattle.defs_text.specs.Text.{is_empty, has_no_nul}
+use Rattle.defs_text.specs.BlockScalar.{BlockStyle, literal, folded}
+use Rattle.defs_token.specs.Account as pieces
+use Rattle.defs_token.specs.Account.{innermost_column}
+use Rattle.defs_token.specs.BlockPiece.{block_read, block_position}
+use Rattle.defs_token.specs.Token.{Tok, Token}
+use Rattle.defs_token.specs.Separation.{is_separation}
+use Rattle.defs_token.specs.Piece.{IsPiece}
+use Rattle.defs_token.specs.Step.{Act, act_of, gives_block_scalar, Previous, block_scalar, previous_by, has_break}
+use Rattle.defs_token.specs.Column.{innermost, is_deeper, is_in_column}
+use Rattle.defs_token.specs.Indentation.{least_column, has_tab_within, begins_line, awaits_past, is_indented_by_spaces}
+use Rattle.defs_token.specs.Lines.{further_lines_stand}
+use Rattle.defs_token.specs.Following.{may_precede, block_may_end}
+use Rattle.defs_token.specs.Key.{Line, free, taken, line_past}
+use Rattle.defs_token.specs.FlowEntry.{begun_by}
+use Rattle.defs_token.specs.RowAccount.{Site, Account, site_in, site_past, least_for, may_stand, seen}
+use Rattle.defs_token.specs.Tokens.{put, content_position, shown_position, ends_at, begun_outside}
+use Rattle.model_scanner.specs.Machine.{Read}
+use Rattle.model_scanner.specs.BlockScalar.{Block, block}
+use Rattle.model_scanner.specs.State.{Key, ScannerState, push, on_held, token, lexed}
+use Rattle.model_scanner.specs.Flow.{allow_key}
+use Rattle.model_scanner.specs.Indents.{Levels, without_open, unroll_non_block_indents}
+use Rattle.model_scanner.specs.Document.{block_style, fetch_block_scalar}
+use Rattle.model_scanner.proofs.Holds.{Holds, went, read}
+use Rattle.proof_lexers.specs.HeaderEnds.{indicator_of}
+use Rattle.proof_lexers.specs.BlockScan.{without_spaces, is_literal_style, further_position, read_block}
+use Rattle.proof_lexers.specs.PlainEnds.{collection_of}
+use Rattle.proof_scanner.specs.Order.{NotBefore}
+use Rattle.proof_scanner.specs.Here.{IsLive}
+use Rattle.proof_scanner.proofs.Cut.Nodes.{IsDeep}
+use Rattle.proof_scanner.proofs.Cut.Positions.{not_before_after, not_before_then, not_before_same, index_after}
+use Rattle.proof_scanner.proofs.Cut.Saved.{saved_keys, saved_is}
+use Rattle.proof_scanner.proofs.Cut.Pieces.Blocks.{spaces_of, spaces_cut, spaces_fill, spaces_position, some_piece, piece_of, token_of, IsBelow, below}
+use Rattle.proof_scanner.specs.Choices.{chosen, MayChoose}
+use Rattle.proof_scanner.specs.Completes.{tokens_up_to, Completes}
+use Rattle.proof_scanner.specs.StandsInRow.{columns, is_free, IsTakenBy, IsOpenOutside, IsReadOn, Stands}
+use Rattle.proof_scanner.specs.Arrives.{site_here, IsLineHere, Arrives}
+use Rattle.proof_scanner.proofs.Sound.Arrivals.{clean_after, some_rest}
+use Rattle.proof_scanner.proofs.Sound.BlockEnds.{IsLeast, BlockAs, block_as, ends_at_margin}
+use Rattle.proof_scanner.proofs.Sound.LastLines.{last_whole}
+use Rattle.proof_scanner.proofs.Sound.NodeSteps.{saved}
+use Rattle.proof_scanner.proofs.Sound.Outsides.{must_be_here, numbered_past, open_node}
+use Rattle.proof_scanner.proofs.Sound.OutsidePieces.{line_free, none_open}
+use Rattle.proof_scanner.proofs.Sound.KeyStarts.{new_key, keys_saved}
+use Rattle.proof_scanner.proofs.Sound.Sides.{with_entries, ArrivesBy, ArrivesOutside, ArrivesInside, arrives_side, StandsBy, StandsAt, stands_at}
+use Rattle.proof_scanner.proofs.Sound.Stales.{none_completes}
+use Rattle.proof_scanner.proofs.Sound.StepsOutside.{Piece, at, piece_completes}
+use Rattle.proof_scanner.proofs.Sound.WithoutOpen.{AreClosed, without_is}
+
+-- ---- spaces
+
+spaces_in_line : (t : List ℕ) → has_break (spaces_of t) ≡ false
+unfolding is_break
+spaces_in_line [] = refl
+spaces_in_line (c ∷ r) = by (c == space) refl (spaces_in_line r)
+  where
+    by : (b : Bool) → (c == space) ≡ b → has_break (spaces_of r) ≡ false → has_break (if b then c ∷ spaces_of r else []) ≡ false
+    by true e h = let same : c ≡ 32 = eqb-true c 32 e in rw same h
+    by false e h = refl
+
+no_tab_in : (n : ℕ) (t : List ℕ) → is_one_of (take n (spaces_of t)) 9 ≡ false
+no_tab_in zero t = refl
+no_tab_in (suc n) [] = none n
+  where
+    none : (n : ℕ) → is_one_of (take (suc n) []) 9 ≡ false
+    none n = refl
+no_tab_in (suc n) (c ∷ r) = by (c == space) refl (no_tab_in n r)
+  where
+    by : (b : Bool) → (c == space) ≡ b → is_one_of (take n (spaces_of r)) 9 ≡ false → is_one_of (take (suc n) (if b then c ∷ spaces_of r else [])) 9 ≡ false
+    by true e h = let same : c ≡ 32 = eqb-true c 32 e in rw same h
+    by false e h = refl
+
+-- spaces indent by no TAB
+spaces_indent : (bs : List ℕ) (awaits : Bool) (t : List ℕ) → is_indented_by_spaces block_scalar bs awaits (spaces_of t) ≡ true
+spaces_indent bs awaits t = ap not (ap (λ l. has_tab_within (least_column bs (awaits || false)) l) (last_whole (spaces_of t) (spaces_in_line t)) ∙ no_tab_in (least_column bs (awaits || false)) t)
+
+-- ---- its token
+
+-- what is said of the token of a block scalar
+pub record IsBlockToken (style : BlockStyle) (text : List ℕ) (tok : Tok) : Type 0 where
+  pub act : act_of tok ≡ gives_block_scalar
+  pub begun : begun_by tok ≡ []
+  pub before : previous_by tok ≡ block_scalar
+  pub lines : (column : ℕ) (piece : List ℕ) → further_lines_stand column tok piece ≡ true
+  pub precedes : (bs piece next : List ℕ) → may_precede false bs tok piece next ≡ block_may_end bs piece next
+  pub awaits : (bs : List ℕ) (b : Bool) (next : List ℕ) → awaits_past false tok bs b next ≡ false
+  pub shown : (s : Site) (piece next : List ℕ) → shown_position s piece tok next ≡ content_position (block_read (innermost s.blocks) piece next) s.position piece next
+  pub is_same : tok ≡ token_of style text
+
+pub block_token : (style : BlockStyle) (text : List ℕ) → IsBlockToken style text (Tok.scalar (block_style (is_literal_style style)) text)
+block_token literal text = record { act = refl; begun = refl; before = refl; lines = λ c p. refl; precedes = λ bs p n. refl; awaits = λ bs b n. refl; shown = λ s p n. refl; is_same = refl }
+block_token folded text = record { act = refl; begun = refl; before = refl; lines = λ c p. refl; precedes = λ bs p n. refl; awaits = λ bs b n. refl; shown = λ s p n. refl; is_same = refl }
+
+-- ---- the step
+
+pub same_column : (bs : List ℕ) → innermost_column (map (λ n. Some n) bs) ≡ innermost bs
+same_column [] = refl
+same_column (n ∷ bs) = refl
+
+-- what may begin after it: a key, if none must begin with it
+after_by : (must : Bool) (here : Position) (bs : List ℕ) (k : Act) (l : Line) → k ≡ gives_block_scalar → ((l ≡ free) × (must ≡ false)) ⊎ (l ≡ taken) → line_past must here bs k false l ≡ Some (record { line = free; blocks = bs })
+after_by must here bs k l e (inl (f, m)) = rw (e, f, m) refl
+after_by must here bs k l e (inr f) = rw (e, f) (by must)
+  where
+    by : (must : Bool) → line_past must here bs gives_block_scalar false taken ≡ Some (record { line = free; blocks = bs })
+    by true = refl
+    by false = refl
+
+module _ (text : List ℕ) (t : ScannerState) (k : Option Key) (a : ArrivesBy text t [] (k ∷ []) []) (out : t.held.flow ≡ []) (keys : t.held.keys ≡ k ∷ []) (deep : IsDeep t.held) (w : Levels) (closed : AreClosed t.held.indent t.held.indents t.held.tokens w)
+    (style : BlockStyle) (x : Read Block) (r : BlockAs style w.indent t.held.position t.rest x) (tok : Tok) (n : IsBlockToken style r.scalar.text tok) where
+  abbrev p : Position
+  p = t.held.position
+
+  abbrev here : Site
+  here = site_here false p a.site
+
+  abbrev gap : List ℕ
+  gap = spaces_of r.next
+
+  abbrev rest : List ℕ
+  rest = without_spaces r.next
+
+  abbrev end : Position
+  end = further_position p r.piece r.next
+
+  abbrev own : Token
+  own = token (block_position r.scalar.column p r.piece r.next) tok
+
+  -- the scanner after it
+  abbrev after_it : ScannerState
+  after_it = record { rest = rest; held = record t.held { position = end; tokens = t.held.tokens ++ own ∷ []; keys = saved_keys t.held; indents = w.indents; indent = w.indent; key_allowed = true; leading = true } }
+
+  is_solid : is_empty r.piece ≡ false
+  is_solid = some_piece (collection_of w.indent) r.piece r.next r.scalar r.is_read
+
+  some : is_empty t.rest ≡ false
+  some = some_rest t.rest r.piece r.next r.is_text is_solid
+
+  clean : has_no_nul r.next ≡ true
+  clean = clean_after r.piece r.next (subst (λ l. has_no_nul l ≡ true) r.is_text a.is_clean)
+
+  blocks_are : here.blocks ≡ columns w.indent w.indents
+  blocks_are = a.blocks_are ∙ closed.same_columns
+
+  least : IsLeast w.indent here.blocks
+  least = subst (λ bs. IsLeast w.indent bs) (sym blocks_are) closed.is_least
+
+  read_here : block_read (innermost here.blocks) r.piece r.next ≡ Some r.scalar
+  read_here = ap (λ c. block_read c r.piece r.next) (sym least.0) ∙ r.is_read
+
+  shown_is : shown_position here r.piece tok r.next ≡ block_position r.scalar.column p r.piece r.next
+  shown_is = n.shown here r.piece r.next ∙ ap (λ o. content_position o p r.piece r.next) read_here
+
+  abbrev seen_here : pieces.Account
+  seen_here = seen (with_entries a.site a.line []) here a.separation
+
+  column_is : pieces.collection_column seen_here ≡ collection_of w.indent
+  column_is = same_column here.blocks ∙ sym least.0
+
+  seen_read : block_read (pieces.collection_column seen_here) r.piece r.next ≡ Some (record { style = style; column = r.scalar.column; text = r.scalar.text })
+  seen_read = ap (λ c. block_read c r.piece r.next) column_is ∙ (r.is_read ∙ ap (λ z. Some (record { style = z; column = r.scalar.column; text = r.scalar.text })) r.style_is)
+
+  is_piece : IsPiece seen_here r.piece r.next None (shown_position here r.piece tok r.next) tok
+  is_piece =
+      subst (λ q. IsPiece seen_here r.piece r.next None q tok) (sym shown_is)
+      (subst (λ y. IsPiece seen_here r.piece r.next None (block_position r.scalar.column p r.piece r.next) y) (sym n.is_same)
+      (piece_of seen_here style r.piece r.next r.scalar.text (block_position r.scalar.column p r.piece r.next) None (refl, (r.scalar.column, seen_read, refl))))
+
+  stands : may_stand false a.site here a.separation r.piece tok r.next ≡ true
+  stands = rw (a.is_indented some, n.lines (least_for tok here) r.piece, n.precedes here.blocks r.piece r.next, r.may_end here.blocks least) refl
+
+  -- no key waits over it
+  is_below : IsBelow p end rest
+  is_below = by r.piece r.is_read is_solid
+    where
+      by : (piece : List ℕ) → block_read (collection_of w.indent) piece r.next ≡ Some r.scalar → is_empty piece ≡ false → IsBelow p (further_position p piece r.next) rest
+      by [] e h = absurd (cc h)
+      by (c ∷ piece) e h = below seen_here w.indent refl column_is c piece r.next r.scalar clean e
+
+  dead : (y : Key) → NotBefore y.position p → IsLive y end rest → ⊥
+  dead y h l = by is_below
+    where
+      by : IsBelow p end rest → ⊥
+      by (inl e) = cc (ap is_empty e, l.1)
+      by (inr e) = let up : nat_lt p.line end.line ≡ true = e in let first : y.position.line ≤ p.line = h.0 in let last : end.line ≤ y.position.line = l.0 in grind (arith, nat_tests, up, first, last)
+
+  place : end ≡ position_after (position_after p r.piece r.next) gap rest
+  place = spaces_position (position_after p r.piece r.next) r.next
+
+  later : NotBefore p end
+  later = subst (λ q. NotBefore p q) (sym place)
+      (not_before_then p (position_after p r.piece r.next) (position_after (position_after p r.piece r.next) gap rest) (not_before_after p r.piece r.next) (not_before_after (position_after p r.piece r.next) gap rest))
+
+  -- ---- rows
+
+  -- what is known at a site where the piece stands
+  record Known (y : Site) : Type 0 where
+    pub is_piece : IsPiece (seen (with_entries a.site a.line []) y a.separation) r.piece r.next None (shown_position y r.piece tok r.next) tok
+    pub stands : may_stand false a.site y a.separation r.piece tok r.next ≡ true
+    pub after_is : line_past (is_in_column y.position.col y.blocks) y.position y.blocks (act_of tok) false a.line_here ≡ Some (record { line = free; blocks = y.blocks })
+
+  abbrev Tokens : Site → List Token
+  Tokens y = (ends_at y.position a.site.blocks y.blocks ++ begun_outside (is_deeper y.position.col y.blocks) y.position y.position (act_of tok) false (Some a.line_here)) ++ (put (shown_position y r.piece tok r.next) tok ∷ [])
+
+  abbrev Result : Site → Type 0
+  Result y = Completes text r.next (record { site = site_past false y r.piece tok r.next y.blocks; line = free; entries = begun_by tok }) (λ ws last. a.tokens ++ Tokens y)
+
+  abbrev d : Site → Piece
+  d y = record { site = a.site; line = a.line; line_here = a.line_here; separation = a.separation; piece = r.piece; next = r.next; tok = tok; after = record { line = free; blocks = y.blocks }; tokens = a.tokens }
+
+  same_site : here ≡ at (d here)
+  same_site =
+      ap (λ b. site_in false b p a.site) (sym n.act) ∙ ap (λ q. site_in false (act_of tok) q a.site) (a.position_is ∙ ap (λ l. position_after a.site.position a.separation l) r.is_text)
+
+  rows_at : MayChoose false k t.held.position t.rest → Known (at (d here)) → Result (at (d here))
+  rows_at may known =
+      piece_completes text (d (at (d here))) (record {
+        is_filled = subst (λ l. is_separation false a.separation l ≡ true) r.is_text a.is_filled;
+        is_solid = is_solid;
+        is_piece = known.is_piece;
+        stands = known.stands;
+        line_is = a.is_line;
+        after_is = known.after_is;
+        no_key = refl;
+      }) (subst (λ l. Completes text (a.separation ++ l) (with_entries a.site a.line []) (λ ws last. a.tokens)) r.is_text
+      (none_completes text (a.separation ++ t.rest) (with_entries a.site a.line []) (k ∷ []) a.tokens a.no_key refl (a.completes false [] may)))
+
+  tokens_are : a.tokens ++ Tokens here ≡ t.held.tokens ++ own ∷ []
+  tokens_are =
+      ap (λ b. a.tokens ++ ((ends_at p a.site.blocks here.blocks ++ begun_outside (is_deeper p.col here.blocks) p p b false (Some a.line_here)) ++ (put (shown_position here r.piece tok r.next) tok ∷ []))) n.act ∙
+      (ap (λ ts. a.tokens ++ (ts ++ (put (shown_position here r.piece tok r.next) tok ∷ []))) (append-nil (ends_at p a.site.blocks here.blocks)) ∙
+      (ap (λ q. a.tokens ++ (ends_at p a.site.blocks here.blocks ++ (put q tok ∷ []))) shown_is ∙
+      (sym (append_assoc a.tokens (ends_at p a.site.blocks here.blocks) (own ∷ [])) ∙ ap (λ ts. ts ++ own ∷ []) (sym a.tokens_are))))
+
+  abbrev site_then : Site
+  site_then = site_past false here r.piece tok r.next here.blocks
+
+  -- if a key need not begin here, and the open one need not be one
+  rows : ((a.line_here ≡ free) × (is_in_column p.col here.blocks ≡ false)) ⊎ (a.line_here ≡ taken) → MayChoose false k t.held.position t.rest → Completes text (gap ++ rest) (with_entries site_then free []) (λ ws last. t.held.tokens ++ own ∷ [])
+  rows line may =
+      let known : Known here = record { is_piece = is_piece; stands = stands; after_is = after_by (is_in_column p.col here.blocks) p here.blocks (act_of tok) a.line_here n.act line } in
+      let all : Result here = subst (λ y. Result y) (sym same_site) (rows_at may (subst (λ y. Known y) same_site known)) in
+      subst (λ l. Completes text l (with_entries site_then free []) (λ ws last. t.held.tokens ++ own ∷ [])) (spaces_cut r.next)
+      (subst (λ es. Completes text r.next (with_entries site_then free es) (λ ws last. t.held.tokens ++ own ∷ [])) n.begun
+      (subst (λ ts. Completes text r.next (with_entries site_then free (begun_by tok)) (λ ws last. ts)) tokens_are all))
+
+  -- what may begin at it
+  line_by_allowed : (b : Bool) (y : Option Key) → t.held.key_allowed ≡ b → k ≡ y → MayChoose false (saved b (new_key t) y) end rest → (((a.line_here ≡ free) × (is_in_column p.col here.blocks ≡ false)) ⊎ (a.line_here ≡ taken)) × MayChoose false k t.held.position t.rest
+  line_by_allowed true y e i may =
+      let none : k ≡ None = none_open t.held.key_allowed t.rest k a.line_here e some a.line_is in
+      let is_free_here : a.line_here ≡ free = line_free t.held.key_allowed t.rest a.line_here e (subst (λ o. IsLineHere false t.held.key_allowed t.rest o a.line_here) none a.line_is) in
+      (inl (is_free_here, sym (must_be_here text t k a out deep) ∙ may), subst (λ o. MayChoose false o t.held.position t.rest) (sym none) tt)
+  line_by_allowed false None e i may = (inr (taken_now (subst (λ o. IsLineHere false t.held.key_allowed t.rest o a.line_here) i a.line_is)), subst (λ o. MayChoose false o t.held.position t.rest) (sym i) tt)
+    where
+      taken_now : IsLineHere false t.held.key_allowed t.rest None a.line_here → a.line_here ≡ taken
+      taken_now (inl f, g) = absurd (cc (e, g ∙ ap is_free f))
+      taken_now (inr f, g) = f
+  line_by_allowed false (Some y) e i may =
+      let line : IsLineHere false t.held.key_allowed t.rest (Some y) a.line_here = subst (λ o. IsLineHere false t.held.key_allowed t.rest o a.line_here) i a.line_is in
+      (inr (line some).0, subst (λ o. MayChoose false o t.held.position t.rest) (sym i) may)
+
+  abbrev key_now : Option Key
+  key_now = saved t.held.key_allowed (new_key t) k
+
+  abbrev Then : Option Key → Bool → List Bool → Type 0
+  Then y c cs = Completes text (gap ++ rest) (chosen c cs (y ∷ []) (with_entries site_then free [])) (tokens_up_to (chosen c cs (y ∷ []) (with_entries site_then free [])) (y ∷ []) (t.held.tokens ++ own ∷ []))
+
+  is_open : IsOpenOutside key_now (position_after p r.piece r.next) end rest here.blocks
+  is_open = open_node text t k a out deep some end rest later (position_after p r.piece r.next) (not_before_after p r.piece r.next)
+
+  -- the saved or open key is not after the position
+  before_it : (y : Key) → key_now ≡ Some y → NotBefore y.position p
+  before_it y e = by t.held.key_allowed k refl e
+    where
+      by : (b : Bool) (o : Option Key) → k ≡ o → saved b (new_key t) o ≡ Some y → NotBefore y.position p
+      by true o i e =
+          let first : Some (new_key t) ≡ Some y = e in
+          let same : new_key t ≡ y = cc first in
+          subst (λ z. NotBefore z.position p) same (not_before_same p)
+      by false o i e =
+          let open_here = subst (λ z. IsOpenOutside z a.site.position p t.rest a.site.blocks) (i ∙ e) a.is_open in
+          not_before_then y.position a.site.position p open_here.0 (subst (λ z. NotBefore a.site.position z) (sym a.position_is) (not_before_after a.site.position a.separation t.rest))
+
+  then_rows : (c : Bool) (cs : List Bool) (y : Option Key) → key_now ≡ y → MayChoose c y end rest → Then y c cs
+  then_rows c cs None e may =
+      let q = line_by_allowed t.held.key_allowed k refl refl (subst (λ o. MayChoose false o end rest) (sym e) tt) in
+      rows q.0 q.1
+  then_rows true cs (Some y) e may = absurd (dead y (before_it y e) may)
+  then_rows false cs (Some y) e may =
+      let q = line_by_allowed t.held.key_allowed k refl refl (subst (λ o. MayChoose false o end rest) (sym e) may) in
+      rows q.0 q.1
+
+  taken_by : (y : Option Key) → key_now ≡ y → IsTakenBy true end rest y free
+  taken_by None e = tt
+  taken_by (Some y) e = λ l. absurd (dead y (before_it y e) l)
+
+  read_on : (b : Previous) → b ≡ block_scalar → IsReadOn b (position_after p r.piece r.next) gap rest
+  read_on b e = subst (λ z. IsReadOn z (position_after p r.piece r.next) gap rest) (sym e) (λ h. ends_at_margin (collection_of w.indent) r.piece r.next r.scalar p r.is_read (not_end r.next clean h))
+    where
+      not_end : (l : List ℕ) → has_no_nul l ≡ true → is_empty (without_spaces l) ≡ false → is_at_end l ≡ false
+      not_end [] m h = absurd (cc h)
+      not_end (c ∷ l) m h = by (is_nul c) m
+        where
+          by : (z : Bool) → (not z && has_no_nul l) ≡ true → z ≡ false
+          by true m = absurd (cc m)
+          by false m = refl
+
+  scalar_by : StandsBy text after_it [] (key_now ∷ []) []
+  scalar_by = record {
+    site = site_then;
+    line = free;
+    separation = gap;
+    is_clean = clean_after gap rest (subst (λ l. has_no_nul l ≡ true) (spaces_cut r.next) clean);
+    is_filled = spaces_fill r.next rest;
+    position_is = place;
+    blocks_are = blocks_are;
+    awaits_is = n.awaits here.blocks here.awaits r.next ∙ sym closed.none_open;
+    are_levels = closed.are_levels;
+    has_no_tabs = inr (subst (λ b. is_indented_by_spaces b here.blocks (awaits_past false tok here.blocks here.awaits r.next) gap ≡ true) (sym n.before) (spaces_indent here.blocks (awaits_past false tok here.blocks here.awaits r.next) r.next));
+    is_leading = λ b s c. sym (ap (λ z. begins_line z gap) n.before);
+    read_on = read_on (previous_by tok) n.before;
+    one_each = refl;
+    are_entries = tt;
+    line_is = (inl refl, refl, taken_by key_now refl);
+    is_open = is_open;
+    no_key = refl;
+    are_numbered = numbered_past text t k a out deep own t.held.key_allowed;
+    was_adjacent = λ e. absurd (cc e);
+    adjacent_before =
+        let i = index_after p r.piece r.next in
+        let j = index_after (position_after p r.piece r.next) gap rest in
+        let same : end.index ≡ (position_after (position_after p r.piece r.next) gap rest).index = ap (λ q. q.index) place in
+        let was = a.was_adjacent in
+        omega (arith, i, j, same, was);
+    started = a.started;
+    going = a.going;
+    carries = λ cs x key m inside some. absurd (cc inside);
+    completes = λ c cs may. then_rows c cs key_now refl may;
+  }
+
+  pub scalar_stands : StandsAt text (with_entries site_then free []) gap after_it
+  unfolding scalar_by
+  scalar_stands = stands_at text after_it [] (key_now ∷ []) [] out (keys_saved t k [] keys) scalar_by
+
+-- ---- the function
+
+-- what the scanner holds after a block scalar, as the model has it
+abbrev pub read_state : ScannerState → Levels → BlockStyle → Read Block → ScannerState
+read_state t w style x = record {
+  rest = x.rest;
+  held = record t.held {
+    position = x.position;
+    tokens = w.tokens ++ token x.value.position (Tok.scalar (block_style (is_literal_style style)) x.value.text) ∷ [];
+    keys = saved_keys t.held;
+    indents = w.indents;
+    indent = w.indent;
+    key_allowed = true;
+    leading = true;
+  };
+}
+
+-- the levels of indentation then
+abbrev pub levels_then : ScannerState → Levels
+levels_then t = without_open t.held.indent t.held.indents t.held.tokens
+
+pub closed_then : (text : List ℕ) (t : ScannerState) → Arrives text t → AreClosed t.held.indent t.held.indents t.held.tokens (levels_then t)
+closed_then text t a = without_is t.held.indent t.held.indents t.held.tokens a.are_levels
+
+-- the account after it
+abbrev pub block_base : (text : List ℕ) (style : BlockStyle) (t : ScannerState) → ArrivesOutside text t → (piece next value : List ℕ) → Account
+block_base text style t o piece next value =
+    let here : Site = site_here false t.held.position o.here.site in
+    with_entries (site_past false here piece (Tok.scalar (block_style (is_literal_style style)) value) next here.blocks) free []
+
+-- What stands after a block scalar that was read, with its account; the spaces after it are the separation.
+pub block_stands : (text : List ℕ) (style : BlockStyle) (t : ScannerState) → IsDeep t.held → (o : ArrivesOutside text t) → (w : Levels) → AreClosed t.held.indent t.held.indents t.held.tokens w → (x : Read Block) → (r : BlockAs style w.indent t.held.position t.rest x) →
+    StandsAt text (block_base text style t o r.piece r.next r.scalar.text) (spaces_of r.next) (read_state t w style x)
+block_stands text style t deep o w closed x r =
+    let tok : Tok = Tok.scalar (block_style (is_literal_style style)) r.scalar.text in
+    let y : Read Block = read_block t.held.position r.scalar r.piece r.next in
+    let At : ScannerState → Type 0 = λ u. StandsAt text (block_base text style t o r.piece r.next r.scalar.text) (spaces_of r.next) u in
+    let stands : At (record { rest = y.rest; held = record t.held { position = y.position; tokens = t.held.tokens ++ token y.value.position tok ∷ []; keys = saved_keys t.held; indents = w.indents; indent = w.indent; key_allowed = true; leading = true } }) =
+    scalar_stands text t o.key o.here o.flow_is o.keys_are deep w closed style x r tok (block_token style r.scalar.text) in
+    subst (λ z. At (read_state t w style z)) (sym r.is)
+    (subst (λ ts. At (record { rest = y.rest; held = record t.held { position = y.position; tokens = ts ++ token y.value.position tok ∷ []; keys = saved_keys t.held; indents = w.indents; indent = w.indent; key_allowed = true; leading = true } })) (sym closed.same_tokens) stands)
+
+read_as : (text : List ℕ) (style : BlockStyle) (t : ScannerState) (more : List ℕ) → t.rest ≡ indicator_of style ∷ more → ArrivesOutside text t → (indent : ℕ) (x : Read Block) → block (is_literal_style style) indent t.rest t.held.position ≡ Ok x → BlockAs style indent t.held.position t.rest x
+read_as text style t more e o indent x i =
+    let clean : has_no_nul more ≡ true = clean_after (indicator_of style ∷ []) more (subst (λ l. has_no_nul l ≡ true) e o.here.is_clean) in
+    subst (λ l. BlockAs style indent t.held.position l x) (sym e) (block_as style indent more t.held.position x clean (ap (λ l. block (is_literal_style style) indent l t.held.position) (sym e) ∙ i))
+
+-- A block scalar is read as in the row.
+pub block_keeps : (text : List ℕ) (lit : Bool) (t : ScannerState) (more : List ℕ) → t.rest ≡ (if lit then 124 else 62) ∷ more → is_empty t.held.flow ≡ true → IsDeep t.held → Arrives text t → Holds (Stands text) (fetch_block_scalar lit t)
+unfolding fetch_block_scalar unroll_non_block_indents
+block_keeps text lit t more e out deep arrives =
+    subst (λ h. Holds (Stands text) (lexed (block lit (unroll_non_block_indents (allow_key true h)).indent t.rest t.held.position) (unroll_non_block_indents (allow_key true h))
+    (λ b u. Ok (on_held (λ v. push b.position (Tok.scalar (block_style lit) b.text) (record v { leading = true })) u)))) (sym (saved_is t.held))
+    (read (unroll_non_block_indents (allow_key true (record t.held { keys = saved_keys t.held }))) (block lit w.indent t.rest t.held.position) _ (λ x i. went (by lit e x i (arrives_side text t arrives))))
+  where
+    w : Levels
+    w = levels_then t
+
+    by : (lit : Bool) → t.rest ≡ (if lit then 124 else 62) ∷ more → (x : Read Block) → block lit w.indent t.rest t.held.position ≡ Ok x → ArrivesOutside text t ⊎ ArrivesInside text t →
+        Stands text (record { rest = x.rest; held = record t.held { position = x.position; tokens = w.tokens ++ token x.value.position (Tok.scalar (block_style lit) x.value.text) ∷ []; keys = saved_keys t.held; indents = w.indents; indent = w.indent; key_allowed = true; leading = true } })
+    by lit e x i (inr inside) = absurd (cc (out, ap is_empty inside.flow_is))
+    by true e x i (inl o) = (block_stands text literal t deep o w (closed_then text t arrives) x (read_as text literal t more e o w.indent x i)).stands
+    by false e x i (inl o) = (block_stands text folded t deep o w (closed_then text t arrives) x (read_as text folded t more e o w.indent x i)).stands

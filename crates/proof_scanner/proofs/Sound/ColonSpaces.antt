@@ -1,0 +1,106 @@
+-- What the model reads after a colon: where a TAB stands next, the blanks and a comment; else nothing.
+use Rattle.std.proofs.Common.{◌≡◌, ℕ, List, [], ◌∷◌, ◌++◌, Bool, true, false, not, ◌&&◌, ◌||◌, ◌==◌, if◌then◌else◌, Ok, refl, ap, sym, ◌∙◌, subst}
+use Rattle.std.proofs.lemmas.Bool.{or_parts, eqb-true}
+use Rattle.yaml_chars.specs.Class.{is_alpha}
+use Rattle.defs_text.specs.Classes as classes
+use Rattle.defs_text.specs.Classes.{tab, is_one_of, is_blank, is_break}
+use Rattle.defs_text.specs.Breaks.{has_no_break}
+use Rattle.defs_text.specs.Position.{Position, position_after}
+use Rattle.defs_text.specs.FlowScalar.{begins_with}
+use Rattle.defs_text.specs.Tags.{leading, after}
+use Rattle.defs_token.specs.Separation.{is_separation}
+use Rattle.defs_token.specs.Step.{past_comment, is_on_line, blanks_and_comment, past_blanks_and_comment}
+use Rattle.defs_token.specs.Indentation.{begins_with_alpha, colon_may_precede}
+use Rattle.defs_token.specs.Tokens.{past_line_rest, pair_position}
+use Rattle.yaml_tokens.specs.declared.problem.Fault.TheVariants.{At}
+use Rattle.yaml_tokens.specs.declared.problem.Problem.TheVariants as problem
+use Rattle.model_scanner.specs.Machine.{past}
+use Rattle.model_scanner.specs.Blanks.{space}
+use Rattle.model_scanner.specs.declared.context.SkipTabs.TheVariants.{Yes}
+use Rattle.model_scanner.specs.State.{Held, ScannerState, peek, lexed}
+use Rattle.model_scanner.specs.Block.{check_after_tab, check_value_space}
+use Rattle.model_scanner.proofs.Holds.{Holds, went, checked}
+use Rattle.proof_lexers.proofs.Bridges.{same_alpha}
+use Rattle.proof_scanner.proofs.Sound.Blanks.{same_in_line, line_rest_cut, line_rest_fills, line_rest_in_line, past_rest, rest_read}
+use Rattle.proof_scanner.proofs.Sound.Indicated.{past_one}
+
+-- what is read after a colon, and the text after that
+abbrev pub colon_gap : List ℕ → List ℕ
+colon_gap more = (if begins_with tab more then blanks_and_comment more else [])
+
+abbrev pub past_gap : List ℕ → List ℕ
+past_gap more = (if begins_with tab more then past_blanks_and_comment more else more)
+
+pub gap_cut : (more : List ℕ) → more ≡ colon_gap more ++ past_gap more
+gap_cut more = by (begins_with tab more)
+  where
+    by : (b : Bool) → more ≡ (if b then blanks_and_comment more else []) ++ (if b then past_blanks_and_comment more else more)
+    by true = line_rest_cut more
+    by false = refl
+
+pub gap_fills : (more : List ℕ) → is_separation false (colon_gap more) (past_gap more) ≡ true
+gap_fills more = by (begins_with tab more)
+  where
+    by : (b : Bool) → is_separation false (if b then blanks_and_comment more else []) (if b then past_blanks_and_comment more else more) ≡ true
+    by true = line_rest_fills more
+    by false = refl
+
+pub gap_in_line : (more : List ℕ) → has_no_break (colon_gap more) ≡ true
+gap_in_line more = by (begins_with tab more)
+  where
+    by : (b : Bool) → has_no_break (if b then blanks_and_comment more else []) ≡ true
+    by true = line_rest_in_line more
+    by false = refl
+
+-- where the start of a single pair stands, the gap ends
+pub gap_end : (p : Position) (more : List ℕ) → pair_position (past p) more ≡ position_after (position_after p (58 ∷ []) more) (colon_gap more) (past_gap more)
+unfolding is_break
+gap_end p more = ap (λ q. pair_position q more) (sym (past_one p 58 more refl)) ∙ by (begins_with tab more)
+  where
+    q : Position
+    q = position_after p (58 ∷ []) more
+
+    by : (b : Bool) → (if b then past_line_rest q more else q) ≡ position_after q (if b then blanks_and_comment more else []) (if b then past_blanks_and_comment more else more)
+    by true = same_in_line q (blanks_and_comment more) [] (past_blanks_and_comment more) (line_rest_in_line more)
+    by false = refl
+
+-- ---- what the model checks
+
+tab_next : (more : List ℕ) → (peek more == 9) ≡ begins_with tab more
+tab_next [] = refl
+tab_next (c ∷ r) = refl
+
+-- a letter after the blanks stands after the comment too, since there is none
+no_letter : (b : List ℕ) → ((peek (past_comment b) == 45) || is_alpha (peek (past_comment b))) ≡ false → begins_with_alpha b ≡ false
+unfolding classes.is_alpha classes.is_decimal_digit classes.is_letter
+no_letter [] h = refl
+no_letter (c ∷ r) h = by (c == 35) refl h
+  where
+    by : (x : Bool) → (c == 35) ≡ x → ((peek (if x then after is_on_line (c ∷ r) else c ∷ r) == 45) || is_alpha (peek (if x then after is_on_line (c ∷ r) else c ∷ r))) ≡ false → classes.is_alpha c ≡ false
+    by true e h = let same : c ≡ 35 = eqb-true c 35 e in rw same refl
+    by false e h = same_alpha c ∙ (or_parts (c == 45) (is_alpha c) h).1
+
+-- the state after a colon and what is read after it
+abbrev pub past_colon : (more : List ℕ) → Held → ScannerState
+past_colon more h = record { rest = past_gap more; held = record h { position = pair_position h.position more } }
+
+pub colon_spaced : (more : List ℕ) (h : Held) → Holds (λ u. (u ≡ past_colon more h) × (colon_may_precede more ≡ true)) (check_value_space (record { rest = more; held = h }))
+unfolding check_value_space check_after_tab
+colon_spaced more h = by (begins_with tab more) refl
+  where
+    t : ScannerState
+    t = record { rest = more; held = h }
+
+    Ends : Bool → ScannerState → Type 0
+    Ends b u = (u ≡ record { rest = (if b then past_blanks_and_comment more else more); held = record h { position = (if b then past_line_rest h.position more else h.position) } }) × (not (b && not (is_one_of (leading is_blank more) 32) && begins_with_alpha (after is_blank more)) ≡ true)
+
+    letter : (x y z : Bool) → (x && y) ≡ false → (y ≡ false → z ≡ false) → not (true && x && z) ≡ true
+    letter true y z e f = ap not (f e)
+    letter false y z e f = refl
+
+    by : (b : Bool) → begins_with tab more ≡ b → Holds (λ u. (u ≡ past_colon more h) × (colon_may_precede more ≡ true)) (if peek more == 9 then lexed (space Yes more h.position) h check_after_tab else Ok t)
+    by true e =
+        rw (tab_next more ∙ e) (rest_read t check_after_tab _ (λ _.
+        checked (not (is_one_of (leading is_blank more) 32) && ((peek (past_blanks_and_comment more) == 45) || is_alpha (peek (past_blanks_and_comment more)))) (At problem.TabAfterColon (past_rest t).held.position) (λ f.
+        went (subst (λ b. Ends b (past_rest t)) (sym e) (refl, letter _ _ (begins_with_alpha (after is_blank more)) f (no_letter (after is_blank more)))))))
+    by false e = rw (tab_next more ∙ e) (went (subst (λ b. Ends b t) (sym e) (refl, refl)))

@@ -1,0 +1,297 @@
+-- A colon that ends no key: what holds where it begins holds between two fetches after it.
+use Rattle.std.proofs.Common.{◌≡◌, ℕ, ◌+◌, List, [], ◌∷◌, ◌++◌, Bool, true, false, not, ◌⊎◌, inl, inr, if◌then◌else◌, length, Option, Some, None, Result, Ok, refl, ap, sym, ◌∙◌, subst, arith, length-append, append_assoc}
+use Rattle.defs_text.specs.Position.{Position, position_after}
+use Rattle.defs_text.specs.Classes.{is_break}
+use Rattle.defs_text.specs.Text.{is_empty}
+use Rattle.defs_token.specs.Token.{Tok, Token}
+use Rattle.defs_token.specs.Account.{is_adjacent, before_past}
+use Rattle.defs_token.specs.Plain.{is_value_indicator}
+use Rattle.yaml_tokens.specs.declared.problem.Fault.{Fault}
+use Rattle.yaml_tokens.specs.declared.problem.Fault.TheVariants.{At}
+use Rattle.yaml_tokens.specs.declared.problem.Problem.TheVariants as problem
+use Rattle.defs_token.specs.Step.{gives_colon, has_break}
+use Rattle.defs_token.specs.Column.{is_deeper, is_in_column, opened, not_ended}
+use Rattle.defs_token.specs.Indentation.{colon_may_precede}
+use Rattle.defs_token.specs.Key.{free, Outside, line_past}
+use Rattle.defs_token.specs.FlowEntry.{Had, fresh, settled, Pair, Entry, takes_pair, is_renewed, renewed, had_after, pair_past, with_had, entries_past}
+use Rattle.defs_token.specs.Tokens.{put, pair_position, ends_at, start_if, begun_outside, begun_inside}
+use Rattle.defs_token.specs.RowAccount.{before_by}
+use Rattle.model_scanner.specs.Machine.{past}
+use Rattle.model_scanner.specs.declared.level.Indent.{Indent}
+use Rattle.model_scanner.specs.declared.level.FlowLevel.{FlowLevel}
+use Rattle.model_scanner.specs.declared.level.FlowLevel.TheVariants.{Mapping, Entry as InEntry, Keyed, Pair as InPair}
+use Rattle.model_scanner.specs.State.{Key, Held, ScannerState, ◌>>=◌, in_flow, push, token, on_held, with_held}
+use Rattle.model_scanner.specs.Keys.{top_key}
+use Rattle.model_scanner.specs.Indents.{placed, roll_indent, roll_one_col_indent}
+use Rattle.model_scanner.specs.Flow.{allow_key}
+use Rattle.model_scanner.specs.Block.{opens_pair, paired, begin_keyless_mapping, begin_keyless_value, value_of}
+use Rattle.model_scanner.specs.Fetch.{is_value}
+use Rattle.model_scanner.proofs.Holds.{Holds, went, chained, checked, tried}
+use Rattle.proof_scanner.proofs.Cut.Dispatch.{value_is}
+use Rattle.proof_scanner.proofs.Cut.Nodes.{IsDeep}
+use Rattle.proof_scanner.specs.StandsInRow.{columns, has_open_level, AreLevels, kind_of, IsPairOf, IsEntryOf, AreNumbered, Stands}
+use Rattle.proof_scanner.proofs.Sound.Arrivals.{first_not_right, numbered_more, numbered_around}
+use Rattle.proof_scanner.proofs.Sound.Around.{tokens_before}
+use Rattle.proof_scanner.proofs.Sound.ColonSpaces.{colon_gap, past_gap, gap_cut, gap_fills, gap_in_line, gap_end}
+use Rattle.proof_scanner.proofs.Sound.EntryPieces.{low_enough, base_inside, ReadInside, goes_inside_at}
+use Rattle.proof_scanner.proofs.Sound.Indicated.{past_one}
+use Rattle.proof_scanner.proofs.Sound.OutsidePieces.{base_past, read_outside_at, line_free, spaces_in_line, started_tokens}
+use Rattle.proof_scanner.proofs.Sound.Questions.{with_mapping, pair_level, same_kind}
+use Rattle.proof_scanner.proofs.Sound.Rolled.{RollsTo, rolls_to, OpensOne, opens_one, opens_none, opened_some, some_levels}
+use Rattle.proof_scanner.proofs.Sound.Sides.{ArrivesBy, StandsAt}
+
+-- ---- where a colon is an indicator
+
+-- the model and the definition say alike
+pub value_here : (text more : List ℕ) (t : ScannerState) (fs : List FlowLevel) (ks : List (Option Key)) (es : List Entry) (a : ArrivesBy text t fs ks es) → t.held.flow ≡ fs → t.rest ≡ 58 ∷ more → is_value t ≡ true →
+    is_value_indicator (not (is_empty fs)) (is_adjacent (before_past (before_by a.site.before) a.separation)) more ≡ true
+value_here text more t fs ks es a flow e h =
+    let adjacent : Bool = is_adjacent (before_past (before_by a.site.before) a.separation) in
+    subst (λ x. is_value_indicator (not (is_empty x)) adjacent more ≡ true) flow
+    (sym (value_is t adjacent more e (λ o. sym (a.is_adjacent_here (subst (λ x. is_empty x ≡ false) flow o) (ap is_empty e)))) ∙ h)
+
+-- ---- what the model does after the colon and what is read there
+
+-- what the scanner holds then, if these are its flow levels and keys
+abbrev pub at_value : (more : List ℕ) → ScannerState → List FlowLevel → List (Option Key) → Held
+at_value more t fs ks = record t.held { flow = paired fs; keys = ks; position = pair_position (past t.held.position) more; leading = false }
+
+abbrev pub value_by : (more : List ℕ) → ScannerState → List FlowLevel → List (Option Key) → Result ScannerState Fault
+value_by more t fs ks = with_held (record { rest = past_gap more; held = at_value more t fs ks }) (value_of (top_key ks) t.held.position (opens_pair fs) (at_value more t fs ks)) >>= λ v. Ok (on_held (push t.held.position Tok.value) v)
+
+-- what it holds in the end
+abbrev pub colon_end : ScannerState → (more : List ℕ) → List Indent → ℕ → List Token → (allowed : Bool) → List FlowLevel → List (Option Key) → ScannerState
+colon_end t more ds i ts allowed fs ks = record {
+  rest = past_gap more;
+  held = record t.held { position = pair_position (past t.held.position) more; leading = false; indents = ds; indent = i; tokens = ts ++ token t.held.position Tok.value ∷ []; key_allowed = allowed; flow = fs; keys = ks };
+}
+
+-- ---- outside flow
+
+-- what may begin after it
+abbrev pub after_colon : (here : Position) → List ℕ → Outside
+after_colon here bs = record { line = free; blocks = opened here.col (not_ended here.col bs) }
+
+pub keyless_stands : (text more : List ℕ) (t : ScannerState) (a : ArrivesBy text t [] (None ∷ []) []) → t.rest ≡ 58 ∷ more → t.held.key_allowed ≡ true → colon_may_precede more ≡ true →
+    is_value_indicator false (is_adjacent (before_past (before_by a.site.before) a.separation)) more ≡ true → (i : ℕ) (ds : List Indent) → columns i ds ≡ opened t.held.position.col (columns t.held.indent t.held.indents) → AreLevels i ds → has_open_level ds ≡ true →
+    StandsAt text (base_past Tok.value (58 ∷ []) t.held.position a.site more (after_colon t.held.position a.site.blocks)) (colon_gap more) (colon_end t more ds i (with_mapping t) true [] (None ∷ []))
+keyless_stands text more t a e allowed apart ind i ds columns_are levels awaits =
+    read_outside_at text t (colon_end t more ds i (with_mapping t) true [] (None ∷ [])) a (58 ∷ []) more Tok.value (after_colon t.held.position a.site.blocks) (record {
+      is_solid = refl;
+      is_piece = (refl, ind);
+      stands = rw (a.is_indented (ap is_empty e), apart) refl;
+      after_is = ap (λ l. line_past (is_in_column t.held.position.col bs) t.held.position bs gives_colon false l) here_free;
+      begun = refl;
+      tokens_are = ap (λ cs. (if is_deeper t.held.position.col cs then placed None (token t.held.position Tok.block_mapping_start) t.held.tokens else t.held.tokens) ++ put t.held.position Tok.value ∷ []) (sym a.blocks_are) ∙
+          (started_tokens (is_deeper t.held.position.col bs) t.held.tokens a.tokens (ends_at t.held.position a.site.blocks bs) t.held.position Tok.block_mapping_start (put t.held.position Tok.value) a.tokens_are ∙
+          ap (λ l. a.tokens ++ ((ends_at t.held.position a.site.blocks bs ++ begun_outside (is_deeper t.held.position.col bs) t.held.position t.held.position gives_colon false (Some l)) ++ (put t.held.position Tok.value ∷ []))) (sym here_free));
+      ends = record {
+        no_key = refl;
+        cut = e;
+        separation = colon_gap more;
+        is_rest = gap_cut more;
+        is_filled = gap_fills more;
+        position_is = gap_end t.held.position more;
+        blocks_are = ap (opened t.held.position.col) a.blocks_are ∙ sym columns_are;
+        awaits_is = sym awaits;
+        are_levels = levels;
+        read_on = tt;
+        has_no_tabs = inr (spaces_in_line (opened t.held.position.col bs) true (colon_gap more) (gap_in_line more));
+        is_leading = λ b r h. sym (ap not (gap_in_line more));
+        line_is = (inl refl, refl, tt);
+        flow_is = refl;
+        keys_are = refl;
+        unchanged = (refl, refl, refl);
+      };
+    })
+  where
+    bs : List ℕ
+    bs = not_ended t.held.position.col a.site.blocks
+
+    here_free : a.line_here ≡ free
+    here_free = line_free t.held.key_allowed t.rest a.line_here allowed a.line_is
+
+-- The levels after it: that of a mapping, if one begins, and one that no collection opens.
+pub record KeylessLevels (more : List ℕ) (t : ScannerState) : Type 0 where
+  pub mapping : RollsTo t.held.position.col None (token t.held.position Tok.block_mapping_start) (at_value more t [] (None ∷ [])) (roll_indent t.held.position.col None Tok.block_mapping_start t.held.position (at_value more t [] (None ∷ [])))
+  pub level : (let rolled = record (at_value more t [] (None ∷ [])) { indents = mapping.indents; indent = mapping.indent; tokens = with_mapping t } in OpensOne rolled (roll_one_col_indent rolled))
+
+pub keyless_levels : (more : List ℕ) (t : ScannerState) → AreLevels t.held.indent t.held.indents → IsDeep t.held → KeylessLevels more t
+keyless_levels more t levels deep =
+    let h : Held = at_value more t [] (None ∷ []) in
+    let r : RollsTo t.held.position.col None (token t.held.position Tok.block_mapping_start) h (roll_indent t.held.position.col None Tok.block_mapping_start t.held.position h) =
+    rolls_to t.held.position.col None Tok.block_mapping_start t.held.position h refl levels (first_not_right t.held.position.col t.held.indent t.held.indents levels deep) in
+    record {
+      mapping = r;
+      level = opens_one (record h { indents = r.indents; indent = r.indent; tokens = with_mapping t }) refl r.are_levels (some_levels r.indent r.indents (ap is_empty r.columns_are ∙ opened_some t.held.position.col (columns t.held.indent t.held.indents)));
+    }
+
+pub keyless_outside : (text more : List ℕ) (t : ScannerState) (a : ArrivesBy text t [] (None ∷ []) []) → t.rest ≡ 58 ∷ more → colon_may_precede more ≡ true → is_value_indicator false (is_adjacent (before_past (before_by a.site.before) a.separation)) more ≡ true → IsDeep t.held →
+    Holds (Stands text) (value_by more t [] (None ∷ []))
+unfolding begin_keyless_value begin_keyless_mapping
+keyless_outside text more t a e apart ind deep =
+    chained {P = λ w. (w ≡ record { rest = past_gap more; held = last }) × (t.held.key_allowed ≡ true)} (tried (record { rest = past_gap more; held = h }) _ begun (λ s d. (ap (λ y. record { rest = past_gap more; held = y }) d.0, d.1))) (λ w d.
+    went (subst (λ z. Stands text (on_held (push t.held.position Tok.value) z)) (sym d.0) (keyless_stands text more t a e d.1 apart ind k.level.indent k.level.indents (k.level.columns_are ∙ k.mapping.columns_are) k.level.are_levels k.level.awaits).stands))
+  where
+    h : Held
+    h = at_value more t [] (None ∷ [])
+
+    k : KeylessLevels more t
+    k = keyless_levels more t a.are_levels deep
+
+    rolled : Held
+    rolled = record h { indents = k.mapping.indents; indent = k.mapping.indent; tokens = with_mapping t }
+
+    last : Held
+    last = record rolled { indents = k.level.indents; indent = k.level.indent; key_allowed = true }
+
+    begun : Holds (λ y. (y ≡ last) × (t.held.key_allowed ≡ true)) (begin_keyless_value t.held.position false h)
+    begun =
+        chained {P = λ u. (u ≡ rolled) × (t.held.key_allowed ≡ true)} (checked (not t.held.key_allowed) (At problem.ValueNotAllowed t.held.position) (λ f. went (k.mapping.is_held, allowed t.held.key_allowed f))) (λ u d.
+        subst (λ y. Holds (λ z. (z ≡ last) × (t.held.key_allowed ≡ true)) (let v = roll_one_col_indent y in Ok (allow_key (not (in_flow v)) v))) (sym d.0) (went (ap (λ v. allow_key (not (in_flow v)) v) k.level.is_held, d.1)))
+      where
+        allowed : (b : Bool) → not b ≡ false → b ≡ true
+        allowed true f = refl
+        allowed false f = absurd (cc f)
+
+-- ---- in flow
+
+pub paired_levels : (f : FlowLevel) (fs : List FlowLevel) → paired (f ∷ fs) ≡ pair_level InPair f ∷ fs
+paired_levels InEntry fs = refl
+paired_levels _ fs = refl
+
+-- the entry after it
+abbrev pub valued_entry : Entry → Entry
+valued_entry e = record { kind = e.kind; pair = pair_past (takes_pair e.kind e.pair) gives_colon e.pair; had = settled }
+
+-- a single pair begins just where the scanner opens one
+pub single_is : (f : FlowLevel) (fs : List FlowLevel) (k : Option Key) (e : Entry) → IsEntryOf f k e → takes_pair e.kind e.pair ≡ opens_pair (f ∷ fs)
+single_is f fs k e h = ap (λ x. takes_pair x e.pair) h.kind_is ∙ by f e.pair h.pair_is
+  where
+    by : (f : FlowLevel) (p : Pair) → IsPairOf f p → takes_pair (kind_of f) p ≡ opens_pair (f ∷ fs)
+    by Mapping p i = refl
+    by _ p i = rw i refl
+
+pub valued_is : (f : FlowLevel) (k : Option Key) (e : Entry) → IsEntryOf f k e → IsEntryOf (pair_level InPair f) None (valued_entry e)
+valued_is f k e h = record { kind_is = h.kind_is ∙ same_kind InPair f refl; pair_is = subst (λ b. IsPairOf (pair_level InPair f) (pair_past b gives_colon e.pair)) (sym (single_is f [] k e h)) (pair f e.pair h.pair_is); key_is = tt }
+  where
+    pair : (f : FlowLevel) (p : Pair) → IsPairOf f p → IsPairOf (pair_level InPair f) (pair_past (opens_pair (f ∷ [])) gives_colon p)
+    pair InEntry p i = refl
+    pair Mapping p i = i
+    pair Keyed p i = i
+    pair InPair p i = i
+
+-- the entry is settled
+values : (here : Position) (again : Bool) (e : Entry) (xs : List Entry) → (e.had ≡ fresh) ⊎ (e.had ≡ settled) → entries_past here again gives_colon [] false e xs ≡ Some (valued_entry e ∷ xs)
+values here again e xs h = ap (λ o. with_had e.kind (pair_past (takes_pair e.kind e.pair) gives_colon e.pair) [] xs o) (by again e.had h)
+  where
+    of : (b : Bool) (x : Had) → renewed b gives_colon x ≡ Some x
+    of true x = refl
+    of false x = refl
+
+    by : (b : Bool) (x : Had) → (x ≡ fresh) ⊎ (x ≡ settled) → had_after here (takes_pair e.kind e.pair) gives_colon false (renewed b gives_colon x) ≡ Some settled
+    by b x (inl i) = ap (λ o. had_after here (takes_pair e.kind e.pair) gives_colon false o) (of b x ∙ ap (λ y. Some y) i)
+    by b x (inr i) = ap (λ o. had_after here (takes_pair e.kind e.pair) gives_colon false o) (of b x ∙ ap (λ y. Some y) i)
+
+-- the start of a single pair, if one begins
+pair_begun : (single : Bool) (pair : Pair) (here own : Position) (x : Had) → (x ≡ fresh) ⊎ (x ≡ settled) → begun_inside single pair here own own gives_colon false x ≡ start_if single own Tok.flow_mapping_start
+pair_begun single pair here own x (inl i) = ap (λ y. begun_inside single pair here own own gives_colon false y) i
+pair_begun single pair here own x (inr i) = ap (λ y. begun_inside single pair here own own gives_colon false y) i
+
+pub one_line_colon : has_break (58 ∷ []) ≡ false
+unfolding is_break
+one_line_colon = refl
+
+-- What the scanner holds after it, with tokens up to it.
+unfoldable pub ends_inside : (text more : List ℕ) (t : ScannerState) (f : FlowLevel) (fs : List FlowLevel) (k : Option Key) (ks : List (Option Key)) (e : Entry) (es : List Entry) (a : ArrivesBy text t (f ∷ fs) (k ∷ ks) (e ∷ es)) → t.rest ≡ 58 ∷ more → (ts : List Token) →
+    AreNumbered (length (ts ++ token t.held.position Tok.value ∷ [])) (None ∷ ks) →
+    ReadInside text t (colon_end t more t.held.indents t.held.indent ts false (pair_level InPair f ∷ fs) (None ∷ ks)) f (pair_level InPair f) fs k ks e (valued_entry e) es a (58 ∷ []) more Tok.value
+ends_inside text more t f fs k ks e es a cut ts numbered = record {
+  is_solid = refl;
+  cut = cut;
+  separation = colon_gap more;
+  is_rest = gap_cut more;
+  is_filled = gap_fills more;
+  position_is = gap_end t.held.position more;
+  columns_are = refl;
+  awaits_is = a.awaits_is;
+  are_levels = a.are_levels;
+  read_on = tt;
+  has_no_tabs = inr (spaces_in_line a.site.blocks a.site.awaits (colon_gap more) (gap_in_line more));
+  is_leading = λ b r h. sym (ap not (gap_in_line more));
+  entry_is = valued_is f k e a.are_entries.0;
+  has_had = (inr refl, refl);
+  flow_is = refl;
+  keys_are = refl;
+  are_numbered = numbered;
+  before_is = refl;
+  unchanged = (refl, refl, refl);
+}
+
+-- the tokens with the start of a single pair, if one begins
+abbrev pub with_pair : (single : Bool) → (more : List ℕ) → ScannerState → List Token
+with_pair single more t = (if single then t.held.tokens ++ token (pair_position (past t.held.position) more) Tok.flow_mapping_start ∷ [] else t.held.tokens)
+
+pair_tokens : (single : Bool) (ts before : List Token) (q : Position) (own : Token) → ts ≡ before →
+    (if single then ts ++ token q Tok.flow_mapping_start ∷ [] else ts) ++ own ∷ [] ≡ before ++ (start_if single q Tok.flow_mapping_start ++ (own ∷ []))
+pair_tokens true ts before q own e = append_assoc ts (token q Tok.flow_mapping_start ∷ []) (own ∷ []) ∙ ap (λ x. x ++ (token q Tok.flow_mapping_start ∷ (own ∷ []))) e
+pair_tokens false ts before q own e = ap (λ x. x ++ own ∷ []) e
+
+-- what stands after it, with its account
+pub keyless_within : (text more : List ℕ) (t : ScannerState) (f : FlowLevel) (fs : List FlowLevel) (ks : List (Option Key)) (e : Entry) (es : List Entry) (a : ArrivesBy text t (f ∷ fs) (None ∷ ks) (e ∷ es)) → t.rest ≡ 58 ∷ more → colon_may_precede more ≡ true →
+    is_value_indicator true (is_adjacent (before_past (before_by a.site.before) a.separation)) more ≡ true → IsDeep t.held →
+    StandsAt text (base_inside Tok.value (58 ∷ []) t.held.position a.site more a.line (valued_entry e ∷ es)) (colon_gap more) (colon_end t more t.held.indents t.held.indent (with_pair (opens_pair (f ∷ fs)) more t) false (pair_level InPair f ∷ fs) (None ∷ ks))
+unfolding is_break ends_inside
+keyless_within text more t f fs ks e es a cut apart ind deep =
+    goes_inside_at text t (colon_end t more t.held.indents t.held.indent (with_pair single more t) false (pair_level InPair f ∷ fs) (None ∷ ks)) f (pair_level InPair f) fs None ks e (valued_entry e) es a (58 ∷ []) more Tok.value (ends_inside text more t f fs None ks e es a cut (with_pair single more t) (tt, numbered_more (length a.tokens) (length (with_pair single more t ++ token t.held.position Tok.value ∷ [])) ks (omega (arith, many)) (numbered_around (length a.tokens) None ks a.are_numbered)))
+    (record {
+      in_line = one_line_colon;
+      begun = refl;
+      is_piece = (refl, ind);
+      stands = rw (a.is_indented (ap is_empty cut), low_enough text t f fs (None ∷ ks) (e ∷ es) a deep, apart) refl;
+      entry_past = λ xs. values t.held.position (is_renewed a.site.before a.separation) e xs had;
+      colons = λ n p ws last. refl;
+      tokens_are = tokens;
+    })
+  where
+    single : Bool
+    single = opens_pair (f ∷ fs)
+
+    had : (e.had ≡ fresh) ⊎ (e.had ≡ settled)
+    had = a.are_entries.1.0
+
+    place : Position → Position
+    place q = pair_position q more
+
+    own : List Token
+    own = begun_inside (takes_pair e.kind e.pair) e.pair t.held.position (place (position_after t.held.position (58 ∷ []) more)) (place (position_after t.held.position (58 ∷ []) more)) gives_colon false e.had ++ (put t.held.position Tok.value ∷ [])
+
+    tokens : with_pair single more t ++ token t.held.position Tok.value ∷ [] ≡ a.tokens ++ own
+    tokens =
+        pair_tokens single t.held.tokens a.tokens (place (past t.held.position)) (put t.held.position Tok.value) (tokens_before text t f fs None ks e es a) ∙
+        (ap (λ q. a.tokens ++ (start_if single (place q) Tok.flow_mapping_start ++ (put t.held.position Tok.value ∷ []))) (sym (past_one t.held.position 58 more refl)) ∙
+        (ap (λ b. a.tokens ++ (start_if b (place (position_after t.held.position (58 ∷ []) more)) Tok.flow_mapping_start ++ (put t.held.position Tok.value ∷ []))) (sym (single_is f fs None e a.are_entries.0)) ∙
+        ap (λ x. a.tokens ++ (x ++ (put t.held.position Tok.value ∷ []))) (sym (pair_begun (takes_pair e.kind e.pair) e.pair t.held.position (place (position_after t.held.position (58 ∷ []) more)) e.had had))))
+
+    many : length (with_pair single more t ++ token t.held.position Tok.value ∷ []) ≡ length a.tokens + length own
+    many = ap length tokens ∙ length-append a.tokens own
+
+pub keyless_inside : (text more : List ℕ) (t : ScannerState) (f : FlowLevel) (fs : List FlowLevel) (ks : List (Option Key)) (e : Entry) (es : List Entry) (a : ArrivesBy text t (f ∷ fs) (None ∷ ks) (e ∷ es)) → t.rest ≡ 58 ∷ more → colon_may_precede more ≡ true →
+    is_value_indicator true (is_adjacent (before_past (before_by a.site.before) a.separation)) more ≡ true → IsDeep t.held → Holds (Stands text) (value_by more t (f ∷ fs) (None ∷ ks))
+unfolding begin_keyless_value begin_keyless_mapping
+keyless_inside text more t f fs ks e es a cut apart ind deep =
+    chained {P = λ w. w ≡ record { rest = past_gap more; held = last }} (tried (record { rest = past_gap more; held = at_value more t (f ∷ fs) (None ∷ ks) }) _ (begun f) (λ s d. ap (λ y. record { rest = past_gap more; held = y }) d)) (λ w d.
+    went (subst (λ z. Stands text (on_held (push t.held.position Tok.value) z)) (sym d) (keyless_within text more t f fs ks e es a cut apart ind deep).stands))
+  where
+    single : Bool
+    single = opens_pair (f ∷ fs)
+
+    last : Held
+    last = record t.held { flow = pair_level InPair f ∷ fs; keys = None ∷ ks; position = pair_position (past t.held.position) more; leading = false; key_allowed = false; tokens = with_pair single more t }
+
+    begun : (f : FlowLevel) → Holds (λ y. y ≡ record t.held { flow = pair_level InPair f ∷ fs; keys = None ∷ ks; position = pair_position (past t.held.position) more; leading = false; key_allowed = false; tokens = with_pair (opens_pair (f ∷ fs)) more t })
+        (begin_keyless_value t.held.position (opens_pair (f ∷ fs)) (at_value more t (f ∷ fs) (None ∷ ks)))
+    begun Mapping = went (ap (λ v. allow_key (not (in_flow v)) v) (opens_none _ refl))
+    begun InEntry = went (ap (λ v. allow_key (not (in_flow v)) v) (opens_none _ refl))
+    begun Keyed = went (ap (λ v. allow_key (not (in_flow v)) v) (opens_none _ refl))
+    begun InPair = went (ap (λ v. allow_key (not (in_flow v)) v) (opens_none _ refl))

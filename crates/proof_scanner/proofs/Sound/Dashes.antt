@@ -1,0 +1,237 @@
+-- The function of the model that reads a dash: what holds where it begins holds between two fetches after it.
+use Rattle.std.proofs.Common.{◌≡◌, ℕ, List, [], ◌∷◌, ◌++◌, Bool, true, false, not, ◌&&◌, ◌||◌, ◌==◌, ◌⊎◌, inl, inr, if◌then◌else◌, slice_index, None, Result, Ok, refl, ap, sym, ◌∙◌, subst}
+use Rattle.std.proofs.lemmas.Bool.{eqb-true}
+use Rattle.yaml_chars.specs.Class.{is_blank_or_breakz, is_break as is_break_here, is_flow as is_flow_here}
+use Rattle.defs_text.specs.Position.{Position, position_after}
+use Rattle.defs_text.specs.Classes.{is_one_of, is_blank, is_break, is_at_gap}
+use Rattle.defs_text.specs.Text.{is_empty}
+use Rattle.defs_text.specs.Tags.{leading, after}
+use Rattle.defs_token.specs.Token.{Tok, Token}
+use Rattle.yaml_tokens.specs.declared.problem.Fault.{Fault}
+use Rattle.yaml_tokens.specs.declared.problem.Fault.TheVariants.{At}
+use Rattle.yaml_tokens.specs.declared.problem.Problem.TheVariants as problem
+use Rattle.defs_token.specs.Step.{past_comment, blanks_and_comment, past_blanks_and_comment, is_on_line, gives_dash}
+use Rattle.defs_token.specs.Column.{is_deeper, is_in_column, opened, not_ended}
+use Rattle.defs_token.specs.Key.{free, Outside, line_past}
+use Rattle.defs_token.specs.Indentation.{is_at_break_or_flow, begins_entry, dash_may_precede}
+use Rattle.defs_token.specs.Tokens.{put, past_line_rest, ends_at, start_if}
+use Rattle.model_scanner.specs.declared.context.SkipTabs.TheVariants.{Yes, No}
+use Rattle.model_scanner.specs.Machine.{past}
+use Rattle.model_scanner.specs.Blanks.{space}
+use Rattle.model_scanner.specs.State.{Held, ScannerState, ◌>>=◌, peek, in_flow, push, with_top, token, on_held, try_held, lexed, skip_indicator, after as after_first}
+use Rattle.model_scanner.specs.declared.level.Indent.{Indent}
+use Rattle.model_scanner.specs.Keys.{top_needs_block_end, remove_implicit_key}
+use Rattle.model_scanner.specs.Indents.{placed, roll_indent, roll_one_col_indent}
+use Rattle.model_scanner.specs.Space.{skip_spaces}
+use Rattle.model_scanner.specs.Flow.{allow_key}
+use Rattle.model_scanner.specs.Block.{check_block_entry, check_dash, roll_entry, fetch_block_entry}
+use Rattle.model_scanner.proofs.Holds.{Holds, went, chained, checked, tried}
+use Rattle.proof_lexers.proofs.Bridges.{same_break, same_flow}
+use Rattle.proof_scanner.proofs.Cut.Dispatch.{gap_here}
+use Rattle.proof_scanner.proofs.Cut.Nodes.{IsDeep}
+use Rattle.proof_scanner.proofs.Cut.Blocks.{entry_from, key_removed}
+use Rattle.proof_scanner.specs.Arrives.{Arrives}
+use Rattle.proof_scanner.specs.StandsInRow.{columns, has_open_level, AreLevels, Stands}
+use Rattle.proof_scanner.proofs.Sound.Arrivals.{first_not_right}
+use Rattle.proof_scanner.proofs.Sound.Blanks.{line_rest_cut, line_rest_fills, line_rest_in_line, past_rest_is_clear, found_in, past_rest, rest_read, none_skipped}
+use Rattle.proof_scanner.proofs.Sound.Indicated.{past_one, indicator_end}
+use Rattle.proof_scanner.proofs.Sound.OutsidePieces.{base_past, read_outside_at, line_free, none_open, spaces_in_line, started_tokens}
+use Rattle.proof_scanner.proofs.Sound.Rolled.{RollsTo, rolls_to, OpensOne, opens_one, top_closed}
+use Rattle.proof_scanner.proofs.Sound.Sides.{ArrivesBy, ArrivesOutside, ArrivesInside, arrives_side, StandsAt}
+
+-- ---- what the model checks
+
+-- an entry stands outside flow, where a key may begin
+entry_checked : (s : Held) → Holds (λ u. (u ≡ s) × (in_flow s ≡ false) × (s.key_allowed ≡ true)) (check_block_entry s)
+unfolding check_block_entry
+entry_checked s = checked (in_flow s) (At problem.BlockEntryInFlow s.position) (λ e. checked (not s.key_allowed) (At problem.BlockEntryNotAllowed s.position) (λ f. went (refl, e, allowed s.key_allowed f)))
+  where
+    allowed : (b : Bool) → not b ≡ false → b ≡ true
+    allowed true f = refl
+    allowed false f = absurd (cc f)
+
+-- no dash stands after a TAB
+dash_checked : (more : List ℕ) (t : ScannerState) → t.rest ≡ past_blanks_and_comment more → Holds (λ u. (u ≡ t) × (dash_may_precede more ≡ true)) (check_dash (found_in (leading is_blank more)) t)
+unfolding check_dash
+dash_checked more t e =
+    checked _ (At problem.TabAfterDash t.held.position) (λ h. went (
+      refl,
+      of (is_one_of (leading is_blank more) 9) (after is_blank more)
+          (subst (λ r. (is_one_of (leading is_blank more) 9 && (slice_index r 0 == 45) && is_blank_or_breakz (slice_index r 1)) ≡ false) e h),
+    ))
+  where
+    of : (tabs : Bool) (b : List ℕ) → (tabs && (slice_index (past_comment b) 0 == 45) && is_blank_or_breakz (slice_index (past_comment b) 1)) ≡ false → not (tabs && begins_entry b) ≡ true
+    of false b h = refl
+    of true [] h = refl
+    of true (c ∷ r) h = on (c == 35) (c == 45) refl refl h
+      where
+        on : (x y : Bool) → (c == 35) ≡ x → (c == 45) ≡ y → ((slice_index (if x then after is_on_line (c ∷ r) else c ∷ r) 0 == 45) && is_blank_or_breakz (slice_index (if x then after is_on_line (c ∷ r) else c ∷ r) 1)) ≡ false → not ((c == 45) && is_at_gap r) ≡ true
+        on x false e f h = rw f refl
+        on true true e f h = let same : c ≡ 35 = eqb-true c 35 e in absurd (cc (rw same at f))
+        on false true e f h = let none : is_at_gap r ≡ false = sym (gap_here r) ∙ (rw f at h) in rw (f, none) refl
+
+-- a flow indicator or a break after the blanks and the comment
+pub flow_or_break : (r : List ℕ) → (is_break_here (peek r) || is_flow_here (peek r)) ≡ is_at_break_or_flow r
+unfolding is_break_here is_flow_here
+flow_or_break [] = refl
+flow_or_break (c ∷ r) = ap (λ b. b || is_flow_here c) (sym (same_break c)) ∙ ap (λ b. is_break c || b) (sym (same_flow c))
+
+-- ---- the levels of indentation after it
+
+-- Where the line ends, or a flow indicator stands, a level that opens no collection stands for the entry's value.
+pub record Entered (w u : ScannerState) : Type 0 where
+  pub indents : List Indent
+  pub indent : ℕ
+  pub is : u ≡ record w { held = record w.held { indents = indents; indent = indent } }
+  pub columns_are : columns indent indents ≡ columns w.held.indent w.held.indents
+  pub are_levels : AreLevels indent indents
+  pub awaits : has_open_level indents ≡ is_at_break_or_flow w.rest
+
+pub entered : (w : ScannerState) → in_flow w.held ≡ false → AreLevels w.held.indent w.held.indents → top_needs_block_end w.held.indents ≡ true → Entered w (roll_entry w)
+unfolding roll_entry
+entered w out levels top = by (is_break_here (peek w.rest) || is_flow_here (peek w.rest)) (sym (flow_or_break w.rest))
+  where
+    closed : (is_empty w.held.indents ≡ false) × (has_open_level w.held.indents ≡ false)
+    closed = top_closed w.held.indents top
+
+    by : (b : Bool) → is_at_break_or_flow w.rest ≡ b → Entered w (if b then on_held roll_one_col_indent w else w)
+    by true e =
+        let o : OpensOne w.held (roll_one_col_indent w.held) = opens_one w.held out levels closed.0 in
+        record { indents = o.indents; indent = o.indent; is = ap (λ h. record w { held = h }) o.is_held; columns_are = o.columns_are; are_levels = o.are_levels; awaits = o.awaits ∙ sym e }
+    by false e = record { indents = w.held.indents; indent = w.held.indent; is = refl; columns_are = refl; are_levels = levels; awaits = closed.1 ∙ sym e }
+
+-- ---- the step
+
+-- what the scanner holds after the dash, the blanks and a comment
+abbrev pub dash_end : ScannerState → (more : List ℕ) → List Indent → ℕ → List Token → ScannerState
+dash_end t more ds i ts = record {
+  rest = past_blanks_and_comment more;
+  held = record t.held {
+    position = past_line_rest (past t.held.position) more;
+    leading = false;
+    indents = ds;
+    indent = i;
+    tokens = ts ++ token (past_line_rest (past t.held.position) more) Tok.block_entry ∷ [];
+    key_allowed = true;
+    keys = with_top None t.held.keys;
+  };
+}
+
+-- the tokens with the start of a sequence, if one begins
+abbrev pub with_sequence : ScannerState → List Token
+with_sequence t = (if is_deeper t.held.position.col (columns t.held.indent t.held.indents) then placed None (token t.held.position Tok.block_sequence_start) t.held.tokens else t.held.tokens)
+
+pub past_dash : (p : Position) (next : List ℕ) → position_after p (45 ∷ []) next ≡ past p
+unfolding is_break
+past_dash p next = past_one p 45 next refl
+
+dash_ends : (p : Position) (more : List ℕ) → past_line_rest (past p) more ≡ position_after (position_after p (45 ∷ []) more) (blanks_and_comment more) (past_blanks_and_comment more)
+unfolding is_break
+dash_ends p more = indicator_end p 45 more refl
+
+-- what may begin after it
+abbrev pub after_dash : (here : Position) → List ℕ → Outside
+after_dash here bs = record { line = free; blocks = opened here.col (not_ended here.col bs) }
+
+pub dash_stands : (text more : List ℕ) (t : ScannerState) (a : ArrivesBy text t [] (None ∷ []) []) → t.held.flow ≡ [] → t.held.keys ≡ None ∷ [] → t.rest ≡ 45 ∷ more → is_at_gap more ≡ true → t.held.key_allowed ≡ true → dash_may_precede more ≡ true →
+    (i : ℕ) (ds : List Indent) → columns i ds ≡ opened t.held.position.col (columns t.held.indent t.held.indents) → AreLevels i ds → has_open_level ds ≡ is_at_break_or_flow (past_blanks_and_comment more) →
+    StandsAt text (base_past Tok.block_entry (45 ∷ []) t.held.position a.site more (after_dash t.held.position a.site.blocks)) (blanks_and_comment more) (dash_end t more ds i (with_sequence t))
+dash_stands text more t a flow keys e gap allowed apart i ds columns_are levels awaits =
+    read_outside_at text t (dash_end t more ds i (with_sequence t)) a (45 ∷ []) more Tok.block_entry (after_dash t.held.position a.site.blocks) (record {
+      is_solid = refl;
+      is_piece = (refl, gap, refl);
+      stands = rw (a.is_indented (ap is_empty e), apart) refl;
+      after_is = ap (λ l. line_past (is_in_column t.held.position.col bs) t.held.position bs gives_dash false l) (line_free t.held.key_allowed t.rest a.line_here allowed a.line_is);
+      begun = refl;
+      tokens_are = tokens;
+      ends = record {
+        no_key = refl;
+        cut = e;
+        separation = blanks_and_comment more;
+        is_rest = line_rest_cut more;
+        is_filled = line_rest_fills more;
+        position_is = dash_ends t.held.position more;
+        blocks_are = ap (opened t.held.position.col) a.blocks_are ∙ sym columns_are;
+        awaits_is = sym awaits;
+        are_levels = levels;
+        read_on = tt;
+        has_no_tabs = inr (spaces_in_line (opened t.held.position.col bs) (is_at_break_or_flow (past_blanks_and_comment more)) (blanks_and_comment more) (line_rest_in_line more));
+        is_leading = λ b r h. sym (ap not (line_rest_in_line more));
+        line_is = (inl refl, refl, tt);
+        flow_is = flow;
+        keys_are = ap (with_top None) keys;
+        unchanged = (refl, refl, refl);
+      };
+    })
+  where
+    bs : List ℕ
+    bs = not_ended t.held.position.col a.site.blocks
+
+    own : Position → Token
+    own q = put (past_line_rest q more) Tok.block_entry
+
+    tokens : with_sequence t ++ own (past t.held.position) ∷ [] ≡ a.tokens ++ ((ends_at t.held.position a.site.blocks bs ++ start_if (is_deeper t.held.position.col bs) t.held.position Tok.block_sequence_start) ++ (own (position_after t.held.position (45 ∷ []) more) ∷ []))
+    tokens =
+        ap (λ cs. (if is_deeper t.held.position.col cs then placed None (token t.held.position Tok.block_sequence_start) t.held.tokens else t.held.tokens) ++ own (past t.held.position) ∷ []) (sym a.blocks_are) ∙
+        (started_tokens (is_deeper t.held.position.col bs) t.held.tokens a.tokens (ends_at t.held.position a.site.blocks bs) t.held.position Tok.block_sequence_start (own (past t.held.position)) a.tokens_are ∙
+        ap (λ q. a.tokens ++ ((ends_at t.held.position a.site.blocks bs ++ start_if (is_deeper t.held.position.col bs) t.held.position Tok.block_sequence_start) ++ (own q ∷ []))) (sym (past_dash t.held.position more)))
+
+-- ---- the function
+
+-- what the model does after the dash and the start of a sequence
+abbrev pub entry_on : ScannerState → Result ScannerState Fault
+entry_on v =
+    lexed (space Yes v.rest v.held.position) v.held check_dash >>= λ w.
+    skip_spaces No w >>= λ x.
+    try_held remove_implicit_key (roll_entry x) >>= λ y.
+    Ok (on_held (λ s. push s.position Tok.block_entry (allow_key true s)) y)
+
+-- the same after blanks and a comment
+abbrev pub entry_then : ScannerState → Result ScannerState Fault
+entry_then x = try_held remove_implicit_key (roll_entry x) >>= λ y. Ok (on_held (λ s. push s.position Tok.block_entry (allow_key true s)) y)
+
+dash_outside : (text more : List ℕ) (t : ScannerState) (a : ArrivesBy text t [] (None ∷ []) []) → t.held.flow ≡ [] → t.held.keys ≡ None ∷ [] → t.rest ≡ 45 ∷ more → is_at_gap more ≡ true → t.held.key_allowed ≡ true → IsDeep t.held →
+    Holds (Stands text) (entry_from t t)
+dash_outside text more t a flow keys e gap allowed deep =
+    subst (λ v. Holds (Stands text) (entry_on v)) (sym is_v)
+    (chained {P = λ w. (w ≡ past_rest v) × (dash_may_precede more ≡ true)} (rest_read v check_dash _ (λ h. dash_checked more (past_rest v) refl)) (λ w d.
+    subst (λ x. Holds (Stands text) (skip_spaces No x >>= entry_then)) (sym d.0)
+    (subst (λ r. Holds (Stands text) (r >>= entry_then)) (sym (none_skipped (past_rest v) (past_rest_is_clear more))) (last d.1))))
+  where
+    h : Held
+    h = (skip_indicator t).held
+
+    out : in_flow t.held ≡ false
+    out = ap (λ fs. not (is_empty fs)) flow
+
+    r : RollsTo t.held.position.col None (token t.held.position Tok.block_sequence_start) h (roll_indent t.held.position.col None Tok.block_sequence_start t.held.position h)
+    r = rolls_to t.held.position.col None Tok.block_sequence_start t.held.position h out a.are_levels (first_not_right t.held.position.col t.held.indent t.held.indents a.are_levels deep)
+
+    v : ScannerState
+    v = record { rest = more; held = record h { indents = r.indents; indent = r.indent; tokens = with_sequence t } }
+
+    is_v : on_held (roll_indent t.held.position.col None Tok.block_sequence_start t.held.position) (skip_indicator t) ≡ v
+    is_v = ap (λ x. record { rest = after_first x; held = roll_indent t.held.position.col None Tok.block_sequence_start t.held.position h }) e ∙ ap (λ x. record { rest = more; held = x }) r.is_held
+
+    last : dash_may_precede more ≡ true → Holds (Stands text) (entry_then (past_rest v))
+    last apart =
+        let w : ScannerState = past_rest v in
+        let n : Entered w (roll_entry w) = entered w out r.are_levels (r.is_top deep) in
+        chained {P = λ y. y ≡ record (roll_entry w) { held = record (roll_entry w).held { keys = with_top None (roll_entry w).held.keys } }}
+        (tried (roll_entry w) (remove_implicit_key (roll_entry w).held) (key_removed (roll_entry w).held) (λ s d. ap (λ z. record (roll_entry w) { held = z }) d)) (λ y d.
+        went (subst (λ z. Stands text (on_held (λ s. push s.position Tok.block_entry (allow_key true s)) z)) (sym d)
+        (subst (λ z. Stands text (on_held (λ s. push s.position Tok.block_entry (allow_key true s)) (record z { held = record z.held { keys = with_top None z.held.keys } }))) (sym n.is)
+        (dash_stands text more t a flow keys e gap allowed apart n.indent n.indents (n.columns_are ∙ r.columns_are) n.are_levels n.awaits).stands)))
+
+-- A dash that begins an entry is read as in the row.
+pub dash_keeps : (text more : List ℕ) (t : ScannerState) → Arrives text t → t.rest ≡ 45 ∷ more → is_at_gap more ≡ true → IsDeep t.held → Holds (Stands text) (fetch_block_entry t)
+unfolding fetch_block_entry
+dash_keeps text more t a e gap deep =
+    chained {P = λ u. (u ≡ t) × (in_flow t.held ≡ false) × (t.held.key_allowed ≡ true)} (tried t (check_block_entry t.held) (entry_checked t.held) (λ h d. (ap (λ y. record t { held = y }) d.0, d.1, d.2)))
+    (λ u d. subst (λ y. Holds (Stands text) (entry_from t y)) (sym d.0) (by (arrives_side text t a) d.1 d.2))
+  where
+    by : ArrivesOutside text t ⊎ ArrivesInside text t → in_flow t.held ≡ false → t.held.key_allowed ≡ true → Holds (Stands text) (entry_from t t)
+    by (inl o) out allowed =
+        let none : o.key ≡ None = none_open t.held.key_allowed t.rest o.key o.here.line_here allowed (ap is_empty e) o.here.line_is in
+        dash_outside text more t (subst (λ k. ArrivesBy text t [] (k ∷ []) []) none o.here) o.flow_is (o.keys_are ∙ ap (λ k. k ∷ []) none) e gap allowed deep
+    by (inr i) out allowed = absurd (cc (out, ap (λ fs. not (is_empty fs)) i.flow_is))

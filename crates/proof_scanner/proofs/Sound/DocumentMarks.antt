@@ -1,0 +1,254 @@
+-- The functions of the model that read document markers and directives keep what holds where they begin.
+use Rattle.std.proofs.Common.{◌≡◌, ℕ, List, [], ◌∷◌, ◌++◌, Bool, true, false, not, ◌&&◌, ◌||◌, ◌==◌, if◌then◌else◌, take, drop, zero, suc, None, Some, Result, Ok, refl, ap, sym, ◌∙◌, subst}
+use Rattle.std.proofs.lemmas.Bool.{and_parts, eqb-true}
+use Rattle.defs_text.specs.Classes.{is_break, is_at_gap}
+use Rattle.defs_text.specs.Breaks.{split, split_by, is_before_line_feed, has_no_break}
+use Rattle.defs_text.specs.Position.{Position, position_after}
+use Rattle.defs_text.specs.Text.{is_empty, has_no_nul}
+use Rattle.defs_text.specs.FlowScalar.{begins_with}
+use Rattle.defs_text.specs.Directives.{Directive, version, tag_declaration, reserved, directive_of}
+use Rattle.yaml_chars.specs.Class.{is_breakz}
+use Rattle.yaml_tokens.specs.declared.problem.Fault.{Fault}
+use Rattle.defs_token.specs.Token.{Tok}
+use Rattle.defs_token.specs.Piece.{IsPiece}
+use Rattle.defs_token.specs.Step.{previous_by, another, directive as after_directive, has_break, blanks_and_comment, past_blanks_and_comment}
+use Rattle.defs_token.specs.Indentation.{least_column, has_tab_within, last_line, begins_line, is_indented_by_spaces}
+use Rattle.defs_token.specs.Following.{line_is_done, may_precede}
+use Rattle.defs_token.specs.Key.{without_break, begins_free_line}
+use Rattle.defs_token.specs.FlowEntry.{is_renewed}
+use Rattle.defs_token.specs.Tokens.{past_line_rest}
+use Rattle.model_scanner.specs.Machine as machine
+use Rattle.model_scanner.specs.Machine.{past}
+use Rattle.model_scanner.specs.Directive.{directive}
+use Rattle.model_scanner.specs.State.{Held, ScannerState, peek, push, on_held, skip_indicator}
+use Rattle.model_scanner.specs.Keys.{is_required, top_key}
+use Rattle.model_scanner.specs.Document.{begin_line, fetch_directive, fetch_document_marker, check_document_end, fetch_document_end}
+use Rattle.model_scanner.proofs.Holds.{Holds, went, refused, chained, tried, either, read}
+use Rattle.proof_lexers.specs.DirectiveEnds.{token_of, ends_line, first_break, next_line, after_line, DirectiveEndsAs, reads, refuses}
+use Rattle.proof_lexers.proofs.Directives.Lines.{directives_end}
+use Rattle.proof_lexers.proofs.Separation.Positions.{position_append}
+use Rattle.proof_scanner.proofs.Cut.Documents.{three_past}
+use Rattle.proof_scanner.proofs.Cut.Pieces.Directives.{break_cut, break_is_separation, line_end_there, piece_of, percent_in_line}
+use Rattle.proof_scanner.specs.Arrives.{Arrives}
+use Rattle.proof_scanner.specs.StandsInRow.{HasFirst, IsReadOn, Stands}
+use Rattle.proof_scanner.proofs.Sound.Arrivals.{clean_after}
+use Rattle.proof_scanner.proofs.Sound.Blanks.{same_in_line, line_rest_in_line, line_rest_cut, line_rest_fills, past_rest, rest_skipped}
+use Rattle.proof_scanner.proofs.Sound.DocumentLines as lines
+use Rattle.proof_scanner.proofs.Sound.DocumentLines.{IsDocumentToken, IsRead, begun_from, line_begun, Begins, begins}
+use Rattle.proof_scanner.proofs.Sound.Indicated.{none_indents, no_break_alike}
+use Rattle.proof_scanner.proofs.Sound.QuotedEnds.{is_done, at_end_of}
+
+and_no : (b : Bool) → (b && false) ≡ false
+and_no true = refl
+and_no false = refl
+
+-- ---- `---`
+
+start_token : IsDocumentToken Tok.document_start
+start_token = record { act = refl; begun = refl; shown = λ s p n. refl; lines = λ c p. refl; awaits_inside = λ bs b n. refl; awaits_outside = λ bs b n. and_no b; before = refl }
+
+abbrev pub start_read : (more : List ℕ) → Position → lines.Read
+start_read more p = record { tok = Tok.document_start; piece = 45 ∷ 45 ∷ 45 ∷ []; gap = []; rest = more; end = past (past (past p)); leading = false }
+
+pub start_is_read : (t : ScannerState) (more : List ℕ) (p : Position) → p ≡ t.held.position → t.rest ≡ 45 ∷ 45 ∷ 45 ∷ more → is_at_gap more ≡ true → t.held.position.col ≡ 0 → IsRead t (start_read more p)
+unfolding is_break
+start_is_read t more p same e gap col = record {
+  token = start_token;
+  at_margin = col;
+  cut = e;
+  is_solid = refl;
+  in_line = refl;
+  is_filled = refl;
+  end_is = ap (λ q. past (past (past q))) same ∙ three_past t.held.position 45 more refl;
+  is_piece = λ a column closed. ((refl, column, gap, closed), refl);
+  precedes = λ fl bs. refl;
+  no_tabs = λ bs b. none_indents another bs b [] refl;
+  leads = λ some. refl;
+  read_on = λ q. tt;
+  not_free = refl;
+  not_renewed = refl;
+}
+
+-- `---`
+pub document_start_keeps : (text more : List ℕ) (t : ScannerState) → Arrives text t → t.rest ≡ 45 ∷ 45 ∷ 45 ∷ more → is_at_gap more ≡ true → t.held.position.col ≡ 0 → Holds (Stands text) (fetch_document_marker Tok.document_start t)
+unfolding fetch_document_marker
+document_start_keeps text more t a e gap col =
+    let b : Begins text t = begins text t (ap is_empty e) a in
+    chained {P = λ u. (is_required (top_key b.held.keys) ≡ false) × (u ≡ record t { held = begun_from b.held })} (tried t (begin_line t.held) (line_begun t.held b.held b.rolled) (λ h d. (d.0, ap (λ y. record t { held = y }) d.1))) (λ u d.
+    went (subst (λ y. Stands text (on_held (push t.held.position Tok.document_start) (skip_indicator (skip_indicator (skip_indicator y))))) (sym d.1)
+    (subst (λ r. Stands text (on_held (push t.held.position Tok.document_start) (skip_indicator (skip_indicator (skip_indicator (record { rest = r; held = begun_from b.held })))))) (sym e)
+    (b.stands (start_read more b.held.position) (start_is_read t more b.held.position b.same_position e gap col) d.0))))
+
+-- ---- `...`
+
+end_token : IsDocumentToken Tok.document_end
+end_token = record { act = refl; begun = refl; shown = λ s p n. refl; lines = λ c p. refl; awaits_inside = λ bs b n. refl; awaits_outside = λ bs b n. and_no b; before = refl }
+
+abbrev pub end_read : (more : List ℕ) → Position → lines.Read
+end_read more p = record { tok = Tok.document_end; piece = 46 ∷ 46 ∷ 46 ∷ []; gap = blanks_and_comment more; rest = past_blanks_and_comment more; end = past_line_rest (past (past (past p))) more; leading = false }
+
+pub end_is_read : (t : ScannerState) (more : List ℕ) (p : Position) → p ≡ t.held.position → t.rest ≡ 46 ∷ 46 ∷ 46 ∷ more → is_at_gap more ≡ true → t.held.position.col ≡ 0 → line_is_done (blanks_and_comment more ++ past_blanks_and_comment more) ≡ true → IsRead t (end_read more p)
+unfolding is_break
+end_is_read t more p same e gap col done =
+    let g : List ℕ = blanks_and_comment more in
+    let r : List ℕ = past_blanks_and_comment more in
+    let quiet : has_break g ≡ false = ap not (line_rest_in_line more) in
+    record {
+      token = end_token;
+      at_margin = col;
+      cut = e ∙ ap (λ l. 46 ∷ 46 ∷ 46 ∷ l) (line_rest_cut more);
+      is_solid = refl;
+      in_line = refl;
+      is_filled = line_rest_fills more;
+      end_is = ap (λ q. past_line_rest (past (past (past q))) more) same ∙ (ap (λ q. position_after q g []) (three_past t.held.position 46 (g ++ r) refl) ∙ same_in_line (position_after t.held.position (46 ∷ 46 ∷ 46 ∷ []) (g ++ r)) g [] r (line_rest_in_line more));
+      is_piece = λ a column closed. ((refl, column, subst (λ l. is_at_gap l ≡ true) (line_rest_cut more) gap, closed), refl);
+      precedes = λ fl bs. done;
+      no_tabs = λ bs b. none_indents another bs b g quiet;
+      leads = λ some. sym quiet;
+      read_on = λ q. tt;
+      not_free = quiet;
+      not_renewed = refl;
+    }
+
+done_there : (more : List ℕ) → has_no_nul more ≡ true → begins_with 35 more ≡ false → is_breakz (peek (past_blanks_and_comment more)) ≡ true → line_is_done (blanks_and_comment more ++ past_blanks_and_comment more) ≡ true
+done_there more clean hash ends =
+    let g : List ℕ = blanks_and_comment more in
+    let r : List ℕ = past_blanks_and_comment more in
+    is_done g r (line_rest_fills more) (no_break_alike g (line_rest_in_line more)) (at_end_of r ends) (clean_after g r (subst (λ l. has_no_nul l ≡ true) (line_rest_cut more) clean)) (subst (λ l. begins_with 35 l ≡ false) (line_rest_cut more) hash)
+
+-- the state after the marker
+abbrev pub marked : ScannerState → Held → (rest : List ℕ) → ScannerState
+marked t h r = on_held (push t.held.position Tok.document_end) (skip_indicator (skip_indicator (skip_indicator (record { rest = r; held = begun_from h }))))
+
+-- `...`, after which the line holds no more
+pub document_end_keeps : (text more : List ℕ) (t : ScannerState) → Arrives text t → t.rest ≡ 46 ∷ 46 ∷ 46 ∷ more → is_at_gap more ≡ true → t.held.position.col ≡ 0 → Holds (Stands text) (fetch_document_end t)
+unfolding fetch_document_end fetch_document_marker check_document_end
+document_end_keeps text more t a e gap col =
+    let b : Begins text t = begins text t (ap is_empty e) a in
+    let clean : has_no_nul more ≡ true = clean_after (46 ∷ 46 ∷ 46 ∷ []) more (subst (λ l. has_no_nul l ≡ true) e a.is_clean) in
+    chained {P = λ u. (is_required (top_key b.held.keys) ≡ false) × (u ≡ marked t b.held (46 ∷ 46 ∷ 46 ∷ more))}
+    (chained {P = λ u. (is_required (top_key b.held.keys) ≡ false) × (u ≡ record t { held = begun_from b.held })} (tried t (begin_line t.held) (line_begun t.held b.held b.rolled) (λ h d. (d.0, ap (λ y. record t { held = y }) d.1))) (λ u d.
+    went (d.0, ap (λ y. on_held (push t.held.position Tok.document_end) (skip_indicator (skip_indicator (skip_indicator y)))) d.1 ∙ ap (marked t b.held) e)))
+    (λ u d. chained (rest_skipped u) (λ v s. either (is_breakz (peek v.rest)) (λ yes. went (
+    let is : v ≡ past_rest (marked t b.held (46 ∷ 46 ∷ 46 ∷ more)) = s.0 ∙ ap past_rest d.1 in
+    let ends : is_breakz (peek (past_blanks_and_comment more)) ≡ true = ap (λ y. is_breakz (peek y.rest)) (sym is) ∙ yes in
+    let hash : begins_with 35 more ≡ false = ap (λ y. begins_with 35 y.rest) (sym d.1) ∙ s.1 in
+    subst (Stands text) (sym is) (b.stands (end_read more b.held.position) (end_is_read t more b.held.position b.same_position e gap col (done_there more clean hash ends)) d.0)
+    )) (λ no. refused)))
+
+-- ---- directives
+
+two_break : last_line (13 ∷ 10 ∷ []) ≡ []
+unfolding is_break
+two_break = refl
+
+-- after the break after a directive the line is empty
+last_of_break : (next : List ℕ) → ends_line next ≡ true → last_line (first_break next) ≡ []
+last_of_break [] h = refl
+last_of_break (c ∷ r) h = by (is_before_line_feed c r) r refl
+  where
+    one : last_line (c ∷ []) ≡ []
+    one = ap (λ b. (split_by b false c (split [])).last) h
+
+    by : (b : Bool) (r : List ℕ) → is_before_line_feed c r ≡ b → last_line (if b then c ∷ take 1 r else c ∷ []) ≡ []
+    by false r e = one
+    by true [] e = one
+    by true (d ∷ r) e =
+        let q = and_parts (c == 13) (d == 10) e in
+        let cr : c ≡ 13 = eqb-true c 13 q.0 in
+        let feed : d ≡ 10 = eqb-true d 10 q.1 in
+        rw (cr, feed) two_break
+
+no_tab_there : (n : ℕ) → has_tab_within n [] ≡ false
+no_tab_there zero = refl
+no_tab_there (suc n) = refl
+
+break_has : (next : List ℕ) → ends_line next ≡ true → is_empty (next_line next) ≡ false → true ≡ has_break (first_break next)
+break_has [] h some = absurd (cc some)
+break_has (c ∷ r) h some = by (is_before_line_feed c r)
+  where
+    by : (b : Bool) → true ≡ has_break (if b then c ∷ take 1 r else c ∷ [])
+    by true = rw h refl
+    by false = rw h refl
+
+-- its own break does not let a key begin
+no_second : (next : List ℕ) → begins_free_line after_directive (first_break next) ≡ false
+unfolding is_break
+no_second [] = refl
+no_second (c ∷ r) = by (is_before_line_feed c r) r refl
+  where
+    by : (b : Bool) (r : List ℕ) → is_before_line_feed c r ≡ b → has_break (without_break (if b then c ∷ take 1 r else c ∷ [])) ≡ false
+    by false r e = refl
+    by true [] e = refl
+    by true (d ∷ r) e = rw e refl
+
+first_whole : (next : List ℕ) → is_empty (next_line next) ≡ false → HasFirst (first_break next) (next_line next)
+first_whole [] some = absurd (cc some)
+first_whole (c ∷ r) some = by (is_before_line_feed c r) r refl
+  where
+    by : (b : Bool) (r : List ℕ) → is_before_line_feed c r ≡ b → HasFirst (if b then c ∷ take 1 r else c ∷ []) (if b then drop 1 r else r)
+    by false r e = e
+    by true [] e = absurd (cc e)
+    by true (d ∷ r) e = refl
+
+directive_token : (d : Directive) → IsDocumentToken (token_of d)
+directive_token (version major minor) = record { act = refl; begun = refl; shown = λ s p n. refl; lines = λ c p. refl; awaits_inside = λ bs b n. refl; awaits_outside = λ bs b n. and_no b; before = refl }
+directive_token (tag_declaration handle prefix) = record { act = refl; begun = refl; shown = λ s p n. refl; lines = λ c p. refl; awaits_inside = λ bs b n. refl; awaits_outside = λ bs b n. and_no b; before = refl }
+directive_token reserved = record { act = refl; begun = refl; shown = λ s p n. refl; lines = λ c p. refl; awaits_inside = λ bs b n. refl; awaits_outside = λ bs b n. and_no b; before = refl }
+
+directive_before : (d : Directive) → previous_by (token_of d) ≡ after_directive
+directive_before (version major minor) = refl
+directive_before (tag_declaration handle prefix) = refl
+directive_before reserved = refl
+
+directive_precedes : (d : Directive) (fl : Bool) (bs piece next : List ℕ) → may_precede fl bs (token_of d) piece next ≡ true
+directive_precedes (version major minor) fl bs piece next = refl
+directive_precedes (tag_declaration handle prefix) fl bs piece next = refl
+directive_precedes reserved fl bs piece next = refl
+
+abbrev pub directive_read : (line next : List ℕ) → Directive → Position → lines.Read
+directive_read line next d p = record { tok = token_of d; piece = 37 ∷ line; gap = first_break next; rest = next_line next; end = position_after p ((37 ∷ line) ++ first_break next) (next_line next); leading = true }
+
+pub directive_is_read : (t : ScannerState) (line next : List ℕ) (d : Directive) → t.rest ≡ 37 ∷ (line ++ next) → has_no_break line ≡ true → ends_line next ≡ true → directive_of (37 ∷ line) ≡ Some d → t.held.position.col ≡ 0 → IsRead t (directive_read line next d t.held.position)
+directive_is_read t line next d e no_break ends is col = record {
+  token = directive_token d;
+  at_margin = col;
+  cut = e ∙ ap (λ l. (37 ∷ line) ++ l) (break_cut next);
+  is_solid = refl;
+  in_line = ap not (percent_in_line line no_break);
+  is_filled = break_is_separation next ends;
+  end_is = position_append t.held.position (37 ∷ line) (first_break next) (next_line next);
+  is_piece = λ a column closed. subst (λ l. IsPiece a (37 ∷ line) l None a.position (token_of d)) (break_cut next) (piece_of a (37 ∷ line) next d None (is, percent_in_line line no_break, column, line_end_there next ends, closed));
+  precedes = λ fl bs. directive_precedes d fl bs (37 ∷ line) (first_break next ++ next_line next);
+  no_tabs = λ bs b. subst (λ x. is_indented_by_spaces x bs b (first_break next) ≡ true) (sym (directive_before d))
+      (ap (λ l. not (has_break (first_break next)) || not (has_tab_within (least_column bs (b || false)) l)) (last_of_break next ends) ∙ (ap (λ x. not (has_break (first_break next)) || not x) (no_tab_there (least_column bs (b || false))) ∙ or_yes (not (has_break (first_break next)))));
+  leads = λ some. subst (λ x. true ≡ begins_line x (first_break next)) (sym (directive_before d)) (break_has next ends some);
+  read_on = λ q. subst (λ x. IsReadOn x q (first_break next) (next_line next)) (sym (directive_before d)) (λ some. first_whole next some);
+  not_free = subst (λ x. begins_free_line x (first_break next) ≡ false) (sym (directive_before d)) (no_second next);
+  not_renewed = subst (λ x. is_renewed x (first_break next) ≡ false) (sym (directive_before d)) refl;
+}
+  where
+    or_yes : (b : Bool) → (b || true) ≡ true
+    or_yes true = refl
+    or_yes false = refl
+
+-- the scanner after a directive
+abbrev pub after_it : ScannerState → machine.Read Tok → Held → ScannerState
+after_it t x h = record { rest = x.rest; held = record h { position = x.position; leading = true; tokens = (push t.held.position x.value h).tokens } }
+
+-- `%`
+pub directive_keeps : (text more : List ℕ) (t : ScannerState) → Arrives text t → t.rest ≡ 37 ∷ more → t.held.position.col ≡ 0 → Holds (Stands text) (fetch_directive t)
+unfolding fetch_directive
+directive_keeps text more t a e col =
+    let b : Begins text t = begins text t (ap is_empty e) a in
+    chained {P = λ u. (is_required (top_key b.held.keys) ≡ false) × (u ≡ record t { held = begun_from b.held })} (tried t (begin_line t.held) (line_begun t.held b.held b.rolled) (λ h d. (d.0, ap (λ y. record t { held = y }) d.1))) (λ u d.
+    read u.held (directive u.rest u.held.position) _ (λ x is. went (
+    let at_place : directive (37 ∷ more) t.held.position ≡ Ok x = ap (λ p. directive (37 ∷ more) p) (sym b.same_position) ∙ (ap (λ r. directive r b.held.position) (sym e) ∙ (ap (λ y. directive y.rest y.held.position) (sym d.1) ∙ is)) in
+    subst (λ y. Stands text (after_it t x y.held)) (sym d.1) (by b d.0 x (directive (37 ∷ more) t.held.position) at_place (directives_end more t.held.position)))))
+  where
+    by : (b : Begins text t) → is_required (top_key b.held.keys) ≡ false → (x : machine.Read Tok) (y : Result (machine.Read Tok) Fault) → y ≡ Ok x → DirectiveEndsAs t.held.position more y → Stands text (after_it t x (begun_from b.held))
+    by b none x y i (refuses line next f cut no_break ends is why j) = absurd (cc (i, j))
+    by b none x y i (reads line next d cut no_break ends is j) =
+        let same : after_line t.held.position (37 ∷ line) next (token_of d) ≡ x = cc (i, j) in
+        subst (λ z. Stands text (after_it t z (begun_from b.held))) same
+        (b.stands (directive_read line next d t.held.position) (directive_is_read t line next d (e ∙ ap (λ l. 37 ∷ l) cut) no_break ends is col) none)

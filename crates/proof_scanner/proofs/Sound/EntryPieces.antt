@@ -1,0 +1,199 @@
+-- A piece in flow with which its entry goes on, and after which no key of the entry is open: what holds where it begins holds between two fetches after it.
+use Rattle.std.proofs.Common.{◌≡◌, ℕ, suc, ◌≤◌, List, [], ◌∷◌, ◌++◌, Bool, true, false, nat_le, length, Option, Some, None, ap, sym, ◌∙◌, subst, arith, refl}
+use Rattle.defs_text.specs.Position.{Position, position_after}
+use Rattle.defs_text.specs.Text.{is_empty, has_no_nul}
+use Rattle.defs_token.specs.Account.{other, before_past}
+use Rattle.defs_token.specs.Token.{Tok, Token}
+use Rattle.defs_token.specs.Separation.{is_separation}
+use Rattle.defs_token.specs.Piece.{IsPiece}
+use Rattle.defs_token.specs.Step.{Step, act_of, previous_by, has_break}
+use Rattle.defs_token.specs.Indentation.{least_column, awaits_past}
+use Rattle.defs_token.specs.Key.{Line}
+use Rattle.defs_token.specs.FlowEntry.{Entry, takes_pair, begun_by, is_renewed, entries_past}
+use Rattle.defs_token.specs.RowAccount.{Site, Account, before_by, site_in, site_past, may_stand, seen}
+use Rattle.defs_token.specs.Tokens.{put, shown_position, pair_position, colon_of, begun_inside}
+use Rattle.model_scanner.specs.declared.level.FlowLevel.{FlowLevel}
+use Rattle.model_scanner.specs.State.{Key, ScannerState}
+use Rattle.proof_scanner.specs.Order.{NotBefore}
+use Rattle.proof_scanner.specs.Stands.{IsAdjacent}
+use Rattle.proof_scanner.proofs.Cut.Positions.{index_after, not_before_after, not_before_then}
+use Rattle.proof_scanner.proofs.Cut.Nodes.{IsDeep, adjacent_other}
+use Rattle.proof_scanner.specs.Choices.{outside_key, chosen, MayChoose, IsCarriedOn}
+use Rattle.proof_scanner.specs.Completes.{tokens_up_to, Completes}
+use Rattle.proof_scanner.specs.StandsInRow.{columns, has_open_level, AreLevels, HasNoTabs, IsLeading, IsReadOn, HasHadHere, IsEntryOf, AreNumbered, Stands}
+use Rattle.proof_scanner.proofs.Sound.Arrivals.{clean_after, some_rest, deep_enough, completes_at, carried_at}
+use Rattle.proof_scanner.proofs.Sound.Around.{line_taken, unbroken_around, one_around, may_around, open_around}
+use Rattle.proof_scanner.proofs.Sound.Inserts.{among}
+use Rattle.proof_scanner.proofs.Sound.NodeTokens.{past_step}
+use Rattle.proof_scanner.proofs.Sound.NodesInside.{not_keyed}
+use Rattle.proof_scanner.proofs.Sound.StepsInside.{Piece, IsHere, at, past, piece_completes, piece_carried}
+use Rattle.proof_scanner.proofs.Sound.Sides.{with_entries, ArrivesBy, StandsAt, stands_at}
+use Rattle.defs_token.specs.Beginning.{BeginsButForKey}
+
+-- where a piece begins deep enough, the least column is not right of it
+pub low_enough : (text : List ℕ) (t : ScannerState) (f : FlowLevel) (fs : List FlowLevel) (ks : List (Option Key)) (es : List Entry) (a : ArrivesBy text t (f ∷ fs) ks es) → IsDeep t.held → nat_le (least_column a.site.blocks a.site.awaits) t.held.position.col ≡ true
+low_enough text t f fs ks es a deep =
+    ap (λ bs. nat_le (least_column bs a.site.awaits) t.held.position.col) a.blocks_are ∙
+    (ap (λ b. nat_le (least_column (columns t.held.indent t.held.indents) b) t.held.position.col) a.awaits_is ∙ deep_enough t.held.position.col t.held.indent t.held.indents a.are_levels deep)
+
+-- the site after a piece at a site
+abbrev pub site_inside : Site → (piece : List ℕ) → Tok → (next : List ℕ) → Site
+site_inside x piece tok next = site_past true x piece tok next x.blocks
+
+-- the account after a piece that stands here, from the line and the entries after it
+abbrev pub base_inside : Tok → (piece : List ℕ) → (here : Position) → Site → (next : List ℕ) → Line → List Entry → Account
+base_inside tok piece here s next l es = with_entries (site_inside (site_in true (act_of tok) here s) piece tok next) l es
+
+-- What was read from one state to another: a piece at a site, and a separation after it; and what the scanner holds then, with the innermost flow level and entry.
+pub record ReadInside (text : List ℕ) (t u : ScannerState) (f g : FlowLevel) (fs : List FlowLevel) (k : Option Key) (ks : List (Option Key)) (e e2 : Entry) (es : List Entry) (a : ArrivesBy text t (f ∷ fs) (k ∷ ks) (e ∷ es)) (piece next : List ℕ) (tok : Tok) : Type 0 where
+  pub is_solid : is_empty piece ≡ false
+  pub cut : t.rest ≡ piece ++ next
+  pub separation : List ℕ
+  pub is_rest : next ≡ separation ++ u.rest
+  pub is_filled : is_separation false separation u.rest ≡ true
+  pub position_is : u.held.position ≡ position_after (position_after t.held.position piece next) separation u.rest
+  pub columns_are : columns t.held.indent t.held.indents ≡ columns u.held.indent u.held.indents
+  pub awaits_is : awaits_past true tok a.site.blocks a.site.awaits next ≡ has_open_level u.held.indents
+  pub are_levels : AreLevels u.held.indent u.held.indents
+  pub read_on : IsReadOn (previous_by tok) (position_after t.held.position piece next) separation u.rest
+  pub has_no_tabs : HasNoTabs (site_inside (site_in true (act_of tok) t.held.position a.site) piece tok next) separation u.rest
+  pub is_leading : IsLeading u.held.leading (site_inside (site_in true (act_of tok) t.held.position a.site) piece tok next) separation u.rest
+  pub entry_is : IsEntryOf g None e2
+  pub has_had : HasHadHere u.held.key_allowed (is_renewed (previous_by tok) separation) None e2.had
+  pub flow_is : u.held.flow ≡ g ∷ fs
+  pub keys_are : u.held.keys ≡ None ∷ ks
+  pub are_numbered : AreNumbered (length u.held.tokens) (None ∷ ks)
+  pub before_is : before_by (previous_by tok) ≡ other
+  pub unchanged : (u.held.adjacent_value_at ≡ t.held.adjacent_value_at) × (u.held.started ≡ t.held.started) × (u.held.ended ≡ t.held.ended)
+
+-- later in the text
+pub later_after : (p : Position) (piece next separation rest : List ℕ) → NotBefore p (position_after (position_after p piece next) separation rest)
+later_after p piece next separation rest = not_before_then p (position_after p piece next) (position_after (position_after p piece next) separation rest) (not_before_after p piece next) (not_before_after (position_after p piece next) separation rest)
+
+-- If each choice after it is one of a row, what holds between two fetches holds after it, with this account.
+pub read_inside_at : (text : List ℕ) (t u : ScannerState) (f g : FlowLevel) (fs : List FlowLevel) (k : Option Key) (ks : List (Option Key)) (e e2 : Entry) (es : List Entry) (a : ArrivesBy text t (f ∷ fs) (k ∷ ks) (e ∷ es)) (piece next : List ℕ) (tok : Tok) →
+    (r : ReadInside text t u f g fs k ks e e2 es a piece next tok) →
+    ((c : Bool) (cs : List Bool) → MayChoose c (outside_key es ks) u.held.position u.rest →
+    let b : Account = with_entries (site_inside (site_in true (act_of tok) t.held.position a.site) piece tok next) a.line (e2 ∷ es) in Completes text next (chosen c cs (None ∷ ks) b) (tokens_up_to (chosen c cs (None ∷ ks) b) (None ∷ ks) u.held.tokens)) →
+    IsCarriedOn text next u.rest (None ∷ ks) (with_entries (site_inside (site_in true (act_of tok) t.held.position a.site) piece tok next) a.line (e2 ∷ es)) →
+    StandsAt text (base_inside tok piece t.held.position a.site next a.line (e2 ∷ es)) r.separation u
+read_inside_at text t u f g fs k ks e e2 es a piece next tok r rows carried =
+    let x : Site = site_in true (act_of tok) t.held.position a.site in
+    let after : Site = site_inside x piece tok next in
+    let i = index_after (position_after t.held.position piece next) r.separation u.rest in
+    let j = index_after t.held.position piece next in
+    let there : u.held.position.index ≡ (position_after (position_after t.held.position piece next) r.separation u.rest).index = ap (λ p. p.index) r.position_is in
+    let later : NotBefore t.held.position u.held.position = subst (λ p. NotBefore t.held.position p) (sym r.position_is) (later_after t.held.position piece next r.separation u.rest) in
+    let some : is_empty t.rest ≡ false = some_rest t.rest piece next r.cut r.is_solid in
+    let long : 1 ≤ length piece = not_none piece r.is_solid in
+    let was = a.was_adjacent in
+    let same = r.unchanged.0 in
+    stands_at text u (g ∷ fs) (None ∷ ks) (e2 ∷ es) r.flow_is r.keys_are (record {
+      site = after;
+      line = a.line;
+      separation = r.separation;
+      is_clean = clean_after r.separation u.rest (subst (λ x. has_no_nul x ≡ true) r.is_rest (clean_after piece next (subst (λ x. has_no_nul x ≡ true) r.cut a.is_clean)));
+      is_filled = r.is_filled;
+      position_is = r.position_is;
+      blocks_are = a.blocks_are ∙ r.columns_are;
+      awaits_is = r.awaits_is;
+      are_levels = r.are_levels;
+      has_no_tabs = r.has_no_tabs;
+      is_leading = r.is_leading;
+      read_on = r.read_on;
+      one_each = a.one_each;
+      are_entries = (r.entry_is, r.has_had, a.are_entries.2);
+      line_is = line_taken text t f fs k ks e es a;
+      is_open = open_around text t f fs k ks e es a some u.held.position u.rest later (position_after t.held.position piece next) (not_before_after t.held.position piece next);
+      no_key = a.no_key;
+      are_numbered = r.are_numbered;
+      was_adjacent = λ _. subst (λ b. IsAdjacent (before_past b r.separation) u.held.position u.held.adjacent_value_at u.rest) (sym r.before_is) (adjacent_other u.held.position u.held.adjacent_value_at u.rest (omega (arith, i, j, there, long, was, same)));
+      adjacent_before = omega (arith, i, j, there, was, same);
+      started = r.unchanged.1 ∙ a.started;
+      going = r.unchanged.2 ∙ a.going;
+      carries = λ cs key own must inside_flow more. subst (λ l. BeginsButForKey text l key.position (chosen false cs (None ∷ ks) (with_entries after a.line (e2 ∷ es)))) r.is_rest (carried cs key own must inside_flow more);
+      completes = λ c cs may. subst (λ l. let b : Account = with_entries after a.line (e2 ∷ es) in Completes text l (chosen c cs (None ∷ ks) b) (tokens_up_to (chosen c cs (None ∷ ks) b) (None ∷ ks) u.held.tokens)) r.is_rest (rows c cs may);
+    })
+  where
+    not_none : (l : List ℕ) → is_empty l ≡ false → 1 ≤ length l
+    not_none [] h = absurd (cc h)
+    not_none (c ∷ l) h = omega arith
+
+pub read_inside : (text : List ℕ) (t u : ScannerState) (f g : FlowLevel) (fs : List FlowLevel) (k : Option Key) (ks : List (Option Key)) (e e2 : Entry) (es : List Entry) (a : ArrivesBy text t (f ∷ fs) (k ∷ ks) (e ∷ es)) (piece next : List ℕ) (tok : Tok) →
+    ReadInside text t u f g fs k ks e e2 es a piece next tok →
+    ((c : Bool) (cs : List Bool) → MayChoose c (outside_key es ks) u.held.position u.rest →
+    let b : Account = with_entries (site_inside (site_in true (act_of tok) t.held.position a.site) piece tok next) a.line (e2 ∷ es) in Completes text next (chosen c cs (None ∷ ks) b) (tokens_up_to (chosen c cs (None ∷ ks) b) (None ∷ ks) u.held.tokens)) →
+    IsCarriedOn text next u.rest (None ∷ ks) (with_entries (site_inside (site_in true (act_of tok) t.held.position a.site) piece tok next) a.line (e2 ∷ es)) →
+    Stands text u
+read_inside text t u f g fs k ks e e2 es a piece next tok r rows carried = (read_inside_at text t u f g fs k ks e e2 es a piece next tok r rows carried).stands
+
+-- ---- the rows: a piece before which no key of the entry waits
+
+-- the tokens of the step: the start of a single pair, and the token that the piece shows
+abbrev pub tokens_inside : Site → (piece : List ℕ) → Tok → (next : List ℕ) → Entry → List Token
+tokens_inside x piece tok next e =
+    let own : Position = pair_position (position_after x.position piece next) next in
+    begun_inside (takes_pair e.kind e.pair) e.pair x.position own own (act_of tok) false e.had ++ (put (shown_position x piece tok next) tok ∷ [])
+
+-- What is to be known of such a piece at a site.
+pub record GoesInside (text : List ℕ) (t u : ScannerState) (f : FlowLevel) (fs : List FlowLevel) (k : Option Key) (ks : List (Option Key)) (e e2 : Entry) (es : List Entry) (a : ArrivesBy text t (f ∷ fs) (k ∷ ks) (e ∷ es)) (piece next : List ℕ) (tok : Tok) (x : Site) : Type 0 where
+  pub in_line : has_break piece ≡ false
+  pub begun : begun_by tok ≡ []
+  pub is_piece : IsPiece (seen (with_entries a.site a.line (e ∷ es)) x a.separation) piece next None (shown_position x piece tok next) tok
+  pub stands : may_stand true a.site x a.separation piece tok next ≡ true
+  pub entry_past : (xs : List Entry) → entries_past x.position (is_renewed a.site.before a.separation) (act_of tok) [] false e xs ≡ Some (e2 ∷ xs)
+  pub colons : (n : ℕ) (p : Position) (ws : List Step) (last : List ℕ) →
+      let w : Step = record { separation = a.separation; piece = piece; shown = tok; key = false } in colon_of (suc n) p (w ∷ ws) last ≡ colon_of (suc n) (past_step p w ws last) ws last
+  pub tokens_are : u.held.tokens ≡ a.tokens ++ tokens_inside x piece tok next e
+
+pub goes_inside_at : (text : List ℕ) (t u : ScannerState) (f g : FlowLevel) (fs : List FlowLevel) (k : Option Key) (ks : List (Option Key)) (e e2 : Entry) (es : List Entry) (a : ArrivesBy text t (f ∷ fs) (k ∷ ks) (e ∷ es)) (piece next : List ℕ) (tok : Tok) →
+    (r : ReadInside text t u f g fs k ks e e2 es a piece next tok) → GoesInside text t u f fs k ks e e2 es a piece next tok (site_in true (act_of tok) t.held.position a.site) →
+    StandsAt text (base_inside tok piece t.held.position a.site next a.line (e2 ∷ es)) r.separation u
+goes_inside_at text t u f g fs k ks e e2 es a piece next tok r n = read_inside_at text t u f g fs k ks e e2 es a piece next tok r (λ c cs may.
+    subst (λ p. let b : Account = with_entries (site_inside (site_in true (act_of tok) p a.site) piece tok next) a.line (e2 ∷ es) in Completes text next (chosen c cs (None ∷ ks) b) (tokens_up_to (chosen c cs (None ∷ ks) b) (None ∷ ks) u.held.tokens)) (sym place)
+    (rows (subst (λ p. GoesInside text t u f fs k ks e e2 es a piece next tok (site_in true (act_of tok) p a.site)) place n) c cs may))
+    (λ cs key own must inside_flow more. subst (λ p. BeginsButForKey text next key.position (chosen false cs (None ∷ ks) (with_entries (site_inside (site_in true (act_of tok) p a.site) piece tok next) a.line (e2 ∷ es)))) (sym place)
+    (piece_carried text key.position d (here (subst (λ p. GoesInside text t u f fs k ks e e2 es a piece next tok (site_in true (act_of tok) p a.site)) place n)) (line_taken text t f fs k ks e es a)
+    (λ bs. carried_at text t (f ∷ fs) (k ∷ ks) (e ∷ es) a (piece ++ next) r.cut key own must refl some bs) cs))
+  where
+    place : t.held.position ≡ position_after a.site.position a.separation (piece ++ next)
+    place = a.position_is ∙ ap (λ x. position_after a.site.position a.separation x) r.cut
+
+    some : is_empty t.rest ≡ false
+    some = some_rest t.rest piece next r.cut r.is_solid
+
+    later : NotBefore t.held.position u.held.position
+    later = subst (λ p. NotBefore t.held.position p) (sym r.position_is) (later_after t.held.position piece next r.separation u.rest)
+
+    d : Piece
+    d = record {
+      step = record { site = a.site; line = a.line; entry = e; around = es; separation = a.separation; piece = piece; next = next; tok = tok; open_key = k; outer_keys = ks; tokens = a.tokens; past = u.held.position; rest = u.rest };
+      entry_after = e2;
+    }
+
+    here : GoesInside text t u f fs k ks e e2 es a piece next tok (at d) → IsHere d
+    here m = record {
+      begun = m.begun;
+      is_filled = subst (λ x. is_separation false a.separation x ≡ true) r.cut a.is_filled;
+      is_solid = r.is_solid;
+      is_piece = m.is_piece;
+      stands = m.stands;
+      no_key = not_keyed t.held.key_allowed (is_renewed a.site.before a.separation) k e.had a.are_entries.1;
+      entry_is = m.entry_past;
+      colons = m.colons;
+      are_among = among (length a.tokens) (k ∷ ks) a.are_numbered;
+      unbroken = λ c may. unbroken_around text t f fs k ks e es a some u.held.position u.rest later c may;
+      one_line = λ c may. one_around text t f fs k ks e es a some u.held.position u.rest later piece (λ _ _. m.in_line) c may;
+      may_before = λ c may. subst (λ x. MayChoose c (outside_key es ks) x (piece ++ next)) place
+          (subst (λ x. MayChoose c (outside_key es ks) t.held.position x) r.cut (may_around text t f fs k ks e es a some u.held.position u.rest later c may));
+    }
+
+    rows : GoesInside text t u f fs k ks e e2 es a piece next tok (at d) → (c : Bool) (cs : List Bool) → MayChoose c (outside_key es ks) u.held.position u.rest →
+        let b : Account = with_entries (site_inside (at d) piece tok next) a.line (e2 ∷ es) in Completes text next (chosen c cs (None ∷ ks) b) (tokens_up_to (chosen c cs (None ∷ ks) b) (None ∷ ks) u.held.tokens)
+    rows m c cs may =
+        subst (λ ts. Completes text next (past d c cs) (tokens_up_to (past d c cs) (None ∷ ks) ts)) (sym m.tokens_are)
+        (piece_completes text d (here m) (λ b bs q. completes_at text t (f ∷ fs) (k ∷ ks) (e ∷ es) a (piece ++ next) (at d).position r.cut place b bs q) c cs may)
+
+pub goes_inside : (text : List ℕ) (t u : ScannerState) (f g : FlowLevel) (fs : List FlowLevel) (k : Option Key) (ks : List (Option Key)) (e e2 : Entry) (es : List Entry) (a : ArrivesBy text t (f ∷ fs) (k ∷ ks) (e ∷ es)) (piece next : List ℕ) (tok : Tok) →
+    ReadInside text t u f g fs k ks e e2 es a piece next tok → GoesInside text t u f fs k ks e e2 es a piece next tok (site_in true (act_of tok) t.held.position a.site) → Stands text u
+goes_inside text t u f g fs k ks e e2 es a piece next tok r n = (goes_inside_at text t u f g fs k ks e e2 es a piece next tok r n).stands

@@ -1,0 +1,110 @@
+-- The functions of the model that read commas and closing brackets keep what holds where they begin.
+use Rattle.std.proofs.Common.{◌≡◌, ℕ, List, [], ◌∷◌, Bool, true, false, ◌⊎◌, inl, inr, if◌then◌else◌, Option, Some, None, Ok, Err, refl, ap, sym, ◌∙◌, subst}
+use Rattle.defs_text.specs.Position.{Position}
+use Rattle.defs_text.specs.Text.{is_empty}
+use Rattle.yaml_tokens.specs.declared.problem.Fault.TheVariants.{At}
+use Rattle.yaml_tokens.specs.declared.problem.Problem.TheVariants as problem
+use Rattle.defs_token.specs.Token.{Tok}
+use Rattle.defs_text.specs.FlowScalar.{begins_with}
+use Rattle.defs_token.specs.Step.{blanks_and_comment}
+use Rattle.model_scanner.specs.declared.level.FlowLevel.{FlowLevel}
+use Rattle.model_scanner.specs.State.{Key, Held, ScannerState, push, pop, with_top, after, on_held}
+use Rattle.model_scanner.specs.Keys.{is_required, top_key, remove_implicit_key}
+use Rattle.model_scanner.specs.Flow.{adjacent_in_flow, ended_flow, end_flow, next_entry, end_entry, fetch_flow_collection_end, fetch_flow_entry}
+use Rattle.model_scanner.proofs.Holds.{Holds, went, refused, chained, tried}
+use Rattle.proof_scanner.proofs.Cut.FlowEnds.{higher_keys, ended_now, entry_now, ended_is, entry_is}
+use Rattle.proof_scanner.proofs.Cut.Nodes.{IsDeep}
+use Rattle.proof_scanner.specs.Arrives.{Arrives}
+use Rattle.proof_scanner.specs.Choices.{MayChoose}
+use Rattle.proof_scanner.specs.StandsInRow.{Stands}
+use Rattle.proof_scanner.proofs.Sound.Closers.{IsCloser, comma, stray_past, stray_base, stray_at}
+use Rattle.proof_scanner.proofs.Sound.ClosersInside.{adjacent_then, closed_inside}
+use Rattle.proof_scanner.proofs.Sound.Gone.{key_gone}
+use Rattle.proof_scanner.proofs.Sound.Indicated.{past_it, indicator_passed}
+use Rattle.proof_scanner.proofs.Sound.Sides.{ArrivesOutside, ArrivesInside, arrives_side, StandsAt}
+
+-- ---- what the model leaves
+
+-- the innermost key need not be one
+flow_over : (s : Held) → Holds (λ u. (is_required (top_key s.keys) ≡ false) × (u ≡ ended_now s.flow s)) (end_flow s)
+unfolding end_flow remove_implicit_key
+flow_over s = by (is_required (top_key s.keys)) refl
+  where
+    by : (b : Bool) → is_required (top_key s.keys) ≡ b → Holds (λ u. (is_required (top_key s.keys) ≡ false) × (u ≡ ended_now s.flow s)) (ended_flow (if b then Err (At problem.KeyExpected s.position) else Ok (record s { keys = with_top None s.keys })))
+    by true e = refused
+    by false e = went (e, ended_is s s.flow)
+
+entry_over : (s : Held) → Holds (λ u. (is_required (top_key s.keys) ≡ false) × (u ≡ entry_now s.flow s)) (end_entry s)
+unfolding end_entry remove_implicit_key
+entry_over s = by (is_required (top_key s.keys)) refl
+  where
+    by : (b : Bool) → is_required (top_key s.keys) ≡ b → Holds (λ u. (is_required (top_key s.keys) ≡ false) × (u ≡ entry_now s.flow s)) (next_entry (if b then Err (At problem.KeyExpected s.position) else Ok (record s { keys = with_top None s.keys })))
+    by true e = refused
+    by false e = went (e, entry_is s s.flow)
+
+-- so outside flow it may be none
+pub may_be_none : (k : Option Key) (ks : List (Option Key)) (keys : List (Option Key)) (p : Position) (rest : List ℕ) → keys ≡ k ∷ ks → is_required (top_key keys) ≡ false → MayChoose false k p rest
+may_be_none None ks keys p rest e h = tt
+may_be_none (Some x) ks keys p rest e h = sym (ap (λ l. is_required (top_key l)) e) ∙ h
+
+-- ---- what stands after either, with its account
+
+-- outside flow
+pub stray_outside : (text more : List ℕ) (closes : Bool) (tok : Tok) (c : ℕ) → IsCloser closes tok c → (t : ScannerState) (o : ArrivesOutside text t) → t.rest ≡ c ∷ more → begins_with 35 more ≡ false → is_required (top_key t.held.keys) ≡ false →
+    StandsAt text (stray_base closes tok c t.held.position o.here.site more) (blanks_and_comment more) (stray_past closes t tok more)
+unfolding key_gone
+stray_outside text more closes tok c k t o e hash free =
+    stray_at text more closes tok c k t (key_gone text t o.key o.here (ap is_empty e) (may_be_none o.key [] t.held.keys t.held.position t.rest o.keys_are free)) (ap (with_top None) o.keys_are) e hash
+
+-- ---- a comma
+
+abbrev pub after_comma : List FlowLevel → List (Option Key) → ScannerState → (more : List ℕ) → ScannerState
+after_comma fs ks t more = on_held (push t.held.position Tok.flow_entry) (past_it (record t { held = record (entry_now fs t.held) { keys = ks } }) more)
+
+comma_stands : (text more : List ℕ) (t : ScannerState) → t.rest ≡ 44 ∷ more → begins_with 35 more ≡ false → IsDeep t.held → Arrives text t → is_required (top_key t.held.keys) ≡ false → Stands text (after_comma t.held.flow (with_top None t.held.keys) t more)
+comma_stands text more t e hash deep a free = by (arrives_side text t a)
+  where
+    by : ArrivesOutside text t ⊎ ArrivesInside text t → Stands text (after_comma t.held.flow (with_top None t.held.keys) t more)
+    by (inl o) = subst (λ fs. Stands text (after_comma fs (with_top None t.held.keys) t more)) (sym o.flow_is) (stray_outside text more false Tok.flow_entry 44 comma t o e hash free).stands
+    by (inr i) =
+        subst (λ fs. Stands text (after_comma fs (with_top None t.held.keys) t more)) (sym i.flow_is)
+        (subst (λ ks. Stands text (after_comma (i.level ∷ i.levels) ks t more)) (sym (ap (with_top None) i.keys_are)) (closed_inside text more false Tok.flow_entry 44 comma t i e hash deep).stands)
+
+-- `,`
+pub comma_keeps : (text more : List ℕ) (t : ScannerState) → t.rest ≡ 44 ∷ more → IsDeep t.held → Arrives text t → Holds (Stands text) (fetch_flow_entry t)
+unfolding fetch_flow_entry
+comma_keeps text more t e deep a =
+    chained {P = λ u. (is_required (top_key t.held.keys) ≡ false) × (u ≡ record t { held = entry_now t.held.flow t.held })} (tried t (end_entry t.held) (entry_over t.held) (λ h d. (d.0, ap (λ y. record t { held = y }) d.1))) (λ u d.
+    chained (indicator_passed u more (ap (λ y. after y.rest) d.1 ∙ ap after e)) (λ v w.
+    went (subst (λ y. Stands text (on_held (push t.held.position Tok.flow_entry) y)) (sym (w.0 ∙ ap (λ y. past_it y more) d.1)) (comma_stands text more t e w.1 deep a d.0))))
+
+-- ---- a closing bracket
+
+pub adjacent_is : (s : Held) (fs : List FlowLevel) → adjacent_in_flow (record s { flow = fs }) ≡ record s { flow = fs; adjacent_value_at = adjacent_then true fs s.adjacent_value_at s.position.index }
+unfolding adjacent_in_flow
+adjacent_is s [] = refl
+adjacent_is s (f ∷ fs) = refl
+
+abbrev pub after_closing : Tok → List FlowLevel → List (Option Key) → ScannerState → (more : List ℕ) → ScannerState
+after_closing tok fs ks t more = on_held (λ s. push t.held.position tok (adjacent_in_flow s)) (past_it (record t { held = record (ended_now fs t.held) { keys = ks } }) more)
+
+closing_stands : (text more : List ℕ) (tok : Tok) (c : ℕ) → IsCloser true tok c → (t : ScannerState) → t.rest ≡ c ∷ more → begins_with 35 more ≡ false → IsDeep t.held → Arrives text t → is_required (top_key t.held.keys) ≡ false →
+    Stands text (after_closing tok t.held.flow (higher_keys t.held.flow t.held.keys) t more)
+unfolding adjacent_in_flow
+closing_stands text more tok c k t e hash deep a free = by (arrives_side text t a)
+  where
+    by : ArrivesOutside text t ⊎ ArrivesInside text t → Stands text (after_closing tok t.held.flow (higher_keys t.held.flow t.held.keys) t more)
+    by (inl o) = subst (λ fs. Stands text (after_closing tok fs (higher_keys fs t.held.keys) t more)) (sym o.flow_is) (stray_outside text more true tok c k t o e hash free).stands
+    by (inr i) =
+        let now : ScannerState = past_it (record t { held = record (ended_now (i.level ∷ i.levels) t.held) { keys = i.keys } }) more in
+        subst (λ fs. Stands text (after_closing tok fs (higher_keys fs t.held.keys) t more)) (sym i.flow_is)
+        (subst (λ ks. Stands text (after_closing tok (i.level ∷ i.levels) (pop (with_top None ks)) t more)) (sym i.keys_are)
+        (subst (λ h. Stands text (record now { held = push t.held.position tok h })) (sym (adjacent_is now.held i.levels)) (closed_inside text more true tok c k t i e hash deep).stands))
+
+-- `]` or `}`
+pub closing_keeps : (text more : List ℕ) (tok : Tok) (c : ℕ) → IsCloser true tok c → (t : ScannerState) → t.rest ≡ c ∷ more → IsDeep t.held → Arrives text t → Holds (Stands text) (fetch_flow_collection_end tok t)
+unfolding fetch_flow_collection_end
+closing_keeps text more tok c k t e deep a =
+    chained {P = λ u. (is_required (top_key t.held.keys) ≡ false) × (u ≡ record t { held = ended_now t.held.flow t.held })} (tried t (end_flow t.held) (flow_over t.held) (λ h d. (d.0, ap (λ y. record t { held = y }) d.1))) (λ u d.
+    chained (indicator_passed u more (ap (λ y. after y.rest) d.1 ∙ ap after e)) (λ v w.
+    went (subst (λ y. Stands text (on_held (λ s. push t.held.position tok (adjacent_in_flow s)) y)) (sym (w.0 ∙ ap (λ y. past_it y more) d.1)) (closing_stands text more tok c k t e w.1 deep a d.0))))

@@ -1,0 +1,31 @@
+-- An open key that need not be one is dropped where a piece begins.
+use Rattle.std.proofs.Common.{◌≡◌, ℕ, List, [], ◌∷◌, ◌++◌, Bool, false, inr, Option, Some, None, refl, ap, sym, ◌∙◌}
+use Rattle.defs_text.specs.Text.{is_empty}
+use Rattle.defs_token.specs.Key.{Line, taken}
+use Rattle.model_scanner.specs.State.{Key, ScannerState}
+use Rattle.proof_scanner.specs.Choices.{MayChoose}
+use Rattle.proof_scanner.specs.Arrives.{IsLineHere}
+use Rattle.proof_scanner.specs.StandsInRow.{is_free}
+use Rattle.proof_scanner.proofs.Sound.Sides.{with_entries, ArrivesBy}
+use Rattle.proof_scanner.proofs.Sound.Stales.{none_completes}
+
+pub line_without : (allowed : Bool) (rest : List ℕ) (k : Option Key) (l : Line) → is_empty rest ≡ false → IsLineHere false allowed rest k l → IsLineHere false allowed rest None l
+line_without allowed rest None l some h = h
+line_without allowed rest (Some k) l some h = (inr (h some).0, (h some).1 ∙ sym (taken_is l (h some).0))
+  where
+    taken_is : (l : Line) → l ≡ taken → is_free l ≡ false
+    taken_is l e = ap is_free e
+
+-- Outside flow what holds where a piece begins holds without the open key, unless that must be one.
+unfoldable pub key_gone : (text : List ℕ) (t : ScannerState) (k : Option Key) → ArrivesBy text t [] (k ∷ []) [] → is_empty t.rest ≡ false → MayChoose false k t.held.position t.rest → ArrivesBy text t [] (None ∷ []) []
+key_gone text t k a some may = record {
+  among = a.among;
+  one_each = refl;
+  are_entries = tt;
+  line_is = line_without t.held.key_allowed t.rest k a.line_here some a.line_is;
+  is_open = tt;
+  is_near = λ _. tt;
+  are_numbered = (tt, tt);
+  carries = λ cs x key m inside some. absurd (cc inside);
+  completes = λ c cs _. none_completes text (a.separation ++ t.rest) (with_entries a.site a.line []) (k ∷ []) a.tokens a.no_key refl (a.completes false [] may);
+}

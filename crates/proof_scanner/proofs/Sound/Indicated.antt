@@ -1,0 +1,48 @@
+-- An indicator of one character, and the blanks and the comment after it.
+use Rattle.std.proofs.Common.{◌≡◌, ℕ, List, [], ◌∷◌, Bool, true, false, not, ◌||◌, ◌&&◌, refl, ap, sym, ◌∙◌, subst}
+use Rattle.defs_text.specs.Classes.{is_break}
+use Rattle.defs_text.specs.Breaks.{has_no_break}
+use Rattle.defs_text.specs.Position.{Position, position_after}
+use Rattle.defs_text.specs.FlowScalar.{begins_with}
+use Rattle.defs_token.specs.Step.{Previous, blanks_and_comment, past_blanks_and_comment}
+use Rattle.defs_token.specs.Indentation.{least_column, has_tab_within, last_line, follows_plain, begins_line, is_indented_by_spaces}
+use Rattle.defs_token.specs.Tokens.{past_line_rest}
+use Rattle.model_scanner.specs.Machine.{past}
+use Rattle.model_scanner.specs.State.{ScannerState, after, skip_indicator}
+use Rattle.model_scanner.specs.Flow.{pass_indicator}
+use Rattle.model_scanner.proofs.Holds.{Holds}
+use Rattle.proof_lexers.specs.PlainEnds as plains
+use Rattle.proof_scanner.proofs.Cut.Indicators.{past_indicator}
+use Rattle.proof_scanner.proofs.Sound.Blanks.{same_in_line, line_rest_in_line, rest_skipped}
+
+-- the scanner after an indicator, blanks and a comment
+abbrev pub past_it : ScannerState → (more : List ℕ) → ScannerState
+past_it u more = record { rest = past_blanks_and_comment more; held = record u.held { position = past_line_rest (past u.held.position) more; leading = false } }
+
+-- All blanks and a comment after it are read; the comment does not stand directly there.
+pub indicator_passed : (u : ScannerState) (more : List ℕ) → after u.rest ≡ more → Holds (λ v. (v ≡ past_it u more) × (begins_with 35 more ≡ false)) (pass_indicator u)
+unfolding pass_indicator
+indicator_passed u more e = subst (λ r. Holds (λ v. (v ≡ past_it u r) × (begins_with 35 r ≡ false)) (pass_indicator u)) e (rest_skipped (skip_indicator u))
+
+-- the position after an indicator
+pub past_one : (p : Position) (c : ℕ) (next : List ℕ) → is_break c ≡ false → position_after p (c ∷ []) next ≡ past p
+past_one p c next e = past_indicator p c next e
+
+-- the position after all of it
+pub indicator_end : (p : Position) (c : ℕ) (more : List ℕ) → is_break c ≡ false → past_line_rest (past p) more ≡ position_after (position_after p (c ∷ []) more) (blanks_and_comment more) (past_blanks_and_comment more)
+indicator_end p c more e =
+    ap (λ q. position_after q (blanks_and_comment more) []) (sym (past_one p c more e)) ∙
+    same_in_line (position_after p (c ∷ []) more) (blanks_and_comment more) [] (past_blanks_and_comment more) (line_rest_in_line more)
+
+-- no TAB indents a line, where no line begins
+pub none_indents : (before : Previous) (bs : List ℕ) (awaits : Bool) (f : List ℕ) → begins_line before f ≡ false → is_indented_by_spaces before bs awaits f ≡ true
+none_indents before bs awaits f h = ap (λ b. not b || not (has_tab_within (least_column bs (awaits || follows_plain before f)) (last_line f))) h
+
+-- a text of one line, by the other word
+pub no_break_alike : (f : List ℕ) → has_no_break f ≡ true → plains.has_break f ≡ false
+no_break_alike [] h = refl
+no_break_alike (c ∷ f) h = by (is_break c) h (λ k. no_break_alike f k)
+  where
+    by : (b : Bool) → (not b && has_no_break f) ≡ true → (has_no_break f ≡ true → plains.has_break f ≡ false) → (b || plains.has_break f) ≡ false
+    by true h k = absurd (cc h)
+    by false h k = k h

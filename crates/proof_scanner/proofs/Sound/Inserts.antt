@@ -1,0 +1,86 @@
+-- Tokens that go in before others, and tokens after all of them.
+use Rattle.std.proofs.Common.{◌≡◌, ℕ, zero, suc, ◌≤◌, List, [], ◌∷◌, ◌++◌, Bool, true, false, length, Option, Some, None, refl, ap, ◌∙◌, arith}
+use Rattle.std.specs.List.{insert}
+use Rattle.defs_text.specs.Position.{Position}
+use Rattle.std.proofs.lemmas.List.Edits.{insert-append_left}
+use Rattle.defs_token.specs.Token.{Token, key}
+use Rattle.defs_token.specs.Step.{Step}
+use Rattle.defs_token.specs.Key.{Line, free, taken, waits as waits_on_line}
+use Rattle.defs_token.specs.FlowEntry.{Had, fresh, filled, waits, settled, Entry, takes_pair}
+use Rattle.defs_token.specs.Tokens.{put, Colon, colon_of}
+use Rattle.model_scanner.specs.State.{Key}
+use Rattle.proof_scanner.specs.Completes.{put_if, put_key, with_line, with_had, with_keys}
+use Rattle.proof_scanner.specs.StandsInRow.{AreNumbered}
+
+longer : (ts : List Token) (n : ℕ) (t : Token) → length (insert ts n t) ≡ suc (length ts)
+longer ts zero t = refl
+longer [] (suc n) t = refl
+longer (x ∷ ts) (suc n) t = ap suc (longer ts n t)
+
+if_first : (b : Bool) (ts us : List Token) (n : ℕ) (t : Token) → n ≤ length ts → put_if b n t (ts ++ us) ≡ put_if b n t ts ++ us
+if_first true ts us n t h = insert-append_left ts us n t h
+if_first false ts us n t h = refl
+
+key_first : (b : Bool) (start : Token) (n : ℕ) (here : Position) (ts us : List Token) → n ≤ length ts → put_key b start n here (ts ++ us) ≡ put_key b start n here ts ++ us
+key_first b start n here ts us h =
+    let l = longer ts n (put here key) in
+    ap (λ x. put_if b n start x) (insert-append_left ts us n (put here key) h) ∙ if_first b (insert ts n (put here key)) us n start (omega (arith, h, l))
+
+if_longer : (b : Bool) (ts : List Token) (n : ℕ) (t : Token) → length ts ≤ length (put_if b n t ts)
+if_longer true ts n t = let l = longer ts n t in omega (arith, l)
+if_longer false ts n t = omega arith
+
+pub key_longer : (b : Bool) (start : Token) (n : ℕ) (here : Position) (ts : List Token) → length ts ≤ length (put_key b start n here ts)
+key_longer b start n here ts = let k = longer ts n (put here key) in let l = if_longer b (insert ts n (put here key)) n start in omega (arith, k, l)
+
+-- each open key's number is among so many
+abbrev pub AreAmong : (many : ℕ) → List (Option Key) → Type 0
+AreAmong many [] = Unit {0}
+AreAmong many (None ∷ ks) = AreAmong many ks
+AreAmong many (Some k ∷ ks) = (k.number ≤ many) × AreAmong many ks
+
+pub fewer : (m n : ℕ) (ks : List (Option Key)) → m ≤ n → AreAmong m ks → AreAmong n ks
+fewer m n [] h a = tt
+fewer m n (None ∷ ks) h a = fewer m n ks h a
+fewer m n (Some k ∷ ks) h a = (omega (arith, h, a.0), fewer m n ks h a.1)
+
+pub among : (many : ℕ) (ks : List (Option Key)) → AreNumbered many ks → AreAmong many ks
+among many [] a = tt
+among many (None ∷ ks) a = among many ks a.1
+among many (Some k ∷ ks) a = (omega (arith, a.0), fewer k.number many ks (omega (arith, a.0)) (among k.number ks a.1))
+
+pub line_first : (c : Colon) (bs : List ℕ) (l : Line) (k : Option Key) (ts us : List Token) → AreAmong (length ts) (k ∷ []) → with_line c bs l k (ts ++ us) ≡ with_line c bs l k ts ++ us
+line_first c bs l None ts us h = refl
+line_first c bs (waits_on_line b) (Some k) ts us h = key_first _ _ k.number b ts us h.0
+line_first c bs free (Some k) ts us h = refl
+line_first c bs taken (Some k) ts us h = refl
+
+pub had_first : (c : Colon) (single : Bool) (d : Had) (k : Option Key) (ts us : List Token) → AreAmong (length ts) (k ∷ []) → with_had c single d k (ts ++ us) ≡ with_had c single d k ts ++ us
+had_first c single d None ts us h = refl
+had_first c single (waits b) (Some k) ts us h = key_first _ _ k.number b ts us h.0
+had_first c single fresh (Some k) ts us h = refl
+had_first c single filled (Some k) ts us h = refl
+had_first c single settled (Some k) ts us h = refl
+
+pub had_longer : (c : Colon) (single : Bool) (d : Had) (k : Option Key) (ts : List Token) → length ts ≤ length (with_had c single d k ts)
+had_longer c single d None ts = omega arith
+had_longer c single (waits b) (Some k) ts = key_longer _ _ k.number b ts
+had_longer c single fresh (Some k) ts = omega arith
+had_longer c single filled (Some k) ts = omega arith
+had_longer c single settled (Some k) ts = omega arith
+
+pub first_among : (many : ℕ) (k : Option Key) (ks : List (Option Key)) → AreAmong many (k ∷ ks) → AreAmong many (k ∷ []) × AreAmong many ks
+first_among many None ks a = (tt, a)
+first_among many (Some k) ks a = ((a.0, tt), a.1)
+
+-- Keys that go in among the first tokens do not move those after them.
+pub keys_first : (d : ℕ) (p : Position) (ws : List Step) (last : List ℕ) (bs : List ℕ) (l : Line) (es : List Entry) (ks : List (Option Key)) (ts us : List Token) → AreAmong (length ts) ks →
+    with_keys d p ws last bs l es ks (ts ++ us) ≡ with_keys d p ws last bs l es ks ts ++ us
+keys_first d p ws last bs l es [] ts us a = refl
+keys_first d p ws last bs l [] (k ∷ ks) ts us a = line_first (colon_of d p ws last) bs l k ts us (first_among (length ts) k ks a).0
+keys_first d p ws last bs l (e ∷ es) (k ∷ ks) ts us a =
+    let q = first_among (length ts) k ks a in
+    let c : Colon = colon_of d p ws last in
+    let more : List Token = with_had c (takes_pair e.kind e.pair) e.had k ts in
+    ap (λ x. with_keys (suc d) p ws last bs l es ks x) (had_first c (takes_pair e.kind e.pair) e.had k ts us q.0) ∙
+    keys_first (suc d) p ws last bs l es ks more us (fewer (length ts) (length more) ks (had_longer c (takes_pair e.kind e.pair) e.had k ts) q.1)

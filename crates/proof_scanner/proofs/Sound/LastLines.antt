@@ -1,0 +1,193 @@
+-- The last line of a text as the text grows, and the column after it.
+use Rattle.std.proofs.Common.{◌≡◌, ℕ, zero, suc, ◌+◌, ◌≤◌, List, [], ◌∷◌, ◌++◌, Bool, true, false, not, ◌&&◌, ◌||◌, ◌==◌, ◌⊎◌, inl, inr, if◌then◌else◌, length, take, refl, ap, sym, ◌∙◌, arith}
+use Rattle.std.proofs.Math.Bool.{or-true}
+use Rattle.std.proofs.lemmas.Bool.{and_parts, eqb-true}
+use Rattle.std.proofs.lemmas.List.{take-append-le}
+use Rattle.defs_text.specs.Classes.{is_break, is_blank, is_one_of}
+use Rattle.defs_text.specs.Breaks.{put_first, split_by, split, is_before_line_feed, has_no_break, is_at_line_end}
+use Rattle.defs_text.specs.Position.{Position, position_past, position_after}
+use Rattle.defs_text.specs.Text.{is_empty}
+use Rattle.defs_token.specs.Separation.{is_separation}
+use Rattle.defs_token.specs.Step.{has_break}
+use Rattle.defs_token.specs.Indentation.{has_tab_within, last_line}
+
+-- ---- breaks in a text and one character more
+
+feed_breaks : (c : ℕ) (r : List ℕ) → is_before_line_feed c r ≡ true → has_break r ≡ true
+unfolding is_break
+feed_breaks c [] h = absurd (cc h)
+feed_breaks c (d ∷ r) h = rw (eqb-true d 10 (and_parts (c == 13) (d == 10) h).1) refl
+
+-- a break anywhere is one of either part
+pub break_append : (a b : List ℕ) → has_break (a ++ b) ≡ (has_break a || has_break b)
+break_append [] b = refl
+break_append (c ∷ a) b = by (is_break c) (break_append a b)
+  where
+    by : (x : Bool) → has_break (a ++ b) ≡ (has_break a || has_break b) → not (not x && has_no_break (a ++ b)) ≡ (not (not x && has_no_break a) || has_break b)
+    by true h = refl
+    by false h = h
+
+-- ---- the last line
+
+complete_is : (r : List ℕ) → is_empty (split r).complete ≡ has_no_break r
+complete_is [] = refl
+complete_is (c ∷ r) = by (is_break c) (is_before_line_feed c r) refl (complete_is r)
+  where
+    kept : (complete : List (List ℕ)) (last : List ℕ) → is_empty (put_first c complete last).complete ≡ is_empty complete
+    kept [] last = refl
+    kept (l ∷ ls) last = refl
+
+    by : (x y : Bool) → is_before_line_feed c r ≡ y → is_empty (split r).complete ≡ has_no_break r → is_empty (split_by x y c (split r)).complete ≡ (not x && has_no_break r)
+    by true true e h = h ∙ not_in (has_no_break r) (feed_breaks c r e)
+      where
+        not_in : (b : Bool) → not b ≡ true → b ≡ false
+        not_in true k = absurd (cc k)
+        not_in false k = refl
+    by true false e h = refl
+    by false y e h = kept (split r).complete (split r).last ∙ h
+
+-- one character more at its start
+pub last_first : (c : ℕ) (r : List ℕ) → last_line (c ∷ r) ≡ (if is_break c || has_break r then last_line r else c ∷ last_line r)
+last_first c r = by (is_break c) (is_before_line_feed c r) ∙ ap (λ b. if is_break c || not b then last_line r else c ∷ last_line r) (complete_is r)
+  where
+    kept : (complete : List (List ℕ)) (last : List ℕ) → (put_first c complete last).last ≡ (if not (is_empty complete) then last else c ∷ last)
+    kept [] last = refl
+    kept (l ∷ ls) last = refl
+
+    by : (x y : Bool) → (split_by x y c (split r)).last ≡ (if x || not (is_empty (split r).complete) then last_line r else c ∷ last_line r)
+    by true true = refl
+    by true false = refl
+    by false y = kept (split r).complete (split r).last
+
+-- one character more at its end
+pub last_more : (g : List ℕ) (c : ℕ) → last_line (g ++ c ∷ []) ≡ (if is_break c then [] else last_line g ++ c ∷ [])
+last_more [] c = last_first c [] ∙ by (is_break c)
+  where
+    by : (x : Bool) → (if x || false then [] else c ∷ []) ≡ (if x then [] else c ∷ [])
+    by true = refl
+    by false = refl
+last_more (d ∷ g) c =
+    last_first d (g ++ c ∷ []) ∙ ap (λ b. if is_break d || b then last_line (g ++ c ∷ []) else d ∷ last_line (g ++ c ∷ [])) (break_append g (c ∷ [])) ∙
+    ap (λ l. if is_break d || (has_break g || has_break (c ∷ [])) then l else d ∷ l) (last_more g c) ∙
+    by (is_break c) (is_break d) (has_break g) ∙ ap (λ l. if is_break c then [] else l ++ c ∷ []) (sym (last_first d g))
+  where
+    by : (x y z : Bool) → (if y || (z || not (not x && true)) then (if x then [] else last_line g ++ c ∷ []) else d ∷ (if x then [] else last_line g ++ c ∷ [])) ≡
+        (if x then [] else (if y || z then last_line g else d ∷ last_line g) ++ c ∷ [])
+    by true true z = refl
+    by true false true = refl
+    by true false false = refl
+    by false true z = refl
+    by false false true = refl
+    by false false false = refl
+
+-- a text of one line is its last line
+pub last_whole : (g : List ℕ) → has_break g ≡ false → last_line g ≡ g
+last_whole [] h = refl
+last_whole (c ∷ g) h = last_first c g ∙ by (is_break c) (has_no_break g) refl h (λ k. last_whole g k)
+  where
+    by : (x y : Bool) → has_no_break g ≡ y → not (not x && y) ≡ false → (has_break g ≡ false → last_line g ≡ g) → (if x || not y then last_line g else c ∷ last_line g) ≡ c ∷ g
+    by true y e h k = absurd (cc h)
+    by false true e h k = ap (λ l. c ∷ l) (k (ap not e))
+    by false false e h k = absurd (cc h)
+
+-- ---- the column after it
+
+-- whether a text begins with a break
+abbrev pub at_break : List ℕ → Bool
+at_break [] = false
+at_break (c ∷ r) = is_break c
+
+feed_at : (d : ℕ) → (d == 10) ≡ true → is_break d ≡ true
+unfolding is_break
+feed_at d k = rw k refl
+
+-- the column after a text, which is not in the middle of CR LF
+pub column_after : (p : Position) (g a : List ℕ) → at_break a ≡ false → (position_after p g a).col ≡ (if has_break g then length (last_line g) else p.col + length g)
+column_after p [] a h = omega arith
+column_after p (c ∷ g) a h =
+    column_after (position_past p c (g ++ a)) g a h ∙ by (is_break c) (is_before_line_feed c (g ++ a)) (has_no_break g) refl refl refl ∙
+    ap (λ l. if has_break (c ∷ g) then length l else p.col + suc (length g)) (sym (last_first c g))
+  where
+    cut : (g : List ℕ) → is_before_line_feed c (g ++ a) ≡ true → has_no_break g ≡ true → ⊥
+    cut [] e k = first a e h
+      where
+        first : (a : List ℕ) → is_before_line_feed c a ≡ true → at_break a ≡ false → ⊥
+        first [] e h = cc e
+        first (d ∷ r) e h = cc (h, feed_at d (and_parts (c == 13) (d == 10) e).1)
+    cut (d ∷ g) e k = cc (feed_at d (and_parts (c == 13) (d == 10) e).1, (and_parts (not (is_break d)) (has_no_break g) k).0)
+
+    by : (x y z : Bool) → is_break c ≡ x → is_before_line_feed c (g ++ a) ≡ y → has_no_break g ≡ z →
+        (if not z then length (last_line g) else (let q : Position = (if x && not y then record { index = suc p.index; line = suc p.line; col = 0 } else record { index = suc p.index; line = p.line; col = suc p.col }) in q.col) + length g) ≡
+        (if not (not x && z) then length (if x || not z then last_line g else c ∷ last_line g) else p.col + suc (length g))
+    by true true true e f k = absurd (cut g f k)
+    by true false true e f k = let z : 0 + length g ≡ length g = omega arith in z ∙ ap length (sym (last_whole g (ap not k)))
+    by true y false e f k = refl
+    by false y true e f k = omega arith
+    by false y false e f k = refl
+
+-- ---- no `#` in it, outside comments
+
+in_no_comment : (d : ℕ) (l : List ℕ) → (35 == d) ≡ false → is_one_of l 35 ≡ false → is_one_of (d ∷ l) 35 ≡ false
+in_no_comment d l e f = rw (e, f) refl
+
+-- where a separation ends within a line, and not in a comment, its last line has no `#`
+pub no_comment_in_last : (g rest : List ℕ) → is_separation false g rest ≡ true → is_at_line_end rest ≡ false → is_one_of (last_line g) 35 ≡ false
+no_comment_in_last g rest h ends = outside g h
+  where
+    Both : List ℕ → Type 0
+    Both g = (is_separation false g rest ≡ true → is_one_of (last_line g) 35 ≡ false) × (is_separation true g rest ≡ true → (has_break g ≡ true) × (is_one_of (last_line g) 35 ≡ false))
+
+    both : (g : List ℕ) → Both g
+    both [] = (λ h. refl, λ h. absurd (cc (h, ends)))
+    both (c ∷ g) = (λ h. first (is_blank c || is_break c || (c == 35)) (c == 35) refl h (both g), λ h. second (is_break c) refl h (both g))
+      where
+        swapped : (c == 35) ≡ false → (35 == c) ≡ false
+        swapped e = grind (arith, e)
+
+        first : (x y : Bool) → (c == 35) ≡ y → (x && is_separation y g rest) ≡ true → Both g → is_one_of (last_line (c ∷ g)) 35 ≡ false
+        first false y e h b = absurd (cc h)
+        first true true e h b = rw (last_first c g, (b.1 h).0, or-true (is_break c)) (b.1 h).1
+        first true false e h b = ap (λ l. is_one_of l 35) (last_first c g) ∙ by (is_break c || has_break g)
+          where
+            by : (z : Bool) → is_one_of (if z then last_line g else c ∷ last_line g) 35 ≡ false
+            by true = b.0 h
+            by false = in_no_comment c (last_line g) (swapped e) (b.0 h)
+
+        second : (x : Bool) → is_break c ≡ x → is_separation (not x) g rest ≡ true → Both g → (has_break (c ∷ g) ≡ true) × (is_one_of (last_line (c ∷ g)) 35 ≡ false)
+        second true e h b = (rw e refl, rw (last_first c g, e) (b.0 h))
+        second false e h b = (rw e (b.1 h).0, rw (last_first c g, e, (b.1 h).0) (b.1 h).1)
+
+    outside : (g : List ℕ) → is_separation false g rest ≡ true → is_one_of (last_line g) 35 ≡ false
+    outside g h = (both g).0 h
+
+-- ---- TABs in its first columns
+
+pub one_append : (l : List ℕ) (c d : ℕ) → is_one_of (l ++ c ∷ []) d ≡ (is_one_of l d || (d == c))
+one_append [] c d = by (d == c)
+  where
+    by : (b : Bool) → (b || false) ≡ b
+    by true = refl
+    by false = refl
+one_append (x ∷ l) c d = ap (λ b. (d == x) || b) (one_append l c d) ∙ by (d == x) (is_one_of l d) (d == c)
+  where
+    by : (x y z : Bool) → (x || (y || z)) ≡ ((x || y) || z)
+    by true y z = refl
+    by false y z = refl
+
+-- a character other than a TAB, or one after these columns, adds none
+pub tab_within_more : (n : ℕ) (l : List ℕ) (c : ℕ) → ((9 == c) ≡ false) ⊎ (n ≤ length l) → has_tab_within n l ≡ false → has_tab_within n (l ++ c ∷ []) ≡ false
+tab_within_more n l c (inr deep) h = ap (λ x. is_one_of x 9) (take-append-le n l (c ∷ []) deep) ∙ h
+tab_within_more n l c (inl other) h = go n l h
+  where
+    go : (n : ℕ) (l : List ℕ) → is_one_of (take n l) 9 ≡ false → is_one_of (take n (l ++ c ∷ [])) 9 ≡ false
+    go zero l h = refl
+    go (suc n) [] h = rw other (none n)
+      where
+        none : (n : ℕ) → is_one_of (take n []) 9 ≡ false
+        none zero = refl
+        none (suc n) = refl
+    go (suc n) (x ∷ l) h = by (9 == x) h (λ k. go n l k)
+      where
+        by : (b : Bool) → (b || is_one_of (take n l) 9) ≡ false → (is_one_of (take n l) 9 ≡ false → is_one_of (take n (l ++ c ∷ [])) 9 ≡ false) → (b || is_one_of (take n (l ++ c ∷ [])) 9) ≡ false
+        by true h k = absurd (cc h)
+        by false h k = k h

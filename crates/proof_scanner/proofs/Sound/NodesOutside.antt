@@ -1,0 +1,173 @@
+-- A part of a node outside flow, be it an opening bracket or no collection: whatever completes the row after it completes it from before.
+use Rattle.std.proofs.Common.{◌≡◌, ℕ, List, [], ◌∷◌, ◌++◌, Bool, true, false, not, ◌&&◌, if◌then◌else◌, length, Option, Some, None, refl, ap, sym, ◌∙◌, subst, append_assoc}
+use Rattle.defs_text.specs.Position.{Position}
+use Rattle.defs_token.specs.Token.{Token, block_mapping_start}
+use Rattle.defs_token.specs.Piece.{IsPiece}
+use Rattle.defs_token.specs.Step.{Step, spelled, act_of, has_break}
+use Rattle.defs_token.specs.Column.{is_deeper, is_in_column}
+use Rattle.defs_token.specs.Key.{Line, free, taken, waits, is_waiting, begins_free_line, line_past_separation, line_past}
+use Rattle.defs_token.specs.FlowEntry.{is_renewed}
+use Rattle.defs_token.specs.RowAccount.{Site, Account, site_in, site_past, on_one_line, past_outside, past_piece, past_site, account_past, seen}
+use Rattle.defs_token.specs.Tokens.{put, shown_position, ends_at, colon_of, key_tokens, Colon, tokens_of_step, tokens_at}
+use Rattle.model_scanner.specs.State.{Key}
+use Rattle.defs_token.specs.Row.{IsWritten}
+use Rattle.proof_scanner.specs.Here.{IsLive}
+use Rattle.proof_scanner.specs.Choices.{line_by, MayChoose}
+use Rattle.proof_scanner.specs.Completes.{put_key, with_line, tokens_up_to, Completes}
+use Rattle.proof_scanner.specs.Arrives.{IsLineHere}
+use Rattle.proof_scanner.proofs.Sound.Begun.{with_begun, with_no_key, depth_begun, keys_around_begun}
+use Rattle.proof_scanner.proofs.Sound.Completed.{completed_past}
+use Rattle.proof_scanner.proofs.Sound.Inserts.{AreAmong, line_first}
+use Rattle.proof_scanner.proofs.Sound.NodeSteps.{saved, choice_before, bit_of, node_on_line}
+use Rattle.proof_scanner.proofs.Sound.Parts.{Part, part_site, IsPart}
+use Rattle.proof_scanner.proofs.Sound.NodeTokens.{past_step, keys_past, key_between, key_outside, tokens_outside}
+
+-- an account outside flow
+abbrev pub Outer : Site → Line → Account
+Outer s l = record { site = s; line = l; entries = [] }
+
+pub on_line : (piece : List ℕ) (a : Account) → (has_break piece && is_waiting a.line) ≡ false → on_one_line piece (Some a) ≡ Some a
+on_line piece a e = ap (λ b. if b then None else Some a) e
+
+-- A part of a node outside flow, and what may begin at its piece. Its tokens are those before the ends that stand here.
+pub record Node : Type 0 where
+  pub part : Part
+  pub open part use *
+  pub line_here : Line
+
+-- the site at the piece
+abbrev pub at : Node → Site
+at d = part_site false d.part
+
+-- the step, with or without a key
+abbrev pub step_of : Node → Bool → Step
+step_of d bit = record { separation = d.separation; piece = d.piece; shown = d.tok; key = bit }
+
+-- the open key after it
+abbrev pub key_past : Node → Option Key
+key_past d = saved d.allowed d.new d.open_key
+
+-- the open keys after it, that of what it begins among them
+abbrev pub keys_after : Node → List (Option Key)
+keys_after d = with_no_key d.kind (key_past d ∷ [])
+
+-- the accounts before and after the step, by a choice after it
+abbrev pub before : Node → Bool → Account
+before d c = Outer d.site (line_by (choice_before d.allowed c) d.open_key d.line)
+
+abbrev pub past : Node → Bool → Account
+past d c = record { site = site_past false (at d) d.piece d.tok d.next (at d).blocks; line = line_by c (key_past d) taken; entries = with_begun d.kind [] }
+
+-- the tokens with the ends that stand at the piece
+abbrev pub tokens_here : Node → List Token
+tokens_here d = d.tokens ++ ends_at (at d).position d.site.blocks (at d).blocks
+
+-- the token that the piece shows
+abbrev pub own_token : Node → Token
+own_token d = put (shown_position (at d) d.piece d.tok d.next) d.tok
+
+-- no block collection ends where a key may still come to its colon
+abbrev pub AreSame : Option Key → Position → (rest : List ℕ) → (before here : List ℕ) → Type 0
+AreSame None p rest bs cs = Unit {0}
+AreSame (Some k) p rest bs cs = IsLive k p rest → bs ≡ cs
+
+-- What is known of it.
+pub record IsNode (d : Node) : Type 0 where
+  pub is_part : IsPart false [] d.part
+  pub open is_part use *
+  pub line_is : IsLineHere false d.allowed (0 ∷ []) d.open_key d.line_here
+  pub required_is : d.new.required ≡ is_in_column (at d).position.col (at d).blocks
+  pub number_is : d.new.number ≡ length (tokens_here d)
+  pub are_among : AreAmong (length d.tokens) (d.open_key ∷ [])
+  pub unbroken : (c : Bool) → MayChoose c (key_past d) d.past d.rest → line_past_separation false (begins_free_line d.site.before d.separation) (line_by (choice_before d.allowed c) d.open_key d.line) ≡ Some (line_by (choice_before d.allowed c) d.open_key d.line_here)
+  pub one_line : (c : Bool) → MayChoose c (key_past d) d.past d.rest → (has_break d.piece && is_waiting (line_by c (key_past d) taken)) ≡ false
+  pub no_key : is_waiting d.line ≡ false
+  pub same_blocks : AreSame d.open_key d.past d.rest d.site.blocks (at d).blocks
+  pub may_before : (c : Bool) → MayChoose c (key_past d) d.past d.rest → MayChoose (choice_before d.allowed c) d.open_key (at d).position (d.piece ++ d.next)
+
+-- ---- the account after it
+
+pub node_account : (d : Node) → IsNode d → (c : Bool) → MayChoose c (key_past d) d.past d.rest → account_past (before d c) (step_of d (bit_of d.allowed c)) d.next ≡ Some (past d c)
+node_account d n c may =
+    let w : Step = step_of d (bit_of d.allowed c) in
+    let l : Line = line_by (choice_before d.allowed c) d.open_key d.line in
+    let here : Position = (at d).position in
+    let again : Bool = is_renewed d.site.before d.separation in
+    let first : account_past (before d c) w d.next ≡ past_site false d.site (at d) w d.next l [] = ap (λ x. past_site false d.site (site_in false x here d.site) w d.next l []) n.act in
+    let may_be : past_site false d.site (at d) w d.next l [] ≡ on_one_line d.piece (past_piece (at d) d.piece d.tok d.next again w.key (line_past_separation false (begins_free_line d.site.before d.separation) l) []) =
+    ap (λ b. if b then on_one_line d.piece (past_piece (at d) d.piece d.tok d.next again w.key (line_past_separation false (begins_free_line d.site.before d.separation) l) []) else None) n.stands in
+    let lines : on_one_line d.piece (past_piece (at d) d.piece d.tok d.next again w.key (line_past_separation false (begins_free_line d.site.before d.separation) l) []) ≡
+    on_one_line d.piece (past_outside (at d) d.piece d.tok d.next (line_past (is_in_column here.col (at d).blocks) here (at d).blocks (act_of d.tok) w.key (line_by (choice_before d.allowed c) d.open_key d.line_here))) =
+    ap (λ o. on_one_line d.piece (past_piece (at d) d.piece d.tok d.next again w.key o [])) (n.unbroken c may) in
+    let outside : line_past (is_in_column here.col (at d).blocks) here (at d).blocks (act_of d.tok) w.key (line_by (choice_before d.allowed c) d.open_key d.line_here) ≡ Some (record { line = line_by c (key_past d) taken; blocks = (at d).blocks }) =
+    ap (λ x. line_past (is_in_column here.col (at d).blocks) here (at d).blocks x w.key (line_by (choice_before d.allowed c) d.open_key d.line_here)) n.act ∙
+    node_on_line d.allowed c d.open_key d.new d.line_here (is_in_column here.col (at d).blocks) here d.past (at d).blocks 0 [] d.rest n.line_is n.position_is n.required_is may in
+    let entries : past_outside (at d) d.piece d.tok d.next (Some (record { line = line_by c (key_past d) taken; blocks = (at d).blocks })) ≡ Some (past d c) =
+    ap (λ es. Some (record { site = site_past false (at d) d.piece d.tok d.next (at d).blocks; line = line_by c (key_past d) taken; entries = es })) n.begun in
+    first ∙ (may_be ∙ (lines ∙ (ap (λ o. on_one_line d.piece (past_outside (at d) d.piece d.tok d.next o)) outside ∙ (ap (λ o. on_one_line d.piece o) entries ∙ on_line d.piece (past d c) (n.one_line c may)))))
+
+-- ---- the tokens after it
+
+pub no_line : (c : Colon) (bs : List ℕ) (l : Line) (k : Option Key) (ts : List Token) → is_waiting l ≡ false → with_line c bs l k ts ≡ ts
+no_line c bs l None ts h = refl
+no_line c bs free (Some k) ts h = refl
+no_line c bs taken (Some k) ts h = refl
+no_line c bs (waits b) (Some k) ts h = absurd (cc h)
+
+-- By the choice: a key that begins here goes in before its token, and one that waits where it did.
+pub by_choice : (allowed ch : Bool) (k : Option Key) (new : Key) (l m : Line) (c : Colon) (s : Site) (bs : List ℕ) (p : Position) (rest : List ℕ) (ts ends : List Token) (own : Token) →
+    IsLineHere false allowed (0 ∷ []) k m → MayChoose ch (saved allowed new k) p rest → is_waiting l ≡ false → new.position ≡ s.position → new.number ≡ length (ts ++ ends) → AreAmong (length ts) (k ∷ []) → AreSame k p rest bs s.blocks →
+    with_line c bs (line_by (choice_before allowed ch) k l) k ts ++ (ends ++ (key_outside (bit_of allowed ch) s c ++ (own ∷ []))) ≡ with_line c s.blocks (line_by ch (saved allowed new k) taken) (saved allowed new k) ((ts ++ ends) ++ (own ∷ []))
+by_choice true ch (Some k) new l m c s bs p rest ts ends own h may idle q i a same = absurd (cc ((h refl).1))
+by_choice true true None new l m c s bs p rest ts ends own h may idle q i a same =
+    let begins : Position → Bool = λ x. is_deeper x.col s.blocks in
+    sym (append_assoc ts ends (key_tokens (begins s.position) c.here block_mapping_start s.position ++ (own ∷ []))) ∙
+    (sym (key_between (begins s.position) c.here block_mapping_start s.position (ts ++ ends) (own ∷ [])) ∙
+    (ap (λ x. put_key (begins x) (put c.here block_mapping_start) (length (ts ++ ends)) x ((ts ++ ends) ++ (own ∷ []))) (sym q) ∙
+    ap (λ x. put_key (begins new.position) (put c.here block_mapping_start) x new.position ((ts ++ ends) ++ (own ∷ []))) (sym i)))
+by_choice true false None new l m c s bs p rest ts ends own h may idle q i a same = sym (append_assoc ts ends (own ∷ []))
+by_choice false ch None new l m c s bs p rest ts ends own h may idle q i a same = sym (append_assoc ts ends (own ∷ []))
+by_choice false false (Some k) new l m c s bs p rest ts ends own h may idle q i a same =
+    ap (λ x. x ++ (ends ++ (own ∷ []))) (no_line c bs l (Some k) ts idle) ∙ sym (append_assoc ts ends (own ∷ []))
+by_choice false true (Some k) new l m c s bs p rest ts ends own h may idle q i a same =
+    sym (line_first c bs (waits k.position) (Some k) ts (ends ++ (own ∷ [])) a) ∙
+    (ap (λ x. with_line c bs (waits k.position) (Some k) x) (sym (append_assoc ts ends (own ∷ []))) ∙
+    ap (λ x. with_line c x (waits k.position) (Some k) ((ts ++ ends) ++ (own ∷ []))) (same may))
+
+-- With the text after the piece known as that of further steps.
+node_tokens : (d : Node) → IsNode d → (c : Bool) → MayChoose c (key_past d) d.past d.rest → (ws : List Step) (last : List ℕ) → spelled ws last ≡ d.next →
+    tokens_up_to (before d c) (d.open_key ∷ []) d.tokens (step_of d (bit_of d.allowed c) ∷ ws) last ++ tokens_of_step (before d c) (step_of d (bit_of d.allowed c)) ws last ≡ tokens_up_to (past d c) (keys_after d) (tokens_here d ++ (own_token d ∷ [])) ws last
+node_tokens d n c may ws last e = subst (λ x. Whole (record d { part = record d.part { next = x } })) e (own (subst (λ x. IsNode (record d { part = record d.part { next = x } })) (sym e) n))
+  where
+    Whole : Node → Type 0
+    Whole b = tokens_up_to (before b c) (b.open_key ∷ []) b.tokens (step_of b (bit_of b.allowed c) ∷ ws) last ++ tokens_of_step (before b c) (step_of b (bit_of b.allowed c)) ws last ≡ tokens_up_to (past b c) (keys_after b) (tokens_here b ++ (own_token b ∷ [])) ws last
+
+    own : IsNode (record d { part = record d.part { next = spelled ws last } }) → Whole (record d { part = record d.part { next = spelled ws last } })
+    own m =
+        let b : Node = record d { part = record d.part { next = spelled ws last } } in
+        let w : Step = step_of b (bit_of b.allowed c) in
+        let l : Line = line_by (choice_before b.allowed c) b.open_key b.line in
+        let p : Position = past_step b.site.position w ws last in
+        let colon : Colon = colon_of (depth_begun b.kind 0) p ws last in
+        let ends : List Token = ends_at (at b).position b.site.blocks (at b).blocks in
+        let first : tokens_up_to (before b c) (b.open_key ∷ []) b.tokens (w ∷ ws) last ≡ with_line colon b.site.blocks l b.open_key b.tokens = keys_past b.kind 0 b.site.position w ws last m.act m.begun b.site.blocks l [] (b.open_key ∷ []) b.tokens in
+        let second : tokens_of_step (before b c) w ws last ≡ ends ++ (key_outside w.key (at b) colon ++ (own_token b ∷ [])) =
+        ap (λ x. tokens_at b.site (site_in false x (at b).position b.site) w ws last l []) m.act ∙ tokens_outside b.site (at b) w ws last l (with_begun b.kind []) m.act m.begun in
+        ap (λ x. x ++ tokens_of_step (before b c) w ws last) first ∙
+        (ap (λ x. with_line colon b.site.blocks l b.open_key b.tokens ++ x) second ∙
+        (by_choice b.allowed c b.open_key b.new b.line b.line_here colon (at b) b.site.blocks b.past b.rest b.tokens ends (own_token b) m.line_is may m.no_key m.position_is m.number_is m.are_among m.same_blocks ∙
+        sym (keys_around_begun b.kind p ws last (at b).blocks (line_by c (key_past b) taken) [] (key_past b ∷ []) (tokens_here b ++ (own_token b ∷ [])))))
+
+-- ---- rows
+
+-- a piece at an account is seen alike, whatever waits
+pub seen_written : (d : Node) → IsNode d → (c bit : Bool) → IsWritten (before d c) (step_of d bit) d.next
+seen_written d n c bit = (n.is_filled, (ap not n.is_solid, subst (λ x. IsPiece (seen (before d c) x d.separation) d.piece d.next None (shown_position x d.piece d.tok d.next) d.tok) (sym (ap (λ x. site_in false x (at d).position d.site) n.act)) n.is_piece))
+
+-- If each choice before the piece is one of a row, then each choice after it is, and the tokens are those before, with the ends that stand here and the piece's own.
+pub node_completes : (text : List ℕ) (d : Node) → IsNode d →
+    ((c : Bool) → MayChoose c d.open_key (at d).position (d.piece ++ d.next) → Completes text (d.separation ++ (d.piece ++ d.next)) (Outer d.site (line_by c d.open_key d.line)) (tokens_up_to (Outer d.site (line_by c d.open_key d.line)) (d.open_key ∷ []) d.tokens)) →
+    (c : Bool) → MayChoose c (key_past d) d.past d.rest → Completes text d.next (past d c) (tokens_up_to (past d c) (keys_after d) (tokens_here d ++ (own_token d ∷ [])))
+node_completes text d n h c may =
+    completed_past text (d.separation ++ (d.piece ++ d.next)) (before d c) (past d c) (tokens_up_to (before d c) (d.open_key ∷ []) d.tokens) (tokens_up_to (past d c) (keys_after d) (tokens_here d ++ (own_token d ∷ [])))
+    (step_of d (bit_of d.allowed c)) d.next refl (seen_written d n c (bit_of d.allowed c)) (node_account d n c may) (node_tokens d n c may) (h (choice_before d.allowed c) (n.may_before c may))

@@ -1,0 +1,47 @@
+-- A part of a node, in flow or outside, be it an opening bracket or no collection: what is read, and what the scanner holds there.
+use Rattle.std.proofs.Common.{◌≡◌, ℕ, List, [], ◌++◌, Bool, true, false, Option, None}
+use Rattle.defs_text.specs.Position.{Position, position_after}
+use Rattle.defs_text.specs.Text.{is_empty}
+use Rattle.defs_token.specs.Token.{Tok, Token}
+use Rattle.defs_token.specs.Account.{FlowKind}
+use Rattle.defs_token.specs.Separation.{is_separation}
+use Rattle.defs_token.specs.Piece.{IsPiece}
+use Rattle.defs_token.specs.Step.{act_of, gives_node}
+use Rattle.defs_token.specs.Key.{Line}
+use Rattle.defs_token.specs.FlowEntry.{Entry, begun_by}
+use Rattle.defs_token.specs.RowAccount.{Site, may_stand, seen}
+use Rattle.defs_token.specs.Tokens.{shown_position}
+use Rattle.model_scanner.specs.State.{Key}
+use Rattle.proof_scanner.specs.Arrives.{site_here}
+use Rattle.proof_scanner.proofs.Sound.Begun.{with_begun}
+
+-- The site after the last piece and what may begin outside flow there, where no open key is one; the separation, the piece and the text after it; the token, and the kind of the collection that it begins, if any; the innermost open
+-- key and the one that may begin here; the tokens before; the position and the text after what is read.
+pub record Part : Type 0 where
+  pub site : Site
+  pub line : Line
+  pub separation : List ℕ
+  pub piece : List ℕ
+  pub next : List ℕ
+  pub tok : Tok
+  pub kind : Option FlowKind
+  pub open_key : Option Key
+  pub new : Key
+  pub allowed : Bool
+  pub tokens : List Token
+  pub past : Position
+  pub rest : List ℕ
+
+-- the site at the piece
+abbrev pub part_site : (in_flow : Bool) → Part → Site
+part_site fl p = site_here fl (position_after p.site.position p.separation (p.piece ++ p.next)) p.site
+
+-- What is known of it, in flow or outside, where these are the entries.
+pub record IsPart (fl : Bool) (es : List Entry) (p : Part) : Type 0 where
+  pub act : act_of p.tok ≡ gives_node
+  pub begun : begun_by p.tok ≡ with_begun p.kind []
+  pub is_filled : is_separation false p.separation (p.piece ++ p.next) ≡ true
+  pub is_solid : is_empty p.piece ≡ false
+  pub is_piece : IsPiece (seen (record { site = p.site; line = p.line; entries = es }) (part_site fl p) p.separation) p.piece p.next None (shown_position (part_site fl p) p.piece p.tok p.next) p.tok
+  pub stands : may_stand fl p.site (part_site fl p) p.separation p.piece p.tok p.next ≡ true
+  pub position_is : p.new.position ≡ (part_site fl p).position

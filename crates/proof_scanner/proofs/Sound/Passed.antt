@@ -1,0 +1,209 @@
+-- What holds between two fetches still holds at the next token, or at the text's end, with the separation up to there.
+use Rattle.std.proofs.Common.{◌≡◌, ℕ, suc, ◌+◌, ◌-◌, List, [], ◌∷◌, ◌++◌, Bool, true, false, not, ◌&&◌, ◌||◌, ◌==◌, if◌then◌else◌, drop, Option, Some, None, Result, Ok, refl, ap, sym, ◌∙◌, append-nil, arith}
+use Rattle.std.proofs.lemmas.Bool.{eqb-true}
+use Rattle.std.proofs.Math.Bool.{or-false}
+use Rattle.defs_text.specs.Classes.{is_break, is_blank}
+use Rattle.defs_text.specs.Breaks.{is_before_line_feed, has_no_break}
+use Rattle.defs_text.specs.Position.{Position, position_after}
+use Rattle.defs_text.specs.Text.{is_empty}
+use Rattle.defs_text.specs.Tags.{leading}
+use Rattle.defs_token.specs.Separation.{is_separation}
+use Rattle.defs_token.specs.Step.{Previous, plain_scalar, quoted_scalar, block_scalar, flow_collection, directive, another, has_break}
+use Rattle.defs_token.specs.Indentation.{least_column}
+use Rattle.defs_token.specs.Key.{without_break, begins_free_line}
+use Rattle.defs_token.specs.FlowEntry.{is_no_comment, is_renewed}
+use Rattle.yaml_tokens.specs.declared.problem.Fault.{Fault}
+use Rattle.model_scanner.specs.declared.level.Indent.{Indent}
+use Rattle.model_scanner.specs.State.{Key, Held, ScannerState}
+use Rattle.model_scanner.specs.Space.{between, skip, skip_to_next_token}
+use Rattle.model_scanner.proofs.Holds.{Holds, went, refused}
+use Rattle.proof_lexers.specs.PlainEnds.{is_white, begins_white}
+use Rattle.proof_lexers.specs.PlainEnds as plain_ends
+use Rattle.proof_lexers.specs.Separations.{begins_separation, after_separation, PassesAs, passes, refuses}
+use Rattle.proof_lexers.proofs.Separation.Separations.{separations_are_passed}
+use Rattle.proof_lexers.proofs.Bridges.{same_break, same_blank}
+use Rattle.proof_scanner.specs.Here.{IsLive}
+use Rattle.proof_scanner.proofs.Cut.Positions.{not_before_after}
+use Rattle.proof_scanner.specs.Choices.{MayChoose}
+use Rattle.proof_scanner.specs.StandsInRow.{columns, has_open_level, AreCollections, AreLevels, IsTopLevel, HasFirst, IsReadOn}
+use Rattle.proof_scanner.proofs.Sound.Arrivals.{live_before}
+use Rattle.proof_scanner.proofs.Sound.LastLines.{break_append}
+use Rattle.proof_scanner.proofs.Sound.Skips.{IsLeast}
+
+-- ---- what stands at a token
+
+no_tab : (c : ℕ) (x : Bool) → (c == 9) ≡ x → is_blank c ≡ false → x ≡ false
+unfolding is_blank
+no_tab c false e f = refl
+no_tab c true e f = let same : c ≡ 9 = eqb-true c 9 e in absurd (cc (ap is_blank same, f))
+
+-- where no separation begins, nothing is skipped
+pub skip_stays : (a : List ℕ) (s : Held) → begins_separation a ≡ false → skip between a s ≡ Ok (record { rest = a; held = s })
+unfolding skip
+skip_stays [] s h = refl
+skip_stays (c ∷ a) s h = by (is_blank c) (is_break c) (c == 35) refl refl refl h
+  where
+    by : (x y z : Bool) → is_blank c ≡ x → is_break c ≡ y → (c == 35) ≡ z → ((x || y) || z) ≡ false → skip between (c ∷ a) s ≡ Ok (record { rest = c ∷ a; held = s })
+    by true y z e f g h = absurd (cc h)
+    by false true z e f g h = absurd (cc h)
+    by false false true e f g h = absurd (cc h)
+    by false false false e f g h = rw (sym (same_break c), sym (same_blank c), e, f, g, no_tab c (c == 9) refl e) refl
+
+-- ---- what was passed
+
+-- From one state to another a separation was passed, up to a token or the text's end.
+pub record Exact (t u : ScannerState) : Type 0 where
+  pub is_leading : Bool
+  pub separation : List ℕ
+  pub cut : t.rest ≡ separation ++ u.rest
+  pub is_filled : is_separation false separation u.rest ≡ true
+  pub solid : begins_separation u.rest ≡ false
+  pub is_state : u ≡ after_separation t.held is_leading separation u.rest
+
+pub exact : (t : ScannerState) → Holds (Exact t) (skip_to_next_token t)
+unfolding skip_to_next_token
+exact t = by (skip between t.rest t.held) (separations_are_passed t.held t.rest)
+  where
+    by : (x : Result ScannerState Fault) → PassesAs t.held t.rest x → Holds (Exact t) x
+    by x (passes leading separation rest cut fills ends e) = rw e (went (record { is_leading = leading; separation = separation; cut = cut; is_filled = fills; solid = ends; is_state = refl }))
+    by x (refuses before blanks rest cut fills left are begins e) = rw e refused
+
+-- a text that goes on after a part goes on from it
+pub goes_on : (g rest rest2 : List ℕ) → rest ≡ g ++ rest2 → is_empty rest2 ≡ false → is_empty rest ≡ false
+goes_on [] rest rest2 e h = ap is_empty e ∙ h
+goes_on (c ∷ g) rest rest2 e h = ap is_empty e
+
+-- a key that may be one after a separation may be one before it
+pub live_before_it : (k : Key) (p : Position) (g rest rest2 : List ℕ) → rest ≡ g ++ rest2 → IsLive k (position_after p g rest2) rest2 → IsLive k p rest
+live_before_it k p g rest rest2 e l = live_before k p (position_after p g rest2) rest rest2 (not_before_after p g rest2) (goes_on g rest rest2 e l.1) l
+
+pub may_before : (c : Bool) (k : Option Key) (p : Position) (g rest rest2 : List ℕ) → rest ≡ g ++ rest2 → MayChoose c k (position_after p g rest2) rest2 → MayChoose c k p rest
+may_before c None p g rest rest2 e m = tt
+may_before true (Some k) p g rest rest2 e m = live_before_it k p g rest rest2 e m
+may_before false (Some k) p g rest rest2 e m = m
+
+-- ---- what the last piece asks of the separation
+
+pub same_has_break : (g : List ℕ) → plain_ends.has_break g ≡ has_break g
+same_has_break [] = refl
+same_has_break (c ∷ g) = by (is_break c) (same_has_break g)
+  where
+    by : (x : Bool) → plain_ends.has_break g ≡ has_break g → (x || plain_ends.has_break g) ≡ not (not x && has_no_break g)
+    by true h = refl
+    by false h = h
+
+-- what a separation begins with, if no blank and no break, is a comment
+pub first_comment : (c : ℕ) (p rest : List ℕ) → is_white c ≡ false → is_separation false (c ∷ p) rest ≡ true → (c == 35) ≡ true
+first_comment c p rest h f = by (is_blank c) (is_break c) (c == 35) h f
+  where
+    by : (x y z : Bool) → (x || y) ≡ false → ((x || y || z) && is_separation z p rest) ≡ true → z ≡ true
+    by true y z h f = absurd (cc h)
+    by false true z h f = absurd (cc h)
+    by false false true h f = refl
+    by false false false h f = absurd (cc f)
+
+leading_stop : (g p : List ℕ) (c : ℕ) → is_no_comment c ≡ false → leading is_no_comment (g ++ c ∷ p) ≡ leading is_no_comment g
+leading_stop [] p c h = rw h refl
+leading_stop (d ∷ g) p c h = by (is_no_comment d) (leading_stop g p c h)
+  where
+    by : (x : Bool) → leading is_no_comment (g ++ c ∷ p) ≡ leading is_no_comment g → (if x then d ∷ leading is_no_comment (g ++ c ∷ p) else []) ≡ (if x then d ∷ leading is_no_comment g else [])
+    by true e = ap (λ l. d ∷ l) e
+    by false e = refl
+
+-- whether a key may begin again in an entry is known before all of the separation is passed
+pub renewed_alike : (b : Previous) (q : Position) (f g rest rest2 : List ℕ) → rest ≡ g ++ rest2 → is_separation false g rest2 ≡ true → IsReadOn b q f rest → is_renewed b (f ++ g) ≡ is_renewed b f
+renewed_alike plain_scalar q f [] rest rest2 cut fills r = ap (λ x. has_break (leading is_no_comment x)) (append-nil f)
+renewed_alike plain_scalar q f (c ∷ p) rest rest2 cut fills r =
+    let white : is_white c ≡ false = rw cut at r in
+    ap has_break (leading_stop f p c (ap not (first_comment c p rest2 white fills)))
+renewed_alike quoted_scalar q f g rest rest2 cut fills r = refl
+renewed_alike block_scalar q f g rest rest2 cut fills r = refl
+renewed_alike flow_collection q f g rest rest2 cut fills r = refl
+renewed_alike directive q f g rest rest2 cut fills r = refl
+renewed_alike another q f g rest rest2 cut fills r = refl
+
+-- a key may begin on a line after what was passed, or what was passed before
+pub free_line_append : (b : Previous) (q : Position) (f g rest rest2 : List ℕ) → rest ≡ g ++ rest2 → IsReadOn b q f rest → begins_free_line b (f ++ g) ≡ (begins_free_line b f || has_break g)
+free_line_append plain_scalar q f g rest rest2 cut r = break_append f g
+free_line_append quoted_scalar q f g rest rest2 cut r = break_append f g
+free_line_append block_scalar q f g rest rest2 cut r = break_append f g
+free_line_append flow_collection q f g rest rest2 cut r = break_append f g
+free_line_append another q f g rest rest2 cut r = break_append f g
+free_line_append directive q f [] rest rest2 cut r = ap (λ x. has_break (without_break x)) (append-nil f) ∙ sym (or-false (has_break (without_break f)))
+free_line_append directive q f (c ∷ p) rest rest2 cut r = by f (r (ap is_empty cut))
+  where
+    by : (f : List ℕ) → HasFirst f rest → has_break (without_break (f ++ c ∷ p)) ≡ (has_break (without_break f) || has_break (c ∷ p))
+    by [] h = absurd h
+    by (d ∷ []) h =
+        let none : is_before_line_feed d (c ∷ p) ≡ false = rw cut at h in
+        ap (λ b. has_break (if b then drop 1 (c ∷ p) else c ∷ p)) none
+    by (d ∷ x ∷ f) h = two (is_before_line_feed d (x ∷ f))
+      where
+        two : (b : Bool) → has_break (if b then f ++ c ∷ p else x ∷ (f ++ c ∷ p)) ≡ (has_break (if b then f else x ∷ f) || has_break (c ∷ p))
+        two true = break_append f (c ∷ p)
+        two false = break_append (x ∷ f) (c ∷ p)
+
+-- what was read on over stays so
+pub read_on_append : (b : Previous) (q : Position) (f g rest rest2 : List ℕ) → rest ≡ g ++ rest2 → begins_separation rest2 ≡ false → IsReadOn b q f rest → IsReadOn b q (f ++ g) rest2
+read_on_append plain_scalar q f g rest rest2 cut solid r = white rest2 solid
+  where
+    white : (a : List ℕ) → begins_separation a ≡ false → begins_white a ≡ false
+    white [] h = refl
+    white (c ∷ a) h = by (is_white c) h
+      where
+        by : (x : Bool) → (x || (c == 35)) ≡ false → x ≡ false
+        by true h = absurd (cc h)
+        by false h = refl
+read_on_append quoted_scalar q f g rest rest2 cut solid r = tt
+read_on_append block_scalar q f g rest rest2 cut solid r = λ some. r (goes_on g rest rest2 cut some)
+read_on_append flow_collection q f g rest rest2 cut solid r = tt
+read_on_append another q f g rest rest2 cut solid r = tt
+read_on_append directive q f g rest rest2 cut solid r = λ some. by f (r (goes_on g rest rest2 cut some))
+  where
+    alone : (d : ℕ) (g : List ℕ) → is_before_line_feed d (g ++ rest2) ≡ false → is_before_line_feed d (g ++ rest2) ≡ is_before_line_feed d g
+    alone d [] h = h
+    alone d (x ∷ g) h = refl
+
+    by : (f : List ℕ) → HasFirst f rest → HasFirst (f ++ g) rest2
+    by [] h = absurd h
+    by (d ∷ []) h = alone d g (ap (λ y. is_before_line_feed d y) (sym cut) ∙ h)
+    by (d ∷ x ∷ f) h = refl
+
+-- ---- the least column
+
+-- each level of a collection has a column
+some_collections : (i : ℕ) (ds : List Indent) → AreCollections i ds → is_empty ds ≡ false → is_empty (columns i ds) ≡ false
+some_collections i [] a e = absurd (cc e)
+some_collections i (d ∷ ds) a e = rw a.0 refl
+
+pub some_columns : (i : ℕ) (ds : List Indent) → AreLevels i ds → is_empty ds ≡ false → is_empty (columns i ds) ≡ false
+some_columns i [] a e = absurd (cc e)
+some_columns i (d ∷ ds) a e = by d.needs_block_end a.0
+  where
+    by : (b : Bool) → IsTopLevel b i d.indent ds → is_empty (if b then (i - 1) ∷ columns d.indent ds else columns d.indent ds) ≡ false
+    by true h = refl
+    by false h = some_collections d.indent ds a.1 h.1
+
+-- the least column is that of the innermost level
+least_of_collections : (i : ℕ) (ds : List Indent) → AreCollections i ds → is_empty ds ≡ false → i ≡ suc (least_column (columns i ds) false)
+least_of_collections i [] a e = absurd (cc e)
+least_of_collections i (d ∷ ds) a e = rw a.0 (omega (arith, a.1))
+
+pub least_of_levels : (i : ℕ) (ds : List Indent) → AreLevels i ds → is_empty ds ≡ false → i ≡ suc (least_column (columns i ds) (has_open_level ds))
+least_of_levels i [] a e = absurd (cc e)
+least_of_levels i (d ∷ ds) a e = by d.needs_block_end a.0
+  where
+    open_level : (cs : List ℕ) (o : ℕ) → o ≡ suc (least_column cs false) → is_empty cs ≡ false → i ≡ o + 1 → i ≡ suc (least_column cs true)
+    open_level [] o h s k = absurd (cc s)
+    open_level (n ∷ ns) o h s k = omega (arith, h, k)
+
+    by : (b : Bool) → IsTopLevel b i d.indent ds → i ≡ suc (least_column (if b then (i - 1) ∷ columns d.indent ds else columns d.indent ds) (not b))
+    by true h = omega (arith, h)
+    by false h = open_level (columns d.indent ds) d.indent (least_of_collections d.indent ds a.1 h.1) (some_collections d.indent ds a.1 h.1) h.0
+
+pub least_is : (bs : List ℕ) (aw : Bool) (s : Held) → bs ≡ columns s.indent s.indents → aw ≡ has_open_level s.indents → AreLevels s.indent s.indents → IsLeast another (least_column bs aw) s
+least_is bs aw s b w a = (λ e. rw (b, w) (none s.indents e), λ e. rw (b, w) (least_of_levels s.indent s.indents a e))
+  where
+    none : (ds : List Indent) → is_empty ds ≡ true → least_column (columns s.indent ds) (has_open_level ds) ≡ 0
+    none [] e = refl
+    none (d ∷ ds) e = absurd (cc e)

@@ -1,0 +1,380 @@
+-- Plain scalars: what holds between two fetches holds after them.
+use Rattle.std.proofs.Common.{◌≡◌, ℕ, ◌<◌, ◌≤◌, List, [], ◌∷◌, ◌++◌, Bool, true, false, not, ◌&&◌, ◌||◌, ◌==◌, nat_le, length, map, Option, Some, None, Result, Ok, refl, ap, sym, ◌∙◌, subst, arith, inl, inr, ◌⊎◌}
+use Rattle.std.proofs.lemmas.Bool.{and_parts, eqb-true}
+use Rattle.std.proofs.lemmas.Bool.Decides.{nat_tests}
+use Rattle.defs_text.specs.Position.{Position, position_after}
+use Rattle.defs_text.specs.Text.{is_empty, has_no_nul}
+use Rattle.defs_text.specs.Classes.{is_break, is_blank, is_one_of}
+use Rattle.yaml_tokens.specs.declared.problem.Fault.{Fault}
+use Rattle.defs_text.specs.FlowScalar.{plain_value}
+use Rattle.defs_text.specs.Tags.{leading}
+use Rattle.defs_token.specs.Token.{Tok, Style}
+use Rattle.defs_token.specs.Account.{Account as PieceAccount, is_in_flow, collection_column, innermost_column, is_adjacent, before_past}
+use Rattle.defs_token.specs.Piece.{IsPiece}
+use Rattle.defs_token.specs.Plain.{ends_with_content, goes_on, stops, is_whole_plain, begins_plain}
+use Rattle.defs_token.specs.Step.{has_break, plain_scalar}
+use Rattle.defs_token.specs.Column.{innermost}
+use Rattle.defs_token.specs.Indentation.{least_column, awaits_past, is_indented_by_spaces, has_tab_within, last_line}
+use Rattle.defs_token.specs.Lines.{plain_lines_fit, has_dash_before_flow}
+use Rattle.defs_token.specs.FlowEntry.{Entry, is_no_comment, is_renewed}
+use Rattle.defs_token.specs.RowAccount.{Site, before_by, level_of, is_deep_enough, seen}
+use Rattle.model_scanner.specs.declared.level.FlowLevel.{FlowLevel}
+use Rattle.model_scanner.specs.declared.context.Context.{Context}
+use Rattle.model_scanner.specs.Machine as machine
+use Rattle.model_scanner.specs.Plain.{Plain, plain}
+use Rattle.model_scanner.specs.Indents.{Levels, without_open, unroll_non_block_indents}
+use Rattle.model_scanner.specs.State.{Key, Held, ScannerState, in_flow, on_held, push, lexed}
+use Rattle.model_scanner.specs.Flow.{allow_key}
+use Rattle.model_scanner.specs.Document.{context, after_plain, fetch_plain_scalar}
+use Rattle.model_scanner.proofs.Holds.{Holds, went, read}
+use Rattle.proof_lexers.specs.PlainEnds as plains
+use Rattle.proof_lexers.specs.PlainEnds.{collection_of, begins_solid, is_white, is_gap, begins_white, is_indented, PlainEndsAs, reads, refuses}
+use Rattle.proof_lexers.proofs.Plain.Scalars.{scans_end}
+use Rattle.proof_lexers.specs.Separations.{begins_separation}
+use Rattle.proof_lexers.proofs.Separation.Positions.{position_append}
+use Rattle.proof_scanner.specs.PiecesRead.{ReadAs, comes_plain}
+use Rattle.proof_scanner.proofs.Cut.Pieces.Separations.{white_is_no_hash, gap_is_separation}
+use Rattle.proof_scanner.proofs.Cut.Pieces.Plains.{plain_is_read}
+use Rattle.proof_scanner.proofs.Cut.Pieces.Inserted.{no_break_on_line}
+use Rattle.proof_scanner.proofs.Cut.Positions.{not_before_after, index_after}
+use Rattle.proof_scanner.proofs.Cut.Saved.{saved_keys, saved_is}
+use Rattle.proof_scanner.proofs.Cut.Nodes.{IsDeep, adjacent_other, less_or}
+use Rattle.proof_scanner.specs.StandsInRow.{columns, is_at_comment_or_end, HasNoTabs, Stands}
+use Rattle.proof_scanner.specs.Arrives.{Arrives}
+use Rattle.proof_scanner.proofs.Sound.Sides.{with_entries, ArrivesBy}
+use Rattle.proof_scanner.proofs.Sound.StreamEnds.{same_flow}
+use Rattle.proof_scanner.proofs.Sound.Passed.{same_has_break}
+use Rattle.proof_scanner.proofs.Sound.QuotedEnds.{ends_in_line, on_one_line}
+use Rattle.proof_scanner.proofs.Sound.PlainLines.{PlainFits, plain_fits}
+use Rattle.proof_scanner.proofs.Sound.WithoutOpen.{AreClosed, without_is}
+use Rattle.proof_scanner.proofs.Sound.ReadNodes.{Read, next_of, site_of, site_then, allowed_past, IsRead, node_read}
+
+-- ---- what was read
+
+-- What the scan of a plain scalar read at a position: its piece, and the gap after it.
+pub record PlainAs (ctx : Context) (p : Position) (text : List ℕ) (x : machine.Read Plain) : Type 0 where
+  piece : List ℕ
+  gap : List ℕ
+  cut : text ≡ piece ++ (gap ++ x.rest)
+  whole : is_whole_plain ctx.flow (collection_of ctx.indent) piece (gap ++ x.rest) ≡ true
+  white : is_gap gap ≡ true
+  ends : begins_white x.rest ≡ false
+  value_is : plain_value piece ≡ Some x.value.text
+  leads : x.value.leading ≡ has_break gap
+  end_is : x.position ≡ position_after (position_after p piece (gap ++ x.rest)) gap x.rest
+  fits : PlainFits ctx p piece gap x.rest
+
+plain_as : (ctx : Context) (p : Position) (text : List ℕ) (x : machine.Read Plain) → has_no_nul text ≡ true → begins_solid text ≡ true → is_indented ctx p ≡ true → plain ctx text p ≡ Ok x → PlainAs ctx p text x
+plain_as ctx p text x none begins indented e = by (plain ctx text p) refl (scans_end ctx text p none begins indented)
+  where
+    by : (y : Result (machine.Read Plain) Fault) → plain ctx text p ≡ y → PlainEndsAs ctx p text y → PlainAs ctx p text x
+    by y i (refuses f why j) = absurd (cc (i, j, e))
+    by y i (reads piece gap rest value cut whole white ends value_is j) =
+        let same : plains.after_plain p piece gap rest value ≡ x = cc (i, j, e) in
+        subst (λ (z : machine.Read Plain). plain ctx text p ≡ Ok z → PlainAs ctx p text z) same (λ k. record {
+          piece = piece;
+          gap = gap;
+          cut = cut;
+          whole = whole;
+          white = white;
+          ends = ends;
+          value_is = value_is;
+          leads = same_has_break gap;
+          end_is = position_append p piece gap rest;
+          fits = plain_fits ctx p text piece gap (plains.after_plain p piece gap rest value) begins cut k;
+        }) e
+
+-- ---- its piece and its gap
+
+content_last : (c : ℕ) (r : List ℕ) → ends_with_content c r ≡ true → ends_in_line (c ∷ r) ≡ true
+content_last c [] h = (and_parts (not (is_blank c)) (not (is_break c)) h).1
+content_last c (d ∷ r) h = content_last d r h
+
+whole_ends : (fl : Bool) (collection : Option ℕ) (piece next : List ℕ) → is_whole_plain fl collection piece next ≡ true → ends_in_line piece ≡ true
+whole_ends fl collection [] next h = absurd (cc h)
+whole_ends fl collection (c ∷ r) next h =
+    content_last c r (and_parts (goes_on fl collection _ r next) (ends_with_content c r) (and_parts (goes_on fl collection _ r next && ends_with_content c r) (stops fl collection _ next) h).0).1
+
+whole_solid : (fl : Bool) (collection : Option ℕ) (piece next : List ℕ) → is_whole_plain fl collection piece next ≡ true → is_empty piece ≡ false
+whole_solid fl collection [] next h = absurd (cc h)
+whole_solid fl collection (c ∷ r) next h = refl
+
+-- a gap has no comment
+pub no_comment : (g : List ℕ) → is_gap g ≡ true → (is_one_of g 35 ≡ false) × (leading is_no_comment g ≡ g)
+no_comment [] h = (refl, refl)
+no_comment (c ∷ g) h =
+    let q = and_parts (is_white c) (is_gap g) h in
+    let none : (c == 35) ≡ false = white_is_no_hash c q.0 in
+    let swapped : (35 == c) ≡ false = flip none in
+    let others = no_comment g q.1 in
+    (rw swapped others.0, rw none (ap (λ l. c ∷ l) others.1))
+  where
+    flip : (c == 35) ≡ false → (35 == c) ≡ false
+    flip e = grind (arith, e)
+
+-- a gap that stays on its line has no break
+gap_in_line : (q : Position) (g rest : List ℕ) → is_empty rest ≡ false → begins_white rest ≡ false → (position_after q g rest).line ≤ q.line → has_break g ≡ false
+unfolding is_break
+gap_in_line q g [] some ends h = absurd (cc some)
+gap_in_line q g (c ∷ r) some ends h = ap not (no_break_on_line q g c r no_feed h)
+  where
+    white_feed : (x y : Bool) → y ≡ true → (x || y) ≡ false → ⊥
+    white_feed true y e h = cc h
+    white_feed false y e h = cc (e, h)
+
+    feed : (c == 10) ≡ true → is_break c ≡ true
+    feed e = rw (eqb-true c 10 e) refl
+
+    no_feed : (c == 10) ≡ false
+    no_feed = by (c == 10) refl
+      where
+        by : (b : Bool) → (c == 10) ≡ b → b ≡ false
+        by true e = absurd (white_feed (is_blank c) (is_break c) (feed e) ends)
+        by false e = refl
+
+-- outside flow it does not matter what stands before
+comes_alike : (x y : Bool) (column : ℕ) (text : List ℕ) → comes_plain false x column text ≡ comes_plain false y column text
+comes_alike x y column [] = refl
+comes_alike x y column (c ∷ r) = refl
+
+-- what begins no separation begins with content
+solid_text : (text : List ℕ) → is_empty text ≡ false → begins_separation text ≡ false → begins_solid text ≡ true
+solid_text [] some h = absurd (cc some)
+solid_text (c ∷ r) some h = by (is_white c) h
+  where
+    by : (w : Bool) → (w || (c == 35)) ≡ false → not w ≡ true
+    by true h = absurd (cc h)
+    by false h = refl
+
+some_plain : (fl x : Bool) (column : ℕ) (text : List ℕ) → comes_plain fl x column text ≡ true → is_empty text ≡ false
+some_plain fl x column [] h = absurd (cc h)
+some_plain fl x column (c ∷ r) h = refl
+
+pub same_innermost : (bs : List ℕ) → innermost_column (map (λ n. Some n) bs) ≡ innermost bs
+same_innermost [] = refl
+same_innermost (n ∷ ns) = refl
+
+some_length : (l : List ℕ) → is_empty l ≡ false → 0 < length l
+some_length [] h = absurd (cc h)
+some_length (c ∷ l) h = omega arith
+
+-- ---- the step
+
+module _ (text : List ℕ) (t : ScannerState) (a : Arrives text t) (deep : IsDeep t.held) (comes : comes_plain (in_flow t.held) (t.held.position.index == t.held.adjacent_value_at) t.held.position.col t.rest ≡ true) where
+  -- the levels without those that open no collection
+  abbrev pub gone : Levels
+  gone = without_open t.held.indent t.held.indents t.held.tokens
+
+  pub closed : AreClosed t.held.indent t.held.indents t.held.tokens gone
+  closed = without_is t.held.indent t.held.indents t.held.tokens a.are_levels
+
+  abbrev pub ctx : Context
+  ctx = record { flow = in_flow t.held; indent = gone.indent }
+
+  indented : is_indented ctx t.held.position ≡ true
+  indented = less_or (in_flow t.held) gone.indent t.held.position.col (omega (arith, deep, closed.not_deeper))
+
+  pub some_here : is_empty t.rest ≡ false
+  some_here = some_plain (in_flow t.held) (t.held.position.index == t.held.adjacent_value_at) t.held.position.col t.rest comes
+
+  module _ (x : machine.Read Plain) (scanned : plain ctx t.rest t.held.position ≡ Ok x) where
+    pub q : PlainAs ctx t.held.position t.rest x
+    q = plain_as ctx t.held.position t.rest x a.is_clean (solid_text t.rest some_here a.is_solid) indented scanned
+
+    abbrev tok : Tok
+    tok = Tok.scalar Style.plain x.value.text
+
+    abbrev pub d : Read
+    d = record {
+      tok = tok;
+      piece = q.piece;
+      gap = q.gap;
+      rest = x.rest;
+      end = x.position;
+      indents = gone.indents;
+      indent = gone.indent;
+      leading = x.value.leading;
+      allowed = x.value.leading;
+      adjacent = t.held.adjacent_value_at;
+    }
+
+    in_line : ends_in_line q.piece ≡ true
+    in_line = whole_ends ctx.flow (collection_of ctx.indent) q.piece (q.gap ++ x.rest) q.whole
+
+    solid : is_empty q.piece ≡ false
+    solid = whole_solid ctx.flow (collection_of ctx.indent) q.piece (q.gap ++ x.rest) q.whole
+
+    later : t.held.position.index < x.position.index
+    later =
+        let past : Position = position_after t.held.position q.piece (q.gap ++ x.rest) in
+        omega (arith, ap (λ p. p.index) q.end_is, index_after past q.gap x.rest, index_after t.held.position q.piece (q.gap ++ x.rest), some_length q.piece solid)
+
+    one_line_of : is_empty x.rest ≡ false → x.position.line ≤ t.held.position.line → (has_break q.piece ≡ false) × (has_break q.gap ≡ false)
+    one_line_of some h =
+        let past : Position = position_after t.held.position q.piece (q.gap ++ x.rest) in
+        let up : past.line ≤ (position_after past q.gap x.rest).line = (not_before_after past q.gap x.rest).0 in
+        let first : t.held.position.line ≤ past.line = (not_before_after t.held.position q.piece (q.gap ++ x.rest)).0 in
+        let same : x.position.line ≡ (position_after past q.gap x.rest).line = ap (λ p. p.line) q.end_is in
+        (on_one_line t.held.position q.piece (q.gap ++ x.rest) in_line (omega (arith, h, up, same)), gap_in_line past q.gap x.rest some q.ends (omega (arith, h, first, same)))
+
+    allowed_by : (fl : Bool) → x.value.leading ≡ allowed_past fl plain_scalar q.gap
+    allowed_by true = q.leads ∙ ap has_break (sym (no_comment q.gap q.white).1)
+    allowed_by false = q.leads
+
+    none_awaits : (fl : Bool) (bs : List ℕ) (b : Bool) (next : List ℕ) → awaits_past fl tok bs b next ≡ false
+    none_awaits true bs b next = refl
+    none_awaits false bs b next = refl
+
+    module _ (fs : List FlowLevel) (ks : List (Option Key)) (es : List Entry) (flow : t.held.flow ≡ fs) (r : ArrivesBy text t fs ks es) where
+      abbrev at : Site
+      at = site_of t fs r.site
+
+      abbrev fl : Bool
+      fl = not (is_empty fs)
+
+      flow_is : in_flow t.held ≡ fl
+      flow_is = ap (λ f. not (is_empty f)) flow
+
+      -- the account with which the piece is looked at
+      abbrev own : PieceAccount
+      own = seen (with_entries r.site r.line es) at r.separation
+
+      same_levels : (es : List Entry) → is_empty (map level_of es) ≡ is_empty es
+      same_levels [] = refl
+      same_levels (e ∷ es) = refl
+
+      own_flow : is_in_flow own ≡ in_flow t.held
+      own_flow = ap not (same_levels es ∙ sym (same_flow t.held.key_allowed (is_renewed r.site.before r.separation) fs ks es r.are_entries)) ∙ sym flow_is
+
+      blocks_then : at.blocks ≡ columns gone.indent gone.indents
+      blocks_then = r.blocks_are ∙ closed.same_columns
+
+      own_column : collection_column own ≡ collection_of gone.indent
+      own_column = same_innermost at.blocks ∙ (ap innermost blocks_then ∙ sym closed.is_least.0)
+
+      least_here : least_column at.blocks true ≡ gone.indent
+      least_here = ap (λ bs. least_column bs true) blocks_then ∙ closed.is_least.1
+
+      comes_here : comes_plain (in_flow t.held) (is_adjacent own.before) t.held.position.col t.rest ≡ true
+      comes_here = by (is_empty fs) refl
+        where
+          by : (y : Bool) → is_empty fs ≡ y → comes_plain (in_flow t.held) (is_adjacent own.before) t.held.position.col t.rest ≡ true
+          by false h = ap (λ z. comes_plain (in_flow t.held) z t.held.position.col t.rest) (r.is_adjacent_here h some_here) ∙ comes
+          by true h =
+              let out : in_flow t.held ≡ false = flow_is ∙ ap not h in
+              ap (λ z. comes_plain z (is_adjacent own.before) t.held.position.col t.rest) out ∙
+              (comes_alike (is_adjacent own.before) (t.held.position.index == t.held.adjacent_value_at) t.held.position.col t.rest ∙
+              (ap (λ z. comes_plain z (t.held.position.index == t.held.adjacent_value_at) t.held.position.col t.rest) (sym out) ∙ comes))
+
+      read_as : ReadAs own t.rest tok t.held.position x.rest x.position
+      read_as = plain_is_read own ctx t.rest x a.is_clean own_flow own_column comes_here indented scanned
+
+      begins : begins_plain (is_in_flow own) (is_adjacent own.before) own.position.col (q.piece ++ next_of d) ≡ true
+      begins = ap (begins_plain (is_in_flow own) (is_adjacent own.before) own.position.col) (sym q.cut ∙ read_as.is_text) ∙ (read_as.is_piece None).0.0
+
+      piece_is : IsPiece own q.piece (next_of d) None t.held.position tok
+      piece_is = ((begins, ap (λ f. is_whole_plain f (collection_column own) q.piece (next_of d)) own_flow ∙ (ap (λ c. is_whole_plain (in_flow t.held) c q.piece (next_of d)) own_column ∙ q.whole), q.value_is), refl)
+
+      deep_by : (f : Bool) → f ≡ in_flow t.held → is_deep_enough f tok at ≡ true
+      deep_by false h = refl
+      deep_by true h = let k : gone.indent ≤ t.held.position.col = q.fits.deep (sym h) in less (least_column at.blocks true) t.held.position.col (omega (arith, k, least_here))
+        where
+          less : (m n : ℕ) → m ≤ n → nat_le m n ≡ true
+          less m n h = grind (arith, nat_tests)
+
+      dash_by : (f : Bool) → f ≡ in_flow t.held → not (f && has_dash_before_flow q.piece (next_of d)) ≡ true
+      dash_by f h = ap not (ap (λ y. y && has_dash_before_flow q.piece (next_of d)) h ∙ q.fits.dash)
+
+      spaced : (has_break q.gap ≡ true → has_tab_within gone.indent (last_line q.gap) ≡ false) → (aw : Bool) → aw ≡ false → is_indented_by_spaces plain_scalar at.blocks aw q.gap ≡ true
+      spaced h aw e = by (has_break q.gap) refl
+        where
+          value : (aw || not (is_one_of q.gap 35)) ≡ true
+          value = rw (e, (no_comment q.gap q.white).0) refl
+
+          by : (y : Bool) → has_break q.gap ≡ y → (not y || not (has_tab_within (least_column at.blocks (aw || not (is_one_of q.gap 35))) (last_line q.gap))) ≡ true
+          by false f = refl
+          by true f = ap (λ z. not (has_tab_within (least_column at.blocks z) (last_line q.gap))) value ∙ (ap (λ n. not (has_tab_within n (last_line q.gap))) least_here ∙ ap not (h f))
+
+      no_tabs : HasNoTabs (site_then t fs r.site d) q.gap x.rest
+      no_tabs = by (has_break q.gap) refl
+        where
+          awaits_then : awaits_past fl tok at.blocks at.awaits (next_of d) ≡ false
+          awaits_then = none_awaits fl at.blocks at.awaits (next_of d)
+
+          of : has_break q.gap ≡ true → (is_at_comment_or_end x.rest ≡ true) ⊎ (has_tab_within gone.indent (last_line q.gap) ≡ false) → HasNoTabs (site_then t fs r.site d) q.gap x.rest
+          of e (inl h) = inl h
+          of e (inr h) = inr (spaced (λ _. h) (awaits_past fl tok at.blocks at.awaits (next_of d)) awaits_then)
+
+          by : (y : Bool) → has_break q.gap ≡ y → HasNoTabs (site_then t fs r.site d) q.gap x.rest
+          by true e = of e (q.fits.clear q.white e)
+          by false e = inr (spaced (λ h. absurd (cc (e, h))) (awaits_past fl tok at.blocks at.awaits (next_of d)) awaits_then)
+
+      pub is_read : IsRead t fs r.site r.line es r.separation d
+      is_read = record {
+        act = refl;
+        begun = refl;
+        cut = q.cut;
+        is_solid = solid;
+        is_filled = gap_is_separation q.gap x.rest q.white;
+        end_is = q.end_is;
+        shown = λ s. refl;
+        is_piece = piece_is;
+        is_deep = deep_by fl (sym flow_is);
+        lines_stand = ap (λ n. plain_lines_fit n q.piece) least_here ∙ q.fits.lines;
+        precedes = dash_by fl (sym flow_is);
+        columns_are = closed.same_columns;
+        awaits_is = none_awaits fl at.blocks at.awaits (next_of d) ∙ sym closed.none_open;
+        are_levels = closed.are_levels;
+        has_no_tabs = no_tabs;
+        is_leading = λ some more hash. q.leads;
+        read_on = q.ends;
+        allowed_is = allowed_by fl;
+        one_line = one_line_of;
+        was_adjacent = λ inside. adjacent_other x.position t.held.adjacent_value_at x.rest (omega (arith, a.was_adjacent, later));
+        adjacent_before = omega (arith, a.was_adjacent, later);
+      }
+
+    abbrev pub scalar_held : Held
+    scalar_held = record t.held {
+      position = x.position;
+      keys = saved_keys t.held;
+      indents = gone.indents;
+      indent = gone.indent;
+      tokens = gone.tokens;
+      key_allowed = false;
+    }
+
+    pub stands : Stands text (record { rest = x.rest; held = push t.held.position tok (after_plain x.value.leading scalar_held) })
+    stands =
+        subst (λ ts. Stands text (record { rest = x.rest; held = push t.held.position tok (after_plain x.value.leading (record scalar_held { tokens = ts })) })) (sym closed.same_tokens)
+        (node_read text t d deep a (λ fs ks es f r. is_read fs ks es f r))
+
+-- a plain scalar
+pub plain_keeps_by : (text : List ℕ) (t : ScannerState) → IsDeep t.held → comes_plain (in_flow t.held) (t.held.position.index == t.held.adjacent_value_at) t.held.position.col t.rest ≡ true → Arrives text t → Holds (Stands text) (fetch_plain_scalar t)
+unfolding fetch_plain_scalar unroll_non_block_indents
+plain_keeps_by text t deep comes a =
+    subst (λ h. Holds (Stands text) (lexed (plain (context (unroll_non_block_indents (allow_key false h))) t.rest t.held.position) (unroll_non_block_indents (allow_key false h))
+    (λ r u. Ok (on_held (λ v. push t.held.position (Tok.scalar Style.plain r.text) (after_plain r.leading v)) u)))) (sym (saved_is t.held))
+    (read (unroll_non_block_indents (allow_key false (record t.held { keys = saved_keys t.held }))) (plain (ctx text t a deep comes) t.rest t.held.position) _ (λ x k. went (stands text t a deep comes x k)))
+
+-- where a plain scalar is looked for by the account, the scanner looks for it too
+pub comes_as_held : (text : List ℕ) (t : ScannerState) (a : Arrives text t) → comes_plain (in_flow t.held) (is_adjacent (before_past (before_by a.base.site.before) a.separation)) t.held.position.col t.rest ≡ true →
+    comes_plain (in_flow t.held) (t.held.position.index == t.held.adjacent_value_at) t.held.position.col t.rest ≡ true
+comes_as_held text t a comes = by (is_empty t.held.flow) refl
+  where
+    here : Bool
+    here = is_adjacent (before_past (before_by a.base.site.before) a.separation)
+
+    some : is_empty t.rest ≡ false
+    some = some_plain (in_flow t.held) here t.held.position.col t.rest comes
+
+    by : (y : Bool) → is_empty t.held.flow ≡ y → comes_plain (in_flow t.held) (t.held.position.index == t.held.adjacent_value_at) t.held.position.col t.rest ≡ true
+    by false e = ap (λ z. comes_plain (in_flow t.held) z t.held.position.col t.rest) (sym (a.is_adjacent_here e some)) ∙ comes
+    by true e =
+        let out : in_flow t.held ≡ false = ap not e in
+        ap (λ z. comes_plain z (t.held.position.index == t.held.adjacent_value_at) t.held.position.col t.rest) out ∙
+        (comes_alike (t.held.position.index == t.held.adjacent_value_at) here t.held.position.col t.rest ∙ (ap (λ z. comes_plain z here t.held.position.col t.rest) (sym out) ∙ comes))
+
+-- the same, as the dispatch knows it
+pub plain_keeps : (text : List ℕ) (t : ScannerState) (a : Arrives text t) → IsDeep t.held → comes_plain (in_flow t.held) (is_adjacent (before_past (before_by a.base.site.before) a.separation)) t.held.position.col t.rest ≡ true → Holds (Stands text) (fetch_plain_scalar t)
+plain_keeps text t a deep comes = plain_keeps_by text t deep (comes_as_held text t a comes) a

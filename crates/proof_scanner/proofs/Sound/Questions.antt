@@ -1,0 +1,326 @@
+-- The function of the model that reads a `?`: what holds where it begins holds between two fetches after it.
+use Rattle.std.proofs.Common.{◌≡◌, ℕ, zero, suc, List, [], ◌∷◌, ◌++◌, Bool, true, false, not, ◌&&◌, ◌||◌, ◌==◌, ◌⊎◌, inl, inr, if◌then◌else◌, take, length, ◌+◌, Option, Some, None, Result, Ok, refl, ap, sym, ◌∙◌, subst, arith, length-append}
+use Rattle.std.proofs.lemmas.Bool.{or_parts}
+use Rattle.defs_text.specs.Position.{Position, position_after}
+use Rattle.defs_text.specs.Classes.{is_one_of, is_break, is_at_gap}
+use Rattle.defs_text.specs.Text.{is_empty}
+use Rattle.defs_text.specs.FlowScalar.{begins_with}
+use Rattle.defs_token.specs.Token.{Tok, Token}
+use Rattle.defs_token.specs.Piece.{begins_with_space_or_break}
+use Rattle.defs_token.specs.Separation.{is_separation}
+use Rattle.yaml_tokens.specs.declared.problem.Fault.{Fault}
+use Rattle.yaml_tokens.specs.declared.problem.Fault.TheVariants.{At}
+use Rattle.yaml_tokens.specs.declared.problem.Problem.TheVariants as problem
+use Rattle.defs_token.specs.Step.{gives_question, has_break, another}
+use Rattle.defs_token.specs.Column.{is_deeper, is_in_column, opened, not_ended}
+use Rattle.defs_token.specs.Indentation.{has_tab_within, last_line, has_tab_before_piece}
+use Rattle.defs_token.specs.Key.{free, Outside, line_past}
+use Rattle.defs_token.specs.FlowEntry.{Had, waits, settled, Pair, no_pair, single_pair, asked_pair, Entry, is_keyed, takes_pair, is_renewed, renewed, had_after, pair_past, with_had, entries_past}
+use Rattle.model_scanner.specs.declared.level.FlowLevel.{FlowLevel}
+use Rattle.model_scanner.specs.declared.level.FlowLevel.TheVariants.{Mapping, Entry as InEntry, Keyed}
+use Rattle.defs_token.specs.Tokens.{put, ends_at}
+use Rattle.defs_token.specs.RowAccount.{Site, site_in}
+use Rattle.model_scanner.specs.Machine.{past}
+use Rattle.model_scanner.specs.declared.level.Indent.{Indent}
+use Rattle.model_scanner.specs.State.{Key, Held, ScannerState, ◌>>=◌, peek, in_flow, push, with_top, token, on_held, skip_indicator, after}
+use Rattle.model_scanner.specs.Keys.{remove_implicit_key}
+use Rattle.model_scanner.specs.Indents.{placed, roll_indent}
+use Rattle.model_scanner.specs.Space.{skip_yaml_whitespace}
+use Rattle.model_scanner.specs.Flow.{allow_key}
+use Rattle.model_scanner.specs.Block.{keyed, begin_key, check_key_space, fetch_key}
+use Rattle.model_scanner.proofs.Holds.{Holds, went, chained, checked, either, tried, both_hold}
+use Rattle.proof_lexers.specs.PlainEnds as ends
+use Rattle.proof_lexers.proofs.Plain.Turns.{or_true}
+use Rattle.proof_scanner.proofs.Cut.Nodes.{IsDeep}
+use Rattle.proof_scanner.proofs.Cut.Blocks.{key_removed}
+use Rattle.proof_scanner.specs.Arrives.{Arrives}
+use Rattle.proof_scanner.specs.StandsInRow.{columns, kind_of, IsPairOf, IsEntryOf, has_open_level, AreLevels, is_at_comment_or_end, HasNoTabs, Stands}
+use Rattle.proof_scanner.proofs.Sound.Arrivals.{first_not_right, numbered_more, numbered_around}
+use Rattle.proof_scanner.proofs.Sound.Around.{tokens_before}
+use Rattle.proof_scanner.proofs.Sound.EntryPieces.{low_enough, site_inside, base_inside, goes_inside_at}
+use Rattle.proof_scanner.proofs.Sound.Indicated.{past_one}
+use Rattle.proof_scanner.proofs.Sound.NodesInside.{not_keyed}
+use Rattle.proof_scanner.proofs.Sound.OutsidePieces.{site_then, base_past, read_outside_at, line_free, none_open, started_tokens}
+use Rattle.proof_scanner.proofs.Sound.Rolled.{RollsTo, rolls_to, top_closed}
+use Rattle.proof_scanner.proofs.Sound.Sides.{ArrivesBy, ArrivesOutside, ArrivesInside, arrives_side, StandsAt}
+use Rattle.proof_scanner.proofs.Sound.WhiteSpaces.{white_of, past_white, white_cut, no_tab_before, no_tab_in_last, past_white_space, white_exactly, white_first}
+
+-- ---- what is read after it
+
+no_tab_taken : (n : ℕ) (l : List ℕ) → is_one_of l 9 ≡ false → is_one_of (take n l) 9 ≡ false
+no_tab_taken zero l h = refl
+no_tab_taken (suc n) [] h = refl
+no_tab_taken (suc n) (c ∷ l) h = let q = or_parts (9 == c) (is_one_of l 9) h in rw (q.0, no_tab_taken n l q.1) refl
+
+-- no TAB indents what comes next
+pub white_indents : (s : Site) (more : List ℕ) → s.before ≡ another → HasNoTabs s (white_of false more) (past_white false more)
+white_indents s more before = by (no_tab_in_last false more)
+  where
+    all : (b : Bool) (n : ℕ) → is_one_of (last_line (white_of false more)) 9 ≡ false → (not b || not (has_tab_within n (last_line (white_of false more)))) ≡ true
+    all true n h = ap not (no_tab_taken n (last_line (white_of false more)) h)
+    all false n h = refl
+
+    by : (past_white false more ≡ []) ⊎ (is_one_of (last_line (white_of false more)) 9 ≡ false) → HasNoTabs s (white_of false more) (past_white false more)
+    by (inl e) = inl (ap is_at_comment_or_end e)
+    by (inr h) = inr (all _ _ h)
+
+-- no TAB stands there
+space_checked : (more : List ℕ) (t : ScannerState) → t.rest ≡ past_white false more → Holds (λ u. (u ≡ t) × (has_tab_before_piece false more ≡ false)) (check_key_space t)
+unfolding check_key_space
+space_checked more t e = checked (peek t.rest == 9) (At problem.TabAfterKey t.held.position) (λ h. went (refl, no_tab_before false more (first (past_white false more) (ap (λ r. peek r == 9) (sym e) ∙ h))))
+  where
+    first : (r : List ℕ) → (peek r == 9) ≡ false → begins_with 9 r ≡ false
+    first [] h = refl
+    first (c ∷ r) h = h
+
+pub past_question : (p : Position) (next : List ℕ) → position_after p (63 ∷ []) next ≡ past p
+unfolding is_break
+past_question p next = past_one p 63 next refl
+
+-- ---- outside flow
+
+-- what the scanner holds after the `?` and the separation
+abbrev pub question_end : ScannerState → (more : List ℕ) → List Indent → ℕ → List Token → ScannerState
+question_end t more ds i ts = record {
+  rest = past_white false more;
+  held = record t.held {
+    position = position_after (past t.held.position) (white_of false more) (past_white false more);
+    leading = false || has_break (white_of false more);
+    indents = ds;
+    indent = i;
+    tokens = ts ++ token t.held.position Tok.key ∷ [];
+    key_allowed = (not (in_flow t.held) && ends.has_break (white_of false more)) || not (in_flow t.held);
+    keys = with_top None t.held.keys;
+  };
+}
+
+-- the tokens with the start of a mapping, if one begins
+abbrev pub with_mapping : ScannerState → List Token
+with_mapping t = (if is_deeper t.held.position.col (columns t.held.indent t.held.indents) then placed None (token t.held.position Tok.block_mapping_start) t.held.tokens else t.held.tokens)
+
+-- what may begin after it
+abbrev pub after_question : (here : Position) → List ℕ → Outside
+after_question here bs = record { line = free; blocks = opened here.col (not_ended here.col bs) }
+
+pub question_stands : (text more : List ℕ) (t : ScannerState) (a : ArrivesBy text t [] (None ∷ []) []) → t.held.flow ≡ [] → t.held.keys ≡ None ∷ [] → t.rest ≡ 63 ∷ more → t.held.key_allowed ≡ true →
+    begins_with_space_or_break more ≡ true → has_tab_before_piece false more ≡ false → is_separation false (white_of false more) (past_white false more) ≡ true →
+    (i : ℕ) (ds : List Indent) → columns i ds ≡ opened t.held.position.col (columns t.held.indent t.held.indents) → AreLevels i ds → has_open_level ds ≡ false →
+    StandsAt text (base_past Tok.key (63 ∷ []) t.held.position a.site more (after_question t.held.position a.site.blocks)) (white_of false more) (question_end t more ds i (with_mapping t))
+question_stands text more t a flow keys e allowed begins apart fills i ds columns_are levels awaits =
+    read_outside_at text t (question_end t more ds i (with_mapping t)) a (63 ∷ []) more Tok.key (after_question t.held.position a.site.blocks) (record {
+      is_solid = refl;
+      is_piece = inl (refl, begins);
+      stands = rw (a.is_indented (ap is_empty e), apart) refl;
+      after_is = ap (λ l. line_past (is_in_column t.held.position.col bs) t.held.position bs gives_question false l) (line_free t.held.key_allowed t.rest a.line_here allowed a.line_is);
+      begun = refl;
+      tokens_are = ap (λ cs. (if is_deeper t.held.position.col cs then placed None (token t.held.position Tok.block_mapping_start) t.held.tokens else t.held.tokens) ++ put t.held.position Tok.key ∷ []) (sym a.blocks_are) ∙
+          started_tokens (is_deeper t.held.position.col bs) t.held.tokens a.tokens (ends_at t.held.position a.site.blocks bs) t.held.position Tok.block_mapping_start (put t.held.position Tok.key) a.tokens_are;
+      ends = record {
+        no_key = refl;
+        cut = e;
+        separation = white_of false more;
+        is_rest = white_cut false more;
+        is_filled = fills;
+        position_is = ap (λ q. position_after q (white_of false more) (past_white false more)) (sym (past_question t.held.position more));
+        blocks_are = ap (opened t.held.position.col) a.blocks_are ∙ sym columns_are;
+        awaits_is = sym awaits;
+        are_levels = levels;
+        read_on = tt;
+        has_no_tabs = white_indents (site_then x (63 ∷ []) Tok.key more (record { line = free; blocks = opened t.held.position.col bs })) more refl;
+        is_leading = λ b r h. refl;
+        line_is = (inl refl, ap (λ fs. (not (not (is_empty fs)) && ends.has_break (white_of false more)) || not (not (is_empty fs))) flow ∙ or_true (ends.has_break (white_of false more)), tt);
+        flow_is = flow;
+        keys_are = ap (with_top None) keys;
+        unchanged = (refl, refl, refl);
+      };
+    })
+  where
+    bs : List ℕ
+    bs = not_ended t.held.position.col a.site.blocks
+
+    x : Site
+    x = site_in false gives_question t.held.position a.site
+
+-- ---- the function
+
+-- how a key begins
+data Begins (s u : Held) : Type 0 where
+  inside : in_flow s ≡ true → u ≡ record s { flow = keyed s.flow } → Begins s u
+  outside : in_flow s ≡ false → s.key_allowed ≡ true → u ≡ roll_indent s.position.col None Tok.block_mapping_start s.position s → Begins s u
+
+key_begun : (s : Held) → Holds (Begins s) (begin_key s)
+unfolding begin_key
+key_begun s = either (in_flow s) (λ e. went (inside e refl)) (λ e. checked (not s.key_allowed) (At problem.KeyNotAllowed s.position) (λ f. went (outside e (allowed s.key_allowed f) refl)))
+  where
+    allowed : (b : Bool) → not b ≡ false → b ≡ true
+    allowed true f = refl
+    allowed false f = absurd (cc f)
+
+-- what the model does after the `?` and its mapping
+abbrev pub key_from : ScannerState → ScannerState → Result ScannerState Fault
+key_from t v =
+    skip_yaml_whitespace (skip_indicator (on_held (λ s. allow_key (not (in_flow s)) s) v)) >>= λ w.
+    check_key_space w >>= λ x.
+    Ok (on_held (push t.held.position Tok.key) x)
+
+-- the same from the separation on
+question_read : (text more : List ℕ) (p : Position) (h : Held) → is_at_gap more ≡ true →
+    (begins_with_space_or_break more ≡ true → has_tab_before_piece false more ≡ false → is_separation false (white_of false more) (past_white false more) ≡ true → Stands text (on_held (push p Tok.key) (past_white_space (record { rest = more; held = h })))) →
+    Holds (Stands text) (skip_yaml_whitespace (record { rest = more; held = h }) >>= λ w. check_key_space w >>= λ x. Ok (on_held (push p Tok.key) x))
+unfolding skip_yaml_whitespace
+question_read text more p h gap f =
+    chained {P = λ w. ((w ≡ past_white_space t) × (is_separation false (white_of false more) (past_white false more) ≡ true)) × (begins_with_space_or_break more ≡ true)} (both_hold (white_exactly t) (white_first more h gap)) (λ w d.
+    subst (λ y. Holds (Stands text) (check_key_space y >>= λ x. Ok (on_held (push p Tok.key) x))) (sym d.0.0)
+    (chained (space_checked more (past_white_space t) refl) (λ x b. went (subst (λ y. Stands text (on_held (push p Tok.key) y)) (sym b.0) (f d.1 b.1 d.0.1)))))
+  where
+    t : ScannerState
+    t = record { rest = more; held = h }
+
+question_outside : (text more : List ℕ) (t : ScannerState) (a : ArrivesBy text t [] (None ∷ []) []) → t.held.flow ≡ [] → t.held.keys ≡ None ∷ [] → t.rest ≡ 63 ∷ more → is_at_gap more ≡ true → t.held.key_allowed ≡ true → IsDeep t.held →
+    Holds (Stands text) (key_from t (record t { held = record (roll_indent t.held.position.col None Tok.block_mapping_start t.held.position t.held) { keys = with_top None (roll_indent t.held.position.col None Tok.block_mapping_start t.held.position t.held).keys } }))
+question_outside text more t a flow keys e gap allowed deep =
+    subst (λ r. Holds (Stands text) (from r (roll_indent t.held.position.col None Tok.block_mapping_start t.held.position t.held))) (sym e)
+    (subst (λ h. Holds (Stands text) (from (63 ∷ more) h)) (sym r.is_held)
+    (question_read text more t.held.position (now (record t.held { indents = r.indents; indent = r.indent; tokens = with_mapping t })) gap (λ begins apart fills.
+    (question_stands text more t a flow keys e allowed begins apart fills r.indent r.indents r.columns_are r.are_levels (top_closed r.indents (r.is_top deep)).1).stands)))
+  where
+    out : in_flow t.held ≡ false
+    out = ap (λ fs. not (is_empty fs)) flow
+
+    r : RollsTo t.held.position.col None (token t.held.position Tok.block_mapping_start) t.held (roll_indent t.held.position.col None Tok.block_mapping_start t.held.position t.held)
+    r = rolls_to t.held.position.col None Tok.block_mapping_start t.held.position t.held out a.are_levels (first_not_right t.held.position.col t.held.indent t.held.indents a.are_levels deep)
+
+    now : Held → Held
+    now h = record h { keys = with_top None h.keys; key_allowed = not (in_flow h); position = past h.position; leading = false }
+
+    from : List ℕ → Held → Result ScannerState Fault
+    from l h = skip_yaml_whitespace (record { rest = after l; held = now h }) >>= λ w. check_key_space w >>= λ x. Ok (on_held (push t.held.position Tok.key) x)
+
+-- ---- in flow
+
+-- the flow level after a piece that begins a pair, by the level of such a pair in a sequence
+abbrev pub pair_level : (pair : FlowLevel) → FlowLevel → FlowLevel
+pair_level p InEntry = p
+pair_level p f = f
+
+pub same_kind : (p f : FlowLevel) → kind_of InEntry ≡ kind_of p → kind_of f ≡ kind_of (pair_level p f)
+same_kind p InEntry e = e
+same_kind p _ e = refl
+
+pub asked_levels : (f : FlowLevel) (fs : List FlowLevel) → keyed (f ∷ fs) ≡ pair_level Keyed f ∷ fs
+asked_levels InEntry fs = refl
+asked_levels _ fs = refl
+
+-- the entry after it
+abbrev pub asked_entry : Entry → Entry
+asked_entry e = record { kind = e.kind; pair = pair_past (takes_pair e.kind e.pair) gives_question e.pair; had = settled }
+
+asked_is : (f : FlowLevel) (k : Option Key) (e : Entry) → IsEntryOf f k e → IsEntryOf (pair_level Keyed f) None (asked_entry e)
+asked_is f k e h = record { kind_is = h.kind_is ∙ same_kind Keyed f refl; pair_is = pair f e.pair h.pair_is; key_is = tt }
+  where
+    pair : (f : FlowLevel) (p : Pair) → IsPairOf f p → IsPairOf (pair_level Keyed f) (pair_past (takes_pair e.kind e.pair) gives_question p)
+    pair Mapping no_pair i = tt
+    pair Mapping asked_pair i = tt
+    pair Mapping single_pair i = absurd i
+    pair _ p i = rw i refl
+
+-- the entry is settled, whatever it has had
+pub settles : (here : Position) (again : Bool) (e : Entry) (xs : List Entry) → is_keyed e.had ≡ false → entries_past here again gives_question [] false e xs ≡ Some (asked_entry e ∷ xs)
+settles here again e xs h = ap (λ o. with_had e.kind (pair_past (takes_pair e.kind e.pair) gives_question e.pair) [] xs o) (by again e.had h)
+  where
+    by : (b : Bool) (x : Had) → is_keyed x ≡ false → had_after here (takes_pair e.kind e.pair) gives_question false (renewed b gives_question x) ≡ Some settled
+    by b (waits p) i = absurd (cc i)
+    by true _ i = refl
+    by false _ i = refl
+
+-- what the scanner holds after it
+abbrev pub question_within : ScannerState → (more : List ℕ) → ScannerState
+question_within t more = record {
+  rest = past_white false more;
+  held = record t.held {
+    position = position_after (past t.held.position) (white_of false more) (past_white false more);
+    leading = false || has_break (white_of false more);
+    tokens = t.held.tokens ++ token t.held.position Tok.key ∷ [];
+    key_allowed = (not (not (is_empty (keyed t.held.flow))) && ends.has_break (white_of false more)) || not (not (is_empty (keyed t.held.flow)));
+    keys = with_top None t.held.keys;
+    flow = keyed t.held.flow;
+  };
+}
+
+one_line : (c : ℕ) → is_break c ≡ false → has_break (c ∷ []) ≡ false
+one_line c h = ap (λ b. not (not b && true)) h
+
+pub question_inside : (text more : List ℕ) (t : ScannerState) (f : FlowLevel) (fs : List FlowLevel) (k : Option Key) (ks : List (Option Key)) (e : Entry) (es : List Entry) (a : ArrivesBy text t (f ∷ fs) (k ∷ ks) (e ∷ es)) →
+    t.held.flow ≡ f ∷ fs → t.held.keys ≡ k ∷ ks → t.rest ≡ 63 ∷ more → IsDeep t.held → begins_with_space_or_break more ≡ true → has_tab_before_piece false more ≡ false → is_separation false (white_of false more) (past_white false more) ≡ true →
+    StandsAt text (base_inside Tok.key (63 ∷ []) t.held.position a.site more a.line (asked_entry e ∷ es)) (white_of false more) (question_within t more)
+unfolding is_break
+question_inside text more t f fs k ks e es a flow keys cut deep begins apart fills =
+    goes_inside_at text t (question_within t more) f (pair_level Keyed f) fs k ks e (asked_entry e) es a (63 ∷ []) more Tok.key (record {
+      is_solid = refl;
+      cut = cut;
+      separation = white_of false more;
+      is_rest = white_cut false more;
+      is_filled = fills;
+      position_is = ap (λ q. position_after q (white_of false more) (past_white false more)) (sym (past_question t.held.position more));
+      columns_are = refl;
+      awaits_is = a.awaits_is;
+      are_levels = a.are_levels;
+      read_on = tt;
+      has_no_tabs = white_indents (site_inside x (63 ∷ []) Tok.key more) more refl;
+      is_leading = λ b r h. refl;
+      entry_is = asked_is f k e a.are_entries.0;
+      has_had = (inr refl, ap (λ ls. (not (not (is_empty ls)) && ends.has_break (white_of false more)) || not (not (is_empty ls))) levels);
+      flow_is = levels;
+      keys_are = ap (with_top None) keys;
+      are_numbered = (tt, numbered_more (length a.tokens) (length (t.held.tokens ++ token t.held.position Tok.key ∷ [])) ks (omega (arith, more_tokens, same)) (numbered_around (length a.tokens) k ks a.are_numbered));
+      before_is = refl;
+      unchanged = (refl, refl, refl);
+    }) (record {
+      in_line = one_line 63 refl;
+      begun = refl;
+      is_piece = inl (refl, begins);
+      stands = rw (a.is_indented (ap is_empty cut), low_enough text t f fs (k ∷ ks) (e ∷ es) a deep, apart) refl;
+      entry_past = λ xs. settles t.held.position (is_renewed a.site.before a.separation) e xs (not_keyed t.held.key_allowed (is_renewed a.site.before a.separation) k e.had a.are_entries.1);
+      colons = λ n p ws last. refl;
+      tokens_are = ap (λ ts. ts ++ token t.held.position Tok.key ∷ []) (tokens_before text t f fs k ks e es a);
+    })
+  where
+    x : Site
+    x = site_in true gives_question t.held.position a.site
+
+    levels : keyed t.held.flow ≡ pair_level Keyed f ∷ fs
+    levels = ap keyed flow ∙ asked_levels f fs
+
+    same : length t.held.tokens ≡ length a.tokens
+    same = ap length (tokens_before text t f fs k ks e es a)
+
+    more_tokens : length (t.held.tokens ++ token t.held.position Tok.key ∷ []) ≡ length t.held.tokens + 1
+    more_tokens = length-append t.held.tokens (token t.held.position Tok.key ∷ [])
+
+-- ---- both
+
+-- A `?` before a space or a break is read as in the row.
+pub key_keeps : (text more : List ℕ) (t : ScannerState) → Arrives text t → t.rest ≡ 63 ∷ more → is_at_gap more ≡ true → IsDeep t.held → Holds (Stands text) (fetch_key t)
+unfolding fetch_key
+key_keeps text more t a e gap deep =
+    chained {P = λ u. (u ≡ record t { held = u.held }) × Begins t.held u.held} (tried t (begin_key t.held) (key_begun t.held) (λ h d. (refl, d))) (λ u d.
+    chained {P = λ v. v ≡ record u { held = record u.held { keys = with_top None u.held.keys } }} (tried u (remove_implicit_key u.held) (key_removed u.held) (λ h i. ap (λ z. record u { held = z }) i)) (λ v i.
+    subst (λ y. Holds (Stands text) (key_from t y)) (sym (i ∙ ap {A = ScannerState} {B = ScannerState} (λ z. record z { held = record u.held { keys = with_top None u.held.keys } }) d.0)) (by (arrives_side text t a) u.held d.1)))
+  where
+    by : ArrivesOutside text t ⊎ ArrivesInside text t → (u : Held) → Begins t.held u → Holds (Stands text) (key_from t (record t { held = record u { keys = with_top None u.keys } }))
+    by (inl o) u (outside out allowed d) =
+        let none : o.key ≡ None = none_open t.held.key_allowed t.rest o.key o.here.line_here allowed (ap is_empty e) o.here.line_is in
+        subst (λ h. Holds (Stands text) (key_from t (record t { held = record h { keys = with_top None h.keys } }))) (sym d)
+        (question_outside text more t (subst (λ k. ArrivesBy text t [] (k ∷ []) []) none o.here) o.flow_is (o.keys_are ∙ ap (λ k. k ∷ []) none) e gap allowed deep)
+    by (inl o) u (inside in_it d) = absurd (cc (in_it, ap (λ fs. not (is_empty fs)) o.flow_is))
+    by (inr i) u (outside out allowed d) = absurd (cc (out, ap (λ fs. not (is_empty fs)) i.flow_is))
+    by (inr i) u (inside in_it d) =
+        subst (λ h. Holds (Stands text) (key_from t (record t { held = record h { keys = with_top None h.keys } }))) (sym d)
+        (subst (λ l. Holds (Stands text) (from l)) (sym e)
+        (question_read text more t.held.position now gap (λ begins apart fills. (question_inside text more t i.level i.levels i.key i.keys i.entry i.entries i.here i.flow_is i.keys_are e deep begins apart fills).stands)))
+      where
+        now : Held
+        now = record t.held { flow = keyed t.held.flow; keys = with_top None t.held.keys; key_allowed = not (not (is_empty (keyed t.held.flow))); position = past t.held.position; leading = false }
+
+        from : List ℕ → Result ScannerState Fault
+        from l = skip_yaml_whitespace (record { rest = after l; held = now }) >>= λ w. check_key_space w >>= λ x. Ok (on_held (push t.held.position Tok.key) x)

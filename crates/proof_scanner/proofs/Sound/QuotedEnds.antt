@@ -1,0 +1,251 @@
+-- What the scanner checks after a quoted scalar: the line holds no more, or goes on as it may.
+use Rattle.std.proofs.Common.{◌≡◌, ℕ, suc, ◌<◌, ◌≤◌, List, [], ◌∷◌, ◌++◌, Bool, true, false, not, ◌&&◌, ◌||◌, ◌==◌, if◌then◌else◌, Result, Ok, Err, refl, ap, sym, ◌∙◌, subst, append_assoc, arith}
+use Rattle.std.proofs.lemmas.Bool.{and_parts, eqb-true}
+use Rattle.defs_text.specs.Position.{Position, position_past, position_after}
+use Rattle.defs_text.specs.Classes.{is_blank, is_break, is_nul}
+use Rattle.defs_text.specs.Breaks.{is_blanks_and_comment, is_rest_of_line, is_at_line_end, has_no_break}
+use Rattle.defs_text.specs.FlowScalar.{begins_with}
+use Rattle.defs_text.specs.Tags.{leading, after}
+use Rattle.defs_token.specs.Separation.{is_separation, is_blanks}
+use Rattle.defs_token.specs.Step.{has_break, is_on_line}
+use Rattle.defs_token.specs.Following.{line_is_done, goes_on_quoted, quoted_may_end}
+use Rattle.yaml_chars.specs.Class.{is_breakz}
+use Rattle.yaml_chars.specs.Class as model_classes
+use Rattle.yaml_tokens.specs.declared.problem.Fault.{Fault}
+use Rattle.model_scanner.specs.declared.context.SkipTabs.{SkipTabs}
+use Rattle.model_scanner.specs.declared.context.SkipTabs.TheVariants.{Yes, No}
+use Rattle.model_scanner.specs.Blanks.{space}
+use Rattle.model_scanner.specs.State.{ScannerState, in_flow, peek, lexed}
+use Rattle.model_scanner.specs.Space.{skip_spaces}
+use Rattle.model_scanner.specs.Document.{may_follow_quoted, check_after_quoted}
+use Rattle.model_scanner.proofs.Holds.{Holds, went, refused, chained, either, both_hold}
+use Rattle.proof_lexers.specs.PlainEnds as plains
+use Rattle.defs_text.specs.Text.{has_no_nul}
+use Rattle.proof_scanner.proofs.Cut.Passes.{Spaced, spaces_skipped}
+use Rattle.proof_scanner.proofs.Cut.Positions.{not_before_after}
+use Rattle.proof_scanner.proofs.Sound.Arrivals.{clean_after}
+
+-- ---- lines
+
+-- whether the last character of a text is no break
+abbrev pub ends_in_line : List ℕ → Bool
+ends_in_line [] = true
+ends_in_line (c ∷ []) = not (is_break c)
+ends_in_line (c ∷ d ∷ r) = ends_in_line (d ∷ r)
+
+-- A text with a break, whose last character is none, ends on a later line.
+pub broken_later : (p : Position) (a next : List ℕ) → ends_in_line a ≡ true → has_break a ≡ true → p.line < (position_after p a next).line
+unfolding is_break
+broken_later p [] next e h = absurd (cc h)
+broken_later p (c ∷ []) next e h = absurd (by (is_break c) e h)
+  where
+    by : (b : Bool) → not b ≡ true → not (not b && true) ≡ true → ⊥
+    by true e h = cc e
+    by false e h = cc h
+broken_later p (c ∷ d ∷ a) next e h =
+    by (is_break c) ((c == 13) && (d == 10)) refl refl h (λ k. omega (arith, broken_later (position_past p c (d ∷ (a ++ next))) (d ∷ a) next e k, (not_before_after p (c ∷ []) (d ∷ (a ++ next))).0))
+  where
+    q : Position
+    q = position_past p c (d ∷ (a ++ next))
+
+    feed_breaks : ((c == 13) && (d == 10)) ≡ true → has_break (d ∷ a) ≡ true
+    feed_breaks f = let two : d ≡ 10 = eqb-true d 10 (and_parts (c == 13) (d == 10) f).1 in rw two refl
+
+    by : (b f : Bool) → is_break c ≡ b → ((c == 13) && (d == 10)) ≡ f → not (not b && has_no_break (d ∷ a)) ≡ true → (has_break (d ∷ a) ≡ true → p.line < (position_after q (d ∷ a) next).line) → p.line < (position_after q (d ∷ a) next).line
+    by true true g f h later = later (feed_breaks f)
+    by true false g f h later =
+        let next_line : q.line ≡ suc p.line = rw (g, f) refl in
+        omega (arith, next_line, (not_before_after q (d ∷ a) next).0)
+    by false f g i h later = later h
+
+-- on the same line there is no break
+pub on_one_line : (p : Position) (a next : List ℕ) → ends_in_line a ≡ true → (position_after p a next).line ≤ p.line → has_break a ≡ false
+on_one_line p a next e h = by (has_break a) refl
+  where
+    by : (b : Bool) → has_break a ≡ b → b ≡ false
+    by true k = absurd (omega (arith, broken_later p a next e k, h))
+    by false k = refl
+
+-- without a break the line stays
+pub same_line : (p : Position) (a next : List ℕ) → plains.has_break a ≡ false → (position_after p a next).line ≡ p.line
+same_line p [] next h = refl
+same_line p (c ∷ a) next h = by (is_break c) refl h (λ k. same_line (position_past p c (a ++ next)) a next k)
+  where
+    q : Position
+    q = position_past p c (a ++ next)
+
+    by : (b : Bool) → is_break c ≡ b → (b || plains.has_break a) ≡ false → (plains.has_break a ≡ false → (position_after q a next).line ≡ q.line) → (position_after q a next).line ≡ p.line
+    by true e h later = absurd (cc h)
+    by false e h later = let stays : q.line ≡ p.line = rw e refl in later h ∙ stays
+
+-- ---- the rest of a line
+
+-- a separation without a break is blanks and maybe a comment
+pub blanks_and_comment : (s next : List ℕ) → is_separation false s next ≡ true → plains.has_break s ≡ false → is_blanks_and_comment s ≡ true
+blanks_and_comment [] next f h = refl
+blanks_and_comment (c ∷ s) next f h = by (is_blank c) (is_break c) (c == 35) f h (λ g i. blanks_and_comment s next g i)
+  where
+    by : (b k n : Bool) → ((b || k || n) && is_separation n s next) ≡ true → (k || plains.has_break s) ≡ false → (is_separation false s next ≡ true → plains.has_break s ≡ false → is_blanks_and_comment s ≡ true) → (n || (b && is_blanks_and_comment s)) ≡ true
+    by b true n f h later = absurd (cc h)
+    by b false true f h later = refl
+    by true false false f h later = later f h
+    by false false false f h later = absurd (cc f)
+
+-- before what does not end the line it is blanks alone
+pub blanks_alone : (in_comment : Bool) (s next : List ℕ) → is_separation in_comment s next ≡ true → plains.has_break s ≡ false → is_at_line_end next ≡ false → (in_comment ≡ false) × (is_blanks s ≡ true)
+blanks_alone true [] next f h e = absurd (cc (f, e))
+blanks_alone false [] next f h e = (refl, refl)
+blanks_alone true (c ∷ s) next f h e = by (is_break c) f h (λ g i. blanks_alone true s next g i e)
+  where
+    by : (k : Bool) → is_separation (not k) s next ≡ true → (k || plains.has_break s) ≡ false → (is_separation true s next ≡ true → plains.has_break s ≡ false → (true ≡ false) × (is_blanks s ≡ true)) → (true ≡ false) × (is_blanks (c ∷ s) ≡ true)
+    by true f h later = absurd (cc h)
+    by false f h later = absurd (cc (later f h).0)
+blanks_alone false (c ∷ s) next f h e = (refl, by (is_blank c) (is_break c) (c == 35) f h (λ n g i. blanks_alone n s next g i e))
+  where
+    by : (b k n : Bool) → ((b || k || n) && is_separation n s next) ≡ true → (k || plains.has_break s) ≡ false → ((n : Bool) → is_separation n s next ≡ true → plains.has_break s ≡ false → (n ≡ false) × (is_blanks s ≡ true)) → (b && is_blanks s) ≡ true
+    by b true n f h later = absurd (cc h)
+    by false false false f h later = absurd (cc f)
+    by true false n f h later = (later n f h).1
+    by false false true f h later = absurd (cc (later true f h).0)
+
+-- up to the line's end
+pub leading_line : (s next : List ℕ) → plains.has_break s ≡ false → is_at_line_end next ≡ true → has_no_nul next ≡ true → leading is_on_line (s ++ next) ≡ s
+leading_line [] [] h e n = refl
+leading_line [] (c ∷ next) h e n = by (is_break c) (is_nul c) refl refl e n
+  where
+    by : (k z : Bool) → is_break c ≡ k → is_nul c ≡ z → (k || z) ≡ true → (not z && has_no_nul next) ≡ true → (if not k then c ∷ leading is_on_line next else []) ≡ []
+    by true z e1 e2 e n = refl
+    by false true e1 e2 e n = absurd (cc n)
+    by false false e1 e2 e n = absurd (cc e)
+leading_line (c ∷ s) next h e n = by (is_break c) h (λ k. leading_line s next k e n)
+  where
+    by : (k : Bool) → (k || plains.has_break s) ≡ false → (plains.has_break s ≡ false → leading is_on_line (s ++ next) ≡ s) → (if not k then c ∷ leading is_on_line (s ++ next) else []) ≡ c ∷ s
+    by true h later = absurd (cc h)
+    by false h later = ap (λ l. c ∷ l) (later h)
+
+-- past blanks
+pub after_blanks : (s next : List ℕ) → is_blanks s ≡ true → after is_blank (s ++ next) ≡ after is_blank next
+after_blanks [] next h = refl
+after_blanks (c ∷ s) next h = by (is_blank c) h (λ k. after_blanks s next k)
+  where
+    by : (b : Bool) → (b && is_blanks s) ≡ true → (is_blanks s ≡ true → after is_blank (s ++ next) ≡ after is_blank next) → (if b then after is_blank (s ++ next) else c ∷ (s ++ next)) ≡ after is_blank next
+    by true h later = later h
+    by false h later = absurd (cc h)
+
+-- a line with nothing but blanks and a comment, which no comment begins
+pub is_done : (s next : List ℕ) → is_separation false s next ≡ true → plains.has_break s ≡ false → is_at_line_end next ≡ true → has_no_nul next ≡ true → begins_with 35 (s ++ next) ≡ false → line_is_done (s ++ next) ≡ true
+is_done s next f h e n g = ap is_rest_of_line (leading_line s next h e n) ∙ rest s f h g
+  where
+    rest : (s : List ℕ) → is_separation false s next ≡ true → plains.has_break s ≡ false → begins_with 35 (s ++ next) ≡ false → is_rest_of_line s ≡ true
+    rest [] f h g = refl
+    rest (c ∷ s) f h g = by (c == 35) refl (blanks_and_comment (c ∷ s) next f h)
+      where
+        by : (n : Bool) → (c == 35) ≡ n → (n || (is_blank c && is_blanks_and_comment s)) ≡ true → (is_blank c && is_blanks_and_comment s) ≡ true
+        by true e k = absurd (cc (e, g))
+        by false e k = k
+
+-- ---- what is skipped
+
+pub always : {A : Type 0} {P : A → Type 0} (r : Result A Fault) → ((x : A) → P x) → Holds P r
+always (Ok x) f = went (f x)
+always (Err e) f = refused
+
+-- no comment stands directly where blanks are skipped
+pub unglued : (tabs : SkipTabs) (t : ScannerState) → Holds (λ u. begins_with 35 t.rest ≡ false) (skip_spaces tabs t)
+unfolding skip_spaces space
+unglued tabs t = by t.rest
+  where
+    by : (a : List ℕ) → Holds (λ u. begins_with 35 a ≡ false) (lexed (space tabs a t.held.position) t.held (λ w u. Ok u))
+    by [] = always (lexed (space tabs [] t.held.position) t.held (λ w u. Ok u)) (λ u. refl)
+    by (c ∷ a) = by_hash (c == 35) refl
+      where
+        by_tabs : (tabs : SkipTabs) → c ≡ 35 → Holds (λ u. begins_with 35 (c ∷ a) ≡ false) (lexed (space tabs (c ∷ a) t.held.position) t.held (λ w u. Ok u))
+        by_tabs Yes e = rw e refused
+        by_tabs No e = rw e refused
+
+        by_hash : (b : Bool) → (c == 35) ≡ b → Holds (λ u. begins_with 35 (c ∷ a) ≡ false) (lexed (space tabs (c ∷ a) t.held.position) t.held (λ w u. Ok u))
+        by_hash true e = by_tabs tabs (eqb-true c 35 e)
+        by_hash false e = always (lexed (space tabs (c ∷ a) t.held.position) t.held (λ w u. Ok u)) (λ u. e)
+
+-- ---- after a quoted scalar
+
+pub at_end_of : (r : List ℕ) → is_breakz (peek r) ≡ true → is_at_line_end r ≡ true
+unfolding model_classes.is_break is_break is_nul
+at_end_of [] h = refl
+at_end_of (c ∷ r) h = h
+
+pub not_at_end : (r : List ℕ) → is_breakz (peek r) ≡ false → is_at_line_end r ≡ false
+unfolding model_classes.is_break is_break is_nul
+not_at_end [] h = absurd (cc h)
+not_at_end (c ∷ r) h = h
+
+-- what may follow, by the character that stands there
+comes_by : (flow : Bool) (piece : List ℕ) (line here : ℕ) (c : ℕ) (r : List ℕ) → ((line == here) ≡ true → has_break piece ≡ false) → may_follow_quoted flow (line == here) c ≡ true → is_breakz c ≡ false → (goes_on_quoted flow piece (c ∷ r) ≡ true) × (is_blank c ≡ false)
+unfolding may_follow_quoted is_blank
+comes_by true piece line here c r unbroken h e = by (c == 44) (c == 125) (c == 93) (c == 58) refl refl refl refl (rw e at h)
+  where
+    by : (w x y z : Bool) → (c == 44) ≡ w → (c == 125) ≡ x → (c == 93) ≡ y → (c == 58) ≡ z → (w || x || y || z) ≡ true → ((w || (y || (x || (z || false)))) ≡ true) × (is_blank c ≡ false)
+    by true x y z e1 e2 e3 e4 h = (refl, let same : c ≡ 44 = eqb-true c 44 e1 in rw same refl)
+    by false true y z e1 e2 e3 e4 h = (some y, let same : c ≡ 125 = eqb-true c 125 e2 in rw same refl)
+      where
+        some : (y : Bool) → (y || true) ≡ true
+        some true = refl
+        some false = refl
+    by false false true z e1 e2 e3 e4 h = (refl, let same : c ≡ 93 = eqb-true c 93 e3 in rw same refl)
+    by false false false true e1 e2 e3 e4 h = (refl, let same : c ≡ 58 = eqb-true c 58 e4 in rw same refl)
+    by false false false false e1 e2 e3 e4 h = absurd (cc h)
+comes_by false piece line here c r unbroken h e =
+    let q = and_parts (c == 58) (line == here) (rw e at h) in
+    let same : c ≡ 58 = eqb-true c 58 q.0 in
+    (rw (q.0, unbroken q.1) refl, rw same refl)
+
+-- After a quoted scalar at a position the check lets through only what may follow it.
+may_end_by : (flow : Bool) (p : Position) (piece s rest : List ℕ) (here : Position) → ends_in_line piece ≡ true → has_no_nul rest ≡ true → is_separation false s rest ≡ true → plains.has_break s ≡ false → begins_with 35 (s ++ rest) ≡ false →
+    here ≡ position_after (position_after p piece (s ++ rest)) s rest → may_follow_quoted flow (p.line == here.line) (peek rest) ≡ true → quoted_may_end flow piece (s ++ rest) ≡ true
+unfolding model_classes.is_break
+may_end_by flow p piece s rest here in_line none f h no_hash is follows = by (is_breakz (peek rest)) refl
+  where
+    either_way : (x y : Bool) → y ≡ true → (x || y) ≡ true
+    either_way true y e = refl
+    either_way false y e = e
+
+    same : (p.line == here.line) ≡ true → has_break piece ≡ false
+    same e =
+        let q : Position = position_after p piece (s ++ rest) in
+        let stays : here.line ≡ q.line = ap (λ x. x.line) is ∙ same_line q s rest h in
+        let equal : p.line ≡ here.line = eqb-true p.line here.line e in
+        on_one_line p piece (s ++ rest) in_line (omega (arith, stays, equal))
+
+    some : (r : List ℕ) → is_breakz (peek r) ≡ false → may_follow_quoted flow (p.line == here.line) (peek r) ≡ true → goes_on_quoted flow piece (after is_blank r) ≡ true
+    some [] e k = absurd (cc e)
+    some (c ∷ r) e k = let q = comes_by flow piece p.line here.line c r same k e in rw q.1 q.0
+
+    by : (b : Bool) → is_breakz (peek rest) ≡ b → quoted_may_end flow piece (s ++ rest) ≡ true
+    by true e = rw (is_done s rest f h (at_end_of rest e) none no_hash) refl
+    by false e =
+        let blanks : is_blanks s ≡ true = (blanks_alone false s rest f h (not_at_end rest e)).1 in
+        either_way (line_is_done (s ++ rest)) (goes_on_quoted flow piece (after is_blank (s ++ rest))) (ap (λ x. goes_on_quoted flow piece x) (after_blanks s rest blanks) ∙ some rest e follows)
+
+-- blanks and a comment were skipped after a piece, and what stands there may follow a quoted scalar
+pub record Checked (piece : List ℕ) (t u : ScannerState) : Type 0 where
+  pub spaces : Spaced Yes t u
+  pub may_end : quoted_may_end (in_flow t.held) piece t.rest ≡ true
+
+checks : (p : Position) (piece : List ℕ) (t u : ScannerState) → ends_in_line piece ≡ true → has_no_nul t.rest ≡ true → t.held.position ≡ position_after p piece t.rest → Spaced Yes t u → begins_with 35 t.rest ≡ false →
+    may_follow_quoted (in_flow u.held) (p.line == u.held.position.line) (peek u.rest) ≡ true → Checked piece t u
+checks p piece t u in_line none is s no_hash follows =
+    let g : List ℕ = s.blanks ++ s.comment in
+    let cut : t.rest ≡ g ++ u.rest = s.is_rest ∙ sym (append_assoc s.blanks s.comment u.rest) in
+    let here : u.held.position ≡ position_after (position_after p piece (g ++ u.rest)) g u.rest = ap (λ h. h.position) s.is_held ∙ ap (λ q. position_after q g u.rest) (is ∙ ap (λ r. position_after p piece r) cut) in
+    let same_flow : in_flow u.held ≡ in_flow t.held = ap in_flow s.is_held in
+    record {
+      spaces = s;
+      may_end = subst (λ r. quoted_may_end (in_flow t.held) piece r ≡ true) (sym cut)
+          (may_end_by (in_flow t.held) p piece g u.rest u.held.position in_line (clean_after g u.rest (subst (λ r. has_no_nul r ≡ true) cut none)) s.is_filled s.no_break (subst (λ r. begins_with 35 r ≡ false) cut no_hash)
+          here (subst (λ b. may_follow_quoted b (p.line == u.held.position.line) (peek u.rest) ≡ true) same_flow follows));
+    }
+
+pub quoted_checked : (p : Position) (piece : List ℕ) (t : ScannerState) → ends_in_line piece ≡ true → has_no_nul t.rest ≡ true → t.held.position ≡ position_after p piece t.rest → Holds (Checked piece t) (check_after_quoted p.line t)
+unfolding check_after_quoted
+quoted_checked p piece t in_line none is =
+    chained (both_hold (spaces_skipped Yes t) (unglued Yes t)) (λ u s. either (may_follow_quoted (in_flow u.held) (p.line == u.held.position.line) (peek u.rest)) (λ yes. went (checks p piece t u in_line none is s.0 s.1 yes)) (λ no. refused))

@@ -1,0 +1,375 @@
+-- Quoted scalars: what holds between two fetches holds after them.
+use Rattle.std.proofs.Common.{◌≡◌, ℕ, suc, ◌-◌, ◌≤◌, List, [], ◌∷◌, ◌++◌, Bool, true, false, not, ◌&&◌, ◌||◌, nat_le, Option, Some, None, Result, Ok, refl, ap, sym, ◌∙◌, subst, append_assoc, arith, inl, inr}
+use Rattle.std.proofs.lemmas.Bool.{and_parts}
+use Rattle.std.proofs.lemmas.List.{append_cancel_right}
+use Rattle.defs_text.specs.Position.{Position, position_after}
+use Rattle.defs_text.specs.Text.{is_empty, has_no_nul}
+use Rattle.defs_text.specs.Classes.{is_break, is_nul}
+use Rattle.yaml_tokens.specs.declared.problem.Fault.{Fault}
+use Rattle.defs_text.specs.FlowScalar.{begins_with}
+use Rattle.defs_token.specs.Token.{Tok}
+use Rattle.defs_token.specs.Separation.{is_separation}
+use Rattle.defs_token.specs.Account.{Account as PieceAccount, is_adjacent, before_past}
+use Rattle.defs_token.specs.Account as pieces
+use Rattle.defs_token.specs.Piece.{IsPiece}
+use Rattle.defs_token.specs.Step.{act_of, gives_node, has_break, previous_by, quoted_scalar}
+use Rattle.defs_token.specs.Indentation.{least_column, awaits_past, is_indented_by_spaces, has_tab_within, last_line, begins_line}
+use Rattle.defs_token.specs.Lines.{quoted_lines_fit, further_lines_stand}
+use Rattle.defs_token.specs.Following.{quoted_may_end, may_precede}
+use Rattle.defs_token.specs.Key.{begins_free_line}
+use Rattle.defs_token.specs.FlowEntry.{Entry, begun_by}
+use Rattle.defs_token.specs.RowAccount.{Site, before_by, least_for, seen}
+use Rattle.defs_token.specs.Tokens.{shown_position}
+use Rattle.model_scanner.specs.declared.level.Indent.{Indent}
+use Rattle.model_scanner.specs.declared.level.FlowLevel.{FlowLevel}
+use Rattle.model_scanner.specs.declared.context.Context.{Context}
+use Rattle.model_scanner.specs.Machine as machine
+use Rattle.model_scanner.specs.Quoted.{quoted, quote_of}
+use Rattle.model_scanner.specs.State.{Key, Held, ScannerState, ◌>>=◌, in_flow, go_on, on_held, push, lexed}
+use Rattle.model_scanner.specs.Space.{between, skip_to_next_token}
+use Rattle.model_scanner.specs.Flow.{allow_key}
+use Rattle.model_scanner.specs.Document.{context, unled, quoted_style, check_after_quoted, adjacent_here, fetch_flow_scalar}
+use Rattle.model_scanner.proofs.Holds.{Holds, went, read, chained, weakened, both_hold}
+use Rattle.proof_lexers.specs.PlainEnds as plains
+use Rattle.proof_lexers.specs.QuotedScan.{value_of, element_of, ends_before}
+use Rattle.proof_lexers.specs.QuotedEnds.{QuotedEndsAs, reads, refuses}
+use Rattle.proof_lexers.specs.Separations.{after_separation}
+use Rattle.proof_lexers.proofs.Quoted.ScanEnds.{scans_end}
+use Rattle.proof_lexers.proofs.Separation.Positions.{position_append}
+use Rattle.proof_scanner.specs.PiecesRead.{ReadAs}
+use Rattle.proof_scanner.specs.Stands.{IsAdjacent}
+use Rattle.proof_scanner.proofs.Cut.Pieces.Quoted.{some_chars, quoted_is_read}
+use Rattle.proof_scanner.proofs.Cut.Pieces.Separations.{separation_append}
+use Rattle.proof_scanner.proofs.Cut.Positions.{not_before_after}
+use Rattle.proof_scanner.proofs.Cut.Saved.{saved_keys, saved_is}
+use Rattle.proof_scanner.proofs.Cut.Scalars.{adjacent_quoted}
+use Rattle.proof_scanner.proofs.Cut.Nodes.{IsDeep}
+use Rattle.proof_scanner.specs.StandsInRow.{columns, has_open_level, AreLevels, is_at_comment_or_end, HasNoTabs, IsReadOn, Stands}
+use Rattle.proof_scanner.specs.Arrives.{Arrives}
+use Rattle.proof_lexers.proofs.Bridges.{or_false}
+use Rattle.proof_scanner.proofs.Sound.Standing.{and_yes, deep_for}
+use Rattle.proof_scanner.proofs.Sound.Sides.{with_entries, ArrivesBy}
+use Rattle.proof_scanner.proofs.Sound.Arrivals.{clean_after, unbroken, deep_enough}
+use Rattle.proof_scanner.proofs.Sound.LastLines.{break_append}
+use Rattle.proof_scanner.proofs.Sound.Skips.{IsAt, IsLeast, Cleared, skip_clears}
+use Rattle.proof_scanner.proofs.Sound.Passed.{Exact, exact, same_has_break, least_of_levels, least_is}
+use Rattle.proof_scanner.proofs.Sound.QuotedEnds.{ends_in_line, on_one_line, Checked, quoted_checked}
+use Rattle.proof_scanner.proofs.Sound.QuotedLines.{quoted_fits}
+use Rattle.proof_scanner.proofs.Sound.ReadNodes.{Read, next_of, state_after, site_of, site_then, allowed_past, IsRead, node_read}
+
+-- What a function has read of a node where a piece begins, and what it leaves.
+pub record ReadNode (text : List ℕ) (t u : ScannerState) : Type 0 where
+  pub read : Read
+  pub known : (fs : List FlowLevel) (ks : List (Option Key)) (es : List Entry) → t.held.flow ≡ fs → (a : ArrivesBy text t fs ks es) → IsRead t fs a.site a.line es a.separation read
+  pub is : u ≡ state_after t read
+
+-- ---- what was read
+
+abbrev pub piece_of : (single : Bool) → (body : List ℕ) → List ℕ
+piece_of single body = quote_of single ∷ (body ++ quote_of single ∷ [])
+
+-- What the scan of a quoted scalar read at a position: the text between its quotes; its further lines are indented.
+pub record QuotedAs (single : Bool) (ctx : Context) (p : Position) (text : List ℕ) (x : machine.Read (List ℕ)) : Type 0 where
+  pub body : List ℕ
+  pub value_is : value_of single body ≡ Some x.value
+  pub ends : ends_before single x.rest ≡ true
+  pub cut : text ≡ piece_of single body ++ x.rest
+  pub end_is : x.position ≡ position_after p (piece_of single body) x.rest
+  pub fits : quoted_lines_fit (ctx.indent - 1) (element_of single) (piece_of single body) ≡ true
+
+whole : (q : ℕ) (body rest : List ℕ) → q ∷ (body ++ q ∷ rest) ≡ (q ∷ (body ++ q ∷ [])) ++ rest
+whole q body rest = ap (λ l. q ∷ l) (sym (append_assoc body (q ∷ []) rest))
+
+-- the position after it is that of its text
+end_of : (single : Bool) (ctx : Context) (p : Position) (more piece : List ℕ) (x : machine.Read (List ℕ)) → has_no_nul more ≡ true → quoted single ctx (quote_of single ∷ more) p ≡ Ok x → quote_of single ∷ more ≡ piece ++ x.rest → x.position ≡ position_after p piece x.rest
+end_of single ctx p more piece x none e cut =
+    let a : PieceAccount = record { position = p; blocks = []; levels = []; before = pieces.other } in
+    let r : ReadAs a (quote_of single ∷ more) (Tok.scalar (quoted_style single) x.value) p x.rest x.position = quoted_is_read a single ctx more x none e in
+    let own : List ℕ = r.first ∷ r.more in
+    let same : own ++ r.separation ≡ piece = append_cancel_right (own ++ r.separation) piece x.rest (append_assoc own r.separation x.rest ∙ (sym r.is_text ∙ cut)) in
+    r.is_end ∙ (sym (position_append p own r.separation x.rest) ∙ ap (λ l. position_after p l x.rest) same)
+
+pub quoted_as : (single : Bool) (ctx : Context) (p : Position) (more : List ℕ) (x : machine.Read (List ℕ)) → has_no_nul more ≡ true → quoted single ctx (quote_of single ∷ more) p ≡ Ok x → QuotedAs single ctx p (quote_of single ∷ more) x
+quoted_as single ctx p more x none e = by (quoted single ctx (quote_of single ∷ more) p) refl (scans_end single ctx more p (some_chars more none))
+  where
+    by : (y : Result (machine.Read (List ℕ)) Fault) → quoted single ctx (quote_of single ∷ more) p ≡ y → QuotedEndsAs single ctx p more y → QuotedAs single ctx p (quote_of single ∷ more) x
+    by y i (refuses f why j) = absurd (cc (i, j, e))
+    by y i (reads body rest value position cut is ends j) =
+        let same : record { rest = rest; position = position; value = value } ≡ x = cc (i, j, e) in
+        let is_rest : rest ≡ x.rest = ap (λ z. z.rest) same in
+        let cut2 : more ≡ body ++ quote_of single ∷ x.rest = subst (λ r. more ≡ body ++ quote_of single ∷ r) is_rest cut in
+        let all : quote_of single ∷ more ≡ piece_of single body ++ x.rest = ap (λ l. quote_of single ∷ l) cut2 ∙ whole (quote_of single) body x.rest in
+        record {
+          body = body;
+          value_is = subst (λ v. value_of single body ≡ Some v) (ap (λ z. z.value) same) is;
+          ends = subst (λ r. ends_before single r ≡ true) is_rest ends;
+          cut = all;
+          end_is = end_of single ctx p more (piece_of single body) x none e all;
+          fits = quoted_fits single ctx body x.rest value p x is (ap (λ l. quoted single ctx (quote_of single ∷ l) p) (sym cut2) ∙ e);
+        }
+
+-- a quote is no break
+pub in_line : (single : Bool) (body : List ℕ) → ends_in_line (piece_of single body) ≡ true
+unfolding is_break
+in_line single body = last (quote_of single) (quote_of single) body (no_break single)
+  where
+    no_break : (b : Bool) → not (is_break (quote_of b)) ≡ true
+    no_break true = refl
+    no_break false = refl
+
+    last : (c q : ℕ) (r : List ℕ) → not (is_break q) ≡ true → ends_in_line (c ∷ (r ++ q ∷ [])) ≡ true
+    last c q [] h = h
+    last c q (d ∷ r) h = last d q r h
+
+-- ---- its token
+
+-- the token of a quoted scalar
+pub record IsQuotedToken (single : Bool) (tok : Tok) : Type 0 where
+  pub act : act_of tok ≡ gives_node
+  pub begun : begun_by tok ≡ []
+  pub shown : (s : Site) (piece next : List ℕ) → shown_position s piece tok next ≡ s.position
+  pub before : previous_by tok ≡ quoted_scalar
+  pub least : (s : Site) → least_for tok s ≡ least_column s.blocks s.awaits
+  pub lines : (column : ℕ) (piece : List ℕ) → further_lines_stand column tok piece ≡ quoted_lines_fit column (element_of single) piece
+  pub precedes : (fl : Bool) (bs piece next : List ℕ) → may_precede fl bs tok piece next ≡ quoted_may_end fl piece next
+  pub awaits : (fl : Bool) (bs : List ℕ) (b : Bool) (next : List ℕ) → awaits_past fl tok bs b next ≡ b
+
+pub quoted_token : (single : Bool) (text : List ℕ) → IsQuotedToken single (Tok.scalar (quoted_style single) text)
+quoted_token true text = record { act = refl; begun = refl; shown = λ s p n. refl; before = refl; least = λ s. refl; lines = λ c p. refl; precedes = λ f bs p n. refl; awaits = awaits_alike }
+  where
+    awaits_alike : (fl : Bool) (bs : List ℕ) (b : Bool) (next : List ℕ) → awaits_past fl (Tok.scalar (quoted_style true) text) bs b next ≡ b
+    awaits_alike true bs b next = refl
+    awaits_alike false bs b next = and_yes b
+quoted_token false text = record { act = refl; begun = refl; shown = λ s p n. refl; before = refl; least = λ s. refl; lines = λ c p. refl; precedes = λ f bs p n. refl; awaits = awaits_alike }
+  where
+    awaits_alike : (fl : Bool) (bs : List ℕ) (b : Bool) (next : List ℕ) → awaits_past fl (Tok.scalar (quoted_style false) text) bs b next ≡ b
+    awaits_alike true bs b next = refl
+    awaits_alike false bs b next = and_yes b
+
+piece_is : (a : PieceAccount) (single : Bool) (body next value : List ℕ) → value_of single body ≡ Some value → ends_before single next ≡ true → IsPiece a (piece_of single body) next None a.position (Tok.scalar (quoted_style single) value)
+piece_is a true body next value is ends = ((body, refl, is, no_quote (begins_with 39 next) ends), refl)
+  where
+    no_quote : (b : Bool) → not (true && b) ≡ true → b ≡ false
+    no_quote true h = absurd (cc h)
+    no_quote false h = refl
+piece_is a false body next value is ends = ((body, refl, is), refl)
+
+-- ---- levels of indentation
+
+-- the least column is one less than the indentation
+pub least_is_less : (i : ℕ) (ds : List Indent) → AreLevels i ds → least_column (columns i ds) (has_open_level ds) ≡ i - 1
+least_is_less i [] a = omega (arith, a)
+least_is_less i (d ∷ ds) a = let h : i ≡ suc (least_column (columns i (d ∷ ds)) (has_open_level (d ∷ ds))) = least_of_levels i (d ∷ ds) a refl in less (least_column (columns i (d ∷ ds)) (has_open_level (d ∷ ds))) i h
+  where
+    less : (n i : ℕ) → i ≡ suc n → n ≡ i - 1
+    less n i h = omega (arith, h)
+
+-- ---- TABs after it
+
+empty_end : (r : List ℕ) → is_empty r ≡ true → is_at_comment_or_end r ≡ true
+empty_end [] h = refl
+empty_end (c ∷ r) h = absurd (cc h)
+
+-- no TAB indents what comes next, by what is known of the line
+spaced_by : (least : ℕ) (bs : List ℕ) (aw : Bool) (gap : List ℕ) → least_column bs aw ≡ least → (begins_line quoted_scalar gap ≡ true → has_tab_within least (last_line gap) ≡ false) → is_indented_by_spaces quoted_scalar bs aw gap ≡ true
+spaced_by least bs aw gap e h = by (begins_line quoted_scalar gap) refl
+  where
+    by : (b : Bool) → begins_line quoted_scalar gap ≡ b → (not b || not (has_tab_within (least_column bs (aw || false)) (last_line gap))) ≡ true
+    by false f = refl
+    by true f = rw (or_false aw, e, h f) refl
+
+-- ---- the step
+
+module _ (text : List ℕ) (single : Bool) (t : ScannerState) (a : Arrives text t) (deep : IsDeep t.held) (x : machine.Read (List ℕ)) (q : QuotedAs single (context t.held) t.held.position t.rest x) where
+  abbrev pub now : Held
+  now = record t.held { keys = saved_keys t.held }
+
+  -- after the closing quote
+  abbrev pub closed : ScannerState
+  closed = on_held unled (go_on x (allow_key false now))
+
+  abbrev pub piece : List ℕ
+  piece = piece_of single q.body
+
+  abbrev tok : Tok
+  tok = Tok.scalar (quoted_style single) x.value
+
+  abbrev pub least : ℕ
+  least = least_column (columns t.held.indent t.held.indents) (has_open_level t.held.indents)
+
+  k : IsQuotedToken single tok
+  k = quoted_token single x.value
+
+  pub rest_is_clean : has_no_nul x.rest ≡ true
+  rest_is_clean = clean_after piece x.rest (subst (λ r. has_no_nul r ≡ true) q.cut a.is_clean)
+
+  module _ (v : ScannerState) (c : Checked piece closed v) where
+    abbrev pub spaces : List ℕ
+    spaces = c.spaces.blanks ++ c.spaces.comment
+
+    no_break : has_break spaces ≡ false
+    no_break = sym (same_has_break spaces) ∙ c.spaces.no_break
+
+    none : has_break spaces ≡ true → ⊥
+    none h = cc (h, no_break)
+
+    pub start_at : IsAt quoted_scalar least spaces v.held
+    start_at = record { leading_is = λ i. ap (λ h. h.leading) c.spaces.is_held ∙ sym no_break; col_is = λ b. absurd (none b); spaced = λ b. absurd (none b) }
+
+    pub start_least : IsLeast quoted_scalar least v.held
+    start_least = subst (λ h. IsLeast quoted_scalar least h) (sym c.spaces.is_held) (least_is (columns t.held.indent t.held.indents) (has_open_level t.held.indents) now refl refl a.are_levels)
+
+    skipped : Holds (Cleared quoted_scalar least spaces v.rest) (skip_to_next_token v)
+    unfolding skip_to_next_token
+    skipped = skip_clears quoted_scalar least v.rest between spaces v.held start_least (inr start_at)
+
+    module _ (w : ScannerState) (b : Exact v w) (z : Cleared quoted_scalar least spaces v.rest w) where
+      abbrev gap : List ℕ
+      gap = spaces ++ b.separation
+
+      abbrev end : Position
+      end = position_after x.position gap w.rest
+
+      abbrev allowed_then : Bool
+      allowed_then = (not (in_flow t.held) && plains.has_break b.separation) || false
+
+      cut : x.rest ≡ gap ++ w.rest
+      cut = c.spaces.is_rest ∙ (sym (append_assoc c.spaces.blanks c.spaces.comment v.rest) ∙ (ap (λ r. spaces ++ r) b.cut ∙ sym (append_assoc spaces b.separation w.rest)))
+
+      held_is : w.held ≡ record closed.held { position = end; leading = b.is_leading; key_allowed = allowed_then }
+      held_is =
+          ap (λ s. s.held) b.is_state ∙
+          (ap (λ h. (after_separation h b.is_leading b.separation w.rest).held) c.spaces.is_held ∙
+          ap (λ p. record closed.held { position = p; leading = b.is_leading; key_allowed = allowed_then })
+          (ap (λ r. position_after (position_after x.position spaces r) b.separation w.rest) b.cut ∙ sym (position_append x.position spaces b.separation w.rest)))
+
+      is_filled : is_separation false gap w.rest ≡ true
+      is_filled = separation_append false spaces b.separation w.rest (subst (λ r. is_separation false spaces r ≡ true) b.cut c.spaces.is_filled) b.is_filled
+
+      at_token : is_empty w.rest ≡ false → IsAt quoted_scalar least gap w.held
+      at_token some = subst (λ g. IsAt quoted_scalar least (spaces ++ g) w.held) (append_cancel_right z.passed b.separation w.rest (sym z.cut ∙ b.cut)) (z.clear some)
+
+      broken : has_break gap ≡ plains.has_break b.separation
+      broken = break_append spaces b.separation ∙ (ap (λ y. y || has_break b.separation) no_break ∙ sym (same_has_break b.separation))
+
+      end_is : end ≡ position_after (position_after t.held.position piece (gap ++ w.rest)) gap w.rest
+      end_is = ap (λ p. position_after p gap w.rest) (q.end_is ∙ ap (λ r. position_after t.held.position piece r) cut)
+
+      abbrev d : Read
+      d = record {
+        tok = tok;
+        piece = piece;
+        gap = gap;
+        rest = w.rest;
+        end = end;
+        indents = t.held.indents;
+        indent = t.held.indent;
+        leading = b.is_leading;
+        allowed = allowed_then;
+        adjacent = end.index;
+      }
+
+      allowed_by : (fl : Bool) → ((not fl && plains.has_break b.separation) || false) ≡ allowed_past fl quoted_scalar gap
+      allowed_by true = refl
+      allowed_by false = or_false (plains.has_break b.separation) ∙ sym broken
+
+      some_levels : (i : ℕ) (ds : List Indent) → is_empty (columns i ds) ≡ false → is_empty ds ≡ false
+      some_levels i [] h = absurd (cc h)
+      some_levels i (d ∷ ds) h = refl
+
+      leads : is_empty t.held.indents ≡ false → is_empty w.rest ≡ false → b.is_leading ≡ has_break gap
+      leads i some = sym (ap (λ h. h.leading) held_is) ∙ (at_token some).leading_is (ap (λ h. is_empty h.indents) held_is ∙ i)
+
+      one_line_of : is_empty w.rest ≡ false → end.line ≤ t.held.position.line → (has_break piece ≡ false) × (has_break gap ≡ false)
+      one_line_of some h =
+          let past : Position = position_after t.held.position piece (gap ++ w.rest) in
+          let up : past.line ≤ (position_after past gap w.rest).line = (not_before_after past gap w.rest).0 in
+          let first : t.held.position.line ≤ past.line = (not_before_after t.held.position piece (gap ++ w.rest)).0 in
+          let same : end.line ≡ (position_after past gap w.rest).line = ap (λ p. p.line) end_is in
+          (on_one_line t.held.position piece (gap ++ w.rest) (in_line single q.body) (omega (arith, h, up, same)), unbroken past gap w.rest some b.solid (omega (arith, h, first, same)))
+
+      module _ (fs : List FlowLevel) (ks : List (Option Key)) (es : List Entry) (flow : t.held.flow ≡ fs) (r : ArrivesBy text t fs ks es) where
+        abbrev at : Site
+        at = site_of t fs r.site
+
+        abbrev fl : Bool
+        fl = not (is_empty fs)
+
+        flow_is : in_flow t.held ≡ fl
+        flow_is = ap (λ f. not (is_empty f)) flow
+
+        least_here : least_column at.blocks at.awaits ≡ least
+        least_here = ap (λ bs. least_column bs at.awaits) r.blocks_are ∙ ap (λ y. least_column (columns t.held.indent t.held.indents) y) r.awaits_is
+
+        awaits_then : awaits_past fl tok at.blocks at.awaits (next_of d) ≡ at.awaits
+        awaits_then = k.awaits fl at.blocks at.awaits (next_of d)
+
+        no_tabs : HasNoTabs (site_then t fs r.site d) gap w.rest
+        no_tabs = by (is_empty w.rest) refl
+          where
+            by : (y : Bool) → is_empty w.rest ≡ y → HasNoTabs (site_then t fs r.site d) gap w.rest
+            by true e = inl (empty_end w.rest e)
+            by false e =
+                inr (subst (λ y. is_indented_by_spaces y at.blocks (awaits_past fl tok at.blocks at.awaits (next_of d)) gap ≡ true) (sym k.before)
+                (spaced_by least at.blocks (awaits_past fl tok at.blocks at.awaits (next_of d)) gap (ap (λ y. least_column at.blocks y) awaits_then ∙ least_here) (at_token e).spaced))
+
+        is_read : IsRead t fs r.site r.line es r.separation d
+        is_read = record {
+          act = k.act;
+          begun = k.begun;
+          cut = q.cut ∙ ap (λ y. piece ++ y) cut;
+          is_solid = refl;
+          is_filled = is_filled;
+          end_is = end_is;
+          shown = λ s. k.shown s piece (next_of d);
+          is_piece = piece_is (seen (with_entries r.site r.line es) at r.separation) single q.body (next_of d) x.value q.value_is (subst (λ y. ends_before single y ≡ true) cut q.ends);
+          is_deep = deep_for fl tok at (k.least at) (ap (λ y. nat_le y t.held.position.col) least_here ∙ deep_enough t.held.position.col t.held.indent t.held.indents a.are_levels deep);
+          lines_stand = k.lines (least_for tok at) piece ∙ (ap (λ y. quoted_lines_fit y (element_of single) piece) (k.least at ∙ (least_here ∙ least_is_less t.held.indent t.held.indents a.are_levels)) ∙ q.fits);
+          precedes = k.precedes fl at.blocks piece (next_of d) ∙ (ap (λ y. quoted_may_end y piece (next_of d)) (sym flow_is) ∙ (ap (λ y. quoted_may_end (in_flow t.held) piece y) (sym cut) ∙ c.may_end));
+          columns_are = refl;
+          awaits_is = awaits_then ∙ r.awaits_is;
+          are_levels = a.are_levels;
+          has_no_tabs = no_tabs;
+          is_leading = λ some more hash. subst (λ y. b.is_leading ≡ begins_line y gap) (sym k.before) (leads (some_levels t.held.indent t.held.indents (ap is_empty (sym r.blocks_are) ∙ some)) more);
+          read_on = subst (λ y. IsReadOn y (site_then t fs r.site d).position gap w.rest) (sym k.before) tt;
+          allowed_is = ap (λ f. (not f && plains.has_break b.separation) || false) flow_is ∙ (allowed_by fl ∙ ap (λ y. allowed_past fl y gap) (sym k.before));
+          one_line = λ some h. ((one_line_of some h).0, subst (λ y. begins_free_line y gap ≡ false) (sym k.before) (one_line_of some h).1);
+          was_adjacent = λ inside. subst (λ y. IsAdjacent (before_past (before_by y) gap) end end.index w.rest) (sym k.before) (adjacent_quoted end w.rest gap b.solid);
+          adjacent_before = omega arith;
+        }
+
+      node : ReadNode text t (on_held (λ s. push t.held.position tok (adjacent_here s)) w)
+      node = record {
+        read = d;
+        known = λ fs ks es f r. is_read fs ks es f r;
+        is = ap (λ h. on_held (λ s. push t.held.position tok (adjacent_here s)) (record { rest = w.rest; held = h })) held_is;
+      }
+
+-- what the model does after the closing quote
+abbrev pub after_body : Bool → ScannerState → List ℕ → ScannerState → Result ScannerState Fault
+after_body single t x u =
+    check_after_quoted t.held.position.line (on_held unled u) >>= λ v.
+    skip_to_next_token v >>= λ w.
+    Ok (on_held (λ s. push t.held.position (Tok.scalar (quoted_style single) x) (adjacent_here s)) w)
+
+-- `'` or `"`: what is read of the node
+pub quoted_node : (text : List ℕ) (single : Bool) (t : ScannerState) (more : List ℕ) → t.rest ≡ quote_of single ∷ more → IsDeep t.held → Arrives text t → Holds (ReadNode text t) (fetch_flow_scalar single t)
+unfolding fetch_flow_scalar
+quoted_node text single t more e deep a =
+    subst (λ h. Holds (ReadNode text t) (lexed (quoted single (context (allow_key false h)) t.rest t.held.position) (allow_key false h) (after_body single t))) (sym (saved_is t.held))
+    (read (allow_key false (record t.held { keys = saved_keys t.held })) (quoted single (context t.held) t.rest t.held.position) (after_body single t) (λ x i. by x (read_as x i)))
+  where
+    more_clean : has_no_nul more ≡ true
+    more_clean = (and_parts (not (is_nul (quote_of single))) (has_no_nul more) (subst (λ r. has_no_nul r ≡ true) e a.is_clean)).1
+
+    read_as : (x : machine.Read (List ℕ)) → quoted single (context t.held) t.rest t.held.position ≡ Ok x → QuotedAs single (context t.held) t.held.position t.rest x
+    read_as x i = subst (λ r. QuotedAs single (context t.held) t.held.position r x) (sym e) (quoted_as single (context t.held) t.held.position more x more_clean (subst (λ r. quoted single (context t.held) r t.held.position ≡ Ok x) e i))
+
+    by : (x : machine.Read (List ℕ)) → QuotedAs single (context t.held) t.held.position t.rest x → Holds (ReadNode text t) (after_body single t x.value (go_on x (allow_key false (record t.held { keys = saved_keys t.held }))))
+    by x q =
+        chained (quoted_checked t.held.position (piece_of single q.body) (closed text single t a deep x q) (in_line single q.body) (rest_is_clean text single t a deep x q) q.end_is) (λ v c.
+        chained (both_hold (exact v) (skipped text single t a deep x q v c)) (λ w z.
+        went (node text single t a deep x q v c w z.0 z.1)))
+
+pub quoted_keeps : (text : List ℕ) (single : Bool) (t : ScannerState) (more : List ℕ) → t.rest ≡ quote_of single ∷ more → IsDeep t.held → Arrives text t → Holds (Stands text) (fetch_flow_scalar single t)
+quoted_keeps text single t more e deep a = weakened (λ u n. subst (λ y. Stands text y) (sym n.is) (node_read text t n.read deep a n.known)) (quoted_node text single t more e deep a)

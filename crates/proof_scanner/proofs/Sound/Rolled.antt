@@ -1,0 +1,215 @@
+-- Where a block collection begins, and where the value of an entry is awaited: the levels of indentation, and the columns of the block collections.
+use Rattle.std.proofs.Common.{◌≡◌, ℕ, ◌+◌, ◌-◌, ◌≤◌, ◌<◌, List, [], ◌∷◌, Bool, true, false, not, nat_lt, nat_le, if◌then◌else◌, Option, refl, ap, sym, ◌∙◌, subst, arith}
+use Rattle.std.proofs.lemmas.Bool.Decides.{nat_tests}
+use Rattle.defs_text.specs.Position.{Position}
+use Rattle.defs_text.specs.Text.{is_empty}
+use Rattle.defs_token.specs.Token.{Tok, Token}
+use Rattle.defs_token.specs.Column.{is_deeper, opened, innermost}
+use Rattle.model_scanner.specs.declared.level.Indent.{Indent}
+use Rattle.model_scanner.specs.State.{Held, in_flow, token}
+use Rattle.model_scanner.specs.Keys.{top_needs_block_end}
+use Rattle.model_scanner.specs.Indents.{level, placed, drop_open, drop_open_level, deepen, roll_indent, in_block, roll_one_col_indent}
+use Rattle.proof_scanner.specs.Here.{IsNotRight}
+use Rattle.proof_scanner.specs.StandsInRow.{columns, has_open_level, AreCollections, IsTopLevel, AreLevels}
+
+-- collections alone are levels
+pub levels_of_collections : (i : ℕ) (ds : List Indent) → AreCollections i ds → AreLevels i ds
+levels_of_collections i [] a = a
+levels_of_collections i (d ∷ ds) a = (subst (λ b. IsTopLevel b i d.indent ds) (sym a.0) a.1, a.2)
+
+-- a column is deeper than the innermost collection just where it is deeper than its level
+pub deeper_is : (col i : ℕ) (ds : List Indent) → AreCollections i ds → is_deeper col (columns i ds) ≡ nat_lt i (col + 1)
+deeper_is col i [] a = rw a (sym (positive (col + 1) (omega arith)))
+  where
+    positive : (n : ℕ) → 0 < n → nat_lt 0 n ≡ true
+    positive n h = grind (arith, nat_tests)
+deeper_is col i (d ∷ ds) a = rw a.0 (same (nat_lt (i - 1) col) (nat_lt i (col + 1)) refl refl)
+  where
+    same : (b c : Bool) → nat_lt (i - 1) col ≡ b → nat_lt i (col + 1) ≡ c → b ≡ c
+    same true true e f = refl
+    same false false e f = refl
+    same true false e f = let h = a.1 in absurd (grind (arith, nat_tests, h))
+    same false true e f = let h = a.1 in absurd (grind (arith, nat_tests, h))
+
+-- A collection begins at a column where that is deeper than the innermost one, and its start is put among the tokens; else that one goes on.
+pub record RollsTo (col : ℕ) (number : Option ℕ) (t : Token) (s u : Held) : Type 0 where
+  pub indents : List Indent
+  pub indent : ℕ
+  pub is_held : u ≡ record s { indents = indents; indent = indent; tokens = (if is_deeper col (columns s.indent s.indents) then placed number t s.tokens else s.tokens) }
+  pub columns_are : columns indent indents ≡ opened col (columns s.indent s.indents)
+  pub are_levels : AreLevels indent indents
+  pub is_top : s.indent ≤ col + 1 → top_needs_block_end indents ≡ true
+
+deepened : (col : ℕ) (number : Option ℕ) (t : Token) (s : Held) → AreCollections s.indent s.indents → s.indent ≤ col + 1 → RollsTo col number t s (deepen col number t s)
+unfolding deepen
+deepened col number t s a low = by (nat_lt s.indent (col + 1)) refl
+  where
+    bs : List ℕ
+    bs = columns s.indent s.indents
+
+    one_less : (col + 1) - 1 ≡ col
+    one_less = omega arith
+
+    some : (ds : List Indent) → AreCollections s.indent ds → nat_lt s.indent (col + 1) ≡ false → top_needs_block_end ds ≡ true
+    some [] h e = absurd (grind (arith, nat_tests, h, e))
+    some (d ∷ ds) h e = h.0
+
+    by : (b : Bool) → nat_lt s.indent (col + 1) ≡ b → RollsTo col number t s (if b then record s { indents = level s.indent true ∷ s.indents; indent = col + 1; tokens = placed number t s.tokens } else s)
+    by true e =
+        let deeper : true ≡ is_deeper col bs = sym (deeper_is col s.indent s.indents a ∙ e) in
+        record {
+          indents = level s.indent true ∷ s.indents;
+          indent = col + 1;
+          is_held = ap (λ b. record s { indents = level s.indent true ∷ s.indents; indent = col + 1; tokens = (if b then placed number t s.tokens else s.tokens) }) deeper;
+          columns_are = ap (λ n. n ∷ bs) one_less ∙ ap (λ b. if b then col ∷ bs else bs) deeper;
+          are_levels = (grind (arith, nat_tests, e), a);
+          is_top = λ h. refl;
+        }
+    by false e =
+        let deeper : false ≡ is_deeper col bs = sym (deeper_is col s.indent s.indents a ∙ e) in
+        record {
+          indents = s.indents;
+          indent = s.indent;
+          is_held = ap (λ b. record s { tokens = (if b then placed number t s.tokens else s.tokens) }) deeper;
+          columns_are = ap (λ b. if b then col ∷ bs else bs) deeper;
+          are_levels = levels_of_collections s.indent s.indents a;
+          is_top = λ h. some s.indents a e;
+        }
+
+-- an open level is one column deeper than a collection whose column is that of the piece
+open_goes_on : (col : ℕ) (number : Option ℕ) (t : Token) (s : Held) (d : Indent) (ds : List Indent) → s.indents ≡ d ∷ ds → d.needs_block_end ≡ false → AreLevels s.indent (d ∷ ds) → IsNotRight (innermost (columns d.indent ds)) col → col + 1 < s.indent →
+    RollsTo col number t s (deepen col number t s)
+unfolding deepen
+open_goes_on col number t s d ds e no_end l right high = rw stays (record {
+  indents = s.indents;
+  indent = s.indent;
+  is_held = ap (λ b. record s { tokens = (if b then placed number t s.tokens else s.tokens) }) not_deeper;
+  columns_are = ap (λ b. if b then col ∷ columns s.indent s.indents else columns s.indent s.indents) not_deeper;
+  are_levels = subst (λ x. AreLevels s.indent x) (sym e) l;
+  is_top = λ h. absurd (omega (arith, h, high));
+})
+  where
+    stays : nat_lt s.indent (col + 1) ≡ false
+    stays = grind (arith, nat_tests, high)
+
+    same_columns : columns s.indent s.indents ≡ columns d.indent ds
+    same_columns = ap (columns s.indent) e ∙ ap (λ b. if b then (s.indent - 1) ∷ columns d.indent ds else columns d.indent ds) no_end
+
+    top : IsTopLevel false s.indent d.indent ds
+    top = subst (λ b. IsTopLevel b s.indent d.indent ds) no_end l.0
+
+    here : (es : List Indent) → is_empty es ≡ false → AreCollections d.indent es → IsNotRight (innermost (columns d.indent es)) col → d.indent ≤ col + 1
+    here [] n a r = absurd (cc n)
+    here (x ∷ es) n a r = let first : d.indent - 1 ≤ col = subst (λ b. IsNotRight (innermost (if b then (d.indent - 1) ∷ columns x.indent es else columns x.indent es)) col) a.0 r in omega (arith, first)
+
+    level_is : nat_lt d.indent (col + 1) ≡ false
+    level_is = let h = top.0 in grind (arith, nat_tests, h, high)
+
+    not_deeper : false ≡ is_deeper col (columns s.indent s.indents)
+    not_deeper = sym (ap (is_deeper col) same_columns ∙ (deeper_is col d.indent ds l.1 ∙ level_is))
+
+-- ---- a collection begins
+
+-- an open level that goes before it
+rolls_past : (col : ℕ) (number : Option ℕ) (t : Token) (s : Held) (i : ℕ) (ds : List Indent) (u : Held) → columns i ds ≡ columns s.indent s.indents → s.indent ≡ i + 1 → RollsTo col number t (record s { indent = i; indents = ds }) u → RollsTo col number t s u
+rolls_past col number t s i ds u same more r = record {
+  indents = r.indents;
+  indent = r.indent;
+  is_held = r.is_held ∙ ap (λ bs. record s { indents = r.indents; indent = r.indent; tokens = (if is_deeper col bs then placed number t s.tokens else s.tokens) }) same;
+  columns_are = r.columns_are ∙ ap (opened col) same;
+  are_levels = r.are_levels;
+  is_top = λ h. r.is_top (omega (arith, h, more));
+}
+
+-- outside flow
+pub rolls_to : (col : ℕ) (number : Option ℕ) (tok : Tok) (p : Position) (s : Held) → in_flow s ≡ false → AreLevels s.indent s.indents → IsNotRight (innermost (columns s.indent s.indents)) col →
+    RollsTo col number (token p tok) s (roll_indent col number tok p s)
+unfolding roll_indent drop_open_level
+rolls_to col number tok p s out levels right = rw out (on (nat_le s.indent (col + 1)) refl s.indents refl levels right)
+  where
+    t : Token
+    t = token p tok
+
+    low : (d : Indent) (ds : List Indent) (b : Bool) → s.indents ≡ d ∷ ds → d.needs_block_end ≡ b → AreLevels s.indent (d ∷ ds) → s.indent ≤ col + 1 → RollsTo col number t s (deepen col number t (if b then s else record s { indent = d.indent; indents = ds }))
+    low d ds true e f l h =
+        let first : IsTopLevel true s.indent d.indent ds = subst (λ b. IsTopLevel b s.indent d.indent ds) f l.0 in
+        deepened col number t s (subst (λ x. AreCollections s.indent x) (sym e) (f, first, l.1)) h
+    low d ds false e f l h =
+        let first : IsTopLevel false s.indent d.indent ds = subst (λ b. IsTopLevel b s.indent d.indent ds) f l.0 in
+        let more : s.indent ≡ d.indent + 1 = first.0 in
+        rolls_past col number t s d.indent ds _ (sym (ap (columns s.indent) e ∙ ap (λ b. if b then (s.indent - 1) ∷ columns d.indent ds else columns d.indent ds) f)) more
+        (deepened col number t (record s { indent = d.indent; indents = ds }) l.1 (omega (arith, h, more)))
+
+    high : (d : Indent) (ds : List Indent) (b : Bool) → s.indents ≡ d ∷ ds → d.needs_block_end ≡ b → AreLevels s.indent (d ∷ ds) → IsNotRight (innermost (columns s.indent (d ∷ ds))) col → col + 1 < s.indent → RollsTo col number t s (deepen col number t s)
+    high d ds true e f l r h = let first : s.indent - 1 ≤ col = subst (λ b. IsNotRight (innermost (if b then (s.indent - 1) ∷ columns d.indent ds else columns d.indent ds)) col) f r in absurd (omega (arith, first, h))
+    high d ds false e f l r h = open_goes_on col number t s d ds e f l (subst (λ b. IsNotRight (innermost (if b then (s.indent - 1) ∷ columns d.indent ds else columns d.indent ds)) col) f r) h
+
+    on : (b : Bool) → nat_le s.indent (col + 1) ≡ b → (ds : List Indent) → s.indents ≡ ds → AreLevels s.indent ds → IsNotRight (innermost (columns s.indent ds)) col → RollsTo col number t s (deepen col number t (if b then drop_open s ds else s))
+    on true e [] f l r = deepened col number t s (subst (λ x. AreCollections s.indent x) (sym f) l) (grind (arith, nat_tests, e))
+    on true e (d ∷ ds) f l r = low d ds d.needs_block_end f refl l (grind (arith, nat_tests, e))
+    on false e [] f l r = let none : s.indent ≡ 0 = l in absurd (grind (arith, nat_tests, e, none))
+    on false e (d ∷ ds) f l r = high d ds d.needs_block_end f refl l r (grind (arith, nat_tests, e))
+
+-- ---- the value of an entry is awaited
+
+-- A level that opens no collection stands innermost, and the collections are as before.
+pub record OpensOne (s u : Held) : Type 0 where
+  pub indents : List Indent
+  pub indent : ℕ
+  pub is_held : u ≡ record s { indents = indents; indent = indent }
+  pub columns_are : columns indent indents ≡ columns s.indent s.indents
+  pub are_levels : AreLevels indent indents
+  pub awaits : has_open_level indents ≡ true
+
+-- outside flow, in a block collection
+pub opens_one : (s : Held) → in_flow s ≡ false → AreLevels s.indent s.indents → is_empty s.indents ≡ false → OpensOne s (roll_one_col_indent s)
+unfolding roll_one_col_indent in_block
+opens_one s out levels some = rw out (by s.indents refl levels some)
+  where
+    at : (d : Indent) (ds : List Indent) (b : Bool) → s.indents ≡ d ∷ ds → d.needs_block_end ≡ b → AreLevels s.indent (d ∷ ds) → OpensOne s (if b then record s { indents = level s.indent false ∷ s.indents; indent = s.indent + 1 } else s)
+    at d ds true e f l =
+        let first : IsTopLevel true s.indent d.indent ds = subst (λ b. IsTopLevel b s.indent d.indent ds) f l.0 in
+        record {
+          indents = level s.indent false ∷ s.indents;
+          indent = s.indent + 1;
+          is_held = refl;
+          columns_are = refl;
+          are_levels = ((refl, ap is_empty e), subst (λ x. AreCollections s.indent x) (sym e) (f, first, l.1));
+          awaits = refl;
+        }
+    at d ds false e f l = record {
+      indents = s.indents;
+      indent = s.indent;
+      is_held = refl;
+      columns_are = refl;
+      are_levels = subst (λ x. AreLevels s.indent x) (sym e) l;
+      awaits = ap has_open_level e ∙ ap not f;
+    }
+
+    by : (ds : List Indent) → s.indents ≡ ds → AreLevels s.indent ds → is_empty ds ≡ false → OpensOne s (if top_needs_block_end ds then record s { indents = level s.indent false ∷ s.indents; indent = s.indent + 1 } else s)
+    by [] e l n = absurd (cc n)
+    by (d ∷ ds) e l n = at d ds d.needs_block_end e refl l
+
+-- in flow nothing changes
+pub opens_none : (s : Held) → in_flow s ≡ true → roll_one_col_indent s ≡ s
+unfolding roll_one_col_indent in_block
+opens_none s inside = rw inside refl
+
+-- where a collection is innermost, no value is awaited
+pub top_closed : (ds : List Indent) → top_needs_block_end ds ≡ true → (is_empty ds ≡ false) × (has_open_level ds ≡ false)
+top_closed [] h = absurd (cc h)
+top_closed (d ∷ ds) h = (refl, ap not h)
+
+-- where a collection begins or goes on, there is one
+pub opened_some : (col : ℕ) (bs : List ℕ) → is_empty (opened col bs) ≡ false
+opened_some col [] = refl
+opened_some col (n ∷ ns) = by (nat_lt n col)
+  where
+    by : (b : Bool) → is_empty (if b then col ∷ (n ∷ ns) else n ∷ ns) ≡ false
+    by true = refl
+    by false = refl
+
+-- and so a level
+pub some_levels : (i : ℕ) (ds : List Indent) → is_empty (columns i ds) ≡ false → is_empty ds ≡ false
+some_levels i [] h = absurd (cc h)
+some_levels i (d ∷ ds) h = refl

@@ -1,0 +1,199 @@
+-- What the model skips between tokens leaves no TAB in the indentation of the next one.
+use Rattle.std.proofs.Common.{◌≡◌, ℕ, zero, suc, ◌+◌, ◌≤◌, List, [], ◌∷◌, ◌++◌, Bool, true, false, not, ◌&&◌, ◌||◌, ◌==◌, ◌⊎◌, inl, inr, nat_lt, if◌then◌else◌, length, Result, Ok, refl, ap, sym, ◌∙◌, subst, append_assoc, append-nil, arith}
+use Rattle.std.proofs.Math.Bool.{or-false, or-true}
+use Rattle.std.proofs.lemmas.Bool.{and_parts, eqb-true}
+use Rattle.std.proofs.lemmas.Bool.Decides.{nat_tests}
+use Rattle.std.proofs.lemmas.List.{length-append}
+use Rattle.yaml_chars.specs.Class.{is_break, is_blank}
+use Rattle.yaml_tokens.specs.declared.problem.Fault.{Fault}
+use Rattle.defs_text.specs.Classes as classes
+use Rattle.defs_text.specs.Text.{is_empty}
+use Rattle.defs_token.specs.Step.{Previous, plain_scalar, quoted_scalar, block_scalar, flow_collection, directive, another, has_break}
+use Rattle.defs_token.specs.Indentation.{has_tab_within, last_line, begins_line}
+use Rattle.model_scanner.specs.Machine.{is_cr_lf}
+use Rattle.model_scanner.specs.State.{Held, ScannerState, moved}
+use Rattle.model_scanner.specs.Space.{Gap, between, comment, tab_line, past_line, is_before_indent, skip}
+use Rattle.model_scanner.proofs.Holds.{Holds, went, refused, either, weakened}
+use Rattle.proof_lexers.proofs.Separation.Separations.{no_hash}
+use Rattle.proof_lexers.proofs.Bridges.{same_break}
+use Rattle.proof_scanner.specs.StandsInRow.{is_at_comment_or_end}
+use Rattle.proof_scanner.proofs.Sound.LastLines.{break_append, last_more, tab_within_more}
+
+-- a break more begins a line, and nothing else does
+pub line_more : (before : Previous) (g : List ℕ) (c : ℕ) → begins_line before (g ++ c ∷ []) ≡ (begins_line before g || classes.is_break c)
+line_more before g c = by before
+  where
+    same : (x y : Bool) → (x || not (not y && true)) ≡ (x || y)
+    same true y = refl
+    same false true = refl
+    same false false = refl
+
+    broken : has_break (g ++ c ∷ []) ≡ (has_break g || classes.is_break c)
+    broken = break_append g (c ∷ []) ∙ same (has_break g) (classes.is_break c)
+
+    by : (before : Previous) → begins_line before (g ++ c ∷ []) ≡ (begins_line before g || classes.is_break c)
+    by plain_scalar = broken
+    by quoted_scalar = broken
+    by block_scalar = refl
+    by flow_collection = broken
+    by directive = broken
+    by another = broken
+
+module _ (before : Previous) (least : ℕ) where
+  -- no TAB stands before the least column, if the line begins here
+  abbrev pub Spaced : List ℕ → Type 0
+  Spaced g = begins_line before g ≡ true → has_tab_within least (last_line g) ≡ false
+
+  -- the innermost level of indentation is that of the least column
+  abbrev pub IsLeast : Held → Type 0
+  IsLeast s = (is_empty s.indents ≡ true → least ≡ 0) × (is_empty s.indents ≡ false → s.indent ≡ suc least)
+
+  -- Where tokens may begin after a separation: what the scanner knows of the line.
+  pub record IsAt (g : List ℕ) (s : Held) : Type 0 where
+    pub leading_is : is_empty s.indents ≡ false → s.leading ≡ begins_line before g
+    pub col_is : begins_line before g ≡ true → s.position.col ≡ length (last_line g)
+    pub spaced : Spaced g
+
+  -- the same, or no token begins here
+  abbrev pub IsIn : Gap → List ℕ → Held → List ℕ → Type 0
+  IsIn between g s a = (is_at_comment_or_end a ≡ true) ⊎ IsAt g s
+  IsIn comment g s a = Unit {0}
+  IsIn tab_line g s a = Unit {0}
+
+  -- What is left, with what was passed: no TAB indents what comes next, and it is known whether its line begins there.
+  pub record Cleared (g a : List ℕ) (u : ScannerState) : Type 0 where
+    pub passed : List ℕ
+    pub cut : a ≡ passed ++ u.rest
+    pub clear : is_empty u.rest ≡ false → IsAt (g ++ passed) u.held
+
+  abbrev Clears : List ℕ → Type 0
+  Clears a = (m : Gap) (g : List ℕ) (s : Held) → IsLeast s → IsIn m g s a → Holds (Cleared g a) (skip m a s)
+
+  one_more : (g a : List ℕ) (c : ℕ) (r : Result ScannerState Fault) → Holds (Cleared (g ++ c ∷ []) a) r → Holds (Cleared g (c ∷ a)) r
+  one_more g a c r h = weakened (λ u x. record { passed = c ∷ x.passed; cut = ap (λ y. c ∷ y) x.cut; clear = λ e. subst (λ y. IsAt y u.held) (append_assoc g (c ∷ []) x.passed) (x.clear e) }) h
+
+  -- ---- a break
+
+  pub at_line : (g : List ℕ) (c : ℕ) (s : Held) → is_break c ≡ true → IsAt (g ++ c ∷ []) (past_line s)
+  at_line g c s e =
+      let breaks : classes.is_break c ≡ true = same_break c ∙ e in
+      let last : last_line (g ++ c ∷ []) ≡ [] = last_more g c ∙ ap (λ b. if b then [] else last_line g ++ c ∷ []) breaks in
+      let begins : begins_line before (g ++ c ∷ []) ≡ true = line_more before g c ∙ (ap (λ b. begins_line before g || b) breaks ∙ or-true (begins_line before g)) in
+      record {
+        leading_is = λ _. sym begins;
+        col_is = λ _. ap length (sym last);
+        spaced = λ _. ap (λ l. has_tab_within least l) last ∙ none least;
+      }
+    where
+      none : (n : ℕ) → has_tab_within n [] ≡ false
+      none zero = refl
+      none (suc n) = refl
+
+  pub feed_next : (c : ℕ) (a : List ℕ) → is_cr_lf c a ≡ true → is_at_comment_or_end a ≡ true
+  unfolding classes.is_break
+  feed_next c [] h = refl
+  feed_next c (d ∷ a) h = rw (eqb-true d 10 (and_parts (c == 13) (d == 10) h).1) refl
+
+  broken : (m : Gap) (g a : List ℕ) (c : ℕ) (s : Held) → is_break c ≡ true → IsLeast s → Clears a → Holds (Cleared g (c ∷ a)) (skip m (c ∷ a) s)
+  unfolding skip
+  broken m g a c s e l ih = rw e (by (is_cr_lf c a) refl)
+    where
+      by : (b : Bool) → is_cr_lf c a ≡ b → Holds (Cleared g (c ∷ a)) (skip between a (if b then moved s else past_line s))
+      by true f = one_more g a c _ (ih between (g ++ c ∷ []) (moved s) l (inl (feed_next c a f)))
+      by false f = one_more g a c _ (ih between (g ++ c ∷ []) (past_line s) l (inr (at_line g c s e)))
+
+  -- ---- a blank
+
+  -- a blank that is no TAB in the indentation
+  pub at_blank : (g : List ℕ) (c : ℕ) (s : Held) → classes.is_break c ≡ false → ((c == 9) && is_before_indent s) ≡ false → IsLeast s → IsAt g s → IsAt (g ++ c ∷ []) (moved s)
+  unfolding is_before_indent
+  at_blank g c s e f l h =
+      let same : begins_line before (g ++ c ∷ []) ≡ begins_line before g = line_more before g c ∙ (ap (λ b. begins_line before g || b) e ∙ or-false (begins_line before g)) in
+      let last : last_line (g ++ c ∷ []) ≡ last_line g ++ c ∷ [] = last_more g c ∙ ap (λ b. if b then [] else last_line g ++ c ∷ []) e in
+      record {
+        leading_is = λ i. h.leading_is i ∙ sym same;
+        col_is = λ b. let k : s.position.col ≡ length (last_line g) = h.col_is (sym same ∙ b) in ap (λ n. n + 1) k ∙ (sym (length-append (last_line g) (c ∷ [])) ∙ ap length (sym last));
+        spaced = λ b.
+            let now : begins_line before g ≡ true = sym same ∙ b in
+            ap (λ x. has_tab_within least x) last ∙ tab_within_more least (last_line g) c (kind now) (h.spaced now);
+      }
+    where
+      other : (c == 9) ≡ false → (9 == c) ≡ false
+      other k = grind (arith, k)
+
+      kind : begins_line before g ≡ true → ((9 == c) ≡ false) ⊎ (least ≤ length (last_line g))
+      kind now = by (c == 9) refl f
+        where
+          deep : is_empty s.indents ≡ true → least ≤ length (last_line g)
+          deep i = let z : least ≡ 0 = l.0 i in omega (arith, z)
+
+          level : is_empty s.indents ≡ false → nat_lt (s.position.col + 1) s.indent ≡ false → least ≤ length (last_line g)
+          level i k =
+              let d : s.indent ≤ s.position.col + 1 = grind (arith, nat_tests, k) in
+              let p : s.position.col ≡ length (last_line g) = h.col_is now in
+              let n : s.indent ≡ suc least = l.1 i in
+              omega (arith, d, p, n)
+
+          within : (i x : Bool) → is_empty s.indents ≡ i → nat_lt (s.position.col + 1) s.indent ≡ x → (not i && s.leading && x) ≡ false → least ≤ length (last_line g)
+          within true x i k q = deep i
+          within false true i k q = absurd (cc (h.leading_is i, now, q))
+          within false false i k q = level i k
+
+          by : (t : Bool) → (c == 9) ≡ t → (t && (not (is_empty s.indents) && s.leading && nat_lt (s.position.col + 1) s.indent)) ≡ false → ((9 == c) ≡ false) ⊎ (least ≤ length (last_line g))
+          by false t q = inl (other t)
+          by true t q = inr (within (is_empty s.indents) (nat_lt (s.position.col + 1) s.indent) refl refl q)
+
+  -- ---- each character
+
+  pub no_end : (c : ℕ) (a : List ℕ) → is_break c ≡ false → (c == 35) ≡ false → is_at_comment_or_end (c ∷ a) ≡ false
+  no_end c a e f = rw (same_break c, e, f) refl
+
+  between_by : (g a : List ℕ) (c : ℕ) (s : Held) → is_break c ≡ false → IsLeast s → IsIn between g s (c ∷ a) → Clears a → Holds (Cleared g (c ∷ a)) (skip between (c ∷ a) s)
+  unfolding skip
+  between_by g a c s e l h ih = rw e (by ((c == 9) && is_before_indent s) refl)
+    where
+      no_break : classes.is_break c ≡ false
+      no_break = same_break c ∙ e
+
+      at : (c == 35) ≡ false → IsAt g s
+      at f = from h
+        where
+          from : IsIn between g s (c ∷ a) → IsAt g s
+          from (inl x) = absurd (cc (x, no_end c a e f))
+          from (inr x) = x
+
+      stay : (c == 35) ≡ false → Cleared g (c ∷ a) (record { rest = c ∷ a; held = s })
+      stay f = record { passed = []; cut = refl; clear = λ _. subst (λ y. IsAt y s) (sym (append-nil g)) (at f) }
+
+      later : (b : Bool) → is_blank c ≡ b → ((c == 9) && is_before_indent s) ≡ false → Holds (Cleared g (c ∷ a))
+          (if b then skip between a (moved s) else (if c == 35 then skip comment a (record (moved s) { leading = false }) else Ok (record { rest = c ∷ a; held = s })))
+      later true b f = one_more g a c _ (ih between (g ++ c ∷ []) (moved s) l (inr (at_blank g c s no_break f l (at (no_hash c b)))))
+      later false b f = last (c == 35) refl
+        where
+          last : (x : Bool) → (c == 35) ≡ x → Holds (Cleared g (c ∷ a)) (if x then skip comment a (record (moved s) { leading = false }) else Ok (record { rest = c ∷ a; held = s }))
+          last true x = one_more g a c _ (ih comment (g ++ c ∷ []) (record (moved s) { leading = false }) l tt)
+          last false x = went (stay x)
+
+      by : (t : Bool) → ((c == 9) && is_before_indent s) ≡ t → Holds (Cleared g (c ∷ a))
+          (if t then skip tab_line a (moved s) else (if is_blank c then skip between a (moved s) else (if c == 35 then skip comment a (record (moved s) { leading = false }) else Ok (record { rest = c ∷ a; held = s }))))
+      by true t = one_more g a c _ (ih tab_line (g ++ c ∷ []) (moved s) l tt)
+      by false t = later (is_blank c) refl t
+
+  comment_by : (g a : List ℕ) (c : ℕ) (s : Held) → is_break c ≡ false → IsLeast s → Clears a → Holds (Cleared g (c ∷ a)) (skip comment (c ∷ a) s)
+  unfolding skip
+  comment_by g a c s e l ih = rw e (one_more g a c _ (ih comment (g ++ c ∷ []) (moved s) l tt))
+
+  tab_by : (g a : List ℕ) (c : ℕ) (s : Held) → is_break c ≡ false → IsLeast s → Clears a → Holds (Cleared g (c ∷ a)) (skip tab_line (c ∷ a) s)
+  unfolding skip
+  tab_by g a c s e l ih = rw e (either (is_blank c) (λ _. one_more g a c _ (ih tab_line (g ++ c ∷ []) (moved s) l tt)) (λ _. either (c == 35) (λ _. one_more g a c _ (ih comment (g ++ c ∷ []) (moved s) l tt)) (λ _. refused)))
+
+  one_by : (m : Gap) (g a : List ℕ) (c : ℕ) (s : Held) (b : Bool) → is_break c ≡ b → IsLeast s → IsIn m g s (c ∷ a) → Clears a → Holds (Cleared g (c ∷ a)) (skip m (c ∷ a) s)
+  one_by m g a c s true e l h ih = broken m g a c s e l ih
+  one_by between g a c s false e l h ih = between_by g a c s e l h ih
+  one_by comment g a c s false e l h ih = comment_by g a c s e l ih
+  one_by tab_line g a c s false e l h ih = tab_by g a c s e l ih
+
+  pub skip_clears : (a : List ℕ) → Clears a
+  unfolding skip
+  skip_clears [] m g s l h = went (record { passed = []; cut = refl; clear = λ e. absurd (cc e) })
+  skip_clears (c ∷ a) m g s l h = one_by m g a c s (is_break c) refl l h (skip_clears a)

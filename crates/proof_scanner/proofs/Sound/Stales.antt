@@ -1,0 +1,181 @@
+-- Keys that are too far back are dropped: what holds between two fetches still holds, without them.
+use Rattle.std.proofs.Common.{◌≡◌, ℕ, suc, ◌+◌, ◌≤◌, List, [], ◌∷◌, ◌++◌, Bool, true, false, not, ◌&&◌, ◌||◌, ◌⊎◌, inl, inr, length, map, nat_lt, if◌then◌else◌, Option, Some, None, Result, Ok, Err, refl, ap, sym, ◌∙◌, subst, arith}
+use Rattle.std.proofs.lemmas.Bool.Decides.{nat_tests}
+use Rattle.std.specs.List.{list_any}
+use Rattle.defs_text.specs.Position.{Position}
+use Rattle.defs_text.specs.Text.{is_empty}
+use Rattle.defs_token.specs.Token.{Token}
+use Rattle.yaml_tokens.specs.declared.problem.Fault.{Fault}
+use Rattle.yaml_tokens.specs.declared.problem.Fault.TheVariants.{At}
+use Rattle.yaml_tokens.specs.declared.problem.Problem.TheVariants as problem
+use Rattle.defs_token.specs.Step.{Step}
+use Rattle.defs_token.specs.Key.{is_waiting, begins_free_line}
+use Rattle.defs_token.specs.FlowEntry.{Entry, is_renewed}
+use Rattle.defs_token.specs.RowAccount.{Account, have_no_key}
+use Rattle.defs_token.specs.Tokens.{tokens_from}
+use Rattle.defs_token.specs.Row.{IsRead}
+use Rattle.model_scanner.specs.declared.level.FlowLevel.{FlowLevel}
+use Rattle.model_scanner.specs.State.{Key, Held, ScannerState, in_flow, try_held}
+use Rattle.model_scanner.specs.Keys.{is_far, is_overdue, still, drop_stale, with_keys, stale}
+use Rattle.model_scanner.proofs.Holds.{Holds, went, refused, either, tried}
+use Rattle.proof_scanner.specs.Choices.{MayChoose, outside_key, chosen}
+use Rattle.proof_scanner.specs.Completes.{tokens_up_to, Completes}
+use Rattle.proof_scanner.specs.StandsInRow.{AreEntries, IsLine, IsOpenOutside, Stands, Fares, goes, over}
+use Rattle.proof_scanner.specs.Arrives.{IsNear}
+use Rattle.proof_scanner.proofs.Sound.Sides.{StandsAt}
+use Rattle.proof_scanner.proofs.Sound.StreamEnds.{entries_no_key, none_chosen, none_put}
+
+-- rows are completed alike by tokens that are alike
+pub completes_alike : (text after : List ℕ) (a : Account) (T U : List Step → List ℕ → List Token) → ((ws : List Step) (last : List ℕ) → T ws last ≡ U ws last) → Completes text after a T → Completes text after a U
+completes_alike text after a T U same h = (h.0, λ ws last e r. subst (λ x. IsRead text (x ++ tokens_from (Some a) ws last)) (same ws last) (h.1 ws last e r))
+
+-- outside flow there is one open key or none, and no entry
+pub no_entries : (allowed again : Bool) (fs : List FlowLevel) (ks : List (Option Key)) (es : List Entry) → is_empty fs ≡ true → AreEntries allowed again fs ks es → es ≡ []
+no_entries allowed again [] ks [] o a = refl
+no_entries allowed again [] ks (e ∷ es) o a = absurd a
+no_entries allowed again (f ∷ fs) ks es o a = absurd (cc o)
+
+pub entries_outside : (allowed again : Bool) (fs : List FlowLevel) (ks : List (Option Key)) (es : List Entry) → is_empty fs ≡ true → es ≡ [] → AreEntries allowed again fs ks es
+entries_outside allowed again [] ks [] o e = tt
+entries_outside allowed again [] ks (x ∷ es) o e = absurd (cc e)
+entries_outside allowed again (f ∷ fs) ks es o e = absurd (cc o)
+
+pub one_key : (ks : List (Option Key)) (fs : List FlowLevel) → length ks ≡ suc (length fs) → is_empty fs ≡ true → (k : Option Key) × (ks ≡ k ∷ [])
+one_key [] fs n o = absurd (omega (arith, n))
+one_key (k ∷ []) fs n o = (k, refl)
+one_key (k ∷ x ∷ ks) [] n o = absurd (omega (arith, n))
+one_key (k ∷ x ∷ ks) (f ∷ fs) n o = absurd (cc o)
+
+is_outside : (b : Bool) → not b ≡ false → b ≡ true
+is_outside true h = refl
+is_outside false h = absurd (cc h)
+
+-- where no open key is one, the tokens are those that the scanner holds
+pub none_completes : (text after : List ℕ) (a : Account) (ks : List (Option Key)) (ts : List Token) → is_waiting a.line ≡ false → have_no_key a.entries ≡ true →
+    Completes text after (chosen false [] ks a) (tokens_up_to (chosen false [] ks a) ks ts) → Completes text after a (λ ws last. ts)
+none_completes text after a ks ts no_key none h =
+    completes_alike text after a (tokens_up_to a ks ts) (λ ws last. ts) (λ ws last. none_put 0 a.site.position ws last a.site.blocks a.line a.entries ks ts no_key none)
+    (subst (λ x. Completes text after x (tokens_up_to x ks ts)) (none_chosen ks a) h)
+
+-- The open key outside flow is dropped, if it need not be one.
+pub key_dropped : (text : List ℕ) (u : ScannerState) → (s : Stands text u) → is_empty u.held.flow ≡ true → (k : Key) → u.held.keys ≡ Some k ∷ [] → k.required ≡ false → StandsAt text s.base s.separation (record u { held = record u.held { keys = None ∷ [] } })
+key_dropped text u s out k only free = record { stands = dropped; base_is = refl; separation_is = refl }
+  where
+    After : List ℕ
+    After = s.separation ++ u.rest
+
+    Of : Bool → List Bool → Account → Type 0
+    Of c cs a = Completes text After (chosen c cs (None ∷ []) a) (tokens_up_to (chosen c cs (None ∷ []) a) (None ∷ []) u.held.tokens)
+
+    none : s.base.entries ≡ []
+    none = no_entries u.held.key_allowed (is_renewed s.base.site.before s.separation) u.held.flow u.held.keys s.base.entries out s.are_entries
+
+    line : (fl : Bool) (k : Option Key) → IsLine fl u.held.key_allowed (begins_free_line s.base.site.before s.separation) u.held.position u.rest k s.base.line → IsLine fl u.held.key_allowed (begins_free_line s.base.site.before s.separation) u.held.position u.rest None s.base.line
+    line true k h = h
+    line false k h = (h.0, h.1, tt)
+
+    may : MayChoose false (outside_key s.base.entries u.held.keys) u.held.position u.rest
+    may = subst (λ es. MayChoose false (outside_key es u.held.keys) u.held.position u.rest) (sym none) (subst (λ ks. MayChoose false (outside_key [] ks) u.held.position u.rest) (sym only) free)
+
+    base : Completes text After (record s.base { entries = [] }) (λ ws last. u.held.tokens)
+    base = subst (λ es. Completes text After (record s.base { entries = es }) (λ ws last. u.held.tokens)) none
+        (none_completes text After s.base u.held.keys u.held.tokens s.no_key (entries_no_key u.held.key_allowed (is_renewed s.base.site.before s.separation) u.held.flow u.held.keys s.base.entries s.are_entries) (s.completes false [] may))
+
+    own : (c : Bool) (cs : List Bool) → Of c cs (record s.base { entries = [] })
+    own c cs = base
+
+    dropped : Stands text (record u { held = record u.held { keys = None ∷ [] } })
+    dropped = record {
+      base = s.base;
+      separation = s.separation;
+      is_clean = s.is_clean;
+      is_filled = s.is_filled;
+      position_is = s.position_is;
+      blocks_are = s.blocks_are;
+      awaits_is = s.awaits_is;
+      are_levels = s.are_levels;
+      has_no_tabs = s.has_no_tabs;
+      is_leading = s.is_leading;
+      read_on = s.read_on;
+      one_each = sym (ap length only) ∙ s.one_each;
+      are_entries = entries_outside u.held.key_allowed (is_renewed s.base.site.before s.separation) u.held.flow (None ∷ []) s.base.entries out none;
+      line_is = subst (λ es. IsLine (not (is_empty u.held.flow)) u.held.key_allowed (begins_free_line s.base.site.before s.separation) u.held.position u.rest (outside_key es (None ∷ [])) s.base.line) (sym none) (line (not (is_empty u.held.flow)) (outside_key s.base.entries u.held.keys) s.line_is);
+      is_open = subst (λ es. IsOpenOutside (outside_key es (None ∷ [])) s.base.site.position u.held.position u.rest s.base.site.blocks) (sym none) tt;
+      no_key = s.no_key;
+      are_numbered = (tt, tt);
+      was_adjacent = s.was_adjacent;
+      adjacent_before = s.adjacent_before;
+      started = s.started;
+      going = s.going;
+      carries = λ cs x key m inside some. absurd (cc (inside, ap is_empty none));
+      completes = λ c cs may. subst (λ es. Of c cs (record s.base { entries = es })) (sym none) (own c cs);
+    }
+
+-- ---- the step
+
+-- Outside flow the open key is near.
+pub record Nearer (text : List ℕ) (u : ScannerState) (h : Held) : Type 0 where
+  pub stands : Stands text (record u { held = h })
+  pub same : h ≡ record u.held { keys = h.keys }
+  pub near : is_empty u.held.flow ≡ true → (k : Option Key) × (h.keys ≡ k ∷ []) × IsNear k u.held.position
+
+not_far : (k p : Position) → is_far k p ≡ false → (p.line ≤ k.line) × (p.index ≤ k.index + 1024)
+unfolding is_far
+not_far k p h = by (nat_lt k.line p.line) (nat_lt (k.index + 1024) p.index) refl refl h
+  where
+    by : (a b : Bool) → nat_lt k.line p.line ≡ a → nat_lt (k.index + 1024) p.index ≡ b → (a || b) ≡ false → (p.line ≤ k.line) × (p.index ≤ k.index + 1024)
+    by true b e f h = absurd (cc h)
+    by false true e f h = absurd (cc h)
+    by false false e f h = (grind (arith, nat_tests, e), grind (arith, nat_tests, f))
+
+outside_now : (text : List ℕ) (u : ScannerState) (s : Stands text u) → is_empty u.held.flow ≡ true → (k : Option Key) → u.held.keys ≡ k ∷ [] → list_any (is_overdue u.held.position) (k ∷ []) ≡ false →
+    Nearer text u (record u.held { keys = map (still u.held.position) (k ∷ []) })
+outside_now text u s out None only h = record {
+  stands = subst (λ ks. Stands text (record u { held = record u.held { keys = ks } })) only s;
+  same = refl;
+  near = λ _. (None, refl, tt);
+}
+outside_now text u s out (Some k) only h = by (is_far k.position u.held.position) refl (first (is_far k.position u.held.position && k.required) h)
+  where
+    first : (b : Bool) → (b || false) ≡ false → b ≡ false
+    first true e = absurd (cc e)
+    first false e = refl
+
+    by : (b : Bool) → is_far k.position u.held.position ≡ b → (b && k.required) ≡ false → Nearer text u (record u.held { keys = (if b then None else Some k) ∷ [] })
+    by true e f = record {
+      stands = (key_dropped text u s out k only f).stands;
+      same = refl;
+      near = λ _. (None, refl, tt);
+    }
+    by false e f = record {
+      stands = subst (λ ks. Stands text (record u { held = record u.held { keys = ks } })) only s;
+      same = refl;
+      near = λ _. (Some k, refl, not_far k.position u.held.position e);
+    }
+
+pub stale_stands : (text : List ℕ) (u : ScannerState) → Stands text u → Holds (Nearer text u) (stale u.held)
+unfolding stale drop_stale
+stale_stands text u s =
+    either (in_flow u.held) (λ e. went (record { stands = s; same = refl; near = λ o. absurd (cc (e, ap not o)) })) (λ e.
+    let out : is_empty u.held.flow ≡ true = is_outside (is_empty u.held.flow) e in
+    let k : (k : Option Key) × (u.held.keys ≡ k ∷ []) = one_key u.held.keys u.held.flow s.one_each out in
+    subst (λ ks. Holds (Nearer text u) (with_keys u.held (if list_any (is_overdue u.held.position) ks then Err (At problem.KeyWithoutColon u.held.position) else Ok (map (still u.held.position) ks)))) (sym k.1)
+    (by (list_any (is_overdue u.held.position) (k.0 ∷ [])) (outside_now text u s out k.0 k.1)))
+  where
+    by : {ks : List (Option Key)} (b : Bool) → (b ≡ false → Nearer text u (record u.held { keys = ks })) → Holds (Nearer text u) (with_keys u.held (if b then Err (At problem.KeyWithoutColon u.held.position) else Ok ks))
+    by true f = refused
+    by false f = went (f refl)
+
+-- The stale keys of a fetch are dropped.
+keys_only : (s : Held) → Holds (λ h. h ≡ record s { keys = h.keys }) (stale s)
+unfolding stale
+keys_only s = either (in_flow s) (λ _. went refl) (λ _. by (drop_stale s.position s.keys))
+  where
+    by : (r : Result (List (Option Key)) Fault) → Holds (λ h. h ≡ record s { keys = h.keys }) (with_keys s r)
+    by (Ok ks) = went refl
+    by (Err f) = refused
+
+-- What holds after a token, or after the end, holds after stale keys are dropped.
+pub fares_stale : (text : List ℕ) (t : ScannerState) → Stands text t ⊎ ((t.held.ended ≡ true) × IsRead text t.held.tokens) → Holds (Fares text) (try_held stale t)
+fares_stale text t (inl s) = tried t (stale t.held) (stale_stands text t s) (λ h d. goes d.stands)
+fares_stale text t (inr e) = tried t (stale t.held) (keys_only t.held) (λ h d. over (ap (λ y. y.ended) d ∙ e.0) (subst (λ y. IsRead text y.tokens) (sym d) e.1))

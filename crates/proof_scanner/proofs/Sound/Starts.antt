@@ -1,0 +1,41 @@
+-- What holds between fetches holds after the stream's start.
+use Rattle.std.proofs.Common.{◌≡◌, ℕ, List, [], ◌∷◌, true, refl, subst, inl, inr, arith}
+use Rattle.defs_text.specs.Position.{first_position}
+use Rattle.defs_token.specs.Token.{stream_start}
+use Rattle.defs_token.specs.RowAccount.{first_account}
+use Rattle.defs_token.specs.Tokens.{put}
+use Rattle.model_scanner.specs.Document.{fetch_stream_start}
+use Rattle.model_scanner.specs.Run.{start}
+use Rattle.defs_text.specs.Text.{has_no_nul}
+use Rattle.proof_scanner.proofs.Cut.Documents.{whole_text}
+use Rattle.proof_scanner.specs.Completes.{Completes}
+use Rattle.proof_scanner.specs.StandsInRow.{Stands}
+use Rattle.proof_scanner.proofs.Sound.Completed.{completed_at_start}
+
+unfoldable pub stream_started : (text : List ℕ) → has_no_nul text ≡ true → Stands text (fetch_stream_start (start text))
+unfolding fetch_stream_start
+stream_started text nul = record {
+  base = first_account;
+  separation = [];
+  is_clean = nul;
+  is_filled = refl;
+  position_is = refl;
+  blocks_are = refl;
+  awaits_is = refl;
+  are_levels = refl;
+  has_no_tabs = inr refl;
+  is_leading = λ e. absurd (cc e);
+  read_on = tt;
+  one_each = refl;
+  are_entries = tt;
+  line_is = (inl refl, refl, tt);
+  is_open = tt;
+  no_key = refl;
+  are_numbered = (tt, tt);
+  was_adjacent = λ e. absurd (cc e);
+  adjacent_before = omega arith;
+  started = refl;
+  going = refl;
+  carries = λ cs x key m inside some. absurd (cc inside);
+  completes = λ c cs may. subst (λ x. Completes text x first_account (λ ws last. put first_position stream_start ∷ [])) (whole_text text nul) (completed_at_start text);
+}

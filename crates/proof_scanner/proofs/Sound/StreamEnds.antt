@@ -1,0 +1,304 @@
+-- Where a text ends: no open key is one, and the stream's end and those of the block collections stand where the row has them.
+use Rattle.std.proofs.Common.{◌≡◌, ℕ, suc, ◌+◌, ◌-◌, ◌≤◌, ◌<◌, List, [], ◌∷◌, ◌++◌, Bool, true, false, not, ◌&&◌, ◌||◌, ◌==◌, nat_lt, if◌then◌else◌, length, replicate, Option, Some, None, refl, ap, sym, ◌∙◌, subst, append_assoc, arith}
+use Rattle.std.proofs.lemmas.Bool.Decides.{nat_tests}
+use Rattle.defs_text.specs.Position.{Position, position_after}
+use Rattle.defs_text.specs.Text.{is_empty}
+use Rattle.defs_token.specs.Token.{Token, block_end, stream_end}
+use Rattle.defs_token.specs.Step.{Step}
+use Rattle.defs_token.specs.Column.{not_ended}
+use Rattle.defs_token.specs.Key.{Line, is_waiting}
+use Rattle.defs_token.specs.FlowEntry.{Had, Entry, is_keyed, takes_pair}
+use Rattle.defs_token.specs.RowAccount.{Account, have_no_key, may_end}
+use Rattle.defs_token.specs.Tokens.{put, colon_of, stream_position, ends_at, ends_with_stream}
+use Rattle.model_scanner.specs.declared.level.FlowLevel.{FlowLevel}
+use Rattle.model_scanner.specs.declared.level.Indent.{Indent}
+use Rattle.model_scanner.specs.State.{Key, pop}
+use Rattle.model_scanner.specs.Keys.{top_key}
+use Rattle.model_scanner.specs.Indents.{unrolled, unroll_indent}
+use Rattle.model_scanner.specs.Document.{next_line, ended_at, fetch_stream_end}
+use Rattle.model_scanner.proofs.Holds.{Holds, went, tried, checked}
+use Rattle.yaml_tokens.specs.declared.problem.Fault.TheVariants.{At}
+use Rattle.yaml_tokens.specs.declared.problem.Problem.TheVariants as problem
+use Rattle.defs_token.specs.RowAccount.{Site}
+use Rattle.std.proofs.lemmas.List.{append-nil}
+use Rattle.defs_token.specs.Separation.{is_separation}
+use Rattle.defs_token.specs.FlowEntry.{is_renewed}
+use Rattle.defs_token.specs.Tokens.{tokens_at_end}
+use Rattle.defs_token.specs.Row.{IsRead}
+use Rattle.model_scanner.specs.State.{Held, in_flow, ScannerState}
+use Rattle.model_scanner.specs.Keys.{is_required, has_required, cleared}
+use Rattle.proof_scanner.specs.Arrives.{Arrives, site_here, ends_here}
+use Rattle.proof_scanner.specs.Completes.{Completes, tokens_up_to}
+use Rattle.proof_scanner.proofs.Sound.Completed.{completed_at_end}
+use Rattle.proof_scanner.specs.Choices.{MayChoose, line_by, entry_by, entries_by, outside_key, chosen}
+use Rattle.proof_scanner.specs.Completes.{with_keys}
+use Rattle.proof_scanner.specs.StandsInRow.{columns, AreCollections, AreLevels, IsTopLevel, HasHad, AreAround, AreEntries}
+use Rattle.proof_scanner.proofs.Sound.NodesInside.{no_had, not_keyed}
+use Rattle.proof_scanner.proofs.Sound.NodesOutside.{no_line}
+
+-- ---- no key waits
+
+had_no_key : (k : Option Key) (h : Had) → HasHad k h → is_keyed h ≡ false
+had_no_key (Some k) h e = ap is_keyed e
+had_no_key None h e = ap is_keyed e
+
+around_no_key : (fs : List FlowLevel) (ks : List (Option Key)) (es : List Entry) → AreAround fs ks es → have_no_key es ≡ true
+around_no_key [] ks [] a = refl
+around_no_key (f ∷ fs) (k ∷ ks) (e ∷ es) a = rw (had_no_key k e.had a.1, around_no_key fs ks es a.2) refl
+around_no_key [] ks (e ∷ es) a = absurd a
+around_no_key (f ∷ fs) [] es a = absurd a
+around_no_key (f ∷ fs) (k ∷ ks) [] a = absurd a
+
+pub entries_no_key : (allowed again : Bool) (fs : List FlowLevel) (ks : List (Option Key)) (es : List Entry) → AreEntries allowed again fs ks es → have_no_key es ≡ true
+entries_no_key allowed again [] ks [] a = refl
+entries_no_key allowed again (f ∷ fs) (k ∷ ks) (e ∷ es) a = rw (not_keyed allowed again k e.had a.1, around_no_key fs ks es a.2) refl
+entries_no_key allowed again [] ks (e ∷ es) a = absurd a
+entries_no_key allowed again (f ∷ fs) [] es a = absurd a
+entries_no_key allowed again (f ∷ fs) (k ∷ ks) [] a = absurd a
+
+same_entry : (k : Option Key) (e : Entry) → entry_by false k e ≡ e
+same_entry None e = refl
+same_entry (Some k) e = refl
+
+none_inside : (ks : List (Option Key)) (es : List Entry) → entries_by [] ks es ≡ es
+none_inside ks [] = refl
+none_inside ks (e ∷ es) = ap (λ x. x ∷ entries_by [] (pop ks) es) (same_entry (top_key ks) e) ∙ ap (λ xs. e ∷ xs) (none_inside (pop ks) es)
+
+none_outside : (k : Option Key) (l : Line) → line_by false k l ≡ l
+none_outside None l = refl
+none_outside (Some k) l = refl
+
+-- with no choice for a key, the account is the one in which no open key is one
+pub none_chosen : (ks : List (Option Key)) (a : Account) → chosen false [] ks a ≡ a
+none_chosen ks a =
+    ap (λ l. record { site = a.site; line = l; entries = entries_by [] ks a.entries }) (none_outside (outside_key a.entries ks) a.line) ∙
+    ap (λ es. record { site = a.site; line = a.line; entries = es }) (none_inside ks a.entries)
+
+not_both : (b c : Bool) → (not b && c) ≡ true → (b ≡ false) × (c ≡ true)
+not_both true c h = absurd (cc h)
+not_both false c h = (refl, h)
+
+-- where no key waits, the tokens are those that the scanner holds
+pub none_put : (d : ℕ) (p : Position) (ws : List Step) (last bs : List ℕ) (l : Line) (es : List Entry) (ks : List (Option Key)) (ts : List Token) → is_waiting l ≡ false → have_no_key es ≡ true → with_keys d p ws last bs l es ks ts ≡ ts
+none_put d p ws last bs l es [] ts h n = refl
+none_put d p ws last bs l [] (k ∷ ks) ts h n = no_line (colon_of d p ws last) bs l k ts h
+none_put d p ws last bs l (e ∷ es) (k ∷ ks) ts h n =
+    let q = not_both (is_keyed e.had) (have_no_key es) n in
+    ap (λ x. with_keys (suc d) p ws last bs l es ks x) (no_had (colon_of d p ws last) (takes_pair e.kind e.pair) e.had k ts q.0) ∙ none_put (suc d) p ws last bs l es ks ts h q.1
+
+-- ---- positions
+
+pub same_line_start : (p : Position) → next_line p ≡ stream_position p
+same_line_start p = ap (λ n. if p.col == 0 then p else record { index = p.index; line = n; col = 0 }) more
+  where
+    more : p.line + 1 ≡ suc p.line
+    more = omega arith
+
+-- ---- the ends of block collections
+
+-- that many ends
+abbrev pub ends_of : ℕ → Position → List Token
+ends_of n p = replicate n (put p block_end)
+
+more_ends : (n : ℕ) (p : Position) (ts : List Token) → (ts ++ put p block_end ∷ []) ++ ends_of n p ≡ ts ++ ends_of (suc n) p
+more_ends n p ts = append_assoc ts (put p block_end ∷ []) (ends_of n p)
+
+pub positive : (n i : ℕ) → n < i → nat_lt 0 i ≡ true
+positive n i h = grind (arith, nat_tests)
+
+all_collections : (p : Position) (i : ℕ) (ds : List Indent) (ts : List Token) → AreCollections i ds → (unrolled 0 p i ds ts).tokens ≡ ts ++ ends_of (length (columns i ds)) p
+unfolding unrolled
+all_collections p i [] ts a = sym (append_nil ts)
+  where
+    append_nil : (xs : List Token) → xs ++ [] ≡ xs
+    append_nil [] = refl
+    append_nil (x ∷ xs) = ap (λ l. x ∷ l) (append_nil xs)
+all_collections p i (d ∷ ds) ts a =
+    rw (positive d.indent i a.1, a.0) (all_collections p d.indent ds (ts ++ put p block_end ∷ []) a.2 ∙ more_ends (length (columns d.indent ds)) p ts)
+
+-- all levels end at the stream's end, each collection with its token
+pub all_levels : (p : Position) (i : ℕ) (ds : List Indent) (ts : List Token) → AreLevels i ds → (unrolled 0 p i ds ts).tokens ≡ ts ++ ends_of (length (columns i ds)) p
+unfolding unrolled
+all_levels p i [] ts a = all_collections p i [] ts a
+all_levels p i (d ∷ ds) ts a = by d.needs_block_end a.0
+  where
+    by : (b : Bool) → IsTopLevel b i d.indent ds → (unrolled 0 p i (record { indent = d.indent; needs_block_end = b } ∷ ds) ts).tokens ≡ ts ++ ends_of (length (if b then (i - 1) ∷ columns d.indent ds else columns d.indent ds)) p
+    by true h = rw (positive d.indent i h) (all_collections p d.indent ds (ts ++ put p block_end ∷ []) a.1 ∙ more_ends (length (columns d.indent ds)) p ts)
+    by false h = rw (positive d.indent i (omega (arith, h.0))) (all_collections p d.indent ds ts a.1)
+
+-- whether no collection is deeper than a column
+abbrev pub NoneDeeper : (column : ℕ) → List ℕ → Type 0
+NoneDeeper col [] = Unit {0}
+NoneDeeper col (n ∷ ns) = (n ≤ col) × NoneDeeper col ns
+
+none_ends : (end : Position) (bs : List ℕ) → NoneDeeper end.col bs → ends_with_stream end bs ≡ ends_of (length bs) (stream_position end)
+none_ends end [] h = refl
+none_ends end (n ∷ ns) h = rw (by end.col n h.0) (ap (λ l. put (stream_position end) block_end ∷ l) (none_ends end ns h.1))
+  where
+    by : (c m : ℕ) → m ≤ c → nat_lt c m ≡ false
+    by c m k = grind (arith, nat_tests)
+
+-- ---- the ends that stand at the text's end, and those after it
+
+-- what is not deeper ends with the stream
+below : (m i : ℕ) (ds : List Indent) → AreCollections i ds → i ≤ suc m → NoneDeeper m (columns i ds)
+below m i [] a h = tt
+below m i (d ∷ ds) a h = rw a.0 (omega (arith, h), below m d.indent ds a.2 (omega (arith, h, a.1)))
+
+-- whether the innermost collection is not deeper than a column
+abbrev FirstIsNot : (column : ℕ) → List ℕ → Type 0
+FirstIsNot col [] = Unit {0}
+FirstIsNot col (n ∷ ns) = n ≤ col
+
+first_going_on : (col : ℕ) (bs : List ℕ) → FirstIsNot col (not_ended col bs)
+first_going_on col [] = tt
+first_going_on col (n ∷ ns) = by (nat_lt col n) refl (first_going_on col ns)
+  where
+    by : (b : Bool) → nat_lt col n ≡ b → FirstIsNot col (not_ended col ns) → FirstIsNot col (if b then not_ended col ns else n ∷ ns)
+    by true e h = h
+    by false e h = grind (arith, nat_tests, e)
+
+collections_below : (col i : ℕ) (ds : List Indent) → AreCollections i ds → FirstIsNot col (columns i ds) → NoneDeeper col (columns i ds)
+collections_below col i [] a f = tt
+collections_below col i (d ∷ ds) a f =
+    let first : i - 1 ≤ col = subst (λ b. FirstIsNot col (if b then (i - 1) ∷ columns d.indent ds else columns d.indent ds)) a.0 f in
+    below col i (d ∷ ds) a (omega (arith, first))
+
+levels_below : (col i : ℕ) (ds : List Indent) → AreLevels i ds → FirstIsNot col (columns i ds) → NoneDeeper col (columns i ds)
+levels_below col i [] a f = tt
+levels_below col i (d ∷ ds) a f = by d.needs_block_end a.0 f
+  where
+    by : (b : Bool) → IsTopLevel b i d.indent ds → FirstIsNot col (if b then (i - 1) ∷ columns d.indent ds else columns d.indent ds) → NoneDeeper col (if b then (i - 1) ∷ columns d.indent ds else columns d.indent ds)
+    by true h g = (g, below col d.indent ds a.1 (omega (arith, h, g)))
+    by false h g = collections_below col d.indent ds a.1 g
+
+pub shorter : (col : ℕ) (bs : List ℕ) → length (not_ended col bs) ≤ length bs
+shorter col [] = omega arith
+shorter col (n ∷ ns) = by (nat_lt col n) (shorter col ns)
+  where
+    by : (b : Bool) → length (not_ended col ns) ≤ length ns → length (if b then not_ended col ns else n ∷ ns) ≤ suc (length ns)
+    by true h = omega (arith, h)
+    by false h = omega arith
+
+-- Collections deeper than the text's end end there, and the others with the stream.
+pub ends_split : (end : Position) (bs : List ℕ) → NoneDeeper end.col (not_ended end.col bs) →
+    ends_with_stream end bs ≡ ends_at end bs (not_ended end.col bs) ++ ends_of (length (not_ended end.col bs)) (stream_position end)
+ends_split end [] h = refl
+ends_split end (n ∷ ns) h = by (nat_lt end.col n) refl (λ k. ends_split end ns k) h
+  where
+    by : (b : Bool) → nat_lt end.col n ≡ b →
+        (NoneDeeper end.col (not_ended end.col ns) → ends_with_stream end ns ≡ ends_at end ns (not_ended end.col ns) ++ ends_of (length (not_ended end.col ns)) (stream_position end)) → NoneDeeper end.col (if b then not_ended end.col ns else n ∷ ns) →
+        put (if b then end else stream_position end) block_end ∷ ends_with_stream end ns ≡ ends_at end (n ∷ ns) (if b then not_ended end.col ns else n ∷ ns) ++ ends_of (length (if b then not_ended end.col ns else n ∷ ns)) (stream_position end)
+    by true e later k =
+        let s = shorter end.col ns in
+        let many : suc (length ns) - length (not_ended end.col ns) ≡ suc (length ns - length (not_ended end.col ns)) = omega (arith, s) in
+        ap (λ l. put end block_end ∷ l) (later k) ∙ ap (λ m. replicate m (put end block_end) ++ ends_of (length (not_ended end.col ns)) (stream_position end)) (sym many)
+    by false e later k =
+        let none : suc (length ns) - suc (length ns) ≡ 0 = omega arith in
+        ap (λ l. put (stream_position end) block_end ∷ l) (none_ends end ns k.1) ∙ ap (λ m. replicate m (put end block_end) ++ ends_of (suc (length ns)) (stream_position end)) (sym none)
+
+-- the same by the levels of indentation that the scanner holds
+pub ends_by_levels : (end : Position) (bs : List ℕ) (i : ℕ) (ds : List Indent) → AreLevels i ds → not_ended end.col bs ≡ columns i ds → ends_with_stream end bs ≡ ends_at end bs (not_ended end.col bs) ++ ends_of (length (columns i ds)) (stream_position end)
+ends_by_levels end bs i ds a e =
+    let first : FirstIsNot end.col (columns i ds) = subst (λ x. FirstIsNot end.col x) e (first_going_on end.col bs) in
+    ends_split end bs (subst (λ x. NoneDeeper end.col x) (sym e) (levels_below end.col i ds a first)) ∙
+    ap (λ x. ends_at end bs (not_ended end.col bs) ++ ends_of (length x) (stream_position end)) e
+
+-- ---- the stream's end
+
+-- a key outside flow need not be one, if none must be
+outside_free : (es : List Entry) (ks : List (Option Key)) (p : Position) (rest : List ℕ) → has_required ks ≡ false → MayChoose false (outside_key es ks) p rest
+outside_free [] [] p rest h = tt
+outside_free [] (None ∷ ks) p rest h = tt
+outside_free [] (Some k ∷ ks) p rest h = by k.required h
+  where
+    by : (b : Bool) → (b || has_required ks) ≡ false → b ≡ false
+    by true e = absurd (cc e)
+    by false e = refl
+outside_free (e ∷ es) [] p rest h = outside_free es [] p rest h
+outside_free (e ∷ es) (k ∷ ks) p rest h = outside_free es ks p rest (by (is_required k) h)
+  where
+    by : (b : Bool) → (b || has_required ks) ≡ false → has_required ks ≡ false
+    by true e = absurd (cc e)
+    by false e = e
+
+-- the text is read as the tokens before the separation and those at its end
+at_end : (text : List ℕ) (t : ScannerState) (a : Arrives text t) → t.rest ≡ [] → has_required t.held.keys ≡ false → IsRead text (a.tokens ++ tokens_at_end t.held.position a.base.site.blocks a.base.entries)
+at_end text t a e required =
+    let none : Account = chosen false [] t.held.keys a.base in
+    let plain : have_no_key a.base.entries ≡ true = entries_no_key t.held.key_allowed (is_renewed a.base.site.before a.separation) t.held.flow t.held.keys a.base.entries a.are_entries in
+    let ends : may_end a.base ≡ true = rw (a.no_key, plain) refl in
+    let last : a.separation ++ t.rest ≡ a.separation = ap (λ x. a.separation ++ x) e ∙ append-nil a.separation in
+    let own : Completes text a.separation a.base (λ ws z. tokens_up_to a.base t.held.keys a.tokens ws z) =
+    subst (λ x. Completes text a.separation x (λ ws z. tokens_up_to x t.held.keys a.tokens ws z)) (none_chosen t.held.keys a.base)
+    (subst (λ x. Completes text x none (λ ws z. tokens_up_to none t.held.keys a.tokens ws z)) last (a.completes false [] (outside_free a.base.entries t.held.keys t.held.position t.rest required))) in
+    let whole : IsRead text (tokens_up_to a.base t.held.keys a.tokens [] a.separation ++ tokens_at_end (position_after a.base.site.position a.separation []) a.base.site.blocks a.base.entries) =
+    completed_at_end text a.separation a.base (λ ws z. tokens_up_to a.base t.held.keys a.tokens ws z) (subst (λ x. is_separation false a.separation x ≡ true) e a.is_filled) ends own in
+    let put_none : tokens_up_to a.base t.held.keys a.tokens [] a.separation ≡ a.tokens = none_put 0 a.base.site.position [] a.separation a.base.site.blocks a.base.line a.base.entries t.held.keys a.tokens a.no_key plain in
+    let same : position_after a.base.site.position a.separation [] ≡ t.held.position = ap (λ x. position_after a.base.site.position a.separation x) (sym e) ∙ sym a.position_is in
+    subst (λ x. IsRead text (x ++ tokens_at_end t.held.position a.base.site.blocks a.base.entries)) put_none
+    (subst (λ x. IsRead text (tokens_up_to a.base t.held.keys a.tokens [] a.separation ++ tokens_at_end x a.base.site.blocks a.base.entries)) same whole)
+
+-- what the scanner holds after the ends of all levels
+unrolled_outside : (s : Held) → in_flow s ≡ false → AreLevels s.indent s.indents → ((unroll_indent 0 s).tokens ≡ s.tokens ++ ends_of (length (columns s.indent s.indents)) s.position) × ((unroll_indent 0 s).position ≡ s.position)
+unfolding unroll_indent
+unrolled_outside s e a = rw e (all_levels s.position s.indent s.indents s.tokens a, refl)
+
+unrolled_inside : (s : Held) → in_flow s ≡ true → unroll_indent 0 s ≡ s
+unfolding unroll_indent
+unrolled_inside s e = rw e refl
+
+-- the scanner where its stream ends, before the last ends
+abbrev at_stream_end : Held → Held
+at_stream_end h = record h { position = next_line h.position; keys = cleared h.keys }
+
+pub same_flow : (allowed again : Bool) (fs : List FlowLevel) (ks : List (Option Key)) (es : List Entry) → AreEntries allowed again fs ks es → is_empty fs ≡ is_empty es
+same_flow allowed again [] ks [] a = refl
+same_flow allowed again (f ∷ fs) (k ∷ ks) (e ∷ es) a = refl
+same_flow allowed again [] ks (e ∷ es) a = absurd a
+same_flow allowed again (f ∷ fs) [] es a = absurd a
+same_flow allowed again (f ∷ fs) (k ∷ ks) [] a = absurd a
+
+-- Its tokens with the stream's end are those of the row.
+outside_flow : (h : Held) (ts : List Token) (bs : List ℕ) → in_flow h ≡ false → AreLevels h.indent h.indents → h.tokens ≡ ts ++ ends_at h.position bs (not_ended h.position.col bs) → not_ended h.position.col bs ≡ columns h.indent h.indents →
+    (ended_at (unroll_indent 0 (at_stream_end h))).tokens ≡ ts ++ tokens_at_end h.position bs []
+outside_flow h ts bs out levels tokens blocks =
+    let s : Held = at_stream_end h in
+    let u = unrolled_outside s out levels in
+    let p : Position = next_line h.position in
+    let q : Position = stream_position h.position in
+    let here : List Token = ends_at h.position bs (not_ended h.position.col bs) in
+    let more : List Token = ends_of (length (columns h.indent h.indents)) q in
+    let ended : List Token = put q stream_end ∷ [] in
+    let all : List Token → Position → List Token = λ x y. x ++ put y stream_end ∷ [] in
+    ap (λ x. all x (unroll_indent 0 s).position) u.0 ∙
+    (ap (λ y. all (h.tokens ++ ends_of (length (columns h.indent h.indents)) p) y) u.1 ∙
+    (ap (λ y. all (h.tokens ++ ends_of (length (columns h.indent h.indents)) y) y) (same_line_start h.position) ∙
+    (ap (λ x. all (x ++ more) q) tokens ∙
+    (ap (λ x. x ++ ended) (append_assoc ts here more) ∙
+    (append_assoc ts (here ++ more) ended ∙
+    ap (λ x. ts ++ (x ++ ended)) (sym (ends_by_levels h.position bs h.indent h.indents levels blocks)))))))
+
+in_flow_too : (h : Held) (ts : List Token) (bs : List ℕ) (e : Entry) (es : List Entry) → in_flow h ≡ true → h.tokens ≡ ts → (ended_at (unroll_indent 0 (at_stream_end h))).tokens ≡ ts ++ tokens_at_end h.position bs (e ∷ es)
+in_flow_too h ts bs e es within tokens =
+    let s : Held = at_stream_end h in
+    ap (λ x. x.tokens ++ put x.position stream_end ∷ []) (unrolled_inside s within) ∙
+    (ap (λ y. h.tokens ++ put y stream_end ∷ []) (same_line_start h.position) ∙ ap (λ x. x ++ put (stream_position h.position) stream_end ∷ []) tokens)
+
+last_tokens : (h : Held) (ts : List Token) (x : Site) (es : List Entry) → is_empty h.flow ≡ is_empty es → AreLevels h.indent h.indents → h.tokens ≡ ts ++ ends_here (not (is_empty h.flow)) h.position x.blocks →
+    (site_here (not (is_empty h.flow)) h.position x).blocks ≡ columns h.indent h.indents → (ended_at (unroll_indent 0 (at_stream_end h))).tokens ≡ ts ++ tokens_at_end h.position x.blocks es
+last_tokens h ts x [] e levels tokens blocks =
+    outside_flow h ts x.blocks (ap not e) levels (subst (λ b. h.tokens ≡ ts ++ ends_here (not b) h.position x.blocks) e tokens) (subst (λ b. (site_here (not b) h.position x).blocks ≡ columns h.indent h.indents) e blocks)
+last_tokens h ts x (y ∷ es) e levels tokens blocks =
+    in_flow_too h ts x.blocks y es (ap not e) (subst (λ b. h.tokens ≡ ts ++ ends_here (not b) h.position x.blocks) e tokens ∙ append-nil ts)
+
+-- At the text's end the stream ends, unless a key must still come to its colon, and the tokens are those of a row of the text.
+pub stream_ended : (text : List ℕ) (t : ScannerState) → Arrives text t → t.rest ≡ [] → Holds (λ u. (u.held.ended ≡ true) × IsRead text u.held.tokens) (fetch_stream_end t)
+unfolding fetch_stream_end
+stream_ended text t a e =
+    tried t _ (checked (has_required t.held.keys) (At problem.KeyExpected (next_line t.held.position)) (λ none. went (
+      refl,
+      subst (λ x. IsRead text x)
+          (sym (last_tokens t.held a.tokens a.base.site a.base.entries (same_flow t.held.key_allowed (is_renewed a.base.site.before a.separation) t.held.flow t.held.keys a.base.entries a.are_entries) a.are_levels a.tokens_are a.blocks_are))
+          (at_end text t a e none),
+    ))) (λ s p. p)

@@ -1,0 +1,299 @@
+-- The way to the next token, or to the text's end, keeps what holds between two fetches, with the separation up to there.
+use Rattle.std.proofs.Common.{◌≡◌, ℕ, ◌+◌, ◌≤◌, List, [], ◌∷◌, ◌++◌, Bool, true, false, not, ◌&&◌, ◌||◌, ◌==◌, inl, inr, if◌then◌else◌, length, Option, Some, None, Ok, refl, ap, sym, ◌∙◌, subst, append_assoc, append-nil, arith}
+use Rattle.std.proofs.Math.Bool.{or-false, or-true}
+use Rattle.std.proofs.lemmas.List.{append_cancel_right}
+use Rattle.defs_text.specs.Classes.{is_break, is_blank, is_nul, is_one_of}
+use Rattle.defs_text.specs.Breaks.{is_at_line_end}
+use Rattle.defs_text.specs.Position.{Position, position_after}
+use Rattle.defs_text.specs.Text.{is_empty, has_no_nul}
+use Rattle.defs_token.specs.Account.{before_past}
+use Rattle.defs_token.specs.Separation.{is_separation}
+use Rattle.defs_token.specs.Step.{Previous, plain_scalar, quoted_scalar, block_scalar, flow_collection, directive, another, has_break}
+use Rattle.defs_token.specs.Indentation.{least_column, has_tab_within, last_line, follows_plain, begins_line, is_indented_by_spaces}
+use Rattle.defs_token.specs.Key.{Line, begins_free_line}
+use Rattle.defs_token.specs.FlowEntry.{Entry, is_renewed}
+use Rattle.defs_token.specs.RowAccount.{Account, before_by}
+use Rattle.model_scanner.specs.declared.level.FlowLevel.{FlowLevel}
+use Rattle.model_scanner.specs.declared.level.Indent.{Indent}
+use Rattle.model_scanner.specs.State.{Key, ScannerState, in_flow}
+use Rattle.model_scanner.specs.Space.{between, skip_to_next_token}
+use Rattle.model_scanner.proofs.Holds.{Holds, went, weakened, both_hold}
+use Rattle.proof_lexers.specs.PlainEnds.{is_white, begins_white}
+use Rattle.proof_lexers.specs.PlainEnds as plain_ends
+use Rattle.proof_lexers.specs.Separations.{begins_separation, after_separation}
+use Rattle.proof_lexers.proofs.Separation.EachSeparation.{no_nul_after}
+use Rattle.proof_lexers.proofs.Separation.Positions.{position_append}
+use Rattle.proof_scanner.specs.Here.{IsLive}
+use Rattle.proof_scanner.specs.Order.{NotBefore}
+use Rattle.proof_scanner.specs.Stands.{IsAdjacent}
+use Rattle.proof_scanner.proofs.Cut.Positions.{not_before_after, index_after}
+use Rattle.proof_scanner.proofs.Cut.Pieces.Separations.{separation_append}
+use Rattle.proof_scanner.proofs.Cut.Heres.{before_both}
+use Rattle.proof_scanner.proofs.Cut.Stoods.{adjacent_filled}
+use Rattle.proof_scanner.specs.Choices.{outside_key, chosen}
+use Rattle.proof_scanner.specs.Completes.{tokens_up_to, Completes}
+use Rattle.proof_scanner.specs.StandsInRow.{columns, AreEntries, is_free, IsTakenBy, IsLine, IsOpenHere, IsOpenOutside, is_at_comment_or_end, HasNoTabs, IsReadOn, Stands}
+use Rattle.proof_scanner.proofs.Sound.Sides.{StandsAt}
+use Rattle.proof_scanner.proofs.Sound.Arrivals.{unbroken}
+use Rattle.proof_scanner.proofs.Sound.LastLines.{last_whole, at_break, column_after, no_comment_in_last}
+use Rattle.proof_scanner.proofs.Sound.Skips.{Spaced, IsAt, IsIn, Cleared, skip_clears}
+use Rattle.proof_scanner.proofs.Sound.Passed.{skip_stays, Exact, exact, live_before_it, may_before, same_has_break, first_comment, renewed_alike, free_line_append, read_on_append, some_columns, least_is, goes_on}
+use Rattle.defs_token.specs.Beginning.{BeginsButForKey}
+
+-- ---- where the way begins
+
+-- where a line begins, the column is the length of the last line so far
+col_here : (b : Previous) (q : Position) (g a : List ℕ) → at_break a ≡ false → is_empty a ≡ false → IsReadOn b q g a → begins_line b g ≡ true → (position_after q g a).col ≡ length (last_line g)
+col_here plain_scalar q g a e some r h = column_after q g a e ∙ ap (λ x. if x then length (last_line g) else q.col + length g) h
+col_here quoted_scalar q g a e some r h = column_after q g a e ∙ ap (λ x. if x then length (last_line g) else q.col + length g) h
+col_here flow_collection q g a e some r h = column_after q g a e ∙ ap (λ x. if x then length (last_line g) else q.col + length g) h
+col_here directive q g a e some r h = column_after q g a e ∙ ap (λ x. if x then length (last_line g) else q.col + length g) h
+col_here another q g a e some r h = column_after q g a e ∙ ap (λ x. if x then length (last_line g) else q.col + length g) h
+col_here block_scalar q g a e some r h = column_after q g a e ∙ by (has_break g) refl
+  where
+    by : (x : Bool) → has_break g ≡ x → (if x then length (last_line g) else q.col + length g) ≡ length (last_line g)
+    by true k = refl
+    by false k = let z : q.col ≡ 0 = r some in let w : length (last_line g) ≡ length g = ap length (last_whole g k) in omega (arith, z, w)
+
+spaced_by : (b f : Bool) (n m : ℕ) (l : List ℕ) → b ≡ true → (not b || not (has_tab_within n l)) ≡ true → n ≡ m → has_tab_within m l ≡ false
+spaced_by b f n m l e h k = by (has_tab_within m l) (subst (λ x. (not b || not (has_tab_within x l)) ≡ true) k h)
+  where
+    by : (x : Bool) → (not b || not x) ≡ true → x ≡ false
+    by false h = refl
+    by true h = absurd (both b e h)
+      where
+        both : (b : Bool) → b ≡ true → (not b || false) ≡ true → ⊥
+        both true e h = cc h
+        both false e h = cc e
+
+-- a plain scalar's gap is followed by a comment, or by no separation
+after_plain : (a : List ℕ) → begins_white a ≡ false → begins_separation a ≡ true → is_at_comment_or_end a ≡ true
+after_plain [] w h = refl
+after_plain (c ∷ a) w h = by (is_blank c) (is_break c) (c == 35) w h
+  where
+    by : (x y z : Bool) → (x || y) ≡ false → ((x || y) || z) ≡ true → (y || (z || false)) ≡ true
+    by true y z w h = absurd (cc w)
+    by false true z w h = refl
+    by false false true w h = refl
+    by false false false w h = absurd (cc h)
+
+spaced_here : (b : Previous) (bs : List ℕ) (aw : Bool) (q : Position) (g a : List ℕ) → is_indented_by_spaces b bs aw g ≡ true → begins_separation a ≡ true → is_at_comment_or_end a ≡ false → IsReadOn b q g a → Spaced b (least_column bs aw) g
+spaced_here plain_scalar bs aw q g a h s n r = λ e. absurd (cc (n, after_plain a r s))
+spaced_here quoted_scalar bs aw q g a h s n r = λ e. spaced_by (begins_line quoted_scalar g) false (least_column bs (aw || false)) (least_column bs aw) (last_line g) e h (ap (least_column bs) (or-false aw))
+spaced_here block_scalar bs aw q g a h s n r = λ e. spaced_by (begins_line block_scalar g) false (least_column bs (aw || false)) (least_column bs aw) (last_line g) e h (ap (least_column bs) (or-false aw))
+spaced_here flow_collection bs aw q g a h s n r = λ e. spaced_by (begins_line flow_collection g) false (least_column bs (aw || false)) (least_column bs aw) (last_line g) e h (ap (least_column bs) (or-false aw))
+spaced_here directive bs aw q g a h s n r = λ e. spaced_by (begins_line directive g) false (least_column bs (aw || false)) (least_column bs aw) (last_line g) e h (ap (least_column bs) (or-false aw))
+spaced_here another bs aw q g a h s n r = λ e. spaced_by (begins_line another g) false (least_column bs (aw || false)) (least_column bs aw) (last_line g) e h (ap (least_column bs) (or-false aw))
+
+-- in the midst of a line
+in_midst : (a : List ℕ) → has_no_nul a ≡ true → is_at_comment_or_end a ≡ false → (at_break a ≡ false) × (is_empty a ≡ false) × (is_at_line_end a ≡ false)
+in_midst [] n h = absurd (cc h)
+in_midst (c ∷ a) n h = by (is_break c) (is_nul c) h n
+  where
+    by : (x z : Bool) → (x || ((c == 35) || false)) ≡ false → (not z && has_no_nul a) ≡ true → (x ≡ false) × (false ≡ false) × ((x || z) ≡ false)
+    by true z h n = absurd (cc h)
+    by false true h n = absurd (cc n)
+    by false false h n = (refl, refl, refl)
+
+-- What is known of the line where the way begins.
+at_start : (text : List ℕ) (t : ScannerState) (s : Stands text t) → begins_separation t.rest ≡ true → is_at_comment_or_end t.rest ≡ false → is_indented_by_spaces s.base.site.before s.base.site.blocks s.base.site.awaits s.separation ≡ true →
+    IsAt s.base.site.before (least_column s.base.site.blocks s.base.site.awaits) s.separation t.held
+at_start text t s begins midst indented =
+    let m = in_midst t.rest s.is_clean midst in
+    record {
+      leading_is = λ i. s.is_leading (ap is_empty s.blocks_are ∙ some_columns t.held.indent t.held.indents s.are_levels i) m.1 (no_comment_in_last s.separation t.rest s.is_filled m.2);
+      col_is = λ b. ap (λ p. p.col) s.position_is ∙ col_here s.base.site.before s.base.site.position s.separation t.rest m.0 m.1 s.read_on b;
+      spaced = spaced_here s.base.site.before s.base.site.blocks s.base.site.awaits s.base.site.position s.separation t.rest indented begins midst s.read_on;
+    }
+
+pub is_in : (text : List ℕ) (t : ScannerState) (s : Stands text t) → begins_separation t.rest ≡ true → IsIn s.base.site.before (least_column s.base.site.blocks s.base.site.awaits) between s.separation t.held t.rest
+is_in text t s begins = by (is_at_comment_or_end t.rest) refl s.has_no_tabs
+  where
+    by : (x : Bool) → is_at_comment_or_end t.rest ≡ x → HasNoTabs s.base.site s.separation t.rest → IsIn s.base.site.before (least_column s.base.site.blocks s.base.site.awaits) between s.separation t.held t.rest
+    by true e h = inl e
+    by false e (inl h) = absurd (cc (e, h))
+    by false e (inr h) = inr (at_start text t s begins e h)
+
+-- ---- where it ends
+
+among : (f p : List ℕ) (c : ℕ) → (c == 35) ≡ true → is_one_of (f ++ c ∷ p) 35 ≡ true
+among [] p c h = rw (same (c == 35) refl) refl
+  where
+    same : (x : Bool) → (c == 35) ≡ x → (35 == c) ≡ true
+    same x e = grind (arith, h)
+among (d ∷ f) p c h = rw (among f p c h) (or-true (35 == d))
+
+-- where a separation was passed, it is none that follows a plain scalar without a comment
+no_plain : (b : Previous) (q : Position) (f g rest rest2 : List ℕ) → rest ≡ g ++ rest2 → IsReadOn b q f rest → begins_separation rest ≡ true → begins_separation rest2 ≡ false → is_separation false g rest2 ≡ true → follows_plain b (f ++ g) ≡ false
+no_plain plain_scalar q f [] rest rest2 cut r begins solid fills = absurd (cc (begins, solid, cut))
+no_plain plain_scalar q f (c ∷ p) rest rest2 cut r begins solid fills =
+    let white : is_white c ≡ false = rw cut at r in
+    ap not (among f p c (first_comment c p rest2 white fills))
+no_plain quoted_scalar q f g rest rest2 cut r begins solid fills = refl
+no_plain block_scalar q f g rest rest2 cut r begins solid fills = refl
+no_plain flow_collection q f g rest rest2 cut r begins solid fills = refl
+no_plain directive q f g rest rest2 cut r begins solid fills = refl
+no_plain another q f g rest rest2 cut r begins solid fills = refl
+
+indented_after : (b : Previous) (bs : List ℕ) (aw : Bool) (g : List ℕ) → follows_plain b g ≡ false → Spaced b (least_column bs aw) g → is_indented_by_spaces b bs aw g ≡ true
+indented_after b bs aw g f h = rw (f, or-false aw) (by (begins_line b g) h)
+  where
+    by : (x : Bool) → (x ≡ true → has_tab_within (least_column bs aw) (last_line g) ≡ false) → (not x || not (has_tab_within (least_column bs aw) (last_line g))) ≡ true
+    by true h = ap not (h refl)
+    by false h = refl
+
+-- what may begin outside flow
+line_after : (fl allowed broken breaks : Bool) (k : Option Key) (p p2 : Position) (rest rest2 : List ℕ) (l : Line) → ((x : Key) → IsLive x p2 rest2 → IsLive x p rest) → ((x : Key) → k ≡ Some x → IsLive x p2 rest2 → breaks ≡ false) →
+    IsLine fl allowed broken p rest k l → IsLine fl ((not fl && breaks) || allowed) (broken || breaks) p2 rest2 k l
+line_after true allowed broken breaks k p p2 rest rest2 l before none h = h
+line_after false allowed broken breaks k p p2 rest rest2 l before none h = (h.0, ap (λ x. breaks || x) h.1 ∙ by breaks (is_free l) broken, taken k none h.2)
+  where
+    by : (x y z : Bool) → (x || (y || z)) ≡ (y || (z || x))
+    by true true z = refl
+    by true false true = refl
+    by true false false = refl
+    by false true z = refl
+    by false false true = refl
+    by false false false = refl
+
+    taken : (k : Option Key) → ((x : Key) → k ≡ Some x → IsLive x p2 rest2 → breaks ≡ false) → IsTakenBy allowed p rest k l → IsTakenBy (breaks || allowed) p2 rest2 k l
+    taken None none h = tt
+    taken (Some x) none h = λ live. let d = h (before x live) in (d.0, ap (λ y. y || allowed) (none x refl live) ∙ d.1)
+
+open_after : (k : Option Key) (q p p2 : Position) (rest rest2 bs : List ℕ) → ((x : Key) → IsLive x p2 rest2 → IsLive x p rest) → IsOpenOutside k q p rest bs → IsOpenOutside k q p2 rest2 bs
+open_after None q p p2 rest rest2 bs before h = tt
+open_after (Some k) q p p2 rest rest2 bs before h = (h.0, λ live. let o : IsOpenHere k p bs = h.1 (before k live) in record { column_is = o.column_is; must_be = o.must_be })
+
+entries_after : (allowed again breaks : Bool) (fs : List FlowLevel) (ks : List (Option Key)) (es : List Entry) → AreEntries allowed again fs ks es → AreEntries ((not (not (is_empty fs)) && breaks) || allowed) again fs ks es
+entries_after allowed again breaks [] ks [] h = tt
+entries_after allowed again breaks [] ks (e ∷ es) h = absurd h
+entries_after allowed again breaks (f ∷ fs) ks es h = h
+
+-- the line of an open key is that of the last piece's end, or before
+key_line : (k : Option Key) (q p : Position) (rest bs : List ℕ) (x : Key) → IsOpenOutside k q p rest bs → k ≡ Some x → x.position.line ≤ q.line
+key_line None q p rest bs x h e = absurd (cc e)
+key_line (Some k) q p rest bs x h e = let n : NotBefore k.position q = h.0 in subst (λ y. y ≤ q.line) (ap (λ o. line_of o) e) n.0
+  where
+    line_of : Option Key → ℕ
+    line_of None = 0
+    line_of (Some y) = y.position.line
+
+-- What was passed of a separation, up to a token or the text's end, and what holds there.
+pub record PassedAt (text : List ℕ) (t : ScannerState) (base : Account) (separation : List ℕ) (u : ScannerState) : Type 0 where
+  pub part : List ℕ
+  pub cut : t.rest ≡ part ++ u.rest
+  pub solid : begins_separation u.rest ≡ false
+  pub position_is : u.held.position ≡ position_after t.held.position part u.rest
+  pub keys_are : u.held.keys ≡ t.held.keys
+  pub at : StandsAt text base (separation ++ part) u
+
+module _ (text : List ℕ) (t u : ScannerState) (s : Stands text t) (begins : begins_separation t.rest ≡ true) (e : Exact t u) (c : Cleared s.base.site.before (least_column s.base.site.blocks s.base.site.awaits) s.separation t.rest u) where
+  same_passed : c.passed ≡ e.separation
+  same_passed = append_cancel_right c.passed e.separation u.rest (sym c.cut ∙ e.cut)
+
+  at : is_empty u.rest ≡ false → IsAt s.base.site.before (least_column s.base.site.blocks s.base.site.awaits) (s.separation ++ e.separation) u.held
+  at some = subst (λ g. IsAt s.base.site.before (least_column s.base.site.blocks s.base.site.awaits) (s.separation ++ g) u.held) same_passed (c.clear some)
+
+  abbrev Now : ScannerState
+  Now = after_separation t.held e.is_leading e.separation u.rest
+
+  tabs : HasNoTabs s.base.site (s.separation ++ e.separation) u.rest
+  tabs = by (is_empty u.rest) refl
+    where
+      none : (a : List ℕ) → is_empty a ≡ true → is_at_comment_or_end a ≡ true
+      none [] h = refl
+      none (x ∷ a) h = absurd (cc h)
+
+      by : (x : Bool) → is_empty u.rest ≡ x → HasNoTabs s.base.site (s.separation ++ e.separation) u.rest
+      by true h = inl (none u.rest h)
+      by false h = inr (indented_after s.base.site.before s.base.site.blocks s.base.site.awaits (s.separation ++ e.separation)
+          (no_plain s.base.site.before s.base.site.position s.separation e.separation t.rest u.rest e.cut s.read_on begins e.solid e.is_filled) (at h).spaced)
+
+  -- a key that may be one now might be one before
+  live : (x : Key) → IsLive x (position_after t.held.position e.separation u.rest) u.rest → IsLive x t.held.position t.rest
+  live x l = live_before_it x t.held.position e.separation t.rest u.rest e.cut l
+
+  -- and then no break was passed
+  none_broken : (x : Key) → outside_key s.base.entries t.held.keys ≡ Some x → IsLive x (position_after t.held.position e.separation u.rest) u.rest → plain_ends.has_break e.separation ≡ false
+  none_broken x k l =
+      let first : x.position.line ≤ s.base.site.position.line = key_line (outside_key s.base.entries t.held.keys) s.base.site.position t.held.position t.rest s.base.site.blocks x s.is_open k in
+      let later : s.base.site.position.line ≤ t.held.position.line = subst (λ p. s.base.site.position.line ≤ p.line) (sym s.position_is) (not_before_after s.base.site.position s.separation t.rest).0 in
+      same_has_break e.separation ∙ unbroken t.held.position e.separation u.rest l.1 e.solid (omega (arith, first, later, l.0))
+
+  levels : is_empty s.base.site.blocks ≡ false → is_empty u.held.indents ≡ false
+  levels h = ap (λ y. is_empty y.held.indents) e.is_state ∙ by t.held.indents (ap is_empty (sym s.blocks_are) ∙ h)
+    where
+      by : (ds : List Indent) → is_empty (columns t.held.indent ds) ≡ false → is_empty ds ≡ false
+      by [] h = absurd (cc h)
+      by (d ∷ ds) h = refl
+
+  now : Stands text Now
+  now = record {
+    base = s.base;
+    separation = s.separation ++ e.separation;
+    is_clean = no_nul_after e.separation u.rest (subst (λ r. has_no_nul r ≡ true) e.cut s.is_clean);
+    is_filled = separation_append false s.separation e.separation u.rest (subst (λ r. is_separation false s.separation r ≡ true) e.cut s.is_filled) e.is_filled;
+    position_is = ap (λ p. position_after p e.separation u.rest) (s.position_is ∙ ap (position_after s.base.site.position s.separation) e.cut) ∙ sym (position_append s.base.site.position s.separation e.separation u.rest);
+    blocks_are = s.blocks_are;
+    awaits_is = s.awaits_is;
+    are_levels = s.are_levels;
+    has_no_tabs = tabs;
+    is_leading = λ blocks some comment. sym (ap (λ y. y.held.leading) e.is_state) ∙ (at some).leading_is (levels blocks);
+    read_on = read_on_append s.base.site.before s.base.site.position s.separation e.separation t.rest u.rest e.cut e.solid s.read_on;
+    one_each = s.one_each;
+    are_entries = subst (λ b. AreEntries ((not (in_flow t.held) && plain_ends.has_break e.separation) || t.held.key_allowed) b t.held.flow t.held.keys s.base.entries)
+        (sym (renewed_alike s.base.site.before s.base.site.position s.separation e.separation t.rest u.rest e.cut e.is_filled s.read_on))
+        (entries_after t.held.key_allowed (is_renewed s.base.site.before s.separation) (plain_ends.has_break e.separation) t.held.flow t.held.keys s.base.entries s.are_entries);
+    line_is = subst (λ b. IsLine (in_flow t.held) ((not (in_flow t.held) && plain_ends.has_break e.separation) || t.held.key_allowed) b (position_after t.held.position e.separation u.rest) u.rest (outside_key s.base.entries t.held.keys) s.base.line)
+        (ap (λ b. begins_free_line s.base.site.before s.separation || b) (same_has_break e.separation) ∙ sym (free_line_append s.base.site.before s.base.site.position s.separation e.separation t.rest u.rest e.cut s.read_on))
+        (line_after (in_flow t.held) t.held.key_allowed (begins_free_line s.base.site.before s.separation) (plain_ends.has_break e.separation) (outside_key s.base.entries t.held.keys) t.held.position (position_after t.held.position e.separation u.rest) t.rest u.rest s.base.line live none_broken s.line_is);
+    is_open = open_after (outside_key s.base.entries t.held.keys) s.base.site.position t.held.position (position_after t.held.position e.separation u.rest) t.rest u.rest s.base.site.blocks live s.is_open;
+    no_key = s.no_key;
+    are_numbered = s.are_numbered;
+    was_adjacent = λ fl. subst (λ b. IsAdjacent b (position_after t.held.position e.separation u.rest) t.held.adjacent_value_at u.rest) (before_both (before_by s.base.site.before) s.separation e.separation)
+        (adjacent_filled (before_past (before_by s.base.site.before) s.separation) t.held.position t.held.adjacent_value_at t.rest e.separation u.rest e.cut e.is_filled (s.was_adjacent fl));
+    adjacent_before = subst (λ n. t.held.adjacent_value_at ≤ n) (sym (index_after t.held.position e.separation u.rest)) (omega (arith, s.adjacent_before));
+    started = s.started;
+    going = s.going;
+    carries = λ cs k key m i some. subst (λ r. BeginsButForKey text r k.position (chosen false cs t.held.keys s.base)) (ap (λ r. s.separation ++ r) e.cut ∙ sym (append_assoc s.separation e.separation u.rest)) (s.carries cs k key m i (goes_on e.separation t.rest u.rest e.cut some));
+    completes = λ x cs may. subst (λ r. Completes text r (chosen x cs t.held.keys s.base) (tokens_up_to (chosen x cs t.held.keys s.base) t.held.keys t.held.tokens))
+        (ap (λ r. s.separation ++ r) e.cut ∙ sym (append_assoc s.separation e.separation u.rest))
+        (s.completes x cs (may_before x (outside_key s.base.entries t.held.keys) t.held.position e.separation t.rest u.rest e.cut may));
+  }
+
+  now_at : StandsAt text s.base (s.separation ++ e.separation) Now
+  unfolding now
+  now_at = record { stands = now; base_is = refl; separation_is = refl }
+
+  passed_now : PassedAt text t s.base s.separation u
+  passed_now = record {
+    part = e.separation;
+    cut = e.cut;
+    solid = e.solid;
+    position_is = ap (λ v. v.held.position) e.is_state;
+    keys_are = ap (λ v. v.held.keys) e.is_state;
+    at = subst (λ v. StandsAt text s.base (s.separation ++ e.separation) v) (sym e.is_state) now_at;
+  }
+
+stayed : (t : ScannerState) → begins_separation t.rest ≡ false → skip_to_next_token t ≡ Ok t
+unfolding skip_to_next_token
+stayed t h = skip_stays t.rest t.held h
+
+cleared : (text : List ℕ) (t : ScannerState) (s : Stands text t) → begins_separation t.rest ≡ true → Holds (Cleared s.base.site.before (least_column s.base.site.blocks s.base.site.awaits) s.separation t.rest) (skip_to_next_token t)
+unfolding skip_to_next_token
+cleared text t s begins =
+    skip_clears s.base.site.before (least_column s.base.site.blocks s.base.site.awaits) t.rest between s.separation t.held (least_is s.base.site.blocks s.base.site.awaits t.held s.blocks_are s.awaits_is s.are_levels) (is_in text t s begins)
+
+-- At the next token, or at the text's end, what holds between two fetches holds, with the account from before and the separation up to there.
+pub passed_at : (text : List ℕ) (t : ScannerState) → (s : Stands text t) → Holds (PassedAt text t s.base s.separation) (skip_to_next_token t)
+passed_at text t s = by (begins_separation t.rest) refl
+  where
+    at : StandsAt text s.base (s.separation ++ []) t
+    at = record { stands = s; base_is = refl; separation_is = sym (append-nil s.separation) }
+
+    by : (x : Bool) → begins_separation t.rest ≡ x → Holds (PassedAt text t s.base s.separation) (skip_to_next_token t)
+    by false h = subst (λ r. Holds (PassedAt text t s.base s.separation) r) (sym (stayed t h)) (went (record { part = []; cut = refl; solid = h; position_is = refl; keys_are = refl; at = at }))
+    by true h = weakened (λ u x. passed_now text t u s h x.0 x.1) (both_hold (exact t) (cleared text t s h))
+
+pub passed_stands : (text : List ℕ) (t : ScannerState) → Stands text t → Holds (λ u. Stands text u × (begins_separation u.rest ≡ false)) (skip_to_next_token t)
+passed_stands text t s = weakened (λ u p. (p.at.stands, p.solid)) (passed_at text t s)

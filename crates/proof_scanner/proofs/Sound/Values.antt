@@ -1,0 +1,52 @@
+-- The function of the model that reads a colon: what holds where it begins holds between two fetches after it.
+use Rattle.std.proofs.Common.{◌≡◌, ℕ, List, [], ◌∷◌, true, false, ◌⊎◌, inl, inr, Option, Some, None, Result, Ok, sym, subst}
+use Rattle.defs_token.specs.Token.{Tok}
+use Rattle.yaml_tokens.specs.declared.problem.Fault.{Fault}
+use Rattle.defs_token.specs.FlowEntry.{Entry}
+use Rattle.defs_token.specs.Indentation.{colon_may_precede}
+use Rattle.model_scanner.specs.Machine.{past}
+use Rattle.model_scanner.specs.declared.level.FlowLevel.{FlowLevel}
+use Rattle.model_scanner.specs.State.{Key, Held, ScannerState, ◌>>=◌, after, push, on_held, try_held}
+use Rattle.model_scanner.specs.Keys.{top_key}
+use Rattle.model_scanner.specs.Block.{check_value_space, opens_pair, paired, value_of, fetch_value}
+use Rattle.model_scanner.specs.Fetch.{is_value}
+use Rattle.model_scanner.proofs.Holds.{Holds, chained}
+use Rattle.proof_scanner.proofs.Cut.Nodes.{IsDeep}
+use Rattle.proof_scanner.specs.Arrives.{Arrives}
+use Rattle.proof_scanner.specs.StandsInRow.{Stands}
+use Rattle.proof_scanner.proofs.Sound.ColonSpaces.{past_colon, colon_spaced}
+use Rattle.proof_scanner.proofs.Sound.Colons.{value_here, value_by, keyless_outside, keyless_inside}
+use Rattle.proof_scanner.proofs.Sound.ColonKeys.{keyed_outside, keyed_inside}
+use Rattle.proof_scanner.proofs.Sound.KeysBefore.{KeysBefore}
+use Rattle.proof_scanner.proofs.Sound.Sides.{ArrivesBy, ArrivesOutside, ArrivesInside, arrives_side}
+
+-- A colon that is the indicator of a value is read as in the row. An open key in flow began on the colon's line or before it.
+pub value_keeps : (text more : List ℕ) (t : ScannerState) → Arrives text t → KeysBefore t.held.position t.held.keys → t.rest ≡ 58 ∷ more → is_value t ≡ true → IsDeep t.held → Holds (Stands text) (fetch_value t)
+unfolding fetch_value
+value_keeps text more t a early e ind deep =
+    subst (λ l. Holds (Stands text) (check_value_space (record { rest = after l; held = h }) >>= value_on)) (sym e)
+    (chained (colon_spaced more h) (λ u d. subst (λ y. Holds (Stands text) (value_on y)) (sym d.0) (by (arrives_side text t a) d.1)))
+  where
+    h : Held
+    h = record t.held { flow = paired t.held.flow; position = past t.held.position; leading = false }
+
+    value_on : ScannerState → Result ScannerState Fault
+    value_on u = try_held (λ s. value_of (top_key s.keys) t.held.position (opens_pair t.held.flow) s) u >>= λ v. Ok (on_held (push t.held.position Tok.value) v)
+
+    outer : (k : Option Key) → t.held.flow ≡ [] → ArrivesBy text t [] (k ∷ []) [] → colon_may_precede more ≡ true → Holds (Stands text) (value_by more t [] (k ∷ []))
+    outer None flow x apart = keyless_outside text more t x e apart (value_here text more t [] (None ∷ []) [] x flow e ind) deep
+    outer (Some k) flow x apart = keyed_outside text more t k x e apart (value_here text more t [] (Some k ∷ []) [] x flow e ind)
+
+    inner : (f : FlowLevel) (fs : List FlowLevel) (k : Option Key) (ks : List (Option Key)) (y : Entry) (es : List Entry) → t.held.flow ≡ f ∷ fs → KeysBefore t.held.position (k ∷ ks) → ArrivesBy text t (f ∷ fs) (k ∷ ks) (y ∷ es) → colon_may_precede more ≡ true →
+        Holds (Stands text) (value_by more t (f ∷ fs) (k ∷ ks))
+    inner f fs None ks y es flow b x apart = keyless_inside text more t f fs ks y es x e apart (value_here text more t (f ∷ fs) (None ∷ ks) (y ∷ es) x flow e ind) deep
+    inner f fs (Some k) ks y es flow b x apart = keyed_inside text more t f fs k ks y es x e apart (value_here text more t (f ∷ fs) (Some k ∷ ks) (y ∷ es) x flow e ind) deep b.0
+
+    by : ArrivesOutside text t ⊎ ArrivesInside text t → colon_may_precede more ≡ true → Holds (Stands text) (value_on (past_colon more h))
+    by (inl o) apart =
+        subst (λ fs. Holds (Stands text) (value_by more t fs t.held.keys)) (sym o.flow_is)
+        (subst (λ ks. Holds (Stands text) (value_by more t [] ks)) (sym o.keys_are) (outer o.key o.flow_is o.here apart))
+    by (inr i) apart =
+        subst (λ fs. Holds (Stands text) (value_by more t fs t.held.keys)) (sym i.flow_is)
+        (subst (λ ks. Holds (Stands text) (value_by more t (i.level ∷ i.levels) ks)) (sym i.keys_are)
+        (inner i.level i.levels i.key i.keys i.entry i.entries i.flow_is (subst (λ ks. KeysBefore t.held.position ks) i.keys_are early) i.here apart))

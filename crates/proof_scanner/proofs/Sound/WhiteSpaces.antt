@@ -1,0 +1,234 @@
+-- Spaces, breaks and comments after a `?`: what the model reads there is all of them, and no TAB is among them but in comments.
+use Rattle.std.proofs.Common.{◌≡◌, ℕ, List, [], ◌∷◌, ◌++◌, Bool, true, false, not, ◌&&◌, ◌||◌, ◌==◌, ◌⊎◌, inl, inr, if◌then◌else◌, slice_index, Result, Ok, Err, refl, ap, sym, ◌∙◌, subst}
+use Rattle.std.proofs.lemmas.Bool.{and_parts, eqb-true}
+use Rattle.std.proofs.lemmas.List.{append_cancel_right}
+use Rattle.yaml_chars.specs.Class as class
+use Rattle.defs_text.specs.Classes.{is_one_of, is_blank, is_break, is_blank_or_end, is_nul, is_at_gap}
+use Rattle.defs_text.specs.Breaks.{has_no_break}
+use Rattle.defs_text.specs.FlowScalar.{begins_with}
+use Rattle.defs_token.specs.Separation.{is_separation}
+use Rattle.defs_token.specs.Piece.{begins_with_space_or_break}
+use Rattle.defs_token.specs.Step.{has_break}
+use Rattle.defs_token.specs.Indentation.{last_line, has_tab_before_piece}
+use Rattle.yaml_tokens.specs.declared.problem.Fault.{Fault}
+use Rattle.model_scanner.specs.Machine.{is_cr_lf}
+use Rattle.model_scanner.specs.State.{Held, ScannerState, moved}
+use Rattle.model_scanner.specs.Space.{past_line, at_break, white_end, white, skip_yaml_whitespace}
+use Rattle.model_scanner.proofs.Holds.{Holds, went, refused, held_of, weakened}
+use Rattle.proof_lexers.specs.Separations.{after_separation, GoesOverAs, goes, misses}
+use Rattle.proof_lexers.proofs.Bridges.{same_break}
+use Rattle.proof_lexers.proofs.Separation.Separations.{no_break_hash}
+use Rattle.proof_lexers.proofs.Plain.Turns.{or_true, or_false}
+use Rattle.proof_lexers.proofs.Separation.WhiteSpace.{white_space_is_passed}
+use Rattle.proof_scanner.proofs.Sound.LastLines.{last_first}
+
+-- whether a character outside comments belongs to it
+abbrev pub goes_over : ℕ → Bool
+goes_over c = (c == 32) || is_break c || (c == 35)
+
+-- the spaces, breaks and comments that a text begins with
+abbrev pub white_of : (in_comment : Bool) → List ℕ → List ℕ
+white_of in_comment [] = []
+white_of true (c ∷ r) = c ∷ white_of (not (is_break c)) r
+white_of false (c ∷ r) = (if goes_over c then c ∷ white_of (c == 35) r else [])
+
+-- the text after them
+abbrev pub past_white : (in_comment : Bool) → List ℕ → List ℕ
+past_white in_comment [] = []
+past_white true (c ∷ r) = past_white (not (is_break c)) r
+past_white false (c ∷ r) = (if goes_over c then past_white (c == 35) r else c ∷ r)
+
+pub white_cut : (in_comment : Bool) (a : List ℕ) → a ≡ white_of in_comment a ++ past_white in_comment a
+white_cut b [] = refl
+white_cut true (c ∷ r) = ap (λ x. c ∷ x) (white_cut (not (is_break c)) r)
+white_cut false (c ∷ r) = by (goes_over c) (white_cut (c == 35) r)
+  where
+    by : (b : Bool) → r ≡ white_of (c == 35) r ++ past_white (c == 35) r → c ∷ r ≡ (if b then c ∷ white_of (c == 35) r else []) ++ (if b then past_white (c == 35) r else c ∷ r)
+    by true e = ap (λ x. c ∷ x) e
+    by false e = refl
+
+-- Where no TAB comes after them, none stands outside comments before the next piece.
+pub no_tab_before : (in_comment : Bool) (a : List ℕ) → begins_with 9 (past_white in_comment a) ≡ false → has_tab_before_piece in_comment a ≡ false
+unfolding is_break
+no_tab_before b [] h = refl
+no_tab_before true (c ∷ r) h = no_tab_before (not (is_break c)) r h
+no_tab_before false (c ∷ r) h = by (c == 9) (goes_over c) refl refl h (λ k. no_tab_before (c == 35) r k)
+  where
+    tab : (c : ℕ) → c ≡ 9 → goes_over c ≡ false
+    tab c e = rw e refl
+
+    by : (x y : Bool) → (c == 9) ≡ x → goes_over c ≡ y → begins_with 9 (if y then past_white (c == 35) r else c ∷ r) ≡ false → (begins_with 9 (past_white (c == 35) r) ≡ false → has_tab_before_piece (c == 35) r ≡ false) → (x || (y && has_tab_before_piece (c == 35) r)) ≡ false
+    by true true e f h k = absurd (cc (f, tab c (eqb-true c 9 e)))
+    by true false e f h k = absurd (cc (e, h))
+    by false true e f h k = k h
+    by false false e f h k = refl
+
+-- ---- the last line of them
+
+in_comment_ends : (a : List ℕ) → has_no_break (white_of true a) ≡ true → past_white true a ≡ []
+in_comment_ends [] h = refl
+in_comment_ends (c ∷ r) h = by (is_break c) h (λ k. in_comment_ends r k)
+  where
+    by : (b : Bool) → (not b && has_no_break (white_of (not b) r)) ≡ true → (has_no_break (white_of true r) ≡ true → past_white true r ≡ []) → past_white (not b) r ≡ []
+    by true h k = absurd (cc h)
+    by false h k = k h
+
+none_first : (c : ℕ) (s : List ℕ) → (9 == c) ≡ false → is_one_of (last_line s) 9 ≡ false → is_one_of (last_line (c ∷ s)) 9 ≡ false
+none_first c s e h = ap (λ l. is_one_of l 9) (last_first c s) ∙ by (is_break c || has_break s)
+  where
+    by : (b : Bool) → is_one_of (if b then last_line s else c ∷ last_line s) 9 ≡ false
+    by true = h
+    by false = rw (e, h) refl
+
+-- Its last line has no TAB, unless the text ends with it.
+pub no_tab_in_last : (in_comment : Bool) (a : List ℕ) → (past_white in_comment a ≡ []) ⊎ (is_one_of (last_line (white_of in_comment a)) 9 ≡ false)
+unfolding is_break
+no_tab_in_last b [] = inr refl
+no_tab_in_last true (c ∷ r) = by (is_break c) refl (no_tab_in_last (not (is_break c)) r)
+  where
+    Fits : Bool → Type 0
+    Fits b = (past_white (not b) r ≡ []) ⊎ (is_one_of (last_line (white_of (not b) r)) 9 ≡ false)
+
+    commented : (x : Bool) → has_no_break (white_of true r) ≡ x → Fits false → (past_white true r ≡ []) ⊎ (is_one_of (if not x then last_line (white_of true r) else c ∷ last_line (white_of true r)) 9 ≡ false)
+    commented true e h = inl (in_comment_ends r e)
+    commented false e h = h
+
+    by : (b : Bool) → is_break c ≡ b → Fits b → (past_white (not b) r ≡ []) ⊎ (is_one_of (last_line (c ∷ white_of (not b) r)) 9 ≡ false)
+    by true e (inl h) = inl h
+    by true e (inr h) = inr (ap (λ l. is_one_of l 9) (last_first c (white_of false r) ∙ ap (λ b. if b || has_break (white_of false r) then last_line (white_of false r) else c ∷ last_line (white_of false r)) e) ∙ h)
+    by false e h = subst (λ l. (past_white true r ≡ []) ⊎ (is_one_of l 9 ≡ false)) (sym (last_first c (white_of true r) ∙ ap (λ b. if b || has_break (white_of true r) then last_line (white_of true r) else c ∷ last_line (white_of true r)) e))
+        (commented (has_no_break (white_of true r)) refl h)
+no_tab_in_last false (c ∷ r) = by (goes_over c) refl (no_tab_in_last (c == 35) r)
+  where
+    no_tab : (d : ℕ) → goes_over d ≡ true → (9 == d) ≡ false
+    no_tab d h = of (9 == d) refl
+      where
+        of : (b : Bool) → (9 == d) ≡ b → b ≡ false
+        of true e = let same : 9 ≡ d = eqb-true 9 d e in absurd (cc (subst (λ x. goes_over x ≡ true) (sym same) h))
+        of false e = refl
+
+    by : (b : Bool) → goes_over c ≡ b → (past_white (c == 35) r ≡ []) ⊎ (is_one_of (last_line (white_of (c == 35) r)) 9 ≡ false) →
+        ((if b then past_white (c == 35) r else c ∷ r) ≡ []) ⊎ (is_one_of (last_line (if b then c ∷ white_of (c == 35) r else [])) 9 ≡ false)
+    by true e (inl h) = inl h
+    by true e (inr h) = inr (none_first c (white_of (c == 35) r) (no_tab c e) h)
+    by false e h = inr refl
+
+-- ---- what the model reads
+
+-- after it
+abbrev IsPastWhite : (in_comment leading : Bool) → List ℕ → ScannerState → Type 0
+IsPastWhite b leading a u = (u.rest ≡ past_white b a) × (u.held.leading ≡ (leading || has_break (white_of b a)))
+
+-- a line begins after a break, and after the line feed of CR LF
+feed_after : (c : ℕ) (a : List ℕ) (s : Held) → is_break c ≡ true → ((at_break c a s).leading || has_break (white_of false a)) ≡ true
+unfolding is_break
+feed_after c a s e = by (is_cr_lf c a) refl
+  where
+    feed : (r : List ℕ) → (slice_index r 0 == 10) ≡ true → has_break (white_of false r) ≡ true
+    feed [] h = absurd (cc h)
+    feed (d ∷ r) h = let same : d ≡ 10 = eqb-true d 10 h in rw same refl
+
+    leads : Held → Bool
+    leads h = h.leading
+
+    by : (b : Bool) → is_cr_lf c a ≡ b → (leads (if b then moved s else past_line s) || has_break (white_of false a)) ≡ true
+    by true f = ap (λ b. s.leading || b) (feed a (and_parts (c == 13) (slice_index a 0 == 10) f).1) ∙ or_true s.leading
+    by false f = refl
+
+white_read : (in_comment found : Bool) (a : List ℕ) (s : Held) → Holds (IsPastWhite in_comment s.leading a) (white in_comment found a s)
+unfolding white is_break
+white_read b found [] s = ended found []
+  where
+    ended : (f : Bool) (r : List ℕ) → Holds (λ u. (u.rest ≡ r) × (u.held.leading ≡ (s.leading || false))) (white_end f r s)
+    ended true r = went (refl, sym (or_false s.leading))
+    ended false r = refused
+white_read i found (c ∷ a) s = of i (class.is_break c) (c == 32) (c == 35) refl refl refl (λ i f u. white_read i f a u)
+  where
+    Reads : Bool → Type 0
+    Reads i = (f : Bool) (u : Held) → Holds (IsPastWhite i u.leading a) (white i f a u)
+
+    ended : (f : Bool) → Holds (λ u. (u.rest ≡ c ∷ a) × (u.held.leading ≡ (s.leading || false))) (white_end f (c ∷ a) s)
+    ended true = went (refl, sym (or_false s.leading))
+    ended false = refused
+
+    more : (i : Bool) (u : ScannerState) → is_break c ≡ false → IsPastWhite i s.leading a u → (u.rest ≡ past_white i a) × (u.held.leading ≡ (s.leading || has_break (c ∷ white_of i a)))
+    more i u e h = (h.0, h.1 ∙ ap (λ b. s.leading || not (not b && has_no_break (white_of i a))) (sym e))
+
+    line : (u : ScannerState) → is_break c ≡ true → IsPastWhite false (at_break c a s).leading a u → (u.rest ≡ past_white false a) × (u.held.leading ≡ (s.leading || has_break (c ∷ white_of false a)))
+    line u e h = (h.0, h.1 ∙ feed_after c a s e ∙ (sym (or_true s.leading) ∙ ap (λ b. s.leading || not (not b && has_no_break (white_of false a))) (sym e)))
+
+    space_no_hash : (c == 32) ≡ true → (c == 35) ≡ false
+    space_no_hash f = let same : c ≡ 32 = eqb-true c 32 f in rw same refl
+
+    over : (u : ScannerState) (z : Bool) → goes_over c ≡ true → (c == 35) ≡ z → (u.rest ≡ past_white z a) × (u.held.leading ≡ (s.leading || has_break (c ∷ white_of z a))) → IsPastWhite false s.leading (c ∷ a) u
+    over u z e f h =
+        subst (λ g. (u.rest ≡ (if g then past_white (c == 35) a else c ∷ a)) × (u.held.leading ≡ (s.leading || has_break (if g then c ∷ white_of (c == 35) a else [])))) (sym e)
+        (subst (λ x. (u.rest ≡ past_white x a) × (u.held.leading ≡ (s.leading || has_break (c ∷ white_of x a)))) (sym f) h)
+
+    under : (u : ScannerState) (x : Bool) → is_break c ≡ x → (u.rest ≡ past_white (not x) a) × (u.held.leading ≡ (s.leading || has_break (c ∷ white_of (not x) a))) → IsPastWhite true s.leading (c ∷ a) u
+    under u x e h = subst (λ y. (u.rest ≡ past_white (not y) a) × (u.held.leading ≡ (s.leading || has_break (c ∷ white_of (not y) a)))) (sym e) h
+
+    stay : (u : ScannerState) → goes_over c ≡ false → (u.rest ≡ c ∷ a) × (u.held.leading ≡ (s.leading || false)) → IsPastWhite false s.leading (c ∷ a) u
+    stay u e h = subst (λ g. (u.rest ≡ (if g then past_white (c == 35) a else c ∷ a)) × (u.held.leading ≡ (s.leading || has_break (if g then c ∷ white_of (c == 35) a else [])))) (sym e) h
+
+    of : (i x y z : Bool) → class.is_break c ≡ x → (c == 32) ≡ y → (c == 35) ≡ z → ((j : Bool) → Reads j) →
+        Holds (IsPastWhite i s.leading (c ∷ a)) (if x then white false true a (at_break c a s) else (if i then white true found a (moved s) else (if y then white false true a (moved s) else (if z then white true found a (moved s) else white_end found (c ∷ a) s))))
+    of true true y z e f g h = let br : is_break c ≡ true = same_break c ∙ e in weakened (λ u k. under u true br (line u br k)) (h false true (at_break c a s))
+    of true false y z e f g h = let br : is_break c ≡ false = same_break c ∙ e in weakened (λ u k. under u false br (more true u br k)) (h true found (moved s))
+    of false true y z e f g h =
+        let br : is_break c ≡ true = same_break c ∙ e in
+        weakened (λ u k. over u false (ap (λ b. ((c == 32) || b) || (c == 35)) br ∙ ap (λ b. b || (c == 35)) (or_true (c == 32))) (no_break_hash c e) (line u br k)) (h false true (at_break c a s))
+    of false false true z e f g h =
+        let br : is_break c ≡ false = same_break c ∙ e in
+        weakened (λ u k. over u false (ap (λ b. (b || is_break c) || (c == 35)) f) (space_no_hash f) (more false u br k)) (h false true (moved s))
+    of false false false true e f g h =
+        let br : is_break c ≡ false = same_break c ∙ e in
+        weakened (λ u k. over u true (ap (λ b. ((c == 32) || is_break c) || b) g ∙ or_true ((c == 32) || is_break c)) g (more true u br k)) (h true found (moved s))
+    of false false false false e f g h =
+        let br : is_break c ≡ false = same_break c ∙ e in
+        weakened (λ u k. stay u (ap (λ b. (b || is_break c) || (c == 35)) f ∙ (ap (λ b. b || (c == 35)) br ∙ g)) k) (ended found)
+
+-- The state after spaces, breaks and comments.
+abbrev pub past_white_space : ScannerState → ScannerState
+past_white_space t = after_separation t.held (t.held.leading || has_break (white_of false t.rest)) (white_of false t.rest) (past_white false t.rest)
+
+-- They are a separation, and all of them are read.
+pub white_exactly : (t : ScannerState) → Holds (λ u. (u ≡ past_white_space t) × (is_separation false (white_of false t.rest) (past_white false t.rest) ≡ true)) (skip_yaml_whitespace t)
+unfolding skip_yaml_whitespace
+white_exactly t = by (white false false t.rest t.held) (white_space_is_passed t.held t.rest) (white_read false false t.rest t.held)
+  where
+    Exact : ScannerState → Type 0
+    Exact u = (u ≡ past_white_space t) × (is_separation false (white_of false t.rest) (past_white false t.rest) ≡ true)
+
+    by : (x : Result ScannerState Fault) → GoesOverAs t.held t.rest x → Holds (IsPastWhite false t.held.leading t.rest) x → Holds Exact x
+    by x (goes leading separation rest cut fills none e) h =
+        let u : ScannerState = after_separation t.held leading separation rest in
+        let k : IsPastWhite false t.held.leading t.rest u = held_of u h e in
+        let same : separation ≡ white_of false t.rest = append_cancel_right separation (white_of false t.rest) rest (sym cut ∙ (white_cut false t.rest ∙ ap (λ r. white_of false t.rest ++ r) (sym k.0))) in
+        rw e (went (
+          ap (λ b. after_separation t.held b separation rest) k.1 ∙
+              (ap (λ f. after_separation t.held (t.held.leading || has_break (white_of false t.rest)) f rest) same ∙
+              ap (λ r. after_separation t.held (t.held.leading || has_break (white_of false t.rest)) (white_of false t.rest) r) k.0),
+          ap (λ f. is_separation false f (past_white false t.rest)) (sym same) ∙ (ap (λ r. is_separation false separation r) (sym k.0) ∙ fills),
+        ))
+    by x (misses separation rest cut fills begins none ends e) h = rw e refused
+
+-- what stands after a `?`, where it is at a gap, is a space or a break
+pub white_first : (more : List ℕ) (s : Held) → is_at_gap more ≡ true → Holds (λ u. begins_with_space_or_break more ≡ true) (white false false more s)
+unfolding white is_blank_or_end is_blank is_break is_nul
+white_first [] s gap = refused
+white_first (c ∷ a) s gap = by (class.is_break c) (c == 32) (c == 35) refl refl refl
+  where
+    anyway : (r : Result ScannerState Fault) → begins_with_space_or_break (c ∷ a) ≡ true → Holds (λ u. begins_with_space_or_break (c ∷ a) ≡ true) r
+    anyway (Ok u) h = went h
+    anyway (Err f) h = refused
+
+    hash : (d : ℕ) → (d == 35) ≡ true → is_at_gap (d ∷ a) ≡ true → ⊥
+    hash d e h = let same : d ≡ 35 = eqb-true d 35 e in absurd (cc (subst (λ x. is_at_gap (x ∷ a) ≡ true) same h))
+
+    by : (x y z : Bool) → class.is_break c ≡ x → (c == 32) ≡ y → (c == 35) ≡ z → Holds (λ u. begins_with_space_or_break (c ∷ a) ≡ true)
+        (if x then white false true a (at_break c a s) else (if false then white true false a (moved s) else (if y then white false true a (moved s) else (if z then white true false a (moved s) else white_end false (c ∷ a) s))))
+    by true y z e f g = anyway (white false true a (at_break c a s)) (ap (λ b. (c == 32) || b) (same_break c ∙ e) ∙ or_true (c == 32))
+    by false true z e f g = anyway (white false true a (moved s)) (ap (λ b. b || is_break c) f)
+    by false false true e f g = absurd (hash c g gap)
+    by false false false e f g = refused

@@ -1,0 +1,9 @@
+use Rattle.std.proofs.Common.{length, ◌-◌}
+use Rattle.yaml_chars.specs.BlockLines.{AreSimpleUpTo}
+use Rattle.yaml_chars.proofs.block_line.simple_tail.Given as goal
+
+abbrev pub invariant-bytes : goal.invariant-bytes
+invariant-bytes l = AreSimpleUpTo l.bytes l.at
+
+abbrev pub decreases-bytes : goal.decreases-bytes
+decreases-bytes l = length l.bytes - l.at

@@ -1,0 +1,9 @@
+use Rattle.std.proofs.Common.{◌≡◌, slice_index, true, sym, subst, ◌∙◌, arith}
+use Rattle.yaml_chars.specs.BlockLines.{is_simple}
+use Rattle.yaml_chars.proofs.BlockLineLemmas.{space_is_simple}
+use Rattle.yaml_chars.proofs.block_line.value_end.Goals as goal
+
+pub text_end-requires : goal.text_end-requires
+text_end-requires c = λ k h.
+    let first : 0 ≡ k = omega (arith, h) in
+    subst (λ i. is_simple (slice_index c.args.held.now i) ≡ true) first (space_is_simple _ (sym c.get.ensures ∙ c.if-get-ne32.false))

@@ -1,6 +1,0 @@
-use Rattle.std.proofs.Common.{◌≡◌, ℕ, ◌<◌, ◌≤◌, slice_index, true}
-use Rattle.yaml_chars.specs.Pairs.{is_simple}
-use Rattle.yaml_chars.proofs.pairs.are_simple.Given as goal
-
-abbrev pub invariant-held : goal.invariant-held
-invariant-held l = (k : ℕ) → l.start ≤ k → k < l.i → is_simple (slice_index l.held k) ≡ true

@@ -1,9 +1,0 @@
-use Rattle.std.proofs.Common.{length, ◌-◌}
-use Rattle.yaml_chars.specs.Pairs.{AreSimpleUpTo}
-use Rattle.yaml_chars.proofs.pairs.simple_end.Given as goal
-
-abbrev pub invariant-blocks-2 : goal.invariant-blocks-2
-invariant-blocks-2 l = AreSimpleUpTo l.bytes l.at
-
-abbrev pub decreases-blocks-2 : goal.decreases-blocks-2
-decreases-blocks-2 l = length l.bytes - l.at

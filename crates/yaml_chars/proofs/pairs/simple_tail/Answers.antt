@@ -1,6 +1,0 @@
-use Rattle.std.proofs.Common.{rules}
-use Rattle.yaml_chars.proofs.PairsLemmas.{simple_more}
-use Rattle.yaml_chars.proofs.pairs.simple_tail.Goals as goal
-
-pub bytes-preserved : goal.bytes-preserved
-bytes-preserved c = simple_more _ _ c.bytes.invariant (search rules) (search rules)

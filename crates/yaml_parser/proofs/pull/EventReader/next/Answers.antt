@@ -1,0 +1,20 @@
+use Rattle.std.proofs.Common.{inr, subst, refl, ap, ◌∙◌}
+use Rattle.yaml_parser.specs.Held.{IsHeld}
+use Rattle.yaml_parser.proofs.Holding.{pulled, failed, failed_as, keeps, kept_again}
+use Rattle.yaml_parser.proofs.pull.EventReader.next.Goals as goal
+
+pub returns-in-Some-clause-continues : goal.returns-in-Some-clause-continues
+returns-in-Some-clause-continues g c = λ es h. (refl, h, kept_again c.args.self.now.reader es c.in-Some.is)
+
+pub returns-in-Ok-clause-continues : goal.returns-in-Ok-clause-continues
+returns-in-Ok-clause-continues g c = λ es h. (
+  c.in_default.is,
+  c.in_default.is,
+  inr (pulled c.args.self.now.reader c.next.new.self c.in-Ok.ensures.state c.in-Ok.ensures.below es c.next.new.slot c.note.new.self c.in-Ok.ensures.top (subst (IsHeld c.args.self.now.reader es) c.in_default.is h) c.in-Ok.ensures.answers c.in-Ok.ensures.bounds c.note.ensures),
+)
+
+pub returns-in-Err-clause-continues : goal.returns-in-Err-clause-continues
+returns-in-Err-clause-continues g c = λ es h.
+    let x = keeps c.keep.new.self es c.next.new.slot.stop c.keep.ensures.kept c.keep.ensures.stop
+    (failed_as es c.next.new.slot.stop c.keep.ensures.reader (failed c.args.self.now.reader c.next.new.self c.in-Err.ensures.state c.in-Err.ensures.below es c.next.new.slot.stop c.in-Err.ensures.top (subst (IsHeld c.args.self.now.reader es) c.in_default.is h) c.in-Err.ensures.answers)) in
+    (ap (λ r. r.names.keeping) c.keep.ensures.reader ∙ c.next.ensures.bounds.input.keeping, x.0, λ none. x.1)
