@@ -8,7 +8,8 @@ use Rattle.defs_token.specs.Row.{HasRow}
 use Rattle.defs_token.specs.Beginning.{IsPlace}
 use Rattle.yaml_tokens.specs.declared.problem.Problem.{Problem}
 use Rattle.proof_lexers.specs.Separations.{begins_separation}
-use Rattle.proof_scanner.specs.Stuck.{Fails, IsStuck}
+use Rattle.proof_scanner.specs.Failing.{Fails}
+use Rattle.proof_scanner.specs.Stuck.{IsStuck}
 
 -- `failing_places_have_no_row`: whatever beginning of a row led to the place
 abbrev pub FailingPlacesHaveNoRow : Type 0

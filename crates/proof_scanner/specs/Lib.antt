@@ -2,7 +2,13 @@ pub mod Arrives
 pub mod Certain
 pub mod Choices
 pub mod Completes
+pub mod Failing
 pub mod Faults
+pub mod First
+pub mod FirstBlock
+pub mod FirstPlain
+pub mod FirstProperty
+pub mod FirstQuoted
 pub mod Goes
 pub mod Here
 pub mod Inside

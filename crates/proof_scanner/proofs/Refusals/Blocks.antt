@@ -48,10 +48,11 @@ use Rattle.proof_scanner.proofs.Sound.WithoutOpen.{AreClosed, without_is}
 use Rattle.proof_scanner.proofs.Complete.Scalars.AfterBlocks.{block_is_clear, lines_asked, lines_written}
 use Rattle.proof_scanner.specs.NoPiece as none
 use Rattle.proof_scanner.specs.NoPiece.{IsBlockFault}
-use Rattle.proof_scanner.specs.Stuck.{IsStuck, no_block, site_at_place}
+use Rattle.proof_scanner.specs.Failing.{no_block, site_at_place}
+use Rattle.proof_scanner.specs.Stuck.{IsStuck}
 use Rattle.proof_scanner.proofs.Refusals.Faults.{Faults, goes, read}
-use Rattle.proof_scanner.proofs.Refusals.Nodes.{none_begins, none_here}
-use Rattle.proof_scanner.proofs.Refusals.Places.{Told, account_by, stuck, in_flow_is}
+use Rattle.proof_scanner.specs.FirstBlock.{block_first}
+use Rattle.proof_scanner.proofs.Refusals.Places.{Told, LiesDeep, account_by, stuck, in_flow_is, blocks_by, looked_at, none_begins, none_here}
 
 -- ---- texts
 
@@ -179,7 +180,7 @@ column_fault indent bs here text piece next b least e clean is untabbed low = by
 
 -- ---- the scan
 
-module _ (text : List ℕ) (t : ScannerState) (a : Arrives text t) (some : is_empty t.rest ≡ false) (out : is_empty t.held.flow ≡ true) where
+module _ (text : List ℕ) (t : ScannerState) (a : Arrives text t) (some : is_empty t.rest ≡ false) (lies : LiesDeep t) (out : is_empty t.held.flow ≡ true) where
   abbrev collections : List ℕ
   collections = columns t.held.indent t.held.indents
 
@@ -194,12 +195,12 @@ module _ (text : List ℕ) (t : ScannerState) (a : Arrives text t) (some : is_em
       (closed.is_least.0 ∙ ap innermost (sym closed.same_columns), ap (λ bs. least_column bs true) closed.same_columns ∙ closed.is_least.1)
 
   -- the block scalar that begins here may not stand
-  block_stuck : (why : Problem) (at : Position) → IsBlockFault collections t.held.position t.rest why at → IsStuck text why at
-  block_stuck why at x =
+  block_stuck : (why : Problem) (at : Position) (x : IsBlockFault collections t.held.position t.rest why at) → block_first collections t.held.position t.rest why at x → IsStuck text why at
+  block_stuck why at x first =
       stuck text t a some [] why at (λ c may.
-      let flow_is = in_flow_is text t a some c [] in
-      let blocks_are : (site_at_place (account_by text t a some c []) t.held.position).blocks ≡ collections = ap (λ b. (site_in b gives_node t.held.position a.base.site).blocks) flow_is ∙ a.blocks_are in
-      no_block (flow_is ∙ ap not out) (subst (λ bs. IsBlockFault bs t.held.position t.rest why at) (sym blocks_are) x))
+      let P : List ℕ → Type 0 = λ bs. (y : IsBlockFault bs t.held.position t.rest why at) × block_first bs t.held.position t.rest why at y in
+      let moved : P (site_at_place (account_by text t a some c []) t.held.position).blocks = subst P (sym (blocks_by text t a some c [])) (x, first) in
+      record { fails = no_block (in_flow_is text t a some c [] ∙ ap not out) moved.0; is_first = (looked_at text t a some lies c [], moved.1) })
 
   -- `|` or `>`
   header_told : (style : BlockStyle) (line after : List ℕ) → t.rest ≡ indicator_of style ∷ (line ++ after) → is_in_line line ≡ true → headers.ends_line after ≡ true → (g : Fault) → HeaderEndsAs t.held.position style line after (Err g) → Told text g
@@ -209,19 +210,19 @@ module _ (text : List ℕ) (t : ScannerState) (a : Arrives text t) (some : is_em
       let f : TabAfter after = tab_after after t.held.position ends begins in
       subst (λ f. Told text f) same
       (λ _. block_stuck problem.BlockScalarTab t.held.position
-      (tab_fault collections t.held.position t.rest (indicator_of style ∷ line) f.more f.by h (e ∙ ap (λ r. indicator_of style ∷ (line ++ r)) f.is) (style_inner style line inline) is))
+      (tab_fault collections t.held.position t.rest (indicator_of style ∷ line) f.more f.by h (e ∙ ap (λ r. indicator_of style ∷ (line ++ r)) f.is) (style_inner style line inline) is) tt)
   header_told style line after e inline ends g (headers.zero_digit lacks zero j) =
       let same : At problem.BlockScalarZero t.held.position ≡ g = cc j in
-      subst (λ f. Told text f) same (λ _. none_here text t a some problem.BlockScalarZero (none.headless style line after problem.BlockScalarZero t.held.position (ap not out) e inline ends lacks (none.by_zero zero)))
+      subst (λ f. Told text f) same (λ _. none_here text t a some lies problem.BlockScalarZero (none.headless style line after problem.BlockScalarZero t.held.position (ap not out) e inline ends lacks (none.by_zero zero)) tt)
   header_told style line after e inline ends g (headers.comment h before more lacks is cut j) =
       let same : At problem.CommentNotSeparated (headers.along before (past t.held.position)) ≡ g = cc j in
       let place : headers.along before (past t.held.position) ≡ position_after t.held.position (indicator_of style ∷ before) (35 ∷ more) = along_text style before (35 ∷ more) t.held.position (inner_first before (35 ∷ more) (ap is_in_line (sym cut) ∙ inline)) in
       subst (λ f. Told text f) same (subst (λ p. Told text (At problem.CommentNotSeparated p)) (sym place)
-      (λ _. none_begins text t a some problem.CommentNotSeparated _
-      (none.headless style line after problem.CommentNotSeparated _ (ap not out) e inline ends lacks (none.by_comment h before more is cut))))
+      (λ _. none_begins text t a some lies problem.CommentNotSeparated _
+      (none.headless style line after problem.CommentNotSeparated _ (ap not out) e inline ends lacks (none.by_comment h before more is cut)) tt))
   header_told style line after e inline ends g (headers.no_header lacks zero more begins j) =
       let same : At problem.BlockScalarHeader t.held.position ≡ g = cc j in
-      subst (λ f. Told text f) same (λ _. none_here text t a some problem.BlockScalarHeader (none.headless style line after problem.BlockScalarHeader t.held.position (ap not out) e inline ends lacks (none.by_text zero more begins)))
+      subst (λ f. Told text f) same (λ _. none_here text t a some lies problem.BlockScalarHeader (none.headless style line after problem.BlockScalarHeader t.held.position (ap not out) e inline ends lacks (none.by_text zero more begins)) tt)
 
   block_refused : (style : BlockStyle) (indent : ℕ) (more : List ℕ) → t.rest ≡ indicator_of style ∷ more → IsLeast indent collections → (f : Fault) → block (is_literal_style style) indent t.rest t.held.position ≡ Err f → Told text f
   block_refused style indent more e deep f k =
@@ -239,10 +240,10 @@ module _ (text : List ℕ) (t : ScannerState) (a : Arrives text t) (some : is_em
           let same : At problem.BlockScalarIndentation (scan.further_position t.held.position piece next) ≡ f = cc (i, j) in
           subst (λ g. Told text g) same
           (λ _. block_stuck problem.BlockScalarIndentation (scan.further_position t.held.position piece next)
-          (column_fault indent collections t.held.position t.rest piece next b deep (e ∙ cut) (clean_after piece next (subst (λ r. has_no_nul r ≡ true) (e ∙ cut) a.is_clean)) is free low))
+          (column_fault indent collections t.held.position t.rest piece next b deep (e ∙ cut) (clean_after piece next (subst (λ r. has_no_nul r ≡ true) (e ∙ cut) a.is_clean)) is free low) tt)
       by x i (block_ends.scalar piece next b cut is looks (scan.tabbed begins j)) =
           let same : At problem.BlockScalarTab t.held.position ≡ f = cc (i, j) in
-          subst (λ g. Told text g) same (λ _. block_stuck problem.BlockScalarTab t.held.position (piece_tab_fault collections (collection_of indent) t.held.position t.rest piece next b (e ∙ cut) is begins))
+          subst (λ g. Told text g) same (λ _. block_stuck problem.BlockScalarTab t.held.position (piece_tab_fault collections (collection_of indent) t.held.position t.rest piece next b (e ∙ cut) is begins) tt)
 
   pub block_told : (literal : Bool) (more : List ℕ) → t.rest ≡ (if literal then 124 else 62) ∷ more → Faults (Told text) (fetch_block_scalar literal t)
   unfolding fetch_block_scalar

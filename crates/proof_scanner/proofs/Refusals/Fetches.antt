@@ -2,7 +2,7 @@
 use Rattle.std.proofs.Common.{◌≡◌, ℕ, ◌+◌, ◌≤◌, List, [], ◌∷◌, Bool, true, false, not, ◌==◌, ◌&&◌, ◌||◌, nat_le, nat_lt, refl, ap, sym, ◌∙◌, subst, arith, inl, inr}
 use Rattle.std.proofs.lemmas.Bool.{eqb-true}
 use Rattle.std.proofs.lemmas.Bool.Decides.{nat_tests}
-use Rattle.defs_text.specs.Classes.{is_document_marker}
+use Rattle.defs_text.specs.Classes.{are_marks, is_document_marker}
 use Rattle.defs_text.specs.Text.{is_empty}
 use Rattle.defs_text.specs.FlowScalar.{begins_with}
 use Rattle.defs_token.specs.Account.{is_adjacent, before_past}
@@ -25,11 +25,12 @@ use Rattle.proof_scanner.specs.StandsInRow.{AreLevels, columns, has_open_level}
 use Rattle.proof_scanner.specs.Arrives.{Arrives, site_here}
 use Rattle.proof_scanner.proofs.Sound.Passed.{least_of_levels}
 use Rattle.proof_scanner.proofs.Complete.Around.Levels.{levels_end}
-use Rattle.proof_scanner.specs.Stuck as defs
-use Rattle.proof_scanner.specs.Stuck.{IsStuck, may_not_stand, site_at_place, begins_document_at}
+use Rattle.proof_scanner.specs.Failing as defs
+use Rattle.proof_scanner.specs.Failing.{may_not_stand, site_at_place, begins_document_at}
+use Rattle.proof_scanner.specs.Stuck.{IsStuck}
 use Rattle.proof_scanner.proofs.Refusals.Faults.{Faults, fault, tried, checked, either}
-use Rattle.proof_scanner.proofs.Refusals.Places.{Told, account_by, not_told, stuck, in_flow_is}
-use Rattle.proof_scanner.proofs.Refusals.Nodes.{none_here, name_told, tag_told, quoted_told}
+use Rattle.proof_scanner.proofs.Refusals.Places.{Told, LiesDeep, account_by, not_told, stuck, in_flow_is, none_here}
+use Rattle.proof_scanner.proofs.Refusals.Nodes.{name_told, tag_told, quoted_told}
 use Rattle.proof_scanner.proofs.Refusals.Blocks.{block_told}
 use Rattle.proof_scanner.proofs.Refusals.Plains.{plain_told}
 use Rattle.proof_scanner.proofs.Refusals.Indicators.{directive_told, marker_told, document_end_told, dash_told, question_told, colon_told, opening_told, closing_told, comma_told}
@@ -42,24 +43,27 @@ module _ (text : List ℕ) (t : ScannerState) (a : Arrives text t) (some : is_em
   token_told : IsDeep t.held → ((t.held.position.col == 0) && is_document_marker t.rest) ≡ false → (t.held.position.col ≡ 0 → (peek t.rest == 37) ≡ false) → Faults (Told text) (fetch_token t)
   token_told deep marker percent =
       token_holds (Faults (Told text)) t (is_adjacent (before_past (before_by a.base.site.before) a.separation)) a.is_clean a.is_solid (λ inside. sym (a.is_adjacent_here inside some)) marker (record {
-        anchor = λ alias more e. name_told text t a some alias more e;
-        tag = λ more e. tag_told text t a some more e;
-        plain = λ comes. plain_told text t a some deep comes;
-        quoted = λ single more e. quoted_told text t a some deep single more e;
-        block = λ literal more e o. block_told text t a some o literal more e;
-        dash = λ more e gap. dash_told text t a some more e gap;
-        question = λ more e gap. question_told text t a some more e gap;
-        colon = λ more e i. colon_told text t a some waits more e i;
-        open_bracket = λ more e. opening_told text t a some Entry Tok.flow_sequence_start 91 more e (inl refl);
-        open_brace = λ more e. opening_told text t a some Mapping Tok.flow_mapping_start 123 more e (inr refl);
-        close_bracket = λ more e. closing_told text t a some Tok.flow_sequence_end 93 more e refl;
-        close_brace = λ more e. closing_told text t a some Tok.flow_mapping_end 125 more e refl;
-        comma = λ more e. comma_told text t a some more e;
-        percent = λ more e. fault {f = At problem.UnexpectedPercent t.held.position} (λ _. none_here text t a some problem.UnexpectedPercent (none.percent more e (no_column more e)));
-        at_sign = λ more e. fault {f = At problem.UnexpectedAt t.held.position} (λ _. none_here text t a some problem.UnexpectedAt (none.at_sign more e));
-        backtick = λ more e. fault {f = At problem.UnexpectedBacktick t.held.position} (λ _. none_here text t a some problem.UnexpectedBacktick (none.backtick more e));
+        anchor = λ alias more e. name_told text t a some lies alias more e;
+        tag = λ more e. tag_told text t a some lies more e;
+        plain = λ comes. plain_told text t a some lies deep comes;
+        quoted = λ single more e. quoted_told text t a some lies deep single more e;
+        block = λ literal more e o. block_told text t a some lies o literal more e;
+        dash = λ more e gap. dash_told text t a some lies more e gap;
+        question = λ more e gap. question_told text t a some lies more e gap;
+        colon = λ more e i. colon_told text t a some lies waits more e i;
+        open_bracket = λ more e. opening_told text t a some lies Entry Tok.flow_sequence_start 91 more e (inl refl);
+        open_brace = λ more e. opening_told text t a some lies Mapping Tok.flow_mapping_start 123 more e (inr refl);
+        close_bracket = λ more e. closing_told text t a some lies Tok.flow_sequence_end 93 more e refl;
+        close_brace = λ more e. closing_told text t a some lies Tok.flow_mapping_end 125 more e refl;
+        comma = λ more e. comma_told text t a some lies more e;
+        percent = λ more e. fault {f = At problem.UnexpectedPercent t.held.position} (λ _. none_here text t a some lies problem.UnexpectedPercent (none.percent more e (no_column more e)) tt);
+        at_sign = λ more e. fault {f = At problem.UnexpectedAt t.held.position} (λ _. none_here text t a some lies problem.UnexpectedAt (none.at_sign more e) tt);
+        backtick = λ more e. fault {f = At problem.UnexpectedBacktick t.held.position} (λ _. none_here text t a some lies problem.UnexpectedBacktick (none.backtick more e) tt);
       }) some
     where
+      lies : LiesDeep t
+      lies _ = deep
+
       no_column : (more : List ℕ) → t.rest ≡ 37 ∷ more → (t.held.position.col == 0) ≡ false
       no_column more e = by (t.held.position.col == 0) refl
         where
@@ -98,9 +102,9 @@ module _ (text : List ℕ) (t : ScannerState) (a : Arrives text t) (some : is_em
           let flow_is = in_flow_is text t a some c [] in
           let blocks_are : (site_at_place (account_by text t a some c []) t.held.position).blocks ≡ columns t.held.indent t.held.indents = ap (λ b. (site_in b gives_node t.held.position a.base.site).blocks) flow_is ∙ a.blocks_are in
           let awaits_is : (site_at_place (account_by text t a some c []) t.held.position).awaits ≡ has_open_level t.held.indents = ap (λ b. (site_in b gives_node t.held.position a.base.site).awaits) flow_is ∙ a.awaits_is in
-          may_not_stand (defs.shallow (flow_is ∙ ap not e) none
+          record { is_first = a.is_indented some; fails = may_not_stand (defs.shallow (flow_is ∙ ap not e) none
           (ap (λ bs. nat_le (least_column bs (site_at_place (account_by text t a some c []) t.held.position).awaits) t.held.position.col) blocks_are ∙
-          (ap (λ w. nat_le (least_column (columns t.held.indent t.held.indents) w) t.held.position.col) awaits_is ∙ least_here t.held.indent t.held.indents a.are_levels low))))
+          (ap (λ w. nat_le (least_column (columns t.held.indent t.held.indents) w) t.held.position.col) awaits_is ∙ least_here t.held.indent t.held.indents a.are_levels low))) })
 
   indented_told : ((t.held.position.col == 0) && is_document_marker t.rest) ≡ false → (t.held.position.col ≡ 0 → (peek t.rest == 37) ≡ false) → Faults (Told text) (fetch_indented t)
   unfolding fetch_indented
@@ -110,16 +114,36 @@ module _ (text : List ℕ) (t : ScannerState) (a : Arrives text t) (some : is_em
   -- ---- markers
 
   first_told : t.held.position.col ≡ 0 → Faults (Told text) (fetch_first_column t)
-  unfolding fetch_first_column
+  unfolding fetch_first_column are_marks
   first_told col =
-      either (peek t.rest == 37) (λ e. directive_told text t a some (after t.rest) (begins_with_this t.rest 37 some e) col) (λ n.
-      either (comes_marker 45 t.rest) (λ e. marker_told text t a some Tok.document_start) (λ x.
-      either (comes_marker 46 t.rest) (λ e. let m : Marked 46 t.rest = marked 46 t.rest refl e in document_end_told text t a some m.more m.is_text m.gap col) (λ y.
+      either (peek t.rest == 37) (λ e. directive_told text t a some (by_percent e) (after t.rest) (begins_with_this t.rest 37 some e) col) (λ n.
+      either (comes_marker 45 t.rest) (λ e. marker_told text t a some (by_marker 45 refl e refl) Tok.document_start) (λ x.
+      either (comes_marker 46 t.rest) (λ e. let m : Marked 46 t.rest = marked 46 t.rest refl e in document_end_told text t a some (by_marker 46 refl e refl) m.more m.is_text m.gap col) (λ y.
       indented_told (by (t.held.position.col == 0) (no_marker t.rest x y)) (λ _. n))))
     where
       by : (b : Bool) → is_document_marker t.rest ≡ false → (b && is_document_marker t.rest) ≡ false
       by true e = e
       by false e = refl
+
+      -- a line for the document may lie in any column
+      document_line : (begins_with 37 t.rest || is_document_marker t.rest) ≡ true → LiesDeep t
+      document_line begins none = absurd (cc (none, ap (λ (n : ℕ). (n == 0) && (begins_with 37 t.rest || is_document_marker t.rest)) col, begins))
+
+      by_percent : (peek t.rest == 37) ≡ true → LiesDeep t
+      by_percent e = document_line (first t.rest e)
+        where
+          first : (r : List ℕ) → (peek r == 37) ≡ true → (begins_with 37 r || is_document_marker r) ≡ true
+          first [] h = absurd (cc h)
+          first (c ∷ r) h = ap (λ b. b || is_document_marker (c ∷ r)) h
+
+      by_marker : (c : ℕ) → (0 == c) ≡ false → comes_marker c t.rest ≡ true → are_marks c c c ≡ true → LiesDeep t
+      by_marker c z e marks =
+          let m : Marked c t.rest = marked c t.rest z e in
+          document_line (subst (λ r. (begins_with 37 r || is_document_marker r) ≡ true) (sym m.is_text) (or_last (c == 37) _ (rw (marks, m.gap) refl)))
+        where
+          or_last : (x y : Bool) → y ≡ true → (x || y) ≡ true
+          or_last true y e = refl
+          or_last false y e = e
 
   content_told : Faults (Told text) (fetch_content t)
   unfolding fetch_content

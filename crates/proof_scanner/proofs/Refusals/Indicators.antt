@@ -1,7 +1,7 @@
 -- Faults of indicators, markers and directives.
 use Rattle.std.proofs.Common.{◌≡◌, ℕ, suc, ◌≤◌, List, [], ◌∷◌, ◌++◌, Bool, true, false, not, ◌==◌, ◌&&◌, ◌||◌, nat_le, nat_lt, slice_index, append_assoc, length, if◌then◌else◌, Option, Some, None, Result, Ok, Err, refl, ap, sym, ◌∙◌, subst, arith, ◌+◌}
 use Rattle.std.specs.Prelude.{◌⊎◌}
-use Rattle.std.proofs.Common.{inl, inr}
+use Rattle.std.proofs.Common.{inl, inr, ◌-◌}
 use Rattle.std.proofs.lemmas.Bool.{and_parts, eqb-true}
 use Rattle.std.proofs.lemmas.Bool.Decides.{nat_tests}
 use Rattle.defs_text.specs.Breaks.{has_no_break}
@@ -73,12 +73,13 @@ use Rattle.proof_scanner.proofs.Refusals.Rolled.{rolled_place, removed_is}
 use Rattle.proof_scanner.proofs.Cut.Saved.{saved_keys, saved_is}
 use Rattle.proof_scanner.specs.NoPiece as none
 use Rattle.proof_scanner.specs.NoPiece.{IsFollowed}
-use Rattle.proof_scanner.specs.Stuck as defs
-use Rattle.proof_scanner.specs.Stuck.{IsStuck, HasNoKey, no_key, may_not_stand, is_taken_line, is_taken, is_value_here}
+use Rattle.proof_scanner.specs.First.{IsLookedAt, followed_first, is_full}
+use Rattle.proof_scanner.specs.Failing as defs
+use Rattle.proof_scanner.specs.Failing.{may_not_stand, is_taken_line, is_taken, is_value_here}
+use Rattle.proof_scanner.specs.Stuck.{IsStuck, HasNoKey, no_key}
 use Rattle.proof_scanner.proofs.Refusals.Faults.{Faults, fault, goes, read, in_turn, tried, checked, either}
 use Rattle.proof_scanner.proofs.Refusals.Spaces.{space_told, spaces_told, no_comment, no_comment_left, solid_past}
-use Rattle.proof_scanner.proofs.Refusals.Places.{Told, account_by, place, many_levels, IsAllowed, stuck, in_flow_is, followed_stuck}
-use Rattle.proof_scanner.proofs.Refusals.Nodes.{none_begins}
+use Rattle.proof_scanner.proofs.Refusals.Places.{Told, LiesDeep, account_by, place, many_levels, IsAllowed, stuck, in_flow_is, looked_at, none_begins, followed_stuck}
 use Rattle.proof_scanner.proofs.Refusals.Waiting.{NoneWaits}
 
 -- ---- keys that must be one
@@ -108,12 +109,12 @@ unrolled_position limit s = by (in_flow s) _
 line_stays : (t : ScannerState) → Holds (λ u. (u.rest ≡ t.rest) × (u.held.position ≡ t.held.position)) (try_held begin_line t)
 line_stays t = holds.tried t (begin_line t.held) (line_begun t.held (unroll_indent 0 t.held) refl) (λ s k. (refl, ap (λ h. h.position) k.1 ∙ unrolled_position 0 t.held))
 
-module _ (text : List ℕ) (t : ScannerState) (a : Arrives text t) (some : is_empty t.rest ≡ false) where
+module _ (text : List ℕ) (t : ScannerState) (a : Arrives text t) (some : is_empty t.rest ≡ false) (lies : LiesDeep t) where
   -- ---- lines for the document
 
   line_refused : (line next : List ℕ) → t.held.position.col ≡ 0 → t.rest ≡ 37 ∷ (line ++ next) → has_no_break line ≡ true → directives.ends_line next ≡ true → directive_of (37 ∷ line) ≡ None → (f : Fault) → IsDirectiveRefusal t.held.position line f → Told text f
   line_refused line next col e one ends lacks OutOfMemory r = tt
-  line_refused line next col e one ends lacks (At why q) r = λ _. none_begins text t a some why q (none.undirected line next why q col e one ends lacks r)
+  line_refused line next col e one ends lacks (At why q) r = λ _. none_begins text t a some lies why q (none.undirected line next why q col e one ends lacks r) tt
 
   pub directive_told : (more : List ℕ) → t.rest ≡ 37 ∷ more → t.held.position.col ≡ 0 → Faults (Told text) (fetch_directive t)
   unfolding fetch_directive
@@ -134,10 +135,15 @@ module _ (text : List ℕ) (t : ScannerState) (a : Arrives text t) (some : is_em
 
   -- ---- what follows
 
+  -- what is tried before what follows a piece
+  abbrev HasFirst : (why : Problem) (at : Position) → IsFollowed (in_flow t.held) t.held.position t.rest why at → Type 0
+  HasFirst why at x =
+      (c : Bool) → IsAllowed text t a some c → followed_first (in_flow t.held) (t.held.indent - 1) (is_taken (account_by text t a some c []) a.separation) (is_full (account_by text t a some c [])) t.held.position t.rest why at x
+
   -- a fault at the end of what was passed on the line
   followed_at : (why : Problem) (q : Position) (p : Position) (passed content : List ℕ) → q ≡ position_after p passed content
-      → IsFollowed (in_flow t.held) t.held.position t.rest why (position_after p passed content) → Told text (At why q)
-  followed_at why q p passed content e x = λ _. subst (λ z. IsStuck text why z) (sym e) (followed_stuck text t a some why (position_after p passed content) x)
+      → (x : IsFollowed (in_flow t.held) t.held.position t.rest why (position_after p passed content)) → HasFirst why (position_after p passed content) x → Told text (At why q)
+  followed_at why q p passed content e x first = λ _. subst (λ z. IsStuck text why z) (sym e) (followed_stuck text t a some lies why (position_after p passed content) x first)
 
   three_past : (p : Position) → past (past (past p)) ≡ further 3 p
   three_past p =
@@ -161,7 +167,7 @@ module _ (text : List ℕ) (t : ScannerState) (a : Arrives text t) (some : is_em
       by false i =
           fault {f = At problem.ContentAfterDocumentEnd v.held.position} (followed_at problem.ContentAfterDocumentEnd v.held.position (further 3 t.held.position) (s.blanks ++ s.comment) v.rest
           (ap (λ h. h.position) s.is_held ∙ ap (λ q. position_after q (s.blanks ++ s.comment) v.rest) m.1)
-          (none.after_end more (s.blanks ++ s.comment) v.rest col e gap (record { is_text = sym m.0 ∙ (s.is_rest ∙ sym (append_assoc s.blanks s.comment v.rest)); is_filled = s.is_filled; is_on_line = s.no_break }) (not_at_end v.rest i) (solid_past v.rest s.ends i)))
+          (none.after_end more (s.blanks ++ s.comment) v.rest col e gap (record { is_text = sym m.0 ∙ (s.is_rest ∙ sym (append_assoc s.blanks s.comment v.rest)); is_filled = s.is_filled; is_on_line = s.no_break }) (not_at_end v.rest i) (solid_past v.rest s.ends i)) (λ c may. tt))
 
   pub document_end_told : (more : List ℕ) → t.rest ≡ 46 ∷ 46 ∷ 46 ∷ more → is_at_gap more ≡ true → t.held.position.col ≡ 0 → Faults (Told text) (fetch_document_end t)
   unfolding fetch_document_end
@@ -219,10 +225,10 @@ module _ (text : List ℕ) (t : ScannerState) (a : Arrives text t) (some : is_em
   unfolding check_block_entry
   entry_checked more e gap =
       checked (in_flow t.held) (At problem.BlockEntryInFlow t.held.position)
-      (λ i _. stuck text t a some [] problem.BlockEntryInFlow t.held.position (λ c may. may_not_stand (defs.dash_in_flow more e gap (in_flow_is text t a some c [] ∙ i)))) (λ o.
+      (λ i _. stuck text t a some [] problem.BlockEntryInFlow t.held.position (λ c may. record { fails = may_not_stand (defs.dash_in_flow more e gap (in_flow_is text t a some c [] ∙ i)); is_first = looked_at text t a some lies c [] })) (λ o.
       checked (not t.held.key_allowed) (At problem.BlockEntryNotAllowed t.held.position)
       (λ n _. stuck text t a some [] problem.BlockEntryNotAllowed t.held.position (λ c may.
-      may_not_stand (defs.dash_not_free more e gap (in_flow_is text t a some c [] ∙ o) (line_taken c [] may (is_outside o) (is_not t.held.key_allowed n))))) (λ _. goes))
+      record { fails = may_not_stand (defs.dash_not_free more e gap (in_flow_is text t a some c [] ∙ o) (line_taken c [] may (is_outside o) (is_not t.held.key_allowed n))); is_first = looked_at text t a some lies c [] })) (λ _. goes))
 
   -- a character of a text stands in it with more after it
   has_more : (b c : List ℕ) → has 9 b ≡ true → has 9 (b ++ c) ≡ true
@@ -251,7 +257,7 @@ module _ (text : List ℕ) (t : ScannerState) (a : Arrives text t) (some : is_em
           let gap2 : is_at_gap d.0 ≡ true = sym (gap_here d.0) ∙ (ap (λ l. is_blank_or_breakz (slice_index l 1)) (sym d.1) ∙ second.1) in
           followed_at problem.TabAfterDash _ (further 1 t.held.position) (blanks ++ comment) rest (ap (λ q. position_after q (blanks ++ comment) rest) place)
           (none.tab_after_dash more (blanks ++ comment) rest outside e gap (record { is_text = cut ∙ sym (append_assoc blanks comment rest); is_filled = fills; is_on_line = line })
-          (has_more blanks comment first.0) (ap begins_entry d.1 ∙ gap2))
+          (has_more blanks comment first.0) (ap begins_entry d.1 ∙ gap2)) (λ c may. tt)
 
       checked_by : (b : Bool) (q : Position) (u : ScannerState) → (b ≡ true → Told text (At problem.TabAfterDash q)) → Faults (Told text) (if b then Err (At problem.TabAfterDash q) else Ok u)
       checked_by true q u why = fault {f = At problem.TabAfterDash q} (why refl)
@@ -295,7 +301,7 @@ module _ (text : List ℕ) (t : ScannerState) (a : Arrives text t) (some : is_em
       either (in_flow t.held) (λ _. goes) (λ o.
       checked (not t.held.key_allowed) (At problem.KeyNotAllowed t.held.position)
       (λ n _. stuck text t a some [] problem.KeyNotAllowed t.held.position (λ c may.
-      may_not_stand (defs.question_not_free more e gap (in_flow_is text t a some c [] ∙ o) (line_taken c [] may (is_outside o) (is_not t.held.key_allowed n))))) (λ _. goes))
+      record { fails = may_not_stand (defs.question_not_free more e gap (in_flow_is text t a some c [] ∙ o) (line_taken c [] may (is_outside o) (is_not t.held.key_allowed n))); is_first = looked_at text t a some lies c [] })) (λ _. goes))
 
   key_place : Holds (λ s. s.position ≡ t.held.position) (begin_key t.held)
   unfolding begin_key
@@ -310,7 +316,7 @@ module _ (text : List ℕ) (t : ScannerState) (a : Arrives text t) (some : is_em
       by x (misses separation rest cut fills begins broken ends j) =
           subst (λ y. Faults (Told text) y) (sym j) (fault {f = At problem.WhitespaceExpected (position_after u.held.position separation rest)}
           (followed_at problem.WhitespaceExpected (position_after u.held.position separation rest) (further 1 t.held.position) separation rest (ap (λ q. position_after q separation rest) place)
-          (none.no_space more separation rest e gap (record { is_text = sym left ∙ cut; is_filled = fills; is_on_line = broken }) (ap (λ r. begins_with 32 r) (sym left) ∙ begins) ends)))
+          (none.no_space more separation rest e gap (record { is_text = sym left ∙ cut; is_filled = fills; is_on_line = broken }) (ap (λ r. begins_with 32 r) (sym left) ∙ begins) ends) (λ c may. tt)))
 
   space_checked : (more : List ℕ) → t.rest ≡ 63 ∷ more → is_at_gap more ≡ true → (u w : ScannerState) → u.rest ≡ more → u.held.position ≡ past t.held.position → skip_yaml_whitespace u ≡ Ok w → Faults (Told text) (check_key_space w)
   unfolding skip_yaml_whitespace check_key_space
@@ -329,7 +335,7 @@ module _ (text : List ℕ) (t : ScannerState) (a : Arrives text t) (some : is_em
           let first = tab_first rest tab in
           followed_at problem.TabAfterKey (position_after u.held.position separation rest) (further 1 t.held.position) separation (9 ∷ after rest)
           (ap (λ q. position_after q separation rest) place ∙ ap (λ r. position_after (further 1 t.held.position) separation r) first)
-          (none.tab_after_question more separation (after rest) e gap (sym left ∙ (cut ∙ ap (λ r. separation ++ r) first)) (subst (λ r. is_separation false separation r ≡ true) first fills))
+          (none.tab_after_question more separation (after rest) e gap (sym left ∙ (cut ∙ ap (λ r. separation ++ r) first)) (subst (λ r. is_separation false separation r ≡ true) first fills)) (λ c may. tt)
 
       by : (y : Result ScannerState Fault) → y ≡ Ok w → GoesOverAs u.held u.rest y → Faults (Told text) (if peek w.rest == 9 then Err (At problem.TabAfterKey w.held.position) else Ok w)
       by y i (misses separation rest cut fills begins broken ends j) = absurd (cc (i, j))
@@ -379,7 +385,8 @@ module _ (text : List ℕ) (t : ScannerState) (a : Arrives text t) (some : is_em
   misplaced : (more : List ℕ) → t.rest ≡ 58 ∷ more → is_value t ≡ true → (k : Key) → top_key t.held.keys ≡ Some k → opens_pair t.held.flow ≡ true → nat_lt k.position.line t.held.position.line ≡ true → Told text (At problem.ColonMisplaced t.held.position)
   misplaced more e i k top opens late = λ _.
       let s : SingleKey k (entries_by (true ∷ []) t.held.keys a.base.entries) = single_key t.held.key_allowed _ t.held.flow t.held.keys a.base.entries k a.are_entries opens top in
-      stuck text t a some (true ∷ []) problem.ColonMisplaced t.held.position (λ c may. may_not_stand (defs.key_on_earlier_line more k.position s.first s.around e (value_here more e i c (true ∷ [])) s.are s.takes s.had_is (grind (arith, nat_tests, late))))
+      stuck text t a some (true ∷ []) problem.ColonMisplaced t.held.position (λ c may.
+      record { fails = may_not_stand (defs.key_on_earlier_line more k.position s.first s.around e (value_here more e i c (true ∷ [])) s.are s.takes s.had_is (grind (arith, nat_tests, late))); is_first = looked_at text t a some lies c (true ∷ []) })
 
   not_allowed : NoneWaits text t a → (more : List ℕ) → t.rest ≡ 58 ∷ more → is_value t ≡ true → top_key t.held.keys ≡ None → in_flow t.held ≡ false → t.held.key_allowed ≡ false → Told text (At problem.ValueNotAllowed t.held.position)
   not_allowed unwaited more e i top o allowed = λ _.
@@ -389,6 +396,7 @@ module _ (text : List ℕ) (t : ScannerState) (a : Arrives text t) (some : is_em
       let may : MayChoose false (outside_key a.base.entries t.held.keys) t.held.position t.rest = subst (λ k. MayChoose false k t.held.position t.rest) (sym key_is) tt in
       no_key (account_by text t a some false []) a.separation more t.held.position (subst (λ r. IsPlace text (account_by text t a some false []) a.separation r t.held.position) e (place text t a some false [] may)) (value_here more e i false []) (in_flow_is text t a some false [] ∙ o)
       (line_taken false [] (λ _. may) out allowed) (subst (λ r. HasNoKey text a.separation r t.held.position) e (unwaited some top o))
+      (subst (λ r. IsLookedAt (account_by text t a some false []) a.separation t.held.position r) e (looked_at text t a some lies false []))
 
   pair_told : (more : List ℕ) → t.rest ≡ 58 ∷ more → is_value t ≡ true → (k : Key) → top_key t.held.keys ≡ Some k → (pair : Bool) → opens_pair t.held.flow ≡ pair → (s : Held) → Faults (Told text) (begin_pair k t.held.position pair s)
   unfolding begin_pair
@@ -440,7 +448,7 @@ module _ (text : List ℕ) (t : ScannerState) (a : Arrives text t) (some : is_em
           (same_in_line h.position (blanks_and_comment more) [] (past_blanks_and_comment more) (line_rest_in_line more) ∙ ap (λ q. position_after q (blanks_and_comment more) (past_blanks_and_comment more)) place)
           (none.tab_after_colon more (blanks_and_comment more) (past_blanks_and_comment more) e tab
           (record { is_text = line_rest_cut more; is_filled = line_rest_fills more; is_on_line = same_has_break (blanks_and_comment more) ∙ ap not (line_rest_in_line more) })
-          (no_space (leading is_blank more) (tags.after is_blank more) lacks alpha) alpha)
+          (no_space (leading is_blank more) (tags.after is_blank more) lacks alpha) alpha) (λ c may. tt)
 
       checked_by : (b : Bool) (q : Position) (u : ScannerState) → (b ≡ true → Told text (At problem.TabAfterColon q)) → Faults (Told text) (if b then Err (At problem.TabAfterColon q) else Ok u)
       checked_by true q u why = fault {f = At problem.TabAfterColon q} (why refl)
@@ -499,7 +507,7 @@ module _ (text : List ℕ) (t : ScannerState) (a : Arrives text t) (some : is_em
   indicator_passed c more e is u h =
       spaces_told text Yes (skip_indicator u) (λ k.
       followed_at problem.CommentNotSeparated (past u.held.position) (further 1 t.held.position) [] (after u.rest) (ap past h.1)
-      (none.glued c more e is (ap (λ r. begins_with 35 (after r)) (sym e) ∙ (ap (λ r. begins_with 35 (after r)) (sym h.0) ∙ k))))
+      (none.glued c more e is (ap (λ r. begins_with 35 (after r)) (sym e) ∙ (ap (λ r. begins_with 35 (after r)) (sym h.0) ∙ k))) (λ c may. tt))
 
   begun_here : (kind : FlowLevel) → Holds (λ s. s.position ≡ t.held.position) (begin_flow kind t.held)
   unfolding begin_flow increase_flow_level
@@ -536,7 +544,7 @@ module _ (text : List ℕ) (t : ScannerState) (a : Arrives text t) (some : is_em
       let many : length t.held.flow ≡ length a.base.entries = many_levels t.held.key_allowed _ t.held.flow t.held.keys a.base.entries a.are_entries in
       let own = many_entries [] t.held.keys a.base.entries in
       let room : 255 ≤ length t.held.flow = grind (arith, nat_tests, full) in
-      may_not_stand (defs.too_deep bracket more e is (omega (arith, many, own, room))))) (λ _. goes)))
+      record { fails = may_not_stand (defs.too_deep bracket more e is (omega (arith, many, own, room))); is_first = looked_at text t a some lies c [] })) (λ _. goes)))
 
   pub opening_told : (kind : FlowLevel) (tok : Tok) (bracket : ℕ) (more : List ℕ) → t.rest ≡ bracket ∷ more → (bracket ≡ 91) ⊎ (bracket ≡ 123) → Faults (Told text) (fetch_flow_collection_start kind tok t)
   unfolding fetch_flow_collection_start

@@ -16,8 +16,9 @@ use Rattle.proof_scanner.specs.NoPiece as none
 use Rattle.proof_scanner.specs.QuotedLines as quoted_lines
 use Rattle.proof_scanner.specs.QuotedLines.{AreNotIndented, IsQuotedFault}
 use Rattle.proof_scanner.specs.NoPiece.{NoPiece, IsPlainFault, IsBlockFault, IsFollowed}
-use Rattle.proof_scanner.specs.Stuck as defs
-use Rattle.proof_scanner.specs.Stuck.{MayNotStand, Fails, HasNoKey, site_at_place, is_taken, is_value_here}
+use Rattle.proof_scanner.specs.Failing as defs
+use Rattle.proof_scanner.specs.Failing.{MayNotStand, Fails, site_at_place, is_taken, is_value_here}
+use Rattle.proof_scanner.specs.Stuck.{HasNoKey}
 use Rattle.proof_scanner.proofs.Refusals.OtherRows.{StepAt, RowAt, row_at}
 use Rattle.proof_scanner.proofs.Refusals.PiecesHere.{no_at_sign, no_backtick, no_percent, no_name, no_dash, no_bracket}
 use Rattle.proof_scanner.proofs.Refusals.PlainsRefused.{no_column, no_dash as no_plain_dash, no_tab}

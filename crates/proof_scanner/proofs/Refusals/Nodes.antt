@@ -29,22 +29,14 @@ use Rattle.proof_scanner.proofs.Cut.Pieces.Quoted.{some_chars}
 use Rattle.proof_scanner.specs.Arrives.{Arrives}
 use Rattle.proof_scanner.proofs.Sound.QuotedKeeps.{QuotedAs, quoted_as}
 use Rattle.proof_scanner.specs.NoPiece as none
-use Rattle.proof_scanner.specs.NoPiece.{NoPiece}
-use Rattle.proof_scanner.specs.Stuck.{IsStuck, no_piece}
+use Rattle.proof_scanner.specs.Stuck.{IsStuck}
 use Rattle.proof_scanner.proofs.Refusals.Faults.{Faults, goes, read, in_turn}
 use Rattle.proof_scanner.proofs.Refusals.QuotedLines.{is_of_lines}
 use Rattle.proof_scanner.proofs.Refusals.Quotes.{none_quoted, after_told, lines_told}
 use Rattle.proof_scanner.proofs.Refusals.TabsAfterQuoted.{tab_told}
-use Rattle.proof_scanner.proofs.Refusals.Places.{Told, stuck, in_flow_is}
+use Rattle.proof_scanner.proofs.Refusals.Places.{Told, LiesDeep, none_here}
 
-module _ (text : List ℕ) (t : ScannerState) (a : Arrives text t) (some : is_empty t.rest ≡ false) where
-  -- where no piece begins the text is stuck
-  pub none_begins : (why : Problem) (at : Position) → NoPiece (in_flow t.held) t.held.position t.rest why at → IsStuck text why at
-  none_begins why at n = stuck text t a some [] why at (λ c may. no_piece (subst (λ b. NoPiece b t.held.position t.rest why at) (sym (in_flow_is text t a some c [])) n))
-
-  pub none_here : (why : Problem) → NoPiece (in_flow t.held) t.held.position t.rest why t.held.position → IsStuck text why t.held.position
-  none_here why n = none_begins why t.held.position n
-
+module _ (text : List ℕ) (t : ScannerState) (a : Arrives text t) (some : is_empty t.rest ≡ false) (lies : LiesDeep t) where
   -- `*` or `&`
   pub name_told : (alias : Bool) (more : List ℕ) → t.rest ≡ (if alias then 42 else 38) ∷ more → Faults (Told text) (fetch_anchor alias t)
   unfolding fetch_anchor
@@ -52,7 +44,7 @@ module _ (text : List ℕ) (t : ScannerState) (a : Arrives text t) (some : is_em
     where
       by : (f : Fault) (x : Result (Read (List ℕ)) Fault) → x ≡ Err f → NameEndsAs t.held.position more x → Told text f
       by f x i (named name rest cut is ends j) = absurd (cc (i, j))
-      by f x i (nameless lacks j) = let same : At problem.AnchorName t.held.position ≡ f = cc (i, j) in subst (λ g. Told text g) same (λ _. none_here problem.AnchorName (none.nameless alias more e lacks))
+      by f x i (nameless lacks j) = let same : At problem.AnchorName t.held.position ≡ f = cc (i, j) in subst (λ g. Told text g) same (λ _. none_here text t a some lies problem.AnchorName (none.nameless alias more e lacks) tt)
 
   -- `!`
   pub tag_told : (more : List ℕ) → t.rest ≡ 33 ∷ more → Faults (Told text) (fetch_tag t)
@@ -63,7 +55,7 @@ module _ (text : List ℕ) (t : ScannerState) (a : Arrives text t) (some : is_em
     where
       by : (f : Fault) (x : Result (Read tags.Tag) Fault) → x ≡ Err f → TagEndsAs (in_flow t.held) t.held.position more x → Told text f
       by f x i (tag_ends.reads piece rest handle suffix cut is follows j) = absurd (cc (i, j))
-      by f x i (tag_ends.refuses why reason j) = let same : At why t.held.position ≡ f = cc (i, j) in subst (λ g. Told text g) same (λ _. none_here why (none.tagless more why e reason))
+      by f x i (tag_ends.refuses why reason j) = let same : At why t.held.position ≡ f = cc (i, j) in subst (λ g. Told text g) same (λ _. none_here text t a some lies why (none.tagless more why e reason) tt)
 
   -- `'` or `"`
   low_indent : (p : Position) (i : ℕ) → nat_lt (p.col + 1) i ≡ true → 2 ≤ i
@@ -79,9 +71,9 @@ module _ (text : List ℕ) (t : ScannerState) (a : Arrives text t) (some : is_em
   not_of_lines text why (quoted_ends.no_character c digits code r i j k l) = refl
 
   quoted_refused : (single : Bool) (more : List ℕ) → t.rest ≡ none.quote_of single ∷ more → (f : Fault) → quoted single (context (node_start t.held)) (none.quote_of single ∷ more) t.held.position ≡ Err f → IsQuotedRefusal single (context (node_start t.held)) t.held.position more f → (2 ≤ (node_start t.held).indent → is_of_lines f ≡ true → Told text f) → Told text f
-  quoted_refused single more e f fails (quoted_ends.by_marker body rest cut has marks) low = λ _. none_here problem.QuotedDocumentMarker (none.unquoted single more problem.QuotedDocumentMarker e (none_there single more e f fails refl) (none.by_marker body rest cut has marks))
-  quoted_refused single more e f fails (quoted_ends.by_end has) low = λ _. none_here problem.QuotedEnd (none.unquoted single more problem.QuotedEnd e (none_there single more e f fails refl) (none.by_end has))
-  quoted_refused single more e f fails (quoted_ends.by_escape body rest why double cut has bad) low = λ _. none_here why (none.unquoted single more why e (none_there single more e f fails (not_of_lines rest why bad)) (none.by_escape body rest why double cut has bad))
+  quoted_refused single more e f fails (quoted_ends.by_marker body rest cut has marks) low = λ _. none_here text t a some lies problem.QuotedDocumentMarker (none.unquoted single more problem.QuotedDocumentMarker e (none_there single more e f fails refl) (none.by_marker body rest cut has marks)) tt
+  quoted_refused single more e f fails (quoted_ends.by_end has) low = λ _. none_here text t a some lies problem.QuotedEnd (none.unquoted single more problem.QuotedEnd e (none_there single more e f fails refl) (none.by_end has)) tt
+  quoted_refused single more e f fails (quoted_ends.by_escape body rest why double cut has bad) low = λ _. none_here text t a some lies why (none.unquoted single more why e (none_there single more e f fails (not_of_lines rest why bad)) (none.by_escape body rest why double cut has bad)) tt
   quoted_refused single more e f fails (quoted_ends.by_column p left) low = low (low_indent p (node_start t.held).indent left) refl
   quoted_refused single more e f fails (quoted_ends.by_tab p left) low = low (low_indent p (node_start t.held).indent left) refl
 
@@ -92,7 +84,7 @@ module _ (text : List ℕ) (t : ScannerState) (a : Arrives text t) (some : is_em
       (λ f k.
       let fails : quoted single (context (node_start t.held)) (none.quote_of single ∷ more) t.held.position ≡ Err f = ap (λ r. quoted single (context (node_start t.held)) r t.held.position) (sym e) ∙ k in
       by f (quoted single (context (node_start t.held)) (none.quote_of single ∷ more) t.held.position) fails fails (scans_end single (context (node_start t.held)) more t.held.position (some_chars more clean)))
-      (λ x k. in_turn (after_told text t a some single (context (node_start t.held)) x (read_as x k)) (λ v i. in_turn (tab_told text t a some single (context (node_start t.held)) x (read_as x k) v i) (λ w j. goes)))
+      (λ x k. in_turn (after_told text t a some lies single (context (node_start t.held)) x (read_as x k)) (λ v i. in_turn (tab_told text t a some lies single (context (node_start t.held)) x (read_as x k) v i) (λ w j. goes)))
     where
       clean : has_no_nul more ≡ true
       clean = (and_parts (not (is_nul (none.quote_of single))) (has_no_nul more) (subst (λ r. has_no_nul r ≡ true) e a.is_clean)).1
@@ -108,4 +100,4 @@ module _ (text : List ℕ) (t : ScannerState) (a : Arrives text t) (some : is_em
           let same : g ≡ f = cc (i, j) in
           subst (λ h. Told text h) same
           (quoted_refused single more e g (fails ∙ ap (λ h. Err h) (sym same)) why (λ two told.
-          lines_told text t a some deep single (context (node_start t.held)) more (ap (λ h. h.indent) (saved_is t.held)) two e clean g (fails ∙ ap (λ h. Err h) (sym same)) told))
+          lines_told text t a some lies deep single (context (node_start t.held)) more (ap (λ h. h.indent) (saved_is t.held)) two e clean g (fails ∙ ap (λ h. Err h) (sym same)) told))

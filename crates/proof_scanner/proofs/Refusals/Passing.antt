@@ -24,8 +24,9 @@ use Rattle.proof_scanner.specs.StandsInRow.{Stands}
 use Rattle.proof_scanner.proofs.Sound.Passed.{least_is}
 use Rattle.proof_scanner.proofs.Sound.Stales.{no_entries}
 use Rattle.proof_scanner.proofs.Sound.ToToken.{is_in}
-use Rattle.proof_scanner.specs.Stuck as defs
-use Rattle.proof_scanner.specs.Stuck.{IsStuck, fails, key_waits, may_not_stand}
+use Rattle.proof_scanner.specs.Failing as defs
+use Rattle.proof_scanner.specs.Failing.{may_not_stand}
+use Rattle.proof_scanner.specs.Stuck.{IsStuck, fails, key_waits}
 use Rattle.defs_token.specs.Beginning.{BeginsButForKey}
 use Rattle.proof_scanner.proofs.Sound.StreamEnds.{same_flow}
 use Rattle.proof_scanner.proofs.Refusals.Faults.{Faults, fault, goes}
@@ -104,7 +105,7 @@ module _ (text : List ℕ) (t : ScannerState) (s : Stands text t) (near : HasNea
       }
 
       by : Where (outside_key s.base.entries t.held.keys) t.held.position t.rest → IsStuck text problem.TabInBlockIndentation here
-      by (placed c may) = fails (chosen c [] t.held.keys s.base) (s.separation ++ d.passed) d.rest problem.TabInBlockIndentation here here (place c may) d.goes_on d.is_solid (may_not_stand (defs.tab_indents d.is_indented_by_tab))
+      by (placed c may) = fails (chosen c [] t.held.keys s.base) (s.separation ++ d.passed) d.rest problem.TabInBlockIndentation here here (place c may) d.goes_on d.is_solid (record { fails = may_not_stand (defs.tab_indents d.is_indented_by_tab); is_first = tt })
       by (behind x e must late) = on (is_empty t.held.flow) refl
         where
           on : (out : Bool) → is_empty t.held.flow ≡ out → IsStuck text problem.TabInBlockIndentation here
@@ -116,7 +117,7 @@ module _ (text : List ℕ) (t : ScannerState) (s : Stands text t) (near : HasNea
               let inside : is_empty s.base.entries ≡ false = sym (same_flow t.held.key_allowed (is_renewed s.base.site.before s.separation) t.held.flow t.held.keys s.base.entries s.are_entries) ∙ i in
               key_waits (chosen false [] t.held.keys s.base) (s.separation ++ d.passed) d.rest problem.TabInBlockIndentation x.position here here
               (subst (λ r. BeginsButForKey text r x.position (chosen false [] t.held.keys s.base)) (ap (λ r. s.separation ++ r) d.cut ∙ sym (append_assoc s.separation d.passed d.rest)) (s.carries [] x e must inside d.is_some))
-              (ap not (entries_alike [] t.held.keys s.base.entries ∙ inside)) filled here_is (omega (arith, later, late)) d.goes_on d.is_solid (may_not_stand (defs.tab_indents d.is_indented_by_tab))
+              (ap not (entries_alike [] t.held.keys s.base.entries ∙ inside)) filled here_is (omega (arith, later, late)) d.goes_on d.is_solid (record { fails = may_not_stand (defs.tab_indents d.is_indented_by_tab); is_first = tt })
 
   pub passing_told : Faults (Told text) (skip_to_next_token t)
   passing_told =

@@ -32,7 +32,7 @@ use Rattle.proof_scanner.proofs.Sound.QuotedEnds.{blanks_alone, after_blanks}
 use Rattle.proof_row.proofs.Accounts.{same_flow}
 use Rattle.proof_row.proofs.Written.{At, same_piece}
 use Rattle.proof_scanner.specs.NoPiece.{GoesOn, IsQuoted}
-use Rattle.proof_scanner.specs.Stuck.{site_at_place, begins_document_at}
+use Rattle.proof_scanner.specs.Failing.{site_at_place, begins_document_at}
 use Rattle.proof_scanner.proofs.Refusals.OtherRows.{StepAt}
 
 pub refused : (x : Option Account) (b : Bool) (ws : List Step) (stop : Stop) → b ≡ false → LeadsTo (if b then x else None) ws stop → ⊥

@@ -1,11 +1,11 @@
 -- Where a piece begins, a row of the text may begin with all pieces before it; or a node which must be an implicit key waits there, and its line has ended.
-use Rattle.std.proofs.Common.{◌≡◌, ℕ, suc, ◌<◌, List, [], ◌∷◌, Bool, true, false, not, length, if◌then◌else◌, Option, Some, None, Ok, Err, refl, ap, sym, ◌∙◌, subst, arith}
+use Rattle.std.proofs.Common.{◌≡◌, ℕ, suc, ◌-◌, ◌<◌, List, [], ◌∷◌, Bool, true, false, not, ◌||◌, nat_le, length, if◌then◌else◌, Option, Some, None, Ok, Err, refl, ap, sym, ◌∙◌, subst, arith}
 use Rattle.std.specs.Prelude.{nat_lt}
 use Rattle.std.proofs.lemmas.Bool.Decides.{nat_tests}
 use Rattle.defs_text.specs.Position.{Position}
 use Rattle.defs_text.specs.Text.{is_empty}
 use Rattle.defs_token.specs.FlowEntry.{Entry}
-use Rattle.defs_token.specs.RowAccount.{Account, is_in_flow}
+use Rattle.defs_token.specs.RowAccount.{Account, is_in_flow, site_in}
 use Rattle.defs_token.specs.Beginning.{IsPlace}
 use Rattle.yaml_tokens.specs.declared.problem.Problem.{Problem}
 use Rattle.yaml_tokens.specs.declared.problem.Fault.{Fault}
@@ -17,8 +17,15 @@ use Rattle.proof_scanner.specs.Arrives.{Arrives, IsNear}
 use Rattle.proof_scanner.specs.StandsInRow.{AreAround, AreEntries}
 use Rattle.proof_scanner.proofs.Sound.StreamEnds.{same_flow}
 use Rattle.proof_scanner.proofs.Refusals.Faults.{Faults, fault, goes}
-use Rattle.proof_scanner.specs.NoPiece.{IsFollowed}
-use Rattle.proof_scanner.specs.Stuck.{Fails, IsStuck, fails, followed, key_waits}
+use Rattle.proof_scanner.specs.NoPiece.{NoPiece, IsFollowed}
+use Rattle.proof_scanner.specs.StandsInRow.{columns, has_open_level}
+use Rattle.defs_token.specs.Step.{gives_node}
+use Rattle.defs_token.specs.Indentation.{least_column}
+use Rattle.proof_scanner.proofs.Cut.Nodes.{IsDeep}
+use Rattle.proof_scanner.proofs.Sound.QuotedKeeps.{least_is_less}
+use Rattle.proof_scanner.specs.Failing.{no_piece, followed, site_at_place, begins_document_at, is_taken}
+use Rattle.proof_scanner.specs.First.{IsLookedAt, FailsFirst, no_piece_first, followed_first, least_here, is_full}
+use Rattle.proof_scanner.specs.Stuck.{IsStuck, fails, key_waits}
 use Rattle.proof_scanner.specs.Told.{is_told}
 
 -- A place where the choice of keys is allowed, or a key that must be one and began on an earlier line.
@@ -81,7 +88,7 @@ module _ (text : List ℕ) (t : ScannerState) (a : Arrives text t) (some : is_em
   IsAllowed c = is_empty t.held.flow ≡ true → MayChoose c (outside_key a.base.entries t.held.keys) t.held.position t.rest
 
   -- What fails here, whatever is chosen, is what the text is stuck by.
-  pub stuck : (cs : List Bool) (why : Problem) (at : Position) → ((c : Bool) → IsAllowed c → Fails (account_by c cs) a.separation t.held.position t.rest why at) → IsStuck text why at
+  pub stuck : (cs : List Bool) (why : Problem) (at : Position) → ((c : Bool) → IsAllowed c → FailsFirst (account_by c cs) a.separation t.held.position t.rest why at) → IsStuck text why at
   stuck cs why at h = by (where_is (outside_key a.base.entries t.held.keys) t.held.position t.rest some)
     where
       by : Where (outside_key a.base.entries t.held.keys) t.held.position t.rest → IsStuck text why at
@@ -94,6 +101,62 @@ module _ (text : List ℕ) (t : ScannerState) (a : Arrives text t) (some : is_em
               let entries : is_empty a.base.entries ≡ false = sym (same_flow t.held.key_allowed _ t.held.flow t.held.keys a.base.entries a.are_entries) ∙ i in
               key_waits (account_by false cs) a.separation t.rest why x.position t.held.position at (a.carries cs x e must entries some) (in_flow_is false cs ∙ ap not i) a.is_filled a.position_is late some a.is_solid (h false (λ o. absurd (cc (o, i))))
 
+-- what comes lies deep enough, unless it is a line for the document
+abbrev pub LiesDeep : ScannerState → Type 0
+LiesDeep t = begins_document_at t.held.position t.rest ≡ false → IsDeep t.held
+
+module _ (text : List ℕ) (t : ScannerState) (a : Arrives text t) (some : is_empty t.rest ≡ false) where
+  -- the block collections and what is awaited at a place
+  pub blocks_by : (c : Bool) (cs : List Bool) → (site_at_place (account_by text t a some c cs) t.held.position).blocks ≡ columns t.held.indent t.held.indents
+  blocks_by c cs = ap (λ b. (site_in b gives_node t.held.position a.base.site).blocks) (in_flow_is text t a some c cs) ∙ a.blocks_are
+
+  pub awaits_by : (c : Bool) (cs : List Bool) → (site_at_place (account_by text t a some c cs) t.held.position).awaits ≡ has_open_level t.held.indents
+  awaits_by c cs = ap (λ b. (site_in b gives_node t.held.position a.base.site).awaits) (in_flow_is text t a some c cs) ∙ a.awaits_is
+
+  -- the least column there
+  pub least_by : (c : Bool) (cs : List Bool) → least_here (account_by text t a some c cs) t.held.position ≡ t.held.indent - 1
+  least_by c cs =
+      ap (λ bs. least_column bs (site_at_place (account_by text t a some c cs) t.held.position).awaits) (blocks_by c cs) ∙
+      (ap (λ w. least_column (columns t.held.indent t.held.indents) w) (awaits_by c cs) ∙ least_is_less t.held.indent t.held.indents a.are_levels)
+
+module _ (text : List ℕ) (t : ScannerState) (a : Arrives text t) (some : is_empty t.rest ≡ false) (deep : LiesDeep t) where
+  -- a piece is looked at here, whatever is chosen
+  pub looked_at : (c : Bool) (cs : List Bool) → IsLookedAt (account_by text t a some c cs) a.separation t.held.position t.rest
+  looked_at c cs = record { has_no_tab = a.is_indented some; is_deep = by (begins_document_at t.held.position t.rest) refl }
+    where
+      low : IsDeep t.held → nat_le (least_here (account_by text t a some c cs) t.held.position) t.held.position.col ≡ true
+      low d = let l = least_by text t a some c cs in grind (arith, nat_tests, l, d)
+
+      or_last : (x y : Bool) → y ≡ true → (x || y) ≡ true
+      or_last true y e = refl
+      or_last false y e = e
+
+      or_first : (x y : Bool) → x ≡ true → (x || y) ≡ true
+      or_first true y e = refl
+      or_first false y e = absurd (cc e)
+
+      by : (b : Bool) → begins_document_at t.held.position t.rest ≡ b → (not (is_in_flow (account_by text t a some c cs).entries) || b || nat_le (least_here (account_by text t a some c cs) t.held.position) t.held.position.col) ≡ true
+      by true e = or_first (not (is_in_flow (account_by text t a some c cs).entries) || true) (nat_le (least_here (account_by text t a some c cs) t.held.position) t.held.position.col) (or_last (not (is_in_flow (account_by text t a some c cs).entries)) true refl)
+      by false e = or_last (not (is_in_flow (account_by text t a some c cs).entries) || false) (nat_le (least_here (account_by text t a some c cs) t.held.position) t.held.position.col) (low (deep e))
+
+  -- where no piece begins the text is stuck
+  pub none_begins : (why : Problem) (at : Position) (n : NoPiece (in_flow t.held) t.held.position t.rest why at) → no_piece_first (in_flow t.held) (t.held.indent - 1) t.held.position t.rest why at n → IsStuck text why at
+  none_begins why at n first =
+      stuck text t a some [] why at (λ c may.
+      let P : Bool → ℕ → Type 0 = λ b k. (x : NoPiece b t.held.position t.rest why at) × no_piece_first b k t.held.position t.rest why at x in
+      let moved : P (is_in_flow (account_by text t a some c []).entries) (least_here (account_by text t a some c []) t.held.position) =
+      subst (λ k. P (is_in_flow (account_by text t a some c []).entries) k) (sym (least_by text t a some c [])) (subst (λ b. P b (t.held.indent - 1)) (sym (in_flow_is text t a some c [])) (n, first)) in
+      record { fails = no_piece moved.0; is_first = (looked_at c [], moved.1) })
+
+  pub none_here : (why : Problem) (n : NoPiece (in_flow t.held) t.held.position t.rest why t.held.position) → no_piece_first (in_flow t.held) (t.held.indent - 1) t.held.position t.rest why t.held.position n → IsStuck text why t.held.position
+  none_here why n first = none_begins why t.held.position n first
+
   -- what follows the piece that begins here is what the text is stuck by
-  pub followed_stuck : (why : Problem) (at : Position) → IsFollowed (in_flow t.held) t.held.position t.rest why at → IsStuck text why at
-  followed_stuck why at x = stuck [] why at (λ c may. followed (subst (λ b. IsFollowed b t.held.position t.rest why at) (sym (in_flow_is c [])) x))
+  pub followed_stuck : (why : Problem) (at : Position) (x : IsFollowed (in_flow t.held) t.held.position t.rest why at)
+      → ((c : Bool) → IsAllowed text t a some c → followed_first (in_flow t.held) (t.held.indent - 1) (is_taken (account_by text t a some c []) a.separation) (is_full (account_by text t a some c [])) t.held.position t.rest why at x) → IsStuck text why at
+  followed_stuck why at x first =
+      stuck text t a some [] why at (λ c may.
+      let b : Account = account_by text t a some c [] in
+      let P : Bool → ℕ → Type 0 = λ f k. (y : IsFollowed f t.held.position t.rest why at) × followed_first f k (is_taken b a.separation) (is_full b) t.held.position t.rest why at y in
+      let moved : P (is_in_flow b.entries) (least_here b t.held.position) = subst (λ k. P (is_in_flow b.entries) k) (sym (least_by text t a some c [])) (subst (λ f. P f (t.held.indent - 1)) (sym (in_flow_is text t a some c [])) (x, first c may)) in
+      record { fails = followed moved.0; is_first = (looked_at c [], moved.1) })

@@ -32,9 +32,12 @@ use Rattle.proof_scanner.specs.StandsInRow.{columns}
 use Rattle.proof_scanner.proofs.Sound.WithoutOpen.{AreClosed, without_is}
 use Rattle.proof_scanner.specs.NoPiece as none
 use Rattle.proof_scanner.specs.NoPiece.{IsPlainFault, goes_over}
-use Rattle.proof_scanner.specs.Stuck.{IsStuck, no_plain, site_at_place}
+use Rattle.proof_scanner.specs.Failing.{no_plain, site_at_place}
+use Rattle.proof_scanner.specs.Stuck.{IsStuck}
 use Rattle.proof_scanner.proofs.Refusals.Faults.{Faults, goes, read}
-use Rattle.proof_scanner.proofs.Refusals.Places.{Told, account_by, stuck, in_flow_is}
+use Rattle.proof_scanner.specs.First.{IsLookedAt}
+use Rattle.proof_scanner.specs.FirstPlain.{plain_first}
+use Rattle.proof_scanner.proofs.Refusals.Places.{Told, LiesDeep, account_by, stuck, in_flow_is, blocks_by, looked_at}
 
 -- ---- texts
 
@@ -52,7 +55,7 @@ solid_text (c ∷ r) some h = by (plains.is_white c) h
 
 -- ---- the scan
 
-module _ (text : List ℕ) (t : ScannerState) (a : Arrives text t) (some : is_empty t.rest ≡ false) (deep : IsDeep t.held)
+module _ (text : List ℕ) (t : ScannerState) (a : Arrives text t) (some : is_empty t.rest ≡ false) (lies : LiesDeep t) (deep : IsDeep t.held)
     (comes : comes_plain (in_flow t.held) (is_adjacent (before_past (before_by a.base.site.before) a.separation)) t.held.position.col t.rest ≡ true) where
   abbrev blocks : List ℕ
   blocks = columns t.held.indent t.held.indents
@@ -71,25 +74,28 @@ module _ (text : List ℕ) (t : ScannerState) (a : Arrives text t) (some : is_em
   collection_is = closed.is_least.0 ∙ ap innermost (sym closed.same_columns)
 
   -- the plain scalar that begins here is none
-  plain_stuck : (why : Problem) (at : Position) → IsPlainFault (in_flow t.held) blocks t.held.position t.rest why at → IsStuck text why at
-  plain_stuck why at x =
+  plain_stuck : (why : Problem) (at : Position) (x : IsPlainFault (in_flow t.held) blocks t.held.position t.rest why at) → plain_first (in_flow t.held) blocks t.held.position t.rest why at x → IsStuck text why at
+  plain_stuck why at x first =
       stuck text t a some [] why at (λ c may.
+      let P : Bool → List ℕ → Type 0 = λ b bs. (y : IsPlainFault b bs t.held.position t.rest why at) × plain_first b bs t.held.position t.rest why at y in
       let flow_is = in_flow_is text t a some c [] in
-      let blocks_are : (site_at_place (account_by text t a some c []) t.held.position).blocks ≡ blocks = ap (λ b. (site_in b gives_node t.held.position a.base.site).blocks) flow_is ∙ a.blocks_are in
-      no_plain (subst (λ b. comes_plain b (is_adjacent (before_past (before_by a.base.site.before) a.separation)) t.held.position.col t.rest ≡ true) (sym flow_is) comes)
-      (subst (λ bs. IsPlainFault (is_in_flow (account_by text t a some c []).entries) bs t.held.position t.rest why at) (sym blocks_are)
-      (subst (λ b. IsPlainFault b blocks t.held.position t.rest why at) (sym flow_is) x)))
+      let moved : P (is_in_flow (account_by text t a some c []).entries) (site_at_place (account_by text t a some c []) t.held.position).blocks =
+      subst (λ bs. P (is_in_flow (account_by text t a some c []).entries) bs) (sym (blocks_by text t a some c [])) (subst (λ b. P b blocks) (sym flow_is) (x, first)) in
+      record {
+        fails = no_plain (subst (λ b. comes_plain b (is_adjacent (before_past (before_by a.base.site.before) a.separation)) t.held.position.col t.rest ≡ true) (sym flow_is) comes) moved.0;
+        is_first = (looked_at text t a some lies c [], moved.1);
+      })
 
   refused : (f : Fault) → IsPlainRefusal ctx t.held.position t.rest f → Told text f
   refused f (plains.by_column flow left) =
       let shallow : nat_le (least_column blocks true) t.held.position.col ≡ false = grind (arith, nat_tests, least_is, left) in
-      λ _. plain_stuck problem.FlowIndentation t.held.position (none.by_column flow shallow)
+      λ _. plain_stuck problem.FlowIndentation t.held.position (none.by_column flow shallow) tt
   refused f (plains.by_dash before rest flow cut begins over apart) =
       λ _. plain_stuck problem.PlainDashInFlow (position_after t.held.position before (45 ∷ rest))
-      (none.by_dash before rest flow cut begins (over_alike ctx (innermost blocks) before (45 ∷ rest) collection_is over) apart)
+      (none.by_dash before rest flow cut begins (over_alike ctx (innermost blocks) before (45 ∷ rest) collection_is over) apart) tt
   refused f (plains.by_tab before blanks rest column cut over stands left are solid) =
       λ _. plain_stuck problem.PlainTab t.held.position
-      (none.by_tab before blanks rest column cut (over_alike ctx (innermost blocks) before (9 ∷ (blanks ++ rest)) collection_is over) stands (subst (λ n. nat_lt column n ≡ true) (sym least_is) left) are solid)
+      (none.by_tab before blanks rest column cut (over_alike ctx (innermost blocks) before (9 ∷ (blanks ++ rest)) collection_is over) stands (subst (λ n. nat_lt column n ≡ true) (sym least_is) left) are solid) tt
 
   pub plain_told : Faults (Told text) (fetch_plain_scalar t)
   unfolding fetch_plain_scalar unroll_non_block_indents

@@ -34,7 +34,7 @@ use Rattle.proof_scanner.proofs.Complete.Nodes.Plains.{Gap, gap_of, after_gap, g
 use Rattle.proof_scanner.proofs.Complete.Nodes.PlainScans.{stops_after, stand_over, stand_content}
 use Rattle.proof_scanner.proofs.Complete.Nodes.PlainTexts.{IsClearGap, plain_tabs}
 use Rattle.proof_scanner.specs.NoPiece.{goes_over}
-use Rattle.proof_scanner.specs.Stuck.{site_at_place}
+use Rattle.proof_scanner.specs.Failing.{site_at_place}
 use Rattle.proof_scanner.proofs.Refusals.OtherRows.{StepAt}
 use Rattle.proof_scanner.proofs.Refusals.PiecesHere.{acct, whole_at}
 use Rattle.proof_scanner.proofs.Refusals.PiecesRefused.{innermost_seen}

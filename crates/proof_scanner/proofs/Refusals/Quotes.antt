@@ -40,13 +40,16 @@ use Rattle.proof_scanner.proofs.Complete.Scalars.AfterQuoted.{check_passes}
 use Rattle.proof_scanner.proofs.Complete.Scalars.Bodies.{quoted_scanned}
 use Rattle.proof_scanner.specs.NoPiece as none
 use Rattle.proof_scanner.specs.NoPiece.{IsQuoted}
-use Rattle.proof_scanner.specs.Stuck.{IsStuck, no_quoted, site_at_place}
+use Rattle.proof_scanner.specs.Failing.{no_quoted, site_at_place}
+use Rattle.proof_scanner.specs.Stuck.{IsStuck}
 use Rattle.proof_scanner.specs.QuotedLines as lines
 use Rattle.proof_scanner.specs.QuotedLines.{AreNotIndented, IsQuotedFault}
 use Rattle.proof_scanner.proofs.Refusals.QuotedLines.{past_char, is_of_lines, Refuses, for_column, for_tab, quoted_refuses}
 use Rattle.proof_scanner.proofs.Refusals.Faults.{Faults, fault, goes, in_turn}
 use Rattle.proof_scanner.proofs.Refusals.Spaces.{spaces_told, solid_past}
-use Rattle.proof_scanner.proofs.Refusals.Places.{Told, account_by, stuck, in_flow_is, followed_stuck}
+use Rattle.proof_scanner.specs.First.{least_here}
+use Rattle.proof_scanner.specs.FirstQuoted.{lines_first}
+use Rattle.proof_scanner.proofs.Refusals.Places.{Told, LiesDeep, account_by, stuck, least_by, looked_at, followed_stuck}
 
 -- ---- texts
 
@@ -110,7 +113,7 @@ none_quoted single ctx more p f fails other piece next cut is = by b (quoted sin
 
 -- ---- the check
 
-module _ (text : List ℕ) (t : ScannerState) (a : Arrives text t) (some : is_empty t.rest ≡ false) (single : Bool) (ctx : Context) (x : Read (List ℕ)) (q : QuotedAs single ctx t.held.position t.rest x) where
+module _ (text : List ℕ) (t : ScannerState) (a : Arrives text t) (some : is_empty t.rest ≡ false) (lies : LiesDeep t) (single : Bool) (ctx : Context) (x : Read (List ℕ)) (q : QuotedAs single ctx t.held.position t.rest x) where
   -- after the closing quote
   abbrev pub closed : ScannerState
   closed = on_held unled (go_on x (node_start t.held))
@@ -128,7 +131,7 @@ module _ (text : List ℕ) (t : ScannerState) (a : Arrives text t) (some : is_em
   glued : begins_with 35 x.rest ≡ true → Told text (At problem.CommentNotSeparated x.position)
   glued h =
       λ _. subst (λ p. IsStuck text problem.CommentNotSeparated p) (sym q.end_is)
-      (followed_stuck text t a some problem.CommentNotSeparated (position_after t.held.position piece x.rest) (none.glued_to_quoted single piece x.rest q.cut is h))
+      (followed_stuck text t a some lies problem.CommentNotSeparated (position_after t.held.position piece x.rest) (none.glued_to_quoted single piece x.rest q.cut is h) (λ c may. tt))
 
   refuses : (v : ScannerState) → skip_spaces Yes closed ≡ Ok v → may_follow_quoted (in_flow v.held) (t.held.position.line == v.held.position.line) (peek v.rest) ≡ false
       → check_after_quoted t.held.position.line closed ≡ Err (At problem.ContentAfterQuoted v.held.position)
@@ -149,9 +152,9 @@ module _ (text : List ℕ) (t : ScannerState) (a : Arrives text t) (some : is_em
       let passed : List ℕ = s.blanks ++ s.comment in
       let place : v.held.position ≡ position_after end passed v.rest = ap (λ h. h.position) s.is_held ∙ ap (λ p. position_after p passed v.rest) q.end_is in
       λ _. subst (λ p. IsStuck text problem.ContentAfterQuoted p) (sym place)
-      (followed_stuck text t a some problem.ContentAfterQuoted (position_after end passed v.rest)
+      (followed_stuck text t a some lies problem.ContentAfterQuoted (position_after end passed v.rest)
       (none.after_quoted single piece x.rest passed v.rest q.cut is (may_not_end v e n) (record { is_text = s.is_rest ∙ sym (append_assoc s.blanks s.comment v.rest); is_filled = s.is_filled; is_on_line = s.no_break })
-      (solid_left (in_flow v.held) (t.held.position.line == v.held.position.line) v.rest s.ends n)))
+      (solid_left (in_flow v.held) (t.held.position.line == v.held.position.line) v.rest s.ends n)) (λ c may. tt))
 
   pub after_told : Faults (Told text) (check_after_quoted t.held.position.line closed)
   unfolding check_after_quoted
@@ -169,20 +172,17 @@ unfolding model_classes.is_break
 unbroken true = refl
 unbroken false = refl
 
-module _ (text : List ℕ) (t : ScannerState) (a : Arrives text t) (some : is_empty t.rest ≡ false) where
+module _ (text : List ℕ) (t : ScannerState) (a : Arrives text t) (some : is_empty t.rest ≡ false) (lies : LiesDeep t) where
   abbrev here : Position
   here = t.held.position
 
-  -- the least column at a place
-  least_is : (c : Bool) → least_column (site_at_place (account_by text t a some c []) here).blocks (site_at_place (account_by text t a some c []) here).awaits ≡ t.held.indent - 1
-  least_is c =
-      let s : Site = site_here (in_flow t.held) here a.base.site in
-      ap (λ b. least_column (site_in b gives_node here a.base.site).blocks (site_in b gives_node here a.base.site).awaits) (in_flow_is text t a some c []) ∙
-      (ap (λ bs. least_column bs s.awaits) a.blocks_are ∙ (ap (λ w. least_column (columns t.held.indent t.held.indents) w) a.awaits_is ∙ least_is_less t.held.indent t.held.indents a.are_levels))
-
   -- the quoted scalar that begins here is none
-  lines_stuck : (single : Bool) (why : Problem) (at : Position) → AreNotIndented single (t.held.indent - 1) t.rest → IsQuotedFault single (t.held.indent - 1) here t.rest why at → IsStuck text why at
-  lines_stuck single why at none_fits x = stuck text t a some [] why at (λ c may. no_quoted single (subst (λ n. AreNotIndented single n t.rest) (sym (least_is c)) none_fits) (subst (λ n. IsQuotedFault single n here t.rest why at) (sym (least_is c)) x))
+  lines_stuck : (single : Bool) (why : Problem) (at : Position) → AreNotIndented single (t.held.indent - 1) t.rest → (x : IsQuotedFault single (t.held.indent - 1) here t.rest why at) → lines_first single (t.held.indent - 1) here t.rest why at x → IsStuck text why at
+  lines_stuck single why at none_fits x first =
+      stuck text t a some [] why at (λ c may.
+      let P : ℕ → Type 0 = λ n. (y : IsQuotedFault single n here t.rest why at) × lines_first single n here t.rest why at y in
+      let moved : P (least_here (account_by text t a some c []) here) = subst P (sym (least_by text t a some c [])) (x, first) in
+      record { fails = no_quoted single (subst (λ n. AreNotIndented single n t.rest) (sym (least_by text t a some c [])) none_fits) moved.0; is_first = (looked_at text t a some lies c [], moved.1) })
 
   pub lines_told : IsDeep t.held → (single : Bool) (ctx : Context) (more : List ℕ) → ctx.indent ≡ t.held.indent → 2 ≤ ctx.indent → t.rest ≡ none.quote_of single ∷ more → has_no_nul more ≡ true → (f : Fault) → quoted single ctx (none.quote_of single ∷ more) here ≡ Err f → is_of_lines f ≡ true → Told text f
   lines_told deep single ctx more same two e clean f k told = by f (quoted_refuses single ctx here two more (omega (arith, deep, same)) (some_chars more clean) f k told)
@@ -213,9 +213,9 @@ module _ (text : List ℕ) (t : ScannerState) (a : Arrives text t) (some : is_em
       by f (for_column body rest es cut has solid further low) =
           λ _. lines_stuck single problem.QuotedIndentation here none_fits
           (lines.by_column body rest es (e ∙ ap (λ r. none.quote_of single ∷ r) cut) has solid further
-          (ap (λ (q : Position). nat_lt q.col (t.held.indent - 1)) (place body rest) ∙ low_by (position_after (past here) body rest) low))
+          (ap (λ (q : Position). nat_lt q.col (t.held.indent - 1)) (place body rest) ∙ low_by (position_after (past here) body rest) low)) tt
       by f (for_tab body rest es q cut has further at low) =
           let at_text : q ≡ position_after here (none.quote_of single ∷ body) (tab ∷ rest) = at ∙ sym (place body (tab ∷ rest)) in
           λ _. subst (λ z. IsStuck text problem.TabAsIndentation z) (sym at_text)
           (lines_stuck single problem.TabAsIndentation (position_after here (none.quote_of single ∷ body) (tab ∷ rest)) none_fits
-          (lines.by_tab body rest es (e ∙ ap (λ r. none.quote_of single ∷ r) cut) has further (ap (λ (z : Position). nat_lt z.col (t.held.indent - 1)) (sym at_text) ∙ low_by q low)))
+          (lines.by_tab body rest es (e ∙ ap (λ r. none.quote_of single ∷ r) cut) has further (ap (λ (z : Position). nat_lt z.col (t.held.indent - 1)) (sym at_text) ∙ low_by q low)) tt)

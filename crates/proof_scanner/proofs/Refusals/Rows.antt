@@ -12,7 +12,7 @@ use Rattle.proof_lexers.specs.TagEnds.{IsTagRefusal}
 use Rattle.proof_lexers.proofs.Properties.TagReads.{tags_are_read}
 use Rattle.proof_scanner.specs.NoPiece as none
 use Rattle.proof_scanner.specs.NoPiece.{IsNoHeader}
-use Rattle.proof_scanner.specs.Stuck.{is_value_here}
+use Rattle.proof_scanner.specs.Failing.{is_value_here}
 use Rattle.proof_scanner.proofs.Refusals.TextsRefused.{refusal_fails}
 
 -- no reason refuses the text after a `!` where a tag stands

@@ -34,7 +34,7 @@ use Rattle.proof_scanner.specs.Ways.{Stop, spelled_to, LeadsTo}
 use Rattle.proof_scanner.proofs.Complete.Nodes.Past.{NodePast, node_past}
 use Rattle.proof_scanner.proofs.Complete.Steps.{ends_before, step_here}
 use Rattle.proof_scanner.specs.NoPiece.{GoesOn, IsQuoted, is_flow_indicator}
-use Rattle.proof_scanner.specs.Stuck.{site_at_place, is_taken_line, is_taken, is_value_here}
+use Rattle.proof_scanner.specs.Failing.{site_at_place, is_taken_line, is_taken, is_value_here}
 use Rattle.proof_scanner.proofs.Refusals.OtherRows.{StepAt}
 use Rattle.proof_scanner.proofs.Refusals.PiecesHere.{acct, whole_by, rest_of}
 use Rattle.proof_scanner.proofs.Refusals.PiecesRefused.{refused, and_last, same_step, no_step, not_nothing}

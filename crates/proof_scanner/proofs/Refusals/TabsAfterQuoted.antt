@@ -25,19 +25,20 @@ use Rattle.proof_scanner.proofs.Sound.QuotedEnds.{Checked, quoted_checked}
 use Rattle.proof_scanner.proofs.Sound.QuotedKeeps.{QuotedAs, in_line}
 use Rattle.proof_scanner.proofs.Sound.Skips.{IsLeast, IsIn}
 use Rattle.proof_scanner.specs.NoPiece.{IsQuoted}
-use Rattle.proof_scanner.specs.Stuck as defs
-use Rattle.proof_scanner.specs.Stuck.{IsStuck, may_not_stand, site_at_place}
+use Rattle.proof_scanner.specs.Failing as defs
+use Rattle.proof_scanner.specs.Failing.{may_not_stand, site_at_place}
+use Rattle.proof_scanner.specs.Stuck.{IsStuck}
 use Rattle.proof_scanner.proofs.Refusals.Faults.{Faults, fault, goes}
-use Rattle.proof_scanner.proofs.Refusals.Places.{Told, account_by, stuck, in_flow_is}
+use Rattle.proof_scanner.proofs.Refusals.Places.{Told, LiesDeep, account_by, stuck, blocks_by, awaits_by, looked_at}
 use Rattle.proof_scanner.proofs.Refusals.Quotes.{closed, piece, is}
 use Rattle.proof_scanner.proofs.Refusals.Tabs.{TabStands, skip_refused}
 
-module _ (text : List ℕ) (t : ScannerState) (a : Arrives text t) (some : is_empty t.rest ≡ false) (single : Bool) (ctx : Context) (x : Read (List ℕ)) (q : QuotedAs single ctx t.held.position t.rest x) where
+module _ (text : List ℕ) (t : ScannerState) (a : Arrives text t) (some : is_empty t.rest ≡ false) (lies : LiesDeep t) (single : Bool) (ctx : Context) (x : Read (List ℕ)) (q : QuotedAs single ctx t.held.position t.rest x) where
   abbrev own : ScannerState
-  own = closed text t a some single ctx x q
+  own = closed text t a some lies single ctx x q
 
   abbrev scalar : List ℕ
-  scalar = piece text t a some single ctx x q
+  scalar = piece text t a some lies single ctx x q
 
   abbrev blocks : List ℕ
   blocks = columns t.held.indent t.held.indents
@@ -66,12 +67,12 @@ module _ (text : List ℕ) (t : ScannerState) (a : Arrives text t) (some : is_em
     tab_stuck d =
         subst (λ g. Told text g) (sym d.is_fault) (λ _. subst (λ p. IsStuck text problem.TabInBlockIndentation p) (sym place)
         (stuck text t a some [] problem.TabInBlockIndentation (position_after end gap d.rest) (λ k may.
-        let flow_is = in_flow_is text t a some k [] in
-        let blocks_are : (site_at_place (account_by text t a some k []) t.held.position).blocks ≡ blocks = ap (λ b. (site_in b gives_node t.held.position a.base.site).blocks) flow_is ∙ a.blocks_are in
-        let awaits_is : (site_at_place (account_by text t a some k []) t.held.position).awaits ≡ awaits = ap (λ b. (site_in b gives_node t.held.position a.base.site).awaits) flow_is ∙ a.awaits_is in
-        may_not_stand (defs.tab_after_quoted single scalar gap d.rest whole (subst (λ r. defs_quoted r) cut (is text t a some single ctx x q)) is_filled d.goes_on d.is_solid
-        (ap (λ bs. is_indented_by_spaces quoted_scalar bs (site_at_place (account_by text t a some k []) t.held.position).awaits gap) blocks_are ∙
-        (ap (λ w. is_indented_by_spaces quoted_scalar blocks w gap) awaits_is ∙ d.is_indented_by_tab))))))
+        record {
+          fails = may_not_stand (defs.tab_after_quoted single scalar gap d.rest whole (subst (λ r. defs_quoted r) cut (is text t a some lies single ctx x q)) is_filled d.goes_on d.is_solid
+              (ap (λ bs. is_indented_by_spaces quoted_scalar bs (site_at_place (account_by text t a some k []) t.held.position).awaits gap) (blocks_by text t a some k []) ∙
+              (ap (λ w. is_indented_by_spaces quoted_scalar blocks w gap) (awaits_by text t a some k []) ∙ d.is_indented_by_tab)));
+          is_first = (looked_at text t a some lies k [], tt);
+        })))
       where
         gap : List ℕ
         gap = spaces ++ d.passed

@@ -44,7 +44,7 @@ use Rattle.proof_row.proofs.Written as written
 use Rattle.proof_scanner.specs.Ways.{spelled_to}
 use Rattle.proof_scanner.specs.NoPiece.{quote_of, HasNoQuoted}
 use Rattle.proof_scanner.specs.QuotedLines.{AreNotIndented}
-use Rattle.proof_scanner.specs.Stuck.{site_at_place}
+use Rattle.proof_scanner.specs.Failing.{site_at_place}
 use Rattle.proof_scanner.proofs.Refusals.OtherRows.{StepAt}
 use Rattle.proof_scanner.proofs.Refusals.PiecesHere.{acct, whole_by, rest_of}
 use Rattle.proof_scanner.proofs.Refusals.StandsRefused.{flow_is, no_lines as no_lines_there, no_end as no_end_here}
