@@ -19,7 +19,7 @@ use Rattle.proof_scanner.specs.NoPiece.{NoPiece, IsPlainFault, IsBlockFault, IsF
 use Rattle.proof_scanner.specs.Failing as defs
 use Rattle.proof_scanner.specs.Failing.{MayNotStand, Fails, site_at_place, is_taken, is_value_here}
 use Rattle.proof_scanner.specs.Stuck.{HasNoKey}
-use Rattle.proof_scanner.proofs.Refusals.OtherRows.{StepAt, RowAt, row_at}
+use Rattle.proof_scanner.proofs.Refusals.OtherRows.{StepAt, IsClearAfter, RowAt, row_at}
 use Rattle.proof_scanner.proofs.Refusals.PiecesHere.{no_at_sign, no_backtick, no_percent, no_name, no_dash, no_bracket}
 use Rattle.proof_scanner.proofs.Refusals.PlainsRefused.{no_column, no_dash as no_plain_dash, no_tab}
 use Rattle.proof_scanner.proofs.Refusals.TextsRefused.{no_block_tab, no_tag, no_directive, no_block_header, no_quoted_text, no_quoted_lines}
@@ -28,11 +28,11 @@ use Rattle.proof_scanner.proofs.Refusals.PiecesRefused.{no_shallow, no_tabbed_da
 
 -- ---- kinds
 
-plain_other : (a : Account) (separation rest : List ℕ) (here : Position) (s : StepAt a separation rest here) (why : Problem) (at : Position) → comes_plain (is_in_flow a.entries) (is_adjacent (before_past (before_by a.site.before) separation)) here.col rest ≡ true
+plain_other : (a : Account) (separation rest : List ℕ) (here : Position) (s : StepAt a separation rest here) → IsClearAfter s → (why : Problem) (at : Position) → comes_plain (is_in_flow a.entries) (is_adjacent (before_past (before_by a.site.before) separation)) here.col rest ≡ true
     → IsPlainFault (is_in_flow a.entries) (site_at_place a here).blocks here rest why at → ⊥
-plain_other a separation rest here s why at comes (none.by_column flow left) = no_column a separation rest here s comes flow left
-plain_other a separation rest here s why at comes (none.by_dash before more flow cut begins over apart) = no_plain_dash a separation rest here s comes before more flow cut begins over apart
-plain_other a separation rest here s why at comes (none.by_tab before blanks more column cut over stands left are token) = no_tab a separation rest here s comes before blanks more column cut over stands left are token
+plain_other a separation rest here s clear why at comes (none.by_column flow left) = no_column a separation rest here s comes flow left
+plain_other a separation rest here s clear why at comes (none.by_dash before more flow cut begins over apart) = no_plain_dash a separation rest here s comes before more flow cut begins over apart
+plain_other a separation rest here s clear why at comes (none.by_tab before blanks more column cut over stands left are token) = no_tab a separation rest here s comes before blanks more column cut over stands left are token clear
 
 lines_other : (a : Account) (separation rest : List ℕ) (here : Position) (s : StepAt a separation rest here) (single : Bool) (why : Problem) (at : Position) → AreNotIndented single (least_column (site_at_place a here).blocks (site_at_place a here).awaits) rest → IsQuotedFault single (least_column (site_at_place a here).blocks (site_at_place a here).awaits) here rest why at → ⊥
 lines_other a separation rest here s single why at none (quoted_lines.by_column body more es cut has solid further low) = no_quoted_lines a separation rest here s single (body ++ more) cut none
@@ -62,15 +62,15 @@ none_other a separation rest here s why at (none.unquoted single more why2 e lac
 none_other a separation rest here s why at (none.headless style line after why2 at2 out e one ends lacks r) = no_block_header a separation rest here s style line after out e one ends lacks
 none_other a separation rest here s why at (none.undirected line after why2 at2 col e one ends lacks r) = no_directive a separation rest here s line after e one ends lacks
 
-stands_other : (a : Account) (separation rest : List ℕ) (here : Position) (s : StepAt a separation rest here) (why : Problem) (at : Position) → MayNotStand a separation here rest why at → ⊥
-stands_other a separation rest here s why at (defs.shallow inside line left) = no_shallow a separation rest here s inside line left
-stands_other a separation rest here s why at (defs.too_deep bracket more e is many) = no_bracket a separation rest here s bracket more e is many
-stands_other a separation rest here s why at (defs.dash_in_flow more e gap inside) = no_dash a separation rest here s more e gap inside
-stands_other a separation rest here s why at (defs.dash_not_free more e gap out line) = no_dash_here a separation rest here s more e gap out line
-stands_other a separation rest here s why at (defs.key_on_earlier_line more begin x xs e is are takes had late) = no_late_colon a separation rest here s more begin x xs e is are takes had late
-stands_other a separation rest here s why at (defs.tab_indents tab) = no_tabbed_line a separation rest here s tab
-stands_other a separation rest here s why at (defs.tab_after_quoted single piece gap content e is fills goes_on solid tab) = no_tab_after_quoted a separation rest here s single piece gap content e is fills goes_on solid tab
-stands_other a separation rest here s why at (defs.question_not_free more e gap out line) = no_question_here a separation rest here s more e gap out line
+stands_other : (a : Account) (separation rest : List ℕ) (here : Position) (s : StepAt a separation rest here) → IsClearAfter s → (why : Problem) (at : Position) → MayNotStand a separation here rest why at → ⊥
+stands_other a separation rest here s clear why at (defs.shallow inside line left) = no_shallow a separation rest here s inside line left
+stands_other a separation rest here s clear why at (defs.too_deep bracket more e is many) = no_bracket a separation rest here s bracket more e is many
+stands_other a separation rest here s clear why at (defs.dash_in_flow more e gap inside) = no_dash a separation rest here s more e gap inside
+stands_other a separation rest here s clear why at (defs.dash_not_free more e gap out line) = no_dash_here a separation rest here s more e gap out line
+stands_other a separation rest here s clear why at (defs.key_on_earlier_line more begin x xs e is are takes had late) = no_late_colon a separation rest here s more begin x xs e is are takes had late
+stands_other a separation rest here s clear why at (defs.tab_indents tab) = no_tabbed_line a separation rest here s tab
+stands_other a separation rest here s clear why at (defs.tab_after_quoted single piece gap content e is fills goes_on solid tab) = no_tab_after_quoted a separation rest here s single piece gap content e is fills goes_on solid tab clear
+stands_other a separation rest here s clear why at (defs.question_not_free more e gap out line) = no_question_here a separation rest here s more e gap out line
 
 -- no row goes on at a colon for which no key waits, whatever begins one before
 pub no_keyless_colon : (text separation more : List ℕ) (a : Account) (here : Position) (r : Row) → IsPlace text a separation (58 ∷ more) here → is_value_here a separation more ≡ true → is_in_flow a.entries ≡ false → is_taken a separation ≡ true → HasNoKey text separation (58 ∷ more) here → HasRow text r → ⊥
@@ -85,16 +85,16 @@ no_keyless_colon text separation more a here r p is out line none row =
     s : StepAt a separation (58 ∷ more) here
     s = at.step_at
 
-pub failing_places_have_no_row : FailingPlacesHaveNoRow
-failing_places_have_no_row text separation rest a here at why r p solid some f row = by f
-  where
-    s : StepAt a separation rest here
-    s = (row_at text separation rest a here r p solid some row).step_at
+-- No step stands where a condition fails, if no TAB indents what comes after the step.
+pub no_step_stands : (a : Account) (separation rest : List ℕ) (here : Position) (s : StepAt a separation rest here) → IsClearAfter s → (why : Problem) (at : Position) → Fails a separation here rest why at → ⊥
+no_step_stands a separation rest here s clear why at (defs.no_piece n) = none_other a separation rest here s why at n
+no_step_stands a separation rest here s clear why at (defs.no_plain comes n) = plain_other a separation rest here s clear why at comes n
+no_step_stands a separation rest here s clear why at (defs.no_quoted single lacks n) = lines_other a separation rest here s single why at lacks n
+no_step_stands a separation rest here s clear why at (defs.no_block out n) = block_other a separation rest here s why at out n
+no_step_stands a separation rest here s clear why at (defs.followed n) = followed_other a separation rest here s why at n
+no_step_stands a separation rest here s clear why at (defs.may_not_stand n) = stands_other a separation rest here s clear why at n
 
-    by : Fails a separation here rest why at → ⊥
-    by (defs.no_piece n) = none_other a separation rest here s why at n
-    by (defs.no_plain comes n) = plain_other a separation rest here s why at comes n
-    by (defs.no_quoted single lacks n) = lines_other a separation rest here s single why at lacks n
-    by (defs.no_block out n) = block_other a separation rest here s why at out n
-    by (defs.followed n) = followed_other a separation rest here s why at n
-    by (defs.may_not_stand n) = stands_other a separation rest here s why at n
+pub failing_places_have_no_row : FailingPlacesHaveNoRow
+failing_places_have_no_row text separation rest a here at why r p solid some f row =
+    let at_row : RowAt text a separation rest here = row_at text separation rest a here r p solid some row in
+    no_step_stands a separation rest here at_row.step_at at_row.is_clear why at f

@@ -1,11 +1,16 @@
 -- A row of a text goes through each place that a beginning of a row leads to, at an account that is like the beginning's; and its next piece stands there.
-use Rattle.std.proofs.Common.{◌≡◌, ℕ, List, [], ◌∷◌, ◌++◌, Bool, true, false, Option, Some, None, refl, ap, sym, ◌∙◌, subst, append-nil}
+use Rattle.std.proofs.Common.{◌≡◌, ℕ, List, [], ◌∷◌, ◌++◌, Bool, true, false, ◌&&◌, if◌then◌else◌, Option, Some, None, refl, ap, sym, ◌∙◌, subst, append-nil}
 use Rattle.defs_text.specs.Position.{Position, position_after}
 use Rattle.defs_text.specs.Text.{up_to_nul, is_empty, has_no_nul}
 use Rattle.defs_token.specs.Piece.{Holds}
 use Rattle.defs_token.specs.Separation.{is_separation}
 use Rattle.defs_token.specs.Step.{Step, Row, spelled}
-use Rattle.defs_token.specs.RowAccount.{Account, first_account, seen, account_past}
+use Rattle.defs_token.specs.RowAccount.{Account, first_account, is_in_flow, seen, account_past, on_one_line, past_piece, is_deep_enough, least_for}
+use Rattle.defs_token.specs.Key.{begins_free_line, line_past_separation}
+use Rattle.defs_token.specs.FlowEntry.{is_renewed}
+use Rattle.defs_token.specs.Indentation.{is_indented_by_spaces}
+use Rattle.defs_token.specs.Lines.{further_lines_stand}
+use Rattle.defs_token.specs.Following.{may_precede}
 use Rattle.defs_token.specs.Tokens.{shown_position}
 use Rattle.defs_token.specs.Row.{IsWritten, HasRow}
 use Rattle.defs_token.specs.Beginning.{Leads, Begins, IsPlace}
@@ -97,25 +102,58 @@ row_walks P keeps text after a r p g h =
     let way : RowWay (Some first_account) r.steps r.last = row_way (Some first_account) r.steps r.last h.1 in
     walk P keeps g.steps r.steps after way.stop first_account first_account a way.at_end (refl, tt, tt) (subst (λ z. P first_account first_account z) (sym g.spells) p) g.leads way.leads (g.spells ∙ (sym h.0 ∙ ap (λ x. spelled r.steps x) (sym way.text_is))) clean
 
--- The next step of a row at a place: its piece stands there.
+-- A step at a place, from an account that is like another one: its piece stands there.
 pub record StepAt (a : Account) (separation rest : List ℕ) (here : Position) : Type 0 where
   pub account : Account
   pub is_like : IsLike a account
   pub step : Step
-  pub steps : List Step
-  pub stop : Stop
-  pub is_over : is_empty stop.rest ≡ true
-  pub is_row : LeadsTo (Some account) (step ∷ steps) stop
+  pub next : List ℕ
+  pub past : Account
+  pub is_written : IsWritten account step next
+  pub is_past : account_past account step next ≡ Some past
   pub separation_is : step.separation ≡ separation
-  pub text_is : step.piece ++ spelled_to steps stop ≡ rest
+  pub text_is : step.piece ++ next ≡ rest
   pub is_clean : has_no_nul rest ≡ true
   pub here_is : here ≡ position_after a.site.position separation rest
-  pub position_is : (At account step (spelled_to steps stop)).position ≡ here
+  pub position_is : (At account step next).position ≡ here
 
--- The same; and a row may begin so that it leads to the account there.
+-- No TAB indents what comes after a step, if anything does.
+abbrev pub IsClearAfter : {a : Account} {separation rest : List ℕ} {here : Position} → StepAt a separation rest here → Type 0
+IsClearAfter s =
+    (gap content : List ℕ) → s.next ≡ gap ++ content → is_separation false gap content ≡ true → begins_separation content ≡ false → is_empty content ≡ false → is_indented_by_spaces s.past.site.before s.past.site.blocks s.past.site.awaits gap ≡ true
+
+-- The next step of a row at a place; and a row may begin so that it leads to the account there.
 pub record RowAt (text : List ℕ) (a : Account) (separation rest : List ℕ) (here : Position) : Type 0 where
   pub step_at : StepAt a separation rest here
+  pub is_clear : IsClearAfter step_at
   pub begins : Begins text (separation ++ rest) step_at.account
+
+-- a step that may stand has no TAB before it
+no_tab_before : (b : Account) (v : Step) (after : List ℕ) (c : Account) → account_past b v after ≡ Some c → is_indented_by_spaces b.site.before b.site.blocks b.site.awaits v.separation ≡ true
+no_tab_before b v after c e = by (is_indented_by_spaces b.site.before b.site.blocks b.site.awaits v.separation) refl e
+  where
+    x : Option Account
+    x = on_one_line v.piece (past_piece (At b v after) v.piece v.shown after (is_renewed b.site.before v.separation) v.key (line_past_separation (is_in_flow b.entries) (begins_free_line b.site.before v.separation) b.line) b.entries)
+
+    by : (t : Bool) → is_indented_by_spaces b.site.before b.site.blocks b.site.awaits v.separation ≡ t
+        → (if t && is_deep_enough (is_in_flow b.entries) v.shown (At b v after) && further_lines_stand (least_for v.shown (At b v after)) v.shown v.piece && may_precede (is_in_flow b.entries) (At b v after).blocks v.shown v.piece after then x else None) ≡ Some c → is_indented_by_spaces b.site.before b.site.blocks b.site.awaits v.separation ≡ true
+    by true i f = i
+    by false i f = absurd (cc f)
+
+-- No TAB indents what comes after a step where steps lead on to the text's end.
+clear_on : (b : Account) (ws : List Step) (stop : Stop) (gap content : List ℕ) → is_empty stop.rest ≡ true → LeadsTo (Some b) ws stop → spelled_to ws stop ≡ gap ++ content → is_separation false gap content ≡ true → begins_separation content ≡ false → is_empty content ≡ false → has_no_nul content ≡ true
+    → is_indented_by_spaces b.site.before b.site.blocks b.site.awaits gap ≡ true
+clear_on b [] stop gap content over row e fills solid some clean =
+    let ends = separations stop.separation gap stop.rest content (stop.is_filled, stop.is_solid) (fills, ends_before content solid clean) e in
+    absurd (cc (some, ap is_empty ends.1, over))
+clear_on b (v ∷ vs) stop gap content over row e fills solid some clean = by (account_past b v (spelled_to vs stop)) refl row.1
+  where
+    there_is : (v.separation ≡ gap) × (v.piece ++ spelled_to vs stop ≡ content)
+    there_is = step_here b v (spelled_to vs stop) gap content row.0 e fills solid clean
+
+    by : (o : Option Account) → account_past b v (spelled_to vs stop) ≡ o → LeadsTo o vs stop → is_indented_by_spaces b.site.before b.site.blocks b.site.awaits gap ≡ true
+    by None i k = absurd k
+    by (Some c) i k = subst (λ f. is_indented_by_spaces b.site.before b.site.blocks b.site.awaits f ≡ true) there_is.0 (no_tab_before b v (spelled_to vs stop) c i)
 
 pub row_at : (text separation rest : List ℕ) (a : Account) (here : Position) (r : Row) → IsPlace text a separation rest here → begins_separation rest ≡ false → is_empty rest ≡ false → HasRow text r → RowAt text a separation rest here
 row_at text separation rest a here r p solid some h = by g.steps g.is_row g.spells
@@ -130,18 +168,25 @@ row_at text separation rest a here r p solid some h = by g.steps g.is_row g.spel
     by [] row e =
         let ends = separations g.stop.separation separation g.stop.rest rest (g.stop.is_filled, g.stop.is_solid) (p.is_filled, ends_before rest solid clean) e in
         absurd (cc (some, ap is_empty ends.1, g.is_over))
-    by (w ∷ ws) row e =
-        let at : (w.separation ≡ separation) × (w.piece ++ spelled_to ws g.stop ≡ rest) = step_here g.account w (spelled_to ws g.stop) separation rest row.0 e p.is_filled solid clean in
-        record {
+    by (w ∷ ws) row e = to (account_past g.account w (spelled_to ws g.stop)) refl row.1
+      where
+        at : (w.separation ≡ separation) × (w.piece ++ spelled_to ws g.stop ≡ rest)
+        at = step_here g.account w (spelled_to ws g.stop) separation rest row.0 e p.is_filled solid clean
+
+        to : (o : Option Account) → account_past g.account w (spelled_to ws g.stop) ≡ o → LeadsTo o ws g.stop → RowAt text a separation rest here
+        to None i k = absurd k
+        to (Some b) i k = record {
           begins = g.holds;
+          is_clear = λ gap content cut fills solid_there some_there.
+              clear_on b ws g.stop gap content g.is_over k cut fills solid_there some_there (no_nul_after gap content (subst (λ n. has_no_nul n ≡ true) cut (no_nul_after w.piece (spelled_to ws g.stop) (subst (λ n. has_no_nul n ≡ true) (sym at.1) clean))));
           step_at = record {
             account = g.account;
             is_like = g.is_like;
             step = w;
-            steps = ws;
-            stop = g.stop;
-            is_over = g.is_over;
-            is_row = row;
+            next = spelled_to ws g.stop;
+            past = b;
+            is_written = row.0;
+            is_past = i;
             separation_is = at.0;
             text_is = at.1;
             is_clean = clean;

@@ -21,7 +21,6 @@ use Rattle.proof_row.proofs.Begins.{Whole, context_of, directive_token}
 use Rattle.proof_row.proofs.Like.{LikeEntries}
 use Rattle.proof_row.proofs.Written as written
 use Rattle.proof_row.proofs.Written.{not_empty}
-use Rattle.proof_scanner.specs.Ways.{spelled_to}
 use Rattle.proof_scanner.proofs.Complete.Around.Markers.{marker_begins}
 use Rattle.proof_scanner.proofs.Complete.KindsOfPieces.{kind_is}
 use Rattle.proof_scanner.specs.NoPiece as none
@@ -40,7 +39,7 @@ many_levels (e ∷ es) = ap suc (many_levels es)
 
 module _ (a : Account) (separation rest : List ℕ) (here : Position) (s : StepAt a separation rest here) where
   abbrev pub next : List ℕ
-  next = spelled_to s.steps s.stop
+  next = s.next
 
   -- the account with which the piece is looked at
   abbrev pub acct : pieces.Account
@@ -50,15 +49,15 @@ module _ (a : Account) (separation rest : List ℕ) (here : Position) (s : StepA
   spot = shown_position (written.At s.account s.step next) s.step.piece s.step.shown next
 
   pub is_piece : IsPiece acct s.step.piece next None spot s.step.shown
-  is_piece = s.is_row.0.1.1
+  is_piece = s.is_written.1.1
 
   -- the text says the piece's kind
   pub whole_at : Whole (kind_at (pieces.is_in_flow acct) (is_adjacent acct.before) acct.position.col rest) (context_of acct) s.step.piece next s.step.shown
-  whole_at = kind_is (kind_at (pieces.is_in_flow acct) (is_adjacent acct.before) acct.position.col rest) acct s.step.piece next rest spot s.step.shown (not_empty s.step.piece s.is_row.0.1.0) is_piece s.text_is refl
+  whole_at = kind_is (kind_at (pieces.is_in_flow acct) (is_adjacent acct.before) acct.position.col rest) acct s.step.piece next rest spot s.step.shown (not_empty s.step.piece s.is_written.1.0) is_piece s.text_is refl
 
   -- the text's first character says the piece's kind
   pub whole_by : (c : ℕ) (more : List ℕ) → rest ≡ c ∷ more → Whole (kind_at (pieces.is_in_flow acct) (is_adjacent acct.before) acct.position.col (c ∷ more)) (context_of acct) s.step.piece next s.step.shown
-  whole_by c more e = kind_is (kind_at (pieces.is_in_flow acct) (is_adjacent acct.before) acct.position.col (c ∷ more)) acct s.step.piece next (c ∷ more) spot s.step.shown (not_empty s.step.piece s.is_row.0.1.0) is_piece (s.text_is ∙ e) refl
+  whole_by c more e = kind_is (kind_at (pieces.is_in_flow acct) (is_adjacent acct.before) acct.position.col (c ∷ more)) acct s.step.piece next (c ∷ more) spot s.step.shown (not_empty s.step.piece s.is_written.1.0) is_piece (s.text_is ∙ e) refl
 
   levels_are : length acct.levels ≡ length a.entries
   levels_are = many_levels s.account.entries ∙ sym (many_alike a.entries s.account.entries s.is_like.2)
@@ -134,4 +133,4 @@ module _ (a : Account) (separation rest : List ℕ) (here : Position) (s : StepA
     where
       by : IsPiece acct s.step.piece next None spot flow_mapping_start → ⊥
       by (inl opens) = no_room many opens.0.1
-      by (inr start) = not_empty s.step.piece s.is_row.0.1.0 start.0
+      by (inr start) = not_empty s.step.piece s.is_written.1.0 start.0

@@ -25,7 +25,6 @@ use Rattle.defs_token.specs.Row.{IsWritten}
 use Rattle.defs_token.specs.Tokens.{content_position, shown_position}
 use Rattle.proof_lexers.specs.PlainEnds.{is_white}
 use Rattle.proof_lexers.specs.Separations.{begins_separation, has}
-use Rattle.proof_scanner.specs.Ways.{Stop, spelled_to, LeadsTo}
 use Rattle.proof_scanner.proofs.Complete.Around.Markers.{begins_document, BeginsLine, marker_begins}
 use Rattle.proof_scanner.proofs.Complete.Scalars.AfterQuoted.{not_done}
 use Rattle.proof_scanner.proofs.Sound.QuotedEnds.{blanks_alone, after_blanks}
@@ -35,9 +34,9 @@ use Rattle.proof_scanner.specs.NoPiece.{GoesOn, IsQuoted}
 use Rattle.proof_scanner.specs.Failing.{site_at_place, begins_document_at}
 use Rattle.proof_scanner.proofs.Refusals.OtherRows.{StepAt}
 
-pub refused : (x : Option Account) (b : Bool) (ws : List Step) (stop : Stop) → b ≡ false → LeadsTo (if b then x else None) ws stop → ⊥
-refused x true ws stop e k = absurd (cc e)
-refused x false ws stop e k = k
+pub refused : (x : Option Account) (b : Bool) (y : Account) → b ≡ false → (if b then x else None) ≡ Some y → ⊥
+refused x true y e k = absurd (cc e)
+refused x false y e k = cc k
 
 or_first : (x y : Bool) → x ≡ true → (x || y) ≡ true
 or_first true y e = refl
@@ -82,14 +81,14 @@ may_go a separation piece t next = may_precede (is_in_flow a.entries) (site_at (
 
 module _ (a : Account) (separation rest : List ℕ) (here : Position) (s : StepAt a separation rest here) where
   abbrev next : List ℕ
-  next = spelled_to s.steps s.stop
+  next = s.next
 
   -- a step of a piece
   abbrev pub own : (piece : List ℕ) → Tok → Step
   own piece t = record { separation = separation; piece = piece; shown = t; key = false }
 
   is_filled : is_separation false separation rest ≡ true
-  is_filled = ap (λ f. is_separation false f rest) (sym s.separation_is) ∙ (ap (λ r. is_separation false s.step.separation r) (sym s.text_is) ∙ s.is_row.0.0)
+  is_filled = ap (λ f. is_separation false f rest) (sym s.separation_is) ∙ (ap (λ r. is_separation false s.step.separation r) (sym s.text_is) ∙ s.is_written.0)
 
   same_go : (piece more : List ℕ) (t : Tok) → (piece ≡ s.step.piece) × (t ≡ s.step.shown) × (more ≡ next) → may_go a separation piece t more ≡ may_go s.account s.step.separation s.step.piece s.step.shown next
   same_go piece more t is =
@@ -104,14 +103,14 @@ module _ (a : Account) (separation rest : List ℕ) (here : Position) (s : StepA
       → (piece ≡ s.step.piece) × (t ≡ s.step.shown) × (more ≡ next)
   same_step piece more t e some is =
       let written : IsWritten a (own piece t) more = (ap (λ r. is_separation false separation r) (sym e) ∙ is_filled, (some, is)) in
-      same_piece a s.account (own piece t) s.step more next s.is_like written s.is_row.0 (sym s.separation_is) (sym e ∙ sym s.text_is) (ap has_no_nul (sym e) ∙ s.is_clean)
+      same_piece a s.account (own piece t) s.step more next s.is_like written s.is_written (sym s.separation_is) (sym e ∙ sym s.text_is) (ap has_no_nul (sym e) ∙ s.is_clean)
 
   -- The piece that begins here, of this token, may not stand before what follows it.
   pub no_step : (piece more : List ℕ) (t : Tok) → rest ≡ piece ++ more → not (is_empty piece) ≡ true → IsPiece (seen a (At a (own piece t) more) separation) piece more None (shown_position (At a (own piece t) more) piece t more) t → may_go a separation piece t more ≡ false → ⊥
   no_step piece more t e some is no_more =
       let same = same_step piece more t e some is in
       let stays : may_go s.account s.step.separation s.step.piece s.step.shown next ≡ false = sym (same_go piece more t same) ∙ no_more in
-      refused _ (may_stand (is_in_flow s.account.entries) s.account.site (At s.account s.step next) s.step.separation s.step.piece s.step.shown next) s.steps s.stop (and_last _ _ stays) s.is_row.1
+      refused _ (may_stand (is_in_flow s.account.entries) s.account.site (At s.account s.step next) s.step.separation s.step.piece s.step.shown next) s.past (and_last _ _ stays) s.is_past
 
   flow_seen : (es : List Entry) → is_in_flow es ≡ false → not (is_empty (map level_of es)) ≡ false
   flow_seen [] h = refl
@@ -138,7 +137,7 @@ module _ (a : Account) (separation rest : List ℕ) (here : Position) (s : StepA
       by : (b : Bool) → is_marker (act_of s.step.shown) ≡ b → b ≡ false
       by false e = refl
       by true e =
-          let line : BeginsLine there.position.col (s.step.piece ++ next) = marker_begins (seen s.account there s.step.separation) s.step.piece next None (shown_position there s.step.piece s.step.shown next) s.step.shown s.is_row.0.1.1 e in
+          let line : BeginsLine there.position.col (s.step.piece ++ next) = marker_begins (seen s.account there s.step.separation) s.step.piece next None (shown_position there s.step.piece s.step.shown next) s.step.shown s.is_written.1.1 e in
           let zero : (here.col == 0) ≡ true = ap (λ p. p.col == 0) (sym s.position_is) ∙ ap (λ n. n == 0) line.column in
           let begins : (begins_with 37 rest || is_document_marker rest) ≡ true = sym (alike rest) ∙ (ap begins_document (sym s.text_is) ∙ line.text_is) in
           absurd (both_true (here.col == 0) (begins_with 37 rest || is_document_marker rest) zero begins none)
@@ -156,7 +155,7 @@ module _ (a : Account) (separation rest : List ℕ) (here : Position) (s : StepA
   too_shallow t x e f = ap (λ b. b || nat_le (least_for t x) x.position.col) e ∙ (let up = least_at_most t x in grind (arith, nat_tests, up, f))
 
   pub no_shallow : is_in_flow a.entries ≡ true → begins_document_at here rest ≡ false → nat_le (least_column (site_at_place a here).blocks (site_at_place a here).awaits) here.col ≡ false → ⊥
-  no_shallow inside none left = refused _ (may_stand (is_in_flow s.account.entries) s.account.site there s.step.separation s.step.piece s.step.shown next) s.steps s.stop (stands_not _ _ _ _ deep) s.is_row.1
+  no_shallow inside none left = refused _ (may_stand (is_in_flow s.account.entries) s.account.site there s.step.separation s.step.piece s.step.shown next) s.past (stands_not _ _ _ _ deep) s.is_past
     where
       inside_there : is_in_flow s.account.entries ≡ true
       inside_there = sym (same_flow a.entries s.account.entries s.is_like.2) ∙ inside

@@ -1,5 +1,7 @@
 -- Where a plain scalar begins and is none, no row of the text goes on.
-use Rattle.std.proofs.Common.{◌≡◌, ℕ, suc, List, [], ◌∷◌, ◌++◌, Bool, true, false, not, ◌==◌, ◌&&◌, ◌||◌, nat_le, nat_lt, if◌then◌else◌, Option, refl, ap, sym, ◌∙◌, subst, arith, append_assoc}
+use Rattle.std.proofs.Common.{◌≡◌, ℕ, suc, List, [], ◌∷◌, ◌++◌, Bool, true, false, not, ◌==◌, ◌&&◌, ◌||◌, nat_le, nat_lt, if◌then◌else◌, Option, refl, ap, sym, ◌∙◌, subst, arith, append_assoc, inl, inr, ◌⊎◌}
+use Rattle.defs_token.specs.Step.{previous_by}
+use Rattle.defs_token.specs.Indentation.{is_indented_by_spaces}
 use Rattle.std.proofs.lemmas.Bool.{and_parts, eqb-true}
 use Rattle.defs_text.specs.Classes as classes
 use Rattle.defs_text.specs.Classes.{is_flow, is_nul, is_blank_or_end, is_at_gap, is_document_marker, are_marks}
@@ -16,7 +18,7 @@ use Rattle.defs_token.specs.Column.{innermost}
 use Rattle.defs_token.specs.Indentation.{least_column}
 use Rattle.defs_token.specs.Lines.{plain_lines_fit, ends_with_dash, has_dash_before_flow}
 use Rattle.defs_token.specs.Following.{may_precede}
-use Rattle.defs_token.specs.RowAccount.{Site, Account, before_by, is_in_flow, is_deep_enough}
+use Rattle.defs_token.specs.RowAccount.{Site, Account, before_by, is_in_flow, is_deep_enough, site_past}
 use Rattle.yaml_chars.specs.Class.{is_break, is_blank}
 use Rattle.proof_row.specs.Ends.{ends_separation, Kind, plain_scalar, dashes}
 use Rattle.proof_row.proofs.Begins.{Whole, context_of, separations_end}
@@ -29,13 +31,14 @@ use Rattle.proof_row.proofs.Accounts.{same_flow}
 use Rattle.proof_row.proofs.Written.{At}
 use Rattle.proof_scanner.specs.StandsInRow.{is_at_comment_or_end}
 use Rattle.proof_scanner.proofs.Sound.PlainLines.{Spot, in_text, at, tabbed, spot_past, past_spot, may_go, tabs_fit}
-use Rattle.proof_scanner.specs.Ways.{spelled_to}
-use Rattle.proof_scanner.proofs.Complete.Nodes.Plains.{Gap, gap_of, after_gap, gap_clear, Comes, comes, dashed, comes_by, no_marker}
+use Rattle.proof_scanner.proofs.Complete.Nodes.Plains.{Gap, gap_of, next_clear, After, ended, solid, after_gap, Comes, comes, dashed, comes_by, no_marker}
 use Rattle.proof_scanner.proofs.Complete.Nodes.PlainScans.{stops_after, stand_over, stand_content}
 use Rattle.proof_scanner.proofs.Complete.Nodes.PlainTexts.{IsClearGap, plain_tabs}
 use Rattle.proof_scanner.specs.NoPiece.{goes_over}
 use Rattle.proof_scanner.specs.Failing.{site_at_place}
-use Rattle.proof_scanner.proofs.Refusals.OtherRows.{StepAt}
+use Rattle.proof_scanner.proofs.Refusals.OtherRows.{StepAt, IsClearAfter}
+use Rattle.proof_scanner.proofs.Cut.Pieces.Separations.{gap_is_separation}
+use Rattle.proof_scanner.proofs.Complete.Nodes.Past.{node_site_past}
 use Rattle.proof_scanner.proofs.Refusals.PiecesHere.{acct, whole_at}
 use Rattle.proof_scanner.proofs.Refusals.PiecesRefused.{innermost_seen}
 use Rattle.proof_scanner.proofs.Refusals.StandsRefused.{flow_is, adjacent_is, node_site, no_depth, no_lines, no_end}
@@ -244,7 +247,7 @@ module _ (column : ℕ) (left : List ℕ) (solid : begins_white left ≡ false) 
 
 module _ (a : Account) (separation rest : List ℕ) (here : Position) (s : StepAt a separation rest here) (comes_here : comes_plain (is_in_flow a.entries) (is_adjacent (before_past (before_by a.site.before) separation)) here.col rest ≡ true) where
   abbrev next : List ℕ
-  next = spelled_to s.steps s.stop
+  next = s.next
 
   abbrev seen_here : pieces.Account
   seen_here = acct a separation rest here s
@@ -318,8 +321,8 @@ module _ (a : Account) (separation rest : List ℕ) (here : Position) (s : StepA
 
   -- a TAB that indents a line of it, or the one after it
   pub no_tab : (before blanks more : List ℕ) (column : ℕ) → rest ≡ before ++ 9 ∷ (blanks ++ more) → goes_over (is_in_flow a.entries) (innermost (site_at_place a here).blocks) before (9 ∷ (blanks ++ more)) ≡ true → stand_after after_blank before ≡ on_line column
-      → nat_lt column (least_column (site_at_place a here).blocks true) ≡ true → is_blanks blanks ≡ true → begins_token more ≡ true → ⊥
-  no_tab before blanks more column cut over stands low are token = by s.step.piece before refl cut over stands
+      → nat_lt column (least_column (site_at_place a here).blocks true) ≡ true → is_blanks blanks ≡ true → begins_token more ≡ true → IsClearAfter s → ⊥
+  no_tab before blanks more column cut over stands low are token is_clear = by s.step.piece before refl cut over stands
     where
       least : ℕ
       least = least_column (site_at_place a here).blocks true
@@ -344,7 +347,16 @@ module _ (a : Account) (separation rest : List ℕ) (here : Position) (s : StepA
           on false e = absurd (no_lines a separation rest here s (scalar tokens.plain plain_here.0) plain_here.2 refl e)
 
       clear : IsClearGap least g.gap g.rest
-      clear = gap_clear s.account s.step s.steps s.stop plain_here.0 plain_here.2 s.is_row.1 least g.gap g.rest g.cut g.is_white clean (ap (λ (x : Site). least_column x.blocks true) site_is) (after_gap g.rest g.no_more)
+      clear = on (after_gap g.rest g.no_more)
+        where
+          past_is : s.past.site ≡ site_past (is_in_flow s.account.entries) (At s.account s.step next) s.step.piece s.step.shown next (At s.account s.step next).blocks
+          past_is = node_site_past s.account s.step next s.past (ap act_of plain_here.2) s.is_past
+
+          on : After g.rest → IsClearGap least g.gap g.rest
+          on (ended h) = inl h
+          on (solid some begins) = inr (λ broken.
+              next_clear least s.past.site.blocks g.gap s.past.site.awaits g.is_white (ap (λ (x : Site). least_column x.blocks true) past_is ∙ ap (λ (x : Site). least_column x.blocks true) site_is)
+              (subst (λ y. is_indented_by_spaces y s.past.site.blocks s.past.site.awaits g.gap ≡ true) (ap (λ (x : Site). x.before) past_is ∙ ap previous_by plain_here.2) (is_clear g.gap g.rest g.cut (gap_is_separation g.gap g.rest g.is_white) begins some)) broken)
 
       -- its first character is neither a blank nor a break
       solid_first : (d : ℕ) (r : List ℕ) → s.step.piece ≡ d ∷ r → (classes.is_blank d ≡ false) × (classes.is_break d ≡ false)

@@ -19,7 +19,7 @@ use Rattle.defs_token.specs.FlowEntry.{Entry, takes_pair, is_renewed, entries_pa
 use Rattle.defs_token.specs.Indentation.{awaits_past, is_indented_by_spaces, has_tab_before_piece}
 use Rattle.defs_token.specs.Following.{quoted_may_end, may_precede}
 use Rattle.defs_token.specs.Key.{Line, free, taken, waits, begins_free_line, line_past_separation, is_near, line_past}
-use Rattle.defs_token.specs.RowAccount.{Site, Account, before_by, is_in_flow, level_of, site_in, least_for, is_deep_enough, may_stand, on_one_line, past_outside, past_inside, past_piece}
+use Rattle.defs_token.specs.RowAccount.{Site, Account, before_by, is_in_flow, level_of, site_in, site_past, least_for, is_deep_enough, may_stand, on_one_line, past_outside, past_inside, past_piece}
 use Rattle.defs_token.specs.Lines.{further_lines_stand}
 use Rattle.proof_row.specs.Ends.{Kind, kind_at, question, colon, dash, sequence_opening, sequence_closing, mapping_opening, mapping_closing, comma}
 use Rattle.proof_row.proofs.Begins.{Whole, context_of}
@@ -30,12 +30,11 @@ use Rattle.proof_lexers.specs.Separations.{begins_separation, begins_white_space
 use Rattle.proof_row.proofs.Accounts.{same_flow}
 use Rattle.proof_row.proofs.Like.{LikeLine, LikeHad, LikeEntries}
 use Rattle.proof_row.proofs.Written.{At}
-use Rattle.proof_scanner.specs.Ways.{Stop, spelled_to, LeadsTo}
-use Rattle.proof_scanner.proofs.Complete.Nodes.Past.{NodePast, node_past}
+use Rattle.proof_scanner.proofs.Complete.Nodes.Past.{node_site_past}
 use Rattle.proof_scanner.proofs.Complete.Steps.{ends_before, step_here}
 use Rattle.proof_scanner.specs.NoPiece.{GoesOn, IsQuoted, is_flow_indicator}
 use Rattle.proof_scanner.specs.Failing.{site_at_place, is_taken_line, is_taken, is_value_here}
-use Rattle.proof_scanner.proofs.Refusals.OtherRows.{StepAt}
+use Rattle.proof_scanner.proofs.Refusals.OtherRows.{StepAt, IsClearAfter}
 use Rattle.proof_scanner.proofs.Refusals.PiecesHere.{acct, whole_by, rest_of}
 use Rattle.proof_scanner.proofs.Refusals.PiecesRefused.{refused, and_last, same_step, no_step, not_nothing}
 
@@ -115,9 +114,10 @@ none_out : (es : List Entry) → is_in_flow es ≡ false → es ≡ []
 none_out [] h = refl
 none_out (e ∷ es) h = absurd (cc h)
 
-gone : (b : Bool) (piece : List ℕ) (x : Option Account) (ws : List Step) (stop : Stop) → x ≡ None → LeadsTo (if b then on_one_line piece x else None) ws stop → ⊥
-gone true piece x ws stop e k = subst (λ o. LeadsTo (on_one_line piece o) ws stop) e k
-gone false piece x ws stop e k = k
+gone : (b : Bool) (piece : List ℕ) (x : Option Account) (y : Account) → x ≡ None → (if b then on_one_line piece x else None) ≡ Some y → ⊥
+gone true piece None y e k = cc k
+gone true piece (Some z) y e k = cc e
+gone false piece x y e k = cc k
 
 first_fails : (x y z w : Bool) → x ≡ false → (x && y && z && w) ≡ false
 first_fails true y z w e = absurd (cc e)
@@ -178,13 +178,13 @@ quoted_token false value = scalar double_quoted value
 
 module _ (a : Account) (separation rest : List ℕ) (here : Position) (s : StepAt a separation rest here) where
   abbrev next : List ℕ
-  next = spelled_to s.steps s.stop
+  next = s.next
 
   abbrev there : Site
   there = At s.account s.step next
 
   pub stands_not : may_stand (is_in_flow s.account.entries) s.account.site there s.step.separation s.step.piece s.step.shown next ≡ false → ⊥
-  stands_not e = refused _ (may_stand (is_in_flow s.account.entries) s.account.site there s.step.separation s.step.piece s.step.shown next) s.steps s.stop e s.is_row.1
+  stands_not e = refused _ (may_stand (is_in_flow s.account.entries) s.account.site there s.step.separation s.step.piece s.step.shown next) s.past e s.is_past
 
   third_fails : (x y z w : Bool) → z ≡ false → (x && y && z && w) ≡ false
   third_fails true true z w e = ap (λ b. b && w) e
@@ -242,9 +242,9 @@ module _ (a : Account) (separation rest : List ℕ) (here : Position) (s : StepA
 
   none_on_line : is_in_flow a.entries ≡ false → is_taken a separation ≡ true → (act_of s.step.shown ≡ gives_dash) ⊎ (act_of s.step.shown ≡ gives_question) → ⊥
   none_on_line out line is =
-      gone (may_stand (is_in_flow s.account.entries) s.account.site there s.step.separation s.step.piece s.step.shown next) s.step.piece _ s.steps s.stop
+      gone (may_stand (is_in_flow s.account.entries) s.account.site there s.step.separation s.step.piece s.step.shown next) s.step.piece _ s.past
       (ap (λ es. past_piece there s.step.piece s.step.shown next (is_renewed s.account.site.before s.step.separation) s.step.key (line_past_separation (is_in_flow es) (begins_free_line s.account.site.before s.step.separation) s.account.line) es) (no_entries out) ∙
-      none_begins there s.step.piece s.step.shown next (is_renewed s.account.site.before s.step.separation) s.step.key _ is (taken_there line)) s.is_row.1
+      none_begins there s.step.piece s.step.shown next (is_renewed s.account.site.before s.step.separation) s.step.key _ is (taken_there line)) s.is_past
 
   abbrev Here : Kind → Type 0
   Here k = Whole k (context_of (acct a separation rest here s)) s.step.piece next s.step.shown
@@ -331,11 +331,11 @@ module _ (a : Account) (separation rest : List ℕ) (here : Position) (s : StepA
       → ((q : Position) → s.account.line ≡ waits q → begins_free_line s.account.site.before separation ≡ false → is_near q here ≡ true → ⊥) → ⊥
   no_colon_here more e is out line none =
       let w : Here colon = colon_here more e is in
-      gone (may_stand (is_in_flow s.account.entries) s.account.site there s.step.separation s.step.piece s.step.shown next) s.step.piece _ s.steps s.stop
+      gone (may_stand (is_in_flow s.account.entries) s.account.site there s.step.separation s.step.piece s.step.shown next) s.step.piece _ s.past
       (ap (λ es. past_piece there s.step.piece s.step.shown next (is_renewed s.account.site.before s.step.separation) s.step.key (line_past_separation (is_in_flow es) (begins_free_line s.account.site.before s.step.separation) s.account.line) es) (no_entries out) ∙
       none_ends there s.step.piece s.step.shown next (is_renewed s.account.site.before s.step.separation) s.step.key _ (ap act_of w.2) (taken_there line) (λ q i near.
       let waited = still_waits (begins_free_line s.account.site.before s.step.separation) s.account.line q i in
-      none q waited.0 (subst (λ f. begins_free_line s.account.site.before f ≡ false) s.separation_is waited.1) (subst (λ p. is_near q p ≡ true) s.position_is near))) s.is_row.1
+      none q waited.0 (subst (λ f. begins_free_line s.account.site.before f ≡ false) s.separation_is waited.1) (subst (λ p. is_near q p ≡ true) s.position_is near))) s.is_past
 
   -- no TAB indents the line of the row's piece
   pub spaces_indent : is_indented_by_spaces s.account.site.before s.account.site.blocks s.account.site.awaits separation ≡ true
@@ -360,9 +360,9 @@ module _ (a : Account) (separation rest : List ℕ) (here : Position) (s : StepA
       by : (fs : List Entry) → s.account.entries ≡ fs → LikeEntries (e ∷ es) fs → ⊥
       by [] i like = like
       by (d ∷ ds) i like =
-          gone (may_stand (is_in_flow s.account.entries) s.account.site there s.step.separation s.step.piece s.step.shown next) s.step.piece _ s.steps s.stop
+          gone (may_stand (is_in_flow s.account.entries) s.account.site there s.step.separation s.step.piece s.step.shown next) s.step.piece _ s.past
           (ap (λ z. past_piece there s.step.piece s.step.shown next (is_renewed s.account.site.before s.step.separation) s.step.key (line_past_separation (is_in_flow z) (begins_free_line s.account.site.before s.step.separation) s.account.line) z) i ∙
-          none_past (line_past_separation true (begins_free_line s.account.site.before s.step.separation) s.account.line)) s.is_row.1
+          none_past (line_past_separation true (begins_free_line s.account.site.before s.step.separation) s.account.line)) s.is_past
         where
           single : takes_pair d.kind d.pair ≡ true
           single = ap (λ k. takes_pair k d.pair) (sym like.0.0) ∙ (ap (λ p. takes_pair e.kind p) (sym like.0.1) ∙ takes)
@@ -450,8 +450,8 @@ module _ (a : Account) (separation rest : List ℕ) (here : Position) (s : StepA
   node_token false value = (refl, refl)
 
   pub no_tab_after_quoted : (single : Bool) (piece gap content : List ℕ) → rest ≡ piece ++ (gap ++ content) → IsQuoted single piece (gap ++ content) → is_separation false gap content ≡ true → is_empty content ≡ false → begins_separation content ≡ false
-      → is_indented_by_spaces quoted_scalar (site_at_place a here).blocks (site_at_place a here).awaits gap ≡ false → ⊥
-  no_tab_after_quoted single piece gap content e is fills some solid tabbed_there = by s.steps then.is_row (sym same.1)
+      → is_indented_by_spaces quoted_scalar (site_at_place a here).blocks (site_at_place a here).awaits gap ≡ false → IsClearAfter s → ⊥
+  no_tab_after_quoted single piece gap content e is fills some solid tabbed_there clear = cc (clear gap content (sym same.1) fills solid some, tabbed_then)
     where
       same : (quoted_token single (value_of single piece (gap ++ content) is) ≡ s.step.shown) × (gap ++ content ≡ next)
       same = same_quoted_value single piece (gap ++ content) e is
@@ -459,33 +459,21 @@ module _ (a : Account) (separation rest : List ℕ) (here : Position) (s : StepA
       act : act_of s.step.shown ≡ gives_node
       act = ap act_of (sym same.0) ∙ (node_token single (value_of single piece (gap ++ content) is)).0
 
-      then : NodePast s.account s.step next s.steps s.stop
-      then = node_past s.account s.step s.steps s.stop act s.is_row.1
+      site_is : s.past.site ≡ site_past (is_in_flow s.account.entries) there s.step.piece s.step.shown next there.blocks
+      site_is = node_site_past s.account s.step next s.past act s.is_past
 
-      clean : has_no_nul content ≡ true
-      clean = no_nul_after gap content (no_nul_after piece (gap ++ content) (ap has_no_nul (sym e) ∙ s.is_clean))
+      before_is : s.past.site.before ≡ quoted_scalar
+      before_is = ap (λ (x : Site). x.before) site_is ∙ (ap previous_by (sym same.0) ∙ (node_token single (value_of single piece (gap ++ content) is)).1)
 
-      before_is : then.after.site.before ≡ quoted_scalar
-      before_is = ap (λ (x : Site). x.before) then.site_is ∙ (ap previous_by (sym same.0) ∙ (node_token single (value_of single piece (gap ++ content) is)).1)
+      blocks_are : s.past.site.blocks ≡ (site_at_place a here).blocks
+      blocks_are = ap (λ (x : Site). x.blocks) site_is ∙ ap (λ (x : Site). x.blocks) (node_site act)
 
-      blocks_are : then.after.site.blocks ≡ (site_at_place a here).blocks
-      blocks_are = ap (λ (x : Site). x.blocks) then.site_is ∙ ap (λ (x : Site). x.blocks) (node_site act)
-
-      awaits_is : then.after.site.awaits ≡ (site_at_place a here).awaits
+      awaits_is : s.past.site.awaits ≡ (site_at_place a here).awaits
       awaits_is =
-          ap (λ (x : Site). x.awaits) then.site_is ∙ (ap (λ t. awaits_past (is_in_flow s.account.entries) t there.blocks there.awaits next) (sym same.0) ∙
+          ap (λ (x : Site). x.awaits) site_is ∙ (ap (λ t. awaits_past (is_in_flow s.account.entries) t there.blocks there.awaits next) (sym same.0) ∙
           (awaits_stay (is_in_flow s.account.entries) single (value_of single piece (gap ++ content) is) there.blocks there.awaits next ∙ ap (λ (x : Site). x.awaits) (node_site act)))
 
-      tabbed_then : is_indented_by_spaces then.after.site.before then.after.site.blocks then.after.site.awaits gap ≡ false
+      tabbed_then : is_indented_by_spaces s.past.site.before s.past.site.blocks s.past.site.awaits gap ≡ false
       tabbed_then =
-          ap (λ b. is_indented_by_spaces b then.after.site.blocks then.after.site.awaits gap) before_is ∙ (ap (λ bs. is_indented_by_spaces quoted_scalar bs then.after.site.awaits gap) blocks_are ∙
+          ap (λ b. is_indented_by_spaces b s.past.site.blocks s.past.site.awaits gap) before_is ∙ (ap (λ bs. is_indented_by_spaces quoted_scalar bs s.past.site.awaits gap) blocks_are ∙
           (ap (λ w. is_indented_by_spaces quoted_scalar (site_at_place a here).blocks w gap) awaits_is ∙ tabbed_there))
-
-      by : (ws : List Step) → LeadsTo (Some then.after) ws s.stop → spelled_to ws s.stop ≡ gap ++ content → ⊥
-      by [] row cut =
-          let ends = separations s.stop.separation gap s.stop.rest content (s.stop.is_filled, s.stop.is_solid) (fills, ends_before content solid clean) cut in
-          cc (some, ap is_empty ends.1, s.is_over)
-      by (v ∷ vs) row cut =
-          let there_is = step_here then.after v (spelled_to vs s.stop) gap content row.0 cut fills solid clean in
-          refused _ (may_stand (is_in_flow then.after.entries) then.after.site (At then.after v (spelled_to vs s.stop)) v.separation v.piece v.shown (spelled_to vs s.stop)) vs s.stop
-          (first_fails (is_indented_by_spaces then.after.site.before then.after.site.blocks then.after.site.awaits v.separation) _ _ _ (ap (λ f. is_indented_by_spaces then.after.site.before then.after.site.blocks then.after.site.awaits f) there_is.0 ∙ tabbed_then)) row.1

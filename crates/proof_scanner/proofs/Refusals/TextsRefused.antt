@@ -41,7 +41,6 @@ use Rattle.proof_lexers.proofs.Properties.TagReads.{tags_are_read}
 use Rattle.proof_lexers.proofs.Properties.Tags.{word, leading_all, same_end, alpha_starts, decoded_some}
 use Rattle.proof_lexers.proofs.Properties.Uris.{uris_are_read}
 use Rattle.proof_row.proofs.Written as written
-use Rattle.proof_scanner.specs.Ways.{spelled_to}
 use Rattle.proof_scanner.specs.NoPiece.{quote_of, HasNoQuoted}
 use Rattle.proof_scanner.specs.QuotedLines.{AreNotIndented}
 use Rattle.proof_scanner.specs.Failing.{site_at_place}
@@ -274,7 +273,7 @@ unbroken folded = refl
 
 module _ (a : Account) (separation rest : List ℕ) (here : Position) (s : StepAt a separation rest here) where
   abbrev next : List ℕ
-  next = spelled_to s.steps s.stop
+  next = s.next
 
   abbrev Here : Kind → Type 0
   Here k = Whole k (context_of (acct a separation rest here s)) s.step.piece next s.step.shown

@@ -1,11 +1,11 @@
 -- The account after a part of a node: its site, outside flow and in flow.
-use Rattle.std.proofs.Common.{◌≡◌, ℕ, List, [], ◌∷◌, Bool, true, false, Some, refl, ap, sym, ◌∙◌}
+use Rattle.std.proofs.Common.{◌≡◌, ℕ, List, [], ◌∷◌, Bool, true, false, ◌&&◌, if◌then◌else◌, Option, Some, None, refl, ap, sym, ◌∙◌}
 use Rattle.defs_text.specs.Position.{Position}
-use Rattle.defs_token.specs.Step.{Step, act_of, gives_node}
+use Rattle.defs_token.specs.Step.{Step, act_of, gives_node, has_break}
 use Rattle.defs_token.specs.Column.{is_in_column}
-use Rattle.defs_token.specs.Key.{Line, free, taken, waits, Outside, line_past}
-use Rattle.defs_token.specs.FlowEntry.{Entry}
-use Rattle.defs_token.specs.RowAccount.{Site, Account, is_in_flow, site_past, account_past}
+use Rattle.defs_token.specs.Key.{Line, free, taken, waits, is_waiting, begins_free_line, line_past_separation, Outside, line_past}
+use Rattle.defs_token.specs.FlowEntry.{Entry, begun_by, is_renewed, entries_past}
+use Rattle.defs_token.specs.RowAccount.{Site, Account, is_in_flow, site_past, may_stand, on_one_line, past_outside, past_inside, past_piece, account_past}
 use Rattle.proof_row.proofs.Written.{At}
 use Rattle.proof_scanner.proofs.Sound.Sides.{with_entries}
 use Rattle.proof_scanner.specs.Ways.{Stop, spelled_to, LeadsTo}
@@ -43,3 +43,33 @@ past_by s l (e ∷ es) w ws stop act row =
 -- After a part of a node the row goes on with the site after it.
 pub node_past : (a : Account) (w : Step) (ws : List Step) (stop : Stop) → act_of w.shown ≡ gives_node → LeadsTo (account_past a w (spelled_to ws stop)) ws stop → NodePast a w (spelled_to ws stop) ws stop
 node_past a w ws stop act row = past_by a.site a.line a.entries w ws stop act row
+
+-- ---- the site after it
+
+-- what a step leaves where it may stand
+left : (m : Bool) (piece : List ℕ) (x : Option Account) (b : Account) → (if m then on_one_line piece x else None) ≡ Some b → x ≡ Some b
+left true piece None b e = absurd (cc e)
+left true piece (Some y) b e = by (has_break piece && is_waiting y.line) e
+  where
+    by : (k : Bool) → (if k then None else Some y) ≡ Some b → Some y ≡ Some b
+    by true f = absurd (cc f)
+    by false f = f
+left false piece x b e = absurd (cc e)
+
+piece_site : (s : Site) (w : Step) (next : List ℕ) (again : Bool) (o : Option Line) (es : List Entry) (b : Account) → act_of w.shown ≡ gives_node → past_piece s w.piece w.shown next again w.key o es ≡ Some b → b.site ≡ site_past (is_in_flow es) s w.piece w.shown next s.blocks
+piece_site s w next again None es b act e = absurd (cc e)
+piece_site s w next again (Some l) [] b act e = by (line_past (is_in_column s.position.col s.blocks) s.position s.blocks gives_node w.key l) refl (ap (λ k. past_outside s w.piece w.shown next (line_past (is_in_column s.position.col s.blocks) s.position s.blocks k w.key l)) (sym act) ∙ e)
+  where
+    by : (x : Option Outside) → line_past (is_in_column s.position.col s.blocks) s.position s.blocks gives_node w.key l ≡ x → past_outside s w.piece w.shown next x ≡ Some b → b.site ≡ site_past false s w.piece w.shown next s.blocks
+    by None i f = absurd (cc f)
+    by (Some x) i f = ap (λ (c : Account). c.site) (sym (same_of _ b f)) ∙ ap (λ bs. site_past false s w.piece w.shown next bs) (node_blocks (is_in_column s.position.col s.blocks) s.position s.blocks w.key l x i)
+piece_site s w next again (Some l) (y ∷ es) b act e = by (entries_past s.position again (act_of w.shown) (begun_by w.shown) w.key y es) e
+  where
+    by : (x : Option (List Entry)) → past_inside s w.piece w.shown next l x ≡ Some b → b.site ≡ site_past true s w.piece w.shown next s.blocks
+    by None f = absurd (cc f)
+    by (Some x) f = ap (λ (c : Account). c.site) (sym (same_of _ b f))
+
+pub node_site_past : (a : Account) (w : Step) (next : List ℕ) (b : Account) → act_of w.shown ≡ gives_node → account_past a w next ≡ Some b → b.site ≡ site_past (is_in_flow a.entries) (At a w next) w.piece w.shown next (At a w next).blocks
+node_site_past a w next b act e =
+    piece_site (At a w next) w next (is_renewed a.site.before w.separation) (line_past_separation (is_in_flow a.entries) (begins_free_line a.site.before w.separation) a.line) a.entries b act
+    (left (may_stand (is_in_flow a.entries) a.site (At a w next) w.separation w.piece w.shown next) w.piece _ b e)

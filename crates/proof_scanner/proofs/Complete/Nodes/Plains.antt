@@ -88,7 +88,7 @@ after_gap (c ∷ r) h = by (c == 35) refl
     by false e = solid refl (rw (h, e) refl)
 
 -- No TAB indents what comes after the gap, if a piece does: the next step of the row asks for that.
-next_clear : (indent : ℕ) (bs gap : List ℕ) (aw : Bool) → is_gap gap ≡ true → least_column bs true ≡ indent → is_indented_by_spaces plain_scalar bs aw gap ≡ true → has_break gap ≡ true → has_tab_within indent (last_line gap) ≡ false
+pub next_clear : (indent : ℕ) (bs gap : List ℕ) (aw : Bool) → is_gap gap ≡ true → least_column bs true ≡ indent → is_indented_by_spaces plain_scalar bs aw gap ≡ true → has_break gap ≡ true → has_tab_within indent (last_line gap) ≡ false
 next_clear indent bs gap aw white least h broken =
     let value : (aw || not (is_one_of gap 35)) ≡ true = ap (λ b. aw || not b) (no_comment gap white).0 ∙ or-true aw in
     let column : least_column bs (aw || not (is_one_of gap 35)) ≡ indent = ap (λ b. least_column bs b) value ∙ least in
