@@ -1,12 +1,12 @@
--- A text after a `!` is refused for one reason, and so is a line after a `%`.
-use Rattle.std.proofs.Common.{◌≡◌, ℕ, suc, ◌+◌, ◌-◌, List, [], ◌∷◌, ◌++◌, Bool, true, false, ◌==◌, ◌&&◌, not, nat_le, if◌then◌else◌, drop, length, Option, Some, None, Result, Ok, Err, codes, refl, ap, sym, ◌∙◌, subst, arith, length-append}
+-- A text after a `!` is refused for one reason, and so is a line after a `%`: the fault is computed from the line, and each reason for it has that fault.
+use Rattle.std.proofs.Common.{◌≡◌, ℕ, suc, ◌+◌, ◌-◌, List, [], ◌∷◌, ◌++◌, Bool, true, false, ◌==◌, ◌&&◌, not, nat_le, if◌then◌else◌, drop, length, Option, Some, None, Result, Ok, Err, codes, refl, ap, sym, ◌∙◌, arith, length-append}
 use Rattle.defs_text.specs.Position.{Position, first_position}
 use Rattle.defs_text.specs.Text.{is_empty}
 use Rattle.defs_text.specs.Classes.{is_break, is_decimal_digit, is_alpha, is_uri, is_at_gap}
 use Rattle.defs_text.specs.Breaks.{has_no_break}
 use Rattle.defs_text.specs.FlowScalar.{begins_with}
 use Rattle.defs_text.specs.Tags.{UriFault, all_of, leading, after, is_same, begins_with_mark, decoded}
-use Rattle.defs_text.specs.Directives.{number_of, begins_prefix, handle_and_rest}
+use Rattle.defs_text.specs.Directives.{number_of, begins_prefix}
 use Rattle.yaml_tokens.specs.declared.problem.Fault.{Fault}
 use Rattle.yaml_tokens.specs.declared.problem.Fault.TheVariants.{At}
 use Rattle.yaml_tokens.specs.declared.problem.Problem.{Problem}
@@ -31,7 +31,7 @@ one_tag in_flow text why1 why2 x y =
 -- ---- what is wrong with a version first
 
 -- with the digits of a number, or else after them
-abbrev number_wrong : (digits : List ℕ) → (further : Option Problem) → Option Problem
+abbrev number_wrong : (digits : List ℕ) → (more : Option Problem) → Option Problem
 number_wrong [] more = Some problem.VersionNumber
 number_wrong (c ∷ w) more = (if nat_le (length (c ∷ w)) 9 then more else Some problem.VersionTooLong)
 
@@ -149,7 +149,7 @@ line_ends : (next : List ℕ) → ends_line next ≡ true → ends_run in_line n
 line_ends [] e = refl
 line_ends (c ∷ r) e = rw e refl
 
-pub one_line : (line1 next1 line2 next2 : List ℕ) → line1 ++ next1 ≡ line2 ++ next2 → has_no_break line1 ≡ true → ends_line next1 ≡ true → has_no_break line2 ≡ true → ends_line next2 ≡ true → line1 ≡ line2
+one_line : (line1 next1 line2 next2 : List ℕ) → line1 ++ next1 ≡ line2 ++ next2 → has_no_break line1 ≡ true → ends_line next1 ≡ true → has_no_break line2 ≡ true → ends_line next2 ≡ true → line1 ≡ line2
 one_line line1 next1 line2 next2 e h j k l = (runs in_line line1 line2 next1 next2 (all_in_line line1 ∙ h) (all_in_line line2 ∙ k) (line_ends next1 j) (line_ends next2 l) e).0
 
 pub one_directive : (here : Position) (line1 next1 line2 next2 : List ℕ) → line1 ++ next1 ≡ line2 ++ next2 → has_no_break line1 ≡ true → ends_line next1 ≡ true → has_no_break line2 ≡ true → ends_line next2 ≡ true
