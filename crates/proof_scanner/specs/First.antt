@@ -3,7 +3,6 @@ use Rattle.std.specs.Prelude.{◌≡◌, ℕ, List, Bool, true, false, ◌||◌,
 use Rattle.defs_text.specs.Position.{Position}
 use Rattle.defs_token.specs.Indentation.{least_column, is_indented_by_spaces}
 use Rattle.defs_token.specs.RowAccount.{Account, is_in_flow}
-use Rattle.yaml_tokens.specs.declared.problem.Fault.TheVariants.{At}
 use Rattle.yaml_tokens.specs.declared.problem.Problem.{Problem}
 use Rattle.proof_scanner.specs.NoPiece as none
 use Rattle.proof_scanner.specs.NoPiece.{NoPiece, IsFollowed}
@@ -12,7 +11,6 @@ use Rattle.proof_scanner.specs.Failing.{MayNotStand, Fails, site_at_place, begin
 use Rattle.proof_scanner.specs.FirstQuoted.{quoted_first, lines_first, closed_first}
 use Rattle.proof_scanner.specs.FirstPlain.{plain_first}
 use Rattle.proof_scanner.specs.FirstBlock.{header_first, block_first}
-use Rattle.proof_scanner.specs.FirstProperty.{tag_first, directive_first}
 
 -- ---- what is tried before any piece
 
@@ -45,10 +43,10 @@ no_piece_first in_flow least here rest why at (none.percent more e col) = Unit {
 no_piece_first in_flow least here rest why at (none.at_sign more e) = Unit {0}
 no_piece_first in_flow least here rest why at (none.backtick more e) = Unit {0}
 no_piece_first in_flow least here rest why at (none.nameless alias more e lacks) = Unit {0}
-no_piece_first in_flow least here rest why at (none.tagless more reason e r) = tag_first in_flow more reason r
+no_piece_first in_flow least here rest why at (none.tagless more reason e r) = Unit {0}
 no_piece_first in_flow least here rest why at (none.unquoted single more reason e lacks n) = quoted_first single least here more reason n
 no_piece_first in_flow least here rest why at (none.headless style line after reason place out e one ends lacks n) = header_first style here line reason place n
-no_piece_first in_flow least here rest why at (none.undirected line next reason place col e one ends lacks r) = directive_first here line (At reason place) r
+no_piece_first in_flow least here rest why at (none.undirected line next reason place col e one ends lacks r) = Unit {0}
 
 -- what follows a piece; `taken` says whether outside flow its line was taken, `full` whether as many flow collections are open as may be
 abbrev pub followed_first : (in_flow : Bool) (least : ℕ) (taken full : Bool) (here : Position) (rest : List ℕ) (why : Problem) (at : Position) → IsFollowed in_flow here rest why at → Type 0

@@ -7,7 +7,6 @@ pub mod Faults
 pub mod First
 pub mod FirstBlock
 pub mod FirstPlain
-pub mod FirstProperty
 pub mod FirstQuoted
 pub mod Goes
 pub mod Here

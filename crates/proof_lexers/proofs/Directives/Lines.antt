@@ -172,15 +172,15 @@ module _ (start : Position) (l n : List ℕ) (line : has_no_break l ≡ true) (e
     says_version = rw (word, gap) refl
 
     version_refused : (why : Problem) (x : Result (Read Tok) Fault) → version_of said ≡ None → IsNoVersion said why → x ≡ Err (At why start) → Told start l n x
-    version_refused why x none reason e = refused (At why start) x (says_version ∙ none) (by_version why word reason) e
+    version_refused why x none reason e = refused (At why start) x (says_version ∙ none) (by_version why (record { is_name = word; is_whole = gap }) reason) e
 
     -- after the minor number
     version_end : (s minor : List ℕ) (v w : ℕ) → after classes.is_decimal_digit said ≡ 46 ∷ s → leading classes.is_decimal_digit s ≡ minor → number_of major ≡ Some v → number_of minor ≡ Some w
         → Told start l n (after_value start (record { rest = after classes.is_decimal_digit s ++ n; position = further (length minor) (past (further (length major) said_position)); value = Tok.version_directive v w }))
     version_end s minor v w point lead is is_w =
         finish before rest (defs.version v w) _ cut position (says_version ∙ rw (point, lead, is, is_w) refl)
-        (λ k e. by_comment before k (cut ∙ ap (λ r. before ++ r) e) (record { major = v; minor = w; point = s; is_version = word; has_point = point; is_major = is; is_minor = ap number_of lead ∙ is_w; is_before = e }))
-        (λ none begins. after_version rest (record { major = v; minor = w; point = s; is_version = word; has_point = point; is_major = is; is_minor = ap number_of lead ∙ is_w; is_before = refl }) none begins)
+        (λ k e. by_comment before k (cut ∙ ap (λ r. before ++ r) e) (record { major = v; minor = w; point = s; is_version = record { is_name = word; is_whole = gap }; has_point = point; is_major = is; is_minor = ap number_of lead ∙ is_w; is_before = e }))
+        (λ none begins. after_version rest (record { major = v; minor = w; point = s; is_version = record { is_name = word; is_whole = gap }; has_point = point; is_major = is; is_minor = ap number_of lead ∙ is_w; is_before = refl }) none begins)
       where
         rest : List ℕ
         rest = after classes.is_decimal_digit s
@@ -208,20 +208,20 @@ module _ (start : Position) (l n : List ℕ) (line : has_no_break l ≡ true) (e
         no_version without = rw (point, is, without) (none_by (is_rest_of_line (after classes.is_decimal_digit s)))
 
         told : (x : Result (Read ℕ) Fault) → NumberSees start (past (further (length major) said_position)) s n x → Told start l n (go x)
-        told x (missing none without e) = version_refused problem.VersionNumber (go x) (no_version without) (no_minor s point none) (ap go e)
-        told x (long much without e) = version_refused problem.VersionTooLong (go x) (no_version without) (long_minor s point much) (ap go e)
+        told x (missing none without e) = version_refused problem.VersionNumber (go x) (no_version without) (no_minor v s is point none) (ap go e)
+        told x (long much without e) = version_refused problem.VersionTooLong (go x) (no_version without) (long_minor v s is point much) (ap go e)
         told x (found w is_w e) = subst (λ y. Told start l n (go y)) (sym e) (version_end s (leading classes.is_decimal_digit s) v w point refl is is_w)
 
     point_read : (r : List ℕ) (v : ℕ) → after classes.is_decimal_digit said ≡ r → number_of major ≡ Some v
         → Told start l n (and_then (after_major start (record { rest = r ++ n; position = further (length major) said_position; value = v })) (λ t. after_value start t))
     point_read [] v rest is =
         let none = not_at_end 46 refl refl refl n ends in
-        version_refused problem.VersionDot _ (rw rest refl) (no_point (rw rest refl)) (rw none refl)
+        version_refused problem.VersionDot _ (rw rest refl) (no_point v is (rw rest refl)) (rw none refl)
     point_read (c ∷ s) v rest is = by (c == 46) refl
       where
         by : (b : Bool) → (c == 46) ≡ b → Told start l n (and_then (after_major start (record { rest = (c ∷ s) ++ n; position = further (length major) said_position; value = v })) (λ t. after_value start t))
         by true e = let same : c ≡ 46 = eqb-true c 46 e in rw e (minor_read s v (rest ∙ ap (λ k. k ∷ s) same) is)
-        by false e = version_refused problem.VersionDot _ (rw (rest, e) refl) (no_point (rw (rest, e) refl)) (rw e refl)
+        by false e = version_refused problem.VersionDot _ (rw (rest, e) refl) (no_point v is (rw (rest, e) refl)) (rw e refl)
 
     versions : Told start l n (and_then (value start version (after_word ++ n) word_position) (λ t. after_value start t))
     unfolding version_value
@@ -269,7 +269,7 @@ module _ (start : Position) (l n : List ℕ) (line : has_no_break l ≡ true) (e
     says_declaration = rw (word, gap) refl
 
     declaration_refused : (why : Problem) (x : Result (Read Tok) Fault) → declaration_by (handle_and_rest said) ≡ None → IsNoDeclaration said why → x ≡ Err (At why start) → Told start l n x
-    declaration_refused why x none reason e = refused (At why start) x (says_declaration ∙ none) (by_declaration why word reason) e
+    declaration_refused why x none reason e = refused (At why start) x (says_declaration ∙ none) (by_declaration why (record { is_name = word; is_whole = gap }) reason) e
 
     gap_missing : (r : List ℕ) → is_at_gap r ≡ false → is_rest_of_line r ≡ false
     unfolding classes.is_blank_or_end
@@ -289,7 +289,7 @@ module _ (start : Position) (l n : List ℕ) (line : has_no_break l ≡ true) (e
       declaration_end cs begins means apart =
           finish before after_prefix (tag_declaration handle_is cs) _ cut position (says_declaration ∙ declares cs begins means)
           (λ k e. absurd (no_hash (sym (ap is_at_gap e) ∙ apart)))
-          (λ none begins_no. after_declaration after_prefix (record { prefix = cs; is_declaration = word; has_handle = is; has_prefix = begins; is_prefix = means; is_before = refl; is_apart = apart }) none)
+          (λ none begins_no. after_declaration after_prefix (record { prefix = cs; is_declaration = record { is_name = word; is_whole = gap }; has_handle = is; has_prefix = begins; is_prefix = means; is_before = refl; is_apart = apart }) none)
         where
           before : List ℕ
           before = leading classes.is_alpha l ++ (leading classes.is_blank after_word ++ (handle_is ++ (leading classes.is_blank after_handle ++ prefix_text)))
@@ -327,19 +327,19 @@ module _ (start : Position) (l n : List ℕ) (line : has_no_break l ≡ true) (e
       -- after the characters of the prefix
       characters_read : (d : Result (List ℕ) UriFault) → begins_prefix from_prefix ≡ true → decoded prefix_text ≡ d
           → Told start l n (and_then (and_then (prefix_result d) (λ q. with_prefix start handle_is q)) (λ t. after_value start t))
-      characters_read (Err f) begins means = declaration_refused (problem_of f) _ (rw (is, begins, means) refl) (by_octets f means) refl
+      characters_read (Err f) begins means = declaration_refused (problem_of f) _ (rw (is, begins, means) refl) (by_octets f is begins means) refl
       characters_read (Ok cs) begins means = by (is_at_gap after_prefix) refl
         where
           by : (b : Bool) → is_at_gap after_prefix ≡ b → Told start l n (and_then (and_then (prefix_result (Ok cs)) (λ q. with_prefix start handle_is q)) (λ t. after_value start t))
           by true e = rw (gap_is after_prefix n ends, e) (declaration_end cs begins means e)
-          by false e = declaration_refused problem.TagDirectiveEnd _ (declares cs begins means ∙ rw (gap_missing after_prefix e) refl) (goes_on e) (rw (gap_is after_prefix n ends, e) refl)
+          by false e = declaration_refused problem.TagDirectiveEnd _ (declares cs begins means ∙ rw (gap_missing after_prefix e) refl) (goes_on cs is begins means e) (rw (gap_is after_prefix n ends, e) refl)
 
       prefix_read : Told start l n (and_then (prefix_after start handle_is (blanks (after_handle ++ n) handle_position)) (λ t. after_value start t))
       prefix_read = rw (blanks_skipped after_handle handle_position) (by (begins_prefix from_prefix) refl)
         where
           by : (b : Bool) → begins_prefix from_prefix ≡ b → Told start l n (and_then (and_then (prefix start (from_prefix ++ n) prefix_position) (λ q. with_prefix start handle_is q)) (λ t. after_value start t))
           by true e = rw (prefix_is (begins_with_prefix from_prefix ∙ e)) (characters_read (decoded prefix_text) e refl)
-          by false e = declaration_refused problem.GlobalTagCharacter _ (rw (is, e) refl) (no_prefix e) (ap (λ x. and_then (and_then x (λ q. with_prefix start handle_is q)) (λ t. after_value start t)) (prefix_fails (begins_with_prefix from_prefix ∙ e)))
+          by false e = declaration_refused problem.GlobalTagCharacter _ (rw (is, e) refl) (no_prefix is e) (ap (λ x. and_then (and_then x (λ q. with_prefix start handle_is q)) (λ t. after_value start t)) (prefix_fails (begins_with_prefix from_prefix ∙ e)))
 
     declarations : Told start l n (and_then (value start tag (after_word ++ n) word_position) (λ t. after_value start t))
     unfolding tag_value
@@ -403,7 +403,7 @@ module _ (start : Position) (l n : List ℕ) (line : has_no_break l ≡ true) (e
       by : (gap : Bool) → is_at_gap after_word ≡ gap
           → Told start l n (and_then (if gap then Ok (record { rest = after_word ++ n; position = word_position; value = kind (l ++ n) }) else Err (At problem.DirectiveNameEnd (past start))) (λ k. after_name start k))
       by true e = by_kind c w lead e
-      by false e = refused (At problem.DirectiveNameEnd (past start)) _ (rw (lead, e) refl) (by_name e) refl
+      by false e = refused (At problem.DirectiveNameEnd (past start)) _ (rw (lead, e) refl) (by_name (rw lead refl) e) refl
 
 -- ---- the laws
 

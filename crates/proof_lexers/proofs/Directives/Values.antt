@@ -85,6 +85,10 @@ no_second_mark : (w s : List ℕ) → begins_with_mark s ≡ false → name_and_
 no_second_mark w [] h = refl
 no_second_mark w (d ∷ s) h = rw h refl
 
+-- a name without a second mark is no handle
+pub no_handle : (c : ℕ) (w r : List ℕ) → leading classes.is_alpha r ≡ c ∷ w → begins_with_mark (after classes.is_alpha r) ≡ false → is_handle (handle_and_rest (33 ∷ r)).0 ≡ false
+no_handle c w r lead none = rw (lead, no_second_mark (c ∷ w) (after classes.is_alpha r) none) ((marked c w (ap (all_of classes.is_alpha) (sym lead) ∙ all_leading classes.is_alpha r)).0)
+
 bare_position : (p : Position) → further 0 (past p) ≡ further 1 p
 bare_position p = let i : (p.index + 1) + 0 ≡ p.index + 1 = omega arith in let j : (p.col + 1) + 0 ≡ p.col + 1 = omega arith in rw (i, j) refl
 
@@ -109,8 +113,8 @@ module _ (start p : Position) (r n : List ℕ) (ends : ends_line n ≡ true) whe
       let is : handle_and_rest (33 ∷ r) ≡ (33 ∷ [], s) = rw (lead, rest) (no_second_mark [] s none) in
       found (rw is refl) (rw is (ap (λ k. 33 ∷ k) cut)) (rw is (ap (λ q. Ok (record { rest = s ++ n; position = q; value = 33 ∷ [] })) (bare_position p)))
   without_mark (c ∷ w) s lead rest cut all none =
-      let is : handle_and_rest (33 ∷ r) ≡ (33 ∷ c ∷ w, s) = rw (lead, rest) (no_second_mark (c ∷ w) s none) in
-      open_name c w r refl lead (ap begins_with_mark rest ∙ none) (rw is ((marked c w all).0)) refl
+      let unmarked : begins_with_mark (after classes.is_alpha r) ≡ false = ap begins_with_mark rest ∙ none in
+      open_name c w r refl lead unmarked (no_handle c w r lead unmarked) refl
 
   after_name : (w s : List ℕ) → leading classes.is_alpha r ≡ w → after classes.is_alpha r ≡ s → r ≡ w ++ s → all_of classes.is_alpha w ≡ true
       → HandleSees start p (33 ∷ r) n (handle_end start (is_same w []) (33 ∷ w) (s ++ n) (further (length w) (past p)))

@@ -132,20 +132,20 @@ header_other p style line after g (headers.no_header lacks zero more begins j) =
 version_other : (text : List ℕ) (why : Problem) (p : Position) → IsNoVersion text why → Other (At why p)
 version_other text why p (directives.no_major e) = refl
 version_other text why p (directives.long_major e) = refl
-version_other text why p (directives.no_point e) = refl
-version_other text why p (directives.no_minor r e f) = refl
-version_other text why p (directives.long_minor r e f) = refl
+version_other text why p (directives.no_point major is e) = refl
+version_other text why p (directives.no_minor major r is e f) = refl
+version_other text why p (directives.long_minor major r is e f) = refl
 
 declaration_other : (text : List ℕ) (why : Problem) (p : Position) → IsNoDeclaration text why → Other (At why p)
 declaration_other text why p (directives.no_mark e) = refl
 declaration_other text why p (directives.open_name c name rest e f g) = refl
-declaration_other text why p (directives.no_prefix e) = refl
-declaration_other text why p (directives.by_octets f e) = octets_other f p
-declaration_other text why p (directives.goes_on e) = refl
+declaration_other text why p (directives.no_prefix is e) = refl
+declaration_other text why p (directives.by_octets f is begins e) = octets_other f p
+declaration_other text why p (directives.goes_on prefix is begins e f) = refl
 
 directive_other : (p : Position) (line : List ℕ) (f : Fault) → IsDirectiveRefusal p line f → Other f
 directive_other p line f (directives.no_name e) = refl
-directive_other p line f (directives.by_name e) = refl
+directive_other p line f (directives.by_name some e) = refl
 directive_other p line f (directives.by_version why e r) = version_other _ why _ r
 directive_other p line f (directives.by_declaration why e r) = declaration_other _ why _ r
 directive_other p line f (directives.by_comment before rest e g) = refl

@@ -40,20 +40,20 @@ octets_other no_character p = refl
 version_other : (t : List ℕ) (why : Problem) (p : Position) → directives.IsNoVersion t why → IsOther (At why p)
 version_other t why p (directives.no_major e) = refl
 version_other t why p (directives.long_major e) = refl
-version_other t why p (directives.no_point e) = refl
-version_other t why p (directives.no_minor r e k) = refl
-version_other t why p (directives.long_minor r e k) = refl
+version_other t why p (directives.no_point major is e) = refl
+version_other t why p (directives.no_minor major r is e k) = refl
+version_other t why p (directives.long_minor major r is e k) = refl
 
 declaration_other : (t : List ℕ) (why : Problem) (p : Position) → directives.IsNoDeclaration t why → IsOther (At why p)
 declaration_other t why p (directives.no_mark e) = refl
 declaration_other t why p (directives.open_name c name rest e k l) = refl
-declaration_other t why p (directives.no_prefix e) = refl
-declaration_other t why p (directives.by_octets f e) = octets_other f p
-declaration_other t why p (directives.goes_on e) = refl
+declaration_other t why p (directives.no_prefix is e) = refl
+declaration_other t why p (directives.by_octets f is begins e) = octets_other f p
+declaration_other t why p (directives.goes_on prefix is begins e k) = refl
 
 line_other : (start : Position) (line : List ℕ) (f : Fault) → directives.IsDirectiveRefusal start line f → IsOther f
 line_other start line f (directives.no_name e) = refl
-line_other start line f (directives.by_name e) = refl
+line_other start line f (directives.by_name some e) = refl
 line_other start line f (directives.by_version why e k) = version_other _ why start k
 line_other start line f (directives.by_declaration why e k) = declaration_other _ why start k
 line_other start line f (directives.by_comment before rest e k) = refl
