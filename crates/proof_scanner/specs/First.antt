@@ -1,7 +1,7 @@
 -- What is wrong at a place first: the reasons are tried in one order, and those that are tried before one do not hold.
 use Rattle.std.specs.Prelude.{◌≡◌, ℕ, List, Bool, true, false, ◌||◌, not, nat_le, length}
 use Rattle.defs_text.specs.Position.{Position}
-use Rattle.defs_token.specs.Indentation.{least_column, is_indented_by_spaces}
+use Rattle.defs_token.specs.Indentation.{follows_plain, least_column, is_indented_by_spaces}
 use Rattle.defs_token.specs.RowAccount.{Account, is_in_flow}
 use Rattle.yaml_tokens.specs.declared.problem.Problem.{Problem}
 use Rattle.proof_scanner.specs.NoPiece as none
@@ -59,7 +59,7 @@ followed_first in_flow least taken full here rest why at (none.no_space more pas
 followed_first in_flow least taken full here rest why at (none.tab_after_question more passed content e gap cut fills) = Unit {0}
 followed_first in_flow least taken full here rest why at (none.tab_after_colon more passed content e tab on lacks letter) = Unit {0}
 
--- a piece may not stand here
+-- a piece may not stand here; after a plain scalar a TAB that indents a line is met by the scalar itself, unless a comment has ended it
 abbrev pub stands_first : (a : Account) (separation : List ℕ) (here : Position) (rest : List ℕ) (why : Problem) (at : Position) → MayNotStand a separation here rest why at → Type 0
 stands_first a separation here rest why at (failing.shallow inside line left) = is_free_of_tabs a separation ≡ true
 stands_first a separation here rest why at (failing.too_deep bracket more e is many) = IsLookedAt a separation here rest
@@ -67,7 +67,7 @@ stands_first a separation here rest why at (failing.dash_in_flow more e gap insi
 stands_first a separation here rest why at (failing.dash_not_free more e gap out line) = IsLookedAt a separation here rest
 stands_first a separation here rest why at (failing.key_on_earlier_line more begin x xs e is are takes had late) = IsLookedAt a separation here rest
 stands_first a separation here rest why at (failing.question_not_free more e gap out line) = IsLookedAt a separation here rest
-stands_first a separation here rest why at (failing.tab_indents tab) = Unit {0}
+stands_first a separation here rest why at (failing.tab_indents tab) = follows_plain a.site.before separation ≡ false
 stands_first a separation here rest why at (failing.tab_after_quoted single piece gap content e is fills goes_on solid tab) = IsLookedAt a separation here rest × closed_first single (least_here a here) piece
 
 -- all

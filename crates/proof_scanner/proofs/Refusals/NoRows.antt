@@ -1,8 +1,17 @@
 -- Where a condition of these kinds fails no row of the text goes on.
-use Rattle.std.proofs.Common.{◌≡◌, ℕ, List, ◌∷◌, ◌++◌, Bool, true, false, refl, ap, ◌∙◌}
+use Rattle.std.proofs.Common.{nat_lt, ◌≡◌, ℕ, List, ◌∷◌, ◌++◌, Bool, true, false, refl, ap, ◌∙◌}
 use Rattle.defs_text.specs.Classes as classes
 use Rattle.defs_text.specs.Classes.{tab}
 use Rattle.defs_text.specs.Position.{Position, position_after}
+use Rattle.yaml_tokens.specs.declared.problem.Problem.TheVariants as problem
+use Rattle.proof_lexers.specs.Separations.{begins_separation}
+use Rattle.proof_lexers.specs.PlainEnds.{begins_token, stand_after}
+use Rattle.defs_token.specs.Indentation.{is_indented_by_spaces}
+use Rattle.defs_token.specs.Step.{quoted_scalar}
+use Rattle.defs_token.specs.Plain.{after_blank, on_line}
+use Rattle.defs_text.specs.Text.{is_empty}
+use Rattle.defs_token.specs.Column.{innermost}
+use Rattle.defs_token.specs.Separation.{is_separation, is_blanks}
 use Rattle.defs_token.specs.Account.{is_adjacent, before_past}
 use Rattle.defs_token.specs.Step.{Row}
 use Rattle.defs_token.specs.Beginning.{IsPlace}
@@ -15,11 +24,11 @@ use Rattle.proof_scanner.specs.Certain.{FailingPlacesHaveNoRow}
 use Rattle.proof_scanner.specs.NoPiece as none
 use Rattle.proof_scanner.specs.QuotedLines as quoted_lines
 use Rattle.proof_scanner.specs.QuotedLines.{AreNotIndented, IsQuotedFault}
-use Rattle.proof_scanner.specs.NoPiece.{NoPiece, IsPlainFault, IsBlockFault, IsFollowed}
+use Rattle.proof_scanner.specs.NoPiece.{NoPiece, IsQuoted, IsPlainFault, IsBlockFault, IsFollowed, goes_over}
 use Rattle.proof_scanner.specs.Failing as defs
 use Rattle.proof_scanner.specs.Failing.{MayNotStand, Fails, site_at_place, is_taken, is_value_here}
 use Rattle.proof_scanner.specs.Stuck.{HasNoKey}
-use Rattle.proof_scanner.proofs.Refusals.OtherRows.{StepAt, IsClearAfter, RowAt, row_at}
+use Rattle.proof_scanner.proofs.Refusals.OtherRows.{StepAt, IsClearAfter, clear_of_gap, RowAt, row_at}
 use Rattle.proof_scanner.proofs.Refusals.PiecesHere.{no_at_sign, no_backtick, no_percent, no_name, no_dash, no_bracket}
 use Rattle.proof_scanner.proofs.Refusals.PlainsRefused.{no_column, no_dash as no_plain_dash, no_tab}
 use Rattle.proof_scanner.proofs.Refusals.TextsRefused.{no_block_tab, no_tag, no_directive, no_block_header, no_quoted_text, no_quoted_lines}
@@ -28,11 +37,33 @@ use Rattle.proof_scanner.proofs.Refusals.PiecesRefused.{no_shallow, no_tabbed_da
 
 -- ---- kinds
 
-plain_other : (a : Account) (separation rest : List ℕ) (here : Position) (s : StepAt a separation rest here) → IsClearAfter s → (why : Problem) (at : Position) → comes_plain (is_in_flow a.entries) (is_adjacent (before_past (before_by a.site.before) separation)) here.col rest ≡ true
-    → IsPlainFault (is_in_flow a.entries) (site_at_place a here).blocks here rest why at → ⊥
-plain_other a separation rest here s clear why at comes (none.by_column flow left) = no_column a separation rest here s comes flow left
-plain_other a separation rest here s clear why at comes (none.by_dash before more flow cut begins over apart) = no_plain_dash a separation rest here s comes before more flow cut begins over apart
-plain_other a separation rest here s clear why at comes (none.by_tab before blanks more column cut over stands left are token) = no_tab a separation rest here s comes before blanks more column cut over stands left are token clear
+module _ (a : Account) (separation rest : List ℕ) (here : Position) (s : StepAt a separation rest here) (T : Problem → Position → Type 0) where
+  -- what is to be said of a plain scalar with a TAB in its indentation, and of a TAB after a quoted scalar
+  abbrev pub OfPlain : Type 0
+  OfPlain =
+      comes_plain (is_in_flow a.entries) (is_adjacent (before_past (before_by a.site.before) separation)) here.col rest ≡ true → (before blanks more : List ℕ) (column : ℕ) → rest ≡ before ++ 9 ∷ (blanks ++ more)
+      → goes_over (is_in_flow a.entries) (innermost (site_at_place a here).blocks) before (9 ∷ (blanks ++ more)) ≡ true → stand_after after_blank before ≡ on_line column → nat_lt column (least_column (site_at_place a here).blocks true) ≡ true
+      → is_blanks blanks ≡ true → begins_token more ≡ true → T problem.PlainTab here
+
+  abbrev pub OfQuoted : Type 0
+  OfQuoted =
+      (single : Bool) (piece gap content : List ℕ) → rest ≡ piece ++ (gap ++ content) → IsQuoted single piece (gap ++ content) → is_separation false gap content ≡ true → is_empty content ≡ false → begins_separation content ≡ false
+      → is_indented_by_spaces quoted_scalar (site_at_place a here).blocks (site_at_place a here).awaits gap ≡ false → T problem.TabInBlockIndentation (position_after (position_after here piece (gap ++ content)) gap content)
+
+  plain_other : OfPlain → (why : Problem) (at : Position) → comes_plain (is_in_flow a.entries) (is_adjacent (before_past (before_by a.site.before) separation)) here.col rest ≡ true → IsPlainFault (is_in_flow a.entries) (site_at_place a here).blocks here rest why at → T why at
+  plain_other plain why at comes (none.by_column flow left) = absurd (no_column a separation rest here s comes flow left)
+  plain_other plain why at comes (none.by_dash before more flow cut begins over apart) = absurd (no_plain_dash a separation rest here s comes before more flow cut begins over apart)
+  plain_other plain why at comes (none.by_tab before blanks more column cut over stands left are token) = plain comes before blanks more column cut over stands left are token
+
+  stands_other : OfQuoted → (why : Problem) (at : Position) → MayNotStand a separation here rest why at → T why at
+  stands_other quoted why at (defs.shallow inside line left) = absurd (no_shallow a separation rest here s inside line left)
+  stands_other quoted why at (defs.too_deep bracket more e is many) = absurd (no_bracket a separation rest here s bracket more e is many)
+  stands_other quoted why at (defs.dash_in_flow more e gap inside) = absurd (no_dash a separation rest here s more e gap inside)
+  stands_other quoted why at (defs.dash_not_free more e gap out line) = absurd (no_dash_here a separation rest here s more e gap out line)
+  stands_other quoted why at (defs.key_on_earlier_line more begin x xs e is are takes had late) = absurd (no_late_colon a separation rest here s more begin x xs e is are takes had late)
+  stands_other quoted why at (defs.tab_indents tab) = absurd (no_tabbed_line a separation rest here s tab)
+  stands_other quoted why at (defs.tab_after_quoted single piece gap content e is fills some solid tab) = quoted single piece gap content e is fills some solid tab
+  stands_other quoted why at (defs.question_not_free more e gap out line) = absurd (no_question_here a separation rest here s more e gap out line)
 
 lines_other : (a : Account) (separation rest : List ℕ) (here : Position) (s : StepAt a separation rest here) (single : Bool) (why : Problem) (at : Position) → AreNotIndented single (least_column (site_at_place a here).blocks (site_at_place a here).awaits) rest → IsQuotedFault single (least_column (site_at_place a here).blocks (site_at_place a here).awaits) here rest why at → ⊥
 lines_other a separation rest here s single why at none (quoted_lines.by_column body more es cut has solid further low) = no_quoted_lines a separation rest here s single (body ++ more) cut none
@@ -62,16 +93,6 @@ none_other a separation rest here s why at (none.unquoted single more why2 e lac
 none_other a separation rest here s why at (none.headless style line after why2 at2 out e one ends lacks r) = no_block_header a separation rest here s style line after out e one ends lacks
 none_other a separation rest here s why at (none.undirected line after why2 at2 col e one ends lacks r) = no_directive a separation rest here s line after e one ends lacks
 
-stands_other : (a : Account) (separation rest : List ℕ) (here : Position) (s : StepAt a separation rest here) → IsClearAfter s → (why : Problem) (at : Position) → MayNotStand a separation here rest why at → ⊥
-stands_other a separation rest here s clear why at (defs.shallow inside line left) = no_shallow a separation rest here s inside line left
-stands_other a separation rest here s clear why at (defs.too_deep bracket more e is many) = no_bracket a separation rest here s bracket more e is many
-stands_other a separation rest here s clear why at (defs.dash_in_flow more e gap inside) = no_dash a separation rest here s more e gap inside
-stands_other a separation rest here s clear why at (defs.dash_not_free more e gap out line) = no_dash_here a separation rest here s more e gap out line
-stands_other a separation rest here s clear why at (defs.key_on_earlier_line more begin x xs e is are takes had late) = no_late_colon a separation rest here s more begin x xs e is are takes had late
-stands_other a separation rest here s clear why at (defs.tab_indents tab) = no_tabbed_line a separation rest here s tab
-stands_other a separation rest here s clear why at (defs.tab_after_quoted single piece gap content e is fills goes_on solid tab) = no_tab_after_quoted a separation rest here s single piece gap content e is fills goes_on solid tab clear
-stands_other a separation rest here s clear why at (defs.question_not_free more e gap out line) = no_question_here a separation rest here s more e gap out line
-
 -- no row goes on at a colon for which no key waits, whatever begins one before
 pub no_keyless_colon : (text separation more : List ℕ) (a : Account) (here : Position) (r : Row) → IsPlace text a separation (58 ∷ more) here → is_value_here a separation more ≡ true → is_in_flow a.entries ≡ false → is_taken a separation ≡ true → HasNoKey text separation (58 ∷ more) here → HasRow text r → ⊥
 unfolding classes.is_blank classes.is_break
@@ -85,14 +106,21 @@ no_keyless_colon text separation more a here r p is out line none row =
     s : StepAt a separation (58 ∷ more) here
     s = at.step_at
 
--- No step stands where a condition fails, if no TAB indents what comes after the step.
+-- No step stands where a condition fails, but for these two.
+pub step_refuted : (a : Account) (separation rest : List ℕ) (here : Position) (s : StepAt a separation rest here) (T : Problem → Position → Type 0) → OfPlain a separation rest here s T → OfQuoted a separation rest here s T
+    → (why : Problem) (at : Position) → Fails a separation here rest why at → T why at
+step_refuted a separation rest here s T plain quoted why at (defs.no_piece n) = absurd (none_other a separation rest here s why at n)
+step_refuted a separation rest here s T plain quoted why at (defs.no_plain comes n) = plain_other a separation rest here s T plain why at comes n
+step_refuted a separation rest here s T plain quoted why at (defs.no_quoted single lacks n) = absurd (lines_other a separation rest here s single why at lacks n)
+step_refuted a separation rest here s T plain quoted why at (defs.no_block out n) = absurd (block_other a separation rest here s why at out n)
+step_refuted a separation rest here s T plain quoted why at (defs.followed n) = absurd (followed_other a separation rest here s why at n)
+step_refuted a separation rest here s T plain quoted why at (defs.may_not_stand n) = stands_other a separation rest here s T quoted why at n
+
+-- None stands there, if no TAB indents what comes after the step.
 pub no_step_stands : (a : Account) (separation rest : List ℕ) (here : Position) (s : StepAt a separation rest here) → IsClearAfter s → (why : Problem) (at : Position) → Fails a separation here rest why at → ⊥
-no_step_stands a separation rest here s clear why at (defs.no_piece n) = none_other a separation rest here s why at n
-no_step_stands a separation rest here s clear why at (defs.no_plain comes n) = plain_other a separation rest here s clear why at comes n
-no_step_stands a separation rest here s clear why at (defs.no_quoted single lacks n) = lines_other a separation rest here s single why at lacks n
-no_step_stands a separation rest here s clear why at (defs.no_block out n) = block_other a separation rest here s why at out n
-no_step_stands a separation rest here s clear why at (defs.followed n) = followed_other a separation rest here s why at n
-no_step_stands a separation rest here s clear why at (defs.may_not_stand n) = stands_other a separation rest here s clear why at n
+no_step_stands a separation rest here s clear =
+    step_refuted a separation rest here s (λ why at. ⊥) (λ comes before blanks more column cut over stands left are token. no_tab a separation rest here s comes before blanks more column cut over stands left are token (clear_of_gap s clear))
+    (λ single piece gap content e is fills some solid tab. no_tab_after_quoted a separation rest here s single piece gap content e is fills some solid tab clear)
 
 pub failing_places_have_no_row : FailingPlacesHaveNoRow
 failing_places_have_no_row text separation rest a here at why r p solid some f row =

@@ -25,6 +25,8 @@ use Rattle.proof_scanner.proofs.Sound.Completed.{begins_at_start, begins_past}
 use Rattle.proof_scanner.specs.Ways.{Stop, spelled_to, LeadsTo}
 use Rattle.proof_scanner.proofs.Complete.Steps.{ends_before, step_here}
 use Rattle.proof_scanner.proofs.Complete.WholeRows.{RowWay, row_way}
+use Rattle.proof_lexers.specs.PlainEnds.{is_gap}
+use Rattle.proof_scanner.proofs.Cut.Pieces.Separations.{gap_is_separation}
 
 -- no step begins in the separation at a text's end
 at_end : (b : Account) (v : Step) (f next : List ℕ) → Holds (is_separation false f []) → IsWritten b v next → f ≡ v.separation ++ (v.piece ++ next) → ⊥
@@ -122,6 +124,14 @@ abbrev pub IsClearAfter : {a : Account} {separation rest : List ℕ} {here : Pos
 IsClearAfter s =
     (gap content : List ℕ) → s.next ≡ gap ++ content → is_separation false gap content ≡ true → begins_separation content ≡ false → is_empty content ≡ false → is_indented_by_spaces s.past.site.before s.past.site.blocks s.past.site.awaits gap ≡ true
 
+-- The same, where blanks and breaks alone come before it.
+abbrev pub IsClearGapAfter : {a : Account} {separation rest : List ℕ} {here : Position} → StepAt a separation rest here → Type 0
+IsClearGapAfter s =
+    (gap content : List ℕ) → s.next ≡ gap ++ content → is_gap gap ≡ true → begins_separation content ≡ false → is_empty content ≡ false → is_indented_by_spaces s.past.site.before s.past.site.blocks s.past.site.awaits gap ≡ true
+
+pub clear_of_gap : {a : Account} {separation rest : List ℕ} {here : Position} (s : StepAt a separation rest here) → IsClearAfter s → IsClearGapAfter s
+clear_of_gap s clear gap content cut white = clear gap content cut (gap_is_separation gap content white)
+
 -- The next step of a row at a place; and a row may begin so that it leads to the account there.
 pub record RowAt (text : List ℕ) (a : Account) (separation rest : List ℕ) (here : Position) : Type 0 where
   pub step_at : StepAt a separation rest here
@@ -129,7 +139,7 @@ pub record RowAt (text : List ℕ) (a : Account) (separation rest : List ℕ) (h
   pub begins : Begins text (separation ++ rest) step_at.account
 
 -- a step that may stand has no TAB before it
-no_tab_before : (b : Account) (v : Step) (after : List ℕ) (c : Account) → account_past b v after ≡ Some c → is_indented_by_spaces b.site.before b.site.blocks b.site.awaits v.separation ≡ true
+pub no_tab_before : (b : Account) (v : Step) (after : List ℕ) (c : Account) → account_past b v after ≡ Some c → is_indented_by_spaces b.site.before b.site.blocks b.site.awaits v.separation ≡ true
 no_tab_before b v after c e = by (is_indented_by_spaces b.site.before b.site.blocks b.site.awaits v.separation) refl e
   where
     x : Option Account

@@ -1,8 +1,14 @@
 -- Faults on the way to the next token, from a state between two fetches.
-use Rattle.std.proofs.Common.{◌≡◌, ℕ, ◌+◌, ◌<◌, List, [], ◌∷◌, ◌++◌, Bool, true, false, not, ◌||◌, nat_lt, map, if◌then◌else◌, append_assoc, Option, Some, None, Result, Ok, Err, refl, ap, sym, ◌∙◌, subst, arith}
+use Rattle.std.proofs.Common.{◌==◌, append-nil, inl, inr, ◌≡◌, ℕ, ◌+◌, ◌<◌, List, [], ◌∷◌, ◌++◌, Bool, true, false, not, ◌||◌, nat_lt, map, if◌then◌else◌, append_assoc, Option, Some, None, Result, Ok, Err, refl, ap, sym, ◌∙◌, subst, arith}
 use Rattle.std.specs.List.{list_any}
 use Rattle.std.proofs.lemmas.Bool.Decides.{nat_tests}
 use Rattle.defs_text.specs.Position.{Position, position_after}
+use Rattle.std.proofs.lemmas.Bool.{and_parts, eqb-true}
+use Rattle.proof_lexers.specs.Separations.{begins_separation}
+use Rattle.proof_lexers.specs.PlainEnds.{begins_white}
+use Rattle.defs_token.specs.Indentation.{is_indented_by_spaces, follows_plain}
+use Rattle.defs_token.specs.Step.{Previous, plain_scalar, quoted_scalar, block_scalar, flow_collection, directive, another}
+use Rattle.defs_text.specs.Classes.{is_blank, is_break, is_one_of}
 use Rattle.defs_text.specs.Text.{is_empty}
 use Rattle.defs_token.specs.Separation.{is_separation}
 use Rattle.defs_token.specs.Beginning.{Begins, IsPlace}
@@ -20,7 +26,7 @@ use Rattle.proof_lexers.proofs.Separation.Positions.{position_append}
 use Rattle.proof_scanner.proofs.Cut.Pieces.Separations.{separation_append}
 use Rattle.proof_scanner.proofs.Cut.Positions.{not_before_after}
 use Rattle.proof_scanner.specs.Choices.{outside_key, chosen, MayChoose}
-use Rattle.proof_scanner.specs.StandsInRow.{Stands}
+use Rattle.proof_scanner.specs.StandsInRow.{Stands, HasNoTabs, IsReadOn, is_at_comment_or_end}
 use Rattle.proof_scanner.proofs.Sound.Passed.{least_is}
 use Rattle.proof_scanner.proofs.Sound.Stales.{no_entries}
 use Rattle.proof_scanner.proofs.Sound.ToToken.{is_in}
@@ -74,6 +80,21 @@ fetch_near t started = either t.held.started (λ _. next_near t) (λ n. absurd (
 
 -- ---- TABs
 
+or_last : (x y : Bool) → y ≡ true → (x || y) ≡ true
+or_last true y e = refl
+or_last false y e = e
+
+-- content begins no comment, and does not end a line
+at_content : (r : List ℕ) → is_empty r ≡ false → begins_separation r ≡ false → is_at_comment_or_end r ≡ true → ⊥
+at_content [] some solid h = cc some
+at_content (c ∷ r) some solid h = by (is_blank c) (is_break c) (c == 35) solid h
+  where
+    by : (blank break mark : Bool) → ((blank || break) || mark) ≡ false → (break || (mark || false)) ≡ true → ⊥
+    by true break mark i k = cc i
+    by false true mark i k = cc i
+    by false false true i k = cc i
+    by false false false i k = cc k
+
 -- no key waits behind where it is near
 far_behind : (k p : Position) → is_far k p ≡ false → k.line < p.line → ⊥
 unfolding is_far
@@ -97,6 +118,36 @@ module _ (text : List ℕ) (t : ScannerState) (s : Stands text t) (near : HasNea
       here_is : here ≡ position_after s.base.site.position (s.separation ++ d.passed) d.rest
       here_is = ap (λ p. position_after p d.passed d.rest) (s.position_is ∙ ap (position_after s.base.site.position s.separation) d.cut) ∙ sym (position_append s.base.site.position s.separation d.passed d.rest)
 
+      -- after a plain scalar all blanks and breaks were passed, so a comment stands here
+      no_plain : follows_plain s.base.site.before (s.separation ++ d.passed) ≡ false
+      no_plain = by s.base.site.before refl s.read_on
+        where
+          hash : (f p : List ℕ) → is_one_of (f ++ 35 ∷ p) 35 ≡ true
+          hash [] p = refl
+          hash (c ∷ f) p = or_last (35 == c) _ (hash f p)
+
+          comment : (passed : List ℕ) → t.rest ≡ passed ++ d.rest → is_separation false passed d.rest ≡ true → begins_white t.rest ≡ false → is_indented_by_spaces s.base.site.before s.base.site.blocks s.base.site.awaits (s.separation ++ passed) ≡ false → is_one_of (s.separation ++ passed) 35 ≡ true
+          comment [] e fills white tab = absurd (none_there s.has_no_tabs)
+            where
+              none_there : HasNoTabs s.base.site s.separation t.rest → ⊥
+              none_there (inl h) = at_content d.rest d.goes_on d.is_solid (subst (λ r. is_at_comment_or_end r ≡ true) e h)
+              none_there (inr h) = cc (h, ap (λ f. is_indented_by_spaces s.base.site.before s.base.site.blocks s.base.site.awaits f) (append-nil s.separation), tab)
+          comment (c ∷ p) e fills white tab = by_first (is_blank c) (is_break c) (c == 35) refl (and_parts (is_blank c || is_break c || (c == 35)) (is_separation (c == 35) p d.rest) fills).0 (subst (λ r. begins_white r ≡ false) e white)
+            where
+              by_first : (blank break mark : Bool) → (c == 35) ≡ mark → (blank || break || mark) ≡ true → (blank || break) ≡ false → is_one_of (s.separation ++ c ∷ p) 35 ≡ true
+              by_first true break mark i h k = absurd (cc k)
+              by_first false true mark i h k = absurd (cc k)
+              by_first false false false i h k = absurd (cc h)
+              by_first false false true i h k = subst (λ x. is_one_of (s.separation ++ x ∷ p) 35 ≡ true) (sym (eqb-true c 35 i)) (hash s.separation p)
+
+          by : (b : Previous) → s.base.site.before ≡ b → IsReadOn b s.base.site.position s.separation t.rest → follows_plain b (s.separation ++ d.passed) ≡ false
+          by plain_scalar i white = ap not (comment d.passed d.cut d.is_filled white d.is_indented_by_tab)
+          by quoted_scalar i white = refl
+          by block_scalar i white = refl
+          by flow_collection i white = refl
+          by directive i white = refl
+          by another i white = refl
+
       place : (c : Bool) → MayChoose c (outside_key s.base.entries t.held.keys) t.held.position t.rest → IsPlace text (chosen c [] t.held.keys s.base) (s.separation ++ d.passed) d.rest here
       place c may = record {
         begins = subst (λ r. Begins text r (chosen c [] t.held.keys s.base)) (ap (λ r. s.separation ++ r) d.cut ∙ sym (append_assoc s.separation d.passed d.rest)) (s.completes c [] may).0;
@@ -105,7 +156,7 @@ module _ (text : List ℕ) (t : ScannerState) (s : Stands text t) (near : HasNea
       }
 
       by : Where (outside_key s.base.entries t.held.keys) t.held.position t.rest → IsStuck text problem.TabInBlockIndentation here
-      by (placed c may) = fails (chosen c [] t.held.keys s.base) (s.separation ++ d.passed) d.rest problem.TabInBlockIndentation here here (place c may) d.goes_on d.is_solid (record { fails = may_not_stand (defs.tab_indents d.is_indented_by_tab); is_first = tt })
+      by (placed c may) = fails (chosen c [] t.held.keys s.base) (s.separation ++ d.passed) d.rest problem.TabInBlockIndentation here here (place c may) d.goes_on d.is_solid (record { fails = may_not_stand (defs.tab_indents d.is_indented_by_tab); is_first = no_plain })
       by (behind x e must late) = on (is_empty t.held.flow) refl
         where
           on : (out : Bool) → is_empty t.held.flow ≡ out → IsStuck text problem.TabInBlockIndentation here
@@ -117,7 +168,7 @@ module _ (text : List ℕ) (t : ScannerState) (s : Stands text t) (near : HasNea
               let inside : is_empty s.base.entries ≡ false = sym (same_flow t.held.key_allowed (is_renewed s.base.site.before s.separation) t.held.flow t.held.keys s.base.entries s.are_entries) ∙ i in
               key_waits (chosen false [] t.held.keys s.base) (s.separation ++ d.passed) d.rest problem.TabInBlockIndentation x.position here here
               (subst (λ r. BeginsButForKey text r x.position (chosen false [] t.held.keys s.base)) (ap (λ r. s.separation ++ r) d.cut ∙ sym (append_assoc s.separation d.passed d.rest)) (s.carries [] x e must inside d.is_some))
-              (ap not (entries_alike [] t.held.keys s.base.entries ∙ inside)) filled here_is (omega (arith, later, late)) d.goes_on d.is_solid (record { fails = may_not_stand (defs.tab_indents d.is_indented_by_tab); is_first = tt })
+              (ap not (entries_alike [] t.held.keys s.base.entries ∙ inside)) filled here_is (omega (arith, later, late)) d.goes_on d.is_solid (record { fails = may_not_stand (defs.tab_indents d.is_indented_by_tab); is_first = no_plain })
 
   pub passing_told : Faults (Told text) (skip_to_next_token t)
   passing_told =

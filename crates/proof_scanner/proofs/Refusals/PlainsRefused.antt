@@ -36,8 +36,7 @@ use Rattle.proof_scanner.proofs.Complete.Nodes.PlainScans.{stops_after, stand_ov
 use Rattle.proof_scanner.proofs.Complete.Nodes.PlainTexts.{IsClearGap, plain_tabs}
 use Rattle.proof_scanner.specs.NoPiece.{goes_over}
 use Rattle.proof_scanner.specs.Failing.{site_at_place}
-use Rattle.proof_scanner.proofs.Refusals.OtherRows.{StepAt, IsClearAfter}
-use Rattle.proof_scanner.proofs.Cut.Pieces.Separations.{gap_is_separation}
+use Rattle.proof_scanner.proofs.Refusals.OtherRows.{StepAt, IsClearGapAfter}
 use Rattle.proof_scanner.proofs.Complete.Nodes.Past.{node_site_past}
 use Rattle.proof_scanner.proofs.Refusals.PiecesHere.{acct, whole_at}
 use Rattle.proof_scanner.proofs.Refusals.PiecesRefused.{innermost_seen}
@@ -321,7 +320,7 @@ module _ (a : Account) (separation rest : List ℕ) (here : Position) (s : StepA
 
   -- a TAB that indents a line of it, or the one after it
   pub no_tab : (before blanks more : List ℕ) (column : ℕ) → rest ≡ before ++ 9 ∷ (blanks ++ more) → goes_over (is_in_flow a.entries) (innermost (site_at_place a here).blocks) before (9 ∷ (blanks ++ more)) ≡ true → stand_after after_blank before ≡ on_line column
-      → nat_lt column (least_column (site_at_place a here).blocks true) ≡ true → is_blanks blanks ≡ true → begins_token more ≡ true → IsClearAfter s → ⊥
+      → nat_lt column (least_column (site_at_place a here).blocks true) ≡ true → is_blanks blanks ≡ true → begins_token more ≡ true → IsClearGapAfter s → ⊥
   no_tab before blanks more column cut over stands low are token is_clear = by s.step.piece before refl cut over stands
     where
       least : ℕ
@@ -356,7 +355,7 @@ module _ (a : Account) (separation rest : List ℕ) (here : Position) (s : StepA
           on (ended h) = inl h
           on (solid some begins) = inr (λ broken.
               next_clear least s.past.site.blocks g.gap s.past.site.awaits g.is_white (ap (λ (x : Site). least_column x.blocks true) past_is ∙ ap (λ (x : Site). least_column x.blocks true) site_is)
-              (subst (λ y. is_indented_by_spaces y s.past.site.blocks s.past.site.awaits g.gap ≡ true) (ap (λ (x : Site). x.before) past_is ∙ ap previous_by plain_here.2) (is_clear g.gap g.rest g.cut (gap_is_separation g.gap g.rest g.is_white) begins some)) broken)
+              (subst (λ y. is_indented_by_spaces y s.past.site.blocks s.past.site.awaits g.gap ≡ true) (ap (λ (x : Site). x.before) past_is ∙ ap previous_by plain_here.2) (is_clear g.gap g.rest g.cut g.is_white begins some)) broken)
 
       -- its first character is neither a blank nor a break
       solid_first : (d : ℕ) (r : List ℕ) → s.step.piece ≡ d ∷ r → (classes.is_blank d ≡ false) × (classes.is_break d ≡ false)
