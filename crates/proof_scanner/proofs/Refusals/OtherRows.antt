@@ -4,7 +4,7 @@ use Rattle.defs_text.specs.Position.{Position, position_after}
 use Rattle.defs_text.specs.Text.{up_to_nul, is_empty, has_no_nul}
 use Rattle.defs_token.specs.Piece.{Holds}
 use Rattle.defs_token.specs.Separation.{is_separation}
-use Rattle.defs_token.specs.Step.{Step, Row, spelled}
+use Rattle.defs_token.specs.Step.{Step, Row, plain_scalar, spelled}
 use Rattle.defs_token.specs.RowAccount.{Account, first_account, is_in_flow, seen, account_past, on_one_line, past_piece, is_deep_enough, least_for}
 use Rattle.defs_token.specs.Key.{begins_free_line, line_past_separation}
 use Rattle.defs_token.specs.FlowEntry.{is_renewed}
@@ -124,13 +124,13 @@ abbrev pub IsClearAfter : {a : Account} {separation rest : List ℕ} {here : Pos
 IsClearAfter s =
     (gap content : List ℕ) → s.next ≡ gap ++ content → is_separation false gap content ≡ true → begins_separation content ≡ false → is_empty content ≡ false → is_indented_by_spaces s.past.site.before s.past.site.blocks s.past.site.awaits gap ≡ true
 
--- The same, where blanks and breaks alone come before it.
+-- The same after a plain scalar, where blanks and breaks alone come before it.
 abbrev pub IsClearGapAfter : {a : Account} {separation rest : List ℕ} {here : Position} → StepAt a separation rest here → Type 0
 IsClearGapAfter s =
-    (gap content : List ℕ) → s.next ≡ gap ++ content → is_gap gap ≡ true → begins_separation content ≡ false → is_empty content ≡ false → is_indented_by_spaces s.past.site.before s.past.site.blocks s.past.site.awaits gap ≡ true
+    s.past.site.before ≡ plain_scalar → (gap content : List ℕ) → s.next ≡ gap ++ content → is_gap gap ≡ true → begins_separation content ≡ false → is_empty content ≡ false → is_indented_by_spaces s.past.site.before s.past.site.blocks s.past.site.awaits gap ≡ true
 
 pub clear_of_gap : {a : Account} {separation rest : List ℕ} {here : Position} (s : StepAt a separation rest here) → IsClearAfter s → IsClearGapAfter s
-clear_of_gap s clear gap content cut white = clear gap content cut (gap_is_separation gap content white)
+clear_of_gap s clear before gap content cut white = clear gap content cut (gap_is_separation gap content white)
 
 -- The next step of a row at a place; and a row may begin so that it leads to the account there.
 pub record RowAt (text : List ℕ) (a : Account) (separation rest : List ℕ) (here : Position) : Type 0 where

@@ -14,6 +14,7 @@ use Rattle.defs_token.specs.Separation.{is_blanks}
 use Rattle.defs_token.specs.Token.{scalar}
 use Rattle.defs_token.specs.Token as tokens
 use Rattle.defs_token.specs.Step.{act_of}
+use Rattle.defs_token.specs.Step as steps
 use Rattle.defs_token.specs.Column.{innermost}
 use Rattle.defs_token.specs.Indentation.{least_column}
 use Rattle.defs_token.specs.Lines.{plain_lines_fit, ends_with_dash, has_dash_before_flow}
@@ -351,11 +352,14 @@ module _ (a : Account) (separation rest : List ℕ) (here : Position) (s : StepA
           past_is : s.past.site ≡ site_past (is_in_flow s.account.entries) (At s.account s.step next) s.step.piece s.step.shown next (At s.account s.step next).blocks
           past_is = node_site_past s.account s.step next s.past (ap act_of plain_here.2) s.is_past
 
+          before_is : s.past.site.before ≡ steps.plain_scalar
+          before_is = ap (λ (x : Site). x.before) past_is ∙ ap previous_by plain_here.2
+
           on : After g.rest → IsClearGap least g.gap g.rest
           on (ended h) = inl h
           on (solid some begins) = inr (λ broken.
               next_clear least s.past.site.blocks g.gap s.past.site.awaits g.is_white (ap (λ (x : Site). least_column x.blocks true) past_is ∙ ap (λ (x : Site). least_column x.blocks true) site_is)
-              (subst (λ y. is_indented_by_spaces y s.past.site.blocks s.past.site.awaits g.gap ≡ true) (ap (λ (x : Site). x.before) past_is ∙ ap previous_by plain_here.2) (is_clear g.gap g.rest g.cut g.is_white begins some)) broken)
+              (subst (λ y. is_indented_by_spaces y s.past.site.blocks s.past.site.awaits g.gap ≡ true) before_is (is_clear before_is g.gap g.rest g.cut g.is_white begins some)) broken)
 
       -- its first character is neither a blank nor a break
       solid_first : (d : ℕ) (r : List ℕ) → s.step.piece ≡ d ∷ r → (classes.is_blank d ≡ false) × (classes.is_break d ≡ false)

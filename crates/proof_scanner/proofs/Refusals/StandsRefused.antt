@@ -437,41 +437,41 @@ module _ (a : Account) (separation rest : List ℕ) (here : Position) (s : StepA
   awaits_stay false false value bs true more = refl
   awaits_stay false false value bs false more = refl
 
-  abbrev value_of : (single : Bool) (piece more : List ℕ) → IsQuoted single piece more → List ℕ
-  value_of true piece more is = is.0
-  value_of false piece more is = is.0
+  abbrev pub quoted_value : (single : Bool) (piece more : List ℕ) → IsQuoted single piece more → List ℕ
+  quoted_value true piece more is = is.0
+  quoted_value false piece more is = is.0
 
-  same_quoted_value : (single : Bool) (piece more : List ℕ) → rest ≡ piece ++ more → (is : IsQuoted single piece more) → (quoted_token single (value_of single piece more is) ≡ s.step.shown) × (more ≡ next)
-  same_quoted_value true piece more e is = let same = same_step a separation rest here s piece more (scalar single_quoted is.0) e (not_nothing a separation rest here s _ piece _ is.1.1) (is.1, refl) in (same.1, same.2)
-  same_quoted_value false piece more e is = let same = same_step a separation rest here s piece more (scalar double_quoted is.0) e (not_nothing a separation rest here s _ piece _ is.1.1) (is.1, refl) in (same.1, same.2)
+  pub same_quoted_value : (single : Bool) (piece more : List ℕ) → rest ≡ piece ++ more → (is : IsQuoted single piece more) → (piece ≡ s.step.piece) × (quoted_token single (quoted_value single piece more is) ≡ s.step.shown) × (more ≡ next)
+  same_quoted_value true piece more e is = let same = same_step a separation rest here s piece more (scalar single_quoted is.0) e (not_nothing a separation rest here s _ piece _ is.1.1) (is.1, refl) in same
+  same_quoted_value false piece more e is = let same = same_step a separation rest here s piece more (scalar double_quoted is.0) e (not_nothing a separation rest here s _ piece _ is.1.1) (is.1, refl) in same
 
-  node_token : (single : Bool) (value : List ℕ) → (act_of (quoted_token single value) ≡ gives_node) × (previous_by (quoted_token single value) ≡ quoted_scalar)
+  pub node_token : (single : Bool) (value : List ℕ) → (act_of (quoted_token single value) ≡ gives_node) × (previous_by (quoted_token single value) ≡ quoted_scalar)
   node_token true value = (refl, refl)
   node_token false value = (refl, refl)
 
   pub no_tab_after_quoted : (single : Bool) (piece gap content : List ℕ) → rest ≡ piece ++ (gap ++ content) → IsQuoted single piece (gap ++ content) → is_separation false gap content ≡ true → is_empty content ≡ false → begins_separation content ≡ false
       → is_indented_by_spaces quoted_scalar (site_at_place a here).blocks (site_at_place a here).awaits gap ≡ false → IsClearAfter s → ⊥
-  no_tab_after_quoted single piece gap content e is fills some solid tabbed_there clear = cc (clear gap content (sym same.1) fills solid some, tabbed_then)
+  no_tab_after_quoted single piece gap content e is fills some solid tabbed_there clear = cc (clear gap content (sym same.2) fills solid some, tabbed_then)
     where
-      same : (quoted_token single (value_of single piece (gap ++ content) is) ≡ s.step.shown) × (gap ++ content ≡ next)
+      same : (piece ≡ s.step.piece) × (quoted_token single (quoted_value single piece (gap ++ content) is) ≡ s.step.shown) × (gap ++ content ≡ next)
       same = same_quoted_value single piece (gap ++ content) e is
 
       act : act_of s.step.shown ≡ gives_node
-      act = ap act_of (sym same.0) ∙ (node_token single (value_of single piece (gap ++ content) is)).0
+      act = ap act_of (sym same.1) ∙ (node_token single (quoted_value single piece (gap ++ content) is)).0
 
       site_is : s.past.site ≡ site_past (is_in_flow s.account.entries) there s.step.piece s.step.shown next there.blocks
       site_is = node_site_past s.account s.step next s.past act s.is_past
 
       before_is : s.past.site.before ≡ quoted_scalar
-      before_is = ap (λ (x : Site). x.before) site_is ∙ (ap previous_by (sym same.0) ∙ (node_token single (value_of single piece (gap ++ content) is)).1)
+      before_is = ap (λ (x : Site). x.before) site_is ∙ (ap previous_by (sym same.1) ∙ (node_token single (quoted_value single piece (gap ++ content) is)).1)
 
       blocks_are : s.past.site.blocks ≡ (site_at_place a here).blocks
       blocks_are = ap (λ (x : Site). x.blocks) site_is ∙ ap (λ (x : Site). x.blocks) (node_site act)
 
       awaits_is : s.past.site.awaits ≡ (site_at_place a here).awaits
       awaits_is =
-          ap (λ (x : Site). x.awaits) site_is ∙ (ap (λ t. awaits_past (is_in_flow s.account.entries) t there.blocks there.awaits next) (sym same.0) ∙
-          (awaits_stay (is_in_flow s.account.entries) single (value_of single piece (gap ++ content) is) there.blocks there.awaits next ∙ ap (λ (x : Site). x.awaits) (node_site act)))
+          ap (λ (x : Site). x.awaits) site_is ∙ (ap (λ t. awaits_past (is_in_flow s.account.entries) t there.blocks there.awaits next) (sym same.1) ∙
+          (awaits_stay (is_in_flow s.account.entries) single (quoted_value single piece (gap ++ content) is) there.blocks there.awaits next ∙ ap (λ (x : Site). x.awaits) (node_site act)))
 
       tabbed_then : is_indented_by_spaces s.past.site.before s.past.site.blocks s.past.site.awaits gap ≡ false
       tabbed_then =

@@ -1,0 +1,178 @@
+-- Two places of a text where something fails first: they are one place, or one fails by a TAB that the other has told.
+use Rattle.std.proofs.Common.{◌≡◌, ℕ, List, [], ◌∷◌, ◌++◌, Bool, true, false, not, Option, Some, None, refl, ap, sym, ◌∙◌, subst}
+use Rattle.std.proofs.lemmas.Bool.{and_parts}
+use Rattle.defs_text.specs.Position.{Position, position_after}
+use Rattle.defs_text.specs.Text.{up_to_nul, is_empty, has_no_nul}
+use Rattle.defs_token.specs.Piece.{Holds}
+use Rattle.defs_token.specs.Separation.{is_separation}
+use Rattle.defs_token.specs.Step.{Step, act_of, gives_node, spelled}
+use Rattle.defs_token.specs.Indentation.{is_indented_by_spaces, follows_plain}
+use Rattle.defs_token.specs.RowAccount.{Account, Site, first_account, account_past}
+use Rattle.proof_lexers.specs.Separations.{begins_separation}
+use Rattle.proof_row.proofs.Pieces.{clean_up_to_end}
+use Rattle.proof_row.proofs.Separations.{separations}
+use Rattle.proof_row.proofs.Texts.{no_nul_after}
+use Rattle.proof_row.proofs.Written.{At}
+use Rattle.proof_row.proofs.Like.{IsLike}
+use Rattle.proof_scanner.proofs.Complete.Steps.{ends_before, step_here}
+use Rattle.yaml_tokens.specs.declared.problem.Problem.{Problem}
+use Rattle.yaml_tokens.specs.declared.problem.Problem.TheVariants as problem
+use Rattle.proof_scanner.specs.NoPiece.{IsQuoted}
+use Rattle.proof_scanner.specs.Failing as failing
+use Rattle.proof_scanner.specs.Failing.{Fails}
+use Rattle.proof_scanner.specs.First.{is_free_of_tabs, comes_first, FailsFirst}
+use Rattle.proof_scanner.proofs.Complete.Nodes.Past.{node_site_past}
+use Rattle.proof_scanner.proofs.Cut.Pieces.Separations.{gap_is_separation}
+use Rattle.proof_scanner.proofs.Refusals.OtherRows.{StepAt, IsClearAfter, IsClearGapAfter, no_tab_before}
+use Rattle.proof_scanner.proofs.Refusals.PlainsRefused.{no_tab}
+use Rattle.proof_scanner.proofs.Refusals.StandsRefused.{node_token, quoted_value, same_quoted_value}
+use Rattle.proof_scanner.proofs.Sound.PlainKeeps.{no_comment}
+use Rattle.proof_scanner.proofs.Refusals.NoRows.{step_refuted, no_step_stands}
+use Rattle.proof_scanner.proofs.First.Ways.{GivesUp, stays, given_up, LeadsBy, GoesOn}
+
+-- a place that a way leads to, where content begins
+pub record Stands (a : Account) (separation rest : List ℕ) (here : Position) : Type 0 where
+  pub is_filled : is_separation false separation rest ≡ true
+  pub is_solid : begins_separation rest ≡ false
+  pub goes_on : is_empty rest ≡ false
+  pub is_here : here ≡ position_after a.site.position separation rest
+
+-- a text's ways are clean
+pub clean_way : (text : List ℕ) (vs : List Step) (after : List ℕ) → spelled vs after ≡ up_to_nul text → Holds (has_no_nul (spelled vs after))
+clean_way text vs after e = subst (λ z. Holds (has_no_nul z)) (sym e) (clean_up_to_end text)
+
+-- what is left of a clean text is clean
+pub clean_left : (vs : List Step) (after : List ℕ) → Holds (has_no_nul (spelled vs after)) → Holds (has_no_nul after)
+clean_left [] after c = c
+clean_left (v ∷ vs) after c = clean_left vs after (no_nul_after v.piece (spelled vs after) (no_nul_after v.separation (v.piece ++ spelled vs after) c))
+
+-- one place of a text has one separation and one rest
+pub one_cut : (a b : Account) (s1 r1 s2 r2 : List ℕ) (h1 h2 : Position) → Stands a s1 r1 h1 → Stands b s2 r2 h2 → IsLike a b → Holds (has_no_nul (s1 ++ r1)) → s1 ++ r1 ≡ s2 ++ r2 → (s1 ≡ s2) × (r1 ≡ r2) × (h1 ≡ h2)
+one_cut a b s1 r1 s2 r2 h1 h2 p q i c e =
+    let ends = separations s1 s2 r1 r2 (p.is_filled, ends_before r1 p.is_solid (no_nul_after s1 r1 c)) (q.is_filled, ends_before r2 q.is_solid (no_nul_after s2 r2 (subst (λ z. Holds (has_no_nul z)) e c))) e in
+    (ends.0, ends.1, p.is_here ∙ (ap (λ (x : Site). position_after x.position s1 r1) i.0 ∙ (ap (λ f. position_after b.site.position f r1) ends.0 ∙ (ap (λ r. position_after b.site.position s2 r) ends.1 ∙ sym q.is_here))))
+
+pub gives_up_site : (a x : Account) → GivesUp a x → a.site ≡ x.site
+gives_up_site a x (stays e) = ap (λ (z : Account). z.site) e
+gives_up_site a x (given_up begin waiting must e) = ap (λ (z : Account). z.site) e
+
+module _ (J : Account → Account → Type 0) (R : Account → Account → List ℕ → Type 0) (a b : Account) (s1 r1 s2 r2 : List ℕ) (h1 : Position) (p : Stands a s1 r1 h1) (g : GoesOn J R a b (s1 ++ r1) (s2 ++ r2)) (clean : Holds (has_no_nul (s1 ++ r1))) where
+  abbrev pub next : List ℕ
+  next = spelled g.steps (s2 ++ r2)
+
+  at : (g.step.separation ≡ s1) × (g.step.piece ++ next ≡ r1)
+  at = step_here g.account g.step next s1 r1 g.is_written g.spells p.is_filled p.is_solid (no_nul_after s1 r1 clean)
+
+  -- the step by which a way goes on from a place
+  pub step_of : StepAt a s1 r1 h1
+  step_of = record {
+    account = g.account;
+    is_like = g.is_like;
+    step = g.step;
+    next = next;
+    past = g.past;
+    is_written = g.is_written;
+    is_past = g.is_past;
+    separation_is = at.0;
+    text_is = at.1;
+    is_clean = no_nul_after s1 r1 clean;
+    here_is = p.is_here;
+    position_is = ap (λ s. position_after s.position g.step.separation (g.step.piece ++ next)) (sym g.is_like.0) ∙ (ap (λ f. position_after a.site.position f (g.step.piece ++ next)) at.0 ∙ (ap (λ z. position_after a.site.position s1 z) at.1 ∙ sym p.is_here));
+  }
+
+-- No TAB indents what comes after a step, where a way leads on to a place where none does.
+clear_way : (J : Account → Account → Type 0) → ((x y : Account) → J x y → x.site ≡ y.site) → (o b : Account) (vs : List Step) (s2 r2 gap content : List ℕ) → LeadsBy J (Some o) vs (s2 ++ r2) b → is_separation false s2 r2 ≡ true → begins_separation r2 ≡ false → (vs ≡ [] → is_indented_by_spaces b.site.before b.site.blocks b.site.awaits s2 ≡ true)
+    → spelled vs (s2 ++ r2) ≡ gap ++ content → is_separation false gap content ≡ true → begins_separation content ≡ false → has_no_nul content ≡ true → has_no_nul r2 ≡ true → is_indented_by_spaces o.site.before o.site.blocks o.site.awaits gap ≡ true
+clear_way J same o b [] s2 r2 gap content row filled solid free e fills begins clean clean2 =
+    let ends = separations s2 gap r2 content (filled, ends_before r2 solid clean2) (fills, ends_before content begins clean) e in
+    ap (λ f. is_indented_by_spaces o.site.before o.site.blocks o.site.awaits f) (sym ends.0) ∙ (ap (λ (x : Site). is_indented_by_spaces x.before x.blocks x.awaits s2) (same o b row) ∙ free refl)
+clear_way J same o b (v ∷ vs) s2 r2 gap content row filled solid free e fills begins clean clean2 = by (account_past row.0 v (spelled vs (s2 ++ r2))) refl row.3
+  where
+    there_is : (v.separation ≡ gap) × (v.piece ++ spelled vs (s2 ++ r2) ≡ content)
+    there_is = step_here row.0 v (spelled vs (s2 ++ r2)) gap content row.2 e fills begins clean
+
+    by : (z : Option Account) → account_past row.0 v (spelled vs (s2 ++ r2)) ≡ z → LeadsBy J z vs (s2 ++ r2) b → is_indented_by_spaces o.site.before o.site.blocks o.site.awaits gap ≡ true
+    by None i k = absurd k
+    by (Some c) i k =
+        ap (λ (x : Site). is_indented_by_spaces x.before x.blocks x.awaits gap) (same o row.0 row.1) ∙ subst (λ f. is_indented_by_spaces row.0.site.before row.0.site.blocks row.0.site.awaits f ≡ true) there_is.0 (no_tab_before row.0 v (spelled vs (s2 ++ r2)) c i)
+
+-- a reason that comes first where a TAB indents what comes is just this
+pub tab_alone : (b : Account) (separation : List ℕ) (here : Position) (rest : List ℕ) (why : Problem) (at : Position) (f : Fails b separation here rest why at) → comes_first b separation here rest why at f → is_free_of_tabs b separation ≡ false
+    → (why ≡ problem.TabInBlockIndentation) × (at ≡ here) × (follows_plain b.site.before separation ≡ false)
+tab_alone b separation here rest why at (failing.no_piece n) first tab = absurd (cc (first.0.has_no_tab, tab))
+tab_alone b separation here rest why at (failing.no_plain comes n) first tab = absurd (cc (first.0.has_no_tab, tab))
+tab_alone b separation here rest why at (failing.no_quoted single lacks n) first tab = absurd (cc (first.0.has_no_tab, tab))
+tab_alone b separation here rest why at (failing.no_block out n) first tab = absurd (cc (first.0.has_no_tab, tab))
+tab_alone b separation here rest why at (failing.followed n) first tab = absurd (cc (first.0.has_no_tab, tab))
+tab_alone b separation here rest why at (failing.may_not_stand (failing.shallow inside line left)) first tab = absurd (cc (first, tab))
+tab_alone b separation here rest why at (failing.may_not_stand (failing.too_deep bracket more e is many)) first tab = absurd (cc (first.has_no_tab, tab))
+tab_alone b separation here rest why at (failing.may_not_stand (failing.dash_in_flow more e gap inside)) first tab = absurd (cc (first.has_no_tab, tab))
+tab_alone b separation here rest why at (failing.may_not_stand (failing.dash_not_free more e gap out line)) first tab = absurd (cc (first.has_no_tab, tab))
+tab_alone b separation here rest why at (failing.may_not_stand (failing.key_on_earlier_line more begin x xs e is are takes had late)) first tab = absurd (cc (first.has_no_tab, tab))
+tab_alone b separation here rest why at (failing.may_not_stand (failing.question_not_free more e gap out line)) first tab = absurd (cc (first.has_no_tab, tab))
+tab_alone b separation here rest why at (failing.may_not_stand (failing.tab_indents own)) first tab = (refl, refl, first)
+tab_alone b separation here rest why at (failing.may_not_stand (failing.tab_after_quoted single piece gap content e is fills goes_on solid own)) first tab = absurd (cc (first.0.has_no_tab, tab))
+
+module _ (J : Account → Account → Type 0) (same : (x y : Account) → J x y → x.site ≡ y.site) (R : Account → Account → List ℕ → Type 0) (a b : Account) (s1 r1 s2 r2 : List ℕ) (h1 h2 : Position) (p : Stands a s1 r1 h1) (q : Stands b s2 r2 h2)
+    (g : GoesOn J R a b (s1 ++ r1) (s2 ++ r2)) (clean : Holds (has_no_nul (s1 ++ r1))) where
+  abbrev step : StepAt a s1 r1 h1
+  step = step_of J R a b s1 r1 s2 r2 h1 p g clean
+
+  later_clean : Holds (has_no_nul (s2 ++ r2))
+  later_clean = clean_left (g.step ∷ g.steps) (s2 ++ r2) (subst (λ z. Holds (has_no_nul z)) (sym g.spells) clean)
+
+  clear : (g.steps ≡ [] → is_free_of_tabs b s2 ≡ true) → IsClearAfter step
+  unfolding step_of
+  clear free gap content cut fills solid some =
+      clear_way J same g.past b g.steps s2 r2 gap content g.leads q.is_filled q.is_solid free cut fills solid
+      (no_nul_after gap content (subst (λ z. Holds (has_no_nul z)) cut (no_nul_after g.step.piece step.next (no_nul_after g.step.separation (g.step.piece ++ step.next) (subst (λ z. Holds (has_no_nul z)) (sym g.spells) clean))))) (no_nul_after s2 r2 later_clean)
+
+  -- what comes at once after the step, with a TAB in its indentation
+  module _ (last : g.steps ≡ []) (tab : is_free_of_tabs b s2 ≡ false) (no_plain : follows_plain b.site.before s2 ≡ false) where
+    cut_there : step.next ≡ s2 ++ r2
+    unfolding step_of
+    cut_there = ap (λ ws. spelled ws (s2 ++ r2)) last
+
+    site_is : g.past.site ≡ b.site
+    site_is = same g.past b (subst (λ ws. LeadsBy J (Some g.past) ws (s2 ++ r2) b) last g.leads)
+
+    one_gap : (gap content : List ℕ) → step.next ≡ gap ++ content → is_separation false gap content ≡ true → begins_separation content ≡ false → (gap ≡ s2) × (content ≡ r2)
+    unfolding step_of
+    one_gap gap content cut fills solid =
+        let whole : gap ++ content ≡ s2 ++ r2 = sym cut ∙ cut_there in
+        separations gap s2 content r2 (fills, ends_before content solid (no_nul_after gap content (subst (λ z. Holds (has_no_nul z)) (sym whole) later_clean))) (q.is_filled, ends_before r2 q.is_solid (no_nul_after s2 r2 later_clean)) whole
+
+    clear_gap : IsClearGapAfter step
+    unfolding step_of
+    clear_gap before_is gap content cut white solid some =
+        let gap_is = (one_gap gap content cut (gap_is_separation gap content white) solid).0 in
+        absurd (cc (no_plain, ap (λ f. follows_plain b.site.before f) (sym gap_is), ap (λ (x : Site). follows_plain x.before gap) (sym site_is), ap (λ x. follows_plain x gap) before_is, ap not (no_comment gap white).0))
+
+    at_quoted : (single : Bool) (piece gap content : List ℕ) → r1 ≡ piece ++ (gap ++ content) → IsQuoted single piece (gap ++ content) → is_separation false gap content ≡ true → begins_separation content ≡ false
+        → position_after (position_after h1 piece (gap ++ content)) gap content ≡ h2
+    unfolding step_of
+    at_quoted single piece gap content e is fills solid =
+        let v = same_quoted_value a s1 r1 h1 step single piece (gap ++ content) e is in
+        let cuts = one_gap gap content (sym v.2) fills solid in
+        let act : act_of step.step.shown ≡ gives_node = ap act_of (sym v.1) ∙ (node_token a s1 r1 h1 step single (quoted_value a s1 r1 h1 step single piece (gap ++ content) is)).0 in
+        let past_is = node_site_past step.account step.step step.next step.past act step.is_past in
+        let past : g.past.site.position ≡ position_after h1 piece (gap ++ content) =
+        ap (λ (x : Site). x.position) past_is ∙ (ap (λ p. position_after p step.step.piece step.next) step.position_is ∙ (ap (λ f. position_after h1 f step.next) (sym v.0) ∙ ap (λ r. position_after h1 piece r) (sym v.2))) in
+        ap (λ p. position_after p gap content) (sym past ∙ ap (λ (x : Site). x.position) site_is) ∙ (ap (λ f. position_after b.site.position f content) cuts.0 ∙ (ap (λ r. position_after b.site.position s2 r) cuts.1 ∙ sym q.is_here))
+
+  -- Where a way goes on past a place, what fails there first is a TAB after a quoted scalar, which so fails at the next place.
+  pub fails_before : (why1 why2 : Problem) (at1 at2 : Position) → FailsFirst a s1 h1 r1 why1 at1 → FailsFirst b s2 h2 r2 why2 at2 → (why1 ≡ why2) × (at1 ≡ at2)
+  fails_before why1 why2 at1 at2 f1 f2 = by (is_free_of_tabs b s2) refl
+    where
+      on : (ws : List Step) → g.steps ≡ ws → is_free_of_tabs b s2 ≡ false → (why1 ≡ why2) × (at1 ≡ at2)
+      on (v ∷ vs) last tab = absurd (no_step_stands a s1 r1 h1 step (clear (λ none. absurd (cc (none, last)))) why1 at1 f1.fails)
+      on [] last tab =
+          let own = tab_alone b s2 h2 r2 why2 at2 f2.fails f2.is_first tab in
+          let first = step_refuted a s1 r1 h1 step (λ why at. (why ≡ problem.TabInBlockIndentation) × (at ≡ h2))
+          (λ comes before blanks more column cut over stands left are token. absurd (no_tab a s1 r1 h1 step comes before blanks more column cut over stands left are token (clear_gap last tab own.2)))
+          (λ single piece gap content e is fills some solid tabbed. (refl, at_quoted last tab own.2 single piece gap content e is fills solid)) why1 at1 f1.fails in
+          (first.0 ∙ sym own.0, first.1 ∙ sym own.1)
+
+      by : (t : Bool) → is_free_of_tabs b s2 ≡ t → (why1 ≡ why2) × (at1 ≡ at2)
+      by true free = absurd (no_step_stands a s1 r1 h1 step (clear (λ _. free)) why1 at1 f1.fails)
+      by false tab = on g.steps refl tab
