@@ -1,3 +1,4 @@
 pub mod Property
 pub mod Ways
 pub mod Places
+pub mod Stuck

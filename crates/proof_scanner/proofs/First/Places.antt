@@ -60,11 +60,11 @@ module _ (J : Account → Account → Type 0) (R : Account → Account → List 
   abbrev pub next : List ℕ
   next = spelled g.steps (s2 ++ r2)
 
-  at : (g.step.separation ≡ s1) × (g.step.piece ++ next ≡ r1)
+  pub at : (g.step.separation ≡ s1) × (g.step.piece ++ next ≡ r1)
   at = step_here g.account g.step next s1 r1 g.is_written g.spells p.is_filled p.is_solid (no_nul_after s1 r1 clean)
 
   -- the step by which a way goes on from a place
-  pub step_of : StepAt a s1 r1 h1
+  abbrev pub step_of : StepAt a s1 r1 h1
   step_of = record {
     account = g.account;
     is_like = g.is_like;
@@ -121,8 +121,7 @@ module _ (J : Account → Account → Type 0) (same : (x y : Account) → J x y 
   later_clean : Holds (has_no_nul (s2 ++ r2))
   later_clean = clean_left (g.step ∷ g.steps) (s2 ++ r2) (subst (λ z. Holds (has_no_nul z)) (sym g.spells) clean)
 
-  clear : (g.steps ≡ [] → is_free_of_tabs b s2 ≡ true) → IsClearAfter step
-  unfolding step_of
+  pub clear : (g.steps ≡ [] → is_free_of_tabs b s2 ≡ true) → IsClearAfter step
   clear free gap content cut fills solid some =
       clear_way J same g.past b g.steps s2 r2 gap content g.leads q.is_filled q.is_solid free cut fills solid
       (no_nul_after gap content (subst (λ z. Holds (has_no_nul z)) cut (no_nul_after g.step.piece step.next (no_nul_after g.step.separation (g.step.piece ++ step.next) (subst (λ z. Holds (has_no_nul z)) (sym g.spells) clean))))) (no_nul_after s2 r2 later_clean)
@@ -130,27 +129,23 @@ module _ (J : Account → Account → Type 0) (same : (x y : Account) → J x y 
   -- what comes at once after the step, with a TAB in its indentation
   module _ (last : g.steps ≡ []) (tab : is_free_of_tabs b s2 ≡ false) (no_plain : follows_plain b.site.before s2 ≡ false) where
     cut_there : step.next ≡ s2 ++ r2
-    unfolding step_of
     cut_there = ap (λ ws. spelled ws (s2 ++ r2)) last
 
     site_is : g.past.site ≡ b.site
     site_is = same g.past b (subst (λ ws. LeadsBy J (Some g.past) ws (s2 ++ r2) b) last g.leads)
 
     one_gap : (gap content : List ℕ) → step.next ≡ gap ++ content → is_separation false gap content ≡ true → begins_separation content ≡ false → (gap ≡ s2) × (content ≡ r2)
-    unfolding step_of
     one_gap gap content cut fills solid =
         let whole : gap ++ content ≡ s2 ++ r2 = sym cut ∙ cut_there in
         separations gap s2 content r2 (fills, ends_before content solid (no_nul_after gap content (subst (λ z. Holds (has_no_nul z)) (sym whole) later_clean))) (q.is_filled, ends_before r2 q.is_solid (no_nul_after s2 r2 later_clean)) whole
 
     clear_gap : IsClearGapAfter step
-    unfolding step_of
     clear_gap before_is gap content cut white solid some =
         let gap_is = (one_gap gap content cut (gap_is_separation gap content white) solid).0 in
         absurd (cc (no_plain, ap (λ f. follows_plain b.site.before f) (sym gap_is), ap (λ (x : Site). follows_plain x.before gap) (sym site_is), ap (λ x. follows_plain x gap) before_is, ap not (no_comment gap white).0))
 
     at_quoted : (single : Bool) (piece gap content : List ℕ) → r1 ≡ piece ++ (gap ++ content) → IsQuoted single piece (gap ++ content) → is_separation false gap content ≡ true → begins_separation content ≡ false
         → position_after (position_after h1 piece (gap ++ content)) gap content ≡ h2
-    unfolding step_of
     at_quoted single piece gap content e is fills solid =
         let v = same_quoted_value a s1 r1 h1 step single piece (gap ++ content) e is in
         let cuts = one_gap gap content (sym v.2) fills solid in

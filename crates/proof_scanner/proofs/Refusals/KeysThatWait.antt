@@ -80,7 +80,7 @@ below_here c (n ∷ ns) f h = by (nat_lt c n) refl (λ k. below_here c ns f.1 k)
     by true e later h = later h
     by false e later h = let less : n < c = grind (arith, nat_tests, e, h) in let most : n ≤ c = omega (arith, less) in (less, more_below n c ns most f.0)
 
-not_below : (q : ℕ) (ns : List ℕ) → is_in_column q ns ≡ true → AllBelow q ns → ⊥
+pub not_below : (q : ℕ) (ns : List ℕ) → is_in_column q ns ≡ true → AllBelow q ns → ⊥
 not_below q [] h b = cc h
 not_below q (n ∷ ns) h b = let less : n < q = b.0 in grind (arith, nat_tests, h, less)
 
@@ -303,7 +303,7 @@ made s l (d ∷ ds) w next b e = by (may_stand true s at w.separation w.piece w.
 -- ---- the line of a key
 
 -- a site on the line of a key that waits, after a piece there that is no directive
-record OnLine (q : Position) (s : Site) : Type 0 where
+pub record OnLine (q : Position) (s : Site) : Type 0 where
   unmarked : (f : List ℕ) → begins_free_line s.before f ≡ has_break f
   line_is : s.position.line ≡ q.line
   further : 1 ≤ s.position.col
@@ -395,16 +395,16 @@ waiting_past s l es w next b on is e q wt = by (made s l es w next b e)
 -- ---- a beginning and a row
 
 -- What is so of a beginning and a row that has come as far: the collections fall; where a key waits in the beginning and none in the row, the key lies deeper than all of them; and the row is on the line of its own key that waits.
-record Together (x y : Account) : Type 0 where
-  falls : Falls x.site.blocks
-  below : (q : Position) → x.line ≡ waits q → y.line ≡ taken → AllBelow q.col x.site.blocks
-  on : Waiting y.line y.site
+pub record Together (x y : Account) : Type 0 where
+  pub falls : Falls x.site.blocks
+  pub below : (q : Position) → x.line ≡ waits q → y.line ≡ taken → AllBelow q.col x.site.blocks
+  pub on : Waiting y.line y.site
 
 -- A key of a beginning is made none: none waits in it, and in the row one waits.
-record Apart (q : Position) (x y : Account) : Type 0 where
-  none : x.line ≡ taken
-  one : y.line ≡ waits q
-  on : OnLine q y.site
+pub record Apart (q : Position) (x y : Account) : Type 0 where
+  pub none : x.line ≡ taken
+  pub one : y.line ≡ waits q
+  pub on : OnLine q y.site
 
 not_free : (l m : Line) → LikeLine l m → l ≡ free → m ≡ taken → ⊥
 not_free free free i h k = cc k
@@ -533,14 +533,14 @@ apart_after s ds es w c next a b q j e1 e2 = by (made s taken ds w next a e1) (m
 
 -- ---- as far as a beginning leads
 
-together_keeps : Keeps (λ x y _. Together x y)
+pub together_keeps : Keeps (λ x y _. Together x y)
 together_keeps x y a b v c next i p k e f = record {
   falls = falls_after x.site x.line x.entries v next a p.falls e;
   below = below_after x.site x.line y.line x.entries y.entries v c next a b i.1 i.2 p.falls p.below e (subst (λ s. account_past (with_entries s y.line y.entries) (With v c) next ≡ Some b) (sym i.0) f);
   on = waiting_past y.site y.line y.entries (With v c) next b p.on k f;
 }
 
-apart_keeps : (q : Position) → Keeps (λ x y _. Apart q x y)
+pub apart_keeps : (q : Position) → Keeps (λ x y _. Apart q x y)
 apart_keeps q x y a b v c next i p k e f =
     let lines : (a.line ≡ taken) × (b.line ≡ waits q) = apart_after x.site x.entries y.entries v c next a b q i.2
     (subst (λ l. account_past (with_entries x.site l x.entries) v next ≡ Some a) p.none e)
@@ -553,7 +553,7 @@ apart_keeps q x y a b v c next i p k e f =
     own : Waiting y.line y.site
     own z e = subst (λ u. OnLine u y.site) (place z (sym p.one ∙ e)) p.on
 
-first_together : Together first_account first_account
+pub first_together : Together first_account first_account
 first_together = record { falls = tt; below = λ q h t. absurd (cc h); on = λ q h. absurd (cc h) }
 
 -- Where a key that must be one waits in a beginning, no line ends before a place to which steps lead without it.

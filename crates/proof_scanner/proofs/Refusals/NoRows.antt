@@ -14,7 +14,7 @@ use Rattle.defs_token.specs.Column.{innermost}
 use Rattle.defs_token.specs.Separation.{is_separation, is_blanks}
 use Rattle.defs_token.specs.Account.{is_adjacent, before_past}
 use Rattle.defs_token.specs.Step.{Row}
-use Rattle.defs_token.specs.Beginning.{IsPlace}
+use Rattle.defs_token.specs.Beginning.{Begins, IsPlace}
 use Rattle.defs_token.specs.Row.{HasRow}
 use Rattle.defs_token.specs.Indentation.{least_column}
 use Rattle.proof_scanner.specs.PiecesRead.{comes_plain}
@@ -93,18 +93,20 @@ none_other a separation rest here s why at (none.unquoted single more why2 e lac
 none_other a separation rest here s why at (none.headless style line after why2 at2 out e one ends lacks r) = no_block_header a separation rest here s style line after out e one ends lacks
 none_other a separation rest here s why at (none.undirected line after why2 at2 col e one ends lacks r) = no_directive a separation rest here s line after e one ends lacks
 
--- no row goes on at a colon for which no key waits, whatever begins one before
+-- no step stands at a colon for which no key waits, whatever begins one before
+pub keyless_step : (text separation more : List ℕ) (a : Account) (here : Position) (s : StepAt a separation (58 ∷ more) here) → Begins text (separation ++ 58 ∷ more) s.account → is_separation false separation (58 ∷ more) ≡ true → is_value_here a separation more ≡ true → is_in_flow a.entries ≡ false → is_taken a separation ≡ true
+    → HasNoKey text separation (58 ∷ more) here → ⊥
+unfolding classes.is_blank classes.is_break
+keyless_step text separation more a here s begins filled is out line none =
+    no_colon_here a separation (58 ∷ more) here s more refl is out line (λ q waits unbroken near.
+    none s.account q (record { begins = begins; is_filled = filled; is_here = s.here_is ∙ ap (λ (x : Site). position_after x.position separation (58 ∷ more)) s.is_like.0 }) waits unbroken near (spaces_indent a separation (58 ∷ more) here s))
+
+-- no row goes on there
 pub no_keyless_colon : (text separation more : List ℕ) (a : Account) (here : Position) (r : Row) → IsPlace text a separation (58 ∷ more) here → is_value_here a separation more ≡ true → is_in_flow a.entries ≡ false → is_taken a separation ≡ true → HasNoKey text separation (58 ∷ more) here → HasRow text r → ⊥
 unfolding classes.is_blank classes.is_break
 no_keyless_colon text separation more a here r p is out line none row =
-    no_colon_here a separation (58 ∷ more) here s more refl is out line (λ q waits unbroken near.
-    none s.account q (record { begins = at.begins; is_filled = p.is_filled; is_here = p.is_here ∙ ap (λ (x : Site). position_after x.position separation (58 ∷ more)) s.is_like.0 }) waits unbroken near (spaces_indent a separation (58 ∷ more) here s))
-  where
-    at : RowAt text a separation (58 ∷ more) here
-    at = row_at text separation (58 ∷ more) a here r p refl refl row
-
-    s : StepAt a separation (58 ∷ more) here
-    s = at.step_at
+    let at : RowAt text a separation (58 ∷ more) here = row_at text separation (58 ∷ more) a here r p refl refl row in
+    keyless_step text separation more a here at.step_at at.begins p.is_filled is out line none
 
 -- No step stands where a condition fails, but for these two.
 pub step_refuted : (a : Account) (separation rest : List ℕ) (here : Position) (s : StepAt a separation rest here) (T : Problem → Position → Type 0) → OfPlain a separation rest here s T → OfQuoted a separation rest here s T
