@@ -1,8 +1,8 @@
 -- A block scalar has one fault that comes first.
-use Rattle.std.proofs.Common.{◌≡◌, ℕ, ◌-◌, List, [], ◌∷◌, ◌++◌, Bool, true, false, ◌||◌, ◌&&◌, ◌==◌, not, if◌then◌else◌, Option, Some, None, refl, ap, sym, ◌∙◌, subst}
+use Rattle.std.proofs.Common.{◌≡◌, ℕ, ◌-◌, List, [], ◌∷◌, ◌++◌, Bool, true, false, ◌||◌, ◌&&◌, ◌==◌, if◌then◌else◌, Option, Some, None, refl, ap, sym, ◌∙◌, subst}
 use Rattle.std.proofs.lemmas.Bool.{and_parts, eqb-true}
 use Rattle.std.proofs.lemmas.List.{append_cancel_right}
-use Rattle.defs_text.specs.BlockScalar.{BlockStyle, literal, folded, strip, keep, clip, Chomping, Header, sign_of, digit_of, ended, after_sign, digit_or_end, after_digit, sign_or_end, after_style, first_indicator, header_of}
+use Rattle.defs_text.specs.BlockScalar.{BlockStyle, literal, folded, strip, keep, Chomping, Header, sign_of, digit_of, after_sign, digit_or_end, after_digit, sign_or_end, after_style, first_indicator, header_of}
 use Rattle.defs_text.specs.Breaks.{is_blanks_and_comment, is_rest_of_line, split}
 use Rattle.defs_text.specs.Classes.{tab, is_blank, is_between, is_at_end}
 use Rattle.defs_text.specs.FlowScalar.{begins_with}

@@ -10,8 +10,6 @@ use Rattle.defs_text.specs.BlockScalar as defs
 use Rattle.defs_text.specs.BlockScalar.{BlockStyle, literal, folded, header_of, leading_spaces, body, further_text}
 use Rattle.defs_text.specs.FlowScalar.{begins_with}
 use Rattle.defs_token.specs.BlockPiece.{BlockRead, block_read, read_lines, read_body}
-use Rattle.defs_token.specs.Step.{gives_node}
-use Rattle.defs_token.specs.RowAccount.{site_in}
 use Rattle.defs_token.specs.Column.{innermost}
 use Rattle.defs_token.specs.Indentation.{least_column}
 use Rattle.defs_token.specs.Following.{are_empty, lines_may_end, read_may_end, block_may_end}

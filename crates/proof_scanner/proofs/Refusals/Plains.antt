@@ -6,10 +6,9 @@ use Rattle.defs_text.specs.Text.{is_empty}
 use Rattle.defs_token.specs.Account.{is_adjacent, before_past}
 use Rattle.defs_token.specs.Plain.{inside, goes_on}
 use Rattle.defs_token.specs.Token.{Tok, Style}
-use Rattle.defs_token.specs.Step.{gives_node}
 use Rattle.defs_token.specs.Column.{innermost}
 use Rattle.defs_token.specs.Indentation.{least_column}
-use Rattle.defs_token.specs.RowAccount.{before_by, is_in_flow, site_in}
+use Rattle.defs_token.specs.RowAccount.{before_by, is_in_flow}
 use Rattle.yaml_tokens.specs.declared.problem.Fault.{Fault}
 use Rattle.yaml_tokens.specs.declared.problem.Problem.{Problem}
 use Rattle.yaml_tokens.specs.declared.problem.Problem.TheVariants as problem
@@ -35,7 +34,6 @@ use Rattle.proof_scanner.specs.NoPiece.{IsPlainFault, goes_over}
 use Rattle.proof_scanner.specs.Failing.{no_plain, site_at_place}
 use Rattle.proof_scanner.specs.Stuck.{IsStuck}
 use Rattle.proof_scanner.proofs.Refusals.Faults.{Faults, goes, read}
-use Rattle.proof_scanner.specs.First.{IsLookedAt}
 use Rattle.proof_scanner.specs.FirstPlain.{HasNoPlainFault, plain_first}
 use Rattle.proof_scanner.proofs.Refusals.Places.{Told, LiesDeep, account_by, stuck, in_flow_is, blocks_by, looked_at}
 
