@@ -5,10 +5,10 @@ use Rattle.defs_text.specs.Position.{Position, position_past, position_after}
 use Rattle.yaml_tokens.specs.declared.problem.Fault.{Fault}
 use Rattle.yaml_tokens.specs.declared.problem.Fault.TheVariants.{At}
 use Rattle.yaml_tokens.specs.declared.problem.Problem.TheVariants as problem
-use Rattle.defs_text.specs.Classes.{is_blank, is_break, is_flow, is_nul}
+use Rattle.defs_text.specs.Classes.{is_blank, is_break, is_flow}
 use Rattle.defs_text.specs.Breaks.{is_before_line_feed}
 use Rattle.defs_token.specs.Separation.{is_blanks}
-use Rattle.defs_token.specs.Plain.{Stand, inside, on_line, past, begins_flow, ends_at_colon, ends_at_comment, ends_at_line, ends_plain, goes_on, stops, ends_with_content}
+use Rattle.defs_token.specs.Plain.{Stand, inside, on_line, past, begins_flow, ends_plain, goes_on, stops, ends_with_content}
 use Rattle.model_scanner.specs.declared.context.Context.{Context}
 use Rattle.model_scanner.specs.Machine.{Read}
 use Rattle.model_scanner.specs.Folding.{Folded, with_char, with_blank, with_break, joined}
@@ -41,26 +41,40 @@ abbrev pub is_solid_end : List ℕ → Bool
 is_solid_end [] = true
 is_solid_end (c ∷ r) = ends_with_content c r
 
+-- what a scalar goes on over, by its first character
+pub further_on : (flow : Bool) (collection : Option ℕ) (s : Stand) (d : ℕ) (q next : List ℕ) → goes_on flow collection s (d ∷ q) next ≡ true → ((is_white d || not (ends_plain flow collection s (d ∷ (q ++ next)))) ≡ true) × (goes_on flow collection (past s d) q next ≡ true)
+further_on flow collection s d q next goes = and_parts (is_white d || not (ends_plain flow collection s (d ∷ (q ++ next)))) (goes_on flow collection (past s d) q next) goes
+
 pub tab_blank : is_blank 9 ≡ true
 unfolding is_blank
 tab_blank = refl
 
-flow_solid : (c : ℕ) → is_flow c ≡ true → is_white c ≡ false
+pub flow_solid : (c : ℕ) → is_flow c ≡ true → is_white c ≡ false
 unfolding is_flow is_blank is_break
 flow_solid c h = grind (arith, h)
 
--- In flow a plain scalar goes over no flow indicator.
-pub no_flow : (flow : Bool) (collection : Option ℕ) (s : Stand) (before : List ℕ) (c : ℕ) (more rest : List ℕ) → flow ≡ true → rest ≡ before ++ c ∷ more → is_flow c ≡ false → begins_flow rest ≡ true → goes_on flow collection s before (c ∷ more) ≡ true → ⊥
-no_flow flow collection s [] c more rest e cut other begins goes = cc (ap begins_flow cut, begins, other)
-no_flow flow collection s (d ∷ before) c more rest e cut other begins goes =
-    let is : is_flow d ≡ true = sym (ap begins_flow cut) ∙ begins in
-    let on = (and_parts (is_white d || not (ends_plain flow collection s (d ∷ (before ++ c ∷ more)))) (goes_on flow collection (past s d) before (c ∷ more)) goes).0 in
-    let ends : ends_plain flow collection s (d ∷ (before ++ c ∷ more)) ≡ true = rw (e, is) (or_true (((is_nul d || ends_at_colon true (d ∷ (before ++ c ∷ more))) || ends_at_comment s (d ∷ (before ++ c ∷ more))) || ends_at_line true collection s (d ∷ (before ++ c ∷ more)))) in
-    cc (on, ends, flow_solid d is)
+-- in flow no plain scalar goes on over a flow indicator
+pub no_flow_in : (flow : Bool) (collection : Option ℕ) (s : Stand) (c : ℕ) (r next : List ℕ) → goes_on flow collection s (c ∷ r) next ≡ true → (flow && is_flow c) ≡ false
+no_flow_in flow collection s c r next h = by flow (is_flow c) refl refl
   where
     or_true : (b : Bool) → (b || true) ≡ true
     or_true true = refl
     or_true false = refl
+
+    by : (f b : Bool) → flow ≡ f → is_flow c ≡ b → (f && b) ≡ false
+    by false b e i = refl
+    by true false e i = refl
+    by true true e i =
+        let on = (further_on flow collection s c r next h).0 in
+        let ends : ends_plain flow collection s (c ∷ (r ++ next)) ≡ true = rw (e, i) (or_true _) in
+        absurd (cc (on, ends, flow_solid c i))
+
+-- In flow a scalar does not go on over the start of a text that begins with a flow indicator, up to another character.
+pub no_flow : (flow : Bool) (collection : Option ℕ) (s : Stand) (before : List ℕ) (c : ℕ) (more rest : List ℕ) → flow ≡ true → rest ≡ before ++ c ∷ more → is_flow c ≡ false → begins_flow rest ≡ true → goes_on flow collection s before (c ∷ more) ≡ true → ⊥
+no_flow flow collection s [] c more rest e cut other begins goes = cc (ap begins_flow cut, begins, other)
+no_flow flow collection s (d ∷ before) c more rest e cut other begins goes =
+    let here : (flow && is_flow d) ≡ true = rw e (sym (ap begins_flow cut) ∙ begins) in
+    cc (here, no_flow_in flow collection s d before (c ∷ more) goes)
 
 module _ (ctx : Context) (start : Position) where
   -- The text after a position in a scalar has a TAB at a line's start and content after it; or, after such a TAB, it is content.
@@ -95,7 +109,7 @@ module _ (ctx : Context) (start : Position) where
   same_position : (c : ℕ) (a more gap rest : List ℕ) (p : Position) → a ≡ more ++ (gap ++ rest) → position_after (position_past p c a) (more ++ gap) rest ≡ position_after p (c ∷ (more ++ gap)) rest
   same_position c a more gap rest p cut = ap (λ b. position_after (position_past p c b) (more ++ gap) rest) (cut ∙ sym (append_assoc more gap rest))
 
-  -- What a character does to such a TAB: it begins one if it is a TAB at a line's start, and goes on with one if it is a blank.
+  -- Whether such a TAB stands before the text after a character, `u`, by whether one stands before the character, `tabs`: a TAB at a line's start is one, a blank goes on with one, and no token comes right after one.
   pub record Moves (c : ℕ) (a : List ℕ) (tabs u : Bool) (s : Stand) : Type 0 where
     pub begins : (column : ℕ) → c ≡ 9 → s ≡ on_line column → nat_lt column ctx.indent ≡ true → u ≡ true
     pub goes_further : tabs ≡ true → is_blank c ≡ true → u ≡ true
@@ -106,7 +120,7 @@ module _ (ctx : Context) (start : Position) where
   later_tab c a tabs u s next e m (tab [] blanks rest column cut goes line less blank solid) = after_tab blanks rest (m.begins column (cc cut) line less) (cc cut) blank solid
   later_tab c a tabs u s next e m (tab (d ∷ before) blanks rest column cut goes line less blank solid) =
       let same : past s d ≡ next = ap (past s) (cc cut) ∙ e in
-      let on = (and_parts (is_white d || not (ends_plain ctx.flow (collection_of ctx.indent) s (d ∷ (before ++ 9 ∷ (blanks ++ rest))))) (goes_on ctx.flow (collection_of ctx.indent) (past s d) before (9 ∷ (blanks ++ rest))) goes).1 in
+      let on = (further_on ctx.flow (collection_of ctx.indent) s d before (9 ∷ (blanks ++ rest)) goes).1 in
       tab before blanks rest column (cc cut) (rw (← same) on) (rw (← same) line) less blank solid
   later_tab c a tabs u s next e m (after_tab [] rest are cut blank solid) = absurd (cc (m.is_no_token are, ap begins_token cut, solid))
   later_tab c a tabs u s next e m (after_tab (d ∷ blanks) rest are cut blank solid) =

@@ -18,7 +18,7 @@ use Rattle.model_scanner.specs.Plain.{inside, first, is_shallow, at_dash, plain_
 use Rattle.defs_text.specs.Text.{has_no_nul}
 use Rattle.proof_lexers.specs.PlainEnds.{collection_of, is_white, begins_solid, is_indented, stand_after, goes_over, HasTab, begins_left, IsPlainRefusal, by_column, by_dash, by_tab, PlainEndsAs, reads, refuses, IsRead, read, refused}
 use Rattle.proof_lexers.specs.ScalarLaws.{PlainScalarsAreRead, PlainScansEndAsTheirTextSays}
-use Rattle.proof_lexers.proofs.Plain.Found.{after_text, after_more, Tabbed, Fails, dash, tabbed, tab, after_tab, flow_untabbed, Found, found, fails, same_left, no_lead, content_char, solid_first, past_content}
+use Rattle.proof_lexers.proofs.Plain.Found.{after_text, after_more, Tabbed, Fails, dash, tabbed, tab, after_tab, further_on, flow_untabbed, Found, found, fails, same_left, no_lead, content_char, solid_first, past_content}
 use Rattle.proof_lexers.proofs.Plain.Turns.{off_margin, in_line_position, in_line, dash_parts}
 use Rattle.proof_lexers.proofs.Plain.Scans.{scans}
 use Rattle.proof_lexers.proofs.Plain.Values.{no_markers, value_is}
@@ -115,13 +115,10 @@ scans_end ctx (c ∷ a) p full solid indented =
 -- ---- a text begins with the whole of one plain scalar alone
 
 module _ (flow : Bool) (collection : Option ℕ) where
-  further_on : (s : Stand) (d : ℕ) (q next : List ℕ) → goes_on flow collection s (d ∷ q) next ≡ true → ((is_white d || not (ends_plain flow collection s (d ∷ (q ++ next)))) ≡ true) × (goes_on flow collection (past s d) q next ≡ true)
-  further_on s d q next goes = and_parts (is_white d || not (ends_plain flow collection s (d ∷ (q ++ next)))) (goes_on flow collection (past s d) q next) goes
-
   stop_or_go : (s : Stand) (d : ℕ) (q next : List ℕ) → is_white d ≡ false → stops flow collection s (d ∷ (q ++ next)) ≡ true → goes_on flow collection s (d ∷ q) next ≡ true → ⊥
   stop_or_go s d q next e stop goes =
       let ends : ends_plain flow collection s (d ∷ (q ++ next)) ≡ true = rw e at stop in
-      let here = (further_on s d q next goes).0 in
+      let here = (further_on flow collection s d q next goes).0 in
       let no_way : false ≡ true = rw (e, ends) at here in
       cc
 
@@ -133,7 +130,7 @@ module _ (flow : Bool) (collection : Option ℕ) where
 
   no_more : (s : Stand) (d : ℕ) (q next : List ℕ) → stops flow collection s (d ∷ (q ++ next)) ≡ true → goes_on flow collection s (d ∷ q) next ≡ true → ends_with_content d q ≡ true → ⊥
   no_more s d [] next stop goes content = stop_or_go s d [] next (content_solid d content) stop goes
-  no_more s d (e ∷ q) next stop goes content = by (is_white d) refl (λ h. no_more (past s d) e q next h (further_on s d (e ∷ q) next goes).1 content) stop
+  no_more s d (e ∷ q) next stop goes content = by (is_white d) refl (λ h. no_more (past s d) e q next h (further_on flow collection s d (e ∷ q) next goes).1 content) stop
     where
       by : (white : Bool) → is_white d ≡ white → (stops flow collection (past s d) (e ∷ (q ++ next)) ≡ true → ⊥) → stops flow collection s (d ∷ e ∷ (q ++ next)) ≡ true → ⊥
       by true f others h = others (rw f at h)
@@ -149,8 +146,8 @@ module _ (flow : Bool) (collection : Option ℕ) where
   one s c (d ∷ r) (e ∷ u) next after cut goes goes' content content' stop stop' =
       let same : e ≡ d = cc in
       let tail : r ++ next ≡ u ++ after = cc in
-      let q = (further_on (past s c) d r next goes).1 in
-      let v = (further_on (past s c) e u after goes').1 in
+      let q = (further_on flow collection (past s c) d r next goes).1 in
+      let v = (further_on flow collection (past s c) e u after goes').1 in
       let here : goes_on flow collection (past (past s c) d) u after ≡ true = rw same at v in
       let last : ends_with_content d u ≡ true = rw same at content' in
       let z = one (past s c) d r u next after tail q here content last stop stop' in

@@ -7,7 +7,7 @@ use Rattle.defs_token.specs.Column.{innermost}
 use Rattle.defs_token.specs.Plain.{Stand, inside, past, begins_flow, ends_plain, goes_on}
 use Rattle.yaml_tokens.specs.declared.problem.Problem.{Problem}
 use Rattle.proof_lexers.specs.PlainEnds.{is_white}
-use Rattle.proof_lexers.proofs.Plain.Found.{no_flow}
+use Rattle.proof_lexers.proofs.Plain.Found.{further_on, no_flow}
 use Rattle.proof_scanner.specs.NoPiece as none
 use Rattle.proof_scanner.specs.NoPiece.{IsPlainFault, goes_over}
 use Rattle.proof_scanner.specs.FirstPlain.{plain_first}
@@ -23,12 +23,12 @@ no_later_dash collection s before rest more begins cut goes = no_flow true colle
 -- A scalar that goes on over two texts, each before a dash and a flow indicator, goes on over the same text.
 same_before : (collection : Option ℕ) (s : Stand) (a b x y : List ℕ) → a ++ 45 ∷ x ≡ b ++ 45 ∷ y → begins_flow x ≡ true → begins_flow y ≡ true → goes_on true collection s a (45 ∷ x) ≡ true → goes_on true collection s b (45 ∷ y) ≡ true → a ≡ b
 same_before collection s [] [] x y cut f g goes also = refl
-same_before collection s [] (d ∷ b) x y cut f g goes also = absurd (no_later_dash collection (past s d) b x y f (cc cut) (and_parts (is_white d || not (ends_plain true collection s (d ∷ (b ++ 45 ∷ y)))) (goes_on true collection (past s d) b (45 ∷ y)) also).1)
-same_before collection s (c ∷ a) [] x y cut f g goes also = absurd (no_later_dash collection (past s c) a y x g (cc cut) (and_parts (is_white c || not (ends_plain true collection s (c ∷ (a ++ 45 ∷ x)))) (goes_on true collection (past s c) a (45 ∷ x)) goes).1)
+same_before collection s [] (d ∷ b) x y cut f g goes also = absurd (no_later_dash collection (past s d) b x y f (cc cut) (further_on true collection s d b (45 ∷ y) also).1)
+same_before collection s (c ∷ a) [] x y cut f g goes also = absurd (no_later_dash collection (past s c) a y x g (cc cut) (further_on true collection s c a (45 ∷ x) goes).1)
 same_before collection s (c ∷ a) (d ∷ b) x y cut f g goes also =
     let same : d ≡ c = cc cut in
-    let on = (and_parts (is_white c || not (ends_plain true collection s (c ∷ (a ++ 45 ∷ x)))) (goes_on true collection (past s c) a (45 ∷ x)) goes).1 in
-    let next = (and_parts (is_white d || not (ends_plain true collection s (d ∷ (b ++ 45 ∷ y)))) (goes_on true collection (past s d) b (45 ∷ y)) also).1 in
+    let on = (further_on true collection s c a (45 ∷ x) goes).1 in
+    let next = (further_on true collection s d b (45 ∷ y) also).1 in
     rw (same, same_before collection (past s c) a b x y (cc cut) f g on (rw same at next)) refl
 
 -- the same of a scalar's first character on
