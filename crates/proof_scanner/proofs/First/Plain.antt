@@ -1,12 +1,10 @@
 -- A plain scalar has one fault that comes first.
-use Rattle.std.proofs.Common.{◌≡◌, ℕ, List, [], ◌∷◌, ◌++◌, Bool, true, false, ◌||◌, not, Option, refl, ap, sym, ◌∙◌}
-use Rattle.std.proofs.lemmas.Bool.{and_parts}
+use Rattle.std.proofs.Common.{◌≡◌, ℕ, List, [], ◌∷◌, ◌++◌, Bool, true, false, Option, refl, ap, sym, ◌∙◌}
 use Rattle.defs_text.specs.Classes.{is_flow}
 use Rattle.defs_text.specs.Position.{Position, position_after}
 use Rattle.defs_token.specs.Column.{innermost}
-use Rattle.defs_token.specs.Plain.{Stand, inside, past, begins_flow, ends_plain, goes_on}
+use Rattle.defs_token.specs.Plain.{Stand, inside, past, begins_flow, goes_on}
 use Rattle.yaml_tokens.specs.declared.problem.Problem.{Problem}
-use Rattle.proof_lexers.specs.PlainEnds.{is_white}
 use Rattle.proof_lexers.proofs.Plain.Found.{further_on, no_flow}
 use Rattle.proof_scanner.specs.NoPiece as none
 use Rattle.proof_scanner.specs.NoPiece.{IsPlainFault, goes_over}

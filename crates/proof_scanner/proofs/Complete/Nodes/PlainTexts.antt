@@ -17,7 +17,6 @@ use Rattle.proof_lexers.proofs.Plain.Found.{no_flow_in}
 use Rattle.proof_lexers.proofs.Bridges.{same_break, same_blank}
 use Rattle.proof_lexers.specs.PlainEnds.{is_white, is_gap}
 use Rattle.proof_row.proofs.Runs.{joined}
-use Rattle.proof_row.proofs.Texts.{flows}
 use Rattle.proof_scanner.specs.StandsInRow.{is_at_comment_or_end}
 use Rattle.proof_scanner.proofs.Sound.LastLines.{last_first, last_whole}
 use Rattle.proof_scanner.proofs.Sound.PlainLines.{Spot, in_text, at, tabbed, spot_past, past_spot, may_go, tabs_fit, dashes_fit, first_line, line_is, lines_are, all_lines, feed_first, first_is, others_are, white_is_no_dash, not_apart}
