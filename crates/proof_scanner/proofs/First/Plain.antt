@@ -1,5 +1,6 @@
 -- A plain scalar has one fault that comes first.
 use Rattle.std.proofs.Common.{◌≡◌, ℕ, List, [], ◌∷◌, ◌++◌, Bool, true, false, Option, refl, ap, sym, ◌∙◌}
+use Rattle.std.proofs.lemmas.List.{append_cancel_left}
 use Rattle.defs_text.specs.Classes.{is_flow}
 use Rattle.defs_text.specs.Position.{Position, position_after}
 use Rattle.defs_token.specs.Column.{innermost}
@@ -58,13 +59,5 @@ module _ (in_flow : Bool) (collection : List ℕ) (here : Position) (text : List
       let goes = ap (λ b. goes_over b (innermost collection) before (45 ∷ rest)) (sym flow) ∙ over in
       let also = ap (λ b. goes_over b (innermost collection) before2 (45 ∷ rest2)) (sym flow) ∙ over2 in
       let same : before ≡ before2 = same_start (innermost collection) before before2 rest rest2 (sym cut ∙ cut2) begins begins2 goes also in
-      (refl, same_place before before2 rest rest2 same (sym cut ∙ cut2))
-    where
-      left_same : (a x y : List ℕ) → a ++ 45 ∷ x ≡ a ++ 45 ∷ y → x ≡ y
-      left_same [] x y e = cc e
-      left_same (c ∷ a) x y e = left_same a x y (cc e)
-
-      same_place : (a b x y : List ℕ) → a ≡ b → a ++ 45 ∷ x ≡ b ++ 45 ∷ y → position_after here a (45 ∷ x) ≡ position_after here b (45 ∷ y)
-      same_place a b x y e f =
-          let others : x ≡ y = left_same a x y (f ∙ ap (λ c. c ++ 45 ∷ y) (sym e)) in
-          rw (e, others) refl
+      let others : 45 ∷ rest ≡ 45 ∷ rest2 = append_cancel_left before2 (45 ∷ rest) (45 ∷ rest2) (ap (λ b. b ++ 45 ∷ rest) (sym same) ∙ (sym cut ∙ cut2)) in
+      (refl, ap (λ b. position_after here b (45 ∷ rest)) same ∙ ap (position_after here before2) others)
