@@ -65,14 +65,30 @@ abbrev pub goes_over : Context → (text next : List ℕ) → Bool
 goes_over ctx [] next = true
 goes_over ctx (c ∷ r) next = goes_on ctx.flow (collection_of ctx.indent) inside r next
 
--- Why a plain scalar at a position is refused: in a flow collection it begins left of the innermost block collection, or at its start or after blanks or breaks in it a dash stands before a
--- flow indicator; or a later line of it begins with a TAB left of the innermost block collection, and holds more than a comment.
+-- A later line of a plain scalar begins with a TAB left of the innermost block collection, and holds more than a comment.
+pub record HasTab (ctx : Context) (text : List ℕ) : Type 0 where
+  pub before : List ℕ
+  pub blanks : List ℕ
+  pub rest : List ℕ
+  pub column : ℕ
+  pub is_text : text ≡ before ++ 9 ∷ (blanks ++ rest)
+  pub is_over : goes_over ctx before (9 ∷ (blanks ++ rest)) ≡ true
+  pub is_at : stand_after after_blank before ≡ on_line column
+  pub is_left : nat_lt column ctx.indent ≡ true
+  pub are_blanks : is_blanks blanks ≡ true
+  pub is_token : begins_token rest ≡ true
+
+-- whether a plain scalar begins left of the innermost block collection, in a flow collection
+abbrev pub begins_left : Context → Position → Bool
+begins_left ctx start = ctx.flow && nat_lt start.col ctx.indent
+
+-- Why a plain scalar at a position is refused: in a flow collection it begins left of the innermost block collection; or else a later line of it has such a TAB;
+-- or else, in a flow collection, at its start or after blanks or breaks in it a dash stands before a flow indicator.
 pub data IsPlainRefusal (ctx : Context) (start : Position) (text : List ℕ) : Fault → Type 0 where
   by_column : ctx.flow ≡ true → nat_lt start.col ctx.indent ≡ true → IsPlainRefusal ctx start text (At problem.FlowIndentation start)
-  by_dash : (before rest : List ℕ) → ctx.flow ≡ true → text ≡ before ++ 45 ∷ rest → begins_flow rest ≡ true → goes_over ctx before (45 ∷ rest) ≡ true → is_apart (stand_after after_blank before) ≡ true
+  by_tab : begins_left ctx start ≡ false → HasTab ctx text → IsPlainRefusal ctx start text (At problem.PlainTab start)
+  by_dash : (before rest : List ℕ) → begins_left ctx start ≡ false → (HasTab ctx text → ⊥) → ctx.flow ≡ true → text ≡ before ++ 45 ∷ rest → begins_flow rest ≡ true → goes_over ctx before (45 ∷ rest) ≡ true → is_apart (stand_after after_blank before) ≡ true
       → IsPlainRefusal ctx start text (At problem.PlainDashInFlow (position_after start before (45 ∷ rest)))
-  by_tab : (before blanks rest : List ℕ) (column : ℕ) → text ≡ before ++ 9 ∷ (blanks ++ rest) → goes_over ctx before (9 ∷ (blanks ++ rest)) ≡ true → stand_after after_blank before ≡ on_line column
-      → nat_lt column ctx.indent ≡ true → is_blanks blanks ≡ true → begins_token rest ≡ true → IsPlainRefusal ctx start text (At problem.PlainTab start)
 
 -- what is left after a plain scalar at a position, its gap, and what stands after that; its value, and whether a break stands in the gap
 abbrev pub after_plain : Position → (piece gap rest value : List ℕ) → Read Plain

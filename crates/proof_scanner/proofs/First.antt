@@ -1,4 +1,6 @@
-pub mod Property
-pub mod Ways
+pub mod Block
 pub mod Places
+pub mod Plain
+pub mod Property
 pub mod Stuck
+pub mod Ways

@@ -88,7 +88,7 @@ part_column None indent ls ns e further =
 
 -- ---- the two ends
 
-style_same : (s t : BlockStyle) → indicator_of s ≡ indicator_of t → s ≡ t
+pub style_same : (s t : BlockStyle) → indicator_of s ≡ indicator_of t → s ≡ t
 style_same defs.literal defs.literal e = refl
 style_same defs.literal defs.folded e = let no : true ≡ false = ap (λ n. n == 124) e in absurd (true_false no)
 style_same defs.folded defs.literal e = let no : false ≡ true = ap (λ n. n == 124) e in absurd (true_false (sym no))

@@ -1,11 +1,11 @@
 -- What a plain scalar's scan finds from a position in it on, and what one character before that adds.
-use Rattle.std.proofs.Common.{◌≡◌, ℕ, List, [], ◌∷◌, ◌++◌, Bool, true, false, ◌||◌, ◌&&◌, not, ◌==◌, if◌then◌else◌, Result, Ok, Err, refl, ap, sym, ◌∙◌, append_assoc, nat_lt}
+use Rattle.std.proofs.Common.{◌≡◌, ℕ, List, [], ◌∷◌, ◌++◌, Bool, true, false, ◌||◌, ◌&&◌, not, ◌==◌, if◌then◌else◌, Option, Result, Ok, Err, refl, ap, sym, ◌∙◌, subst, append_assoc, arith, nat_lt}
 use Rattle.std.proofs.lemmas.Bool.{and_parts}
 use Rattle.defs_text.specs.Position.{Position, position_past, position_after}
 use Rattle.yaml_tokens.specs.declared.problem.Fault.{Fault}
 use Rattle.yaml_tokens.specs.declared.problem.Fault.TheVariants.{At}
 use Rattle.yaml_tokens.specs.declared.problem.Problem.TheVariants as problem
-use Rattle.defs_text.specs.Classes.{is_blank, is_break}
+use Rattle.defs_text.specs.Classes.{is_blank, is_break, is_flow}
 use Rattle.defs_text.specs.Breaks.{is_before_line_feed}
 use Rattle.defs_token.specs.Separation.{is_blanks}
 use Rattle.defs_token.specs.Plain.{Stand, inside, on_line, past, begins_flow, ends_plain, goes_on, stops, ends_with_content}
@@ -41,14 +41,53 @@ abbrev pub is_solid_end : List ℕ → Bool
 is_solid_end [] = true
 is_solid_end (c ∷ r) = ends_with_content c r
 
+-- what a scalar goes on over, by its first character
+pub further_on : (flow : Bool) (collection : Option ℕ) (s : Stand) (d : ℕ) (q next : List ℕ) → goes_on flow collection s (d ∷ q) next ≡ true → ((is_white d || not (ends_plain flow collection s (d ∷ (q ++ next)))) ≡ true) × (goes_on flow collection (past s d) q next ≡ true)
+further_on flow collection s d q next goes = and_parts (is_white d || not (ends_plain flow collection s (d ∷ (q ++ next)))) (goes_on flow collection (past s d) q next) goes
+
+pub tab_blank : is_blank 9 ≡ true
+unfolding is_blank
+tab_blank = refl
+
+pub flow_solid : (c : ℕ) → is_flow c ≡ true → is_white c ≡ false
+unfolding is_flow is_blank is_break
+flow_solid c h = grind (arith, h)
+
+-- in flow no plain scalar goes on over a flow indicator
+pub no_flow_in : (flow : Bool) (collection : Option ℕ) (s : Stand) (c : ℕ) (r next : List ℕ) → goes_on flow collection s (c ∷ r) next ≡ true → (flow && is_flow c) ≡ false
+no_flow_in flow collection s c r next h = by flow (is_flow c) refl refl
+  where
+    or_true : (b : Bool) → (b || true) ≡ true
+    or_true true = refl
+    or_true false = refl
+
+    by : (f b : Bool) → flow ≡ f → is_flow c ≡ b → (f && b) ≡ false
+    by false b e i = refl
+    by true false e i = refl
+    by true true e i =
+        let on = (further_on flow collection s c r next h).0 in
+        let ends : ends_plain flow collection s (c ∷ (r ++ next)) ≡ true = rw (e, i) (or_true _) in
+        absurd (cc (on, ends, flow_solid c i))
+
+-- In flow a scalar does not go on over the start of a text that begins with a flow indicator, up to another character.
+pub no_flow : (flow : Bool) (collection : Option ℕ) (s : Stand) (before : List ℕ) (c : ℕ) (more rest : List ℕ) → flow ≡ true → rest ≡ before ++ c ∷ more → is_flow c ≡ false → begins_flow rest ≡ true → goes_on flow collection s before (c ∷ more) ≡ true → ⊥
+no_flow flow collection s [] c more rest e cut other begins goes = cc (ap begins_flow cut, begins, other)
+no_flow flow collection s (d ∷ before) c more rest e cut other begins goes =
+    let here : (flow && is_flow d) ≡ true = rw e (sym (ap begins_flow cut) ∙ begins) in
+    cc (here, no_flow_in flow collection s d before (c ∷ more) goes)
+
 module _ (ctx : Context) (start : Position) where
-  -- Why the text after a position in a scalar is refused: a dash before a flow indicator; a TAB at a line's start and content after it; or, after such a TAB, content.
-  pub data Fails (tabs : Bool) (s : Stand) (p : Position) (a : List ℕ) : Fault → Type 0 where
-    dash : (before rest : List ℕ) → ctx.flow ≡ true → a ≡ before ++ 45 ∷ rest → begins_flow rest ≡ true → goes_on ctx.flow (collection_of ctx.indent) s before (45 ∷ rest) ≡ true → is_apart (stand_after s before) ≡ true
-        → Fails tabs s p a (At problem.PlainDashInFlow (position_after p before (45 ∷ rest)))
+  -- The text after a position in a scalar has a TAB at a line's start and content after it; or, after such a TAB, it is content.
+  pub data Tabbed (tabs : Bool) (s : Stand) (a : List ℕ) : Type 0 where
     tab : (before blanks rest : List ℕ) (column : ℕ) → a ≡ before ++ 9 ∷ (blanks ++ rest) → goes_on ctx.flow (collection_of ctx.indent) s before (9 ∷ (blanks ++ rest)) ≡ true → stand_after s before ≡ on_line column
-        → nat_lt column ctx.indent ≡ true → is_blanks blanks ≡ true → begins_token rest ≡ true → Fails tabs s p a (At problem.PlainTab start)
-    after_tab : (blanks rest : List ℕ) → tabs ≡ true → a ≡ blanks ++ rest → is_blanks blanks ≡ true → begins_token rest ≡ true → Fails tabs s p a (At problem.PlainTab start)
+        → nat_lt column ctx.indent ≡ true → is_blanks blanks ≡ true → begins_token rest ≡ true → Tabbed tabs s a
+    after_tab : (blanks rest : List ℕ) → tabs ≡ true → a ≡ blanks ++ rest → is_blanks blanks ≡ true → begins_token rest ≡ true → Tabbed tabs s a
+
+  -- Why the text after a position in a scalar is refused: such a TAB; or, without one, a dash before a flow indicator.
+  pub data Fails (tabs : Bool) (s : Stand) (p : Position) (a : List ℕ) : Fault → Type 0 where
+    tabbed : Tabbed tabs s a → Fails tabs s p a (At problem.PlainTab start)
+    dash : (before rest : List ℕ) → (Tabbed tabs s a → ⊥) → ctx.flow ≡ true → a ≡ before ++ 45 ∷ rest → begins_flow rest ≡ true → goes_on ctx.flow (collection_of ctx.indent) s before (45 ∷ rest) ≡ true → is_apart (stand_after s before) ≡ true
+        → Fails tabs s p a (At problem.PlainDashInFlow (position_after p before (45 ∷ rest)))
 
   abbrev pub left : Position → Folded → (more gap rest : List ℕ) → Read Plain
   left p t more gap rest = record { rest = rest; position = position_after p (more ++ gap) rest; value = record { text = (after_text more t).text; leading = leads more t gap } }
@@ -70,17 +109,38 @@ module _ (ctx : Context) (start : Position) where
   same_position : (c : ℕ) (a more gap rest : List ℕ) (p : Position) → a ≡ more ++ (gap ++ rest) → position_after (position_past p c a) (more ++ gap) rest ≡ position_after p (c ∷ (more ++ gap)) rest
   same_position c a more gap rest p cut = ap (λ b. position_after (position_past p c b) (more ++ gap) rest) (cut ∙ sym (append_assoc more gap rest))
 
+  -- Whether such a TAB stands before the text after a character, `u`, by whether one stands before the character, `tabs`: a TAB at a line's start is one, a blank goes on with one, and no token comes right after one.
+  pub record Moves (c : ℕ) (a : List ℕ) (tabs u : Bool) (s : Stand) : Type 0 where
+    pub begins : (column : ℕ) → c ≡ 9 → s ≡ on_line column → nat_lt column ctx.indent ≡ true → u ≡ true
+    pub goes_further : tabs ≡ true → is_blank c ≡ true → u ≡ true
+    pub is_no_token : tabs ≡ true → begins_token (c ∷ a) ≡ false
+
+  -- a TAB that is told from one character before is told after it
+  pub later_tab : (c : ℕ) (a : List ℕ) (tabs u : Bool) (s next : Stand) → past s c ≡ next → Moves c a tabs u s → Tabbed tabs s (c ∷ a) → Tabbed u next a
+  later_tab c a tabs u s next e m (tab [] blanks rest column cut goes line less blank solid) = after_tab blanks rest (m.begins column (cc cut) line less) (cc cut) blank solid
+  later_tab c a tabs u s next e m (tab (d ∷ before) blanks rest column cut goes line less blank solid) =
+      let same : past s d ≡ next = ap (past s) (cc cut) ∙ e in
+      let on = (further_on ctx.flow (collection_of ctx.indent) s d before (9 ∷ (blanks ++ rest)) goes).1 in
+      tab before blanks rest column (cc cut) (rw (← same) on) (rw (← same) line) less blank solid
+  later_tab c a tabs u s next e m (after_tab [] rest are cut blank solid) = absurd (cc (m.is_no_token are, ap begins_token cut, solid))
+  later_tab c a tabs u s next e m (after_tab (d ∷ blanks) rest are cut blank solid) =
+      let q = and_parts (is_blank d) (is_blanks blanks) blank in
+      let same : c ≡ d = cc cut in
+      after_tab blanks rest (m.goes_further are (ap is_blank same ∙ q.0)) (cc cut) q.1 solid
+
   -- the same refusal, told from one character before; that one is no end of the scalar
   pub further : (c : ℕ) (a : List ℕ) (tabs u : Bool) (s next : Stand) (p : Position) (f : Fault) → past s c ≡ next → (is_white c || not (ends_plain ctx.flow (collection_of ctx.indent) s (c ∷ a))) ≡ true
-      → ((blanks rest : List ℕ) → u ≡ true → a ≡ blanks ++ rest → is_blanks blanks ≡ true → begins_token rest ≡ true → Fails tabs s p (c ∷ a) (At problem.PlainTab start))
+      → ((blanks rest : List ℕ) → u ≡ true → a ≡ blanks ++ rest → is_blanks blanks ≡ true → begins_token rest ≡ true → Tabbed tabs s (c ∷ a)) → Moves c a tabs u s
       → Fails u next (position_past p c a) a f → Fails tabs s p (c ∷ a) f
-  further c a tabs u s next p f e on after (dash before rest flow cut begins goes apart) =
+  further c a tabs u s next p f e on after moves (dash before rest free flow cut begins goes apart) =
       let here : (is_white c || not (ends_plain ctx.flow (collection_of ctx.indent) s (c ∷ (before ++ 45 ∷ rest)))) ≡ true = rw cut at on in
-      rw cut (dash (c ∷ before) rest flow refl begins (rw (here, e) goes) (rw e apart))
-  further c a tabs u s next p f e on after (tab before blanks rest column cut goes line less blank solid) =
+      let place : position_after (position_past p c a) before (45 ∷ rest) ≡ position_after p (c ∷ before) (45 ∷ rest) = ap (λ b. position_after (position_past p c b) before (45 ∷ rest)) cut in
+      subst (λ q. Fails tabs s p (c ∷ a) (At problem.PlainDashInFlow q)) (sym place)
+      (dash (c ∷ before) rest (λ t. free (later_tab c a tabs u s next e moves t)) flow (ap (λ r. c ∷ r) cut) begins (rw (here, e) goes) (rw e apart))
+  further c a tabs u s next p f e on after moves (tabbed (tab before blanks rest column cut goes line less blank solid)) =
       let here : (is_white c || not (ends_plain ctx.flow (collection_of ctx.indent) s (c ∷ (before ++ 9 ∷ (blanks ++ rest))))) ≡ true = rw cut at on in
-      rw cut (tab (c ∷ before) blanks rest column refl (rw (here, e) goes) (rw e line) less blank solid)
-  further c a tabs u s next p f e on after (after_tab blanks rest are cut blank solid) = after blanks rest are cut blank solid
+      tabbed (tab (c ∷ before) blanks rest column (ap (λ r. c ∷ r) cut) (rw (here, e) goes) (rw e line) less blank solid)
+  further c a tabs u s next p f e on after moves (tabbed (after_tab blanks rest are cut blank solid)) = tabbed (after blanks rest are cut blank solid)
 
   -- ---- a blank or a break before it
 
@@ -173,4 +233,21 @@ module _ (ctx : Context) (start : Position) where
       let here : ends_plain ctx.flow (collection_of ctx.indent) s (c ∷ (more ++ (gap ++ rest))) ≡ false = rw cut at on in
       found (c ∷ more) gap rest (ap (λ r. c ∷ r) cut) (rw (here, breaks, blanks) goes) (solid_first c more (rw (breaks, blanks) refl) solid) (rw (← after_inside more) stop) gaps ends
       (is ∙ same_left rest _ _ _ _ _ _ (same_position c a more gap rest p cut) (ap (λ u. (after_text more u).text) (content_char c more t breaks blanks)) (no_lead c more gap t))
-  after_content c a s p t x breaks blanks on (fails f why is) = fails f (further c a false false s inside p f (past_content c s breaks blanks) (rw (breaks, blanks, on) refl) (λ b r e. cc) why) is
+  after_content c a s p t x breaks blanks on (fails f why is) =
+      let moves : Moves c a false false s = record { begins = λ k e l h. absurd (cc (sym blanks, ap is_blank e, tab_blank)); goes_further = λ e b. cc e; is_no_token = λ e. cc e } in
+      fails f (further c a false false s inside p f (past_content c s breaks blanks) (rw (breaks, blanks, on) refl) (λ b r e. cc) moves why) is
+
+  -- ---- a dash before a flow indicator
+
+  tab_no_flow : is_flow 9 ≡ false
+  unfolding is_flow
+  tab_no_flow = refl
+
+  -- Text that begins with a flow indicator has no TAB that is told from there.
+  pub flow_untabbed : (a : List ℕ) (s : Stand) → ctx.flow ≡ true → begins_flow a ≡ true → Tabbed false s a → ⊥
+  flow_untabbed a s flow begins (tab before blanks rest column cut goes line less blank solid) = no_flow ctx.flow (collection_of ctx.indent) s before 9 (blanks ++ rest) a flow cut tab_no_flow begins goes
+  flow_untabbed a s flow begins (after_tab blanks rest are cut blank solid) = cc are
+
+  pub dash_untabbed : (c : ℕ) (a : List ℕ) (s : Stand) → ctx.flow ≡ true → c ≡ 45 → begins_flow a ≡ true → Tabbed false s (c ∷ a) → ⊥
+  dash_untabbed c a s flow is begins t =
+      flow_untabbed a (past s c) flow begins (later_tab c a false false s (past s c) refl (record { begins = λ k e l h. cc (is, e); goes_further = λ e b. cc e; is_no_token = λ e. cc e }) t)

@@ -1,5 +1,5 @@
 -- Plain scalars as texts: what the laws say of some.
-use Rattle.std.proofs.Common.{[], true, false, codes, refl}
+use Rattle.std.proofs.Common.{◌≡◌, ℕ, List, [], ◌∷◌, ◌++◌, true, false, codes, refl}
 use Rattle.defs_text.specs.Position.{Position}
 use Rattle.yaml_tokens.specs.declared.problem.Problem.TheVariants as problem
 use Rattle.yaml_tokens.specs.declared.problem.Fault.TheVariants.{At}
@@ -33,9 +33,17 @@ before_comma = scalars_read flow (codes "a:b") (codes ":,") (codes "a:b") here r
 -- a dash before a comma, after a blank
 dashed : IsPlainRefusal flow here (codes "a -,") (At problem.PlainDashInFlow (record { index = 5; line = 1; col = 5 }))
 unfolding is_blank is_break is_nul is_blank_or_end is_flow
-dashed = by_dash (codes "a ") (codes ",") refl refl refl refl refl
+dashed = by_dash (codes "a ") (codes ",") refl (λ t. no_tab t.before (t.blanks ++ t.rest) t.is_text) refl refl refl refl refl
+  where
+    no_tab : (before more : List ℕ) → codes "a -," ≡ before ++ 9 ∷ more → ⊥
+    no_tab [] more e = cc e
+    no_tab (a ∷ []) more e = cc e
+    no_tab (a ∷ b ∷ []) more e = cc e
+    no_tab (a ∷ b ∷ c ∷ []) more e = cc e
+    no_tab (a ∷ b ∷ c ∷ d ∷ []) more e = cc e
+    no_tab (a ∷ b ∷ c ∷ d ∷ x ∷ r) more e = cc e
 
 -- a TAB at the start of a line of it
 tabbed : IsPlainRefusal block here (codes "a\n\tb") (At problem.PlainTab here)
 unfolding is_blank is_break is_nul is_blank_or_end is_flow are_marks
-tabbed = by_tab (codes "a\n") [] (codes "b") 0 refl refl refl refl refl refl
+tabbed = by_tab refl (record { before = codes "a\n"; blanks = []; rest = codes "b"; column = 0; is_text = refl; is_over = refl; is_at = refl; is_left = refl; are_blanks = refl; is_token = refl })

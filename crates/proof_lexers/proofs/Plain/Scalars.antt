@@ -16,9 +16,9 @@ use Rattle.model_scanner.specs.Machine.{Read}
 use Rattle.model_scanner.specs.Folding.{Folded, nothing, with_char, joined}
 use Rattle.model_scanner.specs.Plain.{inside, first, is_shallow, at_dash, plain_from, plain, starts, Plain}
 use Rattle.defs_text.specs.Text.{has_no_nul}
-use Rattle.proof_lexers.specs.PlainEnds.{collection_of, is_white, begins_solid, is_indented, IsPlainRefusal, by_column, by_dash, by_tab, PlainEndsAs, reads, refuses, IsRead, read, refused}
+use Rattle.proof_lexers.specs.PlainEnds.{collection_of, is_white, begins_solid, is_indented, stand_after, goes_over, HasTab, begins_left, IsPlainRefusal, by_column, by_dash, by_tab, PlainEndsAs, reads, refuses, IsRead, read, refused}
 use Rattle.proof_lexers.specs.ScalarLaws.{PlainScalarsAreRead, PlainScansEndAsTheirTextSays}
-use Rattle.proof_lexers.proofs.Plain.Found.{after_text, after_more, Fails, dash, tab, after_tab, Found, found, fails, same_left, no_lead, content_char, solid_first, past_content}
+use Rattle.proof_lexers.proofs.Plain.Found.{after_text, after_more, Tabbed, Fails, dash, tabbed, tab, after_tab, further_on, flow_untabbed, Found, found, fails, same_left, no_lead, content_char, solid_first, past_content}
 use Rattle.proof_lexers.proofs.Plain.Turns.{off_margin, in_line_position, in_line, dash_parts}
 use Rattle.proof_lexers.proofs.Plain.Scans.{scans}
 use Rattle.proof_lexers.proofs.Plain.Values.{no_markers, value_is}
@@ -64,15 +64,28 @@ module _ (ctx : Context) (start : Position) (c : ℕ) (a : List ℕ) (white : is
   dash_position : (before rest : List ℕ) → position_after (machine.past start) before (45 ∷ rest) ≡ position_after start (c ∷ before) (45 ∷ rest)
   dash_position before rest = ap (λ q. position_after q before (45 ∷ rest)) (sym (in_line_position c (before ++ 45 ∷ rest) start (rw break refl)))
 
-  refusal : (f : Fault) → Fails ctx start false defs.inside (machine.past start) a f → IsPlainRefusal ctx start (c ∷ a) f
-  refusal f (dash before rest flow cut begins goes apart) =
-      rw (dash_position before rest) (by_dash (c ∷ before) rest flow (ap (λ r. c ∷ r) cut) begins goes (rw (past_content ctx start c defs.after_blank break blank) apart))
-  refusal f (tab before blanks rest column cut goes line less are solid) =
-      by_tab (c ∷ before) blanks rest column (ap (λ r. c ∷ r) cut) goes (rw (past_content ctx start c defs.after_blank break blank) line) less are solid
-  refusal f (after_tab blanks rest no_tab cut are solid) = cc
+  stand_is : (before : List ℕ) → stand_after defs.after_blank (c ∷ before) ≡ stand_after defs.inside before
+  stand_is before = ap (λ s. stand_after s before) (past_content ctx start c defs.after_blank break blank)
 
-  ended : (x : Result (Read Plain) Fault) → Found ctx start false defs.inside (machine.past start) read_first a x → PlainEndsAs ctx start (c ∷ a) x
-  ended x (found more gap rest cut goes solid stop gaps ends is) =
+  -- the text has a TAB that is told from its second character on
+  tab_later : HasTab ctx (c ∷ a) → Tabbed ctx start false defs.inside a
+  tab_later t = by t.before t.is_text t.is_over t.is_at
+    where
+      by : (before : List ℕ) → c ∷ a ≡ before ++ 9 ∷ (t.blanks ++ t.rest) → goes_over ctx before (9 ∷ (t.blanks ++ t.rest)) ≡ true → stand_after defs.after_blank before ≡ defs.on_line t.column → Tabbed ctx start false defs.inside a
+      by [] cut over at = absurd (cc (at))
+      by (d ∷ before) cut over at =
+          let same : c ≡ d = cc cut in
+          tab before t.blanks t.rest t.column (cc cut) over (sym (stand_is before) ∙ (ap (λ k. stand_after defs.after_blank (k ∷ before)) same ∙ at)) t.is_left t.are_blanks t.is_token
+
+  refusal : begins_left ctx start ≡ false → (f : Fault) → Fails ctx start false defs.inside (machine.past start) a f → IsPlainRefusal ctx start (c ∷ a) f
+  refusal deep f (dash before rest free flow cut begins goes apart) =
+      rw (dash_position before rest) (by_dash (c ∷ before) rest deep (λ t. free (tab_later t)) flow (ap (λ r. c ∷ r) cut) begins goes (rw (past_content ctx start c defs.after_blank break blank) apart))
+  refusal deep f (tabbed (tab before blanks rest column cut goes line less are solid)) =
+      by_tab deep (record { before = c ∷ before; blanks = blanks; rest = rest; column = column; is_text = ap (λ r. c ∷ r) cut; is_over = goes; is_at = stand_is before ∙ line; is_left = less; are_blanks = are; is_token = solid })
+  refusal deep f (tabbed (after_tab blanks rest no_tab cut are solid)) = cc
+
+  ended : begins_left ctx start ≡ false → (x : Result (Read Plain) Fault) → Found ctx start false defs.inside (machine.past start) read_first a x → PlainEndsAs ctx start (c ∷ a) x
+  ended deep x (found more gap rest cut goes solid stop gaps ends is) =
       let content = solid_first ctx start c more white solid in
       let stopping : stops ctx.flow (collection_of ctx.indent) defs.inside (gap ++ rest) ≡ true = inside_too more stop in
       reads (c ∷ more) gap rest _ (ap (λ r. c ∷ r) cut) (rw (goes, content, stopping) refl) gaps ends (value_is c more (no_marker more (gap ++ rest) goes) content)
@@ -81,18 +94,18 @@ module _ (ctx : Context) (start : Position) (c : ℕ) (a : List ℕ) (white : is
       inside_too : (more : List ℕ) → stops ctx.flow (collection_of ctx.indent) (after_more defs.inside more) (gap ++ rest) ≡ true → stops ctx.flow (collection_of ctx.indent) defs.inside (gap ++ rest) ≡ true
       inside_too [] h = h
       inside_too (d ∷ more) h = h
-  ended x (fails f why is) = refuses f (refusal f why) is
+  ended deep x (fails f why is) = refuses f (refusal deep f why) is
 
-  begun : has_no_nul a ≡ true → is_indented ctx start ≡ true → PlainEndsAs ctx start (c ∷ a) (plain_from ctx start (c ∷ a) (record { mode = first; position = start; folded = nothing }))
-  begun full indented = ended _ (scans ctx start a full inside defs.inside (machine.past start) read_first (in_line (c ∷ []) refl (off_margin start.col) (deep ctx start indented)))
+  begun : begins_left ctx start ≡ false → has_no_nul a ≡ true → is_indented ctx start ≡ true → PlainEndsAs ctx start (c ∷ a) (plain_from ctx start (c ∷ a) (record { mode = first; position = start; folded = nothing }))
+  begun left full indented = ended left _ (scans ctx start a full inside defs.inside (machine.past start) read_first (in_line (c ∷ []) refl (off_margin start.col) (deep ctx start indented)))
 
   started : (column at : Bool) → (ctx.flow && nat_lt start.col ctx.indent) ≡ column → at_dash ctx.flow (c ∷ a) ≡ at → has_no_nul a ≡ true → is_indented ctx start ≡ true → PlainEndsAs ctx start (c ∷ a) (plain ctx (c ∷ a) start)
   unfolding plain starts
   started true at e f full indented = let q = and_parts ctx.flow (nat_lt start.col ctx.indent) e in refuses (At problem.FlowIndentation start) (by_column q.0 q.1) (rw e refl)
   started false true e f full indented =
       let q = dash_parts ctx start ctx.flow c a f in
-      refuses (At problem.PlainDashInFlow start) (by_dash [] a q.0 (ap (λ d. d ∷ a) q.1) q.2 refl refl) (rw (e, f) refl)
-  started false false e f full indented = rw (e, f) (begun full indented)
+      refuses (At problem.PlainDashInFlow start) (by_dash [] a e (λ t. flow_untabbed ctx start a defs.inside q.0 q.2 (tab_later t)) q.0 (ap (λ d. d ∷ a) q.1) q.2 refl refl) (rw (e, f) refl)
+  started false false e f full indented = rw (e, f) (begun e full indented)
 
 pub scans_end : PlainScansEndAsTheirTextSays
 scans_end ctx [] p full solid indented = cc
@@ -102,13 +115,10 @@ scans_end ctx (c ∷ a) p full solid indented =
 -- ---- a text begins with the whole of one plain scalar alone
 
 module _ (flow : Bool) (collection : Option ℕ) where
-  further_on : (s : Stand) (d : ℕ) (q next : List ℕ) → goes_on flow collection s (d ∷ q) next ≡ true → ((is_white d || not (ends_plain flow collection s (d ∷ (q ++ next)))) ≡ true) × (goes_on flow collection (past s d) q next ≡ true)
-  further_on s d q next goes = and_parts (is_white d || not (ends_plain flow collection s (d ∷ (q ++ next)))) (goes_on flow collection (past s d) q next) goes
-
   stop_or_go : (s : Stand) (d : ℕ) (q next : List ℕ) → is_white d ≡ false → stops flow collection s (d ∷ (q ++ next)) ≡ true → goes_on flow collection s (d ∷ q) next ≡ true → ⊥
   stop_or_go s d q next e stop goes =
       let ends : ends_plain flow collection s (d ∷ (q ++ next)) ≡ true = rw e at stop in
-      let here = (further_on s d q next goes).0 in
+      let here = (further_on flow collection s d q next goes).0 in
       let no_way : false ≡ true = rw (e, ends) at here in
       cc
 
@@ -120,7 +130,7 @@ module _ (flow : Bool) (collection : Option ℕ) where
 
   no_more : (s : Stand) (d : ℕ) (q next : List ℕ) → stops flow collection s (d ∷ (q ++ next)) ≡ true → goes_on flow collection s (d ∷ q) next ≡ true → ends_with_content d q ≡ true → ⊥
   no_more s d [] next stop goes content = stop_or_go s d [] next (content_solid d content) stop goes
-  no_more s d (e ∷ q) next stop goes content = by (is_white d) refl (λ h. no_more (past s d) e q next h (further_on s d (e ∷ q) next goes).1 content) stop
+  no_more s d (e ∷ q) next stop goes content = by (is_white d) refl (λ h. no_more (past s d) e q next h (further_on flow collection s d (e ∷ q) next goes).1 content) stop
     where
       by : (white : Bool) → is_white d ≡ white → (stops flow collection (past s d) (e ∷ (q ++ next)) ≡ true → ⊥) → stops flow collection s (d ∷ e ∷ (q ++ next)) ≡ true → ⊥
       by true f others h = others (rw f at h)
@@ -136,8 +146,8 @@ module _ (flow : Bool) (collection : Option ℕ) where
   one s c (d ∷ r) (e ∷ u) next after cut goes goes' content content' stop stop' =
       let same : e ≡ d = cc in
       let tail : r ++ next ≡ u ++ after = cc in
-      let q = (further_on (past s c) d r next goes).1 in
-      let v = (further_on (past s c) e u after goes').1 in
+      let q = (further_on flow collection (past s c) d r next goes).1 in
+      let v = (further_on flow collection (past s c) e u after goes').1 in
       let here : goes_on flow collection (past (past s c) d) u after ≡ true = rw same at v in
       let last : ends_with_content d u ≡ true = rw same at content' in
       let z = one (past s c) d r u next after tail q here content last stop stop' in

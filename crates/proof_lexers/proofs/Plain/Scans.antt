@@ -17,7 +17,7 @@ use Rattle.model_scanner.specs.Plain.{inside, between, tabs, can_be_plain, is_sh
 use Rattle.proof_lexers.proofs.Bridges.{same_break, same_blank}
 use Rattle.defs_text.specs.Text.{has_no_nul}
 use Rattle.proof_lexers.specs.PlainEnds.{collection_of, is_white, is_apart}
-use Rattle.proof_lexers.proofs.Plain.Found.{dash, tab, after_tab, Found, fails}
+use Rattle.proof_lexers.proofs.Plain.Found.{dash_untabbed, dash, tabbed, tab, after_tab, Found, fails}
 use Rattle.proof_lexers.proofs.Plain.Turns.{off_margin, as_deep, can_be, line_is, no_line, in_text, scan, in_line, after_blanks, at_line, at_tabs, at_feed, Scans, found_here, break_step, blank_step, no_tabs, still_inside, content_step, Outcome, stopped, went, dashed, outcome, ends_over, ends_comment}
 
 -- a blank and no break, a break, or content
@@ -79,13 +79,13 @@ module _ (ctx : Context) (start : Position) where
       → Found ctx start false s p t (c ∷ a) (scan ctx start (c ∷ a) between p t)
   by_outcome c a s p t white apart ih (stopped ends is) = stop_here false c a s p t _ white ends is
   by_outcome c a s p t white apart ih (went on deep is) = content_step ctx start c a between s p t _ white on deep ih is
-  by_outcome c a s p t white apart ih (dashed flow is_dash begins is) = fails (At problem.PlainDashInFlow p) (dash [] a flow (ap (λ k. k ∷ a) is_dash) begins refl apart) is
+  by_outcome c a s p t white apart ih (dashed flow is_dash begins is) = fails (At problem.PlainDashInFlow p) (dash [] a (dash_untabbed ctx start c a s flow is_dash begins) flow (ap (λ k. k ∷ a) is_dash) begins refl apart) is
 
   blanks_by : (c : ℕ) (a : List ℕ) (p : Position) (t : Folded) → (c == 0) ≡ false → t.leading ≡ false → (p.col == 0) ≡ false → is_shallow ctx p.col ≡ false → Scans ctx start a → Kind c
       → Found ctx start false after_blank p t (c ∷ a) (scan ctx start (c ∷ a) between p t)
   blanks_by c a p t nul lead off deep ih (breaks e) = break_step ctx start c a false between after_blank p t _ e ih (rw e refl)
   blanks_by c a p t nul lead off deep ih (blanks e f) =
-      blank_step ctx start c a false between between after_blank after_blank p t _ e f refl (λ b r k. no_tabs ctx start k) ih
+      blank_step ctx start c a false between between after_blank after_blank p t _ e f refl (λ b r k. no_tabs ctx start k) (λ k i l h. cc l) (λ i. cc i) ih
       (after_blanks (still_inside ctx start c t lead) (off_margin p.col) (as_deep ctx p.col deep)) (rw (e, f, lead) refl)
   blanks_by c a p t nul lead off deep ih (solid white plain) =
       by_outcome c a after_blank p t white refl ih (outcome ctx start c a after_blank p t white nul refl (no_line ctx c a p off deep))
@@ -97,11 +97,17 @@ module _ (ctx : Context) (start : Position) where
   line_blank c column a p t true h is lead e f ih =
       let q = and_parts (c == 9) (nat_lt p.col ctx.indent) h in
       blank_step ctx start c a false between tabs (on_line column) (on_line (suc column)) p t _ e f refl
-      (λ b r k cut blank content. tab [] b r column (ap (λ d. d ∷ a) (eqb-true c 9 q.0) ∙ ap (λ d. 9 ∷ d) cut) refl refl (rw is (q.1)) blank content) ih
+      (λ b r k cut blank content. tab [] b r column (ap (λ d. d ∷ a) (eqb-true c 9 q.0) ∙ ap (λ d. 9 ∷ d) cut) refl refl (rw is (q.1)) blank content) (λ k i l j. refl) (λ i. refl) ih
       (at_tabs (suc column) (rw lead refl)) (rw (e, f, lead, h) refl)
   line_blank c column a p t false h is lead e f ih =
-      blank_step ctx start c a false between between (on_line column) (on_line (suc column)) p t _ e f refl (λ b r k. no_tabs ctx start k) ih
+      blank_step ctx start c a false between between (on_line column) (on_line (suc column)) p t _ e f refl (λ b r k. no_tabs ctx start k) (λ k i l j. absurd (no_mark k i l j)) (λ i. cc i) ih
       (at_line (suc column) (one_right column p.col is) (rw lead refl)) (rw (e, f, lead, h) refl)
+    where
+      no_mark : (k : ℕ) → c ≡ 9 → on_line column ≡ on_line k → nat_lt k ctx.indent ≡ true → ⊥
+      no_mark k i l j =
+          let same : k ≡ p.col = cc (l, is) in
+          let marked : ((c == 9) && nat_lt p.col ctx.indent) ≡ true = rw (i, ← same) j in
+          cc (h, marked)
 
   line_by : (c column : ℕ) (a : List ℕ) (p : Position) (t : Folded) → (c == 0) ≡ false → column ≡ p.col → t.leading ≡ true → Scans ctx start a → Kind c
       → Found ctx start false (on_line column) p t (c ∷ a) (scan ctx start (c ∷ a) between p t)
@@ -120,14 +126,14 @@ module _ (ctx : Context) (start : Position) where
   tabs_solid c column a p t false h white plain =
       let break : is_break c ≡ false = not_break c white in
       let blank : is_blank c ≡ false = not_blank c white in
-      fails (At problem.PlainTab start) (after_tab [] (c ∷ a) refl refl refl (rw (white, h) refl)) (rw (break, h, blank) refl)
+      fails (At problem.PlainTab start) (tabbed (after_tab [] (c ∷ a) refl refl refl (rw (white, h) refl))) (rw (break, h, blank) refl)
 
   tabs_by : (c column : ℕ) (a : List ℕ) (p : Position) (t : Folded) → t.leading ≡ true → Scans ctx start a → Kind c → Found ctx start true (on_line column) p t (c ∷ a) (scan ctx start (c ∷ a) tabs p t)
   tabs_by c column a p t lead ih (breaks e) = break_step ctx start c a true tabs (on_line column) p t _ e ih (rw e refl)
   tabs_by c column a p t lead ih (blanks e f) =
       let hash : (c == 35) ≡ false = no_hash c f in
       blank_step ctx start c a true tabs tabs (on_line column) (on_line (suc column)) p t _ e f refl
-      (λ b r k cut blank content. after_tab (c ∷ b) r refl (ap (λ d. c ∷ d) cut) (rw (same_blank c, f) blank) content) ih
+      (λ b r k cut blank content. after_tab (c ∷ b) r refl (ap (λ d. c ∷ d) cut) (rw (same_blank c, f) blank) content) (λ k i l j. refl) (λ i. refl) ih
       (at_tabs (suc column) (rw lead refl)) (rw (e, hash, f, lead) refl)
   tabs_by c column a p t lead ih (solid white plain) = tabs_solid c column a p t (c == 35) refl white plain
 
@@ -137,7 +143,7 @@ module _ (ctx : Context) (start : Position) where
       → Found ctx start false defs.inside p (in_text text) (c ∷ a) (scan ctx start (c ∷ a) inside p (in_text text))
   inside_by c a p text nul off deep ih (breaks e) = break_step ctx start c a false inside defs.inside p (in_text text) _ e ih (rw e refl)
   inside_by c a p text nul off deep ih (blanks e f) =
-      blank_step ctx start c a false inside between defs.inside after_blank p (in_text text) _ e f refl (λ b r k. no_tabs ctx start k) ih
+      blank_step ctx start c a false inside between defs.inside after_blank p (in_text text) _ e f refl (λ b r k. no_tabs ctx start k) (λ k i l h. cc l) (λ i. cc i) ih
       (after_blanks refl (off_margin p.col) (as_deep ctx p.col deep)) (rw (e, f) refl)
   inside_by c a p text nul off deep ih (solid white plain) = by (ends_at_colon ctx.flow (c ∷ a) || (ctx.flow && classes.is_flow c)) refl
     where

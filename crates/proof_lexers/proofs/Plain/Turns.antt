@@ -19,7 +19,7 @@ use Rattle.model_scanner.specs.Folding.{Folded, with_char, with_blank, with_brea
 use Rattle.model_scanner.specs.Plain.{Mode, inside, between, tabs, at_break, can_be_plain, is_shallow, at_dash, at_plain, goes_on, plain_from, Plain}
 use Rattle.proof_lexers.proofs.Bridges.{both, same_break, same_blank, same_gap, same_flow, same_marker}
 use Rattle.proof_lexers.specs.PlainEnds.{collection_of, is_white, begins_white, begins_token}
-use Rattle.proof_lexers.proofs.Plain.Found.{after_char, Fails, Found, found, found_on, further, after_gap, after_content}
+use Rattle.proof_lexers.proofs.Plain.Found.{after_char, tab_blank, Tabbed, Moves, Fails, Found, found, found_on, further, after_gap, after_content}
 
 pub or_true : (b : Bool) → (b || true) ≡ true
 or_true true = refl
@@ -144,6 +144,10 @@ module _ (ctx : Context) (start : Position) where
 
   -- ---- breaks
 
+  break_or_blank : (c : ℕ) → classes.is_break c ≡ true → classes.is_blank c ≡ true → ⊥
+  unfolding classes.is_break classes.is_blank
+  break_or_blank c h k = grind (arith, h, k)
+
   broken_leads : (t : Folded) → (with_break t).leading ≡ true
   broken_leads t = by t.leading refl
     where
@@ -165,8 +169,11 @@ module _ (ctx : Context) (start : Position) where
       feeds [] h = let no : false ≡ true = sym (and_false (c == 13)) ∙ h in cc
       feeds (d ∷ b) h = let q = and_parts (c == 13) (d == 10) h in (b, ap (λ k. k ∷ b) (eqb-true d 10 q.1))
 
+      moves : Moves ctx start c a u false s
+      moves = record { begins = λ k i l h. absurd (break_or_blank c breaks (ap classes.is_blank i ∙ tab_blank)); goes_further = λ i b. absurd (break_or_blank c breaks b); is_no_token = λ i. rw white refl }
+
       grow : (f : Fault) → Fails ctx start false (defs.past s c) (position_past p c a) a f → Fails ctx start u s p (c ∷ a) f
-      grow f why = further ctx start c a u false s (defs.past s c) p f refl (rw white refl) (λ b r k. cc) why
+      grow f why = further ctx start c a u false s (defs.past s c) p f refl (rw white refl) (λ b r k. cc) moves why
 
       by : (feed : Bool) → is_cr_lf c a ≡ feed → x ≡ plain_from ctx start a (if feed then record { mode = between; position = past p; folded = t } else record { mode = between; position = past_break p; folded = with_break t })
           → Found ctx start u s p t (c ∷ a) x
@@ -191,9 +198,10 @@ module _ (ctx : Context) (start : Position) where
   blank_white c e = rw (same_blank c, e) refl
 
   pub blank_step : (c : ℕ) (a : List ℕ) (u : Bool) (m n : Mode) (s next : Stand) (p : Position) (t : Folded) (x : Result (Read Plain) Fault) → is_break c ≡ false → is_blank c ≡ true → defs.past_blank s ≡ next
-      → ((blanks rest : List ℕ) → is_tabs n ≡ true → a ≡ blanks ++ rest → is_blanks blanks ≡ true → begins_token rest ≡ true → Fails ctx start u s p (c ∷ a) (At problem.PlainTab start))
+      → ((blanks rest : List ℕ) → is_tabs n ≡ true → a ≡ blanks ++ rest → is_blanks blanks ≡ true → begins_token rest ≡ true → Tabbed ctx start u s (c ∷ a))
+      → ((column : ℕ) → c ≡ 9 → s ≡ on_line column → nat_lt column ctx.indent ≡ true → is_tabs n ≡ true) → (u ≡ true → is_tabs n ≡ true)
       → Scans a → IsStanding a (past p) (with_blank c t) n next → x ≡ scan a n (past p) (with_blank c t) → Found ctx start u s p t (c ∷ a) x
-  blank_step c a u m n s next p t x e f g tabbed ih stands is =
+  blank_step c a u m n s next p t x e f g tabs_after begins stays ih stands is =
       found_on ctx start u s p t (c ∷ a) x _ is
       (after_gap ctx start c a u (is_tabs n) s p t _ (blank_white c f) grow
       (found_at (is_tabs n) (defs.past s c) next (position_past p c a) (past p) (after_char c a t) (with_blank c t) a _ (rw (no_break, blank) g) (in_line_position c a p (rw no_break refl)) (rw (no_break, blank) refl)
@@ -206,7 +214,7 @@ module _ (ctx : Context) (start : Position) where
       blank = same_blank c ∙ f
 
       grow : (k : Fault) → Fails ctx start (is_tabs n) (defs.past s c) (position_past p c a) a k → Fails ctx start u s p (c ∷ a) k
-      grow k why = further ctx start c a u (is_tabs n) s (defs.past s c) p k refl (rw (blank_white c f) refl) tabbed why
+      grow k why = further ctx start c a u (is_tabs n) s (defs.past s c) p k refl (rw (blank_white c f) refl) tabs_after (record { begins = begins; goes_further = λ i b. stays i; is_no_token = λ i. rw (blank_white c f) refl }) why
 
   pub no_tabs : {A : Type 0} → false ≡ true → A
   no_tabs e = cc

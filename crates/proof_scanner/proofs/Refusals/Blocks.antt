@@ -10,8 +10,6 @@ use Rattle.defs_text.specs.BlockScalar as defs
 use Rattle.defs_text.specs.BlockScalar.{BlockStyle, literal, folded, header_of, leading_spaces, body, further_text}
 use Rattle.defs_text.specs.FlowScalar.{begins_with}
 use Rattle.defs_token.specs.BlockPiece.{BlockRead, block_read, read_lines, read_body}
-use Rattle.defs_token.specs.Step.{gives_node}
-use Rattle.defs_token.specs.RowAccount.{site_in}
 use Rattle.defs_token.specs.Column.{innermost}
 use Rattle.defs_token.specs.Indentation.{least_column}
 use Rattle.defs_token.specs.Following.{are_empty, lines_may_end, read_may_end, block_may_end}
@@ -52,6 +50,7 @@ use Rattle.proof_scanner.specs.Failing.{no_block, site_at_place}
 use Rattle.proof_scanner.specs.Stuck.{IsStuck}
 use Rattle.proof_scanner.proofs.Refusals.Faults.{Faults, goes, read}
 use Rattle.proof_scanner.specs.FirstBlock.{block_first}
+use Rattle.proof_scanner.proofs.Refusals.TextsRefused.{header_alone}
 use Rattle.proof_scanner.proofs.Refusals.Places.{Told, LiesDeep, account_by, stuck, in_flow_is, blocks_by, looked_at, none_begins, none_here}
 
 -- ---- texts
@@ -102,21 +101,25 @@ fits_alone feed = tt
 fits_alone carriage = refl
 fits_alone both = tt
 
+-- a fault that comes first
+abbrev FirstFault : (collection : List ℕ) (here : Position) (text : List ℕ) (why : Problem) (at : Position) → Type 0
+FirstFault collection here text why at = (x : IsBlockFault collection here text why at) × block_first collection here text why at x
+
 -- ---- a TAB at the start of the line after a header
 
-tab_fault : (collection : List ℕ) (here : Position) (text header next : List ℕ) (k : Break) (h : defs.Header) → text ≡ header ++ put k (tab ∷ next) → is_in_line header ≡ true → header_of header ≡ Some h → IsBlockFault collection here text problem.BlockScalarTab here
+tab_fault : (collection : List ℕ) (here : Position) (text header next : List ℕ) (k : Break) (h : defs.Header) → text ≡ header ++ put k (tab ∷ next) → is_in_line header ≡ true → header_of header ≡ Some h → FirstFault collection here text problem.BlockScalarTab here
 tab_fault collection here text header next k h e inner is =
     let ls : List Line = record { text = header; by = k } ∷ [] in
-    none.by_tab (spell ls []) header next h (e ∙ sym (spell_more ls [] (tab ∷ next))) (split_spell ls [] (inner, fits_alone k, tt) refl) is
+    (none.by_tab (spell ls []) header next h (e ∙ sym (spell_more ls [] (tab ∷ next))) (split_spell ls [] (inner, fits_alone k, tt) refl) is, tt)
 
 -- the same by the piece that is the header
-piece_tab_fault : (collection : List ℕ) (o : Option ℕ) (here : Position) (text piece next : List ℕ) (b : BlockRead) → text ≡ piece ++ next → block_read o piece next ≡ Some b → is_tabbed piece next ≡ true → IsBlockFault collection here text problem.BlockScalarTab here
+piece_tab_fault : (collection : List ℕ) (o : Option ℕ) (here : Position) (text piece next : List ℕ) (b : BlockRead) → text ≡ piece ++ next → block_read o piece next ≡ Some b → is_tabbed piece next ≡ true → FirstFault collection here text problem.BlockScalarTab here
 unfolding is_nul
 piece_tab_fault collection o here text piece next b e is tabbed =
     let q = and_parts (scan.is_single (split piece).complete) (begins_with tab next) tabbed in
     by (tab_first next q.1) q.0
   where
-    by : (m : List ℕ) × (next ≡ tab ∷ m) → scan.is_single (split piece).complete ≡ true → IsBlockFault collection here text problem.BlockScalarTab here
+    by : (m : List ℕ) × (next ≡ tab ∷ m) → scan.is_single (split piece).complete ≡ true → FirstFault collection here text problem.BlockScalarTab here
     by m single = from w.header w.lines w.is w.are
       where
         further : is_at_end next ≡ false
@@ -125,7 +128,7 @@ piece_tab_fault collection o here text piece next b e is tabbed =
         w : Written piece next
         w = written o piece next b is further
 
-        from : (l : Line) (ls : List Line) → piece ≡ spell (l ∷ ls) [] → AreLines (l ∷ ls) [] → IsBlockFault collection here text problem.BlockScalarTab here
+        from : (l : Line) (ls : List Line) → piece ≡ spell (l ∷ ls) [] → AreLines (l ∷ ls) [] → FirstFault collection here text problem.BlockScalarTab here
         from l (x ∷ ls) is_piece are =
             absurd (cc (single, ap (λ y. scan.is_single (split y).complete) is_piece, ap (λ y. scan.is_single y.complete) (split_spell (l ∷ x ∷ ls) [] are refl)))
         from l [] is_piece are = alone (header_of l.text) refl
@@ -136,21 +139,21 @@ piece_tab_fault collection o here text piece next b e is tabbed =
             read_is : read_body (header_of l.text) o (body [] further_text) next ≡ Some b
             read_is = ap (λ x. read_lines o (l.text ∷ []) [] next x) (sym further) ∙ (ap (λ s. read_lines o s.complete s.last next (is_at_end next)) (sym lines_are) ∙ is)
 
-            alone : (y : Option defs.Header) → header_of l.text ≡ y → IsBlockFault collection here text problem.BlockScalarTab here
+            alone : (y : Option defs.Header) → header_of l.text ≡ y → FirstFault collection here text problem.BlockScalarTab here
             alone None i = absurd (cc (read_is, ap (λ y. read_body y o (body [] further_text) next) i))
-            alone (Some h) i = none.by_tab piece l.text m.0 h (e ∙ ap (λ r. piece ++ r) m.1) lines_are i
+            alone (Some h) i = (none.by_tab piece l.text m.0 h (e ∙ ap (λ r. piece ++ r) m.1) lines_are i, tt)
 
 -- ---- what stands after a scalar without content
 
 column_fault : (indent : ℕ) (bs : List ℕ) (here : Position) (text piece next : List ℕ) (b : BlockRead) → IsLeast indent bs → text ≡ piece ++ next → has_no_nul next ≡ true → block_read (collection_of indent) piece next ≡ Some b → is_tabbed piece next ≡ false → is_shallow indent here b piece next ≡ true
-    → IsBlockFault bs here text problem.BlockScalarIndentation (scan.further_position here piece next)
+    → FirstFault bs here text problem.BlockScalarIndentation (scan.further_position here piece next)
 column_fault indent bs here text piece next b least e clean is untabbed low = by (is_at_end next) refl (refused (block_may_end bs piece next) refl)
   where
     refused : (x : Bool) → block_may_end bs piece next ≡ x → block_may_end bs piece next ≡ false
     refused false i = i
     refused true i = absurd (cc ((block_is_clear indent here b piece next bs least is clean i).deep, low))
 
-    by : (x : Bool) → is_at_end next ≡ x → (x || read_may_end bs (block_read (innermost bs) piece next) piece next) ≡ false → IsBlockFault bs here text problem.BlockScalarIndentation (scan.further_position here piece next)
+    by : (x : Bool) → is_at_end next ≡ x → (x || read_may_end bs (block_read (innermost bs) piece next) piece next) ≡ false → FirstFault bs here text problem.BlockScalarIndentation (scan.further_position here piece next)
     by true further k = absurd (cc k)
     by false further k = parts (not (is_empty (texts w.lines) && begins_with tab next)) (are_empty b.column (texts w.lines)) (nat_lt (leading_spaces next) (least_column bs true)) (nat_le b.column (leading_spaces next)) refl refl refl refl asked
       where
@@ -170,13 +173,20 @@ column_fault indent bs here text piece next b least e clean is untabbed low = by
         no_tab : not (is_empty (texts w.lines) && begins_with tab next) ≡ true
         no_tab = untabbed_by w.header.text (texts w.lines) (begins_with tab next) (ap (λ x. scan.is_single x && begins_with tab next) (sym (lines_written piece next w)) ∙ untabbed)
 
+        -- no TAB stands after the header
+        no_tab_fault : (place : Position) → IsBlockFault bs here text problem.BlockScalarTab place → ⊥
+        no_tab_fault place (none.by_tab own header more h cut one has) =
+            let alone = header_alone (innermost bs) header more own piece next b (sym e ∙ cut) one clean read_here in
+            let tabbed : is_tabbed piece next ≡ true = rw (alone.0, alone.1, one) refl in
+            cc (tabbed, untabbed)
+
         parts : (t y l d : Bool) → not (is_empty (texts w.lines) && begins_with tab next) ≡ t → are_empty b.column (texts w.lines) ≡ y → nat_lt (leading_spaces next) (least_column bs true) ≡ l → nat_le b.column (leading_spaces next) ≡ d → (t && (not y || l || d)) ≡ false
-            → IsBlockFault bs here text problem.BlockScalarIndentation (scan.further_position here piece next)
+            → FirstFault bs here text problem.BlockScalarIndentation (scan.further_position here piece next)
         parts false y l d f g i j k = absurd (cc (f, no_tab))
         parts true false l d f g i j k = absurd (cc k)
         parts true true true d f g i j k = absurd (cc k)
         parts true true false true f g i j k = absurd (cc k)
-        parts true true false false f g i j k = none.by_column piece w.header.text next (texts w.lines) b e read_here further (lines_written piece next w) g (grind (arith, nat_tests, i)) (grind (arith, nat_tests, j))
+        parts true true false false f g i j k = (none.by_column piece w.header.text next (texts w.lines) b e read_here further (lines_written piece next w) g (grind (arith, nat_tests, i)) (grind (arith, nat_tests, j)), no_tab_fault)
 
 -- ---- the scan
 
@@ -195,11 +205,10 @@ module _ (text : List ℕ) (t : ScannerState) (a : Arrives text t) (some : is_em
       (closed.is_least.0 ∙ ap innermost (sym closed.same_columns), ap (λ bs. least_column bs true) closed.same_columns ∙ closed.is_least.1)
 
   -- the block scalar that begins here may not stand
-  block_stuck : (why : Problem) (at : Position) (x : IsBlockFault collections t.held.position t.rest why at) → block_first collections t.held.position t.rest why at x → IsStuck text why at
-  block_stuck why at x first =
+  block_stuck : (why : Problem) (at : Position) → FirstFault collections t.held.position t.rest why at → IsStuck text why at
+  block_stuck why at x =
       stuck text t a some [] why at (λ c may.
-      let P : List ℕ → Type 0 = λ bs. (y : IsBlockFault bs t.held.position t.rest why at) × block_first bs t.held.position t.rest why at y in
-      let moved : P (site_at_place (account_by text t a some c []) t.held.position).blocks = subst P (sym (blocks_by text t a some c [])) (x, first) in
+      let moved : FirstFault (site_at_place (account_by text t a some c []) t.held.position).blocks t.held.position t.rest why at = subst (λ bs. FirstFault bs t.held.position t.rest why at) (sym (blocks_by text t a some c [])) x in
       record { fails = no_block (in_flow_is text t a some c [] ∙ ap not out) moved.0; is_first = (looked_at text t a some lies c [], moved.1) })
 
   -- `|` or `>`
@@ -210,7 +219,7 @@ module _ (text : List ℕ) (t : ScannerState) (a : Arrives text t) (some : is_em
       let f : TabAfter after = tab_after after t.held.position ends begins in
       subst (λ f. Told text f) same
       (λ _. block_stuck problem.BlockScalarTab t.held.position
-      (tab_fault collections t.held.position t.rest (indicator_of style ∷ line) f.more f.by h (e ∙ ap (λ r. indicator_of style ∷ (line ++ r)) f.is) (style_inner style line inline) is) tt)
+      (tab_fault collections t.held.position t.rest (indicator_of style ∷ line) f.more f.by h (e ∙ ap (λ r. indicator_of style ∷ (line ++ r)) f.is) (style_inner style line inline) is))
   header_told style line after e inline ends g (headers.zero_digit lacks zero j) =
       let same : At problem.BlockScalarZero t.held.position ≡ g = cc j in
       subst (λ f. Told text f) same (λ _. none_here text t a some lies problem.BlockScalarZero (none.headless style line after problem.BlockScalarZero t.held.position (ap not out) e inline ends lacks (none.by_zero zero)) tt)
@@ -240,10 +249,10 @@ module _ (text : List ℕ) (t : ScannerState) (a : Arrives text t) (some : is_em
           let same : At problem.BlockScalarIndentation (scan.further_position t.held.position piece next) ≡ f = cc (i, j) in
           subst (λ g. Told text g) same
           (λ _. block_stuck problem.BlockScalarIndentation (scan.further_position t.held.position piece next)
-          (column_fault indent collections t.held.position t.rest piece next b deep (e ∙ cut) (clean_after piece next (subst (λ r. has_no_nul r ≡ true) (e ∙ cut) a.is_clean)) is free low) tt)
+          (column_fault indent collections t.held.position t.rest piece next b deep (e ∙ cut) (clean_after piece next (subst (λ r. has_no_nul r ≡ true) (e ∙ cut) a.is_clean)) is free low))
       by x i (block_ends.scalar piece next b cut is looks (scan.tabbed begins j)) =
           let same : At problem.BlockScalarTab t.held.position ≡ f = cc (i, j) in
-          subst (λ g. Told text g) same (λ _. block_stuck problem.BlockScalarTab t.held.position (piece_tab_fault collections (collection_of indent) t.held.position t.rest piece next b (e ∙ cut) is begins) tt)
+          subst (λ g. Told text g) same (λ _. block_stuck problem.BlockScalarTab t.held.position (piece_tab_fault collections (collection_of indent) t.held.position t.rest piece next b (e ∙ cut) is begins))
 
   pub block_told : (literal : Bool) (more : List ℕ) → t.rest ≡ (if literal then 124 else 62) ∷ more → Faults (Told text) (fetch_block_scalar literal t)
   unfolding fetch_block_scalar

@@ -119,8 +119,8 @@ quoted_other single c p text f (quoted_ends.by_tab q left) = refl
 
 plain_other : (c : Context) (p : Position) (text : List ℕ) (f : Fault) → IsPlainRefusal c p text f → Other f
 plain_other c p text f (plains.by_column flow left) = refl
-plain_other c p text f (plains.by_dash before rest flow cut begins over apart) = refl
-plain_other c p text f (plains.by_tab before blanks rest column cut over stands left are solid) = refl
+plain_other c p text f (plains.by_dash before rest deep free flow cut begins over apart) = refl
+plain_other c p text f (plains.by_tab deep tab) = refl
 
 header_other : (p : Position) (style : BlockStyle) (line after : List ℕ) (g : Fault) → HeaderEndsAs p style line after (Err g) → Other g
 header_other p style line after g (headers.reads h is free j) = absurd (cc j)

@@ -6,10 +6,9 @@ use Rattle.defs_text.specs.Text.{is_empty}
 use Rattle.defs_token.specs.Account.{is_adjacent, before_past}
 use Rattle.defs_token.specs.Plain.{inside, goes_on}
 use Rattle.defs_token.specs.Token.{Tok, Style}
-use Rattle.defs_token.specs.Step.{gives_node}
 use Rattle.defs_token.specs.Column.{innermost}
 use Rattle.defs_token.specs.Indentation.{least_column}
-use Rattle.defs_token.specs.RowAccount.{before_by, is_in_flow, site_in}
+use Rattle.defs_token.specs.RowAccount.{before_by, is_in_flow}
 use Rattle.yaml_tokens.specs.declared.problem.Fault.{Fault}
 use Rattle.yaml_tokens.specs.declared.problem.Problem.{Problem}
 use Rattle.yaml_tokens.specs.declared.problem.Problem.TheVariants as problem
@@ -21,7 +20,7 @@ use Rattle.model_scanner.specs.Flow.{allow_key}
 use Rattle.model_scanner.specs.Indents.{without_open, unroll_non_block_indents}
 use Rattle.model_scanner.specs.Document.{context, after_plain, fetch_plain_scalar}
 use Rattle.proof_lexers.specs.PlainEnds as plains
-use Rattle.proof_lexers.specs.PlainEnds.{collection_of, is_indented, PlainEndsAs, IsPlainRefusal}
+use Rattle.proof_lexers.specs.PlainEnds.{collection_of, is_indented, HasTab, begins_left, PlainEndsAs, IsPlainRefusal}
 use Rattle.proof_lexers.specs.Separations.{begins_separation}
 use Rattle.proof_lexers.proofs.Plain.Scalars.{scans_end}
 use Rattle.proof_scanner.specs.PiecesRead.{comes_plain}
@@ -35,15 +34,14 @@ use Rattle.proof_scanner.specs.NoPiece.{IsPlainFault, goes_over}
 use Rattle.proof_scanner.specs.Failing.{no_plain, site_at_place}
 use Rattle.proof_scanner.specs.Stuck.{IsStuck}
 use Rattle.proof_scanner.proofs.Refusals.Faults.{Faults, goes, read}
-use Rattle.proof_scanner.specs.First.{IsLookedAt}
-use Rattle.proof_scanner.specs.FirstPlain.{plain_first}
+use Rattle.proof_scanner.specs.FirstPlain.{HasNoPlainFault, plain_first}
 use Rattle.proof_scanner.proofs.Refusals.Places.{Told, LiesDeep, account_by, stuck, in_flow_is, blocks_by, looked_at}
 
 -- ---- texts
 
-over_alike : (c : Context) (collection : Option ℕ) (text next : List ℕ) → collection_of c.indent ≡ collection → plains.goes_over c text next ≡ true → goes_over c.flow collection text next ≡ true
-over_alike c collection [] next e h = refl
-over_alike c collection (x ∷ r) next e h = subst (λ o. goes_on c.flow o inside r next ≡ true) e h
+over_alike : (c : Context) (collection : Option ℕ) (text next : List ℕ) → collection_of c.indent ≡ collection → plains.goes_over c text next ≡ goes_over c.flow collection text next
+over_alike c collection [] next e = refl
+over_alike c collection (x ∷ r) next e = ap (λ o. goes_on c.flow o inside r next) e
 
 solid_text : (text : List ℕ) → is_empty text ≡ false → begins_separation text ≡ false → plains.begins_solid text ≡ true
 solid_text [] some h = absurd (cc some)
@@ -86,16 +84,30 @@ module _ (text : List ℕ) (t : ScannerState) (a : Arrives text t) (some : is_em
         is_first = (looked_at text t a some lies c [], moved.1);
       })
 
+  -- the scalar does not begin left of its column
+  no_column : begins_left ctx t.held.position ≡ false → HasNoPlainFault ctx.flow blocks t.held.position t.rest problem.FlowIndentation
+  no_column deep place (none.by_column flow left) =
+      let low : nat_lt t.held.position.col ctx.indent ≡ true = grind (arith, nat_tests, least_is, left) in
+      let left_too : begins_left ctx t.held.position ≡ true = rw (flow, low) refl in
+      cc (deep, left_too)
+
+  -- no TAB that is wrong begins a line of it
+  no_tab : (HasTab ctx t.rest → ⊥) → HasNoPlainFault ctx.flow blocks t.held.position t.rest problem.PlainTab
+  no_tab free place (none.by_tab before blanks rest column cut over stands left are solid) =
+      free (record { before = before; blanks = blanks; rest = rest; column = column; is_text = cut; is_over = over_alike ctx (innermost blocks) before (9 ∷ (blanks ++ rest)) collection_is ∙ over; is_at = stands; is_left = ap (nat_lt column) (sym least_is) ∙ left; are_blanks = are; is_token = solid })
+
   refused : (f : Fault) → IsPlainRefusal ctx t.held.position t.rest f → Told text f
   refused f (plains.by_column flow left) =
       let shallow : nat_le (least_column blocks true) t.held.position.col ≡ false = grind (arith, nat_tests, least_is, left) in
       λ _. plain_stuck problem.FlowIndentation t.held.position (none.by_column flow shallow) tt
-  refused f (plains.by_dash before rest flow cut begins over apart) =
-      λ _. plain_stuck problem.PlainDashInFlow (position_after t.held.position before (45 ∷ rest))
-      (none.by_dash before rest flow cut begins (over_alike ctx (innermost blocks) before (45 ∷ rest) collection_is over) apart) tt
-  refused f (plains.by_tab before blanks rest column cut over stands left are solid) =
+  refused f (plains.by_tab deep tab) =
       λ _. plain_stuck problem.PlainTab t.held.position
-      (none.by_tab before blanks rest column cut (over_alike ctx (innermost blocks) before (9 ∷ (blanks ++ rest)) collection_is over) stands (subst (λ n. nat_lt column n ≡ true) (sym least_is) left) are solid) tt
+      (none.by_tab tab.before tab.blanks tab.rest tab.column tab.is_text (sym (over_alike ctx (innermost blocks) tab.before (9 ∷ (tab.blanks ++ tab.rest)) collection_is) ∙ tab.is_over) tab.is_at (ap (nat_lt tab.column) least_is ∙ tab.is_left) tab.are_blanks tab.is_token)
+      (no_column deep)
+  refused f (plains.by_dash before rest deep free flow cut begins over apart) =
+      λ _. plain_stuck problem.PlainDashInFlow (position_after t.held.position before (45 ∷ rest))
+      (none.by_dash before rest flow cut begins (sym (over_alike ctx (innermost blocks) before (45 ∷ rest) collection_is) ∙ over) apart)
+      (no_column deep, no_tab free)
 
   pub plain_told : Faults (Told text) (fetch_plain_scalar t)
   unfolding fetch_plain_scalar unroll_non_block_indents

@@ -25,6 +25,7 @@ use Rattle.proof_row.specs.Ends.{ends_separation, Kind, plain_scalar, dashes}
 use Rattle.proof_row.proofs.Begins.{Whole, context_of, separations_end}
 use Rattle.proof_row.proofs.Plains.{plains}
 use Rattle.proof_row.proofs.Texts.{no_nul_after}
+use Rattle.proof_lexers.proofs.Plain.Found.{flow_solid}
 use Rattle.proof_lexers.specs.PlainEnds.{begins_white, begins_token, stand_after, is_apart}
 use Rattle.proof_lexers.proofs.Bridges.{same_break, same_blank}
 use Rattle.proof_scanner.specs.PiecesRead.{comes_plain}
@@ -68,10 +69,6 @@ dash_goes coll (on_line k) (c ∷ r) h = by (c == 45) refl
     by : (b : Bool) → (c == 45) ≡ b → goes_on true coll (on_line k) (45 ∷ []) (c ∷ r) ≡ true
     by true e = let same : c ≡ 45 = eqb-true c 45 e in absurd (cc (h, ap is_flow same))
     by false e = no_line r e (k == 0) refl
-
-flow_solid : (c : ℕ) → is_flow c ≡ true → (classes.is_blank c || classes.is_break c) ≡ false
-unfolding is_flow classes.is_blank classes.is_break
-flow_solid c h = grind (arith, h)
 
 flow_stops : (coll : Option ℕ) (s : Stand) (next : List ℕ) → begins_flow next ≡ true → stops true coll s next ≡ true
 flow_stops coll s [] h = refl

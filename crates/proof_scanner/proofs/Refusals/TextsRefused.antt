@@ -126,7 +126,7 @@ same_line (c ∷ a) (d ∷ b) x y h k i j n e =
     rw first (ap (λ r. d ∷ r) (same_line a b x y (and_parts (not (is_break c)) (has_no_break a) h).1 (and_parts (not (is_break d)) (has_no_break b) k).1 i j (and_parts (not (is_nul c)) (has_no_nul (a ++ x)) n).1 others))
 
 -- a text's first line
-first_of : (line after : List ℕ) → is_in_line line ≡ true → ends_line after ≡ true → up_to_break (line ++ after) ≡ line
+pub first_of : (line after : List ℕ) → is_in_line line ≡ true → ends_line after ≡ true → up_to_break (line ++ after) ≡ line
 first_of [] [] h e = refl
 first_of [] (c ∷ r) h e = rw e refl
 first_of (c ∷ line) after h e = let parts = and_parts (not (is_break c)) (is_in_line line) h in rw (still (is_break c) parts.0) (ap (λ r. c ∷ r) (first_of line after parts.1 e))
@@ -144,7 +144,7 @@ no_end (c ∷ r) h e = absurd (by (is_nul c) (and_parts (not (is_nul c)) (has_no
     by false h e = cc e
 
 -- a block scalar's piece has the first line of the text
-piece_line : (collection : Option ℕ) (piece next : List ℕ) (r : BlockRead) → has_no_nul next ≡ true → block_read collection piece next ≡ Some r → up_to_break (piece ++ next) ≡ up_to_break piece
+pub piece_line : (collection : Option ℕ) (piece next : List ℕ) (r : BlockRead) → has_no_nul next ≡ true → block_read collection piece next ≡ Some r → up_to_break (piece ++ next) ≡ up_to_break piece
 piece_line collection piece next r clean is = by ((split piece).complete) refl
   where
     at_end : (ended : Bool) → read_lines collection [] ((split piece).last) next ended ≡ Some r → ended ≡ true
@@ -240,31 +240,38 @@ module _ (collection : Option ℕ) (header more : List ℕ) where
           on true i column p = let same : d ≡ 10 = eqb-true d 10 i in cc (p, g, ap (λ x. is_further_text column (x ∷ next)) same, not_past column next)
           on false i column p = two l ls (ap (λ x. of_lines x ((split own).last)) e ∙ ap (λ x. of_lines (l ∷ ls) x) f) i
 
-  -- No block scalar has this header, if a TAB begins the next line; but one that may not end there.
-  tab_follows : (own piece next : List ℕ) (bs : List ℕ) (r : BlockRead) → piece ++ next ≡ own ++ 9 ∷ more → split own ≡ of_lines (header ∷ []) [] → has_no_nul next ≡ true → block_read collection piece next ≡ Some r → block_may_end bs piece next ≡ false
-  tab_follows own piece next bs r cut one clean is = by (splits piece own next (9 ∷ more) cut)
+  -- A block scalar that has this header, after which a TAB begins the next line, is the header alone.
+  pub header_alone : (own piece next : List ℕ) (r : BlockRead) → piece ++ next ≡ own ++ 9 ∷ more → split own ≡ of_lines (header ∷ []) [] → has_no_nul next ≡ true → block_read collection piece next ≡ Some r → (piece ≡ own) × (next ≡ 9 ∷ more)
+  header_alone own piece next r cut one clean is = by (splits piece own next (9 ∷ more) cut)
     where
+      by : More piece own next (9 ∷ more) ⊎ More own piece (9 ∷ more) next → (piece ≡ own) × (next ≡ 9 ∷ more)
+      by (inl m) = on m.more m.longer m.rest
+        where
+          on : (q : List ℕ) → own ≡ piece ++ q → next ≡ q ++ 9 ∷ more → (piece ≡ own) × (next ≡ 9 ∷ more)
+          on [] e f = (sym (append-nil piece) ∙ sym e, f)
+          on (d ∷ q) e f =
+              absurd (shorter piece d q (q ++ 9 ∷ more) r (ap split (sym e) ∙ one) (ap has_no_nul (sym f) ∙ clean) (ap (block_read collection piece) (sym f) ∙ is))
+      by (inr m) = on m.more m.longer m.rest
+        where
+          on : (q : List ℕ) → piece ≡ own ++ q → 9 ∷ more ≡ q ++ next → (piece ≡ own) × (next ≡ 9 ∷ more)
+          on [] e f = (e ∙ append-nil own, sym f)
+          on (d ∷ q) e f =
+              let same : 9 ≡ d = cc f in
+              absurd (longer own q next r one (ap (λ x. block_read collection x next) (ap (λ x. own ++ x ∷ q) same ∙ sym e) ∙ is))
+
+  -- It may not end there.
+  tab_follows : (own piece next : List ℕ) (bs : List ℕ) (r : BlockRead) → piece ++ next ≡ own ++ 9 ∷ more → split own ≡ of_lines (header ∷ []) [] → has_no_nul next ≡ true → block_read collection piece next ≡ Some r → block_may_end bs piece next ≡ false
+  tab_follows own piece next bs r cut one clean is = own_end piece next alone.0 alone.1
+    where
+      alone : (piece ≡ own) × (next ≡ 9 ∷ more)
+      alone = header_alone own piece next r cut one clean is
+
       tabbed_end : (o : Option BlockRead) → read_may_end bs o own (9 ∷ more) ≡ false
       tabbed_end None = refl
       tabbed_end (Some b) = ap (λ z. lines_may_end bs b.column z.complete (9 ∷ more)) one
 
       own_end : (p n : List ℕ) → p ≡ own → n ≡ 9 ∷ more → block_may_end bs p n ≡ false
       own_end p n e f = ap (λ x. block_may_end bs x n) e ∙ (ap (block_may_end bs own) f ∙ (ap (λ b. b || read_may_end bs (block_read (innermost bs) own (9 ∷ more)) own (9 ∷ more)) tab_is_text ∙ tabbed_end (block_read (innermost bs) own (9 ∷ more))))
-
-      by : More piece own next (9 ∷ more) ⊎ More own piece (9 ∷ more) next → block_may_end bs piece next ≡ false
-      by (inl m) = on m.more m.longer m.rest
-        where
-          on : (q : List ℕ) → own ≡ piece ++ q → next ≡ q ++ 9 ∷ more → block_may_end bs piece next ≡ false
-          on [] e f = own_end piece next (sym (append-nil piece) ∙ sym e) f
-          on (d ∷ q) e f =
-              absurd (shorter piece d q (q ++ 9 ∷ more) r (ap split (sym e) ∙ one) (ap has_no_nul (sym f) ∙ clean) (ap (block_read collection piece) (sym f) ∙ is))
-      by (inr m) = on m.more m.longer m.rest
-        where
-          on : (q : List ℕ) → piece ≡ own ++ q → 9 ∷ more ≡ q ++ next → block_may_end bs piece next ≡ false
-          on [] e f = own_end piece next (e ∙ append-nil own) (sym f)
-          on (d ∷ q) e f =
-              let same : 9 ≡ d = cc f in
-              absurd (longer own q next r one (ap (λ x. block_read collection x next) (ap (λ x. own ++ x ∷ q) same ∙ sym e) ∙ is))
 
 unbroken : (style : BlockStyle) → is_break (indicator_of style) ≡ false
 unfolding is_break

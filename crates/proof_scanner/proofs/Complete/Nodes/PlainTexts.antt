@@ -13,10 +13,10 @@ use Rattle.defs_token.specs.Step.{has_break}
 use Rattle.defs_token.specs.Indentation.{has_tab_within, last_line}
 use Rattle.defs_token.specs.Lines.{after_first, lines_have_no_tab, plain_lines_fit, has_dash_before_flow}
 use Rattle.yaml_chars.specs.Class.{is_break, is_blank}
+use Rattle.proof_lexers.proofs.Plain.Found.{no_flow_in}
 use Rattle.proof_lexers.proofs.Bridges.{same_break, same_blank}
 use Rattle.proof_lexers.specs.PlainEnds.{is_white, is_gap}
 use Rattle.proof_row.proofs.Runs.{joined}
-use Rattle.proof_row.proofs.Texts.{flows}
 use Rattle.proof_scanner.specs.StandsInRow.{is_at_comment_or_end}
 use Rattle.proof_scanner.proofs.Sound.LastLines.{last_first, last_whole}
 use Rattle.proof_scanner.proofs.Sound.PlainLines.{Spot, in_text, at, tabbed, spot_past, past_spot, may_go, tabs_fit, dashes_fit, first_line, line_is, lines_are, all_lines, feed_first, first_is, others_are, white_is_no_dash, not_apart}
@@ -277,26 +277,6 @@ gap_dashes flow apart (c ∷ g) rest w =
     let q = and_parts (is_white c) (is_gap g) w in
     joined (not (flow && apart && (c == 45) && begins_flow (g ++ rest))) (dashes_fit flow (is_break c || is_blank c) g rest)
     (ap not (white_is_no_dash flow apart (begins_flow (g ++ rest)) c (white_of c q.0))) (gap_dashes flow (is_break c || is_blank c) g rest q.1)
-
-flow_is_solid : (c : ℕ) → is_flow c ≡ true → (classes.is_blank c || classes.is_break c) ≡ false
-unfolding classes.is_blank classes.is_break
-flow_is_solid c h = flows (λ z. (classes.is_blank z || classes.is_break z) ≡ false) c h refl refl refl refl refl
-
--- in flow no plain scalar goes on over a flow indicator
-no_flow_in : (flow : Bool) (collection : Option ℕ) (s : Stand) (c : ℕ) (r next : List ℕ) → goes_on flow collection s (c ∷ r) next ≡ true → (flow && is_flow c) ≡ false
-no_flow_in flow collection s c r next h = by flow (is_flow c) refl (and_parts (classes.is_blank c || classes.is_break c || not (ends_plain flow collection s (c ∷ (r ++ next)))) (goes_on flow collection (past s c) r next) h).0
-  where
-    ended : (f : Bool) → f ≡ true → is_flow c ≡ true → ends_plain f collection s (c ∷ (r ++ next)) ≡ true
-    ended f e i = rw (e, i) (or-true _)
-
-    solid : (x z : Bool) → x ≡ false → (x || z) ≡ true → z ≡ true
-    solid false z h k = k
-    solid true z h k = absurd (cc h)
-
-    by : (f b : Bool) → is_flow c ≡ b → (classes.is_blank c || classes.is_break c || not (ends_plain f collection s (c ∷ (r ++ next)))) ≡ true → (f && b) ≡ false
-    by false b e h = refl
-    by true false e h = refl
-    by true true e h = absurd (cc (solid (classes.is_blank c || classes.is_break c) (not (ends_plain true collection s (c ∷ (r ++ next)))) (flow_is_solid c e) h, ended true refl e))
 
 -- After content or a blank, the rest of a plain scalar and its gap: no dash stands before a flow indicator.
 rest_dashes : (flow : Bool) (collection : Option ℕ) (s : Stand) (c : ℕ) (r g rest : List ℕ) → goes_on flow collection s r (g ++ rest) ≡ true → (flow && has_dash_before_flow (c ∷ r) (g ++ rest)) ≡ false → is_gap g ≡ true →

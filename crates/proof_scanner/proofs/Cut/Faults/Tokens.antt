@@ -139,9 +139,9 @@ module _ (text : List ℕ) (t : ScannerState) (nul : has_no_nul text ≡ true) (
 
   plain_why_told : (ctx : Context) (f : Fault) → ctx.flow ≡ in_flow t.held → plain_ends.IsPlainRefusal ctx t.held.position t.rest f → IsTold text f
   plain_why_told ctx f e (plain_ends.by_column flow left) = λ z. absurd (cc z)
-  plain_why_told ctx f e (plain_ends.by_dash before rest flow cut begins over apart) = λ _.
+  plain_why_told ctx f e (plain_ends.by_dash before rest deep free flow cut begins over apart) = λ _.
       dash_in_flow (account_now text t s) before rest (spot (before ++ 45 ∷ rest) cut) begins (same_flow t.held.flow ∙ sym e ∙ flow) apart
-  plain_why_told ctx f e (plain_ends.by_tab before blanks rest column cut over stands left are begins) = λ z. absurd (cc z)
+  plain_why_told ctx f e (plain_ends.by_tab deep tab) = λ z. absurd (cc z)
 
   solid_text : (l : List ℕ) → is_empty l ≡ false → begins_separation l ≡ false → plain_ends.begins_solid l ≡ true
   solid_text [] some solid = cc
