@@ -53,8 +53,8 @@ module _ (text : List ℕ) (t : ScannerState) (a : Arrives text t) (some : is_em
         colon = λ more e i. colon_told text t a some lies waits more e i;
         open_bracket = λ more e. opening_told text t a some lies Entry Tok.flow_sequence_start 91 more e (inl refl);
         open_brace = λ more e. opening_told text t a some lies Mapping Tok.flow_mapping_start 123 more e (inr refl);
-        close_bracket = λ more e. closing_told text t a some lies Tok.flow_sequence_end 93 more e refl;
-        close_brace = λ more e. closing_told text t a some lies Tok.flow_mapping_end 125 more e refl;
+        close_bracket = λ more e. closing_told text t a some lies Tok.flow_sequence_end 93 more e refl refl;
+        close_brace = λ more e. closing_told text t a some lies Tok.flow_mapping_end 125 more e refl refl;
         comma = λ more e. comma_told text t a some lies more e;
         percent = λ more e. fault {f = At problem.UnexpectedPercent t.held.position} (λ _. none_here text t a some lies problem.UnexpectedPercent (none.percent more e (no_column more e)) tt);
         at_sign = λ more e. fault {f = At problem.UnexpectedAt t.held.position} (λ _. none_here text t a some lies problem.UnexpectedAt (none.at_sign more e) tt);
