@@ -38,7 +38,7 @@ is_full a = nat_le 255 (length a.entries)
 abbrev pub opens : ℕ → Bool
 opens c = is_one_of (codes "[{") c
 
--- in flow, or on a line that is not taken, a `?` may stand
+-- whether a `?` may stand: in flow, or on a line that is not taken
 abbrev pub may_ask : (in_flow taken : Bool) → Bool
 may_ask in_flow taken = in_flow || not taken
 
@@ -62,11 +62,13 @@ no_piece_first in_flow least here rest why at (none.undirected line next reason 
 
 -- what follows a piece; `taken` says whether outside flow its line was taken, `full` whether as many flow collections are open as may be
 abbrev pub followed_first : (in_flow : Bool) (least : ℕ) (taken full : Bool) (here : Position) (rest : List ℕ) (why : Problem) (at : Position) → IsFollowed in_flow here rest why at → Type 0
+-- too many flow collections are told before a comment right after a bracket
 followed_first in_flow least taken full here rest why at (none.glued c more e is begins) = (opens c && full) ≡ false
 followed_first in_flow least taken full here rest why at (none.glued_to_quoted single piece more e is begins) = closed_first single least piece
 followed_first in_flow least taken full here rest why at (none.after_quoted single piece more passed content e is ends on solid) = closed_first single least piece
 followed_first in_flow least taken full here rest why at (none.after_end more passed content col e gap on ends solid) = Unit {0}
 followed_first in_flow least taken full here rest why at (none.tab_after_dash more passed content out e gap on tab begins) = taken ≡ false
+-- A TAB right after a `?` stands where a space or a break should; where one of these stands, the first TAB outside comments is told.
 followed_first in_flow least taken full here rest why at (none.no_space more passed content e gap on begins ends) = (may_ask in_flow taken ≡ true) × (passed ≡ [])
 followed_first in_flow least taken full here rest why at (none.tab_after_question more passed content e gap cut fills) = (may_ask in_flow taken ≡ true) × (begins_with_space_or_break more ≡ true) × (has_tab_before_piece false passed ≡ false)
 followed_first in_flow least taken full here rest why at (none.tab_after_colon more passed content e tab on lacks letter) = Unit {0}
@@ -77,6 +79,7 @@ stands_first a separation here rest why at (failing.shallow inside line left) = 
 stands_first a separation here rest why at (failing.too_deep bracket more e is many) = IsLookedAt a separation here rest
 stands_first a separation here rest why at (failing.dash_in_flow more e gap inside) = IsLookedAt a separation here rest
 stands_first a separation here rest why at (failing.dash_not_free more e gap out line) = IsLookedAt a separation here rest
+-- the TABs after a colon are told before it
 stands_first a separation here rest why at (failing.key_on_earlier_line more begin x xs e is are takes had late) = IsLookedAt a separation here rest × (colon_may_precede more ≡ true)
 stands_first a separation here rest why at (failing.question_not_free more e gap out line) = IsLookedAt a separation here rest
 stands_first a separation here rest why at (failing.tab_indents tab) = Unit {0}

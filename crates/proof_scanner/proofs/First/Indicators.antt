@@ -2,11 +2,9 @@
 use Rattle.std.proofs.Common.{◌≡◌, ℕ, List, [], ◌∷◌, ◌++◌, Bool, true, false, not, ◌==◌, ◌&&◌, ◌||◌, refl, ap, sym, ◌∙◌, arith, subst}
 use Rattle.std.proofs.lemmas.Bool.{and_parts, eqb-true}
 use Rattle.std.proofs.lemmas.Bool.Decides.{nat_tests}
-use Rattle.defs_text.specs.Breaks.{is_at_line_end}
 use Rattle.defs_text.specs.Classes.{is_blank, is_break, is_nul, is_blank_or_end, is_alpha, is_decimal_digit, is_letter, is_at_gap}
 use Rattle.defs_text.specs.Position.{Position, position_after}
 use Rattle.defs_text.specs.Text.{has_no_nul}
-use Rattle.defs_text.specs.FlowScalar.{begins_with}
 use Rattle.defs_token.specs.Piece.{begins_with_space_or_break}
 use Rattle.defs_token.specs.Separation.{is_separation}
 use Rattle.defs_token.specs.Indentation.{begins_entry, begins_with_alpha, colon_may_precede, has_tab_before_piece}
@@ -25,6 +23,10 @@ use Rattle.proof_scanner.proofs.First.Settings.{Setting}
 -- two faults of one kind at one place
 abbrev pub AreSame : (why1 why2 : Problem) (at1 at2 : Position) → Type 0
 AreSame why1 why2 at1 at2 = (why1 ≡ why2) × (at1 ≡ at2)
+
+-- what stands after one character
+pub tails : (c : ℕ) (rest m n : List ℕ) → rest ≡ c ∷ m → rest ≡ c ∷ n → m ≡ n
+tails c rest m n e f = let both : c ∷ m ≡ c ∷ n = sym e ∙ f in cc both
 
 -- ---- what is passed on a line
 
@@ -50,9 +52,6 @@ pub data DashReason (s : Setting) (here : Position) (rest : List ℕ) : Problem 
   dash_in_flow : s.in_flow ≡ true → DashReason s here rest problem.BlockEntryInFlow here
   dash_not_free : s.in_flow ≡ false → s.taken ≡ true → DashReason s here rest problem.BlockEntryNotAllowed here
   tab_after_dash : (more passed content : List ℕ) → s.in_flow ≡ false → s.taken ≡ false → rest ≡ 45 ∷ more → GoesOn more passed content → begins_entry content ≡ true → DashReason s here rest problem.TabAfterDash (position_after (further 1 here) passed content)
-
-tails : (c : ℕ) (rest m n : List ℕ) → rest ≡ c ∷ m → rest ≡ c ∷ n → m ≡ n
-tails c rest m n e f = let both : c ∷ m ≡ c ∷ n = sym e ∙ f in cc both
 
 pub one_dash : (s : Setting) (here : Position) (rest : List ℕ) (why1 why2 : Problem) (at1 at2 : Position) → DashReason s here rest why1 at1 → DashReason s here rest why2 at2 → AreSame why1 why2 at1 at2
 one_dash s here rest why1 why2 at1 at2 (dash_in_flow i) (dash_in_flow j) = (refl, refl)
@@ -80,9 +79,9 @@ first_tab : (in_comment : Bool) (p q x y : List ℕ) → p ++ 9 ∷ x ≡ q ++ 9
 unfolding is_blank is_break is_nul
 first_tab b [] [] x y e f g h k = let same : x ≡ y = cc e in (refl, same)
 first_tab true [] (d ∷ q) x y e f g h k = absurd (cc f)
-first_tab false [] (d ∷ q) x y e f g h k = let same : d ≡ 9 = cc e in absurd (cc (k, ap (λ c. (c == 9) || (((c == 32) || is_break c || (c == 35)) && has_tab_before_piece (c == 35) q)) same))
+first_tab false [] (d ∷ q) x y e f g h k = let same : d ≡ 9 = cc e in absurd (cc (k, same))
 first_tab true (c ∷ p) [] x y e f g h k = absurd (cc g)
-first_tab false (c ∷ p) [] x y e f g h k = let same : c ≡ 9 = cc e in absurd (cc (h, ap (λ c. (c == 9) || (((c == 32) || is_break c || (c == 35)) && has_tab_before_piece (c == 35) p)) same))
+first_tab false (c ∷ p) [] x y e f g h k = let same : c ≡ 9 = cc e in absurd (cc (h, same))
 first_tab true (c ∷ p) (d ∷ q) x y e f g h k =
     let head : c ≡ d = cc e in
     let tail : p ++ 9 ∷ x ≡ q ++ 9 ∷ y = cc e in

@@ -1,23 +1,20 @@
 -- Of two reasons at one place that both come first, kind and position are the same.
-use Rattle.std.proofs.Common.{◌≡◌, ℕ, ◌≤◌, ◌⊎◌, inl, inr, List, [], ◌∷◌, ◌++◌, Bool, true, false, not, ◌==◌, ◌&&◌, ◌||◌, nat_le, if◌then◌else◌, None, Some, length, refl, ap, sym, ◌∙◌, subst, arith}
+use Rattle.std.proofs.Common.{◌≡◌, ℕ, ◌⊎◌, inl, inr, List, [], ◌∷◌, ◌++◌, Bool, true, false, not, ◌==◌, ◌&&◌, ◌||◌, nat_le, if◌then◌else◌, None, refl, ap, sym, ◌∙◌, subst, arith}
 use Rattle.std.proofs.lemmas.Bool.{eqb-true}
 use Rattle.std.proofs.lemmas.Bool.Decides.{nat_tests}
 use Rattle.defs_text.specs.BlockScalar.{BlockStyle, literal, folded, header_of}
-use Rattle.defs_text.specs.Breaks.{split, has_no_break}
+use Rattle.defs_text.specs.Breaks.{has_no_break}
 use Rattle.defs_text.specs.Classes.{tab, is_blank, is_break, is_nul, is_flow, is_blank_or_end, is_at_gap, are_marks}
 use Rattle.defs_text.specs.Position.{Position, position_after}
 use Rattle.defs_text.specs.Text.{is_empty, has_no_nul}
 use Rattle.defs_text.specs.FlowScalar.{begins_with}
-use Rattle.defs_token.specs.Account.{is_adjacent, before_past}
-use Rattle.defs_token.specs.BlockPiece.{block_read}
 use Rattle.defs_token.specs.Column.{innermost}
 use Rattle.defs_token.specs.Following.{quoted_may_end}
 use Rattle.defs_token.specs.Plain.{is_value_indicator, begins_flow}
 use Rattle.defs_token.specs.Separation.{is_separation}
 use Rattle.defs_token.specs.Step.{quoted_scalar}
 use Rattle.defs_token.specs.Indentation.{least_column, is_indented_by_spaces, colon_may_precede}
-use Rattle.defs_token.specs.FlowEntry.{Entry}
-use Rattle.defs_token.specs.RowAccount.{Account, before_by, is_in_flow}
+use Rattle.defs_token.specs.RowAccount.{Account, is_in_flow}
 use Rattle.yaml_tokens.specs.declared.problem.Fault.{Fault}
 use Rattle.yaml_tokens.specs.declared.problem.Fault.TheVariants.{At}
 use Rattle.yaml_tokens.specs.declared.problem.Problem.{Problem}
@@ -26,7 +23,6 @@ use Rattle.proof_lexers.specs.DirectiveEnds as directives
 use Rattle.proof_lexers.specs.DirectiveEnds.{IsDirectiveRefusal}
 use Rattle.proof_lexers.specs.HeaderEnds.{indicator_of, is_in_line}
 use Rattle.proof_lexers.specs.HeaderEnds as headers
-use Rattle.proof_lexers.specs.NameEnds.{further}
 use Rattle.proof_lexers.specs.Separations.{begins_separation, begins_white_space}
 use Rattle.proof_lexers.specs.TagEnds.{IsTagRefusal}
 use Rattle.proof_row.specs.Ends.{Kind, nothing, plain_scalar, sequence_opening, sequence_closing, mapping_opening, mapping_closing, comma, question, colon, dash, dashes, dots, directive_line, alias_name, anchor_name, tag_text, in_single_quotes, in_double_quotes, block_scalar}
@@ -40,16 +36,16 @@ use Rattle.proof_scanner.specs.QuotedLines.{AreNotIndented, IsQuotedFault}
 use Rattle.proof_scanner.specs.QuotedLines as quoted_lines
 use Rattle.proof_scanner.specs.Failing as failing
 use Rattle.proof_scanner.specs.Failing.{MayNotStand, Fails, site_at_place, is_value_here, is_taken, begins_document_at}
-use Rattle.proof_scanner.specs.First.{least_here, is_full, IsLookedAt, no_piece_first, followed_first, stands_first, comes_first, FailsFirst, opens, may_ask}
+use Rattle.proof_scanner.specs.First.{least_here, is_full, IsLookedAt, no_piece_first, followed_first, stands_first, comes_first, FailsFirst, opens}
 use Rattle.proof_scanner.specs.FirstQuoted.{quoted_first, lines_first, closed_first}
 use Rattle.proof_scanner.specs.FirstPlain.{plain_first}
 use Rattle.proof_scanner.specs.FirstBlock.{header_first, block_first}
 use Rattle.proof_scanner.specs.FirstProperty.{tag_first, directive_first}
-use Rattle.proof_scanner.proofs.Refusals.PiecesRefused.{no_colon_before}
+use Rattle.proof_scanner.proofs.Refusals.PiecesRefused.{no_colon_before, tab_gap}
 use Rattle.proof_scanner.proofs.Refusals.TextsRefused.{first_char}
 use Rattle.proof_scanner.proofs.First.Settings.{Setting, setting_of, is_deep_at, kind_here, same_setting}
 use Rattle.proof_scanner.proofs.First.Indicators as indicators
-use Rattle.proof_scanner.proofs.First.Indicators.{AreSame, DashReason, QuestionReason, ColonReason, BracketReason, DotsReason, one_dash, one_question, one_colon, one_bracket, one_dots}
+use Rattle.proof_scanner.proofs.First.Indicators.{AreSame, DashReason, QuestionReason, ColonReason, BracketReason, DotsReason, tails, one_dash, one_question, one_colon, one_bracket, one_dots}
 use Rattle.defs_token.specs.Piece.{begins_with_space_or_break}
 
 -- ---- the reasons at one kind of piece
@@ -152,11 +148,6 @@ colon_kind s column more is = rw is refl
 dots_kind : (s : Setting) (column : ℕ) (more : List ℕ) → column ≡ 0 → is_at_gap more ≡ true → kind_here s column (46 ∷ 46 ∷ 46 ∷ more) ≡ dots
 unfolding is_blank_or_end is_blank is_break is_nul is_flow are_marks
 dots_kind s column more zero gap = rw (zero, gap) refl
-
-tab_gap : (more : List ℕ) → begins_with 9 more ≡ true → is_at_gap more ≡ true
-unfolding is_blank_or_end is_blank is_break is_nul
-tab_gap [] h = refl
-tab_gap (c ∷ r) h = let same : c ≡ 9 = eqb-true c 9 h in rw same refl
 
 no_white : (more : List ℕ) → begins_with 32 more ≡ false → begins_white_space more ≡ false → begins_with_space_or_break more ≡ false
 no_white [] e f = refl
@@ -336,9 +327,6 @@ module _ (one_quoted : OneQuoted) (one_plain : OnePlain) (one_block : OneBlock) 
 
   one_name : (here : Position) (why1 why2 : Problem) (at1 at2 : Position) → NameReason here why1 at1 → NameReason here why2 at2 → AreSame why1 why2 at1 at2
   one_name here why1 why2 at1 at2 nameless nameless = (refl, refl)
-
-  tails : (c : ℕ) (rest m n : List ℕ) → rest ≡ c ∷ m → rest ≡ c ∷ n → m ≡ n
-  tails c rest m n e f = let both : c ∷ m ≡ c ∷ n = sym e ∙ f in cc both
 
   one_refusal : (in_flow : Bool) (here : Position) (rest : List ℕ) (why1 why2 : Problem) (at1 at2 : Position) → TagReason in_flow here rest why1 at1 → TagReason in_flow here rest why2 at2 → AreSame why1 why2 at1 at2
   one_refusal in_flow here rest why1 why2 at1 at2 (tagless more reason e r f) (tagless n reason2 e2 q g) =

@@ -1,11 +1,10 @@
 -- What the reasons at a place ask of an account; it is the same at accounts that are alike.
-use Rattle.std.proofs.Common.{◌≡◌, ℕ, List, [], ◌∷◌, Bool, true, false, ◌==◌, ◌||◌, nat_le, not, length, refl, ap, sym, ◌∙◌, if◌then◌else◌}
+use Rattle.std.proofs.Common.{◌≡◌, ℕ, List, [], ◌∷◌, Bool, true, false, ◌||◌, nat_le, not, length, refl, if◌then◌else◌}
 use Rattle.defs_text.specs.Position.{Position}
 use Rattle.defs_token.specs.Account.{is_adjacent, before_past}
-use Rattle.defs_token.specs.Step.{gives_node}
 use Rattle.defs_token.specs.Indentation.{least_column}
 use Rattle.defs_token.specs.Key.{Line, free, taken, waits, begins_free_line, line_past_separation}
-use Rattle.defs_token.specs.RowAccount.{Site, Account, before_by, is_in_flow, site_in}
+use Rattle.defs_token.specs.RowAccount.{Account, before_by, is_in_flow}
 use Rattle.proof_row.specs.Ends.{Kind, nothing, plain_scalar, kind_by}
 use Rattle.proof_row.proofs.Accounts.{same_flow}
 use Rattle.proof_row.proofs.Like.{LikeLine, IsLike}

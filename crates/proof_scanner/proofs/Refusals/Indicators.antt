@@ -52,7 +52,6 @@ use Rattle.proof_lexers.specs.PlainEnds as plain_ends
 use Rattle.proof_lexers.specs.Separations.{GoesOverAs, misses, SpacesAs, after_separation, after_space, has}
 use Rattle.proof_lexers.specs.Separations as separations
 use Rattle.proof_lexers.proofs.Directives.Lines.{directives_end}
-use Rattle.proof_lexers.proofs.Separation.WhiteSpace.{white_space_is_passed}
 use Rattle.proof_scanner.specs.Choices.{outside_key, line_by, entries_by, chosen, entry_by, had_by, MayChoose}
 use Rattle.proof_scanner.specs.Arrives.{Arrives, IsLineHere}
 use Rattle.proof_scanner.specs.StandsInRow.{is_free, AreEntries, IsOpenOutside}

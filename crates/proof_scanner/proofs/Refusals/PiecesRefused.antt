@@ -94,6 +94,11 @@ no_colon_before more passed (d ∷ r) tab_there on lacks letter =
     (ap (λ l. not (not (is_one_of l 32) && begins_with_alpha (after is_blank (passed ++ d ∷ r)))) (leading_blanks passed d r blanks none) ∙
     (ap (λ x. not (not (is_one_of passed 32) && begins_with_alpha x)) left ∙ ap (λ y. not (not y && begins_with_alpha (d ∷ r))) (space_among passed lacks) ∙ ap not letter)))
 
+pub tab_gap : (more : List ℕ) → begins_with 9 more ≡ true → is_at_gap more ≡ true
+unfolding is_blank_or_end is_blank is_break is_nul
+tab_gap [] h = refl
+tab_gap (c ∷ r) h = let same : c ≡ 9 = eqb-true c 9 h in rw same refl
+
 module _ (a : Account) (separation rest : List ℕ) (here : Position) (s : StepAt a separation rest here) where
   abbrev next : List ℕ
   next = spelled_to s.steps s.stop
@@ -214,11 +219,6 @@ module _ (a : Account) (separation rest : List ℕ) (here : Position) (s : StepA
   no_tabbed_dash more passed content out e gap on tab_there begins = no_step (45 ∷ []) more block_entry e refl (refl, gap, flow_seen a.entries out) (no_tab_before more passed content on tab_there begins)
 
   -- ---- a colon
-
-  tab_gap : (more : List ℕ) → begins_with 9 more ≡ true → is_at_gap more ≡ true
-  unfolding is_blank_or_end is_blank is_break is_nul
-  tab_gap [] h = refl
-  tab_gap (c ∷ r) h = let same : c ≡ 9 = eqb-true c 9 h in rw same refl
 
   pub no_tabbed_colon : (more passed content : List ℕ) → rest ≡ 58 ∷ more → begins_with 9 more ≡ true → GoesOn more passed content → has 32 passed ≡ false → begins_with_alpha content ≡ true → ⊥
   no_tabbed_colon more passed content e tab_there on lacks letter =
