@@ -1,6 +1,9 @@
 pub mod Block
+pub mod Indicators
 pub mod Places
 pub mod Plain
 pub mod Property
+pub mod Reasons
+pub mod Settings
 pub mod Stuck
 pub mod Ways

@@ -1,7 +1,9 @@
 -- What is wrong at a place first: the reasons are tried in one order, and those that are tried before one do not hold.
-use Rattle.std.specs.Prelude.{◌≡◌, ℕ, List, Bool, true, false, ◌||◌, not, nat_le, length}
+use Rattle.std.specs.Prelude.{◌≡◌, ℕ, List, [], Bool, true, false, ◌&&◌, ◌||◌, not, nat_le, length, codes}
+use Rattle.defs_text.specs.Classes.{is_one_of}
 use Rattle.defs_text.specs.Position.{Position}
-use Rattle.defs_token.specs.Indentation.{follows_plain, least_column, is_indented_by_spaces}
+use Rattle.defs_token.specs.Piece.{begins_with_space_or_break}
+use Rattle.defs_token.specs.Indentation.{follows_plain, least_column, is_indented_by_spaces, has_tab_before_piece, colon_may_precede}
 use Rattle.defs_token.specs.RowAccount.{Account, is_in_flow}
 use Rattle.yaml_tokens.specs.declared.problem.Problem.{Problem}
 use Rattle.proof_scanner.specs.NoPiece as none
@@ -30,6 +32,14 @@ lies_deep a here rest = not (is_in_flow a.entries) || begins_document_at here re
 abbrev pub is_full : Account → Bool
 is_full a = nat_le 255 (length a.entries)
 
+-- whether a character opens a flow collection
+abbrev pub opens : ℕ → Bool
+opens c = is_one_of (codes "[{") c
+
+-- whether a `?` may stand: in flow, or on a line that is not taken
+abbrev pub may_ask : (in_flow taken : Bool) → Bool
+may_ask in_flow taken = in_flow || not taken
+
 -- a piece is looked at here
 pub record IsLookedAt (a : Account) (separation : List ℕ) (here : Position) (rest : List ℕ) : Type 0 where
   pub has_no_tab : is_free_of_tabs a separation ≡ true
@@ -50,13 +60,15 @@ no_piece_first in_flow least here rest why at (none.undirected line next reason 
 
 -- what follows a piece; `taken` says whether outside flow its line was taken, `full` whether as many flow collections are open as may be
 abbrev pub followed_first : (in_flow : Bool) (least : ℕ) (taken full : Bool) (here : Position) (rest : List ℕ) (why : Problem) (at : Position) → IsFollowed in_flow here rest why at → Type 0
-followed_first in_flow least taken full here rest why at (none.glued c more e is begins) = Unit {0}
+-- too many flow collections are told before a comment right after a bracket
+followed_first in_flow least taken full here rest why at (none.glued c more e is begins) = (opens c && full) ≡ false
 followed_first in_flow least taken full here rest why at (none.glued_to_quoted single piece more e is begins) = closed_first single least piece
 followed_first in_flow least taken full here rest why at (none.after_quoted single piece more passed content e is ends on solid) = closed_first single least piece
 followed_first in_flow least taken full here rest why at (none.after_end more passed content col e gap on ends solid) = Unit {0}
-followed_first in_flow least taken full here rest why at (none.tab_after_dash more passed content out e gap on tab begins) = Unit {0}
-followed_first in_flow least taken full here rest why at (none.no_space more passed content e gap on begins ends) = Unit {0}
-followed_first in_flow least taken full here rest why at (none.tab_after_question more passed content e gap cut fills) = Unit {0}
+followed_first in_flow least taken full here rest why at (none.tab_after_dash more passed content out e gap on tab begins) = taken ≡ false
+-- A TAB right after a `?` stands where a space or a break should; where one of these stands, the first TAB outside comments is told.
+followed_first in_flow least taken full here rest why at (none.no_space more passed content e gap on begins ends) = (may_ask in_flow taken ≡ true) × (passed ≡ [])
+followed_first in_flow least taken full here rest why at (none.tab_after_question more passed content e gap cut fills) = (may_ask in_flow taken ≡ true) × (begins_with_space_or_break more ≡ true) × (has_tab_before_piece false passed ≡ false)
 followed_first in_flow least taken full here rest why at (none.tab_after_colon more passed content e tab on lacks letter) = Unit {0}
 
 -- a piece may not stand here; after a plain scalar a TAB that indents a line is met by the scalar itself, unless a comment has ended it
@@ -65,7 +77,8 @@ stands_first a separation here rest why at (failing.shallow inside line left) = 
 stands_first a separation here rest why at (failing.too_deep bracket more e is many) = IsLookedAt a separation here rest
 stands_first a separation here rest why at (failing.dash_in_flow more e gap inside) = IsLookedAt a separation here rest
 stands_first a separation here rest why at (failing.dash_not_free more e gap out line) = IsLookedAt a separation here rest
-stands_first a separation here rest why at (failing.key_on_earlier_line more begin x xs e is are takes had late) = IsLookedAt a separation here rest
+-- the TABs after a colon are told before it
+stands_first a separation here rest why at (failing.key_on_earlier_line more begin x xs e is are takes had late) = IsLookedAt a separation here rest × (colon_may_precede more ≡ true)
 stands_first a separation here rest why at (failing.question_not_free more e gap out line) = IsLookedAt a separation here rest
 stands_first a separation here rest why at (failing.tab_indents tab) = follows_plain a.site.before separation ≡ false
 stands_first a separation here rest why at (failing.tab_after_quoted single piece gap content e is fills goes_on solid tab) = IsLookedAt a separation here rest × closed_first single (least_here a here) piece

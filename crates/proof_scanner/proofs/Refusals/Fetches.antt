@@ -53,8 +53,8 @@ module _ (text : List ℕ) (t : ScannerState) (a : Arrives text t) (some : is_em
         colon = λ more e i. colon_told text t a some lies waits more e i;
         open_bracket = λ more e. opening_told text t a some lies Entry Tok.flow_sequence_start 91 more e (inl refl);
         open_brace = λ more e. opening_told text t a some lies Mapping Tok.flow_mapping_start 123 more e (inr refl);
-        close_bracket = λ more e. closing_told text t a some lies Tok.flow_sequence_end 93 more e refl;
-        close_brace = λ more e. closing_told text t a some lies Tok.flow_mapping_end 125 more e refl;
+        close_bracket = λ more e. closing_told text t a some lies Tok.flow_sequence_end 93 more e refl refl;
+        close_brace = λ more e. closing_told text t a some lies Tok.flow_mapping_end 125 more e refl refl;
         comma = λ more e. comma_told text t a some lies more e;
         percent = λ more e. fault {f = At problem.UnexpectedPercent t.held.position} (λ _. none_here text t a some lies problem.UnexpectedPercent (none.percent more e (no_column more e)) tt);
         at_sign = λ more e. fault {f = At problem.UnexpectedAt t.held.position} (λ _. none_here text t a some lies problem.UnexpectedAt (none.at_sign more e) tt);
@@ -102,9 +102,12 @@ module _ (text : List ℕ) (t : ScannerState) (a : Arrives text t) (some : is_em
           let flow_is = in_flow_is text t a some c [] in
           let blocks_are : (site_at_place (account_by text t a some c []) t.held.position).blocks ≡ columns t.held.indent t.held.indents = ap (λ b. (site_in b gives_node t.held.position a.base.site).blocks) flow_is ∙ a.blocks_are in
           let awaits_is : (site_at_place (account_by text t a some c []) t.held.position).awaits ≡ has_open_level t.held.indents = ap (λ b. (site_in b gives_node t.held.position a.base.site).awaits) flow_is ∙ a.awaits_is in
-          record { is_first = a.is_indented some; fails = may_not_stand (defs.shallow (flow_is ∙ ap not e) none
-          (ap (λ bs. nat_le (least_column bs (site_at_place (account_by text t a some c []) t.held.position).awaits) t.held.position.col) blocks_are ∙
-          (ap (λ w. nat_le (least_column (columns t.held.indent t.held.indents) w) t.held.position.col) awaits_is ∙ least_here t.held.indent t.held.indents a.are_levels low))) })
+          record {
+            is_first = a.is_indented some;
+            fails = may_not_stand (defs.shallow (flow_is ∙ ap not e) none
+                (ap (λ bs. nat_le (least_column bs (site_at_place (account_by text t a some c []) t.held.position).awaits) t.held.position.col) blocks_are ∙
+                (ap (λ w. nat_le (least_column (columns t.held.indent t.held.indents) w) t.held.position.col) awaits_is ∙ least_here t.held.indent t.held.indents a.are_levels low)));
+          })
 
   indented_told : ((t.held.position.col == 0) && is_document_marker t.rest) ≡ false → (t.held.position.col ≡ 0 → (peek t.rest == 37) ≡ false) → Faults (Told text) (fetch_indented t)
   unfolding fetch_indented

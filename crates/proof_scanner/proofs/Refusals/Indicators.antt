@@ -20,7 +20,7 @@ use Rattle.defs_text.specs.Tags as tags
 use Rattle.defs_text.specs.Tags.{leading}
 use Rattle.defs_token.specs.Step.{blanks_and_comment, past_blanks_and_comment}
 use Rattle.defs_token.specs.Tokens.{past_line_rest}
-use Rattle.defs_token.specs.Indentation.{begins_entry, begins_with_alpha}
+use Rattle.defs_token.specs.Indentation.{begins_entry, begins_with_alpha, colon_may_precede}
 use Rattle.defs_token.specs.Key.{Line, free, taken, waits, begins_free_line, line_past_separation}
 use Rattle.defs_token.specs.FlowEntry as entry
 use Rattle.defs_token.specs.FlowEntry.{Entry, has_no_pair, takes_pair}
@@ -52,7 +52,6 @@ use Rattle.proof_lexers.specs.PlainEnds as plain_ends
 use Rattle.proof_lexers.specs.Separations.{GoesOverAs, misses, SpacesAs, after_separation, after_space, has}
 use Rattle.proof_lexers.specs.Separations as separations
 use Rattle.proof_lexers.proofs.Directives.Lines.{directives_end}
-use Rattle.proof_lexers.proofs.Separation.WhiteSpace.{white_space_is_passed}
 use Rattle.proof_scanner.specs.Choices.{outside_key, line_by, entries_by, chosen, entry_by, had_by, MayChoose}
 use Rattle.proof_scanner.specs.Arrives.{Arrives, IsLineHere}
 use Rattle.proof_scanner.specs.StandsInRow.{is_free, AreEntries, IsOpenOutside}
@@ -73,7 +72,7 @@ use Rattle.proof_scanner.proofs.Refusals.Rolled.{rolled_place, removed_is}
 use Rattle.proof_scanner.proofs.Cut.Saved.{saved_keys, saved_is}
 use Rattle.proof_scanner.specs.NoPiece as none
 use Rattle.proof_scanner.specs.NoPiece.{IsFollowed}
-use Rattle.proof_scanner.specs.First.{IsLookedAt, followed_first, is_full}
+use Rattle.proof_scanner.specs.First.{IsLookedAt, followed_first, is_full, may_ask, opens}
 use Rattle.proof_scanner.specs.Failing as defs
 use Rattle.proof_scanner.specs.Failing.{may_not_stand, is_taken_line, is_taken, is_value_here}
 use Rattle.proof_scanner.specs.Stuck.{IsStuck, HasNoKey, no_key}
@@ -81,6 +80,10 @@ use Rattle.proof_scanner.proofs.Refusals.Faults.{Faults, fault, goes, read, in_t
 use Rattle.proof_scanner.proofs.Refusals.Spaces.{space_told, spaces_told, no_comment, no_comment_left, solid_past}
 use Rattle.proof_scanner.proofs.Refusals.Places.{Told, LiesDeep, account_by, place, many_levels, IsAllowed, stuck, in_flow_is, looked_at, none_begins, followed_stuck}
 use Rattle.proof_scanner.proofs.Refusals.Waiting.{NoneWaits}
+use Rattle.defs_token.specs.Piece.{begins_with_space_or_break}
+use Rattle.proof_scanner.proofs.Sound.WhiteSpaces.{white_of, past_white, white_cut, past_white_space, white_exactly, white_first, no_tab_in, IsMissed, white_or_missed}
+use Rattle.proof_scanner.proofs.Sound.ColonSpaces.{colon_spaced}
+use Rattle.proof_scanner.proofs.Complete.Indicators.Questions.{white_goes}
 
 -- ---- keys that must be one
 
@@ -177,6 +180,13 @@ module _ (text : List ℕ) (t : ScannerState) (a : Arrives text t) (some : is_em
 
   -- ---- what may begin
 
+  is_outside : in_flow t.held ≡ false → is_empty t.held.flow ≡ true
+  is_outside e = by (is_empty t.held.flow) e
+    where
+      by : (b : Bool) → not b ≡ false → b ≡ true
+      by true e = refl
+      by false e = absurd (cc e)
+
   line_taken : (c : Bool) (cs : List Bool) → IsAllowed text t a some c → is_empty t.held.flow ≡ true → t.held.key_allowed ≡ false → is_taken (chosen c cs t.held.keys a.base) a.separation ≡ true
   line_taken c cs may out none =
       by (outside_key a.base.entries t.held.keys) c (may out) (subst (λ b. IsLineHere (not b) t.held.key_allowed t.rest (outside_key a.base.entries t.held.keys) a.line) out a.line_is) a.is_open
@@ -202,18 +212,37 @@ module _ (text : List ℕ) (t : ScannerState) (a : Arrives text t) (some : is_em
       by (Some k) true may h open_here = ap (λ b. is_taken_line (line_past_separation false b (waits k.position))) (on_its_line k open_here.0.0 may.0)
       by (Some k) false may h open_here = ap is_taken_line is_line ∙ ap (λ l. is_taken_line (Some l)) (h some).0
 
+  line_not_taken : (c : Bool) (cs : List Bool) → IsAllowed text t a some c → is_empty t.held.flow ≡ true → t.held.key_allowed ≡ true → is_taken (chosen c cs t.held.keys a.base) a.separation ≡ false
+  line_not_taken c cs may out allowed =
+      by (outside_key a.base.entries t.held.keys) c (subst (λ b. IsLineHere (not b) t.held.key_allowed t.rest (outside_key a.base.entries t.held.keys) a.line) out a.line_is)
+    where
+      broken : Bool
+      broken = begins_free_line a.base.site.before a.separation
+
+      is_line : line_past_separation false broken a.base.line ≡ Some a.line
+      is_line = subst (λ b. line_past_separation (not b) broken a.base.line ≡ Some a.line) out a.is_line
+
+      free_by : (l : Line) → (l ≡ free) ⊎ (l ≡ taken) → is_free l ≡ true → is_taken_line (Some l) ≡ false
+      free_by l (inl e) h = ap (λ x. is_taken_line (Some x)) e
+      free_by l (inr e) h = absurd (cc (h, ap is_free e))
+
+      by : (k : Option Key) (c : Bool) → IsLineHere false t.held.key_allowed t.rest k a.line → is_taken_line (line_past_separation false broken (line_by c k a.base.line)) ≡ false
+      by None c h = ap is_taken_line is_line ∙ free_by a.line h.0 (sym h.1 ∙ allowed)
+      by (Some k) c h = absurd (cc ((h some).1, allowed))
+
+  -- where a `?` is not refused it may stand
+  asks : (in_flow t.held || t.held.key_allowed) ≡ true → (c : Bool) → IsAllowed text t a some c → may_ask (in_flow t.held) (is_taken (account_by text t a some c []) a.separation) ≡ true
+  asks h c may = by (in_flow t.held) refl h
+    where
+      by : (b : Bool) → in_flow t.held ≡ b → (b || t.held.key_allowed) ≡ true → may_ask b (is_taken (account_by text t a some c []) a.separation) ≡ true
+      by true e k = refl
+      by false e k = ap not (line_not_taken c [] may (is_outside e) k)
+
   -- a colon that the scanner takes as a value's is an indicator
   value_here : (more : List ℕ) → t.rest ≡ 58 ∷ more → is_value t ≡ true → (c : Bool) (cs : List Bool) → is_value_here (chosen c cs t.held.keys a.base) a.separation more ≡ true
   value_here more e i c cs =
       ap (λ b. is_value_indicator b (is_adjacent (before_past (before_by a.base.site.before) a.separation)) more) (in_flow_is text t a some c cs) ∙
       (sym (value_is t (is_adjacent (before_past (before_by a.base.site.before) a.separation)) more e (λ inside. sym (a.is_adjacent_here inside some))) ∙ i)
-
-  is_outside : in_flow t.held ≡ false → is_empty t.held.flow ≡ true
-  is_outside e = by (is_empty t.held.flow) e
-    where
-      by : (b : Bool) → not b ≡ false → b ≡ true
-      by true e = refl
-      by false e = absurd (cc e)
 
   is_not : (b : Bool) → not b ≡ true → b ≡ false
   is_not true e = absurd (cc e)
@@ -244,9 +273,9 @@ module _ (text : List ℕ) (t : ScannerState) (a : Arrives text t) (some : is_em
   first_after [] c h n = absurd (cc (h, n))
   first_after (d ∷ m) c h n = (m, ap (λ x. x ∷ m) (eqb-true d c h))
 
-  dash_checked : (more : List ℕ) → t.rest ≡ 45 ∷ more → is_at_gap more ≡ true → in_flow t.held ≡ false → (h : Held) → h.position ≡ past t.held.position → (x : Read Whitespace) → space Yes more h.position ≡ Ok x → Faults (Told text) (check_dash x.value (go_on x h))
+  dash_checked : (more : List ℕ) → t.rest ≡ 45 ∷ more → is_at_gap more ≡ true → in_flow t.held ≡ false → t.held.key_allowed ≡ true → (h : Held) → h.position ≡ past t.held.position → (x : Read Whitespace) → space Yes more h.position ≡ Ok x → Faults (Told text) (check_dash x.value (go_on x h))
   unfolding check_dash
-  dash_checked more e gap outside h place x k = by (space Yes more h.position) k (spaces_are_passed Yes more h.position)
+  dash_checked more e gap outside allowed h place x k = by (space Yes more h.position) k (spaces_are_passed Yes more h.position)
     where
       reason : (blanks comment rest : List ℕ) → more ≡ blanks ++ (comment ++ rest) → is_separation false (blanks ++ comment) rest ≡ true → plain_ends.has_break (blanks ++ comment) ≡ false
           → (has 9 blanks && (slice_index rest 0 == 45) && is_blank_or_breakz (slice_index rest 1)) ≡ true → Told text (At problem.TabAfterDash (position_after h.position (blanks ++ comment) rest))
@@ -257,7 +286,7 @@ module _ (text : List ℕ) (t : ScannerState) (a : Arrives text t) (some : is_em
           let gap2 : is_at_gap d.0 ≡ true = sym (gap_here d.0) ∙ (ap (λ l. is_blank_or_breakz (slice_index l 1)) (sym d.1) ∙ second.1) in
           followed_at problem.TabAfterDash _ (further 1 t.held.position) (blanks ++ comment) rest (ap (λ q. position_after q (blanks ++ comment) rest) place)
           (none.tab_after_dash more (blanks ++ comment) rest outside e gap (record { is_text = cut ∙ sym (append_assoc blanks comment rest); is_filled = fills; is_on_line = line })
-          (has_more blanks comment first.0) (ap begins_entry d.1 ∙ gap2)) (λ c may. tt)
+          (has_more blanks comment first.0) (ap begins_entry d.1 ∙ gap2)) (λ c may. line_not_taken c [] may (is_outside outside) allowed)
 
       checked_by : (b : Bool) (q : Position) (u : ScannerState) → (b ≡ true → Told text (At problem.TabAfterDash q)) → Faults (Told text) (if b then Err (At problem.TabAfterDash q) else Ok u)
       checked_by true q u why = fault {f = At problem.TabAfterDash q} (why refl)
@@ -271,9 +300,14 @@ module _ (text : List ℕ) (t : ScannerState) (a : Arrives text t) (some : is_em
           subst (λ (z : Read Whitespace). Faults (Told text) (if z.value.found_tabs && (slice_index z.rest 0 == 45) && is_blank_or_breakz (slice_index z.rest 1) then Err (At problem.TabAfterDash z.position) else Ok (go_on z h))) same
           (checked_by (has 9 blanks && (slice_index rest 0 == 45) && is_blank_or_breakz (slice_index rest 1)) (position_after h.position (blanks ++ comment) rest) _ (reason blanks comment rest cut fills line))
 
-  entry_outside : Holds (λ s. (in_flow t.held ≡ false) × (s ≡ t.held)) (check_block_entry t.held)
+  is_so : (b : Bool) → not b ≡ false → b ≡ true
+  is_so true e = refl
+  is_so false e = absurd (cc e)
+
+  entry_outside : Holds (λ s. (in_flow t.held ≡ false) × (t.held.key_allowed ≡ true) × (s ≡ t.held)) (check_block_entry t.held)
   unfolding check_block_entry
-  entry_outside = holds.checked (in_flow t.held) (At problem.BlockEntryInFlow t.held.position) (λ o. holds.checked (not t.held.key_allowed) (At problem.BlockEntryNotAllowed t.held.position) (λ _. holds.went (o, refl)))
+  entry_outside =
+      holds.checked (in_flow t.held) (At problem.BlockEntryInFlow t.held.position) (λ o. holds.checked (not t.held.key_allowed) (At problem.BlockEntryNotAllowed t.held.position) (λ n. holds.went (o, is_so t.held.key_allowed n, refl)))
 
   -- no comment stands after what was passed behind a dash
   dash_spaced : (u : ScannerState) → Holds (λ v. begins_with 35 v.rest ≡ false) (lexed (space Yes u.rest u.held.position) u.held check_dash)
@@ -286,12 +320,13 @@ module _ (text : List ℕ) (t : ScannerState) (a : Arrives text t) (some : is_em
   unfolding fetch_block_entry
   dash_told more e gap =
       in_turn (tried t (entry_checked more e gap)) (λ u i.
-      let was : (u.rest ≡ t.rest) × (in_flow t.held ≡ false) × (u.held ≡ t.held) = held_of {P = λ v. (v.rest ≡ t.rest) × (in_flow t.held ≡ false) × (v.held ≡ t.held)} u (holds.tried t (check_block_entry t.held) entry_outside (λ s k. (refl, k.0, k.1))) i in
+      let was : (u.rest ≡ t.rest) × (in_flow t.held ≡ false) × (t.held.key_allowed ≡ true) × (u.held ≡ t.held) =
+      held_of {P = λ v. (v.rest ≡ t.rest) × (in_flow t.held ≡ false) × (t.held.key_allowed ≡ true) × (v.held ≡ t.held)} u (holds.tried t (check_block_entry t.held) entry_outside (λ s k. (refl, k.0, k.1, k.2))) i in
       let rolled : ScannerState = on_held (roll_indent t.held.position.col None Tok.block_sequence_start t.held.position) (skip_indicator u) in
-      let place : rolled.held.position ≡ past t.held.position = rolled_place t.held.position.col None Tok.block_sequence_start t.held.position (skip_indicator u).held ∙ ap (λ h. past h.position) was.2 in
+      let place : rolled.held.position ≡ past t.held.position = rolled_place t.held.position.col None Tok.block_sequence_start t.held.position (skip_indicator u).held ∙ ap (λ h. past h.position) was.3 in
       let left : rolled.rest ≡ more = ap after (was.0 ∙ e) in
       in_turn (read rolled.held (space Yes rolled.rest rolled.held.position) check_dash (λ f k. space_told text Yes rolled.rest rolled.held.position (λ h. absurd (cc (h, ap (λ r. begins_with 35 r) left, no_comment more gap))) f k)
-      (λ x k. dash_checked more e gap was.1 rolled.held place x (ap (λ r. space Yes r rolled.held.position) (sym left) ∙ k))) (λ v j.
+      (λ x k. dash_checked more e gap was.1 was.2 rolled.held place x (ap (λ r. space Yes r rolled.held.position) (sym left) ∙ k))) (λ v j.
       in_turn (spaces_told text No v (λ h. absurd (cc (h, held_of v (dash_spaced rolled) j)))) (λ w k.
       in_turn (tried (roll_entry w) (remove_told text (roll_entry w).held)) (λ x l. goes))))
 
@@ -303,25 +338,40 @@ module _ (text : List ℕ) (t : ScannerState) (a : Arrives text t) (some : is_em
       (λ n _. stuck text t a some [] problem.KeyNotAllowed t.held.position (λ c may.
       record { fails = may_not_stand (defs.question_not_free more e gap (in_flow_is text t a some c [] ∙ o) (line_taken c [] may (is_outside o) (is_not t.held.key_allowed n))); is_first = looked_at text t a some lies c [] })) (λ _. goes))
 
-  key_place : Holds (λ s. s.position ≡ t.held.position) (begin_key t.held)
+  key_place : Holds (λ s. (s.position ≡ t.held.position) × ((in_flow t.held || t.held.key_allowed) ≡ true)) (begin_key t.held)
   unfolding begin_key
-  key_place = holds.either (in_flow t.held) (λ _. holds.went refl) (λ _. holds.checked (not t.held.key_allowed) (At problem.KeyNotAllowed t.held.position) (λ _. holds.went (rolled_place t.held.position.col None Tok.block_mapping_start t.held.position t.held)))
+  key_place =
+      holds.either (in_flow t.held) (λ i. holds.went (refl, ap (λ b. b || t.held.key_allowed) i)) (λ o.
+      holds.checked (not t.held.key_allowed) (At problem.KeyNotAllowed t.held.position) (λ n.
+      holds.went (rolled_place t.held.position.col None Tok.block_mapping_start t.held.position t.held, ap (λ b. b || t.held.key_allowed) o ∙ is_so t.held.key_allowed n)))
 
-  white_told : (more : List ℕ) → t.rest ≡ 63 ∷ more → is_at_gap more ≡ true → (u : ScannerState) → u.rest ≡ more → u.held.position ≡ past t.held.position → Faults (Told text) (skip_yaml_whitespace u)
+  white_told : (in_flow t.held || t.held.key_allowed) ≡ true → (more : List ℕ) → t.rest ≡ 63 ∷ more → is_at_gap more ≡ true → (u : ScannerState) → u.rest ≡ more → u.held.position ≡ past t.held.position → Faults (Told text) (skip_yaml_whitespace u)
   unfolding skip_yaml_whitespace
-  white_told more e gap u left place = by (white false false u.rest u.held) (white_space_is_passed u.held u.rest)
+  white_told asked more e gap u left place = by (white_or_missed more u.held gap)
     where
-      by : (x : Result ScannerState Fault) → GoesOverAs u.held u.rest x → Faults (Told text) x
-      by x (separations.goes leading separation rest cut fills ends j) = subst (λ y. Faults (Told text) y) (sym j) goes
-      by x (misses separation rest cut fills begins broken ends j) =
-          subst (λ y. Faults (Told text) y) (sym j) (fault {f = At problem.WhitespaceExpected (position_after u.held.position separation rest)}
-          (followed_at problem.WhitespaceExpected (position_after u.held.position separation rest) (further 1 t.held.position) separation rest (ap (λ q. position_after q separation rest) place)
-          (none.no_space more separation rest e gap (record { is_text = sym left ∙ cut; is_filled = fills; is_on_line = broken }) (ap (λ r. begins_with 32 r) (sym left) ∙ begins) ends) (λ c may. tt)))
+      by : (begins_with_space_or_break more ≡ true) ⊎ IsMissed more u.held → Faults (Told text) (white false false u.rest u.held)
+      by (inl begins) = subst (λ x. Faults (Told text) x) (sym (white_goes u (ap begins_with_space_or_break left ∙ begins))) goes
+      by (inr m) =
+          subst (λ x. Faults (Told text) x) (sym (ap (λ r. white false false r u.held) left ∙ m.is_refused)) (fault {f = At problem.WhitespaceExpected u.held.position}
+          (followed_at problem.WhitespaceExpected u.held.position (further 1 t.held.position) [] more place
+          (none.no_space more [] more e gap (record { is_text = refl; is_filled = refl; is_on_line = refl }) m.no_space m.ends) (λ c may. (asks asked c may, refl))))
 
-  space_checked : (more : List ℕ) → t.rest ≡ 63 ∷ more → is_at_gap more ≡ true → (u w : ScannerState) → u.rest ≡ more → u.held.position ≡ past t.held.position → skip_yaml_whitespace u ≡ Ok w → Faults (Told text) (check_key_space w)
+  space_checked : (in_flow t.held || t.held.key_allowed) ≡ true → (more : List ℕ) → t.rest ≡ 63 ∷ more → is_at_gap more ≡ true → (u w : ScannerState) → u.rest ≡ more → u.held.position ≡ past t.held.position → skip_yaml_whitespace u ≡ Ok w → Faults (Told text) (check_key_space w)
   unfolding skip_yaml_whitespace check_key_space
-  space_checked more e gap u w left place k = by (white false false u.rest u.held) k (white_space_is_passed u.held u.rest)
+  space_checked asked more e gap u w left place k = by exact.0
     where
+      exact : (w ≡ past_white_space u) × (is_separation false (white_of false u.rest) (past_white false u.rest) ≡ true)
+      exact = held_of w (white_exactly u) k
+
+      begins : begins_with_space_or_break more ≡ true
+      begins = held_of w (white_first more u.held gap) (ap (λ r. white false false r u.held) (sym left) ∙ k)
+
+      separation : List ℕ
+      separation = white_of false u.rest
+
+      rest : List ℕ
+      rest = past_white false u.rest
+
       tab_first : (r : List ℕ) → (peek r == 9) ≡ true → r ≡ 9 ∷ after r
       tab_first [] h = absurd (cc h)
       tab_first (c ∷ r) h = ap (λ x. x ∷ r) (eqb-true c 9 h)
@@ -330,32 +380,32 @@ module _ (text : List ℕ) (t : ScannerState) (a : Arrives text t) (some : is_em
       checked_by true q v why = fault {f = At problem.TabAfterKey q} (why refl)
       checked_by false q v why = goes
 
-      reason : (separation rest : List ℕ) → u.rest ≡ separation ++ rest → is_separation false separation rest ≡ true → (peek rest == 9) ≡ true → Told text (At problem.TabAfterKey (position_after u.held.position separation rest))
-      reason separation rest cut fills tab =
+      reason : (peek rest == 9) ≡ true → Told text (At problem.TabAfterKey (position_after u.held.position separation rest))
+      reason tab =
           let first = tab_first rest tab in
           followed_at problem.TabAfterKey (position_after u.held.position separation rest) (further 1 t.held.position) separation (9 ∷ after rest)
           (ap (λ q. position_after q separation rest) place ∙ ap (λ r. position_after (further 1 t.held.position) separation r) first)
-          (none.tab_after_question more separation (after rest) e gap (sym left ∙ (cut ∙ ap (λ r. separation ++ r) first)) (subst (λ r. is_separation false separation r ≡ true) first fills)) (λ c may. tt)
+          (none.tab_after_question more separation (after rest) e gap (sym left ∙ (white_cut false u.rest ∙ ap (λ r. separation ++ r) first)) (subst (λ r. is_separation false separation r ≡ true) first exact.1))
+          (λ c may. (asks asked c may, begins, no_tab_in false u.rest))
 
-      by : (y : Result ScannerState Fault) → y ≡ Ok w → GoesOverAs u.held u.rest y → Faults (Told text) (if peek w.rest == 9 then Err (At problem.TabAfterKey w.held.position) else Ok w)
-      by y i (misses separation rest cut fills begins broken ends j) = absurd (cc (i, j))
-      by y i (separations.goes leading separation rest cut fills ends j) =
-          let same : after_separation u.held leading separation rest ≡ w = cc (i, j) in
-          subst (λ (z : ScannerState). Faults (Told text) (if peek z.rest == 9 then Err (At problem.TabAfterKey z.held.position) else Ok z)) same
-          (checked_by (peek rest == 9) (position_after u.held.position separation rest) _ (reason separation rest cut fills))
+      by : w ≡ past_white_space u → Faults (Told text) (if peek w.rest == 9 then Err (At problem.TabAfterKey w.held.position) else Ok w)
+      by same =
+          subst (λ (z : ScannerState). Faults (Told text) (if peek z.rest == 9 then Err (At problem.TabAfterKey z.held.position) else Ok z)) (sym same)
+          (checked_by (peek rest == 9) (position_after u.held.position separation rest) _ reason)
 
   pub question_told : (more : List ℕ) → t.rest ≡ 63 ∷ more → is_at_gap more ≡ true → Faults (Told text) (fetch_key t)
   unfolding fetch_key
   question_told more e gap =
       in_turn (tried t (key_begun more e gap)) (λ u i.
-      let first : (u.rest ≡ t.rest) × (u.held.position ≡ t.held.position) = held_of {P = λ v. (v.rest ≡ t.rest) × (v.held.position ≡ t.held.position)} u (holds.tried t (begin_key t.held) key_place (λ s k. (refl, k))) i in
+      let first : (u.rest ≡ t.rest) × (u.held.position ≡ t.held.position) × ((in_flow t.held || t.held.key_allowed) ≡ true) =
+      held_of {P = λ v. (v.rest ≡ t.rest) × (v.held.position ≡ t.held.position) × ((in_flow t.held || t.held.key_allowed) ≡ true)} u (holds.tried t (begin_key t.held) key_place (λ s k. (refl, k.0, k.1))) i in
       in_turn (tried u (remove_told text u.held)) (λ v j.
       let second : (v.rest ≡ u.rest) × (v.held.position ≡ u.held.position) = held_of {P = λ x. (x.rest ≡ u.rest) × (x.held.position ≡ u.held.position)} v (holds.tried u (remove_implicit_key u.held) (removed_is u.held) (λ s k. (refl, ap (λ h. h.position) k))) j in
       let here : ScannerState = skip_indicator (on_held (λ s. allow_key (not (in_flow s)) s) v) in
       let left : here.rest ≡ more = ap after (second.0 ∙ (first.0 ∙ e)) in
       let place : here.held.position ≡ past t.held.position = ap past (second.1 ∙ first.1) in
-      in_turn (white_told more e gap here left place) (λ w k.
-      in_turn (space_checked more e gap here w left place k) (λ x l. goes))))
+      in_turn (white_told first.2 more e gap here left place) (λ w k.
+      in_turn (space_checked first.2 more e gap here w left place k) (λ x l. goes))))
 
   -- ---- `:`
 
@@ -382,42 +432,42 @@ module _ (text : List ℕ) (t : ScannerState) (a : Arrives text t) (some : is_em
     had_is = ap (λ z. had_by true z y.had) e;
   }
 
-  misplaced : (more : List ℕ) → t.rest ≡ 58 ∷ more → is_value t ≡ true → (k : Key) → top_key t.held.keys ≡ Some k → opens_pair t.held.flow ≡ true → nat_lt k.position.line t.held.position.line ≡ true → Told text (At problem.ColonMisplaced t.held.position)
-  misplaced more e i k top opens late = λ _.
+  misplaced : (more : List ℕ) → t.rest ≡ 58 ∷ more → colon_may_precede more ≡ true → is_value t ≡ true → (k : Key) → top_key t.held.keys ≡ Some k → opens_pair t.held.flow ≡ true → nat_lt k.position.line t.held.position.line ≡ true → Told text (At problem.ColonMisplaced t.held.position)
+  misplaced more e apart i k top opens late = λ _.
       let s : SingleKey k (entries_by (true ∷ []) t.held.keys a.base.entries) = single_key t.held.key_allowed _ t.held.flow t.held.keys a.base.entries k a.are_entries opens top in
       stuck text t a some (true ∷ []) problem.ColonMisplaced t.held.position (λ c may.
-      record { fails = may_not_stand (defs.key_on_earlier_line more k.position s.first s.around e (value_here more e i c (true ∷ [])) s.are s.takes s.had_is (grind (arith, nat_tests, late))); is_first = looked_at text t a some lies c (true ∷ []) })
+      record { fails = may_not_stand (defs.key_on_earlier_line more k.position s.first s.around e (value_here more e i c (true ∷ [])) s.are s.takes s.had_is (grind (arith, nat_tests, late))); is_first = (looked_at text t a some lies c (true ∷ []), apart) })
 
-  not_allowed : NoneWaits text t a → (more : List ℕ) → t.rest ≡ 58 ∷ more → is_value t ≡ true → top_key t.held.keys ≡ None → in_flow t.held ≡ false → t.held.key_allowed ≡ false → Told text (At problem.ValueNotAllowed t.held.position)
-  not_allowed unwaited more e i top o allowed = λ _.
+  not_allowed : NoneWaits text t a → (more : List ℕ) → t.rest ≡ 58 ∷ more → colon_may_precede more ≡ true → is_value t ≡ true → top_key t.held.keys ≡ None → in_flow t.held ≡ false → t.held.key_allowed ≡ false → Told text (At problem.ValueNotAllowed t.held.position)
+  not_allowed unwaited more e apart i top o allowed = λ _.
       let out : is_empty t.held.flow ≡ true = is_outside o in
       let none_in : a.base.entries ≡ [] = no_entries t.held.key_allowed _ t.held.flow t.held.keys a.base.entries out a.are_entries in
       let key_is : outside_key a.base.entries t.held.keys ≡ None = ap (λ es. outside_key es t.held.keys) none_in ∙ top in
       let may : MayChoose false (outside_key a.base.entries t.held.keys) t.held.position t.rest = subst (λ k. MayChoose false k t.held.position t.rest) (sym key_is) tt in
       no_key (account_by text t a some false []) a.separation more t.held.position (subst (λ r. IsPlace text (account_by text t a some false []) a.separation r t.held.position) e (place text t a some false [] may)) (value_here more e i false []) (in_flow_is text t a some false [] ∙ o)
       (line_taken false [] (λ _. may) out allowed) (subst (λ r. HasNoKey text a.separation r t.held.position) e (unwaited some top o))
-      (subst (λ r. IsLookedAt (account_by text t a some false []) a.separation t.held.position r) e (looked_at text t a some lies false []))
+      (subst (λ r. IsLookedAt (account_by text t a some false []) a.separation t.held.position r) e (looked_at text t a some lies false [])) apart
 
-  pair_told : (more : List ℕ) → t.rest ≡ 58 ∷ more → is_value t ≡ true → (k : Key) → top_key t.held.keys ≡ Some k → (pair : Bool) → opens_pair t.held.flow ≡ pair → (s : Held) → Faults (Told text) (begin_pair k t.held.position pair s)
+  pair_told : (more : List ℕ) → t.rest ≡ 58 ∷ more → colon_may_precede more ≡ true → is_value t ≡ true → (k : Key) → top_key t.held.keys ≡ Some k → (pair : Bool) → opens_pair t.held.flow ≡ pair → (s : Held) → Faults (Told text) (begin_pair k t.held.position pair s)
   unfolding begin_pair
-  pair_told more e i k top true opens s = checked (nat_lt k.position.line t.held.position.line) (At problem.ColonMisplaced t.held.position) (λ late. misplaced more e i k top opens late) (λ _. goes)
-  pair_told more e i k top false opens s = goes
+  pair_told more e apart i k top true opens s = checked (nat_lt k.position.line t.held.position.line) (At problem.ColonMisplaced t.held.position) (λ late. misplaced more e apart i k top opens late) (λ _. goes)
+  pair_told more e apart i k top false opens s = goes
 
-  mapping_told : NoneWaits text t a → (more : List ℕ) → t.rest ≡ 58 ∷ more → is_value t ≡ true → top_key t.held.keys ≡ None → (s : Held) → in_flow s ≡ in_flow t.held → s.key_allowed ≡ t.held.key_allowed → Faults (Told text) (begin_keyless_mapping t.held.position s)
+  mapping_told : NoneWaits text t a → (more : List ℕ) → t.rest ≡ 58 ∷ more → colon_may_precede more ≡ true → is_value t ≡ true → top_key t.held.keys ≡ None → (s : Held) → in_flow s ≡ in_flow t.held → s.key_allowed ≡ t.held.key_allowed → Faults (Told text) (begin_keyless_mapping t.held.position s)
   unfolding begin_keyless_mapping
-  mapping_told unwaited more e i top s flow allowed =
-      either (in_flow s) (λ _. goes) (λ o. checked (not s.key_allowed) (At problem.ValueNotAllowed t.held.position) (λ n. not_allowed unwaited more e i top (sym flow ∙ o) (sym allowed ∙ is_not s.key_allowed n)) (λ _. goes))
+  mapping_told unwaited more e apart i top s flow allowed =
+      either (in_flow s) (λ _. goes) (λ o. checked (not s.key_allowed) (At problem.ValueNotAllowed t.held.position) (λ n. not_allowed unwaited more e apart i top (sym flow ∙ o) (sym allowed ∙ is_not s.key_allowed n)) (λ _. goes))
 
   keyless_alike : (pair : Bool) (s : Held) → (in_flow (begin_keyless_pair pair s) ≡ in_flow s) × ((begin_keyless_pair pair s).key_allowed ≡ s.key_allowed)
   keyless_alike true s = (refl, refl)
   keyless_alike false s = (refl, refl)
 
-  value_told : NoneWaits text t a → (more : List ℕ) → t.rest ≡ 58 ∷ more → is_value t ≡ true → (o : Option Key) → top_key t.held.keys ≡ o → (s : Held) → in_flow s ≡ in_flow t.held → s.key_allowed ≡ t.held.key_allowed → Faults (Told text) (value_of o t.held.position (opens_pair t.held.flow) s)
+  value_told : NoneWaits text t a → (more : List ℕ) → t.rest ≡ 58 ∷ more → colon_may_precede more ≡ true → is_value t ≡ true → (o : Option Key) → top_key t.held.keys ≡ o → (s : Held) → in_flow s ≡ in_flow t.held → s.key_allowed ≡ t.held.key_allowed → Faults (Told text) (value_of o t.held.position (opens_pair t.held.flow) s)
   unfolding insert_key begin_keyless_value
-  value_told unwaited more e i None top s flow allowed =
+  value_told unwaited more e apart i None top s flow allowed =
       let k = keyless_alike (opens_pair t.held.flow) s in
-      in_turn (mapping_told unwaited more e i top (begin_keyless_pair (opens_pair t.held.flow) s) (k.0 ∙ flow) (k.1 ∙ allowed)) (λ u j. goes)
-  value_told unwaited more e i (Some k) top s flow allowed = in_turn (pair_told more e i k top (opens_pair t.held.flow) refl _) (λ u i. goes)
+      in_turn (mapping_told unwaited more e apart i top (begin_keyless_pair (opens_pair t.held.flow) s) (k.0 ∙ flow) (k.1 ∙ allowed)) (λ u j. goes)
+  value_told unwaited more e apart i (Some k) top s flow allowed = in_turn (pair_told more e apart i k top (opens_pair t.held.flow) refl _) (λ u i. goes)
 
   paired_flow : (fs : List FlowLevel) → is_empty (paired fs) ≡ is_empty fs
   paired_flow [] = refl
@@ -485,16 +535,21 @@ module _ (text : List ℕ) (t : ScannerState) (a : Arrives text t) (some : is_em
       holds.either (peek u.rest == 9) (λ _. holds.read u.held (space Yes u.rest u.held.position) check_after_tab (λ x k.
       holds.checked (not x.value.has_valid_yaml_ws && ((peek x.rest == 45) || is_alpha (peek x.rest))) (At problem.TabAfterColon x.position) (λ _. holds.went refl))) (λ _. holds.went refl)
 
+  -- the TABs after the colon are looked at first
+  spaced_apart : (more : List ℕ) (u : ScannerState) → u.rest ≡ more → Holds (λ v. colon_may_precede more ≡ true) (check_value_space u)
+  spaced_apart more u left = holds.weakened (λ v k. ap colon_may_precede (sym left) ∙ k.1) (colon_spaced u.rest u.held)
+
   pub colon_told : NoneWaits text t a → (more : List ℕ) → t.rest ≡ 58 ∷ more → is_value t ≡ true → Faults (Told text) (fetch_value t)
   unfolding fetch_value
   colon_told unwaited more e is =
       let first : ScannerState = skip_indicator (on_held (λ s. record s { flow = paired s.flow }) t) in
       in_turn (value_checked more e first (ap after e) refl) (λ u k.
       let h = held_of u (value_held first) k in
-      in_turn (tried u (value_told_by more e u (ap (λ s. s.keys) h) (ap (λ s. not (is_empty s.flow)) h ∙ ap not (paired_flow t.held.flow)) (ap (λ s. s.key_allowed) h))) (λ v i. goes))
+      let apart = held_of u (spaced_apart more first (ap after e)) k in
+      in_turn (tried u (value_told_by more e apart u (ap (λ s. s.keys) h) (ap (λ s. not (is_empty s.flow)) h ∙ ap not (paired_flow t.held.flow)) (ap (λ s. s.key_allowed) h))) (λ v i. goes))
     where
-      value_told_by : (more : List ℕ) → t.rest ≡ 58 ∷ more → (u : ScannerState) → u.held.keys ≡ t.held.keys → in_flow u.held ≡ in_flow t.held → u.held.key_allowed ≡ t.held.key_allowed → Faults (Told text) (value_of (top_key u.held.keys) t.held.position (opens_pair t.held.flow) u.held)
-      value_told_by more e u keys flow allowed = value_told unwaited more e is (top_key u.held.keys) (sym (ap top_key keys)) u.held flow allowed
+      value_told_by : (more : List ℕ) → t.rest ≡ 58 ∷ more → colon_may_precede more ≡ true → (u : ScannerState) → u.held.keys ≡ t.held.keys → in_flow u.held ≡ in_flow t.held → u.held.key_allowed ≡ t.held.key_allowed → Faults (Told text) (value_of (top_key u.held.keys) t.held.position (opens_pair t.held.flow) u.held)
+      value_told_by more e apart u keys flow allowed = value_told unwaited more e apart is (top_key u.held.keys) (sym (ap top_key keys)) u.held flow allowed
 
   -- ---- brackets and commas
 
@@ -502,33 +557,37 @@ module _ (text : List ℕ) (t : ScannerState) (a : Arrives text t) (some : is_em
   abbrev IsHere : ScannerState → Type 0
   IsHere u = (u.rest ≡ t.rest) × (u.held.position ≡ t.held.position)
 
-  indicator_passed : (c : ℕ) (more : List ℕ) → t.rest ≡ c ∷ more → none.is_flow_indicator c ≡ true → (u : ScannerState) → IsHere u → Faults (Told text) (pass_indicator u)
+  many_entries : (cs : List Bool) (ks : List (Option Key)) (es : List Entry) → length (entries_by cs ks es) ≡ length es
+  many_entries cs ks [] = refl
+  many_entries cs ks (e ∷ es) = ap suc (many_entries _ _ es)
+
+  -- as many entries as flow levels
+  many_here : length t.held.flow ≡ length (entries_by [] t.held.keys a.base.entries)
+  many_here = many_levels t.held.key_allowed _ t.held.flow t.held.keys a.base.entries a.are_entries ∙ sym (many_entries [] t.held.keys a.base.entries)
+
+  indicator_passed : (c : ℕ) (more : List ℕ) → t.rest ≡ c ∷ more → none.is_flow_indicator c ≡ true → (opens c && nat_le 255 (length t.held.flow)) ≡ false → (u : ScannerState) → IsHere u → Faults (Told text) (pass_indicator u)
   unfolding pass_indicator
-  indicator_passed c more e is u h =
+  indicator_passed c more e is room u h =
       spaces_told text Yes (skip_indicator u) (λ k.
       followed_at problem.CommentNotSeparated (past u.held.position) (further 1 t.held.position) [] (after u.rest) (ap past h.1)
-      (none.glued c more e is (ap (λ r. begins_with 35 (after r)) (sym e) ∙ (ap (λ r. begins_with 35 (after r)) (sym h.0) ∙ k))) (λ c may. tt))
+      (none.glued c more e is (ap (λ r. begins_with 35 (after r)) (sym e) ∙ (ap (λ r. begins_with 35 (after r)) (sym h.0) ∙ k))) (λ d may. ap (λ n. opens c && nat_le 255 n) (sym many_here) ∙ room))
 
-  begun_here : (kind : FlowLevel) → Holds (λ s. s.position ≡ t.held.position) (begin_flow kind t.held)
+  begun_here : (kind : FlowLevel) → Holds (λ s. (s.position ≡ t.held.position) × (nat_le 255 (length t.held.flow) ≡ false)) (begin_flow kind t.held)
   unfolding begin_flow increase_flow_level
   begun_here kind =
-      subst (λ s. Holds (λ v. v.position ≡ t.held.position) (deepened_flow (if nat_le 255 (length s.flow) then Err (At problem.FlowTooDeep s.position) else Ok (record s { keys = None ∷ s.keys; flow = kind ∷ s.flow }))))
+      subst (λ s. Holds (λ v. (v.position ≡ t.held.position) × (nat_le 255 (length t.held.flow) ≡ false)) (deepened_flow (if nat_le 255 (length s.flow) then Err (At problem.FlowTooDeep s.position) else Ok (record s { keys = None ∷ s.keys; flow = kind ∷ s.flow }))))
       (sym (ap roll_one_col_indent (saved_is t.held) ∙ rolled_one_is (record t.held { keys = saved_keys t.held })))
-      (by (nat_le 255 (length t.held.flow)) rolled refl)
+      (by (nat_le 255 (length t.held.flow)) rolled refl refl)
     where
       rolled : Held
       rolled = record t.held { keys = saved_keys t.held; indents = one_indents (record t.held { keys = saved_keys t.held }); indent = one_indent (record t.held { keys = saved_keys t.held }) }
 
-      by : (b : Bool) (s : Held) → s.position ≡ t.held.position → Holds (λ v. v.position ≡ t.held.position) (deepened_flow (if b then Err (At problem.FlowTooDeep s.position) else Ok (record s { keys = None ∷ s.keys; flow = kind ∷ s.flow })))
-      by true s e = holds.refused
-      by false s e = holds.went e
+      by : (b : Bool) (s : Held) → nat_le 255 (length t.held.flow) ≡ b → s.position ≡ t.held.position → Holds (λ v. (v.position ≡ t.held.position) × (nat_le 255 (length t.held.flow) ≡ false)) (deepened_flow (if b then Err (At problem.FlowTooDeep s.position) else Ok (record s { keys = None ∷ s.keys; flow = kind ∷ s.flow })))
+      by true s many e = holds.refused
+      by false s many e = holds.went (e, many)
 
   is_here : (f : Held → Result Held Fault) (u : ScannerState) → Holds (λ s. s.position ≡ t.held.position) (f t.held) → try_held f t ≡ Ok u → IsHere u
   is_here f u h i = held_of {P = IsHere} u (holds.tried t (f t.held) h (λ s k. (refl, k))) i
-
-  many_entries : (cs : List Bool) (ks : List (Option Key)) (es : List Entry) → length (entries_by cs ks es) ≡ length es
-  many_entries cs ks [] = refl
-  many_entries cs ks (e ∷ es) = ap suc (many_entries _ _ es)
 
   deepened_told : {r : Result Held Fault} → Faults (Told text) r → Faults (Told text) (deepened_flow r)
   deepened_told (fault p) = fault p
@@ -541,15 +600,20 @@ module _ (text : List ℕ) (t : ScannerState) (a : Arrives text t) (some : is_em
       (sym (ap roll_one_col_indent (saved_is t.held) ∙ rolled_one_is (record t.held { keys = saved_keys t.held })))
       (deepened_told (checked (nat_le 255 (length t.held.flow)) (At problem.FlowTooDeep t.held.position) (λ full _.
       stuck text t a some [] problem.FlowTooDeep t.held.position (λ c may.
-      let many : length t.held.flow ≡ length a.base.entries = many_levels t.held.key_allowed _ t.held.flow t.held.keys a.base.entries a.are_entries in
-      let own = many_entries [] t.held.keys a.base.entries in
       let room : 255 ≤ length t.held.flow = grind (arith, nat_tests, full) in
-      record { fails = may_not_stand (defs.too_deep bracket more e is (omega (arith, many, own, room))); is_first = looked_at text t a some lies c [] })) (λ _. goes)))
+      record { fails = may_not_stand (defs.too_deep bracket more e is (omega (arith, many_here, room))); is_first = looked_at text t a some lies c [] })) (λ _. goes)))
 
   pub opening_told : (kind : FlowLevel) (tok : Tok) (bracket : ℕ) (more : List ℕ) → t.rest ≡ bracket ∷ more → (bracket ≡ 91) ⊎ (bracket ≡ 123) → Faults (Told text) (fetch_flow_collection_start kind tok t)
   unfolding fetch_flow_collection_start
-  opening_told kind tok bracket more e is = in_turn (tried t (flow_begun kind bracket more e is)) (λ u i. in_turn (indicator_passed bracket more e (by bracket is) u (is_here (begin_flow kind) u (begun_here kind) i)) (λ v j. goes))
+  opening_told kind tok bracket more e is = in_turn (tried t (flow_begun kind bracket more e is)) (λ u i. in_turn (indicator_passed bracket more e (by bracket is) (ap (λ b. opens bracket && b) (room u i) ∙ no_more (opens bracket)) u (is_here (begin_flow kind) u (holds.weakened (λ s k. k.0) (begun_here kind)) i)) (λ v j. goes))
     where
+      room : (u : ScannerState) → try_held (begin_flow kind) t ≡ Ok u → nat_le 255 (length t.held.flow) ≡ false
+      room u i = held_of {P = λ v. nat_le 255 (length t.held.flow) ≡ false} u (holds.tried t (begin_flow kind t.held) (begun_here kind) (λ s k. k.1)) i
+
+      no_more : (b : Bool) → (b && false) ≡ false
+      no_more true = refl
+      no_more false = refl
+
       by : (c : ℕ) → (c ≡ 91) ⊎ (c ≡ 123) → none.is_flow_indicator c ≡ true
       by c (inl h) = rw h refl
       by c (inr h) = rw h refl
@@ -580,9 +644,9 @@ module _ (text : List ℕ) (t : ScannerState) (a : Arrives text t) (some : is_em
       by true = holds.refused
       by false = holds.went (decreased (is_empty (end_pair left.flow left).flow) (end_pair left.flow left) ∙ pair_ended left.flow left)
 
-  pub closing_told : (tok : Tok) (c : ℕ) (more : List ℕ) → t.rest ≡ c ∷ more → none.is_flow_indicator c ≡ true → Faults (Told text) (fetch_flow_collection_end tok t)
+  pub closing_told : (tok : Tok) (c : ℕ) (more : List ℕ) → t.rest ≡ c ∷ more → none.is_flow_indicator c ≡ true → opens c ≡ false → Faults (Told text) (fetch_flow_collection_end tok t)
   unfolding fetch_flow_collection_end end_flow
-  closing_told tok c more e is = in_turn (tried t (ended_told (remove_told text t.held))) (λ u i. in_turn (indicator_passed c more e is u (is_here end_flow u ended_here i)) (λ v j. goes))
+  closing_told tok c more e is closes = in_turn (tried t (ended_told (remove_told text t.held))) (λ u i. in_turn (indicator_passed c more e is (ap (λ b. b && nat_le 255 (length t.held.flow)) closes) u (is_here end_flow u ended_here i)) (λ v j. goes))
 
   next_told : {r : Result Held Fault} → Faults (Told text) r → Faults (Told text) (next_entry r)
   next_told (fault p) = fault p
@@ -601,4 +665,4 @@ module _ (text : List ℕ) (t : ScannerState) (a : Arrives text t) (some : is_em
 
   pub comma_told : (more : List ℕ) → t.rest ≡ 44 ∷ more → Faults (Told text) (fetch_flow_entry t)
   unfolding fetch_flow_entry end_entry
-  comma_told more e = in_turn (tried t (next_told (remove_told text t.held))) (λ u i. in_turn (indicator_passed 44 more e refl u (is_here end_entry u next_here i)) (λ v j. goes))
+  comma_told more e = in_turn (tried t (next_told (remove_told text t.held))) (λ u i. in_turn (indicator_passed 44 more e refl refl u (is_here end_entry u next_here i)) (λ v j. goes))

@@ -599,5 +599,5 @@ key_on_its_line text separation rest begin here a r g filled here_is late some s
 
 pub texts_with_a_row_are_not_stuck : TextsWithARowAreNotStuck
 texts_with_a_row_are_not_stuck text why at r row (fails a separation rest why2 here at2 place some solid f) = failing_places_have_no_row text separation rest a here at why r place solid some f.fails row
-texts_with_a_row_are_not_stuck text why at r row (no_key a separation more here place is out line none looked) = no_keyless_colon text separation more a here r place is out line none row
+texts_with_a_row_are_not_stuck text why at r row (no_key a separation more here place is out line none looked apart) = no_keyless_colon text separation more a here r place is out line none row
 texts_with_a_row_are_not_stuck text why at r row (key_waits a separation rest why2 begin here at2 g flowing filled here_is late some solid f) = key_on_its_line text separation rest begin here a r g filled here_is late some solid row

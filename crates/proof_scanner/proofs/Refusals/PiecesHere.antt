@@ -27,7 +27,7 @@ use Rattle.proof_scanner.specs.NoPiece as none
 use Rattle.proof_scanner.proofs.Refusals.OtherRows.{StepAt}
 
 -- entries that are alike are as many
-many_alike : (ds es : List Entry) → LikeEntries ds es → length ds ≡ length es
+pub many_alike : (ds es : List Entry) → LikeEntries ds es → length ds ≡ length es
 many_alike [] [] h = refl
 many_alike [] (e ∷ es) h = absurd h
 many_alike (d ∷ ds) [] h = absurd h

@@ -278,6 +278,20 @@ unfolding is_break
 unbroken literal = refl
 unbroken folded = refl
 
+-- a text whose first line is a header begins with its indicator
+pub first_char : (own header : List ℕ) (h : Header) → up_to_break own ≡ header → header_of header ≡ Some h → (style : BlockStyle) × (p : List ℕ) × (own ≡ indicator_of style ∷ p)
+first_char [] header h e is = absurd (cc (is, ap header_of (sym e)))
+first_char (d ∷ p) header h e is = by (is_break d) (ap header_of e ∙ is)
+  where
+    by : (b : Bool) → header_of (if b then [] else d ∷ up_to_break p) ≡ Some h → (style : BlockStyle) × (q : List ℕ) × (d ∷ p ≡ indicator_of style ∷ q)
+    by true k = absurd (cc k)
+    by false k = on (d == 124) (d == 62) refl refl k
+      where
+        on : (x y : Bool) → (d == 124) ≡ x → (d == 62) ≡ y → (if x then block.after_style literal (up_to_break p) else (if y then block.after_style folded (up_to_break p) else None)) ≡ Some h → (style : BlockStyle) × (q : List ℕ) × (d ∷ p ≡ indicator_of style ∷ q)
+        on true y e f k = (literal, p, ap (λ z. z ∷ p) (eqb-true d 124 e))
+        on false true e f k = (folded, p, ap (λ z. z ∷ p) (eqb-true d 62 f))
+        on false false e f k = absurd (cc k)
+
 module _ (a : Account) (separation rest : List ℕ) (here : Position) (s : StepAt a separation rest here) where
   abbrev next : List ℕ
   next = s.next
@@ -327,19 +341,6 @@ module _ (a : Account) (separation rest : List ℕ) (here : Position) (s : StepA
       let own : up_to_break s.step.piece ≡ indicator_of style ∷ line =
       sym (piece_line (pieces.collection_column (acct a separation rest here s)) s.step.piece next w.0 clean w.1) ∙ (ap up_to_break (s.text_is ∙ e) ∙ (ap (λ b. if b then [] else indicator_of style ∷ up_to_break (line ++ after)) (unbroken style) ∙ ap (λ r. indicator_of style ∷ r) (first_of line after inner ends))) in
       has_header (pieces.collection_column (acct a separation rest here s)) ((split s.step.piece).complete) ((split s.step.piece).last) next (is_at_end next) w.0 w.1 (ap header_of (line_is s.step.piece ∙ own) ∙ none)
-
-  first_char : (own header : List ℕ) (h : Header) → up_to_break own ≡ header → header_of header ≡ Some h → (style : BlockStyle) × (p : List ℕ) × (own ≡ indicator_of style ∷ p)
-  first_char [] header h e is = absurd (cc (is, ap header_of (sym e)))
-  first_char (d ∷ p) header h e is = by (is_break d) (ap header_of e ∙ is)
-    where
-      by : (b : Bool) → header_of (if b then [] else d ∷ up_to_break p) ≡ Some h → (style : BlockStyle) × (q : List ℕ) × (d ∷ p ≡ indicator_of style ∷ q)
-      by true k = absurd (cc k)
-      by false k = on (d == 124) (d == 62) refl refl k
-        where
-          on : (x y : Bool) → (d == 124) ≡ x → (d == 62) ≡ y → (if x then block.after_style literal (up_to_break p) else (if y then block.after_style folded (up_to_break p) else None)) ≡ Some h → (style : BlockStyle) × (q : List ℕ) × (d ∷ p ≡ indicator_of style ∷ q)
-          on true y e f k = (literal, p, ap (λ z. z ∷ p) (eqb-true d 124 e))
-          on false true e f k = (folded, p, ap (λ z. z ∷ p) (eqb-true d 62 f))
-          on false false e f k = absurd (cc k)
 
   -- a TAB begins the line after the header
   pub no_block_tab : (own header more : List ℕ) (h : Header) → is_in_flow a.entries ≡ false → rest ≡ own ++ 9 ∷ more → split own ≡ of_lines (header ∷ []) [] → header_of header ≡ Some h → ⊥

@@ -15,12 +15,14 @@ use Rattle.model_scanner.specs.Machine.{is_cr_lf}
 use Rattle.model_scanner.specs.State.{Held, ScannerState, moved}
 use Rattle.model_scanner.specs.Space.{past_line, at_break, white_end, white, skip_yaml_whitespace}
 use Rattle.model_scanner.proofs.Holds.{Holds, went, refused, held_of, weakened}
-use Rattle.proof_lexers.specs.Separations.{after_separation, GoesOverAs, goes, misses}
+use Rattle.proof_lexers.specs.Separations.{after_separation, GoesOverAs, goes, misses, begins_white_space}
 use Rattle.proof_lexers.proofs.Bridges.{same_break}
 use Rattle.proof_lexers.proofs.Separation.Separations.{no_break_hash}
 use Rattle.proof_lexers.proofs.Plain.Turns.{or_true, or_false}
 use Rattle.proof_lexers.proofs.Separation.WhiteSpace.{white_space_is_passed}
 use Rattle.proof_scanner.proofs.Sound.LastLines.{last_first}
+use Rattle.yaml_tokens.specs.declared.problem.Fault.TheVariants.{At}
+use Rattle.yaml_tokens.specs.declared.problem.Problem.TheVariants as problem
 
 -- whether a character outside comments belongs to it
 abbrev pub goes_over : ℕ → Bool
@@ -47,6 +49,10 @@ white_cut false (c ∷ r) = by (goes_over c) (white_cut (c == 35) r)
     by true e = ap (λ x. c ∷ x) e
     by false e = refl
 
+goes_over_none : (c : ℕ) → c ≡ 9 → goes_over c ≡ false
+unfolding is_break
+goes_over_none c e = rw e refl
+
 -- Where no TAB comes after them, none stands outside comments before the next piece.
 pub no_tab_before : (in_comment : Bool) (a : List ℕ) → begins_with 9 (past_white in_comment a) ≡ false → has_tab_before_piece in_comment a ≡ false
 unfolding is_break
@@ -54,11 +60,8 @@ no_tab_before b [] h = refl
 no_tab_before true (c ∷ r) h = no_tab_before (not (is_break c)) r h
 no_tab_before false (c ∷ r) h = by (c == 9) (goes_over c) refl refl h (λ k. no_tab_before (c == 35) r k)
   where
-    tab : (c : ℕ) → c ≡ 9 → goes_over c ≡ false
-    tab c e = rw e refl
-
     by : (x y : Bool) → (c == 9) ≡ x → goes_over c ≡ y → begins_with 9 (if y then past_white (c == 35) r else c ∷ r) ≡ false → (begins_with 9 (past_white (c == 35) r) ≡ false → has_tab_before_piece (c == 35) r ≡ false) → (x || (y && has_tab_before_piece (c == 35) r)) ≡ false
-    by true true e f h k = absurd (cc (f, tab c (eqb-true c 9 e)))
+    by true true e f h k = absurd (cc (f, goes_over_none c (eqb-true c 9 e)))
     by true false e f h k = absurd (cc (e, h))
     by false true e f h k = k h
     by false false e f h k = refl
@@ -213,22 +216,51 @@ white_exactly t = by (white false false t.rest t.held) (white_space_is_passed t.
         ))
     by x (misses separation rest cut fills begins none ends e) h = rw e refused
 
--- what stands after a `?`, where it is at a gap, is a space or a break
-pub white_first : (more : List ℕ) (s : Held) → is_at_gap more ≡ true → Holds (λ u. begins_with_space_or_break more ≡ true) (white false false more s)
-unfolding white is_blank_or_end is_blank is_break is_nul
-white_first [] s gap = refused
-white_first (c ∷ a) s gap = by (class.is_break c) (c == 32) (c == 35) refl refl refl
+-- no TAB is among them but in comments
+pub no_tab_in : (in_comment : Bool) (a : List ℕ) → has_tab_before_piece in_comment (white_of in_comment a) ≡ false
+unfolding is_break
+no_tab_in b [] = refl
+no_tab_in true (c ∷ r) = no_tab_in (not (is_break c)) r
+no_tab_in false (c ∷ r) = by (goes_over c) (c == 9) refl refl (no_tab_in (c == 35) r)
   where
-    anyway : (r : Result ScannerState Fault) → begins_with_space_or_break (c ∷ a) ≡ true → Holds (λ u. begins_with_space_or_break (c ∷ a) ≡ true) r
-    anyway (Ok u) h = went h
-    anyway (Err f) h = refused
+    and_false : (b : Bool) → (b && false) ≡ false
+    and_false true = refl
+    and_false false = refl
 
+    by : (b x : Bool) → goes_over c ≡ b → (c == 9) ≡ x → has_tab_before_piece (c == 35) (white_of (c == 35) r) ≡ false → has_tab_before_piece false (if b then c ∷ white_of (c == 35) r else []) ≡ false
+    by false x e f h = refl
+    by true true e f h = absurd (cc (e, goes_over_none c (eqb-true c 9 f)))
+    by true false e f h = rw (f, h) (and_false (goes_over c))
+
+-- Neither a space nor a break stands there, and that is refused.
+pub record IsMissed (more : List ℕ) (s : Held) : Type 0 where
+  pub is_refused : white false false more s ≡ Err (At problem.WhitespaceExpected s.position)
+  pub no_space : begins_with 32 more ≡ false
+  pub ends : begins_white_space more ≡ false
+
+-- one of them stands after a `?` that is at a gap, or it is refused
+pub white_or_missed : (more : List ℕ) (s : Held) → is_at_gap more ≡ true → (begins_with_space_or_break more ≡ true) ⊎ IsMissed more s
+unfolding white is_blank_or_end is_blank is_break is_nul
+white_or_missed [] s gap = inr (record { is_refused = refl; no_space = refl; ends = refl })
+white_or_missed (c ∷ a) s gap = by (class.is_break c) (c == 32) (c == 35) refl refl refl
+  where
     hash : (d : ℕ) → (d == 35) ≡ true → is_at_gap (d ∷ a) ≡ true → ⊥
     hash d e h = let same : d ≡ 35 = eqb-true d 35 e in absurd (cc (subst (λ x. is_at_gap (x ∷ a) ≡ true) same h))
 
-    by : (x y z : Bool) → class.is_break c ≡ x → (c == 32) ≡ y → (c == 35) ≡ z → Holds (λ u. begins_with_space_or_break (c ∷ a) ≡ true)
-        (if x then white false true a (at_break c a s) else (if false then white true false a (moved s) else (if y then white false true a (moved s) else (if z then white true false a (moved s) else white_end false (c ∷ a) s))))
-    by true y z e f g = anyway (white false true a (at_break c a s)) (ap (λ b. (c == 32) || b) (same_break c ∙ e) ∙ or_true (c == 32))
-    by false true z e f g = anyway (white false true a (moved s)) (ap (λ b. b || is_break c) f)
+    by : (x y z : Bool) → class.is_break c ≡ x → (c == 32) ≡ y → (c == 35) ≡ z → (begins_with_space_or_break (c ∷ a) ≡ true) ⊎ IsMissed (c ∷ a) s
+    by true y z e f g = inl (ap (λ b. (c == 32) || b) (same_break c ∙ e) ∙ or_true (c == 32))
+    by false true z e f g = inl (ap (λ b. b || is_break c) f)
     by false false true e f g = absurd (hash c g gap)
-    by false false false e f g = refused
+    by false false false e f g = inr (record { is_refused = rw (e, f, g) refl; no_space = f; ends = let breaks : is_break c ≡ false = same_break c ∙ e in rw (f, breaks, g) refl })
+
+-- what stands after a `?`, where it is at a gap, is a space or a break
+pub white_first : (more : List ℕ) (s : Held) → is_at_gap more ≡ true → Holds (λ u. begins_with_space_or_break more ≡ true) (white false false more s)
+white_first more s gap = by (white_or_missed more s gap)
+  where
+    anyway : (r : Result ScannerState Fault) → begins_with_space_or_break more ≡ true → Holds (λ u. begins_with_space_or_break more ≡ true) r
+    anyway (Ok u) h = went h
+    anyway (Err f) h = refused
+
+    by : (begins_with_space_or_break more ≡ true) ⊎ IsMissed more s → Holds (λ u. begins_with_space_or_break more ≡ true) (white false false more s)
+    by (inl begins) = anyway (white false false more s) begins
+    by (inr m) = subst (λ r. Holds (λ u. begins_with_space_or_break more ≡ true) r) (sym m.is_refused) refused

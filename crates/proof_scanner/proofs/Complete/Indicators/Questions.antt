@@ -55,7 +55,7 @@ use Rattle.proof_scanner.proofs.Complete.Waits.{on_its_line}
 -- ---- what the model reads after it
 
 -- a space or a break stands first, so spaces, breaks and comments are read
-white_goes : (t : ScannerState) → begins_with_space_or_break t.rest ≡ true → skip_yaml_whitespace t ≡ Ok (past_white_space t)
+pub white_goes : (t : ScannerState) → begins_with_space_or_break t.rest ≡ true → skip_yaml_whitespace t ≡ Ok (past_white_space t)
 unfolding skip_yaml_whitespace
 white_goes t h = by (skip_yaml_whitespace t) (white_space_is_passed t.held t.rest) (white_exactly t)
   where

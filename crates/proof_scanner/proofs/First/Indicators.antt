@@ -1,0 +1,162 @@
+-- Of two reasons at one indicator that both come first, kind and position are the same.
+use Rattle.std.proofs.Common.{◌≡◌, ℕ, List, [], ◌∷◌, ◌++◌, Bool, true, false, not, ◌==◌, ◌&&◌, ◌||◌, refl, ap, sym, ◌∙◌, arith, subst}
+use Rattle.std.proofs.lemmas.Bool.{and_parts, eqb-true}
+use Rattle.std.proofs.lemmas.Bool.Decides.{nat_tests}
+use Rattle.defs_text.specs.Classes.{is_blank, is_break, is_nul, is_blank_or_end, is_alpha, is_decimal_digit, is_letter, is_at_gap}
+use Rattle.defs_text.specs.Position.{Position, position_after}
+use Rattle.defs_text.specs.Text.{has_no_nul}
+use Rattle.defs_token.specs.Piece.{begins_with_space_or_break}
+use Rattle.defs_token.specs.Separation.{is_separation}
+use Rattle.defs_token.specs.Indentation.{begins_entry, begins_with_alpha, colon_may_precede, has_tab_before_piece}
+use Rattle.yaml_tokens.specs.declared.problem.Problem.{Problem}
+use Rattle.yaml_tokens.specs.declared.problem.Problem.TheVariants as problem
+use Rattle.proof_lexers.specs.NameEnds.{further}
+use Rattle.proof_lexers.specs.Separations.{begins_separation}
+use Rattle.proof_row.specs.Ends.{ends_separation}
+use Rattle.proof_row.proofs.Separations.{separations}
+use Rattle.proof_row.proofs.Texts.{no_nul_after}
+use Rattle.proof_scanner.specs.NoPiece.{GoesOn}
+use Rattle.proof_scanner.specs.First.{opens, may_ask}
+use Rattle.proof_scanner.proofs.Complete.Steps.{ends_before}
+use Rattle.proof_scanner.proofs.First.Settings.{Setting}
+
+-- two faults of one kind at one place
+abbrev pub AreSame : (why1 why2 : Problem) (at1 at2 : Position) → Type 0
+AreSame why1 why2 at1 at2 = (why1 ≡ why2) × (at1 ≡ at2)
+
+-- what stands after one character
+pub tails : (c : ℕ) (rest m n : List ℕ) → rest ≡ c ∷ m → rest ≡ c ∷ n → m ≡ n
+tails c rest m n e f = let both : c ∷ m ≡ c ∷ n = sym e ∙ f in cc both
+
+-- ---- what is passed on a line
+
+-- blanks and a comment on one line have one end
+same_end : (start : Position) (more p q x y : List ℕ) → GoesOn more p x → GoesOn more q y → ends_separation x ≡ true → ends_separation y ≡ true → position_after start p x ≡ position_after start q y
+same_end start more p q x y g h e f =
+    let same = separations p q x y (g.is_filled, e) (h.is_filled, f) (sym g.is_text ∙ h.is_text) in
+    ap (λ z. position_after start z x) same.0 ∙ ap (λ z. position_after start q z) same.1
+
+entry_ends : (content : List ℕ) → begins_entry content ≡ true → ends_separation content ≡ true
+unfolding is_blank_or_end is_blank is_break is_nul
+entry_ends [] h = refl
+entry_ends (d ∷ r) h = let same : d ≡ 45 = eqb-true d 45 (and_parts (d == 45) (is_at_gap r) h).0 in rw same refl
+
+letter_ends : (content : List ℕ) → begins_with_alpha content ≡ true → ends_separation content ≡ true
+unfolding is_blank_or_end is_blank is_break is_nul is_alpha is_decimal_digit is_letter
+letter_ends [] h = refl
+letter_ends (d ∷ r) h = grind (arith, nat_tests, h)
+
+-- ---- `-`
+
+pub data DashReason (s : Setting) (here : Position) (rest : List ℕ) : Problem → Position → Type 0 where
+  dash_in_flow : s.in_flow ≡ true → DashReason s here rest problem.BlockEntryInFlow here
+  dash_not_free : s.in_flow ≡ false → s.taken ≡ true → DashReason s here rest problem.BlockEntryNotAllowed here
+  tab_after_dash : (more passed content : List ℕ) → s.in_flow ≡ false → s.taken ≡ false → rest ≡ 45 ∷ more → GoesOn more passed content → begins_entry content ≡ true → DashReason s here rest problem.TabAfterDash (position_after (further 1 here) passed content)
+
+pub one_dash : (s : Setting) (here : Position) (rest : List ℕ) (why1 why2 : Problem) (at1 at2 : Position) → DashReason s here rest why1 at1 → DashReason s here rest why2 at2 → AreSame why1 why2 at1 at2
+one_dash s here rest why1 why2 at1 at2 (dash_in_flow i) (dash_in_flow j) = (refl, refl)
+one_dash s here rest why1 why2 at1 at2 (dash_in_flow i) (dash_not_free j t) = absurd (cc (i, j))
+one_dash s here rest why1 why2 at1 at2 (dash_in_flow i) (tab_after_dash more passed content j f e on begins) = absurd (cc (i, j))
+one_dash s here rest why1 why2 at1 at2 (dash_not_free i t) (dash_in_flow j) = absurd (cc (i, j))
+one_dash s here rest why1 why2 at1 at2 (dash_not_free i t) (dash_not_free j u) = (refl, refl)
+one_dash s here rest why1 why2 at1 at2 (dash_not_free i t) (tab_after_dash more passed content j f e on begins) = absurd (cc (t, f))
+one_dash s here rest why1 why2 at1 at2 (tab_after_dash more passed content i f e on begins) (dash_in_flow j) = absurd (cc (i, j))
+one_dash s here rest why1 why2 at1 at2 (tab_after_dash more passed content i f e on begins) (dash_not_free j u) = absurd (cc (f, u))
+one_dash s here rest why1 why2 at1 at2 (tab_after_dash more passed content i f e on begins) (tab_after_dash more2 passed2 content2 j g e2 on2 begins2) =
+    let same : more2 ≡ more = tails 45 rest more2 more e2 e in
+    (refl, same_end (further 1 here) more passed passed2 content content2 on (subst (λ m. GoesOn m passed2 content2) same on2) (entry_ends content begins) (entry_ends content2 begins2))
+
+-- ---- `?`
+
+pub data QuestionReason (s : Setting) (here : Position) (rest : List ℕ) : Problem → Position → Type 0 where
+  question_not_free : may_ask s.in_flow s.taken ≡ false → QuestionReason s here rest problem.KeyNotAllowed here
+  no_space : (more : List ℕ) → may_ask s.in_flow s.taken ≡ true → rest ≡ 63 ∷ more → begins_with_space_or_break more ≡ false → QuestionReason s here rest problem.WhitespaceExpected (further 1 here)
+  tab_after_question : (more passed content : List ℕ) → may_ask s.in_flow s.taken ≡ true → rest ≡ 63 ∷ more → begins_with_space_or_break more ≡ true → has_tab_before_piece false passed ≡ false → more ≡ passed ++ 9 ∷ content → is_separation false passed (9 ∷ content) ≡ true
+      → QuestionReason s here rest problem.TabAfterKey (position_after (further 1 here) passed (9 ∷ content))
+
+-- the first TAB outside comments is one
+first_tab : (in_comment : Bool) (p q x y : List ℕ) → p ++ 9 ∷ x ≡ q ++ 9 ∷ y → is_separation in_comment p (9 ∷ x) ≡ true → is_separation in_comment q (9 ∷ y) ≡ true → has_tab_before_piece in_comment p ≡ false → has_tab_before_piece in_comment q ≡ false → (p ≡ q) × (x ≡ y)
+unfolding is_blank is_break is_nul
+first_tab b [] [] x y e f g h k = let same : x ≡ y = cc e in (refl, same)
+first_tab true [] (d ∷ q) x y e f g h k = absurd (cc f)
+first_tab false [] (d ∷ q) x y e f g h k = let same : d ≡ 9 = cc e in absurd (cc (k, same))
+first_tab true (c ∷ p) [] x y e f g h k = absurd (cc g)
+first_tab false (c ∷ p) [] x y e f g h k = let same : c ≡ 9 = cc e in absurd (cc (h, same))
+first_tab true (c ∷ p) (d ∷ q) x y e f g h k =
+    let head : c ≡ d = cc e in
+    let tail : p ++ 9 ∷ x ≡ q ++ 9 ∷ y = cc e in
+    let rest = first_tab (not (is_break c)) p q x y tail f (ap (λ z. is_separation (not (is_break z)) q (9 ∷ y)) head ∙ g) h (ap (λ z. has_tab_before_piece (not (is_break z)) q) head ∙ k) in
+    (cc (head, rest.0), rest.1)
+first_tab false (c ∷ p) (d ∷ q) x y e f g h k =
+    let head : c ≡ d = cc e in
+    let tail : p ++ 9 ∷ x ≡ q ++ 9 ∷ y = cc e in
+    let left = inner c p x f h in
+    let right = inner d q y g k in
+    let rest = first_tab (c == 35) p q x y tail left.0 (ap (λ z. is_separation (z == 35) q (9 ∷ y)) head ∙ right.0) left.1 (ap (λ z. has_tab_before_piece (z == 35) q) head ∙ right.1) in
+    (cc (head, rest.0), rest.1)
+  where
+    inner : (c : ℕ) (p x : List ℕ) → is_separation false (c ∷ p) (9 ∷ x) ≡ true → has_tab_before_piece false (c ∷ p) ≡ false → (is_separation (c == 35) p (9 ∷ x) ≡ true) × (has_tab_before_piece (c == 35) p ≡ false)
+    inner c p x f h = by (c == 32) (c == 9) (is_break c) (c == 35) refl f h
+      where
+        by : (s t b k : Bool) → (c == 35) ≡ k → (((s || t) || b || k) && is_separation (c == 35) p (9 ∷ x)) ≡ true → (t || ((s || b || k) && has_tab_before_piece (c == 35) p)) ≡ false → (is_separation (c == 35) p (9 ∷ x) ≡ true) × (has_tab_before_piece (c == 35) p ≡ false)
+        by s true b k i f h = absurd (cc h)
+        by true false b k i f h = (f, h)
+        by false false true k i f h = (f, h)
+        by false false false true i f h = (f, h)
+        by false false false false i f h = absurd (cc f)
+
+pub one_question : (s : Setting) (here : Position) (rest : List ℕ) (why1 why2 : Problem) (at1 at2 : Position) → QuestionReason s here rest why1 at1 → QuestionReason s here rest why2 at2 → AreSame why1 why2 at1 at2
+one_question s here rest why1 why2 at1 at2 (question_not_free i) (question_not_free j) = (refl, refl)
+one_question s here rest why1 why2 at1 at2 (question_not_free i) (no_space more2 j e2 none2) = absurd (cc (i, j))
+one_question s here rest why1 why2 at1 at2 (question_not_free i) (tab_after_question more2 passed2 content2 j e2 first2 none2 cut2 fills2) = absurd (cc (i, j))
+one_question s here rest why1 why2 at1 at2 (no_space more i e none) (question_not_free j) = absurd (cc (i, j))
+one_question s here rest why1 why2 at1 at2 (no_space more i e none) (no_space more2 j e2 none2) = (refl, refl)
+one_question s here rest why1 why2 at1 at2 (no_space more i e none) (tab_after_question more2 passed2 content2 j e2 first2 none2 cut2 fills2) = absurd (cc (none, first2, ap begins_with_space_or_break (tails 63 rest more2 more e2 e)))
+one_question s here rest why1 why2 at1 at2 (tab_after_question more passed content i e first none cut fills) (question_not_free j) = absurd (cc (i, j))
+one_question s here rest why1 why2 at1 at2 (tab_after_question more passed content i e first none cut fills) (no_space more2 j e2 none2) = absurd (cc (none2, first, ap begins_with_space_or_break (tails 63 rest more2 more e2 e)))
+one_question s here rest why1 why2 at1 at2 (tab_after_question more passed content i e first none cut fills) (tab_after_question more2 passed2 content2 j e2 first2 none2 cut2 fills2) =
+    let same = first_tab false passed passed2 content content2 (sym cut ∙ (tails 63 rest more more2 e e2 ∙ cut2)) fills fills2 none none2 in
+    (refl, ap (λ z. position_after (further 1 here) z (9 ∷ content)) same.0 ∙ ap (λ z. position_after (further 1 here) passed2 (9 ∷ z)) same.1)
+
+-- ---- `:`
+
+pub data ColonReason (s : Setting) (here : Position) (rest : List ℕ) : Problem → Position → Type 0 where
+  key_on_earlier_line : (more : List ℕ) → s.in_flow ≡ true → rest ≡ 58 ∷ more → colon_may_precede more ≡ true → ColonReason s here rest problem.ColonMisplaced here
+  tab_after_colon : (more passed content : List ℕ) → rest ≡ 58 ∷ more → colon_may_precede more ≡ false → GoesOn more passed content → begins_with_alpha content ≡ true → ColonReason s here rest problem.TabAfterColon (position_after (further 1 here) passed content)
+
+pub one_colon : (s : Setting) (here : Position) (rest : List ℕ) (why1 why2 : Problem) (at1 at2 : Position) → ColonReason s here rest why1 at1 → ColonReason s here rest why2 at2 → AreSame why1 why2 at1 at2
+one_colon s here rest why1 why2 at1 at2 (key_on_earlier_line more i e apart) (key_on_earlier_line more2 i2 e2 apart2) = (refl, refl)
+one_colon s here rest why1 why2 at1 at2 (key_on_earlier_line more i e apart) (tab_after_colon more2 passed2 content2 e2 tab2 on2 letter2) = absurd (cc (apart, tab2, ap colon_may_precede (tails 58 rest more2 more e2 e)))
+one_colon s here rest why1 why2 at1 at2 (tab_after_colon more passed content e tab on letter) (key_on_earlier_line more2 i2 e2 apart2) = absurd (cc (apart2, tab, ap colon_may_precede (tails 58 rest more2 more e2 e)))
+one_colon s here rest why1 why2 at1 at2 (tab_after_colon more passed content e tab on letter) (tab_after_colon more2 passed2 content2 e2 tab2 on2 letter2) =
+    let same : more2 ≡ more = tails 58 rest more2 more e2 e in
+    (refl, same_end (further 1 here) more passed passed2 content content2 on (subst (λ m. GoesOn m passed2 content2) same on2) (letter_ends content letter) (letter_ends content2 letter2))
+
+-- ---- brackets and commas
+
+pub data BracketReason (s : Setting) (here : Position) (rest : List ℕ) : Problem → Position → Type 0 where
+  too_deep : (c : ℕ) (more : List ℕ) → rest ≡ c ∷ more → (opens c && s.full) ≡ true → BracketReason s here rest problem.FlowTooDeep here
+  glued : (c : ℕ) (more : List ℕ) → rest ≡ c ∷ more → (opens c && s.full) ≡ false → BracketReason s here rest problem.CommentNotSeparated (further 1 here)
+
+same_full : (s : Setting) (c d : ℕ) (rest m n : List ℕ) → rest ≡ c ∷ m → rest ≡ d ∷ n → (opens c && s.full) ≡ true → (opens d && s.full) ≡ false → ⊥
+same_full s c d rest m n e f g h = let both : c ∷ m ≡ d ∷ n = sym e ∙ f in let same : c ≡ d = cc both in cc (g, h, ap (λ x. opens x && s.full) same)
+
+pub one_bracket : (s : Setting) (here : Position) (rest : List ℕ) (why1 why2 : Problem) (at1 at2 : Position) → BracketReason s here rest why1 at1 → BracketReason s here rest why2 at2 → AreSame why1 why2 at1 at2
+one_bracket s here rest why1 why2 at1 at2 (too_deep c more e is) (too_deep d more2 e2 is2) = (refl, refl)
+one_bracket s here rest why1 why2 at1 at2 (too_deep c more e is) (glued d more2 e2 is2) = absurd (same_full s c d rest more more2 e e2 is is2)
+one_bracket s here rest why1 why2 at1 at2 (glued c more e is) (too_deep d more2 e2 is2) = absurd (same_full s d c rest more2 more e2 e is2 is)
+one_bracket s here rest why1 why2 at1 at2 (glued c more e is) (glued d more2 e2 is2) = (refl, refl)
+
+-- ---- `...`
+
+pub data DotsReason (here : Position) (rest : List ℕ) : Problem → Position → Type 0 where
+  after_end : (more passed content : List ℕ) → rest ≡ 46 ∷ 46 ∷ 46 ∷ more → GoesOn more passed content → begins_separation content ≡ false → DotsReason here rest problem.ContentAfterDocumentEnd (position_after (further 3 here) passed content)
+
+pub one_dots : (here : Position) (rest : List ℕ) (why1 why2 : Problem) (at1 at2 : Position) → has_no_nul rest ≡ true → DotsReason here rest why1 at1 → DotsReason here rest why2 at2 → AreSame why1 why2 at1 at2
+unfolding is_nul
+one_dots here rest why1 why2 at1 at2 clean (after_end more passed content e on solid) (after_end more2 passed2 content2 e2 on2 solid2) =
+    let both : 46 ∷ 46 ∷ 46 ∷ more2 ≡ 46 ∷ 46 ∷ 46 ∷ more = sym e2 ∙ e in
+    let same : more2 ≡ more = cc both in
+    let here_clean : has_no_nul (passed ++ content) ≡ true = sym (ap has_no_nul e ∙ ap has_no_nul on.is_text) ∙ clean in
+    let there_clean : has_no_nul (passed2 ++ content2) ≡ true = sym (ap has_no_nul e2 ∙ ap has_no_nul on2.is_text) ∙ clean in
+    (refl, same_end (further 3 here) more passed passed2 content content2 on (subst (λ m. GoesOn m passed2 content2) same on2) (ends_before content solid (no_nul_after passed content here_clean)) (ends_before content2 solid2 (no_nul_after passed2 content2 there_clean)))

@@ -1,0 +1,384 @@
+-- Of two reasons at one place that both come first, kind and position are the same.
+use Rattle.std.proofs.Common.{◌≡◌, ℕ, ◌⊎◌, inl, inr, List, [], ◌∷◌, ◌++◌, Bool, true, false, not, ◌==◌, ◌&&◌, ◌||◌, nat_le, if◌then◌else◌, None, refl, ap, sym, ◌∙◌, subst, arith}
+use Rattle.std.proofs.lemmas.Bool.{eqb-true}
+use Rattle.std.proofs.lemmas.Bool.Decides.{nat_tests}
+use Rattle.defs_text.specs.BlockScalar.{BlockStyle, literal, folded, header_of}
+use Rattle.defs_text.specs.Breaks.{has_no_break}
+use Rattle.defs_text.specs.Classes.{tab, is_blank, is_break, is_nul, is_flow, is_blank_or_end, is_at_gap, are_marks}
+use Rattle.defs_text.specs.Position.{Position, position_after}
+use Rattle.defs_text.specs.Text.{is_empty, has_no_nul}
+use Rattle.defs_text.specs.FlowScalar.{begins_with}
+use Rattle.defs_token.specs.Column.{innermost}
+use Rattle.defs_token.specs.Following.{quoted_may_end}
+use Rattle.defs_token.specs.Plain.{is_value_indicator, begins_flow}
+use Rattle.defs_token.specs.Separation.{is_separation}
+use Rattle.defs_token.specs.Step.{quoted_scalar}
+use Rattle.defs_token.specs.Indentation.{least_column, is_indented_by_spaces, colon_may_precede}
+use Rattle.defs_token.specs.RowAccount.{Account, is_in_flow}
+use Rattle.yaml_tokens.specs.declared.problem.Fault.{Fault}
+use Rattle.yaml_tokens.specs.declared.problem.Fault.TheVariants.{At}
+use Rattle.yaml_tokens.specs.declared.problem.Problem.{Problem}
+use Rattle.yaml_tokens.specs.declared.problem.Problem.TheVariants as problem
+use Rattle.proof_lexers.specs.DirectiveEnds as directives
+use Rattle.proof_lexers.specs.DirectiveEnds.{IsDirectiveRefusal}
+use Rattle.proof_lexers.specs.HeaderEnds.{indicator_of, is_in_line}
+use Rattle.proof_lexers.specs.HeaderEnds as headers
+use Rattle.proof_lexers.specs.Separations.{begins_separation, begins_white_space}
+use Rattle.proof_lexers.specs.TagEnds.{IsTagRefusal}
+use Rattle.proof_row.specs.Ends.{Kind, nothing, plain_scalar, sequence_opening, sequence_closing, mapping_opening, mapping_closing, comma, question, colon, dash, dashes, dots, directive_line, alias_name, anchor_name, tag_text, in_single_quotes, in_double_quotes, block_scalar}
+use Rattle.proof_row.proofs.Blocks.{begins_block, block_begins}
+use Rattle.proof_row.proofs.Lines.{first_line, line_is}
+use Rattle.proof_row.proofs.Like.{IsLike}
+use Rattle.proof_scanner.specs.PiecesRead.{comes_plain}
+use Rattle.proof_scanner.specs.NoPiece as none
+use Rattle.proof_scanner.specs.NoPiece.{NoPiece, quote_of, name_mark, IsQuoted, HasNoQuoted, IsNotQuoted, IsNoHeader, IsPlainFault, IsBlockFault, GoesOn, IsFollowed, is_flow_indicator}
+use Rattle.proof_scanner.specs.QuotedLines.{AreNotIndented, IsQuotedFault}
+use Rattle.proof_scanner.specs.QuotedLines as quoted_lines
+use Rattle.proof_scanner.specs.Failing as failing
+use Rattle.proof_scanner.specs.Failing.{MayNotStand, Fails, site_at_place, is_value_here, is_taken, begins_document_at}
+use Rattle.proof_scanner.specs.First.{least_here, is_full, IsLookedAt, no_piece_first, followed_first, stands_first, comes_first, FailsFirst, opens}
+use Rattle.proof_scanner.specs.FirstQuoted.{quoted_first, lines_first, closed_first}
+use Rattle.proof_scanner.specs.FirstPlain.{plain_first}
+use Rattle.proof_scanner.specs.FirstBlock.{header_first, block_first}
+use Rattle.proof_scanner.specs.FirstProperty.{tag_first, directive_first}
+use Rattle.proof_scanner.proofs.Refusals.PiecesRefused.{no_colon_before, tab_gap}
+use Rattle.proof_scanner.proofs.Refusals.TextsRefused.{first_char}
+use Rattle.proof_scanner.proofs.First.Settings.{Setting, setting_of, is_deep_at, kind_here, same_setting}
+use Rattle.proof_scanner.proofs.First.Indicators as indicators
+use Rattle.proof_scanner.proofs.First.Indicators.{AreSame, DashReason, QuestionReason, ColonReason, BracketReason, DotsReason, tails, one_dash, one_question, one_colon, one_bracket, one_dots}
+use Rattle.defs_token.specs.Piece.{begins_with_space_or_break}
+
+-- ---- the reasons at one kind of piece
+
+-- Reasons at a quote: no quoted scalar begins there, a further line of it is wrong, or what stands after it.
+pub data QuotedReason (in_flow : Bool) (least : ℕ) (blocks : List ℕ) (awaits : Bool) (here : Position) (rest : List ℕ) : Problem → Position → Type 0 where
+  unquoted : (single : Bool) (more : List ℕ) (why : Problem) → rest ≡ quote_of single ∷ more → HasNoQuoted single rest → (n : IsNotQuoted single more why) → quoted_first single least here more why n → QuotedReason in_flow least blocks awaits here rest why here
+  lines : (single : Bool) (why : Problem) (at : Position) → AreNotIndented single least rest → (n : IsQuotedFault single least here rest why at) → lines_first single least here rest why at n → QuotedReason in_flow least blocks awaits here rest why at
+  glued : (single : Bool) (piece more : List ℕ) → rest ≡ piece ++ more → IsQuoted single piece more → begins_with 35 more ≡ true → closed_first single least piece → QuotedReason in_flow least blocks awaits here rest problem.CommentNotSeparated (position_after here piece more)
+  after : (single : Bool) (piece more passed content : List ℕ) → rest ≡ piece ++ more → IsQuoted single piece more → quoted_may_end in_flow piece more ≡ false → GoesOn more passed content → begins_separation content ≡ false → closed_first single least piece
+      → QuotedReason in_flow least blocks awaits here rest problem.ContentAfterQuoted (position_after (position_after here piece more) passed content)
+  tabbed : (single : Bool) (piece gap content : List ℕ) → rest ≡ piece ++ (gap ++ content) → IsQuoted single piece (gap ++ content) → is_separation false gap content ≡ true → is_empty content ≡ false → begins_separation content ≡ false
+      → is_indented_by_spaces quoted_scalar blocks awaits gap ≡ false → closed_first single least piece → QuotedReason in_flow least blocks awaits here rest problem.TabInBlockIndentation (position_after (position_after here piece (gap ++ content)) gap content)
+
+-- Reasons at `|` or `>` outside flow.
+pub data BlockReason (collection : List ℕ) (here : Position) (rest : List ℕ) : Problem → Position → Type 0 where
+  headless : (style : BlockStyle) (line after : List ℕ) (why : Problem) (at : Position) → rest ≡ indicator_of style ∷ (line ++ after) → is_in_line line ≡ true → headers.ends_line after ≡ true → header_of (indicator_of style ∷ line) ≡ None
+      → (n : IsNoHeader style here line why at) → header_first style here line why at n → BlockReason collection here rest why at
+  fails : (why : Problem) (at : Position) → (n : IsBlockFault collection here rest why at) → block_first collection here rest why at n → BlockReason collection here rest why at
+
+-- a reason at a plain scalar
+abbrev pub PlainReason : Setting → Position → List ℕ → Problem → Position → Type 0
+PlainReason s here rest why at = (n : IsPlainFault s.in_flow s.blocks here rest why at) × plain_first s.in_flow s.blocks here rest why at n
+
+-- a name is missing
+pub data NameReason (here : Position) : Problem → Position → Type 0 where
+  nameless : NameReason here problem.AnchorName here
+
+pub data TagReason (in_flow : Bool) (here : Position) (rest : List ℕ) : Problem → Position → Type 0 where
+  tagless : (more : List ℕ) (why : Problem) → rest ≡ 33 ∷ more → (r : IsTagRefusal in_flow more why) → tag_first in_flow more why r → TagReason in_flow here rest why here
+
+pub data DirectiveReason (here : Position) (rest : List ℕ) : Problem → Position → Type 0 where
+  percent : (here.col == 0) ≡ false → DirectiveReason here rest problem.UnexpectedPercent here
+  undirected : (line next : List ℕ) (why : Problem) (at : Position) → here.col ≡ 0 → rest ≡ 37 ∷ (line ++ next) → has_no_break line ≡ true → directives.ends_line next ≡ true → (r : IsDirectiveRefusal here line (At why at)) → directive_first here line (At why at) r → DirectiveReason here rest why at
+
+-- a reserved indicator
+pub data ReservedReason (here : Position) (rest : List ℕ) : Problem → Position → Type 0 where
+  at_sign : (more : List ℕ) → rest ≡ 64 ∷ more → ReservedReason here rest problem.UnexpectedAt here
+  backtick : (more : List ℕ) → rest ≡ 96 ∷ more → ReservedReason here rest problem.UnexpectedBacktick here
+
+abbrev pub InKind : Kind → Setting → Position → List ℕ → Problem → Position → Type 0
+InKind nothing s here rest why at = ReservedReason here rest why at
+InKind plain_scalar s here rest why at = PlainReason s here rest why at
+InKind sequence_opening s here rest why at = BracketReason s here rest why at
+InKind sequence_closing s here rest why at = BracketReason s here rest why at
+InKind mapping_opening s here rest why at = BracketReason s here rest why at
+InKind mapping_closing s here rest why at = BracketReason s here rest why at
+InKind comma s here rest why at = BracketReason s here rest why at
+InKind question s here rest why at = QuestionReason s here rest why at
+InKind colon s here rest why at = ColonReason s here rest why at
+InKind dash s here rest why at = DashReason s here rest why at
+InKind dashes s here rest why at = ⊥
+InKind dots s here rest why at = DotsReason here rest why at
+InKind directive_line s here rest why at = DirectiveReason here rest why at
+InKind alias_name s here rest why at = NameReason here why at
+InKind anchor_name s here rest why at = NameReason here why at
+InKind tag_text s here rest why at = TagReason s.in_flow here rest why at
+InKind in_single_quotes s here rest why at = QuotedReason s.in_flow (least_column s.blocks s.awaits) s.blocks s.awaits here rest why at
+InKind in_double_quotes s here rest why at = QuotedReason s.in_flow (least_column s.blocks s.awaits) s.blocks s.awaits here rest why at
+InKind block_scalar s here rest why at = BlockReason s.blocks here rest why at
+
+-- ---- the reasons at a place
+
+-- A TAB indents what comes; or it does not lie deep enough; or there is a reason at the kind of piece that the text seems to begin.
+pub data Reason (s : Setting) (here : Position) (rest : List ℕ) : Problem → Position → Type 0 where
+  tab_indents : s.spaced ≡ false → Reason s here rest problem.TabInBlockIndentation here
+  shallow : s.spaced ≡ true → is_deep_at s here rest ≡ false → Reason s here rest problem.InvalidIndentation here
+  looked : (k : Kind) (why : Problem) (at : Position) → s.spaced ≡ true → is_deep_at s here rest ≡ true → kind_here s here.col rest ≡ k → InKind k s here rest why at → Reason s here rest why at
+
+-- ---- kinds by the first characters
+
+plain_kind : (s : Setting) (column : ℕ) (rest : List ℕ) → comes_plain s.in_flow s.adjacent column rest ≡ true → kind_here s column rest ≡ plain_scalar
+plain_kind s column [] h = absurd (cc h)
+plain_kind s column (c ∷ r) h = rw h refl
+
+quoted_kind : (s : Setting) (column : ℕ) (single : Bool) (more : List ℕ) → kind_here s column (quote_of single ∷ more) ≡ (if single then in_single_quotes else in_double_quotes)
+unfolding is_blank_or_end is_blank is_break is_nul is_flow
+quoted_kind s column true more = refl
+quoted_kind s column false more = refl
+
+block_kind : (s : Setting) (column : ℕ) (style : BlockStyle) (more : List ℕ) → s.in_flow ≡ false → kind_here s column (indicator_of style ∷ more) ≡ block_scalar
+unfolding is_blank_or_end is_blank is_break is_nul is_flow
+block_kind s column literal more out = rw out refl
+block_kind s column folded more out = rw out refl
+
+name_kind : (s : Setting) (column : ℕ) (alias : Bool) (more : List ℕ) → kind_here s column (name_mark alias ∷ more) ≡ (if alias then alias_name else anchor_name)
+unfolding is_blank_or_end is_blank is_break is_nul is_flow
+name_kind s column true more = refl
+name_kind s column false more = refl
+
+dash_kind : (s : Setting) (column : ℕ) (more : List ℕ) → is_at_gap more ≡ true → kind_here s column (45 ∷ more) ≡ dash
+dash_kind s column more gap = rw gap refl
+
+question_kind : (s : Setting) (column : ℕ) (more : List ℕ) → is_at_gap more ≡ true → kind_here s column (63 ∷ more) ≡ question
+question_kind s column more gap = rw gap refl
+
+colon_kind : (s : Setting) (column : ℕ) (more : List ℕ) → is_value_indicator s.in_flow s.adjacent more ≡ true → kind_here s column (58 ∷ more) ≡ colon
+colon_kind s column more is = rw is refl
+
+dots_kind : (s : Setting) (column : ℕ) (more : List ℕ) → column ≡ 0 → is_at_gap more ≡ true → kind_here s column (46 ∷ 46 ∷ 46 ∷ more) ≡ dots
+unfolding is_blank_or_end is_blank is_break is_nul is_flow are_marks
+dots_kind s column more zero gap = rw (zero, gap) refl
+
+no_white : (more : List ℕ) → begins_with 32 more ≡ false → begins_white_space more ≡ false → begins_with_space_or_break more ≡ false
+no_white [] e f = refl
+no_white (c ∷ r) e f = by (c == 32) (is_break c) e f
+  where
+    by : (x y : Bool) → x ≡ false → (x || y || (c == 35)) ≡ false → (x || y) ≡ false
+    by true y e f = absurd (cc e)
+    by false true e f = absurd (cc f)
+    by false false e f = refl
+
+-- ---- each reason has its kind
+
+module _ (s : Setting) (here : Position) (rest : List ℕ) where
+  abbrev OfKind : Problem → Position → Type 0
+  OfKind why at = (k : Kind) × (kind_here s here.col rest ≡ k) × InKind k s here rest why at
+
+  quoted_reason : (single : Bool) (more : List ℕ) (why : Problem) (at : Position) → rest ≡ quote_of single ∷ more → QuotedReason s.in_flow (least_column s.blocks s.awaits) s.blocks s.awaits here rest why at → OfKind why at
+  quoted_reason true more why at e r = (in_single_quotes, ap (λ z. kind_here s here.col z) e ∙ quoted_kind s here.col true more, r)
+  quoted_reason false more why at e r = (in_double_quotes, ap (λ z. kind_here s here.col z) e ∙ quoted_kind s here.col false more, r)
+
+  quoted_begins : (single : Bool) (piece next : List ℕ) → rest ≡ piece ++ next → IsQuoted single piece next → (more : List ℕ) × (rest ≡ quote_of single ∷ more)
+  quoted_begins true piece next e is = (_, e ∙ ap (λ p. p ++ next) is.1.1)
+  quoted_begins false piece next e is = (_, e ∙ ap (λ p. p ++ next) is.1.1)
+
+  closed_reason : (single : Bool) (piece next : List ℕ) (why : Problem) (at : Position) → rest ≡ piece ++ next → IsQuoted single piece next → QuotedReason s.in_flow (least_column s.blocks s.awaits) s.blocks s.awaits here rest why at → OfKind why at
+  closed_reason single piece next why at e is r = let first = quoted_begins single piece next e is in quoted_reason single first.0 why at first.1 r
+
+  bracket_reason : (c : ℕ) (more : List ℕ) (why : Problem) (at : Position) → rest ≡ c ∷ more → is_flow_indicator c ≡ true → BracketReason s here rest why at → OfKind why at
+  unfolding is_blank_or_end is_blank is_break is_nul is_flow
+  bracket_reason c more why at e is r = by (c == 91) (c == 93) (c == 123) (c == 125) (c == 44) refl refl refl refl refl is
+    where
+      moved : (d : ℕ) → (c == d) ≡ true → rest ≡ d ∷ more
+      moved d i = e ∙ ap (λ x. x ∷ more) (eqb-true c d i)
+
+      by : (v w x y z : Bool) → (c == 91) ≡ v → (c == 93) ≡ w → (c == 123) ≡ x → (c == 125) ≡ y → (c == 44) ≡ z → (v || (w || (x || (y || (z || false))))) ≡ true → OfKind why at
+      by true w x y z i j k l m h = (sequence_opening, ap (λ t. kind_here s here.col t) (moved 91 i), r)
+      by false true x y z i j k l m h = (sequence_closing, ap (λ t. kind_here s here.col t) (moved 93 j), r)
+      by false false true y z i j k l m h = (mapping_opening, ap (λ t. kind_here s here.col t) (moved 123 k), r)
+      by false false false true z i j k l m h = (mapping_closing, ap (λ t. kind_here s here.col t) (moved 125 l), r)
+      by false false false false true i j k l m h = (comma, ap (λ t. kind_here s here.col t) (moved 44 m), r)
+      by false false false false false i j k l m h = absurd (cc h)
+
+  none_reason : (why : Problem) (at : Position) (n : NoPiece s.in_flow here rest why at) → no_piece_first s.in_flow (least_column s.blocks s.awaits) here rest why at n → OfKind why at
+  unfolding is_blank_or_end is_blank is_break is_nul is_flow
+  none_reason why at (none.percent more e col) f = (directive_line, ap (λ r. kind_here s here.col r) e, percent col)
+  none_reason why at (none.at_sign more e) f = (nothing, ap (λ r. kind_here s here.col r) e, at_sign more e)
+  none_reason why at (none.backtick more e) f = (nothing, ap (λ r. kind_here s here.col r) e, backtick more e)
+  none_reason why at (none.nameless true more e lacks) f = (alias_name, ap (λ r. kind_here s here.col r) e, nameless)
+  none_reason why at (none.nameless false more e lacks) f = (anchor_name, ap (λ r. kind_here s here.col r) e, nameless)
+  none_reason why at (none.tagless more reason e r) f = (tag_text, ap (λ r. kind_here s here.col r) e, tagless more reason e r f)
+  none_reason why at (none.unquoted single more reason e lacks n) f = quoted_reason single more reason here e (unquoted single more reason e lacks n f)
+  none_reason why at (none.headless style line next reason place out e one ends lacks n) f = (block_scalar, ap (λ r. kind_here s here.col r) e ∙ block_kind s here.col style (line ++ next) out, headless style line next reason place e one ends lacks n f)
+  none_reason why at (none.undirected line next reason place col e one ends lacks r) f = (directive_line, ap (λ z. kind_here s here.col z) e, undirected line next reason place col e one ends r f)
+
+  lines_reason : (single : Bool) (why : Problem) (at : Position) → AreNotIndented single (least_column s.blocks s.awaits) rest → (n : IsQuotedFault single (least_column s.blocks s.awaits) here rest why at) → lines_first single (least_column s.blocks s.awaits) here rest why at n → OfKind why at
+  lines_reason single why at lacks (quoted_lines.by_column body more es cut has solid begins low) f = quoted_reason single (body ++ more) why at cut (lines single why at lacks (quoted_lines.by_column body more es cut has solid begins low) f)
+  lines_reason single why at lacks (quoted_lines.by_tab body more es cut has begins low) f = quoted_reason single (body ++ tab ∷ more) why at cut (lines single why at lacks (quoted_lines.by_tab body more es cut has begins low) f)
+
+  block_begins_here : s.in_flow ≡ false → (piece next : List ℕ) → rest ≡ piece ++ next → begins_block piece ≡ true → kind_here s here.col rest ≡ block_scalar
+  block_begins_here out [] next e h = absurd (cc h)
+  block_begins_here out (c ∷ p) next e h = ap (λ r. kind_here s here.col r) e ∙ by (c == 124) (c == 62) refl refl h
+    where
+      by : (x y : Bool) → (c == 124) ≡ x → (c == 62) ≡ y → (x || y) ≡ true → kind_here s here.col (c ∷ (p ++ next)) ≡ block_scalar
+      by true y i j h = ap (λ d. kind_here s here.col (d ∷ (p ++ next))) (eqb-true c 124 i) ∙ block_kind s here.col literal (p ++ next) out
+      by false true i j h = ap (λ d. kind_here s here.col (d ∷ (p ++ next))) (eqb-true c 62 j) ∙ block_kind s here.col folded (p ++ next) out
+      by false false i j h = absurd (cc h)
+
+  block_at : s.in_flow ≡ false → (why : Problem) (at : Position) → IsBlockFault s.blocks here rest why at → kind_here s here.col rest ≡ block_scalar
+  block_at out why at (none.by_tab piece header more h cut one is) =
+      let first = first_char piece header h (sym (line_is piece) ∙ ap (λ z. first_line z.complete z.last) one) is in
+      ap (λ r. kind_here s here.col r) (cut ∙ ap (λ p. p ++ tab ∷ more) first.2) ∙ block_kind s here.col first.0 (first.1 ++ tab ∷ more) out
+  block_at out why at (none.by_column piece header next more b cut is further_text lines_are empty deep left) = block_begins_here out piece next cut (block_begins (innermost s.blocks) piece next b is)
+
+  followed_reason : (why : Problem) (at : Position) (n : IsFollowed s.in_flow here rest why at) → followed_first s.in_flow (least_column s.blocks s.awaits) s.taken s.full here rest why at n → OfKind why at
+  followed_reason why at (none.glued c more e is begins) f = bracket_reason c more why at e is (indicators.glued c more e f)
+  followed_reason why at (none.glued_to_quoted single piece more e is begins) f = closed_reason single piece more why at e is (glued single piece more e is begins f)
+  followed_reason why at (none.after_quoted single piece more passed content e is ends on solid) f = closed_reason single piece more why at e is (after single piece more passed content e is ends on solid f)
+  followed_reason why at (none.after_end more passed content col e gap on ends solid) f = (dots, ap (λ r. kind_here s here.col r) e ∙ dots_kind s here.col more col gap, indicators.after_end more passed content e on solid)
+  followed_reason why at (none.tab_after_dash more passed content out e gap on tab_there begins) f = (dash, ap (λ r. kind_here s here.col r) e ∙ dash_kind s here.col more gap, indicators.tab_after_dash more passed content out f e on begins)
+  followed_reason why at (none.no_space more [] content e gap on begins ends) f =
+      (question, ap (λ r. kind_here s here.col r) e ∙ question_kind s here.col more gap, indicators.no_space more f.0 e (no_white more begins (ap begins_white_space on.is_text ∙ ends)))
+  followed_reason why at (none.no_space more (c ∷ passed) content e gap on begins ends) f = absurd (cc f.1)
+  followed_reason why at (none.tab_after_question more passed content e gap cut fills) f = (question, ap (λ r. kind_here s here.col r) e ∙ question_kind s here.col more gap, indicators.tab_after_question more passed content f.0 e f.1 f.2 cut fills)
+  followed_reason why at (none.tab_after_colon more passed content e tab_there on lacks letter) f =
+      (colon, ap (λ r. kind_here s here.col r) e ∙ colon_kind s here.col more (ap (λ b. b || (s.in_flow && (begins_flow more || s.adjacent))) (tab_gap more tab_there)), indicators.tab_after_colon more passed content e (no_colon_before more passed content tab_there on lacks letter) on letter)
+
+-- ---- what fails first is a reason
+
+module _ (a : Account) (separation : List ℕ) (here : Position) (rest : List ℕ) where
+  abbrev own : Setting
+  own = setting_of a separation here
+
+  seen_reason : (why : Problem) (at : Position) → IsLookedAt a separation here rest → OfKind own here rest why at → Reason own here rest why at
+  seen_reason why at l r = looked r.0 why at l.has_no_tab l.is_deep r.1 r.2
+
+  stands_reason : (why : Problem) (at : Position) (n : MayNotStand a separation here rest why at) → stands_first a separation here rest why at n → Reason own here rest why at
+  stands_reason why at (failing.shallow inside line left) f =
+      shallow f (ap (λ b. not b || begins_document_at here rest || nat_le (least_here a here) here.col) inside ∙ (ap (λ b. b || nat_le (least_here a here) here.col) line ∙ left))
+  stands_reason why at (failing.too_deep bracket more e is many) f = seen_reason problem.FlowTooDeep here f (bracket_reason own here rest bracket more problem.FlowTooDeep here e (opens_flow bracket is).1 (indicators.too_deep bracket more e (ap (λ b. b && is_full a) (opens_flow bracket is).0 ∙ full)))
+    where
+      full : is_full a ≡ true
+      full = grind (arith, nat_tests, many)
+
+      opens_flow : (c : ℕ) → (c ≡ 91) ⊎ (c ≡ 123) → (opens c ≡ true) × (is_flow_indicator c ≡ true)
+      opens_flow c (inl h) = rw h (refl, refl)
+      opens_flow c (inr h) = rw h (refl, refl)
+  stands_reason why at (failing.dash_in_flow more e gap inside) f = seen_reason problem.BlockEntryInFlow here f (dash, ap (λ r. kind_here own here.col r) e ∙ dash_kind own here.col more gap, indicators.dash_in_flow inside)
+  stands_reason why at (failing.dash_not_free more e gap out line) f = seen_reason problem.BlockEntryNotAllowed here f (dash, ap (λ r. kind_here own here.col r) e ∙ dash_kind own here.col more gap, indicators.dash_not_free out line)
+  stands_reason why at (failing.key_on_earlier_line more begin x xs e is are takes had late) f =
+      seen_reason problem.ColonMisplaced here f.0 (colon, ap (λ r. kind_here own here.col r) e ∙ colon_kind own here.col more is, indicators.key_on_earlier_line more (ap is_in_flow are) e f.1)
+  stands_reason why at (failing.question_not_free more e gap out line) f =
+      seen_reason problem.KeyNotAllowed here f (question, ap (λ r. kind_here own here.col r) e ∙ question_kind own here.col more gap, indicators.question_not_free (rw (out, line) refl))
+  stands_reason why at (failing.tab_indents tabs) f = tab_indents tabs
+  stands_reason why at (failing.tab_after_quoted single piece gap content e is fills goes_on solid tabs) f =
+      seen_reason problem.TabInBlockIndentation _ f.0 (closed_reason own here rest single piece (gap ++ content) problem.TabInBlockIndentation _ e is (tabbed single piece gap content e is fills goes_on solid tabs f.1))
+
+  pub reason_of : (why : Problem) (at : Position) → FailsFirst a separation here rest why at → Reason own here rest why at
+  reason_of why at x = by x.fails x.is_first
+    where
+      by : (f : Fails a separation here rest why at) → comes_first a separation here rest why at f → Reason own here rest why at
+      by (failing.no_piece n) f = seen_reason why at f.0 (none_reason own here rest why at n f.1)
+      by (failing.no_plain comes n) f = seen_reason why at f.0 (plain_scalar, plain_kind own here.col rest comes, (n, f.1))
+      by (failing.no_quoted single lacks n) f = seen_reason why at f.0 (lines_reason own here rest single why at lacks n f.1)
+      by (failing.no_block out n) f = seen_reason why at f.0 (block_scalar, block_at own here rest out why at n, fails why at n f.1)
+      by (failing.followed n) f = seen_reason why at f.0 (followed_reason own here rest why at n f.1)
+      by (failing.may_not_stand n) f = stands_reason why at n f
+
+-- ---- where no key waits for a colon, and none begins
+
+-- There no reason at a like account comes first.
+pub colon_alone : (a b : Account) → IsLike a b → (separation more : List ℕ) (here : Position) → is_value_here a separation more ≡ true → is_in_flow a.entries ≡ false → IsLookedAt a separation here (58 ∷ more) → colon_may_precede more ≡ true →
+    (why : Problem) (at : Position) → FailsFirst b separation here (58 ∷ more) why at → ⊥
+colon_alone a b like separation more here is out seen apart why at x =
+    by why at (subst (λ s. Reason s here (58 ∷ more) why at) (sym (same_setting a b separation here like)) (reason_of b separation here (58 ∷ more) why at x))
+  where
+    own : Setting
+    own = setting_of a separation here
+
+    at_colon : (n : List ℕ) → 58 ∷ more ≡ 58 ∷ n → more ≡ n
+    at_colon n e = cc e
+
+    none_here : (why : Problem) (at : Position) → ColonReason own here (58 ∷ more) why at → ⊥
+    none_here why at (indicators.key_on_earlier_line n inside e before) = cc (out, inside)
+    none_here why at (indicators.tab_after_colon n passed content e tabs on letter) = cc (apart, tabs, ap colon_may_precede (at_colon n e))
+
+    by : (why : Problem) (at : Position) → Reason own here (58 ∷ more) why at → ⊥
+    by why at (tab_indents tabs) = cc (tabs, seen.has_no_tab)
+    by why at (shallow spaced low) = cc (low, seen.is_deep)
+    by why at (looked k why2 at2 spaced deep kind r) = none_here why at (subst (λ z. InKind z own here (58 ∷ more) why at) (sym kind ∙ colon_kind own here.col more is) r)
+
+-- ---- one reason
+
+abbrev pub OneQuoted : Type 0
+OneQuoted = (in_flow : Bool) (least : ℕ) (blocks : List ℕ) (awaits : Bool) (here : Position) (rest : List ℕ) (why1 why2 : Problem) (at1 at2 : Position) → has_no_nul rest ≡ true
+    → QuotedReason in_flow least blocks awaits here rest why1 at1 → QuotedReason in_flow least blocks awaits here rest why2 at2 → AreSame why1 why2 at1 at2
+
+abbrev pub OnePlain : Type 0
+OnePlain = (in_flow : Bool) (collection : List ℕ) (here : Position) (text : List ℕ) (why1 why2 : Problem) (at1 at2 : Position) → has_no_nul text ≡ true
+    → (n : IsPlainFault in_flow collection here text why1 at1) → plain_first in_flow collection here text why1 at1 n → (m : IsPlainFault in_flow collection here text why2 at2) → plain_first in_flow collection here text why2 at2 m → AreSame why1 why2 at1 at2
+
+abbrev pub OneBlock : Type 0
+OneBlock = (collection : List ℕ) (here : Position) (rest : List ℕ) (why1 why2 : Problem) (at1 at2 : Position) → has_no_nul rest ≡ true → BlockReason collection here rest why1 at1 → BlockReason collection here rest why2 at2 → AreSame why1 why2 at1 at2
+
+abbrev pub OneTag : Type 0
+OneTag = (in_flow : Bool) (text : List ℕ) (why1 why2 : Problem) → (r : IsTagRefusal in_flow text why1) → tag_first in_flow text why1 r → (q : IsTagRefusal in_flow text why2) → tag_first in_flow text why2 q → why1 ≡ why2
+
+abbrev pub OneDirective : Type 0
+OneDirective = (here : Position) (line1 line2 next1 next2 : List ℕ) (f g : Fault) → line1 ++ next1 ≡ line2 ++ next2 → has_no_break line1 ≡ true → has_no_break line2 ≡ true → directives.ends_line next1 ≡ true → directives.ends_line next2 ≡ true
+    → (r : IsDirectiveRefusal here line1 f) → directive_first here line1 f r → (q : IsDirectiveRefusal here line2 g) → directive_first here line2 g q → f ≡ g
+
+module _ (one_quoted : OneQuoted) (one_plain : OnePlain) (one_block : OneBlock) (one_tag : OneTag) (one_directive : OneDirective) where
+  one_reserved : (here : Position) (rest : List ℕ) (why1 why2 : Problem) (at1 at2 : Position) → ReservedReason here rest why1 at1 → ReservedReason here rest why2 at2 → AreSame why1 why2 at1 at2
+  one_reserved here rest why1 why2 at1 at2 (at_sign more e) (at_sign n f) = (refl, refl)
+  one_reserved here rest why1 why2 at1 at2 (at_sign more e) (backtick n f) = absurd (cc (ap (begins_with 64) e, ap (begins_with 64) f))
+  one_reserved here rest why1 why2 at1 at2 (backtick more e) (at_sign n f) = absurd (cc (ap (begins_with 64) e, ap (begins_with 64) f))
+  one_reserved here rest why1 why2 at1 at2 (backtick more e) (backtick n f) = (refl, refl)
+
+  one_name : (here : Position) (why1 why2 : Problem) (at1 at2 : Position) → NameReason here why1 at1 → NameReason here why2 at2 → AreSame why1 why2 at1 at2
+  one_name here why1 why2 at1 at2 nameless nameless = (refl, refl)
+
+  one_refusal : (in_flow : Bool) (here : Position) (rest : List ℕ) (why1 why2 : Problem) (at1 at2 : Position) → TagReason in_flow here rest why1 at1 → TagReason in_flow here rest why2 at2 → AreSame why1 why2 at1 at2
+  one_refusal in_flow here rest why1 why2 at1 at2 (tagless more reason e r f) (tagless n reason2 e2 q g) =
+      let P : List ℕ → Type 0 = λ t. (z : IsTagRefusal in_flow t reason2) × tag_first in_flow t reason2 z in
+      let moved : P more = subst P (tails 33 rest n more e2 e) (q, g) in
+      (one_tag in_flow more reason reason2 r f moved.0 moved.1, refl)
+
+  one_line : (here : Position) (rest : List ℕ) (why1 why2 : Problem) (at1 at2 : Position) → DirectiveReason here rest why1 at1 → DirectiveReason here rest why2 at2 → AreSame why1 why2 at1 at2
+  one_line here rest why1 why2 at1 at2 (percent col) (percent col2) = (refl, refl)
+  one_line here rest why1 why2 at1 at2 (percent col) (undirected line2 next2 reason2 place2 col2 e2 one2 ends2 q g) = absurd (cc (col, ap (λ n. n == 0) col2))
+  one_line here rest why1 why2 at1 at2 (undirected line next reason place col e one ends r f) (percent col2) = absurd (cc (col2, ap (λ n. n == 0) col))
+  one_line here rest why1 why2 at1 at2 (undirected line next reason place col e one ends r f) (undirected line2 next2 reason2 place2 col2 e2 one2 ends2 q g) =
+      let same : At reason place ≡ At reason2 place2 = one_directive here line line2 next next2 (At reason place) (At reason2 place2) (tails 37 rest (line ++ next) (line2 ++ next2) e e2) one one2 ends ends2 r f q g in
+      let why : reason ≡ reason2 = cc same in
+      let at : place ≡ place2 = cc same in
+      (why, at)
+
+  one_in : (k : Kind) (s : Setting) (here : Position) (rest : List ℕ) (why1 why2 : Problem) (at1 at2 : Position) → has_no_nul rest ≡ true → InKind k s here rest why1 at1 → InKind k s here rest why2 at2 → AreSame why1 why2 at1 at2
+  one_in nothing s here rest why1 why2 at1 at2 clean r q = one_reserved here rest why1 why2 at1 at2 r q
+  one_in plain_scalar s here rest why1 why2 at1 at2 clean r q = one_plain s.in_flow s.blocks here rest why1 why2 at1 at2 clean r.0 r.1 q.0 q.1
+  one_in sequence_opening s here rest why1 why2 at1 at2 clean r q = one_bracket s here rest why1 why2 at1 at2 r q
+  one_in sequence_closing s here rest why1 why2 at1 at2 clean r q = one_bracket s here rest why1 why2 at1 at2 r q
+  one_in mapping_opening s here rest why1 why2 at1 at2 clean r q = one_bracket s here rest why1 why2 at1 at2 r q
+  one_in mapping_closing s here rest why1 why2 at1 at2 clean r q = one_bracket s here rest why1 why2 at1 at2 r q
+  one_in comma s here rest why1 why2 at1 at2 clean r q = one_bracket s here rest why1 why2 at1 at2 r q
+  one_in question s here rest why1 why2 at1 at2 clean r q = one_question s here rest why1 why2 at1 at2 r q
+  one_in colon s here rest why1 why2 at1 at2 clean r q = one_colon s here rest why1 why2 at1 at2 r q
+  one_in dash s here rest why1 why2 at1 at2 clean r q = one_dash s here rest why1 why2 at1 at2 r q
+  one_in dashes s here rest why1 why2 at1 at2 clean r q = absurd r
+  one_in dots s here rest why1 why2 at1 at2 clean r q = one_dots here rest why1 why2 at1 at2 clean r q
+  one_in directive_line s here rest why1 why2 at1 at2 clean r q = one_line here rest why1 why2 at1 at2 r q
+  one_in alias_name s here rest why1 why2 at1 at2 clean r q = one_name here why1 why2 at1 at2 r q
+  one_in anchor_name s here rest why1 why2 at1 at2 clean r q = one_name here why1 why2 at1 at2 r q
+  one_in tag_text s here rest why1 why2 at1 at2 clean r q = one_refusal s.in_flow here rest why1 why2 at1 at2 r q
+  one_in in_single_quotes s here rest why1 why2 at1 at2 clean r q = one_quoted s.in_flow (least_column s.blocks s.awaits) s.blocks s.awaits here rest why1 why2 at1 at2 clean r q
+  one_in in_double_quotes s here rest why1 why2 at1 at2 clean r q = one_quoted s.in_flow (least_column s.blocks s.awaits) s.blocks s.awaits here rest why1 why2 at1 at2 clean r q
+  one_in block_scalar s here rest why1 why2 at1 at2 clean r q = one_block s.blocks here rest why1 why2 at1 at2 clean r q
+
+  one_of_two : (s : Setting) (here : Position) (rest : List ℕ) (why1 why2 : Problem) (at1 at2 : Position) → has_no_nul rest ≡ true → Reason s here rest why1 at1 → Reason s here rest why2 at2 → AreSame why1 why2 at1 at2
+  one_of_two s here rest why1 why2 at1 at2 clean (tab_indents tabs) (tab_indents tabs2) = (refl, refl)
+  one_of_two s here rest why1 why2 at1 at2 clean (tab_indents tabs) (shallow spaced2 low2) = absurd (cc (tabs, spaced2))
+  one_of_two s here rest why1 why2 at1 at2 clean (tab_indents tabs) (looked k2 reason2 place2 spaced2 deep2 kind2 q) = absurd (cc (tabs, spaced2))
+  one_of_two s here rest why1 why2 at1 at2 clean (shallow spaced low) (tab_indents tabs2) = absurd (cc (tabs2, spaced))
+  one_of_two s here rest why1 why2 at1 at2 clean (shallow spaced low) (shallow spaced2 low2) = (refl, refl)
+  one_of_two s here rest why1 why2 at1 at2 clean (shallow spaced low) (looked k2 reason2 place2 spaced2 deep2 kind2 q) = absurd (cc (low, deep2))
+  one_of_two s here rest why1 why2 at1 at2 clean (looked k reason place spaced deep kind r) (tab_indents tabs2) = absurd (cc (tabs2, spaced))
+  one_of_two s here rest why1 why2 at1 at2 clean (looked k reason place spaced deep kind r) (shallow spaced2 low2) = absurd (cc (low2, deep))
+  one_of_two s here rest why1 why2 at1 at2 clean (looked k reason place spaced deep kind r) (looked k2 reason2 place2 spaced2 deep2 kind2 q) =
+      one_in k s here rest why1 why2 at1 at2 clean r (subst (λ z. InKind z s here rest why2 at2) (sym kind2 ∙ kind) q)
+
+  -- At like accounts, after the same separation, what fails first is of one kind and at one position.
+  pub one_reason : (a b : Account) → IsLike a b → (separation : List ℕ) (here : Position) (rest : List ℕ) → has_no_nul rest ≡ true → (why1 why2 : Problem) (at1 at2 : Position) → FailsFirst a separation here rest why1 at1 → FailsFirst b separation here rest why2 at2 → (why1 ≡ why2) × (at1 ≡ at2)
+  one_reason a b like separation here rest clean why1 why2 at1 at2 x y =
+      one_of_two (setting_of a separation here) here rest why1 why2 at1 at2 clean (reason_of a separation here rest why1 at1 x)
+      (subst (λ s. Reason s here rest why2 at2) (sym (same_setting a b separation here like)) (reason_of b separation here rest why2 at2 y))

@@ -1,0 +1,76 @@
+-- What the reasons at a place ask of an account; it is the same at accounts that are alike.
+use Rattle.std.proofs.Common.{◌≡◌, ℕ, List, [], ◌∷◌, Bool, true, false, ◌||◌, nat_le, not, length, refl, if◌then◌else◌}
+use Rattle.defs_text.specs.Position.{Position}
+use Rattle.defs_token.specs.Account.{is_adjacent, before_past}
+use Rattle.defs_token.specs.Indentation.{least_column}
+use Rattle.defs_token.specs.Key.{Line, free, taken, waits, begins_free_line, line_past_separation}
+use Rattle.defs_token.specs.RowAccount.{Account, before_by, is_in_flow}
+use Rattle.proof_row.specs.Ends.{Kind, nothing, plain_scalar, kind_by}
+use Rattle.proof_row.proofs.Accounts.{same_flow}
+use Rattle.proof_row.proofs.Like.{LikeLine, IsLike}
+use Rattle.proof_scanner.specs.PiecesRead.{comes_plain}
+use Rattle.proof_scanner.specs.Failing.{site_at_place, is_taken_line, is_taken, begins_document_at}
+use Rattle.proof_scanner.specs.First.{is_free_of_tabs, is_full}
+use Rattle.proof_scanner.proofs.Refusals.PiecesHere.{many_alike}
+
+-- Whether the place is in flow; whether a colon may stand next to what stands before; whether outside flow the line is taken; whether as many flow collections are open as may be; whether no TAB indents what comes; the block collections, and whether a value is awaited.
+pub record Setting : Type 0 where
+  pub in_flow : Bool
+  pub adjacent : Bool
+  pub taken : Bool
+  pub full : Bool
+  pub spaced : Bool
+  pub blocks : List ℕ
+  pub awaits : Bool
+
+abbrev pub setting_of : Account → (separation : List ℕ) → (here : Position) → Setting
+setting_of a separation here = record {
+  in_flow = is_in_flow a.entries;
+  adjacent = is_adjacent (before_past (before_by a.site.before) separation);
+  taken = is_taken a separation;
+  full = is_full a;
+  spaced = is_free_of_tabs a separation;
+  blocks = (site_at_place a here).blocks;
+  awaits = (site_at_place a here).awaits;
+}
+
+-- what comes lies deep enough
+abbrev pub is_deep_at : Setting → Position → (rest : List ℕ) → Bool
+is_deep_at s here rest = not s.in_flow || begins_document_at here rest || nat_le (least_column s.blocks s.awaits) here.col
+
+-- The kind of the piece that a text seems to begin: a plain scalar, where one is looked for, or else what the first character says.
+abbrev pub kind_here : Setting → (column : ℕ) → (rest : List ℕ) → Kind
+kind_here s column [] = nothing
+kind_here s column (c ∷ r) = (if comes_plain s.in_flow s.adjacent column (c ∷ r) then plain_scalar else kind_by c r)
+
+-- ---- like accounts
+
+-- a line that is taken is so at like accounts, and one that is not is not
+same_taken : (broken : Bool) (l m : Line) → LikeLine l m → is_taken_line (line_past_separation false broken l) ≡ is_taken_line (line_past_separation false broken m)
+same_taken b free free i = refl
+same_taken b free taken i = absurd i
+same_taken b free (waits q) i = absurd i
+same_taken b taken free i = absurd i
+same_taken b taken taken i = refl
+same_taken true taken (waits q) i = refl
+same_taken false taken (waits q) i = refl
+same_taken b (waits p) free i = absurd i
+same_taken true (waits p) taken i = refl
+same_taken false (waits p) taken i = refl
+same_taken true (waits p) (waits q) i = refl
+same_taken false (waits p) (waits q) i = refl
+
+pub same_setting : (a b : Account) (separation : List ℕ) (here : Position) → IsLike a b → setting_of a separation here ≡ setting_of b separation here
+same_setting a b separation here like = rw (flow, site, line, many) refl
+  where
+    flow : is_in_flow a.entries ≡ is_in_flow b.entries
+    flow = same_flow a.entries b.entries like.2
+
+    site : a.site ≡ b.site
+    site = like.0
+
+    line : is_taken_line (line_past_separation false (begins_free_line b.site.before separation) a.line) ≡ is_taken_line (line_past_separation false (begins_free_line b.site.before separation) b.line)
+    line = same_taken (begins_free_line b.site.before separation) a.line b.line like.1
+
+    many : length a.entries ≡ length b.entries
+    many = many_alike a.entries b.entries like.2
