@@ -108,7 +108,7 @@ tab_alone b separation here rest why at (failing.may_not_stand (failing.shallow 
 tab_alone b separation here rest why at (failing.may_not_stand (failing.too_deep bracket more e is many)) first tab = absurd (cc (first.has_no_tab, tab))
 tab_alone b separation here rest why at (failing.may_not_stand (failing.dash_in_flow more e gap inside)) first tab = absurd (cc (first.has_no_tab, tab))
 tab_alone b separation here rest why at (failing.may_not_stand (failing.dash_not_free more e gap out line)) first tab = absurd (cc (first.has_no_tab, tab))
-tab_alone b separation here rest why at (failing.may_not_stand (failing.key_on_earlier_line more begin x xs e is are takes had late)) first tab = absurd (cc (first.has_no_tab, tab))
+tab_alone b separation here rest why at (failing.may_not_stand (failing.key_on_earlier_line more begin x xs e is are takes had late)) first tab = absurd (cc (first.0.has_no_tab, tab))
 tab_alone b separation here rest why at (failing.may_not_stand (failing.question_not_free more e gap out line)) first tab = absurd (cc (first.has_no_tab, tab))
 tab_alone b separation here rest why at (failing.may_not_stand (failing.tab_indents own)) first tab = (refl, refl, first)
 tab_alone b separation here rest why at (failing.may_not_stand (failing.tab_after_quoted single piece gap content e is fills goes_on solid own)) first tab = absurd (cc (first.0.has_no_tab, tab))

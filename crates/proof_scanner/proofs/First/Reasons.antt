@@ -40,7 +40,9 @@ use Rattle.proof_scanner.specs.First.{least_here, is_full, IsLookedAt, no_piece_
 use Rattle.proof_scanner.specs.FirstQuoted.{quoted_first, lines_first, closed_first}
 use Rattle.proof_scanner.specs.FirstPlain.{plain_first}
 use Rattle.proof_scanner.specs.FirstBlock.{header_first, block_first}
-use Rattle.proof_scanner.specs.FirstProperty.{tag_first, directive_first}
+use Rattle.proof_scanner.proofs.First.Plain.{one_plain}
+use Rattle.proof_scanner.proofs.First.Block.{BlockReason, headless, fails, one_block}
+use Rattle.proof_scanner.proofs.First.Property.{one_tag, one_directive}
 use Rattle.proof_scanner.proofs.Refusals.PiecesRefused.{no_colon_before, tab_gap}
 use Rattle.proof_scanner.proofs.Refusals.TextsRefused.{first_char}
 use Rattle.proof_scanner.proofs.First.Settings.{Setting, setting_of, is_deep_at, kind_here, same_setting}
@@ -60,12 +62,6 @@ pub data QuotedReason (in_flow : Bool) (least : ℕ) (blocks : List ℕ) (awaits
   tabbed : (single : Bool) (piece gap content : List ℕ) → rest ≡ piece ++ (gap ++ content) → IsQuoted single piece (gap ++ content) → is_separation false gap content ≡ true → is_empty content ≡ false → begins_separation content ≡ false
       → is_indented_by_spaces quoted_scalar blocks awaits gap ≡ false → closed_first single least piece → QuotedReason in_flow least blocks awaits here rest problem.TabInBlockIndentation (position_after (position_after here piece (gap ++ content)) gap content)
 
--- Reasons at `|` or `>` outside flow.
-pub data BlockReason (collection : List ℕ) (here : Position) (rest : List ℕ) : Problem → Position → Type 0 where
-  headless : (style : BlockStyle) (line after : List ℕ) (why : Problem) (at : Position) → rest ≡ indicator_of style ∷ (line ++ after) → is_in_line line ≡ true → headers.ends_line after ≡ true → header_of (indicator_of style ∷ line) ≡ None
-      → (n : IsNoHeader style here line why at) → header_first style here line why at n → BlockReason collection here rest why at
-  fails : (why : Problem) (at : Position) → (n : IsBlockFault collection here rest why at) → block_first collection here rest why at n → BlockReason collection here rest why at
-
 -- a reason at a plain scalar
 abbrev pub PlainReason : Setting → Position → List ℕ → Problem → Position → Type 0
 PlainReason s here rest why at = (n : IsPlainFault s.in_flow s.blocks here rest why at) × plain_first s.in_flow s.blocks here rest why at n
@@ -75,11 +71,11 @@ pub data NameReason (here : Position) : Problem → Position → Type 0 where
   nameless : NameReason here problem.AnchorName here
 
 pub data TagReason (in_flow : Bool) (here : Position) (rest : List ℕ) : Problem → Position → Type 0 where
-  tagless : (more : List ℕ) (why : Problem) → rest ≡ 33 ∷ more → (r : IsTagRefusal in_flow more why) → tag_first in_flow more why r → TagReason in_flow here rest why here
+  tagless : (more : List ℕ) (why : Problem) → rest ≡ 33 ∷ more → IsTagRefusal in_flow more why → TagReason in_flow here rest why here
 
 pub data DirectiveReason (here : Position) (rest : List ℕ) : Problem → Position → Type 0 where
   percent : (here.col == 0) ≡ false → DirectiveReason here rest problem.UnexpectedPercent here
-  undirected : (line next : List ℕ) (why : Problem) (at : Position) → here.col ≡ 0 → rest ≡ 37 ∷ (line ++ next) → has_no_break line ≡ true → directives.ends_line next ≡ true → (r : IsDirectiveRefusal here line (At why at)) → directive_first here line (At why at) r → DirectiveReason here rest why at
+  undirected : (line next : List ℕ) (why : Problem) (at : Position) → here.col ≡ 0 → rest ≡ 37 ∷ (line ++ next) → has_no_break line ≡ true → directives.ends_line next ≡ true → IsDirectiveRefusal here line (At why at) → DirectiveReason here rest why at
 
 -- a reserved indicator
 pub data ReservedReason (here : Position) (rest : List ℕ) : Problem → Position → Type 0 where
@@ -197,10 +193,10 @@ module _ (s : Setting) (here : Position) (rest : List ℕ) where
   none_reason why at (none.backtick more e) f = (nothing, ap (λ r. kind_here s here.col r) e, backtick more e)
   none_reason why at (none.nameless true more e lacks) f = (alias_name, ap (λ r. kind_here s here.col r) e, nameless)
   none_reason why at (none.nameless false more e lacks) f = (anchor_name, ap (λ r. kind_here s here.col r) e, nameless)
-  none_reason why at (none.tagless more reason e r) f = (tag_text, ap (λ r. kind_here s here.col r) e, tagless more reason e r f)
+  none_reason why at (none.tagless more reason e r) f = (tag_text, ap (λ r. kind_here s here.col r) e, tagless more reason e r)
   none_reason why at (none.unquoted single more reason e lacks n) f = quoted_reason single more reason here e (unquoted single more reason e lacks n f)
   none_reason why at (none.headless style line next reason place out e one ends lacks n) f = (block_scalar, ap (λ r. kind_here s here.col r) e ∙ block_kind s here.col style (line ++ next) out, headless style line next reason place e one ends lacks n f)
-  none_reason why at (none.undirected line next reason place col e one ends lacks r) f = (directive_line, ap (λ z. kind_here s here.col z) e, undirected line next reason place col e one ends r f)
+  none_reason why at (none.undirected line next reason place col e one ends lacks r) f = (directive_line, ap (λ z. kind_here s here.col z) e, undirected line next reason place col e one ends r)
 
   lines_reason : (single : Bool) (why : Problem) (at : Position) → AreNotIndented single (least_column s.blocks s.awaits) rest → (n : IsQuotedFault single (least_column s.blocks s.awaits) here rest why at) → lines_first single (least_column s.blocks s.awaits) here rest why at n → OfKind why at
   lines_reason single why at lacks (quoted_lines.by_column body more es cut has solid begins low) f = quoted_reason single (body ++ more) why at cut (lines single why at lacks (quoted_lines.by_column body more es cut has solid begins low) f)
@@ -301,24 +297,10 @@ colon_alone a b like separation more here is out seen apart why at x =
 -- ---- one reason
 
 abbrev pub OneQuoted : Type 0
-OneQuoted = (in_flow : Bool) (least : ℕ) (blocks : List ℕ) (awaits : Bool) (here : Position) (rest : List ℕ) (why1 why2 : Problem) (at1 at2 : Position) → has_no_nul rest ≡ true
+OneQuoted = (in_flow : Bool) (least : ℕ) (blocks : List ℕ) (awaits : Bool) (here : Position) (rest : List ℕ) → has_no_nul rest ≡ true → (why1 why2 : Problem) (at1 at2 : Position)
     → QuotedReason in_flow least blocks awaits here rest why1 at1 → QuotedReason in_flow least blocks awaits here rest why2 at2 → AreSame why1 why2 at1 at2
 
-abbrev pub OnePlain : Type 0
-OnePlain = (in_flow : Bool) (collection : List ℕ) (here : Position) (text : List ℕ) (why1 why2 : Problem) (at1 at2 : Position) → has_no_nul text ≡ true
-    → (n : IsPlainFault in_flow collection here text why1 at1) → plain_first in_flow collection here text why1 at1 n → (m : IsPlainFault in_flow collection here text why2 at2) → plain_first in_flow collection here text why2 at2 m → AreSame why1 why2 at1 at2
-
-abbrev pub OneBlock : Type 0
-OneBlock = (collection : List ℕ) (here : Position) (rest : List ℕ) (why1 why2 : Problem) (at1 at2 : Position) → has_no_nul rest ≡ true → BlockReason collection here rest why1 at1 → BlockReason collection here rest why2 at2 → AreSame why1 why2 at1 at2
-
-abbrev pub OneTag : Type 0
-OneTag = (in_flow : Bool) (text : List ℕ) (why1 why2 : Problem) → (r : IsTagRefusal in_flow text why1) → tag_first in_flow text why1 r → (q : IsTagRefusal in_flow text why2) → tag_first in_flow text why2 q → why1 ≡ why2
-
-abbrev pub OneDirective : Type 0
-OneDirective = (here : Position) (line1 line2 next1 next2 : List ℕ) (f g : Fault) → line1 ++ next1 ≡ line2 ++ next2 → has_no_break line1 ≡ true → has_no_break line2 ≡ true → directives.ends_line next1 ≡ true → directives.ends_line next2 ≡ true
-    → (r : IsDirectiveRefusal here line1 f) → directive_first here line1 f r → (q : IsDirectiveRefusal here line2 g) → directive_first here line2 g q → f ≡ g
-
-module _ (one_quoted : OneQuoted) (one_plain : OnePlain) (one_block : OneBlock) (one_tag : OneTag) (one_directive : OneDirective) where
+module _ (one_quoted : OneQuoted) where
   one_reserved : (here : Position) (rest : List ℕ) (why1 why2 : Problem) (at1 at2 : Position) → ReservedReason here rest why1 at1 → ReservedReason here rest why2 at2 → AreSame why1 why2 at1 at2
   one_reserved here rest why1 why2 at1 at2 (at_sign more e) (at_sign n f) = (refl, refl)
   one_reserved here rest why1 why2 at1 at2 (at_sign more e) (backtick n f) = absurd (cc (ap (begins_with 64) e, ap (begins_with 64) f))
@@ -329,24 +311,18 @@ module _ (one_quoted : OneQuoted) (one_plain : OnePlain) (one_block : OneBlock) 
   one_name here why1 why2 at1 at2 nameless nameless = (refl, refl)
 
   one_refusal : (in_flow : Bool) (here : Position) (rest : List ℕ) (why1 why2 : Problem) (at1 at2 : Position) → TagReason in_flow here rest why1 at1 → TagReason in_flow here rest why2 at2 → AreSame why1 why2 at1 at2
-  one_refusal in_flow here rest why1 why2 at1 at2 (tagless more reason e r f) (tagless n reason2 e2 q g) =
-      let P : List ℕ → Type 0 = λ t. (z : IsTagRefusal in_flow t reason2) × tag_first in_flow t reason2 z in
-      let moved : P more = subst P (tails 33 rest n more e2 e) (q, g) in
-      (one_tag in_flow more reason reason2 r f moved.0 moved.1, refl)
+  one_refusal in_flow here rest why1 why2 at1 at2 (tagless more reason e r) (tagless n reason2 e2 q) = (one_tag in_flow more reason reason2 r (subst (λ t. IsTagRefusal in_flow t reason2) (tails 33 rest n more e2 e) q), refl)
 
   one_line : (here : Position) (rest : List ℕ) (why1 why2 : Problem) (at1 at2 : Position) → DirectiveReason here rest why1 at1 → DirectiveReason here rest why2 at2 → AreSame why1 why2 at1 at2
   one_line here rest why1 why2 at1 at2 (percent col) (percent col2) = (refl, refl)
-  one_line here rest why1 why2 at1 at2 (percent col) (undirected line2 next2 reason2 place2 col2 e2 one2 ends2 q g) = absurd (cc (col, ap (λ n. n == 0) col2))
-  one_line here rest why1 why2 at1 at2 (undirected line next reason place col e one ends r f) (percent col2) = absurd (cc (col2, ap (λ n. n == 0) col))
-  one_line here rest why1 why2 at1 at2 (undirected line next reason place col e one ends r f) (undirected line2 next2 reason2 place2 col2 e2 one2 ends2 q g) =
-      let same : At reason place ≡ At reason2 place2 = one_directive here line line2 next next2 (At reason place) (At reason2 place2) (tails 37 rest (line ++ next) (line2 ++ next2) e e2) one one2 ends ends2 r f q g in
-      let why : reason ≡ reason2 = cc same in
-      let at : place ≡ place2 = cc same in
-      (why, at)
+  one_line here rest why1 why2 at1 at2 (percent col) (undirected line2 next2 reason2 place2 col2 e2 one2 ends2 q) = absurd (cc (col, ap (λ n. n == 0) col2))
+  one_line here rest why1 why2 at1 at2 (undirected line next reason place col e one ends r) (percent col2) = absurd (cc (col2, ap (λ n. n == 0) col))
+  one_line here rest why1 why2 at1 at2 (undirected line next reason place col e one ends r) (undirected line2 next2 reason2 place2 col2 e2 one2 ends2 q) =
+      one_directive here line next line2 next2 (tails 37 rest (line ++ next) (line2 ++ next2) e e2) one ends one2 ends2 reason reason2 place place2 r q
 
   one_in : (k : Kind) (s : Setting) (here : Position) (rest : List ℕ) (why1 why2 : Problem) (at1 at2 : Position) → has_no_nul rest ≡ true → InKind k s here rest why1 at1 → InKind k s here rest why2 at2 → AreSame why1 why2 at1 at2
   one_in nothing s here rest why1 why2 at1 at2 clean r q = one_reserved here rest why1 why2 at1 at2 r q
-  one_in plain_scalar s here rest why1 why2 at1 at2 clean r q = one_plain s.in_flow s.blocks here rest why1 why2 at1 at2 clean r.0 r.1 q.0 q.1
+  one_in plain_scalar s here rest why1 why2 at1 at2 clean r q = one_plain s.in_flow s.blocks here rest why1 why2 at1 at2 r.0 r.1 q.0 q.1
   one_in sequence_opening s here rest why1 why2 at1 at2 clean r q = one_bracket s here rest why1 why2 at1 at2 r q
   one_in sequence_closing s here rest why1 why2 at1 at2 clean r q = one_bracket s here rest why1 why2 at1 at2 r q
   one_in mapping_opening s here rest why1 why2 at1 at2 clean r q = one_bracket s here rest why1 why2 at1 at2 r q
@@ -361,9 +337,9 @@ module _ (one_quoted : OneQuoted) (one_plain : OnePlain) (one_block : OneBlock) 
   one_in alias_name s here rest why1 why2 at1 at2 clean r q = one_name here why1 why2 at1 at2 r q
   one_in anchor_name s here rest why1 why2 at1 at2 clean r q = one_name here why1 why2 at1 at2 r q
   one_in tag_text s here rest why1 why2 at1 at2 clean r q = one_refusal s.in_flow here rest why1 why2 at1 at2 r q
-  one_in in_single_quotes s here rest why1 why2 at1 at2 clean r q = one_quoted s.in_flow (least_column s.blocks s.awaits) s.blocks s.awaits here rest why1 why2 at1 at2 clean r q
-  one_in in_double_quotes s here rest why1 why2 at1 at2 clean r q = one_quoted s.in_flow (least_column s.blocks s.awaits) s.blocks s.awaits here rest why1 why2 at1 at2 clean r q
-  one_in block_scalar s here rest why1 why2 at1 at2 clean r q = one_block s.blocks here rest why1 why2 at1 at2 clean r q
+  one_in in_single_quotes s here rest why1 why2 at1 at2 clean r q = one_quoted s.in_flow (least_column s.blocks s.awaits) s.blocks s.awaits here rest clean why1 why2 at1 at2 r q
+  one_in in_double_quotes s here rest why1 why2 at1 at2 clean r q = one_quoted s.in_flow (least_column s.blocks s.awaits) s.blocks s.awaits here rest clean why1 why2 at1 at2 r q
+  one_in block_scalar s here rest why1 why2 at1 at2 clean r q = one_block s.blocks here rest clean why1 why2 at1 at2 r q
 
   one_of_two : (s : Setting) (here : Position) (rest : List ℕ) (why1 why2 : Problem) (at1 at2 : Position) → has_no_nul rest ≡ true → Reason s here rest why1 at1 → Reason s here rest why2 at2 → AreSame why1 why2 at1 at2
   one_of_two s here rest why1 why2 at1 at2 clean (tab_indents tabs) (tab_indents tabs2) = (refl, refl)

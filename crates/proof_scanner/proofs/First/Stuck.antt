@@ -23,6 +23,8 @@ use Rattle.proof_scanner.proofs.Refusals.OtherRows.{With, StepAt, IsClearAfter}
 use Rattle.proof_scanner.proofs.Refusals.StandsRefused.{no_colon_here}
 use Rattle.proof_scanner.proofs.Refusals.NoRows.{keyless_step, no_step_stands}
 use Rattle.proof_scanner.proofs.Refusals.KeysThatWait.{Together, Apart, together_keeps, apart_keeps, first_together, not_below}
+use Rattle.defs_token.specs.Indentation.{colon_may_precede}
+use Rattle.proof_scanner.proofs.First.Reasons.{OneQuoted, one_reason, colon_alone}
 use Rattle.proof_scanner.proofs.First.Ways.{like_sym, GivesUp, stays, given_up, gives_up_like, LeadsBy, Same, Way, way_of, strict_way, way_but_for_key, GoesOn, Meet, same_place, second_on, first_on, KeepsOn, meet}
 use Rattle.proof_scanner.proofs.First.Places.{Stands, clean_way, clean_left, one_cut, gives_up_site, step_of, clear, fails_before}
 
@@ -49,6 +51,7 @@ record KeylessAt (text : List ℕ) (here : Position) : Type 0 where
   is_line_taken : is_taken account separation ≡ true
   has_none : HasNoKey text separation (58 ∷ more) here
   looked : IsLookedAt account separation here (58 ∷ more)
+  has_no_tab_after : colon_may_precede more ≡ true
 
 data Claim (text : List ℕ) : Problem → Position → Type 0 where
   failing : {why : Problem} {at : Position} → FailsAt text why at → Claim text why at
@@ -57,7 +60,7 @@ data Claim (text : List ℕ) : Problem → Position → Type 0 where
 claim_of : (text : List ℕ) (why : Problem) (at : Position) → IsStuck text why at → Claim text why at
 claim_of text why at (fails a separation rest why2 here at2 place some solid f) =
     failing (record { account = a; separation = separation; rest = rest; here = here; way = way_of text (separation ++ rest) a place.begins; stands = record { is_filled = place.is_filled; is_solid = solid; goes_on = some; is_here = place.is_here }; first = f })
-claim_of text why at (no_key a separation more here place is out line none looked) = keyless (record { account = a; separation = separation; more = more; place = place; is_value = is; is_outside = out; is_line_taken = line; has_none = none; looked = looked })
+claim_of text why at (no_key a separation more here place is out line none looked apart) = keyless (record { account = a; separation = separation; more = more; place = place; is_value = is; is_outside = out; is_line_taken = line; has_none = none; looked = looked; has_no_tab_after = apart })
 claim_of text why at (key_waits a separation rest why2 begin here at2 g inside filled here_is late some solid f) =
     failing (record { account = a; separation = separation; rest = rest; here = here; way = way_but_for_key text (separation ++ rest) begin a g; stands = record { is_filled = filled; is_solid = solid; goes_on = some; is_here = here_is }; first = f })
 
@@ -123,18 +126,7 @@ keeps_apart text = record {
 
 -- ---- two claims
 
--- what is shown of two reasons at one place
-abbrev pub OneReason : Type 0
-OneReason =
-    (a b : Account) → IsLike a b → (separation : List ℕ) (here : Position) (rest : List ℕ) → has_no_nul rest ≡ true → begins_separation rest ≡ false → is_empty rest ≡ false → (why1 why2 : Problem) (at1 at2 : Position)
-    → FailsFirst a separation here rest why1 at1 → FailsFirst b separation here rest why2 at2 → (why1 ≡ why2) × (at1 ≡ at2)
-
-abbrev pub NoReason : Type 0
-NoReason =
-    (a b : Account) → IsLike a b → (separation : List ℕ) (here : Position) (more : List ℕ) → has_no_nul (58 ∷ more) ≡ true → is_value_here a separation more ≡ true → is_in_flow a.entries ≡ false → is_taken a separation ≡ true → IsLookedAt a separation here (58 ∷ more)
-    → (why : Problem) (at : Position) → FailsFirst b separation here (58 ∷ more) why at → ⊥
-
-module _ (one_reason : OneReason) (no_reason : NoReason) (text : List ℕ) where
+module _ (one_quoted : OneQuoted) (text : List ℕ) where
   failing_once : (why1 why2 : Problem) (at1 at2 : Position) → FailsAt text why1 at1 → FailsAt text why2 at2 → (why1 ≡ why2) × (at1 ≡ at2)
   failing_once why1 why2 at1 at2 f g = by (meet GivesUp GivesUp Nothing keeps_nothing f.way.steps g.way.steps (f.separation ++ f.rest) (g.separation ++ g.rest) first_account first_account f.account g.account itself tt f.way.leads g.way.leads (f.way.spells ∙ sym g.way.spells) clean)
     where
@@ -150,7 +142,7 @@ module _ (one_reason : OneReason) (no_reason : NoReason) (text : List ℕ) where
       by : Meet GivesUp GivesUp Nothing f.account g.account (f.separation ++ f.rest) (g.separation ++ g.rest) → (why1 ≡ why2) × (at1 ≡ at2)
       by (same_place like r e) =
           let cut = one_cut f.account g.account f.separation f.rest g.separation g.rest f.here g.here f.stands g.stands like clean1 e in
-          one_reason f.account g.account like f.separation f.here f.rest (no_nul_after f.separation f.rest clean1) f.stands.is_solid f.stands.goes_on why1 why2 at1 at2 f.first
+          one_reason one_quoted f.account g.account like f.separation f.here f.rest (no_nul_after f.separation f.rest clean1) why1 why2 at1 at2 f.first
           (subst (λ s. FailsFirst g.account s f.here f.rest why2 at2) (sym cut.0) (subst (λ r. FailsFirst g.account g.separation f.here r why2 at2) (sym cut.1) (subst (λ h. FailsFirst g.account g.separation h g.rest why2 at2) (sym cut.2) g.first)))
       by (second_on n) = fails_before GivesUp gives_up_site Nothing f.account g.account f.separation f.rest g.separation g.rest f.here g.here f.stands g.stands n clean1 why1 why2 at1 at2 f.first g.first
       by (first_on n) =
@@ -225,7 +217,7 @@ module _ (one_reason : OneReason) (no_reason : NoReason) (text : List ℕ) where
       by : Meet GivesUp Same (BeginsOrApart text) f.account k.account after1 after2 → ⊥
       by (same_place like r e) =
           let cut = one_cut f.account k.account f.separation f.rest k.separation (58 ∷ k.more) f.here here f.stands (stands_keyless here k) like clean1 e in
-          no_reason k.account f.account (like_sym f.account k.account like) k.separation here k.more (no_nul_after k.separation (58 ∷ k.more) clean2) k.is_value k.is_outside k.is_line_taken k.looked why at
+          colon_alone k.account f.account (like_sym f.account k.account like) k.separation k.more here k.is_value k.is_outside k.looked k.has_no_tab_after why at
           (subst (λ s. FailsFirst f.account s here (58 ∷ k.more) why at) cut.0 (subst (λ r. FailsFirst f.account f.separation here r why at) cut.1 (subst (λ h. FailsFirst f.account f.separation h f.rest why at) cut.2 f.first)))
       by (second_on n) =
           no_step_stands f.account f.separation f.rest f.here (step_of Same (BeginsOrApart text) f.account k.account f.separation f.rest k.separation (58 ∷ k.more) f.here f.stands n clean1)
