@@ -1,4 +1,4 @@
--- Places where no row of the text goes on, by the definitions alone.
+-- Places where no row of the text goes on, by the definitions alone; of those where a text is stuck there is one.
 use Rattle.std.specs.Prelude.{◌≡◌, ℕ, List, false}
 use Rattle.defs_text.specs.Position.{Position}
 use Rattle.defs_text.specs.Text.{is_empty}
@@ -19,3 +19,7 @@ FailingPlacesHaveNoRow =
 -- `texts_with_a_row_are_not_stuck`
 abbrev pub TextsWithARowAreNotStuck : Type 0
 TextsWithARowAreNotStuck = (text : List ℕ) (why : Problem) (at : Position) (r : Row) → HasRow text r → IsStuck text why at → ⊥
+
+-- `texts_are_stuck_once`
+abbrev pub TextsAreStuckOnce : Type 0
+TextsAreStuckOnce = (text : List ℕ) (why1 why2 : Problem) (at1 at2 : Position) → IsStuck text why1 at1 → IsStuck text why2 at2 → (why1 ≡ why2) × (at1 ≡ at2)

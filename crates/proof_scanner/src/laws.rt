@@ -5,7 +5,7 @@ ghost use Rattle.proof_scanner.specs.Laws.{FirstTokensAreACut, PositionsAreInThe
 ghost use Rattle.proof_scanner.specs.PiecesRead.{PiecesAreRead};
 ghost use Rattle.proof_scanner.specs.StandsInRow.{TokensAreOfARow};
 ghost use Rattle.proof_scanner.specs.Goes.{IsComplete};
-ghost use Rattle.proof_scanner.specs.Certain.{FailingPlacesHaveNoRow, TextsWithARowAreNotStuck};
+ghost use Rattle.proof_scanner.specs.Certain.{FailingPlacesHaveNoRow, TextsAreStuckOnce, TextsWithARowAreNotStuck};
 ghost use Rattle.proof_scanner.specs.Never.{AnchorIndentationNeverComes};
 ghost use Rattle.proof_scanner.specs.Told.{RefusedTextsAreStuck};
 
@@ -74,6 +74,13 @@ pub fn failing_places_have_no_row()
 /// A text that has a row is stuck nowhere.
 pub fn texts_with_a_row_are_not_stuck()
     ensures { TextsWithARowAreNotStuck }
+{}
+
+/// A text is stuck at one place, with one kind of fault and one position of it: whoever says so of a text, by whatever
+/// beginning of a row, says the same.
+#[tactic(auto, using(crate::proofs::First::Stuck::stuck_once))]
+pub fn texts_are_stuck_once()
+    ensures { TextsAreStuckOnce }
 {}
 
 /// The scanner's model refuses no text without NUL for an anchor or a tag in the first column before an entry there.

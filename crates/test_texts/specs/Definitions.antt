@@ -24,7 +24,9 @@ pub use Rattle.yaml_rust2.specs.QuotedText.{IsQuoted}
 pub use Rattle.yaml_rust2.specs.ReadAs.{ReadAs}
 pub use Rattle.yaml_rust2.specs.Row.{HasRow, IsRead}
 pub use Rattle.yaml_rust2.specs.Rowless.{HasNoRow}
-pub use Rattle.yaml_rust2.specs.Stuck.{Fails, IsStuck, MayNotStand}
+pub use Rattle.yaml_rust2.specs.Failing.{Fails, MayNotStand}
+pub use Rattle.yaml_rust2.specs.First.{comes_first, FailsFirst}
+pub use Rattle.yaml_rust2.specs.Stuck.{IsStuck}
 pub use Rattle.yaml_rust2.specs.Told.{is_told}
 pub use Rattle.yaml_rust2.specs.Toks.{toks}
 pub use Rattle.yaml_rust2.specs.ValidTree.{IsValid}

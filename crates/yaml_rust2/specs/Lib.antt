@@ -79,6 +79,11 @@ pub use Rattle.yaml_parser.specs.Shown
 pub use Rattle.proof_scanner.specs.Faults
 pub use Rattle.proof_scanner.specs.Positions
 pub use Rattle.proof_scanner.specs.Certain
+pub use Rattle.proof_scanner.specs.Failing
+pub use Rattle.proof_scanner.specs.First
+pub use Rattle.proof_scanner.specs.FirstBlock
+pub use Rattle.proof_scanner.specs.FirstPlain
+pub use Rattle.proof_scanner.specs.FirstQuoted
 pub use Rattle.proof_scanner.specs.NoPiece
 pub use Rattle.proof_scanner.specs.Stuck
 pub use Rattle.proof_scanner.specs.Told

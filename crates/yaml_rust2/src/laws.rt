@@ -105,6 +105,7 @@ pub use proof_scanner::laws::first_tokens_are_a_cut;
 pub use proof_scanner::laws::lexing_functions_read_pieces;
 pub use proof_scanner::laws::refused_texts_are_stuck;
 pub use proof_scanner::laws::shown_faults_stand_in_the_text;
+pub use proof_scanner::laws::texts_are_stuck_once;
 pub use proof_scanner::laws::texts_with_a_row_are_not_stuck;
 pub use proof_scanner::laws::texts_with_a_row_are_read;
 pub use proof_scanner::laws::tokens_are_a_cut;
