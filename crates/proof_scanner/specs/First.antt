@@ -1,6 +1,7 @@
 -- What is wrong at a place first: the reasons are tried in one order, and those that are tried before one do not hold.
-use Rattle.std.specs.Prelude.{◌≡◌, ℕ, List, Bool, true, false, ◌||◌, not, nat_le, length}
+use Rattle.std.specs.Prelude.{◌≡◌, ℕ, List, ◌++◌, Bool, true, false, ◌||◌, not, nat_le, length}
 use Rattle.defs_text.specs.Position.{Position}
+use Rattle.defs_text.specs.FlowScalar.{begins_with}
 use Rattle.defs_token.specs.Indentation.{least_column, is_indented_by_spaces}
 use Rattle.defs_token.specs.RowAccount.{Account, is_in_flow}
 use Rattle.yaml_tokens.specs.declared.problem.Fault.TheVariants.{At}
@@ -54,7 +55,7 @@ no_piece_first in_flow least here rest why at (none.undirected line next reason 
 abbrev pub followed_first : (in_flow : Bool) (least : ℕ) (taken full : Bool) (here : Position) (rest : List ℕ) (why : Problem) (at : Position) → IsFollowed in_flow here rest why at → Type 0
 followed_first in_flow least taken full here rest why at (none.glued c more e is begins) = Unit {0}
 followed_first in_flow least taken full here rest why at (none.glued_to_quoted single piece more e is begins) = closed_first single least piece
-followed_first in_flow least taken full here rest why at (none.after_quoted single piece more passed content e is ends on solid) = closed_first single least piece
+followed_first in_flow least taken full here rest why at (none.after_quoted single piece more passed content e is ends on solid) = closed_first single least piece × (begins_with 35 more ≡ false)
 followed_first in_flow least taken full here rest why at (none.after_end more passed content col e gap on ends solid) = Unit {0}
 followed_first in_flow least taken full here rest why at (none.tab_after_dash more passed content out e gap on tab begins) = Unit {0}
 followed_first in_flow least taken full here rest why at (none.no_space more passed content e gap on begins ends) = Unit {0}
@@ -70,7 +71,7 @@ stands_first a separation here rest why at (failing.dash_not_free more e gap out
 stands_first a separation here rest why at (failing.key_on_earlier_line more begin x xs e is are takes had late) = IsLookedAt a separation here rest
 stands_first a separation here rest why at (failing.question_not_free more e gap out line) = IsLookedAt a separation here rest
 stands_first a separation here rest why at (failing.tab_indents tab) = Unit {0}
-stands_first a separation here rest why at (failing.tab_after_quoted single piece gap content e is fills goes_on solid tab) = IsLookedAt a separation here rest × closed_first single (least_here a here) piece
+stands_first a separation here rest why at (failing.tab_after_quoted single piece gap content e is fills goes_on solid tab) = IsLookedAt a separation here rest × closed_first single (least_here a here) piece × (begins_with 35 (gap ++ content) ≡ false)
 
 -- all
 abbrev pub comes_first : (a : Account) (separation : List ℕ) (here : Position) (rest : List ℕ) (why : Problem) (at : Position) → Fails a separation here rest why at → Type 0

@@ -74,6 +74,11 @@ module _ (single : Bool) (ctx : Context) (start : Position) where
   pub begins : (c : ℕ) (a : List ℕ) (p : Position) (t : Folded) → (is_break c || is_blank c) ≡ false → Begun (c ∷ a) p t
   begins c a p t g = begun_by c a p t (at_marker p.col (c ∷ a)) (nat_lt (p.col + 1) ctx.indent) refl refl g
 
+  -- where a document marker stands it is refused for that
+  pub begins_marked : (c : ℕ) (a : List ℕ) (p : Position) (t : Folded) → (is_break c || is_blank c) ≡ false → ((p.col == 0) && is_document_marker (c ∷ a)) ≡ true → scan (c ∷ a) gap p t ≡ Err (At problem.QuotedDocumentMarker start)
+  unfolding refused
+  begins_marked c a p t g h = let e : at_marker p.col (c ∷ a) ≡ true = same_marker p.col (c ∷ a) ∙ h in rw (g, e) refl
+
   pub may_stand : (a : List ℕ) (p : Position) → (p.col == 0) ≡ false → nat_lt (p.col + 1) ctx.indent ≡ false → refused ctx start a p ≡ Ok tt
   unfolding refused at_marker
   may_stand a p e f = rw (e, f) refl
@@ -129,7 +134,7 @@ module _ (single : Bool) (ctx : Context) (start : Position) where
       → has_marker (c ∷ b) r ≡ has_marker (drop k b) r → list_all is_some (c ∷ b) ≡ list_all is_some (drop k b) → Step c b r p t (spelled (content code) k)
   content_step c b r k code p t g z same full = content_by c b r k code p t z same full (begins c (b ++ r) p t g)
 
-  white_stands : (c : ℕ) (a : List ℕ) (col : ℕ) → (is_break c || is_blank c) ≡ true → ((col == 0) && is_document_marker (c ∷ a)) ≡ false
+  pub white_stands : (c : ℕ) (a : List ℕ) (col : ℕ) → (is_break c || is_blank c) ≡ true → ((col == 0) && is_document_marker (c ∷ a)) ≡ false
   white_stands c a col g = let w = white c g in rw (no_marker c a w.dash w.point) (and_false (col == 0))
 
   blank_by : (c : ℕ) (b r : List ℕ) (p : Position) (t : Folded) (tab : Bool) → (t.leading && (c == 9) && nat_lt (p.col + 1) ctx.indent) ≡ tab → is_break c ≡ false → is_blank c ≡ true → (c == 0) ≡ false
