@@ -1,4 +1,5 @@
 pub mod Complete
 pub mod Cut
+pub mod First
 pub mod Refusals
 pub mod Sound

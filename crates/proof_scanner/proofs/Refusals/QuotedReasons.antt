@@ -169,7 +169,7 @@ module _ (single : Bool) (least : ℕ) (start : Position) where
         let taken : elements (element_of single) e.further (take e.further b ++ body) ≡ elements (element_of single) 0 body = ap (λ n. elements (element_of single) n (take e.further b ++ body)) (sym own.fits) ∙ after_own (element_of single) (take e.further b) body in
         rw (own.same body rest h, taken, i) refl
 
-    place : (p : Position) (body rest : List ℕ) → drop e.further b ≡ body ++ rest → position_after p (before body) rest ≡ position_after (past_it p) body rest
+    pub place : (p : Position) (body rest : List ℕ) → drop e.further b ≡ body ++ rest → position_after p (before body) rest ≡ position_after (past_it p) body rest
     place p body rest h = position_append p (c ∷ take e.further b) body rest ∙ ap (λ x. position_after (position_after p (c ∷ take e.further b) x) body rest) (sym h)
 
     -- the column after it is that of its position, where it matters
