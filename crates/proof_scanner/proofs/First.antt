@@ -3,6 +3,8 @@ pub mod Indicators
 pub mod Places
 pub mod Plain
 pub mod Property
+pub mod Quoted
+pub mod QuotedCuts
 pub mod Reasons
 pub mod Settings
 pub mod Stuck

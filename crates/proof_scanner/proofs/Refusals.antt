@@ -13,7 +13,9 @@ pub mod PiecesRefused
 pub mod Places
 pub mod Plains
 pub mod PlainsRefused
+pub mod QuotedElements
 pub mod QuotedLines
+pub mod QuotedReasons
 pub mod Quotes
 pub mod Refusals
 pub mod Rolled

@@ -1,7 +1,8 @@
 -- What is wrong at a place first: the reasons are tried in one order, and those that are tried before one do not hold.
-use Rattle.std.specs.Prelude.{◌≡◌, ℕ, List, [], Bool, true, false, ◌&&◌, ◌||◌, not, nat_le, length, codes}
+use Rattle.std.specs.Prelude.{◌≡◌, ℕ, List, [], ◌++◌, Bool, true, false, ◌&&◌, ◌||◌, not, nat_le, length, codes}
 use Rattle.defs_text.specs.Classes.{is_one_of}
 use Rattle.defs_text.specs.Position.{Position}
+use Rattle.defs_text.specs.FlowScalar.{begins_with}
 use Rattle.defs_token.specs.Piece.{begins_with_space_or_break}
 use Rattle.defs_token.specs.Indentation.{follows_plain, least_column, is_indented_by_spaces, has_tab_before_piece, colon_may_precede}
 use Rattle.defs_token.specs.RowAccount.{Account, is_in_flow}
@@ -63,7 +64,7 @@ abbrev pub followed_first : (in_flow : Bool) (least : ℕ) (taken full : Bool) (
 -- too many flow collections are told before a comment right after a bracket
 followed_first in_flow least taken full here rest why at (none.glued c more e is begins) = (opens c && full) ≡ false
 followed_first in_flow least taken full here rest why at (none.glued_to_quoted single piece more e is begins) = closed_first single least piece
-followed_first in_flow least taken full here rest why at (none.after_quoted single piece more passed content e is ends on solid) = closed_first single least piece
+followed_first in_flow least taken full here rest why at (none.after_quoted single piece more passed content e is ends on solid) = closed_first single least piece × (begins_with 35 more ≡ false)
 followed_first in_flow least taken full here rest why at (none.after_end more passed content col e gap on ends solid) = Unit {0}
 followed_first in_flow least taken full here rest why at (none.tab_after_dash more passed content out e gap on tab begins) = taken ≡ false
 -- A TAB right after a `?` stands where a space or a break should; where one of these stands, the first TAB outside comments is told.
@@ -81,7 +82,7 @@ stands_first a separation here rest why at (failing.dash_not_free more e gap out
 stands_first a separation here rest why at (failing.key_on_earlier_line more begin x xs e is are takes had late) = IsLookedAt a separation here rest × (colon_may_precede more ≡ true)
 stands_first a separation here rest why at (failing.question_not_free more e gap out line) = IsLookedAt a separation here rest
 stands_first a separation here rest why at (failing.tab_indents tab) = follows_plain a.site.before separation ≡ false
-stands_first a separation here rest why at (failing.tab_after_quoted single piece gap content e is fills goes_on solid tab) = IsLookedAt a separation here rest × closed_first single (least_here a here) piece
+stands_first a separation here rest why at (failing.tab_after_quoted single piece gap content e is fills goes_on solid tab) = IsLookedAt a separation here rest × closed_first single (least_here a here) piece × (begins_with 35 (gap ++ content) ≡ false)
 
 -- all
 abbrev pub comes_first : (a : Account) (separation : List ℕ) (here : Position) (rest : List ℕ) (why : Problem) (at : Position) → Fails a separation here rest why at → Type 0

@@ -77,10 +77,10 @@ module _ (single : Bool) (ctx : Context) (start : Position) where
 
   by_step : (c : ℕ) (b r : List ℕ) (s : Spelled) (es : List Element) (m : Mode) (p : Position) (t : Folded) → element_of single c b ≡ Some s → elements (element_of single) s.further b ≡ Some es → Ready single t m
       → Passes s.further b r → Step single ctx start c b r p t s → Passed single ctx start (scan single ctx start (c ∷ (b ++ r)) m p t) (c ∷ b) r p.col (after_elements (s.element ∷ es) t)
-  by_step c b r s es m p t h k ready others (steps n q after full none marks is) =
+  by_step c b r s es m p t h k ready others (steps n q at after full none marks is) =
       passed_on single ctx start _ _ (c ∷ b) (drop s.further b) r p.col q.col _ (from_gap c b (b ++ r) s m p t h ready ∙ is) (rw none marks) (others es n q (after_element s.element t) k after)
   by_step c b r s es m p t h k ready others (is_marked e f) = met_marker (rw e refl) (from_gap c b (b ++ r) s m p t h ready ∙ f)
-  by_step c b r s es m p t h k ready others (is_shallow e) = was_shallow (shallow_on ctx start _ _ (from_gap c b (b ++ r) s m p t h ready) e)
+  by_step c b r s es m p t h k ready others (is_shallow low e) = was_shallow (shallow_on ctx start _ _ (from_gap c b (b ++ r) s m p t h ready) e)
 
   by_elements : (c : ℕ) (b r : List ℕ) (s : Spelled) (o : Option (List Element)) (es : List Element) (m : Mode) (p : Position) (t : Folded) → element_of single c b ≡ Some s → elements (element_of single) s.further b ≡ o → put_before s.element o ≡ Some es
       → Ready single t m → Passes s.further b r → Step single ctx start c b r p t s → Passed single ctx start (scan single ctx start (c ∷ (b ++ r)) m p t) (c ∷ b) r p.col (after_elements es t)

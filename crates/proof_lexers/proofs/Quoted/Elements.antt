@@ -16,18 +16,16 @@ use Rattle.model_scanner.specs.Folding.{Folded, with_char, with_escaped_break, j
 use Rattle.model_scanner.specs.Quoted.{inside, after, digits_from, Escape, escape_of}
 use Rattle.model_scanner.proofs.QuotedLemmas.{named_char, named_code, digit_turn, coded}
 use Rattle.proof_lexers.specs.QuotedScan.{element_of, is_some, has_marker, by_line}
+use Rattle.proof_lexers.specs.HeaderEnds.{along}
 use Rattle.proof_lexers.proofs.Bridges.{same_break, same_digit, same_code, same_escape, and_false}
 use Rattle.proof_lexers.proofs.Quoted.Turns.{feed_is_no_marker, after_escaped, scan, Begun, begun, marked, shallow, begins, Taken, Step, steps, is_marked, is_shallow, StepOf, spelled, content_step, itself_step}
 
 -- ---- single quotes
 
 module _ (ctx : Context) (start : Position) where
-  doubled_taken : (a : List ℕ) (p : Position) (u : Folded) → Taken true ctx start (scan true ctx start (39 ∷ 39 ∷ a) inside p u) a p.col u 39
+  doubled_taken : (a : List ℕ) (p : Position) (u : Folded) → Taken true ctx start (scan true ctx start (39 ∷ 39 ∷ a) inside p u) a p (39 ∷ 39 ∷ []) u 39
   unfolding is_break is_blank
-  doubled_taken a p u = record { position = past (past p); more = 1; col_is = two p.col; is = refl }
-    where
-      two : (n : ℕ) → n + 1 + 1 ≡ n + (1 + 1)
-      two n = omega arith
+  doubled_taken a p u = refl
 
   doubled_step : (b r : List ℕ) (p : Position) (t : Folded) → Step true ctx start 39 (39 ∷ b) r p t (spelled (content 39) 1)
   unfolding is_break is_blank classes.is_break
@@ -73,34 +71,19 @@ module _ (ctx : Context) (start : Position) where
   coded_scan n value a p u = digits_from false ctx start n value a p u
 
   -- The digits of a code were taken.
-  record Counted (n value : ℕ) (b r : List ℕ) (p : Position) (u : Folded) (code : ℕ) : Type 0 where
-    position : Position
-    col_is : position.col ≡ p.col + n
-    is : coded_scan n value (b ++ r) p u ≡ scan false ctx start (drop n b ++ r) inside position (with_char code u)
-
-  more_counted : (n value c code : ℕ) (b r : List ℕ) (p : Position) (u : Folded) → is_hex c ≡ true → Counted n (value * 16 + digit_value c) b r (past p) u code → Counted (suc n) value (c ∷ b) r p u code
-  more_counted n value c code b r p u h z = record {
-    position = z.position;
-    col_is = z.col_is ∙ next p.col n;
-    is = digit_turn false ctx start n value c (c ∷ (b ++ r)) (b ++ r) p u h refl ∙ z.is;
-  }
-    where
-      next : (k m : ℕ) → (k + 1) + m ≡ k + suc m
-      next k m = omega arith
+  abbrev Counted : (n value : ℕ) (b r : List ℕ) (p : Position) (u : Folded) (code : ℕ) → Type 0
+  Counted n value b r p u code = coded_scan n value (b ++ r) p u ≡ scan false ctx start (drop n b ++ r) inside (along (take n b) p) (with_char code u)
 
   counted : (n value code : ℕ) (b r : List ℕ) (p : Position) (u : Folded) → (length (take n b) == n) ≡ true → hexadecimal value (take n b) ≡ Some code → is_character_code code ≡ true → Counted n value b r p u code
   counted zero value code b r p u many h valid =
       let same : value ≡ code = cc in
-      record { position = p; col_is = none p.col; is = rw same (coded false ctx start code (b ++ r) p u (rw (same_code code) valid)) }
-    where
-      none : (k : ℕ) → k ≡ k + zero
-      none k = omega arith
+      rw same (coded false ctx start code (b ++ r) p u (rw (same_code code) valid))
   counted (suc n) value code [] r p u many h valid = absurd (none_of_some n many)
   counted (suc n) value code (c ∷ b) r p u many h valid = by (is_digit c 16) refl h (λ more. counted n (value * 16 + digit_value c) code b r (past p) u (fewer (length (take n b)) n many) more valid)
     where
       by : (digit : Bool) → is_digit c 16 ≡ digit → (if digit then hexadecimal (value * 16 + digit_value c) (take n b) else None) ≡ Some code
           → (hexadecimal (value * 16 + digit_value c) (take n b) ≡ Some code → Counted n (value * 16 + digit_value c) b r (past p) u code) → Counted (suc n) value (c ∷ b) r p u code
-      by true e more others = more_counted n value c code b r p u (rw (same_digit c) e) (others more)
+      by true e more others = digit_turn false ctx start n value c (c ∷ (b ++ r)) (b ++ r) p u (rw (same_digit c) e) refl ∙ others more
       by false e more others = cc
 
   -- digits are no breaks
@@ -120,20 +103,14 @@ module _ (ctx : Context) (start : Position) where
 
   -- ---- an escape
 
-  named_taken : (d code : ℕ) (a : List ℕ) (p : Position) (u : Folded) → is_break d ≡ false → escape_of d ≡ Escape.char code → Taken false ctx start (scan false ctx start (92 ∷ d ∷ a) inside p u) a p.col u code
+  named_taken : (d code : ℕ) (a : List ℕ) (p : Position) (u : Folded) → is_break d ≡ false → escape_of d ≡ Escape.char code → Taken false ctx start (scan false ctx start (92 ∷ d ∷ a) inside p u) a p (92 ∷ d ∷ []) u code
   unfolding is_break is_blank
-  named_taken d code a p u e f = record { position = past (past p); more = 1; col_is = two p.col; is = rw e (named_char false ctx start d code (d ∷ a) a (past p) u f refl) }
-    where
-      two : (n : ℕ) → n + 1 + 1 ≡ n + (1 + 1)
-      two n = omega arith
+  named_taken d code a p u e f = rw e (named_char false ctx start d code (d ∷ a) a (past p) u f refl)
 
   coded_taken : (d n code : ℕ) (b r : List ℕ) (p : Position) (u : Folded) → is_break d ≡ false → escape_of d ≡ Escape.code n → Counted (suc n) 0 b r (past (past p)) u code
-      → Taken false ctx start (scan false ctx start (92 ∷ d ∷ (b ++ r)) inside p u) (drop (suc n) b ++ r) p.col u code
+      → Taken false ctx start (scan false ctx start (92 ∷ d ∷ (b ++ r)) inside p u) (drop (suc n) b ++ r) p (92 ∷ d ∷ take (suc n) b) u code
   unfolding is_break is_blank
-  coded_taken d n code b r p u e f z = record { position = z.position; more = suc (suc n); col_is = z.col_is ∙ far p.col n; is = rw e (named_code false ctx start d n (d ∷ (b ++ r)) (b ++ r) (past p) u f refl) ∙ z.is }
-    where
-      far : (k m : ℕ) → (k + 1 + 1) + suc m ≡ k + (suc (suc m) + 1)
-      far k m = omega arith
+  coded_taken d n code b r p u e f z = rw e (named_code false ctx start d n (d ∷ (b ++ r)) (b ++ r) (past p) u f refl) ∙ z
 
   -- nor are they NUL
   hex_some : (c : ℕ) → is_digit c 16 ≡ true → (c == 0) ≡ false
@@ -202,9 +179,9 @@ module _ (ctx : Context) (start : Position) where
       → has_marker (d ∷ b) r ≡ (is_document_marker (drop k b ++ r) || has_marker (drop k b) r) → list_all is_some (d ∷ b) ≡ list_all is_some (drop k b)
       → Begun false ctx start (92 ∷ d ∷ (b ++ r)) p t → Step false ctx start 92 (d ∷ b) r p t (spelled escaped_break (suc k))
   unfolding classes.is_break
-  broken_by d b r k p q t is marks full (begun none deep e) = steps after (past_break q) (after_escaped refl refl refl) full none marks (e ∙ is)
+  broken_by d b r k p q t is marks full (begun none deep e) = steps after (past_break q) tt (after_escaped refl refl refl) full none marks (e ∙ is)
   broken_by d b r k p q t is marks full (marked e f) = is_marked e f
-  broken_by d b r k p q t is marks full (shallow e f) = is_shallow (by_line p e f)
+  broken_by d b r k p q t is marks full (shallow e f) = is_shallow e (by_line p e f)
 
   lone_broken : (d : ℕ) (b r : List ℕ) (p : Position) (u : Folded) → is_break d ≡ true → ((d == 13) && (slice_index (b ++ r) 0 == 10)) ≡ false
       → scan false ctx start (92 ∷ d ∷ (b ++ r)) inside p u ≡ scan false ctx start (b ++ r) after (past_break (past p)) (with_escaped_break u)

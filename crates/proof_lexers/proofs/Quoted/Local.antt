@@ -1,16 +1,17 @@
 -- What an element of a body is depends on its own characters alone, and on whether a CR ends a line alone.
-use Rattle.std.proofs.Common.{◌≡◌, ℕ, zero, suc, List, [], ◌∷◌, ◌++◌, Bool, true, false, ◌&&◌, ◌==◌, if◌then◌else◌, Option, Some, None, refl, ap, ◌∙◌, take, drop, length}
+use Rattle.std.proofs.Common.{◌≡◌, ℕ, zero, suc, ◌≤◌, List, [], ◌∷◌, ◌++◌, Bool, true, false, ◌&&◌, ◌==◌, if◌then◌else◌, Option, Some, None, refl, ap, ◌∙◌, arith, take, drop, length}
 use Rattle.std.proofs.lemmas.Bool.{eqb-true}
-use Rattle.std.proofs.lemmas.List.{take_at}
+use Rattle.std.proofs.lemmas.List.{take_at, take-append-le, length-take}
 use Rattle.defs_text.specs.Classes as classes
 use Rattle.defs_text.specs.FlowScalar.{content, line_break, escaped_break, Spelled, break_further, plain_element, single_quoted_element, double_quoted_element, begins_with, lookup, escapes, numeric_escapes, hexadecimal, is_character_code, numbered, numeric_escape, escape_by, escape, elements}
 use Rattle.proof_lexers.specs.QuotedScan.{element_of}
 use Rattle.proof_lexers.proofs.Quoted.Turns.{spelled}
 
--- The characters that belong to what a function finds at a text's start are there, and it finds it too where the text is cut after them.
+-- The characters that belong to what a function finds at a text's start are there, and it finds it too where the text is cut after them, or goes on, if not with a line feed.
 pub record Local (at : List ℕ → Option Spelled) (b : List ℕ) (s : Spelled) : Type 0 where
   pub fits : length (take s.further b) ≡ s.further
   pub same : (x y : List ℕ) → drop s.further b ≡ x ++ y → at (take s.further b ++ x) ≡ Some s
+  pub onward : (r : List ℕ) → begins_with 10 r ≡ false → at (b ++ r) ≡ Some s
 
 abbrev pub LocalOf : (List ℕ → Option Spelled) → List ℕ → Option Spelled → Type 0
 LocalOf at b None = Unit {0}
@@ -39,11 +40,21 @@ break_fits c (d ∷ b) = by ((c == 13) && (d == 10))
     by true = refl
     by false = refl
 
+break_onward : (c : ℕ) (b r : List ℕ) → begins_with 10 r ≡ false → break_further c (b ++ r) ≡ break_further c b
+break_onward c [] [] h = refl
+break_onward c [] (d ∷ r) h = by (c == 13) (d == 10) h
+  where
+    by : (x y : Bool) → y ≡ false → ◌≡◌ {A = ℕ} (if x && y then 1 else 0) 0
+    by true false e = refl
+    by false false e = refl
+    by x true e = absurd (cc e)
+break_onward c (d ∷ b) r h = refl
+
 plain_by : (c : ℕ) (b : List ℕ) (breaks blanks : Bool) → classes.is_break c ≡ breaks → classes.is_blank c ≡ blanks → LocalOf (plain_element c) b (plain_element c b)
 unfolding plain_element
-plain_by c b true blanks e f = rw e (record { fits = break_fits c b; same = λ x y h. rw e (ap (λ k. Some (spelled line_break k)) (break_same c b x y h)) })
-plain_by c b false true e f = rw (e, f) (record { fits = refl; same = λ x y h. rw (e, f) refl })
-plain_by c b false false e f = rw (e, f) (record { fits = refl; same = λ x y h. rw (e, f) refl })
+plain_by c b true blanks e f = rw e (record { fits = break_fits c b; same = λ x y h. rw e (ap (λ k. Some (spelled line_break k)) (break_same c b x y h)); onward = λ r h. rw e (ap (λ k. Some (spelled line_break k)) (break_onward c b r h)) })
+plain_by c b false true e f = rw (e, f) (record { fits = refl; same = λ x y h. rw (e, f) refl; onward = λ r h. rw (e, f) refl })
+plain_by c b false false e f = rw (e, f) (record { fits = refl; same = λ x y h. rw (e, f) refl; onward = λ r h. rw (e, f) refl })
 
 plain_local : (c : ℕ) (b : List ℕ) → LocalOf (plain_element c) b (plain_element c b)
 plain_local c b = plain_by c b (classes.is_break c) (classes.is_blank c) refl refl
@@ -51,7 +62,7 @@ plain_local c b = plain_by c b (classes.is_break c) (classes.is_blank c) refl re
 -- of a function that is another one for this character
 as_local : (at to : List ℕ → Option Spelled) (b : List ℕ) (o : Option Spelled) → ((r : List ℕ) → at r ≡ to r) → LocalOf to b o → LocalOf at b o
 as_local at to b None e z = tt
-as_local at to b (Some s) e z = record { fits = z.fits; same = λ x y h. e (take s.further b ++ x) ∙ z.same x y h }
+as_local at to b (Some s) e z = record { fits = z.fits; same = λ x y h. e (take s.further b ++ x) ∙ z.same x y h; onward = λ r h. e (b ++ r) ∙ z.onward r h }
 
 -- ---- single quotes
 
@@ -63,7 +74,7 @@ doubled_local [] = tt
 doubled_local (d ∷ b) = by (d == 39) refl
   where
     by : (two : Bool) → (d == 39) ≡ two → LocalOf doubled_at (d ∷ b) (if two then Some (spelled (content 39) 1) else None)
-    by true e = record { fits = refl; same = λ x y h. rw e refl }
+    by true e = record { fits = refl; same = λ x y h. rw e refl; onward = λ r h. rw e refl }
     by false e = tt
 
 single_by : (c : ℕ) (b : List ℕ) (nul quote : Bool) → classes.is_nul c ≡ nul → (c == 39) ≡ quote → LocalOf (single_quoted_element c) b (single_quoted_element c b)
@@ -76,22 +87,29 @@ single_by c b false false e f = rw (e, f) (as_local (single_quoted_element c) (p
 
 escape_broken : (d : ℕ) (b : List ℕ) → classes.is_break d ≡ true → Local escape (d ∷ b) (spelled escaped_break (suc (break_further d b)))
 unfolding escape
-escape_broken d b e = record { fits = ap suc (break_fits d b); same = λ x y h. rw e (ap (λ k. Some (spelled escaped_break (suc k))) (break_same d b x y h)) }
+escape_broken d b e = record { fits = ap suc (break_fits d b); same = λ x y h. rw e (ap (λ k. Some (spelled escaped_break (suc k))) (break_same d b x y h)); onward = λ r h. rw e (ap (λ k. Some (spelled escaped_break (suc k))) (break_onward d b r h)) }
 
 escape_named : (d code : ℕ) (b : List ℕ) → classes.is_break d ≡ false → lookup d escapes ≡ Some code → Local escape (d ∷ b) (spelled (content code) 1)
 unfolding escape
-escape_named d code b e f = record { fits = refl; same = λ x y h. rw (e, f) refl }
+escape_named d code b e f = record { fits = refl; same = λ x y h. rw (e, f) refl; onward = λ r h. rw (e, f) refl }
 
 coded_same : (n code : ℕ) (b x : List ℕ) → length (take n b) ≡ n → (length (take n b) == n) ≡ true → hexadecimal 0 (take n b) ≡ Some code → is_character_code code ≡ true → numeric_escape n (take n b ++ x) ≡ Some (spelled (content code) (suc n))
 unfolding numeric_escape
 coded_same n code b x fits many digits valid = let front = take_at (take n b) x n fits in rw (front, many, digits, valid) refl
+
+coded_onward : (n code : ℕ) (b r : List ℕ) → length (take n b) ≡ n → (length (take n b) == n) ≡ true → hexadecimal 0 (take n b) ≡ Some code → is_character_code code ≡ true → numeric_escape n (b ++ r) ≡ Some (spelled (content code) (suc n))
+unfolding numeric_escape
+coded_onward n code b r fits many digits valid =
+    let enough : n ≤ length b = omega (arith, fits, length-take n b) in
+    let front = take-append-le n b r enough in
+    rw (front, many, digits, valid) refl
 
 escape_coded : (d n code : ℕ) (b : List ℕ) → classes.is_break d ≡ false → lookup d escapes ≡ None → lookup d numeric_escapes ≡ Some n → (length (take n b) == n) ≡ true → hexadecimal 0 (take n b) ≡ Some code → is_character_code code ≡ true
     → Local escape (d ∷ b) (spelled (content code) (suc n))
 unfolding escape
 escape_coded d n code b e f g many digits valid =
     let fits : length (take n b) ≡ n = eqb-true _ _ many in
-    record { fits = ap suc fits; same = λ x y h. rw (e, f, g) (coded_same n code b x fits many digits valid) }
+    record { fits = ap suc fits; same = λ x y h. rw (e, f, g) (coded_same n code b x fits many digits valid); onward = λ r h. rw (e, f, g) (coded_onward n code b r fits many digits valid) }
 
 coded_valid : (d n code : ℕ) (b : List ℕ) (valid : Bool) → classes.is_break d ≡ false → lookup d escapes ≡ None → lookup d numeric_escapes ≡ Some n → (length (take n b) == n) ≡ true → hexadecimal 0 (take n b) ≡ Some code → is_character_code code ≡ valid
     → LocalOf escape (d ∷ b) (if valid then Some (spelled (content code) (suc n)) else None)

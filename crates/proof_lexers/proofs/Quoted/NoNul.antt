@@ -26,10 +26,10 @@ second = record { index = 1; line = 1; col = 1 }
 
 module _ (single : Bool) where
   same_some : (c : ℕ) (b : List ℕ) (s : Spelled) → Step single outside second c b [] second nothing s → list_all is_some (c ∷ b) ≡ list_all is_some (drop s.further b)
-  same_some c b s (steps m q ready full none marks is) = full
+  same_some c b s (steps m q at ready full none marks is) = full
   same_some c b s (is_marked e f) = cc
-  same_some c b s (is_shallow (by_line p e f)) = let none = no_less (p.col + 1) in cc
-  same_some c b s (is_shallow (by_tab p e f)) = let none = no_less (p.col + 1) in cc
+  same_some c b s (is_shallow low (by_line p e f)) = let none = no_less (p.col + 1) in cc
+  same_some c b s (is_shallow low (by_tab p e f)) = let none = no_less (p.col + 1) in cc
 
   abbrev HasNone : ℕ → List ℕ → Type 0
   HasNone n a = (es : List Element) → elements (element_of single) n a ≡ Some es → list_all is_some (drop n a) ≡ true

@@ -42,6 +42,11 @@ module _ (single : Bool) (c : ℕ) (b : List ℕ) (s : Spelled) (is : element_of
 
 -- ---- no element
 
+-- a closing quote, or a backslash and no escape
+pub data NoElement (single : Bool) (c : ℕ) (b : List ℕ) : Type 0 where
+  closing : c ≡ quote_of single → ends_before single b ≡ true → NoElement single c b
+  slash : single ≡ false → c ≡ 92 → escape b ≡ None → NoElement single c b
+
 plain_some : (c : ℕ) (b : List ℕ) → plain_element c b ≡ None → ⊥
 unfolding plain_element
 plain_some c b h = by (classes.is_break c) (classes.is_blank c) h
@@ -51,29 +56,33 @@ plain_some c b h = by (classes.is_break c) (classes.is_blank c) h
     by false true h = cc
     by false false h = cc
 
-quote_shape : (b : List ℕ) (two : Bool) → begins_with 39 b ≡ two → (if two then Some (spelled (content 39) 1) else None) ≡ None → Shape true (39 ∷ b)
-quote_shape b true e h = cc
-quote_shape b false e h = closed [] b refl ([], refl) (rw e refl)
+quote_none : (c : ℕ) (b : List ℕ) (two : Bool) → c ≡ 39 → begins_with 39 b ≡ two → (if two then Some (spelled (content 39) 1) else None) ≡ None → NoElement true c b
+quote_none c b true q e h = cc
+quote_none c b false q e h = closing q (rw e refl)
 
-single_shape : (c : ℕ) (b : List ℕ) (quote : Bool) → (c == 0) ≡ false → (c == 39) ≡ quote → single_quoted_element c b ≡ None → Shape true (c ∷ b)
+single_none : (c : ℕ) (b : List ℕ) (quote : Bool) → (c == 0) ≡ false → (c == 39) ≡ quote → single_quoted_element c b ≡ None → NoElement true c b
 unfolding single_quoted_element classes.is_nul
-single_shape c b true nul e h = let q : c ≡ 39 = eqb-true c 39 e in rw q (quote_shape b (begins_with 39 b) refl (rw (nul, e) at h))
-single_shape c b false nul e h = absurd (plain_some c b (rw (nul, e) at h))
+single_none c b true nul e h = quote_none c b (begins_with 39 b) (eqb-true c 39 e) refl (rw (nul, e) at h)
+single_none c b false nul e h = absurd (plain_some c b (rw (nul, e) at h))
 
-double_shape : (c : ℕ) (b : List ℕ) (quote slash : Bool) → (c == 0) ≡ false → (c == 34) ≡ quote → (c == 92) ≡ slash → double_quoted_element c b ≡ None → Shape false (c ∷ b)
+double_none : (c : ℕ) (b : List ℕ) (quote backslash : Bool) → (c == 0) ≡ false → (c == 34) ≡ quote → (c == 92) ≡ backslash → double_quoted_element c b ≡ None → NoElement false c b
 unfolding double_quoted_element classes.is_nul
-double_shape c b true slash nul e f h = let q : c ≡ 34 = eqb-true c 34 e in rw q (closed [] b refl ([], refl) refl)
-double_shape c b false true nul e f h = let q : c ≡ 92 = eqb-true c 92 f in rw q (badly_escaped [] b refl refl ([], refl) (rw (nul, e, f) at h))
-double_shape c b false false nul e f h = absurd (plain_some c b (rw (nul, e, f) at h))
+double_none c b true backslash nul e f h = closing (eqb-true c 34 e) refl
+double_none c b false true nul e f h = slash refl (eqb-true c 92 f) (rw (nul, e, f) at h)
+double_none c b false false nul e f h = absurd (plain_some c b (rw (nul, e, f) at h))
 
-no_element : (single : Bool) (c : ℕ) (b : List ℕ) → (c == 0) ≡ false → element_of single c b ≡ None → Shape single (c ∷ b)
-no_element true c b nul h = single_shape c b (c == 39) nul refl h
-no_element false c b nul h = double_shape c b (c == 34) (c == 92) nul refl refl h
+pub no_element : (single : Bool) (c : ℕ) (b : List ℕ) → (c == 0) ≡ false → element_of single c b ≡ None → NoElement single c b
+no_element true c b nul h = single_none c b (c == 39) nul refl h
+no_element false c b nul h = double_none c b (c == 34) (c == 92) nul refl refl h
+
+none_shape : (single : Bool) (c : ℕ) (b : List ℕ) → NoElement single c b → Shape single (c ∷ b)
+none_shape single c b (closing q ends) = closed [] b (ap (λ x. x ∷ b) q) ([], refl) ends
+none_shape single c b (slash double q bad) = badly_escaped [] b double (ap (λ x. x ∷ b) q) ([], refl) bad
 
 -- ---- every text
 
 shape_by : (single : Bool) (c : ℕ) (b : List ℕ) (o : Option Spelled) → (c == 0) ≡ false → element_of single c b ≡ o → LocalOf (element_of single c) b o → ((n : ℕ) → Shape single (drop n b)) → Shape single (c ∷ b)
-shape_by single c b None nul e z others = no_element single c b nul e
+shape_by single c b None nul e z others = none_shape single c b (no_element single c b nul e)
 shape_by single c b (Some s) nul e z others = grown single c b s e z (others s.further)
 
 shape_from : (single : Bool) (n : ℕ) (a : List ℕ) → list_all is_some a ≡ true → Shape single (drop n a)

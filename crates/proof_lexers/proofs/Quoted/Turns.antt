@@ -1,5 +1,5 @@
 -- What the model does at an element of a body.
-use Rattle.std.proofs.Common.{◌≡◌, ℕ, ◌+◌, List, [], ◌∷◌, ◌++◌, Bool, true, false, ◌||◌, ◌&&◌, not, ◌==◌, if◌then◌else◌, Option, Some, None, Result, Ok, Err, refl, sym, ◌∙◌, append-nil, arith, nat_lt, slice_index, drop}
+use Rattle.std.proofs.Common.{◌≡◌, ℕ, ◌+◌, ◌≤◌, List, [], ◌∷◌, ◌++◌, Bool, true, false, ◌||◌, ◌&&◌, not, ◌==◌, if◌then◌else◌, Option, Some, None, Result, Ok, Err, refl, sym, ◌∙◌, append-nil, arith, nat_lt, slice_index, take, drop}
 use Rattle.std.specs.List.{list_all}
 use Rattle.std.proofs.lemmas.Bool.{and_parts, eqb-true}
 use Rattle.std.proofs.lemmas.Bool.Decides.{nat_tests}
@@ -17,14 +17,13 @@ use Rattle.model_scanner.specs.Folding.{Folded, with_char, joined}
 use Rattle.model_scanner.specs.Quoted.{Mode, inside, gap, after, quoted_from, quote_of, refused}
 use Rattle.proof_lexers.specs.Buffers.{after_element}
 use Rattle.proof_lexers.specs.QuotedScan.{is_some, has_marker, IsShallow, by_line, by_tab}
+use Rattle.proof_lexers.specs.HeaderEnds.{along}
+use Rattle.proof_lexers.proofs.Along.{along_more}
 use Rattle.proof_lexers.proofs.Bridges.{same_break, same_blank, same_marker, and_false}
 
 -- after so many characters of a line
 pub off_margin : (n k : ℕ) → (n + (k + 1) == 0) ≡ false
 off_margin n k = grind (arith, nat_tests)
-
-as_deep : (n k i : ℕ) → nat_lt (n + 1) i ≡ false → nat_lt ((n + (k + 1)) + 1) i ≡ false
-as_deep n k i h = grind (arith, nat_tests)
 
 pub no_marker : (c : ℕ) (a : List ℕ) → (c == 45) ≡ false → (c == 46) ≡ false → is_document_marker (c ∷ a) ≡ false
 unfolding classes.are_marks
@@ -75,6 +74,11 @@ module _ (single : Bool) (ctx : Context) (start : Position) where
   pub begins : (c : ℕ) (a : List ℕ) (p : Position) (t : Folded) → (is_break c || is_blank c) ≡ false → Begun (c ∷ a) p t
   begins c a p t g = begun_by c a p t (at_marker p.col (c ∷ a)) (nat_lt (p.col + 1) ctx.indent) refl refl g
 
+  -- where a document marker stands it is refused for that
+  pub begins_marked : (c : ℕ) (a : List ℕ) (p : Position) (t : Folded) → (is_break c || is_blank c) ≡ false → ((p.col == 0) && is_document_marker (c ∷ a)) ≡ true → scan (c ∷ a) gap p t ≡ Err (At problem.QuotedDocumentMarker start)
+  unfolding refused
+  begins_marked c a p t g h = let e : at_marker p.col (c ∷ a) ≡ true = same_marker p.col (c ∷ a) ∙ h in rw (g, e) refl
+
   pub may_stand : (a : List ℕ) (p : Position) → (p.col == 0) ≡ false → nat_lt (p.col + 1) ctx.indent ≡ false → refused ctx start a p ≡ Ok tt
   unfolding refused at_marker
   may_stand a p e f = rw (e, f) refl
@@ -89,60 +93,64 @@ module _ (single : Bool) (ctx : Context) (start : Position) where
   inside_is_gap [] p text e f = refl
   inside_is_gap (c ∷ a) p text e f = inside_by c a p text (is_break c || is_blank c) refl e f
 
-  -- One character of the text was taken, of so many and one more written.
-  pub record Taken (x : Result (Read (List ℕ)) Fault) (a : List ℕ) (col : ℕ) (u : Folded) (code : ℕ) : Type 0 where
-    pub position : Position
-    pub more : ℕ
-    pub col_is : position.col ≡ col + (more + 1)
-    pub is : x ≡ scan a inside position (with_char code u)
+  -- One character of the text was taken, which is written so.
+  abbrev pub Taken : (x : Result (Read (List ℕ)) Fault) (a : List ℕ) (p : Position) (w : List ℕ) (u : Folded) (code : ℕ) → Type 0
+  Taken x a p w u code = x ≡ scan a inside (along w p) (with_char code u)
 
   char_taken : (c : ℕ) (a : List ℕ) (p : Position) (u : Folded) → (is_break c || is_blank c) ≡ false → ((c == 92) && not single) ≡ false → (c == quote_of single) ≡ false
-      → Taken (scan (c ∷ a) inside p u) a p.col u c
-  char_taken c a p u g e f = record { position = past p; more = 0; col_is = refl; is = rw (g, e, f) refl }
+      → Taken (scan (c ∷ a) inside p u) a p (c ∷ []) u c
+  char_taken c a p u g e f = rw (g, e, f) refl
+
+  -- Where an element ends that is written so; told of content alone.
+  abbrev pub EndsAt : Element → Position → List ℕ → Position → Type 0
+  EndsAt (content code) p w q = q ≡ along w p
+  EndsAt _ p w q = Unit {0}
 
   -- The scan at an element of a body, before the body's rest b and the text r after it.
   pub data Step (c : ℕ) (b r : List ℕ) (p : Position) (t : Folded) (s : Spelled) : Type 0 where
-    steps : (m : Mode) (q : Position) → Ready single (after_element s.element t) m → list_all is_some (c ∷ b) ≡ list_all is_some (drop s.further b) → ((p.col == 0) && is_document_marker (c ∷ (b ++ r))) ≡ false
+    steps : (m : Mode) (q : Position) → EndsAt s.element p (c ∷ take s.further b) q → Ready single (after_element s.element t) m → list_all is_some (c ∷ b) ≡ list_all is_some (drop s.further b) → ((p.col == 0) && is_document_marker (c ∷ (b ++ r))) ≡ false
         → has_marker (c ∷ b) r ≡ (((q.col == 0) && is_document_marker (drop s.further b ++ r)) || has_marker (drop s.further b) r)
         → scan (c ∷ (b ++ r)) gap p t ≡ scan (drop s.further b ++ r) m q (after_element s.element t) → Step c b r p t s
     is_marked : ((p.col == 0) && is_document_marker (c ∷ (b ++ r))) ≡ true → scan (c ∷ (b ++ r)) gap p t ≡ Err (At problem.QuotedDocumentMarker start) → Step c b r p t s
-    is_shallow : IsShallow ctx start (scan (c ∷ (b ++ r)) gap p t) → Step c b r p t s
+    is_shallow : nat_lt (p.col + 1) ctx.indent ≡ true → IsShallow ctx start (scan (c ∷ (b ++ r)) gap p t) → Step c b r p t s
 
   abbrev pub StepOf : ℕ → List ℕ → List ℕ → Position → Folded → Option Spelled → Type 0
   StepOf c b r p t None = Unit {0}
   StepOf c b r p t (Some s) = Step c b r p t s
 
   -- an element that is content
-  content_by : (c : ℕ) (b r : List ℕ) (k code : ℕ) (p : Position) (t : Folded) → Taken (scan (c ∷ (b ++ r)) inside p (joined t)) (drop k b ++ r) p.col (joined t) code → has_marker (c ∷ b) r ≡ has_marker (drop k b) r → list_all is_some (c ∷ b) ≡ list_all is_some (drop k b)
+  content_by : (c : ℕ) (b r : List ℕ) (k code : ℕ) (p : Position) (t : Folded) → Taken (scan (c ∷ (b ++ r)) inside p (joined t)) (drop k b ++ r) p (c ∷ take k b) (joined t) code → has_marker (c ∷ b) r ≡ has_marker (drop k b) r → list_all is_some (c ∷ b) ≡ list_all is_some (drop k b)
       → Begun (c ∷ (b ++ r)) p t → Step c b r p t (spelled (content code) k)
   content_by c b r k code p t z same full (begun none deep is) =
-      let off : (z.position.col == 0) ≡ false = rw z.col_is (off_margin p.col z.more) in
-      let still_deep : nat_lt (z.position.col + 1) ctx.indent ≡ false = rw z.col_is (as_deep p.col z.more ctx.indent deep) in
-      steps gap z.position in_gap full none (same ∙ rw off refl) (is ∙ z.is ∙ inside_is_gap (drop k b ++ r) z.position ((joined t).text ++ code ∷ []) off still_deep)
+      let q : Position = along (c ∷ take k b) p in
+      let further : p.col + 1 ≤ q.col = along_more (take k b) (past p) in
+      let off : (q.col == 0) ≡ false = grind (arith, nat_tests, further) in
+      let still_deep : nat_lt (q.col + 1) ctx.indent ≡ false = grind (arith, nat_tests, further, deep) in
+      steps gap q refl in_gap full none (same ∙ rw off refl) (is ∙ z ∙ inside_is_gap (drop k b ++ r) q ((joined t).text ++ code ∷ []) off still_deep)
   content_by c b r k code p t z same full (marked e is) = is_marked e is
-  content_by c b r k code p t z same full (shallow e is) = is_shallow (by_line p e is)
+  content_by c b r k code p t z same full (shallow e is) = is_shallow e (by_line p e is)
 
-  pub content_step : (c : ℕ) (b r : List ℕ) (k code : ℕ) (p : Position) (t : Folded) → (is_break c || is_blank c) ≡ false → Taken (scan (c ∷ (b ++ r)) inside p (joined t)) (drop k b ++ r) p.col (joined t) code
+  pub content_step : (c : ℕ) (b r : List ℕ) (k code : ℕ) (p : Position) (t : Folded) → (is_break c || is_blank c) ≡ false → Taken (scan (c ∷ (b ++ r)) inside p (joined t)) (drop k b ++ r) p (c ∷ take k b) (joined t) code
       → has_marker (c ∷ b) r ≡ has_marker (drop k b) r → list_all is_some (c ∷ b) ≡ list_all is_some (drop k b) → Step c b r p t (spelled (content code) k)
   content_step c b r k code p t g z same full = content_by c b r k code p t z same full (begins c (b ++ r) p t g)
 
-  white_stands : (c : ℕ) (a : List ℕ) (col : ℕ) → (is_break c || is_blank c) ≡ true → ((col == 0) && is_document_marker (c ∷ a)) ≡ false
+  pub white_stands : (c : ℕ) (a : List ℕ) (col : ℕ) → (is_break c || is_blank c) ≡ true → ((col == 0) && is_document_marker (c ∷ a)) ≡ false
   white_stands c a col g = let w = white c g in rw (no_marker c a w.dash w.point) (and_false (col == 0))
 
   blank_by : (c : ℕ) (b r : List ℕ) (p : Position) (t : Folded) (tab : Bool) → (t.leading && (c == 9) && nat_lt (p.col + 1) ctx.indent) ≡ tab → is_break c ≡ false → is_blank c ≡ true → (c == 0) ≡ false
       → Step c b r p t (spelled (blank c) 0)
-  blank_by c b r p t true e f g nul = is_shallow (by_tab p ((and_parts (t.leading && (c == 9)) (nat_lt (p.col + 1) ctx.indent) e).1) (rw (f, g, e) refl))
+  blank_by c b r p t true e f g nul = let low = (and_parts (t.leading && (c == 9)) (nat_lt (p.col + 1) ctx.indent) e).1 in is_shallow low (by_tab p low (rw (f, g, e) refl))
   blank_by c b r p t false e f g nul =
       let off : (p.col + 1 == 0) ≡ false = off_margin p.col 0 in
-      steps gap (past p) in_gap (rw nul refl) (white_stands c (b ++ r) p.col (rw (f, g) refl)) (rw (same_break c, f, off) refl) (rw (f, g, e) refl)
+      steps gap (past p) tt in_gap (rw nul refl) (white_stands c (b ++ r) p.col (rw (f, g) refl)) (rw (same_break c, f, off) refl) (rw (f, g, e) refl)
 
   lone_break : (c : ℕ) (b r : List ℕ) (p : Position) (t : Folded) → is_break c ≡ true → (c == 0) ≡ false → ((c == 13) && (slice_index (b ++ r) 0 == 10)) ≡ false → Step c b r p t (spelled line_break 0)
   lone_break c b r p t e nul f =
-      steps gap (past_break p) in_gap (rw nul refl) (white_stands c (b ++ r) p.col (rw e refl)) (rw (same_break c, e) refl) (rw (e, f) refl)
+      steps gap (past_break p) tt in_gap (rw nul refl) (white_stands c (b ++ r) p.col (rw e refl)) (rw (same_break c, e) refl) (rw (e, f) refl)
 
   two_breaks : (b r : List ℕ) (p : Position) (t : Folded) → Step 13 (10 ∷ b) r p t (spelled line_break 1)
   unfolding is_break is_blank classes.is_break
-  two_breaks b r p t = steps gap (past_break (past p)) in_gap refl (white_stands 13 (10 ∷ (b ++ r)) p.col refl) (rw (feed_is_no_marker (b ++ r)) refl) refl
+  two_breaks b r p t = steps gap (past_break (past p)) tt in_gap refl (white_stands 13 (10 ∷ (b ++ r)) p.col refl) (rw (feed_is_no_marker (b ++ r)) refl) refl
 
   break_by : (c d : ℕ) (b r : List ℕ) (p : Position) (t : Folded) (two : Bool) → ((c == 13) && (d == 10)) ≡ two → is_break c ≡ true → (c == 0) ≡ false → Step c (d ∷ b) r p t (spelled line_break (if two then 1 else 0))
   break_by c d b r p t true e f nul =

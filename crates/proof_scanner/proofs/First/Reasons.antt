@@ -41,6 +41,8 @@ use Rattle.proof_scanner.specs.FirstQuoted.{quoted_first, lines_first, closed_fi
 use Rattle.proof_scanner.specs.FirstPlain.{plain_first}
 use Rattle.proof_scanner.specs.FirstBlock.{header_first, block_first}
 use Rattle.proof_scanner.proofs.First.Plain.{one_plain}
+use Rattle.proof_scanner.proofs.First.Quoted as quoted
+use Rattle.proof_scanner.proofs.First.Quoted.{QuotedReason, one_quoted}
 use Rattle.proof_scanner.proofs.First.Block.{BlockReason, headless, fails, one_block}
 use Rattle.proof_scanner.proofs.First.Property.{one_tag, one_directive}
 use Rattle.proof_scanner.proofs.Refusals.PiecesRefused.{no_colon_before, tab_gap}
@@ -51,16 +53,6 @@ use Rattle.proof_scanner.proofs.First.Indicators.{AreSame, DashReason, QuestionR
 use Rattle.defs_token.specs.Piece.{begins_with_space_or_break}
 
 -- ---- the reasons at one kind of piece
-
--- Reasons at a quote: no quoted scalar begins there, a further line of it is wrong, or what stands after it.
-pub data QuotedReason (in_flow : Bool) (least : ℕ) (blocks : List ℕ) (awaits : Bool) (here : Position) (rest : List ℕ) : Problem → Position → Type 0 where
-  unquoted : (single : Bool) (more : List ℕ) (why : Problem) → rest ≡ quote_of single ∷ more → HasNoQuoted single rest → (n : IsNotQuoted single more why) → quoted_first single least here more why n → QuotedReason in_flow least blocks awaits here rest why here
-  lines : (single : Bool) (why : Problem) (at : Position) → AreNotIndented single least rest → (n : IsQuotedFault single least here rest why at) → lines_first single least here rest why at n → QuotedReason in_flow least blocks awaits here rest why at
-  glued : (single : Bool) (piece more : List ℕ) → rest ≡ piece ++ more → IsQuoted single piece more → begins_with 35 more ≡ true → closed_first single least piece → QuotedReason in_flow least blocks awaits here rest problem.CommentNotSeparated (position_after here piece more)
-  after : (single : Bool) (piece more passed content : List ℕ) → rest ≡ piece ++ more → IsQuoted single piece more → quoted_may_end in_flow piece more ≡ false → GoesOn more passed content → begins_separation content ≡ false → closed_first single least piece
-      → QuotedReason in_flow least blocks awaits here rest problem.ContentAfterQuoted (position_after (position_after here piece more) passed content)
-  tabbed : (single : Bool) (piece gap content : List ℕ) → rest ≡ piece ++ (gap ++ content) → IsQuoted single piece (gap ++ content) → is_separation false gap content ≡ true → is_empty content ≡ false → begins_separation content ≡ false
-      → is_indented_by_spaces quoted_scalar blocks awaits gap ≡ false → closed_first single least piece → QuotedReason in_flow least blocks awaits here rest problem.TabInBlockIndentation (position_after (position_after here piece (gap ++ content)) gap content)
 
 -- a reason at a plain scalar
 abbrev pub PlainReason : Setting → Position → List ℕ → Problem → Position → Type 0
@@ -194,13 +186,13 @@ module _ (s : Setting) (here : Position) (rest : List ℕ) where
   none_reason why at (none.nameless true more e lacks) f = (alias_name, ap (λ r. kind_here s here.col r) e, nameless)
   none_reason why at (none.nameless false more e lacks) f = (anchor_name, ap (λ r. kind_here s here.col r) e, nameless)
   none_reason why at (none.tagless more reason e r) f = (tag_text, ap (λ r. kind_here s here.col r) e, tagless more reason e r)
-  none_reason why at (none.unquoted single more reason e lacks n) f = quoted_reason single more reason here e (unquoted single more reason e lacks n f)
+  none_reason why at (none.unquoted single more reason e lacks n) f = quoted_reason single more reason here e (quoted.unquoted single more reason e lacks n f)
   none_reason why at (none.headless style line next reason place out e one ends lacks n) f = (block_scalar, ap (λ r. kind_here s here.col r) e ∙ block_kind s here.col style (line ++ next) out, headless style line next reason place e one ends lacks n f)
   none_reason why at (none.undirected line next reason place col e one ends lacks r) f = (directive_line, ap (λ z. kind_here s here.col z) e, undirected line next reason place col e one ends r)
 
   lines_reason : (single : Bool) (why : Problem) (at : Position) → AreNotIndented single (least_column s.blocks s.awaits) rest → (n : IsQuotedFault single (least_column s.blocks s.awaits) here rest why at) → lines_first single (least_column s.blocks s.awaits) here rest why at n → OfKind why at
-  lines_reason single why at lacks (quoted_lines.by_column body more es cut has solid begins low) f = quoted_reason single (body ++ more) why at cut (lines single why at lacks (quoted_lines.by_column body more es cut has solid begins low) f)
-  lines_reason single why at lacks (quoted_lines.by_tab body more es cut has begins low) f = quoted_reason single (body ++ tab ∷ more) why at cut (lines single why at lacks (quoted_lines.by_tab body more es cut has begins low) f)
+  lines_reason single why at lacks (quoted_lines.by_column body more es cut has solid begins low) f = quoted_reason single (body ++ more) why at cut (quoted.no_quoted single why at lacks (quoted_lines.by_column body more es cut has solid begins low) f)
+  lines_reason single why at lacks (quoted_lines.by_tab body more es cut has begins low) f = quoted_reason single (body ++ tab ∷ more) why at cut (quoted.no_quoted single why at lacks (quoted_lines.by_tab body more es cut has begins low) f)
 
   block_begins_here : s.in_flow ≡ false → (piece next : List ℕ) → rest ≡ piece ++ next → begins_block piece ≡ true → kind_here s here.col rest ≡ block_scalar
   block_begins_here out [] next e h = absurd (cc h)
@@ -219,8 +211,8 @@ module _ (s : Setting) (here : Position) (rest : List ℕ) where
 
   followed_reason : (why : Problem) (at : Position) (n : IsFollowed s.in_flow here rest why at) → followed_first s.in_flow (least_column s.blocks s.awaits) s.taken s.full here rest why at n → OfKind why at
   followed_reason why at (none.glued c more e is begins) f = bracket_reason c more why at e is (indicators.glued c more e f)
-  followed_reason why at (none.glued_to_quoted single piece more e is begins) f = closed_reason single piece more why at e is (glued single piece more e is begins f)
-  followed_reason why at (none.after_quoted single piece more passed content e is ends on solid) f = closed_reason single piece more why at e is (after single piece more passed content e is ends on solid f)
+  followed_reason why at (none.glued_to_quoted single piece more e is begins) f = closed_reason single piece more why at e is (quoted.glued_to_quoted single piece more e is begins f)
+  followed_reason why at (none.after_quoted single piece more passed content e is ends on solid) f = closed_reason single piece more why at e is (quoted.after_quoted single piece more passed content e is ends on solid f)
   followed_reason why at (none.after_end more passed content col e gap on ends solid) f = (dots, ap (λ r. kind_here s here.col r) e ∙ dots_kind s here.col more col gap, indicators.after_end more passed content e on solid)
   followed_reason why at (none.tab_after_dash more passed content out e gap on tab_there begins) f = (dash, ap (λ r. kind_here s here.col r) e ∙ dash_kind s here.col more gap, indicators.tab_after_dash more passed content out f e on begins)
   followed_reason why at (none.no_space more [] content e gap on begins ends) f =
@@ -258,7 +250,7 @@ module _ (a : Account) (separation : List ℕ) (here : Position) (rest : List �
       seen_reason problem.KeyNotAllowed here f (question, ap (λ r. kind_here own here.col r) e ∙ question_kind own here.col more gap, indicators.question_not_free (rw (out, line) refl))
   stands_reason why at (failing.tab_indents tabs) f = tab_indents tabs
   stands_reason why at (failing.tab_after_quoted single piece gap content e is fills goes_on solid tabs) f =
-      seen_reason problem.TabInBlockIndentation _ f.0 (closed_reason own here rest single piece (gap ++ content) problem.TabInBlockIndentation _ e is (tabbed single piece gap content e is fills goes_on solid tabs f.1))
+      seen_reason problem.TabInBlockIndentation _ f.0 (closed_reason own here rest single piece (gap ++ content) problem.TabInBlockIndentation _ e is (quoted.tab_after_quoted single piece gap content e is fills goes_on solid tabs (f.1, f.2)))
 
   pub reason_of : (why : Problem) (at : Position) → FailsFirst a separation here rest why at → Reason own here rest why at
   reason_of why at x = by x.fails x.is_first
@@ -296,65 +288,60 @@ colon_alone a b like separation more here is out seen apart why at x =
 
 -- ---- one reason
 
-abbrev pub OneQuoted : Type 0
-OneQuoted = (in_flow : Bool) (least : ℕ) (blocks : List ℕ) (awaits : Bool) (here : Position) (rest : List ℕ) → has_no_nul rest ≡ true → (why1 why2 : Problem) (at1 at2 : Position)
-    → QuotedReason in_flow least blocks awaits here rest why1 at1 → QuotedReason in_flow least blocks awaits here rest why2 at2 → AreSame why1 why2 at1 at2
+one_reserved : (here : Position) (rest : List ℕ) (why1 why2 : Problem) (at1 at2 : Position) → ReservedReason here rest why1 at1 → ReservedReason here rest why2 at2 → AreSame why1 why2 at1 at2
+one_reserved here rest why1 why2 at1 at2 (at_sign more e) (at_sign n f) = (refl, refl)
+one_reserved here rest why1 why2 at1 at2 (at_sign more e) (backtick n f) = absurd (cc (ap (begins_with 64) e, ap (begins_with 64) f))
+one_reserved here rest why1 why2 at1 at2 (backtick more e) (at_sign n f) = absurd (cc (ap (begins_with 64) e, ap (begins_with 64) f))
+one_reserved here rest why1 why2 at1 at2 (backtick more e) (backtick n f) = (refl, refl)
 
-module _ (one_quoted : OneQuoted) where
-  one_reserved : (here : Position) (rest : List ℕ) (why1 why2 : Problem) (at1 at2 : Position) → ReservedReason here rest why1 at1 → ReservedReason here rest why2 at2 → AreSame why1 why2 at1 at2
-  one_reserved here rest why1 why2 at1 at2 (at_sign more e) (at_sign n f) = (refl, refl)
-  one_reserved here rest why1 why2 at1 at2 (at_sign more e) (backtick n f) = absurd (cc (ap (begins_with 64) e, ap (begins_with 64) f))
-  one_reserved here rest why1 why2 at1 at2 (backtick more e) (at_sign n f) = absurd (cc (ap (begins_with 64) e, ap (begins_with 64) f))
-  one_reserved here rest why1 why2 at1 at2 (backtick more e) (backtick n f) = (refl, refl)
+one_name : (here : Position) (why1 why2 : Problem) (at1 at2 : Position) → NameReason here why1 at1 → NameReason here why2 at2 → AreSame why1 why2 at1 at2
+one_name here why1 why2 at1 at2 nameless nameless = (refl, refl)
 
-  one_name : (here : Position) (why1 why2 : Problem) (at1 at2 : Position) → NameReason here why1 at1 → NameReason here why2 at2 → AreSame why1 why2 at1 at2
-  one_name here why1 why2 at1 at2 nameless nameless = (refl, refl)
+one_refusal : (in_flow : Bool) (here : Position) (rest : List ℕ) (why1 why2 : Problem) (at1 at2 : Position) → TagReason in_flow here rest why1 at1 → TagReason in_flow here rest why2 at2 → AreSame why1 why2 at1 at2
+one_refusal in_flow here rest why1 why2 at1 at2 (tagless more reason e r) (tagless n reason2 e2 q) = (one_tag in_flow more reason reason2 r (subst (λ t. IsTagRefusal in_flow t reason2) (tails 33 rest n more e2 e) q), refl)
 
-  one_refusal : (in_flow : Bool) (here : Position) (rest : List ℕ) (why1 why2 : Problem) (at1 at2 : Position) → TagReason in_flow here rest why1 at1 → TagReason in_flow here rest why2 at2 → AreSame why1 why2 at1 at2
-  one_refusal in_flow here rest why1 why2 at1 at2 (tagless more reason e r) (tagless n reason2 e2 q) = (one_tag in_flow more reason reason2 r (subst (λ t. IsTagRefusal in_flow t reason2) (tails 33 rest n more e2 e) q), refl)
+one_line : (here : Position) (rest : List ℕ) (why1 why2 : Problem) (at1 at2 : Position) → DirectiveReason here rest why1 at1 → DirectiveReason here rest why2 at2 → AreSame why1 why2 at1 at2
+one_line here rest why1 why2 at1 at2 (percent col) (percent col2) = (refl, refl)
+one_line here rest why1 why2 at1 at2 (percent col) (undirected line2 next2 reason2 place2 col2 e2 one2 ends2 q) = absurd (cc (col, ap (λ n. n == 0) col2))
+one_line here rest why1 why2 at1 at2 (undirected line next reason place col e one ends r) (percent col2) = absurd (cc (col2, ap (λ n. n == 0) col))
+one_line here rest why1 why2 at1 at2 (undirected line next reason place col e one ends r) (undirected line2 next2 reason2 place2 col2 e2 one2 ends2 q) =
+    one_directive here line next line2 next2 (tails 37 rest (line ++ next) (line2 ++ next2) e e2) one ends one2 ends2 reason reason2 place place2 r q
 
-  one_line : (here : Position) (rest : List ℕ) (why1 why2 : Problem) (at1 at2 : Position) → DirectiveReason here rest why1 at1 → DirectiveReason here rest why2 at2 → AreSame why1 why2 at1 at2
-  one_line here rest why1 why2 at1 at2 (percent col) (percent col2) = (refl, refl)
-  one_line here rest why1 why2 at1 at2 (percent col) (undirected line2 next2 reason2 place2 col2 e2 one2 ends2 q) = absurd (cc (col, ap (λ n. n == 0) col2))
-  one_line here rest why1 why2 at1 at2 (undirected line next reason place col e one ends r) (percent col2) = absurd (cc (col2, ap (λ n. n == 0) col))
-  one_line here rest why1 why2 at1 at2 (undirected line next reason place col e one ends r) (undirected line2 next2 reason2 place2 col2 e2 one2 ends2 q) =
-      one_directive here line next line2 next2 (tails 37 rest (line ++ next) (line2 ++ next2) e e2) one ends one2 ends2 reason reason2 place place2 r q
+one_in : (k : Kind) (s : Setting) (here : Position) (rest : List ℕ) (why1 why2 : Problem) (at1 at2 : Position) → has_no_nul rest ≡ true → InKind k s here rest why1 at1 → InKind k s here rest why2 at2 → AreSame why1 why2 at1 at2
+one_in nothing s here rest why1 why2 at1 at2 clean r q = one_reserved here rest why1 why2 at1 at2 r q
+one_in plain_scalar s here rest why1 why2 at1 at2 clean r q = one_plain s.in_flow s.blocks here rest why1 why2 at1 at2 r.0 r.1 q.0 q.1
+one_in sequence_opening s here rest why1 why2 at1 at2 clean r q = one_bracket s here rest why1 why2 at1 at2 r q
+one_in sequence_closing s here rest why1 why2 at1 at2 clean r q = one_bracket s here rest why1 why2 at1 at2 r q
+one_in mapping_opening s here rest why1 why2 at1 at2 clean r q = one_bracket s here rest why1 why2 at1 at2 r q
+one_in mapping_closing s here rest why1 why2 at1 at2 clean r q = one_bracket s here rest why1 why2 at1 at2 r q
+one_in comma s here rest why1 why2 at1 at2 clean r q = one_bracket s here rest why1 why2 at1 at2 r q
+one_in question s here rest why1 why2 at1 at2 clean r q = one_question s here rest why1 why2 at1 at2 r q
+one_in colon s here rest why1 why2 at1 at2 clean r q = one_colon s here rest why1 why2 at1 at2 r q
+one_in dash s here rest why1 why2 at1 at2 clean r q = one_dash s here rest why1 why2 at1 at2 r q
+one_in dashes s here rest why1 why2 at1 at2 clean r q = absurd r
+one_in dots s here rest why1 why2 at1 at2 clean r q = one_dots here rest why1 why2 at1 at2 clean r q
+one_in directive_line s here rest why1 why2 at1 at2 clean r q = one_line here rest why1 why2 at1 at2 r q
+one_in alias_name s here rest why1 why2 at1 at2 clean r q = one_name here why1 why2 at1 at2 r q
+one_in anchor_name s here rest why1 why2 at1 at2 clean r q = one_name here why1 why2 at1 at2 r q
+one_in tag_text s here rest why1 why2 at1 at2 clean r q = one_refusal s.in_flow here rest why1 why2 at1 at2 r q
+one_in in_single_quotes s here rest why1 why2 at1 at2 clean r q = one_quoted s.in_flow (least_column s.blocks s.awaits) s.blocks s.awaits here rest clean why1 why2 at1 at2 r q
+one_in in_double_quotes s here rest why1 why2 at1 at2 clean r q = one_quoted s.in_flow (least_column s.blocks s.awaits) s.blocks s.awaits here rest clean why1 why2 at1 at2 r q
+one_in block_scalar s here rest why1 why2 at1 at2 clean r q = one_block s.blocks here rest clean why1 why2 at1 at2 r q
 
-  one_in : (k : Kind) (s : Setting) (here : Position) (rest : List ℕ) (why1 why2 : Problem) (at1 at2 : Position) → has_no_nul rest ≡ true → InKind k s here rest why1 at1 → InKind k s here rest why2 at2 → AreSame why1 why2 at1 at2
-  one_in nothing s here rest why1 why2 at1 at2 clean r q = one_reserved here rest why1 why2 at1 at2 r q
-  one_in plain_scalar s here rest why1 why2 at1 at2 clean r q = one_plain s.in_flow s.blocks here rest why1 why2 at1 at2 r.0 r.1 q.0 q.1
-  one_in sequence_opening s here rest why1 why2 at1 at2 clean r q = one_bracket s here rest why1 why2 at1 at2 r q
-  one_in sequence_closing s here rest why1 why2 at1 at2 clean r q = one_bracket s here rest why1 why2 at1 at2 r q
-  one_in mapping_opening s here rest why1 why2 at1 at2 clean r q = one_bracket s here rest why1 why2 at1 at2 r q
-  one_in mapping_closing s here rest why1 why2 at1 at2 clean r q = one_bracket s here rest why1 why2 at1 at2 r q
-  one_in comma s here rest why1 why2 at1 at2 clean r q = one_bracket s here rest why1 why2 at1 at2 r q
-  one_in question s here rest why1 why2 at1 at2 clean r q = one_question s here rest why1 why2 at1 at2 r q
-  one_in colon s here rest why1 why2 at1 at2 clean r q = one_colon s here rest why1 why2 at1 at2 r q
-  one_in dash s here rest why1 why2 at1 at2 clean r q = one_dash s here rest why1 why2 at1 at2 r q
-  one_in dashes s here rest why1 why2 at1 at2 clean r q = absurd r
-  one_in dots s here rest why1 why2 at1 at2 clean r q = one_dots here rest why1 why2 at1 at2 clean r q
-  one_in directive_line s here rest why1 why2 at1 at2 clean r q = one_line here rest why1 why2 at1 at2 r q
-  one_in alias_name s here rest why1 why2 at1 at2 clean r q = one_name here why1 why2 at1 at2 r q
-  one_in anchor_name s here rest why1 why2 at1 at2 clean r q = one_name here why1 why2 at1 at2 r q
-  one_in tag_text s here rest why1 why2 at1 at2 clean r q = one_refusal s.in_flow here rest why1 why2 at1 at2 r q
-  one_in in_single_quotes s here rest why1 why2 at1 at2 clean r q = one_quoted s.in_flow (least_column s.blocks s.awaits) s.blocks s.awaits here rest clean why1 why2 at1 at2 r q
-  one_in in_double_quotes s here rest why1 why2 at1 at2 clean r q = one_quoted s.in_flow (least_column s.blocks s.awaits) s.blocks s.awaits here rest clean why1 why2 at1 at2 r q
-  one_in block_scalar s here rest why1 why2 at1 at2 clean r q = one_block s.blocks here rest clean why1 why2 at1 at2 r q
+one_of_two : (s : Setting) (here : Position) (rest : List ℕ) (why1 why2 : Problem) (at1 at2 : Position) → has_no_nul rest ≡ true → Reason s here rest why1 at1 → Reason s here rest why2 at2 → AreSame why1 why2 at1 at2
+one_of_two s here rest why1 why2 at1 at2 clean (tab_indents tabs) (tab_indents tabs2) = (refl, refl)
+one_of_two s here rest why1 why2 at1 at2 clean (tab_indents tabs) (shallow spaced2 low2) = absurd (cc (tabs, spaced2))
+one_of_two s here rest why1 why2 at1 at2 clean (tab_indents tabs) (looked k2 reason2 place2 spaced2 deep2 kind2 q) = absurd (cc (tabs, spaced2))
+one_of_two s here rest why1 why2 at1 at2 clean (shallow spaced low) (tab_indents tabs2) = absurd (cc (tabs2, spaced))
+one_of_two s here rest why1 why2 at1 at2 clean (shallow spaced low) (shallow spaced2 low2) = (refl, refl)
+one_of_two s here rest why1 why2 at1 at2 clean (shallow spaced low) (looked k2 reason2 place2 spaced2 deep2 kind2 q) = absurd (cc (low, deep2))
+one_of_two s here rest why1 why2 at1 at2 clean (looked k reason place spaced deep kind r) (tab_indents tabs2) = absurd (cc (tabs2, spaced))
+one_of_two s here rest why1 why2 at1 at2 clean (looked k reason place spaced deep kind r) (shallow spaced2 low2) = absurd (cc (low2, deep))
+one_of_two s here rest why1 why2 at1 at2 clean (looked k reason place spaced deep kind r) (looked k2 reason2 place2 spaced2 deep2 kind2 q) =
+    one_in k s here rest why1 why2 at1 at2 clean r (subst (λ z. InKind z s here rest why2 at2) (sym kind2 ∙ kind) q)
 
-  one_of_two : (s : Setting) (here : Position) (rest : List ℕ) (why1 why2 : Problem) (at1 at2 : Position) → has_no_nul rest ≡ true → Reason s here rest why1 at1 → Reason s here rest why2 at2 → AreSame why1 why2 at1 at2
-  one_of_two s here rest why1 why2 at1 at2 clean (tab_indents tabs) (tab_indents tabs2) = (refl, refl)
-  one_of_two s here rest why1 why2 at1 at2 clean (tab_indents tabs) (shallow spaced2 low2) = absurd (cc (tabs, spaced2))
-  one_of_two s here rest why1 why2 at1 at2 clean (tab_indents tabs) (looked k2 reason2 place2 spaced2 deep2 kind2 q) = absurd (cc (tabs, spaced2))
-  one_of_two s here rest why1 why2 at1 at2 clean (shallow spaced low) (tab_indents tabs2) = absurd (cc (tabs2, spaced))
-  one_of_two s here rest why1 why2 at1 at2 clean (shallow spaced low) (shallow spaced2 low2) = (refl, refl)
-  one_of_two s here rest why1 why2 at1 at2 clean (shallow spaced low) (looked k2 reason2 place2 spaced2 deep2 kind2 q) = absurd (cc (low, deep2))
-  one_of_two s here rest why1 why2 at1 at2 clean (looked k reason place spaced deep kind r) (tab_indents tabs2) = absurd (cc (tabs2, spaced))
-  one_of_two s here rest why1 why2 at1 at2 clean (looked k reason place spaced deep kind r) (shallow spaced2 low2) = absurd (cc (low2, deep))
-  one_of_two s here rest why1 why2 at1 at2 clean (looked k reason place spaced deep kind r) (looked k2 reason2 place2 spaced2 deep2 kind2 q) =
-      one_in k s here rest why1 why2 at1 at2 clean r (subst (λ z. InKind z s here rest why2 at2) (sym kind2 ∙ kind) q)
-
-  -- At like accounts, after the same separation, what fails first is of one kind and at one position.
-  pub one_reason : (a b : Account) → IsLike a b → (separation : List ℕ) (here : Position) (rest : List ℕ) → has_no_nul rest ≡ true → (why1 why2 : Problem) (at1 at2 : Position) → FailsFirst a separation here rest why1 at1 → FailsFirst b separation here rest why2 at2 → (why1 ≡ why2) × (at1 ≡ at2)
-  one_reason a b like separation here rest clean why1 why2 at1 at2 x y =
-      one_of_two (setting_of a separation here) here rest why1 why2 at1 at2 clean (reason_of a separation here rest why1 at1 x)
-      (subst (λ s. Reason s here rest why2 at2) (sym (same_setting a b separation here like)) (reason_of b separation here rest why2 at2 y))
+-- At like accounts, after the same separation, what fails first is of one kind and at one position.
+pub one_reason : (a b : Account) → IsLike a b → (separation : List ℕ) (here : Position) (rest : List ℕ) → has_no_nul rest ≡ true → (why1 why2 : Problem) (at1 at2 : Position) → FailsFirst a separation here rest why1 at1 → FailsFirst b separation here rest why2 at2 → (why1 ≡ why2) × (at1 ≡ at2)
+one_reason a b like separation here rest clean why1 why2 at1 at2 x y =
+    one_of_two (setting_of a separation here) here rest why1 why2 at1 at2 clean (reason_of a separation here rest why1 at1 x)
+    (subst (λ s. Reason s here rest why2 at2) (sym (same_setting a b separation here like)) (reason_of b separation here rest why2 at2 y))

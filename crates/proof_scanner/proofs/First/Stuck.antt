@@ -24,7 +24,7 @@ use Rattle.proof_scanner.proofs.Refusals.StandsRefused.{no_colon_here}
 use Rattle.proof_scanner.proofs.Refusals.NoRows.{keyless_step, no_step_stands}
 use Rattle.proof_scanner.proofs.Refusals.KeysThatWait.{Together, Apart, together_keeps, apart_keeps, first_together, not_below}
 use Rattle.defs_token.specs.Indentation.{colon_may_precede}
-use Rattle.proof_scanner.proofs.First.Reasons.{OneQuoted, one_reason, colon_alone}
+use Rattle.proof_scanner.proofs.First.Reasons.{one_reason, colon_alone}
 use Rattle.proof_scanner.proofs.First.Ways.{like_sym, GivesUp, stays, given_up, gives_up_like, LeadsBy, Same, Way, way_of, strict_way, way_but_for_key, GoesOn, Meet, same_place, second_on, first_on, KeepsOn, meet}
 use Rattle.proof_scanner.proofs.First.Places.{Stands, clean_way, clean_left, one_cut, gives_up_site, step_of, clear, fails_before}
 
@@ -126,7 +126,7 @@ keeps_apart text = record {
 
 -- ---- two claims
 
-module _ (one_quoted : OneQuoted) (text : List ℕ) where
+module _ (text : List ℕ) where
   failing_once : (why1 why2 : Problem) (at1 at2 : Position) → FailsAt text why1 at1 → FailsAt text why2 at2 → (why1 ≡ why2) × (at1 ≡ at2)
   failing_once why1 why2 at1 at2 f g = by (meet GivesUp GivesUp Nothing keeps_nothing f.way.steps g.way.steps (f.separation ++ f.rest) (g.separation ++ g.rest) first_account first_account f.account g.account itself tt f.way.leads g.way.leads (f.way.spells ∙ sym g.way.spells) clean)
     where
@@ -142,7 +142,7 @@ module _ (one_quoted : OneQuoted) (text : List ℕ) where
       by : Meet GivesUp GivesUp Nothing f.account g.account (f.separation ++ f.rest) (g.separation ++ g.rest) → (why1 ≡ why2) × (at1 ≡ at2)
       by (same_place like r e) =
           let cut = one_cut f.account g.account f.separation f.rest g.separation g.rest f.here g.here f.stands g.stands like clean1 e in
-          one_reason one_quoted f.account g.account like f.separation f.here f.rest (no_nul_after f.separation f.rest clean1) why1 why2 at1 at2 f.first
+          one_reason f.account g.account like f.separation f.here f.rest (no_nul_after f.separation f.rest clean1) why1 why2 at1 at2 f.first
           (subst (λ s. FailsFirst g.account s f.here f.rest why2 at2) (sym cut.0) (subst (λ r. FailsFirst g.account g.separation f.here r why2 at2) (sym cut.1) (subst (λ h. FailsFirst g.account g.separation h g.rest why2 at2) (sym cut.2) g.first)))
       by (second_on n) = fails_before GivesUp gives_up_site Nothing f.account g.account f.separation f.rest g.separation g.rest f.here g.here f.stands g.stands n clean1 why1 why2 at1 at2 f.first g.first
       by (first_on n) =

@@ -1,9 +1,9 @@
 -- Faults of quoted scalars: a further line is not indented, or what stands after the scalar may not follow it.
-use Rattle.std.proofs.Common.{◌≡◌, ℕ, ◌+◌, ◌-◌, ◌≤◌, nat_lt, List, [], ◌∷◌, ◌++◌, Bool, true, false, not, ◌==◌, ◌&&◌, ◌||◌, if◌then◌else◌, append_assoc, Some, Result, Ok, Err, refl, ap, sym, ◌∙◌, subst, arith}
-use Rattle.defs_text.specs.Classes.{tab}
+use Rattle.std.proofs.Common.{◌≡◌, ℕ, ◌+◌, ◌-◌, ◌≤◌, nat_lt, List, [], ◌∷◌, ◌++◌, Bool, true, false, not, ◌==◌, ◌&&◌, ◌||◌, if◌then◌else◌, append-nil, append_assoc, Some, Result, Ok, Err, refl, ap, sym, ◌∙◌, subst, arith}
+use Rattle.defs_text.specs.Classes.{tab, is_document_marker}
 use Rattle.defs_text.specs.Position.{Position, position_after}
 use Rattle.defs_text.specs.Text.{is_empty, has_no_nul}
-use Rattle.defs_text.specs.FlowScalar.{begins_with}
+use Rattle.defs_text.specs.FlowScalar.{Element, content, begins_with, elements}
 use Rattle.defs_token.specs.Step.{gives_node}
 use Rattle.defs_token.specs.Indentation.{least_column}
 use Rattle.defs_token.specs.RowAccount.{Site, site_in}
@@ -23,8 +23,12 @@ use Rattle.model_scanner.specs.State.{ScannerState, peek, in_flow, go_on, on_hel
 use Rattle.model_scanner.specs.Space.{skip_spaces}
 use Rattle.model_scanner.specs.Document.{node_start, unled, may_follow_quoted, check_after_quoted}
 use Rattle.model_scanner.proofs.Holds.{held_of}
-use Rattle.proof_lexers.specs.QuotedScan.{element_of, value_of, ends_before}
+use Rattle.proof_lexers.specs.QuotedEnds.{IsBadEscape}
+use Rattle.proof_lexers.specs.QuotedEnds as bad
+use Rattle.proof_lexers.specs.QuotedScan.{element_of, value_of, ends_before, has_marker}
 use Rattle.proof_lexers.specs.QuotedScan as scans
+use Rattle.proof_lexers.proofs.Quoted.Bodies.{marked_from}
+use Rattle.proof_lexers.proofs.Quoted.Turns.{off_margin}
 use Rattle.proof_lexers.proofs.Quoted.Values.{bodies_are_read}
 use Rattle.proof_lexers.specs.Separations.{begins_separation, ends_spaces}
 use Rattle.proof_scanner.proofs.Cut.Nodes.{IsDeep}
@@ -34,6 +38,7 @@ use Rattle.proof_scanner.proofs.Cut.Saved.{saved_is}
 use Rattle.proof_scanner.specs.StandsInRow.{columns}
 use Rattle.proof_scanner.specs.Arrives.{Arrives, site_here}
 use Rattle.proof_scanner.proofs.Sound.QuotedBreaks.{same_limit}
+use Rattle.proof_scanner.proofs.Sound.QuotedEnds.{unglued}
 use Rattle.proof_scanner.proofs.Sound.QuotedKeeps.{QuotedAs, piece_of, least_is_less}
 use Rattle.proof_scanner.specs.Goes.{Succeeds, went}
 use Rattle.proof_scanner.proofs.Complete.Scalars.AfterQuoted.{check_passes}
@@ -43,13 +48,15 @@ use Rattle.proof_scanner.specs.NoPiece.{IsQuoted}
 use Rattle.proof_scanner.specs.Failing.{no_quoted, site_at_place}
 use Rattle.proof_scanner.specs.Stuck.{IsStuck}
 use Rattle.proof_scanner.specs.QuotedLines as lines
-use Rattle.proof_scanner.specs.QuotedLines.{AreNotIndented, IsQuotedFault}
-use Rattle.proof_scanner.proofs.Refusals.QuotedLines.{past_char, is_of_lines, Refuses, for_column, for_tab, quoted_refuses}
+use Rattle.proof_scanner.specs.QuotedLines.{within, past_elements, AreNotIndented, IsQuotedFault}
+use Rattle.proof_scanner.proofs.Refusals.QuotedElements.{past_char}
+use Rattle.proof_scanner.proofs.Refusals.QuotedLines.{is_of_lines, Ends, refused, reads, quoted_ends}
+use Rattle.proof_scanner.proofs.Refusals.QuotedReasons.{all_stand, indented_are, Cut, Place, by_end, by_escape, by_column, by_tab, Reason, marked, other}
 use Rattle.proof_scanner.proofs.Refusals.Faults.{Faults, fault, goes, in_turn}
 use Rattle.proof_scanner.proofs.Refusals.Spaces.{spaces_told, solid_past}
 use Rattle.proof_scanner.specs.First.{least_here}
-use Rattle.proof_scanner.specs.FirstQuoted.{lines_first}
-use Rattle.proof_scanner.proofs.Refusals.Places.{Told, LiesDeep, account_by, stuck, least_by, looked_at, followed_stuck}
+use Rattle.proof_scanner.specs.FirstQuoted.{are_indented, lines_first, closed_first}
+use Rattle.proof_scanner.proofs.Refusals.Places.{Told, LiesDeep, account_by, stuck, least_by, looked_at, none_here, followed_stuck}
 
 -- ---- texts
 
@@ -101,19 +108,19 @@ same_quote false = refl
 
 -- A text that the scan refuses, and not for its lines, begins with no quoted scalar.
 pub none_quoted : (single : Bool) (ctx : Context) (more : List ℕ) (p : Position) (f : Fault) → quoted single ctx (none.quote_of single ∷ more) p ≡ Err f → is_of_lines f ≡ false → none.HasNoQuoted single (none.quote_of single ∷ more)
-none_quoted single ctx more p f fails other piece next cut is = by b (quoted single ctx (quote_of single ∷ (b.body ++ quote_of single ∷ next)) p) (ap (λ q. quoted single ctx (q ∷ (b.body ++ q ∷ next)) p) (same_quote single) ∙ (ap (λ r. quoted single ctx (none.quote_of single ∷ r) p) (sym b.is_text) ∙ fails)) (bodies_are_read single ctx b.body next b.value p b.value_is b.ends)
+none_quoted single ctx more p f fails unlike piece next cut is = by b (quoted single ctx (quote_of single ∷ (b.body ++ quote_of single ∷ next)) p) (ap (λ q. quoted single ctx (q ∷ (b.body ++ q ∷ next)) p) (same_quote single) ∙ (ap (λ r. quoted single ctx (none.quote_of single ∷ r) p) (sym b.is_text) ∙ fails)) (bodies_are_read single ctx b.body next b.value p b.value_is b.ends)
   where
     b : Bodied single more piece next
     b = bodied single more piece next cut is
 
     by : (b : Bodied single more piece next) (x : Result (Read (List ℕ)) Fault) → x ≡ Err f → scans.IsRead ctx p b.value next x → ⊥
     by b x i (scans.read position e) = cc (i, e)
-    by b x i (scans.shallow (scans.by_line q h e)) = let same : At problem.QuotedIndentation p ≡ f = cc (i, e) in cc (other, ap is_of_lines same)
-    by b x i (scans.shallow (scans.by_tab q h e)) = let same : At problem.TabAsIndentation q ≡ f = cc (i, e) in cc (other, ap is_of_lines same)
+    by b x i (scans.shallow (scans.by_line q h e)) = let same : At problem.QuotedIndentation p ≡ f = cc (i, e) in cc (unlike, ap is_of_lines same)
+    by b x i (scans.shallow (scans.by_tab q h e)) = let same : At problem.TabAsIndentation q ≡ f = cc (i, e) in cc (unlike, ap is_of_lines same)
 
 -- ---- the check
 
-module _ (text : List ℕ) (t : ScannerState) (a : Arrives text t) (some : is_empty t.rest ≡ false) (lies : LiesDeep t) (single : Bool) (ctx : Context) (x : Read (List ℕ)) (q : QuotedAs single ctx t.held.position t.rest x) where
+module _ (text : List ℕ) (t : ScannerState) (a : Arrives text t) (some : is_empty t.rest ≡ false) (lies : LiesDeep t) (single : Bool) (ctx : Context) (x : Read (List ℕ)) (q : QuotedAs single ctx t.held.position t.rest x) (same : ctx.indent ≡ t.held.indent) where
   -- after the closing quote
   abbrev pub closed : ScannerState
   closed = on_held unled (go_on x (node_start t.held))
@@ -127,11 +134,15 @@ module _ (text : List ℕ) (t : ScannerState) (a : Arrives text t) (some : is_em
   pub is : IsQuoted single piece x.rest
   is = is_quoted single q.body x.rest x.value q.value_is q.ends
 
+  -- its further lines are indented
+  pub fits : closed_first single (t.held.indent - 1) piece
+  fits = ap (λ n. quoted_lines_fit (n - 1) (element_of single) piece) (sym same) ∙ q.fits
+
   -- a comment right after the quote
   glued : begins_with 35 x.rest ≡ true → Told text (At problem.CommentNotSeparated x.position)
   glued h =
       λ _. subst (λ p. IsStuck text problem.CommentNotSeparated p) (sym q.end_is)
-      (followed_stuck text t a some lies problem.CommentNotSeparated (position_after t.held.position piece x.rest) (none.glued_to_quoted single piece x.rest q.cut is h) (λ c may. tt))
+      (followed_stuck text t a some lies problem.CommentNotSeparated (position_after t.held.position piece x.rest) (none.glued_to_quoted single piece x.rest q.cut is h) (λ c may. fits))
 
   refuses : (v : ScannerState) → skip_spaces Yes closed ≡ Ok v → may_follow_quoted (in_flow v.held) (t.held.position.line == v.held.position.line) (peek v.rest) ≡ false
       → check_after_quoted t.held.position.line closed ≡ Err (At problem.ContentAfterQuoted v.held.position)
@@ -154,7 +165,7 @@ module _ (text : List ℕ) (t : ScannerState) (a : Arrives text t) (some : is_em
       λ _. subst (λ p. IsStuck text problem.ContentAfterQuoted p) (sym place)
       (followed_stuck text t a some lies problem.ContentAfterQuoted (position_after end passed v.rest)
       (none.after_quoted single piece x.rest passed v.rest q.cut is (may_not_end v e n) (record { is_text = s.is_rest ∙ sym (append_assoc s.blanks s.comment v.rest); is_filled = s.is_filled; is_on_line = s.no_break })
-      (solid_left (in_flow v.held) (t.held.position.line == v.held.position.line) v.rest s.ends n)) (λ c may. tt))
+      (solid_left (in_flow v.held) (t.held.position.line == v.held.position.line) v.rest s.ends n)) (λ c may. (fits, held_of v (unglued Yes closed) e)))
 
   pub after_told : Faults (Told text) (check_after_quoted t.held.position.line closed)
   unfolding check_after_quoted
@@ -165,57 +176,106 @@ module _ (text : List ℕ) (t : ScannerState) (a : Arrives text t) (some : is_em
       by v e s true n = goes
       by v e s false n = fault {f = At problem.ContentAfterQuoted v.held.position} (followed_by v e s n)
 
--- ---- further lines
+-- ---- a text that is refused
 
 unbroken : (b : Bool) → model_classes.is_break (none.quote_of b) ≡ false
 unfolding model_classes.is_break
 unbroken true = refl
 unbroken false = refl
 
+not_of_lines : (text : List ℕ) (why : Problem) (p : Position) → IsBadEscape text why → is_of_lines (At why p) ≡ false
+not_of_lines text why p bad.ends = refl
+not_of_lines text why p (bad.unknown c r i j k) = refl
+not_of_lines text why p (bad.no_digit c digits r i j k) = refl
+not_of_lines text why p (bad.no_character c digits code r i j k l) = refl
+
 module _ (text : List ℕ) (t : ScannerState) (a : Arrives text t) (some : is_empty t.rest ≡ false) (lies : LiesDeep t) where
   abbrev here : Position
   here = t.held.position
 
+  abbrev least : ℕ
+  least = t.held.indent - 1
+
   -- the quoted scalar that begins here is none
-  lines_stuck : (single : Bool) (why : Problem) (at : Position) → AreNotIndented single (t.held.indent - 1) t.rest → (x : IsQuotedFault single (t.held.indent - 1) here t.rest why at) → lines_first single (t.held.indent - 1) here t.rest why at x → IsStuck text why at
+  lines_stuck : (single : Bool) (why : Problem) (at : Position) → AreNotIndented single least t.rest → (x : IsQuotedFault single least here t.rest why at) → lines_first single least here t.rest why at x → IsStuck text why at
   lines_stuck single why at none_fits x first =
       stuck text t a some [] why at (λ c may.
       let P : ℕ → Type 0 = λ n. (y : IsQuotedFault single n here t.rest why at) × lines_first single n here t.rest why at y in
       let moved : P (least_here (account_by text t a some c []) here) = subst P (sym (least_by text t a some c [])) (x, first) in
       record { fails = no_quoted single (subst (λ n. AreNotIndented single n t.rest) (sym (least_by text t a some c [])) none_fits) moved.0; is_first = (looked_at text t a some lies c [], moved.1) })
 
-  pub lines_told : IsDeep t.held → (single : Bool) (ctx : Context) (more : List ℕ) → ctx.indent ≡ t.held.indent → 2 ≤ ctx.indent → t.rest ≡ none.quote_of single ∷ more → has_no_nul more ≡ true → (f : Fault) → quoted single ctx (none.quote_of single ∷ more) here ≡ Err f → is_of_lines f ≡ true → Told text f
-  lines_told deep single ctx more same two e clean f k told = by f (quoted_refuses single ctx here two more (omega (arith, deep, same)) (some_chars more clean) f k told)
-    where
-      place : (body rest : List ℕ) → position_after here (none.quote_of single ∷ body) rest ≡ position_after (past here) body rest
-      place body rest = ap (λ q. position_after q body rest) (past_char here (none.quote_of single) (body ++ rest) (unbroken single))
+  module _ (deep : IsDeep t.held) (single : Bool) (ctx : Context) (same : ctx.indent ≡ t.held.indent) (more : List ℕ) (e : t.rest ≡ none.quote_of single ∷ more) where
+    limit : (k : ℕ) → nat_lt (k + 1) ctx.indent ≡ nat_lt k least
+    limit k = ap (λ n. nat_lt (k + 1) n) same ∙ same_limit k t.held.indent
 
-      low_by : (q : Position) → nat_lt (q.col + 1) ctx.indent ≡ true → nat_lt q.col (t.held.indent - 1) ≡ true
-      low_by q h = sym (same_limit q.col t.held.indent) ∙ (ap (λ n. nat_lt (q.col + 1) n) (sym same) ∙ h)
+    module _ (f : Fault) (fails : quoted single ctx (none.quote_of single ∷ more) here ≡ Err f) where
+      none_there : is_of_lines f ≡ false → none.HasNoQuoted single t.rest
+      none_there told = subst (λ r. none.HasNoQuoted single r) (sym e) (none_quoted single ctx more here f fails told)
 
-      none_fits : AreNotIndented single (t.held.indent - 1) t.rest
-      none_fits piece next cut is = on (quoted_lines_fit (t.held.indent - 1) (element_of single) piece) refl
+      none_fits : AreNotIndented single least t.rest
+      none_fits piece next cut is = on (quoted_lines_fit least (element_of single) piece) refl
         where
           b : Bodied single more piece next
           b = bodied single more piece next (sym e ∙ cut) is
 
-          on : (fits : Bool) → quoted_lines_fit (t.held.indent - 1) (element_of single) piece ≡ fits → fits ≡ false
+          on : (fit : Bool) → quoted_lines_fit least (element_of single) piece ≡ fit → fit ≡ false
           on false i = refl
           on true i =
               let fit : quoted_lines_fit (ctx.indent - 1) (element_of single) (quote_of single ∷ (b.body ++ quote_of single ∷ [])) ≡ true =
               ap (λ n. quoted_lines_fit (n - 1) (element_of single) (quote_of single ∷ (b.body ++ quote_of single ∷ []))) same ∙
-              (ap (λ q. quoted_lines_fit (t.held.indent - 1) (element_of single) (q ∷ (b.body ++ q ∷ []))) (same_quote single) ∙ (ap (λ p. quoted_lines_fit (t.held.indent - 1) (element_of single) p) (sym b.piece_is) ∙ i)) in
+              (ap (λ q. quoted_lines_fit least (element_of single) (q ∷ (b.body ++ q ∷ []))) (same_quote single) ∙ (ap (λ p. quoted_lines_fit least (element_of single) p) (sym b.piece_is) ∙ i)) in
               let reads = (quoted_scanned single ctx b.body next b.value here b.value_is b.ends (omega (arith, deep, same)) fit).is in
               let at_text = ap (λ q. quoted single ctx (q ∷ (b.body ++ q ∷ next)) here) (same_quote single) ∙ ap (λ r. quoted single ctx (none.quote_of single ∷ r) here) (sym b.is_text) in
-              absurd (cc (reads, at_text, k))
+              absurd (cc (reads, at_text, fails))
 
-      by : (f : Fault) → Refuses single ctx here more f → Told text f
-      by f (for_column body rest es cut has solid further low) =
-          λ _. lines_stuck single problem.QuotedIndentation here none_fits
-          (lines.by_column body rest es (e ∙ ap (λ r. none.quote_of single ∷ r) cut) has solid further
-          (ap (λ (q : Position). nat_lt q.col (t.held.indent - 1)) (place body rest) ∙ low_by (position_after (past here) body rest) low)) tt
-      by f (for_tab body rest es q cut has further at low) =
-          let at_text : q ≡ position_after here (none.quote_of single ∷ body) (tab ∷ rest) = at ∙ sym (place body (tab ∷ rest)) in
-          λ _. subst (λ z. IsStuck text problem.TabAsIndentation z) (sym at_text)
-          (lines_stuck single problem.TabAsIndentation (position_after here (none.quote_of single ∷ body) (tab ∷ rest)) none_fits
-          (lines.by_tab body rest es (e ∙ ap (λ r. none.quote_of single ∷ r) cut) has further (ap (λ (z : Position). nat_lt z.col (t.held.indent - 1)) (sym at_text) ∙ low_by q low)) tt)
+      -- what is wrong with the text after the quote is what the whole text is stuck by
+      told_by : (why : Problem) (at : Position) → At why at ≡ f → Reason single least here within (past here) more why at → IsStuck text why at
+      told_by why at is (marked x marker m) =
+          none_here text t a some lies problem.QuotedDocumentMarker
+          (none.unquoted single more problem.QuotedDocumentMarker e (none_there (ap is_of_lines (sym is))) (none.by_marker x.body x.rest x.is_text (x.es, x.are) (marks_in (has_marker x.body x.rest) m)))
+          (marker, indented x.es x.fits)
+        where
+          marks_in : (b : Bool) → (((here.col + 1) == 0) && is_document_marker (x.body ++ x.rest) || b) ≡ true → b ≡ true
+          marks_in b h = rw (off_margin here.col 0) at h
+
+          indented : (es : List Element) → all_stand least within (past here).col (es ++ []) ≡ true → are_indented least es ≡ true
+          indented es h = indented_are least (past here).col es ∙ (ap (all_stand least within (past here).col) (sym (append-nil es)) ∙ h)
+      told_by why at is (other last _ _ x m wrong) = by last why at is x m wrong
+        where
+          unmarked : (body rest : List ℕ) → marked_from (past here).col body rest ≡ false → has_marker body rest ≡ false
+          unmarked body rest h = rw (off_margin here.col 0) at h
+
+          indented : (es : List Element) → all_stand least within (past here).col (es ++ []) ≡ true → are_indented least es ≡ true
+          indented es h = indented_are least (past here).col es ∙ (ap (all_stand least within (past here).col) (sym (append-nil es)) ∙ h)
+
+          place : (body rest : List ℕ) → position_after here (none.quote_of single ∷ body) rest ≡ position_after (past here) body rest
+          place body rest = ap (λ q. position_after q body rest) (past_char here (none.quote_of single) (body ++ rest) (unbroken single))
+
+          by : (last : List Element) (why : Problem) (at : Position) → At why at ≡ f → (x : Cut single least here last within (past here) more) → marked_from (past here).col x.body x.rest ≡ false
+              → Place single least here (past_elements within x.es) (position_after (past here) x.body x.rest) x.rest last why at → IsStuck text why at
+          by last why at is x m (by_end ends) =
+              let all : more ≡ x.body = x.is_text ∙ (ap (λ r. x.body ++ r) ends ∙ append-nil x.body) in
+              none_here text t a some lies problem.QuotedEnd
+              (none.unquoted single more problem.QuotedEnd e (none_there (ap is_of_lines (sym is))) (none.by_end (x.es, subst (λ b. elements (element_of single) 0 b ≡ Some x.es) (sym all) x.are)))
+              (ap (λ b. has_marker b []) all ∙ (ap (λ r. has_marker x.body r) (sym ends) ∙ unmarked x.body x.rest m), indented x.es x.fits)
+          by last why at is x m (by_escape next _ double cut bad) =
+              none_here text t a some lies why
+              (none.unquoted single more why e (none_there (ap is_of_lines (sym is) ∙ not_of_lines next why here bad)) (none.by_escape x.body next why double (x.is_text ∙ ap (λ r. x.body ++ r) cut) (x.es, x.are) bad))
+              (ap (λ r. has_marker x.body r) (sym cut) ∙ unmarked x.body x.rest m, indented_are least (past here).col (x.es ++ content 92 ∷ []) ∙ x.fits)
+          by last why at is x m (by_column solid further low) =
+              lines_stuck single problem.QuotedIndentation here none_fits
+              (lines.by_column x.body x.rest x.es (e ∙ ap (λ r. none.quote_of single ∷ r) x.is_text) x.are solid further (ap (λ (q : Position). nat_lt q.col least) (place x.body x.rest) ∙ low))
+              (unmarked x.body x.rest m, indented x.es x.fits)
+          by last why at is x m (by_tab next cut further low) =
+              let same_place : position_after (past here) x.body x.rest ≡ position_after here (none.quote_of single ∷ x.body) (tab ∷ next) = sym (place x.body x.rest) ∙ ap (λ r. position_after here (none.quote_of single ∷ x.body) r) cut in
+              subst (λ z. IsStuck text problem.TabAsIndentation z) (sym same_place)
+              (lines_stuck single problem.TabAsIndentation (position_after here (none.quote_of single ∷ x.body) (tab ∷ next)) none_fits
+              (lines.by_tab x.body next x.es (e ∙ ap (λ r. none.quote_of single ∷ r) (x.is_text ∙ ap (λ r. x.body ++ r) cut)) x.are further (ap (λ (q : Position). nat_lt q.col least) (sym same_place) ∙ low))
+              (ap (λ r. has_marker x.body r) (sym cut) ∙ unmarked x.body x.rest m, indented x.es x.fits))
+
+    pub refused_told : has_no_nul more ≡ true → (f : Fault) → quoted single ctx (none.quote_of single ∷ more) here ≡ Err f → Told text f
+    refused_told clean f fails = by (quoted_ends single ctx here least limit (omega (arith, deep, same)) more (some_chars more clean))
+      where
+        by : Ends single ctx here least limit within (past here) more (quoted single ctx (none.quote_of single ∷ more) here) → Told text f
+        by (reads y i) = absurd (cc (i, fails))
+        by (refused why at h i) = let is : At why at ≡ f = cc (i, fails) in subst (λ g. Told text g) is (λ _. told_by f fails why at is h)

@@ -2,6 +2,7 @@
 use Rattle.std.proofs.Common.{◌≡◌, ℕ, List, [], ◌++◌, Bool, true, false, append_assoc, Result, Ok, refl, ap, sym, ◌∙◌, subst, inr}
 use Rattle.defs_text.specs.Position.{Position, position_after}
 use Rattle.defs_text.specs.Text.{is_empty, has_no_nul}
+use Rattle.defs_text.specs.FlowScalar.{begins_with}
 use Rattle.defs_token.specs.Separation.{is_separation}
 use Rattle.defs_token.specs.Step.{gives_node, quoted_scalar, has_break}
 use Rattle.defs_token.specs.Indentation.{least_column, is_indented_by_spaces}
@@ -10,7 +11,7 @@ use Rattle.yaml_tokens.specs.declared.problem.Fault.{Fault}
 use Rattle.yaml_tokens.specs.declared.problem.Problem.TheVariants as problem
 use Rattle.model_scanner.specs.declared.context.Context.{Context}
 use Rattle.model_scanner.specs.Machine.{Read}
-use Rattle.model_scanner.specs.State.{ScannerState}
+use Rattle.model_scanner.specs.State.{ScannerState, in_flow}
 use Rattle.model_scanner.specs.Space.{between, skip_to_next_token}
 use Rattle.model_scanner.specs.Document.{check_after_quoted}
 use Rattle.model_scanner.proofs.Holds.{held_of}
@@ -27,18 +28,20 @@ use Rattle.proof_scanner.proofs.Sound.Skips.{IsLeast, IsIn}
 use Rattle.proof_scanner.specs.NoPiece.{IsQuoted}
 use Rattle.proof_scanner.specs.Failing as defs
 use Rattle.proof_scanner.specs.Failing.{may_not_stand, site_at_place}
+use Rattle.proof_scanner.specs.FirstQuoted.{closed_first}
 use Rattle.proof_scanner.specs.Stuck.{IsStuck}
+use Rattle.proof_scanner.proofs.Complete.Scalars.AfterQuoted.{unglued}
 use Rattle.proof_scanner.proofs.Refusals.Faults.{Faults, fault, goes}
-use Rattle.proof_scanner.proofs.Refusals.Places.{Told, LiesDeep, account_by, stuck, blocks_by, awaits_by, looked_at}
-use Rattle.proof_scanner.proofs.Refusals.Quotes.{closed, piece, is}
+use Rattle.proof_scanner.proofs.Refusals.Places.{Told, LiesDeep, account_by, stuck, blocks_by, awaits_by, least_by, looked_at}
+use Rattle.proof_scanner.proofs.Refusals.Quotes.{closed, piece, is, fits}
 use Rattle.proof_scanner.proofs.Refusals.Tabs.{TabStands, skip_refused}
 
-module _ (text : List ℕ) (t : ScannerState) (a : Arrives text t) (some : is_empty t.rest ≡ false) (lies : LiesDeep t) (single : Bool) (ctx : Context) (x : Read (List ℕ)) (q : QuotedAs single ctx t.held.position t.rest x) where
+module _ (text : List ℕ) (t : ScannerState) (a : Arrives text t) (some : is_empty t.rest ≡ false) (lies : LiesDeep t) (single : Bool) (ctx : Context) (x : Read (List ℕ)) (q : QuotedAs single ctx t.held.position t.rest x) (same : ctx.indent ≡ t.held.indent) where
   abbrev own : ScannerState
-  own = closed text t a some lies single ctx x q
+  own = closed text t a some lies single ctx x q same
 
   abbrev scalar : List ℕ
-  scalar = piece text t a some lies single ctx x q
+  scalar = piece text t a some lies single ctx x q same
 
   abbrev blocks : List ℕ
   blocks = columns t.held.indent t.held.indents
@@ -68,10 +71,10 @@ module _ (text : List ℕ) (t : ScannerState) (a : Arrives text t) (some : is_em
         subst (λ g. Told text g) (sym d.is_fault) (λ _. subst (λ p. IsStuck text problem.TabInBlockIndentation p) (sym place)
         (stuck text t a some [] problem.TabInBlockIndentation (position_after end gap d.rest) (λ k may.
         record {
-          fails = may_not_stand (defs.tab_after_quoted single scalar gap d.rest whole (subst (λ r. defs_quoted r) cut (is text t a some lies single ctx x q)) is_filled d.goes_on d.is_solid
+          fails = may_not_stand (defs.tab_after_quoted single scalar gap d.rest whole (subst (λ r. defs_quoted r) cut (is text t a some lies single ctx x q same)) is_filled d.goes_on d.is_solid
               (ap (λ bs. is_indented_by_spaces quoted_scalar bs (site_at_place (account_by text t a some k []) t.held.position).awaits gap) (blocks_by text t a some k []) ∙
               (ap (λ w. is_indented_by_spaces quoted_scalar blocks w gap) (awaits_by text t a some k []) ∙ d.is_indented_by_tab)));
-          is_first = (looked_at text t a some lies k [], tt);
+          is_first = (looked_at text t a some lies k [], subst (λ n. closed_first single n scalar) (sym (least_by text t a some k [])) (fits text t a some lies single ctx x q same), subst (λ r. begins_with 35 r ≡ false) cut (unglued (in_flow own.held) scalar x.rest c.may_end));
         })))
       where
         gap : List ℕ

@@ -55,10 +55,10 @@ module _ (single : Bool) (ctx : Context) (start : Position) (column : ℕ) (limi
     ends : Ends (to_close (drop s.further b)) mode past_it (after_element s.element t)
 
   goes_by : (c : ℕ) (b : List ℕ) (p : Position) (t : Folded) (s : Spelled) → Step single ctx start c b (quote_of single ∷ r) p t s → Ends (to_close (c ∷ b)) gap p t → Goes b s t
-  goes_by c b p t s (steps m q ready full none marks is) e = record { mode = m; past_it = q; ready = ready; ends = sym is ∙ e }
+  goes_by c b p t s (steps m q at ready full none marks is) e = record { mode = m; past_it = q; ready = ready; ends = sym is ∙ e }
   goes_by c b p t s (is_marked h is) e = absurd (cc (is, e))
-  goes_by c b p t s (is_shallow (by_line q h is)) e = absurd (cc (is, e))
-  goes_by c b p t s (is_shallow (by_tab q h is)) e = absurd (cc (is, e))
+  goes_by c b p t s (is_shallow low (by_line q h is)) e = absurd (cc (is, e))
+  goes_by c b p t s (is_shallow low (by_tab q h is)) e = absurd (cc (is, e))
 
   goes : (c : ℕ) (b : List ℕ) (p : Position) (t : Folded) (s : Spelled) → element_of single c b ≡ Some s → Ends (to_close (c ∷ b)) gap p t → Goes b s t
   goes c b p t s h e = goes_by c b p t s (subst (λ o. StepOf single ctx start c b (quote_of single ∷ r) p t o) h (step single ctx start c b (quote_of single ∷ r) p t (quote_feed single r))) e

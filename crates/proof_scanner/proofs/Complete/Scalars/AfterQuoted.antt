@@ -35,7 +35,7 @@ use Rattle.proof_scanner.proofs.Complete.Runs.{Left}
 -- ---- the blanks after it
 
 -- no comment stands directly after a quoted scalar
-unglued : (flow : Bool) (piece next : List ℕ) → quoted_may_end flow piece next ≡ true → begins_with 35 next ≡ false
+pub unglued : (flow : Bool) (piece next : List ℕ) → quoted_may_end flow piece next ≡ true → begins_with 35 next ≡ false
 unfolding is_blank is_break
 unglued flow piece [] h = refl
 unglued flow piece (c ∷ r) h = by (c == 35) refl

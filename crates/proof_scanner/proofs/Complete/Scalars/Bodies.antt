@@ -55,7 +55,7 @@ content_deep k column code e (last_line l) h = (deep_of k column (ap (λ b. fits
 content_deep k column code e (line l escaped ls) h = let q = and_parts (fits_from k column true []) (lines_fit column escaped ls) h in (deep_of k column q.0, q.1)
 
 -- a line that goes on with a blank
-blank_first : (k column c : ℕ) (holds : Bool) (bs : List ℕ) → fits_from k column holds (c ∷ bs) ≡ true → (((c == 9) && nat_lt k column) ≡ false) × (fits_from (suc k) column holds bs ≡ true)
+pub blank_first : (k column c : ℕ) (holds : Bool) (bs : List ℕ) → fits_from k column holds (c ∷ bs) ≡ true → (((c == 9) && nat_lt k column) ≡ false) × (fits_from (suc k) column holds bs ≡ true)
 blank_first k column c holds bs h =
     let q = and_parts (not (has_tab_within (column - k) (c ∷ bs))) (not holds || nat_le column (k + suc (length bs))) h in
     let more : k + suc (length bs) ≡ suc k + length bs = omega arith in

@@ -1,0 +1,206 @@
+-- Of two reasons why a quoted scalar is refused at a place that both come first, kind and position are the same.
+use Rattle.std.proofs.Common.{◌≡◌, ℕ, ◌+◌, List, [], ◌∷◌, ◌++◌, Bool, true, false, not, ◌&&◌, ◌||◌, ◌==◌, nat_lt, append-nil, append_assoc, if◌then◌else◌, refl, ap, sym, ◌∙◌, subst, arith}
+use Rattle.std.proofs.lemmas.Bool.{eqb-true}
+use Rattle.defs_text.specs.Classes as classes
+use Rattle.defs_text.specs.Classes.{tab, is_document_marker}
+use Rattle.defs_text.specs.Position.{Position, position_after}
+use Rattle.defs_text.specs.Text.{is_empty, has_no_nul}
+use Rattle.defs_text.specs.FlowScalar.{Element, content, begins_with, elements}
+use Rattle.defs_token.specs.Separation.{is_separation}
+use Rattle.defs_token.specs.Step.{quoted_scalar, has_break}
+use Rattle.defs_token.specs.Indentation.{is_indented_by_spaces, has_tab_within, least_column, last_line}
+use Rattle.defs_token.specs.Following.{quoted_may_end}
+use Rattle.defs_token.specs.Lines.{quoted_lines_fit}
+use Rattle.yaml_chars.specs.Class as model_classes
+use Rattle.yaml_tokens.specs.declared.problem.Problem.{Problem}
+use Rattle.yaml_tokens.specs.declared.problem.Problem.TheVariants as problem
+use Rattle.model_scanner.specs.Machine.{past}
+use Rattle.proof_row.specs.Ends.{ends_separation}
+use Rattle.proof_row.proofs.Quotes.{singles, doubles}
+use Rattle.proof_row.proofs.Separations.{separations}
+use Rattle.proof_lexers.specs.PlainEnds as plain_ends
+use Rattle.proof_lexers.specs.PlainEnds.{begins_solid}
+use Rattle.proof_lexers.specs.QuotedScan.{element_of, has_marker}
+use Rattle.proof_lexers.specs.Separations.{begins_separation}
+use Rattle.proof_lexers.proofs.Quoted.Bodies.{marked_from}
+use Rattle.proof_lexers.proofs.Quoted.Turns.{off_margin}
+use Rattle.proof_scanner.specs.NoPiece as none
+use Rattle.proof_scanner.specs.NoPiece.{quote_of, IsQuoted, HasNoQuoted, IsNotQuoted, GoesOn}
+use Rattle.proof_scanner.specs.QuotedLines as lines
+use Rattle.proof_scanner.specs.QuotedLines.{within, past_elements, AreNotIndented, IsQuotedFault}
+use Rattle.proof_scanner.specs.FirstQuoted.{are_indented, quoted_first, lines_first, closed_first}
+use Rattle.proof_scanner.proofs.Complete.Steps.{ends_before}
+use Rattle.proof_scanner.proofs.Sound.Arrivals.{clean_after}
+use Rattle.proof_scanner.proofs.Sound.Passed.{same_has_break}
+use Rattle.proof_scanner.proofs.First.QuotedCuts.{one_reason}
+use Rattle.proof_scanner.proofs.Refusals.QuotedElements.{past_char}
+use Rattle.proof_scanner.proofs.Refusals.QuotedLines.{marker_no_feed}
+use Rattle.proof_scanner.proofs.Refusals.QuotedReasons.{all_stand, indented_are, Place, by_end, by_escape, by_column, by_tab, Reason, marked, other}
+
+-- A reason why a quoted scalar is refused that begins with a text at a position, or what follows it; and what is so before.
+pub data QuotedReason (in_flow : Bool) (least : ℕ) (blocks : List ℕ) (awaits : Bool) (here : Position) (rest : List ℕ) : Problem → Position → Type 0 where
+  unquoted : (single : Bool) (more : List ℕ) (why : Problem) → rest ≡ quote_of single ∷ more → HasNoQuoted single rest → (n : IsNotQuoted single more why) → quoted_first single least here more why n → QuotedReason in_flow least blocks awaits here rest why here
+  no_quoted : (single : Bool) (why : Problem) (at : Position) → AreNotIndented single least rest → (n : IsQuotedFault single least here rest why at) → lines_first single least here rest why at n → QuotedReason in_flow least blocks awaits here rest why at
+  glued_to_quoted : (single : Bool) (piece more : List ℕ) → rest ≡ piece ++ more → IsQuoted single piece more → begins_with 35 more ≡ true → closed_first single least piece
+      → QuotedReason in_flow least blocks awaits here rest problem.CommentNotSeparated (position_after here piece more)
+  after_quoted : (single : Bool) (piece more passed content : List ℕ) → rest ≡ piece ++ more → IsQuoted single piece more → quoted_may_end in_flow piece more ≡ false → GoesOn more passed content → begins_separation content ≡ false
+      → closed_first single least piece × (begins_with 35 more ≡ false) → QuotedReason in_flow least blocks awaits here rest problem.ContentAfterQuoted (position_after (position_after here piece more) passed content)
+  tab_after_quoted : (single : Bool) (piece gap content : List ℕ) → rest ≡ piece ++ (gap ++ content) → IsQuoted single piece (gap ++ content) → is_separation false gap content ≡ true → is_empty content ≡ false → begins_separation content ≡ false
+      → is_indented_by_spaces quoted_scalar blocks awaits gap ≡ false → closed_first single least piece × (begins_with 35 (gap ++ content) ≡ false)
+      → QuotedReason in_flow least blocks awaits here rest problem.TabInBlockIndentation (position_after (position_after here piece (gap ++ content)) gap content)
+
+-- ---- the quote
+
+same_single : (x y : Bool) (a b : List ℕ) → quote_of x ∷ a ≡ quote_of y ∷ b → x ≡ y
+same_single true true a b e = refl
+same_single false false a b e = refl
+same_single true false a b e = let h : true ≡ false = ap (begins_with 39) e in absurd (cc h)
+same_single false true a b e = let h : false ≡ true = ap (begins_with 39) e in absurd (cc h)
+
+-- a quoted scalar begins with its quote
+begins_quoted : (single : Bool) (rest piece next : List ℕ) → rest ≡ piece ++ next → IsQuoted single piece next → (more : List ℕ) × (rest ≡ quote_of single ∷ more)
+begins_quoted true rest piece next e is = ((is.1.0 ++ 39 ∷ []) ++ next, e ∙ ap (λ p. p ++ next) is.1.1)
+begins_quoted false rest piece next e is = ((is.1.0 ++ 34 ∷ []) ++ next, e ∙ ap (λ p. p ++ next) is.1.1)
+
+-- a text begins with one quoted scalar
+one_end : (single : Bool) (p q x y : List ℕ) → IsQuoted single p x → IsQuoted single q y → p ++ x ≡ q ++ y → (p ≡ q) × (x ≡ y)
+one_end true p q x y h k e = singles p q x y h k e
+one_end false p q x y h k e = doubles p q x y h k e
+
+unbroken : (single : Bool) → model_classes.is_break (quote_of single) ≡ false
+unfolding model_classes.is_break
+unbroken true = refl
+unbroken false = refl
+
+solid_no_feed : (r : List ℕ) → begins_solid r ≡ true → begins_with 10 r ≡ false
+unfolding classes.is_break classes.is_blank
+solid_no_feed [] h = refl
+solid_no_feed (c ∷ r) h = by (c == 10) refl
+  where
+    by : (feed : Bool) → (c == 10) ≡ feed → (c == 10) ≡ false
+    by true e = let same : c ≡ 10 = eqb-true c 10 e in absurd (cc (ap (λ c. begins_solid (c ∷ r)) same, h))
+    by false e = e
+
+module _ (in_flow : Bool) (least : ℕ) (blocks : List ℕ) (awaits : Bool) (here : Position) (rest : List ℕ) where
+  -- ---- what follows a quoted scalar
+
+  data After (piece next : List ℕ) : Problem → Position → Type 0 where
+    glued : begins_with 35 next ≡ true → After piece next problem.CommentNotSeparated (position_after here piece next)
+    text : (passed content : List ℕ) → GoesOn next passed content → begins_separation content ≡ false → begins_with 35 next ≡ false → After piece next problem.ContentAfterQuoted (position_after (position_after here piece next) passed content)
+    tabbed : (gap content : List ℕ) → next ≡ gap ++ content → is_separation false gap content ≡ true → begins_separation content ≡ false → has_break gap ≡ true → begins_with 35 next ≡ false
+        → After piece next problem.TabInBlockIndentation (position_after (position_after here piece next) gap content)
+
+  module _ (piece next : List ℕ) (clean : has_no_nul next ≡ true) where
+    -- a separation has one end
+    one_gap : (p q x y : List ℕ) → next ≡ p ++ x → next ≡ q ++ y → is_separation false p x ≡ true → is_separation false q y ≡ true → begins_separation x ≡ false → begins_separation y ≡ false → (p ≡ q) × (x ≡ y)
+    one_gap p q x y e f h k m n = separations p q x y (h, ends_before x m (clean_after p x (ap has_no_nul (sym e) ∙ clean))) (k, ends_before y n (clean_after q y (ap has_no_nul (sym f) ∙ clean))) (sym e ∙ f)
+
+    same_end : (p q x y : List ℕ) → (p ≡ q) × (x ≡ y) → position_after (position_after here piece next) p x ≡ position_after (position_after here piece next) q y
+    same_end p q x y s = ap (λ l. position_after (position_after here piece next) l x) s.0 ∙ ap (λ l. position_after (position_after here piece next) q l) s.1
+
+    one_after : (why1 why2 : Problem) (at1 at2 : Position) → After piece next why1 at1 → After piece next why2 at2 → (why1 ≡ why2) × (at1 ≡ at2)
+    one_after why1 why2 at1 at2 (glued h) (glued k) = (refl, refl)
+    one_after why1 why2 at1 at2 (glued h) (text p x g m k) = absurd (cc (h, k))
+    one_after why1 why2 at1 at2 (glued h) (tabbed p x e g m b k) = absurd (cc (h, k))
+    one_after why1 why2 at1 at2 (text p x g m k) (glued h) = absurd (cc (h, k))
+    one_after why1 why2 at1 at2 (text p x g m k) (text q y g2 m2 k2) = (refl, same_end p q x y (one_gap p q x y g.is_text g2.is_text g.is_filled g2.is_filled m m2))
+    one_after why1 why2 at1 at2 (text p x g m k) (tabbed q y e g2 m2 b k2) =
+        let same = one_gap p q x y g.is_text e g.is_filled g2 m m2 in
+        absurd (cc (sym (same_has_break p) ∙ g.is_on_line, ap has_break same.0, b))
+    one_after why1 why2 at1 at2 (tabbed p x e g m b k) (glued h) = absurd (cc (h, k))
+    one_after why1 why2 at1 at2 (tabbed p x e g m b k) (text q y g2 m2 k2) =
+        let same = one_gap p q x y e g2.is_text g g2.is_filled m m2 in
+        absurd (cc (sym (same_has_break q) ∙ g2.is_on_line, ap has_break same.0, b))
+    one_after why1 why2 at1 at2 (tabbed p x e g m b k) (tabbed q y e2 g2 m2 b2 k2) = (refl, same_end p q x y (one_gap p q x y e e2 g g2 m m2))
+
+  -- ---- all
+
+  -- A quoted scalar does not come to its end, or it does and what follows it is wrong.
+  data Sorted (single : Bool) (more : List ℕ) : Problem → Position → Type 0 where
+    fails : (why : Problem) (at : Position) → Reason single least here within (past here) more why at → ((piece next : List ℕ) → rest ≡ piece ++ next → IsQuoted single piece next → closed_first single least piece → ⊥) → Sorted single more why at
+    closes : (piece next : List ℕ) (why : Problem) (at : Position) → rest ≡ piece ++ next → IsQuoted single piece next → closed_first single least piece → After piece next why at → Sorted single more why at
+
+  module _ (single : Bool) (more : List ℕ) where
+    indented : (es : List Element) → are_indented least es ≡ true → all_stand least within (past here).col (es ++ []) ≡ true
+    indented es h = ap (all_stand least within (past here).col) (append-nil es) ∙ (sym (indented_are least (past here).col es) ∙ h)
+
+    unmarked : (body r : List ℕ) (b : Bool) → has_marker body r ≡ b → marked_from (past here).col body r ≡ b
+    unmarked body r b h = rw (off_margin here.col 0) h
+
+    place : (body r : List ℕ) → position_after here (quote_of single ∷ body) r ≡ position_after (past here) body r
+    place body r = ap (λ q. position_after q body r) (past_char here (quote_of single) (body ++ r) (unbroken single))
+
+    by_text : (why : Problem) (n : IsNotQuoted single more why) → quoted_first single least here more why n → Reason single least here within (past here) more why here
+    by_text why (none.by_marker body r e has marks) first =
+        marked (record { body = body; rest = r; es = has.0; is_text = e; are = has.1; no_feed = marker_no_feed r first.0; fits = indented has.0 first.1 }) first.0 (unmarked body r true marks)
+    by_text why (none.by_end has) first =
+        other [] problem.QuotedEnd here (record { body = more; rest = []; es = has.0; is_text = sym (append-nil more); are = has.1; no_feed = refl; fits = indented has.0 first.1 }) (unmarked more [] false first.0) (by_end refl)
+    by_text why (none.by_escape body r _ double e has bad) first =
+        other (content 92 ∷ []) why here
+        (record { body = body; rest = 92 ∷ r; es = has.0; is_text = e; are = has.1; no_feed = refl; fits = sym (indented_are least (past here).col (has.0 ++ content 92 ∷ [])) ∙ first.1 }) (unmarked body (92 ∷ r) false first.0) (by_escape r why double refl bad)
+
+    by_lines : rest ≡ quote_of single ∷ more → (why : Problem) (at : Position) (n : IsQuotedFault single least here rest why at) → lines_first single least here rest why at n → Reason single least here within (past here) more why at
+    by_lines whole why at (lines.by_column body r es e are solid further low) first =
+        let all : quote_of single ∷ more ≡ quote_of single ∷ (body ++ r) = sym whole ∙ e in
+        other [] problem.QuotedIndentation here (record { body = body; rest = r; es = es; is_text = cc all; are = are; no_feed = solid_no_feed r solid; fits = indented es first.1 }) (unmarked body r false first.0)
+        (by_column solid further (ap (λ (q : Position). nat_lt q.col least) (sym (place body r)) ∙ low))
+    by_lines whole why at (lines.by_tab body r es e are further low) first =
+        let all : quote_of single ∷ more ≡ quote_of single ∷ (body ++ tab ∷ r) = sym whole ∙ e in
+        let there = place body (tab ∷ r) in
+        subst (λ q. Reason single least here within (past here) more problem.TabAsIndentation q) (sym there)
+        (other [] problem.TabAsIndentation (position_after (past here) body (tab ∷ r)) (record { body = body; rest = tab ∷ r; es = es; is_text = cc all; are = are; no_feed = refl; fits = indented es first.1 }) (unmarked body (tab ∷ r) false first.0)
+        (by_tab r refl further (ap (λ (q : Position). nat_lt q.col least) (sym there) ∙ low)))
+
+    one_sorted : has_no_nul rest ≡ true → (why1 why2 : Problem) (at1 at2 : Position) → Sorted single more why1 at1 → Sorted single more why2 at2 → (why1 ≡ why2) × (at1 ≡ at2)
+    one_sorted clean why1 why2 at1 at2 (fails _ _ r open_text) (fails _ _ s open_text2) = one_reason single least here within (past here) more why1 why2 at1 at2 r s
+    one_sorted clean why1 why2 at1 at2 (fails _ _ r open_text) (closes p x _ _ e is fit a) = absurd (open_text p x e is fit)
+    one_sorted clean why1 why2 at1 at2 (closes p x _ _ e is fit a) (fails _ _ r open_text) = absurd (open_text p x e is fit)
+    one_sorted clean why1 why2 at1 at2 (closes p x _ _ e is fit a) (closes q y _ _ f is2 fit2 b) =
+        let same = one_end single q p y x is2 is (sym f ∙ e) in
+        one_after p x (clean_after p x (ap has_no_nul (sym e) ∙ clean)) why1 why2 at1 at2 a (subst (λ z. After p z why2 at2) same.1 (subst (λ z. After z y why2 at2) same.0 b))
+
+  record Read (why : Problem) (at : Position) : Type 0 where
+    single : Bool
+    more : List ℕ
+    whole : rest ≡ quote_of single ∷ more
+    sorted : Sorted single more why at
+
+  -- a TAB indents a line of its own
+  own_line : (gap : List ℕ) → is_indented_by_spaces quoted_scalar blocks awaits gap ≡ false → has_break gap ≡ true
+  own_line gap h = by (has_break gap) refl
+    where
+      by : (b : Bool) → has_break gap ≡ b → b ≡ true
+      by true e = refl
+      by false e = let x : (not false || not (has_tab_within (least_column blocks (awaits || false)) (last_line gap))) ≡ false = rw e at h in absurd (cc x)
+
+  closed : (single : Bool) (piece next : List ℕ) (why : Problem) (at : Position) → rest ≡ piece ++ next → IsQuoted single piece next → closed_first single least piece → After piece next why at → Read why at
+  closed single piece next why at e is fit a =
+      let z = begins_quoted single rest piece next e is in
+      record { single = single; more = z.0; whole = z.1; sorted = closes piece next why at e is fit a }
+
+  not_fit : (b : Bool) → b ≡ false → b ≡ true → ⊥
+  not_fit b e f = cc (e, f)
+
+  -- a quote begins a text that is refused for a line
+  begins_lines : (single : Bool) (why : Problem) (at : Position) → IsQuotedFault single least here rest why at → (more : List ℕ) × (rest ≡ quote_of single ∷ more)
+  begins_lines single why at (lines.by_column body r es e are solid further low) = (body ++ r, e)
+  begins_lines single why at (lines.by_tab body r es e are further low) = (body ++ tab ∷ r, e)
+
+  read : (why : Problem) (at : Position) → QuotedReason in_flow least blocks awaits here rest why at → Read why at
+  read why at (unquoted single more _ e lacks n first) = record { single = single; more = more; whole = e; sorted = fails why here (by_text single more why n first) (λ piece next f is fit. lacks piece next f is) }
+  read why at (no_quoted single _ _ lacks n first) =
+      let z = begins_lines single why at n in
+      record { single = single; more = z.0; whole = z.1; sorted = fails why at (by_lines single z.0 z.1 why at n first) (λ piece next f is fit. not_fit _ (lacks piece next f is) fit) }
+  read why at (glued_to_quoted single piece more e is begins fit) = closed single piece more _ _ e is fit (glued begins)
+  read why at (after_quoted single piece more passed left e is ends on solid first) = closed single piece more _ _ e is first.0 (text passed left on solid first.1)
+  read why at (tab_after_quoted single piece gap left e is fills goes_on solid indents first) = closed single piece (gap ++ left) _ _ e is first.0 (tabbed gap left refl fills solid (own_line gap indents) first.1)
+
+  pub one_quoted : has_no_nul rest ≡ true → (why1 why2 : Problem) (at1 at2 : Position) → QuotedReason in_flow least blocks awaits here rest why1 at1 → QuotedReason in_flow least blocks awaits here rest why2 at2 → (why1 ≡ why2) × (at1 ≡ at2)
+  one_quoted clean why1 why2 at1 at2 r s = by (read why1 at1 r) (read why2 at2 s)
+    where
+      by : Read why1 at1 → Read why2 at2 → (why1 ≡ why2) × (at1 ≡ at2)
+      by x y =
+          let both : quote_of y.single ∷ y.more ≡ quote_of x.single ∷ x.more = sym y.whole ∙ x.whole in
+          let single : y.single ≡ x.single = same_single y.single x.single y.more x.more both in
+          let more : y.more ≡ x.more = cc both in
+          one_sorted x.single x.more clean why1 why2 at1 at2 x.sorted (subst (λ m. Sorted x.single m why2 at2) more (subst (λ b. Sorted b y.more why2 at2) single y.sorted))

@@ -1,0 +1,210 @@
+-- Why the text after an opening quote is refused, told of the text from an element on.
+use Rattle.std.proofs.Common.{◌≡◌, ℕ, zero, suc, ◌+◌, ◌-◌, ◌≤◌, List, [], ◌∷◌, ◌++◌, Bool, true, false, not, ◌&&◌, ◌||◌, ◌==◌, nat_lt, nat_le, length, take, drop, replicate, append_assoc, Option, Some, None, refl, ap, sym, ◌∙◌, subst, arith}
+use Rattle.std.proofs.lemmas.Bool.{and_parts, not-true}
+use Rattle.std.proofs.lemmas.Bool.Decides.{nat_tests}
+use Rattle.std.proofs.lemmas.List.{take-append-drop, take-append-le, drop-append-le, length-take}
+use Rattle.defs_text.specs.Classes.{is_document_marker}
+use Rattle.defs_text.specs.Position.{Position, position_after}
+use Rattle.defs_text.specs.FlowScalar.{Element, content, blank, line_break, escaped_break, Spelled, begins_with, elements, followed, put_before, Lines, last_line, line, begun_with, lines_of}
+use Rattle.defs_token.specs.Lines.{blanks_before, has_more, lines_fit, further_lines_fit}
+use Rattle.yaml_tokens.specs.declared.problem.Problem.{Problem}
+use Rattle.yaml_tokens.specs.declared.problem.Problem.TheVariants as problem
+use Rattle.proof_lexers.specs.PlainEnds.{begins_solid}
+use Rattle.proof_lexers.specs.QuotedEnds.{IsBadEscape}
+use Rattle.proof_lexers.specs.QuotedScan.{element_of, has_marker}
+use Rattle.proof_lexers.proofs.Bridges.{and_false}
+use Rattle.proof_lexers.proofs.Separation.Positions.{position_append}
+use Rattle.proof_lexers.proofs.Quoted.Bodies.{marked_from}
+use Rattle.proof_lexers.proofs.Quoted.Local.{Local, LocalOf, local, after_some, after_own}
+use Rattle.proof_scanner.proofs.Sound.QuotedBreaks.{Kind, has_content, has_blank, has_line, has_escaped, fits_from, lines_from, lines_here, empty_here, one_more_blank}
+use Rattle.proof_scanner.proofs.Sound.TabsWithin.{take_none}
+use Rattle.proof_scanner.proofs.Complete.Scalars.Bodies.{blank_first}
+use Rattle.proof_scanner.specs.NoPiece.{quote_of}
+use Rattle.proof_scanner.specs.QuotedLines.{LineStand, within, at_start, past_escaped, past_element, past_elements, begins_further}
+use Rattle.proof_scanner.specs.FirstQuoted.{are_indented}
+use Rattle.proof_scanner.proofs.Refusals.QuotedElements.{past_char, break_column, escaped_column, after_it, kind_of, marks_after}
+
+-- ---- indented lines, element by element
+
+-- whether an element may stand in a column, in a line that began so
+abbrev pub stands : (least : ℕ) → LineStand → (column : ℕ) → Element → Bool
+stands least s k (content c) = not (begins_further s false && nat_lt k least)
+stands least s k (blank c) = not (begins_further s false && (c == 9) && nat_lt k least)
+stands least s k line_break = true
+stands least s k escaped_break = not (begins_further s false && nat_lt k least)
+
+-- the column after it, as far as it matters
+abbrev pub column_past : ℕ → Element → ℕ
+column_past k (content c) = k
+column_past k (blank c) = suc k
+column_past k line_break = 0
+column_past k escaped_break = 0
+
+abbrev pub all_stand : (least : ℕ) → LineStand → (column : ℕ) → List Element → Bool
+all_stand least s k [] = true
+all_stand least s k (e ∷ es) = stands least s k e && all_stand least (past_element s e) (column_past k e) es
+
+-- the same of lines
+abbrev fits_at : (least : ℕ) → LineStand → (column : ℕ) → List Element → Bool
+fits_at least within k es = further_lines_fit least (lines_of es)
+fits_at least at_start k es = lines_from k least false (lines_of es)
+fits_at least past_escaped k es = lines_from k least true (lines_of es)
+
+same_bool : (x y : Bool) → (x ≡ true → y ≡ true) → (y ≡ true → x ≡ true) → x ≡ y
+same_bool true y f g = sym (f refl)
+same_bool false true f g = g refl
+same_bool false false f g = refl
+
+and_true : (b : Bool) → b ≡ (b && true)
+and_true true = refl
+and_true false = refl
+
+and_assoc : (x y z : Bool) → ((x && y) && z) ≡ (x && (y && z))
+and_assoc true y z = refl
+and_assoc false y z = refl
+
+deep_is : (k least : ℕ) → fits_from k least true [] ≡ not (nat_lt k least)
+deep_is k least = rw (take_none (least - k)) (by (nat_lt k least) refl)
+  where
+    by : (low : Bool) → nat_lt k least ≡ low → nat_le least (k + 0) ≡ not low
+    by true h = grind (arith, nat_tests, h)
+    by false h = grind (arith, nat_tests, h)
+
+blank_is : (k least c : ℕ) (holds : Bool) (bs : List ℕ) → fits_from k least holds (c ∷ bs) ≡ (not ((c == 9) && nat_lt k least) && fits_from (suc k) least holds bs)
+blank_is k least c holds bs =
+    same_bool (fits_from k least holds (c ∷ bs)) (not ((c == 9) && nat_lt k least) && fits_from (suc k) least holds bs)
+    (λ h. let f = blank_first k least c holds bs h in rw (f.0, f.1) refl)
+    (λ h. let q = and_parts (not ((c == 9) && nat_lt k least)) (fits_from (suc k) least holds bs) h in one_more_blank k least c holds bs (not-true ((c == 9) && nat_lt k least) q.0) q.1)
+
+content_is : (k least code : ℕ) (e : Bool) (ls : Lines) → lines_from k least e (begun_with (content code) ls) ≡ (not (nat_lt k least) && further_lines_fit least ls)
+content_is k least code e (last_line l) = ap (λ b. fits_from k least (not b) []) (and_false e) ∙ (deep_is k least ∙ and_true (not (nat_lt k least)))
+content_is k least code e (line l escaped ls) = ap (λ b. b && lines_fit least escaped ls) (deep_is k least)
+
+blanks_are : (k least c : ℕ) (e : Bool) (ls : Lines) → lines_from k least e (begun_with (blank c) ls) ≡ (not ((c == 9) && nat_lt k least) && lines_from (suc k) least false ls)
+blanks_are k least c e (last_line l) = ap (λ b. fits_from k least (not b) (c ∷ blanks_before l)) (and_false e) ∙ blank_is k least c true (blanks_before l)
+blanks_are k least c e (line l escaped ls) =
+    ap (λ b. b && lines_fit least escaped ls) (blank_is k least c (has_more l || escaped) (blanks_before l)) ∙ and_assoc (not ((c == 9) && nat_lt k least)) (fits_from (suc k) least (has_more l || escaped) (blanks_before l)) (lines_fit least escaped ls)
+
+further_begun : (least : ℕ) (e : Element) (ls : Lines) → further_lines_fit least (begun_with e ls) ≡ further_lines_fit least ls
+further_begun least e (last_line l) = refl
+further_begun least e (line l escaped ls) = refl
+
+fits_past : (least : ℕ) (s : LineStand) (k : ℕ) (e : Element) (fs : List Element) → fits_at least s k (e ∷ fs) ≡ (stands least s k e && fits_at least (past_element s e) (column_past k e) fs)
+fits_past least within k (content c) fs = further_begun least (content c) (lines_of fs)
+fits_past least within k (blank c) fs = further_begun least (blank c) (lines_of fs)
+fits_past least within k line_break fs = sym (lines_here least false (lines_of fs))
+fits_past least within k escaped_break fs = sym (lines_here least true (lines_of fs))
+fits_past least at_start k (content c) fs = content_is k least c false (lines_of fs)
+fits_past least at_start k (blank c) fs = blanks_are k least c false (lines_of fs)
+fits_past least at_start k line_break fs = ap (λ b. b && lines_fit least false (lines_of fs)) (empty_here k least) ∙ sym (lines_here least false (lines_of fs))
+fits_past least at_start k escaped_break fs = ap (λ b. b && lines_fit least true (lines_of fs)) (deep_is k least) ∙ ap (λ b. not (nat_lt k least) && b) (sym (lines_here least true (lines_of fs)))
+fits_past least past_escaped k (content c) fs = content_is k least c true (lines_of fs)
+fits_past least past_escaped k (blank c) fs = blanks_are k least c true (lines_of fs)
+fits_past least past_escaped k line_break fs = ap (λ b. b && lines_fit least false (lines_of fs)) (empty_here k least) ∙ sym (lines_here least false (lines_of fs))
+fits_past least past_escaped k escaped_break fs = ap (λ b. b && lines_fit least true (lines_of fs)) (deep_is k least) ∙ ap (λ b. not (nat_lt k least) && b) (sym (lines_here least true (lines_of fs)))
+
+-- an indented line fits
+spaces_fit : (n k least : ℕ) → least ≡ k + n → fits_at least at_start k (replicate n (blank 32)) ≡ true
+spaces_fit zero k least e = deep_is k least ∙ grind (arith, nat_tests, e)
+spaces_fit (suc n) k least e = fits_past least at_start k (blank 32) (replicate n (blank 32)) ∙ spaces_fit n (suc k) least (omega (arith, e))
+
+fits_are : (least : ℕ) (s : LineStand) (k : ℕ) (es : List Element) → fits_at least s k (es ++ line_break ∷ replicate least (blank 32)) ≡ all_stand least s k es
+fits_are least s k [] = fits_past least s k line_break (replicate least (blank 32)) ∙ spaces_fit least 0 least (omega arith)
+fits_are least s k (e ∷ es) = fits_past least s k e (es ++ line_break ∷ replicate least (blank 32)) ∙ ap (λ b. stands least s k e && b) (fits_are least (past_element s e) (column_past k e) es)
+
+-- The lines of elements are indented as far as they go, if each element may stand.
+pub indented_are : (least k : ℕ) (es : List Element) → are_indented least es ≡ all_stand least within k es
+indented_are least k es = fits_are least within k es
+
+-- within a line the column does not matter
+within_alike : (least k j : ℕ) (es : List Element) → all_stand least within k es ≡ all_stand least within j es
+within_alike least k j [] = refl
+within_alike least k j (content c ∷ es) = within_alike least k j es
+within_alike least k j (blank c ∷ es) = within_alike least (suc k) (suc j) es
+within_alike least k j (line_break ∷ es) = refl
+within_alike least k j (escaped_break ∷ es) = refl
+
+-- ---- reasons
+
+module _ (single : Bool) (least : ℕ) (start : Position) where
+  -- A text is cut after some elements, which may stand there, before others that end it.
+  pub record Cut (last : List Element) (s : LineStand) (p : Position) (text : List ℕ) : Type 0 where
+    pub body : List ℕ
+    pub rest : List ℕ
+    pub es : List Element
+    pub is_text : text ≡ body ++ rest
+    pub are : elements (element_of single) 0 body ≡ Some es
+    pub no_feed : begins_with 10 rest ≡ false
+    pub fits : all_stand least s p.col (es ++ last) ≡ true
+
+  -- What is wrong at a place, but for a document marker; and what ends the text there, if it may stand.
+  pub data Place (s : LineStand) (p : Position) (text : List ℕ) : List Element → Problem → Position → Type 0 where
+    by_end : text ≡ [] → Place s p text [] problem.QuotedEnd start
+    by_escape : (next : List ℕ) (why : Problem) → single ≡ false → text ≡ 92 ∷ next → IsBadEscape next why → Place s p text (content 92 ∷ []) why start
+    by_column : begins_solid text ≡ true → begins_further s (begins_with (quote_of single) text) ≡ true → nat_lt p.col least ≡ true → Place s p text [] problem.QuotedIndentation start
+    by_tab : (next : List ℕ) → text ≡ 9 ∷ next → begins_further s false ≡ true → nat_lt p.col least ≡ true → Place s p text [] problem.TabAsIndentation p
+
+  -- What is wrong with a text first: a marker begins a line, or before any something else is wrong at a place.
+  pub data Reason (s : LineStand) (p : Position) (text : List ℕ) : Problem → Position → Type 0 where
+    marked : (x : Cut [] s p text) → is_document_marker x.rest ≡ true → marked_from p.col x.body x.rest ≡ true → Reason s p text problem.QuotedDocumentMarker start
+    other : (last : List Element) (why : Problem) (at : Position) (x : Cut last s p text) → marked_from p.col x.body x.rest ≡ false → Place (past_elements s x.es) (position_after p x.body x.rest) x.rest last why at → Reason s p text why at
+
+  -- ---- an element before
+
+  module _ (c : ℕ) (b : List ℕ) (e : Spelled) (is : element_of single c b ≡ Some e) where
+    own : Local (element_of single c) b e
+    own = subst (λ o. LocalOf (element_of single c) b o) is (local single c b)
+
+    abbrev pub past_it : Position → Position
+    past_it p = after_it single c b e is p
+
+    abbrev before : List ℕ → List ℕ
+    before body = c ∷ (take e.further b ++ body)
+
+    cut : (body rest : List ℕ) → drop e.further b ≡ body ++ rest → c ∷ b ≡ before body ++ rest
+    cut body rest h = ap (λ x. c ∷ x) (sym (take-append-drop e.further b) ∙ ap (λ x. take e.further b ++ x) h ∙ sym (append_assoc (take e.further b) body rest))
+
+    more : (body rest : List ℕ) (es : List Element) → drop e.further b ≡ body ++ rest → elements (element_of single) 0 body ≡ Some es → elements (element_of single) 0 (before body) ≡ Some (e.element ∷ es)
+    more body rest es h i =
+        let taken : elements (element_of single) e.further (take e.further b ++ body) ≡ elements (element_of single) 0 body = ap (λ n. elements (element_of single) n (take e.further b ++ body)) (sym own.fits) ∙ after_own (element_of single) (take e.further b) body in
+        rw (own.same body rest h, taken, i) refl
+
+    pub place : (p : Position) (body rest : List ℕ) → drop e.further b ≡ body ++ rest → position_after p (before body) rest ≡ position_after (past_it p) body rest
+    place p body rest h = position_append p (c ∷ take e.further b) body rest ∙ ap (λ x. position_after (position_after p (c ∷ take e.further b) x) body rest) (sym h)
+
+    -- the column after it is that of its position, where it matters
+    pub columns_are : (s : LineStand) (p : Position) (fs : List Element) → all_stand least (past_element s e.element) (column_past p.col e.element) fs ≡ all_stand least (past_element s e.element) (past_it p).col fs
+    columns_are s p fs = by e is (kind_of single c b e is)
+      where
+        by : (e : Spelled) → (is : element_of single c b ≡ Some e) → Kind single c b e → all_stand least (past_element s e.element) (column_past p.col e.element) fs ≡ all_stand least (past_element s e.element) (after_it single c b e is p).col fs
+        by e is (has_content code k solid) = within_alike least _ _ fs
+        by e is (has_blank f g) =
+            let next : suc p.col ≡ p.col + 1 = omega arith in
+            ap (λ k. all_stand least (past_element s (blank c)) k fs) (next ∙ ap (λ (q : Position). q.col) (sym (past_char p c b f)))
+        by e is (has_line f) = ap (λ k. all_stand least at_start k fs) (sym (break_column c b p f))
+        by e is (has_escaped d a double same_c same_b f) = ap (λ k. all_stand least past_escaped k fs) (sym (escaped_column c b d a p same_c same_b f))
+
+    module _ (s : LineStand) (p : Position) (fit : stands least s p.col e.element ≡ true) (none : ((p.col == 0) && is_document_marker (c ∷ b)) ≡ false) where
+      cut_grown : (last : List Element) → Cut last (past_element s e.element) (past_it p) (drop e.further b) → Cut last s p (c ∷ b)
+      cut_grown last x = record {
+        body = before x.body;
+        rest = x.rest;
+        es = e.element ∷ x.es;
+        is_text = cut x.body x.rest x.is_text;
+        are = more x.body x.rest x.es x.is_text x.are;
+        no_feed = x.no_feed;
+        fits = rw fit (columns_are s p (x.es ++ last) ∙ x.fits);
+      }
+
+      marks_grown : (body rest : List ℕ) → drop e.further b ≡ body ++ rest → marked_from p.col (before body) rest ≡ marked_from (past_it p).col body rest
+      marks_grown body rest h =
+          ap (λ t. ((p.col == 0) && is_document_marker t) || has_marker (before body) rest) (sym (cut body rest h)) ∙
+          (ap (λ x. x || has_marker (before body) rest) none ∙ marks_after single c b e is p body rest)
+
+      -- what is wrong after an element that may stand is wrong with the text before it
+      pub grown : (why : Problem) (at : Position) → Reason (past_element s e.element) (past_it p) (drop e.further b) why at → Reason s p (c ∷ b) why at
+      unfolding cut_grown
+      grown why at (marked x m h) = marked (cut_grown [] x) m (marks_grown x.body x.rest x.is_text ∙ h)
+      grown why at (other last _ _ x m h) =
+          other last why at (cut_grown last x) (marks_grown x.body x.rest x.is_text ∙ m)
+          (subst (λ q. Place (past_elements (past_element s e.element) x.es) q x.rest last why at) (sym (place p x.body x.rest x.is_text)) h)
