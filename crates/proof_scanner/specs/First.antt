@@ -55,7 +55,7 @@ no_piece_first in_flow least here rest why at (none.at_sign more e) = Unit {0}
 no_piece_first in_flow least here rest why at (none.backtick more e) = Unit {0}
 no_piece_first in_flow least here rest why at (none.nameless alias more e lacks) = Unit {0}
 no_piece_first in_flow least here rest why at (none.tagless more reason e r) = Unit {0}
-no_piece_first in_flow least here rest why at (none.unquoted single more reason e lacks n) = quoted_first single least here more reason n
+no_piece_first in_flow least here rest why at (none.unquoted single more reason e lacks n) = quoted_first single least more reason n
 no_piece_first in_flow least here rest why at (none.headless style line after reason place out e one ends lacks n) = header_first style here line reason place n
 no_piece_first in_flow least here rest why at (none.undirected line next reason place col e one ends lacks r) = Unit {0}
 

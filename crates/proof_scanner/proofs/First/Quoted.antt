@@ -1,45 +1,41 @@
 -- Of two reasons why a quoted scalar is refused at a place that both come first, kind and position are the same.
-use Rattle.std.proofs.Common.{◌≡◌, ℕ, ◌+◌, List, [], ◌∷◌, ◌++◌, Bool, true, false, not, ◌&&◌, ◌||◌, ◌==◌, nat_lt, append-nil, append_assoc, if◌then◌else◌, refl, ap, sym, ◌∙◌, subst, arith}
+use Rattle.std.proofs.Common.{◌≡◌, ℕ, ◌+◌, List, [], ◌∷◌, ◌++◌, Bool, true, false, not, ◌||◌, ◌==◌, nat_lt, append-nil, refl, ap, sym, ◌∙◌, subst}
 use Rattle.std.proofs.lemmas.Bool.{eqb-true}
 use Rattle.defs_text.specs.Classes as classes
-use Rattle.defs_text.specs.Classes.{tab, is_document_marker}
+use Rattle.defs_text.specs.Classes.{tab}
 use Rattle.defs_text.specs.Position.{Position, position_after}
 use Rattle.defs_text.specs.Text.{is_empty, has_no_nul}
-use Rattle.defs_text.specs.FlowScalar.{Element, content, begins_with, elements}
+use Rattle.defs_text.specs.FlowScalar.{Element, content, begins_with}
 use Rattle.defs_token.specs.Separation.{is_separation}
 use Rattle.defs_token.specs.Step.{quoted_scalar, has_break}
 use Rattle.defs_token.specs.Indentation.{is_indented_by_spaces, has_tab_within, least_column, last_line}
 use Rattle.defs_token.specs.Following.{quoted_may_end}
-use Rattle.defs_token.specs.Lines.{quoted_lines_fit}
-use Rattle.yaml_chars.specs.Class as model_classes
 use Rattle.yaml_tokens.specs.declared.problem.Problem.{Problem}
 use Rattle.yaml_tokens.specs.declared.problem.Problem.TheVariants as problem
 use Rattle.model_scanner.specs.Machine.{past}
-use Rattle.proof_row.specs.Ends.{ends_separation}
 use Rattle.proof_row.proofs.Quotes.{singles, doubles}
 use Rattle.proof_row.proofs.Separations.{separations}
-use Rattle.proof_lexers.specs.PlainEnds as plain_ends
 use Rattle.proof_lexers.specs.PlainEnds.{begins_solid}
-use Rattle.proof_lexers.specs.QuotedScan.{element_of, has_marker}
+use Rattle.proof_lexers.specs.QuotedScan.{has_marker}
 use Rattle.proof_lexers.specs.Separations.{begins_separation}
 use Rattle.proof_lexers.proofs.Quoted.Bodies.{marked_from}
 use Rattle.proof_lexers.proofs.Quoted.Turns.{off_margin}
 use Rattle.proof_scanner.specs.NoPiece as none
 use Rattle.proof_scanner.specs.NoPiece.{quote_of, IsQuoted, HasNoQuoted, IsNotQuoted, GoesOn}
 use Rattle.proof_scanner.specs.QuotedLines as lines
-use Rattle.proof_scanner.specs.QuotedLines.{within, past_elements, AreNotIndented, IsQuotedFault}
+use Rattle.proof_scanner.specs.QuotedLines.{within, AreNotIndented, IsQuotedFault}
 use Rattle.proof_scanner.specs.FirstQuoted.{are_indented, quoted_first, lines_first, closed_first}
 use Rattle.proof_scanner.proofs.Complete.Steps.{ends_before}
 use Rattle.proof_scanner.proofs.Sound.Arrivals.{clean_after}
 use Rattle.proof_scanner.proofs.Sound.Passed.{same_has_break}
 use Rattle.proof_scanner.proofs.First.QuotedCuts.{one_reason}
-use Rattle.proof_scanner.proofs.Refusals.QuotedElements.{past_char}
+use Rattle.proof_scanner.proofs.Refusals.QuotedElements.{after_quote_at}
 use Rattle.proof_scanner.proofs.Refusals.QuotedLines.{marker_no_feed}
-use Rattle.proof_scanner.proofs.Refusals.QuotedReasons.{all_stand, indented_are, Place, by_end, by_escape, by_column, by_tab, Reason, marked, other}
+use Rattle.proof_scanner.proofs.Refusals.QuotedReasons.{all_stand, indented_are, by_end, by_escape, by_column, by_tab, Reason, marked, other}
 
 -- A reason why a quoted scalar is refused that begins with a text at a position, or what follows it; and what is so before.
 pub data QuotedReason (in_flow : Bool) (least : ℕ) (blocks : List ℕ) (awaits : Bool) (here : Position) (rest : List ℕ) : Problem → Position → Type 0 where
-  unquoted : (single : Bool) (more : List ℕ) (why : Problem) → rest ≡ quote_of single ∷ more → HasNoQuoted single rest → (n : IsNotQuoted single more why) → quoted_first single least here more why n → QuotedReason in_flow least blocks awaits here rest why here
+  unquoted : (single : Bool) (more : List ℕ) (why : Problem) → rest ≡ quote_of single ∷ more → HasNoQuoted single rest → (n : IsNotQuoted single more why) → quoted_first single least more why n → QuotedReason in_flow least blocks awaits here rest why here
   no_quoted : (single : Bool) (why : Problem) (at : Position) → AreNotIndented single least rest → (n : IsQuotedFault single least here rest why at) → lines_first single least here rest why at n → QuotedReason in_flow least blocks awaits here rest why at
   glued_to_quoted : (single : Bool) (piece more : List ℕ) → rest ≡ piece ++ more → IsQuoted single piece more → begins_with 35 more ≡ true → closed_first single least piece
       → QuotedReason in_flow least blocks awaits here rest problem.CommentNotSeparated (position_after here piece more)
@@ -67,18 +63,13 @@ one_end : (single : Bool) (p q x y : List ℕ) → IsQuoted single p x → IsQuo
 one_end true p q x y h k e = singles p q x y h k e
 one_end false p q x y h k e = doubles p q x y h k e
 
-unbroken : (single : Bool) → model_classes.is_break (quote_of single) ≡ false
-unfolding model_classes.is_break
-unbroken true = refl
-unbroken false = refl
-
 solid_no_feed : (r : List ℕ) → begins_solid r ≡ true → begins_with 10 r ≡ false
 unfolding classes.is_break classes.is_blank
 solid_no_feed [] h = refl
 solid_no_feed (c ∷ r) h = by (c == 10) refl
   where
     by : (feed : Bool) → (c == 10) ≡ feed → (c == 10) ≡ false
-    by true e = let same : c ≡ 10 = eqb-true c 10 e in absurd (cc (ap (λ c. begins_solid (c ∷ r)) same, h))
+    by true e = let same : c ≡ 10 = eqb-true c 10 e in absurd (cc (same, h))
     by false e = e
 
 module _ (in_flow : Bool) (least : ℕ) (blocks : List ℕ) (awaits : Bool) (here : Position) (rest : List ℕ) where
@@ -127,10 +118,7 @@ module _ (in_flow : Bool) (least : ℕ) (blocks : List ℕ) (awaits : Bool) (her
     unmarked : (body r : List ℕ) (b : Bool) → has_marker body r ≡ b → marked_from (past here).col body r ≡ b
     unmarked body r b h = rw (off_margin here.col 0) h
 
-    place : (body r : List ℕ) → position_after here (quote_of single ∷ body) r ≡ position_after (past here) body r
-    place body r = ap (λ q. position_after q body r) (past_char here (quote_of single) (body ++ r) (unbroken single))
-
-    by_text : (why : Problem) (n : IsNotQuoted single more why) → quoted_first single least here more why n → Reason single least here within (past here) more why here
+    by_text : (why : Problem) (n : IsNotQuoted single more why) → quoted_first single least more why n → Reason single least here within (past here) more why here
     by_text why (none.by_marker body r e has marks) first =
         marked (record { body = body; rest = r; es = has.0; is_text = e; are = has.1; no_feed = marker_no_feed r first.0; fits = indented has.0 first.1 }) first.0 (unmarked body r true marks)
     by_text why (none.by_end has) first =
@@ -143,10 +131,10 @@ module _ (in_flow : Bool) (least : ℕ) (blocks : List ℕ) (awaits : Bool) (her
     by_lines whole why at (lines.by_column body r es e are solid further low) first =
         let all : quote_of single ∷ more ≡ quote_of single ∷ (body ++ r) = sym whole ∙ e in
         other [] problem.QuotedIndentation here (record { body = body; rest = r; es = es; is_text = cc all; are = are; no_feed = solid_no_feed r solid; fits = indented es first.1 }) (unmarked body r false first.0)
-        (by_column solid further (ap (λ (q : Position). nat_lt q.col least) (sym (place body r)) ∙ low))
+        (by_column solid further (ap (λ (q : Position). nat_lt q.col least) (sym (after_quote_at single here body r)) ∙ low))
     by_lines whole why at (lines.by_tab body r es e are further low) first =
         let all : quote_of single ∷ more ≡ quote_of single ∷ (body ++ tab ∷ r) = sym whole ∙ e in
-        let there = place body (tab ∷ r) in
+        let there = after_quote_at single here body (tab ∷ r) in
         subst (λ q. Reason single least here within (past here) more problem.TabAsIndentation q) (sym there)
         (other [] problem.TabAsIndentation (position_after (past here) body (tab ∷ r)) (record { body = body; rest = tab ∷ r; es = es; is_text = cc all; are = are; no_feed = refl; fits = indented es first.1 }) (unmarked body (tab ∷ r) false first.0)
         (by_tab r refl further (ap (λ (q : Position). nat_lt q.col least) (sym there) ∙ low)))
@@ -195,6 +183,11 @@ module _ (in_flow : Bool) (least : ℕ) (blocks : List ℕ) (awaits : Bool) (her
   read why at (after_quoted single piece more passed left e is ends on solid first) = closed single piece more _ _ e is first.0 (text passed left on solid first.1)
   read why at (tab_after_quoted single piece gap left e is fills goes_on solid indents first) = closed single piece (gap ++ left) _ _ e is first.0 (tabbed gap left refl fills solid (own_line gap indents) first.1)
 
+  -- a quote begins the text
+  pub begins_with_quote : (why : Problem) (at : Position) → QuotedReason in_flow least blocks awaits here rest why at → (single : Bool) × ((more : List ℕ) × (rest ≡ quote_of single ∷ more))
+  begins_with_quote why at r = let x = read why at r in (x.single, (x.more, x.whole))
+
+  -- What is wrong first with a quoted scalar is one thing at one position.
   pub one_quoted : has_no_nul rest ≡ true → (why1 why2 : Problem) (at1 at2 : Position) → QuotedReason in_flow least blocks awaits here rest why1 at1 → QuotedReason in_flow least blocks awaits here rest why2 at2 → (why1 ≡ why2) × (at1 ≡ at2)
   one_quoted clean why1 why2 at1 at2 r s = by (read why1 at1 r) (read why2 at2 s)
     where

@@ -1,12 +1,11 @@
 -- Of two reasons why the text after an opening quote is refused, kind and position are the same.
 use Rattle.std.proofs.Common.{◌≡◌, ℕ, zero, suc, ◌+◌, ◌≤◌, List, [], ◌∷◌, ◌++◌, Bool, true, false, not, ◌&&◌, ◌||◌, ◌==◌, nat_lt, if◌then◌else◌, length, take, drop, append-nil, append_assoc, Option, Some, None, ◌⊎◌, inl, inr, refl, ap, sym, ◌∙◌, subst, arith}
 use Rattle.std.proofs.lemmas.Bool.{and_parts, eqb-true}
-use Rattle.std.proofs.lemmas.Bool.Decides.{nat_tests}
 use Rattle.std.proofs.lemmas.List.{take-append-drop, take-append-le, drop-append-le, length-take}
 use Rattle.defs_text.specs.Classes as classes
 use Rattle.defs_text.specs.Classes.{is_document_marker}
 use Rattle.defs_text.specs.Position.{Position, position_after}
-use Rattle.defs_text.specs.FlowScalar.{Element, content, blank, line_break, escaped_break, Spelled, double_quoted_element, begins_with, lookup, escapes, numeric_escapes, hexadecimal, is_character_code, numbered, numeric_escape, escape_by, escape, elements, followed, put_before}
+use Rattle.defs_text.specs.FlowScalar.{Element, content, Spelled, double_quoted_element, begins_with, lookup, numeric_escapes, hexadecimal, numbered, numeric_escape, escape, elements, followed, put_before}
 use Rattle.yaml_chars.specs.Class.{is_break, is_blank}
 use Rattle.yaml_tokens.specs.declared.problem.Problem.{Problem}
 use Rattle.proof_row.proofs.Splits.{More, splits}
@@ -21,7 +20,7 @@ use Rattle.proof_scanner.proofs.Sound.QuotedBreaks.{Kind, has_content, has_blank
 use Rattle.proof_scanner.specs.NoPiece.{quote_of}
 use Rattle.proof_scanner.specs.QuotedLines.{LineStand, within, at_start, past_escaped, past_element, past_elements, begins_further}
 use Rattle.proof_scanner.proofs.Refusals.QuotedElements.{after_it, kind_of}
-use Rattle.proof_scanner.proofs.Refusals.QuotedReasons.{stands, column_past, all_stand, Cut, Place, by_end, by_escape, by_column, by_tab, Reason, marked, other, columns_are, place}
+use Rattle.proof_scanner.proofs.Refusals.QuotedReasons.{and_assoc, stands, column_past, all_stand, Cut, Place, by_end, by_escape, by_column, by_tab, Reason, marked, other, columns_are, place}
 
 -- ---- elements of a text and of a longer one
 
@@ -69,10 +68,6 @@ parted single zero (c ∷ b) x es fs l no_feed h k = on (begins single c b es h)
         (z.0, z.1, g.all ∙ (ap (λ (s : Spelled). s.element ∷ g.others) (sym same) ∙ (ap (λ l. f.first.element ∷ l) z.2 ∙ ap (λ l. l ++ z.0) (sym f.all))))
 
 -- ---- along a body
-
-and_assoc : (x y z : Bool) → ((x && y) && z) ≡ (x && (y && z))
-and_assoc true y z = refl
-and_assoc false y z = refl
 
 -- Elements and others after them may stand, if they may, and the others where they end.
 along_body : (single : Bool) (least : ℕ) (r : List ℕ) → begins_with 10 r ≡ false → (n : ℕ) (a : List ℕ) (es : List Element) (s : LineStand) (p : Position) (fs : List Element) → n ≤ length a → elements (element_of single) n a ≡ Some es

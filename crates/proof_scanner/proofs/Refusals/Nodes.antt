@@ -1,13 +1,10 @@
 -- Faults of names, tags and scalars: no such piece begins with the text.
-use Rattle.std.proofs.Common.{◌≡◌, ℕ, ◌+◌, ◌≤◌, nat_lt, List, [], ◌∷◌, Bool, true, false, not, if◌then◌else◌, Result, Ok, Err, refl, ap, sym, ◌∙◌, subst, arith}
+use Rattle.std.proofs.Common.{◌≡◌, ℕ, List, ◌∷◌, Bool, true, false, not, if◌then◌else◌, Result, Ok, Err, ap, sym, ◌∙◌, subst}
 use Rattle.std.proofs.lemmas.Bool.{and_parts}
-use Rattle.std.proofs.lemmas.Bool.Decides.{nat_tests}
 use Rattle.defs_text.specs.Classes.{is_nul}
-use Rattle.defs_text.specs.Position.{Position}
 use Rattle.defs_text.specs.Text.{is_empty, has_no_nul}
 use Rattle.yaml_tokens.specs.declared.problem.Fault.{Fault}
 use Rattle.yaml_tokens.specs.declared.problem.Fault.TheVariants.{At}
-use Rattle.yaml_tokens.specs.declared.problem.Problem.{Problem}
 use Rattle.yaml_tokens.specs.declared.problem.Problem.TheVariants as problem
 use Rattle.model_scanner.specs.Machine.{Read}
 use Rattle.model_scanner.specs.Anchor.{anchor_name}
@@ -17,7 +14,7 @@ use Rattle.model_scanner.specs.State.{ScannerState, in_flow}
 use Rattle.model_scanner.specs.Document.{node_start, context, fetch_anchor, fetch_tag, fetch_flow_scalar}
 use Rattle.proof_lexers.specs.NameEnds.{NameEndsAs, named, nameless}
 use Rattle.proof_lexers.specs.TagEnds as tag_ends
-use Rattle.proof_lexers.specs.TagEnds.{TagEndsAs, IsTagRefusal}
+use Rattle.proof_lexers.specs.TagEnds.{TagEndsAs}
 use Rattle.proof_lexers.proofs.Properties.Names.{names_end}
 use Rattle.proof_lexers.proofs.Properties.Tags.{tags_end}
 use Rattle.proof_scanner.proofs.Cut.Nodes.{IsDeep}
@@ -25,7 +22,6 @@ use Rattle.proof_scanner.proofs.Cut.Saved.{saved_is}
 use Rattle.proof_scanner.specs.Arrives.{Arrives}
 use Rattle.proof_scanner.proofs.Sound.QuotedKeeps.{QuotedAs, quoted_as}
 use Rattle.proof_scanner.specs.NoPiece as none
-use Rattle.proof_scanner.specs.Stuck.{IsStuck}
 use Rattle.proof_scanner.proofs.Refusals.Faults.{Faults, goes, read, in_turn}
 use Rattle.proof_scanner.proofs.Refusals.Quotes.{after_told, refused_told}
 use Rattle.proof_scanner.proofs.Refusals.TabsAfterQuoted.{tab_told}

@@ -1,13 +1,12 @@
 -- Elements of quoted scalars in their text: where each ends, and whether a document marker begins a line after it.
-use Rattle.std.proofs.Common.{◌≡◌, ℕ, zero, suc, ◌+◌, ◌*◌, ◌≤◌, List, [], ◌∷◌, ◌++◌, Bool, true, false, not, ◌&&◌, ◌||◌, ◌==◌, nat_lt, slice_index, if◌then◌else◌, length, take, drop, append-nil, append_assoc, Option, Some, None, refl, ap, sym, ◌∙◌, subst, arith}
+use Rattle.std.proofs.Common.{◌≡◌, ℕ, zero, suc, ◌+◌, ◌*◌, ◌≤◌, List, [], ◌∷◌, ◌++◌, Bool, true, false, not, ◌&&◌, ◌||◌, ◌==◌, if◌then◌else◌, length, take, drop, append-nil, Option, Some, None, refl, ap, sym, ◌∙◌, subst, arith}
 use Rattle.std.specs.Char.{digit_value, is_digit}
 use Rattle.std.proofs.lemmas.Bool.{and_parts, eqb-true, not-true}
 use Rattle.std.proofs.lemmas.Bool.Decides.{nat_tests}
 use Rattle.defs_text.specs.Breaks.{is_before_line_feed}
 use Rattle.defs_text.specs.Classes as classes
-use Rattle.defs_text.specs.Classes.{is_document_marker}
 use Rattle.defs_text.specs.Position.{Position, position_past, position_after}
-use Rattle.defs_text.specs.FlowScalar.{Element, content, blank, line_break, escaped_break, Spelled, break_further, plain_element, single_quoted_element, double_quoted_element, begins_with, lookup, escapes, numeric_escapes, hexadecimal, is_character_code, numbered, numeric_escape, escape_by, escape}
+use Rattle.defs_text.specs.FlowScalar.{Element, content, Spelled, break_further, plain_element, single_quoted_element, double_quoted_element, begins_with, lookup, escapes, numeric_escapes, hexadecimal, is_character_code, numbered, numeric_escape, escape_by, escape}
 use Rattle.yaml_chars.specs.Class.{is_break, is_blank}
 use Rattle.model_scanner.specs.Machine.{past, past_break, is_cr_lf}
 use Rattle.proof_lexers.specs.HeaderEnds.{along, is_in_line}
@@ -19,6 +18,7 @@ use Rattle.proof_lexers.proofs.Bridges.{same_break, same_blank, and_false}
 use Rattle.proof_lexers.proofs.Plain.Turns.{same_feed, in_line_position, line_position}
 use Rattle.proof_lexers.proofs.Quoted.Bodies.{marked_from}
 use Rattle.proof_lexers.proofs.Quoted.Turns.{spelled, feed_is_no_marker}
+use Rattle.proof_scanner.specs.NoPiece.{quote_of}
 use Rattle.proof_scanner.proofs.Sound.QuotedBreaks.{Kind, has_content, has_blank, has_line, has_escaped, KindOf, kind, is_white}
 
 -- ---- content stands on one line
@@ -157,6 +157,16 @@ past_two p a = ap (λ q. position_past q 10 a) (in_line_position 13 (10 ∷ a) p
     past_feed : (q : Position) (a : List ℕ) → position_past q 10 a ≡ past_break q
     past_feed q [] = past_line q 10 [] refl refl
     past_feed q (c ∷ a) = past_line q 10 (c ∷ a) refl refl
+
+-- a quote is no break
+quote_no_break : (single : Bool) → is_break (quote_of single) ≡ false
+unfolding is_break
+quote_no_break true = refl
+quote_no_break false = refl
+
+-- the position after an opening quote and some text
+pub after_quote_at : (single : Bool) (p : Position) (body rest : List ℕ) → position_after p (quote_of single ∷ body) rest ≡ position_after (past p) body rest
+after_quote_at single p body rest = ap (λ q. position_after q body rest) (past_char p (quote_of single) (body ++ rest) (quote_no_break single))
 
 -- ---- breaks
 

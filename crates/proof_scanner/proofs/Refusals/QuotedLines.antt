@@ -1,5 +1,5 @@
 -- The scan of a quoted scalar reads one, or refuses the text for what is wrong with it first.
-use Rattle.std.proofs.Common.{◌≡◌, ℕ, zero, suc, ◌+◌, ◌≤◌, List, [], ◌∷◌, ◌++◌, Bool, true, false, not, ◌&&◌, ◌||◌, ◌==◌, nat_lt, slice_index, if◌then◌else◌, take, drop, append-nil, Option, Some, None, Result, Ok, Err, refl, ap, sym, ◌∙◌, subst, arith}
+use Rattle.std.proofs.Common.{◌≡◌, ℕ, zero, suc, ◌+◌, ◌≤◌, List, [], ◌∷◌, Bool, true, false, not, ◌&&◌, ◌==◌, nat_lt, slice_index, if◌then◌else◌, take, drop, append-nil, Option, Some, None, Result, Ok, Err, refl, ap, sym, ◌∙◌, subst, arith}
 use Rattle.std.specs.List.{list_all}
 use Rattle.std.proofs.lemmas.Bool.{and_parts, eqb-true, not-true}
 use Rattle.std.proofs.lemmas.Bool.Decides.{nat_tests}
@@ -19,21 +19,20 @@ use Rattle.model_scanner.specs.Quoted as model
 use Rattle.model_scanner.proofs.QuotedLemmas.{after_gap, after_quote, closed_end}
 use Rattle.proof_lexers.specs.Buffers.{after_element}
 use Rattle.proof_lexers.specs.HeaderEnds.{along}
-use Rattle.proof_lexers.specs.PlainEnds.{begins_solid}
 use Rattle.proof_lexers.specs.QuotedScan.{element_of, ends_before, is_some}
 use Rattle.proof_lexers.proofs.Along.{along_more}
 use Rattle.proof_lexers.proofs.Bridges.{and_false}
-use Rattle.proof_lexers.proofs.Quoted.Bodies.{first_is_gap, quote_still}
+use Rattle.proof_lexers.proofs.Quoted.Bodies.{first_is_gap}
 use Rattle.proof_lexers.proofs.Quoted.Elements.{step}
 use Rattle.proof_lexers.proofs.Quoted.Faults.{escape_fails}
 use Rattle.proof_lexers.proofs.Quoted.Shapes.{NoElement, closing, slash, no_element}
-use Rattle.proof_lexers.proofs.Quoted.Turns.{off_margin, no_marker, feed_is_no_marker, after_escaped, in_gap, scan, spelled, Begun, begun, marked, shallow, begins, begins_marked, white_stands, Step, steps, is_marked, is_shallow, StepOf}
+use Rattle.proof_lexers.proofs.Quoted.Turns.{off_margin, feed_is_no_marker, after_escaped, in_gap, scan, spelled, Begun, begun, marked, shallow, begins, begins_marked, white_stands, Step, steps, is_marked, is_shallow, StepOf}
 use Rattle.proof_scanner.proofs.Sound.QuotedBreaks.{Kind, has_content, has_blank, has_line, has_escaped, is_white, quote_white, slash_white}
 use Rattle.proof_scanner.specs.NoPiece.{quote_of}
 use Rattle.proof_scanner.specs.QuotedLines.{LineStand, within, at_start, past_escaped, past_element, begins_further}
 use Rattle.proof_scanner.proofs.Refusals.QuotedElements.{no_quote, solid_here, past_line, past_char, past_two, after_it, kind_of, content_after}
 use Rattle.proof_scanner.proofs.Refusals.QuotedReasons as reasons
-use Rattle.proof_scanner.proofs.Refusals.QuotedReasons.{stands, all_stand, Cut, Place, by_end, by_escape, by_column, by_tab, Reason, other, grown}
+use Rattle.proof_scanner.proofs.Refusals.QuotedReasons.{stands, all_stand, Place, by_end, by_escape, by_column, by_tab, Reason, other, grown}
 
 -- the faults of further lines
 abbrev pub is_of_lines : Fault → Bool
@@ -65,10 +64,6 @@ solid_no_feed c h = by (c == 10) refl
 same_quote : (single : Bool) → model.quote_of single ≡ quote_of single
 same_quote true = refl
 same_quote false = refl
-
-quote_itself : (single : Bool) → (quote_of single == quote_of single) ≡ true
-quote_itself true = refl
-quote_itself false = refl
 
 slash_no_quote : (single : Bool) → (92 == quote_of single) ≡ false
 slash_no_quote true = refl

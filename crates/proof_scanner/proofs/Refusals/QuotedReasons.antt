@@ -1,11 +1,11 @@
 -- Why the text after an opening quote is refused, told of the text from an element on.
-use Rattle.std.proofs.Common.{◌≡◌, ℕ, zero, suc, ◌+◌, ◌-◌, ◌≤◌, List, [], ◌∷◌, ◌++◌, Bool, true, false, not, ◌&&◌, ◌||◌, ◌==◌, nat_lt, nat_le, length, take, drop, replicate, append_assoc, Option, Some, None, refl, ap, sym, ◌∙◌, subst, arith}
+use Rattle.std.proofs.Common.{◌≡◌, ℕ, zero, suc, ◌+◌, ◌-◌, List, [], ◌∷◌, ◌++◌, Bool, true, false, not, ◌&&◌, ◌||◌, ◌==◌, nat_lt, nat_le, take, drop, replicate, append_assoc, Some, refl, ap, sym, ◌∙◌, subst, arith}
 use Rattle.std.proofs.lemmas.Bool.{and_parts, not-true}
 use Rattle.std.proofs.lemmas.Bool.Decides.{nat_tests}
-use Rattle.std.proofs.lemmas.List.{take-append-drop, take-append-le, drop-append-le, length-take}
+use Rattle.std.proofs.lemmas.List.{take-append-drop}
 use Rattle.defs_text.specs.Classes.{is_document_marker}
 use Rattle.defs_text.specs.Position.{Position, position_after}
-use Rattle.defs_text.specs.FlowScalar.{Element, content, blank, line_break, escaped_break, Spelled, begins_with, elements, followed, put_before, Lines, last_line, line, begun_with, lines_of}
+use Rattle.defs_text.specs.FlowScalar.{Element, content, blank, line_break, escaped_break, Spelled, begins_with, elements, Lines, last_line, line, begun_with, lines_of}
 use Rattle.defs_token.specs.Lines.{blanks_before, has_more, lines_fit, further_lines_fit}
 use Rattle.yaml_tokens.specs.declared.problem.Problem.{Problem}
 use Rattle.yaml_tokens.specs.declared.problem.Problem.TheVariants as problem
@@ -15,7 +15,7 @@ use Rattle.proof_lexers.specs.QuotedScan.{element_of, has_marker}
 use Rattle.proof_lexers.proofs.Bridges.{and_false}
 use Rattle.proof_lexers.proofs.Separation.Positions.{position_append}
 use Rattle.proof_lexers.proofs.Quoted.Bodies.{marked_from}
-use Rattle.proof_lexers.proofs.Quoted.Local.{Local, LocalOf, local, after_some, after_own}
+use Rattle.proof_lexers.proofs.Quoted.Local.{Local, LocalOf, local, after_own}
 use Rattle.proof_scanner.proofs.Sound.QuotedBreaks.{Kind, has_content, has_blank, has_line, has_escaped, fits_from, lines_from, lines_here, empty_here, one_more_blank}
 use Rattle.proof_scanner.proofs.Sound.TabsWithin.{take_none}
 use Rattle.proof_scanner.proofs.Complete.Scalars.Bodies.{blank_first}
@@ -59,7 +59,7 @@ and_true : (b : Bool) → b ≡ (b && true)
 and_true true = refl
 and_true false = refl
 
-and_assoc : (x y z : Bool) → ((x && y) && z) ≡ (x && (y && z))
+pub and_assoc : (x y z : Bool) → ((x && y) && z) ≡ (x && (y && z))
 and_assoc true y z = refl
 and_assoc false y z = refl
 

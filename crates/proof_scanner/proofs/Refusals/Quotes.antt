@@ -1,16 +1,12 @@
 -- Faults of quoted scalars: a further line is not indented, or what stands after the scalar may not follow it.
-use Rattle.std.proofs.Common.{◌≡◌, ℕ, ◌+◌, ◌-◌, ◌≤◌, nat_lt, List, [], ◌∷◌, ◌++◌, Bool, true, false, not, ◌==◌, ◌&&◌, ◌||◌, if◌then◌else◌, append-nil, append_assoc, Some, Result, Ok, Err, refl, ap, sym, ◌∙◌, subst, arith}
+use Rattle.std.proofs.Common.{◌≡◌, ℕ, ◌+◌, ◌-◌, nat_lt, List, [], ◌∷◌, ◌++◌, Bool, true, false, not, ◌==◌, ◌&&◌, ◌||◌, if◌then◌else◌, append-nil, append_assoc, Some, Result, Ok, Err, refl, ap, sym, ◌∙◌, subst, arith}
 use Rattle.defs_text.specs.Classes.{tab, is_document_marker}
 use Rattle.defs_text.specs.Position.{Position, position_after}
 use Rattle.defs_text.specs.Text.{is_empty, has_no_nul}
 use Rattle.defs_text.specs.FlowScalar.{Element, content, begins_with, elements}
-use Rattle.defs_token.specs.Step.{gives_node}
-use Rattle.defs_token.specs.Indentation.{least_column}
-use Rattle.defs_token.specs.RowAccount.{Site, site_in}
 use Rattle.defs_token.specs.Following.{quoted_may_end}
 use Rattle.defs_token.specs.Lines.{quoted_lines_fit}
 use Rattle.yaml_chars.specs.Class.{is_breakz}
-use Rattle.yaml_chars.specs.Class as model_classes
 use Rattle.yaml_tokens.specs.declared.problem.Fault.{Fault}
 use Rattle.yaml_tokens.specs.declared.problem.Fault.TheVariants.{At}
 use Rattle.yaml_tokens.specs.declared.problem.Problem.{Problem}
@@ -35,21 +31,20 @@ use Rattle.proof_scanner.proofs.Cut.Nodes.{IsDeep}
 use Rattle.proof_scanner.proofs.Cut.Pieces.Quoted.{some_chars}
 use Rattle.proof_scanner.proofs.Cut.Passes.{Spaced, spaces_skipped}
 use Rattle.proof_scanner.proofs.Cut.Saved.{saved_is}
-use Rattle.proof_scanner.specs.StandsInRow.{columns}
-use Rattle.proof_scanner.specs.Arrives.{Arrives, site_here}
+use Rattle.proof_scanner.specs.Arrives.{Arrives}
 use Rattle.proof_scanner.proofs.Sound.QuotedBreaks.{same_limit}
 use Rattle.proof_scanner.proofs.Sound.QuotedEnds.{unglued}
-use Rattle.proof_scanner.proofs.Sound.QuotedKeeps.{QuotedAs, piece_of, least_is_less}
+use Rattle.proof_scanner.proofs.Sound.QuotedKeeps.{QuotedAs, piece_of}
 use Rattle.proof_scanner.specs.Goes.{Succeeds, went}
 use Rattle.proof_scanner.proofs.Complete.Scalars.AfterQuoted.{check_passes}
 use Rattle.proof_scanner.proofs.Complete.Scalars.Bodies.{quoted_scanned}
 use Rattle.proof_scanner.specs.NoPiece as none
 use Rattle.proof_scanner.specs.NoPiece.{IsQuoted}
-use Rattle.proof_scanner.specs.Failing.{no_quoted, site_at_place}
+use Rattle.proof_scanner.specs.Failing.{no_quoted}
 use Rattle.proof_scanner.specs.Stuck.{IsStuck}
 use Rattle.proof_scanner.specs.QuotedLines as lines
 use Rattle.proof_scanner.specs.QuotedLines.{within, past_elements, AreNotIndented, IsQuotedFault}
-use Rattle.proof_scanner.proofs.Refusals.QuotedElements.{past_char}
+use Rattle.proof_scanner.proofs.Refusals.QuotedElements.{after_quote_at}
 use Rattle.proof_scanner.proofs.Refusals.QuotedLines.{is_of_lines, Ends, refused, reads, quoted_ends}
 use Rattle.proof_scanner.proofs.Refusals.QuotedReasons.{all_stand, indented_are, Cut, Place, by_end, by_escape, by_column, by_tab, Reason, marked, other}
 use Rattle.proof_scanner.proofs.Refusals.Faults.{Faults, fault, goes, in_turn}
@@ -178,11 +173,6 @@ module _ (text : List ℕ) (t : ScannerState) (a : Arrives text t) (some : is_em
 
 -- ---- a text that is refused
 
-unbroken : (b : Bool) → model_classes.is_break (none.quote_of b) ≡ false
-unfolding model_classes.is_break
-unbroken true = refl
-unbroken false = refl
-
 not_of_lines : (text : List ℕ) (why : Problem) (p : Position) → IsBadEscape text why → is_of_lines (At why p) ≡ false
 not_of_lines text why p bad.ends = refl
 not_of_lines text why p (bad.unknown c r i j k) = refl
@@ -248,9 +238,6 @@ module _ (text : List ℕ) (t : ScannerState) (a : Arrives text t) (some : is_em
           indented : (es : List Element) → all_stand least within (past here).col (es ++ []) ≡ true → are_indented least es ≡ true
           indented es h = indented_are least (past here).col es ∙ (ap (all_stand least within (past here).col) (sym (append-nil es)) ∙ h)
 
-          place : (body rest : List ℕ) → position_after here (none.quote_of single ∷ body) rest ≡ position_after (past here) body rest
-          place body rest = ap (λ q. position_after q body rest) (past_char here (none.quote_of single) (body ++ rest) (unbroken single))
-
           by : (last : List Element) (why : Problem) (at : Position) → At why at ≡ f → (x : Cut single least here last within (past here) more) → marked_from (past here).col x.body x.rest ≡ false
               → Place single least here (past_elements within x.es) (position_after (past here) x.body x.rest) x.rest last why at → IsStuck text why at
           by last why at is x m (by_end ends) =
@@ -264,10 +251,10 @@ module _ (text : List ℕ) (t : ScannerState) (a : Arrives text t) (some : is_em
               (ap (λ r. has_marker x.body r) (sym cut) ∙ unmarked x.body x.rest m, indented_are least (past here).col (x.es ++ content 92 ∷ []) ∙ x.fits)
           by last why at is x m (by_column solid further low) =
               lines_stuck single problem.QuotedIndentation here none_fits
-              (lines.by_column x.body x.rest x.es (e ∙ ap (λ r. none.quote_of single ∷ r) x.is_text) x.are solid further (ap (λ (q : Position). nat_lt q.col least) (place x.body x.rest) ∙ low))
+              (lines.by_column x.body x.rest x.es (e ∙ ap (λ r. none.quote_of single ∷ r) x.is_text) x.are solid further (ap (λ (q : Position). nat_lt q.col least) (after_quote_at single here x.body x.rest) ∙ low))
               (unmarked x.body x.rest m, indented x.es x.fits)
           by last why at is x m (by_tab next cut further low) =
-              let same_place : position_after (past here) x.body x.rest ≡ position_after here (none.quote_of single ∷ x.body) (tab ∷ next) = sym (place x.body x.rest) ∙ ap (λ r. position_after here (none.quote_of single ∷ x.body) r) cut in
+              let same_place : position_after (past here) x.body x.rest ≡ position_after here (none.quote_of single ∷ x.body) (tab ∷ next) = sym (after_quote_at single here x.body x.rest) ∙ ap (λ r. position_after here (none.quote_of single ∷ x.body) r) cut in
               subst (λ z. IsStuck text problem.TabAsIndentation z) (sym same_place)
               (lines_stuck single problem.TabAsIndentation (position_after here (none.quote_of single ∷ x.body) (tab ∷ next)) none_fits
               (lines.by_tab x.body next x.es (e ∙ ap (λ r. none.quote_of single ∷ r) (x.is_text ∙ ap (λ r. x.body ++ r) cut)) x.are further (ap (λ (q : Position). nat_lt q.col least) (sym same_place) ∙ low))

@@ -4,9 +4,8 @@ use Rattle.defs_text.specs.Position.{Position, position_after}
 use Rattle.defs_text.specs.Text.{is_empty, has_no_nul}
 use Rattle.defs_text.specs.FlowScalar.{begins_with}
 use Rattle.defs_token.specs.Separation.{is_separation}
-use Rattle.defs_token.specs.Step.{gives_node, quoted_scalar, has_break}
+use Rattle.defs_token.specs.Step.{quoted_scalar, has_break}
 use Rattle.defs_token.specs.Indentation.{least_column, is_indented_by_spaces}
-use Rattle.defs_token.specs.RowAccount.{site_in}
 use Rattle.yaml_tokens.specs.declared.problem.Fault.{Fault}
 use Rattle.yaml_tokens.specs.declared.problem.Problem.TheVariants as problem
 use Rattle.model_scanner.specs.declared.context.Context.{Context}
