@@ -79,7 +79,6 @@ loosely ws after None b h = absurd h
 loosely [] after (Some a) b h = stays h
 loosely (w ∷ ws) after (Some a) b h = (a, stays refl, h.0, loosely ws after (account_past a w (spelled ws after)) b h.1)
 
-
 pub spelled_append : (vs ws : List Step) (after : List ℕ) → spelled (vs ++ ws) after ≡ spelled vs (spelled ws after)
 spelled_append [] ws after = refl
 spelled_append (v ∷ vs) ws after = ap (λ r. v.separation ++ (v.piece ++ r)) (spelled_append vs ws after)
@@ -89,13 +88,18 @@ given_up_on : (vs ws : List Step) (after : List ℕ) (o : Option Account) (a b :
     LeadsBy GivesUp o (vs ++ ws) after b
 given_up_on vs ws after None a b begin h waiting must k = absurd h
 given_up_on [] [] after (Some x) a b begin h waiting must k = given_up begin (ap (λ (z : Account). z.line) h ∙ waiting) (subst (λ (z : Account). is_in_column begin.col z.site.blocks ≡ true) (sym h) must) (ap (λ (z : Account). let y : Account = record { site = z.site; line = taken; entries = z.entries } in y) h ∙ k)
-given_up_on [] (w ∷ ws) after (Some x) a b begin h waiting must k =
-    (record { site = x.site; line = taken; entries = x.entries }, given_up begin (ap (λ (z : Account). z.line) h ∙ waiting) (subst (λ (z : Account). is_in_column begin.col z.site.blocks ≡ true) (sym h) must) refl,
-    subst (λ (z : Account). IsWritten (record { site = z.site; line = taken; entries = z.entries }) w (spelled ws after)) (sym h) k.0,
-    loosely ws after (account_past (record { site = x.site; line = taken; entries = x.entries }) w (spelled ws after)) b (subst (λ (z : Account). Leads (account_past (record { site = z.site; line = taken; entries = z.entries }) w (spelled ws after)) ws after b) (sym h) k.1))
-given_up_on (v ∷ vs) ws after (Some x) a b begin h waiting must k =
-    (x, stays refl, subst (λ r. IsWritten x v r) (sym (spelled_append vs ws after)) h.0,
-    subst (λ r. LeadsBy GivesUp (account_past x v r) (vs ++ ws) after b) (sym (spelled_append vs ws after)) (given_up_on vs ws after (account_past x v (spelled vs (spelled ws after))) a b begin h.1 waiting must k))
+given_up_on [] (w ∷ ws) after (Some x) a b begin h waiting must k = (
+  record { site = x.site; line = taken; entries = x.entries },
+  given_up begin (ap (λ (z : Account). z.line) h ∙ waiting) (subst (λ (z : Account). is_in_column begin.col z.site.blocks ≡ true) (sym h) must) refl,
+  subst (λ (z : Account). IsWritten (record { site = z.site; line = taken; entries = z.entries }) w (spelled ws after)) (sym h) k.0,
+  loosely ws after (account_past (record { site = x.site; line = taken; entries = x.entries }) w (spelled ws after)) b (subst (λ (z : Account). Leads (account_past (record { site = z.site; line = taken; entries = z.entries }) w (spelled ws after)) ws after b) (sym h) k.1),
+)
+given_up_on (v ∷ vs) ws after (Some x) a b begin h waiting must k = (
+  x,
+  stays refl,
+  subst (λ r. IsWritten x v r) (sym (spelled_append vs ws after)) h.0,
+  subst (λ r. LeadsBy GivesUp (account_past x v r) (vs ++ ws) after b) (sym (spelled_append vs ws after)) (given_up_on vs ws after (account_past x v (spelled vs (spelled ws after))) a b begin h.1 waiting must k),
+)
 
 -- A way to an account, before the rest of the text.
 pub record Way (J : Account → Account → Type 0) (text after : List ℕ) (a : Account) : Type 0 where
