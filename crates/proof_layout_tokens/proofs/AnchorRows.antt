@@ -1,17 +1,11 @@
 -- Anchors before each kind of value, an alias, and a folded block: what the theorem says of a text with them.
 use Rattle.std.proofs.Common.{arith, ◌≡◌, ◌≢◌, ℕ, List, [], ◌∷◌, true, false, sym, ap, ◌∙◌, true≢false, codes}
-use Rattle.defs_token.specs.Token.{Tok, Style}
-use Rattle.defs_tree.specs.Tree.{Tree, pairs_of}
+use Rattle.proof_layout_tokens.proofs.Common.{blank, empty_line, field, full, HasToks, implicit, is_decimal, is_line_character, is_literal_character, is_literal_text, is_quoted, is_unfit_for_plain, last_document, last_field, no_comment, Root, row_of, Scalar, scalar, Style, Tok, Tree, typing}
+use Rattle.defs_tree.specs.Tree.{pairs_of}
 use Rattle.defs_tree.specs.Order.{tree_eq}
-use Rattle.defs_tree.specs.Quoting.{is_quoted, is_unfit_for_plain}
-use Rattle.defs_tree.specs.Typing.{typing, is_decimal}
-use Rattle.defs_tree.specs.Literal.{is_literal_text, is_literal_character}
-use Rattle.defs_text.specs.BlockScalar.{row_of, is_empty_line, is_content_line}
+use Rattle.defs_text.specs.BlockScalar.{is_empty_line, is_content_line}
 use Rattle.defs_text.specs.Classes.{is_blank}
-use Rattle.defs_layout.specs.Gap.{empty_line, is_line_character}
-use Rattle.defs_layout.specs.BlockLines.{full, blank}
-use Rattle.defs_layout.specs.Layout.{Scalar, plain, single_quoted, scalar, no_comment, Block, beside, literal, folded, below, anchored, alias, implicit, last_field, field, Root, last_document}
-use Rattle.model_scanner.specs.TextTokens.{HasToks}
+use Rattle.defs_layout.specs.Layout.{plain, single_quoted, Block, beside, literal, folded, below, anchored, alias}
 use Rattle.proof_layout_tokens.proofs.Layouts.Texts.{layouts_have_their_tokens}
 
 abbrev word : List ℕ → Scalar

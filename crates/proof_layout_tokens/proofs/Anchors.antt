@@ -4,26 +4,16 @@ use Rattle.std.specs.Char.{is_ascii_alphanumeric}
 use Rattle.std.specs.List.{list_all}
 use Rattle.std.proofs.lemmas.Bool.{and_parts, le-ltb}
 use Rattle.std.proofs.lemmas.Bool.Decides.{nat_tests}
-use Rattle.defs_text.specs.Position.{Position}
-use Rattle.yaml_chars.specs.Class.{is_anchor, is_blank, is_break, is_flow}
-use Rattle.defs_token.specs.Token.{Tok}
+use Rattle.proof_layout_tokens.proofs.Common.{along, along_line, class_of, comes_marker, Comment, GapLine, Indent, is_flow, IsComment, IsGap, Key, level, no_comment, past, past_break, Position, Reaches, save_implicit_key, ScannerState, still, Tok, token, token_by}
+use Rattle.yaml_chars.specs.Class.{is_anchor, is_blank, is_break}
 use Rattle.defs_layout.specs.Anchored.{is_name}
-use Rattle.defs_layout.specs.Gap.{GapLine, IsGap}
-use Rattle.defs_layout.specs.Layout.{Comment, no_comment, comment, IsComment}
-use Rattle.model_scanner.specs.Machine.{past, past_break, take_while, ends_while}
+use Rattle.defs_layout.specs.Layout.{comment}
+use Rattle.model_scanner.specs.Machine.{take_while, ends_while}
 use Rattle.model_scanner.specs.Anchor.{anchor_name}
-use Rattle.model_scanner.specs.declared.level.Indent.{Indent}
-use Rattle.model_scanner.specs.State.{Key, ScannerState, token}
-use Rattle.model_scanner.specs.Class.{class_of}
-use Rattle.model_scanner.specs.Keys.{still, save_implicit_key}
-use Rattle.model_scanner.specs.Indents.{level}
 use Rattle.model_scanner.specs.Document.{anchor_token, fetch_anchor}
-use Rattle.model_scanner.specs.Fetch.{token_by, comes_marker}
-use Rattle.model_scanner.specs.Run.{Reaches}
 use Rattle.proof_layout_tokens.proofs.Layouts.States.{Parts, stands, is_solid, Opens, opened, opened_indent, Trail, next, marker, end, trail_text, rest_of, limit_of, IsTrail, IsOld, Tells, Before, After}
 use Rattle.proof_layout_tokens.proofs.Whites.{line_feed, spell_white, beyond, passed, next_token, blanks, blanks_col, blanks_white, gap_white, gap_are_white, gap_allows}
-use Rattle.proof_lexers.specs.HeaderEnds.{along}
-use Rattle.proof_lexers.proofs.Along.{along_line, along_more}
+use Rattle.proof_lexers.proofs.Along.{along_more}
 use Rattle.proof_layout_tokens.proofs.Comments.{comment_position, comment_are_white, beyond_comment, allowed_comment, blanks_line, comment_line}
 use Rattle.proof_layout_tokens.proofs.Levels
 use Rattle.proof_layout_tokens.proofs.Joins.{trail_white, trail_is, trail_are_white, gap_col, gap_line, old, IsLoose, leaf_after, saved, fetched, left_open, Ahead}

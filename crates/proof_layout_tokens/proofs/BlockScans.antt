@@ -3,21 +3,19 @@ use Rattle.std.proofs.Common.{◌≡◌, ◌≢◌, ℕ, zero, suc, ◌+◌, ◌
 use Rattle.std.specs.List.{list_all}
 use Rattle.std.proofs.lemmas.Bool.{and_parts}
 use Rattle.std.proofs.lemmas.Bool.Decides.{nat_tests}
-use Rattle.defs_text.specs.Position.{Position, position_after}
-use Rattle.yaml_tokens.specs.declared.problem.Fault.{Fault}
+use Rattle.proof_layout_tokens.proofs.Common.{along, along_line, and_false, AreLines, BeginsWithText, blank, BlockStyle, empty_line, EndsInText, Fault, full, GapLine, has_content, indented_lines, is_document_marker, is_line_character, IsGap, IsLineText, Line, past, past_break, Position, Read, Row, row_of, rows_of, spaces, spell_lines, value_before_text}
+use Rattle.defs_text.specs.Position.{position_after}
 use Rattle.defs_text.specs.Classes as classes
-use Rattle.defs_text.specs.Classes.{is_at_end, is_document_marker, tab}
+use Rattle.defs_text.specs.Classes.{is_at_end, tab}
 use Rattle.defs_text.specs.FlowScalar.{begins_with}
-use Rattle.defs_text.specs.BlockScalar.{BlockStyle, literal, folded, Row, body, further_text, unbroken, header_of, sign_of, digit_of, row_of, rows_of, column_by, least_column, starts_with_tab, has_content, value_before_text, value_before_end, block_value, is_outside, is_further_text}
+use Rattle.defs_text.specs.BlockScalar.{literal, folded, body, further_text, unbroken, header_of, sign_of, digit_of, column_by, least_column, starts_with_tab, value_before_end, block_value, is_outside, is_further_text}
 use Rattle.defs_token.specs.BlockPiece as cut
 use Rattle.defs_token.specs.BlockPiece.{read_body, past_spaces, block_position}
-use Rattle.defs_layout.specs.Gap.{GapLine, empty_line, comment_line, spaces, IsGap, AreEmptyLines, IsLineText, is_line_character}
-use Rattle.defs_layout.specs.BlockLines.{Line, full, blank, spell_line, spell_lines, AreLines}
-use Rattle.defs_layout.specs.Layout.{indented_lines, BeginsWithText, EndsInText, AreLineTexts}
-use Rattle.model_scanner.specs.Machine.{Read, past, past_break}
+use Rattle.defs_layout.specs.Gap.{comment_line, AreEmptyLines}
+use Rattle.defs_layout.specs.BlockLines.{spell_line}
+use Rattle.defs_layout.specs.Layout.{AreLineTexts}
 use Rattle.model_scanner.specs.BlockScalar.{Block, block}
-use Rattle.proof_lexers.proofs.Bridges.{and_false}
-use Rattle.proof_lexers.specs.HeaderEnds.{indicator_of, is_in_line, along}
+use Rattle.proof_lexers.specs.HeaderEnds.{indicator_of, is_in_line}
 use Rattle.proof_lexers.specs.BlockScan.{is_literal_style, IsRead, read, shallow, tabbed, is_tabbed, is_shallow, read_block, without_spaces, further_position}
 use Rattle.proof_lexers.specs.PlainEnds.{collection_of}
 use Rattle.proof_lexers.proofs.Blocks.Written as written
@@ -28,7 +26,6 @@ use Rattle.proof_lexers.proofs.Blocks.Columns.{texts_append, spell_append}
 use Rattle.proof_lexers.proofs.Blocks.Pieces.{Read_as, to_end, to_text}
 use Rattle.proof_layout_tokens.proofs.Layouts.States.{is_solid, Trail, next, marker, end, marker_text, rest_of, limit_of, IsTrail}
 use Rattle.proof_layout_tokens.proofs.Whites.{White, line_feed, remark, spell_white, beyond, AreWhite, blanks, blanks_col, blanks_white, spaces_are, gap_white, gap_are_white, line_white, ending_white, ending_are_white}
-use Rattle.proof_lexers.proofs.Along.{along_line}
 use Rattle.proof_layout_tokens.proofs.Joins.{trail_white}
 use Rattle.proof_layout_tokens.proofs.BlockTexts.{header_by, line_of, lines_at, empties, texts_are, line_more, spelt, Last, last_of, deepest, empty_rows, rows_append, rows_split, rows_empty, row_spaces, row_full, content_append, text_value, spaces_value, last_value}
 

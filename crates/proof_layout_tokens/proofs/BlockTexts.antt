@@ -2,12 +2,9 @@
 use Rattle.std.proofs.Common.{◌≡◌, ◌≢◌, ℕ, zero, suc, ◌+◌, ◌<◌, ◌≤◌, List, [], ◌∷◌, ◌++◌, Bool, true, false, ◌&&◌, ◌==◌, if◌then◌else◌, max, nat_le, drop, length, Option, Some, None, refl, ap, sym, ◌∙◌, append-nil, arith}
 use Rattle.std.proofs.lemmas.Bool.{ne_eqb}
 use Rattle.std.proofs.lemmas.Bool.Decides.{nat_tests}
-use Rattle.defs_text.specs.Classes.{is_document_marker}
-use Rattle.defs_text.specs.BlockScalar.{BlockStyle, Chomping, Header, Row, empty_row, content_row, row_of, rows_of, is_empty_line, is_content_line, is_spaces, leading_spaces, deepest_start, has_content, text_of, text_after, with_content, value_before_text, value_before_end}
-use Rattle.defs_layout.specs.Gap.{spaces}
-use Rattle.defs_layout.specs.BlockLines.{Line, full, blank, spell_line, spell_lines, AreLines}
-use Rattle.defs_layout.specs.Layout.{indented_lines, BeginsWithText, EndsInText}
-use Rattle.proof_lexers.proofs.Bridges.{and_false}
+use Rattle.proof_layout_tokens.proofs.Common.{and_false, AreLines, BeginsWithText, blank, BlockStyle, EndsInText, full, has_content, indented_lines, is_document_marker, Line, Row, row_of, rows_of, spaces, spell_lines, value_before_text}
+use Rattle.defs_text.specs.BlockScalar.{Chomping, Header, empty_row, content_row, is_empty_line, is_content_line, is_spaces, leading_spaces, deepest_start, text_of, text_after, with_content, value_before_end}
+use Rattle.defs_layout.specs.BlockLines.{spell_line}
 use Rattle.proof_lexers.proofs.Blocks.Written as written
 use Rattle.proof_lexers.proofs.Blocks.Written.{feed, texts}
 

@@ -1,18 +1,11 @@
 -- What a fetch does at a literal or folded block.
 use Rattle.std.proofs.Common.{◌≡◌, ℕ, suc, ◌+◌, ◌<◌, ◌≤◌, List, [], ◌∷◌, ◌++◌, Bool, true, false, Option, Some, None, Ok, refl, ◌∙◌, arith}
-use Rattle.defs_text.specs.Position.{Position}
-use Rattle.defs_token.specs.Token.{Tok, Style}
+use Rattle.proof_layout_tokens.proofs.Common.{AreLinesOf, BlockStyle, class_of, comes_marker, Indent, Key, Line, Position, save_implicit_key, ScannerState, spell_lines, spell_literal, still, Style, Tok, token, token_by}
 use Rattle.defs_tree.specs.Literal.{is_literal_text as may_be_literal, is_root_literal}
-use Rattle.defs_text.specs.BlockScalar.{BlockStyle, literal, folded}
-use Rattle.defs_layout.specs.BlockLines.{Line, spell_lines}
-use Rattle.defs_layout.specs.Layout.{folded_header, AreFoldedLines, spell_literal, AreLinesOf}
+use Rattle.defs_text.specs.BlockScalar.{literal, folded}
+use Rattle.defs_layout.specs.Layout.{folded_header, AreFoldedLines}
 use Rattle.model_scanner.specs.BlockScalar.{block}
-use Rattle.model_scanner.specs.declared.level.Indent.{Indent}
-use Rattle.model_scanner.specs.State.{Key, ScannerState, token}
-use Rattle.model_scanner.specs.Class.{class_of}
-use Rattle.model_scanner.specs.Keys.{still, save_implicit_key}
 use Rattle.model_scanner.specs.Document.{block_style, fetch_block_scalar}
-use Rattle.model_scanner.specs.Fetch.{token_by, comes_marker}
 use Rattle.proof_lexers.specs.HeaderEnds.{indicator_of}
 use Rattle.proof_lexers.specs.BlockScan.{is_literal_style}
 use Rattle.proof_layout_tokens.proofs.Layouts.States.{Parts, stands, Opens, opened, opened_indent, IsClosed, Trail, next, marker, end, trail_text, rest_of, limit_of, IsTrail, After}

@@ -2,17 +2,11 @@
 use Rattle.std.proofs.Common.{◌≡◌, ℕ, zero, suc, List, [], ◌∷◌, ◌++◌, Bool, true, false, Ok, refl, ap, ◌∙◌}
 use Rattle.std.specs.List.{list_all}
 use Rattle.std.proofs.lemmas.Bool.{and_parts}
-use Rattle.defs_text.specs.Position.{Position}
+use Rattle.proof_layout_tokens.proofs.Common.{along, along_line, Comment, is_line_character, IsComment, IsLineText, no_comment, past, Position, spaces, spell_comment, Whitespace, Yes}
 use Rattle.yaml_chars.specs.Class.{is_break}
-use Rattle.defs_layout.specs.Gap.{spaces, IsLineText, is_line_character}
-use Rattle.defs_layout.specs.Layout.{Comment, no_comment, comment, spell_comment, IsComment}
-use Rattle.model_scanner.specs.declared.context.SkipTabs.TheVariants.{Yes}
-use Rattle.model_scanner.specs.declared.context.Whitespace.{Whitespace}
-use Rattle.model_scanner.specs.Machine.{past}
+use Rattle.defs_layout.specs.Layout.{comment}
 use Rattle.model_scanner.specs.Blanks as scalar_space
 use Rattle.proof_layout_tokens.proofs.Whites.{White, space, remark, spell_white, beyond, allowed_beyond, EndsLine, AreWhite, in_line, blanks}
-use Rattle.proof_lexers.specs.HeaderEnds.{along}
-use Rattle.proof_lexers.proofs.Along.{along_line}
 
 -- so many spaces before other white space
 abbrev pub spaced : ℕ → List White → List White

@@ -1,21 +1,10 @@
 -- The starts of documents, and the end of the last.
 use Rattle.std.proofs.Common.{◌≡◌, ℕ, ◌+◌, List, [], ◌∷◌, ◌++◌, true, false, ◌==◌, None, Ok, refl, sym, ◌∙◌, append-nil}
 use Rattle.std.proofs.lemmas.Bool.{eq-eqb}
-use Rattle.defs_text.specs.Position.{Position}
+use Rattle.proof_layout_tokens.proofs.Common.{comes_marker, drop_stale, fetch, fetch_content, fetch_first_column, fetch_here, GapLine, HasToks, Indent, is_required, past, Position, Reaches, reaches_then, remove_implicit_key, ScannerState, stale, start, still, there, Tok, Token, token, toks, try_held, unroll_indent}
 use Rattle.yaml_chars.specs.Class.{is_break, is_blank}
-use Rattle.defs_token.specs.Token.{Tok, Token}
-use Rattle.defs_layout.specs.Gap.{GapLine}
-use Rattle.model_scanner.specs.Machine.{past}
-use Rattle.model_scanner.specs.declared.level.Indent.{Indent}
-use Rattle.model_scanner.specs.State.{ScannerState, token, try_held}
-use Rattle.model_scanner.specs.Keys.{stale, drop_stale, still, is_required, remove_implicit_key}
-use Rattle.model_scanner.specs.Indents.{unroll_indent}
 use Rattle.model_scanner.specs.Document.{next_line, fetch_stream_start, fetch_stream_end, begin_line, fetch_document_marker}
-use Rattle.model_scanner.specs.Fetch.{comes_marker, fetch_first_column, fetch_content, fetch_here, fetch}
-use Rattle.model_scanner.specs.Run.{Reaches, here, there, start}
-use Rattle.defs_token.specs.Toks.{toks}
-use Rattle.model_scanner.specs.TextTokens.{HasToks}
-use Rattle.model_scanner.proofs.Runs.{reaches_then}
+use Rattle.model_scanner.specs.Run.{here}
 use Rattle.proof_layout_tokens.proofs.Layouts.States.{Parts, stands, left, marker, marker_text, end, Tells, After}
 use Rattle.proof_layout_tokens.proofs.Joins.{unrolls_to}
 use Rattle.proof_layout_tokens.proofs.Levels

@@ -1,9 +1,9 @@
 -- Layouts in turn are one layout: so they have its tokens.
 use Rattle.std.proofs.Common.{[], ◌∷◌, subst}
+use Rattle.proof_layout_tokens.proofs.Common.{HasToks}
 use Rattle.defs_layout.proofs.InTurn.{layouts_in_turn}
 use Rattle.defs_layout.specs.LayoutTokens.{layout_tokens}
 use Rattle.model_scanner.specs.Run.{IsRefused}
-use Rattle.model_scanner.specs.TextTokens.{HasToks}
 use Rattle.proof_layout_tokens.specs.Laws.{LayoutsInTurnHaveTheirTokens, LayoutsInTurnAreNotRefused}
 use Rattle.proof_layout_tokens.proofs.Documents.{nothing_has_its_tokens}
 use Rattle.proof_layout_tokens.proofs.TextTokens.{none_is_refused}

@@ -1,23 +1,11 @@
 -- How runs of nodes are put together: what stands after one node, and in front of the next.
 use Rattle.std.proofs.Common.{◌≡◌, ℕ, ◌+◌, ◌<◌, ◌≤◌, List, [], ◌∷◌, ◌++◌, Bool, true, false, ◌==◌, nat_lt, Option, Some, None, Ok, refl, ap, ◌∙◌, arith, length}
 use Rattle.std.proofs.lemmas.Bool.{ne_eqb, lt-ltb, le-ltb}
-use Rattle.defs_text.specs.Position.{Position}
-use Rattle.defs_token.specs.Token.{Tok}
-use Rattle.defs_layout.specs.Gap.{GapLine, empty_line, comment_line}
-use Rattle.model_scanner.specs.Machine.{past, past_break}
-use Rattle.model_scanner.specs.declared.level.Indent.{Indent}
-use Rattle.model_scanner.specs.State.{Key, ScannerState, ◌>>=◌, try_held}
-use Rattle.model_scanner.specs.Keys.{stale, is_far, is_required, save_implicit_key, must_be_key}
-use Rattle.model_scanner.specs.Indents.{level, unroll_indent}
-use Rattle.model_scanner.specs.Fetch.{fetch_here, fetch}
-use Rattle.model_scanner.specs.Run.{Reaches, here, there}
-use Rattle.model_scanner.proofs.Runs.{reaches_then}
-use Rattle.defs_token.specs.Toks.{toks}
-use Rattle.proof_lexers.proofs.Bridges.{and_false}
+use Rattle.proof_layout_tokens.proofs.Common.{along, along_line, and_false, empty_line, fetch, fetch_here, GapLine, Indent, is_far, is_required, Key, level, must_be_key, past, past_break, Position, Reaches, reaches_then, save_implicit_key, ScannerState, stale, there, Tok, toks, try_held, unroll_indent, ◌>>=◌}
+use Rattle.defs_layout.specs.Gap.{comment_line}
+use Rattle.model_scanner.specs.Run.{here}
 use Rattle.proof_layout_tokens.proofs.Layouts.States.{Parts, stands, opened, opened_indent, ends, left, Trail, next, marker, end, marker_text, trail_text, rest_of, limit_of, IsTrail, IsOld, Tells, Before, Settles, After}
 use Rattle.proof_layout_tokens.proofs.Whites.{White, line_feed, spell_white, beyond, passed, allowed_beyond, EndsLine, AreWhite, next_token, blanks, blanks_col, blanks_white, gap_white, ending_white, next_line_is, ending_is, gap_are_white, ending_are_white}
-use Rattle.proof_lexers.specs.HeaderEnds.{along}
-use Rattle.proof_lexers.proofs.Along.{along_line}
 use Rattle.proof_layout_tokens.proofs.Comments.{Stops, at_end, at_feed, blanks_line}
 use Rattle.proof_layout_tokens.proofs.Levels
 

@@ -3,29 +3,17 @@ use Rattle.std.proofs.Common.{◌≡◌, ℕ, ◌+◌, ◌≤◌, List, [], ◌�
 use Rattle.std.specs.List.{insert}
 use Rattle.std.proofs.lemmas.Bool.{le-ltb, eq-eqb}
 use Rattle.std.proofs.lemmas.List.Edits.{insert-append_left, insert_end}
-use Rattle.defs_text.specs.Position.{Position}
+use Rattle.proof_layout_tokens.proofs.Common.{along, along_line, check_after_quoted, Comment, fetch_flow_scalar, fetch_plain_scalar, fetch_value, GapLine, Indent, is_far, IsComment, IsGap, Key, level, may_follow_quoted, must_be_key, no_comment, past, past_break, Position, quote_of, quoted_style, Reaches, reaches_then, save_implicit_key, ScannerState, Style, there, Tok, Token, token, toks, unroll_non_block_indents, without_open, Yes}
 use Rattle.yaml_chars.specs.Class.{is_break, is_blank}
-use Rattle.defs_token.specs.Token.{Tok, Style, Token}
-use Rattle.defs_layout.specs.Gap.{GapLine, IsGap}
-use Rattle.defs_layout.specs.Layout.{Comment, no_comment, comment, IsComment}
+use Rattle.defs_layout.specs.Layout.{comment}
 use Rattle.proof_layout_tokens.proofs.Comments.{spaced, comment_white, comment_position, comment_are_white, beyond_comment, allowed_comment}
-use Rattle.model_scanner.specs.declared.context.SkipTabs.TheVariants.{Yes}
-use Rattle.model_scanner.specs.Machine.{past, past_break}
 use Rattle.model_scanner.specs.Plain.{plain}
-use Rattle.model_scanner.specs.declared.level.Indent.{Indent}
-use Rattle.model_scanner.specs.State.{Key, Held, ScannerState, token}
-use Rattle.model_scanner.specs.Keys.{is_far, save_implicit_key, must_be_key}
-use Rattle.model_scanner.specs.Indents.{level, unroll_non_block_indents, without_open}
-use Rattle.model_scanner.specs.Block.{begin_pair, insert_key, fetch_value}
-use Rattle.model_scanner.specs.Quoted.{quote_of}
-use Rattle.model_scanner.specs.Document.{quoted_style, may_follow_quoted, check_after_quoted, fetch_flow_scalar, fetch_plain_scalar}
-use Rattle.model_scanner.specs.Run.{Reaches, here, there}
-use Rattle.model_scanner.proofs.Runs.{reaches_then}
-use Rattle.defs_token.specs.Toks.{toks}
+use Rattle.model_scanner.specs.State.{Held}
+use Rattle.model_scanner.specs.Block.{begin_pair, insert_key}
+use Rattle.model_scanner.specs.Run.{here}
 use Rattle.proof_layout_tokens.proofs.Layouts.States.{Parts, stands, is_solid, IsClosed, Tells, Before}
 use Rattle.proof_layout_tokens.proofs.Whites.{line_feed, remark, spell_white, beyond, allowed_beyond, next_token, blanks, blanks_white, gap_white, gap_are_white, gap_allows}
-use Rattle.proof_lexers.specs.HeaderEnds.{along}
-use Rattle.proof_lexers.proofs.Along.{along_line, along_more}
+use Rattle.proof_lexers.proofs.Along.{along_more}
 use Rattle.proof_layout_tokens.proofs.Levels
 use Rattle.proof_layout_tokens.proofs.Joins.{fetched, gap_col, before_entry}
 use Rattle.proof_layout_tokens.proofs.Marks.{Way, beside, below, way_white, way_column, IsWay, way_are_white, way_ends, Stand, later, first, indent_at, indents_at, starts, started, started_tells, drop_stand, rolled_at, opens, marked, solid_spaces, opens_mark, stand_low, arrived, Marked, marked_before, by_colon, value_space}

@@ -1,29 +1,14 @@
 -- What a fetch does at a scalar that is a value, and two of them at `[]` and `{}`.
 use Rattle.std.proofs.Common.{◌≡◌, ℕ, ◌≤◌, List, [], ◌∷◌, ◌++◌, Bool, true, false, ◌==◌, if◌then◌else◌, Option, Some, None, Result, Ok, refl, ap, sym, ◌∙◌, arith, slice_index, inl, inr}
 use Rattle.std.proofs.lemmas.Bool.{lt-ltb}
-use Rattle.defs_text.specs.Position.{Position}
+use Rattle.proof_layout_tokens.proofs.Common.{along, along_line, at_marker, check_after_quoted, class_of, comes_marker, Comment, Fault, fetch_flow_scalar, fetch_here, fetch_plain_scalar, Indent, is_far, is_required, IsComment, IsLineText, Key, may_follow_quoted, no_comment, past, past_break, peek, Position, quote_of, quoted_style, save_implicit_key, ScannerState, skip_spaces, spell_comment, still, Style, Tok, token, token_by, unroll_non_block_indents, without_open, Yes}
 use Rattle.yaml_chars.specs.Class.{is_break, is_blank}
-use Rattle.defs_token.specs.Token.{Tok, Style}
-use Rattle.yaml_tokens.specs.declared.problem.Fault.{Fault}
-use Rattle.model_scanner.specs.declared.context.SkipTabs.TheVariants.{Yes}
-use Rattle.model_scanner.specs.Machine.{past, past_break, is_marker, at_marker}
+use Rattle.model_scanner.specs.Machine.{is_marker}
 use Rattle.model_scanner.specs.Blanks as scalar_space
-use Rattle.model_scanner.specs.declared.level.Indent.{Indent}
-use Rattle.model_scanner.specs.State.{Key, ScannerState, peek, token}
-use Rattle.model_scanner.specs.Class.{class_of}
-use Rattle.model_scanner.specs.Keys.{still, is_required, is_far, save_implicit_key}
-use Rattle.model_scanner.specs.Indents.{unroll_non_block_indents, without_open}
-use Rattle.model_scanner.specs.Space.{skip_spaces}
-use Rattle.model_scanner.specs.Quoted.{quote_of}
-use Rattle.model_scanner.specs.Document.{quoted_style, may_follow_quoted, check_after_quoted, fetch_flow_scalar, fetch_plain_scalar}
-use Rattle.model_scanner.specs.Fetch.{fetch_here, token_by, comes_marker}
 use Rattle.proof_layout_tokens.proofs.Layouts.States.{Parts, stands, is_solid, Opens, opened, opened_indent, IsClosed, Trail, next, marker, end, marker_text, trail_text, rest_of, limit_of, IsTrail, Before, After}
-use Rattle.defs_layout.specs.Gap.{IsLineText}
-use Rattle.defs_layout.specs.Layout.{Comment, no_comment, comment, spell_comment, IsComment}
+use Rattle.defs_layout.specs.Layout.{comment}
 use Rattle.proof_layout_tokens.proofs.Comments.{comment_white, comment_position, comment_is, beyond_comment, comment_line, comment_passes}
 use Rattle.proof_layout_tokens.proofs.Whites.{White, line_feed, remark, spell_white, beyond, allowed_beyond, AreWhite, next_token, gap_white, blanks, gap_allows, stays_allowed, line_white, ending_white, leading_beyond}
-use Rattle.proof_lexers.specs.HeaderEnds.{along}
-use Rattle.proof_lexers.proofs.Along.{along_line}
 use Rattle.proof_layout_tokens.proofs.Levels
 use Rattle.proof_layout_tokens.proofs.Joins.{trail_white, trail_is, trail_are_white, trail_ends_line, trail_stops, gap_col, Lies, Allows, leaf_after, IsLoose, saved_after, Ahead, ahead, fetched_ahead, left_open}
 use Rattle.proof_layout_tokens.proofs.Json.Levels.{low_enough}

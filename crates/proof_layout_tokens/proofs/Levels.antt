@@ -2,17 +2,9 @@
 use Rattle.std.proofs.Common.{◌≡◌, ℕ, ◌+◌, ◌≤◌, List, [], ◌∷◌, ◌++◌, Bool, true, false, ◌==◌, nat_lt, if◌then◌else◌, Option, Some, None, Ok, refl, ap, ◌∙◌, arith}
 use Rattle.std.proofs.lemmas.Bool.{le-ltb}
 use Rattle.std.proofs.lemmas.Bool.Decides.{nat_tests}
-use Rattle.defs_text.specs.Position.{Position}
-use Rattle.defs_token.specs.Token.{Tok, Token}
-use Rattle.model_scanner.specs.declared.level.Indent.{Indent}
-use Rattle.model_scanner.specs.State.{Key, ◌>>=◌, token, try_held}
-use Rattle.model_scanner.specs.Class.{class_of}
-use Rattle.model_scanner.specs.Keys.{stale, drop_stale, still, is_far, is_overdue, is_required}
-use Rattle.model_scanner.specs.Indents.{unroll_indent, unrolled}
-use Rattle.model_scanner.specs.Space.{skip_to_next_token}
-use Rattle.model_scanner.specs.Fetch.{token_by, fetch_token, fetch_indented, fetch_first_column, fetch_content, fetch_here, fetch_next, fetch}
-use Rattle.defs_token.specs.Toks.{toks}
-use Rattle.proof_lexers.proofs.Bridges.{and_false}
+use Rattle.proof_layout_tokens.proofs.Common.{and_false, class_of, drop_stale, fetch, fetch_content, fetch_first_column, fetch_here, fetch_next, Indent, is_far, is_required, Key, Position, skip_to_next_token, stale, still, Tok, Token, token, token_by, toks, try_held, unroll_indent, unrolled, ◌>>=◌}
+use Rattle.model_scanner.specs.Keys.{is_overdue}
+use Rattle.model_scanner.specs.Fetch.{fetch_token, fetch_indented}
 pub use Rattle.proof_layout_tokens.proofs.TextTokens.{toks_push, push_tells}
 use Rattle.proof_layout_tokens.proofs.Layouts.States.{Parts, stands, Opens, ends, ended, left, Tells}
 use Rattle.proof_layout_tokens.proofs.Whites.{content}

@@ -20,3 +20,4 @@ pub mod Quoted
 mod Quotes
 mod TextTokens
 mod Whites
+mod Common

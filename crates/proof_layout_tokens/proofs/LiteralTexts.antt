@@ -5,18 +5,16 @@ use Rattle.std.specs.List.{list_all, list_any, ends_with}
 use Rattle.std.proofs.lemmas.Bool.{and_parts, or_parts, eqb-true, not-true}
 use Rattle.std.proofs.lemmas.Bool.Decides.{nat_tests}
 use Rattle.std.proofs.lemmas.List.{append_cancel_right}
+use Rattle.proof_layout_tokens.proofs.Common.{and_false, AreLines, AreLinesOf, BeginsWithText, blank, BlockStyle, EndsInText, full, has_content, indented_lines, is_document_marker, is_empty, is_line_character, is_literal_character, is_literal_text, IsLineText, Line, Row, rows_of, value_before_text}
 use lib.Pointwise.{pointwise}
-use Rattle.defs_text.specs.Text.{is_empty}
 use Rattle.defs_tree.specs.Lines.{lines_of, onto_first_line, ended}
-use Rattle.defs_tree.specs.Literal.{is_literal_text, is_root_literal, is_literal_character, is_line_feed, first_full_line_is_indented, begins_as_marker, literal_header}
+use Rattle.defs_tree.specs.Literal.{is_root_literal, is_line_feed, first_full_line_is_indented, begins_as_marker, literal_header}
 use Rattle.defs_tree.specs.Literal as literal_defs
 use Rattle.defs_tree.proofs.LinesLaws.{lines_of_ended}
-use Rattle.defs_text.specs.Classes.{are_marks, is_blank, is_break, is_nul, is_blank_or_end, is_document_marker}
-use Rattle.defs_text.specs.BlockScalar.{BlockStyle, Row, empty_row, content_row, rows_of, starts_with_tab, has_content, breaks, text_after, text_of, value_before_text}
-use Rattle.defs_layout.specs.Gap.{IsLineText, is_line_character}
-use Rattle.defs_layout.specs.BlockLines.{Line, full, blank, content, contents, AreLines}
-use Rattle.defs_layout.specs.Layout.{indented_lines, BeginsWithText, EndsInText, AreLineTexts, AreLinesOf}
-use Rattle.proof_lexers.proofs.Bridges.{and_false}
+use Rattle.defs_text.specs.Classes.{are_marks, is_blank, is_break, is_nul, is_blank_or_end}
+use Rattle.defs_text.specs.BlockScalar.{empty_row, content_row, starts_with_tab, breaks, text_after, text_of}
+use Rattle.defs_layout.specs.BlockLines.{content, contents}
+use Rattle.defs_layout.specs.Layout.{AreLineTexts}
 use Rattle.proof_layout_tokens.proofs.BlockTexts.{header_by, row_spaces, text_row}
 use Rattle.proof_layout_tokens.proofs.BlockScans.{block_text, IsInside, AreBlockLines, in_its_column, value_by_rows}
 

@@ -2,33 +2,22 @@
 use Rattle.std.proofs.Common.{◌≡◌, ℕ, zero, suc, ◌+◌, ◌<◌, ◌≤◌, List, [], ◌∷◌, ◌++◌, Bool, true, false, ◌==◌, Option, None, Result, Ok, refl, ap, ◌∙◌, arith}
 use Rattle.std.specs.List.{list_all}
 use Rattle.std.proofs.lemmas.Bool.{and_parts, le-ltb, lt-ltb, le-leb}
-use Rattle.defs_text.specs.Position.{Position}
-use Rattle.yaml_chars.specs.Class.{is_break, is_blank, is_flow}
-use Rattle.defs_token.specs.Token.{Tok, Token}
-use Rattle.yaml_tokens.specs.declared.problem.Fault.{Fault}
-use Rattle.defs_layout.specs.Gap.{GapLine, IsGap, IsLineText, is_line_character}
-use Rattle.defs_layout.specs.Layout.{Comment, no_comment, comment, IsComment}
-use Rattle.proof_lexers.proofs.Bridges.{and_false}
+use Rattle.proof_layout_tokens.proofs.Common.{along, and_false, class_of, comes_marker, Comment, Fault, fetch_here, fetch_value, GapLine, in_block, Indent, is_flow, is_line_character, IsComment, IsGap, IsLineText, level, no_comment, past, past_break, peek, Position, Reaches, remove_implicit_key, roll_one_col_indent, ScannerState, skip_spaces, Tok, Token, token, token_by, try_held, Whitespace, Yes, ◌>>=◌}
+use Rattle.yaml_chars.specs.Class.{is_break, is_blank}
+use Rattle.defs_layout.specs.Layout.{comment}
 use Rattle.proof_layout_tokens.proofs.Comments.{spaced, comment_white, comment_position, at_feed, comment_are_white, beyond_comment, allowed_comment, comment_passes}
 use Rattle.model_scanner.specs.declared.context.SkipTabs.{SkipTabs}
-use Rattle.model_scanner.specs.declared.context.SkipTabs.TheVariants.{Yes, No}
-use Rattle.model_scanner.specs.declared.context.Whitespace.{Whitespace}
-use Rattle.model_scanner.specs.Machine.{past, past_break}
+use Rattle.model_scanner.specs.declared.context.SkipTabs.TheVariants.{No}
 use Rattle.model_scanner.specs.Blanks as scalar_space
-use Rattle.model_scanner.specs.declared.level.Indent.{Indent}
-use Rattle.model_scanner.specs.State.{ScannerState, ◌>>=◌, peek, push, token, on_held, try_held, lexed}
-use Rattle.model_scanner.specs.Class.{class_of}
-use Rattle.model_scanner.specs.Keys.{remove_implicit_key}
-use Rattle.model_scanner.specs.Indents.{level, placed, roll_indent, drop_open_level, deepen, roll_one_col_indent, in_block}
-use Rattle.model_scanner.specs.Space.{white, skip_yaml_whitespace, skip_spaces}
-use Rattle.model_scanner.specs.Block.{check_block_entry, check_dash, roll_entry, fetch_block_entry, begin_key, check_key_space, fetch_key, check_value_space, begin_keyless_mapping, begin_keyless_value, fetch_value}
+use Rattle.model_scanner.specs.State.{push, on_held, lexed}
+use Rattle.model_scanner.specs.Indents.{placed, roll_indent, drop_open_level, deepen}
+use Rattle.model_scanner.specs.Space.{white, skip_yaml_whitespace}
+use Rattle.model_scanner.specs.Block.{check_block_entry, check_dash, roll_entry, fetch_block_entry, begin_key, check_key_space, fetch_key, check_value_space, begin_keyless_mapping, begin_keyless_value}
 use Rattle.model_scanner.specs.Flow.{allow_key}
-use Rattle.model_scanner.specs.Fetch.{token_by, fetch_here, is_value, comes_marker}
+use Rattle.model_scanner.specs.Fetch.{is_value}
 use Rattle.proof_layout_tokens.proofs.Layouts.States.{Parts, stands, is_content, is_solid, Opens, opened, opened_indent, IsClosed, Tells, Before}
 use Rattle.proof_layout_tokens.proofs.Whites.{White, space, line_feed, remark, spell_white, beyond, allowed_beyond, EndsLine, AreWhite, content, in_line, blanks, blanks_col, blanks_white, gap_white, gap_are_white, blanks_allow, gap_allows}
-use Rattle.proof_lexers.specs.HeaderEnds.{along}
 use Rattle.proof_layout_tokens.proofs.Levels
-use Rattle.model_scanner.specs.Run.{Reaches}
 use Rattle.proof_layout_tokens.proofs.Joins.{fetched, before_white, gap_col}
 
 -- ---- what stands between a mark and its value

@@ -8,11 +8,12 @@ use Rattle.std.proofs.lemmas.Fmt.{decimal_is_IsNumeral}
 use Rattle.std.proofs.lemmas.Str.Parse.{digit_from_value}
 use Rattle.std.proofs.lemmas.Bool.{and_parts, or_parts, eqb-true, ltb-true, ne_eqb, not-true, and_from}
 use Rattle.std.proofs.lemmas.Bool.Decides.{nat_tests}
-use Rattle.yaml_chars.specs.Class.{is_blank_or_breakz, is_break, is_blank}
-use Rattle.defs_tree.specs.Tree.{Tree, real, integer, string, boolean, array, hash, alias, null, bad_value}
+use Rattle.proof_layout_tokens.proofs.Common.{and_false, class_of, comes_marker, fetch_plain_scalar, is_blank_or_breakz, is_decimal, is_quoted, is_unfit_for_plain, ScannerState, token_by, Tree, typing}
+use Rattle.yaml_chars.specs.Class.{is_break, is_blank}
+use Rattle.defs_tree.specs.Tree.{real, integer, string, boolean, array, hash, alias, null, bad_value}
 use Rattle.defs_tree.specs.Grammar.{is_among}
-use Rattle.defs_tree.specs.Typing.{typing, is_decimal, is_real_text, fits_i64, special_words}
-use Rattle.defs_tree.specs.Quoting.{is_quoted, has_indicator_first, begins_with, is_unfit_for_plain}
+use Rattle.defs_tree.specs.Typing.{is_real_text, fits_i64, special_words}
+use Rattle.defs_tree.specs.Quoting.{has_indicator_first, begins_with}
 use Rattle.defs_tree.specs.Spelling.{spelling}
 use Rattle.defs_tree.proofs.DecimalReading.{is_decimal-read}
 use Rattle.defs_tree.proofs.LinesLaws.{ends_with-step, ends_with-one}
@@ -21,11 +22,6 @@ use Rattle.defs_tree.proofs.TypingLaws.{real_text-cases}
 use Rattle.defs_tree.proofs.Unquoted.{unquoted}
 use Rattle.defs_layout.specs.Layout.{IsPlain}
 use Rattle.model_scanner.specs.declared.class.Class.TheVariants.{Other}
-use Rattle.model_scanner.specs.State.{ScannerState}
-use Rattle.model_scanner.specs.Class.{class_of}
-use Rattle.model_scanner.specs.Document.{fetch_plain_scalar}
-use Rattle.model_scanner.specs.Fetch.{token_by, comes_marker}
-use Rattle.proof_lexers.proofs.Bridges.{and_false}
 use Rattle.proof_layout_tokens.proofs.Layouts.States.{is_content, Opens}
 use Rattle.proof_layout_tokens.proofs.Plains.{is_plain_char, are_plain, closes}
 

@@ -4,16 +4,13 @@ use Rattle.std.specs.Char.{digit_value}
 use Rattle.std.specs.List.{list_all}
 use Rattle.std.proofs.lemmas.Bool.{and_parts, eqb-true}
 use Rattle.std.proofs.lemmas.Bool.Decides.{nat_tests}
-use Rattle.defs_text.specs.Position.{Position}
+use Rattle.proof_layout_tokens.proofs.Common.{along, and_false, is_line_character, IsLineText, Position, quote_of}
 use Rattle.yaml_chars.specs.Class.{is_break, is_blank, is_hex}
 use Rattle.defs_tree.specs.Escapes.{hexadecimal_digit, escaped_code, written_character, written_escapes}
-use Rattle.defs_layout.specs.Gap.{IsLineText, is_line_character}
 use Rattle.defs_layout.specs.Layout.{doubled}
-use Rattle.model_scanner.specs.Quoted.{quote_of, quoted, escape_of, is_scalar}
+use Rattle.model_scanner.specs.Quoted.{quoted, escape_of, is_scalar}
 use Rattle.model_scanner.specs.Quoted
-use Rattle.proof_lexers.proofs.Bridges.{and_false}
 use Rattle.proof_layout_tokens.proofs.Whites.{in_line}
-use Rattle.proof_lexers.specs.HeaderEnds.{along}
 use Rattle.proof_layout_tokens.proofs.Plains.{outside}
 use Rattle.proof_lexers.proofs.Quoted.Lines.{IsWritten, AreWritten, blank_goes, char_goes, named_goes, code_goes, quote_goes, line_read}
 

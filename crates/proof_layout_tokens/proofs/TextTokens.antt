@@ -1,13 +1,8 @@
 -- Tokens told one after the other; and a text that has tokens has no others, and is not refused.
 use Rattle.std.proofs.Common.{◌≡◌, ℕ, List, [], ◌∷◌, ◌++◌, ap, ◌∙◌, append_assoc}
 use Rattle.std.proofs.lemmas.List.{map-append}
-use Rattle.defs_text.specs.Position.{Position}
-use Rattle.defs_token.specs.Token.{Tok, Token}
-use Rattle.defs_token.specs.Toks.{toks}
-use Rattle.yaml_tokens.specs.declared.problem.Fault.{Fault}
-use Rattle.model_scanner.specs.State.{token}
+use Rattle.proof_layout_tokens.proofs.Common.{Fault, HasToks, Position, Tok, Token, token, toks}
 use Rattle.model_scanner.specs.Run.{HasTokens, IsRefused}
-use Rattle.model_scanner.specs.TextTokens.{HasToks}
 use Rattle.model_scanner.proofs.Runs.{one_list, not_refused}
 
 -- these tokens are the beginning of some, told by what stands after them

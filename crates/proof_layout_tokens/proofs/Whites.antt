@@ -3,14 +3,11 @@ use Rattle.std.proofs.Common.{◌≡◌, ℕ, zero, suc, ◌+◌, ◌≤◌, Lis
 use Rattle.std.specs.List.{list_all}
 use Rattle.std.proofs.lemmas.Bool.{and_parts}
 use Rattle.std.proofs.lemmas.Bool.Decides.{nat_tests}
-use Rattle.defs_text.specs.Position.{Position}
+use Rattle.proof_layout_tokens.proofs.Common.{along, empty_line, GapLine, Indent, is_line_character, IsGap, IsLineText, past, past_break, Position, skip_to_next_token, spaces}
 use Rattle.yaml_chars.specs.Class.{is_break, is_blank}
-use Rattle.defs_layout.specs.Gap.{spaces, GapLine, empty_line, comment_line, spell_gap, next_line, spell_ending, IsGap, IsLineText, is_line_character}
-use Rattle.model_scanner.specs.Machine.{past, past_break}
-use Rattle.model_scanner.specs.declared.level.Indent.{Indent}
+use Rattle.defs_layout.specs.Gap.{comment_line, spell_gap, next_line, spell_ending}
 use Rattle.model_scanner.specs.State.{Held}
-use Rattle.model_scanner.specs.Space.{between, comment, skip, skip_to_next_token}
-use Rattle.proof_lexers.specs.HeaderEnds.{along}
+use Rattle.model_scanner.specs.Space.{between, comment, skip}
 use Rattle.proof_layout_tokens.proofs.Layouts.States.{Parts, stands, is_content, is_solid}
 
 pub data White : Type 0 where

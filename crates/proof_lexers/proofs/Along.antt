@@ -1,8 +1,7 @@
 -- The position after characters of a line.
 use Rattle.std.proofs.Common.{◌≡◌, ℕ, ◌≤◌, List, [], ◌∷◌, ◌++◌, refl, arith}
-use Rattle.defs_text.specs.Position.{Position}
+use Rattle.proof_lexers.proofs.Common.{along, Position}
 use Rattle.model_scanner.specs.Machine.{past}
-use Rattle.proof_lexers.specs.HeaderEnds.{along}
 
 pub along_append : (a b : List ℕ) (p : Position) → along (a ++ b) p ≡ along b (along a p)
 along_append [] b p = refl

@@ -3,11 +3,11 @@ use Rattle.std.proofs.Common.{◌≡◌, ℕ, suc, List, [], ◌∷◌, Bool, tr
 use Rattle.std.specs.Char.{is_digit}
 use Rattle.std.proofs.lemmas.Bool.{eqb-true}
 use Rattle.std.proofs.lemmas.Bool.Decides.{nat_tests}
-use Rattle.yaml_chars.specs.Class.{is_break, is_blank, is_blank_or_breakz, is_flow, is_hex, is_alphanumeric, is_alpha, is_uri_mark, is_uri, is_tag}
+use Rattle.proof_lexers.proofs.Common.{at_marker, escape_of, escapes, is_alpha, is_alphanumeric, is_blank_or_breakz, is_character_code, is_hex, is_tag, is_uri, is_uri_mark, lookup, numeric_escapes}
+use Rattle.yaml_chars.specs.Class.{is_break, is_blank, is_flow}
 use Rattle.defs_text.specs.Classes as classes
-use Rattle.defs_text.specs.FlowScalar.{lookup, escapes, numeric_escapes, is_character_code}
-use Rattle.model_scanner.specs.Machine.{is_marker, at_marker}
-use Rattle.model_scanner.specs.Quoted.{Escape, escape_of, is_scalar}
+use Rattle.model_scanner.specs.Machine.{is_marker}
+use Rattle.model_scanner.specs.Quoted.{Escape, is_scalar}
 
 pub same_break : (c : ℕ) → classes.is_break c ≡ is_break c
 unfolding classes.is_break is_break

@@ -1,10 +1,9 @@
 -- The buffers of a flow scalar's scan join the text of its lines, trimmed and folded.
 use Rattle.std.proofs.Common.{◌≡◌, ℕ, zero, suc, List, [], ◌∷◌, ◌++◌, Bool, true, false, not, ◌&&◌, if◌then◌else◌, replicate, refl, ap, sym, ◌∙◌, append_assoc, append-nil}
-use Rattle.defs_text.specs.Text.{is_empty}
+use Rattle.proof_lexers.proofs.Common.{after_elements, blank, Element, escaped_break, Folded, is_empty, joined, line_break}
 use Rattle.defs_text.specs.Classes.{line_feed, space}
-use Rattle.defs_text.specs.FlowScalar.{Element, content, blank, line_break, escaped_break, Lines, last_line, line, lines_of, begun_with, without_trailing_blanks, before_break, trimmed, trimmed_after, text_of, folded_break, folded_after, folded}
-use Rattle.model_scanner.specs.Folding.{Folded, with_char, with_escaped_break, joined}
-use Rattle.proof_lexers.specs.Buffers.{after_elements}
+use Rattle.defs_text.specs.FlowScalar.{content, Lines, last_line, line, lines_of, begun_with, without_trailing_blanks, before_break, trimmed, trimmed_after, text_of, folded_break, folded_after, folded}
+use Rattle.model_scanner.specs.Folding.{with_char, with_escaped_break}
 use Rattle.proof_lexers.specs.BufferLaws.{BuffersJoinFoldedLines}
 
 -- blanks of a line, as elements before others

@@ -7,3 +7,4 @@ pub mod Plain
 pub mod Properties
 pub mod Quoted
 pub mod Separation
+mod Common

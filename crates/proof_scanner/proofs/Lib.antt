@@ -3,3 +3,4 @@ pub mod Cut
 pub mod First
 pub mod Refusals
 pub mod Sound
+mod Common

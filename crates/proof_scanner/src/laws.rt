@@ -61,7 +61,7 @@ pub fn texts_with_a_row_are_read()
 {}
 
 /// Where the scanner's model refuses a text without NUL with a fault of one of the kinds that are told, the text is stuck by
-/// the definitions alone: a row may begin with all pieces up to there, and the condition of this fault fails.
+/// the definitions alone: a row may begin with all pieces up to there, and the condition of this fault fails there first.
 pub fn refused_texts_are_stuck()
     ensures { RefusedTextsAreStuck }
 {}

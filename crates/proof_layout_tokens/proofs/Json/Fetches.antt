@@ -1,16 +1,9 @@
 -- One fetch: white space is passed over, and then the first character decides.
 use Rattle.std.proofs.Common.{◌≡◌, ℕ, ◌+◌, List, [], ◌∷◌, Bool, true, false, ◌==◌, if◌then◌else◌, Option, Some, None, Result, Ok, refl, ◌∙◌}
-use Rattle.defs_text.specs.Position.{Position}
-use Rattle.defs_text.specs.Text.{is_empty}
-use Rattle.yaml_tokens.specs.declared.problem.Fault.{Fault}
-use Rattle.defs_layout.specs.JsonGap.{Blank, spell_gap}
-use Rattle.model_scanner.specs.declared.level.FlowLevel.{FlowLevel}
-use Rattle.model_scanner.specs.State.{Key, ScannerState, ◌>>=◌, on_held, try_held}
-use Rattle.model_scanner.specs.Class.{class_of}
-use Rattle.model_scanner.specs.Keys.{stale, drop_stale, still, is_far, is_required}
-use Rattle.model_scanner.specs.Indents.{unroll_indent, unrolled}
-use Rattle.model_scanner.specs.Fetch.{token_by, fetch_token, comes_marker, fetch_indented, fetch_first_column, fetch_content, fetch_here, fetch_next, fetch}
-use Rattle.proof_lexers.proofs.Bridges.{and_false}
+use Rattle.proof_layout_tokens.proofs.Common.{and_false, Blank, class_of, comes_marker, drop_stale, Fault, fetch, fetch_content, fetch_first_column, fetch_here, fetch_next, FlowLevel, is_empty, is_far, is_required, Key, Position, ScannerState, stale, still, token_by, try_held, unroll_indent, unrolled, ◌>>=◌}
+use Rattle.defs_layout.specs.JsonGap.{spell_gap}
+use Rattle.model_scanner.specs.State.{on_held}
+use Rattle.model_scanner.specs.Fetch.{fetch_token, fetch_indented}
 use Rattle.proof_layout_tokens.proofs.Json.States.{Around, nothing, block, Fits, MayStand, Parts, stands, IsBottom, is_content}
 use Rattle.proof_layout_tokens.proofs.Json.Gaps.{content, next_token}
 use Rattle.proof_layout_tokens.proofs.Json.Levels.{no_end_at}

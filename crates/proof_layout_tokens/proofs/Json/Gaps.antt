@@ -1,18 +1,11 @@
 -- White space between tokens is passed over.
 use Rattle.std.proofs.Common.{◌≡◌, ℕ, List, [], ◌∷◌, Bool, true, false, ◌||◌, not, ◌==◌, if◌then◌else◌, Option, Result, Ok, refl, slice_index, ◌∙◌, arith}
 use Rattle.std.proofs.lemmas.Bool.Decides.{nat_tests}
-use Rattle.defs_text.specs.Position.{Position}
+use Rattle.proof_layout_tokens.proofs.Common.{Blank, carriage_return, Fault, FlowLevel, is_empty, Key, past, past_break, Position, ScannerState, skip_spaces, skip_to_next_token, Whitespace, Yes}
 use Rattle.yaml_chars.specs.Class.{is_break, is_blank}
-use Rattle.defs_text.specs.Text.{is_empty}
-use Rattle.yaml_tokens.specs.declared.problem.Fault.{Fault}
-use Rattle.defs_layout.specs.JsonGap.{Blank, space, tab, line_feed, carriage_return, spell_gap}
-use Rattle.model_scanner.specs.declared.context.SkipTabs.TheVariants.{Yes}
-use Rattle.model_scanner.specs.declared.context.Whitespace.{Whitespace}
-use Rattle.model_scanner.specs.Machine.{past, past_break}
+use Rattle.defs_layout.specs.JsonGap.{space, tab, line_feed, spell_gap}
 use Rattle.model_scanner.specs.Blanks as scalar_space
-use Rattle.model_scanner.specs.declared.level.FlowLevel.{FlowLevel}
-use Rattle.model_scanner.specs.State.{Key, ScannerState}
-use Rattle.model_scanner.specs.Space.{between, skip, is_before_indent, skip_spaces, skip_to_next_token}
+use Rattle.model_scanner.specs.Space.{between, skip, is_before_indent}
 use Rattle.proof_layout_tokens.proofs.Json.States.{Around, nothing, block, IsLine, Fits, MayStand, Parts, stands, is_content, is_solid}
 use Rattle.proof_layout_tokens.proofs.Layouts.States as layouts
 use Rattle.proof_layout_tokens.proofs.Whites as whites

@@ -1,8 +1,7 @@
 -- Positions in a JSON value and the levels of indentation around it.
 use Rattle.std.proofs.Common.{◌≡◌, ℕ, ◌+◌, ◌≤◌, Bool, true, false, nat_lt, arith}
 use Rattle.std.proofs.lemmas.Bool.{le-ltb}
-use Rattle.defs_text.specs.Position.{Position}
-use Rattle.model_scanner.specs.Machine.{past, past_break}
+use Rattle.proof_layout_tokens.proofs.Common.{past, past_break, Position}
 use Rattle.proof_lexers.proofs.Quoted.NoNul.{no_less}
 use Rattle.proof_layout_tokens.proofs.Json.States.{Around, nothing, block, opened_indent, indent_of, IsLine, Fits}
 

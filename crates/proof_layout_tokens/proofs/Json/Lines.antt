@@ -1,24 +1,11 @@
 -- What fetches do at a JSON array or object on one line, and at `[]` and `{}`.
 use Rattle.std.proofs.Common.{◌≡◌, ℕ, ◌≤◌, List, [], ◌∷◌, ◌++◌, Bool, true, false, not, Option, None, Result, Ok, refl, ◌∙◌, arith}
-use Rattle.defs_text.specs.Position.{Position}
-use Rattle.defs_text.specs.Text.{is_empty}
-use Rattle.defs_token.specs.Token.{Tok}
-use Rattle.yaml_tokens.specs.declared.problem.Fault.{Fault}
-use Rattle.defs_layout.specs.JsonGap.{Blank, spell_gap}
-use Rattle.defs_layout.specs.Json.{Json, false_word, null_word, true_word, number, string, empty_array, array, empty_object, object, spell, spell_elements, spell_members, levels, IsJson}
-use Rattle.defs_layout.specs.Layout.{Comment, spell_comment, IsComment, IsJsonCollection}
-use Rattle.defs_layout.specs.JsonTokens.{json_tokens}
-use Rattle.model_scanner.specs.Machine.{past}
-use Rattle.model_scanner.specs.declared.level.Indent.{Indent}
-use Rattle.model_scanner.specs.declared.level.FlowLevel.{FlowLevel}
-use Rattle.model_scanner.specs.State.{Key, ScannerState, token, try_held}
-use Rattle.model_scanner.specs.Class.{class_of}
-use Rattle.model_scanner.specs.Keys.{still, stale, is_required, save_implicit_key}
-use Rattle.model_scanner.specs.Indents.{roll_one_col_indent, in_block}
+use Rattle.proof_layout_tokens.proofs.Common.{Blank, class_of, comes_marker, Comment, empty_object, false_word, Fault, FlowLevel, in_block, Indent, is_empty, is_required, IsComment, Json, json_tokens, Key, levels, null_word, object, past, Position, reaches_then, roll_one_col_indent, save_implicit_key, ScannerState, spell_comment, spell_elements, spell_members, stale, still, there, Tok, token, token_by, true_word, try_held}
+use Rattle.defs_layout.specs.JsonGap.{spell_gap}
+use Rattle.defs_layout.specs.Json.{number, string, empty_array, array, spell, IsJson}
+use Rattle.defs_layout.specs.Layout.{IsJsonCollection}
 use Rattle.model_scanner.specs.Flow.{increase_flow_level, begin_flow, pass_indicator, fetch_flow_collection_start, decrease_flow_level, adjacent_in_flow, end_flow, fetch_flow_collection_end}
-use Rattle.model_scanner.specs.Fetch.{token_by, comes_marker}
-use Rattle.model_scanner.specs.Run.{here, there}
-use Rattle.model_scanner.proofs.Runs.{reaches_then}
+use Rattle.model_scanner.specs.Run.{here}
 use Rattle.proof_layout_tokens.proofs.Json.States as json
 use Rattle.proof_layout_tokens.proofs.Json.States.{Around, block, Fits, AreSpaces, MayStand}
 use Rattle.proof_layout_tokens.proofs.Json.Levels.{fits_past}

@@ -4,7 +4,8 @@ use Rattle.std.specs.Char.{is_ascii_digit}
 use Rattle.std.specs.List.{list_all}
 use Rattle.std.proofs.lemmas.Bool.{and_parts, and_from}
 use Rattle.std.proofs.lemmas.Bool.Decides.{nat_tests}
-use Rattle.defs_layout.specs.JsonNumber.{Number, number, Fraction, no_fraction, fraction, Sign, no_sign, plus, minus, Exponent, no_exponent, exponent, spell_number, spell_minus, spell_fraction, spell_sign, spell_exponent, letter_e, are_digits, is_whole, is_fraction, is_exponent, is_number}
+use Rattle.proof_layout_tokens.proofs.Common.{exponent, fraction, Number, plus, spell_number}
+use Rattle.defs_layout.specs.JsonNumber.{number, Fraction, no_fraction, Sign, no_sign, minus, Exponent, no_exponent, spell_minus, spell_fraction, spell_sign, spell_exponent, letter_e, are_digits, is_whole, is_fraction, is_exponent, is_number}
 use Rattle.proof_layout_tokens.proofs.Json.Words.{is_word, are_words, begins_word, IsWord}
 
 digit_word : (c : ℕ) → is_ascii_digit c ≡ true → is_word c ≡ true

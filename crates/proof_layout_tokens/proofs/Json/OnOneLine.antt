@@ -1,5 +1,6 @@
 -- JSON values between whose parts only spaces stand: those that are written on one line without TAB.
-use Rattle.defs_layout.specs.Json.{Json, false_word, null_word, true_word, number, string, empty_array, array, empty_object, object, Elements, last_element, element, Members, last_member, member}
+use Rattle.proof_layout_tokens.proofs.Common.{element, Elements, empty_object, false_word, Json, last_element, last_member, member, Members, null_word, object, true_word}
+use Rattle.defs_layout.specs.Json.{number, string, empty_array, array}
 use Rattle.proof_layout_tokens.proofs.Json.States.{AreSpaces}
 
 abbrev mutual

@@ -2,25 +2,14 @@
 use Rattle.std.proofs.Common.{◌≡◌, ℕ, List, [], ◌∷◌, ◌++◌, Bool, true, false, ◌||◌, ◌&&◌, not, ◌==◌, Option, Some, None, Result, Ok, refl, ◌∙◌, length, slice_index}
 use Rattle.std.specs.List.{insert}
 use Rattle.std.proofs.lemmas.Bool.{eq-eqb, eqb-true, and_parts, not-true}
-use Rattle.defs_text.specs.Position.{Position}
-use Rattle.yaml_chars.specs.Class.{is_break, is_flow, is_blank_or_breakz}
-use Rattle.defs_text.specs.Text.{is_empty}
-use Rattle.defs_token.specs.Token.{Tok, Style, Token}
-use Rattle.yaml_tokens.specs.declared.problem.Fault.{Fault}
-use Rattle.defs_layout.specs.JsonGap.{Blank, space, tab, line_feed, carriage_return, spell_gap}
-use Rattle.defs_layout.specs.JsonString.{Piece, spell_pieces, spell_string, are_pieces, unescaped}
-use Rattle.model_scanner.specs.Machine.{past}
-use Rattle.model_scanner.specs.Quoted.{quote_of, quoted}
-use Rattle.model_scanner.specs.declared.level.FlowLevel.{FlowLevel}
-use Rattle.model_scanner.specs.declared.level.FlowLevel.TheVariants.{Mapping}
-use Rattle.model_scanner.specs.State.{Key, ScannerState, token, peek, try_held}
-use Rattle.model_scanner.specs.Class.{class_of}
-use Rattle.model_scanner.specs.Keys.{stale, is_required}
-use Rattle.model_scanner.specs.Space.{skip_to_next_token}
-use Rattle.model_scanner.specs.Indents.{in_block, roll_one_col_indent, roll_indent, unroll_non_block_indents, without_open}
-use Rattle.model_scanner.specs.Block.{check_value_space, begin_pair, insert_key, fetch_value}
-use Rattle.model_scanner.specs.Document.{may_follow_quoted, quoted_style, check_after_quoted, fetch_flow_scalar, fetch_plain_scalar}
-use Rattle.model_scanner.specs.Fetch.{token_by, is_value, comes_marker, fetch, fetch_next}
+use Rattle.proof_layout_tokens.proofs.Common.{are_pieces, Blank, carriage_return, check_after_quoted, class_of, comes_marker, Fault, fetch, fetch_flow_scalar, fetch_next, fetch_plain_scalar, fetch_value, FlowLevel, in_block, is_blank_or_breakz, is_empty, is_flow, is_required, Key, Mapping, may_follow_quoted, past, peek, Piece, Position, quote_of, quoted_style, roll_one_col_indent, ScannerState, skip_to_next_token, spell_pieces, spell_string, stale, Style, Tok, Token, token, token_by, try_held, unroll_non_block_indents, without_open}
+use Rattle.yaml_chars.specs.Class.{is_break}
+use Rattle.defs_layout.specs.JsonGap.{space, tab, line_feed, spell_gap}
+use Rattle.defs_layout.specs.JsonString.{unescaped}
+use Rattle.model_scanner.specs.Quoted.{quoted}
+use Rattle.model_scanner.specs.Indents.{roll_indent}
+use Rattle.model_scanner.specs.Block.{check_value_space, begin_pair, insert_key}
+use Rattle.model_scanner.specs.Fetch.{is_value}
 use Rattle.proof_layout_tokens.proofs.Json.States.{Around, nothing, block, Fits, MayStand, Parts, stands, IsBottom, is_content, is_solid, Ends, at_end, at_comma, at_bracket, at_brace}
 use Rattle.proof_layout_tokens.proofs.Json.Gaps.{trim, starts_break, next_token, skip_solid}
 use Rattle.proof_layout_tokens.proofs.Json.Strings.{Closed, string_read}

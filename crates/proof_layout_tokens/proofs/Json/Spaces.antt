@@ -2,10 +2,10 @@
 use Rattle.std.proofs.Common.{◌≡◌, ℕ, List, [], ◌∷◌, ◌++◌, true}
 use Rattle.std.specs.List.{list_all}
 use Rattle.std.proofs.lemmas.Bool.{and_parts}
-use Rattle.defs_layout.specs.JsonGap.{Blank, space, tab, line_feed, carriage_return, spell_gap}
-use Rattle.defs_layout.specs.JsonNumber.{Number, spell_number}
-use Rattle.defs_layout.specs.JsonString.{Piece, itself, short, unicode, letter_of, spell_piece, spell_pieces, spell_string}
-use Rattle.defs_layout.specs.Json.{Json, false_word, null_word, true_word, number, string, empty_array, array, empty_object, object, Elements, last_element, element, Members, last_member, member, spell, spell_elements, spell_members}
+use Rattle.proof_layout_tokens.proofs.Common.{Blank, carriage_return, element, Elements, empty_object, false_word, itself, Json, last_element, last_member, member, Members, null_word, Number, object, Piece, short, spell_elements, spell_members, spell_number, spell_pieces, spell_string, true_word, unicode}
+use Rattle.defs_layout.specs.JsonGap.{space, tab, line_feed, spell_gap}
+use Rattle.defs_layout.specs.JsonString.{letter_of, spell_piece}
+use Rattle.defs_layout.specs.Json.{number, string, empty_array, array, spell}
 use Rattle.defs_layout.specs.Layout.{is_on_one_line}
 use Rattle.proof_layout_tokens.proofs.Json.States.{AreSpaces}
 use Rattle.proof_layout_tokens.proofs.Json.OnOneLine.{HasSpaces, HaveSpaces, MembersHaveSpaces}

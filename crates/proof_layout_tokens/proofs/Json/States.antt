@@ -1,14 +1,7 @@
 -- The states of the scanner in a JSON value: outside all block collections, or on one line within some. Of the keys only the innermost changes.
 use Rattle.std.proofs.Common.{◌≡◌, ℕ, ◌+◌, ◌≤◌, List, [], ◌∷◌, Bool, true, false, not, ◌||◌, ◌==◌, Option}
-use Rattle.defs_text.specs.Position.{Position}
-use Rattle.defs_token.specs.Token.{Tok, Token}
-use Rattle.defs_layout.specs.JsonGap.{Blank, space, tab, line_feed, carriage_return, spell_gap}
-use Rattle.model_scanner.specs.declared.level.FlowLevel.{FlowLevel}
-use Rattle.model_scanner.specs.declared.level.Indent.{Indent}
-use Rattle.model_scanner.specs.State.{Key, ScannerState}
-use Rattle.model_scanner.specs.Keys.{is_required}
-use Rattle.model_scanner.specs.Indents.{level}
-use Rattle.model_scanner.specs.Run.{Reaches}
+use Rattle.proof_layout_tokens.proofs.Common.{Blank, carriage_return, FlowLevel, Indent, is_required, Key, level, Position, Reaches, ScannerState, Tok, Token}
+use Rattle.defs_layout.specs.JsonGap.{space, tab, line_feed, spell_gap}
 pub use Rattle.proof_layout_tokens.proofs.TextTokens.{Tells}
 
 -- ---- levels of indentation

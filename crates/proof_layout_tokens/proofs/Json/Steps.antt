@@ -1,20 +1,10 @@
 -- What a fetch does at each token of JSON.
 use Rattle.std.proofs.Common.{◌≡◌, ℕ, ◌+◌, ◌<◌, List, [], ◌∷◌, ◌++◌, Bool, true, false, ◌==◌, Option, Some, None, Result, Ok, refl, ◌∙◌, length, arith, nat_le}
 use Rattle.std.proofs.lemmas.Bool.Decides.{nat_tests}
-use Rattle.defs_text.specs.Position.{Position}
-use Rattle.defs_token.specs.Token.{Tok, Token}
-use Rattle.yaml_tokens.specs.declared.problem.Fault.{Fault}
-use Rattle.defs_layout.specs.JsonGap.{Blank, spell_gap}
-use Rattle.model_scanner.specs.Machine.{past}
-use Rattle.model_scanner.specs.declared.level.FlowLevel.{FlowLevel}
-use Rattle.model_scanner.specs.declared.level.FlowLevel.TheVariants.{Mapping, Entry}
-use Rattle.model_scanner.specs.State.{Key, ScannerState, ◌>>=◌, token, try_held}
-use Rattle.model_scanner.specs.Class.{class_of}
-use Rattle.model_scanner.specs.Keys.{stale, is_required, save_implicit_key, remove_implicit_key, must_be_key}
-use Rattle.model_scanner.specs.Indents.{in_block, roll_one_col_indent}
+use Rattle.proof_layout_tokens.proofs.Common.{and_false, Blank, class_of, comes_marker, Fault, fetch, FlowLevel, in_block, is_required, Key, Mapping, must_be_key, past, Position, remove_implicit_key, roll_one_col_indent, save_implicit_key, ScannerState, stale, Tok, Token, token, try_held, ◌>>=◌}
+use Rattle.defs_layout.specs.JsonGap.{spell_gap}
+use Rattle.model_scanner.specs.declared.level.FlowLevel.TheVariants.{Entry}
 use Rattle.model_scanner.specs.Flow.{increase_flow_level, begin_flow, pass_indicator, fetch_flow_collection_start, end_flow_pair, decrease_flow_level, adjacent_in_flow, end_flow, fetch_flow_collection_end, end_entry, fetch_flow_entry}
-use Rattle.model_scanner.specs.Fetch.{comes_marker, fetch}
-use Rattle.proof_lexers.proofs.Bridges.{and_false}
 use Rattle.proof_layout_tokens.proofs.Json.States.{Around, nothing, block, Fits, MayStand, Parts, stands, IsBottom, is_solid}
 use Rattle.proof_layout_tokens.proofs.Json.Levels.{fits_past}
 use Rattle.proof_layout_tokens.proofs.Json.Gaps.{trim}

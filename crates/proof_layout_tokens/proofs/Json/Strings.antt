@@ -3,19 +3,14 @@ use Rattle.std.proofs.Common.{◌≡◌, ℕ, ◌+◌, ◌*◌, ◌<◌, ◌≤�
 use Rattle.std.specs.Char.{digit_value, is_digit}
 use Rattle.std.proofs.lemmas.Bool.{and_parts, ltb-true, eqb-true}
 use Rattle.std.proofs.lemmas.Bool.Decides.{nat_tests}
-use Rattle.defs_text.specs.Position.{Position}
+use Rattle.proof_layout_tokens.proofs.Common.{along, are_pieces, Context, Fault, FlowLevel, is_unescaped, itself, past, Piece, Position, Read, short, spell_pieces, unicode}
 use Rattle.yaml_chars.specs.Class.{is_break, is_blank, is_hex}
-use Rattle.yaml_tokens.specs.declared.problem.Fault.{Fault}
-use Rattle.defs_layout.specs.JsonString.{Piece, itself, short, unicode, Short, letter_of, character_of, spell_pieces, value_of, unescaped, four_digits, is_unescaped, is_hex_digit, is_surrogate, is_piece, are_pieces}
+use Rattle.defs_layout.specs.JsonString.{Short, letter_of, character_of, value_of, unescaped, four_digits, is_hex_digit, is_surrogate, is_piece}
 use Rattle.defs_layout.specs.JsonString as string
-use Rattle.model_scanner.specs.declared.context.Context.{Context}
-use Rattle.model_scanner.specs.Machine.{Read, past}
 use Rattle.model_scanner.specs.Quoted.{quoted, escape_of, is_scalar}
-use Rattle.model_scanner.specs.declared.level.FlowLevel.{FlowLevel}
 use Rattle.proof_layout_tokens.proofs.Json.States.{Around, nothing, block, indent_of, Fits}
 use Rattle.proof_layout_tokens.proofs.Json.Levels.{fits_past, low_enough}
 use Rattle.proof_layout_tokens.proofs.Json.Words.{context_of}
-use Rattle.proof_lexers.specs.HeaderEnds.{along}
 use Rattle.proof_lexers.proofs.Quoted.Lines.{IsWritten, AreWritten, blank_goes, char_goes, named_goes, code_goes, line_read}
 
 -- ---- pieces

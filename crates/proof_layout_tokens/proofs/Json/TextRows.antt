@@ -1,13 +1,11 @@
 -- JSON texts and their tokens: what the theorem says of some, and what the model does at a tab that the definition leaves out.
 use Rattle.std.proofs.Common.{arith, ◌≡◌, [], ◌∷◌, true, false, codes, refl, Err}
+use Rattle.proof_layout_tokens.proofs.Common.{Elements, exponent, fraction, HasToks, is_unescaped, itself, Json, plus, short, Style, Tok, unicode}
 use Rattle.yaml_tokens.specs.declared.problem.Fault.TheVariants.{At}
 use Rattle.yaml_tokens.specs.declared.problem.Problem.TheVariants as problem
-use Rattle.defs_token.specs.Token.{Tok, Style}
 use Rattle.defs_layout.specs.JsonGap as gap
-use Rattle.defs_layout.specs.JsonNumber.{number, fraction, plus, exponent}
-use Rattle.defs_layout.specs.JsonString.{itself, short, Short, unicode, is_unescaped}
-use Rattle.defs_layout.specs.Json.{Json, Elements}
-use Rattle.model_scanner.specs.TextTokens.{HasToks}
+use Rattle.defs_layout.specs.JsonNumber.{number}
+use Rattle.defs_layout.specs.JsonString.{Short}
 use Rattle.proof_layout_tokens.proofs.Json.Texts.{json_text_has_its_tokens}
 use Rattle.model_scanner.specs.Run.{scan}
 use Rattle.model_scanner.proofs.OnLiterals.{scan_on_literals}

@@ -1,20 +1,12 @@
 -- The tokens of a whole JSON text.
 use Rattle.std.proofs.Common.{◌≡◌, ℕ, ◌+◌, ◌≤◌, List, [], ◌∷◌, ◌++◌, true, false, None, Ok, refl, sym, ◌∙◌, arith, append-nil}
-use Rattle.defs_text.specs.Position.{Position}
-use Rattle.defs_token.specs.Token.{Tok, Token}
-use Rattle.defs_layout.specs.JsonGap.{Blank, spell_gap}
-use Rattle.defs_layout.specs.Json.{levels, spell, spell_text}
-use Rattle.defs_layout.specs.JsonTokens.{json_tokens, json_text_tokens}
-use Rattle.model_scanner.specs.State.{ScannerState, token}
-use Rattle.model_scanner.specs.Keys.{stale, drop_stale, is_required}
-use Rattle.model_scanner.specs.Indents.{unroll_indent, unrolled}
+use Rattle.proof_layout_tokens.proofs.Common.{Blank, drop_stale, fetch, fetch_here, fetch_next, HasToks, is_required, json_tokens, levels, Position, reaches_then, ScannerState, stale, start, there, Tok, Token, token, toks, unroll_indent, unrolled}
+use Rattle.defs_layout.specs.JsonGap.{spell_gap}
+use Rattle.defs_layout.specs.Json.{spell, spell_text}
+use Rattle.defs_layout.specs.JsonTokens.{json_text_tokens}
 use Rattle.model_scanner.specs.Document.{next_line, fetch_stream_start, fetch_stream_end}
-use Rattle.model_scanner.specs.Fetch.{fetch, fetch_next, fetch_here}
-use Rattle.model_scanner.specs.Run.{here, there, start}
-use Rattle.defs_token.specs.Toks.{toks}
-use Rattle.model_scanner.specs.TextTokens.{HasToks}
+use Rattle.model_scanner.specs.Run.{here}
 use Rattle.proof_layout_tokens.specs.Laws.{JsonTextsHaveTheirTokens, JsonTextsHaveNoOtherTokens, JsonTextsAreNotRefused}
-use Rattle.model_scanner.proofs.Runs.{reaches_then}
 use Rattle.proof_layout_tokens.proofs.TextTokens.{push_tells, no_other_tokens, none_is_refused}
 use Rattle.proof_layout_tokens.proofs.Json.States.{nothing, Parts, stands, at_end, After}
 use Rattle.proof_layout_tokens.proofs.Json.Gaps.{next_token}

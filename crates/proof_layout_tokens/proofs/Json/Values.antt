@@ -2,21 +2,14 @@
 use Rattle.std.proofs.Common.{◌≡◌, ℕ, ◌+◌, ◌<◌, ◌≤◌, List, [], ◌∷◌, ◌++◌, Bool, true, false, ◌==◌, Option, refl, ◌∙◌, length, arith, codes}
 use Rattle.std.specs.List.{insert}
 use Rattle.std.proofs.lemmas.List.Edits.{insert-append_left, insert_end}
-use Rattle.defs_text.specs.Position.{Position}
+use Rattle.proof_layout_tokens.proofs.Common.{are_pieces, Blank, carriage_return, element, Elements, empty_object, false_word, FlowLevel, is_required, Json, json_tokens, Key, last_element, last_member, levels, Mapping, may_follow_quoted, member, Members, null_word, Number, object, peek, Piece, Position, reaches_then, ScannerState, spell_elements, spell_members, spell_number, spell_string, Style, there, Tok, Token, token, true_word}
 use Rattle.yaml_chars.specs.Class.{is_break}
-use Rattle.defs_token.specs.Token.{Tok, Style, Token}
-use Rattle.defs_layout.specs.JsonGap.{Blank, space, tab, line_feed, carriage_return, spell_gap}
-use Rattle.defs_layout.specs.JsonNumber.{Number, is_number, spell_number}
-use Rattle.defs_layout.specs.JsonString.{Piece, spell_string, are_pieces}
-use Rattle.defs_layout.specs.Json.{Json, false_word, null_word, true_word, number, string, empty_array, array, empty_object, object, Elements, last_element, element, Members, last_member, member, spell, spell_elements, spell_members, levels, element_levels, member_levels, IsJsonGap, IsJson, AreElements, AreMembers}
-use Rattle.defs_layout.specs.JsonTokens.{string_token, json_tokens, element_tokens, member_tokens}
-use Rattle.model_scanner.specs.declared.level.FlowLevel.{FlowLevel}
-use Rattle.model_scanner.specs.declared.level.FlowLevel.TheVariants.{Mapping, Entry}
-use Rattle.model_scanner.specs.State.{Key, ScannerState, token, peek}
-use Rattle.model_scanner.specs.Keys.{is_required}
-use Rattle.model_scanner.specs.Document.{may_follow_quoted}
-use Rattle.model_scanner.specs.Run.{here, there}
-use Rattle.model_scanner.proofs.Runs.{reaches_then}
+use Rattle.defs_layout.specs.JsonGap.{space, tab, line_feed, spell_gap}
+use Rattle.defs_layout.specs.JsonNumber.{is_number}
+use Rattle.defs_layout.specs.Json.{number, string, empty_array, array, spell, element_levels, member_levels, IsJsonGap, IsJson, AreElements, AreMembers}
+use Rattle.defs_layout.specs.JsonTokens.{string_token, element_tokens, member_tokens}
+use Rattle.model_scanner.specs.declared.level.FlowLevel.TheVariants.{Entry}
+use Rattle.model_scanner.specs.Run.{here}
 use Rattle.proof_layout_tokens.proofs.TextTokens.{push_tells}
 use Rattle.proof_layout_tokens.proofs.Json.States.{Around, IsLine, MayStand, IsBottom, is_solid, Ends, at_comma, at_bracket, at_brace, Tells, After, Ahead}
 use Rattle.proof_layout_tokens.proofs.Json.Gaps.{content}

@@ -2,20 +2,14 @@
 use Rattle.std.proofs.Common.{◌≡◌, ℕ, List, [], ◌∷◌, ◌++◌, Bool, true, false, ◌||◌, ◌&&◌, not, ◌==◌, if◌then◌else◌, Result, Ok, refl, ◌∙◌, slice_index, append_assoc, append-nil, nat_le, arith}
 use Rattle.std.proofs.lemmas.Bool.{and_parts, not-true}
 use Rattle.std.proofs.lemmas.Bool.Decides.{nat_tests}
-use Rattle.defs_text.specs.Position.{Position}
-use Rattle.yaml_chars.specs.Class.{is_break, is_blank, is_flow}
-use Rattle.defs_text.specs.Text.{is_empty}
-use Rattle.yaml_tokens.specs.declared.problem.Fault.{Fault}
-use Rattle.defs_layout.specs.JsonGap.{Blank, space, tab, line_feed, carriage_return, spell_gap}
-use Rattle.model_scanner.specs.declared.context.Context.{Context}
-use Rattle.model_scanner.specs.Machine.{Read, past, past_break, at_marker, is_marker}
+use Rattle.proof_layout_tokens.proofs.Common.{and_false, at_marker, Blank, carriage_return, class_of, Context, Fault, FlowLevel, is_empty, is_flow, past, past_break, Position, Read}
+use Rattle.yaml_chars.specs.Class.{is_break, is_blank}
+use Rattle.defs_layout.specs.JsonGap.{space, tab, line_feed, spell_gap}
+use Rattle.model_scanner.specs.Machine.{is_marker}
 use Rattle.model_scanner.specs.Folding.{Folded}
 use Rattle.model_scanner.specs.Plain.{PlainState, Plain, inside, between, plain, plain_from, can_be_plain, starts, at_dash, at_plain, goes_on, is_shallow, ends_run}
 use Rattle.model_scanner.proofs.PlainLemmas.{run_end}
 use Rattle.model_scanner.specs.declared.class.Class.TheVariants.{Other}
-use Rattle.model_scanner.specs.declared.level.FlowLevel.{FlowLevel}
-use Rattle.model_scanner.specs.Class.{class_of}
-use Rattle.proof_lexers.proofs.Bridges.{and_false}
 use Rattle.proof_layout_tokens.proofs.Json.States.{Around, indent_of, Fits, MayStand, Ends, at_end, at_comma, at_bracket, at_brace, is_content}
 use Rattle.proof_layout_tokens.proofs.Json.Levels.{fits_past, fits_break, outside_less, less}
 

@@ -1,16 +1,10 @@
 -- JSON arrays and objects after each mark of a block collection: what the theorem says of a text with them.
 use Rattle.std.proofs.Common.{arith, ℕ, List, [], ◌∷◌, true, false, codes}
 use Rattle.std.specs.Fmt.{digits}
-use Rattle.defs_token.specs.Token.{Tok, Style}
-use Rattle.defs_tree.specs.Tree.{Tree}
-use Rattle.defs_tree.specs.Quoting.{is_quoted, is_unfit_for_plain}
-use Rattle.defs_tree.specs.Typing.{typing, is_decimal}
+use Rattle.proof_layout_tokens.proofs.Common.{compact, Elements, entry, explicit, exponent, fraction, HasToks, implicit, is_decimal, is_quoted, is_unescaped, is_unfit_for_plain, itself, Json, last_document, last_entry, last_field, Members, plus, Root, Style, Tok, Tree, typing}
 use Rattle.defs_layout.specs.JsonGap as gap
-use Rattle.defs_layout.specs.JsonNumber.{number, no_fraction, fraction, plus, no_exponent, exponent}
-use Rattle.defs_layout.specs.JsonString.{itself, is_unescaped}
-use Rattle.defs_layout.specs.Json.{Json, Elements, Members}
-use Rattle.defs_layout.specs.Layout.{plain, Block, json, compact, last_entry, entry, implicit, explicit, last_field, Root, last_document, is_on_one_line}
-use Rattle.model_scanner.specs.TextTokens.{HasToks}
+use Rattle.defs_layout.specs.JsonNumber.{number, no_fraction, no_exponent}
+use Rattle.defs_layout.specs.Layout.{plain, Block, json, is_on_one_line}
 use Rattle.proof_layout_tokens.proofs.Layouts.Texts.{layouts_have_their_tokens}
 
 abbrev plain_tok : List ℕ → Tok

@@ -2,17 +2,11 @@
 use Rattle.std.proofs.Common.{arith, ◌≡◌, ◌≢◌, ℕ, List, [], ◌∷◌, true, false, sym, ap, ◌∙◌, true≢false, codes}
 use Rattle.std.specs.Prelude.{pos}
 use Rattle.std.specs.Fmt.{digits}
-use Rattle.defs_token.specs.Token.{Tok, Style}
-use Rattle.defs_tree.specs.Tree.{Tree}
+use Rattle.proof_layout_tokens.proofs.Common.{blank, compact, empty_line, entry, explicit, field, full, HasToks, implicit, is_decimal, is_line_character, is_literal_character, is_literal_text, is_quoted, is_unfit_for_plain, last_document, last_entry, last_field, no_comment, Root, Scalar, scalar, Style, Tok, Tree, typing}
 use Rattle.defs_tree.specs.Order.{tree_eq}
-use Rattle.defs_tree.specs.Quoting.{is_quoted, is_unfit_for_plain}
-use Rattle.defs_tree.specs.Typing.{typing, is_decimal}
 use Rattle.defs_tree.specs.Escapes.{written_character}
-use Rattle.defs_tree.specs.Literal.{is_literal_text, is_literal_character}
-use Rattle.defs_layout.specs.Gap.{empty_line, comment_line, is_line_character}
-use Rattle.defs_layout.specs.BlockLines.{full, blank}
-use Rattle.defs_layout.specs.Layout.{Scalar, plain, quoted, Inline, scalar, empty_array, empty_hash, no_comment, array, hash, Value, compact, below, literal, last_entry, entry, implicit, explicit, last_field, field, Root, last_document}
-use Rattle.model_scanner.specs.TextTokens.{HasToks}
+use Rattle.defs_layout.specs.Gap.{comment_line}
+use Rattle.defs_layout.specs.Layout.{plain, quoted, Inline, empty_array, empty_hash, array, hash, Value, below, literal}
 use Rattle.proof_layout_tokens.proofs.Layouts.Texts.{layouts_have_their_tokens}
 
 abbrev word : List ℕ → Scalar

@@ -1,15 +1,7 @@
 -- The states of the scanner outside flow collections, and what stands after a node.
 use Rattle.std.proofs.Common.{◌≡◌, ℕ, ◌+◌, List, [], ◌∷◌, ◌++◌, Bool, true, false, not, ◌||◌, ◌==◌, nat_lt, if◌then◌else◌, Option, None, Ok, codes}
-use Rattle.defs_text.specs.Position.{Position}
-use Rattle.defs_token.specs.Token.{Tok, Token}
-use Rattle.defs_layout.specs.Gap.{GapLine, IsGap, next_line, spell_gap, spell_ending}
-use Rattle.model_scanner.specs.declared.level.Indent.{Indent}
-use Rattle.model_scanner.specs.State.{Key, ScannerState, ◌>>=◌, try_held}
-use Rattle.model_scanner.specs.Keys.{stale, still, is_required}
-use Rattle.model_scanner.specs.Space.{skip_to_next_token}
-use Rattle.model_scanner.specs.Fetch.{fetch_here, comes_marker, fetch}
-use Rattle.model_scanner.specs.Run.{Reaches}
-use Rattle.defs_token.specs.Toks.{toks}
+use Rattle.proof_layout_tokens.proofs.Common.{comes_marker, fetch, fetch_here, GapLine, Indent, is_required, IsGap, Key, Position, Reaches, ScannerState, skip_to_next_token, stale, still, Tok, Token, toks, try_held, ◌>>=◌}
+use Rattle.defs_layout.specs.Gap.{next_line, spell_gap, spell_ending}
 pub use Rattle.proof_layout_tokens.proofs.Json.States.{opened_indent, opened, IsClosed}
 pub use Rattle.proof_layout_tokens.proofs.TextTokens.{Tells}
 

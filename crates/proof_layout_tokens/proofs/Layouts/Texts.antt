@@ -1,13 +1,9 @@
 -- The tokens of whole texts laid out in lines, of one document or several.
 use Rattle.std.proofs.Common.{◌≡◌, ℕ, Bool, List, [], ◌∷◌, true, false, refl, ap, ◌∙◌, arith, subst}
-use Rattle.defs_token.specs.Token.{Tok}
-use Rattle.defs_layout.specs.Gap.{GapLine, spell_gap, spaces, IsGap}
-use Rattle.defs_layout.specs.Layout.{no_comment, spell, Root, block, inline, literal, Document, Documents, last_document, document, spell_mark, spell_documents, spell_root, spell_inline, spell_block, IsRoot, IsAfterRoot, AreDocuments, spell_literal}
+use Rattle.proof_layout_tokens.proofs.Common.{GapLine, HasToks, IsGap, last_document, no_comment, past_break, Reaches, Root, ScannerState, spaces, spell_literal, start, Tok}
+use Rattle.defs_layout.specs.Gap.{spell_gap}
+use Rattle.defs_layout.specs.Layout.{spell, block, inline, literal, Document, Documents, document, spell_mark, spell_documents, spell_root, spell_inline, spell_block, IsRoot, IsAfterRoot, AreDocuments}
 use Rattle.defs_layout.specs.LayoutTokens.{root_tokens, documents_tokens, marked, layout_tokens}
-use Rattle.model_scanner.specs.Machine.{past_break}
-use Rattle.model_scanner.specs.State.{ScannerState}
-use Rattle.model_scanner.specs.Run.{Reaches, start}
-use Rattle.model_scanner.specs.TextTokens.{HasToks}
 use Rattle.proof_layout_tokens.proofs.TextTokens.{no_other_tokens, none_is_refused}
 use Rattle.proof_layout_tokens.specs.Laws.{LayoutsHaveTheirTokens, LayoutsHaveNoOtherTokens, LayoutsAreNotRefused}
 use Rattle.proof_layout_tokens.proofs.Layouts.States.{stands, is_solid, Trail, marker, marker_text, end, trail_text, limit_of, IsTrail, Before, After}

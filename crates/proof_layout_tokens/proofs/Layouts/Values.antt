@@ -2,22 +2,15 @@
 use Rattle.std.proofs.Common.{◌≡◌, ℕ, ◌+◌, ◌<◌, ◌≤◌, List, [], ◌∷◌, ◌++◌, Bool, true, false, if◌then◌else◌, refl, ap, ◌∙◌, arith, length, append_assoc, append-nil, flat_map, codes, subst}
 use Rattle.std.specs.Prelude.{nat_eq}
 use Rattle.std.specs.List.{ends_with}
-use Rattle.defs_token.specs.Token.{Tok}
-use Rattle.defs_tree.specs.Tree.{Tree}
-use Rattle.defs_tree.specs.Literal.{is_literal_text}
+use Rattle.proof_layout_tokens.proofs.Common.{AreLinesOf, Comment, compact, entry, explicit, field, GapLine, implicit, Indent, is_literal_text, IsComment, IsGap, Json, last_entry, last_field, level, Line, no_comment, Scalar, scalar, ScannerState, spell_comment, spell_lines, spell_literal, Tok, Tree}
 use Rattle.defs_tree.specs.Spelling.{spelling}
 use Rattle.defs_tree.specs.Escapes.{double_quoted, written_escapes}
-use Rattle.defs_layout.specs.Gap.{GapLine, next_line, IsGap}
-use Rattle.defs_layout.specs.BlockLines.{Line, spell_lines}
+use Rattle.defs_layout.specs.Gap.{next_line}
 use Rattle.defs_layout.specs.Anchored.{Anchor, begun, is_name}
 use Rattle.defs_layout.specs.Json
-use Rattle.defs_layout.specs.Json.{Json}
-use Rattle.defs_layout.specs.Layout.{Scalar, plain, quoted, single_quoted, Inline, scalar, empty_array, empty_hash, Comment, no_comment, Block, array, hash, Value, literal, folded, json, compact, at_key, anchored, alias, Entries, last_entry, entry, Field, implicit, explicit, Fields, last_field, field, doubled, spell_scalar, spell_inline, spell_comment, spell_literal, folded_header, spell_block, spell_value, spell_entries, spell_field, spell_fields, anchors_after, anchors_after_field, IsScalar, IsInline, IsComment, IsJsonCollection, IsJsonOnOneLine, AreLinesOf, IsImplicitKey, IsExplicitKey, MayFollowScalarKey, MayFollowMark, MayBeAnchored, IsBlock, IsValue, AreEntries, IsField, AreFields}
+use Rattle.defs_layout.specs.Layout.{plain, quoted, single_quoted, Inline, empty_array, empty_hash, Block, array, hash, Value, literal, folded, json, at_key, anchored, alias, Entries, Field, Fields, doubled, spell_scalar, spell_inline, folded_header, spell_block, spell_value, spell_entries, spell_field, spell_fields, anchors_after, anchors_after_field, IsScalar, IsInline, IsJsonCollection, IsJsonOnOneLine, IsImplicitKey, IsExplicitKey, MayFollowScalarKey, MayFollowMark, MayBeAnchored, IsBlock, IsValue, AreEntries, IsField, AreFields}
 use Rattle.defs_layout.specs.Layout as layout
 use Rattle.defs_layout.specs.LayoutTokens.{scalar_token, inline_tokens, block_tokens, value_tokens, entry_tokens, field_tokens, all_field_tokens}
-use Rattle.model_scanner.specs.declared.level.Indent.{Indent}
-use Rattle.model_scanner.specs.State.{ScannerState}
-use Rattle.model_scanner.specs.Indents.{level}
 use Rattle.proof_layout_tokens.proofs.Layouts.States.{is_solid, opened, opened_indent, IsClosed, Trail, next, trail_text, limit_of, IsTrail, Before, After}
 use Rattle.proof_layout_tokens.proofs.Whites.{line_feed, spell_white, blanks, gap_white, spaces_are, next_line_is, allowed_beyond, gap_allows}
 use Rattle.proof_layout_tokens.proofs.Comments.{comment_is, allowed_comment}

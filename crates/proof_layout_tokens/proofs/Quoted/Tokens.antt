@@ -1,16 +1,10 @@
 -- The tokens of a text that is one quoted scalar with line feeds alone after it.
 use Rattle.std.proofs.Common.{◌≡◌, ℕ, zero, suc, ◌+◌, List, [], ◌∷◌, ◌++◌, Bool, true, false, Some, Result, refl, ap, replicate}
-use Rattle.defs_text.specs.Position.{Position}
-use Rattle.defs_token.specs.Token.{Tok}
-use Rattle.yaml_tokens.specs.declared.problem.Fault.{Fault}
+use Rattle.proof_layout_tokens.proofs.Common.{Fault, HasToks, Position, quote_of, Read, start, there, Tok, token}
 use Rattle.defs_layout.specs.JsonGap.{line_feed, spell_gap}
 use Rattle.defs_layout.specs.QuotedText.{Quotes, QuotedText, HasQuotedTokens, spell, body_value, style_of}
 use Rattle.defs_layout.specs.QuotedText as laid
-use Rattle.model_scanner.specs.Machine.{Read}
-use Rattle.model_scanner.specs.Quoted.{quote_of}
-use Rattle.model_scanner.specs.State.{token}
-use Rattle.model_scanner.specs.Run.{start, here, there}
-use Rattle.model_scanner.specs.TextTokens.{HasToks}
+use Rattle.model_scanner.specs.Run.{here}
 use Rattle.proof_lexers.proofs.Quoted.NoNul.{no_less}
 use Rattle.proof_layout_tokens.proofs.Json.Words.{context_of}
 use Rattle.proof_layout_tokens.proofs.Json.Strings.{Closed}

@@ -3,11 +3,10 @@ use Rattle.std.proofs.Common.{◌≡◌, ◌≤◌, ◌⊎◌, inl, inr, ℕ, ze
 use Rattle.std.specs.List.{list_all}
 use Rattle.std.proofs.lemmas.Bool.{and_parts, not-false}
 use Rattle.std.proofs.lemmas.Bool.Decides.{nat_tests}
+use Rattle.proof_lexers.proofs.Common.{deepest_start, empty_row, is_content_line, is_document_marker, is_empty_line, is_further_text, is_in_line, is_outside, is_spaces, leading_spaces, row_of}
 use Rattle.defs_text.specs.Classes as classes
-use Rattle.defs_text.specs.Classes.{is_document_marker}
-use Rattle.defs_text.specs.BlockScalar.{empty_row, is_spaces, leading_spaces, deepest_start, is_empty_line, is_content_line, row_of, is_outside, is_further_text}
 use Rattle.proof_lexers.proofs.Bridges.{same_break}
-use Rattle.proof_lexers.specs.HeaderEnds.{is_in_line, ends_line}
+use Rattle.proof_lexers.specs.HeaderEnds.{ends_line}
 use Rattle.proof_lexers.specs.BlockScan.{is_some}
 use Rattle.proof_lexers.proofs.Blocks.InLine.{first_inner}
 use Rattle.proof_lexers.proofs.Blocks.Written.{Line, put, spell, texts, AreLines}

@@ -2,22 +2,16 @@
 use Rattle.std.proofs.Common.{◌≡◌, ℕ, zero, suc, List, [], ◌∷◌, ◌++◌, Bool, true, false, not, ◌==◌, max, Option, Some, None, Err, refl, ap, sym, ◌∙◌, append-nil, append_assoc, subst}
 use Rattle.std.specs.List.{list_all}
 use Rattle.std.proofs.lemmas.Bool.{and_parts}
-use Rattle.defs_text.specs.Position.{Position}
-use Rattle.yaml_tokens.specs.declared.problem.Fault.{Fault}
-use Rattle.yaml_tokens.specs.declared.problem.Fault.TheVariants.{At}
+use Rattle.proof_lexers.proofs.Common.{along, At, begins_with, block, BlockRead, BlockStyle, collection_of, column_by, deepest_start, Fault, header, header_of, indicator_of, is_at_end, is_further_text, is_in_line, is_literal_style, least_column, linebreak, no_header, Position, Read, read_header, Row, row_of, rows_of, starts_with_tab, unbroken, value_before_end, value_before_text, zero_digit}
 use Rattle.yaml_tokens.specs.declared.problem.Problem.TheVariants as problem
-use Rattle.defs_text.specs.Classes.{tab, is_at_end}
-use Rattle.defs_text.specs.FlowScalar.{begins_with}
+use Rattle.defs_text.specs.Classes.{tab}
 use Rattle.defs_text.specs.BlockScalar as defs
-use Rattle.defs_text.specs.BlockScalar.{BlockStyle, Row, rows_of, row_of, deepest_start, least_column, column_by, header_of, starts_with_tab, is_further_text, further_text, unbroken, body, input_ends, value_before_text, value_before_end}
-use Rattle.defs_token.specs.BlockPiece.{BlockRead, read_body, read_lines, read_split, block_read}
-use Rattle.model_scanner.specs.Machine.{Read, past}
-use Rattle.model_scanner.specs.Blanks.{linebreak}
-use Rattle.model_scanner.specs.BlockScalar.{block, header}
+use Rattle.defs_text.specs.BlockScalar.{further_text, body, input_ends}
+use Rattle.defs_token.specs.BlockPiece.{read_body, read_lines, read_split, block_read}
+use Rattle.model_scanner.specs.Machine.{past}
 use Rattle.proof_lexers.specs.HeaderEnds as header_ends
-use Rattle.proof_lexers.specs.HeaderEnds.{indicator_of, is_in_line, ends_line, along, read_header, reads, tabbed, zero_digit, comment, no_header}
-use Rattle.proof_lexers.specs.BlockScan.{is_literal_style, is_some, IsRead}
-use Rattle.proof_lexers.specs.PlainEnds.{collection_of}
+use Rattle.proof_lexers.specs.HeaderEnds.{ends_line, reads, tabbed, comment}
+use Rattle.proof_lexers.specs.BlockScan.{is_some, IsRead}
 use Rattle.proof_lexers.specs.BlockEnds.{BlockEndsAs, scalar, bad_header}
 use Rattle.proof_lexers.specs.BlockLaws.{BlockScansEndAsTheirTextSays}
 use Rattle.proof_lexers.proofs.Blocks.Written.{Break, feed, carriage, both, Line, put, spell, texts, Fits, AreLines, Lined, lined, split_spell}

@@ -1,15 +1,11 @@
 -- The first lines give the content column.
 use Rattle.std.proofs.Common.{◌≡◌, ◌≤◌, ℕ, zero, suc, ◌+◌, ◌-◌, List, [], ◌∷◌, ◌++◌, Bool, true, false, ◌==◌, max, nat_lt, length, refl, ap, sym, ◌∙◌, append-nil, arith}
 use Rattle.std.proofs.lemmas.Bool.{and_parts, lt-ltb}
-use Rattle.defs_text.specs.Position.{Position}
+use Rattle.proof_lexers.proofs.Common.{along, collection_of, Column, column_by, deepest_start, digit_by, indent_from, is_in_line, is_spaces, leading_spaces, least_column, Position, Read, Split, split, unbroken}
 use Rattle.yaml_chars.specs.Class.{is_break}
-use Rattle.defs_text.specs.Breaks.{split, Split}
-use Rattle.defs_text.specs.BlockScalar.{is_spaces, leading_spaces, deepest_start, column_by, least_column, digit_base, unbroken, all_lines}
-use Rattle.model_scanner.specs.Machine.{Read, past}
-use Rattle.model_scanner.specs.BlockScalar.{Column, First, first_indent, indent_from, content, at_least}
-use Rattle.proof_lexers.specs.HeaderEnds.{is_in_line, along}
-use Rattle.proof_lexers.specs.BlockScan.{digit_by}
-use Rattle.proof_lexers.specs.PlainEnds.{collection_of}
+use Rattle.defs_text.specs.BlockScalar.{digit_base, all_lines}
+use Rattle.model_scanner.specs.Machine.{past}
+use Rattle.model_scanner.specs.BlockScalar.{First, first_indent, content, at_least}
 use Rattle.proof_lexers.specs.BlockLaws.{FirstLinesGiveTheColumn}
 use Rattle.proof_lexers.proofs.Blocks.InLine.{first_inner}
 use Rattle.proof_lexers.proofs.Blocks.Written.{Break, feed, carriage, both, Line, put, spell, texts, Fits, AreLines, Lined, lined, split_spell}

@@ -2,14 +2,12 @@
 use Rattle.std.proofs.Common.{◌≡◌, ◌≤◌, ◌<◌, ℕ, zero, suc, ◌+◌, List, [], ◌∷◌, Bool, true, false, ◌&&◌, not, ◌==◌, nat_lt, Ok, refl, ap, sym, ◌∙◌, arith}
 use Rattle.std.proofs.lemmas.Bool.{and_parts, eqb-true, ne_eqb, lt-ltb, not-true}
 use Rattle.std.proofs.lemmas.Bool.Decides.{nat_tests}
-use Rattle.defs_text.specs.Position.{Position, position_past}
+use Rattle.proof_lexers.proofs.Common.{indent_from, is_document_marker, is_further_text, is_outside, Position, position_past}
 use Rattle.yaml_chars.specs.Class.{is_break}
 use Rattle.defs_text.specs.Classes as classes
-use Rattle.defs_text.specs.Classes.{is_document_marker}
-use Rattle.defs_text.specs.BlockScalar.{is_outside, is_further_text}
 use Rattle.defs_token.specs.BlockPiece.{past_spaces}
 use Rattle.model_scanner.specs.Machine.{past}
-use Rattle.model_scanner.specs.BlockScalar.{indent_from, Lines, begins}
+use Rattle.model_scanner.specs.BlockScalar.{Lines, begins}
 use Rattle.proof_lexers.proofs.Bridges.{same_break}
 use Rattle.proof_lexers.specs.BlockScan.{without_spaces}
 use Rattle.proof_lexers.proofs.Blocks.Margins.{at}

@@ -2,20 +2,14 @@
 use Rattle.std.proofs.Common.{◌≡◌, ℕ, suc, ◌-◌, ◌≤◌, List, [], ◌∷◌, ◌++◌, Bool, true, false, ◌==◌, if◌then◌else◌, Option, Some, None, Ok, Err, refl, ap, sym, ◌∙◌, arith}
 use Rattle.std.proofs.lemmas.Bool.{eqb-true}
 use Rattle.std.proofs.lemmas.Bool.Decides.{nat_tests}
-use Rattle.defs_text.specs.Position.{Position}
-use Rattle.yaml_tokens.specs.declared.problem.Fault.TheVariants.{At}
+use Rattle.proof_lexers.proofs.Common.{along, At, begins_with, BlockStyle, clip, digit_by, digit_of, digit_or_zero, header, header_of, indicator_of, is_in_line, is_rest_of_line, linebreak, literal, no_header, Position, read_header, sign_of, zero_digit}
 use Rattle.yaml_tokens.specs.declared.problem.Problem.TheVariants as problem
 use Rattle.defs_text.specs.Classes as classes
 use Rattle.defs_text.specs.Classes.{tab}
-use Rattle.defs_text.specs.Breaks.{is_rest_of_line}
-use Rattle.defs_text.specs.FlowScalar.{begins_with}
 use Rattle.defs_text.specs.BlockScalar as defs
-use Rattle.defs_text.specs.BlockScalar.{BlockStyle, literal, folded, clip, sign_of, digit_of, header_of, ended, after_style, first_indicator, after_sign, digit_or_end, after_digit, sign_or_end}
+use Rattle.defs_text.specs.BlockScalar.{folded, ended, after_style, first_indicator, after_sign, digit_or_end, after_digit, sign_or_end}
 use Rattle.model_scanner.specs.Machine.{past}
-use Rattle.model_scanner.specs.Blanks.{linebreak}
-use Rattle.model_scanner.specs.BlockScalar.{header}
-use Rattle.proof_lexers.specs.HeaderEnds.{indicator_of, digit_or_zero, is_in_line, ends_line, along, read_header, HeaderEndsAs, reads, tabbed, zero_digit, comment, no_header}
-use Rattle.proof_lexers.specs.BlockScan.{digit_by}
+use Rattle.proof_lexers.specs.HeaderEnds.{ends_line, HeaderEndsAs, reads, tabbed, comment}
 use Rattle.proof_lexers.proofs.Blocks.Headers.{headers_end}
 use Rattle.proof_lexers.proofs.Blocks.Written.{Break, feed, carriage, both, put, Fits}
 use Rattle.proof_lexers.proofs.Blocks.Margins.{after_break}

@@ -2,25 +2,21 @@
 use Rattle.std.proofs.Common.{◌≡◌, ℕ, ◌-◌, List, [], ◌∷◌, ◌++◌, Bool, true, false, ◌||◌, ◌==◌, if◌then◌else◌, slice_index, Option, Some, None, Result, Ok, Err, refl, ap, sym, ◌∙◌, arith}
 use Rattle.std.proofs.lemmas.Bool.{and_parts, or_parts, eqb-true}
 use Rattle.std.proofs.lemmas.Bool.Decides.{nat_tests}
-use Rattle.defs_text.specs.Position.{Position}
+use Rattle.proof_lexers.proofs.Common.{along, and_then, At, begins_with, BlockStyle, chomping_of, clip, digit_of, Fault, header, header_of, indicator_of, is_in_line, is_line, is_rest_of_line, linebreak, literal, no_header, Position, Read, sign_of, skip_while, Whitespace, zero_digit}
 use Rattle.yaml_chars.specs.Class.{is_break, is_blank, is_digit}
-use Rattle.yaml_tokens.specs.declared.problem.Fault.{Fault}
-use Rattle.yaml_tokens.specs.declared.problem.Fault.TheVariants.{At}
 use Rattle.yaml_tokens.specs.declared.problem.Problem.TheVariants as problem
 use Rattle.yaml_tokens.specs.declared.token.Chomping.TheVariants.{Clip}
 use Rattle.defs_text.specs.Classes as classes
 use Rattle.defs_text.specs.Classes.{tab}
-use Rattle.defs_text.specs.Breaks.{is_blanks_and_comment, is_rest_of_line}
-use Rattle.defs_text.specs.FlowScalar.{begins_with}
+use Rattle.defs_text.specs.Breaks.{is_blanks_and_comment}
 use Rattle.defs_text.specs.BlockScalar as defs
-use Rattle.defs_text.specs.BlockScalar.{BlockStyle, literal, folded, strip, clip, keep, sign_of, digit_of, header_of, after_style, first_indicator, after_sign, digit_or_end, after_digit, sign_or_end}
+use Rattle.defs_text.specs.BlockScalar.{folded, strip, keep, after_style, first_indicator, after_sign, digit_or_end, after_digit, sign_or_end}
 use Rattle.model_scanner.specs.declared.context.SkipTabs.TheVariants.{Yes}
-use Rattle.model_scanner.specs.declared.context.Whitespace.{Whitespace}
-use Rattle.model_scanner.specs.Machine.{Read, past, and_then, skip_while}
-use Rattle.model_scanner.specs.Blanks.{space_from, space, linebreak, is_line}
-use Rattle.model_scanner.specs.BlockScalar.{chomping, increment, indicators, late_chomping, with_chomping, header_break, header_end, header, with_indicators}
+use Rattle.model_scanner.specs.Machine.{past}
+use Rattle.model_scanner.specs.Blanks.{space_from, space}
+use Rattle.model_scanner.specs.BlockScalar.{chomping, increment, indicators, late_chomping, with_chomping, header_break, header_end, with_indicators}
 use Rattle.proof_lexers.proofs.Bridges.{same_break, same_blank}
-use Rattle.proof_lexers.specs.HeaderEnds.{indicator_of, chomping_of, indicators_of, is_in_line, ends_line, along, is_sign, has_zero, past_indicators, HeaderEndsAs, reads, tabbed, zero_digit, comment, no_header}
+use Rattle.proof_lexers.specs.HeaderEnds.{indicators_of, ends_line, is_sign, has_zero, past_indicators, HeaderEndsAs, reads, tabbed, comment}
 use Rattle.proof_lexers.specs.BlockLaws.{HeadersEndAsTheirLineSays}
 use Rattle.proof_lexers.proofs.Blocks.InLine.{first_inner}
 

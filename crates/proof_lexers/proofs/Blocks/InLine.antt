@@ -1,10 +1,10 @@
 -- The characters of a line are no breaks.
 use Rattle.std.proofs.Common.{◌≡◌, ℕ, List, ◌∷◌, true, false, not}
 use Rattle.std.proofs.lemmas.Bool.{and_parts, not-true}
+use Rattle.proof_lexers.proofs.Common.{is_in_line}
 use Rattle.yaml_chars.specs.Class.{is_break}
 use Rattle.defs_text.specs.Classes as classes
 use Rattle.proof_lexers.proofs.Bridges.{same_break}
-use Rattle.proof_lexers.specs.HeaderEnds.{is_in_line}
 
 -- the first character of a line, and the others
 pub first_inner : (c : ℕ) (w : List ℕ) → is_in_line (c ∷ w) ≡ true → (is_break c ≡ false) × (is_in_line w ≡ true)

@@ -1,12 +1,10 @@
 -- What the model does before content: spaces and breaks.
 use Rattle.std.proofs.Common.{◌≡◌, ◌≤◌, ℕ, suc, ◌+◌, List, [], ◌∷◌, ◌++◌, Bool, true, false, ◌&&◌, ◌==◌, nat_lt, length, refl, ap, sym, ◌∙◌, arith}
 use Rattle.std.proofs.lemmas.Bool.{and_parts, lt-ltb}
-use Rattle.defs_text.specs.Position.{Position}
+use Rattle.proof_lexers.proofs.Common.{along, Column, indent_from, is_cr_lf, is_spaces, lines_from, past_break, Position, Read}
 use Rattle.yaml_chars.specs.Class.{is_break}
-use Rattle.defs_text.specs.BlockScalar.{is_spaces}
-use Rattle.model_scanner.specs.Machine.{Read, past, past_break, is_cr_lf}
-use Rattle.model_scanner.specs.BlockScalar.{Column, Margin, indent_from, Lines, BlockState, margin, lines_from}
-use Rattle.proof_lexers.specs.HeaderEnds.{along}
+use Rattle.model_scanner.specs.Machine.{past}
+use Rattle.model_scanner.specs.BlockScalar.{Margin, Lines, BlockState, margin}
 use Rattle.proof_lexers.proofs.Blocks.Written.{Break, feed, carriage, both, Line, put, Fits}
 
 -- the position after a break

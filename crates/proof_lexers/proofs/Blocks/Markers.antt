@@ -1,10 +1,10 @@
 -- A document marker is seen alike in a line and in the text that begins with the line.
 use Rattle.std.proofs.Common.{◌≡◌, ℕ, List, [], ◌∷◌, ◌++◌, Bool, true, false, ◌||◌, ◌&&◌, ◌==◌, refl, ap, ◌∙◌, arith}
 use Rattle.std.proofs.lemmas.Bool.Decides.{nat_tests}
+use Rattle.proof_lexers.proofs.Common.{at_marker, is_document_marker}
 use Rattle.yaml_chars.specs.Class.{is_blank, is_break}
 use Rattle.defs_text.specs.Classes as classes
-use Rattle.defs_text.specs.Classes.{is_document_marker}
-use Rattle.model_scanner.specs.Machine.{is_marker, at_marker}
+use Rattle.model_scanner.specs.Machine.{is_marker}
 use Rattle.proof_lexers.proofs.Bridges.{and_false}
 use Rattle.proof_lexers.specs.HeaderEnds.{ends_line}
 

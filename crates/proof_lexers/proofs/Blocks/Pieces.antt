@@ -3,18 +3,13 @@ use Rattle.std.proofs.Common.{◌≡◌, ℕ, zero, suc, List, [], ◌∷◌, �
 use Rattle.std.specs.List.{list_all}
 use Rattle.std.proofs.lemmas.Bool.{and_parts, not-true}
 use Rattle.std.proofs.lemmas.Bool.Decides.{nat_tests}
-use Rattle.defs_text.specs.Position.{Position}
+use Rattle.proof_lexers.proofs.Common.{begins_with, block, BlockRead, collection_of, column_by, deepest_start, digit_by, digit_or_zero, header_of, indent_from, indicator_of, is_at_end, is_document_marker, is_further_text, is_in_line, is_literal_style, is_outside, is_tabbed, least_column, Position, Row, row_of, rows_of, Split, split, starts_with_tab, unbroken, value_before_end, value_before_text}
 use Rattle.defs_text.specs.Classes as classes
-use Rattle.defs_text.specs.Classes.{tab, is_at_end, is_document_marker}
-use Rattle.defs_text.specs.Breaks.{split, Split}
-use Rattle.defs_text.specs.FlowScalar.{begins_with}
+use Rattle.defs_text.specs.Classes.{tab}
 use Rattle.defs_text.specs.BlockScalar as defs
-use Rattle.defs_text.specs.BlockScalar.{Row, rows_of, row_of, deepest_start, least_column, column_by, header_of, starts_with_tab, is_outside, is_further_text, further_text, unbroken, body, input_ends, Body, value_at_text, value_at_end, block_value, value_before_text, value_before_end}
-use Rattle.defs_token.specs.BlockPiece.{BlockRead, read_body, read_lines, read_split}
-use Rattle.model_scanner.specs.BlockScalar.{block, indent_from}
-use Rattle.proof_lexers.specs.HeaderEnds.{indicator_of, digit_or_zero, is_in_line}
-use Rattle.proof_lexers.specs.BlockScan.{digit_by, is_literal_style, is_some, IsRead, tabbed, is_tabbed, is_single}
-use Rattle.proof_lexers.specs.PlainEnds.{collection_of}
+use Rattle.defs_text.specs.BlockScalar.{further_text, body, input_ends, Body, value_at_text, value_at_end, block_value}
+use Rattle.defs_token.specs.BlockPiece.{read_body, read_lines, read_split}
+use Rattle.proof_lexers.specs.BlockScan.{is_some, IsRead, tabbed, is_single}
 use Rattle.proof_lexers.specs.BlockLaws.{BlockPiecesAreRead}
 use Rattle.proof_lexers.proofs.Blocks.InLine.{first_inner}
 use Rattle.proof_lexers.proofs.Blocks.Written.{Break, feed, carriage, both, Line, put, spell, texts, Fits, AreLines, Lined, lined, split_spell}

@@ -1,15 +1,12 @@
 -- The definitions' positions are the model's.
 use Rattle.std.proofs.Common.{◌≡◌, ◌≤◌, ℕ, suc, ◌+◌, List, [], ◌∷◌, ◌++◌, true, false, not, ◌==◌, nat_lt, length, slice_index, None, refl, ap, sym, ◌∙◌, append-nil, append_assoc, arith}
 use Rattle.std.proofs.lemmas.Bool.{and_parts, eqb-true, lt-ltb}
-use Rattle.defs_text.specs.Position.{Position, position_past, position_after}
+use Rattle.proof_lexers.proofs.Common.{along, first_content, is_in_line, is_spaces, past_break, Position, position_after, position_past}
 use Rattle.yaml_chars.specs.Class.{is_break}
 use Rattle.defs_text.specs.Classes as classes
-use Rattle.defs_text.specs.BlockScalar.{is_spaces}
 use Rattle.defs_text.specs.Breaks as cut
-use Rattle.defs_token.specs.BlockPiece.{first_content}
-use Rattle.model_scanner.specs.Machine.{past, past_break}
+use Rattle.model_scanner.specs.Machine.{past}
 use Rattle.proof_lexers.proofs.Bridges.{same_break}
-use Rattle.proof_lexers.specs.HeaderEnds.{is_in_line, along}
 use Rattle.proof_lexers.proofs.Blocks.InLine.{first_inner}
 use Rattle.proof_lexers.proofs.Blocks.Written.{Break, feed, carriage, both, Line, put, spell, Fits, AreLines}
 use Rattle.proof_lexers.proofs.Blocks.Margins.{after_break, after_line, after_lines}

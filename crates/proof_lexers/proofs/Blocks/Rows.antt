@@ -2,22 +2,19 @@
 use Rattle.std.proofs.Common.{◌≡◌, ◌≤◌, ℕ, zero, suc, ◌+◌, List, [], ◌∷◌, ◌++◌, Bool, true, false, ◌&&◌, not, ◌==◌, nat_lt, nat_le, length, drop, Option, Some, None, Result, Ok, refl, ap, sym, ◌∙◌, append-nil, append_assoc, arith}
 use Rattle.std.proofs.lemmas.Bool.{and_parts, eq-eqb, lt-ltb, le-ltb, not-true}
 use Rattle.std.proofs.lemmas.Bool.Decides.{nat_tests}
-use Rattle.defs_text.specs.Position.{Position}
+use Rattle.proof_lexers.proofs.Common.{along, at_marker, Column, content_row, empty_row, Fault, first_content, indent_from, is_content_line, is_document_marker, is_empty_line, is_in_line, is_spaces, leading_spaces, lines_from, Position, Read, Row, row_of, rows_of}
 use Rattle.yaml_chars.specs.Class.{is_break, is_blank}
-use Rattle.yaml_tokens.specs.declared.problem.Fault.{Fault}
 use Rattle.defs_text.specs.Classes as classes
-use Rattle.defs_text.specs.Classes.{is_document_marker}
-use Rattle.defs_text.specs.BlockScalar.{Row, empty_row, content_row, is_spaces, leading_spaces, is_empty_line, is_content_line, row_of, rows_of, put_row}
-use Rattle.model_scanner.specs.Machine.{Read, past, at_marker}
-use Rattle.model_scanner.specs.BlockScalar.{Column, indent_from, Lines, BlockState, margin, line, lines_from, between, begins, begun, with_char}
+use Rattle.defs_text.specs.BlockScalar.{put_row}
+use Rattle.model_scanner.specs.Machine.{past}
+use Rattle.model_scanner.specs.BlockScalar.{Lines, BlockState, margin, line, between, begins, begun, with_char}
 use Rattle.proof_lexers.proofs.Bridges.{same_break, and_false}
-use Rattle.proof_lexers.specs.HeaderEnds.{is_in_line, ends_line, along}
+use Rattle.proof_lexers.specs.HeaderEnds.{ends_line}
 use Rattle.proof_lexers.proofs.Blocks.InLine.{first_inner}
 use Rattle.proof_lexers.proofs.Blocks.Written.{Break, feed, carriage, both, Line, put, spell, texts, Fits, AreLines}
 use Rattle.proof_lexers.proofs.Blocks.Margins.{after_break, after_line, after_lines, at, before, margin_passes, empty_passes, last_passes}
 use Rattle.proof_lexers.proofs.Blocks.Markers.{marker_in_line}
 use Rattle.proof_lexers.proofs.Blocks.Positions.{first_space}
-use Rattle.defs_token.specs.BlockPiece.{first_content}
 
 -- ---- what is known after rows
 

@@ -2,24 +2,18 @@
 use Rattle.std.proofs.Common.{◌≡◌, ◌≤◌, ℕ, zero, suc, ◌+◌, List, [], ◌∷◌, ◌++◌, Bool, true, false, ◌&&◌, not, if◌then◌else◌, max, nat_lt, nat_le, length, drop, Some, None, Result, Ok, Err, refl, ap, sym, ◌∙◌, append-nil, arith}
 use Rattle.std.proofs.lemmas.Bool.{le-ltb}
 use Rattle.std.proofs.lemmas.Bool.Decides.{nat_tests}
-use Rattle.defs_text.specs.Position.{Position, position_after}
-use Rattle.defs_text.specs.Text.{is_empty}
-use Rattle.yaml_tokens.specs.declared.problem.Fault.{Fault}
-use Rattle.yaml_tokens.specs.declared.problem.Fault.TheVariants.{At}
+use Rattle.proof_lexers.proofs.Common.{along, and_then, At, begins_with, block, BlockRead, breaks, chomping_of, collection_of, Column, column_by, content_row, digit_by, digit_or_zero, empty_row, Fault, first_content, has_content, header, header_of, indent_from, indicator_of, is_at_end, is_empty, is_further_text, is_in_line, is_literal_style, is_spaces, is_tabbed, linebreak, lines_from, Position, position_after, Read, read_header, Row, row_of, rows_of, starts_with_tab, value_before_end, value_before_text}
 use Rattle.yaml_tokens.specs.declared.problem.Problem.TheVariants as problem
 use Rattle.defs_text.specs.Classes as classes
-use Rattle.defs_text.specs.Classes.{tab, is_at_end}
-use Rattle.defs_text.specs.FlowScalar.{begins_with}
+use Rattle.defs_text.specs.Classes.{tab}
 use Rattle.defs_text.specs.BlockScalar as defs
-use Rattle.defs_text.specs.BlockScalar.{Row, empty_row, content_row, breaks, is_spaces, rows_of, row_of, has_content, column_by, header_of, starts_with_tab, is_further_text, value_before_text, value_before_end, with_content}
-use Rattle.defs_token.specs.BlockPiece.{BlockRead, first_content, past_spaces, position_or, block_position}
-use Rattle.model_scanner.specs.Machine.{Read, past, and_then}
-use Rattle.model_scanner.specs.Blanks.{linebreak}
-use Rattle.model_scanner.specs.BlockScalar.{Header, Column, Lines, lines_from, indent_from, content, header, Block, block, after_header, is_open, tail, empty_text}
+use Rattle.defs_text.specs.BlockScalar.{with_content}
+use Rattle.defs_token.specs.BlockPiece.{past_spaces, position_or, block_position}
+use Rattle.model_scanner.specs.Machine.{past}
+use Rattle.model_scanner.specs.BlockScalar.{Header, Lines, content, Block, after_header, is_open, tail, empty_text}
 use Rattle.proof_lexers.proofs.Bridges.{and_false}
-use Rattle.proof_lexers.specs.HeaderEnds.{indicator_of, chomping_of, digit_or_zero, indicators_of, is_in_line, along, read_header}
-use Rattle.proof_lexers.specs.BlockScan.{digit_by, is_literal_style, without_spaces, further_position, IsRead, read, shallow, is_none, is_tabbed, is_shallow}
-use Rattle.proof_lexers.specs.PlainEnds.{collection_of}
+use Rattle.proof_lexers.specs.HeaderEnds.{indicators_of}
+use Rattle.proof_lexers.specs.BlockScan.{without_spaces, further_position, IsRead, read, shallow, is_none, is_shallow}
 use Rattle.proof_lexers.proofs.Blocks.Written.{Break, feed, carriage, both, Line, put, spell, texts, Fits, AreLines}
 use Rattle.proof_lexers.proofs.Blocks.Margins.{after_break, after_line, after_lines, at, before, margin_passes, last_passes, col_along}
 use Rattle.proof_lexers.proofs.Blocks.First.{content_is}

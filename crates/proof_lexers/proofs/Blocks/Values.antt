@@ -1,12 +1,11 @@
 -- What rows leave in the model's buffers is the text that the definitions give them.
 use Rattle.std.proofs.Common.{◌≡◌, ℕ, zero, suc, ◌+◌, List, [], ◌∷◌, ◌++◌, Bool, true, false, ◌||◌, if◌then◌else◌, length, max, refl, ap, sym, ◌∙◌, append-nil, append_assoc, arith}
+use Rattle.proof_lexers.proofs.Common.{BlockStyle, breaks, chomping_of, clip, content_row, empty_row, has_content, is_literal_style, literal, Row}
 use Rattle.yaml_chars.specs.Class.{is_blank}
 use Rattle.defs_text.specs.BlockScalar as defs
-use Rattle.defs_text.specs.BlockScalar.{BlockStyle, literal, folded, strip, clip, keep, Row, empty_row, content_row, starts_blank, breaks, between_lines, text_after, text_of, has_content, empty_after, with_content, nothing_before_text, nothing_before_end}
+use Rattle.defs_text.specs.BlockScalar.{folded, strip, keep, starts_blank, between_lines, text_after, text_of, empty_after, with_content, nothing_before_text, nothing_before_end}
 use Rattle.model_scanner.specs.BlockScalar.{Lines, between, tail, empty_text}
 use Rattle.proof_lexers.proofs.Bridges.{same_blank}
-use Rattle.proof_lexers.specs.HeaderEnds.{chomping_of}
-use Rattle.proof_lexers.specs.BlockScan.{is_literal_style}
 use Rattle.proof_lexers.proofs.Blocks.Rows.{after_row, after_rows}
 
 -- content is never empty

@@ -1,11 +1,8 @@
 -- Where content is found after rows, and how far rows go in a text.
 use Rattle.std.proofs.Common.{◌≡◌, ◌≤◌, ℕ, zero, suc, ◌+◌, List, [], ◌∷◌, ◌++◌, true, false, length, drop, Option, Some, None, refl, ap, sym, ◌∙◌, append-nil, arith}
 use Rattle.std.specs.List.{list_all}
-use Rattle.defs_text.specs.Position.{Position}
-use Rattle.defs_text.specs.BlockScalar.{Row, empty_row, content_row, is_spaces, breaks, row_of, rows_of, put_row, has_content, is_further_text}
-use Rattle.defs_token.specs.BlockPiece.{first_content}
-use Rattle.model_scanner.specs.BlockScalar.{indent_from}
-use Rattle.proof_lexers.specs.HeaderEnds.{is_in_line}
+use Rattle.proof_lexers.proofs.Common.{breaks, content_row, empty_row, first_content, has_content, indent_from, is_further_text, is_in_line, is_spaces, Position, Row, row_of, rows_of}
+use Rattle.defs_text.specs.BlockScalar.{put_row}
 use Rattle.proof_lexers.specs.BlockScan.{is_some}
 use Rattle.proof_lexers.proofs.Blocks.Written.{Line, put, spell, texts, Fits, AreLines}
 use Rattle.proof_lexers.proofs.Blocks.Margins.{after_line, after_lines, at, empty_passes}

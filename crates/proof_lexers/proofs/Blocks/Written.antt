@@ -1,11 +1,11 @@
 -- Each text is lines, each with its break as written, and a last line without one.
 use Rattle.std.proofs.Common.{◌≡◌, ℕ, List, [], ◌∷◌, ◌++◌, Bool, true, false, ◌&&◌, ◌==◌, slice_index, refl, ap, ◌∙◌}
 use Rattle.std.proofs.lemmas.Bool.{and_parts, eqb-true}
+use Rattle.proof_lexers.proofs.Common.{is_in_line, Split, split}
 use Rattle.yaml_chars.specs.Class.{is_break}
 use Rattle.defs_text.specs.Classes as classes
-use Rattle.defs_text.specs.Breaks.{Split, split, with_empty_line}
+use Rattle.defs_text.specs.Breaks.{with_empty_line}
 use Rattle.proof_lexers.proofs.Bridges.{same_break}
-use Rattle.proof_lexers.specs.HeaderEnds.{is_in_line}
 use Rattle.proof_lexers.proofs.Blocks.InLine.{first_inner}
 
 -- a break as written: LF, CR, or CR LF

@@ -1,27 +1,22 @@
 -- Directives are read as their lines say, and no other text is.
 use Rattle.std.proofs.Common.{◌≡◌, ℕ, suc, ◌+◌, List, [], ◌∷◌, ◌++◌, Bool, true, false, ◌&&◌, ◌||◌, ◌==◌, not, if◌then◌else◌, length, slice_index, Option, Some, None, Result, Ok, Err, codes, refl, ap, sym, subst, ◌∙◌, arith, append_assoc, append-nil, length-append}
 use Rattle.std.proofs.lemmas.Bool.{and_parts, eqb-true}
-use Rattle.defs_text.specs.Position.{Position, position_after}
-use Rattle.yaml_chars.specs.Class.{is_alphanumeric, is_uri_mark, is_flow, is_uri, is_tag, is_alpha, is_blank}
+use Rattle.proof_lexers.proofs.Common.{after_class, and_then, At, begins_with, decoded, Fault, has_no_break, is_alpha, is_alphanumeric, is_at_gap, is_rest_of_line, is_same, is_tag, is_uri, is_uri_mark, leading, number, Position, position_after, Read, skip_while, UriFault}
+use Rattle.yaml_chars.specs.Class.{is_flow, is_blank}
 use Rattle.defs_token.specs.Token.{Tok}
-use Rattle.yaml_tokens.specs.declared.problem.Fault.{Fault}
-use Rattle.yaml_tokens.specs.declared.problem.Fault.TheVariants.{At}
 use Rattle.yaml_tokens.specs.declared.problem.Problem.{Problem}
 use Rattle.yaml_tokens.specs.declared.problem.Problem.TheVariants as problem
 use Rattle.defs_text.specs.Classes as classes
-use Rattle.defs_text.specs.Classes.{is_at_gap}
-use Rattle.defs_text.specs.Breaks.{is_rest_of_line, has_no_break}
-use Rattle.defs_text.specs.FlowScalar.{begins_with}
-use Rattle.defs_text.specs.Tags.{UriFault, leading, after, is_same, decoded, is_handle}
+use Rattle.defs_text.specs.Tags.{after, is_handle}
 use Rattle.defs_text.specs.Directives as defs
 use Rattle.defs_text.specs.Directives.{Directive, tag_declaration, reserved, number_of, version_by, minor_of, version_of, prefix_by, begins_prefix, prefix_of, handle_and_rest, declaration_by, declaration_of, directive_by, directive_of}
-use Rattle.model_scanner.specs.Machine.{Read, past, and_then, skip_while}
+use Rattle.model_scanner.specs.Machine.{past}
 use Rattle.model_scanner.specs.Blanks.{blanks}
 use Rattle.model_scanner.specs.Tag.{handle, prefix}
-use Rattle.model_scanner.specs.Directive.{version, tag, unknown, kind, name, number, with_minor, after_major, version_value, with_prefix, prefix_after, tag_value, value, line_end, with_end, after_value, after_name, directive}
+use Rattle.model_scanner.specs.Directive.{version, tag, unknown, kind, name, with_minor, after_major, version_value, with_prefix, prefix_after, tag_value, value, line_end, with_end, after_value, after_name, directive}
 use Rattle.proof_lexers.proofs.Bridges.{same_blank, same_alpha, same_tag}
 use Rattle.proof_lexers.specs.NameEnds.{further}
-use Rattle.proof_lexers.specs.UriEnds.{problem_of, after_class}
+use Rattle.proof_lexers.specs.UriEnds.{problem_of}
 use Rattle.proof_lexers.specs.DirectiveEnds.{token_of, ends_line, first_break, next_line, after_line, IsNoVersion, no_major, long_major, no_point, no_minor, long_minor, IsNoDeclaration, no_mark, open_name, no_prefix, by_octets, goes_on, IsDirectiveRefusal, no_name, by_name, by_version, by_declaration, by_comment, after_version, after_declaration, DirectiveEndsAs, reads, refuses}
 use Rattle.proof_lexers.specs.ScalarLaws.{DirectivesAreRead, DirectivesEndAsTheirTextSays}
 use Rattle.proof_lexers.proofs.Separation.Positions.{position_append, position_in_line}

@@ -2,23 +2,17 @@
 use Rattle.std.proofs.Common.{◌≡◌, ℕ, suc, ◌+◌, ◌-◌, ◌*◌, ◌≤◌, List, [], ◌∷◌, ◌++◌, Bool, true, false, ◌&&◌, ◌||◌, ◌==◌, not, nat_le, if◌then◌else◌, take, drop, length, slice_index, Result, Ok, Err, codes, refl, ap, sym, ◌∙◌, arith}
 use Rattle.std.proofs.lemmas.Bool.{and_parts, eqb-true}
 use Rattle.std.proofs.lemmas.Bool.Decides.{nat_tests}
-use Rattle.defs_text.specs.Position.{Position, position_past, position_after}
-use Rattle.yaml_chars.specs.Class.{is_break, is_blank, is_blank_or_breakz, is_digit, is_alphanumeric, is_alpha}
-use Rattle.defs_text.specs.Text.{is_empty}
-use Rattle.yaml_tokens.specs.declared.problem.Fault.{Fault}
-use Rattle.yaml_tokens.specs.declared.problem.Fault.TheVariants.{At}
+use Rattle.proof_lexers.proofs.Common.{all_of, and_then, At, begins_with, Fault, has_no_break, is_alpha, is_alphanumeric, is_at_gap, is_before_line_feed, is_blank_or_breakz, is_cr_lf, is_empty, is_line, is_rest_of_line, is_same, leading, number, past_break, Position, position_after, position_past, Read, skip_while, Whitespace}
+use Rattle.yaml_chars.specs.Class.{is_break, is_blank, is_digit}
 use Rattle.yaml_tokens.specs.declared.problem.Problem.TheVariants as problem
 use Rattle.defs_text.specs.Classes as classes
-use Rattle.defs_text.specs.Classes.{is_at_gap}
-use Rattle.defs_text.specs.Breaks.{is_before_line_feed, is_blanks_and_comment, is_rest_of_line, has_no_break}
-use Rattle.defs_text.specs.FlowScalar.{begins_with}
-use Rattle.defs_text.specs.Tags.{all_of, leading, after, is_same}
+use Rattle.defs_text.specs.Breaks.{is_blanks_and_comment}
+use Rattle.defs_text.specs.Tags.{after}
 use Rattle.defs_text.specs.Directives.{decimal_value}
 use Rattle.model_scanner.specs.declared.context.SkipTabs.TheVariants.{Yes}
-use Rattle.model_scanner.specs.declared.context.Whitespace.{Whitespace}
-use Rattle.model_scanner.specs.Machine.{Stop, run, walk, Read, and_then, past, past_break, is_cr_lf, skip_while}
-use Rattle.model_scanner.specs.Blanks.{is_line, Spaces, space_step, spaces_end, with_found, space}
-use Rattle.model_scanner.specs.Directive.{version, tag, unknown, kind, Digits, digit_turn, digits_end, number, directive_break, line_end}
+use Rattle.model_scanner.specs.Machine.{Stop, run, walk, past}
+use Rattle.model_scanner.specs.Blanks.{Spaces, space_step, spaces_end, with_found, space}
+use Rattle.model_scanner.specs.Directive.{version, tag, unknown, kind, Digits, digit_turn, digits_end, directive_break, line_end}
 use Rattle.proof_lexers.proofs.Bridges.{same_break, same_gap, same_alpha}
 use Rattle.proof_lexers.specs.NameEnds.{further}
 use Rattle.proof_lexers.specs.DirectiveEnds.{ends_line, first_break, next_line}

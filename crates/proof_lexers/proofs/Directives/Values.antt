@@ -1,17 +1,13 @@
 -- The numbers of a version, and the handle and the prefix of a declaration, as the model reads them in a line.
 use Rattle.std.proofs.Common.{◌≡◌, ℕ, suc, ◌+◌, List, [], ◌∷◌, ◌++◌, Bool, true, false, ◌==◌, nat_le, if◌then◌else◌, length, slice_index, Some, None, Result, Ok, Err, refl, ap, sym, ◌∙◌, arith, append_assoc, length-append}
 use Rattle.std.proofs.lemmas.Bool.{and_parts, eqb-true}
-use Rattle.defs_text.specs.Position.{Position}
-use Rattle.defs_text.specs.Text.{is_empty}
-use Rattle.yaml_tokens.specs.declared.problem.Fault.{Fault}
-use Rattle.yaml_tokens.specs.declared.problem.Fault.TheVariants.{At}
+use Rattle.proof_lexers.proofs.Common.{all_of, At, Fault, is_empty, is_same, leading, number, Position, Read}
 use Rattle.yaml_tokens.specs.declared.problem.Problem.TheVariants as problem
 use Rattle.defs_text.specs.Classes as classes
-use Rattle.defs_text.specs.Tags.{all_of, leading, after, is_same, begins_with_mark, is_marked_name, is_handle}
+use Rattle.defs_text.specs.Tags.{after, begins_with_mark, is_marked_name, is_handle}
 use Rattle.defs_text.specs.Directives.{decimal_value, number_of, name_and_mark, handle_and_rest}
-use Rattle.model_scanner.specs.Machine.{Read, past}
+use Rattle.model_scanner.specs.Machine.{past}
 use Rattle.model_scanner.specs.Tag.{handle_end, handle}
-use Rattle.model_scanner.specs.Directive.{number}
 use Rattle.proof_lexers.specs.NameEnds.{further}
 use Rattle.proof_lexers.specs.DirectiveEnds.{ends_line}
 use Rattle.proof_lexers.proofs.Properties.Tags.{begins_in, span_cut, all_leading, word}

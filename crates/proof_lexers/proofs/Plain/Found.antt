@@ -1,19 +1,12 @@
 -- What a plain scalar's scan finds from a position in it on, and what one character before that adds.
 use Rattle.std.proofs.Common.{◌≡◌, ℕ, List, [], ◌∷◌, ◌++◌, Bool, true, false, ◌||◌, ◌&&◌, not, ◌==◌, if◌then◌else◌, Option, Result, Ok, Err, refl, ap, sym, ◌∙◌, subst, append_assoc, arith, nat_lt}
 use Rattle.std.proofs.lemmas.Bool.{and_parts}
-use Rattle.defs_text.specs.Position.{Position, position_past, position_after}
-use Rattle.yaml_tokens.specs.declared.problem.Fault.{Fault}
-use Rattle.yaml_tokens.specs.declared.problem.Fault.TheVariants.{At}
+use Rattle.proof_lexers.proofs.Common.{At, begins_flow, begins_token, collection_of, Context, ends_plain, ends_with_content, Fault, Folded, has_break, is_before_line_feed, is_blanks, is_white, joined, on_line, Plain, Position, position_after, position_past, Read, Stand, with_break}
 use Rattle.yaml_tokens.specs.declared.problem.Problem.TheVariants as problem
 use Rattle.defs_text.specs.Classes.{is_blank, is_break, is_flow}
-use Rattle.defs_text.specs.Breaks.{is_before_line_feed}
-use Rattle.defs_token.specs.Separation.{is_blanks}
-use Rattle.defs_token.specs.Plain.{Stand, inside, on_line, past, begins_flow, ends_plain, goes_on, stops, ends_with_content}
-use Rattle.model_scanner.specs.declared.context.Context.{Context}
-use Rattle.model_scanner.specs.Machine.{Read}
-use Rattle.model_scanner.specs.Folding.{Folded, with_char, with_blank, with_break, joined}
-use Rattle.model_scanner.specs.Plain.{Plain}
-use Rattle.proof_lexers.specs.PlainEnds.{collection_of, is_white, is_gap, begins_white, begins_token, has_break, stand_after, is_apart}
+use Rattle.defs_token.specs.Plain.{inside, past, goes_on, stops}
+use Rattle.model_scanner.specs.Folding.{with_char, with_blank}
+use Rattle.proof_lexers.specs.PlainEnds.{is_gap, begins_white, stand_after, is_apart}
 
 -- ---- the buffers, a character at a time
 

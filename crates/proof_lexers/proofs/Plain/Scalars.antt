@@ -2,21 +2,15 @@
 use Rattle.std.proofs.Common.{◌≡◌, ℕ, suc, ◌+◌, List, [], ◌∷◌, ◌++◌, Bool, true, false, ◌||◌, ◌&&◌, not, Option, Some, Result, refl, ap, sym, ◌∙◌, arith, nat_lt, nat_le}
 use Rattle.std.proofs.lemmas.Bool.{and_parts}
 use Rattle.std.proofs.lemmas.Bool.Decides.{nat_tests}
-use Rattle.defs_text.specs.Position.{Position, position_after}
-use Rattle.yaml_tokens.specs.declared.problem.Fault.{Fault}
-use Rattle.yaml_tokens.specs.declared.problem.Fault.TheVariants.{At}
+use Rattle.proof_lexers.proofs.Common.{At, begins_flow, collection_of, Context, ends_plain, ends_with_content, Fault, Folded, has_document_marker, has_no_nul, is_white, joined, nothing, Plain, plain_value, Position, position_after, Read, Stand}
 use Rattle.yaml_tokens.specs.declared.problem.Problem.TheVariants as problem
 use Rattle.defs_text.specs.Classes.{is_blank, is_break}
-use Rattle.defs_text.specs.FlowScalar.{has_document_marker, plain_value}
-use Rattle.defs_token.specs.Plain.{Stand, past, begins_flow, ends_plain, goes_on, stops, ends_with_content, is_whole_plain}
+use Rattle.defs_token.specs.Plain.{past, goes_on, stops, is_whole_plain}
 use Rattle.defs_token.specs.Plain as defs
-use Rattle.model_scanner.specs.declared.context.Context.{Context}
 use Rattle.model_scanner.specs.Machine as machine
-use Rattle.model_scanner.specs.Machine.{Read}
-use Rattle.model_scanner.specs.Folding.{Folded, nothing, with_char, joined}
-use Rattle.model_scanner.specs.Plain.{inside, first, is_shallow, at_dash, plain_from, plain, starts, Plain}
-use Rattle.defs_text.specs.Text.{has_no_nul}
-use Rattle.proof_lexers.specs.PlainEnds.{collection_of, is_white, begins_solid, is_indented, stand_after, goes_over, HasTab, begins_left, IsPlainRefusal, by_column, by_dash, by_tab, PlainEndsAs, reads, refuses, IsRead, read, refused}
+use Rattle.model_scanner.specs.Folding.{with_char}
+use Rattle.model_scanner.specs.Plain.{inside, first, is_shallow, at_dash, plain_from, plain, starts}
+use Rattle.proof_lexers.specs.PlainEnds.{begins_solid, is_indented, stand_after, goes_over, HasTab, begins_left, IsPlainRefusal, by_column, by_dash, by_tab, PlainEndsAs, reads, refuses, IsRead, read, refused}
 use Rattle.proof_lexers.specs.ScalarLaws.{PlainScalarsAreRead, PlainScansEndAsTheirTextSays}
 use Rattle.proof_lexers.proofs.Plain.Found.{after_text, after_more, Tabbed, Fails, dash, tabbed, tab, after_tab, further_on, flow_untabbed, Found, found, fails, same_left, no_lead, content_char, solid_first, past_content}
 use Rattle.proof_lexers.proofs.Plain.Turns.{off_margin, in_line_position, in_line, dash_parts}

@@ -2,21 +2,15 @@
 use Rattle.std.proofs.Common.{◌≡◌, ℕ, suc, ◌+◌, List, [], ◌∷◌, Bool, true, false, ◌||◌, ◌&&◌, not, ◌==◌, Result, Ok, refl, ap, ◌∙◌, append-nil, arith, nat_lt, slice_index}
 use Rattle.std.proofs.lemmas.Bool.{and_parts, eqb-true}
 use Rattle.std.proofs.lemmas.Bool.Decides.{nat_tests}
-use Rattle.defs_text.specs.Position.{Position}
+use Rattle.proof_lexers.proofs.Common.{At, at_marker, begins_flow, collection_of, Context, ends_at_colon, ends_plain, Fault, Folded, has_no_nul, is_white, on_line, Plain, Position, Read, Stand}
 use Rattle.yaml_chars.specs.Class.{is_break, is_blank}
-use Rattle.yaml_tokens.specs.declared.problem.Fault.{Fault}
-use Rattle.yaml_tokens.specs.declared.problem.Fault.TheVariants.{At}
 use Rattle.yaml_tokens.specs.declared.problem.Problem.TheVariants as problem
 use Rattle.defs_text.specs.Classes as classes
-use Rattle.defs_token.specs.Plain.{Stand, on_line, after_blank, begins_flow, ends_at_colon, ends_plain, stops}
+use Rattle.defs_token.specs.Plain.{after_blank, stops}
 use Rattle.defs_token.specs.Plain as defs
-use Rattle.model_scanner.specs.declared.context.Context.{Context}
-use Rattle.model_scanner.specs.Machine.{Read, at_marker}
-use Rattle.model_scanner.specs.Folding.{Folded}
-use Rattle.model_scanner.specs.Plain.{inside, between, tabs, can_be_plain, is_shallow, Plain}
+use Rattle.model_scanner.specs.Plain.{inside, between, tabs, can_be_plain, is_shallow}
 use Rattle.proof_lexers.proofs.Bridges.{same_break, same_blank}
-use Rattle.defs_text.specs.Text.{has_no_nul}
-use Rattle.proof_lexers.specs.PlainEnds.{collection_of, is_white, is_apart}
+use Rattle.proof_lexers.specs.PlainEnds.{is_apart}
 use Rattle.proof_lexers.proofs.Plain.Found.{dash_untabbed, dash, tabbed, tab, after_tab, Found, fails}
 use Rattle.proof_lexers.proofs.Plain.Turns.{off_margin, as_deep, can_be, line_is, no_line, in_text, scan, in_line, after_blanks, at_line, at_tabs, at_feed, Scans, found_here, break_step, blank_step, no_tabs, still_inside, content_step, Outcome, stopped, went, dashed, outcome, ends_over, ends_comment}
 

@@ -2,23 +2,17 @@
 use Rattle.std.proofs.Common.{◌≡◌, ℕ, zero, suc, ◌+◌, List, [], ◌∷◌, ◌++◌, Bool, true, false, ◌||◌, ◌&&◌, not, ◌==◌, if◌then◌else◌, Result, Ok, Err, refl, ap, sym, ◌∙◌, arith, nat_lt, slice_index}
 use Rattle.std.proofs.lemmas.Bool.{and_parts, eqb-true}
 use Rattle.std.proofs.lemmas.Bool.Decides.{nat_tests}
-use Rattle.defs_text.specs.Position.{Position, position_past}
-use Rattle.yaml_chars.specs.Class.{is_break, is_blank, is_blank_or_breakz, is_flow}
-use Rattle.yaml_tokens.specs.declared.problem.Fault.{Fault}
-use Rattle.yaml_tokens.specs.declared.problem.Fault.TheVariants.{At}
+use Rattle.proof_lexers.proofs.Common.{At, at_marker, begins_flow, begins_token, collection_of, Context, ends_at_colon, ends_plain, Fault, Folded, is_before_line_feed, is_blank_or_breakz, is_blanks, is_cr_lf, is_document_marker, is_white, joined, on_line, past_break, Plain, Position, position_past, Read, Stand, with_break}
+use Rattle.yaml_chars.specs.Class.{is_break, is_blank, is_flow}
 use Rattle.yaml_tokens.specs.declared.problem.Problem.TheVariants as problem
 use Rattle.defs_text.specs.Classes as classes
-use Rattle.defs_text.specs.Classes.{is_document_marker}
-use Rattle.defs_text.specs.Breaks.{is_before_line_feed}
-use Rattle.defs_token.specs.Separation.{is_blanks}
-use Rattle.defs_token.specs.Plain.{Stand, on_line, after_blank, begins_flow, is_value_indicator, ends_at_colon, ends_at_comment, is_deeper, ends_at_line, ends_plain, stops}
+use Rattle.defs_token.specs.Plain.{after_blank, is_value_indicator, ends_at_comment, is_deeper, ends_at_line, stops}
 use Rattle.defs_token.specs.Plain as defs
-use Rattle.model_scanner.specs.declared.context.Context.{Context}
-use Rattle.model_scanner.specs.Machine.{Read, past, past_break, is_cr_lf, at_marker}
-use Rattle.model_scanner.specs.Folding.{Folded, with_char, with_blank, with_break, joined}
-use Rattle.model_scanner.specs.Plain.{Mode, inside, between, tabs, at_break, can_be_plain, is_shallow, at_dash, at_plain, goes_on, plain_from, Plain}
+use Rattle.model_scanner.specs.Machine.{past}
+use Rattle.model_scanner.specs.Folding.{with_char, with_blank}
+use Rattle.model_scanner.specs.Plain.{Mode, inside, between, tabs, at_break, can_be_plain, is_shallow, at_dash, at_plain, goes_on, plain_from}
 use Rattle.proof_lexers.proofs.Bridges.{both, same_break, same_blank, same_gap, same_flow, same_marker}
-use Rattle.proof_lexers.specs.PlainEnds.{collection_of, is_white, begins_white, begins_token}
+use Rattle.proof_lexers.specs.PlainEnds.{begins_white}
 use Rattle.proof_lexers.proofs.Plain.Found.{after_char, tab_blank, Tabbed, Moves, Fails, Found, found, found_on, further, after_gap, after_content}
 
 pub or_true : (b : Bool) → (b || true) ≡ true

@@ -1,14 +1,11 @@
 -- The buffers after a plain scalar have its value, and no line of it begins with a document marker.
 use Rattle.std.proofs.Common.{◌≡◌, ℕ, zero, suc, List, [], ◌∷◌, ◌++◌, Bool, true, false, ◌||◌, ◌&&◌, not, ◌==◌, if◌then◌else◌, Option, Some, refl, ap, sym, ◌∙◌, append-nil, drop}
 use Rattle.std.proofs.lemmas.Bool.{and_parts, eqb-true}
-use Rattle.defs_text.specs.Classes.{is_blank, is_break, is_blank_or_end, is_nul, are_marks, is_document_marker}
-use Rattle.defs_text.specs.Breaks.{is_before_line_feed}
-use Rattle.defs_text.specs.FlowScalar.{Element, content, blank, line_break, Spelled, break_further, plain_element, elements, begins_with_marker, has_document_marker, plain_value}
-use Rattle.defs_token.specs.Plain.{Stand, on_line, past, begins_flow, ends_at_colon, goes_on, ends_plain, ends_with_content}
-use Rattle.model_scanner.specs.Folding.{Folded, nothing, with_break, joined}
-use Rattle.proof_lexers.specs.Buffers.{after_element, after_elements}
+use Rattle.proof_lexers.proofs.Common.{after_element, after_elements, are_marks, begins_flow, begins_with_marker, blank, break_further, Element, elements, ends_at_colon, ends_plain, ends_with_content, Folded, has_document_marker, is_before_line_feed, is_blank_or_end, is_document_marker, is_nul, is_white, joined, line_break, nothing, on_line, plain_element, plain_value, Spelled, Stand, with_break}
+use Rattle.defs_text.specs.Classes.{is_blank, is_break}
+use Rattle.defs_text.specs.FlowScalar.{content}
+use Rattle.defs_token.specs.Plain.{past, goes_on}
 use Rattle.proof_lexers.proofs.Fold.{buffers_join}
-use Rattle.proof_lexers.specs.PlainEnds.{is_white}
 use Rattle.proof_lexers.proofs.Plain.Found.{after_char, after_text}
 use Rattle.proof_lexers.proofs.Plain.Turns.{in_text, by_line_true}
 

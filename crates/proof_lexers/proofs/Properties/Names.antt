@@ -1,10 +1,9 @@
 -- The names of anchors and aliases are read as they stand.
 use Rattle.std.proofs.Common.{◌≡◌, ℕ, suc, ◌+◌, List, [], ◌∷◌, ◌++◌, Bool, true, false, not, Ok, refl, ap, sym, ◌∙◌, append_assoc, append-nil, length, arith}
 use Rattle.std.proofs.lemmas.Bool.{and_parts}
-use Rattle.defs_text.specs.Position.{Position}
+use Rattle.proof_lexers.proofs.Common.{all_of, Position}
 use Rattle.yaml_chars.specs.Class.{is_anchor}
 use Rattle.defs_text.specs.Classes.{is_anchor_name}
-use Rattle.defs_text.specs.Tags.{all_of}
 use Rattle.model_scanner.specs.Machine.{past, take_while}
 use Rattle.model_scanner.specs.Anchor.{some_name, anchor_name}
 use Rattle.defs_token.specs.Piece.{goes_on_with_name}

@@ -1,19 +1,14 @@
 -- Each tag is read as it is written.
 use Rattle.std.proofs.Common.{◌≡◌, ℕ, suc, ◌+◌, List, [], ◌∷◌, ◌++◌, Bool, true, false, ◌&&◌, ◌||◌, ◌==◌, if◌then◌else◌, Option, Some, None, Result, Ok, Err, codes, refl, ap, sym, ◌∙◌, append_assoc, length, length-append, slice_index}
 use Rattle.std.proofs.lemmas.Bool.{and_parts, eqb-true}
-use Rattle.defs_text.specs.Position.{Position}
-use Rattle.yaml_chars.specs.Class.{is_uri, is_tag}
-use Rattle.defs_text.specs.Text.{is_empty}
+use Rattle.proof_lexers.proofs.Common.{after_class, all_of, and_then, decoded, Fault, is_at_gap, is_empty, is_same, is_tag, is_uri, leading, Position, Read, uri_character, UriFault}
 use Rattle.model_scanner.specs.Uri.{uri}
-use Rattle.yaml_tokens.specs.declared.problem.Fault.{Fault}
 use Rattle.defs_text.specs.Classes as classes
-use Rattle.defs_text.specs.Classes.{is_at_gap}
 use Rattle.defs_text.specs.Tags as defs
-use Rattle.defs_text.specs.Tags.{UriFault, all_of, leading, after, is_same, uri_character, decoded, tag_by, tag_of_class, written_tag}
-use Rattle.model_scanner.specs.Machine.{Read, past, and_then}
+use Rattle.defs_text.specs.Tags.{after, tag_by, tag_of_class, written_tag}
+use Rattle.model_scanner.specs.Machine.{past}
 use Rattle.model_scanner.specs.Tag.{Tag, read_tag, verbatim_end, verbatim, some_suffix, named, local, after_name, shorthand, tag_end, tag}
 use Rattle.proof_lexers.specs.NameEnds.{further}
-use Rattle.proof_lexers.specs.UriEnds.{after_class}
 use Rattle.proof_lexers.specs.TagEnds.{may_follow, after_tag}
 use Rattle.proof_lexers.specs.ScalarLaws.{TagsAreRead}
 use Rattle.proof_lexers.proofs.Properties.Uris.{uris_are_read}

@@ -2,21 +2,17 @@
 use Rattle.std.proofs.Common.{◌≡◌, ℕ, suc, ◌+◌, List, [], ◌∷◌, ◌++◌, Bool, true, false, ◌||◌, ◌==◌, if◌then◌else◌, Some, Result, Ok, Err, refl, ap, sym, ◌∙◌, arith, append_assoc, append-nil, length, length-append, slice_index, codes}
 use Rattle.std.proofs.lemmas.Bool.{and_parts, eqb-true}
 use Rattle.std.proofs.lemmas.Bool.Decides.{nat_tests}
-use Rattle.defs_text.specs.Position.{Position}
-use Rattle.yaml_chars.specs.Class.{is_alphanumeric, is_alpha, is_blank, is_break, is_blank_or_breakz, is_flow, is_uri, is_uri_mark, is_tag}
-use Rattle.defs_text.specs.Text.{is_empty}
-use Rattle.yaml_tokens.specs.declared.problem.Fault.{Fault}
+use Rattle.proof_lexers.proofs.Common.{after_class, all_of, and_then, begins_with, decoded, Fault, is_alpha, is_alphanumeric, is_at_gap, is_blank_or_breakz, is_empty, is_same, is_tag, is_uri, is_uri_mark, leading, Position, Read, uri_character, UriFault}
+use Rattle.yaml_chars.specs.Class.{is_blank, is_break, is_flow}
 use Rattle.yaml_tokens.specs.declared.problem.Problem.TheVariants as problem
 use Rattle.defs_text.specs.Classes as classes
-use Rattle.defs_text.specs.Classes.{is_at_gap}
-use Rattle.defs_text.specs.FlowScalar.{begins_with}
 use Rattle.defs_text.specs.Tags as defs
-use Rattle.defs_text.specs.Tags.{UriFault, all_of, leading, after, is_same, decoded, decoded_after, uri_character, put_code, tag_by, tag_of_class, written_tag}
-use Rattle.model_scanner.specs.Machine.{Read, past, and_then, take_while}
+use Rattle.defs_text.specs.Tags.{after, decoded_after, put_code, tag_by, tag_of_class, written_tag}
+use Rattle.model_scanner.specs.Machine.{past, take_while}
 use Rattle.model_scanner.specs.Tag.{Tag, read_tag, verbatim_end, verbatim, some_suffix, named, local, after_name, shorthand, ends_tag, tag_end, tag}
 use Rattle.proof_lexers.proofs.Bridges.{same_gap, same_flow, same_alpha, same_tag}
 use Rattle.proof_lexers.specs.NameEnds.{further}
-use Rattle.proof_lexers.specs.UriEnds.{problem_of, after_class}
+use Rattle.proof_lexers.specs.UriEnds.{problem_of}
 use Rattle.proof_lexers.specs.TagEnds.{may_follow, IsTagRefusal, verbatim_octets, unclosed, verbatim_goes_on, suffix_octets, no_suffix, suffix_goes_on, local_octets, local_goes_on, TagEndsAs, reads, refuses}
 use Rattle.proof_lexers.specs.ScalarLaws.{TagsEndAsTheirTextSays}
 use Rattle.proof_lexers.proofs.Properties.Names.{one_further, none_further}

@@ -3,22 +3,18 @@ use Rattle.std.proofs.Common.{◌≡◌, ℕ, zero, suc, ◌+◌, ◌-◌, ◌*�
 use Rattle.std.specs.Char.{digit_value, is_digit}
 use Rattle.std.proofs.lemmas.Bool.{eqb-true}
 use Rattle.std.proofs.lemmas.Bool.Decides.{nat_tests}
-use Rattle.defs_text.specs.Position.{Position}
-use Rattle.yaml_chars.specs.Class.{is_hex, is_flow, is_alphanumeric, is_uri_mark, is_uri, is_tag}
-use Rattle.yaml_tokens.specs.declared.problem.Fault.{Fault}
-use Rattle.yaml_tokens.specs.declared.problem.Fault.TheVariants.{At}
+use Rattle.proof_lexers.proofs.Common.{after_class, and_then, At, decoded, Fault, is_alphanumeric, is_character_code, is_hex, is_tag, is_uri, is_uri_mark, leading, Position, Read, uri_character, UriFault}
+use Rattle.yaml_chars.specs.Class.{is_flow}
 use Rattle.yaml_tokens.specs.declared.problem.Problem.TheVariants as problem
 use Rattle.defs_text.specs.Classes as classes
 use Rattle.defs_text.specs.Classes.{is_between}
-use Rattle.defs_text.specs.FlowScalar.{is_character_code}
-use Rattle.defs_text.specs.Tags.{leading, after, UriFault, wrong_trail, no_character, octet_at, Lead, lead_of, is_trail, trail_by, trails, checked, led_by, escaped_character, uri_character, put_code, code_followed, decoded_after, decoded}
-use Rattle.model_scanner.specs.Machine.{Read, past, and_then}
+use Rattle.defs_text.specs.Tags.{after, wrong_trail, no_character, octet_at, Lead, lead_of, is_trail, trail_by, trails, checked, led_by, escaped_character, put_code, code_followed, decoded_after}
+use Rattle.model_scanner.specs.Machine.{past}
 use Rattle.model_scanner.specs.Uri.{Octet, lead, trail, plain, high, UriState, at_trail, at_octet, uri_from, octet_from, trails_from}
 use Rattle.model_scanner.proofs.UriLemmas.{low_turn}
 use Rattle.proof_lexers.proofs.Bridges.{same_digit, same_code, same_uri, same_tag, both}
 use Rattle.proof_lexers.specs.NameEnds.{further}
 use Rattle.proof_lexers.specs.ScalarLaws.{UrisAreRead}
-use Rattle.proof_lexers.specs.UriEnds.{after_class}
 use Rattle.proof_lexers.proofs.Properties.Names.{one_further, none_further}
 
 -- ---- octets

@@ -1,22 +1,15 @@
 -- The model over the elements of a body, up to its closing quote.
 use Rattle.std.proofs.Common.{◌≡◌, ℕ, zero, suc, ◌+◌, List, [], ◌∷◌, ◌++◌, Bool, true, false, ◌||◌, ◌&&◌, not, ◌==◌, if◌then◌else◌, Option, Some, None, Result, Ok, Err, refl, ap, sym, ◌∙◌, append-nil, nat_lt, slice_index, drop}
 use Rattle.std.proofs.lemmas.Bool.{not-true}
-use Rattle.defs_text.specs.Position.{Position}
+use Rattle.proof_lexers.proofs.Common.{after_element, after_elements, At, at_marker, by_line, Context, double_quoted_element, Element, element_of, elements, ends_before, Fault, Folded, gap, has_marker, is_document_marker, is_empty, IsShallow, joined, nothing, Position, quote_of, Read, Spelled}
 use Rattle.yaml_chars.specs.Class.{is_break, is_blank}
-use Rattle.defs_text.specs.Text.{is_empty}
-use Rattle.yaml_tokens.specs.declared.problem.Fault.{Fault}
-use Rattle.yaml_tokens.specs.declared.problem.Fault.TheVariants.{At}
 use Rattle.yaml_tokens.specs.declared.problem.Problem.TheVariants as problem
 use Rattle.defs_text.specs.Classes as classes
-use Rattle.defs_text.specs.Classes.{is_document_marker}
-use Rattle.defs_text.specs.FlowScalar.{Element, Spelled, elements, followed, put_before, double_quoted_element}
-use Rattle.model_scanner.specs.declared.context.Context.{Context}
-use Rattle.model_scanner.specs.Machine.{Read, past, at_marker}
-use Rattle.model_scanner.specs.Folding.{Folded, nothing, joined}
-use Rattle.model_scanner.specs.Quoted.{Mode, first, gap, inside, closed, quote_of, refused}
+use Rattle.defs_text.specs.FlowScalar.{followed, put_before}
+use Rattle.model_scanner.specs.Machine.{past}
+use Rattle.model_scanner.specs.Quoted.{Mode, first, inside, closed, refused}
 use Rattle.model_scanner.proofs.QuotedLemmas.{after_gap, after_quote, closed_end}
-use Rattle.proof_lexers.specs.Buffers.{after_element, after_elements}
-use Rattle.proof_lexers.specs.QuotedScan.{element_of, has_marker, ends_before, IsShallow, by_line, by_tab, IsRead, read, shallow}
+use Rattle.proof_lexers.specs.QuotedScan.{by_tab, IsRead, read, shallow}
 use Rattle.proof_lexers.proofs.Quoted.Turns.{no_marker, off_margin, Ready, in_gap, after_escaped, scan, Begun, begun, marked, begins, Step, steps, is_marked, is_shallow, StepOf, inside_is_gap, may_stand}
 use Rattle.proof_lexers.proofs.Quoted.Turns as turns
 use Rattle.proof_lexers.proofs.Quoted.Elements.{step}

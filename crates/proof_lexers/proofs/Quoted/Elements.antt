@@ -4,19 +4,15 @@ use Rattle.std.specs.List.{list_all}
 use Rattle.std.specs.Char.{digit_value, is_digit}
 use Rattle.std.proofs.lemmas.Bool.{and_parts, eqb-true}
 use Rattle.std.proofs.lemmas.Bool.Decides.{nat_tests}
-use Rattle.defs_text.specs.Position.{Position}
+use Rattle.proof_lexers.proofs.Common.{along, begins_with, break_further, by_line, Context, digits_from, double_quoted_element, element_of, escape, escape_by, escape_of, escaped_break, escapes, Fault, Folded, has_marker, hexadecimal, is_character_code, is_document_marker, joined, lookup, numbered, numeric_escape, numeric_escapes, past_break, Position, Read, single_quoted_element}
 use Rattle.yaml_chars.specs.Class.{is_break, is_blank}
-use Rattle.yaml_tokens.specs.declared.problem.Fault.{Fault}
 use Rattle.defs_text.specs.Classes as classes
-use Rattle.defs_text.specs.Classes.{is_document_marker}
-use Rattle.defs_text.specs.FlowScalar.{content, escaped_break, break_further, single_quoted_element, double_quoted_element, begins_with, lookup, escapes, numeric_escapes, hexadecimal, is_character_code, numbered, numeric_escape, escape_by, escape}
-use Rattle.model_scanner.specs.declared.context.Context.{Context}
-use Rattle.model_scanner.specs.Machine.{Read, past, past_break}
-use Rattle.model_scanner.specs.Folding.{Folded, with_char, with_escaped_break, joined}
-use Rattle.model_scanner.specs.Quoted.{inside, after, digits_from, Escape, escape_of}
+use Rattle.defs_text.specs.FlowScalar.{content}
+use Rattle.model_scanner.specs.Machine.{past}
+use Rattle.model_scanner.specs.Folding.{with_char, with_escaped_break}
+use Rattle.model_scanner.specs.Quoted.{inside, after, Escape}
 use Rattle.model_scanner.proofs.QuotedLemmas.{named_char, named_code, digit_turn, coded}
-use Rattle.proof_lexers.specs.QuotedScan.{element_of, is_some, has_marker, by_line}
-use Rattle.proof_lexers.specs.HeaderEnds.{along}
+use Rattle.proof_lexers.specs.QuotedScan.{is_some}
 use Rattle.proof_lexers.proofs.Bridges.{same_break, same_digit, same_code, same_escape, and_false}
 use Rattle.proof_lexers.proofs.Quoted.Turns.{feed_is_no_marker, after_escaped, scan, Begun, begun, marked, shallow, begins, Taken, Step, steps, is_marked, is_shallow, StepOf, spelled, content_step, itself_step}
 

@@ -2,17 +2,14 @@
 use Rattle.std.proofs.Common.{◌≡◌, ℕ, zero, suc, ◌+◌, ◌*◌, List, [], ◌∷◌, Bool, true, false, ◌==◌, if◌then◌else◌, Option, Some, None, Err, refl, ap, sym, ◌∙◌, arith, take, length}
 use Rattle.std.specs.Char.{digit_value, is_digit}
 use Rattle.std.proofs.lemmas.Bool.Decides.{nat_tests}
-use Rattle.defs_text.specs.Position.{Position}
+use Rattle.proof_lexers.proofs.Common.{At, break_further, Context, digits_from, escape, escape_by, escaped_break, escapes, Folded, hexadecimal, is_character_code, lookup, numbered, numeric_escape, numeric_escapes, Position}
 use Rattle.yaml_chars.specs.Class.{is_break, is_blank}
-use Rattle.yaml_tokens.specs.declared.problem.Fault.TheVariants.{At}
 use Rattle.yaml_tokens.specs.declared.problem.Problem.{Problem}
 use Rattle.yaml_tokens.specs.declared.problem.Problem.TheVariants as problem
 use Rattle.defs_text.specs.Classes as classes
-use Rattle.defs_text.specs.FlowScalar.{content, escaped_break, break_further, lookup, escapes, numeric_escapes, hexadecimal, is_character_code, numbered, numeric_escape, escape_by, escape}
-use Rattle.model_scanner.specs.declared.context.Context.{Context}
+use Rattle.defs_text.specs.FlowScalar.{content}
 use Rattle.model_scanner.specs.Machine.{past}
-use Rattle.model_scanner.specs.Folding.{Folded}
-use Rattle.model_scanner.specs.Quoted.{inside, named, digits_from}
+use Rattle.model_scanner.specs.Quoted.{inside, named}
 use Rattle.model_scanner.proofs.QuotedLemmas.{named_code, named_unknown, digit_turn, digit_fails, coded_fails}
 use Rattle.proof_lexers.specs.QuotedEnds.{number_at, IsBadEscape, ends, unknown, no_digit, no_character}
 use Rattle.proof_lexers.proofs.Bridges.{same_break, same_digit, same_code, same_escape}

@@ -2,16 +2,12 @@
 use Rattle.std.proofs.Common.{◌≡◌, ℕ, suc, ◌+◌, ◌*◌, ◌≤◌, List, [], ◌∷◌, ◌++◌, Bool, true, false, not, ◌||◌, ◌&&◌, ◌==◌, slice_index, flat_map, map, Result, Ok, refl, ap, ◌∙◌, append_assoc, append-nil, arith}
 use Rattle.std.specs.Char.{digit_value}
 use Rattle.std.proofs.lemmas.Bool.{ne_eqb, le-ltb}
-use Rattle.defs_text.specs.Position.{Position}
-use Rattle.yaml_chars.specs.Class.{is_break, is_blank, is_hex}
-use Rattle.yaml_tokens.specs.declared.problem.Fault.{Fault}
-use Rattle.model_scanner.specs.declared.context.Context.{Context}
-use Rattle.model_scanner.specs.Machine.{Read, past, at_marker}
-use Rattle.model_scanner.specs.Folding.{Folded, nothing}
-use Rattle.model_scanner.specs.Quoted.{QuotedState, inside, gap, quote_of, quoted, quoted_from, digits_from, refused, escape_of, is_scalar}
+use Rattle.proof_lexers.proofs.Common.{along, at_marker, Context, digits_from, escape_of, Fault, Folded, gap, is_hex, nothing, Position, quote_of, quoted, Read}
+use Rattle.yaml_chars.specs.Class.{is_break, is_blank}
+use Rattle.model_scanner.specs.Machine.{past}
+use Rattle.model_scanner.specs.Quoted.{QuotedState, inside, quoted_from, refused, is_scalar}
 use Rattle.model_scanner.specs.Quoted
 use Rattle.model_scanner.proofs.QuotedLemmas.{digit_turn, closed_end, coded}
-use Rattle.proof_lexers.specs.HeaderEnds.{along}
 use Rattle.proof_lexers.proofs.Along.{along_append, along_more}
 
 -- where the text of a line may stand

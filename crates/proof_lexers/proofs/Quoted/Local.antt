@@ -2,9 +2,9 @@
 use Rattle.std.proofs.Common.{◌≡◌, ℕ, zero, suc, ◌≤◌, List, [], ◌∷◌, ◌++◌, Bool, true, false, ◌&&◌, ◌==◌, if◌then◌else◌, Option, Some, None, refl, ap, ◌∙◌, arith, take, drop, length}
 use Rattle.std.proofs.lemmas.Bool.{eqb-true}
 use Rattle.std.proofs.lemmas.List.{take_at, take-append-le, length-take}
+use Rattle.proof_lexers.proofs.Common.{begins_with, break_further, double_quoted_element, element_of, elements, escape, escape_by, escaped_break, escapes, hexadecimal, is_character_code, line_break, lookup, numbered, numeric_escape, numeric_escapes, plain_element, single_quoted_element, Spelled}
 use Rattle.defs_text.specs.Classes as classes
-use Rattle.defs_text.specs.FlowScalar.{content, line_break, escaped_break, Spelled, break_further, plain_element, single_quoted_element, double_quoted_element, begins_with, lookup, escapes, numeric_escapes, hexadecimal, is_character_code, numbered, numeric_escape, escape_by, escape, elements}
-use Rattle.proof_lexers.specs.QuotedScan.{element_of}
+use Rattle.defs_text.specs.FlowScalar.{content}
 use Rattle.proof_lexers.proofs.Quoted.Turns.{spelled}
 
 -- The characters that belong to what a function finds at a text's start are there, and it finds it too where the text is cut after them, or goes on, if not with a line feed.

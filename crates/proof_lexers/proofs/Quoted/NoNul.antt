@@ -2,15 +2,11 @@
 use Rattle.std.proofs.Common.{◌≡◌, ℕ, zero, suc, ◌+◌, List, [], ◌∷◌, ◌++◌, Bool, true, false, ◌||◌, ◌&&◌, ◌==◌, Option, Some, None, refl, ap, ◌∙◌, drop, nat_lt, arith}
 use Rattle.std.specs.List.{list_all}
 use Rattle.std.proofs.lemmas.Bool.{and_parts, not-true, le-ltb}
-use Rattle.defs_text.specs.Position.{Position}
+use Rattle.proof_lexers.proofs.Common.{begins_with_marker, by_line, Context, Element, element_of, elements, has_document_marker, has_marker, is_document_marker, nothing, Position, quote_of, Spelled}
 use Rattle.defs_text.specs.Classes as classes
-use Rattle.defs_text.specs.Classes.{is_document_marker}
-use Rattle.defs_text.specs.FlowScalar.{Element, Spelled, elements, followed, put_before, begins_with_marker, has_document_marker}
-use Rattle.model_scanner.specs.declared.context.Context.{Context}
-use Rattle.model_scanner.specs.Folding.{nothing}
-use Rattle.model_scanner.specs.Quoted.{quote_of}
+use Rattle.defs_text.specs.FlowScalar.{followed, put_before}
 use Rattle.proof_lexers.proofs.Bridges.{and_false, or_false}
-use Rattle.proof_lexers.specs.QuotedScan.{element_of, is_some, has_marker, by_line, by_tab}
+use Rattle.proof_lexers.specs.QuotedScan.{is_some, by_tab}
 use Rattle.proof_lexers.proofs.Quoted.Turns.{no_marker, Step, steps, is_marked, is_shallow, StepOf}
 use Rattle.proof_lexers.proofs.Quoted.Elements.{step}
 

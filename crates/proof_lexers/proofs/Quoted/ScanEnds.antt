@@ -1,19 +1,12 @@
 -- Each scan of a quoted scalar ends as its text says.
 use Rattle.std.proofs.Common.{◌≡◌, ℕ, ◌+◌, List, [], ◌∷◌, ◌++◌, Bool, true, false, ◌&&◌, ◌==◌, Some, None, Result, refl, ap, sym, ◌∙◌, append-nil, slice_index}
-use Rattle.defs_text.specs.Position.{Position}
+use Rattle.proof_lexers.proofs.Common.{after_elements, At, by_line, Context, ends_before, escape, Fault, Folded, gap, has_marker, is_document_marker, IsShallow, joined, nothing, Position, quote_of, quoted, Read}
 use Rattle.yaml_chars.specs.Class.{is_break, is_blank}
-use Rattle.yaml_tokens.specs.declared.problem.Fault.{Fault}
-use Rattle.yaml_tokens.specs.declared.problem.Fault.TheVariants.{At}
 use Rattle.yaml_tokens.specs.declared.problem.Problem.TheVariants as problem
-use Rattle.defs_text.specs.Classes.{is_document_marker}
-use Rattle.defs_text.specs.FlowScalar.{escape}
-use Rattle.model_scanner.specs.declared.context.Context.{Context}
-use Rattle.model_scanner.specs.Machine.{Read, past}
-use Rattle.model_scanner.specs.Folding.{Folded, nothing, joined}
-use Rattle.model_scanner.specs.Quoted.{Mode, first, gap, quote_of, quoted}
+use Rattle.model_scanner.specs.Machine.{past}
+use Rattle.model_scanner.specs.Quoted.{Mode, first}
 use Rattle.model_scanner.proofs.QuotedLemmas.{after_gap}
-use Rattle.proof_lexers.specs.Buffers.{after_elements}
-use Rattle.proof_lexers.specs.QuotedScan.{value_of, has_marker, ends_before, IsShallow, by_line, IsRead, read, shallow}
+use Rattle.proof_lexers.specs.QuotedScan.{value_of, IsRead, read, shallow}
 use Rattle.proof_lexers.specs.QuotedScan as scans
 use Rattle.proof_lexers.specs.QuotedEnds.{HasElements, by_marker, by_end, by_escape, by_column, by_tab, QuotedEndsAs, reads, refuses}
 use Rattle.proof_lexers.specs.QuotedLaws.{QuotedScansEndAsTheirTextSays}

@@ -3,10 +3,10 @@ use Rattle.std.proofs.Common.{◌≡◌, ℕ, zero, suc, List, [], ◌∷◌, �
 use Rattle.std.specs.List.{list_all}
 use Rattle.std.proofs.lemmas.Bool.{and_parts, eqb-true, not-true}
 use Rattle.std.proofs.lemmas.List.{take-append-drop}
+use Rattle.proof_lexers.proofs.Common.{begins_with, blank, break_further, double_quoted_element, element_of, elements, ends_before, escape, line_break, plain_element, quote_of, single_quoted_element, Spelled}
 use Rattle.defs_text.specs.Classes as classes
-use Rattle.defs_text.specs.FlowScalar.{content, blank, line_break, Spelled, begins_with, break_further, plain_element, single_quoted_element, double_quoted_element, escape, elements}
-use Rattle.model_scanner.specs.Quoted.{quote_of}
-use Rattle.proof_lexers.specs.QuotedScan.{element_of, ends_before, is_some}
+use Rattle.defs_text.specs.FlowScalar.{content}
+use Rattle.proof_lexers.specs.QuotedScan.{is_some}
 use Rattle.proof_lexers.specs.QuotedEnds.{HasElements}
 use Rattle.proof_lexers.proofs.Quoted.Turns.{spelled}
 use Rattle.proof_lexers.proofs.Quoted.Local.{Local, LocalOf, local, after_some, after_own}

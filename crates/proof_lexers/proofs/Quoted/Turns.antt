@@ -3,21 +3,15 @@ use Rattle.std.proofs.Common.{◌≡◌, ℕ, ◌+◌, ◌≤◌, List, [], ◌�
 use Rattle.std.specs.List.{list_all}
 use Rattle.std.proofs.lemmas.Bool.{and_parts, eqb-true}
 use Rattle.std.proofs.lemmas.Bool.Decides.{nat_tests}
-use Rattle.defs_text.specs.Position.{Position}
+use Rattle.proof_lexers.proofs.Common.{after_element, along, At, at_marker, blank, break_further, by_line, Context, Element, Fault, Folded, gap, has_marker, is_document_marker, IsShallow, joined, line_break, past_break, plain_element, Position, quote_of, Read, Spelled}
 use Rattle.yaml_chars.specs.Class.{is_break, is_blank}
-use Rattle.yaml_tokens.specs.declared.problem.Fault.{Fault}
-use Rattle.yaml_tokens.specs.declared.problem.Fault.TheVariants.{At}
 use Rattle.yaml_tokens.specs.declared.problem.Problem.TheVariants as problem
 use Rattle.defs_text.specs.Classes as classes
-use Rattle.defs_text.specs.Classes.{is_document_marker}
-use Rattle.defs_text.specs.FlowScalar.{Element, content, blank, line_break, Spelled, break_further, plain_element}
-use Rattle.model_scanner.specs.declared.context.Context.{Context}
-use Rattle.model_scanner.specs.Machine.{Read, past, past_break, at_marker}
-use Rattle.model_scanner.specs.Folding.{Folded, with_char, joined}
-use Rattle.model_scanner.specs.Quoted.{Mode, inside, gap, after, quoted_from, quote_of, refused}
-use Rattle.proof_lexers.specs.Buffers.{after_element}
-use Rattle.proof_lexers.specs.QuotedScan.{is_some, has_marker, IsShallow, by_line, by_tab}
-use Rattle.proof_lexers.specs.HeaderEnds.{along}
+use Rattle.defs_text.specs.FlowScalar.{content}
+use Rattle.model_scanner.specs.Machine.{past}
+use Rattle.model_scanner.specs.Folding.{with_char}
+use Rattle.model_scanner.specs.Quoted.{Mode, inside, after, quoted_from, refused}
+use Rattle.proof_lexers.specs.QuotedScan.{is_some, by_tab}
 use Rattle.proof_lexers.proofs.Along.{along_more}
 use Rattle.proof_lexers.proofs.Bridges.{same_break, same_blank, same_marker, and_false}
 

@@ -1,14 +1,10 @@
 -- Bodies with a value are read as it.
 use Rattle.std.proofs.Common.{◌≡◌, ℕ, ◌+◌, List, ◌∷◌, ◌++◌, Bool, true, false, ◌||◌, ◌&&◌, ◌==◌, if◌then◌else◌, Option, Some, None, Result, refl, ◌∙◌}
-use Rattle.defs_text.specs.Position.{Position}
-use Rattle.yaml_tokens.specs.declared.problem.Fault.{Fault}
-use Rattle.defs_text.specs.FlowScalar.{Element, elements, folded_elements, has_document_marker, single_quoted_value, double_quoted_value, lines_of, trimmed, folded}
-use Rattle.model_scanner.specs.declared.context.Context.{Context}
-use Rattle.model_scanner.specs.Machine.{Read, past}
-use Rattle.model_scanner.specs.Folding.{nothing, joined}
-use Rattle.model_scanner.specs.Quoted.{first, gap, quote_of, quoted}
-use Rattle.proof_lexers.specs.Buffers.{after_elements}
-use Rattle.proof_lexers.specs.QuotedScan.{element_of, value_of, has_marker, ends_before, by_line, by_tab, IsRead, read, shallow}
+use Rattle.proof_lexers.proofs.Common.{after_elements, by_line, Context, Element, element_of, elements, ends_before, Fault, gap, has_document_marker, has_marker, joined, nothing, Position, quote_of, quoted, Read}
+use Rattle.defs_text.specs.FlowScalar.{folded_elements, single_quoted_value, double_quoted_value, lines_of, trimmed, folded}
+use Rattle.model_scanner.specs.Machine.{past}
+use Rattle.model_scanner.specs.Quoted.{first}
+use Rattle.proof_lexers.specs.QuotedScan.{value_of, by_tab, IsRead, read, shallow}
 use Rattle.proof_lexers.specs.QuotedLaws.{QuotedBodiesAreRead}
 use Rattle.proof_lexers.proofs.Fold.{buffers_join}
 use Rattle.proof_lexers.proofs.Quoted.Turns.{off_margin, in_gap, scan}

@@ -2,13 +2,11 @@
 use Rattle.std.proofs.Common.{◌≡◌, ℕ, List, [], ◌∷◌, ◌++◌, Bool, true, false, ◌||◌, ◌==◌, not, Result, Ok, refl, ap, sym, ◌∙◌}
 use Rattle.std.proofs.lemmas.Bool.{and_parts}
 use Rattle.std.proofs.lemmas.List.{append_cancel_right}
-use Rattle.yaml_tokens.specs.declared.problem.Fault.{Fault}
-use Rattle.defs_text.specs.Classes.{is_blank, is_break, is_nul}
-use Rattle.defs_token.specs.Separation.{is_separation, past_separation}
-use Rattle.model_scanner.specs.State.{ScannerState}
+use Rattle.proof_lexers.proofs.Common.{after_separation, Fault, has_no_nul, is_nul, is_separation, ScannerState}
+use Rattle.defs_text.specs.Classes.{is_blank, is_break}
+use Rattle.defs_token.specs.Separation.{past_separation}
 use Rattle.model_scanner.specs.Space.{between, skip}
-use Rattle.defs_text.specs.Text.{has_no_nul}
-use Rattle.proof_lexers.specs.Separations.{begins_separation, after_separation, PassesAs, passes, refuses, IsPassed, passed, refused}
+use Rattle.proof_lexers.specs.Separations.{begins_separation, PassesAs, passes, refuses, IsPassed, passed, refused}
 use Rattle.proof_lexers.specs.ScalarLaws.{EachSeparationIsPassed}
 use Rattle.proof_lexers.proofs.Separation.Separations.{separations_are_passed}
 

@@ -1,9 +1,8 @@
 -- The position after two texts, and after a text of one line.
 use Rattle.std.proofs.Common.{◌≡◌, ℕ, List, [], ◌∷◌, ◌++◌, Bool, true, false, not, length, refl, ap, sym, ◌∙◌, append_assoc}
 use Rattle.std.proofs.lemmas.Bool.{and_parts}
-use Rattle.defs_text.specs.Position.{Position, position_past, position_after}
+use Rattle.proof_lexers.proofs.Common.{has_no_break, Position, position_after, position_past}
 use Rattle.defs_text.specs.Classes.{is_break}
-use Rattle.defs_text.specs.Breaks.{has_no_break}
 use Rattle.model_scanner.specs.Machine.{past}
 use Rattle.proof_lexers.specs.NameEnds.{further}
 use Rattle.proof_lexers.proofs.Plain.Turns.{in_line_position}

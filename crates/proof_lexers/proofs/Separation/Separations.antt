@@ -2,22 +2,16 @@
 use Rattle.std.proofs.Common.{◌≡◌, ℕ, suc, ◌+◌, List, [], ◌∷◌, ◌++◌, Bool, true, false, ◌||◌, ◌&&◌, not, ◌==◌, Result, Ok, Err, refl, ap, sym, ◌∙◌, arith, append_assoc, nat_lt}
 use Rattle.std.proofs.lemmas.Bool.{and_parts, eqb-true}
 use Rattle.std.proofs.lemmas.Bool.Decides.{nat_tests}
-use Rattle.defs_text.specs.Position.{Position, position_past, position_after}
-use Rattle.defs_text.specs.Text.{is_empty}
+use Rattle.proof_lexers.proofs.Common.{after_separation, At, begins_token, Fault, has_break, is_before_line_feed, is_blanks, is_cr_lf, is_empty, is_separation, is_white, past_break, Position, position_after, position_past, ScannerState}
 use Rattle.yaml_chars.specs.Class.{is_break, is_blank}
-use Rattle.yaml_tokens.specs.declared.problem.Fault.{Fault}
-use Rattle.yaml_tokens.specs.declared.problem.Fault.TheVariants.{At}
 use Rattle.yaml_tokens.specs.declared.problem.Problem.TheVariants as problem
 use Rattle.defs_text.specs.Classes as classes
-use Rattle.defs_text.specs.Breaks.{is_before_line_feed}
-use Rattle.defs_token.specs.Separation.{is_separation, is_blanks}
-use Rattle.model_scanner.specs.Machine.{past, past_break, is_cr_lf}
-use Rattle.model_scanner.specs.State.{Held, ScannerState, in_flow, moved}
+use Rattle.model_scanner.specs.Machine.{past}
+use Rattle.model_scanner.specs.State.{Held, in_flow, moved}
 use Rattle.model_scanner.specs.Space.{Gap, between, comment, tab_line, is_before_indent, skip}
 use Rattle.proof_lexers.proofs.Bridges.{same_break, same_blank}
-use Rattle.proof_lexers.specs.PlainEnds.{is_white, has_break, begins_token}
 use Rattle.proof_lexers.specs.ScalarLaws.{SeparationsArePassed}
-use Rattle.proof_lexers.specs.Separations.{begins_separation, after_separation, is_left, PassesAs, passes, refuses}
+use Rattle.proof_lexers.specs.Separations.{begins_separation, is_left, PassesAs, passes, refuses}
 use Rattle.proof_lexers.proofs.Plain.Turns.{same_feed, in_line_position, line_position, or_true}
 
 abbrev is_comment : Gap → Bool

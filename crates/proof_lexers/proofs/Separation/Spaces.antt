@@ -2,20 +2,14 @@
 use Rattle.std.proofs.Common.{◌≡◌, ℕ, List, [], ◌∷◌, ◌++◌, Bool, true, false, ◌||◌, ◌&&◌, ◌==◌, if◌then◌else◌, Result, Ok, Err, refl, ap, sym, ◌∙◌, arith}
 use Rattle.std.proofs.lemmas.Bool.{eqb-true}
 use Rattle.std.proofs.lemmas.Bool.Decides.{nat_tests}
-use Rattle.defs_text.specs.Position.{Position, position_past, position_after}
+use Rattle.proof_lexers.proofs.Common.{At, begins_with, Fault, has_break, is_line, is_separation, Position, position_after, position_past, Read, skip_while, Whitespace}
 use Rattle.yaml_chars.specs.Class.{is_break, is_blank}
-use Rattle.yaml_tokens.specs.declared.problem.Fault.{Fault}
-use Rattle.yaml_tokens.specs.declared.problem.Fault.TheVariants.{At}
 use Rattle.yaml_tokens.specs.declared.problem.Problem.TheVariants as problem
 use Rattle.defs_text.specs.Classes as classes
-use Rattle.defs_text.specs.FlowScalar.{begins_with}
-use Rattle.defs_token.specs.Separation.{is_separation}
 use Rattle.model_scanner.specs.declared.context.SkipTabs.{SkipTabs}
-use Rattle.model_scanner.specs.declared.context.Whitespace.{Whitespace}
-use Rattle.model_scanner.specs.Machine.{Read, past, skip_while}
-use Rattle.model_scanner.specs.Blanks.{is_line, are_skipped, with_found, comment_after, space_from, space}
+use Rattle.model_scanner.specs.Machine.{past}
+use Rattle.model_scanner.specs.Blanks.{are_skipped, with_found, comment_after, space_from, space}
 use Rattle.proof_lexers.proofs.Bridges.{same_break, same_blank}
-use Rattle.proof_lexers.specs.PlainEnds.{has_break}
 use Rattle.proof_lexers.specs.ScalarLaws.{SpacesArePassed}
 use Rattle.proof_lexers.specs.Separations.{after_space, has, are_spaces, ends_spaces, SpacesAs, spaces, glued}
 use Rattle.proof_lexers.proofs.Plain.Turns.{in_line_position, or_true, or_false}

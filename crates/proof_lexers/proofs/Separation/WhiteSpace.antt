@@ -1,22 +1,16 @@
 -- What the model passes after a `?` is a separation.
 use Rattle.std.proofs.Common.{◌≡◌, ℕ, List, [], ◌∷◌, ◌++◌, Bool, true, false, ◌||◌, not, ◌==◌, Result, Ok, Err, refl, ap, sym, ◌∙◌}
 use Rattle.std.proofs.lemmas.Bool.{eqb-true}
-use Rattle.defs_text.specs.Position.{Position, position_past, position_after}
+use Rattle.proof_lexers.proofs.Common.{after_separation, At, begins_with, Fault, has_break, is_before_line_feed, is_cr_lf, is_separation, past_break, Position, position_after, position_past, ScannerState}
 use Rattle.yaml_chars.specs.Class.{is_break, is_blank}
-use Rattle.yaml_tokens.specs.declared.problem.Fault.{Fault}
-use Rattle.yaml_tokens.specs.declared.problem.Fault.TheVariants.{At}
 use Rattle.yaml_tokens.specs.declared.problem.Problem.TheVariants as problem
 use Rattle.defs_text.specs.Classes as classes
-use Rattle.defs_text.specs.Breaks.{is_before_line_feed}
-use Rattle.defs_text.specs.FlowScalar.{begins_with}
-use Rattle.defs_token.specs.Separation.{is_separation}
-use Rattle.model_scanner.specs.Machine.{past, past_break, is_cr_lf}
-use Rattle.model_scanner.specs.State.{Held, ScannerState, in_flow, moved}
+use Rattle.model_scanner.specs.Machine.{past}
+use Rattle.model_scanner.specs.State.{Held, in_flow, moved}
 use Rattle.model_scanner.specs.Space.{white, white_end}
 use Rattle.proof_lexers.proofs.Bridges.{same_break}
-use Rattle.proof_lexers.specs.PlainEnds.{has_break}
 use Rattle.proof_lexers.specs.ScalarLaws.{WhiteSpaceIsPassed}
-use Rattle.proof_lexers.specs.Separations.{begins_white_space, after_separation, GoesOverAs, goes, misses}
+use Rattle.proof_lexers.specs.Separations.{begins_white_space, GoesOverAs, goes, misses}
 use Rattle.proof_lexers.proofs.Plain.Turns.{same_feed, in_line_position, line_position, or_true}
 use Rattle.proof_lexers.proofs.Separation.Separations.{at, Allows, begins_break, stayed, passes_more, same_allowed, line_allowed, feed_allowed, no_break_hash, fills_comment, fills_hash, fills_blank}
 

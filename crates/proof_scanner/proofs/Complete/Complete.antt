@@ -1,16 +1,9 @@
 -- The function of each token reads a step of the row, and so does each fetch; so a text that has a row is not refused.
 use Rattle.std.proofs.Common.{◌≡◌, ℕ, ◌+◌, List, [], ◌∷◌, true, if◌then◌else◌, Result, Ok, Err, refl, sym, subst}
-use Rattle.yaml_tokens.specs.declared.problem.Fault.{Fault}
+use Rattle.proof_scanner.proofs.Common.{FaresAt, Fault, fetch, fetch_here, fetch_next, fetch_stream_start, GoesHere, on_held, ScannerState, skip_to_next_token, stale, Succeeds, try_held, unroll_indent, ◌>>=◌}
 use Rattle.defs_token.specs.Step.{Step}
-use Rattle.model_scanner.specs.State.{ScannerState, ◌>>=◌, on_held, try_held}
-use Rattle.model_scanner.specs.Keys.{stale}
-use Rattle.model_scanner.specs.Indents.{unroll_indent}
-use Rattle.model_scanner.specs.Space.{skip_to_next_token}
-use Rattle.model_scanner.specs.Document.{fetch_stream_start}
-use Rattle.model_scanner.specs.Fetch.{fetch_here, fetch_next, fetch}
-use Rattle.proof_scanner.specs.Stands.{FaresAt}
 use Rattle.proof_scanner.specs.Ways.{Stop}
-use Rattle.proof_scanner.specs.Goes.{Succeeds, Goes, GoesHere, FetchReads, IsComplete}
+use Rattle.proof_scanner.specs.Goes.{Goes, FetchReads, IsComplete}
 use Rattle.proof_scanner.proofs.Complete.EachReads.{EachReads}
 use Rattle.proof_scanner.proofs.Complete.Runs.{read_by_row}
 use Rattle.proof_scanner.proofs.Complete.Around.Succeeds.{and_then}

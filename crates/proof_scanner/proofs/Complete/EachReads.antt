@@ -1,25 +1,15 @@
 -- What is to be shown of each function of the scanner's model, so that each fetch reads a step of the row.
 use Rattle.std.specs.Prelude.{◌≡◌, ℕ, List, ◌∷◌, Bool, true, if◌then◌else◌, Result}
-use Rattle.defs_text.specs.Classes.{is_at_gap}
-use Rattle.defs_text.specs.Text.{is_empty}
-use Rattle.defs_token.specs.Token.{Tok}
-use Rattle.defs_token.specs.Account.{is_adjacent, before_past, Before}
+use Rattle.proof_scanner.proofs.Common.{Before, before_past, comes_plain, FaresAt, Fault, fetch_anchor, fetch_block_entry, fetch_block_scalar, fetch_directive, fetch_document_end, fetch_document_marker, fetch_flow_collection_end, fetch_flow_collection_start, fetch_flow_entry, fetch_flow_scalar, fetch_key, fetch_plain_scalar, fetch_tag, fetch_value, GoesHere, in_flow, is_adjacent, is_at_gap, is_empty, Mapping, ScannerState, Succeeds, Tok}
 use Rattle.defs_token.specs.RowAccount.{before_by}
 use Rattle.defs_token.specs.Step.{Step}
-use Rattle.yaml_tokens.specs.declared.problem.Fault.{Fault}
 use Rattle.model_scanner.specs.Quoted.{quote_of}
-use Rattle.model_scanner.specs.declared.level.FlowLevel.TheVariants.{Mapping, Entry}
-use Rattle.model_scanner.specs.State.{ScannerState, in_flow}
-use Rattle.model_scanner.specs.Flow.{fetch_flow_collection_start, fetch_flow_collection_end, fetch_flow_entry}
-use Rattle.model_scanner.specs.Block.{fetch_block_entry, fetch_key, fetch_value}
-use Rattle.model_scanner.specs.Document.{fetch_directive, fetch_document_marker, fetch_document_end, fetch_anchor, fetch_tag, fetch_block_scalar, fetch_flow_scalar, fetch_plain_scalar}
+use Rattle.model_scanner.specs.declared.level.FlowLevel.TheVariants.{Entry}
 use Rattle.model_scanner.specs.Fetch.{is_value}
-use Rattle.proof_scanner.specs.PiecesRead.{comes_plain}
-use Rattle.proof_scanner.specs.Stands.{FaresAt}
 use Rattle.proof_scanner.proofs.Cut.Nodes.{IsDeep}
 use Rattle.proof_scanner.proofs.Sound.KeysBefore.{KeysBefore}
 use Rattle.proof_scanner.specs.Ways.{Stop}
-use Rattle.proof_scanner.specs.Goes.{Succeeds, Goes, GoesHere}
+use Rattle.proof_scanner.specs.Goes.{Goes}
 
 -- what the last piece and the separation up to the next one let a colon follow
 abbrev pub before_here : (text : List ℕ) (ws : List Step) (stop : Stop) (t : ScannerState) → GoesHere text ws stop t → Before

@@ -1,20 +1,14 @@
 -- Where a piece begins and the row goes on: the piece of its first step stands in the text here, whole, and is of the kind that the text says.
 use Rattle.std.proofs.Common.{◌≡◌, ℕ, List, [], ◌∷◌, ◌++◌, Bool, true, not, map, Option, refl, ap, sym, ◌∙◌}
-use Rattle.defs_text.specs.Position.{position_after}
-use Rattle.defs_text.specs.Text.{is_empty}
-use Rattle.defs_token.specs.Account.{is_adjacent, before_past}
+use Rattle.proof_scanner.proofs.Common.{before_past, context_of, entries_by, GoesHere, in_flow, is_adjacent, is_empty, is_renewed, Key, kind_at, may_stand, not_empty, position_after, ScannerState, seen, shown_position, spelled_to, Whole}
 use Rattle.defs_token.specs.Step.{Step}
-use Rattle.defs_token.specs.FlowEntry.{Entry, is_renewed}
-use Rattle.defs_token.specs.RowAccount.{Account, is_in_flow, may_stand, level_of, seen, before_by}
-use Rattle.defs_token.specs.Tokens.{shown_position}
-use Rattle.model_scanner.specs.State.{Key, ScannerState, in_flow}
-use Rattle.proof_row.specs.Ends.{kind_at}
-use Rattle.proof_row.proofs.Begins.{Context, context_of, Whole}
-use Rattle.proof_row.proofs.Written.{At, not_empty}
-use Rattle.proof_scanner.specs.Choices.{entries_by, chosen}
+use Rattle.defs_token.specs.FlowEntry.{Entry}
+use Rattle.defs_token.specs.RowAccount.{Account, is_in_flow, level_of, before_by}
+use Rattle.proof_row.proofs.Begins.{Context}
+use Rattle.proof_row.proofs.Written.{At}
+use Rattle.proof_scanner.specs.Choices.{chosen}
 use Rattle.proof_scanner.proofs.Sound.StreamEnds.{same_flow}
-use Rattle.proof_scanner.specs.Ways.{Stop, spelled_to}
-use Rattle.proof_scanner.specs.Goes.{GoesHere}
+use Rattle.proof_scanner.specs.Ways.{Stop}
 use Rattle.proof_scanner.proofs.Complete.EachReads.{before_here}
 use Rattle.proof_scanner.proofs.Complete.KindsOfPieces.{kind_is}
 use Rattle.proof_scanner.proofs.Complete.Steps.{step_here}

@@ -1,15 +1,9 @@
 -- If each fetch reads a step, the model reads steps with which a text begins, and gives a text that has a row the row's tokens.
 use Rattle.std.proofs.Common.{◌≡◌, ℕ, List, [], ◌∷◌, true, false, Some, Result, Ok, refl, ap, ◌∙◌}
-use Rattle.defs_token.specs.Step.{Step, Row, spelled}
+use Rattle.proof_scanner.proofs.Common.{FaresAt, Fault, fetch, fetch_stream_start, has_no_nul, HasRow, here, LeadsTo, Reaches, Row, ScannerState, spelled_to, start, Succeeds, there, up_to_nul}
+use Rattle.defs_token.specs.Step.{Step, spelled}
 use Rattle.defs_token.specs.RowAccount.{first_account}
-use Rattle.defs_token.specs.Row.{HasRow, IsRead}
-use Rattle.yaml_tokens.specs.declared.problem.Fault.{Fault}
-use Rattle.model_scanner.specs.State.{ScannerState}
-use Rattle.model_scanner.specs.Document.{fetch_stream_start}
-use Rattle.model_scanner.specs.Fetch.{fetch}
-use Rattle.model_scanner.specs.Run.{start, Reaches, here, there}
-use Rattle.defs_text.specs.Text.{has_no_nul, up_to_nul}
-use Rattle.proof_scanner.specs.Stands.{FaresAt}
+use Rattle.defs_token.specs.Row.{IsRead}
 use Rattle.proof_scanner.proofs.Cut.Documents.{whole_text}
 use Rattle.proof_scanner.proofs.Cut.Fetched as cut
 use Rattle.proof_scanner.proofs.Cut.Fetched.{Came, starts, fares, came}
@@ -17,8 +11,8 @@ use Rattle.proof_row.proofs.OneRow.{one_reading}
 use Rattle.proof_scanner.specs.StandsInRow.{Stands}
 use Rattle.proof_scanner.proofs.Sound.Starts.{stream_started}
 use Rattle.proof_scanner.proofs.Sound.Sound.{tokens_are_of_a_row}
-use Rattle.proof_scanner.specs.Ways.{Stop, spelled_to, LeadsTo}
-use Rattle.proof_scanner.specs.Goes.{Succeeds, went, Goes, FetchReads, IsComplete}
+use Rattle.proof_scanner.specs.Ways.{Stop}
+use Rattle.proof_scanner.specs.Goes.{went, Goes, FetchReads, IsComplete}
 use Rattle.proof_scanner.proofs.Complete.WholeRows.{RowWay, row_way}
 
 -- a step that succeeds, and what it leaves

@@ -1,16 +1,15 @@
 -- Where a piece begins and the row goes on: outside flow and in flow. And how the row goes on after a fetch.
 use Rattle.std.proofs.Common.{◌≡◌, ℕ, List, [], ◌∷◌, ◌++◌, Bool, Option, Some, refl, ap, sym, ◌∙◌, subst, arith, ◌⊎◌, inl, inr}
+use Rattle.proof_scanner.proofs.Common.{entries_by, entry_by, first_choice, FlowLevel, GoesHere, Key, LeadsTo, line_by, MayChoose, outside_key, pop, ScannerState, spelled_to}
 use Rattle.defs_token.specs.FlowEntry.{Entry}
 use Rattle.defs_token.specs.Step.{Step}
 use Rattle.defs_token.specs.Key.{Line}
 use Rattle.defs_token.specs.RowAccount.{Account}
-use Rattle.model_scanner.specs.declared.level.FlowLevel.{FlowLevel}
-use Rattle.model_scanner.specs.State.{Key, ScannerState, pop}
-use Rattle.proof_scanner.specs.Choices.{line_by, entry_by, entries_by, first_choice, outside_key, chosen, MayChoose}
+use Rattle.proof_scanner.specs.Choices.{chosen}
 use Rattle.proof_scanner.proofs.Sound.NodesOutside.{Outer}
 use Rattle.proof_scanner.proofs.Sound.Sides.{with_entries, ArrivesBy, ArrivesOutside, ArrivesInside, arrives_by, StandsAt}
-use Rattle.proof_scanner.specs.Ways.{Stop, spelled_to, LeadsTo}
-use Rattle.proof_scanner.specs.Goes.{Goes, GoesHere}
+use Rattle.proof_scanner.specs.Ways.{Stop}
+use Rattle.proof_scanner.specs.Goes.{Goes}
 
 -- ---- where a piece begins
 

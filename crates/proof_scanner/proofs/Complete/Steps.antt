@@ -1,25 +1,19 @@
 -- The step of a row is the one whose piece stands in the text there. What such a step asks for, outside flow and in flow.
 use Rattle.std.proofs.Common.{◌≡◌, ℕ, List, [], ◌∷◌, ◌++◌, Bool, true, false, not, ◌&&◌, ◌||◌, ◌==◌, if◌then◌else◌, Option, Some, None, refl, ap, sym, ◌∙◌, subst}
 use Rattle.std.proofs.lemmas.Bool.{and_parts}
-use Rattle.defs_text.specs.Classes.{is_blank, is_break, is_nul, is_blank_or_end}
-use Rattle.defs_token.specs.Separation.{is_separation}
-use Rattle.defs_token.specs.Step.{Step, act_of, has_break}
-use Rattle.defs_token.specs.Column.{is_in_column}
-use Rattle.defs_token.specs.Key.{Line, free, taken, waits, is_waiting, begins_free_line, line_past_separation, Outside, line_past}
-use Rattle.defs_token.specs.FlowEntry.{Entry, begun_by, is_renewed, entries_past}
-use Rattle.defs_token.specs.RowAccount.{Site, Account, site_at, site_past, may_stand, on_one_line, past_outside, past_inside, past_piece, account_past, seen}
-use Rattle.defs_token.specs.Tokens.{shown_position}
+use Rattle.proof_scanner.proofs.Common.{act_of, begins_free_line, begins_separation, begun_by, ends_separation, entries_past, free, has_no_nul, is_blank_or_end, is_in_column, is_nul, is_renewed, is_separation, is_waiting, IsLike, LeadsTo, LikeLine, line_past_separation, may_stand, not_empty, Outside, past_inside, past_outside, past_piece, seen, separations, shown_position, Site, site_at, site_past, spelled_to, taken}
+use Rattle.defs_text.specs.Classes.{is_blank, is_break}
+use Rattle.defs_token.specs.Step.{Step, has_break}
+use Rattle.defs_token.specs.Key.{Line, waits, line_past}
+use Rattle.defs_token.specs.FlowEntry.{Entry}
+use Rattle.defs_token.specs.RowAccount.{Account, on_one_line, account_past}
 use Rattle.defs_token.specs.Row.{IsWritten}
-use Rattle.defs_text.specs.Text.{has_no_nul}
-use Rattle.proof_lexers.specs.Separations.{begins_separation}
-use Rattle.proof_row.specs.Ends.{ends_separation}
 use Rattle.proof_row.proofs.Begins.{separations_end_before}
-use Rattle.proof_row.proofs.Separations.{separations}
-use Rattle.proof_row.proofs.Like.{LikeLine, IsLike, entries_themselves}
-use Rattle.proof_row.proofs.Written.{At, not_empty, same_piece}
+use Rattle.proof_row.proofs.Like.{entries_themselves}
+use Rattle.proof_row.proofs.Written.{At, same_piece}
 use Rattle.proof_scanner.proofs.Sound.NodesOutside.{Outer}
 use Rattle.proof_scanner.proofs.Sound.Sides.{with_entries}
-use Rattle.proof_scanner.specs.Ways.{Stop, spelled_to, LeadsTo}
+use Rattle.proof_scanner.specs.Ways.{Stop}
 
 -- ---- texts
 

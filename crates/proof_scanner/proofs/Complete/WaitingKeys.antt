@@ -1,16 +1,14 @@
 -- A key that waits outside flow is near as long as a row goes on: its colon is still to come, at most 1024 characters after its start.
 use Rattle.std.proofs.Common.{◌≡◌, ℕ, ◌+◌, ◌≤◌, List, [], ◌∷◌, ◌++◌, Bool, true, false, not, ◌&&◌, if◌then◌else◌, Option, Some, None, refl, ap, sym, ◌∙◌, subst, arith}
 use Rattle.std.proofs.lemmas.Bool.Decides.{nat_tests}
-use Rattle.defs_text.specs.Position.{Position, position_after}
-use Rattle.defs_text.specs.Text.{is_empty}
-use Rattle.defs_token.specs.Token.{Tok}
-use Rattle.defs_token.specs.Step.{Step, Act, gives_node, gives_colon, act_of, has_break}
-use Rattle.defs_token.specs.Column.{is_in_column, opened}
-use Rattle.defs_token.specs.Key.{Line, free, taken, waits, is_waiting, is_near, begins_free_line, line_past_separation, line_past}
-use Rattle.defs_token.specs.FlowEntry.{Entry, begun_by, is_renewed, entries_past}
-use Rattle.defs_token.specs.RowAccount.{Site, Account, is_in_flow, have_no_key, site_at, may_stand, account_past, past_site, past_piece, past_outside, past_inside, on_one_line}
+use Rattle.proof_scanner.proofs.Common.{Act, act_of, begins_free_line, begun_by, entries_past, free, gives_colon, gives_node, have_no_key, is_empty, is_in_column, is_near, is_renewed, is_waiting, LeadsTo, line_past_separation, may_stand, past_inside, past_outside, past_piece, past_site, Position, position_after, Site, site_at, spelled_to, taken, Tok}
+use Rattle.defs_token.specs.Step.{Step, has_break}
+use Rattle.defs_token.specs.Column.{opened}
+use Rattle.defs_token.specs.Key.{Line, waits, line_past}
+use Rattle.defs_token.specs.FlowEntry.{Entry}
+use Rattle.defs_token.specs.RowAccount.{Account, is_in_flow, account_past, on_one_line}
 use Rattle.proof_scanner.proofs.Cut.Positions.{index_after}
-use Rattle.proof_scanner.specs.Ways.{Stop, spelled_to, LeadsTo}
+use Rattle.proof_scanner.specs.Ways.{Stop}
 
 -- after a step a key waits still, or the step's piece was its colon and near
 pub data Waited (begin here : Position) : Option Account → Type 0 where

@@ -1,18 +1,14 @@
 -- What is read on over after a piece begins the separation after it. While a key waits it has no break, and the text goes on after it.
 use Rattle.std.proofs.Common.{◌≡◌, ℕ, List, [], ◌∷◌, ◌++◌, Bool, true, false, not, Some, refl, ap, sym, ◌∙◌, subst}
 use Rattle.std.proofs.lemmas.Bool.{and_parts}
+use Rattle.proof_scanner.proofs.Common.{act_of, begins_free_line, gives_node, has_no_break, is_empty, is_separation, LeadsTo, Position, position_after, position_in_line, previous_by, scalar, spelled_to, tag_directive, Tok, version_directive}
 use Rattle.defs_text.specs.Classes.{is_break}
-use Rattle.defs_text.specs.Breaks.{has_no_break}
-use Rattle.defs_text.specs.Position.{Position, position_after}
-use Rattle.defs_text.specs.Text.{is_empty}
-use Rattle.defs_token.specs.Separation.{is_separation}
-use Rattle.defs_token.specs.Token.{Tok, version_directive, tag_directive, scalar, plain}
-use Rattle.defs_token.specs.Step.{Step, act_of, gives_node, previous_by, has_break}
-use Rattle.defs_token.specs.Key.{waits, begins_free_line}
+use Rattle.defs_token.specs.Token.{plain}
+use Rattle.defs_token.specs.Step.{Step, has_break}
+use Rattle.defs_token.specs.Key.{waits}
 use Rattle.defs_token.specs.RowAccount.{Account}
-use Rattle.proof_lexers.proofs.Separation.Positions.{position_in_line}
 use Rattle.proof_scanner.proofs.Sound.Passed.{goes_on}
-use Rattle.proof_scanner.specs.Ways.{Stop, spelled_to, LeadsTo}
+use Rattle.proof_scanner.specs.Ways.{Stop}
 use Rattle.proof_scanner.proofs.Complete.Around.Separations.{separation_of, text_after, BeginsWith, row_begins}
 use Rattle.proof_scanner.proofs.Complete.Around.Asks.{waiting_goes_on}
 

@@ -1,12 +1,11 @@
 -- A row is a way to the end of its text.
 use Rattle.std.proofs.Common.{◌≡◌, ℕ, List, [], ◌∷◌, ◌++◌, true, false, Option, Some, None, refl, sym, subst, append-nil}
-use Rattle.defs_text.specs.Text.{is_empty}
-use Rattle.defs_token.specs.Separation.{is_separation}
+use Rattle.proof_scanner.proofs.Common.{is_empty, is_separation, LeadsTo, may_end}
 use Rattle.defs_token.specs.Step.{Step, spelled}
-use Rattle.defs_token.specs.RowAccount.{Account, may_end, account_past}
+use Rattle.defs_token.specs.RowAccount.{Account, account_past}
 use Rattle.defs_token.specs.Beginning.{Leads}
 use Rattle.defs_token.specs.Row.{IsWritten, IsRowFrom}
-use Rattle.proof_scanner.specs.Ways.{Stop, LeadsTo}
+use Rattle.proof_scanner.specs.Ways.{Stop}
 
 -- the end of a text, after a last separation
 abbrev end_after : (last : List ℕ) (b : Account) → is_separation false last [] ≡ true → may_end b ≡ true → Stop

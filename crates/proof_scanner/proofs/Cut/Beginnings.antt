@@ -1,14 +1,9 @@
 -- The first of a text's tokens are a cut of a beginning of it.
 use Rattle.std.proofs.Common.{◌≡◌, ℕ, List, [], ◌∷◌, ◌++◌, true, Option, Some, None, refl, ap, sym, ◌∙◌, subst, inl, inr, ◌⊎◌}
-use Rattle.defs_text.specs.Position.{Position}
-use Rattle.defs_token.specs.Token.{Tok, Token, stream_start, stream_end, version_directive, tag_directive, document_start, document_end, block_sequence_start, block_mapping_start, block_end, flow_sequence_start, flow_sequence_end, flow_mapping_start, flow_mapping_end, block_entry, flow_entry, key, value, alias, anchor, tag, scalar, plain, single_quoted, double_quoted, literal, folded}
-use Rattle.defs_text.specs.Text.{up_to_nul, has_no_nul}
+use Rattle.proof_scanner.proofs.Common.{block_end, block_mapping_start, block_sequence_start, document_end, document_start, double_quoted, first_token, flow_entry, flow_mapping_end, flow_mapping_start, flow_sequence_end, flow_sequence_start, has_no_nul, IsCut, IsPiece, IsRow, key, Position, Reaches, scalar, ScannerState, single_quoted, spelled_append, start, start_token, stream_end, stream_start, tag_directive, Tok, Token, tokens_of, up_to_nul, value, version_directive}
+use Rattle.defs_token.specs.Token.{block_entry, alias, anchor, tag, plain, literal, folded}
 use Rattle.defs_token.specs.Account.{Account, first_account}
-use Rattle.defs_token.specs.Piece.{IsPiece}
-use Rattle.defs_token.specs.Cut.{Written, IsWritten, IsRow, IsCut, IsCutOfBeginning, spelled, tokens_of, first_token, start_token, end_token, account_past}
-use Rattle.defs_token.proofs.Append.{spelled_append}
-use Rattle.model_scanner.specs.State.{ScannerState}
-use Rattle.model_scanner.specs.Run.{start, Reaches}
+use Rattle.defs_token.specs.Cut.{Written, IsWritten, IsCutOfBeginning, spelled, end_token, account_past}
 use Rattle.proof_scanner.proofs.Cut.Documents.{whole_text}
 use Rattle.proof_scanner.proofs.Cut.Fetched.{goes, over, Came, starts, fares, came}
 

@@ -1,32 +1,17 @@
 -- The functions of the model that read the indicators of block collections keep what holds between fetches.
 use Rattle.std.proofs.Common.{◌≡◌, ℕ, suc, ◌≤◌, ◌<◌, List, [], ◌∷◌, ◌++◌, Bool, true, false, not, ◌||◌, length, if◌then◌else◌, Option, Some, None, Result, Ok, refl, ap, sym, ◌∙◌, subst, arith}
-use Rattle.defs_text.specs.Position.{Position, position_after}
-use Rattle.defs_text.specs.Text.{is_empty}
-use Rattle.yaml_tokens.specs.declared.problem.Fault.{Fault}
+use Rattle.proof_scanner.proofs.Common.{account_of, allow_key, AreOpen, Before, before_past, blocks_past, chained, check_block_entry, check_dash, FaresAt, Fault, fetch_block_entry, FlowLevel, Held, in_flow, Indent, innermost_column, is_at_gap, is_empty, IsPiece, Key, Level, levels_of, levels_past, lexed, No, on_held, peek, Position, position_after, push, ReadAs, remove_implicit_key, roll_entry, roll_indent, roll_one_col_indent, ScannerState, skip_indicator, skip_spaces, Stood, Tok, Token, token, try_held, weakened, Whitespace, with_top, Yes, ◌>>=◌}
 use Rattle.yaml_tokens.specs.declared.problem.Fault.TheVariants.{At}
 use Rattle.yaml_tokens.specs.declared.problem.Problem.TheVariants as problem
-use Rattle.defs_token.specs.Token.{Tok, Token}
-use Rattle.defs_text.specs.Classes.{is_break, is_at_gap}
-use Rattle.defs_token.specs.Account.{Level, Account, Before, other, before_past, before_by, settled, blocks_past, levels_past, is_in_flow, innermost_column}
-use Rattle.defs_token.specs.Piece.{IsPiece}
+use Rattle.defs_text.specs.Classes.{is_break}
+use Rattle.defs_token.specs.Account.{Account, other, before_by, settled, is_in_flow}
 use Rattle.defs_token.specs.Cut.{Written}
-use Rattle.model_scanner.specs.declared.context.SkipTabs.TheVariants.{Yes, No}
-use Rattle.model_scanner.specs.declared.context.Whitespace.{Whitespace}
 use Rattle.yaml_chars.specs.Class.{is_break as is_break_here, is_flow as yaml_flow}
-use Rattle.model_scanner.specs.declared.level.Indent.{Indent}
-use Rattle.model_scanner.specs.declared.level.FlowLevel.{FlowLevel}
-use Rattle.model_scanner.specs.State.{Key, Held, ScannerState, ◌>>=◌, peek, in_flow, push, with_top, token, after, on_held, try_held, lexed, skip_indicator}
-use Rattle.model_scanner.specs.Keys.{remove_implicit_key}
-use Rattle.model_scanner.specs.Space.{skip_spaces}
+use Rattle.model_scanner.specs.State.{after}
 use Rattle.model_scanner.specs.Blanks.{space}
 use Rattle.model_scanner.specs.Machine.{past}
-use Rattle.model_scanner.specs.Indents.{roll_indent, roll_one_col_indent}
-use Rattle.model_scanner.specs.Flow.{allow_key}
-use Rattle.model_scanner.specs.Block.{check_block_entry, check_dash, roll_entry, fetch_block_entry}
-use Rattle.model_scanner.proofs.Holds.{Holds, went, weakened, chained, passes, checked, tried}
-use Rattle.proof_scanner.specs.PiecesRead.{ReadAs}
-use Rattle.proof_scanner.specs.Here.{AreOpen}
-use Rattle.proof_scanner.specs.Stands.{columns, AreLevels, levels_of, account_of, Stood, Fares, FaresAt}
+use Rattle.model_scanner.proofs.Holds.{Holds, went, passes, checked, tried}
+use Rattle.proof_scanner.specs.Stands.{columns, AreLevels, Fares}
 use Rattle.proof_scanner.proofs.Cut.Heres.{led}
 use Rattle.proof_scanner.proofs.Cut.Pushed.{with_piece, with_blocks, past_empty, columns_settled}
 use Rattle.proof_scanner.proofs.Cut.Stoods.{piece_stood, two_stood, stood_levels}

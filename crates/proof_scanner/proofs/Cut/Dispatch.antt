@@ -1,29 +1,17 @@
 -- The next token by its first characters: what holds between fetches holds after it.
 use Rattle.std.proofs.Common.{◌≡◌, ℕ, ◌+◌, List, [], ◌∷◌, Bool, true, false, not, ◌==◌, ◌&&◌, ◌||◌, if◌then◌else◌, slice_index, Result, Err, refl, ap, sym, ◌∙◌, arith}
-use Rattle.yaml_chars.specs.Class.{is_blank, is_break, is_blank_or_breakz, is_flow}
-use Rattle.defs_text.specs.Text.{is_empty, has_no_nul}
-use Rattle.defs_token.specs.Token.{Tok}
+use Rattle.proof_scanner.proofs.Common.{begins_flow, begins_separation, begins_token, comes_plain, FaresAt, Fault, fetch_anchor, fetch_block_entry, fetch_block_scalar, fetch_flow_collection_end, fetch_flow_collection_start, fetch_flow_entry, fetch_flow_scalar, fetch_key, fetch_plain_scalar, fetch_tag, fetch_token, fetch_value, has_no_nul, in_flow, is_adjacent, is_at_gap, is_blank_or_breakz, is_document_marker, is_empty, is_one_of, is_value_indicator, Mapping, may_begin, peek, ScannerState, Tok}
+use Rattle.yaml_chars.specs.Class.{is_blank, is_break, is_flow}
 use Rattle.defs_text.specs.Classes as classes
-use Rattle.defs_text.specs.Classes.{is_one_of, is_at_gap, is_document_marker}
-use Rattle.defs_token.specs.Plain.{begins_flow, is_value_indicator, may_begin}
-use Rattle.defs_token.specs.Account.{is_adjacent}
-use Rattle.yaml_tokens.specs.declared.problem.Fault.{Fault}
 use Rattle.yaml_tokens.specs.declared.problem.Fault.TheVariants.{At}
 use Rattle.yaml_tokens.specs.declared.problem.Problem.TheVariants as problem
-use Rattle.model_scanner.specs.declared.level.FlowLevel.TheVariants.{Mapping, Entry}
-use Rattle.model_scanner.specs.State.{ScannerState, peek, in_flow}
+use Rattle.model_scanner.specs.declared.level.FlowLevel.TheVariants.{Entry}
 use Rattle.model_scanner.specs.Class.{class_of}
-use Rattle.model_scanner.specs.Block.{fetch_block_entry, fetch_key, fetch_value}
 use Rattle.model_scanner.specs.Quoted.{quote_of}
-use Rattle.model_scanner.specs.Flow.{fetch_flow_collection_start, fetch_flow_collection_end, fetch_flow_entry}
-use Rattle.model_scanner.specs.Document.{fetch_anchor, fetch_tag, fetch_flow_scalar, fetch_block_scalar, fetch_plain_scalar}
-use Rattle.model_scanner.specs.Fetch.{is_value, token_by, fetch_token}
+use Rattle.model_scanner.specs.Fetch.{is_value, token_by}
 use Rattle.model_scanner.proofs.Holds.{Holds, refused}
 use Rattle.proof_lexers.proofs.Bridges.{same_gap, same_flow}
-use Rattle.proof_lexers.specs.PlainEnds.{is_white, begins_token}
-use Rattle.proof_lexers.specs.Separations.{begins_separation}
-use Rattle.proof_scanner.specs.PiecesRead.{comes_plain}
-use Rattle.proof_scanner.specs.Stands.{FaresAt}
+use Rattle.proof_lexers.specs.PlainEnds.{is_white}
 use Rattle.proof_scanner.proofs.Cut.Heres.{before_again}
 use Rattle.proof_scanner.proofs.Cut.Characters.{Ordinary, of_all}
 use Rattle.proof_scanner.proofs.Cut.Nodes.{Ready, IsDeep, anchor_fetched, tag_fetched, plain_fetched}

@@ -1,33 +1,21 @@
 -- The functions of the model that read directives and document markers, and the stream's start and end.
 use Rattle.std.proofs.Common.{◌≡◌, ℕ, suc, ◌+◌, ◌<◌, ◌≤◌, List, [], ◌∷◌, ◌++◌, Bool, true, false, not, length, if◌then◌else◌, Option, Some, None, Result, Ok, Err, refl, ap, sym, ◌∙◌, subst, arith, append-nil}
 use Rattle.std.proofs.lemmas.Bool.{and_parts}
-use Rattle.defs_text.specs.Position.{Position, position_past, position_after}
-use Rattle.defs_text.specs.Text.{is_empty, up_to_nul, has_no_nul}
-use Rattle.yaml_tokens.specs.declared.problem.Fault.{Fault}
+use Rattle.proof_scanner.proofs.Common.{account_of, account_past_row, AreOpen, Before, before_past, begin_line, blocks_past, chained, check_document_end, choice, cleared, closed_key, FaresAt, Fault, fetch_directive, fetch_document_end, fetch_document_marker, fetch_stream_end, fetch_stream_start, FlowLevel, has_no_nul, has_required, Held, Indent, innermost_column, is_at_gap, is_breakz, is_empty, is_nul, is_required, IsAdjacent, IsCut, IsLevel, IsLive, IsPiece, IsRow, Key, Level, Levels, levels_of, levels_past, on_held, peek, Position, position_after, position_past, push, ReadAs, remove_implicit_key, ScannerState, skip_indicator, start, Stood, stream_end, Tok, Token, token, top_key, unroll_indent, unrolled, up_to_nul, with_held, with_top, Yes}
 use Rattle.yaml_tokens.specs.declared.problem.Fault.TheVariants.{At}
 use Rattle.yaml_tokens.specs.declared.problem.Problem.TheVariants as problem
-use Rattle.defs_token.specs.Token.{Tok, Token, stream_end}
-use Rattle.defs_text.specs.Classes.{is_break, is_nul, is_at_gap}
-use Rattle.defs_token.specs.Account.{Level, Account, first_account, Before, other, before_past, before_by, is_closed, blocks_past, levels_past, innermost_column}
-use Rattle.defs_token.specs.Piece.{IsPiece, IsDocumentMarker}
-use Rattle.defs_token.specs.Cut.{Written, IsCut, IsRow, spelled, account_past_row}
-use Rattle.model_scanner.specs.declared.context.SkipTabs.TheVariants.{Yes}
+use Rattle.defs_text.specs.Classes.{is_break}
+use Rattle.defs_token.specs.Account.{Account, first_account, other, before_by, is_closed}
+use Rattle.defs_token.specs.Piece.{IsDocumentMarker}
+use Rattle.defs_token.specs.Cut.{Written, spelled}
 use Rattle.model_scanner.specs.Machine.{Read, past}
 use Rattle.model_scanner.specs.Directive.{directive}
-use Rattle.model_scanner.specs.declared.level.Indent.{Indent}
-use Rattle.model_scanner.specs.declared.level.FlowLevel.{FlowLevel}
-use Rattle.yaml_chars.specs.Class.{is_breakz}
-use Rattle.model_scanner.specs.State.{Key, Held, ScannerState, peek, push, with_top, token, on_held, with_held, skip_indicator}
-use Rattle.model_scanner.specs.Keys.{cleared, has_required, is_required, top_key, remove_implicit_key}
-use Rattle.model_scanner.specs.Indents.{Levels, unrolled, unroll_indent}
-use Rattle.model_scanner.specs.Run.{start}
-use Rattle.model_scanner.specs.Document.{closed_key, begin_line, fetch_directive, fetch_document_marker, check_document_end, fetch_document_end, fetch_stream_start, next_line, ended_at, fetch_stream_end}
-use Rattle.model_scanner.proofs.Holds.{Holds, went, refused, chained, tried, choice, read}
-use Rattle.proof_scanner.specs.PiecesRead.{ReadAs, is_directive_token}
+use Rattle.model_scanner.specs.Document.{next_line, ended_at}
+use Rattle.model_scanner.proofs.Holds.{Holds, went, refused, tried, read}
+use Rattle.proof_scanner.specs.PiecesRead.{is_directive_token}
 use Rattle.proof_scanner.specs.Order.{After}
 use Rattle.proof_scanner.specs.Positions.{IsAtEnd}
-use Rattle.proof_scanner.specs.Here.{IsLive, AreOpen}
-use Rattle.proof_scanner.specs.Stands.{columns, levels_of, account_of, AreLevels, IsLevel, IsAdjacent, Stood, Fares, FaresAt}
+use Rattle.proof_scanner.specs.Stands.{columns, AreLevels, Fares}
 use Rattle.proof_scanner.proofs.Cut.Pieces.Directives.{directive_is_read}
 use Rattle.proof_scanner.proofs.Cut.Positions.{weaker, index_after}
 use Rattle.proof_scanner.proofs.Cut.RowPositions.{end_position}

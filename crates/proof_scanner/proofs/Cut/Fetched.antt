@@ -3,29 +3,19 @@ use Rattle.std.proofs.Common.{◌≡◌, ℕ, suc, ◌+◌, ◌≤◌, List, [],
 use Rattle.std.proofs.lemmas.Bool.{and_parts, eqb-true}
 use Rattle.std.proofs.lemmas.Bool.Decides.{nat_tests}
 use Rattle.std.specs.List.{list_any}
-use Rattle.defs_text.specs.Position.{Position}
-use Rattle.defs_text.specs.Text.{is_empty, has_no_nul}
-use Rattle.yaml_chars.specs.Class.{is_blank, is_break, is_blank_or_breakz}
-use Rattle.yaml_tokens.specs.declared.problem.Fault.{Fault}
+use Rattle.proof_scanner.proofs.Common.{are_marks, AreOpen, begins_separation, both_hold, chained, comes_marker, drop_stale, FaresAt, Fault, fetch, fetch_content, fetch_first_column, fetch_here, fetch_indented, fetch_next, fetch_stream_start, has_no_nul, Held, held_of, here, in_flow, innermost_column, is_at_gap, is_blank_or_breakz, is_document_marker, is_empty, is_far, is_nul, is_overdue, IsCut, Key, on_held, peek, Position, Reaches, ScannerState, stale, start, still, Stood, there, Token, try_held, unroll_indent, weakened}
+use Rattle.yaml_chars.specs.Class.{is_blank, is_break}
 use Rattle.yaml_tokens.specs.declared.problem.Fault.TheVariants.{At}
 use Rattle.yaml_tokens.specs.declared.problem.Problem.TheVariants as problem
-use Rattle.defs_token.specs.Token.{Token}
-use Rattle.defs_text.specs.Classes.{is_nul, is_at_gap, are_marks, is_document_marker}
-use Rattle.defs_token.specs.Account.{innermost_column}
-use Rattle.defs_token.specs.Cut.{Written, IsCut}
-use Rattle.model_scanner.specs.State.{Key, Held, ScannerState, peek, after, in_flow, on_held, try_held}
-use Rattle.model_scanner.specs.Keys.{is_far, is_overdue, still, drop_stale, with_keys, stale}
-use Rattle.model_scanner.specs.Indents.{unroll_indent}
-use Rattle.model_scanner.specs.Document.{fetch_stream_start}
-use Rattle.model_scanner.specs.Fetch.{comes_marker, fetch_indented, fetch_first_column, fetch_content, fetch_here, fetch_next, fetch}
-use Rattle.model_scanner.specs.Run.{start, Reaches, here, there, HasTokens}
-use Rattle.model_scanner.proofs.Holds.{Holds, went, refused, held_of, chained, tried, checked, either, weakened, both_hold}
+use Rattle.defs_token.specs.Cut.{Written}
+use Rattle.model_scanner.specs.State.{after}
+use Rattle.model_scanner.specs.Keys.{with_keys}
+use Rattle.model_scanner.specs.Run.{HasTokens}
+use Rattle.model_scanner.proofs.Holds.{Holds, went, refused, tried, checked, either}
 use Rattle.model_scanner.proofs.Walk as walk
 use Rattle.proof_lexers.proofs.Bridges.{same_gap}
-use Rattle.proof_lexers.specs.Separations.{begins_separation}
-use Rattle.proof_scanner.specs.Here.{AreOpen}
 use Rattle.proof_scanner.specs.Positions.{IsAtEnd}
-use Rattle.proof_scanner.specs.Stands.{columns, Stood, FaresAt}
+use Rattle.proof_scanner.specs.Stands.{columns}
 use Rattle.proof_scanner.proofs.Cut.Opens.{open_given_up}
 use Rattle.proof_scanner.proofs.Cut.Passes.{to_token}
 use Rattle.proof_scanner.proofs.Cut.Nodes.{AreNear}

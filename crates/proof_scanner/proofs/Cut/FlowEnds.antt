@@ -1,33 +1,18 @@
 -- The functions of the model that read closing brackets and commas keep what holds between fetches.
 use Rattle.std.proofs.Common.{◌≡◌, ℕ, suc, drop, ◌+◌, ◌≤◌, ◌<◌, List, [], ◌∷◌, ◌++◌, Bool, true, false, not, ◌==◌, ◌&&◌, ◌||◌, length, if◌then◌else◌, Option, Some, None, Ok, Err, refl, ap, sym, ◌∙◌, subst, arith, inl, inr, ◌⊎◌}
 use Rattle.std.proofs.lemmas.Bool.{and_parts}
-use Rattle.defs_text.specs.Position.{Position}
-use Rattle.defs_text.specs.Text.{is_empty, has_no_nul}
-use Rattle.yaml_tokens.specs.declared.problem.Fault.{Fault}
-use Rattle.defs_token.specs.Token.{Tok, Token}
-use Rattle.defs_text.specs.Classes.{is_break, is_blank, is_nul}
-use Rattle.defs_text.specs.Breaks.{is_at_line_end}
-use Rattle.defs_token.specs.Separation.{is_separation, is_blanks}
-use Rattle.proof_lexers.proofs.Bridges.{same_blank}
-use Rattle.proof_lexers.specs.PlainEnds.{has_break, begins_token}
-use Rattle.proof_lexers.specs.Separations.{ends_spaces}
-use Rattle.proof_lexers.proofs.Separation.Separations.{no_hash}
-use Rattle.defs_token.specs.Account.{Level, Account, Before, collection, other, before_past, before_by, is_adjacent, blocks_past, levels_past, is_pair_at, innermost_column}
-use Rattle.defs_token.specs.Piece.{IsPiece, ends_entry}
+use Rattle.proof_scanner.proofs.Common.{account_of, adjacent_in_flow, allow_key, AreOpen, Before, before_past, begins_token, blocks_past, chained, end_entry, end_flow, ended_flow, ends_spaces, FaresAt, Fault, fetch_flow_collection_end, fetch_flow_entry, FlowLevel, has_no_nul, Held, Indent, innermost_column, is_adjacent, is_at_line_end, is_blanks, is_empty, is_nul, is_separation, IsAdjacent, IsPiece, Key, Keyed, Level, levels_of, levels_past, Mapping, next_entry, no_hash, NotBefore, on_held, pass_indicator, pop, Position, push, ReadAs, remove_implicit_key, same_blank, ScannerState, skip_indicator, step_inside, Stood, Tok, Token, token, with_top, Yes}
+use Rattle.defs_text.specs.Classes.{is_break, is_blank}
+use Rattle.proof_lexers.specs.PlainEnds.{has_break}
+use Rattle.defs_token.specs.Account.{Account, collection, other, before_by, is_pair_at}
+use Rattle.defs_token.specs.Piece.{ends_entry}
 use Rattle.defs_token.specs.Cut.{Written, spelled}
-use Rattle.model_scanner.specs.declared.context.SkipTabs.TheVariants.{Yes}
-use Rattle.model_scanner.specs.declared.level.Indent.{Indent}
-use Rattle.model_scanner.specs.declared.level.FlowLevel.{FlowLevel}
-use Rattle.model_scanner.specs.declared.level.FlowLevel.TheVariants.{Mapping, Entry, Keyed, Pair}
-use Rattle.model_scanner.specs.State.{Key, Held, ScannerState, push, pop, with_top, token, after, on_held, skip_indicator}
-use Rattle.model_scanner.specs.Keys.{remove_implicit_key}
-use Rattle.model_scanner.specs.Flow.{allow_key, pass_indicator, end_flow_pair, decrease_flow_level, adjacent_in_flow, ended_flow, end_flow, next_entry, end_entry, fetch_flow_collection_end, fetch_flow_entry}
-use Rattle.model_scanner.proofs.Holds.{Holds, went, refused, chained, tried}
-use Rattle.proof_scanner.specs.PiecesRead.{ReadAs}
-use Rattle.proof_scanner.specs.Order.{NotBefore}
-use Rattle.proof_scanner.specs.Inside.{step_inside, levels_then}
-use Rattle.proof_scanner.specs.Here.{AreOpen}
-use Rattle.proof_scanner.specs.Stands.{columns, levels_of, account_of, IsAdjacent, Stood, Fares, FaresAt}
+use Rattle.model_scanner.specs.declared.level.FlowLevel.TheVariants.{Entry, Pair}
+use Rattle.model_scanner.specs.State.{after}
+use Rattle.model_scanner.specs.Flow.{end_flow_pair, decrease_flow_level}
+use Rattle.model_scanner.proofs.Holds.{Holds, went, refused, tried}
+use Rattle.proof_scanner.specs.Inside.{levels_then}
+use Rattle.proof_scanner.specs.Stands.{columns, Fares}
 use Rattle.proof_scanner.proofs.Cut.Heres.{led, spelled_led}
 use Rattle.proof_scanner.proofs.Cut.Pushed.{with_piece, columns_settled}
 use Rattle.proof_scanner.proofs.Cut.Positions.{weaker}

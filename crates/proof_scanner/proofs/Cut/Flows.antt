@@ -1,26 +1,15 @@
 -- The functions of the model that read the brackets and commas of flow collections keep what holds between fetches.
 use Rattle.std.proofs.Common.{◌≡◌, ℕ, suc, ◌<◌, List, [], ◌∷◌, ◌++◌, Bool, true, false, length, nat_lt, nat_le, if◌then◌else◌, Option, Some, None, Ok, Err, refl, ap, sym, ◌∙◌, subst, arith, inl}
 use Rattle.std.proofs.lemmas.Bool.Decides.{nat_tests}
-use Rattle.defs_text.specs.Position.{Position}
+use Rattle.proof_scanner.proofs.Common.{account_of, before_past, begin_flow, begins_node, blocks_past, chained, deepened_flow, FaresAt, fetch_flow_collection_start, FlowLevel, has_room, Held, increase_flow_level, Indent, innermost_column, IsAdjacent, IsNotRight, IsPiece, Level, levels_of, levels_past, Mapping, must_be_key, on_held, pass_indicator, Position, push, ReadAs, roll_one_col_indent, save_implicit_key, ScannerState, skip_indicator, step_inside, Stood, Tok, token, Yes}
 use Rattle.yaml_tokens.specs.declared.problem.Fault.TheVariants.{At}
 use Rattle.yaml_tokens.specs.declared.problem.Problem.TheVariants as problem
-use Rattle.defs_token.specs.Token.{Tok}
 use Rattle.defs_text.specs.Classes.{is_break}
-use Rattle.defs_token.specs.Account.{Level, Account, other, before_past, before_by, blocks_past, levels_past, has_room, innermost_column}
-use Rattle.defs_token.specs.Piece.{IsPiece, begins_node}
-use Rattle.model_scanner.specs.declared.context.SkipTabs.TheVariants.{Yes}
-use Rattle.model_scanner.specs.declared.level.Indent.{Indent}
-use Rattle.model_scanner.specs.declared.level.FlowLevel.{FlowLevel}
-use Rattle.model_scanner.specs.declared.level.FlowLevel.TheVariants.{Mapping, Entry}
-use Rattle.model_scanner.specs.State.{Held, ScannerState, push, token, on_held, skip_indicator}
-use Rattle.model_scanner.specs.Keys.{must_be_key, save_implicit_key}
-use Rattle.model_scanner.specs.Indents.{roll_one_col_indent}
-use Rattle.model_scanner.specs.Flow.{increase_flow_level, deepened_flow, begin_flow, pass_indicator, fetch_flow_collection_start}
-use Rattle.model_scanner.proofs.Holds.{Holds, went, refused, chained, tried}
-use Rattle.proof_scanner.specs.PiecesRead.{ReadAs}
-use Rattle.proof_scanner.specs.Inside.{step_inside, levels_then}
-use Rattle.proof_scanner.specs.Here.{IsNotRight}
-use Rattle.proof_scanner.specs.Stands.{columns, level_of, levels_of, account_of, IsAdjacent, Stood, Fares, FaresAt}
+use Rattle.defs_token.specs.Account.{Account, other, before_by}
+use Rattle.model_scanner.specs.declared.level.FlowLevel.TheVariants.{Entry}
+use Rattle.model_scanner.proofs.Holds.{Holds, went, refused, tried}
+use Rattle.proof_scanner.specs.Inside.{levels_then}
+use Rattle.proof_scanner.specs.Stands.{columns, level_of, Fares}
 use Rattle.proof_scanner.proofs.Cut.Heres.{led}
 use Rattle.proof_scanner.proofs.Cut.Pushed.{with_piece, columns_settled}
 use Rattle.proof_scanner.proofs.Cut.Saved.{Opens, open_saved, saved_keys, saved_is}

@@ -1,15 +1,10 @@
 -- How a row goes on in a text.
 use Rattle.std.proofs.Common.{◌≡◌, ℕ, List, [], ◌∷◌, ◌++◌, Bool, true, false, ◌&&◌, Option, refl, ap, sym, ◌∙◌, subst, append_assoc}
-use Rattle.defs_token.specs.Token.{Tok}
+use Rattle.proof_scanner.proofs.Common.{account_at, account_past_row, account_past_separation, account_past_token, Before, before_past, first_token, has_no_nul, is_blanks, is_separation, IsPiece, IsRow, position_after, position_append, spelled_append, Tok}
 use Rattle.defs_text.specs.Classes.{is_blank}
-use Rattle.defs_text.specs.Position.{position_after}
-use Rattle.defs_token.specs.Separation.{is_separation, is_blanks}
-use Rattle.defs_token.specs.Account.{Account, Before, quoted, collection, other, before_past, first_account, account_past_separation, account_at_piece, account_past_token}
-use Rattle.defs_token.specs.Piece.{IsPiece}
-use Rattle.defs_token.specs.Cut.{Written, IsRow, spelled, first_token, account_at, account_past_row}
-use Rattle.defs_token.proofs.Append.{spelled_append, account_append, row_append}
-use Rattle.defs_text.specs.Text.{has_no_nul}
-use Rattle.proof_lexers.proofs.Separation.Positions.{position_append}
+use Rattle.defs_token.specs.Account.{Account, quoted, collection, other, first_account, account_at_piece}
+use Rattle.defs_token.specs.Cut.{Written, spelled}
+use Rattle.defs_token.proofs.Append.{account_append, row_append}
 use Rattle.proof_lexers.proofs.Separation.EachSeparation.{no_nul_after}
 use Rattle.proof_scanner.specs.Here.{Here}
 use Rattle.proof_scanner.proofs.Cut.Pieces.Separations.{separation_append}

@@ -1,15 +1,10 @@
 -- An indicator, and the blanks and the comment after it.
 use Rattle.std.proofs.Common.{◌≡◌, ℕ, List, [], ◌∷◌, ◌++◌, false, not, ◌&&◌, Option, ap, sym, ◌∙◌}
-use Rattle.defs_text.specs.Position.{Position, position_past, position_after}
-use Rattle.defs_token.specs.Token.{Tok}
+use Rattle.proof_scanner.proofs.Common.{in_line_position, is_before_line_feed, IsPiece, Position, position_after, position_past, ReadAs, ScannerState, skip_indicator, Tok}
 use Rattle.defs_text.specs.Classes.{is_break}
-use Rattle.defs_text.specs.Breaks.{is_before_line_feed}
 use Rattle.defs_token.specs.Account.{Account}
-use Rattle.defs_token.specs.Piece.{IsPiece}
 use Rattle.model_scanner.specs.Machine.{past}
-use Rattle.model_scanner.specs.State.{ScannerState, after, skip_indicator}
-use Rattle.proof_lexers.proofs.Plain.Turns.{in_line_position}
-use Rattle.proof_scanner.specs.PiecesRead.{ReadAs}
+use Rattle.model_scanner.specs.State.{after}
 use Rattle.proof_scanner.proofs.Cut.Passes.{Passed, Filled}
 
 -- the position after an indicator

@@ -1,11 +1,11 @@
 -- Steps inside a implicit key.
 use Rattle.std.proofs.Common.{◌≡◌, ℕ, List, [], ◌∷◌, ◌++◌, true, Option, Some, None, refl, ap, ◌∙◌, subst}
-use Rattle.defs_token.specs.Token.{Tok, stream_start, stream_end, version_directive, tag_directive, document_start, document_end, block_sequence_start, block_mapping_start, block_end, flow_sequence_start, flow_sequence_end, flow_mapping_start, flow_mapping_end, block_entry, flow_entry, key, value, alias, anchor, tag, scalar, plain, single_quoted, double_quoted, literal, folded}
-use Rattle.defs_token.specs.Account.{Level, levels_past}
+use Rattle.proof_scanner.proofs.Common.{block_end, block_mapping_start, block_sequence_start, document_end, document_start, double_quoted, flow_entry, flow_mapping_end, flow_mapping_start, flow_sequence_end, flow_sequence_start, key, Level, levels_past, scalar, single_quoted, step_inside, stream_end, stream_start, tag_directive, Tok, value, version_directive}
+use Rattle.defs_token.specs.Token.{block_entry, alias, anchor, tag, plain, literal, folded}
 use Rattle.defs_token.specs.Cut.{Written}
 use Rattle.defs_token.proofs.Inserted.{is_of_key}
 use Rattle.defs_token.proofs.InsertedPair.{Steps, opens_sequence, opens_mapping, opens_pair, closes_sequence, closes_mapping, closes_pair, separates, is_key, is_value, is_alias, is_anchor, is_tag, is_plain, is_single_quoted, is_double_quoted, IsInside}
-use Rattle.proof_scanner.specs.Inside.{step_inside, levels_then, inside}
+use Rattle.proof_scanner.specs.Inside.{levels_then, inside}
 
 some_same : {A : Type 0} {x y : A} → Some x ≡ Some y → x ≡ y
 some_same e = cc

@@ -1,22 +1,17 @@
 -- The function of the model that reads a `:` after a implicit key keeps what holds between fetches.
 use Rattle.std.proofs.Common.{◌≡◌, ℕ, suc, ◌+◌, ◌≤◌, List, [], ◌∷◌, ◌++◌, true, false, not, length, Option, Some, None, refl, ap, sym, ◌∙◌, subst, arith}
 use Rattle.std.specs.List.{insert}
-use Rattle.defs_text.specs.Position.{Position, position_after}
-use Rattle.defs_token.specs.Token.{Tok, Token}
-use Rattle.defs_token.specs.Account.{Level, Account, Before, sequence, with_pair, innermost_column, first_account, account_past_separation}
-use Rattle.defs_text.specs.Text.{is_empty}
-use Rattle.defs_token.specs.Cut.{Written, IsRow, spelled, tokens_of, first_token, start_token, account_at, account_past_row}
-use Rattle.defs_token.proofs.Append.{spelled_append, tokens_append, account_append, row_append}
+use Rattle.proof_scanner.proofs.Common.{account_at, account_of, account_past_row, account_past_separation, AreOpen, Before, first_token, FlowLevel, Indent, innermost_column, is_empty, IsLive, IsRow, Key, Level, levels_of, Position, position_after, sequence, spelled_append, start_token, Stood, Tok, Token, token, tokens_of}
+use Rattle.defs_token.specs.Account.{Account, with_pair, first_account}
+use Rattle.defs_token.specs.Cut.{Written, spelled}
+use Rattle.defs_token.proofs.Append.{tokens_append, account_append, row_append}
 use Rattle.defs_token.proofs.Inserted.{bare, empty_token, key_at, key_inserted, mapping_at, mapping_inserted, AreOnLine}
 use Rattle.defs_token.proofs.InsertedPair.{pair_at}
-use Rattle.model_scanner.specs.declared.level.Indent.{Indent}
-use Rattle.model_scanner.specs.declared.level.FlowLevel.{FlowLevel}
 use Rattle.model_scanner.specs.declared.level.FlowLevel.TheVariants.{Entry, Pair}
-use Rattle.model_scanner.specs.State.{Key, token}
 use Rattle.proof_scanner.specs.Order.{After}
 use Rattle.proof_scanner.specs.Inside.{inside}
-use Rattle.proof_scanner.specs.Here.{IsLive, IsInside, IsOpen, AreOpen}
-use Rattle.proof_scanner.specs.Stands.{columns, AreLevels, levels_of, account_of, Stood}
+use Rattle.proof_scanner.specs.Here.{IsInside, IsOpen}
+use Rattle.proof_scanner.specs.Stands.{columns, AreLevels}
 use Rattle.proof_scanner.proofs.Cut.Positions.{weaker}
 use Rattle.proof_scanner.proofs.Cut.Insides.{inside_framed}
 use Rattle.proof_scanner.proofs.Cut.Opens.{Goes, same_nil, open_more}

@@ -1,27 +1,16 @@
 -- The function of the model that reads a `?` keeps what holds between fetches.
 use Rattle.std.proofs.Common.{◌≡◌, ℕ, suc, ◌<◌, List, [], ◌∷◌, ◌++◌, Bool, true, false, not, ◌==◌, length, if◌then◌else◌, Option, None, Result, Ok, Err, refl, ap, sym, ◌∙◌, subst, arith, inl}
 use Rattle.std.proofs.lemmas.Bool.{eqb-true}
-use Rattle.defs_text.specs.Position.{Position, position_after}
+use Rattle.proof_scanner.proofs.Common.{account_of, allow_key, begin_key, begins_with_space_or_break, both_hold, chained, check_key_space, FaresAt, Fault, fetch_key, FlowLevel, has_no_nul, Held, in_flow, innermost_column, is_at_gap, is_blank_or_end, is_nul, Keyed, keyed, levels_of, Mapping, moved, on_held, or_true, Position, position_after, push, ReadAs, remove_implicit_key, same_break, ScannerState, skip_indicator, skip_yaml_whitespace, Stood, Tok, token, white, with_top, ◌>>=◌}
 use Rattle.yaml_chars.specs.Class as class
-use Rattle.yaml_tokens.specs.declared.problem.Fault.{Fault}
-use Rattle.defs_token.specs.Token.{Tok}
-use Rattle.defs_text.specs.Classes.{is_break, is_blank, is_nul, is_blank_or_end, is_at_gap}
-use Rattle.defs_token.specs.Account.{Account, other, innermost_column}
-use Rattle.defs_token.specs.Piece.{begins_with_space_or_break}
+use Rattle.defs_text.specs.Classes.{is_break, is_blank}
+use Rattle.defs_token.specs.Account.{Account, other}
 use Rattle.model_scanner.specs.Machine.{past}
-use Rattle.model_scanner.specs.declared.level.FlowLevel.{FlowLevel}
-use Rattle.model_scanner.specs.declared.level.FlowLevel.TheVariants.{Mapping, Entry, Keyed, Pair}
-use Rattle.model_scanner.specs.State.{Held, ScannerState, ◌>>=◌, in_flow, push, with_top, token, after, moved, on_held, skip_indicator}
-use Rattle.model_scanner.specs.Keys.{remove_implicit_key}
-use Rattle.model_scanner.specs.Space.{at_break, white_end, white, skip_yaml_whitespace}
-use Rattle.model_scanner.specs.Flow.{allow_key}
-use Rattle.model_scanner.specs.Block.{keyed, begin_key, check_key_space, fetch_key}
-use Rattle.model_scanner.proofs.Holds.{Holds, went, refused, chained, either, passes, tried, both_hold}
-use Rattle.proof_lexers.proofs.Bridges.{same_break}
-use Rattle.defs_text.specs.Text.{has_no_nul}
-use Rattle.proof_lexers.proofs.Plain.Turns.{or_true}
-use Rattle.proof_scanner.specs.PiecesRead.{ReadAs}
-use Rattle.proof_scanner.specs.Stands.{columns, levels_of, account_of, Stood, Fares, FaresAt}
+use Rattle.model_scanner.specs.declared.level.FlowLevel.TheVariants.{Entry, Pair}
+use Rattle.model_scanner.specs.State.{after}
+use Rattle.model_scanner.specs.Space.{at_break, white_end}
+use Rattle.model_scanner.proofs.Holds.{Holds, went, refused, either, passes, tried}
+use Rattle.proof_scanner.specs.Stands.{columns, Fares}
 use Rattle.proof_scanner.proofs.Cut.Positions.{weaker}
 use Rattle.proof_scanner.proofs.Cut.Heres.{led, spelled_led}
 use Rattle.proof_scanner.proofs.Cut.Pushed.{with_piece}

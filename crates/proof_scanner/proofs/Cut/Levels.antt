@@ -1,12 +1,7 @@
 -- Levels of indentation and the columns of block collections.
 use Rattle.std.proofs.Common.{◌≡◌, ℕ, zero, suc, ◌+◌, ◌-◌, ◌≤◌, List, [], ◌∷◌, Bool, true, false, if◌then◌else◌, Some, refl, ap, sym, arith}
-use Rattle.defs_token.specs.Token.{Token}
-use Rattle.defs_token.specs.Account.{innermost_column}
-use Rattle.model_scanner.specs.declared.level.Indent.{Indent}
-use Rattle.model_scanner.specs.State.{Held}
-use Rattle.model_scanner.specs.Indents.{level, Levels, without_open, in_block, roll_one_col_indent}
-use Rattle.proof_lexers.specs.PlainEnds.{collection_of}
-use Rattle.proof_scanner.specs.Stands.{columns, AreLevels, IsLevel}
+use Rattle.proof_scanner.proofs.Common.{collection_of, Held, in_block, Indent, innermost_column, IsLevel, level, Levels, roll_one_col_indent, Token, without_open}
+use Rattle.proof_scanner.specs.Stands.{columns, AreLevels}
 
 -- ---- the innermost levels that open no collection go
 

@@ -2,29 +2,17 @@
 use Rattle.std.proofs.Common.{◌≡◌, ℕ, suc, ◌+◌, ◌≤◌, ◌<◌, List, [], ◌∷◌, ◌++◌, Bool, true, false, not, ◌==◌, ◌||◌, length, nat_le, if◌then◌else◌, Option, Some, None, Ok, refl, ap, sym, subst, arith}
 use Rattle.std.proofs.lemmas.Bool.{and_parts}
 use Rattle.std.proofs.lemmas.Bool.Decides.{nat_tests}
-use Rattle.defs_text.specs.Classes.{is_nul}
-use Rattle.defs_text.specs.Position.{Position, position_after}
-use Rattle.defs_text.specs.Text.{is_empty, has_no_nul}
-use Rattle.defs_token.specs.Token.{Style, Tok, Token}
-use Rattle.defs_token.specs.Account.{Level, Account, Before, other, before_past, before_by, is_adjacent, blocks_past, levels_past}
-use Rattle.defs_token.specs.Piece.{begins_node}
-use Rattle.model_scanner.specs.declared.level.Indent.{Indent}
-use Rattle.model_scanner.specs.declared.level.FlowLevel.{FlowLevel}
+use Rattle.proof_scanner.proofs.Common.{account_of, allow_key, anchor_token, Before, before_past, begins_node, begins_separation, blocks_past, comes_plain, context, FaresAt, fetch_anchor, fetch_plain_scalar, fetch_tag, FlowLevel, go_on, has_no_nul, Held, in_flow, Indent, is_adjacent, is_empty, is_nul, IsAdjacent, Key, Level, Levels, levels_of, levels_past, lexed, must_be_key, node_start, on_held, Position, position_after, push, ReadAs, ScannerState, step_inside, Stood, Style, Tok, Token, token, unled, unroll_non_block_indents, without_open}
+use Rattle.defs_token.specs.Account.{Account, other, before_by}
 use Rattle.model_scanner.specs.Machine.{Read}
 use Rattle.model_scanner.specs.Anchor.{anchor_name}
 use Rattle.model_scanner.specs.Tag as tags
 use Rattle.model_scanner.specs.Plain as plains
 use Rattle.model_scanner.specs.declared.context.Context.{Context}
-use Rattle.model_scanner.specs.Indents.{Levels, without_open, unroll_non_block_indents}
-use Rattle.model_scanner.specs.State.{Key, Held, ScannerState, in_flow, push, token, on_held, go_on, lexed}
-use Rattle.model_scanner.specs.Keys.{must_be_key}
-use Rattle.model_scanner.specs.Flow.{allow_key}
-use Rattle.model_scanner.specs.Document.{anchor_token, unled, node_start, fetch_anchor, fetch_tag, context, after_plain, fetch_plain_scalar}
+use Rattle.model_scanner.specs.Document.{after_plain}
 use Rattle.model_scanner.proofs.Holds.{Holds, went, read}
-use Rattle.proof_lexers.specs.Separations.{begins_separation}
-use Rattle.proof_scanner.specs.PiecesRead.{ReadAs, comes_plain}
-use Rattle.proof_scanner.specs.Inside.{step_inside, levels_then}
-use Rattle.proof_scanner.specs.Stands.{columns, levels_of, account_of, IsAdjacent, Stood, Fares, FaresAt}
+use Rattle.proof_scanner.specs.Inside.{levels_then}
+use Rattle.proof_scanner.specs.Stands.{columns, Fares}
 use Rattle.proof_scanner.proofs.Cut.Pieces.Names.{name_is_read}
 use Rattle.proof_scanner.proofs.Cut.Pieces.Plains.{plain_is_read}
 use Rattle.proof_scanner.proofs.Cut.Pieces.Tags.{tag_is_read}

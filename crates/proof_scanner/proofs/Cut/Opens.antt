@@ -1,14 +1,11 @@
 -- Open keys, as the row goes on.
 use Rattle.std.proofs.Common.{◌≡◌, ℕ, suc, ◌+◌, List, [], ◌∷◌, ◌++◌, false, length, Option, Some, None, refl, ap, sym, ◌∙◌, subst, arith, append_assoc, length-append}
-use Rattle.defs_text.specs.Position.{Position}
-use Rattle.defs_text.specs.Text.{is_empty}
-use Rattle.defs_token.specs.Account.{Level, Account, first_account, settled}
-use Rattle.defs_token.specs.Cut.{Written, IsRow, spelled, account_at, account_past_row}
-use Rattle.defs_token.proofs.Append.{spelled_append}
-use Rattle.model_scanner.specs.State.{Key, with_top}
-use Rattle.proof_scanner.specs.Order.{NotBefore, After}
+use Rattle.proof_scanner.proofs.Common.{account_at, account_past_row, AreOpen, is_empty, IsLive, IsRow, Key, Level, NotBefore, Position, spelled_append, with_top}
+use Rattle.defs_token.specs.Account.{Account, first_account, settled}
+use Rattle.defs_token.specs.Cut.{Written, spelled}
+use Rattle.proof_scanner.specs.Order.{After}
 use Rattle.proof_scanner.specs.Inside.{inside}
-use Rattle.proof_scanner.specs.Here.{IsLive, IsInside, IsOpen, AreOpen}
+use Rattle.proof_scanner.specs.Here.{IsInside, IsOpen}
 use Rattle.proof_scanner.proofs.Cut.Positions.{after_then}
 use Rattle.proof_scanner.proofs.Cut.Insides.{inside_framed, inside_both}
 

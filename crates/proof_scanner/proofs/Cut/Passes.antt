@@ -1,26 +1,12 @@
 -- What the model passes between tokens.
 use Rattle.std.proofs.Common.{◌≡◌, ℕ, List, ◌++◌, Bool, true, false, Result, refl, ap, sym, ◌∙◌, subst, append_assoc}
-use Rattle.defs_text.specs.Position.{Position, position_after}
-use Rattle.defs_token.specs.Token.{Token}
-use Rattle.yaml_tokens.specs.declared.problem.Fault.{Fault}
-use Rattle.defs_token.specs.Separation.{is_separation}
-use Rattle.defs_token.specs.Account.{Before, before_past}
-use Rattle.model_scanner.specs.declared.level.Indent.{Indent}
-use Rattle.model_scanner.specs.declared.level.FlowLevel.{FlowLevel}
-use Rattle.model_scanner.specs.declared.context.SkipTabs.{SkipTabs}
-use Rattle.model_scanner.specs.declared.context.Whitespace.{Whitespace}
+use Rattle.proof_scanner.proofs.Common.{Before, before_past, begins_separation, ends_spaces, Fault, FlowLevel, glued, GoesOverAs, Held, Indent, is_separation, lexed, misses, PassesAs, Position, position_after, position_append, ScannerState, separations_are_passed, skip, skip_spaces, skip_to_next_token, skip_yaml_whitespace, SkipTabs, spaces, spaces_are_passed, SpacesAs, Stood, Token, white, white_space_is_passed, Whitespace}
 use Rattle.model_scanner.specs.Machine.{Read}
 use Rattle.model_scanner.specs.Blanks.{space}
-use Rattle.model_scanner.specs.State.{Held, ScannerState, lexed}
-use Rattle.model_scanner.specs.Space.{between, skip, skip_to_next_token, skip_spaces, white, skip_yaml_whitespace}
+use Rattle.model_scanner.specs.Space.{between}
 use Rattle.model_scanner.proofs.Holds.{Holds, went, refused}
 use Rattle.proof_lexers.specs.PlainEnds.{has_break}
-use Rattle.proof_lexers.specs.Separations.{begins_separation, PassesAs, passes, refuses, GoesOverAs, goes, misses, are_spaces, ends_spaces, SpacesAs, spaces, glued}
-use Rattle.proof_lexers.proofs.Separation.Separations.{separations_are_passed}
-use Rattle.proof_lexers.proofs.Separation.WhiteSpace.{white_space_is_passed}
-use Rattle.proof_lexers.proofs.Separation.Spaces.{spaces_are_passed}
-use Rattle.proof_lexers.proofs.Separation.Positions.{position_append}
-use Rattle.proof_scanner.specs.Stands.{Stood}
+use Rattle.proof_lexers.specs.Separations.{passes, refuses, goes, are_spaces}
 use Rattle.proof_scanner.proofs.Cut.Pieces.Separations.{separation_append}
 use Rattle.proof_scanner.proofs.Cut.Stoods.{stood_filled}
 

@@ -1,8 +1,8 @@
 -- Positions after texts.
 use Rattle.std.proofs.Common.{◌≡◌, ℕ, suc, ◌+◌, List, [], ◌∷◌, ◌++◌, Bool, true, false, if◌then◌else◌, length, refl, arith}
-use Rattle.defs_text.specs.Position.{Position, position_past, position_after}
+use Rattle.proof_scanner.proofs.Common.{NotBefore, Position, position_after, position_past}
 use Rattle.defs_text.specs.Breaks.{ends_line}
-use Rattle.proof_scanner.specs.Order.{NotBefore, After}
+use Rattle.proof_scanner.specs.Order.{After}
 
 pub not_before_same : (p : Position) → NotBefore p p
 not_before_same p = (omega arith, λ h. omega arith)

@@ -1,12 +1,8 @@
 -- One token more, with its piece and the separation after it.
 use Rattle.std.proofs.Common.{◌≡◌, ℕ, ◌-◌, List, [], ◌∷◌, ◌++◌, Bool, true, false, if◌then◌else◌, Option, Some, refl, ap, sym, ◌∙◌, subst}
-use Rattle.defs_text.specs.Position.{Position}
-use Rattle.defs_token.specs.Token.{Tok}
-use Rattle.defs_token.specs.Separation.{is_separation}
-use Rattle.defs_token.specs.Account.{Level, Account, Before, settled, blocks_past, levels_past, account_past_separation, account_at_piece, account_past_token}
-use Rattle.defs_token.specs.Piece.{IsPiece}
-use Rattle.defs_token.specs.Cut.{Written, IsRow, account_at, account_past_row}
-use Rattle.model_scanner.specs.declared.level.Indent.{Indent}
+use Rattle.proof_scanner.proofs.Common.{account_at, account_past_row, account_past_separation, account_past_token, Before, blocks_past, Indent, is_separation, IsPiece, IsRow, Level, levels_past, Position, Tok}
+use Rattle.defs_token.specs.Account.{Account, settled, account_at_piece}
+use Rattle.defs_token.specs.Cut.{Written}
 use Rattle.proof_scanner.specs.Here.{Here}
 use Rattle.proof_scanner.specs.Stands.{columns}
 use Rattle.proof_scanner.proofs.Cut.Heres.{before_again, here_more, here_filled, led}

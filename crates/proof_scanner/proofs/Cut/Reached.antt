@@ -1,9 +1,6 @@
 -- Where a run has come to in a text, and whether it met the stream's start.
 use Rattle.std.proofs.Common.{◌≡◌, ℕ, List, [], ◌∷◌, true, false, refl, ap, sym, subst}
-use Rattle.defs_text.specs.Text.{is_empty, has_no_nul}
-use Rattle.defs_token.specs.Token.{Token}
-use Rattle.model_scanner.specs.State.{ScannerState}
-use Rattle.model_scanner.specs.Run.{start, Reaches}
+use Rattle.proof_scanner.proofs.Common.{has_no_nul, is_empty, Reaches, ScannerState, start, Token}
 use Rattle.proof_scanner.specs.Positions.{IsWhere}
 use Rattle.proof_scanner.proofs.Cut.RowPositions.{stands_position}
 use Rattle.proof_scanner.proofs.Cut.Fetched.{goes, over, Came, starts, fares, came}

@@ -1,10 +1,7 @@
 -- Where a block collection begins: the levels of indentation, and the columns of block collections.
 use Rattle.std.proofs.Common.{◌≡◌, ℕ, ◌+◌, ◌-◌, List, [], ◌∷◌, Bool, true, false, nat_le, nat_lt, if◌then◌else◌, Option, Some, refl, ap, sym, ◌∙◌, subst, arith}
-use Rattle.defs_text.specs.Position.{Position}
-use Rattle.defs_token.specs.Token.{Tok, Token}
-use Rattle.model_scanner.specs.declared.level.Indent.{Indent}
-use Rattle.model_scanner.specs.State.{Held, in_flow, token}
-use Rattle.model_scanner.specs.Indents.{level, placed, drop_open, drop_open_level, deepen, roll_indent, roll_one_col_indent}
+use Rattle.proof_scanner.proofs.Common.{deepen, drop_open, drop_open_level, Held, in_flow, Indent, level, Position, roll_indent, roll_one_col_indent, Tok, Token, token}
+use Rattle.model_scanner.specs.Indents.{placed}
 use Rattle.proof_scanner.specs.Stands.{columns, AreLevels}
 use Rattle.proof_scanner.proofs.Cut.Levels.{one_indents, one_indent, rolled_one_is, one_columns, one_levels}
 

@@ -1,13 +1,10 @@
 -- The position after a row of pieces and a separation is that after the text that they spell.
 use Rattle.std.proofs.Common.{◌≡◌, ℕ, List, [], ◌∷◌, ◌++◌, refl, ap, sym, ◌∙◌, subst, append_assoc, append-nil}
-use Rattle.defs_text.specs.Position.{Position, first_position, position_after}
+use Rattle.proof_scanner.proofs.Common.{account_past_row, FaresAt, first_position, Position, position_after, position_append, ScannerState}
 use Rattle.defs_token.specs.Account.{Account, first_account}
-use Rattle.defs_token.specs.Cut.{Written, spelled, account_past, account_past_row}
-use Rattle.model_scanner.specs.State.{ScannerState}
-use Rattle.proof_lexers.proofs.Separation.Positions.{position_append}
+use Rattle.defs_token.specs.Cut.{Written, spelled, account_past}
 use Rattle.proof_scanner.specs.Here.{Here}
 use Rattle.proof_scanner.specs.Positions.{IsPositionIn}
-use Rattle.proof_scanner.specs.Stands.{FaresAt}
 
 spelled_before : (ws : List Written) (after : List ℕ) → spelled ws after ≡ spelled ws [] ++ after
 spelled_before [] after = refl

@@ -1,14 +1,10 @@
 -- A node's token, which may turn out to be a key: what the open keys are after it.
 use Rattle.std.proofs.Common.{◌≡◌, ℕ, suc, ◌+◌, List, [], ◌∷◌, ◌++◌, Bool, true, false, length, if◌then◌else◌, Option, Some, refl, ap, sym, ◌∙◌, subst, arith}
-use Rattle.defs_text.specs.Position.{Position, position_after}
-use Rattle.defs_token.specs.Token.{Tok}
-use Rattle.defs_token.specs.Account.{Level, Account, first_account, settled}
-use Rattle.defs_token.specs.Piece.{begins_node}
-use Rattle.defs_token.specs.Cut.{Written, IsRow, spelled, tokens_of, account_past_row}
-use Rattle.model_scanner.specs.State.{Key, Held, with_top}
-use Rattle.model_scanner.specs.Keys.{save_implicit_key, must_be_key}
-use Rattle.proof_scanner.specs.Order.{NotBefore, After}
-use Rattle.proof_scanner.specs.Here.{Here, IsLive, IsNotRight, account_in, AreOpen}
+use Rattle.proof_scanner.proofs.Common.{account_past_row, AreOpen, begins_node, Held, IsLive, IsNotRight, IsRow, Key, Level, must_be_key, NotBefore, Position, position_after, save_implicit_key, Tok, tokens_of, with_top}
+use Rattle.defs_token.specs.Account.{Account, first_account, settled}
+use Rattle.defs_token.specs.Cut.{Written, spelled}
+use Rattle.proof_scanner.specs.Order.{After}
+use Rattle.proof_scanner.specs.Here.{Here, account_in}
 use Rattle.proof_scanner.proofs.Cut.Positions.{not_before_same, weaker}
 use Rattle.proof_scanner.proofs.Cut.Heres.{led, spelled_led}
 use Rattle.proof_scanner.proofs.Cut.Pushed.{with_piece}

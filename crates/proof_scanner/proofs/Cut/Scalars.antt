@@ -2,28 +2,14 @@
 use Rattle.std.proofs.Common.{◌≡◌, ℕ, ◌+◌, ◌≤◌, List, [], ◌∷◌, ◌++◌, Bool, true, false, not, ◌==◌, ◌||◌, length, nat_lt, if◌then◌else◌, Option, Some, Result, Ok, refl, ap, sym, ◌∙◌, subst, arith, inl, inr, ◌⊎◌}
 use Rattle.std.proofs.lemmas.Bool.{and_parts}
 use Rattle.std.proofs.lemmas.Bool.Decides.{nat_tests}
-use Rattle.defs_text.specs.Position.{Position}
-use Rattle.defs_text.specs.Text.{is_empty}
-use Rattle.yaml_tokens.specs.declared.problem.Fault.{Fault}
-use Rattle.defs_token.specs.Token.{Tok, Token}
+use Rattle.proof_scanner.proofs.Common.{account_of, adjacent_here, allow_key, before_past, begins_node, begins_separation, block_style, blocks_past, chained, check_after_quoted, choice, context, FaresAt, Fault, fetch_block_scalar, fetch_flow_scalar, go_on, Held, is_adjacent, is_empty, is_separation, IsAdjacent, Level, Levels, levels_of, levels_past, lexed, must_be_key, on_held, Position, push, quoted_style, ReadAs, ScannerState, skip_to_next_token, Stood, Tok, Token, token, unled, unroll_non_block_indents, without_open, Yes, ◌>>=◌}
 use Rattle.defs_text.specs.Classes.{is_break, is_blank}
-use Rattle.defs_token.specs.Separation.{is_separation}
-use Rattle.defs_token.specs.Account.{Level, Account, quoted, other, before_past, before_by, is_adjacent, blocks_past, levels_past}
-use Rattle.defs_token.specs.Piece.{begins_node}
-use Rattle.model_scanner.specs.declared.context.SkipTabs.TheVariants.{Yes}
+use Rattle.defs_token.specs.Account.{Account, quoted, other, before_by}
 use Rattle.model_scanner.specs.Machine.{Read}
 use Rattle.model_scanner.specs.Quoted as quotes
 use Rattle.model_scanner.specs.BlockScalar as blocks
-use Rattle.model_scanner.specs.Indents.{Levels, without_open, unroll_non_block_indents}
-use Rattle.model_scanner.specs.State.{Held, ScannerState, ◌>>=◌, push, token, on_held, go_on, lexed}
-use Rattle.model_scanner.specs.Keys.{must_be_key}
-use Rattle.model_scanner.specs.Space.{skip_to_next_token}
-use Rattle.model_scanner.specs.Flow.{allow_key}
-use Rattle.model_scanner.specs.Document.{unled, context, quoted_style, block_style, check_after_quoted, adjacent_here, fetch_flow_scalar, fetch_block_scalar}
-use Rattle.model_scanner.proofs.Holds.{Holds, went, refused, read, chained, choice}
-use Rattle.proof_lexers.specs.Separations.{begins_separation}
-use Rattle.proof_scanner.specs.PiecesRead.{ReadAs}
-use Rattle.proof_scanner.specs.Stands.{columns, levels_of, account_of, IsAdjacent, Stood, Fares, FaresAt}
+use Rattle.model_scanner.proofs.Holds.{Holds, went, refused, read}
+use Rattle.proof_scanner.specs.Stands.{columns, Fares}
 use Rattle.proof_scanner.proofs.Cut.Pieces.Blocks.{block_is_read}
 use Rattle.proof_scanner.proofs.Cut.Pieces.Quoted.{quoted_is_read}
 use Rattle.proof_scanner.proofs.Cut.Heres.{led}

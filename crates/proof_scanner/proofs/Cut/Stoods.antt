@@ -1,20 +1,12 @@
 -- What was passed of a text, as the position, the levels and the keys change.
 use Rattle.std.proofs.Common.{◌≡◌, ℕ, suc, ◌+◌, ◌-◌, ◌≤◌, List, [], ◌∷◌, ◌++◌, Bool, true, false, ◌==◌, length, if◌then◌else◌, Option, Some, refl, ap, sym, ◌∙◌, subst, arith, append_assoc, length-append}
-use Rattle.defs_text.specs.Position.{Position, position_after}
-use Rattle.defs_text.specs.Text.{is_empty}
-use Rattle.defs_token.specs.Token.{Tok, Token}
-use Rattle.defs_token.specs.Separation.{is_separation}
-use Rattle.defs_token.specs.Account.{Level, Account, Before, before_past, before_by, is_adjacent, settled, blocks_past, levels_past, innermost_column}
-use Rattle.defs_token.specs.Piece.{IsPiece, begins_node}
-use Rattle.defs_token.specs.Cut.{Written, tokens_of, start_token}
+use Rattle.proof_scanner.proofs.Common.{account_of, AreOpen, Before, before_past, begins_node, blocks_past, FlowLevel, Indent, innermost_column, is_adjacent, is_empty, is_separation, IsAdjacent, IsLevel, IsNotRight, IsPiece, Key, Level, levels_of, levels_past, Position, position_after, ReadAs, start_token, Stood, Tok, Token, token, tokens_of, with_top}
+use Rattle.defs_token.specs.Account.{Account, before_by, settled}
+use Rattle.defs_token.specs.Cut.{Written}
 use Rattle.defs_token.proofs.Append.{tokens_append}
-use Rattle.model_scanner.specs.declared.level.Indent.{Indent}
-use Rattle.model_scanner.specs.declared.level.FlowLevel.{FlowLevel}
-use Rattle.model_scanner.specs.State.{Key, with_top, token}
-use Rattle.proof_scanner.specs.PiecesRead.{ReadAs}
 use Rattle.proof_scanner.specs.Order.{After}
-use Rattle.proof_scanner.specs.Here.{Here, IsNotRight, AreOpen}
-use Rattle.proof_scanner.specs.Stands.{columns, AreLevels, IsLevel, levels_of, account_of, IsAdjacent, Stood}
+use Rattle.proof_scanner.specs.Here.{Here}
+use Rattle.proof_scanner.specs.Stands.{columns, AreLevels}
 use Rattle.proof_scanner.proofs.Cut.Positions.{not_before_after, index_after, is_after, after_then}
 use Rattle.proof_scanner.proofs.Cut.Pieces.Separations.{separation_append}
 use Rattle.proof_scanner.proofs.Cut.Heres.{here_filled, led, before_both}

@@ -1,17 +1,12 @@
 -- The ends of block collections: what holds between fetches holds after them.
 use Rattle.std.proofs.Common.{◌≡◌, ℕ, suc, ◌+◌, ◌-◌, ◌<◌, ◌≤◌, List, [], ◌∷◌, ◌++◌, Bool, true, false, not, length, drop, nat_lt, if◌then◌else◌, Option, Some, None, refl, ap, sym, ◌∙◌, subst, arith}
 use Rattle.std.proofs.lemmas.Bool.Decides.{nat_tests}
-use Rattle.defs_text.specs.Position.{Position}
-use Rattle.defs_text.specs.Text.{is_empty}
-use Rattle.defs_token.specs.Token.{Tok, Token}
-use Rattle.defs_token.specs.Account.{Account, Before, innermost_column}
+use Rattle.proof_scanner.proofs.Common.{account_of, AreOpen, Before, FaresAt, FlowLevel, Held, Indent, innermost_column, is_empty, IsLive, IsNotRight, Key, Levels, levels_of, on_held, Position, ScannerState, Stood, Tok, Token, token, unroll_indent, unrolled}
+use Rattle.defs_token.specs.Account.{Account}
 use Rattle.defs_token.specs.Cut.{Written, spelled}
-use Rattle.model_scanner.specs.declared.level.Indent.{Indent}
-use Rattle.model_scanner.specs.declared.level.FlowLevel.{FlowLevel}
-use Rattle.model_scanner.specs.State.{Key, Held, ScannerState, token, on_held}
-use Rattle.model_scanner.specs.Indents.{Levels, with_levels, end_level, unrolled, unroll_indent}
-use Rattle.proof_scanner.specs.Here.{Here, IsLive, IsNotRight, AreOpen}
-use Rattle.proof_scanner.specs.Stands.{columns, levels_of, account_of, Stood, Fares, FaresAt}
+use Rattle.model_scanner.specs.Indents.{with_levels, end_level}
+use Rattle.proof_scanner.specs.Here.{Here}
+use Rattle.proof_scanner.specs.Stands.{columns, Fares}
 use Rattle.proof_scanner.proofs.Cut.Heres.{led}
 use Rattle.proof_scanner.proofs.Cut.Opens.{is_open_more}
 use Rattle.proof_scanner.proofs.Cut.Pushed.{with_piece, past_empty, here_empty}

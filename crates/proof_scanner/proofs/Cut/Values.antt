@@ -1,29 +1,16 @@
 -- The function of the model that reads a `:` without a key before it keeps what holds between fetches.
 use Rattle.std.proofs.Common.{◌≡◌, ℕ, suc, ◌+◌, ◌<◌, List, [], ◌∷◌, ◌++◌, Bool, true, false, not, ◌==◌, ◌||◌, length, Option, Some, None, Ok, refl, ap, sym, ◌∙◌, subst, arith, inr}
-use Rattle.defs_text.specs.Position.{Position, position_after}
-use Rattle.defs_text.specs.Text.{is_empty}
+use Rattle.proof_scanner.proofs.Common.{account_of, allow_key, Before, begin_keyless_mapping, begin_keyless_value, chained, check_after_tab, check_value_space, choice, FaresAt, FlowLevel, Held, in_flow, Indent, innermost_column, is_adjacent, is_at_gap, is_empty, is_value_indicator, IsPiece, Key, Keyed, levels_of, Mapping, paired, peek, Position, position_after, ReadAs, roll_indent, roll_one_col_indent, ScannerState, Stood, Tok, Token, token, top_key, weakened, Whitespace, with_top, Yes}
 use Rattle.yaml_tokens.specs.declared.problem.Fault.TheVariants.{At}
 use Rattle.yaml_tokens.specs.declared.problem.Problem.TheVariants as problem
-use Rattle.defs_token.specs.Token.{Tok, Token}
-use Rattle.defs_text.specs.Classes.{is_break, is_blank, is_at_gap}
-use Rattle.defs_token.specs.Plain.{is_value_indicator}
-use Rattle.defs_token.specs.Account.{Account, Before, other, is_adjacent, takes_pair, innermost_column}
-use Rattle.defs_token.specs.Piece.{IsPiece}
+use Rattle.defs_text.specs.Classes.{is_break, is_blank}
+use Rattle.defs_token.specs.Account.{Account, other, takes_pair}
 use Rattle.defs_token.specs.Cut.{Written}
 use Rattle.model_scanner.specs.Machine.{past}
-use Rattle.model_scanner.specs.declared.context.SkipTabs.TheVariants.{Yes}
-use Rattle.model_scanner.specs.declared.context.Whitespace.{Whitespace}
-use Rattle.model_scanner.specs.declared.level.Indent.{Indent}
-use Rattle.model_scanner.specs.declared.level.FlowLevel.{FlowLevel}
-use Rattle.model_scanner.specs.declared.level.FlowLevel.TheVariants.{Mapping, Entry, Keyed, Pair}
-use Rattle.model_scanner.specs.State.{Key, Held, ScannerState, peek, in_flow, with_top, token}
-use Rattle.model_scanner.specs.Keys.{top_key}
-use Rattle.model_scanner.specs.Indents.{roll_indent, roll_one_col_indent}
-use Rattle.model_scanner.specs.Flow.{allow_key}
-use Rattle.model_scanner.specs.Block.{check_after_tab, check_value_space, opens_pair, paired, begin_keyless_mapping, begin_keyless_value}
-use Rattle.model_scanner.proofs.Holds.{Holds, went, chained, choice, passes, weakened}
-use Rattle.proof_scanner.specs.PiecesRead.{ReadAs}
-use Rattle.proof_scanner.specs.Stands.{columns, AreLevels, levels_of, account_of, Stood, Fares, FaresAt}
+use Rattle.model_scanner.specs.declared.level.FlowLevel.TheVariants.{Entry, Pair}
+use Rattle.model_scanner.specs.Block.{opens_pair}
+use Rattle.model_scanner.proofs.Holds.{Holds, went, passes}
+use Rattle.proof_scanner.specs.Stands.{columns, AreLevels, Fares}
 use Rattle.proof_scanner.proofs.Cut.Positions.{weaker, index_after}
 use Rattle.proof_scanner.proofs.Cut.Heres.{led, spelled_led}
 use Rattle.proof_scanner.proofs.Cut.Pushed.{with_piece, columns_settled}

@@ -2,23 +2,16 @@
 use Rattle.std.proofs.Common.{◌≡◌, ℕ, ◌≤◌, List, [], ◌∷◌, ◌++◌, Bool, true, false, not, length, nat_lt, Option, Some, None, Result, Ok, refl, ap, sym, ◌∙◌, subst, arith}
 use Rattle.std.specs.List.{insert}
 use Rattle.std.proofs.lemmas.Bool.Decides.{nat_tests}
-use Rattle.defs_text.specs.Position.{Position}
-use Rattle.defs_text.specs.Text.{is_empty}
-use Rattle.yaml_tokens.specs.declared.problem.Fault.{Fault}
+use Rattle.proof_scanner.proofs.Common.{Before, begin_pair, chained, FaresAt, Fault, fetch_value, FlowLevel, Held, in_flow, insert_key, is_adjacent, is_empty, is_value_indicator, Key, Keyed, levels_of, Mapping, on_held, paired, Position, push, roll_indent, roll_one_col_indent, ScannerState, skip_indicator, Stood, Tok, Token, token, top_key, try_held, with_held, with_top, ◌>>=◌}
 use Rattle.yaml_tokens.specs.declared.problem.Fault.TheVariants.{At}
 use Rattle.yaml_tokens.specs.declared.problem.Problem.TheVariants as problem
-use Rattle.defs_token.specs.Token.{Tok, Token}
-use Rattle.defs_token.specs.Plain.{is_value_indicator}
-use Rattle.defs_token.specs.Account.{Before, other, is_adjacent}
+use Rattle.defs_token.specs.Account.{other}
 use Rattle.model_scanner.specs.Machine.{past}
-use Rattle.model_scanner.specs.declared.level.FlowLevel.{FlowLevel}
-use Rattle.model_scanner.specs.declared.level.FlowLevel.TheVariants.{Mapping, Entry, Keyed, Pair}
-use Rattle.model_scanner.specs.State.{Key, Held, ScannerState, ◌>>=◌, in_flow, push, with_top, token, after, on_held, with_held, try_held, skip_indicator}
-use Rattle.model_scanner.specs.Keys.{top_key}
-use Rattle.model_scanner.specs.Indents.{roll_indent, roll_one_col_indent}
-use Rattle.model_scanner.specs.Block.{opens_pair, paired, begin_pair, insert_key, value_of, fetch_value}
-use Rattle.model_scanner.proofs.Holds.{Holds, went, chained, checked, tried}
-use Rattle.proof_scanner.specs.Stands.{AreLevels, levels_of, Stood, Fares, FaresAt}
+use Rattle.model_scanner.specs.declared.level.FlowLevel.TheVariants.{Entry, Pair}
+use Rattle.model_scanner.specs.State.{after}
+use Rattle.model_scanner.specs.Block.{opens_pair, value_of}
+use Rattle.model_scanner.proofs.Holds.{Holds, went, checked, tried}
+use Rattle.proof_scanner.specs.Stands.{AreLevels, Fares}
 use Rattle.proof_scanner.proofs.Cut.Stoods.{stood_levels}
 use Rattle.proof_scanner.proofs.Cut.Passes.{placed_at, Passed, Filled}
 use Rattle.proof_scanner.proofs.Cut.Nodes.{same_flow, AreNear}

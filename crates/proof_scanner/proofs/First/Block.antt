@@ -2,25 +2,18 @@
 use Rattle.std.proofs.Common.{◌≡◌, ℕ, ◌-◌, List, [], ◌∷◌, ◌++◌, Bool, true, false, ◌||◌, ◌&&◌, ◌==◌, if◌then◌else◌, Option, Some, None, refl, ap, sym, ◌∙◌, subst}
 use Rattle.std.proofs.lemmas.Bool.{and_parts, eqb-true}
 use Rattle.std.proofs.lemmas.List.{append_cancel_right}
-use Rattle.defs_text.specs.BlockScalar.{BlockStyle, literal, folded, strip, keep, Chomping, Header, sign_of, digit_of, after_sign, digit_or_end, after_digit, sign_or_end, after_style, first_indicator, header_of}
-use Rattle.defs_text.specs.Breaks.{is_blanks_and_comment, is_rest_of_line, split}
-use Rattle.defs_text.specs.Classes.{tab, is_blank, is_between, is_at_end}
-use Rattle.defs_text.specs.FlowScalar.{begins_with}
-use Rattle.defs_text.specs.Position.{Position, position_after}
-use Rattle.defs_text.specs.Text.{has_no_nul}
-use Rattle.defs_token.specs.BlockPiece.{past_spaces}
-use Rattle.defs_token.specs.Column.{innermost}
-use Rattle.yaml_tokens.specs.declared.problem.Problem.{Problem}
+use Rattle.proof_scanner.proofs.Common.{begins_with, block_first, BlockStyle, has_no_nul, header_of, indicator_of, innermost, is_at_end, is_blanks_and_comment, is_rest_of_line, IsBlockFault, IsNoHeader, past_spaces, Position, position_after, Problem, split, tab}
+use Rattle.defs_text.specs.BlockScalar.{literal, folded, strip, keep, Chomping, Header, sign_of, digit_of, after_sign, digit_or_end, after_digit, sign_or_end, after_style, first_indicator}
+use Rattle.defs_text.specs.Classes.{is_blank, is_between}
 use Rattle.proof_lexers.specs.HeaderEnds as headers
-use Rattle.proof_lexers.specs.HeaderEnds.{indicator_of, is_in_line, is_sign, has_zero, past_one, past_indicators}
+use Rattle.proof_lexers.specs.HeaderEnds.{is_in_line, is_sign, has_zero, past_one, past_indicators}
 use Rattle.proof_lexers.proofs.Blocks.Ends.{style_same}
 use Rattle.proof_lexers.proofs.Blocks.Scans.{style_inner}
 use Rattle.proof_row.proofs.Blocks.{has_header, blocks}
 use Rattle.proof_row.proofs.Lines.{first_line, up_to_break, line_is, line_more}
 use Rattle.proof_row.proofs.Texts.{no_nul_after}
 use Rattle.proof_scanner.specs.NoPiece as none
-use Rattle.proof_scanner.specs.NoPiece.{IsNoHeader, IsBlockFault}
-use Rattle.proof_scanner.specs.FirstBlock.{header_first, block_first}
+use Rattle.proof_scanner.specs.FirstBlock.{header_first}
 use Rattle.proof_scanner.proofs.Refusals.TextsRefused.{first_of, piece_line}
 
 -- ---- a header's line after its indicators

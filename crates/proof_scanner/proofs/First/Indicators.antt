@@ -2,18 +2,9 @@
 use Rattle.std.proofs.Common.{◌≡◌, ℕ, List, [], ◌∷◌, ◌++◌, Bool, true, false, not, ◌==◌, ◌&&◌, ◌||◌, refl, ap, sym, ◌∙◌, arith, subst}
 use Rattle.std.proofs.lemmas.Bool.{and_parts, eqb-true}
 use Rattle.std.proofs.lemmas.Bool.Decides.{nat_tests}
-use Rattle.defs_text.specs.Classes.{is_blank, is_break, is_nul, is_blank_or_end, is_alpha, is_decimal_digit, is_letter, is_at_gap}
-use Rattle.defs_text.specs.Position.{Position, position_after}
-use Rattle.defs_text.specs.Text.{has_no_nul}
-use Rattle.defs_token.specs.Piece.{begins_with_space_or_break}
-use Rattle.defs_token.specs.Separation.{is_separation}
-use Rattle.defs_token.specs.Indentation.{begins_entry, begins_with_alpha, colon_may_precede, has_tab_before_piece}
-use Rattle.yaml_tokens.specs.declared.problem.Problem.{Problem}
+use Rattle.proof_scanner.proofs.Common.{begins_entry, begins_separation, begins_with_alpha, begins_with_space_or_break, colon_may_precede, ends_separation, further, has_no_nul, has_tab_before_piece, is_at_gap, is_blank_or_end, is_decimal_digit, is_letter, is_nul, is_separation, Position, position_after, Problem, separations}
+use Rattle.defs_text.specs.Classes.{is_blank, is_break, is_alpha}
 use Rattle.yaml_tokens.specs.declared.problem.Problem.TheVariants as problem
-use Rattle.proof_lexers.specs.NameEnds.{further}
-use Rattle.proof_lexers.specs.Separations.{begins_separation}
-use Rattle.proof_row.specs.Ends.{ends_separation}
-use Rattle.proof_row.proofs.Separations.{separations}
 use Rattle.proof_row.proofs.Texts.{no_nul_after}
 use Rattle.proof_scanner.specs.NoPiece.{GoesOn}
 use Rattle.proof_scanner.specs.First.{opens, may_ask}

@@ -1,26 +1,17 @@
 -- Two places of a text where something fails first: they are one place, or one fails by a TAB that the other has told.
 use Rattle.std.proofs.Common.{◌≡◌, ℕ, List, [], ◌∷◌, ◌++◌, Bool, true, false, not, Option, Some, None, refl, ap, sym, ◌∙◌, subst}
 use Rattle.std.proofs.lemmas.Bool.{and_parts}
-use Rattle.defs_text.specs.Position.{Position, position_after}
-use Rattle.defs_text.specs.Text.{up_to_nul, is_empty, has_no_nul}
+use Rattle.proof_scanner.proofs.Common.{act_of, begins_separation, Fails, FailsFirst, follows_plain, gives_node, has_no_nul, is_empty, is_free_of_tabs, is_indented_by_spaces, is_separation, IsLike, IsQuoted, Position, position_after, Problem, separations, Site, up_to_nul}
 use Rattle.defs_token.specs.Piece.{Holds}
-use Rattle.defs_token.specs.Separation.{is_separation}
-use Rattle.defs_token.specs.Step.{Step, act_of, gives_node, spelled}
-use Rattle.defs_token.specs.Indentation.{is_indented_by_spaces, follows_plain}
-use Rattle.defs_token.specs.RowAccount.{Account, Site, first_account, account_past}
-use Rattle.proof_lexers.specs.Separations.{begins_separation}
+use Rattle.defs_token.specs.Step.{Step, spelled}
+use Rattle.defs_token.specs.RowAccount.{Account, first_account, account_past}
 use Rattle.proof_row.proofs.Pieces.{clean_up_to_end}
-use Rattle.proof_row.proofs.Separations.{separations}
 use Rattle.proof_row.proofs.Texts.{no_nul_after}
 use Rattle.proof_row.proofs.Written.{At}
-use Rattle.proof_row.proofs.Like.{IsLike}
 use Rattle.proof_scanner.proofs.Complete.Steps.{ends_before, step_here}
-use Rattle.yaml_tokens.specs.declared.problem.Problem.{Problem}
 use Rattle.yaml_tokens.specs.declared.problem.Problem.TheVariants as problem
-use Rattle.proof_scanner.specs.NoPiece.{IsQuoted}
 use Rattle.proof_scanner.specs.Failing as failing
-use Rattle.proof_scanner.specs.Failing.{Fails}
-use Rattle.proof_scanner.specs.First.{is_free_of_tabs, comes_first, FailsFirst}
+use Rattle.proof_scanner.specs.First.{comes_first}
 use Rattle.proof_scanner.proofs.Complete.Nodes.Past.{node_site_past}
 use Rattle.proof_scanner.proofs.Cut.Pieces.Separations.{gap_is_separation}
 use Rattle.proof_scanner.proofs.Refusals.OtherRows.{StepAt, IsClearAfter, IsClearGapAfter, no_tab_before}

@@ -1,15 +1,12 @@
 -- A plain scalar has one fault that comes first.
 use Rattle.std.proofs.Common.{◌≡◌, ℕ, List, [], ◌∷◌, ◌++◌, Bool, true, false, Option, refl, ap, sym, ◌∙◌}
 use Rattle.std.proofs.lemmas.List.{append_cancel_left}
+use Rattle.proof_scanner.proofs.Common.{begins_flow, innermost, IsPlainFault, plain_first, Position, position_after, Problem, Stand}
 use Rattle.defs_text.specs.Classes.{is_flow}
-use Rattle.defs_text.specs.Position.{Position, position_after}
-use Rattle.defs_token.specs.Column.{innermost}
-use Rattle.defs_token.specs.Plain.{Stand, inside, past, begins_flow, goes_on}
-use Rattle.yaml_tokens.specs.declared.problem.Problem.{Problem}
+use Rattle.defs_token.specs.Plain.{inside, past, goes_on}
 use Rattle.proof_lexers.proofs.Plain.Found.{further_on, no_flow}
 use Rattle.proof_scanner.specs.NoPiece as none
-use Rattle.proof_scanner.specs.NoPiece.{IsPlainFault, goes_over}
-use Rattle.proof_scanner.specs.FirstPlain.{plain_first}
+use Rattle.proof_scanner.specs.NoPiece.{goes_over}
 
 dash_no_flow : is_flow 45 ≡ false
 unfolding is_flow

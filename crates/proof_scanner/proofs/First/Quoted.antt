@@ -1,30 +1,17 @@
 -- Of two reasons why a quoted scalar is refused at a place that both come first, kind and position are the same.
 use Rattle.std.proofs.Common.{◌≡◌, ℕ, ◌+◌, List, [], ◌∷◌, ◌++◌, Bool, true, false, not, ◌||◌, ◌==◌, nat_lt, append-nil, refl, ap, sym, ◌∙◌, subst}
 use Rattle.std.proofs.lemmas.Bool.{eqb-true}
+use Rattle.proof_scanner.proofs.Common.{are_indented, AreNotIndented, begins_separation, begins_solid, begins_with, closed_first, content, Element, has_marker, has_no_nul, has_tab_within, HasNoQuoted, is_empty, is_indented_by_spaces, is_separation, IsQuoted, IsQuotedFault, least_column, lines_first, marked_from, off_margin, Position, position_after, Problem, quoted_may_end, quoted_scalar, separations, tab, within}
 use Rattle.defs_text.specs.Classes as classes
-use Rattle.defs_text.specs.Classes.{tab}
-use Rattle.defs_text.specs.Position.{Position, position_after}
-use Rattle.defs_text.specs.Text.{is_empty, has_no_nul}
-use Rattle.defs_text.specs.FlowScalar.{Element, content, begins_with}
-use Rattle.defs_token.specs.Separation.{is_separation}
-use Rattle.defs_token.specs.Step.{quoted_scalar, has_break}
-use Rattle.defs_token.specs.Indentation.{is_indented_by_spaces, has_tab_within, least_column, last_line}
-use Rattle.defs_token.specs.Following.{quoted_may_end}
-use Rattle.yaml_tokens.specs.declared.problem.Problem.{Problem}
+use Rattle.defs_token.specs.Step.{has_break}
+use Rattle.defs_token.specs.Indentation.{last_line}
 use Rattle.yaml_tokens.specs.declared.problem.Problem.TheVariants as problem
 use Rattle.model_scanner.specs.Machine.{past}
 use Rattle.proof_row.proofs.Quotes.{singles, doubles}
-use Rattle.proof_row.proofs.Separations.{separations}
-use Rattle.proof_lexers.specs.PlainEnds.{begins_solid}
-use Rattle.proof_lexers.specs.QuotedScan.{has_marker}
-use Rattle.proof_lexers.specs.Separations.{begins_separation}
-use Rattle.proof_lexers.proofs.Quoted.Bodies.{marked_from}
-use Rattle.proof_lexers.proofs.Quoted.Turns.{off_margin}
 use Rattle.proof_scanner.specs.NoPiece as none
-use Rattle.proof_scanner.specs.NoPiece.{quote_of, IsQuoted, HasNoQuoted, IsNotQuoted, GoesOn}
+use Rattle.proof_scanner.specs.NoPiece.{quote_of, IsNotQuoted, GoesOn}
 use Rattle.proof_scanner.specs.QuotedLines as lines
-use Rattle.proof_scanner.specs.QuotedLines.{within, AreNotIndented, IsQuotedFault}
-use Rattle.proof_scanner.specs.FirstQuoted.{are_indented, quoted_first, lines_first, closed_first}
+use Rattle.proof_scanner.specs.FirstQuoted.{quoted_first}
 use Rattle.proof_scanner.proofs.Complete.Steps.{ends_before}
 use Rattle.proof_scanner.proofs.Sound.Arrivals.{clean_after}
 use Rattle.proof_scanner.proofs.Sound.Passed.{same_has_break}

@@ -2,23 +2,16 @@
 use Rattle.std.proofs.Common.{◌≡◌, ℕ, zero, suc, ◌+◌, ◌≤◌, List, [], ◌∷◌, ◌++◌, Bool, true, false, not, ◌&&◌, ◌||◌, ◌==◌, nat_lt, if◌then◌else◌, length, take, drop, append-nil, append_assoc, Option, Some, None, ◌⊎◌, inl, inr, refl, ap, sym, ◌∙◌, subst, arith}
 use Rattle.std.proofs.lemmas.Bool.{and_parts, eqb-true}
 use Rattle.std.proofs.lemmas.List.{take-append-drop, take-append-le, drop-append-le, length-take}
+use Rattle.proof_scanner.proofs.Common.{at_start, begins_further, begins_solid, begins_with, content, double_quoted_element, Element, element_of, elements, escape, has_marker, hexadecimal, is_document_marker, IsBadEscape, LineStand, lookup, marked_from, numbered, numeric_escape, numeric_escapes, past_element, past_elements, past_escaped, Position, position_after, Problem, put_before, same_blank, same_break, Spelled, within}
 use Rattle.defs_text.specs.Classes as classes
-use Rattle.defs_text.specs.Classes.{is_document_marker}
-use Rattle.defs_text.specs.Position.{Position, position_after}
-use Rattle.defs_text.specs.FlowScalar.{Element, content, Spelled, double_quoted_element, begins_with, lookup, numeric_escapes, hexadecimal, numbered, numeric_escape, escape, elements, followed, put_before}
+use Rattle.defs_text.specs.FlowScalar.{followed}
 use Rattle.yaml_chars.specs.Class.{is_break, is_blank}
-use Rattle.yaml_tokens.specs.declared.problem.Problem.{Problem}
 use Rattle.proof_row.proofs.Splits.{More, splits}
-use Rattle.proof_lexers.specs.PlainEnds.{begins_solid}
-use Rattle.proof_lexers.specs.QuotedEnds.{number_at, IsBadEscape}
+use Rattle.proof_lexers.specs.QuotedEnds.{number_at}
 use Rattle.proof_lexers.specs.QuotedEnds as bad
-use Rattle.proof_lexers.specs.QuotedScan.{element_of, has_marker}
-use Rattle.proof_lexers.proofs.Bridges.{same_break, same_blank}
-use Rattle.proof_lexers.proofs.Quoted.Bodies.{marked_from}
 use Rattle.proof_lexers.proofs.Quoted.Local.{Local, LocalOf, local}
 use Rattle.proof_scanner.proofs.Sound.QuotedBreaks.{Kind, has_content, has_blank, has_line, has_escaped, is_white}
 use Rattle.proof_scanner.specs.NoPiece.{quote_of}
-use Rattle.proof_scanner.specs.QuotedLines.{LineStand, within, at_start, past_escaped, past_element, past_elements, begins_further}
 use Rattle.proof_scanner.proofs.Refusals.QuotedElements.{after_it, kind_of}
 use Rattle.proof_scanner.proofs.Refusals.QuotedReasons.{and_assoc, stands, column_past, all_stand, Cut, Place, by_end, by_escape, by_column, by_tab, Reason, marked, other, columns_are, place}
 

@@ -2,44 +2,26 @@
 use Rattle.std.proofs.Common.{◌≡◌, ℕ, ◌⊎◌, inl, inr, List, [], ◌∷◌, ◌++◌, Bool, true, false, not, ◌==◌, ◌&&◌, ◌||◌, nat_le, if◌then◌else◌, None, refl, ap, sym, ◌∙◌, subst, arith}
 use Rattle.std.proofs.lemmas.Bool.{eqb-true}
 use Rattle.std.proofs.lemmas.Bool.Decides.{nat_tests}
-use Rattle.defs_text.specs.BlockScalar.{BlockStyle, literal, folded, header_of}
-use Rattle.defs_text.specs.Breaks.{has_no_break}
-use Rattle.defs_text.specs.Classes.{tab, is_blank, is_break, is_nul, is_flow, is_blank_or_end, is_at_gap, are_marks}
-use Rattle.defs_text.specs.Position.{Position, position_after}
-use Rattle.defs_text.specs.Text.{is_empty, has_no_nul}
-use Rattle.defs_text.specs.FlowScalar.{begins_with}
-use Rattle.defs_token.specs.Column.{innermost}
-use Rattle.defs_token.specs.Following.{quoted_may_end}
-use Rattle.defs_token.specs.Plain.{is_value_indicator, begins_flow}
-use Rattle.defs_token.specs.Separation.{is_separation}
-use Rattle.defs_token.specs.Step.{quoted_scalar}
-use Rattle.defs_token.specs.Indentation.{least_column, is_indented_by_spaces, colon_may_precede}
+use Rattle.proof_scanner.proofs.Common.{are_marks, AreNotIndented, begins_document_at, begins_flow, begins_separation, begins_white_space, begins_with, begins_with_space_or_break, block_first, BlockStyle, closed_first, colon_may_precede, comes_plain, dash, dashes, directive_line, Fails, FailsFirst, Fault, followed_first, has_no_break, has_no_nul, HasNoQuoted, header_of, in_double_quotes, in_single_quotes, indicator_of, innermost, is_at_gap, is_blank_or_end, is_empty, is_full, is_indented_by_spaces, is_nul, is_separation, is_taken, is_value_here, is_value_indicator, IsBlockFault, IsDirectiveRefusal, IsFollowed, IsLike, IsLookedAt, IsNoHeader, IsPlainFault, IsQuoted, IsQuotedFault, IsTagRefusal, least_column, least_here, lines_first, mapping_opening, NoPiece, plain_first, Position, position_after, Problem, question, quoted_may_end, quoted_scalar, sequence_opening, site_at_place, tab, tag_text}
+use Rattle.defs_text.specs.BlockScalar.{literal, folded}
+use Rattle.defs_text.specs.Classes.{is_blank, is_break, is_flow}
 use Rattle.defs_token.specs.RowAccount.{Account, is_in_flow}
-use Rattle.yaml_tokens.specs.declared.problem.Fault.{Fault}
 use Rattle.yaml_tokens.specs.declared.problem.Fault.TheVariants.{At}
-use Rattle.yaml_tokens.specs.declared.problem.Problem.{Problem}
 use Rattle.yaml_tokens.specs.declared.problem.Problem.TheVariants as problem
 use Rattle.proof_lexers.specs.DirectiveEnds as directives
-use Rattle.proof_lexers.specs.DirectiveEnds.{IsDirectiveRefusal}
-use Rattle.proof_lexers.specs.HeaderEnds.{indicator_of, is_in_line}
+use Rattle.proof_lexers.specs.HeaderEnds.{is_in_line}
 use Rattle.proof_lexers.specs.HeaderEnds as headers
-use Rattle.proof_lexers.specs.Separations.{begins_separation, begins_white_space}
-use Rattle.proof_lexers.specs.TagEnds.{IsTagRefusal}
-use Rattle.proof_row.specs.Ends.{Kind, nothing, plain_scalar, sequence_opening, sequence_closing, mapping_opening, mapping_closing, comma, question, colon, dash, dashes, dots, directive_line, alias_name, anchor_name, tag_text, in_single_quotes, in_double_quotes, block_scalar}
+use Rattle.proof_row.specs.Ends.{Kind, nothing, plain_scalar, sequence_closing, mapping_closing, comma, colon, dots, alias_name, anchor_name, block_scalar}
 use Rattle.proof_row.proofs.Blocks.{begins_block, block_begins}
 use Rattle.proof_row.proofs.Lines.{first_line, line_is}
-use Rattle.proof_row.proofs.Like.{IsLike}
-use Rattle.proof_scanner.specs.PiecesRead.{comes_plain}
 use Rattle.proof_scanner.specs.NoPiece as none
-use Rattle.proof_scanner.specs.NoPiece.{NoPiece, quote_of, name_mark, IsQuoted, HasNoQuoted, IsNotQuoted, IsNoHeader, IsPlainFault, IsBlockFault, GoesOn, IsFollowed, is_flow_indicator}
-use Rattle.proof_scanner.specs.QuotedLines.{AreNotIndented, IsQuotedFault}
+use Rattle.proof_scanner.specs.NoPiece.{quote_of, name_mark, IsNotQuoted, GoesOn, is_flow_indicator}
 use Rattle.proof_scanner.specs.QuotedLines as quoted_lines
 use Rattle.proof_scanner.specs.Failing as failing
-use Rattle.proof_scanner.specs.Failing.{MayNotStand, Fails, site_at_place, is_value_here, is_taken, begins_document_at}
-use Rattle.proof_scanner.specs.First.{least_here, is_full, IsLookedAt, no_piece_first, followed_first, stands_first, comes_first, FailsFirst, opens}
-use Rattle.proof_scanner.specs.FirstQuoted.{quoted_first, lines_first, closed_first}
-use Rattle.proof_scanner.specs.FirstPlain.{plain_first}
-use Rattle.proof_scanner.specs.FirstBlock.{header_first, block_first}
+use Rattle.proof_scanner.specs.Failing.{MayNotStand}
+use Rattle.proof_scanner.specs.First.{no_piece_first, stands_first, comes_first, opens}
+use Rattle.proof_scanner.specs.FirstQuoted.{quoted_first}
+use Rattle.proof_scanner.specs.FirstBlock.{header_first}
 use Rattle.proof_scanner.proofs.First.Plain.{one_plain}
 use Rattle.proof_scanner.proofs.First.Quoted as quoted
 use Rattle.proof_scanner.proofs.First.Quoted.{QuotedReason, one_quoted}
@@ -50,7 +32,6 @@ use Rattle.proof_scanner.proofs.Refusals.TextsRefused.{first_char}
 use Rattle.proof_scanner.proofs.First.Settings.{Setting, setting_of, is_deep_at, kind_here, same_setting}
 use Rattle.proof_scanner.proofs.First.Indicators as indicators
 use Rattle.proof_scanner.proofs.First.Indicators.{AreSame, DashReason, QuestionReason, ColonReason, BracketReason, DotsReason, tails, one_dash, one_question, one_colon, one_bracket, one_dots}
-use Rattle.defs_token.specs.Piece.{begins_with_space_or_break}
 
 -- ---- the reasons at one kind of piece
 

@@ -1,16 +1,10 @@
 -- What the reasons at a place ask of an account; it is the same at accounts that are alike.
 use Rattle.std.proofs.Common.{◌≡◌, ℕ, List, [], ◌∷◌, Bool, true, false, ◌||◌, nat_le, not, length, refl, if◌then◌else◌}
-use Rattle.defs_text.specs.Position.{Position}
-use Rattle.defs_token.specs.Account.{is_adjacent, before_past}
-use Rattle.defs_token.specs.Indentation.{least_column}
-use Rattle.defs_token.specs.Key.{Line, free, taken, waits, begins_free_line, line_past_separation}
+use Rattle.proof_scanner.proofs.Common.{before_past, begins_document_at, begins_free_line, comes_plain, free, is_adjacent, is_free_of_tabs, is_full, is_taken, is_taken_line, IsLike, least_column, LikeLine, line_past_separation, Position, site_at_place, taken}
+use Rattle.defs_token.specs.Key.{Line, waits}
 use Rattle.defs_token.specs.RowAccount.{Account, before_by, is_in_flow}
 use Rattle.proof_row.specs.Ends.{Kind, nothing, plain_scalar, kind_by}
 use Rattle.proof_row.proofs.Accounts.{same_flow}
-use Rattle.proof_row.proofs.Like.{LikeLine, IsLike}
-use Rattle.proof_scanner.specs.PiecesRead.{comes_plain}
-use Rattle.proof_scanner.specs.Failing.{site_at_place, is_taken_line, is_taken, begins_document_at}
-use Rattle.proof_scanner.specs.First.{is_free_of_tabs, is_full}
 use Rattle.proof_scanner.proofs.Refusals.PiecesHere.{many_alike}
 
 -- Whether the place is in flow; whether a colon may stand next to what stands before; whether outside flow the line is taken; whether as many flow collections are open as may be; whether no TAB indents what comes; the block collections, and whether a value is awaited.

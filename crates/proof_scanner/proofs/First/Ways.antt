@@ -1,18 +1,16 @@
 -- Two ways through one text: each beginning of a row goes through the place of the other, or the other goes on past its own. A way may give up a key that waits.
 use Rattle.std.proofs.Common.{◌≡◌, ℕ, List, [], ◌∷◌, ◌++◌, Bool, true, false, Option, Some, None, refl, ap, sym, ◌∙◌, subst}
-use Rattle.defs_text.specs.Position.{Position}
-use Rattle.defs_text.specs.Text.{up_to_nul, has_no_nul}
+use Rattle.proof_scanner.proofs.Common.{BeginsButForKey, filled, free, fresh, Had, has_no_nul, is_in_column, IsLike, LikeEntries, LikeLine, Position, taken, up_to_nul}
 use Rattle.defs_token.specs.Piece.{Holds}
 use Rattle.defs_token.specs.Step.{Step, spelled}
-use Rattle.defs_token.specs.Key.{Line, free, taken, waits}
-use Rattle.defs_token.specs.Column.{is_in_column}
+use Rattle.defs_token.specs.Key.{Line, waits}
 use Rattle.defs_token.specs.RowAccount.{Account, first_account, account_past}
 use Rattle.defs_token.specs.Row.{IsWritten}
-use Rattle.defs_token.specs.Beginning.{Leads, Begins, BeginsButForKey}
-use Rattle.defs_token.specs.FlowEntry.{Had, fresh, filled, settled, Had.waits as had_waits, Entry}
+use Rattle.defs_token.specs.Beginning.{Leads, Begins}
+use Rattle.defs_token.specs.FlowEntry.{settled, Had.waits as had_waits, Entry}
 use Rattle.proof_row.proofs.Texts.{no_nul_after}
 use Rattle.proof_row.proofs.Accounts.{account_step}
-use Rattle.proof_row.proofs.Like.{LikeLine, LikeHad, LikeEntries, IsLike, Stepped}
+use Rattle.proof_row.proofs.Like.{LikeHad, Stepped}
 use Rattle.proof_row.proofs.Written.{same_written}
 use Rattle.proof_scanner.proofs.Refusals.OtherRows.{With}
 

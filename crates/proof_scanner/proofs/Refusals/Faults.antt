@@ -1,8 +1,7 @@
 -- What holds of the fault of a step, if it has one: rules for the forms that the model's functions are made of.
 use Rattle.std.proofs.Common.{◌≡◌, Bool, true, false, if◌then◌else◌, Result, Ok, Err, refl, subst}
-use Rattle.yaml_tokens.specs.declared.problem.Fault.{Fault}
+use Rattle.proof_scanner.proofs.Common.{Fault, go_on, Held, lexed, ScannerState, with_held, ◌>>=◌}
 use Rattle.model_scanner.specs.Machine.{Read}
-use Rattle.model_scanner.specs.State.{Held, ScannerState, ◌>>=◌, with_held, go_on, lexed}
 
 -- F holds of the fault, if there is one
 pub data Faults (F : Fault → Type 0) {A : Type 0} : Result A Fault → Type 0 where

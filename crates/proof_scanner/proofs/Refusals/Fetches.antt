@@ -2,32 +2,20 @@
 use Rattle.std.proofs.Common.{◌≡◌, ℕ, ◌+◌, ◌≤◌, List, [], ◌∷◌, Bool, true, false, not, ◌==◌, ◌&&◌, ◌||◌, nat_le, nat_lt, refl, ap, sym, ◌∙◌, subst, arith, inl, inr}
 use Rattle.std.proofs.lemmas.Bool.{eqb-true}
 use Rattle.std.proofs.lemmas.Bool.Decides.{nat_tests}
-use Rattle.defs_text.specs.Classes.{are_marks, is_document_marker}
-use Rattle.defs_text.specs.Text.{is_empty}
-use Rattle.defs_text.specs.FlowScalar.{begins_with}
-use Rattle.defs_token.specs.Account.{is_adjacent, before_past}
-use Rattle.defs_token.specs.Token.{Tok}
-use Rattle.defs_token.specs.Step.{gives_node}
-use Rattle.defs_token.specs.Indentation.{least_column}
-use Rattle.defs_token.specs.RowAccount.{before_by, site_in}
+use Rattle.proof_scanner.proofs.Common.{are_marks, Arrives, before_past, begins_document_at, begins_with, comes_marker, end_stream, fetch_content, fetch_first_column, fetch_here, fetch_indented, fetch_stream_end, fetch_token, gives_node, has_open_level, has_required, Held, Indent, is_adjacent, is_document_marker, is_empty, IsStuck, least_column, Mapping, may_not_stand, peek, ScannerState, site_at_place, site_here, site_in, Tok}
+use Rattle.defs_token.specs.RowAccount.{before_by}
 use Rattle.yaml_tokens.specs.declared.problem.Fault.TheVariants.{At}
 use Rattle.yaml_tokens.specs.declared.problem.Problem.TheVariants as problem
-use Rattle.model_scanner.specs.declared.level.FlowLevel.TheVariants.{Mapping, Entry}
-use Rattle.model_scanner.specs.declared.level.Indent.{Indent}
-use Rattle.model_scanner.specs.State.{Held, ScannerState, peek, after}
-use Rattle.model_scanner.specs.Keys.{has_required}
-use Rattle.model_scanner.specs.Document.{next_line, end_stream, fetch_stream_end}
-use Rattle.model_scanner.specs.Fetch.{fetch_token, comes_marker, fetch_indented, fetch_first_column, fetch_content, fetch_here}
+use Rattle.model_scanner.specs.declared.level.FlowLevel.TheVariants.{Entry}
+use Rattle.model_scanner.specs.State.{after}
+use Rattle.model_scanner.specs.Document.{next_line}
 use Rattle.proof_scanner.proofs.Cut.Nodes.{IsDeep}
 use Rattle.proof_scanner.proofs.Cut.Dispatch.{token_holds}
 use Rattle.proof_scanner.proofs.Cut.Fetched.{begins_with_this, no_marker, is_deep, goes_on_here, Marked, marked}
-use Rattle.proof_scanner.specs.StandsInRow.{AreLevels, columns, has_open_level}
-use Rattle.proof_scanner.specs.Arrives.{Arrives, site_here}
+use Rattle.proof_scanner.specs.StandsInRow.{AreLevels, columns}
 use Rattle.proof_scanner.proofs.Sound.Passed.{least_of_levels}
 use Rattle.proof_scanner.proofs.Complete.Around.Levels.{levels_end}
 use Rattle.proof_scanner.specs.Failing as defs
-use Rattle.proof_scanner.specs.Failing.{may_not_stand, site_at_place, begins_document_at}
-use Rattle.proof_scanner.specs.Stuck.{IsStuck}
 use Rattle.proof_scanner.proofs.Refusals.Faults.{Faults, fault, tried, checked, either}
 use Rattle.proof_scanner.proofs.Refusals.Places.{Told, LiesDeep, account_by, not_told, stuck, in_flow_is, none_here}
 use Rattle.proof_scanner.proofs.Refusals.Nodes.{name_told, tag_told, quoted_told}

@@ -4,62 +4,35 @@ use Rattle.std.specs.Prelude.{◌⊎◌}
 use Rattle.std.proofs.Common.{inl, inr, ◌-◌}
 use Rattle.std.proofs.lemmas.Bool.{and_parts, eqb-true}
 use Rattle.std.proofs.lemmas.Bool.Decides.{nat_tests}
-use Rattle.defs_text.specs.Breaks.{has_no_break}
-use Rattle.defs_text.specs.Classes.{is_one_of, is_blank, is_at_gap}
-use Rattle.defs_text.specs.Position.{Position, position_after}
-use Rattle.defs_text.specs.Text.{is_empty}
-use Rattle.defs_text.specs.Directives.{directive_of}
-use Rattle.defs_token.specs.Account.{is_adjacent, before_past}
-use Rattle.defs_token.specs.Plain.{is_value_indicator}
-use Rattle.defs_token.specs.Separation.{is_separation}
+use Rattle.proof_scanner.proofs.Common.{after_separation, allow_key, AreEntries, Arrives, before_past, begin_flow, begin_key, begin_keyless_mapping, begin_keyless_value, begin_line, begin_pair, begins_entry, begins_free_line, begins_with, begins_with_alpha, begins_with_space_or_break, blanks_and_comment, check_after_tab, check_block_entry, check_dash, check_document_end, check_key_space, check_value_space, closed_key, colon_may_precede, deepened_flow, directive_of, DirectiveEndsAs, directives_end, end_entry, end_flow, ended_flow, entries_by, entry_by, Fault, fetch_block_entry, fetch_directive, fetch_document_end, fetch_document_marker, fetch_flow_collection_end, fetch_flow_collection_start, fetch_flow_entry, fetch_key, fetch_value, FlowLevel, followed_first, free, further, go_on, GoesOverAs, had_by, has, has_no_break, HasNoKey, Held, held_of, in_flow, increase_flow_level, insert_key, is_adjacent, is_at_gap, is_blank_or_breakz, is_breakz, is_empty, is_free, is_full, is_one_of, is_required, is_separation, is_taken, is_taken_line, is_value_here, is_value_indicator, IsDirectiveRefusal, IsFollowed, IsLineHere, IsLookedAt, IsOpenOutside, IsPlace, IsStuck, Key, leading, Levels, lexed, line_by, line_past_separation, may_not_stand, MayChoose, misses, next_entry, No, no_key, on_held, OutOfMemory, outside_key, paired, pass_indicator, past_blanks_and_comment, past_line_rest, peek, pop, Position, position_after, Problem, remove_implicit_key, roll_entry, roll_indent, roll_one_col_indent, same_alpha, ScannerState, skip_indicator, skip_yaml_whitespace, spaces_are_passed, SpacesAs, taken, Tok, top_key, try_held, unroll_indent, white, Whitespace, with_top, Yes}
+use Rattle.defs_text.specs.Classes.{is_blank}
 use Rattle.defs_token.specs.RowAccount.{before_by}
-use Rattle.defs_token.specs.Beginning.{IsPlace}
-use Rattle.defs_token.specs.Token.{Tok}
-use Rattle.defs_text.specs.FlowScalar.{begins_with}
 use Rattle.defs_text.specs.Tags as tags
-use Rattle.defs_text.specs.Tags.{leading}
-use Rattle.defs_token.specs.Step.{blanks_and_comment, past_blanks_and_comment}
-use Rattle.defs_token.specs.Tokens.{past_line_rest}
-use Rattle.defs_token.specs.Indentation.{begins_entry, begins_with_alpha, colon_may_precede}
-use Rattle.defs_token.specs.Key.{Line, free, taken, waits, begins_free_line, line_past_separation}
+use Rattle.defs_token.specs.Key.{Line, waits}
 use Rattle.defs_token.specs.FlowEntry as entry
 use Rattle.defs_token.specs.FlowEntry.{Entry, has_no_pair, takes_pair}
-use Rattle.yaml_tokens.specs.declared.problem.Fault.{Fault}
-use Rattle.yaml_tokens.specs.declared.problem.Fault.TheVariants.{OutOfMemory, At}
+use Rattle.yaml_tokens.specs.declared.problem.Fault.TheVariants.{At}
 use Rattle.yaml_tokens.specs.declared.problem.Problem.TheVariants as problem
-use Rattle.model_scanner.specs.declared.context.SkipTabs.TheVariants.{Yes, No}
-use Rattle.yaml_chars.specs.Class.{is_alpha, is_alphanumeric, is_blank_or_breakz, is_breakz}
-use Rattle.model_scanner.specs.declared.context.Whitespace.{Whitespace}
+use Rattle.yaml_chars.specs.Class.{is_alpha, is_alphanumeric}
 use Rattle.model_scanner.specs.Machine.{Read, past}
 use Rattle.model_scanner.specs.Blanks.{space}
 use Rattle.model_scanner.specs.Directive.{directive}
-use Rattle.model_scanner.specs.declared.level.FlowLevel.{FlowLevel}
 use Rattle.model_scanner.specs.declared.level.FlowLevel.TheVariants as level
-use Rattle.model_scanner.specs.State.{Key, Held, ScannerState, peek, after, pop, with_top, go_on, lexed, skip_indicator, in_flow, try_held, on_held}
-use Rattle.model_scanner.specs.Keys.{is_required, top_key, remove_implicit_key}
-use Rattle.model_scanner.specs.Indents.{unroll_indent, roll_indent, roll_one_col_indent, with_levels, Levels}
-use Rattle.model_scanner.specs.Space.{skip_yaml_whitespace, white}
-use Rattle.model_scanner.specs.Flow.{allow_key, increase_flow_level, deepened_flow, begin_flow, pass_indicator, fetch_flow_collection_start, end_pair, end_flow_pair, decrease_flow_level, ended_flow, end_flow, fetch_flow_collection_end, next_entry, end_entry, fetch_flow_entry}
-use Rattle.model_scanner.specs.Block.{check_block_entry, check_dash, roll_entry, fetch_block_entry, begin_key, check_key_space, fetch_key, check_after_tab, check_value_space, opens_pair, paired, begin_pair, insert_key, begin_keyless_pair, begin_keyless_mapping, begin_keyless_value, value_of, fetch_value}
-use Rattle.model_scanner.specs.Document.{closed_key, begin_line, fetch_directive, fetch_document_marker, check_document_end, fetch_document_end}
+use Rattle.model_scanner.specs.State.{after}
+use Rattle.model_scanner.specs.Indents.{with_levels}
+use Rattle.model_scanner.specs.Flow.{end_pair, end_flow_pair, decrease_flow_level}
+use Rattle.model_scanner.specs.Block.{opens_pair, begin_keyless_pair, value_of}
 use Rattle.model_scanner.specs.Fetch.{is_value}
 use Rattle.model_scanner.proofs.Holds as holds
-use Rattle.model_scanner.proofs.Holds.{Holds, held_of}
+use Rattle.model_scanner.proofs.Holds.{Holds}
 use Rattle.proof_lexers.specs.DirectiveEnds as directives
-use Rattle.proof_lexers.specs.DirectiveEnds.{DirectiveEndsAs, IsDirectiveRefusal}
-use Rattle.proof_lexers.specs.NameEnds.{further}
 use Rattle.proof_lexers.specs.PlainEnds as plain_ends
-use Rattle.proof_lexers.specs.Separations.{GoesOverAs, misses, SpacesAs, after_separation, after_space, has}
+use Rattle.proof_lexers.specs.Separations.{after_space}
 use Rattle.proof_lexers.specs.Separations as separations
-use Rattle.proof_lexers.proofs.Directives.Lines.{directives_end}
-use Rattle.proof_scanner.specs.Choices.{outside_key, line_by, entries_by, chosen, entry_by, had_by, MayChoose}
-use Rattle.proof_scanner.specs.Arrives.{Arrives, IsLineHere}
-use Rattle.proof_scanner.specs.StandsInRow.{is_free, AreEntries, IsOpenOutside}
+use Rattle.proof_scanner.specs.Choices.{chosen}
 use Rattle.proof_scanner.proofs.Sound.Arrivals as arrivals
 use Rattle.proof_scanner.proofs.Sound.Stales.{no_entries}
 use Rattle.proof_scanner.proofs.Sound.DocumentLines.{line_begun}
-use Rattle.proof_lexers.proofs.Bridges.{same_alpha}
-use Rattle.proof_lexers.proofs.Separation.Spaces.{spaces_are_passed}
 use Rattle.proof_scanner.proofs.Cut.Dispatch.{gap_here, value_is}
 use Rattle.proof_scanner.proofs.Cut.Levels.{one_indents, one_indent, rolled_one_is}
 use Rattle.proof_scanner.proofs.Cut.Passes.{Spaced, spaced, spaces_skipped}
@@ -67,20 +40,15 @@ use Rattle.proof_scanner.proofs.Sound.QuotedEnds.{not_at_end}
 use Rattle.proof_scanner.proofs.Sound.Blanks.{same_in_line, line_rest_in_line, line_rest_cut, line_rest_fills, found_in, spaced_parted}
 use Rattle.proof_scanner.proofs.Sound.Passed.{same_has_break}
 use Rattle.proof_scanner.proofs.Refusals.TabsAfterColon.{no_space}
-use Rattle.yaml_tokens.specs.declared.problem.Problem.{Problem}
 use Rattle.proof_scanner.proofs.Refusals.Rolled.{rolled_place, removed_is}
 use Rattle.proof_scanner.proofs.Cut.Saved.{saved_keys, saved_is}
 use Rattle.proof_scanner.specs.NoPiece as none
-use Rattle.proof_scanner.specs.NoPiece.{IsFollowed}
-use Rattle.proof_scanner.specs.First.{IsLookedAt, followed_first, is_full, may_ask, opens}
+use Rattle.proof_scanner.specs.First.{may_ask, opens}
 use Rattle.proof_scanner.specs.Failing as defs
-use Rattle.proof_scanner.specs.Failing.{may_not_stand, is_taken_line, is_taken, is_value_here}
-use Rattle.proof_scanner.specs.Stuck.{IsStuck, HasNoKey, no_key}
 use Rattle.proof_scanner.proofs.Refusals.Faults.{Faults, fault, goes, read, in_turn, tried, checked, either}
 use Rattle.proof_scanner.proofs.Refusals.Spaces.{space_told, spaces_told, no_comment, no_comment_left, solid_past}
 use Rattle.proof_scanner.proofs.Refusals.Places.{Told, LiesDeep, account_by, place, many_levels, IsAllowed, stuck, in_flow_is, looked_at, none_begins, followed_stuck}
 use Rattle.proof_scanner.proofs.Refusals.Waiting.{NoneWaits}
-use Rattle.defs_token.specs.Piece.{begins_with_space_or_break}
 use Rattle.proof_scanner.proofs.Sound.WhiteSpaces.{white_of, past_white, white_cut, past_white_space, white_exactly, white_first, no_tab_in, IsMissed, white_or_missed}
 use Rattle.proof_scanner.proofs.Sound.ColonSpaces.{colon_spaced}
 use Rattle.proof_scanner.proofs.Complete.Indicators.Questions.{white_goes}

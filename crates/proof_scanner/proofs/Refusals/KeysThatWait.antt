@@ -1,33 +1,26 @@
 -- A key that must be one waits in each row of the text; and while it waits no line ends. So no row goes on where a beginning has only gone on over a line's end by making no key of it.
 use Rattle.std.proofs.Common.{◌≡◌, ℕ, ◌+◌, ◌<◌, ◌≤◌, List, [], ◌∷◌, ◌++◌, Bool, true, false, not, ◌&&◌, nat_lt, if◌then◌else◌, length, Option, Some, None, ◌⊎◌, inl, inr, refl, ap, sym, ◌∙◌, subst, arith}
 use Rattle.std.proofs.lemmas.Bool.Decides.{nat_tests}
-use Rattle.defs_text.specs.Breaks.{has_no_break}
-use Rattle.defs_text.specs.Position.{Position, position_after}
-use Rattle.defs_text.specs.Text.{is_empty}
-use Rattle.defs_token.specs.Separation.{is_separation}
-use Rattle.defs_token.specs.Token.{Tok, version_directive, tag_directive, scalar, plain, single_quoted, double_quoted, literal, folded}
-use Rattle.defs_token.specs.Step.{Step, Row, Act, gives_node, gives_block_scalar, gives_dash, gives_question, gives_colon, gives_comma, gives_closing, gives_marker, gives_nothing, act_of, is_marker, previous_by, has_break, spelled}
-use Rattle.defs_token.specs.Column.{not_ended, blocks_at, is_in_column, opened}
-use Rattle.defs_token.specs.Key.{Line, free, taken, waits, is_waiting, begins_free_line, line_past_separation, Outside, is_near, line_past}
-use Rattle.defs_token.specs.FlowEntry.{Entry, begun_by, is_renewed, entries_past}
-use Rattle.defs_token.specs.RowAccount.{Site, Account, first_account, is_in_flow, site_at, site_past, may_stand, on_one_line, past_outside, past_inside, past_piece, account_past}
-use Rattle.defs_token.specs.Row.{IsWritten, HasRow}
-use Rattle.defs_token.specs.Beginning.{BeginsButForKey}
+use Rattle.proof_scanner.proofs.Common.{Act, act_of, begins_free_line, begins_separation, BeginsButForKey, begun_by, double_quoted, entries_past, free, gives_block_scalar, gives_colon, gives_dash, gives_marker, gives_node, gives_question, has_no_break, HasRow, is_empty, is_in_column, is_marker, is_near, is_renewed, is_separation, is_waiting, key_waits, LeadsTo, LikeEntries, LikeLine, line_past_separation, may_stand, no_key, not_ended, Outside, past_inside, past_outside, past_piece, Position, position_after, position_in_line, previous_by, Row, scalar, single_quoted, Site, site_at, site_past, spelled_to, tag_directive, taken, Tok, version_directive}
+use Rattle.defs_token.specs.Token.{plain, literal, folded}
+use Rattle.defs_token.specs.Step.{Step, gives_comma, gives_closing, gives_nothing, has_break, spelled}
+use Rattle.defs_token.specs.Column.{blocks_at, opened}
+use Rattle.defs_token.specs.Key.{Line, waits, line_past}
+use Rattle.defs_token.specs.FlowEntry.{Entry}
+use Rattle.defs_token.specs.RowAccount.{Account, first_account, is_in_flow, on_one_line, account_past}
+use Rattle.defs_token.specs.Row.{IsWritten}
 use Rattle.proof_row.proofs.Texts.{no_nul_after}
-use Rattle.proof_lexers.specs.Separations.{begins_separation}
-use Rattle.proof_lexers.proofs.Separation.Positions.{position_in_line}
 use Rattle.proof_row.proofs.Accounts.{same_flow}
-use Rattle.proof_row.proofs.Like.{LikeLine, LikeEntries, Stepped}
+use Rattle.proof_row.proofs.Like.{Stepped}
 use Rattle.proof_row.proofs.RowLines.{separation_step}
 use Rattle.proof_scanner.proofs.Sound.Sides.{with_entries}
-use Rattle.proof_scanner.specs.Ways.{spelled_to, LeadsTo}
 use Rattle.proof_scanner.proofs.Complete.Around.Markers.{marker_begins}
 use Rattle.proof_scanner.proofs.Complete.Around.Asks.{waiting_goes_on}
 use Rattle.proof_scanner.proofs.Complete.Nodes.Choices.{same_of}
 use Rattle.proof_scanner.proofs.Complete.Steps.{step_here}
 use Rattle.proof_scanner.proofs.Complete.WaitingKeys.{near_stop}
 use Rattle.proof_scanner.specs.Certain.{TextsWithARowAreNotStuck}
-use Rattle.proof_scanner.specs.Stuck.{fails, no_key, key_waits}
+use Rattle.proof_scanner.specs.Stuck.{fails}
 use Rattle.proof_scanner.proofs.Refusals.NoRows.{failing_places_have_no_row, no_keyless_colon}
 use Rattle.proof_scanner.proofs.Refusals.OtherRows.{With, Walked, Keeps, walk, row_walks}
 

@@ -1,33 +1,17 @@
 -- Where a condition of these kinds fails no row of the text goes on.
 use Rattle.std.proofs.Common.{nat_lt, ◌≡◌, ℕ, List, ◌∷◌, ◌++◌, Bool, true, false, refl, ap, ◌∙◌}
+use Rattle.proof_scanner.proofs.Common.{after_blank, AreNotIndented, before_past, begins_separation, begins_token, comes_plain, Fails, HasNoKey, HasRow, innermost, is_adjacent, is_blanks, is_empty, is_indented_by_spaces, is_separation, is_taken, is_value_here, IsBlockFault, IsFollowed, IsPlace, IsPlainFault, IsQuoted, IsQuotedFault, least_column, NoPiece, Position, position_after, Problem, quoted_scalar, Row, Site, site_at_place, stand_after, tab}
 use Rattle.defs_text.specs.Classes as classes
-use Rattle.defs_text.specs.Classes.{tab}
-use Rattle.defs_text.specs.Position.{Position, position_after}
 use Rattle.yaml_tokens.specs.declared.problem.Problem.TheVariants as problem
-use Rattle.proof_lexers.specs.Separations.{begins_separation}
-use Rattle.proof_lexers.specs.PlainEnds.{begins_token, stand_after}
-use Rattle.defs_token.specs.Indentation.{is_indented_by_spaces}
-use Rattle.defs_token.specs.Step.{quoted_scalar}
-use Rattle.defs_token.specs.Plain.{after_blank, on_line}
-use Rattle.defs_text.specs.Text.{is_empty}
-use Rattle.defs_token.specs.Column.{innermost}
-use Rattle.defs_token.specs.Separation.{is_separation, is_blanks}
-use Rattle.defs_token.specs.Account.{is_adjacent, before_past}
-use Rattle.defs_token.specs.Step.{Row}
-use Rattle.defs_token.specs.Beginning.{Begins, IsPlace}
-use Rattle.defs_token.specs.Row.{HasRow}
-use Rattle.defs_token.specs.Indentation.{least_column}
-use Rattle.proof_scanner.specs.PiecesRead.{comes_plain}
-use Rattle.defs_token.specs.RowAccount.{Site, Account, before_by, is_in_flow}
-use Rattle.yaml_tokens.specs.declared.problem.Problem.{Problem}
+use Rattle.defs_token.specs.Plain.{on_line}
+use Rattle.defs_token.specs.Beginning.{Begins}
+use Rattle.defs_token.specs.RowAccount.{Account, before_by, is_in_flow}
 use Rattle.proof_scanner.specs.Certain.{FailingPlacesHaveNoRow}
 use Rattle.proof_scanner.specs.NoPiece as none
 use Rattle.proof_scanner.specs.QuotedLines as quoted_lines
-use Rattle.proof_scanner.specs.QuotedLines.{AreNotIndented, IsQuotedFault}
-use Rattle.proof_scanner.specs.NoPiece.{NoPiece, IsQuoted, IsPlainFault, IsBlockFault, IsFollowed, goes_over}
+use Rattle.proof_scanner.specs.NoPiece.{goes_over}
 use Rattle.proof_scanner.specs.Failing as defs
-use Rattle.proof_scanner.specs.Failing.{MayNotStand, Fails, site_at_place, is_taken, is_value_here}
-use Rattle.proof_scanner.specs.Stuck.{HasNoKey}
+use Rattle.proof_scanner.specs.Failing.{MayNotStand}
 use Rattle.proof_scanner.proofs.Refusals.OtherRows.{StepAt, IsClearAfter, clear_of_gap, RowAt, row_at}
 use Rattle.proof_scanner.proofs.Refusals.PiecesHere.{no_at_sign, no_backtick, no_percent, no_name, no_dash, no_bracket}
 use Rattle.proof_scanner.proofs.Refusals.PlainsRefused.{no_column, no_dash as no_plain_dash, no_tab}

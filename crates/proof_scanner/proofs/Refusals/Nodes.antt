@@ -1,25 +1,17 @@
 -- Faults of names, tags and scalars: no such piece begins with the text.
 use Rattle.std.proofs.Common.{◌≡◌, ℕ, List, ◌∷◌, Bool, true, false, not, if◌then◌else◌, Result, Ok, Err, ap, sym, ◌∙◌, subst}
 use Rattle.std.proofs.lemmas.Bool.{and_parts}
-use Rattle.defs_text.specs.Classes.{is_nul}
-use Rattle.defs_text.specs.Text.{is_empty, has_no_nul}
-use Rattle.yaml_tokens.specs.declared.problem.Fault.{Fault}
+use Rattle.proof_scanner.proofs.Common.{Arrives, context, Fault, fetch_anchor, fetch_flow_scalar, fetch_tag, has_no_nul, in_flow, is_empty, is_nul, NameEndsAs, nameless, names_end, node_start, ScannerState, TagEndsAs, tags_end}
 use Rattle.yaml_tokens.specs.declared.problem.Fault.TheVariants.{At}
 use Rattle.yaml_tokens.specs.declared.problem.Problem.TheVariants as problem
 use Rattle.model_scanner.specs.Machine.{Read}
 use Rattle.model_scanner.specs.Anchor.{anchor_name}
 use Rattle.model_scanner.specs.Tag as tags
 use Rattle.model_scanner.specs.Quoted.{quoted}
-use Rattle.model_scanner.specs.State.{ScannerState, in_flow}
-use Rattle.model_scanner.specs.Document.{node_start, context, fetch_anchor, fetch_tag, fetch_flow_scalar}
-use Rattle.proof_lexers.specs.NameEnds.{NameEndsAs, named, nameless}
+use Rattle.proof_lexers.specs.NameEnds.{named}
 use Rattle.proof_lexers.specs.TagEnds as tag_ends
-use Rattle.proof_lexers.specs.TagEnds.{TagEndsAs}
-use Rattle.proof_lexers.proofs.Properties.Names.{names_end}
-use Rattle.proof_lexers.proofs.Properties.Tags.{tags_end}
 use Rattle.proof_scanner.proofs.Cut.Nodes.{IsDeep}
 use Rattle.proof_scanner.proofs.Cut.Saved.{saved_is}
-use Rattle.proof_scanner.specs.Arrives.{Arrives}
 use Rattle.proof_scanner.proofs.Sound.QuotedKeeps.{QuotedAs, quoted_as}
 use Rattle.proof_scanner.specs.NoPiece as none
 use Rattle.proof_scanner.proofs.Refusals.Faults.{Faults, goes, read, in_turn}

@@ -2,77 +2,51 @@
 use Rattle.std.proofs.Common.{◌≡◌, ℕ, ◌+◌, List, [], ◌∷◌, Bool, true, false, not, ◌==◌, ◌&&◌, ◌||◌, nat_le, nat_lt, slice_index, length, map, if◌then◌else◌, Option, Some, None, Result, Ok, Err, refl, ap, sym, ◌∙◌, subst, arith}
 use Rattle.std.proofs.lemmas.Bool.{and_parts}
 use Rattle.std.specs.List.{list_any}
-use Rattle.defs_text.specs.Classes.{is_nul, is_document_marker}
-use Rattle.defs_text.specs.Position.{Position}
-use Rattle.defs_text.specs.Text.{is_empty, has_no_nul}
-use Rattle.defs_text.specs.BlockScalar.{BlockStyle, folded}
+use Rattle.proof_scanner.proofs.Common.{allow_key, Arrives, before_past, begin_flow, begin_key, begin_keyless_mapping, begin_keyless_value, begin_line, begin_pair, begins_separation, Block, block, BlockEndsAs, BlockStyle, check_after_quoted, check_after_tab, check_block_entry, check_dash, check_document_end, check_key_space, check_value_space, closed_key, comes_marker, context, deepened_flow, DirectiveEndsAs, directives_end, drop_stale, end_entry, end_flow, end_stream, ended_flow, Fault, fetch_anchor, fetch_block_entry, fetch_block_scalar, fetch_content, fetch_directive, fetch_document_end, fetch_document_marker, fetch_first_column, fetch_flow_collection_end, fetch_flow_collection_start, fetch_flow_entry, fetch_flow_scalar, fetch_here, fetch_indented, fetch_key, fetch_plain_scalar, fetch_stream_end, fetch_tag, fetch_token, fetch_value, FlowLevel, go_on, GoesOverAs, has_no_nul, has_required, Held, held_of, in_flow, increase_flow_level, indicator_of, insert_key, is_adjacent, is_blank_or_breakz, is_breakz, is_document_marker, is_empty, is_literal_style, is_nul, is_overdue, is_required, IsBadEscape, IsDirectiveRefusal, IsTagRefusal, Key, lexed, Mapping, may_follow_quoted, NameEndsAs, nameless, names_end, next_entry, No, node_start, on_held, paired, pass_indicator, PassesAs, peek, Plain, PlainEndsAs, Position, Problem, problem_of, push, QuotedEndsAs, remove_implicit_key, roll_entry, roll_indent, roll_one_col_indent, save_implicit_key, ScannerState, separations_are_passed, skip, skip_indicator, skip_spaces, skip_to_next_token, skip_yaml_whitespace, SkipTabs, spaces_are_passed, SpacesAs, stale, still, Style, TagEndsAs, tags_end, Tok, top_key, try_held, unled, unroll_indent, unroll_non_block_indents, UriFault, white, white_space_is_passed, Whitespace, without_open, Yes}
+use Rattle.defs_text.specs.BlockScalar.{folded}
 use Rattle.defs_text.specs.BlockScalar.{literal as literal_style}
-use Rattle.defs_token.specs.Account.{is_adjacent, before_past}
-use Rattle.defs_token.specs.Token.{Tok, Style}
 use Rattle.defs_token.specs.RowAccount.{before_by}
-use Rattle.yaml_chars.specs.Class.{is_alpha, is_blank_or_breakz, is_breakz}
-use Rattle.yaml_tokens.specs.declared.problem.Fault.{Fault}
+use Rattle.yaml_chars.specs.Class.{is_alpha}
 use Rattle.yaml_tokens.specs.declared.problem.Fault.TheVariants.{At}
-use Rattle.yaml_tokens.specs.declared.problem.Problem.{Problem}
 use Rattle.yaml_tokens.specs.declared.problem.Problem.TheVariants as problem
 use Rattle.model_scanner.specs.declared.context.Context.{Context}
-use Rattle.model_scanner.specs.declared.context.SkipTabs.{SkipTabs}
-use Rattle.model_scanner.specs.declared.context.SkipTabs.TheVariants.{Yes, No}
-use Rattle.model_scanner.specs.declared.context.Whitespace.{Whitespace}
 use Rattle.model_scanner.specs.Machine.{Read, past}
 use Rattle.model_scanner.specs.Anchor.{anchor_name}
-use Rattle.model_scanner.specs.BlockScalar.{Block, block}
 use Rattle.model_scanner.specs.Directive.{directive}
-use Rattle.model_scanner.specs.Plain.{Plain, plain}
+use Rattle.model_scanner.specs.Plain.{plain}
 use Rattle.model_scanner.specs.Quoted.{quoted}
 use Rattle.model_scanner.specs.Blanks.{space}
 use Rattle.model_scanner.specs.Tag as tags
-use Rattle.model_scanner.specs.declared.level.FlowLevel.{FlowLevel}
-use Rattle.model_scanner.specs.declared.level.FlowLevel.TheVariants.{Mapping, Entry as Sequence}
-use Rattle.model_scanner.specs.State.{Key, Held, ScannerState, peek, after, in_flow, on_held, try_held, lexed, go_on, skip_indicator, push}
-use Rattle.model_scanner.specs.Keys.{is_overdue, still, drop_stale, with_keys, stale, is_required, has_required, top_key, save_implicit_key, remove_implicit_key}
-use Rattle.model_scanner.specs.Indents.{without_open, unroll_indent, unroll_non_block_indents, roll_indent, roll_one_col_indent}
-use Rattle.model_scanner.specs.Space.{between, skip, skip_to_next_token, skip_spaces, skip_yaml_whitespace, white}
-use Rattle.model_scanner.specs.Flow.{allow_key, increase_flow_level, deepened_flow, begin_flow, pass_indicator, fetch_flow_collection_start, ended_flow, end_flow, fetch_flow_collection_end, next_entry, end_entry, fetch_flow_entry}
-use Rattle.model_scanner.specs.Block.{check_block_entry, check_dash, roll_entry, fetch_block_entry, begin_key, check_key_space, fetch_key, check_after_tab, check_value_space, opens_pair, paired, begin_pair, insert_key, begin_keyless_pair, begin_keyless_mapping, begin_keyless_value, value_of, fetch_value}
-use Rattle.model_scanner.specs.Document.{next_line, end_stream, fetch_stream_end, closed_key, begin_line, node_start, unled, context, after_plain, may_follow_quoted, check_after_quoted, fetch_directive, fetch_document_marker, check_document_end, fetch_document_end, fetch_anchor, fetch_tag, fetch_block_scalar, fetch_flow_scalar, fetch_plain_scalar}
-use Rattle.model_scanner.specs.Fetch.{fetch_token, comes_marker, fetch_indented, fetch_first_column, fetch_content, fetch_here}
+use Rattle.model_scanner.specs.declared.level.FlowLevel.TheVariants.{Entry as Sequence}
+use Rattle.model_scanner.specs.State.{after}
+use Rattle.model_scanner.specs.Keys.{with_keys}
+use Rattle.model_scanner.specs.Space.{between}
+use Rattle.model_scanner.specs.Block.{opens_pair, begin_keyless_pair, value_of}
+use Rattle.model_scanner.specs.Document.{next_line, after_plain}
 use Rattle.model_scanner.proofs.Holds as holds
-use Rattle.model_scanner.proofs.Holds.{Holds, held_of}
-use Rattle.defs_text.specs.Tags.{UriFault, no_octet, wrong_lead, wrong_trail, no_character}
-use Rattle.proof_lexers.specs.UriEnds.{problem_of}
-use Rattle.proof_lexers.specs.NameEnds.{NameEndsAs, named, nameless}
+use Rattle.model_scanner.proofs.Holds.{Holds}
+use Rattle.defs_text.specs.Tags.{no_octet, wrong_lead, wrong_trail, no_character}
+use Rattle.proof_lexers.specs.NameEnds.{named}
 use Rattle.proof_lexers.specs.TagEnds as tag_ends
-use Rattle.proof_lexers.specs.TagEnds.{TagEndsAs, IsTagRefusal}
 use Rattle.proof_lexers.specs.QuotedEnds as quoted_ends
-use Rattle.proof_lexers.specs.QuotedEnds.{QuotedEndsAs, IsQuotedRefusal, IsBadEscape}
+use Rattle.proof_lexers.specs.QuotedEnds.{IsQuotedRefusal}
 use Rattle.proof_lexers.specs.PlainEnds as plains
-use Rattle.proof_lexers.specs.PlainEnds.{PlainEndsAs, IsPlainRefusal}
+use Rattle.proof_lexers.specs.PlainEnds.{IsPlainRefusal}
 use Rattle.proof_lexers.specs.HeaderEnds as headers
-use Rattle.proof_lexers.specs.HeaderEnds.{HeaderEndsAs, indicator_of}
+use Rattle.proof_lexers.specs.HeaderEnds.{HeaderEndsAs}
 use Rattle.proof_lexers.specs.BlockEnds as block_ends
-use Rattle.proof_lexers.specs.BlockEnds.{BlockEndsAs}
 use Rattle.proof_lexers.specs.BlockScan as scan
-use Rattle.proof_lexers.specs.BlockScan.{is_literal_style}
 use Rattle.proof_lexers.specs.DirectiveEnds as directives
-use Rattle.proof_lexers.specs.DirectiveEnds.{DirectiveEndsAs, IsDirectiveRefusal, IsNoVersion, IsNoDeclaration}
+use Rattle.proof_lexers.specs.DirectiveEnds.{IsNoVersion, IsNoDeclaration}
 use Rattle.proof_lexers.specs.Separations as separations
-use Rattle.proof_lexers.specs.Separations.{begins_separation, PassesAs, SpacesAs, GoesOverAs}
-use Rattle.proof_lexers.proofs.Properties.Names.{names_end}
-use Rattle.proof_lexers.proofs.Properties.Tags.{tags_end}
 use Rattle.proof_lexers.proofs.Quoted.ScanEnds.{scans_end}
 use Rattle.proof_lexers.proofs.Plain.Scalars.{scans_end as plain_scans_end}
 use Rattle.proof_lexers.proofs.Blocks.Ends as blocks
-use Rattle.proof_lexers.proofs.Directives.Lines.{directives_end}
-use Rattle.proof_lexers.proofs.Separation.Separations.{separations_are_passed}
-use Rattle.proof_lexers.proofs.Separation.Spaces.{spaces_are_passed}
-use Rattle.proof_lexers.proofs.Separation.WhiteSpace.{white_space_is_passed}
 use Rattle.proof_scanner.proofs.Cut.Dispatch.{token_holds}
 use Rattle.proof_scanner.proofs.Cut.Fetched.{begins_with_this, no_marker, is_deep, goes_on_here}
 use Rattle.proof_scanner.proofs.Cut.Nodes.{IsDeep, less_or}
 use Rattle.proof_scanner.proofs.Cut.Pieces.Quoted.{some_chars}
 use Rattle.proof_scanner.proofs.Cut.Saved.{saved_keys, saved_is}
-use Rattle.proof_scanner.specs.Arrives.{Arrives}
 use Rattle.proof_scanner.proofs.Sound.WithoutOpen.{AreClosed, without_is}
 use Rattle.proof_scanner.specs.NoPiece as none
 use Rattle.proof_scanner.proofs.Refusals.Faults.{Faults, fault, goes, read, in_turn, tried, checked, either}

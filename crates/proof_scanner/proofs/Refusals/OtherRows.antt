@@ -1,31 +1,20 @@
 -- A row of a text goes through each place that a beginning of a row leads to, at an account that is like the beginning's; and its next piece stands there.
 use Rattle.std.proofs.Common.{◌≡◌, ℕ, List, [], ◌∷◌, ◌++◌, Bool, true, false, ◌&&◌, if◌then◌else◌, Option, Some, None, refl, ap, sym, ◌∙◌, subst, append-nil}
-use Rattle.defs_text.specs.Position.{Position, position_after}
-use Rattle.defs_text.specs.Text.{up_to_nul, is_empty, has_no_nul}
+use Rattle.proof_scanner.proofs.Common.{begins_free_line, begins_separation, further_lines_stand, has_no_nul, HasRow, is_deep_enough, is_empty, is_gap, is_indented_by_spaces, is_renewed, is_separation, IsLike, IsPlace, LeadsTo, least_for, line_past_separation, may_precede, not_empty, past_piece, Position, position_after, Row, seen, separations, shown_position, spelled_to, up_to_nul}
 use Rattle.defs_token.specs.Piece.{Holds}
-use Rattle.defs_token.specs.Separation.{is_separation}
-use Rattle.defs_token.specs.Step.{Step, Row, plain_scalar, spelled}
-use Rattle.defs_token.specs.RowAccount.{Account, first_account, is_in_flow, seen, account_past, on_one_line, past_piece, is_deep_enough, least_for}
-use Rattle.defs_token.specs.Key.{begins_free_line, line_past_separation}
-use Rattle.defs_token.specs.FlowEntry.{is_renewed}
-use Rattle.defs_token.specs.Indentation.{is_indented_by_spaces}
-use Rattle.defs_token.specs.Lines.{further_lines_stand}
-use Rattle.defs_token.specs.Following.{may_precede}
-use Rattle.defs_token.specs.Tokens.{shown_position}
-use Rattle.defs_token.specs.Row.{IsWritten, HasRow}
-use Rattle.defs_token.specs.Beginning.{Leads, Begins, IsPlace}
+use Rattle.defs_token.specs.Step.{Step, plain_scalar, spelled}
+use Rattle.defs_token.specs.RowAccount.{Account, first_account, is_in_flow, account_past, on_one_line}
+use Rattle.defs_token.specs.Row.{IsWritten}
+use Rattle.defs_token.specs.Beginning.{Leads, Begins}
 use Rattle.proof_row.proofs.Pieces.{no_piece_at_end, clean_up_to_end}
-use Rattle.proof_row.proofs.Separations.{separations}
 use Rattle.proof_row.proofs.Texts.{no_nul_after}
-use Rattle.proof_lexers.specs.Separations.{begins_separation}
 use Rattle.proof_row.proofs.Accounts.{account_step}
-use Rattle.proof_row.proofs.Like.{IsLike, Stepped}
-use Rattle.proof_row.proofs.Written.{At, not_empty, same_written}
+use Rattle.proof_row.proofs.Like.{Stepped}
+use Rattle.proof_row.proofs.Written.{At, same_written}
 use Rattle.proof_scanner.proofs.Sound.Completed.{begins_at_start, begins_past}
-use Rattle.proof_scanner.specs.Ways.{Stop, spelled_to, LeadsTo}
+use Rattle.proof_scanner.specs.Ways.{Stop}
 use Rattle.proof_scanner.proofs.Complete.Steps.{ends_before, step_here}
 use Rattle.proof_scanner.proofs.Complete.WholeRows.{RowWay, row_way}
-use Rattle.proof_lexers.specs.PlainEnds.{is_gap}
 use Rattle.proof_scanner.proofs.Cut.Pieces.Separations.{gap_is_separation}
 
 -- no step begins in the separation at a text's end

@@ -2,38 +2,24 @@
 use Rattle.std.proofs.Common.{◌==◌, append-nil, inl, inr, ◌≡◌, ℕ, ◌+◌, ◌<◌, List, [], ◌∷◌, ◌++◌, Bool, true, false, not, ◌||◌, nat_lt, map, if◌then◌else◌, append_assoc, Option, Some, None, Result, Ok, Err, refl, ap, sym, ◌∙◌, subst, arith}
 use Rattle.std.specs.List.{list_any}
 use Rattle.std.proofs.lemmas.Bool.Decides.{nat_tests}
-use Rattle.defs_text.specs.Position.{Position, position_after}
 use Rattle.std.proofs.lemmas.Bool.{and_parts, eqb-true}
-use Rattle.proof_lexers.specs.Separations.{begins_separation}
-use Rattle.proof_lexers.specs.PlainEnds.{begins_white}
-use Rattle.defs_token.specs.Indentation.{is_indented_by_spaces, follows_plain}
-use Rattle.defs_token.specs.Step.{Previous, plain_scalar, quoted_scalar, block_scalar, flow_collection, directive, another}
-use Rattle.defs_text.specs.Classes.{is_blank, is_break, is_one_of}
-use Rattle.defs_text.specs.Text.{is_empty}
-use Rattle.defs_token.specs.Separation.{is_separation}
-use Rattle.defs_token.specs.Beginning.{Begins, IsPlace}
-use Rattle.defs_token.specs.FlowEntry.{is_renewed}
-use Rattle.yaml_tokens.specs.declared.problem.Fault.{Fault}
+use Rattle.proof_scanner.proofs.Common.{another, begins_separation, begins_white, BeginsButForKey, chained, drop_stale, Fault, fetch, fetch_here, fetch_next, flow_collection, follows_plain, HasNoTabs, Held, in_flow, is_at_comment_or_end, is_empty, is_far, is_indented_by_spaces, is_one_of, is_overdue, is_renewed, is_separation, IsPlace, IsReadOn, IsStuck, Key, key_waits, may_not_stand, MayChoose, on_held, outside_key, Position, position_after, position_append, Previous, quoted_scalar, ScannerState, skip_to_next_token, stale, still, top_key, unroll_indent}
+use Rattle.defs_token.specs.Step.{plain_scalar, block_scalar, directive}
+use Rattle.defs_text.specs.Classes.{is_blank, is_break}
+use Rattle.defs_token.specs.Beginning.{Begins}
 use Rattle.yaml_tokens.specs.declared.problem.Fault.TheVariants.{At}
 use Rattle.yaml_tokens.specs.declared.problem.Problem.TheVariants as problem
-use Rattle.model_scanner.specs.State.{Key, Held, ScannerState, in_flow, on_held}
-use Rattle.model_scanner.specs.Indents.{unroll_indent}
-use Rattle.model_scanner.specs.Keys.{is_far, is_overdue, still, drop_stale, with_keys, stale, top_key}
-use Rattle.model_scanner.specs.Space.{skip_to_next_token}
-use Rattle.model_scanner.specs.Fetch.{fetch_here, fetch_next, fetch}
-use Rattle.model_scanner.proofs.Holds.{Holds, went, refused, chained, tried, either}
-use Rattle.proof_lexers.proofs.Separation.Positions.{position_append}
+use Rattle.model_scanner.specs.Keys.{with_keys}
+use Rattle.model_scanner.proofs.Holds.{Holds, went, refused, tried, either}
 use Rattle.proof_scanner.proofs.Cut.Pieces.Separations.{separation_append}
 use Rattle.proof_scanner.proofs.Cut.Positions.{not_before_after}
-use Rattle.proof_scanner.specs.Choices.{outside_key, chosen, MayChoose}
-use Rattle.proof_scanner.specs.StandsInRow.{Stands, HasNoTabs, IsReadOn, is_at_comment_or_end}
+use Rattle.proof_scanner.specs.Choices.{chosen}
+use Rattle.proof_scanner.specs.StandsInRow.{Stands}
 use Rattle.proof_scanner.proofs.Sound.Passed.{least_is}
 use Rattle.proof_scanner.proofs.Sound.Stales.{no_entries}
 use Rattle.proof_scanner.proofs.Sound.ToToken.{is_in}
 use Rattle.proof_scanner.specs.Failing as defs
-use Rattle.proof_scanner.specs.Failing.{may_not_stand}
-use Rattle.proof_scanner.specs.Stuck.{IsStuck, fails, key_waits}
-use Rattle.defs_token.specs.Beginning.{BeginsButForKey}
+use Rattle.proof_scanner.specs.Stuck.{fails}
 use Rattle.proof_scanner.proofs.Sound.StreamEnds.{same_flow}
 use Rattle.proof_scanner.proofs.Refusals.Faults.{Faults, fault, goes}
 use Rattle.proof_scanner.proofs.Refusals.Places.{entries_alike, Told, Where, placed, behind, where_is}

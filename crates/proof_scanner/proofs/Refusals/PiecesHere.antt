@@ -3,24 +3,15 @@ use Rattle.std.proofs.Common.{◌≡◌, ℕ, suc, ◌≤◌, List, [], ◌∷�
 use Rattle.std.specs.Prelude.{◌⊎◌}
 use Rattle.std.proofs.lemmas.Bool.Decides.{nat_tests}
 use Rattle.std.proofs.lemmas.Bool.{and_parts}
-use Rattle.defs_text.specs.Classes.{is_anchor_name, is_nul, is_blank, is_break, is_flow, is_blank_or_end, is_at_gap}
-use Rattle.defs_text.specs.Directives.{Directive, version, tag_declaration, reserved}
-use Rattle.defs_text.specs.Tags.{all_of}
-use Rattle.defs_text.specs.Position.{Position}
-use Rattle.defs_text.specs.Text.{is_empty}
-use Rattle.defs_token.specs.Account.{is_adjacent}
+use Rattle.proof_scanner.proofs.Common.{act_of, all_of, context_of, dash, Directive, directive_line, flow_mapping_start, flow_sequence_start, goes_on_with_name, is_adjacent, is_anchor_name, is_at_gap, is_blank_or_end, is_empty, is_marker, is_name, is_nul, IsPiece, kind_at, LikeEntries, mapping_opening, not_empty, Position, reserved, seen, sequence_opening, shown_position, tag_declaration, version, Whole}
+use Rattle.defs_text.specs.Classes.{is_blank, is_break, is_flow}
 use Rattle.defs_token.specs.Account as pieces
-use Rattle.defs_token.specs.Piece.{IsPiece, is_name, goes_on_with_name}
-use Rattle.defs_token.specs.Token.{block_entry, flow_sequence_start, flow_mapping_start}
-use Rattle.defs_token.specs.Step.{act_of, is_marker}
+use Rattle.defs_token.specs.Token.{block_entry}
 use Rattle.defs_token.specs.FlowEntry.{Entry}
-use Rattle.defs_token.specs.RowAccount.{Account, is_in_flow, level_of, seen}
-use Rattle.defs_token.specs.Tokens.{shown_position}
-use Rattle.proof_row.specs.Ends.{kind_at, dash, directive_line, alias_name, anchor_name, sequence_opening, mapping_opening}
-use Rattle.proof_row.proofs.Begins.{Whole, context_of, directive_token}
-use Rattle.proof_row.proofs.Like.{LikeEntries}
+use Rattle.defs_token.specs.RowAccount.{Account, is_in_flow, level_of}
+use Rattle.proof_row.specs.Ends.{alias_name, anchor_name}
+use Rattle.proof_row.proofs.Begins.{directive_token}
 use Rattle.proof_row.proofs.Written as written
-use Rattle.proof_row.proofs.Written.{not_empty}
 use Rattle.proof_scanner.proofs.Complete.Around.Markers.{marker_begins}
 use Rattle.proof_scanner.proofs.Complete.KindsOfPieces.{kind_is}
 use Rattle.proof_scanner.specs.NoPiece as none

@@ -2,36 +2,24 @@
 use Rattle.std.proofs.Common.{◌≡◌, ◌≤◌, List, [], ◌∷◌, ◌++◌, ℕ, Bool, true, false, not, ◌==◌, ◌&&◌, ◌||◌, nat_le, nat_lt, if◌then◌else◌, map, Option, Some, None, refl, ap, sym, ◌∙◌, arith}
 use Rattle.std.proofs.lemmas.Bool.{and_parts, eqb-true}
 use Rattle.std.proofs.lemmas.Bool.Decides.{nat_tests}
-use Rattle.defs_text.specs.Breaks.{split, is_at_line_end}
-use Rattle.defs_text.specs.Classes.{tab, is_one_of, is_blank, is_break, is_nul, is_blank_or_end, is_alpha, is_decimal_digit, is_letter, is_at_end, is_at_gap, is_document_marker}
-use Rattle.defs_text.specs.Position.{Position, position_after}
-use Rattle.defs_text.specs.Text.{is_empty, has_no_nul}
-use Rattle.defs_text.specs.BlockScalar.{BlockStyle, literal, folded, leading_spaces}
-use Rattle.defs_text.specs.FlowScalar.{begins_with}
-use Rattle.defs_token.specs.Account.{innermost_column}
-use Rattle.defs_token.specs.BlockPiece.{BlockRead, block_read, block_position}
-use Rattle.defs_token.specs.Piece.{IsPiece}
-use Rattle.defs_text.specs.Tags.{leading, after}
-use Rattle.defs_token.specs.Separation.{is_separation, is_blanks}
-use Rattle.defs_token.specs.Token.{Tok, document_end, block_entry, value, scalar, single_quoted, double_quoted}
+use Rattle.proof_scanner.proofs.Common.{act_of, are_empty, begins_document_at, begins_entry, begins_separation, begins_with, begins_with_alpha, block_may_end, block_position, block_read, BlockRead, BlockStyle, colon_may_precede, content_position, dash_may_precede, document_end, double_quoted, gives_block_scalar, gives_marker, gives_node, has, has_no_nul, innermost, innermost_column, is_at_end, is_at_gap, is_at_line_end, is_blank_or_end, is_blanks, is_decimal_digit, is_deep_enough, is_document_marker, is_empty, is_letter, is_marker, is_nul, is_one_of, is_separation, IsPiece, IsQuoted, leading, leading_spaces, least_column, least_for, line_is_done, lines_may_end, may_precede, may_stand, Position, position_after, quoted_may_end, read_may_end, scalar, seen, shown_position, single_quoted, Site, site_at, site_at_place, site_in, split, tab, Tok, value}
+use Rattle.defs_text.specs.Classes.{is_blank, is_break, is_alpha}
+use Rattle.defs_text.specs.BlockScalar.{literal, folded}
+use Rattle.defs_text.specs.Tags.{after}
+use Rattle.defs_token.specs.Token.{block_entry}
 use Rattle.defs_token.specs.Token as tokens
-use Rattle.defs_token.specs.Step.{Step, act_of, is_marker, gives_node, gives_block_scalar, gives_marker}
-use Rattle.defs_token.specs.Column.{innermost, blocks_at}
+use Rattle.defs_token.specs.Step.{Step}
+use Rattle.defs_token.specs.Column.{blocks_at}
 use Rattle.defs_token.specs.FlowEntry.{Entry}
-use Rattle.defs_token.specs.Indentation.{least_column, begins_entry, dash_may_precede, begins_with_alpha, colon_may_precede}
-use Rattle.defs_token.specs.Following.{line_is_done, are_empty, quoted_may_end, block_may_end, read_may_end, lines_may_end, may_precede}
-use Rattle.defs_token.specs.RowAccount.{Site, Account, is_in_flow, site_in, site_at, level_of, seen, least_for, is_deep_enough, may_stand}
+use Rattle.defs_token.specs.RowAccount.{Account, is_in_flow, level_of}
 use Rattle.defs_token.specs.Row.{IsWritten}
-use Rattle.defs_token.specs.Tokens.{content_position, shown_position}
 use Rattle.proof_lexers.specs.PlainEnds.{is_white}
-use Rattle.proof_lexers.specs.Separations.{begins_separation, has}
 use Rattle.proof_scanner.proofs.Complete.Around.Markers.{begins_document, BeginsLine, marker_begins}
 use Rattle.proof_scanner.proofs.Complete.Scalars.AfterQuoted.{not_done}
 use Rattle.proof_scanner.proofs.Sound.QuotedEnds.{blanks_alone, after_blanks}
 use Rattle.proof_row.proofs.Accounts.{same_flow}
 use Rattle.proof_row.proofs.Written.{At, same_piece}
-use Rattle.proof_scanner.specs.NoPiece.{GoesOn, IsQuoted}
-use Rattle.proof_scanner.specs.Failing.{site_at_place, begins_document_at}
+use Rattle.proof_scanner.specs.NoPiece.{GoesOn}
 use Rattle.proof_scanner.proofs.Refusals.OtherRows.{StepAt}
 
 pub refused : (x : Option Account) (b : Bool) (y : Account) → b ≡ false → (if b then x else None) ≡ Some y → ⊥

@@ -2,30 +2,19 @@
 use Rattle.std.proofs.Common.{◌≡◌, ℕ, suc, ◌-◌, ◌<◌, List, [], ◌∷◌, Bool, true, false, not, ◌||◌, nat_le, length, if◌then◌else◌, Option, Some, None, Ok, Err, refl, ap, sym, ◌∙◌, subst, arith}
 use Rattle.std.specs.Prelude.{nat_lt}
 use Rattle.std.proofs.lemmas.Bool.Decides.{nat_tests}
-use Rattle.defs_text.specs.Position.{Position}
-use Rattle.defs_text.specs.Text.{is_empty}
+use Rattle.proof_scanner.proofs.Common.{AreAround, AreEntries, Arrives, begins_document_at, entries_by, FailsFirst, Fault, FlowLevel, followed_first, gives_node, has_open_level, in_flow, is_empty, is_full, is_taken, IsFollowed, IsLookedAt, IsNear, IsPlace, IsStuck, Key, key_waits, least_column, least_here, MayChoose, NoPiece, OutOfMemory, outside_key, Position, Problem, ScannerState, site_at_place, site_in}
 use Rattle.defs_token.specs.FlowEntry.{Entry}
-use Rattle.defs_token.specs.RowAccount.{Account, is_in_flow, site_in}
-use Rattle.defs_token.specs.Beginning.{IsPlace}
-use Rattle.yaml_tokens.specs.declared.problem.Problem.{Problem}
-use Rattle.yaml_tokens.specs.declared.problem.Fault.{Fault}
-use Rattle.yaml_tokens.specs.declared.problem.Fault.TheVariants.{OutOfMemory, At}
-use Rattle.model_scanner.specs.State.{Key, ScannerState, in_flow}
-use Rattle.proof_scanner.specs.Choices.{outside_key, chosen, entries_by, MayChoose}
-use Rattle.model_scanner.specs.declared.level.FlowLevel.{FlowLevel}
-use Rattle.proof_scanner.specs.Arrives.{Arrives, IsNear}
-use Rattle.proof_scanner.specs.StandsInRow.{AreAround, AreEntries}
+use Rattle.defs_token.specs.RowAccount.{Account, is_in_flow}
+use Rattle.yaml_tokens.specs.declared.problem.Fault.TheVariants.{At}
+use Rattle.proof_scanner.specs.Choices.{chosen}
 use Rattle.proof_scanner.proofs.Sound.StreamEnds.{same_flow}
 use Rattle.proof_scanner.proofs.Refusals.Faults.{Faults, fault, goes}
-use Rattle.proof_scanner.specs.NoPiece.{NoPiece, IsFollowed}
-use Rattle.proof_scanner.specs.StandsInRow.{columns, has_open_level}
-use Rattle.defs_token.specs.Step.{gives_node}
-use Rattle.defs_token.specs.Indentation.{least_column}
+use Rattle.proof_scanner.specs.StandsInRow.{columns}
 use Rattle.proof_scanner.proofs.Cut.Nodes.{IsDeep}
 use Rattle.proof_scanner.proofs.Sound.QuotedKeeps.{least_is_less}
-use Rattle.proof_scanner.specs.Failing.{no_piece, followed, site_at_place, begins_document_at, is_taken}
-use Rattle.proof_scanner.specs.First.{IsLookedAt, FailsFirst, no_piece_first, followed_first, least_here, is_full}
-use Rattle.proof_scanner.specs.Stuck.{IsStuck, fails, key_waits}
+use Rattle.proof_scanner.specs.Failing.{no_piece, followed}
+use Rattle.proof_scanner.specs.First.{no_piece_first}
+use Rattle.proof_scanner.specs.Stuck.{fails}
 use Rattle.proof_scanner.specs.Told.{is_told}
 
 -- A place where the choice of keys is allowed, or a key that must be one and began on an earlier line.

@@ -1,40 +1,26 @@
 -- Faults of plain scalars.
 use Rattle.std.proofs.Common.{◌≡◌, ℕ, List, [], ◌∷◌, ◌++◌, Bool, true, false, ◌||◌, ◌==◌, not, nat_le, nat_lt, Option, Result, Ok, Err, refl, ap, sym, ◌∙◌, subst, arith}
 use Rattle.std.proofs.lemmas.Bool.Decides.{nat_tests}
-use Rattle.defs_text.specs.Position.{Position, position_after}
-use Rattle.defs_text.specs.Text.{is_empty}
-use Rattle.defs_token.specs.Account.{is_adjacent, before_past}
+use Rattle.proof_scanner.proofs.Common.{allow_key, Arrives, before_past, begins_separation, collection_of, comes_plain, context, Fault, fetch_plain_scalar, in_flow, innermost, is_adjacent, is_empty, IsPlainFault, IsStuck, least_column, lexed, on_held, Plain, plain_first, PlainEndsAs, Position, position_after, Problem, push, ScannerState, site_at_place, Style, Tok, unroll_non_block_indents, without_open}
 use Rattle.defs_token.specs.Plain.{inside, goes_on}
-use Rattle.defs_token.specs.Token.{Tok, Style}
-use Rattle.defs_token.specs.Column.{innermost}
-use Rattle.defs_token.specs.Indentation.{least_column}
 use Rattle.defs_token.specs.RowAccount.{before_by, is_in_flow}
-use Rattle.yaml_tokens.specs.declared.problem.Fault.{Fault}
-use Rattle.yaml_tokens.specs.declared.problem.Problem.{Problem}
 use Rattle.yaml_tokens.specs.declared.problem.Problem.TheVariants as problem
 use Rattle.model_scanner.specs.declared.context.Context.{Context}
 use Rattle.model_scanner.specs.Machine.{Read}
-use Rattle.model_scanner.specs.Plain.{Plain, plain}
-use Rattle.model_scanner.specs.State.{ScannerState, in_flow, lexed, on_held, push}
-use Rattle.model_scanner.specs.Flow.{allow_key}
-use Rattle.model_scanner.specs.Indents.{without_open, unroll_non_block_indents}
-use Rattle.model_scanner.specs.Document.{context, after_plain, fetch_plain_scalar}
+use Rattle.model_scanner.specs.Plain.{plain}
+use Rattle.model_scanner.specs.Document.{after_plain}
 use Rattle.proof_lexers.specs.PlainEnds as plains
-use Rattle.proof_lexers.specs.PlainEnds.{collection_of, is_indented, HasTab, begins_left, PlainEndsAs, IsPlainRefusal}
-use Rattle.proof_lexers.specs.Separations.{begins_separation}
+use Rattle.proof_lexers.specs.PlainEnds.{is_indented, HasTab, begins_left, IsPlainRefusal}
 use Rattle.proof_lexers.proofs.Plain.Scalars.{scans_end}
-use Rattle.proof_scanner.specs.PiecesRead.{comes_plain}
 use Rattle.proof_scanner.proofs.Cut.Nodes.{IsDeep, less_or}
 use Rattle.proof_scanner.proofs.Cut.Saved.{saved_keys, saved_is}
-use Rattle.proof_scanner.specs.Arrives.{Arrives}
 use Rattle.proof_scanner.specs.StandsInRow.{columns}
 use Rattle.proof_scanner.proofs.Sound.WithoutOpen.{AreClosed, without_is}
 use Rattle.proof_scanner.specs.NoPiece as none
-use Rattle.proof_scanner.specs.NoPiece.{IsPlainFault, goes_over}
-use Rattle.proof_scanner.specs.Failing.{no_plain, site_at_place}
-use Rattle.proof_scanner.specs.Stuck.{IsStuck}
+use Rattle.proof_scanner.specs.NoPiece.{goes_over}
+use Rattle.proof_scanner.specs.Failing.{no_plain}
 use Rattle.proof_scanner.proofs.Refusals.Faults.{Faults, goes, read}
-use Rattle.proof_scanner.specs.FirstPlain.{HasNoPlainFault, plain_first}
+use Rattle.proof_scanner.specs.FirstPlain.{HasNoPlainFault}
 use Rattle.proof_scanner.proofs.Refusals.Places.{Told, LiesDeep, account_by, stuck, in_flow_is, blocks_by, looked_at}
 
 -- ---- texts

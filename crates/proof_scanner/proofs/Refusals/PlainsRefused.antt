@@ -1,43 +1,29 @@
 -- Where a plain scalar begins and is none, no row of the text goes on.
 use Rattle.std.proofs.Common.{◌≡◌, ℕ, suc, List, [], ◌∷◌, ◌++◌, Bool, true, false, not, ◌==◌, ◌&&◌, ◌||◌, nat_le, nat_lt, if◌then◌else◌, Option, refl, ap, sym, ◌∙◌, subst, arith, append_assoc, inl, inr, ◌⊎◌}
-use Rattle.defs_token.specs.Step.{previous_by}
-use Rattle.defs_token.specs.Indentation.{is_indented_by_spaces}
 use Rattle.std.proofs.lemmas.Bool.{and_parts, eqb-true}
+use Rattle.proof_scanner.proofs.Common.{act_of, after_blank, are_marks, before_past, begins_flow, begins_plain, begins_token, begins_white, comes_plain, context_of, dashes, ends_plain, ends_separation, ends_with_content, has_dash_before_flow, has_no_nul, innermost, is_adjacent, is_at_comment_or_end, is_at_gap, is_blank_or_end, is_blanks, is_deep_enough, is_document_marker, is_indented_by_spaces, is_nul, is_whole_plain, least_column, may_begin, may_precede, plain_lines_fit, Position, previous_by, same_blank, same_break, scalar, Site, site_at_place, site_past, Stand, stand_after, stops, Whole}
 use Rattle.defs_text.specs.Classes as classes
-use Rattle.defs_text.specs.Classes.{is_flow, is_nul, is_blank_or_end, is_at_gap, is_document_marker, are_marks}
-use Rattle.defs_text.specs.Position.{Position}
-use Rattle.defs_text.specs.Text.{has_no_nul}
+use Rattle.defs_text.specs.Classes.{is_flow}
 use Rattle.defs_token.specs.Account as pieces
-use Rattle.defs_token.specs.Account.{is_adjacent, before_past}
-use Rattle.defs_token.specs.Plain.{Stand, inside, after_blank, on_line, past, past_blank, begins_flow, may_begin, begins_plain, ends_at_colon, ends_at_comment, ends_at_line, ends_plain, goes_on, stops, ends_with_content, is_whole_plain}
-use Rattle.defs_token.specs.Separation.{is_blanks}
-use Rattle.defs_token.specs.Token.{scalar}
+use Rattle.defs_token.specs.Plain.{inside, on_line, past, past_blank, ends_at_colon, ends_at_comment, ends_at_line, goes_on}
 use Rattle.defs_token.specs.Token as tokens
-use Rattle.defs_token.specs.Step.{act_of}
 use Rattle.defs_token.specs.Step as steps
-use Rattle.defs_token.specs.Column.{innermost}
-use Rattle.defs_token.specs.Indentation.{least_column}
-use Rattle.defs_token.specs.Lines.{plain_lines_fit, ends_with_dash, has_dash_before_flow}
-use Rattle.defs_token.specs.Following.{may_precede}
-use Rattle.defs_token.specs.RowAccount.{Site, Account, before_by, is_in_flow, is_deep_enough, site_past}
+use Rattle.defs_token.specs.Lines.{ends_with_dash}
+use Rattle.defs_token.specs.RowAccount.{Account, before_by, is_in_flow}
 use Rattle.yaml_chars.specs.Class.{is_break, is_blank}
-use Rattle.proof_row.specs.Ends.{ends_separation, Kind, plain_scalar, dashes}
-use Rattle.proof_row.proofs.Begins.{Whole, context_of, separations_end}
+use Rattle.proof_row.specs.Ends.{Kind, plain_scalar}
+use Rattle.proof_row.proofs.Begins.{separations_end}
 use Rattle.proof_row.proofs.Plains.{plains}
 use Rattle.proof_row.proofs.Texts.{no_nul_after}
 use Rattle.proof_lexers.proofs.Plain.Found.{flow_solid}
-use Rattle.proof_lexers.specs.PlainEnds.{begins_white, begins_token, stand_after, is_apart}
-use Rattle.proof_lexers.proofs.Bridges.{same_break, same_blank}
-use Rattle.proof_scanner.specs.PiecesRead.{comes_plain}
+use Rattle.proof_lexers.specs.PlainEnds.{is_apart}
 use Rattle.proof_row.proofs.Accounts.{same_flow}
 use Rattle.proof_row.proofs.Written.{At}
-use Rattle.proof_scanner.specs.StandsInRow.{is_at_comment_or_end}
 use Rattle.proof_scanner.proofs.Sound.PlainLines.{Spot, in_text, at, tabbed, spot_past, past_spot, may_go, tabs_fit}
 use Rattle.proof_scanner.proofs.Complete.Nodes.Plains.{Gap, gap_of, next_clear, After, ended, solid, after_gap, Comes, comes, dashed, comes_by, no_marker}
 use Rattle.proof_scanner.proofs.Complete.Nodes.PlainScans.{stops_after, stand_over, stand_content}
 use Rattle.proof_scanner.proofs.Complete.Nodes.PlainTexts.{IsClearGap, plain_tabs}
 use Rattle.proof_scanner.specs.NoPiece.{goes_over}
-use Rattle.proof_scanner.specs.Failing.{site_at_place}
 use Rattle.proof_scanner.proofs.Refusals.OtherRows.{StepAt, IsClearGapAfter}
 use Rattle.proof_scanner.proofs.Complete.Nodes.Past.{node_site_past}
 use Rattle.proof_scanner.proofs.Refusals.PiecesHere.{acct, whole_at}

@@ -3,20 +3,14 @@ use Rattle.std.proofs.Common.{◌≡◌, ℕ, zero, suc, ◌+◌, ◌*◌, ◌�
 use Rattle.std.specs.Char.{digit_value, is_digit}
 use Rattle.std.proofs.lemmas.Bool.{and_parts, eqb-true, not-true}
 use Rattle.std.proofs.lemmas.Bool.Decides.{nat_tests}
-use Rattle.defs_text.specs.Breaks.{is_before_line_feed}
+use Rattle.proof_scanner.proofs.Common.{along, and_false, begins_solid, begins_with, break_further, content, double_quoted_element, Element, element_of, escape, escape_by, escapes, has_marker, hexadecimal, in_line_position, is_before_line_feed, is_character_code, is_cr_lf, lookup, marked_from, numbered, numeric_escape, numeric_escapes, past_break, plain_element, Position, position_after, position_past, same_blank, same_break, single_quoted_element, Spelled}
 use Rattle.defs_text.specs.Classes as classes
-use Rattle.defs_text.specs.Position.{Position, position_past, position_after}
-use Rattle.defs_text.specs.FlowScalar.{Element, content, Spelled, break_further, plain_element, single_quoted_element, double_quoted_element, begins_with, lookup, escapes, numeric_escapes, hexadecimal, is_character_code, numbered, numeric_escape, escape_by, escape}
 use Rattle.yaml_chars.specs.Class.{is_break, is_blank}
-use Rattle.model_scanner.specs.Machine.{past, past_break, is_cr_lf}
-use Rattle.proof_lexers.specs.HeaderEnds.{along, is_in_line}
-use Rattle.proof_lexers.specs.PlainEnds.{begins_solid}
-use Rattle.proof_lexers.specs.QuotedScan.{element_of, has_marker}
+use Rattle.model_scanner.specs.Machine.{past}
+use Rattle.proof_lexers.specs.HeaderEnds.{is_in_line}
 use Rattle.proof_lexers.proofs.Along.{along_more}
 use Rattle.proof_lexers.proofs.Blocks.Positions.{after_chars}
-use Rattle.proof_lexers.proofs.Bridges.{same_break, same_blank, and_false}
-use Rattle.proof_lexers.proofs.Plain.Turns.{same_feed, in_line_position, line_position}
-use Rattle.proof_lexers.proofs.Quoted.Bodies.{marked_from}
+use Rattle.proof_lexers.proofs.Plain.Turns.{same_feed, line_position}
 use Rattle.proof_lexers.proofs.Quoted.Turns.{spelled, feed_is_no_marker}
 use Rattle.proof_scanner.specs.NoPiece.{quote_of}
 use Rattle.proof_scanner.proofs.Sound.QuotedBreaks.{Kind, has_content, has_blank, has_line, has_escaped, KindOf, kind, is_white}

@@ -3,33 +3,25 @@ use Rattle.std.proofs.Common.{◌≡◌, ℕ, zero, suc, ◌+◌, ◌≤◌, Lis
 use Rattle.std.specs.List.{list_all}
 use Rattle.std.proofs.lemmas.Bool.{and_parts, eqb-true, not-true}
 use Rattle.std.proofs.lemmas.Bool.Decides.{nat_tests}
-use Rattle.defs_text.specs.Classes.{is_document_marker}
-use Rattle.defs_text.specs.Position.{Position, position_past, position_after}
-use Rattle.defs_text.specs.FlowScalar.{Element, content, blank, line_break, escaped_break, Spelled, break_further, begins_with, escape}
+use Rattle.proof_scanner.proofs.Common.{after_element, after_escaped, along, and_false, at_start, begins_further, begins_with, Begun, blank, break_further, content, Element, element_of, escape, escaped_break, Fault, Folded, gap, in_gap, is_document_marker, line_break, LineStand, off_margin, OutOfMemory, past_break, past_element, past_escaped, Position, position_after, position_past, Problem, scan, Spelled, with_break, with_escaped_break, within}
 use Rattle.yaml_chars.specs.Class.{is_break, is_blank}
-use Rattle.yaml_tokens.specs.declared.problem.Fault.{Fault}
-use Rattle.yaml_tokens.specs.declared.problem.Fault.TheVariants.{OutOfMemory, At}
-use Rattle.yaml_tokens.specs.declared.problem.Problem.{Problem}
+use Rattle.yaml_tokens.specs.declared.problem.Fault.TheVariants.{At}
 use Rattle.yaml_tokens.specs.declared.problem.Problem.TheVariants as problem
 use Rattle.model_scanner.specs.declared.context.Context.{Context}
-use Rattle.model_scanner.specs.Machine.{Read, past, past_break}
-use Rattle.model_scanner.specs.Folding.{Folded, nothing, joined, with_break, with_escaped_break}
-use Rattle.model_scanner.specs.Quoted.{Mode, gap, inside, after, quoted}
+use Rattle.model_scanner.specs.Machine.{Read, past}
+use Rattle.model_scanner.specs.Folding.{nothing, joined}
+use Rattle.model_scanner.specs.Quoted.{Mode, inside, after, quoted}
 use Rattle.model_scanner.specs.Quoted as model
 use Rattle.model_scanner.proofs.QuotedLemmas.{after_gap, after_quote, closed_end}
-use Rattle.proof_lexers.specs.Buffers.{after_element}
-use Rattle.proof_lexers.specs.HeaderEnds.{along}
-use Rattle.proof_lexers.specs.QuotedScan.{element_of, ends_before, is_some}
+use Rattle.proof_lexers.specs.QuotedScan.{ends_before, is_some}
 use Rattle.proof_lexers.proofs.Along.{along_more}
-use Rattle.proof_lexers.proofs.Bridges.{and_false}
 use Rattle.proof_lexers.proofs.Quoted.Bodies.{first_is_gap}
 use Rattle.proof_lexers.proofs.Quoted.Elements.{step}
 use Rattle.proof_lexers.proofs.Quoted.Faults.{escape_fails}
 use Rattle.proof_lexers.proofs.Quoted.Shapes.{NoElement, closing, slash, no_element}
-use Rattle.proof_lexers.proofs.Quoted.Turns.{off_margin, feed_is_no_marker, after_escaped, in_gap, scan, spelled, Begun, begun, marked, shallow, begins, begins_marked, white_stands, Step, steps, is_marked, is_shallow, StepOf}
+use Rattle.proof_lexers.proofs.Quoted.Turns.{feed_is_no_marker, spelled, begun, marked, shallow, begins, begins_marked, white_stands, Step, steps, is_marked, is_shallow, StepOf}
 use Rattle.proof_scanner.proofs.Sound.QuotedBreaks.{Kind, has_content, has_blank, has_line, has_escaped, is_white, quote_white, slash_white}
 use Rattle.proof_scanner.specs.NoPiece.{quote_of}
-use Rattle.proof_scanner.specs.QuotedLines.{LineStand, within, at_start, past_escaped, past_element, begins_further}
 use Rattle.proof_scanner.proofs.Refusals.QuotedElements.{no_quote, solid_here, past_line, past_char, past_two, after_it, kind_of, content_after}
 use Rattle.proof_scanner.proofs.Refusals.QuotedReasons as reasons
 use Rattle.proof_scanner.proofs.Refusals.QuotedReasons.{stands, all_stand, Place, by_end, by_escape, by_column, by_tab, Reason, other, grown}

@@ -3,25 +3,14 @@ use Rattle.std.proofs.Common.{◌≡◌, ℕ, zero, suc, ◌+◌, ◌-◌, List,
 use Rattle.std.proofs.lemmas.Bool.{and_parts, not-true}
 use Rattle.std.proofs.lemmas.Bool.Decides.{nat_tests}
 use Rattle.std.proofs.lemmas.List.{take-append-drop}
-use Rattle.defs_text.specs.Classes.{is_document_marker}
-use Rattle.defs_text.specs.Position.{Position, position_after}
-use Rattle.defs_text.specs.FlowScalar.{Element, content, blank, line_break, escaped_break, Spelled, begins_with, elements, Lines, last_line, line, begun_with, lines_of}
-use Rattle.defs_token.specs.Lines.{blanks_before, has_more, lines_fit, further_lines_fit}
-use Rattle.yaml_tokens.specs.declared.problem.Problem.{Problem}
+use Rattle.proof_scanner.proofs.Common.{and_false, are_indented, at_start, begins_further, begins_solid, begins_with, begun_with, blank, blanks_before, content, Element, element_of, elements, escaped_break, further_lines_fit, has_marker, has_more, is_document_marker, IsBadEscape, line, line_break, Lines, lines_fit, lines_of, LineStand, marked_from, past_element, past_elements, past_escaped, Position, position_after, position_append, Problem, Spelled, within}
+use Rattle.defs_text.specs.FlowScalar.{last_line}
 use Rattle.yaml_tokens.specs.declared.problem.Problem.TheVariants as problem
-use Rattle.proof_lexers.specs.PlainEnds.{begins_solid}
-use Rattle.proof_lexers.specs.QuotedEnds.{IsBadEscape}
-use Rattle.proof_lexers.specs.QuotedScan.{element_of, has_marker}
-use Rattle.proof_lexers.proofs.Bridges.{and_false}
-use Rattle.proof_lexers.proofs.Separation.Positions.{position_append}
-use Rattle.proof_lexers.proofs.Quoted.Bodies.{marked_from}
 use Rattle.proof_lexers.proofs.Quoted.Local.{Local, LocalOf, local, after_own}
 use Rattle.proof_scanner.proofs.Sound.QuotedBreaks.{Kind, has_content, has_blank, has_line, has_escaped, fits_from, lines_from, lines_here, empty_here, one_more_blank}
 use Rattle.proof_scanner.proofs.Sound.TabsWithin.{take_none}
 use Rattle.proof_scanner.proofs.Complete.Scalars.Bodies.{blank_first}
 use Rattle.proof_scanner.specs.NoPiece.{quote_of}
-use Rattle.proof_scanner.specs.QuotedLines.{LineStand, within, at_start, past_escaped, past_element, past_elements, begins_further}
-use Rattle.proof_scanner.specs.FirstQuoted.{are_indented}
 use Rattle.proof_scanner.proofs.Refusals.QuotedElements.{past_char, break_column, escaped_column, after_it, kind_of, marks_after}
 
 -- ---- indented lines, element by element

@@ -1,56 +1,33 @@
 -- Faults of quoted scalars: a further line is not indented, or what stands after the scalar may not follow it.
 use Rattle.std.proofs.Common.{◌≡◌, ℕ, ◌+◌, ◌-◌, nat_lt, List, [], ◌∷◌, ◌++◌, Bool, true, false, not, ◌==◌, ◌&&◌, ◌||◌, if◌then◌else◌, append-nil, append_assoc, Some, Result, Ok, Err, refl, ap, sym, ◌∙◌, subst, arith}
-use Rattle.defs_text.specs.Classes.{tab, is_document_marker}
-use Rattle.defs_text.specs.Position.{Position, position_after}
-use Rattle.defs_text.specs.Text.{is_empty, has_no_nul}
-use Rattle.defs_text.specs.FlowScalar.{Element, content, begins_with, elements}
-use Rattle.defs_token.specs.Following.{quoted_may_end}
-use Rattle.defs_token.specs.Lines.{quoted_lines_fit}
-use Rattle.yaml_chars.specs.Class.{is_breakz}
-use Rattle.yaml_tokens.specs.declared.problem.Fault.{Fault}
+use Rattle.proof_scanner.proofs.Common.{are_indented, AreNotIndented, Arrives, begins_separation, begins_with, check_after_quoted, closed_first, content, Element, element_of, elements, ends_spaces, Fault, go_on, has_marker, has_no_nul, held_of, in_flow, is_breakz, is_document_marker, is_empty, IsBadEscape, IsQuoted, IsQuotedFault, IsStuck, least_here, lines_first, marked_from, may_follow_quoted, node_start, off_margin, on_held, past_elements, peek, Position, position_after, Problem, quoted_lines_fit, quoted_may_end, ScannerState, skip_spaces, Succeeds, tab, unled, within, Yes}
 use Rattle.yaml_tokens.specs.declared.problem.Fault.TheVariants.{At}
-use Rattle.yaml_tokens.specs.declared.problem.Problem.{Problem}
 use Rattle.yaml_tokens.specs.declared.problem.Problem.TheVariants as problem
 use Rattle.model_scanner.specs.declared.context.Context.{Context}
-use Rattle.model_scanner.specs.declared.context.SkipTabs.TheVariants.{Yes}
 use Rattle.model_scanner.specs.Machine.{Read, past}
 use Rattle.model_scanner.specs.Quoted.{quoted, quote_of}
-use Rattle.model_scanner.specs.State.{ScannerState, peek, in_flow, go_on, on_held}
-use Rattle.model_scanner.specs.Space.{skip_spaces}
-use Rattle.model_scanner.specs.Document.{node_start, unled, may_follow_quoted, check_after_quoted}
-use Rattle.model_scanner.proofs.Holds.{held_of}
-use Rattle.proof_lexers.specs.QuotedEnds.{IsBadEscape}
 use Rattle.proof_lexers.specs.QuotedEnds as bad
-use Rattle.proof_lexers.specs.QuotedScan.{element_of, value_of, ends_before, has_marker}
+use Rattle.proof_lexers.specs.QuotedScan.{value_of, ends_before}
 use Rattle.proof_lexers.specs.QuotedScan as scans
-use Rattle.proof_lexers.proofs.Quoted.Bodies.{marked_from}
-use Rattle.proof_lexers.proofs.Quoted.Turns.{off_margin}
 use Rattle.proof_lexers.proofs.Quoted.Values.{bodies_are_read}
-use Rattle.proof_lexers.specs.Separations.{begins_separation, ends_spaces}
 use Rattle.proof_scanner.proofs.Cut.Nodes.{IsDeep}
 use Rattle.proof_scanner.proofs.Cut.Pieces.Quoted.{some_chars}
 use Rattle.proof_scanner.proofs.Cut.Passes.{Spaced, spaces_skipped}
 use Rattle.proof_scanner.proofs.Cut.Saved.{saved_is}
-use Rattle.proof_scanner.specs.Arrives.{Arrives}
 use Rattle.proof_scanner.proofs.Sound.QuotedBreaks.{same_limit}
 use Rattle.proof_scanner.proofs.Sound.QuotedEnds.{unglued}
 use Rattle.proof_scanner.proofs.Sound.QuotedKeeps.{QuotedAs, piece_of}
-use Rattle.proof_scanner.specs.Goes.{Succeeds, went}
+use Rattle.proof_scanner.specs.Goes.{went}
 use Rattle.proof_scanner.proofs.Complete.Scalars.AfterQuoted.{check_passes}
 use Rattle.proof_scanner.proofs.Complete.Scalars.Bodies.{quoted_scanned}
 use Rattle.proof_scanner.specs.NoPiece as none
-use Rattle.proof_scanner.specs.NoPiece.{IsQuoted}
 use Rattle.proof_scanner.specs.Failing.{no_quoted}
-use Rattle.proof_scanner.specs.Stuck.{IsStuck}
 use Rattle.proof_scanner.specs.QuotedLines as lines
-use Rattle.proof_scanner.specs.QuotedLines.{within, past_elements, AreNotIndented, IsQuotedFault}
 use Rattle.proof_scanner.proofs.Refusals.QuotedElements.{after_quote_at}
 use Rattle.proof_scanner.proofs.Refusals.QuotedLines.{is_of_lines, Ends, refused, reads, quoted_ends}
 use Rattle.proof_scanner.proofs.Refusals.QuotedReasons.{all_stand, indented_are, Cut, Place, by_end, by_escape, by_column, by_tab, Reason, marked, other}
 use Rattle.proof_scanner.proofs.Refusals.Faults.{Faults, fault, goes, in_turn}
 use Rattle.proof_scanner.proofs.Refusals.Spaces.{spaces_told, solid_past}
-use Rattle.proof_scanner.specs.First.{least_here}
-use Rattle.proof_scanner.specs.FirstQuoted.{are_indented, lines_first, closed_first}
 use Rattle.proof_scanner.proofs.Refusals.Places.{Told, LiesDeep, account_by, stuck, least_by, looked_at, none_here, followed_stuck}
 
 -- ---- texts

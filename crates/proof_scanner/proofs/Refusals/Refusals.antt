@@ -2,28 +2,18 @@
 use Rattle.std.proofs.Common.{◌≡◌, ℕ, ◌+◌, List, ◌++◌, true, false, Option, Result, Ok, refl, ap, sym, ◌∙◌, subst}
 use Rattle.std.specs.Prelude.{map}
 use Rattle.std.specs.List.{list_any}
-use Rattle.defs_text.specs.Text.{has_no_nul}
-use Rattle.defs_token.specs.Separation.{is_separation}
-use Rattle.yaml_tokens.specs.declared.problem.Fault.{Fault}
+use Rattle.proof_scanner.proofs.Common.{Arrives, both_hold, drop_stale, Fault, fetch, fetch_next, fetch_stream_start, FetchKeeps, has_no_nul, Held, held_of, here, in_flow, is_overdue, is_separation, IsStuck, Key, on_held, Reaches, ScannerState, stale, start, still, there, try_held, unroll_indent, ◌>>=◌}
 use Rattle.yaml_tokens.specs.declared.problem.Fault.TheVariants.{At}
 use Rattle.yaml_tokens.specs.declared.problem.Problem.TheVariants as problem
-use Rattle.model_scanner.specs.State.{Key, Held, ScannerState, ◌>>=◌, in_flow, on_held, try_held}
-use Rattle.model_scanner.specs.Keys.{is_overdue, still, drop_stale, with_keys, stale}
-use Rattle.model_scanner.specs.Indents.{unroll_indent}
-use Rattle.model_scanner.specs.Document.{fetch_stream_start}
-use Rattle.model_scanner.specs.Fetch.{fetch_next, fetch}
-use Rattle.model_scanner.specs.Run.{start, Reaches, here, there}
+use Rattle.model_scanner.specs.Keys.{with_keys}
 use Rattle.model_scanner.proofs.Holds as holds
-use Rattle.model_scanner.proofs.Holds.{held_of, both_hold}
 use Rattle.proof_scanner.proofs.Cut.Fetched.{Came, starts, came}
 use Rattle.proof_scanner.proofs.Cut.Passes.{to_token}
-use Rattle.proof_scanner.specs.StandsInRow.{Stands, Fares, begins, goes, over, FetchKeeps}
+use Rattle.proof_scanner.specs.StandsInRow.{Stands, Fares, begins, goes, over}
 use Rattle.proof_scanner.proofs.Sound.Fetches.{fetch_keeps}
 use Rattle.proof_scanner.proofs.Sound.Runs.{reached}
 use Rattle.proof_scanner.proofs.Sound.Sound.{each_keeps}
 use Rattle.proof_scanner.proofs.Sound.ToToken.{passed_stands}
-use Rattle.proof_scanner.specs.Arrives.{Arrives}
-use Rattle.proof_scanner.specs.Stuck.{IsStuck}
 use Rattle.proof_scanner.specs.Never.{AnchorIndentationNeverComes}
 use Rattle.proof_scanner.specs.Told.{RefusedTextsAreStuck}
 use Rattle.proof_scanner.proofs.Refusals.Faults as faults

@@ -1,13 +1,9 @@
 -- What is so after a block collection has begun or ended, and after a key is no longer open.
 use Rattle.std.proofs.Common.{◌≡◌, ℕ, ◌+◌, List, [], ◌∷◌, Bool, true, false, nat_le, nat_lt, if◌then◌else◌, Option, None, refl, ◌∙◌}
-use Rattle.defs_text.specs.Position.{Position}
-use Rattle.defs_token.specs.Token.{Tok}
+use Rattle.proof_scanner.proofs.Common.{deepen, drop_open, drop_open_level, Held, in_flow, Indent, is_required, level, Position, remove_implicit_key, roll_indent, Tok, top_key, with_top}
 use Rattle.yaml_tokens.specs.declared.problem.Fault.TheVariants.{At}
 use Rattle.yaml_tokens.specs.declared.problem.Problem.TheVariants as problem
-use Rattle.model_scanner.specs.declared.level.Indent.{Indent}
-use Rattle.model_scanner.specs.State.{Held, in_flow, with_top}
-use Rattle.model_scanner.specs.Keys.{is_required, top_key, remove_implicit_key}
-use Rattle.model_scanner.specs.Indents.{drop_open, drop_open_level, deepen, roll_indent, placed, level}
+use Rattle.model_scanner.specs.Indents.{placed}
 use Rattle.model_scanner.proofs.Holds.{Holds, went, checked}
 
 -- the position stays

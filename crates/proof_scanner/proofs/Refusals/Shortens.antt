@@ -2,45 +2,25 @@
 use Rattle.std.proofs.Common.{◌≡◌, ℕ, ◌+◌, ◌<◌, ◌≤◌, List, [], ◌∷◌, ◌++◌, Bool, true, false, not, ◌==◌, ◌&&◌, ◌||◌, nat_lt, length, if◌then◌else◌, Option, Some, None, Result, Ok, Err, refl, ap, sym, ◌∙◌, subst, arith}
 use Rattle.std.proofs.lemmas.Bool.{and_parts}
 use Rattle.std.proofs.lemmas.List.{length-append}
-use Rattle.defs_text.specs.Classes.{is_nul, is_document_marker}
-use Rattle.defs_text.specs.Position.{Position}
-use Rattle.defs_text.specs.Text.{is_empty, has_no_nul}
-use Rattle.defs_token.specs.Account.{Account, Before, other, sequence, is_in_flow, collection_column, is_adjacent, before_past}
-use Rattle.defs_token.specs.Separation.{is_separation}
-use Rattle.defs_token.specs.Token.{Tok, Style}
+use Rattle.proof_scanner.proofs.Common.{allow_key, Arrives, Before, before_past, begin_flow, begin_key, begin_line, begins_separation, block, both_hold, chained, check_after_quoted, check_after_tab, check_block_entry, check_dash, check_document_end, check_key_space, check_value_space, collection_column, collection_of, comes_marker, comes_plain, context, DirectiveEndsAs, directives_end, end_entry, end_flow, end_stream, ends_separation, Fault, fetch, fetch_anchor, fetch_block_entry, fetch_block_scalar, fetch_content, fetch_directive, fetch_document_end, fetch_document_marker, fetch_first_column, fetch_flow_collection_end, fetch_flow_collection_start, fetch_flow_entry, fetch_flow_scalar, fetch_here, fetch_indented, fetch_key, fetch_next, fetch_plain_scalar, fetch_stream_end, fetch_stream_start, fetch_tag, fetch_token, fetch_value, FetchKeeps, FlowLevel, go_on, has_no_nul, Held, held_of, here, in_flow, is_adjacent, is_breakz, is_document_marker, is_empty, is_nul, is_separation, lexed, Mapping, may_follow_quoted, No, node_start, on_held, paired, pass_indicator, peek, Position, push, Reaches, ReadAs, remove_implicit_key, roll_entry, roll_indent, roll_one_col_indent, save_implicit_key, ScannerState, sequence, skip_indicator, SkipTabs, stale, start, Style, there, Tok, top_key, try_held, unled, unroll_indent, unroll_non_block_indents, weakened, without_open, Yes, ◌>>=◌}
+use Rattle.defs_token.specs.Account.{Account, other, is_in_flow}
 use Rattle.defs_token.specs.RowAccount.{before_by}
-use Rattle.yaml_chars.specs.Class.{is_break, is_breakz, is_flow}
-use Rattle.yaml_tokens.specs.declared.problem.Fault.{Fault}
+use Rattle.yaml_chars.specs.Class.{is_break, is_flow}
 use Rattle.yaml_tokens.specs.declared.problem.Fault.TheVariants.{At}
 use Rattle.yaml_tokens.specs.declared.problem.Problem.TheVariants as problem
 use Rattle.model_scanner.specs.declared.context.Context.{Context}
-use Rattle.model_scanner.specs.declared.context.SkipTabs.{SkipTabs}
-use Rattle.model_scanner.specs.declared.context.SkipTabs.TheVariants.{Yes, No}
 use Rattle.model_scanner.specs.Machine.{Read}
 use Rattle.model_scanner.specs.Anchor.{anchor_name}
-use Rattle.model_scanner.specs.BlockScalar.{block}
 use Rattle.model_scanner.specs.Directive.{directive}
 use Rattle.model_scanner.specs.Plain.{plain}
 use Rattle.model_scanner.specs.Quoted.{quoted, quote_of}
 use Rattle.model_scanner.specs.Tag as tags
-use Rattle.model_scanner.specs.declared.level.FlowLevel.{FlowLevel}
-use Rattle.model_scanner.specs.declared.level.FlowLevel.TheVariants.{Mapping, Entry}
-use Rattle.model_scanner.specs.State.{Held, ScannerState, ◌>>=◌, peek, after, in_flow, on_held, try_held, lexed, go_on, skip_indicator, push}
-use Rattle.model_scanner.specs.Keys.{top_key, stale, save_implicit_key, remove_implicit_key}
-use Rattle.model_scanner.specs.Indents.{without_open, unroll_indent, unroll_non_block_indents, roll_indent, roll_one_col_indent}
-use Rattle.model_scanner.specs.Flow.{allow_key, begin_flow, pass_indicator, fetch_flow_collection_start, end_flow, fetch_flow_collection_end, end_entry, fetch_flow_entry}
-use Rattle.model_scanner.specs.Block.{check_block_entry, check_dash, roll_entry, fetch_block_entry, begin_key, check_key_space, fetch_key, check_after_tab, check_value_space, opens_pair, paired, value_of, fetch_value}
-use Rattle.model_scanner.specs.Document.{next_line, end_stream, fetch_stream_start, fetch_stream_end, begin_stream, begin_line, node_start, unled, context, after_plain, may_follow_quoted, check_after_quoted, fetch_directive, fetch_document_marker, check_document_end, fetch_document_end, fetch_anchor, fetch_tag, fetch_block_scalar, fetch_flow_scalar, fetch_plain_scalar}
-use Rattle.model_scanner.specs.Fetch.{fetch_token, comes_marker, fetch_indented, fetch_first_column, fetch_content, fetch_here, fetch_next, fetch}
-use Rattle.model_scanner.specs.Run.{start, Reaches, here, there}
-use Rattle.model_scanner.proofs.Holds.{Holds, went, refused, held_of, chained, tried, checked, either, passes, read, weakened, both_hold}
+use Rattle.model_scanner.specs.declared.level.FlowLevel.TheVariants.{Entry}
+use Rattle.model_scanner.specs.State.{after}
+use Rattle.model_scanner.specs.Block.{opens_pair, value_of}
+use Rattle.model_scanner.specs.Document.{next_line, begin_stream, after_plain}
+use Rattle.model_scanner.proofs.Holds.{Holds, went, refused, tried, checked, either, passes, read}
 use Rattle.proof_lexers.specs.DirectiveEnds as directives
-use Rattle.proof_lexers.specs.DirectiveEnds.{DirectiveEndsAs}
-use Rattle.proof_lexers.specs.PlainEnds.{collection_of}
-use Rattle.proof_lexers.specs.Separations.{begins_separation}
-use Rattle.proof_lexers.proofs.Directives.Lines.{directives_end}
-use Rattle.proof_row.specs.Ends.{ends_separation}
-use Rattle.proof_scanner.specs.PiecesRead.{ReadAs, comes_plain}
 use Rattle.proof_scanner.proofs.Cut.Dispatch.{token_holds}
 use Rattle.proof_scanner.proofs.Cut.Fetched.{Came, came, begins_with_this, no_marker, is_deep}
 use Rattle.proof_scanner.proofs.Cut.Nodes.{IsDeep, less_or}
@@ -48,8 +28,7 @@ use Rattle.proof_scanner.proofs.Cut.Passes.{Passed, to_token, white_passed, Spac
 use Rattle.proof_scanner.proofs.Cut.Pieces.Directives.{break_cut}
 use Rattle.proof_scanner.proofs.Cut.Pieces.Read.{pieces_are_read}
 use Rattle.proof_scanner.proofs.Cut.Saved.{saved_keys, saved_is}
-use Rattle.proof_scanner.specs.Arrives.{Arrives}
-use Rattle.proof_scanner.specs.StandsInRow.{Stands, Fares, begins, goes, over, FetchKeeps}
+use Rattle.proof_scanner.specs.StandsInRow.{Stands, Fares, begins, goes, over}
 use Rattle.proof_scanner.proofs.Sound.Arriving.{arrives_now, near_key}
 use Rattle.proof_scanner.proofs.Sound.Fetches.{fetch_keeps}
 use Rattle.proof_scanner.proofs.Sound.Runs.{reached}

@@ -1,23 +1,13 @@
 -- Faults of what is passed between pieces.
 use Rattle.std.proofs.Common.{◌≡◌, ℕ, List, [], ◌∷◌, Bool, true, false, not, ◌==◌, ◌&&◌, ◌||◌, Result, Err, refl, subst, arith}
 use Rattle.std.proofs.lemmas.Bool.Decides.{nat_tests}
-use Rattle.defs_text.specs.Classes.{is_at_gap, is_blank_or_end, is_blank, is_break, is_nul}
-use Rattle.defs_text.specs.FlowScalar.{begins_with}
-use Rattle.defs_text.specs.Position.{Position}
-use Rattle.yaml_tokens.specs.declared.problem.Fault.{Fault}
+use Rattle.proof_scanner.proofs.Common.{begins_separation, begins_with, ends_spaces, Fault, glued, is_at_gap, is_blank_or_end, is_breakz, is_nul, peek, Position, ScannerState, skip_spaces, SkipTabs, spaces, spaces_are_passed, SpacesAs, Whitespace, Yes}
+use Rattle.defs_text.specs.Classes.{is_blank, is_break}
 use Rattle.yaml_tokens.specs.declared.problem.Fault.TheVariants.{At}
 use Rattle.yaml_tokens.specs.declared.problem.Problem.TheVariants as problem
-use Rattle.yaml_chars.specs.Class.{is_breakz}
 use Rattle.yaml_chars.specs.Class as model_classes
-use Rattle.model_scanner.specs.declared.context.SkipTabs.{SkipTabs}
-use Rattle.model_scanner.specs.declared.context.SkipTabs.TheVariants.{Yes}
-use Rattle.model_scanner.specs.declared.context.Whitespace.{Whitespace}
 use Rattle.model_scanner.specs.Machine.{Read}
 use Rattle.model_scanner.specs.Blanks.{space, are_skipped}
-use Rattle.model_scanner.specs.State.{ScannerState, peek}
-use Rattle.model_scanner.specs.Space.{skip_spaces}
-use Rattle.proof_lexers.specs.Separations.{begins_separation, ends_spaces, SpacesAs, spaces, glued}
-use Rattle.proof_lexers.proofs.Separation.Spaces.{spaces_are_passed}
 use Rattle.proof_scanner.proofs.Refusals.Faults.{Faults, goes, read}
 use Rattle.proof_scanner.proofs.Refusals.Places.{Told}
 

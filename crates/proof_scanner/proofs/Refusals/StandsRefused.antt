@@ -2,38 +2,24 @@
 use Rattle.std.proofs.Common.{◌≡◌, ◌<◌, List, [], ◌∷◌, ◌++◌, ℕ, Bool, true, false, not, ◌==◌, ◌&&◌, ◌||◌, if◌then◌else◌, map, Option, Some, None, ◌⊎◌, inl, inr, refl, ap, sym, ◌∙◌, subst, arith}
 use Rattle.std.proofs.lemmas.Bool.{eqb-true}
 use Rattle.std.proofs.lemmas.Bool.Decides.{nat_tests}
-use Rattle.defs_text.specs.Classes.{is_blank, is_break, is_nul, is_flow, is_blank_or_end, is_at_gap}
-use Rattle.defs_text.specs.Position.{Position}
-use Rattle.defs_text.specs.Text.{is_empty, has_no_nul}
-use Rattle.defs_text.specs.FlowScalar.{begins_with}
-use Rattle.defs_token.specs.Account.{is_adjacent, before_past}
+use Rattle.proof_scanner.proofs.Common.{act_of, awaits_past, before_past, begins_free_line, begins_separation, begins_white_space, begins_with, begins_with_space_or_break, context_of, dash, double_quoted, entries_past, flow_entry, flow_mapping_end, flow_mapping_start, flow_sequence_end, flow_sequence_start, free, further_lines_stand, gives_colon, gives_dash, gives_node, gives_question, has_no_nul, has_tab_before_piece, is_adjacent, is_at_gap, is_blank_or_end, is_deep_enough, is_empty, is_in_column, is_indented_by_spaces, is_near, is_nul, is_renewed, is_separation, is_taken, is_taken_line, is_value_here, is_value_indicator, IsQuoted, kind_at, least_for, LikeEntries, LikeLine, line_past_separation, mapping_opening, may_precede, may_stand, past_inside, past_outside, past_piece, Position, previous_by, question, quoted_may_end, quoted_scalar, scalar, separations, sequence_opening, single_quoted, Site, site_at_place, site_in, site_past, taken, Tok, Whole}
+use Rattle.defs_text.specs.Classes.{is_blank, is_break, is_flow}
 use Rattle.defs_token.specs.Account as pieces
-use Rattle.defs_token.specs.Piece.{begins_with_space_or_break}
-use Rattle.defs_token.specs.Plain.{is_value_indicator}
-use Rattle.defs_token.specs.Separation.{is_separation}
-use Rattle.defs_token.specs.Token.{Tok, scalar, single_quoted, double_quoted, flow_sequence_start, flow_sequence_end, flow_mapping_start, flow_mapping_end, flow_entry}
-use Rattle.defs_token.specs.Step.{Step, gives_node, gives_dash, gives_question, gives_colon, act_of, quoted_scalar, previous_by}
-use Rattle.defs_token.specs.Column.{is_in_column, opened}
+use Rattle.defs_token.specs.Step.{Step}
+use Rattle.defs_token.specs.Column.{opened}
 use Rattle.defs_token.specs.FlowEntry as entry
-use Rattle.defs_token.specs.FlowEntry.{Entry, takes_pair, is_renewed, entries_past}
-use Rattle.defs_token.specs.Indentation.{awaits_past, is_indented_by_spaces, has_tab_before_piece}
-use Rattle.defs_token.specs.Following.{quoted_may_end, may_precede}
-use Rattle.defs_token.specs.Key.{Line, free, taken, waits, begins_free_line, line_past_separation, is_near, line_past}
-use Rattle.defs_token.specs.RowAccount.{Site, Account, before_by, is_in_flow, level_of, site_in, site_past, least_for, is_deep_enough, may_stand, on_one_line, past_outside, past_inside, past_piece}
-use Rattle.defs_token.specs.Lines.{further_lines_stand}
-use Rattle.proof_row.specs.Ends.{Kind, kind_at, question, colon, dash, sequence_opening, sequence_closing, mapping_opening, mapping_closing, comma}
-use Rattle.proof_row.proofs.Begins.{Whole, context_of}
-use Rattle.proof_row.proofs.Separations.{separations}
+use Rattle.defs_token.specs.FlowEntry.{Entry, takes_pair}
+use Rattle.defs_token.specs.Key.{Line, waits, line_past}
+use Rattle.defs_token.specs.RowAccount.{Account, before_by, is_in_flow, level_of, on_one_line}
+use Rattle.proof_row.specs.Ends.{Kind, colon, sequence_closing, mapping_closing, comma}
 use Rattle.proof_row.proofs.Texts.{no_nul_after}
 use Rattle.proof_lexers.specs.PlainEnds.{has_break}
-use Rattle.proof_lexers.specs.Separations.{begins_separation, begins_white_space}
 use Rattle.proof_row.proofs.Accounts.{same_flow}
-use Rattle.proof_row.proofs.Like.{LikeLine, LikeHad, LikeEntries}
+use Rattle.proof_row.proofs.Like.{LikeHad}
 use Rattle.proof_row.proofs.Written.{At}
 use Rattle.proof_scanner.proofs.Complete.Nodes.Past.{node_site_past}
 use Rattle.proof_scanner.proofs.Complete.Steps.{ends_before, step_here}
-use Rattle.proof_scanner.specs.NoPiece.{GoesOn, IsQuoted, is_flow_indicator}
-use Rattle.proof_scanner.specs.Failing.{site_at_place, is_taken_line, is_taken, is_value_here}
+use Rattle.proof_scanner.specs.NoPiece.{GoesOn, is_flow_indicator}
 use Rattle.proof_scanner.proofs.Refusals.OtherRows.{StepAt, IsClearAfter}
 use Rattle.proof_scanner.proofs.Refusals.PiecesHere.{acct, whole_by, rest_of}
 use Rattle.proof_scanner.proofs.Refusals.PiecesRefused.{refused, and_last, same_step, no_step, not_nothing}

@@ -2,23 +2,15 @@
 use Rattle.std.proofs.Common.{◌≡◌, ℕ, zero, suc, ◌+◌, ◌≤◌, ◌<◌, List, [], ◌∷◌, ◌++◌, Bool, true, false, not, ◌&&◌, ◌||◌, ◌==◌, inl, inr, nat_lt, if◌then◌else◌, length, Result, Ok, Err, refl, ap, sym, ◌∙◌, subst, append_assoc, arith}
 use Rattle.std.proofs.lemmas.Bool.{and_parts, eqb-true}
 use Rattle.std.proofs.lemmas.Bool.Decides.{nat_tests}
+use Rattle.proof_scanner.proofs.Common.{begins_line, begins_separation, begins_token, comment, Fault, follows_plain, has_tab_within, Held, is_before_indent, is_blanks, is_cr_lf, is_empty, is_indented_by_spaces, is_separation, least_column, moved, no_hash, PassesAs, Position, position_after, Previous, same_blank, same_break, ScannerState, separations_are_passed, skip, skip_to_next_token, tab_line}
 use Rattle.yaml_chars.specs.Class.{is_break, is_blank}
-use Rattle.yaml_tokens.specs.declared.problem.Fault.{Fault}
 use Rattle.yaml_tokens.specs.declared.problem.Fault.TheVariants.{At}
 use Rattle.yaml_tokens.specs.declared.problem.Problem.TheVariants as problem
 use Rattle.defs_text.specs.Classes as classes
-use Rattle.defs_text.specs.Position.{Position, position_after}
-use Rattle.defs_text.specs.Text.{is_empty}
-use Rattle.defs_token.specs.Separation.{is_separation, is_blanks}
-use Rattle.defs_token.specs.Step.{Previous}
-use Rattle.defs_token.specs.Indentation.{least_column, has_tab_within, last_line, begins_line, follows_plain, is_indented_by_spaces}
-use Rattle.model_scanner.specs.Machine.{is_cr_lf}
-use Rattle.model_scanner.specs.State.{Held, ScannerState, moved}
-use Rattle.model_scanner.specs.Space.{Gap, between, comment, tab_line, past_line, is_before_indent, skip, skip_to_next_token}
-use Rattle.proof_lexers.specs.PlainEnds.{begins_token}
-use Rattle.proof_lexers.specs.Separations.{begins_separation, PassesAs, passes, refuses}
-use Rattle.proof_lexers.proofs.Bridges.{same_break, same_blank}
-use Rattle.proof_lexers.proofs.Separation.Separations.{separations_are_passed, no_hash, fills_blank}
+use Rattle.defs_token.specs.Indentation.{last_line}
+use Rattle.model_scanner.specs.Space.{Gap, between, past_line}
+use Rattle.proof_lexers.specs.Separations.{passes, refuses}
+use Rattle.proof_lexers.proofs.Separation.Separations.{fills_blank}
 use Rattle.proof_scanner.proofs.Cut.Pieces.Separations.{separation_append}
 use Rattle.proof_scanner.proofs.Cut.Positions.{index_after}
 use Rattle.proof_scanner.proofs.Sound.LastLines.{last_more}

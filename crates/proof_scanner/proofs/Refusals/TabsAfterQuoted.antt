@@ -1,34 +1,20 @@
 -- A TAB after a quoted scalar, on a later line, which would indent the next piece.
 use Rattle.std.proofs.Common.{◌≡◌, ℕ, List, [], ◌++◌, Bool, true, false, append_assoc, Result, Ok, refl, ap, sym, ◌∙◌, subst, inr}
-use Rattle.defs_text.specs.Position.{Position, position_after}
-use Rattle.defs_text.specs.Text.{is_empty, has_no_nul}
-use Rattle.defs_text.specs.FlowScalar.{begins_with}
-use Rattle.defs_token.specs.Separation.{is_separation}
-use Rattle.defs_token.specs.Step.{quoted_scalar, has_break}
-use Rattle.defs_token.specs.Indentation.{least_column, is_indented_by_spaces}
-use Rattle.yaml_tokens.specs.declared.problem.Fault.{Fault}
+use Rattle.proof_scanner.proofs.Common.{Arrives, begins_with, check_after_quoted, closed_first, Fault, has_no_nul, has_open_level, held_of, in_flow, is_empty, is_indented_by_spaces, is_separation, IsQuoted, IsStuck, least_column, may_not_stand, Position, position_after, position_append, quoted_scalar, ScannerState, site_at_place, skip_to_next_token}
+use Rattle.defs_token.specs.Step.{has_break}
 use Rattle.yaml_tokens.specs.declared.problem.Problem.TheVariants as problem
 use Rattle.model_scanner.specs.declared.context.Context.{Context}
 use Rattle.model_scanner.specs.Machine.{Read}
-use Rattle.model_scanner.specs.State.{ScannerState, in_flow}
-use Rattle.model_scanner.specs.Space.{between, skip_to_next_token}
-use Rattle.model_scanner.specs.Document.{check_after_quoted}
-use Rattle.model_scanner.proofs.Holds.{held_of}
-use Rattle.proof_lexers.proofs.Separation.Positions.{position_append}
+use Rattle.model_scanner.specs.Space.{between}
 use Rattle.proof_scanner.proofs.Cut.Pieces.Separations.{separation_append}
 use Rattle.proof_scanner.proofs.Cut.Saved.{saved_is}
-use Rattle.proof_scanner.specs.Arrives.{Arrives}
-use Rattle.proof_scanner.specs.StandsInRow.{columns, has_open_level}
+use Rattle.proof_scanner.specs.StandsInRow.{columns}
 use Rattle.proof_scanner.proofs.Sound.Arrivals.{clean_after}
 use Rattle.proof_scanner.proofs.Sound.Passed.{least_is, same_has_break}
 use Rattle.proof_scanner.proofs.Sound.QuotedEnds.{Checked, quoted_checked}
 use Rattle.proof_scanner.proofs.Sound.QuotedKeeps.{QuotedAs, in_line}
 use Rattle.proof_scanner.proofs.Sound.Skips.{IsLeast, IsIn}
-use Rattle.proof_scanner.specs.NoPiece.{IsQuoted}
 use Rattle.proof_scanner.specs.Failing as defs
-use Rattle.proof_scanner.specs.Failing.{may_not_stand, site_at_place}
-use Rattle.proof_scanner.specs.FirstQuoted.{closed_first}
-use Rattle.proof_scanner.specs.Stuck.{IsStuck}
 use Rattle.proof_scanner.proofs.Complete.Scalars.AfterQuoted.{unglued}
 use Rattle.proof_scanner.proofs.Refusals.Faults.{Faults, fault, goes}
 use Rattle.proof_scanner.proofs.Refusals.Places.{Told, LiesDeep, account_by, stuck, blocks_by, awaits_by, least_by, looked_at}

@@ -1,49 +1,33 @@
 -- Where a tag, a directive or a block scalar's header is none, no row of the text goes on.
 use Rattle.std.proofs.Common.{◌≡◌, ℕ, zero, suc, ◌⊎◌, inl, inr, List, [], ◌∷◌, ◌++◌, Bool, true, false, not, ◌==◌, ◌&&◌, ◌||◌, if◌then◌else◌, Option, Some, None, Ok, Err, slice_index, length, refl, ap, sym, ◌∙◌, subst, append-nil}
 use Rattle.std.proofs.lemmas.Bool.{and_parts, eqb-true}
-use Rattle.defs_text.specs.Breaks.{put_first, split, has_no_break, is_at_line_end}
-use Rattle.defs_text.specs.Classes.{is_blank, is_break, is_nul, is_flow, is_blank_or_end, is_at_gap, is_at_end, is_alpha, is_decimal_digit, is_letter, is_uri, is_tag, are_marks}
-use Rattle.defs_text.specs.Position.{Position}
-use Rattle.defs_text.specs.Text.{is_empty, has_no_nul}
-use Rattle.defs_text.specs.BlockScalar.{BlockStyle, literal, folded, Header, header_of, Body, body, Ending, further_text, all_lines, starts_with_tab, block_value, is_further_text}
+use Rattle.proof_scanner.proofs.Common.{all_of, are_marks, AreNotIndented, begins_flow, begins_with, begins_with_mark, block_may_end, block_read, block_value, BlockRead, BlockStyle, body, column_of, context_of, decoded, directive_begins, directive_line, directive_of, double_quoted, further, further_text, has_no_break, has_no_nul, HasNoQuoted, header_of, in_double_quotes, in_single_quotes, indicator_of, innermost, is_adjacent, is_at_end, is_at_gap, is_at_line_end, is_blank_or_end, is_decimal_digit, is_empty, is_letter, is_nul, is_past, is_uri, IsTagRefusal, kind_at, leading, least_column, lines_may_end, may_follow, may_precede, Position, Problem, put_first, read_body, read_lines, read_may_end, scalar, single_quoted, site_at_place, split, tag_text, tags_are_read, Whole, with_value, written_tag}
+use Rattle.defs_text.specs.Classes.{is_blank, is_break, is_flow, is_alpha, is_tag}
+use Rattle.defs_text.specs.BlockScalar.{literal, folded, Header, Body, Ending, all_lines, starts_with_tab, is_further_text}
 use Rattle.defs_text.specs.BlockScalar as block
 use Rattle.defs_text.specs.BlockScalar.{unbroken as unbroken_line}
-use Rattle.defs_text.specs.Directives.{directive_of}
-use Rattle.defs_text.specs.FlowScalar.{begins_with}
-use Rattle.defs_text.specs.Tags.{all_of, leading, after, begins_with_mark, decoded, written_tag}
-use Rattle.defs_token.specs.BlockPiece.{BlockRead, column_of, with_value, is_past, read_body, read_lines, block_read}
+use Rattle.defs_text.specs.Tags.{after}
 use Rattle.defs_token.specs.Account as pieces
-use Rattle.defs_token.specs.Account.{is_adjacent}
-use Rattle.defs_token.specs.Plain.{begins_flow}
-use Rattle.defs_token.specs.Token.{scalar, single_quoted, double_quoted}
-use Rattle.defs_token.specs.Column.{innermost}
-use Rattle.defs_token.specs.Following.{lines_may_end, read_may_end, block_may_end, may_precede}
-use Rattle.defs_token.specs.Indentation.{least_column}
 use Rattle.defs_token.specs.RowAccount.{Account, is_in_flow}
 use Rattle.yaml_tokens.specs.declared.problem.Fault.TheVariants.{At}
-use Rattle.yaml_tokens.specs.declared.problem.Problem.{Problem}
 use Rattle.yaml_tokens.specs.declared.problem.Problem.TheVariants as problem
 use Rattle.model_scanner.specs.Machine.{past}
 use Rattle.model_scanner.specs.Tag as tags
 use Rattle.model_scanner.specs.Tag.{verbatim_end, verbatim, named, shorthand, tag_end, tag}
-use Rattle.proof_row.specs.Ends.{Kind, kind_at, tag_text, directive_line, block_scalar, in_single_quotes, in_double_quotes}
-use Rattle.proof_row.proofs.Begins.{block_token, Whole, context_of, directive_begins}
+use Rattle.proof_row.specs.Ends.{Kind, block_scalar}
+use Rattle.proof_row.proofs.Begins.{block_token}
 use Rattle.proof_row.proofs.Blocks.{has_header}
 use Rattle.proof_row.proofs.Lines.{of_lines, lines_after, split_append, up_to_break, first_line, line_is, line_more, no_lines}
 use Rattle.proof_row.proofs.Splits.{More, splits}
 use Rattle.proof_row.proofs.TagEnds.{mark_is_first}
 use Rattle.proof_row.proofs.Texts.{no_nul_after}
 use Rattle.proof_lexers.specs.DirectiveEnds as directives
-use Rattle.proof_lexers.specs.HeaderEnds.{indicator_of, is_in_line, ends_line}
-use Rattle.proof_lexers.specs.NameEnds.{further}
-use Rattle.proof_lexers.specs.TagEnds.{may_follow, IsTagRefusal, verbatim_octets, unclosed, verbatim_goes_on, suffix_octets, no_suffix, suffix_goes_on, local_octets, local_goes_on}
-use Rattle.proof_lexers.proofs.Properties.TagReads.{tags_are_read}
+use Rattle.proof_lexers.specs.HeaderEnds.{is_in_line, ends_line}
+use Rattle.proof_lexers.specs.TagEnds.{verbatim_octets, unclosed, verbatim_goes_on, suffix_octets, no_suffix, suffix_goes_on, local_octets, local_goes_on}
 use Rattle.proof_lexers.proofs.Properties.Tags.{word, leading_all, same_end, alpha_starts, decoded_some}
 use Rattle.proof_lexers.proofs.Properties.Uris.{uris_are_read}
 use Rattle.proof_row.proofs.Written as written
-use Rattle.proof_scanner.specs.NoPiece.{quote_of, HasNoQuoted}
-use Rattle.proof_scanner.specs.QuotedLines.{AreNotIndented}
-use Rattle.proof_scanner.specs.Failing.{site_at_place}
+use Rattle.proof_scanner.specs.NoPiece.{quote_of}
 use Rattle.proof_scanner.proofs.Refusals.OtherRows.{StepAt}
 use Rattle.proof_scanner.proofs.Refusals.PiecesHere.{acct, whole_by, rest_of}
 use Rattle.proof_scanner.proofs.Refusals.StandsRefused.{flow_is, no_lines as no_lines_there, no_end as no_end_here}

@@ -2,39 +2,22 @@
 use Rattle.std.proofs.Common.{◌≡◌, ℕ, ◌+◌, ◌<◌, ◌≤◌, List, [], ◌++◌, Bool, true, false, not, if◌then◌else◌, length, None, Result, Ok, refl, ap, sym, ◌∙◌, subst, arith}
 use Rattle.std.proofs.lemmas.Bool.Decides.{nat_tests}
 use Rattle.std.proofs.lemmas.List.{length-append}
-use Rattle.defs_text.specs.Position.{Position, position_after}
-use Rattle.defs_text.specs.Text.{is_empty, has_no_nul}
-use Rattle.defs_token.specs.Separation.{is_separation}
-use Rattle.defs_token.specs.FlowEntry.{is_renewed}
-use Rattle.defs_token.specs.Indentation.{is_indented_by_spaces}
-use Rattle.defs_token.specs.Key.{waits, is_waiting, is_near, begins_free_line}
+use Rattle.proof_scanner.proofs.Common.{Arrives, begins_free_line, Fault, fetch, GoesHere, has_no_nul, HasNoKey, held_of, here, in_flow, is_empty, is_indented_by_spaces, is_near, is_renewed, is_separation, is_waiting, IsPlace, line_by, on_held, outside_key, Position, position_after, Reaches, ScannerState, separations, skip_to_next_token, stale, start, there, top_key, try_held, unroll_indent, ◌>>=◌}
+use Rattle.defs_token.specs.Key.{waits}
 use Rattle.defs_token.specs.RowAccount.{Account}
-use Rattle.defs_token.specs.Beginning.{IsPlace}
-use Rattle.yaml_tokens.specs.declared.problem.Fault.{Fault}
-use Rattle.model_scanner.specs.State.{ScannerState, ◌>>=◌, in_flow, on_held, try_held}
-use Rattle.model_scanner.specs.Keys.{top_key, stale}
-use Rattle.model_scanner.specs.Indents.{unroll_indent}
-use Rattle.model_scanner.specs.Space.{skip_to_next_token}
-use Rattle.model_scanner.specs.Fetch.{fetch}
-use Rattle.model_scanner.specs.Run.{start, Reaches, here, there}
-use Rattle.model_scanner.proofs.Holds.{held_of}
-use Rattle.proof_row.proofs.Separations.{separations}
 use Rattle.proof_scanner.proofs.Cut.Fetched.{Came, came}
-use Rattle.proof_scanner.specs.Choices.{line_by, outside_key}
 use Rattle.proof_scanner.specs.StandsInRow.{Stands, goes}
-use Rattle.proof_scanner.specs.Arrives.{Arrives}
 use Rattle.proof_scanner.proofs.Sound.Fetches.{fetch_keeps}
 use Rattle.proof_scanner.proofs.Sound.Runs.{reached}
 use Rattle.proof_scanner.proofs.Sound.Sound.{each_keeps}
 use Rattle.proof_scanner.proofs.Sound.Stales.{no_entries}
-use Rattle.proof_scanner.specs.Goes.{Goes, GoesHere}
+use Rattle.proof_scanner.specs.Goes.{Goes}
 use Rattle.proof_scanner.specs.Ways.{Stop}
 use Rattle.proof_scanner.proofs.Complete.Steps.{ends_before}
 use Rattle.proof_scanner.proofs.Complete.Runs.{left, cut_there, Stops, read_to_stop}
 use Rattle.proof_scanner.proofs.Complete.Complete.{each_fetch_reads}
 use Rattle.proof_scanner.proofs.Complete.Around.Arriving.{arrives}
 use Rattle.proof_scanner.proofs.Complete.Around.Passing.{to_come}
-use Rattle.proof_scanner.specs.Stuck.{HasNoKey}
 use Rattle.proof_scanner.proofs.Refusals.Shortens.{ReadsOn, fetch_reads_on, run_reads_on}
 
 -- ---- runs

@@ -1,17 +1,9 @@
 -- A piece in flow, and the open key outside flow: while that is live, no break stands before the piece or in it.
 use Rattle.std.proofs.Common.{◌≡◌, ℕ, ◌≤◌, List, ◌∷◌, Bool, true, false, ◌&&◌, Option, Some, None, refl, ap, sym, ◌∙◌, subst, arith, append-nil}
-use Rattle.defs_text.specs.Position.{Position}
-use Rattle.defs_text.specs.Text.{is_empty}
+use Rattle.proof_scanner.proofs.Common.{begins_free_line, FlowLevel, is_empty, is_waiting, IsLive, IsOpenHere, IsOpenOutside, Key, line_by, line_past_separation, MayChoose, NotBefore, outside_key, Position, ScannerState, taken}
 use Rattle.defs_token.specs.Step.{has_break}
-use Rattle.defs_token.specs.Key.{taken, is_waiting, begins_free_line, line_past_separation}
 use Rattle.defs_token.specs.FlowEntry.{Entry}
-use Rattle.model_scanner.specs.declared.level.FlowLevel.{FlowLevel}
-use Rattle.model_scanner.specs.State.{Key, ScannerState}
-use Rattle.proof_scanner.specs.Order.{NotBefore}
-use Rattle.proof_scanner.specs.Here.{IsLive}
 use Rattle.proof_scanner.proofs.Cut.Positions.{not_before_after, not_before_then}
-use Rattle.proof_scanner.specs.Choices.{line_by, outside_key, MayChoose}
-use Rattle.proof_scanner.specs.StandsInRow.{IsOpenHere, IsOpenOutside}
 use Rattle.proof_scanner.proofs.Sound.NodeSteps.{separated}
 use Rattle.proof_scanner.proofs.Sound.StepsOutside.{no_waiting}
 use Rattle.proof_scanner.proofs.Sound.Sides.{ArrivesBy}

@@ -2,29 +2,16 @@
 use Rattle.std.proofs.Common.{◌≡◌, ℕ, suc, ◌+◌, ◌-◌, ◌≤◌, List, [], ◌∷◌, ◌++◌, Bool, true, false, not, ◌&&◌, ◌||◌, ◌==◌, nat_le, nat_lt, if◌then◌else◌, drop, Option, Some, None, refl, ap, sym, ◌∙◌, subst, arith}
 use Rattle.std.proofs.lemmas.Bool.{and_parts}
 use Rattle.std.proofs.lemmas.Bool.Decides.{nat_tests}
-use Rattle.defs_text.specs.Classes.{is_break, is_blank, is_nul}
-use Rattle.defs_text.specs.Breaks.{has_no_break, is_before_line_feed}
-use Rattle.defs_text.specs.Position.{Position, position_after}
-use Rattle.defs_text.specs.Text.{is_empty, has_no_nul}
-use Rattle.defs_token.specs.Step.{Previous, plain_scalar, quoted_scalar, block_scalar, flow_collection, directive, another, has_break}
-use Rattle.defs_token.specs.Column.{not_ended, is_in_column, innermost}
-use Rattle.defs_token.specs.Indentation.{least_column}
-use Rattle.defs_token.specs.Key.{Line, free, taken, waits, is_waiting, begins_free_line, line_past_separation}
+use Rattle.proof_scanner.proofs.Common.{another, AreCollections, AreNumbered, begins_free_line, begins_separation, BeginsButForKey, Completes, flow_collection, FlowLevel, free, has_no_break, has_no_nul, has_open_level, Held, in_flow, Indent, innermost, is_before_line_feed, is_empty, is_in_column, is_nul, is_waiting, IsLive, IsNotRight, IsTopLevel, Key, least_column, line_past_separation, MayChoose, must_be_key, not_ended, NotBefore, outside_key, Position, position_after, Previous, quoted_scalar, ScannerState, taken, tokens_up_to, top_needs_block_end}
+use Rattle.defs_text.specs.Classes.{is_break, is_blank}
+use Rattle.defs_token.specs.Step.{plain_scalar, block_scalar, directive, has_break}
+use Rattle.defs_token.specs.Key.{Line, waits}
 use Rattle.defs_token.specs.FlowEntry.{Entry}
-use Rattle.model_scanner.specs.declared.level.Indent.{Indent}
-use Rattle.model_scanner.specs.declared.level.FlowLevel.{FlowLevel}
-use Rattle.model_scanner.specs.State.{Key, Held, ScannerState, in_flow}
-use Rattle.model_scanner.specs.Keys.{top_needs_block_end, must_be_key}
-use Rattle.proof_lexers.specs.Separations.{begins_separation}
-use Rattle.proof_scanner.specs.Order.{NotBefore}
-use Rattle.proof_scanner.specs.Here.{IsLive, IsNotRight}
 use Rattle.proof_scanner.proofs.Cut.Pieces.Inserted.{no_break_on_line}
 use Rattle.proof_scanner.proofs.Cut.Nodes.{IsDeep}
-use Rattle.proof_scanner.specs.Choices.{outside_key, chosen, MayChoose}
-use Rattle.proof_scanner.specs.Completes.{tokens_up_to, Completes}
-use Rattle.proof_scanner.specs.StandsInRow.{columns, has_open_level, AreCollections, AreLevels, IsTopLevel, AreNumbered}
+use Rattle.proof_scanner.specs.Choices.{chosen}
+use Rattle.proof_scanner.specs.StandsInRow.{columns, AreLevels}
 use Rattle.proof_scanner.proofs.Sound.Sides.{with_entries, ArrivesBy}
-use Rattle.defs_token.specs.Beginning.{BeginsButForKey}
 
 -- ---- texts
 

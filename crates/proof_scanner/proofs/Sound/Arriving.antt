@@ -1,30 +1,17 @@
 -- From what holds between two fetches to what holds where the next piece begins, or at the text's end.
 use Rattle.std.proofs.Common.{◌≡◌, ℕ, ◌+◌, List, [], ◌∷◌, ◌++◌, Bool, true, false, not, ◌||◌, ◌==◌, ◌⊎◌, inl, inr, Option, Some, None, Result, refl, ap, sym, ◌∙◌, subst, append-nil, arith}
+use Rattle.proof_scanner.proofs.Common.{Arrives, before_past, begins_free_line, begins_separation, begins_token, both_hold, chained, ends_here, FaresAt, Fault, free, has_open_level, HasNoTabs, Held, is_adjacent, is_at_comment_or_end, is_empty, is_free, is_indented_by_spaces, is_renewed, IsLine, IsLineHere, IsNear, Key, Levels, line_past_separation, on_held, outside_key, Position, ScannerState, site_here, skip_to_next_token, stale, taken, try_held, unroll_indent, unrolled, ◌>>=◌}
 use Rattle.defs_text.specs.Classes.{is_break, is_blank}
-use Rattle.defs_text.specs.Position.{Position}
-use Rattle.defs_text.specs.Text.{is_empty}
-use Rattle.defs_token.specs.Account.{is_adjacent, before_past}
-use Rattle.defs_token.specs.Indentation.{is_indented_by_spaces}
-use Rattle.defs_token.specs.Key.{Line, free, taken, waits, begins_free_line, line_past_separation}
-use Rattle.defs_token.specs.FlowEntry.{is_renewed}
+use Rattle.defs_token.specs.Key.{Line, waits}
 use Rattle.defs_token.specs.RowAccount.{Account, before_by}
-use Rattle.yaml_tokens.specs.declared.problem.Fault.{Fault}
-use Rattle.model_scanner.specs.State.{Key, Held, ScannerState, ◌>>=◌, on_held, try_held}
-use Rattle.model_scanner.specs.Keys.{stale}
-use Rattle.model_scanner.specs.Indents.{Levels, with_levels, unrolled, unroll_indent}
-use Rattle.model_scanner.specs.Space.{skip_to_next_token}
-use Rattle.model_scanner.proofs.Holds.{Holds, chained, tried, both_hold}
-use Rattle.proof_lexers.specs.PlainEnds.{begins_token}
-use Rattle.proof_lexers.specs.Separations.{begins_separation}
+use Rattle.model_scanner.specs.Indents.{with_levels}
+use Rattle.model_scanner.proofs.Holds.{Holds, tried}
 use Rattle.proof_scanner.proofs.Cut.Heres.{before_again}
-use Rattle.proof_scanner.specs.Stands.{FaresAt}
 use Rattle.proof_scanner.proofs.Cut.Documents.{passed_stands as passed_cut}
 use Rattle.proof_scanner.proofs.Cut.Fetched.{stale_stands as stale_cut}
 use Rattle.proof_scanner.proofs.Cut.Passes.{to_token}
 use Rattle.proof_scanner.proofs.Cut.Unrolls.{unrolled_in_flow, unrolled_outside, unrolled_here}
-use Rattle.proof_scanner.specs.Choices.{outside_key}
-use Rattle.proof_scanner.specs.StandsInRow.{columns, has_open_level, AreLevels, is_free, IsLine, is_at_comment_or_end, HasNoTabs, Stands}
-use Rattle.proof_scanner.specs.Arrives.{site_here, ends_here, IsLineHere, IsNear, Arrives}
+use Rattle.proof_scanner.specs.StandsInRow.{columns, AreLevels, Stands}
 use Rattle.proof_scanner.proofs.Sound.Ended.{Ended, levels_end}
 use Rattle.proof_scanner.proofs.Sound.Stales.{Nearer, no_entries, stale_stands}
 use Rattle.proof_scanner.proofs.Sound.ToToken.{passed_stands}

@@ -1,13 +1,10 @@
 -- What a part of a node begins: an opening bracket the first entry of a collection, other pieces nothing.
 use Rattle.std.proofs.Common.{◌≡◌, ℕ, suc, List, [], ◌∷◌, ◌++◌, Bool, Option, Some, None, refl}
-use Rattle.defs_text.specs.Position.{Position}
-use Rattle.defs_token.specs.Token.{Token}
-use Rattle.defs_token.specs.Account.{FlowKind}
-use Rattle.defs_token.specs.Step.{Step, gives_node}
+use Rattle.proof_scanner.proofs.Common.{first_entry, FlowKind, gives_node, Key, pop, Position, Token}
+use Rattle.defs_token.specs.Step.{Step}
 use Rattle.defs_token.specs.Key.{Line}
-use Rattle.defs_token.specs.FlowEntry.{Entry, first_entry}
+use Rattle.defs_token.specs.FlowEntry.{Entry}
 use Rattle.defs_token.specs.Tokens.{depth_past}
-use Rattle.model_scanner.specs.State.{Key, pop}
 use Rattle.proof_scanner.specs.Completes.{with_keys}
 
 -- the entries after it, by the kind of the collection that it begins, if any

@@ -2,27 +2,16 @@
 use Rattle.std.proofs.Common.{◌≡◌, ℕ, List, [], ◌∷◌, ◌++◌, Bool, true, false, not, ◌&&◌, ◌||◌, ◌==◌, if◌then◌else◌, Result, Ok, Err, refl, ap, sym, ◌∙◌, subst, append_assoc}
 use Rattle.std.proofs.lemmas.Bool.{eqb-true}
 use Rattle.std.proofs.lemmas.List.{append-nil}
-use Rattle.defs_text.specs.Position.{Position, position_after}
-use Rattle.defs_text.specs.Classes.{is_one_of, is_blank, is_break}
-use Rattle.defs_text.specs.Breaks.{has_no_break}
-use Rattle.defs_text.specs.FlowScalar.{begins_with}
-use Rattle.defs_text.specs.Tags.{leading, after}
-use Rattle.defs_token.specs.Separation.{is_separation}
-use Rattle.defs_token.specs.Step.{is_on_line, comment_of, past_comment, blanks_and_comment, past_blanks_and_comment}
-use Rattle.defs_token.specs.Tokens.{past_line_rest}
-use Rattle.yaml_tokens.specs.declared.problem.Fault.{Fault}
+use Rattle.proof_scanner.proofs.Common.{begins_with, blanks_and_comment, Fault, has_no_break, in_line_position, is_on_line, is_one_of, is_separation, leading, lexed, No, or_true, past_blanks_and_comment, past_comment, past_line_rest, Position, position_after, position_append, position_in_line, same_break, ScannerState, skip_spaces, Whitespace, Yes}
+use Rattle.defs_text.specs.Classes.{is_blank, is_break}
+use Rattle.defs_text.specs.Tags.{after}
+use Rattle.defs_token.specs.Step.{comment_of}
 use Rattle.yaml_tokens.specs.declared.problem.Fault.TheVariants.{At}
 use Rattle.yaml_tokens.specs.declared.problem.Problem.TheVariants as problem
-use Rattle.model_scanner.specs.declared.context.SkipTabs.TheVariants.{Yes, No}
-use Rattle.model_scanner.specs.declared.context.Whitespace.{Whitespace}
 use Rattle.model_scanner.specs.Machine.{Stop, walk, Read, past, skip_while}
 use Rattle.model_scanner.specs.Blanks.{is_line, with_found, comment_after, Spaces, space_step, after_spaces, spaces_end, space}
-use Rattle.model_scanner.specs.State.{ScannerState, lexed}
-use Rattle.model_scanner.specs.Space.{skip_spaces}
 use Rattle.model_scanner.proofs.Holds.{Holds, went, refused}
-use Rattle.proof_lexers.proofs.Bridges.{same_break}
-use Rattle.proof_lexers.proofs.Plain.Turns.{or_true, or_false, in_line_position}
-use Rattle.proof_lexers.proofs.Separation.Positions.{position_append, position_in_line}
+use Rattle.proof_lexers.proofs.Plain.Turns.{or_false}
 use Rattle.proof_lexers.proofs.Properties.Tags.{span_cut}
 
 -- ---- positions

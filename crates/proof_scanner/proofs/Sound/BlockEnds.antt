@@ -2,30 +2,20 @@
 use Rattle.std.proofs.Common.{◌≡◌, ℕ, suc, ◌+◌, ◌≤◌, List, [], ◌∷◌, ◌++◌, Bool, true, false, not, ◌&&◌, ◌||◌, ◌==◌, nat_lt, nat_le, slice_index, if◌then◌else◌, length, Option, Some, None, Result, Ok, Err, refl, ap, sym, ◌∙◌, arith}
 use Rattle.std.proofs.lemmas.Bool.{and_parts, eqb-true}
 use Rattle.std.proofs.lemmas.Bool.Decides.{nat_tests}
-use Rattle.defs_text.specs.Position.{Position, position_past, position_after}
-use Rattle.defs_text.specs.Text.{is_empty, has_no_nul}
-use Rattle.defs_text.specs.Classes.{space, tab, is_at_end}
-use Rattle.defs_text.specs.Breaks.{split}
-use Rattle.defs_text.specs.FlowScalar.{begins_with}
-use Rattle.defs_text.specs.BlockScalar.{BlockStyle, is_spaces, leading_spaces, is_empty_line}
-use Rattle.defs_token.specs.BlockPiece.{BlockRead, read_lines, block_read, first_content, past_spaces}
-use Rattle.defs_token.specs.Column.{innermost}
-use Rattle.defs_token.specs.Indentation.{least_column}
-use Rattle.defs_token.specs.Following.{are_empty, lines_may_end, read_may_end, block_may_end}
-use Rattle.yaml_tokens.specs.declared.problem.Fault.{Fault}
+use Rattle.proof_scanner.proofs.Common.{along, are_empty, AreLines, begins_with, Block, block, block_may_end, block_read, BlockEndsAs, BlockRead, BlockStyle, collection_of, Fault, further_position, has_no_nul, indicator_of, innermost, is_at_end, is_empty, is_literal_style, is_tabbed, leading_spaces, least_column, lines_may_end, past_spaces, Position, position_after, position_past, read_block, read_lines, read_may_end, spell, split, split_spell, tab, texts}
+use Rattle.defs_text.specs.Classes.{space}
+use Rattle.defs_text.specs.BlockScalar.{is_spaces, is_empty_line}
+use Rattle.defs_token.specs.BlockPiece.{first_content}
 use Rattle.model_scanner.specs.Machine.{Read}
-use Rattle.model_scanner.specs.BlockScalar.{Block, block}
-use Rattle.proof_lexers.specs.HeaderEnds.{along, indicator_of}
-use Rattle.proof_lexers.specs.BlockScan.{is_none, is_single, is_tabbed, is_shallow, is_literal_style, further_position, read_block, read, shallow, tabbed}
-use Rattle.proof_lexers.specs.BlockEnds.{BlockEndsAs, bad_header}
+use Rattle.proof_lexers.specs.BlockScan.{is_none, is_single, is_shallow, read, shallow, tabbed}
+use Rattle.proof_lexers.specs.BlockEnds.{bad_header}
 use Rattle.proof_lexers.specs.BlockEnds as ends
 use Rattle.proof_lexers.proofs.Blocks.Ends.{scans_end}
 use Rattle.proof_scanner.proofs.Cut.Pieces.Blocks.{piece_has_line}
 use Rattle.proof_scanner.proofs.Cut.Pieces.Quoted.{some_chars}
-use Rattle.proof_lexers.specs.PlainEnds.{collection_of}
 use Rattle.proof_lexers.proofs.Blocks.Margins.{after_break, after_line, after_lines}
 use Rattle.proof_lexers.proofs.Blocks.Positions.{space_past, after_spell, first_empty, first_header}
-use Rattle.proof_lexers.proofs.Blocks.Written.{Break, feed, carriage, both, Line, put, spell, texts, Fits, AreLines, Lined, lined, split_spell}
+use Rattle.proof_lexers.proofs.Blocks.Written.{Break, feed, carriage, both, Line, put, Fits, Lined, lined}
 
 -- ---- the lines of a piece before further text
 

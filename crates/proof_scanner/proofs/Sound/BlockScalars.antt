@@ -2,45 +2,23 @@
 use Rattle.std.proofs.Common.{◌≡◌, ℕ, zero, suc, ◌≤◌, List, [], ◌∷◌, ◌++◌, Bool, true, false, not, ◌&&◌, ◌||◌, ◌==◌, ◌⊎◌, inl, inr, nat_lt, if◌then◌else◌, map, take, Option, Some, None, Ok, refl, ap, sym, ◌∙◌, subst, append_assoc, append-nil, arith}
 use Rattle.std.proofs.lemmas.Bool.{eqb-true}
 use Rattle.std.proofs.lemmas.Bool.Decides.{nat_tests}
-use Rattle.defs_text.specs.Classes.{space, is_break, is_nul, is_at_end, is_one_of}
-use Rattle.defs_text.specs.Position.{Position, position_after}
-use Rattle.defs_text.specs.Text.{is_empty, has_no_nul}
-use Rattle.defs_text.specs.BlockScalar.{BlockStyle, literal, folded}
+use Rattle.proof_scanner.proofs.Common.{Act, act_of, allow_key, Arrives, awaits_past, begins_line, begun_by, begun_outside, Block, block, block_may_end, block_position, block_read, block_style, BlockStyle, collection_of, Completes, content_position, ends_at, fetch_block_scalar, free, further_lines_stand, further_position, gives_block_scalar, has_no_nul, has_tab_within, indicator_of, innermost, innermost_column, is_at_end, is_deeper, is_empty, is_free, is_in_column, is_indented_by_spaces, is_literal_style, is_nul, is_one_of, is_separation, IsLineHere, IsLive, IsOpenOutside, IsPiece, IsReadOn, IsTakenBy, Key, least_column, least_for, Levels, lexed, may_precede, may_stand, MayChoose, NotBefore, on_held, Position, position_after, Previous, previous_by, push, read_block, ScannerState, seen, shown_position, Site, site_here, site_in, site_past, taken, Tok, Token, token, tokens_up_to, unroll_non_block_indents, without_open}
+use Rattle.defs_text.specs.Classes.{space, is_break}
+use Rattle.defs_text.specs.BlockScalar.{literal, folded}
 use Rattle.defs_token.specs.Account as pieces
-use Rattle.defs_token.specs.Account.{innermost_column}
-use Rattle.defs_token.specs.BlockPiece.{block_read, block_position}
-use Rattle.defs_token.specs.Token.{Tok, Token}
-use Rattle.defs_token.specs.Separation.{is_separation}
-use Rattle.defs_token.specs.Piece.{IsPiece}
-use Rattle.defs_token.specs.Step.{Act, act_of, gives_block_scalar, Previous, block_scalar, previous_by, has_break}
-use Rattle.defs_token.specs.Column.{innermost, is_deeper, is_in_column}
-use Rattle.defs_token.specs.Indentation.{least_column, has_tab_within, begins_line, awaits_past, is_indented_by_spaces}
-use Rattle.defs_token.specs.Lines.{further_lines_stand}
-use Rattle.defs_token.specs.Following.{may_precede, block_may_end}
-use Rattle.defs_token.specs.Key.{Line, free, taken, line_past}
-use Rattle.defs_token.specs.FlowEntry.{begun_by}
-use Rattle.defs_token.specs.RowAccount.{Site, Account, site_in, site_past, least_for, may_stand, seen}
-use Rattle.defs_token.specs.Tokens.{put, content_position, shown_position, ends_at, begun_outside}
+use Rattle.defs_token.specs.Step.{block_scalar, has_break}
+use Rattle.defs_token.specs.Key.{Line, line_past}
+use Rattle.defs_token.specs.RowAccount.{Account}
+use Rattle.defs_token.specs.Tokens.{put}
 use Rattle.model_scanner.specs.Machine.{Read}
-use Rattle.model_scanner.specs.BlockScalar.{Block, block}
-use Rattle.model_scanner.specs.State.{Key, ScannerState, push, on_held, token, lexed}
-use Rattle.model_scanner.specs.Flow.{allow_key}
-use Rattle.model_scanner.specs.Indents.{Levels, without_open, unroll_non_block_indents}
-use Rattle.model_scanner.specs.Document.{block_style, fetch_block_scalar}
 use Rattle.model_scanner.proofs.Holds.{Holds, went, read}
-use Rattle.proof_lexers.specs.HeaderEnds.{indicator_of}
-use Rattle.proof_lexers.specs.BlockScan.{without_spaces, is_literal_style, further_position, read_block}
-use Rattle.proof_lexers.specs.PlainEnds.{collection_of}
-use Rattle.proof_scanner.specs.Order.{NotBefore}
-use Rattle.proof_scanner.specs.Here.{IsLive}
+use Rattle.proof_lexers.specs.BlockScan.{without_spaces}
 use Rattle.proof_scanner.proofs.Cut.Nodes.{IsDeep}
 use Rattle.proof_scanner.proofs.Cut.Positions.{not_before_after, not_before_then, not_before_same, index_after}
 use Rattle.proof_scanner.proofs.Cut.Saved.{saved_keys, saved_is}
 use Rattle.proof_scanner.proofs.Cut.Pieces.Blocks.{spaces_of, spaces_cut, spaces_fill, spaces_position, some_piece, piece_of, token_of, IsBelow, below}
-use Rattle.proof_scanner.specs.Choices.{chosen, MayChoose}
-use Rattle.proof_scanner.specs.Completes.{tokens_up_to, Completes}
-use Rattle.proof_scanner.specs.StandsInRow.{columns, is_free, IsTakenBy, IsOpenOutside, IsReadOn, Stands}
-use Rattle.proof_scanner.specs.Arrives.{site_here, IsLineHere, Arrives}
+use Rattle.proof_scanner.specs.Choices.{chosen}
+use Rattle.proof_scanner.specs.StandsInRow.{columns, Stands}
 use Rattle.proof_scanner.proofs.Sound.Arrivals.{clean_after, some_rest}
 use Rattle.proof_scanner.proofs.Sound.BlockEnds.{IsLeast, BlockAs, block_as, ends_at_margin}
 use Rattle.proof_scanner.proofs.Sound.LastLines.{last_whole}

@@ -1,24 +1,12 @@
 -- Commas and closing brackets: what holds where they begin holds between two fetches after them. Outside flow they close nothing.
 use Rattle.std.proofs.Common.{◌≡◌, ℕ, List, [], ◌∷◌, ◌++◌, Bool, true, false, not, ◌⊎◌, inl, inr, Some, None, refl, ap, sym, ◌∙◌, subst}
-use Rattle.defs_text.specs.Position.{Position, position_after}
-use Rattle.defs_text.specs.Text.{is_empty}
-use Rattle.defs_token.specs.Token.{Tok, Token}
-use Rattle.defs_token.specs.Piece.{IsPiece}
-use Rattle.defs_text.specs.FlowScalar.{begins_with}
-use Rattle.defs_token.specs.Step.{act_of, Previous, flow_collection, another, previous_by, has_break, blanks_and_comment, past_blanks_and_comment}
-use Rattle.defs_token.specs.Column.{is_in_column, is_deeper}
-use Rattle.defs_token.specs.Indentation.{least_column, awaits_past, begins_line, is_indented_by_spaces}
-use Rattle.defs_token.specs.Lines.{further_lines_stand}
-use Rattle.defs_token.specs.Following.{may_precede}
-use Rattle.defs_token.specs.Key.{Line, free, taken, is_waiting, begins_free_line, Outside, line_past}
-use Rattle.defs_token.specs.FlowEntry.{begun_by, is_renewed}
-use Rattle.defs_token.specs.RowAccount.{Site, Account, site_in, least_for, seen}
-use Rattle.defs_token.specs.Tokens.{put, shown_position, ends_at, begun_outside, past_line_rest}
+use Rattle.proof_scanner.proofs.Common.{act_of, another, awaits_past, begins_free_line, begins_line, begins_with, begun_by, begun_outside, blanks_and_comment, ends_at, flow_collection, free, further_lines_stand, is_deeper, is_empty, is_in_column, is_indented_by_spaces, is_renewed, is_waiting, IsLine, IsPiece, IsReadOn, least_column, least_for, may_precede, Outside, past_blanks_and_comment, past_line_rest, Position, position_after, Previous, previous_by, ScannerState, seen, shown_position, Site, site_here, site_in, taken, Tok, Token, with_top}
+use Rattle.defs_token.specs.Step.{has_break}
+use Rattle.defs_token.specs.Key.{Line, line_past}
+use Rattle.defs_token.specs.RowAccount.{Account}
+use Rattle.defs_token.specs.Tokens.{put}
 use Rattle.model_scanner.specs.Machine.{past}
-use Rattle.model_scanner.specs.State.{ScannerState, with_top}
 use Rattle.proof_scanner.proofs.Cut.FlowEnds.{IsEndOf, ends_sequence, ends_mapping, ends_by_comma}
-use Rattle.proof_scanner.specs.Arrives.{site_here}
-use Rattle.proof_scanner.specs.StandsInRow.{IsReadOn, IsLine}
 use Rattle.proof_scanner.proofs.Sound.Blanks.{line_rest_in_line, line_rest_cut, line_rest_fills}
 use Rattle.proof_scanner.proofs.Sound.EntryEnds.{act_by}
 use Rattle.proof_scanner.proofs.Sound.Indicated.{indicator_end, none_indents}

@@ -1,37 +1,19 @@
 -- Commas and closing brackets in flow: the entry ends, and with it a single pair.
 use Rattle.std.proofs.Common.{◌≡◌, ℕ, suc, ◌≤◌, ◌<◌, List, [], ◌∷◌, ◌++◌, Bool, true, false, not, ◌&&◌, ◌||◌, ◌==◌, nat_le, inl, inr, length, Option, Some, None, refl, ap, sym, ◌∙◌, subst, arith, length-append, append_assoc}
+use Rattle.proof_scanner.proofs.Common.{AreAround, AreEntries, AreNumbered, awaits_past, before_past, begins_free_line, begins_line, begins_with, BeginsButForKey, blanks_and_comment, Completes, ends_spaces, first_entry, FlowLevel, further_lines_stand, Had, has_no_break, has_no_nul, HasHad, HasHadHere, is_deep_enough, is_empty, is_free, is_fresh, is_indented_by_spaces, is_renewed, is_separation, IsAdjacent, IsCarriedOn, IsEntryOf, IsLine, IsOpenOutside, IsPairOf, IsPiece, IsReadOn, IsTakenBy, Key, Keyed, least_column, least_for, Mapping, may_precede, may_stand, MayChoose, no_pair, NotBefore, outside_key, past_blanks_and_comment, past_line_rest, Position, position_after, previous_by, ScannerState, seen, Site, site_here, site_past, taken, Tok, Token, tokens_up_to, Yes}
 use Rattle.defs_text.specs.Classes.{is_blank}
-use Rattle.defs_text.specs.Breaks.{has_no_break}
-use Rattle.defs_text.specs.Position.{Position, position_after}
-use Rattle.defs_text.specs.Text.{is_empty, has_no_nul}
-use Rattle.defs_token.specs.Token.{Tok, Token}
-use Rattle.defs_token.specs.Account.{before_past}
-use Rattle.defs_token.specs.Separation.{is_separation}
-use Rattle.defs_token.specs.Piece.{IsPiece}
-use Rattle.defs_text.specs.FlowScalar.{begins_with}
-use Rattle.defs_token.specs.Step.{previous_by, has_break, blanks_and_comment, past_blanks_and_comment}
-use Rattle.defs_token.specs.Indentation.{least_column, awaits_past, begins_line, is_indented_by_spaces}
-use Rattle.defs_token.specs.Lines.{further_lines_stand}
-use Rattle.defs_token.specs.Following.{may_precede}
-use Rattle.defs_token.specs.Key.{Line, taken, begins_free_line}
-use Rattle.defs_token.specs.FlowEntry.{Had, Pair, no_pair, single_pair, asked_pair, Entry, first_entry, is_renewed}
-use Rattle.defs_token.specs.RowAccount.{Site, Account, before_by, site_past, least_for, is_deep_enough, may_stand, seen}
-use Rattle.defs_token.specs.Tokens.{put, pair_end, past_line_rest}
-use Rattle.model_scanner.specs.declared.context.SkipTabs.TheVariants.{Yes}
+use Rattle.defs_token.specs.Step.{has_break}
+use Rattle.defs_token.specs.Key.{Line}
+use Rattle.defs_token.specs.FlowEntry.{Pair, single_pair, asked_pair, Entry}
+use Rattle.defs_token.specs.RowAccount.{Account, before_by}
+use Rattle.defs_token.specs.Tokens.{put, pair_end}
 use Rattle.model_scanner.specs.Machine.{past}
-use Rattle.model_scanner.specs.declared.level.FlowLevel.{FlowLevel}
-use Rattle.model_scanner.specs.declared.level.FlowLevel.TheVariants.{Mapping, Entry as InEntry, Keyed, Pair as InPair}
-use Rattle.model_scanner.specs.State.{Key, ScannerState}
-use Rattle.proof_lexers.specs.Separations.{ends_spaces}
-use Rattle.proof_scanner.specs.Order.{NotBefore}
-use Rattle.proof_scanner.specs.Stands.{IsAdjacent}
+use Rattle.model_scanner.specs.declared.level.FlowLevel.TheVariants.{Entry as InEntry, Pair as InPair}
 use Rattle.proof_scanner.proofs.Cut.FlowEnds.{closed_tokens, entered, adjacent_collection}
 use Rattle.proof_scanner.proofs.Cut.Positions.{not_before_after, not_before_then, index_after}
 use Rattle.proof_scanner.proofs.Cut.Nodes.{IsDeep, adjacent_other}
-use Rattle.proof_scanner.specs.Arrives.{site_here}
-use Rattle.proof_scanner.specs.Choices.{outside_key, chosen, MayChoose, IsCarriedOn}
-use Rattle.proof_scanner.specs.Completes.{tokens_up_to, Completes}
-use Rattle.proof_scanner.specs.StandsInRow.{columns, IsPairOf, HasHadHere, HasHad, IsEntryOf, AreAround, AreEntries, IsReadOn, IsLine, IsTakenBy, is_free, is_fresh, IsOpenOutside, AreNumbered}
+use Rattle.proof_scanner.specs.Choices.{chosen}
+use Rattle.proof_scanner.specs.StandsInRow.{columns}
 use Rattle.proof_scanner.proofs.Sound.Around.{line_taken, tokens_before, unbroken_around, one_around, may_around, open_around}
 use Rattle.proof_scanner.proofs.Sound.Arrivals.{clean_after, deep_enough, numbered_more, numbered_around, completes_at, carried_at}
 use Rattle.proof_scanner.proofs.Sound.Blanks.{line_rest_cut, line_rest_fills, is_clear, past_rest_is_clear}
@@ -43,7 +25,6 @@ use Rattle.proof_scanner.proofs.Sound.Inserts.{among}
 use Rattle.proof_scanner.proofs.Sound.NodesInside.{not_keyed}
 use Rattle.proof_scanner.proofs.Sound.Standing.{all_true, deep_for}
 use Rattle.proof_scanner.proofs.Sound.Sides.{with_entries, ArrivesBy, ArrivesInside, StandsBy, StandsAt, stands_at}
-use Rattle.defs_token.specs.Beginning.{BeginsButForKey}
 
 -- ---- what the model leaves
 

@@ -2,37 +2,23 @@
 use Rattle.std.proofs.Common.{◌≡◌, ℕ, ◌+◌, ◌-◌, ◌≤◌, List, [], ◌∷◌, ◌++◌, Bool, true, false, not, ◌||◌, ◌==◌, inr, if◌then◌else◌, nat_le, nat_lt, length, replicate, Option, Some, None, Ok, refl, ap, sym, ◌∙◌, subst, arith, length-append, append-nil}
 use Rattle.std.specs.List.{insert}
 use Rattle.std.proofs.lemmas.Bool.Decides.{nat_tests}
-use Rattle.defs_text.specs.Position.{Position, position_after}
+use Rattle.proof_scanner.proofs.Common.{before_past, begin_pair, BeginsButForKey, chained, colon_may_precede, Completes, ends_at, FlowLevel, gives_colon, Held, in_flow, innermost, insert_key, is_adjacent, is_deeper, is_empty, is_separation, is_value_indicator, IsLive, IsNotRight, IsOpenHere, Key, Keyed, Mapping, may_stand, MayChoose, not_ended, NotBefore, on_held, Outside, outside_key, pair_position, Position, position_after, push, put_key, roll_indent, roll_one_col_indent, ScannerState, site_here, site_in, taken, Tok, Token, token, tokens_up_to, with_held, with_top, ◌>>=◌}
 use Rattle.defs_text.specs.Classes.{is_break}
-use Rattle.defs_text.specs.Text.{is_empty}
-use Rattle.defs_token.specs.Token.{Tok, Token}
-use Rattle.defs_token.specs.Separation.{is_separation}
-use Rattle.defs_token.specs.Account.{is_adjacent, before_past}
-use Rattle.defs_token.specs.Plain.{is_value_indicator}
 use Rattle.yaml_tokens.specs.declared.problem.Fault.TheVariants.{At}
 use Rattle.yaml_tokens.specs.declared.problem.Problem.TheVariants as problem
-use Rattle.defs_token.specs.Step.{gives_colon}
-use Rattle.defs_token.specs.Column.{is_deeper, opened, not_ended, innermost}
-use Rattle.defs_token.specs.Indentation.{colon_may_precede}
-use Rattle.defs_token.specs.Key.{taken, Outside}
+use Rattle.defs_token.specs.Column.{opened}
 use Rattle.defs_token.specs.FlowEntry.{Entry, takes_pair}
-use Rattle.defs_token.specs.Tokens.{put, pair_position, ends_at}
-use Rattle.defs_token.specs.RowAccount.{Account, before_by, site_in, may_stand}
+use Rattle.defs_token.specs.Tokens.{put}
+use Rattle.defs_token.specs.RowAccount.{Account, before_by}
 use Rattle.model_scanner.specs.Machine.{past}
-use Rattle.model_scanner.specs.declared.level.FlowLevel.{FlowLevel}
-use Rattle.model_scanner.specs.declared.level.FlowLevel.TheVariants.{Mapping, Entry as InEntry, Keyed, Pair as InPair}
-use Rattle.model_scanner.specs.State.{Key, Held, ScannerState, ◌>>=◌, in_flow, push, with_top, token, on_held, with_held}
-use Rattle.model_scanner.specs.Indents.{placed, roll_indent, roll_one_col_indent}
-use Rattle.model_scanner.specs.Block.{opens_pair, begin_pair, insert_key}
-use Rattle.model_scanner.proofs.Holds.{Holds, went, chained, checked, tried}
-use Rattle.proof_scanner.specs.Order.{NotBefore}
-use Rattle.proof_scanner.specs.Here.{IsLive, IsNotRight}
+use Rattle.model_scanner.specs.declared.level.FlowLevel.TheVariants.{Entry as InEntry, Pair as InPair}
+use Rattle.model_scanner.specs.Indents.{placed}
+use Rattle.model_scanner.specs.Block.{opens_pair}
+use Rattle.model_scanner.proofs.Holds.{Holds, went, checked, tried}
 use Rattle.proof_scanner.proofs.Cut.Nodes.{IsDeep}
 use Rattle.proof_scanner.proofs.Cut.Positions.{not_before_after, not_before_then}
-use Rattle.proof_scanner.specs.Arrives.{site_here}
-use Rattle.proof_scanner.specs.Choices.{outside_key, chosen, MayChoose}
-use Rattle.proof_scanner.specs.Completes.{put_key, tokens_up_to, Completes}
-use Rattle.proof_scanner.specs.StandsInRow.{columns, IsOpenHere, Stands}
+use Rattle.proof_scanner.specs.Choices.{chosen}
+use Rattle.proof_scanner.specs.StandsInRow.{columns, Stands}
 use Rattle.proof_scanner.proofs.Sound.Arrivals.{unbroken, not_free, all_go_on, numbered_more, numbered_around, completes_at, carried_at}
 use Rattle.proof_scanner.proofs.Sound.ColonSpaces.{colon_gap, past_gap, gap_cut, gap_fills, gap_in_line, gap_end}
 use Rattle.proof_scanner.proofs.Sound.Colons.{at_value, value_by, colon_end, valued_entry, single_is, one_line_colon, ends_inside}
@@ -46,7 +32,6 @@ use Rattle.proof_scanner.proofs.Sound.Questions.{pair_level}
 use Rattle.proof_scanner.proofs.Sound.OutsidePieces.{EndsOutside, site_then, ends_outside_at, spaces_in_line}
 use Rattle.proof_scanner.proofs.Sound.Rolled.{RollsTo, rolls_to, OpensOne, opens_one, opens_none, opened_some, some_levels}
 use Rattle.proof_scanner.proofs.Sound.Sides.{with_entries, ArrivesBy, StandsAt}
-use Rattle.defs_token.specs.Beginning.{BeginsButForKey}
 
 -- ---- outside flow
 

@@ -1,35 +1,24 @@
 -- A colon that ends no key: what holds where it begins holds between two fetches after it.
 use Rattle.std.proofs.Common.{◌≡◌, ℕ, ◌+◌, List, [], ◌∷◌, ◌++◌, Bool, true, false, not, ◌⊎◌, inl, inr, if◌then◌else◌, length, Option, Some, None, Result, Ok, refl, ap, sym, ◌∙◌, subst, arith, length-append, append_assoc}
-use Rattle.defs_text.specs.Position.{Position, position_after}
+use Rattle.proof_scanner.proofs.Common.{allow_key, AreNumbered, before_past, begin_keyless_mapping, begin_keyless_value, begun_inside, begun_outside, chained, colon_may_precede, ends_at, entries_past, Fault, FlowLevel, free, fresh, gives_colon, Had, had_after, has_open_level, Held, in_flow, Indent, is_adjacent, is_deeper, is_empty, is_in_column, is_renewed, is_value_indicator, IsEntryOf, IsPairOf, Key, Keyed, Mapping, not_ended, on_held, Outside, pair_past, pair_position, paired, Position, position_after, push, renewed, roll_indent, roll_one_col_indent, ScannerState, start_if, Tok, Token, token, top_key, with_held, ◌>>=◌}
 use Rattle.defs_text.specs.Classes.{is_break}
-use Rattle.defs_text.specs.Text.{is_empty}
-use Rattle.defs_token.specs.Token.{Tok, Token}
-use Rattle.defs_token.specs.Account.{is_adjacent, before_past}
-use Rattle.defs_token.specs.Plain.{is_value_indicator}
-use Rattle.yaml_tokens.specs.declared.problem.Fault.{Fault}
 use Rattle.yaml_tokens.specs.declared.problem.Fault.TheVariants.{At}
 use Rattle.yaml_tokens.specs.declared.problem.Problem.TheVariants as problem
-use Rattle.defs_token.specs.Step.{gives_colon, has_break}
-use Rattle.defs_token.specs.Column.{is_deeper, is_in_column, opened, not_ended}
-use Rattle.defs_token.specs.Indentation.{colon_may_precede}
-use Rattle.defs_token.specs.Key.{free, Outside, line_past}
-use Rattle.defs_token.specs.FlowEntry.{Had, fresh, settled, Pair, Entry, takes_pair, is_renewed, renewed, had_after, pair_past, with_had, entries_past}
-use Rattle.defs_token.specs.Tokens.{put, pair_position, ends_at, start_if, begun_outside, begun_inside}
+use Rattle.defs_token.specs.Step.{has_break}
+use Rattle.defs_token.specs.Column.{opened}
+use Rattle.defs_token.specs.Key.{line_past}
+use Rattle.defs_token.specs.FlowEntry.{settled, Pair, Entry, takes_pair, with_had}
+use Rattle.defs_token.specs.Tokens.{put}
 use Rattle.defs_token.specs.RowAccount.{before_by}
 use Rattle.model_scanner.specs.Machine.{past}
-use Rattle.model_scanner.specs.declared.level.Indent.{Indent}
-use Rattle.model_scanner.specs.declared.level.FlowLevel.{FlowLevel}
-use Rattle.model_scanner.specs.declared.level.FlowLevel.TheVariants.{Mapping, Entry as InEntry, Keyed, Pair as InPair}
-use Rattle.model_scanner.specs.State.{Key, Held, ScannerState, ◌>>=◌, in_flow, push, token, on_held, with_held}
-use Rattle.model_scanner.specs.Keys.{top_key}
-use Rattle.model_scanner.specs.Indents.{placed, roll_indent, roll_one_col_indent}
-use Rattle.model_scanner.specs.Flow.{allow_key}
-use Rattle.model_scanner.specs.Block.{opens_pair, paired, begin_keyless_mapping, begin_keyless_value, value_of}
+use Rattle.model_scanner.specs.declared.level.FlowLevel.TheVariants.{Entry as InEntry, Pair as InPair}
+use Rattle.model_scanner.specs.Indents.{placed}
+use Rattle.model_scanner.specs.Block.{opens_pair, value_of}
 use Rattle.model_scanner.specs.Fetch.{is_value}
-use Rattle.model_scanner.proofs.Holds.{Holds, went, chained, checked, tried}
+use Rattle.model_scanner.proofs.Holds.{Holds, went, checked, tried}
 use Rattle.proof_scanner.proofs.Cut.Dispatch.{value_is}
 use Rattle.proof_scanner.proofs.Cut.Nodes.{IsDeep}
-use Rattle.proof_scanner.specs.StandsInRow.{columns, has_open_level, AreLevels, kind_of, IsPairOf, IsEntryOf, AreNumbered, Stands}
+use Rattle.proof_scanner.specs.StandsInRow.{columns, AreLevels, kind_of, Stands}
 use Rattle.proof_scanner.proofs.Sound.Arrivals.{first_not_right, numbered_more, numbered_around}
 use Rattle.proof_scanner.proofs.Sound.Around.{tokens_before}
 use Rattle.proof_scanner.proofs.Sound.ColonSpaces.{colon_gap, past_gap, gap_cut, gap_fills, gap_in_line, gap_end}

@@ -1,18 +1,12 @@
 -- Rows that are begun and completed: where a text begins, over a step, and where it ends.
 use Rattle.std.proofs.Common.{◌≡◌, ℕ, List, [], ◌∷◌, ◌++◌, Bool, true, false, ◌&&◌, Option, Some, None, refl, ap, sym, ◌∙◌, subst, append_assoc}
-use Rattle.defs_text.specs.Text.{up_to_nul}
-use Rattle.defs_text.specs.Position.{Position, first_position, position_after}
-use Rattle.defs_token.specs.Token.{Token, stream_start}
-use Rattle.defs_token.specs.Separation.{is_separation}
+use Rattle.proof_scanner.proofs.Common.{BeginsButForKey, Completes, first_position, is_separation, is_waiting, Key, line_by, line_past_separation, may_end, Position, position_after, stream_start, taken, Token, tokens_of_step, up_to_nul}
 use Rattle.defs_token.specs.Step.{Step, spelled}
-use Rattle.defs_token.specs.RowAccount.{Account, first_account, account_past, may_end}
-use Rattle.defs_token.specs.Tokens.{put, tokens_of_step, tokens_at_end, tokens_from}
+use Rattle.defs_token.specs.RowAccount.{Account, first_account, account_past}
+use Rattle.defs_token.specs.Tokens.{put, tokens_at_end, tokens_from}
 use Rattle.defs_token.specs.Row.{IsWritten, IsRowFrom, IsRead}
-use Rattle.defs_token.specs.Key.{Line, taken, is_waiting, line_past_separation}
-use Rattle.model_scanner.specs.State.{Key}
-use Rattle.proof_scanner.specs.Choices.{line_by}
-use Rattle.defs_token.specs.Beginning.{Leads, Begins, BeginsButForKey}
-use Rattle.proof_scanner.specs.Completes.{Completes}
+use Rattle.defs_token.specs.Key.{Line}
+use Rattle.defs_token.specs.Beginning.{Leads, Begins}
 
 -- ---- beginnings of rows
 

@@ -1,37 +1,26 @@
 -- The function of the model that reads a dash: what holds where it begins holds between two fetches after it.
 use Rattle.std.proofs.Common.{◌≡◌, ℕ, List, [], ◌∷◌, ◌++◌, Bool, true, false, not, ◌&&◌, ◌||◌, ◌==◌, ◌⊎◌, inl, inr, if◌then◌else◌, slice_index, None, Result, Ok, refl, ap, sym, ◌∙◌, subst}
 use Rattle.std.proofs.lemmas.Bool.{eqb-true}
-use Rattle.yaml_chars.specs.Class.{is_blank_or_breakz, is_break as is_break_here, is_flow as is_flow_here}
-use Rattle.defs_text.specs.Position.{Position, position_after}
-use Rattle.defs_text.specs.Classes.{is_one_of, is_blank, is_break, is_at_gap}
-use Rattle.defs_text.specs.Text.{is_empty}
-use Rattle.defs_text.specs.Tags.{leading, after}
-use Rattle.defs_token.specs.Token.{Tok, Token}
-use Rattle.yaml_tokens.specs.declared.problem.Fault.{Fault}
+use Rattle.proof_scanner.proofs.Common.{allow_key, Arrives, begins_entry, blanks_and_comment, chained, check_block_entry, check_dash, dash_may_precede, ends_at, Fault, fetch_block_entry, free, gives_dash, has_open_level, Held, in_flow, Indent, is_at_gap, is_blank_or_breakz, is_deeper, is_empty, is_in_column, is_on_line, is_one_of, leading, lexed, No, not_ended, on_held, Outside, past_blanks_and_comment, past_comment, past_line_rest, peek, Position, position_after, push, remove_implicit_key, roll_entry, roll_indent, roll_one_col_indent, same_break, ScannerState, skip_indicator, skip_spaces, start_if, Tok, Token, token, top_needs_block_end, try_held, with_top, Yes, ◌>>=◌}
+use Rattle.yaml_chars.specs.Class.{is_break as is_break_here, is_flow as is_flow_here}
+use Rattle.defs_text.specs.Classes.{is_blank, is_break}
+use Rattle.defs_text.specs.Tags.{after}
 use Rattle.yaml_tokens.specs.declared.problem.Fault.TheVariants.{At}
 use Rattle.yaml_tokens.specs.declared.problem.Problem.TheVariants as problem
-use Rattle.defs_token.specs.Step.{past_comment, blanks_and_comment, past_blanks_and_comment, is_on_line, gives_dash}
-use Rattle.defs_token.specs.Column.{is_deeper, is_in_column, opened, not_ended}
-use Rattle.defs_token.specs.Key.{free, Outside, line_past}
-use Rattle.defs_token.specs.Indentation.{is_at_break_or_flow, begins_entry, dash_may_precede}
-use Rattle.defs_token.specs.Tokens.{put, past_line_rest, ends_at, start_if}
-use Rattle.model_scanner.specs.declared.context.SkipTabs.TheVariants.{Yes, No}
+use Rattle.defs_token.specs.Column.{opened}
+use Rattle.defs_token.specs.Key.{line_past}
+use Rattle.defs_token.specs.Indentation.{is_at_break_or_flow}
+use Rattle.defs_token.specs.Tokens.{put}
 use Rattle.model_scanner.specs.Machine.{past}
 use Rattle.model_scanner.specs.Blanks.{space}
-use Rattle.model_scanner.specs.State.{Held, ScannerState, ◌>>=◌, peek, in_flow, push, with_top, token, on_held, try_held, lexed, skip_indicator, after as after_first}
-use Rattle.model_scanner.specs.declared.level.Indent.{Indent}
-use Rattle.model_scanner.specs.Keys.{top_needs_block_end, remove_implicit_key}
-use Rattle.model_scanner.specs.Indents.{placed, roll_indent, roll_one_col_indent}
-use Rattle.model_scanner.specs.Space.{skip_spaces}
-use Rattle.model_scanner.specs.Flow.{allow_key}
-use Rattle.model_scanner.specs.Block.{check_block_entry, check_dash, roll_entry, fetch_block_entry}
-use Rattle.model_scanner.proofs.Holds.{Holds, went, chained, checked, tried}
-use Rattle.proof_lexers.proofs.Bridges.{same_break, same_flow}
+use Rattle.model_scanner.specs.State.{after as after_first}
+use Rattle.model_scanner.specs.Indents.{placed}
+use Rattle.model_scanner.proofs.Holds.{Holds, went, checked, tried}
+use Rattle.proof_lexers.proofs.Bridges.{same_flow}
 use Rattle.proof_scanner.proofs.Cut.Dispatch.{gap_here}
 use Rattle.proof_scanner.proofs.Cut.Nodes.{IsDeep}
 use Rattle.proof_scanner.proofs.Cut.Blocks.{entry_from, key_removed}
-use Rattle.proof_scanner.specs.Arrives.{Arrives}
-use Rattle.proof_scanner.specs.StandsInRow.{columns, has_open_level, AreLevels, Stands}
+use Rattle.proof_scanner.specs.StandsInRow.{columns, AreLevels, Stands}
 use Rattle.proof_scanner.proofs.Sound.Arrivals.{first_not_right}
 use Rattle.proof_scanner.proofs.Sound.Blanks.{line_rest_cut, line_rest_fills, line_rest_in_line, past_rest_is_clear, found_in, past_rest, rest_read, none_skipped}
 use Rattle.proof_scanner.proofs.Sound.Indicated.{past_one, indicator_end}

@@ -1,32 +1,17 @@
 -- Document markers and directives: what holds where they begin holds between two fetches after them.
 use Rattle.std.proofs.Common.{◌≡◌, ℕ, suc, ◌+◌, ◌-◌, List, [], ◌∷◌, ◌++◌, Bool, true, false, not, ◌||◌, nat_le, ◌⊎◌, inl, inr, length, replicate, if◌then◌else◌, Option, Some, None, Ok, Err, refl, ap, sym, ◌∙◌, subst, arith, append_assoc, append-nil}
 use Rattle.std.proofs.lemmas.List.{replicate-append-replicate}
-use Rattle.defs_text.specs.Position.{Position, position_after}
-use Rattle.defs_text.specs.Text.{is_empty}
+use Rattle.proof_scanner.proofs.Common.{act_of, AreCollections, AreNumbered, Arrives, awaits_past, begin_line, begins_free_line, begins_line, begun_by, begun_inside, begun_outside, block_end, closed_key, colon_of, ends_at, entries_past, FlowKind, FlowLevel, free, further_lines_stand, gives_marker, Had, had_after, Held, in_flow, Indent, is_deep_enough, is_deeper, is_empty, is_in_column, is_indented_by_spaces, is_keyed, is_marker, is_renewed, is_required, is_separation, IsPiece, IsReadOn, IsTopLevel, Key, least_for, Levels, may_precede, not_ended, pair_past, pair_position, Position, position_after, previous_by, remove_implicit_key, renewed, ScannerState, seen, shown_position, Site, site_in, taken, Tok, Token, top_key, unroll_indent, unrolled, with_top}
 use Rattle.yaml_tokens.specs.declared.problem.Fault.TheVariants.{At}
 use Rattle.yaml_tokens.specs.declared.problem.Problem.TheVariants as problem
-use Rattle.defs_token.specs.Token.{Tok, Token, block_end}
-use Rattle.defs_token.specs.Account.{Account as PieceAccount, FlowKind, other, is_closed}
-use Rattle.defs_token.specs.Separation.{is_separation}
-use Rattle.defs_token.specs.Piece.{IsPiece}
-use Rattle.defs_token.specs.Step.{Step, act_of, gives_marker, is_marker, previous_by, has_break}
-use Rattle.defs_token.specs.Column.{not_ended, is_in_column, is_deeper}
-use Rattle.defs_token.specs.Indentation.{awaits_past, begins_line, is_indented_by_spaces}
-use Rattle.defs_token.specs.Lines.{further_lines_stand}
-use Rattle.defs_token.specs.Following.{may_precede}
-use Rattle.defs_token.specs.Key.{Line, free, taken, begins_free_line, line_past as line_of_piece}
-use Rattle.defs_token.specs.FlowEntry.{Had, waits, settled, Pair, Entry, is_keyed, takes_pair, pair_past, with_had, had_after, renewed, begun_by, is_renewed, entries_past}
-use Rattle.defs_token.specs.RowAccount.{Site, Account, before_by, site_in, is_deep_enough, least_for, seen}
-use Rattle.defs_token.specs.Tokens.{put, shown_position, ends_at, begun_outside, pair_position, begun_inside, colon_of}
-use Rattle.model_scanner.specs.declared.level.Indent.{Indent}
-use Rattle.model_scanner.specs.declared.level.FlowLevel.{FlowLevel}
-use Rattle.model_scanner.specs.State.{Key, Held, ScannerState, in_flow, with_top}
-use Rattle.model_scanner.specs.Keys.{is_required, top_key, remove_implicit_key}
-use Rattle.model_scanner.specs.Indents.{Levels, unrolled, unroll_indent}
-use Rattle.model_scanner.specs.Document.{closed_key, begin_line}
+use Rattle.defs_token.specs.Account.{Account as PieceAccount, other, is_closed}
+use Rattle.defs_token.specs.Step.{Step, has_break}
+use Rattle.defs_token.specs.Key.{Line, line_past as line_of_piece}
+use Rattle.defs_token.specs.FlowEntry.{waits, settled, Pair, Entry, takes_pair, with_had}
+use Rattle.defs_token.specs.RowAccount.{Account, before_by}
+use Rattle.defs_token.specs.Tokens.{put}
 use Rattle.model_scanner.proofs.Holds.{Holds, went, refused}
-use Rattle.proof_scanner.specs.Arrives.{Arrives}
-use Rattle.proof_scanner.specs.StandsInRow.{columns, AreCollections, AreLevels, IsTopLevel, IsReadOn, AreNumbered, Stands}
+use Rattle.proof_scanner.specs.StandsInRow.{columns, AreLevels, Stands}
 use Rattle.proof_scanner.proofs.Sound.Around.{tokens_before}
 use Rattle.proof_scanner.proofs.Sound.Arrivals.{some_rest, numbered_more, numbered_around}
 use Rattle.proof_scanner.proofs.Sound.EntryPieces.{site_inside, tokens_inside, GoesInside, goes_inside_at}

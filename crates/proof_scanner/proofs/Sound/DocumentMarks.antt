@@ -1,36 +1,19 @@
 -- The functions of the model that read document markers and directives keep what holds where they begin.
 use Rattle.std.proofs.Common.{◌≡◌, ℕ, List, [], ◌∷◌, ◌++◌, Bool, true, false, not, ◌&&◌, ◌||◌, ◌==◌, if◌then◌else◌, take, drop, zero, suc, None, Some, Result, Ok, refl, ap, sym, ◌∙◌, subst}
 use Rattle.std.proofs.lemmas.Bool.{and_parts, eqb-true}
-use Rattle.defs_text.specs.Classes.{is_break, is_at_gap}
-use Rattle.defs_text.specs.Breaks.{split, split_by, is_before_line_feed, has_no_break}
-use Rattle.defs_text.specs.Position.{Position, position_after}
-use Rattle.defs_text.specs.Text.{is_empty, has_no_nul}
-use Rattle.defs_text.specs.FlowScalar.{begins_with}
-use Rattle.defs_text.specs.Directives.{Directive, version, tag_declaration, reserved, directive_of}
-use Rattle.yaml_chars.specs.Class.{is_breakz}
-use Rattle.yaml_tokens.specs.declared.problem.Fault.{Fault}
-use Rattle.defs_token.specs.Token.{Tok}
-use Rattle.defs_token.specs.Piece.{IsPiece}
-use Rattle.defs_token.specs.Step.{previous_by, another, directive as after_directive, has_break, blanks_and_comment, past_blanks_and_comment}
-use Rattle.defs_token.specs.Indentation.{least_column, has_tab_within, last_line, begins_line, is_indented_by_spaces}
-use Rattle.defs_token.specs.Following.{line_is_done, may_precede}
-use Rattle.defs_token.specs.Key.{without_break, begins_free_line}
-use Rattle.defs_token.specs.FlowEntry.{is_renewed}
-use Rattle.defs_token.specs.Tokens.{past_line_rest}
+use Rattle.proof_scanner.proofs.Common.{another, Arrives, begin_line, begins_free_line, begins_line, begins_with, blanks_and_comment, chained, check_document_end, Directive, directive_of, DirectiveEndsAs, directives_end, Fault, fetch_directive, fetch_document_end, fetch_document_marker, has_no_break, has_no_nul, has_tab_within, Held, is_at_gap, is_before_line_feed, is_breakz, is_empty, is_indented_by_spaces, is_renewed, is_required, IsPiece, IsReadOn, least_column, line_is_done, may_precede, on_held, past_blanks_and_comment, past_line_rest, peek, Position, position_after, position_append, previous_by, push, reserved, ScannerState, skip_indicator, split, split_by, tag_declaration, Tok, top_key, version}
+use Rattle.defs_text.specs.Classes.{is_break}
+use Rattle.defs_token.specs.Step.{directive as after_directive, has_break}
+use Rattle.defs_token.specs.Indentation.{last_line}
+use Rattle.defs_token.specs.Key.{without_break}
 use Rattle.model_scanner.specs.Machine as machine
 use Rattle.model_scanner.specs.Machine.{past}
 use Rattle.model_scanner.specs.Directive.{directive}
-use Rattle.model_scanner.specs.State.{Held, ScannerState, peek, push, on_held, skip_indicator}
-use Rattle.model_scanner.specs.Keys.{is_required, top_key}
-use Rattle.model_scanner.specs.Document.{begin_line, fetch_directive, fetch_document_marker, check_document_end, fetch_document_end}
-use Rattle.model_scanner.proofs.Holds.{Holds, went, refused, chained, tried, either, read}
-use Rattle.proof_lexers.specs.DirectiveEnds.{token_of, ends_line, first_break, next_line, after_line, DirectiveEndsAs, reads, refuses}
-use Rattle.proof_lexers.proofs.Directives.Lines.{directives_end}
-use Rattle.proof_lexers.proofs.Separation.Positions.{position_append}
+use Rattle.model_scanner.proofs.Holds.{Holds, went, refused, tried, either, read}
+use Rattle.proof_lexers.specs.DirectiveEnds.{token_of, ends_line, first_break, next_line, after_line, reads, refuses}
 use Rattle.proof_scanner.proofs.Cut.Documents.{three_past}
 use Rattle.proof_scanner.proofs.Cut.Pieces.Directives.{break_cut, break_is_separation, line_end_there, piece_of, percent_in_line}
-use Rattle.proof_scanner.specs.Arrives.{Arrives}
-use Rattle.proof_scanner.specs.StandsInRow.{HasFirst, IsReadOn, Stands}
+use Rattle.proof_scanner.specs.StandsInRow.{HasFirst, Stands}
 use Rattle.proof_scanner.proofs.Sound.Arrivals.{clean_after}
 use Rattle.proof_scanner.proofs.Sound.Blanks.{same_in_line, line_rest_in_line, line_rest_cut, line_rest_fills, past_rest, rest_skipped}
 use Rattle.proof_scanner.proofs.Sound.DocumentLines as lines

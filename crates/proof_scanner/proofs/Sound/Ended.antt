@@ -1,14 +1,10 @@
 -- The block collections that end where a piece begins: the levels that go on are those of the row, and each end has its token.
 use Rattle.std.proofs.Common.{◌≡◌, ℕ, suc, ◌+◌, ◌-◌, List, [], ◌∷◌, ◌++◌, Bool, true, false, not, ◌&&◌, nat_lt, if◌then◌else◌, length, replicate, refl, ap, sym, ◌∙◌, subst, append_assoc, append-nil, arith}
 use Rattle.std.proofs.lemmas.Bool.Decides.{nat_tests}
-use Rattle.defs_text.specs.Position.{Position}
-use Rattle.defs_text.specs.Text.{is_empty}
-use Rattle.defs_token.specs.Token.{Token, block_end}
-use Rattle.defs_token.specs.Column.{not_ended, is_deeper}
-use Rattle.defs_token.specs.Tokens.{put, ends_at}
-use Rattle.model_scanner.specs.declared.level.Indent.{Indent}
-use Rattle.model_scanner.specs.Indents.{Levels, end_level, unrolled}
-use Rattle.proof_scanner.specs.StandsInRow.{columns, has_open_level, AreCollections, AreLevels, IsTopLevel}
+use Rattle.proof_scanner.proofs.Common.{AreCollections, block_end, ends_at, has_open_level, Indent, is_deeper, is_empty, IsTopLevel, Levels, not_ended, Position, Token, unrolled}
+use Rattle.defs_token.specs.Tokens.{put}
+use Rattle.model_scanner.specs.Indents.{end_level}
+use Rattle.proof_scanner.specs.StandsInRow.{columns, AreLevels}
 use Rattle.proof_scanner.proofs.Sound.StreamEnds.{shorter}
 
 -- what goes on, of levels whose columns are these, and the tokens with the ends

@@ -1,23 +1,15 @@
 -- A comma or a closing bracket in flow: whatever completes the row after it completes it from before. No key of the entry waits.
 use Rattle.std.proofs.Common.{◌≡◌, ℕ, suc, List, [], ◌∷◌, ◌++◌, Bool, true, false, not, ◌&&◌, if◌then◌else◌, length, Option, Some, None, refl, ap, sym, ◌∙◌, subst}
 use Rattle.std.specs.Prelude.{map}
-use Rattle.defs_text.specs.Position.{Position, position_after}
-use Rattle.defs_text.specs.Text.{is_empty}
-use Rattle.defs_token.specs.Token.{Token}
-use Rattle.defs_token.specs.Account.{Level}
-use Rattle.defs_token.specs.Separation.{is_separation}
-use Rattle.defs_token.specs.Piece.{IsPiece}
-use Rattle.defs_token.specs.Step.{Step, spelled, Act, act_of, gives_comma, gives_closing, has_break}
-use Rattle.defs_token.specs.Key.{Line, is_waiting, begins_free_line, line_past_separation, taken}
-use Rattle.defs_token.specs.FlowEntry.{Had, fresh, filled, waits, settled, Pair, Entry, first_entry, is_keyed, takes_pair, begun_by, is_renewed, entries_past}
-use Rattle.defs_token.specs.RowAccount.{Site, Account, site_in, site_past, may_stand, on_one_line, past_inside, past_piece, past_site, account_past, level_of, seen}
-use Rattle.defs_token.specs.Tokens.{put, pair_position, pair_end, shown_position, Colon, colon_of, key_end, begun_inside, tokens_of_step, tokens_at}
+use Rattle.proof_scanner.proofs.Common.{Act, act_of, begins_free_line, BeginsButForKey, begun_by, begun_inside, colon_of, Completes, entries_by, entries_past, filled, first_entry, fresh, Had, had_by, is_empty, is_keyed, is_renewed, is_separation, is_waiting, IsPiece, Key, key_end, Level, line_by, line_past_separation, may_stand, MayChoose, outside_key, pair_position, past_inside, past_piece, past_site, pop, Position, position_after, seen, shown_position, Site, site_here, site_in, site_past, taken, Token, tokens_at, tokens_of_step, tokens_up_to}
+use Rattle.defs_token.specs.Step.{Step, spelled, gives_comma, gives_closing, has_break}
+use Rattle.defs_token.specs.Key.{Line}
+use Rattle.defs_token.specs.FlowEntry.{waits, settled, Pair, Entry, takes_pair}
+use Rattle.defs_token.specs.RowAccount.{Account, on_one_line, account_past, level_of}
+use Rattle.defs_token.specs.Tokens.{put, pair_end, Colon}
 use Rattle.defs_token.specs.Row.{IsWritten}
-use Rattle.model_scanner.specs.State.{Key, pop}
-use Rattle.proof_scanner.specs.Choices.{line_by, had_by, entries_by, outside_key, chosen, MayChoose}
-use Rattle.proof_scanner.specs.Completes.{with_had, with_keys, tokens_up_to, Completes}
-use Rattle.proof_scanner.specs.Arrives.{site_here}
-use Rattle.defs_token.specs.Beginning.{BeginsButForKey}
+use Rattle.proof_scanner.specs.Choices.{chosen}
+use Rattle.proof_scanner.specs.Completes.{with_had, with_keys}
 use Rattle.proof_scanner.proofs.Sound.Completed.{completed_past, but_for_key_past, none_broken, none_waits}
 use Rattle.proof_scanner.proofs.Sound.FlowSteps.{FlowStep, step_of, base, keys, outside}
 use Rattle.proof_scanner.proofs.Sound.Inserts.{AreAmong, first_among, keys_first}

@@ -1,26 +1,16 @@
 -- A piece in flow with which its entry goes on, and after which no key of the entry is open: what holds where it begins holds between two fetches after it.
 use Rattle.std.proofs.Common.{◌≡◌, ℕ, suc, ◌≤◌, List, [], ◌∷◌, ◌++◌, Bool, true, false, nat_le, length, Option, Some, None, ap, sym, ◌∙◌, subst, arith, refl}
-use Rattle.defs_text.specs.Position.{Position, position_after}
-use Rattle.defs_text.specs.Text.{is_empty, has_no_nul}
-use Rattle.defs_token.specs.Account.{other, before_past}
-use Rattle.defs_token.specs.Token.{Tok, Token}
-use Rattle.defs_token.specs.Separation.{is_separation}
-use Rattle.defs_token.specs.Piece.{IsPiece}
-use Rattle.defs_token.specs.Step.{Step, act_of, previous_by, has_break}
-use Rattle.defs_token.specs.Indentation.{least_column, awaits_past}
+use Rattle.proof_scanner.proofs.Common.{act_of, AreNumbered, awaits_past, before_past, BeginsButForKey, begun_by, begun_inside, colon_of, Completes, entries_past, FlowLevel, has_no_nul, has_open_level, HasHadHere, HasNoTabs, is_empty, is_renewed, is_separation, IsAdjacent, IsCarriedOn, IsEntryOf, IsLeading, IsPiece, IsReadOn, Key, least_column, may_stand, MayChoose, NotBefore, outside_key, pair_position, Position, position_after, previous_by, ScannerState, seen, shown_position, Site, site_in, site_past, Tok, Token, tokens_up_to}
+use Rattle.defs_token.specs.Account.{other}
+use Rattle.defs_token.specs.Step.{Step, has_break}
 use Rattle.defs_token.specs.Key.{Line}
-use Rattle.defs_token.specs.FlowEntry.{Entry, takes_pair, begun_by, is_renewed, entries_past}
-use Rattle.defs_token.specs.RowAccount.{Site, Account, before_by, site_in, site_past, may_stand, seen}
-use Rattle.defs_token.specs.Tokens.{put, shown_position, pair_position, colon_of, begun_inside}
-use Rattle.model_scanner.specs.declared.level.FlowLevel.{FlowLevel}
-use Rattle.model_scanner.specs.State.{Key, ScannerState}
-use Rattle.proof_scanner.specs.Order.{NotBefore}
-use Rattle.proof_scanner.specs.Stands.{IsAdjacent}
+use Rattle.defs_token.specs.FlowEntry.{Entry, takes_pair}
+use Rattle.defs_token.specs.RowAccount.{Account, before_by}
+use Rattle.defs_token.specs.Tokens.{put}
 use Rattle.proof_scanner.proofs.Cut.Positions.{index_after, not_before_after, not_before_then}
 use Rattle.proof_scanner.proofs.Cut.Nodes.{IsDeep, adjacent_other}
-use Rattle.proof_scanner.specs.Choices.{outside_key, chosen, MayChoose, IsCarriedOn}
-use Rattle.proof_scanner.specs.Completes.{tokens_up_to, Completes}
-use Rattle.proof_scanner.specs.StandsInRow.{columns, has_open_level, AreLevels, HasNoTabs, IsLeading, IsReadOn, HasHadHere, IsEntryOf, AreNumbered, Stands}
+use Rattle.proof_scanner.specs.Choices.{chosen}
+use Rattle.proof_scanner.specs.StandsInRow.{columns, AreLevels, Stands}
 use Rattle.proof_scanner.proofs.Sound.Arrivals.{clean_after, some_rest, deep_enough, completes_at, carried_at}
 use Rattle.proof_scanner.proofs.Sound.Around.{line_taken, unbroken_around, one_around, may_around, open_around}
 use Rattle.proof_scanner.proofs.Sound.Inserts.{among}
@@ -28,7 +18,6 @@ use Rattle.proof_scanner.proofs.Sound.NodeTokens.{past_step}
 use Rattle.proof_scanner.proofs.Sound.NodesInside.{not_keyed}
 use Rattle.proof_scanner.proofs.Sound.StepsInside.{Piece, IsHere, at, past, piece_completes, piece_carried}
 use Rattle.proof_scanner.proofs.Sound.Sides.{with_entries, ArrivesBy, StandsAt, stands_at}
-use Rattle.defs_token.specs.Beginning.{BeginsButForKey}
 
 -- where a piece begins deep enough, the least column is not right of it
 pub low_enough : (text : List ℕ) (t : ScannerState) (f : FlowLevel) (fs : List FlowLevel) (ks : List (Option Key)) (es : List Entry) (a : ArrivesBy text t (f ∷ fs) ks es) → IsDeep t.held → nat_le (least_column a.site.blocks a.site.awaits) t.held.position.col ≡ true

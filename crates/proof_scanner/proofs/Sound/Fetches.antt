@@ -1,30 +1,20 @@
 -- Each fetch keeps what holds between two fetches, or ends the stream with a row of the text, if the function of each token keeps it.
 use Rattle.std.proofs.Common.{◌≡◌, ℕ, ◌+◌, List, ◌∷◌, Bool, true, false, ◌==◌, ◌&&◌, ◌⊎◌, inl, inr, nat_lt, if◌then◌else◌, refl, sym}
 use Rattle.std.proofs.lemmas.Bool.{eqb-true}
-use Rattle.defs_text.specs.Classes.{is_at_gap, is_document_marker}
-use Rattle.defs_text.specs.Text.{is_empty}
-use Rattle.defs_token.specs.Token.{Tok}
-use Rattle.defs_token.specs.Account.{is_adjacent, before_past, Before}
+use Rattle.proof_scanner.proofs.Common.{Arrives, Before, before_past, chained, comes_marker, comes_plain, FaresAt, fetch, fetch_anchor, fetch_block_entry, fetch_block_scalar, fetch_content, fetch_directive, fetch_document_end, fetch_document_marker, fetch_first_column, fetch_flow_collection_end, fetch_flow_collection_start, fetch_flow_entry, fetch_flow_scalar, fetch_here, fetch_indented, fetch_key, fetch_next, fetch_plain_scalar, fetch_tag, fetch_token, fetch_value, FetchKeeps, held_of, in_flow, is_adjacent, is_at_gap, is_document_marker, is_empty, Mapping, peek, ScannerState, stale, Tok, try_held, weakened, ◌>>=◌}
 use Rattle.defs_token.specs.RowAccount.{before_by}
 use Rattle.defs_token.specs.Row.{IsRead}
 use Rattle.yaml_tokens.specs.declared.problem.Fault.TheVariants.{At}
 use Rattle.yaml_tokens.specs.declared.problem.Problem.TheVariants as problem
 use Rattle.model_scanner.specs.Quoted.{quote_of}
-use Rattle.model_scanner.specs.declared.level.FlowLevel.TheVariants.{Mapping, Entry}
-use Rattle.model_scanner.specs.State.{ScannerState, ◌>>=◌, peek, after, in_flow, try_held}
-use Rattle.model_scanner.specs.Keys.{stale}
-use Rattle.model_scanner.specs.Flow.{fetch_flow_collection_start, fetch_flow_collection_end, fetch_flow_entry}
-use Rattle.model_scanner.specs.Block.{fetch_block_entry, fetch_key, fetch_value}
-use Rattle.model_scanner.specs.Document.{fetch_directive, fetch_document_marker, fetch_document_end, fetch_anchor, fetch_tag, fetch_block_scalar, fetch_flow_scalar, fetch_plain_scalar}
-use Rattle.model_scanner.specs.Fetch.{is_value, fetch_token, comes_marker, fetch_indented, fetch_first_column, fetch_content, fetch_here, fetch_next, fetch}
-use Rattle.model_scanner.proofs.Holds.{Holds, refused, held_of, chained, checked, either, weakened}
-use Rattle.proof_scanner.specs.PiecesRead.{comes_plain}
+use Rattle.model_scanner.specs.declared.level.FlowLevel.TheVariants.{Entry}
+use Rattle.model_scanner.specs.State.{after}
+use Rattle.model_scanner.specs.Fetch.{is_value}
+use Rattle.model_scanner.proofs.Holds.{Holds, refused, checked, either}
 use Rattle.proof_scanner.proofs.Cut.Nodes.{IsDeep}
 use Rattle.proof_scanner.proofs.Cut.Dispatch.{token_holds}
 use Rattle.proof_scanner.proofs.Cut.Fetched.{begins_with_this, Marked, marked, no_marker, is_deep, no_end, goes_on_here}
-use Rattle.proof_scanner.specs.StandsInRow.{Stands, Fares, FetchKeeps}
-use Rattle.proof_scanner.specs.Arrives.{Arrives}
-use Rattle.proof_scanner.specs.Stands.{FaresAt}
+use Rattle.proof_scanner.specs.StandsInRow.{Stands, Fares}
 use Rattle.proof_scanner.proofs.Sound.KeysBefore.{KeysBefore, keys_before}
 use Rattle.proof_scanner.proofs.Sound.Stales.{fares_stale}
 use Rattle.proof_scanner.proofs.Sound.StreamEnds.{stream_ended}

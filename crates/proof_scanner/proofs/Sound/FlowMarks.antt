@@ -1,21 +1,12 @@
 -- The functions of the model that read commas and closing brackets keep what holds where they begin.
 use Rattle.std.proofs.Common.{◌≡◌, ℕ, List, [], ◌∷◌, Bool, true, false, ◌⊎◌, inl, inr, if◌then◌else◌, Option, Some, None, Ok, Err, refl, ap, sym, ◌∙◌, subst}
-use Rattle.defs_text.specs.Position.{Position}
-use Rattle.defs_text.specs.Text.{is_empty}
+use Rattle.proof_scanner.proofs.Common.{adjacent_in_flow, Arrives, begins_with, blanks_and_comment, chained, end_entry, end_flow, ended_flow, fetch_flow_collection_end, fetch_flow_entry, FlowLevel, Held, is_empty, is_required, Key, MayChoose, next_entry, on_held, pop, Position, push, remove_implicit_key, ScannerState, Tok, top_key, with_top}
 use Rattle.yaml_tokens.specs.declared.problem.Fault.TheVariants.{At}
 use Rattle.yaml_tokens.specs.declared.problem.Problem.TheVariants as problem
-use Rattle.defs_token.specs.Token.{Tok}
-use Rattle.defs_text.specs.FlowScalar.{begins_with}
-use Rattle.defs_token.specs.Step.{blanks_and_comment}
-use Rattle.model_scanner.specs.declared.level.FlowLevel.{FlowLevel}
-use Rattle.model_scanner.specs.State.{Key, Held, ScannerState, push, pop, with_top, after, on_held}
-use Rattle.model_scanner.specs.Keys.{is_required, top_key, remove_implicit_key}
-use Rattle.model_scanner.specs.Flow.{adjacent_in_flow, ended_flow, end_flow, next_entry, end_entry, fetch_flow_collection_end, fetch_flow_entry}
-use Rattle.model_scanner.proofs.Holds.{Holds, went, refused, chained, tried}
+use Rattle.model_scanner.specs.State.{after}
+use Rattle.model_scanner.proofs.Holds.{Holds, went, refused, tried}
 use Rattle.proof_scanner.proofs.Cut.FlowEnds.{higher_keys, ended_now, entry_now, ended_is, entry_is}
 use Rattle.proof_scanner.proofs.Cut.Nodes.{IsDeep}
-use Rattle.proof_scanner.specs.Arrives.{Arrives}
-use Rattle.proof_scanner.specs.Choices.{MayChoose}
 use Rattle.proof_scanner.specs.StandsInRow.{Stands}
 use Rattle.proof_scanner.proofs.Sound.Closers.{IsCloser, comma, stray_past, stray_base, stray_at}
 use Rattle.proof_scanner.proofs.Sound.ClosersInside.{adjacent_then, closed_inside}

@@ -1,21 +1,13 @@
 -- The function of the model that reads an opening bracket keeps what holds where it begins.
 use Rattle.std.proofs.Common.{◌≡◌, ℕ, List, [], ◌∷◌, Bool, true, false, not, ◌⊎◌, inl, inr, nat_le, length, if◌then◌else◌, None, Ok, Err, refl, ap, sym, ◌∙◌, subst}
-use Rattle.defs_text.specs.Text.{is_empty}
+use Rattle.proof_scanner.proofs.Common.{Arrives, begin_flow, begins_with, blanks_and_comment, chained, deepened_flow, fetch_flow_collection_start, FlowLevel, has_open_level, Held, in_flow, increase_flow_level, Indent, is_empty, on_held, push, roll_one_col_indent, ScannerState, Tok}
 use Rattle.yaml_tokens.specs.declared.problem.Fault.TheVariants.{At}
 use Rattle.yaml_tokens.specs.declared.problem.Problem.TheVariants as problem
-use Rattle.defs_token.specs.Token.{Tok}
-use Rattle.defs_text.specs.FlowScalar.{begins_with}
-use Rattle.defs_token.specs.Step.{blanks_and_comment}
-use Rattle.model_scanner.specs.declared.level.Indent.{Indent}
-use Rattle.model_scanner.specs.declared.level.FlowLevel.{FlowLevel}
-use Rattle.model_scanner.specs.State.{Held, ScannerState, in_flow, push, after, on_held}
-use Rattle.model_scanner.specs.Indents.{roll_one_col_indent}
-use Rattle.model_scanner.specs.Flow.{increase_flow_level, deepened_flow, begin_flow, fetch_flow_collection_start}
-use Rattle.model_scanner.proofs.Holds.{Holds, went, refused, chained, tried}
+use Rattle.model_scanner.specs.State.{after}
+use Rattle.model_scanner.proofs.Holds.{Holds, went, refused, tried}
 use Rattle.proof_scanner.proofs.Cut.Nodes.{IsDeep}
 use Rattle.proof_scanner.proofs.Cut.Saved.{saved_keys, saved_is}
-use Rattle.proof_scanner.specs.Arrives.{Arrives}
-use Rattle.proof_scanner.specs.StandsInRow.{columns, has_open_level, Stands}
+use Rattle.proof_scanner.specs.StandsInRow.{columns, Stands}
 use Rattle.proof_scanner.proofs.Sound.Indicated.{past_it, indicator_passed}
 use Rattle.proof_scanner.proofs.Sound.NodeSteps.{saved}
 use Rattle.proof_scanner.proofs.Sound.Openers.{IsOpener, OpensLevel, opens_level, opened_past, opened_base, opened_outside as outside_from, opened_inside}

@@ -1,11 +1,7 @@
 -- An open key that need not be one is dropped where a piece begins.
 use Rattle.std.proofs.Common.{◌≡◌, ℕ, List, [], ◌∷◌, ◌++◌, Bool, false, inr, Option, Some, None, refl, ap, sym, ◌∙◌}
-use Rattle.defs_text.specs.Text.{is_empty}
-use Rattle.defs_token.specs.Key.{Line, taken}
-use Rattle.model_scanner.specs.State.{Key, ScannerState}
-use Rattle.proof_scanner.specs.Choices.{MayChoose}
-use Rattle.proof_scanner.specs.Arrives.{IsLineHere}
-use Rattle.proof_scanner.specs.StandsInRow.{is_free}
+use Rattle.proof_scanner.proofs.Common.{is_empty, is_free, IsLineHere, Key, MayChoose, ScannerState, taken}
+use Rattle.defs_token.specs.Key.{Line}
 use Rattle.proof_scanner.proofs.Sound.Sides.{with_entries, ArrivesBy}
 use Rattle.proof_scanner.proofs.Sound.Stales.{none_completes}
 

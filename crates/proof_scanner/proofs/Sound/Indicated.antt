@@ -1,15 +1,10 @@
 -- An indicator of one character, and the blanks and the comment after it.
 use Rattle.std.proofs.Common.{◌≡◌, ℕ, List, [], ◌∷◌, Bool, true, false, not, ◌||◌, ◌&&◌, refl, ap, sym, ◌∙◌, subst}
+use Rattle.proof_scanner.proofs.Common.{begins_line, begins_with, blanks_and_comment, follows_plain, has_no_break, has_tab_within, is_indented_by_spaces, least_column, pass_indicator, past_blanks_and_comment, past_line_rest, Position, position_after, Previous, ScannerState, skip_indicator}
 use Rattle.defs_text.specs.Classes.{is_break}
-use Rattle.defs_text.specs.Breaks.{has_no_break}
-use Rattle.defs_text.specs.Position.{Position, position_after}
-use Rattle.defs_text.specs.FlowScalar.{begins_with}
-use Rattle.defs_token.specs.Step.{Previous, blanks_and_comment, past_blanks_and_comment}
-use Rattle.defs_token.specs.Indentation.{least_column, has_tab_within, last_line, follows_plain, begins_line, is_indented_by_spaces}
-use Rattle.defs_token.specs.Tokens.{past_line_rest}
+use Rattle.defs_token.specs.Indentation.{last_line}
 use Rattle.model_scanner.specs.Machine.{past}
-use Rattle.model_scanner.specs.State.{ScannerState, after, skip_indicator}
-use Rattle.model_scanner.specs.Flow.{pass_indicator}
+use Rattle.model_scanner.specs.State.{after}
 use Rattle.model_scanner.proofs.Holds.{Holds}
 use Rattle.proof_lexers.specs.PlainEnds as plains
 use Rattle.proof_scanner.proofs.Cut.Indicators.{past_indicator}

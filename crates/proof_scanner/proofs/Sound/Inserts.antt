@@ -1,16 +1,13 @@
 -- Tokens that go in before others, and tokens after all of them.
 use Rattle.std.proofs.Common.{◌≡◌, ℕ, zero, suc, ◌≤◌, List, [], ◌∷◌, ◌++◌, Bool, true, false, length, Option, Some, None, refl, ap, ◌∙◌, arith}
 use Rattle.std.specs.List.{insert}
-use Rattle.defs_text.specs.Position.{Position}
 use Rattle.std.proofs.lemmas.List.Edits.{insert-append_left}
-use Rattle.defs_token.specs.Token.{Token, key}
+use Rattle.proof_scanner.proofs.Common.{AreNumbered, colon_of, filled, free, fresh, Had, Key, key, Position, put_key, taken, Token, with_line}
 use Rattle.defs_token.specs.Step.{Step}
-use Rattle.defs_token.specs.Key.{Line, free, taken, waits as waits_on_line}
-use Rattle.defs_token.specs.FlowEntry.{Had, fresh, filled, waits, settled, Entry, takes_pair}
-use Rattle.defs_token.specs.Tokens.{put, Colon, colon_of}
-use Rattle.model_scanner.specs.State.{Key}
-use Rattle.proof_scanner.specs.Completes.{put_if, put_key, with_line, with_had, with_keys}
-use Rattle.proof_scanner.specs.StandsInRow.{AreNumbered}
+use Rattle.defs_token.specs.Key.{Line, waits as waits_on_line}
+use Rattle.defs_token.specs.FlowEntry.{waits, settled, Entry, takes_pair}
+use Rattle.defs_token.specs.Tokens.{put, Colon}
+use Rattle.proof_scanner.specs.Completes.{put_if, with_had, with_keys}
 
 longer : (ts : List Token) (n : ℕ) (t : Token) → length (insert ts n t) ≡ suc (length ts)
 longer ts zero t = refl

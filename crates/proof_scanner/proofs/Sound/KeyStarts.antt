@@ -1,12 +1,8 @@
 -- The key that may begin with a node, among the open keys.
 use Rattle.std.proofs.Common.{◌≡◌, ℕ, suc, ◌+◌, List, [], ◌∷◌, ◌++◌, Bool, true, false, length, if◌then◌else◌, Option, Some, refl, ap, ◌∙◌, arith, length-append}
+use Rattle.proof_scanner.proofs.Common.{AreNumbered, FlowLevel, IsEntryOf, IsFreeKey, Key, must_be_key, ScannerState, Token, with_top}
 use Rattle.defs_token.specs.FlowEntry.{Entry}
-use Rattle.defs_token.specs.Token.{Token}
-use Rattle.model_scanner.specs.declared.level.FlowLevel.{FlowLevel}
-use Rattle.model_scanner.specs.State.{Key, ScannerState, with_top}
-use Rattle.model_scanner.specs.Keys.{must_be_key}
 use Rattle.proof_scanner.proofs.Cut.Saved.{saved_keys}
-use Rattle.proof_scanner.specs.StandsInRow.{IsFreeKey, IsEntryOf, AreNumbered}
 use Rattle.proof_scanner.proofs.Sound.Arrivals.{numbered_more, numbered_around}
 use Rattle.proof_scanner.proofs.Sound.NodeSteps.{saved, entry_past_node}
 

@@ -1,22 +1,14 @@
 -- The colon of a key that waits: before it the key is one, and its tokens go in where the scanner puts them.
 use Rattle.std.proofs.Common.{◌≡◌, ℕ, suc, List, [], ◌∷◌, ◌++◌, Bool, true, false, not, ◌&&◌, ◌||◌, ◌==◌, ◌≤◌, if◌then◌else◌, length, Option, Some, None, refl, ap, sym, ◌∙◌, subst}
-use Rattle.defs_text.specs.Position.{Position, position_after}
-use Rattle.defs_text.specs.Text.{is_empty}
-use Rattle.defs_token.specs.Account.{Level}
-use Rattle.defs_token.specs.Token.{Token, value, block_mapping_start, flow_mapping_start}
-use Rattle.defs_token.specs.Separation.{is_separation}
-use Rattle.defs_token.specs.Piece.{IsPiece}
-use Rattle.defs_token.specs.Step.{Step, spelled, gives_colon, has_break}
-use Rattle.defs_token.specs.Column.{is_deeper, opened}
-use Rattle.defs_token.specs.Key.{Line, taken, waits, is_waiting, begins_free_line, line_past_separation, is_near}
-use Rattle.defs_token.specs.FlowEntry.{waits as had_waits, settled, Entry, pair_past, takes_pair, is_renewed, entries_past}
-use Rattle.defs_token.specs.RowAccount.{Site, Account, site_past, may_stand, on_one_line, past_outside, past_inside, past_piece, account_past, seen}
-use Rattle.defs_token.specs.Tokens.{put, pair_position, ends_at, colon_of, key_end, begun_outside, tokens_of_step}
-use Rattle.model_scanner.specs.State.{Key, pop}
-use Rattle.proof_scanner.specs.Choices.{line_by, entries_by, outside_key, chosen, MayChoose}
-use Rattle.proof_scanner.specs.Completes.{put_key, with_line, with_had, with_keys, tokens_up_to, Completes}
-use Rattle.proof_scanner.specs.Arrives.{site_here}
-use Rattle.defs_token.specs.Beginning.{BeginsButForKey}
+use Rattle.proof_scanner.proofs.Common.{begins_free_line, BeginsButForKey, begun_outside, block_mapping_start, colon_of, Completes, ends_at, entries_by, entries_past, flow_mapping_start, gives_colon, is_deeper, is_empty, is_near, is_renewed, is_separation, is_waiting, IsPiece, Key, key_end, Level, line_by, line_past_separation, may_stand, MayChoose, outside_key, pair_past, pair_position, past_inside, past_outside, past_piece, pop, Position, position_after, put_key, seen, Site, site_here, site_past, taken, Token, tokens_of_step, tokens_up_to, value, with_line}
+use Rattle.defs_token.specs.Step.{Step, spelled, has_break}
+use Rattle.defs_token.specs.Column.{opened}
+use Rattle.defs_token.specs.Key.{Line, waits}
+use Rattle.defs_token.specs.FlowEntry.{waits as had_waits, settled, Entry, takes_pair}
+use Rattle.defs_token.specs.RowAccount.{Account, on_one_line, account_past}
+use Rattle.defs_token.specs.Tokens.{put}
+use Rattle.proof_scanner.specs.Choices.{chosen}
+use Rattle.proof_scanner.specs.Completes.{with_had, with_keys}
 use Rattle.proof_scanner.proofs.Sound.Completed.{completed_past, but_for_key_past, none_broken, none_waits}
 use Rattle.proof_scanner.proofs.Sound.Inserts.{AreAmong, fewer, keys_first, key_longer}
 use Rattle.proof_scanner.proofs.Sound.NodeTokens.{past_step}

@@ -1,11 +1,8 @@
 -- Each open key began on the scanner's line, or before it: so the cut says it.
 use Rattle.std.proofs.Common.{ℕ, suc, ◌≤◌, List, [], ◌∷◌, ◌++◌, Option, Some, None, arith}
-use Rattle.defs_text.specs.Position.{Position}
+use Rattle.proof_scanner.proofs.Common.{AreOpen, FaresAt, innermost_column, Key, Position, ScannerState}
 use Rattle.defs_token.specs.Cut.{Written, spelled}
-use Rattle.model_scanner.specs.State.{Key, ScannerState}
-use Rattle.proof_scanner.specs.Here.{AreOpen}
-use Rattle.proof_scanner.specs.Stands.{columns, FaresAt}
-use Rattle.defs_token.specs.Account.{innermost_column}
+use Rattle.proof_scanner.specs.Stands.{columns}
 
 -- the lines of the open keys
 abbrev pub KeysBefore : Position → List (Option Key) → Type 0

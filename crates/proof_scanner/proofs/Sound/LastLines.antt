@@ -3,13 +3,10 @@ use Rattle.std.proofs.Common.{◌≡◌, ℕ, zero, suc, ◌+◌, ◌≤◌, Lis
 use Rattle.std.proofs.Math.Bool.{or-true}
 use Rattle.std.proofs.lemmas.Bool.{and_parts, eqb-true}
 use Rattle.std.proofs.lemmas.List.{take-append-le}
-use Rattle.defs_text.specs.Classes.{is_break, is_blank, is_one_of}
-use Rattle.defs_text.specs.Breaks.{put_first, split_by, split, is_before_line_feed, has_no_break, is_at_line_end}
-use Rattle.defs_text.specs.Position.{Position, position_past, position_after}
-use Rattle.defs_text.specs.Text.{is_empty}
-use Rattle.defs_token.specs.Separation.{is_separation}
+use Rattle.proof_scanner.proofs.Common.{has_no_break, has_tab_within, is_at_line_end, is_before_line_feed, is_empty, is_one_of, is_separation, Position, position_after, position_past, put_first, split, split_by}
+use Rattle.defs_text.specs.Classes.{is_break, is_blank}
 use Rattle.defs_token.specs.Step.{has_break}
-use Rattle.defs_token.specs.Indentation.{has_tab_within, last_line}
+use Rattle.defs_token.specs.Indentation.{last_line}
 
 -- ---- breaks in a text and one character more
 

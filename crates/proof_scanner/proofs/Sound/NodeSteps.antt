@@ -1,13 +1,8 @@
 -- A part of a node: from each choice after it there is a choice before it, and a bit for its step.
 use Rattle.std.proofs.Common.{◌≡◌, ℕ, List, ◌∷◌, ◌++◌, Bool, true, false, Option, Some, None, refl, ap, sym, inl, inr, ◌⊎◌}
-use Rattle.defs_text.specs.Position.{Position}
-use Rattle.defs_token.specs.Step.{gives_node}
-use Rattle.defs_token.specs.Key.{Line, free, taken, waits as waits_on_line, is_waiting, line_past_separation, line_past}
-use Rattle.defs_token.specs.FlowEntry.{Had, fresh, filled, waits, settled, Entry, entries_past}
-use Rattle.model_scanner.specs.State.{Key}
-use Rattle.proof_scanner.specs.Choices.{had_by, line_by, entry_by, MayChoose}
-use Rattle.proof_scanner.specs.Arrives.{IsLineHere}
-use Rattle.proof_scanner.specs.StandsInRow.{HasHadHere}
+use Rattle.proof_scanner.proofs.Common.{entries_past, entry_by, filled, free, fresh, gives_node, Had, had_by, HasHadHere, is_waiting, IsLineHere, Key, line_by, line_past_separation, MayChoose, Position, taken}
+use Rattle.defs_token.specs.Key.{Line, waits as waits_on_line, line_past}
+use Rattle.defs_token.specs.FlowEntry.{waits, settled, Entry}
 
 -- the open key after a node's start: the new one, where one may begin
 abbrev pub saved : (allowed : Bool) → (new : Key) → Option Key → Option Key

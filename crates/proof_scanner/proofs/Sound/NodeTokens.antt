@@ -1,17 +1,12 @@
 -- The tokens of a part of a node: with its key put in, or without.
 use Rattle.std.proofs.Common.{◌≡◌, ℕ, suc, List, [], ◌∷◌, ◌++◌, Bool, true, false, length, Option, refl, ap, sym, ◌∙◌, append_assoc}
 use Rattle.std.specs.List.{insert}
-use Rattle.defs_text.specs.Position.{Position, position_after}
-use Rattle.defs_token.specs.Token.{Tok, Token, key, block_mapping_start, flow_mapping_start}
-use Rattle.defs_token.specs.Account.{FlowKind}
-use Rattle.defs_token.specs.Step.{Step, spelled, act_of, gives_node}
-use Rattle.defs_token.specs.Column.{is_deeper}
-use Rattle.defs_token.specs.Key.{Line, begins_free_line, line_past_separation}
-use Rattle.defs_token.specs.FlowEntry.{Had, Pair, Entry, takes_pair, begun_by}
-use Rattle.defs_token.specs.RowAccount.{Site}
-use Rattle.defs_token.specs.Tokens.{put, pair_position, shown_position, Colon, depth_past, colon_of, ends_at, key_tokens, begun_outside, begun_inside, tokens_at}
-use Rattle.model_scanner.specs.State.{Key}
-use Rattle.proof_scanner.specs.Completes.{put_key, with_had, with_line, with_keys}
+use Rattle.proof_scanner.proofs.Common.{act_of, begins_free_line, begun_by, begun_inside, begun_outside, block_mapping_start, colon_of, ends_at, flow_mapping_start, FlowKind, gives_node, Had, is_deeper, Key, key, key_tokens, line_past_separation, pair_position, Position, position_after, put_key, shown_position, Site, Tok, Token, tokens_at, with_line}
+use Rattle.defs_token.specs.Step.{Step, spelled}
+use Rattle.defs_token.specs.Key.{Line}
+use Rattle.defs_token.specs.FlowEntry.{Pair, Entry, takes_pair}
+use Rattle.defs_token.specs.Tokens.{put, Colon, depth_past}
+use Rattle.proof_scanner.specs.Completes.{with_had, with_keys}
 use Rattle.proof_scanner.proofs.Sound.Begun.{with_begun, depth_begun, depth_rises}
 
 -- ---- colons after a step

@@ -1,22 +1,16 @@
 -- A part of a node in flow, be it an opening bracket or no collection: whatever completes the row after it completes it from before.
 use Rattle.std.proofs.Common.{◌≡◌, ℕ, suc, List, [], ◌∷◌, ◌++◌, Bool, true, false, not, ◌&&◌, if◌then◌else◌, length, Option, Some, None, refl, ap, sym, ◌∙◌, subst, ◌⊎◌, inl, inr}
-use Rattle.defs_text.specs.Position.{Position}
-use Rattle.defs_token.specs.Token.{Token, flow_mapping_start}
-use Rattle.defs_token.specs.Piece.{IsPiece}
-use Rattle.defs_token.specs.Step.{Step, spelled, act_of, gives_node, has_break}
-use Rattle.defs_token.specs.Key.{Line, is_waiting, begins_free_line, line_past_separation, taken}
-use Rattle.defs_token.specs.FlowEntry.{Had, fresh, filled, waits, settled, Entry, is_keyed, takes_pair, begun_by, is_renewed, entries_past}
-use Rattle.defs_token.specs.RowAccount.{Site, Account, site_in, site_past, on_one_line, past_inside, past_piece, past_site, account_past, level_of, seen}
-use Rattle.defs_token.specs.Tokens.{put, pair_position, shown_position, Colon, colon_of, key_tokens, tokens_of_step, tokens_at}
+use Rattle.defs_token.specs.Step.{Step, spelled, has_break}
+use Rattle.defs_token.specs.Key.{Line}
+use Rattle.defs_token.specs.FlowEntry.{waits, settled, Entry, takes_pair}
+use Rattle.defs_token.specs.RowAccount.{Account, on_one_line, account_past, level_of}
+use Rattle.defs_token.specs.Tokens.{put, Colon}
 use Rattle.defs_token.specs.Row.{IsWritten}
-use Rattle.defs_token.specs.Account.{Level}
 use Rattle.std.specs.Prelude.{map}
-use Rattle.model_scanner.specs.State.{Key, pop}
-use Rattle.proof_scanner.specs.Choices.{line_by, had_by, entry_by, entries_by, first_choice, outside_key, chosen, MayChoose}
-use Rattle.proof_scanner.specs.Completes.{put_key, with_had, with_keys, tokens_up_to, Completes}
-use Rattle.proof_scanner.specs.StandsInRow.{HasHadHere}
+use Rattle.proof_scanner.proofs.Common.{act_of, begins_free_line, BeginsButForKey, begun_by, colon_of, Completes, entries_by, entries_past, entry_by, filled, first_choice, flow_mapping_start, fresh, gives_node, Had, had_by, HasHadHere, is_keyed, is_renewed, is_waiting, IsPiece, Key, key_tokens, Level, line_by, line_past_separation, MayChoose, outside_key, pair_position, past_inside, past_piece, past_site, pop, Position, put_key, seen, shown_position, Site, site_in, site_past, taken, Token, tokens_at, tokens_of_step, tokens_up_to}
+use Rattle.proof_scanner.specs.Choices.{chosen}
+use Rattle.proof_scanner.specs.Completes.{with_had, with_keys}
 use Rattle.proof_scanner.proofs.Sound.Begun.{with_begun, with_no_key, choices_around, depth_begun, begun_before, keys_around_begun}
-use Rattle.defs_token.specs.Beginning.{BeginsButForKey}
 use Rattle.proof_scanner.proofs.Sound.Completed.{completed_past, but_for_key_past, none_broken, none_waits}
 use Rattle.proof_scanner.proofs.Sound.Inserts.{AreAmong, fewer, had_first, had_longer, keys_first, first_among}
 use Rattle.proof_scanner.proofs.Sound.NodeSteps.{saved, choice_before, bit_of, had_past_node, entry_past_node, node_in_entry}

@@ -1,20 +1,11 @@
 -- A part of a node outside flow, be it an opening bracket or no collection: whatever completes the row after it completes it from before.
 use Rattle.std.proofs.Common.{◌≡◌, ℕ, List, [], ◌∷◌, ◌++◌, Bool, true, false, not, ◌&&◌, if◌then◌else◌, length, Option, Some, None, refl, ap, sym, ◌∙◌, subst, append_assoc}
-use Rattle.defs_text.specs.Position.{Position}
-use Rattle.defs_token.specs.Token.{Token, block_mapping_start}
-use Rattle.defs_token.specs.Piece.{IsPiece}
-use Rattle.defs_token.specs.Step.{Step, spelled, act_of, has_break}
-use Rattle.defs_token.specs.Column.{is_deeper, is_in_column}
-use Rattle.defs_token.specs.Key.{Line, free, taken, waits, is_waiting, begins_free_line, line_past_separation, line_past}
-use Rattle.defs_token.specs.FlowEntry.{is_renewed}
-use Rattle.defs_token.specs.RowAccount.{Site, Account, site_in, site_past, on_one_line, past_outside, past_piece, past_site, account_past, seen}
-use Rattle.defs_token.specs.Tokens.{put, shown_position, ends_at, colon_of, key_tokens, Colon, tokens_of_step, tokens_at}
-use Rattle.model_scanner.specs.State.{Key}
+use Rattle.proof_scanner.proofs.Common.{act_of, begins_free_line, block_mapping_start, colon_of, Completes, ends_at, free, is_deeper, is_in_column, is_renewed, is_waiting, IsLineHere, IsLive, IsPiece, Key, key_tokens, line_by, line_past_separation, MayChoose, past_outside, past_piece, past_site, Position, put_key, seen, shown_position, Site, site_in, site_past, taken, Token, tokens_at, tokens_of_step, tokens_up_to, with_line}
+use Rattle.defs_token.specs.Step.{Step, spelled, has_break}
+use Rattle.defs_token.specs.Key.{Line, waits, line_past}
+use Rattle.defs_token.specs.RowAccount.{Account, on_one_line, account_past}
+use Rattle.defs_token.specs.Tokens.{put, Colon}
 use Rattle.defs_token.specs.Row.{IsWritten}
-use Rattle.proof_scanner.specs.Here.{IsLive}
-use Rattle.proof_scanner.specs.Choices.{line_by, MayChoose}
-use Rattle.proof_scanner.specs.Completes.{put_key, with_line, tokens_up_to, Completes}
-use Rattle.proof_scanner.specs.Arrives.{IsLineHere}
 use Rattle.proof_scanner.proofs.Sound.Begun.{with_begun, with_no_key, depth_begun, keys_around_begun}
 use Rattle.proof_scanner.proofs.Sound.Completed.{completed_past}
 use Rattle.proof_scanner.proofs.Sound.Inserts.{AreAmong, line_first}

@@ -1,38 +1,19 @@
 -- Opening brackets: what holds where they begin holds between two fetches after them.
 use Rattle.std.proofs.Common.{◌≡◌, ℕ, suc, ◌<◌, List, [], ◌∷◌, ◌++◌, Bool, true, false, not, ◌&&◌, ◌||◌, nat_le, nat_lt, map, ◌⊎◌, inl, inr, length, if◌then◌else◌, Option, Some, None, refl, ap, sym, ◌∙◌, subst, arith, ◌≤◌}
 use Rattle.std.proofs.lemmas.Bool.Decides.{nat_tests}
-use Rattle.defs_text.specs.Position.{Position, position_after}
-use Rattle.defs_text.specs.Text.{is_empty, has_no_nul}
-use Rattle.defs_token.specs.Token.{Tok, Token}
-use Rattle.defs_token.specs.Account.{before_past, has_room}
-use Rattle.defs_token.specs.Separation.{is_separation}
-use Rattle.defs_token.specs.Piece.{IsPiece}
-use Rattle.defs_text.specs.FlowScalar.{begins_with}
-use Rattle.defs_token.specs.Step.{act_of, gives_node, previous_by, another, has_break, blanks_and_comment, past_blanks_and_comment}
-use Rattle.defs_token.specs.Column.{is_in_column}
-use Rattle.defs_token.specs.Indentation.{least_column, awaits_past, begins_line, is_indented_by_spaces}
-use Rattle.defs_token.specs.Lines.{further_lines_stand}
-use Rattle.defs_token.specs.Following.{may_precede}
-use Rattle.defs_token.specs.Key.{Line, taken, begins_free_line}
-use Rattle.defs_token.specs.FlowEntry.{Had, fresh, settled, no_pair, Entry, first_entry, begun_by, is_renewed}
-use Rattle.defs_token.specs.RowAccount.{Site, Account, before_by, site_past, least_for, is_deep_enough, may_stand, level_of, seen}
-use Rattle.defs_token.specs.Tokens.{put, shown_position, ends_at, past_line_rest}
+use Rattle.proof_scanner.proofs.Common.{act_of, another, AreAround, awaits_past, before_past, begins_free_line, begins_line, begins_with, BeginsButForKey, begun_by, blanks_and_comment, Completes, ends_at, entries_by, first_entry, FlowLevel, fresh, further_lines_stand, gives_node, Had, has_no_nul, has_open_level, has_room, HasHad, HasHadHere, Held, in_block, in_flow, Indent, is_deep_enough, is_empty, is_fresh, is_in_column, is_indented_by_spaces, is_renewed, is_separation, IsAdjacent, IsCarriedOn, IsEntryOf, IsLive, IsNear, IsOpenOutside, IsPairOf, IsPiece, IsReadOn, Key, least_column, least_for, line_by, Mapping, may_precede, may_stand, MayChoose, must_be_key, no_pair, NotBefore, outside_key, past_blanks_and_comment, past_line_rest, Position, position_after, position_in_line, previous_by, roll_one_col_indent, ScannerState, seen, shown_position, Site, site_here, site_past, taken, Tok, Token, tokens_up_to, top_key}
+use Rattle.defs_token.specs.Step.{has_break}
+use Rattle.defs_token.specs.Key.{Line}
+use Rattle.defs_token.specs.FlowEntry.{settled, Entry}
+use Rattle.defs_token.specs.RowAccount.{Account, before_by, level_of}
+use Rattle.defs_token.specs.Tokens.{put}
 use Rattle.model_scanner.specs.Machine.{past}
-use Rattle.model_scanner.specs.declared.level.Indent.{Indent}
-use Rattle.model_scanner.specs.declared.level.FlowLevel.{FlowLevel}
-use Rattle.model_scanner.specs.declared.level.FlowLevel.TheVariants.{Mapping, Entry as InEntry}
-use Rattle.model_scanner.specs.State.{Key, Held, ScannerState, in_flow}
-use Rattle.model_scanner.specs.Keys.{must_be_key, top_key}
-use Rattle.model_scanner.specs.Indents.{roll_one_col_indent, in_block}
-use Rattle.proof_scanner.specs.Order.{NotBefore}
-use Rattle.proof_scanner.specs.Stands.{IsAdjacent}
+use Rattle.model_scanner.specs.declared.level.FlowLevel.TheVariants.{Entry as InEntry}
 use Rattle.proof_scanner.proofs.Cut.Flows.{IsOpeningOf, opening_sequence, opening_mapping}
 use Rattle.proof_scanner.proofs.Cut.Positions.{not_before_after, not_before_then, index_after}
 use Rattle.proof_scanner.proofs.Cut.Nodes.{IsDeep, adjacent_other}
-use Rattle.proof_scanner.specs.Arrives.{site_here, IsNear}
-use Rattle.proof_scanner.specs.Choices.{outside_key, chosen, MayChoose, IsCarriedOn, line_by, entries_by}
-use Rattle.proof_scanner.specs.Completes.{tokens_up_to, Completes}
-use Rattle.proof_scanner.specs.StandsInRow.{columns, has_open_level, AreLevels, kind_of, IsPairOf, HasHadHere, HasHad, is_fresh, IsEntryOf, AreAround, IsReadOn, IsOpenOutside}
+use Rattle.proof_scanner.specs.Choices.{chosen}
+use Rattle.proof_scanner.specs.StandsInRow.{columns, AreLevels, kind_of}
 use Rattle.proof_scanner.proofs.Sound.Around.{line_taken, tokens_before, unbroken_around, one_around, may_around, open_around}
 use Rattle.proof_scanner.proofs.Sound.Arrivals.{clean_after, deep_enough, completes_at, carried_at}
 use Rattle.proof_scanner.proofs.Sound.Blanks.{line_rest_cut, line_rest_fills, line_rest_in_line}
@@ -50,9 +31,6 @@ use Rattle.proof_scanner.proofs.Sound.Passed.{some_columns}
 use Rattle.proof_scanner.proofs.Sound.Rolled.{OpensOne, opens_one, opens_none}
 use Rattle.proof_scanner.proofs.Sound.Standing.{all_true, deep_for}
 use Rattle.proof_scanner.proofs.Sound.Sides.{with_entries, ArrivesBy, ArrivesOutside, ArrivesInside, StandsBy, StandsAt, stands_at}
-use Rattle.defs_token.specs.Beginning.{BeginsButForKey}
-use Rattle.proof_scanner.specs.Here.{IsLive}
-use Rattle.proof_lexers.proofs.Separation.Positions.{position_in_line}
 
 -- What is said of an opening bracket.
 pub record IsOpener (lv : FlowLevel) (tok : Tok) (c : ℕ) : Type 0 where

@@ -1,25 +1,13 @@
 -- A piece outside flow before and after which no key waits: what holds where it begins holds between two fetches after it.
 use Rattle.std.proofs.Common.{◌≡◌, ℕ, ◌≤◌, List, [], ◌∷◌, ◌++◌, Bool, true, false, not, ◌⊎◌, inl, inr, if◌then◌else◌, Option, Some, None, refl, ap, sym, ◌∙◌, subst, arith, append_assoc}
 use Rattle.std.proofs.lemmas.List.{append-nil}
-use Rattle.defs_text.specs.Position.{Position, position_after}
-use Rattle.defs_text.specs.Breaks.{has_no_break}
-use Rattle.defs_text.specs.Text.{is_empty, has_no_nul}
-use Rattle.defs_token.specs.Token.{Tok, Token}
-use Rattle.defs_token.specs.Separation.{is_separation}
-use Rattle.defs_token.specs.Piece.{IsPiece}
-use Rattle.defs_token.specs.Step.{act_of, another, previous_by}
-use Rattle.defs_token.specs.Column.{is_in_column, is_deeper}
-use Rattle.defs_token.specs.Indentation.{awaits_past, is_indented_by_spaces}
-use Rattle.defs_token.specs.Key.{Line, free, taken, is_waiting, begins_free_line, Outside, line_past}
-use Rattle.defs_token.specs.FlowEntry.{begun_by}
-use Rattle.defs_token.specs.RowAccount.{Site, Account, site_in, site_past, may_stand, seen}
-use Rattle.defs_token.specs.Tokens.{put, shown_position, ends_at, start_if, begun_outside}
-use Rattle.model_scanner.specs.State.{Key, ScannerState, token}
+use Rattle.proof_scanner.proofs.Common.{act_of, another, awaits_past, begins_free_line, begun_by, begun_outside, Completes, ends_at, free, has_no_break, has_no_nul, has_open_level, HasNoTabs, is_deeper, is_empty, is_free, is_in_column, is_indented_by_spaces, is_separation, is_waiting, IsLeading, IsLine, IsLineHere, IsPiece, IsReadOn, Key, may_stand, Outside, Position, position_after, previous_by, ScannerState, seen, shown_position, Site, site_in, site_past, start_if, taken, Tok, Token, token}
+use Rattle.defs_token.specs.Key.{Line, line_past}
+use Rattle.defs_token.specs.RowAccount.{Account}
+use Rattle.defs_token.specs.Tokens.{put}
 use Rattle.model_scanner.specs.Indents.{placed}
 use Rattle.proof_scanner.proofs.Cut.Positions.{index_after}
-use Rattle.proof_scanner.specs.Completes.{Completes}
-use Rattle.proof_scanner.specs.StandsInRow.{columns, has_open_level, AreLevels, IsReadOn, HasNoTabs, IsLeading, is_free, IsLine, Stands}
-use Rattle.proof_scanner.specs.Arrives.{IsLineHere}
+use Rattle.proof_scanner.specs.StandsInRow.{columns, AreLevels, Stands}
 use Rattle.proof_scanner.proofs.Sound.Arrivals.{clean_after}
 use Rattle.proof_scanner.proofs.Sound.Indicated.{none_indents}
 use Rattle.proof_scanner.proofs.Sound.Sides.{with_entries, ArrivesBy, StandsAt, stands_at}

@@ -1,22 +1,9 @@
 -- A part of a node outside flow, and the open key: the one that was open, or the one that may begin with the node.
 use Rattle.std.proofs.Common.{◌≡◌, ℕ, ◌≤◌, List, [], ◌∷◌, ◌++◌, Bool, true, false, not, ◌&&◌, length, Option, Some, None, refl, ap, sym, ◌∙◌, subst, arith, length-append}
-use Rattle.defs_text.specs.Position.{Position}
-use Rattle.defs_text.specs.Text.{is_empty}
-use Rattle.defs_token.specs.Token.{Token}
+use Rattle.proof_scanner.proofs.Common.{AreNumbered, begins_free_line, ends_at, innermost, is_empty, is_in_column, is_waiting, IsLineHere, IsLive, IsNotRight, IsOpenHere, IsOpenOutside, IsTakenBy, Key, line_by, line_past_separation, MayChoose, must_be_key, NotBefore, Position, ScannerState, Site, site_here, taken, Token}
 use Rattle.defs_token.specs.Step.{has_break}
-use Rattle.defs_token.specs.Column.{is_in_column, innermost}
-use Rattle.defs_token.specs.Key.{taken, is_waiting, begins_free_line, line_past_separation}
-use Rattle.defs_token.specs.RowAccount.{Site}
-use Rattle.defs_token.specs.Tokens.{ends_at}
-use Rattle.model_scanner.specs.State.{Key, ScannerState}
-use Rattle.model_scanner.specs.Keys.{must_be_key}
-use Rattle.proof_scanner.specs.Order.{NotBefore}
-use Rattle.proof_scanner.specs.Here.{IsLive, IsNotRight}
 use Rattle.proof_scanner.proofs.Cut.Positions.{not_before_after, not_before_then, not_before_same}
 use Rattle.proof_scanner.proofs.Cut.Nodes.{IsDeep}
-use Rattle.proof_scanner.specs.Choices.{line_by, MayChoose}
-use Rattle.proof_scanner.specs.StandsInRow.{IsTakenBy, IsOpenHere, IsOpenOutside, AreNumbered}
-use Rattle.proof_scanner.specs.Arrives.{site_here, IsLineHere}
 use Rattle.proof_scanner.proofs.Sound.NodeSteps.{saved, choice_before, separated}
 use Rattle.proof_scanner.proofs.Sound.NodesOutside.{AreSame}
 use Rattle.proof_scanner.proofs.Sound.StepsOutside.{no_waiting}

@@ -1,18 +1,8 @@
 -- A part of a node, in flow or outside, be it an opening bracket or no collection: what is read, and what the scanner holds there.
 use Rattle.std.proofs.Common.{◌≡◌, ℕ, List, [], ◌++◌, Bool, true, false, Option, None}
-use Rattle.defs_text.specs.Position.{Position, position_after}
-use Rattle.defs_text.specs.Text.{is_empty}
-use Rattle.defs_token.specs.Token.{Tok, Token}
-use Rattle.defs_token.specs.Account.{FlowKind}
-use Rattle.defs_token.specs.Separation.{is_separation}
-use Rattle.defs_token.specs.Piece.{IsPiece}
-use Rattle.defs_token.specs.Step.{act_of, gives_node}
+use Rattle.proof_scanner.proofs.Common.{act_of, begun_by, FlowKind, gives_node, is_empty, is_separation, IsPiece, Key, may_stand, Position, position_after, seen, shown_position, Site, site_here, Tok, Token}
 use Rattle.defs_token.specs.Key.{Line}
-use Rattle.defs_token.specs.FlowEntry.{Entry, begun_by}
-use Rattle.defs_token.specs.RowAccount.{Site, may_stand, seen}
-use Rattle.defs_token.specs.Tokens.{shown_position}
-use Rattle.model_scanner.specs.State.{Key}
-use Rattle.proof_scanner.specs.Arrives.{site_here}
+use Rattle.defs_token.specs.FlowEntry.{Entry}
 use Rattle.proof_scanner.proofs.Sound.Begun.{with_begun}
 
 -- The site after the last piece and what may begin outside flow there, where no open key is one; the separation, the piece and the text after it; the token, and the kind of the collection that it begins, if any; the innermost open

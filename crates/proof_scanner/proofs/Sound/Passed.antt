@@ -2,30 +2,18 @@
 use Rattle.std.proofs.Common.{◌≡◌, ℕ, suc, ◌+◌, ◌-◌, List, [], ◌∷◌, ◌++◌, Bool, true, false, not, ◌&&◌, ◌||◌, ◌==◌, if◌then◌else◌, drop, Option, Some, None, Result, Ok, refl, ap, sym, ◌∙◌, append-nil, arith}
 use Rattle.std.proofs.lemmas.Bool.{eqb-true}
 use Rattle.std.proofs.Math.Bool.{or-false}
+use Rattle.proof_scanner.proofs.Common.{after_separation, another, AreCollections, begins_free_line, begins_separation, begins_white, Fault, flow_collection, has_no_break, has_open_level, Held, Indent, is_before_line_feed, is_empty, is_renewed, is_separation, IsLive, IsReadOn, IsTopLevel, Key, leading, least_column, MayChoose, PassesAs, Position, position_after, Previous, quoted_scalar, same_blank, same_break, ScannerState, separations_are_passed, skip, skip_to_next_token}
 use Rattle.defs_text.specs.Classes.{is_break, is_blank}
-use Rattle.defs_text.specs.Breaks.{is_before_line_feed, has_no_break}
-use Rattle.defs_text.specs.Position.{Position, position_after}
-use Rattle.defs_text.specs.Text.{is_empty}
-use Rattle.defs_text.specs.Tags.{leading}
-use Rattle.defs_token.specs.Separation.{is_separation}
-use Rattle.defs_token.specs.Step.{Previous, plain_scalar, quoted_scalar, block_scalar, flow_collection, directive, another, has_break}
-use Rattle.defs_token.specs.Indentation.{least_column}
-use Rattle.defs_token.specs.Key.{without_break, begins_free_line}
-use Rattle.defs_token.specs.FlowEntry.{is_no_comment, is_renewed}
-use Rattle.yaml_tokens.specs.declared.problem.Fault.{Fault}
-use Rattle.model_scanner.specs.declared.level.Indent.{Indent}
-use Rattle.model_scanner.specs.State.{Key, Held, ScannerState}
-use Rattle.model_scanner.specs.Space.{between, skip, skip_to_next_token}
+use Rattle.defs_token.specs.Step.{plain_scalar, block_scalar, directive, has_break}
+use Rattle.defs_token.specs.Key.{without_break}
+use Rattle.defs_token.specs.FlowEntry.{is_no_comment}
+use Rattle.model_scanner.specs.Space.{between}
 use Rattle.model_scanner.proofs.Holds.{Holds, went, refused}
-use Rattle.proof_lexers.specs.PlainEnds.{is_white, begins_white}
+use Rattle.proof_lexers.specs.PlainEnds.{is_white}
 use Rattle.proof_lexers.specs.PlainEnds as plain_ends
-use Rattle.proof_lexers.specs.Separations.{begins_separation, after_separation, PassesAs, passes, refuses}
-use Rattle.proof_lexers.proofs.Separation.Separations.{separations_are_passed}
-use Rattle.proof_lexers.proofs.Bridges.{same_break, same_blank}
-use Rattle.proof_scanner.specs.Here.{IsLive}
+use Rattle.proof_lexers.specs.Separations.{passes, refuses}
 use Rattle.proof_scanner.proofs.Cut.Positions.{not_before_after}
-use Rattle.proof_scanner.specs.Choices.{MayChoose}
-use Rattle.proof_scanner.specs.StandsInRow.{columns, has_open_level, AreCollections, AreLevels, IsTopLevel, HasFirst, IsReadOn}
+use Rattle.proof_scanner.specs.StandsInRow.{columns, AreLevels, HasFirst}
 use Rattle.proof_scanner.proofs.Sound.Arrivals.{live_before}
 use Rattle.proof_scanner.proofs.Sound.LastLines.{break_append}
 use Rattle.proof_scanner.proofs.Sound.Skips.{IsLeast}

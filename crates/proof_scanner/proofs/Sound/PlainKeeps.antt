@@ -2,45 +2,30 @@
 use Rattle.std.proofs.Common.{◌≡◌, ℕ, ◌<◌, ◌≤◌, List, [], ◌∷◌, ◌++◌, Bool, true, false, not, ◌&&◌, ◌||◌, ◌==◌, nat_le, length, map, Option, Some, None, Result, Ok, refl, ap, sym, ◌∙◌, subst, arith, inl, inr, ◌⊎◌}
 use Rattle.std.proofs.lemmas.Bool.{and_parts, eqb-true}
 use Rattle.std.proofs.lemmas.Bool.Decides.{nat_tests}
-use Rattle.defs_text.specs.Position.{Position, position_after}
-use Rattle.defs_text.specs.Text.{is_empty, has_no_nul}
-use Rattle.defs_text.specs.Classes.{is_break, is_blank, is_one_of}
-use Rattle.yaml_tokens.specs.declared.problem.Fault.{Fault}
+use Rattle.proof_scanner.proofs.Common.{allow_key, Arrives, awaits_past, before_past, begins_plain, begins_separation, begins_solid, begins_white, collection_column, collection_of, comes_plain, context, ends_with_content, Fault, fetch_plain_scalar, FlowLevel, has_dash_before_flow, has_no_nul, has_tab_within, HasNoTabs, Held, in_flow, innermost, innermost_column, is_adjacent, is_at_comment_or_end, is_deep_enough, is_empty, is_gap, is_indented_by_spaces, is_one_of, is_renewed, is_whole_plain, IsPiece, Key, leading, least_column, Levels, lexed, on_held, Plain, plain_lines_fit, PlainEndsAs, Position, position_after, position_append, push, ReadAs, ScannerState, seen, Site, stops, Style, Tok, unroll_non_block_indents, without_open}
+use Rattle.defs_text.specs.Classes.{is_break, is_blank}
 use Rattle.defs_text.specs.FlowScalar.{plain_value}
-use Rattle.defs_text.specs.Tags.{leading}
-use Rattle.defs_token.specs.Token.{Tok, Style}
-use Rattle.defs_token.specs.Account.{Account as PieceAccount, is_in_flow, collection_column, innermost_column, is_adjacent, before_past}
-use Rattle.defs_token.specs.Piece.{IsPiece}
-use Rattle.defs_token.specs.Plain.{ends_with_content, goes_on, stops, is_whole_plain, begins_plain}
+use Rattle.defs_token.specs.Account.{Account as PieceAccount, is_in_flow}
+use Rattle.defs_token.specs.Plain.{goes_on}
 use Rattle.defs_token.specs.Step.{has_break, plain_scalar}
-use Rattle.defs_token.specs.Column.{innermost}
-use Rattle.defs_token.specs.Indentation.{least_column, awaits_past, is_indented_by_spaces, has_tab_within, last_line}
-use Rattle.defs_token.specs.Lines.{plain_lines_fit, has_dash_before_flow}
-use Rattle.defs_token.specs.FlowEntry.{Entry, is_no_comment, is_renewed}
-use Rattle.defs_token.specs.RowAccount.{Site, before_by, level_of, is_deep_enough, seen}
-use Rattle.model_scanner.specs.declared.level.FlowLevel.{FlowLevel}
+use Rattle.defs_token.specs.Indentation.{last_line}
+use Rattle.defs_token.specs.FlowEntry.{Entry, is_no_comment}
+use Rattle.defs_token.specs.RowAccount.{before_by, level_of}
 use Rattle.model_scanner.specs.declared.context.Context.{Context}
 use Rattle.model_scanner.specs.Machine as machine
-use Rattle.model_scanner.specs.Plain.{Plain, plain}
-use Rattle.model_scanner.specs.Indents.{Levels, without_open, unroll_non_block_indents}
-use Rattle.model_scanner.specs.State.{Key, Held, ScannerState, in_flow, on_held, push, lexed}
-use Rattle.model_scanner.specs.Flow.{allow_key}
-use Rattle.model_scanner.specs.Document.{context, after_plain, fetch_plain_scalar}
+use Rattle.model_scanner.specs.Plain.{plain}
+use Rattle.model_scanner.specs.Document.{after_plain}
 use Rattle.model_scanner.proofs.Holds.{Holds, went, read}
 use Rattle.proof_lexers.specs.PlainEnds as plains
-use Rattle.proof_lexers.specs.PlainEnds.{collection_of, begins_solid, is_white, is_gap, begins_white, is_indented, PlainEndsAs, reads, refuses}
+use Rattle.proof_lexers.specs.PlainEnds.{is_white, is_indented, reads, refuses}
 use Rattle.proof_lexers.proofs.Plain.Scalars.{scans_end}
-use Rattle.proof_lexers.specs.Separations.{begins_separation}
-use Rattle.proof_lexers.proofs.Separation.Positions.{position_append}
-use Rattle.proof_scanner.specs.PiecesRead.{ReadAs, comes_plain}
 use Rattle.proof_scanner.proofs.Cut.Pieces.Separations.{white_is_no_hash, gap_is_separation}
 use Rattle.proof_scanner.proofs.Cut.Pieces.Plains.{plain_is_read}
 use Rattle.proof_scanner.proofs.Cut.Pieces.Inserted.{no_break_on_line}
 use Rattle.proof_scanner.proofs.Cut.Positions.{not_before_after, index_after}
 use Rattle.proof_scanner.proofs.Cut.Saved.{saved_keys, saved_is}
 use Rattle.proof_scanner.proofs.Cut.Nodes.{IsDeep, adjacent_other, less_or}
-use Rattle.proof_scanner.specs.StandsInRow.{columns, is_at_comment_or_end, HasNoTabs, Stands}
-use Rattle.proof_scanner.specs.Arrives.{Arrives}
+use Rattle.proof_scanner.specs.StandsInRow.{columns, Stands}
 use Rattle.proof_scanner.proofs.Sound.Sides.{with_entries, ArrivesBy}
 use Rattle.proof_scanner.proofs.Sound.StreamEnds.{same_flow}
 use Rattle.proof_scanner.proofs.Sound.Passed.{same_has_break}

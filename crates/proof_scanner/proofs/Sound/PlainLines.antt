@@ -3,28 +3,21 @@ use Rattle.std.proofs.Common.{◌≡◌, ℕ, suc, ◌+◌, ◌-◌, ◌≤◌, 
 use Rattle.std.proofs.lemmas.Bool.{and_parts, eqb-true, not-true}
 use Rattle.std.proofs.lemmas.Bool.Decides.{nat_tests}
 use Rattle.std.proofs.lemmas.List.{append_cancel_right}
-use Rattle.defs_text.specs.Position.{Position}
+use Rattle.proof_scanner.proofs.Common.{and_false, at_dash, begins_flow, begins_solid, fail, Fault, Folded, has_dash_before_flow, has_no_break, has_tab_within, is_at_comment_or_end, is_before_line_feed, is_blanks, is_cr_lf, is_gap, is_one_of, leading, on, past_break, Plain, plain_lines_fit, Position, put_first, run, same_blank, same_break, split, split_by, stop, Turn, turned, with_break}
 use Rattle.defs_text.specs.Classes as classes
-use Rattle.defs_text.specs.Classes.{is_one_of}
-use Rattle.defs_text.specs.Breaks.{split, split_by, put_first, is_before_line_feed, has_no_break}
 use Rattle.defs_token.specs.Step.{has_break}
-use Rattle.defs_text.specs.Tags.{leading}
-use Rattle.defs_token.specs.Separation.{is_blanks}
-use Rattle.defs_token.specs.Plain.{begins_flow}
-use Rattle.defs_token.specs.Indentation.{has_tab_within, last_line}
-use Rattle.defs_token.specs.Lines.{after_first, lines_have_no_tab, plain_lines_fit, has_dash_before_flow}
+use Rattle.defs_token.specs.Indentation.{last_line}
+use Rattle.defs_token.specs.Lines.{after_first, lines_have_no_tab}
 use Rattle.yaml_chars.specs.Class.{is_break, is_blank}
 use Rattle.yaml_chars.specs.Class as model_classes
-use Rattle.yaml_tokens.specs.declared.problem.Fault.{Fault}
 use Rattle.yaml_tokens.specs.declared.problem.Fault.TheVariants.{At}
 use Rattle.yaml_tokens.specs.declared.problem.Problem.TheVariants as problem
 use Rattle.model_scanner.specs.declared.context.Context.{Context}
-use Rattle.model_scanner.specs.Machine.{Turn, stop, fail, on, turned, Stop, run, Read, and_then, past, past_break, is_cr_lf, at_marker}
-use Rattle.model_scanner.specs.Folding.{Folded, nothing, with_blank, with_break, joined}
-use Rattle.model_scanner.specs.Plain.{Mode, first, inside, between, tabs, PlainState, can_be_plain, at_break, at_gap, at_char, is_shallow, at_dash, goes_on, begun, turn_in, turn, Plain, ended, plain_from, starts, plain}
-use Rattle.proof_lexers.proofs.Bridges.{same_break, same_blank, same_flow, and_false}
-use Rattle.proof_lexers.specs.PlainEnds.{is_white, is_gap, begins_solid}
-use Rattle.proof_scanner.specs.StandsInRow.{is_at_comment_or_end}
+use Rattle.model_scanner.specs.Machine.{Stop, Read, and_then, past, at_marker}
+use Rattle.model_scanner.specs.Folding.{nothing, with_blank, joined}
+use Rattle.model_scanner.specs.Plain.{Mode, first, inside, between, tabs, PlainState, can_be_plain, at_break, at_gap, at_char, is_shallow, goes_on, begun, turn_in, turn, ended, plain_from, starts, plain}
+use Rattle.proof_lexers.proofs.Bridges.{same_flow}
+use Rattle.proof_lexers.specs.PlainEnds.{is_white}
 use Rattle.proof_scanner.proofs.Sound.LastLines.{last_first, last_whole}
 use Rattle.proof_scanner.proofs.Sound.TabsWithin.{take_none, none_before, blank_more}
 

@@ -1,42 +1,22 @@
 -- Anchors, aliases and tags: what holds between two fetches holds after them.
 use Rattle.std.proofs.Common.{◌≡◌, ℕ, suc, ◌+◌, ◌<◌, List, [], ◌∷◌, ◌++◌, Bool, true, false, not, nat_le, length, map, if◌then◌else◌, Option, None, Result, Ok, refl, ap, sym, ◌∙◌, subst, arith, inr}
+use Rattle.proof_scanner.proofs.Common.{act_of, after_tag, allow_key, anchor_token, another, Arrives, awaits_past, before_past, begins_free_line, begins_line, begun_by, Fault, fetch_anchor, fetch_tag, FlowLevel, further, further_lines_stand, gives_node, goes_on_with_name, has_no_break, in_flow, is_empty, is_indented_by_spaces, is_name, is_renewed, IsAdjacent, IsPiece, IsReadOn, Key, least_column, least_for, may_follow, may_precede, NameEndsAs, nameless, names_end, node_start, on_held, Position, position_after, position_in_line, previous_by, push, ScannerState, seen, shown_position, Site, TagEndsAs, tags_end, Tok, unled}
 use Rattle.defs_text.specs.Classes.{is_break}
-use Rattle.defs_text.specs.Breaks.{has_no_break}
-use Rattle.defs_text.specs.Position.{Position, position_after}
-use Rattle.defs_text.specs.Text.{is_empty}
-use Rattle.yaml_tokens.specs.declared.problem.Fault.{Fault}
-use Rattle.defs_token.specs.Token.{Tok}
-use Rattle.defs_token.specs.Account.{Account as PieceAccount, is_in_flow, before_past}
-use Rattle.defs_token.specs.Piece.{IsPiece, is_name, goes_on_with_name}
-use Rattle.defs_token.specs.Step.{act_of, gives_node, previous_by, another}
-use Rattle.defs_token.specs.Indentation.{least_column, awaits_past, is_indented_by_spaces, begins_line}
-use Rattle.defs_token.specs.Lines.{further_lines_stand}
-use Rattle.defs_token.specs.Following.{may_precede}
-use Rattle.defs_token.specs.Key.{begins_free_line}
-use Rattle.defs_token.specs.FlowEntry.{Entry, begun_by, is_renewed}
-use Rattle.defs_token.specs.RowAccount.{Site, before_by, least_for, level_of, seen}
-use Rattle.defs_token.specs.Tokens.{shown_position}
-use Rattle.model_scanner.specs.declared.level.FlowLevel.{FlowLevel}
+use Rattle.defs_token.specs.Account.{Account as PieceAccount, is_in_flow}
+use Rattle.defs_token.specs.FlowEntry.{Entry}
+use Rattle.defs_token.specs.RowAccount.{before_by, level_of}
 use Rattle.model_scanner.specs.Machine as machine
 use Rattle.model_scanner.specs.Anchor.{anchor_name}
 use Rattle.model_scanner.specs.Tag as tags
-use Rattle.model_scanner.specs.State.{Key, ScannerState, in_flow, on_held, push}
-use Rattle.model_scanner.specs.Flow.{allow_key}
-use Rattle.model_scanner.specs.Document.{anchor_token, unled, node_start, fetch_anchor, fetch_tag}
 use Rattle.model_scanner.proofs.Holds.{Holds, went, read}
-use Rattle.proof_lexers.specs.NameEnds.{further, after_name, NameEndsAs, named, nameless}
-use Rattle.proof_lexers.specs.TagEnds.{may_follow, after_tag, TagEndsAs, reads, refuses}
-use Rattle.proof_lexers.proofs.Properties.Names.{names_end}
-use Rattle.proof_lexers.proofs.Properties.Tags.{tags_end}
-use Rattle.proof_lexers.proofs.Separation.Positions.{position_in_line}
-use Rattle.proof_scanner.specs.Stands.{IsAdjacent}
+use Rattle.proof_lexers.specs.NameEnds.{after_name, named}
+use Rattle.proof_lexers.specs.TagEnds.{reads, refuses}
 use Rattle.proof_scanner.proofs.Cut.Pieces.Names.{name_in_line}
 use Rattle.proof_scanner.proofs.Cut.Pieces.Tags.{written_in_line}
 use Rattle.proof_scanner.proofs.Cut.Positions.{index_after}
 use Rattle.proof_scanner.proofs.Cut.Nodes.{IsDeep, adjacent_other}
 use Rattle.proof_scanner.proofs.Cut.Saved.{saved_is}
-use Rattle.proof_scanner.specs.StandsInRow.{columns, IsReadOn, Stands}
-use Rattle.proof_scanner.specs.Arrives.{Arrives}
+use Rattle.proof_scanner.specs.StandsInRow.{columns, Stands}
 use Rattle.proof_scanner.proofs.Sound.StreamEnds.{same_flow}
 use Rattle.proof_scanner.proofs.Sound.Standing.{and_yes, deep_for}
 use Rattle.proof_scanner.proofs.Sound.Sides.{with_entries, ArrivesBy}

@@ -1,40 +1,25 @@
 -- The function of the model that reads a `?`: what holds where it begins holds between two fetches after it.
 use Rattle.std.proofs.Common.{◌≡◌, ℕ, zero, suc, List, [], ◌∷◌, ◌++◌, Bool, true, false, not, ◌&&◌, ◌||◌, ◌==◌, ◌⊎◌, inl, inr, if◌then◌else◌, take, length, ◌+◌, Option, Some, None, Result, Ok, refl, ap, sym, ◌∙◌, subst, arith, length-append}
 use Rattle.std.proofs.lemmas.Bool.{or_parts}
-use Rattle.defs_text.specs.Position.{Position, position_after}
-use Rattle.defs_text.specs.Classes.{is_one_of, is_break, is_at_gap}
-use Rattle.defs_text.specs.Text.{is_empty}
-use Rattle.defs_text.specs.FlowScalar.{begins_with}
-use Rattle.defs_token.specs.Token.{Tok, Token}
-use Rattle.defs_token.specs.Piece.{begins_with_space_or_break}
-use Rattle.defs_token.specs.Separation.{is_separation}
-use Rattle.yaml_tokens.specs.declared.problem.Fault.{Fault}
+use Rattle.proof_scanner.proofs.Common.{allow_key, another, Arrives, begin_key, begins_with, begins_with_space_or_break, both_hold, chained, check_key_space, ends_at, entries_past, Fault, fetch_key, FlowLevel, free, gives_question, Had, had_after, has_open_level, has_tab_before_piece, has_tab_within, HasNoTabs, Held, in_flow, Indent, is_at_comment_or_end, is_at_gap, is_deeper, is_empty, is_in_column, is_keyed, is_one_of, is_renewed, is_separation, IsEntryOf, IsPairOf, Key, Keyed, keyed, Mapping, no_pair, not_ended, on_held, or_true, Outside, pair_past, peek, Position, position_after, push, remove_implicit_key, renewed, roll_indent, ScannerState, Site, site_in, skip_indicator, skip_yaml_whitespace, Tok, Token, token, with_top, ◌>>=◌}
+use Rattle.defs_text.specs.Classes.{is_break}
 use Rattle.yaml_tokens.specs.declared.problem.Fault.TheVariants.{At}
 use Rattle.yaml_tokens.specs.declared.problem.Problem.TheVariants as problem
-use Rattle.defs_token.specs.Step.{gives_question, has_break, another}
-use Rattle.defs_token.specs.Column.{is_deeper, is_in_column, opened, not_ended}
-use Rattle.defs_token.specs.Indentation.{has_tab_within, last_line, has_tab_before_piece}
-use Rattle.defs_token.specs.Key.{free, Outside, line_past}
-use Rattle.defs_token.specs.FlowEntry.{Had, waits, settled, Pair, no_pair, single_pair, asked_pair, Entry, is_keyed, takes_pair, is_renewed, renewed, had_after, pair_past, with_had, entries_past}
-use Rattle.model_scanner.specs.declared.level.FlowLevel.{FlowLevel}
-use Rattle.model_scanner.specs.declared.level.FlowLevel.TheVariants.{Mapping, Entry as InEntry, Keyed}
-use Rattle.defs_token.specs.Tokens.{put, ends_at}
-use Rattle.defs_token.specs.RowAccount.{Site, site_in}
+use Rattle.defs_token.specs.Step.{has_break}
+use Rattle.defs_token.specs.Column.{opened}
+use Rattle.defs_token.specs.Indentation.{last_line}
+use Rattle.defs_token.specs.Key.{line_past}
+use Rattle.defs_token.specs.FlowEntry.{waits, settled, Pair, single_pair, asked_pair, Entry, takes_pair, with_had}
+use Rattle.model_scanner.specs.declared.level.FlowLevel.TheVariants.{Entry as InEntry}
+use Rattle.defs_token.specs.Tokens.{put}
 use Rattle.model_scanner.specs.Machine.{past}
-use Rattle.model_scanner.specs.declared.level.Indent.{Indent}
-use Rattle.model_scanner.specs.State.{Key, Held, ScannerState, ◌>>=◌, peek, in_flow, push, with_top, token, on_held, skip_indicator, after}
-use Rattle.model_scanner.specs.Keys.{remove_implicit_key}
-use Rattle.model_scanner.specs.Indents.{placed, roll_indent}
-use Rattle.model_scanner.specs.Space.{skip_yaml_whitespace}
-use Rattle.model_scanner.specs.Flow.{allow_key}
-use Rattle.model_scanner.specs.Block.{keyed, begin_key, check_key_space, fetch_key}
-use Rattle.model_scanner.proofs.Holds.{Holds, went, chained, checked, either, tried, both_hold}
+use Rattle.model_scanner.specs.State.{after}
+use Rattle.model_scanner.specs.Indents.{placed}
+use Rattle.model_scanner.proofs.Holds.{Holds, went, checked, either, tried}
 use Rattle.proof_lexers.specs.PlainEnds as ends
-use Rattle.proof_lexers.proofs.Plain.Turns.{or_true}
 use Rattle.proof_scanner.proofs.Cut.Nodes.{IsDeep}
 use Rattle.proof_scanner.proofs.Cut.Blocks.{key_removed}
-use Rattle.proof_scanner.specs.Arrives.{Arrives}
-use Rattle.proof_scanner.specs.StandsInRow.{columns, kind_of, IsPairOf, IsEntryOf, has_open_level, AreLevels, is_at_comment_or_end, HasNoTabs, Stands}
+use Rattle.proof_scanner.specs.StandsInRow.{columns, kind_of, AreLevels, Stands}
 use Rattle.proof_scanner.proofs.Sound.Arrivals.{first_not_right, numbered_more, numbered_around}
 use Rattle.proof_scanner.proofs.Sound.Around.{tokens_before}
 use Rattle.proof_scanner.proofs.Sound.EntryPieces.{low_enough, site_inside, base_inside, goes_inside_at}

@@ -2,22 +2,16 @@
 use Rattle.std.proofs.Common.{◌≡◌, ℕ, suc, ◌+◌, ◌-◌, List, [], ◌∷◌, ◌++◌, Bool, true, false, not, ◌&&◌, ◌||◌, ◌==◌, nat_lt, nat_le, slice_index, if◌then◌else◌, length, take, drop, Option, Some, None, Result, refl, ap, sym, ◌∙◌, subst, arith}
 use Rattle.std.proofs.lemmas.Bool.{and_parts, eqb-true, not-true}
 use Rattle.std.proofs.lemmas.Bool.Decides.{nat_tests}
-use Rattle.defs_text.specs.Position.{Position}
-use Rattle.defs_text.specs.Text.{is_empty}
+use Rattle.proof_scanner.proofs.Common.{and_false, begins_with, blank, blanks_before, break_further, content, double_quoted_element, Element, element_of, elements, escape, escape_by, escaped_break, escapes, Fault, Folded, gap, has_more, has_tab_within, hexadecimal, is_character_code, is_empty, is_one_of, line, line_break, Lines, lines_fit, lookup, numbered, numeric_escape, numeric_escapes, past_break, plain_element, Position, same_blank, same_break, scan, single_quoted_element, Spelled, with_break, with_escaped_break}
 use Rattle.defs_text.specs.Classes as classes
-use Rattle.defs_text.specs.Classes.{is_one_of}
-use Rattle.defs_text.specs.FlowScalar.{Element, content, blank, line_break, escaped_break, Spelled, break_further, plain_element, single_quoted_element, double_quoted_element, begins_with, lookup, escapes, numeric_escapes, hexadecimal, is_character_code, numbered, numeric_escape, escape_by, escape, elements, Lines, last_line, line, has_document_marker, folded_elements, single_quoted_value, double_quoted_value}
-use Rattle.defs_token.specs.Indentation.{has_tab_within}
-use Rattle.defs_token.specs.Lines.{without_last, blanks_before, has_more, lines_fit}
+use Rattle.defs_text.specs.FlowScalar.{last_line, has_document_marker, folded_elements, single_quoted_value, double_quoted_value}
+use Rattle.defs_token.specs.Lines.{without_last}
 use Rattle.yaml_chars.specs.Class.{is_break, is_blank}
-use Rattle.yaml_tokens.specs.declared.problem.Fault.{Fault}
 use Rattle.model_scanner.specs.declared.context.Context.{Context}
-use Rattle.model_scanner.specs.Machine.{Read, past, past_break}
-use Rattle.model_scanner.specs.Folding.{Folded, with_break, with_escaped_break}
-use Rattle.model_scanner.specs.Quoted.{Mode, gap, inside, after, quote_of}
-use Rattle.proof_lexers.specs.QuotedScan.{element_of, value_of}
-use Rattle.proof_lexers.proofs.Bridges.{same_break, same_blank, and_false}
-use Rattle.proof_lexers.proofs.Quoted.Turns.{scan, spelled}
+use Rattle.model_scanner.specs.Machine.{Read, past}
+use Rattle.model_scanner.specs.Quoted.{Mode, inside, after, quote_of}
+use Rattle.proof_lexers.specs.QuotedScan.{value_of}
+use Rattle.proof_lexers.proofs.Quoted.Turns.{spelled}
 use Rattle.proof_lexers.proofs.Quoted.Bodies.{quote_feed}
 use Rattle.proof_scanner.proofs.Sound.TabsWithin.{take_none, none_before, blank_more}
 

@@ -1,26 +1,15 @@
 -- What the scanner checks after a quoted scalar: the line holds no more, or goes on as it may.
 use Rattle.std.proofs.Common.{◌≡◌, ℕ, suc, ◌<◌, ◌≤◌, List, [], ◌∷◌, ◌++◌, Bool, true, false, not, ◌&&◌, ◌||◌, ◌==◌, if◌then◌else◌, Result, Ok, Err, refl, ap, sym, ◌∙◌, subst, append_assoc, arith}
 use Rattle.std.proofs.lemmas.Bool.{and_parts, eqb-true}
-use Rattle.defs_text.specs.Position.{Position, position_past, position_after}
-use Rattle.defs_text.specs.Classes.{is_blank, is_break, is_nul}
-use Rattle.defs_text.specs.Breaks.{is_blanks_and_comment, is_rest_of_line, is_at_line_end, has_no_break}
-use Rattle.defs_text.specs.FlowScalar.{begins_with}
-use Rattle.defs_text.specs.Tags.{leading, after}
-use Rattle.defs_token.specs.Separation.{is_separation, is_blanks}
-use Rattle.defs_token.specs.Step.{has_break, is_on_line}
-use Rattle.defs_token.specs.Following.{line_is_done, goes_on_quoted, quoted_may_end}
-use Rattle.yaml_chars.specs.Class.{is_breakz}
+use Rattle.proof_scanner.proofs.Common.{begins_with, both_hold, chained, check_after_quoted, Fault, has_no_break, has_no_nul, in_flow, is_at_line_end, is_blanks, is_blanks_and_comment, is_breakz, is_nul, is_on_line, is_rest_of_line, is_separation, leading, lexed, line_is_done, may_follow_quoted, No, peek, Position, position_after, position_past, quoted_may_end, ScannerState, skip_spaces, SkipTabs, Yes}
+use Rattle.defs_text.specs.Classes.{is_blank, is_break}
+use Rattle.defs_text.specs.Tags.{after}
+use Rattle.defs_token.specs.Step.{has_break}
+use Rattle.defs_token.specs.Following.{goes_on_quoted}
 use Rattle.yaml_chars.specs.Class as model_classes
-use Rattle.yaml_tokens.specs.declared.problem.Fault.{Fault}
-use Rattle.model_scanner.specs.declared.context.SkipTabs.{SkipTabs}
-use Rattle.model_scanner.specs.declared.context.SkipTabs.TheVariants.{Yes, No}
 use Rattle.model_scanner.specs.Blanks.{space}
-use Rattle.model_scanner.specs.State.{ScannerState, in_flow, peek, lexed}
-use Rattle.model_scanner.specs.Space.{skip_spaces}
-use Rattle.model_scanner.specs.Document.{may_follow_quoted, check_after_quoted}
-use Rattle.model_scanner.proofs.Holds.{Holds, went, refused, chained, either, both_hold}
+use Rattle.model_scanner.proofs.Holds.{Holds, went, refused, either}
 use Rattle.proof_lexers.specs.PlainEnds as plains
-use Rattle.defs_text.specs.Text.{has_no_nul}
 use Rattle.proof_scanner.proofs.Cut.Passes.{Spaced, spaces_skipped}
 use Rattle.proof_scanner.proofs.Cut.Positions.{not_before_after}
 use Rattle.proof_scanner.proofs.Sound.Arrivals.{clean_after}

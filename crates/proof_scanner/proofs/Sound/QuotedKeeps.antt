@@ -2,50 +2,30 @@
 use Rattle.std.proofs.Common.{◌≡◌, ℕ, suc, ◌-◌, ◌≤◌, List, [], ◌∷◌, ◌++◌, Bool, true, false, not, ◌&&◌, ◌||◌, nat_le, Option, Some, None, Result, Ok, refl, ap, sym, ◌∙◌, subst, append_assoc, arith, inl, inr}
 use Rattle.std.proofs.lemmas.Bool.{and_parts}
 use Rattle.std.proofs.lemmas.List.{append_cancel_right}
-use Rattle.defs_text.specs.Position.{Position, position_after}
-use Rattle.defs_text.specs.Text.{is_empty, has_no_nul}
-use Rattle.defs_text.specs.Classes.{is_break, is_nul}
-use Rattle.yaml_tokens.specs.declared.problem.Fault.{Fault}
-use Rattle.defs_text.specs.FlowScalar.{begins_with}
-use Rattle.defs_token.specs.Token.{Tok}
-use Rattle.defs_token.specs.Separation.{is_separation}
-use Rattle.defs_token.specs.Account.{Account as PieceAccount, is_adjacent, before_past}
+use Rattle.proof_scanner.proofs.Common.{act_of, adjacent_here, after_separation, allow_key, Arrives, awaits_past, before_past, begins_free_line, begins_line, begins_with, begun_by, both_hold, chained, check_after_quoted, context, element_of, Fault, fetch_flow_scalar, FlowLevel, further_lines_stand, gives_node, go_on, has_no_nul, has_open_level, has_tab_within, HasNoTabs, Held, in_flow, Indent, is_adjacent, is_at_comment_or_end, is_empty, is_indented_by_spaces, is_nul, is_separation, IsAdjacent, IsPiece, IsReadOn, Key, least_column, least_for, lexed, may_precede, on_held, Position, position_after, position_append, previous_by, push, quoted_lines_fit, quoted_may_end, quoted_scalar, quoted_style, QuotedEndsAs, ReadAs, ScannerState, seen, shown_position, Site, skip_to_next_token, Tok, unled, weakened, ◌>>=◌}
+use Rattle.defs_text.specs.Classes.{is_break}
+use Rattle.defs_token.specs.Account.{Account as PieceAccount}
 use Rattle.defs_token.specs.Account as pieces
-use Rattle.defs_token.specs.Piece.{IsPiece}
-use Rattle.defs_token.specs.Step.{act_of, gives_node, has_break, previous_by, quoted_scalar}
-use Rattle.defs_token.specs.Indentation.{least_column, awaits_past, is_indented_by_spaces, has_tab_within, last_line, begins_line}
-use Rattle.defs_token.specs.Lines.{quoted_lines_fit, further_lines_stand}
-use Rattle.defs_token.specs.Following.{quoted_may_end, may_precede}
-use Rattle.defs_token.specs.Key.{begins_free_line}
-use Rattle.defs_token.specs.FlowEntry.{Entry, begun_by}
-use Rattle.defs_token.specs.RowAccount.{Site, before_by, least_for, seen}
-use Rattle.defs_token.specs.Tokens.{shown_position}
-use Rattle.model_scanner.specs.declared.level.Indent.{Indent}
-use Rattle.model_scanner.specs.declared.level.FlowLevel.{FlowLevel}
+use Rattle.defs_token.specs.Step.{has_break}
+use Rattle.defs_token.specs.Indentation.{last_line}
+use Rattle.defs_token.specs.FlowEntry.{Entry}
+use Rattle.defs_token.specs.RowAccount.{before_by}
 use Rattle.model_scanner.specs.declared.context.Context.{Context}
 use Rattle.model_scanner.specs.Machine as machine
 use Rattle.model_scanner.specs.Quoted.{quoted, quote_of}
-use Rattle.model_scanner.specs.State.{Key, Held, ScannerState, ◌>>=◌, in_flow, go_on, on_held, push, lexed}
-use Rattle.model_scanner.specs.Space.{between, skip_to_next_token}
-use Rattle.model_scanner.specs.Flow.{allow_key}
-use Rattle.model_scanner.specs.Document.{context, unled, quoted_style, check_after_quoted, adjacent_here, fetch_flow_scalar}
-use Rattle.model_scanner.proofs.Holds.{Holds, went, read, chained, weakened, both_hold}
+use Rattle.model_scanner.specs.Space.{between}
+use Rattle.model_scanner.proofs.Holds.{Holds, went, read}
 use Rattle.proof_lexers.specs.PlainEnds as plains
-use Rattle.proof_lexers.specs.QuotedScan.{value_of, element_of, ends_before}
-use Rattle.proof_lexers.specs.QuotedEnds.{QuotedEndsAs, reads, refuses}
-use Rattle.proof_lexers.specs.Separations.{after_separation}
+use Rattle.proof_lexers.specs.QuotedScan.{value_of, ends_before}
+use Rattle.proof_lexers.specs.QuotedEnds.{reads, refuses}
 use Rattle.proof_lexers.proofs.Quoted.ScanEnds.{scans_end}
-use Rattle.proof_lexers.proofs.Separation.Positions.{position_append}
-use Rattle.proof_scanner.specs.PiecesRead.{ReadAs}
-use Rattle.proof_scanner.specs.Stands.{IsAdjacent}
 use Rattle.proof_scanner.proofs.Cut.Pieces.Quoted.{some_chars, quoted_is_read}
 use Rattle.proof_scanner.proofs.Cut.Pieces.Separations.{separation_append}
 use Rattle.proof_scanner.proofs.Cut.Positions.{not_before_after}
 use Rattle.proof_scanner.proofs.Cut.Saved.{saved_keys, saved_is}
 use Rattle.proof_scanner.proofs.Cut.Scalars.{adjacent_quoted}
 use Rattle.proof_scanner.proofs.Cut.Nodes.{IsDeep}
-use Rattle.proof_scanner.specs.StandsInRow.{columns, has_open_level, AreLevels, is_at_comment_or_end, HasNoTabs, IsReadOn, Stands}
-use Rattle.proof_scanner.specs.Arrives.{Arrives}
+use Rattle.proof_scanner.specs.StandsInRow.{columns, AreLevels, Stands}
 use Rattle.proof_lexers.proofs.Bridges.{or_false}
 use Rattle.proof_scanner.proofs.Sound.Standing.{and_yes, deep_for}
 use Rattle.proof_scanner.proofs.Sound.Sides.{with_entries, ArrivesBy}

@@ -2,23 +2,19 @@
 use Rattle.std.proofs.Common.{◌≡◌, ℕ, zero, suc, ◌+◌, ◌-◌, List, [], ◌∷◌, ◌++◌, Bool, true, false, not, ◌&&◌, ◌||◌, ◌==◌, nat_lt, nat_le, drop, Option, Some, None, Ok, Err, Result, refl, ap, sym, ◌∙◌, subst, arith}
 use Rattle.std.proofs.lemmas.Bool.{and_parts}
 use Rattle.std.proofs.lemmas.Bool.Decides.{nat_tests}
-use Rattle.defs_text.specs.Position.{Position}
-use Rattle.defs_text.specs.FlowScalar.{Element, content, blank, Spelled, break_further, elements, followed, put_before, Lines, last_line, line, begun_with, lines_of}
-use Rattle.defs_token.specs.Lines.{blanks_before, has_more, lines_fit, further_lines_fit, quoted_lines_fit}
+use Rattle.proof_scanner.proofs.Common.{after_element, after_escaped, and_false, Begun, begun_with, blank, blanks_before, break_further, content, Element, element_of, elements, Fault, Folded, further_lines_fit, gap, has_more, in_gap, line, Lines, lines_fit, lines_of, off_margin, Position, put_before, quoted_lines_fit, scan, Spelled, with_break, with_escaped_break}
+use Rattle.defs_text.specs.FlowScalar.{followed, last_line}
 use Rattle.yaml_chars.specs.Class.{is_break, is_blank}
 use Rattle.yaml_tokens.specs.declared.problem.Fault.TheVariants.{At}
 use Rattle.yaml_tokens.specs.declared.problem.Problem.TheVariants as problem
 use Rattle.model_scanner.specs.declared.context.Context.{Context}
 use Rattle.model_scanner.specs.Machine.{Read, past}
-use Rattle.model_scanner.specs.Folding.{Folded, nothing, with_break, with_escaped_break, joined}
-use Rattle.model_scanner.specs.Quoted.{Mode, gap, after, quote_of, quoted}
-use Rattle.proof_lexers.specs.Buffers.{after_element}
-use Rattle.proof_lexers.specs.QuotedScan.{element_of, value_of, by_line, by_tab}
-use Rattle.proof_lexers.proofs.Bridges.{and_false}
-use Rattle.proof_lexers.proofs.Quoted.Turns.{off_margin, Ready, in_gap, after_escaped, scan, Begun, begun, marked, shallow, begins, Step, steps, is_marked, is_shallow, StepOf}
+use Rattle.model_scanner.specs.Folding.{nothing, joined}
+use Rattle.model_scanner.specs.Quoted.{Mode, after, quote_of, quoted}
+use Rattle.proof_lexers.specs.QuotedScan.{value_of, by_line, by_tab}
+use Rattle.proof_lexers.proofs.Quoted.Turns.{Ready, begun, marked, shallow, begins, Step, steps, is_marked, is_shallow, StepOf}
 use Rattle.proof_lexers.proofs.Quoted.Elements.{step}
 use Rattle.proof_lexers.proofs.Quoted.Bodies.{from_gap, quote_feed, Opened, opened, not_opened, opens}
-use Rattle.yaml_tokens.specs.declared.problem.Fault.{Fault}
 use Rattle.proof_scanner.proofs.Sound.QuotedBreaks.{is_after, Kind, has_content, has_blank, has_line, has_escaped, KindOf, is_white, quote_white, slash_white, kind, fits_from, lines_from, lines_here, deep_here, empty_here, one_more_blank, Breaks, break_goes, escaped_goes, body_between, has_elements, same_limit}
 
 module _ (single : Bool) (ctx : Context) (start : Position) (column : ℕ) (limit : (k : ℕ) → nat_lt (k + 1) ctx.indent ≡ nat_lt k column) (r : List ℕ) (x : Read (List ℕ)) where

@@ -1,33 +1,16 @@
 -- A part of a node that is no collection was read where a piece begins: what holds between two fetches holds after it.
 use Rattle.std.proofs.Common.{◌≡◌, ℕ, ◌≤◌, List, [], ◌∷◌, ◌++◌, Bool, true, false, not, ◌||◌, length, Option, Some, None, refl, ap, sym, ◌∙◌, subst, ◌⊎◌, inl, inr}
-use Rattle.defs_text.specs.Position.{Position, position_after}
-use Rattle.defs_text.specs.Text.{is_empty, has_no_nul}
-use Rattle.defs_token.specs.Token.{Tok, Token}
-use Rattle.defs_token.specs.Account.{before_past}
-use Rattle.defs_token.specs.Separation.{is_separation}
-use Rattle.defs_token.specs.Piece.{IsPiece}
-use Rattle.defs_token.specs.Step.{act_of, gives_node, has_break, Previous, previous_by}
-use Rattle.defs_token.specs.Column.{is_in_column}
-use Rattle.defs_token.specs.Indentation.{awaits_past, is_indented_by_spaces}
-use Rattle.defs_token.specs.Lines.{further_lines_stand}
-use Rattle.defs_token.specs.Following.{may_precede}
-use Rattle.defs_token.specs.Key.{Line, taken, begins_free_line}
-use Rattle.defs_token.specs.FlowEntry.{Had, fresh, settled, Entry, begun_by, is_renewed}
-use Rattle.defs_token.specs.RowAccount.{Site, Account, before_by, site_past, least_for, is_deep_enough, may_stand, seen}
-use Rattle.defs_token.specs.Tokens.{put, shown_position, ends_at}
-use Rattle.model_scanner.specs.declared.level.Indent.{Indent}
-use Rattle.model_scanner.specs.declared.level.FlowLevel.{FlowLevel}
-use Rattle.model_scanner.specs.State.{Key, ScannerState}
-use Rattle.model_scanner.specs.Keys.{must_be_key, top_key}
-use Rattle.proof_scanner.specs.Order.{NotBefore}
-use Rattle.proof_scanner.specs.Stands.{IsAdjacent}
+use Rattle.proof_scanner.proofs.Common.{act_of, Arrives, awaits_past, before_past, begins_free_line, BeginsButForKey, begun_by, Completes, ends_at, FlowLevel, fresh, further_lines_stand, gives_node, Had, has_no_nul, has_open_level, HasHadHere, HasNoTabs, Indent, is_deep_enough, is_empty, is_fresh, is_in_column, is_indented_by_spaces, is_renewed, is_separation, IsAdjacent, IsCarriedOn, IsLeading, IsPiece, IsReadOn, Key, least_for, line_by, may_precede, may_stand, MayChoose, must_be_key, NotBefore, outside_key, Position, position_after, Previous, previous_by, ScannerState, seen, shown_position, Site, site_here, site_past, taken, Tok, Token, tokens_up_to, top_key}
+use Rattle.defs_token.specs.Step.{has_break}
+use Rattle.defs_token.specs.Key.{Line}
+use Rattle.defs_token.specs.FlowEntry.{settled, Entry}
+use Rattle.defs_token.specs.RowAccount.{Account, before_by}
+use Rattle.defs_token.specs.Tokens.{put}
 use Rattle.proof_scanner.proofs.Cut.Positions.{not_before_after, not_before_then}
 use Rattle.proof_scanner.proofs.Cut.Saved.{saved_keys}
 use Rattle.proof_scanner.proofs.Cut.Nodes.{IsDeep}
-use Rattle.proof_scanner.specs.Choices.{line_by, outside_key, chosen, MayChoose, IsCarriedOn}
-use Rattle.proof_scanner.specs.Completes.{tokens_up_to, Completes}
-use Rattle.proof_scanner.specs.StandsInRow.{columns, has_open_level, AreLevels, HasHadHere, is_fresh, HasNoTabs, IsLeading, IsReadOn, Stands}
-use Rattle.proof_scanner.specs.Arrives.{site_here, Arrives}
+use Rattle.proof_scanner.specs.Choices.{chosen}
+use Rattle.proof_scanner.specs.StandsInRow.{columns, AreLevels, Stands}
 use Rattle.proof_scanner.proofs.Sound.Inserts.{among}
 use Rattle.proof_scanner.proofs.Sound.NodeSteps.{saved, choice_before, had_past_node, entry_past_node}
 use Rattle.proof_scanner.proofs.Sound.Parts.{Part, part_site, IsPart}
@@ -39,7 +22,6 @@ use Rattle.proof_scanner.proofs.Sound.Outsides.{must_be_here, numbered_past, unb
 use Rattle.proof_scanner.proofs.Sound.Standing.{all_true}
 use Rattle.proof_scanner.proofs.Sound.Sides.{with_entries, ArrivesBy, ArrivesOutside, ArrivesInside, arrives_side, StandsBy, StandsAt, stands_at}
 use Rattle.proof_scanner.proofs.Sound.Arrivals.{clean_after, some_rest, completes_at, carried_at}
-use Rattle.defs_token.specs.Beginning.{BeginsButForKey}
 
 -- What was read of a node: its token and piece, the separation after it, the text and the position after both, and what the scanner holds then: levels of indentation, its two flags, and where a colon may stand next.
 pub record Read : Type 0 where

@@ -1,16 +1,10 @@
 -- Where a block collection begins, and where the value of an entry is awaited: the levels of indentation, and the columns of the block collections.
 use Rattle.std.proofs.Common.{◌≡◌, ℕ, ◌+◌, ◌-◌, ◌≤◌, ◌<◌, List, [], ◌∷◌, Bool, true, false, not, nat_lt, nat_le, if◌then◌else◌, Option, refl, ap, sym, ◌∙◌, subst, arith}
 use Rattle.std.proofs.lemmas.Bool.Decides.{nat_tests}
-use Rattle.defs_text.specs.Position.{Position}
-use Rattle.defs_text.specs.Text.{is_empty}
-use Rattle.defs_token.specs.Token.{Tok, Token}
-use Rattle.defs_token.specs.Column.{is_deeper, opened, innermost}
-use Rattle.model_scanner.specs.declared.level.Indent.{Indent}
-use Rattle.model_scanner.specs.State.{Held, in_flow, token}
-use Rattle.model_scanner.specs.Keys.{top_needs_block_end}
-use Rattle.model_scanner.specs.Indents.{level, placed, drop_open, drop_open_level, deepen, roll_indent, in_block, roll_one_col_indent}
-use Rattle.proof_scanner.specs.Here.{IsNotRight}
-use Rattle.proof_scanner.specs.StandsInRow.{columns, has_open_level, AreCollections, IsTopLevel, AreLevels}
+use Rattle.proof_scanner.proofs.Common.{AreCollections, deepen, drop_open, drop_open_level, has_open_level, Held, in_block, in_flow, Indent, innermost, is_deeper, is_empty, IsNotRight, IsTopLevel, level, Position, roll_indent, roll_one_col_indent, Tok, Token, token, top_needs_block_end}
+use Rattle.defs_token.specs.Column.{opened}
+use Rattle.model_scanner.specs.Indents.{placed}
+use Rattle.proof_scanner.specs.StandsInRow.{columns, AreLevels}
 
 -- collections alone are levels
 pub levels_of_collections : (i : ℕ) (ds : List Indent) → AreCollections i ds → AreLevels i ds

@@ -1,15 +1,10 @@
 -- A run keeps what each fetch keeps; at its end the tokens are those of a row.
 use Rattle.std.proofs.Common.{◌≡◌, ℕ, List, true, false, Ok, refl, ap, sym, ◌∙◌, subst}
+use Rattle.proof_scanner.proofs.Common.{FaresAt, fetch, fetch_stream_start, FetchKeeps, has_no_nul, here, Reaches, ScannerState, start, there}
 use Rattle.defs_token.specs.Row.{IsRead}
-use Rattle.model_scanner.specs.State.{ScannerState}
-use Rattle.model_scanner.specs.Document.{fetch_stream_start}
-use Rattle.model_scanner.specs.Fetch.{fetch}
-use Rattle.model_scanner.specs.Run.{start, Reaches, here, there}
-use Rattle.defs_text.specs.Text.{has_no_nul}
-use Rattle.proof_scanner.specs.Stands.{FaresAt}
 use Rattle.proof_scanner.proofs.Cut.Fetched as cut
 use Rattle.proof_scanner.proofs.Cut.Fetched.{Came, starts, fares, came}
-use Rattle.proof_scanner.specs.StandsInRow.{Stands, Fares, begins, goes, over, FetchKeeps, TokensAreOfARow}
+use Rattle.proof_scanner.specs.StandsInRow.{Stands, Fares, begins, goes, over, TokensAreOfARow}
 use Rattle.proof_scanner.proofs.Sound.Starts.{stream_started}
 
 first_fetch : (text : List ℕ) → fetch (start text) ≡ Ok (fetch_stream_start (start text))

@@ -1,22 +1,11 @@
 -- Where a piece begins, and between two fetches: what holds with the flow levels, the open keys and the entries taken apart, outside flow and in flow.
 use Rattle.std.proofs.Common.{◌≡◌, ℕ, suc, ◌≤◌, List, [], ◌∷◌, ◌++◌, Bool, true, false, not, ◌==◌, length, Option, Some, refl, sym, ◌∙◌, subst, arith, ◌⊎◌, inl, inr}
-use Rattle.defs_text.specs.Position.{position_after}
-use Rattle.defs_text.specs.Text.{is_empty, has_no_nul}
-use Rattle.defs_token.specs.Token.{Token}
-use Rattle.defs_token.specs.Account.{is_adjacent, before_past}
-use Rattle.defs_token.specs.Separation.{is_separation}
-use Rattle.defs_token.specs.Indentation.{is_indented_by_spaces}
-use Rattle.defs_token.specs.Key.{Line, is_waiting, begins_free_line, line_past_separation}
-use Rattle.defs_token.specs.FlowEntry.{Entry, is_renewed}
-use Rattle.defs_token.specs.RowAccount.{Site, Account, before_by}
-use Rattle.model_scanner.specs.declared.level.FlowLevel.{FlowLevel}
-use Rattle.model_scanner.specs.State.{Key, ScannerState}
-use Rattle.proof_lexers.specs.Separations.{begins_separation}
-use Rattle.proof_scanner.specs.Stands.{IsAdjacent}
-use Rattle.proof_scanner.specs.Choices.{outside_key, chosen, MayChoose, IsCarriedOn}
-use Rattle.proof_scanner.specs.Completes.{tokens_up_to, Completes}
-use Rattle.proof_scanner.specs.StandsInRow.{columns, has_open_level, AreLevels, AreEntries, HasNoTabs, IsLeading, IsReadOn, IsLine, IsOpenOutside, AreNumbered, Stands}
-use Rattle.proof_scanner.specs.Arrives.{site_here, ends_here, IsLineHere, IsNear, Arrives}
+use Rattle.proof_scanner.proofs.Common.{AreEntries, AreNumbered, Arrives, before_past, begins_free_line, begins_separation, Completes, ends_here, FlowLevel, has_no_nul, has_open_level, HasNoTabs, is_adjacent, is_empty, is_indented_by_spaces, is_renewed, is_separation, is_waiting, IsAdjacent, IsCarriedOn, IsLeading, IsLine, IsLineHere, IsNear, IsOpenOutside, IsReadOn, Key, line_past_separation, MayChoose, outside_key, position_after, ScannerState, Site, site_here, Token, tokens_up_to}
+use Rattle.defs_token.specs.Key.{Line}
+use Rattle.defs_token.specs.FlowEntry.{Entry}
+use Rattle.defs_token.specs.RowAccount.{Account, before_by}
+use Rattle.proof_scanner.specs.Choices.{chosen}
+use Rattle.proof_scanner.specs.StandsInRow.{columns, AreLevels, Stands}
 
 -- an account by its parts
 abbrev pub with_entries : Site → Line → List Entry → Account

@@ -4,19 +4,13 @@ use Rattle.std.proofs.Math.Bool.{or-false, or-true}
 use Rattle.std.proofs.lemmas.Bool.{and_parts, eqb-true}
 use Rattle.std.proofs.lemmas.Bool.Decides.{nat_tests}
 use Rattle.std.proofs.lemmas.List.{length-append}
+use Rattle.proof_scanner.proofs.Common.{another, begins_line, comment, Fault, flow_collection, has_tab_within, Held, is_at_comment_or_end, is_before_indent, is_cr_lf, is_empty, moved, no_hash, Previous, quoted_scalar, same_break, ScannerState, skip, tab_line, weakened}
 use Rattle.yaml_chars.specs.Class.{is_break, is_blank}
-use Rattle.yaml_tokens.specs.declared.problem.Fault.{Fault}
 use Rattle.defs_text.specs.Classes as classes
-use Rattle.defs_text.specs.Text.{is_empty}
-use Rattle.defs_token.specs.Step.{Previous, plain_scalar, quoted_scalar, block_scalar, flow_collection, directive, another, has_break}
-use Rattle.defs_token.specs.Indentation.{has_tab_within, last_line, begins_line}
-use Rattle.model_scanner.specs.Machine.{is_cr_lf}
-use Rattle.model_scanner.specs.State.{Held, ScannerState, moved}
-use Rattle.model_scanner.specs.Space.{Gap, between, comment, tab_line, past_line, is_before_indent, skip}
-use Rattle.model_scanner.proofs.Holds.{Holds, went, refused, either, weakened}
-use Rattle.proof_lexers.proofs.Separation.Separations.{no_hash}
-use Rattle.proof_lexers.proofs.Bridges.{same_break}
-use Rattle.proof_scanner.specs.StandsInRow.{is_at_comment_or_end}
+use Rattle.defs_token.specs.Step.{plain_scalar, block_scalar, directive, has_break}
+use Rattle.defs_token.specs.Indentation.{last_line}
+use Rattle.model_scanner.specs.Space.{Gap, between, past_line}
+use Rattle.model_scanner.proofs.Holds.{Holds, went, refused, either}
 use Rattle.proof_scanner.proofs.Sound.LastLines.{break_append, last_more, tab_within_more}
 
 -- a break more begins a line, and nothing else does

@@ -1,6 +1,6 @@
 -- The function of each token keeps what holds between two fetches; so the tokens that the scanner's model gives a text are those of the text's row.
-use Rattle.defs_token.specs.Token.{Tok}
-use Rattle.model_scanner.specs.declared.level.FlowLevel.TheVariants.{Mapping, Entry}
+use Rattle.proof_scanner.proofs.Common.{Mapping, Tok}
+use Rattle.model_scanner.specs.declared.level.FlowLevel.TheVariants.{Entry}
 use Rattle.proof_scanner.specs.StandsInRow.{TokensAreOfARow}
 use Rattle.proof_scanner.proofs.Sound.BlockScalars.{block_keeps}
 use Rattle.proof_scanner.proofs.Sound.Closers.{closing_bracket, closing_brace}

@@ -2,26 +2,18 @@
 use Rattle.std.proofs.Common.{◌≡◌, ℕ, suc, ◌+◌, ◌≤◌, List, [], ◌∷◌, ◌++◌, Bool, true, false, not, ◌&&◌, ◌||◌, ◌⊎◌, inl, inr, length, map, nat_lt, if◌then◌else◌, Option, Some, None, Result, Ok, Err, refl, ap, sym, ◌∙◌, subst, arith}
 use Rattle.std.proofs.lemmas.Bool.Decides.{nat_tests}
 use Rattle.std.specs.List.{list_any}
-use Rattle.defs_text.specs.Position.{Position}
-use Rattle.defs_text.specs.Text.{is_empty}
-use Rattle.defs_token.specs.Token.{Token}
-use Rattle.yaml_tokens.specs.declared.problem.Fault.{Fault}
+use Rattle.proof_scanner.proofs.Common.{AreEntries, begins_free_line, Completes, drop_stale, Fault, FlowLevel, have_no_key, Held, in_flow, is_empty, is_far, is_overdue, is_renewed, is_waiting, IsLine, IsNear, IsOpenOutside, Key, MayChoose, outside_key, Position, ScannerState, stale, still, Token, tokens_up_to, try_held}
 use Rattle.yaml_tokens.specs.declared.problem.Fault.TheVariants.{At}
 use Rattle.yaml_tokens.specs.declared.problem.Problem.TheVariants as problem
 use Rattle.defs_token.specs.Step.{Step}
-use Rattle.defs_token.specs.Key.{is_waiting, begins_free_line}
-use Rattle.defs_token.specs.FlowEntry.{Entry, is_renewed}
-use Rattle.defs_token.specs.RowAccount.{Account, have_no_key}
+use Rattle.defs_token.specs.FlowEntry.{Entry}
+use Rattle.defs_token.specs.RowAccount.{Account}
 use Rattle.defs_token.specs.Tokens.{tokens_from}
 use Rattle.defs_token.specs.Row.{IsRead}
-use Rattle.model_scanner.specs.declared.level.FlowLevel.{FlowLevel}
-use Rattle.model_scanner.specs.State.{Key, Held, ScannerState, in_flow, try_held}
-use Rattle.model_scanner.specs.Keys.{is_far, is_overdue, still, drop_stale, with_keys, stale}
+use Rattle.model_scanner.specs.Keys.{with_keys}
 use Rattle.model_scanner.proofs.Holds.{Holds, went, refused, either, tried}
-use Rattle.proof_scanner.specs.Choices.{MayChoose, outside_key, chosen}
-use Rattle.proof_scanner.specs.Completes.{tokens_up_to, Completes}
-use Rattle.proof_scanner.specs.StandsInRow.{AreEntries, IsLine, IsOpenOutside, Stands, Fares, goes, over}
-use Rattle.proof_scanner.specs.Arrives.{IsNear}
+use Rattle.proof_scanner.specs.Choices.{chosen}
+use Rattle.proof_scanner.specs.StandsInRow.{Stands, Fares, goes, over}
 use Rattle.proof_scanner.proofs.Sound.Sides.{StandsAt}
 use Rattle.proof_scanner.proofs.Sound.StreamEnds.{entries_no_key, none_chosen, none_put}
 

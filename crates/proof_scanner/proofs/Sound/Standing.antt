@@ -1,9 +1,6 @@
 -- What lets a piece stand: four tests, and its column in flow.
 use Rattle.std.proofs.Common.{◌≡◌, Bool, true, false, ◌&&◌, ◌||◌, nat_le, refl, ap, ◌∙◌}
-use Rattle.defs_token.specs.Token.{Tok}
-use Rattle.defs_token.specs.Step.{act_of, is_marker}
-use Rattle.defs_token.specs.Indentation.{least_column}
-use Rattle.defs_token.specs.RowAccount.{Site, least_for, is_deep_enough}
+use Rattle.proof_scanner.proofs.Common.{act_of, is_deep_enough, is_marker, least_column, least_for, Site, Tok}
 
 pub and_yes : (b : Bool) → (b && true) ≡ b
 and_yes true = refl

@@ -1,14 +1,9 @@
 -- What holds between fetches holds after the stream's start.
 use Rattle.std.proofs.Common.{◌≡◌, ℕ, List, [], ◌∷◌, true, refl, subst, inl, inr, arith}
-use Rattle.defs_text.specs.Position.{first_position}
-use Rattle.defs_token.specs.Token.{stream_start}
+use Rattle.proof_scanner.proofs.Common.{Completes, fetch_stream_start, first_position, has_no_nul, start, stream_start}
 use Rattle.defs_token.specs.RowAccount.{first_account}
 use Rattle.defs_token.specs.Tokens.{put}
-use Rattle.model_scanner.specs.Document.{fetch_stream_start}
-use Rattle.model_scanner.specs.Run.{start}
-use Rattle.defs_text.specs.Text.{has_no_nul}
 use Rattle.proof_scanner.proofs.Cut.Documents.{whole_text}
-use Rattle.proof_scanner.specs.Completes.{Completes}
 use Rattle.proof_scanner.specs.StandsInRow.{Stands}
 use Rattle.proof_scanner.proofs.Sound.Completed.{completed_at_start}
 

@@ -1,20 +1,13 @@
 -- A piece in flow with which its entry goes on, and before and after which no key of the entry waits: `?`, a colon without a key, and a line for the document.
 use Rattle.std.proofs.Common.{◌≡◌, ℕ, suc, List, [], ◌∷◌, ◌++◌, Bool, true, false, not, ◌&&◌, if◌then◌else◌, length, Some, None, refl, ap, sym, ◌∙◌, subst}
-use Rattle.defs_text.specs.Position.{Position, position_after}
-use Rattle.defs_text.specs.Text.{is_empty}
-use Rattle.defs_token.specs.Token.{Token}
-use Rattle.defs_token.specs.Account.{Level}
-use Rattle.defs_token.specs.Separation.{is_separation}
-use Rattle.defs_token.specs.Piece.{IsPiece}
-use Rattle.defs_token.specs.Step.{Step, spelled, Act, act_of, gives_colon, has_break}
-use Rattle.defs_token.specs.Key.{Line, is_waiting, begins_free_line, line_past_separation, taken}
-use Rattle.defs_token.specs.FlowEntry.{Had, waits, Pair, Entry, is_keyed, takes_pair, begun_by, is_renewed, entries_past}
-use Rattle.defs_token.specs.RowAccount.{Site, Account, site_at, site_past, may_stand, on_one_line, past_inside, past_piece, account_past, seen}
-use Rattle.defs_token.specs.Tokens.{put, pair_position, shown_position, Colon, colon_of, key_end, begun_inside, tokens_of_step}
-use Rattle.model_scanner.specs.State.{pop}
-use Rattle.proof_scanner.specs.Choices.{line_by, had_by, entries_by, chosen, MayChoose}
-use Rattle.proof_scanner.specs.Completes.{with_had, with_keys, tokens_up_to, Completes}
-use Rattle.defs_token.specs.Beginning.{BeginsButForKey}
+use Rattle.proof_scanner.proofs.Common.{Act, act_of, begins_free_line, BeginsButForKey, begun_by, begun_inside, colon_of, Completes, entries_by, entries_past, gives_colon, Had, had_by, is_empty, is_keyed, is_renewed, is_separation, is_waiting, IsPiece, key_end, Level, line_by, line_past_separation, may_stand, MayChoose, pair_position, past_inside, past_piece, pop, Position, position_after, seen, shown_position, Site, site_at, site_past, taken, Token, tokens_of_step, tokens_up_to}
+use Rattle.defs_token.specs.Step.{Step, spelled, has_break}
+use Rattle.defs_token.specs.Key.{Line}
+use Rattle.defs_token.specs.FlowEntry.{waits, Pair, Entry, takes_pair}
+use Rattle.defs_token.specs.RowAccount.{Account, on_one_line, account_past}
+use Rattle.defs_token.specs.Tokens.{put, Colon}
+use Rattle.proof_scanner.specs.Choices.{chosen}
+use Rattle.proof_scanner.specs.Completes.{with_had, with_keys}
 use Rattle.proof_scanner.proofs.Sound.Completed.{completed_past, but_for_key_past, none_broken, none_waits}
 use Rattle.proof_scanner.proofs.Sound.FlowSteps.{FlowStep, step_of, base, keys, outside}
 use Rattle.proof_scanner.proofs.Sound.Inserts.{AreAmong, first_among, keys_first}

@@ -1,17 +1,10 @@
 -- A piece outside flow before and after which no key waits: a dash, `?`, a colon without a key, a line for the document, a block scalar, and a comma or bracket that no collection is open for.
 use Rattle.std.proofs.Common.{◌≡◌, ℕ, List, [], ◌∷◌, ◌++◌, Bool, true, false, not, ◌&&◌, if◌then◌else◌, Option, Some, None, refl, ap, ◌∙◌}
-use Rattle.defs_text.specs.Position.{Position, position_after}
-use Rattle.defs_text.specs.Text.{is_empty}
-use Rattle.defs_token.specs.Token.{Tok, Token}
-use Rattle.defs_token.specs.Separation.{is_separation}
-use Rattle.defs_token.specs.Piece.{IsPiece}
-use Rattle.defs_token.specs.Step.{Step, spelled, Act, act_of, gives_colon, has_break}
-use Rattle.defs_token.specs.Column.{is_in_column, is_deeper}
-use Rattle.defs_token.specs.Key.{Line, waits, is_waiting, begins_free_line, line_past_separation, Outside, line_past}
-use Rattle.defs_token.specs.FlowEntry.{begun_by, is_renewed}
-use Rattle.defs_token.specs.RowAccount.{Site, Account, site_at, site_past, may_stand, on_one_line, past_outside, past_piece, account_past, seen}
-use Rattle.defs_token.specs.Tokens.{put, shown_position, ends_at, begun_outside, key_end, tokens_of_step}
-use Rattle.proof_scanner.specs.Completes.{Completes}
+use Rattle.proof_scanner.proofs.Common.{Act, act_of, begins_free_line, begun_by, begun_outside, Completes, ends_at, gives_colon, is_deeper, is_empty, is_in_column, is_renewed, is_separation, is_waiting, IsPiece, key_end, line_past_separation, may_stand, Outside, past_outside, past_piece, Position, position_after, seen, shown_position, Site, site_at, site_past, Tok, Token, tokens_of_step}
+use Rattle.defs_token.specs.Step.{Step, spelled, has_break}
+use Rattle.defs_token.specs.Key.{Line, waits, line_past}
+use Rattle.defs_token.specs.RowAccount.{Account, on_one_line, account_past}
+use Rattle.defs_token.specs.Tokens.{put}
 use Rattle.proof_scanner.proofs.Sound.Completed.{completed_past}
 use Rattle.proof_scanner.proofs.Sound.NodesOutside.{Outer}
 

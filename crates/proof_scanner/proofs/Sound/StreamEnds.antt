@@ -1,38 +1,23 @@
 -- Where a text ends: no open key is one, and the stream's end and those of the block collections stand where the row has them.
 use Rattle.std.proofs.Common.{◌≡◌, ℕ, suc, ◌+◌, ◌-◌, ◌≤◌, ◌<◌, List, [], ◌∷◌, ◌++◌, Bool, true, false, not, ◌&&◌, ◌||◌, ◌==◌, nat_lt, if◌then◌else◌, length, replicate, Option, Some, None, refl, ap, sym, ◌∙◌, subst, append_assoc, arith}
 use Rattle.std.proofs.lemmas.Bool.Decides.{nat_tests}
-use Rattle.defs_text.specs.Position.{Position, position_after}
-use Rattle.defs_text.specs.Text.{is_empty}
-use Rattle.defs_token.specs.Token.{Token, block_end, stream_end}
 use Rattle.defs_token.specs.Step.{Step}
-use Rattle.defs_token.specs.Column.{not_ended}
-use Rattle.defs_token.specs.Key.{Line, is_waiting}
-use Rattle.defs_token.specs.FlowEntry.{Had, Entry, is_keyed, takes_pair}
-use Rattle.defs_token.specs.RowAccount.{Account, have_no_key, may_end}
-use Rattle.defs_token.specs.Tokens.{put, colon_of, stream_position, ends_at, ends_with_stream}
-use Rattle.model_scanner.specs.declared.level.FlowLevel.{FlowLevel}
-use Rattle.model_scanner.specs.declared.level.Indent.{Indent}
-use Rattle.model_scanner.specs.State.{Key, pop}
-use Rattle.model_scanner.specs.Keys.{top_key}
-use Rattle.model_scanner.specs.Indents.{unrolled, unroll_indent}
-use Rattle.model_scanner.specs.Document.{next_line, ended_at, fetch_stream_end}
+use Rattle.defs_token.specs.Key.{Line}
+use Rattle.defs_token.specs.FlowEntry.{Entry, takes_pair}
+use Rattle.defs_token.specs.RowAccount.{Account}
+use Rattle.defs_token.specs.Tokens.{put, stream_position, ends_with_stream}
+use Rattle.model_scanner.specs.Document.{next_line, ended_at}
 use Rattle.model_scanner.proofs.Holds.{Holds, went, tried, checked}
 use Rattle.yaml_tokens.specs.declared.problem.Fault.TheVariants.{At}
 use Rattle.yaml_tokens.specs.declared.problem.Problem.TheVariants as problem
-use Rattle.defs_token.specs.RowAccount.{Site}
 use Rattle.std.proofs.lemmas.List.{append-nil}
-use Rattle.defs_token.specs.Separation.{is_separation}
-use Rattle.defs_token.specs.FlowEntry.{is_renewed}
+use Rattle.proof_scanner.proofs.Common.{AreAround, AreCollections, AreEntries, Arrives, block_end, cleared, colon_of, Completes, ends_at, ends_here, entries_by, entry_by, fetch_stream_end, FlowLevel, Had, has_required, HasHad, have_no_key, Held, in_flow, Indent, is_empty, is_keyed, is_renewed, is_required, is_separation, is_waiting, IsTopLevel, Key, line_by, may_end, MayChoose, not_ended, outside_key, pop, Position, position_after, ScannerState, Site, site_here, stream_end, Token, tokens_up_to, top_key, unroll_indent, unrolled}
 use Rattle.defs_token.specs.Tokens.{tokens_at_end}
 use Rattle.defs_token.specs.Row.{IsRead}
-use Rattle.model_scanner.specs.State.{Held, in_flow, ScannerState}
-use Rattle.model_scanner.specs.Keys.{is_required, has_required, cleared}
-use Rattle.proof_scanner.specs.Arrives.{Arrives, site_here, ends_here}
-use Rattle.proof_scanner.specs.Completes.{Completes, tokens_up_to}
 use Rattle.proof_scanner.proofs.Sound.Completed.{completed_at_end}
-use Rattle.proof_scanner.specs.Choices.{MayChoose, line_by, entry_by, entries_by, outside_key, chosen}
+use Rattle.proof_scanner.specs.Choices.{chosen}
 use Rattle.proof_scanner.specs.Completes.{with_keys}
-use Rattle.proof_scanner.specs.StandsInRow.{columns, AreCollections, AreLevels, IsTopLevel, HasHad, AreAround, AreEntries}
+use Rattle.proof_scanner.specs.StandsInRow.{columns, AreLevels}
 use Rattle.proof_scanner.proofs.Sound.NodesInside.{no_had, not_keyed}
 use Rattle.proof_scanner.proofs.Sound.NodesOutside.{no_line}
 

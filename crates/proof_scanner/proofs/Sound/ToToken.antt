@@ -2,43 +2,29 @@
 use Rattle.std.proofs.Common.{◌≡◌, ℕ, ◌+◌, ◌≤◌, List, [], ◌∷◌, ◌++◌, Bool, true, false, not, ◌&&◌, ◌||◌, ◌==◌, inl, inr, if◌then◌else◌, length, Option, Some, None, Ok, refl, ap, sym, ◌∙◌, subst, append_assoc, append-nil, arith}
 use Rattle.std.proofs.Math.Bool.{or-false, or-true}
 use Rattle.std.proofs.lemmas.List.{append_cancel_right}
-use Rattle.defs_text.specs.Classes.{is_break, is_blank, is_nul, is_one_of}
-use Rattle.defs_text.specs.Breaks.{is_at_line_end}
-use Rattle.defs_text.specs.Position.{Position, position_after}
-use Rattle.defs_text.specs.Text.{is_empty, has_no_nul}
-use Rattle.defs_token.specs.Account.{before_past}
-use Rattle.defs_token.specs.Separation.{is_separation}
-use Rattle.defs_token.specs.Step.{Previous, plain_scalar, quoted_scalar, block_scalar, flow_collection, directive, another, has_break}
-use Rattle.defs_token.specs.Indentation.{least_column, has_tab_within, last_line, follows_plain, begins_line, is_indented_by_spaces}
-use Rattle.defs_token.specs.Key.{Line, begins_free_line}
-use Rattle.defs_token.specs.FlowEntry.{Entry, is_renewed}
+use Rattle.proof_scanner.proofs.Common.{after_separation, another, AreEntries, before_past, begins_free_line, begins_line, begins_separation, begins_white, BeginsButForKey, both_hold, Completes, flow_collection, FlowLevel, follows_plain, has_no_nul, has_tab_within, HasNoTabs, in_flow, Indent, is_at_comment_or_end, is_at_line_end, is_empty, is_free, is_indented_by_spaces, is_nul, is_one_of, is_renewed, is_separation, IsAdjacent, IsLine, IsLive, IsOpenHere, IsOpenOutside, IsReadOn, IsTakenBy, Key, least_column, NotBefore, outside_key, Position, position_after, position_append, Previous, quoted_scalar, ScannerState, skip_to_next_token, tokens_up_to, weakened}
+use Rattle.defs_text.specs.Classes.{is_break, is_blank}
+use Rattle.defs_token.specs.Step.{plain_scalar, block_scalar, directive, has_break}
+use Rattle.defs_token.specs.Indentation.{last_line}
+use Rattle.defs_token.specs.Key.{Line}
+use Rattle.defs_token.specs.FlowEntry.{Entry}
 use Rattle.defs_token.specs.RowAccount.{Account, before_by}
-use Rattle.model_scanner.specs.declared.level.FlowLevel.{FlowLevel}
-use Rattle.model_scanner.specs.declared.level.Indent.{Indent}
-use Rattle.model_scanner.specs.State.{Key, ScannerState, in_flow}
-use Rattle.model_scanner.specs.Space.{between, skip_to_next_token}
-use Rattle.model_scanner.proofs.Holds.{Holds, went, weakened, both_hold}
-use Rattle.proof_lexers.specs.PlainEnds.{is_white, begins_white}
+use Rattle.model_scanner.specs.Space.{between}
+use Rattle.model_scanner.proofs.Holds.{Holds, went}
+use Rattle.proof_lexers.specs.PlainEnds.{is_white}
 use Rattle.proof_lexers.specs.PlainEnds as plain_ends
-use Rattle.proof_lexers.specs.Separations.{begins_separation, after_separation}
 use Rattle.proof_lexers.proofs.Separation.EachSeparation.{no_nul_after}
-use Rattle.proof_lexers.proofs.Separation.Positions.{position_append}
-use Rattle.proof_scanner.specs.Here.{IsLive}
-use Rattle.proof_scanner.specs.Order.{NotBefore}
-use Rattle.proof_scanner.specs.Stands.{IsAdjacent}
 use Rattle.proof_scanner.proofs.Cut.Positions.{not_before_after, index_after}
 use Rattle.proof_scanner.proofs.Cut.Pieces.Separations.{separation_append}
 use Rattle.proof_scanner.proofs.Cut.Heres.{before_both}
 use Rattle.proof_scanner.proofs.Cut.Stoods.{adjacent_filled}
-use Rattle.proof_scanner.specs.Choices.{outside_key, chosen}
-use Rattle.proof_scanner.specs.Completes.{tokens_up_to, Completes}
-use Rattle.proof_scanner.specs.StandsInRow.{columns, AreEntries, is_free, IsTakenBy, IsLine, IsOpenHere, IsOpenOutside, is_at_comment_or_end, HasNoTabs, IsReadOn, Stands}
+use Rattle.proof_scanner.specs.Choices.{chosen}
+use Rattle.proof_scanner.specs.StandsInRow.{columns, Stands}
 use Rattle.proof_scanner.proofs.Sound.Sides.{StandsAt}
 use Rattle.proof_scanner.proofs.Sound.Arrivals.{unbroken}
 use Rattle.proof_scanner.proofs.Sound.LastLines.{last_whole, at_break, column_after, no_comment_in_last}
 use Rattle.proof_scanner.proofs.Sound.Skips.{Spaced, IsAt, IsIn, Cleared, skip_clears}
 use Rattle.proof_scanner.proofs.Sound.Passed.{skip_stays, Exact, exact, live_before_it, may_before, same_has_break, first_comment, renewed_alike, free_line_append, read_on_append, some_columns, least_is, goes_on}
-use Rattle.defs_token.specs.Beginning.{BeginsButForKey}
 
 -- ---- where the way begins
 

@@ -1,18 +1,13 @@
 -- The function of the model that reads a colon: what holds where it begins holds between two fetches after it.
 use Rattle.std.proofs.Common.{◌≡◌, ℕ, List, [], ◌∷◌, true, false, ◌⊎◌, inl, inr, Option, Some, None, Result, Ok, sym, subst}
-use Rattle.defs_token.specs.Token.{Tok}
-use Rattle.yaml_tokens.specs.declared.problem.Fault.{Fault}
+use Rattle.proof_scanner.proofs.Common.{Arrives, chained, check_value_space, colon_may_precede, Fault, fetch_value, FlowLevel, Held, Key, on_held, paired, push, ScannerState, Tok, top_key, try_held, ◌>>=◌}
 use Rattle.defs_token.specs.FlowEntry.{Entry}
-use Rattle.defs_token.specs.Indentation.{colon_may_precede}
 use Rattle.model_scanner.specs.Machine.{past}
-use Rattle.model_scanner.specs.declared.level.FlowLevel.{FlowLevel}
-use Rattle.model_scanner.specs.State.{Key, Held, ScannerState, ◌>>=◌, after, push, on_held, try_held}
-use Rattle.model_scanner.specs.Keys.{top_key}
-use Rattle.model_scanner.specs.Block.{check_value_space, opens_pair, paired, value_of, fetch_value}
+use Rattle.model_scanner.specs.State.{after}
+use Rattle.model_scanner.specs.Block.{opens_pair, value_of}
 use Rattle.model_scanner.specs.Fetch.{is_value}
-use Rattle.model_scanner.proofs.Holds.{Holds, chained}
+use Rattle.model_scanner.proofs.Holds.{Holds}
 use Rattle.proof_scanner.proofs.Cut.Nodes.{IsDeep}
-use Rattle.proof_scanner.specs.Arrives.{Arrives}
 use Rattle.proof_scanner.specs.StandsInRow.{Stands}
 use Rattle.proof_scanner.proofs.Sound.ColonSpaces.{past_colon, colon_spaced}
 use Rattle.proof_scanner.proofs.Sound.Colons.{value_here, value_by, keyless_outside, keyless_inside}

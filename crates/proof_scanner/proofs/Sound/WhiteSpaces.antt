@@ -2,24 +2,16 @@
 use Rattle.std.proofs.Common.{◌≡◌, ℕ, List, [], ◌∷◌, ◌++◌, Bool, true, false, not, ◌&&◌, ◌||◌, ◌==◌, ◌⊎◌, inl, inr, if◌then◌else◌, slice_index, Result, Ok, Err, refl, ap, sym, ◌∙◌, subst}
 use Rattle.std.proofs.lemmas.Bool.{and_parts, eqb-true}
 use Rattle.std.proofs.lemmas.List.{append_cancel_right}
+use Rattle.proof_scanner.proofs.Common.{after_separation, begins_white_space, begins_with, begins_with_space_or_break, Fault, GoesOverAs, has_no_break, has_tab_before_piece, Held, held_of, is_at_gap, is_blank_or_end, is_cr_lf, is_nul, is_one_of, is_separation, misses, moved, or_true, same_break, ScannerState, skip_yaml_whitespace, weakened, white, white_space_is_passed}
 use Rattle.yaml_chars.specs.Class as class
-use Rattle.defs_text.specs.Classes.{is_one_of, is_blank, is_break, is_blank_or_end, is_nul, is_at_gap}
-use Rattle.defs_text.specs.Breaks.{has_no_break}
-use Rattle.defs_text.specs.FlowScalar.{begins_with}
-use Rattle.defs_token.specs.Separation.{is_separation}
-use Rattle.defs_token.specs.Piece.{begins_with_space_or_break}
+use Rattle.defs_text.specs.Classes.{is_blank, is_break}
 use Rattle.defs_token.specs.Step.{has_break}
-use Rattle.defs_token.specs.Indentation.{last_line, has_tab_before_piece}
-use Rattle.yaml_tokens.specs.declared.problem.Fault.{Fault}
-use Rattle.model_scanner.specs.Machine.{is_cr_lf}
-use Rattle.model_scanner.specs.State.{Held, ScannerState, moved}
-use Rattle.model_scanner.specs.Space.{past_line, at_break, white_end, white, skip_yaml_whitespace}
-use Rattle.model_scanner.proofs.Holds.{Holds, went, refused, held_of, weakened}
-use Rattle.proof_lexers.specs.Separations.{after_separation, GoesOverAs, goes, misses, begins_white_space}
-use Rattle.proof_lexers.proofs.Bridges.{same_break}
+use Rattle.defs_token.specs.Indentation.{last_line}
+use Rattle.model_scanner.specs.Space.{past_line, at_break, white_end}
+use Rattle.model_scanner.proofs.Holds.{Holds, went, refused}
+use Rattle.proof_lexers.specs.Separations.{goes}
 use Rattle.proof_lexers.proofs.Separation.Separations.{no_break_hash}
-use Rattle.proof_lexers.proofs.Plain.Turns.{or_true, or_false}
-use Rattle.proof_lexers.proofs.Separation.WhiteSpace.{white_space_is_passed}
+use Rattle.proof_lexers.proofs.Plain.Turns.{or_false}
 use Rattle.proof_scanner.proofs.Sound.LastLines.{last_first}
 use Rattle.yaml_tokens.specs.declared.problem.Fault.TheVariants.{At}
 use Rattle.yaml_tokens.specs.declared.problem.Problem.TheVariants as problem

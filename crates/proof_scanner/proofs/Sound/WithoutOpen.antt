@@ -1,10 +1,7 @@
 -- The levels of indentation without those at the top that open no collection.
 use Rattle.std.proofs.Common.{◌≡◌, ℕ, zero, suc, ◌-◌, ◌<◌, ◌≤◌, List, [], ◌∷◌, Bool, true, false, not, if◌then◌else◌, Some, refl, ap, sym, subst, arith}
-use Rattle.defs_token.specs.Token.{Token}
-use Rattle.model_scanner.specs.declared.level.Indent.{Indent}
-use Rattle.model_scanner.specs.Indents.{Levels, without_open}
-use Rattle.proof_lexers.specs.PlainEnds.{collection_of}
-use Rattle.proof_scanner.specs.StandsInRow.{columns, has_open_level, AreCollections, IsTopLevel, AreLevels}
+use Rattle.proof_scanner.proofs.Common.{AreCollections, collection_of, has_open_level, Indent, IsTopLevel, Levels, Token, without_open}
+use Rattle.proof_scanner.specs.StandsInRow.{columns, AreLevels}
 use Rattle.proof_scanner.proofs.Sound.BlockEnds.{IsLeast}
 
 -- What is known of these levels.

@@ -1,24 +1,18 @@
 -- From one fetch of a row to where its next piece begins, or to the text's end.
 use Rattle.std.proofs.Common.{◌≡◌, ℕ, ◌+◌, List, ◌++◌, Bool, false, Some, Ok, ap, sym, ◌∙◌, subst}
+use Rattle.proof_scanner.proofs.Common.{begins_separation, both_hold, FaresAt, GoesHere, LeadsTo, MayChoose, on_held, outside_key, ScannerState, skip_to_next_token, spelled_to, stale, Succeeds, try_held, unroll_indent, ◌>>=◌}
 use Rattle.defs_token.specs.Step.{Step}
 use Rattle.defs_token.specs.RowAccount.{Account}
-use Rattle.model_scanner.specs.State.{ScannerState, ◌>>=◌, on_held, try_held}
-use Rattle.model_scanner.specs.Keys.{stale}
-use Rattle.model_scanner.specs.Indents.{unroll_indent}
-use Rattle.model_scanner.specs.Space.{skip_to_next_token}
-use Rattle.model_scanner.proofs.Holds.{both_hold}
-use Rattle.proof_lexers.specs.Separations.{begins_separation}
-use Rattle.proof_scanner.specs.Stands.{FaresAt}
 use Rattle.proof_scanner.proofs.Cut.Documents.{passed_stands as passed_cut}
 use Rattle.proof_scanner.proofs.Cut.Fetched.{stale_stands as stale_cut}
 use Rattle.proof_scanner.proofs.Cut.Passes.{to_token}
 use Rattle.proof_scanner.proofs.Cut.Unrolls.{unrolled_here}
-use Rattle.proof_scanner.specs.Choices.{outside_key, chosen, MayChoose}
+use Rattle.proof_scanner.specs.Choices.{chosen}
 use Rattle.proof_scanner.proofs.Sound.Arriving.{ArrivesAt, EndedAt, HasNearKey, ended_at, near_key, with_ends}
 use Rattle.proof_scanner.proofs.Sound.Stales.{stale_stands}
 use Rattle.proof_scanner.proofs.Sound.ToToken.{passed_at}
-use Rattle.proof_scanner.specs.Ways.{Stop, spelled_to, LeadsTo}
-use Rattle.proof_scanner.specs.Goes.{Succeeds, went, Goes, GoesHere}
+use Rattle.proof_scanner.specs.Ways.{Stop}
+use Rattle.proof_scanner.specs.Goes.{went, Goes}
 use Rattle.proof_scanner.proofs.Complete.Around.Succeeds.{with_held_facts, fine_holds, and_then, tried}
 use Rattle.proof_scanner.proofs.Complete.Around.Passing.{skips, goes_passed}
 use Rattle.proof_scanner.proofs.Complete.Around.Stales.{stale_goes}

@@ -1,16 +1,14 @@
 -- What the first step of the rest of a row asks for, on either side; and a key that waits: no break stands before its next piece, which is near.
 use Rattle.std.proofs.Common.{◌≡◌, ℕ, ◌+◌, ◌≤◌, List, [], ◌∷◌, ◌++◌, Bool, true, false, not, if◌then◌else◌, length, Option, Some, None, refl, ap, sym, ◌∙◌, arith}
 use Rattle.std.proofs.lemmas.List.{length-append}
-use Rattle.defs_text.specs.Position.{Position, position_after}
-use Rattle.defs_text.specs.Text.{is_empty}
+use Rattle.proof_scanner.proofs.Common.{begins_free_line, is_empty, is_renewed, LeadsTo, line_past_separation, may_stand, past_piece, Position, position_after, spelled_to}
 use Rattle.defs_token.specs.Step.{Step}
-use Rattle.defs_token.specs.Key.{Line, waits, begins_free_line, line_past_separation}
-use Rattle.defs_token.specs.FlowEntry.{is_renewed}
-use Rattle.defs_token.specs.RowAccount.{Account, is_in_flow, may_stand, on_one_line, past_piece}
+use Rattle.defs_token.specs.Key.{Line, waits}
+use Rattle.defs_token.specs.RowAccount.{Account, is_in_flow, on_one_line}
 use Rattle.proof_row.proofs.Written.{At}
 use Rattle.proof_scanner.proofs.Cut.Positions.{index_after}
 use Rattle.proof_scanner.proofs.Sound.Arrivals.{some_text}
-use Rattle.proof_scanner.specs.Ways.{Stop, spelled_to, LeadsTo}
+use Rattle.proof_scanner.specs.Ways.{Stop}
 use Rattle.proof_scanner.proofs.Complete.WaitingKeys.{near_stop, next_near}
 use Rattle.proof_scanner.proofs.Complete.Around.Separations.{separation_of, text_after, RestOf}
 

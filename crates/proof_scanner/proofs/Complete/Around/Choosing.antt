@@ -2,32 +2,22 @@
 use Rattle.std.proofs.Common.{◌≡◌, ℕ, ◌+◌, ◌≤◌, List, [], ◌∷◌, ◌++◌, Bool, true, false, not, ◌&&◌, ◌||◌, ◌==◌, nat_lt, None, refl, ap, sym, ◌∙◌, subst, arith}
 use Rattle.std.proofs.lemmas.Bool.{and_parts, eqb-true}
 use Rattle.std.proofs.lemmas.Bool.Decides.{nat_tests}
+use Rattle.proof_scanner.proofs.Common.{act_of, Arrives, comes_marker, Directive, directive_line, FaresAt, fetch_content, fetch_first_column, fetch_here, fetch_indented, fetch_token, further_lines_stand, GoesHere, has_no_nul, has_open_level, in_flow, is_adjacent, is_blank_or_end, is_deep_enough, is_document_marker, is_empty, is_indented_by_spaces, is_marker, is_nul, kind_at, least_for, may_precede, not_empty, peek, reserved, ScannerState, seen, shown_position, Site, site_at, site_here, spelled_to, Succeeds, tag_declaration, version, Whole}
 use Rattle.yaml_tokens.specs.declared.problem.Fault.TheVariants.{At}
 use Rattle.yaml_tokens.specs.declared.problem.Problem.TheVariants as problem
-use Rattle.defs_text.specs.Classes.{is_blank, is_break, is_nul, is_blank_or_end, is_flow, is_document_marker}
-use Rattle.defs_text.specs.Text.{is_empty, has_no_nul}
-use Rattle.defs_text.specs.Directives.{Directive, version, tag_declaration, reserved}
-use Rattle.defs_token.specs.Account.{is_adjacent}
-use Rattle.defs_token.specs.Step.{Step, act_of, is_marker}
-use Rattle.defs_token.specs.Indentation.{is_indented_by_spaces}
-use Rattle.defs_token.specs.Lines.{further_lines_stand}
-use Rattle.defs_token.specs.Following.{may_precede}
-use Rattle.defs_token.specs.RowAccount.{Site, is_in_flow, is_deep_enough, least_for, site_at, seen}
-use Rattle.defs_token.specs.Tokens.{shown_position}
-use Rattle.model_scanner.specs.State.{ScannerState, peek, after, in_flow}
-use Rattle.model_scanner.specs.Fetch.{fetch_token, comes_marker, fetch_indented, fetch_first_column, fetch_content, fetch_here}
-use Rattle.proof_row.specs.Ends.{directive_line, kind_at}
-use Rattle.proof_row.proofs.Begins.{directive_token, Whole}
-use Rattle.proof_row.proofs.Written.{At as SiteAt, not_empty}
-use Rattle.proof_scanner.specs.Stands.{FaresAt}
+use Rattle.defs_text.specs.Classes.{is_blank, is_break, is_flow}
+use Rattle.defs_token.specs.Step.{Step}
+use Rattle.defs_token.specs.RowAccount.{is_in_flow}
+use Rattle.model_scanner.specs.State.{after}
+use Rattle.proof_row.proofs.Begins.{directive_token}
+use Rattle.proof_row.proofs.Written.{At as SiteAt}
 use Rattle.proof_scanner.proofs.Cut.Nodes.{IsDeep}
 use Rattle.proof_scanner.proofs.Cut.Dispatch.{token_holds}
 use Rattle.proof_scanner.proofs.Cut.Fetched.{begins_with_this, Marked, marked, no_marker}
-use Rattle.proof_scanner.specs.StandsInRow.{columns, has_open_level}
-use Rattle.proof_scanner.specs.Arrives.{site_here, Arrives}
+use Rattle.proof_scanner.specs.StandsInRow.{columns}
 use Rattle.proof_scanner.proofs.Sound.KeysBefore.{keys_before}
-use Rattle.proof_scanner.specs.Ways.{Stop, spelled_to}
-use Rattle.proof_scanner.specs.Goes.{Succeeds, Goes, GoesHere}
+use Rattle.proof_scanner.specs.Ways.{Stop}
+use Rattle.proof_scanner.specs.Goes.{Goes}
 use Rattle.proof_scanner.proofs.Complete.EachReads.{before_here, EachReads}
 use Rattle.proof_scanner.proofs.Complete.Pieces.{account_here, context_here, PieceHere, piece_here}
 use Rattle.proof_scanner.proofs.Complete.Around.Succeeds.{either, checked}

@@ -1,22 +1,15 @@
 -- At the text's end the stream ends: no key must still come to its colon.
 use Rattle.std.proofs.Common.{◌≡◌, ℕ, suc, List, [], ◌∷◌, Bool, true, false, ◌==◌, if◌then◌else◌, length, Option, Some, None, Ok, refl, ap, sym, ◌∙◌, subst, arith}
-use Rattle.defs_text.specs.Position.{Position}
-use Rattle.defs_text.specs.Text.{is_empty}
 use Rattle.yaml_tokens.specs.declared.problem.Fault.TheVariants.{At}
 use Rattle.yaml_tokens.specs.declared.problem.Problem.TheVariants as problem
-use Rattle.defs_token.specs.FlowEntry.{Entry, is_renewed}
-use Rattle.model_scanner.specs.declared.level.FlowLevel.{FlowLevel}
-use Rattle.model_scanner.specs.State.{Key, Held, ScannerState, peek, in_flow, try_held}
-use Rattle.model_scanner.specs.Keys.{is_overdue, drop_stale, with_keys, stale, is_required, has_required, cleared}
-use Rattle.model_scanner.specs.Indents.{Levels, with_levels, unrolled, unroll_indent}
-use Rattle.model_scanner.specs.Document.{next_line, ended_at, end_stream, fetch_stream_end}
-use Rattle.model_scanner.specs.Fetch.{fetch_content, fetch_here}
+use Rattle.defs_token.specs.FlowEntry.{Entry}
+use Rattle.model_scanner.specs.Keys.{with_keys}
+use Rattle.model_scanner.specs.Indents.{with_levels}
+use Rattle.model_scanner.specs.Document.{next_line, ended_at}
 use Rattle.std.specs.List.{list_any}
-use Rattle.proof_row.proofs.Separations.{separations}
-use Rattle.proof_scanner.specs.Choices.{outside_key, chosen, MayChoose}
-use Rattle.proof_scanner.specs.StandsInRow.{IsFreeKey, AreAround, AreEntries}
-use Rattle.proof_scanner.specs.Arrives.{Arrives}
-use Rattle.proof_scanner.specs.Goes.{Succeeds, went, GoesHere}
+use Rattle.proof_scanner.proofs.Common.{AreAround, AreEntries, Arrives, cleared, drop_stale, end_stream, fetch_content, fetch_here, fetch_stream_end, FlowLevel, GoesHere, has_required, Held, in_flow, is_empty, is_overdue, is_renewed, is_required, IsFreeKey, Key, Levels, MayChoose, outside_key, peek, Position, ScannerState, separations, stale, Succeeds, try_held, unroll_indent, unrolled}
+use Rattle.proof_scanner.specs.Choices.{chosen}
+use Rattle.proof_scanner.specs.Goes.{went}
 use Rattle.proof_scanner.specs.Ways.{Stop}
 use Rattle.proof_scanner.proofs.Complete.Steps.{ends_before}
 use Rattle.proof_scanner.proofs.Complete.WaitingKeys.{near_stop}

@@ -2,15 +2,9 @@
 use Rattle.std.proofs.Common.{◌≡◌, ℕ, suc, ◌+◌, ◌-◌, ◌<◌, ◌≤◌, List, [], ◌∷◌, Bool, true, false, not, ◌&&◌, ◌||◌, nat_lt, nat_le, if◌then◌else◌, refl, ap, sym, ◌∙◌, subst, arith}
 use Rattle.std.proofs.lemmas.Bool.{and_parts}
 use Rattle.std.proofs.lemmas.Bool.Decides.{nat_tests}
-use Rattle.defs_text.specs.Text.{is_empty}
-use Rattle.defs_token.specs.Token.{Tok, scalar, plain}
-use Rattle.defs_token.specs.Step.{act_of, is_marker}
-use Rattle.defs_token.specs.Column.{not_ended, is_deeper, innermost}
-use Rattle.defs_token.specs.Indentation.{least_column}
-use Rattle.defs_token.specs.RowAccount.{Site, least_for}
-use Rattle.model_scanner.specs.declared.level.Indent.{Indent}
-use Rattle.proof_scanner.specs.Here.{IsNotRight}
-use Rattle.proof_scanner.specs.StandsInRow.{columns, has_open_level, AreCollections, AreLevels, IsTopLevel}
+use Rattle.proof_scanner.proofs.Common.{act_of, AreCollections, has_open_level, Indent, innermost, is_deeper, is_empty, is_marker, IsNotRight, IsTopLevel, least_column, least_for, not_ended, scalar, Site, Tok}
+use Rattle.defs_token.specs.Token.{plain}
+use Rattle.proof_scanner.specs.StandsInRow.{columns, AreLevels}
 use Rattle.proof_scanner.proofs.Sound.Passed.{least_of_levels}
 
 -- ---- outside flow

@@ -1,14 +1,10 @@
 -- A piece that stands for the document begins in column 0, and with the text of one.
 use Rattle.std.proofs.Common.{◌≡◌, ℕ, List, ◌∷◌, ◌++◌, Bool, true, false, ◌||◌, ◌==◌, inl, inr, Option, Some, refl, ap, ◌∙◌}
-use Rattle.defs_text.specs.Classes.{are_marks, is_at_gap, is_document_marker}
-use Rattle.defs_text.specs.Position.{Position}
-use Rattle.defs_text.specs.Directives.{Directive, directive_of}
-use Rattle.defs_token.specs.Token.{Style, Tok, version_directive, tag_directive, document_start, document_end, scalar, plain, single_quoted, double_quoted, literal, folded}
+use Rattle.proof_scanner.proofs.Common.{act_of, are_marks, Directive, directive_begins, directive_of, document_end, document_start, double_quoted, is_at_gap, is_document_marker, is_marker, IsPiece, peek, Position, scalar, single_quoted, Style, tag_directive, Tok, version_directive}
+use Rattle.defs_token.specs.Token.{plain, literal, folded}
 use Rattle.defs_token.specs.Account.{Account}
-use Rattle.defs_token.specs.Piece.{IsPiece, IsTagLine}
-use Rattle.defs_token.specs.Step.{act_of, is_marker}
-use Rattle.model_scanner.specs.State.{peek}
-use Rattle.proof_row.proofs.Begins.{directive_begins, dash_marks, dot_marks}
+use Rattle.defs_token.specs.Piece.{IsTagLine}
+use Rattle.proof_row.proofs.Begins.{dash_marks, dot_marks}
 
 -- a text begins with `%`, or with a document marker
 abbrev pub begins_document : List ℕ → Bool

@@ -1,30 +1,22 @@
 -- The way to the next piece of a row, or to the text's end, is not refused, and the row goes on there.
 use Rattle.std.proofs.Common.{◌≡◌, ℕ, zero, suc, ◌≤◌, List, [], ◌∷◌, ◌++◌, Bool, true, false, not, ◌&&◌, ◌||◌, ◌==◌, Option, Some, None, refl, ap, sym, ◌∙◌, subst, append_assoc, arith}
 use Rattle.std.proofs.lemmas.Bool.{and_parts}
-use Rattle.defs_text.specs.Classes.{is_blank, is_break, is_nul, is_blank_or_end}
-use Rattle.defs_text.specs.Text.{is_empty, has_no_nul}
-use Rattle.defs_token.specs.Separation.{is_separation}
-use Rattle.defs_token.specs.Step.{Step, Previous, has_break}
-use Rattle.defs_token.specs.Indentation.{least_column, has_tab_within, last_line, follows_plain, begins_line, is_indented_by_spaces}
-use Rattle.defs_token.specs.Key.{waits, begins_free_line}
-use Rattle.defs_token.specs.RowAccount.{Account, is_in_flow, is_deep_enough, least_for}
-use Rattle.defs_token.specs.Lines.{further_lines_stand}
-use Rattle.defs_token.specs.Following.{may_precede}
-use Rattle.model_scanner.specs.State.{Key, ScannerState}
-use Rattle.model_scanner.specs.Space.{between, skip, skip_to_next_token}
-use Rattle.proof_lexers.specs.Separations.{begins_separation}
-use Rattle.proof_row.specs.Ends.{ends_separation}
-use Rattle.proof_row.proofs.Separations.{separations}
+use Rattle.proof_scanner.proofs.Common.{begins_free_line, begins_line, begins_separation, ends_separation, follows_plain, further_lines_stand, has_no_nul, has_tab_within, is_blank_or_end, is_deep_enough, is_empty, is_indented_by_spaces, is_nul, is_separation, IsLive, Key, LeadsTo, least_column, least_for, may_precede, MayChoose, outside_key, Previous, ScannerState, separations, skip, skip_to_next_token, spelled_to}
+use Rattle.defs_text.specs.Classes.{is_blank, is_break}
+use Rattle.defs_token.specs.Step.{Step, has_break}
+use Rattle.defs_token.specs.Indentation.{last_line}
+use Rattle.defs_token.specs.Key.{waits}
+use Rattle.defs_token.specs.RowAccount.{Account, is_in_flow}
+use Rattle.model_scanner.specs.Space.{between}
 use Rattle.proof_row.proofs.Written.{At}
-use Rattle.proof_scanner.specs.Here.{IsLive}
-use Rattle.proof_scanner.specs.Choices.{outside_key, chosen, MayChoose}
+use Rattle.proof_scanner.specs.Choices.{chosen}
 use Rattle.proof_scanner.specs.StandsInRow.{Stands}
 use Rattle.proof_scanner.proofs.Sound.Arrivals.{clean_after}
 use Rattle.proof_scanner.proofs.Sound.Passed.{skip_stays, least_is, same_has_break, free_line_append}
 use Rattle.proof_scanner.proofs.Sound.QuotedEnds.{same_line}
 use Rattle.proof_scanner.proofs.Sound.Skips.{Spaced, IsIn}
 use Rattle.proof_scanner.proofs.Sound.ToToken.{is_in, PassedAt}
-use Rattle.proof_scanner.specs.Ways.{Stop, spelled_to, LeadsTo}
+use Rattle.proof_scanner.specs.Ways.{Stop}
 use Rattle.proof_scanner.specs.Goes.{went, Goes}
 use Rattle.proof_scanner.proofs.Complete.Sides.{goes_on}
 use Rattle.proof_scanner.proofs.Complete.Steps.{ends_before}

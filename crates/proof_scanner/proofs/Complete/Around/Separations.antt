@@ -1,16 +1,13 @@
 -- The separation with which the rest of a row begins, and what of it is still to come.
 use Rattle.std.proofs.Common.{◌≡◌, ℕ, List, [], ◌∷◌, ◌++◌, Bool, true, false, not, ◌&&◌, ◌||◌, ◌==◌, Some, refl, ap, sym, ◌∙◌, subst, arith}
 use Rattle.std.proofs.lemmas.Bool.{and_parts}
-use Rattle.defs_text.specs.Classes.{is_blank, is_break, is_nul}
-use Rattle.defs_text.specs.Breaks.{is_at_line_end}
-use Rattle.defs_token.specs.Separation.{is_separation}
+use Rattle.proof_scanner.proofs.Common.{ends_separation, has_no_nul, is_at_line_end, is_nul, is_separation, LeadsTo, spelled_to}
+use Rattle.defs_text.specs.Classes.{is_blank, is_break}
 use Rattle.defs_token.specs.Step.{Step}
 use Rattle.defs_token.specs.RowAccount.{Account}
-use Rattle.defs_text.specs.Text.{has_no_nul}
-use Rattle.proof_row.specs.Ends.{ends_separation}
 use Rattle.proof_row.proofs.Runs.{same_head, longer}
 use Rattle.proof_row.proofs.Separations.{over}
-use Rattle.proof_scanner.specs.Ways.{Stop, spelled_to, LeadsTo}
+use Rattle.proof_scanner.specs.Ways.{Stop}
 use Rattle.proof_scanner.proofs.Complete.Steps.{piece_ends}
 
 -- ---- the text of a row

@@ -3,21 +3,13 @@ use Rattle.std.proofs.Common.{◌≡◌, ℕ, zero, suc, ◌+◌, ◌<◌, List,
 use Rattle.std.proofs.Math.Bool.{or-true}
 use Rattle.std.proofs.lemmas.Bool.{and_parts, eqb-true}
 use Rattle.std.proofs.lemmas.Bool.Decides.{nat_tests}
+use Rattle.proof_scanner.proofs.Common.{begins_line, begins_separation, comment, has_no_nul, has_tab_within, Held, is_at_line_end, is_before_indent, is_cr_lf, is_empty, is_separation, moved, no_hash, Previous, same_blank, same_break, skip, tab_line}
 use Rattle.yaml_chars.specs.Class.{is_break, is_blank}
 use Rattle.yaml_tokens.specs.declared.problem.Fault.TheVariants.{At}
 use Rattle.yaml_tokens.specs.declared.problem.Problem.TheVariants as problem
-use Rattle.defs_text.specs.Breaks.{is_at_line_end}
 use Rattle.defs_text.specs.Classes as classes
-use Rattle.defs_text.specs.Text.{is_empty, has_no_nul}
-use Rattle.defs_token.specs.Separation.{is_separation}
-use Rattle.defs_token.specs.Step.{Previous}
-use Rattle.defs_token.specs.Indentation.{has_tab_within, last_line, begins_line}
-use Rattle.model_scanner.specs.Machine.{is_cr_lf}
-use Rattle.model_scanner.specs.State.{Held, moved}
-use Rattle.model_scanner.specs.Space.{Gap, between, comment, tab_line, past_line, is_before_indent, skip}
-use Rattle.proof_lexers.specs.Separations.{begins_separation}
-use Rattle.proof_lexers.proofs.Separation.Separations.{no_hash}
-use Rattle.proof_lexers.proofs.Bridges.{same_break, same_blank}
+use Rattle.defs_token.specs.Indentation.{last_line}
+use Rattle.model_scanner.specs.Space.{Gap, between, past_line}
 use Rattle.proof_scanner.proofs.Sound.LastLines.{last_more}
 use Rattle.proof_scanner.proofs.Sound.Passed.{skip_stays}
 use Rattle.proof_scanner.proofs.Sound.Skips.{Spaced, IsLeast, IsAt, IsIn, line_more, feed_next, at_line, at_blank, no_end}

@@ -2,19 +2,16 @@
 use Rattle.std.proofs.Common.{◌≡◌, ℕ, ◌+◌, ◌≤◌, List, [], ◌∷◌, Bool, true, false, not, ◌&&◌, ◌||◌, map, nat_lt, if◌then◌else◌, Option, Some, None, Ok, Err, refl, ap, sym, ◌∙◌, subst, arith}
 use Rattle.std.proofs.lemmas.Bool.Decides.{nat_tests}
 use Rattle.std.specs.List.{list_any}
-use Rattle.defs_text.specs.Position.{Position, position_after}
-use Rattle.defs_text.specs.Text.{is_empty}
+use Rattle.proof_scanner.proofs.Common.{drop_stale, Held, is_empty, is_far, is_overdue, is_renewed, Key, LeadsTo, MayChoose, outside_key, Position, position_after, ScannerState, stale, still, Succeeds, try_held}
 use Rattle.yaml_tokens.specs.declared.problem.Fault.TheVariants.{At}
 use Rattle.yaml_tokens.specs.declared.problem.Problem.TheVariants as problem
 use Rattle.defs_token.specs.Step.{Step}
-use Rattle.defs_token.specs.FlowEntry.{is_renewed}
-use Rattle.model_scanner.specs.State.{Key, Held, ScannerState, try_held}
-use Rattle.model_scanner.specs.Keys.{is_far, is_overdue, still, drop_stale, with_keys, stale}
-use Rattle.proof_scanner.specs.Choices.{outside_key, chosen, MayChoose}
+use Rattle.model_scanner.specs.Keys.{with_keys}
+use Rattle.proof_scanner.specs.Choices.{chosen}
 use Rattle.proof_scanner.specs.StandsInRow.{Stands}
 use Rattle.proof_scanner.proofs.Sound.Stales.{no_entries, one_key, key_dropped}
-use Rattle.proof_scanner.specs.Ways.{Stop, LeadsTo}
-use Rattle.proof_scanner.specs.Goes.{Succeeds, went, Goes}
+use Rattle.proof_scanner.specs.Ways.{Stop}
+use Rattle.proof_scanner.specs.Goes.{went, Goes}
 use Rattle.proof_scanner.proofs.Complete.Sides.{goes_on}
 use Rattle.proof_scanner.proofs.Complete.Around.Succeeds.{tried}
 use Rattle.proof_scanner.proofs.Complete.Around.Asks.{part_near}

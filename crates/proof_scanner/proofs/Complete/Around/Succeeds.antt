@@ -1,9 +1,8 @@
 -- Steps that do not refuse: rules for the forms that the model's functions are made of.
 use Rattle.std.proofs.Common.{◌≡◌, Bool, true, false, if◌then◌else◌, Result, Err, refl}
-use Rattle.yaml_tokens.specs.declared.problem.Fault.{Fault}
-use Rattle.model_scanner.specs.State.{Held, ScannerState, ◌>>=◌, with_held}
-use Rattle.model_scanner.proofs.Holds.{Holds, held_of}
-use Rattle.proof_scanner.specs.Goes.{Succeeds, went}
+use Rattle.proof_scanner.proofs.Common.{Fault, Held, held_of, ScannerState, Succeeds, with_held, ◌>>=◌}
+use Rattle.model_scanner.proofs.Holds.{Holds}
+use Rattle.proof_scanner.specs.Goes.{went}
 
 -- whether a step does not refuse
 abbrev pub IsFine : {A : Type 0} → Result A Fault → Type 0

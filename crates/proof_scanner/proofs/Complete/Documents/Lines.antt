@@ -1,26 +1,15 @@
 -- A document marker or a directive that a row reads: what begins its line is not refused, and the row goes on after it.
 use Rattle.std.proofs.Common.{◌≡◌, ℕ, List, [], ◌∷◌, ◌++◌, Bool, true, false, not, ◌≤◌, ◌⊎◌, inl, inr, Option, Some, None, Ok, refl, ap, sym, ◌∙◌, subst}
-use Rattle.defs_text.specs.Position.{Position, position_after}
-use Rattle.defs_text.specs.Text.{is_empty, has_no_nul}
-use Rattle.defs_token.specs.Piece.{IsPiece}
-use Rattle.defs_token.specs.Separation.{is_separation}
-use Rattle.defs_token.specs.Step.{Step, Act, gives_marker, previous_by, has_break}
-use Rattle.defs_token.specs.Column.{is_in_column}
-use Rattle.defs_token.specs.Key.{Line, free, taken, waits, is_waiting, begins_free_line, Outside, line_past as line_of_piece}
-use Rattle.defs_token.specs.FlowEntry.{Had, fresh, filled, waits as had_waits, settled, Pair, Entry, takes_pair, pair_past, had_past, had_after, renewed, with_had, begun_by, is_renewed, entries_past}
-use Rattle.defs_token.specs.RowAccount.{Site, Account, site_at, site_in, site_past, seen}
-use Rattle.defs_token.specs.Tokens.{shown_position}
-use Rattle.model_scanner.specs.State.{Key, Held, ScannerState, pop, with_top}
-use Rattle.model_scanner.specs.Keys.{is_required, top_key}
-use Rattle.model_scanner.specs.Document.{begin_line}
-use Rattle.proof_scanner.specs.Here.{IsLive}
-use Rattle.proof_scanner.specs.Choices.{line_by, outside_key, MayChoose}
-use Rattle.proof_scanner.specs.StandsInRow.{IsFreeKey}
+use Rattle.proof_scanner.proofs.Common.{Act, begin_line, begins_free_line, begun_by, entries_past, filled, free, fresh, gives_marker, GoesHere, Had, had_after, has_no_nul, Held, is_empty, is_in_column, is_renewed, is_required, is_separation, is_waiting, IsFreeKey, IsLive, IsPiece, Key, LeadsTo, line_by, MayChoose, Outside, outside_key, pair_past, pop, Position, position_after, previous_by, renewed, ScannerState, seen, shown_position, Site, site_at, site_in, site_past, spelled_to, taken, top_key, with_top}
+use Rattle.defs_token.specs.Step.{Step, has_break}
+use Rattle.defs_token.specs.Key.{Line, waits, line_past as line_of_piece}
+use Rattle.defs_token.specs.FlowEntry.{waits as had_waits, settled, Pair, Entry, takes_pair, had_past, with_had}
+use Rattle.defs_token.specs.RowAccount.{Account}
 use Rattle.proof_scanner.proofs.Sound.Arrivals.{some_rest}
 use Rattle.proof_scanner.proofs.Sound.DocumentLines.{Read, next_of, IsRead, line_past, begun_from, line_begins, all_ended, unrolled_outside, unrolled_inside, line_base, entry_settled, line_base_inside, outside_at, inside_at}
 use Rattle.proof_scanner.proofs.Sound.Sides.{with_entries}
-use Rattle.proof_scanner.specs.Ways.{Stop, spelled_to, LeadsTo}
-use Rattle.proof_scanner.specs.Goes.{Goes, GoesHere}
+use Rattle.proof_scanner.specs.Ways.{Stop}
+use Rattle.proof_scanner.specs.Goes.{Goes}
 use Rattle.proof_scanner.proofs.Complete.Indicators.Passed.{same_value, line_inside, not_required}
 use Rattle.proof_scanner.proofs.Complete.Sides.{GoesOutside, GoesInside, goes_side, goes_on, line_out, account_out, line_in, entry_in, around_in, account_in}
 use Rattle.proof_scanner.proofs.Complete.Steps.{with_key, GoesPast, step_read, WentOutside, went_outside, WentInside, went_inside}

@@ -2,49 +2,33 @@
 use Rattle.std.proofs.Common.{◌≡◌, ℕ, suc, List, [], ◌∷◌, ◌++◌, Bool, true, false, not, ◌&&◌, ◌||◌, ◌==◌, if◌then◌else◌, Option, Some, None, Ok, Err, refl, ap, sym, ◌∙◌, subst, arith}
 use Rattle.std.proofs.lemmas.Bool.{and_parts}
 use Rattle.std.proofs.lemmas.Bool.Decides.{nat_tests}
+use Rattle.proof_scanner.proofs.Common.{AreOpen, begin_line, begins_with, check_document_end, Directive, directive_begins, directive_line, directive_of, FaresAt, fetch_directive, fetch_document_end, fetch_document_marker, further_lines_stand, GoesHere, has_no_break, has_no_nul, Held, in_flow, innermost_column, is_adjacent, is_at_gap, is_at_line_end, is_blank_or_end, is_blanks_and_comment, is_breakz, is_deep_enough, is_indented_by_spaces, is_nul, is_on_line, is_rest_of_line, Key, kind_at, leading, least_for, lexed, line_is_done, may_precede, on_held, outside_key, past_blanks_and_comment, past_comment, peek, Position, push, ScannerState, skip_indicator, skip_spaces, spelled_to, Succeeds, Tok, token, Whole, with_held, Yes, ◌>>=◌}
 use Rattle.yaml_chars.specs.Class as chars
-use Rattle.yaml_chars.specs.Class.{is_breakz}
 use Rattle.yaml_tokens.specs.declared.problem.Fault.TheVariants.{At}
 use Rattle.yaml_tokens.specs.declared.problem.Problem.TheVariants as problem
-use Rattle.defs_text.specs.Breaks.{is_blanks_and_comment, is_rest_of_line, is_at_line_end, has_no_break}
-use Rattle.defs_text.specs.Classes.{is_blank, is_break, is_nul, is_blank_or_end, is_flow, is_at_gap}
-use Rattle.defs_text.specs.Position.{Position}
-use Rattle.defs_text.specs.Directives.{Directive, directive_of}
-use Rattle.defs_text.specs.FlowScalar.{begins_with}
-use Rattle.defs_text.specs.Tags.{leading, after}
-use Rattle.defs_token.specs.Token.{Tok}
-use Rattle.defs_token.specs.Account.{is_adjacent, innermost_column}
+use Rattle.defs_text.specs.Classes.{is_blank, is_break, is_flow}
+use Rattle.defs_text.specs.Tags.{after}
 use Rattle.defs_token.specs.Cut.{Written, spelled as spelled_row}
-use Rattle.defs_token.specs.Step.{Step, is_on_line, past_comment, past_blanks_and_comment}
-use Rattle.defs_token.specs.Indentation.{is_indented_by_spaces}
-use Rattle.defs_token.specs.Lines.{further_lines_stand}
-use Rattle.defs_token.specs.Following.{line_is_done, may_precede}
+use Rattle.defs_token.specs.Step.{Step}
 use Rattle.defs_token.specs.FlowEntry.{Entry}
-use Rattle.defs_token.specs.RowAccount.{is_in_flow, is_deep_enough, least_for}
+use Rattle.defs_token.specs.RowAccount.{is_in_flow}
 use Rattle.model_scanner.specs.Machine.{past}
 use Rattle.model_scanner.specs.Directive.{directive}
-use Rattle.model_scanner.specs.declared.context.SkipTabs.TheVariants.{Yes}
 use Rattle.model_scanner.specs.State as state
-use Rattle.model_scanner.specs.State.{Key, Held, ScannerState, ◌>>=◌, peek, in_flow, push, token, on_held, with_held, lexed, skip_indicator}
-use Rattle.model_scanner.specs.Space.{skip_spaces}
-use Rattle.model_scanner.specs.Document.{begin_line, fetch_directive, fetch_document_marker, check_document_end, fetch_document_end}
-use Rattle.defs_text.specs.Text.{has_no_nul}
 use Rattle.proof_lexers.specs.DirectiveEnds.{ends_line}
 use Rattle.proof_lexers.proofs.Directives.Lines.{directives_are_read}
-use Rattle.proof_row.specs.Ends.{dots, directive_line, kind_at}
-use Rattle.proof_row.proofs.Begins.{Whole, marked, dot_marks, directive_begins}
+use Rattle.proof_row.specs.Ends.{dots}
+use Rattle.proof_row.proofs.Begins.{marked, dot_marks}
 use Rattle.proof_row.proofs.Written.{At as SiteAt}
-use Rattle.proof_scanner.specs.Here.{AreOpen}
 use Rattle.proof_scanner.specs.Order.{After}
-use Rattle.proof_scanner.specs.Stands.{columns, FaresAt}
+use Rattle.proof_scanner.specs.Stands.{columns}
 use Rattle.proof_scanner.proofs.Cut.Positions.{after_then, weaker}
-use Rattle.proof_scanner.specs.Choices.{outside_key}
 use Rattle.proof_scanner.proofs.Sound.Arrivals.{clean_after}
 use Rattle.proof_scanner.proofs.Sound.Blanks.{line_rest_cut, spaced_parted, past_rest}
 use Rattle.proof_scanner.proofs.Sound.DocumentLines.{Read, IsRead, begun_from, line_past}
 use Rattle.proof_scanner.proofs.Sound.DocumentMarks.{start_read, start_is_read, end_read, end_is_read, directive_read, directive_is_read}
-use Rattle.proof_scanner.specs.Ways.{Stop, spelled_to}
-use Rattle.proof_scanner.specs.Goes.{Succeeds, went, Goes, GoesHere}
+use Rattle.proof_scanner.specs.Ways.{Stop}
+use Rattle.proof_scanner.specs.Goes.{went, Goes}
 use Rattle.proof_scanner.proofs.Complete.EachReads.{before_here, Reads}
 use Rattle.proof_scanner.proofs.Complete.Indicators.Passed.{last_of}
 use Rattle.proof_scanner.proofs.Complete.Pieces.{account_here, context_here, PieceHere, piece_here}

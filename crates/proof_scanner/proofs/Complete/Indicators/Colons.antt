@@ -2,44 +2,26 @@
 use Rattle.std.proofs.Common.{◌≡◌, ℕ, List, [], ◌∷◌, ◌++◌, Bool, true, false, not, ◌&&◌, ◌||◌, ◌==◌, ◌⊎◌, inl, inr, nat_lt, if◌then◌else◌, Option, Some, None, Result, Ok, Err, refl, ap, sym, ◌∙◌, subst, arith}
 use Rattle.std.proofs.lemmas.Bool.{eqb-true}
 use Rattle.std.proofs.lemmas.Bool.Decides.{nat_tests}
-use Rattle.yaml_tokens.specs.declared.problem.Fault.{Fault}
+use Rattle.proof_scanner.proofs.Common.{allow_key, before_past, begin_keyless_mapping, begin_keyless_value, begin_pair, begins_free_line, begins_with, begins_with_alpha, check_after_tab, check_value_space, colon_may_precede, entries_by, entries_past, entry_by, Fault, fetch_value, filled, first_choice, FlowLevel, free, gives_colon, Had, had_after, has_no_nul, HasHadHere, Held, in_flow, insert_key, is_adjacent, is_deep_enough, is_empty, is_free, is_in_column, is_indented_by_spaces, is_near, is_on_line, is_one_of, is_renewed, is_separation, is_value_indicator, Key, Keyed, leading, LeadsTo, lexed, line_by, Mapping, may_precede, may_stand, MayChoose, on_held, Outside, outside_key, pair_past, pair_position, paired, past_blanks_and_comment, past_comment, past_line_rest, peek, pop, Position, position_after, push, put_key, renewed, roll_indent, roll_one_col_indent, same_alpha, ScannerState, Site, site_at, site_in, spelled_to, Succeeds, tab, taken, Tok, Token, top_key, try_held, with_held, with_top, Yes, ◌>>=◌}
 use Rattle.yaml_tokens.specs.declared.problem.Fault.TheVariants.{At}
 use Rattle.yaml_tokens.specs.declared.problem.Problem.TheVariants as problem
 use Rattle.yaml_chars.specs.Class.{is_alpha, is_alphanumeric}
 use Rattle.defs_text.specs.Classes as classes
-use Rattle.defs_text.specs.Classes.{tab, is_one_of, is_blank, is_break}
-use Rattle.defs_text.specs.Text.{is_empty, has_no_nul}
-use Rattle.defs_text.specs.Position.{Position, position_after}
-use Rattle.defs_text.specs.FlowScalar.{begins_with}
-use Rattle.defs_text.specs.Tags.{leading, after}
-use Rattle.defs_token.specs.Account.{is_adjacent, before_past}
-use Rattle.defs_token.specs.Plain.{is_value_indicator}
-use Rattle.defs_token.specs.Separation.{is_separation}
-use Rattle.defs_token.specs.Token.{Tok, Token}
-use Rattle.defs_token.specs.Step.{Step, gives_colon, is_on_line, past_comment, has_break, past_blanks_and_comment}
-use Rattle.defs_token.specs.Column.{is_in_column, opened}
-use Rattle.defs_token.specs.Indentation.{is_indented_by_spaces, begins_with_alpha, colon_may_precede}
-use Rattle.defs_token.specs.Following.{may_precede}
-use Rattle.defs_token.specs.Key.{Line, free, taken, waits as waits_on_line, is_near, begins_free_line, Outside, line_past}
-use Rattle.defs_token.specs.FlowEntry.{Had, filled, waits, settled, Entry, takes_pair, is_renewed, renewed, had_after, pair_past, with_had, entries_past}
-use Rattle.defs_token.specs.RowAccount.{Site, site_at, site_in, may_stand, is_deep_enough, before_by}
-use Rattle.defs_token.specs.Tokens.{put, pair_position, past_line_rest}
+use Rattle.defs_text.specs.Classes.{is_blank, is_break}
+use Rattle.defs_text.specs.Tags.{after}
+use Rattle.defs_token.specs.Step.{Step, has_break}
+use Rattle.defs_token.specs.Column.{opened}
+use Rattle.defs_token.specs.Key.{Line, waits as waits_on_line, line_past}
+use Rattle.defs_token.specs.FlowEntry.{waits, settled, Entry, takes_pair, with_had}
+use Rattle.defs_token.specs.RowAccount.{before_by}
+use Rattle.defs_token.specs.Tokens.{put}
 use Rattle.model_scanner.specs.Machine.{past}
 use Rattle.model_scanner.specs.Blanks.{space}
-use Rattle.model_scanner.specs.declared.context.SkipTabs.TheVariants.{Yes}
-use Rattle.model_scanner.specs.declared.level.FlowLevel.{FlowLevel}
-use Rattle.model_scanner.specs.declared.level.FlowLevel.TheVariants.{Mapping, Entry as InEntry, Keyed, Pair as InPair}
-use Rattle.model_scanner.specs.State.{Key, Held, ScannerState, ◌>>=◌, peek, in_flow, push, pop, after as after_first, with_top, on_held, with_held, try_held, lexed}
-use Rattle.model_scanner.specs.Keys.{top_key}
-use Rattle.model_scanner.specs.Indents.{roll_indent, roll_one_col_indent}
-use Rattle.model_scanner.specs.Flow.{allow_key}
-use Rattle.model_scanner.specs.Block.{check_after_tab, check_value_space, opens_pair, paired, begin_pair, insert_key, begin_keyless_mapping, begin_keyless_value, value_of, fetch_value}
+use Rattle.model_scanner.specs.declared.level.FlowLevel.TheVariants.{Entry as InEntry, Pair as InPair}
+use Rattle.model_scanner.specs.State.{after as after_first}
+use Rattle.model_scanner.specs.Block.{opens_pair, value_of}
 use Rattle.model_scanner.specs.Fetch.{is_value}
-use Rattle.proof_lexers.proofs.Bridges.{same_alpha}
 use Rattle.proof_scanner.proofs.Cut.Nodes.{IsDeep}
-use Rattle.proof_scanner.specs.Choices.{line_by, entry_by, entries_by, first_choice, outside_key, MayChoose}
-use Rattle.proof_scanner.specs.Completes.{put_key}
-use Rattle.proof_scanner.specs.StandsInRow.{is_free, HasHadHere}
 use Rattle.proof_scanner.proofs.Sound.Blanks.{spaced_parted, past_rest}
 use Rattle.proof_scanner.proofs.Sound.ColonKeys.{keyed_base, keyed_stands, keyed_is, inner_stands, outside_after}
 use Rattle.proof_scanner.proofs.Sound.ColonKeys as keyed
@@ -52,8 +34,8 @@ use Rattle.proof_scanner.proofs.Sound.OutsidePieces.{base_past}
 use Rattle.proof_scanner.proofs.Sound.Questions.{with_mapping, pair_level}
 use Rattle.proof_scanner.proofs.Sound.Rolled.{opens_none}
 use Rattle.proof_scanner.proofs.Sound.Sides.{with_entries, ArrivesBy, StandsAt}
-use Rattle.proof_scanner.specs.Ways.{Stop, spelled_to, LeadsTo}
-use Rattle.proof_scanner.specs.Goes.{Succeeds, went, Goes}
+use Rattle.proof_scanner.specs.Ways.{Stop}
+use Rattle.proof_scanner.specs.Goes.{went, Goes}
 use Rattle.proof_scanner.proofs.Complete.EachReads.{Reads}
 use Rattle.proof_scanner.proofs.Complete.Indicators.FreeLines.{step as mark_step, at as mark_at, mark_read, mark_asks, mark_row, mark_line}
 use Rattle.proof_scanner.proofs.Complete.Indicators.Passed.{last_of, same_value, line_inside, may_on}

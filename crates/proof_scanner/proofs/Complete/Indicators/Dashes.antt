@@ -1,38 +1,19 @@
 -- A dash that a row reads is read by the scanner's model, and the row goes on after it.
 use Rattle.std.proofs.Common.{◌≡◌, ℕ, List, [], ◌∷◌, Bool, true, false, not, ◌&&◌, ◌||◌, ◌==◌, ◌⊎◌, inl, inr, if◌then◌else◌, slice_index, Some, None, Ok, Err, refl, ap, sym, ◌∙◌, subst}
 use Rattle.std.proofs.lemmas.Bool.{eqb-true}
+use Rattle.proof_scanner.proofs.Common.{allow_key, begins_entry, begins_free_line, begins_with, blanks_and_comment, check_block_entry, check_dash, dash, dash_may_precede, fetch_block_entry, free, gives_dash, GoesHere, Held, in_flow, is_adjacent, is_at_gap, is_blank_or_breakz, is_blank_or_end, is_deep_enough, is_empty, is_in_column, is_indented_by_spaces, is_nul, is_on_line, is_one_of, is_required, IsPiece, kind_at, leading, LeadsTo, lexed, line_by, may_precede, No, on_held, Outside, past_blanks_and_comment, past_comment, Position, push, remove_implicit_key, roll_entry, roll_indent, ScannerState, seen, shown_position, Site, site_in, skip_indicator, skip_spaces, spelled_to, Succeeds, taken, Tok, token, top_key, try_held, Whole, with_held, with_top, ◌>>=◌}
 use Rattle.yaml_tokens.specs.declared.problem.Fault.TheVariants.{At}
 use Rattle.yaml_tokens.specs.declared.problem.Problem.TheVariants as problem
-use Rattle.yaml_chars.specs.Class.{is_blank_or_breakz}
-use Rattle.defs_text.specs.Classes.{is_one_of, is_blank, is_break, is_at_gap, is_blank_or_end, is_nul}
-use Rattle.defs_text.specs.Text.{is_empty}
-use Rattle.defs_text.specs.Position.{Position}
-use Rattle.defs_text.specs.FlowScalar.{begins_with}
-use Rattle.defs_text.specs.Tags.{leading, after}
-use Rattle.defs_token.specs.Account.{is_adjacent}
-use Rattle.defs_token.specs.Token.{Tok}
-use Rattle.defs_token.specs.Piece.{IsPiece}
-use Rattle.defs_token.specs.Step.{Step, gives_dash, is_on_line, past_comment, blanks_and_comment, past_blanks_and_comment}
-use Rattle.defs_token.specs.Column.{is_in_column, opened}
-use Rattle.defs_token.specs.Indentation.{is_indented_by_spaces, begins_entry, dash_may_precede}
-use Rattle.defs_token.specs.Following.{may_precede}
-use Rattle.defs_token.specs.Key.{Line, free, taken, waits, begins_free_line, Outside, line_past}
-use Rattle.defs_token.specs.RowAccount.{Site, site_in, is_deep_enough, seen}
-use Rattle.defs_token.specs.Tokens.{shown_position}
-use Rattle.model_scanner.specs.declared.context.SkipTabs.TheVariants.{No}
-use Rattle.model_scanner.specs.State.{Held, ScannerState, ◌>>=◌, in_flow, push, after as after_first, with_top, token, on_held, with_held, try_held, lexed, skip_indicator}
-use Rattle.model_scanner.specs.Keys.{is_required, top_key, remove_implicit_key}
-use Rattle.model_scanner.specs.Indents.{roll_indent}
-use Rattle.model_scanner.specs.Space.{skip_spaces}
-use Rattle.model_scanner.specs.Flow.{allow_key}
-use Rattle.model_scanner.specs.Block.{check_block_entry, check_dash, roll_entry, fetch_block_entry}
-use Rattle.proof_row.specs.Ends.{dash, kind_at}
-use Rattle.proof_row.proofs.Begins.{Whole}
+use Rattle.defs_text.specs.Classes.{is_blank, is_break}
+use Rattle.defs_text.specs.Tags.{after}
+use Rattle.defs_token.specs.Step.{Step}
+use Rattle.defs_token.specs.Column.{opened}
+use Rattle.defs_token.specs.Key.{Line, waits, line_past}
+use Rattle.model_scanner.specs.State.{after as after_first}
 use Rattle.proof_scanner.proofs.Cut.Blocks.{entry_from}
 use Rattle.proof_scanner.proofs.Cut.Dispatch.{gap_here}
 use Rattle.proof_scanner.proofs.Cut.Nodes.{IsDeep}
 use Rattle.proof_row.proofs.Written.{At as site_of}
-use Rattle.proof_scanner.specs.Choices.{line_by}
 use Rattle.proof_scanner.proofs.Sound.Arrivals.{first_not_right}
 use Rattle.proof_scanner.proofs.Sound.Blanks.{spaced_parted, line_rest_cut, past_rest_is_clear, found_in, past_rest, none_skipped}
 use Rattle.proof_scanner.proofs.Sound.Dashes.{Entered, entered, dash_end, with_sequence, after_dash, dash_stands, entry_on, entry_then}
@@ -40,8 +21,8 @@ use Rattle.proof_scanner.proofs.Sound.NodesOutside.{Outer}
 use Rattle.proof_scanner.proofs.Sound.OutsidePieces.{base_past}
 use Rattle.proof_scanner.proofs.Sound.Rolled.{RollsTo, rolls_to}
 use Rattle.proof_scanner.proofs.Sound.Sides.{ArrivesBy}
-use Rattle.proof_scanner.specs.Ways.{Stop, spelled_to, LeadsTo}
-use Rattle.proof_scanner.specs.Goes.{Succeeds, went, Goes, GoesHere}
+use Rattle.proof_scanner.specs.Ways.{Stop}
+use Rattle.proof_scanner.specs.Goes.{went, Goes}
 use Rattle.proof_scanner.proofs.Complete.EachReads.{Reads, before_here}
 use Rattle.proof_scanner.proofs.Complete.Indicators.FreeLines.{free_here, NoneOpen, none_open, step as mark_step, at as mark_at, mark_read, mark_asks, mark_row, mark_line}
 use Rattle.proof_scanner.proofs.Complete.Indicators.Passed.{removed, last_of, same_value}

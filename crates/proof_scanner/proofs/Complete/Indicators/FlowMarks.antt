@@ -1,27 +1,17 @@
 -- A comma or a closing bracket that a row reads is read by the scanner's model, and the row goes on after it.
 use Rattle.std.proofs.Common.{◌≡◌, ℕ, List, [], ◌∷◌, ◌++◌, Bool, true, false, ◌⊎◌, inl, inr, if◌then◌else◌, Some, None, Ok, Err, refl, ap, sym, ◌∙◌, subst}
+use Rattle.proof_scanner.proofs.Common.{adjacent_in_flow, begins_free_line, begins_with, begun_by, blanks_and_comment, end_entry, end_flow, ended_flow, entries_past, fetch_flow_collection_end, fetch_flow_entry, filled, first_entry, free, fresh, Had, has_no_nul, Held, is_in_column, is_renewed, is_required, is_separation, is_waiting, IsPiece, LeadsTo, MayChoose, next_entry, on_held, Outside, outside_key, pass_indicator, past_blanks_and_comment, past_line_rest, pop, Position, position_after, push, remove_implicit_key, ScannerState, seen, shown_position, Site, site_at, site_here, site_in, site_past, Succeeds, taken, Tok, top_key, with_held, with_top, ◌>>=◌}
 use Rattle.yaml_tokens.specs.declared.problem.Fault.TheVariants.{At}
 use Rattle.yaml_tokens.specs.declared.problem.Problem.TheVariants as problem
-use Rattle.defs_text.specs.Position.{Position, position_after}
-use Rattle.defs_text.specs.FlowScalar.{begins_with}
-use Rattle.defs_token.specs.Token.{Tok}
-use Rattle.defs_token.specs.Piece.{IsPiece}
-use Rattle.defs_token.specs.Separation.{is_separation}
-use Rattle.defs_token.specs.Step.{Step, has_break, blanks_and_comment, past_blanks_and_comment}
-use Rattle.defs_token.specs.Column.{is_in_column}
-use Rattle.defs_token.specs.Key.{Line, free, taken, waits, is_waiting, begins_free_line, Outside, line_past}
-use Rattle.defs_token.specs.FlowEntry.{Had, fresh, filled, waits as had_waits, settled, Entry, is_renewed, begun_by, entries_past, past_end, first_entry}
-use Rattle.defs_token.specs.RowAccount.{Site, Account, site_at, site_in, site_past, seen}
-use Rattle.defs_token.specs.Tokens.{shown_position, past_line_rest}
+use Rattle.defs_token.specs.Step.{Step, has_break}
+use Rattle.defs_token.specs.Key.{Line, waits, line_past}
+use Rattle.defs_token.specs.FlowEntry.{waits as had_waits, settled, Entry, past_end}
+use Rattle.defs_token.specs.RowAccount.{Account}
 use Rattle.model_scanner.specs.Machine.{past}
-use Rattle.model_scanner.specs.State.{Held, ScannerState, ◌>>=◌, push, pop, with_top, after, on_held, with_held}
-use Rattle.model_scanner.specs.Keys.{is_required, top_key, remove_implicit_key}
-use Rattle.model_scanner.specs.Flow.{adjacent_in_flow, ended_flow, end_flow, next_entry, end_entry, pass_indicator, fetch_flow_collection_end, fetch_flow_entry}
-use Rattle.defs_text.specs.Text.{has_no_nul}
+use Rattle.model_scanner.specs.State.{after}
 use Rattle.proof_scanner.proofs.Cut.FlowEnds.{higher_keys, ended_now, entry_now, ended_is, entry_is}
 use Rattle.proof_scanner.proofs.Cut.Nodes.{IsDeep}
-use Rattle.proof_scanner.specs.Arrives.{site_here}
-use Rattle.proof_scanner.specs.Choices.{outside_key, chosen, MayChoose}
+use Rattle.proof_scanner.specs.Choices.{chosen}
 use Rattle.proof_scanner.proofs.Sound.Blanks.{line_rest_cut, line_rest_fills}
 use Rattle.proof_scanner.proofs.Sound.Closers.{previous_of, IsCloser, comma, closing_bracket, closing_brace, site_alike, line_then, stray_past, stray_base}
 use Rattle.proof_scanner.proofs.Sound.ClosersInside.{closed_past, closed_base, closed_inside}
@@ -29,8 +19,8 @@ use Rattle.proof_scanner.proofs.Sound.EntryEnds.{act_by, entries_after, keys_by}
 use Rattle.proof_scanner.proofs.Sound.FlowMarks.{stray_outside, after_comma, adjacent_is, after_closing}
 use Rattle.proof_scanner.proofs.Sound.Indicated.{past_it}
 use Rattle.proof_scanner.proofs.Sound.Sides.{with_entries, ArrivesInside}
-use Rattle.proof_scanner.specs.Ways.{Stop, LeadsTo}
-use Rattle.proof_scanner.specs.Goes.{Succeeds, went, Goes}
+use Rattle.proof_scanner.specs.Ways.{Stop}
+use Rattle.proof_scanner.specs.Goes.{went, Goes}
 use Rattle.proof_scanner.proofs.Complete.EachReads.{Reads}
 use Rattle.proof_scanner.proofs.Complete.Indicators.Passed.{passed, no_comment, free_key, same_value, line_inside, not_required, may_on}
 use Rattle.proof_scanner.proofs.Complete.Sides.{GoesOutside, GoesInside, goes_side, goes_on, line_out, account_out, line_in, entry_in, around_in, account_in}

@@ -1,24 +1,12 @@
 -- Indicators outside flow that stand where a key may begin: a dash, a `?`, a colon without a key. No key is open there.
 use Rattle.std.proofs.Common.{◌≡◌, ℕ, List, [], ◌∷◌, ◌++◌, Bool, true, false, Option, Some, None, refl, ap, sym, ◌∙◌, subst}
-use Rattle.defs_text.specs.Position.{position_after}
-use Rattle.defs_text.specs.Text.{is_empty, has_no_nul}
-use Rattle.defs_token.specs.Piece.{IsPiece}
-use Rattle.defs_token.specs.Separation.{is_separation}
-use Rattle.defs_token.specs.Token.{Tok}
-use Rattle.defs_token.specs.Step.{Step, act_of}
-use Rattle.defs_token.specs.Column.{is_in_column}
-use Rattle.defs_token.specs.Key.{Line, free, Outside, line_past}
-use Rattle.defs_token.specs.FlowEntry.{begun_by}
-use Rattle.defs_token.specs.RowAccount.{Site, site_at, site_in, seen}
-use Rattle.defs_token.specs.Tokens.{shown_position}
-use Rattle.model_scanner.specs.State.{Key, ScannerState}
-use Rattle.proof_scanner.specs.Arrives.{IsLineHere}
-use Rattle.proof_scanner.specs.Choices.{line_by}
-use Rattle.proof_scanner.specs.StandsInRow.{is_free}
+use Rattle.proof_scanner.proofs.Common.{act_of, begun_by, free, has_no_nul, is_empty, is_free, is_in_column, is_separation, IsLineHere, IsPiece, Key, LeadsTo, line_by, Outside, position_after, ScannerState, seen, shown_position, Site, site_at, site_in, spelled_to, Tok}
+use Rattle.defs_token.specs.Step.{Step}
+use Rattle.defs_token.specs.Key.{Line, line_past}
 use Rattle.proof_scanner.proofs.Sound.NodesOutside.{Outer}
 use Rattle.proof_scanner.proofs.Sound.OutsidePieces.{site_then}
 use Rattle.proof_scanner.proofs.Sound.Sides.{ArrivesBy}
-use Rattle.proof_scanner.specs.Ways.{Stop, spelled_to, LeadsTo}
+use Rattle.proof_scanner.specs.Ways.{Stop}
 use Rattle.proof_scanner.proofs.Complete.Sides.{GoesOutside}
 use Rattle.proof_scanner.proofs.Complete.Steps.{with_key, GoesPast, step_read, WentOutside, went_outside}
 

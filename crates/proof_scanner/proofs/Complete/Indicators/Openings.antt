@@ -1,37 +1,21 @@
 -- An opening bracket that a row reads is read by the scanner's model, and the row goes on after it.
 use Rattle.std.proofs.Common.{◌≡◌, ◌≢◌, ℕ, suc, ◌≤◌, List, [], ◌∷◌, ◌++◌, Bool, true, false, not, ◌⊎◌, inl, inr, map, nat_le, nat_lt, length, if◌then◌else◌, Option, Some, None, Ok, Err, refl, ap, sym, ◌∙◌, subst, arith}
 use Rattle.std.proofs.lemmas.Bool.Decides.{nat_tests}
+use Rattle.proof_scanner.proofs.Common.{Act, act_of, AreAround, begin_flow, begins_free_line, begins_with, begun_by, blanks_and_comment, deepened_flow, entries_by, entries_past, entry_by, fetch_flow_collection_start, first_choice, first_entry, FlowKind, FlowLevel, gives_node, Had, had_after, has_no_nul, has_room, Held, increase_flow_level, Indent, is_blank_or_end, is_empty, is_in_column, is_nul, is_renewed, is_separation, IsLineHere, IsLive, IsPiece, Key, LeadsTo, line_by, Mapping, mapping_opening, MayChoose, not_empty, on_held, Outside, outside_key, pair_past, pass_indicator, past_blanks_and_comment, past_line_rest, pop, Position, position_after, previous_by, push, renewed, roll_one_col_indent, ScannerState, seen, sequence_opening, shown_position, Site, site_at, site_here, site_in, site_past, spelled_to, Succeeds, taken, Tok, with_held, ◌>>=◌}
 use Rattle.yaml_tokens.specs.declared.problem.Fault.TheVariants.{At}
 use Rattle.yaml_tokens.specs.declared.problem.Problem.TheVariants as problem
-use Rattle.defs_text.specs.Classes.{is_blank, is_break, is_nul, is_blank_or_end, is_flow}
-use Rattle.defs_text.specs.Text.{is_empty, has_no_nul}
-use Rattle.defs_text.specs.Position.{Position, position_after}
-use Rattle.defs_text.specs.FlowScalar.{begins_with}
-use Rattle.defs_token.specs.Account.{Account as PieceAccount, FlowKind, has_room}
-use Rattle.defs_token.specs.Token.{Tok}
-use Rattle.defs_token.specs.Piece.{IsPiece}
-use Rattle.defs_token.specs.Separation.{is_separation}
-use Rattle.defs_token.specs.Step.{Step, Act, act_of, gives_node, previous_by, has_break, blanks_and_comment, past_blanks_and_comment}
-use Rattle.defs_token.specs.Column.{is_in_column}
-use Rattle.defs_token.specs.Key.{Line, taken, waits, begins_free_line, Outside, line_past}
-use Rattle.defs_token.specs.FlowEntry.{Pair, Had, Entry, takes_pair, is_renewed, renewed, had_after, pair_past, begun_by, with_had, entries_past, first_entry}
-use Rattle.defs_token.specs.RowAccount.{Site, Account, site_at, site_in, site_past, level_of, seen}
-use Rattle.defs_token.specs.Tokens.{shown_position, past_line_rest}
+use Rattle.defs_text.specs.Classes.{is_blank, is_break, is_flow}
+use Rattle.defs_token.specs.Account.{Account as PieceAccount}
+use Rattle.defs_token.specs.Step.{Step, has_break}
+use Rattle.defs_token.specs.Key.{Line, waits, line_past}
+use Rattle.defs_token.specs.FlowEntry.{Pair, Entry, takes_pair, with_had}
+use Rattle.defs_token.specs.RowAccount.{Account, level_of}
 use Rattle.model_scanner.specs.Machine.{past}
-use Rattle.model_scanner.specs.declared.level.Indent.{Indent}
-use Rattle.model_scanner.specs.declared.level.FlowLevel.{FlowLevel}
-use Rattle.model_scanner.specs.declared.level.FlowLevel.TheVariants.{Mapping, Entry as InEntry}
-use Rattle.model_scanner.specs.State.{Key, Held, ScannerState, ◌>>=◌, push, pop, after, on_held, with_held}
-use Rattle.model_scanner.specs.Indents.{roll_one_col_indent}
-use Rattle.model_scanner.specs.Flow.{increase_flow_level, deepened_flow, begin_flow, pass_indicator, fetch_flow_collection_start}
-use Rattle.proof_row.specs.Ends.{sequence_opening, mapping_opening}
-use Rattle.proof_scanner.specs.Here.{IsLive}
+use Rattle.model_scanner.specs.declared.level.FlowLevel.TheVariants.{Entry as InEntry}
+use Rattle.model_scanner.specs.State.{after}
 use Rattle.proof_scanner.proofs.Cut.Nodes.{IsDeep}
 use Rattle.proof_scanner.proofs.Cut.Saved.{saved_keys, saved_is}
-use Rattle.proof_row.proofs.Written.{not_empty}
-use Rattle.proof_scanner.specs.Arrives.{site_here, IsLineHere}
-use Rattle.proof_scanner.specs.Choices.{line_by, entry_by, entries_by, first_choice, outside_key, MayChoose}
-use Rattle.proof_scanner.specs.StandsInRow.{kind_of as kind_by, AreAround}
+use Rattle.proof_scanner.specs.StandsInRow.{kind_of as kind_by}
 use Rattle.proof_scanner.proofs.Sound.Blanks.{line_rest_cut, line_rest_fills}
 use Rattle.proof_scanner.proofs.Sound.FlowStarts.{with_key as key_saved, begun_now, levels_outside, opened_outside}
 use Rattle.proof_scanner.proofs.Sound.KeyStarts.{new_key, keys_saved}
@@ -40,8 +24,8 @@ use Rattle.proof_scanner.proofs.Sound.Openers.{IsOpener, opening_bracket, openin
 use Rattle.proof_scanner.proofs.Sound.Outsides.{must_be_here}
 use Rattle.proof_scanner.proofs.Sound.Rolled.{opens_none}
 use Rattle.proof_scanner.proofs.Sound.Sides.{with_entries}
-use Rattle.proof_scanner.specs.Ways.{Stop, spelled_to, LeadsTo}
-use Rattle.proof_scanner.specs.Goes.{Succeeds, went, Goes}
+use Rattle.proof_scanner.specs.Ways.{Stop}
+use Rattle.proof_scanner.specs.Goes.{went, Goes}
 use Rattle.proof_scanner.proofs.Complete.EachReads.{Reads}
 use Rattle.proof_scanner.proofs.Complete.Indicators.Passed.{passed, no_comment, same_value, line_inside, may_on}
 use Rattle.proof_scanner.proofs.Complete.KindsOfPieces.{kind_is}

@@ -1,30 +1,17 @@
 -- How the scanner's model passes an indicator that a row reads, and what stays of the open key outside flow.
 use Rattle.std.proofs.Common.{◌≡◌, ℕ, ◌≤◌, List, ◌++◌, Bool, true, false, not, ◌&&◌, if◌then◌else◌, Option, Some, None, Ok, Err, refl, ap, sym, ◌∙◌, subst}
+use Rattle.proof_scanner.proofs.Common.{begins_free_line, begins_with, free, further_lines_stand, Held, is_deep_enough, is_empty, is_indented_by_spaces, is_required, is_separation, is_waiting, IsFreeKey, Key, LeadsTo, least_for, lexed, line_by, line_past_separation, may_precede, may_stand, MayChoose, pass_indicator, Position, remove_implicit_key, ScannerState, Site, skip_indicator, skip_spaces, spelled_to, taken, Tok, top_key, with_top, Yes}
 use Rattle.yaml_tokens.specs.declared.problem.Fault.TheVariants.{At}
 use Rattle.yaml_tokens.specs.declared.problem.Problem.TheVariants as problem
-use Rattle.defs_text.specs.Position.{Position}
-use Rattle.defs_text.specs.Text.{is_empty}
-use Rattle.defs_text.specs.FlowScalar.{begins_with}
-use Rattle.defs_token.specs.Separation.{is_separation}
-use Rattle.defs_token.specs.Token.{Tok}
 use Rattle.defs_token.specs.Step.{Step, has_break}
-use Rattle.defs_token.specs.Indentation.{is_indented_by_spaces}
-use Rattle.defs_token.specs.Lines.{further_lines_stand}
-use Rattle.defs_token.specs.Following.{may_precede}
-use Rattle.defs_token.specs.Key.{Line, free, taken, waits, is_waiting, begins_free_line, line_past_separation}
-use Rattle.defs_token.specs.RowAccount.{Site, Account, least_for, is_deep_enough, may_stand}
+use Rattle.defs_token.specs.Key.{Line, waits}
+use Rattle.defs_token.specs.RowAccount.{Account}
 use Rattle.model_scanner.specs.Machine.{past}
 use Rattle.model_scanner.specs.Blanks.{space}
-use Rattle.model_scanner.specs.declared.context.SkipTabs.TheVariants.{Yes}
-use Rattle.model_scanner.specs.State.{Key, Held, ScannerState, after, with_top, lexed, skip_indicator}
-use Rattle.model_scanner.specs.Keys.{is_required, top_key, remove_implicit_key}
-use Rattle.model_scanner.specs.Space.{skip_spaces}
-use Rattle.model_scanner.specs.Flow.{pass_indicator}
-use Rattle.proof_scanner.specs.Choices.{line_by, MayChoose}
-use Rattle.proof_scanner.specs.StandsInRow.{IsFreeKey}
+use Rattle.model_scanner.specs.State.{after}
 use Rattle.proof_scanner.proofs.Sound.Blanks.{spaced_parted}
 use Rattle.proof_scanner.proofs.Sound.Indicated.{past_it}
-use Rattle.proof_scanner.specs.Ways.{Stop, spelled_to, LeadsTo}
+use Rattle.proof_scanner.specs.Ways.{Stop}
 use Rattle.proof_scanner.proofs.Complete.Waits.{waits_on}
 
 -- ---- what the model reads

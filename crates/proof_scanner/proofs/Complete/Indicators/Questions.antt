@@ -1,38 +1,20 @@
 -- A `?` that a row reads is read by the scanner's model, and the row goes on after it.
 use Rattle.std.proofs.Common.{◌≡◌, ℕ, List, [], ◌∷◌, ◌++◌, Bool, true, false, not, ◌&&◌, ◌||◌, ◌==◌, ◌⊎◌, inl, inr, if◌then◌else◌, Some, None, Result, Ok, Err, refl, ap, sym, ◌∙◌, subst}
 use Rattle.std.proofs.lemmas.Bool.{or_parts}
-use Rattle.yaml_tokens.specs.declared.problem.Fault.{Fault}
+use Rattle.proof_scanner.proofs.Common.{begin_key, begins_free_line, begins_white_space, begins_with, begins_with_space_or_break, check_key_space, entries_by, entries_past, entry_by, Fault, fetch_key, first_choice, free, gives_question, GoesHere, GoesOverAs, Had, had_after, has_no_nul, has_tab_before_piece, Held, held_of, in_flow, is_adjacent, is_at_gap, is_deep_enough, is_empty, is_in_column, is_indented_by_spaces, is_renewed, is_required, is_separation, keyed, kind_at, LeadsTo, line_by, may_precede, may_stand, MayChoose, misses, on_held, Outside, outside_key, pair_past, peek, pop, Position, position_after, push, question, remove_implicit_key, renewed, roll_indent, ScannerState, Site, site_at, site_in, skip_yaml_whitespace, spelled_to, Succeeds, taken, Tok, token, top_key, try_held, white_space_is_passed, Whole, with_held, with_top, ◌>>=◌}
 use Rattle.yaml_tokens.specs.declared.problem.Fault.TheVariants.{At}
 use Rattle.yaml_tokens.specs.declared.problem.Problem.TheVariants as problem
-use Rattle.defs_text.specs.Classes.{is_break, is_at_gap}
-use Rattle.defs_text.specs.Text.{is_empty, has_no_nul}
-use Rattle.defs_text.specs.Position.{Position, position_after}
-use Rattle.defs_text.specs.FlowScalar.{begins_with}
-use Rattle.defs_token.specs.Account.{is_adjacent}
-use Rattle.defs_token.specs.Token.{Tok}
-use Rattle.defs_token.specs.Piece.{begins_with_space_or_break}
-use Rattle.defs_token.specs.Separation.{is_separation}
-use Rattle.defs_token.specs.Step.{Step, gives_question}
-use Rattle.defs_token.specs.Column.{is_in_column, opened}
-use Rattle.defs_token.specs.Indentation.{is_indented_by_spaces, has_tab_before_piece}
-use Rattle.defs_token.specs.Following.{may_precede}
-use Rattle.defs_token.specs.Key.{Line, free, taken, waits as waits_on_line, begins_free_line, Outside, line_past}
-use Rattle.defs_token.specs.FlowEntry.{Had, waits, Entry, takes_pair, is_renewed, renewed, had_after, pair_past, with_had, entries_past}
-use Rattle.defs_token.specs.RowAccount.{Site, site_at, site_in, may_stand, is_deep_enough}
+use Rattle.defs_text.specs.Classes.{is_break}
+use Rattle.defs_token.specs.Step.{Step}
+use Rattle.defs_token.specs.Column.{opened}
+use Rattle.defs_token.specs.Key.{Line, waits as waits_on_line, line_past}
+use Rattle.defs_token.specs.FlowEntry.{waits, Entry, takes_pair, with_had}
 use Rattle.model_scanner.specs.Machine.{past}
-use Rattle.model_scanner.specs.State.{Held, ScannerState, ◌>>=◌, peek, in_flow, push, pop, after, with_top, token, on_held, with_held, try_held}
-use Rattle.model_scanner.specs.Keys.{is_required, top_key, remove_implicit_key}
-use Rattle.model_scanner.specs.Indents.{roll_indent}
-use Rattle.model_scanner.specs.Space.{skip_yaml_whitespace}
-use Rattle.model_scanner.specs.Block.{keyed, begin_key, check_key_space, fetch_key}
-use Rattle.model_scanner.proofs.Holds.{Holds, held_of}
-use Rattle.proof_row.specs.Ends.{question, kind_at}
-use Rattle.proof_row.proofs.Begins.{Whole}
+use Rattle.model_scanner.specs.State.{after}
+use Rattle.model_scanner.proofs.Holds.{Holds}
 use Rattle.proof_lexers.specs.PlainEnds as ends
-use Rattle.proof_lexers.specs.Separations.{begins_white_space, GoesOverAs, goes, misses}
-use Rattle.proof_lexers.proofs.Separation.WhiteSpace.{white_space_is_passed}
+use Rattle.proof_lexers.specs.Separations.{goes}
 use Rattle.proof_scanner.proofs.Cut.Nodes.{IsDeep}
-use Rattle.proof_scanner.specs.Choices.{line_by, entry_by, entries_by, first_choice, outside_key, MayChoose}
 use Rattle.proof_scanner.proofs.Sound.Arrivals.{first_not_right}
 use Rattle.proof_scanner.proofs.Sound.EntryPieces.{site_inside, base_inside}
 use Rattle.proof_scanner.proofs.Sound.NodesOutside.{Outer}
@@ -41,8 +23,8 @@ use Rattle.proof_scanner.proofs.Sound.Questions.{question_end, with_mapping, aft
 use Rattle.proof_scanner.proofs.Sound.Rolled.{RollsTo, rolls_to, top_closed}
 use Rattle.proof_scanner.proofs.Sound.Sides.{with_entries, ArrivesBy}
 use Rattle.proof_scanner.proofs.Sound.WhiteSpaces.{white_of, past_white, white_cut, goes_over, past_white_space, white_exactly}
-use Rattle.proof_scanner.specs.Ways.{Stop, spelled_to, LeadsTo}
-use Rattle.proof_scanner.specs.Goes.{Succeeds, went, Goes, GoesHere}
+use Rattle.proof_scanner.specs.Ways.{Stop}
+use Rattle.proof_scanner.specs.Goes.{went, Goes}
 use Rattle.proof_scanner.proofs.Complete.EachReads.{Reads, before_here}
 use Rattle.proof_scanner.proofs.Complete.Indicators.FreeLines.{free_here, NoneOpen, none_open, step as mark_step, at as mark_at, mark_read, mark_asks, mark_row, mark_line}
 use Rattle.proof_scanner.proofs.Complete.Indicators.Passed.{removed, last_of, free_key, same_value, line_inside, may_on}

@@ -1,14 +1,8 @@
 -- A part of a node that is no collection, as a row says it: the account after it fits what the scanner holds, by one choice of the open key.
 use Rattle.std.proofs.Common.{◌≡◌, ℕ, ◌≤◌, List, [], ◌∷◌, Bool, true, false, Option, Some, None, refl, sym, ◌∙◌, subst, arith, inl, inr, ◌⊎◌}
-use Rattle.defs_text.specs.Position.{Position}
-use Rattle.defs_token.specs.Step.{gives_node}
-use Rattle.defs_token.specs.Key.{Line, free, taken, waits as waits_on_line, line_past_separation, Outside, line_past}
-use Rattle.defs_token.specs.FlowEntry.{Had, fresh, filled, waits, settled, Entry, entries_past}
-use Rattle.model_scanner.specs.State.{Key}
-use Rattle.proof_scanner.specs.Here.{IsLive}
-use Rattle.proof_scanner.specs.Choices.{line_by, entry_by, had_by, MayChoose}
-use Rattle.proof_scanner.specs.Arrives.{IsLineHere}
-use Rattle.proof_scanner.specs.StandsInRow.{HasHadHere}
+use Rattle.proof_scanner.proofs.Common.{entries_past, entry_by, filled, free, fresh, gives_node, Had, had_by, HasHadHere, IsLineHere, IsLive, Key, line_by, line_past_separation, MayChoose, Outside, Position, taken}
+use Rattle.defs_token.specs.Key.{Line, waits as waits_on_line, line_past}
+use Rattle.defs_token.specs.FlowEntry.{waits, settled, Entry}
 use Rattle.proof_scanner.proofs.Sound.NodeSteps.{saved, had_past_node, entry_past_node}
 
 pub same_of : {A : Type 0} → (a b : A) → Some a ≡ Some b → a ≡ b

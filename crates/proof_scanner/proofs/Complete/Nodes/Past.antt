@@ -1,14 +1,13 @@
 -- The account after a part of a node: its site, outside flow and in flow.
 use Rattle.std.proofs.Common.{◌≡◌, ℕ, List, [], ◌∷◌, Bool, true, false, ◌&&◌, if◌then◌else◌, Option, Some, None, refl, ap, sym, ◌∙◌}
-use Rattle.defs_text.specs.Position.{Position}
-use Rattle.defs_token.specs.Step.{Step, act_of, gives_node, has_break}
-use Rattle.defs_token.specs.Column.{is_in_column}
-use Rattle.defs_token.specs.Key.{Line, free, taken, waits, is_waiting, begins_free_line, line_past_separation, Outside, line_past}
-use Rattle.defs_token.specs.FlowEntry.{Entry, begun_by, is_renewed, entries_past}
-use Rattle.defs_token.specs.RowAccount.{Site, Account, is_in_flow, site_past, may_stand, on_one_line, past_outside, past_inside, past_piece, account_past}
+use Rattle.proof_scanner.proofs.Common.{act_of, begins_free_line, begun_by, entries_past, free, gives_node, is_in_column, is_renewed, is_waiting, LeadsTo, line_past_separation, may_stand, Outside, past_inside, past_outside, past_piece, Position, Site, site_past, spelled_to, taken}
+use Rattle.defs_token.specs.Step.{Step, has_break}
+use Rattle.defs_token.specs.Key.{Line, waits, line_past}
+use Rattle.defs_token.specs.FlowEntry.{Entry}
+use Rattle.defs_token.specs.RowAccount.{Account, is_in_flow, on_one_line, account_past}
 use Rattle.proof_row.proofs.Written.{At}
 use Rattle.proof_scanner.proofs.Sound.Sides.{with_entries}
-use Rattle.proof_scanner.specs.Ways.{Stop, spelled_to, LeadsTo}
+use Rattle.proof_scanner.specs.Ways.{Stop}
 use Rattle.proof_scanner.proofs.Complete.Nodes.Choices.{same_of}
 use Rattle.proof_scanner.proofs.Complete.Steps.{out, WentOutside, went_outside, WentInside, went_inside}
 

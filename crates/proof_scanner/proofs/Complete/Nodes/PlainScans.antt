@@ -2,22 +2,18 @@
 use Rattle.std.proofs.Common.{◌≡◌, ℕ, suc, ◌≤◌, List, [], ◌∷◌, ◌++◌, Bool, true, false, not, ◌&&◌, ◌||◌, ◌==◌, nat_lt, slice_index, if◌then◌else◌, Option, Ok, refl, ap, sym, ◌∙◌, subst, append_assoc, arith, ◌⊎◌, inl, inr}
 use Rattle.std.proofs.lemmas.Bool.{and_parts, eqb-true, not-true}
 use Rattle.std.proofs.lemmas.Bool.Decides.{nat_tests}
-use Rattle.defs_text.specs.Position.{Position}
+use Rattle.proof_scanner.proofs.Common.{after_blank, and_false, at_dash, begins_flow, begins_white, collection_of, ends_plain, ends_with_content, fail, Fault, has_dash_before_flow, has_no_nul, is_gap, is_nul, on, Plain, plain_lines_fit, Position, run, same_blank, same_break, Stand, stand_after, stop, stops, Turn, turned}
 use Rattle.defs_text.specs.Classes as classes
-use Rattle.defs_text.specs.Classes.{is_nul, is_flow}
+use Rattle.defs_text.specs.Classes.{is_flow}
 use Rattle.defs_token.specs.Plain as defs
-use Rattle.defs_token.specs.Plain.{Stand, after_blank, on_line, past, past_blank, begins_flow, ends_at_colon, ends_at_comment, ends_at_line, ends_plain, stops, ends_with_content}
-use Rattle.defs_token.specs.Lines.{plain_lines_fit, has_dash_before_flow}
+use Rattle.defs_token.specs.Plain.{on_line, past, past_blank, ends_at_colon, ends_at_comment, ends_at_line}
 use Rattle.yaml_chars.specs.Class.{is_break, is_blank}
-use Rattle.yaml_tokens.specs.declared.problem.Fault.{Fault}
 use Rattle.model_scanner.specs.declared.context.Context.{Context}
-use Rattle.model_scanner.specs.Machine.{Turn, stop, fail, on, turned, Stop, run, Read, at_marker}
+use Rattle.model_scanner.specs.Machine.{Stop, Read, at_marker}
 use Rattle.model_scanner.specs.Folding.{nothing, joined}
-use Rattle.model_scanner.specs.Plain.{Mode, first, inside, between, tabs, PlainState, can_be_plain, at_char, is_shallow, at_dash, at_plain, goes_on, begun, turn_in, turn, Plain, starts, plain}
-use Rattle.proof_lexers.proofs.Bridges.{same_break, same_blank, and_false}
+use Rattle.model_scanner.specs.Plain.{Mode, first, inside, between, tabs, PlainState, can_be_plain, at_char, is_shallow, at_plain, goes_on, begun, turn_in, turn, starts, plain}
 use Rattle.proof_lexers.proofs.Plain.Turns.{can_be, line_is}
-use Rattle.defs_text.specs.Text.{has_no_nul}
-use Rattle.proof_lexers.specs.PlainEnds.{collection_of, is_white, is_gap, begins_white, stand_after}
+use Rattle.proof_lexers.specs.PlainEnds.{is_white}
 use Rattle.proof_scanner.proofs.Sound.PlainLines.{Spot, in_text, at, tabbed, spot_past, past_spot, may_go, may_stop, tabs_fit, dashes_fit, spot_of, is_apart, begins_break, IsCalm, IsAt, Goes, stays, fails, goes, turn_goes}
 use Rattle.proof_scanner.proofs.Complete.Nodes.PlainTexts.{white_may_go, tab_is_blank, IsClearGap, plain_tabs, plain_dashes}
 

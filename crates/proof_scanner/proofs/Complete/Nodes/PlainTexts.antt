@@ -3,21 +3,17 @@ use Rattle.std.proofs.Common.{◌≡◌, ℕ, zero, suc, ◌-◌, ◌<◌, List,
 use Rattle.std.proofs.Math.Bool.{or-true}
 use Rattle.std.proofs.lemmas.Bool.{and_parts, eqb-true, not-true}
 use Rattle.std.proofs.lemmas.Bool.Decides.{nat_tests}
+use Rattle.proof_scanner.proofs.Common.{begins_flow, ends_plain, ends_with_content, has_dash_before_flow, has_tab_within, is_at_comment_or_end, is_before_line_feed, is_blanks, is_gap, is_one_of, leading, plain_lines_fit, same_blank, same_break, split, Stand}
 use Rattle.defs_text.specs.Classes as classes
-use Rattle.defs_text.specs.Classes.{is_one_of, is_flow}
-use Rattle.defs_text.specs.Breaks.{split, is_before_line_feed}
-use Rattle.defs_text.specs.Tags.{leading}
-use Rattle.defs_token.specs.Separation.{is_blanks}
-use Rattle.defs_token.specs.Plain.{Stand, past, begins_flow, ends_plain, goes_on, ends_with_content}
+use Rattle.defs_text.specs.Classes.{is_flow}
+use Rattle.defs_token.specs.Plain.{past, goes_on}
 use Rattle.defs_token.specs.Step.{has_break}
-use Rattle.defs_token.specs.Indentation.{has_tab_within, last_line}
-use Rattle.defs_token.specs.Lines.{after_first, lines_have_no_tab, plain_lines_fit, has_dash_before_flow}
+use Rattle.defs_token.specs.Indentation.{last_line}
+use Rattle.defs_token.specs.Lines.{after_first, lines_have_no_tab}
 use Rattle.yaml_chars.specs.Class.{is_break, is_blank}
 use Rattle.proof_lexers.proofs.Plain.Found.{no_flow_in}
-use Rattle.proof_lexers.proofs.Bridges.{same_break, same_blank}
-use Rattle.proof_lexers.specs.PlainEnds.{is_white, is_gap}
+use Rattle.proof_lexers.specs.PlainEnds.{is_white}
 use Rattle.proof_row.proofs.Runs.{joined}
-use Rattle.proof_scanner.specs.StandsInRow.{is_at_comment_or_end}
 use Rattle.proof_scanner.proofs.Sound.LastLines.{last_first, last_whole}
 use Rattle.proof_scanner.proofs.Sound.PlainLines.{Spot, in_text, at, tabbed, spot_past, past_spot, may_go, tabs_fit, dashes_fit, first_line, line_is, lines_are, all_lines, feed_first, first_is, others_are, white_is_no_dash, not_apart}
 use Rattle.proof_scanner.proofs.Sound.TabsWithin.{none_before}

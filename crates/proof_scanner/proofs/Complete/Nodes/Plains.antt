@@ -3,45 +3,32 @@ use Rattle.std.proofs.Common.{◌≡◌, ℕ, ◌≤◌, List, [], ◌∷◌, �
 use Rattle.std.proofs.Math.Bool.{or-true}
 use Rattle.std.proofs.lemmas.Bool.{and_parts, eqb-true, not-true}
 use Rattle.std.proofs.lemmas.Bool.Decides.{nat_tests}
+use Rattle.proof_scanner.proofs.Common.{act_of, allow_key, are_marks, at_dash, begins_flow, begins_plain, begins_separation, begins_white, collection_of, comes_plain, context, dashes, ends_with_content, fetch_plain_scalar, further_lines_stand, gives_node, GoesHere, has_dash_before_flow, has_no_nul, has_tab_within, in_flow, innermost, is_adjacent, is_at_comment_or_end, is_at_gap, is_deep_enough, is_document_marker, is_empty, is_gap, is_indented_by_spaces, is_one_of, is_separation, is_whole_plain, kind_at, LeadsTo, least_column, least_for, Levels, lexed, may_begin, may_precede, may_stand, on_held, Plain, plain_lines_fit, Position, previous_by, push, ScannerState, Site, spelled_to, stops, Style, Succeeds, Tok, unroll_non_block_indents, Whole}
 use Rattle.defs_text.specs.Classes as classes
-use Rattle.defs_text.specs.Classes.{is_one_of, is_at_gap, are_marks, is_document_marker}
-use Rattle.defs_text.specs.Position.{Position}
-use Rattle.defs_text.specs.Text.{is_empty, has_no_nul}
-use Rattle.defs_token.specs.Token.{Style, Tok}
-use Rattle.defs_token.specs.Account.{is_adjacent}
 use Rattle.defs_token.specs.Plain as defs
-use Rattle.defs_token.specs.Plain.{begins_flow, may_begin, begins_plain, is_whole_plain, goes_on, ends_with_content, stops}
-use Rattle.defs_token.specs.Separation.{is_separation}
-use Rattle.defs_token.specs.Step.{Step, act_of, gives_node, previous_by, has_break, plain_scalar}
-use Rattle.defs_token.specs.Column.{blocks_at, innermost}
-use Rattle.defs_token.specs.Indentation.{least_column, last_line, has_tab_within, is_indented_by_spaces}
-use Rattle.defs_token.specs.Lines.{further_lines_stand, plain_lines_fit, has_dash_before_flow}
-use Rattle.defs_token.specs.Following.{may_precede}
-use Rattle.defs_token.specs.RowAccount.{Site, Account, is_in_flow, least_for, is_deep_enough, may_stand, account_past}
+use Rattle.defs_token.specs.Plain.{goes_on}
+use Rattle.defs_token.specs.Step.{Step, has_break, plain_scalar}
+use Rattle.defs_token.specs.Column.{blocks_at}
+use Rattle.defs_token.specs.Indentation.{last_line}
+use Rattle.defs_token.specs.RowAccount.{Account, is_in_flow, account_past}
 use Rattle.model_scanner.specs.Machine as machine
-use Rattle.model_scanner.specs.Plain.{Plain, plain, at_dash}
+use Rattle.model_scanner.specs.Plain.{plain}
 use Rattle.model_scanner.specs.declared.context.Context.{Context}
-use Rattle.model_scanner.specs.Indents.{Levels, unroll_non_block_indents}
-use Rattle.model_scanner.specs.State.{ScannerState, in_flow, on_held, push, lexed}
-use Rattle.model_scanner.specs.Flow.{allow_key}
-use Rattle.model_scanner.specs.Document.{context, after_plain, fetch_plain_scalar}
-use Rattle.proof_lexers.specs.PlainEnds.{collection_of, is_white, is_gap, begins_white}
-use Rattle.proof_lexers.specs.Separations.{begins_separation}
-use Rattle.proof_scanner.specs.PiecesRead.{comes_plain}
+use Rattle.model_scanner.specs.Document.{after_plain}
+use Rattle.proof_lexers.specs.PlainEnds.{is_white}
 use Rattle.proof_scanner.proofs.Cut.Nodes.{IsDeep}
 use Rattle.proof_scanner.proofs.Cut.Pieces.Separations.{gap_is_separation}
 use Rattle.proof_scanner.proofs.Cut.Saved.{saved_keys, saved_is}
-use Rattle.proof_row.specs.Ends.{plain_scalar as plain_kind, dashes, kind_at, kind_by}
-use Rattle.proof_row.proofs.Begins.{Whole}
+use Rattle.proof_row.specs.Ends.{plain_scalar as plain_kind, kind_by}
 use Rattle.proof_row.proofs.Written.{At}
-use Rattle.proof_scanner.specs.StandsInRow.{columns, is_at_comment_or_end}
+use Rattle.proof_scanner.specs.StandsInRow.{columns}
 use Rattle.proof_scanner.proofs.Sound.Arrivals.{clean_after}
 use Rattle.proof_scanner.proofs.Sound.PlainKeeps.{no_comment, same_innermost, gone, closed, ctx, d, scalar_held, is_read, comes_as_held}
 use Rattle.proof_scanner.proofs.Sound.PlainLines.{dash_is}
 use Rattle.proof_scanner.proofs.Sound.ReadNodes.{state_after}
 use Rattle.proof_scanner.proofs.Sound.WithoutOpen.{AreClosed}
-use Rattle.proof_scanner.specs.Ways.{Stop, spelled_to, LeadsTo}
-use Rattle.proof_scanner.specs.Goes.{Succeeds, went, Goes, GoesHere}
+use Rattle.proof_scanner.specs.Ways.{Stop}
+use Rattle.proof_scanner.specs.Goes.{went, Goes}
 use Rattle.proof_scanner.proofs.Complete.EachReads.{before_here}
 use Rattle.proof_scanner.proofs.Complete.Nodes.Past.{NodePast, node_past}
 use Rattle.proof_scanner.proofs.Complete.Nodes.PlainScans.{plain_succeeds}

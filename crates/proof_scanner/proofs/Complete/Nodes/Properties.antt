@@ -1,31 +1,21 @@
 -- Anchors, aliases and tags: where the row goes on with one the scanner reads it, and the row goes on after it.
 use Rattle.std.proofs.Common.{◌≡◌, ℕ, List, [], ◌∷◌, ◌++◌, Bool, true, false, if◌then◌else◌, Some, Result, Ok, refl, ap, sym, ◌∙◌, subst}
 use Rattle.std.proofs.lemmas.Bool.{and_parts}
-use Rattle.defs_text.specs.Classes.{is_blank, is_break, is_nul, is_blank_or_end, is_flow, is_anchor_name}
-use Rattle.defs_text.specs.Position.{Position}
-use Rattle.defs_text.specs.Tags.{Tag, all_of, written_tag}
-use Rattle.defs_token.specs.Token.{Tok}
-use Rattle.defs_token.specs.Piece.{IsNamed, goes_on_with_name}
-use Rattle.defs_token.specs.Account.{is_adjacent}
+use Rattle.proof_scanner.proofs.Common.{after_tag, all_of, allow_key, anchor_token, Fault, fetch_anchor, fetch_tag, go_on, goes_on_with_name, GoesHere, Held, in_flow, is_adjacent, is_anchor_name, is_blank_or_end, is_nul, kind_at, lexed, may_follow, NameEndsAs, nameless, names_end, node_start, on_held, Position, push, ScannerState, spelled_to, Succeeds, tag_text, tags_are_read, Tok, unled, Whole, written_tag}
+use Rattle.defs_text.specs.Classes.{is_blank, is_break, is_flow}
+use Rattle.defs_text.specs.Tags.{Tag}
+use Rattle.defs_token.specs.Piece.{IsNamed}
 use Rattle.defs_token.specs.Step.{Step}
-use Rattle.yaml_tokens.specs.declared.problem.Fault.{Fault}
 use Rattle.model_scanner.specs.Machine as machine
 use Rattle.model_scanner.specs.Anchor.{anchor_name}
 use Rattle.model_scanner.specs.Tag as tags
-use Rattle.model_scanner.specs.State.{Held, ScannerState, in_flow, on_held, push, go_on, lexed}
-use Rattle.model_scanner.specs.Flow.{allow_key}
-use Rattle.model_scanner.specs.Document.{anchor_token, unled, node_start, fetch_anchor, fetch_tag}
-use Rattle.proof_lexers.specs.NameEnds.{NameEndsAs, named, nameless}
-use Rattle.proof_lexers.specs.TagEnds.{may_follow, after_tag}
-use Rattle.proof_lexers.proofs.Properties.Names.{names_end}
-use Rattle.proof_lexers.proofs.Properties.TagReads.{tags_are_read}
+use Rattle.proof_lexers.specs.NameEnds.{named}
 use Rattle.proof_scanner.proofs.Cut.Nodes.{IsDeep}
 use Rattle.proof_scanner.proofs.Cut.Saved.{saved_is}
-use Rattle.proof_row.specs.Ends.{Kind, alias_name as alias_kind, anchor_name as anchor_kind, tag_text, kind_at}
-use Rattle.proof_row.proofs.Begins.{Whole}
+use Rattle.proof_row.specs.Ends.{Kind, alias_name as alias_kind, anchor_name as anchor_kind}
 use Rattle.proof_scanner.proofs.Sound.Properties.{IsProperty, IsPropertyToken, name_token, tag_token, property_read, property_is_read, name_property, tag_property}
-use Rattle.proof_scanner.specs.Ways.{Stop, spelled_to}
-use Rattle.proof_scanner.specs.Goes.{Succeeds, went, Goes, GoesHere}
+use Rattle.proof_scanner.specs.Ways.{Stop}
+use Rattle.proof_scanner.specs.Goes.{went, Goes}
 use Rattle.proof_scanner.proofs.Complete.EachReads.{Reads, before_here}
 use Rattle.proof_scanner.proofs.Complete.Nodes.Read.{node_goes}
 use Rattle.proof_scanner.proofs.Complete.Pieces.{context_here, PieceHere, piece_here}

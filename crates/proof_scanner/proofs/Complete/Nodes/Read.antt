@@ -1,17 +1,12 @@
 -- A part of a node that is no collection was read where a piece begins, and the row goes on there: then it goes on after it.
 use Rattle.std.proofs.Common.{◌≡◌, ℕ, ◌≤◌, List, [], ◌∷◌, ◌++◌, Bool, true, false, ◌&&◌, Option, Some, None, refl, ap, sym, ◌∙◌, subst, arith, ◌⊎◌, inl, inr}
-use Rattle.defs_text.specs.Position.{Position, position_after}
-use Rattle.defs_text.specs.Text.{is_empty, has_no_nul}
-use Rattle.defs_token.specs.Step.{Step, Act, act_of, gives_node, has_break}
-use Rattle.defs_token.specs.Column.{is_in_column}
-use Rattle.defs_token.specs.Key.{Line, taken, is_waiting, begins_free_line, Outside, line_past}
-use Rattle.defs_token.specs.FlowEntry.{Entry, begun_by, is_renewed, entries_past}
-use Rattle.defs_token.specs.RowAccount.{Site, Account, site_in, site_past}
-use Rattle.model_scanner.specs.declared.level.FlowLevel.{FlowLevel}
-use Rattle.model_scanner.specs.State.{Key, ScannerState, pop}
-use Rattle.proof_scanner.specs.Here.{IsLive}
+use Rattle.proof_scanner.proofs.Common.{Act, act_of, begins_free_line, begun_by, entries_by, entries_past, entry_by, first_choice, FlowLevel, gives_node, GoesHere, has_no_nul, is_empty, is_in_column, is_renewed, is_waiting, IsLive, Key, LeadsTo, line_by, MayChoose, Outside, outside_key, pop, Position, position_after, ScannerState, Site, site_in, site_past, spelled_to, taken}
+use Rattle.defs_token.specs.Step.{Step, has_break}
+use Rattle.defs_token.specs.Key.{Line, line_past}
+use Rattle.defs_token.specs.FlowEntry.{Entry}
+use Rattle.defs_token.specs.RowAccount.{Account}
 use Rattle.proof_scanner.proofs.Cut.Nodes.{IsDeep}
-use Rattle.proof_scanner.specs.Choices.{line_by, entry_by, entries_by, first_choice, outside_key, chosen, MayChoose}
+use Rattle.proof_scanner.specs.Choices.{chosen}
 use Rattle.proof_scanner.proofs.Sound.Around.{line_through}
 use Rattle.proof_scanner.proofs.Sound.KeyStarts.{new_key, keys_saved}
 use Rattle.proof_scanner.proofs.Sound.NodeSteps.{saved, entry_past_node}
@@ -21,8 +16,8 @@ use Rattle.proof_scanner.proofs.Sound.NodesOutside.{Outer}
 use Rattle.proof_scanner.proofs.Sound.Outsides.{must_be_here}
 use Rattle.proof_scanner.proofs.Sound.ReadNodes.{Read, next_of, state_after, site_then, IsRead, here_is, outer_node, is_outer_node, inner_node, is_inner_node, base_outside, base_inside, node_outside, node_inside}
 use Rattle.proof_scanner.proofs.Sound.Sides.{with_entries, ArrivesBy}
-use Rattle.proof_scanner.specs.Ways.{Stop, spelled_to, LeadsTo}
-use Rattle.proof_scanner.specs.Goes.{Goes, GoesHere}
+use Rattle.proof_scanner.specs.Ways.{Stop}
+use Rattle.proof_scanner.specs.Goes.{Goes}
 use Rattle.proof_scanner.proofs.Complete.Nodes.Choices.{separated_by, ChosenOutside, chosen_outside, ChosenInside, chosen_inside}
 use Rattle.proof_scanner.proofs.Complete.Sides.{GoesOutside, GoesInside, goes_side, goes_on}
 use Rattle.proof_scanner.proofs.Complete.Steps.{GoesPast, step_read, WentOutside, went_outside, WentInside, went_inside}

@@ -2,24 +2,16 @@
 use Rattle.std.proofs.Common.{◌≡◌, ℕ, ◌+◌, ◌≤◌, List, [], ◌∷◌, ◌++◌, Bool, true, false, not, ◌&&◌, ◌||◌, ◌==◌, nat_lt, nat_le, if◌then◌else◌, length, Option, Some, None, refl, ap, sym, ◌∙◌, arith}
 use Rattle.std.proofs.lemmas.Bool.{and_parts}
 use Rattle.std.proofs.lemmas.Bool.Decides.{nat_tests}
-use Rattle.defs_text.specs.Position.{Position, position_past, position_after}
-use Rattle.defs_text.specs.Text.{is_empty, has_no_nul}
-use Rattle.defs_text.specs.Classes.{space, tab, is_break, is_nul, is_at_end}
-use Rattle.defs_text.specs.Breaks.{split}
-use Rattle.defs_text.specs.FlowScalar.{begins_with}
-use Rattle.defs_text.specs.BlockScalar.{is_spaces, leading_spaces, is_empty_line}
-use Rattle.defs_token.specs.BlockPiece.{BlockRead, block_read, first_content}
-use Rattle.defs_token.specs.Column.{innermost}
-use Rattle.defs_token.specs.Indentation.{least_column}
-use Rattle.defs_token.specs.Following.{are_empty, lines_may_end, read_may_end, block_may_end}
+use Rattle.proof_scanner.proofs.Common.{along, are_empty, AreLines, begins_with, block_may_end, block_read, BlockRead, collection_of, further_position, has_no_nul, innermost, is_at_end, is_empty, is_nul, is_tabbed, leading_spaces, least_column, lines_may_end, Position, position_after, position_past, read_may_end, same_break, spell, split, split_spell, tab, texts}
+use Rattle.defs_text.specs.Classes.{space, is_break}
+use Rattle.defs_text.specs.BlockScalar.{is_spaces, is_empty_line}
+use Rattle.defs_token.specs.BlockPiece.{first_content}
 use Rattle.model_scanner.specs.Machine.{past}
-use Rattle.proof_lexers.specs.HeaderEnds.{along, is_in_line}
-use Rattle.proof_lexers.specs.BlockScan.{is_none, is_single, is_tabbed, is_shallow, further_position}
-use Rattle.proof_lexers.specs.PlainEnds.{collection_of}
-use Rattle.proof_lexers.proofs.Bridges.{same_break}
+use Rattle.proof_lexers.specs.HeaderEnds.{is_in_line}
+use Rattle.proof_lexers.specs.BlockScan.{is_none, is_single, is_shallow}
 use Rattle.proof_lexers.proofs.Blocks.Margins.{after_break, after_line}
 use Rattle.proof_lexers.proofs.Blocks.Positions.{past_is, first_empty, first_header}
-use Rattle.proof_lexers.proofs.Blocks.Written.{Line, put, spell, texts, AreLines, split_spell}
+use Rattle.proof_lexers.proofs.Blocks.Written.{Line, put}
 use Rattle.proof_scanner.proofs.Sound.BlockEnds.{IsLeast, Written, written, spaces_col, ends_at_margin}
 
 -- ---- a scalar without content

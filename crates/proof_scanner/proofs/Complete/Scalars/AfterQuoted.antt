@@ -2,34 +2,21 @@
 use Rattle.std.proofs.Common.{◌≡◌, ℕ, List, [], ◌∷◌, ◌++◌, Bool, true, false, not, ◌&&◌, ◌||◌, ◌==◌, if◌then◌else◌, Result, Ok, Err, refl, ap, sym, ◌∙◌, subst, append_assoc, arith}
 use Rattle.std.proofs.lemmas.Bool.{and_parts, eqb-true}
 use Rattle.std.proofs.lemmas.Bool.Decides.{nat_tests}
-use Rattle.defs_text.specs.Position.{Position, position_after}
+use Rattle.proof_scanner.proofs.Common.{begins_with, check_after_quoted, ends_spaces, Fault, glued, held_of, in_flow, is_blanks, is_blanks_and_comment, is_breakz, is_on_line, is_rest_of_line, is_separation, leading, lexed, line_is_done, may_follow_quoted, peek, Position, position_after, quoted_may_end, ScannerState, skip_spaces, spaces, spaces_are_passed, SpacesAs, Succeeds, Whitespace, Yes, ◌>>=◌}
 use Rattle.defs_text.specs.Classes.{is_blank, is_break}
-use Rattle.defs_text.specs.Breaks.{is_blanks_and_comment, is_rest_of_line}
-use Rattle.defs_text.specs.FlowScalar.{begins_with}
-use Rattle.defs_text.specs.Tags.{leading, after}
-use Rattle.defs_token.specs.Separation.{is_separation, is_blanks}
-use Rattle.defs_token.specs.Step.{has_break, is_on_line}
-use Rattle.defs_token.specs.Following.{line_is_done, goes_on_quoted, quoted_may_end}
-use Rattle.yaml_chars.specs.Class.{is_breakz}
+use Rattle.defs_text.specs.Tags.{after}
+use Rattle.defs_token.specs.Step.{has_break}
+use Rattle.defs_token.specs.Following.{goes_on_quoted}
 use Rattle.yaml_chars.specs.Class as model_classes
-use Rattle.yaml_tokens.specs.declared.problem.Fault.{Fault}
 use Rattle.yaml_tokens.specs.declared.problem.Fault.TheVariants.{At}
 use Rattle.yaml_tokens.specs.declared.problem.Problem.TheVariants as problem
-use Rattle.model_scanner.specs.declared.context.SkipTabs.TheVariants.{Yes}
-use Rattle.model_scanner.specs.declared.context.Whitespace.{Whitespace}
 use Rattle.model_scanner.specs.Machine.{Read}
 use Rattle.model_scanner.specs.Blanks.{space}
-use Rattle.model_scanner.specs.State.{ScannerState, ◌>>=◌, in_flow, peek, lexed}
-use Rattle.model_scanner.specs.Space.{skip_spaces}
-use Rattle.model_scanner.specs.Document.{may_follow_quoted, check_after_quoted}
-use Rattle.model_scanner.proofs.Holds.{held_of}
 use Rattle.proof_lexers.specs.PlainEnds as plains
-use Rattle.proof_lexers.specs.Separations.{ends_spaces, SpacesAs, spaces, glued}
-use Rattle.proof_lexers.proofs.Separation.Spaces.{spaces_are_passed}
 use Rattle.proof_scanner.proofs.Cut.Passes.{Spaced, spaces_skipped}
 use Rattle.proof_scanner.proofs.Sound.Passed.{same_has_break}
 use Rattle.proof_scanner.proofs.Sound.QuotedEnds.{same_line, blanks_alone, after_blanks, not_at_end}
-use Rattle.proof_scanner.specs.Goes.{Succeeds, went}
+use Rattle.proof_scanner.specs.Goes.{went}
 use Rattle.proof_scanner.proofs.Complete.Runs.{Left}
 
 -- ---- the blanks after it

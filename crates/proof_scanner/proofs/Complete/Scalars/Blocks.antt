@@ -1,46 +1,24 @@
 -- A block scalar of the row is read, and the row goes on after it.
 use Rattle.std.proofs.Common.{◌≡◌, ℕ, List, [], ◌∷◌, ◌++◌, Bool, true, false, not, if◌then◌else◌, Option, Some, None, Ok, refl, ap, sym, ◌∙◌, subst, inl, inr, ◌⊎◌, arith}
-use Rattle.defs_text.specs.Classes.{is_blank_or_end, is_blank, is_break, is_nul, is_flow, is_at_end}
-use Rattle.defs_text.specs.Breaks.{put_first, split}
-use Rattle.defs_text.specs.Position.{Position, position_after}
-use Rattle.defs_text.specs.Text.{is_empty, has_no_nul}
-use Rattle.defs_text.specs.BlockScalar.{BlockStyle, literal, folded, Header, Body, header_of, block_value}
+use Rattle.proof_scanner.proofs.Common.{allow_key, begins_free_line, begun_by, Block, block, block_may_end, block_position, block_read, block_style, block_value, BlockRead, BlockStyle, collection_of, column_of, content_position, context_of, fetch_block_scalar, free, further_lines_stand, gives_block_scalar, has_no_nul, header_of, indicator_of, innermost, is_at_end, is_blank_or_end, is_deep_enough, is_empty, is_in_column, is_indented_by_spaces, is_literal_style, is_nul, is_past, is_required, is_separation, is_waiting, IsLineHere, IsPiece, Key, LeadsTo, least_for, Levels, lexed, line_by, line_past_separation, may_precede, MayChoose, not_empty, not_ended, on_held, Outside, Position, position_after, push, put_first, read_block, read_body, read_lines, ScannerState, seen, shown_position, Site, site_at, site_here, site_in, site_past, spelled_to, split, Succeeds, taken, Tok, unroll_non_block_indents, Whole, with_value}
+use Rattle.defs_text.specs.Classes.{is_blank, is_break, is_flow}
+use Rattle.defs_text.specs.BlockScalar.{literal, folded, Header, Body}
 use Rattle.defs_token.specs.Account as pieces
-use Rattle.defs_token.specs.BlockPiece.{BlockRead, is_past, column_of, with_value, read_body, read_lines, block_read, block_position}
-use Rattle.defs_token.specs.Piece.{IsPiece}
-use Rattle.defs_token.specs.Separation.{is_separation}
-use Rattle.defs_token.specs.Token.{Tok}
-use Rattle.defs_token.specs.Column.{not_ended, innermost, is_in_column}
-use Rattle.defs_token.specs.Following.{may_precede, block_may_end}
-use Rattle.defs_token.specs.FlowEntry.{begun_by}
-use Rattle.defs_token.specs.Indentation.{is_indented_by_spaces}
-use Rattle.defs_token.specs.Key.{Line, free, taken, waits, is_waiting, begins_free_line, line_past_separation, Outside, line_past}
-use Rattle.defs_token.specs.Lines.{further_lines_stand}
-use Rattle.defs_token.specs.Step.{Step, gives_block_scalar}
-use Rattle.defs_token.specs.RowAccount.{Site, Account, site_in, site_at, site_past, least_for, is_deep_enough, seen}
-use Rattle.defs_token.specs.Tokens.{content_position, shown_position}
+use Rattle.defs_token.specs.Key.{Line, waits, line_past}
+use Rattle.defs_token.specs.Step.{Step}
+use Rattle.defs_token.specs.RowAccount.{Account}
 use Rattle.defs_token.specs.Row.{IsWritten}
 use Rattle.model_scanner.specs.Machine.{Read}
-use Rattle.model_scanner.specs.BlockScalar.{Block, block}
-use Rattle.model_scanner.specs.State.{Key, ScannerState, on_held, push, lexed}
-use Rattle.model_scanner.specs.Keys.{is_required}
-use Rattle.model_scanner.specs.Flow.{allow_key}
-use Rattle.model_scanner.specs.Indents.{Levels, unroll_non_block_indents}
-use Rattle.model_scanner.specs.Document.{block_style, fetch_block_scalar}
-use Rattle.proof_lexers.specs.HeaderEnds.{indicator_of}
-use Rattle.proof_lexers.specs.BlockScan.{is_literal_style, read_block, IsRead, read, shallow, tabbed}
-use Rattle.proof_lexers.specs.PlainEnds.{collection_of}
+use Rattle.proof_lexers.specs.BlockScan.{IsRead, read, shallow, tabbed}
 use Rattle.proof_lexers.proofs.Blocks.HeaderFacts.{said}
 use Rattle.proof_lexers.proofs.Blocks.Pieces.{pieces_are_read}
 use Rattle.proof_row.specs.Ends.{block_scalar, kind_of}
-use Rattle.proof_row.proofs.Begins.{context_of, Whole, piece_of as any_piece}
-use Rattle.proof_row.proofs.Written.{At, not_empty, is_marker_kind, marker_by_kind}
+use Rattle.proof_row.proofs.Begins.{piece_of as any_piece}
+use Rattle.proof_row.proofs.Written.{At, is_marker_kind, marker_by_kind}
 use Rattle.proof_scanner.proofs.Cut.Nodes.{IsDeep}
 use Rattle.proof_scanner.proofs.Cut.Saved.{saved_keys, saved_is}
 use Rattle.proof_scanner.proofs.Cut.Pieces.Blocks.{spaces_of, spaces_cut, piece_of}
 use Rattle.proof_scanner.proofs.Cut.Pieces.Quoted.{some_chars}
-use Rattle.proof_scanner.specs.Choices.{line_by, MayChoose}
-use Rattle.proof_scanner.specs.Arrives.{site_here, IsLineHere}
 use Rattle.proof_scanner.proofs.Sound.Arrivals.{clean_after}
 use Rattle.proof_scanner.proofs.Sound.BlockEnds.{IsLeast, BlockAs, block_clear}
 use Rattle.proof_scanner.proofs.Sound.BlockScalars.{IsBlockToken, block_token, same_column, levels_then, read_state, block_base, block_stands}
@@ -51,8 +29,8 @@ use Rattle.proof_scanner.proofs.Sound.OutsidePieces.{line_free, none_open}
 use Rattle.proof_scanner.proofs.Sound.Outsides.{must_be_here}
 use Rattle.proof_scanner.proofs.Sound.Sides.{ArrivesBy, ArrivesOutside, StandsAt}
 use Rattle.proof_scanner.proofs.Sound.WithoutOpen.{AreClosed, without_is}
-use Rattle.proof_scanner.specs.Ways.{Stop, spelled_to, LeadsTo}
-use Rattle.proof_scanner.specs.Goes.{Succeeds, went, Goes}
+use Rattle.proof_scanner.specs.Ways.{Stop}
+use Rattle.proof_scanner.specs.Goes.{went, Goes}
 use Rattle.proof_scanner.proofs.Complete.EachReads.{Reads}
 use Rattle.proof_scanner.proofs.Complete.KindsOfPieces.{kind_of_token}
 use Rattle.proof_scanner.proofs.Complete.Sides.{GoesOutside, GoesInside, goes_side, goes_on}

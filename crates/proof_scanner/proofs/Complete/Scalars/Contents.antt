@@ -4,20 +4,16 @@ use Rattle.std.specs.Char.{digit_value, is_digit}
 use Rattle.std.proofs.lemmas.Bool.{and_parts, eqb-true}
 use Rattle.std.proofs.lemmas.Bool.Decides.{nat_tests}
 use Rattle.std.proofs.lemmas.List.{take-append-drop}
-use Rattle.defs_text.specs.Position.{Position}
+use Rattle.proof_scanner.proofs.Common.{along, and_false, begins_with, Begun, content, double_quoted_element, Element, element_of, escape, escape_by, escapes, Fault, Folded, gap, hexadecimal, is_character_code, lookup, numbered, numeric_escape, numeric_escapes, plain_element, Position, same_blank, same_break, scan, single_quoted_element, Spelled}
 use Rattle.defs_text.specs.Classes as classes
-use Rattle.defs_text.specs.FlowScalar.{Element, content, Spelled, plain_element, single_quoted_element, double_quoted_element, begins_with, lookup, escapes, numeric_escapes, hexadecimal, is_character_code, numbered, numeric_escape, escape_by, escape}
 use Rattle.yaml_chars.specs.Class.{is_break, is_blank}
-use Rattle.yaml_tokens.specs.declared.problem.Fault.{Fault}
 use Rattle.model_scanner.specs.declared.context.Context.{Context}
 use Rattle.model_scanner.specs.Machine.{Read, past}
-use Rattle.model_scanner.specs.Folding.{Folded, with_char, joined}
-use Rattle.model_scanner.specs.Quoted.{gap, inside, quote_of, digits_from, Escape, escape_of}
+use Rattle.model_scanner.specs.Folding.{with_char, joined}
+use Rattle.model_scanner.specs.Quoted.{inside, quote_of, digits_from, Escape, escape_of}
 use Rattle.model_scanner.proofs.QuotedLemmas.{named_code, digit_turn, coded}
-use Rattle.proof_lexers.specs.HeaderEnds.{along}
-use Rattle.proof_lexers.specs.QuotedScan.{element_of}
-use Rattle.proof_lexers.proofs.Bridges.{same_break, same_blank, same_digit, same_code, same_escape, and_false}
-use Rattle.proof_lexers.proofs.Quoted.Turns.{plain, spelled, scan, Begun, begun, marked, shallow, begins, inside_is_gap}
+use Rattle.proof_lexers.proofs.Bridges.{same_digit, same_code, same_escape}
+use Rattle.proof_lexers.proofs.Quoted.Turns.{plain, spelled, begun, marked, shallow, begins, inside_is_gap}
 use Rattle.proof_lexers.proofs.Quoted.Elements.{has_digits}
 use Rattle.proof_lexers.proofs.Quoted.Lines.{IsIn, moves, IsWritten, char_goes, quote_goes, named_goes}
 use Rattle.proof_scanner.proofs.Sound.QuotedBreaks.{is_white}

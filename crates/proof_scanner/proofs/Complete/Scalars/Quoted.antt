@@ -2,42 +2,29 @@
 use Rattle.std.proofs.Common.{◌≡◌, ℕ, ◌-◌, List, [], ◌∷◌, ◌++◌, Bool, true, false, not, ◌&&◌, Option, Some, Ok, refl, ap, sym, ◌∙◌, subst, append_assoc, inr}
 use Rattle.std.proofs.lemmas.Bool.{and_parts}
 use Rattle.std.proofs.lemmas.List.{append_cancel_right}
-use Rattle.defs_text.specs.Classes.{is_blank_or_end, is_blank, is_break, is_nul, is_flow}
-use Rattle.defs_text.specs.Position.{position_after}
-use Rattle.defs_text.specs.Text.{is_empty, has_no_nul}
-use Rattle.defs_token.specs.Token.{Tok}
+use Rattle.proof_scanner.proofs.Common.{act_of, adjacent_here, allow_key, AreEntries, check_after_quoted, context, element_of, entries_by, fetch_flow_scalar, FlowLevel, further_lines_stand, gives_node, go_on, GoesHere, has_no_nul, has_open_level, held_of, in_double_quotes, in_flow, in_single_quotes, is_blank_or_end, is_deep_enough, is_empty, is_indented_by_spaces, is_nul, Key, LeadsTo, least_column, least_for, lexed, may_precede, not_empty, on_held, position_after, push, quoted_lines_fit, quoted_may_end, quoted_scalar, quoted_style, ScannerState, seen, shown_position, Site, site_here, site_in, skip, skip_to_next_token, spelled_to, Succeeds, Tok, ◌>>=◌}
+use Rattle.defs_text.specs.Classes.{is_blank, is_break, is_flow}
 use Rattle.defs_token.specs.Account as pieces
 use Rattle.defs_token.specs.Piece.{IsSingleQuoted, IsDoubleQuoted}
-use Rattle.defs_token.specs.Step.{Step, act_of, gives_node, quoted_scalar}
-use Rattle.defs_token.specs.Indentation.{least_column, is_indented_by_spaces}
-use Rattle.defs_token.specs.Lines.{quoted_lines_fit, further_lines_stand}
-use Rattle.defs_token.specs.Following.{quoted_may_end, may_precede}
+use Rattle.defs_token.specs.Step.{Step}
 use Rattle.defs_token.specs.FlowEntry.{Entry}
-use Rattle.defs_token.specs.RowAccount.{Site, Account, is_in_flow, site_in, least_for, is_deep_enough, seen}
-use Rattle.defs_token.specs.Tokens.{shown_position}
+use Rattle.defs_token.specs.RowAccount.{Account, is_in_flow}
 use Rattle.defs_token.specs.Row.{IsWritten}
 use Rattle.model_scanner.specs.Machine as machine
 use Rattle.model_scanner.specs.Quoted.{quoted, quote_of}
-use Rattle.model_scanner.specs.declared.level.FlowLevel.{FlowLevel}
-use Rattle.model_scanner.specs.State.{Key, ScannerState, ◌>>=◌, in_flow, go_on, on_held, push, lexed}
-use Rattle.model_scanner.specs.Space.{between, skip, skip_to_next_token}
-use Rattle.model_scanner.specs.Flow.{allow_key}
-use Rattle.model_scanner.specs.Document.{context, quoted_style, check_after_quoted, adjacent_here, fetch_flow_scalar}
-use Rattle.model_scanner.proofs.Holds.{held_of}
-use Rattle.proof_lexers.specs.QuotedScan.{element_of, value_of, ends_before}
-use Rattle.proof_row.specs.Ends.{in_single_quotes, in_double_quotes}
-use Rattle.proof_row.proofs.Written.{At, not_empty}
+use Rattle.model_scanner.specs.Space.{between}
+use Rattle.proof_lexers.specs.QuotedScan.{value_of, ends_before}
+use Rattle.proof_row.proofs.Written.{At}
 use Rattle.proof_scanner.proofs.Cut.Nodes.{IsDeep}
 use Rattle.proof_scanner.proofs.Cut.Saved.{saved_keys, saved_is}
-use Rattle.proof_scanner.specs.Choices.{chosen, entries_by}
-use Rattle.proof_scanner.specs.StandsInRow.{columns, has_open_level, AreEntries}
-use Rattle.proof_scanner.specs.Arrives.{site_here}
+use Rattle.proof_scanner.specs.Choices.{chosen}
+use Rattle.proof_scanner.specs.StandsInRow.{columns}
 use Rattle.proof_scanner.proofs.Sound.Arrivals.{clean_after}
 use Rattle.proof_scanner.proofs.Sound.Skips.{Spaced}
 use Rattle.proof_scanner.proofs.Sound.QuotedEnds.{Checked, quoted_checked}
 use Rattle.proof_scanner.proofs.Sound.QuotedKeeps.{ReadNode, piece_of, QuotedAs, quoted_as, in_line, IsQuotedToken, quoted_token, least_is_less, closed, rest_is_clean, start_at, start_least, after_body, quoted_node}
-use Rattle.proof_scanner.specs.Ways.{Stop, spelled_to, LeadsTo}
-use Rattle.proof_scanner.specs.Goes.{Succeeds, went, Goes, GoesHere}
+use Rattle.proof_scanner.specs.Ways.{Stop}
+use Rattle.proof_scanner.specs.Goes.{went, Goes}
 use Rattle.proof_scanner.proofs.Complete.EachReads.{Reads}
 use Rattle.proof_scanner.proofs.Complete.Runs.{Left, left}
 use Rattle.proof_scanner.proofs.Complete.Steps.{step_here}

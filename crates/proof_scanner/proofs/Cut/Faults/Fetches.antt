@@ -1,34 +1,21 @@
 -- A refusal for a fault that stands in a text by itself comes only where that fault stands.
 use Rattle.std.proofs.Common.{◌≡◌, ℕ, ◌+◌, List, [], ◌∷◌, Bool, true, false, ◌==◌, nat_lt, if◌then◌else◌, slice_index, Result, Err, refl, ap, sym, ◌∙◌, subst}
-use Rattle.defs_text.specs.Position.{Position}
-use Rattle.defs_text.specs.Text.{is_empty, has_no_nul}
-use Rattle.yaml_chars.specs.Class.{is_blank_or_breakz}
-use Rattle.defs_token.specs.Token.{Tok}
-use Rattle.yaml_tokens.specs.declared.problem.Fault.{Fault}
-use Rattle.defs_text.specs.Classes.{is_at_gap}
-use Rattle.defs_text.specs.BlockScalar.{literal, folded, BlockStyle}
+use Rattle.proof_scanner.proofs.Common.{allow_key, begins_separation, Block, block, BlockStyle, both_hold, comes_marker, FaresAt, Fault, fetch, fetch_block_scalar, fetch_content, fetch_first_column, fetch_here, fetch_indented, fetch_next, fetch_plain_scalar, fetch_token, has_no_nul, Held, held_of, in_flow, indicator_of, is_at_gap, is_blank_or_breakz, is_empty, is_literal_style, Mapping, on_held, peek, Position, save_implicit_key, ScannerState, stale, start, Tok, unroll_indent, unroll_non_block_indents}
+use Rattle.defs_text.specs.BlockScalar.{literal, folded}
 use Rattle.model_scanner.specs.Machine.{Read}
-use Rattle.model_scanner.specs.BlockScalar.{Block, Header, block}
-use Rattle.model_scanner.specs.declared.level.FlowLevel.TheVariants.{Mapping, Entry}
-use Rattle.model_scanner.specs.State.{Held, ScannerState, peek, after, in_flow, on_held}
+use Rattle.model_scanner.specs.BlockScalar.{Header}
+use Rattle.model_scanner.specs.declared.level.FlowLevel.TheVariants.{Entry}
+use Rattle.model_scanner.specs.State.{after}
 use Rattle.model_scanner.specs.Class.{class_of}
-use Rattle.model_scanner.specs.Flow.{allow_key}
-use Rattle.model_scanner.specs.Indents.{unroll_indent, unroll_non_block_indents}
-use Rattle.model_scanner.specs.Keys.{save_implicit_key, stale}
-use Rattle.model_scanner.specs.Document.{fetch_block_scalar, fetch_plain_scalar}
-use Rattle.model_scanner.specs.Fetch.{is_value, token_by, comes_marker, fetch_token, fetch_indented, fetch_first_column, fetch_content, fetch_here, fetch_next, fetch}
-use Rattle.model_scanner.specs.Run.{IsRefused, start}
-use Rattle.model_scanner.proofs.Holds.{held_of, tried, both_hold}
+use Rattle.model_scanner.specs.Fetch.{is_value, token_by}
+use Rattle.model_scanner.specs.Run.{IsRefused}
+use Rattle.model_scanner.proofs.Holds.{tried}
 use Rattle.model_scanner.proofs.Walk as walk
 use Rattle.proof_lexers.specs.BlockScan as block_scans
-use Rattle.proof_lexers.specs.BlockScan.{is_literal_style}
 use Rattle.proof_lexers.specs.BlockEnds as block_ends
 use Rattle.proof_lexers.specs.HeaderEnds as headers
-use Rattle.proof_lexers.specs.HeaderEnds.{indicator_of}
 use Rattle.proof_lexers.proofs.Blocks.Ends as block_laws
-use Rattle.proof_lexers.specs.Separations.{begins_separation}
 use Rattle.proof_scanner.specs.Faults.{IsThere, is_shown}
-use Rattle.proof_scanner.specs.Stands.{FaresAt}
 use Rattle.proof_scanner.proofs.Cut.Pieces.Quoted.{some_chars}
 use Rattle.proof_scanner.proofs.Cut.Passes.{to_token}
 use Rattle.proof_scanner.proofs.Cut.Nodes.{clean_more, IsDeep}

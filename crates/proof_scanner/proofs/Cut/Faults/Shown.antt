@@ -1,21 +1,14 @@
 -- Rules for what is said of a refusal, and the steps of the model whose refusals show nothing of the faults above.
 use Rattle.std.proofs.Common.{◌≡◌, ℕ, List, Bool, true, false, if◌then◌else◌, map, Result, Ok, Err, refl, subst}
-use Rattle.defs_text.specs.Position.{Position}
-use Rattle.yaml_tokens.specs.declared.problem.Fault.{Fault}
 use Rattle.yaml_tokens.specs.declared.problem.Fault.TheVariants.{At}
 use Rattle.yaml_tokens.specs.declared.problem.Problem.TheVariants as problem
-use Rattle.model_scanner.specs.declared.context.SkipTabs.{SkipTabs}
-use Rattle.model_scanner.specs.declared.context.Whitespace.{Whitespace}
 use Rattle.model_scanner.specs.Machine.{Read}
 use Rattle.model_scanner.specs.Blanks.{space}
-use Rattle.model_scanner.specs.State.{Held, ScannerState, ◌>>=◌, in_flow, with_held, go_on, lexed}
 use Rattle.std.specs.List.{list_any}
-use Rattle.model_scanner.specs.Keys.{is_overdue, still, with_keys, is_required, top_key, drop_stale, stale, remove_implicit_key}
-use Rattle.model_scanner.specs.Space.{between, skip, skip_to_next_token, skip_spaces, white, skip_yaml_whitespace}
-use Rattle.proof_lexers.specs.Separations.{PassesAs, passes, refuses, GoesOverAs, goes, misses, SpacesAs, spaces, glued}
-use Rattle.proof_lexers.proofs.Separation.Separations.{separations_are_passed}
-use Rattle.proof_lexers.proofs.Separation.WhiteSpace.{white_space_is_passed}
-use Rattle.proof_lexers.proofs.Separation.Spaces.{spaces_are_passed}
+use Rattle.proof_scanner.proofs.Common.{drop_stale, Fault, glued, go_on, GoesOverAs, Held, in_flow, is_overdue, is_required, lexed, misses, PassesAs, Position, remove_implicit_key, ScannerState, separations_are_passed, skip, skip_spaces, skip_to_next_token, skip_yaml_whitespace, SkipTabs, spaces, spaces_are_passed, SpacesAs, stale, still, top_key, white, white_space_is_passed, Whitespace, with_held, ◌>>=◌}
+use Rattle.model_scanner.specs.Keys.{with_keys}
+use Rattle.model_scanner.specs.Space.{between}
+use Rattle.proof_lexers.specs.Separations.{passes, refuses, goes}
 use Rattle.proof_scanner.specs.Faults.{IsThere, is_shown}
 
 -- what holds of a result's fault, if it is one

@@ -1,31 +1,17 @@
 -- Functions of the model whose refusals show nothing of the faults that stand in a text by themselves.
 use Rattle.std.proofs.Common.{◌≡◌, ℕ, List, ◌∷◌, Bool, ◌&&◌, ◌||◌, ◌==◌, not, nat_lt, slice_index, Option, Some, None, Result, Ok, Err, refl, ap, sym, ◌∙◌, subst}
-use Rattle.defs_text.specs.Position.{Position}
-use Rattle.yaml_chars.specs.Class.{is_alpha, is_blank_or_breakz, is_breakz}
-use Rattle.defs_token.specs.Token.{Tok}
-use Rattle.yaml_tokens.specs.declared.problem.Fault.{Fault}
+use Rattle.proof_scanner.proofs.Common.{begin_key, begin_keyless_mapping, begin_keyless_value, begin_line, begin_pair, check_after_tab, check_dash, check_document_end, check_key_space, check_value_space, closed_key, directives_end, end_entry, end_flow, ended_flow, Fault, fetch_anchor, fetch_directive, fetch_document_end, fetch_document_marker, fetch_flow_collection_end, fetch_flow_entry, fetch_key, fetch_stream_end, fetch_tag, fetch_value, has_required, Held, in_flow, insert_key, is_blank_or_breakz, is_breakz, Key, names_end, next_entry, No, node_start, on_held, paired, pass_indicator, peek, Position, Problem, problem_of, roll_entry, roll_indent, ScannerState, skip_indicator, tags_end, Tok, top_key, unroll_indent, UriFault, Whitespace, with_held, Yes}
+use Rattle.yaml_chars.specs.Class.{is_alpha}
 use Rattle.yaml_tokens.specs.declared.problem.Fault.TheVariants.{At}
-use Rattle.yaml_tokens.specs.declared.problem.Problem.{Problem}
-use Rattle.defs_text.specs.Tags.{UriFault, no_octet, wrong_lead, wrong_trail, no_character}
-use Rattle.model_scanner.specs.declared.context.SkipTabs.TheVariants.{Yes, No}
-use Rattle.model_scanner.specs.declared.context.Whitespace.{Whitespace}
+use Rattle.defs_text.specs.Tags.{no_octet, wrong_lead, wrong_trail, no_character}
 use Rattle.model_scanner.specs.Machine.{Read}
 use Rattle.model_scanner.specs.Directive.{directive}
 use Rattle.model_scanner.specs.Anchor.{anchor_name}
 use Rattle.model_scanner.specs.Tag as tags
-use Rattle.model_scanner.specs.State.{Key, Held, ScannerState, peek, in_flow, with_held, on_held, skip_indicator}
-use Rattle.model_scanner.specs.Keys.{has_required, top_key}
-use Rattle.model_scanner.specs.Indents.{unroll_indent, roll_indent}
-use Rattle.model_scanner.specs.Flow.{pass_indicator, ended_flow, end_flow, next_entry, end_entry, fetch_flow_collection_end, fetch_flow_entry}
-use Rattle.model_scanner.specs.Block.{paired, opens_pair, roll_entry, check_dash, check_key_space, begin_key, fetch_key, check_after_tab, check_value_space, begin_pair, insert_key, begin_keyless_mapping, begin_keyless_value, value_of, fetch_value}
-use Rattle.model_scanner.specs.Document.{fetch_stream_end, closed_key, begin_line, fetch_directive, fetch_document_marker, check_document_end, fetch_document_end, node_start, fetch_anchor, fetch_tag}
-use Rattle.proof_lexers.specs.UriEnds.{problem_of}
+use Rattle.model_scanner.specs.Block.{opens_pair, value_of}
 use Rattle.proof_lexers.specs.NameEnds as names
 use Rattle.proof_lexers.specs.TagEnds as tag_ends
 use Rattle.proof_lexers.specs.DirectiveEnds as directives
-use Rattle.proof_lexers.proofs.Properties.Names.{names_end}
-use Rattle.proof_lexers.proofs.Properties.Tags.{tags_end}
-use Rattle.proof_lexers.proofs.Directives.Lines.{directives_end}
 use Rattle.proof_scanner.proofs.Cut.Blocks.{entry_from}
 use Rattle.proof_scanner.proofs.Cut.Faults.Shown.{Refuses, none, this, IsOther, bound, chosen, on_holding, lexes, white_other, spaced_other, spaces_other, removed_other}
 

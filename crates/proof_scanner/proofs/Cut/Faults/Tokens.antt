@@ -1,34 +1,22 @@
 -- A token's refusal: what stands in the text.
 use Rattle.std.proofs.Common.{◌≡◌, ℕ, suc, ◌≤◌, List, [], ◌∷◌, ◌++◌, Bool, true, false, ◌||◌, ◌==◌, not, nat_le, nat_lt, length, if◌then◌else◌, None, Result, Ok, Err, refl, ap, sym, ◌∙◌, subst, arith}
 use Rattle.std.proofs.lemmas.Bool.Decides.{nat_tests}
-use Rattle.defs_text.specs.Text.{is_empty, has_no_nul}
-use Rattle.defs_token.specs.Token.{Style, Tok}
-use Rattle.yaml_tokens.specs.declared.problem.Fault.{Fault}
+use Rattle.proof_scanner.proofs.Common.{account_past_row, account_past_separation, allow_key, begin_flow, begins_separation, check_after_quoted, check_block_entry, context, deepened_flow, FaresAt, Fault, fetch_block_entry, fetch_flow_collection_start, fetch_flow_scalar, fetch_plain_scalar, FlowLevel, has_no_nul, has_room, Held, in_flow, increase_flow_level, is_at_gap, is_empty, IsRow, Levels, levels_of, lexed, may_follow_quoted, node_start, on_held, peek, push, roll_one_col_indent, save_implicit_key, ScannerState, Style, Tok, unroll_non_block_indents, without_open, Yes}
 use Rattle.yaml_tokens.specs.declared.problem.Fault.TheVariants.{At}
 use Rattle.yaml_tokens.specs.declared.problem.Problem.TheVariants as problem
-use Rattle.defs_text.specs.Classes.{is_at_gap}
-use Rattle.defs_token.specs.Account.{first_account, has_room, account_past_separation}
-use Rattle.defs_token.specs.Cut.{IsRow, spelled, account_past_row}
+use Rattle.defs_token.specs.Account.{first_account}
+use Rattle.defs_token.specs.Cut.{spelled}
 use Rattle.model_scanner.specs.declared.context.Context.{Context}
-use Rattle.model_scanner.specs.declared.context.SkipTabs.TheVariants.{Yes}
 use Rattle.model_scanner.specs.Machine.{Read}
 use Rattle.model_scanner.specs.Quoted as quotes
 use Rattle.model_scanner.specs.Quoted.{quote_of}
 use Rattle.model_scanner.specs.Plain as plains
-use Rattle.model_scanner.specs.declared.level.FlowLevel.{FlowLevel}
-use Rattle.model_scanner.specs.State.{Held, ScannerState, peek, in_flow, push, on_held, lexed}
-use Rattle.model_scanner.specs.Keys.{save_implicit_key}
-use Rattle.model_scanner.specs.Indents.{Levels, without_open, roll_one_col_indent, unroll_non_block_indents}
-use Rattle.model_scanner.specs.Flow.{allow_key, increase_flow_level, deepened_flow, begin_flow, fetch_flow_collection_start}
-use Rattle.model_scanner.specs.Block.{check_block_entry, fetch_block_entry}
-use Rattle.model_scanner.specs.Document.{after_plain, context, node_start, may_follow_quoted, check_after_quoted, fetch_flow_scalar, fetch_plain_scalar}
+use Rattle.model_scanner.specs.Document.{after_plain}
 use Rattle.proof_lexers.specs.QuotedEnds as quoted_ends
 use Rattle.proof_lexers.proofs.Quoted.ScanEnds.{scans_end}
 use Rattle.proof_lexers.specs.PlainEnds as plain_ends
-use Rattle.proof_lexers.specs.Separations.{begins_separation}
 use Rattle.proof_lexers.proofs.Plain.Scalars as plain_laws
 use Rattle.proof_scanner.specs.Faults.{IsSpot, bad_escape, open_quote, marked_quote, too_deep, entry_in_flow, dash_in_flow}
-use Rattle.proof_scanner.specs.Stands.{levels_of, FaresAt}
 use Rattle.proof_scanner.proofs.Cut.Pieces.Quoted.{some_chars}
 use Rattle.proof_scanner.proofs.Cut.Saved.{saved_keys, saved_is}
 use Rattle.proof_scanner.proofs.Cut.Levels.{one_indents, one_indent, rolled_one_is, without_is}

@@ -2,28 +2,19 @@
 use Rattle.std.proofs.Common.{◌≡◌, ℕ, zero, suc, ◌<◌, ◌≤◌, List, [], ◌∷◌, ◌++◌, Bool, true, false, ◌&&◌, ◌==◌, ◌⊎◌, inl, inr, not, nat_lt, if◌then◌else◌, Option, Some, None, Result, Ok, refl, ap, subst, ◌∙◌, arith}
 use Rattle.std.proofs.lemmas.Bool.{and_parts, eqb-true}
 use Rattle.std.proofs.lemmas.Bool.Decides.{nat_tests}
-use Rattle.defs_text.specs.Position.{Position, position_past, position_after}
-use Rattle.defs_text.specs.Text.{is_empty, has_no_nul}
-use Rattle.defs_token.specs.Token.{Tok, Style, scalar}
-use Rattle.yaml_tokens.specs.declared.problem.Fault.{Fault}
-use Rattle.defs_text.specs.Classes.{space, is_blank, is_break, is_nul, is_at_end, are_marks, is_document_marker}
-use Rattle.defs_text.specs.Breaks.{split, split_by, put_first, is_before_line_feed, ends_line}
-use Rattle.defs_text.specs.FlowScalar.{begins_with}
-use Rattle.defs_text.specs.BlockScalar.{BlockStyle, literal, folded, Header, header_of, body, further_text, block_value, is_outside, is_further_text}
-use Rattle.defs_token.specs.Separation.{is_separation}
-use Rattle.defs_token.specs.BlockPiece.{BlockRead, column_of, with_value, is_past, read_body, read_lines, block_read, past_spaces, block_position}
-use Rattle.defs_token.specs.Account.{Account, is_in_flow, collection_column}
-use Rattle.defs_token.specs.Piece.{IsPiece, IsBlockScalar}
+use Rattle.proof_scanner.proofs.Common.{are_marks, begins_with, Block, block, block_position, block_read, block_value, BlockEndsAs, BlockRead, BlockStyle, body, collection_column, collection_of, column_of, Fault, further_position, further_text, has_no_nul, header_of, indicator_of, is_at_end, is_before_line_feed, is_document_marker, is_empty, is_literal_style, is_nul, is_past, is_separation, IsPiece, past_spaces, Position, position_after, position_past, put_first, read_block, read_body, read_lines, ReadAs, scalar, split, split_by, Style, Tok, with_value}
+use Rattle.defs_text.specs.Classes.{space, is_blank, is_break}
+use Rattle.defs_text.specs.Breaks.{ends_line}
+use Rattle.defs_text.specs.BlockScalar.{literal, folded, Header, is_outside, is_further_text}
+use Rattle.defs_token.specs.Account.{Account, is_in_flow}
+use Rattle.defs_token.specs.Piece.{IsBlockScalar}
 use Rattle.model_scanner.specs.Machine.{Read}
-use Rattle.model_scanner.specs.BlockScalar.{Block, block}
-use Rattle.proof_lexers.specs.BlockScan.{is_literal_style, without_spaces, further_position, read_block, read, shallow, tabbed}
-use Rattle.proof_lexers.specs.PlainEnds.{collection_of}
-use Rattle.proof_lexers.specs.BlockEnds.{BlockEndsAs, bad_header}
+use Rattle.proof_lexers.specs.BlockScan.{without_spaces, read, shallow, tabbed}
+use Rattle.proof_lexers.specs.BlockEnds.{bad_header}
 use Rattle.proof_lexers.specs.BlockEnds as ends
-use Rattle.proof_lexers.specs.HeaderEnds.{indicator_of}
 use Rattle.proof_lexers.proofs.Blocks.Ends.{scans_end}
 use Rattle.proof_lexers.proofs.Separation.EachSeparation.{no_nul_after}
-use Rattle.proof_scanner.specs.PiecesRead.{ReadAs, BlockIsRead}
+use Rattle.proof_scanner.specs.PiecesRead.{BlockIsRead}
 use Rattle.proof_scanner.proofs.Cut.Pieces.Quoted.{some_chars}
 
 -- ---- the spaces after a piece

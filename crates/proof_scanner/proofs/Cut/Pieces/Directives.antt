@@ -1,20 +1,14 @@
 -- What the scan of a directive reads is its piece.
 use Rattle.std.proofs.Common.{◌≡◌, ℕ, List, [], ◌∷◌, ◌++◌, Bool, true, false, ◌||◌, ◌==◌, inl, inr, if◌then◌else◌, take, drop, Option, Result, Ok, refl, ap, subst, ◌∙◌}
 use Rattle.std.proofs.lemmas.Bool.{and_parts, eqb-true}
-use Rattle.defs_token.specs.Token.{Tok}
-use Rattle.yaml_tokens.specs.declared.problem.Fault.{Fault}
+use Rattle.proof_scanner.proofs.Common.{Directive, DirectiveEndsAs, directives_end, Fault, has_no_break, is_at_line_end, is_before_line_feed, is_separation, IsPiece, position_append, ReadAs, reserved, tag_declaration, Tok, version}
 use Rattle.defs_text.specs.Classes.{is_blank, is_break}
-use Rattle.defs_text.specs.Breaks.{is_before_line_feed, is_at_line_end, has_no_break}
-use Rattle.defs_text.specs.Directives.{Directive, version, tag_declaration, reserved}
-use Rattle.defs_token.specs.Separation.{is_separation}
 use Rattle.defs_token.specs.Account.{Account}
-use Rattle.defs_token.specs.Piece.{IsPiece, IsDirective}
+use Rattle.defs_token.specs.Piece.{IsDirective}
 use Rattle.model_scanner.specs.Machine.{Read}
 use Rattle.model_scanner.specs.Directive.{directive}
-use Rattle.proof_lexers.specs.DirectiveEnds.{token_of, ends_line, first_break, next_line, after_line, DirectiveEndsAs, reads, refuses}
-use Rattle.proof_lexers.proofs.Directives.Lines.{directives_end}
-use Rattle.proof_lexers.proofs.Separation.Positions.{position_append}
-use Rattle.proof_scanner.specs.PiecesRead.{ReadAs, is_directive_token, DirectiveIsRead}
+use Rattle.proof_lexers.specs.DirectiveEnds.{token_of, ends_line, first_break, next_line, after_line, reads, refuses}
+use Rattle.proof_scanner.specs.PiecesRead.{is_directive_token, DirectiveIsRead}
 
 -- ---- the break after a directive
 

@@ -2,18 +2,13 @@
 use Rattle.std.proofs.Common.{◌≡◌, ℕ, suc, ◌≤◌, List, [], ◌∷◌, ◌++◌, Bool, true, false, ◌&&◌, ◌||◌, ◌==◌, not, length, Option, Some, None, refl, ap, sym, subst, ◌∙◌, arith, append_assoc}
 use Rattle.std.specs.List.{insert}
 use Rattle.std.proofs.lemmas.Bool.{and_parts, eqb-true}
-use Rattle.defs_text.specs.Position.{Position, position_past, position_after}
-use Rattle.defs_text.specs.Text.{is_empty}
-use Rattle.defs_token.specs.Token.{Tok, Token, block_sequence_start, block_mapping_start, block_end, flow_mapping_start}
+use Rattle.proof_scanner.proofs.Common.{account_at, account_past_row, account_past_separation, account_past_token, before_past, begins_node, block_end, block_mapping_start, block_sequence_start, blocks_past, flow_mapping_start, has_no_break, is_before_line_feed, is_empty, IsRow, Level, levels_past, Position, position_after, position_append, position_past, sequence, spelled_append, Tok, Token}
 use Rattle.defs_text.specs.Classes.{is_blank, is_break}
-use Rattle.defs_text.specs.Breaks.{is_before_line_feed, ends_line, has_no_break}
-use Rattle.defs_token.specs.Account.{sequence, Level, Account, before_past, settled, blocks_at, blocks_past, levels_past, account_past_separation, account_past_token}
-use Rattle.defs_token.specs.Piece.{begins_node}
-use Rattle.defs_token.specs.Cut.{Written, IsRow, spelled, account_at, account_past, account_past_row}
-use Rattle.defs_token.proofs.Append.{spelled_append}
+use Rattle.defs_text.specs.Breaks.{ends_line}
+use Rattle.defs_token.specs.Account.{Account, settled, blocks_at}
+use Rattle.defs_token.specs.Cut.{Written, spelled, account_past}
 use Rattle.defs_token.proofs.Inserted.{bare, empty_token, key_at, mapping_at, with_blocks, is_of_key, is_in_line, AreOnLine}
 use Rattle.defs_token.proofs.InsertedPair.{with_levels, above, pair_at, pair_inserted}
-use Rattle.proof_lexers.proofs.Separation.Positions.{position_append}
 use Rattle.proof_scanner.specs.Inside.{inside}
 use Rattle.proof_scanner.proofs.Cut.Positions.{not_before_after}
 use Rattle.proof_scanner.proofs.Cut.Heres.{before_again}

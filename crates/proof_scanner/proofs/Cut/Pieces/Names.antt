@@ -1,21 +1,13 @@
 -- What the scan of an anchor's or an alias's name reads is its piece.
 use Rattle.std.proofs.Common.{◌≡◌, ℕ, ◌+◌, List, [], ◌∷◌, ◌++◌, Bool, true, false, ◌&&◌, ◌||◌, ◌==◌, not, if◌then◌else◌, length, Option, Result, Ok, refl, ap, arith}
 use Rattle.std.proofs.lemmas.Bool.{and_parts}
-use Rattle.defs_token.specs.Token.{Tok}
-use Rattle.yaml_tokens.specs.declared.problem.Fault.{Fault}
-use Rattle.defs_text.specs.Classes.{is_blank, is_break, is_nul, is_blank_or_end, is_flow, is_anchor_name}
-use Rattle.defs_text.specs.Tags.{all_of}
-use Rattle.defs_text.specs.Position.{position_after}
-use Rattle.defs_text.specs.Breaks.{has_no_break}
+use Rattle.proof_scanner.proofs.Common.{all_of, anchor_token, Fault, further, goes_on_with_name, has_no_break, is_anchor_name, is_blank_or_end, is_name, is_nul, IsPiece, NameEndsAs, nameless, names_end, position_after, position_in_line, ReadAs, Tok}
+use Rattle.defs_text.specs.Classes.{is_blank, is_break, is_flow}
 use Rattle.defs_token.specs.Account.{Account}
-use Rattle.defs_token.specs.Piece.{IsPiece, is_name, goes_on_with_name}
 use Rattle.model_scanner.specs.Machine.{Read}
 use Rattle.model_scanner.specs.Anchor.{anchor_name}
-use Rattle.model_scanner.specs.Document.{anchor_token}
-use Rattle.proof_lexers.specs.NameEnds.{further, after_name, NameEndsAs, named, nameless}
-use Rattle.proof_lexers.proofs.Properties.Names.{names_end}
-use Rattle.proof_lexers.proofs.Separation.Positions.{position_in_line}
-use Rattle.proof_scanner.specs.PiecesRead.{ReadAs, NameIsRead}
+use Rattle.proof_lexers.specs.NameEnds.{after_name, named}
+use Rattle.proof_scanner.specs.PiecesRead.{NameIsRead}
 
 -- ---- no break stands among the characters of a class that has none
 

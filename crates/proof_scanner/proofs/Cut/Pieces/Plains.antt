@@ -2,24 +2,20 @@
 use Rattle.std.proofs.Common.{◌≡◌, ℕ, List, [], ◌∷◌, ◌++◌, Bool, true, false, ◌&&◌, ◌||◌, ◌==◌, not, nat_lt, if◌then◌else◌, Some, Result, Ok, slice_index, refl, ap, sym, subst, ◌∙◌}
 use Rattle.std.specs.Prelude.{codes}
 use Rattle.std.proofs.lemmas.Bool.{and_parts, eqb-true}
-use Rattle.defs_text.specs.Position.{Position, position_after}
+use Rattle.proof_scanner.proofs.Common.{at_dash, begins_flow, begins_plain, begins_solid, collection_column, collection_of, comes_plain, Fault, is_adjacent, is_at_gap, is_blank_or_end, is_document_marker, is_nul, is_one_of, is_separation, is_value_indicator, is_whole_plain, may_begin, Plain, PlainEndsAs, Position, position_after, position_append, ReadAs, scalar}
 use Rattle.yaml_chars.specs.Class as model_classes
-use Rattle.defs_token.specs.Token.{scalar, plain}
-use Rattle.yaml_tokens.specs.declared.problem.Fault.{Fault}
-use Rattle.defs_text.specs.Classes.{is_one_of, is_blank, is_break, is_nul, is_blank_or_end, is_flow, is_at_gap, is_document_marker}
+use Rattle.defs_token.specs.Token.{plain}
+use Rattle.defs_text.specs.Classes.{is_blank, is_break, is_flow}
 use Rattle.defs_text.specs.FlowScalar.{plain_value}
-use Rattle.defs_token.specs.Separation.{is_separation}
-use Rattle.defs_token.specs.Plain.{is_value_indicator, begins_flow, may_begin, begins_plain, is_whole_plain}
-use Rattle.defs_token.specs.Account.{Account, is_in_flow, is_adjacent, collection_column}
+use Rattle.defs_token.specs.Account.{Account, is_in_flow}
 use Rattle.model_scanner.specs.declared.context.Context.{Context}
 use Rattle.model_scanner.specs.Machine.{Read}
-use Rattle.model_scanner.specs.Plain.{Plain, at_dash, starts, plain_from}
+use Rattle.model_scanner.specs.Plain.{starts, plain_from}
 use Rattle.model_scanner.specs.Plain as models
 use Rattle.proof_lexers.proofs.Bridges.{same_flow}
-use Rattle.proof_lexers.specs.PlainEnds.{collection_of, begins_solid, is_white, after_plain, PlainEndsAs, reads, refuses}
+use Rattle.proof_lexers.specs.PlainEnds.{is_white, after_plain, reads, refuses}
 use Rattle.proof_lexers.proofs.Plain.Scalars.{scans_end}
-use Rattle.proof_lexers.proofs.Separation.Positions.{position_append}
-use Rattle.proof_scanner.specs.PiecesRead.{ReadAs, comes_plain, PlainIsRead}
+use Rattle.proof_scanner.specs.PiecesRead.{PlainIsRead}
 use Rattle.proof_scanner.proofs.Cut.Pieces.Separations.{gap_is_separation}
 
 -- ---- a plain scalar begins with content

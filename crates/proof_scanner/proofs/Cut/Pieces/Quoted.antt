@@ -4,29 +4,21 @@ use Rattle.std.specs.List.{list_all}
 use Rattle.std.specs.Char.{digit_value}
 use Rattle.std.proofs.lemmas.Bool.{and_parts, eqb-true}
 use Rattle.std.proofs.lemmas.List.{append_cancel_right}
-use Rattle.defs_text.specs.Position.{Position, position_past, position_after}
+use Rattle.proof_scanner.proofs.Common.{begins_with, fail, Fault, gap, has_no_nul, in_line_position, is_before_line_feed, is_cr_lf, IsPiece, on, past_break, Position, position_after, position_past, quoted_style, QuotedEndsAs, ReadAs, run, same_break, scalar, stop, Tok, Turn, turned}
 use Rattle.yaml_chars.specs.Class.{is_break, is_blank, is_hex}
-use Rattle.defs_token.specs.Token.{Tok, scalar}
-use Rattle.yaml_tokens.specs.declared.problem.Fault.{Fault}
 use Rattle.yaml_tokens.specs.declared.problem.Fault.TheVariants.{At}
 use Rattle.yaml_tokens.specs.declared.problem.Problem.TheVariants as problem
 use Rattle.defs_text.specs.Classes as classes
-use Rattle.defs_text.specs.Breaks.{is_before_line_feed}
-use Rattle.defs_text.specs.FlowScalar.{begins_with}
 use Rattle.defs_token.specs.Account.{Account}
-use Rattle.defs_token.specs.Piece.{IsPiece}
 use Rattle.model_scanner.specs.declared.context.Context.{Context}
-use Rattle.model_scanner.specs.Machine.{Turn, stop, fail, on, turned, Stop, run, Read, past, past_break, is_cr_lf}
+use Rattle.model_scanner.specs.Machine.{Stop, Read, past}
 use Rattle.model_scanner.specs.Folding.{nothing, joined}
-use Rattle.model_scanner.specs.Quoted.{Mode, first, inside, gap, breaking, after, doubled, named, digits, closed, QuotedState, Escape, escape_of, is_scalar, quote_of, at_char, at_break, at_gap, at_escaped_break, at_quote, at_backslash, at_inside, at_named, at_digit, refused, unless, in_line, at_line, turn_in, turn, end_in, ended, quoted_from, quoted}
-use Rattle.model_scanner.specs.Document.{quoted_style}
-use Rattle.proof_lexers.proofs.Bridges.{same_break}
+use Rattle.model_scanner.specs.Quoted.{Mode, first, inside, breaking, after, doubled, named, digits, closed, QuotedState, Escape, escape_of, is_scalar, quote_of, at_char, at_break, at_gap, at_escaped_break, at_quote, at_backslash, at_inside, at_named, at_digit, refused, unless, in_line, at_line, turn_in, turn, end_in, ended, quoted_from, quoted}
 use Rattle.proof_lexers.specs.QuotedScan.{value_of, ends_before, is_some}
-use Rattle.proof_lexers.specs.QuotedEnds.{QuotedEndsAs, reads, refuses}
+use Rattle.proof_lexers.specs.QuotedEnds.{reads, refuses}
 use Rattle.proof_lexers.proofs.Quoted.ScanEnds.{scans_end}
-use Rattle.defs_text.specs.Text.{has_no_nul}
-use Rattle.proof_lexers.proofs.Plain.Turns.{same_feed, in_line_position, line_position}
-use Rattle.proof_scanner.specs.PiecesRead.{ReadAs, QuotedIsRead}
+use Rattle.proof_lexers.proofs.Plain.Turns.{same_feed, line_position}
+use Rattle.proof_scanner.specs.PiecesRead.{QuotedIsRead}
 
 -- ---- the position goes along with the characters
 

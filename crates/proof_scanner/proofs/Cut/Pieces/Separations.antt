@@ -1,10 +1,9 @@
 -- Separations, one after another.
 use Rattle.std.proofs.Common.{◌≡◌, ℕ, List, [], ◌∷◌, ◌++◌, Bool, true, false, ◌||◌, ◌==◌, not, refl}
 use Rattle.std.proofs.lemmas.Bool.{and_parts, eqb-true}
-use Rattle.defs_text.specs.Classes.{is_blank, is_break, is_nul}
-use Rattle.defs_text.specs.Breaks.{has_no_break}
-use Rattle.defs_token.specs.Separation.{is_separation}
-use Rattle.proof_lexers.specs.PlainEnds.{is_white, is_gap}
+use Rattle.proof_scanner.proofs.Common.{has_no_break, is_gap, is_nul, is_separation}
+use Rattle.defs_text.specs.Classes.{is_blank, is_break}
+use Rattle.proof_lexers.specs.PlainEnds.{is_white}
 
 pub no_break_append : (a b : List ℕ) → has_no_break a ≡ true → has_no_break b ≡ true → has_no_break (a ++ b) ≡ true
 no_break_append [] b h k = k
