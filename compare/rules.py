@@ -171,7 +171,7 @@ def octets(text, ours, theirs):
 
 def block_at_margin(text, ours, theirs):
     i, a, b = first_difference(ours, theirs)
-    if re.search(r"(^|[\n\r])---([ \t\n\r]|$)", text) and ("Scalar(Literal" in b or "Scalar(Folded" in b or b.startswith("ERR")):
+    if re.search(r"(^|[\n\r])---([ \t\n\r\0]|$)", text) and ("Scalar(Literal" in b or "Scalar(Folded" in b or b.startswith("ERR")):
         if b.count("---") > (a.count("---") if "Scalar" in a else 0):
             return "a block scalar at column 0"
     return None
