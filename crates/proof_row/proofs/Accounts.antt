@@ -1,11 +1,7 @@
 -- Like accounts stay like over a step with the same text; and where they are equal after it, they were, and so were the steps.
-use Rattle.std.proofs.Common.{◌≡◌, ℕ, List, [], ◌∷◌, Bool, true, false, not, ◌&&◌, Option, Some, None, ap, subst, ◌∙◌, refl}
-use Rattle.defs_token.specs.Token.{Tok}
-use Rattle.defs_token.specs.Step.{Step, act_of, has_break}
-use Rattle.defs_token.specs.Column.{is_in_column}
-use Rattle.defs_token.specs.Key.{Line, free, taken, waits, is_waiting, begins_free_line, Outside}
-use Rattle.defs_token.specs.FlowEntry.{Had, fresh, filled, settled, Had.waits as had_waits, Entry, is_keyed, begun_by, is_renewed}
-use Rattle.defs_token.specs.RowAccount.{Site, Account, is_in_flow, site_at, site_past, may_stand, on_one_line, past_outside, past_inside, past_piece, past_site, account_past, have_no_key, may_end}
+use Rattle.proof_row.proofs.Common.{[], account_past, act_of, ap, begins_free_line, begun_by, Bool, Entry, false, filled, free, fresh, Had, has_break, have_no_key, is_in_column, is_in_flow, is_keyed, is_renewed, is_waiting, Line, List, may_end, may_stand, None, not, on_one_line, Option, Outside, past_inside, past_outside, past_piece, past_site, refl, settled, Site, site_at, site_past, Some, Step, subst, taken, Tok, true, waits, ℕ, ◌&&◌, ◌∙◌, ◌∷◌, ◌≡◌}
+use Rattle.defs_token.specs.FlowEntry.{Had.waits as had_waits}
+use Rattle.defs_token.specs.RowAccount.{Account}
 use Rattle.proof_row.proofs.Like.{LikeLine, LikeHad, LikeEntries, IsLike, LikeOutside, entries_themselves, Stepped, none_second, weaker, unless, where_both, both, same_entry}
 use Rattle.proof_row.proofs.RowLines.{separation_step, line_step}
 use Rattle.proof_row.proofs.Entries.{entries_step}

@@ -1,19 +1,6 @@
 -- The text says which kind of piece begins.
-use Rattle.std.proofs.Common.{◌≡◌, ◌≢◌, ℕ, List, [], ◌∷◌, ◌++◌, Bool, true, false, not, ◌&&◌, ◌||◌, ◌==◌, if◌then◌else◌, Option, Some, None, ◌⊎◌, inl, inr, codes, sym, ap, subst, ◌∙◌, refl}
-use Rattle.std.proofs.lemmas.Bool.{eqb-true}
-use Rattle.defs_text.specs.Classes.{is_blank, is_break, is_nul, is_blank_or_end, is_flow, is_alpha, is_at_gap, are_marks, is_document_marker}
-use Rattle.defs_text.specs.FlowScalar.{plain_value}
-use Rattle.defs_text.specs.BlockScalar.{BlockStyle}
-use Rattle.defs_text.specs.Tags.{leading, after, Tag, after_mark, written_tag}
-use Rattle.defs_text.specs.Directives.{Directive, version, tag_declaration, reserved, directive_by, directive_of}
-use Rattle.defs_text.specs.Position.{Position}
-use Rattle.defs_token.specs.Token.{Tok, stream_start, stream_end, version_directive, tag_directive, document_start, document_end, block_sequence_start, block_mapping_start, block_end, flow_sequence_start, flow_sequence_end, flow_mapping_start, flow_mapping_end, block_entry, flow_entry, key, value, alias, anchor, tag, scalar, plain, single_quoted, double_quoted, literal, folded}
-use Rattle.defs_text.specs.Breaks.{is_at_line_end, has_no_break}
-use Rattle.defs_token.specs.Plain.{begins_flow, is_value_indicator, may_begin, begins_plain, is_whole_plain}
-use Rattle.defs_token.specs.BlockPiece.{BlockRead, block_read}
-use Rattle.defs_token.specs.Account.{Account, is_in_flow, collection_column, is_adjacent}
-use Rattle.defs_token.specs.Piece.{Holds, begins_with_space_or_break, IsDirective, IsNamed, IsSingleQuoted, IsDoubleQuoted, IsPiece}
-use Rattle.proof_row.specs.Ends.{ends_separation, Kind, nothing, plain_scalar, sequence_opening, sequence_closing, mapping_opening, mapping_closing, comma, question, colon, dash, dashes, dots, directive_line, alias_name, anchor_name, tag_text, in_single_quotes, in_double_quotes, block_scalar, kind_by, kind_at, kind_of, TextsBeginWithOneKind, SeparationsEndBeforePieces}
+use Rattle.proof_row.proofs.Common.{[], Account, after, after_mark, alias, alias_name, anchor, anchor_name, ap, are_marks, begins_flow, begins_plain, begins_with_space_or_break, block_end, block_entry, block_mapping_start, block_read, block_scalar, block_sequence_start, BlockRead, BlockStyle, Bool, codes, collection_column, colon, comma, dash, dashes, Directive, directive_by, directive_line, directive_of, document_end, document_start, dots, double_quoted, ends_separation, eqb-true, false, flow_entry, flow_mapping_end, flow_mapping_start, flow_sequence_end, flow_sequence_start, folded, has_no_break, Holds, if◌then◌else◌, in_double_quotes, in_single_quotes, inl, inr, is_adjacent, is_alpha, is_at_gap, is_at_line_end, is_blank, is_blank_or_end, is_break, is_document_marker, is_flow, is_nul, is_value_indicator, is_whole_plain, IsDirective, IsDoubleQuoted, IsNamed, IsPiece, IsSingleQuoted, key, Kind, kind_at, kind_by, kind_of, leading, List, literal, mapping_closing, mapping_opening, may_begin, None, not, nothing, Option, plain, plain_scalar, plain_value, Position, question, refl, reserved, scalar, SeparationsEndBeforePieces, sequence_closing, sequence_opening, single_quoted, Some, stream_end, stream_start, subst, sym, Tag, tag, tag_declaration, tag_directive, tag_text, TextsBeginWithOneKind, Tok, true, value, version, version_directive, written_tag, ℕ, ◌&&◌, ◌++◌, ◌==◌, ◌||◌, ◌∙◌, ◌∷◌, ◌≡◌, ◌≢◌, ◌⊎◌}
+use Rattle.defs_token.specs.Account.{is_in_flow}
 use Rattle.proof_row.proofs.Runs.{joined}
 use Rattle.proof_row.proofs.TagEnds.{mark_is_first}
 use Rattle.proof_row.proofs.Blocks.{begins_block, block_begins}

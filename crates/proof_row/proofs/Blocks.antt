@@ -1,13 +1,6 @@
 -- A block scalar has one end.
-use Rattle.std.proofs.Common.{◌≡◌, ℕ, List, [], ◌∷◌, ◌++◌, Bool, true, false, ◌||◌, ◌==◌, if◌then◌else◌, Option, Some, None, ◌⊎◌, inl, inr, append_assoc, append-nil, sym, ap, subst, ◌∙◌, refl}
-use Rattle.std.proofs.lemmas.Bool.{eqb-true}
-use Rattle.defs_text.specs.Classes.{is_break, is_nul, is_at_end}
-use Rattle.defs_text.specs.Breaks.{Split, split}
-use Rattle.defs_text.specs.FlowScalar.{begins_with}
-use Rattle.defs_text.specs.BlockScalar.{literal, folded, Header, header_of, after_style, Body, body, input_ends, Ending, further_text, unbroken, column_by, all_lines, content_column, Row, row_of, rows_of, value_at_end, value_at_text, value_by, starts_with_tab, block_value, is_further_text}
-use Rattle.defs_token.specs.BlockPiece.{BlockRead, with_value, is_past, read_body, read_lines, read_split, block_read}
-use Rattle.defs_text.specs.Text.{has_no_nul}
-use Rattle.proof_row.specs.Ends.{BlockScalarsHaveOneEnd}
+use Rattle.proof_row.proofs.Common.{[], after_style, all_lines, ap, append-nil, append_assoc, begins_with, block_read, block_value, BlockRead, BlockScalarsHaveOneEnd, Body, body, Bool, column_by, content_column, Ending, eqb-true, false, further_text, has_no_nul, Header, header_of, if◌then◌else◌, inl, input_ends, inr, is_at_end, is_break, is_further_text, is_nul, is_past, List, None, Option, read_body, read_lines, read_split, refl, Row, row_of, rows_of, Some, Split, split, starts_with_tab, subst, sym, true, value_at_end, value_at_text, value_by, with_value, ℕ, ◌++◌, ◌==◌, ◌||◌, ◌∙◌, ◌∷◌, ◌≡◌, ◌⊎◌}
+use Rattle.defs_text.specs.BlockScalar.{literal, folded, unbroken}
 use Rattle.proof_row.proofs.Runs.{both, untrue, contrary}
 use Rattle.proof_row.proofs.Splits.{More, splits}
 use Rattle.proof_row.proofs.Texts.{no_nul_after}

@@ -1,9 +1,5 @@
 -- The content column of a block scalar is fixed by its lines up to the first content line; and further text is no line of it.
-use Rattle.std.proofs.Common.{◌≡◌, ℕ, zero, suc, ◌<◌, ◌≤◌, max, List, [], ◌∷◌, ◌++◌, Bool, true, false, not, ◌&&◌, ◌||◌, ◌==◌, if◌then◌else◌, Option, Some, None, nat_le, length, arith, sym, ap, subst, refl}
-use Rattle.std.proofs.lemmas.Bool.{eqb-true, lt-leb}
-use Rattle.defs_text.specs.Classes.{space, is_break, is_nul, is_at_gap, are_marks, is_document_marker}
-use Rattle.defs_text.specs.FlowScalar.{begins_with}
-use Rattle.defs_text.specs.BlockScalar.{leading_spaces, is_spaces, deepest_start, column_by, Row, is_empty_line, is_content_line, row_of, put_row, rows_of, is_outside, is_further_text}
+use Rattle.proof_row.proofs.Common.{[], ap, are_marks, arith, begins_with, Bool, column_by, deepest_start, eqb-true, false, if◌then◌else◌, is_at_gap, is_break, is_content_line, is_document_marker, is_empty_line, is_further_text, is_nul, is_outside, is_spaces, leading_spaces, length, List, lt-leb, max, nat_le, None, not, Option, put_row, refl, Row, row_of, rows_of, Some, space, subst, suc, sym, true, zero, ℕ, ◌&&◌, ◌++◌, ◌<◌, ◌==◌, ◌||◌, ◌∷◌, ◌≡◌, ◌≤◌}
 use Rattle.proof_row.proofs.Runs.{both, contrary}
 use Rattle.proof_row.proofs.Lines.{up_to_break}
 

@@ -1,10 +1,5 @@
 -- A directive has one end: its line's.
-use Rattle.std.proofs.Common.{◌≡◌, ℕ, List, [], ◌∷◌, Bool, true, false, not, ◌||◌, refl}
-use Rattle.defs_text.specs.Classes.{is_break, is_nul}
-use Rattle.defs_text.specs.Tags.{all_of}
-use Rattle.defs_text.specs.Breaks.{has_no_break, is_at_line_end}
-use Rattle.defs_text.specs.Text.{has_no_nul}
-use Rattle.proof_row.specs.Ends.{DirectivesHaveOneEnd}
+use Rattle.proof_row.proofs.Common.{[], all_of, Bool, DirectivesHaveOneEnd, false, has_no_break, has_no_nul, is_at_line_end, is_break, is_nul, List, not, refl, true, ℕ, ◌||◌, ◌∷◌, ◌≡◌}
 use Rattle.proof_row.proofs.Runs.{both, joined, untrue, ends_run, runs}
 use Rattle.proof_row.proofs.Texts.{no_nul_after}
 

@@ -1,9 +1,6 @@
 -- Like entries stay like over a piece in flow.
-use Rattle.std.proofs.Common.{◌≡◌, List, ◌∷◌, Bool, true, false, not, ◌||◌, ◌==◌, if◌then◌else◌, Option, Some, None, ap, subst, refl}
-use Rattle.defs_text.specs.Position.{Position}
-use Rattle.defs_token.specs.Account.{FlowKind}
-use Rattle.defs_token.specs.Step.{Act, gives_node, gives_block_scalar, gives_dash, gives_question, gives_colon, gives_comma, gives_closing, gives_marker, gives_nothing}
-use Rattle.defs_token.specs.FlowEntry.{Had, fresh, filled, waits, settled, Pair, Entry, first_entry, takes_pair, renewed, settled_past, had_past, had_after, pair_past, with_had, entry_past, past_end, entries_past}
+use Rattle.proof_row.proofs.Common.{Act, ap, Bool, entries_past, Entry, entry_past, false, filled, first_entry, FlowKind, fresh, gives_block_scalar, gives_closing, gives_colon, gives_comma, gives_dash, gives_marker, gives_node, gives_nothing, gives_question, Had, had_after, had_past, if◌then◌else◌, List, None, not, Option, Pair, pair_past, past_end, Position, refl, renewed, settled, settled_past, Some, subst, takes_pair, true, with_had, ◌==◌, ◌||◌, ◌∷◌, ◌≡◌}
+use Rattle.defs_token.specs.FlowEntry.{waits}
 use Rattle.proof_row.proofs.Like.{LikeHad, LikeEntry, LikeEntries, Stepped, none_second, weaker, tails, both, like_after, same_after, same_entry}
 
 -- ---- where a key may begin again

@@ -3,8 +3,16 @@ pub mod Accounts
 pub mod Begins
 pub mod Blocks
 pub mod Columns
+pub mod CutColumns
+pub mod CutEntries
+pub mod CutPieces
+pub mod CutRows
+pub mod CutSteps
+pub mod Cuts
 pub mod Directives
 pub mod Entries
+pub mod Inserted
+pub mod KeyLines
 pub mod Like
 pub mod Lines
 pub mod Meanings
@@ -20,3 +28,4 @@ pub mod Splits
 pub mod TagEnds
 pub mod Texts
 pub mod Written
+mod Common

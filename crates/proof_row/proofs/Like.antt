@@ -1,7 +1,6 @@
 -- Accounts that are alike but for keys that wait, and what a step makes of two like things.
-use Rattle.std.proofs.Common.{◌≡◌, List, [], ◌∷◌, ◌++◌, Bool, true, false, if◌then◌else◌, Option, Some, None, ap, ◌∙◌, refl}
-use Rattle.defs_token.specs.Key.{Line, free, taken, waits, Outside}
-use Rattle.defs_token.specs.FlowEntry.{Had, fresh, filled, settled, Had.waits as had_waits, Entry}
+use Rattle.proof_row.proofs.Common.{[], ap, Bool, Entry, false, filled, free, fresh, Had, if◌then◌else◌, Line, List, None, Option, Outside, refl, settled, Some, taken, true, waits, ◌++◌, ◌∙◌, ◌∷◌, ◌≡◌}
+use Rattle.defs_token.specs.FlowEntry.{Had.waits as had_waits}
 use Rattle.defs_token.specs.RowAccount.{Account}
 
 -- ---- the relation

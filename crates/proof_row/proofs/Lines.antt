@@ -1,9 +1,5 @@
 -- The lines of a text after another one, and a text's first line.
-use Rattle.std.proofs.Common.{◌≡◌, ℕ, List, [], ◌∷◌, ◌++◌, Bool, true, false, ◌&&◌, ◌==◌, if◌then◌else◌, sym, ap, subst, ◌∙◌, refl}
-use Rattle.std.proofs.lemmas.Bool.{eqb-true}
-use Rattle.defs_text.specs.Classes.{is_break}
-use Rattle.defs_text.specs.Breaks.{Split, put_first, with_first, with_empty_line, is_before_line_feed, split_by, split}
-use Rattle.defs_text.specs.FlowScalar.{begins_with}
+use Rattle.proof_row.proofs.Common.{[], ap, begins_with, Bool, eqb-true, false, if◌then◌else◌, is_before_line_feed, is_break, List, put_first, refl, Split, split, split_by, subst, sym, true, with_empty_line, with_first, ℕ, ◌&&◌, ◌++◌, ◌==◌, ◌∙◌, ◌∷◌, ◌≡◌}
 use Rattle.proof_row.proofs.Runs.{both}
 
 abbrev pub of_lines : (complete : List (List ℕ)) → (last : List ℕ) → Split

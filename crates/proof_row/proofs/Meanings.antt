@@ -1,7 +1,6 @@
 -- A text has at most one list of events, and means at most one list of trees.
-use Rattle.std.proofs.Common.{◌≡◌, List, [], ◌∷◌, refl, sym, ap, ◌∙◌, subst}
 use Rattle.std.specs.Prelude.{Result, Ok, Err, map, ◌++◌}
-use Rattle.defs_text.specs.Position.{Position}
+use Rattle.proof_row.proofs.Common.{[], ap, List, Position, refl, subst, sym, ◌∙◌, ◌∷◌, ◌≡◌}
 use Rattle.defs_tree.specs.Tree.{Tree}
 use Rattle.defs_token.specs.Toks.{toks}
 use Rattle.defs_event.specs.Event.{Ev}

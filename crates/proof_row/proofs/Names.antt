@@ -1,9 +1,5 @@
 -- The name of an anchor or of an alias has one end.
-use Rattle.std.proofs.Common.{◌≡◌, ℕ, List, [], ◌∷◌, ◌++◌, true, false, not, sym, ap, ◌∙◌, refl}
-use Rattle.defs_text.specs.Classes.{is_anchor_name}
-use Rattle.defs_text.specs.Tags.{all_of}
-use Rattle.defs_token.specs.Piece.{is_name, goes_on_with_name}
-use Rattle.proof_row.specs.Ends.{NamesHaveOneEnd}
+use Rattle.proof_row.proofs.Common.{[], all_of, ap, false, goes_on_with_name, is_anchor_name, is_name, List, NamesHaveOneEnd, not, refl, sym, true, ℕ, ◌++◌, ◌∙◌, ◌∷◌, ◌≡◌}
 use Rattle.proof_row.proofs.Runs.{same_head, ends_run, runs}
 
 of_names : (n : List ℕ) → is_name n ≡ true → all_of is_anchor_name n ≡ true

@@ -1,14 +1,9 @@
 -- A text has one row. The choice of keys goes forwards, the proof backwards: at the text's end no key waits, so like accounts are equal there, and that is carried back to the start.
-use Rattle.std.proofs.Common.{◌≡◌, ℕ, List, [], ◌∷◌, ◌++◌, false, Option, Some, None, sym, ap, subst, ◌∙◌, refl}
-use Rattle.defs_token.specs.Piece.{Holds}
-use Rattle.defs_text.specs.Text.{has_no_nul}
+use Rattle.proof_row.proofs.Common.{[], account_past, ap, false, first_account, has_no_nul, Holds, is_separation, IsRowFrom, IsWritten, List, None, OneReading, OneRow, Option, refl, seen, shown_position, Some, Step, subst, sym, tokens_of_row, ℕ, ◌++◌, ◌∙◌, ◌∷◌, ◌≡◌}
 use Rattle.proof_row.proofs.Texts.{no_nul_after}
 use Rattle.proof_row.proofs.Pieces.{no_piece_at_end, clean_up_to_end}
-use Rattle.defs_token.specs.Step.{Step, Row, spelled}
-use Rattle.defs_token.specs.RowAccount.{Account, first_account, seen, account_past}
-use Rattle.defs_token.specs.Tokens.{shown_position, tokens_of_row}
-use Rattle.defs_token.specs.Row.{IsWritten, IsRowFrom, OneRow, OneReading}
-use Rattle.defs_token.specs.Separation.{is_separation}
+use Rattle.defs_token.specs.Step.{Row, spelled}
+use Rattle.defs_token.specs.RowAccount.{Account}
 use Rattle.proof_row.proofs.Like.{IsLike, Stepped}
 use Rattle.proof_row.proofs.Accounts.{account_step, same_at_end}
 use Rattle.proof_row.proofs.Written.{At, not_empty, same_written}

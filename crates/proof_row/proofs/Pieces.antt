@@ -1,14 +1,6 @@
 -- At one account a text begins with one piece of one token.
-use Rattle.std.proofs.Common.{◌≡◌, ℕ, List, [], ◌∷◌, ◌++◌, Bool, true, false, not, if◌then◌else◌, Option, Some, append-nil, sym, ap, subst, ◌∙◌, refl}
-use Rattle.defs_text.specs.Classes.{is_nul}
-use Rattle.defs_text.specs.FlowScalar.{plain_value, single_quoted_value, double_quoted_value}
-use Rattle.defs_text.specs.Tags.{Tag, written_tag}
-use Rattle.defs_text.specs.Directives.{directive_of}
-use Rattle.defs_token.specs.Token.{Tok, tag}
-use Rattle.defs_text.specs.Text.{up_to_nul, has_no_nul}
-use Rattle.defs_token.specs.BlockPiece.{BlockRead, block_read}
-use Rattle.defs_token.specs.Account.{Account, is_in_flow, is_adjacent}
-use Rattle.proof_row.specs.Ends.{Kind, nothing, plain_scalar, sequence_opening, sequence_closing, mapping_opening, mapping_closing, comma, question, colon, dash, dashes, dots, directive_line, alias_name, anchor_name, tag_text, in_single_quotes, in_double_quotes, block_scalar, kind_at, kind_of, IsSeenAlike, PiecesHaveOneEnd, PiecesSeenAlikeHaveOneEnd, SeparationsBeforePiecesAreOne, NoPieceIsInASeparation, TextsUpToTheirEndHaveNoNul}
+use Rattle.proof_row.proofs.Common.{[], Account, alias_name, anchor_name, ap, append-nil, block_read, block_scalar, BlockRead, Bool, colon, comma, dash, dashes, directive_line, directive_of, dots, double_quoted_value, false, has_no_nul, if◌then◌else◌, in_double_quotes, in_single_quotes, is_adjacent, is_nul, IsSeenAlike, Kind, kind_at, kind_of, List, mapping_closing, mapping_opening, NoPieceIsInASeparation, not, nothing, Option, PiecesHaveOneEnd, PiecesSeenAlikeHaveOneEnd, plain_scalar, plain_value, question, refl, SeparationsBeforePiecesAreOne, sequence_closing, sequence_opening, single_quoted_value, Some, subst, sym, Tag, tag, tag_text, TextsUpToTheirEndHaveNoNul, Tok, true, up_to_nul, written_tag, ℕ, ◌++◌, ◌∙◌, ◌∷◌, ◌≡◌}
+use Rattle.defs_token.specs.Account.{is_in_flow}
 use Rattle.proof_row.proofs.Runs.{joined, same_head}
 use Rattle.proof_row.proofs.Separations.{separations}
 use Rattle.proof_row.proofs.Names.{names}

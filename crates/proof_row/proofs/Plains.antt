@@ -1,8 +1,5 @@
 -- A plain scalar has one end.
-use Rattle.std.proofs.Common.{◌≡◌, ℕ, List, [], ◌∷◌, ◌++◌, Bool, true, false, not, ◌&&◌, ◌||◌, if◌then◌else◌, Option, sym, subst, refl}
-use Rattle.defs_text.specs.Classes.{is_blank, is_break}
-use Rattle.defs_token.specs.Plain.{Stand, inside, after_blank, on_line, past_blank, past, goes_on, stops, ends_plain, ends_with_content}
-use Rattle.proof_row.specs.Ends.{PlainScalarsHaveOneEnd}
+use Rattle.proof_row.proofs.Common.{[], after_blank, Bool, ends_plain, ends_with_content, false, goes_on, if◌then◌else◌, inside, is_blank, is_break, List, not, on_line, Option, past, past_blank, PlainScalarsHaveOneEnd, refl, Stand, stops, subst, sym, true, ℕ, ◌&&◌, ◌++◌, ◌||◌, ◌∷◌, ◌≡◌}
 use Rattle.proof_row.proofs.Runs.{both, untrue, contrary, same_head, longer}
 
 -- whether the last character of a text is content, or what stands before an empty one

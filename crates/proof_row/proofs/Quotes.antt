@@ -1,11 +1,5 @@
 -- A scalar in quotes has one end: no quote that would end it stands inside a body that has a value.
-use Rattle.std.proofs.Common.{◌≡◌, ℕ, zero, suc, ◌≤◌, List, [], ◌∷◌, ◌++◌, Bool, true, false, ◌&&◌, ◌==◌, if◌then◌else◌, Option, Some, None, ◌⊎◌, inl, inr, take, length, append_assoc, append-nil, arith, sym, ap, subst, ◌∙◌, refl}
-use Rattle.std.proofs.lemmas.Bool.{eqb-true}
-use Rattle.std.proofs.lemmas.List.{take-append-le, length-take}
-use Rattle.defs_text.specs.Classes.{single_quote, double_quote, backslash, is_blank, is_break, is_nul}
-use Rattle.defs_text.specs.FlowScalar.{Element, Spelled, content, line_break, escaped_break, begins_with, break_further, plain_element, single_quoted_element, double_quoted_element, lookup, escapes, numeric_escapes, hexadecimal, is_character_code, numbered, numeric_escape, escape_by, escape, put_before, followed, elements, has_document_marker, folded_elements, single_quoted_value, double_quoted_value}
-use Rattle.defs_token.specs.Piece.{IsSingleQuoted, IsDoubleQuoted}
-use Rattle.proof_row.specs.Ends.{SingleQuotedScalarsHaveOneEnd, DoubleQuotedScalarsHaveOneEnd}
+use Rattle.proof_row.proofs.Common.{[], ap, append-nil, append_assoc, arith, backslash, begins_with, Bool, break_further, content, double_quote, double_quoted_element, double_quoted_value, DoubleQuotedScalarsHaveOneEnd, Element, elements, eqb-true, escape, escape_by, escaped_break, escapes, false, folded_elements, followed, has_document_marker, hexadecimal, if◌then◌else◌, inl, inr, is_blank, is_break, is_character_code, is_nul, IsDoubleQuoted, IsSingleQuoted, length, length-take, line_break, List, lookup, None, numbered, numeric_escape, numeric_escapes, Option, plain_element, put_before, refl, single_quote, single_quoted_element, single_quoted_value, SingleQuotedScalarsHaveOneEnd, Some, Spelled, subst, suc, sym, take, take-append-le, true, zero, ℕ, ◌&&◌, ◌++◌, ◌==◌, ◌∙◌, ◌∷◌, ◌≡◌, ◌≤◌, ◌⊎◌}
 use Rattle.proof_row.proofs.Runs.{contrary, same_head}
 use Rattle.proof_row.proofs.Splits.{More, splits}
 

@@ -1,9 +1,5 @@
 -- Like lines stay like: over a separation, and over a piece outside flow.
-use Rattle.std.proofs.Common.{◌≡◌, ℕ, List, Bool, true, false, if◌then◌else◌, Option, Some, None, ap, subst, refl}
-use Rattle.defs_text.specs.Position.{Position}
-use Rattle.defs_token.specs.Step.{Act, gives_node, gives_block_scalar, gives_dash, gives_question, gives_colon, gives_comma, gives_closing, gives_marker, gives_nothing}
-use Rattle.defs_token.specs.Column.{opened}
-use Rattle.defs_token.specs.Key.{Line, free, taken, waits, line_past_separation, Outside, is_near, keyed, line_past}
+use Rattle.proof_row.proofs.Common.{Act, ap, Bool, false, free, gives_block_scalar, gives_closing, gives_colon, gives_comma, gives_dash, gives_marker, gives_node, gives_nothing, gives_question, if◌then◌else◌, is_near, keyed, Line, line_past, line_past_separation, List, None, opened, Option, Outside, Position, refl, Some, subst, taken, true, waits, ℕ, ◌≡◌}
 use Rattle.proof_row.proofs.Like.{LikeLine, LikeOutside, Stepped, none_second}
 
 pub separation_step : (fl broken : Bool) (l m : Line) → LikeLine l m → Stepped LikeLine (l ≡ m) (line_past_separation fl broken l) (line_past_separation fl broken m)

@@ -1,15 +1,6 @@
 -- Pieces that are whole before a text, and shorter and longer ones that are not; and where a NUL would leave two ends. By computing.
-use Rattle.std.proofs.Common.{◌≡◌, ◌++◌, ◌∷◌, [], true, false, Some, None, codes, refl}
-use Rattle.defs_text.specs.Classes.{is_blank, is_break, is_nul, is_blank_or_end, is_flow, is_decimal_digit, is_letter, is_alpha, is_uri, is_tag, is_anchor_name, are_marks}
-use Rattle.defs_text.specs.FlowScalar.{begins_with, plain_element, double_quoted_value, double_quoted_element, escape}
-use Rattle.defs_text.specs.BlockScalar.{literal, sign_of, digit_of, is_empty_line, is_content_line, row_of}
-use Rattle.defs_text.specs.Tags.{uri_character, written_tag}
-use Rattle.defs_text.specs.Directives.{reserved, directive_of}
-use Rattle.defs_token.specs.Separation.{is_separation}
-use Rattle.defs_token.specs.Plain.{is_whole_plain}
-use Rattle.defs_token.specs.BlockPiece.{block_read}
-use Rattle.defs_token.specs.Piece.{goes_on_with_name}
-use Rattle.proof_row.specs.Ends.{ends_separation, IsWholeSeparation, IsWholeTag, plain_scalar, colon, dash, dashes, block_scalar, kind_at}
+use Rattle.proof_row.proofs.Common.{[], are_marks, begins_with, block_read, block_scalar, codes, colon, dash, dashes, digit_of, directive_of, double_quoted_element, double_quoted_value, ends_separation, escape, false, goes_on_with_name, is_alpha, is_anchor_name, is_blank, is_blank_or_end, is_break, is_content_line, is_decimal_digit, is_empty_line, is_flow, is_letter, is_nul, is_separation, is_tag, is_uri, is_whole_plain, IsWholeSeparation, IsWholeTag, kind_at, None, plain_element, plain_scalar, refl, reserved, row_of, sign_of, Some, true, uri_character, written_tag, ◌++◌, ◌∷◌, ◌≡◌}
+use Rattle.defs_text.specs.BlockScalar.{literal}
 
 -- ---- separations
 

@@ -1,6 +1,5 @@
 -- Tests that hold together, and texts of which each character is of a class.
-use Rattle.std.proofs.Common.{◌≡◌, ℕ, List, [], ◌∷◌, ◌++◌, Bool, true, false, not, ◌&&◌, ◌||◌, sym, subst, refl}
-use Rattle.defs_text.specs.Tags.{all_of}
+use Rattle.proof_row.proofs.Common.{[], all_of, Bool, false, List, not, refl, subst, sym, true, ℕ, ◌&&◌, ◌++◌, ◌||◌, ◌∷◌, ◌≡◌}
 
 -- ---- tests
 

@@ -1,9 +1,5 @@
 -- A separation has one end.
-use Rattle.std.proofs.Common.{◌≡◌, ℕ, List, [], ◌∷◌, ◌++◌, Bool, true, false, not, ◌||◌, ◌==◌, sym, subst, refl}
-use Rattle.defs_text.specs.Classes.{is_blank, is_break, is_nul, is_blank_or_end}
-use Rattle.defs_token.specs.Separation.{is_separation}
-use Rattle.defs_text.specs.Breaks.{is_at_line_end}
-use Rattle.proof_row.specs.Ends.{ends_separation, SeparationsHaveOneEnd}
+use Rattle.proof_row.proofs.Common.{[], Bool, ends_separation, false, is_at_line_end, is_blank, is_blank_or_end, is_break, is_nul, is_separation, List, not, refl, SeparationsHaveOneEnd, subst, sym, true, ℕ, ◌++◌, ◌==◌, ◌||◌, ◌∷◌, ◌≡◌}
 use Rattle.proof_row.proofs.Runs.{both, untrue, contrary, same_head, longer}
 
 -- what ends a separation is no character of one

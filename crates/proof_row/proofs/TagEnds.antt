@@ -1,11 +1,5 @@
 -- A tag has one end: a verbatim one its `>`, another one the first gap or flow indicator.
-use Rattle.std.proofs.Common.{◌≡◌, ℕ, List, [], ◌∷◌, ◌++◌, Bool, true, false, not, ◌&&◌, ◌||◌, ◌==◌, if◌then◌else◌, Some, None, ◌⊎◌, inl, inr, append_assoc, sym, ap, subst, ◌∙◌, refl}
-use Rattle.std.proofs.lemmas.Bool.{eqb-true}
-use Rattle.defs_text.specs.Classes.{is_blank, is_break, is_nul, is_blank_or_end, is_flow, is_decimal_digit, is_letter, is_alpha, is_uri, is_tag, is_at_gap}
-use Rattle.defs_text.specs.FlowScalar.{begins_with}
-use Rattle.defs_text.specs.Tags.{all_of, leading, after, is_same, decoded, is_tag_mark, Tag, tag_by, tag_of_class, verbatim, begins_with_mark, named, shorthand, after_mark, written_tag}
-use Rattle.defs_token.specs.Plain.{begins_flow}
-use Rattle.proof_row.specs.Ends.{TagsHaveOneEnd}
+use Rattle.proof_row.proofs.Common.{[], after, after_mark, all_of, ap, append_assoc, begins_flow, begins_with, begins_with_mark, Bool, decoded, eqb-true, false, if◌then◌else◌, inl, inr, is_alpha, is_at_gap, is_blank, is_blank_or_end, is_break, is_decimal_digit, is_flow, is_letter, is_nul, is_same, is_tag, is_tag_mark, is_uri, leading, List, named, None, not, refl, shorthand, Some, subst, sym, Tag, tag_by, tag_of_class, TagsHaveOneEnd, true, verbatim, written_tag, ℕ, ◌&&◌, ◌++◌, ◌==◌, ◌||◌, ◌∙◌, ◌∷◌, ◌≡◌, ◌⊎◌}
 use Rattle.proof_row.proofs.Runs.{both, joined, contrary, same_head, ends_run, runs}
 use Rattle.proof_row.proofs.Texts.{gaps, flows, leading_after, all_leading, all_weaker, all_append}
 

@@ -1,9 +1,5 @@
 -- Characters that end a piece, and the texts before and after a run.
-use Rattle.std.proofs.Common.{◌≡◌, ℕ, List, [], ◌∷◌, ◌++◌, Bool, true, false, ◌||◌, ◌==◌, if◌then◌else◌, sym, ap, subst, refl}
-use Rattle.std.proofs.lemmas.Bool.{eqb-true}
-use Rattle.defs_text.specs.Classes.{is_blank, is_break, is_nul, is_blank_or_end, is_flow}
-use Rattle.defs_text.specs.Tags.{all_of, leading, after}
-use Rattle.defs_text.specs.Text.{has_no_nul}
+use Rattle.proof_row.proofs.Common.{[], after, all_of, ap, Bool, eqb-true, false, has_no_nul, if◌then◌else◌, is_blank, is_blank_or_end, is_break, is_flow, is_nul, leading, List, refl, subst, sym, true, ℕ, ◌++◌, ◌==◌, ◌||◌, ◌∷◌, ◌≡◌}
 use Rattle.proof_row.proofs.Runs.{both, joined}
 
 -- ---- characters

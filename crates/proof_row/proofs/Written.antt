@@ -1,19 +1,8 @@
 -- The text says which piece comes: at like accounts, two steps with which one text begins have the same separation, piece and token.
-use Rattle.std.proofs.Common.{◌≡◌, ◌≢◌, ℕ, List, [], ◌∷◌, ◌++◌, Bool, true, false, not, if◌then◌else◌, Option, Some, None, map, sym, ap, ◌∙◌, refl}
-use Rattle.defs_token.specs.Token.{Tok, scalar, literal}
-use Rattle.defs_text.specs.Position.{position_after}
-use Rattle.defs_token.specs.Account.{innermost_column, is_adjacent, before_past}
-use Rattle.defs_text.specs.Text.{is_empty, has_no_nul}
-use Rattle.defs_token.specs.Piece.{Holds}
-use Rattle.proof_row.specs.Ends.{Kind, directive_line, dashes, dots, kind_of, IsSeenAlike}
+use Rattle.proof_row.proofs.Common.{[], Act, act_of, ap, before_past, blocks_at, Bool, dashes, directive_line, dots, Entry, false, has_no_nul, Holds, if◌then◌else◌, innermost_column, is_adjacent, is_empty, is_in_flow, is_marker, IsSeenAlike, IsWritten, Kind, kind_of, level_of, List, literal, map, None, not, not_ended, Option, position_after, refl, scalar, seen, shown_position, Site, site_at, Some, Step, sym, Tok, true, ℕ, ◌++◌, ◌∙◌, ◌∷◌, ◌≡◌, ◌≢◌}
 use Rattle.proof_row.proofs.Texts.{no_nul_after}
 use Rattle.proof_row.proofs.Pieces.{pieces_seen_alike, separations_before}
-use Rattle.defs_token.specs.Step.{Step, Act, act_of, is_marker}
-use Rattle.defs_token.specs.Column.{blocks_at, not_ended}
-use Rattle.defs_token.specs.FlowEntry.{Entry}
-use Rattle.defs_token.specs.RowAccount.{Site, Account, is_in_flow, site_at, before_by, level_of, seen}
-use Rattle.defs_token.specs.Tokens.{shown_position}
-use Rattle.defs_token.specs.Row.{IsWritten}
+use Rattle.defs_token.specs.RowAccount.{Account, before_by}
 use Rattle.proof_row.proofs.Like.{LikeEntries, IsLike}
 use Rattle.proof_row.proofs.Accounts.{same_flow}
 

@@ -8,4 +8,3 @@ pub mod QuotedCuts
 pub mod Reasons
 pub mod Settings
 pub mod Stuck
-pub mod Ways

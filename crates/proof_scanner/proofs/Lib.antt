@@ -1,6 +1,7 @@
 pub mod Complete
 pub mod Cut
 pub mod First
+pub mod Known
 pub mod Refusals
 pub mod Sound
 mod Common

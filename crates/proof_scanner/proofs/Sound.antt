@@ -11,6 +11,7 @@ pub mod ColonKeys
 pub mod ColonSpaces
 pub mod Colons
 pub mod Completed
+pub mod CutsSoFar
 pub mod Dashes
 pub mod DocumentLines
 pub mod DocumentMarks
@@ -18,6 +19,7 @@ pub mod Ended
 pub mod EntryEnds
 pub mod EntryPieces
 pub mod Fetches
+pub mod FirstTokens
 pub mod FlowMarks
 pub mod FlowStarts
 pub mod FlowSteps
@@ -45,6 +47,7 @@ pub mod QuotedBreaks
 pub mod QuotedEnds
 pub mod QuotedKeeps
 pub mod QuotedLines
+pub mod Reached
 pub mod ReadNodes
 pub mod Rolled
 pub mod Runs

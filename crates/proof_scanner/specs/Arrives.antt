@@ -15,7 +15,8 @@ use Rattle.defs_token.specs.Tokens.{ends_at}
 use Rattle.model_scanner.specs.State.{Key, ScannerState}
 use Rattle.proof_lexers.specs.Separations.{begins_separation}
 use Rattle.proof_scanner.specs.Choices.{outside_key, chosen, MayChoose, IsCarriedOn}
-use Rattle.proof_scanner.specs.Completes.{tokens_up_to, Completes}
+use Rattle.proof_scanner.specs.Completes.{tokens_up_to, SoFar}
+use Rattle.proof_scanner.specs.KnownKeys.{KnowsKey}
 use Rattle.proof_scanner.specs.StandsInRow.{columns, has_open_level, AreLevels, AreEntries, is_free, IsOpenOutside, AreNumbered}
 
 -- the site at a piece that is not for the document
@@ -66,5 +67,6 @@ pub record Arrives (text : List ℕ) (t : ScannerState) : Type 0 where
   pub started : t.held.started ≡ true
   pub going : t.held.ended ≡ false
   pub carries : IsCarriedOn text (separation ++ t.rest) t.rest t.held.keys base
-  pub completes : (c : Bool) (cs : List Bool) → MayChoose c (outside_key base.entries t.held.keys) t.held.position t.rest →
-      Completes text (separation ++ t.rest) (chosen c cs t.held.keys base) (tokens_up_to (chosen c cs t.held.keys base) t.held.keys tokens)
+  pub knows : KnowsKey text (separation ++ t.rest) t.held.position (outside_key base.entries t.held.keys)
+  pub completes : (strict c : Bool) (cs : List Bool) → MayChoose strict c (outside_key base.entries t.held.keys) t.held.position t.rest →
+      SoFar strict text (separation ++ t.rest) (chosen c cs t.held.keys base) (tokens_up_to (chosen c cs t.held.keys base) t.held.keys tokens)

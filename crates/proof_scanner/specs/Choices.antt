@@ -45,11 +45,13 @@ outside_key (e ∷ es) ks = outside_key es (pop ks)
 abbrev pub chosen : (outside : Bool) → (inside : List Bool) → List (Option Key) → Account → Account
 chosen c cs ks a = record { site = a.site; line = line_by c (outside_key a.entries ks) a.line; entries = entries_by cs ks a.entries }
 
--- Outside flow an open key may still be one on its line, where the text goes on; and one that must be a key is one.
-abbrev pub MayChoose : Bool → Option Key → Position → (rest : List ℕ) → Type 0
-MayChoose c None p rest = Unit {0}
-MayChoose true (Some k) p rest = IsLive k p rest
-MayChoose false (Some k) p rest = k.required ≡ false
+-- Of a row: outside flow an open key may still be one on its line, where the text goes on; and one that must be a key is one. Of a cut alone: outside flow no open key is one.
+abbrev pub MayChoose : (strict : Bool) → Bool → Option Key → Position → (rest : List ℕ) → Type 0
+MayChoose strict c None p rest = Unit {0}
+MayChoose true true (Some k) p rest = IsLive k p rest
+MayChoose true false (Some k) p rest = k.required ≡ false
+MayChoose false true (Some k) p rest = ⊥
+MayChoose false false (Some k) p rest = Unit {0}
 
 -- In flow, where the text goes on: the open key outside flow, if it must be one, has begun so that a row may begin so but for this key, whatever is chosen in the entries.
 abbrev pub IsCarriedOn : (text after rest : List ℕ) → List (Option Key) → Account → Type 0

@@ -1,17 +1,17 @@
 -- How what the scanner holds goes on to the tokens of a row: keys that wait are put in where their colons come.
 use Rattle.std.specs.Prelude.{◌≡◌, ℕ, suc, List, [], ◌∷◌, ◌++◌, Bool, true, false, Option, Some, None}
 use Rattle.std.specs.List.{insert}
-use Rattle.defs_text.specs.Position.{Position}
-use Rattle.defs_token.specs.Token.{Token, block_mapping_start, flow_mapping_start, key}
+use Rattle.defs_text.specs.Position.{Position, first_position}
+use Rattle.defs_token.specs.Token.{Token, stream_start, block_mapping_start, flow_mapping_start, key}
 use Rattle.defs_token.specs.Step.{Step, spelled}
 use Rattle.defs_token.specs.Column.{is_deeper}
-use Rattle.defs_token.specs.Key.{Line, waits as waits_on_line}
+use Rattle.defs_token.specs.Key.{Line, is_waiting, waits as waits_on_line}
 use Rattle.defs_token.specs.FlowEntry.{Had, waits, Entry, takes_pair}
-use Rattle.defs_token.specs.RowAccount.{Account}
+use Rattle.defs_token.specs.RowAccount.{Account, first_account}
 use Rattle.defs_token.specs.Tokens.{put, pair_position, Colon, colon_of, tokens_from}
-use Rattle.defs_token.specs.Row.{IsRowFrom, IsRead}
 use Rattle.defs_token.specs.Beginning.{Begins}
 use Rattle.model_scanner.specs.State.{Key}
+use Rattle.proof_row.proofs.Cuts.{IsCutUpTo}
 
 -- ---- the tokens of a key that waits
 
@@ -48,6 +48,15 @@ tokens_up_to a ks ts ws last = with_keys 0 a.site.position ws last a.site.blocks
 
 -- ---- rows
 
--- A row of the whole text may begin so that it leads to an account. Whatever completes it from there on, with this text, makes a row of the whole text, and its tokens are those up to the account and those from there on.
+-- A row of the whole text may begin so that it leads to an account. Whatever steps spell the rest of the text, the tokens of all steps are those up to the account and those from there on.
 abbrev pub Completes : (text after : List ℕ) → Account → (tokens : List Step → List ℕ → List Token) → Type 0
-Completes text after a tokens = Begins text after a × ((ws : List Step) (last : List ℕ) → spelled ws last ≡ after → IsRowFrom (Some a) ws last → IsRead text (tokens ws last ++ tokens_from (Some a) ws last))
+Completes text after a tokens = (g : Begins text after a) × ((ws : List Step) (last : List ℕ) → spelled ws last ≡ after → put first_position stream_start ∷ tokens_from (Some first_account) (g.steps ++ ws) last ≡ tokens ws last ++ tokens_from (Some a) ws last)
+
+-- Tokens are a cut of the text up to an account at which no key waits outside flow, whatever steps spell the rest of the text.
+abbrev pub Cuts : (text after : List ℕ) → Account → (tokens : List Step → List ℕ → List Token) → Type 0
+Cuts text after a tokens = (is_waiting a.line ≡ false) × ((ws : List Step) (last : List ℕ) → spelled ws last ≡ after → IsCutUpTo text after a (tokens ws last))
+
+-- of a row, or of a cut alone
+abbrev pub SoFar : (strict : Bool) → (text after : List ℕ) → Account → (tokens : List Step → List ℕ → List Token) → Type 0
+SoFar true text after a tokens = Completes text after a tokens
+SoFar false text after a tokens = Cuts text after a tokens

@@ -9,11 +9,10 @@ use Rattle.defs_token.specs.Account.{is_adjacent, before_past}
 use Rattle.defs_token.specs.Plain.{is_value_indicator}
 use Rattle.defs_token.specs.Step.{gives_node, quoted_scalar}
 use Rattle.defs_token.specs.Indentation.{least_column, is_indented_by_spaces}
-use Rattle.defs_token.specs.Key.{Line, taken, waits, is_near, begins_free_line, line_past_separation}
+use Rattle.defs_token.specs.Key.{Line, taken, waits, begins_free_line, line_past_separation}
 use Rattle.defs_token.specs.FlowEntry.{Entry}
 use Rattle.defs_token.specs.FlowEntry as entry
 use Rattle.defs_token.specs.RowAccount.{Site, Account, before_by, is_in_flow, site_in}
-use Rattle.defs_token.specs.Beginning.{IsPlace, BeginsButForKey}
 use Rattle.yaml_tokens.specs.declared.problem.Problem.{Problem}
 use Rattle.yaml_tokens.specs.declared.problem.Problem.TheVariants as problem
 use Rattle.proof_lexers.specs.Separations.{begins_separation}

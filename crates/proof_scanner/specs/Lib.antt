@@ -10,7 +10,7 @@ pub mod FirstPlain
 pub mod FirstQuoted
 pub mod Goes
 pub mod Here
-pub mod Inside
+pub mod KnownKeys
 pub mod Laws
 pub mod Never
 pub mod NoPiece
@@ -22,4 +22,3 @@ pub mod Stands
 pub mod StandsInRow
 pub mod Stuck
 pub mod Told
-pub mod Ways

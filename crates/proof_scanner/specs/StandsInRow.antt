@@ -23,11 +23,13 @@ use Rattle.model_scanner.specs.Fetch.{fetch}
 use Rattle.model_scanner.specs.Run.{start, HasTokens}
 use Rattle.proof_lexers.specs.PlainEnds.{begins_white}
 use Rattle.proof_scanner.specs.Here.{IsLive, IsNotRight}
-use Rattle.proof_scanner.specs.Order.{NotBefore}
-use Rattle.proof_scanner.specs.Stands.{IsAdjacent, FaresAt}
+use Rattle.proof_scanner.specs.Order.{After}
+use Rattle.proof_scanner.specs.Positions.{IsAtEnd}
+use Rattle.proof_scanner.specs.Stands.{IsAdjacent}
 use Rattle.defs_token.specs.Column.{innermost}
 use Rattle.proof_scanner.specs.Choices.{outside_key, chosen, MayChoose, IsCarriedOn}
-use Rattle.proof_scanner.specs.Completes.{tokens_up_to, Completes}
+use Rattle.proof_scanner.specs.Completes.{tokens_up_to, SoFar}
+use Rattle.proof_scanner.specs.KnownKeys.{KnowsKey}
 
 -- ---- levels of indentation
 
@@ -133,10 +135,10 @@ pub record IsOpenHere (k : Key) (p : Position) (collection : List ℕ) : Type 0 
   pub column_is : IsNotRight (innermost collection) k.position.col
   pub must_be : k.required ≡ is_in_column k.position.col collection
 
--- The same; and it began before the position after the last piece, or there.
+-- The same; and it began before the position after the last piece.
 abbrev pub IsOpenOutside : Option Key → (past_piece here : Position) → (rest collection : List ℕ) → Type 0
 IsOpenOutside None q p rest bs = Unit {0}
-IsOpenOutside (Some k) q p rest bs = NotBefore k.position q × (IsLive k p rest → IsOpenHere k p bs)
+IsOpenOutside (Some k) q p rest bs = After k.position q × (IsLive k p rest → IsOpenHere k p bs)
 
 -- ---- open keys
 
@@ -211,18 +213,19 @@ pub record Stands (text : List ℕ) (t : ScannerState) : Type 0 where
   pub started : t.held.started ≡ true
   pub going : t.held.ended ≡ false
   pub carries : IsCarriedOn text (separation ++ t.rest) t.rest t.held.keys base
-  pub completes : (c : Bool) (cs : List Bool) → MayChoose c (outside_key base.entries t.held.keys) t.held.position t.rest →
-      Completes text (separation ++ t.rest) (chosen c cs t.held.keys base) (tokens_up_to (chosen c cs t.held.keys base) t.held.keys t.held.tokens)
+  pub knows : KnowsKey text (separation ++ t.rest) t.held.position (outside_key base.entries t.held.keys)
+  pub completes : (strict c : Bool) (cs : List Bool) → MayChoose strict c (outside_key base.entries t.held.keys) t.held.position t.rest →
+      SoFar strict text (separation ++ t.rest) (chosen c cs t.held.keys base) (tokens_up_to (chosen c cs t.held.keys base) t.held.keys t.held.tokens)
 
 -- a state of a run: before the stream's start, between two fetches, or after the stream's end
 pub data Fares (text : List ℕ) (t : ScannerState) : Type 0 where
   begins : t ≡ start text → Fares text t
   goes : Stands text t → Fares text t
-  over : t.held.ended ≡ true → IsRead text t.held.tokens → Fares text t
+  over : t.held.ended ≡ true → IsRead text t.held.tokens → IsAtEnd text t.held → Fares text t
 
--- what is to be shown of a fetch: it keeps this, where the tokens so far are a cut of the text
+-- what is to be shown of a fetch: it keeps this
 abbrev pub FetchKeeps : Type 0
-FetchKeeps = (text : List ℕ) (t u : ScannerState) → has_no_nul text ≡ true → FaresAt text t → Stands text t → fetch t ≡ Ok u → Fares text u
+FetchKeeps = (text : List ℕ) (t u : ScannerState) → has_no_nul text ≡ true → Stands text t → fetch t ≡ Ok u → Fares text u
 
 -- what follows: the tokens that the model gives a text are those of its row
 abbrev pub TokensAreOfARow : Type 0

@@ -19,14 +19,14 @@ pub fn lexing_functions_read_pieces()
 
 /// The tokens that the scanner's model gives a text without NUL are a cut of it: the text is a row of separations and
 /// pieces in order, and each piece belongs to its token.
-#[tactic(auto, using(crate::proofs::Cut::Fetched::tokens_are_cut))]
+#[tactic(auto, using(crate::proofs::Sound::FirstTokens::tokens_are_cut))]
 pub fn tokens_are_a_cut()
     ensures { TokensAreACut }
 {}
 
 /// At each state of the model, and so before any fault, the tokens so far and every beginning of them are a cut of a
 /// beginning of the text. With the stream's end they are a cut of the whole text.
-#[tactic(auto, using(crate::proofs::Cut::Beginnings::first_tokens_are_cut))]
+#[tactic(auto, using(crate::proofs::Sound::FirstTokens::first_tokens_are_cut))]
 pub fn first_tokens_are_a_cut()
     ensures { FirstTokensAreACut }
 {}
@@ -55,7 +55,7 @@ pub fn tokens_are_of_a_row()
 
 /// The scanner's model gives each text without NUL that has a row the row's tokens, in order and with their positions: it
 /// refuses no text that has a row.
-#[tactic(auto, using(crate::proofs::Complete::Complete::texts_with_a_row_are_read))]
+#[tactic(auto, using(crate::proofs::Complete::texts_with_a_row_are_read))]
 pub fn texts_with_a_row_are_read()
     ensures { IsComplete }
 {}

@@ -1,6 +1,5 @@
 -- What holds of each indicator, and of each other character, holds of all.
-use Rattle.std.proofs.Common.{◌≡◌, ℕ, false, ◌==◌}
-use Rattle.proof_lexers.proofs.Bridges.{row}
+use Rattle.proof_scanner.proofs.Common.{false, row, ℕ, ◌==◌, ◌≡◌}
 
 -- a character that is no indicator, no blank, no break and no NUL
 pub record Ordinary (c : ℕ) : Type 0 where

@@ -1,26 +1,11 @@
--- The next token by its first characters: what holds between fetches holds after it.
-use Rattle.std.proofs.Common.{◌≡◌, ℕ, ◌+◌, List, [], ◌∷◌, Bool, true, false, not, ◌==◌, ◌&&◌, ◌||◌, if◌then◌else◌, slice_index, Result, Err, refl, ap, sym, ◌∙◌, arith}
-use Rattle.proof_scanner.proofs.Common.{begins_flow, begins_separation, begins_token, comes_plain, FaresAt, Fault, fetch_anchor, fetch_block_entry, fetch_block_scalar, fetch_flow_collection_end, fetch_flow_collection_start, fetch_flow_entry, fetch_flow_scalar, fetch_key, fetch_plain_scalar, fetch_tag, fetch_token, fetch_value, has_no_nul, in_flow, is_adjacent, is_at_gap, is_blank_or_breakz, is_document_marker, is_empty, is_one_of, is_value_indicator, Mapping, may_begin, peek, ScannerState, Tok}
+-- The next token by its first characters.
+use Rattle.proof_scanner.proofs.Common.{[], ap, At, begins_flow, begins_separation, Bool, class_of, comes_plain, Err, false, Fault, fetch_anchor, fetch_block_entry, fetch_block_scalar, fetch_flow_collection_end, fetch_flow_collection_start, fetch_flow_entry, fetch_flow_scalar, fetch_key, fetch_plain_scalar, fetch_tag, fetch_token, fetch_value, has_no_nul, if◌then◌else◌, in_flow, is_at_gap, is_blank_or_breakz, is_document_marker, is_empty, is_value, is_value_indicator, is_white, List, Mapping, may_begin, not, peek, quote_of, refl, Result, same_gap, ScannerState, slice_index, sym, Tok, token_by, true, ℕ, ◌&&◌, ◌==◌, ◌||◌, ◌∙◌, ◌∷◌, ◌≡◌}
 use Rattle.yaml_chars.specs.Class.{is_blank, is_break, is_flow}
 use Rattle.defs_text.specs.Classes as classes
-use Rattle.yaml_tokens.specs.declared.problem.Fault.TheVariants.{At}
 use Rattle.yaml_tokens.specs.declared.problem.Problem.TheVariants as problem
 use Rattle.model_scanner.specs.declared.level.FlowLevel.TheVariants.{Entry}
-use Rattle.model_scanner.specs.Class.{class_of}
-use Rattle.model_scanner.specs.Quoted.{quote_of}
-use Rattle.model_scanner.specs.Fetch.{is_value, token_by}
-use Rattle.model_scanner.proofs.Holds.{Holds, refused}
-use Rattle.proof_lexers.proofs.Bridges.{same_gap, same_flow}
-use Rattle.proof_lexers.specs.PlainEnds.{is_white}
-use Rattle.proof_scanner.proofs.Cut.Heres.{before_again}
+use Rattle.proof_lexers.proofs.Bridges.{same_flow}
 use Rattle.proof_scanner.proofs.Cut.Characters.{Ordinary, of_all}
-use Rattle.proof_scanner.proofs.Cut.Nodes.{Ready, IsDeep, anchor_fetched, tag_fetched, plain_fetched}
-use Rattle.proof_scanner.proofs.Cut.Scalars.{flow_scalar_fetched, block_fetched}
-use Rattle.proof_scanner.proofs.Cut.Flows.{opening_sequence, opening_mapping, flow_started}
-use Rattle.proof_scanner.proofs.Cut.FlowEnds.{closing_sequence, closing_mapping, flow_ended, entry_passed}
-use Rattle.proof_scanner.proofs.Cut.Blocks.{block_entry}
-use Rattle.proof_scanner.proofs.Cut.Keys.{key_fetched}
-use Rattle.proof_scanner.proofs.Cut.ValuesFetched.{value_fetched}
 
 -- ---- characters
 
@@ -213,36 +198,3 @@ module _ (Q : Result ScannerState Fault → Type 0) (t : ScannerState) (adjacent
       by : (l : List ℕ) → t.rest ≡ l → is_empty l ≡ false → Q (token_by (class_of (peek t.rest)) t)
       by [] e n = absurd (cc n)
       by (c ∷ more) e n = rw (ap peek e) (each c more e)
-
--- ---- what holds between fetches
-
-pub token_fetched : (text : List ℕ) (t : ScannerState) → Ready text t → IsDeep t.held → ((t.held.position.col == 0) && is_document_marker t.rest) ≡ false → Holds (FaresAt text) (fetch_token t)
-token_fetched text t r deep marker =
-    token_holds (Holds (FaresAt text)) t (is_adjacent r.stands.before) r.stands.stood.here.is_clean r.solid now marker (record {
-      anchor = λ alias more e. anchor_fetched text alias t more e r.stands deep;
-      tag = λ more e. tag_fetched text t more e r.stands deep;
-      plain = plain_fetched text t r.stands deep;
-      quoted = λ single more e. flow_scalar_fetched text single t more e r.stands deep;
-      block = λ literal more e o. block_fetched text literal t more e o r.stands deep;
-      dash = λ more e g. block_entry text more t e g r.stands;
-      question = λ more e g. key_fetched text more t e g r.stands;
-      colon = λ more e i. value_fetched text more t e r.stands (sym (value_is t (is_adjacent r.stands.before) more e now) ∙ i) r.near;
-      open_bracket = λ more e. flow_started text Entry Tok.flow_sequence_start 91 more opening_sequence t e r.stands deep;
-      open_brace = λ more e. flow_started text Mapping Tok.flow_mapping_start 123 more opening_mapping t e r.stands deep;
-      close_bracket = λ more e. flow_ended text Tok.flow_sequence_end 93 more closing_sequence t e r.stands;
-      close_brace = λ more e. flow_ended text Tok.flow_mapping_end 125 more closing_mapping t e r.stands;
-      comma = λ more e. entry_passed text more t e r.stands;
-      percent = λ more e. refused;
-      at_sign = λ more e. refused;
-      backtick = λ more e. refused;
-    }) r.some
-  where
-    begins : (l : List ℕ) → is_empty l ≡ false → begins_separation l ≡ false → begins_token l ≡ true
-    begins [] n s = absurd (cc n)
-    begins (c ∷ l) n s = ap not s
-
-    -- in flow, whether a colon may stand here is what the account says
-    now : is_empty t.held.flow ≡ false → (t.held.position.index == t.held.adjacent_value_at) ≡ is_adjacent r.stands.before
-    now inside =
-        let no_more : t.held.position.index + 0 ≡ t.held.position.index = omega arith in
-        sym (ap is_adjacent (sym (before_again r.stands.before)) ∙ r.stands.is_adjacent_here inside [] t.rest refl refl (begins t.rest r.some r.solid) ∙ ap (λ n. n == t.held.adjacent_value_at) no_more)

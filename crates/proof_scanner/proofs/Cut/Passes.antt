@@ -1,14 +1,7 @@
 -- What the model passes between tokens.
-use Rattle.std.proofs.Common.{◌≡◌, ℕ, List, ◌++◌, Bool, true, false, Result, refl, ap, sym, ◌∙◌, subst, append_assoc}
-use Rattle.proof_scanner.proofs.Common.{Before, before_past, begins_separation, ends_spaces, Fault, FlowLevel, glued, GoesOverAs, Held, Indent, is_separation, lexed, misses, PassesAs, Position, position_after, position_append, ScannerState, separations_are_passed, skip, skip_spaces, skip_to_next_token, skip_yaml_whitespace, SkipTabs, spaces, spaces_are_passed, SpacesAs, Stood, Token, white, white_space_is_passed, Whitespace}
-use Rattle.model_scanner.specs.Machine.{Read}
-use Rattle.model_scanner.specs.Blanks.{space}
-use Rattle.model_scanner.specs.Space.{between}
-use Rattle.model_scanner.proofs.Holds.{Holds, went, refused}
+use Rattle.proof_scanner.proofs.Common.{append_assoc, are_spaces, begins_separation, between, Bool, ends_spaces, false, Fault, glued, GoesOverAs, Held, Holds, is_separation, lexed, List, misses, passes, PassesAs, Position, position_after, Read, refl, refused, refuses, Result, ScannerState, separations_are_passed, skip, skip_spaces, skip_to_next_token, skip_yaml_whitespace, SkipTabs, space, spaces, spaces_are_passed, SpacesAs, sym, true, went, white, white_space_is_passed, Whitespace, ℕ, ◌++◌, ◌∙◌, ◌≡◌}
 use Rattle.proof_lexers.specs.PlainEnds.{has_break}
-use Rattle.proof_lexers.specs.Separations.{passes, refuses, goes, are_spaces}
-use Rattle.proof_scanner.proofs.Cut.Pieces.Separations.{separation_append}
-use Rattle.proof_scanner.proofs.Cut.Stoods.{stood_filled}
+use Rattle.proof_lexers.specs.Separations.{goes}
 
 -- a held state at another position
 abbrev pub placed_at : Held → Position → (leading allowed : Bool) → Held
@@ -22,16 +15,6 @@ pub record Passed (t u : ScannerState) : Type 0 where
   pub is_rest : t.rest ≡ separation ++ u.rest
   pub is_filled : is_separation false separation u.rest ≡ true
   pub is_held : u.held ≡ placed_at t.held (position_after t.held.position separation u.rest) leading allowed
-
--- a separation was passed, from a position on
-pub record Filled (rest : List ℕ) (p : Position) (u : ScannerState) : Type 0 where
-  pub separation : List ℕ
-  pub is_rest : rest ≡ separation ++ u.rest
-  pub is_filled : is_separation false separation u.rest ≡ true
-  pub is_position : u.held.position ≡ position_after p separation u.rest
-
-abbrev pub filled_of : (t u : ScannerState) → Passed t u → Filled t.rest t.held.position u
-filled_of t u a = record { separation = a.separation; is_rest = a.is_rest; is_filled = a.is_filled; is_position = ap (λ h. h.position) a.is_held }
 
 -- the same, up to a token or the text's end
 pub record PassedAll (t u : ScannerState) : Type 0 where
@@ -85,25 +68,3 @@ passed_spaces tabs t u s = record {
   is_filled = s.is_filled;
   is_held = s.is_held;
 }
-
--- one after another
-pub passed_both : (t u v : ScannerState) → Passed t u → Passed u v → Passed t v
-passed_both t u v a b =
-    let cut : t.rest ≡ (a.separation ++ b.separation) ++ v.rest = a.is_rest ∙ ap (λ r. a.separation ++ r) b.is_rest ∙ sym (append_assoc a.separation b.separation v.rest) in
-    let position : position_after u.held.position b.separation v.rest ≡ position_after t.held.position (a.separation ++ b.separation) v.rest =
-    ap (λ h. position_after h.position b.separation v.rest) a.is_held ∙ ap (λ r. position_after (position_after t.held.position a.separation r) b.separation v.rest) b.is_rest ∙ sym (position_append t.held.position a.separation b.separation v.rest) in
-    record {
-      separation = a.separation ++ b.separation;
-      leading = b.leading;
-      allowed = b.allowed;
-      is_rest = cut;
-      is_filled = separation_append false a.separation b.separation v.rest (rw b.is_rest at a.is_filled) b.is_filled;
-      is_held = b.is_held ∙ ap (λ h. placed_at h (position_after u.held.position b.separation v.rest) b.leading b.allowed) a.is_held ∙ ap (λ p. placed_at t.held p b.leading b.allowed) position;
-    }
-
--- what was passed of a text is passed after a separation too
-pub stood_passed : (text : List ℕ) (t u : ScannerState) (tokens : List Token) (keys : List _) (indents : List Indent) (indent : ℕ) (flow : List FlowLevel) (before : Before) → (a : Passed t u) →
-    Stood text t.rest t.held.position tokens keys indents indent flow before → Stood text u.rest u.held.position tokens keys indents indent flow (before_past before a.separation)
-stood_passed text t u tokens keys indents indent flow before a s =
-    subst (λ h. Stood text u.rest h.position tokens keys indents indent flow (before_past before a.separation)) (sym a.is_held)
-    (stood_filled text t.rest t.held.position tokens keys indents indent flow before a.separation u.rest a.is_rest a.is_filled s)

@@ -1,8 +1,5 @@
 -- Positions after texts.
-use Rattle.std.proofs.Common.{◌≡◌, ℕ, suc, ◌+◌, List, [], ◌∷◌, ◌++◌, Bool, true, false, if◌then◌else◌, length, refl, arith}
-use Rattle.proof_scanner.proofs.Common.{NotBefore, Position, position_after, position_past}
-use Rattle.defs_text.specs.Breaks.{ends_line}
-use Rattle.proof_scanner.specs.Order.{After}
+use Rattle.proof_scanner.proofs.Common.{[], After, arith, Bool, ends_line, false, if◌then◌else◌, is_empty, length, List, NotBefore, Position, position_after, position_past, refl, suc, true, ℕ, ◌++◌, ◌+◌, ◌∷◌, ◌≡◌}
 
 pub not_before_same : (p : Position) → NotBefore p p
 not_before_same p = (omega arith, λ h. omega arith)
@@ -45,3 +42,8 @@ index_past p c next = by (ends_line c next)
 pub index_after : (p : Position) (a next : List ℕ) → (position_after p a next).index ≡ p.index + length a
 index_after p [] next = omega arith
 index_after p (c ∷ a) next = omega (arith, index_after (position_past p c (a ++ next)) a next, index_past p c (a ++ next))
+
+-- the position after a piece
+pub after_piece : (p : Position) (piece next : List ℕ) → is_empty piece ≡ false → After p (position_after p piece next)
+after_piece p [] next h = absurd (cc h)
+after_piece p (c ∷ piece) next h = is_after p c piece next

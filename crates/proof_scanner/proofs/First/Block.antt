@@ -1,19 +1,8 @@
 -- A block scalar has one fault that comes first.
-use Rattle.std.proofs.Common.{◌≡◌, ℕ, ◌-◌, List, [], ◌∷◌, ◌++◌, Bool, true, false, ◌||◌, ◌&&◌, ◌==◌, if◌then◌else◌, Option, Some, None, refl, ap, sym, ◌∙◌, subst}
-use Rattle.std.proofs.lemmas.Bool.{and_parts, eqb-true}
-use Rattle.std.proofs.lemmas.List.{append_cancel_right}
-use Rattle.proof_scanner.proofs.Common.{begins_with, block_first, BlockStyle, has_no_nul, header_of, indicator_of, innermost, is_at_end, is_blanks_and_comment, is_rest_of_line, IsBlockFault, IsNoHeader, past_spaces, Position, position_after, Problem, split, tab}
-use Rattle.defs_text.specs.BlockScalar.{literal, folded, strip, keep, Chomping, Header, sign_of, digit_of, after_sign, digit_or_end, after_digit, sign_or_end, after_style, first_indicator}
-use Rattle.defs_text.specs.Classes.{is_blank, is_between}
+use Rattle.proof_scanner.proofs.Common.{[], after_digit, after_sign, after_style, and_parts, ap, append_cancel_right, begins_with, block_first, blocks, BlockStyle, Bool, Chomping, digit_of, digit_or_end, eqb-true, false, first_indicator, first_line, folded, has_header, has_no_nul, has_zero, Header, header_first, header_of, if◌then◌else◌, indicator_of, innermost, is_at_end, is_between, is_blank, is_blanks_and_comment, is_in_line, is_rest_of_line, is_sign, IsBlockFault, IsNoHeader, keep, line_is, line_more, List, literal, no_nul_after, None, Option, past_indicators, past_spaces, Position, position_after, Problem, refl, sign_of, sign_or_end, Some, split, strip, style_inner, style_same, subst, sym, tab, true, up_to_break, ℕ, ◌&&◌, ◌++◌, ◌-◌, ◌==◌, ◌||◌, ◌∙◌, ◌∷◌, ◌≡◌}
 use Rattle.proof_lexers.specs.HeaderEnds as headers
-use Rattle.proof_lexers.specs.HeaderEnds.{is_in_line, is_sign, has_zero, past_one, past_indicators}
-use Rattle.proof_lexers.proofs.Blocks.Ends.{style_same}
-use Rattle.proof_lexers.proofs.Blocks.Scans.{style_inner}
-use Rattle.proof_row.proofs.Blocks.{has_header, blocks}
-use Rattle.proof_row.proofs.Lines.{first_line, up_to_break, line_is, line_more}
-use Rattle.proof_row.proofs.Texts.{no_nul_after}
+use Rattle.proof_lexers.specs.HeaderEnds.{past_one}
 use Rattle.proof_scanner.specs.NoPiece as none
-use Rattle.proof_scanner.specs.FirstBlock.{header_first}
 use Rattle.proof_scanner.proofs.Refusals.TextsRefused.{first_of, piece_line}
 
 -- ---- a header's line after its indicators

@@ -1,14 +1,7 @@
 -- Of two reasons at one indicator that both come first, kind and position are the same.
-use Rattle.std.proofs.Common.{◌≡◌, ℕ, List, [], ◌∷◌, ◌++◌, Bool, true, false, not, ◌==◌, ◌&&◌, ◌||◌, refl, ap, sym, ◌∙◌, arith, subst}
-use Rattle.std.proofs.lemmas.Bool.{and_parts, eqb-true}
-use Rattle.std.proofs.lemmas.Bool.Decides.{nat_tests}
-use Rattle.proof_scanner.proofs.Common.{begins_entry, begins_separation, begins_with_alpha, begins_with_space_or_break, colon_may_precede, ends_separation, further, has_no_nul, has_tab_before_piece, is_at_gap, is_blank_or_end, is_decimal_digit, is_letter, is_nul, is_separation, Position, position_after, Problem, separations}
-use Rattle.defs_text.specs.Classes.{is_blank, is_break, is_alpha}
+use Rattle.proof_scanner.proofs.Common.{[], and_parts, ap, arith, begins_entry, begins_separation, begins_with_alpha, begins_with_space_or_break, Bool, colon_may_precede, ends_separation, eqb-true, false, further, GoesOn, has_no_nul, has_tab_before_piece, is_alpha, is_at_gap, is_blank, is_blank_or_end, is_break, is_decimal_digit, is_letter, is_nul, is_separation, List, may_ask, nat_tests, no_nul_after, not, opens, Position, position_after, Problem, refl, separations, subst, sym, true, ℕ, ◌&&◌, ◌++◌, ◌==◌, ◌||◌, ◌∙◌, ◌∷◌, ◌≡◌}
 use Rattle.yaml_tokens.specs.declared.problem.Problem.TheVariants as problem
-use Rattle.proof_row.proofs.Texts.{no_nul_after}
-use Rattle.proof_scanner.specs.NoPiece.{GoesOn}
-use Rattle.proof_scanner.specs.First.{opens, may_ask}
-use Rattle.proof_scanner.proofs.Complete.Steps.{ends_before}
+use Rattle.proof_scanner.proofs.Known.Places.{ends_before}
 use Rattle.proof_scanner.proofs.First.Settings.{Setting}
 
 -- two faults of one kind at one place

@@ -1,25 +1,17 @@
 -- Two places of a text where something fails first: they are one place, or one fails by a TAB that the other has told.
-use Rattle.std.proofs.Common.{◌≡◌, ℕ, List, [], ◌∷◌, ◌++◌, Bool, true, false, not, Option, Some, None, refl, ap, sym, ◌∙◌, subst}
-use Rattle.std.proofs.lemmas.Bool.{and_parts}
-use Rattle.proof_scanner.proofs.Common.{act_of, begins_separation, Fails, FailsFirst, follows_plain, gives_node, has_no_nul, is_empty, is_free_of_tabs, is_indented_by_spaces, is_separation, IsLike, IsQuoted, Position, position_after, Problem, separations, Site, up_to_nul}
+use Rattle.proof_scanner.proofs.Common.{[], Account, account_past, act_of, ap, begins_separation, Bool, clean_up_to_end, comes_first, Fails, FailsFirst, false, follows_plain, gives_node, has_no_nul, is_empty, is_free_of_tabs, is_indented_by_spaces, is_separation, IsLike, IsQuoted, List, no_nul_after, None, not, Option, Position, position_after, Problem, refl, separations, Site, Some, spelled, Step, subst, sym, true, up_to_nul, ℕ, ◌++◌, ◌∙◌, ◌∷◌, ◌≡◌}
 use Rattle.defs_token.specs.Piece.{Holds}
-use Rattle.defs_token.specs.Step.{Step, spelled}
-use Rattle.defs_token.specs.RowAccount.{Account, first_account, account_past}
-use Rattle.proof_row.proofs.Pieces.{clean_up_to_end}
-use Rattle.proof_row.proofs.Texts.{no_nul_after}
-use Rattle.proof_row.proofs.Written.{At}
-use Rattle.proof_scanner.proofs.Complete.Steps.{ends_before, step_here}
+use Rattle.proof_scanner.proofs.Known.Places.{ends_before, step_here}
 use Rattle.yaml_tokens.specs.declared.problem.Problem.TheVariants as problem
 use Rattle.proof_scanner.specs.Failing as failing
-use Rattle.proof_scanner.specs.First.{comes_first}
-use Rattle.proof_scanner.proofs.Complete.Nodes.Past.{node_site_past}
+use Rattle.proof_scanner.proofs.Refusals.StandsRefused.{node_site_past}
 use Rattle.proof_scanner.proofs.Cut.Pieces.Separations.{gap_is_separation}
 use Rattle.proof_scanner.proofs.Refusals.OtherRows.{StepAt, IsClearAfter, IsClearGapAfter, no_tab_before}
 use Rattle.proof_scanner.proofs.Refusals.PlainsRefused.{no_tab}
 use Rattle.proof_scanner.proofs.Refusals.StandsRefused.{node_token, quoted_value, same_quoted_value}
 use Rattle.proof_scanner.proofs.Sound.PlainKeeps.{no_comment}
 use Rattle.proof_scanner.proofs.Refusals.NoRows.{step_refuted, no_step_stands}
-use Rattle.proof_scanner.proofs.First.Ways.{GivesUp, stays, given_up, LeadsBy, GoesOn}
+use Rattle.proof_scanner.proofs.Known.Ways.{GivesUp, stays, given_up, LeadsBy, GoesOn}
 
 -- a place that a way leads to, where content begins
 pub record Stands (a : Account) (separation rest : List ℕ) (here : Position) : Type 0 where

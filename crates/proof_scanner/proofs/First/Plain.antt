@@ -1,12 +1,7 @@
 -- A plain scalar has one fault that comes first.
-use Rattle.std.proofs.Common.{◌≡◌, ℕ, List, [], ◌∷◌, ◌++◌, Bool, true, false, Option, refl, ap, sym, ◌∙◌}
-use Rattle.std.proofs.lemmas.List.{append_cancel_left}
-use Rattle.proof_scanner.proofs.Common.{begins_flow, innermost, IsPlainFault, plain_first, Position, position_after, Problem, Stand}
-use Rattle.defs_text.specs.Classes.{is_flow}
-use Rattle.defs_token.specs.Plain.{inside, past, goes_on}
-use Rattle.proof_lexers.proofs.Plain.Found.{further_on, no_flow}
+use Rattle.proof_scanner.proofs.Common.{[], ap, append_cancel_left, begins_flow, Bool, false, further_on, goes_on, goes_over, innermost, is_flow, IsPlainFault, List, no_flow, Option, plain_first, Position, position_after, Problem, refl, Stand, sym, true, ℕ, ◌++◌, ◌∙◌, ◌∷◌, ◌≡◌}
+use Rattle.defs_token.specs.Plain.{inside, past}
 use Rattle.proof_scanner.specs.NoPiece as none
-use Rattle.proof_scanner.specs.NoPiece.{goes_over}
 
 dash_no_flow : is_flow 45 ≡ false
 unfolding is_flow

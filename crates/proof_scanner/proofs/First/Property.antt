@@ -1,15 +1,9 @@
 -- A text after a `!` is refused for one reason, and so is a line after a `%`: the fault is computed from the line, and each reason for it has that fault.
-use Rattle.std.proofs.Common.{◌≡◌, ℕ, suc, ◌+◌, ◌-◌, List, [], ◌∷◌, ◌++◌, Bool, true, false, ◌==◌, ◌&&◌, not, nat_le, if◌then◌else◌, drop, length, Option, Some, None, Result, Ok, Err, codes, refl, ap, sym, ◌∙◌, arith, length-append}
-use Rattle.proof_scanner.proofs.Common.{all_of, begins_with, begins_with_mark, decoded, Fault, first_position, further, has_no_break, is_at_gap, is_decimal_digit, is_empty, is_uri, IsDirectiveRefusal, IsTagRefusal, leading, Position, Problem, problem_of, UriFault}
-use Rattle.defs_text.specs.Classes.{is_break, is_alpha}
-use Rattle.defs_text.specs.Tags.{after, is_same}
-use Rattle.defs_text.specs.Directives.{number_of, begins_prefix}
-use Rattle.yaml_tokens.specs.declared.problem.Fault.TheVariants.{At}
+use Rattle.proof_scanner.proofs.Common.{[], after, all_of, ap, arith, At, begins_handle, begins_prefix, begins_with, begins_with_mark, Bool, codes, decoded, drop, ends_run, Err, false, Fault, first_position, from_prefix, further, has_no_break, HasName, if◌then◌else◌, is_alpha, is_at_gap, is_break, is_decimal_digit, is_empty, is_same, is_uri, IsDeclarationBefore, IsDirectiveRefusal, IsNoDeclaration, IsNoVersion, IsTagRefusal, IsVersionBefore, leading, length, length-append, List, nat_le, None, not, number_of, Ok, Option, Position, Problem, problem_of, refl, Result, runs, said, Some, suc, sym, true, UriFault, ℕ, ◌&&◌, ◌++◌, ◌+◌, ◌-◌, ◌==◌, ◌∙◌, ◌∷◌, ◌≡◌}
 use Rattle.yaml_tokens.specs.declared.problem.Problem.TheVariants as problem
 use Rattle.proof_lexers.specs.DirectiveEnds as ends
-use Rattle.proof_lexers.specs.DirectiveEnds.{ends_line, IsNoVersion, IsNoDeclaration, begins_handle, from_prefix, HasName, said, IsVersionBefore, IsDeclarationBefore}
+use Rattle.proof_lexers.specs.DirectiveEnds.{ends_line}
 use Rattle.proof_lexers.proofs.Directives.Values.{no_handle}
-use Rattle.proof_row.proofs.Runs.{ends_run, runs}
 use Rattle.proof_scanner.proofs.Refusals.TextsRefused.{refusal_fails}
 
 -- ---- tags

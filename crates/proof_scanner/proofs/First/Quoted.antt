@@ -1,18 +1,12 @@
 -- Of two reasons why a quoted scalar is refused at a place that both come first, kind and position are the same.
-use Rattle.std.proofs.Common.{◌≡◌, ℕ, ◌+◌, List, [], ◌∷◌, ◌++◌, Bool, true, false, not, ◌||◌, ◌==◌, nat_lt, append-nil, refl, ap, sym, ◌∙◌, subst}
-use Rattle.std.proofs.lemmas.Bool.{eqb-true}
-use Rattle.proof_scanner.proofs.Common.{are_indented, AreNotIndented, begins_separation, begins_solid, begins_with, closed_first, content, Element, has_marker, has_no_nul, has_tab_within, HasNoQuoted, is_empty, is_indented_by_spaces, is_separation, IsQuoted, IsQuotedFault, least_column, lines_first, marked_from, off_margin, Position, position_after, Problem, quoted_may_end, quoted_scalar, separations, tab, within}
+use Rattle.proof_scanner.proofs.Common.{[], ap, append-nil, are_indented, AreNotIndented, begins_separation, begins_solid, begins_with, Bool, closed_first, content, Element, eqb-true, false, GoesOn, has_break, has_marker, has_no_nul, has_tab_within, HasNoQuoted, is_empty, is_indented_by_spaces, is_separation, IsNotQuoted, IsQuoted, IsQuotedFault, last_line, least_column, lines_first, List, marked_from, nat_lt, not, off_margin, past, Position, position_after, Problem, quoted_first, quoted_may_end, quoted_scalar, refl, separations, subst, sym, tab, true, within, ℕ, ◌++◌, ◌==◌, ◌||◌, ◌∙◌, ◌∷◌, ◌≡◌}
 use Rattle.defs_text.specs.Classes as classes
-use Rattle.defs_token.specs.Step.{has_break}
-use Rattle.defs_token.specs.Indentation.{last_line}
 use Rattle.yaml_tokens.specs.declared.problem.Problem.TheVariants as problem
-use Rattle.model_scanner.specs.Machine.{past}
 use Rattle.proof_row.proofs.Quotes.{singles, doubles}
 use Rattle.proof_scanner.specs.NoPiece as none
-use Rattle.proof_scanner.specs.NoPiece.{quote_of, IsNotQuoted, GoesOn}
+use Rattle.proof_scanner.specs.NoPiece.{quote_of}
 use Rattle.proof_scanner.specs.QuotedLines as lines
-use Rattle.proof_scanner.specs.FirstQuoted.{quoted_first}
-use Rattle.proof_scanner.proofs.Complete.Steps.{ends_before}
+use Rattle.proof_scanner.proofs.Known.Places.{ends_before}
 use Rattle.proof_scanner.proofs.Sound.Arrivals.{clean_after}
 use Rattle.proof_scanner.proofs.Sound.Passed.{same_has_break}
 use Rattle.proof_scanner.proofs.First.QuotedCuts.{one_reason}
@@ -169,10 +163,6 @@ module _ (in_flow : Bool) (least : ℕ) (blocks : List ℕ) (awaits : Bool) (her
   read why at (glued_to_quoted single piece more e is begins fit) = closed single piece more _ _ e is fit (glued begins)
   read why at (after_quoted single piece more passed left e is ends on solid first) = closed single piece more _ _ e is first.0 (text passed left on solid first.1)
   read why at (tab_after_quoted single piece gap left e is fills goes_on solid indents first) = closed single piece (gap ++ left) _ _ e is first.0 (tabbed gap left refl fills solid (own_line gap indents) first.1)
-
-  -- a quote begins the text
-  pub begins_with_quote : (why : Problem) (at : Position) → QuotedReason in_flow least blocks awaits here rest why at → (single : Bool) × ((more : List ℕ) × (rest ≡ quote_of single ∷ more))
-  begins_with_quote why at r = let x = read why at r in (x.single, (x.more, x.whole))
 
   -- What is wrong first with a quoted scalar is one thing at one position.
   pub one_quoted : has_no_nul rest ≡ true → (why1 why2 : Problem) (at1 at2 : Position) → QuotedReason in_flow least blocks awaits here rest why1 at1 → QuotedReason in_flow least blocks awaits here rest why2 at2 → (why1 ≡ why2) × (at1 ≡ at2)

@@ -1,15 +1,8 @@
 -- Of two reasons why the text after an opening quote is refused, kind and position are the same.
-use Rattle.std.proofs.Common.{◌≡◌, ℕ, zero, suc, ◌+◌, ◌≤◌, List, [], ◌∷◌, ◌++◌, Bool, true, false, not, ◌&&◌, ◌||◌, ◌==◌, nat_lt, if◌then◌else◌, length, take, drop, append-nil, append_assoc, Option, Some, None, ◌⊎◌, inl, inr, refl, ap, sym, ◌∙◌, subst, arith}
-use Rattle.std.proofs.lemmas.Bool.{and_parts, eqb-true}
-use Rattle.std.proofs.lemmas.List.{take-append-drop, take-append-le, drop-append-le, length-take}
-use Rattle.proof_scanner.proofs.Common.{at_start, begins_further, begins_solid, begins_with, content, double_quoted_element, Element, element_of, elements, escape, has_marker, hexadecimal, is_document_marker, IsBadEscape, LineStand, lookup, marked_from, numbered, numeric_escape, numeric_escapes, past_element, past_elements, past_escaped, Position, position_after, Problem, put_before, same_blank, same_break, Spelled, within}
+use Rattle.proof_scanner.proofs.Common.{[], and_parts, ap, append-nil, append_assoc, arith, at_start, begins_further, begins_solid, begins_with, Bool, content, double_quoted_element, drop, drop-append-le, Element, element_of, elements, eqb-true, escape, false, followed, has_marker, hexadecimal, if◌then◌else◌, inl, inr, is_document_marker, IsBadEscape, length, length-take, LineStand, List, Local, local, LocalOf, lookup, marked_from, More, nat_lt, None, not, number_at, numbered, numeric_escape, numeric_escapes, Option, past_element, past_elements, past_escaped, Position, position_after, Problem, put_before, refl, same_blank, same_break, Some, Spelled, splits, subst, suc, sym, take, take-append-drop, take-append-le, true, within, zero, ℕ, ◌&&◌, ◌++◌, ◌==◌, ◌||◌, ◌∙◌, ◌∷◌, ◌≡◌, ◌≤◌, ◌⊎◌}
 use Rattle.defs_text.specs.Classes as classes
-use Rattle.defs_text.specs.FlowScalar.{followed}
 use Rattle.yaml_chars.specs.Class.{is_break, is_blank}
-use Rattle.proof_row.proofs.Splits.{More, splits}
-use Rattle.proof_lexers.specs.QuotedEnds.{number_at}
 use Rattle.proof_lexers.specs.QuotedEnds as bad
-use Rattle.proof_lexers.proofs.Quoted.Local.{Local, LocalOf, local}
 use Rattle.proof_scanner.proofs.Sound.QuotedBreaks.{Kind, has_content, has_blank, has_line, has_escaped, is_white}
 use Rattle.proof_scanner.specs.NoPiece.{quote_of}
 use Rattle.proof_scanner.proofs.Refusals.QuotedElements.{after_it, kind_of}

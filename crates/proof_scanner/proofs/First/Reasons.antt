@@ -1,27 +1,12 @@
 -- Of two reasons at one place that both come first, kind and position are the same.
-use Rattle.std.proofs.Common.{◌≡◌, ℕ, ◌⊎◌, inl, inr, List, [], ◌∷◌, ◌++◌, Bool, true, false, not, ◌==◌, ◌&&◌, ◌||◌, nat_le, if◌then◌else◌, None, refl, ap, sym, ◌∙◌, subst, arith}
-use Rattle.std.proofs.lemmas.Bool.{eqb-true}
-use Rattle.std.proofs.lemmas.Bool.Decides.{nat_tests}
-use Rattle.proof_scanner.proofs.Common.{are_marks, AreNotIndented, begins_document_at, begins_flow, begins_separation, begins_white_space, begins_with, begins_with_space_or_break, block_first, BlockStyle, closed_first, colon_may_precede, comes_plain, dash, dashes, directive_line, Fails, FailsFirst, Fault, followed_first, has_no_break, has_no_nul, HasNoQuoted, header_of, in_double_quotes, in_single_quotes, indicator_of, innermost, is_at_gap, is_blank_or_end, is_empty, is_full, is_indented_by_spaces, is_nul, is_separation, is_taken, is_value_here, is_value_indicator, IsBlockFault, IsDirectiveRefusal, IsFollowed, IsLike, IsLookedAt, IsNoHeader, IsPlainFault, IsQuoted, IsQuotedFault, IsTagRefusal, least_column, least_here, lines_first, mapping_opening, NoPiece, plain_first, Position, position_after, Problem, question, quoted_may_end, quoted_scalar, sequence_opening, site_at_place, tab, tag_text}
-use Rattle.defs_text.specs.BlockScalar.{literal, folded}
-use Rattle.defs_text.specs.Classes.{is_blank, is_break, is_flow}
-use Rattle.defs_token.specs.RowAccount.{Account, is_in_flow}
-use Rattle.yaml_tokens.specs.declared.problem.Fault.TheVariants.{At}
+use Rattle.proof_scanner.proofs.Common.{[], Account, alias_name, ap, are_marks, AreNotIndented, arith, At, begins_block, begins_document_at, begins_flow, begins_white_space, begins_with, begins_with_space_or_break, block_begins, BlockStyle, Bool, colon, colon_may_precede, comes_first, comes_plain, comma, dash, dashes, directive_line, dots, eqb-true, Fails, FailsFirst, false, first_line, folded, followed_first, GoesOn, has_no_break, has_no_nul, if◌then◌else◌, in_double_quotes, in_single_quotes, indicator_of, inl, innermost, inr, is_at_gap, is_blank, is_blank_or_end, is_break, is_flow, is_flow_indicator, is_full, is_in_flow, is_nul, is_value_here, is_value_indicator, IsBlockFault, IsDirectiveRefusal, IsFollowed, IsLike, IsLookedAt, IsNotQuoted, IsPlainFault, IsQuoted, IsQuotedFault, IsTagRefusal, Kind, least_column, least_here, line_is, lines_first, List, literal, mapping_closing, mapping_opening, MayNotStand, name_mark, nat_le, nat_tests, no_piece_first, NoPiece, not, opens, plain_first, Position, Problem, question, refl, sequence_closing, sequence_opening, stands_first, subst, sym, tab, tag_text, true, ℕ, ◌&&◌, ◌++◌, ◌==◌, ◌||◌, ◌∙◌, ◌∷◌, ◌≡◌, ◌⊎◌}
 use Rattle.yaml_tokens.specs.declared.problem.Problem.TheVariants as problem
 use Rattle.proof_lexers.specs.DirectiveEnds as directives
-use Rattle.proof_lexers.specs.HeaderEnds.{is_in_line}
-use Rattle.proof_lexers.specs.HeaderEnds as headers
-use Rattle.proof_row.specs.Ends.{Kind, nothing, plain_scalar, sequence_closing, mapping_closing, comma, colon, dots, alias_name, anchor_name, block_scalar}
-use Rattle.proof_row.proofs.Blocks.{begins_block, block_begins}
-use Rattle.proof_row.proofs.Lines.{first_line, line_is}
+use Rattle.proof_row.specs.Ends.{nothing, plain_scalar, anchor_name, block_scalar}
 use Rattle.proof_scanner.specs.NoPiece as none
-use Rattle.proof_scanner.specs.NoPiece.{quote_of, name_mark, IsNotQuoted, GoesOn, is_flow_indicator}
+use Rattle.proof_scanner.specs.NoPiece.{quote_of}
 use Rattle.proof_scanner.specs.QuotedLines as quoted_lines
 use Rattle.proof_scanner.specs.Failing as failing
-use Rattle.proof_scanner.specs.Failing.{MayNotStand}
-use Rattle.proof_scanner.specs.First.{no_piece_first, stands_first, comes_first, opens}
-use Rattle.proof_scanner.specs.FirstQuoted.{quoted_first}
-use Rattle.proof_scanner.specs.FirstBlock.{header_first}
 use Rattle.proof_scanner.proofs.First.Plain.{one_plain}
 use Rattle.proof_scanner.proofs.First.Quoted as quoted
 use Rattle.proof_scanner.proofs.First.Quoted.{QuotedReason, one_quoted}
@@ -99,11 +84,6 @@ block_kind : (s : Setting) (column : ℕ) (style : BlockStyle) (more : List ℕ)
 unfolding is_blank_or_end is_blank is_break is_nul is_flow
 block_kind s column literal more out = rw out refl
 block_kind s column folded more out = rw out refl
-
-name_kind : (s : Setting) (column : ℕ) (alias : Bool) (more : List ℕ) → kind_here s column (name_mark alias ∷ more) ≡ (if alias then alias_name else anchor_name)
-unfolding is_blank_or_end is_blank is_break is_nul is_flow
-name_kind s column true more = refl
-name_kind s column false more = refl
 
 dash_kind : (s : Setting) (column : ℕ) (more : List ℕ) → is_at_gap more ≡ true → kind_here s column (45 ∷ more) ≡ dash
 dash_kind s column more gap = rw gap refl

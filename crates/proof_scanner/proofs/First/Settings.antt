@@ -1,10 +1,6 @@
 -- What the reasons at a place ask of an account; it is the same at accounts that are alike.
-use Rattle.std.proofs.Common.{◌≡◌, ℕ, List, [], ◌∷◌, Bool, true, false, ◌||◌, nat_le, not, length, refl, if◌then◌else◌}
-use Rattle.proof_scanner.proofs.Common.{before_past, begins_document_at, begins_free_line, comes_plain, free, is_adjacent, is_free_of_tabs, is_full, is_taken, is_taken_line, IsLike, least_column, LikeLine, line_past_separation, Position, site_at_place, taken}
-use Rattle.defs_token.specs.Key.{Line, waits}
-use Rattle.defs_token.specs.RowAccount.{Account, before_by, is_in_flow}
-use Rattle.proof_row.specs.Ends.{Kind, nothing, plain_scalar, kind_by}
-use Rattle.proof_row.proofs.Accounts.{same_flow}
+use Rattle.proof_scanner.proofs.Common.{[], Account, before_by, before_past, begins_document_at, begins_free_line, Bool, comes_plain, false, free, if◌then◌else◌, is_adjacent, is_free_of_tabs, is_full, is_in_flow, is_taken, is_taken_line, IsLike, Kind, kind_by, least_column, length, LikeLine, Line, line_past_separation, List, nat_le, not, Position, refl, same_flow, site_at_place, taken, true, waits, ℕ, ◌||◌, ◌∷◌, ◌≡◌}
+use Rattle.proof_row.specs.Ends.{nothing, plain_scalar}
 use Rattle.proof_scanner.proofs.Refusals.PiecesHere.{many_alike}
 
 -- Whether the place is in flow; whether a colon may stand next to what stands before; whether outside flow the line is taken; whether as many flow collections are open as may be; whether no TAB indents what comes; the block collections, and whether a value is awaited.

@@ -1,34 +1,19 @@
 -- Faults of block scalars: the line is no header, or what stands after the scalar may not.
-use Rattle.std.proofs.Common.{◌≡◌, ℕ, List, [], ◌∷◌, ◌++◌, Bool, true, false, not, ◌==◌, ◌&&◌, ◌||◌, nat_le, nat_lt, if◌then◌else◌, Option, Some, None, Result, Err, refl, ap, sym, ◌∙◌, subst, arith, append-nil}
-use Rattle.std.proofs.lemmas.Bool.{and_parts, eqb-true}
-use Rattle.std.proofs.lemmas.Bool.Decides.{nat_tests}
-use Rattle.proof_scanner.proofs.Common.{allow_key, are_empty, AreLines, Arrives, begins_with, Block, block, block_first, block_may_end, block_read, BlockEndsAs, BlockRead, BlockStyle, body, collection_of, Fault, fetch_block_scalar, further_text, has_no_nul, header_of, Held, indicator_of, innermost, is_at_end, is_empty, is_literal_style, is_nul, is_tabbed, IsBlockFault, IsStuck, leading_spaces, least_column, lines_may_end, Position, position_after, Problem, read_body, read_lines, read_may_end, ScannerState, site_at_place, spell, split, split_spell, tab, texts, unroll_non_block_indents, without_open}
-use Rattle.defs_text.specs.Classes.{is_break}
+use Rattle.proof_scanner.proofs.Common.{[], after_chars, allow_key, and_parts, ap, append-nil, are_empty, AreLines, arith, Arrives, At, begins_with, Block, block, block_first, block_may_end, block_read, BlockEndsAs, BlockRead, BlockStyle, body, Bool, both, Break, carriage, collection_of, columns, eqb-true, Err, false, Fault, feed, fetch_block_scalar, Fits, folded, further_text, has_no_nul, header_of, HeaderEndsAs, Held, if◌then◌else◌, indicator_of, innermost, is_at_end, is_break, is_empty, is_in_line, is_literal_style, is_nul, is_shallow, is_tabbed, IsBlockFault, IsStuck, leading_spaces, least_column, linebreak, lines_may_end, List, literal, nat_le, nat_lt, nat_tests, no_block, None, not, Option, past, Position, position_after, Problem, Read, read_body, read_lines, read_may_end, refl, Result, ScannerState, site_at_place, Some, spell, spell_more, split, split_spell, style_inner, subst, sym, tab, texts, true, unroll_non_block_indents, without_open, ℕ, ◌&&◌, ◌++◌, ◌==◌, ◌||◌, ◌∙◌, ◌∷◌, ◌≡◌}
 use Rattle.defs_text.specs.BlockScalar as defs
-use Rattle.defs_text.specs.BlockScalar.{literal, folded}
-use Rattle.yaml_tokens.specs.declared.problem.Fault.TheVariants.{At}
 use Rattle.yaml_tokens.specs.declared.problem.Problem.TheVariants as problem
-use Rattle.model_scanner.specs.Machine.{Read, past}
-use Rattle.model_scanner.specs.Blanks.{linebreak}
 use Rattle.proof_lexers.specs.HeaderEnds as headers
-use Rattle.proof_lexers.specs.HeaderEnds.{HeaderEndsAs, is_in_line}
 use Rattle.proof_lexers.specs.BlockEnds as block_ends
 use Rattle.proof_lexers.specs.BlockScan as scan
-use Rattle.proof_lexers.specs.BlockScan.{is_shallow}
 use Rattle.proof_lexers.proofs.Blocks.Ends as blocks
-use Rattle.proof_lexers.proofs.Blocks.Positions.{spell_more}
-use Rattle.proof_lexers.proofs.Blocks.Positions.{after_chars}
-use Rattle.proof_lexers.proofs.Blocks.Scans.{style_inner}
-use Rattle.proof_lexers.proofs.Blocks.Written.{Break, feed, carriage, both, Line, put, Fits}
+use Rattle.proof_lexers.proofs.Blocks.Written.{Line, put}
 use Rattle.proof_scanner.proofs.Cut.Pieces.Quoted.{some_chars}
 use Rattle.proof_scanner.proofs.Cut.Saved.{saved_keys, saved_is}
-use Rattle.proof_scanner.specs.StandsInRow.{columns}
 use Rattle.proof_scanner.proofs.Sound.Arrivals.{clean_after}
 use Rattle.proof_scanner.proofs.Sound.BlockEnds.{IsLeast, Written, written}
 use Rattle.proof_scanner.proofs.Sound.WithoutOpen.{AreClosed, without_is}
-use Rattle.proof_scanner.proofs.Complete.Scalars.AfterBlocks.{block_is_clear, lines_asked, lines_written}
+use Rattle.proof_scanner.proofs.Refusals.AfterBlocks.{block_is_clear, lines_asked, lines_written}
 use Rattle.proof_scanner.specs.NoPiece as none
-use Rattle.proof_scanner.specs.Failing.{no_block}
 use Rattle.proof_scanner.proofs.Refusals.Faults.{Faults, goes, read}
 use Rattle.proof_scanner.proofs.Refusals.TextsRefused.{header_alone}
 use Rattle.proof_scanner.proofs.Refusals.Places.{Told, LiesDeep, account_by, stuck, in_flow_is, blocks_by, looked_at, none_begins, none_here}

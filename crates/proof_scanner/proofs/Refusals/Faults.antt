@@ -1,7 +1,5 @@
 -- What holds of the fault of a step, if it has one: rules for the forms that the model's functions are made of.
-use Rattle.std.proofs.Common.{◌≡◌, Bool, true, false, if◌then◌else◌, Result, Ok, Err, refl, subst}
-use Rattle.proof_scanner.proofs.Common.{Fault, go_on, Held, lexed, ScannerState, with_held, ◌>>=◌}
-use Rattle.model_scanner.specs.Machine.{Read}
+use Rattle.proof_scanner.proofs.Common.{Bool, Err, false, Fault, go_on, Held, if◌then◌else◌, lexed, Ok, Read, refl, Result, ScannerState, subst, true, with_held, ◌>>=◌, ◌≡◌}
 
 -- F holds of the fault, if there is one
 pub data Faults (F : Fault → Type 0) {A : Type 0} : Result A Fault → Type 0 where

@@ -1,31 +1,24 @@
 -- The faults of a fetch: each of a kind that is told is one by which the text is stuck.
-use Rattle.std.proofs.Common.{◌≡◌, ℕ, ◌+◌, ◌≤◌, List, [], ◌∷◌, Bool, true, false, not, ◌==◌, ◌&&◌, ◌||◌, nat_le, nat_lt, refl, ap, sym, ◌∙◌, subst, arith, inl, inr}
-use Rattle.std.proofs.lemmas.Bool.{eqb-true}
-use Rattle.std.proofs.lemmas.Bool.Decides.{nat_tests}
-use Rattle.proof_scanner.proofs.Common.{are_marks, Arrives, before_past, begins_document_at, begins_with, comes_marker, end_stream, fetch_content, fetch_first_column, fetch_here, fetch_indented, fetch_stream_end, fetch_token, gives_node, has_open_level, has_required, Held, Indent, is_adjacent, is_document_marker, is_empty, IsStuck, least_column, Mapping, may_not_stand, peek, ScannerState, site_at_place, site_here, site_in, Tok}
-use Rattle.defs_token.specs.RowAccount.{before_by}
-use Rattle.yaml_tokens.specs.declared.problem.Fault.TheVariants.{At}
+use Rattle.proof_scanner.proofs.Common.{[], ap, are_marks, AreLevels, arith, Arrives, At, before_by, before_past, begins_document_at, begins_with, Bool, columns, comes_marker, eqb-true, false, fetch_content, fetch_first_column, fetch_here, fetch_indented, fetch_stream_end, fetch_token, gives_node, has_open_level, has_required, Indent, inl, inr, is_adjacent, is_document_marker, is_empty, IsStuck, least_column, List, Mapping, may_not_stand, nat_le, nat_lt, nat_tests, next_line, not, peek, refl, ScannerState, site_at_place, site_here, site_in, subst, sym, Tok, true, ℕ, ◌&&◌, ◌+◌, ◌==◌, ◌||◌, ◌∙◌, ◌∷◌, ◌≡◌, ◌≤◌}
 use Rattle.yaml_tokens.specs.declared.problem.Problem.TheVariants as problem
 use Rattle.model_scanner.specs.declared.level.FlowLevel.TheVariants.{Entry}
 use Rattle.model_scanner.specs.State.{after}
-use Rattle.model_scanner.specs.Document.{next_line}
 use Rattle.proof_scanner.proofs.Cut.Nodes.{IsDeep}
 use Rattle.proof_scanner.proofs.Cut.Dispatch.{token_holds}
-use Rattle.proof_scanner.proofs.Cut.Fetched.{begins_with_this, no_marker, is_deep, goes_on_here, Marked, marked}
-use Rattle.proof_scanner.specs.StandsInRow.{AreLevels, columns}
+use Rattle.proof_scanner.proofs.Cut.Fetched.{begins_with_this, no_marker, is_deep, no_end, goes_on_here, Marked, marked}
 use Rattle.proof_scanner.proofs.Sound.Passed.{least_of_levels}
-use Rattle.proof_scanner.proofs.Complete.Around.Levels.{levels_end}
+use Rattle.proof_scanner.proofs.Refusals.Levels.{levels_end}
 use Rattle.proof_scanner.specs.Failing as defs
 use Rattle.proof_scanner.proofs.Refusals.Faults.{Faults, fault, tried, checked, either}
-use Rattle.proof_scanner.proofs.Refusals.Places.{Told, LiesDeep, account_by, not_told, stuck, in_flow_is, none_here}
+use Rattle.proof_scanner.proofs.Refusals.Places.{IsRowless, Told, LiesDeep, account_by, rowless_told, stuck, in_flow_is, none_here}
 use Rattle.proof_scanner.proofs.Refusals.Nodes.{name_told, tag_told, quoted_told}
 use Rattle.proof_scanner.proofs.Refusals.Blocks.{block_told}
 use Rattle.proof_scanner.proofs.Refusals.Plains.{plain_told}
 use Rattle.proof_scanner.proofs.Refusals.Indicators.{directive_told, marker_told, document_end_told, dash_told, question_told, colon_told, opening_told, closing_told, comma_told}
-use Rattle.proof_scanner.proofs.Refusals.Waiting.{NoneWaits}
+use Rattle.proof_scanner.proofs.Refusals.RequiredKeys.{end_rowless}
 use Rattle.proof_scanner.specs.NoPiece as none
 
-module _ (text : List ℕ) (t : ScannerState) (a : Arrives text t) (some : is_empty t.rest ≡ false) (waits : NoneWaits text t a) where
+module _ (text : List ℕ) (t : ScannerState) (a : Arrives text t) (some : is_empty t.rest ≡ false) where
   -- ---- the token by the first character
 
   token_told : IsDeep t.held → ((t.held.position.col == 0) && is_document_marker t.rest) ≡ false → (t.held.position.col ≡ 0 → (peek t.rest == 37) ≡ false) → Faults (Told text) (fetch_token t)
@@ -38,11 +31,11 @@ module _ (text : List ℕ) (t : ScannerState) (a : Arrives text t) (some : is_em
         block = λ literal more e o. block_told text t a some lies o literal more e;
         dash = λ more e gap. dash_told text t a some lies more e gap;
         question = λ more e gap. question_told text t a some lies more e gap;
-        colon = λ more e i. colon_told text t a some lies waits more e i;
+        colon = λ more e i. colon_told text t a some lies more e i;
         open_bracket = λ more e. opening_told text t a some lies Entry Tok.flow_sequence_start 91 more e (inl refl);
         open_brace = λ more e. opening_told text t a some lies Mapping Tok.flow_mapping_start 123 more e (inr refl);
-        close_bracket = λ more e. closing_told text t a some lies Tok.flow_sequence_end 93 more e refl refl;
-        close_brace = λ more e. closing_told text t a some lies Tok.flow_mapping_end 125 more e refl refl;
+        close_bracket = λ more e. closing_told text t a some lies Tok.flow_sequence_end 93 more e (inl refl);
+        close_brace = λ more e. closing_told text t a some lies Tok.flow_mapping_end 125 more e (inr refl);
         comma = λ more e. comma_told text t a some lies more e;
         percent = λ more e. fault {f = At problem.UnexpectedPercent t.held.position} (λ _. none_here text t a some lies problem.UnexpectedPercent (none.percent more e (no_column more e)) tt);
         at_sign = λ more e. fault {f = At problem.UnexpectedAt t.held.position} (λ _. none_here text t a some lies problem.UnexpectedAt (none.at_sign more e) tt);
@@ -108,7 +101,7 @@ module _ (text : List ℕ) (t : ScannerState) (a : Arrives text t) (some : is_em
   unfolding fetch_first_column are_marks
   first_told col =
       either (peek t.rest == 37) (λ e. directive_told text t a some (by_percent e) (after t.rest) (begins_with_this t.rest 37 some e) col) (λ n.
-      either (comes_marker 45 t.rest) (λ e. marker_told text t a some (by_marker 45 refl e refl) Tok.document_start) (λ x.
+      either (comes_marker 45 t.rest) (λ e. marker_told text t a some (by_marker 45 refl e refl) Tok.document_start col) (λ x.
       either (comes_marker 46 t.rest) (λ e. let m : Marked 46 t.rest = marked 46 t.rest refl e in document_end_told text t a some (by_marker 46 refl e refl) m.more m.is_text m.gap col) (λ y.
       indented_told (by (t.held.position.col == 0) (no_marker t.rest x y)) (λ _. n))))
     where
@@ -142,14 +135,11 @@ module _ (text : List ℕ) (t : ScannerState) (a : Arrives text t) (some : is_em
 
 -- ---- the text's end
 
-ended_told : (text : List ℕ) (s : Held) → Faults (Told text) (end_stream s)
-ended_told text s = not_told text (has_required s.keys) problem.KeyExpected s.position _ refl
-
-end_told : (text : List ℕ) (t : ScannerState) → Faults (Told text) (fetch_stream_end t)
+end_told : (text : List ℕ) (t : ScannerState) → (has_required t.held.keys ≡ true → IsRowless text) → Faults (Told text) (fetch_stream_end t)
 unfolding fetch_stream_end
-end_told text t = tried t (ended_told text (record t.held { position = next_line t.held.position }))
+end_told text t rowless = tried t (rowless_told text (has_required t.held.keys) problem.KeyExpected (next_line t.held.position) _ refl rowless)
 
 -- a token of a text that goes on, or the stream's end
-pub here_told : (text : List ℕ) (t : ScannerState) (a : Arrives text t) → NoneWaits text t a → Faults (Told text) (fetch_here t)
+pub here_told : (text : List ℕ) (t : ScannerState) → Arrives text t → Faults (Told text) (fetch_here t)
 unfolding fetch_here
-here_told text t a waits = either (peek t.rest == 0) (λ _. end_told text t) (λ e. let some = goes_on_here t.rest e in content_told text t a some waits)
+here_told text t a = either (peek t.rest == 0) (λ e. end_told text t (end_rowless text t a (no_end t.rest a.is_clean e))) (λ e. content_told text t a (goes_on_here t.rest e))

@@ -1,35 +1,17 @@
 -- Faults of indicators, markers and directives.
-use Rattle.std.proofs.Common.{◌≡◌, ℕ, suc, ◌≤◌, List, [], ◌∷◌, ◌++◌, Bool, true, false, not, ◌==◌, ◌&&◌, ◌||◌, nat_le, nat_lt, slice_index, append_assoc, length, if◌then◌else◌, Option, Some, None, Result, Ok, Err, refl, ap, sym, ◌∙◌, subst, arith, ◌+◌}
-use Rattle.std.specs.Prelude.{◌⊎◌}
-use Rattle.std.proofs.Common.{inl, inr, ◌-◌}
-use Rattle.std.proofs.lemmas.Bool.{and_parts, eqb-true}
-use Rattle.std.proofs.lemmas.Bool.Decides.{nat_tests}
-use Rattle.proof_scanner.proofs.Common.{after_separation, allow_key, AreEntries, Arrives, before_past, begin_flow, begin_key, begin_keyless_mapping, begin_keyless_value, begin_line, begin_pair, begins_entry, begins_free_line, begins_with, begins_with_alpha, begins_with_space_or_break, blanks_and_comment, check_after_tab, check_block_entry, check_dash, check_document_end, check_key_space, check_value_space, closed_key, colon_may_precede, deepened_flow, directive_of, DirectiveEndsAs, directives_end, end_entry, end_flow, ended_flow, entries_by, entry_by, Fault, fetch_block_entry, fetch_directive, fetch_document_end, fetch_document_marker, fetch_flow_collection_end, fetch_flow_collection_start, fetch_flow_entry, fetch_key, fetch_value, FlowLevel, followed_first, free, further, go_on, GoesOverAs, had_by, has, has_no_break, HasNoKey, Held, held_of, in_flow, increase_flow_level, insert_key, is_adjacent, is_at_gap, is_blank_or_breakz, is_breakz, is_empty, is_free, is_full, is_one_of, is_required, is_separation, is_taken, is_taken_line, is_value_here, is_value_indicator, IsDirectiveRefusal, IsFollowed, IsLineHere, IsLookedAt, IsOpenOutside, IsPlace, IsStuck, Key, leading, Levels, lexed, line_by, line_past_separation, may_not_stand, MayChoose, misses, next_entry, No, no_key, on_held, OutOfMemory, outside_key, paired, pass_indicator, past_blanks_and_comment, past_line_rest, peek, pop, Position, position_after, Problem, remove_implicit_key, roll_entry, roll_indent, roll_one_col_indent, same_alpha, ScannerState, skip_indicator, skip_yaml_whitespace, spaces_are_passed, SpacesAs, taken, Tok, top_key, try_held, unroll_indent, white, Whitespace, with_top, Yes}
-use Rattle.defs_text.specs.Classes.{is_blank}
-use Rattle.defs_token.specs.RowAccount.{before_by}
+use Rattle.proof_scanner.proofs.Common.{[], after_space, allow_key, and_parts, ap, append_assoc, AreEntries, arith, Arrives, At, before_by, before_past, begin_flow, begin_key, begin_keyless_mapping, begin_keyless_pair, begin_keyless_value, begin_line, begin_pair, begins_entry, begins_free_line, begins_with, begins_with_alpha, begins_with_space_or_break, blanks_and_comment, Bool, check_after_tab, check_block_entry, check_dash, check_document_end, check_key_space, check_value_space, chosen, closed_key, colon_may_precede, decrease_flow_level, deepened_flow, directive_of, DirectiveEndsAs, directives_end, end_entry, end_flow, end_flow_pair, end_pair, ended_flow, entries_by, Entry, entry_by, eqb-true, Err, false, Fault, fetch_block_entry, fetch_directive, fetch_document_end, fetch_document_marker, fetch_flow_collection_end, fetch_flow_collection_start, fetch_flow_entry, fetch_key, fetch_value, FlowLevel, followed_first, free, further, go_on, had_by, has, has_no_break, has_no_pair, HasNoKey, Held, held_of, Holds, if◌then◌else◌, in_flow, increase_flow_level, inl, inr, insert_key, is_adjacent, is_alphanumeric, is_at_gap, is_blank, is_blank_or_breakz, is_breakz, is_empty, is_free, is_full, is_one_of, is_required, is_separation, is_taken, is_taken_line, is_value, is_value_here, is_value_indicator, IsDirectiveRefusal, IsFollowed, IsLineHere, IsLookedAt, IsOpenOutside, IsPlace, IsStuck, Key, leading, length, lexed, Line, line_by, line_past_separation, List, may_ask, may_not_stand, MayChoose, nat_le, nat_lt, nat_tests, next_entry, No, no_key, None, not, Ok, on_held, opens, opens_pair, Option, or_true, OutOfMemory, outside_key, paired, pass_indicator, past, past_blanks_and_comment, past_line_rest, peek, pop, Position, position_after, Problem, Read, refl, remove_implicit_key, Result, roll_entry, roll_indent, roll_one_col_indent, same_alpha, ScannerState, skip_indicator, skip_yaml_whitespace, slice_index, Some, space, spaces_are_passed, SpacesAs, subst, suc, sym, taken, takes_pair, Tok, top_key, true, try_held, unroll_indent, waits, white, Whitespace, with_top, Yes, ℕ, ◌&&◌, ◌++◌, ◌+◌, ◌-◌, ◌==◌, ◌||◌, ◌∙◌, ◌∷◌, ◌≡◌, ◌≤◌, ◌⊎◌}
 use Rattle.defs_text.specs.Tags as tags
-use Rattle.defs_token.specs.Key.{Line, waits}
 use Rattle.defs_token.specs.FlowEntry as entry
-use Rattle.defs_token.specs.FlowEntry.{Entry, has_no_pair, takes_pair}
-use Rattle.yaml_tokens.specs.declared.problem.Fault.TheVariants.{At}
 use Rattle.yaml_tokens.specs.declared.problem.Problem.TheVariants as problem
-use Rattle.yaml_chars.specs.Class.{is_alpha, is_alphanumeric}
-use Rattle.model_scanner.specs.Machine.{Read, past}
-use Rattle.model_scanner.specs.Blanks.{space}
+use Rattle.yaml_chars.specs.Class.{is_alpha}
 use Rattle.model_scanner.specs.Directive.{directive}
 use Rattle.model_scanner.specs.declared.level.FlowLevel.TheVariants as level
 use Rattle.model_scanner.specs.State.{after}
-use Rattle.model_scanner.specs.Indents.{with_levels}
-use Rattle.model_scanner.specs.Flow.{end_pair, end_flow_pair, decrease_flow_level}
-use Rattle.model_scanner.specs.Block.{opens_pair, begin_keyless_pair, value_of}
-use Rattle.model_scanner.specs.Fetch.{is_value}
+use Rattle.model_scanner.specs.Block.{value_of}
 use Rattle.model_scanner.proofs.Holds as holds
-use Rattle.model_scanner.proofs.Holds.{Holds}
 use Rattle.proof_lexers.specs.DirectiveEnds as directives
 use Rattle.proof_lexers.specs.PlainEnds as plain_ends
-use Rattle.proof_lexers.specs.Separations.{after_space}
 use Rattle.proof_lexers.specs.Separations as separations
-use Rattle.proof_scanner.specs.Choices.{chosen}
 use Rattle.proof_scanner.proofs.Sound.Arrivals as arrivals
 use Rattle.proof_scanner.proofs.Sound.Stales.{no_entries}
 use Rattle.proof_scanner.proofs.Sound.DocumentLines.{line_begun}
@@ -40,57 +22,47 @@ use Rattle.proof_scanner.proofs.Sound.QuotedEnds.{not_at_end}
 use Rattle.proof_scanner.proofs.Sound.Blanks.{same_in_line, line_rest_in_line, line_rest_cut, line_rest_fills, found_in, spaced_parted}
 use Rattle.proof_scanner.proofs.Sound.Passed.{same_has_break}
 use Rattle.proof_scanner.proofs.Refusals.TabsAfterColon.{no_space}
-use Rattle.proof_scanner.proofs.Refusals.Rolled.{rolled_place, removed_is}
+use Rattle.proof_scanner.proofs.Refusals.Rolled.{Stays, rolled_stays, unrolled_stays, entry_keys, removed_is}
 use Rattle.proof_scanner.proofs.Cut.Saved.{saved_keys, saved_is}
 use Rattle.proof_scanner.specs.NoPiece as none
-use Rattle.proof_scanner.specs.First.{may_ask, opens}
 use Rattle.proof_scanner.specs.Failing as defs
 use Rattle.proof_scanner.proofs.Refusals.Faults.{Faults, fault, goes, read, in_turn, tried, checked, either}
-use Rattle.proof_scanner.proofs.Refusals.Spaces.{space_told, spaces_told, no_comment, no_comment_left, solid_past}
-use Rattle.proof_scanner.proofs.Refusals.Places.{Told, LiesDeep, account_by, place, many_levels, IsAllowed, stuck, in_flow_is, looked_at, none_begins, followed_stuck}
-use Rattle.proof_scanner.proofs.Refusals.Waiting.{NoneWaits}
+use Rattle.proof_scanner.proofs.Refusals.Spaces.{white_goes, space_told, spaces_told, no_comment, no_comment_left, solid_past}
+use Rattle.proof_scanner.proofs.Refusals.Places.{IsRowless, Told, LiesDeep, rowless_told, account_by, place, many_levels, IsAllowed, stuck, in_flow_is, looked_at, none_begins, followed_stuck}
+use Rattle.proof_scanner.proofs.Refusals.RequiredKeys.{not_required, line_rowless, closing_rowless, none_waits}
 use Rattle.proof_scanner.proofs.Sound.WhiteSpaces.{white_of, past_white, white_cut, past_white_space, white_exactly, white_first, no_tab_in, IsMissed, white_or_missed}
 use Rattle.proof_scanner.proofs.Sound.ColonSpaces.{colon_spaced}
-use Rattle.proof_scanner.proofs.Complete.Indicators.Questions.{white_goes}
 
 -- ---- keys that must be one
 
-pub remove_told : (text : List ℕ) (s : Held) → Faults (Told text) (remove_implicit_key s)
+remove_told : (text : List ℕ) (s : Held) → (is_required (top_key s.keys) ≡ true → IsRowless text) → Faults (Told text) (remove_implicit_key s)
 unfolding remove_implicit_key
-remove_told text s = checked (is_required (top_key s.keys)) (At problem.KeyExpected s.position) (λ _ h. absurd (cc h)) (λ _. goes)
+remove_told text s rowless = rowless_told text (is_required (top_key s.keys)) problem.KeyExpected s.position _ refl rowless
 
 closed_told : {text : List ℕ} {r : Result Held Fault} → Faults (Told text) r → Faults (Told text) (closed_key r)
 closed_told (fault p) = fault p
 closed_told goes = goes
 
-pub line_told : (text : List ℕ) (s : Held) → Faults (Told text) (begin_line s)
+line_told : (text : List ℕ) (s : Held) → (is_required (top_key s.keys) ≡ true → IsRowless text) → Faults (Told text) (begin_line s)
 unfolding begin_line
-line_told text s = closed_told (remove_told text (unroll_indent 0 s))
+line_told text s rowless = closed_told (remove_told text (unroll_indent 0 s) (λ must. rowless (ap (λ ks. is_required (top_key ks)) (sym (unrolled_stays 0 s).1) ∙ must)))
 
 -- ---- positions
 
-unrolled_position : (limit : ℕ) (s : Held) → (unroll_indent limit s).position ≡ s.position
-unfolding unroll_indent
-unrolled_position limit s = by (in_flow s) _
-  where
-    by : (b : Bool) (u : Levels) → (if b then s else with_levels s u).position ≡ s.position
-    by true u = refl
-    by false u = refl
-
 line_stays : (t : ScannerState) → Holds (λ u. (u.rest ≡ t.rest) × (u.held.position ≡ t.held.position)) (try_held begin_line t)
-line_stays t = holds.tried t (begin_line t.held) (line_begun t.held (unroll_indent 0 t.held) refl) (λ s k. (refl, ap (λ h. h.position) k.1 ∙ unrolled_position 0 t.held))
+line_stays t = holds.tried t (begin_line t.held) (line_begun t.held (unroll_indent 0 t.held) refl) (λ s k. (refl, ap (λ h. h.position) k.1 ∙ (unrolled_stays 0 t.held).0))
 
 module _ (text : List ℕ) (t : ScannerState) (a : Arrives text t) (some : is_empty t.rest ≡ false) (lies : LiesDeep t) where
   -- ---- lines for the document
 
   line_refused : (line next : List ℕ) → t.held.position.col ≡ 0 → t.rest ≡ 37 ∷ (line ++ next) → has_no_break line ≡ true → directives.ends_line next ≡ true → directive_of (37 ∷ line) ≡ None → (f : Fault) → IsDirectiveRefusal t.held.position line f → Told text f
-  line_refused line next col e one ends lacks OutOfMemory r = tt
+  line_refused line next col e one ends lacks OutOfMemory r = elim r [ ]
   line_refused line next col e one ends lacks (At why q) r = λ _. none_begins text t a some lies why q (none.undirected line next why q col e one ends lacks r) tt
 
   pub directive_told : (more : List ℕ) → t.rest ≡ 37 ∷ more → t.held.position.col ≡ 0 → Faults (Told text) (fetch_directive t)
   unfolding fetch_directive
   directive_told more e col =
-      in_turn (tried t (line_told text t.held)) (λ u k.
+      in_turn (tried t (line_told text t.held (line_rowless text t a some col))) (λ u k.
       let s : (u.rest ≡ t.rest) × (u.held.position ≡ t.held.position) = held_of u (line_stays t) k in
       read u.held (directive u.rest u.held.position) _
       (λ f j. by f (directive (37 ∷ more) t.held.position) (ap (λ r. directive r t.held.position) (sym (s.0 ∙ e)) ∙ (ap (λ q. directive u.rest q) (sym s.1) ∙ j)) (directives_end more t.held.position)) (λ x j. goes))
@@ -100,9 +72,9 @@ module _ (text : List ℕ) (t : ScannerState) (a : Arrives text t) (some : is_em
       by f x i (directives.refuses line next g cut one ends lacks why j) =
           let same : g ≡ f = cc (i, j) in subst (λ h. Told text h) same (line_refused line next col (e ∙ ap (λ r. 37 ∷ r) cut) one ends lacks g why)
 
-  pub marker_told : (tok : Tok) → Faults (Told text) (fetch_document_marker tok t)
+  pub marker_told : (tok : Tok) → t.held.position.col ≡ 0 → Faults (Told text) (fetch_document_marker tok t)
   unfolding fetch_document_marker
-  marker_told tok = in_turn (tried t (line_told text t.held)) (λ u e. goes)
+  marker_told tok col = in_turn (tried t (line_told text t.held (line_rowless text t a some col))) (λ u e. goes)
 
   -- ---- what follows
 
@@ -143,7 +115,7 @@ module _ (text : List ℕ) (t : ScannerState) (a : Arrives text t) (some : is_em
   pub document_end_told : (more : List ℕ) → t.rest ≡ 46 ∷ 46 ∷ 46 ∷ more → is_at_gap more ≡ true → t.held.position.col ≡ 0 → Faults (Told text) (fetch_document_end t)
   unfolding fetch_document_end
   document_end_told more e gap col =
-      in_turn (marker_told Tok.document_end) (λ u k. in_turn (spaces_told text Yes u (λ h. absurd (cc (h, ap (λ r. begins_with 35 r) (held_of u (marked_state Tok.document_end 46 more e) k).0, no_comment more gap)))) (λ v i.
+      in_turn (marker_told Tok.document_end col) (λ u k. in_turn (spaces_told text Yes u (λ h. absurd (cc (h, ap (λ r. begins_with 35 r) (held_of u (marked_state Tok.document_end 46 more e) k).0, no_comment more gap)))) (λ v i.
       end_checked u v more e gap col (held_of u (marked_state Tok.document_end 46 more e) k) (held_of v (spaces_skipped Yes u) i)))
 
   -- ---- what may begin
@@ -174,7 +146,7 @@ module _ (text : List ℕ) (t : ScannerState) (a : Arrives text t) (some : is_em
           let line = ap (λ p. p.line) a.position_is in
           arrivals.not_free a.base.site.before a.separation (arrivals.unbroken a.base.site.position a.separation t.rest some a.is_solid (omega (arith, before, here, line)))
 
-      by : (k : Option Key) (c : Bool) → MayChoose c k t.held.position t.rest → IsLineHere false t.held.key_allowed t.rest k a.line → IsOpenOutside k a.base.site.position t.held.position t.rest a.base.site.blocks
+      by : (k : Option Key) (c : Bool) → MayChoose true c k t.held.position t.rest → IsLineHere false t.held.key_allowed t.rest k a.line → IsOpenOutside k a.base.site.position t.held.position t.rest a.base.site.blocks
           → is_taken_line (line_past_separation false broken (line_by c k a.base.line)) ≡ true
       by None c may h open_here = ap is_taken_line is_line ∙ taken_by a.line h.0 (sym h.1 ∙ none)
       by (Some k) true may h open_here = ap (λ b. is_taken_line (line_past_separation false b (waits k.position))) (on_its_line k open_here.0.0 may.0)
@@ -278,11 +250,11 @@ module _ (text : List ℕ) (t : ScannerState) (a : Arrives text t) (some : is_em
       holds.checked (in_flow t.held) (At problem.BlockEntryInFlow t.held.position) (λ o. holds.checked (not t.held.key_allowed) (At problem.BlockEntryNotAllowed t.held.position) (λ n. holds.went (o, is_so t.held.key_allowed n, refl)))
 
   -- no comment stands after what was passed behind a dash
-  dash_spaced : (u : ScannerState) → Holds (λ v. begins_with 35 v.rest ≡ false) (lexed (space Yes u.rest u.held.position) u.held check_dash)
+  dash_spaced : (u : ScannerState) → Holds (λ v. (begins_with 35 v.rest ≡ false) × (v.held.keys ≡ u.held.keys)) (lexed (space Yes u.rest u.held.position) u.held check_dash)
   unfolding check_dash
   dash_spaced u =
-      spaced Yes u check_dash (λ v. begins_with 35 v.rest ≡ false) (λ w v s.
-      holds.checked (w.found_tabs && (slice_index v.rest 0 == 45) && is_blank_or_breakz (slice_index v.rest 1)) (At problem.TabAfterDash v.held.position) (λ _. holds.went (no_comment_left Yes v.rest s.ends)))
+      spaced Yes u check_dash (λ v. (begins_with 35 v.rest ≡ false) × (v.held.keys ≡ u.held.keys)) (λ w v s.
+      holds.checked (w.found_tabs && (slice_index v.rest 0 == 45) && is_blank_or_breakz (slice_index v.rest 1)) (At problem.TabAfterDash v.held.position) (λ _. holds.went (no_comment_left Yes v.rest s.ends, ap (λ h. h.keys) s.is_held)))
 
   pub dash_told : (more : List ℕ) → t.rest ≡ 45 ∷ more → is_at_gap more ≡ true → Faults (Told text) (fetch_block_entry t)
   unfolding fetch_block_entry
@@ -291,12 +263,15 @@ module _ (text : List ℕ) (t : ScannerState) (a : Arrives text t) (some : is_em
       let was : (u.rest ≡ t.rest) × (in_flow t.held ≡ false) × (t.held.key_allowed ≡ true) × (u.held ≡ t.held) =
       held_of {P = λ v. (v.rest ≡ t.rest) × (in_flow t.held ≡ false) × (t.held.key_allowed ≡ true) × (v.held ≡ t.held)} u (holds.tried t (check_block_entry t.held) entry_outside (λ s k. (refl, k.0, k.1, k.2))) i in
       let rolled : ScannerState = on_held (roll_indent t.held.position.col None Tok.block_sequence_start t.held.position) (skip_indicator u) in
-      let place : rolled.held.position ≡ past t.held.position = rolled_place t.held.position.col None Tok.block_sequence_start t.held.position (skip_indicator u).held ∙ ap (λ h. past h.position) was.3 in
+      let stays = rolled_stays t.held.position.col None Tok.block_sequence_start t.held.position (skip_indicator u).held in
+      let place : rolled.held.position ≡ past t.held.position = stays.0 ∙ ap (λ h. past h.position) was.3 in
       let left : rolled.rest ≡ more = ap after (was.0 ∙ e) in
       in_turn (read rolled.held (space Yes rolled.rest rolled.held.position) check_dash (λ f k. space_told text Yes rolled.rest rolled.held.position (λ h. absurd (cc (h, ap (λ r. begins_with 35 r) left, no_comment more gap))) f k)
       (λ x k. dash_checked more e gap was.1 was.2 rolled.held place x (ap (λ r. space Yes r rolled.held.position) (sym left) ∙ k))) (λ v j.
-      in_turn (spaces_told text No v (λ h. absurd (cc (h, held_of v (dash_spaced rolled) j)))) (λ w k.
-      in_turn (tried (roll_entry w) (remove_told text (roll_entry w).held)) (λ x l. goes))))
+      let spaced_on = held_of v (dash_spaced rolled) j in
+      in_turn (spaces_told text No v (λ h. absurd (cc (h, spaced_on.0)))) (λ w k.
+      let keys : (roll_entry w).held.keys ≡ t.held.keys = entry_keys w ∙ (ap (λ h. h.keys) (held_of w (spaces_skipped No v) k).is_held ∙ (spaced_on.1 ∙ (stays.1 ∙ ap (λ h. h.keys) was.3))) in
+      in_turn (tried (roll_entry w) (remove_told text (roll_entry w).held (λ must. absurd (cc (must, ap (λ ks. is_required (top_key ks)) keys, not_required text t a some (ap (λ b. in_flow t.held || b) was.2 ∙ or_true (in_flow t.held))))))) (λ x l. goes))))
 
   key_begun : (more : List ℕ) → t.rest ≡ 63 ∷ more → is_at_gap more ≡ true → Faults (Told text) (begin_key t.held)
   unfolding begin_key
@@ -306,12 +281,12 @@ module _ (text : List ℕ) (t : ScannerState) (a : Arrives text t) (some : is_em
       (λ n _. stuck text t a some [] problem.KeyNotAllowed t.held.position (λ c may.
       record { fails = may_not_stand (defs.question_not_free more e gap (in_flow_is text t a some c [] ∙ o) (line_taken c [] may (is_outside o) (is_not t.held.key_allowed n))); is_first = looked_at text t a some lies c [] })) (λ _. goes))
 
-  key_place : Holds (λ s. (s.position ≡ t.held.position) × ((in_flow t.held || t.held.key_allowed) ≡ true)) (begin_key t.held)
+  key_place : Holds (λ s. Stays s t.held × ((in_flow t.held || t.held.key_allowed) ≡ true)) (begin_key t.held)
   unfolding begin_key
   key_place =
-      holds.either (in_flow t.held) (λ i. holds.went (refl, ap (λ b. b || t.held.key_allowed) i)) (λ o.
+      holds.either (in_flow t.held) (λ i. holds.went ((refl, refl), ap (λ b. b || t.held.key_allowed) i)) (λ o.
       holds.checked (not t.held.key_allowed) (At problem.KeyNotAllowed t.held.position) (λ n.
-      holds.went (rolled_place t.held.position.col None Tok.block_mapping_start t.held.position t.held, ap (λ b. b || t.held.key_allowed) o ∙ is_so t.held.key_allowed n)))
+      holds.went (rolled_stays t.held.position.col None Tok.block_mapping_start t.held.position t.held, ap (λ b. b || t.held.key_allowed) o ∙ is_so t.held.key_allowed n)))
 
   white_told : (in_flow t.held || t.held.key_allowed) ≡ true → (more : List ℕ) → t.rest ≡ 63 ∷ more → is_at_gap more ≡ true → (u : ScannerState) → u.rest ≡ more → u.held.position ≡ past t.held.position → Faults (Told text) (skip_yaml_whitespace u)
   unfolding skip_yaml_whitespace
@@ -365,13 +340,13 @@ module _ (text : List ℕ) (t : ScannerState) (a : Arrives text t) (some : is_em
   unfolding fetch_key
   question_told more e gap =
       in_turn (tried t (key_begun more e gap)) (λ u i.
-      let first : (u.rest ≡ t.rest) × (u.held.position ≡ t.held.position) × ((in_flow t.held || t.held.key_allowed) ≡ true) =
-      held_of {P = λ v. (v.rest ≡ t.rest) × (v.held.position ≡ t.held.position) × ((in_flow t.held || t.held.key_allowed) ≡ true)} u (holds.tried t (begin_key t.held) key_place (λ s k. (refl, k.0, k.1))) i in
-      in_turn (tried u (remove_told text u.held)) (λ v j.
+      let first : (u.rest ≡ t.rest) × Stays u.held t.held × ((in_flow t.held || t.held.key_allowed) ≡ true) =
+      held_of {P = λ v. (v.rest ≡ t.rest) × Stays v.held t.held × ((in_flow t.held || t.held.key_allowed) ≡ true)} u (holds.tried t (begin_key t.held) key_place (λ s k. (refl, k.0, k.1))) i in
+      in_turn (tried u (remove_told text u.held (λ must. absurd (cc (must, ap (λ ks. is_required (top_key ks)) first.1.1, not_required text t a some first.2))))) (λ v j.
       let second : (v.rest ≡ u.rest) × (v.held.position ≡ u.held.position) = held_of {P = λ x. (x.rest ≡ u.rest) × (x.held.position ≡ u.held.position)} v (holds.tried u (remove_implicit_key u.held) (removed_is u.held) (λ s k. (refl, ap (λ h. h.position) k))) j in
       let here : ScannerState = skip_indicator (on_held (λ s. allow_key (not (in_flow s)) s) v) in
       let left : here.rest ≡ more = ap after (second.0 ∙ (first.0 ∙ e)) in
-      let place : here.held.position ≡ past t.held.position = ap past (second.1 ∙ first.1) in
+      let place : here.held.position ≡ past t.held.position = ap past (second.1 ∙ first.1.0) in
       in_turn (white_told first.2 more e gap here left place) (λ w k.
       in_turn (space_checked first.2 more e gap here w left place k) (λ x l. goes))))
 
@@ -406,14 +381,14 @@ module _ (text : List ℕ) (t : ScannerState) (a : Arrives text t) (some : is_em
       stuck text t a some (true ∷ []) problem.ColonMisplaced t.held.position (λ c may.
       record { fails = may_not_stand (defs.key_on_earlier_line more k.position s.first s.around e (value_here more e i c (true ∷ [])) s.are s.takes s.had_is (grind (arith, nat_tests, late))); is_first = (looked_at text t a some lies c (true ∷ []), apart) })
 
-  not_allowed : NoneWaits text t a → (more : List ℕ) → t.rest ≡ 58 ∷ more → colon_may_precede more ≡ true → is_value t ≡ true → top_key t.held.keys ≡ None → in_flow t.held ≡ false → t.held.key_allowed ≡ false → Told text (At problem.ValueNotAllowed t.held.position)
-  not_allowed unwaited more e apart i top o allowed = λ _.
+  not_allowed : (more : List ℕ) → t.rest ≡ 58 ∷ more → colon_may_precede more ≡ true → is_value t ≡ true → top_key t.held.keys ≡ None → in_flow t.held ≡ false → t.held.key_allowed ≡ false → Told text (At problem.ValueNotAllowed t.held.position)
+  not_allowed more e apart i top o allowed = λ _.
       let out : is_empty t.held.flow ≡ true = is_outside o in
       let none_in : a.base.entries ≡ [] = no_entries t.held.key_allowed _ t.held.flow t.held.keys a.base.entries out a.are_entries in
       let key_is : outside_key a.base.entries t.held.keys ≡ None = ap (λ es. outside_key es t.held.keys) none_in ∙ top in
-      let may : MayChoose false (outside_key a.base.entries t.held.keys) t.held.position t.rest = subst (λ k. MayChoose false k t.held.position t.rest) (sym key_is) tt in
+      let may : MayChoose true false (outside_key a.base.entries t.held.keys) t.held.position t.rest = subst (λ k. MayChoose true false k t.held.position t.rest) (sym key_is) tt in
       no_key (account_by text t a some false []) a.separation more t.held.position (subst (λ r. IsPlace text (account_by text t a some false []) a.separation r t.held.position) e (place text t a some false [] may)) (value_here more e i false []) (in_flow_is text t a some false [] ∙ o)
-      (line_taken false [] (λ _. may) out allowed) (subst (λ r. HasNoKey text a.separation r t.held.position) e (unwaited some top o))
+      (line_taken false [] (λ _. may) out allowed) (subst (λ r. HasNoKey text a.separation r t.held.position) e (none_waits text t a some top out))
       (subst (λ r. IsLookedAt (account_by text t a some false []) a.separation t.held.position r) e (looked_at text t a some lies false [])) apart
 
   pair_told : (more : List ℕ) → t.rest ≡ 58 ∷ more → colon_may_precede more ≡ true → is_value t ≡ true → (k : Key) → top_key t.held.keys ≡ Some k → (pair : Bool) → opens_pair t.held.flow ≡ pair → (s : Held) → Faults (Told text) (begin_pair k t.held.position pair s)
@@ -421,21 +396,21 @@ module _ (text : List ℕ) (t : ScannerState) (a : Arrives text t) (some : is_em
   pair_told more e apart i k top true opens s = checked (nat_lt k.position.line t.held.position.line) (At problem.ColonMisplaced t.held.position) (λ late. misplaced more e apart i k top opens late) (λ _. goes)
   pair_told more e apart i k top false opens s = goes
 
-  mapping_told : NoneWaits text t a → (more : List ℕ) → t.rest ≡ 58 ∷ more → colon_may_precede more ≡ true → is_value t ≡ true → top_key t.held.keys ≡ None → (s : Held) → in_flow s ≡ in_flow t.held → s.key_allowed ≡ t.held.key_allowed → Faults (Told text) (begin_keyless_mapping t.held.position s)
+  mapping_told : (more : List ℕ) → t.rest ≡ 58 ∷ more → colon_may_precede more ≡ true → is_value t ≡ true → top_key t.held.keys ≡ None → (s : Held) → in_flow s ≡ in_flow t.held → s.key_allowed ≡ t.held.key_allowed → Faults (Told text) (begin_keyless_mapping t.held.position s)
   unfolding begin_keyless_mapping
-  mapping_told unwaited more e apart i top s flow allowed =
-      either (in_flow s) (λ _. goes) (λ o. checked (not s.key_allowed) (At problem.ValueNotAllowed t.held.position) (λ n. not_allowed unwaited more e apart i top (sym flow ∙ o) (sym allowed ∙ is_not s.key_allowed n)) (λ _. goes))
+  mapping_told more e apart i top s flow allowed =
+      either (in_flow s) (λ _. goes) (λ o. checked (not s.key_allowed) (At problem.ValueNotAllowed t.held.position) (λ n. not_allowed more e apart i top (sym flow ∙ o) (sym allowed ∙ is_not s.key_allowed n)) (λ _. goes))
 
   keyless_alike : (pair : Bool) (s : Held) → (in_flow (begin_keyless_pair pair s) ≡ in_flow s) × ((begin_keyless_pair pair s).key_allowed ≡ s.key_allowed)
   keyless_alike true s = (refl, refl)
   keyless_alike false s = (refl, refl)
 
-  value_told : NoneWaits text t a → (more : List ℕ) → t.rest ≡ 58 ∷ more → colon_may_precede more ≡ true → is_value t ≡ true → (o : Option Key) → top_key t.held.keys ≡ o → (s : Held) → in_flow s ≡ in_flow t.held → s.key_allowed ≡ t.held.key_allowed → Faults (Told text) (value_of o t.held.position (opens_pair t.held.flow) s)
+  value_told : (more : List ℕ) → t.rest ≡ 58 ∷ more → colon_may_precede more ≡ true → is_value t ≡ true → (o : Option Key) → top_key t.held.keys ≡ o → (s : Held) → in_flow s ≡ in_flow t.held → s.key_allowed ≡ t.held.key_allowed → Faults (Told text) (value_of o t.held.position (opens_pair t.held.flow) s)
   unfolding insert_key begin_keyless_value
-  value_told unwaited more e apart i None top s flow allowed =
+  value_told more e apart i None top s flow allowed =
       let k = keyless_alike (opens_pair t.held.flow) s in
-      in_turn (mapping_told unwaited more e apart i top (begin_keyless_pair (opens_pair t.held.flow) s) (k.0 ∙ flow) (k.1 ∙ allowed)) (λ u j. goes)
-  value_told unwaited more e apart i (Some k) top s flow allowed = in_turn (pair_told more e apart i k top (opens_pair t.held.flow) refl _) (λ u i. goes)
+      in_turn (mapping_told more e apart i top (begin_keyless_pair (opens_pair t.held.flow) s) (k.0 ∙ flow) (k.1 ∙ allowed)) (λ u j. goes)
+  value_told more e apart i (Some k) top s flow allowed = in_turn (pair_told more e apart i k top (opens_pair t.held.flow) refl _) (λ u i. goes)
 
   paired_flow : (fs : List FlowLevel) → is_empty (paired fs) ≡ is_empty fs
   paired_flow [] = refl
@@ -507,9 +482,9 @@ module _ (text : List ℕ) (t : ScannerState) (a : Arrives text t) (some : is_em
   spaced_apart : (more : List ℕ) (u : ScannerState) → u.rest ≡ more → Holds (λ v. colon_may_precede more ≡ true) (check_value_space u)
   spaced_apart more u left = holds.weakened (λ v k. ap colon_may_precede (sym left) ∙ k.1) (colon_spaced u.rest u.held)
 
-  pub colon_told : NoneWaits text t a → (more : List ℕ) → t.rest ≡ 58 ∷ more → is_value t ≡ true → Faults (Told text) (fetch_value t)
+  pub colon_told : (more : List ℕ) → t.rest ≡ 58 ∷ more → is_value t ≡ true → Faults (Told text) (fetch_value t)
   unfolding fetch_value
-  colon_told unwaited more e is =
+  colon_told more e is =
       let first : ScannerState = skip_indicator (on_held (λ s. record s { flow = paired s.flow }) t) in
       in_turn (value_checked more e first (ap after e) refl) (λ u k.
       let h = held_of u (value_held first) k in
@@ -517,7 +492,7 @@ module _ (text : List ℕ) (t : ScannerState) (a : Arrives text t) (some : is_em
       in_turn (tried u (value_told_by more e apart u (ap (λ s. s.keys) h) (ap (λ s. not (is_empty s.flow)) h ∙ ap not (paired_flow t.held.flow)) (ap (λ s. s.key_allowed) h))) (λ v i. goes))
     where
       value_told_by : (more : List ℕ) → t.rest ≡ 58 ∷ more → colon_may_precede more ≡ true → (u : ScannerState) → u.held.keys ≡ t.held.keys → in_flow u.held ≡ in_flow t.held → u.held.key_allowed ≡ t.held.key_allowed → Faults (Told text) (value_of (top_key u.held.keys) t.held.position (opens_pair t.held.flow) u.held)
-      value_told_by more e apart u keys flow allowed = value_told unwaited more e apart is (top_key u.held.keys) (sym (ap top_key keys)) u.held flow allowed
+      value_told_by more e apart u keys flow allowed = value_told more e apart is (top_key u.held.keys) (sym (ap top_key keys)) u.held flow allowed
 
   -- ---- brackets and commas
 
@@ -612,9 +587,14 @@ module _ (text : List ℕ) (t : ScannerState) (a : Arrives text t) (some : is_em
       by true = holds.refused
       by false = holds.went (decreased (is_empty (end_pair left.flow left).flow) (end_pair left.flow left) ∙ pair_ended left.flow left)
 
-  pub closing_told : (tok : Tok) (c : ℕ) (more : List ℕ) → t.rest ≡ c ∷ more → none.is_flow_indicator c ≡ true → opens c ≡ false → Faults (Told text) (fetch_flow_collection_end tok t)
+  pub closing_told : (tok : Tok) (c : ℕ) (more : List ℕ) → t.rest ≡ c ∷ more → (c ≡ 93) ⊎ (c ≡ 125) → Faults (Told text) (fetch_flow_collection_end tok t)
   unfolding fetch_flow_collection_end end_flow
-  closing_told tok c more e is closes = in_turn (tried t (ended_told (remove_told text t.held))) (λ u i. in_turn (indicator_passed c more e is (ap (λ b. b && nat_le 255 (length t.held.flow)) closes) u (is_here end_flow u ended_here i)) (λ v j. goes))
+  closing_told tok c more e is =
+      in_turn (tried t (ended_told (remove_told text t.held (closing_rowless text t a some c more e (inr is))))) (λ u i. in_turn (indicator_passed c more e (closes c is).0 (ap (λ b. b && nat_le 255 (length t.held.flow)) (closes c is).1) u (is_here end_flow u ended_here i)) (λ v j. goes))
+    where
+      closes : (c : ℕ) → (c ≡ 93) ⊎ (c ≡ 125) → (none.is_flow_indicator c ≡ true) × (opens c ≡ false)
+      closes c (inl h) = rw h (refl, refl)
+      closes c (inr h) = rw h (refl, refl)
 
   next_told : {r : Result Held Fault} → Faults (Told text) r → Faults (Told text) (next_entry r)
   next_told (fault p) = fault p
@@ -633,4 +613,4 @@ module _ (text : List ℕ) (t : ScannerState) (a : Arrives text t) (some : is_em
 
   pub comma_told : (more : List ℕ) → t.rest ≡ 44 ∷ more → Faults (Told text) (fetch_flow_entry t)
   unfolding fetch_flow_entry end_entry
-  comma_told more e = in_turn (tried t (next_told (remove_told text t.held))) (λ u i. in_turn (indicator_passed 44 more e refl refl u (is_here end_entry u next_here i)) (λ v j. goes))
+  comma_told more e = in_turn (tried t (next_told (remove_told text t.held (closing_rowless text t a some 44 more e (inl refl))))) (λ u i. in_turn (indicator_passed 44 more e refl refl u (is_here end_entry u next_here i)) (λ v j. goes))

@@ -1,28 +1,15 @@
 -- A key that must be one waits in each row of the text; and while it waits no line ends. So no row goes on where a beginning has only gone on over a line's end by making no key of it.
-use Rattle.std.proofs.Common.{◌≡◌, ℕ, ◌+◌, ◌<◌, ◌≤◌, List, [], ◌∷◌, ◌++◌, Bool, true, false, not, ◌&&◌, nat_lt, if◌then◌else◌, length, Option, Some, None, ◌⊎◌, inl, inr, refl, ap, sym, ◌∙◌, subst, arith}
-use Rattle.std.proofs.lemmas.Bool.Decides.{nat_tests}
-use Rattle.proof_scanner.proofs.Common.{Act, act_of, begins_free_line, begins_separation, BeginsButForKey, begun_by, double_quoted, entries_past, free, gives_block_scalar, gives_colon, gives_dash, gives_marker, gives_node, gives_question, has_no_break, HasRow, is_empty, is_in_column, is_marker, is_near, is_renewed, is_separation, is_waiting, key_waits, LeadsTo, LikeEntries, LikeLine, line_past_separation, may_stand, no_key, not_ended, Outside, past_inside, past_outside, past_piece, Position, position_after, position_in_line, previous_by, Row, scalar, single_quoted, Site, site_at, site_past, spelled_to, tag_directive, taken, Tok, version_directive}
-use Rattle.defs_token.specs.Token.{plain, literal, folded}
-use Rattle.defs_token.specs.Step.{Step, gives_comma, gives_closing, gives_nothing, has_break, spelled}
-use Rattle.defs_token.specs.Column.{blocks_at, opened}
-use Rattle.defs_token.specs.Key.{Line, waits, line_past}
-use Rattle.defs_token.specs.FlowEntry.{Entry}
-use Rattle.defs_token.specs.RowAccount.{Account, first_account, is_in_flow, on_one_line, account_past}
-use Rattle.defs_token.specs.Row.{IsWritten}
-use Rattle.proof_row.proofs.Texts.{no_nul_after}
-use Rattle.proof_row.proofs.Accounts.{same_flow}
-use Rattle.proof_row.proofs.Like.{Stepped}
-use Rattle.proof_row.proofs.RowLines.{separation_step}
+use Rattle.proof_scanner.proofs.Common.{[], Account, account_past, Act, act_of, ap, arith, begins_free_line, begins_separation, BeginsButForKey, blocks_at, Bool, double_quoted, Entry, fails, false, first_account, free, gives_block_scalar, gives_closing, gives_colon, gives_comma, gives_dash, gives_marker, gives_node, gives_nothing, gives_question, has_break, has_no_break, HasRow, if◌then◌else◌, inl, inr, is_empty, is_in_column, is_in_flow, is_marker, is_near, is_separation, is_waiting, IsRowFrom, IsWritten, key_waits, length, LikeEntries, LikeLine, Line, line_past, line_past_separation, List, nat_lt, nat_tests, no_key, no_nul_after, None, not, not_ended, opened, Outside, plain, Position, position_after, position_in_line, previous_by, refl, Row, same_flow, scalar, single_quoted, Site, site_at, Some, spelled, Step, subst, sym, tag_directive, taken, TextsWithARowAreNotStuck, Tok, true, version_directive, waits, ℕ, ◌&&◌, ◌++◌, ◌+◌, ◌<◌, ◌∙◌, ◌∷◌, ◌≡◌, ◌≤◌, ◌⊎◌}
+use Rattle.defs_token.specs.Token.{literal, folded}
 use Rattle.proof_scanner.proofs.Sound.Sides.{with_entries}
-use Rattle.proof_scanner.proofs.Complete.Around.Markers.{marker_begins}
-use Rattle.proof_scanner.proofs.Complete.Around.Asks.{waiting_goes_on}
-use Rattle.proof_scanner.proofs.Complete.Nodes.Choices.{same_of}
-use Rattle.proof_scanner.proofs.Complete.Steps.{step_here}
-use Rattle.proof_scanner.proofs.Complete.WaitingKeys.{near_stop}
-use Rattle.proof_scanner.specs.Certain.{TextsWithARowAreNotStuck}
-use Rattle.proof_scanner.specs.Stuck.{fails}
+use Rattle.proof_scanner.proofs.Refusals.KindsOfPieces.{marker_begins}
+use Rattle.proof_scanner.proofs.Known.Made.{same_of, waited, still_there, like_past, Waits, begun, kept, waits_past, Made, outside, inside, made}
+use Rattle.proof_scanner.proofs.Known.Rows.{Walked, walk}
+use Rattle.proof_scanner.proofs.Known.Ways.{Same, With, strictly}
+use Rattle.proof_scanner.proofs.Known.Places.{step_here}
+use Rattle.proof_scanner.proofs.Refusals.WaitingKeys.{none_ends, goes_near}
 use Rattle.proof_scanner.proofs.Refusals.NoRows.{failing_places_have_no_row, no_keyless_colon}
-use Rattle.proof_scanner.proofs.Refusals.OtherRows.{With, Walked, Keeps, walk, row_walks}
+use Rattle.proof_scanner.proofs.Refusals.OtherRows.{Keeps, keeps_on, row_begins}
 
 -- ---- columns
 
@@ -144,69 +131,6 @@ falls_past must here bs k key l o e f = by k key l must e
     by gives_marker false (waits p) must e = absurd (cc e)
     by gives_nothing key l must e = absurd (cc e)
 
--- A key waits after a piece outside flow: it has begun with it, or it waited before.
-data Waits (must : Bool) (here : Position) (bs : List ℕ) (k : Act) (l : Line) (o : Outside) (q : Position) : Type 0 where
-  begun : k ≡ gives_node → l ≡ free → here ≡ q → o.blocks ≡ bs → Waits must here bs k l o q
-  kept : k ≡ gives_node → l ≡ waits q → o.blocks ≡ bs → Waits must here bs k l o q
-
-waits_past : (must : Bool) (here : Position) (bs : List ℕ) (k : Act) (key : Bool) (l : Line) (o : Outside) (q : Position) → line_past must here bs k key l ≡ Some o → o.line ≡ waits q → Waits must here bs k l o q
-waits_past must here bs k key l o q e w = by k key l must e
-  where
-    other : (cs : List ℕ) (m : Line) → is_waiting m ≡ false → Some (let x : Outside = record { line = m; blocks = cs } in x) ≡ Some o → ⊥
-    other cs m n e = cc (n, ap is_waiting (ap (λ (x : Outside). x.line) (same_of _ o e) ∙ w))
-
-    near : (begin : Position) (n : Bool) → (if n then Some (let x : Outside = record { line = taken; blocks = opened begin.col bs } in x) else None) ≡ Some o → ⊥
-    near begin true e = other (opened begin.col bs) taken refl e
-    near begin false e = cc e
-
-    place : (p : Position) → waits p ≡ waits q → p ≡ q
-    place p e = cc e
-
-    blocks : (m : Line) → Some (let x : Outside = record { line = m; blocks = bs } in x) ≡ Some o → o.blocks ≡ bs
-    blocks m e = ap (λ (x : Outside). x.blocks) (sym (same_of _ o e))
-
-    line : (m : Line) → Some (let x : Outside = record { line = m; blocks = bs } in x) ≡ Some o → m ≡ waits q
-    line m e = ap (λ (x : Outside). x.line) (same_of _ o e) ∙ w
-
-    by : (k : Act) (key : Bool) (l : Line) (must : Bool) → line_past must here bs k key l ≡ Some o → Waits must here bs k l o q
-    by gives_node true free must e = begun refl refl (place here (line (waits here) e)) (blocks (waits here) e)
-    by gives_node false free true e = absurd (cc e)
-    by gives_node false free false e = absurd (other bs taken refl e)
-    by gives_node false taken must e = absurd (other bs taken refl e)
-    by gives_node false (waits p) must e = kept refl (line (waits p) e) (blocks (waits p) e)
-    by gives_node true taken must e = absurd (cc e)
-    by gives_node true (waits p) must e = absurd (cc e)
-    by gives_block_scalar true l must e = absurd (cc e)
-    by gives_block_scalar false free true e = absurd (cc e)
-    by gives_block_scalar false free false e = absurd (other bs free refl e)
-    by gives_block_scalar false taken must e = absurd (other bs free refl e)
-    by gives_block_scalar false (waits p) must e = absurd (cc e)
-    by gives_dash true l must e = absurd (cc e)
-    by gives_dash false free must e = absurd (other (opened here.col bs) free refl e)
-    by gives_dash false taken must e = absurd (cc e)
-    by gives_dash false (waits p) must e = absurd (cc e)
-    by gives_question true l must e = absurd (cc e)
-    by gives_question false free must e = absurd (other (opened here.col bs) free refl e)
-    by gives_question false taken must e = absurd (cc e)
-    by gives_question false (waits p) must e = absurd (cc e)
-    by gives_colon true l must e = absurd (cc e)
-    by gives_colon false free must e = absurd (other (opened here.col bs) free refl e)
-    by gives_colon false taken must e = absurd (cc e)
-    by gives_colon false (waits p) must e = absurd (near p (is_near p here) e)
-    by gives_comma true l must e = absurd (cc e)
-    by gives_comma false free must e = absurd (other bs free refl e)
-    by gives_comma false taken must e = absurd (other bs free refl e)
-    by gives_comma false (waits p) must e = absurd (cc e)
-    by gives_closing true l must e = absurd (cc e)
-    by gives_closing false free must e = absurd (other bs taken refl e)
-    by gives_closing false taken must e = absurd (other bs taken refl e)
-    by gives_closing false (waits p) must e = absurd (cc e)
-    by gives_marker true l must e = absurd (cc e)
-    by gives_marker false free must e = absurd (other bs taken refl e)
-    by gives_marker false taken must e = absurd (other bs taken refl e)
-    by gives_marker false (waits p) must e = absurd (cc e)
-    by gives_nothing key l must e = absurd (cc e)
-
 -- a node with which no key begins where one may is in no column of the innermost collection
 no_must : (must key : Bool) (here : Position) (bs : List ℕ) (o : Outside) → line_past must here bs gives_node key free ≡ Some o → o.line ≡ taken → must ≡ false
 no_must true true here bs o e t = absurd (cc (ap (λ (x : Outside). x.line) (same_of _ o e) ∙ t))
@@ -236,62 +160,6 @@ still must here bs k b c q o u e f = by k b c e f
     by gives_marker b true e f = absurd (cc f)
     by gives_marker b false e f = absurd (cc f)
     by gives_nothing b c e f = absurd (cc e)
-
--- ---- what a step makes
-
--- what comes of an account by a step, outside flow or in flow
-data Made (s : Site) (l : Line) (es : List Entry) (w : Step) (next : List ℕ) (b : Account) : Type 0 where
-  outside : (m : Line) (o : Outside) → es ≡ [] → line_past_separation false (begins_free_line s.before w.separation) l ≡ Some m
-      → (let at : Site = site_at false s w.separation w.piece w.shown next in line_past (is_in_column at.position.col at.blocks) at.position at.blocks (act_of w.shown) w.key m) ≡ Some o
-      → b.line ≡ o.line → b.site ≡ (let at : Site = site_at false s w.separation w.piece w.shown next in site_past false at w.piece w.shown next o.blocks) → (has_break w.piece && is_waiting b.line) ≡ false → Made s l es w next b
-  inside : is_in_flow es ≡ true → line_past_separation true (begins_free_line s.before w.separation) l ≡ Some b.line
-      → b.site ≡ (let at : Site = site_at true s w.separation w.piece w.shown next in site_past true at w.piece w.shown next s.blocks) → (has_break w.piece && is_waiting b.line) ≡ false → Made s l es w next b
-
-made : (s : Site) (l : Line) (es : List Entry) (w : Step) (next : List ℕ) (b : Account) → account_past (with_entries s l es) w next ≡ Some b → Made s l es w next b
-made s l [] w next b e = by (may_stand false s at w.separation w.piece w.shown next) (line_past_separation false (begins_free_line s.before w.separation) l) refl e
-  where
-    at : Site
-    at = site_at false s w.separation w.piece w.shown next
-
-    by : (c : Bool) (m : Option Line) → line_past_separation false (begins_free_line s.before w.separation) l ≡ m
-        → (if c then on_one_line w.piece (past_piece at w.piece w.shown next (is_renewed s.before w.separation) w.key m []) else None) ≡ Some b → Made s l [] w next b
-    by false m f e = absurd (cc e)
-    by true None f e = absurd (cc e)
-    by true (Some m) f e = to (line_past (is_in_column at.position.col at.blocks) at.position at.blocks (act_of w.shown) w.key m) refl e
-      where
-        to : (o : Option Outside) → line_past (is_in_column at.position.col at.blocks) at.position at.blocks (act_of w.shown) w.key m ≡ o → on_one_line w.piece (past_outside at w.piece w.shown next o) ≡ Some b → Made s l [] w next b
-        to None g e = absurd (cc e)
-        to (Some o) g e = last (has_break w.piece && is_waiting o.line) refl e
-          where
-            past : Account
-            past = record { site = site_past false at w.piece w.shown next o.blocks; line = o.line; entries = begun_by w.shown }
-
-            last : (d : Bool) → (has_break w.piece && is_waiting o.line) ≡ d → (if d then None else Some past) ≡ Some b → Made s l [] w next b
-            last true h e = absurd (cc e)
-            last false h e = let same : past ≡ b = same_of past b e in
-                outside m o refl f g (ap (λ (a : Account). a.line) (sym same)) (ap (λ (a : Account). a.site) (sym same)) (ap (λ (a : Account). has_break w.piece && is_waiting a.line) (sym same) ∙ h)
-made s l (d ∷ ds) w next b e = by (may_stand true s at w.separation w.piece w.shown next) (line_past_separation true (begins_free_line s.before w.separation) l) refl e
-  where
-    at : Site
-    at = site_at true s w.separation w.piece w.shown next
-
-    by : (c : Bool) (m : Option Line) → line_past_separation true (begins_free_line s.before w.separation) l ≡ m
-        → (if c then on_one_line w.piece (past_piece at w.piece w.shown next (is_renewed s.before w.separation) w.key m (d ∷ ds)) else None) ≡ Some b → Made s l (d ∷ ds) w next b
-    by false m f e = absurd (cc e)
-    by true None f e = absurd (cc e)
-    by true (Some m) f e = to (entries_past at.position (is_renewed s.before w.separation) (act_of w.shown) (begun_by w.shown) w.key d ds) e
-      where
-        to : (o : Option (List Entry)) → on_one_line w.piece (past_inside at w.piece w.shown next m o) ≡ Some b → Made s l (d ∷ ds) w next b
-        to None e = absurd (cc e)
-        to (Some es) e = last (has_break w.piece && is_waiting m) refl e
-          where
-            past : Account
-            past = record { site = site_past true at w.piece w.shown next at.blocks; line = m; entries = es }
-
-            last : (n : Bool) → (has_break w.piece && is_waiting m) ≡ n → (if n then None else Some past) ≡ Some b → Made s l (d ∷ ds) w next b
-            last true h e = absurd (cc e)
-            last false h e = let same : past ≡ b = same_of past b e in
-                inside refl (f ∙ ap (λ (a : Account). Some a.line) same) (ap (λ (a : Account). a.site) (sym same)) (ap (λ (a : Account). has_break w.piece && is_waiting a.line) (sym same) ∙ h)
 
 -- ---- the line of a key
 
@@ -340,26 +208,17 @@ not_broken p l q w h = by (has_break p) (ap (λ x. has_break p && is_waiting x) 
     by true h = absurd (cc h)
     by false h = refl
 
--- over a separation a key waits that has waited, and no line ends
-waited : (fl broken : Bool) (l m : Line) (q : Position) → line_past_separation fl broken l ≡ Some m → m ≡ waits q → (l ≡ waits q) × (broken ≡ false)
-waited fl false l m q h w = (same_of l m h ∙ w, refl)
-waited true true free m q h w = absurd (cc (ap is_waiting (same_of free m h ∙ w)))
-waited true true taken m q h w = absurd (cc (ap is_waiting (same_of taken m h ∙ w)))
-waited false true free m q h w = absurd (cc (ap is_waiting (same_of free m h ∙ w)))
-waited false true taken m q h w = absurd (cc (ap is_waiting (same_of free m h ∙ w)))
-waited fl true (waits p) m q h w = absurd (cc h)
-
 -- a site is on the line of the key that waits
-abbrev Waiting : Line → Site → Type 0
+abbrev pub Waiting : Line → Site → Type 0
 Waiting l s = (q : Position) → l ≡ waits q → OnLine q s
 
-here_on : (q : Position) (s : Site) (sep more : List ℕ) → OnLine q s → begins_free_line s.before sep ≡ false → ((position_after s.position sep more).line ≡ q.line) × (1 ≤ (position_after s.position sep more).col)
+pub here_on : (q : Position) (s : Site) (sep more : List ℕ) → OnLine q s → begins_free_line s.before sep ≡ false → ((position_after s.position sep more).line ≡ q.line) × (1 ≤ (position_after s.position sep more).col)
 here_on q s sep more on f = let st = stays s.position sep more (sym (on.unmarked sep) ∙ f) in let far = on.further in let col = st.1 in (st.0 ∙ on.line_is, omega (arith, far, col))
 
 node_no_marker : (k : Act) → k ≡ gives_node → is_marker k ≡ false
 node_no_marker k e = ap is_marker e
 
-waiting_past : (s : Site) (l : Line) (es : List Entry) (w : Step) (next : List ℕ) (b : Account) → Waiting l s → IsWritten (with_entries s l es) w next → account_past (with_entries s l es) w next ≡ Some b → Waiting b.line b.site
+pub waiting_past : (s : Site) (l : Line) (es : List Entry) (w : Step) (next : List ℕ) (b : Account) → Waiting l s → IsWritten (with_entries s l es) w next → account_past (with_entries s l es) w next ≡ Some b → Waiting b.line b.site
 waiting_past s l es w next b on is e q wt = by (made s l es w next b e)
   where
     here : Position
@@ -405,15 +264,6 @@ not_free free taken i h k = i
 not_free free (waits q) i h k = i
 not_free taken m i h k = cc h
 not_free (waits p) m i h k = cc h
-
--- like lines are like after a separation
-like_past : (fl broken : Bool) (l m n o : Line) → LikeLine l m → line_past_separation fl broken l ≡ Some n → line_past_separation fl broken m ≡ Some o → LikeLine n o
-like_past fl broken l m n o i e f = by (line_past_separation fl broken l) (line_past_separation fl broken m) e f (separation_step fl broken l m i)
-  where
-    by : (x y : Option Line) → x ≡ Some n → y ≡ Some o → Stepped LikeLine (l ≡ m) x y → LikeLine n o
-    by None y e f s = absurd (cc e)
-    by (Some x) None e f s = absurd (cc f)
-    by (Some x) (Some y) e f s = subst (λ z. LikeLine n z) (same_of y o f) (subst (λ z. LikeLine z y) (same_of x n e) s.0)
 
 -- after a node none waits on a line that is taken, where none waited or began
 taken_past : (must : Bool) (here : Position) (bs : List ℕ) (key : Bool) (l : Line) (o : Outside) → line_past must here bs gives_node key l ≡ Some o → o.line ≡ taken → ((l ≡ free) × (must ≡ false)) ⊎ (l ≡ taken)
@@ -501,10 +351,6 @@ apart_after s ds es w c next a b q j e1 e2 = by (made s taken ds w next a e1) (m
     flows : is_in_flow ds ≡ is_in_flow es
     flows = same_flow ds es j
 
-    kept_line : (fl broken : Bool) (m : Line) → line_past_separation fl broken (waits q) ≡ Some m → (m ≡ waits q) × (broken ≡ false)
-    kept_line fl false m e = (sym (same_of (waits q) m e), refl)
-    kept_line fl true m e = absurd (cc e)
-
     inside_line : (broken : Bool) (m : Line) → line_past_separation true broken taken ≡ Some m → m ≡ taken
     inside_line false m e = sym (same_of taken m e)
     inside_line true m e = sym (same_of taken m e)
@@ -517,12 +363,12 @@ apart_after s ds es w c next a b q j e1 e2 = by (made s taken ds w next a e1) (m
 
     by : Made s taken ds w next a → Made s (waits q) es (With w c) next b → (a.line ≡ taken) × (b.line ≡ waits q)
     by (outside n u n1 sep1 past1 line1 site1 one1) (outside o v n2 sep2 past2 line2 site2 one2) =
-        let was = kept_line false (begins_free_line s.before w.separation) o sep2 in
-        let n_is : n ≡ taken = sym (same_of taken n (subst (λ x. line_past_separation false x taken ≡ Some n) was.1 sep1)) in
-        let r = both n o u v n_is was.0 past1 past2 in (line1 ∙ r.0, line2 ∙ r.1)
+        let was = still_there false (begins_free_line s.before w.separation) (waits q) o q refl sep2 in
+        let n_is : n ≡ taken = sym (same_of taken n (subst (λ x. line_past_separation false x taken ≡ Some n) was.0 sep1)) in
+        let r = both n o u v n_is was.1 past1 past2 in (line1 ∙ r.0, line2 ∙ r.1)
     by (outside n u n1 sep1 past1 line1 site1 one1) (inside some sep2 site2 one2) = absurd (cc (sym (ap is_in_flow n1) ∙ flows ∙ some))
     by (inside some sep1 site1 one1) (outside o v n2 sep2 past2 line2 site2 one2) = absurd (cc (sym some ∙ flows ∙ ap is_in_flow n2))
-    by (inside some1 sep1 site1 one1) (inside some2 sep2 site2 one2) = (inside_line (begins_free_line s.before w.separation) a.line sep1, (kept_line true (begins_free_line s.before w.separation) b.line sep2).0)
+    by (inside some1 sep1 site1 one1) (inside some2 sep2 site2 one2) = (inside_line (begins_free_line s.before w.separation) a.line sep1, (still_there true (begins_free_line s.before w.separation) (waits q) b.line q refl sep2).1)
 
 -- ---- as far as a beginning leads
 
@@ -558,7 +404,7 @@ key_on_its_line text separation rest begin here a r g filled here_is late some s
     after = separation ++ rest
 
     first : Walked (λ x y _. Together x y) g.account (spelled g.steps after)
-    first = row_walks (λ x y _. Together x y) together_keeps text (spelled g.steps after) g.account r first_together g.begins row
+    first = row_begins (λ x y _. Together x y) together_keeps text (spelled g.steps after) g.account r first_together g.begins row
 
     like : LikeLine (waits begin) first.account.line
     like = subst (λ l. LikeLine l first.account.line) g.line_is first.is_like.1
@@ -575,17 +421,17 @@ key_on_its_line text separation rest begin here a r g filled here_is late some s
         none = record { site = g.account.site; line = taken; entries = g.account.entries }
 
         second : Walked (λ x y _. Apart q x y) a after
-        second = walk (λ x y _. Apart q x y) (apart_keeps q) g.steps first.steps after first.stop none first.account a first.is_over (first.is_like.0, subst (λ l. LikeLine taken l) (sym e) tt, first.is_like.2)
-            (record { none = refl; one = e; on = first.holds.on q e }) g.leads first.is_row (sym first.spells) first.is_clean
+        second = walk Same (λ x y _. Apart q x y) (keeps_on (λ x y _. Apart q x y) (apart_keeps q)) g.steps first.steps after first.last none first.account a (first.is_like.0, subst (λ l. LikeLine taken l) (sym e) tt, first.is_like.2)
+            (record { none = refl; one = e; on = first.holds.on q e }) (strictly g.steps after (Some none) a g.leads) first.is_row (sym first.spells) first.is_clean
 
         z : Account
         z = second.account
 
-        ends : (ws : List Step) → LeadsTo (Some z) ws second.stop → spelled_to ws second.stop ≡ after → ⊥
-        ends [] k f = absurd (cc (second.is_over, (near_stop z second.stop q second.holds.one k).goes_on))
+        ends : (ws : List Step) → IsRowFrom (Some z) ws second.last → spelled ws second.last ≡ after → ⊥
+        ends [] k f = none_ends z q second.holds.one k.1
         ends (w ∷ ws) k f =
-            let at : (w.separation ≡ separation) × (w.piece ++ spelled_to ws second.stop ≡ rest) = step_here z w (spelled_to ws second.stop) separation rest k.0 f filled solid (no_nul_after separation rest second.is_clean) in
-            let unbroken : begins_free_line z.site.before separation ≡ false = subst (λ x. begins_free_line z.site.before x ≡ false) at.0 (waiting_goes_on z (w ∷ ws) second.stop q second.holds.one k).1 in
+            let at : (w.separation ≡ separation) × (w.piece ++ spelled ws second.last ≡ rest) = step_here z w (spelled ws second.last) separation rest k.0 f filled solid (no_nul_after separation rest second.is_clean) in
+            let unbroken : begins_free_line z.site.before separation ≡ false = subst (λ x. begins_free_line z.site.before x ≡ false) at.0 (goes_near w ws second.last z q second.holds.one k).unbroken in
             let line : here.line ≡ q.line = ap (λ (p : Position). p.line) here_is ∙ (ap (λ (s : Site). (position_after s.position separation rest).line) second.is_like.0 ∙ (here_on q z.site separation rest second.holds.on unbroken).0) in
             let own : begin.line ≡ q.line = ap (λ (p : Position). p.line) begin_is in
             omega (arith, late, line, own)

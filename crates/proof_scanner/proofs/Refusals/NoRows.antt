@@ -1,17 +1,10 @@
 -- Where a condition of these kinds fails no row of the text goes on.
-use Rattle.std.proofs.Common.{nat_lt, ◌≡◌, ℕ, List, ◌∷◌, ◌++◌, Bool, true, false, refl, ap, ◌∙◌}
-use Rattle.proof_scanner.proofs.Common.{after_blank, AreNotIndented, before_past, begins_separation, begins_token, comes_plain, Fails, HasNoKey, HasRow, innermost, is_adjacent, is_blanks, is_empty, is_indented_by_spaces, is_separation, is_taken, is_value_here, IsBlockFault, IsFollowed, IsPlace, IsPlainFault, IsQuoted, IsQuotedFault, least_column, NoPiece, Position, position_after, Problem, quoted_scalar, Row, Site, site_at_place, stand_after, tab}
+use Rattle.proof_scanner.proofs.Common.{Account, after_blank, ap, AreNotIndented, before_by, before_past, Begins, begins_separation, begins_token, Bool, comes_plain, FailingPlacesHaveNoRow, Fails, false, goes_over, HasNoKey, HasRow, innermost, is_adjacent, is_blanks, is_empty, is_in_flow, is_indented_by_spaces, is_separation, is_taken, is_value_here, IsBlockFault, IsFollowed, IsPlace, IsPlainFault, IsQuoted, IsQuotedFault, least_column, List, MayNotStand, nat_lt, NoPiece, on_line, Position, position_after, Problem, quoted_scalar, refl, Row, Site, site_at_place, stand_after, tab, true, ℕ, ◌++◌, ◌∙◌, ◌∷◌, ◌≡◌}
 use Rattle.defs_text.specs.Classes as classes
 use Rattle.yaml_tokens.specs.declared.problem.Problem.TheVariants as problem
-use Rattle.defs_token.specs.Plain.{on_line}
-use Rattle.defs_token.specs.Beginning.{Begins}
-use Rattle.defs_token.specs.RowAccount.{Account, before_by, is_in_flow}
-use Rattle.proof_scanner.specs.Certain.{FailingPlacesHaveNoRow}
 use Rattle.proof_scanner.specs.NoPiece as none
 use Rattle.proof_scanner.specs.QuotedLines as quoted_lines
-use Rattle.proof_scanner.specs.NoPiece.{goes_over}
 use Rattle.proof_scanner.specs.Failing as defs
-use Rattle.proof_scanner.specs.Failing.{MayNotStand}
 use Rattle.proof_scanner.proofs.Refusals.OtherRows.{StepAt, IsClearAfter, clear_of_gap, RowAt, row_at}
 use Rattle.proof_scanner.proofs.Refusals.PiecesHere.{no_at_sign, no_backtick, no_percent, no_name, no_dash, no_bracket}
 use Rattle.proof_scanner.proofs.Refusals.PlainsRefused.{no_column, no_dash as no_plain_dash, no_tab}

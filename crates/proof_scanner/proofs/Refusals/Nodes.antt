@@ -1,14 +1,7 @@
 -- Faults of names, tags and scalars: no such piece begins with the text.
-use Rattle.std.proofs.Common.{◌≡◌, ℕ, List, ◌∷◌, Bool, true, false, not, if◌then◌else◌, Result, Ok, Err, ap, sym, ◌∙◌, subst}
-use Rattle.std.proofs.lemmas.Bool.{and_parts}
-use Rattle.proof_scanner.proofs.Common.{Arrives, context, Fault, fetch_anchor, fetch_flow_scalar, fetch_tag, has_no_nul, in_flow, is_empty, is_nul, NameEndsAs, nameless, names_end, node_start, ScannerState, TagEndsAs, tags_end}
-use Rattle.yaml_tokens.specs.declared.problem.Fault.TheVariants.{At}
+use Rattle.proof_scanner.proofs.Common.{anchor_name, and_parts, ap, Arrives, At, Bool, context, Err, false, Fault, fetch_anchor, fetch_flow_scalar, fetch_tag, has_no_nul, if◌then◌else◌, in_flow, is_empty, is_nul, List, named, NameEndsAs, nameless, names_end, node_start, not, Ok, quoted, Read, Result, ScannerState, subst, sym, TagEndsAs, tags_end, true, ℕ, ◌∙◌, ◌∷◌, ◌≡◌}
 use Rattle.yaml_tokens.specs.declared.problem.Problem.TheVariants as problem
-use Rattle.model_scanner.specs.Machine.{Read}
-use Rattle.model_scanner.specs.Anchor.{anchor_name}
 use Rattle.model_scanner.specs.Tag as tags
-use Rattle.model_scanner.specs.Quoted.{quoted}
-use Rattle.proof_lexers.specs.NameEnds.{named}
 use Rattle.proof_lexers.specs.TagEnds as tag_ends
 use Rattle.proof_scanner.proofs.Cut.Nodes.{IsDeep}
 use Rattle.proof_scanner.proofs.Cut.Saved.{saved_is}

@@ -1,25 +1,13 @@
 -- Faults on the way to the next token, from a state between two fetches.
-use Rattle.std.proofs.Common.{◌==◌, append-nil, inl, inr, ◌≡◌, ℕ, ◌+◌, ◌<◌, List, [], ◌∷◌, ◌++◌, Bool, true, false, not, ◌||◌, nat_lt, map, if◌then◌else◌, append_assoc, Option, Some, None, Result, Ok, Err, refl, ap, sym, ◌∙◌, subst, arith}
-use Rattle.std.specs.List.{list_any}
-use Rattle.std.proofs.lemmas.Bool.Decides.{nat_tests}
-use Rattle.std.proofs.lemmas.Bool.{and_parts, eqb-true}
-use Rattle.proof_scanner.proofs.Common.{another, begins_separation, begins_white, BeginsButForKey, chained, drop_stale, Fault, fetch, fetch_here, fetch_next, flow_collection, follows_plain, HasNoTabs, Held, in_flow, is_at_comment_or_end, is_empty, is_far, is_indented_by_spaces, is_one_of, is_overdue, is_renewed, is_separation, IsPlace, IsReadOn, IsStuck, Key, key_waits, may_not_stand, MayChoose, on_held, outside_key, Position, position_after, position_append, Previous, quoted_scalar, ScannerState, skip_to_next_token, stale, still, top_key, unroll_indent}
-use Rattle.defs_token.specs.Step.{plain_scalar, block_scalar, directive}
-use Rattle.defs_text.specs.Classes.{is_blank, is_break}
-use Rattle.defs_token.specs.Beginning.{Begins}
-use Rattle.yaml_tokens.specs.declared.problem.Fault.TheVariants.{At}
+use Rattle.proof_scanner.proofs.Common.{[], and_parts, another, ap, append-nil, append_assoc, arith, At, Begins, begins_separation, begins_white, BeginsButForKey, block_scalar, Bool, chained, chosen, directive, drop_stale, either, eqb-true, Err, fails, false, Fault, fetch, fetch_here, fetch_next, flow_collection, follows_plain, HasNoTabs, Held, Holds, if◌then◌else◌, in_flow, inl, inr, is_at_comment_or_end, is_blank, is_break, is_empty, is_far, is_indented_by_spaces, is_one_of, is_overdue, is_renewed, is_separation, IsPlace, IsReadOn, IsStuck, Key, key_waits, List, list_any, map, may_not_stand, MayChoose, nat_lt, nat_tests, None, not, Ok, on_held, Option, outside_key, plain_scalar, Position, position_after, position_append, Previous, quoted_scalar, refl, refused, Result, ScannerState, skip_to_next_token, Some, stale, Stands, still, subst, sym, top_key, tried, true, unroll_indent, went, ℕ, ◌++◌, ◌+◌, ◌<◌, ◌==◌, ◌||◌, ◌∙◌, ◌∷◌, ◌≡◌}
 use Rattle.yaml_tokens.specs.declared.problem.Problem.TheVariants as problem
 use Rattle.model_scanner.specs.Keys.{with_keys}
-use Rattle.model_scanner.proofs.Holds.{Holds, went, refused, tried, either}
 use Rattle.proof_scanner.proofs.Cut.Pieces.Separations.{separation_append}
 use Rattle.proof_scanner.proofs.Cut.Positions.{not_before_after}
-use Rattle.proof_scanner.specs.Choices.{chosen}
-use Rattle.proof_scanner.specs.StandsInRow.{Stands}
 use Rattle.proof_scanner.proofs.Sound.Passed.{least_is}
 use Rattle.proof_scanner.proofs.Sound.Stales.{no_entries}
 use Rattle.proof_scanner.proofs.Sound.ToToken.{is_in}
 use Rattle.proof_scanner.specs.Failing as defs
-use Rattle.proof_scanner.specs.Stuck.{fails}
 use Rattle.proof_scanner.proofs.Sound.StreamEnds.{same_flow}
 use Rattle.proof_scanner.proofs.Refusals.Faults.{Faults, fault, goes}
 use Rattle.proof_scanner.proofs.Refusals.Places.{entries_alike, Told, Where, placed, behind, where_is}
@@ -134,9 +122,9 @@ module _ (text : List ℕ) (t : ScannerState) (s : Stands text t) (near : HasNea
           by directive i white = refl
           by another i white = refl
 
-      place : (c : Bool) → MayChoose c (outside_key s.base.entries t.held.keys) t.held.position t.rest → IsPlace text (chosen c [] t.held.keys s.base) (s.separation ++ d.passed) d.rest here
+      place : (c : Bool) → MayChoose true c (outside_key s.base.entries t.held.keys) t.held.position t.rest → IsPlace text (chosen c [] t.held.keys s.base) (s.separation ++ d.passed) d.rest here
       place c may = record {
-        begins = subst (λ r. Begins text r (chosen c [] t.held.keys s.base)) (ap (λ r. s.separation ++ r) d.cut ∙ sym (append_assoc s.separation d.passed d.rest)) (s.completes c [] may).0;
+        begins = subst (λ r. Begins text r (chosen c [] t.held.keys s.base)) (ap (λ r. s.separation ++ r) d.cut ∙ sym (append_assoc s.separation d.passed d.rest)) (s.completes true c [] may).0;
         is_filled = filled;
         is_here = here_is;
       }

@@ -1,19 +1,10 @@
 -- What a row's piece at a place is, by the text there; and texts with which no piece begins.
-use Rattle.std.proofs.Common.{◌≡◌, ℕ, suc, ◌≤◌, List, [], ◌∷◌, ◌++◌, Bool, true, false, not, ◌==◌, nat_lt, length, None, refl, ap, sym, ◌∙◌, subst, arith, inl, inr, map}
-use Rattle.std.specs.Prelude.{◌⊎◌}
-use Rattle.std.proofs.lemmas.Bool.Decides.{nat_tests}
-use Rattle.std.proofs.lemmas.Bool.{and_parts}
-use Rattle.proof_scanner.proofs.Common.{act_of, all_of, context_of, dash, Directive, directive_line, flow_mapping_start, flow_sequence_start, goes_on_with_name, is_adjacent, is_anchor_name, is_at_gap, is_blank_or_end, is_empty, is_marker, is_name, is_nul, IsPiece, kind_at, LikeEntries, mapping_opening, not_empty, Position, reserved, seen, sequence_opening, shown_position, tag_declaration, version, Whole}
-use Rattle.defs_text.specs.Classes.{is_blank, is_break, is_flow}
+use Rattle.proof_scanner.proofs.Common.{[], Account, act_of, alias_name, all_of, and_parts, ap, arith, block_entry, Bool, context_of, dash, Directive, directive_line, directive_token, Entry, false, flow_mapping_start, flow_sequence_start, goes_on_with_name, inl, inr, is_adjacent, is_anchor_name, is_at_gap, is_blank, is_blank_or_end, is_break, is_empty, is_flow, is_in_flow, is_marker, is_name, is_nul, IsPiece, kind_at, length, level_of, LikeEntries, List, map, mapping_opening, nat_lt, nat_tests, None, not, not_empty, Position, refl, reserved, seen, sequence_opening, shown_position, subst, suc, sym, tag_declaration, true, version, Whole, ℕ, ◌++◌, ◌==◌, ◌∙◌, ◌∷◌, ◌≡◌, ◌≤◌, ◌⊎◌}
 use Rattle.defs_token.specs.Account as pieces
-use Rattle.defs_token.specs.Token.{block_entry}
-use Rattle.defs_token.specs.FlowEntry.{Entry}
-use Rattle.defs_token.specs.RowAccount.{Account, is_in_flow, level_of}
-use Rattle.proof_row.specs.Ends.{alias_name, anchor_name}
-use Rattle.proof_row.proofs.Begins.{directive_token}
+use Rattle.proof_row.specs.Ends.{anchor_name}
 use Rattle.proof_row.proofs.Written as written
-use Rattle.proof_scanner.proofs.Complete.Around.Markers.{marker_begins}
-use Rattle.proof_scanner.proofs.Complete.KindsOfPieces.{kind_is}
+use Rattle.proof_scanner.proofs.Refusals.KindsOfPieces.{marker_begins}
+use Rattle.proof_scanner.proofs.Refusals.KindsOfPieces.{kind_is}
 use Rattle.proof_scanner.specs.NoPiece as none
 use Rattle.proof_scanner.proofs.Refusals.OtherRows.{StepAt}
 

@@ -1,25 +1,10 @@
 -- Where a piece may not stand at its column, or before what follows it, no row of the text goes on.
-use Rattle.std.proofs.Common.{◌≡◌, ◌≤◌, List, [], ◌∷◌, ◌++◌, ℕ, Bool, true, false, not, ◌==◌, ◌&&◌, ◌||◌, nat_le, nat_lt, if◌then◌else◌, map, Option, Some, None, refl, ap, sym, ◌∙◌, arith}
-use Rattle.std.proofs.lemmas.Bool.{and_parts, eqb-true}
-use Rattle.std.proofs.lemmas.Bool.Decides.{nat_tests}
-use Rattle.proof_scanner.proofs.Common.{act_of, are_empty, begins_document_at, begins_entry, begins_separation, begins_with, begins_with_alpha, block_may_end, block_position, block_read, BlockRead, BlockStyle, colon_may_precede, content_position, dash_may_precede, document_end, double_quoted, gives_block_scalar, gives_marker, gives_node, has, has_no_nul, innermost, innermost_column, is_at_end, is_at_gap, is_at_line_end, is_blank_or_end, is_blanks, is_decimal_digit, is_deep_enough, is_document_marker, is_empty, is_letter, is_marker, is_nul, is_one_of, is_separation, IsPiece, IsQuoted, leading, leading_spaces, least_column, least_for, line_is_done, lines_may_end, may_precede, may_stand, Position, position_after, quoted_may_end, read_may_end, scalar, seen, shown_position, single_quoted, Site, site_at, site_at_place, site_in, split, tab, Tok, value}
-use Rattle.defs_text.specs.Classes.{is_blank, is_break, is_alpha}
-use Rattle.defs_text.specs.BlockScalar.{literal, folded}
-use Rattle.defs_text.specs.Tags.{after}
-use Rattle.defs_token.specs.Token.{block_entry}
+use Rattle.proof_scanner.proofs.Common.{[], Account, act_of, after, and_parts, ap, are_empty, arith, begins_document_at, begins_entry, begins_separation, begins_with, begins_with_alpha, block_entry, block_may_end, block_position, block_read, BlockRead, blocks_at, BlockStyle, Bool, colon_may_precede, content_position, dash_may_precede, document_end, double_quoted, Entry, eqb-true, false, folded, gives_block_scalar, gives_marker, gives_node, GoesOn, has, has_no_nul, if◌then◌else◌, innermost, innermost_column, is_alpha, is_at_end, is_at_gap, is_at_line_end, is_blank, is_blank_or_end, is_blanks, is_break, is_decimal_digit, is_deep_enough, is_document_marker, is_empty, is_in_flow, is_letter, is_marker, is_nul, is_one_of, is_separation, is_white, IsPiece, IsQuoted, IsWritten, leading, leading_spaces, least_column, least_for, level_of, line_is_done, lines_may_end, List, literal, map, may_precede, may_stand, nat_le, nat_lt, nat_tests, None, not, Option, Position, position_after, quoted_may_end, read_may_end, refl, same_flow, same_piece, scalar, seen, shown_position, single_quoted, Site, site_at, site_at_place, site_in, Some, split, Step, sym, tab, Tok, true, value, ℕ, ◌&&◌, ◌++◌, ◌==◌, ◌||◌, ◌∙◌, ◌∷◌, ◌≡◌, ◌≤◌}
 use Rattle.defs_token.specs.Token as tokens
-use Rattle.defs_token.specs.Step.{Step}
-use Rattle.defs_token.specs.Column.{blocks_at}
-use Rattle.defs_token.specs.FlowEntry.{Entry}
-use Rattle.defs_token.specs.RowAccount.{Account, is_in_flow, level_of}
-use Rattle.defs_token.specs.Row.{IsWritten}
-use Rattle.proof_lexers.specs.PlainEnds.{is_white}
-use Rattle.proof_scanner.proofs.Complete.Around.Markers.{begins_document, BeginsLine, marker_begins}
-use Rattle.proof_scanner.proofs.Complete.Scalars.AfterQuoted.{not_done}
+use Rattle.proof_scanner.proofs.Refusals.KindsOfPieces.{begins_document, BeginsLine, marker_begins}
+use Rattle.proof_scanner.proofs.Refusals.AfterQuoted.{not_done}
 use Rattle.proof_scanner.proofs.Sound.QuotedEnds.{blanks_alone, after_blanks}
-use Rattle.proof_row.proofs.Accounts.{same_flow}
-use Rattle.proof_row.proofs.Written.{At, same_piece}
-use Rattle.proof_scanner.specs.NoPiece.{GoesOn}
+use Rattle.proof_row.proofs.Written.{At}
 use Rattle.proof_scanner.proofs.Refusals.OtherRows.{StepAt}
 
 pub refused : (x : Option Account) (b : Bool) (y : Account) → b ≡ false → (if b then x else None) ≡ Some y → ⊥

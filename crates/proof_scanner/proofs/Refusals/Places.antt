@@ -1,25 +1,14 @@
 -- Where a piece begins, a row of the text may begin with all pieces before it; or a node which must be an implicit key waits there, and its line has ended.
-use Rattle.std.proofs.Common.{◌≡◌, ℕ, suc, ◌-◌, ◌<◌, List, [], ◌∷◌, Bool, true, false, not, ◌||◌, nat_le, length, if◌then◌else◌, Option, Some, None, Ok, Err, refl, ap, sym, ◌∙◌, subst, arith}
-use Rattle.std.specs.Prelude.{nat_lt}
-use Rattle.std.proofs.lemmas.Bool.Decides.{nat_tests}
-use Rattle.proof_scanner.proofs.Common.{AreAround, AreEntries, Arrives, begins_document_at, entries_by, FailsFirst, Fault, FlowLevel, followed_first, gives_node, has_open_level, in_flow, is_empty, is_full, is_taken, IsFollowed, IsLookedAt, IsNear, IsPlace, IsStuck, Key, key_waits, least_column, least_here, MayChoose, NoPiece, OutOfMemory, outside_key, Position, Problem, ScannerState, site_at_place, site_in}
-use Rattle.defs_token.specs.FlowEntry.{Entry}
-use Rattle.defs_token.specs.RowAccount.{Account, is_in_flow}
-use Rattle.yaml_tokens.specs.declared.problem.Fault.TheVariants.{At}
-use Rattle.proof_scanner.specs.Choices.{chosen}
+use Rattle.proof_scanner.proofs.Common.{[], Account, ap, AreAround, AreEntries, arith, Arrives, At, begins_document_at, Bool, chosen, columns, entries_by, Entry, Err, fails, FailsFirst, false, Fault, FlowLevel, followed_first, gives_node, has_open_level, HasRow, if◌then◌else◌, in_flow, is_empty, is_full, is_in_flow, is_taken, is_told, IsFollowed, IsLookedAt, IsNear, IsPlace, IsStuck, Key, key_waits, least_column, least_here, length, List, MayChoose, nat_le, nat_lt, nat_tests, no_piece, no_piece_first, None, NoPiece, not, Ok, Option, OutOfMemory, outside_key, Position, Problem, refl, Row, ScannerState, site_at_place, site_in, Some, subst, suc, sym, true, ℕ, ◌-◌, ◌<◌, ◌||◌, ◌∙◌, ◌∷◌, ◌≡◌}
 use Rattle.proof_scanner.proofs.Sound.StreamEnds.{same_flow}
 use Rattle.proof_scanner.proofs.Refusals.Faults.{Faults, fault, goes}
-use Rattle.proof_scanner.specs.StandsInRow.{columns}
 use Rattle.proof_scanner.proofs.Cut.Nodes.{IsDeep}
 use Rattle.proof_scanner.proofs.Sound.QuotedKeeps.{least_is_less}
-use Rattle.proof_scanner.specs.Failing.{no_piece, followed}
-use Rattle.proof_scanner.specs.First.{no_piece_first}
-use Rattle.proof_scanner.specs.Stuck.{fails}
-use Rattle.proof_scanner.specs.Told.{is_told}
+use Rattle.proof_scanner.specs.Failing.{followed}
 
 -- A place where the choice of keys is allowed, or a key that must be one and began on an earlier line.
 pub data Where (k : Option Key) (p : Position) (rest : List ℕ) : Type 0 where
-  placed : (c : Bool) → MayChoose c k p rest → Where k p rest
+  placed : (c : Bool) → MayChoose true c k p rest → Where k p rest
   behind : (x : Key) → k ≡ Some x → x.required ≡ true → x.position.line < p.line → Where k p rest
 
 pub where_is : (k : Option Key) (p : Position) (rest : List ℕ) → is_empty rest ≡ false → Where k p rest
@@ -31,15 +20,28 @@ where_is (Some k) p rest some = by k.required refl (nat_lt k.position.line p.lin
     by true e true l = behind k refl e (grind (arith, nat_tests, l))
     by true e false l = placed true ((grind (arith, nat_tests, l)), some)
 
+-- a text without a row
+abbrev pub IsRowless : List ℕ → Type 0
+IsRowless text = (r : Row) → HasRow text r → ⊥
+
+-- What a fault says of the text is asked for a kind that is told, and of a text that has a row.
+pub data Asked (text : List ℕ) (why : Problem) : Type 0 where
+  kind : is_told why ≡ true → Asked text why
+  with_row : (r : Row) → HasRow text r → Asked text why
+
 -- what is to be said of a fault
 abbrev pub Told : (text : List ℕ) → Fault → Type 0
-Told text OutOfMemory = Unit {0}
-Told text (At why at) = is_told why ≡ true → IsStuck text why at
+Told text OutOfMemory = ⊥
+Told text (At why at) = Asked text why → IsStuck text why at
 
--- a check whose fault is of a kind that is not told
-pub not_told : (text : List ℕ) {A : Type 0} (b : Bool) (why : Problem) (p : Position) (x : A) → is_told why ≡ false → Faults (Told text) (if b then Err (At why p) else Ok x)
-not_told text true why p x e = fault {f = At why p} (λ h. absurd (cc (h, e)))
-not_told text false why p x e = goes
+-- a check whose fault is of a kind that is not told: where it fails the text has no row
+pub rowless_told : (text : List ℕ) {A : Type 0} (b : Bool) (why : Problem) (p : Position) (x : A) → is_told why ≡ false → (b ≡ true → IsRowless text) → Faults (Told text) (if b then Err (At why p) else Ok x)
+rowless_told text true why p x e rowless = fault {f = At why p} (λ asked. absurd (by asked))
+  where
+    by : Asked text why → ⊥
+    by (kind h) = cc (h, e)
+    by (with_row r h) = rowless refl r h
+rowless_told text false why p x e rowless = goes
 
 many_around : (fs : List FlowLevel) (ks : List (Option Key)) (es : List Entry) → AreAround fs ks es → length fs ≡ length es
 many_around [] ks [] h = refl
@@ -69,12 +71,12 @@ module _ (text : List ℕ) (t : ScannerState) (a : Arrives text t) (some : is_em
   pub in_flow_is : (c : Bool) (cs : List Bool) → is_in_flow (account_by c cs).entries ≡ in_flow t.held
   in_flow_is c cs = ap not (entries_alike cs t.held.keys a.base.entries ∙ sym (same_flow t.held.key_allowed _ t.held.flow t.held.keys a.base.entries a.are_entries))
 
-  pub place : (c : Bool) (cs : List Bool) → MayChoose c (outside_key a.base.entries t.held.keys) t.held.position t.rest → IsPlace text (account_by c cs) a.separation t.rest t.held.position
-  place c cs may = record { begins = (a.completes c cs may).0; is_filled = a.is_filled; is_here = a.position_is }
+  pub place : (c : Bool) (cs : List Bool) → MayChoose true c (outside_key a.base.entries t.held.keys) t.held.position t.rest → IsPlace text (account_by c cs) a.separation t.rest t.held.position
+  place c cs may = record { begins = (a.completes true c cs may).0; is_filled = a.is_filled; is_here = a.position_is }
 
   -- Outside flow a choice of keys is one that is allowed.
   abbrev pub IsAllowed : Bool → Type 0
-  IsAllowed c = is_empty t.held.flow ≡ true → MayChoose c (outside_key a.base.entries t.held.keys) t.held.position t.rest
+  IsAllowed c = is_empty t.held.flow ≡ true → MayChoose true c (outside_key a.base.entries t.held.keys) t.held.position t.rest
 
   -- What fails here, whatever is chosen, is what the text is stuck by.
   pub stuck : (cs : List Bool) (why : Problem) (at : Position) → ((c : Bool) → IsAllowed c → FailsFirst (account_by c cs) a.separation t.held.position t.rest why at) → IsStuck text why at

@@ -1,26 +1,14 @@
 -- Faults of plain scalars.
-use Rattle.std.proofs.Common.{◌≡◌, ℕ, List, [], ◌∷◌, ◌++◌, Bool, true, false, ◌||◌, ◌==◌, not, nat_le, nat_lt, Option, Result, Ok, Err, refl, ap, sym, ◌∙◌, subst, arith}
-use Rattle.std.proofs.lemmas.Bool.Decides.{nat_tests}
-use Rattle.proof_scanner.proofs.Common.{allow_key, Arrives, before_past, begins_separation, collection_of, comes_plain, context, Fault, fetch_plain_scalar, in_flow, innermost, is_adjacent, is_empty, IsPlainFault, IsStuck, least_column, lexed, on_held, Plain, plain_first, PlainEndsAs, Position, position_after, Problem, push, ScannerState, site_at_place, Style, Tok, unroll_non_block_indents, without_open}
-use Rattle.defs_token.specs.Plain.{inside, goes_on}
-use Rattle.defs_token.specs.RowAccount.{before_by, is_in_flow}
+use Rattle.proof_scanner.proofs.Common.{[], after_plain, allow_key, ap, arith, Arrives, before_by, before_past, begins_left, begins_separation, Bool, collection_of, columns, comes_plain, Context, context, Err, false, Fault, fetch_plain_scalar, goes_on, goes_over, HasNoPlainFault, HasTab, in_flow, innermost, is_adjacent, is_empty, is_in_flow, is_indented, IsPlainFault, IsPlainRefusal, IsStuck, least_column, lexed, List, nat_le, nat_lt, nat_tests, no_plain, not, Ok, on_held, Option, Plain, plain_first, PlainEndsAs, Position, position_after, Problem, push, Read, refl, Result, ScannerState, scans_end, site_at_place, Style, subst, sym, Tok, true, unroll_non_block_indents, without_open, ℕ, ◌++◌, ◌==◌, ◌||◌, ◌∙◌, ◌∷◌, ◌≡◌}
+use Rattle.defs_token.specs.Plain.{inside}
 use Rattle.yaml_tokens.specs.declared.problem.Problem.TheVariants as problem
-use Rattle.model_scanner.specs.declared.context.Context.{Context}
-use Rattle.model_scanner.specs.Machine.{Read}
 use Rattle.model_scanner.specs.Plain.{plain}
-use Rattle.model_scanner.specs.Document.{after_plain}
 use Rattle.proof_lexers.specs.PlainEnds as plains
-use Rattle.proof_lexers.specs.PlainEnds.{is_indented, HasTab, begins_left, IsPlainRefusal}
-use Rattle.proof_lexers.proofs.Plain.Scalars.{scans_end}
 use Rattle.proof_scanner.proofs.Cut.Nodes.{IsDeep, less_or}
 use Rattle.proof_scanner.proofs.Cut.Saved.{saved_keys, saved_is}
-use Rattle.proof_scanner.specs.StandsInRow.{columns}
 use Rattle.proof_scanner.proofs.Sound.WithoutOpen.{AreClosed, without_is}
 use Rattle.proof_scanner.specs.NoPiece as none
-use Rattle.proof_scanner.specs.NoPiece.{goes_over}
-use Rattle.proof_scanner.specs.Failing.{no_plain}
 use Rattle.proof_scanner.proofs.Refusals.Faults.{Faults, goes, read}
-use Rattle.proof_scanner.specs.FirstPlain.{HasNoPlainFault}
 use Rattle.proof_scanner.proofs.Refusals.Places.{Told, LiesDeep, account_by, stuck, in_flow_is, blocks_by, looked_at}
 
 -- ---- texts

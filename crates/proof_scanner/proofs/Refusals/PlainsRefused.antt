@@ -1,34 +1,22 @@
 -- Where a plain scalar begins and is none, no row of the text goes on.
-use Rattle.std.proofs.Common.{◌≡◌, ℕ, suc, List, [], ◌∷◌, ◌++◌, Bool, true, false, not, ◌==◌, ◌&&◌, ◌||◌, nat_le, nat_lt, if◌then◌else◌, Option, refl, ap, sym, ◌∙◌, subst, arith, append_assoc, inl, inr, ◌⊎◌}
-use Rattle.std.proofs.lemmas.Bool.{and_parts, eqb-true}
-use Rattle.proof_scanner.proofs.Common.{act_of, after_blank, are_marks, before_past, begins_flow, begins_plain, begins_token, begins_white, comes_plain, context_of, dashes, ends_plain, ends_separation, ends_with_content, has_dash_before_flow, has_no_nul, innermost, is_adjacent, is_at_comment_or_end, is_at_gap, is_blank_or_end, is_blanks, is_deep_enough, is_document_marker, is_indented_by_spaces, is_nul, is_whole_plain, least_column, may_begin, may_precede, plain_lines_fit, Position, previous_by, same_blank, same_break, scalar, Site, site_at_place, site_past, Stand, stand_after, stops, Whole}
+use Rattle.proof_scanner.proofs.Common.{[], Account, act_of, after_blank, and_parts, ap, append_assoc, are_marks, arith, before_by, before_past, begins_flow, begins_plain, begins_token, begins_white, Bool, comes_plain, context_of, dashes, ends_at_colon, ends_at_comment, ends_at_line, ends_plain, ends_separation, ends_with_content, ends_with_dash, eqb-true, false, flow_solid, goes_on, goes_over, has_dash_before_flow, has_no_nul, if◌then◌else◌, inl, innermost, inr, is_adjacent, is_apart, is_at_comment_or_end, is_at_gap, is_blank_or_end, is_blanks, is_deep_enough, is_document_marker, is_flow, is_in_flow, is_indented_by_spaces, is_nul, is_whole_plain, Kind, least_column, List, may_begin, may_precede, nat_le, nat_lt, no_nul_after, not, on_line, Option, past_blank, plain_lines_fit, Position, previous_by, refl, same_blank, same_break, same_flow, scalar, separations_end, Site, site_at_place, site_past, Stand, stand_after, stops, subst, suc, sym, true, Whole, ℕ, ◌&&◌, ◌++◌, ◌==◌, ◌||◌, ◌∙◌, ◌∷◌, ◌≡◌}
 use Rattle.defs_text.specs.Classes as classes
-use Rattle.defs_text.specs.Classes.{is_flow}
 use Rattle.defs_token.specs.Account as pieces
-use Rattle.defs_token.specs.Plain.{inside, on_line, past, past_blank, ends_at_colon, ends_at_comment, ends_at_line, goes_on}
+use Rattle.defs_token.specs.Plain.{inside, past}
 use Rattle.defs_token.specs.Token as tokens
 use Rattle.defs_token.specs.Step as steps
-use Rattle.defs_token.specs.Lines.{ends_with_dash}
-use Rattle.defs_token.specs.RowAccount.{Account, before_by, is_in_flow}
 use Rattle.yaml_chars.specs.Class.{is_break, is_blank}
-use Rattle.proof_row.specs.Ends.{Kind, plain_scalar}
-use Rattle.proof_row.proofs.Begins.{separations_end}
+use Rattle.proof_row.specs.Ends.{plain_scalar}
 use Rattle.proof_row.proofs.Plains.{plains}
-use Rattle.proof_row.proofs.Texts.{no_nul_after}
-use Rattle.proof_lexers.proofs.Plain.Found.{flow_solid}
-use Rattle.proof_lexers.specs.PlainEnds.{is_apart}
-use Rattle.proof_row.proofs.Accounts.{same_flow}
 use Rattle.proof_row.proofs.Written.{At}
 use Rattle.proof_scanner.proofs.Sound.PlainLines.{Spot, in_text, at, tabbed, spot_past, past_spot, may_go, tabs_fit}
-use Rattle.proof_scanner.proofs.Complete.Nodes.Plains.{Gap, gap_of, next_clear, After, ended, solid, after_gap, Comes, comes, dashed, comes_by, no_marker}
-use Rattle.proof_scanner.proofs.Complete.Nodes.PlainScans.{stops_after, stand_over, stand_content}
-use Rattle.proof_scanner.proofs.Complete.Nodes.PlainTexts.{IsClearGap, plain_tabs}
-use Rattle.proof_scanner.specs.NoPiece.{goes_over}
+use Rattle.proof_scanner.proofs.Refusals.PlainGaps.{Gap, gap_of, next_clear, After, ended, solid, after_gap, Comes, comes, dashed, comes_by, no_marker}
+use Rattle.proof_scanner.proofs.Refusals.PlainGaps.{stops_after, stand_over, stand_content}
+use Rattle.proof_scanner.proofs.Refusals.PlainTabs.{IsClearGap, plain_tabs}
 use Rattle.proof_scanner.proofs.Refusals.OtherRows.{StepAt, IsClearGapAfter}
-use Rattle.proof_scanner.proofs.Complete.Nodes.Past.{node_site_past}
 use Rattle.proof_scanner.proofs.Refusals.PiecesHere.{acct, whole_at}
 use Rattle.proof_scanner.proofs.Refusals.PiecesRefused.{innermost_seen}
-use Rattle.proof_scanner.proofs.Refusals.StandsRefused.{flow_is, adjacent_is, node_site, no_depth, no_lines, no_end}
+use Rattle.proof_scanner.proofs.Refusals.StandsRefused.{node_site_past, flow_is, adjacent_is, node_site, no_depth, no_lines, no_end}
 
 -- ---- dashes
 

@@ -1,17 +1,8 @@
 -- Elements of quoted scalars in their text: where each ends, and whether a document marker begins a line after it.
-use Rattle.std.proofs.Common.{◌≡◌, ℕ, zero, suc, ◌+◌, ◌*◌, ◌≤◌, List, [], ◌∷◌, ◌++◌, Bool, true, false, not, ◌&&◌, ◌||◌, ◌==◌, if◌then◌else◌, length, take, drop, append-nil, Option, Some, None, refl, ap, sym, ◌∙◌, subst, arith}
-use Rattle.std.specs.Char.{digit_value, is_digit}
-use Rattle.std.proofs.lemmas.Bool.{and_parts, eqb-true, not-true}
-use Rattle.std.proofs.lemmas.Bool.Decides.{nat_tests}
-use Rattle.proof_scanner.proofs.Common.{along, and_false, begins_solid, begins_with, break_further, content, double_quoted_element, Element, element_of, escape, escape_by, escapes, has_marker, hexadecimal, in_line_position, is_before_line_feed, is_character_code, is_cr_lf, lookup, marked_from, numbered, numeric_escape, numeric_escapes, past_break, plain_element, Position, position_after, position_past, same_blank, same_break, single_quoted_element, Spelled}
+use Rattle.proof_scanner.proofs.Common.{[], after_chars, along, along_more, and_false, and_parts, ap, append-nil, arith, begins_solid, begins_with, Bool, break_further, content, digit_value, double_quoted_element, drop, Element, element_of, eqb-true, escape, escape_by, escapes, false, feed_is_no_marker, has_marker, hexadecimal, if◌then◌else◌, in_line_position, is_before_line_feed, is_character_code, is_cr_lf, is_digit, is_in_line, length, line_position, List, lookup, marked_from, nat_tests, None, not, not-true, numbered, numeric_escape, numeric_escapes, Option, past, past_break, plain_element, Position, position_after, position_past, refl, same_blank, same_break, same_feed, single_quoted_element, Some, Spelled, subst, suc, sym, take, true, zero, ℕ, ◌&&◌, ◌*◌, ◌++◌, ◌+◌, ◌==◌, ◌||◌, ◌∙◌, ◌∷◌, ◌≡◌, ◌≤◌}
 use Rattle.defs_text.specs.Classes as classes
 use Rattle.yaml_chars.specs.Class.{is_break, is_blank}
-use Rattle.model_scanner.specs.Machine.{past}
-use Rattle.proof_lexers.specs.HeaderEnds.{is_in_line}
-use Rattle.proof_lexers.proofs.Along.{along_more}
-use Rattle.proof_lexers.proofs.Blocks.Positions.{after_chars}
-use Rattle.proof_lexers.proofs.Plain.Turns.{same_feed, line_position}
-use Rattle.proof_lexers.proofs.Quoted.Turns.{spelled, feed_is_no_marker}
+use Rattle.proof_lexers.proofs.Quoted.Turns.{spelled}
 use Rattle.proof_scanner.specs.NoPiece.{quote_of}
 use Rattle.proof_scanner.proofs.Sound.QuotedBreaks.{Kind, has_content, has_blank, has_line, has_escaped, KindOf, kind, is_white}
 

@@ -1,25 +1,12 @@
 -- The scan of a quoted scalar reads one, or refuses the text for what is wrong with it first.
-use Rattle.std.proofs.Common.{◌≡◌, ℕ, zero, suc, ◌+◌, ◌≤◌, List, [], ◌∷◌, Bool, true, false, not, ◌&&◌, ◌==◌, nat_lt, slice_index, if◌then◌else◌, take, drop, append-nil, Option, Some, None, Result, Ok, Err, refl, ap, sym, ◌∙◌, subst, arith}
-use Rattle.std.specs.List.{list_all}
-use Rattle.std.proofs.lemmas.Bool.{and_parts, eqb-true, not-true}
-use Rattle.std.proofs.lemmas.Bool.Decides.{nat_tests}
-use Rattle.proof_scanner.proofs.Common.{after_element, after_escaped, along, and_false, at_start, begins_further, begins_with, Begun, blank, break_further, content, Element, element_of, escape, escaped_break, Fault, Folded, gap, in_gap, is_document_marker, line_break, LineStand, off_margin, OutOfMemory, past_break, past_element, past_escaped, Position, position_after, position_past, Problem, scan, Spelled, with_break, with_escaped_break, within}
+use Rattle.proof_scanner.proofs.Common.{[], after_element, after_escaped, after_gap, after_quote, along, along_more, and_false, and_parts, ap, append-nil, arith, At, at_start, begins_further, begins_marked, begins_with, Begun, begun, blank, Bool, break_further, closed_end, content, Context, drop, Element, element_of, ends_before, eqb-true, Err, escape, escaped_break, false, Fault, feed_is_no_marker, first_is_gap, Folded, gap, if◌then◌else◌, in_gap, inside, is_document_marker, is_marked, is_some, joined, line_break, LineStand, List, list_all, marked, Mode, nat_lt, nat_tests, None, not, not-true, nothing, off_margin, Ok, Option, OutOfMemory, past, past_break, past_element, past_escaped, Position, position_after, position_past, Problem, quoted, Read, refl, Result, scan, shallow, slice_index, Some, Spelled, step, StepOf, steps, subst, suc, sym, take, true, white_stands, with_break, with_escaped_break, within, zero, ℕ, ◌&&◌, ◌+◌, ◌==◌, ◌∙◌, ◌∷◌, ◌≡◌, ◌≤◌}
 use Rattle.yaml_chars.specs.Class.{is_break, is_blank}
-use Rattle.yaml_tokens.specs.declared.problem.Fault.TheVariants.{At}
 use Rattle.yaml_tokens.specs.declared.problem.Problem.TheVariants as problem
-use Rattle.model_scanner.specs.declared.context.Context.{Context}
-use Rattle.model_scanner.specs.Machine.{Read, past}
-use Rattle.model_scanner.specs.Folding.{nothing, joined}
-use Rattle.model_scanner.specs.Quoted.{Mode, inside, after, quoted}
+use Rattle.model_scanner.specs.Quoted.{after}
 use Rattle.model_scanner.specs.Quoted as model
-use Rattle.model_scanner.proofs.QuotedLemmas.{after_gap, after_quote, closed_end}
-use Rattle.proof_lexers.specs.QuotedScan.{ends_before, is_some}
-use Rattle.proof_lexers.proofs.Along.{along_more}
-use Rattle.proof_lexers.proofs.Quoted.Bodies.{first_is_gap}
-use Rattle.proof_lexers.proofs.Quoted.Elements.{step}
 use Rattle.proof_lexers.proofs.Quoted.Faults.{escape_fails}
 use Rattle.proof_lexers.proofs.Quoted.Shapes.{NoElement, closing, slash, no_element}
-use Rattle.proof_lexers.proofs.Quoted.Turns.{feed_is_no_marker, spelled, begun, marked, shallow, begins, begins_marked, white_stands, Step, steps, is_marked, is_shallow, StepOf}
+use Rattle.proof_lexers.proofs.Quoted.Turns.{spelled, begins, Step, is_shallow}
 use Rattle.proof_scanner.proofs.Sound.QuotedBreaks.{Kind, has_content, has_blank, has_line, has_escaped, is_white, quote_white, slash_white}
 use Rattle.proof_scanner.specs.NoPiece.{quote_of}
 use Rattle.proof_scanner.proofs.Refusals.QuotedElements.{no_quote, solid_here, past_line, past_char, past_two, after_it, kind_of, content_after}

@@ -1,15 +1,10 @@
 -- Why the text after an opening quote is refused, told of the text from an element on.
-use Rattle.std.proofs.Common.{◌≡◌, ℕ, zero, suc, ◌+◌, ◌-◌, List, [], ◌∷◌, ◌++◌, Bool, true, false, not, ◌&&◌, ◌||◌, ◌==◌, nat_lt, nat_le, take, drop, replicate, append_assoc, Some, refl, ap, sym, ◌∙◌, subst, arith}
-use Rattle.std.proofs.lemmas.Bool.{and_parts, not-true}
-use Rattle.std.proofs.lemmas.Bool.Decides.{nat_tests}
-use Rattle.std.proofs.lemmas.List.{take-append-drop}
-use Rattle.proof_scanner.proofs.Common.{and_false, are_indented, at_start, begins_further, begins_solid, begins_with, begun_with, blank, blanks_before, content, Element, element_of, elements, escaped_break, further_lines_fit, has_marker, has_more, is_document_marker, IsBadEscape, line, line_break, Lines, lines_fit, lines_of, LineStand, marked_from, past_element, past_elements, past_escaped, Position, position_after, position_append, Problem, Spelled, within}
+use Rattle.proof_scanner.proofs.Common.{[], after_own, and_false, and_parts, ap, append_assoc, are_indented, arith, at_start, begins_further, begins_solid, begins_with, begun_with, blank, blanks_before, Bool, content, drop, Element, element_of, elements, escaped_break, false, further_lines_fit, has_marker, has_more, is_document_marker, IsBadEscape, line, line_break, Lines, lines_fit, lines_of, LineStand, List, Local, local, LocalOf, marked_from, nat_le, nat_lt, nat_tests, not, not-true, past_element, past_elements, past_escaped, Position, position_after, position_append, Problem, refl, replicate, Some, Spelled, subst, suc, sym, take, take-append-drop, true, within, zero, ℕ, ◌&&◌, ◌++◌, ◌+◌, ◌-◌, ◌==◌, ◌||◌, ◌∙◌, ◌∷◌, ◌≡◌}
 use Rattle.defs_text.specs.FlowScalar.{last_line}
 use Rattle.yaml_tokens.specs.declared.problem.Problem.TheVariants as problem
-use Rattle.proof_lexers.proofs.Quoted.Local.{Local, LocalOf, local, after_own}
 use Rattle.proof_scanner.proofs.Sound.QuotedBreaks.{Kind, has_content, has_blank, has_line, has_escaped, fits_from, lines_from, lines_here, empty_here, one_more_blank}
 use Rattle.proof_scanner.proofs.Sound.TabsWithin.{take_none}
-use Rattle.proof_scanner.proofs.Complete.Scalars.Bodies.{blank_first}
+use Rattle.proof_scanner.proofs.Refusals.QuotedBodies.{blank_first}
 use Rattle.proof_scanner.specs.NoPiece.{quote_of}
 use Rattle.proof_scanner.proofs.Refusals.QuotedElements.{past_char, break_column, escaped_column, after_it, kind_of, marks_after}
 

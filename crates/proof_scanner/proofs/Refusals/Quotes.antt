@@ -1,15 +1,8 @@
 -- Faults of quoted scalars: a further line is not indented, or what stands after the scalar may not follow it.
-use Rattle.std.proofs.Common.{◌≡◌, ℕ, ◌+◌, ◌-◌, nat_lt, List, [], ◌∷◌, ◌++◌, Bool, true, false, not, ◌==◌, ◌&&◌, ◌||◌, if◌then◌else◌, append-nil, append_assoc, Some, Result, Ok, Err, refl, ap, sym, ◌∙◌, subst, arith}
-use Rattle.proof_scanner.proofs.Common.{are_indented, AreNotIndented, Arrives, begins_separation, begins_with, check_after_quoted, closed_first, content, Element, element_of, elements, ends_spaces, Fault, go_on, has_marker, has_no_nul, held_of, in_flow, is_breakz, is_document_marker, is_empty, IsBadEscape, IsQuoted, IsQuotedFault, IsStuck, least_here, lines_first, marked_from, may_follow_quoted, node_start, off_margin, on_held, past_elements, peek, Position, position_after, Problem, quoted_lines_fit, quoted_may_end, ScannerState, skip_spaces, Succeeds, tab, unled, within, Yes}
-use Rattle.yaml_tokens.specs.declared.problem.Fault.TheVariants.{At}
+use Rattle.proof_scanner.proofs.Common.{[], ap, append-nil, append_assoc, are_indented, AreNotIndented, arith, Arrives, At, begins_separation, begins_with, bodies_are_read, Bool, check_after_quoted, closed_first, content, Context, Element, element_of, elements, ends_before, ends_spaces, Err, false, Fault, go_on, has_marker, has_no_nul, held_of, if◌then◌else◌, in_flow, is_breakz, is_document_marker, is_empty, IsBadEscape, IsQuoted, IsQuotedFault, IsStuck, least_here, lines_first, List, marked_from, may_follow_quoted, nat_lt, no_quoted, node_start, not, off_margin, Ok, on_held, past, past_elements, peek, Position, position_after, Problem, quote_of, quoted, quoted_lines_fit, quoted_may_end, Read, refl, Result, ScannerState, skip_spaces, Some, subst, sym, tab, true, unled, value_of, within, Yes, ℕ, ◌&&◌, ◌++◌, ◌+◌, ◌-◌, ◌==◌, ◌||◌, ◌∙◌, ◌∷◌, ◌≡◌}
 use Rattle.yaml_tokens.specs.declared.problem.Problem.TheVariants as problem
-use Rattle.model_scanner.specs.declared.context.Context.{Context}
-use Rattle.model_scanner.specs.Machine.{Read, past}
-use Rattle.model_scanner.specs.Quoted.{quoted, quote_of}
 use Rattle.proof_lexers.specs.QuotedEnds as bad
-use Rattle.proof_lexers.specs.QuotedScan.{value_of, ends_before}
 use Rattle.proof_lexers.specs.QuotedScan as scans
-use Rattle.proof_lexers.proofs.Quoted.Values.{bodies_are_read}
 use Rattle.proof_scanner.proofs.Cut.Nodes.{IsDeep}
 use Rattle.proof_scanner.proofs.Cut.Pieces.Quoted.{some_chars}
 use Rattle.proof_scanner.proofs.Cut.Passes.{Spaced, spaces_skipped}
@@ -17,11 +10,9 @@ use Rattle.proof_scanner.proofs.Cut.Saved.{saved_is}
 use Rattle.proof_scanner.proofs.Sound.QuotedBreaks.{same_limit}
 use Rattle.proof_scanner.proofs.Sound.QuotedEnds.{unglued}
 use Rattle.proof_scanner.proofs.Sound.QuotedKeeps.{QuotedAs, piece_of}
-use Rattle.proof_scanner.specs.Goes.{went}
-use Rattle.proof_scanner.proofs.Complete.Scalars.AfterQuoted.{check_passes}
-use Rattle.proof_scanner.proofs.Complete.Scalars.Bodies.{quoted_scanned}
+use Rattle.proof_scanner.proofs.Refusals.AfterQuoted.{check_passes}
+use Rattle.proof_scanner.proofs.Refusals.QuotedBodies.{quoted_scanned}
 use Rattle.proof_scanner.specs.NoPiece as none
-use Rattle.proof_scanner.specs.Failing.{no_quoted}
 use Rattle.proof_scanner.specs.QuotedLines as lines
 use Rattle.proof_scanner.proofs.Refusals.QuotedElements.{after_quote_at}
 use Rattle.proof_scanner.proofs.Refusals.QuotedLines.{is_of_lines, Ends, refused, reads, quoted_ends}
@@ -49,9 +40,6 @@ solid_left flow same r h n = solid_past r h (first (is_breakz (peek r)) _ n)
     first : (x y : Bool) → (x || y) ≡ false → x ≡ false
     first true y h = absurd (cc h)
     first false y h = refl
-
-not_both : {A : Type 0} {P : A → Type 0} {r : Result A Fault} (f : Fault) → Succeeds P r → r ≡ Err f → ⊥
-not_both f (went p) e = cc e
 
 -- ---- no scalar
 
@@ -126,7 +114,7 @@ module _ (text : List ℕ) (t : ScannerState) (a : Arrives text t) (some : is_em
     where
       by : (b : Bool) → quoted_may_end (in_flow t.held) piece x.rest ≡ b → b ≡ false
       by false i = refl
-      by true i = absurd (not_both _ (check_passes t.held.position piece closed q.end_is (ap (λ b. quoted_may_end b piece x.rest) flow_is ∙ i)) (refuses v e n))
+      by true i = absurd (cc ((check_passes t.held.position piece closed q.end_is (ap (λ b. quoted_may_end b piece x.rest) flow_is ∙ i)).is, refuses v e n))
 
   -- other text on its line
   followed_by : (v : ScannerState) → skip_spaces Yes closed ≡ Ok v → Spaced Yes closed v → may_follow_quoted (in_flow v.held) (t.held.position.line == v.held.position.line) (peek v.rest) ≡ false → Told text (At problem.ContentAfterQuoted v.held.position)

@@ -1,29 +1,25 @@
 -- Where the scanner's model refuses a text with a fault of a kind that is told, the text is stuck.
-use Rattle.std.proofs.Common.{◌≡◌, ℕ, ◌+◌, List, ◌++◌, true, false, Option, Result, Ok, refl, ap, sym, ◌∙◌, subst}
-use Rattle.std.specs.Prelude.{map}
-use Rattle.std.specs.List.{list_any}
-use Rattle.proof_scanner.proofs.Common.{Arrives, both_hold, drop_stale, Fault, fetch, fetch_next, fetch_stream_start, FetchKeeps, has_no_nul, Held, held_of, here, in_flow, is_overdue, is_separation, IsStuck, Key, on_held, Reaches, ScannerState, stale, start, still, there, try_held, unroll_indent, ◌>>=◌}
-use Rattle.yaml_tokens.specs.declared.problem.Fault.TheVariants.{At}
+use Rattle.proof_scanner.proofs.Common.{[], ap, Arrives, At, begins, Bool, cleared, drop_stale, false, Fares, Fault, fetch, fetch_here, fetch_next, fetch_stream_end, fetch_stream_start, FetchKeeps, has_no_nul, has_required, Held, held_of, here, Holds, in_flow, inl, inr, is_empty, is_far, is_overdue, IsRefused, Key, List, list_any, map, next_line, None, Ok, on_held, Option, outside_key, over, peek, Position, Reaches, refl, RefusedTextsAreStuck, Result, ScannerState, Some, stale, Stands, start, still, subst, sym, there, top_key, true, unroll_indent, ℕ, ◌&&◌, ◌+◌, ◌==◌, ◌||◌, ◌∙◌, ◌∷◌, ◌≡◌, ◌⊎◌}
 use Rattle.yaml_tokens.specs.declared.problem.Problem.TheVariants as problem
 use Rattle.model_scanner.specs.Keys.{with_keys}
 use Rattle.model_scanner.proofs.Holds as holds
-use Rattle.proof_scanner.proofs.Cut.Fetched.{Came, starts, came}
-use Rattle.proof_scanner.proofs.Cut.Passes.{to_token}
-use Rattle.proof_scanner.specs.StandsInRow.{Stands, Fares, begins, goes, over}
-use Rattle.proof_scanner.proofs.Sound.Fetches.{fetch_keeps}
+use Rattle.proof_scanner.proofs.Cut.Fetched.{goes_on_here}
+use Rattle.proof_scanner.specs.StandsInRow.{goes}
+use Rattle.proof_scanner.proofs.Sound.Fetches.{content_kept, fetch_keeps}
 use Rattle.proof_scanner.proofs.Sound.Runs.{reached}
 use Rattle.proof_scanner.proofs.Sound.Sound.{each_keeps}
+use Rattle.proof_scanner.proofs.Sound.Stales.{no_entries, one_key, is_outside}
 use Rattle.proof_scanner.proofs.Sound.ToToken.{passed_stands}
 use Rattle.proof_scanner.specs.Never.{AnchorIndentationNeverComes}
-use Rattle.proof_scanner.specs.Told.{RefusedTextsAreStuck}
 use Rattle.proof_scanner.proofs.Refusals.Faults as faults
 use Rattle.proof_scanner.proofs.Refusals.Faults.{Faults, fault_is, in_turn, tried, either}
 use Rattle.proof_scanner.proofs.Refusals.Fetches.{here_told}
-use Rattle.proof_scanner.proofs.Refusals.OtherFaults.{Other, here_other, way_other, stale_other, not_other}
-use Rattle.proof_scanner.proofs.Refusals.Passing.{HasNear, anything, fetch_near, passing_told}
-use Rattle.proof_scanner.proofs.Refusals.Places.{Told, not_told}
+use Rattle.proof_scanner.proofs.Refusals.OtherFaults.{stuck_other}
+use Rattle.proof_scanner.proofs.Refusals.Passing.{HasNear, fetch_near, passing_told}
+use Rattle.proof_scanner.proofs.Refusals.Places.{Told, kind, rowless_told}
+use Rattle.proof_scanner.proofs.Refusals.RequiredKeys.{stale_rowless}
+use Rattle.proof_scanner.proofs.Refusals.Rolled.{unrolled_stays}
 use Rattle.proof_scanner.proofs.Refusals.Shortens.{stale_arrives}
-use Rattle.proof_scanner.proofs.Refusals.Waiting.{arrived, none_waits}
 
 -- ---- a fetch
 
@@ -31,46 +27,78 @@ keys_told : {text : List ℕ} (s : Held) {r : Result (List (Option Key)) Fault} 
 keys_told s (faults.fault p) = faults.fault p
 keys_told s faults.goes = faults.goes
 
-stale_told : (text : List ℕ) (s : Held) → Faults (Told text) (stale s)
+-- an open key that is far and must be one
+record Overdue (k : Option Key) (p : Position) : Type 0 where
+  key : Key
+  is_open : k ≡ Some key
+  is_far : is_far key.position p ≡ true
+  must : key.required ≡ true
+
+overdue : (p : Position) (k : Option Key) (ks : List (Option Key)) → ks ≡ k ∷ [] → list_any (is_overdue p) ks ≡ true → Overdue k p
+overdue p None ks e h = absurd (cc (sym (ap (list_any (is_overdue p)) e) ∙ h))
+overdue p (Some k) ks e h = by (is_far k.position p) k.required refl refl (sym (ap (list_any (is_overdue p)) e) ∙ h)
+  where
+    by : (far must : Bool) → is_far k.position p ≡ far → k.required ≡ must → ((far && must) || false) ≡ true → Overdue (Some k) p
+    by true true f m h = record { key = k; is_open = refl; is_far = f; must = m }
+    by true false f m h = absurd (cc h)
+    by false must f m h = absurd (cc h)
+
+stale_told : (text : List ℕ) → has_no_nul text ≡ true → (u : ScannerState) → Stands text u → Faults (Told text) (stale u.held)
 unfolding stale drop_stale
-stale_told text s = either (in_flow s) (λ _. faults.goes) (λ _. keys_told s (not_told text (list_any (is_overdue s.position) s.keys) problem.KeyWithoutColon s.position (map (still s.position) s.keys) refl))
+stale_told text nul u s =
+    either (in_flow u.held) (λ _. faults.goes) (λ o. keys_told u.held (rowless_told text (list_any (is_overdue u.held.position) u.held.keys) problem.KeyWithoutColon u.held.position (map (still u.held.position) u.held.keys) refl (λ h.
+    let out : is_empty u.held.flow ≡ true = is_outside (is_empty u.held.flow) o in
+    let only = one_key u.held.keys u.held.flow s.one_each out in
+    let far = overdue u.held.position only.0 u.held.keys only.1 h in
+    let none_in : s.base.entries ≡ [] = no_entries u.held.key_allowed _ u.held.flow u.held.keys s.base.entries out s.are_entries in
+    stale_rowless text u s nul far.key (ap (λ es. outside_key es u.held.keys) none_in ∙ (ap top_key only.1 ∙ far.is_open)) far.must far.is_far)))
 
--- the state where a token begins has the text that was left before it
-same_text : (u v : ScannerState) → try_held stale u ≡ Ok v → v.rest ≡ u.rest
-same_text u v e = held_of {P = λ z. z.rest ≡ u.rest} v (holds.tried {P = λ h. Unit {0}} u (stale u.held) (anything (stale u.held)) (λ h k. refl)) e
+-- where no key must be one none is refused
+none_overdue : (p : Position) (ks : List (Option Key)) → has_required ks ≡ false → list_any (is_overdue p) ks ≡ false
+none_overdue p [] h = refl
+none_overdue p (None ∷ ks) h = none_overdue p ks h
+none_overdue p (Some k ∷ ks) h = by (is_far k.position p) k.required h (none_overdue p ks)
+  where
+    by : (far must : Bool) → (must || has_required ks) ≡ false → (has_required ks ≡ false → list_any (is_overdue p) ks ≡ false) → ((far && must) || list_any (is_overdue p) ks) ≡ false
+    by far true h on = absurd (cc h)
+    by true false h on = on h
+    by false false h on = on h
 
-next_told : (text : List ℕ) → has_no_nul text ≡ true → (t : ScannerState) → Reaches (start text) t → Came text t → Stands text t → HasNear t.held → Faults (Told text) (fetch_next t)
+-- A fetch that goes on stands again before it drops keys; one that ends the stream leaves none.
+abbrev StandsOrEnds : List ℕ → ScannerState → Type 0
+StandsOrEnds text t = Stands text t ⊎ (has_required t.held.keys ≡ false)
+
+end_cleared : (t : ScannerState) → Holds (λ u. has_required u.held.keys ≡ false) (fetch_stream_end t)
+unfolding fetch_stream_end
+end_cleared t = holds.tried {P = λ h. has_required h.keys ≡ false} t _ (holds.checked (has_required t.held.keys) (At problem.KeyExpected (next_line t.held.position)) (λ _. holds.went (ap has_required (unrolled_stays 0 _).1 ∙ none t.held.keys))) (λ h k. k)
+  where
+    none : (ks : List (Option Key)) → has_required (cleared ks) ≡ false
+    none [] = refl
+    none (k ∷ ks) = none ks
+
+here_stands : (text : List ℕ) (t : ScannerState) → Arrives text t → Holds (StandsOrEnds text) (fetch_here t)
+unfolding fetch_here
+here_stands text t a = holds.either (peek t.rest == 0) (λ _. holds.weakened (λ u x. inr x) (end_cleared t)) (λ e. holds.weakened (λ u x. inl x) (content_kept each_keeps text t a (goes_on_here t.rest e)))
+
+left_told : (text : List ℕ) → has_no_nul text ≡ true → (t : ScannerState) → StandsOrEnds text t → Faults (Told text) (stale t.held)
+unfolding stale drop_stale
+left_told text nul t (inl s) = stale_told text nul t s
+left_told text nul t (inr none) = either (in_flow t.held) (λ _. faults.goes) (λ _. keys_told t.held (rowless_told text (list_any (is_overdue t.held.position) t.held.keys) problem.KeyWithoutColon t.held.position (map (still t.held.position) t.held.keys) refl (λ h. absurd (cc (h, none_overdue t.held.position t.held.keys none)))))
+
+next_told : (text : List ℕ) → has_no_nul text ≡ true → (t : ScannerState) → Stands text t → HasNear t.held → Faults (Told text) (fetch_next t)
 unfolding fetch_next
-next_told text nul t run comes s near =
+next_told text nul t s near =
     in_turn (passing_told text t s near) (λ u e.
-    let a = held_of u (both_hold (passed_stands text t s) (to_token t)) e in
-    in_turn (tried u (stale_told text u.held)) (λ v f.
-    let b : Arrives text (on_held (λ h. unroll_indent (h.position.col + 1) h) v) = held_of v (stale_arrives text u a.0.0 a.0.1) f in
+    let a = held_of u (passed_stands text t s) e in
+    in_turn (tried u (stale_told text nul u a.0)) (λ v f.
     let here : ScannerState = on_held (λ h. unroll_indent (h.position.col + 1) h) v in
-    let passed : List ℕ = a.1.passed.separation in
-    let rest_is : v.rest ≡ u.rest = same_text u v f in
-    let way : arrived t ≡ Ok here = ap (λ r. r >>= λ x. try_held stale x >>= λ y. Ok (on_held (λ h. unroll_indent (h.position.col + 1) h) y)) e ∙ ap (λ r. r >>= λ y. Ok (on_held (λ h. unroll_indent (h.position.col + 1) h) y)) f in
-    in_turn (here_told text here b
-    (none_waits text nul t run comes s here b way passed (a.1.passed.is_rest ∙ ap (λ r. passed ++ r) (sym rest_is)) (subst (λ r. is_separation false passed r ≡ true) (sym rest_is) a.1.passed.is_filled))) (λ w g.
-    tried w (stale_told text w.held))))
+    let b : Arrives text here = held_of v (stale_arrives text u a.0 a.1) f in
+    in_turn (here_told text here b) (λ w i.
+    tried w (left_told text nul w (held_of w (here_stands text here b) i)))))
 
-next_other : (text : List ℕ) (t : ScannerState) → Stands text t → Faults Other (fetch_next t)
-unfolding fetch_next
-next_other text t s =
-    in_turn (way_other t) (λ u e.
-    let a = held_of u (both_hold (passed_stands text t s) (to_token t)) e in
-    in_turn (tried u (stale_other u.held)) (λ v f.
-    let b : Arrives text (on_held (λ h. unroll_indent (h.position.col + 1) h) v) = held_of v (stale_arrives text u a.0.0 a.0.1) f in
-    in_turn (here_other text (on_held (λ h. unroll_indent (h.position.col + 1) h) v) b) (λ w g.
-    tried w (stale_other w.held))))
-
-fetch_other : (text : List ℕ) (t : ScannerState) → Stands text t → Faults Other (fetch t)
+fetch_told : (text : List ℕ) → has_no_nul text ≡ true → (t : ScannerState) → Stands text t → HasNear t.held → Faults (Told text) (fetch t)
 unfolding fetch
-fetch_other text t s = either t.held.started (λ _. next_other text t s) (λ n. absurd (cc (n, s.started)))
-
-fetch_told : (text : List ℕ) → has_no_nul text ≡ true → (t : ScannerState) → Reaches (start text) t → Came text t → Stands text t → HasNear t.held → Faults (Told text) (fetch t)
-unfolding fetch
-fetch_told text nul t run comes s near = either t.held.started (λ _. next_told text nul t run comes s near) (λ n. absurd (cc (n, s.started)))
+fetch_told text nul t s near = either t.held.started (λ _. next_told text nul t s near) (λ n. absurd (cc (n, s.started)))
 
 -- ---- a run
 
@@ -87,15 +115,14 @@ near_first text = λ o k e. absurd (cc e)
 
 -- What is known of a state of a run.
 record Known (text : List ℕ) (t : ScannerState) : Type 0 where
-  comes : Came text t
   fares : Fares text t
   near : HasNear t.held
 
 known_next : (text : List ℕ) → has_no_nul text ≡ true → (t u : ScannerState) → t.held.ended ≡ false → fetch t ≡ Ok u → Known text t → Known text u
-known_next text nul t u going e k = record { comes = came text nul t u (there going e here) k.comes; fares = next; near = near_by k.fares }
+known_next text nul t u going e k = record { fares = next; near = near_by k.fares }
   where
     next : Fares text u
-    next = reached kept text nul t u (there going e here) k.comes k.fares
+    next = reached kept text nul t u (there going e here) k.fares
 
     near_by : Fares text t → HasNear u.held
     near_by (begins b) =
@@ -103,33 +130,29 @@ known_next text nul t u going e k = record { comes = came text nul t u (there go
         let state : fetch_stream_start (start text) ≡ u = cc same in
         subst (λ x. HasNear x.held) state (near_first text)
     near_by (goes s) = held_of u (fetch_near t s.started) e
-    near_by (over f r) = absurd (cc (going, f))
+    near_by (over f r n) = absurd (cc (going, f))
 
 known_on : (text : List ℕ) → has_no_nul text ≡ true → (t u : ScannerState) → Reaches t u → Known text t → Known text u
 known_on text nul t u here k = k
 known_on text nul t u (there {u = v} going e run) k = known_on text nul v u run (known_next text nul t v going e k)
 
 first_known : (text : List ℕ) → Known text (start text)
-first_known text = record { comes = starts refl; fares = begins refl; near = λ o k e. absurd (cc e) }
+first_known text = record { fares = begins refl; near = λ o k e. absurd (cc e) }
+
+-- What a refusal says of the text.
+pub refusal_told : (text : List ℕ) (f : Fault) → has_no_nul text ≡ true → IsRefused text f → Told text f
+refusal_told text f nul r = by k.fares
+  where
+    k : Known text r.last
+    k = known_on text nul (start text) r.last r.run (first_known text)
+
+    by : Fares text r.last → Told text f
+    by (begins b) = absurd (cc (sym (first_fetch text) ∙ (ap fetch (sym b) ∙ r.refused)))
+    by (goes s) = fault_is f (fetch_told text nul r.last s k.near) r.refused
+    by (over g n m) = absurd (cc (g, r.going))
 
 pub refused_texts_are_stuck : RefusedTextsAreStuck
-refused_texts_are_stuck text why at nul r told = by k.fares
-  where
-    k : Known text r.last
-    k = known_on text nul (start text) r.last r.run (first_known text)
-
-    by : Fares text r.last → IsStuck text why at
-    by (begins b) = absurd (cc (sym (first_fetch text) ∙ (ap fetch (sym b) ∙ r.refused)))
-    by (goes s) = (fault_is (At why at) (fetch_told text nul r.last r.run k.comes s k.near) r.refused) told
-    by (over f n) = absurd (cc (f, r.going))
+refused_texts_are_stuck text why at nul r told = refusal_told text (At why at) nul r (kind told)
 
 pub anchor_indentation_never_comes : AnchorIndentationNeverComes
-anchor_indentation_never_comes text at nul r = by k.fares
-  where
-    k : Known text r.last
-    k = known_on text nul (start text) r.last r.run (first_known text)
-
-    by : Fares text r.last → ⊥
-    by (begins b) = cc (sym (first_fetch text) ∙ (ap fetch (sym b) ∙ r.refused))
-    by (goes s) = not_other at (fault_is (At problem.AnchorIndentation at) (fetch_other text r.last s) r.refused)
-    by (over f n) = cc (f, r.going)
+anchor_indentation_never_comes text at nul r = cc (stuck_other text problem.AnchorIndentation at (refused_texts_are_stuck text problem.AnchorIndentation at nul r refl))

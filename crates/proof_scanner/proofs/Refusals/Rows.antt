@@ -1,12 +1,6 @@
 -- Sound texts where a condition was once said to fail: it does not.
-use Rattle.std.proofs.Common.{◌≡◌, ℕ, List, ◌∷◌, false, codes, refl, sym, subst}
-use Rattle.proof_scanner.proofs.Common.{first_position, is_blank_or_end, is_decimal_digit, is_letter, is_nul, is_uri, is_value_here, IsNoHeader, IsTagRefusal, Position, Problem, tags_are_read}
-use Rattle.defs_text.specs.Classes.{is_blank, is_break, is_alpha, is_tag, is_flow}
-use Rattle.defs_text.specs.BlockScalar.{literal}
-use Rattle.defs_text.specs.Tags.{after, uri_character}
-use Rattle.defs_token.specs.RowAccount.{first_account}
+use Rattle.proof_scanner.proofs.Common.{after, codes, false, first_account, first_position, is_alpha, is_blank, is_blank_or_end, is_break, is_decimal_digit, is_flow, is_letter, is_nul, is_tag, is_uri, is_value_here, IsNoHeader, IsTagRefusal, IsVersionBefore, List, literal, Position, Problem, refl, subst, sym, tags_are_read, uri_character, ℕ, ◌∷◌, ◌≡◌}
 use Rattle.yaml_tokens.specs.declared.problem.Problem.TheVariants as problem
-use Rattle.proof_lexers.specs.DirectiveEnds.{IsVersionBefore}
 use Rattle.proof_scanner.specs.NoPiece as none
 use Rattle.proof_scanner.proofs.Refusals.TextsRefused.{refusal_fails}
 

@@ -1,42 +1,28 @@
 -- Each fetch reads on: where a piece begins, less text is left after it.
-use Rattle.std.proofs.Common.{◌≡◌, ℕ, ◌+◌, ◌<◌, ◌≤◌, List, [], ◌∷◌, ◌++◌, Bool, true, false, not, ◌==◌, ◌&&◌, ◌||◌, nat_lt, length, if◌then◌else◌, Option, Some, None, Result, Ok, Err, refl, ap, sym, ◌∙◌, subst, arith}
-use Rattle.std.proofs.lemmas.Bool.{and_parts}
 use Rattle.std.proofs.lemmas.List.{length-append}
-use Rattle.proof_scanner.proofs.Common.{allow_key, Arrives, Before, before_past, begin_flow, begin_key, begin_line, begins_separation, block, both_hold, chained, check_after_quoted, check_after_tab, check_block_entry, check_dash, check_document_end, check_key_space, check_value_space, collection_column, collection_of, comes_marker, comes_plain, context, DirectiveEndsAs, directives_end, end_entry, end_flow, end_stream, ends_separation, Fault, fetch, fetch_anchor, fetch_block_entry, fetch_block_scalar, fetch_content, fetch_directive, fetch_document_end, fetch_document_marker, fetch_first_column, fetch_flow_collection_end, fetch_flow_collection_start, fetch_flow_entry, fetch_flow_scalar, fetch_here, fetch_indented, fetch_key, fetch_next, fetch_plain_scalar, fetch_stream_end, fetch_stream_start, fetch_tag, fetch_token, fetch_value, FetchKeeps, FlowLevel, go_on, has_no_nul, Held, held_of, here, in_flow, is_adjacent, is_breakz, is_document_marker, is_empty, is_nul, is_separation, lexed, Mapping, may_follow_quoted, No, node_start, on_held, paired, pass_indicator, peek, Position, push, Reaches, ReadAs, remove_implicit_key, roll_entry, roll_indent, roll_one_col_indent, save_implicit_key, ScannerState, sequence, skip_indicator, SkipTabs, stale, start, Style, there, Tok, top_key, try_held, unled, unroll_indent, unroll_non_block_indents, weakened, without_open, Yes, ◌>>=◌}
-use Rattle.defs_token.specs.Account.{Account, other, is_in_flow}
-use Rattle.defs_token.specs.RowAccount.{before_by}
+use Rattle.proof_scanner.proofs.Common.{[], after_plain, allow_key, anchor_name, and_parts, ap, arith, Arrives, At, Before, before_by, before_past, begin_flow, begin_key, begin_line, begins_separation, block, Bool, both_hold, chained, check_after_quoted, check_after_tab, check_block_entry, check_dash, check_document_end, check_key_space, check_value_space, checked, collection_column, collection_of, comes_marker, comes_plain, Context, context, DirectiveEndsAs, directives_end, either, end_entry, end_flow, end_stream, Err, false, Fault, fetch, fetch_anchor, fetch_block_entry, fetch_block_scalar, fetch_content, fetch_directive, fetch_document_end, fetch_document_marker, fetch_first_column, fetch_flow_collection_end, fetch_flow_collection_start, fetch_flow_entry, fetch_flow_scalar, fetch_here, fetch_indented, fetch_key, fetch_next, fetch_plain_scalar, fetch_stream_end, fetch_tag, fetch_token, fetch_value, FlowLevel, go_on, has_no_nul, has_required, Held, Holds, if◌then◌else◌, in_flow, inl, inr, is_adjacent, is_breakz, is_document_marker, is_empty, is_nul, length, lexed, List, Mapping, may_follow_quoted, nat_lt, next_line, No, node_start, None, not, Ok, on_held, opens_pair, Option, other, paired, pass_indicator, peek, Position, push, quote_of, quoted, Read, read, ReadAs, refl, refused, remove_implicit_key, Result, roll_entry, roll_indent, roll_one_col_indent, save_implicit_key, ScannerState, sequence, skip_indicator, SkipTabs, Some, stale, Stands, Style, subst, sym, Tok, top_key, tried, true, try_held, unled, unroll_indent, unroll_non_block_indents, weakened, went, without_open, Yes, ℕ, ◌&&◌, ◌++◌, ◌+◌, ◌<◌, ◌==◌, ◌>>=◌, ◌||◌, ◌∙◌, ◌∷◌, ◌≡◌, ◌≤◌, ◌⊎◌}
+use Rattle.defs_token.specs.Account.{Account, is_in_flow}
 use Rattle.yaml_chars.specs.Class.{is_break, is_flow}
-use Rattle.yaml_tokens.specs.declared.problem.Fault.TheVariants.{At}
 use Rattle.yaml_tokens.specs.declared.problem.Problem.TheVariants as problem
-use Rattle.model_scanner.specs.declared.context.Context.{Context}
-use Rattle.model_scanner.specs.Machine.{Read}
-use Rattle.model_scanner.specs.Anchor.{anchor_name}
 use Rattle.model_scanner.specs.Directive.{directive}
 use Rattle.model_scanner.specs.Plain.{plain}
-use Rattle.model_scanner.specs.Quoted.{quoted, quote_of}
 use Rattle.model_scanner.specs.Tag as tags
 use Rattle.model_scanner.specs.declared.level.FlowLevel.TheVariants.{Entry}
 use Rattle.model_scanner.specs.State.{after}
-use Rattle.model_scanner.specs.Block.{opens_pair, value_of}
-use Rattle.model_scanner.specs.Document.{next_line, begin_stream, after_plain}
-use Rattle.model_scanner.proofs.Holds.{Holds, went, refused, tried, checked, either, passes, read}
+use Rattle.model_scanner.specs.Block.{value_of}
+use Rattle.model_scanner.proofs.Holds.{passes}
 use Rattle.proof_lexers.specs.DirectiveEnds as directives
 use Rattle.proof_scanner.proofs.Cut.Dispatch.{token_holds}
-use Rattle.proof_scanner.proofs.Cut.Fetched.{Came, came, begins_with_this, no_marker, is_deep}
+use Rattle.proof_scanner.proofs.Cut.Fetched.{begins_with_this, no_marker, is_deep, goes_on_here}
 use Rattle.proof_scanner.proofs.Cut.Nodes.{IsDeep, less_or}
 use Rattle.proof_scanner.proofs.Cut.Passes.{Passed, to_token, white_passed, Spaced, spaced, spaces_skipped, passed_spaces}
 use Rattle.proof_scanner.proofs.Cut.Pieces.Directives.{break_cut}
 use Rattle.proof_scanner.proofs.Cut.Pieces.Read.{pieces_are_read}
 use Rattle.proof_scanner.proofs.Cut.Saved.{saved_keys, saved_is}
-use Rattle.proof_scanner.specs.StandsInRow.{Stands, Fares, begins, goes, over}
 use Rattle.proof_scanner.proofs.Sound.Arriving.{arrives_now, near_key}
-use Rattle.proof_scanner.proofs.Sound.Fetches.{fetch_keeps}
-use Rattle.proof_scanner.proofs.Sound.Runs.{reached}
-use Rattle.proof_scanner.proofs.Sound.Sound.{each_keeps}
-use Rattle.proof_scanner.proofs.Sound.Stales.{stale_stands}
+use Rattle.proof_scanner.proofs.Sound.Stales.{stale_stands, keys_only}
 use Rattle.proof_scanner.proofs.Sound.ToToken.{passed_stands}
 use Rattle.proof_scanner.proofs.Sound.WithoutOpen.{AreClosed, without_is}
-use Rattle.proof_scanner.proofs.Complete.Steps.{ends_before}
 use Rattle.proof_scanner.proofs.Refusals.Passing.{anything}
 
 -- ---- lengths
@@ -296,49 +282,23 @@ module _ (text : List ℕ) (t : ScannerState) (a : Arrives text t) (some : is_em
   unfolding fetch_content
   content_shortens = either (t.held.position.col == 0) (λ _. first_shortens) (λ e. indented_shortens (rw e refl))
 
--- where a piece begins less text is left; at the text's end none is
-here_shortens : (text : List ℕ) (t : ScannerState) → Arrives text t → Holds (λ u. (is_empty t.rest ≡ false → length u.rest < length t.rest) × (length u.rest ≤ length t.rest)) (fetch_here t)
-unfolding fetch_here fetch_stream_end is_nul
-here_shortens text t a = by (is_empty t.rest) refl
+-- The stream ends, or less text is left than before.
+abbrev pub ReadsOn : ScannerState → ScannerState → Type 0
+ReadsOn t u = (u.held.ended ≡ true) ⊎ (length u.rest < length t.rest)
+
+here_shortens : (text : List ℕ) (t : ScannerState) → Arrives text t → Holds (ReadsOn t) (fetch_here t)
+unfolding fetch_here fetch_stream_end
+here_shortens text t a =
+    either (peek t.rest == 0) (λ _. tried t (end_stream (record t.held { position = next_line t.held.position })) (over (record t.held { position = next_line t.held.position })) (λ s k. inl k)) (λ e. weakened (λ u n. inr n) (content_shortens text t a (goes_on_here t.rest e)))
   where
-    Both : ScannerState → Type 0
-    Both u = (is_empty t.rest ≡ false → length u.rest < length t.rest) × (length u.rest ≤ length t.rest)
-
-    ended : (b : Bool) → is_empty t.rest ≡ true → (peek t.rest == 0) ≡ b → Holds Both (if b then try_held (λ s. end_stream (record s { position = next_line s.position })) t else fetch_content t)
-    ended true e z = tried {P = λ s. Unit {0}} t (end_stream (record t.held { position = next_line t.held.position })) (anything _) (λ s k. ((λ n. absurd (cc (e, n))), omega arith))
-    ended false e z = absurd (cc (z, ap (λ b. b) (nothing t.rest e)))
-      where
-        nothing : (r : List ℕ) → is_empty r ≡ true → (peek r == 0) ≡ true
-        nothing [] h = refl
-        nothing (c ∷ r) h = absurd (cc h)
-
-    goes_on_by : (b : Bool) → is_empty t.rest ≡ false → (peek t.rest == 0) ≡ b → Holds Both (if b then try_held (λ s. end_stream (record s { position = next_line s.position })) t else fetch_content t)
-    goes_on_by true e z = tried {P = λ s. Unit {0}} t (end_stream (record t.held { position = next_line t.held.position })) (anything _) (λ s k. absurd (no_end t.rest a.is_clean e z))
-      where
-        no_end : (r : List ℕ) → has_no_nul r ≡ true → is_empty r ≡ false → (peek r == 0) ≡ true → ⊥
-        no_end [] n h z = cc h
-        no_end (c ∷ r) n h z = let first = and_parts (not (is_nul c)) (has_no_nul r) n in cc (first.0, z)
-    goes_on_by false e z = weakened (λ u n. ((λ _. n), omega (arith, n))) (content_shortens text t a e)
-
-    by : (b : Bool) → is_empty t.rest ≡ b → Holds Both (if peek t.rest == 0 then try_held (λ s. end_stream (record s { position = next_line s.position })) t else fetch_content t)
-    by true e = ended (peek t.rest == 0) e refl
-    by false e = goes_on_by (peek t.rest == 0) e refl
+    over : (s : Held) → Holds (λ h. h.ended ≡ true) (end_stream s)
+    over s = checked (has_required s.keys) (At problem.KeyExpected s.position) (λ _. went refl)
 
 -- ---- a fetch
 
 -- where a token begins
 pub stale_arrives : (text : List ℕ) (u : ScannerState) → Stands text u → begins_separation u.rest ≡ false → Holds (λ v. Arrives text (on_held (λ s. unroll_indent (s.position.col + 1) s) v)) (try_held stale u)
 stale_arrives text u s solid = tried u (stale u.held) (stale_stands text u s) (λ h n. arrives_now text (record u { held = h }) n.stands solid (near_key text u h n))
-
--- A fetch passes a separation; where the text goes on it reads more.
-pub record ReadsOn (t u : ScannerState) : Type 0 where
-  pub passed : List ℕ
-  pub rest : List ℕ
-  pub cut : t.rest ≡ passed ++ rest
-  pub is_filled : is_separation false passed rest ≡ true
-  pub is_solid : ends_separation rest ≡ true
-  pub shorter : is_empty rest ≡ false → length u.rest < length rest
-  pub no_longer : length u.rest ≤ length t.rest
 
 next_reads_on : (text : List ℕ) (t : ScannerState) → Stands text t → Holds (ReadsOn t) (fetch_next t)
 unfolding fetch_next
@@ -347,42 +307,12 @@ next_reads_on text t s =
     chained {P = λ v. Arrives text (on_held (λ h. unroll_indent (h.position.col + 1) h) v) × (v.rest ≡ u.rest)}
     (both_hold (stale_arrives text u p.0.0 p.0.1) (tried {P = λ h. Unit {0}} u (stale u.held) (anything (stale u.held)) (λ h k. refl))) (λ v a.
     chained (here_shortens text (on_held (λ h. unroll_indent (h.position.col + 1) h) v) a.0) (λ w n.
-    tried {P = λ h. Unit {0}} w (stale w.held) (anything (stale w.held)) (λ h k.
-    let e = ap length a.1 in
-    let m = passed_no_longer t u p.1.passed in
-    let left = n.1 in
-    record {
-      passed = p.1.passed.separation;
-      rest = u.rest;
-      cut = p.1.passed.is_rest;
-      is_filled = p.1.passed.is_filled;
-      is_solid = ends_before u.rest p.1.solid p.0.0.is_clean;
-      shorter = λ some. subst (λ r. length w.rest < length r) a.1 (n.0 (ap is_empty a.1 ∙ some));
-      no_longer = omega (arith, e, m, left);
-    }))))
+    tried w (stale w.held) (keys_only w.held) (λ h k. by u v w h n (ap (λ x. x.ended) k) (ap length a.1) (passed_no_longer t u p.1.passed)))))
+  where
+    by : (u v w : ScannerState) (h : Held) → ReadsOn v w → h.ended ≡ w.held.ended → length v.rest ≡ length u.rest → length u.rest ≤ length t.rest → ReadsOn t (record w { held = h })
+    by u v w h (inl ended) same e m = inl (same ∙ ended)
+    by u v w h (inr less) same e m = inr (omega (arith, less, e, m))
 
 pub fetch_reads_on : (text : List ℕ) (t : ScannerState) → Stands text t → Holds (ReadsOn t) (fetch t)
 unfolding fetch
 fetch_reads_on text t s = either t.held.started (λ _. next_reads_on text t s) (λ n. absurd (cc (n, s.started)))
-
--- ---- a run
-
-kept : FetchKeeps
-kept = fetch_keeps each_keeps
-
-first_rest : (text : List ℕ) (u : ScannerState) → fetch (start text) ≡ Ok u → length u.rest ≤ length text
-unfolding fetch fetch_stream_start
-first_rest text u e = let same : on_held begin_stream (start text) ≡ u = cc e in subst (λ (x : ScannerState). length x.rest ≤ length text) same (omega arith)
-
--- A run leaves no more text than there was.
-pub run_reads_on : (text : List ℕ) → has_no_nul text ≡ true → (t u : ScannerState) → Reaches t u → Came text t → Fares text t → length u.rest ≤ length t.rest
-run_reads_on text nul t u here c s = omega arith
-run_reads_on text nul t u (there {u = v} going e run) c s =
-    let more = run_reads_on text nul v u run (came text nul t v (there going e here) c) (reached kept text nul t v (there going e here) c s) in
-    let first = by s in
-    omega (arith, more, first)
-  where
-    by : Fares text t → length v.rest ≤ length t.rest
-    by (begins b) = subst (λ (x : ScannerState). length v.rest ≤ length x.rest) (sym b) (first_rest text v (ap fetch (sym b) ∙ e))
-    by (goes z) = (held_of v (fetch_reads_on text t z) e).no_longer
-    by (over f r) = absurd (cc (going, f))

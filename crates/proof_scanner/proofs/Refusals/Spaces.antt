@@ -1,15 +1,12 @@
 -- Faults of what is passed between pieces.
-use Rattle.std.proofs.Common.{◌≡◌, ℕ, List, [], ◌∷◌, Bool, true, false, not, ◌==◌, ◌&&◌, ◌||◌, Result, Err, refl, subst, arith}
-use Rattle.std.proofs.lemmas.Bool.Decides.{nat_tests}
-use Rattle.proof_scanner.proofs.Common.{begins_separation, begins_with, ends_spaces, Fault, glued, is_at_gap, is_blank_or_end, is_breakz, is_nul, peek, Position, ScannerState, skip_spaces, SkipTabs, spaces, spaces_are_passed, SpacesAs, Whitespace, Yes}
-use Rattle.defs_text.specs.Classes.{is_blank, is_break}
-use Rattle.yaml_tokens.specs.declared.problem.Fault.TheVariants.{At}
+use Rattle.proof_scanner.proofs.Common.{[], ap, are_skipped, arith, At, begins_separation, begins_white_space, begins_with, begins_with_space_or_break, Bool, ends_spaces, Err, false, Fault, glued, GoesOverAs, held_of, Holds, is_at_gap, is_blank, is_blank_or_end, is_break, is_breakz, is_nul, is_separation, List, misses, nat_tests, not, Ok, or_parts, peek, Position, Read, refl, Result, ScannerState, skip_spaces, skip_yaml_whitespace, SkipTabs, space, spaces, spaces_are_passed, SpacesAs, subst, sym, true, white_space_is_passed, Whitespace, Yes, ℕ, ◌&&◌, ◌++◌, ◌==◌, ◌||◌, ◌∙◌, ◌∷◌, ◌≡◌}
 use Rattle.yaml_tokens.specs.declared.problem.Problem.TheVariants as problem
 use Rattle.yaml_chars.specs.Class as model_classes
-use Rattle.model_scanner.specs.Machine.{Read}
-use Rattle.model_scanner.specs.Blanks.{space, are_skipped}
 use Rattle.proof_scanner.proofs.Refusals.Faults.{Faults, goes, read}
 use Rattle.proof_scanner.proofs.Refusals.Places.{Told}
+use Rattle.proof_lexers.specs.PlainEnds as ends
+use Rattle.proof_lexers.specs.Separations as passing
+use Rattle.proof_scanner.proofs.Sound.WhiteSpaces.{white_of, past_white, past_white_space, white_exactly}
 
 -- over blanks and a comment in a line; what is to be said of a comment that no blank parts from what stands before it
 pub space_told : (text : List ℕ) (tabs : SkipTabs) (more : List ℕ) (p : Position) → (begins_with 35 more ≡ true → Told text (At problem.CommentNotSeparated p)) → (f : Fault) → space tabs more p ≡ Err f → Told text f
@@ -45,3 +42,27 @@ pub solid_past : (r : List ℕ) → ends_spaces Yes r ≡ true → is_breakz (pe
 unfolding is_blank is_break model_classes.is_break
 solid_past [] h n = refl
 solid_past (c ∷ r) h n = grind (arith, nat_tests, h, n)
+
+-- a space or a break stands first, so spaces, breaks and comments are read
+pub white_goes : (t : ScannerState) → begins_with_space_or_break t.rest ≡ true → skip_yaml_whitespace t ≡ Ok (past_white_space t)
+unfolding skip_yaml_whitespace
+white_goes t h = by (skip_yaml_whitespace t) (white_space_is_passed t.held t.rest) (white_exactly t)
+  where
+    first : (text separation rest : List ℕ) → begins_with_space_or_break text ≡ true → text ≡ separation ++ rest → begins_with 32 text ≡ false → ends.has_break separation ≡ false → begins_white_space rest ≡ false → ⊥
+    first [] separation rest h e f g i = absurd (cc h)
+    first (c ∷ r) [] rest h e f g i = of (c == 32) (is_break c) h (subst (λ x. begins_white_space x ≡ false) (sym e) i)
+      where
+        of : (x y : Bool) → (x || y) ≡ true → (x || y || (c == 35)) ≡ false → ⊥
+        of true y h i = absurd (cc i)
+        of false true h i = absurd (cc i)
+        of false false h i = absurd (cc h)
+    first (c ∷ r) (d ∷ separation) rest h e f g i = of (c == 32) (is_break c) h f (subst (λ x. is_break x ≡ false) (sym (ap (λ l. peek l) e)) (or_parts (is_break d) (ends.has_break separation) g).0)
+      where
+        of : (x y : Bool) → (x || y) ≡ true → x ≡ false → y ≡ false → ⊥
+        of true y h f g = absurd (cc f)
+        of false true h f g = absurd (cc g)
+        of false false h f g = absurd (cc h)
+
+    by : (x : Result ScannerState Fault) → GoesOverAs t.held t.rest x → Holds (λ u. (u ≡ past_white_space t) × (is_separation false (white_of false t.rest) (past_white false t.rest) ≡ true)) x → x ≡ Ok (past_white_space t)
+    by x (passing.goes leading separation rest cut fills none e) k = e ∙ ap (λ u. Ok u) (held_of _ k e).0
+    by x (misses separation rest cut fills begins none ends e) k = absurd (first t.rest separation rest h cut begins none ends)

@@ -1,28 +1,38 @@
 -- Where a piece may not stand for what stands before or after it, no row of the text goes on.
-use Rattle.std.proofs.Common.{◌≡◌, ◌<◌, List, [], ◌∷◌, ◌++◌, ℕ, Bool, true, false, not, ◌==◌, ◌&&◌, ◌||◌, if◌then◌else◌, map, Option, Some, None, ◌⊎◌, inl, inr, refl, ap, sym, ◌∙◌, subst, arith}
-use Rattle.std.proofs.lemmas.Bool.{eqb-true}
-use Rattle.std.proofs.lemmas.Bool.Decides.{nat_tests}
-use Rattle.proof_scanner.proofs.Common.{act_of, awaits_past, before_past, begins_free_line, begins_separation, begins_white_space, begins_with, begins_with_space_or_break, context_of, dash, double_quoted, entries_past, flow_entry, flow_mapping_end, flow_mapping_start, flow_sequence_end, flow_sequence_start, free, further_lines_stand, gives_colon, gives_dash, gives_node, gives_question, has_no_nul, has_tab_before_piece, is_adjacent, is_at_gap, is_blank_or_end, is_deep_enough, is_empty, is_in_column, is_indented_by_spaces, is_near, is_nul, is_renewed, is_separation, is_taken, is_taken_line, is_value_here, is_value_indicator, IsQuoted, kind_at, least_for, LikeEntries, LikeLine, line_past_separation, mapping_opening, may_precede, may_stand, past_inside, past_outside, past_piece, Position, previous_by, question, quoted_may_end, quoted_scalar, scalar, separations, sequence_opening, single_quoted, Site, site_at_place, site_in, site_past, taken, Tok, Whole}
-use Rattle.defs_text.specs.Classes.{is_blank, is_break, is_flow}
+use Rattle.proof_scanner.proofs.Common.{[], Account, account_past, act_of, ap, arith, awaits_past, before_by, before_past, begins_free_line, begins_separation, begins_white_space, begins_with, begins_with_space_or_break, Bool, colon, comma, context_of, dash, double_quoted, entries_past, Entry, eqb-true, false, flow_entry, flow_mapping_end, flow_mapping_start, flow_sequence_end, flow_sequence_start, free, further_lines_stand, gives_colon, gives_dash, gives_node, gives_question, GoesOn, has_tab_before_piece, if◌then◌else◌, inl, inr, is_adjacent, is_at_gap, is_blank, is_blank_or_end, is_break, is_deep_enough, is_empty, is_flow, is_flow_indicator, is_in_column, is_in_flow, is_indented_by_spaces, is_near, is_nul, is_renewed, is_separation, is_taken, is_taken_line, is_value_here, is_value_indicator, IsQuoted, Kind, kind_at, least_for, level_of, LikeEntries, LikeHad, LikeLine, Line, line_past, line_past_separation, List, map, mapping_closing, mapping_opening, may_precede, may_stand, nat_tests, None, not, on_one_line, opened, Option, Outside, past_inside, past_outside, past_piece, Position, previous_by, question, quoted_may_end, quoted_scalar, refl, same_flow, scalar, sequence_closing, sequence_opening, single_quoted, Site, site_at, site_at_place, site_in, site_past, Some, Step, subst, sym, taken, takes_pair, Tok, true, waits, Whole, ℕ, ◌&&◌, ◌++◌, ◌<◌, ◌==◌, ◌||◌, ◌∙◌, ◌∷◌, ◌≡◌, ◌⊎◌}
 use Rattle.defs_token.specs.Account as pieces
-use Rattle.defs_token.specs.Step.{Step}
-use Rattle.defs_token.specs.Column.{opened}
 use Rattle.defs_token.specs.FlowEntry as entry
-use Rattle.defs_token.specs.FlowEntry.{Entry, takes_pair}
-use Rattle.defs_token.specs.Key.{Line, waits, line_past}
-use Rattle.defs_token.specs.RowAccount.{Account, before_by, is_in_flow, level_of, on_one_line}
-use Rattle.proof_row.specs.Ends.{Kind, colon, sequence_closing, mapping_closing, comma}
-use Rattle.proof_row.proofs.Texts.{no_nul_after}
 use Rattle.proof_lexers.specs.PlainEnds.{has_break}
-use Rattle.proof_row.proofs.Accounts.{same_flow}
-use Rattle.proof_row.proofs.Like.{LikeHad}
 use Rattle.proof_row.proofs.Written.{At}
-use Rattle.proof_scanner.proofs.Complete.Nodes.Past.{node_site_past}
-use Rattle.proof_scanner.proofs.Complete.Steps.{ends_before, step_here}
-use Rattle.proof_scanner.specs.NoPiece.{GoesOn, is_flow_indicator}
+use Rattle.proof_scanner.proofs.Known.Made.{same_of, waited, Made, outside, inside, made}
+use Rattle.proof_scanner.proofs.Sound.Sides.{with_entries}
 use Rattle.proof_scanner.proofs.Refusals.OtherRows.{StepAt, IsClearAfter}
 use Rattle.proof_scanner.proofs.Refusals.PiecesHere.{acct, whole_by, rest_of}
 use Rattle.proof_scanner.proofs.Refusals.PiecesRefused.{refused, and_last, same_step, no_step, not_nothing}
+
+-- ---- the site after a part of a node
+
+-- it ends no block collection and begins none
+node_blocks : (must : Bool) (here : Position) (bs : List ℕ) (key : Bool) (l : Line) (x : Outside) → line_past must here bs gives_node key l ≡ Some x → x.blocks ≡ bs
+node_blocks must here bs true free x h = ap (λ y. y.blocks) (sym (same_of _ x h))
+node_blocks true here bs false free x h = absurd (cc h)
+node_blocks false here bs false free x h = ap (λ y. y.blocks) (sym (same_of _ x h))
+node_blocks must here bs true taken x h = absurd (cc h)
+node_blocks must here bs false taken x h = ap (λ y. y.blocks) (sym (same_of _ x h))
+node_blocks must here bs true (waits p) x h = absurd (cc h)
+node_blocks must here bs false (waits p) x h = ap (λ y. y.blocks) (sym (same_of _ x h))
+
+made_site : (s : Site) (l : Line) (es : List Entry) (w : Step) (next : List ℕ) (b : Account) → act_of w.shown ≡ gives_node → Made s l es w next b → b.site ≡ site_past (is_in_flow es) (At (with_entries s l es) w next) w.piece w.shown next (At (with_entries s l es) w next).blocks
+made_site s l [] w next b act (outside m o none sep past line site one) =
+    let at : Site = site_at false s w.separation w.piece w.shown next in
+    let must : Bool = is_in_column at.position.col at.blocks in
+    site ∙ ap (λ bs. site_past false at w.piece w.shown next bs) (node_blocks must at.position at.blocks w.key m o (subst (λ k. line_past must at.position at.blocks k w.key m ≡ Some o) act past))
+made_site s l [] w next b act (inside some sep site one) = absurd (cc some)
+made_site s l (d ∷ ds) w next b act (outside m o none sep past line site one) = absurd (cc none)
+made_site s l (d ∷ ds) w next b act (inside some sep site one) = site
+
+pub node_site_past : (a : Account) (w : Step) (next : List ℕ) (b : Account) → act_of w.shown ≡ gives_node → account_past a w next ≡ Some b → b.site ≡ site_past (is_in_flow a.entries) (At a w next) w.piece w.shown next (At a w next).blocks
+node_site_past a w next b act e = made_site a.site a.line a.entries w next b act (made a.site a.line a.entries w next b e)
 
 -- ---- lines and accounts
 
@@ -88,13 +98,6 @@ none_ends x piece t next again is_key (Some (waits q)) is h none = ap (λ k. pas
     colon_key : (k : Bool) → line_past (is_in_column x.position.col x.blocks) x.position x.blocks gives_colon k (waits q) ≡ None
     colon_key true = refl
     colon_key false = ap (λ b. if b then Some (record { line = taken; blocks = opened q.col x.blocks }) else None) (far (is_near q x.position) refl)
-
--- a key that waits after a separation waited before it, and no line ends there
-still_waits : (b : Bool) (l : Line) (q : Position) → line_past_separation false b l ≡ Some (waits q) → (l ≡ waits q) × (b ≡ false)
-still_waits false l q e = (cc e, refl)
-still_waits true free q e = absurd (cc e)
-still_waits true taken q e = absurd (cc e)
-still_waits true (waits p) q e = absurd (cc e)
 
 none_out : (es : List Entry) → is_in_flow es ≡ false → es ≡ []
 none_out [] h = refl
@@ -320,8 +323,8 @@ module _ (a : Account) (separation rest : List ℕ) (here : Position) (s : StepA
       gone (may_stand (is_in_flow s.account.entries) s.account.site there s.step.separation s.step.piece s.step.shown next) s.step.piece _ s.past
       (ap (λ es. past_piece there s.step.piece s.step.shown next (is_renewed s.account.site.before s.step.separation) s.step.key (line_past_separation (is_in_flow es) (begins_free_line s.account.site.before s.step.separation) s.account.line) es) (no_entries out) ∙
       none_ends there s.step.piece s.step.shown next (is_renewed s.account.site.before s.step.separation) s.step.key _ (ap act_of w.2) (taken_there line) (λ q i near.
-      let waited = still_waits (begins_free_line s.account.site.before s.step.separation) s.account.line q i in
-      none q waited.0 (subst (λ f. begins_free_line s.account.site.before f ≡ false) s.separation_is waited.1) (subst (λ p. is_near q p ≡ true) s.position_is near))) s.is_past
+      let was = waited false (begins_free_line s.account.site.before s.step.separation) s.account.line (waits q) q i refl in
+      none q was.0 (subst (λ f. begins_free_line s.account.site.before f ≡ false) s.separation_is was.1) (subst (λ p. is_near q p ≡ true) s.position_is near))) s.is_past
 
   -- no TAB indents the line of the row's piece
   pub spaces_indent : is_indented_by_spaces s.account.site.before s.account.site.blocks s.account.site.awaits separation ≡ true

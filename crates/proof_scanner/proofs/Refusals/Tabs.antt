@@ -1,16 +1,8 @@
 -- A TAB that indents a line: where the way to the next token is refused, the line of what comes next is not indented by spaces.
-use Rattle.std.proofs.Common.{◌≡◌, ℕ, zero, suc, ◌+◌, ◌≤◌, ◌<◌, List, [], ◌∷◌, ◌++◌, Bool, true, false, not, ◌&&◌, ◌||◌, ◌==◌, inl, inr, nat_lt, if◌then◌else◌, length, Result, Ok, Err, refl, ap, sym, ◌∙◌, subst, append_assoc, arith}
-use Rattle.std.proofs.lemmas.Bool.{and_parts, eqb-true}
-use Rattle.std.proofs.lemmas.Bool.Decides.{nat_tests}
-use Rattle.proof_scanner.proofs.Common.{begins_line, begins_separation, begins_token, comment, Fault, follows_plain, has_tab_within, Held, is_before_indent, is_blanks, is_cr_lf, is_empty, is_indented_by_spaces, is_separation, least_column, moved, no_hash, PassesAs, Position, position_after, Previous, same_blank, same_break, ScannerState, separations_are_passed, skip, skip_to_next_token, tab_line}
+use Rattle.proof_scanner.proofs.Common.{[], and_parts, ap, append_assoc, arith, At, begins_line, begins_separation, begins_token, between, Bool, comment, eqb-true, Err, false, Fault, fills_blank, follows_plain, Gap, has_tab_within, Held, if◌then◌else◌, inl, inr, is_before_indent, is_blanks, is_cr_lf, is_empty, is_indented_by_spaces, is_separation, last_line, least_column, length, List, moved, nat_lt, nat_tests, no_hash, not, Ok, passes, PassesAs, past_line, Position, position_after, Previous, refl, refuses, Result, same_blank, same_break, ScannerState, separations_are_passed, skip, skip_to_next_token, subst, suc, sym, tab_line, true, zero, ℕ, ◌&&◌, ◌++◌, ◌+◌, ◌<◌, ◌==◌, ◌||◌, ◌∙◌, ◌∷◌, ◌≡◌, ◌≤◌}
 use Rattle.yaml_chars.specs.Class.{is_break, is_blank}
-use Rattle.yaml_tokens.specs.declared.problem.Fault.TheVariants.{At}
 use Rattle.yaml_tokens.specs.declared.problem.Problem.TheVariants as problem
 use Rattle.defs_text.specs.Classes as classes
-use Rattle.defs_token.specs.Indentation.{last_line}
-use Rattle.model_scanner.specs.Space.{Gap, between, past_line}
-use Rattle.proof_lexers.specs.Separations.{passes, refuses}
-use Rattle.proof_lexers.proofs.Separation.Separations.{fills_blank}
 use Rattle.proof_scanner.proofs.Cut.Pieces.Separations.{separation_append}
 use Rattle.proof_scanner.proofs.Cut.Positions.{index_after}
 use Rattle.proof_scanner.proofs.Sound.LastLines.{last_more}
@@ -78,9 +70,6 @@ module _ (before : Previous) (least : ℕ) where
     tabbed = subst (λ y. IsTabbed y) (append_assoc g (c ∷ []) x.passed) x.tabbed;
   })
   one_more g a c s u r next goes = goes
-
-  next_index : (s : Held) → (moved s).position.index ≡ suc s.position.index
-  next_index s = omega arith
 
   broken : (m : Gap) (g a : List ℕ) (c : ℕ) (s : Held) → is_break c ≡ true → IsLeast before least s → Tells a → Faults (TabbedAt g (c ∷ a) s) (skip m (c ∷ a) s)
   unfolding skip

@@ -1,10 +1,5 @@
 -- The blanks after a colon: TABs alone, where a letter stands after blanks and a comment without a space among the blanks.
-use Rattle.std.proofs.Common.{◌≡◌, ℕ, List, [], ◌∷◌, ◌++◌, Bool, true, false, not, ◌==◌, ◌||◌, if◌then◌else◌, append-nil, refl, ap, ◌∙◌, arith}
-use Rattle.std.proofs.lemmas.Bool.Decides.{nat_tests}
-use Rattle.proof_scanner.proofs.Common.{begins_with_alpha, has, is_decimal_digit, is_letter, is_on_line, is_one_of, leading, past_comment}
-use Rattle.defs_text.specs.Classes.{is_break, is_alpha}
-use Rattle.defs_text.specs.Tags.{after}
-use Rattle.defs_token.specs.Step.{comment_of}
+use Rattle.proof_scanner.proofs.Common.{[], after, ap, append-nil, arith, begins_with_alpha, Bool, comment_of, false, has, if◌then◌else◌, is_alpha, is_break, is_decimal_digit, is_letter, is_on_line, is_one_of, leading, List, nat_tests, not, past_comment, refl, true, ℕ, ◌++◌, ◌==◌, ◌||◌, ◌∙◌, ◌∷◌, ◌≡◌}
 
 -- a line ends with no letter
 line_end : (l : List ℕ) → begins_with_alpha (after is_on_line l) ≡ false

@@ -1,21 +1,15 @@
 -- A TAB after a quoted scalar, on a later line, which would indent the next piece.
-use Rattle.std.proofs.Common.{◌≡◌, ℕ, List, [], ◌++◌, Bool, true, false, append_assoc, Result, Ok, refl, ap, sym, ◌∙◌, subst, inr}
-use Rattle.proof_scanner.proofs.Common.{Arrives, begins_with, check_after_quoted, closed_first, Fault, has_no_nul, has_open_level, held_of, in_flow, is_empty, is_indented_by_spaces, is_separation, IsQuoted, IsStuck, least_column, may_not_stand, Position, position_after, position_append, quoted_scalar, ScannerState, site_at_place, skip_to_next_token}
-use Rattle.defs_token.specs.Step.{has_break}
+use Rattle.proof_scanner.proofs.Common.{[], ap, append_assoc, Arrives, begins_with, between, Bool, check_after_quoted, closed_first, columns, Context, false, Fault, has_break, has_no_nul, has_open_level, held_of, in_flow, inr, is_empty, is_indented_by_spaces, is_separation, IsQuoted, IsStuck, least_column, List, may_not_stand, Ok, Position, position_after, position_append, quoted_scalar, Read, refl, Result, ScannerState, site_at_place, skip_to_next_token, subst, sym, true, ℕ, ◌++◌, ◌∙◌, ◌≡◌}
 use Rattle.yaml_tokens.specs.declared.problem.Problem.TheVariants as problem
-use Rattle.model_scanner.specs.declared.context.Context.{Context}
-use Rattle.model_scanner.specs.Machine.{Read}
-use Rattle.model_scanner.specs.Space.{between}
 use Rattle.proof_scanner.proofs.Cut.Pieces.Separations.{separation_append}
 use Rattle.proof_scanner.proofs.Cut.Saved.{saved_is}
-use Rattle.proof_scanner.specs.StandsInRow.{columns}
 use Rattle.proof_scanner.proofs.Sound.Arrivals.{clean_after}
 use Rattle.proof_scanner.proofs.Sound.Passed.{least_is, same_has_break}
 use Rattle.proof_scanner.proofs.Sound.QuotedEnds.{Checked, quoted_checked}
 use Rattle.proof_scanner.proofs.Sound.QuotedKeeps.{QuotedAs, in_line}
 use Rattle.proof_scanner.proofs.Sound.Skips.{IsLeast, IsIn}
 use Rattle.proof_scanner.specs.Failing as defs
-use Rattle.proof_scanner.proofs.Complete.Scalars.AfterQuoted.{unglued}
+use Rattle.proof_scanner.proofs.Refusals.AfterQuoted.{unglued}
 use Rattle.proof_scanner.proofs.Refusals.Faults.{Faults, fault, goes}
 use Rattle.proof_scanner.proofs.Refusals.Places.{Told, LiesDeep, account_by, stuck, blocks_by, awaits_by, least_by, looked_at}
 use Rattle.proof_scanner.proofs.Refusals.Quotes.{closed, piece, is, fits}

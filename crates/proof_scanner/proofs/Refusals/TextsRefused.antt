@@ -1,30 +1,15 @@
 -- Where a tag, a directive or a block scalar's header is none, no row of the text goes on.
-use Rattle.std.proofs.Common.{◌≡◌, ℕ, zero, suc, ◌⊎◌, inl, inr, List, [], ◌∷◌, ◌++◌, Bool, true, false, not, ◌==◌, ◌&&◌, ◌||◌, if◌then◌else◌, Option, Some, None, Ok, Err, slice_index, length, refl, ap, sym, ◌∙◌, subst, append-nil}
-use Rattle.std.proofs.lemmas.Bool.{and_parts, eqb-true}
-use Rattle.proof_scanner.proofs.Common.{all_of, are_marks, AreNotIndented, begins_flow, begins_with, begins_with_mark, block_may_end, block_read, block_value, BlockRead, BlockStyle, body, column_of, context_of, decoded, directive_begins, directive_line, directive_of, double_quoted, further, further_text, has_no_break, has_no_nul, HasNoQuoted, header_of, in_double_quotes, in_single_quotes, indicator_of, innermost, is_adjacent, is_at_end, is_at_gap, is_at_line_end, is_blank_or_end, is_decimal_digit, is_empty, is_letter, is_nul, is_past, is_uri, IsTagRefusal, kind_at, leading, least_column, lines_may_end, may_follow, may_precede, Position, Problem, put_first, read_body, read_lines, read_may_end, scalar, single_quoted, site_at_place, split, tag_text, tags_are_read, Whole, with_value, written_tag}
-use Rattle.defs_text.specs.Classes.{is_blank, is_break, is_flow, is_alpha, is_tag}
-use Rattle.defs_text.specs.BlockScalar.{literal, folded, Header, Body, Ending, all_lines, starts_with_tab, is_further_text}
+use Rattle.proof_scanner.proofs.Common.{[], Account, after, all_lines, all_of, alpha_starts, and_parts, ap, append-nil, are_marks, AreNotIndented, At, begins_flow, begins_with, begins_with_mark, block_may_end, block_read, block_token, block_value, BlockRead, BlockStyle, Body, body, Bool, column_of, context_of, decoded, decoded_some, directive_begins, directive_line, directive_of, double_quoted, Ending, eqb-true, Err, false, first_line, folded, further, further_text, has_header, has_no_break, has_no_nul, HasNoQuoted, Header, header_of, if◌then◌else◌, in_double_quotes, in_single_quotes, indicator_of, inl, innermost, inr, is_adjacent, is_alpha, is_at_end, is_at_gap, is_at_line_end, is_blank, is_blank_or_end, is_break, is_decimal_digit, is_empty, is_flow, is_further_text, is_in_flow, is_in_line, is_letter, is_nul, is_past, is_tag, is_uri, IsTagRefusal, Kind, kind_at, leading, leading_all, least_column, length, line_is, line_more, lines_after, lines_may_end, List, literal, local_goes_on, local_octets, may_follow, may_precede, More, no_lines, no_nul_after, no_suffix, None, not, of_lines, Ok, Option, past, Position, Problem, put_first, read_body, read_lines, read_may_end, refl, same_end, scalar, single_quoted, site_at_place, slice_index, Some, split, split_append, splits, starts_with_tab, subst, suc, suffix_goes_on, suffix_octets, sym, tag_text, tags_are_read, true, unclosed, up_to_break, verbatim_goes_on, verbatim_octets, Whole, with_value, word, written_tag, zero, ℕ, ◌&&◌, ◌++◌, ◌==◌, ◌||◌, ◌∙◌, ◌∷◌, ◌≡◌, ◌⊎◌}
 use Rattle.defs_text.specs.BlockScalar as block
 use Rattle.defs_text.specs.BlockScalar.{unbroken as unbroken_line}
-use Rattle.defs_text.specs.Tags.{after}
 use Rattle.defs_token.specs.Account as pieces
-use Rattle.defs_token.specs.RowAccount.{Account, is_in_flow}
-use Rattle.yaml_tokens.specs.declared.problem.Fault.TheVariants.{At}
 use Rattle.yaml_tokens.specs.declared.problem.Problem.TheVariants as problem
-use Rattle.model_scanner.specs.Machine.{past}
 use Rattle.model_scanner.specs.Tag as tags
 use Rattle.model_scanner.specs.Tag.{verbatim_end, verbatim, named, shorthand, tag_end, tag}
-use Rattle.proof_row.specs.Ends.{Kind, block_scalar}
-use Rattle.proof_row.proofs.Begins.{block_token}
-use Rattle.proof_row.proofs.Blocks.{has_header}
-use Rattle.proof_row.proofs.Lines.{of_lines, lines_after, split_append, up_to_break, first_line, line_is, line_more, no_lines}
-use Rattle.proof_row.proofs.Splits.{More, splits}
+use Rattle.proof_row.specs.Ends.{block_scalar}
 use Rattle.proof_row.proofs.TagEnds.{mark_is_first}
-use Rattle.proof_row.proofs.Texts.{no_nul_after}
 use Rattle.proof_lexers.specs.DirectiveEnds as directives
-use Rattle.proof_lexers.specs.HeaderEnds.{is_in_line, ends_line}
-use Rattle.proof_lexers.specs.TagEnds.{verbatim_octets, unclosed, verbatim_goes_on, suffix_octets, no_suffix, suffix_goes_on, local_octets, local_goes_on}
-use Rattle.proof_lexers.proofs.Properties.Tags.{word, leading_all, same_end, alpha_starts, decoded_some}
+use Rattle.proof_lexers.specs.HeaderEnds.{ends_line}
 use Rattle.proof_lexers.proofs.Properties.Uris.{uris_are_read}
 use Rattle.proof_row.proofs.Written as written
 use Rattle.proof_scanner.specs.NoPiece.{quote_of}

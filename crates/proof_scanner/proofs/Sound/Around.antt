@@ -1,9 +1,6 @@
 -- A piece in flow, and the open key outside flow: while that is live, no break stands before the piece or in it.
-use Rattle.std.proofs.Common.{◌≡◌, ℕ, ◌≤◌, List, ◌∷◌, Bool, true, false, ◌&&◌, Option, Some, None, refl, ap, sym, ◌∙◌, subst, arith, append-nil}
-use Rattle.proof_scanner.proofs.Common.{begins_free_line, FlowLevel, is_empty, is_waiting, IsLive, IsOpenHere, IsOpenOutside, Key, line_by, line_past_separation, MayChoose, NotBefore, outside_key, Position, ScannerState, taken}
-use Rattle.defs_token.specs.Step.{has_break}
-use Rattle.defs_token.specs.FlowEntry.{Entry}
-use Rattle.proof_scanner.proofs.Cut.Positions.{not_before_after, not_before_then}
+use Rattle.proof_scanner.proofs.Common.{After, ap, append-nil, arith, begins_free_line, Bool, Entry, false, FlowLevel, has_break, is_empty, is_waiting, IsLive, IsOpenHere, IsOpenOutside, Key, line_by, line_past_separation, List, MayChoose, None, NotBefore, Option, outside_key, Position, refl, ScannerState, Some, subst, sym, taken, true, ℕ, ◌&&◌, ◌∙◌, ◌∷◌, ◌≡◌, ◌≤◌}
+use Rattle.proof_scanner.proofs.Cut.Positions.{not_before_after, not_before_then, after_then, weaker}
 use Rattle.proof_scanner.proofs.Sound.NodeSteps.{separated}
 use Rattle.proof_scanner.proofs.Sound.StepsOutside.{no_waiting}
 use Rattle.proof_scanner.proofs.Sound.Sides.{ArrivesBy}
@@ -23,19 +20,19 @@ module _ (text : List ℕ) (t : ScannerState) (f : FlowLevel) (fs : List FlowLev
   last_before : NotBefore a.site.position t.held.position
   last_before = subst (λ x. NotBefore a.site.position x) (sym a.position_is) (not_before_after a.site.position a.separation t.rest)
 
-  around_of : (x : Key) → outside_key es ks ≡ Some x → NotBefore x.position a.site.position × (IsLive x t.held.position t.rest → IsOpenHere x t.held.position a.site.blocks)
+  around_of : (x : Key) → outside_key es ks ≡ Some x → After x.position a.site.position × (IsLive x t.held.position t.rest → IsOpenHere x t.held.position a.site.blocks)
   around_of x i = subst (λ y. IsOpenOutside y a.site.position t.held.position t.rest a.site.blocks) i a.is_open
 
   around_before : (x : Key) → outside_key es ks ≡ Some x → NotBefore x.position t.held.position
-  around_before x i = not_before_then x.position a.site.position t.held.position (around_of x i).0 last_before
+  around_before x i = not_before_then x.position a.site.position t.held.position (weaker x.position a.site.position (around_of x i).0) last_before
 
   -- to a later position, where other text is left
   module _ (some : is_empty t.rest ≡ false) (end : Position) (rest : List ℕ) (later : NotBefore t.held.position end) where
     live_inside : (x : Key) → IsLive x end rest → IsLive x t.held.position t.rest
     live_inside x l = live_before x t.held.position end t.rest rest later some l
 
-    pub unbroken_around : (c : Bool) → MayChoose c (outside_key es ks) end rest → line_past_separation true (begins_free_line a.site.before a.separation) (line_by c (outside_key es ks) a.line) ≡ Some (line_by c (outside_key es ks) a.line)
-    unbroken_around c may = by c (outside_key es ks) refl may
+    pub unbroken_around : (strict c : Bool) → MayChoose strict c (outside_key es ks) end rest → line_past_separation true (begins_free_line a.site.before a.separation) (line_by c (outside_key es ks) a.line) ≡ Some (line_by c (outside_key es ks) a.line)
+    unbroken_around strict c may = by strict c (outside_key es ks) refl may
       where
         none : (x : Key) → outside_key es ks ≡ Some x → IsLive x end rest → begins_free_line a.site.before a.separation ≡ false
         none x i l =
@@ -43,26 +40,30 @@ module _ (text : List ℕ) (t : ScannerState) (f : FlowLevel) (fs : List FlowLev
             let line = ap (λ p. p.line) a.position_is in
             not_free a.site.before a.separation (unbroken a.site.position a.separation t.rest some a.is_solid (omega (arith, (around_of x i).0.0, live.0, line)))
 
-        by : (c : Bool) (y : Option Key) → outside_key es ks ≡ y → MayChoose c y end rest → line_past_separation true (begins_free_line a.site.before a.separation) (line_by c y a.line) ≡ Some (line_by c y a.line)
-        by c None i may = line_through
-        by false (Some x) i may = line_through
-        by true (Some x) i may = separated true (begins_free_line a.site.before a.separation) true (Some x) a.line a.line (λ _. none x i may) line_through a.no_key
+        by : (strict c : Bool) (y : Option Key) → outside_key es ks ≡ y → MayChoose strict c y end rest → line_past_separation true (begins_free_line a.site.before a.separation) (line_by c y a.line) ≡ Some (line_by c y a.line)
+        by strict c None i may = line_through
+        by strict false (Some x) i may = line_through
+        by false true (Some x) i may = absurd may
+        by true true (Some x) i may = separated true (begins_free_line a.site.before a.separation) true (Some x) a.line a.line (λ _. none x i may) line_through a.no_key
 
-    pub one_around : (piece : List ℕ) → (is_empty rest ≡ false → end.line ≤ t.held.position.line → has_break piece ≡ false) → (c : Bool) → MayChoose c (outside_key es ks) end rest → (has_break piece && is_waiting (line_by c (outside_key es ks) a.line)) ≡ false
-    one_around piece one c may = by c (outside_key es ks) refl may
+    pub one_around : (piece : List ℕ) → (is_empty rest ≡ false → end.line ≤ t.held.position.line → has_break piece ≡ false) → (strict c : Bool) → MayChoose strict c (outside_key es ks) end rest → (has_break piece && is_waiting (line_by c (outside_key es ks) a.line)) ≡ false
+    one_around piece one strict c may = by strict c (outside_key es ks) refl may
       where
-        by : (c : Bool) (y : Option Key) → outside_key es ks ≡ y → MayChoose c y end rest → (has_break piece && is_waiting (line_by c y a.line)) ≡ false
-        by c None i may = no_waiting (has_break piece) (is_waiting a.line) a.no_key
-        by false (Some x) i may = no_waiting (has_break piece) (is_waiting a.line) a.no_key
-        by true (Some x) i may = ap (λ b. b && true) (one may.1 (omega (arith, (around_before x i).0, may.0)))
+        by : (strict c : Bool) (y : Option Key) → outside_key es ks ≡ y → MayChoose strict c y end rest → (has_break piece && is_waiting (line_by c y a.line)) ≡ false
+        by strict c None i may = no_waiting (has_break piece) (is_waiting a.line) a.no_key
+        by strict false (Some x) i may = no_waiting (has_break piece) (is_waiting a.line) a.no_key
+        by false true (Some x) i may = absurd may
+        by true true (Some x) i may = ap (λ b. b && true) (one may.1 (omega (arith, (around_before x i).0, may.0)))
 
-    pub may_around : (c : Bool) → MayChoose c (outside_key es ks) end rest → MayChoose c (outside_key es ks) t.held.position t.rest
-    may_around c may = by c (outside_key es ks) may
+    pub may_around : (strict c : Bool) → MayChoose strict c (outside_key es ks) end rest → MayChoose strict c (outside_key es ks) t.held.position t.rest
+    may_around strict c may = by strict c (outside_key es ks) may
       where
-        by : (c : Bool) (y : Option Key) → MayChoose c y end rest → MayChoose c y t.held.position t.rest
-        by c None may = tt
-        by true (Some x) may = live_inside x may
-        by false (Some x) may = may
+        by : (strict c : Bool) (y : Option Key) → MayChoose strict c y end rest → MayChoose strict c y t.held.position t.rest
+        by strict c None may = tt
+        by true true (Some x) may = live_inside x may
+        by true false (Some x) may = may
+        by false true (Some x) may = absurd may
+        by false false (Some x) may = tt
 
     pub open_around : (q : Position) → NotBefore t.held.position q → IsOpenOutside (outside_key es ks) q end rest a.site.blocks
     open_around q after = by (outside_key es ks) refl
@@ -70,6 +71,6 @@ module _ (text : List ℕ) (t : ScannerState) (f : FlowLevel) (fs : List FlowLev
         by : (y : Option Key) → outside_key es ks ≡ y → IsOpenOutside y q end rest a.site.blocks
         by None i = tt
         by (Some x) i = (
-          not_before_then x.position t.held.position q (around_before x i) after,
+          after_then x.position a.site.position q (around_of x i).0 (not_before_then a.site.position t.held.position q last_before after),
           λ l. let here : IsOpenHere x t.held.position a.site.blocks = (around_of x i).1 (live_inside x l) in record { column_is = here.column_is; must_be = here.must_be },
         )

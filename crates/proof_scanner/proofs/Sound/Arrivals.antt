@@ -1,16 +1,7 @@
 -- Facts where a piece begins: lines and positions, the open key outside flow, and levels of indentation.
-use Rattle.std.proofs.Common.{◌≡◌, ℕ, suc, ◌+◌, ◌-◌, ◌≤◌, List, [], ◌∷◌, ◌++◌, Bool, true, false, not, ◌&&◌, ◌||◌, ◌==◌, nat_le, nat_lt, if◌then◌else◌, drop, Option, Some, None, refl, ap, sym, ◌∙◌, subst, arith}
-use Rattle.std.proofs.lemmas.Bool.{and_parts}
-use Rattle.std.proofs.lemmas.Bool.Decides.{nat_tests}
-use Rattle.proof_scanner.proofs.Common.{another, AreCollections, AreNumbered, begins_free_line, begins_separation, BeginsButForKey, Completes, flow_collection, FlowLevel, free, has_no_break, has_no_nul, has_open_level, Held, in_flow, Indent, innermost, is_before_line_feed, is_empty, is_in_column, is_nul, is_waiting, IsLive, IsNotRight, IsTopLevel, Key, least_column, line_past_separation, MayChoose, must_be_key, not_ended, NotBefore, outside_key, Position, position_after, Previous, quoted_scalar, ScannerState, taken, tokens_up_to, top_needs_block_end}
-use Rattle.defs_text.specs.Classes.{is_break, is_blank}
-use Rattle.defs_token.specs.Step.{plain_scalar, block_scalar, directive, has_break}
-use Rattle.defs_token.specs.Key.{Line, waits}
-use Rattle.defs_token.specs.FlowEntry.{Entry}
+use Rattle.proof_scanner.proofs.Common.{[], and_parts, another, ap, AreCollections, AreLevels, AreNumbered, arith, begins_free_line, begins_separation, BeginsButForKey, block_scalar, Bool, chosen, columns, directive, drop, Entry, false, flow_collection, FlowLevel, free, has_break, has_no_break, has_no_nul, has_open_level, Held, if◌then◌else◌, in_flow, Indent, innermost, is_before_line_feed, is_blank, is_break, is_empty, is_in_column, is_nul, is_waiting, IsLive, IsNotRight, IsTopLevel, Key, least_column, Line, line_past_separation, List, MayChoose, must_be_key, nat_le, nat_lt, nat_tests, None, not, not_ended, NotBefore, Option, outside_key, plain_scalar, Position, position_after, Previous, quoted_scalar, refl, ScannerState, SoFar, Some, subst, suc, sym, taken, tokens_up_to, top_needs_block_end, true, waits, ℕ, ◌&&◌, ◌++◌, ◌+◌, ◌-◌, ◌==◌, ◌||◌, ◌∙◌, ◌∷◌, ◌≡◌, ◌≤◌}
 use Rattle.proof_scanner.proofs.Cut.Pieces.Inserted.{no_break_on_line}
 use Rattle.proof_scanner.proofs.Cut.Nodes.{IsDeep}
-use Rattle.proof_scanner.specs.Choices.{chosen}
-use Rattle.proof_scanner.specs.StandsInRow.{columns, AreLevels}
 use Rattle.proof_scanner.proofs.Sound.Sides.{with_entries, ArrivesBy}
 
 -- ---- texts
@@ -92,10 +83,6 @@ all_go_on col k (n ∷ ns) r h = rw (no_less col n (omega (arith, r, h))) refl
     no_less : (c m : ℕ) → m ≤ c → nat_lt c m ≡ false
     no_less c m h = grind (arith, nat_tests)
 
-above : (b : Bool) (i o : ℕ) (ds : List Indent) → IsTopLevel b i o ds → 1 ≤ i
-above true i o ds h = omega (arith, h)
-above false i o ds h = omega (arith, h.0)
-
 -- the innermost collection is not right of a column that is deep enough
 pub first_not_right : (col i : ℕ) (ds : List Indent) → AreLevels i ds → i ≤ col + 1 → IsNotRight (innermost (columns i ds)) col
 first_not_right col i [] l h = tt
@@ -171,11 +158,11 @@ numbered_around m (Some k) ks a = numbered_more k.number m ks (omega (arith, a.0
 
 -- the rows before a piece, with the text and the position there by other names
 pub completes_at : (text : List ℕ) (t : ScannerState) (fs : List FlowLevel) (ks : List (Option Key)) (es : List Entry) (a : ArrivesBy text t fs ks es) (r : List ℕ) (q : Position) → t.rest ≡ r → t.held.position ≡ q →
-    (c : Bool) (cs : List Bool) → MayChoose c (outside_key es ks) q r →
-    Completes text (a.separation ++ r) (chosen c cs ks (with_entries a.site a.line es)) (tokens_up_to (chosen c cs ks (with_entries a.site a.line es)) ks a.tokens)
-completes_at text t fs ks es a r q e f c cs may =
-    subst (λ x. Completes text (a.separation ++ x) (chosen c cs ks (with_entries a.site a.line es)) (tokens_up_to (chosen c cs ks (with_entries a.site a.line es)) ks a.tokens)) e
-    (a.completes c cs (subst (λ x. MayChoose c (outside_key es ks) x t.rest) (sym f) (subst (λ x. MayChoose c (outside_key es ks) q x) (sym e) may)))
+    (strict c : Bool) (cs : List Bool) → MayChoose strict c (outside_key es ks) q r →
+    SoFar strict text (a.separation ++ r) (chosen c cs ks (with_entries a.site a.line es)) (tokens_up_to (chosen c cs ks (with_entries a.site a.line es)) ks a.tokens)
+completes_at text t fs ks es a r q e f strict c cs may =
+    subst (λ x. SoFar strict text (a.separation ++ x) (chosen c cs ks (with_entries a.site a.line es)) (tokens_up_to (chosen c cs ks (with_entries a.site a.line es)) ks a.tokens)) e
+    (a.completes strict c cs (subst (λ x. MayChoose strict c (outside_key es ks) x t.rest) (sym f) (subst (λ x. MayChoose strict c (outside_key es ks) q x) (sym e) may)))
 
 -- the same where a row may begin but for the key outside flow
 pub carried_at : (text : List ℕ) (t : ScannerState) (fs : List FlowLevel) (ks : List (Option Key)) (es : List Entry) (a : ArrivesBy text t fs ks es) (r : List ℕ) → t.rest ≡ r → (k : Key) → outside_key es ks ≡ Some k → k.required ≡ true → is_empty es ≡ false → is_empty t.rest ≡ false →

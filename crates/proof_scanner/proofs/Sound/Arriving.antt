@@ -1,17 +1,7 @@
 -- From what holds between two fetches to what holds where the next piece begins, or at the text's end.
-use Rattle.std.proofs.Common.{◌≡◌, ℕ, ◌+◌, List, [], ◌∷◌, ◌++◌, Bool, true, false, not, ◌||◌, ◌==◌, ◌⊎◌, inl, inr, Option, Some, None, Result, refl, ap, sym, ◌∙◌, subst, append-nil, arith}
-use Rattle.proof_scanner.proofs.Common.{Arrives, before_past, begins_free_line, begins_separation, begins_token, both_hold, chained, ends_here, FaresAt, Fault, free, has_open_level, HasNoTabs, Held, is_adjacent, is_at_comment_or_end, is_empty, is_free, is_indented_by_spaces, is_renewed, IsLine, IsLineHere, IsNear, Key, Levels, line_past_separation, on_held, outside_key, Position, ScannerState, site_here, skip_to_next_token, stale, taken, try_held, unroll_indent, unrolled, ◌>>=◌}
-use Rattle.defs_text.specs.Classes.{is_break, is_blank}
-use Rattle.defs_token.specs.Key.{Line, waits}
-use Rattle.defs_token.specs.RowAccount.{Account, before_by}
-use Rattle.model_scanner.specs.Indents.{with_levels}
-use Rattle.model_scanner.proofs.Holds.{Holds, tried}
+use Rattle.proof_scanner.proofs.Common.{[], ap, append-nil, AreLevels, arith, Arrives, before_by, before_past, begins_free_line, begins_separation, begins_token, Bool, chained, columns, ends_here, false, Fault, free, has_open_level, HasNoTabs, Held, Holds, inl, inr, is_adjacent, is_at_comment_or_end, is_blank, is_break, is_empty, is_free, is_indented_by_spaces, is_renewed, IsLine, IsLineHere, IsNear, Key, Levels, Line, line_past_separation, List, None, not, on_held, Option, outside_key, Position, refl, Result, ScannerState, site_here, skip_to_next_token, Some, stale, Stands, subst, sym, taken, tried, true, try_held, unroll_indent, unrolled, waits, with_levels, ℕ, ◌++◌, ◌+◌, ◌==◌, ◌>>=◌, ◌||◌, ◌∙◌, ◌∷◌, ◌≡◌, ◌⊎◌}
 use Rattle.proof_scanner.proofs.Cut.Heres.{before_again}
-use Rattle.proof_scanner.proofs.Cut.Documents.{passed_stands as passed_cut}
-use Rattle.proof_scanner.proofs.Cut.Fetched.{stale_stands as stale_cut}
-use Rattle.proof_scanner.proofs.Cut.Passes.{to_token}
-use Rattle.proof_scanner.proofs.Cut.Unrolls.{unrolled_in_flow, unrolled_outside, unrolled_here}
-use Rattle.proof_scanner.specs.StandsInRow.{columns, AreLevels, Stands}
+use Rattle.proof_scanner.proofs.Cut.Unrolls.{unrolled_in_flow, unrolled_outside}
 use Rattle.proof_scanner.proofs.Sound.Ended.{Ended, levels_end}
 use Rattle.proof_scanner.proofs.Sound.Stales.{Nearer, no_entries, stale_stands}
 use Rattle.proof_scanner.proofs.Sound.ToToken.{passed_stands}
@@ -97,17 +87,11 @@ near_outside text v s near out =
 abbrev pub with_ends : ScannerState → Levels → ScannerState
 with_ends v u = record v { held = with_levels v.held u }
 
--- What holds there, with the account after the last piece and the separation in sight.
-pub record ArrivesAt (text : List ℕ) (base : Account) (separation : List ℕ) (t : ScannerState) : Type 0 where
-  pub arrives : Arrives text t
-  pub base_is : arrives.base ≡ base
-  pub separation_is : arrives.separation ≡ separation
-
 arrives_with : (text : List ℕ) (v : ScannerState) (s : Stands text v) → begins_separation v.rest ≡ false → HasNearKey v → (u : Levels) →
     (site_here (not (is_empty v.held.flow)) v.held.position s.base.site).blocks ≡ columns u.indent u.indents →
     (site_here (not (is_empty v.held.flow)) v.held.position s.base.site).awaits ≡ has_open_level u.indents → AreLevels u.indent u.indents →
-    u.tokens ≡ v.held.tokens ++ ends_here (not (is_empty v.held.flow)) v.held.position s.base.site.blocks → ArrivesAt text s.base s.separation (with_ends v u)
-arrives_with text v s solid near u blocks awaits levels tokens = record { arrives = ended; base_is = refl; separation_is = refl }
+    u.tokens ≡ v.held.tokens ++ ends_here (not (is_empty v.held.flow)) v.held.position s.base.site.blocks → Arrives text (with_ends v u)
+arrives_with text v s solid near u blocks awaits levels tokens = ended
   where
     fl : Bool
     fl = not (is_empty v.held.flow)
@@ -145,27 +129,28 @@ arrives_with text v s solid near u blocks awaits levels tokens = record { arrive
       started = s.started;
       going = s.going;
       carries = s.carries;
+      knows = s.knows;
       completes = s.completes;
     }
 
 -- The levels and tokens after the ends of block collections, and what holds then.
-pub record EndedAt (text : List ℕ) (v : ScannerState) (base : Account) (separation : List ℕ) : Type 0 where
-  pub levels : Levels
-  pub is_state : on_held (λ s. unroll_indent (s.position.col + 1) s) v ≡ with_ends v levels
-  pub at : ArrivesAt text base separation (with_ends v levels)
+record EndedAt (text : List ℕ) (v : ScannerState) : Type 0 where
+  levels : Levels
+  is_state : on_held (λ s. unroll_indent (s.position.col + 1) s) v ≡ with_ends v levels
+  arrives : Arrives text (with_ends v levels)
 
 -- Where the next piece begins the block collections that are deeper end.
-pub ended_at : (text : List ℕ) (v : ScannerState) → (s : Stands text v) → begins_separation v.rest ≡ false → HasNearKey v → EndedAt text v s.base s.separation
+ended_at : (text : List ℕ) (v : ScannerState) → (s : Stands text v) → begins_separation v.rest ≡ false → HasNearKey v → EndedAt text v
 ended_at text v s solid near = by (is_empty v.held.flow) refl
   where
     p : Position
     p = v.held.position
 
-    by : (out : Bool) → is_empty v.held.flow ≡ out → EndedAt text v s.base s.separation
+    by : (out : Bool) → is_empty v.held.flow ≡ out → EndedAt text v
     by false e = record {
       levels = record { indent = v.held.indent; indents = v.held.indents; tokens = v.held.tokens };
       is_state = ap (λ h. record v { held = h }) (unrolled_in_flow (p.col + 1) v.held e);
-      at = arrives_with text v s solid near (record { indent = v.held.indent; indents = v.held.indents; tokens = v.held.tokens })
+      arrives = arrives_with text v s solid near (record { indent = v.held.indent; indents = v.held.indents; tokens = v.held.tokens })
           (ap (λ b. (site_here (not b) p s.base.site).blocks) e ∙ s.blocks_are) (ap (λ b. (site_here (not b) p s.base.site).awaits) e ∙ s.awaits_is) s.are_levels
           (sym (append-nil v.held.tokens) ∙ ap (λ b. v.held.tokens ++ ends_here (not b) p s.base.site.blocks) (sym e));
     }
@@ -176,12 +161,12 @@ ended_at text v s solid near = by (is_empty v.held.flow) refl
         record {
           levels = u;
           is_state = ap (λ h. record v { held = h }) (unrolled_outside (p.col + 1) v.held e);
-          at = arrives_with text v s solid near u (ap (λ b. (site_here (not b) p s.base.site).blocks) e ∙ z.columns_are) (ap (λ b. (site_here (not b) p s.base.site).awaits) e ∙ z.open_is) z.are_levels
+          arrives = arrives_with text v s solid near u (ap (λ b. (site_here (not b) p s.base.site).blocks) e ∙ z.columns_are) (ap (λ b. (site_here (not b) p s.base.site).awaits) e ∙ z.open_is) z.are_levels
               (z.tokens_are ∙ ap (λ b. v.held.tokens ++ ends_here (not b) p s.base.site.blocks) (sym e));
         }
 
 pub arrives_now : (text : List ℕ) (v : ScannerState) → Stands text v → begins_separation v.rest ≡ false → HasNearKey v → Arrives text (on_held (λ s. unroll_indent (s.position.col + 1) s) v)
-arrives_now text v s solid near = let e : EndedAt text v s.base s.separation = ended_at text v s solid near in subst (λ u. Arrives text u) (sym e.is_state) e.at.arrives
+arrives_now text v s solid near = let e : EndedAt text v = ended_at text v s solid near in subst (λ u. Arrives text u) (sym e.is_state) e.arrives
 
 -- with stale keys dropped the open key outside flow is near
 pub near_key : (text : List ℕ) (u : ScannerState) (h : Held) → Nearer text u h → HasNearKey (record u { held = h })
@@ -193,11 +178,10 @@ near_key text u h n out =
 nearer_now : (text : List ℕ) (u : ScannerState) (h : Held) → Nearer text u h → begins_separation u.rest ≡ false → Arrives text (on_held (λ s. unroll_indent (s.position.col + 1) s) (record u { held = h }))
 nearer_now text u h n solid = arrives_now text (record u { held = h }) n.stands solid (near_key text u h n)
 
--- From one fetch to where the next piece begins, or to the text's end: the way to the next token, stale keys, and the ends of block collections. What is a cut of the text before is one there.
-pub arrived : (text : List ℕ) (t : ScannerState) (f : ScannerState → Result ScannerState Fault) (P : ScannerState → Type 0) → FaresAt text t → Stands text t → ((v : ScannerState) → FaresAt text v → Arrives text v → Holds P (f v)) →
+-- From one fetch to where the next piece begins, or to the text's end: the way to the next token, stale keys, and the ends of block collections.
+pub arrived : (text : List ℕ) (t : ScannerState) (f : ScannerState → Result ScannerState Fault) (P : ScannerState → Type 0) → Stands text t → ((v : ScannerState) → Arrives text v → Holds P (f v)) →
     Holds P (skip_to_next_token t >>= λ u. try_held stale u >>= λ v. f (on_held (λ s. unroll_indent (s.position.col + 1) s) v))
-arrived text t f P k s go =
-    chained (both_hold (passed_stands text t s) (to_token t)) (λ u a.
-    chained {P = λ v. FaresAt text v × Arrives text (on_held (λ s. unroll_indent (s.position.col + 1) s) v)}
-    (tried u (stale u.held) (both_hold (stale_stands text u a.0.0) (stale_cut text u (passed_cut text t u a.1.passed k))) (λ h n. (n.1.stands, nearer_now text u h n.0 a.0.1))) (λ v b.
-    go (on_held (λ s. unroll_indent (s.position.col + 1) s) v) (unrolled_here text v b.0).stands b.1))
+arrived text t f P s go =
+    chained (passed_stands text t s) (λ u a.
+    chained {P = λ v. Arrives text (on_held (λ s. unroll_indent (s.position.col + 1) s) v)}
+    (tried u (stale u.held) (stale_stands text u a.0) (λ h n. nearer_now text u h n a.1)) (λ v b. go (on_held (λ s. unroll_indent (s.position.col + 1) s) v) b))

@@ -1,11 +1,5 @@
 -- What a part of a node begins: an opening bracket the first entry of a collection, other pieces nothing.
-use Rattle.std.proofs.Common.{◌≡◌, ℕ, suc, List, [], ◌∷◌, ◌++◌, Bool, Option, Some, None, refl}
-use Rattle.proof_scanner.proofs.Common.{first_entry, FlowKind, gives_node, Key, pop, Position, Token}
-use Rattle.defs_token.specs.Step.{Step}
-use Rattle.defs_token.specs.Key.{Line}
-use Rattle.defs_token.specs.FlowEntry.{Entry}
-use Rattle.defs_token.specs.Tokens.{depth_past}
-use Rattle.proof_scanner.specs.Completes.{with_keys}
+use Rattle.proof_scanner.proofs.Common.{[], Bool, depth_past, Entry, first_entry, FlowKind, gives_node, Key, Line, List, None, Option, pop, Position, refl, Some, Step, suc, Token, with_keys, ℕ, ◌++◌, ◌∷◌, ◌≡◌}
 
 -- the entries after it, by the kind of the collection that it begins, if any
 abbrev pub with_begun : Option FlowKind → List Entry → List Entry

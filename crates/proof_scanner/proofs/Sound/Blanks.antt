@@ -1,18 +1,7 @@
 -- Blanks and a comment after a piece, within its line: what the model reads there is all of them, and it stands where they end.
-use Rattle.std.proofs.Common.{◌≡◌, ℕ, List, [], ◌∷◌, ◌++◌, Bool, true, false, not, ◌&&◌, ◌||◌, ◌==◌, if◌then◌else◌, Result, Ok, Err, refl, ap, sym, ◌∙◌, subst, append_assoc}
-use Rattle.std.proofs.lemmas.Bool.{eqb-true}
 use Rattle.std.proofs.lemmas.List.{append-nil}
-use Rattle.proof_scanner.proofs.Common.{begins_with, blanks_and_comment, Fault, has_no_break, in_line_position, is_on_line, is_one_of, is_separation, leading, lexed, No, or_true, past_blanks_and_comment, past_comment, past_line_rest, Position, position_after, position_append, position_in_line, same_break, ScannerState, skip_spaces, Whitespace, Yes}
-use Rattle.defs_text.specs.Classes.{is_blank, is_break}
-use Rattle.defs_text.specs.Tags.{after}
-use Rattle.defs_token.specs.Step.{comment_of}
-use Rattle.yaml_tokens.specs.declared.problem.Fault.TheVariants.{At}
+use Rattle.proof_scanner.proofs.Common.{[], after, after_spaces, ap, append_assoc, At, begins_with, blanks_and_comment, Bool, comment_after, comment_of, eqb-true, Err, false, Fault, has_no_break, Holds, if◌then◌else◌, in_line_position, is_blank, is_break, is_line, is_on_line, is_one_of, is_separation, leading, lexed, List, No, not, Ok, or_false, or_true, past, past_blanks_and_comment, past_comment, past_line_rest, Position, position_after, position_append, position_in_line, Read, refl, refused, Result, same_break, ScannerState, skip_spaces, skip_while, space, space_step, Spaces, spaces_end, span_cut, Stop, subst, sym, true, walk, went, Whitespace, with_found, Yes, ℕ, ◌&&◌, ◌++◌, ◌==◌, ◌||◌, ◌∙◌, ◌∷◌, ◌≡◌}
 use Rattle.yaml_tokens.specs.declared.problem.Problem.TheVariants as problem
-use Rattle.model_scanner.specs.Machine.{Stop, walk, Read, past, skip_while}
-use Rattle.model_scanner.specs.Blanks.{is_line, with_found, comment_after, Spaces, space_step, after_spaces, spaces_end, space}
-use Rattle.model_scanner.proofs.Holds.{Holds, went, refused}
-use Rattle.proof_lexers.proofs.Plain.Turns.{or_false}
-use Rattle.proof_lexers.proofs.Properties.Tags.{span_cut}
 
 -- ---- positions
 

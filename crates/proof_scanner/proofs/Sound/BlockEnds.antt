@@ -1,21 +1,12 @@
 -- What stands after a block scalar that the scanner reads: it stands clear of the scalar.
-use Rattle.std.proofs.Common.{◌≡◌, ℕ, suc, ◌+◌, ◌≤◌, List, [], ◌∷◌, ◌++◌, Bool, true, false, not, ◌&&◌, ◌||◌, ◌==◌, nat_lt, nat_le, slice_index, if◌then◌else◌, length, Option, Some, None, Result, Ok, Err, refl, ap, sym, ◌∙◌, arith}
-use Rattle.std.proofs.lemmas.Bool.{and_parts, eqb-true}
-use Rattle.std.proofs.lemmas.Bool.Decides.{nat_tests}
-use Rattle.proof_scanner.proofs.Common.{along, are_empty, AreLines, begins_with, Block, block, block_may_end, block_read, BlockEndsAs, BlockRead, BlockStyle, collection_of, Fault, further_position, has_no_nul, indicator_of, innermost, is_at_end, is_empty, is_literal_style, is_tabbed, leading_spaces, least_column, lines_may_end, past_spaces, Position, position_after, position_past, read_block, read_lines, read_may_end, spell, split, split_spell, tab, texts}
+use Rattle.proof_scanner.proofs.Common.{[], after_break, after_line, after_lines, after_spell, along, and_parts, ap, are_empty, AreLines, arith, bad_header, begins_with, Block, block, block_may_end, block_read, BlockEndsAs, BlockRead, BlockStyle, Bool, both, Break, carriage, collection_of, eqb-true, Err, false, Fault, feed, first_content, first_empty, first_header, Fits, further_position, has_no_nul, if◌then◌else◌, indicator_of, innermost, is_at_end, is_empty, is_empty_line, is_literal_style, is_none, is_shallow, is_single, is_spaces, is_tabbed, leading_spaces, least_column, length, Lined, lined, lines_may_end, List, nat_le, nat_lt, nat_tests, None, not, Ok, Option, past_spaces, Position, position_after, position_past, Read, read_block, read_lines, read_may_end, refl, Result, slice_index, Some, space_past, spell, split, split_spell, suc, sym, tab, tabbed, texts, true, ℕ, ◌&&◌, ◌++◌, ◌+◌, ◌==◌, ◌||◌, ◌∙◌, ◌∷◌, ◌≡◌, ◌≤◌}
 use Rattle.defs_text.specs.Classes.{space}
-use Rattle.defs_text.specs.BlockScalar.{is_spaces, is_empty_line}
-use Rattle.defs_token.specs.BlockPiece.{first_content}
-use Rattle.model_scanner.specs.Machine.{Read}
-use Rattle.proof_lexers.specs.BlockScan.{is_none, is_single, is_shallow, read, shallow, tabbed}
-use Rattle.proof_lexers.specs.BlockEnds.{bad_header}
+use Rattle.proof_lexers.specs.BlockScan.{read, shallow}
 use Rattle.proof_lexers.specs.BlockEnds as ends
 use Rattle.proof_lexers.proofs.Blocks.Ends.{scans_end}
 use Rattle.proof_scanner.proofs.Cut.Pieces.Blocks.{piece_has_line}
 use Rattle.proof_scanner.proofs.Cut.Pieces.Quoted.{some_chars}
-use Rattle.proof_lexers.proofs.Blocks.Margins.{after_break, after_line, after_lines}
-use Rattle.proof_lexers.proofs.Blocks.Positions.{space_past, after_spell, first_empty, first_header}
-use Rattle.proof_lexers.proofs.Blocks.Written.{Break, feed, carriage, both, Line, put, Fits, Lined, lined}
+use Rattle.proof_lexers.proofs.Blocks.Written.{Line, put}
 
 -- ---- the lines of a piece before further text
 

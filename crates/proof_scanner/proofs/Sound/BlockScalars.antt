@@ -1,24 +1,13 @@
 -- Block scalars: what holds where one begins holds between two fetches after it. No key waits over it, and after it a key may begin.
-use Rattle.std.proofs.Common.{◌≡◌, ℕ, zero, suc, ◌≤◌, List, [], ◌∷◌, ◌++◌, Bool, true, false, not, ◌&&◌, ◌||◌, ◌==◌, ◌⊎◌, inl, inr, nat_lt, if◌then◌else◌, map, take, Option, Some, None, Ok, refl, ap, sym, ◌∙◌, subst, append_assoc, append-nil, arith}
-use Rattle.std.proofs.lemmas.Bool.{eqb-true}
-use Rattle.std.proofs.lemmas.Bool.Decides.{nat_tests}
-use Rattle.proof_scanner.proofs.Common.{Act, act_of, allow_key, Arrives, awaits_past, begins_line, begun_by, begun_outside, Block, block, block_may_end, block_position, block_read, block_style, BlockStyle, collection_of, Completes, content_position, ends_at, fetch_block_scalar, free, further_lines_stand, further_position, gives_block_scalar, has_no_nul, has_tab_within, indicator_of, innermost, innermost_column, is_at_end, is_deeper, is_empty, is_free, is_in_column, is_indented_by_spaces, is_literal_style, is_nul, is_one_of, is_separation, IsLineHere, IsLive, IsOpenOutside, IsPiece, IsReadOn, IsTakenBy, Key, least_column, least_for, Levels, lexed, may_precede, may_stand, MayChoose, NotBefore, on_held, Position, position_after, Previous, previous_by, push, read_block, ScannerState, seen, shown_position, Site, site_here, site_in, site_past, taken, Tok, Token, token, tokens_up_to, unroll_non_block_indents, without_open}
-use Rattle.defs_text.specs.Classes.{space, is_break}
-use Rattle.defs_text.specs.BlockScalar.{literal, folded}
+use Rattle.proof_scanner.proofs.Common.{[], Act, act_of, allow_key, ap, append-nil, append_assoc, arith, Arrives, awaits_past, begins_line, begun_by, begun_outside, Block, block, block_may_end, block_position, block_read, block_scalar, block_style, BlockStyle, Bool, chosen, collection_of, columns, content_position, ends_at, eqb-true, false, fetch_block_scalar, folded, free, further_lines_stand, further_position, gives_block_scalar, has_break, has_no_nul, has_tab_within, Holds, if◌then◌else◌, indicator_of, inl, innermost, innermost_column, inr, is_at_end, is_break, is_deeper, is_empty, is_free, is_in_column, is_indented_by_spaces, is_literal_style, is_nul, is_one_of, is_separation, IsLineHere, IsLive, IsOpenOutside, IsPiece, IsReadOn, IsTakenBy, IsWritten, Key, KnowsKey, least_column, least_for, Levels, lexed, Line, line_past, List, literal, map, may_precede, may_stand, MayChoose, nat_lt, nat_tests, None, not, NotBefore, Ok, on_held, Option, Position, position_after, Previous, previous_by, push, put, Read, read, read_block, refl, ScannerState, seen, shown_position, Site, site_here, site_in, site_past, SoFar, Some, Stands, subst, suc, sym, take, taken, Tok, Token, token, tokens_up_to, true, unroll_non_block_indents, went, without_open, without_spaces, zero, ℕ, ◌&&◌, ◌++◌, ◌==◌, ◌||◌, ◌∙◌, ◌∷◌, ◌≡◌, ◌≤◌, ◌⊎◌}
+use Rattle.defs_text.specs.Classes.{space}
 use Rattle.defs_token.specs.Account as pieces
-use Rattle.defs_token.specs.Step.{block_scalar, has_break}
-use Rattle.defs_token.specs.Key.{Line, line_past}
-use Rattle.defs_token.specs.RowAccount.{Account}
-use Rattle.defs_token.specs.Tokens.{put}
-use Rattle.model_scanner.specs.Machine.{Read}
-use Rattle.model_scanner.proofs.Holds.{Holds, went, read}
-use Rattle.proof_lexers.specs.BlockScan.{without_spaces}
 use Rattle.proof_scanner.proofs.Cut.Nodes.{IsDeep}
-use Rattle.proof_scanner.proofs.Cut.Positions.{not_before_after, not_before_then, not_before_same, index_after}
+use Rattle.proof_scanner.proofs.Cut.Positions.{not_before_after, not_before_then, not_before_same, index_after, after_piece, weaker}
 use Rattle.proof_scanner.proofs.Cut.Saved.{saved_keys, saved_is}
 use Rattle.proof_scanner.proofs.Cut.Pieces.Blocks.{spaces_of, spaces_cut, spaces_fill, spaces_position, some_piece, piece_of, token_of, IsBelow, below}
-use Rattle.proof_scanner.specs.Choices.{chosen}
-use Rattle.proof_scanner.specs.StandsInRow.{columns, Stands}
+use Rattle.proof_scanner.proofs.Known.Read.{keyless, knows_saved}
+use Rattle.proof_scanner.proofs.Known.Steps.{is_of_node}
 use Rattle.proof_scanner.proofs.Sound.Arrivals.{clean_after, some_rest}
 use Rattle.proof_scanner.proofs.Sound.BlockEnds.{IsLeast, BlockAs, block_as, ends_at_margin}
 use Rattle.proof_scanner.proofs.Sound.LastLines.{last_whole}
@@ -26,9 +15,9 @@ use Rattle.proof_scanner.proofs.Sound.NodeSteps.{saved}
 use Rattle.proof_scanner.proofs.Sound.Outsides.{must_be_here, numbered_past, open_node}
 use Rattle.proof_scanner.proofs.Sound.OutsidePieces.{line_free, none_open}
 use Rattle.proof_scanner.proofs.Sound.KeyStarts.{new_key, keys_saved}
-use Rattle.proof_scanner.proofs.Sound.Sides.{with_entries, ArrivesBy, ArrivesOutside, ArrivesInside, arrives_side, StandsBy, StandsAt, stands_at}
+use Rattle.proof_scanner.proofs.Sound.Sides.{with_entries, ArrivesBy, ArrivesOutside, ArrivesInside, arrives_side, StandsBy, stands_by}
 use Rattle.proof_scanner.proofs.Sound.Stales.{none_completes}
-use Rattle.proof_scanner.proofs.Sound.StepsOutside.{Piece, at, piece_completes}
+use Rattle.proof_scanner.proofs.Sound.StepsOutside.{piece_cuts, IsHere, Piece, at, piece_completes}
 use Rattle.proof_scanner.proofs.Sound.WithoutOpen.{AreClosed, without_is}
 
 -- ---- spaces
@@ -178,16 +167,16 @@ module _ (text : List ℕ) (t : ScannerState) (k : Option Key) (a : ArrivesBy te
   -- ---- rows
 
   -- what is known at a site where the piece stands
-  record Known (y : Site) : Type 0 where
+  record Known (strict : Bool) (y : Site) : Type 0 where
     pub is_piece : IsPiece (seen (with_entries a.site a.line []) y a.separation) r.piece r.next None (shown_position y r.piece tok r.next) tok
     pub stands : may_stand false a.site y a.separation r.piece tok r.next ≡ true
-    pub after_is : line_past (is_in_column y.position.col y.blocks) y.position y.blocks (act_of tok) false a.line_here ≡ Some (record { line = free; blocks = y.blocks })
+    pub after_is : line_past (strict && is_in_column y.position.col y.blocks) y.position y.blocks (act_of tok) false a.line_here ≡ Some (record { line = free; blocks = y.blocks })
 
   abbrev Tokens : Site → List Token
   Tokens y = (ends_at y.position a.site.blocks y.blocks ++ begun_outside (is_deeper y.position.col y.blocks) y.position y.position (act_of tok) false (Some a.line_here)) ++ (put (shown_position y r.piece tok r.next) tok ∷ [])
 
-  abbrev Result : Site → Type 0
-  Result y = Completes text r.next (record { site = site_past false y r.piece tok r.next y.blocks; line = free; entries = begun_by tok }) (λ ws last. a.tokens ++ Tokens y)
+  abbrev Result : Bool → Site → Type 0
+  Result strict y = SoFar strict text r.next (record { site = site_past false y r.piece tok r.next y.blocks; line = free; entries = begun_by tok }) (λ ws last. a.tokens ++ Tokens y)
 
   abbrev d : Site → Piece
   d y = record { site = a.site; line = a.line; line_here = a.line_here; separation = a.separation; piece = r.piece; next = r.next; tok = tok; after = record { line = free; blocks = y.blocks }; tokens = a.tokens }
@@ -196,18 +185,24 @@ module _ (text : List ℕ) (t : ScannerState) (k : Option Key) (a : ArrivesBy te
   same_site =
       ap (λ b. site_in false b p a.site) (sym n.act) ∙ ap (λ q. site_in false (act_of tok) q a.site) (a.position_is ∙ ap (λ l. position_after a.site.position a.separation l) r.is_text)
 
-  rows_at : MayChoose false k t.held.position t.rest → Known (at (d here)) → Result (at (d here))
-  rows_at may known =
-      piece_completes text (d (at (d here))) (record {
-        is_filled = subst (λ l. is_separation false a.separation l ≡ true) r.is_text a.is_filled;
-        is_solid = is_solid;
-        is_piece = known.is_piece;
-        stands = known.stands;
-        line_is = a.is_line;
-        after_is = known.after_is;
-        no_key = refl;
-      }) (subst (λ l. Completes text (a.separation ++ l) (with_entries a.site a.line []) (λ ws last. a.tokens)) r.is_text
-      (none_completes text (a.separation ++ t.rest) (with_entries a.site a.line []) (k ∷ []) a.tokens a.no_key refl (a.completes false [] may)))
+  is_here : (strict : Bool) → Known strict (at (d here)) → IsHere (strict && is_in_column (at (d here)).position.col (at (d here)).blocks) (d (at (d here)))
+  is_here strict known = record {
+    is_filled = subst (λ l. is_separation false a.separation l ≡ true) r.is_text a.is_filled;
+    is_solid = is_solid;
+    is_piece = known.is_piece;
+    stands = known.stands;
+    line_is = a.is_line;
+    after_is = known.after_is;
+    no_key = refl;
+  }
+
+  before_at : (strict : Bool) → MayChoose strict false k t.held.position t.rest → SoFar strict text (a.separation ++ (r.piece ++ r.next)) (with_entries a.site a.line []) (λ ws last. a.tokens)
+  before_at strict may = subst (λ l. SoFar strict text (a.separation ++ l) (with_entries a.site a.line []) (λ ws last. a.tokens)) r.is_text
+      (none_completes strict text (a.separation ++ t.rest) (with_entries a.site a.line []) (k ∷ []) a.tokens a.no_key refl (a.completes strict false [] may))
+
+  rows_at : (strict : Bool) → MayChoose strict false k t.held.position t.rest → Known strict (at (d here)) → Result strict (at (d here))
+  rows_at true may known = piece_completes text (d (at (d here))) (is_here true known) (before_at true may)
+  rows_at false may known = piece_cuts false text (d (at (d here))) (is_here false known) (before_at false may)
 
   tokens_are : a.tokens ++ Tokens here ≡ t.held.tokens ++ own ∷ []
   tokens_are =
@@ -219,38 +214,50 @@ module _ (text : List ℕ) (t : ScannerState) (k : Option Key) (a : ArrivesBy te
   abbrev site_then : Site
   site_then = site_past false here r.piece tok r.next here.blocks
 
+  -- what may begin here: a key need not
+  abbrev LineHere : Bool → Type 0
+  LineHere strict = ((a.line_here ≡ free) × ((strict && is_in_column p.col here.blocks) ≡ false)) ⊎ (a.line_here ≡ taken)
+
   -- if a key need not begin here, and the open one need not be one
-  rows : ((a.line_here ≡ free) × (is_in_column p.col here.blocks ≡ false)) ⊎ (a.line_here ≡ taken) → MayChoose false k t.held.position t.rest → Completes text (gap ++ rest) (with_entries site_then free []) (λ ws last. t.held.tokens ++ own ∷ [])
-  rows line may =
-      let known : Known here = record { is_piece = is_piece; stands = stands; after_is = after_by (is_in_column p.col here.blocks) p here.blocks (act_of tok) a.line_here n.act line } in
-      let all : Result here = subst (λ y. Result y) (sym same_site) (rows_at may (subst (λ y. Known y) same_site known)) in
-      subst (λ l. Completes text l (with_entries site_then free []) (λ ws last. t.held.tokens ++ own ∷ [])) (spaces_cut r.next)
-      (subst (λ es. Completes text r.next (with_entries site_then free es) (λ ws last. t.held.tokens ++ own ∷ [])) n.begun
-      (subst (λ ts. Completes text r.next (with_entries site_then free (begun_by tok)) (λ ws last. ts)) tokens_are all))
+  rows : (strict : Bool) → LineHere strict → MayChoose strict false k t.held.position t.rest → SoFar strict text (gap ++ rest) (with_entries site_then free []) (λ ws last. t.held.tokens ++ own ∷ [])
+  rows strict line may =
+      let known : Known strict here = record { is_piece = is_piece; stands = stands; after_is = after_by (strict && is_in_column p.col here.blocks) p here.blocks (act_of tok) a.line_here n.act line } in
+      let all : Result strict here = subst (λ y. Result strict y) (sym same_site) (rows_at strict may (subst (λ y. Known strict y) same_site known)) in
+      subst (λ l. SoFar strict text l (with_entries site_then free []) (λ ws last. t.held.tokens ++ own ∷ [])) (spaces_cut r.next)
+      (subst (λ es. SoFar strict text r.next (with_entries site_then free es) (λ ws last. t.held.tokens ++ own ∷ [])) n.begun
+      (subst (λ ts. SoFar strict text r.next (with_entries site_then free (begun_by tok)) (λ ws last. ts)) tokens_are all))
 
   -- what may begin at it
-  line_by_allowed : (b : Bool) (y : Option Key) → t.held.key_allowed ≡ b → k ≡ y → MayChoose false (saved b (new_key t) y) end rest → (((a.line_here ≡ free) × (is_in_column p.col here.blocks ≡ false)) ⊎ (a.line_here ≡ taken)) × MayChoose false k t.held.position t.rest
-  line_by_allowed true y e i may =
+  line_by_allowed : (strict b : Bool) (y : Option Key) → t.held.key_allowed ≡ b → k ≡ y → MayChoose strict false (saved b (new_key t) y) end rest → LineHere strict × MayChoose strict false k t.held.position t.rest
+  line_by_allowed strict true y e i may =
       let none : k ≡ None = none_open t.held.key_allowed t.rest k a.line_here e some a.line_is in
       let is_free_here : a.line_here ≡ free = line_free t.held.key_allowed t.rest a.line_here e (subst (λ o. IsLineHere false t.held.key_allowed t.rest o a.line_here) none a.line_is) in
-      (inl (is_free_here, sym (must_be_here text t k a out deep) ∙ may), subst (λ o. MayChoose false o t.held.position t.rest) (sym none) tt)
-  line_by_allowed false None e i may = (inr (taken_now (subst (λ o. IsLineHere false t.held.key_allowed t.rest o a.line_here) i a.line_is)), subst (λ o. MayChoose false o t.held.position t.rest) (sym i) tt)
+      (inl (is_free_here, must_not strict may), subst (λ o. MayChoose strict false o t.held.position t.rest) (sym none) tt)
+    where
+      must_not : (strict : Bool) → MayChoose strict false (Some (new_key t)) end rest → (strict && is_in_column p.col here.blocks) ≡ false
+      must_not true may = sym (must_be_here text t k a out deep) ∙ may
+      must_not false may = refl
+  line_by_allowed strict false None e i may = (inr (taken_now (subst (λ o. IsLineHere false t.held.key_allowed t.rest o a.line_here) i a.line_is)), subst (λ o. MayChoose strict false o t.held.position t.rest) (sym i) tt)
     where
       taken_now : IsLineHere false t.held.key_allowed t.rest None a.line_here → a.line_here ≡ taken
       taken_now (inl f, g) = absurd (cc (e, g ∙ ap is_free f))
       taken_now (inr f, g) = f
-  line_by_allowed false (Some y) e i may =
+  line_by_allowed strict false (Some y) e i may =
       let line : IsLineHere false t.held.key_allowed t.rest (Some y) a.line_here = subst (λ o. IsLineHere false t.held.key_allowed t.rest o a.line_here) i a.line_is in
-      (inr (line some).0, subst (λ o. MayChoose false o t.held.position t.rest) (sym i) may)
+      (inr (line some).0, subst (λ o. MayChoose strict false o t.held.position t.rest) (sym i) (still strict may))
+    where
+      still : (strict : Bool) → MayChoose strict false (Some y) end rest → MayChoose strict false (Some y) t.held.position t.rest
+      still true may = may
+      still false may = tt
 
   abbrev key_now : Option Key
   key_now = saved t.held.key_allowed (new_key t) k
 
-  abbrev Then : Option Key → Bool → List Bool → Type 0
-  Then y c cs = Completes text (gap ++ rest) (chosen c cs (y ∷ []) (with_entries site_then free [])) (tokens_up_to (chosen c cs (y ∷ []) (with_entries site_then free [])) (y ∷ []) (t.held.tokens ++ own ∷ []))
+  abbrev Then : Bool → Option Key → Bool → List Bool → Type 0
+  Then strict y c cs = SoFar strict text (gap ++ rest) (chosen c cs (y ∷ []) (with_entries site_then free [])) (tokens_up_to (chosen c cs (y ∷ []) (with_entries site_then free [])) (y ∷ []) (t.held.tokens ++ own ∷ []))
 
   is_open : IsOpenOutside key_now (position_after p r.piece r.next) end rest here.blocks
-  is_open = open_node text t k a out deep some end rest later (position_after p r.piece r.next) (not_before_after p r.piece r.next)
+  is_open = open_node text t k a out deep some end rest later (position_after p r.piece r.next) (after_piece p r.piece r.next is_solid)
 
   -- the saved or open key is not after the position
   before_it : (y : Key) → key_now ≡ Some y → NotBefore y.position p
@@ -263,16 +270,20 @@ module _ (text : List ℕ) (t : ScannerState) (k : Option Key) (a : ArrivesBy te
           subst (λ z. NotBefore z.position p) same (not_before_same p)
       by false o i e =
           let open_here = subst (λ z. IsOpenOutside z a.site.position p t.rest a.site.blocks) (i ∙ e) a.is_open in
-          not_before_then y.position a.site.position p open_here.0 (subst (λ z. NotBefore a.site.position z) (sym a.position_is) (not_before_after a.site.position a.separation t.rest))
+          not_before_then y.position a.site.position p (weaker y.position a.site.position open_here.0) (subst (λ z. NotBefore a.site.position z) (sym a.position_is) (not_before_after a.site.position a.separation t.rest))
 
-  then_rows : (c : Bool) (cs : List Bool) (y : Option Key) → key_now ≡ y → MayChoose c y end rest → Then y c cs
-  then_rows c cs None e may =
-      let q = line_by_allowed t.held.key_allowed k refl refl (subst (λ o. MayChoose false o end rest) (sym e) tt) in
-      rows q.0 q.1
-  then_rows true cs (Some y) e may = absurd (dead y (before_it y e) may)
-  then_rows false cs (Some y) e may =
-      let q = line_by_allowed t.held.key_allowed k refl refl (subst (λ o. MayChoose false o end rest) (sym e) may) in
-      rows q.0 q.1
+  then_rows : (strict c : Bool) (cs : List Bool) (y : Option Key) → key_now ≡ y → MayChoose strict c y end rest → Then strict y c cs
+  then_rows strict c cs None e may =
+      let q = line_by_allowed strict t.held.key_allowed k refl refl (subst (λ o. MayChoose strict false o end rest) (sym e) tt) in
+      rows strict q.0 q.1
+  then_rows true true cs (Some y) e may = absurd (dead y (before_it y e) may)
+  then_rows false true cs (Some y) e may = absurd may
+  then_rows true false cs (Some y) e may =
+      let q = line_by_allowed true t.held.key_allowed k refl refl (subst (λ o. MayChoose true false o end rest) (sym e) may) in
+      rows true q.0 q.1
+  then_rows false false cs (Some y) e may =
+      let q = line_by_allowed false t.held.key_allowed k refl refl (subst (λ o. MayChoose false false o end rest) (sym e) tt) in
+      rows false q.0 q.1
 
   taken_by : (y : Option Key) → key_now ≡ y → IsTakenBy true end rest y free
   taken_by None e = tt
@@ -289,8 +300,14 @@ module _ (text : List ℕ) (t : ScannerState) (k : Option Key) (a : ArrivesBy te
           by true m = absurd (cc m)
           by false m = refl
 
-  scalar_by : StandsBy text after_it [] (key_now ∷ []) []
-  scalar_by = record {
+  is_written : IsWritten (with_entries a.site a.line []) (keyless a.separation r.piece tok) r.next
+  is_written = (
+    subst (λ l. is_separation false a.separation l ≡ true) r.is_text a.is_filled,
+    (ap not is_solid, subst (λ y. IsPiece (seen (with_entries a.site a.line []) y a.separation) r.piece r.next None (shown_position y r.piece tok r.next) tok) same_site is_piece),
+  )
+
+  scalar_by : KnowsKey text (a.separation ++ t.rest) t.held.position k → StandsBy text after_it [] (key_now ∷ []) []
+  scalar_by known = record {
     site = site_then;
     line = free;
     separation = gap;
@@ -319,12 +336,12 @@ module _ (text : List ℕ) (t : ScannerState) (k : Option Key) (a : ArrivesBy te
     started = a.started;
     going = a.going;
     carries = λ cs x key m inside some. absurd (cc inside);
-    completes = λ c cs may. then_rows c cs key_now refl may;
+    knows = knows_saved text t r.piece r.next tok r.is_text end gap rest place (spaces_cut r.next) k a is_written out deep (ap is_of_node n.act) known;
+    completes = λ strict c cs may. then_rows strict c cs key_now refl may;
   }
 
-  pub scalar_stands : StandsAt text (with_entries site_then free []) gap after_it
-  unfolding scalar_by
-  scalar_stands = stands_at text after_it [] (key_now ∷ []) [] out (keys_saved t k [] keys) scalar_by
+  pub scalar_stands : KnowsKey text (a.separation ++ t.rest) t.held.position k → Stands text after_it
+  scalar_stands known = stands_by text after_it [] (key_now ∷ []) [] out (keys_saved t k [] keys) (scalar_by known)
 
 -- ---- the function
 
@@ -350,23 +367,16 @@ levels_then t = without_open t.held.indent t.held.indents t.held.tokens
 pub closed_then : (text : List ℕ) (t : ScannerState) → Arrives text t → AreClosed t.held.indent t.held.indents t.held.tokens (levels_then t)
 closed_then text t a = without_is t.held.indent t.held.indents t.held.tokens a.are_levels
 
--- the account after it
-abbrev pub block_base : (text : List ℕ) (style : BlockStyle) (t : ScannerState) → ArrivesOutside text t → (piece next value : List ℕ) → Account
-block_base text style t o piece next value =
-    let here : Site = site_here false t.held.position o.here.site in
-    with_entries (site_past false here piece (Tok.scalar (block_style (is_literal_style style)) value) next here.blocks) free []
-
 -- What stands after a block scalar that was read, with its account; the spaces after it are the separation.
 pub block_stands : (text : List ℕ) (style : BlockStyle) (t : ScannerState) → IsDeep t.held → (o : ArrivesOutside text t) → (w : Levels) → AreClosed t.held.indent t.held.indents t.held.tokens w → (x : Read Block) → (r : BlockAs style w.indent t.held.position t.rest x) →
-    StandsAt text (block_base text style t o r.piece r.next r.scalar.text) (spaces_of r.next) (read_state t w style x)
+    Stands text (read_state t w style x)
 block_stands text style t deep o w closed x r =
     let tok : Tok = Tok.scalar (block_style (is_literal_style style)) r.scalar.text in
     let y : Read Block = read_block t.held.position r.scalar r.piece r.next in
-    let At : ScannerState → Type 0 = λ u. StandsAt text (block_base text style t o r.piece r.next r.scalar.text) (spaces_of r.next) u in
-    let stands : At (record { rest = y.rest; held = record t.held { position = y.position; tokens = t.held.tokens ++ token y.value.position tok ∷ []; keys = saved_keys t.held; indents = w.indents; indent = w.indent; key_allowed = true; leading = true } }) =
-    scalar_stands text t o.key o.here o.flow_is o.keys_are deep w closed style x r tok (block_token style r.scalar.text) in
-    subst (λ z. At (read_state t w style z)) (sym r.is)
-    (subst (λ ts. At (record { rest = y.rest; held = record t.held { position = y.position; tokens = ts ++ token y.value.position tok ∷ []; keys = saved_keys t.held; indents = w.indents; indent = w.indent; key_allowed = true; leading = true } })) (sym closed.same_tokens) stands)
+    let stands : Stands text (record { rest = y.rest; held = record t.held { position = y.position; tokens = t.held.tokens ++ token y.value.position tok ∷ []; keys = saved_keys t.held; indents = w.indents; indent = w.indent; key_allowed = true; leading = true } }) =
+    scalar_stands text t o.key o.here o.flow_is o.keys_are deep w closed style x r tok (block_token style r.scalar.text) o.knows in
+    subst (λ z. Stands text (read_state t w style z)) (sym r.is)
+    (subst (λ ts. Stands text (record { rest = y.rest; held = record t.held { position = y.position; tokens = ts ++ token y.value.position tok ∷ []; keys = saved_keys t.held; indents = w.indents; indent = w.indent; key_allowed = true; leading = true } })) (sym closed.same_tokens) stands)
 
 read_as : (text : List ℕ) (style : BlockStyle) (t : ScannerState) (more : List ℕ) → t.rest ≡ indicator_of style ∷ more → ArrivesOutside text t → (indent : ℕ) (x : Read Block) → block (is_literal_style style) indent t.rest t.held.position ≡ Ok x → BlockAs style indent t.held.position t.rest x
 read_as text style t more e o indent x i =
@@ -387,5 +397,5 @@ block_keeps text lit t more e out deep arrives =
     by : (lit : Bool) → t.rest ≡ (if lit then 124 else 62) ∷ more → (x : Read Block) → block lit w.indent t.rest t.held.position ≡ Ok x → ArrivesOutside text t ⊎ ArrivesInside text t →
         Stands text (record { rest = x.rest; held = record t.held { position = x.position; tokens = w.tokens ++ token x.value.position (Tok.scalar (block_style lit) x.value.text) ∷ []; keys = saved_keys t.held; indents = w.indents; indent = w.indent; key_allowed = true; leading = true } })
     by lit e x i (inr inside) = absurd (cc (out, ap is_empty inside.flow_is))
-    by true e x i (inl o) = (block_stands text literal t deep o w (closed_then text t arrives) x (read_as text literal t more e o w.indent x i)).stands
-    by false e x i (inl o) = (block_stands text folded t deep o w (closed_then text t arrives) x (read_as text folded t more e o w.indent x i)).stands
+    by true e x i (inl o) = block_stands text literal t deep o w (closed_then text t arrives) x (read_as text literal t more e o w.indent x i)
+    by false e x i (inl o) = block_stands text folded t deep o w (closed_then text t arrives) x (read_as text folded t more e o w.indent x i)

@@ -1,18 +1,13 @@
 -- Commas and closing brackets: what holds where they begin holds between two fetches after them. Outside flow they close nothing.
-use Rattle.std.proofs.Common.{◌≡◌, ℕ, List, [], ◌∷◌, ◌++◌, Bool, true, false, not, ◌⊎◌, inl, inr, Some, None, refl, ap, sym, ◌∙◌, subst}
-use Rattle.proof_scanner.proofs.Common.{act_of, another, awaits_past, begins_free_line, begins_line, begins_with, begun_by, begun_outside, blanks_and_comment, ends_at, flow_collection, free, further_lines_stand, is_deeper, is_empty, is_in_column, is_indented_by_spaces, is_renewed, is_waiting, IsLine, IsPiece, IsReadOn, least_column, least_for, may_precede, Outside, past_blanks_and_comment, past_line_rest, Position, position_after, Previous, previous_by, ScannerState, seen, shown_position, Site, site_here, site_in, taken, Tok, Token, with_top}
-use Rattle.defs_token.specs.Step.{has_break}
-use Rattle.defs_token.specs.Key.{Line, line_past}
-use Rattle.defs_token.specs.RowAccount.{Account}
-use Rattle.defs_token.specs.Tokens.{put}
-use Rattle.model_scanner.specs.Machine.{past}
+use Rattle.proof_scanner.proofs.Common.{[], act_of, another, ap, awaits_past, begins_free_line, begins_line, begins_with, begun_by, begun_outside, blanks_and_comment, Bool, ends_at, false, flow_collection, free, further_lines_stand, has_break, inl, inr, is_deeper, is_empty, is_in_column, is_indented_by_spaces, is_renewed, is_waiting, IsLine, IsPiece, IsReadOn, least_column, least_for, Line, line_past, List, may_precede, None, not, Outside, past, past_blanks_and_comment, past_line_rest, Position, position_after, Previous, previous_by, put, refl, ScannerState, seen, shown_position, Site, site_here, site_in, Some, Stands, subst, sym, taken, Tok, Token, true, with_top, ℕ, ◌++◌, ◌∙◌, ◌∷◌, ◌≡◌, ◌⊎◌}
 use Rattle.proof_scanner.proofs.Cut.FlowEnds.{IsEndOf, ends_sequence, ends_mapping, ends_by_comma}
+use Rattle.proof_scanner.proofs.Known.Steps.{begins_key}
 use Rattle.proof_scanner.proofs.Sound.Blanks.{line_rest_in_line, line_rest_cut, line_rest_fills}
 use Rattle.proof_scanner.proofs.Sound.EntryEnds.{act_by}
 use Rattle.proof_scanner.proofs.Sound.Indicated.{indicator_end, none_indents}
-use Rattle.proof_scanner.proofs.Sound.OutsidePieces.{site_then, tokens_then, ReadOutside, read_outside_at, started_tokens}
+use Rattle.proof_scanner.proofs.Sound.OutsidePieces.{tokens_then, ReadOutside, read_outside, started_tokens}
 use Rattle.proof_scanner.proofs.Sound.Standing.{and_yes, all_true}
-use Rattle.proof_scanner.proofs.Sound.Sides.{with_entries, ArrivesBy, StandsAt}
+use Rattle.proof_scanner.proofs.Sound.Sides.{with_entries, ArrivesBy}
 
 -- what the last piece was, after one
 abbrev pub previous_of : (closes : Bool) → Previous
@@ -92,25 +87,26 @@ stray_line true must here bs l (inr e) = rw e refl
 stray_line false must here bs l (inl e) = rw e refl
 stray_line false must here bs l (inr e) = rw e refl
 
+no_node : (closes : Bool) → begins_key (act_by closes) ≡ false
+no_node true = refl
+no_node false = refl
+
 none_begun : (closes deeper : Bool) (here colon : Position) (l : Line) → begun_outside deeper here colon (act_by closes) false (Some l) ≡ []
 none_begun true deeper here colon l = refl
 none_begun false deeper here colon l = refl
 
--- the account after it
-abbrev pub stray_base : (closes : Bool) → Tok → (c : ℕ) → (here : Position) → Site → (more : List ℕ) → Account
-stray_base closes tok c here s more = let x : Site = site_here false here s in with_entries (site_then x (c ∷ []) tok more (record { line = line_then closes; blocks = x.blocks })) (line_then closes) []
-
 pub stray_at : (text more : List ℕ) (closes : Bool) (tok : Tok) (c : ℕ) → IsCloser closes tok c → (t : ScannerState) (a : ArrivesBy text t [] (None ∷ []) []) → with_top None t.held.keys ≡ None ∷ [] → t.rest ≡ c ∷ more → begins_with 35 more ≡ false →
-    StandsAt text (stray_base closes tok c t.held.position a.site more) (blanks_and_comment more) (stray_past closes t tok more)
+    Stands text (stray_past closes t tok more)
 stray_at text more closes tok c k t a keys e hash =
-    subst (λ x. (r : ReadOutside text t (stray_past closes t tok more) a (c ∷ []) more tok after x) → StandsAt text (with_entries (site_then x (c ∷ []) tok more after) (line_then closes) []) r.ends.separation (stray_past closes t tok more))
-    (ap (λ x. site_in false x t.held.position a.site) k.act ∙ site_alike closes false t.held.position a.site) (read_outside_at text t (stray_past closes t tok more) a (c ∷ []) more tok after) (record {
+    subst (λ x. (r : ReadOutside text t (stray_past closes t tok more) a (c ∷ []) more tok after x) → Stands text (stray_past closes t tok more))
+    (ap (λ x. site_in false x t.held.position a.site) k.act ∙ site_alike closes false t.held.position a.site) (read_outside text t (stray_past closes t tok more) a (c ∷ []) more tok after) (record {
       is_solid = refl;
       is_piece = subst (λ p. IsPiece (seen (with_entries a.site a.line []) at a.separation) (c ∷ []) more None p tok) (sym (k.shown at (c ∷ []) more)) (k.is_end.piece (seen (with_entries a.site a.line []) at a.separation) more None refl);
       stands = all_true (is_indented_by_spaces a.site.before a.site.blocks a.site.awaits a.separation) true (further_lines_stand (least_for tok at) tok (c ∷ [])) (may_precede false at.blocks tok (c ∷ []) more)
           (a.is_indented (ap is_empty e)) refl (k.lines (least_for tok at) (c ∷ [])) (k.precedes false at.blocks (c ∷ []) more ∙ ap not hash);
       after_is = ap (λ x. line_past (is_in_column at.position.col at.blocks) at.position at.blocks x false a.line_here) k.act ∙ stray_line closes (is_in_column at.position.col at.blocks) at.position at.blocks a.line_here a.line_is.0;
       begun = k.begun;
+      begins_none = ap begins_key k.act ∙ no_node closes;
       tokens_are = tokens;
       ends = record {
         no_key = known closes;

@@ -1,30 +1,21 @@
 -- Commas and closing brackets in flow: the entry ends, and with it a single pair.
-use Rattle.std.proofs.Common.{◌≡◌, ℕ, suc, ◌≤◌, ◌<◌, List, [], ◌∷◌, ◌++◌, Bool, true, false, not, ◌&&◌, ◌||◌, ◌==◌, nat_le, inl, inr, length, Option, Some, None, refl, ap, sym, ◌∙◌, subst, arith, length-append, append_assoc}
-use Rattle.proof_scanner.proofs.Common.{AreAround, AreEntries, AreNumbered, awaits_past, before_past, begins_free_line, begins_line, begins_with, BeginsButForKey, blanks_and_comment, Completes, ends_spaces, first_entry, FlowLevel, further_lines_stand, Had, has_no_break, has_no_nul, HasHad, HasHadHere, is_deep_enough, is_empty, is_free, is_fresh, is_indented_by_spaces, is_renewed, is_separation, IsAdjacent, IsCarriedOn, IsEntryOf, IsLine, IsOpenOutside, IsPairOf, IsPiece, IsReadOn, IsTakenBy, Key, Keyed, least_column, least_for, Mapping, may_precede, may_stand, MayChoose, no_pair, NotBefore, outside_key, past_blanks_and_comment, past_line_rest, Position, position_after, previous_by, ScannerState, seen, Site, site_here, site_past, taken, Tok, Token, tokens_up_to, Yes}
-use Rattle.defs_text.specs.Classes.{is_blank}
-use Rattle.defs_token.specs.Step.{has_break}
-use Rattle.defs_token.specs.Key.{Line}
-use Rattle.defs_token.specs.FlowEntry.{Pair, single_pair, asked_pair, Entry}
-use Rattle.defs_token.specs.RowAccount.{Account, before_by}
-use Rattle.defs_token.specs.Tokens.{put, pair_end}
-use Rattle.model_scanner.specs.Machine.{past}
+use Rattle.proof_scanner.proofs.Common.{[], Account, ap, append_assoc, AreAround, AreEntries, AreNumbered, arith, asked_pair, awaits_past, before_by, before_past, begins_free_line, begins_line, begins_with, BeginsButForKey, blanks_and_comment, Bool, chosen, columns, ends_spaces, Entry, false, first_entry, FlowLevel, further_lines_stand, Had, has_break, has_no_break, has_no_nul, HasHad, HasHadHere, inl, inr, is_blank, is_deep_enough, is_empty, is_free, is_fresh, is_indented_by_spaces, is_renewed, is_separation, IsAdjacent, IsCarriedOn, IsEntryOf, IsLine, IsOpenOutside, IsPairOf, IsPiece, IsReadOn, IsTakenBy, Key, Keyed, KnowsKey, least_column, least_for, length, length-append, Line, List, Mapping, may_precede, may_stand, MayChoose, nat_le, no_pair, None, not, NotBefore, Option, outside_key, Pair, pair_end, past, past_blanks_and_comment, past_line_rest, Position, position_after, previous_by, put, refl, ScannerState, seen, single_pair, Site, site_here, site_past, SoFar, Some, Stands, subst, suc, sym, taken, Tok, Token, tokens_up_to, true, Yes, ℕ, ◌&&◌, ◌++◌, ◌<◌, ◌==◌, ◌||◌, ◌∙◌, ◌∷◌, ◌≡◌, ◌≤◌}
 use Rattle.model_scanner.specs.declared.level.FlowLevel.TheVariants.{Entry as InEntry, Pair as InPair}
 use Rattle.proof_scanner.proofs.Cut.FlowEnds.{closed_tokens, entered, adjacent_collection}
 use Rattle.proof_scanner.proofs.Cut.Positions.{not_before_after, not_before_then, index_after}
 use Rattle.proof_scanner.proofs.Cut.Nodes.{IsDeep, adjacent_other}
-use Rattle.proof_scanner.specs.Choices.{chosen}
-use Rattle.proof_scanner.specs.StandsInRow.{columns}
+use Rattle.proof_scanner.proofs.Known.Read.{knows_inside}
 use Rattle.proof_scanner.proofs.Sound.Around.{line_taken, tokens_before, unbroken_around, one_around, may_around, open_around}
 use Rattle.proof_scanner.proofs.Sound.Arrivals.{clean_after, deep_enough, numbered_more, numbered_around, completes_at, carried_at}
 use Rattle.proof_scanner.proofs.Sound.Blanks.{line_rest_cut, line_rest_fills, is_clear, past_rest_is_clear}
 use Rattle.proof_scanner.proofs.Sound.Closers.{previous_of, IsCloser, no_line_begins, no_break_there, reads_on}
 use Rattle.proof_scanner.proofs.Sound.EntryEnds as ends
-use Rattle.proof_scanner.proofs.Sound.EntryEnds.{act_by, entries_after, keys_by}
+use Rattle.proof_scanner.proofs.Sound.EntryEnds.{entries_after, keys_by}
 use Rattle.proof_scanner.proofs.Sound.Indicated.{indicator_end, none_indents, no_break_alike}
 use Rattle.proof_scanner.proofs.Sound.Inserts.{among}
 use Rattle.proof_scanner.proofs.Sound.NodesInside.{not_keyed}
 use Rattle.proof_scanner.proofs.Sound.Standing.{all_true, deep_for}
-use Rattle.proof_scanner.proofs.Sound.Sides.{with_entries, ArrivesBy, ArrivesInside, StandsBy, StandsAt, stands_at}
+use Rattle.proof_scanner.proofs.Sound.Sides.{with_entries, ArrivesBy, ArrivesInside, StandsBy, stands_by}
 
 -- ---- what the model leaves
 
@@ -195,9 +186,9 @@ module _ (text more : List ℕ) (closes : Bool) (tok : Tok) (c : ℕ) (i : IsClo
         (a.is_indented some_here) deep_here (i.lines (least_for tok x) (c ∷ [])) (i.precedes true x.blocks (c ∷ []) more ∙ ap not hash));
     no_key = not_keyed t.held.key_allowed (is_renewed a.site.before a.separation) k e.had a.are_entries.1;
     are_among = among (length a.tokens) (k ∷ ks) a.are_numbered;
-    unbroken = λ b may. unbroken_around text t f fs k ks e es a some_here end left before_end b may;
-    one_line = λ b may. one_around text t f fs k ks e es a some_here end left before_end (c ∷ []) (λ _ _. no_break_in) b may;
-    may_before = λ b may. subst (λ p. MayChoose b (outside_key es ks) p (c ∷ more)) place (subst (λ r. MayChoose b (outside_key es ks) t.held.position r) cut (may_around text t f fs k ks e es a some_here end left before_end b may));
+    unbroken = λ strict b may. unbroken_around text t f fs k ks e es a some_here end left before_end strict b may;
+    one_line = λ strict b may. one_around text t f fs k ks e es a some_here end left before_end (c ∷ []) (λ _ _. no_break_in) strict b may;
+    may_before = λ strict b may. subst (λ p. MayChoose strict b (outside_key es ks) p (c ∷ more)) place (subst (λ r. MayChoose strict b (outside_key es ks) t.held.position r) cut (may_around text t f fs k ks e es a some_here end left before_end strict b may));
   }
 
   abbrev site_after : Position → Site
@@ -213,16 +204,16 @@ module _ (text more : List ℕ) (closes : Bool) (tok : Tok) (c : ℕ) (i : IsClo
       (ap (λ ts. ts ++ (pair_end t.held.position e.pair ++ (put t.held.position tok ∷ []))) (sym (tokens_before text t f fs k ks e es a)) ∙
       sym (closed_by_pair f fs e.pair t.held.position t.held.tokens (put t.held.position tok) a.are_entries.0.pair_is)))
 
-  rows : (b : Bool) (cs : List Bool) → MayChoose b (outside_key (entries_after closes e es) (keys_by closes ks)) end left →
-      Completes text (gap ++ left) (chosen b cs (keys_by closes ks) (with_entries (site_after t.held.position) a.line (entries_after closes e es)))
+  rows : (strict b : Bool) (cs : List Bool) → MayChoose strict b (outside_key (entries_after closes e es) (keys_by closes ks)) end left →
+      SoFar strict text (gap ++ left) (chosen b cs (keys_by closes ks) (with_entries (site_after t.held.position) a.line (entries_after closes e es)))
       (tokens_up_to (chosen b cs (keys_by closes ks) (with_entries (site_after t.held.position) a.line (entries_after closes e es))) (keys_by closes ks) tokens_after)
-  rows b cs may =
+  rows strict b cs may =
       let past_at : Position → Account = λ p. chosen b cs (keys_by closes ks) (with_entries (site_after p) a.line (entries_after closes e es)) in
-      let all : Completes text more (ends.past d b cs) (tokens_up_to (ends.past d b cs) (keys_by closes ks) (a.tokens ++ ends.own_tokens d)) =
-      ends.end_completes text d is_end (λ v vs m. completes_at text t (f ∷ fs) (k ∷ ks) (e ∷ es) a (c ∷ more) (ends.at d).position cut place v vs m) b cs (subst (λ y. MayChoose b y end left) (same_key closes e es ks) may) in
-      subst (λ r. Completes text r (past_at t.held.position) (tokens_up_to (past_at t.held.position) (keys_by closes ks) tokens_after)) (line_rest_cut more)
-      (subst (λ p. Completes text more (past_at p) (tokens_up_to (past_at p) (keys_by closes ks) tokens_after)) (sym place)
-      (subst (λ ts. Completes text more (ends.past d b cs) (tokens_up_to (ends.past d b cs) (keys_by closes ks) ts)) tokens_are all))
+      let all : SoFar strict text more (ends.past d b cs) (tokens_up_to (ends.past d b cs) (keys_by closes ks) (a.tokens ++ ends.own_tokens d)) =
+      ends.end_completes text d is_end (λ st v vs m. completes_at text t (f ∷ fs) (k ∷ ks) (e ∷ es) a (c ∷ more) (ends.at d).position cut place st v vs m) strict b cs (subst (λ y. MayChoose strict b y end left) (same_key closes e es ks) may) in
+      subst (λ r. SoFar strict text r (past_at t.held.position) (tokens_up_to (past_at t.held.position) (keys_by closes ks) tokens_after)) (line_rest_cut more)
+      (subst (λ p. SoFar strict text more (past_at p) (tokens_up_to (past_at p) (keys_by closes ks) tokens_after)) (sym place)
+      (subst (λ ts. SoFar strict text more (ends.past d b cs) (tokens_up_to (ends.past d b cs) (keys_by closes ks) ts)) tokens_are all))
 
   carried : IsCarriedOn text (gap ++ left) left (keys_by closes ks) (with_entries (site_after t.held.position) a.line (entries_after closes e es))
   carried cs key own must inside_flow rest_goes =
@@ -284,6 +275,8 @@ module _ (text more : List ℕ) (closes : Bool) (tok : Tok) (c : ℕ) (i : IsClo
     started = a.started;
     going = a.going;
     carries = carried;
+    knows = subst (λ y. KnowsKey text (gap ++ left) end y) (sym (same_key closes e es ks))
+        (knows_inside text t (c ∷ []) more tok cut end gap left end_is (line_rest_cut more) f fs k ks e es a (ends.is_written d is_end));
     completes = rows;
   }
     where
@@ -291,13 +284,8 @@ module _ (text more : List ℕ) (closes : Bool) (tok : Tok) (c : ℕ) (i : IsClo
       open_by true = open_around text t f fs k ks e es a some_here end left before_end (position_after t.held.position (c ∷ []) more) (not_before_after t.held.position (c ∷ []) more)
       open_by false = open_around text t f fs k ks e es a some_here end left before_end (position_after t.held.position (c ∷ []) more) (not_before_after t.held.position (c ∷ []) more)
 
--- the account after it
-abbrev pub closed_base : (closes : Bool) → Tok → (c : ℕ) → (here : Position) → Site → Line → Entry → List Entry → (more : List ℕ) → Account
-closed_base closes tok c here s l e es more = let x : Site = site_here true here s in with_entries (site_past true x (c ∷ []) tok more x.blocks) l (entries_after closes e es)
-
 pub closed_inside : (text more : List ℕ) (closes : Bool) (tok : Tok) (c : ℕ) → IsCloser closes tok c → (t : ScannerState) (i : ArrivesInside text t) → t.rest ≡ c ∷ more → begins_with 35 more ≡ false → IsDeep t.held →
-    StandsAt text (closed_base closes tok c t.held.position i.here.site i.here.line i.entry i.entries more) (blanks_and_comment more) (closed_past closes t tok more i.level i.levels i.keys)
-unfolding closer_stands
+    Stands text (closed_past closes t tok more i.level i.levels i.keys)
 closed_inside text more closes tok c k t i e hash deep =
-    stands_at text (closed_past closes t tok more i.level i.levels i.keys) (levels_then closes i.level i.levels) (keys_by closes i.keys) (entries_after closes i.entry i.entries) refl refl
+    stands_by text (closed_past closes t tok more i.level i.levels i.keys) (levels_then closes i.level i.levels) (keys_by closes i.keys) (entries_after closes i.entry i.entries) refl refl
     (closer_stands text more closes tok c k t i.level i.levels i.key i.keys i.entry i.entries i.here deep e hash)

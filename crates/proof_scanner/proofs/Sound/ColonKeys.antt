@@ -1,37 +1,24 @@
 -- A colon that ends the key that is open: what holds where it begins holds between two fetches after it.
-use Rattle.std.proofs.Common.{◌≡◌, ℕ, ◌+◌, ◌-◌, ◌≤◌, List, [], ◌∷◌, ◌++◌, Bool, true, false, not, ◌||◌, ◌==◌, inr, if◌then◌else◌, nat_le, nat_lt, length, replicate, Option, Some, None, Ok, refl, ap, sym, ◌∙◌, subst, arith, length-append, append-nil}
-use Rattle.std.specs.List.{insert}
-use Rattle.std.proofs.lemmas.Bool.Decides.{nat_tests}
-use Rattle.proof_scanner.proofs.Common.{before_past, begin_pair, BeginsButForKey, chained, colon_may_precede, Completes, ends_at, FlowLevel, gives_colon, Held, in_flow, innermost, insert_key, is_adjacent, is_deeper, is_empty, is_separation, is_value_indicator, IsLive, IsNotRight, IsOpenHere, Key, Keyed, Mapping, may_stand, MayChoose, not_ended, NotBefore, on_held, Outside, outside_key, pair_position, Position, position_after, push, put_key, roll_indent, roll_one_col_indent, ScannerState, site_here, site_in, taken, Tok, Token, token, tokens_up_to, with_held, with_top, ◌>>=◌}
-use Rattle.defs_text.specs.Classes.{is_break}
-use Rattle.yaml_tokens.specs.declared.problem.Fault.TheVariants.{At}
+use Rattle.proof_scanner.proofs.Common.{[], Account, ap, append-nil, arith, At, before_by, before_past, begin_pair, BeginsButForKey, Bool, chained, checked, chosen, colon_may_precede, columns, Completes, ends_at, Entry, false, FlowLevel, gives_colon, Held, Holds, if◌then◌else◌, in_flow, innermost, inr, insert, insert_key, is_adjacent, is_break, is_deeper, is_empty, is_separation, is_value_indicator, IsLive, IsNotRight, IsOpenHere, Key, Keyed, length, length-append, List, Mapping, may_stand, MayChoose, nat_le, nat_lt, nat_tests, None, not, not_ended, NotBefore, Ok, on_held, opened, opens_pair, Option, Outside, outside_key, pair_position, past, placed, Position, position_after, push, put, put_key, refl, replicate, roll_indent, roll_one_col_indent, ScannerState, site_here, site_in, SoFar, Some, Stands, subst, sym, taken, takes_pair, Tok, Token, token, tokens_up_to, tried, true, went, with_held, with_top, ℕ, ◌++◌, ◌+◌, ◌-◌, ◌==◌, ◌>>=◌, ◌||◌, ◌∙◌, ◌∷◌, ◌≡◌, ◌≤◌}
 use Rattle.yaml_tokens.specs.declared.problem.Problem.TheVariants as problem
-use Rattle.defs_token.specs.Column.{opened}
-use Rattle.defs_token.specs.FlowEntry.{Entry, takes_pair}
-use Rattle.defs_token.specs.Tokens.{put}
-use Rattle.defs_token.specs.RowAccount.{Account, before_by}
-use Rattle.model_scanner.specs.Machine.{past}
 use Rattle.model_scanner.specs.declared.level.FlowLevel.TheVariants.{Entry as InEntry, Pair as InPair}
-use Rattle.model_scanner.specs.Indents.{placed}
-use Rattle.model_scanner.specs.Block.{opens_pair}
-use Rattle.model_scanner.proofs.Holds.{Holds, went, checked, tried}
 use Rattle.proof_scanner.proofs.Cut.Nodes.{IsDeep}
-use Rattle.proof_scanner.proofs.Cut.Positions.{not_before_after, not_before_then}
-use Rattle.proof_scanner.specs.Choices.{chosen}
-use Rattle.proof_scanner.specs.StandsInRow.{columns, Stands}
+use Rattle.proof_scanner.proofs.Cut.Positions.{not_before_after, not_before_then, weaker}
 use Rattle.proof_scanner.proofs.Sound.Arrivals.{unbroken, not_free, all_go_on, numbered_more, numbered_around, completes_at, carried_at}
 use Rattle.proof_scanner.proofs.Sound.ColonSpaces.{colon_gap, past_gap, gap_cut, gap_fills, gap_in_line, gap_end}
 use Rattle.proof_scanner.proofs.Sound.Colons.{at_value, value_by, colon_end, valued_entry, single_is, one_line_colon, ends_inside}
 use Rattle.proof_scanner.proofs.Sound.Around.{tokens_before, unbroken_around, one_around, may_around, line_taken}
-use Rattle.proof_scanner.proofs.Sound.EntryPieces.{low_enough, site_inside, base_inside, later_after, read_inside_at}
+use Rattle.proof_scanner.proofs.Sound.EntryPieces.{low_enough, site_inside, later_after, read_inside}
 use Rattle.proof_scanner.proofs.Sound.Inserts.{among, first_among, key_longer}
 use Rattle.proof_scanner.proofs.Sound.Indicated.{past_one}
+use Rattle.proof_scanner.proofs.Sound.Completed.{goes_of}
 use Rattle.proof_scanner.proofs.Sound.KeyedColons.{Colon, IsColon, at, before, tokens_past, colon_completes}
+use Rattle.proof_scanner.proofs.Sound.Completed.{goes_of}
 use Rattle.proof_scanner.proofs.Sound.KeyedColons as keyed
 use Rattle.proof_scanner.proofs.Sound.Questions.{pair_level}
-use Rattle.proof_scanner.proofs.Sound.OutsidePieces.{EndsOutside, site_then, ends_outside_at, spaces_in_line}
+use Rattle.proof_scanner.proofs.Sound.OutsidePieces.{EndsOutside, site_then, ends_outside, spaces_in_line}
 use Rattle.proof_scanner.proofs.Sound.Rolled.{RollsTo, rolls_to, OpensOne, opens_one, opens_none, opened_some, some_levels}
-use Rattle.proof_scanner.proofs.Sound.Sides.{with_entries, ArrivesBy, StandsAt}
+use Rattle.proof_scanner.proofs.Sound.Sides.{with_entries, ArrivesBy}
 
 -- ---- outside flow
 
@@ -67,7 +54,7 @@ module _ (text more : List ℕ) (t : ScannerState) (k : Key) (a : ArrivesBy text
   live = ((a.is_near refl).0, some)
 
   key_before : NotBefore k.position t.held.position
-  key_before = not_before_then k.position a.site.position t.held.position a.is_open.0 (subst (λ x. NotBefore a.site.position x) (sym a.position_is) (not_before_after a.site.position a.separation t.rest))
+  key_before = not_before_then k.position a.site.position t.held.position (weaker k.position a.site.position a.is_open.0) (subst (λ x. NotBefore a.site.position x) (sym a.position_is) (not_before_after a.site.position a.separation t.rest))
 
   open_here : IsOpenHere k t.held.position a.site.blocks
   open_here = a.is_open.1 live
@@ -149,18 +136,13 @@ module _ (text more : List ℕ) (t : ScannerState) (k : Key) (a : ArrivesBy text
     unchanged = (refl, refl, refl);
   }
 
-  -- the account after it
-  abbrev pub keyed_base : Account
-  keyed_base = with_entries (site_then (site_here false t.held.position a.site) (58 ∷ []) Tok.value more (outside_after t.held.position)) taken []
-
-  pub keyed_stands : StandsAt text keyed_base (colon_gap more) after
-  unfolding ends
+  pub keyed_stands : Stands text after
   keyed_stands =
       let rows : Completes text (a.separation ++ (58 ∷ more)) (before d) (tokens_up_to (before d) (Some k ∷ []) a.tokens) =
-      subst (λ x. Completes text (a.separation ++ x) (before d) (tokens_up_to (before d) (Some k ∷ []) a.tokens)) e (a.completes true [] live) in
-      ends_outside_at text t after (Some k) a (58 ∷ []) more Tok.value (outside_after t.held.position) (site_here false t.held.position a.site) refl ends
-      (subst (λ q. Completes text more (with_entries (site_then (site_here false q a.site) (58 ∷ []) Tok.value more (outside_after q)) taken []) (λ ws last. after.held.tokens)) (sym place)
-      (subst (λ ts. Completes text more (keyed.past d) (λ ws last. ts)) (sym (tokens_alike ∙ ap row_tokens place)) (colon_completes text d is_colon rows)))
+      subst (λ x. Completes text (a.separation ++ x) (before d) (tokens_up_to (before d) (Some k ∷ []) a.tokens)) e (a.completes true true [] live) in
+      ends_outside text t after (Some k) a (58 ∷ []) more Tok.value (outside_after t.held.position) (site_here false t.held.position a.site) refl ends (is_colon.is_filled, (refl, is_colon.is_piece)) refl
+      (λ strict. subst (λ q. SoFar strict text more (with_entries (site_then (site_here false q a.site) (58 ∷ []) Tok.value more (outside_after q)) taken []) (λ ws last. after.held.tokens)) (sym place)
+      (subst (λ ts. SoFar strict text more (keyed.past d) (λ ws last. ts)) (sym (tokens_alike ∙ ap row_tokens place)) (goes_of strict text more (keyed.past d) (keyed.tokens_past d) refl refl (colon_completes text d is_colon rows))))
 
   pub keyed_is : value_by more t [] (Some k ∷ []) ≡ Ok after
   unfolding insert_key begin_pair
@@ -169,7 +151,7 @@ module _ (text more : List ℕ) (t : ScannerState) (k : Key) (a : ArrivesBy text
       (ap roll_one_col_indent rolled.is_held ∙ awaiting.is_held)
 
   pub keyed_outside : Holds (Stands text) (value_by more t [] (Some k ∷ []))
-  keyed_outside = subst (λ r. Holds (Stands text) r) (sym keyed_is) (went keyed_stands.stands)
+  keyed_outside = subst (λ r. Holds (Stands text) r) (sym keyed_is) (went keyed_stands)
 
 -- ---- in flow
 
@@ -242,10 +224,10 @@ module _ (text more : List ℕ) (t : ScannerState) (f : FlowLevel) (fs : List Fl
     stands = subst (λ q. may_stand true a.site (site_here true q a.site) a.separation (58 ∷ []) Tok.value more ≡ true) inner_place (rw (a.is_indented inner_some, low_enough text t f fs (Some k ∷ ks) (x ∷ es) a deep, apart) refl);
     on_line = ap (λ b. not b || (k.position.line == (keyed.inner_at n).position.line)) single_here ∙ (ap (λ q. not (opens_pair (f ∷ fs)) || (k.position.line == q.line)) (sym inner_place) ∙ on);
     are_among = (first_among (length a.tokens) (Some k) ks (among (length a.tokens) (Some k ∷ ks) a.are_numbered)).1;
-    unbroken = λ c may. unbroken_around text t f fs (Some k) ks x es a inner_some inner_after.held.position (past_gap more) inner_later c may;
-    one_line = λ c may. one_around text t f fs (Some k) ks x es a inner_some inner_after.held.position (past_gap more) inner_later (58 ∷ []) (λ _ _. one_line_colon) c may;
-    may_before = λ c may. subst (λ q. MayChoose c (outside_key es ks) q (58 ∷ more)) inner_place
-        (subst (λ y. MayChoose c (outside_key es ks) t.held.position y) e (may_around text t f fs (Some k) ks x es a inner_some inner_after.held.position (past_gap more) inner_later c may));
+    unbroken = λ strict c may. unbroken_around text t f fs (Some k) ks x es a inner_some inner_after.held.position (past_gap more) inner_later strict c may;
+    one_line = λ strict c may. one_around text t f fs (Some k) ks x es a inner_some inner_after.held.position (past_gap more) inner_later (58 ∷ []) (λ _ _. one_line_colon) strict c may;
+    may_before = λ strict c may. subst (λ q. MayChoose strict c (outside_key es ks) q (58 ∷ more)) inner_place
+        (subst (λ y. MayChoose strict c (outside_key es ks) t.held.position y) e (may_around text t f fs (Some k) ks x es a inner_some inner_after.held.position (past_gap more) inner_later strict c may));
   }
 
   -- the tokens of the row
@@ -268,16 +250,15 @@ module _ (text more : List ℕ) (t : ScannerState) (f : FlowLevel) (fs : List Fl
       let all = length-append (in_pair begins) (put t.held.position Tok.value ∷ []) in
       omega (arith, l, same, all)
 
-  pub inner_stands : (not (opens_pair (f ∷ fs)) || (k.position.line == t.held.position.line)) ≡ true → StandsAt text (base_inside Tok.value (58 ∷ []) t.held.position a.site more a.line (valued_entry x ∷ es)) (colon_gap more) inner_after
-  unfolding ends_inside
+  pub inner_stands : (not (opens_pair (f ∷ fs)) || (k.position.line == t.held.position.line)) ≡ true → Stands text inner_after
   inner_stands on =
-      read_inside_at text t inner_after f (pair_level InPair f) fs (Some k) ks x (valued_entry x) es a (58 ∷ []) more Tok.value
-      (ends_inside text more t f fs (Some k) ks x es a e (in_pair (opens_pair (f ∷ fs))) (tt, numbered_more (length a.tokens) (length inner_after.held.tokens) ks inner_many (numbered_around (length a.tokens) (Some k) ks a.are_numbered)))
-      (λ c cs may.
-      subst (λ q. let b : Account = with_entries (site_inside (site_in true gives_colon q a.site) (58 ∷ []) Tok.value more) a.line (valued_entry x ∷ es) in Completes text more (chosen c cs (None ∷ ks) b) (tokens_up_to (chosen c cs (None ∷ ks) b) (None ∷ ks) inner_after.held.tokens))
+      read_inside text t inner_after f (pair_level InPair f) fs (Some k) ks x (valued_entry x) es a (58 ∷ []) more Tok.value
+      (ends_inside text more t f fs (Some k) ks x es a e (in_pair (opens_pair (f ∷ fs))) (tt, numbered_more (length a.tokens) (length inner_after.held.tokens) ks inner_many (numbered_around (length a.tokens) (Some k) ks a.are_numbered))) ((is_inner on).is_filled, (refl, (is_inner on).is_piece))
+      (λ strict c cs may.
+      subst (λ q. let b : Account = with_entries (site_inside (site_in true gives_colon q a.site) (58 ∷ []) Tok.value more) a.line (valued_entry x ∷ es) in SoFar strict text more (chosen c cs (None ∷ ks) b) (tokens_up_to (chosen c cs (None ∷ ks) b) (None ∷ ks) inner_after.held.tokens))
       (sym inner_place)
-      (subst (λ ts. Completes text more (keyed.inner_past n c cs) (tokens_up_to (keyed.inner_past n c cs) (None ∷ ks) ts)) (sym (inner_alike ∙ ap inner_row inner_place))
-      (keyed.inner_completes text n (is_inner on) (λ b bs q. completes_at text t (f ∷ fs) (Some k ∷ ks) (x ∷ es) a (58 ∷ more) (keyed.inner_at n).position e inner_place b bs q) c cs may)))
+      (subst (λ ts. SoFar strict text more (keyed.inner_past n c cs) (tokens_up_to (keyed.inner_past n c cs) (None ∷ ks) ts)) (sym (inner_alike ∙ ap inner_row inner_place))
+      (keyed.inner_completes text n (is_inner on) (λ st b bs q. completes_at text t (f ∷ fs) (Some k ∷ ks) (x ∷ es) a (58 ∷ more) (keyed.inner_at n).position e inner_place st b bs q) strict c cs may)))
       (λ cs key own must inside_flow rest_goes. subst (λ q. BeginsButForKey text more key.position (chosen false cs (None ∷ ks) (with_entries (site_inside (site_in true gives_colon q a.site) (58 ∷ []) Tok.value more) a.line (valued_entry x ∷ es)))) (sym inner_place)
       (keyed.inner_carried text key.position n (is_inner on) (line_taken text t f fs (Some k) ks x es a) (λ bs. carried_at text t (f ∷ fs) (Some k ∷ ks) (x ∷ es) a (58 ∷ more) e key own must refl inner_some bs) cs))
 
@@ -285,4 +266,4 @@ module _ (text more : List ℕ) (t : ScannerState) (f : FlowLevel) (fs : List Fl
   keyed_inside early =
       chained {P = λ w. (w ≡ record { rest = past_gap more; held = held_pair f }) × ((not (opens_pair (f ∷ fs)) || (k.position.line == t.held.position.line)) ≡ true)}
       (tried (record { rest = past_gap more; held = at_value more t (f ∷ fs) (Some k ∷ ks) }) (insert_key k t.held.position (opens_pair (f ∷ fs)) (at_value more t (f ∷ fs) (Some k ∷ ks))) (pair_begun f early) (λ s i. (ap (λ y. record { rest = past_gap more; held = y }) i.0, i.1))) (λ w i.
-      went (subst (λ z. Stands text (on_held (push t.held.position Tok.value) z)) (sym i.0) (inner_stands i.1).stands))
+      went (subst (λ z. Stands text (on_held (push t.held.position Tok.value) z)) (sym i.0) (inner_stands i.1)))

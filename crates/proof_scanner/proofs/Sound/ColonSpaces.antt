@@ -1,16 +1,8 @@
 -- What the model reads after a colon: where a TAB stands next, the blanks and a comment; else nothing.
-use Rattle.std.proofs.Common.{◌≡◌, ℕ, List, [], ◌∷◌, ◌++◌, Bool, true, false, not, ◌&&◌, ◌||◌, ◌==◌, if◌then◌else◌, Ok, refl, ap, sym, ◌∙◌, subst}
-use Rattle.std.proofs.lemmas.Bool.{or_parts, eqb-true}
-use Rattle.proof_scanner.proofs.Common.{begins_with, begins_with_alpha, blanks_and_comment, check_after_tab, check_value_space, colon_may_precede, has_no_break, Held, is_on_line, is_one_of, is_separation, leading, lexed, pair_position, past_blanks_and_comment, past_comment, past_line_rest, peek, Position, position_after, same_alpha, ScannerState, tab, Yes}
+use Rattle.proof_scanner.proofs.Common.{[], after, ap, At, begins_with, begins_with_alpha, blanks_and_comment, Bool, check_after_tab, check_value_space, checked, colon_may_precede, eqb-true, false, has_no_break, Held, Holds, if◌then◌else◌, is_blank, is_break, is_on_line, is_one_of, is_separation, leading, lexed, List, not, Ok, or_parts, pair_position, past, past_blanks_and_comment, past_comment, past_line_rest, peek, Position, position_after, refl, same_alpha, ScannerState, space, subst, sym, tab, true, went, Yes, ℕ, ◌&&◌, ◌++◌, ◌==◌, ◌||◌, ◌∙◌, ◌∷◌, ◌≡◌}
 use Rattle.yaml_chars.specs.Class.{is_alpha}
 use Rattle.defs_text.specs.Classes as classes
-use Rattle.defs_text.specs.Classes.{is_blank, is_break}
-use Rattle.defs_text.specs.Tags.{after}
-use Rattle.yaml_tokens.specs.declared.problem.Fault.TheVariants.{At}
 use Rattle.yaml_tokens.specs.declared.problem.Problem.TheVariants as problem
-use Rattle.model_scanner.specs.Machine.{past}
-use Rattle.model_scanner.specs.Blanks.{space}
-use Rattle.model_scanner.proofs.Holds.{Holds, went, checked}
 use Rattle.proof_scanner.proofs.Sound.Blanks.{same_in_line, line_rest_cut, line_rest_fills, line_rest_in_line, past_rest, rest_read}
 use Rattle.proof_scanner.proofs.Sound.Indicated.{past_one}
 

@@ -1,33 +1,21 @@
 -- A colon that ends no key: what holds where it begins holds between two fetches after it.
-use Rattle.std.proofs.Common.{◌≡◌, ℕ, ◌+◌, List, [], ◌∷◌, ◌++◌, Bool, true, false, not, ◌⊎◌, inl, inr, if◌then◌else◌, length, Option, Some, None, Result, Ok, refl, ap, sym, ◌∙◌, subst, arith, length-append, append_assoc}
-use Rattle.proof_scanner.proofs.Common.{allow_key, AreNumbered, before_past, begin_keyless_mapping, begin_keyless_value, begun_inside, begun_outside, chained, colon_may_precede, ends_at, entries_past, Fault, FlowLevel, free, fresh, gives_colon, Had, had_after, has_open_level, Held, in_flow, Indent, is_adjacent, is_deeper, is_empty, is_in_column, is_renewed, is_value_indicator, IsEntryOf, IsPairOf, Key, Keyed, Mapping, not_ended, on_held, Outside, pair_past, pair_position, paired, Position, position_after, push, renewed, roll_indent, roll_one_col_indent, ScannerState, start_if, Tok, Token, token, top_key, with_held, ◌>>=◌}
-use Rattle.defs_text.specs.Classes.{is_break}
-use Rattle.yaml_tokens.specs.declared.problem.Fault.TheVariants.{At}
+use Rattle.proof_scanner.proofs.Common.{[], allow_key, ap, append_assoc, AreLevels, AreNumbered, arith, At, before_by, before_past, begin_keyless_mapping, begin_keyless_value, begun_inside, begun_outside, Bool, chained, checked, colon_may_precede, columns, ends_at, entries_past, Entry, false, Fault, FlowLevel, free, fresh, gives_colon, Had, had_after, has_break, has_open_level, Held, Holds, if◌then◌else◌, in_flow, Indent, inl, inr, is_adjacent, is_break, is_deeper, is_empty, is_in_column, is_renewed, is_value, is_value_indicator, IsEntryOf, IsPairOf, Key, Keyed, length, length-append, line_past, List, Mapping, None, not, not_ended, Ok, on_held, opened, opens_pair, Option, Outside, Pair, pair_past, pair_position, paired, past, placed, Position, position_after, push, put, refl, renewed, Result, roll_indent, roll_one_col_indent, ScannerState, settled, Some, Stands, start_if, subst, sym, takes_pair, Tok, Token, token, top_key, tried, true, went, with_held, ℕ, ◌++◌, ◌+◌, ◌>>=◌, ◌∙◌, ◌∷◌, ◌≡◌, ◌⊎◌}
 use Rattle.yaml_tokens.specs.declared.problem.Problem.TheVariants as problem
-use Rattle.defs_token.specs.Step.{has_break}
-use Rattle.defs_token.specs.Column.{opened}
-use Rattle.defs_token.specs.Key.{line_past}
-use Rattle.defs_token.specs.FlowEntry.{settled, Pair, Entry, takes_pair, with_had}
-use Rattle.defs_token.specs.Tokens.{put}
-use Rattle.defs_token.specs.RowAccount.{before_by}
-use Rattle.model_scanner.specs.Machine.{past}
+use Rattle.defs_token.specs.FlowEntry.{with_had}
 use Rattle.model_scanner.specs.declared.level.FlowLevel.TheVariants.{Entry as InEntry, Pair as InPair}
-use Rattle.model_scanner.specs.Indents.{placed}
-use Rattle.model_scanner.specs.Block.{opens_pair, value_of}
-use Rattle.model_scanner.specs.Fetch.{is_value}
-use Rattle.model_scanner.proofs.Holds.{Holds, went, checked, tried}
+use Rattle.model_scanner.specs.Block.{value_of}
 use Rattle.proof_scanner.proofs.Cut.Dispatch.{value_is}
 use Rattle.proof_scanner.proofs.Cut.Nodes.{IsDeep}
-use Rattle.proof_scanner.specs.StandsInRow.{columns, AreLevels, kind_of, Stands}
+use Rattle.proof_scanner.specs.StandsInRow.{kind_of}
 use Rattle.proof_scanner.proofs.Sound.Arrivals.{first_not_right, numbered_more, numbered_around}
 use Rattle.proof_scanner.proofs.Sound.Around.{tokens_before}
 use Rattle.proof_scanner.proofs.Sound.ColonSpaces.{colon_gap, past_gap, gap_cut, gap_fills, gap_in_line, gap_end}
-use Rattle.proof_scanner.proofs.Sound.EntryPieces.{low_enough, base_inside, ReadInside, goes_inside_at}
+use Rattle.proof_scanner.proofs.Sound.EntryPieces.{low_enough, ReadInside, goes_inside}
 use Rattle.proof_scanner.proofs.Sound.Indicated.{past_one}
-use Rattle.proof_scanner.proofs.Sound.OutsidePieces.{base_past, read_outside_at, line_free, spaces_in_line, started_tokens}
+use Rattle.proof_scanner.proofs.Sound.OutsidePieces.{read_outside, line_free, spaces_in_line, started_tokens}
 use Rattle.proof_scanner.proofs.Sound.Questions.{with_mapping, pair_level, same_kind}
 use Rattle.proof_scanner.proofs.Sound.Rolled.{RollsTo, rolls_to, OpensOne, opens_one, opens_none, opened_some, some_levels}
-use Rattle.proof_scanner.proofs.Sound.Sides.{ArrivesBy, StandsAt}
+use Rattle.proof_scanner.proofs.Sound.Sides.{ArrivesBy}
 
 -- ---- where a colon is an indicator
 
@@ -63,14 +51,15 @@ after_colon here bs = record { line = free; blocks = opened here.col (not_ended 
 
 pub keyless_stands : (text more : List ℕ) (t : ScannerState) (a : ArrivesBy text t [] (None ∷ []) []) → t.rest ≡ 58 ∷ more → t.held.key_allowed ≡ true → colon_may_precede more ≡ true →
     is_value_indicator false (is_adjacent (before_past (before_by a.site.before) a.separation)) more ≡ true → (i : ℕ) (ds : List Indent) → columns i ds ≡ opened t.held.position.col (columns t.held.indent t.held.indents) → AreLevels i ds → has_open_level ds ≡ true →
-    StandsAt text (base_past Tok.value (58 ∷ []) t.held.position a.site more (after_colon t.held.position a.site.blocks)) (colon_gap more) (colon_end t more ds i (with_mapping t) true [] (None ∷ []))
+    Stands text (colon_end t more ds i (with_mapping t) true [] (None ∷ []))
 keyless_stands text more t a e allowed apart ind i ds columns_are levels awaits =
-    read_outside_at text t (colon_end t more ds i (with_mapping t) true [] (None ∷ [])) a (58 ∷ []) more Tok.value (after_colon t.held.position a.site.blocks) (record {
+    read_outside text t (colon_end t more ds i (with_mapping t) true [] (None ∷ [])) a (58 ∷ []) more Tok.value (after_colon t.held.position a.site.blocks) (record {
       is_solid = refl;
       is_piece = (refl, ind);
       stands = rw (a.is_indented (ap is_empty e), apart) refl;
       after_is = ap (λ l. line_past (is_in_column t.held.position.col bs) t.held.position bs gives_colon false l) here_free;
       begun = refl;
+      begins_none = refl;
       tokens_are = ap (λ cs. (if is_deeper t.held.position.col cs then placed None (token t.held.position Tok.block_mapping_start) t.held.tokens else t.held.tokens) ++ put t.held.position Tok.value ∷ []) (sym a.blocks_are) ∙
           (started_tokens (is_deeper t.held.position.col bs) t.held.tokens a.tokens (ends_at t.held.position a.site.blocks bs) t.held.position Tok.block_mapping_start (put t.held.position Tok.value) a.tokens_are ∙
           ap (λ l. a.tokens ++ ((ends_at t.held.position a.site.blocks bs ++ begun_outside (is_deeper t.held.position.col bs) t.held.position t.held.position gives_colon false (Some l)) ++ (put t.held.position Tok.value ∷ []))) (sym here_free));
@@ -120,7 +109,7 @@ pub keyless_outside : (text more : List ℕ) (t : ScannerState) (a : ArrivesBy t
 unfolding begin_keyless_value begin_keyless_mapping
 keyless_outside text more t a e apart ind deep =
     chained {P = λ w. (w ≡ record { rest = past_gap more; held = last }) × (t.held.key_allowed ≡ true)} (tried (record { rest = past_gap more; held = h }) _ begun (λ s d. (ap (λ y. record { rest = past_gap more; held = y }) d.0, d.1))) (λ w d.
-    went (subst (λ z. Stands text (on_held (push t.held.position Tok.value) z)) (sym d.0) (keyless_stands text more t a e d.1 apart ind k.level.indent k.level.indents (k.level.columns_are ∙ k.mapping.columns_are) k.level.are_levels k.level.awaits).stands))
+    went (subst (λ z. Stands text (on_held (push t.held.position Tok.value) z)) (sym d.0) (keyless_stands text more t a e d.1 apart ind k.level.indent k.level.indents (k.level.columns_are ∙ k.mapping.columns_are) k.level.are_levels k.level.awaits)))
   where
     h : Held
     h = at_value more t [] (None ∷ [])
@@ -144,10 +133,6 @@ keyless_outside text more t a e apart ind deep =
         allowed false f = absurd (cc f)
 
 -- ---- in flow
-
-pub paired_levels : (f : FlowLevel) (fs : List FlowLevel) → paired (f ∷ fs) ≡ pair_level InPair f ∷ fs
-paired_levels InEntry fs = refl
-paired_levels _ fs = refl
 
 -- the entry after it
 abbrev pub valued_entry : Entry → Entry
@@ -229,10 +214,10 @@ pair_tokens false ts before q own e = ap (λ x. x ++ own ∷ []) e
 -- what stands after it, with its account
 pub keyless_within : (text more : List ℕ) (t : ScannerState) (f : FlowLevel) (fs : List FlowLevel) (ks : List (Option Key)) (e : Entry) (es : List Entry) (a : ArrivesBy text t (f ∷ fs) (None ∷ ks) (e ∷ es)) → t.rest ≡ 58 ∷ more → colon_may_precede more ≡ true →
     is_value_indicator true (is_adjacent (before_past (before_by a.site.before) a.separation)) more ≡ true → IsDeep t.held →
-    StandsAt text (base_inside Tok.value (58 ∷ []) t.held.position a.site more a.line (valued_entry e ∷ es)) (colon_gap more) (colon_end t more t.held.indents t.held.indent (with_pair (opens_pair (f ∷ fs)) more t) false (pair_level InPair f ∷ fs) (None ∷ ks))
-unfolding is_break ends_inside
+    Stands text (colon_end t more t.held.indents t.held.indent (with_pair (opens_pair (f ∷ fs)) more t) false (pair_level InPair f ∷ fs) (None ∷ ks))
+unfolding is_break
 keyless_within text more t f fs ks e es a cut apart ind deep =
-    goes_inside_at text t (colon_end t more t.held.indents t.held.indent (with_pair single more t) false (pair_level InPair f ∷ fs) (None ∷ ks)) f (pair_level InPair f) fs None ks e (valued_entry e) es a (58 ∷ []) more Tok.value (ends_inside text more t f fs None ks e es a cut (with_pair single more t) (tt, numbered_more (length a.tokens) (length (with_pair single more t ++ token t.held.position Tok.value ∷ [])) ks (omega (arith, many)) (numbered_around (length a.tokens) None ks a.are_numbered)))
+    goes_inside text t (colon_end t more t.held.indents t.held.indent (with_pair single more t) false (pair_level InPair f ∷ fs) (None ∷ ks)) f (pair_level InPair f) fs None ks e (valued_entry e) es a (58 ∷ []) more Tok.value (ends_inside text more t f fs None ks e es a cut (with_pair single more t) (tt, numbered_more (length a.tokens) (length (with_pair single more t ++ token t.held.position Tok.value ∷ [])) ks (omega (arith, many)) (numbered_around (length a.tokens) None ks a.are_numbered)))
     (record {
       in_line = one_line_colon;
       begun = refl;
@@ -270,7 +255,7 @@ pub keyless_inside : (text more : List ℕ) (t : ScannerState) (f : FlowLevel) (
 unfolding begin_keyless_value begin_keyless_mapping
 keyless_inside text more t f fs ks e es a cut apart ind deep =
     chained {P = λ w. w ≡ record { rest = past_gap more; held = last }} (tried (record { rest = past_gap more; held = at_value more t (f ∷ fs) (None ∷ ks) }) _ (begun f) (λ s d. ap (λ y. record { rest = past_gap more; held = y }) d)) (λ w d.
-    went (subst (λ z. Stands text (on_held (push t.held.position Tok.value) z)) (sym d) (keyless_within text more t f fs ks e es a cut apart ind deep).stands))
+    went (subst (λ z. Stands text (on_held (push t.held.position Tok.value) z)) (sym d) (keyless_within text more t f fs ks e es a cut apart ind deep)))
   where
     single : Bool
     single = opens_pair (f ∷ fs)

@@ -1,12 +1,5 @@
 -- Rows that are begun and completed: where a text begins, over a step, and where it ends.
-use Rattle.std.proofs.Common.{◌≡◌, ℕ, List, [], ◌∷◌, ◌++◌, Bool, true, false, ◌&&◌, Option, Some, None, refl, ap, sym, ◌∙◌, subst, append_assoc}
-use Rattle.proof_scanner.proofs.Common.{BeginsButForKey, Completes, first_position, is_separation, is_waiting, Key, line_by, line_past_separation, may_end, Position, position_after, stream_start, taken, Token, tokens_of_step, up_to_nul}
-use Rattle.defs_token.specs.Step.{Step, spelled}
-use Rattle.defs_token.specs.RowAccount.{Account, first_account, account_past}
-use Rattle.defs_token.specs.Tokens.{put, tokens_at_end, tokens_from}
-use Rattle.defs_token.specs.Row.{IsWritten, IsRowFrom, IsRead}
-use Rattle.defs_token.specs.Key.{Line}
-use Rattle.defs_token.specs.Beginning.{Leads, Begins}
+use Rattle.proof_scanner.proofs.Common.{[], Account, account_past, ap, append-nil, append_assoc, beginnings_are_cuts, Begins, BeginsButForKey, Bool, Completes, cut_past, false, first_account, first_position, is_separation, is_waiting, IsCutUpTo, IsRead, IsRowFrom, IsWritten, Key, Leads, Line, line_by, line_past_separation, List, may_end, MayChoose, None, Option, Position, position_after, put, refl, SoFar, Some, spelled, Step, stream_start, subst, sym, taken, Token, tokens_at_end, tokens_from, tokens_of_step, true, up_to_nul, ℕ, ◌&&◌, ◌++◌, ◌∙◌, ◌∷◌, ◌≡◌}
 
 -- ---- beginnings of rows
 
@@ -57,32 +50,68 @@ none_waits true None l e = ap is_waiting e
 none_waits true (Some k) l e = ap is_waiting e
 none_waits false k l e = refl
 
+-- an open key that need not be one may be none
+pub may_be_no_key : (strict : Bool) (k : Option Key) (p : Position) (rest : List ℕ) → MayChoose true false k p rest → MayChoose strict false k p rest
+may_be_no_key true k p rest h = h
+may_be_no_key false None p rest h = tt
+may_be_no_key false (Some k) p rest h = tt
+
 -- ---- rows
 
 -- where a text begins, after the stream's start
 pub completed_at_start : (text : List ℕ) → Completes text (up_to_nul text) first_account (λ ws last. put first_position stream_start ∷ [])
-completed_at_start text = (begins_at_start text, λ ws last e r. (record { steps = ws; last = last }, (e, r), refl))
+unfolding begins_at_start
+completed_at_start text = (begins_at_start text, λ ws last e. refl)
 
 -- A step that may stand, after which the tokens of the row up to there are these.
 pub completed_past : (text after : List ℕ) (a b : Account) (before past : List Step → List ℕ → List Token) (w : Step) (next : List ℕ) →
     after ≡ w.separation ++ (w.piece ++ next) → IsWritten a w next → account_past a w next ≡ Some b →
     ((ws : List Step) (last : List ℕ) → spelled ws last ≡ next → before (w ∷ ws) last ++ tokens_of_step a w ws last ≡ past ws last) →
     Completes text after a before → Completes text next b past
+unfolding begins_past
 completed_past text after a b before past w next cut written stands tokens h = (
   begins_past text after a b w next cut written stands h.0,
-  λ ws last e r.
-      let at : List ℕ → Type 0 = λ x. IsWritten a w x × IsRowFrom (account_past a w x) ws last in
-      let here : at next = (written, subst (λ x. IsRowFrom x ws last) (sym stands) r) in
-      let own : IsRowFrom (Some a) (w ∷ ws) last = subst at (sym e) here in
+  λ ws last e.
       let whole : spelled (w ∷ ws) last ≡ after = ap (λ x. w.separation ++ (w.piece ++ x)) e ∙ sym cut in
       let later : tokens_from (account_past a w (spelled ws last)) ws last ≡ tokens_from (Some b) ws last = ap (λ x. tokens_from x ws last) (ap (λ x. account_past a w x) e ∙ stands) in
-      let same : before (w ∷ ws) last ++ tokens_from (Some a) (w ∷ ws) last ≡ past ws last ++ tokens_from (Some b) ws last =
-      ap (λ x. before (w ∷ ws) last ++ (tokens_of_step a w ws last ++ x)) later ∙ (sym (append_assoc (before (w ∷ ws) last) (tokens_of_step a w ws last) (tokens_from (Some b) ws last)) ∙
-      ap (λ x. x ++ tokens_from (Some b) ws last) (tokens ws last e)) in
-      subst (λ x. IsRead text x) same (h.1 (w ∷ ws) last whole own),
+      ap (λ vs. put first_position stream_start ∷ tokens_from (Some first_account) vs last) (append_assoc h.0.steps (w ∷ []) ws) ∙
+      (h.1 (w ∷ ws) last whole ∙
+      (ap (λ x. before (w ∷ ws) last ++ (tokens_of_step a w ws last ++ x)) later ∙
+      (sym (append_assoc (before (w ∷ ws) last) (tokens_of_step a w ws last) (tokens_from (Some b) ws last)) ∙
+      ap (λ x. x ++ tokens_from (Some b) ws last) (tokens ws last e)))),
 )
+
+-- The same of tokens that are a cut alone, if no key begins to wait outside flow.
+pub goes_past : (strict : Bool) (text after : List ℕ) (a b : Account) (before past : List Step → List ℕ → List Token) (w : Step) (next : List ℕ) →
+    after ≡ w.separation ++ (w.piece ++ next) → IsWritten a w next → account_past a w next ≡ Some b → (strict ≡ false → is_waiting a.line ≡ false → is_waiting b.line ≡ false) →
+    ((ws : List Step) (last : List ℕ) → spelled ws last ≡ next → before (w ∷ ws) last ++ tokens_of_step a w ws last ≡ past ws last) →
+    SoFar strict text after a before → SoFar strict text next b past
+goes_past true text after a b before past w next cut written stands idle tokens h = completed_past text after a b before past w next cut written stands tokens h
+goes_past false text after a b before past w next cut written stands idle tokens h = (
+  idle refl h.0,
+  λ ws last e. subst (λ ts. IsCutUpTo text next b ts) (tokens ws last e)
+      (cut_past text after a b (before (w ∷ ws) last) w ws last next cut e written stands h.0 (idle refl h.0) (h.1 (w ∷ ws) last (ap (λ x. w.separation ++ (w.piece ++ x)) e ∙ sym cut))),
+)
+
+-- where no key waits, the tokens of a row so far are a cut
+pub goes_of : (strict : Bool) (text after : List ℕ) (a : Account) (ts : List Token) → may_end a ≡ true → is_waiting a.line ≡ false → Completes text after a (λ ws last. ts) → SoFar strict text after a (λ ws last. ts)
+goes_of true text after a ts ends idle h = h
+goes_of false text after a ts ends idle h = (
+  idle,
+  λ ws last e. beginnings_are_cuts text after a ts h.0 ends (ap (λ vs. put first_position stream_start ∷ tokens_from (Some first_account) vs after) (sym (append-nil h.0.steps)) ∙ h.1 [] after refl),
+)
+
+-- steps to an account at which the text may end are a row
+row_of_steps : (o : Option Account) (ws : List Step) (last : List ℕ) (a : Account) → Leads o ws last a → is_separation false last [] ≡ true → may_end a ≡ true → IsRowFrom o ws last
+row_of_steps None ws last a h fills ends = absurd h
+row_of_steps (Some b) [] last a h fills ends = (fills, ap may_end h ∙ ends)
+row_of_steps (Some b) (w ∷ ws) last a h fills ends = (h.0, row_of_steps (account_past b w (spelled ws last)) ws last a h.1 fills ends)
 
 -- where a text ends
 pub completed_at_end : (text last : List ℕ) (a : Account) (before : List Step → List ℕ → List Token) → is_separation false last [] ≡ true → may_end a ≡ true →
     Completes text last a before → IsRead text (before [] last ++ tokens_at_end (position_after a.site.position last []) a.site.blocks a.entries)
-completed_at_end text last a before fills ends h = h.1 [] last refl (fills, ends)
+completed_at_end text last a before fills ends h = (
+  record { steps = h.0.steps; last = last },
+  (h.0.spells, row_of_steps (Some first_account) h.0.steps last a h.0.leads fills ends),
+  ap (λ ws. put first_position stream_start ∷ tokens_from (Some first_account) ws last) (sym (append-nil h.0.steps)) ∙ h.1 [] last refl,
+)

@@ -1,32 +1,18 @@
 -- The function of the model that reads a dash: what holds where it begins holds between two fetches after it.
-use Rattle.std.proofs.Common.{◌≡◌, ℕ, List, [], ◌∷◌, ◌++◌, Bool, true, false, not, ◌&&◌, ◌||◌, ◌==◌, ◌⊎◌, inl, inr, if◌then◌else◌, slice_index, None, Result, Ok, refl, ap, sym, ◌∙◌, subst}
-use Rattle.std.proofs.lemmas.Bool.{eqb-true}
-use Rattle.proof_scanner.proofs.Common.{allow_key, Arrives, begins_entry, blanks_and_comment, chained, check_block_entry, check_dash, dash_may_precede, ends_at, Fault, fetch_block_entry, free, gives_dash, has_open_level, Held, in_flow, Indent, is_at_gap, is_blank_or_breakz, is_deeper, is_empty, is_in_column, is_on_line, is_one_of, leading, lexed, No, not_ended, on_held, Outside, past_blanks_and_comment, past_comment, past_line_rest, peek, Position, position_after, push, remove_implicit_key, roll_entry, roll_indent, roll_one_col_indent, same_break, ScannerState, skip_indicator, skip_spaces, start_if, Tok, Token, token, top_needs_block_end, try_held, with_top, Yes, ◌>>=◌}
+use Rattle.proof_scanner.proofs.Common.{[], after, allow_key, ap, AreLevels, Arrives, At, begins_entry, blanks_and_comment, Bool, chained, check_block_entry, check_dash, checked, columns, dash_may_precede, ends_at, eqb-true, false, Fault, fetch_block_entry, free, gives_dash, has_open_level, Held, Holds, if◌then◌else◌, in_flow, Indent, inl, inr, is_at_break_or_flow, is_at_gap, is_blank, is_blank_or_breakz, is_break, is_deeper, is_empty, is_in_column, is_on_line, is_one_of, leading, lexed, line_past, List, No, None, not, not_ended, Ok, on_held, opened, Outside, past, past_blanks_and_comment, past_comment, past_line_rest, peek, placed, Position, position_after, push, put, refl, remove_implicit_key, Result, roll_entry, roll_indent, roll_one_col_indent, same_break, ScannerState, skip_indicator, skip_spaces, slice_index, space, Stands, start_if, subst, sym, Tok, Token, token, top_needs_block_end, tried, true, try_held, went, with_top, Yes, ℕ, ◌&&◌, ◌++◌, ◌==◌, ◌>>=◌, ◌||◌, ◌∙◌, ◌∷◌, ◌≡◌, ◌⊎◌}
 use Rattle.yaml_chars.specs.Class.{is_break as is_break_here, is_flow as is_flow_here}
-use Rattle.defs_text.specs.Classes.{is_blank, is_break}
-use Rattle.defs_text.specs.Tags.{after}
-use Rattle.yaml_tokens.specs.declared.problem.Fault.TheVariants.{At}
 use Rattle.yaml_tokens.specs.declared.problem.Problem.TheVariants as problem
-use Rattle.defs_token.specs.Column.{opened}
-use Rattle.defs_token.specs.Key.{line_past}
-use Rattle.defs_token.specs.Indentation.{is_at_break_or_flow}
-use Rattle.defs_token.specs.Tokens.{put}
-use Rattle.model_scanner.specs.Machine.{past}
-use Rattle.model_scanner.specs.Blanks.{space}
 use Rattle.model_scanner.specs.State.{after as after_first}
-use Rattle.model_scanner.specs.Indents.{placed}
-use Rattle.model_scanner.proofs.Holds.{Holds, went, checked, tried}
 use Rattle.proof_lexers.proofs.Bridges.{same_flow}
 use Rattle.proof_scanner.proofs.Cut.Dispatch.{gap_here}
 use Rattle.proof_scanner.proofs.Cut.Nodes.{IsDeep}
 use Rattle.proof_scanner.proofs.Cut.Blocks.{entry_from, key_removed}
-use Rattle.proof_scanner.specs.StandsInRow.{columns, AreLevels, Stands}
 use Rattle.proof_scanner.proofs.Sound.Arrivals.{first_not_right}
 use Rattle.proof_scanner.proofs.Sound.Blanks.{line_rest_cut, line_rest_fills, line_rest_in_line, past_rest_is_clear, found_in, past_rest, rest_read, none_skipped}
 use Rattle.proof_scanner.proofs.Sound.Indicated.{past_one, indicator_end}
-use Rattle.proof_scanner.proofs.Sound.OutsidePieces.{base_past, read_outside_at, line_free, none_open, spaces_in_line, started_tokens}
+use Rattle.proof_scanner.proofs.Sound.OutsidePieces.{read_outside, line_free, none_open, spaces_in_line, started_tokens}
 use Rattle.proof_scanner.proofs.Sound.Rolled.{RollsTo, rolls_to, OpensOne, opens_one, top_closed}
-use Rattle.proof_scanner.proofs.Sound.Sides.{ArrivesBy, ArrivesOutside, ArrivesInside, arrives_side, StandsAt}
+use Rattle.proof_scanner.proofs.Sound.Sides.{ArrivesBy, ArrivesOutside, ArrivesInside, arrives_side}
 
 -- ---- what the model checks
 
@@ -124,14 +110,15 @@ after_dash here bs = record { line = free; blocks = opened here.col (not_ended h
 
 pub dash_stands : (text more : List ℕ) (t : ScannerState) (a : ArrivesBy text t [] (None ∷ []) []) → t.held.flow ≡ [] → t.held.keys ≡ None ∷ [] → t.rest ≡ 45 ∷ more → is_at_gap more ≡ true → t.held.key_allowed ≡ true → dash_may_precede more ≡ true →
     (i : ℕ) (ds : List Indent) → columns i ds ≡ opened t.held.position.col (columns t.held.indent t.held.indents) → AreLevels i ds → has_open_level ds ≡ is_at_break_or_flow (past_blanks_and_comment more) →
-    StandsAt text (base_past Tok.block_entry (45 ∷ []) t.held.position a.site more (after_dash t.held.position a.site.blocks)) (blanks_and_comment more) (dash_end t more ds i (with_sequence t))
+    Stands text (dash_end t more ds i (with_sequence t))
 dash_stands text more t a flow keys e gap allowed apart i ds columns_are levels awaits =
-    read_outside_at text t (dash_end t more ds i (with_sequence t)) a (45 ∷ []) more Tok.block_entry (after_dash t.held.position a.site.blocks) (record {
+    read_outside text t (dash_end t more ds i (with_sequence t)) a (45 ∷ []) more Tok.block_entry (after_dash t.held.position a.site.blocks) (record {
       is_solid = refl;
       is_piece = (refl, gap, refl);
       stands = rw (a.is_indented (ap is_empty e), apart) refl;
       after_is = ap (λ l. line_past (is_in_column t.held.position.col bs) t.held.position bs gives_dash false l) (line_free t.held.key_allowed t.rest a.line_here allowed a.line_is);
       begun = refl;
+      begins_none = refl;
       tokens_are = tokens;
       ends = record {
         no_key = refl;
@@ -210,7 +197,7 @@ dash_outside text more t a flow keys e gap allowed deep =
         (tried (roll_entry w) (remove_implicit_key (roll_entry w).held) (key_removed (roll_entry w).held) (λ s d. ap (λ z. record (roll_entry w) { held = z }) d)) (λ y d.
         went (subst (λ z. Stands text (on_held (λ s. push s.position Tok.block_entry (allow_key true s)) z)) (sym d)
         (subst (λ z. Stands text (on_held (λ s. push s.position Tok.block_entry (allow_key true s)) (record z { held = record z.held { keys = with_top None z.held.keys } }))) (sym n.is)
-        (dash_stands text more t a flow keys e gap allowed apart n.indent n.indents (n.columns_are ∙ r.columns_are) n.are_levels n.awaits).stands)))
+        (dash_stands text more t a flow keys e gap allowed apart n.indent n.indents (n.columns_are ∙ r.columns_are) n.are_levels n.awaits))))
 
 -- A dash that begins an entry is read as in the row.
 pub dash_keeps : (text more : List ℕ) (t : ScannerState) → Arrives text t → t.rest ≡ 45 ∷ more → is_at_gap more ≡ true → IsDeep t.held → Holds (Stands text) (fetch_block_entry t)

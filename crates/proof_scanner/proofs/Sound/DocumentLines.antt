@@ -1,28 +1,21 @@
 -- Document markers and directives: what holds where they begin holds between two fetches after them.
-use Rattle.std.proofs.Common.{◌≡◌, ℕ, suc, ◌+◌, ◌-◌, List, [], ◌∷◌, ◌++◌, Bool, true, false, not, ◌||◌, nat_le, ◌⊎◌, inl, inr, length, replicate, if◌then◌else◌, Option, Some, None, Ok, Err, refl, ap, sym, ◌∙◌, subst, arith, append_assoc, append-nil}
-use Rattle.std.proofs.lemmas.List.{replicate-append-replicate}
-use Rattle.proof_scanner.proofs.Common.{act_of, AreCollections, AreNumbered, Arrives, awaits_past, begin_line, begins_free_line, begins_line, begun_by, begun_inside, begun_outside, block_end, closed_key, colon_of, ends_at, entries_past, FlowKind, FlowLevel, free, further_lines_stand, gives_marker, Had, had_after, Held, in_flow, Indent, is_deep_enough, is_deeper, is_empty, is_in_column, is_indented_by_spaces, is_keyed, is_marker, is_renewed, is_required, is_separation, IsPiece, IsReadOn, IsTopLevel, Key, least_for, Levels, may_precede, not_ended, pair_past, pair_position, Position, position_after, previous_by, remove_implicit_key, renewed, ScannerState, seen, shown_position, Site, site_in, taken, Tok, Token, top_key, unroll_indent, unrolled, with_top}
-use Rattle.yaml_tokens.specs.declared.problem.Fault.TheVariants.{At}
+use Rattle.proof_scanner.proofs.Common.{[], act_of, ap, append-nil, append_assoc, AreCollections, AreLevels, AreNumbered, arith, Arrives, At, awaits_past, before_by, begin_line, begins_free_line, begins_line, begun_by, begun_inside, begun_outside, block_end, Bool, closed_key, colon_of, columns, ends_at, entries_past, Entry, Err, false, FlowKind, FlowLevel, free, further_lines_stand, gives_marker, Had, had_after, has_break, Held, Holds, if◌then◌else◌, in_flow, Indent, inl, inr, is_closed, is_deep_enough, is_deeper, is_empty, is_in_column, is_indented_by_spaces, is_keyed, is_marker, is_renewed, is_required, is_separation, IsPiece, IsReadOn, IsTopLevel, Key, least_for, length, Levels, Line, List, may_precede, nat_le, None, not, not_ended, Ok, Option, other, Pair, pair_past, pair_position, Position, position_after, previous_by, put, refl, refused, remove_implicit_key, renewed, replicate, replicate-append-replicate, ScannerState, seen, settled, shown_position, Site, site_in, Some, Stands, Step, subst, suc, sym, taken, takes_pair, Tok, Token, top_key, true, unroll_indent, unrolled, went, with_top, ℕ, ◌++◌, ◌+◌, ◌-◌, ◌||◌, ◌∙◌, ◌∷◌, ◌≡◌, ◌⊎◌}
 use Rattle.yaml_tokens.specs.declared.problem.Problem.TheVariants as problem
-use Rattle.defs_token.specs.Account.{Account as PieceAccount, other, is_closed}
-use Rattle.defs_token.specs.Step.{Step, has_break}
-use Rattle.defs_token.specs.Key.{Line, line_past as line_of_piece}
-use Rattle.defs_token.specs.FlowEntry.{waits, settled, Pair, Entry, takes_pair, with_had}
-use Rattle.defs_token.specs.RowAccount.{Account, before_by}
-use Rattle.defs_token.specs.Tokens.{put}
-use Rattle.model_scanner.proofs.Holds.{Holds, went, refused}
-use Rattle.proof_scanner.specs.StandsInRow.{columns, AreLevels, Stands}
+use Rattle.defs_token.specs.Account.{Account as PieceAccount}
+use Rattle.defs_token.specs.Key.{line_past as line_of_piece}
+use Rattle.defs_token.specs.FlowEntry.{waits, with_had}
+use Rattle.proof_scanner.proofs.Known.Steps.{begins_key}
 use Rattle.proof_scanner.proofs.Sound.Around.{tokens_before}
 use Rattle.proof_scanner.proofs.Sound.Arrivals.{some_rest, numbered_more, numbered_around}
-use Rattle.proof_scanner.proofs.Sound.EntryPieces.{site_inside, tokens_inside, GoesInside, goes_inside_at}
+use Rattle.proof_scanner.proofs.Sound.EntryPieces.{tokens_inside, GoesInside, goes_inside}
 use Rattle.proof_scanner.proofs.Sound.FlowMarks.{may_be_none}
 use Rattle.proof_scanner.proofs.Sound.Gone.{key_gone}
 use Rattle.proof_scanner.proofs.Sound.NodeTokens.{past_step}
 use Rattle.proof_scanner.proofs.Sound.NodesInside.{not_keyed}
-use Rattle.proof_scanner.proofs.Sound.OutsidePieces.{site_then, tokens_then, ReadOutside, read_outside_at}
+use Rattle.proof_scanner.proofs.Sound.OutsidePieces.{tokens_then, ReadOutside, read_outside}
 use Rattle.proof_scanner.proofs.Sound.KeyStarts.{one_more}
 use Rattle.proof_scanner.proofs.Sound.Standing.{all_true}
-use Rattle.proof_scanner.proofs.Sound.Sides.{with_entries, ArrivesBy, ArrivesOutside, ArrivesInside, arrives_side, StandsAt}
+use Rattle.proof_scanner.proofs.Sound.Sides.{with_entries, ArrivesBy, ArrivesOutside, ArrivesInside, arrives_side}
 use Rattle.proof_scanner.proofs.Sound.StreamEnds.{ends_of, positive, all_levels, shorter}
 
 -- What is said of the token of a document marker or a directive.
@@ -82,11 +75,6 @@ line_begun s u e = subst (λ (h : Held). Holds (λ v. (is_required (top_key u.ke
     by true i = refused
     by false i = went (i, refl)
 
--- and it is not refused, if the innermost key need not be one
-pub line_begins : (s u : Held) → unroll_indent 0 s ≡ u → is_required (top_key u.keys) ≡ false → begin_line s ≡ Ok (begun_from u)
-unfolding begin_line remove_implicit_key
-line_begins s u e none = ap (λ (h : Held). closed_key (remove_implicit_key h)) e ∙ ap (λ b. closed_key (if b then Err (At problem.KeyExpected u.position) else Ok (record u { keys = with_top None u.keys }))) none
-
 -- all levels have ended
 abbrev pub all_ended : Held → Held
 all_ended s = record s { indent = 0; indents = []; tokens = s.tokens ++ ends_of (length (columns s.indent s.indents)) s.position }
@@ -134,15 +122,11 @@ marker_line : (must : Bool) (here : Position) (bs : List ℕ) (l : Line) → (l 
 marker_line must here bs l (inl e) = rw e refl
 marker_line must here bs l (inr e) = rw e refl
 
--- the account after it, where no key is open
-abbrev pub line_base : Read → (here : Position) → Site → Account
-line_base d here s = with_entries (site_then (site_in false gives_marker here s) d.piece d.tok (next_of d) (record { line = taken; blocks = [] })) taken []
-
-line_stands : (text : List ℕ) (t : ScannerState) (d : Read) (a : ArrivesBy text t [] (None ∷ []) []) → IsRead t d → t.held.flow ≡ [] → with_top None t.held.keys ≡ None ∷ [] → StandsAt text (line_base d t.held.position a.site) d.gap (line_past t (begun_from (all_ended t.held)) d)
+line_stands : (text : List ℕ) (t : ScannerState) (d : Read) (a : ArrivesBy text t [] (None ∷ []) []) → IsRead t d → t.held.flow ≡ [] → with_top None t.held.keys ≡ None ∷ [] → Stands text (line_past t (begun_from (all_ended t.held)) d)
 line_stands text t d a r flow keys =
     subst (λ y. (z : ReadOutside text t (line_past t (begun_from (all_ended t.held)) d) a d.piece (next_of d) d.tok (record { line = taken; blocks = [] }) y) →
-    StandsAt text (with_entries (site_then y d.piece d.tok (next_of d) (record { line = taken; blocks = [] })) taken []) z.ends.separation (line_past t (begun_from (all_ended t.held)) d))
-    (ap (λ k. site_in false k t.held.position a.site) r.token.act) (read_outside_at text t (line_past t (begun_from (all_ended t.held)) d) a d.piece (next_of d) d.tok (record { line = taken; blocks = [] }))
+    Stands text (line_past t (begun_from (all_ended t.held)) d))
+    (ap (λ k. site_in false k t.held.position a.site) r.token.act) (read_outside text t (line_past t (begun_from (all_ended t.held)) d) a d.piece (next_of d) d.tok (record { line = taken; blocks = [] }))
     (record {
       is_solid = r.is_solid;
       is_piece = subst (λ p. IsPiece (seen (with_entries a.site a.line []) x a.separation) d.piece (next_of d) None p d.tok) (sym (r.token.shown x d.piece (next_of d))) (r.is_piece (seen (with_entries a.site a.line []) x a.separation) r.at_margin refl);
@@ -150,6 +134,7 @@ line_stands text t d a r flow keys =
           (a.is_indented (some_rest t.rest d.piece (next_of d) r.cut r.is_solid)) refl (r.token.lines (least_for d.tok x) d.piece) (r.precedes false x.blocks);
       after_is = ap (λ k. line_of_piece (is_in_column x.position.col x.blocks) x.position x.blocks k false a.line_here) r.token.act ∙ marker_line (is_in_column x.position.col x.blocks) x.position x.blocks a.line_here a.line_is.0;
       begun = r.token.begun;
+      begins_none = ap begins_key r.token.act;
       tokens_are = tokens;
       ends = record {
         no_key = refl;
@@ -214,14 +199,10 @@ marker_past n p w ws last e f = rw (e, f) refl
 abbrev pub entry_settled : Entry → Entry
 entry_settled e = record { kind = e.kind; pair = e.pair; had = settled }
 
--- the account after it in flow
-abbrev pub line_base_inside : Read → (here : Position) → Site → Line → Entry → (around : List Entry) → Account
-line_base_inside d here s l e es = with_entries (site_inside (site_in true gives_marker here s) d.piece d.tok (next_of d)) l (entry_settled e ∷ es)
-
 line_goes : (text : List ℕ) (t : ScannerState) (d : Read) (f : FlowLevel) (fs : List FlowLevel) (k : Option Key) (ks : List (Option Key)) (e : Entry) (es : List Entry) (a : ArrivesBy text t (f ∷ fs) (k ∷ ks) (e ∷ es)) → IsRead t d → t.held.flow ≡ f ∷ fs → with_top None t.held.keys ≡ None ∷ ks →
-    StandsAt text (line_base_inside d t.held.position a.site a.line e es) d.gap (line_past t (begun_from t.held) d)
+    Stands text (line_past t (begun_from t.held) d)
 line_goes text t d f fs k ks e es a r flow keys =
-    goes_inside_at text t (line_past t (begun_from t.held) d) f f fs k ks e (entry_settled e) es a d.piece (next_of d) d.tok (record {
+    goes_inside text t (line_past t (begun_from t.held) d) f f fs k ks e (entry_settled e) es a d.piece (next_of d) d.tok (record {
       is_solid = r.is_solid;
       cut = r.cut;
       separation = d.gap;
@@ -276,12 +257,11 @@ line_goes text t d f fs k ks e es a r flow keys =
 
 -- outside flow, if no key must be one
 pub outside_at : (text : List ℕ) (t : ScannerState) (o : ArrivesOutside text t) → is_empty t.rest ≡ false → is_required (top_key t.held.keys) ≡ false → (d : Read) → IsRead t d →
-    StandsAt text (line_base d t.held.position o.here.site) d.gap (line_past t (begun_from (all_ended t.held)) d)
-unfolding key_gone
+    Stands text (line_past t (begun_from (all_ended t.held)) d)
 outside_at text t o some none d r = line_stands text t d (key_gone text t o.key o.here some (may_be_none o.key [] t.held.keys t.held.position t.rest o.keys_are none)) r o.flow_is (ap (with_top None) o.keys_are)
 
 -- in flow
-pub inside_at : (text : List ℕ) (t : ScannerState) (i : ArrivesInside text t) (d : Read) → IsRead t d → StandsAt text (line_base_inside d t.held.position i.here.site i.here.line i.entry i.entries) d.gap (line_past t (begun_from t.held) d)
+pub inside_at : (text : List ℕ) (t : ScannerState) (i : ArrivesInside text t) (d : Read) → IsRead t d → Stands text (line_past t (begun_from t.held) d)
 inside_at text t i d r = line_goes text t d i.level i.levels i.key i.keys i.entry i.entries i.here r i.flow_is (ap (with_top None) i.keys_are)
 
 -- What begins such a line, and what holds after it.
@@ -299,11 +279,11 @@ begins text t some a = by (arrives_side text t a)
       held = all_ended t.held;
       rolled = unrolled_outside t.held (ap (λ fs. not (is_empty fs)) o.flow_is) o.here.are_levels;
       same_position = refl;
-      stands = λ d r none. (outside_at text t o some none d r).stands;
+      stands = λ d r none. outside_at text t o some none d r;
     }
     by (inr i) = record {
       held = t.held;
       rolled = unrolled_inside t.held (ap (λ fs. not (is_empty fs)) i.flow_is);
       same_position = refl;
-      stands = λ d r none. (inside_at text t i d r).stands;
+      stands = λ d r none. inside_at text t i d r;
     }

@@ -1,19 +1,11 @@
 -- The functions of the model that read document markers and directives keep what holds where they begin.
-use Rattle.std.proofs.Common.{◌≡◌, ℕ, List, [], ◌∷◌, ◌++◌, Bool, true, false, not, ◌&&◌, ◌||◌, ◌==◌, if◌then◌else◌, take, drop, zero, suc, None, Some, Result, Ok, refl, ap, sym, ◌∙◌, subst}
-use Rattle.std.proofs.lemmas.Bool.{and_parts, eqb-true}
-use Rattle.proof_scanner.proofs.Common.{another, Arrives, begin_line, begins_free_line, begins_line, begins_with, blanks_and_comment, chained, check_document_end, Directive, directive_of, DirectiveEndsAs, directives_end, Fault, fetch_directive, fetch_document_end, fetch_document_marker, has_no_break, has_no_nul, has_tab_within, Held, is_at_gap, is_before_line_feed, is_breakz, is_empty, is_indented_by_spaces, is_renewed, is_required, IsPiece, IsReadOn, least_column, line_is_done, may_precede, on_held, past_blanks_and_comment, past_line_rest, peek, Position, position_after, position_append, previous_by, push, reserved, ScannerState, skip_indicator, split, split_by, tag_declaration, Tok, top_key, version}
-use Rattle.defs_text.specs.Classes.{is_break}
-use Rattle.defs_token.specs.Step.{directive as after_directive, has_break}
-use Rattle.defs_token.specs.Indentation.{last_line}
-use Rattle.defs_token.specs.Key.{without_break}
+use Rattle.proof_scanner.proofs.Common.{[], and_parts, another, ap, Arrives, begin_line, begins_free_line, begins_line, begins_with, blanks_and_comment, Bool, chained, check_document_end, Directive, directive_of, DirectiveEndsAs, directives_end, drop, either, eqb-true, false, Fault, fetch_directive, fetch_document_end, fetch_document_marker, first_break, has_break, has_no_break, has_no_nul, has_tab_within, HasFirst, Held, Holds, if◌then◌else◌, is_at_gap, is_before_line_feed, is_break, is_breakz, is_empty, is_indented_by_spaces, is_renewed, is_required, IsPiece, IsReadOn, last_line, least_column, line_is_done, List, may_precede, None, not, Ok, on_held, past, past_blanks_and_comment, past_line_rest, peek, Position, position_after, position_append, previous_by, push, read, reads, refl, refused, reserved, Result, ScannerState, skip_indicator, Some, split, split_by, Stands, subst, suc, sym, tag_declaration, take, Tok, token_of, top_key, tried, true, version, went, without_break, zero, ℕ, ◌&&◌, ◌++◌, ◌==◌, ◌||◌, ◌∙◌, ◌∷◌, ◌≡◌}
+use Rattle.defs_token.specs.Step.{directive as after_directive}
 use Rattle.model_scanner.specs.Machine as machine
-use Rattle.model_scanner.specs.Machine.{past}
 use Rattle.model_scanner.specs.Directive.{directive}
-use Rattle.model_scanner.proofs.Holds.{Holds, went, refused, tried, either, read}
-use Rattle.proof_lexers.specs.DirectiveEnds.{token_of, ends_line, first_break, next_line, after_line, reads, refuses}
+use Rattle.proof_lexers.specs.DirectiveEnds.{ends_line, next_line, after_line, refuses}
 use Rattle.proof_scanner.proofs.Cut.Documents.{three_past}
 use Rattle.proof_scanner.proofs.Cut.Pieces.Directives.{break_cut, break_is_separation, line_end_there, piece_of, percent_in_line}
-use Rattle.proof_scanner.specs.StandsInRow.{HasFirst, Stands}
 use Rattle.proof_scanner.proofs.Sound.Arrivals.{clean_after}
 use Rattle.proof_scanner.proofs.Sound.Blanks.{same_in_line, line_rest_in_line, line_rest_cut, line_rest_fills, past_rest, rest_skipped}
 use Rattle.proof_scanner.proofs.Sound.DocumentLines as lines

@@ -1,10 +1,5 @@
 -- The block collections that end where a piece begins: the levels that go on are those of the row, and each end has its token.
-use Rattle.std.proofs.Common.{◌≡◌, ℕ, suc, ◌+◌, ◌-◌, List, [], ◌∷◌, ◌++◌, Bool, true, false, not, ◌&&◌, nat_lt, if◌then◌else◌, length, replicate, refl, ap, sym, ◌∙◌, subst, append_assoc, append-nil, arith}
-use Rattle.std.proofs.lemmas.Bool.Decides.{nat_tests}
-use Rattle.proof_scanner.proofs.Common.{AreCollections, block_end, ends_at, has_open_level, Indent, is_deeper, is_empty, IsTopLevel, Levels, not_ended, Position, Token, unrolled}
-use Rattle.defs_token.specs.Tokens.{put}
-use Rattle.model_scanner.specs.Indents.{end_level}
-use Rattle.proof_scanner.specs.StandsInRow.{columns, AreLevels}
+use Rattle.proof_scanner.proofs.Common.{[], ap, append-nil, append_assoc, AreCollections, AreLevels, arith, block_end, Bool, columns, end_level, ends_at, false, has_open_level, if◌then◌else◌, Indent, is_deeper, is_empty, IsTopLevel, length, Levels, List, nat_lt, nat_tests, not, not_ended, Position, put, refl, replicate, subst, suc, sym, Token, true, unrolled, ℕ, ◌&&◌, ◌++◌, ◌+◌, ◌-◌, ◌∙◌, ◌∷◌, ◌≡◌}
 use Rattle.proof_scanner.proofs.Sound.StreamEnds.{shorter}
 
 -- what goes on, of levels whose columns are these, and the tokens with the ends
@@ -65,10 +60,6 @@ collections_end p i (d ∷ ds) ts a =
 levels_of_collections : (i : ℕ) (ds : List Indent) → AreCollections i ds → (AreLevels i ds) × (has_open_level ds ≡ false)
 levels_of_collections i [] a = (a, refl)
 levels_of_collections i (d ∷ ds) a = ((subst (λ b. IsTopLevel b i d.indent ds) (sym a.0) a.1, a.2), ap not a.0)
-
-and_false : (b : Bool) → (b && false) ≡ false
-and_false true = refl
-and_false false = refl
 
 alone : (p : Position) (cols : List ℕ) (awaits : Bool) (ts : List Token) (u : Levels) → (awaits && is_deeper p.col cols) ≡ false → EndedAlone p cols ts u → Ended p cols awaits ts u
 alone p cols awaits ts u e h =

@@ -1,16 +1,7 @@
 -- A comma or a closing bracket in flow: whatever completes the row after it completes it from before. No key of the entry waits.
-use Rattle.std.proofs.Common.{◌≡◌, ℕ, suc, List, [], ◌∷◌, ◌++◌, Bool, true, false, not, ◌&&◌, if◌then◌else◌, length, Option, Some, None, refl, ap, sym, ◌∙◌, subst}
-use Rattle.std.specs.Prelude.{map}
-use Rattle.proof_scanner.proofs.Common.{Act, act_of, begins_free_line, BeginsButForKey, begun_by, begun_inside, colon_of, Completes, entries_by, entries_past, filled, first_entry, fresh, Had, had_by, is_empty, is_keyed, is_renewed, is_separation, is_waiting, IsPiece, Key, key_end, Level, line_by, line_past_separation, may_stand, MayChoose, outside_key, pair_position, past_inside, past_piece, past_site, pop, Position, position_after, seen, shown_position, Site, site_here, site_in, site_past, taken, Token, tokens_at, tokens_of_step, tokens_up_to}
-use Rattle.defs_token.specs.Step.{Step, spelled, gives_comma, gives_closing, has_break}
-use Rattle.defs_token.specs.Key.{Line}
-use Rattle.defs_token.specs.FlowEntry.{waits, settled, Pair, Entry, takes_pair}
-use Rattle.defs_token.specs.RowAccount.{Account, on_one_line, account_past, level_of}
-use Rattle.defs_token.specs.Tokens.{put, pair_end, Colon}
-use Rattle.defs_token.specs.Row.{IsWritten}
-use Rattle.proof_scanner.specs.Choices.{chosen}
-use Rattle.proof_scanner.specs.Completes.{with_had, with_keys}
-use Rattle.proof_scanner.proofs.Sound.Completed.{completed_past, but_for_key_past, none_broken, none_waits}
+use Rattle.proof_scanner.proofs.Common.{[], Account, account_past, Act, act_of, ap, begins_free_line, BeginsButForKey, begun_by, begun_inside, Bool, chosen, Colon, colon_of, entries_by, entries_past, Entry, false, filled, first_entry, fresh, gives_closing, gives_comma, Had, had_by, has_break, if◌then◌else◌, is_empty, is_keyed, is_renewed, is_separation, is_waiting, IsPiece, IsWritten, Key, key_end, length, Level, level_of, Line, line_by, line_past_separation, List, map, may_stand, MayChoose, None, not, on_one_line, Option, outside_key, Pair, pair_end, pair_position, past_inside, past_piece, past_site, pop, Position, position_after, put, refl, seen, settled, shown_position, Site, site_here, site_in, site_past, SoFar, Some, spelled, Step, subst, suc, sym, taken, takes_pair, Token, tokens_at, tokens_of_step, tokens_up_to, true, with_had, with_keys, ℕ, ◌&&◌, ◌++◌, ◌∙◌, ◌∷◌, ◌≡◌}
+use Rattle.defs_token.specs.FlowEntry.{waits}
+use Rattle.proof_scanner.proofs.Sound.Completed.{goes_past, but_for_key_past, none_broken, none_waits}
 use Rattle.proof_scanner.proofs.Sound.FlowSteps.{FlowStep, step_of, base, keys, outside}
 use Rattle.proof_scanner.proofs.Sound.Inserts.{AreAmong, first_among, keys_first}
 use Rattle.proof_scanner.proofs.Sound.NodeTokens.{past_step, past_piece as past_piece_at, keys_along}
@@ -75,9 +66,9 @@ pub record IsEnd (d : End) : Type 0 where
   pub stands : may_stand true d.site (at d) d.separation d.piece d.tok d.next ≡ true
   pub no_key : is_keyed d.entry.had ≡ false
   pub are_among : AreAmong (length d.tokens) (keys d.step)
-  pub unbroken : (c : Bool) → MayChoose c (outside d.step) d.past d.rest → line_past_separation true (begins_free_line d.site.before d.separation) (line_by c (outside d.step) d.line) ≡ Some (line_by c (outside d.step) d.line)
-  pub one_line : (c : Bool) → MayChoose c (outside d.step) d.past d.rest → (has_break d.piece && is_waiting (line_by c (outside d.step) d.line)) ≡ false
-  pub may_before : (c : Bool) → MayChoose c (outside d.step) d.past d.rest → MayChoose c (outside d.step) (at d).position (d.piece ++ d.next)
+  pub unbroken : (strict c : Bool) → MayChoose strict c (outside d.step) d.past d.rest → line_past_separation true (begins_free_line d.site.before d.separation) (line_by c (outside d.step) d.line) ≡ Some (line_by c (outside d.step) d.line)
+  pub one_line : (strict c : Bool) → MayChoose strict c (outside d.step) d.past d.rest → (has_break d.piece && is_waiting (line_by c (outside d.step) d.line)) ≡ false
+  pub may_before : (strict c : Bool) → MayChoose strict c (outside d.step) d.past d.rest → MayChoose strict c (outside d.step) (at d).position (d.piece ++ d.next)
 
 -- ---- the account after it
 
@@ -134,8 +125,8 @@ end_account_by d n c cs unbroken one_line =
     (ap (λ o. on_one_line d.piece (past_inside (at d) d.piece d.tok d.next l o)) entries ∙
     (on_line d.piece (after l (entries_after d.closes d.entry es)) one_line ∙ ap (λ a. Some a) whole))))
 
-pub end_account : (d : End) → IsEnd d → (c : Bool) (cs : List Bool) → MayChoose c (outside d.step) d.past d.rest → account_past (before d c cs) (step_of d.step) d.next ≡ Some (past d c cs)
-end_account d n c cs may = end_account_by d n c cs (n.unbroken c may) (n.one_line c may)
+pub end_account : (d : End) → IsEnd d → (strict c : Bool) (cs : List Bool) → MayChoose strict c (outside d.step) d.past d.rest → account_past (before d c cs) (step_of d.step) d.next ≡ Some (past d c cs)
+end_account d n strict c cs may = end_account_by d n c cs (n.unbroken strict c may) (n.one_line strict c may)
 
 -- ---- the tokens after it
 
@@ -202,21 +193,28 @@ abbrev SeenWith : End → Site → List Level → Type 0
 SeenWith d x levels =
     IsPiece (let a = seen (base d.step) x d.separation in record a { levels = levels }) d.piece d.next None (shown_position x d.piece d.tok d.next) d.tok
 
+pub is_written : (d : End) → IsEnd d → IsWritten (base d.step) (step_of d.step) d.next
+is_written d n =
+    let same : site_in true (act_of d.tok) (at d).position d.site ≡ at d = ap (λ x. site_in true x (at d).position d.site) n.act ∙ same_site d.closes (at d).position d.site in
+    (n.is_filled, (ap not n.is_solid, subst (λ x. SeenWith d x (map level_of (d.entry ∷ d.around))) (sym same) n.is_piece))
+
 seen_written : (d : End) → IsEnd d → (c : Bool) (cs : List Bool) → IsWritten (before d c cs) (step_of d.step) d.next
 seen_written d n c cs =
-    let levels : List Level = map level_of (d.entry ∷ d.around) in
-    let site : Site = site_in true (act_of d.tok) (at d).position d.site in
-    let same : site ≡ at d = ap (λ x. site_in true x (at d).position d.site) n.act ∙ same_site d.closes (at d).position d.site in
-    let alike : SeenWith d site levels = subst (λ x. SeenWith d x levels) (sym same) n.is_piece in
-    (n.is_filled, (ap not n.is_solid, subst (λ x. SeenWith d site x) (sym (same_levels (false ∷ choices_by d.closes cs) (keys d.step) (d.entry ∷ d.around))) alike))
+    let own = is_written d n in
+    (own.0, (own.1.0, subst (λ x. SeenWith d (site_in true (act_of d.tok) (at d).position d.site) x) (sym (same_levels (false ∷ choices_by d.closes cs) (keys d.step) (d.entry ∷ d.around))) own.1.1))
+
+-- outside flow nothing changes
+line_same : (closes c : Bool) (l : Line) (e : Entry) (es : List Entry) (ks : List (Option Key)) → line_by c (outside_key (entries_after closes e es) (keys_by closes ks)) l ≡ line_by c (outside_key es ks) l
+line_same true c l e es ks = refl
+line_same false c l e es ks = refl
 
 -- If each choice before the piece is one of a row, then each choice after it is, and the tokens are those before, the end of a single pair, and the piece's own.
 pub end_completes : (text : List ℕ) (d : End) → IsEnd d →
-    ((c : Bool) (cs : List Bool) → MayChoose c (outside d.step) (at d).position (d.piece ++ d.next) → Completes text (d.separation ++ (d.piece ++ d.next)) (chosen c cs (keys d.step) (base d.step)) (tokens_up_to (chosen c cs (keys d.step) (base d.step)) (keys d.step) d.tokens)) →
-    (c : Bool) (cs : List Bool) → MayChoose c (outside d.step) d.past d.rest → Completes text d.next (past d c cs) (tokens_up_to (past d c cs) (keys_after d) (d.tokens ++ own_tokens d))
-end_completes text d n h c cs may =
-    completed_past text (d.separation ++ (d.piece ++ d.next)) (before d c cs) (past d c cs) (tokens_up_to (before d c cs) (keys d.step) d.tokens) (tokens_up_to (past d c cs) (keys_after d) (d.tokens ++ own_tokens d))
-    (step_of d.step) d.next refl (seen_written d n c cs) (end_account d n c cs may) (end_tokens d n c cs) (h c (false ∷ choices_by d.closes cs) (n.may_before c may))
+    ((strict c : Bool) (cs : List Bool) → MayChoose strict c (outside d.step) (at d).position (d.piece ++ d.next) → SoFar strict text (d.separation ++ (d.piece ++ d.next)) (chosen c cs (keys d.step) (base d.step)) (tokens_up_to (chosen c cs (keys d.step) (base d.step)) (keys d.step) d.tokens)) →
+    (strict c : Bool) (cs : List Bool) → MayChoose strict c (outside d.step) d.past d.rest → SoFar strict text d.next (past d c cs) (tokens_up_to (past d c cs) (keys_after d) (d.tokens ++ own_tokens d))
+end_completes text d n h strict c cs may =
+    goes_past strict text (d.separation ++ (d.piece ++ d.next)) (before d c cs) (past d c cs) (tokens_up_to (before d c cs) (keys d.step) d.tokens) (tokens_up_to (past d c cs) (keys_after d) (d.tokens ++ own_tokens d))
+    (step_of d.step) d.next refl (seen_written d n c cs) (end_account d n strict c cs may) (λ _ i. ap is_waiting (line_same d.closes c d.line d.entry d.around d.outer_keys) ∙ i) (end_tokens d n c cs) (h strict c (false ∷ choices_by d.closes cs) (n.may_before strict c may))
 
 -- The same where a row may begin but for the key outside flow.
 pub end_carried : (text : List ℕ) (begin : Position) (d : End) → IsEnd d → d.line ≡ taken → ((cs : List Bool) → BeginsButForKey text (d.separation ++ (d.piece ++ d.next)) begin (chosen false cs (keys d.step) (base d.step))) → (cs : List Bool) → BeginsButForKey text d.next begin (past d false cs)

@@ -1,23 +1,15 @@
 -- A piece in flow with which its entry goes on, and after which no key of the entry is open: what holds where it begins holds between two fetches after it.
-use Rattle.std.proofs.Common.{◌≡◌, ℕ, suc, ◌≤◌, List, [], ◌∷◌, ◌++◌, Bool, true, false, nat_le, length, Option, Some, None, ap, sym, ◌∙◌, subst, arith, refl}
-use Rattle.proof_scanner.proofs.Common.{act_of, AreNumbered, awaits_past, before_past, BeginsButForKey, begun_by, begun_inside, colon_of, Completes, entries_past, FlowLevel, has_no_nul, has_open_level, HasHadHere, HasNoTabs, is_empty, is_renewed, is_separation, IsAdjacent, IsCarriedOn, IsEntryOf, IsLeading, IsPiece, IsReadOn, Key, least_column, may_stand, MayChoose, NotBefore, outside_key, pair_position, Position, position_after, previous_by, ScannerState, seen, shown_position, Site, site_in, site_past, Tok, Token, tokens_up_to}
-use Rattle.defs_token.specs.Account.{other}
-use Rattle.defs_token.specs.Step.{Step, has_break}
-use Rattle.defs_token.specs.Key.{Line}
-use Rattle.defs_token.specs.FlowEntry.{Entry, takes_pair}
-use Rattle.defs_token.specs.RowAccount.{Account, before_by}
-use Rattle.defs_token.specs.Tokens.{put}
+use Rattle.proof_scanner.proofs.Common.{[], Account, act_of, ap, AreLevels, AreNumbered, arith, awaits_past, before_by, before_past, BeginsButForKey, begun_by, begun_inside, Bool, chosen, colon_of, columns, entries_past, Entry, false, FlowLevel, has_break, has_no_nul, has_open_level, HasHadHere, HasNoTabs, is_empty, is_renewed, is_separation, IsAdjacent, IsCarriedOn, IsEntryOf, IsLeading, IsPiece, IsReadOn, IsWritten, Key, least_column, length, List, may_stand, MayChoose, nat_le, None, NotBefore, Option, other, outside_key, pair_position, Position, position_after, previous_by, put, refl, ScannerState, seen, shown_position, Site, site_in, site_past, SoFar, Some, Stands, Step, subst, suc, sym, takes_pair, Tok, Token, tokens_up_to, true, ℕ, ◌++◌, ◌∙◌, ◌∷◌, ◌≡◌, ◌≤◌}
 use Rattle.proof_scanner.proofs.Cut.Positions.{index_after, not_before_after, not_before_then}
 use Rattle.proof_scanner.proofs.Cut.Nodes.{IsDeep, adjacent_other}
-use Rattle.proof_scanner.specs.Choices.{chosen}
-use Rattle.proof_scanner.specs.StandsInRow.{columns, AreLevels, Stands}
+use Rattle.proof_scanner.proofs.Known.Read.{keyless, knows_inside}
 use Rattle.proof_scanner.proofs.Sound.Arrivals.{clean_after, some_rest, deep_enough, completes_at, carried_at}
 use Rattle.proof_scanner.proofs.Sound.Around.{line_taken, unbroken_around, one_around, may_around, open_around}
 use Rattle.proof_scanner.proofs.Sound.Inserts.{among}
 use Rattle.proof_scanner.proofs.Sound.NodeTokens.{past_step}
 use Rattle.proof_scanner.proofs.Sound.NodesInside.{not_keyed}
-use Rattle.proof_scanner.proofs.Sound.StepsInside.{Piece, IsHere, at, past, piece_completes, piece_carried}
-use Rattle.proof_scanner.proofs.Sound.Sides.{with_entries, ArrivesBy, StandsAt, stands_at}
+use Rattle.proof_scanner.proofs.Sound.StepsInside.{Piece, IsHere, is_written, at, past, piece_completes, piece_carried}
+use Rattle.proof_scanner.proofs.Sound.Sides.{with_entries, ArrivesBy, stands_by}
 
 -- where a piece begins deep enough, the least column is not right of it
 pub low_enough : (text : List ℕ) (t : ScannerState) (f : FlowLevel) (fs : List FlowLevel) (ks : List (Option Key)) (es : List Entry) (a : ArrivesBy text t (f ∷ fs) ks es) → IsDeep t.held → nat_le (least_column a.site.blocks a.site.awaits) t.held.position.col ≡ true
@@ -28,10 +20,6 @@ low_enough text t f fs ks es a deep =
 -- the site after a piece at a site
 abbrev pub site_inside : Site → (piece : List ℕ) → Tok → (next : List ℕ) → Site
 site_inside x piece tok next = site_past true x piece tok next x.blocks
-
--- the account after a piece that stands here, from the line and the entries after it
-abbrev pub base_inside : Tok → (piece : List ℕ) → (here : Position) → Site → (next : List ℕ) → Line → List Entry → Account
-base_inside tok piece here s next l es = with_entries (site_inside (site_in true (act_of tok) here s) piece tok next) l es
 
 -- What was read from one state to another: a piece at a site, and a separation after it; and what the scanner holds then, with the innermost flow level and entry.
 pub record ReadInside (text : List ℕ) (t u : ScannerState) (f g : FlowLevel) (fs : List FlowLevel) (k : Option Key) (ks : List (Option Key)) (e e2 : Entry) (es : List Entry) (a : ArrivesBy text t (f ∷ fs) (k ∷ ks) (e ∷ es)) (piece next : List ℕ) (tok : Tok) : Type 0 where
@@ -60,13 +48,13 @@ pub later_after : (p : Position) (piece next separation rest : List ℕ) → Not
 later_after p piece next separation rest = not_before_then p (position_after p piece next) (position_after (position_after p piece next) separation rest) (not_before_after p piece next) (not_before_after (position_after p piece next) separation rest)
 
 -- If each choice after it is one of a row, what holds between two fetches holds after it, with this account.
-pub read_inside_at : (text : List ℕ) (t u : ScannerState) (f g : FlowLevel) (fs : List FlowLevel) (k : Option Key) (ks : List (Option Key)) (e e2 : Entry) (es : List Entry) (a : ArrivesBy text t (f ∷ fs) (k ∷ ks) (e ∷ es)) (piece next : List ℕ) (tok : Tok) →
-    (r : ReadInside text t u f g fs k ks e e2 es a piece next tok) →
-    ((c : Bool) (cs : List Bool) → MayChoose c (outside_key es ks) u.held.position u.rest →
-    let b : Account = with_entries (site_inside (site_in true (act_of tok) t.held.position a.site) piece tok next) a.line (e2 ∷ es) in Completes text next (chosen c cs (None ∷ ks) b) (tokens_up_to (chosen c cs (None ∷ ks) b) (None ∷ ks) u.held.tokens)) →
+pub read_inside : (text : List ℕ) (t u : ScannerState) (f g : FlowLevel) (fs : List FlowLevel) (k : Option Key) (ks : List (Option Key)) (e e2 : Entry) (es : List Entry) (a : ArrivesBy text t (f ∷ fs) (k ∷ ks) (e ∷ es)) (piece next : List ℕ) (tok : Tok) →
+    (r : ReadInside text t u f g fs k ks e e2 es a piece next tok) → IsWritten (with_entries a.site a.line (e ∷ es)) (keyless a.separation piece tok) next →
+    ((strict c : Bool) (cs : List Bool) → MayChoose strict c (outside_key es ks) u.held.position u.rest →
+    let b : Account = with_entries (site_inside (site_in true (act_of tok) t.held.position a.site) piece tok next) a.line (e2 ∷ es) in SoFar strict text next (chosen c cs (None ∷ ks) b) (tokens_up_to (chosen c cs (None ∷ ks) b) (None ∷ ks) u.held.tokens)) →
     IsCarriedOn text next u.rest (None ∷ ks) (with_entries (site_inside (site_in true (act_of tok) t.held.position a.site) piece tok next) a.line (e2 ∷ es)) →
-    StandsAt text (base_inside tok piece t.held.position a.site next a.line (e2 ∷ es)) r.separation u
-read_inside_at text t u f g fs k ks e e2 es a piece next tok r rows carried =
+    Stands text u
+read_inside text t u f g fs k ks e e2 es a piece next tok r written rows carried =
     let x : Site = site_in true (act_of tok) t.held.position a.site in
     let after : Site = site_inside x piece tok next in
     let i = index_after (position_after t.held.position piece next) r.separation u.rest in
@@ -77,7 +65,7 @@ read_inside_at text t u f g fs k ks e e2 es a piece next tok r rows carried =
     let long : 1 ≤ length piece = not_none piece r.is_solid in
     let was = a.was_adjacent in
     let same = r.unchanged.0 in
-    stands_at text u (g ∷ fs) (None ∷ ks) (e2 ∷ es) r.flow_is r.keys_are (record {
+    stands_by text u (g ∷ fs) (None ∷ ks) (e2 ∷ es) r.flow_is r.keys_are (record {
       site = after;
       line = a.line;
       separation = r.separation;
@@ -101,20 +89,13 @@ read_inside_at text t u f g fs k ks e e2 es a piece next tok r rows carried =
       started = r.unchanged.1 ∙ a.started;
       going = r.unchanged.2 ∙ a.going;
       carries = λ cs key own must inside_flow more. subst (λ l. BeginsButForKey text l key.position (chosen false cs (None ∷ ks) (with_entries after a.line (e2 ∷ es)))) r.is_rest (carried cs key own must inside_flow more);
-      completes = λ c cs may. subst (λ l. let b : Account = with_entries after a.line (e2 ∷ es) in Completes text l (chosen c cs (None ∷ ks) b) (tokens_up_to (chosen c cs (None ∷ ks) b) (None ∷ ks) u.held.tokens)) r.is_rest (rows c cs may);
+      knows = knows_inside text t piece next tok r.cut u.held.position r.separation u.rest r.position_is r.is_rest f fs k ks e es a written;
+      completes = λ strict c cs may. subst (λ l. let b : Account = with_entries after a.line (e2 ∷ es) in SoFar strict text l (chosen c cs (None ∷ ks) b) (tokens_up_to (chosen c cs (None ∷ ks) b) (None ∷ ks) u.held.tokens)) r.is_rest (rows strict c cs may);
     })
   where
     not_none : (l : List ℕ) → is_empty l ≡ false → 1 ≤ length l
     not_none [] h = absurd (cc h)
     not_none (c ∷ l) h = omega arith
-
-pub read_inside : (text : List ℕ) (t u : ScannerState) (f g : FlowLevel) (fs : List FlowLevel) (k : Option Key) (ks : List (Option Key)) (e e2 : Entry) (es : List Entry) (a : ArrivesBy text t (f ∷ fs) (k ∷ ks) (e ∷ es)) (piece next : List ℕ) (tok : Tok) →
-    ReadInside text t u f g fs k ks e e2 es a piece next tok →
-    ((c : Bool) (cs : List Bool) → MayChoose c (outside_key es ks) u.held.position u.rest →
-    let b : Account = with_entries (site_inside (site_in true (act_of tok) t.held.position a.site) piece tok next) a.line (e2 ∷ es) in Completes text next (chosen c cs (None ∷ ks) b) (tokens_up_to (chosen c cs (None ∷ ks) b) (None ∷ ks) u.held.tokens)) →
-    IsCarriedOn text next u.rest (None ∷ ks) (with_entries (site_inside (site_in true (act_of tok) t.held.position a.site) piece tok next) a.line (e2 ∷ es)) →
-    Stands text u
-read_inside text t u f g fs k ks e e2 es a piece next tok r rows carried = (read_inside_at text t u f g fs k ks e e2 es a piece next tok r rows carried).stands
 
 -- ---- the rows: a piece before which no key of the entry waits
 
@@ -135,18 +116,21 @@ pub record GoesInside (text : List ℕ) (t u : ScannerState) (f : FlowLevel) (fs
       let w : Step = record { separation = a.separation; piece = piece; shown = tok; key = false } in colon_of (suc n) p (w ∷ ws) last ≡ colon_of (suc n) (past_step p w ws last) ws last
   pub tokens_are : u.held.tokens ≡ a.tokens ++ tokens_inside x piece tok next e
 
-pub goes_inside_at : (text : List ℕ) (t u : ScannerState) (f g : FlowLevel) (fs : List FlowLevel) (k : Option Key) (ks : List (Option Key)) (e e2 : Entry) (es : List Entry) (a : ArrivesBy text t (f ∷ fs) (k ∷ ks) (e ∷ es)) (piece next : List ℕ) (tok : Tok) →
+pub goes_inside : (text : List ℕ) (t u : ScannerState) (f g : FlowLevel) (fs : List FlowLevel) (k : Option Key) (ks : List (Option Key)) (e e2 : Entry) (es : List Entry) (a : ArrivesBy text t (f ∷ fs) (k ∷ ks) (e ∷ es)) (piece next : List ℕ) (tok : Tok) →
     (r : ReadInside text t u f g fs k ks e e2 es a piece next tok) → GoesInside text t u f fs k ks e e2 es a piece next tok (site_in true (act_of tok) t.held.position a.site) →
-    StandsAt text (base_inside tok piece t.held.position a.site next a.line (e2 ∷ es)) r.separation u
-goes_inside_at text t u f g fs k ks e e2 es a piece next tok r n = read_inside_at text t u f g fs k ks e e2 es a piece next tok r (λ c cs may.
-    subst (λ p. let b : Account = with_entries (site_inside (site_in true (act_of tok) p a.site) piece tok next) a.line (e2 ∷ es) in Completes text next (chosen c cs (None ∷ ks) b) (tokens_up_to (chosen c cs (None ∷ ks) b) (None ∷ ks) u.held.tokens)) (sym place)
-    (rows (subst (λ p. GoesInside text t u f fs k ks e e2 es a piece next tok (site_in true (act_of tok) p a.site)) place n) c cs may))
+    Stands text u
+goes_inside text t u f g fs k ks e e2 es a piece next tok r n = read_inside text t u f g fs k ks e e2 es a piece next tok r (is_written d (here there)) (λ strict c cs may.
+    subst (λ p. let b : Account = with_entries (site_inside (site_in true (act_of tok) p a.site) piece tok next) a.line (e2 ∷ es) in SoFar strict text next (chosen c cs (None ∷ ks) b) (tokens_up_to (chosen c cs (None ∷ ks) b) (None ∷ ks) u.held.tokens)) (sym place)
+    (rows there strict c cs may))
     (λ cs key own must inside_flow more. subst (λ p. BeginsButForKey text next key.position (chosen false cs (None ∷ ks) (with_entries (site_inside (site_in true (act_of tok) p a.site) piece tok next) a.line (e2 ∷ es)))) (sym place)
-    (piece_carried text key.position d (here (subst (λ p. GoesInside text t u f fs k ks e e2 es a piece next tok (site_in true (act_of tok) p a.site)) place n)) (line_taken text t f fs k ks e es a)
+    (piece_carried text key.position d (here there) (line_taken text t f fs k ks e es a)
     (λ bs. carried_at text t (f ∷ fs) (k ∷ ks) (e ∷ es) a (piece ++ next) r.cut key own must refl some bs) cs))
   where
     place : t.held.position ≡ position_after a.site.position a.separation (piece ++ next)
     place = a.position_is ∙ ap (λ x. position_after a.site.position a.separation x) r.cut
+
+    there : GoesInside text t u f fs k ks e e2 es a piece next tok (site_in true (act_of tok) (position_after a.site.position a.separation (piece ++ next)) a.site)
+    there = subst (λ p. GoesInside text t u f fs k ks e e2 es a piece next tok (site_in true (act_of tok) p a.site)) place n
 
     some : is_empty t.rest ≡ false
     some = some_rest t.rest piece next r.cut r.is_solid
@@ -171,18 +155,14 @@ goes_inside_at text t u f g fs k ks e e2 es a piece next tok r n = read_inside_a
       entry_is = m.entry_past;
       colons = m.colons;
       are_among = among (length a.tokens) (k ∷ ks) a.are_numbered;
-      unbroken = λ c may. unbroken_around text t f fs k ks e es a some u.held.position u.rest later c may;
-      one_line = λ c may. one_around text t f fs k ks e es a some u.held.position u.rest later piece (λ _ _. m.in_line) c may;
-      may_before = λ c may. subst (λ x. MayChoose c (outside_key es ks) x (piece ++ next)) place
-          (subst (λ x. MayChoose c (outside_key es ks) t.held.position x) r.cut (may_around text t f fs k ks e es a some u.held.position u.rest later c may));
+      unbroken = λ strict c may. unbroken_around text t f fs k ks e es a some u.held.position u.rest later strict c may;
+      one_line = λ strict c may. one_around text t f fs k ks e es a some u.held.position u.rest later piece (λ _ _. m.in_line) strict c may;
+      may_before = λ strict c may. subst (λ x. MayChoose strict c (outside_key es ks) x (piece ++ next)) place
+          (subst (λ x. MayChoose strict c (outside_key es ks) t.held.position x) r.cut (may_around text t f fs k ks e es a some u.held.position u.rest later strict c may));
     }
 
-    rows : GoesInside text t u f fs k ks e e2 es a piece next tok (at d) → (c : Bool) (cs : List Bool) → MayChoose c (outside_key es ks) u.held.position u.rest →
-        let b : Account = with_entries (site_inside (at d) piece tok next) a.line (e2 ∷ es) in Completes text next (chosen c cs (None ∷ ks) b) (tokens_up_to (chosen c cs (None ∷ ks) b) (None ∷ ks) u.held.tokens)
-    rows m c cs may =
-        subst (λ ts. Completes text next (past d c cs) (tokens_up_to (past d c cs) (None ∷ ks) ts)) (sym m.tokens_are)
-        (piece_completes text d (here m) (λ b bs q. completes_at text t (f ∷ fs) (k ∷ ks) (e ∷ es) a (piece ++ next) (at d).position r.cut place b bs q) c cs may)
-
-pub goes_inside : (text : List ℕ) (t u : ScannerState) (f g : FlowLevel) (fs : List FlowLevel) (k : Option Key) (ks : List (Option Key)) (e e2 : Entry) (es : List Entry) (a : ArrivesBy text t (f ∷ fs) (k ∷ ks) (e ∷ es)) (piece next : List ℕ) (tok : Tok) →
-    ReadInside text t u f g fs k ks e e2 es a piece next tok → GoesInside text t u f fs k ks e e2 es a piece next tok (site_in true (act_of tok) t.held.position a.site) → Stands text u
-goes_inside text t u f g fs k ks e e2 es a piece next tok r n = (goes_inside_at text t u f g fs k ks e e2 es a piece next tok r n).stands
+    rows : GoesInside text t u f fs k ks e e2 es a piece next tok (at d) → (strict c : Bool) (cs : List Bool) → MayChoose strict c (outside_key es ks) u.held.position u.rest →
+        let b : Account = with_entries (site_inside (at d) piece tok next) a.line (e2 ∷ es) in SoFar strict text next (chosen c cs (None ∷ ks) b) (tokens_up_to (chosen c cs (None ∷ ks) b) (None ∷ ks) u.held.tokens)
+    rows m strict c cs may =
+        subst (λ ts. SoFar strict text next (past d c cs) (tokens_up_to (past d c cs) (None ∷ ks) ts)) (sym m.tokens_are)
+        (piece_completes text d (here m) (λ st b bs q. completes_at text t (f ∷ fs) (k ∷ ks) (e ∷ es) a (piece ++ next) (at d).position r.cut place st b bs q) strict c cs may)

@@ -1,21 +1,13 @@
 -- Each fetch keeps what holds between two fetches, or ends the stream with a row of the text, if the function of each token keeps it.
-use Rattle.std.proofs.Common.{◌≡◌, ℕ, ◌+◌, List, ◌∷◌, Bool, true, false, ◌==◌, ◌&&◌, ◌⊎◌, inl, inr, nat_lt, if◌then◌else◌, refl, sym}
-use Rattle.std.proofs.lemmas.Bool.{eqb-true}
-use Rattle.proof_scanner.proofs.Common.{Arrives, Before, before_past, chained, comes_marker, comes_plain, FaresAt, fetch, fetch_anchor, fetch_block_entry, fetch_block_scalar, fetch_content, fetch_directive, fetch_document_end, fetch_document_marker, fetch_first_column, fetch_flow_collection_end, fetch_flow_collection_start, fetch_flow_entry, fetch_flow_scalar, fetch_here, fetch_indented, fetch_key, fetch_next, fetch_plain_scalar, fetch_tag, fetch_token, fetch_value, FetchKeeps, held_of, in_flow, is_adjacent, is_at_gap, is_document_marker, is_empty, Mapping, peek, ScannerState, stale, Tok, try_held, weakened, ◌>>=◌}
-use Rattle.defs_token.specs.RowAccount.{before_by}
-use Rattle.defs_token.specs.Row.{IsRead}
-use Rattle.yaml_tokens.specs.declared.problem.Fault.TheVariants.{At}
+use Rattle.proof_scanner.proofs.Common.{[], ap, Arrives, At, Before, before_by, before_past, Bool, chained, checked, comes_marker, comes_plain, either, eqb-true, false, Fares, fetch, fetch_anchor, fetch_block_entry, fetch_block_scalar, fetch_content, fetch_directive, fetch_document_end, fetch_document_marker, fetch_first_column, fetch_flow_collection_end, fetch_flow_collection_start, fetch_flow_entry, fetch_flow_scalar, fetch_here, fetch_indented, fetch_key, fetch_next, fetch_plain_scalar, fetch_tag, fetch_token, fetch_value, FetchKeeps, first_position, has_no_nul, held_of, Holds, if◌then◌else◌, in_flow, inl, inr, is_adjacent, is_at_gap, is_document_marker, is_empty, is_value, IsAtEnd, IsPositionIn, IsRead, List, Mapping, nat_lt, next_line, peek, position_after, quote_of, refl, refused, ScannerState, stale, Stands, subst, sym, Tok, true, try_held, weakened, ℕ, ◌&&◌, ◌+◌, ◌==◌, ◌>>=◌, ◌∙◌, ◌∷◌, ◌≡◌, ◌⊎◌}
 use Rattle.yaml_tokens.specs.declared.problem.Problem.TheVariants as problem
-use Rattle.model_scanner.specs.Quoted.{quote_of}
 use Rattle.model_scanner.specs.declared.level.FlowLevel.TheVariants.{Entry}
 use Rattle.model_scanner.specs.State.{after}
-use Rattle.model_scanner.specs.Fetch.{is_value}
-use Rattle.model_scanner.proofs.Holds.{Holds, refused, checked, either}
 use Rattle.proof_scanner.proofs.Cut.Nodes.{IsDeep}
 use Rattle.proof_scanner.proofs.Cut.Dispatch.{token_holds}
 use Rattle.proof_scanner.proofs.Cut.Fetched.{begins_with_this, Marked, marked, no_marker, is_deep, no_end, goes_on_here}
-use Rattle.proof_scanner.specs.StandsInRow.{Stands, Fares}
-use Rattle.proof_scanner.proofs.Sound.KeysBefore.{KeysBefore, keys_before}
+use Rattle.proof_scanner.proofs.Cut.Documents.{whole_text}
+use Rattle.proof_scanner.proofs.Sound.CutsSoFar.{arrives_cut, cut_position, end_position}
 use Rattle.proof_scanner.proofs.Sound.Stales.{fares_stale}
 use Rattle.proof_scanner.proofs.Sound.StreamEnds.{stream_ended}
 use Rattle.proof_scanner.proofs.Sound.Arriving.{arrived}
@@ -33,7 +25,7 @@ pub record EachKeeps : Type 0 where
   pub block : (text : List ℕ) (literal : Bool) (t : ScannerState) (more : List ℕ) → t.rest ≡ (if literal then 124 else 62) ∷ more → is_empty t.held.flow ≡ true → IsDeep t.held → Arrives text t → Holds (Stands text) (fetch_block_scalar literal t)
   pub dash : (text more : List ℕ) (t : ScannerState) → Arrives text t → t.rest ≡ 45 ∷ more → is_at_gap more ≡ true → IsDeep t.held → Holds (Stands text) (fetch_block_entry t)
   pub question : (text more : List ℕ) (t : ScannerState) → Arrives text t → t.rest ≡ 63 ∷ more → is_at_gap more ≡ true → IsDeep t.held → Holds (Stands text) (fetch_key t)
-  pub colon : (text more : List ℕ) (t : ScannerState) → Arrives text t → KeysBefore t.held.position t.held.keys → t.rest ≡ 58 ∷ more → is_value t ≡ true → IsDeep t.held → Holds (Stands text) (fetch_value t)
+  pub colon : (text more : List ℕ) (t : ScannerState) → Arrives text t → t.rest ≡ 58 ∷ more → is_value t ≡ true → IsDeep t.held → Holds (Stands text) (fetch_value t)
   pub open_bracket : (text more : List ℕ) (t : ScannerState) → Arrives text t → t.rest ≡ 91 ∷ more → IsDeep t.held → Holds (Stands text) (fetch_flow_collection_start Entry Tok.flow_sequence_start t)
   pub open_brace : (text more : List ℕ) (t : ScannerState) → Arrives text t → t.rest ≡ 123 ∷ more → IsDeep t.held → Holds (Stands text) (fetch_flow_collection_start Mapping Tok.flow_mapping_start t)
   pub close_bracket : (text more : List ℕ) (t : ScannerState) → Arrives text t → t.rest ≡ 93 ∷ more → IsDeep t.held → Holds (Stands text) (fetch_flow_collection_end Tok.flow_sequence_end t)
@@ -45,8 +37,8 @@ pub record EachKeeps : Type 0 where
 
 -- ---- a token
 
-token_kept : EachKeeps → (text : List ℕ) (t : ScannerState) → FaresAt text t → Arrives text t → is_empty t.rest ≡ false → IsDeep t.held → ((t.held.position.col == 0) && is_document_marker t.rest) ≡ false → Holds (Stands text) (fetch_token t)
-token_kept keeps text t k a some deep marker =
+token_kept : EachKeeps → (text : List ℕ) (t : ScannerState) → Arrives text t → is_empty t.rest ≡ false → IsDeep t.held → ((t.held.position.col == 0) && is_document_marker t.rest) ≡ false → Holds (Stands text) (fetch_token t)
+token_kept keeps text t a some deep marker =
     token_holds (Holds (Stands text)) t (is_adjacent (before_here text t a)) a.is_clean a.is_solid (λ inside. sym (a.is_adjacent_here inside some)) marker (record {
       anchor = λ alias more e. keeps.anchor text alias t more e deep a;
       tag = λ more e. keeps.tag text t more e deep a;
@@ -55,7 +47,7 @@ token_kept keeps text t k a some deep marker =
       block = λ literal more e o. keeps.block text literal t more e o deep a;
       dash = λ more e g. keeps.dash text more t a e g deep;
       question = λ more e g. keeps.question text more t a e g deep;
-      colon = λ more e i. keeps.colon text more t a (keys_before text t k) e i deep;
+      colon = λ more e i. keeps.colon text more t a e i deep;
       open_bracket = λ more e. keeps.open_bracket text more t a e deep;
       open_brace = λ more e. keeps.open_brace text more t a e deep;
       close_bracket = λ more e. keeps.close_bracket text more t a e deep;
@@ -68,41 +60,44 @@ token_kept keeps text t k a some deep marker =
 
 -- ---- markers, and the text's end
 
-indented_kept : EachKeeps → (text : List ℕ) (t : ScannerState) → FaresAt text t → Arrives text t → is_empty t.rest ≡ false → ((t.held.position.col == 0) && is_document_marker t.rest) ≡ false → Holds (Stands text) (fetch_indented t)
+indented_kept : EachKeeps → (text : List ℕ) (t : ScannerState) → Arrives text t → is_empty t.rest ≡ false → ((t.held.position.col == 0) && is_document_marker t.rest) ≡ false → Holds (Stands text) (fetch_indented t)
 unfolding fetch_indented
-indented_kept keeps text t k a some none =
-    checked (nat_lt (t.held.position.col + 1) t.held.indent) (At problem.InvalidIndentation t.held.position) (λ e. token_kept keeps text t k a some (is_deep t.held.position.col t.held.indent e) none)
+indented_kept keeps text t a some none =
+    checked (nat_lt (t.held.position.col + 1) t.held.indent) (At problem.InvalidIndentation t.held.position) (λ e. token_kept keeps text t a some (is_deep t.held.position.col t.held.indent e) none)
 
-first_kept : EachKeeps → (text : List ℕ) (t : ScannerState) → FaresAt text t → Arrives text t → is_empty t.rest ≡ false → t.held.position.col ≡ 0 → Holds (Stands text) (fetch_first_column t)
+first_kept : EachKeeps → (text : List ℕ) (t : ScannerState) → Arrives text t → is_empty t.rest ≡ false → t.held.position.col ≡ 0 → Holds (Stands text) (fetch_first_column t)
 unfolding fetch_first_column
-first_kept keeps text t k a some col =
+first_kept keeps text t a some col =
     either (peek t.rest == 37) (λ e. keeps.directive text (after t.rest) t a (begins_with_this t.rest 37 some e) col) (λ _.
     either (comes_marker 45 t.rest) (λ e. let m : Marked 45 t.rest = marked 45 t.rest refl e in keeps.document_start text m.more t a m.is_text m.gap col) (λ x.
     either (comes_marker 46 t.rest) (λ e. let m : Marked 46 t.rest = marked 46 t.rest refl e in keeps.document_end text m.more t a m.is_text m.gap col) (λ y.
-    indented_kept keeps text t k a some (by (t.held.position.col == 0) (no_marker t.rest x y)))))
+    indented_kept keeps text t a some (by (t.held.position.col == 0) (no_marker t.rest x y)))))
   where
     by : (b : Bool) → is_document_marker t.rest ≡ false → (b && is_document_marker t.rest) ≡ false
     by true e = e
     by false e = refl
 
-content_kept : EachKeeps → (text : List ℕ) (t : ScannerState) → FaresAt text t → Arrives text t → is_empty t.rest ≡ false → Holds (Stands text) (fetch_content t)
+pub content_kept : EachKeeps → (text : List ℕ) (t : ScannerState) → Arrives text t → is_empty t.rest ≡ false → Holds (Stands text) (fetch_content t)
 unfolding fetch_content
-content_kept keeps text t k a some = either (t.held.position.col == 0) (λ e. first_kept keeps text t k a some (eqb-true t.held.position.col 0 e)) (λ e. indented_kept keeps text t k a some (rw e refl))
+content_kept keeps text t a some = either (t.held.position.col == 0) (λ e. first_kept keeps text t a some (eqb-true t.held.position.col 0 e)) (λ e. indented_kept keeps text t a some (rw e refl))
 
 -- after a token, or after the stream's end
 abbrev Kept : List ℕ → ScannerState → Type 0
-Kept text t = Stands text t ⊎ ((t.held.ended ≡ true) × IsRead text t.held.tokens)
+Kept text t = Stands text t ⊎ ((t.held.ended ≡ true) × IsRead text t.held.tokens × IsAtEnd text t.held)
 
-here_kept : EachKeeps → (text : List ℕ) (t : ScannerState) → FaresAt text t → Arrives text t → Holds (Kept text) (fetch_here t)
+here_kept : EachKeeps → (text : List ℕ) → has_no_nul text ≡ true → (t : ScannerState) → Arrives text t → Holds (Kept text) (fetch_here t)
 unfolding fetch_here
-here_kept keeps text t k a =
-    either (peek t.rest == 0) (λ e. weakened (λ u x. inr x) (stream_ended text t a (no_end t.rest a.is_clean e))) (λ e. weakened (λ u x. inl x) (content_kept keeps text t k a (goes_on_here t.rest e)))
+here_kept keeps text nul t a =
+    either (peek t.rest == 0) (λ e. let none : t.rest ≡ [] = no_end t.rest a.is_clean e in weakened (λ u x. inr (x.0, x.1, record { began = x.2 ∙ a.started; position = x.3 ∙ ap next_line (at_end none) })) (stream_ended text t a none)) (λ e. weakened (λ u x. inl x) (content_kept keeps text t a (goes_on_here t.rest e)))
+  where
+    at_end : t.rest ≡ [] → t.held.position ≡ position_after first_position text []
+    at_end none = end_position text t.held.position (subst (λ r. IsPositionIn text r t.held.position) none (cut_position text a.separation t.rest a.base a.tokens t.held.position (whole_text text nul) a.position_is (arrives_cut text t a)))
 
-next_kept : EachKeeps → (text : List ℕ) (t : ScannerState) → FaresAt text t → Stands text t → Holds (Fares text) (fetch_next t)
+next_kept : EachKeeps → (text : List ℕ) → has_no_nul text ≡ true → (t : ScannerState) → Stands text t → Holds (Fares text) (fetch_next t)
 unfolding fetch_next
-next_kept keeps text t k s = arrived text t (λ v. fetch_here v >>= λ w. try_held stale w) (Fares text) k s (λ v c a. chained (here_kept keeps text v c a) (λ w x. fares_stale text w x))
+next_kept keeps text nul t s = arrived text t (λ v. fetch_here v >>= λ w. try_held stale w) (Fares text) s (λ v a. chained (here_kept keeps text nul v a) (λ w x. fares_stale text w x))
 
 -- Each fetch keeps what holds, if the function of each token keeps it.
 pub fetch_keeps : EachKeeps → FetchKeeps
 unfolding fetch
-fetch_keeps keeps text t u nul k s e = held_of u (either t.held.started (λ _. next_kept keeps text t k s) (λ n. absurd (cc (n, s.started)))) e
+fetch_keeps keeps text t u nul s e = held_of u (either t.held.started (λ _. next_kept keeps text nul t s) (λ n. absurd (cc (n, s.started)))) e

@@ -1,18 +1,14 @@
 -- The functions of the model that read commas and closing brackets keep what holds where they begin.
-use Rattle.std.proofs.Common.{◌≡◌, ℕ, List, [], ◌∷◌, Bool, true, false, ◌⊎◌, inl, inr, if◌then◌else◌, Option, Some, None, Ok, Err, refl, ap, sym, ◌∙◌, subst}
-use Rattle.proof_scanner.proofs.Common.{adjacent_in_flow, Arrives, begins_with, blanks_and_comment, chained, end_entry, end_flow, ended_flow, fetch_flow_collection_end, fetch_flow_entry, FlowLevel, Held, is_empty, is_required, Key, MayChoose, next_entry, on_held, pop, Position, push, remove_implicit_key, ScannerState, Tok, top_key, with_top}
-use Rattle.yaml_tokens.specs.declared.problem.Fault.TheVariants.{At}
+use Rattle.proof_scanner.proofs.Common.{[], adjacent_in_flow, ap, Arrives, At, begins_with, Bool, chained, end_entry, end_flow, ended_flow, Err, false, fetch_flow_collection_end, fetch_flow_entry, FlowLevel, Held, Holds, if◌then◌else◌, inl, inr, is_empty, is_required, Key, List, MayChoose, next_entry, None, Ok, on_held, Option, pop, Position, push, refl, refused, remove_implicit_key, ScannerState, Some, Stands, subst, sym, Tok, top_key, tried, true, went, with_top, ℕ, ◌∙◌, ◌∷◌, ◌≡◌, ◌⊎◌}
 use Rattle.yaml_tokens.specs.declared.problem.Problem.TheVariants as problem
 use Rattle.model_scanner.specs.State.{after}
-use Rattle.model_scanner.proofs.Holds.{Holds, went, refused, tried}
 use Rattle.proof_scanner.proofs.Cut.FlowEnds.{higher_keys, ended_now, entry_now, ended_is, entry_is}
 use Rattle.proof_scanner.proofs.Cut.Nodes.{IsDeep}
-use Rattle.proof_scanner.specs.StandsInRow.{Stands}
-use Rattle.proof_scanner.proofs.Sound.Closers.{IsCloser, comma, stray_past, stray_base, stray_at}
+use Rattle.proof_scanner.proofs.Sound.Closers.{IsCloser, comma, stray_past, stray_at}
 use Rattle.proof_scanner.proofs.Sound.ClosersInside.{adjacent_then, closed_inside}
 use Rattle.proof_scanner.proofs.Sound.Gone.{key_gone}
 use Rattle.proof_scanner.proofs.Sound.Indicated.{past_it, indicator_passed}
-use Rattle.proof_scanner.proofs.Sound.Sides.{ArrivesOutside, ArrivesInside, arrives_side, StandsAt}
+use Rattle.proof_scanner.proofs.Sound.Sides.{ArrivesOutside, ArrivesInside, arrives_side}
 
 -- ---- what the model leaves
 
@@ -34,7 +30,7 @@ entry_over s = by (is_required (top_key s.keys)) refl
     by false e = went (e, entry_is s s.flow)
 
 -- so outside flow it may be none
-pub may_be_none : (k : Option Key) (ks : List (Option Key)) (keys : List (Option Key)) (p : Position) (rest : List ℕ) → keys ≡ k ∷ ks → is_required (top_key keys) ≡ false → MayChoose false k p rest
+pub may_be_none : (k : Option Key) (ks : List (Option Key)) (keys : List (Option Key)) (p : Position) (rest : List ℕ) → keys ≡ k ∷ ks → is_required (top_key keys) ≡ false → MayChoose true false k p rest
 may_be_none None ks keys p rest e h = tt
 may_be_none (Some x) ks keys p rest e h = sym (ap (λ l. is_required (top_key l)) e) ∙ h
 
@@ -42,8 +38,7 @@ may_be_none (Some x) ks keys p rest e h = sym (ap (λ l. is_required (top_key l)
 
 -- outside flow
 pub stray_outside : (text more : List ℕ) (closes : Bool) (tok : Tok) (c : ℕ) → IsCloser closes tok c → (t : ScannerState) (o : ArrivesOutside text t) → t.rest ≡ c ∷ more → begins_with 35 more ≡ false → is_required (top_key t.held.keys) ≡ false →
-    StandsAt text (stray_base closes tok c t.held.position o.here.site more) (blanks_and_comment more) (stray_past closes t tok more)
-unfolding key_gone
+    Stands text (stray_past closes t tok more)
 stray_outside text more closes tok c k t o e hash free =
     stray_at text more closes tok c k t (key_gone text t o.key o.here (ap is_empty e) (may_be_none o.key [] t.held.keys t.held.position t.rest o.keys_are free)) (ap (with_top None) o.keys_are) e hash
 
@@ -56,10 +51,10 @@ comma_stands : (text more : List ℕ) (t : ScannerState) → t.rest ≡ 44 ∷ m
 comma_stands text more t e hash deep a free = by (arrives_side text t a)
   where
     by : ArrivesOutside text t ⊎ ArrivesInside text t → Stands text (after_comma t.held.flow (with_top None t.held.keys) t more)
-    by (inl o) = subst (λ fs. Stands text (after_comma fs (with_top None t.held.keys) t more)) (sym o.flow_is) (stray_outside text more false Tok.flow_entry 44 comma t o e hash free).stands
+    by (inl o) = subst (λ fs. Stands text (after_comma fs (with_top None t.held.keys) t more)) (sym o.flow_is) (stray_outside text more false Tok.flow_entry 44 comma t o e hash free)
     by (inr i) =
         subst (λ fs. Stands text (after_comma fs (with_top None t.held.keys) t more)) (sym i.flow_is)
-        (subst (λ ks. Stands text (after_comma (i.level ∷ i.levels) ks t more)) (sym (ap (with_top None) i.keys_are)) (closed_inside text more false Tok.flow_entry 44 comma t i e hash deep).stands)
+        (subst (λ ks. Stands text (after_comma (i.level ∷ i.levels) ks t more)) (sym (ap (with_top None) i.keys_are)) (closed_inside text more false Tok.flow_entry 44 comma t i e hash deep))
 
 -- `,`
 pub comma_keeps : (text more : List ℕ) (t : ScannerState) → t.rest ≡ 44 ∷ more → IsDeep t.held → Arrives text t → Holds (Stands text) (fetch_flow_entry t)
@@ -85,12 +80,12 @@ unfolding adjacent_in_flow
 closing_stands text more tok c k t e hash deep a free = by (arrives_side text t a)
   where
     by : ArrivesOutside text t ⊎ ArrivesInside text t → Stands text (after_closing tok t.held.flow (higher_keys t.held.flow t.held.keys) t more)
-    by (inl o) = subst (λ fs. Stands text (after_closing tok fs (higher_keys fs t.held.keys) t more)) (sym o.flow_is) (stray_outside text more true tok c k t o e hash free).stands
+    by (inl o) = subst (λ fs. Stands text (after_closing tok fs (higher_keys fs t.held.keys) t more)) (sym o.flow_is) (stray_outside text more true tok c k t o e hash free)
     by (inr i) =
         let now : ScannerState = past_it (record t { held = record (ended_now (i.level ∷ i.levels) t.held) { keys = i.keys } }) more in
         subst (λ fs. Stands text (after_closing tok fs (higher_keys fs t.held.keys) t more)) (sym i.flow_is)
         (subst (λ ks. Stands text (after_closing tok (i.level ∷ i.levels) (pop (with_top None ks)) t more)) (sym i.keys_are)
-        (subst (λ h. Stands text (record now { held = push t.held.position tok h })) (sym (adjacent_is now.held i.levels)) (closed_inside text more true tok c k t i e hash deep).stands))
+        (subst (λ h. Stands text (record now { held = push t.held.position tok h })) (sym (adjacent_is now.held i.levels)) (closed_inside text more true tok c k t i e hash deep)))
 
 -- `]` or `}`
 pub closing_keeps : (text more : List ℕ) (tok : Tok) (c : ℕ) → IsCloser true tok c → (t : ScannerState) → t.rest ≡ c ∷ more → IsDeep t.held → Arrives text t → Holds (Stands text) (fetch_flow_collection_end tok t)

@@ -1,19 +1,15 @@
 -- The function of the model that reads an opening bracket keeps what holds where it begins.
-use Rattle.std.proofs.Common.{◌≡◌, ℕ, List, [], ◌∷◌, Bool, true, false, not, ◌⊎◌, inl, inr, nat_le, length, if◌then◌else◌, None, Ok, Err, refl, ap, sym, ◌∙◌, subst}
-use Rattle.proof_scanner.proofs.Common.{Arrives, begin_flow, begins_with, blanks_and_comment, chained, deepened_flow, fetch_flow_collection_start, FlowLevel, has_open_level, Held, in_flow, increase_flow_level, Indent, is_empty, on_held, push, roll_one_col_indent, ScannerState, Tok}
-use Rattle.yaml_tokens.specs.declared.problem.Fault.TheVariants.{At}
+use Rattle.proof_scanner.proofs.Common.{[], ap, Arrives, At, begin_flow, begins_with, Bool, chained, columns, deepened_flow, Err, false, fetch_flow_collection_start, FlowLevel, has_open_level, Held, Holds, if◌then◌else◌, in_flow, increase_flow_level, Indent, inl, inr, is_empty, length, List, nat_le, None, not, Ok, on_held, push, refl, refused, roll_one_col_indent, ScannerState, Stands, subst, sym, Tok, tried, true, went, ℕ, ◌∙◌, ◌∷◌, ◌≡◌, ◌⊎◌}
 use Rattle.yaml_tokens.specs.declared.problem.Problem.TheVariants as problem
 use Rattle.model_scanner.specs.State.{after}
-use Rattle.model_scanner.proofs.Holds.{Holds, went, refused, tried}
 use Rattle.proof_scanner.proofs.Cut.Nodes.{IsDeep}
 use Rattle.proof_scanner.proofs.Cut.Saved.{saved_keys, saved_is}
-use Rattle.proof_scanner.specs.StandsInRow.{columns, Stands}
 use Rattle.proof_scanner.proofs.Sound.Indicated.{past_it, indicator_passed}
 use Rattle.proof_scanner.proofs.Sound.NodeSteps.{saved}
-use Rattle.proof_scanner.proofs.Sound.Openers.{IsOpener, OpensLevel, opens_level, opened_past, opened_base, opened_outside as outside_from, opened_inside}
+use Rattle.proof_scanner.proofs.Sound.Openers.{IsOpener, OpensLevel, opens_level, opened_past, opened_outside as outside_from, opened_inside}
 use Rattle.proof_scanner.proofs.Sound.KeyStarts.{new_key, keys_saved}
 use Rattle.proof_scanner.proofs.Sound.Rolled.{opens_none}
-use Rattle.proof_scanner.proofs.Sound.Sides.{ArrivesOutside, ArrivesInside, arrives_side, StandsAt}
+use Rattle.proof_scanner.proofs.Sound.Sides.{ArrivesOutside, ArrivesInside, arrives_side}
 
 -- with the key that may begin here
 abbrev pub with_key : Held → Held
@@ -40,7 +36,7 @@ levels_outside text t x = opens_level (with_key t.held) x.here.are_levels
 
 -- what holds with them, with its account
 pub opened_outside : (text more : List ℕ) (lv : FlowLevel) (tok : Tok) (c : ℕ) → IsOpener lv tok c → (t : ScannerState) (x : ArrivesOutside text t) → t.rest ≡ c ∷ more → IsDeep t.held → begins_with 35 more ≡ false →
-    StandsAt text (opened_base lv tok c t.held.position x.here.site more) (blanks_and_comment more) (opened_past lv t tok more (saved t.held.key_allowed (new_key t) x.key ∷ []) (levels_outside text t x).indents (levels_outside text t x).indent)
+    Stands text (opened_past lv t tok more (saved t.held.key_allowed (new_key t) x.key ∷ []) (levels_outside text t x).indents (levels_outside text t x).indent)
 opened_outside text more lv tok c o t x e deep hash =
     let out : in_flow t.held ≡ false = ap (λ fs. not (is_empty fs)) x.flow_is in
     let r : OpensLevel (with_key t.held) (roll_one_col_indent (with_key t.held)) = levels_outside text t x in
@@ -63,13 +59,13 @@ opened text more lv tok c o t e deep a = by (arrives_side text t a)
           indents = r.indents;
           indent = r.indent;
           rolled = r.is_held;
-          stands = λ hash few. subst (λ ks. Stands text (opened_past lv t tok more ks r.indents r.indent)) (sym (keys_saved t x.key [] x.keys_are)) (opened_outside text more lv tok c o t x e deep hash).stands;
+          stands = λ hash few. subst (λ ks. Stands text (opened_past lv t tok more ks r.indents r.indent)) (sym (keys_saved t x.key [] x.keys_are)) (opened_outside text more lv tok c o t x e deep hash);
         }
     by (inr x) = record {
       indents = t.held.indents;
       indent = t.held.indent;
       rolled = opens_none (with_key t.held) (ap (λ fs. not (is_empty fs)) x.flow_is);
-      stands = λ hash few. subst (λ ks. Stands text (opened_past lv t tok more ks t.held.indents t.held.indent)) (sym (keys_saved t x.key x.keys x.keys_are)) (opened_inside text more lv tok c o t x deep e hash few).stands;
+      stands = λ hash few. subst (λ ks. Stands text (opened_past lv t tok more ks t.held.indents t.held.indent)) (sym (keys_saved t x.key x.keys x.keys_are)) (opened_inside text more lv tok c o t x deep e hash few);
     }
 
 -- `[` or `{`

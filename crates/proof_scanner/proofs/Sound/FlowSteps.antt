@@ -1,10 +1,5 @@
 -- A step in flow before and after which no key of its entry waits: what is read, and what the scanner holds there.
-use Rattle.std.proofs.Common.{ℕ, List, ◌∷◌, false, Option}
-use Rattle.proof_scanner.proofs.Common.{Key, outside_key, Position, Site, Tok, Token}
-use Rattle.defs_token.specs.Step.{Step}
-use Rattle.defs_token.specs.Key.{Line}
-use Rattle.defs_token.specs.FlowEntry.{Entry}
-use Rattle.defs_token.specs.RowAccount.{Account}
+use Rattle.proof_scanner.proofs.Common.{Account, Entry, false, Key, Line, List, Option, outside_key, Position, Site, Step, Tok, Token, ℕ, ◌∷◌}
 
 -- The account after the last piece in which no open key is one, without its entries; the innermost entry and those around it; the separation, the piece and the text after it; the token; the open keys of the entry and around it; the
 -- tokens before; the position and the text after what is read.

@@ -1,8 +1,7 @@
 -- An open key that need not be one is dropped where a piece begins.
-use Rattle.std.proofs.Common.{◌≡◌, ℕ, List, [], ◌∷◌, ◌++◌, Bool, false, inr, Option, Some, None, refl, ap, sym, ◌∙◌}
-use Rattle.proof_scanner.proofs.Common.{is_empty, is_free, IsLineHere, Key, MayChoose, ScannerState, taken}
-use Rattle.defs_token.specs.Key.{Line}
+use Rattle.proof_scanner.proofs.Common.{[], ap, Bool, false, inr, is_empty, is_free, IsLineHere, Key, Line, List, MayChoose, None, Option, refl, ScannerState, Some, sym, taken, true, ℕ, ◌++◌, ◌∙◌, ◌∷◌, ◌≡◌}
 use Rattle.proof_scanner.proofs.Sound.Sides.{with_entries, ArrivesBy}
+use Rattle.proof_scanner.proofs.Sound.Completed.{may_be_no_key}
 use Rattle.proof_scanner.proofs.Sound.Stales.{none_completes}
 
 pub line_without : (allowed : Bool) (rest : List ℕ) (k : Option Key) (l : Line) → is_empty rest ≡ false → IsLineHere false allowed rest k l → IsLineHere false allowed rest None l
@@ -13,7 +12,7 @@ line_without allowed rest (Some k) l some h = (inr (h some).0, (h some).1 ∙ sy
     taken_is l e = ap is_free e
 
 -- Outside flow what holds where a piece begins holds without the open key, unless that must be one.
-unfoldable pub key_gone : (text : List ℕ) (t : ScannerState) (k : Option Key) → ArrivesBy text t [] (k ∷ []) [] → is_empty t.rest ≡ false → MayChoose false k t.held.position t.rest → ArrivesBy text t [] (None ∷ []) []
+unfoldable pub key_gone : (text : List ℕ) (t : ScannerState) (k : Option Key) → ArrivesBy text t [] (k ∷ []) [] → is_empty t.rest ≡ false → MayChoose true false k t.held.position t.rest → ArrivesBy text t [] (None ∷ []) []
 key_gone text t k a some may = record {
   among = a.among;
   one_each = refl;
@@ -23,5 +22,6 @@ key_gone text t k a some may = record {
   is_near = λ _. tt;
   are_numbered = (tt, tt);
   carries = λ cs x key m inside some. absurd (cc inside);
-  completes = λ c cs _. none_completes text (a.separation ++ t.rest) (with_entries a.site a.line []) (k ∷ []) a.tokens a.no_key refl (a.completes false [] may);
+  knows = λ e. absurd (cc e);
+  completes = λ strict c cs _. none_completes strict text (a.separation ++ t.rest) (with_entries a.site a.line []) (k ∷ []) a.tokens a.no_key refl (a.completes strict false [] (may_be_no_key strict k t.held.position t.rest may));
 }

@@ -1,11 +1,6 @@
 -- An indicator of one character, and the blanks and the comment after it.
-use Rattle.std.proofs.Common.{◌≡◌, ℕ, List, [], ◌∷◌, Bool, true, false, not, ◌||◌, ◌&&◌, refl, ap, sym, ◌∙◌, subst}
-use Rattle.proof_scanner.proofs.Common.{begins_line, begins_with, blanks_and_comment, follows_plain, has_no_break, has_tab_within, is_indented_by_spaces, least_column, pass_indicator, past_blanks_and_comment, past_line_rest, Position, position_after, Previous, ScannerState, skip_indicator}
-use Rattle.defs_text.specs.Classes.{is_break}
-use Rattle.defs_token.specs.Indentation.{last_line}
-use Rattle.model_scanner.specs.Machine.{past}
+use Rattle.proof_scanner.proofs.Common.{[], ap, begins_line, begins_with, blanks_and_comment, Bool, false, follows_plain, has_no_break, has_tab_within, Holds, is_break, is_indented_by_spaces, last_line, least_column, List, not, pass_indicator, past, past_blanks_and_comment, past_line_rest, Position, position_after, Previous, refl, ScannerState, skip_indicator, subst, sym, true, ℕ, ◌&&◌, ◌||◌, ◌∙◌, ◌∷◌, ◌≡◌}
 use Rattle.model_scanner.specs.State.{after}
-use Rattle.model_scanner.proofs.Holds.{Holds}
 use Rattle.proof_lexers.specs.PlainEnds as plains
 use Rattle.proof_scanner.proofs.Cut.Indicators.{past_indicator}
 use Rattle.proof_scanner.proofs.Sound.Blanks.{same_in_line, line_rest_in_line, rest_skipped}

@@ -1,13 +1,8 @@
 -- Tokens that go in before others, and tokens after all of them.
-use Rattle.std.proofs.Common.{◌≡◌, ℕ, zero, suc, ◌≤◌, List, [], ◌∷◌, ◌++◌, Bool, true, false, length, Option, Some, None, refl, ap, ◌∙◌, arith}
-use Rattle.std.specs.List.{insert}
 use Rattle.std.proofs.lemmas.List.Edits.{insert-append_left}
-use Rattle.proof_scanner.proofs.Common.{AreNumbered, colon_of, filled, free, fresh, Had, Key, key, Position, put_key, taken, Token, with_line}
-use Rattle.defs_token.specs.Step.{Step}
-use Rattle.defs_token.specs.Key.{Line, waits as waits_on_line}
-use Rattle.defs_token.specs.FlowEntry.{waits, settled, Entry, takes_pair}
-use Rattle.defs_token.specs.Tokens.{put, Colon}
-use Rattle.proof_scanner.specs.Completes.{put_if, with_had, with_keys}
+use Rattle.proof_scanner.proofs.Common.{[], ap, AreNumbered, arith, Bool, Colon, colon_of, Entry, false, filled, free, fresh, Had, insert, Key, key, length, Line, List, None, Option, Position, put, put_if, put_key, refl, settled, Some, Step, suc, taken, takes_pair, Token, true, with_had, with_keys, with_line, zero, ℕ, ◌++◌, ◌∙◌, ◌∷◌, ◌≡◌, ◌≤◌}
+use Rattle.defs_token.specs.Key.{waits as waits_on_line}
+use Rattle.defs_token.specs.FlowEntry.{waits}
 
 longer : (ts : List Token) (n : ℕ) (t : Token) → length (insert ts n t) ≡ suc (length ts)
 longer ts zero t = refl

@@ -1,7 +1,5 @@
 -- The key that may begin with a node, among the open keys.
-use Rattle.std.proofs.Common.{◌≡◌, ℕ, suc, ◌+◌, List, [], ◌∷◌, ◌++◌, Bool, true, false, length, if◌then◌else◌, Option, Some, refl, ap, ◌∙◌, arith, length-append}
-use Rattle.proof_scanner.proofs.Common.{AreNumbered, FlowLevel, IsEntryOf, IsFreeKey, Key, must_be_key, ScannerState, Token, with_top}
-use Rattle.defs_token.specs.FlowEntry.{Entry}
+use Rattle.proof_scanner.proofs.Common.{[], ap, AreNumbered, arith, Bool, Entry, false, FlowLevel, if◌then◌else◌, IsEntryOf, IsFreeKey, Key, length, length-append, List, must_be_key, Option, refl, ScannerState, Some, suc, Token, true, with_top, ℕ, ◌++◌, ◌+◌, ◌∙◌, ◌∷◌, ◌≡◌}
 use Rattle.proof_scanner.proofs.Cut.Saved.{saved_keys}
 use Rattle.proof_scanner.proofs.Sound.Arrivals.{numbered_more, numbered_around}
 use Rattle.proof_scanner.proofs.Sound.NodeSteps.{saved, entry_past_node}

@@ -1,15 +1,7 @@
 -- The colon of a key that waits: before it the key is one, and its tokens go in where the scanner puts them.
-use Rattle.std.proofs.Common.{◌≡◌, ℕ, suc, List, [], ◌∷◌, ◌++◌, Bool, true, false, not, ◌&&◌, ◌||◌, ◌==◌, ◌≤◌, if◌then◌else◌, length, Option, Some, None, refl, ap, sym, ◌∙◌, subst}
-use Rattle.proof_scanner.proofs.Common.{begins_free_line, BeginsButForKey, begun_outside, block_mapping_start, colon_of, Completes, ends_at, entries_by, entries_past, flow_mapping_start, gives_colon, is_deeper, is_empty, is_near, is_renewed, is_separation, is_waiting, IsPiece, Key, key_end, Level, line_by, line_past_separation, may_stand, MayChoose, outside_key, pair_past, pair_position, past_inside, past_outside, past_piece, pop, Position, position_after, put_key, seen, Site, site_here, site_past, taken, Token, tokens_of_step, tokens_up_to, value, with_line}
-use Rattle.defs_token.specs.Step.{Step, spelled, has_break}
-use Rattle.defs_token.specs.Column.{opened}
-use Rattle.defs_token.specs.Key.{Line, waits}
-use Rattle.defs_token.specs.FlowEntry.{waits as had_waits, settled, Entry, takes_pair}
-use Rattle.defs_token.specs.RowAccount.{Account, on_one_line, account_past}
-use Rattle.defs_token.specs.Tokens.{put}
-use Rattle.proof_scanner.specs.Choices.{chosen}
-use Rattle.proof_scanner.specs.Completes.{with_had, with_keys}
-use Rattle.proof_scanner.proofs.Sound.Completed.{completed_past, but_for_key_past, none_broken, none_waits}
+use Rattle.proof_scanner.proofs.Common.{[], Account, account_past, ap, begins_free_line, BeginsButForKey, begun_outside, block_mapping_start, Bool, chosen, colon_of, Completes, ends_at, entries_by, entries_past, Entry, false, flow_mapping_start, gives_colon, has_break, if◌then◌else◌, is_deeper, is_empty, is_near, is_renewed, is_separation, is_waiting, IsPiece, Key, key_end, length, Level, Line, line_by, line_past_separation, List, may_stand, MayChoose, None, not, on_one_line, opened, Option, outside_key, pair_past, pair_position, past_inside, past_outside, past_piece, pop, Position, position_after, put, put_key, refl, seen, settled, Site, site_here, site_past, SoFar, Some, spelled, Step, subst, suc, sym, taken, takes_pair, Token, tokens_of_step, tokens_up_to, true, value, waits, with_had, with_keys, with_line, ℕ, ◌&&◌, ◌++◌, ◌==◌, ◌||◌, ◌∙◌, ◌∷◌, ◌≡◌, ◌≤◌}
+use Rattle.defs_token.specs.FlowEntry.{waits as had_waits}
+use Rattle.proof_scanner.proofs.Sound.Completed.{completed_past, goes_past, but_for_key_past, none_broken, none_waits}
 use Rattle.proof_scanner.proofs.Sound.Inserts.{AreAmong, fewer, keys_first, key_longer}
 use Rattle.proof_scanner.proofs.Sound.NodeTokens.{past_step}
 use Rattle.proof_scanner.proofs.Sound.NodesInside.{same_levels}
@@ -143,9 +135,9 @@ pub record IsInner (d : Inner) : Type 0 where
   pub stands : may_stand true d.site (inner_at d) d.separation d.piece value d.next ≡ true
   pub on_line : (not (single d) || (d.key.position.line == (inner_at d).position.line)) ≡ true
   pub are_among : AreAmong (length d.tokens) d.outer_keys
-  pub unbroken : (c : Bool) → MayChoose c (outside d) d.past d.rest → line_past_separation true (begins_free_line d.site.before d.separation) (line_by c (outside d) d.line) ≡ Some (line_by c (outside d) d.line)
-  pub one_line : (c : Bool) → MayChoose c (outside d) d.past d.rest → (has_break d.piece && is_waiting (line_by c (outside d) d.line)) ≡ false
-  pub may_before : (c : Bool) → MayChoose c (outside d) d.past d.rest → MayChoose c (outside d) (inner_at d).position (d.piece ++ d.next)
+  pub unbroken : (strict c : Bool) → MayChoose strict c (outside d) d.past d.rest → line_past_separation true (begins_free_line d.site.before d.separation) (line_by c (outside d) d.line) ≡ Some (line_by c (outside d) d.line)
+  pub one_line : (strict c : Bool) → MayChoose strict c (outside d) d.past d.rest → (has_break d.piece && is_waiting (line_by c (outside d) d.line)) ≡ false
+  pub may_before : (strict c : Bool) → MayChoose strict c (outside d) d.past d.rest → MayChoose strict c (outside d) (inner_at d).position (d.piece ++ d.next)
 
 key_ends : (again : Bool) (d : Inner) (es : List Entry) → (not (single d) || (d.key.position.line == (inner_at d).position.line)) ≡ true →
     entries_past (inner_at d).position again gives_colon [] false (record { kind = d.entry.kind; pair = d.entry.pair; had = had_waits d.key.position }) es ≡ Some (entry_past_colon d ∷ es)
@@ -163,8 +155,8 @@ inner_account_by d n c cs unbroken one_line =
     (ap (λ o. on_one_line d.piece (past_inside (inner_at d) d.piece value d.next l o)) (key_ends again d es n.on_line) ∙
     ap (λ b. if b then None else Some (inner_past d c cs)) one_line))
 
-pub inner_account : (d : Inner) → IsInner d → (c : Bool) (cs : List Bool) → MayChoose c (outside d) d.past d.rest → account_past (inner_before d c cs) (inner_step d) d.next ≡ Some (inner_past d c cs)
-inner_account d n c cs may = inner_account_by d n c cs (n.unbroken c may) (n.one_line c may)
+pub inner_account : (d : Inner) → IsInner d → (strict c : Bool) (cs : List Bool) → MayChoose strict c (outside d) d.past d.rest → account_past (inner_before d c cs) (inner_step d) d.next ≡ Some (inner_past d c cs)
+inner_account d n strict c cs may = inner_account_by d n c cs (n.unbroken strict c may) (n.one_line strict c may)
 
 abbrev InnerSeen : Inner → List Level → Type 0
 InnerSeen d levels = IsPiece (let a = seen (inner_base d) (inner_at d) d.separation in record a { levels = levels }) d.piece d.next None (inner_at d).position value
@@ -183,11 +175,11 @@ keys_of_around d p w ws last e bs l (x ∷ es) (k ∷ ks) ts =
 
 -- If each choice before the colon is one of a row, then each choice after it is, with the key's tokens put in.
 pub inner_completes : (text : List ℕ) (d : Inner) → IsInner d →
-    ((c : Bool) (cs : List Bool) → MayChoose c (outside d) (inner_at d).position (d.piece ++ d.next) → Completes text (d.separation ++ (d.piece ++ d.next)) (chosen c cs (Some d.key ∷ d.outer_keys) (inner_base d)) (tokens_up_to (chosen c cs (Some d.key ∷ d.outer_keys) (inner_base d)) (Some d.key ∷ d.outer_keys) d.tokens)) →
-    (c : Bool) (cs : List Bool) → MayChoose c (outside d) d.past d.rest → Completes text d.next (inner_past d c cs) (tokens_up_to (inner_past d c cs) (None ∷ d.outer_keys) (inner_tokens d))
-inner_completes text d n h c cs may =
-    completed_past text (d.separation ++ (d.piece ++ d.next)) (inner_before d c cs) (inner_past d c cs) (tokens_up_to (inner_before d c cs) (Some d.key ∷ d.outer_keys) d.tokens) (tokens_up_to (inner_past d c cs) (None ∷ d.outer_keys) (inner_tokens d)) (inner_step d) d.next refl
-    (n.is_filled, (ap not n.is_solid, subst (λ x. InnerSeen d x) (sym (same_levels (true ∷ pop cs) (Some d.key ∷ d.outer_keys) (d.entry ∷ d.around))) n.is_piece)) (inner_account d n c cs may) tokens (h c (true ∷ pop cs) (n.may_before c may))
+    ((strict c : Bool) (cs : List Bool) → MayChoose strict c (outside d) (inner_at d).position (d.piece ++ d.next) → SoFar strict text (d.separation ++ (d.piece ++ d.next)) (chosen c cs (Some d.key ∷ d.outer_keys) (inner_base d)) (tokens_up_to (chosen c cs (Some d.key ∷ d.outer_keys) (inner_base d)) (Some d.key ∷ d.outer_keys) d.tokens)) →
+    (strict c : Bool) (cs : List Bool) → MayChoose strict c (outside d) d.past d.rest → SoFar strict text d.next (inner_past d c cs) (tokens_up_to (inner_past d c cs) (None ∷ d.outer_keys) (inner_tokens d))
+inner_completes text d n h strict c cs may =
+    goes_past strict text (d.separation ++ (d.piece ++ d.next)) (inner_before d c cs) (inner_past d c cs) (tokens_up_to (inner_before d c cs) (Some d.key ∷ d.outer_keys) d.tokens) (tokens_up_to (inner_past d c cs) (None ∷ d.outer_keys) (inner_tokens d)) (inner_step d) d.next refl
+    (n.is_filled, (ap not n.is_solid, subst (λ x. InnerSeen d x) (sym (same_levels (true ∷ pop cs) (Some d.key ∷ d.outer_keys) (d.entry ∷ d.around))) n.is_piece)) (inner_account d n strict c cs may) (λ _ i. i) tokens (h strict c (true ∷ pop cs) (n.may_before strict c may))
   where
     Own : List ℕ → List Step → List ℕ → Type 0
     Own x ws last =

@@ -1,28 +1,35 @@
--- Each open key began on the scanner's line, or before it: so the cut says it.
-use Rattle.std.proofs.Common.{ℕ, suc, ◌≤◌, List, [], ◌∷◌, ◌++◌, Option, Some, None, arith}
-use Rattle.proof_scanner.proofs.Common.{AreOpen, FaresAt, innermost_column, Key, Position, ScannerState}
-use Rattle.defs_token.specs.Cut.{Written, spelled}
-use Rattle.proof_scanner.specs.Stands.{columns}
+-- The open key of an entry began on the scanner's line, or before it: so a row says it in which it waits.
+use Rattle.proof_scanner.proofs.Common.{[], Account, ap, arith, Begins, BeginsButForKey, Bool, chosen, Entry, false, first_account, FlowLevel, is_empty, Key, List, MayChoose, None, Option, outside_key, Position, refl, ScannerState, Some, spelled, subst, sym, taken, true, ℕ, ◌++◌, ◌∷◌, ◌≡◌, ◌≤◌}
+use Rattle.proof_row.proofs.KeyLines.{KeysBefore, keys_before, line_grows}
+use Rattle.proof_scanner.proofs.Sound.Sides.{ArrivesBy, with_entries}
 
--- the lines of the open keys
-abbrev pub KeysBefore : Position → List (Option Key) → Type 0
-KeysBefore p [] = Unit {0}
-KeysBefore p (None ∷ ks) = KeysBefore p ks
-KeysBefore p (Some k ∷ ks) = (k.position.line ≤ p.line) × KeysBefore p ks
+pub key_before : (text : List ℕ) (t : ScannerState) (f : FlowLevel) (fs : List FlowLevel) (k : Key) (ks : List (Option Key)) (x : Entry) (es : List Entry) → ArrivesBy text t (f ∷ fs) (Some k ∷ ks) (x ∷ es) → is_empty t.rest ≡ false →
+    k.position.line ≤ t.held.position.line
+key_before text t f fs k ks x es a some = by (outside_key es ks) refl
+  where
+    Then : Bool → Account
+    Then c = chosen c (true ∷ []) (Some k ∷ ks) (with_entries a.site a.line (x ∷ es))
 
--- later they began before too
-pub before_later : (p q : Position) (ks : List (Option Key)) → p.line ≤ q.line → KeysBefore p ks → KeysBefore q ks
-before_later p q [] h b = tt
-before_later p q (None ∷ ks) h b = before_later p q ks h b
-before_later p q (Some k ∷ ks) h b = (omega (arith, h, b.0), before_later p q ks h b.1)
+    early : (b : Account) → KeysBefore (record b { entries = (Then false).entries; site = a.site }) → k.position.line ≤ t.held.position.line
+    early b h =
+        let there = ap (λ q. q.line) a.position_is in
+        let grows = line_grows a.site.position a.separation t.rest in
+        omega (arith, h.0, there, grows)
 
-open_before : (depth : ℕ) (row : List Written) (after : List ℕ) (p : Position) (rest : List ℕ) (column : Option ℕ) (ks : List (Option Key)) → AreOpen depth row after p rest column ks → KeysBefore p ks
-open_before depth row after p rest column [] a = tt
-open_before depth row after p rest column (None ∷ ks) a = open_before (suc depth) row after p rest column ks a
-open_before depth row after p rest column (Some k ∷ ks) a = (
-  a.0.is_earlier.0,
-  before_later k.position p ks a.0.is_earlier.0 (open_before 1 a.0.before (spelled (a.0.own ∷ a.0.later) after) k.position (a.0.own.piece ++ spelled a.0.later after) column ks a.1),
-)
+    begun : Begins text (a.separation ++ t.rest) (Then false) → k.position.line ≤ t.held.position.line
+    begun g = early (Then false) (keys_before (Some first_account) g.steps (a.separation ++ t.rest) (Then false) g.leads tt)
 
-pub keys_before : (text : List ℕ) (t : ScannerState) → FaresAt text t → KeysBefore t.held.position t.held.keys
-keys_before text t s = open_before 0 s.stood.row s.stood.after t.held.position t.rest (innermost_column (columns t.held.indent t.held.indents)) t.held.keys s.stood.are_open
+    but_for_key : (p : Position) → BeginsButForKey text (a.separation ++ t.rest) p (Then false) → k.position.line ≤ t.held.position.line
+    but_for_key p g =
+        early (Then false) (keys_before (Some (record g.account { line = taken })) g.steps (a.separation ++ t.rest) (Then false) g.leads (keys_before (Some first_account) g.begins.steps (spelled g.steps (a.separation ++ t.rest)) g.account g.begins.leads tt))
+
+    may : (y : Option Key) → outside_key es ks ≡ y → MayChoose true false y t.held.position t.rest → k.position.line ≤ t.held.position.line
+    may y i h = begun (a.completes true false (true ∷ []) (subst (λ z. MayChoose true false z t.held.position t.rest) (sym i) h)).0
+
+    by : (y : Option Key) → outside_key es ks ≡ y → k.position.line ≤ t.held.position.line
+    by None i = may None i tt
+    by (Some z) i = by_must z.required refl
+      where
+        by_must : (b : Bool) → z.required ≡ b → k.position.line ≤ t.held.position.line
+        by_must false e = may (Some z) i e
+        by_must true e = but_for_key z.position (a.carries (true ∷ []) z i e refl some)

@@ -1,12 +1,5 @@
 -- The last line of a text as the text grows, and the column after it.
-use Rattle.std.proofs.Common.{◌≡◌, ℕ, zero, suc, ◌+◌, ◌≤◌, List, [], ◌∷◌, ◌++◌, Bool, true, false, not, ◌&&◌, ◌||◌, ◌==◌, ◌⊎◌, inl, inr, if◌then◌else◌, length, take, refl, ap, sym, ◌∙◌, arith}
-use Rattle.std.proofs.Math.Bool.{or-true}
-use Rattle.std.proofs.lemmas.Bool.{and_parts, eqb-true}
-use Rattle.std.proofs.lemmas.List.{take-append-le}
-use Rattle.proof_scanner.proofs.Common.{has_no_break, has_tab_within, is_at_line_end, is_before_line_feed, is_empty, is_one_of, is_separation, Position, position_after, position_past, put_first, split, split_by}
-use Rattle.defs_text.specs.Classes.{is_break, is_blank}
-use Rattle.defs_token.specs.Step.{has_break}
-use Rattle.defs_token.specs.Indentation.{last_line}
+use Rattle.proof_scanner.proofs.Common.{[], and_parts, ap, arith, Bool, eqb-true, false, has_break, has_no_break, has_tab_within, if◌then◌else◌, inl, inr, is_at_line_end, is_before_line_feed, is_blank, is_break, is_empty, is_one_of, is_separation, last_line, length, List, not, or-true, Position, position_after, position_past, put_first, refl, split, split_by, suc, sym, take, take-append-le, true, zero, ℕ, ◌&&◌, ◌++◌, ◌+◌, ◌==◌, ◌||◌, ◌∙◌, ◌∷◌, ◌≡◌, ◌≤◌, ◌⊎◌}
 
 -- ---- breaks in a text and one character more
 
@@ -158,18 +151,6 @@ no_comment_in_last g rest h ends = outside g h
     outside g h = (both g).0 h
 
 -- ---- TABs in its first columns
-
-pub one_append : (l : List ℕ) (c d : ℕ) → is_one_of (l ++ c ∷ []) d ≡ (is_one_of l d || (d == c))
-one_append [] c d = by (d == c)
-  where
-    by : (b : Bool) → (b || false) ≡ b
-    by true = refl
-    by false = refl
-one_append (x ∷ l) c d = ap (λ b. (d == x) || b) (one_append l c d) ∙ by (d == x) (is_one_of l d) (d == c)
-  where
-    by : (x y z : Bool) → (x || (y || z)) ≡ ((x || y) || z)
-    by true y z = refl
-    by false y z = refl
 
 -- a character other than a TAB, or one after these columns, adds none
 pub tab_within_more : (n : ℕ) (l : List ℕ) (c : ℕ) → ((9 == c) ≡ false) ⊎ (n ≤ length l) → has_tab_within n l ≡ false → has_tab_within n (l ++ c ∷ []) ≡ false

@@ -1,8 +1,7 @@
 -- A part of a node: from each choice after it there is a choice before it, and a bit for its step.
-use Rattle.std.proofs.Common.{◌≡◌, ℕ, List, ◌∷◌, ◌++◌, Bool, true, false, Option, Some, None, refl, ap, sym, inl, inr, ◌⊎◌}
-use Rattle.proof_scanner.proofs.Common.{entries_past, entry_by, filled, free, fresh, gives_node, Had, had_by, HasHadHere, is_waiting, IsLineHere, Key, line_by, line_past_separation, MayChoose, Position, taken}
-use Rattle.defs_token.specs.Key.{Line, waits as waits_on_line, line_past}
-use Rattle.defs_token.specs.FlowEntry.{waits, settled, Entry}
+use Rattle.proof_scanner.proofs.Common.{ap, Bool, entries_past, Entry, entry_by, false, filled, free, fresh, gives_node, Had, had_by, HasHadHere, inl, inr, is_waiting, IsLineHere, Key, Line, line_by, line_past, line_past_separation, List, MayChoose, None, Option, Position, refl, settled, Some, sym, taken, true, ℕ, ◌++◌, ◌∷◌, ◌≡◌, ◌⊎◌}
+use Rattle.defs_token.specs.Key.{waits as waits_on_line}
+use Rattle.defs_token.specs.FlowEntry.{waits}
 
 -- the open key after a node's start: the new one, where one may begin
 abbrev pub saved : (allowed : Bool) → (new : Key) → Option Key → Option Key
@@ -25,7 +24,7 @@ must_not false required bs here e f = refl
 
 -- outside flow
 pub node_on_line : (allowed c : Bool) (k : Option Key) (new : Key) (l : Line) (must : Bool) (here p : Position) (bs : List ℕ) (x : ℕ) (r rest : List ℕ) → IsLineHere false allowed (x ∷ r) k l → new.position ≡ here → new.required ≡ must →
-    MayChoose c (saved allowed new k) p rest → line_past must here bs gives_node (bit_of allowed c) (line_by (choice_before allowed c) k l) ≡ Some (record { line = line_by c (saved allowed new k) taken; blocks = bs })
+    MayChoose true c (saved allowed new k) p rest → line_past must here bs gives_node (bit_of allowed c) (line_by (choice_before allowed c) k l) ≡ Some (record { line = line_by c (saved allowed new k) taken; blocks = bs })
 node_on_line true c (Some k) new l must here p bs x r rest h e q may = absurd (cc ((h refl).1))
 node_on_line true true None new free must here p bs x r rest h e q may = ap (λ y. Some (record { line = waits_on_line y; blocks = bs })) (sym e)
 node_on_line true false None new free must here p bs x r rest h e q may = must_not must new.required bs here q may

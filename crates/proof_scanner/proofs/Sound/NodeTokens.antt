@@ -1,12 +1,5 @@
 -- The tokens of a part of a node: with its key put in, or without.
-use Rattle.std.proofs.Common.{◌≡◌, ℕ, suc, List, [], ◌∷◌, ◌++◌, Bool, true, false, length, Option, refl, ap, sym, ◌∙◌, append_assoc}
-use Rattle.std.specs.List.{insert}
-use Rattle.proof_scanner.proofs.Common.{act_of, begins_free_line, begun_by, begun_inside, begun_outside, block_mapping_start, colon_of, ends_at, flow_mapping_start, FlowKind, gives_node, Had, is_deeper, Key, key, key_tokens, line_past_separation, pair_position, Position, position_after, put_key, shown_position, Site, Tok, Token, tokens_at, with_line}
-use Rattle.defs_token.specs.Step.{Step, spelled}
-use Rattle.defs_token.specs.Key.{Line}
-use Rattle.defs_token.specs.FlowEntry.{Pair, Entry, takes_pair}
-use Rattle.defs_token.specs.Tokens.{put, Colon, depth_past}
-use Rattle.proof_scanner.specs.Completes.{with_had, with_keys}
+use Rattle.proof_scanner.proofs.Common.{[], act_of, ap, append_assoc, begins_free_line, begun_by, begun_inside, begun_outside, block_mapping_start, Bool, Colon, colon_of, depth_past, ends_at, Entry, false, flow_mapping_start, FlowKind, gives_node, Had, insert, is_deeper, Key, key, key_tokens, length, Line, line_past_separation, List, Option, Pair, pair_position, Position, position_after, put, put_key, refl, shown_position, Site, spelled, Step, suc, sym, takes_pair, Tok, Token, tokens_at, true, with_had, with_keys, with_line, ℕ, ◌++◌, ◌∙◌, ◌∷◌, ◌≡◌}
 use Rattle.proof_scanner.proofs.Sound.Begun.{with_begun, depth_begun, depth_rises}
 
 -- ---- colons after a step

@@ -1,17 +1,8 @@
 -- A part of a node in flow, be it an opening bracket or no collection: whatever completes the row after it completes it from before.
-use Rattle.std.proofs.Common.{◌≡◌, ℕ, suc, List, [], ◌∷◌, ◌++◌, Bool, true, false, not, ◌&&◌, if◌then◌else◌, length, Option, Some, None, refl, ap, sym, ◌∙◌, subst, ◌⊎◌, inl, inr}
-use Rattle.defs_token.specs.Step.{Step, spelled, has_break}
-use Rattle.defs_token.specs.Key.{Line}
-use Rattle.defs_token.specs.FlowEntry.{waits, settled, Entry, takes_pair}
-use Rattle.defs_token.specs.RowAccount.{Account, on_one_line, account_past, level_of}
-use Rattle.defs_token.specs.Tokens.{put, Colon}
-use Rattle.defs_token.specs.Row.{IsWritten}
-use Rattle.std.specs.Prelude.{map}
-use Rattle.proof_scanner.proofs.Common.{act_of, begins_free_line, BeginsButForKey, begun_by, colon_of, Completes, entries_by, entries_past, entry_by, filled, first_choice, flow_mapping_start, fresh, gives_node, Had, had_by, HasHadHere, is_keyed, is_renewed, is_waiting, IsPiece, Key, key_tokens, Level, line_by, line_past_separation, MayChoose, outside_key, pair_position, past_inside, past_piece, past_site, pop, Position, put_key, seen, shown_position, Site, site_in, site_past, taken, Token, tokens_at, tokens_of_step, tokens_up_to}
-use Rattle.proof_scanner.specs.Choices.{chosen}
-use Rattle.proof_scanner.specs.Completes.{with_had, with_keys}
+use Rattle.proof_scanner.proofs.Common.{[], Account, account_past, act_of, ap, begins_free_line, BeginsButForKey, begun_by, Bool, chosen, Colon, colon_of, entries_by, entries_past, Entry, entry_by, false, filled, first_choice, flow_mapping_start, fresh, gives_node, Had, had_by, has_break, HasHadHere, if◌then◌else◌, inl, inr, is_keyed, is_renewed, is_waiting, IsPiece, IsWritten, Key, key_tokens, length, Level, level_of, Line, line_by, line_past_separation, List, map, MayChoose, None, not, on_one_line, Option, outside_key, pair_position, past_inside, past_piece, past_site, pop, Position, put, put_key, refl, seen, settled, shown_position, Site, site_in, site_past, SoFar, Some, spelled, Step, subst, suc, sym, taken, takes_pair, Token, tokens_at, tokens_of_step, tokens_up_to, true, with_had, with_keys, ℕ, ◌&&◌, ◌++◌, ◌∙◌, ◌∷◌, ◌≡◌, ◌⊎◌}
+use Rattle.defs_token.specs.FlowEntry.{waits}
 use Rattle.proof_scanner.proofs.Sound.Begun.{with_begun, with_no_key, choices_around, depth_begun, begun_before, keys_around_begun}
-use Rattle.proof_scanner.proofs.Sound.Completed.{completed_past, but_for_key_past, none_broken, none_waits}
+use Rattle.proof_scanner.proofs.Sound.Completed.{goes_past, but_for_key_past, none_broken, none_waits}
 use Rattle.proof_scanner.proofs.Sound.Inserts.{AreAmong, fewer, had_first, had_longer, keys_first, first_among}
 use Rattle.proof_scanner.proofs.Sound.NodeSteps.{saved, choice_before, bit_of, had_past_node, entry_past_node, node_in_entry}
 use Rattle.proof_scanner.proofs.Sound.Parts.{Part, part_site, IsPart}
@@ -77,9 +68,9 @@ pub record IsNode (d : Node) : Type 0 where
   pub has_had : HasHadHere d.allowed (is_renewed d.site.before d.separation) d.open_key d.entry.had
   pub number_is : d.new.number ≡ length d.tokens
   pub are_among : AreAmong (length d.tokens) (keys d)
-  pub unbroken : (c : Bool) → MayChoose c (outside d) d.past d.rest → line_past_separation true (begins_free_line d.site.before d.separation) (line_by c (outside d) d.line) ≡ Some (line_by c (outside d) d.line)
-  pub one_line : (c : Bool) → MayChoose c (outside d) d.past d.rest → (has_break d.piece && is_waiting (line_by c (outside d) d.line)) ≡ false
-  pub may_before : (c : Bool) → MayChoose c (outside d) d.past d.rest → MayChoose c (outside d) (at d).position (d.piece ++ d.next)
+  pub unbroken : (strict c : Bool) → MayChoose strict c (outside d) d.past d.rest → line_past_separation true (begins_free_line d.site.before d.separation) (line_by c (outside d) d.line) ≡ Some (line_by c (outside d) d.line)
+  pub one_line : (strict c : Bool) → MayChoose strict c (outside d) d.past d.rest → (has_break d.piece && is_waiting (line_by c (outside d) d.line)) ≡ false
+  pub may_before : (strict c : Bool) → MayChoose strict c (outside d) d.past d.rest → MayChoose strict c (outside d) (at d).position (d.piece ++ d.next)
 
 pub on_line : (piece : List ℕ) (a : Account) → (has_break piece && is_waiting a.line) ≡ false → on_one_line piece (Some a) ≡ Some a
 on_line piece a e = ap (λ b. if b then None else Some a) e
@@ -106,8 +97,8 @@ node_account_by d n c cs unbroken one_line =
     (node_in_entry again d.allowed (first_choice own) d.open_key d.new d.entry here (with_begun d.kind []) es n.has_had n.position_is ∙ ap (λ x. Some x) (begun_before d.kind (entries_after d cs)))) in
     first ∙ (may_be ∙ (lines ∙ (ap (λ o. on_one_line d.piece (past_inside (at d) d.piece d.tok d.next l o)) entries ∙ on_line d.piece (past d c cs) one_line)))
 
-pub node_account : (d : Node) → IsNode d → (c : Bool) (cs : List Bool) → MayChoose c (outside d) d.past d.rest → account_past (before d c cs) (step_of d (bit d cs)) d.next ≡ Some (past d c cs)
-node_account d n c cs may = node_account_by d n c cs (n.unbroken c may) (n.one_line c may)
+pub node_account : (d : Node) → IsNode d → (strict c : Bool) (cs : List Bool) → MayChoose strict c (outside d) d.past d.rest → account_past (before d c cs) (step_of d (bit d cs)) d.next ≡ Some (past d c cs)
+node_account d n strict c cs may = node_account_by d n c cs (n.unbroken strict c may) (n.one_line strict c may)
 
 -- ---- the tokens after it
 
@@ -196,11 +187,11 @@ seen_written d n c cs b =
 
 -- If each choice before the piece is one of a row, then each choice after it is, and the tokens are those before and the piece's own.
 pub node_completes : (text : List ℕ) (d : Node) → IsNode d →
-    ((c : Bool) (cs : List Bool) → MayChoose c (outside d) (at d).position (d.piece ++ d.next) → Completes text (d.separation ++ (d.piece ++ d.next)) (chosen c cs (keys d) (base d)) (tokens_up_to (chosen c cs (keys d) (base d)) (keys d) d.tokens)) →
-    (c : Bool) (cs : List Bool) → MayChoose c (outside d) d.past d.rest → Completes text d.next (past d c cs) (tokens_up_to (past d c cs) (keys_after d) (d.tokens ++ (own_token d ∷ [])))
-node_completes text d n h c cs may =
-    completed_past text (d.separation ++ (d.piece ++ d.next)) (before d c cs) (past d c cs) (tokens_up_to (before d c cs) (keys d) d.tokens) (tokens_up_to (past d c cs) (keys_after d) (d.tokens ++ (own_token d ∷ [])))
-    (step_of d (bit d cs)) d.next refl (seen_written d n c cs (bit d cs)) (node_account d n c cs may) (node_tokens d n c cs) (h c (choices d cs) (n.may_before c may))
+    ((strict c : Bool) (cs : List Bool) → MayChoose strict c (outside d) (at d).position (d.piece ++ d.next) → SoFar strict text (d.separation ++ (d.piece ++ d.next)) (chosen c cs (keys d) (base d)) (tokens_up_to (chosen c cs (keys d) (base d)) (keys d) d.tokens)) →
+    (strict c : Bool) (cs : List Bool) → MayChoose strict c (outside d) d.past d.rest → SoFar strict text d.next (past d c cs) (tokens_up_to (past d c cs) (keys_after d) (d.tokens ++ (own_token d ∷ [])))
+node_completes text d n h strict c cs may =
+    goes_past strict text (d.separation ++ (d.piece ++ d.next)) (before d c cs) (past d c cs) (tokens_up_to (before d c cs) (keys d) d.tokens) (tokens_up_to (past d c cs) (keys_after d) (d.tokens ++ (own_token d ∷ [])))
+    (step_of d (bit d cs)) d.next refl (seen_written d n c cs (bit d cs)) (node_account d n strict c cs may) (λ _ i. i) (node_tokens d n c cs) (h strict c (choices d cs) (n.may_before strict c may))
 
 -- The same where a row may begin but for the key outside flow.
 pub node_carried : (text : List ℕ) (begin : Position) (d : Node) → IsNode d → d.line ≡ taken → ((cs : List Bool) → BeginsButForKey text (d.separation ++ (d.piece ++ d.next)) begin (chosen false cs (keys d) (base d))) → (cs : List Bool) → BeginsButForKey text d.next begin (past d false cs)

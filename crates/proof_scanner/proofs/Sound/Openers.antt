@@ -1,19 +1,12 @@
 -- Opening brackets: what holds where they begin holds between two fetches after them.
-use Rattle.std.proofs.Common.{◌≡◌, ℕ, suc, ◌<◌, List, [], ◌∷◌, ◌++◌, Bool, true, false, not, ◌&&◌, ◌||◌, nat_le, nat_lt, map, ◌⊎◌, inl, inr, length, if◌then◌else◌, Option, Some, None, refl, ap, sym, ◌∙◌, subst, arith, ◌≤◌}
-use Rattle.std.proofs.lemmas.Bool.Decides.{nat_tests}
-use Rattle.proof_scanner.proofs.Common.{act_of, another, AreAround, awaits_past, before_past, begins_free_line, begins_line, begins_with, BeginsButForKey, begun_by, blanks_and_comment, Completes, ends_at, entries_by, first_entry, FlowLevel, fresh, further_lines_stand, gives_node, Had, has_no_nul, has_open_level, has_room, HasHad, HasHadHere, Held, in_block, in_flow, Indent, is_deep_enough, is_empty, is_fresh, is_in_column, is_indented_by_spaces, is_renewed, is_separation, IsAdjacent, IsCarriedOn, IsEntryOf, IsLive, IsNear, IsOpenOutside, IsPairOf, IsPiece, IsReadOn, Key, least_column, least_for, line_by, Mapping, may_precede, may_stand, MayChoose, must_be_key, no_pair, NotBefore, outside_key, past_blanks_and_comment, past_line_rest, Position, position_after, position_in_line, previous_by, roll_one_col_indent, ScannerState, seen, shown_position, Site, site_here, site_past, taken, Tok, Token, tokens_up_to, top_key}
-use Rattle.defs_token.specs.Step.{has_break}
-use Rattle.defs_token.specs.Key.{Line}
-use Rattle.defs_token.specs.FlowEntry.{settled, Entry}
-use Rattle.defs_token.specs.RowAccount.{Account, before_by, level_of}
-use Rattle.defs_token.specs.Tokens.{put}
-use Rattle.model_scanner.specs.Machine.{past}
+use Rattle.proof_scanner.proofs.Common.{[], Account, act_of, another, ap, AreAround, AreLevels, arith, awaits_past, before_by, before_past, begins_free_line, begins_line, begins_with, BeginsButForKey, begun_by, blanks_and_comment, Bool, chosen, columns, ends_at, entries_by, Entry, false, first_entry, FlowLevel, fresh, further_lines_stand, gives_node, Had, has_break, has_no_nul, has_open_level, has_room, HasHad, HasHadHere, Held, if◌then◌else◌, in_block, in_flow, Indent, inl, inr, is_deep_enough, is_empty, is_fresh, is_in_column, is_indented_by_spaces, is_renewed, is_separation, IsAdjacent, IsCarriedOn, IsEntryOf, IsLive, IsNear, IsOpenOutside, IsPairOf, IsPiece, IsReadOn, Key, KnowsKey, least_column, least_for, length, level_of, line_by, List, map, Mapping, may_precede, may_stand, MayChoose, must_be_key, nat_le, nat_lt, nat_tests, no_pair, None, not, NotBefore, Option, outside_key, past, past_blanks_and_comment, past_line_rest, Position, position_after, position_in_line, previous_by, put, refl, roll_one_col_indent, ScannerState, seen, settled, shown_position, Site, site_here, site_past, SoFar, Some, Stands, subst, suc, sym, taken, Tok, Token, tokens_up_to, top_key, true, ℕ, ◌&&◌, ◌++◌, ◌<◌, ◌||◌, ◌∙◌, ◌∷◌, ◌≡◌, ◌≤◌, ◌⊎◌}
 use Rattle.model_scanner.specs.declared.level.FlowLevel.TheVariants.{Entry as InEntry}
 use Rattle.proof_scanner.proofs.Cut.Flows.{IsOpeningOf, opening_sequence, opening_mapping}
-use Rattle.proof_scanner.proofs.Cut.Positions.{not_before_after, not_before_then, index_after}
+use Rattle.proof_scanner.proofs.Cut.Positions.{not_before_after, not_before_then, index_after, is_after}
 use Rattle.proof_scanner.proofs.Cut.Nodes.{IsDeep, adjacent_other}
-use Rattle.proof_scanner.specs.Choices.{chosen}
-use Rattle.proof_scanner.specs.StandsInRow.{columns, AreLevels, kind_of}
+use Rattle.proof_scanner.specs.StandsInRow.{kind_of}
+use Rattle.proof_scanner.proofs.Known.Read.{knows_inside, knows_saved}
+use Rattle.proof_scanner.proofs.Known.Steps.{is_of_node}
 use Rattle.proof_scanner.proofs.Sound.Around.{line_taken, tokens_before, unbroken_around, one_around, may_around, open_around}
 use Rattle.proof_scanner.proofs.Sound.Arrivals.{clean_after, deep_enough, completes_at, carried_at}
 use Rattle.proof_scanner.proofs.Sound.Blanks.{line_rest_cut, line_rest_fills, line_rest_in_line}
@@ -21,7 +14,7 @@ use Rattle.proof_scanner.proofs.Sound.Closers.{no_break_there}
 use Rattle.proof_scanner.proofs.Sound.Indicated.{indicator_end, none_indents}
 use Rattle.proof_scanner.proofs.Sound.Inserts.{among}
 use Rattle.proof_scanner.proofs.Sound.NodeSteps.{saved, had_past_node, entry_past_node, choice_before}
-use Rattle.proof_scanner.proofs.Sound.Parts.{Part, part_site, IsPart}
+use Rattle.proof_scanner.proofs.Sound.Parts.{Part, part_site, IsPart, part_written}
 use Rattle.proof_scanner.proofs.Sound.NodesInside as inside
 use Rattle.proof_scanner.proofs.Sound.NodesOutside as outside
 use Rattle.proof_scanner.proofs.Sound.NodesOutside.{AreSame}
@@ -30,13 +23,13 @@ use Rattle.proof_scanner.proofs.Sound.KeyStarts.{new_key, numbered_inside, entry
 use Rattle.proof_scanner.proofs.Sound.Passed.{some_columns}
 use Rattle.proof_scanner.proofs.Sound.Rolled.{OpensOne, opens_one, opens_none}
 use Rattle.proof_scanner.proofs.Sound.Standing.{all_true, deep_for}
-use Rattle.proof_scanner.proofs.Sound.Sides.{with_entries, ArrivesBy, ArrivesOutside, ArrivesInside, StandsBy, StandsAt, stands_at}
+use Rattle.proof_scanner.proofs.Sound.Sides.{with_entries, ArrivesBy, ArrivesOutside, ArrivesInside, StandsBy, stands_by}
 
 -- What is said of an opening bracket.
 pub record IsOpener (lv : FlowLevel) (tok : Tok) (c : ℕ) : Type 0 where
   pub act : act_of tok ≡ gives_node
   pub begun : begun_by tok ≡ first_entry (kind_of lv) ∷ []
-  pub is_opening : IsOpeningOf lv tok c
+  pub is_opening : IsOpeningOf tok c
   pub shown : (s : Site) (piece next : List ℕ) → shown_position s piece tok next ≡ s.position
   pub previous : previous_by tok ≡ another
   pub least : (s : Site) → least_for tok s ≡ least_column s.blocks s.awaits
@@ -242,8 +235,8 @@ module _ (text more : List ℕ) (lv : FlowLevel) (tok : Tok) (c : ℕ) (o : IsOp
     one_line = one_node text t k a out deep some stop remains to_end (c ∷ []) (λ _ _. no_break_in text more lv tok c o t [] (k ∷ []) [] a deep cut);
     no_key = a.no_key;
     same_blocks = subst (λ x. AreSame k stop remains a.site.blocks (site_here false x a.site).blocks) at_place (same_node text t k a out deep some stop remains to_end);
-    may_before = λ b may. subst (λ x. MayChoose (choice_before t.held.key_allowed b) k x (c ∷ more)) at_place
-        (subst (λ x. MayChoose (choice_before t.held.key_allowed b) k t.held.position x) cut (may_node text t k a out deep some stop remains to_end b may));
+    may_before = λ strict b may. subst (λ x. MayChoose strict (choice_before t.held.key_allowed b) k x (c ∷ more)) at_place
+        (subst (λ x. MayChoose strict (choice_before t.held.key_allowed b) k t.held.position x) cut (may_node text t k a out deep some stop remains to_end strict b may));
   }
 
   abbrev site_after : Position → Site
@@ -252,28 +245,28 @@ module _ (text more : List ℕ) (lv : FlowLevel) (tok : Tok) (c : ℕ) (o : IsOp
   abbrev tokens_after : List Token
   tokens_after = t.held.tokens ++ (put t.held.position tok ∷ [])
 
-  rows : (b : Bool) (cs : List Bool) → MayChoose b y stop remains →
-      Completes text (blanks_and_comment more ++ remains) (chosen b cs (None ∷ y ∷ []) (with_entries (site_after t.held.position) taken (first_entry (kind_of lv) ∷ [])))
+  rows : (strict b : Bool) (cs : List Bool) → MayChoose strict b y stop remains →
+      SoFar strict text (blanks_and_comment more ++ remains) (chosen b cs (None ∷ y ∷ []) (with_entries (site_after t.held.position) taken (first_entry (kind_of lv) ∷ [])))
       (tokens_up_to (chosen b cs (None ∷ y ∷ []) (with_entries (site_after t.held.position) taken (first_entry (kind_of lv) ∷ []))) (None ∷ y ∷ []) tokens_after)
-  rows b cs may =
+  rows strict b cs may =
       let past_at : Position → Account = λ p. chosen b cs (None ∷ y ∷ []) (with_entries (site_after p) taken (first_entry (kind_of lv) ∷ [])) in
-      let all : Completes text more (outside.past n b) (tokens_up_to (outside.past n b) (None ∷ y ∷ []) (outside.tokens_here n ++ (outside.own_token n ∷ []))) =
-      outside.node_completes text n is_node (λ v m. completes_at text t [] (k ∷ []) [] a (c ∷ more) (outside.at n).position cut at_place v [] m) b may in
+      let all : SoFar strict text more (outside.past n b) (tokens_up_to (outside.past n b) (None ∷ y ∷ []) (outside.tokens_here n ++ (outside.own_token n ∷ []))) =
+      outside.node_completes text n is_node (λ st v m. completes_at text t [] (k ∷ []) [] a (c ∷ more) (outside.at n).position cut at_place st v [] m) strict b may in
       let tokens : outside.tokens_here n ++ (outside.own_token n ∷ []) ≡ tokens_after =
       ap (λ ts. ts ++ (outside.own_token n ∷ [])) (sym tokens_same) ∙ ap (λ p. t.held.tokens ++ (put p tok ∷ [])) (o.shown (outside.at n) (c ∷ []) more ∙ sym at_place) in
-      subst (λ r. Completes text r (past_at t.held.position) (tokens_up_to (past_at t.held.position) (None ∷ y ∷ []) tokens_after)) (line_rest_cut more)
-      (subst (λ p. Completes text more (past_at p) (tokens_up_to (past_at p) (None ∷ y ∷ []) tokens_after)) (sym at_place)
-      (subst (λ ts. Completes text more (outside.past n b) (tokens_up_to (outside.past n b) (None ∷ y ∷ []) ts)) tokens all))
+      subst (λ r. SoFar strict text r (past_at t.held.position) (tokens_up_to (past_at t.held.position) (None ∷ y ∷ []) tokens_after)) (line_rest_cut more)
+      (subst (λ p. SoFar strict text more (past_at p) (tokens_up_to (past_at p) (None ∷ y ∷ []) tokens_after)) (sym at_place)
+      (subst (λ ts. SoFar strict text more (outside.past n b) (tokens_up_to (outside.past n b) (None ∷ y ∷ []) ts)) tokens all))
 
   carried_outside : IsCarriedOn text (blanks_and_comment more ++ remains) remains (None ∷ y ∷ []) (with_entries (site_after t.held.position) taken (first_entry (kind_of lv) ∷ []))
   carried_outside cs key own must inside_flow goes = record {
     account = chosen true cs (None ∷ y ∷ []) (with_entries (site_after t.held.position) taken (first_entry (kind_of lv) ∷ []));
     steps = [];
-    begins = (rows true cs (subst (λ o. MayChoose true o stop remains) (sym own) is_live)).0;
+    begins = (rows true true cs (subst (λ o. MayChoose true true o stop remains) (sym own) is_live)).0;
     is_inside = refl;
     line_is = ap (λ o. line_by true o taken) own;
     must_be = sym ((subst (λ o. IsOpenOutside o (position_after t.held.position (c ∷ []) more) stop remains (site_here false t.held.position a.site).blocks) own
-        (open_node text t k a out deep some stop remains to_end (position_after t.held.position (c ∷ []) more) (not_before_after t.held.position (c ∷ []) more))).1 is_live).must_be ∙ must;
+        (open_node text t k a out deep some stop remains to_end (position_after t.held.position (c ∷ []) more) (is_after t.held.position c [] more))).1 is_live).must_be ∙ must;
     leads = ap (λ l. with_entries (site_after t.held.position) l (entries_by cs (None ∷ y ∷ []) (first_entry (kind_of lv) ∷ []))) (sym (ap (λ o. line_by false o taken) own));
   }
     where
@@ -288,9 +281,9 @@ module _ (text more : List ℕ) (lv : FlowLevel) (tok : Tok) (c : ℕ) (o : IsOp
       is_live = let own_line = key_line t.held.key_allowed own in (omega (arith, stays, own_line), goes)
 
   -- What holds between two fetches holds after it.
-  opener_stands_outside : columns i ds ≡ columns t.held.indent t.held.indents → AreLevels i ds → has_open_level ds ≡ not (is_empty (columns t.held.indent t.held.indents)) →
+  opener_stands_outside : columns i ds ≡ columns t.held.indent t.held.indents → AreLevels i ds → has_open_level ds ≡ not (is_empty (columns t.held.indent t.held.indents)) → KnowsKey text (a.separation ++ t.rest) t.held.position k →
       StandsBy text (opened_past lv t tok more (y ∷ []) ds i) (lv ∷ []) (None ∷ y ∷ []) (first_entry (kind_of lv) ∷ [])
-  opener_stands_outside same levels awaits =
+  opener_stands_outside same levels awaits known =
       let q = quiet text more lv tok c o t [] (k ∷ []) [] a deep cut in
       let bs : List ℕ = (site_here false t.held.position a.site).blocks in
       record {
@@ -309,7 +302,7 @@ module _ (text more : List ℕ) (lv : FlowLevel) (tok : Tok) (c : ℕ) (o : IsOp
         one_each = refl;
         are_entries = let e = entry_begun text more lv tok c o t [] (k ∷ []) [] a deep cut (is_renewed (previous_by tok) (blanks_and_comment more)) in (e.0, e.1, tt);
         line_is = refl;
-        is_open = open_node text t k a out deep some stop remains to_end (position_after t.held.position (c ∷ []) more) (not_before_after t.held.position (c ∷ []) more);
+        is_open = open_node text t k a out deep some stop remains to_end (position_after t.held.position (c ∷ []) more) (is_after t.held.position c [] more);
         no_key = refl;
         are_numbered = (tt, numbered_past text t k a out deep (put t.held.position tok) t.held.key_allowed);
         was_adjacent = λ _. adjacent text more lv tok c o t [] (k ∷ []) [] a deep cut;
@@ -317,6 +310,7 @@ module _ (text more : List ℕ) (lv : FlowLevel) (tok : Tok) (c : ℕ) (o : IsOp
         started = a.started;
         going = a.going;
         carries = carried_outside;
+        knows = knows_saved text t (c ∷ []) more tok cut stop (blanks_and_comment more) remains (end_is text more lv tok c o t [] (k ∷ []) [] a deep cut) (line_rest_cut more) k a (part_written [] n.part is_node.is_part) out deep (ap is_of_node o.act) known;
         completes = rows;
       }
 
@@ -373,7 +367,7 @@ module _ (text more : List ℕ) (lv : FlowLevel) (tok : Tok) (c : ℕ) (o : IsOp
     are_among = among (length a.tokens) (k ∷ ks) a.are_numbered;
     unbroken = unbroken_around text t f fs k ks e es a goes halt rest_of to_halt;
     one_line = one_around text t f fs k ks e es a goes halt rest_of to_halt (c ∷ []) (λ _ _. no_break_in text more lv tok c o t (f ∷ fs) (k ∷ ks) (e ∷ es) a deep cut);
-    may_before = λ b may. subst (λ x. MayChoose b (outside_key es ks) x (c ∷ more)) there (subst (λ x. MayChoose b (outside_key es ks) t.held.position x) cut (may_around text t f fs k ks e es a goes halt rest_of to_halt b may));
+    may_before = λ strict b may. subst (λ x. MayChoose strict b (outside_key es ks) x (c ∷ more)) there (subst (λ x. MayChoose strict b (outside_key es ks) t.held.position x) cut (may_around text t f fs k ks e es a goes halt rest_of to_halt strict b may));
   }
 
   abbrev site_then : Position → Site
@@ -385,18 +379,18 @@ module _ (text more : List ℕ) (lv : FlowLevel) (tok : Tok) (c : ℕ) (o : IsOp
   abbrev entries_then : List Entry
   entries_then = first_entry (kind_of lv) ∷ (entry_past_node t.held.key_allowed e ∷ es)
 
-  rows_inside : (b : Bool) (cs : List Bool) → MayChoose b (outside_key es ks) halt rest_of →
-      Completes text (blanks_and_comment more ++ rest_of) (chosen b cs (None ∷ z ∷ ks) (with_entries (site_then t.held.position) a.line entries_then))
+  rows_inside : (strict b : Bool) (cs : List Bool) → MayChoose strict b (outside_key es ks) halt rest_of →
+      SoFar strict text (blanks_and_comment more ++ rest_of) (chosen b cs (None ∷ z ∷ ks) (with_entries (site_then t.held.position) a.line entries_then))
       (tokens_up_to (chosen b cs (None ∷ z ∷ ks) (with_entries (site_then t.held.position) a.line entries_then)) (None ∷ z ∷ ks) tokens_then)
-  rows_inside b cs may =
+  rows_inside strict b cs may =
       let past_at : Position → Account = λ p. chosen b cs (None ∷ z ∷ ks) (with_entries (site_then p) a.line entries_then) in
-      let all : Completes text more (inside.past m b cs) (tokens_up_to (inside.past m b cs) (None ∷ z ∷ ks) (a.tokens ++ (inside.own_token m ∷ []))) =
-      inside.node_completes text m is_inner (λ v vs q. completes_at text t (f ∷ fs) (k ∷ ks) (e ∷ es) a (c ∷ more) (inside.at m).position cut there v vs q) b cs may in
+      let all : SoFar strict text more (inside.past m b cs) (tokens_up_to (inside.past m b cs) (None ∷ z ∷ ks) (a.tokens ++ (inside.own_token m ∷ []))) =
+      inside.node_completes text m is_inner (λ st v vs q. completes_at text t (f ∷ fs) (k ∷ ks) (e ∷ es) a (c ∷ more) (inside.at m).position cut there st v vs q) strict b cs may in
       let tokens : a.tokens ++ (inside.own_token m ∷ []) ≡ tokens_then =
       ap (λ ts. ts ++ (inside.own_token m ∷ [])) (sym (tokens_before text t f fs k ks e es a)) ∙ ap (λ p. t.held.tokens ++ (put p tok ∷ [])) (o.shown (inside.at m) (c ∷ []) more ∙ sym there) in
-      subst (λ r. Completes text r (past_at t.held.position) (tokens_up_to (past_at t.held.position) (None ∷ z ∷ ks) tokens_then)) (line_rest_cut more)
-      (subst (λ p. Completes text more (past_at p) (tokens_up_to (past_at p) (None ∷ z ∷ ks) tokens_then)) (sym there)
-      (subst (λ ts. Completes text more (inside.past m b cs) (tokens_up_to (inside.past m b cs) (None ∷ z ∷ ks) ts)) tokens all))
+      subst (λ r. SoFar strict text r (past_at t.held.position) (tokens_up_to (past_at t.held.position) (None ∷ z ∷ ks) tokens_then)) (line_rest_cut more)
+      (subst (λ p. SoFar strict text more (past_at p) (tokens_up_to (past_at p) (None ∷ z ∷ ks) tokens_then)) (sym there)
+      (subst (λ ts. SoFar strict text more (inside.past m b cs) (tokens_up_to (inside.past m b cs) (None ∷ z ∷ ks) ts)) tokens all))
 
   carried_inside : IsCarriedOn text (blanks_and_comment more ++ rest_of) rest_of (None ∷ z ∷ ks) (with_entries (site_then t.held.position) a.line entries_then)
   carried_inside cs key own must inside_flow rest_goes =
@@ -445,34 +439,23 @@ module _ (text more : List ℕ) (lv : FlowLevel) (tok : Tok) (c : ℕ) (o : IsOp
         started = a.started;
         going = a.going;
         carries = carried_inside;
+        knows = knows_inside text t (c ∷ []) more tok cut halt (blanks_and_comment more) rest_of (end_is text more lv tok c o t (f ∷ fs) (k ∷ ks) (e ∷ es) a deep cut) (line_rest_cut more) f fs k ks e es a (part_written (e ∷ es) m.part is_inner.is_part);
         completes = rows_inside;
       }
 
 -- ---- with the account after it
 
--- outside flow
-abbrev pub opened_base : FlowLevel → Tok → (c : ℕ) → (here : Position) → Site → (more : List ℕ) → Account
-opened_base lv tok c here s more = let x : Site = site_here false here s in with_entries (site_past false x (c ∷ []) tok more x.blocks) taken (first_entry (kind_of lv) ∷ [])
-
 pub opened_outside : (text more : List ℕ) (lv : FlowLevel) (tok : Tok) (c : ℕ) → IsOpener lv tok c → (t : ScannerState) (x : ArrivesOutside text t) → IsDeep t.held → t.rest ≡ c ∷ more → begins_with 35 more ≡ false →
     (ds : List Indent) (i : ℕ) → columns i ds ≡ columns t.held.indent t.held.indents → AreLevels i ds → has_open_level ds ≡ not (is_empty (columns t.held.indent t.held.indents)) →
-    StandsAt text (opened_base lv tok c t.held.position x.here.site more) (blanks_and_comment more) (opened_past lv t tok more (saved t.held.key_allowed (new_key t) x.key ∷ []) ds i)
-unfolding opener_stands_outside
+    Stands text (opened_past lv t tok more (saved t.held.key_allowed (new_key t) x.key ∷ []) ds i)
 opened_outside text more lv tok c o t x deep e hash ds i same levels awaits =
     let keys = saved t.held.key_allowed (new_key t) x.key ∷ [] in
-    stands_at text (opened_past lv t tok more keys ds i) (lv ∷ []) (None ∷ keys) (first_entry (kind_of lv) ∷ []) (ap (λ fs. lv ∷ fs) x.flow_is) refl
-    (opener_stands_outside text more lv tok c o t x.key x.here x.flow_is deep e hash ds i same levels awaits)
-
--- in flow
-abbrev pub opened_base_inside : FlowLevel → Tok → (c : ℕ) → (here : Position) → (allowed : Bool) → Site → Line → Entry → List Entry → (more : List ℕ) → Account
-opened_base_inside lv tok c here allowed s l e es more =
-    let x : Site = site_here true here s in with_entries (site_past true x (c ∷ []) tok more x.blocks) l (first_entry (kind_of lv) ∷ (entry_past_node allowed e ∷ es))
+    stands_by text (opened_past lv t tok more keys ds i) (lv ∷ []) (None ∷ keys) (first_entry (kind_of lv) ∷ []) (ap (λ fs. lv ∷ fs) x.flow_is) refl
+    (opener_stands_outside text more lv tok c o t x.key x.here x.flow_is deep e hash ds i same levels awaits x.knows)
 
 pub opened_inside : (text more : List ℕ) (lv : FlowLevel) (tok : Tok) (c : ℕ) → IsOpener lv tok c → (t : ScannerState) (x : ArrivesInside text t) → IsDeep t.held → t.rest ≡ c ∷ more → begins_with 35 more ≡ false → nat_le 255 (length t.held.flow) ≡ false →
-    StandsAt text (opened_base_inside lv tok c t.held.position t.held.key_allowed x.here.site x.here.line x.entry x.entries more) (blanks_and_comment more)
-    (opened_past lv t tok more (saved t.held.key_allowed (new_key t) x.key ∷ x.keys) t.held.indents t.held.indent)
-unfolding opener_stands_inside
+    Stands text (opened_past lv t tok more (saved t.held.key_allowed (new_key t) x.key ∷ x.keys) t.held.indents t.held.indent)
 opened_inside text more lv tok c o t x deep e hash few =
     let keys = saved t.held.key_allowed (new_key t) x.key ∷ x.keys in
-    stands_at text (opened_past lv t tok more keys t.held.indents t.held.indent) (lv ∷ x.level ∷ x.levels) (None ∷ keys) (first_entry (kind_of lv) ∷ (entry_past_node t.held.key_allowed x.entry ∷ x.entries)) (ap (λ fs. lv ∷ fs) x.flow_is) refl
+    stands_by text (opened_past lv t tok more keys t.held.indents t.held.indent) (lv ∷ x.level ∷ x.levels) (None ∷ keys) (first_entry (kind_of lv) ∷ (entry_past_node t.held.key_allowed x.entry ∷ x.entries)) (ap (λ fs. lv ∷ fs) x.flow_is) refl
     (opener_stands_inside text more lv tok c o t x.level x.levels x.key x.keys x.entry x.entries x.here x.flow_is deep e hash few)

@@ -1,25 +1,18 @@
 -- A piece outside flow before and after which no key waits: what holds where it begins holds between two fetches after it.
-use Rattle.std.proofs.Common.{◌≡◌, ℕ, ◌≤◌, List, [], ◌∷◌, ◌++◌, Bool, true, false, not, ◌⊎◌, inl, inr, if◌then◌else◌, Option, Some, None, refl, ap, sym, ◌∙◌, subst, arith, append_assoc}
 use Rattle.std.proofs.lemmas.List.{append-nil}
-use Rattle.proof_scanner.proofs.Common.{act_of, another, awaits_past, begins_free_line, begun_by, begun_outside, Completes, ends_at, free, has_no_break, has_no_nul, has_open_level, HasNoTabs, is_deeper, is_empty, is_free, is_in_column, is_indented_by_spaces, is_separation, is_waiting, IsLeading, IsLine, IsLineHere, IsPiece, IsReadOn, Key, may_stand, Outside, Position, position_after, previous_by, ScannerState, seen, shown_position, Site, site_in, site_past, start_if, taken, Tok, Token, token}
-use Rattle.defs_token.specs.Key.{Line, line_past}
-use Rattle.defs_token.specs.RowAccount.{Account}
-use Rattle.defs_token.specs.Tokens.{put}
-use Rattle.model_scanner.specs.Indents.{placed}
+use Rattle.proof_scanner.proofs.Common.{[], act_of, another, ap, append_assoc, AreLevels, arith, awaits_past, begins_free_line, begun_by, begun_outside, Bool, columns, Completes, ends_at, false, free, has_no_break, has_no_nul, has_open_level, HasNoTabs, if◌then◌else◌, inl, inr, is_deeper, is_empty, is_free, is_in_column, is_indented_by_spaces, is_separation, is_waiting, IsLeading, IsLine, IsLineHere, IsPiece, IsReadOn, IsWritten, Key, Line, line_past, List, may_end, may_stand, None, not, Option, Outside, placed, Position, position_after, previous_by, put, refl, ScannerState, seen, shown_position, Site, site_in, site_past, SoFar, Some, Stands, start_if, subst, sym, taken, Tok, Token, token, true, ℕ, ◌++◌, ◌∙◌, ◌∷◌, ◌≡◌, ◌≤◌, ◌⊎◌}
 use Rattle.proof_scanner.proofs.Cut.Positions.{index_after}
-use Rattle.proof_scanner.specs.StandsInRow.{columns, AreLevels, Stands}
+use Rattle.proof_scanner.proofs.Known.Read.{keyless, knows_none}
+use Rattle.proof_scanner.proofs.Known.Steps.{begins_key}
 use Rattle.proof_scanner.proofs.Sound.Arrivals.{clean_after}
 use Rattle.proof_scanner.proofs.Sound.Indicated.{none_indents}
-use Rattle.proof_scanner.proofs.Sound.Sides.{with_entries, ArrivesBy, StandsAt, stands_at}
-use Rattle.proof_scanner.proofs.Sound.StepsOutside.{Piece, IsHere, at, before, past, own_tokens, piece_completes}
+use Rattle.proof_scanner.proofs.Sound.Sides.{with_entries, ArrivesBy, stands_by}
+use Rattle.proof_scanner.proofs.Sound.Completed.{goes_of}
+use Rattle.proof_scanner.proofs.Sound.StepsOutside.{Piece, IsHere, Must, is_written, at, before, past, own_tokens, piece_completes}
 
 -- the site after a piece at a site
 abbrev pub site_then : Site → (piece : List ℕ) → Tok → (next : List ℕ) → Outside → Site
 site_then x piece tok next after = site_past false x piece tok next after.blocks
-
--- the account after a piece that stands here, in which no key waits
-abbrev pub base_past : Tok → (piece : List ℕ) → (here : Position) → Site → (next : List ℕ) → Outside → Account
-base_past tok piece here s next after = with_entries (site_then (site_in false (act_of tok) here s) piece tok next after) after.line []
 
 -- the tokens of the step: ends of block collections, the start of one, and the token that the piece shows
 abbrev pub tokens_then : Site → Site → (piece : List ℕ) → Tok → (next : List ℕ) → Line → List Token
@@ -46,14 +39,14 @@ pub record EndsOutside (t u : ScannerState) (piece next : List ℕ) (tok : Tok) 
   pub unchanged : (u.held.adjacent_value_at ≡ t.held.adjacent_value_at) × (u.held.started ≡ t.held.started) × (u.held.ended ≡ t.held.ended)
 
 -- If the account after it is one of a row, what holds between two fetches holds after it, with this account.
-pub ends_outside_at : (text : List ℕ) (t u : ScannerState) (k : Option Key) (a : ArrivesBy text t [] (k ∷ []) []) (piece next : List ℕ) (tok : Tok) (after : Outside) (x : Site) → t.held.position ≡ x.position → (r : EndsOutside t u piece next tok after x) →
-    Completes text next (with_entries (site_then x piece tok next after) after.line []) (λ ws last. u.held.tokens) → StandsAt text (with_entries (site_then x piece tok next after) after.line []) r.separation u
-ends_outside_at text t u k a piece next tok after x place r rows =
+pub ends_outside : (text : List ℕ) (t u : ScannerState) (k : Option Key) (a : ArrivesBy text t [] (k ∷ []) []) (piece next : List ℕ) (tok : Tok) (after : Outside) (x : Site) → t.held.position ≡ x.position → (r : EndsOutside t u piece next tok after x) →
+    IsWritten (with_entries a.site a.line []) (keyless a.separation piece tok) next → begins_key (act_of tok) ≡ false → ((strict : Bool) → SoFar strict text next (with_entries (site_then x piece tok next after) after.line []) (λ ws last. u.held.tokens)) → Stands text u
+ends_outside text t u k a piece next tok after x place r written idle rows =
     let i = index_after (position_after x.position piece next) r.separation u.rest in
     let j = index_after x.position piece next in
     let was : t.held.adjacent_value_at ≤ x.position.index = subst (λ p. t.held.adjacent_value_at ≤ p.index) place a.was_adjacent in
     let there : u.held.position.index ≡ (position_after (position_after x.position piece next) r.separation u.rest).index = ap (λ p. p.index) r.position_is in
-    stands_at text u [] (None ∷ []) [] r.flow_is r.keys_are (record {
+    stands_by text u [] (None ∷ []) [] r.flow_is r.keys_are (record {
       site = site_then x piece tok next after;
       line = after.line;
       separation = r.separation;
@@ -77,12 +70,9 @@ ends_outside_at text t u k a piece next tok after x place r rows =
       started = r.unchanged.1 ∙ a.started;
       going = r.unchanged.2 ∙ a.going;
       carries = λ cs x key m inside some. absurd (cc inside);
-      completes = λ c cs may. subst (λ y. Completes text y (with_entries (site_then x piece tok next after) after.line []) (λ ws last. u.held.tokens)) r.is_rest rows;
+      knows = knows_none text t piece next tok r.cut u.held.position r.separation u.rest (r.position_is ∙ ap (λ p. position_after (position_after p piece next) r.separation u.rest) (sym place)) r.is_rest k a written idle;
+      completes = λ strict c cs may. subst (λ y. SoFar strict text y (with_entries (site_then x piece tok next after) after.line []) (λ ws last. u.held.tokens)) r.is_rest (rows strict);
     })
-
-pub ends_outside : (text : List ℕ) (t u : ScannerState) (k : Option Key) (a : ArrivesBy text t [] (k ∷ []) []) (piece next : List ℕ) (tok : Tok) (after : Outside) (x : Site) → t.held.position ≡ x.position → EndsOutside t u piece next tok after x →
-    Completes text next (with_entries (site_then x piece tok next after) after.line []) (λ ws last. u.held.tokens) → Stands text u
-ends_outside text t u k a piece next tok after x place r rows = (ends_outside_at text t u k a piece next tok after x place r rows).stands
 
 -- What was read where no key is open: a piece at a site, and what the scanner holds after it.
 pub record ReadOutside (text : List ℕ) (t u : ScannerState) (a : ArrivesBy text t [] (None ∷ []) []) (piece next : List ℕ) (tok : Tok) (after : Outside) (x : Site) : Type 0 where
@@ -91,16 +81,17 @@ pub record ReadOutside (text : List ℕ) (t u : ScannerState) (a : ArrivesBy tex
   pub stands : may_stand false a.site x a.separation piece tok next ≡ true
   pub after_is : line_past (is_in_column x.position.col x.blocks) x.position x.blocks (act_of tok) false a.line_here ≡ Some after
   pub begun : begun_by tok ≡ []
+  pub begins_none : begins_key (act_of tok) ≡ false
   pub tokens_are : u.held.tokens ≡ a.tokens ++ tokens_then a.site x piece tok next a.line_here
   pub ends : EndsOutside t u piece next tok after x
 
 -- What holds between two fetches holds after it, with the account after the piece.
-pub read_outside_at : (text : List ℕ) (t u : ScannerState) (a : ArrivesBy text t [] (None ∷ []) []) (piece next : List ℕ) (tok : Tok) (after : Outside) →
-    (r : ReadOutside text t u a piece next tok after (site_in false (act_of tok) t.held.position a.site)) → StandsAt text (base_past tok piece t.held.position a.site next after) r.ends.separation u
-read_outside_at text t u a piece next tok after r =
-    ends_outside_at text t u None a piece next tok after (site_in false (act_of tok) t.held.position a.site) refl r.ends
-    (subst (λ p. Completes text next (with_entries (site_then (site_in false (act_of tok) p a.site) piece tok next after) after.line []) (λ ws last. u.held.tokens)) (sym place)
-    (rows (subst (λ p. ReadOutside text t u a piece next tok after (site_in false (act_of tok) p a.site)) place r)))
+pub read_outside : (text : List ℕ) (t u : ScannerState) (a : ArrivesBy text t [] (None ∷ []) []) (piece next : List ℕ) (tok : Tok) (after : Outside) →
+    (r : ReadOutside text t u a piece next tok after (site_in false (act_of tok) t.held.position a.site)) → Stands text u
+read_outside text t u a piece next tok after r =
+    ends_outside text t u None a piece next tok after (site_in false (act_of tok) t.held.position a.site) refl r.ends (is_written (Must d) d here) r.begins_none
+    (λ strict. subst (λ p. SoFar strict text next (with_entries (site_then (site_in false (act_of tok) p a.site) piece tok next after) after.line []) (λ ws last. u.held.tokens)) (sym place)
+    (rows strict))
   where
     d : Piece
     d = record { site = a.site; line = a.line; line_here = a.line_here; separation = a.separation; piece = piece; next = next; tok = tok; after = after; tokens = a.tokens }
@@ -108,24 +99,28 @@ read_outside_at text t u a piece next tok after r =
     place : t.held.position ≡ (at d).position
     place = a.position_is ∙ ap (λ x. position_after a.site.position a.separation x) r.ends.cut
 
-    rows : ReadOutside text t u a piece next tok after (at d) → Completes text next (with_entries (past d).site after.line []) (λ ws last. u.held.tokens)
-    rows r =
-        let here : IsHere d = record {
-          is_filled = ap (λ x. is_separation false a.separation x) (sym r.ends.cut) ∙ a.is_filled;
-          is_solid = r.is_solid;
-          is_piece = r.is_piece;
-          stands = r.stands;
-          line_is = a.is_line;
-          after_is = r.after_is;
-          no_key = r.ends.no_key;
-        } in
-        let before_it : Completes text (a.separation ++ (piece ++ next)) (before d) (λ ws last. a.tokens) = subst (λ x. Completes text (a.separation ++ x) (before d) (λ ws last. a.tokens)) r.ends.cut (a.completes false [] tt) in
-        let later : Completes text next (past d) (λ ws last. a.tokens ++ own_tokens d) = piece_completes text d here before_it in
-        subst (λ ts. Completes text next (with_entries (past d).site after.line []) (λ ws last. ts)) (sym r.tokens_are)
-        (subst (λ es. Completes text next (with_entries (past d).site after.line es) (λ ws last. a.tokens ++ own_tokens d)) r.begun later)
+    there : ReadOutside text t u a piece next tok after (at d)
+    there = subst (λ p. ReadOutside text t u a piece next tok after (site_in false (act_of tok) p a.site)) place r
 
-pub read_outside : (text : List ℕ) (t u : ScannerState) (a : ArrivesBy text t [] (None ∷ []) []) (piece next : List ℕ) (tok : Tok) (after : Outside) → ReadOutside text t u a piece next tok after (site_in false (act_of tok) t.held.position a.site) → Stands text u
-read_outside text t u a piece next tok after r = (read_outside_at text t u a piece next tok after r).stands
+    here : IsHere (Must d) d
+    here = record {
+      is_filled = ap (λ x. is_separation false a.separation x) (sym r.ends.cut) ∙ a.is_filled;
+      is_solid = r.is_solid;
+      is_piece = there.is_piece;
+      stands = there.stands;
+      line_is = a.is_line;
+      after_is = there.after_is;
+      no_key = r.ends.no_key;
+    }
+
+    rows : (strict : Bool) → SoFar strict text next (with_entries (past d).site after.line []) (λ ws last. u.held.tokens)
+    rows strict =
+        let before_it : Completes text (a.separation ++ (piece ++ next)) (before d) (λ ws last. a.tokens) = subst (λ x. Completes text (a.separation ++ x) (before d) (λ ws last. a.tokens)) r.ends.cut (a.completes true false [] tt) in
+        let later : Completes text next (past d) (λ ws last. a.tokens ++ own_tokens d) = piece_completes text d here before_it in
+        let ends : may_end (with_entries (past d).site after.line []) ≡ true = rw r.ends.no_key refl in
+        goes_of strict text next (with_entries (past d).site after.line []) u.held.tokens ends r.ends.no_key
+        (subst (λ ts. Completes text next (with_entries (past d).site after.line []) (λ ws last. ts)) (sym there.tokens_are)
+        (subst (λ es. Completes text next (with_entries (past d).site after.line es) (λ ws last. a.tokens ++ own_tokens d)) r.begun later))
 
 -- ---- parts of it
 

@@ -1,8 +1,5 @@
 -- A part of a node, in flow or outside, be it an opening bracket or no collection: what is read, and what the scanner holds there.
-use Rattle.std.proofs.Common.{◌≡◌, ℕ, List, [], ◌++◌, Bool, true, false, Option, None}
-use Rattle.proof_scanner.proofs.Common.{act_of, begun_by, FlowKind, gives_node, is_empty, is_separation, IsPiece, Key, may_stand, Position, position_after, seen, shown_position, Site, site_here, Tok, Token}
-use Rattle.defs_token.specs.Key.{Line}
-use Rattle.defs_token.specs.FlowEntry.{Entry}
+use Rattle.proof_scanner.proofs.Common.{[], act_of, ap, begun_by, Bool, Entry, false, FlowKind, gives_node, is_empty, is_in_flow, is_separation, IsPiece, IsWritten, Key, Line, List, may_stand, None, not, Option, Position, position_after, seen, shown_position, Site, site_here, site_in, subst, sym, Tok, Token, true, ℕ, ◌++◌, ◌≡◌}
 use Rattle.proof_scanner.proofs.Sound.Begun.{with_begun}
 
 -- The site after the last piece and what may begin outside flow there, where no open key is one; the separation, the piece and the text after it; the token, and the kind of the collection that it begins, if any; the innermost open
@@ -35,3 +32,9 @@ pub record IsPart (fl : Bool) (es : List Entry) (p : Part) : Type 0 where
   pub is_piece : IsPiece (seen (record { site = p.site; line = p.line; entries = es }) (part_site fl p) p.separation) p.piece p.next None (shown_position (part_site fl p) p.piece p.tok p.next) p.tok
   pub stands : may_stand fl p.site (part_site fl p) p.separation p.piece p.tok p.next ≡ true
   pub position_is : p.new.position ≡ (part_site fl p).position
+
+-- it is written so
+pub part_written : (es : List Entry) (p : Part) → IsPart (is_in_flow es) es p → IsWritten (record { site = p.site; line = p.line; entries = es }) (record { separation = p.separation; piece = p.piece; shown = p.tok; key = false }) p.next
+part_written es p n =
+    let Shown : Site → Type 0 = λ x. IsPiece (seen (record { site = p.site; line = p.line; entries = es }) x p.separation) p.piece p.next None (shown_position x p.piece p.tok p.next) p.tok in
+    (n.is_filled, (ap not n.is_solid, subst (λ k. Shown (site_in (is_in_flow es) k (part_site (is_in_flow es) p).position p.site)) (sym n.act) n.is_piece))

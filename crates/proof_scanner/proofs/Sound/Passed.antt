@@ -1,19 +1,7 @@
 -- What holds between two fetches still holds at the next token, or at the text's end, with the separation up to there.
-use Rattle.std.proofs.Common.{◌≡◌, ℕ, suc, ◌+◌, ◌-◌, List, [], ◌∷◌, ◌++◌, Bool, true, false, not, ◌&&◌, ◌||◌, ◌==◌, if◌then◌else◌, drop, Option, Some, None, Result, Ok, refl, ap, sym, ◌∙◌, append-nil, arith}
-use Rattle.std.proofs.lemmas.Bool.{eqb-true}
-use Rattle.std.proofs.Math.Bool.{or-false}
-use Rattle.proof_scanner.proofs.Common.{after_separation, another, AreCollections, begins_free_line, begins_separation, begins_white, Fault, flow_collection, has_no_break, has_open_level, Held, Indent, is_before_line_feed, is_empty, is_renewed, is_separation, IsLive, IsReadOn, IsTopLevel, Key, leading, least_column, MayChoose, PassesAs, Position, position_after, Previous, quoted_scalar, same_blank, same_break, ScannerState, separations_are_passed, skip, skip_to_next_token}
-use Rattle.defs_text.specs.Classes.{is_break, is_blank}
-use Rattle.defs_token.specs.Step.{plain_scalar, block_scalar, directive, has_break}
-use Rattle.defs_token.specs.Key.{without_break}
-use Rattle.defs_token.specs.FlowEntry.{is_no_comment}
-use Rattle.model_scanner.specs.Space.{between}
-use Rattle.model_scanner.proofs.Holds.{Holds, went, refused}
-use Rattle.proof_lexers.specs.PlainEnds.{is_white}
+use Rattle.proof_scanner.proofs.Common.{[], after_separation, another, ap, append-nil, AreCollections, AreLevels, arith, begins_free_line, begins_separation, begins_white, between, block_scalar, Bool, columns, directive, drop, eqb-true, false, Fault, flow_collection, has_break, has_no_break, has_open_level, HasFirst, Held, Holds, if◌then◌else◌, Indent, is_before_line_feed, is_blank, is_break, is_empty, is_no_comment, is_renewed, is_separation, is_white, IsLive, IsReadOn, IsTopLevel, Key, leading, least_column, List, MayChoose, None, not, Ok, Option, or-false, passes, PassesAs, plain_scalar, Position, position_after, Previous, quoted_scalar, refl, refused, refuses, Result, same_blank, same_break, ScannerState, separations_are_passed, skip, skip_to_next_token, Some, suc, sym, true, went, without_break, ℕ, ◌&&◌, ◌++◌, ◌+◌, ◌-◌, ◌==◌, ◌||◌, ◌∙◌, ◌∷◌, ◌≡◌}
 use Rattle.proof_lexers.specs.PlainEnds as plain_ends
-use Rattle.proof_lexers.specs.Separations.{passes, refuses}
 use Rattle.proof_scanner.proofs.Cut.Positions.{not_before_after}
-use Rattle.proof_scanner.specs.StandsInRow.{columns, AreLevels, HasFirst}
 use Rattle.proof_scanner.proofs.Sound.Arrivals.{live_before}
 use Rattle.proof_scanner.proofs.Sound.LastLines.{break_append}
 use Rattle.proof_scanner.proofs.Sound.Skips.{IsLeast}
@@ -65,10 +53,12 @@ goes_on (c ∷ g) rest rest2 e h = ap is_empty e
 pub live_before_it : (k : Key) (p : Position) (g rest rest2 : List ℕ) → rest ≡ g ++ rest2 → IsLive k (position_after p g rest2) rest2 → IsLive k p rest
 live_before_it k p g rest rest2 e l = live_before k p (position_after p g rest2) rest rest2 (not_before_after p g rest2) (goes_on g rest rest2 e l.1) l
 
-pub may_before : (c : Bool) (k : Option Key) (p : Position) (g rest rest2 : List ℕ) → rest ≡ g ++ rest2 → MayChoose c k (position_after p g rest2) rest2 → MayChoose c k p rest
-may_before c None p g rest rest2 e m = tt
-may_before true (Some k) p g rest rest2 e m = live_before_it k p g rest rest2 e m
-may_before false (Some k) p g rest rest2 e m = m
+pub may_before : (strict c : Bool) (k : Option Key) (p : Position) (g rest rest2 : List ℕ) → rest ≡ g ++ rest2 → MayChoose strict c k (position_after p g rest2) rest2 → MayChoose strict c k p rest
+may_before strict c None p g rest rest2 e m = tt
+may_before true true (Some k) p g rest rest2 e m = live_before_it k p g rest rest2 e m
+may_before true false (Some k) p g rest rest2 e m = m
+may_before false true (Some k) p g rest rest2 e m = absurd m
+may_before false false (Some k) p g rest rest2 e m = tt
 
 -- ---- what the last piece asks of the separation
 

@@ -1,31 +1,16 @@
 -- Plain scalars: what holds between two fetches holds after them.
-use Rattle.std.proofs.Common.{◌≡◌, ℕ, ◌<◌, ◌≤◌, List, [], ◌∷◌, ◌++◌, Bool, true, false, not, ◌&&◌, ◌||◌, ◌==◌, nat_le, length, map, Option, Some, None, Result, Ok, refl, ap, sym, ◌∙◌, subst, arith, inl, inr, ◌⊎◌}
-use Rattle.std.proofs.lemmas.Bool.{and_parts, eqb-true}
-use Rattle.std.proofs.lemmas.Bool.Decides.{nat_tests}
-use Rattle.proof_scanner.proofs.Common.{allow_key, Arrives, awaits_past, before_past, begins_plain, begins_separation, begins_solid, begins_white, collection_column, collection_of, comes_plain, context, ends_with_content, Fault, fetch_plain_scalar, FlowLevel, has_dash_before_flow, has_no_nul, has_tab_within, HasNoTabs, Held, in_flow, innermost, innermost_column, is_adjacent, is_at_comment_or_end, is_deep_enough, is_empty, is_gap, is_indented_by_spaces, is_one_of, is_renewed, is_whole_plain, IsPiece, Key, leading, least_column, Levels, lexed, on_held, Plain, plain_lines_fit, PlainEndsAs, Position, position_after, position_append, push, ReadAs, ScannerState, seen, Site, stops, Style, Tok, unroll_non_block_indents, without_open}
-use Rattle.defs_text.specs.Classes.{is_break, is_blank}
-use Rattle.defs_text.specs.FlowScalar.{plain_value}
+use Rattle.proof_scanner.proofs.Common.{[], after_plain, allow_key, and_parts, ap, arith, Arrives, awaits_past, before_by, before_past, begins_plain, begins_separation, begins_solid, begins_white, Bool, collection_column, collection_of, columns, comes_plain, Context, context, ends_with_content, Entry, eqb-true, false, Fault, fetch_plain_scalar, FlowLevel, goes_on, has_break, has_dash_before_flow, has_no_nul, has_tab_within, HasNoTabs, Held, Holds, in_flow, inl, innermost, innermost_column, inr, is_adjacent, is_at_comment_or_end, is_blank, is_break, is_deep_enough, is_empty, is_gap, is_indented, is_indented_by_spaces, is_no_comment, is_one_of, is_renewed, is_white, is_whole_plain, IsPiece, Key, last_line, leading, least_column, length, level_of, Levels, lexed, List, map, nat_le, nat_tests, None, not, Ok, on_held, Option, Plain, plain_lines_fit, plain_scalar, plain_value, PlainEndsAs, Position, position_after, position_append, push, read, ReadAs, refl, Result, ScannerState, scans_end, seen, Site, Some, Stands, stops, Style, subst, sym, Tok, true, unroll_non_block_indents, went, without_open, ℕ, ◌&&◌, ◌++◌, ◌<◌, ◌==◌, ◌||◌, ◌∙◌, ◌∷◌, ◌≡◌, ◌≤◌, ◌⊎◌}
 use Rattle.defs_token.specs.Account.{Account as PieceAccount, is_in_flow}
-use Rattle.defs_token.specs.Plain.{goes_on}
-use Rattle.defs_token.specs.Step.{has_break, plain_scalar}
-use Rattle.defs_token.specs.Indentation.{last_line}
-use Rattle.defs_token.specs.FlowEntry.{Entry, is_no_comment}
-use Rattle.defs_token.specs.RowAccount.{before_by, level_of}
-use Rattle.model_scanner.specs.declared.context.Context.{Context}
 use Rattle.model_scanner.specs.Machine as machine
 use Rattle.model_scanner.specs.Plain.{plain}
-use Rattle.model_scanner.specs.Document.{after_plain}
-use Rattle.model_scanner.proofs.Holds.{Holds, went, read}
 use Rattle.proof_lexers.specs.PlainEnds as plains
-use Rattle.proof_lexers.specs.PlainEnds.{is_white, is_indented, reads, refuses}
-use Rattle.proof_lexers.proofs.Plain.Scalars.{scans_end}
+use Rattle.proof_lexers.specs.PlainEnds.{reads, refuses}
 use Rattle.proof_scanner.proofs.Cut.Pieces.Separations.{white_is_no_hash, gap_is_separation}
 use Rattle.proof_scanner.proofs.Cut.Pieces.Plains.{plain_is_read}
 use Rattle.proof_scanner.proofs.Cut.Pieces.Inserted.{no_break_on_line}
 use Rattle.proof_scanner.proofs.Cut.Positions.{not_before_after, index_after}
 use Rattle.proof_scanner.proofs.Cut.Saved.{saved_keys, saved_is}
 use Rattle.proof_scanner.proofs.Cut.Nodes.{IsDeep, adjacent_other, less_or}
-use Rattle.proof_scanner.specs.StandsInRow.{columns, Stands}
 use Rattle.proof_scanner.proofs.Sound.Sides.{with_entries, ArrivesBy}
 use Rattle.proof_scanner.proofs.Sound.StreamEnds.{same_flow}
 use Rattle.proof_scanner.proofs.Sound.Passed.{same_has_break}

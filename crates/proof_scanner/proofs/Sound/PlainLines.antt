@@ -1,23 +1,11 @@
 -- The scan of a plain scalar refuses TABs that indent its further lines, and in flow a dash before a flow indicator.
-use Rattle.std.proofs.Common.{◌≡◌, ℕ, suc, ◌+◌, ◌-◌, ◌≤◌, List, [], ◌∷◌, ◌++◌, Bool, true, false, not, ◌&&◌, ◌||◌, ◌==◌, nat_lt, slice_index, if◌then◌else◌, Result, Ok, Err, refl, ap, sym, ◌∙◌, subst, append_assoc, arith, ◌⊎◌, inl, inr}
-use Rattle.std.proofs.lemmas.Bool.{and_parts, eqb-true, not-true}
-use Rattle.std.proofs.lemmas.Bool.Decides.{nat_tests}
-use Rattle.std.proofs.lemmas.List.{append_cancel_right}
-use Rattle.proof_scanner.proofs.Common.{and_false, at_dash, begins_flow, begins_solid, fail, Fault, Folded, has_dash_before_flow, has_no_break, has_tab_within, is_at_comment_or_end, is_before_line_feed, is_blanks, is_cr_lf, is_gap, is_one_of, leading, on, past_break, Plain, plain_lines_fit, Position, put_first, run, same_blank, same_break, split, split_by, stop, Turn, turned, with_break}
+use Rattle.proof_scanner.proofs.Common.{[], after_first, and_false, and_parts, and_then, ap, append_assoc, append_cancel_right, arith, At, at_break, at_char, at_dash, at_gap, at_marker, begins_flow, begins_solid, Bool, can_be_plain, Context, ended, eqb-true, Err, fail, false, Fault, first, Folded, has_break, has_dash_before_flow, has_no_break, has_tab_within, if◌then◌else◌, inl, inr, is_at_comment_or_end, is_before_line_feed, is_blanks, is_cr_lf, is_gap, is_one_of, is_white, joined, last_line, leading, lines_have_no_tab, List, nat_lt, nat_tests, not, not-true, nothing, Ok, on, past, past_break, Plain, plain_from, plain_lines_fit, PlainState, Position, put_first, Read, refl, Result, run, same_blank, same_break, slice_index, split, split_by, starts, Stop, stop, subst, suc, sym, tabs, true, Turn, turn, turn_in, turned, with_blank, with_break, ℕ, ◌&&◌, ◌++◌, ◌+◌, ◌-◌, ◌==◌, ◌||◌, ◌∙◌, ◌∷◌, ◌≡◌, ◌≤◌, ◌⊎◌}
 use Rattle.defs_text.specs.Classes as classes
-use Rattle.defs_token.specs.Step.{has_break}
-use Rattle.defs_token.specs.Indentation.{last_line}
-use Rattle.defs_token.specs.Lines.{after_first, lines_have_no_tab}
 use Rattle.yaml_chars.specs.Class.{is_break, is_blank}
 use Rattle.yaml_chars.specs.Class as model_classes
-use Rattle.yaml_tokens.specs.declared.problem.Fault.TheVariants.{At}
 use Rattle.yaml_tokens.specs.declared.problem.Problem.TheVariants as problem
-use Rattle.model_scanner.specs.declared.context.Context.{Context}
-use Rattle.model_scanner.specs.Machine.{Stop, Read, and_then, past, at_marker}
-use Rattle.model_scanner.specs.Folding.{nothing, with_blank, joined}
-use Rattle.model_scanner.specs.Plain.{Mode, first, inside, between, tabs, PlainState, can_be_plain, at_break, at_gap, at_char, is_shallow, goes_on, begun, turn_in, turn, ended, plain_from, starts, plain}
+use Rattle.model_scanner.specs.Plain.{Mode, inside, between, is_shallow, goes_on, begun, plain}
 use Rattle.proof_lexers.proofs.Bridges.{same_flow}
-use Rattle.proof_lexers.specs.PlainEnds.{is_white}
 use Rattle.proof_scanner.proofs.Sound.LastLines.{last_first, last_whole}
 use Rattle.proof_scanner.proofs.Sound.TabsWithin.{take_none, none_before, blank_more}
 

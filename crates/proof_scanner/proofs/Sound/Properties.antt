@@ -1,22 +1,14 @@
 -- Anchors, aliases and tags: what holds between two fetches holds after them.
-use Rattle.std.proofs.Common.{◌≡◌, ℕ, suc, ◌+◌, ◌<◌, List, [], ◌∷◌, ◌++◌, Bool, true, false, not, nat_le, length, map, if◌then◌else◌, Option, None, Result, Ok, refl, ap, sym, ◌∙◌, subst, arith, inr}
-use Rattle.proof_scanner.proofs.Common.{act_of, after_tag, allow_key, anchor_token, another, Arrives, awaits_past, before_past, begins_free_line, begins_line, begun_by, Fault, fetch_anchor, fetch_tag, FlowLevel, further, further_lines_stand, gives_node, goes_on_with_name, has_no_break, in_flow, is_empty, is_indented_by_spaces, is_name, is_renewed, IsAdjacent, IsPiece, IsReadOn, Key, least_column, least_for, may_follow, may_precede, NameEndsAs, nameless, names_end, node_start, on_held, Position, position_after, position_in_line, previous_by, push, ScannerState, seen, shown_position, Site, TagEndsAs, tags_end, Tok, unled}
-use Rattle.defs_text.specs.Classes.{is_break}
+use Rattle.proof_scanner.proofs.Common.{[], act_of, after_name, after_tag, allow_key, anchor_name, anchor_token, another, ap, arith, Arrives, awaits_past, before_by, before_past, begins_free_line, begins_line, begun_by, Bool, columns, Entry, false, Fault, fetch_anchor, fetch_tag, FlowLevel, further, further_lines_stand, gives_node, goes_on_with_name, has_no_break, Holds, if◌then◌else◌, in_flow, inr, is_break, is_empty, is_indented_by_spaces, is_name, is_renewed, IsAdjacent, IsPiece, IsReadOn, Key, least_column, least_for, length, level_of, List, map, may_follow, may_precede, named, NameEndsAs, nameless, names_end, nat_le, node_start, None, not, Ok, on_held, Option, Position, position_after, position_in_line, previous_by, push, read, refl, Result, ScannerState, seen, shown_position, Site, Stands, subst, suc, sym, TagEndsAs, tags_end, Tok, true, unled, went, ℕ, ◌++◌, ◌+◌, ◌<◌, ◌∙◌, ◌∷◌, ◌≡◌}
 use Rattle.defs_token.specs.Account.{Account as PieceAccount, is_in_flow}
-use Rattle.defs_token.specs.FlowEntry.{Entry}
-use Rattle.defs_token.specs.RowAccount.{before_by, level_of}
 use Rattle.model_scanner.specs.Machine as machine
-use Rattle.model_scanner.specs.Anchor.{anchor_name}
 use Rattle.model_scanner.specs.Tag as tags
-use Rattle.model_scanner.proofs.Holds.{Holds, went, read}
-use Rattle.proof_lexers.specs.NameEnds.{after_name, named}
 use Rattle.proof_lexers.specs.TagEnds.{reads, refuses}
 use Rattle.proof_scanner.proofs.Cut.Pieces.Names.{name_in_line}
 use Rattle.proof_scanner.proofs.Cut.Pieces.Tags.{written_in_line}
 use Rattle.proof_scanner.proofs.Cut.Positions.{index_after}
 use Rattle.proof_scanner.proofs.Cut.Nodes.{IsDeep, adjacent_other}
 use Rattle.proof_scanner.proofs.Cut.Saved.{saved_is}
-use Rattle.proof_scanner.specs.StandsInRow.{columns, Stands}
 use Rattle.proof_scanner.proofs.Sound.StreamEnds.{same_flow}
 use Rattle.proof_scanner.proofs.Sound.Standing.{and_yes, deep_for}
 use Rattle.proof_scanner.proofs.Sound.Sides.{with_entries, ArrivesBy}

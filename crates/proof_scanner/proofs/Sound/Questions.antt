@@ -1,33 +1,21 @@
 -- The function of the model that reads a `?`: what holds where it begins holds between two fetches after it.
-use Rattle.std.proofs.Common.{◌≡◌, ℕ, zero, suc, List, [], ◌∷◌, ◌++◌, Bool, true, false, not, ◌&&◌, ◌||◌, ◌==◌, ◌⊎◌, inl, inr, if◌then◌else◌, take, length, ◌+◌, Option, Some, None, Result, Ok, refl, ap, sym, ◌∙◌, subst, arith, length-append}
-use Rattle.std.proofs.lemmas.Bool.{or_parts}
-use Rattle.proof_scanner.proofs.Common.{allow_key, another, Arrives, begin_key, begins_with, begins_with_space_or_break, both_hold, chained, check_key_space, ends_at, entries_past, Fault, fetch_key, FlowLevel, free, gives_question, Had, had_after, has_open_level, has_tab_before_piece, has_tab_within, HasNoTabs, Held, in_flow, Indent, is_at_comment_or_end, is_at_gap, is_deeper, is_empty, is_in_column, is_keyed, is_one_of, is_renewed, is_separation, IsEntryOf, IsPairOf, Key, Keyed, keyed, Mapping, no_pair, not_ended, on_held, or_true, Outside, pair_past, peek, Position, position_after, push, remove_implicit_key, renewed, roll_indent, ScannerState, Site, site_in, skip_indicator, skip_yaml_whitespace, Tok, Token, token, with_top, ◌>>=◌}
-use Rattle.defs_text.specs.Classes.{is_break}
-use Rattle.yaml_tokens.specs.declared.problem.Fault.TheVariants.{At}
+use Rattle.proof_scanner.proofs.Common.{[], allow_key, another, ap, AreLevels, arith, Arrives, asked_pair, At, begin_key, begins_with, begins_with_space_or_break, Bool, both_hold, chained, check_key_space, checked, columns, either, ends_at, entries_past, Entry, false, Fault, fetch_key, FlowLevel, free, gives_question, Had, had_after, has_break, has_open_level, has_tab_before_piece, has_tab_within, HasNoTabs, Held, Holds, if◌then◌else◌, in_flow, Indent, inl, inr, is_at_comment_or_end, is_at_gap, is_break, is_deeper, is_empty, is_in_column, is_keyed, is_one_of, is_renewed, is_separation, IsEntryOf, IsPairOf, Key, Keyed, keyed, last_line, length, length-append, line_past, List, Mapping, no_pair, None, not, not_ended, Ok, on_held, opened, Option, or_parts, or_true, Outside, Pair, pair_past, past, peek, placed, Position, position_after, push, put, refl, remove_implicit_key, renewed, Result, roll_indent, ScannerState, settled, single_pair, Site, site_in, skip_indicator, skip_yaml_whitespace, Some, Stands, subst, suc, sym, take, takes_pair, Tok, Token, token, tried, true, went, with_top, zero, ℕ, ◌&&◌, ◌++◌, ◌+◌, ◌==◌, ◌>>=◌, ◌||◌, ◌∙◌, ◌∷◌, ◌≡◌, ◌⊎◌}
 use Rattle.yaml_tokens.specs.declared.problem.Problem.TheVariants as problem
-use Rattle.defs_token.specs.Step.{has_break}
-use Rattle.defs_token.specs.Column.{opened}
-use Rattle.defs_token.specs.Indentation.{last_line}
-use Rattle.defs_token.specs.Key.{line_past}
-use Rattle.defs_token.specs.FlowEntry.{waits, settled, Pair, single_pair, asked_pair, Entry, takes_pair, with_had}
+use Rattle.defs_token.specs.FlowEntry.{waits, with_had}
 use Rattle.model_scanner.specs.declared.level.FlowLevel.TheVariants.{Entry as InEntry}
-use Rattle.defs_token.specs.Tokens.{put}
-use Rattle.model_scanner.specs.Machine.{past}
 use Rattle.model_scanner.specs.State.{after}
-use Rattle.model_scanner.specs.Indents.{placed}
-use Rattle.model_scanner.proofs.Holds.{Holds, went, checked, either, tried}
 use Rattle.proof_lexers.specs.PlainEnds as ends
 use Rattle.proof_scanner.proofs.Cut.Nodes.{IsDeep}
 use Rattle.proof_scanner.proofs.Cut.Blocks.{key_removed}
-use Rattle.proof_scanner.specs.StandsInRow.{columns, kind_of, AreLevels, Stands}
+use Rattle.proof_scanner.specs.StandsInRow.{kind_of}
 use Rattle.proof_scanner.proofs.Sound.Arrivals.{first_not_right, numbered_more, numbered_around}
 use Rattle.proof_scanner.proofs.Sound.Around.{tokens_before}
-use Rattle.proof_scanner.proofs.Sound.EntryPieces.{low_enough, site_inside, base_inside, goes_inside_at}
+use Rattle.proof_scanner.proofs.Sound.EntryPieces.{low_enough, site_inside, goes_inside}
 use Rattle.proof_scanner.proofs.Sound.Indicated.{past_one}
 use Rattle.proof_scanner.proofs.Sound.NodesInside.{not_keyed}
-use Rattle.proof_scanner.proofs.Sound.OutsidePieces.{site_then, base_past, read_outside_at, line_free, none_open, started_tokens}
+use Rattle.proof_scanner.proofs.Sound.OutsidePieces.{site_then, read_outside, line_free, none_open, started_tokens}
 use Rattle.proof_scanner.proofs.Sound.Rolled.{RollsTo, rolls_to, top_closed}
-use Rattle.proof_scanner.proofs.Sound.Sides.{ArrivesBy, ArrivesOutside, ArrivesInside, arrives_side, StandsAt}
+use Rattle.proof_scanner.proofs.Sound.Sides.{ArrivesBy, ArrivesOutside, ArrivesInside, arrives_side}
 use Rattle.proof_scanner.proofs.Sound.WhiteSpaces.{white_of, past_white, white_cut, no_tab_before, no_tab_in_last, past_white_space, white_exactly, white_first}
 
 -- ---- what is read after it
@@ -90,14 +78,15 @@ after_question here bs = record { line = free; blocks = opened here.col (not_end
 pub question_stands : (text more : List ℕ) (t : ScannerState) (a : ArrivesBy text t [] (None ∷ []) []) → t.held.flow ≡ [] → t.held.keys ≡ None ∷ [] → t.rest ≡ 63 ∷ more → t.held.key_allowed ≡ true →
     begins_with_space_or_break more ≡ true → has_tab_before_piece false more ≡ false → is_separation false (white_of false more) (past_white false more) ≡ true →
     (i : ℕ) (ds : List Indent) → columns i ds ≡ opened t.held.position.col (columns t.held.indent t.held.indents) → AreLevels i ds → has_open_level ds ≡ false →
-    StandsAt text (base_past Tok.key (63 ∷ []) t.held.position a.site more (after_question t.held.position a.site.blocks)) (white_of false more) (question_end t more ds i (with_mapping t))
+    Stands text (question_end t more ds i (with_mapping t))
 question_stands text more t a flow keys e allowed begins apart fills i ds columns_are levels awaits =
-    read_outside_at text t (question_end t more ds i (with_mapping t)) a (63 ∷ []) more Tok.key (after_question t.held.position a.site.blocks) (record {
+    read_outside text t (question_end t more ds i (with_mapping t)) a (63 ∷ []) more Tok.key (after_question t.held.position a.site.blocks) (record {
       is_solid = refl;
       is_piece = inl (refl, begins);
       stands = rw (a.is_indented (ap is_empty e), apart) refl;
       after_is = ap (λ l. line_past (is_in_column t.held.position.col bs) t.held.position bs gives_question false l) (line_free t.held.key_allowed t.rest a.line_here allowed a.line_is);
       begun = refl;
+      begins_none = refl;
       tokens_are = ap (λ cs. (if is_deeper t.held.position.col cs then placed None (token t.held.position Tok.block_mapping_start) t.held.tokens else t.held.tokens) ++ put t.held.position Tok.key ∷ []) (sym a.blocks_are) ∙
           started_tokens (is_deeper t.held.position.col bs) t.held.tokens a.tokens (ends_at t.held.position a.site.blocks bs) t.held.position Tok.block_mapping_start (put t.held.position Tok.key) a.tokens_are;
       ends = record {
@@ -167,7 +156,7 @@ question_outside text more t a flow keys e gap allowed deep =
     subst (λ r. Holds (Stands text) (from r (roll_indent t.held.position.col None Tok.block_mapping_start t.held.position t.held))) (sym e)
     (subst (λ h. Holds (Stands text) (from (63 ∷ more) h)) (sym r.is_held)
     (question_read text more t.held.position (now (record t.held { indents = r.indents; indent = r.indent; tokens = with_mapping t })) gap (λ begins apart fills.
-    (question_stands text more t a flow keys e allowed begins apart fills r.indent r.indents r.columns_are r.are_levels (top_closed r.indents (r.is_top deep)).1).stands)))
+    (question_stands text more t a flow keys e allowed begins apart fills r.indent r.indents r.columns_are r.are_levels (top_closed r.indents (r.is_top deep)).1))))
   where
     out : in_flow t.held ≡ false
     out = ap (λ fs. not (is_empty fs)) flow
@@ -237,10 +226,10 @@ one_line c h = ap (λ b. not (not b && true)) h
 
 pub question_inside : (text more : List ℕ) (t : ScannerState) (f : FlowLevel) (fs : List FlowLevel) (k : Option Key) (ks : List (Option Key)) (e : Entry) (es : List Entry) (a : ArrivesBy text t (f ∷ fs) (k ∷ ks) (e ∷ es)) →
     t.held.flow ≡ f ∷ fs → t.held.keys ≡ k ∷ ks → t.rest ≡ 63 ∷ more → IsDeep t.held → begins_with_space_or_break more ≡ true → has_tab_before_piece false more ≡ false → is_separation false (white_of false more) (past_white false more) ≡ true →
-    StandsAt text (base_inside Tok.key (63 ∷ []) t.held.position a.site more a.line (asked_entry e ∷ es)) (white_of false more) (question_within t more)
+    Stands text (question_within t more)
 unfolding is_break
 question_inside text more t f fs k ks e es a flow keys cut deep begins apart fills =
-    goes_inside_at text t (question_within t more) f (pair_level Keyed f) fs k ks e (asked_entry e) es a (63 ∷ []) more Tok.key (record {
+    goes_inside text t (question_within t more) f (pair_level Keyed f) fs k ks e (asked_entry e) es a (63 ∷ []) more Tok.key (record {
       is_solid = refl;
       cut = cut;
       separation = white_of false more;
@@ -302,7 +291,7 @@ key_keeps text more t a e gap deep =
     by (inr i) u (inside in_it d) =
         subst (λ h. Holds (Stands text) (key_from t (record t { held = record h { keys = with_top None h.keys } }))) (sym d)
         (subst (λ l. Holds (Stands text) (from l)) (sym e)
-        (question_read text more t.held.position now gap (λ begins apart fills. (question_inside text more t i.level i.levels i.key i.keys i.entry i.entries i.here i.flow_is i.keys_are e deep begins apart fills).stands)))
+        (question_read text more t.held.position now gap (λ begins apart fills. question_inside text more t i.level i.levels i.key i.keys i.entry i.entries i.here i.flow_is i.keys_are e deep begins apart fills)))
       where
         now : Held
         now = record t.held { flow = keyed t.held.flow; keys = with_top None t.held.keys; key_allowed = not (not (is_empty (keyed t.held.flow))); position = past t.held.position; leading = false }

@@ -1,18 +1,10 @@
 -- The elements of a quoted body by their characters, the lines that are left of one from a column on, and the scan at breaks.
-use Rattle.std.proofs.Common.{◌≡◌, ℕ, suc, ◌+◌, ◌-◌, List, [], ◌∷◌, ◌++◌, Bool, true, false, not, ◌&&◌, ◌||◌, ◌==◌, nat_lt, nat_le, slice_index, if◌then◌else◌, length, take, drop, Option, Some, None, Result, refl, ap, sym, ◌∙◌, subst, arith}
-use Rattle.std.proofs.lemmas.Bool.{and_parts, eqb-true, not-true}
-use Rattle.std.proofs.lemmas.Bool.Decides.{nat_tests}
-use Rattle.proof_scanner.proofs.Common.{and_false, begins_with, blank, blanks_before, break_further, content, double_quoted_element, Element, element_of, elements, escape, escape_by, escaped_break, escapes, Fault, Folded, gap, has_more, has_tab_within, hexadecimal, is_character_code, is_empty, is_one_of, line, line_break, Lines, lines_fit, lookup, numbered, numeric_escape, numeric_escapes, past_break, plain_element, Position, same_blank, same_break, scan, single_quoted_element, Spelled, with_break, with_escaped_break}
+use Rattle.proof_scanner.proofs.Common.{[], and_false, and_parts, ap, arith, begins_with, blank, blanks_before, Bool, break_further, content, Context, double_quoted_element, double_quoted_value, drop, Element, element_of, elements, eqb-true, escape, escape_by, escaped_break, escapes, false, Fault, Folded, folded_elements, gap, has_document_marker, has_more, has_tab_within, hexadecimal, if◌then◌else◌, inside, is_character_code, is_empty, length, line, line_break, Lines, lines_fit, List, lookup, Mode, nat_le, nat_lt, nat_tests, None, not, not-true, numbered, numeric_escape, numeric_escapes, Option, past, past_break, plain_element, Position, quote_feed, quote_of, Read, refl, Result, same_blank, same_break, scan, single_quoted_element, single_quoted_value, slice_index, Some, Spelled, subst, suc, sym, take, true, value_of, with_break, with_escaped_break, without_last, ℕ, ◌&&◌, ◌++◌, ◌+◌, ◌-◌, ◌==◌, ◌||◌, ◌∙◌, ◌∷◌, ◌≡◌}
 use Rattle.defs_text.specs.Classes as classes
-use Rattle.defs_text.specs.FlowScalar.{last_line, has_document_marker, folded_elements, single_quoted_value, double_quoted_value}
-use Rattle.defs_token.specs.Lines.{without_last}
+use Rattle.defs_text.specs.FlowScalar.{last_line}
 use Rattle.yaml_chars.specs.Class.{is_break, is_blank}
-use Rattle.model_scanner.specs.declared.context.Context.{Context}
-use Rattle.model_scanner.specs.Machine.{Read, past}
-use Rattle.model_scanner.specs.Quoted.{Mode, inside, after, quote_of}
-use Rattle.proof_lexers.specs.QuotedScan.{value_of}
+use Rattle.model_scanner.specs.Quoted.{after}
 use Rattle.proof_lexers.proofs.Quoted.Turns.{spelled}
-use Rattle.proof_lexers.proofs.Quoted.Bodies.{quote_feed}
 use Rattle.proof_scanner.proofs.Sound.TabsWithin.{take_none, none_before, blank_more}
 
 -- ---- elements by their characters

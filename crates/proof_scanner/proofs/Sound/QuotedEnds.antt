@@ -1,14 +1,6 @@
 -- What the scanner checks after a quoted scalar: the line holds no more, or goes on as it may.
-use Rattle.std.proofs.Common.{◌≡◌, ℕ, suc, ◌<◌, ◌≤◌, List, [], ◌∷◌, ◌++◌, Bool, true, false, not, ◌&&◌, ◌||◌, ◌==◌, if◌then◌else◌, Result, Ok, Err, refl, ap, sym, ◌∙◌, subst, append_assoc, arith}
-use Rattle.std.proofs.lemmas.Bool.{and_parts, eqb-true}
-use Rattle.proof_scanner.proofs.Common.{begins_with, both_hold, chained, check_after_quoted, Fault, has_no_break, has_no_nul, in_flow, is_at_line_end, is_blanks, is_blanks_and_comment, is_breakz, is_nul, is_on_line, is_rest_of_line, is_separation, leading, lexed, line_is_done, may_follow_quoted, No, peek, Position, position_after, position_past, quoted_may_end, ScannerState, skip_spaces, SkipTabs, Yes}
-use Rattle.defs_text.specs.Classes.{is_blank, is_break}
-use Rattle.defs_text.specs.Tags.{after}
-use Rattle.defs_token.specs.Step.{has_break}
-use Rattle.defs_token.specs.Following.{goes_on_quoted}
+use Rattle.proof_scanner.proofs.Common.{[], after, and_parts, ap, append_assoc, arith, begins_with, Bool, both_hold, chained, check_after_quoted, either, eqb-true, Err, false, Fault, goes_on_quoted, has_break, has_no_break, has_no_nul, Holds, if◌then◌else◌, in_flow, is_at_line_end, is_blank, is_blanks, is_blanks_and_comment, is_break, is_breakz, is_nul, is_on_line, is_rest_of_line, is_separation, leading, lexed, line_is_done, List, may_follow_quoted, No, not, Ok, peek, Position, position_after, position_past, quoted_may_end, refl, refused, Result, ScannerState, skip_spaces, SkipTabs, space, subst, suc, sym, true, went, Yes, ℕ, ◌&&◌, ◌++◌, ◌<◌, ◌==◌, ◌||◌, ◌∙◌, ◌∷◌, ◌≡◌, ◌≤◌}
 use Rattle.yaml_chars.specs.Class as model_classes
-use Rattle.model_scanner.specs.Blanks.{space}
-use Rattle.model_scanner.proofs.Holds.{Holds, went, refused, either}
 use Rattle.proof_lexers.specs.PlainEnds as plains
 use Rattle.proof_scanner.proofs.Cut.Passes.{Spaced, spaces_skipped}
 use Rattle.proof_scanner.proofs.Cut.Positions.{not_before_after}

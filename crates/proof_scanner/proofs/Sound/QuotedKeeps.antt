@@ -1,22 +1,9 @@
 -- Quoted scalars: what holds between two fetches holds after them.
-use Rattle.std.proofs.Common.{◌≡◌, ℕ, suc, ◌-◌, ◌≤◌, List, [], ◌∷◌, ◌++◌, Bool, true, false, not, ◌&&◌, ◌||◌, nat_le, Option, Some, None, Result, Ok, refl, ap, sym, ◌∙◌, subst, append_assoc, arith, inl, inr}
-use Rattle.std.proofs.lemmas.Bool.{and_parts}
-use Rattle.std.proofs.lemmas.List.{append_cancel_right}
-use Rattle.proof_scanner.proofs.Common.{act_of, adjacent_here, after_separation, allow_key, Arrives, awaits_past, before_past, begins_free_line, begins_line, begins_with, begun_by, both_hold, chained, check_after_quoted, context, element_of, Fault, fetch_flow_scalar, FlowLevel, further_lines_stand, gives_node, go_on, has_no_nul, has_open_level, has_tab_within, HasNoTabs, Held, in_flow, Indent, is_adjacent, is_at_comment_or_end, is_empty, is_indented_by_spaces, is_nul, is_separation, IsAdjacent, IsPiece, IsReadOn, Key, least_column, least_for, lexed, may_precede, on_held, Position, position_after, position_append, previous_by, push, quoted_lines_fit, quoted_may_end, quoted_scalar, quoted_style, QuotedEndsAs, ReadAs, ScannerState, seen, shown_position, Site, skip_to_next_token, Tok, unled, weakened, ◌>>=◌}
-use Rattle.defs_text.specs.Classes.{is_break}
+use Rattle.proof_scanner.proofs.Common.{[], act_of, adjacent_here, after_separation, allow_key, and_parts, ap, append_assoc, append_cancel_right, AreLevels, arith, Arrives, awaits_past, before_by, before_past, begins_free_line, begins_line, begins_with, begun_by, between, Bool, both_hold, chained, check_after_quoted, columns, Context, context, element_of, ends_before, Entry, false, Fault, fetch_flow_scalar, FlowLevel, further_lines_stand, gives_node, go_on, has_break, has_no_nul, has_open_level, has_tab_within, HasNoTabs, Held, Holds, in_flow, Indent, inl, inr, is_at_comment_or_end, is_break, is_empty, is_indented_by_spaces, is_nul, is_separation, IsAdjacent, IsPiece, IsReadOn, Key, last_line, least_column, least_for, lexed, List, may_precede, nat_le, None, not, Ok, on_held, Option, Position, position_after, position_append, previous_by, push, quote_of, quoted, quoted_lines_fit, quoted_may_end, quoted_scalar, quoted_style, QuotedEndsAs, read, ReadAs, refl, Result, ScannerState, seen, shown_position, Site, skip_to_next_token, Some, Stands, subst, suc, sym, Tok, true, unled, value_of, weakened, went, ℕ, ◌&&◌, ◌++◌, ◌-◌, ◌>>=◌, ◌||◌, ◌∙◌, ◌∷◌, ◌≡◌, ◌≤◌}
 use Rattle.defs_token.specs.Account.{Account as PieceAccount}
 use Rattle.defs_token.specs.Account as pieces
-use Rattle.defs_token.specs.Step.{has_break}
-use Rattle.defs_token.specs.Indentation.{last_line}
-use Rattle.defs_token.specs.FlowEntry.{Entry}
-use Rattle.defs_token.specs.RowAccount.{before_by}
-use Rattle.model_scanner.specs.declared.context.Context.{Context}
 use Rattle.model_scanner.specs.Machine as machine
-use Rattle.model_scanner.specs.Quoted.{quoted, quote_of}
-use Rattle.model_scanner.specs.Space.{between}
-use Rattle.model_scanner.proofs.Holds.{Holds, went, read}
 use Rattle.proof_lexers.specs.PlainEnds as plains
-use Rattle.proof_lexers.specs.QuotedScan.{value_of, ends_before}
 use Rattle.proof_lexers.specs.QuotedEnds.{reads, refuses}
 use Rattle.proof_lexers.proofs.Quoted.ScanEnds.{scans_end}
 use Rattle.proof_scanner.proofs.Cut.Pieces.Quoted.{some_chars, quoted_is_read}
@@ -25,7 +12,6 @@ use Rattle.proof_scanner.proofs.Cut.Positions.{not_before_after}
 use Rattle.proof_scanner.proofs.Cut.Saved.{saved_keys, saved_is}
 use Rattle.proof_scanner.proofs.Cut.Scalars.{adjacent_quoted}
 use Rattle.proof_scanner.proofs.Cut.Nodes.{IsDeep}
-use Rattle.proof_scanner.specs.StandsInRow.{columns, AreLevels, Stands}
 use Rattle.proof_lexers.proofs.Bridges.{or_false}
 use Rattle.proof_scanner.proofs.Sound.Standing.{and_yes, deep_for}
 use Rattle.proof_scanner.proofs.Sound.Sides.{with_entries, ArrivesBy}

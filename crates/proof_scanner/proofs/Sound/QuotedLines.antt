@@ -1,20 +1,12 @@
 -- The scan of a quoted scalar refuses further lines that are not indented, or by TABs.
-use Rattle.std.proofs.Common.{◌≡◌, ℕ, zero, suc, ◌+◌, ◌-◌, List, [], ◌∷◌, ◌++◌, Bool, true, false, not, ◌&&◌, ◌||◌, ◌==◌, nat_lt, nat_le, drop, Option, Some, None, Ok, Err, Result, refl, ap, sym, ◌∙◌, subst, arith}
-use Rattle.std.proofs.lemmas.Bool.{and_parts}
-use Rattle.std.proofs.lemmas.Bool.Decides.{nat_tests}
-use Rattle.proof_scanner.proofs.Common.{after_element, after_escaped, and_false, Begun, begun_with, blank, blanks_before, break_further, content, Element, element_of, elements, Fault, Folded, further_lines_fit, gap, has_more, in_gap, line, Lines, lines_fit, lines_of, off_margin, Position, put_before, quoted_lines_fit, scan, Spelled, with_break, with_escaped_break}
-use Rattle.defs_text.specs.FlowScalar.{followed, last_line}
+use Rattle.proof_scanner.proofs.Common.{[], after_element, after_escaped, and_false, and_parts, ap, arith, At, Begun, begun, begun_with, blank, blanks_before, Bool, break_further, by_line, content, Context, drop, Element, element_of, elements, Err, false, Fault, Folded, followed, from_gap, further_lines_fit, gap, has_more, in_gap, is_marked, joined, line, Lines, lines_fit, lines_of, List, marked, Mode, nat_le, nat_lt, nat_tests, None, not, not_opened, nothing, off_margin, Ok, Opened, Option, past, Position, put_before, quote_feed, quote_of, quoted, quoted_lines_fit, Read, Ready, refl, Result, scan, shallow, Some, Spelled, step, StepOf, steps, subst, suc, sym, true, value_of, with_break, with_escaped_break, zero, ℕ, ◌&&◌, ◌++◌, ◌+◌, ◌-◌, ◌==◌, ◌||◌, ◌∙◌, ◌∷◌, ◌≡◌}
+use Rattle.defs_text.specs.FlowScalar.{last_line}
 use Rattle.yaml_chars.specs.Class.{is_break, is_blank}
-use Rattle.yaml_tokens.specs.declared.problem.Fault.TheVariants.{At}
 use Rattle.yaml_tokens.specs.declared.problem.Problem.TheVariants as problem
-use Rattle.model_scanner.specs.declared.context.Context.{Context}
-use Rattle.model_scanner.specs.Machine.{Read, past}
-use Rattle.model_scanner.specs.Folding.{nothing, joined}
-use Rattle.model_scanner.specs.Quoted.{Mode, after, quote_of, quoted}
-use Rattle.proof_lexers.specs.QuotedScan.{value_of, by_line, by_tab}
-use Rattle.proof_lexers.proofs.Quoted.Turns.{Ready, begun, marked, shallow, begins, Step, steps, is_marked, is_shallow, StepOf}
-use Rattle.proof_lexers.proofs.Quoted.Elements.{step}
-use Rattle.proof_lexers.proofs.Quoted.Bodies.{from_gap, quote_feed, Opened, opened, not_opened, opens}
+use Rattle.model_scanner.specs.Quoted.{after}
+use Rattle.proof_lexers.specs.QuotedScan.{by_tab}
+use Rattle.proof_lexers.proofs.Quoted.Turns.{begins, Step, is_shallow}
+use Rattle.proof_lexers.proofs.Quoted.Bodies.{opened, opens}
 use Rattle.proof_scanner.proofs.Sound.QuotedBreaks.{is_after, Kind, has_content, has_blank, has_line, has_escaped, KindOf, is_white, quote_white, slash_white, kind, fits_from, lines_from, lines_here, deep_here, empty_here, one_more_blank, Breaks, break_goes, escaped_goes, body_between, has_elements, same_limit}
 
 module _ (single : Bool) (ctx : Context) (start : Position) (column : ℕ) (limit : (k : ℕ) → nat_lt (k + 1) ctx.indent ≡ nat_lt k column) (r : List ℕ) (x : Read (List ℕ)) where

@@ -1,26 +1,20 @@
 -- A part of a node that is no collection was read where a piece begins: what holds between two fetches holds after it.
-use Rattle.std.proofs.Common.{◌≡◌, ℕ, ◌≤◌, List, [], ◌∷◌, ◌++◌, Bool, true, false, not, ◌||◌, length, Option, Some, None, refl, ap, sym, ◌∙◌, subst, ◌⊎◌, inl, inr}
-use Rattle.proof_scanner.proofs.Common.{act_of, Arrives, awaits_past, before_past, begins_free_line, BeginsButForKey, begun_by, Completes, ends_at, FlowLevel, fresh, further_lines_stand, gives_node, Had, has_no_nul, has_open_level, HasHadHere, HasNoTabs, Indent, is_deep_enough, is_empty, is_fresh, is_in_column, is_indented_by_spaces, is_renewed, is_separation, IsAdjacent, IsCarriedOn, IsLeading, IsPiece, IsReadOn, Key, least_for, line_by, may_precede, may_stand, MayChoose, must_be_key, NotBefore, outside_key, Position, position_after, Previous, previous_by, ScannerState, seen, shown_position, Site, site_here, site_past, taken, Tok, Token, tokens_up_to, top_key}
-use Rattle.defs_token.specs.Step.{has_break}
-use Rattle.defs_token.specs.Key.{Line}
-use Rattle.defs_token.specs.FlowEntry.{settled, Entry}
-use Rattle.defs_token.specs.RowAccount.{Account, before_by}
-use Rattle.defs_token.specs.Tokens.{put}
-use Rattle.proof_scanner.proofs.Cut.Positions.{not_before_after, not_before_then}
+use Rattle.proof_scanner.proofs.Common.{[], Account, act_of, ap, AreLevels, Arrives, awaits_past, before_by, before_past, begins_free_line, BeginsButForKey, begun_by, Bool, chosen, columns, ends_at, Entry, false, FlowLevel, fresh, further_lines_stand, gives_node, Had, has_break, has_no_nul, has_open_level, HasHadHere, HasNoTabs, Indent, inl, inr, is_deep_enough, is_empty, is_fresh, is_in_column, is_indented_by_spaces, is_renewed, is_separation, IsAdjacent, IsCarriedOn, IsLeading, IsPiece, IsReadOn, Key, KnowsKey, least_for, length, Line, line_by, List, may_precede, may_stand, MayChoose, must_be_key, None, not, NotBefore, Option, outside_key, Position, position_after, Previous, previous_by, put, refl, ScannerState, seen, settled, shown_position, Site, site_here, site_past, SoFar, Some, Stands, subst, sym, taken, Tok, Token, tokens_up_to, top_key, true, ℕ, ◌++◌, ◌||◌, ◌∙◌, ◌∷◌, ◌≡◌, ◌≤◌, ◌⊎◌}
+use Rattle.proof_scanner.proofs.Cut.Positions.{not_before_after, not_before_then, after_piece}
 use Rattle.proof_scanner.proofs.Cut.Saved.{saved_keys}
 use Rattle.proof_scanner.proofs.Cut.Nodes.{IsDeep}
-use Rattle.proof_scanner.specs.Choices.{chosen}
-use Rattle.proof_scanner.specs.StandsInRow.{columns, AreLevels, Stands}
+use Rattle.proof_scanner.proofs.Known.Read.{knows_inside, knows_saved}
+use Rattle.proof_scanner.proofs.Known.Steps.{is_of_node}
 use Rattle.proof_scanner.proofs.Sound.Inserts.{among}
 use Rattle.proof_scanner.proofs.Sound.NodeSteps.{saved, choice_before, had_past_node, entry_past_node}
-use Rattle.proof_scanner.proofs.Sound.Parts.{Part, part_site, IsPart}
+use Rattle.proof_scanner.proofs.Sound.Parts.{Part, part_site, IsPart, part_written}
 use Rattle.proof_scanner.proofs.Sound.NodesOutside as outside
 use Rattle.proof_scanner.proofs.Sound.NodesInside as inside
 use Rattle.proof_scanner.proofs.Sound.Around.{line_taken, tokens_before, unbroken_around, one_around, may_around, open_around}
 use Rattle.proof_scanner.proofs.Sound.KeyStarts.{new_key, keys_saved, numbered_inside, entry_kept}
 use Rattle.proof_scanner.proofs.Sound.Outsides.{must_be_here, numbered_past, unbroken_node, one_node, taken_node, may_node, line_node, same_node, open_node}
 use Rattle.proof_scanner.proofs.Sound.Standing.{all_true}
-use Rattle.proof_scanner.proofs.Sound.Sides.{with_entries, ArrivesBy, ArrivesOutside, ArrivesInside, arrives_side, StandsBy, StandsAt, stands_at}
+use Rattle.proof_scanner.proofs.Sound.Sides.{with_entries, ArrivesBy, ArrivesOutside, ArrivesInside, arrives_side, StandsBy, stands_by}
 use Rattle.proof_scanner.proofs.Sound.Arrivals.{clean_after, some_rest, completes_at, carried_at}
 
 -- What was read of a node: its token and piece, the separation after it, the text and the position after both, and what the scanner holds then: levels of indentation, its two flags, and where a colon may stand next.
@@ -177,25 +171,25 @@ module _ (text : List ℕ) (t : ScannerState) (k : Option Key) (a : ArrivesBy te
     one_line = one_node text t k a out deep some d.end d.rest later d.piece (λ x y. (r.one_line x y).0);
     no_key = a.no_key;
     same_blocks = subst (λ x. outside.AreSame k d.end d.rest a.site.blocks (site_here false x a.site).blocks) same_place (same_node text t k a out deep some d.end d.rest later);
-    may_before = λ c may. subst (λ x. MayChoose (choice_before t.held.key_allowed c) k x (d.piece ++ next_of d)) same_place
-        (subst (λ x. MayChoose (choice_before t.held.key_allowed c) k t.held.position x) r.cut (may_node text t k a out deep some d.end d.rest later c may));
+    may_before = λ strict c may. subst (λ x. MayChoose strict (choice_before t.held.key_allowed c) k x (d.piece ++ next_of d)) same_place
+        (subst (λ x. MayChoose strict (choice_before t.held.key_allowed c) k t.held.position x) r.cut (may_node text t k a out deep some d.end d.rest later strict c may));
   }
 
   own_is : outside.own_token outer_node ≡ own
   own_is = ap (λ p. put p d.tok) (r.shown (outside.at outer_node) ∙ sym same_place)
 
-  rows_past : (c : Bool) → MayChoose c (key_then) d.end d.rest →
-      Completes text (next_of d) (outside.Outer (site_then t [] a.site d) (line_by c (key_then) taken)) (tokens_up_to (outside.Outer (site_then t [] a.site d) (line_by c (key_then) taken)) (key_then ∷ []) (t.held.tokens ++ (own ∷ [])))
-  rows_past c may =
+  rows_past : (strict c : Bool) → MayChoose strict c (key_then) d.end d.rest →
+      SoFar strict text (next_of d) (outside.Outer (site_then t [] a.site d) (line_by c (key_then) taken)) (tokens_up_to (outside.Outer (site_then t [] a.site d) (line_by c (key_then) taken)) (key_then ∷ []) (t.held.tokens ++ (own ∷ [])))
+  rows_past strict c may =
       let past : Position → Account = λ p. outside.Outer (site_past false (site_here false p a.site) d.piece d.tok (next_of d) (site_here false p a.site).blocks) (line_by c key_then taken) in
-      let rows : Completes text (next_of d) (outside.past outer_node c) (tokens_up_to (outside.past outer_node c) (key_then ∷ []) (outside.tokens_here outer_node ++ (outside.own_token outer_node ∷ []))) =
-      outside.node_completes text outer_node is_outer_node (λ e m. completes_at text t [] (k ∷ []) [] a (d.piece ++ next_of d) (outside.at outer_node).position r.cut same_place e [] m) c may in
+      let rows : SoFar strict text (next_of d) (outside.past outer_node c) (tokens_up_to (outside.past outer_node c) (key_then ∷ []) (outside.tokens_here outer_node ++ (outside.own_token outer_node ∷ []))) =
+      outside.node_completes text outer_node is_outer_node (λ st e m. completes_at text t [] (k ∷ []) [] a (d.piece ++ next_of d) (outside.at outer_node).position r.cut same_place st e [] m) strict c may in
       let tokens : outside.tokens_here outer_node ++ (outside.own_token outer_node ∷ []) ≡ t.held.tokens ++ (own ∷ []) = ap (λ ts. ts ++ (outside.own_token outer_node ∷ [])) (sym tokens_same) ∙ ap (λ x. t.held.tokens ++ (x ∷ [])) own_is in
-      subst (λ p. Completes text (next_of d) (past p) (tokens_up_to (past p) (key_then ∷ []) (t.held.tokens ++ (own ∷ [])))) (sym same_place)
-      (subst (λ ts. Completes text (next_of d) (outside.past outer_node c) (tokens_up_to (outside.past outer_node c) (key_then ∷ []) ts)) tokens rows)
+      subst (λ p. SoFar strict text (next_of d) (past p) (tokens_up_to (past p) (key_then ∷ []) (t.held.tokens ++ (own ∷ [])))) (sym same_place)
+      (subst (λ ts. SoFar strict text (next_of d) (outside.past outer_node c) (tokens_up_to (outside.past outer_node c) (key_then ∷ []) ts)) tokens rows)
 
-  stands_outside : StandsBy text (state_after t d) [] (key_then ∷ []) []
-  stands_outside = record {
+  stands_outside : KnowsKey text (a.separation ++ t.rest) t.held.position k → StandsBy text (state_after t d) [] (key_then ∷ []) []
+  stands_outside known = record {
     site = site_then t [] a.site d;
     line = taken;
     separation = d.gap;
@@ -211,7 +205,7 @@ module _ (text : List ℕ) (t : ScannerState) (k : Option Key) (a : ArrivesBy te
     one_each = refl;
     are_entries = tt;
     line_is = (inr refl, r.allowed_is, taken_node text t k a out deep some d.end d.rest later d.allowed (λ x y. r.allowed_is ∙ (r.one_line x y).1));
-    is_open = open_node text t k a out deep some d.end d.rest later (site_then t [] a.site d).position (not_before_after t.held.position d.piece (next_of d));
+    is_open = open_node text t k a out deep some d.end d.rest later (site_then t [] a.site d).position (after_piece t.held.position d.piece (next_of d) r.is_solid);
     no_key = refl;
     are_numbered = numbered_past text t k a out deep own t.held.key_allowed;
     was_adjacent = r.was_adjacent;
@@ -219,7 +213,8 @@ module _ (text : List ℕ) (t : ScannerState) (k : Option Key) (a : ArrivesBy te
     started = a.started;
     going = a.going;
     carries = λ cs x key m inside some. absurd (cc inside);
-    completes = λ c cs may. rows_past c may;
+    knows = knows_saved text t d.piece (next_of d) d.tok r.cut d.end d.gap d.rest r.end_is refl k a (part_written [] outer_node.part is_outer_node.is_part) out deep (ap is_of_node r.act) known;
+    completes = λ strict c cs may. rows_past strict c may;
   }
 
 -- ---- in flow
@@ -252,7 +247,7 @@ module _ (text : List ℕ) (t : ScannerState) (f : FlowLevel) (fs : List FlowLev
     are_among = among (length a.tokens) (k ∷ ks) a.are_numbered;
     unbroken = unbroken_around text t f fs k ks e es a goes d.end d.rest further;
     one_line = one_around text t f fs k ks e es a goes d.end d.rest further d.piece (λ x y. (r.one_line x y).0);
-    may_before = λ c may. subst (λ x. MayChoose c (outside_key es ks) x (d.piece ++ next_of d)) place (subst (λ x. MayChoose c (outside_key es ks) t.held.position x) r.cut (may_around text t f fs k ks e es a goes d.end d.rest further c may));
+    may_before = λ strict c may. subst (λ x. MayChoose strict c (outside_key es ks) x (d.piece ++ next_of d)) place (subst (λ x. MayChoose strict c (outside_key es ks) t.held.position x) r.cut (may_around text t f fs k ks e es a goes d.end d.rest further strict c may));
   }
 
   entry_past : (b : Bool) (y : Option Key) (h : Had) → HasHadHere b (is_renewed a.site.before a.separation) y h → HasHadHere d.allowed (is_renewed (previous_by d.tok) d.gap) (saved b (new_key t) y) (had_past_node b h)
@@ -267,18 +262,18 @@ module _ (text : List ℕ) (t : ScannerState) (f : FlowLevel) (fs : List FlowLev
       by (inl i) = absurd (cc (p.1, ap (λ x. is_fresh x || is_renewed a.site.before a.separation) i))
       by (inr i) = settles i
 
-  rows_inside : (c : Bool) (cs : List Bool) → MayChoose c (outside_key es ks) d.end d.rest →
-      Completes text (next_of d) (chosen c cs (saved t.held.key_allowed (new_key t) k ∷ ks) (with_entries (site_then t (f ∷ fs) a.site d) a.line (entry_past_node t.held.key_allowed e ∷ es)))
+  rows_inside : (strict c : Bool) (cs : List Bool) → MayChoose strict c (outside_key es ks) d.end d.rest →
+      SoFar strict text (next_of d) (chosen c cs (saved t.held.key_allowed (new_key t) k ∷ ks) (with_entries (site_then t (f ∷ fs) a.site d) a.line (entry_past_node t.held.key_allowed e ∷ es)))
       (tokens_up_to (chosen c cs (saved t.held.key_allowed (new_key t) k ∷ ks) (with_entries (site_then t (f ∷ fs) a.site d) a.line (entry_past_node t.held.key_allowed e ∷ es))) (saved t.held.key_allowed (new_key t) k ∷ ks) (t.held.tokens ++ (shown_token ∷ [])))
-  rows_inside c cs may =
+  rows_inside strict c cs may =
       let ys : List (Option Key) = saved t.held.key_allowed (new_key t) k ∷ ks in
       let past : Position → Account = λ p. chosen c cs ys (with_entries (site_past true (site_here true p a.site) d.piece d.tok (next_of d) (site_here true p a.site).blocks) a.line (entry_past_node t.held.key_allowed e ∷ es)) in
-      let rows : Completes text (next_of d) (inside.past inner_node c cs) (tokens_up_to (inside.past inner_node c cs) ys (a.tokens ++ (inside.own_token inner_node ∷ []))) =
-      inside.node_completes text inner_node is_inner_node (λ b bs q. completes_at text t (f ∷ fs) (k ∷ ks) (e ∷ es) a (d.piece ++ next_of d) (inside.at inner_node).position r.cut place b bs q) c cs may in
+      let rows : SoFar strict text (next_of d) (inside.past inner_node c cs) (tokens_up_to (inside.past inner_node c cs) ys (a.tokens ++ (inside.own_token inner_node ∷ []))) =
+      inside.node_completes text inner_node is_inner_node (λ st b bs q. completes_at text t (f ∷ fs) (k ∷ ks) (e ∷ es) a (d.piece ++ next_of d) (inside.at inner_node).position r.cut place st b bs q) strict c cs may in
       let tokens : a.tokens ++ (inside.own_token inner_node ∷ []) ≡ t.held.tokens ++ (shown_token ∷ []) =
       ap (λ ts. ts ++ (inside.own_token inner_node ∷ [])) (sym tokens_alike) ∙ ap (λ p. t.held.tokens ++ (put p d.tok ∷ [])) (r.shown (inside.at inner_node) ∙ sym place) in
-      subst (λ p. Completes text (next_of d) (past p) (tokens_up_to (past p) ys (t.held.tokens ++ (shown_token ∷ [])))) (sym place)
-      (subst (λ ts. Completes text (next_of d) (inside.past inner_node c cs) (tokens_up_to (inside.past inner_node c cs) ys ts)) tokens rows)
+      subst (λ p. SoFar strict text (next_of d) (past p) (tokens_up_to (past p) ys (t.held.tokens ++ (shown_token ∷ [])))) (sym place)
+      (subst (λ ts. SoFar strict text (next_of d) (inside.past inner_node c cs) (tokens_up_to (inside.past inner_node c cs) ys ts)) tokens rows)
 
   carried_inside : IsCarriedOn text (d.gap ++ d.rest) d.rest (saved t.held.key_allowed (new_key t) k ∷ ks) (with_entries (site_then t (f ∷ fs) a.site d) a.line (entry_past_node t.held.key_allowed e ∷ es))
   carried_inside cs key own must inside_flow more =
@@ -312,29 +307,20 @@ module _ (text : List ℕ) (t : ScannerState) (f : FlowLevel) (fs : List FlowLev
     started = a.started;
     going = a.going;
     carries = carried_inside;
+    knows = knows_inside text t d.piece (next_of d) d.tok r.cut d.end d.gap d.rest r.end_is refl f fs k ks e es a (part_written (e ∷ es) inner_node.part is_inner_node.is_part);
     completes = rows_inside;
   }
 
 -- ---- both
 
--- outside flow, where a piece begins: the account after a node that is no key
-abbrev pub base_outside : (text : List ℕ) (t : ScannerState) → ArrivesOutside text t → Read → Account
-base_outside text t o d = outside.Outer (site_then t [] o.here.site d) taken
-
--- in flow
-abbrev pub base_inside : (text : List ℕ) (t : ScannerState) → ArrivesInside text t → Read → Account
-base_inside text t i d = with_entries (site_then t (i.level ∷ i.levels) i.here.site d) i.here.line (entry_past_node t.held.key_allowed i.entry ∷ i.entries)
-
 -- what stands then, with its account and its separation
-pub node_outside : (text : List ℕ) (t : ScannerState) (d : Read) → IsDeep t.held → (o : ArrivesOutside text t) → IsRead t [] o.here.site o.here.line [] o.here.separation d → StandsAt text (base_outside text t o d) d.gap (state_after t d)
-unfolding stands_outside
+pub node_outside : (text : List ℕ) (t : ScannerState) (d : Read) → IsDeep t.held → (o : ArrivesOutside text t) → IsRead t [] o.here.site o.here.line [] o.here.separation d → Stands text (state_after t d)
 node_outside text t d deep o r =
-    stands_at text (state_after t d) [] (saved t.held.key_allowed (new_key t) o.key ∷ []) [] o.flow_is (keys_saved t o.key [] o.keys_are) (stands_outside text t o.key o.here d o.flow_is deep r)
+    stands_by text (state_after t d) [] (saved t.held.key_allowed (new_key t) o.key ∷ []) [] o.flow_is (keys_saved t o.key [] o.keys_are) (stands_outside text t o.key o.here d o.flow_is deep r o.knows)
 
-pub node_inside : (text : List ℕ) (t : ScannerState) (d : Read) (i : ArrivesInside text t) → IsRead t (i.level ∷ i.levels) i.here.site i.here.line (i.entry ∷ i.entries) i.here.separation d → StandsAt text (base_inside text t i d) d.gap (state_after t d)
-unfolding stands_inside
+pub node_inside : (text : List ℕ) (t : ScannerState) (d : Read) (i : ArrivesInside text t) → IsRead t (i.level ∷ i.levels) i.here.site i.here.line (i.entry ∷ i.entries) i.here.separation d → Stands text (state_after t d)
 node_inside text t d i r =
-    stands_at text (state_after t d) (i.level ∷ i.levels) (saved t.held.key_allowed (new_key t) i.key ∷ i.keys) (entry_past_node t.held.key_allowed i.entry ∷ i.entries) i.flow_is (keys_saved t i.key i.keys i.keys_are)
+    stands_by text (state_after t d) (i.level ∷ i.levels) (saved t.held.key_allowed (new_key t) i.key ∷ i.keys) (entry_past_node t.held.key_allowed i.entry ∷ i.entries) i.flow_is (keys_saved t i.key i.keys i.keys_are)
     (stands_inside text t i.level i.levels i.key i.keys i.entry i.entries i.here d i.flow_is r)
 
 -- Where a piece begins, a part of a node that is no collection was read: what holds between two fetches holds after it.
@@ -343,5 +329,5 @@ pub node_read : (text : List ℕ) (t : ScannerState) (d : Read) → IsDeep t.hel
 node_read text t d deep arrives known = by (arrives_side text t arrives)
   where
     by : ArrivesOutside text t ⊎ ArrivesInside text t → Stands text (state_after t d)
-    by (inl o) = (node_outside text t d deep o (known [] (o.key ∷ []) [] o.flow_is o.here)).stands
-    by (inr i) = (node_inside text t d i (known (i.level ∷ i.levels) (i.key ∷ i.keys) (i.entry ∷ i.entries) i.flow_is i.here)).stands
+    by (inl o) = node_outside text t d deep o (known [] (o.key ∷ []) [] o.flow_is o.here)
+    by (inr i) = node_inside text t d i (known (i.level ∷ i.levels) (i.key ∷ i.keys) (i.entry ∷ i.entries) i.flow_is i.here)

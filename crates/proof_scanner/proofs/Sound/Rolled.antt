@@ -1,10 +1,5 @@
 -- Where a block collection begins, and where the value of an entry is awaited: the levels of indentation, and the columns of the block collections.
-use Rattle.std.proofs.Common.{◌≡◌, ℕ, ◌+◌, ◌-◌, ◌≤◌, ◌<◌, List, [], ◌∷◌, Bool, true, false, not, nat_lt, nat_le, if◌then◌else◌, Option, refl, ap, sym, ◌∙◌, subst, arith}
-use Rattle.std.proofs.lemmas.Bool.Decides.{nat_tests}
-use Rattle.proof_scanner.proofs.Common.{AreCollections, deepen, drop_open, drop_open_level, has_open_level, Held, in_block, in_flow, Indent, innermost, is_deeper, is_empty, IsNotRight, IsTopLevel, level, Position, roll_indent, roll_one_col_indent, Tok, Token, token, top_needs_block_end}
-use Rattle.defs_token.specs.Column.{opened}
-use Rattle.model_scanner.specs.Indents.{placed}
-use Rattle.proof_scanner.specs.StandsInRow.{columns, AreLevels}
+use Rattle.proof_scanner.proofs.Common.{[], ap, AreCollections, AreLevels, arith, Bool, columns, deepen, drop_open, drop_open_level, false, has_open_level, Held, if◌then◌else◌, in_block, in_flow, Indent, innermost, is_deeper, is_empty, IsNotRight, IsTopLevel, level, List, nat_le, nat_lt, nat_tests, not, opened, Option, placed, Position, refl, roll_indent, roll_one_col_indent, subst, sym, Tok, Token, token, top_needs_block_end, true, ℕ, ◌+◌, ◌-◌, ◌<◌, ◌∙◌, ◌∷◌, ◌≡◌, ◌≤◌}
 
 -- collections alone are levels
 pub levels_of_collections : (i : ℕ) (ds : List Indent) → AreCollections i ds → AreLevels i ds

@@ -1,11 +1,5 @@
 -- Where a piece begins, and between two fetches: what holds with the flow levels, the open keys and the entries taken apart, outside flow and in flow.
-use Rattle.std.proofs.Common.{◌≡◌, ℕ, suc, ◌≤◌, List, [], ◌∷◌, ◌++◌, Bool, true, false, not, ◌==◌, length, Option, Some, refl, sym, ◌∙◌, subst, arith, ◌⊎◌, inl, inr}
-use Rattle.proof_scanner.proofs.Common.{AreEntries, AreNumbered, Arrives, before_past, begins_free_line, begins_separation, Completes, ends_here, FlowLevel, has_no_nul, has_open_level, HasNoTabs, is_adjacent, is_empty, is_indented_by_spaces, is_renewed, is_separation, is_waiting, IsAdjacent, IsCarriedOn, IsLeading, IsLine, IsLineHere, IsNear, IsOpenOutside, IsReadOn, Key, line_past_separation, MayChoose, outside_key, position_after, ScannerState, Site, site_here, Token, tokens_up_to}
-use Rattle.defs_token.specs.Key.{Line}
-use Rattle.defs_token.specs.FlowEntry.{Entry}
-use Rattle.defs_token.specs.RowAccount.{Account, before_by}
-use Rattle.proof_scanner.specs.Choices.{chosen}
-use Rattle.proof_scanner.specs.StandsInRow.{columns, AreLevels, Stands}
+use Rattle.proof_scanner.proofs.Common.{[], Account, AreEntries, AreLevels, AreNumbered, arith, Arrives, before_by, before_past, begins_free_line, begins_separation, Bool, chosen, columns, ends_here, Entry, false, FlowLevel, has_no_nul, has_open_level, HasNoTabs, inl, inr, is_adjacent, is_empty, is_indented_by_spaces, is_renewed, is_separation, is_waiting, IsAdjacent, IsCarriedOn, IsLeading, IsLine, IsLineHere, IsNear, IsOpenOutside, IsReadOn, Key, KnowsKey, length, Line, line_past_separation, List, MayChoose, not, Option, outside_key, position_after, refl, ScannerState, Site, site_here, SoFar, Some, Stands, subst, suc, sym, Token, tokens_up_to, true, ℕ, ◌++◌, ◌==◌, ◌∷◌, ◌≡◌, ◌≤◌, ◌⊎◌}
 
 -- an account by its parts
 abbrev pub with_entries : Site → Line → List Entry → Account
@@ -47,8 +41,9 @@ pub record ArrivesBy (text : List ℕ) (t : ScannerState) (fs : List FlowLevel) 
   pub is_near : is_empty fs ≡ true → IsNear (outside_key es ks) t.held.position
   pub are_numbered : AreNumbered (length tokens) ks
   pub carries : IsCarriedOn text (separation ++ t.rest) t.rest ks (with_entries site line es)
-  pub completes : (c : Bool) (cs : List Bool) → MayChoose c (outside_key es ks) t.held.position t.rest →
-      Completes text (separation ++ t.rest) (chosen c cs ks (with_entries site line es)) (tokens_up_to (chosen c cs ks (with_entries site line es)) ks tokens)
+  pub knows : is_empty fs ≡ false → KnowsKey text (separation ++ t.rest) t.held.position (outside_key es ks)
+  pub completes : (strict c : Bool) (cs : List Bool) → MayChoose strict c (outside_key es ks) t.held.position t.rest →
+      SoFar strict text (separation ++ t.rest) (chosen c cs ks (with_entries site line es)) (tokens_up_to (chosen c cs ks (with_entries site line es)) ks tokens)
 
 unfoldable pub arrives_by : (text : List ℕ) (t : ScannerState) (a : Arrives text t) → ArrivesBy text t t.held.flow t.held.keys a.base.entries
 arrives_by text t a = record {
@@ -81,6 +76,7 @@ arrives_by text t a = record {
   is_near = a.is_near;
   are_numbered = a.are_numbered;
   carries = a.carries;
+  knows = λ _. a.knows;
   completes = a.completes;
 }
 
@@ -90,6 +86,7 @@ pub record ArrivesOutside (text : List ℕ) (t : ScannerState) : Type 0 where
   pub flow_is : t.held.flow ≡ []
   pub keys_are : t.held.keys ≡ key ∷ []
   pub here : ArrivesBy text t [] (key ∷ []) []
+  pub knows : KnowsKey text (here.separation ++ t.rest) t.held.position key
 
 -- In flow the innermost entry has its flow level and its key.
 pub record ArrivesInside (text : List ℕ) (t : ScannerState) : Type 0 where
@@ -105,16 +102,17 @@ pub record ArrivesInside (text : List ℕ) (t : ScannerState) : Type 0 where
 
 -- One of these holds.
 pub arrives_side : (text : List ℕ) (t : ScannerState) → Arrives text t → ArrivesOutside text t ⊎ ArrivesInside text t
-arrives_side text t a = by t.held.flow t.held.keys a.base.entries refl refl (arrives_by text t a)
+unfolding arrives_by
+arrives_side text t a = by t.held.flow t.held.keys a.base.entries refl refl (arrives_by text t a) a.knows
   where
-    by : (fs : List FlowLevel) (ks : List (Option Key)) (es : List Entry) → t.held.flow ≡ fs → t.held.keys ≡ ks → ArrivesBy text t fs ks es → ArrivesOutside text t ⊎ ArrivesInside text t
-    by [] [] es f k p = absurd (omega (arith, p.one_each))
-    by [] (k ∷ l ∷ ks) es f q p = absurd (omega (arith, p.one_each))
-    by [] (k ∷ []) [] f q p = inl (record { key = k; flow_is = f; keys_are = q; here = p })
-    by [] (k ∷ []) (e ∷ es) f q p = absurd p.are_entries
-    by (f ∷ fs) [] es i q p = absurd (omega (arith, p.one_each))
-    by (f ∷ fs) (k ∷ ks) [] i q p = absurd p.are_entries
-    by (f ∷ fs) (k ∷ ks) (e ∷ es) i q p = inr (record { level = f; levels = fs; key = k; keys = ks; entry = e; entries = es; flow_is = i; keys_are = q; here = p })
+    by : (fs : List FlowLevel) (ks : List (Option Key)) (es : List Entry) → t.held.flow ≡ fs → t.held.keys ≡ ks → (p : ArrivesBy text t fs ks es) → KnowsKey text (p.separation ++ t.rest) t.held.position (outside_key es ks) → ArrivesOutside text t ⊎ ArrivesInside text t
+    by [] [] es f k p n = absurd (omega (arith, p.one_each))
+    by [] (k ∷ l ∷ ks) es f q p n = absurd (omega (arith, p.one_each))
+    by [] (k ∷ []) [] f q p n = inl (record { key = k; flow_is = f; keys_are = q; here = p; knows = n })
+    by [] (k ∷ []) (e ∷ es) f q p n = absurd p.are_entries
+    by (f ∷ fs) [] es i q p n = absurd (omega (arith, p.one_each))
+    by (f ∷ fs) (k ∷ ks) [] i q p n = absurd p.are_entries
+    by (f ∷ fs) (k ∷ ks) (e ∷ es) i q p n = inr (record { level = f; levels = fs; key = k; keys = ks; entry = e; entries = es; flow_is = i; keys_are = q; here = p })
 
 -- ---- between two fetches
 
@@ -143,8 +141,9 @@ pub record StandsBy (text : List ℕ) (t : ScannerState) (fs : List FlowLevel) (
   pub started : t.held.started ≡ true
   pub going : t.held.ended ≡ false
   pub carries : IsCarriedOn text (separation ++ t.rest) t.rest ks (with_entries site line es)
-  pub completes : (c : Bool) (cs : List Bool) → MayChoose c (outside_key es ks) t.held.position t.rest →
-      Completes text (separation ++ t.rest) (chosen c cs ks (with_entries site line es)) (tokens_up_to (chosen c cs ks (with_entries site line es)) ks t.held.tokens)
+  pub knows : KnowsKey text (separation ++ t.rest) t.held.position (outside_key es ks)
+  pub completes : (strict c : Bool) (cs : List Bool) → MayChoose strict c (outside_key es ks) t.held.position t.rest →
+      SoFar strict text (separation ++ t.rest) (chosen c cs ks (with_entries site line es)) (tokens_up_to (chosen c cs ks (with_entries site line es)) ks t.held.tokens)
 
 by_held : (text : List ℕ) (t : ScannerState) (es : List Entry) → StandsBy text t t.held.flow t.held.keys es → Stands text t
 by_held text t es s = record {
@@ -170,30 +169,10 @@ by_held text t es s = record {
   started = s.started;
   going = s.going;
   carries = s.carries;
+  knows = s.knows;
   completes = s.completes;
 }
 
 -- A state stands if it does so with the flow levels and keys that it holds, under other names.
 pub stands_by : (text : List ℕ) (t : ScannerState) (fs : List FlowLevel) (ks : List (Option Key)) (es : List Entry) → t.held.flow ≡ fs → t.held.keys ≡ ks → StandsBy text t fs ks es → Stands text t
 stands_by text t fs ks es f k s = by_held text t es (subst (λ x. StandsBy text t t.held.flow x es) (sym k) (subst (λ x. StandsBy text t x ks es) (sym f) s))
-
--- A state that stands, with its account after the last piece and its separation in sight.
-pub record StandsAt (text : List ℕ) (base : Account) (separation : List ℕ) (t : ScannerState) : Type 0 where
-  pub stands : Stands text t
-  pub base_is : stands.base ≡ base
-  pub separation_is : stands.separation ≡ separation
-
--- The same, with the account and the separation that it stands with.
-pub stands_at : (text : List ℕ) (t : ScannerState) (fs : List FlowLevel) (ks : List (Option Key)) (es : List Entry) → t.held.flow ≡ fs → t.held.keys ≡ ks → (s : StandsBy text t fs ks es) → StandsAt text (with_entries s.site s.line es) s.separation t
-unfolding by_held
-stands_at text t fs ks es f k =
-    let At : List FlowLevel → List (Option Key) → Type 0 = λ x y. (s : StandsBy text t x y es) → StandsAt text (with_entries s.site s.line es) s.separation t in
-    let own : At t.held.flow t.held.keys = λ s. record { stands = by_held text t es s; base_is = refl; separation_is = refl } in
-    subst (λ y. At fs y) k (subst (λ x. At x t.held.keys) f own)
-
--- and under other equations of both
-pub stands_as : (text : List ℕ) (t : ScannerState) (fs : List FlowLevel) (ks : List (Option Key)) (es : List Entry) (base : Account) (separation : List ℕ) → t.held.flow ≡ fs → t.held.keys ≡ ks → (s : StandsBy text t fs ks es) →
-    with_entries s.site s.line es ≡ base → s.separation ≡ separation → StandsAt text base separation t
-stands_as text t fs ks es base separation f k s b g =
-    let at : StandsAt text (with_entries s.site s.line es) s.separation t = stands_at text t fs ks es f k s in
-    record { stands = at.stands; base_is = at.base_is ∙ b; separation_is = at.separation_is ∙ g }

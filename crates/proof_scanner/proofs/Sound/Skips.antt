@@ -1,16 +1,8 @@
 -- What the model skips between tokens leaves no TAB in the indentation of the next one.
-use Rattle.std.proofs.Common.{◌≡◌, ℕ, zero, suc, ◌+◌, ◌≤◌, List, [], ◌∷◌, ◌++◌, Bool, true, false, not, ◌&&◌, ◌||◌, ◌==◌, ◌⊎◌, inl, inr, nat_lt, if◌then◌else◌, length, Result, Ok, refl, ap, sym, ◌∙◌, subst, append_assoc, append-nil, arith}
-use Rattle.std.proofs.Math.Bool.{or-false, or-true}
-use Rattle.std.proofs.lemmas.Bool.{and_parts, eqb-true}
-use Rattle.std.proofs.lemmas.Bool.Decides.{nat_tests}
 use Rattle.std.proofs.lemmas.List.{length-append}
-use Rattle.proof_scanner.proofs.Common.{another, begins_line, comment, Fault, flow_collection, has_tab_within, Held, is_at_comment_or_end, is_before_indent, is_cr_lf, is_empty, moved, no_hash, Previous, quoted_scalar, same_break, ScannerState, skip, tab_line, weakened}
+use Rattle.proof_scanner.proofs.Common.{[], and_parts, another, ap, append-nil, append_assoc, arith, begins_line, between, block_scalar, Bool, comment, directive, either, eqb-true, false, Fault, flow_collection, Gap, has_break, has_tab_within, Held, Holds, if◌then◌else◌, inl, inr, is_at_comment_or_end, is_before_indent, is_cr_lf, is_empty, last_line, length, List, moved, nat_lt, nat_tests, no_hash, not, Ok, or-false, or-true, past_line, plain_scalar, Previous, quoted_scalar, refl, refused, Result, same_break, ScannerState, skip, subst, suc, sym, tab_line, true, weakened, went, zero, ℕ, ◌&&◌, ◌++◌, ◌+◌, ◌==◌, ◌||◌, ◌∙◌, ◌∷◌, ◌≡◌, ◌≤◌, ◌⊎◌}
 use Rattle.yaml_chars.specs.Class.{is_break, is_blank}
 use Rattle.defs_text.specs.Classes as classes
-use Rattle.defs_token.specs.Step.{plain_scalar, block_scalar, directive, has_break}
-use Rattle.defs_token.specs.Indentation.{last_line}
-use Rattle.model_scanner.specs.Space.{Gap, between, past_line}
-use Rattle.model_scanner.proofs.Holds.{Holds, went, refused, either}
 use Rattle.proof_scanner.proofs.Sound.LastLines.{break_append, last_more, tab_within_more}
 
 -- a break more begins a line, and nothing else does

@@ -1,7 +1,6 @@
 -- The function of each token keeps what holds between two fetches; so the tokens that the scanner's model gives a text are those of the text's row.
-use Rattle.proof_scanner.proofs.Common.{Mapping, Tok}
+use Rattle.proof_scanner.proofs.Common.{begins, Fares, has_no_nul, List, Mapping, Reaches, refl, ScannerState, start, Tok, TokensAreOfARow, true, ℕ, ◌≡◌}
 use Rattle.model_scanner.specs.declared.level.FlowLevel.TheVariants.{Entry}
-use Rattle.proof_scanner.specs.StandsInRow.{TokensAreOfARow}
 use Rattle.proof_scanner.proofs.Sound.BlockScalars.{block_keeps}
 use Rattle.proof_scanner.proofs.Sound.Closers.{closing_bracket, closing_brace}
 use Rattle.proof_scanner.proofs.Sound.Dashes.{dash_keeps}
@@ -14,7 +13,7 @@ use Rattle.proof_scanner.proofs.Sound.PlainKeeps.{plain_keeps}
 use Rattle.proof_scanner.proofs.Sound.Properties.{anchor_keeps, tag_keeps}
 use Rattle.proof_scanner.proofs.Sound.Questions.{key_keeps}
 use Rattle.proof_scanner.proofs.Sound.QuotedKeeps.{quoted_keeps}
-use Rattle.proof_scanner.proofs.Sound.Runs.{read_as_a_row}
+use Rattle.proof_scanner.proofs.Sound.Runs.{reached, read_as_a_row}
 use Rattle.proof_scanner.proofs.Sound.Values.{value_keeps}
 
 pub each_keeps : EachKeeps
@@ -40,3 +39,7 @@ each_keeps = record {
 -- The tokens that the model gives a text without NUL are those of its row, positions included.
 pub tokens_are_of_a_row : TokensAreOfARow
 tokens_are_of_a_row = read_as_a_row (fetch_keeps each_keeps)
+
+-- what holds at each state of a run
+pub fares_there : (text : List ℕ) → has_no_nul text ≡ true → (t : ScannerState) → Reaches (start text) t → Fares text t
+fares_there text nul t run = reached (fetch_keeps each_keeps) text nul (start text) t run (begins refl)

@@ -1,25 +1,16 @@
 -- Keys that are too far back are dropped: what holds between two fetches still holds, without them.
-use Rattle.std.proofs.Common.{◌≡◌, ℕ, suc, ◌+◌, ◌≤◌, List, [], ◌∷◌, ◌++◌, Bool, true, false, not, ◌&&◌, ◌||◌, ◌⊎◌, inl, inr, length, map, nat_lt, if◌then◌else◌, Option, Some, None, Result, Ok, Err, refl, ap, sym, ◌∙◌, subst, arith}
-use Rattle.std.proofs.lemmas.Bool.Decides.{nat_tests}
-use Rattle.std.specs.List.{list_any}
-use Rattle.proof_scanner.proofs.Common.{AreEntries, begins_free_line, Completes, drop_stale, Fault, FlowLevel, have_no_key, Held, in_flow, is_empty, is_far, is_overdue, is_renewed, is_waiting, IsLine, IsNear, IsOpenOutside, Key, MayChoose, outside_key, Position, ScannerState, stale, still, Token, tokens_up_to, try_held}
-use Rattle.yaml_tokens.specs.declared.problem.Fault.TheVariants.{At}
+use Rattle.proof_scanner.proofs.Common.{[], Account, ap, AreEntries, arith, At, begins_free_line, Bool, chosen, drop_stale, either, Entry, Err, false, Fares, Fault, FlowLevel, have_no_key, Held, Holds, if◌then◌else◌, in_flow, inl, inr, is_empty, is_far, is_overdue, is_renewed, is_waiting, IsAtEnd, IsCutUpTo, IsLine, IsNear, IsOpenOutside, IsRead, Key, KnowsKey, length, List, list_any, map, MayChoose, nat_lt, nat_tests, None, not, Ok, Option, outside_key, over, Position, refl, refused, Result, ScannerState, SoFar, Some, stale, Stands, Step, still, subst, suc, sym, Token, tokens_from, tokens_up_to, tried, true, try_held, went, ℕ, ◌&&◌, ◌++◌, ◌+◌, ◌||◌, ◌∙◌, ◌∷◌, ◌≡◌, ◌≤◌, ◌⊎◌}
 use Rattle.yaml_tokens.specs.declared.problem.Problem.TheVariants as problem
-use Rattle.defs_token.specs.Step.{Step}
-use Rattle.defs_token.specs.FlowEntry.{Entry}
-use Rattle.defs_token.specs.RowAccount.{Account}
-use Rattle.defs_token.specs.Tokens.{tokens_from}
-use Rattle.defs_token.specs.Row.{IsRead}
 use Rattle.model_scanner.specs.Keys.{with_keys}
-use Rattle.model_scanner.proofs.Holds.{Holds, went, refused, either, tried}
-use Rattle.proof_scanner.specs.Choices.{chosen}
-use Rattle.proof_scanner.specs.StandsInRow.{Stands, Fares, goes, over}
-use Rattle.proof_scanner.proofs.Sound.Sides.{StandsAt}
+use Rattle.proof_scanner.proofs.Known.Steps.{known_far}
+use Rattle.proof_scanner.specs.StandsInRow.{goes}
+use Rattle.proof_scanner.proofs.Sound.Completed.{may_be_no_key}
 use Rattle.proof_scanner.proofs.Sound.StreamEnds.{entries_no_key, none_chosen, none_put}
 
 -- rows are completed alike by tokens that are alike
-pub completes_alike : (text after : List ℕ) (a : Account) (T U : List Step → List ℕ → List Token) → ((ws : List Step) (last : List ℕ) → T ws last ≡ U ws last) → Completes text after a T → Completes text after a U
-completes_alike text after a T U same h = (h.0, λ ws last e r. subst (λ x. IsRead text (x ++ tokens_from (Some a) ws last)) (same ws last) (h.1 ws last e r))
+pub completes_alike : (strict : Bool) (text after : List ℕ) (a : Account) (T U : List Step → List ℕ → List Token) → ((ws : List Step) (last : List ℕ) → T ws last ≡ U ws last) → SoFar strict text after a T → SoFar strict text after a U
+completes_alike true text after a T U same h = (h.0, λ ws last e. h.1 ws last e ∙ ap (λ x. x ++ tokens_from (Some a) ws last) (same ws last))
+completes_alike false text after a T U same h = (h.0, λ ws last e. subst (λ ts. IsCutUpTo text after a ts) (same ws last) (h.1 ws last e))
 
 -- outside flow there is one open key or none, and no entry
 pub no_entries : (allowed again : Bool) (fs : List FlowLevel) (ks : List (Option Key)) (es : List Entry) → is_empty fs ≡ true → AreEntries allowed again fs ks es → es ≡ []
@@ -38,26 +29,26 @@ one_key (k ∷ []) fs n o = (k, refl)
 one_key (k ∷ x ∷ ks) [] n o = absurd (omega (arith, n))
 one_key (k ∷ x ∷ ks) (f ∷ fs) n o = absurd (cc o)
 
-is_outside : (b : Bool) → not b ≡ false → b ≡ true
+pub is_outside : (b : Bool) → not b ≡ false → b ≡ true
 is_outside true h = refl
 is_outside false h = absurd (cc h)
 
 -- where no open key is one, the tokens are those that the scanner holds
-pub none_completes : (text after : List ℕ) (a : Account) (ks : List (Option Key)) (ts : List Token) → is_waiting a.line ≡ false → have_no_key a.entries ≡ true →
-    Completes text after (chosen false [] ks a) (tokens_up_to (chosen false [] ks a) ks ts) → Completes text after a (λ ws last. ts)
-none_completes text after a ks ts no_key none h =
-    completes_alike text after a (tokens_up_to a ks ts) (λ ws last. ts) (λ ws last. none_put 0 a.site.position ws last a.site.blocks a.line a.entries ks ts no_key none)
-    (subst (λ x. Completes text after x (tokens_up_to x ks ts)) (none_chosen ks a) h)
+pub none_completes : (strict : Bool) (text after : List ℕ) (a : Account) (ks : List (Option Key)) (ts : List Token) → is_waiting a.line ≡ false → have_no_key a.entries ≡ true →
+    SoFar strict text after (chosen false [] ks a) (tokens_up_to (chosen false [] ks a) ks ts) → SoFar strict text after a (λ ws last. ts)
+none_completes strict text after a ks ts no_key none h =
+    completes_alike strict text after a (tokens_up_to a ks ts) (λ ws last. ts) (λ ws last. none_put 0 a.site.position ws last a.site.blocks a.line a.entries ks ts no_key none)
+    (subst (λ x. SoFar strict text after x (tokens_up_to x ks ts)) (none_chosen ks a) h)
 
 -- The open key outside flow is dropped, if it need not be one.
-pub key_dropped : (text : List ℕ) (u : ScannerState) → (s : Stands text u) → is_empty u.held.flow ≡ true → (k : Key) → u.held.keys ≡ Some k ∷ [] → k.required ≡ false → StandsAt text s.base s.separation (record u { held = record u.held { keys = None ∷ [] } })
-key_dropped text u s out k only free = record { stands = dropped; base_is = refl; separation_is = refl }
+pub key_dropped : (text : List ℕ) (u : ScannerState) → (s : Stands text u) → is_empty u.held.flow ≡ true → (k : Key) → u.held.keys ≡ Some k ∷ [] → is_far k.position u.held.position ≡ true → k.required ≡ false → Stands text (record u { held = record u.held { keys = None ∷ [] } })
+key_dropped text u s out k only far free = dropped
   where
     After : List ℕ
     After = s.separation ++ u.rest
 
-    Of : Bool → List Bool → Account → Type 0
-    Of c cs a = Completes text After (chosen c cs (None ∷ []) a) (tokens_up_to (chosen c cs (None ∷ []) a) (None ∷ []) u.held.tokens)
+    Of : Bool → Bool → List Bool → Account → Type 0
+    Of strict c cs a = SoFar strict text After (chosen c cs (None ∷ []) a) (tokens_up_to (chosen c cs (None ∷ []) a) (None ∷ []) u.held.tokens)
 
     none : s.base.entries ≡ []
     none = no_entries u.held.key_allowed (is_renewed s.base.site.before s.separation) u.held.flow u.held.keys s.base.entries out s.are_entries
@@ -66,15 +57,15 @@ key_dropped text u s out k only free = record { stands = dropped; base_is = refl
     line true k h = h
     line false k h = (h.0, h.1, tt)
 
-    may : MayChoose false (outside_key s.base.entries u.held.keys) u.held.position u.rest
-    may = subst (λ es. MayChoose false (outside_key es u.held.keys) u.held.position u.rest) (sym none) (subst (λ ks. MayChoose false (outside_key [] ks) u.held.position u.rest) (sym only) free)
+    may : MayChoose true false (outside_key s.base.entries u.held.keys) u.held.position u.rest
+    may = subst (λ es. MayChoose true false (outside_key es u.held.keys) u.held.position u.rest) (sym none) (subst (λ ks. MayChoose true false (outside_key [] ks) u.held.position u.rest) (sym only) free)
 
-    base : Completes text After (record s.base { entries = [] }) (λ ws last. u.held.tokens)
-    base = subst (λ es. Completes text After (record s.base { entries = es }) (λ ws last. u.held.tokens)) none
-        (none_completes text After s.base u.held.keys u.held.tokens s.no_key (entries_no_key u.held.key_allowed (is_renewed s.base.site.before s.separation) u.held.flow u.held.keys s.base.entries s.are_entries) (s.completes false [] may))
+    base : (strict : Bool) → SoFar strict text After (record s.base { entries = [] }) (λ ws last. u.held.tokens)
+    base strict = subst (λ es. SoFar strict text After (record s.base { entries = es }) (λ ws last. u.held.tokens)) none
+        (none_completes strict text After s.base u.held.keys u.held.tokens s.no_key (entries_no_key u.held.key_allowed (is_renewed s.base.site.before s.separation) u.held.flow u.held.keys s.base.entries s.are_entries) (s.completes strict false [] (may_be_no_key strict (outside_key s.base.entries u.held.keys) u.held.position u.rest may)))
 
-    own : (c : Bool) (cs : List Bool) → Of c cs (record s.base { entries = [] })
-    own c cs = base
+    own : (strict c : Bool) (cs : List Bool) → Of strict c cs (record s.base { entries = [] })
+    own strict c cs = base strict
 
     dropped : Stands text (record u { held = record u.held { keys = None ∷ [] } })
     dropped = record {
@@ -100,7 +91,9 @@ key_dropped text u s out k only free = record { stands = dropped; base_is = refl
       started = s.started;
       going = s.going;
       carries = λ cs x key m inside some. absurd (cc (inside, ap is_empty none));
-      completes = λ c cs may. subst (λ es. Of c cs (record s.base { entries = es })) (sym none) (own c cs);
+      knows = subst (λ es. KnowsKey text After u.held.position (outside_key es (None ∷ []))) (sym none)
+          (known_far text After u.held.position k far (subst (λ ks. KnowsKey text After u.held.position (outside_key [] ks)) only (subst (λ es. KnowsKey text After u.held.position (outside_key es u.held.keys)) none s.knows)));
+      completes = λ strict c cs may. subst (λ es. Of strict c cs (record s.base { entries = es })) (sym none) (own strict c cs);
     }
 
 -- ---- the step
@@ -135,7 +128,7 @@ outside_now text u s out (Some k) only h = by (is_far k.position u.held.position
 
     by : (b : Bool) → is_far k.position u.held.position ≡ b → (b && k.required) ≡ false → Nearer text u (record u.held { keys = (if b then None else Some k) ∷ [] })
     by true e f = record {
-      stands = (key_dropped text u s out k only f).stands;
+      stands = key_dropped text u s out k only e f;
       same = refl;
       near = λ _. (None, refl, tt);
     }
@@ -159,7 +152,7 @@ stale_stands text u s =
     by false f = went (f refl)
 
 -- The stale keys of a fetch are dropped.
-keys_only : (s : Held) → Holds (λ h. h ≡ record s { keys = h.keys }) (stale s)
+pub keys_only : (s : Held) → Holds (λ h. h ≡ record s { keys = h.keys }) (stale s)
 unfolding stale
 keys_only s = either (in_flow s) (λ _. went refl) (λ _. by (drop_stale s.position s.keys))
   where
@@ -168,6 +161,7 @@ keys_only s = either (in_flow s) (λ _. went refl) (λ _. by (drop_stale s.posit
     by (Err f) = refused
 
 -- What holds after a token, or after the end, holds after stale keys are dropped.
-pub fares_stale : (text : List ℕ) (t : ScannerState) → Stands text t ⊎ ((t.held.ended ≡ true) × IsRead text t.held.tokens) → Holds (Fares text) (try_held stale t)
+pub fares_stale : (text : List ℕ) (t : ScannerState) → Stands text t ⊎ ((t.held.ended ≡ true) × IsRead text t.held.tokens × IsAtEnd text t.held) → Holds (Fares text) (try_held stale t)
 fares_stale text t (inl s) = tried t (stale t.held) (stale_stands text t s) (λ h d. goes d.stands)
-fares_stale text t (inr e) = tried t (stale t.held) (keys_only t.held) (λ h d. over (ap (λ y. y.ended) d ∙ e.0) (subst (λ y. IsRead text y.tokens) (sym d) e.1))
+fares_stale text t (inr e) = tried t (stale t.held) (keys_only t.held) (λ h d.
+    over (ap (λ y. y.ended) d ∙ e.0) (subst (λ y. IsRead text y.tokens) (sym d) e.1) (record { began = ap (λ y. y.started) d ∙ e.2.began; position = ap (λ y. y.position) d ∙ e.2.position }))

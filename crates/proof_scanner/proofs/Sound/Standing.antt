@@ -1,6 +1,5 @@
 -- What lets a piece stand: four tests, and its column in flow.
-use Rattle.std.proofs.Common.{◌≡◌, Bool, true, false, ◌&&◌, ◌||◌, nat_le, refl, ap, ◌∙◌}
-use Rattle.proof_scanner.proofs.Common.{act_of, is_deep_enough, is_marker, least_column, least_for, Site, Tok}
+use Rattle.proof_scanner.proofs.Common.{act_of, ap, Bool, false, is_deep_enough, is_marker, least_column, least_for, nat_le, refl, Site, Tok, true, ◌&&◌, ◌||◌, ◌∙◌, ◌≡◌}
 
 pub and_yes : (b : Bool) → (b && true) ≡ b
 and_yes true = refl

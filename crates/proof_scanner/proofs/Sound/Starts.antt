@@ -1,11 +1,8 @@
 -- What holds between fetches holds after the stream's start.
-use Rattle.std.proofs.Common.{◌≡◌, ℕ, List, [], ◌∷◌, true, refl, subst, inl, inr, arith}
-use Rattle.proof_scanner.proofs.Common.{Completes, fetch_stream_start, first_position, has_no_nul, start, stream_start}
-use Rattle.defs_token.specs.RowAccount.{first_account}
-use Rattle.defs_token.specs.Tokens.{put}
+use Rattle.proof_scanner.proofs.Common.{[], arith, fetch_stream_start, first_account, first_position, has_no_nul, inl, inr, List, put, refl, SoFar, Stands, start, stream_start, subst, sym, true, up_to_nul, ℕ, ◌∷◌, ◌≡◌}
 use Rattle.proof_scanner.proofs.Cut.Documents.{whole_text}
-use Rattle.proof_scanner.specs.StandsInRow.{Stands}
-use Rattle.proof_scanner.proofs.Sound.Completed.{completed_at_start}
+use Rattle.proof_scanner.proofs.Known.Steps.{known_at_start}
+use Rattle.proof_scanner.proofs.Sound.Completed.{completed_at_start, goes_of}
 
 unfoldable pub stream_started : (text : List ℕ) → has_no_nul text ≡ true → Stands text (fetch_stream_start (start text))
 unfolding fetch_stream_start
@@ -32,5 +29,6 @@ stream_started text nul = record {
   started = refl;
   going = refl;
   carries = λ cs x key m inside some. absurd (cc inside);
-  completes = λ c cs may. subst (λ x. Completes text x first_account (λ ws last. put first_position stream_start ∷ [])) (whole_text text nul) (completed_at_start text);
+  knows = known_at_start text text first_position (sym (whole_text text nul));
+  completes = λ strict c cs may. subst (λ x. SoFar strict text x first_account (λ ws last. put first_position stream_start ∷ [])) (whole_text text nul) (goes_of strict text (up_to_nul text) first_account (put first_position stream_start ∷ []) refl refl (completed_at_start text));
 }

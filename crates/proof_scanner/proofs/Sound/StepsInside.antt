@@ -1,14 +1,7 @@
 -- A piece in flow with which its entry goes on, and before and after which no key of the entry waits: `?`, a colon without a key, and a line for the document.
-use Rattle.std.proofs.Common.{◌≡◌, ℕ, suc, List, [], ◌∷◌, ◌++◌, Bool, true, false, not, ◌&&◌, if◌then◌else◌, length, Some, None, refl, ap, sym, ◌∙◌, subst}
-use Rattle.proof_scanner.proofs.Common.{Act, act_of, begins_free_line, BeginsButForKey, begun_by, begun_inside, colon_of, Completes, entries_by, entries_past, gives_colon, Had, had_by, is_empty, is_keyed, is_renewed, is_separation, is_waiting, IsPiece, key_end, Level, line_by, line_past_separation, may_stand, MayChoose, pair_position, past_inside, past_piece, pop, Position, position_after, seen, shown_position, Site, site_at, site_past, taken, Token, tokens_of_step, tokens_up_to}
-use Rattle.defs_token.specs.Step.{Step, spelled, has_break}
-use Rattle.defs_token.specs.Key.{Line}
-use Rattle.defs_token.specs.FlowEntry.{waits, Pair, Entry, takes_pair}
-use Rattle.defs_token.specs.RowAccount.{Account, on_one_line, account_past}
-use Rattle.defs_token.specs.Tokens.{put, Colon}
-use Rattle.proof_scanner.specs.Choices.{chosen}
-use Rattle.proof_scanner.specs.Completes.{with_had, with_keys}
-use Rattle.proof_scanner.proofs.Sound.Completed.{completed_past, but_for_key_past, none_broken, none_waits}
+use Rattle.proof_scanner.proofs.Common.{[], Account, account_past, Act, act_of, ap, begins_free_line, BeginsButForKey, begun_by, begun_inside, Bool, chosen, Colon, colon_of, entries_by, entries_past, Entry, false, gives_colon, Had, had_by, has_break, if◌then◌else◌, is_empty, is_keyed, is_renewed, is_separation, is_waiting, IsPiece, IsWritten, key_end, length, Level, Line, line_by, line_past_separation, List, may_stand, MayChoose, None, not, on_one_line, Pair, pair_position, past_inside, past_piece, pop, Position, position_after, put, refl, seen, shown_position, Site, site_at, site_past, SoFar, Some, spelled, Step, subst, suc, sym, taken, takes_pair, Token, tokens_of_step, tokens_up_to, true, with_had, with_keys, ℕ, ◌&&◌, ◌++◌, ◌∙◌, ◌∷◌, ◌≡◌}
+use Rattle.defs_token.specs.FlowEntry.{waits}
+use Rattle.proof_scanner.proofs.Sound.Completed.{goes_past, but_for_key_past, none_broken, none_waits}
 use Rattle.proof_scanner.proofs.Sound.FlowSteps.{FlowStep, step_of, base, keys, outside}
 use Rattle.proof_scanner.proofs.Sound.Inserts.{AreAmong, first_among, keys_first}
 use Rattle.proof_scanner.proofs.Sound.NodeTokens.{past_step, keys_along}
@@ -52,9 +45,12 @@ pub record IsHere (d : Piece) : Type 0 where
   pub entry_is : (es : List Entry) → entries_past (at d).position (is_renewed d.site.before d.separation) (act_of d.tok) [] false d.entry es ≡ Some (d.entry_after ∷ es)
   pub colons : (n : ℕ) (p : Position) (ws : List Step) (last : List ℕ) → colon_of (suc n) p (step_of d.step ∷ ws) last ≡ colon_of (suc n) (past_step p (step_of d.step) ws last) ws last
   pub are_among : AreAmong (length d.tokens) (keys d.step)
-  pub unbroken : (c : Bool) → MayChoose c (outside d.step) d.past d.rest → line_past_separation true (begins_free_line d.site.before d.separation) (line_by c (outside d.step) d.line) ≡ Some (line_by c (outside d.step) d.line)
-  pub one_line : (c : Bool) → MayChoose c (outside d.step) d.past d.rest → (has_break d.piece && is_waiting (line_by c (outside d.step) d.line)) ≡ false
-  pub may_before : (c : Bool) → MayChoose c (outside d.step) d.past d.rest → MayChoose c (outside d.step) (at d).position (d.piece ++ d.next)
+  pub unbroken : (strict c : Bool) → MayChoose strict c (outside d.step) d.past d.rest → line_past_separation true (begins_free_line d.site.before d.separation) (line_by c (outside d.step) d.line) ≡ Some (line_by c (outside d.step) d.line)
+  pub one_line : (strict c : Bool) → MayChoose strict c (outside d.step) d.past d.rest → (has_break d.piece && is_waiting (line_by c (outside d.step) d.line)) ≡ false
+  pub may_before : (strict c : Bool) → MayChoose strict c (outside d.step) d.past d.rest → MayChoose strict c (outside d.step) (at d).position (d.piece ++ d.next)
+
+pub is_written : (d : Piece) → IsHere d → IsWritten (base d.step) (step_of d.step) d.next
+is_written d n = (n.is_filled, (ap not n.is_solid, n.is_piece))
 
 abbrev With : Entry → Had → Entry
 With e h = record { kind = e.kind; pair = e.pair; had = h }
@@ -73,8 +69,8 @@ piece_account_by d n c cs unbroken one_line =
     (ap (λ o. on_one_line d.piece (past_inside (at d) d.piece d.tok d.next l o)) entries ∙
     ap (λ b. if b then None else Some (past d c cs)) one_line))
 
-pub piece_account : (d : Piece) → IsHere d → (c : Bool) (cs : List Bool) → MayChoose c (outside d.step) d.past d.rest → account_past (before d c cs) (step_of d.step) d.next ≡ Some (past d c cs)
-piece_account d n c cs may = piece_account_by d n c cs (n.unbroken c may) (n.one_line c may)
+pub piece_account : (d : Piece) → IsHere d → (strict c : Bool) (cs : List Bool) → MayChoose strict c (outside d.step) d.past d.rest → account_past (before d c cs) (step_of d.step) d.next ≡ Some (past d c cs)
+piece_account d n strict c cs may = piece_account_by d n c cs (n.unbroken strict c may) (n.one_line strict c may)
 
 -- where no key begins, it does not matter where a colon stands
 begun_alike : (single : Bool) (pair : Pair) (here p q own : Position) (k : Act) (h : Had) → begun_inside single pair here p own k false h ≡ begun_inside single pair here q own k false h
@@ -87,11 +83,11 @@ SeenWith d levels = IsPiece (let a = seen (base d.step) (at d) d.separation in r
 
 -- If each choice before the piece is one of a row, then each choice after it is, with the tokens of the step.
 pub piece_completes : (text : List ℕ) (d : Piece) → IsHere d →
-    ((c : Bool) (cs : List Bool) → MayChoose c (outside d.step) (at d).position (d.piece ++ d.next) → Completes text (d.separation ++ (d.piece ++ d.next)) (chosen c cs (keys d.step) (base d.step)) (tokens_up_to (chosen c cs (keys d.step) (base d.step)) (keys d.step) d.tokens)) →
-    (c : Bool) (cs : List Bool) → MayChoose c (outside d.step) d.past d.rest → Completes text d.next (past d c cs) (tokens_up_to (past d c cs) (None ∷ d.outer_keys) (d.tokens ++ own_tokens d))
-piece_completes text d n h c cs may =
-    completed_past text (d.separation ++ (d.piece ++ d.next)) (before d c cs) (past d c cs) (tokens_up_to (before d c cs) (keys d.step) d.tokens) (tokens_up_to (past d c cs) (None ∷ d.outer_keys) (d.tokens ++ own_tokens d)) (step_of d.step) d.next refl
-    (n.is_filled, (ap not n.is_solid, subst (λ x. SeenWith d x) (sym (same_levels (false ∷ pop cs) (keys d.step) (d.entry ∷ d.around))) n.is_piece)) (piece_account d n c cs may) tokens (h c (false ∷ pop cs) (n.may_before c may))
+    ((strict c : Bool) (cs : List Bool) → MayChoose strict c (outside d.step) (at d).position (d.piece ++ d.next) → SoFar strict text (d.separation ++ (d.piece ++ d.next)) (chosen c cs (keys d.step) (base d.step)) (tokens_up_to (chosen c cs (keys d.step) (base d.step)) (keys d.step) d.tokens)) →
+    (strict c : Bool) (cs : List Bool) → MayChoose strict c (outside d.step) d.past d.rest → SoFar strict text d.next (past d c cs) (tokens_up_to (past d c cs) (None ∷ d.outer_keys) (d.tokens ++ own_tokens d))
+piece_completes text d n h strict c cs may =
+    goes_past strict text (d.separation ++ (d.piece ++ d.next)) (before d c cs) (past d c cs) (tokens_up_to (before d c cs) (keys d.step) d.tokens) (tokens_up_to (past d c cs) (None ∷ d.outer_keys) (d.tokens ++ own_tokens d)) (step_of d.step) d.next refl
+    (n.is_filled, (ap not n.is_solid, subst (λ x. SeenWith d x) (sym (same_levels (false ∷ pop cs) (keys d.step) (d.entry ∷ d.around))) n.is_piece)) (piece_account d n strict c cs may) (λ _ i. i) tokens (h strict c (false ∷ pop cs) (n.may_before strict c may))
   where
     Own : List ℕ → List Step → List ℕ → Type 0
     Own x ws last =

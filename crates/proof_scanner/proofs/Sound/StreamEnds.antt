@@ -1,23 +1,9 @@
 -- Where a text ends: no open key is one, and the stream's end and those of the block collections stand where the row has them.
-use Rattle.std.proofs.Common.{◌≡◌, ℕ, suc, ◌+◌, ◌-◌, ◌≤◌, ◌<◌, List, [], ◌∷◌, ◌++◌, Bool, true, false, not, ◌&&◌, ◌||◌, ◌==◌, nat_lt, if◌then◌else◌, length, replicate, Option, Some, None, refl, ap, sym, ◌∙◌, subst, append_assoc, arith}
-use Rattle.std.proofs.lemmas.Bool.Decides.{nat_tests}
-use Rattle.defs_token.specs.Step.{Step}
-use Rattle.defs_token.specs.Key.{Line}
-use Rattle.defs_token.specs.FlowEntry.{Entry, takes_pair}
-use Rattle.defs_token.specs.RowAccount.{Account}
-use Rattle.defs_token.specs.Tokens.{put, stream_position, ends_with_stream}
-use Rattle.model_scanner.specs.Document.{next_line, ended_at}
-use Rattle.model_scanner.proofs.Holds.{Holds, went, tried, checked}
-use Rattle.yaml_tokens.specs.declared.problem.Fault.TheVariants.{At}
 use Rattle.yaml_tokens.specs.declared.problem.Problem.TheVariants as problem
 use Rattle.std.proofs.lemmas.List.{append-nil}
-use Rattle.proof_scanner.proofs.Common.{AreAround, AreCollections, AreEntries, Arrives, block_end, cleared, colon_of, Completes, ends_at, ends_here, entries_by, entry_by, fetch_stream_end, FlowLevel, Had, has_required, HasHad, have_no_key, Held, in_flow, Indent, is_empty, is_keyed, is_renewed, is_required, is_separation, is_waiting, IsTopLevel, Key, line_by, may_end, MayChoose, not_ended, outside_key, pop, Position, position_after, ScannerState, Site, site_here, stream_end, Token, tokens_up_to, top_key, unroll_indent, unrolled}
-use Rattle.defs_token.specs.Tokens.{tokens_at_end}
-use Rattle.defs_token.specs.Row.{IsRead}
+use Rattle.proof_scanner.proofs.Common.{[], Account, ap, append_assoc, AreAround, AreCollections, AreEntries, AreLevels, arith, Arrives, At, block_end, Bool, checked, chosen, cleared, colon_of, columns, Completes, ended_at, ends_at, ends_here, ends_with_stream, entries_by, Entry, entry_by, false, fetch_stream_end, FlowLevel, Had, has_required, HasHad, have_no_key, Held, Holds, if◌then◌else◌, in_flow, Indent, is_empty, is_keyed, is_renewed, is_required, is_separation, is_waiting, IsRead, IsTopLevel, Key, length, Line, line_by, List, may_end, MayChoose, nat_lt, nat_tests, next_line, None, not, not_ended, Option, outside_key, pop, Position, position_after, put, refl, replicate, ScannerState, Site, site_here, Some, Step, stream_end, stream_position, subst, suc, sym, takes_pair, Token, tokens_at_end, tokens_up_to, top_key, tried, true, unroll_indent, unrolled, went, with_keys, ℕ, ◌&&◌, ◌++◌, ◌+◌, ◌-◌, ◌<◌, ◌==◌, ◌||◌, ◌∙◌, ◌∷◌, ◌≡◌, ◌≤◌}
+use Rattle.proof_scanner.proofs.Cut.Documents.{unroll_keeps}
 use Rattle.proof_scanner.proofs.Sound.Completed.{completed_at_end}
-use Rattle.proof_scanner.specs.Choices.{chosen}
-use Rattle.proof_scanner.specs.Completes.{with_keys}
-use Rattle.proof_scanner.specs.StandsInRow.{columns, AreLevels}
 use Rattle.proof_scanner.proofs.Sound.NodesInside.{no_had, not_keyed}
 use Rattle.proof_scanner.proofs.Sound.NodesOutside.{no_line}
 
@@ -192,7 +178,7 @@ ends_by_levels end bs i ds a e =
 -- ---- the stream's end
 
 -- a key outside flow need not be one, if none must be
-outside_free : (es : List Entry) (ks : List (Option Key)) (p : Position) (rest : List ℕ) → has_required ks ≡ false → MayChoose false (outside_key es ks) p rest
+outside_free : (es : List Entry) (ks : List (Option Key)) (p : Position) (rest : List ℕ) → has_required ks ≡ false → MayChoose true false (outside_key es ks) p rest
 outside_free [] [] p rest h = tt
 outside_free [] (None ∷ ks) p rest h = tt
 outside_free [] (Some k ∷ ks) p rest h = by k.required h
@@ -216,7 +202,7 @@ at_end text t a e required =
     let last : a.separation ++ t.rest ≡ a.separation = ap (λ x. a.separation ++ x) e ∙ append-nil a.separation in
     let own : Completes text a.separation a.base (λ ws z. tokens_up_to a.base t.held.keys a.tokens ws z) =
     subst (λ x. Completes text a.separation x (λ ws z. tokens_up_to x t.held.keys a.tokens ws z)) (none_chosen t.held.keys a.base)
-    (subst (λ x. Completes text x none (λ ws z. tokens_up_to none t.held.keys a.tokens ws z)) last (a.completes false [] (outside_free a.base.entries t.held.keys t.held.position t.rest required))) in
+    (subst (λ x. Completes text x none (λ ws z. tokens_up_to none t.held.keys a.tokens ws z)) last (a.completes true false [] (outside_free a.base.entries t.held.keys t.held.position t.rest required))) in
     let whole : IsRead text (tokens_up_to a.base t.held.keys a.tokens [] a.separation ++ tokens_at_end (position_after a.base.site.position a.separation []) a.base.site.blocks a.base.entries) =
     completed_at_end text a.separation a.base (λ ws z. tokens_up_to a.base t.held.keys a.tokens ws z) (subst (λ x. is_separation false a.separation x ≡ true) e a.is_filled) ends own in
     let put_none : tokens_up_to a.base t.held.keys a.tokens [] a.separation ≡ a.tokens = none_put 0 a.base.site.position [] a.separation a.base.site.blocks a.base.line a.base.entries t.held.keys a.tokens a.no_key plain in
@@ -278,12 +264,16 @@ last_tokens h ts x (y ∷ es) e levels tokens blocks =
     in_flow_too h ts x.blocks y es (ap not e) (subst (λ b. h.tokens ≡ ts ++ ends_here (not b) h.position x.blocks) e tokens ∙ append-nil ts)
 
 -- At the text's end the stream ends, unless a key must still come to its colon, and the tokens are those of a row of the text.
-pub stream_ended : (text : List ℕ) (t : ScannerState) → Arrives text t → t.rest ≡ [] → Holds (λ u. (u.held.ended ≡ true) × IsRead text u.held.tokens) (fetch_stream_end t)
+pub stream_ended : (text : List ℕ) (t : ScannerState) → Arrives text t → t.rest ≡ [] →
+    Holds (λ u. (u.held.ended ≡ true) × IsRead text u.held.tokens × (u.held.started ≡ t.held.started) × (u.held.position ≡ next_line t.held.position)) (fetch_stream_end t)
 unfolding fetch_stream_end
 stream_ended text t a e =
+    let same : ((unroll_indent 0 (at_stream_end t.held)).position ≡ next_line t.held.position) × ((unroll_indent 0 (at_stream_end t.held)).started ≡ t.held.started) = unroll_keeps 0 (at_stream_end t.held) in
     tried t _ (checked (has_required t.held.keys) (At problem.KeyExpected (next_line t.held.position)) (λ none. went (
       refl,
       subst (λ x. IsRead text x)
           (sym (last_tokens t.held a.tokens a.base.site a.base.entries (same_flow t.held.key_allowed (is_renewed a.base.site.before a.separation) t.held.flow t.held.keys a.base.entries a.are_entries) a.are_levels a.tokens_are a.blocks_are))
           (at_end text t a e none),
+      same.1,
+      same.0,
     ))) (λ s p. p)

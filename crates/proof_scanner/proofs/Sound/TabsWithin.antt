@@ -1,7 +1,5 @@
 -- TABs among the blanks of a line, left of a column.
-use Rattle.std.proofs.Common.{◌≡◌, ℕ, zero, suc, ◌-◌, List, [], ◌∷◌, Bool, true, false, ◌&&◌, ◌==◌, nat_lt, take, refl, arith}
-use Rattle.std.proofs.lemmas.Bool.Decides.{nat_tests}
-use Rattle.proof_scanner.proofs.Common.{has_tab_within}
+use Rattle.proof_scanner.proofs.Common.{[], arith, Bool, false, has_tab_within, List, nat_lt, nat_tests, refl, suc, take, true, zero, ℕ, ◌&&◌, ◌-◌, ◌==◌, ◌∷◌, ◌≡◌}
 
 pub take_none : (n : ℕ) → ◌≡◌ {A = List ℕ} (take n []) []
 take_none zero = refl

@@ -1,26 +1,13 @@
 -- The way to the next token, or to the text's end, keeps what holds between two fetches, with the separation up to there.
-use Rattle.std.proofs.Common.{◌≡◌, ℕ, ◌+◌, ◌≤◌, List, [], ◌∷◌, ◌++◌, Bool, true, false, not, ◌&&◌, ◌||◌, ◌==◌, inl, inr, if◌then◌else◌, length, Option, Some, None, Ok, refl, ap, sym, ◌∙◌, subst, append_assoc, append-nil, arith}
-use Rattle.std.proofs.Math.Bool.{or-false, or-true}
-use Rattle.std.proofs.lemmas.List.{append_cancel_right}
-use Rattle.proof_scanner.proofs.Common.{after_separation, another, AreEntries, before_past, begins_free_line, begins_line, begins_separation, begins_white, BeginsButForKey, both_hold, Completes, flow_collection, FlowLevel, follows_plain, has_no_nul, has_tab_within, HasNoTabs, in_flow, Indent, is_at_comment_or_end, is_at_line_end, is_empty, is_free, is_indented_by_spaces, is_nul, is_one_of, is_renewed, is_separation, IsAdjacent, IsLine, IsLive, IsOpenHere, IsOpenOutside, IsReadOn, IsTakenBy, Key, least_column, NotBefore, outside_key, Position, position_after, position_append, Previous, quoted_scalar, ScannerState, skip_to_next_token, tokens_up_to, weakened}
-use Rattle.defs_text.specs.Classes.{is_break, is_blank}
-use Rattle.defs_token.specs.Step.{plain_scalar, block_scalar, directive, has_break}
-use Rattle.defs_token.specs.Indentation.{last_line}
-use Rattle.defs_token.specs.Key.{Line}
-use Rattle.defs_token.specs.FlowEntry.{Entry}
-use Rattle.defs_token.specs.RowAccount.{Account, before_by}
-use Rattle.model_scanner.specs.Space.{between}
-use Rattle.model_scanner.proofs.Holds.{Holds, went}
-use Rattle.proof_lexers.specs.PlainEnds.{is_white}
+use Rattle.proof_scanner.proofs.Common.{[], after_separation, another, ap, append_assoc, append_cancel_right, AreEntries, arith, before_by, before_past, begins_free_line, begins_line, begins_separation, begins_white, BeginsButForKey, between, block_scalar, Bool, both_hold, chosen, columns, directive, Entry, false, flow_collection, FlowLevel, follows_plain, has_break, has_no_nul, has_tab_within, HasNoTabs, Holds, if◌then◌else◌, in_flow, Indent, inl, inr, is_at_comment_or_end, is_at_line_end, is_blank, is_break, is_empty, is_free, is_indented_by_spaces, is_nul, is_one_of, is_renewed, is_separation, is_white, IsAdjacent, IsLine, IsLive, IsOpenHere, IsOpenOutside, IsReadOn, IsTakenBy, Key, KnowsKey, last_line, least_column, length, Line, List, None, not, Ok, Option, or-false, or-true, outside_key, plain_scalar, Position, position_after, position_append, Previous, quoted_scalar, refl, ScannerState, skip_to_next_token, SoFar, Some, Stands, subst, sym, tokens_up_to, true, weakened, went, ℕ, ◌&&◌, ◌++◌, ◌+◌, ◌==◌, ◌||◌, ◌∙◌, ◌∷◌, ◌≡◌, ◌≤◌}
 use Rattle.proof_lexers.specs.PlainEnds as plain_ends
 use Rattle.proof_lexers.proofs.Separation.EachSeparation.{no_nul_after}
 use Rattle.proof_scanner.proofs.Cut.Positions.{not_before_after, index_after}
 use Rattle.proof_scanner.proofs.Cut.Pieces.Separations.{separation_append}
 use Rattle.proof_scanner.proofs.Cut.Heres.{before_both}
 use Rattle.proof_scanner.proofs.Cut.Stoods.{adjacent_filled}
-use Rattle.proof_scanner.specs.Choices.{chosen}
-use Rattle.proof_scanner.specs.StandsInRow.{columns, Stands}
-use Rattle.proof_scanner.proofs.Sound.Sides.{StandsAt}
+use Rattle.proof_scanner.proofs.Known.Steps.{known_past}
+use Rattle.proof_scanner.proofs.Sound.Sides.{}
 use Rattle.proof_scanner.proofs.Sound.Arrivals.{unbroken}
 use Rattle.proof_scanner.proofs.Sound.LastLines.{last_whole, at_break, column_after, no_comment_in_last}
 use Rattle.proof_scanner.proofs.Sound.Skips.{Spaced, IsAt, IsIn, Cleared, skip_clears}
@@ -158,20 +145,11 @@ entries_after allowed again breaks (f ∷ fs) ks es h = h
 -- the line of an open key is that of the last piece's end, or before
 key_line : (k : Option Key) (q p : Position) (rest bs : List ℕ) (x : Key) → IsOpenOutside k q p rest bs → k ≡ Some x → x.position.line ≤ q.line
 key_line None q p rest bs x h e = absurd (cc e)
-key_line (Some k) q p rest bs x h e = let n : NotBefore k.position q = h.0 in subst (λ y. y ≤ q.line) (ap (λ o. line_of o) e) n.0
+key_line (Some k) q p rest bs x h e = subst (λ y. y ≤ q.line) (ap (λ o. line_of o) e) h.0.0
   where
     line_of : Option Key → ℕ
     line_of None = 0
     line_of (Some y) = y.position.line
-
--- What was passed of a separation, up to a token or the text's end, and what holds there.
-pub record PassedAt (text : List ℕ) (t : ScannerState) (base : Account) (separation : List ℕ) (u : ScannerState) : Type 0 where
-  pub part : List ℕ
-  pub cut : t.rest ≡ part ++ u.rest
-  pub solid : begins_separation u.rest ≡ false
-  pub position_is : u.held.position ≡ position_after t.held.position part u.rest
-  pub keys_are : u.held.keys ≡ t.held.keys
-  pub at : StandsAt text base (separation ++ part) u
 
 module _ (text : List ℕ) (t u : ScannerState) (s : Stands text t) (begins : begins_separation t.rest ≡ true) (e : Exact t u) (c : Cleared s.base.site.before (least_column s.base.site.blocks s.base.site.awaits) s.separation t.rest u) where
   same_passed : c.passed ≡ e.separation
@@ -242,24 +220,16 @@ module _ (text : List ℕ) (t u : ScannerState) (s : Stands text t) (begins : be
     started = s.started;
     going = s.going;
     carries = λ cs k key m i some. subst (λ r. BeginsButForKey text r k.position (chosen false cs t.held.keys s.base)) (ap (λ r. s.separation ++ r) e.cut ∙ sym (append_assoc s.separation e.separation u.rest)) (s.carries cs k key m i (goes_on e.separation t.rest u.rest e.cut some));
-    completes = λ x cs may. subst (λ r. Completes text r (chosen x cs t.held.keys s.base) (tokens_up_to (chosen x cs t.held.keys s.base) t.held.keys t.held.tokens))
+    knows = subst (λ r. KnowsKey text r (position_after t.held.position e.separation u.rest) (outside_key s.base.entries t.held.keys)) (ap (λ r. s.separation ++ r) e.cut ∙ sym (append_assoc s.separation e.separation u.rest))
+        (known_past text (s.separation ++ t.rest) t.held.position (outside_key s.base.entries t.held.keys) e.separation u.rest s.knows);
+    completes = λ strict x cs may. subst (λ r. SoFar strict text r (chosen x cs t.held.keys s.base) (tokens_up_to (chosen x cs t.held.keys s.base) t.held.keys t.held.tokens))
         (ap (λ r. s.separation ++ r) e.cut ∙ sym (append_assoc s.separation e.separation u.rest))
-        (s.completes x cs (may_before x (outside_key s.base.entries t.held.keys) t.held.position e.separation t.rest u.rest e.cut may));
+        (s.completes strict x cs (may_before strict x (outside_key s.base.entries t.held.keys) t.held.position e.separation t.rest u.rest e.cut may));
   }
 
-  now_at : StandsAt text s.base (s.separation ++ e.separation) Now
-  unfolding now
-  now_at = record { stands = now; base_is = refl; separation_is = refl }
-
-  passed_now : PassedAt text t s.base s.separation u
-  passed_now = record {
-    part = e.separation;
-    cut = e.cut;
-    solid = e.solid;
-    position_is = ap (λ v. v.held.position) e.is_state;
-    keys_are = ap (λ v. v.held.keys) e.is_state;
-    at = subst (λ v. StandsAt text s.base (s.separation ++ e.separation) v) (sym e.is_state) now_at;
-  }
+  -- at the next token, or at the text's end
+  passed_now : Stands text u × (begins_separation u.rest ≡ false)
+  passed_now = (subst (λ v. Stands text v) (sym e.is_state) now, e.solid)
 
 stayed : (t : ScannerState) → begins_separation t.rest ≡ false → skip_to_next_token t ≡ Ok t
 unfolding skip_to_next_token
@@ -270,16 +240,10 @@ unfolding skip_to_next_token
 cleared text t s begins =
     skip_clears s.base.site.before (least_column s.base.site.blocks s.base.site.awaits) t.rest between s.separation t.held (least_is s.base.site.blocks s.base.site.awaits t.held s.blocks_are s.awaits_is s.are_levels) (is_in text t s begins)
 
--- At the next token, or at the text's end, what holds between two fetches holds, with the account from before and the separation up to there.
-pub passed_at : (text : List ℕ) (t : ScannerState) → (s : Stands text t) → Holds (PassedAt text t s.base s.separation) (skip_to_next_token t)
-passed_at text t s = by (begins_separation t.rest) refl
-  where
-    at : StandsAt text s.base (s.separation ++ []) t
-    at = record { stands = s; base_is = refl; separation_is = sym (append-nil s.separation) }
-
-    by : (x : Bool) → begins_separation t.rest ≡ x → Holds (PassedAt text t s.base s.separation) (skip_to_next_token t)
-    by false h = subst (λ r. Holds (PassedAt text t s.base s.separation) r) (sym (stayed t h)) (went (record { part = []; cut = refl; solid = h; position_is = refl; keys_are = refl; at = at }))
-    by true h = weakened (λ u x. passed_now text t u s h x.0 x.1) (both_hold (exact t) (cleared text t s h))
-
+-- At the next token, or at the text's end, what holds between two fetches holds.
 pub passed_stands : (text : List ℕ) (t : ScannerState) → Stands text t → Holds (λ u. Stands text u × (begins_separation u.rest ≡ false)) (skip_to_next_token t)
-passed_stands text t s = weakened (λ u p. (p.at.stands, p.solid)) (passed_at text t s)
+passed_stands text t s = by (begins_separation t.rest) refl
+  where
+    by : (x : Bool) → begins_separation t.rest ≡ x → Holds (λ u. Stands text u × (begins_separation u.rest ≡ false)) (skip_to_next_token t)
+    by false h = subst (λ r. Holds (λ u. Stands text u × (begins_separation u.rest ≡ false)) r) (sym (stayed t h)) (went (s, h))
+    by true h = weakened (λ u x. passed_now text t u s h x.0 x.1) (both_hold (exact t) (cleared text t s h))

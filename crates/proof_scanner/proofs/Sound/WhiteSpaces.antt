@@ -1,19 +1,9 @@
 -- Spaces, breaks and comments after a `?`: what the model reads there is all of them, and no TAB is among them but in comments.
-use Rattle.std.proofs.Common.{◌≡◌, ℕ, List, [], ◌∷◌, ◌++◌, Bool, true, false, not, ◌&&◌, ◌||◌, ◌==◌, ◌⊎◌, inl, inr, if◌then◌else◌, slice_index, Result, Ok, Err, refl, ap, sym, ◌∙◌, subst}
-use Rattle.std.proofs.lemmas.Bool.{and_parts, eqb-true}
-use Rattle.std.proofs.lemmas.List.{append_cancel_right}
-use Rattle.proof_scanner.proofs.Common.{after_separation, begins_white_space, begins_with, begins_with_space_or_break, Fault, GoesOverAs, has_no_break, has_tab_before_piece, Held, held_of, is_at_gap, is_blank_or_end, is_cr_lf, is_nul, is_one_of, is_separation, misses, moved, or_true, same_break, ScannerState, skip_yaml_whitespace, weakened, white, white_space_is_passed}
+use Rattle.proof_scanner.proofs.Common.{[], after_separation, and_parts, ap, append_cancel_right, At, begins_white_space, begins_with, begins_with_space_or_break, Bool, eqb-true, Err, false, Fault, GoesOverAs, has_break, has_no_break, has_tab_before_piece, Held, held_of, Holds, if◌then◌else◌, inl, inr, is_at_gap, is_blank, is_blank_or_end, is_break, is_cr_lf, is_nul, is_one_of, is_separation, last_line, List, misses, moved, no_break_hash, not, Ok, or_false, or_true, past_line, refl, refused, Result, same_break, ScannerState, skip_yaml_whitespace, slice_index, subst, sym, true, weakened, went, white, white_end, white_space_is_passed, ℕ, ◌&&◌, ◌++◌, ◌==◌, ◌||◌, ◌∙◌, ◌∷◌, ◌≡◌, ◌⊎◌}
 use Rattle.yaml_chars.specs.Class as class
-use Rattle.defs_text.specs.Classes.{is_blank, is_break}
-use Rattle.defs_token.specs.Step.{has_break}
-use Rattle.defs_token.specs.Indentation.{last_line}
-use Rattle.model_scanner.specs.Space.{past_line, at_break, white_end}
-use Rattle.model_scanner.proofs.Holds.{Holds, went, refused}
+use Rattle.model_scanner.specs.Space.{at_break}
 use Rattle.proof_lexers.specs.Separations.{goes}
-use Rattle.proof_lexers.proofs.Separation.Separations.{no_break_hash}
-use Rattle.proof_lexers.proofs.Plain.Turns.{or_false}
 use Rattle.proof_scanner.proofs.Sound.LastLines.{last_first}
-use Rattle.yaml_tokens.specs.declared.problem.Fault.TheVariants.{At}
 use Rattle.yaml_tokens.specs.declared.problem.Problem.TheVariants as problem
 
 -- whether a character outside comments belongs to it

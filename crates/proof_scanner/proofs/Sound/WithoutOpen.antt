@@ -1,7 +1,5 @@
 -- The levels of indentation without those at the top that open no collection.
-use Rattle.std.proofs.Common.{◌≡◌, ℕ, zero, suc, ◌-◌, ◌<◌, ◌≤◌, List, [], ◌∷◌, Bool, true, false, not, if◌then◌else◌, Some, refl, ap, sym, subst, arith}
-use Rattle.proof_scanner.proofs.Common.{AreCollections, collection_of, has_open_level, Indent, IsTopLevel, Levels, Token, without_open}
-use Rattle.proof_scanner.specs.StandsInRow.{columns, AreLevels}
+use Rattle.proof_scanner.proofs.Common.{[], ap, AreCollections, AreLevels, arith, Bool, collection_of, columns, false, has_open_level, if◌then◌else◌, Indent, IsTopLevel, Levels, List, not, refl, Some, subst, suc, sym, Token, true, without_open, zero, ℕ, ◌-◌, ◌<◌, ◌∷◌, ◌≡◌, ◌≤◌}
 use Rattle.proof_scanner.proofs.Sound.BlockEnds.{IsLeast}
 
 -- What is known of these levels.

@@ -1,29 +1,23 @@
 -- A refusal for a fault that stands in a text by itself comes only where that fault stands.
-use Rattle.std.proofs.Common.{◌≡◌, ℕ, ◌+◌, List, [], ◌∷◌, Bool, true, false, ◌==◌, nat_lt, if◌then◌else◌, slice_index, Result, Err, refl, ap, sym, ◌∙◌, subst}
-use Rattle.proof_scanner.proofs.Common.{allow_key, begins_separation, Block, block, BlockStyle, both_hold, comes_marker, FaresAt, Fault, fetch, fetch_block_scalar, fetch_content, fetch_first_column, fetch_here, fetch_indented, fetch_next, fetch_plain_scalar, fetch_token, has_no_nul, Held, held_of, in_flow, indicator_of, is_at_gap, is_blank_or_breakz, is_empty, is_literal_style, Mapping, on_held, peek, Position, save_implicit_key, ScannerState, stale, start, Tok, unroll_indent, unroll_non_block_indents}
-use Rattle.defs_text.specs.BlockScalar.{literal, folded}
-use Rattle.model_scanner.specs.Machine.{Read}
+use Rattle.proof_scanner.proofs.Common.{[], allow_key, ap, Arrives, Block, block, BlockStyle, Bool, class_of, comes_marker, Err, false, Fares, Fault, fetch, fetch_block_scalar, fetch_content, fetch_first_column, fetch_here, fetch_indented, fetch_next, fetch_plain_scalar, fetch_token, folded, has_no_nul, Held, held_of, if◌then◌else◌, in_flow, indicator_of, is_at_gap, is_blank_or_breakz, is_empty, is_literal_style, is_shown, is_value, IsRefused, IsThere, List, literal, Mapping, nat_lt, on_held, over, peek, Position, Read, refl, Result, save_implicit_key, ScannerState, slice_index, Stands, subst, sym, Tok, token_by, true, unroll_indent, unroll_non_block_indents, ℕ, ◌+◌, ◌==◌, ◌∙◌, ◌∷◌, ◌≡◌}
 use Rattle.model_scanner.specs.BlockScalar.{Header}
 use Rattle.model_scanner.specs.declared.level.FlowLevel.TheVariants.{Entry}
 use Rattle.model_scanner.specs.State.{after}
-use Rattle.model_scanner.specs.Class.{class_of}
-use Rattle.model_scanner.specs.Fetch.{is_value, token_by}
-use Rattle.model_scanner.specs.Run.{IsRefused}
-use Rattle.model_scanner.proofs.Holds.{tried}
-use Rattle.model_scanner.proofs.Walk as walk
 use Rattle.proof_lexers.specs.BlockScan as block_scans
 use Rattle.proof_lexers.specs.BlockEnds as block_ends
 use Rattle.proof_lexers.specs.HeaderEnds as headers
 use Rattle.proof_lexers.proofs.Blocks.Ends as block_laws
-use Rattle.proof_scanner.specs.Faults.{IsThere, is_shown}
 use Rattle.proof_scanner.proofs.Cut.Pieces.Quoted.{some_chars}
-use Rattle.proof_scanner.proofs.Cut.Passes.{to_token}
-use Rattle.proof_scanner.proofs.Cut.Nodes.{clean_more, IsDeep}
-use Rattle.proof_scanner.proofs.Cut.Documents.{passed_stands}
+use Rattle.proof_scanner.proofs.Cut.Nodes.{IsDeep}
 use Rattle.proof_scanner.proofs.Cut.Characters.{Ordinary, of_all}
 use Rattle.proof_scanner.proofs.Cut.Dispatch.{gap_here}
-use Rattle.proof_scanner.proofs.Cut.Going.{started, started_is_kept}
-use Rattle.proof_scanner.proofs.Cut.Fetched.{Fresh, stale_stands, begins_with_this, Here, is_deep, goes_on_here, here_now, goes, over, Came, starts, fares, came}
+use Rattle.proof_scanner.proofs.Cut.Fetched.{begins_with_this, is_deep, goes_on_here}
+use Rattle.proof_scanner.specs.StandsInRow.{goes}
+use Rattle.proof_scanner.specs.StandsInRow as row
+use Rattle.proof_scanner.proofs.Refusals.Shortens.{stale_arrives}
+use Rattle.proof_scanner.proofs.Sound.Arrivals.{clean_after}
+use Rattle.proof_scanner.proofs.Sound.Sound.{fares_there}
+use Rattle.proof_scanner.proofs.Sound.ToToken.{passed_stands}
 use Rattle.proof_scanner.proofs.Cut.Faults.Shown.{Refuses, none, this, IsOther, IsTold, blamed, bound, chosen, on_holding, lexes, other_told, skip_other, stale_other}
 use Rattle.proof_scanner.proofs.Cut.Faults.Steps.{stream_end_other, directive_fetch_other, marker_other, document_end_other, anchor_fetch_other, tag_fetch_other, flow_end_other, entry_other, key_other, value_other}
 use Rattle.proof_scanner.proofs.Cut.Faults.Tokens.{flow_start_told, block_entry_told, flow_scalar_told, plain_scalar_told}
@@ -63,18 +57,18 @@ block_fetch_other false more t e clean =
 
 -- ---- the next token
 
-module _ (text : List ℕ) (t : ScannerState) (nul : has_no_nul text ≡ true) (s : FaresAt text t) (deep : IsDeep t.held) (some : is_empty t.rest ≡ false) (solid : begins_separation t.rest ≡ false) where
+module _ (text : List ℕ) (t : ScannerState) (nul : has_no_nul text ≡ true) (s : Arrives text t) (deep : IsDeep t.held) (some : is_empty t.rest ≡ false) where
   abbrev Tells : ℕ → Type 0
   Tells c = (more : List ℕ) → t.rest ≡ c ∷ more → Refuses (IsTold text) (token_by (class_of c) t)
 
   plain_told : Refuses (IsTold text) (fetch_plain_scalar t)
-  plain_told = plain_scalar_told text t nul s deep some solid
+  plain_told = plain_scalar_told text t nul s deep some s.is_solid
 
   gap_after : (c : ℕ) (more : List ℕ) → t.rest ≡ c ∷ more → is_blank_or_breakz (slice_index t.rest 1) ≡ is_at_gap more
   gap_after c more e = ap (λ l. is_blank_or_breakz (slice_index l 1)) e ∙ gap_here more
 
   block_told : (b : Bool) (more : List ℕ) → t.rest ≡ (if b then 124 else 62) ∷ more → Refuses (IsTold text) (fetch_block_scalar b t)
-  block_told b more e = other_told text (block_fetch_other b more t e (clean_more text t (if b then 124 else 62) more e s))
+  block_told b more e = other_told text (block_fetch_other b more t e (clean_after ((if b then 124 else 62) ∷ []) more (subst (λ r. has_no_nul r ≡ true) e s.is_clean)))
 
   ordinary_told : (c : ℕ) → Ordinary c → Tells c
   unfolding class_of
@@ -119,12 +113,12 @@ module _ (text : List ℕ) (t : ScannerState) (nul : has_no_nul text ≡ true) (
       by [] e n = absurd (cc n)
       by (c ∷ more) e n = rw (ap peek e) (each_told c more e)
 
-indented_told : (text : List ℕ) (t : ScannerState) → has_no_nul text ≡ true → is_empty t.rest ≡ false → Here text t → Refuses (IsTold text) (fetch_indented t)
+indented_told : (text : List ℕ) (t : ScannerState) → has_no_nul text ≡ true → is_empty t.rest ≡ false → Arrives text t → Refuses (IsTold text) (fetch_indented t)
 unfolding fetch_indented
 indented_told text t nul some h =
-    chosen (nat_lt (t.held.position.col + 1) t.held.indent) (λ e. other_told text (this refl)) (λ e. token_told text t nul h.stands (is_deep t.held.position.col t.held.indent e) some h.solid)
+    chosen (nat_lt (t.held.position.col + 1) t.held.indent) (λ e. other_told text (this refl)) (λ e. token_told text t nul h (is_deep t.held.position.col t.held.indent e) some)
 
-content_told : (text : List ℕ) (t : ScannerState) → has_no_nul text ≡ true → is_empty t.rest ≡ false → Here text t → Refuses (IsTold text) (fetch_content t)
+content_told : (text : List ℕ) (t : ScannerState) → has_no_nul text ≡ true → is_empty t.rest ≡ false → Arrives text t → Refuses (IsTold text) (fetch_content t)
 unfolding fetch_content fetch_first_column
 content_told text t nul some h =
     chosen (t.held.position.col == 0) (λ col.
@@ -132,27 +126,27 @@ content_told text t nul some h =
     chosen (comes_marker 45 t.rest) (λ e. other_told text (marker_other Tok.document_start t)) (λ _.
     chosen (comes_marker 46 t.rest) (λ e. other_told text (document_end_other t)) (λ _. indented_told text t nul some h)))) (λ _. indented_told text t nul some h)
 
-here_told : (text : List ℕ) (t : ScannerState) → has_no_nul text ≡ true → Here text t → Refuses (IsTold text) (fetch_here t)
+here_told : (text : List ℕ) (t : ScannerState) → has_no_nul text ≡ true → Arrives text t → Refuses (IsTold text) (fetch_here t)
 unfolding fetch_here
 here_told text t nul h = chosen (peek t.rest == 0) (λ e. other_told text (stream_end_other t)) (λ e. content_told text t nul (goes_on_here t.rest e) h)
 
-next_told : (text : List ℕ) (t : ScannerState) → has_no_nul text ≡ true → FaresAt text t → walk.Stands started t.held → Refuses (IsTold text) (fetch_next t)
+next_told : (text : List ℕ) (t : ScannerState) → has_no_nul text ≡ true → Stands text t → Refuses (IsTold text) (fetch_next t)
 unfolding fetch_next
-next_told text t nul s g =
+next_told text t nul s =
     bound (other_told text (skip_other t)) (λ u k.
-    let a = held_of u (both_hold (to_token t) (walk.to_token started started_is_kept t g)) k in
+    let a = held_of u (passed_stands text t s) k in
     bound (other_told text (on_holding u (stale_other u.held))) (λ v l.
-    let d = held_of v (tried {Q = λ v. (v ≡ record u { held = v.held }) × Fresh text u v.held × walk.Stands started v.held} u (stale u.held) (both_hold (stale_stands text u (passed_stands text t u a.0.passed s)) (walk.stale_dropped started started_is_kept u.held a.1)) (λ h d. (refl, d.0, d.1))) l in
-    bound (here_told text (on_held (λ h. unroll_indent (h.position.col + 1) h) v) nul (here_now text u v a.0.solid d.0 d.1 d.2)) (λ w m. other_told text (on_holding w (stale_other w.held)))))
+    let here : Arrives text (on_held (λ h. unroll_indent (h.position.col + 1) h) v) = held_of v (stale_arrives text u a.0 a.1) l in
+    bound (here_told text (on_held (λ h. unroll_indent (h.position.col + 1) h) v) nul here) (λ w m. other_told text (on_holding w (stale_other w.held)))))
 
 -- ---- refusals
 
-fetch_told : (text : List ℕ) (t : ScannerState) → has_no_nul text ≡ true → t.held.ended ≡ false → Came text t → Refuses (IsTold text) (fetch t)
+fetch_told : (text : List ℕ) (t : ScannerState) → has_no_nul text ≡ true → t.held.ended ≡ false → Fares text t → Refuses (IsTold text) (fetch t)
 unfolding fetch
-fetch_told text t nul going_on (starts e) = chosen t.held.started (λ k. let begun : false ≡ true = ap (λ (u : ScannerState). u.held.started) (sym e) ∙ k in absurd cc) (λ k. none)
-fetch_told text t nul going_on (fares (goes s g)) = chosen t.held.started (λ k. next_told text t nul s g) (λ k. none)
-fetch_told text t nul going_on (fares (over c e n)) = absurd (cc (e, going_on))
+fetch_told text t nul going_on (row.begins e) = chosen t.held.started (λ k. let begun : false ≡ true = ap (λ (u : ScannerState). u.held.started) (sym e) ∙ k in absurd cc) (λ k. none)
+fetch_told text t nul going_on (goes s) = chosen t.held.started (λ k. next_told text t nul s) (λ k. none)
+fetch_told text t nul going_on (over f r n) = absurd (cc (f, going_on))
 
 -- A text is refused for such a fault only where it stands in it.
 pub faults_stand : (text : List ℕ) (f : Fault) → has_no_nul text ≡ true → IsRefused text f → is_shown f ≡ true → IsThere text f
-faults_stand text f nul r shown = blamed f (fetch_told text r.last nul r.going (came text nul (start text) r.last r.run (starts refl))) r.refused shown
+faults_stand text f nul r shown = blamed f (fetch_told text r.last nul r.going (fares_there text nul r.last r.run)) r.refused shown

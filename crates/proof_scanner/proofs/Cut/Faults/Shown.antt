@@ -1,15 +1,8 @@
 -- Rules for what is said of a refusal, and the steps of the model whose refusals show nothing of the faults above.
-use Rattle.std.proofs.Common.{◌≡◌, ℕ, List, Bool, true, false, if◌then◌else◌, map, Result, Ok, Err, refl, subst}
-use Rattle.yaml_tokens.specs.declared.problem.Fault.TheVariants.{At}
+use Rattle.proof_scanner.proofs.Common.{At, between, Bool, drop_stale, Err, false, Fault, glued, go_on, GoesOverAs, Held, if◌then◌else◌, in_flow, is_overdue, is_required, is_shown, IsThere, lexed, List, list_any, map, misses, Ok, passes, PassesAs, Position, Read, refl, refuses, remove_implicit_key, Result, ScannerState, separations_are_passed, skip, skip_spaces, skip_to_next_token, skip_yaml_whitespace, SkipTabs, space, spaces, spaces_are_passed, SpacesAs, stale, still, subst, top_key, true, white, white_space_is_passed, Whitespace, with_held, ℕ, ◌>>=◌, ◌≡◌}
 use Rattle.yaml_tokens.specs.declared.problem.Problem.TheVariants as problem
-use Rattle.model_scanner.specs.Machine.{Read}
-use Rattle.model_scanner.specs.Blanks.{space}
-use Rattle.std.specs.List.{list_any}
-use Rattle.proof_scanner.proofs.Common.{drop_stale, Fault, glued, go_on, GoesOverAs, Held, in_flow, is_overdue, is_required, lexed, misses, PassesAs, Position, remove_implicit_key, ScannerState, separations_are_passed, skip, skip_spaces, skip_to_next_token, skip_yaml_whitespace, SkipTabs, spaces, spaces_are_passed, SpacesAs, stale, still, top_key, white, white_space_is_passed, Whitespace, with_held, ◌>>=◌}
 use Rattle.model_scanner.specs.Keys.{with_keys}
-use Rattle.model_scanner.specs.Space.{between}
-use Rattle.proof_lexers.specs.Separations.{passes, refuses, goes}
-use Rattle.proof_scanner.specs.Faults.{IsThere, is_shown}
+use Rattle.proof_lexers.specs.Separations.{goes}
 
 -- what holds of a result's fault, if it is one
 pub data Refuses {A : Type 0} (P : Fault → Type 0) : Result A Fault → Type 0 where

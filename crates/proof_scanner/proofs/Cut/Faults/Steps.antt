@@ -1,14 +1,9 @@
 -- Functions of the model whose refusals show nothing of the faults that stand in a text by themselves.
-use Rattle.std.proofs.Common.{◌≡◌, ℕ, List, ◌∷◌, Bool, ◌&&◌, ◌||◌, ◌==◌, not, nat_lt, slice_index, Option, Some, None, Result, Ok, Err, refl, ap, sym, ◌∙◌, subst}
-use Rattle.proof_scanner.proofs.Common.{begin_key, begin_keyless_mapping, begin_keyless_value, begin_line, begin_pair, check_after_tab, check_dash, check_document_end, check_key_space, check_value_space, closed_key, directives_end, end_entry, end_flow, ended_flow, Fault, fetch_anchor, fetch_directive, fetch_document_end, fetch_document_marker, fetch_flow_collection_end, fetch_flow_entry, fetch_key, fetch_stream_end, fetch_tag, fetch_value, has_required, Held, in_flow, insert_key, is_blank_or_breakz, is_breakz, Key, names_end, next_entry, No, node_start, on_held, paired, pass_indicator, peek, Position, Problem, problem_of, roll_entry, roll_indent, ScannerState, skip_indicator, tags_end, Tok, top_key, unroll_indent, UriFault, Whitespace, with_held, Yes}
+use Rattle.proof_scanner.proofs.Common.{anchor_name, ap, At, begin_key, begin_keyless_mapping, begin_keyless_value, begin_line, begin_pair, Bool, check_after_tab, check_dash, check_document_end, check_key_space, check_value_space, closed_key, directives_end, end_entry, end_flow, ended_flow, Err, Fault, fetch_anchor, fetch_directive, fetch_document_end, fetch_document_marker, fetch_flow_collection_end, fetch_flow_entry, fetch_key, fetch_stream_end, fetch_tag, fetch_value, has_required, Held, in_flow, insert_key, is_blank_or_breakz, is_breakz, Key, List, names_end, nat_lt, next_entry, No, no_character, no_octet, node_start, None, not, Ok, on_held, opens_pair, Option, paired, pass_indicator, peek, Position, Problem, problem_of, Read, refl, Result, roll_entry, roll_indent, ScannerState, skip_indicator, slice_index, Some, subst, sym, tags_end, Tok, top_key, unroll_indent, UriFault, Whitespace, with_held, wrong_lead, wrong_trail, Yes, ℕ, ◌&&◌, ◌==◌, ◌||◌, ◌∙◌, ◌∷◌, ◌≡◌}
 use Rattle.yaml_chars.specs.Class.{is_alpha}
-use Rattle.yaml_tokens.specs.declared.problem.Fault.TheVariants.{At}
-use Rattle.defs_text.specs.Tags.{no_octet, wrong_lead, wrong_trail, no_character}
-use Rattle.model_scanner.specs.Machine.{Read}
 use Rattle.model_scanner.specs.Directive.{directive}
-use Rattle.model_scanner.specs.Anchor.{anchor_name}
 use Rattle.model_scanner.specs.Tag as tags
-use Rattle.model_scanner.specs.Block.{opens_pair, value_of}
+use Rattle.model_scanner.specs.Block.{value_of}
 use Rattle.proof_lexers.specs.NameEnds as names
 use Rattle.proof_lexers.specs.TagEnds as tag_ends
 use Rattle.proof_lexers.specs.DirectiveEnds as directives

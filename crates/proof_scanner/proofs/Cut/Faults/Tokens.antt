@@ -1,55 +1,68 @@
 -- A token's refusal: what stands in the text.
-use Rattle.std.proofs.Common.{◌≡◌, ℕ, suc, ◌≤◌, List, [], ◌∷◌, ◌++◌, Bool, true, false, ◌||◌, ◌==◌, not, nat_le, nat_lt, length, if◌then◌else◌, None, Result, Ok, Err, refl, ap, sym, ◌∙◌, subst, arith}
-use Rattle.std.proofs.lemmas.Bool.Decides.{nat_tests}
-use Rattle.proof_scanner.proofs.Common.{account_past_row, account_past_separation, allow_key, begin_flow, begins_separation, check_after_quoted, check_block_entry, context, deepened_flow, FaresAt, Fault, fetch_block_entry, fetch_flow_collection_start, fetch_flow_scalar, fetch_plain_scalar, FlowLevel, has_no_nul, has_room, Held, in_flow, increase_flow_level, is_at_gap, is_empty, IsRow, Levels, levels_of, lexed, may_follow_quoted, node_start, on_held, peek, push, roll_one_col_indent, save_implicit_key, ScannerState, Style, Tok, unroll_non_block_indents, without_open, Yes}
-use Rattle.yaml_tokens.specs.declared.problem.Fault.TheVariants.{At}
+use Rattle.proof_scanner.proofs.Common.{[], account_past_separation, after_plain, allow_key, ap, AreAround, AreEntries, arith, Arrives, At, bad_escape, before_by, before_past, begin_flow, begins_separation, Bool, check_after_quoted, check_block_entry, Context, context, dash_in_flow, deepened_flow, Entry, entry_in_flow, Err, false, Fault, fetch_block_entry, fetch_flow_collection_start, fetch_flow_scalar, fetch_plain_scalar, FlowLevel, has_no_nul, has_room, Held, if◌then◌else◌, in_flow, increase_flow_level, is_at_gap, is_empty, is_renewed, IsCutUpTo, IsSpot, Key, length, Levels, lexed, List, marked_quote, may_follow_quoted, nat_le, nat_lt, nat_tests, node_start, None, not, Ok, on_held, open_quote, Option, peek, push, quote_of, Read, refl, Result, roll_one_col_indent, save_implicit_key, ScannerState, Style, subst, suc, sym, Tok, too_deep, true, unroll_non_block_indents, without_open, Yes, ℕ, ◌++◌, ◌==◌, ◌||◌, ◌∙◌, ◌∷◌, ◌≡◌, ◌≤◌}
 use Rattle.yaml_tokens.specs.declared.problem.Problem.TheVariants as problem
-use Rattle.defs_token.specs.Account.{first_account}
-use Rattle.defs_token.specs.Cut.{spelled}
-use Rattle.model_scanner.specs.declared.context.Context.{Context}
-use Rattle.model_scanner.specs.Machine.{Read}
 use Rattle.model_scanner.specs.Quoted as quotes
-use Rattle.model_scanner.specs.Quoted.{quote_of}
 use Rattle.model_scanner.specs.Plain as plains
-use Rattle.model_scanner.specs.Document.{after_plain}
 use Rattle.proof_lexers.specs.QuotedEnds as quoted_ends
 use Rattle.proof_lexers.proofs.Quoted.ScanEnds.{scans_end}
 use Rattle.proof_lexers.specs.PlainEnds as plain_ends
 use Rattle.proof_lexers.proofs.Plain.Scalars as plain_laws
-use Rattle.proof_scanner.specs.Faults.{IsSpot, bad_escape, open_quote, marked_quote, too_deep, entry_in_flow, dash_in_flow}
 use Rattle.proof_scanner.proofs.Cut.Pieces.Quoted.{some_chars}
 use Rattle.proof_scanner.proofs.Cut.Saved.{saved_keys, saved_is}
-use Rattle.proof_scanner.proofs.Cut.Levels.{one_indents, one_indent, rolled_one_is, without_is}
-use Rattle.proof_scanner.proofs.Cut.Nodes.{account_now, same_flow, clean_more, IsDeep}
-use Rattle.proof_scanner.proofs.Cut.Documents.{whole_text}
+use Rattle.proof_scanner.proofs.Cut.Levels.{one_indents, one_indent, rolled_one_is}
+use Rattle.proof_scanner.proofs.Sound.Arrivals.{clean_after}
+use Rattle.proof_scanner.proofs.Sound.WithoutOpen.{without_is}
+use Rattle.defs_token.specs.Account.{Account}
+use Rattle.proof_row.proofs.CutPieces.{account_by}
+use Rattle.proof_row.proofs.CutSteps.{somes, with_key, levels_in}
+use Rattle.proof_scanner.proofs.Cut.Nodes.{IsDeep}
+use Rattle.proof_scanner.proofs.Sound.CutsSoFar.{arrives_cut}
 use Rattle.proof_scanner.proofs.Cut.Faults.Shown.{Refuses, none, this, IsOther, IsTold, bound, chosen, on_holding, lexes, other_told, skip_other, spaces_other}
 use Rattle.proof_scanner.proofs.Cut.Faults.Steps.{indicator_other, block_entry_other}
 
--- where the scanner's model stands is a position after a row of pieces
-pub spot_of : (text : List ℕ) (t : ScannerState) → has_no_nul text ≡ true → (s : FaresAt text t) → IsSpot text t.rest (account_now text t s)
-spot_of text t nul s =
-    let x = s.stood in
+-- the account where a piece begins
+abbrev account_now : (text : List ℕ) (t : ScannerState) → Arrives text t → Account
+account_now text t a = account_by t.held.position (before_past (before_by a.base.site.before) a.separation) (somes (with_key a.base.site.blocks a.base.line)) (levels_in a.base.entries)
+
+around_many : (fs : List FlowLevel) (ks : List (Option Key)) (es : List Entry) → AreAround fs ks es → length (levels_in es) ≡ length fs
+around_many [] ks [] a = refl
+around_many (f ∷ fs) (k ∷ ks) (e ∷ es) a = ap suc (around_many fs ks es a.2)
+around_many [] ks (e ∷ es) a = absurd a
+around_many (f ∷ fs) [] es a = absurd a
+around_many (f ∷ fs) (k ∷ ks) [] a = absurd a
+
+entries_many : (allowed again : Bool) (fs : List FlowLevel) (ks : List (Option Key)) (es : List Entry) → AreEntries allowed again fs ks es → (length (levels_in es) ≡ length fs) × (is_empty (levels_in es) ≡ is_empty fs)
+entries_many allowed again [] ks [] a = (refl, refl)
+entries_many allowed again (f ∷ fs) (k ∷ ks) (e ∷ es) a = (ap suc (around_many fs ks es a.2), refl)
+entries_many allowed again [] ks (e ∷ es) a = absurd a
+entries_many allowed again (f ∷ fs) [] es a = absurd a
+entries_many allowed again (f ∷ fs) (k ∷ ks) [] a = absurd a
+
+-- where a piece begins is a position after a row of pieces
+spot_of : (text : List ℕ) (t : ScannerState) → (a : Arrives text t) → IsSpot text t.rest (account_now text t a)
+spot_of text t a =
+    let c : IsCutUpTo text (a.separation ++ t.rest) a.base a.tokens = arrives_cut text t a in
     record {
-      row = x.row;
-      separation = x.here.separation;
-      is_text = ap (λ r. spelled x.row r) (sym x.here.is_after) ∙ x.here.is_text ∙ sym (whole_text text nul);
-      is_row = subst (λ r. IsRow first_account x.row r None) x.here.is_after (x.here.is_row None);
-      is_filled = x.here.is_filled;
-      is_account = ap (λ r. account_past_separation (account_past_row first_account x.row r) x.here.separation t.rest) (sym x.here.is_after) ∙ x.here.is_here;
+      row = c.row;
+      separation = a.separation;
+      is_text = c.is_text;
+      is_row = c.is_row.is_row None;
+      is_filled = a.is_filled;
+      is_account = ap (λ b. account_past_separation b a.separation t.rest) c.is_row.past ∙
+          ap (λ p. account_by p (before_past (before_by a.base.site.before) a.separation) (somes (with_key a.base.site.blocks a.base.line)) (levels_in a.base.entries)) (sym a.position_is);
     }
 
-module _ (text : List ℕ) (t : ScannerState) (nul : has_no_nul text ≡ true) (s : FaresAt text t) where
+module _ (text : List ℕ) (t : ScannerState) (nul : has_no_nul text ≡ true) (s : Arrives text t) where
   spot : (rest : List ℕ) → t.rest ≡ rest → IsSpot text rest (account_now text t s)
-  spot rest e = subst (λ r. IsSpot text r (account_now text t s)) e (spot_of text t nul s)
+  spot rest e = subst (λ r. IsSpot text r (account_now text t s)) e (spot_of text t s)
+
+  many : (length (levels_in s.base.entries) ≡ length t.held.flow) × (is_empty (levels_in s.base.entries) ≡ is_empty t.held.flow)
+  many = entries_many t.held.key_allowed (is_renewed s.base.site.before s.separation) t.held.flow t.held.keys s.base.entries s.are_entries
 
   -- ---- a flow collection too deep
 
-  length_levels : (fs : List FlowLevel) → length (levels_of fs) ≡ length fs
-  length_levels [] = refl
-  length_levels (f ∷ fs) = ap suc (length_levels fs)
-
   no_room : nat_le 255 (length t.held.flow) ≡ true → has_room (account_now text t s) ≡ false
-  no_room h = rw (length_levels t.held.flow) (full (length t.held.flow) h)
+  no_room h = rw many.0 (full (length t.held.flow) h)
     where
       full : (n : ℕ) → nat_le 255 n ≡ true → nat_lt n 255 ≡ false
       full n h = grind (arith, nat_tests)
@@ -87,7 +100,7 @@ module _ (text : List ℕ) (t : ScannerState) (nul : has_no_nul text ≡ true) (
 
       by : (out : Bool) → is_empty t.held.flow ≡ out → Refuses (IsTold text) (checks (not out))
       by true o = other_told text (chosen (not t.held.key_allowed) (λ l. this refl) (λ l. none))
-      by false o = this (λ _. entry_in_flow (account_now text t s) rest (spot (45 ∷ rest) e) gap (same_flow t.held.flow ∙ ap not o))
+      by false o = this (λ _. entry_in_flow (account_now text t s) rest (spot (45 ∷ rest) e) gap (ap not (many.1 ∙ o)))
 
   -- ---- quoted scalars
 
@@ -107,7 +120,7 @@ module _ (text : List ℕ) (t : ScannerState) (nul : has_no_nul text ≡ true) (
       subst (λ r. Refuses (IsTold text) (quotes.quoted single ctx r t.held.position)) (sym e) (by (quotes.quoted single ctx (quote_of single ∷ rest) t.held.position) (scans_end single ctx rest t.held.position (some_chars rest clean)))
     where
       clean : has_no_nul rest ≡ true
-      clean = clean_more text t (quote_of single) rest e s
+      clean = clean_after (quote_of single ∷ []) rest (subst (λ r. has_no_nul r ≡ true) e s.is_clean)
 
       by : (x : Result (Read (List ℕ)) Fault) → quoted_ends.QuotedEndsAs single ctx t.held.position rest x → Refuses (IsTold text) x
       by x (quoted_ends.reads body more value position cut is ends k) = rw k none
@@ -128,7 +141,7 @@ module _ (text : List ℕ) (t : ScannerState) (nul : has_no_nul text ≡ true) (
   plain_why_told : (ctx : Context) (f : Fault) → ctx.flow ≡ in_flow t.held → plain_ends.IsPlainRefusal ctx t.held.position t.rest f → IsTold text f
   plain_why_told ctx f e (plain_ends.by_column flow left) = λ z. absurd (cc z)
   plain_why_told ctx f e (plain_ends.by_dash before rest deep free flow cut begins over apart) = λ _.
-      dash_in_flow (account_now text t s) before rest (spot (before ++ 45 ∷ rest) cut) begins (same_flow t.held.flow ∙ sym e ∙ flow) apart
+      dash_in_flow (account_now text t s) before rest (spot (before ++ 45 ∷ rest) cut) begins (ap not many.1 ∙ sym e ∙ flow) apart
   plain_why_told ctx f e (plain_ends.by_tab deep tab) = λ z. absurd (cc z)
 
   solid_text : (l : List ℕ) → is_empty l ≡ false → begins_separation l ≡ false → plain_ends.begins_solid l ≡ true
@@ -146,10 +159,10 @@ module _ (text : List ℕ) (t : ScannerState) (nul : has_no_nul text ≡ true) (
   around = record { flow = in_flow t.held; indent = gone.indent }
 
   plain_told : IsDeep t.held → is_empty t.rest ≡ false → begins_separation t.rest ≡ false → Refuses (IsTold text) (plains.plain around t.rest t.held.position)
-  plain_told deep some solid = by (plains.plain around t.rest t.held.position) (plain_laws.scans_end around t.rest t.held.position s.stood.here.is_clean (solid_text t.rest some solid) indented)
+  plain_told deep some solid = by (plains.plain around t.rest t.held.position) (plain_laws.scans_end around t.rest t.held.position s.is_clean (solid_text t.rest some solid) indented)
     where
       shallow : gone.indent ≤ t.held.indent
-      shallow = (without_is t.held.indent t.held.indents t.held.tokens s.stood.are_levels).not_deeper
+      shallow = (without_is t.held.indent t.held.indents t.held.tokens s.are_levels).not_deeper
 
       in_position : (b : Bool) (x y : ℕ) → x ≤ suc y → (b || nat_le x (suc y)) ≡ true
       in_position true x y h = refl

@@ -1,20 +1,11 @@
 -- What the scan of a block scalar reads is its piece.
-use Rattle.std.proofs.Common.{◌≡◌, ℕ, zero, suc, ◌<◌, ◌≤◌, List, [], ◌∷◌, ◌++◌, Bool, true, false, ◌&&◌, ◌==◌, ◌⊎◌, inl, inr, not, nat_lt, if◌then◌else◌, Option, Some, None, Result, Ok, refl, ap, subst, ◌∙◌, arith}
-use Rattle.std.proofs.lemmas.Bool.{and_parts, eqb-true}
-use Rattle.std.proofs.lemmas.Bool.Decides.{nat_tests}
-use Rattle.proof_scanner.proofs.Common.{are_marks, begins_with, Block, block, block_position, block_read, block_value, BlockEndsAs, BlockRead, BlockStyle, body, collection_column, collection_of, column_of, Fault, further_position, further_text, has_no_nul, header_of, indicator_of, is_at_end, is_before_line_feed, is_document_marker, is_empty, is_literal_style, is_nul, is_past, is_separation, IsPiece, past_spaces, Position, position_after, position_past, put_first, read_block, read_body, read_lines, ReadAs, scalar, split, split_by, Style, Tok, with_value}
-use Rattle.defs_text.specs.Classes.{space, is_blank, is_break}
-use Rattle.defs_text.specs.Breaks.{ends_line}
-use Rattle.defs_text.specs.BlockScalar.{literal, folded, Header, is_outside, is_further_text}
+use Rattle.proof_scanner.proofs.Common.{[], and_parts, ap, are_marks, arith, bad_header, begins_with, Block, block, block_position, block_read, block_value, BlockEndsAs, BlockIsRead, BlockRead, BlockStyle, body, Bool, collection_column, collection_of, column_of, ends_line, eqb-true, false, Fault, folded, further_position, further_text, has_no_nul, Header, header_of, if◌then◌else◌, indicator_of, inl, inr, is_at_end, is_before_line_feed, is_blank, is_break, is_document_marker, is_empty, is_further_text, is_literal_style, is_nul, is_outside, is_past, is_separation, IsBlockScalar, IsPiece, List, literal, nat_lt, nat_tests, None, not, Ok, Option, past_spaces, Position, position_after, position_past, put_first, Read, read_block, read_body, read_lines, ReadAs, refl, Result, scalar, Some, split, split_by, Style, subst, suc, tabbed, Tok, true, with_value, without_spaces, zero, ℕ, ◌&&◌, ◌++◌, ◌<◌, ◌==◌, ◌∙◌, ◌∷◌, ◌≡◌, ◌≤◌, ◌⊎◌}
+use Rattle.defs_text.specs.Classes.{space}
 use Rattle.defs_token.specs.Account.{Account, is_in_flow}
-use Rattle.defs_token.specs.Piece.{IsBlockScalar}
-use Rattle.model_scanner.specs.Machine.{Read}
-use Rattle.proof_lexers.specs.BlockScan.{without_spaces, read, shallow, tabbed}
-use Rattle.proof_lexers.specs.BlockEnds.{bad_header}
+use Rattle.proof_lexers.specs.BlockScan.{read, shallow}
 use Rattle.proof_lexers.specs.BlockEnds as ends
 use Rattle.proof_lexers.proofs.Blocks.Ends.{scans_end}
 use Rattle.proof_lexers.proofs.Separation.EachSeparation.{no_nul_after}
-use Rattle.proof_scanner.specs.PiecesRead.{BlockIsRead}
 use Rattle.proof_scanner.proofs.Cut.Pieces.Quoted.{some_chars}
 
 -- ---- the spaces after a piece

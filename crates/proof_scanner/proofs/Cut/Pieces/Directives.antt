@@ -1,14 +1,8 @@
 -- What the scan of a directive reads is its piece.
-use Rattle.std.proofs.Common.{◌≡◌, ℕ, List, [], ◌∷◌, ◌++◌, Bool, true, false, ◌||◌, ◌==◌, inl, inr, if◌then◌else◌, take, drop, Option, Result, Ok, refl, ap, subst, ◌∙◌}
-use Rattle.std.proofs.lemmas.Bool.{and_parts, eqb-true}
-use Rattle.proof_scanner.proofs.Common.{Directive, DirectiveEndsAs, directives_end, Fault, has_no_break, is_at_line_end, is_before_line_feed, is_separation, IsPiece, position_append, ReadAs, reserved, tag_declaration, Tok, version}
-use Rattle.defs_text.specs.Classes.{is_blank, is_break}
+use Rattle.proof_scanner.proofs.Common.{[], and_parts, ap, Bool, Directive, DirectiveEndsAs, DirectiveIsRead, directives_end, drop, eqb-true, false, Fault, first_break, has_no_break, if◌then◌else◌, inl, inr, is_at_line_end, is_before_line_feed, is_blank, is_break, is_directive_token, is_separation, IsDirective, IsPiece, List, Ok, Option, position_append, Read, ReadAs, reads, refl, reserved, Result, subst, tag_declaration, take, Tok, token_of, true, version, ℕ, ◌++◌, ◌==◌, ◌||◌, ◌∙◌, ◌∷◌, ◌≡◌}
 use Rattle.defs_token.specs.Account.{Account}
-use Rattle.defs_token.specs.Piece.{IsDirective}
-use Rattle.model_scanner.specs.Machine.{Read}
 use Rattle.model_scanner.specs.Directive.{directive}
-use Rattle.proof_lexers.specs.DirectiveEnds.{token_of, ends_line, first_break, next_line, after_line, reads, refuses}
-use Rattle.proof_scanner.specs.PiecesRead.{is_directive_token, DirectiveIsRead}
+use Rattle.proof_lexers.specs.DirectiveEnds.{ends_line, next_line, after_line, refuses}
 
 -- ---- the break after a directive
 

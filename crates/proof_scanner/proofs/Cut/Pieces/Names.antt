@@ -1,13 +1,6 @@
 -- What the scan of an anchor's or an alias's name reads is its piece.
-use Rattle.std.proofs.Common.{◌≡◌, ℕ, ◌+◌, List, [], ◌∷◌, ◌++◌, Bool, true, false, ◌&&◌, ◌||◌, ◌==◌, not, if◌then◌else◌, length, Option, Result, Ok, refl, ap, arith}
-use Rattle.std.proofs.lemmas.Bool.{and_parts}
-use Rattle.proof_scanner.proofs.Common.{all_of, anchor_token, Fault, further, goes_on_with_name, has_no_break, is_anchor_name, is_blank_or_end, is_name, is_nul, IsPiece, NameEndsAs, nameless, names_end, position_after, position_in_line, ReadAs, Tok}
-use Rattle.defs_text.specs.Classes.{is_blank, is_break, is_flow}
+use Rattle.proof_scanner.proofs.Common.{[], after_name, all_of, anchor_name, anchor_token, and_parts, ap, arith, Bool, false, Fault, further, goes_on_with_name, has_no_break, if◌then◌else◌, is_anchor_name, is_blank, is_blank_or_end, is_break, is_flow, is_name, is_nul, IsPiece, length, List, named, NameEndsAs, NameIsRead, nameless, names_end, not, Ok, Option, position_after, position_in_line, Read, ReadAs, refl, Result, Tok, true, ℕ, ◌&&◌, ◌++◌, ◌+◌, ◌==◌, ◌||◌, ◌∷◌, ◌≡◌}
 use Rattle.defs_token.specs.Account.{Account}
-use Rattle.model_scanner.specs.Machine.{Read}
-use Rattle.model_scanner.specs.Anchor.{anchor_name}
-use Rattle.proof_lexers.specs.NameEnds.{after_name, named}
-use Rattle.proof_scanner.specs.PiecesRead.{NameIsRead}
 
 -- ---- no break stands among the characters of a class that has none
 

@@ -1,21 +1,10 @@
 -- What the scan of a plain scalar reads is its piece.
-use Rattle.std.proofs.Common.{◌≡◌, ℕ, List, [], ◌∷◌, ◌++◌, Bool, true, false, ◌&&◌, ◌||◌, ◌==◌, not, nat_lt, if◌then◌else◌, Some, Result, Ok, slice_index, refl, ap, sym, subst, ◌∙◌}
-use Rattle.std.specs.Prelude.{codes}
-use Rattle.std.proofs.lemmas.Bool.{and_parts, eqb-true}
-use Rattle.proof_scanner.proofs.Common.{at_dash, begins_flow, begins_plain, begins_solid, collection_column, collection_of, comes_plain, Fault, is_adjacent, is_at_gap, is_blank_or_end, is_document_marker, is_nul, is_one_of, is_separation, is_value_indicator, is_whole_plain, may_begin, Plain, PlainEndsAs, Position, position_after, position_append, ReadAs, scalar}
+use Rattle.proof_scanner.proofs.Common.{[], and_parts, ap, at_dash, begins_flow, begins_plain, begins_solid, Bool, codes, collection_column, collection_of, comes_plain, Context, eqb-true, false, Fault, if◌then◌else◌, is_adjacent, is_at_gap, is_blank, is_blank_or_end, is_break, is_document_marker, is_flow, is_nul, is_one_of, is_separation, is_value_indicator, is_white, is_whole_plain, List, may_begin, nat_lt, not, Ok, Plain, plain, plain_value, PlainEndsAs, PlainIsRead, Position, position_after, position_append, Read, ReadAs, refl, Result, scalar, scans_end, slice_index, Some, starts, subst, sym, true, ℕ, ◌&&◌, ◌++◌, ◌==◌, ◌||◌, ◌∙◌, ◌∷◌, ◌≡◌}
 use Rattle.yaml_chars.specs.Class as model_classes
-use Rattle.defs_token.specs.Token.{plain}
-use Rattle.defs_text.specs.Classes.{is_blank, is_break, is_flow}
-use Rattle.defs_text.specs.FlowScalar.{plain_value}
 use Rattle.defs_token.specs.Account.{Account, is_in_flow}
-use Rattle.model_scanner.specs.declared.context.Context.{Context}
-use Rattle.model_scanner.specs.Machine.{Read}
-use Rattle.model_scanner.specs.Plain.{starts, plain_from}
 use Rattle.model_scanner.specs.Plain as models
 use Rattle.proof_lexers.proofs.Bridges.{same_flow}
-use Rattle.proof_lexers.specs.PlainEnds.{is_white, after_plain, reads, refuses}
-use Rattle.proof_lexers.proofs.Plain.Scalars.{scans_end}
-use Rattle.proof_scanner.specs.PiecesRead.{PlainIsRead}
+use Rattle.proof_lexers.specs.PlainEnds.{after_plain, reads, refuses}
 use Rattle.proof_scanner.proofs.Cut.Pieces.Separations.{gap_is_separation}
 
 -- ---- a plain scalar begins with content

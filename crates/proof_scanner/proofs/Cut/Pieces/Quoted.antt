@@ -1,24 +1,12 @@
 -- What the scan of a quoted scalar reads is its piece.
-use Rattle.std.proofs.Common.{◌≡◌, ℕ, zero, suc, ◌+◌, ◌*◌, List, [], ◌∷◌, ◌++◌, Bool, true, false, ◌&&◌, ◌||◌, ◌==◌, not, nat_lt, if◌then◌else◌, slice_index, Option, Some, Result, Ok, Err, refl, ap, sym, subst, ◌∙◌, append_assoc}
-use Rattle.std.specs.List.{list_all}
-use Rattle.std.specs.Char.{digit_value}
-use Rattle.std.proofs.lemmas.Bool.{and_parts, eqb-true}
-use Rattle.std.proofs.lemmas.List.{append_cancel_right}
-use Rattle.proof_scanner.proofs.Common.{begins_with, fail, Fault, gap, has_no_nul, in_line_position, is_before_line_feed, is_cr_lf, IsPiece, on, past_break, Position, position_after, position_past, quoted_style, QuotedEndsAs, ReadAs, run, same_break, scalar, stop, Tok, Turn, turned}
-use Rattle.yaml_chars.specs.Class.{is_break, is_blank, is_hex}
-use Rattle.yaml_tokens.specs.declared.problem.Fault.TheVariants.{At}
+use Rattle.proof_scanner.proofs.Common.{[], and_parts, ap, append_assoc, append_cancel_right, At, at_backslash, at_digit, at_escaped_break, at_inside, at_line, at_named, at_quote, begins_with, Bool, breaking, closed, Context, digit_value, digits, doubled, end_in, ends_before, eqb-true, Err, Escape, escape_of, fail, false, Fault, gap, has_no_nul, if◌then◌else◌, in_line, in_line_position, inside, is_before_line_feed, is_cr_lf, is_hex, is_scalar, is_some, IsPiece, joined, line_position, List, list_all, Mode, nat_lt, not, nothing, Ok, on, Option, past, past_break, Position, position_after, position_past, quote_of, quoted, quoted_from, quoted_style, QuotedEndsAs, QuotedIsRead, QuotedState, Read, ReadAs, refl, Result, run, same_break, same_feed, scalar, slice_index, Some, Stop, stop, subst, suc, sym, Tok, true, Turn, turned, unless, value_of, zero, ℕ, ◌&&◌, ◌*◌, ◌++◌, ◌+◌, ◌==◌, ◌||◌, ◌∙◌, ◌∷◌, ◌≡◌}
+use Rattle.yaml_chars.specs.Class.{is_break, is_blank}
 use Rattle.yaml_tokens.specs.declared.problem.Problem.TheVariants as problem
 use Rattle.defs_text.specs.Classes as classes
 use Rattle.defs_token.specs.Account.{Account}
-use Rattle.model_scanner.specs.declared.context.Context.{Context}
-use Rattle.model_scanner.specs.Machine.{Stop, Read, past}
-use Rattle.model_scanner.specs.Folding.{nothing, joined}
-use Rattle.model_scanner.specs.Quoted.{Mode, first, inside, breaking, after, doubled, named, digits, closed, QuotedState, Escape, escape_of, is_scalar, quote_of, at_char, at_break, at_gap, at_escaped_break, at_quote, at_backslash, at_inside, at_named, at_digit, refused, unless, in_line, at_line, turn_in, turn, end_in, ended, quoted_from, quoted}
-use Rattle.proof_lexers.specs.QuotedScan.{value_of, ends_before, is_some}
+use Rattle.model_scanner.specs.Quoted.{first, after, named, at_char, at_break, at_gap, refused, turn_in, turn, ended}
 use Rattle.proof_lexers.specs.QuotedEnds.{reads, refuses}
 use Rattle.proof_lexers.proofs.Quoted.ScanEnds.{scans_end}
-use Rattle.proof_lexers.proofs.Plain.Turns.{same_feed, line_position}
-use Rattle.proof_scanner.specs.PiecesRead.{QuotedIsRead}
 
 -- ---- the position goes along with the characters
 

@@ -1,5 +1,5 @@
 -- Each lexing function reads a piece of the cut, and a separation after it.
-use Rattle.proof_scanner.specs.PiecesRead.{PiecesAreRead}
+use Rattle.proof_scanner.proofs.Common.{PiecesAreRead}
 use Rattle.proof_scanner.proofs.Cut.Pieces.Plains.{plain_is_read}
 use Rattle.proof_scanner.proofs.Cut.Pieces.Quoted.{quoted_is_read}
 use Rattle.proof_scanner.proofs.Cut.Pieces.Blocks.{block_is_read}

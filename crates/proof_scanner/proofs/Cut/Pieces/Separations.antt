@@ -1,9 +1,5 @@
 -- Separations, one after another.
-use Rattle.std.proofs.Common.{◌≡◌, ℕ, List, [], ◌∷◌, ◌++◌, Bool, true, false, ◌||◌, ◌==◌, not, refl}
-use Rattle.std.proofs.lemmas.Bool.{and_parts, eqb-true}
-use Rattle.proof_scanner.proofs.Common.{has_no_break, is_gap, is_nul, is_separation}
-use Rattle.defs_text.specs.Classes.{is_blank, is_break}
-use Rattle.proof_lexers.specs.PlainEnds.{is_white}
+use Rattle.proof_scanner.proofs.Common.{[], and_parts, Bool, eqb-true, false, has_no_break, is_blank, is_break, is_gap, is_nul, is_separation, is_white, List, not, refl, true, ℕ, ◌++◌, ◌==◌, ◌||◌, ◌∷◌, ◌≡◌}
 
 pub no_break_append : (a b : List ℕ) → has_no_break a ≡ true → has_no_break b ≡ true → has_no_break (a ++ b) ≡ true
 no_break_append [] b h k = k

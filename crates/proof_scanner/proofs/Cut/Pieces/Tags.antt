@@ -1,15 +1,9 @@
 -- What the scan of a tag reads is its piece.
-use Rattle.std.proofs.Common.{◌≡◌, ℕ, List, [], ◌∷◌, ◌++◌, Bool, true, false, ◌||◌, ◌==◌, if◌then◌else◌, Some, None, Result, Ok, codes, refl, ap}
-use Rattle.std.proofs.lemmas.Bool.{and_parts, eqb-true}
-use Rattle.proof_scanner.proofs.Common.{after_tag, all_of, begins_with_mark, decoded, Fault, has_no_break, is_decimal_digit, is_letter, is_uri, leading, may_follow, position_in_line, ReadAs, TagEndsAs, tags_end, Tok, written_tag}
-use Rattle.defs_text.specs.Classes.{is_break, is_alpha, is_tag}
-use Rattle.defs_text.specs.Tags.{Tag, after, is_same, tag_by, tag_of_class, verbatim, named, shorthand}
+use Rattle.proof_scanner.proofs.Common.{[], after, after_tag, all_leading, all_of, and_parts, ap, begins_with_mark, Bool, codes, decoded, eqb-true, false, Fault, has_no_break, if◌then◌else◌, is_alpha, is_break, is_decimal_digit, is_letter, is_same, is_tag, is_uri, leading, List, may_follow, None, Ok, position_in_line, Read, ReadAs, refl, Result, shorthand, Some, span_cut, Tag, tag_by, tag_of_class, TagEndsAs, TagIsRead, tags_end, Tok, true, verbatim, written_tag, ℕ, ◌++◌, ◌==◌, ◌||◌, ◌∷◌, ◌≡◌}
+use Rattle.defs_text.specs.Tags.{named}
 use Rattle.defs_token.specs.Account.{is_in_flow}
-use Rattle.model_scanner.specs.Machine.{Read}
 use Rattle.model_scanner.specs.Tag as models
 use Rattle.proof_lexers.specs.TagEnds.{reads, refuses}
-use Rattle.proof_lexers.proofs.Properties.Tags.{span_cut, all_leading}
-use Rattle.proof_scanner.specs.PiecesRead.{TagIsRead}
 use Rattle.proof_scanner.proofs.Cut.Pieces.Separations.{no_break_append}
 use Rattle.proof_scanner.proofs.Cut.Pieces.Names.{all_in_line}
 

@@ -1,0 +1,134 @@
+-- Columns over a step, as a cut has them: block collections that end, and a key that waits on its line.
+use Rattle.std.proofs.lemmas.Bool.Decides.{nat_tests}
+use Rattle.proof_row.proofs.Common.{[], Account, Act, act_of, ap, arith, Before, begins_free_line, block_end, blocks_at, Bool, double_quoted, drop, ends_at, ends_separation, false, folded, gives_node, has_break, has_no_break, if◌then◌else◌, inl, inr, is_blank, is_blank_or_end, is_break, is_in_line, is_marker, is_nul, IsPiece, length, List, literal, nat_lt, not, not_ended, Option, plain, Position, position_after, position_past, previous_by, put, refl, replicate, scalar, single_quoted, subst, suc, sym, tag_directive, Tok, Token, true, version_directive, zero, ℕ, ◌&&◌, ◌++◌, ◌+◌, ◌-◌, ◌<◌, ◌==◌, ◌||◌, ◌∙◌, ◌∷◌, ◌≡◌, ◌≤◌, ◌⊎◌}
+use Rattle.proof_row.proofs.CutPieces.{account_by}
+use Rattle.proof_row.proofs.CutSteps.{somes}
+use Rattle.proof_row.proofs.Inserted.{past_all, AreEmpty}
+use Rattle.proof_row.proofs.Runs.{both, untrue}
+
+-- ---- ends of block collections
+
+-- the collections that go on are the outer ones
+ended : (col : ℕ) (bs : List ℕ) → (drop (length bs - length (not_ended col bs)) bs ≡ not_ended col bs) × (length (not_ended col bs) ≤ length bs)
+ended col [] = (refl, omega arith)
+ended col (n ∷ bs) = by (nat_lt col n) (ended col bs)
+  where
+    by : (d : Bool) → (drop (length bs - length (not_ended col bs)) bs ≡ not_ended col bs) × (length (not_ended col bs) ≤ length bs) →
+        (let cs : List ℕ = (if d then not_ended col bs else n ∷ bs) in (drop (length (n ∷ bs) - length cs) (n ∷ bs) ≡ cs) × (length cs ≤ length (n ∷ bs)))
+    by true h =
+        let many : length (n ∷ bs) - length (not_ended col bs) ≡ suc (length bs - length (not_ended col bs)) = omega (arith, h.1) in
+        (ap (λ k. drop k (n ∷ bs)) many ∙ h.0, omega (arith, h.1))
+    by false h =
+        let none : length (n ∷ bs) - length (n ∷ bs) ≡ 0 = omega arith in
+        (ap (λ k. drop k (n ∷ bs)) none, omega arith)
+
+drop_all : (bs : List ℕ) → drop (length bs - 0) bs ≡ []
+drop_all bs = ap (λ k. drop k bs) (omega arith) ∙ all bs
+  where
+    all : (bs : List ℕ) → drop (length bs) bs ≡ []
+    all [] = refl
+    all (n ∷ bs) = all bs
+
+outer : (k : Act) (col : ℕ) (bs : List ℕ) → (drop (length bs - length (blocks_at false k col bs)) bs ≡ blocks_at false k col bs) × (length (blocks_at false k col bs) ≤ length bs)
+outer k col bs = by (is_marker k)
+  where
+    by : (m : Bool) → (let cs : List ℕ = (if m then [] else not_ended col bs) in (drop (length bs - length cs) bs ≡ cs) × (length cs ≤ length bs))
+    by true = (drop_all bs, omega arith)
+    by false = ended col bs
+
+-- Tokens without a piece lead from an account to another.
+abbrev pub LeadTo : Account → List Token → Account → Type 0
+LeadTo a es b = (us : List Token) (next : List ℕ) (t : Tok) → AreEmpty b us next t → AreEmpty a (es ++ us) next t × (past_all a (es ++ us) ≡ past_all b us)
+
+ends_lead : (many : ℕ) (here p : Position) (b : Before) (bs : List ℕ) → many ≤ length bs → LeadTo (account_by here b (somes bs) []) (replicate many (put p block_end)) (account_by here b (somes (drop many bs)) [])
+ends_lead zero here p b bs m us next t e = (e, refl)
+ends_lead (suc many) here p b [] m us next t e = absurd (omega (arith, m))
+ends_lead (suc many) here p b (n ∷ bs) m us next t e =
+    let later : AreEmpty (account_by here b (somes bs) []) (replicate many (put p block_end) ++ us) next t × (past_all (account_by here b (somes bs) []) (replicate many (put p block_end) ++ us) ≡ past_all (account_by here b (somes (drop many bs)) []) us) =
+    ends_lead many here p b bs (omega (arith, m)) us next t e in
+    (((refl, refl, refl), later.0), later.1)
+
+-- at a piece outside flow
+pub blocks_end : (k : Act) (here p : Position) (b : Before) (bs : List ℕ) → LeadTo (account_by here b (somes bs) []) (ends_at p bs (blocks_at false k here.col bs)) (account_by here b (somes (blocks_at false k here.col bs)) [])
+blocks_end k here p b bs =
+    let o : (drop (length bs - length (blocks_at false k here.col bs)) bs ≡ blocks_at false k here.col bs) × (length (blocks_at false k here.col bs) ≤ length bs) = outer k here.col bs in
+    subst (λ cs. LeadTo (account_by here b (somes bs) []) (ends_at p bs (blocks_at false k here.col bs)) (account_by here b (somes cs) [])) o.0
+    (ends_lead (length bs - length (blocks_at false k here.col bs)) here p b bs (omega arith))
+
+-- all of them
+pub all_end : (here p : Position) (b : Before) (bs : List ℕ) → LeadTo (account_by here b (somes bs) []) (replicate (length bs) (put p block_end)) (account_by here b [] [])
+all_end here p b bs = subst (λ cs. LeadTo (account_by here b (somes bs) []) (replicate (length bs) (put p block_end)) (account_by here b (somes cs) [])) (sym (ap (λ k. drop k bs) (omega arith)) ∙ drop_all bs) (ends_lead (length bs) here p b bs (omega arith))
+
+-- none ends
+pub none_ends : (a : Account) (p : Position) (bs cs : List ℕ) → cs ≡ bs → LeadTo a (ends_at p bs cs) a
+none_ends a p bs cs same =
+    let none : length bs - length cs ≡ 0 = omega (arith, ap length same) in
+    subst (λ n. LeadTo a (replicate n (put p block_end)) a) (sym none) (λ us next t e. (e, refl))
+
+-- ---- collections that no key ends
+
+pub not_ended_twice : (col : ℕ) (bs : List ℕ) → not_ended col (not_ended col bs) ≡ not_ended col bs
+not_ended_twice col [] = refl
+not_ended_twice col (n ∷ bs) = by (nat_lt col n) refl (not_ended_twice col bs)
+  where
+    by : (d : Bool) → nat_lt col n ≡ d → not_ended col (not_ended col bs) ≡ not_ended col bs → not_ended col (if d then not_ended col bs else n ∷ bs) ≡ (if d then not_ended col bs else n ∷ bs)
+    by true e h = h
+    by false e h = rw e refl
+
+pub not_ended_further : (col here : ℕ) (bs : List ℕ) → col ≤ here → not_ended col bs ≡ bs → not_ended here bs ≡ bs
+not_ended_further col here [] m h = refl
+not_ended_further col here (n ∷ bs) m h = by (nat_lt here n) refl
+  where
+    by : (d : Bool) → nat_lt here n ≡ d → (if d then not_ended here bs else n ∷ bs) ≡ n ∷ bs
+    by false e = refl
+    by true e =
+        let less : nat_lt col n ≡ true = grind (arith, nat_tests) in
+        let ends : not_ended col bs ≡ n ∷ bs = sym (ap (λ d. if d then not_ended col bs else n ∷ bs) less) ∙ h in
+        absurd (omega (arith, (ended col bs).1, ap length ends))
+
+-- ---- on one line
+
+pub column_grows : (p : Position) (t next : List ℕ) → has_no_break t ≡ true → (position_after p t next).col ≡ p.col + length t
+column_grows p [] next h = omega arith
+column_grows p (c ∷ t) next h =
+    let b : (not (is_break c) ≡ true) × (has_no_break t ≡ true) = both (not (is_break c)) (has_no_break t) h in
+    let past : position_past p c (t ++ next) ≡ record { index = suc p.index; line = p.line; col = suc p.col } = rw (untrue (is_break c) b.0) refl in
+    column_grows (position_past p c (t ++ next)) t next b.1 ∙ (ap (λ q. q.col + length t) past ∙ omega arith)
+
+pub unbroken : (t : List ℕ) → has_break t ≡ false → has_no_break t ≡ true
+unbroken t h = by (has_no_break t) h
+  where
+    by : (b : Bool) → not b ≡ false → b ≡ true
+    by true h = refl
+    by false h = absurd (cc h)
+
+-- a text in whose separation no break stands
+pub in_line : (f : List ℕ) (c : ℕ) (r : List ℕ) → has_no_break f ≡ true → ends_separation (c ∷ r) ≡ true → is_in_line (f ++ (c ∷ r)) ≡ true
+unfolding is_blank_or_end
+in_line [] c r h e = by (is_blank c) (is_break c) (is_nul c) (c == 35) e
+  where
+    by : (b l n o : Bool) → (not (b || l || n) && not o) ≡ true → (not l && (not b || is_in_line r)) ≡ true
+    by false false n o e = refl
+    by true l n o e = absurd (cc e)
+    by false true n o e = absurd (cc e)
+in_line (x ∷ f) c r h e =
+    let b : (not (is_break x) ≡ true) × (has_no_break f ≡ true) = both (not (is_break x)) (has_no_break f) h in
+    rw (untrue (is_break x) b.0, in_line f c r b.1 e) (by (is_blank x))
+  where
+    by : (b : Bool) → (not b || true) ≡ true
+    by true = refl
+    by false = refl
+
+-- a directive stands in column 0
+pub no_directive : (a : Account) (c : ℕ) (r n : List ℕ) (o : Option Tok) (q : Position) (t : Tok) → IsPiece a (c ∷ r) n o q t → (act_of t ≡ gives_node) ⊎ (0 < a.position.col) → (f : List ℕ) → begins_free_line (previous_by t) f ≡ has_break f
+no_directive a c r n o q (version_directive major minor) h (inl k) f = absurd (cc k)
+no_directive a c r n o q (version_directive major minor) h (inr k) f = absurd (omega (arith, k, h.0.2))
+no_directive a c r n o q (tag_directive x y) h (inl k) f = absurd (cc k)
+no_directive a c r n o q (tag_directive x y) (inl h, i) (inr k) f = absurd (omega (arith, k, h.2))
+no_directive a c r n o q (tag_directive x y) (inr h, i) (inr k) f = absurd (omega (arith, k, h.2.2))
+no_directive a c r n o q (scalar plain x) h k f = refl
+no_directive a c r n o q (scalar single_quoted x) h k f = refl
+no_directive a c r n o q (scalar double_quoted x) h k f = refl
+no_directive a c r n o q (scalar literal x) h k f = refl
+no_directive a c r n o q (scalar folded x) h k f = refl
+no_directive a c r n o q _ h k f = refl

@@ -1,0 +1,403 @@
+-- Each step of a row is a row of a cut: tokens without a piece, and the one that it shows.
+use Rattle.proof_row.proofs.Common.{[], account_at_piece, account_past, account_past_separation, account_past_token, Act, act_of, ap, arith, Before, before_past, before_past_token, begins_free_line, begun_by, begun_inside, begun_outside, blocks_at, Bool, Colon, double_quoted, ends_at, entries_past, Entry, false, folded, free, gives_block_scalar, gives_closing, gives_colon, gives_comma, gives_dash, gives_marker, gives_node, gives_nothing, gives_question, has_break, has_no_break, if◌then◌else◌, inl, inr, is_deeper, is_in_column, is_in_line, is_marker, is_near, is_of_key, is_renewed, is_separation, is_waiting, IsPiece, IsWritten, key_end, keyed, length, level_of, levels_past, Line, line_past, line_past_separation, List, literal, map, may_stand, None, not_ended, on_one_line, opened, Option, Outside, pair_position, past_inside, past_outside, past_piece, piece_with_blocks, plain, Position, position_after, previous_by, put, refl, scalar, seen, shown_position, single_quoted, Site, site_at, site_past, Some, spelled, Step, subst, suc, sym, taken, takes_pair, Tok, Token, tokens_of, tokens_of_step, true, unless_key, waits, Written, ℕ, ◌&&◌, ◌++◌, ◌<◌, ◌∙◌, ◌∷◌, ◌≡◌, ◌≤◌}
+use Rattle.defs_token.specs.Account.{Account as PieceAccount}
+use Rattle.defs_token.specs.Step as step
+use Rattle.defs_token.specs.RowAccount.{Account, before_by as before_by_previous}
+use Rattle.proof_row.proofs.CutColumns.{LeadTo, blocks_end, none_ends, not_ended_twice, not_ended_further, column_grows, unbroken, no_directive}
+use Rattle.proof_row.proofs.CutEntries.{EnteredBy, entered}
+use Rattle.proof_row.proofs.CutPieces.{account_by, whatever_follows, indicator_with_blocks, piece_in_flow, begins_no_key}
+use Rattle.proof_row.proofs.CutSteps.{somes, with_key, levels_in, in_cut, before_alike, blocks_alike, settled_all, levels_outside, Sees, BegunBy, begun}
+use Rattle.proof_row.proofs.Inserted.{written, spelled_written, tokens_written, past_all, AreEmpty, IsRowTo, written_so}
+
+-- ---- a key that waits
+
+-- Whether a key that waits is left of the position, on its line, and not left of the innermost block collection.
+abbrev pub KeptBy : Line → Site → Type 0
+KeptBy (waits begin) s = (not_ended begin.col s.blocks ≡ s.blocks) × (begin.col < s.position.col) × ((f : List ℕ) → begins_free_line s.before f ≡ has_break f)
+KeptBy _ s = Unit {0}
+
+abbrev pub IsKept : Account → Type 0
+IsKept a = KeptBy a.line a.site
+
+-- where none waits
+pub idle_kept : (l : Line) (s : Site) → is_waiting l ≡ false → KeptBy l s
+idle_kept free s h = tt
+idle_kept taken s h = tt
+idle_kept (waits begin) s h = absurd (cc h)
+
+-- ---- what is shown of a step
+
+-- A step as a row of a cut: its text, its tokens, and the account after it.
+pub record IsCutStep (a : Account) (w : Step) (ws : List Step) (after : List ℕ) (b : Account) : Type 0 where
+  pub row : List Written
+  pub spells : spelled row (step.spelled ws after) ≡ w.separation ++ (w.piece ++ step.spelled ws after)
+  pub tokens_are : tokens_of row ≡ tokens_of_step a w ws after
+  pub is_row : IsRowTo (in_cut a) row (step.spelled ws after) (in_cut b)
+  pub kept : IsKept b
+
+-- the piece and account of a step, from the account at its piece
+stepped : (a : Account) (w : Step) (ws : List Step) (after : List ℕ) (b : Account) (us : List Token) (p : Position) → is_separation false w.separation (w.piece ++ step.spelled ws after) ≡ true →
+    (let next : List ℕ = step.spelled ws after in let here : PieceAccount = account_past_separation (in_cut a) w.separation (w.piece ++ next) in
+    (tokens_of_step a w ws after ≡ us ++ (put p w.shown ∷ [])) → AreEmpty here us (w.piece ++ next) w.shown → ((last : Option Tok) → IsPiece (account_at_piece (past_all here us) w.piece) w.piece next last p w.shown) →
+    account_past_token (account_at_piece (past_all here us) w.piece) w.piece next w.shown ≡ in_cut b → IsKept b → IsCutStep a w ws after b)
+stepped a w ws after b us p fills tokens empty piece same kept =
+    let next : List ℕ = step.spelled ws after in
+    let so : IsRowTo (in_cut a) (written w.separation us w.piece (put p w.shown)) next (account_past_token (account_at_piece (past_all (account_past_separation (in_cut a) w.separation (w.piece ++ next)) us) w.piece) w.piece next w.shown) =
+    written_so (in_cut a) w.separation us w.piece (put p w.shown) next fills empty piece in
+    record {
+      row = written w.separation us w.piece (put p w.shown);
+      spells = spelled_written w.separation us w.piece (put p w.shown) next;
+      tokens_are = tokens_written w.separation us w.piece (put p w.shown) ∙ sym tokens;
+      is_row = record { is_row = so.is_row; past = so.past ∙ same };
+      kept = kept;
+    }
+
+-- ---- outside flow
+
+node_of_key : (t : Tok) → act_of t ≡ gives_node → is_of_key t ≡ true
+node_of_key (scalar plain x) k = refl
+node_of_key (scalar single_quoted x) k = refl
+node_of_key (scalar double_quoted x) k = refl
+node_of_key (scalar literal x) k = absurd (cc k)
+node_of_key (scalar folded x) k = absurd (cc k)
+node_of_key _ k = cc
+
+-- a key that waits, at a piece on its line
+abbrev WaitsAt : Line → ℕ → List ℕ → Type 0
+WaitsAt (waits begin) col bs = (not_ended begin.col bs ≡ bs) × (begin.col ≤ col)
+WaitsAt _ col bs = Unit {0}
+
+abbrev WaitsThen : Act → ℕ → Option Outside → Type 0
+WaitsThen k col None = Unit {0}
+WaitsThen k col (Some x) = WaitsAt x.line col x.blocks × (is_waiting x.line ≡ true → k ≡ gives_node)
+
+waits_unless : (must : Bool) (l : Line) (bs : List ℕ) (k : Act) (col : ℕ) → is_waiting l ≡ false → WaitsThen k col (unless_key must l bs)
+waits_unless true l bs k col h = tt
+waits_unless false free bs k col h = (tt, λ e. absurd (cc e))
+waits_unless false taken bs k col h = (tt, λ e. absurd (cc e))
+waits_unless false (waits begin) bs k col h = absurd (cc h)
+
+waits_keyed : (begin here : Position) (bs : List ℕ) (k : Act) (col : ℕ) → WaitsThen k col (keyed begin here bs)
+waits_keyed begin here bs k col = by (is_near begin here)
+  where
+    by : (n : Bool) → WaitsThen k col (if n then Some (record { line = taken; blocks = opened begin.col bs }) else None)
+    by true = (tt, λ e. absurd (cc e))
+    by false = tt
+
+waits_on : (k : Act) (must key : Bool) (l : Line) (here : Position) (bs : List ℕ) → WaitsAt l here.col bs → (k ≡ gives_node → not_ended here.col bs ≡ bs) → WaitsThen k here.col (line_past must here bs k key l)
+waits_on gives_node must true free here bs w n = ((n refl, omega arith), λ e. refl)
+waits_on gives_node must false free here bs w n = waits_unless must taken bs gives_node here.col refl
+waits_on gives_node must false taken here bs w n = (tt, λ e. refl)
+waits_on gives_node must false (waits begin) here bs w n = (w, λ e. refl)
+waits_on gives_block_scalar must false free here bs w n = waits_unless must free bs gives_block_scalar here.col refl
+waits_on gives_colon must false (waits begin) here bs w n = waits_keyed begin here bs gives_colon here.col
+waits_on gives_block_scalar must false taken here bs w n = (tt, λ e. absurd (cc e))
+waits_on gives_dash must false free here bs w n = (tt, λ e. absurd (cc e))
+waits_on gives_question must false free here bs w n = (tt, λ e. absurd (cc e))
+waits_on gives_colon must false free here bs w n = (tt, λ e. absurd (cc e))
+waits_on gives_comma must false free here bs w n = (tt, λ e. absurd (cc e))
+waits_on gives_comma must false taken here bs w n = (tt, λ e. absurd (cc e))
+waits_on gives_closing must false free here bs w n = (tt, λ e. absurd (cc e))
+waits_on gives_closing must false taken here bs w n = (tt, λ e. absurd (cc e))
+waits_on gives_marker must false free here bs w n = (tt, λ e. absurd (cc e))
+waits_on gives_marker must false taken here bs w n = (tt, λ e. absurd (cc e))
+waits_on _ must key l here bs w n = tt
+
+broken_by : (c : ℕ) (r : List ℕ) (b : Bool) → (has_break (c ∷ r) && b) ≡ false → b ≡ true → has_no_break (c ∷ r) ≡ true
+broken_by c r true h e = unbroken (c ∷ r) (by (has_break (c ∷ r)) h)
+  where
+    by : (x : Bool) → (x && true) ≡ false → x ≡ false
+    by true h = h
+    by false h = refl
+broken_by c r false h e = absurd (cc e)
+
+-- a key that waits still does after a piece
+kept_on : (l : Line) (here : Position) (bs : List ℕ) (awaits : Bool) (c : ℕ) (r next : List ℕ) (t : Tok) → WaitsAt l here.col bs → (is_waiting l ≡ true → has_no_break (c ∷ r) ≡ true) → (is_waiting l ≡ true → (f : List ℕ) → begins_free_line (previous_by t) f ≡ has_break f) →
+    KeptBy l (record { position = position_after here (c ∷ r) next; blocks = bs; awaits = awaits; before = previous_by t })
+kept_on free here bs awaits c r next t w h f = tt
+kept_on taken here bs awaits c r next t w h f = tt
+kept_on (waits begin) here bs awaits c r next t w h f = (w.0, omega (arith, column_grows here (c ∷ r) next (h refl), w.1), f refl)
+
+-- the separation before a piece, where a key may wait
+abbrev Leads : Site → Line → (at : Site) → Line → Before → Type 0
+Leads s line at l b = LeadTo (account_by at.position b (somes (with_key s.blocks line)) []) (ends_at at.position s.blocks at.blocks) (account_by at.position b (somes (with_key at.blocks l)) [])
+
+outside_so : (must : Bool) (s : Site) (line l : Line) (f : List ℕ) (c : ℕ) (r : List ℕ) (t : Tok) (key : Bool) (ws : List Step) (after : List ℕ) (x : Account) →
+    (let a : Account = record { site = s; line = line; entries = [] } in
+    let w : Step = record { separation = f; piece = c ∷ r; shown = t; key = key } in
+    let next : List ℕ = step.spelled ws after in
+    let at : Site = site_at false s f (c ∷ r) t next in
+    IsWritten a w next → line_past_separation false (begins_free_line s.before f) line ≡ Some l →
+    past_outside at (c ∷ r) t next (line_past must at.position at.blocks (act_of t) key l) ≡ Some x →
+    (has_break (c ∷ r) && is_waiting x.line) ≡ false → (IsKept x → is_waiting x.line ≡ true → is_in_line next ≡ true) →
+    Leads s line at l (before_past (before_by_previous s.before) f) → WaitsAt l at.position.col at.blocks → IsCutStep a w ws after x)
+outside_so must s line l f c r t key ws after x h same_line same on_line in_line leads waiting =
+    by (line_past must at.position at.blocks (act_of t) key l) same
+    (begun (act_of t) must key l at.position colon.here b ((c ∷ r) ++ next) t c r at.blocks refl)
+    (waits_on (act_of t) must key l at.position at.blocks waiting on_node)
+  where
+    a : Account
+    a = record { site = s; line = line; entries = [] }
+
+    w : Step
+    w = record { separation = f; piece = c ∷ r; shown = t; key = key }
+
+    next : List ℕ
+    next = step.spelled ws after
+
+    at : Site
+    at = site_at false s f (c ∷ r) t next
+
+    b : Before
+    b = before_past (before_by_previous s.before) f
+
+    colon : Colon
+    colon = key_end t (position_after at.position (c ∷ r) next) ws after
+
+    own : Position
+    own = shown_position at (c ∷ r) t next
+
+    -- at a node the collections that go on are those that it does not end
+    on_node : act_of t ≡ gives_node → not_ended at.position.col at.blocks ≡ at.blocks
+    on_node k = subst (λ bs. not_ended at.position.col bs ≡ bs) (sym (ap (λ z. blocks_at false z at.position.col s.blocks) k)) (not_ended_twice at.position.col s.blocks)
+
+    more : Option Line → List Token
+    more o = begun_outside (is_deeper at.position.col at.blocks) at.position colon.here (act_of t) key o
+
+    us : List Token
+    us = ends_at at.position s.blocks at.blocks ++ more (Some l)
+
+    begin : PieceAccount
+    begin = account_by at.position b (somes (with_key at.blocks l)) []
+
+    by : (o : Option Outside) → past_outside at (c ∷ r) t next o ≡ Some x → BegunBy begin (more (Some l)) ((c ∷ r) ++ next) t (act_of t) c r at.blocks o → WaitsThen (act_of t) at.position.col o → IsCutStep a w ws after x
+    by None e g k = absurd (cc e)
+    by (Some o) e g k =
+        let z : Account = record { site = site_past false at (c ∷ r) t next o.blocks; line = o.line; entries = begun_by t } in
+        let to : z ≡ x = cc e in
+        let line_is : o.line ≡ x.line = ap (λ y. y.line) to in
+        let one_line : is_waiting o.line ≡ true → has_no_break (c ∷ r) ≡ true = λ h. broken_by c r (is_waiting o.line) (ap (λ l. has_break (c ∷ r) && is_waiting l) line_is ∙ on_line) h in
+        let lead : AreEmpty (account_past_separation (in_cut a) f ((c ∷ r) ++ next)) us ((c ∷ r) ++ next) t × (past_all (account_past_separation (in_cut a) f ((c ∷ r) ++ next)) us ≡ past_all begin (more (Some l))) =
+        leads (more (Some l)) ((c ∷ r) ++ next) t g.are_empty in
+        let opened : PieceAccount = account_by at.position b (somes (with_key o.blocks o.line)) [] in
+        let there : account_at_piece (past_all (account_past_separation (in_cut a) f ((c ∷ r) ++ next)) us) (c ∷ r) ≡ opened = ap (λ d. account_at_piece d (c ∷ r)) lead.1 ∙ g.blocks_are in
+        let keeps : IsKept z = kept_on o.line at.position o.blocks z.site.awaits c r next t k.0 one_line (λ i. no_directive (seen a at f) c r next None own t h.1.1 (inl (k.1 i))) in
+        let piece : IsPiece opened (c ∷ r) next None own t = sees o one_line (λ i. in_line (subst IsKept to keeps) (ap is_waiting (sym line_is) ∙ i)) g.sees in
+        let past : account_past_token opened (c ∷ r) next t ≡ in_cut z =
+        ap (λ bs. account_by (position_after at.position (c ∷ r) next) (before_past_token b (c ∷ r) t) bs (levels_past [] (c ∷ r) t)) (blocks_alike opened c r next None own t (somes (with_key o.blocks o.line)) piece) ∙
+        (ap (λ ls. account_by (position_after at.position (c ∷ r) next) (before_past_token b (c ∷ r) t) (somes (with_key o.blocks o.line)) ls) (levels_outside t c r) ∙
+        ap (λ y. account_by (position_after at.position (c ∷ r) next) y (somes (with_key o.blocks o.line)) (levels_in (begun_by t))) (before_alike t)) in
+        subst (λ y. IsCutStep a w ws after y) to
+        (stepped a w ws after z us own h.0 (ap (λ o. (ends_at at.position s.blocks at.blocks ++ more o) ++ (put own t ∷ [])) same_line) lead.0
+        (λ last. subst (λ d. IsPiece d (c ∷ r) next last own t) (sym there) (whatever_follows opened c r next None last own t piece))
+        (ap (λ d. account_past_token d (c ∷ r) next t) there ∙ past) keeps)
+      where
+        sees : (o : Outside) → (is_waiting o.line ≡ true → has_no_break (c ∷ r) ≡ true) → (is_waiting o.line ≡ true → is_in_line next ≡ true) → Sees (act_of t) at.blocks o → IsPiece (account_by at.position b (somes (with_key o.blocks o.line)) []) (c ∷ r) next None own t
+        sees o one on (inl e) = subst (λ bs. IsPiece (account_by at.position b (somes bs) []) (c ∷ r) next None own t) (sym e) h.1.1
+        sees o one on (inr (inl k)) = piece_with_blocks (somes (with_key o.blocks o.line)) (account_by at.position b (somes at.blocks) []) (c ∷ r) next None own t (node_of_key t k.1) (one k.0) (on k.0) h.1.1
+        sees o one on (inr (inr i)) = indicator_with_blocks (somes (with_key o.blocks o.line)) (account_by at.position b (somes at.blocks) []) c r next None own t i h.1.1
+
+-- after a piece outside flow, where a key must begin or not
+abbrev pub past_by : (must : Bool) → Site → (piece : List ℕ) → Tok → (next : List ℕ) → (key : Bool) → Option Line → Option Account
+past_by must at p t next key None = None
+past_by must at p t next key (Some l) = past_outside at p t next (line_past must at.position at.blocks (act_of t) key l)
+
+outside_step : (must : Bool) (s : Site) (line : Line) (f : List ℕ) (c : ℕ) (r : List ℕ) (t : Tok) (key : Bool) (ws : List Step) (after : List ℕ) (x : Account) →
+    (let a : Account = record { site = s; line = line; entries = [] } in
+    let w : Step = record { separation = f; piece = c ∷ r; shown = t; key = key } in
+    let next : List ℕ = step.spelled ws after in
+    let at : Site = site_at false s f (c ∷ r) t next in
+    IsWritten a w next → past_by must at (c ∷ r) t next key (line_past_separation false (begins_free_line s.before f) line) ≡ Some x →
+    (has_break (c ∷ r) && is_waiting x.line) ≡ false → (IsKept x → is_waiting x.line ≡ true → is_in_line next ≡ true) → IsKept a → IsCutStep a w ws after x)
+outside_step must s line f c r t key ws after x h same on_line in_line kept = by (begins_free_line s.before f) line refl refl
+  where
+    next : List ℕ
+    next = step.spelled ws after
+
+    at : Site
+    at = site_at false s f (c ∷ r) t next
+
+    b : Before
+    b = before_past (before_by_previous s.before) f
+
+    Of : Option Line → Type 0
+    Of o = past_by must at (c ∷ r) t next key o ≡ Some x
+
+    so : (l m : Line) → line ≡ m → line_past_separation false (begins_free_line s.before f) m ≡ Some l → Leads s m at l b → WaitsAt l at.position.col at.blocks → IsCutStep (record { site = s; line = line; entries = [] }) (record { separation = f; piece = c ∷ r; shown = t; key = key }) ws after x
+    so l m e g leads waiting =
+        let there : line_past_separation false (begins_free_line s.before f) line ≡ Some l = ap (λ z. line_past_separation false (begins_free_line s.before f) z) e ∙ g in
+        outside_so must s line l f c r t key ws after x h there (subst Of there same) on_line in_line (subst (λ z. Leads s z at l b) (sym e) leads) waiting
+
+    free_so : (l m : Line) → (with_key s.blocks m ≡ s.blocks) → (with_key at.blocks l ≡ at.blocks) → Leads s m at l b
+    free_so l m e g = subst (λ cs. LeadTo (account_by at.position b (somes cs) []) (ends_at at.position s.blocks at.blocks) (account_by at.position b (somes (with_key at.blocks l)) [])) (sym e)
+        (subst (λ cs. LeadTo (account_by at.position b (somes s.blocks) []) (ends_at at.position s.blocks at.blocks) (account_by at.position b (somes cs) [])) (sym g) (blocks_end (act_of t) at.position at.position b s.blocks))
+
+    waiting_so : (begin : Position) → line ≡ waits begin → begins_free_line s.before f ≡ false → (m : Bool) → is_marker (act_of t) ≡ m → IsCutStep (record { site = s; line = line; entries = [] }) (record { separation = f; piece = c ∷ r; shown = t; key = key }) ws after x
+    waiting_so begin e g true k = absurd (by_marker (act_of t) k key (subst Of (ap (λ z. line_past_separation false z line) g ∙ ap (λ z. line_past_separation false false z) e) same))
+      where
+        by_marker : (k : Act) → is_marker k ≡ true → (key : Bool) → past_outside at (c ∷ r) t next (line_past must at.position at.blocks k key (waits begin)) ≡ Some x → ⊥
+        by_marker gives_marker k true e = cc e
+        by_marker gives_marker k false e = cc e
+        by_marker _ k key e = cc k
+    waiting_so begin e g false k =
+        let keeps : KeptBy (waits begin) s = subst (λ z. KeptBy z s) e kept in
+        let right : begin.col ≤ at.position.col = omega (arith, keeps.1, column_grows s.position f ((c ∷ r) ++ next) (unbroken f (sym (keeps.2 f) ∙ g))) in
+        let all : at.blocks ≡ s.blocks = ap (λ m. if m then [] else not_ended at.position.col s.blocks) k ∙ not_ended_further begin.col at.position.col s.blocks right keeps.0 in
+        so (waits begin) (waits begin) e (ap (λ z. line_past_separation false z (waits begin)) g)
+        (subst (λ cs. LeadTo (account_by at.position b (somes (with_key s.blocks (waits begin))) []) (ends_at at.position s.blocks at.blocks) (account_by at.position b (somes (with_key cs (waits begin))) [])) (sym all) (none_ends (account_by at.position b (somes (with_key s.blocks (waits begin))) []) at.position s.blocks at.blocks all))
+        (subst (λ cs. not_ended begin.col cs ≡ cs) (sym all) keeps.0, right)
+
+    by : (n : Bool) (m : Line) → begins_free_line s.before f ≡ n → line ≡ m → IsCutStep (record { site = s; line = line; entries = [] }) (record { separation = f; piece = c ∷ r; shown = t; key = key }) ws after x
+    by true free g e = so free free e (ap (λ z. line_past_separation false z free) g) (free_so free free refl refl) tt
+    by false free g e = so free free e (ap (λ z. line_past_separation false z free) g) (free_so free free refl refl) tt
+    by true taken g e = so free taken e (ap (λ z. line_past_separation false z taken) g) (free_so free taken refl refl) tt
+    by false taken g e = so taken taken e (ap (λ z. line_past_separation false z taken) g) (free_so taken taken refl refl) tt
+    by false (waits begin) g e = waiting_so begin e g (is_marker (act_of t)) refl
+    by true (waits begin) g e = absurd (cc (subst Of (ap (λ z. line_past_separation false z line) g ∙ ap (λ z. line_past_separation false true z) e) same))
+
+-- ---- in flow
+
+same_many : (es : List Entry) → length (map level_of es) ≡ length (levels_in es)
+same_many [] = refl
+same_many (e ∷ es) = ap suc (same_many es)
+
+-- in flow a separation changes no line
+line_in_flow : (broken : Bool) (line l : Line) → line_past_separation true broken line ≡ Some l → (l ≡ line) × (is_waiting line ≡ true → broken ≡ false)
+line_in_flow false line l e = (cc e, λ h. refl)
+line_in_flow true free l e = (cc e, λ h. absurd (cc h))
+line_in_flow true taken l e = (cc e, λ h. absurd (cc h))
+line_in_flow true (waits begin) l e = absurd (cc e)
+
+inside_step : (s : Site) (line : Line) (e : Entry) (es : List Entry) (f : List ℕ) (c : ℕ) (r : List ℕ) (t : Tok) (key : Bool) (ws : List Step) (after : List ℕ) (x : Account) →
+    (let a : Account = record { site = s; line = line; entries = e ∷ es } in
+    let w : Step = record { separation = f; piece = c ∷ r; shown = t; key = key } in
+    let next : List ℕ = step.spelled ws after in
+    let at : Site = site_at true s f (c ∷ r) t next in
+    IsWritten a w next → past_piece at (c ∷ r) t next (is_renewed s.before f) key (line_past_separation true (begins_free_line s.before f) line) (e ∷ es) ≡ Some x →
+    (has_break (c ∷ r) && is_waiting x.line) ≡ false → IsKept a → IsCutStep a w ws after x)
+inside_step s line e es f c r t key ws after x h same on_line kept = by_line (line_past_separation true (begins_free_line s.before f) line) refl same
+  where
+    a : Account
+    a = record { site = s; line = line; entries = e ∷ es }
+
+    w : Step
+    w = record { separation = f; piece = c ∷ r; shown = t; key = key }
+
+    next : List ℕ
+    next = step.spelled ws after
+
+    at : Site
+    at = site_at true s f (c ∷ r) t next
+
+    b : Before
+    b = before_past (before_by_previous s.before) f
+
+    colon : Colon
+    colon = key_end t (position_after at.position (c ∷ r) next) ws after
+
+    own : Position
+    own = shown_position at (c ∷ r) t next
+
+    bs : List (Option ℕ)
+    bs = somes (with_key s.blocks line)
+
+    us : List Token
+    us = begun_inside (takes_pair e.kind e.pair) e.pair at.position (pair_position colon.past colon.next) (pair_position (position_after at.position (c ∷ r) next) next) (act_of t) key e.had
+
+    here : PieceAccount
+    here = account_by at.position b bs (levels_in (e ∷ es))
+
+    by_entries : (l : Line) → line_past_separation true (begins_free_line s.before f) line ≡ Some l → (o : Option (List Entry)) → past_inside at (c ∷ r) t next l o ≡ Some x → EnteredBy here us ((c ∷ r) ++ next) t c r es o → IsCutStep a w ws after x
+    by_entries l g None i n = absurd (cc i)
+    by_entries l g (Some zs) i n =
+        let z : Account = record { site = site_past true at (c ∷ r) t next at.blocks; line = l; entries = zs } in
+        let to : z ≡ x = cc i in
+        let flow : (l ≡ line) × (is_waiting line ≡ true → begins_free_line s.before f ≡ false) = line_in_flow (begins_free_line s.before f) line l g in
+        let one_line : is_waiting line ≡ true → has_no_break (c ∷ r) ≡ true = λ j. broken_by c r (is_waiting line) (ap (λ y. has_break (c ∷ r) && is_waiting y) (sym flow.0 ∙ ap (λ y. y.line) to) ∙ on_line) j in
+        let after_all : PieceAccount = account_by at.position b bs (n.level ∷ levels_in es) in
+        let there : account_at_piece (past_all here us) (c ∷ r) ≡ after_all = ap (λ d. account_at_piece d (c ∷ r)) n.account_is ∙ ap (λ y. account_by at.position b y (n.level ∷ levels_in es)) (settled_all at.position.col (with_key s.blocks line)) in
+        let piece : IsPiece after_all (c ∷ r) next None own t = piece_in_flow at.position b (somes at.blocks) bs (level_of e) n.level (map level_of es) (levels_in es) c r next None None own t (same_many es) n.has_no_pair h.1.1 in
+        let past : account_past_token after_all (c ∷ r) next t ≡ in_cut z =
+        ap (λ y. account_by (position_after at.position (c ∷ r) next) (before_past_token b (c ∷ r) t) y (levels_past (n.level ∷ levels_in es) (c ∷ r) t)) (blocks_alike after_all c r next None own t bs piece) ∙
+        (ap (λ y. account_by (position_after at.position (c ∷ r) next) (before_past_token b (c ∷ r) t) bs y) n.levels_are ∙
+        (ap (λ y. account_by (position_after at.position (c ∷ r) next) y bs (levels_in zs)) (before_alike t) ∙
+        ap (λ y. account_by (position_after at.position (c ∷ r) next) (before_by_previous (previous_by t)) (somes (with_key s.blocks y)) (levels_in zs)) (sym flow.0))) in
+        let waiting : KeptBy l z.site = subst (λ y. KeptBy y z.site) (sym flow.0) (keeps line kept flow.1 one_line piece) in
+        subst (λ y. IsCutStep a w ws after y) to
+        (stepped a w ws after z us own h.0 refl n.are_empty
+        (λ last. subst (λ d. IsPiece d (c ∷ r) next last own t) (sym there) (whatever_follows after_all c r next None last own t piece))
+        (ap (λ d. account_past_token d (c ∷ r) next t) there ∙ past) waiting)
+      where
+        keeps : (m : Line) → KeptBy m s → (is_waiting m ≡ true → begins_free_line s.before f ≡ false) → (is_waiting m ≡ true → has_no_break (c ∷ r) ≡ true) → IsPiece (account_by at.position b bs (n.level ∷ levels_in es)) (c ∷ r) next None own t →
+            KeptBy m (site_past true at (c ∷ r) t next at.blocks)
+        keeps free k broken one p = tt
+        keeps taken k broken one p = tt
+        keeps (waits begin) k broken one p =
+            let right : begin.col < at.position.col = omega (arith, k.1, column_grows s.position f ((c ∷ r) ++ next) (unbroken f (sym (k.2 f) ∙ broken refl))) in
+            kept_on (waits begin) at.position s.blocks (site_past true at (c ∷ r) t next at.blocks).awaits c r next t (k.0, omega (arith, right)) one
+            (λ i. no_directive (account_by at.position b bs (n.level ∷ levels_in es)) c r next None own t p (inr (omega (arith, right))))
+
+    by_line : (o : Option Line) → line_past_separation true (begins_free_line s.before f) line ≡ o → past_piece at (c ∷ r) t next (is_renewed s.before f) key o (e ∷ es) ≡ Some x → IsCutStep a w ws after x
+    by_line None g i = absurd (cc i)
+    by_line (Some l) g i = by_entries l g (entries_past at.position (is_renewed s.before f) (act_of t) (begun_by t) key e es) i
+        (entered (act_of t) (is_renewed s.before f) key e.had e.kind e.pair at.position (pair_position colon.past colon.next) (pair_position (position_after at.position (c ∷ r) next) next) b bs ((c ∷ r) ++ next) t c r es refl
+        (λ k. begins_no_key (seen a at f) c r next None own t k h.1.1))
+
+-- ---- all
+
+stood : (may : Bool) (p : List ℕ) (o : Option Account) (x : Account) → (if may then on_one_line p o else None) ≡ Some x → (o ≡ Some x) × ((has_break p && is_waiting x.line) ≡ false)
+stood false p o x e = absurd (cc e)
+stood true p None x e = absurd (cc e)
+stood true p (Some y) x e = by (has_break p && is_waiting y.line) refl e
+  where
+    by : (b : Bool) → (has_break p && is_waiting y.line) ≡ b → (if b then None else Some y) ≡ Some x → (Some y ≡ Some x) × ((has_break p && is_waiting x.line) ≡ false)
+    by true g i = absurd (cc i)
+    by false g i = let same : y ≡ x = cc i in (i, subst (λ (z : Account). (has_break p && is_waiting z.line) ≡ false) same g)
+
+same_by : (at : Site) (p : List ℕ) (t : Tok) (next : List ℕ) (again key : Bool) (o : Option Line) → past_by (is_in_column at.position.col at.blocks) at p t next key o ≡ past_piece at p t next again key o []
+same_by at p t next again key None = refl
+same_by at p t next again key (Some l) = refl
+
+-- A piece outside flow that begins no key is a row of a cut, also where a key must begin.
+pub cut_no_key : (must : Bool) (a : Account) (w : Step) (ws : List Step) (after : List ℕ) (x : Account) → a.entries ≡ [] → is_waiting a.line ≡ false → is_waiting x.line ≡ false →
+    (let next : List ℕ = step.spelled ws after in let at : Site = site_at false a.site w.separation w.piece w.shown next in
+    IsWritten a w next → past_by must at w.piece w.shown next w.key (line_past_separation false (begins_free_line a.site.before w.separation) a.line) ≡ Some x → IsCutStep a w ws after x)
+cut_no_key must a w ws after x none idle idle_then h same = by a.entries w.piece none h same
+  where
+    next : List ℕ
+    next = step.spelled ws after
+
+    not_both : (m n : Bool) → n ≡ false → (m && n) ≡ false
+    not_both true n e = e
+    not_both false n e = refl
+
+    by : (es : List Entry) (p : List ℕ) → es ≡ [] →
+        (let b : Account = record { site = a.site; line = a.line; entries = es } in let v : Step = record { separation = w.separation; piece = p; shown = w.shown; key = w.key } in let at : Site = site_at false a.site w.separation p w.shown next in
+        IsWritten b v next → past_by must at p w.shown next w.key (line_past_separation false (begins_free_line a.site.before w.separation) a.line) ≡ Some x → IsCutStep b v ws after x)
+    by (e ∷ es) p i h same = absurd (cc i)
+    by [] [] i h same = absurd (cc h.1.0)
+    by [] (c ∷ r) i h same =
+        outside_step must a.site a.line w.separation c r w.shown w.key ws after x h same (not_both (has_break (c ∷ r)) (is_waiting x.line) idle_then) (λ k j. absurd (cc (j, idle_then))) (idle_kept a.line a.site idle)
+
+-- A step of a row is a row of a cut, if where a key waits the text after it goes on in the line.
+pub cut_step : (a : Account) (w : Step) (ws : List Step) (after : List ℕ) (x : Account) → IsWritten a w (step.spelled ws after) → account_past a w (step.spelled ws after) ≡ Some x →
+    (IsKept x → is_waiting x.line ≡ true → is_in_line (step.spelled ws after) ≡ true) → IsKept a → IsCutStep a w ws after x
+cut_step a w ws after x h same in_line kept = by a.entries w.piece h same kept
+  where
+    next : List ℕ
+    next = step.spelled ws after
+
+    by : (es : List Entry) (p : List ℕ) →
+        (let b : Account = record { site = a.site; line = a.line; entries = es } in let v : Step = record { separation = w.separation; piece = p; shown = w.shown; key = w.key } in
+        IsWritten b v next → account_past b v next ≡ Some x → IsKept b → IsCutStep b v ws after x)
+    by es [] h same kept = absurd (cc h.1.0)
+    by [] (c ∷ r) h same kept =
+        let at : Site = site_at false a.site w.separation (c ∷ r) w.shown next in
+        let s : (past_piece at (c ∷ r) w.shown next (is_renewed a.site.before w.separation) w.key (line_past_separation false (begins_free_line a.site.before w.separation) a.line) [] ≡ Some x) × ((has_break (c ∷ r) && is_waiting x.line) ≡ false) =
+        stood (may_stand false a.site at w.separation (c ∷ r) w.shown next) (c ∷ r) (past_piece at (c ∷ r) w.shown next (is_renewed a.site.before w.separation) w.key (line_past_separation false (begins_free_line a.site.before w.separation) a.line) []) x same in
+        outside_step (is_in_column at.position.col at.blocks) a.site a.line w.separation c r w.shown w.key ws after x h (same_by at (c ∷ r) w.shown next (is_renewed a.site.before w.separation) w.key (line_past_separation false (begins_free_line a.site.before w.separation) a.line) ∙ s.0) s.1 in_line kept
+    by (e ∷ es) (c ∷ r) h same kept =
+        let at : Site = site_at true a.site w.separation (c ∷ r) w.shown next in
+        let s : (past_piece at (c ∷ r) w.shown next (is_renewed a.site.before w.separation) w.key (line_past_separation true (begins_free_line a.site.before w.separation) a.line) (e ∷ es) ≡ Some x) × ((has_break (c ∷ r) && is_waiting x.line) ≡ false) =
+        stood (may_stand true a.site at w.separation (c ∷ r) w.shown next) (c ∷ r) (past_piece at (c ∷ r) w.shown next (is_renewed a.site.before w.separation) w.key (line_past_separation true (begins_free_line a.site.before w.separation) a.line) (e ∷ es)) x same in
+        inside_step a.site a.line e es w.separation c r w.shown w.key ws after x h s.0 s.1 kept

@@ -1,0 +1,80 @@
+-- Tokens without a piece before a token with its piece, as a cut has them: what each step of a row is there.
+use Rattle.proof_row.proofs.Common.{[], Account, account_at_piece, account_past_row, account_past_separation, account_past_token, ap, Before, before_past, blocks_past, collection, false, first_token, is_separation, IsPiece, IsRow, levels_past, List, Option, other, quoted, refl, Some, spelled, subst, sym, Tok, Token, tokens_of, true, Written, ℕ, ◌++◌, ◌∙◌, ◌∷◌, ◌≡◌}
+use Rattle.defs_token.specs.Cut.{IsWritten, account_past}
+
+-- ---- the row
+
+-- tokens without a piece and one with its piece, the first of them after a separation
+abbrev pub written : (separation : List ℕ) → List Token → (piece : List ℕ) → Token → List Written
+written f [] p t = record { separation = f; piece = p; token = t } ∷ []
+written f (u ∷ us) p t = record { separation = f; piece = []; token = u } ∷ written [] us p t
+
+pub spelled_written : (f : List ℕ) (us : List Token) (p : List ℕ) (t : Token) (next : List ℕ) → spelled (written f us p t) next ≡ f ++ (p ++ next)
+spelled_written f [] p t next = refl
+spelled_written f (u ∷ us) p t next = ap (λ x. f ++ x) (spelled_written [] us p t next)
+
+pub tokens_written : (f : List ℕ) (us : List Token) (p : List ℕ) (t : Token) → tokens_of (written f us p t) ≡ us ++ (t ∷ [])
+tokens_written f [] p t = refl
+tokens_written f (u ∷ us) p t = ap (λ x. u ∷ x) (tokens_written [] us p t)
+
+-- what stands first of tokens before another one
+abbrev pub first_of : List Token → Tok → Tok
+first_of [] t = t
+first_of (u ∷ us) t = u.tok
+
+first_written : (f : List ℕ) (us : List Token) (p : List ℕ) (t : Token) (last : Option Tok) → first_token (written f us p t) last ≡ Some (first_of us t.tok)
+first_written f [] p t last = refl
+first_written f (u ∷ us) p t last = refl
+
+-- ---- accounts
+
+-- the account after a token without a piece
+abbrev pub past_empty : Account → Tok → Account
+past_empty a t = record a { blocks = blocks_past a.blocks t; levels = levels_past a.levels [] t }
+
+abbrev pub past_all : Account → List Token → Account
+past_all a [] = a
+past_all a (u ∷ us) = past_all (past_empty a u.tok) us
+
+-- whether tokens stand so without a piece, before a text and another token
+abbrev pub AreEmpty : Account → List Token → (next : List ℕ) → (following : Tok) → Type 0
+AreEmpty a [] next t = Unit {0}
+AreEmpty a (u ∷ us) next t = IsPiece a [] next (Some (first_of us t)) u.position u.tok × AreEmpty (past_empty a u.tok) us next t
+
+pub before_again : (b : Before) → before_past b [] ≡ b
+before_again quoted = refl
+before_again collection = refl
+before_again other = refl
+
+again : (a : Account) (next : List ℕ) → account_past_separation a [] next ≡ a
+again a next = ap (λ b. record a { before = b }) (before_again a.before)
+
+-- ---- rows
+
+-- a row before a text, whatever token follows, and the account after it
+pub record IsRowTo (a : Account) (row : List Written) (next : List ℕ) (b : Account) : Type 0 where
+  pub is_row : (last : Option Tok) → IsRow a row next last
+  pub past : account_past_row a row next ≡ b
+
+-- Such tokens are a row, if they stand so after the separation and the piece after them.
+pub written_so : (a : Account) (f : List ℕ) (us : List Token) (p : List ℕ) (t : Token) (next : List ℕ) → is_separation false f (p ++ next) ≡ true →
+    AreEmpty (account_past_separation a f (p ++ next)) us (p ++ next) t.tok →
+    ((last : Option Tok) → IsPiece (account_at_piece (past_all (account_past_separation a f (p ++ next)) us) p) p next last t.position t.tok) →
+    IsRowTo a (written f us p t) next (account_past_token (account_at_piece (past_all (account_past_separation a f (p ++ next)) us) p) p next t.tok)
+written_so a f [] p t next fills empty piece = record { is_row = λ last. ((fills, piece last), tt); past = refl }
+written_so a f (u ∷ us) p t next fills empty piece =
+    let here : Account = account_past_separation a f (p ++ next) in
+    let past : Account = past_empty here u.tok in
+    let own : Written = record { separation = f; piece = []; token = u } in
+    let more : List Written = written [] us p t in
+    let End : Account → Account = λ b. account_past_token (account_at_piece (past_all b us) p) p next t.tok in
+    let same : past ≡ account_past_separation past [] (p ++ next) = sym (again past (p ++ next)) in
+    let cut : p ++ next ≡ spelled more next = sym (spelled_written [] us p t next) in
+    let later : IsRowTo past more next (End (account_past_separation past [] (p ++ next))) =
+    written_so past [] us p t next refl (subst (λ b. AreEmpty b us (p ++ next) t.tok) same empty.1)
+    (λ last. subst (λ b. IsPiece (account_at_piece (past_all b us) p) p next last t.position t.tok) same (piece last)) in
+    record {
+      is_row = λ last. subst (λ x. IsWritten a own x (first_token more last) × IsRow (account_past a own x) more next last) cut
+          ((fills, subst (λ o. IsPiece here [] (p ++ next) o u.position u.tok) (sym (first_written [] us p t last)) empty.0), later.is_row last);
+      past = ap (λ x. account_past_row (account_past a own x) more next) (sym cut) ∙ later.past ∙ ap End (sym same);
+    }

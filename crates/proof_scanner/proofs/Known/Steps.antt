@@ -1,0 +1,229 @@
+-- What is known of keys that wait, after a step: from what was known before it.
+use Rattle.proof_scanner.proofs.Common.{[], Account, Act, act_of, ap, arith, Begins, begins_free_line, blocks_at, Bool, false, free, gives_block_scalar, gives_node, inl, inr, is_far, is_free, is_in_column, is_in_flow, IsLineHere, IsWritten, Key, KnowsKey, LikeLine, Line, line_by, line_past, line_past_separation, List, nat_lt, nat_tests, None, Option, Outside, Position, position_after, refl, same_flow, Site, site_here, Some, Step, subst, sym, taken, true, up_to_nul, waits, ℕ, ◌++◌, ◌+◌, ◌||◌, ◌∙◌, ◌∷◌, ◌≡◌, ◌≤◌}
+use Rattle.proof_scanner.specs.KnownKeys.{IsAt}
+use Rattle.proof_scanner.proofs.Cut.Positions.{index_after, not_before_after}
+use Rattle.proof_scanner.proofs.Known.CameBy.{begins_whole, Came, came_by}
+use Rattle.proof_scanner.proofs.Known.Made.{same_of, waited, still_there, like_past, begun, kept, Waits, waits_past, Made, outside, inside, made}
+use Rattle.proof_scanner.proofs.Known.Rows.{goes_from_start, goes_past}
+use Rattle.proof_scanner.proofs.Known.Ways.{With, GivesUp, Way}
+use Rattle.proof_scanner.proofs.Sound.NodeSteps.{saved}
+use Rattle.proof_scanner.proofs.Sound.Sides.{with_entries}
+
+-- ---- without a step
+
+-- at a later position before the same text
+pub known_past : (text after : List ℕ) (p : Position) (k : Option Key) (f rest : List ℕ) → KnowsKey text after p k → KnowsKey text after (position_after p f rest) k
+known_past text after p k f rest n =
+    let later = (not_before_after p f rest).0 in
+    let further = index_after p f rest in
+    record { waiting = λ b begin g e l i. n.waiting b begin g e (omega (arith, later, l)) (omega (arith, further, i)); required = n.required; rows = n.rows }
+
+-- where the open key is far, none is known
+pub known_far : (text after : List ℕ) (p : Position) (k : Key) → is_far k.position p ≡ true → KnowsKey text after p (Some k) → KnowsKey text after p None
+unfolding is_far
+known_far text after p k far n = record { waiting = λ b begin g e l i. none begin (n.waiting b begin g e l i) l i; required = λ b x g e m. absurd (cc e); rows = n.rows }
+  where
+    none : (begin : Position) → k.position ≡ begin → p.line ≤ begin.line → p.index ≤ begin.index + 1024 → ⊥
+    none begin e l i = by (nat_lt k.position.line p.line) (nat_lt (k.position.index + 1024) p.index) refl refl far
+      where
+        line : k.position.line ≡ begin.line
+        line = ap (λ q. q.line) e
+
+        index : k.position.index ≡ begin.index
+        index = ap (λ q. q.index) e
+
+        by : (a b : Bool) → nat_lt k.position.line p.line ≡ a → nat_lt (k.position.index + 1024) p.index ≡ b → (a || b) ≡ true → ⊥
+        by true b f g h = grind (arith, nat_tests, f, l, line)
+        by false true f g h = grind (arith, nat_tests, g, i, index)
+        by false false f g h = cc h
+
+-- where a text begins
+pub known_at_start : (text after : List ℕ) (p : Position) → after ≡ up_to_nul text → KnowsKey text after p None
+known_at_start text after p whole = record { waiting = λ b begin g e l i. absurd (cc (ap (λ (x : Account). x.line) (begins_whole text after b whole g) ∙ e)); required = λ b x g e m. absurd (cc e); rows = goes_from_start text after whole }
+
+-- over a piece and a separation
+pub known_over : (text next : List ℕ) (p q : Position) (k : Option Key) (piece separation rest : List ℕ) → q ≡ position_after (position_after p piece next) separation rest → KnowsKey text next p k → KnowsKey text next q k
+known_over text next p q k piece separation rest e n = subst (λ x. KnowsKey text next x k) (sym e) (known_past text next (position_after p piece next) k separation rest (known_past text next p k piece next n))
+
+-- ---- lines
+
+-- where a line is taken, and no line begins, none like it is free
+none_free : (broken c : Bool) (k : Option Key) (l n u m : Line) → line_past_separation false broken l ≡ Some n → n ≡ taken → LikeLine (line_by c k l) u → line_past_separation false broken u ≡ Some m → m ≡ free → ⊥
+none_free true c k free n u m h t i j f = cc (same_of free n h ∙ t)
+none_free true c k taken n u m h t i j f = cc (same_of free n h ∙ t)
+none_free true c k (waits p) n u m h t i j f = cc h
+none_free false c k l n u m h t i j f = by c k (subst (λ x. LikeLine (line_by c k taken) x) (same_of u m j ∙ f) (subst (λ x. LikeLine (line_by c k x) u) (same_of l n h ∙ t) i))
+  where
+    by : (c : Bool) (k : Option Key) → LikeLine (line_by c k taken) free → ⊥
+    by c None h = h
+    by true (Some k) h = h
+    by false (Some k) h = h
+
+-- whether a key may begin with a piece
+abbrev pub begins_key : Act → Bool
+begins_key gives_node = true
+begins_key _ = false
+
+waits_node : (must : Bool) (here : Position) (bs : List ℕ) (k : Act) (l : Line) (o : Outside) (q : Position) → Waits must here bs k l o q → k ≡ gives_node
+waits_node must here bs k l o q (begun i f h e) = i
+waits_node must here bs k l o q (kept i f e) = i
+
+-- ---- in flow
+
+module _ (text : List ℕ) (a : Account) (w : Step) (next : List ℕ) (written : IsWritten a w next) where
+  -- In flow the open key outside it stays.
+  pub known_inside : (p : Position) (k : Option Key) → is_in_flow a.entries ≡ true → Way GivesUp text (w.separation ++ (w.piece ++ next)) a → KnowsKey text (w.separation ++ (w.piece ++ next)) p k → KnowsKey text next p k
+  known_inside p k fl way n = record {
+    waiting = λ b begin g e l i. let c = came_by text a w next b way written g in n.waiting c.from begin c.begins (waited true (begins_free_line c.from.site.before w.separation) c.from.line b.line begin (line b c) e).0 l i;
+    required = λ b x g e m. let c = came_by text a w next b way written g in (still_there true (begins_free_line c.from.site.before w.separation) c.from.line b.line x.position (n.required c.from x c.begins e m) (line b c)).1;
+    rows = goes_past text a w next way written;
+  }
+    where
+      line : (b : Account) (c : Came text a w next b) → line_past_separation true (begins_free_line c.from.site.before w.separation) c.from.line ≡ Some b.line
+      line b c = by (made c.from.site c.from.line c.from.entries (With w c.key) next b c.is_past)
+        where
+          by : Made c.from.site c.from.line c.from.entries (With w c.key) next b → line_past_separation true (begins_free_line c.from.site.before w.separation) c.from.line ≡ Some b.line
+          by (outside m o none sep past line site one) = absurd (cc (sym fl ∙ (same_flow a.entries c.from.entries c.is_like.2 ∙ ap is_in_flow none)))
+          by (inside some sep site one) = sep
+
+  -- ---- outside flow
+
+  -- After a piece that is no part of a node no key waits.
+  pub none_known : (p : Position) → is_in_flow a.entries ≡ false → begins_key (act_of w.shown) ≡ false → Way GivesUp text (w.separation ++ (w.piece ++ next)) a → KnowsKey text next p None
+  none_known p fl idle way = record { waiting = λ b begin g e l i. none b begin (came_by text a w next b way written g) e; required = λ b x g e m. absurd (cc e); rows = goes_past text a w next way written }
+    where
+      none : (b : Account) (begin : Position) → Came text a w next b → b.line ≡ waits begin → ⊥
+      none b begin c e = by (made c.from.site c.from.line c.from.entries (With w c.key) next b c.is_past)
+        where
+          by : Made c.from.site c.from.line c.from.entries (With w c.key) next b → ⊥
+          by (inside some sep site one) = cc (fl, same_flow a.entries c.from.entries c.is_like.2, some)
+          by (outside m o none sep past line site one) = cc (idle, ap begins_key (waits_node _ _ _ _ m o begin (waits_past _ _ _ _ c.key m o begin past (sym line ∙ e))))
+
+-- a part of a node, or a block scalar
+abbrev pub is_of_node : Act → Bool
+is_of_node gives_node = true
+is_of_node gives_block_scalar = true
+is_of_node _ = false
+
+node_blocks : (k : Act) (column : ℕ) (bs : List ℕ) → is_of_node k ≡ true → blocks_at false k column bs ≡ blocks_at false gives_node column bs
+node_blocks gives_node column bs h = refl
+node_blocks gives_block_scalar column bs h = refl
+node_blocks _ column bs h = absurd (cc h)
+
+-- where a key must begin with it, it does; a block scalar is none
+must_begin : (k : Act) (here : Position) (bs : List ℕ) (key : Bool) (o : Outside) → is_of_node k ≡ true → line_past true here bs k key free ≡ Some o → o.line ≡ waits here
+must_begin gives_node here bs true o h e = ap (λ (x : Outside). x.line) (sym (same_of _ o e))
+must_begin gives_node here bs false o h e = absurd (cc e)
+must_begin gives_block_scalar here bs true o h e = absurd (cc e)
+must_begin gives_block_scalar here bs false o h e = absurd (cc e)
+must_begin _ here bs key o h e = absurd (cc h)
+
+-- a key that waits goes on to wait over it
+goes_on : (k : Act) (must : Bool) (here : Position) (bs : List ℕ) (key : Bool) (q : Position) (o : Outside) → is_of_node k ≡ true → line_past must here bs k key (waits q) ≡ Some o → o.line ≡ waits q
+goes_on gives_node must here bs true q o h e = absurd (cc e)
+goes_on gives_node must here bs false q o h e = ap (λ (x : Outside). x.line) (sym (same_of _ o e))
+goes_on gives_block_scalar must here bs true q o h e = absurd (cc e)
+goes_on gives_block_scalar must here bs false q o h e = absurd (cc e)
+goes_on _ must here bs key q o h e = absurd (cc h)
+
+-- what is like a free line is free
+like_free : (l m : Line) → l ≡ free → LikeLine l m → m ≡ free
+like_free l m e i = by m (subst (λ x. LikeLine x m) e i)
+  where
+    by : (m : Line) → LikeLine free m → m ≡ free
+    by free h = refl
+    by taken h = absurd h
+    by (waits q) h = absurd h
+
+module _ (text : List ℕ) (s : Site) (l line_here : Line) (allowed : Bool) (k : Option Key) (new : Key) (w : Step) (next : List ℕ) (written : IsWritten (with_entries s l []) w next) (keyed : is_of_node (act_of w.shown) ≡ true)
+    (line_is : IsLineHere false allowed (0 ∷ []) k line_here) (sep_is : line_past_separation false (begins_free_line s.before w.separation) l ≡ Some line_here) (c : Bool) (way : Way GivesUp text (w.separation ++ (w.piece ++ next)) (with_entries s (line_by c k l) [])) where
+  abbrev here : Position
+  here = position_after s.position w.separation (w.piece ++ next)
+
+  abbrev at : Site
+  at = site_here false here s
+
+  -- How a beginning came by it: the account before, what may begin after the separation, and what is so after the piece.
+  record Past (b : Account) : Type 0 where
+    pub from : Account
+    pub line : Line
+    pub after : Outside
+    pub key : Bool
+    pub is_like : LikeLine (line_by c k l) from.line
+    pub begins : Begins text (w.separation ++ (w.piece ++ next)) from
+    pub sep : line_past_separation false (begins_free_line s.before w.separation) from.line ≡ Some line
+    pub past : line_past (is_in_column here.col at.blocks) here at.blocks (act_of w.shown) key line ≡ Some after
+    pub own : b.line ≡ after.line
+
+  past_of : (b : Account) → Begins text next b → Past b
+  past_of b g = by (subst (λ (x : Site). Made x came.from.line came.from.entries (With w came.key) next b) (sym came.is_like.0) (made came.from.site came.from.line came.from.entries (With w came.key) next b came.is_past))
+    where
+      came : Came text (with_entries s (line_by c k l) []) w next b
+      came = came_by text (with_entries s (line_by c k l) []) w next b way written g
+
+      by : Made s came.from.line came.from.entries (With w came.key) next b → Past b
+      by (inside some sep site one) = absurd (cc (same_flow [] came.from.entries came.is_like.2, some))
+      by (outside m o none sep past line site one) = record {
+        from = came.from;
+        line = m;
+        after = o;
+        key = came.key;
+        is_like = came.is_like.1;
+        begins = came.begins;
+        sep = sep;
+        past = subst (λ bs. line_past (is_in_column here.col bs) here bs (act_of w.shown) came.key m ≡ Some o) (node_blocks (act_of w.shown) here.col s.blocks keyed) past;
+        own = line;
+      }
+
+  taken_here : allowed ≡ false → line_here ≡ taken
+  taken_here e = by k line_is
+    where
+      by : (y : Option Key) → IsLineHere false allowed (0 ∷ []) y line_here → line_here ≡ taken
+      by None (inl f, i) = absurd (cc (e, i, ap is_free f))
+      by None (inr t, i) = t
+      by (Some y) h = (h refl).0
+
+  free_here : allowed ≡ true → k ≡ None → line_here ≡ free
+  free_here e j = by (subst (λ y. IsLineHere false allowed (0 ∷ []) y line_here) j line_is)
+    where
+      by : IsLineHere false allowed (0 ∷ []) None line_here → line_here ≡ free
+      by (inl f, i) = f
+      by (inr t, i) = absurd (cc (e, i, ap is_free t))
+
+  not_open : (y : Key) → allowed ≡ true → k ≡ Some y → ⊥
+  not_open y e j = let h : (line_here ≡ taken) × (allowed ≡ false) = (subst (λ z. IsLineHere false allowed (0 ∷ []) z line_here) j line_is) refl in cc (e, h.1)
+
+  -- After a node or a block scalar outside flow the key that may begin with it is open, or the one that was.
+  pub known_saved : (p : Position) → new.position ≡ here → new.required ≡ is_in_column here.col at.blocks → KnowsKey text (w.separation ++ (w.piece ++ next)) p k → KnowsKey text next p (saved allowed new k)
+  known_saved p place must n = record {
+    waiting = λ b begin g e near_line near_index.
+        let x : Past b = past_of b g in
+        opened allowed k refl refl b begin x (waits_past _ _ _ _ x.key x.line x.after begin x.past (sym x.own ∙ e)) near_line near_index;
+    required = λ b x g e m. let y : Past b = past_of b g in y.own ∙ waited_on allowed k refl refl b x y e m;
+    rows = goes_past text (with_entries s (line_by c k l) []) w next way written;
+  }
+    where
+      opened : (d : Bool) (y : Option Key) → allowed ≡ d → k ≡ y → (b : Account) (begin : Position) (x : Past b) → Waits (is_in_column here.col at.blocks) here at.blocks (act_of w.shown) x.line x.after begin → p.line ≤ begin.line → p.index ≤ begin.index + 1024 → IsAt (saved d new y) begin
+      opened true y i j b begin x (begun act f h bs) near_line near_index = place ∙ h
+      opened false y i j b begin x (begun act f h bs) near_line near_index = absurd (none_free (begins_free_line s.before w.separation) c k l line_here x.from.line x.line sep_is (taken_here i) x.is_like x.sep f)
+      opened d y i j b begin x (kept act f bs) near_line near_index =
+          old d y i j (subst (λ z. IsAt z begin) j (n.waiting x.from begin x.begins (waited false (begins_free_line s.before w.separation) x.from.line x.line begin x.sep f).0 near_line near_index))
+        where
+          old : (d : Bool) (y : Option Key) → allowed ≡ d → k ≡ y → IsAt y begin → IsAt (saved d new y) begin
+          old true None i j h = absurd h
+          old true (Some z) i j h = absurd (not_open z i j)
+          old false y i j h = h
+
+      waited_on : (d : Bool) (y : Option Key) → allowed ≡ d → k ≡ y → (b : Account) (x : Key) (z : Past b) → saved d new y ≡ Some x → x.required ≡ true → z.after.line ≡ waits x.position
+      waited_on true (Some y) i j b x z e m = absurd (not_open y i j)
+      waited_on true None i j b x z e m =
+          let same : new ≡ x = same_of new x e in
+          let like : LikeLine l z.from.line = subst (λ o. LikeLine (line_by c o l) z.from.line) j z.is_like in
+          let line : z.line ≡ free = like_free line_here z.line (free_here i j) (like_past false (begins_free_line s.before w.separation) l z.from.line line_here z.line like sep_is z.sep) in
+          let is : is_in_column here.col at.blocks ≡ true = sym must ∙ (ap (λ (q : Key). q.required) same ∙ m) in
+          must_begin (act_of w.shown) here at.blocks z.key z.after keyed (subst (λ q. line_past true here at.blocks (act_of w.shown) z.key q ≡ Some z.after) line (subst (λ q. line_past q here at.blocks (act_of w.shown) z.key z.line ≡ Some z.after) is z.past)) ∙
+          ap (λ q. waits q) (sym place ∙ ap (λ (q : Key). q.position) same)
+      waited_on false None i j b x z e m = absurd (cc e)
+      waited_on false (Some y) i j b x z e m =
+          let was : z.line ≡ waits x.position = (still_there false (begins_free_line s.before w.separation) z.from.line z.line x.position (n.required z.from x z.begins (j ∙ e) m) z.sep).1 in
+          goes_on (act_of w.shown) (is_in_column here.col at.blocks) here at.blocks z.key x.position z.after keyed (subst (λ q. line_past (is_in_column here.col at.blocks) here at.blocks (act_of w.shown) z.key q ≡ Some z.after) was z.past)

@@ -1,0 +1,134 @@
+-- A block scalar that may end is not refused for what stands after it.
+use Rattle.proof_scanner.proofs.Common.{[], after_break, after_line, along, and_parts, ap, are_empty, AreLines, arith, begins_with, block_may_end, block_read, BlockRead, Bool, collection_of, false, first_content, first_empty, first_header, further_position, has_no_nul, if◌then◌else◌, innermost, is_at_end, is_break, is_empty, is_empty_line, is_in_line, is_none, is_nul, is_shallow, is_single, is_spaces, is_tabbed, leading_spaces, least_column, length, lines_may_end, List, nat_le, nat_lt, nat_tests, None, not, Option, past, past_is, Position, position_after, position_past, read_may_end, refl, same_break, Some, spell, split, split_spell, sym, tab, texts, true, ℕ, ◌&&◌, ◌++◌, ◌+◌, ◌==◌, ◌||◌, ◌∙◌, ◌∷◌, ◌≡◌, ◌≤◌}
+use Rattle.defs_text.specs.Classes.{space}
+use Rattle.proof_lexers.proofs.Blocks.Written.{Line, put}
+use Rattle.proof_scanner.proofs.Sound.BlockEnds.{IsLeast, Written, written, spaces_col, ends_at_margin}
+
+-- ---- a scalar without content
+
+-- A line in which no content begins is of spaces alone, and ends at the column or left of it.
+record Passed (column : ℕ) (w y : List ℕ) (p : Position) : Type 0 where
+  are_spaces : is_spaces w ≡ true
+  is_short : p.col + length w ≤ column
+
+passed : (column : ℕ) (w y : List ℕ) (p : Position) → is_in_line w ≡ true → p.col ≤ column → first_content column false p (w ++ y) ≡ None → Passed column w y p
+passed column [] y p inner low h = record { are_spaces = refl; is_short = omega (arith, low) }
+passed column (c ∷ w) y p inner low h = by (is_break c) (c == space) (nat_lt p.col column) refl refl refl inner h (λ i l k. passed column w y (past p) i l k)
+  where
+    by : (b s d : Bool) → is_break c ≡ b → (c == space) ≡ s → nat_lt p.col column ≡ d → (not b && is_in_line w) ≡ true → (if b || (s && d) then first_content column false (position_past p c (w ++ y)) (w ++ y) else Some p) ≡ None →
+        (is_in_line w ≡ true → (past p).col ≤ column → first_content column false (past p) (w ++ y) ≡ None → Passed column w y (past p)) → Passed column (c ∷ w) y p
+    by true s d e f g i k later = absurd (cc i)
+    by false true true e f g i k later =
+        let stays : position_past p c (w ++ y) ≡ past p = past_is p c (w ++ y) (sym (same_break c) ∙ e) in
+        let up : (past p).col ≤ column = grind (arith, nat_tests, g) in
+        let r : Passed column w y (past p) = later i up (ap (λ q. first_content column false q (w ++ y)) (sym stays) ∙ k) in
+        record { are_spaces = rw (f, r.are_spaces) refl; is_short = omega (arith, r.is_short) }
+    by false true false e f g i k later = absurd (cc k)
+    by false false d e f g i k later = absurd (cc k)
+
+none_is_empty : (column : ℕ) (ls : List Line) (p : Position) → AreLines ls [] → p.col ≡ 0 → first_content column false p (spell ls []) ≡ None → are_empty column (texts ls) ≡ true
+unfolding is_empty_line
+none_is_empty column [] p a z h = refl
+none_is_empty column (l ∷ ls) p a z h =
+    let r : Passed column l.text (put l.by (spell ls [])) p = passed column l.text (put l.by (spell ls [])) p a.0 (omega (arith, z)) h in
+    let short : nat_le (length l.text) column ≡ true = (let s = r.is_short in grind (arith, nat_tests, s, z)) in
+    let later : first_content column false (after_line l p) (spell ls []) ≡ None = sym (first_empty column l (spell ls []) p r.are_spaces r.is_short a.1) ∙ h in
+    rw (r.are_spaces, short, none_is_empty column ls (after_line l p) a.2 refl later) refl
+
+-- a scalar in which no content begins has empty lines alone
+no_content : (column : ℕ) (piece next : List ℕ) (p : Position) (w : Written piece next) → first_content column true p piece ≡ None → are_empty column (texts w.lines) ≡ true
+no_content column piece next p w h =
+    none_is_empty column w.lines (after_break w.header.by (along w.header.text p)) w.are.2 refl
+    (sym (first_header column w.header.text w.header.by (spell w.lines []) p w.are.0 w.are.1) ∙ (ap (λ x. first_content column true p x) (sym w.is) ∙ h))
+
+-- ---- what stands after it
+
+-- the lines of a scalar that was written so, and what is asked of them
+pub lines_written : (piece next : List ℕ) (w : Written piece next) → (split piece).complete ≡ w.header.text ∷ texts w.lines
+lines_written piece next w = ap (λ x. (split x).complete) w.is ∙ ap (λ x. x.complete) (split_spell (w.header ∷ w.lines) [] w.are refl)
+
+pub lines_asked : (indent : ℕ) (b : BlockRead) (piece next bs : List ℕ) → IsLeast indent bs → block_read (collection_of indent) piece next ≡ Some b → (w : Written piece next) → lines_may_end bs b.column (w.header.text ∷ texts w.lines) next ≡ read_may_end bs (block_read (innermost bs) piece next) piece next
+lines_asked indent b piece next bs least is w =
+    ap (λ x. lines_may_end bs b.column x next) (sym (lines_written piece next w)) ∙ ap (λ o. read_may_end bs o piece next) (sym (ap (λ c. block_read c piece next) (sym least.0) ∙ is))
+
+-- No TAB begins the line after a header, and what stands after a scalar without content is not both deeper than the block collection and left of the content column.
+pub record IsClear (indent : ℕ) (p : Position) (b : BlockRead) (piece next : List ℕ) : Type 0 where
+  pub untabbed : is_tabbed piece next ≡ false
+  pub deep : is_shallow indent p b piece next ≡ false
+
+module _ (indent : ℕ) (p : Position) (b : BlockRead) (piece next bs : List ℕ) (least : IsLeast indent bs) (is : block_read (collection_of indent) piece next ≡ Some b) where
+  abbrev Clear : Type 0
+  Clear = IsClear indent p b piece next
+
+  -- at the text's end
+  at_end : next ≡ [] → Clear
+  at_end e = record {
+    untabbed = ap (λ x. is_single (split piece).complete && begins_with tab x) e ∙ no_tab (is_single (split piece).complete);
+    deep = ap (λ x. ((x && is_none (first_content b.column true p piece)) && nat_le indent (further_position p piece next).col) && nat_lt (further_position p piece next).col b.column) (ap (λ x. not (is_at_end x)) e);
+  }
+    where
+      no_tab : (x : Bool) → (x && false) ≡ false
+      no_tab true = refl
+      no_tab false = refl
+
+  -- before further text
+  module _ (further : is_at_end next ≡ false) (may : read_may_end bs (block_read (innermost bs) piece next) piece next ≡ true) where
+    w : Written piece next
+    w = written (collection_of indent) piece next b is further
+
+    both : (not (is_empty (texts w.lines) && begins_with tab next) ≡ true) × ((not (are_empty b.column (texts w.lines)) || nat_lt (leading_spaces next) (least_column bs true) || nat_le b.column (leading_spaces next)) ≡ true)
+    both = and_parts _ _ (lines_asked indent b piece next bs least is w ∙ may)
+
+    single_by : (h : List ℕ) (ls : List (List ℕ)) (t : Bool) → not (is_empty ls && t) ≡ true → (is_single (h ∷ ls) && t) ≡ false
+    single_by h [] true e = absurd (cc e)
+    single_by h [] false e = refl
+    single_by h (l ∷ ls) t e = refl
+
+    column_is : (further_position p piece next).col ≡ leading_spaces next
+    column_is =
+        let margin = ends_at_margin (collection_of indent) piece next b p is further in
+        let spaces = spaces_col (position_after p piece next) next in
+        omega (arith, margin, spaces)
+
+    deep_by : (none low left : Bool) (k : ℕ) → is_none (first_content b.column true p piece) ≡ none → nat_le indent k ≡ low → nat_lt k b.column ≡ left → (not (are_empty b.column (texts w.lines)) || nat_lt k (least_column bs true) || nat_le b.column k) ≡ true → ((none && low) && left) ≡ false
+    deep_by false low left k e f g h = refl
+    deep_by true false left k e f g h = refl
+    deep_by true true false k e f g h = refl
+    deep_by true true true k e f g h = absurd (by (nat_lt k (least_column bs true)) (nat_le b.column k) refl refl (ap (λ x. not x || nat_lt k (least_column bs true) || nat_le b.column k) (sym empty) ∙ h))
+      where
+        none_of : (o : Option Position) → is_none o ≡ true → o ≡ None
+        none_of None i = refl
+        none_of (Some q) i = absurd (cc i)
+
+        empty : are_empty b.column (texts w.lines) ≡ true
+        empty = no_content b.column piece next p w (none_of (first_content b.column true p piece) e)
+
+        by : (x y : Bool) → nat_lt k (least_column bs true) ≡ x → nat_le b.column k ≡ y → (x || y) ≡ true → ⊥
+        by true y i j h = let same = least.1 in grind (arith, nat_tests, i, same, f)
+        by false true i j h = grind (arith, nat_tests, j, g)
+        by false false i j h = cc h
+
+    before_text : Clear
+    before_text = record {
+      untabbed = ap (λ x. is_single x && begins_with tab next) (lines_written piece next w) ∙ single_by w.header.text (texts w.lines) (begins_with tab next) both.0;
+      deep =
+          ap (λ x. ((not x && is_none (first_content b.column true p piece)) && nat_le indent (further_position p piece next).col) && nat_lt (further_position p piece next).col b.column) further ∙
+          (ap (λ k. (is_none (first_content b.column true p piece) && nat_le indent k) && nat_lt k b.column) column_is ∙
+          deep_by (is_none (first_content b.column true p piece)) (nat_le indent (leading_spaces next)) (nat_lt (leading_spaces next) b.column) (leading_spaces next) refl refl refl both.1);
+    }
+
+  -- What stands after a block scalar that may end is not refused.
+  pub block_is_clear : has_no_nul next ≡ true → block_may_end bs piece next ≡ true → Clear
+  block_is_clear clean may = by (is_at_end next) refl may
+    where
+      ended : (l : List ℕ) → has_no_nul l ≡ true → is_at_end l ≡ true → l ≡ []
+      ended [] n h = refl
+      ended (c ∷ l) n h = absurd (none (is_nul c) n h)
+        where
+          none : (z : Bool) → (not z && has_no_nul l) ≡ true → z ≡ true → ⊥
+          none true n h = cc n
+          none false n h = cc h
+
+      by : (x : Bool) → is_at_end next ≡ x → (x || read_may_end bs (block_read (innermost bs) piece next) piece next) ≡ true → Clear
+      by true e h = at_end (ended next clean e)
+      by false e h = before_text e h
