@@ -1,7 +1,5 @@
 -- The position after characters of a line.
-use Rattle.std.proofs.Common.{◌≡◌, ℕ, ◌≤◌, List, [], ◌∷◌, ◌++◌, refl, arith}
-use Rattle.proof_lexers.proofs.Common.{along, Position}
-use Rattle.model_scanner.specs.Machine.{past}
+use Rattle.proof_lexers.proofs.Common.{[], along, arith, List, past, Position, refl, ℕ, ◌++◌, ◌∷◌, ◌≡◌, ◌≤◌}
 
 pub along_append : (a b : List ℕ) (p : Position) → along (a ++ b) p ≡ along b (along a p)
 along_append [] b p = refl

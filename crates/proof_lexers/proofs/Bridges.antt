@@ -1,13 +1,7 @@
 -- Classes and tables of the model and of the definitions tell the same characters apart.
-use Rattle.std.proofs.Common.{◌≡◌, ℕ, suc, List, [], ◌∷◌, Bool, true, false, ◌||◌, ◌&&◌, ◌==◌, Option, Some, None, refl, sym, arith}
 use Rattle.std.specs.Char.{is_digit}
-use Rattle.std.proofs.lemmas.Bool.{eqb-true}
-use Rattle.std.proofs.lemmas.Bool.Decides.{nat_tests}
-use Rattle.proof_lexers.proofs.Common.{at_marker, escape_of, escapes, is_alpha, is_alphanumeric, is_blank_or_breakz, is_character_code, is_hex, is_tag, is_uri, is_uri_mark, lookup, numeric_escapes}
-use Rattle.yaml_chars.specs.Class.{is_break, is_blank, is_flow}
+use Rattle.proof_lexers.proofs.Common.{[], and-false, arith, at_marker, Bool, cases_Bool, eqb-true, Escape, escape_of, escapes, false, inl, inr, is_alpha, is_alphanumeric, is_blank, is_blank_or_breakz, is_break, is_character_code, is_flow, is_hex, is_marker, is_scalar, is_tag, is_uri, is_uri_mark, List, lookup, nat_tests, None, numeric_escapes, Option, or-false, or_assoc, refl, Some, suc, sym, true, ℕ, ◌&&◌, ◌==◌, ◌||◌, ◌∷◌, ◌≡◌}
 use Rattle.defs_text.specs.Classes as classes
-use Rattle.model_scanner.specs.Machine.{is_marker}
-use Rattle.model_scanner.specs.Quoted.{Escape, is_scalar}
 
 pub same_break : (c : ℕ) → classes.is_break c ≡ is_break c
 unfolding classes.is_break is_break
@@ -19,32 +13,21 @@ same_blank c = refl
 
 -- ---- document markers
 
-no_third : (x y : Bool) → ((x && false) || (y && false)) ≡ false
-no_third true true = refl
-no_third true false = refl
-no_third false true = refl
-no_third false false = refl
-
 pub and_false : (b : Bool) → (b && false) ≡ false
-and_false true = refl
-and_false false = refl
+and_false b = and-false b
 
-no_second : (x y u v : Bool) → ((x && u && false) || (y && v && false)) ≡ false
-no_second x y u v = rw (and_false (x && u), and_false (y && v)) refl
-
-or_first : (a b c : Bool) → ((a || b) || c) ≡ (a || (b || c))
-or_first true b c = refl
-or_first false b c = refl
+pub or_false : (b : Bool) → (b || false) ≡ b
+or_false b = or-false b
 
 pub same_gap : (c : ℕ) → classes.is_blank_or_end c ≡ is_blank_or_breakz c
 unfolding classes.is_blank_or_end classes.is_blank classes.is_break classes.is_nul is_blank is_break
-same_gap c = or_first (is_blank c) (is_break c) (c == 0)
+same_gap c = or_assoc (is_blank c) (is_break c) (c == 0)
 
 pub same_marker : (col : ℕ) (a : List ℕ) → at_marker col a ≡ ((col == 0) && classes.is_document_marker a)
 unfolding at_marker is_marker classes.are_marks is_blank is_break
 same_marker col [] = refl
-same_marker col (c ∷ []) = rw no_third refl
-same_marker col (c ∷ d ∷ []) = rw no_second refl
+same_marker col (c ∷ []) = rw (and_false (c == 45), and_false (c == 46)) refl
+same_marker col (c ∷ d ∷ []) = rw (and_false ((c == 45) && (d == 45)), and_false ((c == 46) && (d == 46))) refl
 same_marker col (c ∷ d ∷ e ∷ []) = refl
 same_marker col (c ∷ d ∷ e ∷ f ∷ a) = rw (same_gap f) refl
 
@@ -76,11 +59,7 @@ Same c = escape_of c ≡ escape_by_rows (lookup c escapes) (lookup c numeric_esc
 
 -- what holds of a number, and of each other one, holds
 pub row : (c k : ℕ) (P : ℕ → Type 0) → P k → ((c == k) ≡ false → P c) → P c
-row c k P at other = by (c == k) refl
-  where
-    by : (b : Bool) → (c == k) ≡ b → P c
-    by true e = rw (eqb-true c k e) at
-    by false e = other e
+row c k P at other = elim (cases_Bool (c == k)) [ inl e ↦ rw (eqb-true c k e) at | inr e ↦ other e ]
 
 pub same_escape : (c : ℕ) → escape_of c ≡ escape_by_rows (lookup c escapes) (lookup c numeric_escapes)
 unfolding escape_of
@@ -110,31 +89,19 @@ same_escape c =
 
 -- ---- classes of flow scalars
 
-or_five : (a b c d e : Bool) → (a || (b || (c || (d || (e || false))))) ≡ ((((a || b) || c) || d) || e)
-or_five true b c d e = refl
-or_five false true c d e = refl
-or_five false false true d e = refl
-or_five false false false true e = refl
-or_five false false false false true = refl
-or_five false false false false false = refl
-
 pub same_flow : (c : ℕ) → classes.is_flow c ≡ is_flow c
 unfolding classes.is_flow is_flow
-same_flow c = or_five (c == 44) (c == 91) (c == 93) (c == 123) (c == 125)
+same_flow c = simp (or_assoc, or_false) refl
 
 -- ---- classes of tags
 
-pub or_false : (b : Bool) → (b || false) ≡ b
-or_false true = refl
-or_false false = refl
-
 pub same_alpha : (c : ℕ) → classes.is_alpha c ≡ is_alpha c
 unfolding classes.is_alpha classes.is_decimal_digit classes.is_letter is_alpha is_alphanumeric
-same_alpha c = simp (or_first, or_false) refl
+same_alpha c = simp (or_assoc, or_false) refl
 
 pub same_uri : (c : ℕ) → classes.is_uri c ≡ is_uri c
 unfolding classes.is_uri classes.is_decimal_digit classes.is_letter is_uri is_alphanumeric is_uri_mark
-same_uri c = simp (or_first, or_false) refl
+same_uri c = simp (or_assoc, or_false) refl
 
 pub same_tag : (c : ℕ) → classes.is_tag c ≡ is_tag c
 unfolding classes.is_tag is_tag

@@ -1,9 +1,7 @@
 -- The buffers of a flow scalar's scan join the text of its lines, trimmed and folded.
-use Rattle.std.proofs.Common.{◌≡◌, ℕ, zero, suc, List, [], ◌∷◌, ◌++◌, Bool, true, false, not, ◌&&◌, if◌then◌else◌, replicate, refl, ap, sym, ◌∙◌, append_assoc, append-nil}
-use Rattle.proof_lexers.proofs.Common.{after_elements, blank, Element, escaped_break, Folded, is_empty, joined, line_break}
-use Rattle.defs_text.specs.Classes.{line_feed, space}
-use Rattle.defs_text.specs.FlowScalar.{content, Lines, last_line, line, lines_of, begun_with, without_trailing_blanks, before_break, trimmed, trimmed_after, text_of, folded_break, folded_after, folded}
-use Rattle.model_scanner.specs.Folding.{with_char, with_escaped_break}
+use Rattle.proof_lexers.proofs.Common.{[], after_elements, ap, append-nil, append_assoc, before_break, begun_with, blank, Bool, content, Element, escaped_break, false, Folded, folded_after, folded_break, if◌then◌else◌, is_empty, joined, last_line, line, line_break, line_feed, lines_of, List, not, refl, replicate, suc, sym, trimmed, trimmed_after, true, with_char, with_escaped_break, without_trailing_blanks, zero, ℕ, ◌&&◌, ◌++◌, ◌∙◌, ◌∷◌, ◌≡◌}
+use Rattle.defs_text.specs.Classes.{space}
+use Rattle.defs_text.specs.FlowScalar.{Lines, text_of, folded}
 use Rattle.proof_lexers.specs.BufferLaws.{BuffersJoinFoldedLines}
 
 -- blanks of a line, as elements before others

@@ -1,28 +1,19 @@
 -- Each scan of a block scalar ends as its text says.
-use Rattle.std.proofs.Common.{◌≡◌, ℕ, zero, suc, List, [], ◌∷◌, ◌++◌, Bool, true, false, not, ◌==◌, max, Option, Some, None, Err, refl, ap, sym, ◌∙◌, append-nil, append_assoc, subst}
-use Rattle.std.specs.List.{list_all}
-use Rattle.std.proofs.lemmas.Bool.{and_parts}
-use Rattle.proof_lexers.proofs.Common.{along, At, begins_with, block, BlockRead, BlockStyle, collection_of, column_by, deepest_start, Fault, header, header_of, indicator_of, is_at_end, is_further_text, is_in_line, is_literal_style, least_column, linebreak, no_header, Position, Read, read_header, Row, row_of, rows_of, starts_with_tab, unbroken, value_before_end, value_before_text, zero_digit}
+use Rattle.proof_lexers.proofs.Common.{[], along, and_parts, ap, append-nil, arith, At, begins_with, block, block_read, BlockRead, BlockScansEndAsTheirTextSays, BlockStyle, body, collection_of, column_by, comment, ends_line, Err, false, Fault, first_line, further_text, header, header_of, indicator_of, inl, input_ends, inr, is_at_end, is_further_text, is_in_line, is_literal_style, is_some, IsRead, leading_spaces, linebreak, List, list_all, no_header, None, not, Option, past, Position, Read, read_body, read_lines, read_split, reads, refl, Row, row_of, rows_of, Some, starts_with_tab, subst, suc, sym, tab, tabbed, true, unbroken, value_before_end, value_before_text, zero, zero_digit, ℕ, ◌++◌, ◌==◌, ◌∙◌, ◌∷◌, ◌≡◌}
 use Rattle.yaml_tokens.specs.declared.problem.Problem.TheVariants as problem
-use Rattle.defs_text.specs.Classes.{tab}
 use Rattle.defs_text.specs.BlockScalar as defs
-use Rattle.defs_text.specs.BlockScalar.{further_text, body, input_ends}
-use Rattle.defs_token.specs.BlockPiece.{read_body, read_lines, read_split, block_read}
-use Rattle.model_scanner.specs.Machine.{past}
 use Rattle.proof_lexers.specs.HeaderEnds as header_ends
-use Rattle.proof_lexers.specs.HeaderEnds.{ends_line, reads, tabbed, comment}
-use Rattle.proof_lexers.specs.BlockScan.{is_some, IsRead}
 use Rattle.proof_lexers.specs.BlockEnds.{BlockEndsAs, scalar, bad_header}
-use Rattle.proof_lexers.specs.BlockLaws.{BlockScansEndAsTheirTextSays}
-use Rattle.proof_lexers.proofs.Blocks.Written.{Break, feed, carriage, both, Line, put, spell, texts, Fits, AreLines, Lined, lined, split_spell}
+use Rattle.proof_lexers.proofs.Blocks.Written.{Break, feed, carriage, both, Line, put, spell, texts, Fits, AreLines, lined, split_spell}
 use Rattle.proof_lexers.proofs.Blocks.Headers.{headers_end}
 use Rattle.proof_lexers.proofs.Blocks.Positions.{spell_more}
 use Rattle.proof_lexers.proofs.Blocks.Rows.{break_ends}
 use Rattle.proof_lexers.proofs.Blocks.HeaderFacts.{said, linebreak_put}
-use Rattle.proof_lexers.proofs.Blocks.Columns.{Deep, deep_next, same_column_back, spell_append, texts_append, are_first}
+use Rattle.proof_lexers.proofs.Blocks.Columns.{first_before, first_left, same_column, spell_append, are_first, are_second}
 use Rattle.proof_lexers.proofs.Blocks.Walks.{Walked, stops, ends, HaveNoNul, walked}
 use Rattle.proof_lexers.proofs.Blocks.Scans.{style_inner}
-use Rattle.proof_lexers.proofs.Blocks.Pieces.{tab_line, tab_whole, fits_line, pieces_are_read, some_next}
+use Rattle.proof_lexers.proofs.Blocks.Pieces.{tab_line, tab_whole, fits_before, are_before, pieces_are_read, some_next}
+use Rattle.proof_lexers.proofs.Blocks.First.{least_is}
 
 -- ---- texts without NUL
 
@@ -45,16 +36,10 @@ line_parts column (l ∷ ls) a h =
     let r = line_parts column ls a (put_parts l.by (spell ls a) q.1) in
     ((q.0, r.0), r.1)
 
-true_false : true ≡ false → ⊥
-true_false e = cc
-
 further_not_end : (column : ℕ) (next : List ℕ) → is_further_text column next ≡ true → list_all is_some next ≡ true → is_at_end next ≡ false
-further_not_end zero [] h some = absurd (true_false (sym h))
-further_not_end (suc n) [] h some = absurd (true_false (sym h))
-further_not_end column (d ∷ n) h some = not_end d n some
-  where
-    not_end : (d : ℕ) (n : List ℕ) → list_all is_some (d ∷ n) ≡ true → is_at_end (d ∷ n) ≡ false
-    not_end d n h = some_next d n h
+further_not_end zero [] h some = cc
+further_not_end (suc n) [] h some = cc
+further_not_end column (d ∷ n) h some = some_next d n some
 
 -- ---- breaks before the end of a piece
 
@@ -63,50 +48,41 @@ fits_alone feed = tt
 fits_alone carriage = refl
 fits_alone both = tt
 
-fits_less : (k : Break) (ls : List Line) (next : List ℕ) → Fits k (spell ls next) → Fits k (spell ls [])
-fits_less k [] next h = fits_alone k
-fits_less k (l ∷ ls) next h = fits_line k l.text l.by (spell ls next) (spell ls []) h
-
-are_less : (ls : List Line) (next : List ℕ) → AreLines ls next → AreLines ls []
-are_less [] next are = tt
-are_less (l ∷ ls) next are = (are.0, fits_less l.by ls next are.1, are_less ls next are.2)
-
 -- the column of a piece is that of the whole text
-part_column : (digit : Option ℕ) (indent : ℕ) (ls ns : List Line) (e : List ℕ) → is_further_text (column_by digit (collection_of indent) (texts (ls ++ ns) ++ e ∷ [])) (spell ns e) ≡ true
+part_column : (digit : Option ℕ) (indent : ℕ) (ls ns : List Line) (e : List ℕ) → AreLines ns e → is_in_line e ≡ true → is_further_text (column_by digit (collection_of indent) (texts (ls ++ ns) ++ e ∷ [])) (spell ns e) ≡ true
     → column_by digit (collection_of indent) (texts (ls ++ ns) ++ e ∷ []) ≡ column_by digit (collection_of indent) (texts ls)
-part_column (Some d) indent ls ns e further = refl
-part_column None indent ls ns e further =
-    let joined : texts (ls ++ ns) ++ e ∷ [] ≡ texts ls ++ (texts ns ++ e ∷ []) = ap (λ x. x ++ e ∷ []) (texts_append ls ns) ∙ append_assoc (texts ls) (texts ns) (e ∷ []) in
-    let there : Deep (max (deepest_start (texts ls ++ (texts ns ++ e ∷ []))) (least_column (collection_of indent))) (deepest_start (texts ns ++ e ∷ [])) = rw (← joined) (deep_next _ ns e further) in
-    ap (λ x. max (deepest_start x) (least_column (collection_of indent))) joined ∙ same_column_back (texts ls) (texts ns ++ e ∷ []) (least_column (collection_of indent)) there
+part_column (Some d) indent ls ns e are inner further = refl
+part_column None indent ls ns e are inner further =
+    let w = first_line (texts ns) e in
+    let z = first_before (column_by None (collection_of indent) (texts (ls ++ ns) ++ e ∷ [])) ns e are inner further in
+    let least = least_is (leading_spaces w) in
+    let same = same_column None (collection_of (leading_spaces w)) ls ns e z.written (omega (arith, least)) in
+    let start = z.start in
+    elim (first_left (column_by None (collection_of indent) (texts (ls ++ ns) ++ e ∷ [])) w z) [ inl h ↦ omega (arith, least, same, h) | inr h ↦ omega (arith, least, same, h, start) ]
 
 -- ---- the two ends
 
 pub style_same : (s t : BlockStyle) → indicator_of s ≡ indicator_of t → s ≡ t
 style_same defs.literal defs.literal e = refl
-style_same defs.literal defs.folded e = let no : true ≡ false = ap (λ n. n == 124) e in absurd (true_false no)
-style_same defs.folded defs.literal e = let no : false ≡ true = ap (λ n. n == 124) e in absurd (true_false (sym no))
+style_same defs.literal defs.folded e = let no : true ≡ false = ap (λ n. n == 124) e in cc
+style_same defs.folded defs.literal e = let no : false ≡ true = ap (λ n. n == 124) e in cc
 style_same defs.folded defs.folded e = refl
-
-header_fails : (literal : Bool) (indent c : ℕ) (text : List ℕ) (p : Position) (f : Fault) → header p text (past p) ≡ Err f → block literal indent (c ∷ text) p ≡ Err f
-unfolding block
-header_fails literal indent c text p f e = rw e refl
 
 module _ (style : BlockStyle) (indent : ℕ) (p : Position) where
   abbrev Ends : List ℕ → Type 0
   Ends text = BlockEndsAs style indent p text (block (is_literal_style style) indent (indicator_of style ∷ text) p)
 
+  header_refused : (line after : List ℕ) (f : Fault) → is_in_line line ≡ true → ends_line after ≡ true → header_ends.HeaderEndsAs p style line after (Err f) → header p (line ++ after) (past p) ≡ Err f → Ends (line ++ after)
+  unfolding block
+  header_refused line after f inner at_end why e = bad_header line after f refl inner at_end why (rw e refl)
+
   by_header : (line after : List ℕ) → is_in_line line ≡ true → ends_line after ≡ true → header_ends.HeaderEndsAs p style line after (header p (line ++ after) (past p))
       → ((h : defs.Header) → header_of (indicator_of style ∷ line) ≡ Some h → begins_with tab (linebreak after p).rest ≡ false → Ends (line ++ after)) → Ends (line ++ after)
   by_header line after inner at_end (reads h f t e) go = go h f t
-  by_header line after inner at_end (tabbed h f t e) go =
-      bad_header line after (At problem.BlockScalarTab p) refl inner at_end (tabbed h f t refl) (header_fails (is_literal_style style) indent (indicator_of style) (line ++ after) p (At problem.BlockScalarTab p) e)
-  by_header line after inner at_end (zero_digit f z e) go =
-      bad_header line after (At problem.BlockScalarZero p) refl inner at_end (zero_digit f z refl) (header_fails (is_literal_style style) indent (indicator_of style) (line ++ after) p (At problem.BlockScalarZero p) e)
-  by_header line after inner at_end (comment g b t f w c e) go =
-      bad_header line after (At problem.CommentNotSeparated (along b (past p))) refl inner at_end (comment g b t f w c refl) (header_fails (is_literal_style style) indent (indicator_of style) (line ++ after) p (At problem.CommentNotSeparated (along b (past p))) e)
-  by_header line after inner at_end (no_header f z m b e) go =
-      bad_header line after (At problem.BlockScalarHeader p) refl inner at_end (no_header f z m b refl) (header_fails (is_literal_style style) indent (indicator_of style) (line ++ after) p (At problem.BlockScalarHeader p) e)
+  by_header line after inner at_end (tabbed h f t e) go = header_refused line after (At problem.BlockScalarTab p) inner at_end (tabbed h f t refl) e
+  by_header line after inner at_end (zero_digit f z e) go = header_refused line after (At problem.BlockScalarZero p) inner at_end (zero_digit f z refl) e
+  by_header line after inner at_end (comment g b t f w c e) go = header_refused line after (At problem.CommentNotSeparated (along b (past p))) inner at_end (comment g b t f w c refl) e
+  by_header line after inner at_end (no_header f z m b e) go = header_refused line after (At problem.BlockScalarHeader p) inner at_end (no_header f z m b refl) e
 
   -- a piece that is a block scalar
   found : (text piece next : List ℕ) (h : defs.Header) (line : List ℕ) (b : BlockRead) → header_of (indicator_of style ∷ line) ≡ Some h → h.style ≡ b.style → indicator_of style ∷ text ≡ piece ++ next → list_all is_some next ≡ true
@@ -163,14 +139,14 @@ module _ (style : BlockStyle) (indent : ℕ) (p : Position) where
         let some_next_text : list_all is_some (spell ns last) ≡ true = (line_parts column own (spell ns last) (rw (← joined) some)).1 in
         let are_own : AreLines own (spell ns last) = are_first own ns last (rw (← split_at) are) in
         let column_is : column ≡ column_by h.digit (collection_of indent) (texts (own ++ ns) ++ last ∷ []) = ap (λ x. column_by h.digit (collection_of indent) (texts x ++ last ∷ [])) split_at in
-        let same : column ≡ column_by h.digit (collection_of indent) (texts own) = column_is ∙ part_column h.digit indent own ns last (rw (← column_is) further) in
-        let fits_own : Fits k (spell own []) = fits_less k own (spell ns last) (rw (← joined) fits) in
+        let same : column ≡ column_by h.digit (collection_of indent) (texts own) = column_is ∙ part_column h.digit indent own ns last (are_second own ns last (rw (← split_at) are)) last_inner (rw (← column_is) further) in
+        let fits_own : Fits k (spell own []) = fits_before k own (spell ns last) [] (fits_alone k) (rw (← joined) fits) in
         let tab_there : begins_with tab (spell own (spell ns last)) ≡ false = rw (← joined) tabless in
         let not_end = further_not_end column (spell ns last) further some_next_text in
         let cut : indicator_of style ∷ (line ++ put k (spell ls last)) ≡ (indicator_of style ∷ (line ++ put k (spell own []))) ++ spell ns last =
         ap (λ a. indicator_of style ∷ (line ++ put k a)) joined ∙ sym (spell_more (record { text = indicator_of style ∷ line; by = k } ∷ own) [] (spell ns last)) in
         found (line ++ put k (spell ls last)) (indicator_of style ∷ (line ++ put k (spell own []))) (spell ns last) h line _ is refl cut some_next_text
-        (text_value own ns rs split_at rows further same (are_less own (spell ns last) are_own) fits_own (tab_of own (spell ns last) tab_there) not_end)
+        (text_value own ns rs split_at rows further same (are_before own (spell ns last) [] fits_alone are_own) fits_own (tab_of own (spell ns last) tab_there) not_end)
       where
         tab_of : (own : List Line) (next : List ℕ) → begins_with tab (spell own next) ≡ false → starts_with_tab (texts own) ≡ false
         tab_of [] next e = refl
@@ -191,7 +167,6 @@ module _ (style : BlockStyle) (indent : ℕ) (p : Position) where
       (λ h is t. with_lines l.text l.by ls last are.0 are.1 are.2 inner h is (sym (ap (λ (r : Read (Unit {0})). begins_with tab r.rest) (linebreak_put l.by (spell ls last) p are.1)) ∙ t) rest)
 
 pub scans_end : BlockScansEndAsTheirTextSays
-scans_end style indent text p some = by (lined text)
-  where
-    by : Lined text → BlockEndsAs style indent p text (block (is_literal_style style) indent (indicator_of style ∷ text) p)
-    by z = rw (z.is) (of_lines style indent p z.lines z.last z.are z.inner (rw (← z.is) some))
+scans_end style indent text p some =
+    let z = lined text in
+    subst (Ends style indent p) (sym z.is) (of_lines style indent p z.lines z.last z.are z.inner (ap (list_all is_some) (sym z.is) ∙ some))

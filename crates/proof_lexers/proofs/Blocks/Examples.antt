@@ -1,10 +1,8 @@
 -- Rows: what is read of a piece, and which text after it is refused.
 use Rattle.std.specs.Prelude.{◌≡◌, refl, [], true, false, Some, codes}
-use Rattle.proof_lexers.proofs.Common.{are_marks, digit_of, is_blank_or_end, is_content_line, is_empty_line, is_nul, is_tabbed, literal, Position, row_of, sign_of}
+use Rattle.proof_lexers.proofs.Common.{are_marks, block_read, digit_of, folded, is_blank_or_end, is_content_line, is_empty_line, is_nul, is_tabbed, literal, Position, read_block, row_of, sign_of}
 use Rattle.defs_text.specs.Classes.{is_blank, is_break}
-use Rattle.defs_text.specs.BlockScalar.{folded}
-use Rattle.defs_token.specs.BlockPiece.{block_read}
-use Rattle.proof_lexers.specs.BlockScan.{is_shallow, read_block}
+use Rattle.proof_lexers.specs.BlockScan.{is_shallow}
 
 abbrev start : Position
 start = record { index = 2; line = 1; col = 2 }

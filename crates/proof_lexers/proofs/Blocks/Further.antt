@@ -1,17 +1,9 @@
 -- Further text ends a block scalar.
-use Rattle.std.proofs.Common.{◌≡◌, ◌≤◌, ◌<◌, ℕ, zero, suc, ◌+◌, List, [], ◌∷◌, Bool, true, false, ◌&&◌, not, ◌==◌, nat_lt, Ok, refl, ap, sym, ◌∙◌, arith}
-use Rattle.std.proofs.lemmas.Bool.{and_parts, eqb-true, ne_eqb, lt-ltb, not-true}
-use Rattle.std.proofs.lemmas.Bool.Decides.{nat_tests}
-use Rattle.proof_lexers.proofs.Common.{indent_from, is_document_marker, is_further_text, is_outside, Position, position_past}
-use Rattle.yaml_chars.specs.Class.{is_break}
+use Rattle.proof_lexers.proofs.Common.{[], and_parts, ap, arith, Bool, cases_Bool, eqb-true, false, indent_from, inl, inr, is_break, is_document_marker, is_further_text, is_outside, Lines, List, lt-ltb, nat_lt, nat_tests, ne_eqb, not, not-true, Ok, past, past_spaces, Position, position_past, refl, suc, sym, true, without_spaces, zero, ℕ, ◌&&◌, ◌+◌, ◌<◌, ◌==◌, ◌∙◌, ◌∷◌, ◌≡◌, ◌≤◌}
 use Rattle.defs_text.specs.Classes as classes
-use Rattle.defs_token.specs.BlockPiece.{past_spaces}
-use Rattle.model_scanner.specs.Machine.{past}
-use Rattle.model_scanner.specs.BlockScalar.{Lines, begins}
-use Rattle.proof_lexers.proofs.Bridges.{same_break}
-use Rattle.proof_lexers.specs.BlockScan.{without_spaces}
+use Rattle.model_scanner.specs.BlockScalar.{begins}
+use Rattle.proof_lexers.proofs.Bridges.{same_break, same_marker}
 use Rattle.proof_lexers.proofs.Blocks.Margins.{at}
-use Rattle.proof_lexers.proofs.Blocks.Markers.{marker_here}
 use Rattle.proof_lexers.proofs.Blocks.Positions.{space_past}
 use Rattle.proof_lexers.proofs.Blocks.Rows.{front, scan, through}
 
@@ -29,9 +21,6 @@ pub record Outside (column : ℕ) (next : List ℕ) (p : Position) : Type 0 wher
   pub margin : ((char == 32) && nat_lt position.col column) ≡ false
   pub none : begins column position.col (char ∷ rest) ≡ false
   pub found : (b : List ℕ) → indent_from column next (at p b) ≡ record { rest = char ∷ rest; position = position; value = record { column = column; breaks = b } }
-
-off_column : (n m : ℕ) → n + suc m ≡ suc (n + m)
-off_column n m = omega arith
 
 space_outside : (column c : ℕ) (r : List ℕ) (p : Position) → (c == 32) ≡ true → nat_lt p.col column ≡ true → Outside column r (past p) → Outside column (c ∷ r) p
 space_outside column c r p e deep z =
@@ -72,23 +61,17 @@ before_column column (c ∷ a) col h = rw (ne_eqb col column (λ e. omega (arith
 pub outside : (n column : ℕ) (r : List ℕ) (p : Position) → p.col + n ≡ column → is_outside n r ≡ true → Outside column r p
 outside zero column r p col h = cc
 outside (suc n) column [] p col h = cc
-outside (suc n) column (c ∷ r) p col h = by (c == 32) refl (λ x. outside n column r (past p) (omega (arith, col)) x)
-  where
-    by : (s : Bool) → (c == 32) ≡ s → (is_outside n r ≡ true → Outside column r (past p)) → Outside column (c ∷ r) p
-    by true e go = let more : is_outside n r ≡ true = rw e at h in space_outside column c r p e (lt-ltb p.col column (omega (arith, col))) (go more)
-    by false e go =
-        let solid : (not (classes.is_break c) && not (classes.is_nul c)) ≡ true = rw e at h in
-        let q = and_parts (not (classes.is_break c)) (not (classes.is_nul c)) solid in
-        here_outside column c r p e (sym (same_break c) ∙ not-true _ q.0) (omega (arith, col)) (before_column column (c ∷ r) p.col (omega (arith, col)))
+outside (suc n) column (c ∷ r) p col h = elim (cases_Bool (c == 32)) [
+  | inl e ↦ space_outside column c r p e (lt-ltb p.col column (omega (arith, col))) (outside n column r (past p) (omega (arith, col)) (rw e at h))
+  | inr e ↦
+      let q = and_parts (not (classes.is_break c)) (not (classes.is_nul c)) (rw e at h) in
+      here_outside column c r p e (sym (same_break c) ∙ not-true _ q.0) (omega (arith, col)) (before_column column (c ∷ r) p.col (omega (arith, col)))
+]
 
--- a document marker's first character
-record Mark (c : ℕ) : Type 0 where
-  solid : is_break c ≡ false
-  space : (c == 32) ≡ false
-
-mark : (c d e : ℕ) (r : List ℕ) → is_document_marker (c ∷ d ∷ e ∷ r) ≡ true → Mark c
+-- a document marker's first character is neither a break nor a space
+mark : (c d e : ℕ) (r : List ℕ) → is_document_marker (c ∷ d ∷ e ∷ r) ≡ true → (is_break c ≡ false) × ((c == 32) ≡ false)
 unfolding classes.are_marks is_break
-mark c d e r h = record { solid = grind (arith, nat_tests); space = grind (arith, nat_tests) }
+mark c d e r h = (grind (arith, nat_tests), grind (arith, nat_tests))
 
 marked : (r : List ℕ) (p : Position) → p.col ≡ 0 → is_document_marker r ≡ true → Outside 0 r p
 unfolding begins
@@ -97,9 +80,9 @@ marked (c ∷ []) p col h = cc
 marked (c ∷ d ∷ []) p col h = cc
 marked (c ∷ d ∷ e ∷ r) p col h =
     let m = mark c d e r h in
-    let here = marker_here p.col (c ∷ d ∷ e ∷ r) in
+    let here = same_marker p.col (c ∷ d ∷ e ∷ r) in
     let none : begins 0 p.col (c ∷ d ∷ e ∷ r) ≡ false = rw (here, h, col) refl in
-    here_outside 0 c (d ∷ e ∷ r) p m.space m.solid (omega (arith, col)) none
+    here_outside 0 c (d ∷ e ∷ r) p m.1 m.0 (omega (arith, col)) none
 
 pub further_outside : (column : ℕ) (r : List ℕ) (p : Position) → p.col ≡ 0 → is_further_text column r ≡ true → Outside column r p
 further_outside zero r p col h = marked r p col h

@@ -1,15 +1,8 @@
 -- What a header says of itself, and that the model reads it so.
-use Rattle.std.proofs.Common.{◌≡◌, ℕ, suc, ◌-◌, ◌≤◌, List, [], ◌∷◌, ◌++◌, Bool, true, false, ◌==◌, if◌then◌else◌, Option, Some, None, Ok, Err, refl, ap, sym, ◌∙◌, arith}
-use Rattle.std.proofs.lemmas.Bool.{eqb-true}
-use Rattle.std.proofs.lemmas.Bool.Decides.{nat_tests}
-use Rattle.proof_lexers.proofs.Common.{along, At, begins_with, BlockStyle, clip, digit_by, digit_of, digit_or_zero, header, header_of, indicator_of, is_in_line, is_rest_of_line, linebreak, literal, no_header, Position, read_header, sign_of, zero_digit}
+use Rattle.proof_lexers.proofs.Common.{[], after_digit, after_sign, after_style, along, ap, arith, At, begins_with, BlockStyle, Bool, cases_Bool, clip, comment, digit_by, digit_of, digit_or_end, digit_or_zero, ended, ends_line, eqb-true, Err, false, first_indicator, folded, header, header_of, if◌then◌else◌, indicator_of, inl, inr, is_in_line, is_rest_of_line, linebreak, List, literal, nat_tests, no_header, None, Ok, Option, past, Position, read_header, reads, refl, sign_of, sign_or_end, Some, suc, sym, tab, tabbed, true, zero_digit, ℕ, ◌++◌, ◌-◌, ◌==◌, ◌∙◌, ◌∷◌, ◌≡◌, ◌≤◌}
 use Rattle.yaml_tokens.specs.declared.problem.Problem.TheVariants as problem
 use Rattle.defs_text.specs.Classes as classes
-use Rattle.defs_text.specs.Classes.{tab}
 use Rattle.defs_text.specs.BlockScalar as defs
-use Rattle.defs_text.specs.BlockScalar.{folded, ended, after_style, first_indicator, after_sign, digit_or_end, after_digit, sign_or_end}
-use Rattle.model_scanner.specs.Machine.{past}
-use Rattle.proof_lexers.specs.HeaderEnds.{ends_line, HeaderEndsAs, reads, tabbed, comment}
 use Rattle.proof_lexers.proofs.Blocks.Headers.{headers_end}
 use Rattle.proof_lexers.proofs.Blocks.Written.{Break, feed, carriage, both, put, Fits}
 use Rattle.proof_lexers.proofs.Blocks.Margins.{after_break}
@@ -23,28 +16,22 @@ from_some : (s : BlockStyle) (g h : defs.Header) → From s g → Some g ≡ Som
 from_some s g h z e = let same : g ≡ h = cc in rw (← same) z
 
 from_ended : (s : BlockStyle) (g h : defs.Header) (r : List ℕ) → From s g → ended g r ≡ Some h → From s h
-from_ended s g h r z e = by (is_rest_of_line r) e
-  where
-    by : (b : Bool) → (if b then Some g else None) ≡ Some h → From s h
-    by true f = from_some s g h z f
-    by false f = cc
+from_ended s g h r z e = elim (cases_Bool (is_rest_of_line r)) [ inl f ↦ from_some s g h z (rw f at e) | inr f ↦ let no : None ≡ Some h = rw f at e in cc ]
 
 abbrev made : BlockStyle → defs.Chomping → Option ℕ → defs.Header
 made s ch d = record { style = s; chomping = ch; digit = d }
 
 digit_from : (c d : ℕ) → digit_of c ≡ Some d → digit_by d ≡ Some d
 unfolding digit_of
-digit_from c d h = by (classes.is_between 49 57 c) refl h
-  where
-    counted : (n : ℕ) → 49 ≤ n → digit_by (n - 48) ≡ Some (n - 48)
-    counted n le = let e : n - 48 ≡ suc (n - 49) = omega (arith, le) in rw e refl
-
-    by : (b : Bool) → classes.is_between 49 57 c ≡ b → (if b then Some (c - 48) else None) ≡ Some d → digit_by d ≡ Some d
-    by true e f =
-        let same : c - 48 ≡ d = cc in
-        let least : 49 ≤ c = grind (arith, nat_tests) in
-        rw (← same) (counted c least)
-    by false e f = cc
+digit_from c d h = elim (cases_Bool (classes.is_between 49 57 c)) [
+  | inl e ↦
+      let one : Some (c - 48) ≡ Some d = rw e at h in
+      let same : c - 48 ≡ d = cc in
+      let least : 49 ≤ c = grind (arith, nat_tests) in
+      let counted : c - 48 ≡ suc (c - 49) = omega (arith, least) in
+      rw (← same, counted) refl
+  | inr e ↦ let no : None ≡ Some d = rw e at h in cc
+]
 
 from_sign : (s : BlockStyle) (ch : defs.Chomping) (l : List ℕ) (h : defs.Header) → after_sign s ch l ≡ Some h → From s h
 from_sign s ch [] h e = from_some s (made s ch None) h (record { style_is = refl; digit_is = refl }) e
@@ -91,24 +78,22 @@ said c l h e = by (c == 124) (c == 62) refl refl e
 
 module _ (h : defs.Header) (line after : List ℕ) (p : Position) (is : header_of (indicator_of h.style ∷ line) ≡ Some h) where
   pub header_reads : is_in_line line ≡ true → ends_line after ≡ true → begins_with tab (linebreak after p).rest ≡ false → header p (line ++ after) (past p) ≡ Ok (read_header h after (along line (past p)))
-  header_reads inner ends still = by (headers_end h.style line after p inner ends)
-    where
-      by : HeaderEndsAs p h.style line after (header p (line ++ after) (past p)) → header p (line ++ after) (past p) ≡ Ok (read_header h after (along line (past p)))
-      by (reads g f t e) = let same : g ≡ h = (let x : Some g ≡ Some h = sym f ∙ is in cc) in e ∙ ap (λ k. Ok (read_header k after (along line (past p)))) same
-      by (tabbed g f t e) = let no : true ≡ false = sym t ∙ still in cc
-      by (zero_digit f z e) = let no : None ≡ Some h = sym f ∙ is in cc
-      by (comment g b t f w c e) = let no : None ≡ Some h = sym f ∙ is in cc
-      by (no_header f z m b e) = let no : None ≡ Some h = sym f ∙ is in cc
+  header_reads inner ends still = elim (headers_end h.style line after p inner ends) [
+    | reads g f t e ↦ let same : g ≡ h = (let x : Some g ≡ Some h = sym f ∙ is in cc) in e ∙ ap (λ k. Ok (read_header k after (along line (past p)))) same
+    | tabbed g f t e ↦ let no : true ≡ false = sym t ∙ still in cc
+    | zero_digit f z e ↦ let no : None ≡ Some h = sym f ∙ is in cc
+    | comment g b t f w c e ↦ let no : None ≡ Some h = sym f ∙ is in cc
+    | no_header f z m b e ↦ let no : None ≡ Some h = sym f ∙ is in cc
+  ]
 
   pub header_tabs : is_in_line line ≡ true → ends_line after ≡ true → begins_with tab (linebreak after p).rest ≡ true → header p (line ++ after) (past p) ≡ Err (At problem.BlockScalarTab p)
-  header_tabs inner ends still = by (headers_end h.style line after p inner ends)
-    where
-      by : HeaderEndsAs p h.style line after (header p (line ++ after) (past p)) → header p (line ++ after) (past p) ≡ Err (At problem.BlockScalarTab p)
-      by (reads g f t e) = let no : false ≡ true = sym t ∙ still in cc
-      by (tabbed g f t e) = e
-      by (zero_digit f z e) = let no : None ≡ Some h = sym f ∙ is in cc
-      by (comment g b t f w c e) = let no : None ≡ Some h = sym f ∙ is in cc
-      by (no_header f z m b e) = let no : None ≡ Some h = sym f ∙ is in cc
+  header_tabs inner ends still = elim (headers_end h.style line after p inner ends) [
+    | reads g f t e ↦ let no : false ≡ true = sym t ∙ still in cc
+    | tabbed g f t e ↦ e
+    | zero_digit f z e ↦ let no : None ≡ Some h = sym f ∙ is in cc
+    | comment g b t f w c e ↦ let no : None ≡ Some h = sym f ∙ is in cc
+    | no_header f z m b e ↦ let no : None ≡ Some h = sym f ∙ is in cc
+  ]
 
 pub linebreak_put : (k : Break) (a : List ℕ) (q : Position) → Fits k a → linebreak (put k a) q ≡ record { rest = a; position = after_break k q; value = tt }
 linebreak_put feed a q fits = refl

@@ -1,8 +1,5 @@
 -- The characters of a line are no breaks.
-use Rattle.std.proofs.Common.{◌≡◌, ℕ, List, ◌∷◌, true, false, not}
-use Rattle.std.proofs.lemmas.Bool.{and_parts, not-true}
-use Rattle.proof_lexers.proofs.Common.{is_in_line}
-use Rattle.yaml_chars.specs.Class.{is_break}
+use Rattle.proof_lexers.proofs.Common.{and_parts, false, is_break, is_in_line, List, not, not-true, true, ℕ, ◌∷◌, ◌≡◌}
 use Rattle.defs_text.specs.Classes as classes
 use Rattle.proof_lexers.proofs.Bridges.{same_break}
 

@@ -1,10 +1,5 @@
 -- What the model does before content: spaces and breaks.
-use Rattle.std.proofs.Common.{◌≡◌, ◌≤◌, ℕ, suc, ◌+◌, List, [], ◌∷◌, ◌++◌, Bool, true, false, ◌&&◌, ◌==◌, nat_lt, length, refl, ap, sym, ◌∙◌, arith}
-use Rattle.std.proofs.lemmas.Bool.{and_parts, lt-ltb}
-use Rattle.proof_lexers.proofs.Common.{along, Column, indent_from, is_cr_lf, is_spaces, lines_from, past_break, Position, Read}
-use Rattle.yaml_chars.specs.Class.{is_break}
-use Rattle.model_scanner.specs.Machine.{past}
-use Rattle.model_scanner.specs.BlockScalar.{Margin, Lines, BlockState, margin}
+use Rattle.proof_lexers.proofs.Common.{[], along, and_parts, ap, append-nil, arith, BlockState, Bool, cases_Bool, Column, false, indent_from, inl, inr, is_break, is_cr_lf, is_spaces, length, Lines, lines_from, List, lt-ltb, Margin, margin, nat_lt, past, past_break, Position, Read, refl, sym, true, ℕ, ◌&&◌, ◌++◌, ◌+◌, ◌==◌, ◌∙◌, ◌∷◌, ◌≡◌, ◌≤◌}
 use Rattle.proof_lexers.proofs.Blocks.Written.{Break, feed, carriage, both, Line, put, Fits}
 
 -- the position after a break
@@ -24,6 +19,10 @@ abbrev pub after_lines : List Line → Position → Position
 after_lines [] p = p
 after_lines (l ∷ ls) p = after_lines ls (after_line l p)
 
+pub lines_front : (ls : List Line) (q : Position) → q.col ≡ 0 → (after_lines ls q).col ≡ 0
+lines_front [] q e = e
+lines_front (l ∷ ls) q e = lines_front ls (after_line l q) refl
+
 -- ---- looking for content in a column
 
 abbrev pub at : Position → List ℕ → Margin
@@ -37,22 +36,17 @@ before p l b = record { mode = margin; position = p; lines = record l { breaks =
 pub margin_passes : (literal : Bool) (column : ℕ) (a : List ℕ) (p : Position) (l : Lines) (b : List ℕ)
     → lines_from literal column a (before p l b) ≡ lines_from literal column (indent_from column a (at p b)).rest (before (indent_from column a (at p b)).position l (indent_from column a (at p b)).value.breaks)
 margin_passes literal column [] p l b = refl
-margin_passes literal column (c ∷ a) p l b = by ((c == 32) && nat_lt p.col column) (is_break c) (is_cr_lf c a) refl refl refl (λ q x. margin_passes literal column a q l x)
-  where
-    by : (s k f : Bool) → ((c == 32) && nat_lt p.col column) ≡ s → is_break c ≡ k → is_cr_lf c a ≡ f
-        → ((q : Position) (x : List ℕ) → lines_from literal column a (before q l x) ≡ lines_from literal column (indent_from column a (at q x)).rest (before (indent_from column a (at q x)).position l (indent_from column a (at q x)).value.breaks))
-        → lines_from literal column (c ∷ a) (before p l b) ≡ lines_from literal column (indent_from column (c ∷ a) (at p b)).rest (before (indent_from column (c ∷ a) (at p b)).position l (indent_from column (c ∷ a) (at p b)).value.breaks)
-    by true k f e g h go = rw e (go (past p) b)
-    by false true true e g h go = rw (e, g, h) (go (past p) b)
-    by false true false e g h go = rw (e, g, h) (go (past_break p) (b ++ 10 ∷ []))
-    by false false f e g h go =
+margin_passes literal column (c ∷ a) p l b = elim (cases_Bool ((c == 32) && nat_lt p.col column)) [
+  | inl e ↦ rw e (margin_passes literal column a (past p) l b)
+  | inr e ↦ elim (cases_Bool (is_break c)) [
+    | inl g ↦ elim (cases_Bool (is_cr_lf c a)) [ inl h ↦ rw (e, g, h) (margin_passes literal column a (past p) l b) | inr h ↦ rw (e, g, h) (margin_passes literal column a (past_break p) l (b ++ 10 ∷ [])) ]
+    | inr g ↦
         let stops : indent_from column (c ∷ a) (at p b) ≡ record { rest = c ∷ a; position = p; value = record { column = column; breaks = b } } = rw (e, g) refl in
         ap (λ (r : Read Column). lines_from literal column r.rest (before r.position l r.value.breaks)) (sym stops)
+  ]
+]
 
 -- ---- spaces
-
-no_less : (n m : ℕ) → n + suc m ≤ 0 → ⊥
-no_less n m h = omega (arith, h)
 
 along_spaces : (column : ℕ) (w a : List ℕ) (p : Position) (b : List ℕ) → is_spaces w ≡ true → p.col + length w ≤ column → indent_from column (w ++ a) (at p b) ≡ indent_from column a (at (along w p) b)
 along_spaces column [] a p b h le = refl
@@ -77,8 +71,4 @@ pub empty_passes : (column : ℕ) (l : Line) (a : List ℕ) (p : Position) (b : 
 empty_passes column l a p b h le fits = along_spaces column l.text (put l.by a) p b h le ∙ at_break column l.by a (along l.text p) b fits
 
 pub last_passes : (column : ℕ) (w : List ℕ) (p : Position) (b : List ℕ) → is_spaces w ≡ true → p.col + length w ≤ column → indent_from column w (at p b) ≡ record { rest = []; position = along w p; value = record { column = column; breaks = b } }
-last_passes column [] p b h le = refl
-last_passes column (c ∷ w) p b h le =
-    let q = and_parts (c == 32) (is_spaces w) h in
-    let deep : nat_lt p.col column ≡ true = lt-ltb p.col column (omega (arith, le)) in
-    rw (q.0, deep) (last_passes column w (past p) b q.1 (omega (arith, le)))
+last_passes column w p b h le = ap (λ a. indent_from column a (at p b)) (sym (append-nil w)) ∙ along_spaces column w [] p b h le

@@ -1,24 +1,16 @@
 -- Each piece that is a block scalar is read as it.
-use Rattle.std.proofs.Common.{◌≡◌, ℕ, zero, suc, List, [], ◌∷◌, ◌++◌, Bool, true, false, ◌&&◌, not, ◌==◌, max, slice_index, Option, Some, None, refl, ap, sym, ◌∙◌, append-nil, append_assoc, arith}
-use Rattle.std.specs.List.{list_all}
-use Rattle.std.proofs.lemmas.Bool.{and_parts, not-true}
-use Rattle.std.proofs.lemmas.Bool.Decides.{nat_tests}
-use Rattle.proof_lexers.proofs.Common.{begins_with, block, BlockRead, collection_of, column_by, deepest_start, digit_by, digit_or_zero, header_of, indent_from, indicator_of, is_at_end, is_document_marker, is_further_text, is_in_line, is_literal_style, is_outside, is_tabbed, least_column, Position, Row, row_of, rows_of, Split, split, starts_with_tab, unbroken, value_before_end, value_before_text}
+use Rattle.proof_lexers.proofs.Common.{[], and_parts, ap, append-nil, begins_with, block, block_value, BlockPiecesAreRead, BlockRead, Body, body, Bool, collection_of, column_by, digit_by, digit_or_zero, false, further_is_no_break, further_text, header_of, indent_from, indicator_of, input_ends, is_at_end, is_further_text, is_in_line, is_literal_style, is_single, is_some, is_tabbed, IsRead, List, list_all, None, not, not-true, Option, Position, read_body, read_lines, read_split, refl, Row, row_of, rows_of, slice_index, Some, Split, split, starts_with_tab, subst, sym, tab, true, unbroken, value_at_end, value_at_text, value_before_end, value_before_text, ℕ, ◌&&◌, ◌++◌, ◌==◌, ◌∙◌, ◌∷◌, ◌≡◌}
 use Rattle.defs_text.specs.Classes as classes
-use Rattle.defs_text.specs.Classes.{tab}
 use Rattle.defs_text.specs.BlockScalar as defs
-use Rattle.defs_text.specs.BlockScalar.{further_text, body, input_ends, Body, value_at_text, value_at_end, block_value}
-use Rattle.defs_token.specs.BlockPiece.{read_body, read_lines, read_split}
-use Rattle.proof_lexers.specs.BlockScan.{is_some, IsRead, tabbed, is_single}
-use Rattle.proof_lexers.specs.BlockLaws.{BlockPiecesAreRead}
+use Rattle.proof_lexers.specs.BlockScan.{tabbed}
 use Rattle.proof_lexers.proofs.Blocks.InLine.{first_inner}
-use Rattle.proof_lexers.proofs.Blocks.Written.{Break, feed, carriage, both, Line, put, spell, texts, Fits, AreLines, Lined, lined, split_spell}
-use Rattle.proof_lexers.proofs.Blocks.Margins.{at, after_line, after_lines}
+use Rattle.proof_lexers.proofs.Blocks.Written.{Break, feed, carriage, both, Line, put, spell, texts, Fits, AreLines, lined, split_spell}
+use Rattle.proof_lexers.proofs.Blocks.Margins.{at, after_lines, lines_front}
 use Rattle.proof_lexers.proofs.Blocks.Positions.{spell_more}
 use Rattle.proof_lexers.proofs.Blocks.Rows.{row_is}
 use Rattle.proof_lexers.proofs.Blocks.Further.{further_outside}
-use Rattle.proof_lexers.proofs.Blocks.HeaderFacts.{Said, said}
-use Rattle.proof_lexers.proofs.Blocks.Columns.{Deep, deep_next, same_column, spell_append, texts_append, are_append}
+use Rattle.proof_lexers.proofs.Blocks.HeaderFacts.{said}
+use Rattle.proof_lexers.proofs.Blocks.Columns.{spell_append, are_append, first_before, same_column}
 use Rattle.proof_lexers.proofs.Blocks.Scans.{style_inner, start, after, block_is, tab_fails, before_further, before_the_end, header_alone_is_read}
 
 -- ---- a TAB after the header
@@ -39,26 +31,12 @@ tab_whole (l ∷ ls) e = tab_line l.text (spell ls e) l.by (texts ls ++ e ∷ []
 
 -- ---- further text begins with no line feed, and is not the end
 
-outside_feed : (n : ℕ) (r : List ℕ) → is_outside n r ≡ true → (slice_index r 0 == 10) ≡ false
-unfolding classes.is_break
-outside_feed zero r h = cc
-outside_feed (suc n) [] h = refl
-outside_feed (suc n) (c ∷ r) h = by (c == 10) refl
-  where
-    by : (b : Bool) → (c == 10) ≡ b → (c == 10) ≡ false
-    by true e = grind (arith, nat_tests)
-    by false e = e
-
-marker_feed : (r : List ℕ) → is_document_marker r ≡ true → (slice_index r 0 == 10) ≡ false
-unfolding classes.are_marks
-marker_feed [] h = refl
-marker_feed (c ∷ []) h = cc
-marker_feed (c ∷ d ∷ []) h = cc
-marker_feed (c ∷ d ∷ e ∷ r) h = grind (arith, nat_tests)
-
 no_feed : (column : ℕ) (r : List ℕ) → is_further_text column r ≡ true → (slice_index r 0 == 10) ≡ false
-no_feed zero r h = marker_feed r h
-no_feed (suc n) r h = outside_feed (suc n) r h
+no_feed column r h = by r (further_is_no_break column r h)
+  where
+    by : (r : List ℕ) → begins_with 10 r ≡ false → (slice_index r 0 == 10) ≡ false
+    by [] e = refl
+    by (c ∷ r) e = e
 
 -- a break stays one before further text
 fits_put : (k m : Break) (a b : List ℕ) → Fits k (put m a) → Fits k (put m b)
@@ -68,7 +46,7 @@ fits_put carriage feed a b h = h
 fits_put carriage carriage a b h = refl
 fits_put carriage both a b h = refl
 
-pub fits_line : (k : Break) (w : List ℕ) (m : Break) (a b : List ℕ) → Fits k (w ++ put m a) → Fits k (w ++ put m b)
+fits_line : (k : Break) (w : List ℕ) (m : Break) (a b : List ℕ) → Fits k (w ++ put m a) → Fits k (w ++ put m b)
 fits_line k [] m a b h = fits_put k m a b h
 fits_line feed (c ∷ w) m a b h = tt
 fits_line carriage (c ∷ w) m a b h = h
@@ -79,23 +57,21 @@ fits_next feed next h = tt
 fits_next carriage next h = h
 fits_next both next h = tt
 
-fits_more : (k : Break) (ls : List Line) (next : List ℕ) → (slice_index next 0 == 10) ≡ false → Fits k (spell ls []) → Fits k (spell ls next)
-fits_more k [] next free h = fits_next k next free
-fits_more k (l ∷ ls) next free h = fits_line k l.text l.by (spell ls []) (spell ls next) h
+pub fits_before : (k : Break) (ls : List Line) (a b : List ℕ) → Fits k b → Fits k (spell ls a) → Fits k (spell ls b)
+fits_before k [] a b fits h = fits
+fits_before k (l ∷ ls) a b fits h = fits_line k l.text l.by (spell ls a) (spell ls b) h
 
-are_more : (ls : List Line) (next : List ℕ) → (slice_index next 0 == 10) ≡ false → AreLines ls [] → AreLines ls next
-are_more [] next free are = tt
-are_more (l ∷ ls) next free are = (are.0, fits_more l.by ls next free are.1, are_more ls next free are.2)
+pub are_before : (ls : List Line) (a b : List ℕ) → ((k : Break) → Fits k b) → AreLines ls a → AreLines ls b
+are_before [] a b fits are = tt
+are_before (l ∷ ls) a b fits are = (are.0, fits_before l.by ls a b (fits l.by) are.1, are_before ls a b fits are.2)
 
 -- ---- the column is that of the whole text
 
-pub whole_column : (digit : Option ℕ) (indent : ℕ) (ls ns : List Line) (e : List ℕ) (column : ℕ) → column_by digit (collection_of indent) (texts ls) ≡ column → is_further_text column (spell ns e) ≡ true
+pub whole_column : (digit : Option ℕ) (indent : ℕ) (ls ns : List Line) (e : List ℕ) (column : ℕ) → AreLines ns e → is_in_line e ≡ true → column_by digit (collection_of indent) (texts ls) ≡ column → is_further_text column (spell ns e) ≡ true
     → column_by digit (collection_of indent) (texts (ls ++ ns) ++ e ∷ []) ≡ column
-whole_column (Some d) indent ls ns e column same further = same
-whole_column None indent ls ns e column same further =
-    let deep : Deep (max (deepest_start (texts ls)) (least_column (collection_of indent))) (deepest_start (texts ns ++ e ∷ [])) = rw same (deep_next column ns e further) in
-    ap (λ x. max (deepest_start x) (least_column (collection_of indent))) (ap (λ x. x ++ e ∷ []) (texts_append ls ns) ∙ append_assoc (texts ls) (texts ns) (e ∷ []))
-    ∙ same_column (texts ls) (texts ns ++ e ∷ []) (least_column (collection_of indent)) deep ∙ same
+whole_column digit indent ls ns e column are inner same further =
+    let z = first_before column ns e are inner further in
+    same_column digit (collection_of indent) ls ns e z.written (rw same z.start) ∙ same
 
 -- ---- before further text
 
@@ -138,32 +114,24 @@ module _ (indent : ℕ) (p : Position) (next : List ℕ) where
     no_tab (l ∷ ls) fits are e = ap (λ (s : Split). is_single s.complete && begins_with tab next) (cut_of (l ∷ ls) fits are)
 
     text_here : (t : Bool) → begins_with tab (spell ls next) ≡ t → IsRead indent p (record { style = h.style; column = column_here; text = value_before_text h z.rows }) (indicator_of h.style ∷ (line ++ put k (spell ls []))) next (block (is_literal_style h.style) indent (indicator_of h.style ∷ (line ++ put k (spell ls next))) p)
-    text_here true e = tabbed (first_tab ls fits are z.tabless e) (tab_fails h line k indent p is digit inner (spell ls next) (fits_more k ls next free fits) e)
+    text_here true e = tabbed (first_tab ls fits are z.tabless e) (tab_fails h line k indent p is digit inner (spell ls next) (fits_before k ls [] next (fits_next k next free) fits) e)
       where
         first_tab : (ls : List Line) → Fits k (spell ls []) → AreLines ls [] → starts_with_tab (texts ls) ≡ false → begins_with tab (spell ls next) ≡ true → is_tabbed (indicator_of h.style ∷ (line ++ put k (spell ls []))) next ≡ true
         first_tab [] fits are f g = ap (λ (s : Split). is_single s.complete && begins_with tab next) (cut_of [] fits are) ∙ g
         first_tab (l ∷ ls) fits are f g = let no : false ≡ true = sym f ∙ sym (tab_line l.text (spell ls next) l.by (texts ls)) ∙ g in cc
-    text_here false e = by (lined next)
-      where
-        by : Lined next → IsRead indent p (record { style = h.style; column = column_here; text = value_before_text h z.rows }) (indicator_of h.style ∷ (line ++ put k (spell ls []))) next (block (is_literal_style h.style) indent (indicator_of h.style ∷ (line ++ put k (spell ls next))) p)
-        by y =
-            let same : spell (ls ++ y.lines) y.last ≡ spell ls next = spell_append ls y.lines y.last ∙ ap (spell ls) (sym y.is) in
-            let fits_next : Fits k (spell ls next) = fits_more k ls next free fits in
-            let are_next : AreLines ls next = are_more ls next free are in
-            let are_first : AreLines ls (spell y.lines y.last) = rw (← y.is) are_next in
-            let found : block (is_literal_style h.style) indent (indicator_of h.style ∷ (line ++ put k (spell ls next))) p ≡ _ =
-            ap (λ a. block (is_literal_style h.style) indent (indicator_of h.style ∷ (line ++ put k a)) p) (sym same)
-            ∙ block_is h line k indent p is digit inner (ls ++ y.lines) y.last column_here (whole_column h.digit indent ls y.lines y.last column_here refl (rw (← y.is) (z.further))) (are_append ls y.lines y.last are_first y.are) y.inner (rw same fits_next) (rw same e)
-            ∙ ap (λ a. after h line k indent p is digit inner (indent_from column_here a (at (start h line k indent p is digit inner) []))) same in
-            before_further h line k indent p is digit inner column_here ls next z.rows are_next fits_next are fits z.are_rows not_end (no_tab ls fits are e) found
-            (further_outside column_here next (after_lines ls (start h line k indent p is digit inner)) (lines_col ls) z.further)
-          where
-            lines_col : (ls : List Line) → (after_lines ls (start h line k indent p is digit inner)).col ≡ 0
-            lines_col ls = col_of ls (start h line k indent p is digit inner) refl
-              where
-                col_of : (ls : List Line) (q : Position) → q.col ≡ 0 → (after_lines ls q).col ≡ 0
-                col_of [] q e = e
-                col_of (l ∷ ls) q e = col_of ls (after_line l q) refl
+    text_here false e =
+        let y = lined next in
+        let same : spell (ls ++ y.lines) y.last ≡ spell ls next = spell_append ls y.lines y.last ∙ ap (spell ls) (sym y.is) in
+        let fits_there : Fits k (spell ls next) = fits_before k ls [] next (fits_next k next free) fits in
+        let are_next : AreLines ls next = are_before ls [] next (λ k. fits_next k next free) are in
+        let are_first : AreLines ls (spell y.lines y.last) = subst (AreLines ls) y.is are_next in
+        let here : is_further_text column_here (spell y.lines y.last) ≡ true = ap (is_further_text column_here) (sym y.is) ∙ z.further in
+        let found : block (is_literal_style h.style) indent (indicator_of h.style ∷ (line ++ put k (spell ls next))) p ≡ _ =
+        ap (λ a. block (is_literal_style h.style) indent (indicator_of h.style ∷ (line ++ put k a)) p) (sym same)
+        ∙ block_is h line k indent p is digit inner (ls ++ y.lines) y.last column_here (whole_column h.digit indent ls y.lines y.last column_here y.are y.inner refl here) (are_append ls y.lines y.last are_first y.are) y.inner (rw same fits_there) (rw same e)
+        ∙ ap (λ a. after h line k indent p is digit inner (indent_from column_here a (at (start h line k indent p is digit inner) []))) same in
+        before_further h line k indent p is digit inner column_here ls next z.rows are_next fits_there are fits z.are_rows not_end (no_tab ls fits are e) found
+        (further_outside column_here next (after_lines ls (start h line k indent p is digit inner)) (lines_front ls (start h line k indent p is digit inner) refl) z.further)
 
     further_read : IsRead indent p b (indicator_of h.style ∷ (line ++ put k (spell ls []))) next (block (is_literal_style b.style) indent ((indicator_of h.style ∷ (line ++ put k (spell ls []))) ++ next) p)
     further_read =
@@ -212,53 +180,51 @@ pub some_next : (d : ℕ) (n : List ℕ) → list_all is_some (d ∷ n) ≡ true
 unfolding classes.is_nul
 some_next d n h = not-true _ ((and_parts (not (d == 0)) (list_all is_some n) h).0)
 
+-- a piece's first line is a header
+record Headed (indent : ℕ) (w : List ℕ) (content : Body) (next : List ℕ) (b : BlockRead) : Type 0 where
+  header : defs.Header
+  line : List ℕ
+  cut : w ≡ indicator_of header.style ∷ line
+  is : header_of (indicator_of header.style ∷ line) ≡ Some header
+  digit : digit_by (digit_or_zero header.digit) ≡ header.digit
+  inner : is_in_line line ≡ true
+  value : read_body (Some header) (collection_of indent) content next ≡ Some b
+
+headed : (indent : ℕ) (w : List ℕ) (content : Body) (next : List ℕ) (b : BlockRead) → is_in_line w ≡ true → read_body (header_of w) (collection_of indent) content next ≡ Some b → Headed indent w content next b
+headed indent [] content next b inner e = absurd (none_some b e)
+headed indent (c ∷ line) content next b inner e = by (header_of (c ∷ line)) refl
+  where
+    by : (o : Option defs.Header) → header_of (c ∷ line) ≡ o → Headed indent (c ∷ line) content next b
+    by None f = absurd (none_some b (rw f at e))
+    by (Some h) f =
+        let z = said c line h f in
+        record { header = h; line = line; cut = ap (λ d. d ∷ line) z.begins; is = rw (← z.begins) f; digit = z.digit_is; inner = (first_inner c line inner).1; value = rw f at e }
+
 module _ (indent : ℕ) (p : Position) (b : BlockRead) where
   abbrev pub Read_as : List ℕ → List ℕ → Type 0
   Read_as piece next = IsRead indent p b piece next (block (is_literal_style b.style) indent (piece ++ next) p)
 
-  alone : (w : List ℕ) → is_in_line w ≡ true → read_body (header_of w) (collection_of indent) input_ends [] ≡ Some b → Read_as w []
-  alone [] inner e = absurd (none_some b e)
-  alone (c ∷ line) inner e = by (header_of (c ∷ line)) refl
-    where
-      read_here : (h : defs.Header) → header_of (c ∷ line) ≡ Some h → record { style = h.style; column = 0; text = [] } ≡ b → Said c h → Read_as (c ∷ line) []
-      read_here h f same z =
-          let is : header_of (indicator_of h.style ∷ line) ≡ Some h = rw (← z.begins) f in
-          rw (append-nil, z.begins, ← same) (header_alone_is_read h line indent p is ((first_inner c line inner).1))
+  read_alone : (h : defs.Header) (line : List ℕ) → header_of (indicator_of h.style ∷ line) ≡ Some h → is_in_line line ≡ true → record { style = h.style; column = 0; text = [] } ≡ b → Read_as (indicator_of h.style ∷ line) []
+  read_alone h line is inner same = rw (append-nil, ← same) (header_alone_is_read h line indent p is inner)
 
-      by : (o : Option defs.Header) → header_of (c ∷ line) ≡ o → Read_as (c ∷ line) []
-      by None f = let no : None ≡ Some b = rw f at e in absurd (none_some b no)
-      by (Some h) f =
-          let one : Some (record { style = h.style; column = 0; text = [] }) ≡ Some b = rw f at e in
-          let same : record { style = h.style; column = 0; text = [] } ≡ b = cc in
-          read_here h f same (said c line h f)
+  alone : (w : List ℕ) → is_in_line w ≡ true → read_body (header_of w) (collection_of indent) input_ends [] ≡ Some b → Read_as w []
+  alone w inner e =
+      let z = headed indent w input_ends [] b inner e in
+      let one : Some (record { style = z.header.style; column = 0; text = [] }) ≡ Some b = z.value in
+      let same : record { style = z.header.style; column = 0; text = [] } ≡ b = cc in
+      rw (z.cut) (read_alone z.header z.line z.is z.inner same)
 
   pub to_end : (w : List ℕ) (k : Break) (ls : List Line) (last : List ℕ) → is_in_line w ≡ true → Fits k (spell ls last) → AreLines ls last → is_in_line last ≡ true
       → read_body (header_of w) (collection_of indent) (body (texts ls) (unbroken last)) [] ≡ Some b → Read_as (w ++ put k (spell ls last)) []
-  to_end [] k ls last inner fits are last_inner e = absurd (none_some b e)
-  to_end (c ∷ line) k ls last inner fits are last_inner e = by (header_of (c ∷ line)) refl
-    where
-      read_here : (h : defs.Header) → header_of (c ∷ line) ≡ Some h → AtEnd indent p h ls last b → Said c h → Read_as (c ∷ (line ++ put k (spell ls last))) []
-      read_here h f y z =
-          let is : header_of (indicator_of h.style ∷ line) ≡ Some h = rw (← z.begins) f in
-          rw (z.begins) (end_read indent p h line k ls last b is z.digit_is ((first_inner c line inner).1) fits are last_inner y)
-
-      by : (o : Option defs.Header) → header_of (c ∷ line) ≡ o → Read_as (c ∷ (line ++ put k (spell ls last))) []
-      by None f = let no : None ≡ Some b = rw f at e in absurd (none_some b no)
-      by (Some h) f = read_here h f (at_the_end indent p h ls last b (rw f at e)) (said c line h f)
+  to_end w k ls last inner fits are last_inner e =
+      let z = headed indent w (body (texts ls) (unbroken last)) [] b inner e in
+      rw (z.cut) (end_read indent p z.header z.line k ls last b z.is z.digit z.inner fits are last_inner (at_the_end indent p z.header ls last b z.value))
 
   pub to_text : (w : List ℕ) (k : Break) (ls : List Line) (next : List ℕ) → is_in_line w ≡ true → Fits k (spell ls []) → AreLines ls [] → is_at_end next ≡ false
       → read_body (header_of w) (collection_of indent) (body (texts ls) further_text) next ≡ Some b → Read_as (w ++ put k (spell ls [])) next
-  to_text [] k ls next inner fits are some e = absurd (none_some b e)
-  to_text (c ∷ line) k ls next inner fits are some e = by (header_of (c ∷ line)) refl
-    where
-      read_here : (h : defs.Header) → header_of (c ∷ line) ≡ Some h → Before indent p next h ls b → Said c h → Read_as (c ∷ (line ++ put k (spell ls []))) next
-      read_here h f y z =
-          let is : header_of (indicator_of h.style ∷ line) ≡ Some h = rw (← z.begins) f in
-          rw (z.begins) (further_read indent p next h line k ls b is z.digit_is ((first_inner c line inner).1) fits are some y)
-
-      by : (o : Option defs.Header) → header_of (c ∷ line) ≡ o → Read_as (c ∷ (line ++ put k (spell ls []))) next
-      by None f = let no : None ≡ Some b = rw f at e in absurd (none_some b no)
-      by (Some h) f = read_here h f (before indent p next h ls b some (rw f at e)) (said c line h f)
+  to_text w k ls next inner fits are some e =
+      let z = headed indent w (body (texts ls) further_text) next b inner e in
+      rw (z.cut) (further_read indent p next z.header z.line k ls b z.is z.digit z.inner fits are some (before indent p next z.header ls b some z.value))
 
   of_lines : (ls : List Line) (last next : List ℕ) → AreLines ls last → is_in_line last ≡ true → list_all is_some next ≡ true → (t : Bool) → is_at_end next ≡ t
       → read_lines (collection_of indent) (texts ls) last next t ≡ Some b → Read_as (spell ls last) next
@@ -271,10 +237,8 @@ module _ (indent : ℕ) (p : Position) (b : BlockRead) where
   of_lines (l ∷ ls) (c ∷ last) (d ∷ n) are inner some false x e = absurd (none_some b e)
 
 pub pieces_are_read : BlockPiecesAreRead
-pieces_are_read indent piece next p b some e = by (lined piece)
-  where
-    by : Lined piece → IsRead indent p b piece next (block (is_literal_style b.style) indent (piece ++ next) p)
-    by z =
-        let cut : split piece ≡ record { complete = texts z.lines; last = z.last } = ap split z.is ∙ split_spell z.lines z.last z.are z.inner in
-        let lines : read_lines (collection_of indent) (texts z.lines) z.last next (is_at_end next) ≡ Some b = ap (λ s. read_split (collection_of indent) s next) (sym cut) ∙ e in
-        rw (z.is) (of_lines indent p b z.lines z.last next z.are z.inner some (is_at_end next) refl lines)
+pieces_are_read indent piece next p b some e =
+    let z = lined piece in
+    let cut : split piece ≡ record { complete = texts z.lines; last = z.last } = ap split z.is ∙ split_spell z.lines z.last z.are z.inner in
+    let lines : read_lines (collection_of indent) (texts z.lines) z.last next (is_at_end next) ≡ Some b = ap (λ s. read_split (collection_of indent) s next) (sym cut) ∙ e in
+    subst (λ x. Read_as indent p b x next) (sym z.is) (of_lines indent p b z.lines z.last next z.are z.inner some (is_at_end next) refl lines)

@@ -1,49 +1,34 @@
 -- The definitions' positions are the model's.
-use Rattle.std.proofs.Common.{◌≡◌, ◌≤◌, ℕ, suc, ◌+◌, List, [], ◌∷◌, ◌++◌, true, false, not, ◌==◌, nat_lt, length, slice_index, None, refl, ap, sym, ◌∙◌, append-nil, append_assoc, arith}
-use Rattle.std.proofs.lemmas.Bool.{and_parts, eqb-true, lt-ltb}
-use Rattle.proof_lexers.proofs.Common.{along, first_content, is_in_line, is_spaces, past_break, Position, position_after, position_past}
-use Rattle.yaml_chars.specs.Class.{is_break}
+use Rattle.proof_lexers.proofs.Common.{[], along, and_parts, ap, append-nil, append_assoc, arith, eqb-true, false, first_content, is_break, is_in_line, is_spaces, length, List, lt-ltb, nat_lt, None, not, past, past_break, Position, position_after, position_past, refl, slice_index, suc, sym, true, ℕ, ◌++◌, ◌+◌, ◌==◌, ◌∙◌, ◌∷◌, ◌≡◌, ◌≤◌}
 use Rattle.defs_text.specs.Classes as classes
 use Rattle.defs_text.specs.Breaks as cut
-use Rattle.model_scanner.specs.Machine.{past}
 use Rattle.proof_lexers.proofs.Bridges.{same_break}
 use Rattle.proof_lexers.proofs.Blocks.InLine.{first_inner}
 use Rattle.proof_lexers.proofs.Blocks.Written.{Break, feed, carriage, both, Line, put, spell, Fits, AreLines}
 use Rattle.proof_lexers.proofs.Blocks.Margins.{after_break, after_line, after_lines}
+use Rattle.proof_lexers.proofs.Plain.Turns.{in_line_position, line_position}
 
 -- after a character of a line
 pub past_is : (p : Position) (c : ℕ) (r : List ℕ) → is_break c ≡ false → position_past p c r ≡ past p
-past_is p c r h =
-    let index : suc p.index ≡ p.index + 1 = omega arith in
-    let col : suc p.col ≡ p.col + 1 = omega arith in
-    rw (same_break c, h, index, col) refl
+past_is p c r h = in_line_position c r p (rw (same_break c, h) refl)
 
 pub space_past : (p : Position) (r : List ℕ) → position_past p 32 r ≡ past p
 unfolding is_break
 space_past p r = past_is p 32 r refl
 
-past_break_is : (p : Position) → record { index = suc p.index; line = suc p.line; col = 0 } ≡ past_break p
-past_break_is p =
-    let index : suc p.index ≡ p.index + 1 = omega arith in
-    let line : suc p.line ≡ p.line + 1 = omega arith in
-    rw (index, line) refl
-
-feed_past : (p : Position) (r : List ℕ) → position_past p 10 r ≡ past_break p
+pub feed_past : (p : Position) (r : List ℕ) → position_past p 10 r ≡ past_break p
 unfolding classes.is_break
-feed_past p [] = past_break_is p
-feed_past p (c ∷ r) = past_break_is p
+feed_past p [] = line_position 10 [] p refl
+feed_past p (c ∷ r) = line_position 10 (c ∷ r) p refl
 
 carriage_past : (p : Position) (r : List ℕ) → (slice_index r 0 == 10) ≡ false → position_past p 13 r ≡ past_break p
 unfolding classes.is_break
-carriage_past p [] h = past_break_is p
-carriage_past p (c ∷ r) h = rw h (past_break_is p)
+carriage_past p [] h = line_position 13 [] p refl
+carriage_past p (c ∷ r) h = line_position 13 (c ∷ r) p (rw h refl)
 
 both_past : (p : Position) (r : List ℕ) → position_past p 13 (10 ∷ r) ≡ past p
 unfolding classes.is_break
-both_past p r =
-    let index : suc p.index ≡ p.index + 1 = omega arith in
-    let col : suc p.col ≡ p.col + 1 = omega arith in
-    rw (index, col) refl
+both_past p r = in_line_position 13 (10 ∷ r) p refl
 
 -- ---- the position after a piece
 

@@ -1,15 +1,8 @@
 -- The lines of a block scalar are read row by row.
-use Rattle.std.proofs.Common.{◌≡◌, ◌≤◌, ℕ, zero, suc, ◌+◌, List, [], ◌∷◌, ◌++◌, Bool, true, false, ◌&&◌, not, ◌==◌, nat_lt, nat_le, length, drop, Option, Some, None, Result, Ok, refl, ap, sym, ◌∙◌, append-nil, append_assoc, arith}
-use Rattle.std.proofs.lemmas.Bool.{and_parts, eq-eqb, lt-ltb, le-ltb, not-true}
-use Rattle.std.proofs.lemmas.Bool.Decides.{nat_tests}
-use Rattle.proof_lexers.proofs.Common.{along, at_marker, Column, content_row, empty_row, Fault, first_content, indent_from, is_content_line, is_document_marker, is_empty_line, is_in_line, is_spaces, leading_spaces, lines_from, Position, Read, Row, row_of, rows_of}
-use Rattle.yaml_chars.specs.Class.{is_break, is_blank}
+use Rattle.proof_lexers.proofs.Common.{[], along, and_parts, ap, append-nil, append_assoc, arith, at_marker, between, BlockState, Bool, cases_Bool, Column, content_row, drop, empty_row, ends_line, eq-eqb, false, Fault, first_content, indent_from, inl, inr, is_blank, is_break, is_content_line, is_document_marker, is_empty_line, is_in_line, is_spaces, le-ltb, leading_spaces, leb-true, length, Lines, lines_from, List, lt-ltb, margin, nat_le, nat_lt, nat_tests, None, not, not-true, Ok, Option, past, Position, put_row, Read, refl, Result, Row, row_of, rows_of, Some, suc, sym, true, zero, ℕ, ◌&&◌, ◌++◌, ◌+◌, ◌==◌, ◌∙◌, ◌∷◌, ◌≡◌, ◌≤◌}
 use Rattle.defs_text.specs.Classes as classes
-use Rattle.defs_text.specs.BlockScalar.{put_row}
-use Rattle.model_scanner.specs.Machine.{past}
-use Rattle.model_scanner.specs.BlockScalar.{Lines, BlockState, margin, line, between, begins, begun, with_char}
+use Rattle.model_scanner.specs.BlockScalar.{line, begins, begun, with_char}
 use Rattle.proof_lexers.proofs.Bridges.{same_break, and_false}
-use Rattle.proof_lexers.specs.HeaderEnds.{ends_line}
 use Rattle.proof_lexers.proofs.Blocks.InLine.{first_inner}
 use Rattle.proof_lexers.proofs.Blocks.Written.{Break, feed, carriage, both, Line, put, spell, texts, Fits, AreLines}
 use Rattle.proof_lexers.proofs.Blocks.Margins.{after_break, after_line, after_lines, at, before, margin_passes, empty_passes, last_passes}
@@ -41,6 +34,9 @@ unfolding classes.is_break
 break_ends feed a = refl
 break_ends carriage a = refl
 break_ends both a = refl
+
+pub suc_off : (k : ℕ) → (suc k == 0) ≡ false
+suc_off k = grind (arith, nat_tests)
 
 module _ (literal : Bool) (column : ℕ) where
   abbrev pub scan : List ℕ → BlockState → Result (Read Lines) Fault
@@ -93,29 +89,23 @@ module _ (literal : Bool) (column : ℕ) where
       let deep : nat_lt p.col column ≡ false = le-ltb p.col column (omega (arith, col)) in
       record { char = c; rest = w; position = p; is = refl; in_column = omega (arith, col); inner = inner; ends = refl; first = λ y. rw (same_break c, q.0, deep, and_false (c == 32)) refl; found = rw (deep, and_false (c == 32), q.0) refl }
   starts (suc n) [] a p b col lead long inner = absurd (omega (arith, long))
-  starts (suc n) (c ∷ w) a p b col lead long inner = by (c == 32) refl (λ x. starts n w a (past p) b (omega (arith, col)) x (omega (arith, long)) ((first_inner c w inner).1))
-    where
-      by : (s : Bool) → (c == 32) ≡ s → (n ≤ leading_spaces w → Starts w a (past p) b n) → Starts (c ∷ w) a p b (suc n)
-      by true e go =
-          let more : suc n ≤ suc (leading_spaces w) = rw e at lead in
-          space_then c w a p b n e (lt-ltb p.col column (omega (arith, col))) (go (omega (arith, more)))
-      by false e go = let no : suc n ≤ 0 = rw e at lead in absurd (omega (arith, no))
-
-  suc_off : (k : ℕ) → (suc k == 0) ≡ false
-  suc_off k = grind (arith, nat_tests)
+  starts (suc n) (c ∷ w) a p b col lead long inner = elim (cases_Bool (c == 32)) [
+    | inl e ↦
+        let more : suc n ≤ suc (leading_spaces w) = rw e at lead in
+        space_then c w a p b n e (lt-ltb p.col column (omega (arith, col))) (starts n w a (past p) b (omega (arith, col)) (omega (arith, more)) (omega (arith, long)) ((first_inner c w inner).1))
+    | inr e ↦ let no : suc n ≤ 0 = rw e at lead in absurd (omega (arith, no))
+  ]
 
   begins_free : (k : ℕ) (w a rest : List ℕ) (char : ℕ) (p : Position) → k ≡ column → drop k w ≡ char ∷ rest → p.col ≡ column → ends_line a ≡ true → ((column == 0) && is_document_marker w) ≡ false → begins column p.col (char ∷ (rest ++ a)) ≡ true
   unfolding begins
-  begins_free zero w a rest char p k is col ends free =
+  begins_free k w a rest char p same is col ends free =
       let here : at_marker p.col (char ∷ (rest ++ a)) ≡ ((p.col == 0) && is_document_marker (char ∷ rest)) = marker_in_line p.col (char ∷ rest) a ends in
-      let none : ((p.col == 0) && is_document_marker (char ∷ rest)) ≡ false = rw col (ap (λ (x : List ℕ). (column == 0) && is_document_marker x) (sym is) ∙ free) in
-      let same = eq-eqb p.col column col in
-      rw (here, none, same) refl
-  begins_free (suc n) w a rest char p k is col ends free =
-      let here : at_marker p.col (char ∷ (rest ++ a)) ≡ ((p.col == 0) && is_document_marker (char ∷ rest)) = marker_in_line p.col (char ∷ rest) a ends in
-      let off : (p.col == 0) ≡ false = rw (col, ← k) (suc_off n) in
-      let same = eq-eqb p.col column col in
-      rw (here, off, same) refl
+      let at_column = eq-eqb p.col column col in
+      rw (here, none k same is, at_column) refl
+    where
+      none : (k : ℕ) → k ≡ column → drop k w ≡ char ∷ rest → ((p.col == 0) && is_document_marker (char ∷ rest)) ≡ false
+      none zero same is = rw col (ap (λ (x : List ℕ). (column == 0) && is_document_marker x) (sym is) ∙ free)
+      none (suc n) same is = rw (col, ← same, suc_off n) refl
 
   -- after a content line's characters
   abbrev pub written : Row → Lines → Lines
@@ -123,23 +113,22 @@ module _ (literal : Bool) (column : ℕ) where
 
   content_chars : (w a : List ℕ) (p : Position) (x : Lines) → p.col ≡ 0 → is_in_line w ≡ true → ends_line a ≡ true → column ≤ leading_spaces w → suc column ≤ length w → ((column == 0) && is_document_marker w) ≡ false
       → scan (w ++ a) (front p x) ≡ scan a (inside (along w p) (written (content_row (drop column w)) x))
-  content_chars w a p x col inner ends lead long free = by (starts column w a p x.breaks (omega (arith, col)) lead long inner)
+  content_chars w a p x col inner ends lead long free =
+      let z = starts column w a p x.breaks (omega (arith, col)) lead long inner in
+      let q = first_inner z.char z.rest z.inner in
+      let in_column = z.in_column in
+      let deep : nat_lt z.position.col column ≡ false = le-ltb z.position.col column (omega (arith, in_column)) in
+      let stops : indent_from column (z.char ∷ (z.rest ++ a)) (at z.position x.breaks) ≡ record { rest = z.char ∷ (z.rest ++ a); position = z.position; value = record { column = column; breaks = x.breaks } } = rw (deep, and_false (z.char == 32), q.0) refl in
+      let first = begins_free column w a z.rest z.char z.position refl z.is z.in_column ends free in
+      through (w ++ a) (z.char ∷ (z.rest ++ a)) p z.position x x.breaks (z.found ∙ sym stops)
+      ∙ begin z.char (z.rest ++ a) z.position x deep q.0 first
+      ∙ chars z.rest a (past z.position) (with_char z.char (begun literal z.char x)) q.1
+      ∙ ap (λ t. scan a (inside (along z.rest (past z.position)) (record { text = t; breaks = []; broken = false; blank = is_blank z.char }))) (append_assoc (x.text ++ between literal x (is_blank z.char)) (z.char ∷ []) z.rest)
+      ∙ ap (λ q. scan a (inside q (written (content_row (z.char ∷ z.rest)) x))) z.ends
+      ∙ ap (λ m. scan a (inside (along w p) (written (content_row m) x))) (sym z.is)
     where
-      by : Starts w a p x.breaks column → scan (w ++ a) (front p x) ≡ scan a (inside (along w p) (written (content_row (drop column w)) x))
-      by z =
-          let q = first_inner z.char z.rest z.inner in
-          let deep : nat_lt z.position.col column ≡ false = le-ltb z.position.col column (let e = z.in_column in omega (arith, e)) in
-          let stops : indent_from column (z.char ∷ (z.rest ++ a)) (at z.position x.breaks) ≡ record { rest = z.char ∷ (z.rest ++ a); position = z.position; value = record { column = column; breaks = x.breaks } } = rw (deep, and_false (z.char == 32), q.0) refl in
-          let first = begins_free column w a z.rest z.char z.position refl z.is z.in_column ends free in
-          through (w ++ a) (z.char ∷ (z.rest ++ a)) p z.position x x.breaks (z.found ∙ sym stops)
-          ∙ begin z.char (z.rest ++ a) z.position x deep q.0 first
-          ∙ chars z.rest a (past z.position) (with_char z.char (begun literal z.char x)) q.1
-          ∙ ap (λ t. scan a (inside (along z.rest (past z.position)) (record { text = t; breaks = []; broken = false; blank = is_blank z.char }))) (append_assoc (x.text ++ between literal x (is_blank z.char)) (z.char ∷ []) z.rest)
-          ∙ ap (λ q. scan a (inside q (written (content_row (z.char ∷ z.rest)) x))) z.ends
-          ∙ ap (λ m. scan a (inside (along w p) (written (content_row m) x))) (sym z.is)
-        where
-          begin : (c : ℕ) (r : List ℕ) (q : Position) (y : Lines) → nat_lt q.col column ≡ false → is_break c ≡ false → begins column q.col (c ∷ r) ≡ true → scan (c ∷ r) (front q y) ≡ scan r (inside (past q) (with_char c (begun literal c y)))
-          begin c r q y deep b e = rw (deep, and_false (c == 32), b, e) refl
+      begin : (c : ℕ) (r : List ℕ) (q : Position) (y : Lines) → nat_lt q.col column ≡ false → is_break c ≡ false → begins column q.col (c ∷ r) ≡ true → scan (c ∷ r) (front q y) ≡ scan r (inside (past q) (with_char c (begun literal c y)))
+      begin c r q y deep b e = rw (deep, and_false (c == 32), b, e) refl
 
 -- ---- rows
 
@@ -148,26 +137,36 @@ pub data IsRow (column : ℕ) (w : List ℕ) : Row → Type 0 where
   no_content : is_spaces w ≡ true → length w ≤ column → IsRow column w empty_row
   is_content : column ≤ leading_spaces w → suc column ≤ length w → ((column == 0) && is_document_marker w) ≡ false → IsRow column w (content_row (drop column w))
 
-within : (n m : ℕ) → nat_le n m ≡ true → n ≤ m
-within n m h = grind (arith, nat_tests)
-
 pub row_is : (column : ℕ) (w : List ℕ) (r : Row) → row_of column w ≡ Some r → IsRow column w r
 unfolding row_of is_empty_line is_content_line
-row_is column w r h = by (is_spaces w && nat_le (length w) column) ((nat_le column (leading_spaces w) && nat_le (suc column) (length w)) && not ((column == 0) && is_document_marker w)) refl refl
-  where
-    by : (e c : Bool) → (is_spaces w && nat_le (length w) column) ≡ e → ((nat_le column (leading_spaces w) && nat_le (suc column) (length w)) && not ((column == 0) && is_document_marker w)) ≡ c → IsRow column w r
-    by true c f g =
-        let q = and_parts (is_spaces w) (nat_le (length w) column) f in
-        let one : Some empty_row ≡ Some r = rw f at h in
-        let same : empty_row ≡ r = cc in
-        rw (← same) (no_content q.0 (within (length w) column q.1))
-    by false true f g =
+row_is column w r h = elim (cases_Bool (is_spaces w && nat_le (length w) column)) [
+  | inl f ↦
+      let q = and_parts (is_spaces w) (nat_le (length w) column) f in
+      let one : Some empty_row ≡ Some r = rw f at h in
+      let same : empty_row ≡ r = cc in
+      rw (← same) (no_content q.0 (leb-true (length w) column q.1))
+  | inr f ↦ elim (cases_Bool ((nat_le column (leading_spaces w) && nat_le (suc column) (length w)) && not ((column == 0) && is_document_marker w))) [
+    | inl g ↦
         let q = and_parts (nat_le column (leading_spaces w) && nat_le (suc column) (length w)) _ g in
         let s = and_parts (nat_le column (leading_spaces w)) (nat_le (suc column) (length w)) q.0 in
         let one : Some (content_row (drop column w)) ≡ Some r = rw (f, g) at h in
         let same : content_row (drop column w) ≡ r = cc in
-        rw (← same) (is_content (within column (leading_spaces w) s.0) (within (suc column) (length w) s.1) (not-true _ q.1))
-    by false false f g = let no : None ≡ Some r = rw (f, g) at h in cc
+        rw (← same) (is_content (leb-true column (leading_spaces w) s.0) (leb-true (suc column) (length w) s.1) (not-true _ q.1))
+    | inr g ↦ let no : None ≡ Some r = rw (f, g) at h in cc
+  ]
+]
+
+-- a list of rows by its first
+pub data First (column : ℕ) (w : List ℕ) (ws : List (List ℕ)) (rs : List Row) : Type 0 where
+  first_row : (r : Row) (more : List Row) → rs ≡ r ∷ more → IsRow column w r → rows_of column ws ≡ Some more → First column w ws rs
+
+pub first_of : (column : ℕ) (w : List ℕ) (ws : List (List ℕ)) (rs : List Row) → rows_of column (w ∷ ws) ≡ Some rs → First column w ws rs
+first_of column w ws rs h = by (row_of column w) (rows_of column ws) refl refl h
+  where
+    by : (o : Option Row) (os : Option (List Row)) → row_of column w ≡ o → rows_of column ws ≡ os → put_row o os ≡ Some rs → First column w ws rs
+    by None os e f g = cc
+    by (Some r) None e f g = cc
+    by (Some r) (Some more) e f g = let same : r ∷ more ≡ rs = cc in first_row r more (sym same) (row_is column w r e) f
 
 module _ (literal : Bool) (column : ℕ) where
   row_goes : (l : Line) (a : List ℕ) (p : Position) (x : Lines) (r : Row) → p.col ≡ 0 → is_in_line l.text ≡ true → Fits l.by a → IsRow column l.text r
@@ -186,17 +185,11 @@ module _ (literal : Bool) (column : ℕ) where
   pub rows_go : (ls : List Line) (a : List ℕ) (p : Position) (x : Lines) (rs : List Row) → p.col ≡ 0 → AreLines ls a → rows_of column (texts ls) ≡ Some rs
       → scan literal column (spell ls a) (front p x) ≡ scan literal column a (front (after_lines ls p) (after_rows literal rs x))
   rows_go [] a p x rs col are h = let none : [] ≡ rs = cc in ap (λ r. scan literal column a (front p (after_rows literal r x))) none
-  rows_go (l ∷ ls) a p x rs col are h = by (row_of column l.text) (rows_of column (texts ls)) refl refl h (λ more e y. rows_go ls a (after_line l p) y more refl are.2 e)
-    where
-      by : (o : Option Row) (os : Option (List Row)) → row_of column l.text ≡ o → rows_of column (texts ls) ≡ os → put_row o os ≡ Some rs
-          → ((more : List Row) → rows_of column (texts ls) ≡ Some more → (y : Lines) → scan literal column (spell ls a) (front (after_line l p) y) ≡ scan literal column a (front (after_lines ls (after_line l p)) (after_rows literal more y)))
-          → scan literal column (spell (l ∷ ls) a) (front p x) ≡ scan literal column a (front (after_lines (l ∷ ls) p) (after_rows literal rs x))
-      by None os e f g go = cc
-      by (Some r) None e f g go = cc
-      by (Some r) (Some more) e f g go =
-          let same : r ∷ more ≡ rs = cc in
-          row_goes l (spell ls a) p x r col are.0 are.1 (row_is column l.text r e) ∙ go more f (after_row literal r x)
-          ∙ ap (λ y. scan literal column a (front (after_lines (l ∷ ls) p) (after_rows literal y x))) same
+  rows_go (l ∷ ls) a p x rs col are h = elim (first_of column l.text (texts ls) rs h) [
+    | first_row r more e is f ↦
+        row_goes l (spell ls a) p x r col are.0 are.1 is ∙ rows_go ls a (after_line l p) (after_row literal r x) more refl are.2 f
+        ∙ ap (λ y. scan literal column a (front (after_lines (l ∷ ls) p) (after_rows literal y x))) (sym e)
+  ]
 
   -- ---- a last line without a break
 

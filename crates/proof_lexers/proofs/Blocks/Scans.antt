@@ -1,21 +1,13 @@
 -- The whole scan of a block scalar whose lines are known.
-use Rattle.std.proofs.Common.{◌≡◌, ◌≤◌, ℕ, zero, suc, ◌+◌, List, [], ◌∷◌, ◌++◌, Bool, true, false, ◌&&◌, not, if◌then◌else◌, max, nat_lt, nat_le, length, drop, Some, None, Result, Ok, Err, refl, ap, sym, ◌∙◌, append-nil, arith}
-use Rattle.std.proofs.lemmas.Bool.{le-ltb}
-use Rattle.std.proofs.lemmas.Bool.Decides.{nat_tests}
-use Rattle.proof_lexers.proofs.Common.{along, and_then, At, begins_with, block, BlockRead, breaks, chomping_of, collection_of, Column, column_by, content_row, digit_by, digit_or_zero, empty_row, Fault, first_content, has_content, header, header_of, indent_from, indicator_of, is_at_end, is_empty, is_further_text, is_in_line, is_literal_style, is_spaces, is_tabbed, linebreak, lines_from, Position, position_after, Read, read_header, Row, row_of, rows_of, starts_with_tab, value_before_end, value_before_text}
+use Rattle.proof_lexers.proofs.Common.{[], after_header, along, and_then, ap, append-nil, arith, At, begins_with, Block, block, block_position, BlockRead, Bool, breaks, cases_Bool, chomping_of, collection_of, Column, column_by, content_row, digit_by, digit_or_zero, drop, empty_row, empty_text, Err, false, Fault, first_content, further_position, has_content, Header, header, header_of, if◌then◌else◌, indent_from, indicator_of, indicators_of, inl, inr, is_at_end, is_empty, is_in_line, is_literal_style, is_none, is_open, is_spaces, is_tabbed, IsRead, le-ltb, length, linebreak, Lines, lines_from, List, max, nat_le, nat_lt, nat_tests, None, not, Ok, past, past_spaces, Position, position_after, position_or, Read, read_header, refl, Result, Row, rows_of, Some, suc, sym, tab, tail, true, value_before_end, value_before_text, with_content, without_spaces, zero, ℕ, ◌&&◌, ◌++◌, ◌+◌, ◌∙◌, ◌∷◌, ◌≡◌, ◌≤◌}
 use Rattle.yaml_tokens.specs.declared.problem.Problem.TheVariants as problem
 use Rattle.defs_text.specs.Classes as classes
-use Rattle.defs_text.specs.Classes.{tab}
 use Rattle.defs_text.specs.BlockScalar as defs
-use Rattle.defs_text.specs.BlockScalar.{with_content}
-use Rattle.defs_token.specs.BlockPiece.{past_spaces, position_or, block_position}
-use Rattle.model_scanner.specs.Machine.{past}
-use Rattle.model_scanner.specs.BlockScalar.{Header, Lines, content, Block, after_header, is_open, tail, empty_text}
-use Rattle.proof_lexers.proofs.Bridges.{and_false}
-use Rattle.proof_lexers.specs.HeaderEnds.{indicators_of}
-use Rattle.proof_lexers.specs.BlockScan.{without_spaces, further_position, IsRead, read, shallow, is_none, is_shallow}
-use Rattle.proof_lexers.proofs.Blocks.Written.{Break, feed, carriage, both, Line, put, spell, texts, Fits, AreLines}
-use Rattle.proof_lexers.proofs.Blocks.Margins.{after_break, after_line, after_lines, at, before, margin_passes, last_passes, col_along}
+use Rattle.model_scanner.specs.BlockScalar.{content}
+use Rattle.proof_lexers.proofs.Bridges.{and_false, both}
+use Rattle.proof_lexers.specs.BlockScan.{read, shallow, is_shallow}
+use Rattle.proof_lexers.proofs.Blocks.Written.{Break, feed, carriage, Line, put, spell, texts, Fits, AreLines}
+use Rattle.proof_lexers.proofs.Blocks.Margins.{after_break, after_lines, at, before, margin_passes, last_passes, col_along, lines_front}
 use Rattle.proof_lexers.proofs.Blocks.First.{content_is}
 use Rattle.proof_lexers.proofs.Blocks.Positions.{spell_more, after_chars, after_put, after_spell, first_header, first_last, header_alone}
 use Rattle.proof_lexers.proofs.Blocks.Rows.{after_rows, front, written, rows_go, last_empty, last_content, break_ends, IsRow, no_content, is_content, Starts, starts}
@@ -23,11 +15,29 @@ use Rattle.proof_lexers.proofs.Blocks.Further.{Outside, further_stops}
 use Rattle.proof_lexers.proofs.Blocks.Values.{after_empty, content_value, empty_value, end_value, last_value}
 use Rattle.proof_lexers.proofs.Blocks.HeaderFacts.{header_reads, header_tabs, linebreak_put}
 use Rattle.proof_lexers.proofs.Blocks.Walks.{Found, FoundIn, found_in, Empty, all_empty, are_full}
+use Rattle.proof_lexers.proofs.Blocks.Written as written_lines
 
 not_nil : (k : Break) (a : List ℕ) → is_empty (put k a) ≡ false
 not_nil feed a = refl
 not_nil carriage a = refl
-not_nil both a = refl
+not_nil written_lines.both a = refl
+
+-- ---- what was answered
+
+abbrev result : List ℕ → Position → Position → List ℕ → Result (Read Block) Fault
+result rest q position t = Ok (record { rest = rest; position = q; value = record { position = position; text = t } })
+
+answer : (rest : List ℕ) (q r position at_position : Position) (t u : List ℕ) → q ≡ r → position ≡ at_position → t ≡ u → result rest q position t ≡ result rest r at_position u
+answer rest q r position at_position t u e f g = rw (e, f, g) refl
+
+second_false : (a b c : Bool) → (((a && false) && b) && c) ≡ false
+second_false true b c = refl
+second_false false b c = refl
+
+pub style_inner : (s : defs.BlockStyle) (line : List ℕ) → is_in_line line ≡ true → is_in_line (indicator_of s ∷ line) ≡ true
+unfolding classes.is_break
+style_inner defs.literal line h = h
+style_inner defs.folded line h = h
 
 module _ (h : defs.Header) (line : List ℕ) (k : Break) (indent : ℕ) (p : Position) (is : header_of (indicator_of h.style ∷ line) ≡ Some h) (digit : digit_by (digit_or_zero h.digit) ≡ h.digit) (inner : is_in_line line ≡ true) where
   -- the position after the header's break
@@ -85,54 +95,30 @@ module _ (h : defs.Header) (line : List ℕ) (k : Break) (indent : ℕ) (p : Pos
     in_position : (n : ℕ) → n ≡ column → (nat_lt n column && nat_le indent n) ≡ false
     in_position n e = let deep : nat_lt n column ≡ false = le-ltb n column (omega (arith, e)) in rw deep refl
 
--- ---- what was answered
-
-abbrev result : List ℕ → Position → Position → List ℕ → Result (Read Block) Fault
-result rest q position t = Ok (record { rest = rest; position = q; value = record { position = position; text = t } })
-
-answer : (rest : List ℕ) (q r position at_position : Position) (t u : List ℕ) → q ≡ r → position ≡ at_position → t ≡ u → result rest q position t ≡ result rest r at_position u
-answer rest q r position at_position t u e f g = rw (e, f, g) refl
-
-second_false : (a b c : Bool) → (((a && false) && b) && c) ≡ false
-second_false true b c = refl
-second_false false b c = refl
-
-pub style_inner : (s : defs.BlockStyle) (line : List ℕ) → is_in_line line ≡ true → is_in_line (indicator_of s ∷ line) ≡ true
-unfolding classes.is_break
-style_inner defs.literal line h = h
-style_inner defs.folded line h = h
-
-module _ (h : defs.Header) (line : List ℕ) (k : Break) (indent : ℕ) (p : Position) (is : header_of (indicator_of h.style ∷ line) ≡ Some h) (digit : digit_by (digit_or_zero h.digit) ≡ h.digit) (inner : is_in_line line ≡ true) where
-  abbrev first_position : Position
-  first_position = start h line k indent p is digit inner
-
-  abbrev scan_of : List ℕ → Result (Read Block) Fault
-  scan_of a = scanned h line k indent p is digit inner a
-
   -- the text of a header's line and those after it
   abbrev pub with_header : List ℕ → List ℕ
   with_header a = indicator_of h.style ∷ (line ++ put k a)
 
-  piece_position : (ls : List Line) (next : List ℕ) → AreLines ls next → Fits k (spell ls next) → position_after p (with_header (spell ls [])) next ≡ after_lines ls first_position
+  piece_position : (ls : List Line) (next : List ℕ) → AreLines ls next → Fits k (spell ls next) → position_after p (with_header (spell ls [])) next ≡ after_lines ls start
   piece_position ls next are fits =
       let more : Fits k (spell ls [] ++ next) = rw (spell_more ls [] next) fits in
-      after_chars (indicator_of h.style ∷ line) (put k (spell ls [])) next p (style_inner h.style line inner) ∙ after_put k (spell ls []) next (along line (past p)) more ∙ after_spell ls [] next first_position are
+      after_chars (indicator_of h.style ∷ line) (put k (spell ls [])) next p (style_inner h.style line inner) ∙ after_put k (spell ls []) next (along line (past p)) more ∙ after_spell ls [] next start are
 
-  end_position : (ls : List Line) (last : List ℕ) → AreLines ls last → is_in_line last ≡ true → Fits k (spell ls last) → position_after p (with_header (spell ls last)) [] ≡ along last (after_lines ls first_position)
+  end_position : (ls : List Line) (last : List ℕ) → AreLines ls last → is_in_line last ≡ true → Fits k (spell ls last) → position_after p (with_header (spell ls last)) [] ≡ along last (after_lines ls start)
   end_position ls last are last_inner fits =
       let more : Fits k (spell ls last ++ []) = rw append-nil fits in
       let are' : AreLines ls (last ++ []) = rw append-nil are in
-      after_chars (indicator_of h.style ∷ line) (put k (spell ls last)) [] p (style_inner h.style line inner) ∙ after_put k (spell ls last) [] (along line (past p)) more ∙ after_spell ls last [] first_position are'
-      ∙ ap (λ x. position_after (after_lines ls first_position) x []) (sym (append-nil last)) ∙ after_chars last [] [] (after_lines ls first_position) last_inner
+      after_chars (indicator_of h.style ∷ line) (put k (spell ls last)) [] p (style_inner h.style line inner) ∙ after_put k (spell ls last) [] (along line (past p)) more ∙ after_spell ls last [] start are'
+      ∙ ap (λ x. position_after (after_lines ls start) x []) (sym (append-nil last)) ∙ after_chars last [] [] (after_lines ls start) last_inner
 
-  piece_first : (column : ℕ) (a : List ℕ) → Fits k a → first_content column true p (with_header a) ≡ first_content column false first_position a
+  piece_first : (column : ℕ) (a : List ℕ) → Fits k a → first_content column true p (with_header a) ≡ first_content column false start a
   piece_first column a fits = first_header column (indicator_of h.style ∷ line) k a p (style_inner h.style line inner) fits
 
   -- ---- before further text
 
   module _ (column : ℕ) (ls : List Line) (next : List ℕ) (rs : List Row) (are : AreLines ls next) (fits : Fits k (spell ls next)) (are_alone : AreLines ls []) (fits_alone : Fits k (spell ls []))
       (rows : rows_of column (texts ls) ≡ Some rs) (text : is_at_end next ≡ false) (free : is_tabbed (with_header (spell ls [])) next ≡ false)
-      (found_by : scan_of (spell ls next) ≡ after h line k indent p is digit inner (indent_from column (spell ls next) (at first_position []))) where
+      (found_by : scanned (spell ls next) ≡ after (indent_from column (spell ls next) (at start []))) where
     abbrev lines_read : Lines
     lines_read = after_rows (is_literal_style h.style) rs (after_empty 0)
 
@@ -142,13 +128,13 @@ module _ (h : defs.Header) (line : List ℕ) (k : Break) (indent : ℕ) (p : Pos
     abbrev piece : List ℕ
     piece = with_header (spell ls [])
 
-    read_to : Outside column next (after_lines ls first_position) → lines_from (is_literal_style h.style) column (spell ls next) (front first_position (after_empty 0)) ≡ Ok (record { rest = without_spaces next; position = past_spaces (after_lines ls first_position) next; value = lines_read })
-    read_to z = rows_go (is_literal_style h.style) column ls next first_position (after_empty 0) rs refl are rows ∙ further_stops (is_literal_style h.style) column next (after_lines ls first_position) lines_read z
+    read_to : Outside column next (after_lines ls start) → lines_from (is_literal_style h.style) column (spell ls next) (front start (after_empty 0)) ≡ Ok (record { rest = without_spaces next; position = past_spaces (after_lines ls start) next; value = lines_read })
+    read_to z = rows_go (is_literal_style h.style) column ls next start (after_empty 0) rs refl are rows ∙ further_stops (is_literal_style h.style) column next (after_lines ls start) lines_read z
 
-    closed : Outside column next (after_lines ls first_position) → (n : ℕ) → is_open column (without_spaces next) n ≡ false
+    closed : Outside column next (after_lines ls start) → (n : ℕ) → is_open column (without_spaces next) n ≡ false
     closed z n = rw (z.is) refl
 
-    position_is : past_spaces (after_lines ls first_position) next ≡ further_position p piece next
+    position_is : past_spaces (after_lines ls start) next ≡ further_position p piece next
     position_is = ap (λ q. past_spaces q next) (sym (piece_position ls next are fits))
 
     content_there : {q : Position} → first_content column true p piece ≡ Some q → is_shallow indent p before_text piece next ≡ false
@@ -156,19 +142,19 @@ module _ (h : defs.Header) (line : List ℕ) (k : Break) (indent : ℕ) (p : Pos
         ap (λ o. ((not (is_at_end next) && is_none o) && nat_le indent (further_position p piece next).col) && nat_lt (further_position p piece next).col column) e
         ∙ second_false (not (is_at_end next)) (nat_le indent (further_position p piece next).col) (nat_lt (further_position p piece next).col column)
 
-    with_rows : has_content rs ≡ true → Outside column next (after_lines ls first_position) → FoundIn column ls next first_position [] → IsRead indent p before_text piece next (scan_of (spell ls next))
+    with_rows : has_content rs ≡ true → Outside column next (after_lines ls start) → FoundIn column ls next start [] → IsRead indent p before_text piece next (scanned (spell ls next))
     with_rows some z f =
         let c = f.here in
         let where_is : block_position column p piece next ≡ c.position = ap (λ o. position_or o (if is_at_end next then p else past_spaces (position_after p piece next) next)) (piece_first column (spell ls []) fits_alone ∙ f.first [] are_alone) in
-        let text_is : lines_read.text ++ tail (chomping_of h.chomping) (is_open column (without_spaces next) (past_spaces (after_lines ls first_position) next).col) lines_read ≡ value_before_text h rs =
+        let text_is : lines_read.text ++ tail (chomping_of h.chomping) (is_open column (without_spaces next) (past_spaces (after_lines ls start) next).col) lines_read ≡ value_before_text h rs =
         ap (λ b. lines_read.text ++ tail (chomping_of h.chomping) b lines_read) (closed z _) ∙ content_value h false rs (are_full column (texts ls) rs rows) some ∙ rw some refl in
-        read free (content_there (piece_first column (spell ls []) fits_alone ∙ f.first [] are_alone)) (found_by ∙ finish h line k indent p is digit inner column (spell ls next) c.rest (without_spaces next) c.char c.position _ c.breaks_before lines_read c.found (in_position h line k indent p is digit inner column c.position.col c.in_column) (read_to z)
+        read free (content_there (piece_first column (spell ls []) fits_alone ∙ f.first [] are_alone)) (found_by ∙ finish column (spell ls next) c.rest (without_spaces next) c.char c.position _ c.breaks_before lines_read c.found (in_position column c.position.col c.in_column) (read_to z)
         ∙ answer (without_spaces next) _ (further_position p piece next) c.position (block_position column p piece next) _ (value_before_text h rs) position_is (sym where_is) text_is)
 
-    none_position : (n : ℕ) → Empty column ls next first_position [] n → first_content column true p piece ≡ None
+    none_position : (n : ℕ) → Empty column ls next start [] n → first_content column true p piece ≡ None
     none_position n f = piece_first column (spell ls []) fits_alone ∙ f.first [] are_alone
 
-    without_rows : (n : ℕ) → has_content rs ≡ false → Outside column next (after_lines ls first_position) → Empty column ls next first_position [] n → IsRead indent p before_text piece next (scan_of (spell ls next))
+    without_rows : (n : ℕ) → has_content rs ≡ false → Outside column next (after_lines ls start) → Empty column ls next start [] n → IsRead indent p before_text piece next (scanned (spell ls next))
     without_rows n none z f = by (nat_lt z.position.col column) (nat_le indent z.position.col) refl refl
       where
         here : z.position ≡ further_position p piece next
@@ -178,10 +164,10 @@ module _ (h : defs.Header) (line : List ℕ) (k : Break) (indent : ℕ) (p : Pos
         where_is = ap (λ o. position_or o (if is_at_end next then p else past_spaces (position_after p piece next) next)) (none_position n f)
             ∙ ap (λ b. (if b then p else past_spaces (position_after p piece next) next)) text ∙ sym here
 
-        text_is : lines_read.text ++ tail (chomping_of h.chomping) (is_open column (without_spaces next) (past_spaces (after_lines ls first_position) next).col) lines_read ≡ value_before_text h rs
+        text_is : lines_read.text ++ tail (chomping_of h.chomping) (is_open column (without_spaces next) (past_spaces (after_lines ls start) next).col) lines_read ≡ value_before_text h rs
         text_is = ap (λ b. lines_read.text ++ tail (chomping_of h.chomping) b lines_read) (closed z _) ∙ empty_value h rs none ∙ rw none refl
 
-        found : indent_from column (spell ls next) (at first_position []) ≡ record { rest = z.char ∷ z.rest; position = z.position; value = record { column = column; breaks = breaks n } }
+        found : indent_from column (spell ls next) (at start []) ≡ record { rest = z.char ∷ z.rest; position = z.position; value = record { column = column; breaks = breaks n } }
         found = f.passes ∙ z.found (breaks n)
 
         is_here : is_shallow indent p before_text piece next ≡ (nat_le indent z.position.col && nat_lt z.position.col column)
@@ -189,30 +175,29 @@ module _ (h : defs.Header) (line : List ℕ) (k : Break) (indent : ℕ) (p : Pos
             ∙ ap (λ o. (is_none o && nat_le indent (further_position p piece next).col) && nat_lt (further_position p piece next).col column) (none_position n f)
             ∙ ap (λ (q : Position). nat_le indent q.col && nat_lt q.col column) (sym here)
 
-        go : (nat_lt z.position.col column && nat_le indent z.position.col) ≡ false → is_shallow indent p before_text piece next ≡ false → IsRead indent p before_text piece next (scan_of (spell ls next))
+        go : (nat_lt z.position.col column && nat_le indent z.position.col) ≡ false → is_shallow indent p before_text piece next ≡ false → IsRead indent p before_text piece next (scanned (spell ls next))
         go deep not_shallow =
-            read free not_shallow (found_by ∙ finish h line k indent p is digit inner column (spell ls next) z.rest (without_spaces next) z.char z.position _ (breaks n) lines_read found deep (read_to z)
+            read free not_shallow (found_by ∙ finish column (spell ls next) z.rest (without_spaces next) z.char z.position _ (breaks n) lines_read found deep (read_to z)
             ∙ answer (without_spaces next) _ (further_position p piece next) z.position (block_position column p piece next) _ (value_before_text h rs) position_is (sym where_is) text_is)
 
-        by : (l i : Bool) → nat_lt z.position.col column ≡ l → nat_le indent z.position.col ≡ i → IsRead indent p before_text piece next (scan_of (spell ls next))
+        by : (l i : Bool) → nat_lt z.position.col column ≡ l → nat_le indent z.position.col ≡ i → IsRead indent p before_text piece next (scanned (spell ls next))
         by true true e g =
             shallow free (is_here ∙ rw (g, e) refl)
-            (found_by ∙ refuse h line k indent p is digit inner column (spell ls next) z.rest z.char z.position (breaks n) found (rw (e, g) refl) ∙ ap (λ q. Err (At problem.BlockScalarIndentation q)) here)
+            (found_by ∙ refuse column (spell ls next) z.rest z.char z.position (breaks n) found (rw (e, g) refl) ∙ ap (λ q. Err (At problem.BlockScalarIndentation q)) here)
         by true false e g = go (rw (e, g) refl) (is_here ∙ rw g refl)
         by false i e g = go (rw e refl) (is_here ∙ rw e (and_false (nat_le indent z.position.col)))
 
-    pub before_further : Outside column next (after_lines ls first_position) → IsRead indent p before_text piece next (scan_of (spell ls next))
-    before_further z = by (has_content rs) refl
-      where
-        by : (b : Bool) → has_content rs ≡ b → IsRead indent p before_text piece next (scan_of (spell ls next))
-        by true e = with_rows e z (found_in column ls next first_position [] rs refl are rows e)
-        by false e = without_rows (length rs) e z (all_empty column ls next first_position [] rs refl are rows e)
+    pub before_further : Outside column next (after_lines ls start) → IsRead indent p before_text piece next (scanned (spell ls next))
+    before_further z = elim (cases_Bool (has_content rs)) [
+      | inl e ↦ with_rows e z (found_in column ls next start [] rs refl are rows e)
+      | inr e ↦ without_rows (length rs) e z (all_empty column ls next start [] rs refl are rows e)
+    ]
 
   -- ---- at the end of the text
 
   module _ (column : ℕ) (ls : List Line) (last : List ℕ) (rs : List Row) (are : AreLines ls last) (last_inner : is_in_line last ≡ true) (fits : Fits k (spell ls last))
       (rows : rows_of column (texts ls) ≡ Some rs)
-      (found_by : scan_of (spell ls last) ≡ after h line k indent p is digit inner (indent_from column (spell ls last) (at first_position []))) where
+      (found_by : scanned (spell ls last) ≡ after (indent_from column (spell ls last) (at start []))) where
     abbrev rows_read : Lines
     rows_read = after_rows (is_literal_style h.style) rs (after_empty 0)
 
@@ -223,57 +208,48 @@ module _ (h : defs.Header) (line : List ℕ) (k : Break) (indent : ℕ) (p : Pos
     whole = with_header (spell ls last)
 
     abbrev last_position : Position
-    last_position = after_lines ls first_position
+    last_position = after_lines ls start
 
     whole_position : along last last_position ≡ further_position p whole []
     whole_position = sym (end_position ls last are last_inner fits)
 
-    whole_first : first_content column true p whole ≡ first_content column false first_position (spell ls last)
+    whole_first : first_content column true p whole ≡ first_content column false start (spell ls last)
     whole_first = piece_first column (spell ls last) fits
 
-    at_content : (q : Position) → first_content column false first_position (spell ls last) ≡ Some q → block_position column p whole [] ≡ q
+    at_content : (q : Position) → first_content column false start (spell ls last) ≡ Some q → block_position column p whole [] ≡ q
     at_content q e = ap (λ o. position_or o p) (whole_first ∙ e)
 
     reaches : (n : ℕ) → (nat_le column n && nat_lt 0 n) ≡ nat_le (max column 1) n
     reaches n = both _ _ (λ e. grind (arith, nat_tests)) (λ e. grind (arith, nat_tests))
-      where
-        both : (b c : Bool) → (b ≡ true → c ≡ true) → (c ≡ true → b ≡ true) → b ≡ c
-        both true c f g = sym (f refl)
-        both false true f g = g refl
-        both false false f g = refl
 
     last_col : (along last last_position).col ≡ last_position.col + length last
     last_col = col_along last last_position
 
     at_front : last_position.col ≡ 0
-    at_front = front_of ls first_position refl
-      where
-        front_of : (ls : List Line) (q : Position) → q.col ≡ 0 → (after_lines ls q).col ≡ 0
-        front_of [] q e = e
-        front_of (l ∷ ls) q e = front_of ls (after_line l q) refl
+    at_front = lines_front ls start refl
 
     abbrev read_end : Row → Type 0
-    read_end r = IsRead indent p (before_end r) whole [] (scan_of (spell ls last))
+    read_end r = IsRead indent p (before_end r) whole [] (scanned (spell ls last))
 
     -- an empty last line
-    empty_some : has_content rs ≡ true → is_spaces last ≡ true → length last ≤ column → FoundIn column ls last first_position [] → read_end empty_row
+    empty_some : has_content rs ≡ true → is_spaces last ≡ true → length last ≤ column → FoundIn column ls last start [] → read_end empty_row
     empty_some some spaces le f =
         let c = f.here in
-        let reads : lines_from (is_literal_style h.style) column (spell ls last) (front first_position (after_empty 0)) ≡ Ok (record { rest = []; position = along last last_position; value = rows_read }) =
-        rows_go (is_literal_style h.style) column ls last first_position (after_empty 0) rs refl are rows ∙ last_empty (is_literal_style h.style) column last last_position rows_read at_front spaces le in
+        let reads : lines_from (is_literal_style h.style) column (spell ls last) (front start (after_empty 0)) ≡ Ok (record { rest = []; position = along last last_position; value = rows_read }) =
+        rows_go (is_literal_style h.style) column ls last start (after_empty 0) rs refl are rows ∙ last_empty (is_literal_style h.style) column last last_position rows_read at_front spaces le in
         let far : (along last last_position).col ≡ length last = (let e = at_front in let g = last_col in omega (arith, e, g)) in
         let open_is : is_open column [] (along last last_position).col ≡ nat_le (max column 1) (length last) = reaches (along last last_position).col ∙ ap (nat_le (max column 1)) far in
         let text_is : rows_read.text ++ tail (chomping_of h.chomping) (is_open column [] (along last last_position).col) rows_read ≡ value_before_end h column rs last empty_row =
         ap (λ b. rows_read.text ++ tail (chomping_of h.chomping) b rows_read) open_is ∙ content_value h (nat_le (max column 1) (length last)) rs (are_full column (texts ls) rs rows) some ∙ rw some refl in
-        read (and_false _) refl (found_by ∙ finish h line k indent p is digit inner column (spell ls last) c.rest [] c.char c.position _ c.breaks_before rows_read c.found (in_position h line k indent p is digit inner column c.position.col c.in_column) reads
+        read (and_false _) refl (found_by ∙ finish column (spell ls last) c.rest [] c.char c.position _ c.breaks_before rows_read c.found (in_position column c.position.col c.in_column) reads
         ∙ answer [] _ (further_position p whole []) c.position (block_position column p whole []) _ (value_before_end h column rs last empty_row) whole_position (sym (at_content c.position (f.first last are))) text_is)
 
-    empty_none : has_content rs ≡ false → is_spaces last ≡ true → length last ≤ column → Empty column ls last first_position [] (length rs) → read_end empty_row
+    empty_none : has_content rs ≡ false → is_spaces last ≡ true → length last ≤ column → Empty column ls last start [] (length rs) → read_end empty_row
     empty_none none spaces le f =
         let low : last_position.col + length last ≤ column = (let e = at_front in omega (arith, e, le)) in
-        let found : indent_from column (spell ls last) (at first_position []) ≡ record { rest = []; position = along last last_position; value = record { column = column; breaks = breaks (length rs) } } = f.passes ∙ last_passes column last last_position (breaks (length rs)) spaces low in
+        let found : indent_from column (spell ls last) (at start []) ≡ record { rest = []; position = along last last_position; value = record { column = column; breaks = breaks (length rs) } } = f.passes ∙ last_passes column last last_position (breaks (length rs)) spaces low in
         let where_is : block_position column p whole [] ≡ p = ap (λ o. position_or o p) (whole_first ∙ f.first last are ∙ first_last column last last_position spaces low) in
-        read (and_false _) refl (found_by ∙ ap (after h line k indent p is digit inner) found
+        read (and_false _) refl (found_by ∙ ap (after) found
         ∙ answer [] _ (further_position p whole []) p (block_position column p whole []) _ (value_before_end h column rs last empty_row) whole_position (sym where_is) (end_value h.chomping (length rs) ∙ rw none refl))
 
     -- a last line of content
@@ -296,14 +272,14 @@ module _ (h : defs.Header) (line : List ℕ) (k : Break) (indent : ℕ) (p : Pos
         ∙ last_value h rs z.char z.rest (are_full column (texts ls) rs rows)
         ∙ ap (λ m. with_content h 0 (rs ++ content_row m ∷ [])) (sym z.is)
 
-    content_by : (c : Found column (spell ls last) first_position []) → first_content column false first_position (spell ls last) ≡ Some (c.position) → Starts (is_literal_style h.style) column last [] last_position [] column → suc column ≤ length last
+    content_by : (c : Found column (spell ls last) start []) → first_content column false start (spell ls last) ≡ Some (c.position) → Starts (is_literal_style h.style) column last [] last_position [] column → suc column ≤ length last
         → lines_from (is_literal_style h.style) column last (front last_position rows_read) ≡ Ok (record { rest = []; position = along last last_position; value = last_read }) → read_end last_row
     content_by c first z long reads =
-        read (and_false _) refl (found_by ∙ finish h line k indent p is digit inner column (spell ls last) c.rest [] c.char c.position _ c.breaks_before last_read c.found (in_position h line k indent p is digit inner column c.position.col c.in_column)
-        (rows_go (is_literal_style h.style) column ls last first_position (after_empty 0) rs refl are rows ∙ reads)
+        read (and_false _) refl (found_by ∙ finish column (spell ls last) c.rest [] c.char c.position _ c.breaks_before last_read c.found (in_position column c.position.col c.in_column)
+        (rows_go (is_literal_style h.style) column ls last start (after_empty 0) rs refl are rows ∙ reads)
         ∙ answer [] _ (further_position p whole []) c.position (block_position column p whole []) _ (value_before_end h column rs last last_row) whole_position (sym (at_content c.position first)) (content_text z long))
 
-    last_found : (n : ℕ) → Empty column ls last first_position [] n → Starts (is_literal_style h.style) column last [] last_position (breaks n) column → Found column (spell ls last) first_position []
+    last_found : (n : ℕ) → Empty column ls last start [] n → Starts (is_literal_style h.style) column last [] last_position (breaks n) column → Found column (spell ls last) start []
     last_found n f z = record {
       char = z.char;
       rest = z.rest ++ [];
@@ -315,12 +291,17 @@ module _ (h : defs.Header) (line : List ℕ) (k : Break) (indent : ℕ) (p : Pos
 
     pub before_the_end : (r : Row) → IsRow column last r → read_end r
     unfolding last_found
-    before_the_end empty_row (no_content spaces le) = by (has_content rs) refl
-      where
-        by : (b : Bool) → has_content rs ≡ b → read_end empty_row
-        by true e = empty_some e spaces le (found_in column ls last first_position [] rs refl are rows e)
-        by false e = empty_none e spaces le (all_empty column ls last first_position [] rs refl are rows e)
-    before_the_end (content_row m) (is_content lead long free) = by (has_content rs) refl
+    before_the_end empty_row (no_content spaces le) = elim (cases_Bool (has_content rs)) [
+      | inl e ↦ empty_some e spaces le (found_in column ls last start [] rs refl are rows e)
+      | inr e ↦ empty_none e spaces le (all_empty column ls last start [] rs refl are rows e)
+    ]
+    before_the_end (content_row m) (is_content lead long free) = elim (cases_Bool (has_content rs)) [
+      | inl e ↦ let f = found_in column ls last start [] rs refl are rows e in content_by f.here (f.first last are) (here []) long reads
+      | inr e ↦
+          let f = all_empty column ls last start [] rs refl are rows e in
+          let z = here (breaks (length rs)) in
+          content_by (last_found (length rs) f z) (f.first last are ∙ ap (λ a. first_content column false last_position a) (sym (append-nil last)) ∙ z.first []) (here []) long reads
+    ]
       where
         col : last_position.col + column ≡ column
         col = let e = at_front in omega (arith, e)
@@ -330,17 +311,6 @@ module _ (h : defs.Header) (line : List ℕ) (k : Break) (indent : ℕ) (p : Pos
 
         here : (b : List ℕ) → Starts (is_literal_style h.style) column last [] last_position b column
         here b = starts (is_literal_style h.style) column column last [] last_position b col lead long last_inner
-
-        none : Empty column ls last first_position [] (length rs) → Starts (is_literal_style h.style) column last [] last_position (breaks (length rs)) column → read_end last_row
-        none f z =
-            content_by (last_found (length rs) f z) (f.first last are ∙ ap (λ a. first_content column false last_position a) (sym (append-nil last)) ∙ z.first []) (here []) long reads
-
-        some : FoundIn column ls last first_position [] → read_end last_row
-        some f = content_by f.here (f.first last are) (here []) long reads
-
-        by : (b : Bool) → has_content rs ≡ b → read_end last_row
-        by true e = some (found_in column ls last first_position [] rs refl are rows e)
-        by false e = none (all_empty column ls last first_position [] rs refl are rows e) (here (breaks (length rs)))
 
 -- ---- a header at the end of the text
 

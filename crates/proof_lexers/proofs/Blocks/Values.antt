@@ -1,10 +1,6 @@
 -- What rows leave in the model's buffers is the text that the definitions give them.
-use Rattle.std.proofs.Common.{◌≡◌, ℕ, zero, suc, ◌+◌, List, [], ◌∷◌, ◌++◌, Bool, true, false, ◌||◌, if◌then◌else◌, length, max, refl, ap, sym, ◌∙◌, append-nil, append_assoc, arith}
-use Rattle.proof_lexers.proofs.Common.{BlockStyle, breaks, chomping_of, clip, content_row, empty_row, has_content, is_literal_style, literal, Row}
-use Rattle.yaml_chars.specs.Class.{is_blank}
+use Rattle.proof_lexers.proofs.Common.{[], ap, append-nil, append_assoc, arith, between, between_lines, BlockStyle, Bool, breaks, chomping_of, clip, content_row, empty_after, empty_row, empty_text, false, folded, has_content, if◌then◌else◌, is_blank, is_literal_style, keep, length, Lines, List, literal, max, nothing_before_end, nothing_before_text, refl, Row, starts_blank, strip, suc, sym, tail, text_after, text_of, true, with_content, zero, ℕ, ◌++◌, ◌+◌, ◌||◌, ◌∙◌, ◌∷◌, ◌≡◌}
 use Rattle.defs_text.specs.BlockScalar as defs
-use Rattle.defs_text.specs.BlockScalar.{folded, strip, keep, starts_blank, between_lines, text_after, text_of, empty_after, with_content, nothing_before_text, nothing_before_end}
-use Rattle.model_scanner.specs.BlockScalar.{Lines, between, tail, empty_text}
 use Rattle.proof_lexers.proofs.Bridges.{same_blank}
 use Rattle.proof_lexers.proofs.Blocks.Rows.{after_row, after_rows}
 
@@ -81,15 +77,10 @@ module _ (s : BlockStyle) where
       (text_goes rs (breaks n ++ c ∷ m) (c ∷ m) 0 (is_blank c) full (sym (same_blank c)))
 
   pub none_goes : (rs : List Row) (n : ℕ) → has_content rs ≡ false → rows_after rs (after_empty n) ≡ after_empty (n + length rs)
-  none_goes [] n h = ap after_empty (zero_more n)
-    where
-      zero_more : (n : ℕ) → n ≡ n + 0
-      zero_more n = omega arith
+  none_goes [] n h = let none : n ≡ n + 0 = omega arith in ap after_empty none
   none_goes (empty_row ∷ rs) n h =
-      ap (λ x. rows_after rs (record { text = []; breaks = x; broken = false; blank = false })) (more_breaks n) ∙ none_goes rs (suc n) h ∙ ap after_empty (one_more n (length rs))
-    where
-      one_more : (n m : ℕ) → suc n + m ≡ n + suc m
-      one_more n m = omega arith
+      let more : suc n + length rs ≡ n + suc (length rs) = omega arith in
+      ap (λ x. rows_after rs (record { text = []; breaks = x; broken = false; blank = false })) (more_breaks n) ∙ none_goes rs (suc n) h ∙ ap after_empty more
   none_goes (content_row m ∷ rs) n h = cc
 
 -- ---- chomping
@@ -97,19 +88,13 @@ module _ (s : BlockStyle) where
 abbrev pub added : Bool → ℕ
 added b = (if b then 1 else 0)
 
-one_less : (n : ℕ) → suc n ≡ suc 0 + n
-one_less n = omega arith
-
-two_less : (n : ℕ) → suc (suc n) ≡ suc 1 + n
-two_less n = omega arith
-
 tail_is : (ch : defs.Chomping) (unbroken : Bool) (x : Lines) (n : ℕ) → x.breaks ≡ breaks n → x.broken ≡ true → tail (chomping_of ch) unbroken x ≡ defs.tail ch (added unbroken) n
 unfolding tail
 tail_is strip unbroken x n e f = refl
 tail_is clip true x n e f = rw f refl
 tail_is clip false x n e f = rw f refl
-tail_is keep true x n e f = rw (f, e) (ap breaks (two_less n))
-tail_is keep false x n e f = rw (f, e) (ap breaks (one_less n))
+tail_is keep true x n e f = let two : suc (suc n) ≡ suc 1 + n = omega arith in rw (f, e) (ap breaks two)
+tail_is keep false x n e f = let one : suc n ≡ suc 0 + n = omega arith in rw (f, e) (ap breaks one)
 
 -- lines with content
 pub content_value : (h : defs.Header) (unbroken : Bool) (rs : List Row) → AreFull rs → has_content rs ≡ true
@@ -138,10 +123,7 @@ unfolding empty_text
 end_value strip n = refl
 end_value clip n = refl
 end_value keep zero = refl
-end_value keep (suc n) = ap breaks (at_least_one n)
-  where
-    at_least_one : (n : ℕ) → suc n ≡ max (suc n) 1
-    at_least_one n = omega arith
+end_value keep (suc n) = let some : suc n ≡ max (suc n) 1 = omega arith in ap breaks some
 
 -- ---- a last line of content without a break
 
@@ -164,7 +146,7 @@ last_tail : (ch : defs.Chomping) (x : Lines) (n : ℕ) → x.breaks ≡ [] → b
 unfolding tail
 last_tail strip x n e f = refl
 last_tail clip x n e f = refl
-last_tail keep x n e f = rw e (ap (λ t. 10 ∷ t) (sym f) ∙ ap breaks (one_less n))
+last_tail keep x n e f = let one : suc n ≡ suc 0 + n = omega arith in rw e (ap (λ t. 10 ∷ t) (sym f) ∙ ap breaks one)
 
 pub last_value : (h : defs.Header) (rs : List Row) (c : ℕ) (m : List ℕ) → AreFull rs
     → (after_row (is_literal_style h.style) (content_row (c ∷ m)) (after_rows (is_literal_style h.style) rs (after_empty 0))).text

@@ -1,13 +1,9 @@
 -- Where content is found after rows, and how far rows go in a text.
-use Rattle.std.proofs.Common.{◌≡◌, ◌≤◌, ℕ, zero, suc, ◌+◌, List, [], ◌∷◌, ◌++◌, true, false, length, drop, Option, Some, None, refl, ap, sym, ◌∙◌, append-nil, arith}
-use Rattle.std.specs.List.{list_all}
-use Rattle.proof_lexers.proofs.Common.{breaks, content_row, empty_row, first_content, has_content, indent_from, is_further_text, is_in_line, is_spaces, Position, Row, row_of, rows_of}
-use Rattle.defs_text.specs.BlockScalar.{put_row}
-use Rattle.proof_lexers.specs.BlockScan.{is_some}
+use Rattle.proof_lexers.proofs.Common.{[], ap, append-nil, arith, breaks, content_row, drop, empty_row, false, first_content, has_content, indent_from, is_further_text, is_in_line, is_some, is_spaces, length, List, list_all, None, Option, Position, refl, Row, row_of, rows_of, Some, suc, sym, true, zero, ℕ, ◌++◌, ◌+◌, ◌∙◌, ◌∷◌, ◌≡◌, ◌≤◌}
 use Rattle.proof_lexers.proofs.Blocks.Written.{Line, put, spell, texts, Fits, AreLines}
 use Rattle.proof_lexers.proofs.Blocks.Margins.{after_line, after_lines, at, empty_passes}
 use Rattle.proof_lexers.proofs.Blocks.Positions.{first_empty}
-use Rattle.proof_lexers.proofs.Blocks.Rows.{IsRow, no_content, is_content, row_is, break_ends, Starts, starts}
+use Rattle.proof_lexers.proofs.Blocks.Rows.{IsRow, no_content, is_content, break_ends, Starts, starts, first_row, first_of}
 use Rattle.proof_lexers.proofs.Blocks.Values.{AreFull}
 use Rattle.proof_lexers.proofs.Blocks.Columns.{none_further}
 
@@ -22,24 +18,9 @@ row_full : (column : ℕ) (w : List ℕ) (r : Row) (rs : List Row) → IsRow col
 row_full column w empty_row rs (no_content h le) full = full
 row_full column w (content_row m) rs (is_content lead long free) full = drop_some column w rs long full
 
--- a list of rows by its first
-data First (column : ℕ) (w : List ℕ) (ws : List (List ℕ)) (rs : List Row) : Type 0 where
-  first_row : (r : Row) (more : List Row) → rs ≡ r ∷ more → IsRow column w r → rows_of column ws ≡ Some more → First column w ws rs
-
-first_of : (column : ℕ) (w : List ℕ) (ws : List (List ℕ)) (rs : List Row) → rows_of column (w ∷ ws) ≡ Some rs → First column w ws rs
-first_of column w ws rs h = by (row_of column w) (rows_of column ws) refl refl h
-  where
-    by : (o : Option Row) (os : Option (List Row)) → row_of column w ≡ o → rows_of column ws ≡ os → put_row o os ≡ Some rs → First column w ws rs
-    by None os e f g = cc
-    by (Some r) None e f g = cc
-    by (Some r) (Some more) e f g = let same : r ∷ more ≡ rs = cc in first_row r more (sym same) (row_is column w r e) f
-
 pub are_full : (column : ℕ) (ws : List (List ℕ)) (rs : List Row) → rows_of column ws ≡ Some rs → AreFull rs
 are_full column [] rs h = let none : [] ≡ rs = cc in rw (← none) tt
-are_full column (w ∷ ws) rs h = by (first_of column w ws rs h) (are_full column ws)
-  where
-    by : First column w ws rs → ((more : List Row) → rows_of column ws ≡ Some more → AreFull more) → AreFull rs
-    by (first_row r more e is f) go = rw e (row_full column w r more is (go more f))
+are_full column (w ∷ ws) rs h = elim (first_of column w ws rs h) [ first_row r more e is f ↦ rw e (row_full column w r more is (are_full column ws more f)) ]
 
 -- ---- the first content
 
@@ -83,10 +64,9 @@ module _ (column : ℕ) where
 
   pub found_in : (ls : List Line) (a : List ℕ) (p : Position) (b : List ℕ) (rs : List Row) → p.col ≡ 0 → AreLines ls a → rows_of column (texts ls) ≡ Some rs → has_content rs ≡ true → FoundIn ls a p b
   found_in [] a p b rs col are h some = let none : [] ≡ rs = cc in let no : false ≡ true = rw (← none) at some in cc
-  found_in (l ∷ ls) a p b rs col are h some = by (first_of column l.text (texts ls) rs h) (λ more e x. found_in ls a (after_line l p) (b ++ 10 ∷ []) more refl are.2 e x)
-    where
-      by : First column l.text (texts ls) rs → ((more : List Row) → rows_of column (texts ls) ≡ Some more → has_content more ≡ true → FoundIn ls a (after_line l p) (b ++ 10 ∷ [])) → FoundIn (l ∷ ls) a p b
-      by (first_row r more e is f) go = found_by l ls a p b r more col are (ap has_content (sym e) ∙ some) is (go more f)
+  found_in (l ∷ ls) a p b rs col are h some = elim (first_of column l.text (texts ls) rs h) [
+    | first_row r more e is f ↦ found_by l ls a p b r more col are (ap has_content (sym e) ∙ some) is (λ x. found_in ls a (after_line l p) (b ++ 10 ∷ []) more refl are.2 f x)
+  ]
 
   -- ---- empty lines alone
 
@@ -114,10 +94,9 @@ module _ (column : ℕ) where
   all_empty [] a p b rs col are h none =
       let same : [] ≡ rs = cc in
       rw (← same) (record { passes = ap (λ x. indent_from column a (at p x)) (sym (append-nil b)); first = λ y are. refl })
-  all_empty (l ∷ ls) a p b rs col are h none = by (first_of column l.text (texts ls) rs h) (λ more e x. all_empty ls a (after_line l p) (b ++ 10 ∷ []) more refl are.2 e x)
-    where
-      by : First column l.text (texts ls) rs → ((more : List Row) → rows_of column (texts ls) ≡ Some more → has_content more ≡ false → Empty ls a (after_line l p) (b ++ 10 ∷ []) (length more)) → Empty (l ∷ ls) a p b (length rs)
-      by (first_row r more e is f) go = rw e (empty_by l ls a p b r more col are (ap has_content (sym e) ∙ none) is (go more f))
+  all_empty (l ∷ ls) a p b rs col are h none = elim (first_of column l.text (texts ls) rs h) [
+    | first_row r more e is f ↦ rw e (empty_by l ls a p b r more col are (ap has_content (sym e) ∙ none) is (λ x. all_empty ls a (after_line l p) (b ++ 10 ∷ []) more refl are.2 f x))
+  ]
 
   -- ---- how far rows go
 

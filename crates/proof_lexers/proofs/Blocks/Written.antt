@@ -1,10 +1,6 @@
 -- Each text is lines, each with its break as written, and a last line without one.
-use Rattle.std.proofs.Common.{◌≡◌, ℕ, List, [], ◌∷◌, ◌++◌, Bool, true, false, ◌&&◌, ◌==◌, slice_index, refl, ap, ◌∙◌}
-use Rattle.std.proofs.lemmas.Bool.{and_parts, eqb-true}
-use Rattle.proof_lexers.proofs.Common.{is_in_line, Split, split}
-use Rattle.yaml_chars.specs.Class.{is_break}
+use Rattle.proof_lexers.proofs.Common.{[], and-false, and_parts, ap, cases_Bool, eqb-true, false, inl, inr, is_break, is_in_line, List, or_cases, refl, slice_index, Split, split, true, with_empty_line, ℕ, ◌&&◌, ◌++◌, ◌==◌, ◌∙◌, ◌∷◌, ◌≡◌}
 use Rattle.defs_text.specs.Classes as classes
-use Rattle.defs_text.specs.Breaks.{with_empty_line}
 use Rattle.proof_lexers.proofs.Bridges.{same_break}
 use Rattle.proof_lexers.proofs.Blocks.InLine.{first_inner}
 
@@ -61,37 +57,30 @@ module _ (c : ℕ) (a : List ℕ) (z : Lined a) where
 
   lone_break : is_break c ≡ true → ((c == 13) && (slice_index a 0 == 10)) ≡ false → Lined (c ∷ a)
   unfolding is_break
-  lone_break h e = by (c == 10) (c == 13) refl refl
-    where
-      by : (f r : Bool) → (c == 10) ≡ f → (c == 13) ≡ r → Lined (c ∷ a)
-      by true r g k = let so = eqb-true c 10 g in record { lines = record { text = []; by = feed } ∷ z.lines; last = z.last; is = rw so (ap (λ r. 10 ∷ r) z.is); are = (refl, tt, z.are); inner = z.inner }
-      by false true g k =
-          let so = eqb-true c 13 k in
-          let no : (slice_index a 0 == 10) ≡ false = rw k at e in
-          let fits : (slice_index (spell z.lines z.last) 0 == 10) ≡ false = rw (z.is) at no in
-          record { lines = record { text = []; by = carriage } ∷ z.lines; last = z.last; is = rw so (ap (λ r. 13 ∷ r) z.is); are = (refl, fits, z.are); inner = z.inner }
-      by false false g k = let no : false ≡ true = rw (g, k) at h in cc
+  lone_break h e = elim (or_cases (c == 10) (c == 13) h) [
+    | inl g ↦ let so = eqb-true c 10 g in record { lines = record { text = []; by = feed } ∷ z.lines; last = z.last; is = rw so (ap (λ r. 10 ∷ r) z.is); are = (refl, tt, z.are); inner = z.inner }
+    | inr k ↦
+        let so = eqb-true c 13 k in
+        let no : (slice_index a 0 == 10) ≡ false = rw k at e in
+        let fits : (slice_index (spell z.lines z.last) 0 == 10) ≡ false = rw (z.is) at no in
+        record { lines = record { text = []; by = carriage } ∷ z.lines; last = z.last; is = rw so (ap (λ r. 13 ∷ r) z.is); are = (refl, fits, z.are); inner = z.inner }
+  ]
 
 two_breaks : (a : List ℕ) → Lined a → Lined (13 ∷ 10 ∷ a)
 two_breaks a z = record { lines = record { text = []; by = both } ∷ z.lines; last = z.last; is = ap (λ r. 13 ∷ 10 ∷ r) z.is; are = (refl, tt, z.are); inner = z.inner }
 
-step_by : (c d : ℕ) (a : List ℕ) (b f : Bool) → is_break c ≡ b → ((c == 13) && (d == 10)) ≡ f → Lined (d ∷ a) → Lined a → Lined (c ∷ d ∷ a)
-step_by c d a false f e g z y = char_line c (d ∷ a) z z.lines z.is z.are e
-step_by c d a true true e g z y = let q = and_parts (c == 13) (d == 10) g in let x = eqb-true c 13 q.0 in let u = eqb-true d 10 q.1 in rw (x, u) (two_breaks a y)
-step_by c d a true false e g z y = lone_break c (d ∷ a) z e g
-
-one_by : (c : ℕ) (b : Bool) → is_break c ≡ b → Lined [] → Lined (c ∷ [])
-one_by c false e z = char_line c [] z z.lines z.is z.are e
-one_by c true e z = lone_break c [] z e (no (c == 13))
-  where
-    no : (b : Bool) → (b && false) ≡ false
-    no true = refl
-    no false = refl
-
 pub lined : (a : List ℕ) → Lined a
 lined [] = record { lines = []; last = []; is = refl; are = tt; inner = refl }
-lined (c ∷ []) = one_by c (is_break c) refl (lined [])
-lined (c ∷ d ∷ a) = step_by c d a (is_break c) ((c == 13) && (d == 10)) refl refl (lined (d ∷ a)) (lined a)
+lined (c ∷ []) = let z = lined [] in elim (cases_Bool (is_break c)) [ inl e ↦ lone_break c [] z e (and-false (c == 13)) | inr e ↦ char_line c [] z z.lines z.is z.are e ]
+lined (c ∷ d ∷ a) =
+    let z = lined (d ∷ a) in
+    elim (cases_Bool (is_break c)) [
+      | inr e ↦ char_line c (d ∷ a) z z.lines z.is z.are e
+      | inl e ↦ elim (cases_Bool ((c == 13) && (d == 10))) [
+        | inl g ↦ let q = and_parts (c == 13) (d == 10) g in rw (eqb-true c 13 q.0, eqb-true d 10 q.1) (two_breaks a (lined a))
+        | inr g ↦ lone_break c (d ∷ a) z e g
+      ]
+    ]
 
 -- ---- the lines of the text are these
 

@@ -1,30 +1,19 @@
 -- Directives are read as their lines say, and no other text is.
-use Rattle.std.proofs.Common.{◌≡◌, ℕ, suc, ◌+◌, List, [], ◌∷◌, ◌++◌, Bool, true, false, ◌&&◌, ◌||◌, ◌==◌, not, if◌then◌else◌, length, slice_index, Option, Some, None, Result, Ok, Err, codes, refl, ap, sym, subst, ◌∙◌, arith, append_assoc, append-nil, length-append}
-use Rattle.std.proofs.lemmas.Bool.{and_parts, eqb-true}
-use Rattle.proof_lexers.proofs.Common.{after_class, and_then, At, begins_with, decoded, Fault, has_no_break, is_alpha, is_alphanumeric, is_at_gap, is_rest_of_line, is_same, is_tag, is_uri, is_uri_mark, leading, number, Position, position_after, Read, skip_while, UriFault}
-use Rattle.yaml_chars.specs.Class.{is_flow, is_blank}
+use Rattle.proof_lexers.proofs.Common.{[], after, after_class, after_declaration, after_major, after_value, after_version, and_parts, and_then, ap, append-nil, append_assoc, arith, At, begins_prefix, begins_with, blanks, Bool, by_comment, by_declaration, by_name, by_octets, by_version, cases_Bool, codes, declaration_by, declaration_of, decoded, Directive, directive, directive_by, directive_of, DirectivesAreRead, DirectivesEndAsTheirTextSays, eqb-true, Err, false, Fault, first_break, further, handle, handle_and_rest, has_no_break, if◌then◌else◌, inl, inr, is_alpha, is_alphanumeric, is_at_gap, is_blank, is_flow, is_handle, is_rest_of_line, is_same, is_tag, is_uri, is_uri_mark, IsDirectiveRefusal, IsNoDeclaration, IsNoVersion, kind, leading, length, length-append, line_end, List, long_major, long_minor, minor_of, name, next_line, no_major, no_minor, no_name, no_point, no_prefix, None, not, not-false, not-true, number, number_of, Ok, open_name, Option, or_parts, past, Position, position_after, prefix, prefix_after, prefix_by, prefix_of, Problem, problem_of, Read, refl, reserved, Result, skip_while, slice_index, Some, subst, suc, sym, tag, tag_declaration, tag_value, token_of, true, unknown, UriFault, value, version, version_by, version_of, version_value, with_end, with_minor, with_prefix, ℕ, ◌&&◌, ◌++◌, ◌+◌, ◌==◌, ◌||◌, ◌∙◌, ◌∷◌, ◌≡◌}
 use Rattle.defs_token.specs.Token.{Tok}
-use Rattle.yaml_tokens.specs.declared.problem.Problem.{Problem}
 use Rattle.yaml_tokens.specs.declared.problem.Problem.TheVariants as problem
 use Rattle.defs_text.specs.Classes as classes
-use Rattle.defs_text.specs.Tags.{after, is_handle}
 use Rattle.defs_text.specs.Directives as defs
-use Rattle.defs_text.specs.Directives.{Directive, tag_declaration, reserved, number_of, version_by, minor_of, version_of, prefix_by, begins_prefix, prefix_of, handle_and_rest, declaration_by, declaration_of, directive_by, directive_of}
-use Rattle.model_scanner.specs.Machine.{past}
-use Rattle.model_scanner.specs.Blanks.{blanks}
-use Rattle.model_scanner.specs.Tag.{handle, prefix}
-use Rattle.model_scanner.specs.Directive.{version, tag, unknown, kind, name, with_minor, after_major, version_value, with_prefix, prefix_after, tag_value, value, line_end, with_end, after_value, after_name, directive}
+use Rattle.model_scanner.specs.Directive.{after_name}
 use Rattle.proof_lexers.proofs.Bridges.{same_blank, same_alpha, same_tag}
-use Rattle.proof_lexers.specs.NameEnds.{further}
-use Rattle.proof_lexers.specs.UriEnds.{problem_of}
-use Rattle.proof_lexers.specs.DirectiveEnds.{token_of, ends_line, first_break, next_line, after_line, IsNoVersion, no_major, long_major, no_point, no_minor, long_minor, IsNoDeclaration, no_mark, open_name, no_prefix, by_octets, goes_on, IsDirectiveRefusal, no_name, by_name, by_version, by_declaration, by_comment, after_version, after_declaration, DirectiveEndsAs, reads, refuses}
-use Rattle.proof_lexers.specs.ScalarLaws.{DirectivesAreRead, DirectivesEndAsTheirTextSays}
+use Rattle.proof_lexers.specs.DirectiveEnds.{ends_line, after_line, no_mark, goes_on, reads, refuses}
 use Rattle.proof_lexers.proofs.Separation.Positions.{position_append, position_in_line}
-use Rattle.proof_lexers.proofs.Properties.Tags.{span_cut}
 use Rattle.proof_lexers.proofs.Properties.Uris.{uris_are_read}
-use Rattle.proof_lexers.proofs.Directives.Parts.{none_at_end, before_end, no_break_after, skipped, line_skipped, LineEnds, ended, comment, text, line_ends, spells_name, kind_is, gap_is}
+use Rattle.proof_lexers.proofs.RestOfLine.{line_skipped}
+use Rattle.proof_lexers.proofs.Directives.Parts.{none_at_end, no_break_after, LineEnds, ended, comment, text, line_ends, spells_name, kind_is, gap_is}
 use Rattle.proof_lexers.proofs.Directives.Values.{NumberSees, missing, long, found, number_sees, not_at_end, HandleSees, handle_sees}
 use Rattle.proof_lexers.proofs.Directives.Values as values
+use Rattle.proof_lexers.proofs.Classes.{same_place, before_end, skipped, span_cut}
 
 pub same_text : (a b : List ℕ) → is_same a b ≡ true → a ≡ b
 same_text [] [] h = refl
@@ -35,16 +24,7 @@ same_text (c ∷ a) (d ∷ b) h =
     let first : c ≡ d = eqb-true c d q.0 in
     rw first (ap (λ r. d ∷ r) (same_text a b q.1))
 
-further_more : (p : Position) (k m j : ℕ) → j ≡ k + m → further m (further (suc k) p) ≡ further (suc j) p
-further_more p k m j e =
-    let x : (p.index + suc k) + m ≡ p.index + suc j = omega (arith, e) in
-    let y : (p.col + suc k) + m ≡ p.col + suc j = omega (arith, e) in
-    rw (x, y) refl
-
-abbrev nothing : Option Directive
-nothing = None
-
-none_by : (b : Bool) → (if b then nothing else nothing) ≡ nothing
+none_by : (b : Bool) → ◌≡◌ {A = Option Directive} (if b then None else None) None
 none_by true = refl
 none_by false = refl
 
@@ -60,9 +40,7 @@ four_positions p a b c d =
     let all = length-append a (b ++ (c ++ 46 ∷ d)) in
     let more = length-append b (c ++ 46 ∷ d) in
     let last : length (c ++ 46 ∷ d) ≡ length c + suc (length d) = length-append c (46 ∷ d) in
-    let x : (((((p.index + 1) + length a) + length b) + length c) + 1) + length d ≡ p.index + suc (length (a ++ (b ++ (c ++ 46 ∷ d)))) = omega (arith, all, more, last) in
-    let y : (((((p.col + 1) + length a) + length b) + length c) + 1) + length d ≡ p.col + suc (length (a ++ (b ++ (c ++ 46 ∷ d)))) = omega (arith, all, more, last) in
-    rw (x, y) refl
+    same_place p (suc (length (a ++ (b ++ (c ++ 46 ∷ d))))) (omega (arith, all, more, last)) (omega (arith, all, more, last))
 
 five_positions : (p : Position) (a b c d e : List ℕ) → further (length e) (further (length d) (further (length c) (further (length b) (further (length a) (past p))))) ≡ further (suc (length (a ++ (b ++ (c ++ (d ++ e)))))) p
 five_positions p a b c d e =
@@ -70,9 +48,7 @@ five_positions p a b c d e =
     let more = length-append b (c ++ (d ++ e)) in
     let rest = length-append c (d ++ e) in
     let last = length-append d e in
-    let x : (((((p.index + 1) + length a) + length b) + length c) + length d) + length e ≡ p.index + suc (length (a ++ (b ++ (c ++ (d ++ e))))) = omega (arith, all, more, rest, last) in
-    let y : (((((p.col + 1) + length a) + length b) + length c) + length d) + length e ≡ p.col + suc (length (a ++ (b ++ (c ++ (d ++ e))))) = omega (arith, all, more, rest, last) in
-    rw (x, y) refl
+    same_place p (suc (length (a ++ (b ++ (c ++ (d ++ e)))))) (omega (arith, all, more, rest, last)) (omega (arith, all, more, rest, last))
 
 no_percent_break : (l : List ℕ) → has_no_break l ≡ true → has_no_break (37 ∷ l) ≡ true
 unfolding classes.is_break
@@ -84,11 +60,7 @@ no_hash h = cc
 
 no_minor_of : (r : List ℕ) → minor_of None r ≡ None
 no_minor_of [] = refl
-no_minor_of (c ∷ r) = by ((c == 46) && is_rest_of_line (after classes.is_decimal_digit r))
-  where
-    by : (b : Bool) → (if b then version_by None (number_of (leading classes.is_decimal_digit r)) else None) ≡ None
-    by true = refl
-    by false = refl
+no_minor_of (c ∷ r) = none_by ((c == 46) && is_rest_of_line (after classes.is_decimal_digit r))
 
 no_tag_at_end : (n : List ℕ) → ends_line n ≡ true → is_tag (slice_index n 0) ≡ false
 unfolding is_tag is_uri is_alphanumeric is_uri_mark is_flow classes.is_tag classes.is_uri classes.is_decimal_digit classes.is_letter classes.is_flow
@@ -101,9 +73,6 @@ data Told (start : Position) (l n : List ℕ) (x : Result (Read Tok) Fault) : Ty
   fails : (f : Fault) → directive_of (37 ∷ l) ≡ None → IsDirectiveRefusal start l f → x ≡ Err f → Told start l n x
 
 module _ (start : Position) (l n : List ℕ) (line : has_no_break l ≡ true) (ends : ends_line n ≡ true) where
-  refused : (f : Fault) (x : Result (Read Tok) Fault) → directive_of (37 ∷ l) ≡ None → IsDirectiveRefusal start l f → x ≡ Err f → Told start l n x
-  refused f x none why e = fails f none why e
-
   -- ---- the line's end
 
   last_position : (before m : List ℕ) (p : Position) → l ≡ before ++ m → p ≡ further (suc (length before)) start
@@ -111,7 +80,7 @@ module _ (start : Position) (l n : List ℕ) (line : has_no_break l ≡ true) (e
   last_position before m p cut position =
       let so_long : length l ≡ length before + length m = ap length cut ∙ length-append before m in
       let here : further (length m) p ≡ position_after start (37 ∷ l) (first_break n ++ next_line n) =
-      ap (further (length m)) position ∙ further_more start (length before) (length m) (length l) so_long ∙ position_in_line start (37 ∷ l) (first_break n ++ next_line n) (no_percent_break l line) in
+      ap (further (length m)) position ∙ same_place start (suc (length l)) (omega (arith, so_long)) (omega (arith, so_long)) ∙ position_in_line start (37 ∷ l) (first_break n ++ next_line n) (no_percent_break l line) in
       ap (λ q. position_after q (first_break n) (next_line n)) here ∙ sym (position_append start (37 ∷ l) (first_break n) (next_line n))
 
   finish : (before m : List ℕ) (d : Directive) (p : Position) → l ≡ before ++ m → p ≡ further (suc (length before)) start → directive_of (37 ∷ l) ≡ (if is_rest_of_line m then Some d else None)
@@ -131,8 +100,8 @@ module _ (start : Position) (l n : List ℕ) (line : has_no_break l ≡ true) (e
 
       by : (x : Result (Read (Unit {0})) Fault) → LineEnds start p m n x → Told start l n (go x)
       by x (ended is e) = is_directive d (says ∙ rw is refl) (ap go e ∙ ap (λ q. Ok (record { rest = next_line n; position = q; value = token_of d })) (last_position before m p cut position))
-      by x (comment begins none e) = refused (At problem.CommentNotSeparated p) (go x) (says ∙ rw none refl) (subst (λ q. IsDirectiveRefusal start l (At problem.CommentNotSeparated q)) (sym position) (glued m refl begins)) (ap go e)
-      by x (text none begins e) = refused (At problem.DirectiveEnd start) (go x) (says ∙ rw none refl) (by_other none begins) (ap go e)
+      by x (comment begins none e) = fails (At problem.CommentNotSeparated p) (says ∙ rw none refl) (subst (λ q. IsDirectiveRefusal start l (At problem.CommentNotSeparated q)) (sym position) (glued m refl begins)) (ap go e)
+      by x (text none begins e) = fails (At problem.DirectiveEnd start) (says ∙ rw none refl) (by_other none begins) (ap go e)
 
   -- ---- words
 
@@ -167,7 +136,7 @@ module _ (start : Position) (l n : List ℕ) (line : has_no_break l ≡ true) (e
     says_version = rw (word, gap) refl
 
     version_refused : (why : Problem) (x : Result (Read Tok) Fault) → version_of said ≡ None → IsNoVersion said why → x ≡ Err (At why start) → Told start l n x
-    version_refused why x none reason e = refused (At why start) x (says_version ∙ none) (by_version why (record { is_name = word; is_whole = gap }) reason) e
+    version_refused why x none reason e = fails (At why start) (says_version ∙ none) (by_version why (record { is_name = word; is_whole = gap }) reason) e
 
     -- after the minor number
     version_end : (s minor : List ℕ) (v w : ℕ) → after classes.is_decimal_digit said ≡ 46 ∷ s → leading classes.is_decimal_digit s ≡ minor → number_of major ≡ Some v → number_of minor ≡ Some w
@@ -194,7 +163,11 @@ module _ (start : Position) (l n : List ℕ) (line : has_no_break l ≡ true) (e
 
     minor_read : (s : List ℕ) (v : ℕ) → after classes.is_decimal_digit said ≡ 46 ∷ s → number_of major ≡ Some v
         → Told start l n (and_then (and_then (number start (s ++ n) (past (further (length major) said_position))) (λ k. Ok (with_minor v k))) (λ t. after_value start t))
-    minor_read s v point is = told (number start (s ++ n) (past (further (length major) said_position))) (number_sees start (past (further (length major) said_position)) s n ends)
+    minor_read s v point is = elim (number_sees start (past (further (length major) said_position)) s n ends) [
+      | missing none without e ↦ version_refused problem.VersionNumber _ (no_version without) (no_minor v s is point none) (ap go e)
+      | long much without e ↦ version_refused problem.VersionTooLong _ (no_version without) (long_minor v s is point much) (ap go e)
+      | found w is_w e ↦ rw e (version_end s (leading classes.is_decimal_digit s) v w point refl is is_w)
+    ]
       where
         go : Result (Read ℕ) Fault → Result (Read Tok) Fault
         go x = and_then (and_then x (λ k. Ok (with_minor v k))) (λ t. after_value start t)
@@ -202,33 +175,26 @@ module _ (start : Position) (l n : List ℕ) (line : has_no_break l ≡ true) (e
         no_version : number_of (leading classes.is_decimal_digit s) ≡ None → version_of said ≡ None
         no_version without = rw (point, is, without) (none_by (is_rest_of_line (after classes.is_decimal_digit s)))
 
-        told : (x : Result (Read ℕ) Fault) → NumberSees start (past (further (length major) said_position)) s n x → Told start l n (go x)
-        told x (missing none without e) = version_refused problem.VersionNumber (go x) (no_version without) (no_minor v s is point none) (ap go e)
-        told x (long much without e) = version_refused problem.VersionTooLong (go x) (no_version without) (long_minor v s is point much) (ap go e)
-        told x (found w is_w e) = subst (λ y. Told start l n (go y)) (sym e) (version_end s (leading classes.is_decimal_digit s) v w point refl is is_w)
-
     point_read : (r : List ℕ) (v : ℕ) → after classes.is_decimal_digit said ≡ r → number_of major ≡ Some v
         → Told start l n (and_then (after_major start (record { rest = r ++ n; position = further (length major) said_position; value = v })) (λ t. after_value start t))
     point_read [] v rest is =
         let none = not_at_end 46 refl refl refl n ends in
         version_refused problem.VersionDot _ (rw rest refl) (no_point v is (rw rest refl)) (rw none refl)
-    point_read (c ∷ s) v rest is = by (c == 46) refl
-      where
-        by : (b : Bool) → (c == 46) ≡ b → Told start l n (and_then (after_major start (record { rest = (c ∷ s) ++ n; position = further (length major) said_position; value = v })) (λ t. after_value start t))
-        by true e = let same : c ≡ 46 = eqb-true c 46 e in rw e (minor_read s v (rest ∙ ap (λ k. k ∷ s) same) is)
-        by false e = version_refused problem.VersionDot _ (rw (rest, e) refl) (no_point v is (rw (rest, e) refl)) (rw e refl)
+    point_read (c ∷ s) v rest is = elim (cases_Bool (c == 46)) [
+      | inl e ↦ let same : c ≡ 46 = eqb-true c 46 e in rw e (minor_read s v (rest ∙ ap (λ k. k ∷ s) same) is)
+      | inr e ↦ version_refused problem.VersionDot _ (rw (rest, e) refl) (no_point v is (rw (rest, e) refl)) (rw e refl)
+    ]
 
     versions : Told start l n (and_then (value start version (after_word ++ n) word_position) (λ t. after_value start t))
     unfolding version_value
-    versions = rw (blanks_skipped after_word word_position) (told (number start (said ++ n) said_position) (number_sees start said_position said n ends))
+    versions = rw (blanks_skipped after_word word_position) (elim (number_sees start said_position said n ends) [
+      | missing none without e ↦ version_refused problem.VersionNumber _ (rw without (no_minor_of (after classes.is_decimal_digit said))) (no_major none) (ap go e)
+      | long much without e ↦ version_refused problem.VersionTooLong _ (rw without (no_minor_of (after classes.is_decimal_digit said))) (long_major much) (ap go e)
+      | found v is e ↦ rw e (point_read (after classes.is_decimal_digit said) v refl is)
+    ])
       where
         go : Result (Read ℕ) Fault → Result (Read Tok) Fault
         go x = and_then (and_then x (λ k. after_major start k)) (λ t. after_value start t)
-
-        told : (x : Result (Read ℕ) Fault) → NumberSees start said_position said n x → Told start l n (go x)
-        told x (missing none without e) = version_refused problem.VersionNumber (go x) (rw without (no_minor_of (after classes.is_decimal_digit said))) (no_major none) (ap go e)
-        told x (long much without e) = version_refused problem.VersionTooLong (go x) (rw without (no_minor_of (after classes.is_decimal_digit said))) (long_major much) (ap go e)
-        told x (found v is e) = subst (λ y. Told start l n (go y)) (sym e) (point_read (after classes.is_decimal_digit said) v refl is)
 
   -- ---- declarations
 
@@ -264,16 +230,12 @@ module _ (start : Position) (l n : List ℕ) (line : has_no_break l ≡ true) (e
     says_declaration = rw (word, gap) refl
 
     declaration_refused : (why : Problem) (x : Result (Read Tok) Fault) → declaration_by (handle_and_rest said) ≡ None → IsNoDeclaration said why → x ≡ Err (At why start) → Told start l n x
-    declaration_refused why x none reason e = refused (At why start) x (says_declaration ∙ none) (by_declaration why (record { is_name = word; is_whole = gap }) reason) e
+    declaration_refused why x none reason e = fails (At why start) (says_declaration ∙ none) (by_declaration why (record { is_name = word; is_whole = gap }) reason) e
 
     gap_missing : (r : List ℕ) → is_at_gap r ≡ false → is_rest_of_line r ≡ false
     unfolding classes.is_blank_or_end
     gap_missing [] h = cc
-    gap_missing (c ∷ r) h = by (classes.is_blank c) refl h
-      where
-        by : (b : Bool) → classes.is_blank c ≡ b → (b || classes.is_break c || classes.is_nul c) ≡ false → is_rest_of_line (c ∷ r) ≡ false
-        by true e h = cc
-        by false e h = rw e refl
+    gap_missing (c ∷ r) h = rw (or_parts (classes.is_blank c) (classes.is_break c) (or_parts (classes.is_blank c || classes.is_break c) (classes.is_nul c) h).0).0 refl
 
     module _ (is : is_handle handle_is ≡ true) (spelled : said ≡ handle_is ++ after_handle) where
       declares : (cs : List ℕ) → begins_prefix from_prefix ≡ true → decoded prefix_text ≡ Ok cs → declaration_by (handle_and_rest said) ≡ (if is_rest_of_line after_prefix then Some (tag_declaration handle_is cs) else None)
@@ -323,39 +285,34 @@ module _ (start : Position) (l n : List ℕ) (line : has_no_break l ≡ true) (e
       characters_read : (d : Result (List ℕ) UriFault) → begins_prefix from_prefix ≡ true → decoded prefix_text ≡ d
           → Told start l n (and_then (and_then (prefix_result d) (λ q. with_prefix start handle_is q)) (λ t. after_value start t))
       characters_read (Err f) begins means = declaration_refused (problem_of f) _ (rw (is, begins, means) refl) (by_octets f is begins means) refl
-      characters_read (Ok cs) begins means = by (is_at_gap after_prefix) refl
-        where
-          by : (b : Bool) → is_at_gap after_prefix ≡ b → Told start l n (and_then (and_then (prefix_result (Ok cs)) (λ q. with_prefix start handle_is q)) (λ t. after_value start t))
-          by true e = rw (gap_is after_prefix n ends, e) (declaration_end cs begins means e)
-          by false e = declaration_refused problem.TagDirectiveEnd _ (declares cs begins means ∙ rw (gap_missing after_prefix e) refl) (goes_on cs is begins means e) (rw (gap_is after_prefix n ends, e) refl)
+      characters_read (Ok cs) begins means = elim (cases_Bool (is_at_gap after_prefix)) [
+        | inl e ↦ rw (gap_is after_prefix n ends, e) (declaration_end cs begins means e)
+        | inr e ↦ declaration_refused problem.TagDirectiveEnd _ (declares cs begins means ∙ rw (gap_missing after_prefix e) refl) (goes_on cs is begins means e) (rw (gap_is after_prefix n ends, e) refl)
+      ]
 
       prefix_read : Told start l n (and_then (prefix_after start handle_is (blanks (after_handle ++ n) handle_position)) (λ t. after_value start t))
-      prefix_read = rw (blanks_skipped after_handle handle_position) (by (begins_prefix from_prefix) refl)
-        where
-          by : (b : Bool) → begins_prefix from_prefix ≡ b → Told start l n (and_then (and_then (prefix start (from_prefix ++ n) prefix_position) (λ q. with_prefix start handle_is q)) (λ t. after_value start t))
-          by true e = rw (prefix_is (begins_with_prefix from_prefix ∙ e)) (characters_read (decoded prefix_text) e refl)
-          by false e = declaration_refused problem.GlobalTagCharacter _ (rw (is, e) refl) (no_prefix is e) (ap (λ x. and_then (and_then x (λ q. with_prefix start handle_is q)) (λ t. after_value start t)) (prefix_fails (begins_with_prefix from_prefix ∙ e)))
+      prefix_read = rw (blanks_skipped after_handle handle_position) (elim (cases_Bool (begins_prefix from_prefix)) [
+        | inl e ↦ rw (prefix_is (begins_with_prefix from_prefix ∙ e)) (characters_read (decoded prefix_text) e refl)
+        | inr e ↦ declaration_refused problem.GlobalTagCharacter _ (rw (is, e) refl) (no_prefix is e) (ap (λ x. and_then (and_then x (λ q. with_prefix start handle_is q)) (λ t. after_value start t)) (prefix_fails (begins_with_prefix from_prefix ∙ e)))
+      ])
 
     declarations : Told start l n (and_then (value start tag (after_word ++ n) word_position) (λ t. after_value start t))
     unfolding tag_value
-    declarations = rw (blanks_skipped after_word word_position) (told (handle start (said ++ n) said_position) (handle_sees start said_position said n ends))
+    declarations = rw (blanks_skipped after_word word_position) (elim (handle_sees start said_position said n ends) [
+      | values.no_mark none without e ↦ declaration_refused problem.TagStart _ (rw without refl) (no_mark none) (ap go e)
+      | values.open_name c name rest same lead none without e ↦ declaration_refused problem.TagDirectiveHandle _ (rw without refl) (open_name c name rest same lead none) (ap go e)
+      | values.found is spelled e ↦ rw e (prefix_read is spelled)
+    ])
       where
         go : Result (Read (List ℕ)) Fault → Result (Read Tok) Fault
         go x = and_then (and_then x (λ (h : Read (List ℕ)). prefix_after start h.value (blanks h.rest h.position))) (λ t. after_value start t)
-
-        told : (x : Result (Read (List ℕ)) Fault) → HandleSees start said_position said n x → Told start l n (go x)
-        told x (values.no_mark none without e) = declaration_refused problem.TagStart (go x) (rw without refl) (no_mark none) (ap go e)
-        told x (values.open_name c name rest same lead none without e) = declaration_refused problem.TagDirectiveHandle (go x) (rw without refl) (open_name c name rest same lead none) (ap go e)
-        told x (values.found is spelled e) = subst (λ y. Told start l n (go y)) (sym e) (prefix_read is spelled)
 
   -- ---- other directives
 
   ignored_position : further (length after_word) word_position ≡ further (suc (length l)) start
   ignored_position =
       let so_long : length l ≡ length (leading classes.is_alpha l) + length after_word = ap length (span_cut classes.is_alpha l) ∙ length-append (leading classes.is_alpha l) after_word in
-      let x : ((start.index + 1) + length (leading classes.is_alpha l)) + length after_word ≡ start.index + suc (length l) = omega (arith, so_long) in
-      let y : ((start.col + 1) + length (leading classes.is_alpha l)) + length after_word ≡ start.col + suc (length l) = omega (arith, so_long) in
-      rw (x, y) refl
+      same_place start (suc (length l)) (omega (arith, so_long)) (omega (arith, so_long))
 
   ignored : (c : ℕ) (w : List ℕ) → leading classes.is_alpha l ≡ c ∷ w → is_same (c ∷ w) (codes "YAML") ≡ false → is_same (c ∷ w) (codes "TAG") ≡ false → is_at_gap after_word ≡ true
       → Told start l n (and_then (value start unknown (after_word ++ n) word_position) (λ t. after_value start t))
@@ -368,13 +325,13 @@ module _ (start : Position) (l n : List ℕ) (line : has_no_break l ≡ true) (e
   -- ---- the directive
 
   by_kind : (c : ℕ) (w : List ℕ) → leading classes.is_alpha l ≡ c ∷ w → is_at_gap after_word ≡ true → Told start l n (after_name start (record { rest = after_word ++ n; position = word_position; value = kind (l ++ n) }))
-  by_kind c w lead gap = rw (kind_is l n ends, lead) (by (is_same (c ∷ w) (codes "YAML")) refl (is_same (c ∷ w) (codes "TAG")) refl)
-    where
-      by : (yaml : Bool) → is_same (c ∷ w) (codes "YAML") ≡ yaml → (tags : Bool) → is_same (c ∷ w) (codes "TAG") ≡ tags
-          → Told start l n (after_name start (record { rest = after_word ++ n; position = further (length (c ∷ w)) (past start); value = (if yaml then version else (if tags then tag else unknown)) }))
-      by true e tags f = subst (λ k. Told start l n (after_name start (record { rest = after_word ++ n; position = further (length k) (past start); value = version }))) lead (versions (lead ∙ same_text (c ∷ w) (codes "YAML") e) gap)
-      by false e true f = subst (λ k. Told start l n (after_name start (record { rest = after_word ++ n; position = further (length k) (past start); value = tag }))) lead (declarations (lead ∙ same_text (c ∷ w) (codes "TAG") f) gap)
-      by false e false f = subst (λ k. Told start l n (after_name start (record { rest = after_word ++ n; position = further (length k) (past start); value = unknown }))) lead (ignored c w lead e f gap)
+  by_kind c w lead gap = elim (cases_Bool (is_same (leading classes.is_alpha l) (codes "YAML"))) [
+    | inl e ↦ rw (kind_is l n ends, e) (versions (same_text (leading classes.is_alpha l) (codes "YAML") e) gap)
+    | inr e ↦ elim (cases_Bool (is_same (leading classes.is_alpha l) (codes "TAG"))) [
+      | inl f ↦ rw (kind_is l n ends, e, f) (declarations (same_text (leading classes.is_alpha l) (codes "TAG") f) gap)
+      | inr f ↦ rw (kind_is l n ends, e, f) (ignored c w lead (rw lead at e) (rw lead at f) gap)
+    ]
+  ]
 
   word_skipped : skip_while is_alpha (l ++ n) (past start) ≡ record { rest = after_word ++ n; position = word_position; value = tt }
   unfolding classes.is_alpha classes.is_decimal_digit classes.is_letter
@@ -383,22 +340,12 @@ module _ (start : Position) (l n : List ℕ) (line : has_no_break l ≡ true) (e
   by_word : (w : List ℕ) → leading classes.is_alpha l ≡ w → Told start l n (directive (37 ∷ (l ++ n)) start)
   unfolding directive name directive_of
   by_word [] lead =
-      let no_letter : is_alpha (slice_index (l ++ n) 0) ≡ false = not_false (is_alpha (slice_index (l ++ n) 0)) (spells_name [] l n refl ends ∙ rw lead refl) in
-      refused (At problem.DirectiveName (past start)) _ (rw lead refl) (no_name lead) (rw no_letter refl)
-    where
-      not_false : (b : Bool) → not b ≡ true → b ≡ false
-      not_false false h = refl
-      not_false true h = cc
-  by_word (c ∷ w) lead = rw (letter (is_alpha (slice_index (l ++ n) 0)) (spells_name [] l n refl ends ∙ rw lead refl), word_skipped, gap_is after_word n ends) (by (is_at_gap after_word) refl)
-    where
-      letter : (b : Bool) → not b ≡ false → b ≡ true
-      letter true h = refl
-      letter false h = cc
-
-      by : (gap : Bool) → is_at_gap after_word ≡ gap
-          → Told start l n (and_then (if gap then Ok (record { rest = after_word ++ n; position = word_position; value = kind (l ++ n) }) else Err (At problem.DirectiveNameEnd (past start))) (λ k. after_name start k))
-      by true e = by_kind c w lead e
-      by false e = refused (At problem.DirectiveNameEnd (past start)) _ (rw (lead, e) refl) (by_name (rw lead refl) e) refl
+      let no_letter : is_alpha (slice_index (l ++ n) 0) ≡ false = not-true (is_alpha (slice_index (l ++ n) 0)) (spells_name [] l n refl ends ∙ rw lead refl) in
+      fails (At problem.DirectiveName (past start)) (rw lead refl) (no_name lead) (rw no_letter refl)
+  by_word (c ∷ w) lead = rw (not-false (is_alpha (slice_index (l ++ n) 0)) (spells_name [] l n refl ends ∙ rw lead refl), word_skipped, gap_is after_word n ends) (elim (cases_Bool (is_at_gap after_word)) [
+    | inl e ↦ rw e (by_kind c w lead e)
+    | inr e ↦ rw e (fails (At problem.DirectiveNameEnd (past start)) (rw (lead, e) refl) (by_name (rw lead refl) e) refl)
+  ])
 
 -- ---- the laws
 
@@ -411,26 +358,22 @@ in_line c = not (classes.is_break c)
 first_line : (a : List ℕ) → (has_no_break (leading in_line a) ≡ true) × (ends_line (after in_line a) ≡ true)
 unfolding in_line
 first_line [] = (refl, refl)
-first_line (c ∷ a) = by (classes.is_break c) refl (first_line a)
-  where
-    by : (b : Bool) → classes.is_break c ≡ b → (has_no_break (leading in_line a) ≡ true) × (ends_line (after in_line a) ≡ true)
-        → (has_no_break (if not b then c ∷ leading in_line a else []) ≡ true) × (ends_line (if not b then after in_line a else c ∷ a) ≡ true)
-    by true e q = (refl, e)
-    by false e q = (rw e (q.0), q.1)
+first_line (c ∷ a) = let q = first_line a in elim (cases_Bool (classes.is_break c)) [ inl e ↦ (rw e refl, rw (e, e) refl) | inr e ↦ (rw (e, e) q.0, rw e q.1) ]
 
 pub directives_end : DirectivesEndAsTheirTextSays
-directives_end a start = by (leading in_line a) (after in_line a) (span_cut in_line a) (first_line a).0 (first_line a).1
-  where
-    ends_by : (l n : List ℕ) (x : Result (Read Tok) Fault) → has_no_break l ≡ true → ends_line n ≡ true → Told start l n x → DirectiveEndsAs start (l ++ n) x
-    ends_by l n x line ends (is_directive d is e) = reads l n d refl line ends is e
-    ends_by l n x line ends (fails f none why e) = refuses l n f refl line ends none why e
-
-    by : (l n : List ℕ) → a ≡ l ++ n → has_no_break l ≡ true → ends_line n ≡ true → DirectiveEndsAs start a (directive (37 ∷ a) start)
-    by l n cut line ends = rw cut (ends_by l n (directive (37 ∷ (l ++ n)) start) line ends (told start l n line ends))
+directives_end a start =
+    let z = first_line a in
+    let cut = span_cut in_line a in
+    elim (told start (leading in_line a) (after in_line a) z.0 z.1) [
+      | is_directive d is e ↦ reads (leading in_line a) (after in_line a) d cut z.0 z.1 is (ap (λ x. directive (37 ∷ x) start) cut ∙ e)
+      | fails f none why e ↦ refuses (leading in_line a) (after in_line a) f cut z.0 z.1 none why (ap (λ x. directive (37 ∷ x) start) cut ∙ e)
+    ]
 
 pub directives_are_read : DirectivesAreRead
-directives_are_read line next d p no_break ends is = by (directive (37 ∷ (line ++ next)) p) (told p line next no_break ends)
-  where
-    by : (x : Result (Read Tok) Fault) → Told p line next x → x ≡ Ok (after_line p (37 ∷ line) next (token_of d))
-    by x (fails f none why e) = absurd (cc (is, none))
-    by x (is_directive k says e) = let same : k ≡ d = cc in e ∙ ap (λ z. Ok (after_line p (37 ∷ line) next (token_of z))) same
+directives_are_read line next d p no_break ends is = elim (told p line next no_break ends) [
+  | fails f none why e ↦ let no : Some d ≡ None = sym is ∙ none in cc
+  | is_directive k says e ↦
+      let one : Some k ≡ Some d = sym says ∙ is in
+      let same : k ≡ d = cc in
+      e ∙ ap (λ z. Ok (after_line p (37 ∷ line) next (token_of z))) same
+]

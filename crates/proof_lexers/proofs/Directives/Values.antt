@@ -1,17 +1,11 @@
 -- The numbers of a version, and the handle and the prefix of a declaration, as the model reads them in a line.
-use Rattle.std.proofs.Common.{◌≡◌, ℕ, suc, ◌+◌, List, [], ◌∷◌, ◌++◌, Bool, true, false, ◌==◌, nat_le, if◌then◌else◌, length, slice_index, Some, None, Result, Ok, Err, refl, ap, sym, ◌∙◌, arith, append_assoc, length-append}
-use Rattle.std.proofs.lemmas.Bool.{and_parts, eqb-true}
-use Rattle.proof_lexers.proofs.Common.{all_of, At, Fault, is_empty, is_same, leading, number, Position, Read}
+use Rattle.proof_lexers.proofs.Common.{[], after, all_of, and_parts, ap, append_assoc, arith, At, begins_with_mark, both_ways, cases_Bool, decimal_value, eqb-true, Err, false, Fault, further, handle, handle_and_rest, handle_end, if◌then◌else◌, inl, inr, is_empty, is_handle, is_marked_name, is_same, leading, length, length-append, List, name_and_mark, nat_le, ne_eqb, None, number, number_of, Ok, past, Position, Read, refl, Result, slice_index, Some, suc, sym, true, ℕ, ◌++◌, ◌+◌, ◌==◌, ◌∙◌, ◌∷◌, ◌≡◌}
 use Rattle.yaml_tokens.specs.declared.problem.Problem.TheVariants as problem
 use Rattle.defs_text.specs.Classes as classes
-use Rattle.defs_text.specs.Tags.{after, begins_with_mark, is_marked_name, is_handle}
-use Rattle.defs_text.specs.Directives.{decimal_value, number_of, name_and_mark, handle_and_rest}
-use Rattle.model_scanner.specs.Machine.{past}
-use Rattle.model_scanner.specs.Tag.{handle_end, handle}
-use Rattle.proof_lexers.specs.NameEnds.{further}
 use Rattle.proof_lexers.specs.DirectiveEnds.{ends_line}
-use Rattle.proof_lexers.proofs.Properties.Tags.{begins_in, span_cut, all_leading, word}
-use Rattle.proof_lexers.proofs.Directives.Parts.{none_at_end, before_end, number_is_read, spells_name}
+use Rattle.proof_lexers.proofs.Properties.Tags.{word}
+use Rattle.proof_lexers.proofs.Directives.Parts.{none_at_end, number_is_read, spells_name}
+use Rattle.proof_lexers.proofs.Classes.{same_place, all_leading, before_end, begins_in, span_cut}
 
 -- ---- a version's number
 
@@ -25,12 +19,10 @@ pub data NumberSees (start p : Position) (b n : List ℕ) (x : Result (Read ℕ)
 digit_by : (start p : Position) (b n w r : List ℕ) → leading classes.is_decimal_digit b ≡ w
     → NumberSees start p b n (if is_empty w then Err (At problem.VersionNumber start) else (if nat_le (length w) 9 then Ok (record { rest = after classes.is_decimal_digit b ++ n; position = further (length w) p; value = decimal_value 0 w }) else Err (At problem.VersionTooLong start)))
 digit_by start p b n [] r e = missing e (rw e refl) refl
-digit_by start p b n (c ∷ w) r e = by (nat_le (length (c ∷ w)) 9) refl
-  where
-    by : (few : Bool) → nat_le (length (c ∷ w)) 9 ≡ few
-        → NumberSees start p b n (if few then Ok (record { rest = after classes.is_decimal_digit b ++ n; position = further (length (c ∷ w)) p; value = decimal_value 0 (c ∷ w) }) else Err (At problem.VersionTooLong start))
-    by true f = found (decimal_value 0 (c ∷ w)) (rw e (rw f refl)) (rw e refl)
-    by false f = long (rw e f) (rw e (rw f refl)) refl
+digit_by start p b n (c ∷ w) r e = elim (cases_Bool (nat_le (length (c ∷ w)) 9)) [
+  | inl f ↦ rw f (found (decimal_value 0 (c ∷ w)) (rw (e, f) refl) (rw e refl))
+  | inr f ↦ rw f (long (rw e f) (rw (e, f) refl) refl)
+]
 
 pub number_sees : (start p : Position) (b n : List ℕ) → ends_line n ≡ true → NumberSees start p b n (number start (b ++ n) p)
 unfolding classes.is_decimal_digit
@@ -49,16 +41,9 @@ pub data HandleSees (start p : Position) (t n : List ℕ) (x : Result (Read (Lis
   found : is_handle (handle_and_rest t).0 ≡ true → t ≡ (handle_and_rest t).0 ++ (handle_and_rest t).1
       → x ≡ Ok (record { rest = (handle_and_rest t).1 ++ n; position = further (length (handle_and_rest t).0) p; value = (handle_and_rest t).0 }) → HandleSees start p t n x
 
-mark_is_no_alpha : classes.is_alpha 33 ≡ false
-unfolding classes.is_alpha classes.is_decimal_digit classes.is_letter
-mark_is_no_alpha = refl
-
 alpha_is_no_mark : (c : ℕ) → classes.is_alpha c ≡ true → (c == 33) ≡ false
-alpha_is_no_mark c h = by (c == 33) refl
-  where
-    by : (b : Bool) → (c == 33) ≡ b → (c == 33) ≡ false
-    by true e = let same : c ≡ 33 = eqb-true c 33 e in absurd (cc (rw same at h, mark_is_no_alpha))
-    by false e = e
+unfolding classes.is_alpha classes.is_decimal_digit classes.is_letter
+alpha_is_no_mark c h = ne_eqb c 33 (λ same. both_ways (classes.is_alpha 33) refl (ap classes.is_alpha (sym same) ∙ h))
 
 -- a name alone is no handle, and one with a mark after it is
 marked : (c : ℕ) (w : List ℕ) → all_of classes.is_alpha (c ∷ w) ≡ true → (is_marked_name (c ∷ w) ≡ false) × (is_marked_name ((c ∷ w) ++ 33 ∷ []) ≡ true)
@@ -85,29 +70,20 @@ no_second_mark w (d ∷ s) h = rw h refl
 pub no_handle : (c : ℕ) (w r : List ℕ) → leading classes.is_alpha r ≡ c ∷ w → begins_with_mark (after classes.is_alpha r) ≡ false → is_handle (handle_and_rest (33 ∷ r)).0 ≡ false
 no_handle c w r lead none = rw (lead, no_second_mark (c ∷ w) (after classes.is_alpha r) none) ((marked c w (ap (all_of classes.is_alpha) (sym lead) ∙ all_leading classes.is_alpha r)).0)
 
-bare_position : (p : Position) → further 0 (past p) ≡ further 1 p
-bare_position p = let i : (p.index + 1) + 0 ≡ p.index + 1 = omega arith in let j : (p.col + 1) + 0 ≡ p.col + 1 = omega arith in rw (i, j) refl
-
-marked_position : (p : Position) (k m : ℕ) → m ≡ k + 1 → past (further k (past p)) ≡ further (suc m) p
-marked_position p k m e =
-    let i : (p.index + 1) + k + 1 ≡ p.index + suc m = omega (arith, e) in
-    let j : (p.col + 1) + k + 1 ≡ p.col + suc m = omega (arith, e) in
-    rw (i, j) refl
-
 module _ (start p : Position) (r n : List ℕ) (ends : ends_line n ≡ true) where
   -- after a name a second mark stands
   with_mark : (w s : List ℕ) → leading classes.is_alpha r ≡ w → after classes.is_alpha r ≡ 33 ∷ s → r ≡ w ++ 33 ∷ s → all_of classes.is_alpha w ≡ true
       → HandleSees start p (33 ∷ r) n (Ok (record { rest = s ++ n; position = past (further (length w) (past p)); value = (33 ∷ w) ++ 33 ∷ [] }))
   with_mark w s lead rest cut all =
       found (rw (lead, rest) (handle_of w all)) (rw (lead, rest) (ap (λ k. 33 ∷ k) (cut ∙ sym (append_assoc w (33 ∷ []) s))))
-      (rw (lead, rest) (ap (λ q. Ok (record { rest = s ++ n; position = q; value = 33 ∷ (w ++ 33 ∷ []) })) (marked_position p (length w) (length (w ++ 33 ∷ [])) (length-append w (33 ∷ [])))))
+      (rw (lead, rest) (ap (λ q. Ok (record { rest = s ++ n; position = q; value = 33 ∷ (w ++ 33 ∷ []) })) (same_place p (suc (length (w ++ 33 ∷ []))) (omega (arith, length-append w (33 ∷ []))) (omega (arith, length-append w (33 ∷ []))))))
 
   -- none stands there
   without_mark : (w s : List ℕ) → leading classes.is_alpha r ≡ w → after classes.is_alpha r ≡ s → r ≡ w ++ s → all_of classes.is_alpha w ≡ true → begins_with_mark s ≡ false
       → HandleSees start p (33 ∷ r) n (if is_same w [] then Ok (record { rest = s ++ n; position = further (length w) (past p); value = 33 ∷ w }) else Err (At problem.TagDirectiveHandle start))
   without_mark [] s lead rest cut all none =
       let is : handle_and_rest (33 ∷ r) ≡ (33 ∷ [], s) = rw (lead, rest) (no_second_mark [] s none) in
-      found (rw is refl) (rw is (ap (λ k. 33 ∷ k) cut)) (rw is (ap (λ q. Ok (record { rest = s ++ n; position = q; value = 33 ∷ [] })) (bare_position p)))
+      found (rw is refl) (rw is (ap (λ k. 33 ∷ k) cut)) (rw is (ap (λ q. Ok (record { rest = s ++ n; position = q; value = 33 ∷ [] })) (same_place p 1 (omega arith) (omega arith))))
   without_mark (c ∷ w) s lead rest cut all none =
       let unmarked : begins_with_mark (after classes.is_alpha r) ≡ false = ap begins_with_mark rest ∙ none in
       open_name c w r refl lead unmarked (no_handle c w r lead unmarked) refl
@@ -115,11 +91,10 @@ module _ (start p : Position) (r n : List ℕ) (ends : ends_line n ≡ true) whe
   after_name : (w s : List ℕ) → leading classes.is_alpha r ≡ w → after classes.is_alpha r ≡ s → r ≡ w ++ s → all_of classes.is_alpha w ≡ true
       → HandleSees start p (33 ∷ r) n (handle_end start (is_same w []) (33 ∷ w) (s ++ n) (further (length w) (past p)))
   after_name w [] lead rest cut all = let none = not_at_end 33 refl refl refl n ends in rw none (without_mark w [] lead rest cut all refl)
-  after_name w (d ∷ s) lead rest cut all = by (d == 33) refl
-    where
-      by : (b : Bool) → (d == 33) ≡ b → HandleSees start p (33 ∷ r) n (handle_end start (is_same w []) (33 ∷ w) ((d ∷ s) ++ n) (further (length w) (past p)))
-      by true e = let same : d ≡ 33 = eqb-true d 33 e in rw same (with_mark w s lead (rest ∙ ap (λ k. k ∷ s) same) (cut ∙ ap (λ k. w ++ k ∷ s) same) all)
-      by false e = rw e (without_mark w (d ∷ s) lead rest cut all e)
+  after_name w (d ∷ s) lead rest cut all = elim (cases_Bool (d == 33)) [
+    | inl e ↦ let same : d ≡ 33 = eqb-true d 33 e in rw same (with_mark w s lead (rest ∙ ap (λ k. k ∷ s) same) (cut ∙ ap (λ k. w ++ k ∷ s) same) all)
+    | inr e ↦ rw e (without_mark w (d ∷ s) lead rest cut all e)
+  ]
 
   marked_handle : HandleSees start p (33 ∷ r) n (handle start (33 ∷ (r ++ n)) p)
   unfolding handle classes.is_alpha classes.is_decimal_digit classes.is_letter
@@ -131,8 +106,7 @@ module _ (start p : Position) (r n : List ℕ) (ends : ends_line n ≡ true) whe
 pub handle_sees : (start p : Position) (t n : List ℕ) → ends_line n ≡ true → HandleSees start p t n (handle start (t ++ n) p)
 unfolding handle
 handle_sees start p [] n h = let none = not_at_end 33 refl refl refl n h in no_mark refl refl (rw none refl)
-handle_sees start p (c ∷ r) n h = by (c == 33) refl
-  where
-    by : (b : Bool) → (c == 33) ≡ b → HandleSees start p (c ∷ r) n (handle start ((c ∷ r) ++ n) p)
-    by true e = let same : c ≡ 33 = eqb-true c 33 e in rw same (marked_handle start p r n h)
-    by false e = no_mark e (rw e refl) (rw e refl)
+handle_sees start p (c ∷ r) n h = elim (cases_Bool (c == 33)) [
+  | inl e ↦ let same : c ≡ 33 = eqb-true c 33 e in rw same (marked_handle start p r n h)
+  | inr e ↦ no_mark e (rw e refl) (rw e refl)
+]

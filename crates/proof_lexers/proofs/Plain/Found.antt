@@ -1,12 +1,8 @@
 -- What a plain scalar's scan finds from a position in it on, and what one character before that adds.
-use Rattle.std.proofs.Common.{◌≡◌, ℕ, List, [], ◌∷◌, ◌++◌, Bool, true, false, ◌||◌, ◌&&◌, not, ◌==◌, if◌then◌else◌, Option, Result, Ok, Err, refl, ap, sym, ◌∙◌, subst, append_assoc, arith, nat_lt}
-use Rattle.std.proofs.lemmas.Bool.{and_parts}
-use Rattle.proof_lexers.proofs.Common.{At, begins_flow, begins_token, collection_of, Context, ends_plain, ends_with_content, Fault, Folded, has_break, is_before_line_feed, is_blanks, is_white, joined, on_line, Plain, Position, position_after, position_past, Read, Stand, with_break}
+use Rattle.proof_lexers.proofs.Common.{[], and_parts, ap, append_assoc, arith, At, begins_flow, begins_token, begins_white, Bool, cases_Bool, collection_of, Context, ends_plain, ends_with_content, Err, false, Fault, Folded, goes_on, has_break, if◌then◌else◌, inl, inr, is_apart, is_before_line_feed, is_blanks, is_gap, is_white, joined, List, nat_lt, not, Ok, on_line, Option, or-false, or-true, or_parts, Plain, Position, position_after, position_past, Read, refl, Result, Stand, stand_after, stops, subst, sym, true, with_blank, with_break, with_char, ℕ, ◌&&◌, ◌++◌, ◌==◌, ◌||◌, ◌∙◌, ◌∷◌, ◌≡◌}
 use Rattle.yaml_tokens.specs.declared.problem.Problem.TheVariants as problem
 use Rattle.defs_text.specs.Classes.{is_blank, is_break, is_flow}
-use Rattle.defs_token.specs.Plain.{inside, past, goes_on, stops}
-use Rattle.model_scanner.specs.Folding.{with_char, with_blank}
-use Rattle.proof_lexers.specs.PlainEnds.{is_gap, begins_white, stand_after, is_apart}
+use Rattle.defs_token.specs.Plain.{inside, past}
 
 -- ---- the buffers, a character at a time
 
@@ -48,19 +44,13 @@ flow_solid c h = grind (arith, h)
 
 -- in flow no plain scalar goes on over a flow indicator
 pub no_flow_in : (flow : Bool) (collection : Option ℕ) (s : Stand) (c : ℕ) (r next : List ℕ) → goes_on flow collection s (c ∷ r) next ≡ true → (flow && is_flow c) ≡ false
-no_flow_in flow collection s c r next h = by flow (is_flow c) refl refl
-  where
-    or_true : (b : Bool) → (b || true) ≡ true
-    or_true true = refl
-    or_true false = refl
-
-    by : (f b : Bool) → flow ≡ f → is_flow c ≡ b → (f && b) ≡ false
-    by false b e i = refl
-    by true false e i = refl
-    by true true e i =
-        let on = (further_on flow collection s c r next h).0 in
-        let ends : ends_plain flow collection s (c ∷ (r ++ next)) ≡ true = rw (e, i) (or_true _) in
-        absurd (cc (on, ends, flow_solid c i))
+no_flow_in flow collection s c r next h = elim (cases_Bool (flow && is_flow c)) [
+  | inr e ↦ e
+  | inl e ↦
+      let on = (further_on flow collection s c r next h).0 in
+      let ends : ends_plain flow collection s (c ∷ (r ++ next)) ≡ true = rw e (or-true _) in
+      absurd (cc (on, ends, flow_solid c (and_parts flow (is_flow c) e).1))
+]
 
 -- In flow a scalar does not go on over the start of a text that begins with a flow indicator, up to another character.
 pub no_flow : (flow : Bool) (collection : Option ℕ) (s : Stand) (before : List ℕ) (c : ℕ) (more rest : List ℕ) → flow ≡ true → rest ≡ before ++ c ∷ more → is_flow c ≡ false → begins_flow rest ≡ true → goes_on flow collection s before (c ∷ more) ≡ true → ⊥
@@ -90,10 +80,6 @@ module _ (ctx : Context) (start : Position) where
     found : (more gap rest : List ℕ) → a ≡ more ++ (gap ++ rest) → goes_on ctx.flow (collection_of ctx.indent) s more (gap ++ rest) ≡ true → is_solid_end more ≡ true
         → stops ctx.flow (collection_of ctx.indent) (after_more s more) (gap ++ rest) ≡ true → is_gap gap ≡ true → begins_white rest ≡ false → x ≡ Ok (left p t more gap rest) → Found tabs s p t a x
     fails : (f : Fault) → Fails tabs s p a f → x ≡ Err f → Found tabs s p t a x
-
-  pub found_on : (tabs : Bool) (s : Stand) (p : Position) (t : Folded) (a : List ℕ) (x y : Result (Read Plain) Fault) → x ≡ y → Found tabs s p t a y → Found tabs s p t a x
-  found_on tabs s p t a x y e (found more gap rest cut goes solid stop white ends is) = found more gap rest cut goes solid stop white ends (e ∙ is)
-  found_on tabs s p t a x y e (fails f why is) = fails f why (e ∙ is)
 
   pub same_left : (rest u v : List ℕ) (p q : Position) (b d : Bool) → p ≡ q → u ≡ v → b ≡ d
       → ◌≡◌ {A = Result (Read Plain) Fault} (Ok (record { rest = rest; position = p; value = record { text = u; leading = b } })) (Ok (record { rest = rest; position = q; value = record { text = v; leading = d } }))
@@ -137,25 +123,11 @@ module _ (ctx : Context) (start : Position) where
 
   -- ---- a blank or a break before it
 
-  or_true : (b : Bool) → (b || true) ≡ true
-  or_true true = refl
-  or_true false = refl
-
-  or_false : (b : Bool) → (b || false) ≡ b
-  or_false true = refl
-  or_false false = refl
-
   gap_text : (c : ℕ) (a : List ℕ) (t : Folded) → is_white c ≡ true → (after_char c a t).text ≡ t.text
-  gap_text c a t h = by (is_break c) (is_blank c) (is_before_line_feed c a) t.leading refl refl
-    where
-      by : (breaks blanks feed leading : Bool) → is_break c ≡ breaks → is_blank c ≡ blanks
-          → (if breaks then (if feed then t else (if leading then record t { gap = t.gap ++ 10 ∷ [] } else record t { gap = []; leading = true })) else (if blanks then (if leading then t else record t { gap = t.gap ++ c ∷ [] }) else with_char c (joined t))).text ≡ t.text
-      by true blanks true leading e f = refl
-      by true blanks false true e f = refl
-      by true blanks false false e f = refl
-      by false true feed true e f = refl
-      by false true feed false e f = refl
-      by false false feed leading e f = let no : false ≡ true = rw (e, f) at h in cc
+  gap_text c a t h = elim (cases_Bool (is_break c)) [
+    | inl e ↦ elim (cases_Bool (is_before_line_feed c a)) [ inl f ↦ rw (e, f) refl | inr f ↦ rw (e, f) (elim (cases_Bool t.leading) [ inl g ↦ rw g refl | inr g ↦ rw g refl ]) ]
+    | inr e ↦ let blank : is_blank c ≡ true = sym (or-false (is_blank c)) ∙ (rw e at h) in rw (e, blank) (elim (cases_Bool t.leading) [ inl g ↦ rw g refl | inr g ↦ rw g refl ])
+  ]
 
   feed_is_break : (d : ℕ) → (d == 10) ≡ true → is_break d ≡ true
   unfolding is_break
@@ -163,26 +135,18 @@ module _ (ctx : Context) (start : Position) where
 
   feed_breaks : (c : ℕ) (gap rest : List ℕ) → is_before_line_feed c (gap ++ rest) ≡ true → begins_white rest ≡ false → has_break gap ≡ true
   feed_breaks c [] [] h ends = cc
-  feed_breaks c [] (d ∷ r) h ends = let q = and_parts (c == 13) (d == 10) h in let no : true ≡ false = rw (feed_is_break d q.1, or_true) at ends in cc
+  feed_breaks c [] (d ∷ r) h ends = let q = and_parts (c == 13) (d == 10) h in let no : true ≡ false = rw (feed_is_break d q.1, or-true) at ends in cc
   feed_breaks c (d ∷ gap) rest h ends = let q = and_parts (c == 13) (d == 10) h in rw (feed_is_break d q.1) refl
 
   -- a break sets that one stands before the gap's end, but for the CR of CR LF, after which a break follows
   gap_leads : (c : ℕ) (gap rest : List ℕ) (t : Folded) → is_white c ≡ true → begins_white rest ≡ false → ((after_char c (gap ++ rest) t).leading || has_break gap) ≡ (t.leading || (is_break c || has_break gap))
-  gap_leads c gap rest t h ends = by (is_break c) (is_blank c) (is_before_line_feed c (gap ++ rest)) t.leading refl refl refl refl
-    where
-      by : (breaks blanks feed leading : Bool) → is_break c ≡ breaks → is_blank c ≡ blanks → is_before_line_feed c (gap ++ rest) ≡ feed → t.leading ≡ leading
-          → ((if breaks then (if feed then t else (if leading then record t { gap = t.gap ++ 10 ∷ [] } else record t { gap = []; leading = true })) else (if blanks then (if leading then t else record t { gap = t.gap ++ c ∷ [] }) else with_char c (joined t))).leading || has_break gap)
-          ≡ (leading || (breaks || has_break gap))
-      by true blanks true leading e f g k = rw (k, feed_breaks c gap rest g ends) refl
-      by true blanks false true e f g k = rw k refl
-      by true blanks false false e f g k = refl
-      by false true feed true e f g k = rw k refl
-      by false true feed false e f g k = rw k refl
-      by false false feed leading e f g k = let no : false ≡ true = rw (e, f) at h in cc
-
-  -- the next character decides
-  same_first : (c d : ℕ) (r s : List ℕ) (t : Folded) → after_char c (d ∷ r) t ≡ after_char c (d ∷ s) t
-  same_first c d r s t = refl
+  gap_leads c gap rest t h ends = elim (cases_Bool (is_break c)) [
+    | inl e ↦ elim (cases_Bool (is_before_line_feed c (gap ++ rest))) [
+      | inl f ↦ rw (e, f, feed_breaks c gap rest f ends) refl
+      | inr f ↦ rw (e, f) (elim (cases_Bool t.leading) [ inl g ↦ rw g refl | inr g ↦ rw g refl ])
+    ]
+    | inr e ↦ let blank : is_blank c ≡ true = sym (or-false (is_blank c)) ∙ (rw e at h) in rw (e, blank) (elim (cases_Bool t.leading) [ inl g ↦ rw g refl | inr g ↦ rw g refl ])
+  ]
 
   pub after_gap : (c : ℕ) (a : List ℕ) (tabs u : Bool) (s : Stand) (p : Position) (t : Folded) (x : Result (Read Plain) Fault) → is_white c ≡ true
       → ((f : Fault) → Fails u (past s c) (position_past p c a) a f → Fails tabs s p (c ∷ a) f)
@@ -202,12 +166,7 @@ module _ (ctx : Context) (start : Position) where
   after_inside (c ∷ more) = refl
 
   pub solid_first : (c : ℕ) (more : List ℕ) → is_white c ≡ false → is_solid_end more ≡ true → ends_with_content c more ≡ true
-  solid_first c [] h e = by (is_blank c) (is_break c) h
-    where
-      by : (b d : Bool) → (b || d) ≡ false → (not b && not d) ≡ true
-      by true d h = cc
-      by false true h = cc
-      by false false h = refl
+  solid_first c [] h e = let q = or_parts (is_blank c) (is_break c) h in rw (q.0, q.1) refl
   solid_first c (d ∷ more) h e = e
 
   pub content_char : (c : ℕ) (a : List ℕ) (t : Folded) → is_break c ≡ false → is_blank c ≡ false → with_char c (joined t) ≡ after_char c a t

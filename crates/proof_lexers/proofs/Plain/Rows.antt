@@ -1,10 +1,8 @@
 -- Plain scalars as texts: what the laws say of some.
-use Rattle.std.proofs.Common.{◌≡◌, ℕ, List, [], ◌∷◌, ◌++◌, true, false, codes, refl}
-use Rattle.proof_lexers.proofs.Common.{are_marks, At, begins_with_marker, Context, is_blank_or_end, is_nul, plain_element, plain_value, Position}
+use Rattle.proof_lexers.proofs.Common.{[], are_marks, At, begins_with_marker, by_dash, by_tab, codes, Context, false, is_blank_or_end, is_nul, IsPlainRefusal, List, plain, plain_element, plain_value, Position, refl, true, ℕ, ◌++◌, ◌∷◌, ◌≡◌}
 use Rattle.yaml_tokens.specs.declared.problem.Problem.TheVariants as problem
 use Rattle.defs_text.specs.Classes.{is_blank, is_break, is_flow}
-use Rattle.model_scanner.specs.Plain.{plain}
-use Rattle.proof_lexers.specs.PlainEnds.{IsRead, IsPlainRefusal, by_dash, by_tab}
+use Rattle.proof_lexers.specs.PlainEnds.{IsRead}
 use Rattle.proof_lexers.proofs.Plain.Scalars.{scalars_read}
 
 -- as the value of a key in column 0

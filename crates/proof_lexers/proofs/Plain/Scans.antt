@@ -1,18 +1,13 @@
 -- A plain scalar's scan, from any position in it on, finds where the scalar ends.
-use Rattle.std.proofs.Common.{◌≡◌, ℕ, suc, ◌+◌, List, [], ◌∷◌, Bool, true, false, ◌||◌, ◌&&◌, not, ◌==◌, Result, Ok, refl, ap, ◌∙◌, append-nil, arith, nat_lt, slice_index}
-use Rattle.std.proofs.lemmas.Bool.{and_parts, eqb-true}
-use Rattle.std.proofs.lemmas.Bool.Decides.{nat_tests}
-use Rattle.proof_lexers.proofs.Common.{At, at_marker, begins_flow, collection_of, Context, ends_at_colon, ends_plain, Fault, Folded, has_no_nul, is_white, on_line, Plain, Position, Read, Stand}
-use Rattle.yaml_chars.specs.Class.{is_break, is_blank}
+use Rattle.proof_lexers.proofs.Common.{[], after_blank, and_parts, ap, append-nil, arith, At, at_marker, Bool, can_be_plain, cases_Bool, collection_of, Context, ends_at_colon, ends_plain, eqb-true, false, Fault, Folded, has_no_nul, inl, inr, is_apart, is_blank, is_break, is_shallow, is_white, List, nat_lt, not, not-true, Ok, on_line, or_parts, Plain, Position, Read, refl, Result, slice_index, Stand, suc, sym, tabs, true, ℕ, ◌&&◌, ◌+◌, ◌==◌, ◌||◌, ◌∙◌, ◌∷◌, ◌≡◌}
 use Rattle.yaml_tokens.specs.declared.problem.Problem.TheVariants as problem
 use Rattle.defs_text.specs.Classes as classes
-use Rattle.defs_token.specs.Plain.{after_blank, stops}
 use Rattle.defs_token.specs.Plain as defs
-use Rattle.model_scanner.specs.Plain.{inside, between, tabs, can_be_plain, is_shallow}
+use Rattle.model_scanner.specs.Plain.{inside, between}
 use Rattle.proof_lexers.proofs.Bridges.{same_break, same_blank}
-use Rattle.proof_lexers.specs.PlainEnds.{is_apart}
 use Rattle.proof_lexers.proofs.Plain.Found.{dash_untabbed, dash, tabbed, tab, after_tab, Found, fails}
-use Rattle.proof_lexers.proofs.Plain.Turns.{off_margin, as_deep, can_be, line_is, no_line, in_text, scan, in_line, after_blanks, at_line, at_tabs, at_feed, Scans, found_here, break_step, blank_step, no_tabs, still_inside, content_step, Outcome, stopped, went, dashed, outcome, ends_over, ends_comment}
+use Rattle.proof_lexers.proofs.Plain.Turns.{off_margin, as_deep, can_be, line_is, no_line, in_text, scan, in_line, after_blanks, at_line, at_tabs, at_feed, Scans, found_here, break_step, blank_step, no_tabs, content_step, Outcome, stopped, went, dashed, outcome, ends_over, ends_comment}
+use Rattle.proof_lexers.proofs.Separation.Separations.{no_hash}
 
 -- a blank and no break, a break, or content
 data Kind (c : ℕ) : Type 0 where
@@ -21,45 +16,18 @@ data Kind (c : ℕ) : Type 0 where
   solid : is_white c ≡ false → (is_break c || is_blank c) ≡ false → Kind c
 
 kind : (c : ℕ) → Kind c
-kind c = by (is_break c) (is_blank c) refl refl
-  where
-    by : (b d : Bool) → is_break c ≡ b → is_blank c ≡ d → Kind c
-    by true d e f = breaks e
-    by false true e f = blanks e f
-    by false false e f = solid (rw (same_blank c, same_break c, e, f) refl) (rw (e, f) refl)
-
-not_true : (b : Bool) → not b ≡ true → b ≡ false
-not_true true h = cc
-not_true false h = refl
+kind c = elim (cases_Bool (is_break c)) [
+  | inl e ↦ breaks e
+  | inr e ↦ elim (cases_Bool (is_blank c)) [ inl f ↦ blanks e f | inr f ↦ solid (rw (same_blank c, same_break c, e, f) refl) (rw (e, f) refl) ]
+]
 
 not_nul : (c : ℕ) → classes.is_nul c ≡ false → (c == 0) ≡ false
 unfolding classes.is_nul
 not_nul c h = h
 
-not_break : (c : ℕ) → is_white c ≡ false → is_break c ≡ false
-not_break c h = by (is_blank c) (is_break c) (rw (same_blank c, same_break c) at h)
-  where
-    by : (b d : Bool) → (b || d) ≡ false → d ≡ false
-    by true d h = cc
-    by false d h = h
-
-not_blank : (c : ℕ) → is_white c ≡ false → is_blank c ≡ false
-not_blank c h = by (is_blank c) (is_break c) (rw (same_blank c, same_break c) at h)
-  where
-    by : (b d : Bool) → (b || d) ≡ false → b ≡ false
-    by true d h = cc
-    by false d h = refl
-
-no_hash : (c : ℕ) → is_blank c ≡ true → (c == 35) ≡ false
-unfolding is_blank
-no_hash c h = grind (arith, nat_tests)
-
 feed_breaks : (c : ℕ) → c ≡ 10 → is_break c ≡ true
 unfolding is_break
 feed_breaks c h = rw h refl
-
-one_right : (m n : ℕ) → m ≡ n → suc m ≡ n + 1
-one_right m n h = omega (arith, h)
 
 module _ (ctx : Context) (start : Position) where
   -- where a scan stops before content
@@ -80,7 +48,7 @@ module _ (ctx : Context) (start : Position) where
   blanks_by c a p t nul lead off deep ih (breaks e) = break_step ctx start c a false between after_blank p t _ e ih (rw e refl)
   blanks_by c a p t nul lead off deep ih (blanks e f) =
       blank_step ctx start c a false between between after_blank after_blank p t _ e f refl (λ b r k. no_tabs ctx start k) (λ k i l h. cc l) (λ i. cc i) ih
-      (after_blanks (still_inside ctx start c t lead) (off_margin p.col) (as_deep ctx p.col deep)) (rw (e, f, lead) refl)
+      (after_blanks (rw lead refl) (off_margin p.col) (as_deep ctx p.col deep)) (rw (e, f, lead) refl)
   blanks_by c a p t nul lead off deep ih (solid white plain) =
       by_outcome c a after_blank p t white refl ih (outcome ctx start c a after_blank p t white nul refl (no_line ctx c a p off deep))
 
@@ -95,7 +63,7 @@ module _ (ctx : Context) (start : Position) where
       (at_tabs (suc column) (rw lead refl)) (rw (e, f, lead, h) refl)
   line_blank c column a p t false h is lead e f ih =
       blank_step ctx start c a false between between (on_line column) (on_line (suc column)) p t _ e f refl (λ b r k. no_tabs ctx start k) (λ k i l j. absurd (no_mark k i l j)) (λ i. cc i) ih
-      (at_line (suc column) (one_right column p.col is) (rw lead refl)) (rw (e, f, lead, h) refl)
+      (at_line (suc column) (omega (arith, is)) (rw lead refl)) (rw (e, f, lead, h) refl)
     where
       no_mark : (k : ℕ) → c ≡ 9 → on_line column ≡ on_line k → nat_lt k ctx.indent ≡ true → ⊥
       no_mark k i l j =
@@ -112,16 +80,6 @@ module _ (ctx : Context) (start : Position) where
 
   -- ---- after a TAB at a line's start
 
-  tabs_solid : (c column : ℕ) (a : List ℕ) (p : Position) (t : Folded) (hash : Bool) → (c == 35) ≡ hash → is_white c ≡ false → (is_break c || is_blank c) ≡ false
-      → Found ctx start true (on_line column) p t (c ∷ a) (scan ctx start (c ∷ a) tabs p t)
-  tabs_solid c column a p t true h white plain =
-      let break : is_break c ≡ false = not_break c white in
-      stop_here true c a (on_line column) p t _ white (ends_comment ctx start c a (on_line column) h) (rw (break, h) refl)
-  tabs_solid c column a p t false h white plain =
-      let break : is_break c ≡ false = not_break c white in
-      let blank : is_blank c ≡ false = not_blank c white in
-      fails (At problem.PlainTab start) (tabbed (after_tab [] (c ∷ a) refl refl refl (rw (white, h) refl))) (rw (break, h, blank) refl)
-
   tabs_by : (c column : ℕ) (a : List ℕ) (p : Position) (t : Folded) → t.leading ≡ true → Scans ctx start a → Kind c → Found ctx start true (on_line column) p t (c ∷ a) (scan ctx start (c ∷ a) tabs p t)
   tabs_by c column a p t lead ih (breaks e) = break_step ctx start c a true tabs (on_line column) p t _ e ih (rw e refl)
   tabs_by c column a p t lead ih (blanks e f) =
@@ -129,7 +87,13 @@ module _ (ctx : Context) (start : Position) where
       blank_step ctx start c a true tabs tabs (on_line column) (on_line (suc column)) p t _ e f refl
       (λ b r k cut blank content. after_tab (c ∷ b) r refl (ap (λ d. c ∷ d) cut) (rw (same_blank c, f) blank) content) (λ k i l j. refl) (λ i. refl) ih
       (at_tabs (suc column) (rw lead refl)) (rw (e, hash, f, lead) refl)
-  tabs_by c column a p t lead ih (solid white plain) = tabs_solid c column a p t (c == 35) refl white plain
+  tabs_by c column a p t lead ih (solid white plain) =
+      let break : is_break c ≡ false = sym (same_break c) ∙ (or_parts (classes.is_blank c) (classes.is_break c) white).1 in
+      let blank : is_blank c ≡ false = sym (same_blank c) ∙ (or_parts (classes.is_blank c) (classes.is_break c) white).0 in
+      elim (cases_Bool (c == 35)) [
+        | inl h ↦ stop_here true c a (on_line column) p t _ white (ends_comment ctx start c a (on_line column) h) (rw (break, h) refl)
+        | inr h ↦ fails (At problem.PlainTab start) (tabbed (after_tab [] (c ∷ a) refl refl refl (rw (white, h) refl))) (rw (break, h, blank) refl)
+      ]
 
   -- ---- within a line
 
@@ -139,15 +103,14 @@ module _ (ctx : Context) (start : Position) where
   inside_by c a p text nul off deep ih (blanks e f) =
       blank_step ctx start c a false inside between defs.inside after_blank p (in_text text) _ e f refl (λ b r k. no_tabs ctx start k) (λ k i l h. cc l) (λ i. cc i) ih
       (after_blanks refl (off_margin p.col) (as_deep ctx p.col deep)) (rw (e, f) refl)
-  inside_by c a p text nul off deep ih (solid white plain) = by (ends_at_colon ctx.flow (c ∷ a) || (ctx.flow && classes.is_flow c)) refl
-    where
-      by : (over : Bool) → (ends_at_colon ctx.flow (c ∷ a) || (ctx.flow && classes.is_flow c)) ≡ over → Found ctx start false defs.inside p (in_text text) (c ∷ a) (scan ctx start (c ∷ a) inside p (in_text text))
-      by true e =
-          let stops : can_be_plain ctx.flow c (slice_index a 0) ≡ false = can_be ctx.flow c a ∙ ap not e in
-          stop_here false c a defs.inside p (in_text text) (scan ctx start (c ∷ a) inside p (in_text text)) white (ends_over ctx start c a defs.inside true nul refl refl e) (rw (plain, stops) refl)
-      by false e =
-          let goes : can_be_plain ctx.flow c (slice_index a 0) ≡ true = can_be ctx.flow c a ∙ ap not e in
-          content_step ctx start c a inside defs.inside p (in_text text) (scan ctx start (c ∷ a) inside p (in_text text)) white (ends_over ctx start c a defs.inside false nul refl refl e) deep ih (rw (plain, goes, append-nil) refl)
+  inside_by c a p text nul off deep ih (solid white plain) = elim (cases_Bool (ends_at_colon ctx.flow (c ∷ a) || (ctx.flow && classes.is_flow c))) [
+    | inl e ↦
+        let stops : can_be_plain ctx.flow c (slice_index a 0) ≡ false = can_be ctx.flow c a ∙ ap not e in
+        stop_here false c a defs.inside p (in_text text) (scan ctx start (c ∷ a) inside p (in_text text)) white (ends_over ctx start c a defs.inside true nul refl refl e) (rw (plain, stops) refl)
+    | inr e ↦
+        let goes : can_be_plain ctx.flow c (slice_index a 0) ≡ true = can_be ctx.flow c a ∙ ap not e in
+        content_step ctx start c a inside defs.inside p (in_text text) (scan ctx start (c ∷ a) inside p (in_text text)) white (ends_over ctx start c a defs.inside false nul refl refl e) deep ih (rw (plain, goes, append-nil) refl)
+  ]
 
   -- ---- everywhere
 
@@ -169,4 +132,4 @@ module _ (ctx : Context) (start : Position) where
 
   pub scans : (a : List ℕ) → has_no_nul a ≡ true → Scans ctx start a
   scans [] h = none
-  scans (c ∷ a) h = let q = and_parts (not (classes.is_nul c)) (has_no_nul a) h in step c a (not_nul c (not_true (classes.is_nul c) q.0)) (scans a q.1)
+  scans (c ∷ a) h = let q = and_parts (not (classes.is_nul c)) (has_no_nul a) h in step c a (not_nul c (not-true (classes.is_nul c) q.0)) (scans a q.1)

@@ -1,31 +1,15 @@
 -- What the model does at each character of a plain scalar, in the definitions' words.
-use Rattle.std.proofs.Common.{◌≡◌, ℕ, zero, suc, ◌+◌, List, [], ◌∷◌, ◌++◌, Bool, true, false, ◌||◌, ◌&&◌, not, ◌==◌, if◌then◌else◌, Result, Ok, Err, refl, ap, sym, ◌∙◌, arith, nat_lt, slice_index}
-use Rattle.std.proofs.lemmas.Bool.{and_parts, eqb-true}
-use Rattle.std.proofs.lemmas.Bool.Decides.{nat_tests}
-use Rattle.proof_lexers.proofs.Common.{At, at_marker, begins_flow, begins_token, collection_of, Context, ends_at_colon, ends_plain, Fault, Folded, is_before_line_feed, is_blank_or_breakz, is_blanks, is_cr_lf, is_document_marker, is_white, joined, on_line, past_break, Plain, Position, position_past, Read, Stand, with_break}
-use Rattle.yaml_chars.specs.Class.{is_break, is_blank, is_flow}
+use Rattle.proof_lexers.proofs.Common.{[], after_blank, and_parts, ap, arith, At, at_break, at_dash, at_marker, at_plain, begins_flow, begins_token, begins_white, Bool, can_be_plain, cases_Bool, collection_of, Context, ends_at_colon, ends_at_comment, ends_at_line, ends_plain, eqb-true, Err, false, Fault, Folded, if◌then◌else◌, inl, inr, is_before_line_feed, is_blank, is_blank_or_breakz, is_blanks, is_break, is_cr_lf, is_deeper, is_flow, is_shallow, is_value_indicator, is_white, joined, List, nat_lt, nat_tests, not, Ok, on_line, or-true, or_parts, past, past_break, Plain, plain_from, Position, position_past, Read, refl, Result, slice_index, Stand, stops, suc, sym, tabs, true, with_blank, with_break, with_char, zero, ℕ, ◌&&◌, ◌++◌, ◌+◌, ◌==◌, ◌||◌, ◌∙◌, ◌∷◌, ◌≡◌}
 use Rattle.yaml_tokens.specs.declared.problem.Problem.TheVariants as problem
 use Rattle.defs_text.specs.Classes as classes
-use Rattle.defs_token.specs.Plain.{after_blank, is_value_indicator, ends_at_comment, is_deeper, ends_at_line, stops}
 use Rattle.defs_token.specs.Plain as defs
-use Rattle.model_scanner.specs.Machine.{past}
-use Rattle.model_scanner.specs.Folding.{with_char, with_blank}
-use Rattle.model_scanner.specs.Plain.{Mode, inside, between, tabs, at_break, can_be_plain, is_shallow, at_dash, at_plain, goes_on, plain_from}
-use Rattle.proof_lexers.proofs.Bridges.{both, same_break, same_blank, same_gap, same_flow, same_marker}
-use Rattle.proof_lexers.specs.PlainEnds.{begins_white}
-use Rattle.proof_lexers.proofs.Plain.Found.{after_char, tab_blank, Tabbed, Moves, Fails, Found, found, found_on, further, after_gap, after_content}
+use Rattle.model_scanner.specs.Plain.{Mode, inside, between, goes_on}
+use Rattle.proof_lexers.proofs.Bridges.{both, same_break, same_blank, same_gap, same_flow, same_marker, and_false}
+pub use Rattle.proof_lexers.proofs.Bridges.{or_false}
+use Rattle.proof_lexers.proofs.Plain.Found.{after_char, tab_blank, Tabbed, Moves, Fails, Found, found, further, after_gap, after_content}
 
 pub or_true : (b : Bool) → (b || true) ≡ true
-or_true true = refl
-or_true false = refl
-
-pub or_false : (b : Bool) → (b || false) ≡ b
-or_false true = refl
-or_false false = refl
-
-and_false : (b : Bool) → (b && false) ≡ false
-and_false true = refl
-and_false false = refl
+or_true b = or-true b
 
 -- ---- what the tests of both say
 
@@ -34,7 +18,7 @@ unfolding classes.is_flow
 colon_is_no_flow true = refl
 colon_is_no_flow false = refl
 
-end_is_a_gap : is_blank_or_breakz 0 ≡ true
+pub end_is_a_gap : is_blank_or_breakz 0 ≡ true
 unfolding is_blank is_break
 end_is_a_gap = refl
 
@@ -44,24 +28,20 @@ colon_by flow (d ∷ a) = rw (same_gap d, same_flow d, or_false (is_flow d)) ref
 
 pub can_be : (flow : Bool) (c : ℕ) (a : List ℕ) → can_be_plain flow c (slice_index a 0) ≡ not (ends_at_colon flow (c ∷ a) || (flow && classes.is_flow c))
 unfolding can_be_plain
-can_be flow c a = by (c == 58) refl
-  where
-    by : (colon : Bool) → (c == 58) ≡ colon
-        → (if colon then not (is_blank_or_breakz (slice_index a 0) || (flow && is_flow (slice_index a 0))) else not (flow && is_flow c)) ≡ not ((colon && is_value_indicator flow false a) || (flow && classes.is_flow c))
-    by true e = let same : c ≡ 58 = eqb-true c 58 e in rw (same, colon_is_no_flow flow, or_false) (colon_by flow a)
-    by false e = rw (same_flow c) refl
+can_be flow c a = elim (cases_Bool (c == 58)) [
+  | inl e ↦ let same : c ≡ 58 = eqb-true c 58 e in rw (same, colon_is_no_flow flow, or_false) (colon_by flow a)
+  | inr e ↦ rw (e, same_flow c) refl
+]
+
+pub not_nul : (c : ℕ) → (c == 0) ≡ false → classes.is_nul c ≡ false
+unfolding classes.is_nul
+not_nul c h = h
 
 solid_plain : (flow : Bool) (c : ℕ) (a : List ℕ) → is_white c ≡ false → (c == 0) ≡ false → at_plain flow (c ∷ a) ≡ not (ends_at_colon flow (c ∷ a) || (flow && classes.is_flow c))
-unfolding at_plain
-solid_plain flow c a white nul = rw (solid, can_be flow c a) refl
-  where
-    solid : is_blank_or_breakz c ≡ false
-    solid = by (is_blank c) (is_break c) (rw (same_blank c, same_break c) at white)
-      where
-        by : (b d : Bool) → (b || d) ≡ false → (b || (d || (c == 0))) ≡ false
-        by true d h = cc
-        by false true h = cc
-        by false false h = nul
+unfolding at_plain classes.is_blank_or_end
+solid_plain flow c a white nul =
+    let q = or_parts (classes.is_blank c) (classes.is_break c) white in
+    rw (← same_gap c, q.0, q.1, not_nul c nul, can_be flow c a) refl
 
 shallow_by : (indent column : ℕ) → not (is_deeper (collection_of indent) column) ≡ nat_lt column indent
 shallow_by zero column = grind (arith, nat_tests)
@@ -78,13 +58,6 @@ pub same_feed : (c : ℕ) (a : List ℕ) → is_cr_lf c a ≡ is_before_line_fee
 same_feed c [] = and_false (c == 13)
 same_feed c (d ∷ a) = refl
 
-pub not_nul : (c : ℕ) → (c == 0) ≡ false → classes.is_nul c ≡ false
-unfolding classes.is_nul
-not_nul c h = h
-
-pub by_line_true : (f g h k : Bool) → ((((f || g) || h) || true) || k) ≡ true
-by_line_true f g h k = rw (or_true ((f || g) || h)) refl
-
 -- ---- positions
 
 pub in_line_position : (c : ℕ) (a : List ℕ) (p : Position) → (classes.is_break c && not (is_before_line_feed c a)) ≡ false → position_past p c a ≡ past p
@@ -98,11 +71,7 @@ off_margin n = grind (arith, nat_tests)
 
 pub as_deep : (ctx : Context) (n : ℕ) → is_shallow ctx n ≡ false → is_shallow ctx (n + 1) ≡ false
 unfolding is_shallow
-as_deep ctx n h = by ctx.flow h
-  where
-    by : (flow : Bool) → (not flow && nat_lt n ctx.indent) ≡ false → (not flow && nat_lt (n + 1) ctx.indent) ≡ false
-    by true h = refl
-    by false h = grind (arith, nat_tests)
+as_deep ctx n h = elim (cases_Bool ctx.flow) [ inl e ↦ rw e refl | inr e ↦ let deep : nat_lt n ctx.indent ≡ false = rw e at h in rw e (grind (arith, nat_tests)) ]
 
 -- whether content after a TAB is refused
 abbrev pub is_tabs : Mode → Bool
@@ -143,15 +112,28 @@ module _ (ctx : Context) (start : Position) where
   break_or_blank c h k = grind (arith, h, k)
 
   broken_leads : (t : Folded) → (with_break t).leading ≡ true
-  broken_leads t = by t.leading refl
-    where
-      by : (b : Bool) → t.leading ≡ b → (if b then record t { gap = t.gap ++ 10 ∷ [] } else record t { gap = []; leading = true }).leading ≡ true
-      by true e = e
-      by false e = refl
+  broken_leads t = elim (cases_Bool t.leading) [ inl e ↦ rw e refl | inr e ↦ rw e refl ]
 
   pub break_step : (c : ℕ) (a : List ℕ) (u : Bool) (m : Mode) (s : Stand) (p : Position) (t : Folded) (x : Result (Read Plain) Fault) → is_break c ≡ true → Scans a
       → x ≡ plain_from ctx start a (at_break c a (record { mode = m; position = p; folded = t })) → Found ctx start u s p t (c ∷ a) x
-  break_step c a u m s p t x e ih is = by (is_cr_lf c a) refl is
+  break_step c a u m s p t x e ih is = elim (cases_Bool (is_cr_lf c a)) [
+    | inl f ↦
+        let z = feeds a f in
+        let g : is_before_line_feed c a ≡ true = sym (same_feed c a) ∙ f in
+        let here : classes.is_break c && not (is_before_line_feed c a) ≡ false = rw g (and_false (classes.is_break c)) in
+        let k = rw f at is in
+        rw k
+        (after_gap ctx start c a u false s p t _ white grow
+        (found_at false (defs.past s c) (on_line 0) (position_past p c a) (past p) (after_char c a t) t a _ (rw breaks refl) (in_line_position c a p here) (rw (breaks, g) refl)
+        (ih between (on_line 0) (past p) t (at_feed 0 z.0 z.1))))
+    | inr f ↦
+        let g : is_before_line_feed c a ≡ false = sym (same_feed c a) ∙ f in
+        let k = rw f at is in
+        rw k
+        (after_gap ctx start c a u false s p t _ white grow
+        (found_at false (defs.past s c) (on_line 0) (position_past p c a) (past_break p) (after_char c a t) (with_break t) a _ (rw breaks refl) (line_position c a p (rw (breaks, g) refl)) (rw (breaks, g) refl)
+        (ih between (on_line 0) (past_break p) (with_break t) (at_line 0 refl (broken_leads t)))))
+  ]
     where
       breaks : classes.is_break c ≡ true
       breaks = same_break c ∙ e
@@ -169,23 +151,6 @@ module _ (ctx : Context) (start : Position) where
       grow : (f : Fault) → Fails ctx start false (defs.past s c) (position_past p c a) a f → Fails ctx start u s p (c ∷ a) f
       grow f why = further ctx start c a u false s (defs.past s c) p f refl (rw white refl) (λ b r k. cc) moves why
 
-      by : (feed : Bool) → is_cr_lf c a ≡ feed → x ≡ plain_from ctx start a (if feed then record { mode = between; position = past p; folded = t } else record { mode = between; position = past_break p; folded = with_break t })
-          → Found ctx start u s p t (c ∷ a) x
-      by true f k =
-          let z = feeds a f in
-          let g : is_before_line_feed c a ≡ true = sym (same_feed c a) ∙ f in
-          let here : classes.is_break c && not (is_before_line_feed c a) ≡ false = rw g (and_false (classes.is_break c)) in
-          found_on ctx start u s p t (c ∷ a) x _ k
-          (after_gap ctx start c a u false s p t _ white grow
-          (found_at false (defs.past s c) (on_line 0) (position_past p c a) (past p) (after_char c a t) t a _ (rw breaks refl) (in_line_position c a p here) (rw (breaks, g) refl)
-          (ih between (on_line 0) (past p) t (at_feed 0 z.0 z.1))))
-      by false f k =
-          let g : is_before_line_feed c a ≡ false = sym (same_feed c a) ∙ f in
-          found_on ctx start u s p t (c ∷ a) x _ k
-          (after_gap ctx start c a u false s p t _ white grow
-          (found_at false (defs.past s c) (on_line 0) (position_past p c a) (past_break p) (after_char c a t) (with_break t) a _ (rw breaks refl) (line_position c a p (rw (breaks, g) refl)) (rw (breaks, g) refl)
-          (ih between (on_line 0) (past_break p) (with_break t) (at_line 0 refl (broken_leads t)))))
-
   -- ---- blanks
 
   blank_white : (c : ℕ) → is_blank c ≡ true → is_white c ≡ true
@@ -196,7 +161,7 @@ module _ (ctx : Context) (start : Position) where
       → ((column : ℕ) → c ≡ 9 → s ≡ on_line column → nat_lt column ctx.indent ≡ true → is_tabs n ≡ true) → (u ≡ true → is_tabs n ≡ true)
       → Scans a → IsStanding a (past p) (with_blank c t) n next → x ≡ scan a n (past p) (with_blank c t) → Found ctx start u s p t (c ∷ a) x
   blank_step c a u m n s next p t x e f g tabs_after begins stays ih stands is =
-      found_on ctx start u s p t (c ∷ a) x _ is
+      rw is
       (after_gap ctx start c a u (is_tabs n) s p t _ (blank_white c f) grow
       (found_at (is_tabs n) (defs.past s c) next (position_past p c a) (past p) (after_char c a t) (with_blank c t) a _ (rw (no_break, blank) g) (in_line_position c a p (rw no_break refl)) (rw (no_break, blank) refl)
       (ih n next (past p) (with_blank c t) stands)))
@@ -213,27 +178,16 @@ module _ (ctx : Context) (start : Position) where
   pub no_tabs : {A : Type 0} → false ≡ true → A
   no_tabs e = cc
 
-  pub still_leads : (c : ℕ) (t : Folded) → t.leading ≡ true → with_blank c t ≡ t
-  still_leads c t e = rw e refl
-
-  pub still_inside : (c : ℕ) (t : Folded) → t.leading ≡ false → (with_blank c t).leading ≡ false
-  still_inside c t e = rw e refl
-
   -- ---- content
 
   pub content_step : (c : ℕ) (a : List ℕ) (m : Mode) (s : Stand) (p : Position) (t : Folded) (x : Result (Read Plain) Fault) → is_white c ≡ false → ends_plain ctx.flow (collection_of ctx.indent) s (c ∷ a) ≡ false → is_shallow ctx p.col ≡ false
       → Scans a → x ≡ scan a inside (past p) (with_char c (joined t)) → Found ctx start false s p t (c ∷ a) x
   content_step c a m s p t x white on deep ih is =
-      let q = parts (classes.is_blank c) (classes.is_break c) white in
-      found_on ctx start false s p t (c ∷ a) x _ is
+      let q = or_parts (classes.is_blank c) (classes.is_break c) white in
+      rw is
       (after_content ctx start c a s p t _ q.1 q.0 on
       (found_at false defs.inside defs.inside (position_past p c a) (past p) _ _ a _ refl (in_line_position c a p (rw q.1 refl)) refl
       (ih inside defs.inside (past p) (with_char c (joined t)) (in_line ((joined t).text ++ c ∷ []) refl (off_margin p.col) (as_deep ctx p.col deep)))))
-    where
-      parts : (b d : Bool) → (b || d) ≡ false → (b ≡ false) × (d ≡ false)
-      parts true d h = cc
-      parts false true h = cc
-      parts false false h = (refl, refl)
 
   -- what a scan does at a character of content after a gap
   pub data Outcome (c : ℕ) (a : List ℕ) (s : Stand) (p : Position) (t : Folded) (x : Result (Read Plain) Fault) : Type 0 where
@@ -241,18 +195,15 @@ module _ (ctx : Context) (start : Position) where
     went : ends_plain ctx.flow (collection_of ctx.indent) s (c ∷ a) ≡ false → is_shallow ctx p.col ≡ false → x ≡ scan a inside (past p) (with_char c (joined t)) → Outcome c a s p t x
     dashed : ctx.flow ≡ true → c ≡ 45 → begins_flow a ≡ true → x ≡ Err (At problem.PlainDashInFlow p) → Outcome c a s p t x
 
-  by_comment : (f g l k : Bool) → ((((f || g) || true) || l) || k) ≡ true
-  by_comment f g l k = rw (or_true (f || g)) refl
-
   by_over : (g k b : Bool) → (g || k) ≡ b → ((((false || g) || false) || false) || k) ≡ b
   by_over true k b h = h
   by_over false k b h = h
 
   ends_line : (c : ℕ) (a : List ℕ) (s : Stand) → ends_at_line ctx.flow (collection_of ctx.indent) s (c ∷ a) ≡ true → ends_plain ctx.flow (collection_of ctx.indent) s (c ∷ a) ≡ true
-  ends_line c a s h = rw h (by_line_true (classes.is_nul c) (ends_at_colon ctx.flow (c ∷ a)) (ends_at_comment s (c ∷ a)) (ctx.flow && begins_flow (c ∷ a)))
+  ends_line c a s h = rw (h, or-true) refl
 
   pub ends_comment : (c : ℕ) (a : List ℕ) (s : Stand) → ends_at_comment s (c ∷ a) ≡ true → ends_plain ctx.flow (collection_of ctx.indent) s (c ∷ a) ≡ true
-  ends_comment c a s h = rw h (by_comment (classes.is_nul c) (ends_at_colon ctx.flow (c ∷ a)) (ends_at_line ctx.flow (collection_of ctx.indent) s (c ∷ a)) (ctx.flow && begins_flow (c ∷ a)))
+  ends_comment c a s h = rw (h, or-true) refl
 
   pub ends_over : (c : ℕ) (a : List ℕ) (s : Stand) (b : Bool) → (c == 0) ≡ false → ends_at_comment s (c ∷ a) ≡ false → ends_at_line ctx.flow (collection_of ctx.indent) s (c ∷ a) ≡ false
       → (ends_at_colon ctx.flow (c ∷ a) || (ctx.flow && classes.is_flow c)) ≡ b → ends_plain ctx.flow (collection_of ctx.indent) s (c ∷ a) ≡ b
@@ -264,30 +215,28 @@ module _ (ctx : Context) (start : Position) where
   dash_parts flow c (d ∷ a) h = let q = and_parts (flow && (c == 45)) (is_flow d) h in let r = and_parts flow (c == 45) q.0 in (r.0, eqb-true c 45 r.1, same_flow d ∙ q.1)
 
   pub solid_too : (c : ℕ) → is_white c ≡ false → (is_break c || is_blank c) ≡ false
-  solid_too c white = swap (is_blank c) (is_break c) (rw (same_blank c, same_break c) at white)
-    where
-      swap : (b d : Bool) → (b || d) ≡ false → (d || b) ≡ false
-      swap true d h = cc
-      swap false d h = rw h refl
-
-  outcome_by : (c : ℕ) (a : List ℕ) (s : Stand) (p : Position) (t : Folded) → is_white c ≡ false → (c == 0) ≡ false → ends_at_comment s (c ∷ a) ≡ (c == 35)
-      → ends_at_line ctx.flow (collection_of ctx.indent) s (c ∷ a) ≡ (at_marker p.col (c ∷ a) || is_shallow ctx p.col)
-      → (is_break c || is_blank c) ≡ false → (shallow hash mark at over : Bool) → is_shallow ctx p.col ≡ shallow → (c == 35) ≡ hash → at_marker p.col (c ∷ a) ≡ mark → at_dash ctx.flow (c ∷ a) ≡ at
-      → (ends_at_colon ctx.flow (c ∷ a) || (ctx.flow && classes.is_flow c)) ≡ over → Outcome c a s p t (scan (c ∷ a) between p t)
-  unfolding goes_on
-  outcome_by c a s p t white nul comment line solid true hash mark at over e f g h k = stopped (ends_line c a s (line ∙ rw e (or_true (at_marker p.col (c ∷ a))))) (rw (solid, e) refl)
-  outcome_by c a s p t white nul comment line solid false true mark at over e f g h k = stopped (ends_comment c a s (comment ∙ f)) (rw (solid, e, f) refl)
-  outcome_by c a s p t white nul comment line solid false false true at over e f g h k = stopped (ends_line c a s (line ∙ rw g refl)) (rw (solid, e, f, g) refl)
-  outcome_by c a s p t white nul comment line solid false false false true over e f g h k = let q = dash_parts ctx.flow c a h in dashed q.0 q.1 q.2 (rw (solid, e, f, g, h) refl)
-  outcome_by c a s p t white nul comment line solid false false false false true e f g h k =
-      let plain : at_plain ctx.flow (c ∷ a) ≡ false = solid_plain ctx.flow c a white nul ∙ ap not k in
-      stopped (ends_over c a s true nul (comment ∙ f) (line ∙ rw (e, g) refl) k) (rw (solid, e, f, g, h, plain) refl)
-  outcome_by c a s p t white nul comment line solid false false false false false e f g h k =
-      let plain : at_plain ctx.flow (c ∷ a) ≡ true = solid_plain ctx.flow c a white nul ∙ ap not k in
-      went (ends_over c a s false nul (comment ∙ f) (line ∙ rw (e, g) refl) k) e (rw (solid, e, f, g, h, plain) refl)
+  solid_too c white = let q = or_parts (classes.is_blank c) (classes.is_break c) white in rw (← same_break c, ← same_blank c, q.0, q.1) refl
 
   pub outcome : (c : ℕ) (a : List ℕ) (s : Stand) (p : Position) (t : Folded) → is_white c ≡ false → (c == 0) ≡ false → ends_at_comment s (c ∷ a) ≡ (c == 35)
       → ends_at_line ctx.flow (collection_of ctx.indent) s (c ∷ a) ≡ (at_marker p.col (c ∷ a) || is_shallow ctx p.col) → Outcome c a s p t (scan (c ∷ a) between p t)
+  unfolding goes_on
   outcome c a s p t white nul comment line =
-      outcome_by c a s p t white nul comment line (solid_too c white) (is_shallow ctx p.col) (c == 35) (at_marker p.col (c ∷ a)) (at_dash ctx.flow (c ∷ a)) (ends_at_colon ctx.flow (c ∷ a) || (ctx.flow && classes.is_flow c))
-      refl refl refl refl refl
+      let solid = solid_too c white in
+      elim (cases_Bool (is_shallow ctx p.col)) [
+        | inl e ↦ stopped (ends_line c a s (line ∙ rw e (or_true (at_marker p.col (c ∷ a))))) (rw (solid, e) refl)
+        | inr e ↦ elim (cases_Bool (c == 35)) [
+          | inl f ↦ stopped (ends_comment c a s (comment ∙ f)) (rw (solid, e, f) refl)
+          | inr f ↦ elim (cases_Bool (at_marker p.col (c ∷ a))) [
+            | inl g ↦ stopped (ends_line c a s (line ∙ rw g refl)) (rw (solid, e, f, g) refl)
+            | inr g ↦ elim (cases_Bool (at_dash ctx.flow (c ∷ a))) [
+              | inl h ↦ let q = dash_parts ctx.flow c a h in dashed q.0 q.1 q.2 (rw (solid, e, f, g, h) refl)
+              | inr h ↦
+                  let plain = solid_plain ctx.flow c a white nul in
+                  elim (cases_Bool (ends_at_colon ctx.flow (c ∷ a) || (ctx.flow && classes.is_flow c))) [
+                    | inl k ↦ stopped (ends_over c a s true nul (comment ∙ f) (line ∙ rw (e, g) refl) k) (rw (solid, e, f, g, h, plain ∙ ap not k) refl)
+                    | inr k ↦ went (ends_over c a s false nul (comment ∙ f) (line ∙ rw (e, g) refl) k) e (rw (solid, e, f, g, h, plain ∙ ap not k) refl)
+                  ]
+            ]
+          ]
+        ]
+      ]

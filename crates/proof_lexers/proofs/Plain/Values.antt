@@ -1,13 +1,10 @@
 -- The buffers after a plain scalar have its value, and no line of it begins with a document marker.
-use Rattle.std.proofs.Common.{◌≡◌, ℕ, zero, suc, List, [], ◌∷◌, ◌++◌, Bool, true, false, ◌||◌, ◌&&◌, not, ◌==◌, if◌then◌else◌, Option, Some, refl, ap, sym, ◌∙◌, append-nil, drop}
-use Rattle.std.proofs.lemmas.Bool.{and_parts, eqb-true}
-use Rattle.proof_lexers.proofs.Common.{after_element, after_elements, are_marks, begins_flow, begins_with_marker, blank, break_further, Element, elements, ends_at_colon, ends_plain, ends_with_content, Folded, has_document_marker, is_before_line_feed, is_blank_or_end, is_document_marker, is_nul, is_white, joined, line_break, nothing, on_line, plain_element, plain_value, Spelled, Stand, with_break}
+use Rattle.proof_lexers.proofs.Common.{[], after_element, after_elements, and_parts, ap, append-nil, are_marks, arith, begins_flow, begins_with_marker, blank, Bool, break_further, cases_Bool, content, drop, Element, elements, ends_at_colon, ends_plain, ends_with_content, eqb-true, false, Folded, goes_on, has_document_marker, if◌then◌else◌, inl, inr, is_before_line_feed, is_blank_or_end, is_document_marker, is_nul, is_white, joined, line_break, List, nat_tests, not, not-true, nothing, on_line, Option, or-true, plain_element, plain_value, refl, Some, Spelled, Stand, suc, sym, true, with_break, zero, ℕ, ◌&&◌, ◌++◌, ◌==◌, ◌||◌, ◌∙◌, ◌∷◌, ◌≡◌}
 use Rattle.defs_text.specs.Classes.{is_blank, is_break}
-use Rattle.defs_text.specs.FlowScalar.{content}
-use Rattle.defs_token.specs.Plain.{past, goes_on}
+use Rattle.defs_token.specs.Plain.{past}
 use Rattle.proof_lexers.proofs.Fold.{buffers_join}
 use Rattle.proof_lexers.proofs.Plain.Found.{after_char, after_text}
-use Rattle.proof_lexers.proofs.Plain.Turns.{in_text, by_line_true}
+use Rattle.proof_lexers.proofs.Plain.Turns.{in_text}
 
 -- ---- elements
 
@@ -23,16 +20,10 @@ spelled e k = record { element = e; further = k }
 one_more : (c : ℕ) (a : List ℕ) (e : Element) (k : ℕ) → plain_element c a ≡ Some (spelled e k) → ((t : Folded) → after_text (drop k a) (after_element e t) ≡ after_text (c ∷ a) t) → Elements k a → Elements 0 (c ∷ a)
 one_more c a e k is same z = record { all = e ∷ z.all; are = rw (is, z.are) refl; same = λ t. z.same (after_element e t) ∙ same t }
 
-feed_breaks : is_break 10 ≡ true
-unfolding is_break
-feed_breaks = refl
-
-no_feed : (b : List ℕ) → is_before_line_feed 10 b ≡ false
-no_feed [] = refl
-no_feed (d ∷ b) = refl
-
 feed_text : (b : List ℕ) (t : Folded) → after_text b (with_break t) ≡ after_text (10 ∷ b) t
-feed_text b t = rw (feed_breaks, no_feed b) refl
+unfolding is_break
+feed_text [] t = refl
+feed_text (d ∷ b) t = refl
 
 broken : (c : ℕ) (a : List ℕ) → is_break c ≡ true → (feed : Bool) → is_before_line_feed c a ≡ feed → (t : Folded) → after_text (drop (if feed then 1 else 0) a) (with_break t) ≡ after_text (c ∷ a) t
 broken c a e false f t = rw (e, f) refl
@@ -44,12 +35,10 @@ broken c (d ∷ b) e true f t =
 
 first_element : (c : ℕ) (a : List ℕ) → ((k : ℕ) → Elements k a) → Elements 0 (c ∷ a)
 unfolding plain_element
-first_element c a others = by (is_break c) (is_blank c) refl refl
-  where
-    by : (breaks blanks : Bool) → is_break c ≡ breaks → is_blank c ≡ blanks → Elements 0 (c ∷ a)
-    by true blanks e f = one_more c a line_break (break_further c a) (rw e refl) (broken c a e (is_before_line_feed c a) refl) (others (break_further c a))
-    by false true e f = one_more c a (blank c) 0 (rw (e, f) refl) (λ t. rw (e, f) refl) (others 0)
-    by false false e f = one_more c a (content c) 0 (rw (e, f) refl) (λ t. rw (e, f) refl) (others 0)
+first_element c a others = elim (cases_Bool (is_break c)) [
+  | inl e ↦ one_more c a line_break (break_further c a) (rw e refl) (broken c a e (is_before_line_feed c a) refl) (others (break_further c a))
+  | inr e ↦ elim (cases_Bool (is_blank c)) [ inl f ↦ one_more c a (blank c) 0 (rw (e, f) refl) (λ t. rw (e, f) refl) (others 0) | inr f ↦ one_more c a (content c) 0 (rw (e, f) refl) (λ t. rw (e, f) refl) (others 0) ]
+]
 
 elements_of : (n : ℕ) (a : List ℕ) → Elements n a
 elements_of zero [] = record { all = []; are = refl; same = λ t. refl }
@@ -60,12 +49,7 @@ elements_of zero (c ∷ a) = first_element c a (λ k. elements_of k a)
 -- ---- after content
 
 solid_char : (c : ℕ) (t : Folded) → (not (is_blank c) && not (is_break c)) ≡ true → after_char c [] t ≡ in_text ((joined t).text ++ c ∷ [])
-solid_char c t h = by (is_blank c) (is_break c) refl refl h
-  where
-    by : (blanks breaks : Bool) → is_blank c ≡ blanks → is_break c ≡ breaks → (not blanks && not breaks) ≡ true → after_char c [] t ≡ in_text ((joined t).text ++ c ∷ [])
-    by true breaks e f h = cc
-    by false true e f h = cc
-    by false false e f h = rw (e, f) refl
+solid_char c t h = let q = and_parts (not (is_blank c)) (not (is_break c)) h in rw (not-true (is_blank c) q.0, not-true (is_break c) q.1) refl
 
 joined_solid : (c : ℕ) (r : List ℕ) (t : Folded) → ends_with_content c r ≡ true → (joined (after_text (c ∷ r) t)).text ≡ (after_text (c ∷ r) t).text
 joined_solid c [] t h = ap (λ u. (joined u).text) (solid_char c t h) ∙ append-nil ((joined t).text ++ c ∷ []) ∙ ap (λ u. u.text) (sym (solid_char c t h))
@@ -82,17 +66,11 @@ marks_stand (a ∷ b ∷ c ∷ []) next h = cc
 marks_stand (a ∷ b ∷ c ∷ d ∷ r) next h = let q = and_parts (are_marks a b c) (is_blank d || is_break d) h in rw (q.0, q.1) refl
 
 ends_marked : (flow : Bool) (collection : Option ℕ) (c : ℕ) (r : List ℕ) → is_document_marker (c ∷ r) ≡ true → ends_plain flow collection (on_line 0) (c ∷ r) ≡ true
-ends_marked flow collection c r h = rw h (by_line_true (is_nul c) (ends_at_colon flow (c ∷ r)) (c == 35) (flow && begins_flow (c ∷ r)))
+ends_marked flow collection c r h = rw (h, or-true) refl
 
-mark_by : (a b c : ℕ) (dash : Bool) → (a == 45) ≡ dash → are_marks a b c ≡ true → is_white a ≡ false
+mark_by : (a b c : ℕ) → are_marks a b c ≡ true → is_white a ≡ false
 unfolding are_marks is_blank is_break
-mark_by a b c true e h = let same : a ≡ 45 = eqb-true a 45 e in rw same refl
-mark_by a b c false e h =
-    let points : (a == 46) && (b == 46) && (c == 46) ≡ true = rw e at h in
-    let q = and_parts ((a == 46) && (b == 46)) (c == 46) points in
-    let point = and_parts (a == 46) (b == 46) q.0 in
-    let same : a ≡ 46 = eqb-true a 46 point.0 in
-    rw same refl
+mark_by a b c h = grind (arith, nat_tests)
 
 -- over a line that begins with a marker no scalar goes on
 no_marker_on : (flow : Bool) (collection : Option ℕ) (a next : List ℕ) → begins_with_marker a ≡ true → goes_on flow collection (on_line 0) a next ≡ true → ⊥
@@ -103,23 +81,22 @@ no_marker_on flow collection (a ∷ b ∷ []) next h e = cc
 no_marker_on flow collection (a ∷ b ∷ c ∷ []) next h e = cc
 no_marker_on flow collection (a ∷ b ∷ c ∷ d ∷ r) next h e =
     let q = and_parts (are_marks a b c) (is_blank d || is_break d) h in
-    let white : is_white a ≡ false = mark_by a b c (a == 45) refl q.0 in
+    let white : is_white a ≡ false = mark_by a b c q.0 in
     let mark : is_document_marker (a ∷ b ∷ c ∷ d ∷ (r ++ next)) ≡ true = marks_stand (a ∷ b ∷ c ∷ d ∷ r) next h in
     let ends : ends_plain flow collection (on_line 0) (a ∷ b ∷ c ∷ d ∷ (r ++ next)) ≡ true = ends_marked flow collection a (b ∷ c ∷ d ∷ (r ++ next)) mark in
     let here = (and_parts (is_white a || not (ends_plain flow collection (on_line 0) (a ∷ b ∷ c ∷ d ∷ (r ++ next)))) _ e).0 in
     let no : false ≡ true = rw (white, ends) at here in
     cc
 
-unmarked_by : (flow : Bool) (collection : Option ℕ) (s : Stand) (c : ℕ) (r next : List ℕ) (breaks marked : Bool) → is_break c ≡ breaks → begins_with_marker r ≡ marked → goes_on flow collection (past s c) r next ≡ true → (breaks && marked) ≡ false
-unmarked_by flow collection s c r next false marked e f h = refl
-unmarked_by flow collection s c r next true false e f h = refl
-unmarked_by flow collection s c r next true true e f h = absurd (no_marker_on flow collection r next f (rw e at h))
-
 pub no_markers : (flow : Bool) (collection : Option ℕ) (s : Stand) (more next : List ℕ) → goes_on flow collection s more next ≡ true → has_document_marker more ≡ false
 no_markers flow collection s [] next h = refl
 no_markers flow collection s (c ∷ r) next h =
     let q = and_parts (is_white c || not (ends_plain flow collection s (c ∷ (r ++ next)))) (goes_on flow collection (past s c) r next) h in
-    rw (unmarked_by flow collection s c r next (is_break c) (begins_with_marker r) refl refl q.1, no_markers flow collection (past s c) r next q.1) refl
+    let others = no_markers flow collection (past s c) r next q.1 in
+    elim (cases_Bool (is_break c)) [
+      | inr e ↦ rw (e, others) refl
+      | inl e ↦ elim (cases_Bool (begins_with_marker r)) [ inl f ↦ let goes = q.1 in absurd (no_marker_on flow collection r next f (rw e at goes)) | inr f ↦ rw (e, f, others) refl ]
+    ]
 
 -- ---- the value
 

@@ -1,79 +1,20 @@
 -- Tags are read as what is written, and no other text is.
-use Rattle.std.proofs.Common.{◌≡◌, ℕ, suc, ◌+◌, List, [], ◌∷◌, ◌++◌, Bool, true, false, ◌||◌, ◌==◌, if◌then◌else◌, Some, Result, Ok, Err, refl, ap, sym, ◌∙◌, arith, append_assoc, append-nil, length, length-append, slice_index, codes}
-use Rattle.std.proofs.lemmas.Bool.{and_parts, eqb-true}
-use Rattle.std.proofs.lemmas.Bool.Decides.{nat_tests}
-use Rattle.proof_lexers.proofs.Common.{after_class, all_of, and_then, begins_with, decoded, Fault, is_alpha, is_alphanumeric, is_at_gap, is_blank_or_breakz, is_empty, is_same, is_tag, is_uri, is_uri_mark, leading, Position, Read, uri_character, UriFault}
-use Rattle.yaml_chars.specs.Class.{is_blank, is_break, is_flow}
+use Rattle.proof_lexers.proofs.Common.{[], after, after_class, after_name, all_of, and_parts, and_then, ap, append_assoc, arith, begins_with, Bool, both_ways, cases_Bool, codes, decoded, decoded_after, ends_tag, eqb-true, Err, false, further, if◌then◌else◌, inl, inr, is_alpha, is_alphanumeric, is_empty, is_flow, is_tag, is_uri, is_uri_mark, IsTagRefusal, leading, length, length-append, List, local, local_goes_on, local_octets, may_follow, named, nat_tests, ne_eqb, no_suffix, Ok, past, Position, problem_of, put_code, Read, read_tag, refl, Result, shorthand, slice_index, Some, some_suffix, suc, suffix_goes_on, suffix_octets, sym, tag_by, tag_end, tag_of_class, TagEndsAs, TagsEndAsTheirTextSays, take_while, true, uri_character, UriFault, verbatim, verbatim_end, verbatim_goes_on, verbatim_octets, written_tag, ℕ, ◌++◌, ◌+◌, ◌==◌, ◌∙◌, ◌∷◌, ◌≡◌}
 use Rattle.yaml_tokens.specs.declared.problem.Problem.TheVariants as problem
 use Rattle.defs_text.specs.Classes as classes
 use Rattle.defs_text.specs.Tags as defs
-use Rattle.defs_text.specs.Tags.{after, decoded_after, put_code, tag_by, tag_of_class, written_tag}
-use Rattle.model_scanner.specs.Machine.{past, take_while}
-use Rattle.model_scanner.specs.Tag.{Tag, read_tag, verbatim_end, verbatim, some_suffix, named, local, after_name, shorthand, ends_tag, tag_end, tag}
+use Rattle.model_scanner.specs.Tag.{tag}
 use Rattle.proof_lexers.proofs.Bridges.{same_gap, same_flow, same_alpha, same_tag}
-use Rattle.proof_lexers.specs.NameEnds.{further}
-use Rattle.proof_lexers.specs.UriEnds.{problem_of}
-use Rattle.proof_lexers.specs.TagEnds.{may_follow, IsTagRefusal, verbatim_octets, unclosed, verbatim_goes_on, suffix_octets, no_suffix, suffix_goes_on, local_octets, local_goes_on, TagEndsAs, reads, refuses}
-use Rattle.proof_lexers.specs.ScalarLaws.{TagsEndAsTheirTextSays}
-use Rattle.proof_lexers.proofs.Properties.Names.{one_further, none_further}
+use Rattle.proof_lexers.specs.TagEnds.{unclosed, reads, refuses}
+pub use Rattle.proof_lexers.proofs.Classes.{span_cut, all_leading, leading_all}
+use Rattle.proof_lexers.proofs.Classes.{same_place, begins_in, ends_after, taken}
 use Rattle.proof_lexers.proofs.Properties.Uris.{uris_are_read}
-
--- ---- characters of a class at a text's start
-
-abbrev pub begins_in : (ℕ → Bool) → List ℕ → Bool
-begins_in class [] = false
-begins_in class (c ∷ r) = class c
-
-module _ (class : ℕ → Bool) where
-  pub span_cut : (a : List ℕ) → a ≡ leading class a ++ after class a
-  span_cut [] = refl
-  span_cut (c ∷ a) = by (class c) (span_cut a)
-    where
-      by : (b : Bool) → a ≡ leading class a ++ after class a → c ∷ a ≡ (if b then c ∷ leading class a else []) ++ (if b then after class a else c ∷ a)
-      by true e = ap (λ r. c ∷ r) e
-      by false e = refl
-
-  pub all_leading : (a : List ℕ) → all_of class (leading class a) ≡ true
-  all_leading [] = refl
-  all_leading (c ∷ a) = by (class c) refl (all_leading a)
-    where
-      by : (b : Bool) → class c ≡ b → all_of class (leading class a) ≡ true → all_of class (if b then c ∷ leading class a else []) ≡ true
-      by true e h = rw e h
-      by false e h = refl
-
-  pub ends_after : (a : List ℕ) → begins_in class (after class a) ≡ false
-  ends_after [] = refl
-  ends_after (c ∷ a) = by (class c) refl (ends_after a)
-    where
-      by : (b : Bool) → class c ≡ b → begins_in class (after class a) ≡ false → begins_in class (if b then after class a else c ∷ a) ≡ false
-      by true e h = h
-      by false e h = e
-
-  pub leading_none : (r : List ℕ) → begins_in class r ≡ false → (leading class r ≡ []) × (after class r ≡ r)
-  leading_none [] h = (refl, refl)
-  leading_none (c ∷ r) h = (rw h refl, rw h refl)
-
-  pub leading_all : (l r : List ℕ) → all_of class l ≡ true → begins_in class r ≡ false → (leading class (l ++ r) ≡ l) × (after class (l ++ r) ≡ r)
-  leading_all [] r h e = leading_none r e
-  leading_all (c ∷ l) r h e =
-      let q = and_parts (class c) (all_of class l) h in
-      let z = leading_all l r q.1 e in
-      (rw q.0 (ap (λ k. c ∷ k) z.0), rw q.0 z.1)
+use Rattle.proof_lexers.proofs.Plain.Turns.{end_is_a_gap}
 
 pub word : (a : List ℕ) (p : Position) (t : List ℕ) → take_while is_alpha a p t ≡ record { rest = after classes.is_alpha a; position = further (length (leading classes.is_alpha a)) p; value = t ++ leading classes.is_alpha a }
-word [] p t = rw (none_further p, append-nil) refl
-word (c ∷ a) p t = by (is_alpha c) refl (word a (past p) (t ++ c ∷ []))
-  where
-    by : (b : Bool) → is_alpha c ≡ b → take_while is_alpha a (past p) (t ++ c ∷ []) ≡ record { rest = after classes.is_alpha a; position = further (length (leading classes.is_alpha a)) (past p); value = (t ++ c ∷ []) ++ leading classes.is_alpha a }
-        → take_while is_alpha (c ∷ a) p t ≡ record { rest = after classes.is_alpha (c ∷ a); position = further (length (leading classes.is_alpha (c ∷ a))) p; value = t ++ leading classes.is_alpha (c ∷ a) }
-    by true e h = let of_word : classes.is_alpha c ≡ true = same_alpha c ∙ e in rw (e, of_word) (h ∙ rw (one_further p (length (leading classes.is_alpha a)), append_assoc) refl)
-    by false e h = let no_word : classes.is_alpha c ≡ false = same_alpha c ∙ e in rw (e, no_word) (rw (none_further p, append-nil) refl)
+word a p t = taken classes.is_alpha is_alpha same_alpha a p t
 
 -- ---- what may stand after a tag
-
-end_is_a_gap : is_blank_or_breakz 0 ≡ true
-unfolding is_blank is_break
-end_is_a_gap = refl
 
 pub same_end : (flow : Bool) (r : List ℕ) → ends_tag flow (slice_index r 0) ≡ may_follow flow r
 unfolding ends_tag
@@ -81,18 +22,13 @@ same_end flow [] = rw end_is_a_gap refl
 same_end flow (d ∷ r) = rw (same_gap d, same_flow d) refl
 
 module _ (flow : Bool) (start : Position) (text : List ℕ) where
-  ends_on : (x y : Result (Read Tag) Fault) → x ≡ y → TagEndsAs flow start text y → TagEndsAs flow start text x
-  ends_on x y e (reads piece rest handle suffix cut is follows k) = reads piece rest handle suffix cut is follows (e ∙ k)
-  ends_on x y e (refuses why reason k) = refuses why reason (e ∙ k)
-
   -- a tag that stands there
   ended : (piece rest handle suffix : List ℕ) (p : Position) → text ≡ piece ++ rest → written_tag (33 ∷ piece) ≡ Some (record { handle = handle; suffix = suffix }) → p ≡ further (length (33 ∷ piece)) start
       → (may_follow flow rest ≡ false → IsTagRefusal flow text problem.TagEnd) → TagEndsAs flow start text (tag_end flow start (read_tag rest p handle suffix))
-  ended piece rest handle suffix p cut is position goes = by (may_follow flow rest) refl
-    where
-      by : (b : Bool) → may_follow flow rest ≡ b → TagEndsAs flow start text (tag_end flow start (read_tag rest p handle suffix))
-      by true e = reads piece rest handle suffix cut is e (rw (same_end flow rest, e, position) refl)
-      by false e = refuses problem.TagEnd (goes e) (rw (same_end flow rest, e) refl)
+  ended piece rest handle suffix p cut is position goes = elim (cases_Bool (may_follow flow rest)) [
+    | inl e ↦ reads piece rest handle suffix cut is e (rw (same_end flow rest, e, position) refl)
+    | inr e ↦ refuses problem.TagEnd (goes e) (rw (same_end flow rest, e) refl)
+  ]
 
 -- ---- a verbatim tag
 
@@ -104,10 +40,7 @@ verbatim_written : (l cs : List ℕ) → all_of classes.is_uri l ≡ true → de
 verbatim_written l cs all is = let z = leading_all classes.is_uri l (62 ∷ []) all close_is_no_uri in rw (z.1, z.0, all, is) refl
 
 pub closed_position : (p : Position) (n m : ℕ) → m ≡ n + 1 → past (further n (past (past p))) ≡ further (suc (suc m)) p
-closed_position p n m e =
-    let i : ((p.index + 1) + 1) + n + 1 ≡ p.index + suc (suc m) = omega (arith, e) in
-    let j : ((p.col + 1) + 1) + n + 1 ≡ p.col + suc (suc m) = omega (arith, e) in
-    rw (i, j) refl
+closed_position p n m e = same_place p (suc (suc m)) (omega (arith, e)) (omega (arith, e))
 
 module _ (flow : Bool) (start : Position) (b : List ℕ) where
   abbrev written : List ℕ
@@ -116,15 +49,14 @@ module _ (flow : Bool) (start : Position) (b : List ℕ) where
   closing : (cs : List ℕ) (r : List ℕ) → decoded written ≡ Ok cs → after classes.is_uri b ≡ r
       → TagEndsAs flow start (60 ∷ b) (and_then (verbatim_end start cs r (further (length written) (past (past start)))) (λ t. tag_end flow start t))
   closing cs [] is e = refuses problem.VerbatimTagEnd (unclosed b cs refl is (ap (begins_with 62) e)) refl
-  closing cs (c ∷ r) is e = by (c == 62) refl
-    where
-      by : (closes : Bool) → (c == 62) ≡ closes → TagEndsAs flow start (60 ∷ b) (and_then (verbatim_end start cs (c ∷ r) (further (length written) (past (past start)))) (λ t. tag_end flow start t))
-      by true f =
-          let same : c ≡ 62 = eqb-true c 62 f in
-          let cut : b ≡ (written ++ 62 ∷ []) ++ r = span_cut classes.is_uri b ∙ ap (λ k. written ++ k) (e ∙ ap (λ d. d ∷ r) same) ∙ sym (append_assoc written (62 ∷ []) r) in
-          rw f (ended flow start (60 ∷ b) (60 ∷ (written ++ 62 ∷ [])) r [] cs _ (ap (λ k. 60 ∷ k) cut) (verbatim_written written cs (all_leading classes.is_uri b) is) (closed_position start (length written) _ (length-append written (62 ∷ [])))
-          (verbatim_goes_on b cs r refl is (e ∙ ap (λ d. d ∷ r) same)))
-      by false f = refuses problem.VerbatimTagEnd (unclosed b cs refl is (ap (begins_with 62) e ∙ f)) (rw f refl)
+  closing cs (c ∷ r) is e = elim (cases_Bool (c == 62)) [
+    | inl f ↦
+        let same : c ≡ 62 = eqb-true c 62 f in
+        let cut : b ≡ (written ++ 62 ∷ []) ++ r = span_cut classes.is_uri b ∙ ap (λ k. written ++ k) (e ∙ ap (λ d. d ∷ r) same) ∙ sym (append_assoc written (62 ∷ []) r) in
+        rw f (ended flow start (60 ∷ b) (60 ∷ (written ++ 62 ∷ [])) r [] cs _ (ap (λ k. 60 ∷ k) cut) (verbatim_written written cs (all_leading classes.is_uri b) is) (closed_position start (length written) _ (length-append written (62 ∷ [])))
+        (verbatim_goes_on b cs r refl is (e ∙ ap (λ d. d ∷ r) same)))
+    | inr f ↦ refuses problem.VerbatimTagEnd (unclosed b cs refl is (ap (begins_with 62) e ∙ f)) (rw f refl)
+  ]
 
   verbatim_by : (d : Result (List ℕ) UriFault) → decoded written ≡ d
       → TagEndsAs flow start (60 ∷ b) (and_then (and_then (after_class classes.is_uri start (past (past start)) b [] d) (λ (r : Read (List ℕ)). verbatim_end start r.value r.rest r.position)) (λ t. tag_end flow start t))
@@ -149,33 +81,11 @@ decoded_some c r cs h = by (uri_character c r) h
     by (Ok e) h = then_by e.code (decoded_after e.further r) h
 
 absent : (class : ℕ → Bool) (c k : ℕ) → class c ≡ true → class k ≡ false → (c == k) ≡ false
-absent class c k h no_k = by (c == k) refl
-  where
-    by : (b : Bool) → (c == k) ≡ b → b ≡ false
-    by true e = let same : c ≡ k = eqb-true c k e in let both : true ≡ false = sym h ∙ ap class same ∙ no_k in cc
-    by false e = refl
-
-underscore : is_uri 95 ≡ true
-unfolding is_uri is_alphanumeric is_uri_mark
-underscore = refl
-
-word_is_uri : (c : ℕ) → is_alpha c ≡ true → is_uri c ≡ true
-unfolding is_alpha is_uri is_uri_mark
-word_is_uri c h = by (is_alphanumeric c) (c == 95) (c == 45) refl refl refl h
-  where
-    by : (a b d : Bool) → is_alphanumeric c ≡ a → (c == 95) ≡ b → (c == 45) ≡ d → ((a || b) || d) ≡ true → is_uri c ≡ true
-    by true b d e f g h = rw e refl
-    by false true d e f g h = let same : c ≡ 95 = eqb-true c 95 f in rw same underscore
-    by false false true e f g h = rw (e, g) refl
-    by false false false e f g h = cc
-
-word_is_no_flow : (c : ℕ) → is_alpha c ≡ true → (is_flow c ≡ false) × ((c == 33) ≡ false)
-unfolding is_alpha is_alphanumeric is_flow
-word_is_no_flow c h = (grind (arith, nat_tests), grind (arith, nat_tests))
+absent class c k h other = ne_eqb c k (λ same. both_ways (class c) (ap class same ∙ other) h)
 
 word_is_tag : (c : ℕ) → is_alpha c ≡ true → is_tag c ≡ true
-unfolding is_tag
-word_is_tag c h = let no_flow = word_is_no_flow c h in let of_uri : is_uri c ≡ true = word_is_uri c h in rw (of_uri, no_flow.0, no_flow.1) refl
+unfolding is_alpha is_tag is_uri is_uri_mark is_alphanumeric is_flow
+word_is_tag c h = grind (arith, nat_tests)
 
 no_words : (classes.is_alpha 60 ≡ false) × (classes.is_alpha 37 ≡ false)
 unfolding classes.is_alpha classes.is_decimal_digit classes.is_letter
@@ -257,23 +167,13 @@ still_some (d ∷ name) l cs h e = refl
 
 still_no_word : (m : List ℕ) → begins_in classes.is_alpha m ≡ false → begins_in classes.is_alpha (leading classes.is_tag m) ≡ false
 still_no_word [] h = refl
-still_no_word (c ∷ m) h = by (classes.is_tag c)
-  where
-    by : (b : Bool) → begins_in classes.is_alpha (if b then c ∷ leading classes.is_tag m else []) ≡ false
-    by true = h
-    by false = refl
+still_no_word (c ∷ m) h = elim (cases_Bool (classes.is_tag c)) [ inl e ↦ rw e h | inr e ↦ rw e refl ]
 
 pub local_position : (p : Position) (n m k : ℕ) → k ≡ n + m → further m (further n (past p)) ≡ further (suc k) p
-local_position p n m k e =
-    let i : ((p.index + 1) + n) + m ≡ p.index + suc k = omega (arith, e) in
-    let j : ((p.col + 1) + n) + m ≡ p.col + suc k = omega (arith, e) in
-    rw (i, j) refl
+local_position p n m k e = same_place p (suc k) (omega (arith, e)) (omega (arith, e))
 
 pub named_position : (p : Position) (n m k : ℕ) → k ≡ n + suc m → further m (past (further n (past p))) ≡ further (suc k) p
-named_position p n m k e =
-    let i : (((p.index + 1) + n) + 1) + m ≡ p.index + suc k = omega (arith, e) in
-    let j : (((p.col + 1) + n) + 1) + m ≡ p.col + suc k = omega (arith, e) in
-    rw (i, j) refl
+named_position p n m k e = same_place p (suc k) (omega (arith, e)) (omega (arith, e))
 
 module _ (flow : Bool) (start : Position) (text name : List ℕ) (all : all_of classes.is_alpha name ≡ true) where
   -- after a name and a second mark
@@ -331,14 +231,13 @@ module _ (flow : Bool) (start : Position) (text name : List ℕ) (all : all_of c
 shorthand_from : (flow : Bool) (start : Position) (a m : List ℕ) → begins_with 60 a ≡ false → after classes.is_alpha a ≡ m
     → TagEndsAs flow start a (and_then (after_name start (leading classes.is_alpha a) m (further (length (leading classes.is_alpha a)) (past start))) (λ t. tag_end flow start t))
 shorthand_from flow start a [] not_verbatim e = from_word flow start a (leading classes.is_alpha a) (all_leading classes.is_alpha a) [] (span_cut classes.is_alpha a ∙ ap (λ r. leading classes.is_alpha a ++ r) e) e not_verbatim refl refl
-shorthand_from flow start a (c ∷ s) not_verbatim e = by (c == 33) refl
+shorthand_from flow start a (c ∷ s) not_verbatim e = elim (cases_Bool (c == 33)) [
+  | inl f ↦ let same : c ≡ 33 = eqb-true c 33 f in rw same (from_mark flow start a (leading classes.is_alpha a) (all_leading classes.is_alpha a) s (cut ∙ ap (λ d. leading classes.is_alpha a ++ d ∷ s) same))
+  | inr f ↦ from_word flow start a (leading classes.is_alpha a) (all_leading classes.is_alpha a) (c ∷ s) cut e not_verbatim (ap (begins_in classes.is_alpha) (sym e) ∙ ends_after classes.is_alpha a) f
+]
   where
     cut : a ≡ leading classes.is_alpha a ++ c ∷ s
     cut = span_cut classes.is_alpha a ∙ ap (λ r. leading classes.is_alpha a ++ r) e
-
-    by : (marked : Bool) → (c == 33) ≡ marked → TagEndsAs flow start a (and_then (after_name start (leading classes.is_alpha a) (c ∷ s) (further (length (leading classes.is_alpha a)) (past start))) (λ t. tag_end flow start t))
-    by true f = let same : c ≡ 33 = eqb-true c 33 f in rw same (from_mark flow start a (leading classes.is_alpha a) (all_leading classes.is_alpha a) s (cut ∙ ap (λ d. leading classes.is_alpha a ++ d ∷ s) same))
-    by false f = from_word flow start a (leading classes.is_alpha a) (all_leading classes.is_alpha a) (c ∷ s) cut e not_verbatim (ap (begins_in classes.is_alpha) (sym e) ∙ ends_after classes.is_alpha a) f
 
 shorthands : (flow : Bool) (start : Position) (a : List ℕ) → (slice_index a 0 == 60) ≡ false → TagEndsAs flow start a (tag flow (33 ∷ a) start)
 unfolding tag shorthand
@@ -348,10 +247,9 @@ shorthands flow start a e = rw (e, word a (past start) []) (shorthand_from flow 
     no_angle [] h = refl
     no_angle (c ∷ r) h = h
 
-tags_by : (flow : Bool) (start : Position) (c : ℕ) (b : List ℕ) (opens : Bool) → (c == 60) ≡ opens → TagEndsAs flow start (c ∷ b) (tag flow (33 ∷ c ∷ b) start)
-tags_by flow start c b true e = let same : c ≡ 60 = eqb-true c 60 e in rw same (verbatims flow start b)
-tags_by flow start c b false e = shorthands flow start (c ∷ b) e
-
 pub tags_end : TagsEndAsTheirTextSays
 tags_end flow [] p = shorthands flow p [] refl
-tags_end flow (c ∷ b) p = tags_by flow p c b (c == 60) refl
+tags_end flow (c ∷ b) p = elim (cases_Bool (c == 60)) [
+  | inl e ↦ let same : c ≡ 60 = eqb-true c 60 e in rw same (verbatims flow p b)
+  | inr e ↦ shorthands flow p (c ∷ b) e
+]

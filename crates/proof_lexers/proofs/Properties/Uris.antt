@@ -1,21 +1,12 @@
 -- A URI's characters are read as what they mean.
-use Rattle.std.proofs.Common.{◌≡◌, ℕ, zero, suc, ◌+◌, ◌-◌, ◌*◌, List, [], ◌∷◌, ◌++◌, Bool, true, false, ◌&&◌, ◌==◌, if◌then◌else◌, Option, Some, None, Result, Ok, Err, refl, ap, sym, subst, ◌∙◌, arith, append_assoc, append-nil, length, drop, nat_lt, nat_le}
-use Rattle.std.specs.Char.{digit_value, is_digit}
-use Rattle.std.proofs.lemmas.Bool.{eqb-true}
-use Rattle.std.proofs.lemmas.Bool.Decides.{nat_tests}
-use Rattle.proof_lexers.proofs.Common.{after_class, and_then, At, decoded, Fault, is_alphanumeric, is_character_code, is_hex, is_tag, is_uri, is_uri_mark, leading, Position, Read, uri_character, UriFault}
-use Rattle.yaml_chars.specs.Class.{is_flow}
+use Rattle.std.specs.Char.{is_digit}
+use Rattle.proof_lexers.proofs.Common.{[], after, after_class, and_then, ap, append-nil, append_assoc, arith, At, at_octet, at_trail, Bool, cases_Bool, checked, code_followed, decoded, decoded_after, digit_value, drop, eqb-true, Err, escaped_character, false, Fault, further, high, if◌then◌else◌, inl, inr, is_alphanumeric, is_between, is_character_code, is_flow, is_hex, is_tag, is_trail, is_uri, is_uri_mark, Lead, lead, lead_of, leading, led_by, length, List, nat_le, nat_lt, nat_tests, no_character, None, Octet, octet_at, octet_from, Ok, Option, past, Position, put_code, Read, refl, Result, Some, subst, suc, sym, trail, trail_by, trails, trails_from, true, uri_character, uri_from, UriFault, UrisAreRead, UriState, zero, ℕ, ◌&&◌, ◌*◌, ◌++◌, ◌+◌, ◌-◌, ◌==◌, ◌∙◌, ◌∷◌, ◌≡◌}
 use Rattle.yaml_tokens.specs.declared.problem.Problem.TheVariants as problem
 use Rattle.defs_text.specs.Classes as classes
-use Rattle.defs_text.specs.Classes.{is_between}
-use Rattle.defs_text.specs.Tags.{after, wrong_trail, no_character, octet_at, Lead, lead_of, is_trail, trail_by, trails, checked, led_by, escaped_character, put_code, code_followed, decoded_after}
-use Rattle.model_scanner.specs.Machine.{past}
-use Rattle.model_scanner.specs.Uri.{Octet, lead, trail, plain, high, UriState, at_trail, at_octet, uri_from, octet_from, trails_from}
+use Rattle.model_scanner.specs.Uri.{plain}
 use Rattle.model_scanner.proofs.UriLemmas.{low_turn}
 use Rattle.proof_lexers.proofs.Bridges.{same_digit, same_code, same_uri, same_tag, both}
-use Rattle.proof_lexers.specs.NameEnds.{further}
-use Rattle.proof_lexers.specs.ScalarLaws.{UrisAreRead}
-use Rattle.proof_lexers.proofs.Properties.Names.{one_further, none_further}
+use Rattle.proof_lexers.proofs.Classes.{none_further, one_further}
 
 -- ---- octets
 
@@ -27,32 +18,25 @@ lead_to start p t (Some l) = at_trail start l.further l.bits l.least p t
 same_one : (n : ℕ) → nat_lt n 128 ≡ is_between 0x00 0x7F n
 same_one n = both _ _ (λ h. grind (arith, nat_tests)) (λ h. grind (arith, nat_tests))
 
-same_two : (n : ℕ) → (nat_le 192 n && nat_lt n 224) ≡ is_between 0xC0 0xDF n
-same_two n = both _ _ (λ h. grind (arith, nat_tests)) (λ h. grind (arith, nat_tests))
-
-same_three : (n : ℕ) → (nat_le 224 n && nat_lt n 240) ≡ is_between 0xE0 0xEF n
-same_three n = both _ _ (λ h. grind (arith, nat_tests)) (λ h. grind (arith, nat_tests))
-
-same_four : (n : ℕ) → (nat_le 240 n && nat_lt n 248) ≡ is_between 0xF0 0xF7 n
-same_four n = both _ _ (λ h. grind (arith, nat_tests)) (λ h. grind (arith, nat_tests))
+same_between : (least most n : ℕ) → (nat_le least n && nat_lt n (suc most)) ≡ is_between least most n
+same_between least most n = both _ _ (λ h. grind (arith, nat_tests)) (λ h. grind (arith, nat_tests))
 
 same_trail : (n : ℕ) → (nat_le 128 n && nat_lt n 192) ≡ is_trail n
 unfolding is_trail
-same_trail n = both _ _ (λ h. grind (arith, nat_tests)) (λ h. grind (arith, nat_tests))
+same_trail n = same_between 0x80 0xBF n
 
 same_lead : (start p : Position) (n : ℕ) (t : List ℕ) → at_octet start lead n p t ≡ lead_to start p t (lead_of n)
 unfolding lead_of
-same_lead start p n t = rw (same_one n, same_two n, same_three n, same_four n) (by (is_between 0x00 0x7F n) (is_between 0xC0 0xDF n) (is_between 0xE0 0xEF n) (is_between 0xF0 0xF7 n))
-  where
-    by : (a b c d : Bool) →
-        (if a then at_trail start 0 n 0 p t else (if b then at_trail start 1 (n - 192) 128 p t else (if c then at_trail start 2 (n - 224) 2048 p t else (if d then at_trail start 3 (n - 240) 65536 p t else Err (At problem.TagLeadingOctet start)))))
-        ≡ lead_to start p t (if a then Some (record { further = 0; bits = n; least = 0 }) else (if b then Some (record { further = 1; bits = n - 0xC0; least = 0x80 }) else
-        (if c then Some (record { further = 2; bits = n - 0xE0; least = 0x800 }) else (if d then Some (record { further = 3; bits = n - 0xF0; least = 0x10000 }) else None))))
-    by true b c d = refl
-    by false true c d = refl
-    by false false true d = refl
-    by false false false true = refl
-    by false false false false = refl
+same_lead start p n t = rw (same_one n, same_between 0xC0 0xDF n, same_between 0xE0 0xEF n, same_between 0xF0 0xF7 n) (elim (cases_Bool (is_between 0x00 0x7F n)) [
+  | inl e ↦ rw e refl
+  | inr e ↦ elim (cases_Bool (is_between 0xC0 0xDF n)) [
+    | inl f ↦ rw (e, f) refl
+    | inr f ↦ elim (cases_Bool (is_between 0xE0 0xEF n)) [
+      | inl g ↦ rw (e, f, g) refl
+      | inr g ↦ elim (cases_Bool (is_between 0xF0 0xF7 n)) [ inl h ↦ rw (e, f, g, h) refl | inr h ↦ rw (e, f, g, h) refl ]
+    ]
+  ]
+])
 
 -- ---- what an escape means
 
@@ -66,17 +50,9 @@ abbrev completed : (least : ℕ) → Result ℕ UriFault → Result (List ℕ) U
 completed least (Err f) others = Err f
 completed least (Ok code) others = (if nat_le least code && is_character_code code then put_code code others else Err no_character)
 
-two_more : (m x y : ℕ) (r : List ℕ) → decoded_after (2 + m) (x ∷ y ∷ r) ≡ decoded_after 0 (drop m r)
-two_more m x y r = let e : 2 + m ≡ suc (suc m) = omega arith in rw e (after_some m r)
-
 is_completed : (l : Lead) (o : Result ℕ UriFault) (x y : ℕ) (r : List ℕ) → code_followed (checked l o) (λ n. decoded_after n (x ∷ y ∷ r)) ≡ completed l.least o (decoded_after 0 (drop (3 * l.further) r))
 is_completed l (Err f) x y r = refl
-is_completed l (Ok code) x y r = by (nat_le l.least code && is_character_code code)
-  where
-    by : (b : Bool) → code_followed (if b then Ok (record { code = code; further = 2 + 3 * l.further }) else Err no_character) (λ n. decoded_after n (x ∷ y ∷ r))
-        ≡ (if b then put_code code (decoded_after 0 (drop (3 * l.further) r)) else Err no_character)
-    by true = ap (put_code code) (two_more (3 * l.further) x y r)
-    by false = refl
+is_completed l (Ok code) x y r = elim (cases_Bool (nat_le l.least code && is_character_code code)) [ inl e ↦ let two : 2 + 3 * l.further ≡ suc (suc (3 * l.further)) = omega arith in rw (e, two) (ap (put_code code) (after_some (3 * l.further) r)) | inr e ↦ rw e refl ]
 
 -- ---- the scan
 
@@ -116,38 +92,26 @@ module _ (test class : ℕ → Bool) (start : Position) (same : (c : ℕ) → cl
   second_by false x y l e f = refl
   second_by true x y l e f = rw (e, f) refl
 
-  some_by : (x y : ℕ) (l : List ℕ) → is_digit x 16 ≡ true → is_digit y 16 ≡ true → octet_at (37 ∷ x ∷ y ∷ l) ≡ Some (digit_value x * 16 + digit_value y)
-  unfolding octet_at
-  some_by x y l e f = rw (e, f) refl
-
-  lone : (x : ℕ) → octet_at (37 ∷ x ∷ []) ≡ None
-  unfolding octet_at
-  lone x = refl
-
-  nothing : octet_at (37 ∷ []) ≡ None
-  unfolding octet_at
-  nothing = refl
-
   second_octet : (o : Octet) (x : ℕ) (r : List ℕ) (p : Position) (t : List ℕ) → is_digit x 16 ≡ true → class x ≡ true → is_hex x ≡ true → Octets o (x ∷ r) p t
-  second_octet o x [] p t e f g = no_octets (rw f (lone x)) (rw g refl)
-  second_octet o x (y ∷ b) p t e f g = by (is_digit y 16) refl
-    where
-      by : (d : Bool) → is_digit y 16 ≡ d → Octets o (x ∷ y ∷ b) p t
-      by true h =
-          let of_y = of_class y h in
-          let hex : is_hex y ≡ true = same_digit y ∙ h in
-          octet x y (digit_value x * 16 + digit_value y) b refl f of_y (rw (f, of_y) (some_by x y (leading class b) e h)) (rw g (low_turn test start o (digit_value x) y (y ∷ b) b (past p) t hex refl))
-      by false h =
-          let no_hex : is_hex y ≡ false = same_digit y ∙ h in
-          no_octets (rw f (second_by (class y) x y (leading class b) e h)) (rw (g, no_hex) refl)
+  unfolding octet_at
+  second_octet o x [] p t e f g = no_octets (rw f refl) (rw g refl)
+  second_octet o x (y ∷ b) p t e f g = elim (cases_Bool (is_digit y 16)) [
+    | inl h ↦
+        let of_y = of_class y h in
+        let hex : is_hex y ≡ true = same_digit y ∙ h in
+        octet x y (digit_value x * 16 + digit_value y) b refl f of_y (rw (f, of_y, e, h) refl) (rw g (low_turn test start o (digit_value x) y (y ∷ b) b (past p) t hex refl))
+    | inr h ↦
+        let no_hex : is_hex y ≡ false = same_digit y ∙ h in
+        no_octets (rw f (second_by (class y) x y (leading class b) e h)) (rw (g, no_hex) refl)
+  ]
 
   octets_at : (o : Octet) (a : List ℕ) (p : Position) (t : List ℕ) → Octets o a p t
-  octets_at o [] p t = no_octets nothing refl
-  octets_at o (x ∷ r) p t = by (is_digit x 16) refl
-    where
-      by : (d : Bool) → is_digit x 16 ≡ d → Octets o (x ∷ r) p t
-      by true e = second_octet o x r p t e (of_class x e) (same_digit x ∙ e)
-      by false e = let no_hex : is_hex x ≡ false = same_digit x ∙ e in no_octets (none_by (class x) x (leading class r) e) (rw no_hex refl)
+  unfolding octet_at
+  octets_at o [] p t = no_octets refl refl
+  octets_at o (x ∷ r) p t = elim (cases_Bool (is_digit x 16)) [
+    | inl e ↦ second_octet o x r p t e (of_class x e) (same_digit x ∙ e)
+    | inr e ↦ let no_hex : is_hex x ≡ false = same_digit x ∙ e in no_octets (none_by (class x) x (leading class r) e) (rw no_hex refl)
+  ]
 
   abbrev Plain : List ℕ → Type 0
   Plain a = (p : Position) (t : List ℕ) → scan a p t ≡ answer a p t (decoded (leading class a))
@@ -162,12 +126,10 @@ module _ (test class : ℕ → Bool) (start : Position) (same : (c : ℕ) → cl
 
   -- a code that is completed
   whole_code : (code least : ℕ) (a : List ℕ) (p : Position) (t : List ℕ) → Plain a → trails_from test start 0 code least a p t ≡ answer a p t (completed least (Ok code) (decoded (leading class a)))
-  whole_code code least a p t here = rw (same_code code) (by (nat_le least code && is_character_code code))
-    where
-      by : (b : Bool) → and_then (if b then Ok (record { mode = plain; position = p; text = t ++ code ∷ [] }) else Err (At problem.TagCodepoint start)) (λ s. uri_from test start a s)
-          ≡ answer a p t (if b then put_code code (decoded (leading class a)) else Err no_character)
-      by true = here p (t ++ code ∷ []) ∙ with_code code a p t (decoded (leading class a))
-      by false = refl
+  whole_code code least a p t here = rw (same_code code) (elim (cases_Bool (nat_le least code && is_character_code code)) [
+    | inl e ↦ rw e (here p (t ++ code ∷ []) ∙ with_code code a p t (decoded (leading class a)))
+    | inr e ↦ rw e refl
+  ])
 
   three_off : (left x y z : ℕ) (l : List ℕ) → drop (3 * suc left) (x ∷ y ∷ z ∷ l) ≡ drop (3 * left) l
   three_off left x y z l = let e : 3 * suc left ≡ suc (suc (suc (3 * left))) = omega arith in rw e refl
@@ -176,25 +138,20 @@ module _ (test class : ℕ → Bool) (start : Position) (same : (c : ℕ) → cl
   next_octet : (left code least x y n : ℕ) (b : List ℕ) (p : Position) (t : List ℕ) → Trails left → ((k : ℕ) → Plain (drop k b)) → class x ≡ true → class y ≡ true → octet_at (37 ∷ x ∷ y ∷ leading class b) ≡ Some n
       → octet_from test start (trail left code least) n b (past (past (past p))) t
       ≡ answer (37 ∷ x ∷ y ∷ b) p t (completed least (trail_by (octet_at (37 ∷ x ∷ y ∷ leading class b)) code (λ k. trails left k (leading class b))) (decoded_after 0 (drop (3 * left) (leading class b))))
-  next_octet left code least x y n b p t others plains e f oc = rw (oc, same_trail n) (by (is_trail n))
-    where
-      by : (trails_on : Bool) → and_then (if trails_on then at_trail start left (code * 64 + (n - 128)) least (past (past (past p))) t else Err (At problem.TagTrailingOctet start)) (λ s. uri_from test start b s)
-          ≡ answer (37 ∷ x ∷ y ∷ b) p t (completed least (if trails_on then trails left (code * 64 + (n - 128)) (leading class b) else Err wrong_trail) (decoded_after 0 (drop (3 * left) (leading class b))))
-      by true = others (code * 64 + (n - 128)) least b (past (past (past p))) t plains ∙ three_more x y b p t _ e f
-      by false = refl
+  next_octet left code least x y n b p t others plains e f oc = rw (oc, same_trail n) (elim (cases_Bool (is_trail n)) [
+    | inl g ↦ rw g (others (code * 64 + (n - 128)) least b (past (past (past p))) t plains ∙ three_more x y b p t _ e f)
+    | inr g ↦ rw g refl
+  ])
 
   leads : class 37 ≡ true
   leads = same 37 ∙ percents
-
-  after_two : (a b : List ℕ) (x y : ℕ) → a ≡ x ∷ y ∷ b → ((k : ℕ) → Plain (drop k (37 ∷ a))) → (k : ℕ) → Plain (drop k b)
-  after_two a b x y cut plains k = subst (λ (l : List ℕ). Plain (drop (suc (suc k)) l)) cut (plains (suc (suc (suc k))))
 
   after_percent : (left code least : ℕ) (a : List ℕ) (p : Position) (t : List ℕ) → Trails left → ((k : ℕ) → Plain (drop k (37 ∷ a))) → Octets (trail left code least) a (past p) t
       → trails_from test start (suc left) code least (37 ∷ a) p t ≡ answer (37 ∷ a) p t (completed least (trails (suc left) code (37 ∷ leading class a)) (decoded_after 0 (drop (3 * suc left) (37 ∷ leading class a))))
   after_percent left code least a p t others plains (octet x y n b cut e f oc is) =
       let here = rw cut at is in
       let known = rw (cut, e, f) at oc in
-      rw (cut, e, f, three_off left 37 x y (leading class b)) (here ∙ next_octet left code least x y n b p t others (after_two a b x y cut plains) e f known)
+      rw (cut, e, f, three_off left 37 x y (leading class b)) (here ∙ next_octet left code least x y n b p t others (λ k. subst (λ (l : List ℕ). Plain (drop (suc (suc k)) l)) cut (plains (suc (suc (suc k))))) e f known)
   after_percent left code least a p t others plains (no_octets oc is) = is ∙ rw oc refl
 
   no_percent : (c : ℕ) (l : List ℕ) (b : Bool) → (c == 37) ≡ false → octet_at (if b then c ∷ l else []) ≡ None
@@ -204,21 +161,16 @@ module _ (test class : ℕ → Bool) (start : Position) (same : (c : ℕ) → cl
   no_percent c (x ∷ []) true e = refl
   no_percent c (x ∷ y ∷ l) true e = rw e refl
 
-  empty : octet_at [] ≡ None
-  unfolding octet_at
-  empty = refl
-
   trailing : (left : ℕ) → Trails left
+  unfolding octet_at
   trailing zero code least a p t plains = whole_code code least a p t (plains 0)
-  trailing (suc left) code least [] p t plains = rw empty refl
-  trailing (suc left) code least (c ∷ a) p t plains = by (trailing left) (c == 37) refl
-    where
-      by : Trails left → (percents : Bool) → (c == 37) ≡ percents
-          → trails_from test start (suc left) code least (c ∷ a) p t ≡ answer (c ∷ a) p t (completed least (trails (suc left) code (leading class (c ∷ a))) (decoded_after 0 (drop (3 * suc left) (leading class (c ∷ a)))))
-      by others true e =
-          let is_percent : c ≡ 37 = eqb-true c 37 e in
-          rw (is_percent, leads) (after_percent left code least a p t others (subst (λ (d : ℕ). (k : ℕ) → Plain (drop k (d ∷ a))) is_percent plains) (octets_at (trail left code least) a (past p) t))
-      by others false e = rw (e, no_percent c (leading class a) (class c) e) refl
+  trailing (suc left) code least [] p t plains = refl
+  trailing (suc left) code least (c ∷ a) p t plains = elim (cases_Bool (c == 37)) [
+    | inl e ↦
+        let is_percent : c ≡ 37 = eqb-true c 37 e in
+        rw (is_percent, leads) (after_percent left code least a p t (trailing left) (subst (λ (d : ℕ). (k : ℕ) → Plain (drop k (d ∷ a))) is_percent plains) (octets_at (trail left code least) a (past p) t))
+    | inr e ↦ rw (e, no_percent c (leading class a) (class c) e) refl
+  ]
 
   -- ---- the whole text
 
@@ -236,16 +188,13 @@ module _ (test class : ℕ → Bool) (start : Position) (same : (c : ℕ) → cl
           ∙ three_more x y b p t _ e f
           ∙ ap (answer (37 ∷ x ∷ y ∷ b) p t) (sym (is_completed l (trails l.further l.bits (leading class b)) x y (leading class b)))
 
-  after_digits : (a b : List ℕ) (x y : ℕ) → a ≡ x ∷ y ∷ b → ((k : ℕ) → Plain (drop k a)) → (k : ℕ) → Plain (drop k b)
-  after_digits a b x y cut plains k = subst (λ (l : List ℕ). Plain (drop (suc (suc k)) l)) cut (plains (suc (suc k)))
-
   at_percent : (a : List ℕ) (p : Position) (t : List ℕ) → ((k : ℕ) → Plain (drop k a)) → Octets lead a (past p) t → scan (37 ∷ a) p t ≡ answer (37 ∷ a) p t (decoded (37 ∷ leading class a))
   unfolding uri_character escaped_character
   at_percent a p t plains (octet x y n b cut e f oc is) =
       let here = rw cut at is in
       let known = rw (cut, e, f) at oc in
       let span : leading class (x ∷ y ∷ b) ≡ x ∷ y ∷ leading class b = rw (e, f) refl in
-      rw (percents, cut) (here ∙ led x y n b p t (after_digits a b x y cut plains) e f known ∙ ap (λ l. answer (37 ∷ x ∷ y ∷ b) p t (decoded (37 ∷ l))) (sym span))
+      rw (percents, cut) (here ∙ led x y n b p t (λ k. subst (λ (l : List ℕ). Plain (drop (suc (suc k)) l)) cut (plains (suc (suc k)))) e f known ∙ ap (λ l. answer (37 ∷ x ∷ y ∷ b) p t (decoded (37 ∷ l))) (sym span))
   at_percent a p t plains (no_octets oc is) = rw percents (is ∙ rw oc refl)
 
   -- where no character of the class stands
@@ -272,21 +221,13 @@ module _ (test class : ℕ → Bool) (start : Position) (same : (c : ℕ) → cl
   all_read (suc n) (c ∷ a) p t = all_read n a p t
   all_read zero (c ∷ a) p t = first_by c a (λ n. all_read n a) (class c) (c == 37) refl refl p t
 
-hex_is_word : (c : ℕ) → is_hex c ≡ true → is_alphanumeric c ≡ true
-unfolding is_hex is_alphanumeric
-hex_is_word c h = grind (arith, nat_tests)
-
-hex_is_no_flow : (c : ℕ) → is_hex c ≡ true → (is_flow c ≡ false) × ((c == 33) ≡ false)
-unfolding is_hex is_flow
-hex_is_no_flow c h = (grind (arith, nat_tests), grind (arith, nat_tests))
-
 hex_is_uri : (c : ℕ) → is_digit c 16 ≡ true → is_uri c ≡ true
-unfolding is_uri
-hex_is_uri c h = let word : is_alphanumeric c ≡ true = hex_is_word c (same_digit c ∙ h) in rw word refl
+unfolding is_uri is_alphanumeric is_uri_mark
+hex_is_uri c h = grind (arith, nat_tests)
 
 hex_is_tag : (c : ℕ) → is_digit c 16 ≡ true → is_tag c ≡ true
-unfolding is_tag
-hex_is_tag c h = let no_flow = hex_is_no_flow c (same_digit c ∙ h) in let uri : is_uri c ≡ true = hex_is_uri c h in rw (uri, no_flow.0, no_flow.1) refl
+unfolding is_tag is_uri is_alphanumeric is_uri_mark is_flow
+hex_is_tag c h = grind (arith, nat_tests)
 
 pub uris_are_read : UrisAreRead
 unfolding is_uri is_alphanumeric is_uri_mark is_flow is_tag

@@ -1,15 +1,8 @@
 -- The model over the elements of a body, up to its closing quote.
-use Rattle.std.proofs.Common.{◌≡◌, ℕ, zero, suc, ◌+◌, List, [], ◌∷◌, ◌++◌, Bool, true, false, ◌||◌, ◌&&◌, not, ◌==◌, if◌then◌else◌, Option, Some, None, Result, Ok, Err, refl, ap, sym, ◌∙◌, append-nil, nat_lt, slice_index, drop}
-use Rattle.std.proofs.lemmas.Bool.{not-true}
-use Rattle.proof_lexers.proofs.Common.{after_element, after_elements, At, at_marker, by_line, Context, double_quoted_element, Element, element_of, elements, ends_before, Fault, Folded, gap, has_marker, is_document_marker, is_empty, IsShallow, joined, nothing, Position, quote_of, Read, Spelled}
-use Rattle.yaml_chars.specs.Class.{is_break, is_blank}
+use Rattle.proof_lexers.proofs.Common.{[], after_element, after_elements, after_gap, after_quote, ap, append-nil, At, at_marker, Bool, by_line, cases_Bool, closed, closed_end, Context, double_quoted_element, drop, Element, element_of, elements, ends_before, Err, false, Fault, first, Folded, followed, gap, has_marker, inl, inr, inside, is_blank, is_break, is_document_marker, IsShallow, joined, List, Mode, nat_lt, None, not-true, nothing, Ok, Option, past, Position, put_before, quote_of, Read, read, refl, refused, Result, shallow, slice_index, Some, Spelled, suc, sym, true, zero, ℕ, ◌&&◌, ◌++◌, ◌+◌, ◌==◌, ◌||◌, ◌∙◌, ◌∷◌, ◌≡◌}
 use Rattle.yaml_tokens.specs.declared.problem.Problem.TheVariants as problem
 use Rattle.defs_text.specs.Classes as classes
-use Rattle.defs_text.specs.FlowScalar.{followed, put_before}
-use Rattle.model_scanner.specs.Machine.{past}
-use Rattle.model_scanner.specs.Quoted.{Mode, first, inside, closed, refused}
-use Rattle.model_scanner.proofs.QuotedLemmas.{after_gap, after_quote, closed_end}
-use Rattle.proof_lexers.specs.QuotedScan.{by_tab, IsRead, read, shallow}
+use Rattle.proof_lexers.specs.QuotedScan.{IsRead}
 use Rattle.proof_lexers.proofs.Quoted.Turns.{no_marker, off_margin, Ready, in_gap, after_escaped, scan, Begun, begun, marked, begins, Step, steps, is_marked, is_shallow, StepOf, inside_is_gap, may_stand}
 use Rattle.proof_lexers.proofs.Quoted.Turns as turns
 use Rattle.proof_lexers.proofs.Quoted.Elements.{step}
@@ -25,8 +18,7 @@ pub data Passed (single : Bool) (ctx : Context) (start : Position) (x : Result (
   was_shallow : IsShallow ctx start x → Passed single ctx start x a r col t
 
 shallow_on : (ctx : Context) (start : Position) (x y : Result (Read (List ℕ)) Fault) → x ≡ y → IsShallow ctx start y → IsShallow ctx start x
-shallow_on ctx start x y e (by_line p h f) = by_line p h (e ∙ f)
-shallow_on ctx start x y e (by_tab p h f) = by_tab p h (e ∙ f)
+shallow_on ctx start x y e z = rw e z
 
 passed_on : (single : Bool) (ctx : Context) (start : Position) (x y : Result (Read (List ℕ)) Fault) (a b r : List ℕ) (col n : ℕ) (t : Folded) → x ≡ y → marked_from col a r ≡ marked_from n b r
     → Passed single ctx start y b r n t → Passed single ctx start x a r col t
@@ -51,12 +43,10 @@ quote_solid false = refl
 -- in double quotes no element begins with the quote
 no_quote : (c : ℕ) (b : List ℕ) (s : Spelled) → double_quoted_element c b ≡ Some s → (c == 34) ≡ false
 unfolding double_quoted_element
-no_quote c b s h = by (classes.is_nul c) (c == 34) refl refl
-  where
-    by : (nul quote : Bool) → classes.is_nul c ≡ nul → (c == 34) ≡ quote → (c == 34) ≡ false
-    by true quote e f = let x : None ≡ Some s = rw e at h in cc
-    by false true e f = let x : None ≡ Some s = rw (e, f) at h in cc
-    by false false e f = f
+no_quote c b s h = elim (cases_Bool (c == 34)) [
+  | inr e ↦ e
+  | inl e ↦ elim (cases_Bool (classes.is_nul c)) [ inl f ↦ let x : None ≡ Some s = rw f at h in cc | inr f ↦ let x : None ≡ Some s = rw (f, e) at h in cc ]
+]
 
 module _ (single : Bool) (ctx : Context) (start : Position) where
   -- an element may begin after an escaped break as in a gap
@@ -103,14 +93,9 @@ module _ (single : Bool) (ctx : Context) (start : Position) where
 
   -- ---- the opening quote
 
-  first_by : (c : ℕ) (a : List ℕ) (p : Position) (white : Bool) → (is_break c || is_blank c) ≡ white → (p.col == 0) ≡ false → nat_lt (p.col + 1) ctx.indent ≡ false
-      → scan single ctx start (c ∷ a) first p nothing ≡ scan single ctx start (c ∷ a) gap p nothing
-  first_by c a p true g e f = rw (may_stand single ctx start (c ∷ a) p e f, g) refl
-  first_by c a p false g e f = rw g refl
-
   pub first_is_gap : (a : List ℕ) (p : Position) → (p.col == 0) ≡ false → nat_lt (p.col + 1) ctx.indent ≡ false → scan single ctx start a first p nothing ≡ scan single ctx start a gap p nothing
   first_is_gap [] p e f = refl
-  first_is_gap (c ∷ a) p e f = first_by c a p (is_break c || is_blank c) refl e f
+  first_is_gap (c ∷ a) p e f = elim (cases_Bool (is_break c || is_blank c)) [ inl g ↦ rw (may_stand single ctx start (c ∷ a) p e f, g) refl | inr g ↦ rw g refl ]
 
   pub first_fails : (c : ℕ) (a : List ℕ) (p : Position) → (p.col == 0) ≡ false → nat_lt (p.col + 1) ctx.indent ≡ true → scan single ctx start (c ∷ a) first p nothing ≡ Err (At problem.QuotedIndentation start)
   unfolding refused at_marker
@@ -121,33 +106,22 @@ module _ (single : Bool) (ctx : Context) (start : Position) where
     opened : scan single ctx start a first p nothing ≡ scan single ctx start a gap p nothing → Opened a p
     not_opened : IsShallow ctx start (scan single ctx start a first p nothing) → Opened a p
 
-  open_by : (a : List ℕ) (p : Position) (deep : Bool) → nat_lt (p.col + 1) ctx.indent ≡ deep → (p.col == 0) ≡ false → Opened a p
-  open_by a p false f e = opened (first_is_gap a p e f)
-  open_by [] p true f e = opened refl
-  open_by (c ∷ a) p true f e = not_opened (by_line p f (first_fails c a p e f))
-
   pub opens : (a : List ℕ) (p : Position) → (p.col == 0) ≡ false → Opened a p
-  opens a p e = open_by a p (nat_lt (p.col + 1) ctx.indent) refl e
+  opens [] p e = opened refl
+  opens (c ∷ a) p e = elim (cases_Bool (nat_lt (p.col + 1) ctx.indent)) [ inl f ↦ not_opened (by_line p f (first_fails c a p e f)) | inr f ↦ opened (first_is_gap (c ∷ a) p e f) ]
 
   -- ---- the closing quote
 
-  closes_text : (r : List ℕ) (p : Position) (u : Folded) → scan single ctx start r closed p u ≡ Ok (record { rest = r; position = p; value = u.text })
-  closes_text r p u = closed_end single ctx start r p u
-
   open_gap : (t : Folded) → t.gap ≡ [] → t.escaped ≡ true → t.text ≡ (joined t).text
-  open_gap t e f = by t.leading
-    where
-      by : (leading : Bool) → t.text ≡ t.text ++ (if leading && not t.escaped && is_empty t.gap then 32 ∷ [] else t.gap)
-      by true = rw (f, e) (sym (append-nil t.text))
-      by false = rw e (sym (append-nil t.text))
+  open_gap t e f = elim (cases_Bool t.leading) [ inl g ↦ rw (g, f, e) (sym (append-nil t.text)) | inr g ↦ rw (g, e) (sym (append-nil t.text)) ]
 
 closes : (single : Bool) (ctx : Context) (start : Position) (r : List ℕ) (p : Position) (u : Folded) → ends_before single r ≡ true → scan single ctx start (quote_of single ∷ r) inside p u ≡ Ok (record { rest = r; position = past p; value = u.text })
 unfolding is_break is_blank
 closes true ctx start [] p u e = refl
 closes true ctx start (d ∷ r) p u e = let one : (d == 39) ≡ false = not-true (d == 39) e in rw one refl
-closes false ctx start r p u e = closes_text false ctx start r (past p) u
+closes false ctx start r p u e = closed_end false ctx start r (past p) u
 
-no_mark : (x y : Bool) → y ≡ false → (x && y) ≡ true → ⊥
+pub no_mark : (x y : Bool) → y ≡ false → (x && y) ≡ true → ⊥
 no_mark true y e f = cc
 no_mark false y e f = cc
 

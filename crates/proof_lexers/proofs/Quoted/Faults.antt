@@ -1,32 +1,13 @@
 -- Escapes that are none are refused.
-use Rattle.std.proofs.Common.{◌≡◌, ℕ, zero, suc, ◌+◌, ◌*◌, List, [], ◌∷◌, Bool, true, false, ◌==◌, if◌then◌else◌, Option, Some, None, Err, refl, ap, sym, ◌∙◌, arith, take, length}
-use Rattle.std.specs.Char.{digit_value, is_digit}
-use Rattle.std.proofs.lemmas.Bool.Decides.{nat_tests}
-use Rattle.proof_lexers.proofs.Common.{At, break_further, Context, digits_from, escape, escape_by, escaped_break, escapes, Folded, hexadecimal, is_character_code, lookup, numbered, numeric_escape, numeric_escapes, Position}
-use Rattle.yaml_chars.specs.Class.{is_break, is_blank}
-use Rattle.yaml_tokens.specs.declared.problem.Problem.{Problem}
+use Rattle.std.specs.Char.{is_digit}
+use Rattle.proof_lexers.proofs.Common.{[], ap, arith, At, Bool, break_further, cases_Bool, coded_fails, content, Context, digit_fails, digit_turn, digit_value, digits_from, Err, escape, escape_by, escaped_break, escapes, false, Folded, hexadecimal, if◌then◌else◌, inl, inr, inside, is_blank, is_break, is_character_code, IsBadEscape, length, List, lookup, named_code, named_unknown, nat_tests, no_digit, None, number_at, numbered, numeric_escape, numeric_escapes, Option, past, Position, Problem, refl, Some, suc, sym, take, true, zero, ℕ, ◌*◌, ◌+◌, ◌==◌, ◌∙◌, ◌∷◌, ◌≡◌}
 use Rattle.yaml_tokens.specs.declared.problem.Problem.TheVariants as problem
 use Rattle.defs_text.specs.Classes as classes
-use Rattle.defs_text.specs.FlowScalar.{content}
-use Rattle.model_scanner.specs.Machine.{past}
-use Rattle.model_scanner.specs.Quoted.{inside, named}
-use Rattle.model_scanner.proofs.QuotedLemmas.{named_code, named_unknown, digit_turn, digit_fails, coded_fails}
-use Rattle.proof_lexers.specs.QuotedEnds.{number_at, IsBadEscape, ends, unknown, no_digit, no_character}
-use Rattle.proof_lexers.proofs.Bridges.{same_break, same_digit, same_code, same_escape}
+use Rattle.model_scanner.specs.Quoted.{named}
+use Rattle.proof_lexers.specs.QuotedEnds.{ends, unknown, no_character}
+use Rattle.proof_lexers.proofs.Bridges.{same_break, same_digit, same_code, same_escape, both}
 use Rattle.proof_lexers.proofs.Quoted.Turns.{scan, spelled}
-use Rattle.proof_lexers.proofs.Quoted.Elements.{has_digits}
-
-same_length : (n m : ℕ) → (suc n == suc m) ≡ (n == m)
-same_length n m = by (suc n == suc m) (n == m) refl refl
-  where
-    by : (b c : Bool) → (suc n == suc m) ≡ b → (n == m) ≡ c → b ≡ c
-    by true true e f = refl
-    by true false e f = grind (arith, nat_tests)
-    by false true e f = grind (arith, nat_tests)
-    by false false e f = refl
-
-too_short : (n : ℕ) → (zero == suc n) ≡ false
-too_short n = grind (arith, nat_tests)
+use Rattle.proof_lexers.proofs.Quoted.Elements.{has_digits, same_length, too_short}
 
 -- the number of so many digits after a value, if they are there
 abbrev number_after : ℕ → ℕ → List ℕ → Option ℕ
@@ -37,36 +18,29 @@ module _ (ctx : Context) (start : Position) where
   digits_fail : (n value : ℕ) (b : List ℕ) (p : Position) (u : Folded) → number_after n value b ≡ None → digits_from false ctx start n value b p u ≡ Err (At problem.HexadecimalDigit start)
   digits_fail zero value b p u h = cc
   digits_fail (suc n) value [] p u h = refl
-  digits_fail (suc n) value (c ∷ b) p u h = by (is_digit c 16) refl (λ more. digits_fail n (value * 16 + digit_value c) b (past p) u more) h
-    where
-      by : (digit : Bool) → is_digit c 16 ≡ digit
-          → (number_after n (value * 16 + digit_value c) b ≡ None → digits_from false ctx start n (value * 16 + digit_value c) b (past p) u ≡ Err (At problem.HexadecimalDigit start))
-          → number_after (suc n) value (c ∷ b) ≡ None → digits_from false ctx start (suc n) value (c ∷ b) p u ≡ Err (At problem.HexadecimalDigit start)
-      by true e others none =
-          let same = same_length (length (take n b)) n in
-          let fewer : number_after n (value * 16 + digit_value c) b ≡ None = rw (same, e) at none in
-          digit_turn false ctx start n value c (c ∷ b) b p u (rw (same_digit c) e) refl ∙ others fewer
-      by false e others none = digit_fails false ctx start n value c (c ∷ b) p u (rw (same_digit c) e) refl
+  digits_fail (suc n) value (c ∷ b) p u h = elim (cases_Bool (is_digit c 16)) [
+    | inl e ↦
+        let same = same_length (length (take n b)) n in
+        let fewer : number_after n (value * 16 + digit_value c) b ≡ None = rw (same, e) at h in
+        digit_turn false ctx start n value c (c ∷ b) b p u (rw (same_digit c) e) refl ∙ digits_fail n (value * 16 + digit_value c) b (past p) u fewer
+    | inr e ↦ digit_fails false ctx start n value c (c ∷ b) p u (rw (same_digit c) e) refl
+  ]
 
   -- A code is no character's.
   code_fails : (n value code : ℕ) (b : List ℕ) (p : Position) (u : Folded) → number_after n value b ≡ Some code → is_character_code code ≡ false → digits_from false ctx start n value b p u ≡ Err (At problem.EscapedCode start)
   code_fails zero value code b p u h bad = let same : value ≡ code = cc in coded_fails false ctx start value b p u (same_code value ∙ ap is_character_code same ∙ bad)
   code_fails (suc n) value code [] p u h bad = let short = too_short n in let none : None ≡ Some code = rw short at h in cc
-  code_fails (suc n) value code (c ∷ b) p u h bad = by (is_digit c 16) refl (λ more. code_fails n (value * 16 + digit_value c) code b (past p) u more bad) h
+  code_fails (suc n) value code (c ∷ b) p u h bad = elim (cases_Bool (is_digit c 16)) [
+    | inl e ↦
+        let same = same_length (length (take n b)) n in
+        let fewer : number_after n (value * 16 + digit_value c) b ≡ Some code = rw (same, e) at h in
+        digit_turn false ctx start n value c (c ∷ b) b p u (rw (same_digit c) e) refl ∙ code_fails n (value * 16 + digit_value c) code b (past p) u fewer bad
+    | inr e ↦ none_more (length (c ∷ take n b) == suc n) (rw e at h)
+  ]
     where
-      by : (digit : Bool) → is_digit c 16 ≡ digit
-          → (number_after n (value * 16 + digit_value c) b ≡ Some code → digits_from false ctx start n (value * 16 + digit_value c) b (past p) u ≡ Err (At problem.EscapedCode start))
-          → number_after (suc n) value (c ∷ b) ≡ Some code → digits_from false ctx start (suc n) value (c ∷ b) p u ≡ Err (At problem.EscapedCode start)
-      by true e others some =
-          let same = same_length (length (take n b)) n in
-          let fewer : number_after n (value * 16 + digit_value c) b ≡ Some code = rw (same, e) at some in
-          digit_turn false ctx start n value c (c ∷ b) b p u (rw (same_digit c) e) refl ∙ others fewer
-      by false e others some = none_more (length (c ∷ take n b) == suc n) e some
-        where
-          none_more : (many : Bool) → is_digit c 16 ≡ false → (if many then (if is_digit c 16 then hexadecimal (value * 16 + digit_value c) (take n b) else None) else None) ≡ Some code
-              → digits_from false ctx start (suc n) value (c ∷ b) p u ≡ Err (At problem.EscapedCode start)
-          none_more true f h = let none : None ≡ Some code = rw f at h in cc
-          none_more false f h = cc
+      none_more : (many : Bool) → (if many then None else None) ≡ Some code → digits_from false ctx start (suc n) value (c ∷ b) p u ≡ Err (At problem.EscapedCode start)
+      none_more true h = cc
+      none_more false h = cc
 
   -- ---- an escape
 
@@ -106,11 +80,7 @@ module _ (ctx : Context) (start : Position) where
 
   numbers_are : (n : ℕ) (b : List ℕ) → numeric_escape n b ≡ None → numbered n (number_at n b) ≡ None
   unfolding numeric_escape
-  numbers_are n b h = by (length (take n b) == n) h
-    where
-      by : (many : Bool) → (if many then numbered n (hexadecimal 0 (take n b)) else None) ≡ None → numbered n (if many then hexadecimal 0 (take n b) else None) ≡ None
-      by true h = h
-      by false h = refl
+  numbers_are n b h = elim (cases_Bool (length (take n b) == n)) [ inl e ↦ rw e (rw e at h) | inr e ↦ rw e refl ]
 
   rows_fail : (d : ℕ) (b : List ℕ) (p : Position) (u : Folded) (o n : Option ℕ) → is_break d ≡ false → lookup d escapes ≡ o → lookup d numeric_escapes ≡ n → escape_by o n b ≡ None → Fails (d ∷ b) p u
   rows_fail d b p u (Some code) n e f g h = cc
@@ -120,12 +90,7 @@ module _ (ctx : Context) (start : Position) where
   pub escape_fails : (b : List ℕ) (p : Position) (u : Folded) → escape b ≡ None → Fails b p u
   unfolding escape is_break is_blank
   escape_fails [] p u h = record { why = problem.UnknownEscape; bad = ends; is = refl }
-  escape_fails (d ∷ b) p u h = by (classes.is_break d) refl h (λ e more. rows_fail d b p u (lookup d escapes) (lookup d numeric_escapes) (same_break' d e) refl refl more)
-    where
-      same_break' : (c : ℕ) → classes.is_break c ≡ false → is_break c ≡ false
-      same_break' c e = sym (same_break c) ∙ e
-
-      by : (breaks : Bool) → classes.is_break d ≡ breaks → (if breaks then Some (spelled escaped_break (suc (break_further d b))) else escape_by (lookup d escapes) (lookup d numeric_escapes) b) ≡ None
-          → (classes.is_break d ≡ false → escape_by (lookup d escapes) (lookup d numeric_escapes) b ≡ None → Fails (d ∷ b) p u) → Fails (d ∷ b) p u
-      by true e h others = cc
-      by false e h others = others e h
+  escape_fails (d ∷ b) p u h = elim (cases_Bool (classes.is_break d)) [
+    | inl e ↦ let no : Some (spelled escaped_break (suc (break_further d b))) ≡ None = rw e at h in cc
+    | inr e ↦ rows_fail d b p u (lookup d escapes) (lookup d numeric_escapes) (sym (same_break d) ∙ e) refl refl (rw e at h)
+  ]

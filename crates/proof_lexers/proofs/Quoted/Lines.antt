@@ -1,13 +1,6 @@
 -- A text in quotes on one line is read as the text, in double quotes and in single ones.
-use Rattle.std.proofs.Common.{◌≡◌, ℕ, suc, ◌+◌, ◌*◌, ◌≤◌, List, [], ◌∷◌, ◌++◌, Bool, true, false, not, ◌||◌, ◌&&◌, ◌==◌, slice_index, flat_map, map, Result, Ok, refl, ap, ◌∙◌, append_assoc, append-nil, arith}
-use Rattle.std.specs.Char.{digit_value}
-use Rattle.std.proofs.lemmas.Bool.{ne_eqb, le-ltb}
-use Rattle.proof_lexers.proofs.Common.{along, at_marker, Context, digits_from, escape_of, Fault, Folded, gap, is_hex, nothing, Position, quote_of, quoted, Read}
-use Rattle.yaml_chars.specs.Class.{is_break, is_blank}
-use Rattle.model_scanner.specs.Machine.{past}
-use Rattle.model_scanner.specs.Quoted.{QuotedState, inside, quoted_from, refused, is_scalar}
+use Rattle.proof_lexers.proofs.Common.{[], along, ap, append-nil, append_assoc, arith, at_marker, Bool, cases_Bool, closed_end, coded, Context, digit_turn, digit_value, digits_from, escape_of, false, Fault, flat_map, Folded, gap, inl, inr, inside, is_blank, is_break, is_hex, is_scalar, le-ltb, List, map, ne_eqb, not, nothing, Ok, past, Position, quote_of, quoted, quoted_from, QuotedState, Read, refl, refused, Result, slice_index, suc, true, ℕ, ◌&&◌, ◌*◌, ◌++◌, ◌+◌, ◌==◌, ◌||◌, ◌∙◌, ◌∷◌, ◌≡◌, ◌≤◌}
 use Rattle.model_scanner.specs.Quoted
-use Rattle.model_scanner.proofs.QuotedLemmas.{digit_turn, closed_end, coded}
 use Rattle.proof_lexers.proofs.Along.{along_append, along_more}
 
 -- where the text of a line may stand
@@ -35,13 +28,9 @@ module _ (single : Bool) (ctx : Context) (start : Position) where
   abbrev pub scan : List ℕ → QuotedState → Result (Read (List ℕ)) Fault
   scan a s = quoted_from single ctx start a s
 
-  same_by : (c : ℕ) (a : List ℕ) (p : Position) (text : List ℕ) (b : Bool) → (is_break c || is_blank c) ≡ b → IsIn ctx p → scan (c ∷ a) (within p text) ≡ scan (c ∷ a) (at p text [])
-  same_by c a p text true e h = rw e refl
-  same_by c a p text false e h = rw (e, may_stand (c ∷ a) p h, append-nil) refl
-
   same : (a : List ℕ) (p : Position) (text : List ℕ) → IsIn ctx p → scan a (within p text) ≡ scan a (at p text [])
   same [] p text h = refl
-  same (c ∷ a) p text h = same_by c a p text (is_break c || is_blank c) refl h
+  same (c ∷ a) p text h = elim (cases_Bool (is_break c || is_blank c)) [ inl e ↦ rw e refl | inr e ↦ rw (e, may_stand (c ∷ a) p h, append-nil) refl ]
 
   -- what is no blank is read as within the line
   joins : (c : ℕ) (a : List ℕ) (p : Position) (text blanks : List ℕ) → (is_break c || is_blank c) ≡ false → IsIn ctx p → scan (c ∷ a) (at p text blanks) ≡ scan (c ∷ a) (within p (text ++ blanks))
@@ -141,9 +130,6 @@ module _ (ctx : Context) (start : Position) where
 
 -- ---- the whole scalar
 
-last_along : (c : ℕ) (w : List ℕ) (p : Position) → along (w ++ c ∷ []) p ≡ past (along w p)
-last_along c w p = along_append w (c ∷ []) p
-
 -- from its opening quote on, before what is no second quote
 pub line_read : (single : Bool) (ctx : Context) (X : Type 0) (written : X → List ℕ) (char : X → ℕ) (xs : List X) (r : List ℕ) (p : Position) → AreWritten single ctx p X written char xs → ctx.indent ≤ p.col + 2 → (single && (slice_index r 0 == 39)) ≡ false
     → quoted single ctx (quote_of single ∷ (flat_map written xs ++ quote_of single ∷ r)) p ≡ Ok (record { rest = r; position = along (quote_of single ∷ (flat_map written xs ++ quote_of single ∷ [])) p; value = map char xs })
@@ -151,5 +137,5 @@ unfolding quoted
 line_read single ctx X written char xs r p are deep e =
     let h : IsIn ctx (past p) = (omega arith, omega (arith, deep)) in
     let a = flat_map written xs ++ quote_of single ∷ r in
-    rw (last_along (quote_of single) (flat_map written xs) (past p))
+    rw (along_append (flat_map written xs) (quote_of single ∷ []) (past p))
     (any_turn single ctx p a (past p) h ∙ same single ctx p a (past p) [] h ∙ line_goes single ctx p X written char xs r [] [] (past p) are h e)

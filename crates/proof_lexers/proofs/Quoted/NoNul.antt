@@ -1,10 +1,6 @@
 -- A body that has elements has no NUL, and a line of it begins with a marker before the closing quote just where it does in the body.
-use Rattle.std.proofs.Common.{◌≡◌, ℕ, zero, suc, ◌+◌, List, [], ◌∷◌, ◌++◌, Bool, true, false, ◌||◌, ◌&&◌, ◌==◌, Option, Some, None, refl, ap, ◌∙◌, drop, nat_lt, arith}
-use Rattle.std.specs.List.{list_all}
-use Rattle.std.proofs.lemmas.Bool.{and_parts, not-true, le-ltb}
-use Rattle.proof_lexers.proofs.Common.{begins_with_marker, by_line, Context, Element, element_of, elements, has_document_marker, has_marker, is_document_marker, nothing, Position, quote_of, Spelled}
+use Rattle.proof_lexers.proofs.Common.{[], and_parts, ap, arith, begins_with_marker, Bool, by_line, Context, drop, Element, element_of, elements, false, followed, has_document_marker, has_marker, is_document_marker, le-ltb, List, list_all, nat_lt, None, not-true, nothing, Option, Position, put_before, quote_of, refl, Some, Spelled, suc, true, zero, ℕ, ◌&&◌, ◌++◌, ◌+◌, ◌==◌, ◌||◌, ◌∙◌, ◌∷◌, ◌≡◌}
 use Rattle.defs_text.specs.Classes as classes
-use Rattle.defs_text.specs.FlowScalar.{followed, put_before}
 use Rattle.proof_lexers.proofs.Bridges.{and_false, or_false}
 use Rattle.proof_lexers.specs.QuotedScan.{is_some, by_tab}
 use Rattle.proof_lexers.proofs.Quoted.Turns.{no_marker, Step, steps, is_marked, is_shallow, StepOf}
@@ -48,13 +44,6 @@ module _ (single : Bool) where
 
 -- ---- document markers
 
-two_parts : (b c : Bool) → ((b && c) && false) ≡ false
-two_parts true c = and_false c
-two_parts false c = refl
-
-fourth : (m b k n : Bool) → n ≡ false → (m && ((b || k) || n)) ≡ (m && (b || k))
-fourth m b k n h = rw h (ap (λ x. m && x) (or_false (b || k)))
-
 some_fourth : (c d e f : ℕ) (a : List ℕ) → list_all is_some (c ∷ d ∷ e ∷ f ∷ a) ≡ true → (f == 0) ≡ false
 some_fourth c d e f a h =
     let one = and_parts (is_some c) (list_all is_some (d ∷ e ∷ f ∷ a)) h in
@@ -71,11 +60,11 @@ marker_here true (c ∷ []) [] h = refl
 marker_here false (c ∷ []) [] h = refl
 marker_here true (c ∷ []) (d ∷ r) h = rw (and_false (c == 45), and_false (c == 46)) refl
 marker_here false (c ∷ []) (d ∷ r) h = rw (and_false (c == 45), and_false (c == 46)) refl
-marker_here true (c ∷ d ∷ []) r h = rw (two_parts (c == 45) (d == 45), two_parts (c == 46) (d == 46)) refl
-marker_here false (c ∷ d ∷ []) r h = rw (two_parts (c == 45) (d == 45), two_parts (c == 46) (d == 46)) refl
+marker_here true (c ∷ d ∷ []) r h = rw (and_false ((c == 45) && (d == 45)), and_false ((c == 46) && (d == 46))) refl
+marker_here false (c ∷ d ∷ []) r h = rw (and_false ((c == 45) && (d == 45)), and_false ((c == 46) && (d == 46))) refl
 marker_here true (c ∷ d ∷ e ∷ []) r h = and_false _
 marker_here false (c ∷ d ∷ e ∷ []) r h = and_false _
-marker_here single (c ∷ d ∷ e ∷ f ∷ a) r h = fourth (classes.are_marks c d e) (classes.is_blank f) (classes.is_break f) (f == 0) (some_fourth c d e f a h)
+marker_here single (c ∷ d ∷ e ∷ f ∷ a) r h = rw (some_fourth c d e f a h, or_false) refl
 
 pub same_marks : (single : Bool) (a r : List ℕ) → list_all is_some a ≡ true → has_marker a (quote_of single ∷ r) ≡ has_document_marker a
 same_marks single [] r h = refl

@@ -1,44 +1,31 @@
 -- Each scan of a quoted scalar ends as its text says.
-use Rattle.std.proofs.Common.{◌≡◌, ℕ, ◌+◌, List, [], ◌∷◌, ◌++◌, Bool, true, false, ◌&&◌, ◌==◌, Some, None, Result, refl, ap, sym, ◌∙◌, append-nil, slice_index}
-use Rattle.proof_lexers.proofs.Common.{after_elements, At, by_line, Context, ends_before, escape, Fault, Folded, gap, has_marker, is_document_marker, IsShallow, joined, nothing, Position, quote_of, quoted, Read}
-use Rattle.yaml_chars.specs.Class.{is_break, is_blank}
+use Rattle.proof_lexers.proofs.Common.{[], after_elements, after_gap, ap, append-nil, At, Bool, by_end, by_escape, by_line, by_marker, Context, ends_before, escape, false, Fault, first, Folded, gap, has_marker, HasElements, is_blank, is_break, is_document_marker, IsShallow, joined, List, Mode, None, nothing, past, Position, quote_of, quoted, QuotedEndsAs, QuotedScansEndAsTheirTextSays, Read, read, refl, Result, shallow, slice_index, Some, sym, true, value_of, ℕ, ◌++◌, ◌+◌, ◌==◌, ◌∙◌, ◌∷◌, ◌≡◌}
 use Rattle.yaml_tokens.specs.declared.problem.Problem.TheVariants as problem
-use Rattle.model_scanner.specs.Machine.{past}
-use Rattle.model_scanner.specs.Quoted.{Mode, first}
-use Rattle.model_scanner.proofs.QuotedLemmas.{after_gap}
-use Rattle.proof_lexers.specs.QuotedScan.{value_of, IsRead, read, shallow}
+use Rattle.proof_lexers.specs.QuotedScan.{IsRead}
 use Rattle.proof_lexers.specs.QuotedScan as scans
-use Rattle.proof_lexers.specs.QuotedEnds.{HasElements, by_marker, by_end, by_escape, by_column, by_tab, QuotedEndsAs, reads, refuses}
-use Rattle.proof_lexers.specs.QuotedLaws.{QuotedScansEndAsTheirTextSays}
+use Rattle.proof_lexers.specs.QuotedEnds.{by_column, by_tab, reads, refuses}
 use Rattle.proof_lexers.proofs.Fold.{buffers_join}
 use Rattle.proof_lexers.proofs.Quoted.Turns.{no_marker, off_margin, Ready, in_gap, after_escaped, scan, Begun, begun, begins}
 use Rattle.proof_lexers.proofs.Quoted.Turns as turns
 use Rattle.proof_lexers.proofs.Quoted.NoNul.{has_none, same_marks}
-use Rattle.proof_lexers.proofs.Quoted.Bodies.{marked_from, Passed, passed, met_marker, was_shallow, passes, quote_still, quote_feed, close, Opened, opened, not_opened, opens}
+use Rattle.proof_lexers.proofs.Quoted.Bodies.{marked_from, Passed, passed, met_marker, was_shallow, passes, quote_still, quote_feed, close, Opened, opened, not_opened, opens, no_mark}
 use Rattle.proof_lexers.proofs.Quoted.Values.{value_is}
 use Rattle.proof_lexers.proofs.Quoted.Shapes.{Shape, closed, unclosed, badly_escaped, shape_of}
 use Rattle.proof_lexers.proofs.Quoted.Faults.{escape_fails}
 
 module _ (single : Bool) (ctx : Context) (start : Position) (text : List ℕ) where
-  ends_on : (x y : Result (Read (List ℕ)) Fault) → x ≡ y → QuotedEndsAs single ctx start text y → QuotedEndsAs single ctx start text x
-  ends_on x y e (reads body rest value position cut is ends e') = reads body rest value position cut is ends (e ∙ e')
-  ends_on x y e (refuses f why e') = refuses f why (e ∙ e')
-
   is_shallow : (x : Result (Read (List ℕ)) Fault) → IsShallow ctx start x → QuotedEndsAs single ctx start text x
   is_shallow x (by_line p h e) = refuses (At problem.QuotedIndentation start) (by_column p h) e
   is_shallow x (scans.by_tab p h e) = refuses (At problem.TabAsIndentation p) (by_tab p h) e
 
-  off : (start.col + 1 == 0) ≡ false
-  off = off_margin start.col 0
-
   marks : (body rest : List ℕ) (b : Bool) → marked_from (start.col + 1) body rest ≡ b → has_marker body rest ≡ b
-  marks body rest b h = rw off at h
+  marks body rest b h = rw (off_margin start.col 0) at h
 
   -- a body's elements, and what the text after them is
   through : (body rest : List ℕ) (has : HasElements single body) → text ≡ body ++ rest → (x : Result (Read (List ℕ)) Fault)
       → ((m : Mode) (q : Position) → Ready single (after_elements has.0 nothing) m → has_marker body rest ≡ false → QuotedEndsAs single ctx start text (scan single ctx start rest m q (after_elements has.0 nothing)))
       → Passed single ctx start x body rest (start.col + 1) (after_elements has.0 nothing) → QuotedEndsAs single ctx start text x
-  through body rest has cut x goes (passed m q ready none e) = ends_on x _ e (goes m q ready (marks body rest false none))
+  through body rest has cut x goes (passed m q ready none e) = rw e (goes m q ready (marks body rest false none))
   through body rest has cut x goes (met_marker meets e) = refuses (At problem.QuotedDocumentMarker start) (by_marker body rest cut has (marks body rest true meets)) e
   through body rest has cut x goes (was_shallow s) = is_shallow x s
 
@@ -66,10 +53,6 @@ module _ (single : Bool) (ctx : Context) (start : Position) (text : List ℕ) wh
   at_end m q t in_gap has = refuses (At problem.QuotedEnd start) (by_end has) refl
   at_end m q t (after_escaped double e f) has = refuses (At problem.QuotedEnd start) (by_end has) refl
 
-no_mark : (x y : Bool) → y ≡ false → (x && y) ≡ true → ⊥
-no_mark true y e f = cc
-no_mark false y e f = cc
-
 -- ---- an escape that is none
 
 module _ (ctx : Context) (start : Position) (text body rest : List ℕ) (cut : text ≡ body ++ 92 ∷ rest) (has : HasElements false body) (bad : escape rest ≡ None) where
@@ -84,7 +67,7 @@ module _ (ctx : Context) (start : Position) (text body rest : List ℕ) (cut : t
 
   at_escape : (m : Mode) (p : Position) (t : Folded) → Ready false t m → QuotedEndsAs false ctx start text (scan false ctx start (92 ∷ rest) m p t)
   at_escape m p t in_gap = in_line p t (solid p t)
-  at_escape m p t (after_escaped double e f) = ends_on false ctx start text _ _ (after_gap false ctx start 92 (92 ∷ rest) p t refl refl) (in_line p t (solid p t))
+  at_escape m p t (after_escaped double e f) = rw (after_gap false ctx start 92 (92 ∷ rest) p t refl refl) (in_line p t (solid p t))
 
 -- ---- every text
 
@@ -102,7 +85,7 @@ by_shape single ctx start text (badly_escaped body rest double cut has bad) = of
         from_gap false ctx start text body (92 ∷ rest) has cut refl (no_marker 92 rest refl refl) (λ m q ready none. at_escape ctx start text body rest cut has bad m q (after_elements has.0 nothing) ready)
 
 by_opening : (single : Bool) (ctx : Context) (start : Position) (text : List ℕ) → Shape single text → Opened single ctx start text (past start) → QuotedEndsAs single ctx start text (scan single ctx start text first (past start) nothing)
-by_opening single ctx start text shape (opened e) = ends_on single ctx start text _ _ e (by_shape single ctx start text shape)
+by_opening single ctx start text shape (opened e) = rw e (by_shape single ctx start text shape)
 by_opening single ctx start text shape (not_opened s) = is_shallow single ctx start text _ s
 
 pub scans_end : QuotedScansEndAsTheirTextSays

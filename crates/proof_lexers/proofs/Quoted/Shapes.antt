@@ -1,13 +1,7 @@
 -- Each text after an opening quote is a body and its closing quote, or has none, or an escape in it is none.
-use Rattle.std.proofs.Common.{◌≡◌, ℕ, zero, suc, List, [], ◌∷◌, ◌++◌, Bool, true, false, ◌==◌, if◌then◌else◌, Option, Some, None, refl, ap, sym, ◌∙◌, take, drop, append_assoc}
-use Rattle.std.specs.List.{list_all}
-use Rattle.std.proofs.lemmas.Bool.{and_parts, eqb-true, not-true}
-use Rattle.std.proofs.lemmas.List.{take-append-drop}
-use Rattle.proof_lexers.proofs.Common.{begins_with, blank, break_further, double_quoted_element, element_of, elements, ends_before, escape, line_break, plain_element, quote_of, single_quoted_element, Spelled}
+use Rattle.proof_lexers.proofs.Common.{[], and_parts, ap, append_assoc, begins_with, blank, Bool, break_further, cases_Bool, content, double_quoted_element, drop, element_of, elements, ends_before, eqb-true, escape, false, HasElements, inl, inr, line_break, List, list_all, None, not-true, Option, plain_element, quote_of, refl, single_quoted_element, Some, Spelled, suc, sym, take, take-append-drop, true, zero, ℕ, ◌++◌, ◌==◌, ◌∙◌, ◌∷◌, ◌≡◌}
 use Rattle.defs_text.specs.Classes as classes
-use Rattle.defs_text.specs.FlowScalar.{content}
 use Rattle.proof_lexers.specs.QuotedScan.{is_some}
-use Rattle.proof_lexers.specs.QuotedEnds.{HasElements}
 use Rattle.proof_lexers.proofs.Quoted.Turns.{spelled}
 use Rattle.proof_lexers.proofs.Quoted.Local.{Local, LocalOf, local, after_some, after_own}
 
@@ -49,31 +43,21 @@ pub data NoElement (single : Bool) (c : ℕ) (b : List ℕ) : Type 0 where
 
 plain_some : (c : ℕ) (b : List ℕ) → plain_element c b ≡ None → ⊥
 unfolding plain_element
-plain_some c b h = by (classes.is_break c) (classes.is_blank c) h
-  where
-    by : (x y : Bool) → (if x then Some (spelled line_break (break_further c b)) else (if y then Some (spelled (blank c) 0) else Some (spelled (content c) 0))) ≡ None → ⊥
-    by true y h = cc
-    by false true h = cc
-    by false false h = cc
-
-quote_none : (c : ℕ) (b : List ℕ) (two : Bool) → c ≡ 39 → begins_with 39 b ≡ two → (if two then Some (spelled (content 39) 1) else None) ≡ None → NoElement true c b
-quote_none c b true q e h = cc
-quote_none c b false q e h = closing q (rw e refl)
-
-single_none : (c : ℕ) (b : List ℕ) (quote : Bool) → (c == 0) ≡ false → (c == 39) ≡ quote → single_quoted_element c b ≡ None → NoElement true c b
-unfolding single_quoted_element classes.is_nul
-single_none c b true nul e h = quote_none c b (begins_with 39 b) (eqb-true c 39 e) refl (rw (nul, e) at h)
-single_none c b false nul e h = absurd (plain_some c b (rw (nul, e) at h))
-
-double_none : (c : ℕ) (b : List ℕ) (quote backslash : Bool) → (c == 0) ≡ false → (c == 34) ≡ quote → (c == 92) ≡ backslash → double_quoted_element c b ≡ None → NoElement false c b
-unfolding double_quoted_element classes.is_nul
-double_none c b true backslash nul e f h = closing (eqb-true c 34 e) refl
-double_none c b false true nul e f h = slash refl (eqb-true c 92 f) (rw (nul, e, f) at h)
-double_none c b false false nul e f h = absurd (plain_some c b (rw (nul, e, f) at h))
+plain_some c b h = elim (cases_Bool (classes.is_break c)) [
+  | inl e ↦ let no : Some (spelled line_break (break_further c b)) ≡ None = rw e at h in cc
+  | inr e ↦ elim (cases_Bool (classes.is_blank c)) [ inl f ↦ let no : Some (spelled (blank c) 0) ≡ None = rw (e, f) at h in cc | inr f ↦ let no : Some (spelled (content c) 0) ≡ None = rw (e, f) at h in cc ]
+]
 
 pub no_element : (single : Bool) (c : ℕ) (b : List ℕ) → (c == 0) ≡ false → element_of single c b ≡ None → NoElement single c b
-no_element true c b nul h = single_none c b (c == 39) nul refl h
-no_element false c b nul h = double_none c b (c == 34) (c == 92) nul refl refl h
+unfolding single_quoted_element double_quoted_element classes.is_nul
+no_element true c b nul h = elim (cases_Bool (c == 39)) [
+  | inl e ↦ elim (cases_Bool (begins_with 39 b)) [ inl f ↦ let no : Some (spelled (content 39) 1) ≡ None = rw (nul, e, f) at h in cc | inr f ↦ closing (eqb-true c 39 e) (rw f refl) ]
+  | inr e ↦ absurd (plain_some c b (rw (nul, e) at h))
+]
+no_element false c b nul h = elim (cases_Bool (c == 34)) [
+  | inl e ↦ closing (eqb-true c 34 e) refl
+  | inr e ↦ elim (cases_Bool (c == 92)) [ inl f ↦ slash refl (eqb-true c 92 f) (rw (nul, e, f) at h) | inr f ↦ absurd (plain_some c b (rw (nul, e, f) at h)) ]
+]
 
 none_shape : (single : Bool) (c : ℕ) (b : List ℕ) → NoElement single c b → Shape single (c ∷ b)
 none_shape single c b (closing q ends) = closed [] b (ap (λ x. x ∷ b) q) ([], refl) ends

@@ -1,16 +1,8 @@
 -- What the model does at an element of a body.
-use Rattle.std.proofs.Common.{◌≡◌, ℕ, ◌+◌, ◌≤◌, List, [], ◌∷◌, ◌++◌, Bool, true, false, ◌||◌, ◌&&◌, not, ◌==◌, if◌then◌else◌, Option, Some, None, Result, Ok, Err, refl, sym, ◌∙◌, append-nil, arith, nat_lt, slice_index, take, drop}
-use Rattle.std.specs.List.{list_all}
-use Rattle.std.proofs.lemmas.Bool.{and_parts, eqb-true}
-use Rattle.std.proofs.lemmas.Bool.Decides.{nat_tests}
-use Rattle.proof_lexers.proofs.Common.{after_element, along, At, at_marker, blank, break_further, by_line, Context, Element, Fault, Folded, gap, has_marker, is_document_marker, IsShallow, joined, line_break, past_break, plain_element, Position, quote_of, Read, Spelled}
-use Rattle.yaml_chars.specs.Class.{is_break, is_blank}
+use Rattle.proof_lexers.proofs.Common.{[], after_element, along, and_parts, append-nil, arith, At, at_marker, blank, Bool, break_further, by_line, cases_Bool, content, Context, drop, Element, eqb-true, Err, false, Fault, Folded, gap, has_marker, inl, inr, inside, is_blank, is_break, is_document_marker, IsShallow, joined, line_break, List, list_all, Mode, nat_lt, nat_tests, None, not, Ok, Option, past, past_break, plain_element, Position, quote_of, quoted_from, Read, refl, refused, Result, slice_index, Some, Spelled, sym, take, true, with_char, ℕ, ◌&&◌, ◌++◌, ◌+◌, ◌==◌, ◌||◌, ◌∙◌, ◌∷◌, ◌≡◌, ◌≤◌}
 use Rattle.yaml_tokens.specs.declared.problem.Problem.TheVariants as problem
 use Rattle.defs_text.specs.Classes as classes
-use Rattle.defs_text.specs.FlowScalar.{content}
-use Rattle.model_scanner.specs.Machine.{past}
-use Rattle.model_scanner.specs.Folding.{with_char}
-use Rattle.model_scanner.specs.Quoted.{Mode, inside, after, quoted_from, refused}
+use Rattle.model_scanner.specs.Quoted.{after}
 use Rattle.proof_lexers.specs.QuotedScan.{is_some, by_tab}
 use Rattle.proof_lexers.proofs.Along.{along_more}
 use Rattle.proof_lexers.proofs.Bridges.{same_break, same_blank, same_marker, and_false}
@@ -28,13 +20,9 @@ no_marker c (d ∷ g ∷ a) e f = rw (e, f) refl
 pub feed_is_no_marker : (a : List ℕ) → is_document_marker (10 ∷ a) ≡ false
 feed_is_no_marker a = no_marker 10 a refl refl
 
-record White (c : ℕ) : Type 0 where
-  dash : (c == 45) ≡ false
-  point : (c == 46) ≡ false
-
-white : (c : ℕ) → (is_break c || is_blank c) ≡ true → White c
+white : (c : ℕ) → (is_break c || is_blank c) ≡ true → ((c == 45) ≡ false) × ((c == 46) ≡ false)
 unfolding is_break is_blank
-white c h = record { dash = grind (arith, nat_tests); point = grind (arith, nat_tests) }
+white c h = (grind (arith, nat_tests), grind (arith, nat_tests))
 
 -- within a line, no gap before the next character
 abbrev pub plain : List ℕ → Folded
@@ -59,14 +47,12 @@ module _ (single : Bool) (ctx : Context) (start : Position) where
     marked : ((p.col == 0) && is_document_marker a) ≡ true → scan a gap p t ≡ Err (At problem.QuotedDocumentMarker start) → Begun a p t
     shallow : nat_lt (p.col + 1) ctx.indent ≡ true → scan a gap p t ≡ Err (At problem.QuotedIndentation start) → Begun a p t
 
-  begun_by : (c : ℕ) (a : List ℕ) (p : Position) (t : Folded) (m s : Bool) → at_marker p.col (c ∷ a) ≡ m → nat_lt (p.col + 1) ctx.indent ≡ s → (is_break c || is_blank c) ≡ false → Begun (c ∷ a) p t
-  unfolding refused
-  begun_by c a p t true s e f g = marked (sym (same_marker p.col (c ∷ a)) ∙ e) (rw (g, e) refl)
-  begun_by c a p t false true e f g = shallow f (rw (g, e, f) refl)
-  begun_by c a p t false false e f g = begun (sym (same_marker p.col (c ∷ a)) ∙ e) f (rw (g, e, f) refl)
-
   pub begins : (c : ℕ) (a : List ℕ) (p : Position) (t : Folded) → (is_break c || is_blank c) ≡ false → Begun (c ∷ a) p t
-  begins c a p t g = begun_by c a p t (at_marker p.col (c ∷ a)) (nat_lt (p.col + 1) ctx.indent) refl refl g
+  unfolding refused
+  begins c a p t g = elim (cases_Bool (at_marker p.col (c ∷ a))) [
+    | inl e ↦ marked (sym (same_marker p.col (c ∷ a)) ∙ e) (rw (g, e) refl)
+    | inr e ↦ elim (cases_Bool (nat_lt (p.col + 1) ctx.indent)) [ inl f ↦ shallow f (rw (g, e, f) refl) | inr f ↦ begun (sym (same_marker p.col (c ∷ a)) ∙ e) f (rw (g, e, f) refl) ]
+  ]
 
   -- where a document marker stands it is refused for that
   pub begins_marked : (c : ℕ) (a : List ℕ) (p : Position) (t : Folded) → (is_break c || is_blank c) ≡ false → ((p.col == 0) && is_document_marker (c ∷ a)) ≡ true → scan (c ∷ a) gap p t ≡ Err (At problem.QuotedDocumentMarker start)
@@ -77,23 +63,14 @@ module _ (single : Bool) (ctx : Context) (start : Position) where
   unfolding refused at_marker
   may_stand a p e f = rw (e, f) refl
 
-  inside_by : (c : ℕ) (a : List ℕ) (p : Position) (text : List ℕ) (b : Bool) → (is_break c || is_blank c) ≡ b → (p.col == 0) ≡ false → nat_lt (p.col + 1) ctx.indent ≡ false
-      → scan (c ∷ a) inside p (plain text) ≡ scan (c ∷ a) gap p (plain text)
-  inside_by c a p text true g e f = rw g refl
-  inside_by c a p text false g e f = rw (g, may_stand (c ∷ a) p e f, append-nil) refl
-
   -- within a line that may stand there a gap may begin at any position
   pub inside_is_gap : (a : List ℕ) (p : Position) (text : List ℕ) → (p.col == 0) ≡ false → nat_lt (p.col + 1) ctx.indent ≡ false → scan a inside p (plain text) ≡ scan a gap p (plain text)
   inside_is_gap [] p text e f = refl
-  inside_is_gap (c ∷ a) p text e f = inside_by c a p text (is_break c || is_blank c) refl e f
+  inside_is_gap (c ∷ a) p text e f = elim (cases_Bool (is_break c || is_blank c)) [ inl g ↦ rw g refl | inr g ↦ rw (g, may_stand (c ∷ a) p e f, append-nil) refl ]
 
   -- One character of the text was taken, which is written so.
   abbrev pub Taken : (x : Result (Read (List ℕ)) Fault) (a : List ℕ) (p : Position) (w : List ℕ) (u : Folded) (code : ℕ) → Type 0
   Taken x a p w u code = x ≡ scan a inside (along w p) (with_char code u)
-
-  char_taken : (c : ℕ) (a : List ℕ) (p : Position) (u : Folded) → (is_break c || is_blank c) ≡ false → ((c == 92) && not single) ≡ false → (c == quote_of single) ≡ false
-      → Taken (scan (c ∷ a) inside p u) a p (c ∷ []) u c
-  char_taken c a p u g e f = rw (g, e, f) refl
 
   -- Where an element ends that is written so; told of content alone.
   abbrev pub EndsAt : Element → Position → List ℕ → Position → Type 0
@@ -129,14 +106,13 @@ module _ (single : Bool) (ctx : Context) (start : Position) where
   content_step c b r k code p t g z same full = content_by c b r k code p t z same full (begins c (b ++ r) p t g)
 
   pub white_stands : (c : ℕ) (a : List ℕ) (col : ℕ) → (is_break c || is_blank c) ≡ true → ((col == 0) && is_document_marker (c ∷ a)) ≡ false
-  white_stands c a col g = let w = white c g in rw (no_marker c a w.dash w.point) (and_false (col == 0))
+  white_stands c a col g = let w = white c g in rw (no_marker c a w.0 w.1) (and_false (col == 0))
 
-  blank_by : (c : ℕ) (b r : List ℕ) (p : Position) (t : Folded) (tab : Bool) → (t.leading && (c == 9) && nat_lt (p.col + 1) ctx.indent) ≡ tab → is_break c ≡ false → is_blank c ≡ true → (c == 0) ≡ false
-      → Step c b r p t (spelled (blank c) 0)
-  blank_by c b r p t true e f g nul = let low = (and_parts (t.leading && (c == 9)) (nat_lt (p.col + 1) ctx.indent) e).1 in is_shallow low (by_tab p low (rw (f, g, e) refl))
-  blank_by c b r p t false e f g nul =
-      let off : (p.col + 1 == 0) ≡ false = off_margin p.col 0 in
-      steps gap (past p) tt in_gap (rw nul refl) (white_stands c (b ++ r) p.col (rw (f, g) refl)) (rw (same_break c, f, off) refl) (rw (f, g, e) refl)
+  blank_by : (c : ℕ) (b r : List ℕ) (p : Position) (t : Folded) → is_break c ≡ false → is_blank c ≡ true → (c == 0) ≡ false → Step c b r p t (spelled (blank c) 0)
+  blank_by c b r p t f g nul = elim (cases_Bool (t.leading && (c == 9) && nat_lt (p.col + 1) ctx.indent)) [
+    | inl e ↦ let low = (and_parts (t.leading && (c == 9)) (nat_lt (p.col + 1) ctx.indent) e).1 in is_shallow low (by_tab p low (rw (f, g, e) refl))
+    | inr e ↦ steps gap (past p) tt in_gap (rw nul refl) (white_stands c (b ++ r) p.col (rw (f, g) refl)) (rw (same_break c, f, off_margin p.col 0) refl) (rw (f, g, e) refl)
+  ]
 
   lone_break : (c : ℕ) (b r : List ℕ) (p : Position) (t : Folded) → is_break c ≡ true → (c == 0) ≡ false → ((c == 13) && (slice_index (b ++ r) 0 == 10)) ≡ false → Step c b r p t (spelled line_break 0)
   lone_break c b r p t e nul f =
@@ -146,27 +122,24 @@ module _ (single : Bool) (ctx : Context) (start : Position) where
   unfolding is_break is_blank classes.is_break
   two_breaks b r p t = steps gap (past_break (past p)) tt in_gap refl (white_stands 13 (10 ∷ (b ++ r)) p.col refl) (rw (feed_is_no_marker (b ++ r)) refl) refl
 
-  break_by : (c d : ℕ) (b r : List ℕ) (p : Position) (t : Folded) (two : Bool) → ((c == 13) && (d == 10)) ≡ two → is_break c ≡ true → (c == 0) ≡ false → Step c (d ∷ b) r p t (spelled line_break (if two then 1 else 0))
-  break_by c d b r p t true e f nul =
-      let both = and_parts (c == 13) (d == 10) e in
-      let first : c ≡ 13 = eqb-true c 13 both.0 in
-      let second : d ≡ 10 = eqb-true d 10 both.1 in
-      rw (first, second) (two_breaks b r p t)
-  break_by c d b r p t false e f nul = lone_break c (d ∷ b) r p t f nul e
-
   break_step : (c : ℕ) (b r : List ℕ) (p : Position) (t : Folded) → (slice_index r 0 == 10) ≡ false → is_break c ≡ true → (c == 0) ≡ false → Step c b r p t (spelled line_break (break_further c b))
   break_step c [] r p t no_feed e nul = lone_break c [] r p t e nul (rw no_feed (and_false (c == 13)))
-  break_step c (d ∷ b) r p t no_feed e nul = break_by c d b r p t ((c == 13) && (d == 10)) refl e nul
+  break_step c (d ∷ b) r p t no_feed e nul = elim (cases_Bool ((c == 13) && (d == 10))) [
+    | inl f ↦
+        let both = and_parts (c == 13) (d == 10) f in
+        rw (eqb-true c 13 both.0, eqb-true d 10 both.1) (two_breaks b r p t)
+    | inr f ↦ rw f (lone_break c (d ∷ b) r p t e nul f)
+  ]
 
   -- a character that means itself
-  itself_by : (c : ℕ) (b r : List ℕ) (p : Position) (t : Folded) (breaks blanks : Bool) → is_break c ≡ breaks → is_blank c ≡ blanks → (slice_index r 0 == 10) ≡ false → ((c == 92) && not single) ≡ false → (c == quote_of single) ≡ false → (c == 0) ≡ false
-      → StepOf c b r p t (plain_element c b)
-  unfolding plain_element
-  itself_by c b r p t true blanks e f no_feed slash quote nul = rw (same_break c, e) (break_step c b r p t no_feed e nul)
-  itself_by c b r p t false true e f no_feed slash quote nul = rw (same_break c, same_blank c, e, f) (blank_by c b r p t (t.leading && (c == 9) && nat_lt (p.col + 1) ctx.indent) refl e f nul)
-  itself_by c b r p t false false e f no_feed slash quote nul =
-      let g : (is_break c || is_blank c) ≡ false = rw (e, f) refl in
-      rw (same_break c, same_blank c, e, f) (content_step c b r 0 c p t g (char_taken c (b ++ r) p (joined t) g slash quote) (rw (same_break c, e) refl) (rw nul refl))
-
   pub itself_step : (c : ℕ) (b r : List ℕ) (p : Position) (t : Folded) → (slice_index r 0 == 10) ≡ false → ((c == 92) && not single) ≡ false → (c == quote_of single) ≡ false → (c == 0) ≡ false → StepOf c b r p t (plain_element c b)
-  itself_step c b r p t no_feed slash quote nul = itself_by c b r p t (is_break c) (is_blank c) refl refl no_feed slash quote nul
+  unfolding plain_element
+  itself_step c b r p t no_feed slash quote nul = elim (cases_Bool (is_break c)) [
+    | inl e ↦ rw (same_break c, e) (break_step c b r p t no_feed e nul)
+    | inr e ↦ elim (cases_Bool (is_blank c)) [
+      | inl f ↦ rw (same_break c, same_blank c, e, f) (blank_by c b r p t e f nul)
+      | inr f ↦
+          let g : (is_break c || is_blank c) ≡ false = rw (e, f) refl in
+          rw (same_break c, same_blank c, e, f) (content_step c b r 0 c p t g (rw (g, slash, quote) refl) (rw (same_break c, e) refl) (rw nul refl))
+    ]
+  ]

@@ -1,20 +1,11 @@
 -- Bodies with a value are read as it.
-use Rattle.std.proofs.Common.{◌≡◌, ℕ, ◌+◌, List, ◌∷◌, ◌++◌, Bool, true, false, ◌||◌, ◌&&◌, ◌==◌, if◌then◌else◌, Option, Some, None, Result, refl, ◌∙◌}
-use Rattle.proof_lexers.proofs.Common.{after_elements, by_line, Context, Element, element_of, elements, ends_before, Fault, gap, has_document_marker, has_marker, joined, nothing, Position, quote_of, quoted, Read}
-use Rattle.defs_text.specs.FlowScalar.{folded_elements, single_quoted_value, double_quoted_value, lines_of, trimmed, folded}
-use Rattle.model_scanner.specs.Machine.{past}
-use Rattle.model_scanner.specs.Quoted.{first}
-use Rattle.proof_lexers.specs.QuotedScan.{value_of, by_tab, IsRead, read, shallow}
-use Rattle.proof_lexers.specs.QuotedLaws.{QuotedBodiesAreRead}
+use Rattle.proof_lexers.proofs.Common.{after_elements, Bool, Context, double_quoted_value, Element, element_of, elements, ends_before, false, Fault, first, folded_elements, gap, has_document_marker, has_marker, if◌then◌else◌, joined, lines_of, List, None, nothing, Option, past, Position, quote_of, quoted, QuotedBodiesAreRead, Read, refl, Result, shallow, single_quoted_value, Some, trimmed, true, value_of, ℕ, ◌++◌, ◌+◌, ◌==◌, ◌∙◌, ◌∷◌, ◌≡◌}
+use Rattle.defs_text.specs.FlowScalar.{folded}
+use Rattle.proof_lexers.specs.QuotedScan.{IsRead}
 use Rattle.proof_lexers.proofs.Fold.{buffers_join}
 use Rattle.proof_lexers.proofs.Quoted.Turns.{off_margin, in_gap, scan}
 use Rattle.proof_lexers.proofs.Quoted.NoNul.{has_none, same_marks}
 use Rattle.proof_lexers.proofs.Quoted.Bodies.{Passed, passed, met_marker, was_shallow, passes, quote_still, quote_feed, Opened, opened, not_opened, opens, close}
-
-read_on : (ctx : Context) (start : Position) (text rest : List ℕ) (x y : Result (Read (List ℕ)) Fault) → x ≡ y → IsRead ctx start text rest y → IsRead ctx start text rest x
-read_on ctx start text rest x y e (read position is) = read position (e ∙ is)
-read_on ctx start text rest x y e (shallow (by_line p h is)) = shallow (by_line p h (e ∙ is))
-read_on ctx start text rest x y e (shallow (by_tab p h is)) = shallow (by_tab p h (e ∙ is))
 
 module _ (single : Bool) (ctx : Context) (body r : List ℕ) (es : List Element) (p : Position) (is : elements (element_of single) 0 body ≡ Some es) (ends : ends_before single r ≡ true) (none : has_marker body (quote_of single ∷ r) ≡ false) where
   abbrev text : List ℕ
@@ -23,12 +14,9 @@ module _ (single : Bool) (ctx : Context) (body r : List ℕ) (es : List Element)
   off : (p.col + 1 == 0) ≡ false
   off = off_margin p.col 0
 
-  no_margin : (x y : Bool) → x ≡ false → y ≡ false → ((x && false) || y) ≡ false
-  no_margin x y e f = rw (e, f) refl
-
   after_body : Passed single ctx p (scan single ctx p (body ++ quote_of single ∷ r) gap (past p) nothing) body (quote_of single ∷ r) (p.col + 1) (after_elements es nothing)
       → IsRead ctx p text r (scan single ctx p (body ++ quote_of single ∷ r) gap (past p) nothing)
-  after_body (passed m q ready unmarked e) = read_on ctx p text r _ _ e (close single ctx p r ends m q (after_elements es nothing) ready)
+  after_body (passed m q ready unmarked e) = rw e (close single ctx p r ends m q (after_elements es nothing) ready)
   after_body (met_marker meets e) = let no : false ≡ true = rw (off, none) at meets in cc
   after_body (was_shallow s) = shallow s
 
@@ -36,7 +24,7 @@ module _ (single : Bool) (ctx : Context) (body r : List ℕ) (es : List Element)
   from_gap = after_body (passes single ctx p 0 body (quote_of single ∷ r) (quote_feed single r) (quote_still single r) es gap (past p) nothing is in_gap)
 
   first_here : Opened single ctx p (body ++ quote_of single ∷ r) (past p) → IsRead ctx p text r (scan single ctx p (body ++ quote_of single ∷ r) first (past p) nothing)
-  first_here (opened e) = read_on ctx p text r _ _ e from_gap
+  first_here (opened e) = rw e from_gap
   first_here (not_opened s) = shallow s
 
   pub body_read : IsRead ctx p text r (quoted single ctx (quote_of single ∷ (body ++ quote_of single ∷ r)) p)

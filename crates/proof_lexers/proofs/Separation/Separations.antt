@@ -1,17 +1,10 @@
 -- What the model passes between tokens is a separation.
-use Rattle.std.proofs.Common.{◌≡◌, ℕ, suc, ◌+◌, List, [], ◌∷◌, ◌++◌, Bool, true, false, ◌||◌, ◌&&◌, not, ◌==◌, Result, Ok, Err, refl, ap, sym, ◌∙◌, arith, append_assoc, nat_lt}
-use Rattle.std.proofs.lemmas.Bool.{and_parts, eqb-true}
-use Rattle.std.proofs.lemmas.Bool.Decides.{nat_tests}
-use Rattle.proof_lexers.proofs.Common.{after_separation, At, begins_token, Fault, has_break, is_before_line_feed, is_blanks, is_cr_lf, is_empty, is_separation, is_white, past_break, Position, position_after, position_past, ScannerState}
-use Rattle.yaml_chars.specs.Class.{is_break, is_blank}
+use Rattle.proof_lexers.proofs.Common.{[], after_separation, and-false, and_parts, ap, append_assoc, arith, At, begins_separation, begins_token, Bool, cases_Bool, eqb-true, Err, false, Fault, Gap, has_break, Held, in_flow, inl, inr, is_before_indent, is_before_line_feed, is_blank, is_blanks, is_break, is_cr_lf, is_empty, is_left, is_separation, is_white, List, nat_lt, nat_tests, not, Ok, or-true, or_parts, past, past_break, Position, position_after, position_past, refl, refuses, Result, ScannerState, SeparationsArePassed, skip, suc, sym, tab_line, true, ℕ, ◌&&◌, ◌++◌, ◌+◌, ◌==◌, ◌||◌, ◌∙◌, ◌∷◌, ◌≡◌}
 use Rattle.yaml_tokens.specs.declared.problem.Problem.TheVariants as problem
 use Rattle.defs_text.specs.Classes as classes
-use Rattle.model_scanner.specs.Machine.{past}
-use Rattle.model_scanner.specs.State.{Held, in_flow, moved}
-use Rattle.model_scanner.specs.Space.{Gap, between, comment, tab_line, is_before_indent, skip}
+use Rattle.model_scanner.specs.Space.{between, comment}
 use Rattle.proof_lexers.proofs.Bridges.{same_break, same_blank}
-use Rattle.proof_lexers.specs.ScalarLaws.{SeparationsArePassed}
-use Rattle.proof_lexers.specs.Separations.{begins_separation, is_left, PassesAs, passes, refuses}
+use Rattle.proof_lexers.specs.Separations.{passes}
 use Rattle.proof_lexers.proofs.Plain.Turns.{same_feed, in_line_position, line_position, or_true}
 
 abbrev is_comment : Gap → Bool
@@ -34,9 +27,7 @@ abbrev pub at : Held → Position → (leading key_allowed : Bool) → Held
 at s p leading allowed = record s { position = p; leading = leading; key_allowed = allowed }
 
 skips_on : (m : Gap) (s : Held) (a : List ℕ) (x y : Result ScannerState Fault) → x ≡ y → Skips m s a y → Skips m s a x
-skips_on m s a x y e (skips leading separation rest cut is ends k) = skips leading separation rest cut is ends (e ∙ k)
-skips_on m s a x y e (fails before blanks rest cut is left are token k) = fails before blanks rest cut is left are token (e ∙ k)
-skips_on m s a x y e (fails_here blanks rest line cut are token k) = fails_here blanks rest line cut are token (e ∙ k)
+skips_on m s a x y e z = rw e z
 
 -- whether a text begins with a break
 abbrev pub begins_break : List ℕ → Bool
@@ -45,12 +36,7 @@ begins_break (c ∷ r) = classes.is_break c
 
 no_break_at : (rest : List ℕ) → begins_separation rest ≡ false → begins_break rest ≡ false
 no_break_at [] h = refl
-no_break_at (c ∷ r) h = by (classes.is_blank c) (classes.is_break c) h
-  where
-    by : (b d : Bool) → ((b || d) || (c == 35)) ≡ false → d ≡ false
-    by true d h = cc
-    by false true h = cc
-    by false false h = refl
+no_break_at (c ∷ r) h = (or_parts (classes.is_blank c) (classes.is_break c) (or_parts (classes.is_blank c || classes.is_break c) (c == 35) h).0).1
 
 -- whether a key may begin, after one character and the separation after it
 abbrev pub Allows : Held → ℕ → Bool → List ℕ → Type 0
@@ -62,13 +48,9 @@ same_after s rest leading p q k l e f = rw (e, f) refl
 
 -- where nothing is passed
 pub stayed : (s : Held) (rest : List ℕ) → ◌≡◌ {A = Result ScannerState Fault} (Ok (record { rest = rest; held = s })) (Ok (after_separation s s.leading [] rest))
-stayed s rest = same_after s rest s.leading s.position s.position s.key_allowed ((not (in_flow s) && false) || s.key_allowed) refl (by (not (in_flow s)))
-  where
-    by : (b : Bool) → s.key_allowed ≡ ((b && false) || s.key_allowed)
-    by true = refl
-    by false = refl
+stayed s rest = same_after s rest s.leading s.position s.position s.key_allowed ((not (in_flow s) && false) || s.key_allowed) refl (rw (and-false (not (in_flow s))) refl)
 
-is_feed : (d : ℕ) → d ≡ 10 → classes.is_break d ≡ true
+is_feed : (d : ℕ) → (d == 10) ≡ true → classes.is_break d ≡ true
 unfolding classes.is_break
 is_feed d h = rw h refl
 
@@ -93,34 +75,23 @@ one_more m n s c a b k x fills allows lines (fails_here blanks rest line cut are
 
 -- ---- what a character adds
 
-pub moved_in_line : (s : Held) (c : ℕ) (a : List ℕ) → (classes.is_break c && not (is_before_line_feed c a)) ≡ false → moved s ≡ at s (position_past s.position c a) s.leading s.key_allowed
-moved_in_line s c a e = ap (λ p. at s p s.leading s.key_allowed) (sym (in_line_position c a s.position e))
-
 pub same_allowed : (s : Held) (c : ℕ) (a : List ℕ) → classes.is_break c ≡ false → Allows s c s.key_allowed a
 same_allowed s c a e separation rest cut ends = rw e refl
 
 pub line_allowed : (s : Held) (c : ℕ) (a : List ℕ) → classes.is_break c ≡ true → Allows s c (not (in_flow s) || s.key_allowed) a
-line_allowed s c a e separation rest cut ends = rw e (by (not (in_flow s)) (has_break separation) s.key_allowed)
-  where
-    by : (outside breaks allowed : Bool) → ((outside && breaks) || (outside || allowed)) ≡ ((outside && true) || allowed)
-    by true true allowed = refl
-    by true false allowed = refl
-    by false breaks allowed = refl
+line_allowed s c a e separation rest cut ends = rw e (elim (cases_Bool (in_flow s)) [ inl f ↦ rw f refl | inr f ↦ rw (f, or-true (has_break separation)) refl ])
 
 -- of CR LF the LF is a break
 pub feed_allowed : (s : Held) (c : ℕ) (a : List ℕ) → classes.is_break c ≡ true → is_before_line_feed c a ≡ true → Allows s c s.key_allowed a
 feed_allowed s c a e f separation rest cut ends = rw (e, breaks separation rest (rw cut at f) ends) refl
   where
-    feed_is_break : (d : ℕ) → (d == 10) ≡ true → classes.is_break d ≡ true
-    feed_is_break d h = is_feed d (eqb-true d 10 h)
-
     breaks : (separation rest : List ℕ) → is_before_line_feed c (separation ++ rest) ≡ true → begins_break rest ≡ false → has_break separation ≡ true
     breaks [] [] h ends = cc
     breaks [] (d ∷ r) h ends =
         let q = and_parts (c == 13) (d == 10) h in
-        let none : true ≡ false = rw (feed_is_break d q.1) at ends in
+        let none : true ≡ false = rw (is_feed d q.1) at ends in
         cc
-    breaks (d ∷ separation) rest h ends = let q = and_parts (c == 13) (d == 10) h in rw (feed_is_break d q.1) refl
+    breaks (d ∷ separation) rest h ends = let q = and_parts (c == 13) (d == 10) h in rw (is_feed d q.1) refl
 
 -- ---- each character
 
@@ -187,12 +158,7 @@ data Kind (c : ℕ) : Type 0 where
   token : is_blank c ≡ false → (c == 35) ≡ false → Kind c
 
 kind : (c : ℕ) → Kind c
-kind c = by (is_blank c) (c == 35) refl refl
-  where
-    by : (b h : Bool) → is_blank c ≡ b → (c == 35) ≡ h → Kind c
-    by true h e f = blank e
-    by false true e f = hash e f
-    by false false e f = token e f
+kind c = elim (cases_Bool (is_blank c)) [ inl e ↦ blank e | inr e ↦ elim (cases_Bool (c == 35)) [ inl f ↦ hash e f | inr f ↦ token e f ] ]
 
 no_separation : (c : ℕ) → is_break c ≡ false → is_blank c ≡ false → (c == 35) ≡ false → (is_white c || (c == 35)) ≡ false
 no_separation c e f g = rw (same_blank c, same_break c, e, f, g) refl
@@ -200,9 +166,6 @@ no_separation c e f g = rw (same_blank c, same_break c, e, f, g) refl
 blank_no_break : (c : ℕ) → is_blank c ≡ false → (c == 9) ≡ false
 unfolding is_blank
 blank_no_break c h = grind (arith, nat_tests)
-
-hash_no_tab : (c : ℕ) → (c == 35) ≡ true → (c == 9) ≡ false
-hash_no_tab c h = let e : c ≡ 35 = eqb-true c 35 h in rw e refl
 
 left_here : (s : Held) → is_before_indent s ≡ true → is_left s s.position ≡ true
 unfolding is_before_indent
@@ -225,15 +188,11 @@ unfolding skip
 between_by s c a true f e ih (blank g) =
     let q = and_parts (c == 9) (is_before_indent s) f in
     on_line between tab_line s c a s.leading e (λ separation rest h. fills_blank c separation rest g h) (λ blanks rest line cut are ends is. tab_fails s c a blanks rest q.0 q.1 cut are ends is) ih (rw (e, f) refl)
-between_by s c a true f e ih (hash g h) = let q = and_parts (c == 9) (is_before_indent s) f in let none : true ≡ false = sym q.0 ∙ hash_no_tab c h in cc
+between_by s c a true f e ih (hash g h) = let q = and_parts (c == 9) (is_before_indent s) f in let none : true ≡ false = sym q.0 ∙ blank_no_break c g in cc
 between_by s c a true f e ih (token g h) = let q = and_parts (c == 9) (is_before_indent s) f in let none : true ≡ false = sym q.0 ∙ blank_no_break c g in cc
 between_by s c a false f e ih (blank g) = on_line between between s c a s.leading e (λ separation rest h. fills_blank c separation rest g h) (λ blanks rest no. cc) ih (rw (e, f, g) refl)
 between_by s c a false f e ih (hash g h) = on_line between comment s c a false e (λ separation rest k. fills_hash c separation rest h k) (λ blanks rest no. cc) ih (rw (e, f, g, h) refl)
 between_by s c a false f e ih (token g h) = skips s.leading [] (c ∷ a) refl refl (no_separation c e g h) (rw (e, f, g, h) (stayed s (c ∷ a)))
-
-comment_by : (s : Held) (c : ℕ) (a : List ℕ) → is_break c ≡ false → Passed a → Skips comment s (c ∷ a) (skip comment (c ∷ a) s)
-unfolding skip
-comment_by s c a e ih = on_line comment comment s c a s.leading e (λ separation rest h. fills_comment c separation rest e h) (λ blanks rest no. cc) ih (rw e refl)
 
 tab_by : (s : Held) (c : ℕ) (a : List ℕ) → is_break c ≡ false → Passed a → Kind c → Skips tab_line s (c ∷ a) (skip tab_line (c ∷ a) s)
 unfolding skip
@@ -245,23 +204,20 @@ tab_by s c a e ih (hash g h) = on_line tab_line comment s c a s.leading e (λ se
 tab_by s c a e ih (token g h) = fails_here [] (c ∷ a) refl refl refl (rw (no_separation c e g h) refl) (rw (e, g, h) refl)
 
 one_by : (m : Gap) (s : Held) (c : ℕ) (a : List ℕ) (b : Bool) → is_break c ≡ b → Passed a → Skips m s (c ∷ a) (skip m (c ∷ a) s)
+unfolding skip
 one_by m s c a true e ih = broken_by m s c a (is_cr_lf c a) refl e ih
 one_by between s c a false e ih = between_by s c a ((c == 9) && is_before_indent s) refl e ih (kind c)
-one_by comment s c a false e ih = comment_by s c a e ih
+one_by comment s c a false e ih = on_line comment comment s c a s.leading e (λ separation rest h. fills_comment c separation rest e h) (λ blanks rest no. cc) ih (rw e refl)
 one_by tab_line s c a false e ih = tab_by s c a e ih (kind c)
-
-none_left : (m : Gap) → (not (is_comment m) || true) ≡ true
-none_left m = or_true (not (is_comment m))
 
 skipped : (a : List ℕ) → Passed a
 unfolding skip
-skipped [] m s = skips s.leading [] [] refl (none_left m) refl (stayed s [])
+skipped [] m s = skips s.leading [] [] refl (or_true (not (is_comment m))) refl (stayed s [])
 skipped (c ∷ a) m s = one_by m s c a (is_break c) refl (skipped a)
 
 pub separations_are_passed : SeparationsArePassed
-separations_are_passed s text = told (skipped text between s)
-  where
-    told : Skips between s text (skip between text s) → PassesAs s text (skip between text s)
-    told (skips leading separation rest cut is ends e) = passes leading separation rest cut is ends e
-    told (fails before blanks rest cut is left are solid e) = refuses before blanks rest cut is left are solid e
-    told (fails_here blanks rest line cut are solid e) = cc
+separations_are_passed s text = elim (skipped text between s) [
+  | skips leading separation rest cut is ends e ↦ passes leading separation rest cut is ends e
+  | fails before blanks rest cut is left are solid e ↦ refuses before blanks rest cut is left are solid e
+  | fails_here blanks rest line cut are solid e ↦ cc
+]

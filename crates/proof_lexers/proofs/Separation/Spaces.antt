@@ -1,32 +1,22 @@
 -- The blanks and the comment that the model passes in a line are a separation.
-use Rattle.std.proofs.Common.{◌≡◌, ℕ, List, [], ◌∷◌, ◌++◌, Bool, true, false, ◌||◌, ◌&&◌, ◌==◌, if◌then◌else◌, Result, Ok, Err, refl, ap, sym, ◌∙◌, arith}
-use Rattle.std.proofs.lemmas.Bool.{eqb-true}
-use Rattle.std.proofs.lemmas.Bool.Decides.{nat_tests}
-use Rattle.proof_lexers.proofs.Common.{At, begins_with, Fault, has_break, is_line, is_separation, Position, position_after, position_past, Read, skip_while, Whitespace}
-use Rattle.yaml_chars.specs.Class.{is_break, is_blank}
+use Rattle.proof_lexers.proofs.Common.{[], after_space, and_parts, ap, are_skipped, are_spaces, At, begins_with, Bool, cases_Bool, comment_after, ends_spaces, eqb-true, Err, false, Fault, has, has_break, inl, inr, is_blank, is_break, is_line, is_separation, List, Ok, past, Position, position_after, position_past, Read, refl, Result, skip_while, space, space_from, spaces, SpacesArePassed, sym, true, Whitespace, with_found, ℕ, ◌&&◌, ◌++◌, ◌==◌, ◌||◌, ◌∙◌, ◌∷◌, ◌≡◌}
 use Rattle.yaml_tokens.specs.declared.problem.Problem.TheVariants as problem
 use Rattle.defs_text.specs.Classes as classes
 use Rattle.model_scanner.specs.declared.context.SkipTabs.{SkipTabs}
-use Rattle.model_scanner.specs.Machine.{past}
-use Rattle.model_scanner.specs.Blanks.{are_skipped, with_found, comment_after, space_from, space}
 use Rattle.proof_lexers.proofs.Bridges.{same_break, same_blank}
-use Rattle.proof_lexers.specs.ScalarLaws.{SpacesArePassed}
-use Rattle.proof_lexers.specs.Separations.{after_space, has, are_spaces, ends_spaces, SpacesAs, spaces, glued}
+use Rattle.proof_lexers.specs.Separations.{glued}
 use Rattle.proof_lexers.proofs.Plain.Turns.{in_line_position, or_true, or_false}
 use Rattle.proof_lexers.proofs.Separation.Separations.{no_hash}
+use Rattle.proof_lexers.proofs.RestOfLine.{break_is_none}
 
 -- whether a text begins with a break, or there is none
 abbrev is_line_end : List ℕ → Bool
 is_line_end [] = true
 is_line_end (c ∷ r) = is_break c
 
-break_ends : (tabs : SkipTabs) (c : ℕ) → is_break c ≡ true → ((c == 32) ≡ false) × ((c == 9) ≡ false) × ((c == 35) ≡ false)
-unfolding is_break
-break_ends tabs c h = (grind (arith, nat_tests), grind (arith, nat_tests), grind (arith, nat_tests))
-
 line_ends : (tabs : SkipTabs) (r : List ℕ) → is_line_end r ≡ true → ends_spaces tabs r ≡ true
 line_ends tabs [] h = refl
-line_ends tabs (c ∷ r) h = let q = break_ends tabs c h in rw (q.0, q.1, q.2) refl
+line_ends tabs (c ∷ r) h = let q = break_is_none c h in rw (q.0, q.1, q.2) refl
 
 -- the rest of a line
 record Line (a : List ℕ) (p : Position) : Type 0 where
@@ -40,24 +30,24 @@ record Line (a : List ℕ) (p : Position) : Type 0 where
 
 line_of : (a : List ℕ) (p : Position) → Line a p
 line_of [] p = record { line = []; rest = []; cut = refl; fills = refl; breaks = refl; ends = refl; is = refl }
-line_of (c ∷ a) p = by (is_break c) refl (line_of a (past p))
-  where
-    by : (b : Bool) → is_break c ≡ b → Line a (past p) → Line (c ∷ a) p
-    by true e z =
-        let breaks : classes.is_break c ≡ true = same_break c ∙ e in
-        record { line = []; rest = c ∷ a; cut = refl; fills = rw breaks refl; breaks = refl; ends = e; is = rw e refl }
-    by false e z =
-        let no_break : classes.is_break c ≡ false = same_break c ∙ e in
-        let position : past p ≡ position_past p c (z.line ++ z.rest) = sym (in_line_position c (z.line ++ z.rest) p (rw no_break refl)) in
-        record {
-          line = c ∷ z.line;
-          rest = z.rest;
-          cut = ap (λ r. c ∷ r) z.cut;
-          fills = rw no_break (z.fills);
-          breaks = rw no_break (z.breaks);
-          ends = z.ends;
-          is = rw e (z.is ∙ ap (λ q. record { rest = z.rest; position = position_after q z.line z.rest; value = tt }) position);
-        }
+line_of (c ∷ a) p = elim (cases_Bool (is_break c)) [
+  | inl e ↦
+      let breaks : classes.is_break c ≡ true = same_break c ∙ e in
+      record { line = []; rest = c ∷ a; cut = refl; fills = rw breaks refl; breaks = refl; ends = e; is = rw e refl }
+  | inr e ↦
+      let z = line_of a (past p) in
+      let no_break : classes.is_break c ≡ false = same_break c ∙ e in
+      let position : past p ≡ position_past p c (z.line ++ z.rest) = sym (in_line_position c (z.line ++ z.rest) p (rw no_break refl)) in
+      record {
+        line = c ∷ z.line;
+        rest = z.rest;
+        cut = ap (λ r. c ∷ r) z.cut;
+        fills = rw no_break (z.fills);
+        breaks = rw no_break (z.breaks);
+        ends = z.ends;
+        is = rw e (z.is ∙ ap (λ q. record { rest = z.rest; position = position_after q z.line z.rest; value = tt }) position);
+      }
+]
 
 -- from a position after some blanks on
 data Passes (tabs : SkipTabs) (w : Whitespace) (p : Position) (a : List ℕ) (x : Result (Read Whitespace) Fault) : Type 0 where
@@ -66,8 +56,7 @@ data Passes (tabs : SkipTabs) (w : Whitespace) (p : Position) (a : List ℕ) (x 
   stuck : begins_with 35 a ≡ true → (w.found_tabs || w.has_valid_yaml_ws) ≡ false → x ≡ Err (At problem.CommentNotSeparated p) → Passes tabs w p a x
 
 passes_on : (tabs : SkipTabs) (w : Whitespace) (p : Position) (a : List ℕ) (x y : Result (Read Whitespace) Fault) → x ≡ y → Passes tabs w p a y → Passes tabs w p a x
-passes_on tabs w p a x y e (passed blanks comment rest cut are is breaks ends k) = passed blanks comment rest cut are is breaks ends (e ∙ k)
-passes_on tabs w p a x y e (stuck begins none k) = stuck begins none (e ∙ k)
+passes_on tabs w p a x y e z = rw e z
 
 or_both : (a b : Bool) → (a || (true || b)) ≡ true
 or_both true b = refl
@@ -110,14 +99,13 @@ module _ (tabs : SkipTabs) where
 
   comment_here : (a : List ℕ) (w : Whitespace) (p : Position) → Passes tabs w p (35 ∷ a) (comment_after w (35 ∷ a) p)
   unfolding is_break classes.is_break classes.is_blank
-  comment_here a w p = by (w.found_tabs || w.has_valid_yaml_ws) refl (line_of a (past p))
-    where
-      by : (b : Bool) → (w.found_tabs || w.has_valid_yaml_ws) ≡ b → Line a (past p)
-          → Passes tabs w p (35 ∷ a) (if b then Ok (with_found w (skip_while is_line a (past p))) else Err (At problem.CommentNotSeparated p))
-      by true e z =
-          passed [] (35 ∷ z.line) z.rest (ap (λ r. 35 ∷ r) z.cut) refl z.fills z.breaks (line_ends tabs z.rest z.ends)
-          (ap (λ r. Ok (with_found w r)) z.is ∙ same_space _ _ z.rest _ _ _ _ (hash_position p z.line z.rest) (sym (or_false w.found_tabs)) (sym (or_false w.has_valid_yaml_ws)))
-      by false e z = stuck refl e refl
+  comment_here a w p = elim (cases_Bool (w.found_tabs || w.has_valid_yaml_ws)) [
+    | inl e ↦
+        let z = line_of a (past p) in
+        rw e (passed [] (35 ∷ z.line) z.rest (ap (λ r. 35 ∷ r) z.cut) refl z.fills z.breaks (line_ends tabs z.rest z.ends)
+        (ap (λ r. Ok (with_found w r)) z.is ∙ same_space _ _ z.rest _ _ _ _ (hash_position p z.line z.rest) (sym (or_false w.found_tabs)) (sym (or_false w.has_valid_yaml_ws))))
+    | inr e ↦ rw e (stuck refl e refl)
+  ]
 
   stop_here : (c : ℕ) (a : List ℕ) (w : Whitespace) (p : Position) (hash : Bool) → (c == 35) ≡ hash → (c == 32) ≡ false → ((c == 9) && are_skipped tabs) ≡ false → Passes tabs w p (c ∷ a) (space_from tabs (c ∷ a) (record { position = p; found = w }))
   stop_here c a w p true h e f =
@@ -126,21 +114,19 @@ module _ (tabs : SkipTabs) where
   stop_here c a w p false h e f =
       passed [] [] (c ∷ a) refl refl refl refl (rw (e, f, h) refl) (rw (e, f, h) (same_space p p (c ∷ a) _ _ _ _ refl (sym (or_false w.found_tabs)) (sym (or_false w.has_valid_yaml_ws))))
 
-  step : (c : ℕ) (a : List ℕ) (w : Whitespace) (p : Position) (space tab skipped : Bool) → (c == 32) ≡ space → (c == 9) ≡ tab → are_skipped tabs ≡ skipped → Passed a → Passes tabs w p (c ∷ a) (space_from tabs (c ∷ a) (record { position = p; found = w }))
-  step c a w p true tab skipped e f g ih = let same : c ≡ 32 = eqb-true c 32 e in rw same (space_more a w p ih)
-  step c a w p false true true e f g ih = let same : c ≡ 9 = eqb-true c 9 f in rw same (tab_more a w p g ih)
-  step c a w p false true false e f g ih = stop_here c a w p (c == 35) refl e (rw (f, g) refl)
-  step c a w p false false skipped e f g ih = stop_here c a w p (c == 35) refl e (rw f refl)
-
   all_passed : (a : List ℕ) → Passed a
   all_passed [] w p = passed [] [] [] refl refl refl refl refl (same_space p p [] _ _ _ _ refl (sym (or_false w.found_tabs)) (sym (or_false w.has_valid_yaml_ws)))
-  all_passed (c ∷ a) w p = step c a w p (c == 32) (c == 9) (are_skipped tabs) refl refl refl (all_passed a)
+  all_passed (c ∷ a) w p = elim (cases_Bool (c == 32)) [
+    | inl e ↦ rw (eqb-true c 32 e) (space_more a w p (all_passed a))
+    | inr e ↦ elim (cases_Bool ((c == 9) && are_skipped tabs)) [
+      | inl f ↦ let q = and_parts (c == 9) (are_skipped tabs) f in rw (eqb-true c 9 q.0) (tab_more a w p q.1 (all_passed a))
+      | inr f ↦ stop_here c a w p (c == 35) refl e f
+    ]
+  ]
 
 pub spaces_are_passed : SpacesArePassed
 unfolding space
-spaces_are_passed tabs text p = told (all_passed tabs text (record { found_tabs = false; has_valid_yaml_ws = false }) p)
-  where
-    told : Passes tabs (record { found_tabs = false; has_valid_yaml_ws = false }) p text (space_from tabs text (record { position = p; found = record { found_tabs = false; has_valid_yaml_ws = false } }))
-        → SpacesAs tabs p text (space_from tabs text (record { position = p; found = record { found_tabs = false; has_valid_yaml_ws = false } }))
-    told (passed blanks comment rest cut are is breaks ends e) = spaces blanks comment rest cut are is breaks ends e
-    told (stuck begins none e) = glued begins e
+spaces_are_passed tabs text p = elim (all_passed tabs text (record { found_tabs = false; has_valid_yaml_ws = false }) p) [
+  | passed blanks comment rest cut are is breaks ends e ↦ spaces blanks comment rest cut are is breaks ends e
+  | stuck begins none e ↦ glued begins e
+]

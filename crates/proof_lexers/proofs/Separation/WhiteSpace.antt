@@ -1,16 +1,8 @@
 -- What the model passes after a `?` is a separation.
-use Rattle.std.proofs.Common.{◌≡◌, ℕ, List, [], ◌∷◌, ◌++◌, Bool, true, false, ◌||◌, not, ◌==◌, Result, Ok, Err, refl, ap, sym, ◌∙◌}
-use Rattle.std.proofs.lemmas.Bool.{eqb-true}
-use Rattle.proof_lexers.proofs.Common.{after_separation, At, begins_with, Fault, has_break, is_before_line_feed, is_cr_lf, is_separation, past_break, Position, position_after, position_past, ScannerState}
-use Rattle.yaml_chars.specs.Class.{is_break, is_blank}
+use Rattle.proof_lexers.proofs.Common.{[], after_separation, ap, At, begins_white_space, begins_with, Bool, cases_Bool, Err, false, Fault, goes, has_break, Held, in_flow, inl, inr, is_before_line_feed, is_blank, is_break, is_cr_lf, is_separation, List, misses, moved, not, not-true, Ok, or_parts, past, past_break, Position, position_after, position_past, refl, Result, ScannerState, sym, true, white, white_end, WhiteSpaceIsPassed, ℕ, ◌++◌, ◌==◌, ◌||◌, ◌∙◌, ◌∷◌, ◌≡◌}
 use Rattle.yaml_tokens.specs.declared.problem.Problem.TheVariants as problem
 use Rattle.defs_text.specs.Classes as classes
-use Rattle.model_scanner.specs.Machine.{past}
-use Rattle.model_scanner.specs.State.{Held, in_flow, moved}
-use Rattle.model_scanner.specs.Space.{white, white_end}
 use Rattle.proof_lexers.proofs.Bridges.{same_break}
-use Rattle.proof_lexers.specs.ScalarLaws.{WhiteSpaceIsPassed}
-use Rattle.proof_lexers.specs.Separations.{begins_white_space, GoesOverAs, goes, misses}
 use Rattle.proof_lexers.proofs.Plain.Turns.{same_feed, in_line_position, line_position, or_true}
 use Rattle.proof_lexers.proofs.Separation.Separations.{at, Allows, begins_break, stayed, passes_more, same_allowed, line_allowed, feed_allowed, no_break_hash, fills_comment, fills_hash, fills_blank}
 
@@ -21,17 +13,11 @@ data Goes (in_comment found : Bool) (s : Held) (a : List ℕ) (x : Result Scanne
       → x ≡ Err (At problem.WhitespaceExpected (position_after s.position separation rest)) → Goes in_comment found s a x
 
 goes_on : (i f : Bool) (s : Held) (a : List ℕ) (x y : Result ScannerState Fault) → x ≡ y → Goes i f s a y → Goes i f s a x
-goes_on i f s a x y e (gone leading separation rest cut is ends k) = gone leading separation rest cut is ends (e ∙ k)
-goes_on i f s a x y e (missed separation rest none cut is here breaks ends k) = missed separation rest none cut is here breaks ends (e ∙ k)
+goes_on i f s a x y e z = rw e z
 
 no_break_at : (rest : List ℕ) → begins_white_space rest ≡ false → begins_break rest ≡ false
 no_break_at [] h = refl
-no_break_at (c ∷ r) h = by (c == 32) (classes.is_break c) h
-  where
-    by : (b d : Bool) → ((b || d) || (c == 35)) ≡ false → d ≡ false
-    by true d h = cc
-    by false true h = cc
-    by false false h = refl
+no_break_at (c ∷ r) h = (or_parts (c == 32) (classes.is_break c) (or_parts ((c == 32) || classes.is_break c) (c == 35) h).0).1
 
 -- One character more is passed; a space or a break is found there, or it begins or continues a comment.
 one_more : (i j f g : Bool) (s : Held) (c : ℕ) (a : List ℕ) (b k : Bool) (x : Result ScannerState Fault) → ((separation rest : List ℕ) → is_separation j separation rest ≡ true → is_separation i (c ∷ separation) rest ≡ true) → Allows s c k a
@@ -79,39 +65,33 @@ space_is_blank : (c : ℕ) → (c == 32) ≡ true → is_blank c ≡ true
 unfolding is_blank
 space_is_blank c h = rw h refl
 
-hash_is_no_space : (c : ℕ) → (c == 35) ≡ true → (c == 32) ≡ false
-hash_is_no_space c h = let e : c ≡ 35 = eqb-true c 35 h in rw e refl
-
 at_end : (f : Bool) (s : Held) (a : List ℕ) (i : Bool) → is_separation i [] a ≡ true → (i || not (begins_with 32 a)) ≡ true → begins_white_space a ≡ false → Goes i f s a (white_end f a s)
 at_end true s a i is here ends = gone s.leading [] a refl is ends (stayed s a)
 at_end false s a i is here ends = missed [] a refl refl is here refl ends refl
 
-line_by : (f : Bool) (s : Held) (c : ℕ) (a : List ℕ) (space hash : Bool) → (c == 32) ≡ space → (c == 35) ≡ hash → is_break c ≡ false → Passed a → Goes false f s (c ∷ a) (white false f (c ∷ a) s)
+line_by : (f : Bool) (s : Held) (c : ℕ) (a : List ℕ) → is_break c ≡ false → Passed a → Goes false f s (c ∷ a) (white false f (c ∷ a) s)
 unfolding white
-line_by f s c a true hash g h e ih = on_line false false f true s c a e (λ separation rest k. fills_blank c separation rest (space_is_blank c g) k) (λ none. cc) ih (rw (e, g) refl)
-line_by f s c a false true g h e ih = on_line false true f f s c a e (λ separation rest k. fills_hash c separation rest h k) (λ none. (none, rw g refl)) ih (rw (e, g, h) refl)
-line_by f s c a false false g h e ih =
-    let no_break : classes.is_break c ≡ false = same_break c ∙ e in
-    goes_on false f s (c ∷ a) (white false f (c ∷ a) s) (white_end f (c ∷ a) s) (rw (e, g, h) refl) (at_end f s (c ∷ a) false refl (rw g refl) (rw (g, no_break, h) refl))
-
-one_by : (i f : Bool) (s : Held) (c : ℕ) (a : List ℕ) (breaks : Bool) → is_break c ≡ breaks → Passed a → Goes i f s (c ∷ a) (white i f (c ∷ a) s)
-unfolding white
-one_by i f s c a true e ih = broken_by i f s c a (is_cr_lf c a) refl e ih
-one_by true f s c a false e ih = on_line true true f f s c a e (λ separation rest k. fills_comment c separation rest e k) (λ none. (none, refl)) ih (rw e refl)
-one_by false f s c a false e ih = line_by f s c a (c == 32) (c == 35) refl refl e ih
+line_by f s c a e ih = elim (cases_Bool (c == 32)) [
+  | inl g ↦ on_line false false f true s c a e (λ separation rest k. fills_blank c separation rest (space_is_blank c g) k) (λ none. cc) ih (rw (e, g) refl)
+  | inr g ↦ elim (cases_Bool (c == 35)) [
+    | inl h ↦ on_line false true f f s c a e (λ separation rest k. fills_hash c separation rest h k) (λ none. (none, rw g refl)) ih (rw (e, g, h) refl)
+    | inr h ↦
+        let no_break : classes.is_break c ≡ false = same_break c ∙ e in
+        goes_on false f s (c ∷ a) (white false f (c ∷ a) s) (white_end f (c ∷ a) s) (rw (e, g, h) refl) (at_end f s (c ∷ a) false refl (rw g refl) (rw (g, no_break, h) refl))
+  ]
+]
 
 passed : (a : List ℕ) → Passed a
 unfolding white
 passed [] i f s = at_end f s [] i (or_true (not i)) (or_true i) refl
-passed (c ∷ a) i f s = one_by i f s c a (is_break c) refl (passed a)
+passed (c ∷ a) true f s = elim (cases_Bool (is_break c)) [
+  | inl e ↦ broken_by true f s c a (is_cr_lf c a) refl e (passed a)
+  | inr e ↦ on_line true true f f s c a e (λ separation rest k. fills_comment c separation rest e k) (λ none. (none, refl)) (passed a) (rw e refl)
+]
+passed (c ∷ a) false f s = elim (cases_Bool (is_break c)) [ inl e ↦ broken_by false f s c a (is_cr_lf c a) refl e (passed a) | inr e ↦ line_by f s c a e (passed a) ]
 
 pub white_space_is_passed : WhiteSpaceIsPassed
-white_space_is_passed s text = told (passed text false false s)
-  where
-    told : Goes false false s text (white false false text s) → GoesOverAs s text (white false false text s)
-    told (gone leading separation rest cut is ends e) = goes leading separation rest cut is ends e
-    told (missed separation rest none cut is here breaks ends e) = misses separation rest cut is (no_space (begins_with 32 text) here) breaks ends e
-      where
-        no_space : (b : Bool) → not b ≡ true → b ≡ false
-        no_space true h = cc
-        no_space false h = refl
+white_space_is_passed s text = elim (passed text false false s) [
+  | gone leading separation rest cut is ends e ↦ goes leading separation rest cut is ends e
+  | missed separation rest none cut is here breaks ends e ↦ misses separation rest cut is (not-true (begins_with 32 text) here) breaks ends e
+]

@@ -1,0 +1,64 @@
+-- Characters of a class at a text's start, and what the model takes of them.
+use Rattle.proof_lexers.proofs.Common.{[], after, all_of, and_parts, ap, append-nil, append_assoc, arith, Bool, cases_Bool, false, further, inl, inr, leading, length, List, past, Position, refl, skip_while, suc, sym, take_while, true, ℕ, ◌++◌, ◌+◌, ◌∙◌, ◌∷◌, ◌≡◌}
+use Rattle.proof_row.proofs.Texts as texts
+
+-- ---- positions
+
+pub same_place : (p : Position) (n : ℕ) {i j : ℕ} → i ≡ p.index + n → j ≡ p.col + n → record { index = i; line = p.line; col = j } ≡ further n p
+same_place p n e f = rw (e, f) refl
+
+pub one_further : (p : Position) (n : ℕ) → further n (past p) ≡ further (suc n) p
+one_further p n = same_place p (suc n) (omega arith) (omega arith)
+
+pub none_further : (p : Position) → further 0 p ≡ p
+none_further p = let index : p.index + 0 ≡ p.index = omega arith in let col : p.col + 0 ≡ p.col = omega arith in rw (index, col) refl
+
+-- ---- texts
+
+abbrev pub begins_in : (ℕ → Bool) → List ℕ → Bool
+begins_in class [] = false
+begins_in class (c ∷ r) = class c
+
+module _ (class : ℕ → Bool) where
+  pub span_cut : (a : List ℕ) → a ≡ leading class a ++ after class a
+  span_cut a = sym (texts.leading_after class a)
+
+  pub all_leading : (a : List ℕ) → all_of class (leading class a) ≡ true
+  all_leading a = texts.all_leading class a
+
+  pub ends_after : (a : List ℕ) → begins_in class (after class a) ≡ false
+  ends_after [] = refl
+  ends_after (c ∷ a) = elim (cases_Bool (class c)) [ inl e ↦ rw e (ends_after a) | inr e ↦ rw (e, e) refl ]
+
+  -- what a text begins with, and what stands after that, before a text that does not go on with the class
+  pub before_end : (l n : List ℕ) → begins_in class n ≡ false → (leading class (l ++ n) ≡ leading class l) × (after class (l ++ n) ≡ after class l ++ n)
+  before_end [] [] h = (refl, refl)
+  before_end [] (c ∷ n) h = (rw h refl, rw h refl)
+  before_end (c ∷ l) n h = let z = before_end l n h in elim (cases_Bool (class c)) [ inl e ↦ (rw e (ap (λ k. c ∷ k) z.0), rw e z.1) | inr e ↦ (rw e refl, rw e refl) ]
+
+  pub leading_none : (r : List ℕ) → begins_in class r ≡ false → (leading class r ≡ []) × (after class r ≡ r)
+  leading_none r h = before_end [] r h
+
+  pub leading_all : (l r : List ℕ) → all_of class l ≡ true → begins_in class r ≡ false → (leading class (l ++ r) ≡ l) × (after class (l ++ r) ≡ r)
+  leading_all [] r h e = leading_none r e
+  leading_all (c ∷ l) r h e =
+      let q = and_parts (class c) (all_of class l) h in
+      let z = leading_all l r q.1 e in
+      (rw q.0 (ap (λ k. c ∷ k) z.0), rw q.0 z.1)
+
+  -- ---- the model
+
+  module _ (test : ℕ → Bool) (same : (c : ℕ) → class c ≡ test c) where
+    pub taken : (a : List ℕ) (p : Position) (t : List ℕ) → take_while test a p t ≡ record { rest = after class a; position = further (length (leading class a)) p; value = t ++ leading class a }
+    taken [] p t = rw (none_further p, append-nil) refl
+    taken (c ∷ a) p t = elim (cases_Bool (class c)) [
+      | inl e ↦ rw (← same c, e) (taken a (past p) (t ++ c ∷ []) ∙ rw (one_further p (length (leading class a)), append_assoc) refl)
+      | inr e ↦ rw (← same c, e) (rw (none_further p, append-nil) refl)
+    ]
+
+    pub skipped : (a : List ℕ) (p : Position) → skip_while test a p ≡ record { rest = after class a; position = further (length (leading class a)) p; value = tt }
+    skipped [] p = ap (λ q. record { rest = []; position = q; value = tt }) (sym (none_further p))
+    skipped (c ∷ a) p = elim (cases_Bool (class c)) [
+      | inl e ↦ rw (← same c, e) (skipped a (past p) ∙ ap (λ q. record { rest = after class a; position = q; value = tt }) (one_further p (length (leading class a))))
+      | inr e ↦ rw (← same c, e) (ap (λ q. record { rest = c ∷ a; position = q; value = tt }) (sym (none_further p)))
+    ]

@@ -1,0 +1,104 @@
+-- How the rest of a line is read: blanks, and a comment after one.
+use Rattle.proof_lexers.proofs.Common.{[], along, and_parts, ap, arith, At, begins_with, cases_Bool, eqb-true, Err, false, Fault, further, has_no_break, inl, inr, is_blanks_and_comment, is_break, is_in_line, is_line, is_rest_of_line, length, List, nat_tests, not, not-true, Ok, or-true, or_cases, or_parts, past, Position, Read, refl, Result, skip_while, space, space_from, Spaces, sym, true, Whitespace, with_found, Yes, ℕ, ◌++◌, ◌==◌, ◌||◌, ◌∙◌, ◌∷◌, ◌≡◌}
+use Rattle.yaml_tokens.specs.declared.problem.Problem.TheVariants as problem
+use Rattle.defs_text.specs.Classes as classes
+use Rattle.proof_lexers.proofs.Bridges.{same_break}
+use Rattle.proof_lexers.specs.DirectiveEnds.{ends_line}
+use Rattle.proof_lexers.proofs.Classes.{none_further, one_further}
+
+pub along_further : (w : List ℕ) (p : Position) → along w p ≡ further (length w) p
+along_further [] p = sym (none_further p)
+along_further (c ∷ w) p = along_further w (past p) ∙ one_further p (length w)
+
+pub in_line_is : (w : List ℕ) → has_no_break w ≡ is_in_line w
+in_line_is [] = refl
+in_line_is (c ∷ w) = rw (in_line_is w) refl
+
+-- a break is neither a blank nor begins a comment
+pub break_is_none : (c : ℕ) → is_break c ≡ true → ((c == 32) ≡ false) × ((c == 9) ≡ false) × ((c == 35) ≡ false)
+unfolding is_break
+break_is_none c h = (grind (arith, nat_tests), grind (arith, nat_tests), grind (arith, nat_tests))
+
+-- all of a line without a break is skipped
+pub line_skipped : (m n : List ℕ) (p : Position) → has_no_break m ≡ true → ends_line n ≡ true → skip_while is_line (m ++ n) p ≡ record { rest = n; position = further (length m) p; value = tt }
+line_skipped [] [] p h e = ap (λ q. record { rest = []; position = q; value = tt }) (sym (none_further p))
+line_skipped [] (c ∷ n) p h e = let breaks : is_break c ≡ true = sym (same_break c) ∙ e in rw breaks (ap (λ q. record { rest = c ∷ n; position = q; value = tt }) (sym (none_further p)))
+line_skipped (c ∷ m) n p h e =
+    let q = and_parts (not (classes.is_break c)) (has_no_break m) h in
+    let no_break : is_break c ≡ false = sym (same_break c) ∙ not-true (classes.is_break c) q.0 in
+    rw no_break (line_skipped m n (past p) q.1 e ∙ ap (λ z. record { rest = n; position = z; value = tt }) (one_further p (length m)))
+
+-- ---- a blank
+
+record Blank (c : ℕ) (a : List ℕ) (s : Spaces) : Type 0 where
+  next : Spaces
+  position : next.position ≡ past s.position
+  some : (next.found.found_tabs || next.found.has_valid_yaml_ws) ≡ true
+  is : space_from Yes (c ∷ a) s ≡ space_from Yes a next
+
+blank_passed : (c : ℕ) (a : List ℕ) (s : Spaces) → classes.is_blank c ≡ true → Blank c a s
+unfolding classes.is_blank
+blank_passed c a s h = elim (or_cases (c == 32) (c == 9) h) [
+  | inl e ↦ record { next = record { position = past s.position; found = record (s.found) { has_valid_yaml_ws = true } }; position = refl; some = or-true s.found.found_tabs; is = rw e refl }
+  | inr e ↦ let tab : c ≡ 9 = eqb-true c 9 e in record { next = record { position = past s.position; found = record (s.found) { found_tabs = true } }; position = refl; some = refl; is = rw tab refl }
+]
+
+at_end : (n : List ℕ) (s : Spaces) → ends_line n ≡ true → space_from Yes n s ≡ Ok (record { rest = n; position = further 0 s.position; value = s.found })
+at_end [] s k = ap (λ q. Ok (record { rest = []; position = q; value = s.found })) (sym (none_further s.position))
+at_end (c ∷ n) s k = let q = break_is_none c (sym (same_break c) ∙ k) in rw (q.0, q.1, q.2) (ap (λ z. Ok (record { rest = c ∷ n; position = z; value = s.found })) (sym (none_further s.position)))
+
+-- ---- after a blank
+
+data Tail (m n : List ℕ) (s : Spaces) (x : Result (Read Whitespace) Fault) : Type 0 where
+  ended : (w : Whitespace) → is_blanks_and_comment m ≡ true → x ≡ Ok (record { rest = n; position = further (length m) s.position; value = w }) → Tail m n s x
+  other : (c : ℕ) (more : List ℕ) (q : Position) (w : Whitespace) → is_blanks_and_comment m ≡ false → is_break c ≡ false → x ≡ Ok (record { rest = c ∷ more; position = q; value = w }) → Tail m n s x
+
+comment_passed : (m n : List ℕ) (s : Spaces) → has_no_break (35 ∷ m) ≡ true → ends_line n ≡ true → (s.found.found_tabs || s.found.has_valid_yaml_ws) ≡ true → Tail (35 ∷ m) n s (space_from Yes (35 ∷ (m ++ n)) s)
+comment_passed m n s h k some = ended s.found refl (rw some (ap (λ r. Ok (with_found s.found r)) (line_skipped (35 ∷ m) n s.position h k)))
+
+tail : (m n : List ℕ) (s : Spaces) → has_no_break m ≡ true → ends_line n ≡ true → (s.found.found_tabs || s.found.has_valid_yaml_ws) ≡ true → Tail m n s (space_from Yes (m ++ n) s)
+unfolding classes.is_blank
+tail [] n s h k some = ended s.found refl (at_end n s k)
+tail (c ∷ m) n s h k some = elim (cases_Bool (c == 35)) [
+  | inl e ↦ let hash : c ≡ 35 = eqb-true c 35 e in rw hash (comment_passed m n s (rw hash at h) k some)
+  | inr e ↦ elim (cases_Bool (classes.is_blank c)) [
+    | inl blank ↦ let z = blank_passed c (m ++ n) s blank in onward e blank z (tail m n z.next no_break.1 k z.some)
+    | inr solid ↦ let r = or_parts (c == 32) (c == 9) solid in other c (m ++ n) s.position s.found (rw (e, r.0, r.1) refl) (sym (same_break c) ∙ not-true (classes.is_break c) no_break.0) (rw (r.0, r.1, e) refl)
+  ]
+]
+  where
+    no_break : (not (classes.is_break c) ≡ true) × (has_no_break m ≡ true)
+    no_break = and_parts (not (classes.is_break c)) (has_no_break m) h
+
+    onward : (c == 35) ≡ false → classes.is_blank c ≡ true → (z : Blank c (m ++ n) s) → Tail m n z.next (space_from Yes (m ++ n) z.next) → Tail (c ∷ m) n s (space_from Yes (c ∷ (m ++ n)) s)
+    onward e blank z (ended w is x) = ended w (rw (e, blank) is) (z.is ∙ x ∙ ap (λ q. Ok (record { rest = n; position = q; value = w })) (ap (further (length m)) z.position ∙ one_further s.position (length m)))
+    onward e blank z (other d more q w unlike solid x) = other d more q w (rw (e, blank) unlike) solid (z.is ∙ x)
+
+-- ---- a line
+
+-- Nothing of the line is left; a comment stands there without a blank; or other text.
+pub data Rest (m n : List ℕ) (p : Position) (x : Result (Read Whitespace) Fault) : Type 0 where
+  ends : (w : Whitespace) → is_rest_of_line m ≡ true → x ≡ Ok (record { rest = n; position = further (length m) p; value = w }) → Rest m n p x
+  glued : (text : List ℕ) → m ≡ 35 ∷ text → is_rest_of_line m ≡ false → x ≡ Err (At problem.CommentNotSeparated p) → Rest m n p x
+  goes_on : (c : ℕ) (more : List ℕ) (q : Position) (w : Whitespace) → is_rest_of_line m ≡ false → begins_with 35 m ≡ false → is_break c ≡ false → x ≡ Ok (record { rest = c ∷ more; position = q; value = w }) → Rest m n p x
+
+pub rest_of_line : (m n : List ℕ) (p : Position) → has_no_break m ≡ true → ends_line n ≡ true → Rest m n p (space Yes (m ++ n) p)
+unfolding space classes.is_blank
+rest_of_line [] n p h k = ends _ refl (at_end n (record { position = p; found = record { found_tabs = false; has_valid_yaml_ws = false } }) k)
+rest_of_line (c ∷ m) n p h k = elim (cases_Bool (c == 35)) [
+  | inl e ↦ let hash : c ≡ 35 = eqb-true c 35 e in rw hash (glued m refl refl refl)
+  | inr e ↦ elim (cases_Bool (classes.is_blank c)) [
+    | inl blank ↦ let z = blank_passed c (m ++ n) from blank in onward e blank z (tail m n z.next no_break.1 k z.some)
+    | inr solid ↦ let r = or_parts (c == 32) (c == 9) solid in goes_on c (m ++ n) p from.found (rw (r.0, r.1) refl) e (sym (same_break c) ∙ not-true (classes.is_break c) no_break.0) (rw (r.0, r.1, e) refl)
+  ]
+]
+  where
+    from : Spaces
+    from = record { position = p; found = record { found_tabs = false; has_valid_yaml_ws = false } }
+
+    no_break : (not (classes.is_break c) ≡ true) × (has_no_break m ≡ true)
+    no_break = and_parts (not (classes.is_break c)) (has_no_break m) h
+
+    onward : (c == 35) ≡ false → classes.is_blank c ≡ true → (z : Blank c (m ++ n) from) → Tail m n z.next (space_from Yes (m ++ n) z.next) → Rest (c ∷ m) n p (space_from Yes (c ∷ (m ++ n)) from)
+    onward e blank z (ended w is x) = ends w (rw blank is) (z.is ∙ x ∙ ap (λ q. Ok (record { rest = n; position = q; value = w })) (ap (further (length m)) z.position ∙ one_further p (length m)))
+    onward e blank z (other d more q w unlike solid x) = goes_on d more q w (rw blank unlike) e solid (z.is ∙ x)
